@@ -1,0 +1,37 @@
+-- What is written is the spelling of a needle.
+use Rattle.std.proofs.Common.{◌≡◌, ℕ, ◌+◌, ◌-◌, ◌<◌, ◌≤◌, List, ◌∷◌, ◌++◌, length, take, refl, sym, ◌∙◌, append_assoc, arith}
+use Rattle.std.specs.Prelude.{replicate, ◌^◌}
+use Rattle.byteorder.specs.Endian.{big_bytes}
+use Rattle.hay_needle.specs.declared.needle.Pair.{Pair}
+use Rattle.hay_needle.specs.declared.needle.Cookie.{Cookie}
+use Rattle.hay_needle.specs.declared.needle.Needle.{Needle}
+use Rattle.hay_needle.specs.Needle.{live, head_of_needle, head_rest, head_bytes, footer_bytes, needle_rest, needle_magic, AppendsBehindMagic}
+use Rattle.std.proofs.lemmas.List.{replicate-append-replicate, take_all}
+
+-- a list that is filled up with zeros
+filled : (xs : List ℕ) (n len p : ℕ) → len ≡ length xs → n ≡ len + p + 8 → take n xs ++ replicate (n - len) 0 ≡ xs ++ (replicate p 0 ++ replicate 8 0)
+filled xs n len p l e =
+    let whole : take n xs ≡ xs = take_all n xs (omega arith) in
+    let zeros : n - len ≡ p + 8 = omega arith in
+    rw (whole, zeros, ← replicate-append-replicate {A = ℕ} p 8 0) refl
+
+-- the parts of a needle behind its magic, in a row, and zeros up to a place
+pub in_a_row : (out head photo magic sum x y : List ℕ) (n len p : ℕ) → x ≡ out ++ head ++ photo ++ (magic ++ sum)
+    → y ≡ take n x ++ replicate (n - len) 0 → len ≡ length x → n ≡ len + p + 8
+    → y ≡ out ++ ((head ++ (photo ++ (magic ++ (sum ++ replicate p 0)))) ++ replicate 8 0)
+in_a_row out head photo magic sum x y n len p e f l k = f ∙ filled x n len p l k ∙ rw e (simp append_assoc)
+
+-- what is in such a row is the needle
+pub appended : (pair : Pair) (cookie : Cookie) (photo old new : List ℕ) → pair.key < 2 ^ 64 → pair.alt < 2 ^ 32 → cookie.0 < 2 ^ 64 → length photo ≤ 1048576
+    → new ≡ old ++ (needle_rest (live pair cookie photo) 0 ++ replicate 8 0) → AppendsBehindMagic old new (live pair cookie photo)
+unfolding head_bytes
+appended pair cookie photo old new key alt cookie_fits size e =
+    let n : Needle = live pair cookie photo in (
+      needle_rest n 0,
+      record {
+        flags = 0;
+        spelled = sym (append_assoc (big_bytes 8 needle_magic) (head_rest (head_of_needle n) 0) (photo ++ footer_bytes photo));
+        fits = record { key = key; alt = alt; cookie = cookie_fits; size = size; deleted = (λ t. absurd cc, λ ne. absurd (ne refl)) };
+      },
+      e,
+    )

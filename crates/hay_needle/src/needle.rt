@@ -1,0 +1,75 @@
+//! What a needle holds.
+
+use hay_base::Listed;
+
+/// The two keys of a photo.
+#[derive(Clone, Copy, Debug, PartialEq, Eq, PartialOrd, Ord)]
+pub struct Pair {
+    pub key: u64,
+    pub alt: u32,
+}
+
+/// The word that a reader has to know.
+#[derive(Clone, Copy, Debug, PartialEq, Eq)]
+pub struct Cookie(pub u64);
+
+/// Bytes of its own, which a clause sees as a list.
+pub type Bytes = Listed<u8>;
+
+/// A photo as it was put.
+#[derive(Debug, Drop)]
+pub struct Photo {
+    pub cookie: Cookie,
+    pub bytes: Bytes,
+}
+
+/// What stands under a pair.
+#[derive(Debug, Drop)]
+pub enum Outcome {
+    Nothing,
+    Photo(Photo),
+}
+
+/// What a table gives a pair. Of two rows of one pair the later one counts.
+#[derive(Debug, Drop)]
+pub struct Row {
+    pub pair: Pair,
+    pub outcome: Outcome,
+}
+
+/// A photo as a volume file holds it, without its place there.
+#[derive(Debug, Drop)]
+pub struct Needle {
+    pub pair: Pair,
+    pub photo: Photo,
+    pub deleted: bool,
+}
+
+/// A needle and its place in the volume file.
+#[derive(Debug, Drop)]
+pub struct Cell {
+    pub at: u64,
+    pub pair: Pair,
+    pub cookie: Cookie,
+    pub bytes: Bytes,
+    pub deleted: bool,
+}
+
+/// A cell without its bytes.
+#[derive(Clone, Copy, Debug, PartialEq, Eq)]
+pub struct CellHead {
+    pub at: u64,
+    pub pair: Pair,
+    pub cookie: Cookie,
+    pub size: u32,
+    pub deleted: bool,
+}
+
+/// A needle that lies in a buffer.
+#[derive(Clone, Copy, Debug)]
+pub struct NeedleView<'a> {
+    pub pair: Pair,
+    pub cookie: Cookie,
+    pub deleted: bool,
+    pub bytes: &'a [u8],
+}
