@@ -1,6 +1,7 @@
 //! A needle, its fields and its bytes, and the superblock at the front of each file.
 #![tactic(auto)]
 
+mod duplicates;
 mod encode;
 mod fields;
 mod needle;

@@ -1,0 +1,4 @@
+pub mod Images
+pub mod Steps
+mod Gates
+pub mod Logs
