@@ -1,48 +1,50 @@
--- The first test that fails is the fault that is read.
-use Rattle.std.proofs.Common.{◌≡◌, ℕ, ◌+◌, List, [], ◌∷◌, length, take, drop, refl, sym, ap, ◌∙◌, Bool, true, false, cond, eqb, ltb, Option, Some, None, Result, Ok, Err}
-use Rattle.std.specs.Prelude.{not, slice_range}
-use Rattle.hay_needle.specs.declared.needle.NeedleView.{NeedleView}
-use Rattle.hay_needle.specs.declared.read.NeedleFault.{NeedleFault}
-use Rattle.hay_needle.specs.declared.read.NeedleFault.TheVariants.{Short, Magic, Size, Reserved, Footer, Padding, Sum}
-use Rattle.hay_needle.specs.Sizes.{padding_of_lem, total_of_lem}
-use Rattle.hay_needle.specs.Fields.{number_at, all_zero, has_sum}
-use Rattle.hay_needle.specs.declared.needle.Needle.{Needle}
-use Rattle.hay_needle.specs.Needle.{Head, needle_magic, footer_magic, needle_of_view}
-use Rattle.hay_needle.specs.Reading.{fields_at, head_at, footed_at, needle_at, Gives, ◌>>=◌}
-use Rattle.hay_needle.specs.Faults.{needle_tests, first_fault, fault_of}
+-- What tests for faults say of bytes.
+use Rattle.std.proofs.Common.{◌≡◌, ℕ, List, [], ◌∷◌, ◌++◌, take, refl, sym, ◌∙◌, Bool, true, false, cond, eqb, Option, Some, None, Result, Ok, Err}
+use Rattle.std.specs.Prelude.{not, IsOk}
+use Rattle.std.specs.Option.{option_or}
+use Rattle.std.proofs.lemmas.Bool.{eqb-true}
+use Rattle.std.proofs.lemmas.Bool.Decides.{Decides-eqb}
+use Rattle.std.proofs.lemmas.Slice.Eq.{slice_eq-Decides}
+use Rattle.sha2.specs.Sha256.{sha256}
+use Rattle.hay_needle.specs.Fields.{has_sum}
+use Rattle.hay_needle.specs.Faults.{fault_of, first_fault}
 
-head_order : (short magic size reserved : Bool) (h : Head) (k : Head → Result Needle NeedleFault) (tests : List (NeedleFault × Bool)) → fault_of (k h) ≡ first_fault tests
-    → fault_of (cond short (Err Short) (cond magic (cond size (Err Size) (cond reserved (Ok h) (Err Reserved))) (Err Magic)) >>= k)
-    ≡ first_fault ((Short, short) ∷ (Magic, not magic) ∷ (Size, size) ∷ (Reserved, not reserved) ∷ tests)
-head_order true magic size reserved h k tests e = refl
-head_order false false size reserved h k tests e = refl
-head_order false true true reserved h k tests e = refl
-head_order false true false false h k tests e = refl
-head_order false true false true h k tests e = e
+-- where no test finds a fault, the first one does not, nor do the others
+pub passed : {F : Type 0} (fault : F) (differs : Bool) (rest : Option F) → option_or (cond differs (Some fault) None) rest ≡ None → (differs ≡ false) × (rest ≡ None)
+passed fault true rest e = absurd cc
+passed fault false rest e = (refl, e)
 
-body_order : (short footer padding sum : Bool) (n : Needle) → fault_of (cond short (Err Short) (cond footer (cond padding (cond sum (Ok n) (Err Sum)) (Err Padding)) (Err Footer)))
-    ≡ first_fault ((Short, short) ∷ (Footer, not footer) ∷ (Padding, not padding) ∷ (Sum, not sum) ∷ [])
-body_order true footer padding sum n = refl
-body_order false false padding sum n = refl
-body_order false true false sum n = refl
-body_order false true true false n = refl
-body_order false true true true n = refl
+pub has_not : (b : Bool) → not b ≡ false → b ≡ true
+has_not true e = refl
+has_not false e = absurd cc
 
-pub in_order : (bytes : List ℕ) → fault_of (needle_at bytes) ≡ first_fault (needle_tests bytes)
-unfolding needle_at head_at footed_at fields_at
-in_order bytes =
-    let h : Head = fields_at bytes in
-    let photo : List ℕ = take h.size (drop 36 bytes) in
-    let footer : List ℕ = drop h.size (drop 36 bytes) in
-    let short : Bool = ltb (length bytes) (total_of_lem h.size) in
-    let magic : Bool = eqb (number_at 4 0 footer) footer_magic in
-    let padding : Bool = all_zero (slice_range footer 12 (12 + padding_of_lem h.size)) in
-    let sum : Bool = has_sum photo (take 8 (drop 4 footer)) in
-    let tests : List (NeedleFault × Bool) = (Short, short) ∷ (Footer, not magic) ∷ (Padding, not padding) ∷ (Sum, not sum) ∷ [] in
-    head_order (ltb (length bytes) 36) (eqb (number_at 8 0 bytes) needle_magic) (ltb 1048576 (number_at 4 32 bytes)) (all_zero (take 3 (drop 29 bytes))) h
-    (λ x. cond (ltb (length bytes) (total_of_lem x.size)) (Err Short) (footed_at x (take x.size (drop 36 bytes)) (drop x.size (drop 36 bytes)))) tests
-    (body_order short magic padding sum (record { pair = h.pair; photo = record { cookie = h.cookie; bytes = photo }; deleted = h.deleted }))
+-- numbers that do not differ
+pub no_difference : (a b : ℕ) → not (eqb a b) ≡ false → a ≡ b
+no_difference a b e = eqb-true a b (has_not (eqb a b) e)
 
-pub given_in_order : (bytes : List ℕ) (r : Result NeedleView NeedleFault) → Gives needle_of_view r (needle_at bytes) → fault_of r ≡ first_fault (needle_tests bytes)
-given_in_order bytes (Ok v) g = sym (ap fault_of g) ∙ in_order bytes
-given_in_order bytes (Err e) g = sym (ap fault_of g) ∙ in_order bytes
+pub same_sum : (photo sum : List ℕ) → has_sum photo sum ≡ true → sum ≡ take 8 (sha256 photo)
+same_sum photo sum e = (slice_eq-Decides Decides-eqb sum (take 8 (sha256 photo)) (has_sum photo sum) refl).0 e
+
+pub sum_same : (photo sum : List ℕ) → sum ≡ take 8 (sha256 photo) → has_sum photo sum ≡ true
+sum_same photo sum e = (slice_eq-Decides Decides-eqb sum (take 8 (sha256 photo)) (has_sum photo sum) refl).1 e
+
+-- without a fault the answer is Ok
+pub accepts : {X F : Type 0} (r : Result X F) → fault_of r ≡ None → IsOk r
+accepts (Ok x) e = refl
+accepts (Err fault) e = absurd cc
+
+-- tests, and tests behind them
+pub first_of_both : {F : Type 0} (tests more : List (F × Bool)) → first_fault (tests ++ more) ≡ option_or (first_fault tests) (first_fault more)
+first_of_both [] more = refl
+first_of_both ((fault, true) ∷ tests) more = refl
+first_of_both ((fault, false) ∷ tests) more = first_of_both tests more
+
+option_or_none : {F : Type 0} (a b : Option F) → option_or a b ≡ None → (a ≡ None) × (b ≡ None)
+option_or_none None b e = (refl, e)
+option_or_none (Some x) b e = absurd cc
+
+pub both_passed : {F : Type 0} (tests more : List (F × Bool)) → first_fault (tests ++ more) ≡ None → (first_fault tests ≡ None) × (first_fault more ≡ None)
+both_passed tests more e = option_or_none (first_fault tests) (first_fault more) (sym (first_of_both tests more) ∙ e)
+
+pub both_pass : {F : Type 0} (tests more : List (F × Bool)) → first_fault tests ≡ None → first_fault more ≡ None → first_fault (tests ++ more) ≡ None
+both_pass tests more a b = first_of_both tests more ∙ rw (a, b) refl

@@ -84,9 +84,10 @@ pub record NeedleBytes (bytes : List ℕ) (n : Needle) : Type 0 where
   pub fits : Fits (head_of_needle n) flags
 
 -- new is old with a needle at its end, but for the needle's magic, and eight zeros behind it
-abbrev pub AppendsBehindMagic : List ℕ → List ℕ → Needle → Type 0
-AppendsBehindMagic old new n =
-    (rest : List ℕ) × NeedleBytes (big_bytes 8 needle_magic ++ rest) n × (new ≡ old ++ (rest ++ replicate 8 0))
+pub record AppendsBehindMagic (old new : List ℕ) (n : Needle) : Type 0 where
+  pub rest : List ℕ
+  pub is : NeedleBytes (big_bytes 8 needle_magic ++ rest) n
+  pub grown : new ≡ old ++ (rest ++ replicate 8 0)
 
 -- the bytes begin with the needle
 pub record BeginsWithNeedle (bytes : List ℕ) (n : Needle) : Type 0 where

@@ -10,11 +10,11 @@ ghost use Rattle.sha2.specs.Sha256.{sha256};
 use crate::needle::{Cookie, Pair};
 use crate::total::total_of;
 use byteorder::{BigEndian, ByteOrder};
-use sha2::{Digest, Sha256};
 use hay_base::NoMemory;
+use sha2::{Digest, Sha256};
 
 /// `NEND`, which stands behind the photo.
-pub const FOOTER_MAGIC: u32 = 0x4e45_4e44;
+pub(crate) const FOOTER_MAGIC: u32 = 0x4e45_4e44;
 
 // The 28 bytes from the cookie to the size of a live needle.
 #[tactic(auto, unfolding(crate::specs::Needle::head_rest))]
@@ -40,7 +40,8 @@ fn footer_of(photo: &[u8]) -> [u8; 12]
     out
 }
 
-/// Appends the live needle from its cookie on, and then eight zero bytes. `NoMemory` changes nothing.
+/// Appends a live needle from its cookie on, without the magic, and then eight zero bytes.
+/// `NoMemory` changes nothing, and comes only where `out` had no room.
 pub fn encode_rest(
     pair: Pair,
     cookie: Cookie,

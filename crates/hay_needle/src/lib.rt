@@ -1,4 +1,15 @@
-//! A needle, its fields and its bytes, and the superblock at the front of each file.
+//! A photo as a needle, the superblock at the front of each file, and their bytes. All numbers are big-endian.
+//! It stands on `hay_base`, `byteorder` and `sha2`.
+//!
+//! A needle is, without gaps: the magic `NEEDLE01` (8 bytes), cookie (8), key (8), alternate key (4), flags (1: 0 is
+//! live, any other byte is deleted), zeros (3), size (4, at most 1,048,576), the photo, the magic `NEND` (4), the first
+//! 8 bytes of the photo's SHA-256, and zeros up to a multiple of 8.
+//!
+//! A superblock is: the magic `HAYSTACK` (8 bytes), version (4), kind (4), machines (4), volumes (4), replicas (4),
+//! volume (4), replica (4), zero (4), capacity (8), generation (8), and the first 8 bytes of the secret's SHA-256.
+//!
+//! Writing gives exactly these bytes. Reading answers `Ok` exactly where they stand, with their values, and else the
+//! first fault from left to right. Of several needles of one pair the last one counts.
 #![tactic(auto)]
 
 mod duplicates;
@@ -16,7 +27,7 @@ pub use needle::{Bytes, Cell, CellHead, Cookie, Needle, NeedleView, Outcome, Pai
 pub use read::{HEAD_LEN, NEEDLE_MAGIC, NeedleFault, read_head, read_needle};
 pub use settings::{FileKind, Settings, Super};
 pub use superblock::{SUPER_LEN, SUPER_MAGIC, SuperFault, read_super, write_super};
-pub use total::{MAX_PHOTO, padding_of, total_of};
+pub use total::{MAX_PHOTO, total_of};
 
 #[cfg(test)]
 mod tests;

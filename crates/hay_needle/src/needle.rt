@@ -9,14 +9,14 @@ pub struct Pair {
     pub alt: u32,
 }
 
-/// The word that a reader has to know.
+/// The number that a reader of a photo has to know.
 #[derive(Clone, Copy, Debug, PartialEq, Eq)]
 pub struct Cookie(pub u64);
 
-/// Bytes of its own, which a clause sees as a list.
+/// Bytes that a value owns, which a clause sees as a list.
 pub type Bytes = Listed<u8>;
 
-/// A photo as it was put.
+/// A photo as it was put: at most 1,048,576 bytes, and the cookie with which they are read.
 #[derive(Debug, Drop)]
 pub struct Photo {
     pub cookie: Cookie,

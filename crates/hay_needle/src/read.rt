@@ -1,13 +1,11 @@
 //! Reading needles.
 
-ghost use Rattle.std.specs.Prelude.{◌≡◌, ◌+◌, ◌≤◌, length, take, IfOk, Ok};
-ghost use Rattle.std.specs.List.{list_all};
+ghost use Rattle.std.specs.Prelude.{◌≡◌, ◌+◌, ◌≤◌, length, take, IfOk, IsOkAnd};
 ghost use Rattle.hay_needle.specs.Sizes.{padding_of_lem};
 ghost use Rattle.hay_needle.specs.declared.needle.Needle.{Needle};
 ghost use Rattle.hay_needle.specs.Needle.{Head, HeadBytes, BeginsWithNeedle, head_of_cell, needle_of_view};
-ghost use Rattle.hay_needle.specs.Reading.{head_at, footed_at, needle_at, Gives};
-ghost use Rattle.hay_needle.specs.Faults.{fault_of, first_fault, needle_tests};
-ghost use Rattle.hay_needle.specs.Fields.{number_at, all_zero, has_sum};
+ghost use Rattle.hay_needle.specs.Reading.{head_at, needle_at};
+ghost use Rattle.hay_needle.specs.Faults.{fault_of, first_fault, head_tests, footer_tests, needle_tests};
 
 use crate::encode::FOOTER_MAGIC;
 use crate::fields::{has_sum_of, is_zero, u32_at, u64_at};
@@ -17,21 +15,21 @@ use crate::total::{MAX_PHOTO, padding_of, total_of};
 /// `NEEDLE01`, which begins a needle.
 pub const NEEDLE_MAGIC: u64 = 0x4e45_4544_4c45_3031;
 
-/// The bytes before the photo.
+/// The number of bytes before the photo.
 pub const HEAD_LEN: usize = 36;
 
-/// Why bytes are no needle: the first fault from left to right.
+/// Why bytes are no needle: the first of these faults, in the order of the reading.
 #[derive(Clone, Copy, Debug, PartialEq, Eq)]
 pub enum NeedleFault {
-    /// The bytes end before the needle does.
+    /// The bytes end before the needle's head does, or, after `Reserved`, before the needle does.
     Short,
     /// They do not begin with the magic.
     Magic,
-    /// The photo would be too large.
+    /// The size at 32 is above the largest photo's.
     Size,
-    /// The bytes behind the flags are not zero.
+    /// The three bytes behind the flags, at 29, are not zero.
     Reserved,
-    /// The footer does not stand behind the photo.
+    /// The footer magic does not stand behind the photo.
     Footer,
     /// The bytes behind the checksum are not zero.
     Padding,
@@ -39,10 +37,11 @@ pub enum NeedleFault {
     Sum,
 }
 
-#[tactic(auto, unfolding(crate::specs::Reading::head_at, crate::specs::Reading::fields_at))]
+#[tactic(auto, unfolding(crate::specs::Faults::head_tests, crate::specs::Reading::head_at))]
 fn head(bytes: &[u8], at: u64) -> Result<CellHead, NeedleFault>
     ensures place { IfOk result (λ h. h.at ≡ at) }
-    ensures exact { Gives head_of_cell result (head_at bytes.now) }
+    ensures fields { IfOk result (λ h. head_of_cell h ≡ head_at bytes.now) }
+    ensures fault { fault_of result ≡ first_fault (head_tests bytes.now) }
 {
     if bytes.len() < HEAD_LEN {
         return Err(NeedleFault::Short);
@@ -69,20 +68,35 @@ fn head(bytes: &[u8], at: u64) -> Result<CellHead, NeedleFault>
     })
 }
 
-#[tactic(auto, unfolding(crate::specs::Reading::footed_at))]
-fn footed<'a>(head: CellHead, photo: &'a [u8], footer: &[u8]) -> Result<NeedleView<'a>, NeedleFault>
-    requires { 12 + padding_of_lem head.size ≤ length footer.now }
-    ensures { Gives needle_of_view result (footed_at (head_of_cell head) photo.now footer.now) }
+#[tactic(auto, unfolding(crate::specs::Faults::footer_tests))]
+fn check_footer(size: u32, photo: &[u8], footer: &[u8]) -> Result<(), NeedleFault>
+    requires { 12 + padding_of_lem size ≤ length footer.now }
+    ensures { fault_of result ≡ first_fault (footer_tests size photo.now footer.now) }
 {
     if u32_at(footer, 0) != FOOTER_MAGIC {
         return Err(NeedleFault::Footer);
     }
-    if !is_zero(&footer[12..12 + padding_of(head.size)]) {
+    if !is_zero(&footer[12..12 + padding_of(size)]) {
         return Err(NeedleFault::Padding);
     }
     if !has_sum_of(photo, &footer[4..12]) {
         return Err(NeedleFault::Sum);
     }
+    Ok(())
+}
+
+#[tactic(auto, using(crate::proofs::FaultLemmas::first_of_both), unfolding(crate::specs::Faults::needle_tests, crate::specs::Reading::needle_at, crate::specs::Reading::head_at))]
+fn needle(bytes: &[u8]) -> Result<NeedleView<'_>, NeedleFault>
+    ensures fields { IfOk result (λ v. needle_of_view v ≡ needle_at bytes.now) }
+    ensures fault { fault_of result ≡ first_fault (needle_tests bytes.now) }
+{
+    let head = head(bytes, 0)?;
+    if (bytes.len() as u64) < total_of(head.size) {
+        return Err(NeedleFault::Short);
+    }
+    let (_, body) = bytes.split_at(HEAD_LEN);
+    let (photo, footer) = body.split_at(head.size as usize);
+    check_footer(head.size, photo, footer)?;
     Ok(NeedleView {
         pair: head.pair,
         cookie: head.cookie,
@@ -91,39 +105,26 @@ fn footed<'a>(head: CellHead, photo: &'a [u8], footer: &[u8]) -> Result<NeedleVi
     })
 }
 
-#[tactic(auto, unfolding(crate::specs::Reading::needle_at))]
-fn needle(bytes: &[u8]) -> Result<NeedleView<'_>, NeedleFault>
-    ensures { Gives needle_of_view result (needle_at bytes.now) }
-{
-    let head = head(bytes, 0)?;
-    if (bytes.len() as u64) < total_of(head.size) {
-        return Err(NeedleFault::Short);
-    }
-    let (_, body) = bytes.split_at(HEAD_LEN);
-    let (photo, footer) = body.split_at(head.size as usize);
-    footed(head, photo, footer)
-}
-
-/// What the first 36 bytes say of the needle that stands at `at`.
+/// What the first 36 bytes say of the needle that stands at `at` in its file.
 pub fn read_head(bytes: &[u8], at: u64) -> Result<CellHead, NeedleFault>
     ensures place { IfOk result (λ h. h.at ≡ at) }
     // What is read is a head.
     ensures found { IfOk result (λ h. HeadBytes (take 36 bytes.now) (head_of_cell h)) }
     // A head is read.
-    ensures only { (h : Head) → HeadBytes (take 36 bytes.now) h → Gives head_of_cell result (Ok h) }
-    // Which fault it is.
-    ensures exact { Gives head_of_cell result (head_at bytes.now) }
+    ensures only { (h : Head) → HeadBytes (take 36 bytes.now) h → IsOkAnd result (λ cell. head_of_cell cell ≡ h) }
+    // The fault is the first that the bytes have.
+    ensures fault { fault_of result ≡ first_fault (head_tests bytes.now) }
 {
     head(bytes, at)
 }
 
-/// The needle at the front of the bytes.
+/// The needle at the front of the bytes. What follows it is not read.
 pub fn read_needle(bytes: &[u8]) -> Result<NeedleView<'_>, NeedleFault>
     // What is read is a needle.
     ensures found { IfOk result (λ v. BeginsWithNeedle bytes.now (needle_of_view v)) }
     // A needle is read, whatever follows it.
-    ensures only { (n : Needle) → BeginsWithNeedle bytes.now n → Gives needle_of_view result (Ok n) }
-    // The fault is the first test that fails.
+    ensures only { (n : Needle) → BeginsWithNeedle bytes.now n → IsOkAnd result (λ v. needle_of_view v ≡ n) }
+    // The fault is the first that the bytes have.
     ensures fault { fault_of result ≡ first_fault (needle_tests bytes.now) }
 {
     needle(bytes)

@@ -1,0 +1,4 @@
+pub mod Contents
+pub mod Outside
+pub mod PairPlaces
+pub mod State

@@ -1,0 +1,12 @@
+//! The store behind the program: one command is answered at a time, each by the rules of legality.
+//! It stands on the volume file of `hay_volume` and on a shelf of disks. What it promises is said of the known state of
+//! `hay_legal`: an answer is legal from the state before it, and the disk that is given back holds the state after it.
+//!
+//! One volume with one replica is built, on the disk in slot 1. File 1 of that disk is the volume file, and nothing else
+//! is kept on a disk: the rows are the pairs of the cells, each at its first cell.
+#![tactic(auto)]
+
+mod cluster;
+mod places;
+
+pub use cluster::{Cluster, ClusterFault, Halted};

@@ -1,0 +1,724 @@
+-- Which blocks of lanes are legal: what their replies show of the log, the rows and the counts, whatever the order was.
+use Rattle.std.specs.Prelude.{◌≡◌, ◌≢◌, ℕ, ◌+◌, ◌-◌, ◌^◌, ◌<◌, ◌≤◌, ◌==◌, ◌&&◌, ◌⊎◌, not, Bool, true, false, cond, List, [], ◌∷◌, length, map, drop, take, filter, filter_map, flat_map, sum_by, count_by, take_while, slice_get, unwrap_or, Contains, Option, Some, None, option_map, if◌then◌else◌}
+use Rattle.std.specs.List.{AllZip, AllByRecursion as Each, list_any, enumerate_from}
+use Rattle.hay_needle.specs.declared.needle.Pair.{Pair}
+use Rattle.hay_needle.specs.declared.needle.Cookie.{Cookie}
+use Rattle.hay_needle.specs.declared.needle.Outcome.{Outcome}
+use Rattle.hay_needle.specs.declared.needle.Outcome.TheVariants as outcome
+use Rattle.hay_needle.specs.declared.settings.Settings.{Settings}
+use Rattle.hay_url.specs.declared.Url.{Url as UrlParts}
+use Rattle.hay_url.specs.Url.{cookie_of}
+use Rattle.hay_script.specs.declared.Command.{Command}
+use Rattle.hay_script.specs.declared.Command.TheVariants as command
+use Rattle.hay_reply.specs.declared.Refused.{Refused}
+use Rattle.hay_reply.specs.declared.Refused.TheVariants.{NoRoom, Closed}
+use Rattle.hay_reply.specs.declared.ClosedBy.{ClosedBy}
+use Rattle.hay_reply.specs.declared.Cause.{Cause}
+use Rattle.hay_reply.specs.declared.Cause.TheVariants.{Arm, Disk, Damage}
+use Rattle.hay_reply.specs.declared.Passed.{Passed}
+use Rattle.hay_reply.specs.declared.LineVolume.{LineVolume}
+use Rattle.hay_reply.specs.declared.Reply.{Reply}
+use Rattle.hay_reply.specs.declared.Reply.TheVariants.{Stored, Deleted, Photo, Gone, Absent, WrongCookie, Unknown, Moved, Url, Full, ReadOnly, ReadOnlyDir, Failed, FailedDir, Unreadable, Flushed, Compacted, Busy, Worn, Nowhere, BadLine, NoMem}
+use Rattle.hay_core.specs.declared.entry.Entry.{Entry}
+use Rattle.hay_core.specs.declared.entry.Entry.TheVariants as entry
+use Rattle.hay_core.specs.declared.entry.CoreTag.{CoreTag}
+use Rattle.hay_needle.specs.Tables.{outcome_at, live_end}
+use Rattle.hay_needle.specs.Sizes.{total_of_lem}
+use Rattle.hay_disk.specs.Counts.{Rose}
+use Rattle.hay_legal.specs.Known.{stands}
+use Rattle.hay_core.specs.declared.entry.Logged.{Logged}
+use Rattle.hay_legal.specs.declared.known.Run.{Run}
+use Rattle.hay_legal.specs.declared.known.ReplicaKnown.{ReplicaKnown}
+use Rattle.hay_legal.specs.declared.known.HomeRow.{HomeRow}
+use Rattle.hay_legal.specs.declared.known.Known.{Known}
+use Rattle.hay_legal.specs.declared.turn.Item.{Item}
+use Rattle.hay_legal.specs.declared.turn.Item.TheVariants as asks
+use Rattle.hay_legal.specs.declared.turn.LaneItem.{LaneItem}
+use Rattle.hay_legal.specs.declared.turn.LogNote.{LogNote}
+use Rattle.hay_legal.specs.declared.turn.RowNote.{RowNote}
+use Rattle.hay_legal.specs.Known.{volume_at, replica_at, machine_of, slot_of, replica_on, home_at, home_of, all_tries, at_front, now, closed, fault_count, arm_count, CameUp, NoneFalls, EachPair, replicas_of, volumes_of, all_lanes}
+use Rattle.hay_legal.specs.Plain.{order_from, start_of, as_closed, first_machine, lacks}
+
+-- WHAT IS NEW
+
+abbrev pub new_entries : Known → Known → ℕ → List Logged
+new_entries k t v = drop (length (volume_at k v).log) (volume_at t v).log
+
+abbrev pub new_rows : Known → Known → List HomeRow
+new_rows k t = drop (length k.directory.rows) t.directory.rows
+
+abbrev pub tag_of : LaneItem → CoreTag
+tag_of item = record { lane = item.lane; line = item.line }
+
+-- the bytes of the needles of the new puts, and their number
+abbrev pub put_total : Logged → ℕ
+put_total logged = put_total_of logged.entry
+  where
+    put_total_of : Entry → ℕ
+    put_total_of (entry.Put pair cookie bytes) = total_of_lem (length bytes)
+    put_total_of (entry.Del pair) = 0
+
+abbrev pub is_put : Logged → Bool
+is_put logged = is_put_of logged.entry
+  where
+    is_put_of : Entry → Bool
+    is_put_of (entry.Put pair cookie bytes) = true
+    is_put_of (entry.Del pair) = false
+
+-- THE LOG: each new entry is an acknowledged line, at its printed position, and each such line is an entry
+
+abbrev pub entry_for : Settings → Command → Option Entry
+entry_for settings (command.Put pair bytes) = Some (entry.Put pair (cookie_of settings.secret pair.key) bytes)
+entry_for settings (command.Del pair) = Some (entry.Del pair)
+entry_for settings _ = None
+
+abbrev pub entry_of_item : Settings → Item → Option Entry
+entry_of_item settings (asks.Command command) = entry_for settings command
+entry_of_item settings asks.Bad = None
+
+-- the volume and the position that a reply acknowledges
+abbrev pub acknowledged : Reply → Option (ℕ × ℕ)
+acknowledged (Stored v p d c) = Some (v, p)
+acknowledged (Deleted v p d) = Some (v, p)
+acknowledged _ = None
+
+-- the entry at this position is this line's
+pub record IsEntryOf (settings : Settings) (item : LaneItem) (logged : Logged) : Type 0 where
+  pub tag : logged.tag ≡ tag_of item
+  pub entry : entry_of_item settings item.item ≡ Some logged.entry
+
+-- an acknowledged line is the entry at its printed position
+abbrev pub EnteredAt : Settings → Known → Known → LaneItem → Option (ℕ × ℕ) → Type 0
+EnteredAt settings k t item None = Unit {0}
+EnteredAt settings k t item (Some at) =
+    (length (volume_at k at.0).log < at.1)
+    × ((logged : Logged) × (slice_get (volume_at t at.0).log (at.1 - 1) ≡ Some logged) × IsEntryOf settings item logged)
+
+abbrev pub IsEntered : Settings → Known → Known → LaneItem → Type 0
+IsEntered settings k t item = EnteredAt settings k t item (acknowledged item.reply)
+
+-- the entry at a position is a line's that was acknowledged there
+abbrev pub IsMade : Settings → List LaneItem → ℕ → ℕ × Logged → Type 0
+IsMade settings items v at =
+    (item : LaneItem) × Contains items item × (acknowledged item.reply ≡ Some (v, at.0)) × IsEntryOf settings item at.1
+
+-- nothing else was appended
+pub record LogIsLegal (settings : Settings) (k : Known) (items : List LaneItem) (t : Known) (v : ℕ) : Type 0 where
+  pub kept : take (length (volume_at k v).log) (volume_at t v).log ≡ (volume_at k v).log
+  pub made : Each (IsMade settings items v) (enumerate_from (length (volume_at k v).log + 1) (new_entries k t v))
+
+-- the notes are these
+abbrev pub log_note : Known → Known → ℕ → List LogNote
+log_note k t v = log_note_of (new_entries k t v)
+  where
+    log_note_of : List Logged → List LogNote
+    log_note_of [] = []
+    log_note_of (logged ∷ rest) =
+        record { volume = v; from = length (volume_at k v).log; lines = map (λ entry. (entry.tag).line) (logged ∷ rest) } ∷ []
+
+abbrev pub log_notes : Settings → Known → Known → List LogNote
+log_notes settings k t = flat_map (log_note k t) (volumes_of settings)
+
+-- ROOM: a printed end, and the end at a put, lie in a range
+
+abbrev pub is_compacted : ℕ → ℕ → LaneItem → Bool
+is_compacted v m item = compacts item.item
+  where
+    compacts_by : Command → Bool
+    compacts_by (command.Compact v' m') = (v' == v) && (m' == m)
+    compacts_by _ = false
+
+    compacts : Item → Bool
+    compacts (asks.Command command) = compacts_by command
+    compacts asks.Bad = false
+
+abbrev pub may_be_swapped : Settings → List LaneItem → ℕ → ℕ → Bool
+may_be_swapped settings items v j = list_any (is_compacted v (machine_of settings v j)) items
+
+abbrev pub lowest_end : Settings → Known → List LaneItem → ℕ → ℕ → ℕ
+lowest_end settings k items v j = if may_be_swapped settings items v j then 64 else (replica_at (volume_at k v) j).end
+
+abbrev pub highest_end : Known → Known → ℕ → ℕ → ℕ
+highest_end k t v j = (replica_at (volume_at k v) j).end + sum_by put_total (new_entries k t v)
+
+abbrev pub MayEnd : Settings → Known → List LaneItem → Known → ℕ → ℕ → ℕ → Type 0
+MayEnd settings k items t v j end = (lowest_end settings k items v j ≤ end) × (end ≤ highest_end k t v j)
+
+-- the replica on this machine may have lacked room for a photo of this size
+abbrev pub MayLackRoom : Settings → Known → List LaneItem → Known → ℕ → Refused → Type 0
+MayLackRoom settings k items t size (NoRoom v m end need) =
+    (j : ℕ) × (replica_on settings v m ≡ Some j) × MayEnd settings k items t v j end
+    × (need ≡ total_of_lem size) × (settings.capacity < end + need + 8)
+MayLackRoom settings k items t size (Closed v m) = ⊥
+
+abbrev pub MayHaveRoom : Settings → Known → List LaneItem → Known → ℕ → ℕ → Type 0
+MayHaveRoom settings k items t size v =
+    Each (λ j. (end : ℕ) × MayEnd settings k items t v j end × (end + total_of_lem size + 8 ≤ settings.capacity)) (replicas_of settings)
+
+-- FREEZES: a volume may have been frozen in the block where it is frozen behind it
+
+-- a reply of the block that froze a volume by this machine
+abbrev pub Freezes : Settings → ℕ → ℕ → LaneItem → Type 0
+Freezes settings v m item = FreezesBy item.item item.reply
+  where
+    FreezesAs : Command → Reply → Type 0
+    FreezesAs (command.Flush v' m') reply = ⊥
+    FreezesAs command (Failed v' m' f) = (v' ≡ v) × (m' ≡ m)
+    FreezesAs command NoMem = m ≡ first_machine settings v
+    FreezesAs command _ = ⊥
+
+    FreezesBy : Item → Reply → Type 0
+    FreezesBy (asks.Command command) reply = FreezesAs command reply
+    FreezesBy asks.Bad reply = ⊥
+
+abbrev pub SticksBy : ℕ → ℕ → LaneItem → Type 0
+SticksBy v m item = Sticks item.item item.reply
+  where
+    SticksAs : Command → Reply → Type 0
+    SticksAs (command.Flush v' m') (Failed v'' m'' f) = (v' ≡ v) × (m' ≡ m)
+    SticksAs _ _ = ⊥
+
+    Sticks : Item → Reply → Type 0
+    Sticks (asks.Command command) reply = SticksAs command reply
+    Sticks asks.Bad reply = ⊥
+
+-- a volume was closed by this machine before the block, or was frozen by it in the block
+abbrev pub MayBeClosed : Settings → Known → List LaneItem → Known → ℕ → ℕ → Type 0
+MayBeClosed settings k items t v m =
+    (closed settings k v ≡ Some m)
+    ⊎ (((volume_at t v).frozen ≡ Some m) × (item : LaneItem) × Contains items item × Freezes settings v m item)
+
+-- ROWS: each new row is that of a put line, at a try before which each try may have refused
+
+pub record IsNewRow (settings : Settings) (k : Known) (items : List LaneItem) (t : Known) (named : LineVolume) (row : HomeRow) : Type 0 where
+  pub volume : named.volume ≡ row.volume
+  pub missing : home_of k row.pair ≡ None
+  pub item : LaneItem
+  pub among : Contains items item
+  pub line : item.line ≡ named.line
+  pub bytes : List ℕ
+  pub put : item.item ≡ asks.Command (command.Put row.pair bytes)
+  pub tried : Contains (all_tries settings row.pair) row.volume
+  pub before : Each
+      (λ v. ((m : ℕ) × MayBeClosed settings k items t v m)
+      ⊎ ((refused : Refused) × MayLackRoom settings k items t (length bytes) refused))
+      (take_while (λ v. not (v == row.volume)) (all_tries settings row.pair))
+
+pub record RowsAreLegal (settings : Settings) (k : Known) (items : List LaneItem) (rows : RowNote) (t : Known) : Type 0 where
+  pub kept : take (length k.directory.rows) t.directory.rows ≡ k.directory.rows
+  pub from : rows.from ≡ length k.directory.rows
+  pub each : AllZip (IsNewRow settings k items t) rows.rows (new_rows k t)
+  pub distinct : EachPair (λ a b. a.pair ≢ b.pair) (new_rows k t)
+
+-- FRONTS: what a lane prints of a volume or of the Directory never goes back
+
+-- a printed front, and whether it is the position of an entry
+pub record Printed : Type 0 where
+  pub front : ℕ
+  pub entered : Bool
+
+abbrev pub printed : ℕ → Bool → Printed
+printed front entered = record { front = front; entered = entered }
+
+-- what a reply prints of the volume v
+abbrev pub volume_print : ℕ → Reply → List Printed
+volume_print v (Stored v' p d c) = cond (v' == v) (printed p true ∷ []) []
+volume_print v (Deleted v' p d) = cond (v' == v) (printed p true ∷ []) []
+volume_print v (Photo v' m p d bytes) = cond (v' == v) (printed p false ∷ []) []
+volume_print v (Gone v' m p d) = cond (v' == v) (printed p false ∷ []) []
+volume_print v (Absent v' p d) = cond (v' == v) (printed p false ∷ []) []
+volume_print v (WrongCookie v' m p d) = cond (v' == v) (printed p false ∷ []) []
+volume_print v (Unreadable v' p d causes) = cond (v' == v) (printed p false ∷ []) []
+volume_print v _ = []
+
+-- what it prints of the Directory
+abbrev pub row_print : Reply → List Printed
+row_print (Stored v p d c) = printed d false ∷ []
+row_print (Deleted v p d) = printed d false ∷ []
+row_print (Photo v m p d bytes) = printed d false ∷ []
+row_print (Gone v m p d) = printed d false ∷ []
+row_print (Absent v p d) = printed d false ∷ []
+row_print (WrongCookie v m p d) = printed d false ∷ []
+row_print (Unreadable v p d causes) = printed d false ∷ []
+row_print (Unknown d) = printed d false ∷ []
+row_print (Moved v d) = printed d false ∷ []
+row_print (Url d url) = printed d false ∷ []
+row_print _ = []
+
+abbrev pub lane_items : List LaneItem → ℕ → List LaneItem
+lane_items items lane = filter (λ item. item.lane == lane) items
+
+abbrev pub InOrder : Printed → Printed → Type 0
+InOrder earlier later = InOrderBy later.entered
+  where
+    InOrderBy : Bool → Type 0
+    InOrderBy true = earlier.front < later.front
+    InOrderBy false = earlier.front ≤ later.front
+
+abbrev pub Between : ℕ → ℕ → Printed → Type 0
+Between before after shown = (before ≤ shown.front) × (shown.front ≤ after)
+
+abbrev pub GoesOn : ℕ → ℕ → List Printed → Type 0
+GoesOn before after shown = EachPair InOrder shown × Each (Between before after) shown
+
+pub record FrontsAreLegal (settings : Settings) (k : Known) (items : List LaneItem) (t : Known) : Type 0 where
+  pub volumes : Each (λ lane. Each
+      (λ v. GoesOn (length (volume_at k v).log) (length (volume_at t v).log) (flat_map (λ item. volume_print v item.reply) (lane_items items lane)))
+      (volumes_of settings)) all_lanes
+  pub directory : Each
+      (λ lane. GoesOn (length k.directory.rows) (length t.directory.rows) (flat_map (λ item. row_print item.reply) (lane_items items lane)))
+      all_lanes
+
+-- READS: a reply is what its printed fronts show
+
+-- a pair's home at a front of the Directory
+abbrev pub HomeAt : Known → Pair → ℕ → Option ℕ → Type 0
+HomeAt t pair d home = home_at t.directory.rows d pair ≡ home
+
+abbrev pub outcome_then : Known → ℕ → ℕ → ℕ → Pair → Outcome
+outcome_then t v j p pair = outcome_at (at_front (volume_at t v) (replica_at (volume_at t v) j) p) pair
+
+pub record ShowsThen (settings : Settings) (t : Known) (pair : Pair) (v m p d : ℕ) (shown : Outcome) : Type 0 where
+  pub home : HomeAt t pair d (Some v)
+  pub replica : ℕ
+  pub there : replica_on settings v m ≡ Some replica
+  pub stands : outcome_then t v replica p pair ≡ shown
+
+abbrev pub CausesInOrder : Settings → ℕ → ℕ → List Passed → Type 0
+CausesInOrder settings v start causes =
+    map (λ passed. passed.machine) causes ≡ map (machine_of settings v) (order_from settings start)
+
+abbrev pub ReadIsLegal : Settings → Known → ℕ → Pair → Cookie → Reply → Type 0
+ReadIsLegal settings t start pair cookie (Photo v m p d bytes) =
+    ShowsThen settings t pair v m p d (outcome.Photo (record { cookie = cookie; bytes = bytes }))
+ReadIsLegal settings t start pair cookie (Gone v m p d) = ShowsThen settings t pair v m p d outcome.Nothing
+ReadIsLegal settings t start pair cookie (WrongCookie v m p d) =
+    (c : Cookie) × (bytes : List ℕ) × (c ≢ cookie) × ShowsThen settings t pair v m p d (outcome.Photo (record { cookie = c; bytes = bytes }))
+ReadIsLegal settings t start pair cookie (Unreadable v p d causes) = HomeAt t pair d (Some v) × CausesInOrder settings v start causes
+ReadIsLegal settings t start pair cookie (Unknown d) = HomeAt t pair d None
+ReadIsLegal settings t start pair cookie NoMem = Unit {0}
+ReadIsLegal settings t start pair cookie _ = ⊥
+
+abbrev pub GetIsLegal : Settings → Known → UrlParts → Option ℕ → Reply → Type 0
+GetIsLegal settings t url None Nowhere = Unit {0}
+GetIsLegal settings t url None NoMem = Unit {0}
+GetIsLegal settings t url None _ = ⊥
+GetIsLegal settings t url (Some start) (Moved v d) = HomeAt t url.pair d (Some v) × (v ≢ url.volume)
+GetIsLegal settings t url (Some start) reply = ReadIsLegal settings t start url.pair url.cookie reply
+
+-- on some replica, or on none, a photo stood at the pair
+abbrev pub StoodThen : Settings → Known → ℕ → ℕ → Pair → Type 0
+StoodThen settings t v p pair = list_any (λ j. stands (outcome_then t v j p pair)) (replicas_of settings) ≡ true
+
+abbrev pub NothingThen : Settings → Known → ℕ → ℕ → Pair → Type 0
+NothingThen settings t v p pair = list_any (λ j. stands (outcome_then t v j p pair)) (replicas_of settings) ≡ false
+
+-- a lone volume in a reply is the pair's home at some front of the block
+abbrev pub HomeInBlock : Known → Known → Pair → ℕ → Type 0
+HomeInBlock k t pair v =
+    (d : ℕ) × (length k.directory.rows ≤ d) × (d ≤ length t.directory.rows) × HomeAt t pair d (Some v)
+
+abbrev pub ClosedHome : Settings → Known → List LaneItem → Known → Pair → List ClosedBy → Type 0
+ClosedHome settings k items t pair (by ∷ []) = HomeInBlock k t pair by.volume × MayBeClosed settings k items t by.volume by.machine
+ClosedHome settings k items t pair _ = ⊥
+
+abbrev pub DelIsLegal : Settings → Known → List LaneItem → Known → Pair → Reply → Type 0
+DelIsLegal settings k items t pair (Deleted v p d) = HomeAt t pair d (Some v) × StoodThen settings t v (p - 1) pair
+DelIsLegal settings k items t pair (Absent v p d) = HomeAt t pair d (Some v) × NothingThen settings t v p pair
+DelIsLegal settings k items t pair (Unknown d) = HomeAt t pair d None
+DelIsLegal settings k items t pair (ReadOnly by) = ClosedHome settings k items t pair by
+DelIsLegal settings k items t pair (Failed v m f) = HomeInBlock k t pair v
+DelIsLegal settings k items t pair NoMem = Unit {0}
+DelIsLegal settings k items t pair _ = ⊥
+
+-- PUTS
+
+-- why a try of an unsettled pair may have refused
+abbrev pub MayRefuse : Settings → Known → List LaneItem → Known → ℕ → ℕ → Refused → Type 0
+MayRefuse settings k items t size v (NoRoom v' m end need) = (v' ≡ v) × MayLackRoom settings k items t size (NoRoom v' m end need)
+MayRefuse settings k items t size v (Closed v' m) = (v' ≡ v) × MayBeClosed settings k items t v m
+
+abbrev pub TriesRefuse : Settings → Known → List LaneItem → Known → Pair → List ℕ → List Refused → Type 0
+TriesRefuse settings k items t pair bytes refused =
+    (home_of k pair ≡ None) × AllZip (MayRefuse settings k items t (length bytes)) (all_tries settings pair) refused
+
+abbrev pub HomeRefuses : Settings → Known → List LaneItem → Known → Pair → List ℕ → List Refused → Type 0
+HomeRefuses settings k items t pair bytes (refused ∷ []) =
+    (v : ℕ) × HomeInBlock k t pair v × MayRefuse settings k items t (length bytes) v refused
+HomeRefuses settings k items t pair bytes _ = ⊥
+
+abbrev pub RefusesPut : Settings → Known → List LaneItem → Known → Pair → List ℕ → List Refused → Type 0
+RefusesPut settings k items t pair bytes refused =
+    TriesRefuse settings k items t pair bytes refused ⊎ HomeRefuses settings k items t pair bytes refused
+
+-- a reply of the block that froze the Directory
+abbrev pub FreezesDirectory : LaneItem → Type 0
+FreezesDirectory item = FreezesBy item.item item.reply
+  where
+    FreezesAs : Command → Reply → Type 0
+    FreezesAs (command.Put pair bytes) (FailedDir f) = Unit {0}
+    FreezesAs (command.Put pair bytes) NoMem = Unit {0}
+    FreezesAs _ _ = ⊥
+
+    FreezesBy : Item → Reply → Type 0
+    FreezesBy (asks.Command command) reply = FreezesAs command reply
+    FreezesBy asks.Bad reply = ⊥
+
+abbrev pub DirectoryMayBeFrozen : Known → List LaneItem → Known → Type 0
+DirectoryMayBeFrozen k items t =
+    (t.directory.frozen ≡ true)
+    × ((k.directory.frozen ≡ true) ⊎ ((item : LaneItem) × Contains items item × FreezesDirectory item))
+
+abbrev pub PutIsLegal : Settings → Known → List LaneItem → Known → Pair → List ℕ → Reply → Type 0
+PutIsLegal settings k items t pair bytes (Stored v p d c) =
+    HomeAt t pair d (Some v) × (c ≡ cookie_of settings.secret pair.key) × MayHaveRoom settings k items t (length bytes) v
+PutIsLegal settings k items t pair bytes (Full refused) =
+    RefusesPut settings k items t pair bytes refused × (list_any lacks refused ≡ true)
+PutIsLegal settings k items t pair bytes (ReadOnly by) = RefusesPut settings k items t pair bytes (map as_closed by)
+PutIsLegal settings k items t pair bytes ReadOnlyDir = (home_of k pair ≡ None) × DirectoryMayBeFrozen k items t
+PutIsLegal settings k items t pair bytes (Failed v m f) = Contains (all_tries settings pair) v
+PutIsLegal settings k items t pair bytes (FailedDir f) = (home_of k pair ≡ None) × (t.directory.frozen ≡ true)
+PutIsLegal settings k items t pair bytes NoMem = Unit {0}
+PutIsLegal settings k items t pair bytes _ = ⊥
+
+-- FLUSHES AND COMPACTIONS
+
+abbrev pub IsOn : ℕ → ℕ → ℕ → ℕ → Type 0
+IsOn v m v' m' = (v' ≡ v) × (m' ≡ m)
+
+abbrev pub MayBeFrozen : Settings → Known → List LaneItem → Known → ℕ → List ClosedBy → Type 0
+MayBeFrozen settings k items t v (by ∷ []) =
+    (by.volume ≡ v)
+    × (((volume_at k v).frozen ≡ Some by.machine)
+    ⊎ (((volume_at t v).frozen ≡ Some by.machine) × (item : LaneItem) × Contains items item × Freezes settings v by.machine item))
+MayBeFrozen settings k items t v _ = ⊥
+
+abbrev pub MayBeStuck : Known → List LaneItem → Known → ℕ → ℕ → ℕ → List ClosedBy → Type 0
+MayBeStuck k items t v m j (by ∷ []) =
+    IsOn v m by.volume by.machine
+    × (((replica_at (volume_at k v) j).stuck ≡ true)
+    ⊎ (((item : LaneItem) × Contains items item × SticksBy v m item)
+    × (((replica_at (volume_at t v) j).stuck ≡ true) ⊎ ((replica_at (volume_at k v) j).generation < (replica_at (volume_at t v) j).generation))))
+MayBeStuck k items t v m j _ = ⊥
+
+abbrev pub FlushIsLegal : Settings → Known → List LaneItem → Known → ℕ → ℕ → Option ℕ → Reply → Type 0
+FlushIsLegal settings k items t v m None Nowhere = Unit {0}
+FlushIsLegal settings k items t v m None NoMem = Unit {0}
+FlushIsLegal settings k items t v m None _ = ⊥
+FlushIsLegal settings k items t v m (Some j) (Flushed v' m' n) = IsOn v m v' m'
+FlushIsLegal settings k items t v m (Some j) (ReadOnly by) = MayBeFrozen settings k items t v by ⊎ MayBeStuck k items t v m j by
+FlushIsLegal settings k items t v m (Some j) (Failed v' m' f) = IsOn v m v' m'
+FlushIsLegal settings k items t v m (Some j) NoMem = Unit {0}
+FlushIsLegal settings k items t v m (Some j) _ = ⊥
+
+-- a compact of the same replica in another lane, whose run another may have met
+abbrev pub RunsBeside : ℕ → ℕ → ℕ → ℕ → LaneItem → Type 0
+RunsBeside lane v m g item = (item.lane ≢ lane) × (item.item ≡ asks.Command (command.Compact v m)) × MayHaveRun item.reply
+  where
+    MayHaveRun : Reply → Type 0
+    MayHaveRun (Compacted v' m' g') = g' ≡ g
+    MayHaveRun (Failed v' m' f) = Unit {0}
+    MayHaveRun (ReadOnly by) = Unit {0}
+    MayHaveRun NoMem = Unit {0}
+    MayHaveRun _ = ⊥
+
+abbrev pub MayBeBusy : Known → List LaneItem → Known → ℕ → ℕ → ℕ → ℕ → ℕ → Type 0
+MayBeBusy k items t lane v m j g =
+    ((replica_at (volume_at k v) j).generation < g) × (g ≤ (replica_at (volume_at t v) j).generation + 1)
+    × (((run : Run) × ((replica_at (volume_at k v) j).run ≡ Some run) × (run.goal ≡ g))
+    ⊎ ((item : LaneItem) × Contains items item × RunsBeside lane v m g item))
+
+abbrev pub CompactIsLegal : Settings → Known → List LaneItem → Known → ℕ → ℕ → ℕ → Option ℕ → Reply → Type 0
+CompactIsLegal settings k items t lane v m None Nowhere = Unit {0}
+CompactIsLegal settings k items t lane v m None NoMem = Unit {0}
+CompactIsLegal settings k items t lane v m None _ = ⊥
+CompactIsLegal settings k items t lane v m (Some j) (Compacted v' m' g) = IsOn v m v' m'
+CompactIsLegal settings k items t lane v m (Some j) (ReadOnly by) = MayBeFrozen settings k items t v by
+CompactIsLegal settings k items t lane v m (Some j) (Busy v' m' g) = IsOn v m v' m' × MayBeBusy k items t lane v m j g
+CompactIsLegal settings k items t lane v m (Some j) (Worn v' m') = IsOn v m v' m' × ((replica_at (volume_at t v) j).generation ≡ 65535)
+CompactIsLegal settings k items t lane v m (Some j) (Failed v' m' f) = IsOn v m v' m'
+CompactIsLegal settings k items t lane v m (Some j) NoMem = Unit {0}
+CompactIsLegal settings k items t lane v m (Some j) _ = ⊥
+
+-- EVERY LINE OF A BLOCK
+
+abbrev pub UrlIsLegal : Settings → Known → CoreTag → Pair → Reply → Type 0
+UrlIsLegal settings t tag pair (Url d url) =
+    HomeAt t pair d (Some url.volume) × (url.pair ≡ pair) × (url.cookie ≡ cookie_of settings.secret pair.key)
+    × (url.machine ≡ machine_of settings url.volume (start_of settings tag))
+UrlIsLegal settings t tag pair (Unknown d) = HomeAt t pair d None
+UrlIsLegal settings t tag pair NoMem = Unit {0}
+UrlIsLegal settings t tag pair _ = ⊥
+
+abbrev pub CommandInLane : Settings → Known → List LaneItem → Known → CoreTag → Command → Reply → Type 0
+CommandInLane settings k items t tag (command.Put pair bytes) reply = PutIsLegal settings k items t pair bytes reply
+CommandInLane settings k items t tag (command.Read pair cookie) reply = ReadIsLegal settings t (start_of settings tag) pair cookie reply
+CommandInLane settings k items t tag (command.Get url) reply = GetIsLegal settings t url (replica_on settings url.volume url.machine) reply
+CommandInLane settings k items t tag (command.Del pair) reply = DelIsLegal settings k items t pair reply
+CommandInLane settings k items t tag (command.Url pair) reply = UrlIsLegal settings t tag pair reply
+CommandInLane settings k items t tag (command.Flush v m) reply = FlushIsLegal settings k items t v m (replica_on settings v m) reply
+CommandInLane settings k items t tag (command.Compact v m) reply = CompactIsLegal settings k items t tag.lane v m (replica_on settings v m) reply
+CommandInLane settings k items t tag _ reply = ⊥
+
+abbrev pub ItemInLane : Settings → Known → List LaneItem → Known → CoreTag → Item → Reply → Type 0
+ItemInLane settings k items t tag (asks.Command command) reply = CommandInLane settings k items t tag command reply
+ItemInLane settings k items t tag asks.Bad reply = reply ≡ BadLine
+
+abbrev pub LineIsLegal : Settings → Known → List LaneItem → Known → LaneItem → Type 0
+LineIsLegal settings k items t item = ItemInLane settings k items t (tag_of item) item.item item.reply
+
+-- COUNTS: each printed count came up in the block, and each replica passed over is laid to the lane's arm or to its disk
+
+-- counts of the disk of v on m that a reply prints
+abbrev pub cause_of_disk : ℕ → Passed → Option ℕ
+cause_of_disk m passed = by_machine (passed.machine == m) passed.cause
+  where
+    by_machine : Bool → Cause → Option ℕ
+    by_machine true (Disk f) = Some f
+    by_machine _ _ = None
+
+abbrev pub disk_prints : ℕ → ℕ → LaneItem → List ℕ
+disk_prints v m item = prints item.reply
+  where
+    prints : Reply → List ℕ
+    prints (Failed v' m' f) = cond ((v' == v) && (m' == m)) (f ∷ []) []
+    prints (Unreadable v' p d causes) = cond (v' == v) (filter_map (cause_of_disk m) causes) []
+    prints _ = []
+
+abbrev pub row_faults : LaneItem → List ℕ
+row_faults item = prints item.reply
+  where
+    prints : Reply → List ℕ
+    prints (FailedDir f) = f ∷ []
+    prints _ = []
+
+abbrev pub cause_of_arm : Passed → Option ℕ
+cause_of_arm passed = at_arm passed.cause
+  where
+    at_arm : Cause → Option ℕ
+    at_arm (Arm f) = Some f
+    at_arm _ = None
+
+abbrev pub arm_prints : LaneItem → List ℕ
+arm_prints item = prints item.reply
+  where
+    prints : Reply → List ℕ
+    prints (Unreadable v p d causes) = filter_map cause_of_arm causes
+    prints _ = []
+
+abbrev pub Differ : ℕ → ℕ → Type 0
+Differ f g = (f ≢ g) ⊎ (g ≡ 2 ^ 64 - 1)
+
+abbrev pub Rises : ℕ → ℕ → Type 0
+Rises f g = (f < g) ⊎ (g ≡ 2 ^ 64 - 1)
+
+-- counts of one disk are pairwise different; those of one arm rise
+abbrev pub CameUpEach : (ℕ → ℕ → Type 0) → ℕ → ℕ → List ℕ → Type 0
+CameUpEach apart before after printed = Each (λ f. CameUp before f after) printed × EachPair apart printed
+
+-- where a reader began, and the replicas that it passed over
+abbrev pub start_by : Settings → LaneItem → ℕ
+start_by settings item = start_at item.item
+  where
+    start_at : Item → ℕ
+    start_at (asks.Command (command.Get url)) = unwrap_or (replica_on settings url.volume url.machine) 0
+    start_at _ = start_of settings (tag_of item)
+
+abbrev pub before_machine : Settings → LaneItem → ℕ → ℕ → List ℕ
+before_machine settings item v m = take_while (λ j. not (machine_of settings v j == m)) (order_from settings (start_by settings item))
+
+abbrev pub passed_over : Settings → ℕ → LaneItem → List ℕ
+passed_over settings v item = passed item.reply
+  where
+    passed : Reply → List ℕ
+    passed (Photo v' m p d bytes) = cond (v' == v) (before_machine settings item v m) []
+    passed (Gone v' m p d) = cond (v' == v) (before_machine settings item v m) []
+    passed (WrongCookie v' m p d) = cond (v' == v) (before_machine settings item v m) []
+    passed (Unreadable v' p d causes) = cond (v' == v) (order_from settings (start_by settings item)) []
+    passed _ = []
+
+-- Which replicas, by line and number, are laid to the lane's arm. The others are laid to their disks.
+abbrev pub Laying : Type 0
+Laying = ℕ → ℕ → Bool
+
+abbrev pub laid_to_disk : Settings → Laying → ℕ → ℕ → LaneItem → ℕ
+laid_to_disk settings to_arm v j item = count_by (λ i. (i == j) && not (to_arm item.line i)) (passed_over settings v item)
+
+abbrev pub laid_to_arm : Settings → Laying → LaneItem → ℕ
+laid_to_arm settings to_arm item =
+    sum_by (λ v. count_by (to_arm item.line) (passed_over settings v item)) (volumes_of settings)
+
+-- an unreadable reply says itself what its replicas are laid to
+abbrev pub LaysAsPrinted : Settings → Laying → LaneItem → Type 0
+LaysAsPrinted settings to_arm item = printed_by item.reply
+  where
+    is_arm : Cause → Bool
+    is_arm (Arm f) = true
+    is_arm _ = false
+
+    no_damage : Cause → Type 0
+    no_damage (Damage at) = ⊥
+    no_damage _ = Unit {0}
+
+    printed_by : Reply → Type 0
+    printed_by (Unreadable v p d causes) =
+        AllZip (λ j passed. (to_arm item.line j ≡ is_arm passed.cause) × no_damage passed.cause) (order_from settings (start_by settings item)) causes
+    printed_by _ = Unit {0}
+
+abbrev pub RoseBy : ℕ → ℕ → ℕ → Type 0
+RoseBy n before after = (before + n ≤ after) ⊎ (after ≡ 2 ^ 64 - 1)
+
+abbrev pub failed_on : ℕ → ℕ → LaneItem → ℕ
+failed_on v m item = failed item.reply
+  where
+    failed : Reply → ℕ
+    failed (Failed v' m' f) = cond ((v' == v) && (m' == m)) 1 0
+    failed _ = 0
+
+abbrev pub DiskIsLegal : Settings → Known → List LaneItem → Known → Laying → ℕ → ℕ → Type 0
+DiskIsLegal settings k items t to_arm v j =
+    CameUpEach Differ (fault_count k (slot_of settings v j)) (fault_count t (slot_of settings v j)) (flat_map (disk_prints v (machine_of settings v j)) items)
+    × RoseBy (sum_by (laid_to_disk settings to_arm v j) items + sum_by (failed_on v (machine_of settings v j)) items)
+    (fault_count k (slot_of settings v j)) (fault_count t (slot_of settings v j))
+
+abbrev pub ArmIsLegal : Settings → Known → List LaneItem → Known → Laying → ℕ → Type 0
+ArmIsLegal settings k items t to_arm lane =
+    CameUpEach Rises (arm_count k lane) (arm_count t lane) (flat_map arm_prints (lane_items items lane))
+    × RoseBy (sum_by (laid_to_arm settings to_arm) (lane_items items lane)) (arm_count k lane) (arm_count t lane)
+
+pub record CountsAreLegal (settings : Settings) (k : Known) (items : List LaneItem) (t : Known) : Type 0 where
+  pub faults : NoneFalls k.faults t.faults
+  pub arms : NoneFalls k.arms t.arms
+  pub to_arm : Laying
+  pub as_printed : Each (LaysAsPrinted settings to_arm) items
+  pub disk : Each (λ v. Each (DiskIsLegal settings k items t to_arm v) (replicas_of settings)) (volumes_of settings)
+  pub directory : CameUpEach Differ (fault_count k 0) (fault_count t 0) (flat_map row_faults items)
+  pub arm : Each (ArmIsLegal settings k items t to_arm) all_lanes
+
+-- WHAT IS LEFT OF EACH REPLICA
+
+-- the generations that a block made of a replica, and the records that it flushed there
+abbrev pub made_on : ℕ → ℕ → LaneItem → List ℕ
+made_on v m item = made item.reply
+  where
+    made : Reply → List ℕ
+    made (Compacted v' m' g) = cond ((v' == v) && (m' == m)) (g ∷ []) []
+    made _ = []
+
+abbrev pub flushed_on : ℕ → ℕ → LaneItem → List ℕ
+flushed_on v m item = flushed item.reply
+  where
+    flushed : Reply → List ℕ
+    flushed (Flushed v' m' n) = cond ((v' == v) && (m' == m)) (n ∷ []) []
+    flushed _ = []
+
+-- a compact of this replica answered so
+abbrev pub CompactsWith : ℕ → ℕ → (Reply → Type 0) → LaneItem → Type 0
+CompactsWith v m said item = (item.item ≡ asks.Command (command.Compact v m)) × said item.reply
+
+abbrev pub IsNoMem : Reply → Type 0
+IsNoMem NoMem = Unit {0}
+IsNoMem _ = ⊥
+
+abbrev pub IsFailed : Reply → Type 0
+IsFailed (Failed v m f) = Unit {0}
+IsFailed _ = ⊥
+
+-- the printed generations are all that were made, but for one swap that want of memory may have hidden
+pub record GenerationsAreLegal (settings : Settings) (items : List LaneItem) (v j : ℕ) (old new : ReplicaKnown) (frozen : Option ℕ) : Type 0 where
+  pub inside_range : Each (λ g. (old.generation < g) × (g ≤ new.generation)) (flat_map (made_on v (machine_of settings v j)) items)
+  pub once : EachPair (λ g h. g ≢ h) (flat_map (made_on v (machine_of settings v j)) items)
+  pub all :
+      (new.generation ≡ old.generation + length (flat_map (made_on v (machine_of settings v j)) items))
+      ⊎ ((new.generation ≡ old.generation + length (flat_map (made_on v (machine_of settings v j)) items) + 1)
+      × (frozen ≡ Some (first_machine settings v))
+      × (item : LaneItem) × Contains items item × CompactsWith v (machine_of settings v j) IsNoMem item)
+
+-- how far a replica grew, where it was not swapped and where it was
+abbrev pub Grew : Known → ℕ → List Logged → ReplicaKnown → ReplicaKnown → Type 0
+Grew t v new_log old new =
+    ((new.generation ≡ old.generation) × (new.end ≡ old.end + sum_by put_total new_log) × (new.cells ≡ old.cells + count_by is_put new_log))
+    ⊎ ((old.generation < new.generation)
+    × (live_end (now (volume_at t v) new) ≤ new.end) × (new.end ≤ old.end + sum_by put_total new_log)
+    × (length (now (volume_at t v) new) ≤ new.cells) × (new.cells ≤ old.cells + count_by is_put new_log))
+
+abbrev pub BareIsLegal : List ℕ → List Logged → ReplicaKnown → ReplicaKnown → Type 0
+BareIsLegal flushed new_log old new =
+    (((flushed ≢ []) ⊎ (old.generation < new.generation)) → new.bare ≤ count_by is_put new_log)
+    × (((new.generation ≡ old.generation) × (sum_by (λ n. n) flushed + new.bare ≡ old.bare + count_by is_put new_log))
+    ⊎ ((old.generation < new.generation) × (sum_by (λ n. n) flushed + new.bare ≤ old.bare + count_by is_put new_log)))
+
+abbrev pub run_longer : ℕ → Run → Run
+run_longer n run = record run { left = run.left + n }
+
+-- a run of before the block stands on, with the new cells left besides, or it ended: by a fault of its disk or a freeze
+abbrev pub RunIsLegal : Settings → Known → Known → ℕ → ℕ → List Logged → ReplicaKnown → ReplicaKnown → Type 0
+RunIsLegal settings k t v j new_log old new =
+    ((new.run ≡ option_map (run_longer (count_by is_put new_log)) old.run) × ((volume_at t v).frozen ≡ (volume_at k v).frozen))
+    ⊎ ((new.run ≡ None)
+    × (Rose (fault_count k (slot_of settings v j)) (fault_count t (slot_of settings v j)) ⊎ (m : ℕ) × ((volume_at t v).frozen ≡ Some m)))
+
+-- an index stays stuck unless the replica was swapped, and gets stuck only by a failed flush
+abbrev pub StuckIsLegal : List LaneItem → ℕ → ℕ → ReplicaKnown → ReplicaKnown → Type 0
+StuckIsLegal items v m old new =
+    (new.stuck ≡ old.stuck)
+    ⊎ ((new.stuck ≡ true) × (item : LaneItem) × Contains items item × SticksBy v m item)
+    ⊎ ((new.stuck ≡ false) × (old.generation < new.generation))
+
+abbrev pub PoisedIsLegal : List LaneItem → ℕ → ℕ → Option ℕ → ReplicaKnown → ReplicaKnown → Type 0
+PoisedIsLegal items v m frozen old new =
+    (new.poised ≡ old.poised)
+    ⊎ ((new.poised ≡ true) × (frozen ≡ Some m) × (item : LaneItem) × Contains items item × CompactsWith v m IsFailed item)
+
+pub record ReplicaIsLegal (settings : Settings) (k : Known) (items : List LaneItem) (t : Known) (v j : ℕ) (old new : ReplicaKnown) : Type 0 where
+  pub base : new.base ≡ old.base
+  pub generations : GenerationsAreLegal settings items v j old new (volume_at t v).frozen
+  pub sizes : Grew t v (new_entries k t v) old new
+  pub bare : BareIsLegal (flat_map (flushed_on v (machine_of settings v j)) items) (new_entries k t v) old new
+  pub run : RunIsLegal settings k t v j (new_entries k t v) old new
+  pub stuck : StuckIsLegal items v (machine_of settings v j) old new
+  pub poised : PoisedIsLegal items v (machine_of settings v j) (volume_at t v).frozen old new
+
+abbrev pub is_failed : Reply → Bool
+is_failed (Failed v m f) = true
+is_failed _ = false
+
+-- a freeze, and a pending change, are of before the block or of one of its lines
+pub record FreezeIsLegal (settings : Settings) (k : Known) (items : List LaneItem) (t : Known) (v : ℕ) : Type 0 where
+  pub frozen :
+      ((volume_at t v).frozen ≡ (volume_at k v).frozen)
+      ⊎ (((volume_at k v).frozen ≡ None) × (m : ℕ) × ((volume_at t v).frozen ≡ Some m) × (item : LaneItem) × Contains items item × Freezes settings v m item)
+  pub pending :
+      ((volume_at t v).pending ≡ (volume_at k v).pending)
+      ⊎ (((volume_at k v).frozen ≡ None)
+      × (m : ℕ) × (item : LaneItem) × (change : Entry)
+      × ((volume_at t v).frozen ≡ Some m) × Contains items item × Freezes settings v m item
+      × (entry_of_item settings item.item ≡ Some change)
+      × ((volume_at t v).pending ≡ Some (record { tag = tag_of item; entry = change; failed = is_failed item.reply })))
+
+pub record DirectoryIsLegal (k : Known) (items : List LaneItem) (t : Known) : Type 0 where
+  pub frozen : (t.directory.frozen ≡ k.directory.frozen) ⊎ DirectoryMayBeFrozen k items t
+  pub pending :
+      (t.directory.pending ≡ k.directory.pending)
+      ⊎ ((k.directory.frozen ≡ false) × (item : LaneItem) × (pair : Pair) × (bytes : List ℕ) × (v : ℕ)
+      × Contains items item × FreezesDirectory item × (item.item ≡ asks.Command (command.Put pair bytes))
+      × (t.directory.pending ≡ Some (record { tag = tag_of item; row = record { pair = pair; volume = v } })))
+
+-- THE BLOCK
+
+pub record LegalBlock (settings : Settings) (k : Known) (items : List LaneItem) (logs : List LogNote) (rows : RowNote) (t : Known) : Type 0 where
+  pub notes : logs ≡ log_notes settings k t
+  pub entered : Each (IsEntered settings k t) items
+  pub log : Each (LogIsLegal settings k items t) (volumes_of settings)
+  pub homes : RowsAreLegal settings k items rows t
+  pub fronts : FrontsAreLegal settings k items t
+  pub lines : Each (LineIsLegal settings k items t) items
+  pub counts : CountsAreLegal settings k items t
+  pub freezes : Each (FreezeIsLegal settings k items t) (volumes_of settings)
+  pub replicas : Each (λ v. Each
+      (λ j. ReplicaIsLegal settings k items t v j (replica_at (volume_at k v) j) (replica_at (volume_at t v) j))
+      (replicas_of settings)) (volumes_of settings)
+  pub directory : DirectoryIsLegal k items t
+  pub drained : t.drained ≡ k.drained
+  pub fuses : t.fuses ≡ k.fuses
+  pub volumes : length t.volumes ≡ length k.volumes

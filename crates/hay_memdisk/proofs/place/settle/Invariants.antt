@@ -1,0 +1,6 @@
+use Rattle.std.proofs.Common.{◌≡◌, ◌<◌, ℕ, false, get_or}
+use Rattle.hay_memdisk.specs.Places.{no_place}
+use Rattle.hay_memdisk.proofs.place.settle.Given as goal
+
+abbrev pub invariant-loop-i : goal.invariant-loop-i
+invariant-loop-i l = (k : ℕ) → k < l.i → (get_or l.places k no_place).loose ≡ false

@@ -1,0 +1,19 @@
+use Rattle.std.proofs.Common.{rules, refl, ap}
+use Rattle.hay_memdisk.specs.MemShelf.{mem_disks, mem_arms, mem_disk_in}
+use Rattle.hay_memdisk.proofs.SlotLemmas.{same_slots, on_some}
+use Rattle.hay_memdisk.proofs.shelf.MemShelf.disk_mut.Goals as goal
+
+pub returns : goal.returns
+unfolding mem_disks mem_arms
+returns c = (
+  (
+    refl,
+    λ w. on_some c.get_mut.result (λ has. record {
+      disk = ap mem_disk_in has.value_is;
+      others = λ other apart. ap mem_disk_in (has.others other apart);
+      arms = refl;
+    }) (c.get_mut.follows.holds w),
+    record { disks = same_slots mem_disk_in _ _ c.get_mut.follows.holds-at-none; arms = refl },
+  ),
+  record { writes_back = tt; disk = search rules },
+)

@@ -1,0 +1,15 @@
+pub mod Arm
+pub mod Failures
+pub mod Held
+pub mod Lent
+pub mod LentDisk
+pub mod Mem
+pub mod MemDisk
+pub mod MemLaws
+pub mod MemShelf
+pub mod Places
+pub mod Slots
+pub mod Streams
+pub mod Sure
+pub mod SureLaws
+pub mod SureShelf

@@ -1,0 +1,216 @@
+//! What no clause says: that calls succeed, which of them fail, and what a stop takes.
+ghost use Rattle.std.specs.Prelude.{◌≡◌, ◌≤◌, ◌<◌, ◌+◌, false, IfOk, OnOk};
+ghost use Rattle.hay_disk.specs.Gate.{IsGate};
+ghost use Rattle.hay_memdisk.specs.MemDisk.{mem_files};
+ghost use Rattle.hay_memdisk.specs.MemShelf.{mem_disks};
+
+use super::*;
+use hay_disk::{Arm, Disk, DiskFault, Failed, Piece, Shelf, Sink, Source, gate_append};
+use std::alloc::Global;
+use std::process::Abort;
+use std::test::Fail;
+
+const MAGIC: u64 = 0x4e45_4544_4c45_3031;
+
+const BODY: [u8; 16] = [7, 7, 7, 7, 7, 7, 7, 7, 0, 0, 0, 0, 0, 0, 0, 0];
+
+// A disk whose file 1 is eight zeros on the disk, then written over by ff in its first half and past its end.
+fn written(alloc: Global) -> Result<MemDisk, Fail> {
+    let mut disk = MemDisk::new(alloc);
+    disk.set_bytes(1, &[0; 8])?;
+    disk.write(1, 0, &[0xff; 4])?;
+    disk.write(1, 8, &[0xff; 4])?;
+    Ok(disk)
+}
+
+// A disk whose file 1 is a log without records.
+fn empty_log(alloc: Global) -> Result<MemDisk, Fail>
+    ensures { IfOk result (λ disk. IsGate MAGIC 0 (mem_files disk 1)) }
+{
+    let mut disk = MemDisk::new(alloc);
+    disk.set_bytes(1, &[0; 8])?;
+    Ok(disk)
+}
+
+// Whether a record stands after an append with this fuse and a stop with this pick.
+fn stands_after(alloc: Global, calls: u64, pick: u64) -> Result<bool, Fail> {
+    let mut disk = empty_log(alloc)?;
+    disk.fuse(calls);
+    let appended = gate_append(&mut disk, 1, 0, MAGIC, &BODY);
+    let faults = disk.faults();
+    disk.power_cycle(pick);
+    let stands = disk.bytes(1).starts_with(b"NEEDLE01");
+    if appended.is_ok() != (calls == 4) || faults != (calls < 4) as u64 {
+        return Err(Failed.into());
+    }
+    Ok(stands)
+}
+
+#[test]
+fn a_stop_takes_what_was_not_synced(rt: HostRuntime) -> Result<(), Fail> {
+    let alloc = rt.alloc();
+    let mut disk = written(alloc)?;
+    disk.power_cycle(0);
+    assert_eq!(rt; disk.bytes(1), [0; 8].as_slice());
+
+    let mut disk = written(alloc)?;
+    disk.power_cycle(1);
+    assert_eq!(rt;
+        disk.bytes(1),
+        [0xff, 0xff, 0xff, 0xff, 0, 0, 0, 0, 0xff, 0xff, 0xff, 0xff].as_slice()
+    );
+
+    let mut kinds = [0; 3];
+    for pick in 2..60 {
+        let mut disk = written(alloc)?;
+        disk.power_cycle(pick);
+        let mut again = written(alloc)?;
+        again.power_cycle(pick);
+        assert_eq!(rt; disk.bytes(1), again.bytes(1));
+        let left = disk.bytes(1);
+        assert!(rt; 8 <= left.len() && left.len() <= 12);
+        assert_eq!(rt; &left[4..8], [0; 4].as_slice());
+        let kind = match &left[..4] {
+            [0, 0, 0, 0] => 0,
+            [0xff, 0xff, 0xff, 0xff] => 1,
+            _ => 2,
+        };
+        kinds[kind] = 1;
+    }
+    assert_eq!(rt; kinds, [1; 3]);
+
+    for (calls, pick, stands) in [
+        (0, 0, false),
+        (0, 1, false),
+        (1, 1, false),
+        (2, 1, false),
+        (3, 0, false),
+        (3, 1, true),
+        (4, 0, true),
+    ] {
+        assert_eq!(rt;
+            stands_after(alloc, calls, pick)?,
+            stands,
+            "at {calls} {pick}"
+        );
+    }
+    Ok(())
+}
+
+// A disk fails at the calls listed and behind its fuse, and counts them.
+fn disk_fails(rt: &impl Abort, alloc: Global) -> Result<(), Fail> {
+    let mut disk = MemDisk::new(alloc);
+    disk.set_bytes(1, b"abcdefgh")?;
+    disk.fail(&[2, 4])?;
+    assert_eq!(rt; disk.size(1), Ok(8));
+    assert_eq!(rt; disk.size(1), Err(Failed));
+    let mut out = [0; 3];
+    assert_eq!(rt; disk.read_into(1, 6, &mut out), Ok(2));
+    assert_eq!(rt; out, [b'g', b'h', 0]);
+    assert_eq!(rt; disk.write(1, 2, b"1234"), Err(DiskFault::Failed));
+    assert_eq!(rt; disk.bytes(1), b"ab12efgh".as_slice());
+    disk.fuse(1);
+    assert_eq!(rt; disk.sync(1), Ok(()));
+    assert_eq!(rt; disk.remove(1), Err(Failed));
+    assert_eq!(rt; disk.faults(), 3);
+    disk.power_cycle(0);
+    assert_eq!(rt; disk.remove(1), Ok(()));
+    assert_eq!(rt; disk.size(1), Ok(0));
+    Ok(())
+}
+
+// A piece outlives its file, and an arm fails at the fetches listed.
+fn arm_fails(rt: &impl Abort, alloc: Global) -> Result<(), Fail> {
+    let mut disk = MemDisk::new(alloc);
+    disk.set_bytes(1, b"abcdefgh")?;
+    let piece = disk.seal(1, 2, 4, 1)?;
+    disk.remove(1)?;
+    let copy = piece.dup();
+    let mut arm = MemArm::new(alloc);
+    arm.fail(&[2])?;
+    let mut out = [0; 4];
+    assert_eq!(rt; arm.fetch(&piece, &mut out), Ok(4));
+    assert_eq!(rt; &out, b"cdef");
+    assert_eq!(rt; arm.fetch(&copy, &mut out), Err(Failed));
+    assert_eq!(rt; arm.fetch(&copy, &mut out), Ok(4));
+    assert_eq!(rt; arm.faults(), 1);
+    Ok(())
+}
+
+// A source gives its bytes a step at a time, a sink keeps half of what fails, and each fails at the calls listed.
+fn stream_fails(rt: &impl Abort, alloc: Global) -> Result<(), Fail> {
+    let mut source = MemSource::new(alloc, b"hello".to_vec(alloc)?, 2);
+    source.fail(&[2])?;
+    let mut out = [0; 8];
+    assert_eq!(rt; source.read(&mut out), Ok(2));
+    assert_eq!(rt; source.read(&mut out), Err(Failed));
+    assert_eq!(rt; source.read(&mut out[2..]), Ok(2));
+    assert_eq!(rt; source.read(&mut out[4..]), Ok(1));
+    assert_eq!(rt; source.read(&mut out[5..]), Ok(0));
+    assert_eq!(rt; &out, b"hello\0\0\0");
+    assert_eq!(rt; source.faults(), 1);
+
+    let mut sink = MemSink::new(alloc);
+    sink.fail(&[2])?;
+    assert_eq!(rt; sink.write(b"one "), Ok(()));
+    assert_eq!(rt; sink.write(b"two "), Err(Failed));
+    assert_eq!(rt; sink.write(b"three"), Ok(()));
+    assert_eq!(rt; sink.bytes(), b"one twthree".as_slice());
+    assert_eq!(rt; sink.faults(), 1);
+    Ok(())
+}
+
+// Puts bytes into the disk of a slot.
+fn fill(shelf: &mut MemShelf, slot: u32) -> Result<(), Fail>
+    ensures { OnOk result ((mem_disks shelf.new slot).is_out ≡ false) }
+{
+    match shelf.disk_mut(slot) {
+        Some(disk) => {
+            disk.set_bytes(1, b"de")?;
+            Ok(())
+        }
+        None => Err(Failed.into()),
+    }
+}
+
+// A shelf hands out what it was given, with nothing loose.
+fn shelf_hands_out(rt: &impl Abort, alloc: Global) -> Result<(), Fail> {
+    let mut shelf = MemShelf::new(alloc);
+    let mut disk = shelf.take_disk(3)?;
+    assert!(rt; shelf.disk(3).is_none());
+    disk.write(1, 0, b"abc")?;
+    shelf.give_disk(3, disk);
+    let mut disk = shelf.take_disk(3)?;
+    disk.power_cycle(0);
+    assert_eq!(rt; disk.bytes(1), b"abc".as_slice());
+    shelf.give_disk(3, disk);
+
+    shelf.put_disk(4, MemDisk::new(alloc))?;
+    fill(&mut shelf, 4)?;
+    assert_eq!(rt; shelf.take_disk(4)?.bytes(1), b"de".as_slice());
+
+    let mut arm = MemArm::new(alloc);
+    arm.fail(&[1])?;
+    shelf.put_arm(2, arm)?;
+    assert!(rt; shelf.arm(2).is_some());
+    assert_eq!(rt; shelf.take_arm(2)?.faults(), 0);
+
+    let mut sure = SureShelf::new(alloc);
+    let mut disk = sure.take_disk(0)?;
+    disk.write(1, 0, b"abc")?;
+    sure.give_disk(0, disk);
+    assert!(rt; sure.disk(0).is_some());
+    assert_eq!(rt; sure.take_disk(0)?.bytes(1), b"abc".as_slice());
+    let arm = sure.take_arm(0)?;
+    sure.give_arm(0, arm);
+    Ok(())
+}
+
+#[test]
+fn calls_fail_where_they_were_told_to(rt: HostRuntime) -> Result<(), Fail> {
+    let alloc = rt.alloc();
+    disk_fails(&rt, alloc)?;
+    arm_fails(&rt, alloc)?;
+    stream_fails(&rt, alloc)?;
+    shelf_hands_out(&rt, alloc)
+}

@@ -1,0 +1,168 @@
+-- One turn after another.
+use Rattle.std.proofs.Common.{◌≡◌, ◌⊎◌, inl, inr, ℕ, ◌≤◌, List, [], ◌∷◌, ◌++◌, map, Option, Some, None, refl, sym, ap, subst, ◌∙◌, append_assoc, arith}
+use Rattle.std.specs.Prelude.{flat_map}
+use Rattle.std.specs.List.{AllByRecursion}
+use Rattle.std.specs.Prelude.{Result, Err, OnErr}
+use Rattle.std.proofs.lemmas.Grind.{flat_map-append}
+use Rattle.std.proofs.lemmas.List.{append-nil, map-append}
+use Rattle.std.proofs.lemmas.Result.{IfErr-at_err}
+use Rattle.hay_disk.specs.Counts.{Rose}
+use Rattle.hay_disk.specs.Disk.{Files}
+use Rattle.hay_disk.specs.Streams.{Wrote}
+use Rattle.hay_needle.specs.declared.settings.Settings.{Settings}
+use Rattle.hay_script.specs.declared.Command.{Command}
+use Rattle.hay_reply.specs.declared.Reply.{Reply}
+use Rattle.hay_reply.specs.declared.Reply.TheVariants.{BadLine}
+use Rattle.hay_reply.specs.Replies.{numbered_line}
+use Rattle.hay_legal.specs.declared.known.Known.{Known}
+use Rattle.hay_legal.specs.declared.turn.Item.{Item}
+use Rattle.hay_legal.specs.declared.turn.Item.TheVariants as item
+use Rattle.hay_legal.specs.declared.turn.Turn.{Turn}
+use Rattle.hay_legal.specs.declared.turn.Turn.TheVariants.{Plain, Lanes}
+use Rattle.hay_legal.specs.Items.{Asked, InBlock, item_of_turn, line_asked}
+use Rattle.hay_legal.specs.Items.Asked.{Alone, Block}
+use Rattle.hay_legal.specs.Known.{Leaves, NoneFalls}
+use Rattle.hay_legal.specs.Legal.{Legal, known_after, IsUnbuiltLine}
+use Rattle.hay_legal.specs.Transcript.{turn_text, answered_line}
+use Rattle.hay_cluster.specs.Outside.{Aside}
+use Rattle.hay_cluster.specs.State.{Open, Stands, Answered}
+use Rattle.hay_run.specs.Turns.{Answers, AnswersFrom, Halts}
+use Rattle.hay_run.specs.Unbuilt.{unbuilt_reply, unbuilt_text, unbuilt_line}
+
+-- what holds of each error holds of these two
+pub on_either : {T P : Type 0} {E : Type 0} (r : Result T E) (a b : E) → OnErr r P → (r ≡ Err a) ⊎ (r ≡ Err b) → P
+on_either {T} {P} {E} r a b h (inl e) = IfErr-at_err (λ (x : E). P) e h
+on_either {T} {P} {E} r a b h (inr e) = IfErr-at_err (λ (x : E). P) e h
+
+-- WHAT IS WRITTEN
+
+pub wrote_nothing : (before : Option (List ℕ)) → Wrote before [] before
+wrote_nothing None = tt
+wrote_nothing (Some old) = ap (λ (bytes : List ℕ). Some bytes) (sym (append-nil old))
+
+pub wrote_more : (before mid after : Option (List ℕ)) (a b : List ℕ) → Wrote before a mid → Wrote mid b after → Wrote before (a ++ b) after
+wrote_more None mid after a b h k = tt
+wrote_more (Some old) None after a b h k = cc
+wrote_more (Some old) (Some new) after a b h k =
+    let same : new ≡ old ++ a = cc in
+    k ∙ ap (λ (bytes : List ℕ). Some (bytes ++ b)) same ∙ ap (λ (bytes : List ℕ). Some bytes) (append_assoc old a b)
+
+-- nothing changes
+
+NoneFalls-same : (counts : List ℕ) → NoneFalls counts counts
+NoneFalls-same [] = tt
+NoneFalls-same (count ∷ counts) = (omega arith, NoneFalls-same counts)
+
+leaves_same : (k : Known) → Leaves k k k
+leaves_same k = record { volumes = refl; directory = refl; drained = refl; fuses = refl; faults = NoneFalls-same k.faults; arms = NoneFalls-same k.arms }
+
+-- a block that is not built yet
+
+unbuilt_by : (line lane : ℕ) (item : Item) → IsUnbuiltLine (record { line = line; lane = lane; item = item; reply = unbuilt_reply item })
+unbuilt_by line lane (item.Command command) = refl
+unbuilt_by line lane item.Bad = refl
+
+all_unbuilt : (lines : List InBlock) → AllByRecursion IsUnbuiltLine (map unbuilt_line lines)
+all_unbuilt [] = tt
+all_unbuilt (line ∷ lines) = (unbuilt_by line.line line.lane line.item, all_unbuilt lines)
+
+asked_lines : (lines : List InBlock) → map line_asked (map unbuilt_line lines) ≡ lines
+asked_lines [] = refl
+asked_lines (line ∷ lines) = ap (λ (others : List InBlock). line ∷ others) (asked_lines lines)
+
+lines_text : (lines : List InBlock) → flat_map answered_line (map unbuilt_line lines) ≡ flat_map unbuilt_text lines
+lines_text [] = refl
+lines_text (line ∷ lines) = ap (λ (text : List ℕ). unbuilt_text line ++ text) (lines_text lines)
+
+block_text : (lines : List InBlock) → flat_map answered_line (map unbuilt_line lines) ++ [] ++ [] ++ [] ≡ flat_map unbuilt_text lines
+block_text lines = simp append-nil (lines_text lines)
+
+-- one turn behind others
+
+legal_more : (settings : Settings) (k : Known) (turns : List Turn) (mid : Known) (more : List Turn) (t : Known) → Legal settings k turns mid → Legal settings mid more t → Legal settings k (turns ++ more) t
+legal_more settings k [] mid more t h legal = let P : Known → Type 0 = λ known. Legal settings known more t in subst P h legal
+legal_more settings k (first ∷ turns) mid more t h legal = (h.0, legal_more settings (known_after first) turns mid more t h.1 legal)
+
+pub rose_more : (a b c : ℕ) → a ≤ b → Rose b c → Rose a c
+rose_more a b c h (inl less) = inl (omega arith)
+rose_more a b c h (inr most) = inr most
+
+-- ANSWERS
+
+module _ {D : Type 0} (files : D → Files) (faults fuses : D → ℕ) (aside : Aside) where
+  pub answers_nothing : (k : Known) (written : Option (List ℕ)) (store : Open D) → Stands files faults fuses aside store k
+      → Answers Wrote files faults fuses aside k [] written store written
+  answers_nothing k written store stands = record {
+    turns = [];
+    t = k;
+    items = refl;
+    legal = refl;
+    stands = stands;
+    wrote = wrote_nothing written;
+  }
+
+  pub answers_bad : (Writes : Option (List ℕ) → List ℕ → Option (List ℕ) → Type 0) (k : Known) (number : ℕ) (written written' : Option (List ℕ)) (store : Open D)
+      → Stands files faults fuses aside store k → Writes written (numbered_line number BadLine) written'
+      → Answers Writes files faults fuses aside k (Alone number item.Bad ∷ []) written store written'
+  answers_bad Writes k number written written' store stands wrote =
+      let P : List ℕ → Type 0 = λ text. Writes written text written' in
+      record {
+        turns = Plain number item.Bad BadLine k ∷ [];
+        t = k;
+        items = refl;
+        legal = ((refl, leaves_same k), refl);
+        stands = stands;
+        wrote = subst P (sym (append-nil (numbered_line number BadLine))) wrote;
+      }
+
+  pub answers_plain : (Writes : Option (List ℕ) → List ℕ → Option (List ℕ) → Type 0) (k : Known) (number : ℕ) (command : Command) (reply : Reply) (written written' : Option (List ℕ)) (store : Open D)
+      → Answered files faults fuses aside k (record { lane = 0; line = number }) command reply store → Writes written (numbered_line number reply) written'
+      → Answers Writes files faults fuses aside k (Alone number (item.Command command) ∷ []) written store written'
+  answers_plain Writes k number command reply written written' store answered wrote =
+      let P : List ℕ → Type 0 = λ text. Writes written text written' in
+      record {
+        turns = Plain number (item.Command command) reply answered.known ∷ [];
+        t = answered.known;
+        items = refl;
+        legal = (answered.legal, refl);
+        stands = answered.stands;
+        wrote = subst P (sym (append-nil (numbered_line number reply))) wrote;
+      }
+
+  pub answers_block : (Writes : Option (List ℕ) → List ℕ → Option (List ℕ) → Type 0) (k : Known) (lines : List InBlock) (written written' : Option (List ℕ)) (store : Open D)
+      → Stands files faults fuses aside store k → Writes written (flat_map unbuilt_text lines) written'
+      → Answers Writes files faults fuses aside k (Block lines ∷ []) written store written'
+  answers_block Writes k lines written written' store stands wrote =
+      let P : List ℕ → Type 0 = λ text. Writes written text written' in
+      record {
+        turns = Lanes (map unbuilt_line lines) [] (record { from = 0; rows = [] }) k ∷ [];
+        t = k;
+        items = ap (λ (items : List InBlock). Block items ∷ []) (asked_lines lines);
+        legal = (inr (record { lines = all_unbuilt lines; no_entries = refl; no_rows = refl; leaves = leaves_same k }), refl);
+        stands = stands;
+        wrote = subst P (sym (block_text lines)) wrote;
+      }
+
+  pub answers_more : (Writes : Option (List ℕ) → List ℕ → Option (List ℕ) → Type 0)
+      → ((before mid after : Option (List ℕ)) (a b : List ℕ) → Wrote before a mid → Writes mid b after → Writes before (a ++ b) after)
+      → (k : Known) (asked more : List Asked) (written written' written'' : Option (List ℕ)) (store store' : Open D)
+      → store'.settings ≡ store.settings
+      → (first : Answers Wrote files faults fuses aside k asked written store written') → Answers Writes files faults fuses aside first.t more written' store' written''
+      → Answers Writes files faults fuses aside k (asked ++ more) written store' written''
+  answers_more Writes joins k asked more written written' written'' store store' same first next =
+      let P : Settings → Type 0 = λ settings. Legal settings k first.turns first.t in
+      let Q : List ℕ → Type 0 = λ text. Writes written text written'' in
+      record {
+        turns = first.turns ++ next.turns;
+        t = next.t;
+        items = map-append item_of_turn first.turns next.turns ∙ ap (λ (items : List Asked). items ++ map item_of_turn next.turns) first.items ∙ ap (λ (items : List Asked). asked ++ items) next.items;
+        legal = legal_more store'.settings k first.turns first.t next.turns next.t (subst P (sym same) first.legal) next.legal;
+        stands = next.stands;
+        wrote = subst Q (sym (flat_map-append turn_text first.turns next.turns)) (joins written written' written'' (flat_map turn_text first.turns) (flat_map turn_text next.turns) first.wrote next.wrote);
+      }
+
+pub halts_more : {D : Type 0} (files : D → Files) (faults fuses : D → ℕ) (Tells : Type 0) (asked : List Asked) (written written' : Option (List ℕ)) (store mid store' : Open D)
+    → faults store.disk ≤ faults mid.disk → AnswersFrom Tells Wrote files faults fuses asked store written mid written' → Halts Tells files faults fuses mid store' → Halts Tells files faults fuses store store'
+halts_more files faults fuses Tells asked written written' store mid store' later answers (inl rose) = inl (rose_more (faults store.disk) (faults mid.disk) (faults store'.disk) later rose)
+halts_more files faults fuses Tells asked written written' store mid store' later answers (inr none) =
+    inr (λ tells aside k stands. let a = answers tells aside k stands in none tells aside a.t a.stands)

@@ -1,0 +1,23 @@
+use Rattle.std.proofs.Common.{◌≡◌, ℕ, ◌+◌, ◌≤◌, false, List, [], length, Some}
+use Rattle.hay_legal.specs.Items.{whole_items_from}
+use Rattle.hay_run.specs.Items.{block_behind}
+use Rattle.hay_run.specs.Lines.{TookFeds}
+use Rattle.hay_run.specs.Stream.{rest_of, budget, Accounts}
+use Rattle.hay_run.proofs.block.read_lines.Given as goal
+
+abbrev pub invariant-lines : goal.invariant-lines
+invariant-lines g l = record {
+  texts : List (List ℕ);
+  feeds : TookFeds (rest_of (g.S.Source.left l.fn.source) l.fn.script) texts (rest_of (g.S.Source.left l.source) l.script);
+  nothing : whole_items_from l.fn.number (Some l.fn.block) texts ≡ [];
+  behind : block_behind l.fn.number (Some l.fn.block) texts ≡ Some l.block;
+  next_is : l.next ≡ l.fn.number + length texts;
+  unmet : l.script.ended ≡ false;
+  accounts : Accounts (g.S.Source.left l.fn.source) l.fn.script (g.S.Source.left l.source) l.script;
+  few : l.next + budget 1073741824 l.script ≤ l.fn.number + budget 1073741824 l.fn.script;
+  less : budget 1073741824 l.script ≤ budget 1073741824 l.fn.script;
+  count : g.S.Source.fault_count l.fn.source ≤ g.S.Source.fault_count l.source;
+}
+
+abbrev pub decreases-lines : goal.decreases-lines
+decreases-lines g l = budget 1073741824 l.script

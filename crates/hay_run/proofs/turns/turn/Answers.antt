@@ -1,0 +1,177 @@
+use Rattle.std.proofs.Common.{inl, inr, ◌+◌, Some, None, [], ◌∷◌, refl}
+use Rattle.std.proofs.lemmas.Result.{err_from_is_err_and}
+use Rattle.hay_disk.specs.Streams.{Wrote, WrotePart}
+use Rattle.hay_script.specs.declared.Line.TheVariants as line
+use Rattle.hay_legal.specs.Items.{outside}
+use Rattle.hay_legal.specs.Items.Asked.{Block}
+use Rattle.hay_run.specs.Items.{SaysNext}
+use Rattle.hay_run.specs.Lines.{TookPart, TookOver}
+use Rattle.hay_run.specs.Stream.{rest_of}
+use Rattle.hay_run.proofs.Asking.{items_none, items_alone, items_either, open_block, open_line, some_more, some_line}
+use Rattle.hay_run.proofs.Taking.{accounts_more}
+use Rattle.hay_run.proofs.Turning.{answers_nothing, answers_block}
+use Rattle.hay_run.proofs.turns.turn.Goals as goal
+
+-- the script ends, or breaks off
+
+pub returns-in_err-said-clause-input : goal.returns-in_err-said-clause-input
+returns-in_err-said-clause-input g c = λ is. (
+  open_line TookPart c.args.number (rest_of (g.S.Source.left c.args.source.now) c.args.script.now) (rest_of (g.S.Source.left c.next_said.new.source) c.next_said.new.self)
+      (c.in_err-said.ensures.failed (let p = err_from_is_err_and c.from_residual.result c.from_residual.ensures.1 in cc (p.1, p.2))),
+  refl,
+  refl,
+)
+
+pub returns-in_err-said-clause-over : goal.returns-in_err-said-clause-over
+returns-in_err-said-clause-over g c = λ is. (
+  open_line TookOver c.args.number (rest_of (g.S.Source.left c.args.source.now) c.args.script.now) (rest_of (g.S.Source.left c.next_said.new.source) c.next_said.new.self)
+      (c.in_err-said.ensures.over (let p = err_from_is_err_and c.from_residual.result c.from_residual.ensures.1 in cc (p.1, p.2))),
+  refl,
+  refl,
+)
+
+pub returns-in_default-clause-turned : goal.returns-in_default-clause-turned
+returns-in_default-clause-turned g c = record {
+  asked = [];
+  took = items_none c.args.number (rest_of (g.S.Source.left c.args.source.now) c.args.script.now) (rest_of (g.S.Source.left c.next_said.new.source) c.next_said.new.self) c.next_said.new.self.ended
+      (rw c.in_default.is at c.in_ok-said.ensures.said);
+  answers = λ tells aside k stands. answers_nothing g.D.Disk.files g.D.Disk.fault_count g.D.Disk.fuse_count aside k (g.K.Sink.written c.args.sink.now) c.args.cluster.now stands;
+}
+
+-- a block
+
+pub returns-in_err-block-clause-input : goal.returns-in_err-block-clause-input
+returns-in_err-block-clause-input g c = λ is.
+    let left = g.S.Source.left in
+    let before = rest_of (left c.args.source.now) c.args.script.now in
+    let mid = rest_of (left c.next_said.new.source) c.next_said.new.self in
+    let says : SaysNext None (Some (line.Lanes c.in-Lanes.lanes)) before mid c.next_said.new.self.ended = rw c.in-Lanes.is at (rw c.in-Some.is at c.in_ok-said.ensures.said) in (
+      open_block TookPart c.args.number c.in-Lanes.lanes before mid (rest_of (left c.read_block.new.source) c.read_block.new.script) c.next_said.new.self.ended says c.in_err-block.ensures.«open»
+          (c.in_err-block.ensures.input (let p = err_from_is_err_and c.from_residual-in_err-block.result c.from_residual-in_err-block.ensures.1 in cc (p.1, p.2))),
+      refl,
+      refl,
+    )
+
+pub returns-in_err-block-clause-over : goal.returns-in_err-block-clause-over
+returns-in_err-block-clause-over g c = λ is.
+    let left = g.S.Source.left in
+    let before = rest_of (left c.args.source.now) c.args.script.now in
+    let mid = rest_of (left c.next_said.new.source) c.next_said.new.self in
+    let says : SaysNext None (Some (line.Lanes c.in-Lanes.lanes)) before mid c.next_said.new.self.ended = rw c.in-Lanes.is at (rw c.in-Some.is at c.in_ok-said.ensures.said) in (
+      open_block TookOver c.args.number c.in-Lanes.lanes before mid (rest_of (left c.read_block.new.source) c.read_block.new.script) c.next_said.new.self.ended says c.in_err-block.ensures.«open»
+          (c.in_err-block.ensures.over (let p = err_from_is_err_and c.from_residual-in_err-block.result c.from_residual-in_err-block.ensures.1 in cc (p.1, p.2))),
+      refl,
+      refl,
+    )
+
+pub returns-in_err-block-clause-memory : goal.returns-in_err-block-clause-memory
+returns-in_err-block-clause-memory g c = λ is.
+    let left = g.S.Source.left in
+    let before = rest_of (left c.args.source.now) c.args.script.now in
+    let mid = rest_of (left c.next_said.new.source) c.next_said.new.self in
+    let says : SaysNext None (Some (line.Lanes c.in-Lanes.lanes)) before mid c.next_said.new.self.ended = rw c.in-Lanes.is at (rw c.in-Some.is at c.in_ok-said.ensures.said) in
+    inl (
+      some_more before mid (rest_of (left c.read_block.new.source) c.read_block.new.script) (some_line before mid says.0 c.next_said.new.self.ended says.1)
+          (c.in_err-block.ensures.memory (let p = err_from_is_err_and c.from_residual-in_err-block.result c.from_residual-in_err-block.ensures.1 in cc (p.1, p.2))),
+      refl,
+      refl,
+    )
+
+pub returns-in-Lanes-clause-turned : goal.returns-in-Lanes-clause-turned
+returns-in-Lanes-clause-turned g c =
+    let left = g.S.Source.left in
+    let before = rest_of (left c.args.source.now) c.args.script.now in
+    let mid = rest_of (left c.next_said.new.source) c.next_said.new.self in
+    let after = rest_of (left c.read_block.new.source) c.read_block.new.script in
+    let says : SaysNext None (Some (line.Lanes c.in-Lanes.lanes)) before mid c.next_said.new.self.ended = rw c.in-Lanes.is at (rw c.in-Some.is at c.in_ok-said.ensures.said) in
+    record {
+      asked = Block c.in_ok-block.block.lines ∷ [];
+      took = items_either c.args.number c.in-Lanes.lanes c.in_ok-block.next c.in_ok-block.block.lines before mid after c.next_said.new.self.ended c.read_block.new.script.ended says
+          c.in_ok-block.ensures.read (λ over. let e = c.in_ok-block.ensures.empty over in (e.0, e.1, rw (e.2, e.3) refl, rw e.3 refl));
+      answers = λ tells aside k stands. answers_block g.D.Disk.files g.D.Disk.fault_count g.D.Disk.fuse_count aside Wrote k c.in_ok-block.block.lines
+          (g.K.Sink.written c.args.sink.now) (g.K.Sink.written c.write_block.new.sink) c.args.cluster.now stands c.in_ok-write_block.ensures.wrote;
+    }
+
+pub returns-in-Lanes-clause-accounts : goal.returns-in-Lanes-clause-accounts
+returns-in-Lanes-clause-accounts g c =
+    accounts_more (g.S.Source.left c.args.source.now) (g.S.Source.left c.next_said.new.source) (g.S.Source.left c.read_block.new.source)
+    c.args.script.now c.next_said.new.self c.read_block.new.script c.in_ok-said.ensures.accounts c.in_ok-block.ensures.accounts
+
+pub returns-in_err-write_block-clause-output : goal.returns-in_err-write_block-clause-output
+returns-in_err-write_block-clause-output g c = λ _.
+    let left = g.S.Source.left in
+    let before = rest_of (left c.args.source.now) c.args.script.now in
+    let mid = rest_of (left c.next_said.new.source) c.next_said.new.self in
+    let after = rest_of (left c.read_block.new.source) c.read_block.new.script in
+    let says : SaysNext None (Some (line.Lanes c.in-Lanes.lanes)) before mid c.next_said.new.self.ended = rw c.in-Lanes.is at (rw c.in-Some.is at c.in_ok-said.ensures.said) in (
+      c.in_ok-block.next,
+      record {
+        asked = Block c.in_ok-block.block.lines ∷ [];
+        took = items_either c.args.number c.in-Lanes.lanes c.in_ok-block.next c.in_ok-block.block.lines before mid after c.next_said.new.self.ended c.read_block.new.script.ended says
+            c.in_ok-block.ensures.read (λ over. let e = c.in_ok-block.ensures.empty over in (e.0, e.1, rw (e.2, e.3) refl, rw e.3 refl));
+        answers = λ tells aside k stands. answers_block g.D.Disk.files g.D.Disk.fault_count g.D.Disk.fuse_count aside WrotePart k c.in_ok-block.block.lines
+            (g.K.Sink.written c.args.sink.now) (g.K.Sink.written c.write_block.new.sink) c.args.cluster.now stands c.in_err-write_block.ensures.part;
+      },
+    )
+
+pub returns-in_err-write_block-clause-memory : goal.returns-in_err-write_block-clause-memory
+returns-in_err-write_block-clause-memory g c = λ _.
+    let left = g.S.Source.left in
+    let before = rest_of (left c.args.source.now) c.args.script.now in
+    let mid = rest_of (left c.next_said.new.source) c.next_said.new.self in
+    let after = rest_of (left c.read_block.new.source) c.read_block.new.script in
+    let says : SaysNext None (Some (line.Lanes c.in-Lanes.lanes)) before mid c.next_said.new.self.ended = rw c.in-Lanes.is at (rw c.in-Some.is at c.in_ok-said.ensures.said) in
+    inr (
+      c.in_ok-block.next,
+      record {
+        asked = Block c.in_ok-block.block.lines ∷ [];
+        took = items_either c.args.number c.in-Lanes.lanes c.in_ok-block.next c.in_ok-block.block.lines before mid after c.next_said.new.self.ended c.read_block.new.script.ended says
+            c.in_ok-block.ensures.read (λ over. let e = c.in_ok-block.ensures.empty over in (e.0, e.1, rw (e.2, e.3) refl, rw e.3 refl));
+        answers = λ tells aside k stands. answers_block g.D.Disk.files g.D.Disk.fault_count g.D.Disk.fuse_count aside WrotePart k c.in_ok-block.block.lines
+            (g.K.Sink.written c.args.sink.now) (g.K.Sink.written c.write_block.new.sink) c.args.cluster.now stands c.in_err-write_block.ensures.part;
+      },
+    )
+
+-- a line alone
+
+pub returns-in_err-respond-clause-output : goal.returns-in_err-respond-clause-output
+returns-in_err-respond-clause-output g c = λ is.
+    let left = g.S.Source.left in
+    let before = rest_of (left c.args.source.now) c.args.script.now in
+    let after = rest_of (left c.next_said.new.source) c.next_said.new.self in (
+      c.args.number + 1,
+      record {
+        asked = (outside c.args.number c.in-Some.said).0;
+        took = items_alone c.args.number c.in-Some.said before after c.next_said.new.self.ended (rw c.in-Some.is at c.in_ok-said.ensures.said) (λ lanes is_lanes. c.in_default-said.not-Lanes lanes is_lanes);
+        answers = c.in_err-respond.ensures.part (inl (let p = err_from_is_err_and c.from_residual-in_err-respond.result c.from_residual-in_err-respond.ensures.1 in cc (p.1, p.2)));
+      },
+    )
+
+pub returns-in_err-respond-clause-memory : goal.returns-in_err-respond-clause-memory
+returns-in_err-respond-clause-memory g c = λ is.
+    let left = g.S.Source.left in
+    let before = rest_of (left c.args.source.now) c.args.script.now in
+    let after = rest_of (left c.next_said.new.source) c.next_said.new.self in
+    inr (
+      c.args.number + 1,
+      record {
+        asked = (outside c.args.number c.in-Some.said).0;
+        took = items_alone c.args.number c.in-Some.said before after c.next_said.new.self.ended (rw c.in-Some.is at c.in_ok-said.ensures.said) (λ lanes is_lanes. c.in_default-said.not-Lanes lanes is_lanes);
+        answers = c.in_err-respond.ensures.part (inr (let p = err_from_is_err_and c.from_residual-in_err-respond.result c.from_residual-in_err-respond.ensures.1 in cc (p.1, p.2)));
+      },
+    )
+
+pub returns-clause-turned : goal.returns-clause-turned
+returns-clause-turned g c =
+    let left = g.S.Source.left in
+    let before = rest_of (left c.args.source.now) c.args.script.now in
+    let after = rest_of (left c.next_said.new.source) c.next_said.new.self in
+    record {
+      asked = (outside c.args.number c.in-Some.said).0;
+      took = items_alone c.args.number c.in-Some.said before after c.next_said.new.self.ended (rw c.in-Some.is at c.in_ok-said.ensures.said) (λ lanes is_lanes. c.in_default-said.not-Lanes lanes is_lanes);
+      answers = c.in_ok-respond.ensures.answers;
+    }
+
+pub returns-in_err-respond-clause-halted : goal.returns-in_err-respond-clause-halted
+returns-in_err-respond-clause-halted g c = λ is.
+    c.in_err-respond.ensures.halted (let p = err_from_is_err_and c.from_residual-in_err-respond.result c.from_residual-in_err-respond.ensures.1 in cc (p.1, p.2))

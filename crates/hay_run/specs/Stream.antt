@@ -1,0 +1,36 @@
+-- A script as it comes in.
+use Rattle.std.specs.Prelude.{◌≡◌, ℕ, ◌+◌, ◌-◌, ◌<◌, Bool, List, [], ◌++◌, length, Option, Some, None, option_map, if◌then◌else◌}
+use Rattle.hay_disk.specs.Streams.{Took}
+
+-- Bytes that were taken and not given out yet, how many were taken in all, and whether the end was met.
+pub record Held : Type 0 where
+  pub bytes : List ℕ
+  pub taken : ℕ
+  pub ended : Bool
+
+-- the bytes that are still to come, where the source tells
+abbrev pub rest_of : Option (List ℕ) → Held → Option (List ℕ)
+rest_of left held = option_map (λ all. held.bytes ++ all) left
+
+-- the most that may still come of a script of at most so many bytes: its bytes, and its end
+abbrev pub budget : ℕ → Held → ℕ
+budget limit held = length held.bytes + (limit - held.taken) + (if held.ended then 0 else 1)
+
+-- What was taken and what is left make up the same.
+abbrev pub Accounts : Option (List ℕ) → Held → Option (List ℕ) → Held → Type 0
+Accounts None held after held' = Unit {0}
+Accounts (Some all) held after held' = (rest : List ℕ) × (after ≡ Some rest) × (held.taken + length all ≡ held'.taken + length rest)
+
+-- more comes than a script may have
+abbrev pub IsTooLong : ℕ → Option (List ℕ) → Held → Type 0
+IsTooLong limit None held = Unit {0}
+IsTooLong limit (Some all) held = limit < held.taken + length all
+
+-- all that was left was taken
+abbrev pub TookAll : Option (List ℕ) → List ℕ → Option (List ℕ) → Type 0
+TookAll None bytes after = Unit {0}
+TookAll (Some all) bytes after = (all ≡ bytes) × (after ≡ Some [])
+
+-- one byte was taken
+abbrev pub TookOne : Option (List ℕ) → Option (List ℕ) → Type 0
+TookOne before after = (piece : List ℕ) × (length piece ≡ 1) × Took before piece after

@@ -1,0 +1,222 @@
+//! A block of lanes, as it is read.
+ghost use Rattle.std.specs.Prelude.{◌≡◌, ◌⊎◌, ◌+◌, ◌^◌, ◌<◌, ◌≤◌, [], ◌∷◌, ◌++◌, true, false, Ok, Err, Some, None, flat_map, IfOk, OnOk, OnErr, IsErrOf};
+ghost use Rattle.hay_disk.specs.Counts.{Rose};
+ghost use Rattle.hay_script.specs.declared.Command.{Command};
+ghost use Rattle.hay_legal.specs.Items.{empty_block, with_bad, with_command, inside};
+ghost use Rattle.hay_legal.specs.Items.Asked.{Block};
+ghost use Rattle.hay_run.specs.Items.{TookItems, TookOpen};
+ghost use Rattle.hay_run.specs.Lines.{TookPart, TookOver, TookSome};
+ghost use Rattle.hay_run.specs.Stream.{rest_of, budget, Accounts, IsTooLong};
+ghost use Rattle.hay_run.specs.Unbuilt.{unbuilt_reply, unbuilt_text};
+
+use crate::bytes::SCRIPT;
+use crate::lines::ScriptLines;
+use crate::stops::Stop;
+use hay_base::{Listed, NoMemory};
+use hay_disk::Source;
+use hay_legal::turn::Item;
+use hay_reply::{Reply, numbered_line};
+use hay_script::{Command, Line};
+use std::alloc::Global;
+use std::marker::Model;
+
+/// A block has at most so many commands.
+pub const COMMANDS: u32 = 65_536;
+
+/// A line of a block: its number, its lane, which is 0 where the line is bad, and what it asks for.
+#[derive(Drop)]
+pub struct BlockLine {
+    line: u64,
+    lane: u32,
+    item: Item,
+}
+
+impl Model for BlockLine {
+    ghost use Rattle.hay_legal.specs.Items.{InBlock};
+
+    ghost Value = { InBlock };
+
+    ghost view = { λ l. record { line = l.line; lane = l.lane; item = l.item } };
+}
+
+/// The lines of a block, as far as they were read.
+#[derive(Drop)]
+pub struct LaneBlock {
+    lanes: u32,
+    commands: u32,
+    lines: Listed<BlockLine>,
+}
+
+impl Model for LaneBlock {
+    ghost use Rattle.hay_legal.specs.Items.{OpenBlock};
+
+    ghost Value = { OpenBlock };
+
+    ghost view = { λ b. record { lanes = b.lanes; commands = b.commands; lines = b.lines } };
+}
+
+impl LaneBlock {
+    fn new(alloc: Global, lanes: u32) -> LaneBlock
+        ensures { result ≡ empty_block lanes }
+    {
+        LaneBlock {
+            lanes,
+            commands: 0,
+            lines: Listed::new(alloc),
+        }
+    }
+
+    fn lanes(&self) -> u32
+        ensures { result ≡ self.now.lanes }
+    {
+        self.lanes
+    }
+
+    fn add_bad(&mut self, number: u64) -> Result<(), NoMemory>
+        ensures { OnOk result (self.new ≡ with_bad number self.old) }
+    {
+        self.lines.push(BlockLine {
+            line: number,
+            lane: 0,
+            item: Item::Bad,
+        })
+    }
+
+    /// Adds a command, unless the block has as many as it may have: then the line is bad.
+    fn add(&mut self, number: u64, lane: u32, command: Command) -> Result<(), NoMemory>
+        ensures { OnOk result (self.new ≡ with_command number lane command self.old) }
+    {
+        if self.commands >= COMMANDS {
+            return self.add_bad(number);
+        }
+        self.commands += 1;
+        self.lines.push(BlockLine {
+            line: number,
+            lane,
+            item: Item::Command(command),
+        })
+    }
+
+    /// Takes a line, and answers whether it closes the block.
+    fn take(&mut self, number: u64, said: Line) -> Result<bool, NoMemory>
+        ensures open { result ≡ Ok false → inside number self.old said ≡ ([], Some self.new) }
+        ensures closed { result ≡ Ok true → inside number self.old said ≡ (Block self.new.lines ∷ [], None) }
+    {
+        match said {
+            Line::Skip => Ok(false),
+            Line::End => Ok(true),
+            Line::InLane { lane, command } => {
+                self.add(number, lane, command)?;
+                Ok(false)
+            }
+            Line::Bad | Line::Plain(_) | Line::Lanes(_) => {
+                self.add_bad(number)?;
+                Ok(false)
+            }
+        }
+    }
+}
+
+fn reply_to(item: &Item) -> Reply
+    ensures { result ≡ unbuilt_reply item.now }
+{
+    match item {
+        Item::Command(_) => Reply::Unbuilt,
+        Item::Bad => Reply::BadLine,
+    }
+}
+
+impl BlockLine {
+    /// Adds the line of the transcript that answers this line. `NoMemory` adds nothing.
+    fn add_text(&self, alloc: Global, text: &mut Vec<u8>) -> Result<(), NoMemory>
+        ensures ok { OnOk result (text.new.items ≡ text.old.items ++ unbuilt_text self.now) }
+        ensures err { OnErr result (text.new.items ≡ text.old.items) }
+    {
+        numbered_line(alloc, self.line, &reply_to(&self.item), text)
+    }
+}
+
+impl LaneBlock {
+    /// The text of the turn in which the block is answered.
+    pub fn text(&self, alloc: Global) -> Result<Vec<u8>, NoMemory>
+        ensures { IfOk result (λ text. text.items ≡ flat_map unbuilt_text self.now.lines) }
+    {
+        let mut text = Vec::new(alloc);
+        for line in self.lines.as_slice() {
+            line.add_text(alloc, &mut text)?;
+        }
+        Ok(text)
+    }
+}
+
+/// Reads the lines of a block to its end, the first of which has this number, and answers with the block and the number
+/// of the line behind it. It isn't called once the script's end was met.
+fn read_lines<S: Source>(
+    alloc: Global,
+    script: &mut ScriptLines,
+    number: u64,
+    mut block: LaneBlock,
+    source: &mut S,
+) -> Result<(LaneBlock, u64), Stop>
+    requires open { script.old.ended ≡ false }
+    requires few { number + budget SCRIPT script.old < 2 ^ 64 }
+    ensures read { IfOk result (λ read. TookItems number (Some block) (rest_of (S.left source.old) script.old) (Block read.0.lines ∷ []) read.1 (rest_of (S.left source.new) script.new) script.new.ended) }
+    ensures few { IfOk result (λ read. read.1 + budget SCRIPT script.new ≤ number + budget SCRIPT script.old) }
+    ensures accounts { OnOk result (Accounts (S.left source.old) script.old (S.left source.new) script.new) }
+    ensures left { OnOk result (budget SCRIPT script.new ≤ budget SCRIPT script.old) }
+    ensures limit { OnOk result (script.new.taken ≤ SCRIPT) }
+    ensures input { IsErrOf result Stop.Input → TookOpen TookPart number (Some block) (rest_of (S.left source.old) script.old) (rest_of (S.left source.new) script.new) }
+    ensures over { IsErrOf result Stop.TooLong → TookOpen TookOver number (Some block) (rest_of (S.left source.old) script.old) (rest_of (S.left source.new) script.new) }
+    ensures memory { IsErrOf result Stop.NoMemory → TookSome (rest_of (S.left source.old) script.old) (rest_of (S.left source.new) script.new) }
+    ensures long { IsErrOf result Stop.TooLong → IsTooLong SCRIPT (S.left source.old) script.old }
+    ensures stops { OnErr result ((result ≡ Err Stop.Input) ⊎ (result ≡ Err Stop.NoMemory) ⊎ (result ≡ Err Stop.TooLong)) }
+    ensures cause { IsErrOf result Stop.Input → Rose (S.fault_count source.old) (S.fault_count source.new) }
+    ensures count { S.fault_count source.old ≤ S.fault_count source.new }
+{
+    let mut next = number;
+    'lines: loop {
+        let Some(said) = script.next_said(alloc, source, Some(block.lanes()))? else {
+            return Ok((block, next));
+        };
+        let closed = block.take(next, said)?;
+        next += 1;
+        if closed {
+            return Ok((block, next));
+        }
+        if script.is_ended() {
+            return Ok((block, next));
+        }
+    }
+}
+
+/// Reads a block of so many lanes to its end, behind the line that opens it. If the script's end was met there, the
+/// block is empty.
+pub fn read_block<S: Source>(
+    alloc: Global,
+    script: &mut ScriptLines,
+    number: u64,
+    lanes: u32,
+    source: &mut S,
+) -> Result<(LaneBlock, u64), Stop>
+    requires { number + budget SCRIPT script.old < 2 ^ 64 }
+    ensures read { script.old.ended ≡ false → IfOk result (λ read. TookItems number (Some (empty_block lanes)) (rest_of (S.left source.old) script.old) (Block read.0.lines ∷ []) read.1 (rest_of (S.left source.new) script.new) script.new.ended) }
+    ensures empty { script.old.ended ≡ true → IfOk result (λ read. (read.0.lines ≡ []) × (read.1 ≡ number) × (source.new ≡ source.old) × (script.new ≡ script.old)) }
+    ensures few { IfOk result (λ read. read.1 + budget SCRIPT script.new ≤ number + budget SCRIPT script.old) }
+    ensures accounts { OnOk result (Accounts (S.left source.old) script.old (S.left source.new) script.new) }
+    ensures left { OnOk result (budget SCRIPT script.new ≤ budget SCRIPT script.old) }
+    ensures limit { script.old.taken ≤ SCRIPT → OnOk result (script.new.taken ≤ SCRIPT) }
+    ensures input { IsErrOf result Stop.Input → TookOpen TookPart number (Some (empty_block lanes)) (rest_of (S.left source.old) script.old) (rest_of (S.left source.new) script.new) }
+    ensures over { IsErrOf result Stop.TooLong → TookOpen TookOver number (Some (empty_block lanes)) (rest_of (S.left source.old) script.old) (rest_of (S.left source.new) script.new) }
+    ensures memory { IsErrOf result Stop.NoMemory → TookSome (rest_of (S.left source.old) script.old) (rest_of (S.left source.new) script.new) }
+    ensures long { IsErrOf result Stop.TooLong → IsTooLong SCRIPT (S.left source.old) script.old }
+    ensures stops { OnErr result ((result ≡ Err Stop.Input) ⊎ (result ≡ Err Stop.NoMemory) ⊎ (result ≡ Err Stop.TooLong)) }
+    ensures open { OnErr result (script.old.ended ≡ false) }
+    ensures cause { IsErrOf result Stop.Input → Rose (S.fault_count source.old) (S.fault_count source.new) }
+    ensures count { S.fault_count source.old ≤ S.fault_count source.new }
+{
+    let block = LaneBlock::new(alloc, lanes);
+    if script.is_ended() {
+        return Ok((block, number));
+    }
+    read_lines(alloc, script, number, block, source)
+}

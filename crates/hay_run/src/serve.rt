@@ -1,0 +1,42 @@
+//! Turn after turn, to the end of a script.
+ghost use Rattle.std.specs.Prelude.{◌≡◌, ℕ, ◌<◌, ◌≤◌, List, length, Some, OnOk, IsErrOf};
+ghost use Rattle.hay_disk.specs.Counts.{Rose};
+ghost use Rattle.hay_disk.specs.Streams.{Wrote};
+ghost use Rattle.hay_run.specs.Turns.{Serves, Halts};
+
+use crate::bytes::SCRIPT;
+use crate::lines::ScriptLines;
+use crate::stops::Stop;
+use crate::turns::turn;
+use hay_cluster::Cluster;
+use hay_disk::{Disk, Sink, Source};
+use std::alloc::Global;
+
+/// Answers what a script asks for, from first to last.
+pub fn serve<D: Disk, S: Source, K: Sink>(
+    alloc: Global,
+    cluster: &mut Cluster<D>,
+    source: &mut S,
+    sink: &mut K,
+) -> Result<(), Stop>
+    ensures served { OnOk result (Serves D.Tells D.files D.fault_count D.fuse_count (S.left source.old) cluster.old (K.written sink.old) cluster.new (K.written sink.new)) }
+    ensures short { OnOk result ((script : List ℕ) → S.left source.old ≡ Some script → length script ≤ SCRIPT) }
+    ensures long { IsErrOf result Stop.TooLong → (script : List ℕ) → S.left source.old ≡ Some script → SCRIPT < length script }
+    ensures source { IsErrOf result Stop.Input → Rose (S.fault_count source.old) (S.fault_count source.new) }
+    ensures source_count { S.fault_count source.old ≤ S.fault_count source.new }
+    ensures sink { IsErrOf result Stop.Output → Rose (K.fault_count sink.old) (K.fault_count sink.new) }
+    ensures sink_count { K.fault_count sink.old ≤ K.fault_count sink.new }
+    ensures halted { IsErrOf result Stop.Store → Halts D.Tells D.files D.fault_count D.fuse_count cluster.old cluster.new }
+    ensures faults { D.fault_count cluster.old.disk ≤ D.fault_count cluster.new.disk }
+    ensures fuses { D.fuse_count cluster.new.disk ≡ D.fuse_count cluster.old.disk }
+    ensures settings { cluster.new.settings ≡ cluster.old.settings }
+{
+    let mut script = ScriptLines::new(alloc);
+    let mut number: u64 = 1;
+    'turns: loop {
+        number = turn(alloc, cluster, &mut script, number, source, sink)?;
+        if script.is_ended() {
+            return Ok(());
+        }
+    }
+}

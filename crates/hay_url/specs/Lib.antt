@@ -1,0 +1,2 @@
+pub mod Url
+pub mod Parts

@@ -1,0 +1,15 @@
+//! A volume file: a superblock, the needles of its cells without gaps from 64 on, and the end mark, eight bytes that are
+//! not the needle magic. What stands behind the end mark counts for nothing.
+//! It stands on `hay_base`, `hay_needle` and `hay_disk`.
+//!
+//! An append adds one cell at the end, and whatever a stop leaves has the cells with the new one or without it.
+//! Reading answers by the bytes: a cell is read exactly where a needle stands. On a disk that doesn't tell its bytes a
+//! cell that is read is a whole needle still.
+#![tactic(auto)]
+
+mod fault;
+mod reading;
+mod volume;
+
+pub use fault::{CellFault, VolumeFault};
+pub use volume::VolumeFile;

@@ -1,0 +1,60 @@
+//! The program `haystack`: runs the script on standard input over disks in memory, and writes the transcript to standard
+//! output. Everything that matters stands in `hay_run`.
+#![tactic(auto)]
+
+#[cfg(test)]
+mod tests;
+
+use hay_filedisk::{StdinSource, StdoutSink};
+use hay_memdisk::SureShelf;
+use hay_run::run;
+use std::env;
+use std::env::Env;
+use std::io;
+use std::process::ExitCode;
+
+/// The words are no text.
+const USAGE: u8 = 2;
+
+/// Memory was wanting before the run began.
+const NO_MEMORY: u8 = 5;
+
+/// The words behind the program's name.
+fn words_of<R: Env + AllocGlobal>(rt: &R) -> io::Result<Vec<String>> {
+    let mut words = Vec::new(rt.alloc());
+    for word in env::args(rt)?.skip(1) {
+        words.push(word)?;
+    }
+    Ok(words)
+}
+
+/// What standard error is told of a status.
+fn message_of(status: u8) -> Option<&'static str> {
+    match status {
+        2 => Some("haystack: usage"),
+        3 => Some("haystack: output fault"),
+        4 => Some("haystack: input fault"),
+        5 => Some("haystack: no memory"),
+        6 => Some("haystack: store not opened"),
+        7 => Some("haystack: script too long"),
+        _ => None,
+    }
+}
+
+fn main(rt: HostRuntime) -> ExitCode {
+    let status = match words_of(&rt) {
+        Ok(words) => {
+            let mut source = StdinSource::new(rt.stdin());
+            let mut sink = StdoutSink::new(rt.stdout());
+            let mut shelf = SureShelf::new(rt.alloc());
+            run(rt.alloc(), words.as_slice(), &mut source, &mut sink, &mut shelf)
+        }
+        Err(error) if error.kind() == io::ErrorKind::OutOfMemory => NO_MEMORY,
+        Err(_) => USAGE,
+    };
+    if let Some(message) = message_of(status) {
+        // There is nobody left to tell that this failed.
+        let _ = eprintln!(rt; "{message}");
+    }
+    ExitCode::from(status)
+}
