@@ -38,6 +38,7 @@ pub enum ClusterFault {
     Failed { slot: u32, faults: u64 },
     /// The disk in this slot is not void.
     Used { slot: u32 },
+    /// Memory was wanting.
     NoMemory,
 }
 
@@ -146,7 +147,8 @@ impl<D: Disk> Cluster<D> {
         }
     }
 
-    /// Answers a command.
+    /// Answers a command of this lane and line. Puts and reads are built, and each other command is answered `Unbuilt`.
+    /// Behind a put that failed every answer is `Halted::Damaged`.
     #[tactic(auto, unfolding(crate::specs::State::Stands))]
     pub fn answer(
         &mut self,
@@ -243,7 +245,7 @@ impl<D: Disk> Cluster<D> {
         }
     }
 
-    /// Gives the disk back.
+    /// Gives the disk back, with all that was stored wholly on it.
     pub fn close<H: Shelf<Disk = D>>(self, shelf: &mut H)
         requires out { (H.disks shelf.old 1).is_out ≡ true }
         ensures stands { D.Tells → (k : Known) →

@@ -21,7 +21,9 @@ pub enum Entry {
         bytes: Bytes,
     },
     /// The pair has no photo.
-    Del { pair: Pair },
+    Del {
+        pair: Pair,
+    },
 }
 
 /// An entry, and who asked for it.

@@ -7,11 +7,9 @@ use Rattle.hay_needle.specs.declared.needle.Outcome.TheVariants as outcome
 use Rattle.hay_needle.specs.declared.settings.Settings.{Settings}
 use Rattle.hay_reply.specs.declared.Refused.{Refused}
 use Rattle.hay_reply.specs.declared.Refused.TheVariants.{NoRoom, Closed}
-use Rattle.hay_core.specs.declared.entry.Entry.{Entry}
 use Rattle.hay_needle.specs.Tables.{Table, pair_eq}
 use Rattle.hay_needle.specs.Sizes.{total_of_lem}
 use Rattle.hay_core.specs.Entries.{after, entries_of}
-use Rattle.hay_core.specs.declared.entry.Logged.{Logged}
 use Rattle.hay_legal.specs.declared.known.ReplicaKnown.{ReplicaKnown}
 use Rattle.hay_legal.specs.declared.known.VolumeKnown.{VolumeKnown}
 use Rattle.hay_legal.specs.declared.known.HomeRow.{HomeRow}

@@ -1,8 +1,8 @@
 -- What a disk in memory tells whose calls can be made to fail.
-use Rattle.std.specs.Prelude.{ℕ}
+use Rattle.std.specs.Prelude.{ℕ, List}
 use Rattle.hay_disk.specs.Disk.{FileState}
 use Rattle.hay_memdisk.specs.declared.disk.MemDisk.{MemDisk}
-use Rattle.hay_memdisk.specs.Failures.{fault_count}
+use Rattle.hay_memdisk.specs.Failures.{fault_count, listed_in}
 use Rattle.hay_memdisk.specs.Sure.{sure_files, sure_drawn, sure_fuses}
 
 -- the files of a disk
@@ -20,3 +20,7 @@ mem_faults disk = fault_count disk.failures
 -- how many fuses were set
 abbrev pub mem_fuses : MemDisk → ℕ
 mem_fuses disk = sure_fuses disk.disk
+
+-- the calls that are to fail
+abbrev pub mem_listed : MemDisk → List ℕ
+mem_listed disk = listed_in disk.failures

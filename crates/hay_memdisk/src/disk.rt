@@ -30,7 +30,7 @@ pub struct MemDisk {
 impl MemDisk {
     ghost use Rattle.hay_disk.specs.Counts.{Rose};
     ghost use Rattle.hay_disk.specs.Disk.{IsSolid, IsFree, KeepsOthers, empty_file};
-    ghost use Rattle.hay_memdisk.specs.MemDisk.{mem_files, mem_drawn, mem_faults, mem_fuses};
+    ghost use Rattle.hay_memdisk.specs.MemDisk.{mem_files, mem_drawn, mem_faults, mem_fuses, mem_listed};
 
     /// A disk without files that never fails.
     pub fn new(alloc: Global) -> MemDisk
@@ -50,6 +50,8 @@ impl MemDisk {
     /// numbers the calls that can fail: `size`, `read_into`, `write`, `remove`, `sync` and `seal`. `NoMemory` leaves the
     /// list as it was.
     pub fn fail(&mut self, calls: &[u64]) -> Result<(), NoMemory>
+        ensures listed { OnOk result (mem_listed self.new ≡ calls.now) }
+        ensures err { OnErr result (mem_listed self.new ≡ mem_listed self.old) }
         ensures files { mem_files self.new ≡ mem_files self.old }
         ensures drawn { mem_drawn self.new ≡ mem_drawn self.old }
         ensures faults { mem_faults self.new ≡ mem_faults self.old }

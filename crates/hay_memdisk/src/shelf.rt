@@ -1,7 +1,7 @@
 //! A shelf of disks and arms that can be made to fail.
 #![tactic(auto, unfolding(crate::specs::MemShelf::mem_disks, crate::specs::MemShelf::mem_arms))]
 
-ghost use Rattle.std.specs.Prelude.{◌≡◌, None, Some, ℕ, IfNone, IfSome, IsErr, OnOk};
+ghost use Rattle.std.specs.Prelude.{◌≡◌, None, Some, ℕ, IfNone, IfSome, IsErr, OnOk, ◌⊎◌, true};
 
 use crate::slots::Slots;
 use crate::{MemArm, MemDisk};
@@ -62,6 +62,7 @@ impl MemShelf {
     /// The disk in a slot; none where the shelf has none or it is out.
     pub fn disk(&self, slot: u32) -> Option<&MemDisk>
         ensures disk { IfSome result (λ disk. mem_disks self.now slot ≡ held_mem_disk disk.now) }
+        ensures none { IfNone result ((mem_disks self.now slot ≡ no_disk) ⊎ ((mem_disks self.now slot).is_out ≡ true)) }
     {
         self.disks.get(slot)
     }
@@ -70,6 +71,7 @@ impl MemShelf {
     pub fn disk_mut(&mut self, slot: u32) -> Option<&mut MemDisk>
         ensures* writes_back { sem 𝓛 (lends_disk self.entry slot result) }
         ensures disk { IfSome result (λ disk. mem_disks self.old slot ≡ held_mem_disk disk.now) }
+        ensures none { IfNone result ((mem_disks self.old slot ≡ no_disk) ⊎ ((mem_disks self.old slot).is_out ≡ true)) }
     {
         self.disks.get_mut(slot)
     }
@@ -77,6 +79,7 @@ impl MemShelf {
     /// The arm in a lane; none where the shelf has none or it is out.
     pub fn arm(&self, lane: u32) -> Option<&MemArm>
         ensures arm { IfSome result (λ arm. mem_arms self.now lane ≡ held_arm arm.now) }
+        ensures none { IfNone result ((mem_arms self.now lane ≡ no_arm) ⊎ ((mem_arms self.now lane).is_out ≡ true)) }
     {
         self.arms.get(lane)
     }

@@ -1,5 +1,5 @@
 //! Sources and sinks in memory.
-ghost use Rattle.std.specs.Prelude.{◌≡◌, ◌≤◌, ◌<◌, [], Some, length};
+ghost use Rattle.std.specs.Prelude.{◌≡◌, ◌≤◌, ◌<◌, [], Some, length, OnOk, OnErr};
 
 use crate::failures::Failures;
 use hay_base::NoMemory;
@@ -18,7 +18,7 @@ pub struct MemSource {
 }
 
 impl MemSource {
-    ghost use Rattle.hay_memdisk.specs.Streams.{source_left, source_faults};
+    ghost use Rattle.hay_memdisk.specs.Streams.{source_left, source_faults, source_listed};
 
     /// A source of these bytes, of which one read gives at most `step`.
     pub fn new(alloc: Global, bytes: Vec<u8>, step: usize) -> MemSource
@@ -37,6 +37,8 @@ impl MemSource {
     /// Makes it fail at these reads, numbered from 1 since the source was made, and no others. `NoMemory` leaves it as
     /// it was.
     pub fn fail(&mut self, calls: &[u64]) -> Result<(), NoMemory>
+        ensures listed { OnOk result (source_listed self.new ≡ calls.now) }
+        ensures err { OnErr result (source_listed self.new ≡ source_listed self.old) }
         ensures left { source_left self.new ≡ source_left self.old }
         ensures faults { source_faults self.new ≡ source_faults self.old }
     {
@@ -75,7 +77,7 @@ pub struct MemSink {
 }
 
 impl MemSink {
-    ghost use Rattle.hay_memdisk.specs.Streams.{sink_written, sink_faults};
+    ghost use Rattle.hay_memdisk.specs.Streams.{sink_written, sink_faults, sink_listed};
 
     /// A sink without bytes.
     pub fn new(alloc: Global) -> MemSink
@@ -91,6 +93,8 @@ impl MemSink {
     /// Makes it fail at these writes, numbered from 1 since the sink was made, and no others. `NoMemory` leaves it as it
     /// was.
     pub fn fail(&mut self, calls: &[u64]) -> Result<(), NoMemory>
+        ensures listed { OnOk result (sink_listed self.new ≡ calls.now) }
+        ensures err { OnErr result (sink_listed self.new ≡ sink_listed self.old) }
         ensures written { sink_written self.new ≡ sink_written self.old }
         ensures faults { sink_faults self.new ≡ sink_faults self.old }
     {

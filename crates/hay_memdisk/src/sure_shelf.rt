@@ -1,7 +1,7 @@
 //! A shelf of disks that never fail.
 #![tactic(auto, unfolding(crate::specs::SureShelf::sure_disks, crate::specs::SureShelf::sure_arms))]
 
-ghost use Rattle.std.specs.Prelude.{◌≡◌, None, Some, ℕ, IfNone, IfSome};
+ghost use Rattle.std.specs.Prelude.{◌≡◌, None, Some, ℕ, IfNone, IfSome, ◌⊎◌, true};
 
 use crate::slots::Slots;
 use crate::{MemArm, SureDisk};
@@ -36,6 +36,7 @@ impl SureShelf {
     /// The disk in a slot; none where the shelf has none or it is out.
     pub fn disk(&self, slot: u32) -> Option<&SureDisk>
         ensures disk { IfSome result (λ disk. sure_disks self.now slot ≡ held_sure_disk disk.now) }
+        ensures none { IfNone result ((sure_disks self.now slot ≡ no_disk) ⊎ ((sure_disks self.now slot).is_out ≡ true)) }
     {
         self.disks.get(slot)
     }

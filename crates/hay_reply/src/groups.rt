@@ -8,6 +8,7 @@ use hay_base::{Listed, NoMemory};
 /// An item of such a list.
 pub trait Group {
     ghost use Rattle.std.specs.Prelude.{List, ℕ};
+
     ghost text: { Self → List ℕ };
 
     /// Adds the item's text.

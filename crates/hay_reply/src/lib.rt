@@ -1,14 +1,16 @@
-//! Replies and notes.
+//! What a run answers: the reply to a command, the notes between replies, and their texts.
+//!
+//! It stands on the values of `hay_needle`, on `hay_url` and on `hex`. `specs/Replies.antt` has the one text of each reply and note; what is
+//! written is that text, and want of memory leaves what is written to as it was.
 #![tactic(auto)]
 
 mod groups;
 mod write;
 
-pub use write::{header_line, note_text, numbered_line, reply_text};
-
 use hay_base::Listed;
 use hay_needle::{Bytes, Cookie};
 use hay_url::Url;
+pub use write::{header_line, note_text, numbered_line, reply_text};
 
 /// Why a try does not take a photo.
 #[derive(Debug, Drop)]
@@ -227,3 +229,6 @@ pub enum Note {
         at: u64,
     },
 }
+
+#[cfg(test)]
+mod tests;

@@ -33,7 +33,12 @@ pub fn note_text(alloc: Global, note: &Note, out: &mut Vec<u8>) -> Result<(), No
 }
 
 /// Adds a line of the transcript: the number of the script's line, and its reply. `NoMemory` adds nothing.
-pub fn numbered_line(alloc: Global, line: u64, reply: &Reply, out: &mut Vec<u8>) -> Result<(), NoMemory>
+pub fn numbered_line(
+    alloc: Global,
+    line: u64,
+    reply: &Reply,
+    out: &mut Vec<u8>,
+) -> Result<(), NoMemory>
     ensures ok { OnOk result (out.new.items ≡ out.old.items ++ texts.numbered_line line reply.now) }
     ensures err { OnErr result (out.new.items ≡ out.old.items) }
 {
@@ -62,7 +67,6 @@ pub fn header_line(alloc: Global, settings: &Settings, out: &mut Vec<u8>) -> Res
     out.extend_from_slice(text.as_bytes())?;
     Ok(())
 }
-
 
 fn write_reply(alloc: Global, reply: &Reply, out: &mut String) -> Result<(), NoMemory>
     ensures { OnOk result (string_bytes out.new ≡ string_bytes out.old ++ texts.reply_text reply.now) }

@@ -11,7 +11,7 @@ use Rattle.hay_legal.specs.declared.turn.Item.TheVariants as item
 use Rattle.hay_script.specs.Script.{line_of, lines_of, seen_byte}
 use Rattle.hay_legal.specs.Items.{Asked, OpenBlock, InBlock, empty_block, added, inside, outside, lanes_open, at_end, items_from, whole_items_from}
 use Rattle.hay_legal.specs.Items.Asked.{Alone, Block}
-use Rattle.hay_run.specs.Stream.{Held, rest_of, Accounts, IsTooLong, TookAll}
+use Rattle.hay_run.specs.Stream.{IsReadToEnd, Held, rest_of, Accounts, IsTooLong, TookAll}
 use Rattle.hay_run.specs.Lines.{NoFeed, fed_text, TookFed, TookLine, TookFeds, TookToEnd, TookLines, TookSome}
 use Rattle.hay_run.specs.Items.{SaysNext, block_behind, Asks, TookItems, TookOpen, AsksAll}
 use Rattle.hay_run.proofs.Taking.{took_nothing, took_more, took_fed_more, took_last_more, took_end, seen-inner, long_before}
@@ -354,10 +354,6 @@ abbrev EndsItems : ℕ → Option (List ℕ) → List Asked → Type 0
 EndsItems number None asked = Unit {0}
 EndsItems number (Some all) asked = items_from number None (lines_of all) ≡ asked
 
-abbrev pub AtEnd : Option (List ℕ) → Option (List ℕ) → Type 0
-AtEnd None after = Unit {0}
-AtEnd (Some all) after = after ≡ Some []
-
 to_end : (before after : Option (List ℕ)) (texts : List (List ℕ)) (ended : Bool) → TookLines before texts after ended → ended ≡ true → TookToEnd before texts after
 to_end before after texts ended (inl w) met = absurd (false≢true (sym w.1 ∙ met))
 to_end before after texts ended (inr w) met = w.0
@@ -368,7 +364,7 @@ ends_turn number next (Some all) after asked ended took met =
     let lines = lines_end took.texts all after (to_end (Some all) after took.texts ended took.lines met) in
     ap (λ (l : List (List ℕ)). items_from number None l) lines.1 ∙ asked_all number took.texts asked ended took.asks
 
-pub at_end_turn : (number next : ℕ) (before after : Option (List ℕ)) (asked : List Asked) (ended : Bool) → TookItems number None before asked next after ended → ended ≡ true → AtEnd before after
+pub at_end_turn : (number next : ℕ) (before after : Option (List ℕ)) (asked : List Asked) (ended : Bool) → TookItems number None before asked next after ended → ended ≡ true → IsReadToEnd before after
 at_end_turn number next None after asked ended took met = tt
 at_end_turn number next (Some all) after asked ended took met =
     (lines_end took.texts all after (to_end (Some all) after took.texts ended took.lines met)).0
@@ -386,7 +382,7 @@ all_asked number next script mid after asked more ended h took met = all_by numb
 -- HOW LONG A SCRIPT IS
 
 pub short_script : (limit : ℕ) (script : List ℕ) (mid new : Option (List ℕ)) (first held held' : Held)
-    → Accounts (Some script) first mid held → Accounts mid held new held' → AtEnd (rest_of mid held) (rest_of new held') → first.taken ≡ 0 → held'.taken ≤ limit → length script ≤ limit
+    → Accounts (Some script) first mid held → Accounts mid held new held' → IsReadToEnd (rest_of mid held) (rest_of new held') → first.taken ≡ 0 → held'.taken ≤ limit → length script ≤ limit
 short_script limit script None new first held held' h k over at_first small = cc
 short_script limit script (Some rest) None first held held' h k over at_first small = cc
 short_script limit script (Some rest) (Some last) first held held' h k over at_first small =
@@ -397,3 +393,14 @@ short_script limit script (Some rest) (Some last) first held held' h k over at_f
 
 pub long_script : (limit : ℕ) (script : List ℕ) (mid : Option (List ℕ)) (first held : Held) → Accounts (Some script) first mid held → IsTooLong limit mid held → first.taken ≡ 0 → limit < length script
 long_script limit script mid first held h long at_first = let more = long_before limit (Some script) mid first held h long in omega (arith, more, at_first)
+
+last_of_none : (a b : List ℕ) → a ++ b ≡ [] → b ≡ []
+last_of_none [] b e = e
+last_of_none (x ∷ a) b e = cc
+
+pub read_to_end : (script mid new : Option (List ℕ)) (first held held' : Held) → Accounts script first mid held → IsReadToEnd (rest_of mid held) (rest_of new held') → IsReadToEnd script new
+read_to_end None mid new first held held' h over = tt
+read_to_end (Some script) None new first held held' h over = cc
+read_to_end (Some script) (Some rest) None first held held' h over = cc
+read_to_end (Some script) (Some rest) (Some last) first held held' h over =
+    let nothing : held'.bytes ++ last ≡ [] = cc in ap (λ (bytes : List ℕ). Some bytes) (last_of_none held'.bytes last nothing)

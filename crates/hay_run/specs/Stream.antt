@@ -34,3 +34,8 @@ TookAll (Some all) bytes after = (all ≡ bytes) × (after ≡ Some [])
 -- one byte was taken
 abbrev pub TookOne : Option (List ℕ) → Option (List ℕ) → Type 0
 TookOne before after = (piece : List ℕ) × (length piece ≡ 1) × Took before piece after
+
+-- where it told before, nothing is left
+abbrev pub IsReadToEnd : Option (List ℕ) → Option (List ℕ) → Type 0
+IsReadToEnd None after = Unit {0}
+IsReadToEnd (Some all) after = after ≡ Some []

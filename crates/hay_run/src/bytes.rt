@@ -102,6 +102,7 @@ impl ScriptBytes {
     }
 
     /// Sees to it that a byte is held, unless none is left.
+    #[inline]
     fn hold<S: Source>(&mut self, source: &mut S) -> Result<(), ReadFault>
         requires { self.old.ended ≡ false }
         ensures ok { OnOk result (Took (rest_of (S.left source.old) self.old) [] (rest_of (S.left source.new) self.new)) }
@@ -125,6 +126,7 @@ impl ScriptBytes {
     }
 
     /// Gives out the first byte that is held.
+    #[inline]
     fn pop(&mut self) -> Option<u8>
         ensures byte { IfSome result (λ b. self.old.bytes ≡ b ∷ self.new.bytes) }
         ensures none { IfNone result ((self.old.bytes ≡ []) × (self.new.bytes ≡ [])) }
@@ -141,6 +143,7 @@ impl ScriptBytes {
     }
 
     /// Takes the next byte, or meets the end. It isn't called once the end was met.
+    #[inline]
     pub fn next_byte<S: Source>(&mut self, source: &mut S) -> Result<Option<u8>, ReadFault>
         requires { self.old.ended ≡ false }
         ensures byte { IfOk result (λ next. IfSome next (λ b. Took (rest_of (S.left source.old) self.old) (b ∷ []) (rest_of (S.left source.new) self.new))) }

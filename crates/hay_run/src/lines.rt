@@ -43,6 +43,7 @@ pub enum LineStart {
 
 impl LineStart {
     /// How the line begins when it has this byte more.
+    #[inline]
     fn with(self, byte: u8) -> LineStart
         ensures { result ≡ start_behind self byte }
     {
@@ -95,6 +96,7 @@ fn end_by_feed(line: &mut Vec<u8>)
 }
 
 /// Keeps a byte of a line, unless the line is too long with it, and answers whether the line is too long.
+#[inline]
 fn keep(line: &mut Vec<u8>, long: bool, byte: u8) -> Result<bool, NoMemory>
     ensures short { length line.old.items < LINE → IfOk result (λ now. (now ≡ long) × (line.new.items ≡ line.old.items ++ byte ∷ [])) }
     ensures long { LINE ≤ length line.old.items → IfOk result (λ now. (now ≡ true) × (line.new.items ≡ line.old.items)) }

@@ -6,6 +6,7 @@ ghost use Rattle.hay_disk.specs.Streams.{Wrote, WrotePart};
 ghost use Rattle.hay_reply.specs.Replies as texts;
 ghost use Rattle.hay_legal.specs.declared.turn.Turn.{Turn};
 ghost use Rattle.hay_legal.specs.Transcript.{turn_text};
+ghost use Rattle.hay_run.specs.Stream.{IsReadToEnd};
 ghost use Rattle.hay_run.specs.Runs.{IsRun, run_settings, RanOn, Ran, NoStore};
 
 use crate::bytes::SCRIPT;
@@ -54,6 +55,7 @@ fn answer_script<H: Shelf, S: Source, K: Sink>(
     requires settings { settings ≡ run_settings }
     requires in_place { (H.disks shelf.old 1).is_out ≡ false }
     ensures ran { H.Disk.Tells → OnOk result ((script : List ℕ) → S.left source.old ≡ Some script → (turns : List Turn) × RanOn (H.disks shelf.old) (H.arms shelf.old) script (H.disks shelf.new) (H.arms shelf.new) turns × Wrote (K.written sink.old) (flat_map turn_text turns) (K.written sink.new)) }
+    ensures ended { OnOk result (IsReadToEnd (S.left source.old) (S.left source.new)) }
     ensures short { OnOk result ((script : List ℕ) → S.left source.old ≡ Some script → length script ≤ SCRIPT) }
     ensures long { IsErrOf result Stop.TooLong → (script : List ℕ) → S.left source.old ≡ Some script → SCRIPT < length script }
     ensures source { IsErrOf result Stop.Input → Rose (S.fault_count source.old) (S.fault_count source.new) }
@@ -89,6 +91,7 @@ fn run_script<H: Shelf, S: Source, K: Sink>(
 ) -> Result<(), Stop>
     requires { (H.disks shelf.old 1).is_out ≡ false }
     ensures ran { H.Disk.Tells → OnOk result ((script : List ℕ) → S.left source.old ≡ Some script → Ran (H.disks shelf.old) (H.arms shelf.old) script (K.written sink.old) (H.disks shelf.new) (H.arms shelf.new) (K.written sink.new)) }
+    ensures ended { OnOk result (IsReadToEnd (S.left source.old) (S.left source.new)) }
     ensures short { OnOk result ((script : List ℕ) → S.left source.old ≡ Some script → length script ≤ SCRIPT) }
     ensures long { IsErrOf result Stop.TooLong → (script : List ℕ) → S.left source.old ≡ Some script → SCRIPT < length script }
     ensures source { IsErrOf result Stop.Input → Rose (S.fault_count source.old) (S.fault_count source.new) }
@@ -139,6 +142,7 @@ pub fn run<H: Shelf, S: Source, K: Sink>(
 ) -> u8
     requires { (H.disks shelf.old 1).is_out ≡ false }
     ensures ran { result ≡ 0 → H.Disk.Tells → (script : List ℕ) → S.left source.old ≡ Some script → Ran (H.disks shelf.old) (H.arms shelf.old) script (K.written sink.old) (H.disks shelf.new) (H.arms shelf.new) (K.written sink.new) }
+    ensures ended { result ≡ 0 → IsReadToEnd (S.left source.old) (S.left source.new) }
 
     // When each status comes.
     ensures status { (result ≡ 0) ⊎ ((2 ≤ result) × (result ≤ 7)) }

@@ -2,6 +2,7 @@
 ghost use Rattle.std.specs.Prelude.{◌≡◌, ℕ, ◌<◌, ◌≤◌, List, length, Some, OnOk, IsErrOf};
 ghost use Rattle.hay_disk.specs.Counts.{Rose};
 ghost use Rattle.hay_disk.specs.Streams.{Wrote};
+ghost use Rattle.hay_run.specs.Stream.{IsReadToEnd};
 ghost use Rattle.hay_run.specs.Turns.{Serves, Halts};
 
 use crate::bytes::SCRIPT;
@@ -20,6 +21,7 @@ pub fn serve<D: Disk, S: Source, K: Sink>(
     sink: &mut K,
 ) -> Result<(), Stop>
     ensures served { OnOk result (Serves D.Tells D.files D.fault_count D.fuse_count (S.left source.old) cluster.old (K.written sink.old) cluster.new (K.written sink.new)) }
+    ensures ended { OnOk result (IsReadToEnd (S.left source.old) (S.left source.new)) }
     ensures short { OnOk result ((script : List ℕ) → S.left source.old ≡ Some script → length script ≤ SCRIPT) }
     ensures long { IsErrOf result Stop.TooLong → (script : List ℕ) → S.left source.old ≡ Some script → SCRIPT < length script }
     ensures source { IsErrOf result Stop.Input → Rose (S.fault_count source.old) (S.fault_count source.new) }

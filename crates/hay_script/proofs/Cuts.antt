@@ -1,5 +1,5 @@
 -- Where words begin and end.
-use Rattle.std.proofs.Common.{◌≡◌, ℕ, ◌+◌, ◌<◌, ◌≤◌, nat_lt, Bool, true, false, not, List, [], ◌∷◌, length, take, drop, get_or, Option, Some, None, unwrap_or, position, refl, sym, ◌∙◌, ap, arith, rules, filter, cond, zero, suc, add-one, drop-cons, length-take, if◌then◌else◌, ◌==◌, ◌&&◌}
+use Rattle.std.proofs.Common.{◌≡◌, ℕ, ◌+◌, ◌<◌, ◌≤◌, nat_lt, Bool, true, false, not, List, [], ◌∷◌, length, take, drop, get_or, Option, Some, None, unwrap_or, position, refl, sym, ◌∙◌, ap, arith, filter, cond, suc, add-one, drop-cons, length-take, if◌then◌else◌, ◌==◌, ◌&&◌}
 use Rattle.std.specs.List.{slice_split, position_or_len, list_all, join_with_byte}
 use Rattle.std.proofs.lemmas.Grind.{common_steps}
 use Rattle.std.proofs.lemmas.Bool.Decides.{nat_tests}

@@ -1,5 +1,5 @@
 -- Digits, and the numbers that they write.
-use Rattle.std.proofs.Common.{◌≡◌, ℕ, ◌<◌, ◌≤◌, ◌^◌, ◌==◌, ◌&&◌, nat_lt, nat_le, if◌then◌else◌, Bool, true, false, List, [], ◌∷◌, length, zero, suc, Option, Some, None, arith, ◌∙◌, ap, Result, Ok, Err}
+use Rattle.std.proofs.Common.{◌≡◌, ℕ, ◌<◌, ◌≤◌, ◌^◌, ◌==◌, ◌&&◌, nat_lt, if◌then◌else◌, true, List, [], ◌∷◌, length, zero, suc, Option, Some, None, arith, ◌∙◌, ap, Result, Ok, Err}
 use Rattle.std.specs.Result.{OkIff, result_ok}
 use Rattle.std.specs.Char.{is_ascii_digit, digit_value}
 use Rattle.std.specs.List.{list_all}
@@ -10,7 +10,6 @@ use Rattle.std.proofs.lemmas.Int.Digits.{digits_value-lt}
 use Rattle.std.proofs.lemmas.Bool.Decides.{nat_tests}
 use Rattle.std.proofs.Math.Nat.{pow-le-pow_right}
 use Rattle.hex.specs.Hex.{is_hex_digit}
-use Rattle.hay_script.specs.Script.{cookie_of_text}
 
 pub all_decimal : (text : List ℕ) → list_all is_ascii_digit text ≡ true → AllDigits 10 text
 all_decimal [] h = tt

@@ -19,18 +19,18 @@ pub fn read_command(alloc: Global, line: &[u8]) -> Result<Option<Command>, NoMem
     let Some((verb, rest)) = split_word(line) else {
         return Ok(None);
     };
-    let Some((a, rest)) = split_word(rest) else {
+    let Some((first, rest)) = split_word(rest) else {
         return Ok(read_alone(verb));
     };
-    let Some((b, rest)) = split_word(rest) else {
-        return Ok(read_with_one(verb, a));
+    let Some((second, rest)) = split_word(rest) else {
+        return Ok(read_with_one(verb, first));
     };
-    let Some((c, rest)) = split_word(rest) else {
-        return Ok(read_with_two(verb, a, b));
+    let Some((third, rest)) = split_word(rest) else {
+        return Ok(read_with_two(verb, first, second));
     };
     match split_word(rest) {
         Some(_) => Ok(None),
-        None => read_with_three(alloc, verb, a, b, c),
+        None => read_with_three(alloc, verb, first, second, third),
     }
 }
 
@@ -45,51 +45,51 @@ fn read_alone(verb: &[u8]) -> Option<Command>
     }
 }
 
-fn read_with_one(verb: &[u8], a: &[u8]) -> Option<Command>
-    ensures said { result ≡ grammar.command_of_one verb.now a.now }
+fn read_with_one(verb: &[u8], first: &[u8]) -> Option<Command>
+    ensures said { result ≡ grammar.command_of_one verb.now first.now }
     ensures within { IfSome result grammar.IsWithin }
 {
     if is(verb, "get") {
         Some(Command::Get {
-            url: parse_url(a).ok()?,
+            url: parse_url(first).ok()?,
         })
     } else if is(verb, "drain") {
-        read_small(a).map(|machine| Command::Drain { machine })
+        read_small(first).map(|machine| Command::Drain { machine })
     } else if is(verb, "undrain") {
-        read_small(a).map(|machine| Command::Undrain { machine })
+        read_small(first).map(|machine| Command::Undrain { machine })
     } else if is(verb, "restart") {
-        read_large(a).map(|pick| Command::Restart { pick })
+        read_large(first).map(|pick| Command::Restart { pick })
     } else {
         None
     }
 }
 
-fn read_with_two(verb: &[u8], a: &[u8], b: &[u8]) -> Option<Command>
-    ensures said { result ≡ grammar.command_of_two verb.now a.now b.now }
+fn read_with_two(verb: &[u8], first: &[u8], second: &[u8]) -> Option<Command>
+    ensures said { result ≡ grammar.command_of_two verb.now first.now second.now }
     ensures within { IfSome result grammar.IsWithin }
 {
     if is(verb, "del") {
-        read_pair(a, b).map(|pair| Command::Del { pair })
+        read_pair(first, second).map(|pair| Command::Del { pair })
     } else if is(verb, "url") {
-        read_pair(a, b).map(|pair| Command::Url { pair })
+        read_pair(first, second).map(|pair| Command::Url { pair })
     } else if is(verb, "flush") {
-        let volume = read_small(a)?;
-        let machine = read_small(b)?;
+        let volume = read_small(first)?;
+        let machine = read_small(second)?;
         Some(Command::Flush { volume, machine })
     } else if is(verb, "compact") {
-        let volume = read_small(a)?;
-        let machine = read_small(b)?;
+        let volume = read_small(first)?;
+        let machine = read_small(second)?;
         Some(Command::Compact { volume, machine })
     } else if is(verb, "begin") {
-        let volume = read_small(a)?;
-        let machine = read_small(b)?;
+        let volume = read_small(first)?;
+        let machine = read_small(second)?;
         Some(Command::Begin { volume, machine })
     } else if is(verb, "finish") {
-        let volume = read_small(a)?;
-        let machine = read_small(b)?;
+        let volume = read_small(first)?;
+        let machine = read_small(second)?;
         Some(Command::Finish { volume, machine })
-    } else if is(verb, "fuse") && is(a, "dir") {
-        read_small(b).map(|calls| Command::FuseDir { calls })
+    } else if is(verb, "fuse") && is(first, "dir") {
+        read_small(second).map(|calls| Command::FuseDir { calls })
     } else {
         None
     }
@@ -132,25 +132,25 @@ fn read_fuse(volume: &[u8], machine: &[u8], calls: &[u8]) -> Option<Command>
 fn read_with_three(
     alloc: Global,
     verb: &[u8],
-    a: &[u8],
-    b: &[u8],
-    c: &[u8],
+    first: &[u8],
+    second: &[u8],
+    third: &[u8],
 ) -> Result<Option<Command>, NoMemory>
-    ensures said { IfOk result (λ said. said ≡ grammar.command_of_three verb.now a.now b.now c.now) }
+    ensures said { IfOk result (λ said. said ≡ grammar.command_of_three verb.now first.now second.now third.now) }
     ensures within { IfOk result (λ said. IfSome said grammar.IsWithin) }
 {
     if is(verb, "put") {
-        let Some(pair) = read_pair(a, b) else {
+        let Some(pair) = read_pair(first, second) else {
             return Ok(None);
         };
-        let photo = read_photo(alloc, c)?;
+        let photo = read_photo(alloc, third)?;
         Ok(photo.map(|photo| Command::Put { pair, photo }))
     } else if is(verb, "read") {
-        Ok(read_with_cookie(a, b, c))
+        Ok(read_with_cookie(first, second, third))
     } else if is(verb, "step") {
-        Ok(read_step(a, b, c))
+        Ok(read_step(first, second, third))
     } else if is(verb, "fuse") {
-        Ok(read_fuse(a, b, c))
+        Ok(read_fuse(first, second, third))
     } else {
         Ok(None)
     }

@@ -18,8 +18,7 @@ fn is_decimal(text: &[u8]) -> bool
 pub fn is_hex(text: &[u8]) -> bool
     ensures { result ≡ list_all is_hex_digit text.now }
 {
-    text.iter()
-        .all(|byte| matches!(*byte, b'0'..=b'9' | b'A'..=b'F' | b'a'..=b'f'))
+    text.iter().all(|byte| matches!(*byte, b'0'..=b'9' | b'A'..=b'F' | b'a'..=b'f'))
 }
 
 /// The number of such digits, if it fits.

@@ -77,7 +77,11 @@ fn read_inside(alloc: Global, line: &[u8], lanes: u32) -> Result<Line, NoMemory>
         return Ok(Line::Bad);
     };
     if split_word(rest).is_none() {
-        return Ok(if is(word, "end") { Line::End } else { Line::Bad });
+        return Ok(if is(word, "end") {
+            Line::End
+        } else {
+            Line::Bad
+        });
     }
     let command = read_command(alloc, rest)?;
     Ok(in_lane(read_below(word, lanes), command))
@@ -87,7 +91,10 @@ fn in_lane(lane: Option<u32>, command: Option<Command>) -> Line
     ensures { result ≡ grammar.lane_line lane command }
 {
     match (lane, command) {
-        (Some(lane), Some(command)) if may_stand_in_lane(&command) => Line::InLane { lane, command },
+        (Some(lane), Some(command)) if may_stand_in_lane(&command) => Line::InLane {
+            lane,
+            command,
+        },
         _ => Line::Bad,
     }
 }

@@ -51,16 +51,20 @@ numbered text h =
     let four = fits_mark three.1 (replicate 16 35 ++ []) three.5 in
     let five = fits_digits 16 four.0 [] four.2 in
     let end = fits_nothing five.1 five.5 in
-    let cookie : four.0 ≡ five.0 = five.2 ∙ ap (λ t. five.0 ++ t) end ∙ append-nil five.0 in
-    (one.0, three.0, five.0, record {
-      all = one.2 ∙ ap (λ t. one.0 ++ t) (two.1 ∙ ap (λ t. 95 ∷ t) (three.2 ∙ ap (λ t. three.0 ++ t) (four.1 ∙ ap (λ t. 95 ∷ t) cookie)));
-      key_length = one.3;
-      alt_length = three.3;
-      cookie_length = five.3;
-      key_digits = one.4;
-      alt_digits = three.4;
-      cookie_digits = five.4;
-    })
+    let cookie : four.0 ≡ five.0 = five.2 ∙ ap (λ t. five.0 ++ t) end ∙ append-nil five.0 in (
+      one.0,
+      three.0,
+      five.0,
+      record {
+        all = one.2 ∙ ap (λ t. one.0 ++ t) (two.1 ∙ ap (λ t. 95 ∷ t) (three.2 ∙ ap (λ t. three.0 ++ t) (four.1 ∙ ap (λ t. 95 ∷ t) cookie)));
+        key_length = one.3;
+        alt_length = three.3;
+        cookie_length = five.3;
+        key_digits = one.4;
+        alt_digits = three.4;
+        cookie_digits = five.4;
+      },
+    )
 
 digits_fit : (digits more template : List ℕ) → list_all is_lower_hex digits ≡ true → Fits template more → Fits (replicate (length digits) 35 ++ template) (digits ++ more)
 digits_fit [] more template all h = h
@@ -251,14 +255,14 @@ parts_of : (url : Url) → FitsUrl url → slice_split is_mark (machine_text url
 parts_of url fits =
     slice_split_at is_mark (decimal url.machine) 47 (volume_text url.volume url.pair url.cookie) (unmarked_decimal (decimal url.machine) (digits_of url.machine fits.machine)) refl
     ∙ ap (λ ps. decimal url.machine ∷ ps) (
-      slice_split_at is_mark (decimal url.volume) 44 (key_text url.pair url.cookie) (unmarked_decimal (decimal url.volume) (digits_of url.volume fits.volume)) refl
-      ∙ ap (λ ps. decimal url.volume ∷ ps) (
-        slice_split_at is_mark (long_hex url.pair.key) 95 (short_hex url.pair.alt ++ 95 ∷ long_hex url.cookie.0) (unmarked_hex (long_hex url.pair.key) (long_digits url.pair.key).1) refl
-        ∙ ap (λ ps. long_hex url.pair.key ∷ ps) (
-          slice_split_at is_mark (short_hex url.pair.alt) 95 (long_hex url.cookie.0) (unmarked_hex (short_hex url.pair.alt) (short_digits url.pair.alt).1) refl
-          ∙ ap (λ ps. short_hex url.pair.alt ∷ ps) (slice_split_none is_mark (long_hex url.cookie.0) (unmarked_hex (long_hex url.cookie.0) (long_digits url.cookie.0).1))
-        )
-      )
+    slice_split_at is_mark (decimal url.volume) 44 (key_text url.pair url.cookie) (unmarked_decimal (decimal url.volume) (digits_of url.volume fits.volume)) refl
+    ∙ ap (λ ps. decimal url.volume ∷ ps) (
+    slice_split_at is_mark (long_hex url.pair.key) 95 (short_hex url.pair.alt ++ 95 ∷ long_hex url.cookie.0) (unmarked_hex (long_hex url.pair.key) (long_digits url.pair.key).1) refl
+    ∙ ap (λ ps. long_hex url.pair.key ∷ ps) (
+    slice_split_at is_mark (short_hex url.pair.alt) 95 (long_hex url.cookie.0) (unmarked_hex (short_hex url.pair.alt) (short_digits url.pair.alt).1) refl
+    ∙ ap (λ ps. short_hex url.pair.alt ∷ ps) (slice_split_none is_mark (long_hex url.cookie.0) (unmarked_hex (long_hex url.cookie.0) (long_digits url.cookie.0).1))
+    )
+    )
     )
 
 read_parts : (m v k a c : List ℕ) (url : Url) → digits_value 10 m ≡ url.machine → digits_value 10 v ≡ url.volume → digits_value 16 k ≡ url.pair.key → digits_value 16 a ≡ url.pair.alt → digits_value 16 c ≡ url.cookie.0 → url.machine < 2 ^ 32 → url.volume < 2 ^ 32 → url_of_parts (m ∷ v ∷ k ∷ a ∷ c ∷ []) ≡ Some url

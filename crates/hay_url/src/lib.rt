@@ -1,4 +1,8 @@
-//! URLs of photos.
+//! URLs of photos, and the cookie that a key has in a store.
+//!
+//! It stands on the values of `hay_needle`, on `rand_chacha` and on `hex`. The text of a URL is exact in both directions: each URL
+//! has one text, and `read_url` takes just these texts and says of any other where it stops being one. A cookie is known by its
+//! two words of ChaCha20.
 #![tactic(auto)]
 
 mod cookie;
@@ -6,10 +10,9 @@ mod read;
 mod text;
 
 pub use cookie::cookie_of;
+use hay_needle::{Cookie, Pair};
 pub use read::{parse_url, read_url};
 pub use text::{cookie_text, url_text};
-
-use hay_needle::{Cookie, Pair};
 
 /// What the URL of a photo says.
 #[derive(Clone, Copy, Debug)]

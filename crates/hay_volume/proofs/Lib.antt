@@ -1,3 +1,6 @@
 pub mod CellLaws
 pub mod Volumes
 pub mod ReadLaws
+pub mod ScanLaws
+pub mod FlagLaws
+pub mod Readings

@@ -55,6 +55,11 @@ pub record IsDamagedAt (from : ℕ) (file : List ℕ) (at : ℕ) : Type 0 where
 abbrev pub live_cell : ℕ → Pair → Cookie → List ℕ → Cell
 live_cell at pair cookie photo = record { at = at; pair = pair; cookie = cookie; bytes = photo; deleted = false }
 
+-- one of the cells stands at `at`
+abbrev pub HasPlace : ℕ → List Cell → Type 0
+HasPlace at [] = ⊥
+HasPlace at (cell ∷ cells) = (cell.at ≡ at) ⊎ HasPlace at cells
+
 -- the cells, the one at `at` deleted or not
 abbrev pub with_flag : ℕ → Bool → List Cell → List Cell
 with_flag at deleted cells = map (λ (cell : Cell). if nat_eq cell.at at then record cell { deleted = deleted } else cell) cells

@@ -2,13 +2,17 @@
 //! not the needle magic. What stands behind the end mark counts for nothing.
 //! It stands on `hay_base`, `hay_needle` and `hay_disk`.
 //!
-//! An append adds one cell at the end, and whatever a stop leaves has the cells with the new one or without it.
-//! Reading answers by the bytes: a cell is read exactly where a needle stands. On a disk that doesn't tell its bytes a
-//! cell that is read is a whole needle still.
+//! An append adds one cell at the end, and whatever a stop leaves has the cells with the new one or without it. A flag
+//! marks one cell as deleted, and whatever a stop leaves has the cells with this mark or without it.
+//! Reading answers by the bytes: a cell is read exactly where a needle stands, and a scan ends exactly at the end mark
+//! or at the first place where neither it nor a needle stands. On a disk that doesn't tell its bytes a cell that is read
+//! is a whole needle still.
 #![tactic(auto)]
 
 mod fault;
+mod flag;
 mod reading;
+mod scan;
 mod volume;
 
 pub use fault::{CellFault, VolumeFault};

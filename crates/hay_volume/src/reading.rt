@@ -63,9 +63,8 @@ pub(crate) fn read_rest<D: Disk>(
     file: u32,
     head: CellHead,
     bytes: &mut Vec<u8>,
-) -> Result<CellHead, CellFault>
+) -> Result<(), CellFault>
     requires { HeadBytes bytes.old.items (head_of_cell head) }
-    ensures head { IfOk result (λ read. read ≡ head) }
     ensures needle { OnOk result ((n : Needle) × NeedleBytes bytes.new.items n × (head_of_cell head ≡ head_of_needle n)) }
     ensures stands { D.Tells → bytes.old.items ≡ take 36 (drop head.at (D.files disk.old file).now)
         → OnOk result (Stands head.at bytes.new.items (D.files disk.old file).now) }
@@ -83,7 +82,7 @@ pub(crate) fn read_rest<D: Disk>(
     let Ok(_) = read_needle(bytes.as_slice()) else {
         return Err(CellFault::Damaged { at: head.at });
     };
-    Ok(head)
+    Ok(())
 }
 
 // Reads into `out` behind its first `have` bytes, which stand at `at`, and answers how many bytes came.

@@ -8,10 +8,9 @@ mod tests;
 use hay_filedisk::{StdinSource, StdoutSink};
 use hay_memdisk::SureShelf;
 use hay_run::run;
-use std::env;
 use std::env::Env;
-use std::io;
 use std::process::ExitCode;
+use std::{env, io};
 
 /// The words are no text.
 const USAGE: u8 = 2;
@@ -47,7 +46,13 @@ fn main(rt: HostRuntime) -> ExitCode {
             let mut source = StdinSource::new(rt.stdin());
             let mut sink = StdoutSink::new(rt.stdout());
             let mut shelf = SureShelf::new(rt.alloc());
-            run(rt.alloc(), words.as_slice(), &mut source, &mut sink, &mut shelf)
+            run(
+                rt.alloc(),
+                words.as_slice(),
+                &mut source,
+                &mut sink,
+                &mut shelf,
+            )
         }
         Err(error) if error.kind() == io::ErrorKind::OutOfMemory => NO_MEMORY,
         Err(_) => USAGE,

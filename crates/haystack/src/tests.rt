@@ -104,11 +104,11 @@ fn transcripts_are_exact(rt: HostRuntime) -> Result<(), Fail> {
 
 #[test]
 fn sizes_are_exact(rt: HostRuntime) -> Result<(), Fail> {
-    let sizes = b"put 0 1 -\nput 0 2 x1048576:61\nput 0 3 x1048577:61\nread 0 1 903df1a0ade0b876\nread 0 2 903df1a0ade0b876\n";
+    let sizes =
+        b"put 0 1 -\nput 0 2 x1048576:61\nput 0 3 x1048577:61\nread 0 1 903df1a0ade0b876\nread 0 2 903df1a0ade0b876\n";
     let outcome = outcome_of(rt.alloc(), &["run"], sizes, 4096)?;
     assert_eq!(rt; outcome.status, 0);
-    assert_eq!(
-        rt;
+    assert_eq!(rt;
         outcome.written.as_slice(),
         b"haystack 1 1 1 67108864\n1 stored 0 1 1 903df1a0ade0b876\n2 stored 0 2 2 903df1a0ade0b876\n3 bad line\n4 photo 0 0 2 2 -\n5 photo 0 0 2 2 x1048576:61\n".as_slice()
     );
@@ -143,7 +143,12 @@ fn status_of(
 #[test]
 fn statuses_have_their_causes(rt: HostRuntime) -> Result<(), Fail> {
     let alloc = rt.alloc();
-    for words in [&[] as &[&str], &["fly"], &["run", "run"], &["run", "--machines", "1"]] {
+    for words in [
+        &[] as &[&str],
+        &["fly"],
+        &["run", "run"],
+        &["run", "--machines", "1"],
+    ] {
         let mut shelf = MemShelf::new(alloc);
         assert_eq!(rt; status_of(alloc, words, &[], &[], &mut shelf)?, 2);
     }
@@ -176,7 +181,8 @@ fn a_full_volume_names_its_numbers(rt: HostRuntime) -> Result<(), Fail> {
     let words = words_of(alloc, &["run"])?;
     let status = run(alloc, words.as_slice(), &mut source, &mut sink, &mut shelf);
     assert_eq!(rt; status, 0);
-    let last = b"63 stored 0 63 1 903df1a0ade0b876\n64 full 0:0:66063376:1048624\n65 full 0:0:66063376:1045488\n66 stored 0 64 2 903df1a0ade0b876\n67 full 0:0:67108856:48\n68 photo 0 0 64 2 x1045432:63\n";
+    let last =
+        b"63 stored 0 63 1 903df1a0ade0b876\n64 full 0:0:66063376:1048624\n65 full 0:0:66063376:1045488\n66 stored 0 64 2 903df1a0ade0b876\n67 full 0:0:67108856:48\n68 photo 0 0 64 2 x1045432:63\n";
     assert!(rt; sink.bytes().ends_with(last.as_slice()));
     Ok(())
 }

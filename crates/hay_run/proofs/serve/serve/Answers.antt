@@ -2,7 +2,7 @@ use Rattle.std.proofs.Common.{◌++◌, [], Some, refl, sym, ◌∙◌, arith, l
 use Rattle.std.proofs.lemmas.Result.{err_from_is_err_and}
 use Rattle.hay_disk.specs.Streams.{Wrote}
 use Rattle.hay_run.specs.Stream.{rest_of, Accounts}
-use Rattle.hay_run.proofs.Asking.{left_first, left_more, left_turn, all_asked, at_end_turn, short_script}
+use Rattle.hay_run.proofs.Asking.{left_first, left_more, left_turn, all_asked, at_end_turn, read_to_end, short_script}
 use Rattle.hay_run.proofs.Taking.{accounts_same, accounts_more}
 use Rattle.hay_run.proofs.Turning.{answers_nothing, answers_more, wrote_more, halts_more}
 use Rattle.hay_run.proofs.serve.serve.Goals as goal
@@ -47,6 +47,15 @@ returns-then-is_ended-clause-served g c =
           (g.K.Sink.written c.args.sink.now) (g.K.Sink.written c.turns.sink) (g.K.Sink.written c.turn.new.sink) c.turns.cluster c.turn.new.cluster c.in_ok-number.ensures.settings
           first (turned.answers tells aside first.t first.stands);
     }
+
+pub returns-then-is_ended-clause-ended : goal.returns-then-is_ended-clause-ended
+returns-then-is_ended-clause-ended g c =
+    let inv = c.turns.invariant in
+    let left = g.S.Source.left in
+    let turned = c.in_ok-number.ensures.turned in
+    let met = sym c.is_ended.ensures ∙ c.if-is_ended.true in
+    read_to_end (left c.args.source.now) (left c.turns.source) (left c.turn.new.source) inv.first c.turns.script c.turn.new.script inv.accounts
+    (at_end_turn c.turns.number c.in_ok-number.number (rest_of (left c.turns.source) c.turns.script) (rest_of (left c.turn.new.source) c.turn.new.script) turned.asked c.turn.new.script.ended turned.took met)
 
 pub returns-then-is_ended-clause-short : goal.returns-then-is_ended-clause-short
 returns-then-is_ended-clause-short g c = λ script told.

@@ -1,4 +1,4 @@
-use Rattle.std.proofs.Common.{◌≡◌, ◌≤◌, None, length, Some, sym, ◌∙◌, arith}
+use Rattle.std.proofs.Common.{◌≡◌, Some, sym, arith}
 use Rattle.std.specs.Str.Parse.{digits_value}
 use Rattle.hay_script.proofs.Digits.{all_hex, hex_number}
 use Rattle.hay_script.proofs.numbers.read_cookie.Goals as goal

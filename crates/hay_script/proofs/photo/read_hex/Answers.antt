@@ -1,4 +1,4 @@
-use Rattle.std.proofs.Common.{◌≡◌, ◌≤◌, length, ap, arith}
+use Rattle.std.proofs.Common.{length, ap, arith}
 use Rattle.hex.proofs.HexLemmas.{decode_of-ok}
 use Rattle.hay_script.proofs.photo.read_hex.Goals as goal
 

@@ -1,4 +1,4 @@
-use Rattle.std.proofs.Common.{◌≡◌, ◌∙◌, sym}
+use Rattle.std.proofs.Common.{◌∙◌, sym}
 use Rattle.std.proofs.lemmas.List.{take_rest}
 use Rattle.hay_script.proofs.Cuts.{no_word, first_word}
 use Rattle.hay_script.proofs.words.split_word.Goals as goal

@@ -1,0 +1,16 @@
+pub mod Lists
+pub mod SpotLaws
+pub mod CopyNext
+pub mod SideLaws
+pub mod DeviceLaws
+pub mod CalmLaws
+pub mod HarmLaws
+pub mod EventLaws
+pub mod ShownLaws
+pub mod LogLaws
+pub mod RunLaws
+pub mod CopyCode
+pub mod RoomLaws
+pub mod HoldCode
+pub mod OpenCode
+pub mod RefusalLaws

@@ -1,0 +1,67 @@
+//! Marking a cell as deleted.
+
+ghost use Rattle.std.specs.Prelude.{◌≡◌, ◌≤◌, ◌<◌, ◌+◌, ◌-◌, Bool, true, false, List, ℕ, length, drop, OnOk, IsErr};
+ghost use Rattle.hay_disk.specs.Counts.{IsCounted};
+ghost use Rattle.hay_disk.specs.Disk.{IsImage, IsSolid, IsFreeIn, Changes, KeepsOthers, overwrite};
+ghost use Rattle.hay_disk.specs.Gate.{IsGate};
+ghost use Rattle.hay_needle.specs.Needle.{BeginsWithNeedle, needle_magic};
+ghost use Rattle.hay_needle.specs.declared.needle.Cell.{Cell};
+ghost use Rattle.hay_needle.specs.declared.needle.Needle.{Needle};
+ghost use Rattle.hay_volume.specs.Cells.{HasPlace, IsVolume, with_flag};
+
+use crate::volume::VolumeFile;
+use hay_disk::{Disk, DiskFault, Failed};
+
+// The place of the flags in a needle.
+const FLAGS_AT: u64 = 28;
+
+// Writes over bytes that stand in the file. That takes no memory: a disk which answers so nevertheless tells nothing.
+fn write_over<D: Disk>(disk: &mut D, file: u32, at: u64, bytes: &[u8]) -> Result<(), Failed>
+    requires inside { D.Tells → at + length bytes.now ≤ length (D.files disk.old file).now }
+    requires free { D.Tells → IsFreeIn at (length bytes.now) (D.files disk.old file) }
+    ensures written { D.Tells → OnOk result ((D.files disk.new file).now ≡ overwrite at bytes.now (D.files disk.old file).now) }
+    ensures changes { D.Tells → Changes at (length bytes.now) (D.files disk.old file) (D.files disk.new file) }
+    ensures others { D.Tells → KeepsOthers file (D.files disk.old) (D.files disk.new) }
+    ensures drawn { D.Tells → (n : ℕ) → D.drawn disk.new n ≡ D.drawn disk.old n }
+    ensures counted { IsCounted (D.fault_count disk.old) (D.fault_count disk.new) (IsErr result) }
+    ensures fuses { D.fuse_count disk.new ≡ D.fuse_count disk.old }
+{
+    match disk.write(file, at, bytes) {
+        Ok(()) => Ok(()),
+        Err(DiskFault::Failed) => Err(Failed),
+        Err(DiskFault::NoMemory) => Ok(()),
+    }
+}
+
+impl VolumeFile {
+    /// Marks the cell at `at` as deleted, and has the mark on the disk.
+    pub fn flag<D: Disk>(&mut self, disk: &mut D, at: u64) -> Result<(), Failed>
+        requires stands { D.Tells → (n : Needle) × BeginsWithNeedle (drop at (D.files disk.old self.old.file).now) n }
+        requires free { D.Tells → (D.files disk.old self.old.file).sealed (at + 28) ≡ false }
+
+        // At `Ok` the cell is deleted, and all of the file is on the disk.
+        ensures flagged { D.Tells → OnOk result ((superblock : List ℕ) (cells : List Cell) (end : ℕ) →
+            IsVolume superblock (D.files disk.old self.old.file).now cells end → HasPlace at cells →
+            IsVolume superblock (D.files disk.new self.old.file).now (with_flag at true cells) end) }
+        ensures solid { D.Tells → OnOk result (IsSolid (D.files disk.new self.old.file)) }
+
+        // Whatever a stop leaves, then or after a refusal, has the same cells, that one deleted or not.
+        ensures left { D.Tells → (superblock : List ℕ) (cells : List Cell) (end : ℕ) (image : List ℕ) →
+            IsVolume superblock (D.files disk.old self.old.file).now cells end → HasPlace at cells →
+            IsSolid (D.files disk.old self.old.file) → IsImage (D.files disk.new self.old.file) image →
+            (deleted : Bool) × IsVolume superblock image (with_flag at deleted cells) end }
+
+        // An append may follow where one could before.
+        ensures gate { D.Tells → (end : ℕ) → at + 29 ≤ end → IsGate needle_magic end (D.files disk.old self.old.file) → IsGate needle_magic end (D.files disk.new self.old.file) }
+        ensures stayed { self.new ≡ self.old }
+        ensures changes { D.Tells → Changes (at + 28) 1 (D.files disk.old self.old.file) (D.files disk.new self.old.file) }
+        ensures others { D.Tells → KeepsOthers self.old.file (D.files disk.old) (D.files disk.new) }
+        ensures drawn { D.Tells → (n : ℕ) → D.drawn disk.new n ≡ D.drawn disk.old n }
+        ensures counted { IsCounted (D.fault_count disk.old) (D.fault_count disk.new) (IsErr result) }
+        ensures fuses { D.fuse_count disk.new ≡ D.fuse_count disk.old }
+    {
+        write_over(disk, self.file, at.saturating_add(FLAGS_AT), &[1])?;
+        disk.sync(self.file)?;
+        Ok(())
+    }
+}
