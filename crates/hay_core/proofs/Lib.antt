@@ -5,6 +5,8 @@ pub mod SideLaws
 pub mod DeviceLaws
 pub mod CalmLaws
 pub mod HarmLaws
+pub mod CallLaws
+pub mod HoldLaws
 pub mod EventLaws
 pub mod ShownLaws
 pub mod LogLaws
@@ -14,3 +16,4 @@ pub mod RoomLaws
 pub mod HoldCode
 pub mod OpenCode
 pub mod RefusalLaws
+pub mod EntryLaws

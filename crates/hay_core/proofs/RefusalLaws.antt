@@ -22,7 +22,8 @@ use Rattle.hay_core.proofs.CopyNext.{copy_passed}
 use Rattle.hay_core.proofs.SideLaws.{Grows, slice_all}
 use Rattle.hay_core.proofs.CalmLaws.{changes}
 use Rattle.hay_core.proofs.HarmLaws.{SideHurt, hurt_of, hurt_again, good_of, not_deleting}
-use Rattle.hay_core.proofs.EventLaws.{AllGrow, all_map, all_both, held, no_change, freezes_good, grow_map, grow_same, seen_go_on, fits_failed, all_at, step_sure, finish_sure, calm_of, weak}
+use Rattle.hay_core.proofs.CallLaws.{AllGrow, all_map, all_both, held, no_change, freezes_good, grow_map, grow_same, seen_go_on, fits_failed, step_sure, finish_sure, calm_of}
+use Rattle.hay_core.proofs.EventLaws.{all_at, weak}
 
 -- A VOLUME THAT NOBODY HOLDS
 
