@@ -103,7 +103,8 @@ pub trait Disk: Send + Drop {
         ensures changes { Tells → Changes at (length bytes.now) (files self.old file) (files self.new file) }
         ensures others { Tells → KeepsOthers file (files self.old) (files self.new) }
 
-        // Want of memory comes only where the file would become longer.
+        // Want of memory comes only where the file would become longer, and only from a disk that tells so.
+        ensures told { IsErrOf result DiskFault.NoMemory → Tells }
         ensures no_memory { Tells → IsErrOf result DiskFault.NoMemory → (files self.new ≡ files self.old) × (length (files self.old file).now < at + length bytes.now) }
         ensures drawn { Tells → (n : ℕ) → drawn self.new n ≡ drawn self.old n }
         ensures counted { IsCounted (fault_count self.old) (fault_count self.new) (IsErrOf result DiskFault.Failed) }

@@ -1,1 +1,5 @@
 pub mod Joins
+pub mod Cuts
+pub mod Numbers
+pub mod Wording
+pub mod Back

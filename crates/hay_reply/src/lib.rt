@@ -1,15 +1,20 @@
 //! What a run answers: the reply to a command, the notes between replies, and their texts.
 //!
 //! It stands on the values of `hay_needle`, on `hay_url` and on `hex`. `specs/Replies.antt` has the one text of each reply and note; what is
-//! written is that text, and want of memory leaves what is written to as it was.
+//! written is that text, and want of memory leaves what is written to as it was. `read_reply` and `read_note` are exact: they give the value whose
+//! text it is, and none exactly where no value has the text; `specs/Fits.antt` says which values there are.
 #![tactic(auto)]
 
 mod groups;
+mod lists;
+mod read;
+mod words;
 mod write;
 
 use hay_base::Listed;
 use hay_needle::{Bytes, Cookie};
 use hay_url::Url;
+pub use read::{read_note, read_reply};
 pub use write::{header_line, note_text, numbered_line, reply_text};
 
 /// Why a try does not take a photo.

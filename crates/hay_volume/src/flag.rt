@@ -15,7 +15,7 @@ use hay_disk::{Disk, DiskFault, Failed};
 // The place of the flags in a needle.
 const FLAGS_AT: u64 = 28;
 
-// Writes over bytes that stand in the file. That takes no memory: a disk which answers so nevertheless tells nothing.
+// Writes over bytes that stand in the file.
 fn write_over<D: Disk>(disk: &mut D, file: u32, at: u64, bytes: &[u8]) -> Result<(), Failed>
     requires inside { D.Tells → at + length bytes.now ≤ length (D.files disk.old file).now }
     requires free { D.Tells → IsFreeIn at (length bytes.now) (D.files disk.old file) }
@@ -29,7 +29,7 @@ fn write_over<D: Disk>(disk: &mut D, file: u32, at: u64, bytes: &[u8]) -> Result
     match disk.write(file, at, bytes) {
         Ok(()) => Ok(()),
         Err(DiskFault::Failed) => Err(Failed),
-        Err(DiskFault::NoMemory) => Ok(()),
+        Err(DiskFault::NoMemory) => Err(Failed), // no disk wants memory for bytes that stand in the file
     }
 }
 

@@ -1,0 +1,56 @@
+//! The mode that runs a script.
+ghost use Rattle.std.specs.Prelude.{◌≡◌, map, drop, Some, None, IfOk, IsErrOf, string_bytes};
+ghost use Rattle.clap.specs.Words.{found_of, first_value};
+ghost use Rattle.hay_cli.specs.Commands as commands;
+ghost use Rattle.hay_cli.specs.Reading as reading;
+
+use crate::options::parse_options;
+use crate::values::{is_folder, number_value, secret_value, small_value};
+use crate::{CliFault, Mode};
+use clap::ArgMatches;
+use hay_needle::Settings;
+use std::alloc::Global;
+
+static RUN_NAMES: [&str; 6] = [
+    "machines", "volumes", "replicas", "capacity", "secret", "folder",
+];
+
+/// The settings, where the values are within their limits.
+fn read_settings(matches: &ArgMatches<'_>) -> Option<Settings>
+    ensures { result ≡ reading.settings_of (first_value (found_of matches.now)) }
+{
+    if !is_folder(matches.get_str("folder")) {
+        return None;
+    }
+    let machines = small_value(matches.get_str("machines"), 1, 1, 16)?;
+    let volumes = small_value(matches.get_str("volumes"), 1, 1, 64)?;
+    let replicas = small_value(matches.get_str("replicas"), 1, 1, 4)?;
+    let capacity = number_value(
+        matches.get_str("capacity"),
+        67_108_864,
+        4_096,
+        1_073_741_824,
+    )?;
+    let secret = secret_value(matches.get_str("secret"))?;
+    if replicas > machines {
+        return None;
+    }
+    Some(Settings {
+        machines,
+        volumes,
+        replicas,
+        capacity,
+        secret,
+    })
+}
+
+pub fn read_run(alloc: Global, words: &[String]) -> Result<Mode, CliFault>
+    ensures said { IfOk result (λ mode. reading.run_of (drop 1 (map string_bytes words.now)) ≡ Some mode) }
+    ensures usage { IsErrOf result CliFault.Usage → reading.run_of (drop 1 (map string_bytes words.now)) ≡ None }
+{
+    let matches = parse_options(alloc, "run", RUN_NAMES.as_slice(), words)?;
+    match read_settings(&matches) {
+        Some(settings) => Ok(Mode::Run(settings)),
+        None => Err(CliFault::Usage),
+    }
+}

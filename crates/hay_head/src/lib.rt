@@ -1,0 +1,17 @@
+//! A head file: a superblock, the rows of the generations 0, 1, .. of a replica, each with the magic `HEADROW1` and the
+//! generation in eight bytes, the highest first, and the end mark, eight bytes that are not this magic. What stands
+//! behind the end mark counts for nothing. The generation of the last row is the current one.
+//! It stands on `hay_needle` and `hay_disk`.
+//!
+//! A switch adds the row of the next generation, and whatever a stop leaves names the old generation or the new one.
+//! Reading answers by the bytes: the generation exactly where the file is such a head, and else the first place that is
+//! damaged. Beside it stand two calls that read a superblock and one row of any such file of rows.
+#![tactic(auto)]
+
+mod fault;
+mod head;
+mod rows;
+
+pub use fault::HeadFault;
+pub use head::Head;
+pub use rows::{Slot, read_front, read_slot};

@@ -1,0 +1,87 @@
+//! Reading the parts of a file of rows.
+
+ghost use Rattle.std.specs.Prelude.{◌≡◌, ◌≢◌, ◌⊎◌, ◌≤◌, ◌<◌, ◌+◌, ℕ, length, take, drop, Ok, IsErr, IfOk, IfSome, IfNone, IsNone};
+ghost use Rattle.std.specs.Bool.{OnTrue, OnFalse};
+ghost use Rattle.hay_disk.specs.Counts.{IsCounted};
+ghost use Rattle.hay_disk.specs.Disk.{KeepsOthers};
+ghost use Rattle.hay_disk.specs.Gate.{IsClosed, Stands, magic_bytes};
+ghost use Rattle.hay_needle.specs.Super.{super_bytes};
+ghost use Rattle.hay_head.specs.Rows.{IsSuperFaultAt, IsCutAt};
+
+use hay_disk::{Disk, Failed};
+use hay_needle::{SUPER_LEN, Super, read_super, u64_at};
+
+/// What stands where a row or the end mark is due.
+#[derive(Clone, Copy, Debug, PartialEq, Eq)]
+pub enum Slot {
+    /// A row's magic, and as many bytes as a row has.
+    Row,
+    /// Eight bytes that are not the magic.
+    Mark,
+    /// Neither: the file ends too early.
+    Broken,
+}
+
+/// Compares the front of a file with the superblock that is wanted, and answers the place of the first fault, if any.
+pub fn read_front<D: Disk>(disk: &mut D, file: u32, sup: &Super) -> Result<Option<u64>, Failed>
+    ensures stands { D.Tells → IfOk result (λ fault. IfNone fault (take 64 (D.files disk.old file).now ≡ super_bytes sup.now)) }
+    ensures fault { D.Tells → IfOk result (λ fault. IfSome fault (λ at. IsSuperFaultAt sup.now (D.files disk.old file).now at)) }
+    ensures only { D.Tells → take 64 (D.files disk.old file).now ≡ super_bytes sup.now → IfOk result (λ fault. IsNone fault) }
+    ensures same { D.Tells → D.files disk.new ≡ D.files disk.old }
+    ensures drawn { D.Tells → D.drawn disk.new file ≤ D.drawn disk.old file + 64 }
+    ensures drawn_others { D.Tells → KeepsOthers file (D.drawn disk.old) (D.drawn disk.new) }
+    ensures counted { IsCounted (D.fault_count disk.old) (D.fault_count disk.new) (IsErr result) }
+    ensures fuses { D.fuse_count disk.new ≡ D.fuse_count disk.old }
+{
+    let mut bytes = [0; SUPER_LEN];
+    let got = disk.read_into(file, 0, &mut bytes)?;
+    match read_super(&bytes[..got], sup) {
+        Ok(()) => Ok(None),
+        Err(fault) => Ok(Some(fault.place())),
+    }
+}
+
+/// Reads what stands at `at`, where a row with this magic or the end mark is due. A row is as long as `out`, which then
+/// has it.
+pub fn read_slot<D: Disk>(
+    disk: &mut D,
+    file: u32,
+    at: u64,
+    magic: u64,
+    out: &mut [u8],
+) -> Result<Slot, Failed>
+    requires { 8 ≤ length out.old }
+    ensures row { D.Tells → result ≡ Ok Slot.Row → Stands at out.new (D.files disk.old file).now }
+    ensures magic { result ≡ Ok Slot.Row → take 8 out.new ≡ magic_bytes magic }
+    ensures mark { D.Tells → result ≡ Ok Slot.Mark → IsClosed magic at (D.files disk.old file).now }
+    ensures broken { D.Tells → result ≡ Ok Slot.Broken → IsCutAt magic (length out.old) at (D.files disk.old file).now }
+    ensures same { D.Tells → D.files disk.new ≡ D.files disk.old }
+    ensures drawn { D.Tells → D.drawn disk.new file ≤ D.drawn disk.old file + length out.old }
+    ensures drawn_others { D.Tells → KeepsOthers file (D.drawn disk.old) (D.drawn disk.new) }
+    ensures counted { IsCounted (D.fault_count disk.old) (D.fault_count disk.new) (IsErr result) }
+    ensures fuses { D.fuse_count disk.new ≡ D.fuse_count disk.old }
+{
+    let got = disk.read_into(file, at, out)?;
+    if got < 8 {
+        return Ok(Slot::Broken);
+    }
+    if !has_number(out, 0, magic) {
+        return Ok(Slot::Mark);
+    }
+    if got < out.len() {
+        return Ok(Slot::Broken);
+    }
+    Ok(Slot::Row)
+}
+
+// Whether the eight bytes from `at` on are this number, the highest first.
+pub(crate) fn has_number(bytes: &[u8], at: usize, number: u64) -> bool
+    requires { at + 8 ≤ length bytes.now }
+    ensures is { OnTrue result (take 8 (drop at bytes.now) ≡ magic_bytes number) }
+    ensures only { OnFalse result (take 8 (drop at bytes.now) ≢ magic_bytes number) }
+{
+    if u64_at(bytes, at) != number {
+        return false;
+    }
+    true
+}

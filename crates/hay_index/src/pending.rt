@@ -1,0 +1,84 @@
+//! The records that no block has yet.
+
+ghost use Rattle.std.specs.Prelude.{◌≡◌, ◌↔◌, ◌++◌, ◌∷◌, ◌<◌, [], length, IsTrue, OnOk, OnErr};
+ghost use Rattle.hay_index.specs.declared.record.Record.{Record};
+
+use crate::record::Record;
+use hay_base::NoMemory;
+use std::alloc::Global;
+use std::marker::Model;
+
+/// Records in order, which a clause sees as a list.
+#[derive(Debug, Drop)]
+pub struct Pending {
+    records: Vec<Record>,
+}
+
+impl Model for Pending {
+    ghost use Rattle.std.specs.Prelude.{List};
+    ghost use Rattle.hay_index.specs.declared.record.Record.{Record};
+
+    ghost Value = { List Record };
+
+    ghost view = { λ pending. pending.records.items };
+}
+
+impl Pending {
+    /// No records.
+    pub fn new(alloc: Global) -> Pending
+        ensures { result ≡ [] }
+    {
+        Pending {
+            records: Vec::new(alloc),
+        }
+    }
+
+    /// The records in order.
+    pub fn as_slice(&self) -> &[Record]
+        ensures { result.now ≡ self.now }
+    {
+        self.records.as_slice()
+    }
+
+    /// How many there are.
+    pub fn len(&self) -> usize
+        ensures { result ≡ length self.now }
+    {
+        self.records.len()
+    }
+
+    /// Whether there is none.
+    pub fn is_empty(&self) -> bool
+        ensures { IsTrue result ↔ (self.now ≡ []) }
+    {
+        self.records.is_empty()
+    }
+
+    /// Adds a record at the end. `NoMemory` changes nothing.
+    pub(crate) fn push(&mut self, row: Record) -> Result<(), NoMemory>
+        ensures ok { OnOk result (self.new ≡ self.old ++ row ∷ []) }
+        ensures err { OnErr result (self.new ≡ self.old) }
+    {
+        self.records.push(row)?;
+        Ok(())
+    }
+
+    /// Takes the last record away.
+    pub(crate) fn pop(&mut self)
+        requires { 0 < length self.old }
+        ensures { (row : Record) × (self.old ≡ self.new ++ row ∷ []) }
+    {
+        self.records.pop();
+    }
+
+    /// Takes all records away.
+    pub(crate) fn clear(&mut self)
+        ensures { self.new ≡ [] }
+    {
+        self.records.clear();
+    }
+
+    pub(crate) fn allocator(&self) -> Global {
+        *self.records.allocator()
+    }
+}
