@@ -1,7 +1,11 @@
-pub mod CellLog
-pub mod CellReads
+pub mod Cells
+pub mod Changes
 pub mod Closing
 pub mod LegalRows
+pub mod Openings
 pub mod PlaceSteps
 pub mod Refusals
+pub mod Reopening
+pub mod Rows
+pub mod Spots
 pub mod Standing

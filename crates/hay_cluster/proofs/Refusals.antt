@@ -26,3 +26,11 @@ full_said fault capacity end need said_end said_need said_capacity is full room 
       | inl lacks ↦ let e = full lacks in record { lacks = lacks; end_is = cc; need_is = cc }
       | inr fits ↦ elim (room fits) [ inl failed ↦ absurd cc | inr wanting ↦ absurd cc ]
     ]
+
+-- where it answers that the disk failed, there was room
+pub fits_failed : (fault : VolumeFault) (capacity room end need : ℕ) → fault ≡ VolumeFault.Failed → room ≡ capacity → (room < end + need + 8 → (let answer : Result ℕ VolumeFault = Err fault in answer) ≡ Err (VolumeFault.Full end need room)) → end + need + 8 ≤ capacity
+fits_failed fault capacity room end need is same full =
+    elim (cases_lt room (end + need + 8)) [
+      | inl lacks ↦ let e = full lacks in absurd cc
+      | inr fits ↦ omega arith
+    ]

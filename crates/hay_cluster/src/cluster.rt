@@ -1,56 +1,36 @@
 //! One volume on one disk, and what a command is answered.
-ghost use Rattle.std.specs.Prelude.{◌≡◌, ◌≢◌, ◌⊎◌, ◌≤◌, ◌+◌, ℕ, [], ◌∷◌, true, false, length, take, drop, vec_len, IfOk, OnOk, OnErr, IfErr, IsErrOf};
-ghost use Rattle.hay_needle.specs.Needle.{needle_magic};
+ghost use Rattle.std.specs.Prelude.{◌≡◌, ◌≢◌, ◌⊎◌, ◌≤◌, ℕ, List, Bool, Some, [], true, false, length, Err, IfOk, OnOk, OnErr, IfErr};
 ghost use Rattle.hay_disk.specs.Counts.{Rose};
-ghost use Rattle.hay_disk.specs.Disk.{KeepsOthers, IsFree, IsSolid};
-ghost use Rattle.hay_disk.specs.Gate.{IsGate};
+ghost use Rattle.hay_disk.specs.Disk.{KeepsOthers, MayLeave};
 ghost use Rattle.hay_script.specs.Script.{IsWithin};
 ghost use Rattle.hay_legal.specs.declared.known.Known.{Known};
+ghost use Rattle.hay_legal.specs.Restarts.{IsRestarted, Reopens};
 ghost use Rattle.hay_legal.specs.Stands.{StandsOn};
+ghost use Rattle.hay_legal.specs.Statuses.{IsOpened};
+ghost use Rattle.hay_cluster.specs.declared.spot.Spot.TheVariants.{Live};
+ghost use Rattle.hay_cluster.specs.Causes.{HasCause};
+ghost use Rattle.hay_cluster.specs.Contents.{IsNotWhole, IsOpeningDamage, IsReplica, IsRows};
+ghost use Rattle.hay_cluster.specs.Notes.{keeps, notes_by};
 ghost use Rattle.hay_cluster.specs.Outside.{Aside, aside_of, outside_of};
-ghost use Rattle.hay_cluster.specs.Contents.{HasVolume, IsReplica, IsRows};
-ghost use Rattle.hay_cluster.specs.State.{IsAlone, Stands, Answered, OpenedFresh};
+ghost use Rattle.hay_cluster.specs.PairPlaces.{place_at};
+ghost use Rattle.hay_cluster.specs.State.{IsAlone, IsUp, Stands, Holds, Answered};
 
+use crate::fault::ClusterFault;
+use crate::mode::{Change, Mode, Unsure};
+use crate::opening::{Opened, SLOT, find_volume, open_disk};
 use crate::places::Places;
-use hay_base::Listed;
+use crate::replies::{full, read_only, shown, unreadable};
+use crate::spot::Spot;
+use hay_base::{Listed, NoMemory};
 use hay_core::CoreTag;
-use hay_disk::{Disk, DiskFault, Failed, Shelf, ShelfFault};
-use hay_needle::{Bytes, CellHead, Cookie, FileKind, HEAD_LEN, Pair, Settings, Super};
-use hay_reply::{Refused, Reply};
+use hay_disk::{Disk, Failed, Shelf, ShelfFault};
+use hay_needle::{Cookie, Pair, Settings};
+use hay_reply::{Cause, Note, Reply};
 use hay_script::Command;
 use hay_url::cookie_of;
 use hay_volume::{CellFault, VolumeFault, VolumeFile};
 use std::alloc::Global;
 use std::marker::Model;
-
-/// The slot of the only replica's disk.
-const SLOT: u32 = 1;
-
-/// The number of the volume file on its disk.
-const VOLUME_FILE: u32 = 1;
-
-/// Why a store was not opened.
-#[derive(Clone, Copy, Debug, PartialEq, Eq)]
-pub enum ClusterFault {
-    /// The shelf failed, and its count of faults rose to this.
-    Shelf { faults: u64 },
-    /// The disk in this slot failed, and its count of faults rose to this.
-    Failed { slot: u32, faults: u64 },
-    /// The disk in this slot is not void.
-    Used { slot: u32 },
-    /// Memory was wanting.
-    NoMemory,
-}
-
-/// Why a command got no answer.
-#[derive(Clone, Copy, Debug, PartialEq, Eq)]
-pub enum Halted {
-    /// The disk failed, and its count of faults rose.
-    Failed,
-    /// The disk gave bytes that are no needle, or an earlier change of it failed, so that what it holds is not known.
-    /// Neither comes where the disk tells what it holds and no change of it has failed.
-    Damaged,
-}
 
 /// An open store.
 #[derive(Drop)]
@@ -58,11 +38,10 @@ pub struct Cluster<D: Disk> {
     settings: Settings,
     disk: D,
     volume: VolumeFile,
-    /// How many cells the volume file has.
-    cells: u64,
+    /// How many changes were acknowledged since the opening.
+    front: u64,
     places: Places,
-    /// Whether a change of the volume file failed. What stands at the file's end is not known then.
-    failed: bool,
+    mode: Mode,
 }
 
 impl<D: Disk> Model for Cluster<D> {
@@ -74,24 +53,24 @@ impl<D: Disk> Model for Cluster<D> {
       settings = c.settings;
       disk = c.disk;
       volume = c.volume;
-      cells = c.cells;
+      front = c.front;
       places = c.places;
-      failed = c.failed;
+      mode = c.mode;
     } };
 
     ghost invariant = { λ c. IsSound D.Tells D.files (record {
       settings = c.settings;
       disk = c.disk;
       volume = c.volume;
-      cells = c.cells;
+      front = c.front;
       places = c.places;
-      failed = c.failed;
+      mode = c.mode;
     }) };
 }
 
 impl<D: Disk> Cluster<D> {
-    /// Opens a store on the disk in slot 1, which must be void, and formats the disk. A disk that was taken is given
-    /// back on a refusal.
+    /// Opens a store on the disk in slot 1: a void disk is formatted, and any other must have a volume file of these
+    /// settings. A disk that was taken is given back on a refusal.
     pub fn open<H: Shelf<Disk = D>>(
         alloc: Global,
         settings: Settings,
@@ -99,15 +78,19 @@ impl<D: Disk> Cluster<D> {
     ) -> Result<Cluster<D>, ClusterFault>
         requires alone { IsAlone settings }
         requires in_place { (H.disks shelf.old 1).is_out ≡ false }
-        ensures void { D.Tells → OnOk result (((H.disks shelf.old 1).files 1).now ≡ []) }
-        ensures opened { D.Tells → IfOk result (λ store.
-            OpenedFresh D.files D.fault_count D.fuse_count (aside_of (H.disks shelf.old) (H.arms shelf.old)) store) }
+        ensures opened { D.Tells → IfOk result (λ store. (k : Known)
+            × IsOpened (IsReplica settings) (IsRows settings) settings (outside_of (H.disks shelf.old) (H.arms shelf.old)) k
+            × Stands D.files D.fault_count D.fuse_count (aside_of (H.disks shelf.old) (H.arms shelf.old)) store k) }
         ensures settings { IfOk result (λ store. store.settings ≡ settings) }
+        ensures up { IfOk result IsUp }
         ensures counts { IfOk result (λ store. ((H.disks shelf.old 1).fault_count ≤ D.fault_count store.disk)
             × (D.fuse_count store.disk ≡ (H.disks shelf.old 1).fuse_count)) }
         ensures out { OnOk result ((H.disks shelf.new 1).is_out ≡ true) }
 
         // What a refusal leaves, and its cause.
+        ensures kept { D.Tells → OnErr result ((((H.disks shelf.old 1).files 1).now ≡ [])
+            ⊎ ((H.disks shelf.new 1).files ≡ (H.disks shelf.old 1).files)
+            ⊎ ((image : ℕ → List ℕ) → MayLeave (H.disks shelf.new 1).files image → (n : ℕ) → image n ≡ ((H.disks shelf.old 1).files n).now)) }
         ensures back { OnErr result ((H.disks shelf.new 1).is_out ≡ false) }
         ensures back_counts { OnErr result (((H.disks shelf.old 1).fault_count ≤ (H.disks shelf.new 1).fault_count)
             × ((H.disks shelf.new 1).fuse_count ≡ (H.disks shelf.old 1).fuse_count)) }
@@ -115,8 +98,10 @@ impl<D: Disk> Cluster<D> {
             Rose (H.fault_count shelf.old) (H.fault_count shelf.new) × (faults ≡ H.fault_count shelf.new)) }
         ensures failed { IfErr result (λ fault. (slot faults : ℕ) → fault ≡ ClusterFault.Failed slot faults → (slot ≡ 1)
             × Rose (H.disks shelf.old 1).fault_count (H.disks shelf.new 1).fault_count × (faults ≡ (H.disks shelf.new 1).fault_count)) }
-        ensures used { D.Tells → IfErr result (λ fault. (slot : ℕ) → fault ≡ ClusterFault.Used slot →
-            (slot ≡ 1) × (((H.disks shelf.old 1).files 1).now ≢ [])) }
+        ensures damaged { D.Tells → (slot file at : ℕ) → result ≡ Err (ClusterFault.Damaged slot file at) →
+            (slot ≡ 1) × (file ≡ 1) × IsOpeningDamage settings ((H.disks shelf.old 1).files 1).now at }
+        ensures not_whole { D.Tells → (slot file at : ℕ) → result ≡ Err (ClusterFault.Damaged slot file at) →
+            IsNotWhole settings ((H.disks shelf.old 1).files 1).now }
 
         ensures others { KeepsOthers 1 (H.disks shelf.old) (H.disks shelf.new) }
         ensures lanes { H.arms shelf.new ≡ H.arms shelf.old }
@@ -131,14 +116,14 @@ impl<D: Disk> Cluster<D> {
             }
             Err(ShelfFault::NoMemory) => return Err(ClusterFault::NoMemory),
         };
-        match format_void(&mut disk, &settings) {
-            Ok(volume) => Ok(Cluster {
+        match open_disk(alloc, &mut disk, &settings) {
+            Ok(Opened { volume, places }) => Ok(Cluster {
                 settings,
                 disk,
                 volume,
-                cells: 0,
-                places: Places::new(alloc),
-                failed: false,
+                front: 0,
+                places,
+                mode: Mode::Up,
             }),
             Err(fault) => {
                 shelf.give_disk(SLOT, disk);
@@ -147,109 +132,302 @@ impl<D: Disk> Cluster<D> {
         }
     }
 
-    /// Answers a command of this lane and line. Puts and reads are built, and each other command is answered `Unbuilt`.
-    /// Behind a put that failed every answer is `Halted::Damaged`.
-    #[tactic(auto, unfolding(crate::specs::State::Stands))]
-    pub fn answer(
-        &mut self,
-        alloc: Global,
-        tag: CoreTag,
-        command: &Command,
-    ) -> Result<Reply, Halted>
-        requires { IsWithin command.now }
+    /// Answers a command of this lane and line. Puts, reads, deletes and fuses are built, and each other command is
+    /// answered `Unbuilt`.
+    pub fn answer(&mut self, alloc: Global, tag: CoreTag, command: &Command) -> Reply
+        requires within { IsWithin command.now }
+        requires no_restart { (pick : ℕ) → command.now ≢ Command.Restart pick }
+        requires up { IsUp self.old }
         ensures legal { D.Tells → (aside : Aside) (k : Known) →
             Stands D.files D.fault_count D.fuse_count aside self.old k →
-            IfOk result (λ reply. Answered D.files D.fault_count D.fuse_count aside k tag command.now reply self.new) }
-        ensures failed { IsErrOf result Halted.Failed → Rose (D.fault_count self.old.disk) (D.fault_count self.new.disk) }
-        ensures damaged { D.Tells → (aside : Aside) (k : Known) →
-            Stands D.files D.fault_count D.fuse_count aside self.old k → IsErrOf result Halted.Damaged → ⊥ }
-        ensures counts { (D.fault_count self.old.disk ≤ D.fault_count self.new.disk)
-            × (D.fuse_count self.new.disk ≡ D.fuse_count self.old.disk) }
+            Answered D.files D.fault_count D.fuse_count aside k tag command.now result self.new }
+        // A reply tells of a failure of the disk only where its count rose in this call.
+        ensures causes { HasCause (D.fault_count self.old.disk) (D.fault_count self.new.disk) result }
+        ensures counts { D.fault_count self.old.disk ≤ D.fault_count self.new.disk }
         ensures settings { self.new.settings ≡ self.old.settings }
+        ensures up { IsUp self.new }
     {
-        if self.failed {
-            return Err(Halted::Damaged);
-        }
         match command {
-            Command::Put { pair, photo } => self.put(alloc, *pair, photo.as_slice()),
+            Command::Put { pair, photo } => self.put(alloc, tag, *pair, photo.as_slice()),
             Command::Read { pair, cookie } => self.read(alloc, *pair, *cookie),
-            _ => Ok(Reply::Unbuilt),
+            Command::Del { pair } => self.delete(alloc, tag, *pair),
+            Command::Fuse {
+                volume,
+                machine,
+                calls,
+            } => self.fuse(*volume, *machine, *calls),
+            _ => Reply::Unbuilt,
         }
     }
 
-    // Stores a photo. Its place is kept in memory before the disk is called, and is taken away where it was refused.
-    fn put(&mut self, alloc: Global, pair: Pair, bytes: &[u8]) -> Result<Reply, Halted>
+    // Whether a change failed.
+    fn is_frozen(&self) -> bool
+        ensures frozen { result ≡ false → self.now.mode ≢ Mode.Down → self.now.mode ≡ Mode.Up }
+        ensures up { result ≡ true → self.now.mode ≢ Mode.Up }
+        ensures alone { IsAlone self.now.settings }
+    {
+        self.mode != Mode::Up
+    }
+
+    // Stores a photo, if the volume takes one.
+    fn put(&mut self, alloc: Global, tag: CoreTag, pair: Pair, bytes: &[u8]) -> Reply
         requires size { length bytes.now ≤ 1048576 }
-        requires intact { self.old.failed ≡ false }
-        ensures legal { D.Tells → (aside : Aside) (k : Known) (tag : CoreTag) →
+        requires up { IsUp self.old }
+        ensures legal { D.Tells → (aside : Aside) (k : Known) →
             Stands D.files D.fault_count D.fuse_count aside self.old k →
-            IfOk result (λ reply. Answered D.files D.fault_count D.fuse_count aside k tag (Command.Put pair bytes.now) reply self.new) }
-        ensures failed { IsErrOf result Halted.Failed → Rose (D.fault_count self.old.disk) (D.fault_count self.new.disk) }
-        ensures damaged { IsErrOf result Halted.Damaged → ⊥ }
-        ensures counts { (D.fault_count self.old.disk ≤ D.fault_count self.new.disk)
-            × (D.fuse_count self.new.disk ≡ D.fuse_count self.old.disk) }
+            Answered D.files D.fault_count D.fuse_count aside k tag (Command.Put pair bytes.now) result self.new }
+        ensures causes { HasCause (D.fault_count self.old.disk) (D.fault_count self.new.disk) result }
+        ensures counts { D.fault_count self.old.disk ≤ D.fault_count self.new.disk }
         ensures settings { self.new.settings ≡ self.old.settings }
+        ensures up { IsUp self.new }
+    {
+        if self.is_frozen() {
+            return read_only(alloc);
+        }
+        self.store(alloc, tag, pair, bytes)
+    }
+
+    // Stores a photo. Its place is kept in memory before the disk is called, and is taken away where it was refused.
+    fn store(&mut self, alloc: Global, tag: CoreTag, pair: Pair, bytes: &[u8]) -> Reply
+        requires size { length bytes.now ≤ 1048576 }
+        requires up { self.old.mode ≡ Mode.Up }
+        ensures legal { D.Tells → (aside : Aside) (k : Known) →
+            Stands D.files D.fault_count D.fuse_count aside self.old k →
+            Answered D.files D.fault_count D.fuse_count aside k tag (Command.Put pair bytes.now) result self.new }
+        ensures causes { HasCause (D.fault_count self.old.disk) (D.fault_count self.new.disk) result }
+        ensures counts { D.fault_count self.old.disk ≤ D.fault_count self.new.disk }
+        ensures settings { self.new.settings ≡ self.old.settings }
+        ensures up { IsUp self.new }
     {
         let cookie = cookie_of(&self.settings.secret, pair.key);
-        let Ok(before) = self.places.insert(pair, self.volume.end) else {
-            return Ok(Reply::NoMem);
+        let Some(position) = self.front.checked_add(1) else {
+            return Reply::NoMem;
+        };
+        let Ok(before) = self.places.insert(pair, Spot::Live(self.volume.end)) else {
+            return Reply::NoMem;
         };
         let disk = &mut self.disk;
         match self.volume.append(alloc, disk, pair, cookie, bytes) {
             Ok(_) => {
-                self.cells += 1;
-                Ok(Reply::Stored {
+                self.front = position;
+                Reply::Stored {
                     volume: 0,
-                    position: self.cells,
+                    position,
                     rows: self.places.len() as u64,
                     cookie,
-                })
+                }
             }
             Err(VolumeFault::Full { end, need, .. }) => {
-                self.places.restore(pair, before);
-                Ok(full(alloc, end, need))
+                self.places.change(pair, before);
+                full(alloc, end, need)
             }
             Err(VolumeFault::NoMemory) => {
-                self.places.restore(pair, before);
-                Ok(Reply::NoMem)
+                self.places.change(pair, before);
+                Reply::NoMem
             }
             Err(VolumeFault::Failed) => {
-                self.failed = true;
-                Err(Halted::Failed)
+                self.places.change(pair, Some(before.unwrap_or(Spot::Gone)));
+                self.mode = frozen(tag, pair, Change::Put);
+                failed(&self.disk)
             }
         }
     }
 
     // Shows the photo of a pair to who has its cookie.
-    fn read(&mut self, alloc: Global, pair: Pair, cookie: Cookie) -> Result<Reply, Halted>
+    fn read(&mut self, alloc: Global, pair: Pair, cookie: Cookie) -> Reply
+        requires up { IsUp self.old }
         ensures legal { D.Tells → (aside : Aside) (k : Known) (tag : CoreTag) →
             Stands D.files D.fault_count D.fuse_count aside self.old k →
-            IfOk result (λ reply. Answered D.files D.fault_count D.fuse_count aside k tag (Command.Read pair cookie) reply self.new) }
-        ensures failed { IsErrOf result Halted.Failed → Rose (D.fault_count self.old.disk) (D.fault_count self.new.disk) }
+            Answered D.files D.fault_count D.fuse_count aside k tag (Command.Read pair cookie) result self.new }
+        ensures causes { HasCause (D.fault_count self.old.disk) (D.fault_count self.new.disk) result }
+        ensures counts { D.fault_count self.old.disk ≤ D.fault_count self.new.disk }
+        ensures settings { self.new.settings ≡ self.old.settings }
+        ensures up { IsUp self.new }
+    {
+        match self.places.get(pair) {
+            None => Reply::Unknown { rows: self.rows() },
+            Some(Spot::Gone) => Reply::Gone {
+                volume: 0,
+                machine: 0,
+                front: self.front,
+                rows: self.rows(),
+            },
+            Some(Spot::Live(at)) => self.show(alloc, pair, at, cookie),
+        }
+    }
+
+    // Shows the photo of a pair, whose last cell stands at this place.
+    fn show(&mut self, alloc: Global, pair: Pair, at: u64, cookie: Cookie) -> Reply
+        requires up { IsUp self.old }
+        requires place { place_at self.old.places pair ≡ Some (Live at) }
+        ensures legal { D.Tells → (aside : Aside) (k : Known) (tag : CoreTag) →
+            Stands D.files D.fault_count D.fuse_count aside self.old k →
+            Answered D.files D.fault_count D.fuse_count aside k tag (Command.Read pair cookie) result self.new }
+        ensures causes { HasCause (D.fault_count self.old.disk) (D.fault_count self.new.disk) result }
+        ensures counts { D.fault_count self.old.disk ≤ D.fault_count self.new.disk }
+        ensures settings { self.new.settings ≡ self.old.settings }
+        ensures up { IsUp self.new }
+    {
+        let rows = self.places.len() as u64;
+        let mut needle = Vec::new(alloc);
+        match self.volume.cell_at(&mut self.disk, at, &mut needle) {
+            Ok(head) => shown(&head, needle, cookie, self.front, rows),
+            Err(CellFault::NoMemory) => Reply::NoMem,
+            Err(CellFault::Damaged { at }) => {
+                unreadable(alloc, self.front, rows, Cause::Damage { at })
+            }
+            Err(CellFault::Failed) => {
+                let faults = self.disk.faults();
+                unreadable(alloc, self.front, rows, Cause::Disk { faults })
+            }
+        }
+    }
+
+    // Deletes the photo of a pair, if the volume takes a change.
+    fn delete(&mut self, alloc: Global, tag: CoreTag, pair: Pair) -> Reply
+        requires up { IsUp self.old }
+        ensures legal { D.Tells → (aside : Aside) (k : Known) →
+            Stands D.files D.fault_count D.fuse_count aside self.old k →
+            Answered D.files D.fault_count D.fuse_count aside k tag (Command.Del pair) result self.new }
+        ensures causes { HasCause (D.fault_count self.old.disk) (D.fault_count self.new.disk) result }
+        ensures counts { D.fault_count self.old.disk ≤ D.fault_count self.new.disk }
+        ensures settings { self.new.settings ≡ self.old.settings }
+        ensures up { IsUp self.new }
+    {
+        let rows = self.places.len() as u64;
+        let Some(spot) = self.places.get(pair) else {
+            return Reply::Unknown { rows };
+        };
+        if self.is_frozen() {
+            return read_only(alloc);
+        }
+        match spot {
+            Spot::Live(at) => self.flag(tag, pair, at),
+            Spot::Gone => Reply::Absent {
+                volume: 0,
+                front: self.front,
+                rows,
+            },
+        }
+    }
+
+    // Deletes the photo of a pair, whose last cell stands at this place.
+    fn flag(&mut self, tag: CoreTag, pair: Pair, at: u64) -> Reply
+        requires up { self.old.mode ≡ Mode.Up }
+        requires place { place_at self.old.places pair ≡ Some (Live at) }
+        ensures legal { D.Tells → (aside : Aside) (k : Known) →
+            Stands D.files D.fault_count D.fuse_count aside self.old k →
+            Answered D.files D.fault_count D.fuse_count aside k tag (Command.Del pair) result self.new }
+        ensures causes { HasCause (D.fault_count self.old.disk) (D.fault_count self.new.disk) result }
+        ensures counts { D.fault_count self.old.disk ≤ D.fault_count self.new.disk }
+        ensures settings { self.new.settings ≡ self.old.settings }
+        ensures up { IsUp self.new }
+    {
+        let Some(position) = self.front.checked_add(1) else {
+            return Reply::NoMem;
+        };
+        match self.volume.flag(&mut self.disk, at) {
+            Ok(()) => {
+                self.places.change(pair, Some(Spot::Gone));
+                self.front = position;
+                Reply::Deleted {
+                    volume: 0,
+                    position,
+                    rows: self.places.len() as u64,
+                }
+            }
+            Err(Failed) => {
+                self.mode = frozen(tag, pair, Change::Delete);
+                failed(&self.disk)
+            }
+        }
+    }
+
+    // Whether there is a replica of this volume on this machine.
+    fn has_replica(&self, volume: u32, machine: u32) -> bool
+        ensures there { result ≡ true → (volume ≡ 0) × (machine ≡ 0) }
+        ensures not_there { result ≡ false → volume ≡ 0 → machine ≡ 0 → ⊥ }
+        ensures alone { IsAlone self.now.settings }
+    {
+        volume < self.settings.volumes && machine < self.settings.machines
+    }
+
+    // Sets a fuse on the disk of the only replica.
+    fn fuse(&mut self, volume: u32, machine: u32, calls: u32) -> Reply
+        requires up { IsUp self.old }
+        ensures legal { D.Tells → (aside : Aside) (k : Known) (tag : CoreTag) →
+            Stands D.files D.fault_count D.fuse_count aside self.old k →
+            Answered D.files D.fault_count D.fuse_count aside k tag (Command.Fuse volume machine calls) result self.new }
+        ensures causes { HasCause (D.fault_count self.old.disk) (D.fault_count self.new.disk) result }
+        ensures counts { D.fault_count self.old.disk ≤ D.fault_count self.new.disk }
+        ensures settings { self.new.settings ≡ self.old.settings }
+        ensures up { IsUp self.new }
+    {
+        if !self.has_replica(volume, machine) {
+            return Reply::Nowhere;
+        }
+        self.disk.fuse(u64::from(calls));
+        Reply::Fused {
+            volume,
+            machine,
+            calls,
+        }
+    }
+
+    /// How many rows there are.
+    pub fn rows(&self) -> u64
+        ensures count { result ≡ length self.now.places }
+        ensures known { D.Tells → (aside : Aside) (k : Known) →
+            Stands D.files D.fault_count D.fuse_count aside self.now k → result ≡ length k.directory.rows }
+    {
+        self.places.len() as u64
+    }
+
+    /// Cuts the disk's power, and opens what is left; `pick` chooses what that is. The answer tells what became of a
+    /// change that had failed. A refusal leaves a store that is down, and that can only be closed.
+    pub fn restart(&mut self, alloc: Global, pick: u64) -> Result<Listed<Note>, ClusterFault>
+        requires up { IsUp self.old }
+        ensures reopened { D.Tells → (aside : Aside) (k : Known) →
+            Stands D.files D.fault_count D.fuse_count aside self.old k → IfOk result (λ notes. (t : Known)
+            × IsRestarted self.new.settings k (length self.new.places) notes t
+            × Stands D.files D.fault_count D.fuse_count aside self.new t) }
+        ensures up { OnOk result (IsUp self.new) }
+
+        // What a refusal leaves, and its cause.
+        ensures left { D.Tells → (aside : Aside) (k : Known) →
+            Stands D.files D.fault_count D.fuse_count aside self.old k → OnErr result ((t : Known) × (kept : List (List Bool)) × (row : Bool)
+            × Reopens self.new.settings k kept row t × Holds D.files D.fault_count D.fuse_count aside self.new t) }
+        ensures failed { IfErr result (λ fault. (slot faults : ℕ) → fault ≡ ClusterFault.Failed slot faults → (slot ≡ 1)
+            × Rose (D.fault_count self.old.disk) (D.fault_count self.new.disk) × (faults ≡ D.fault_count self.new.disk)) }
         ensures damaged { D.Tells → (aside : Aside) (k : Known) →
-            Stands D.files D.fault_count D.fuse_count aside self.old k → IsErrOf result Halted.Damaged → ⊥ }
+            Stands D.files D.fault_count D.fuse_count aside self.old k →
+            (slot file at : ℕ) → result ≡ Err (ClusterFault.Damaged slot file at) → ⊥ }
+        ensures not_shelf { (faults : ℕ) → result ≡ Err (ClusterFault.Shelf faults) → ⊥ }
+
         ensures counts { (D.fault_count self.old.disk ≤ D.fault_count self.new.disk)
             × (D.fuse_count self.new.disk ≡ D.fuse_count self.old.disk) }
         ensures settings { self.new.settings ≡ self.old.settings }
     {
-        let rows = self.places.len() as u64;
-        let Some(at) = self.places.get(pair) else {
-            return Ok(Reply::Unknown { rows });
+        let before = self.mode;
+        let end = self.volume.end;
+        self.mode = Mode::Down;
+        self.disk.power_cycle(pick);
+        let Opened { volume, places } = find_volume(alloc, &mut self.disk, &self.settings)?;
+        let Ok(notes) = notes_of(alloc, before, end, &places) else {
+            return Err(ClusterFault::NoMemory);
         };
-        let mut needle = Vec::new(alloc);
-        match self.volume.cell_at(&mut self.disk, at, &mut needle) {
-            Ok(head) => Ok(shown(&head, needle, cookie, self.cells, rows)),
-            Err(CellFault::NoMemory) => Ok(Reply::NoMem),
-            Err(CellFault::Damaged { .. }) => Err(Halted::Damaged),
-            Err(CellFault::Failed) => Err(Halted::Failed),
-        }
+        self.volume = volume;
+        self.front = 0;
+        self.places = places;
+        self.mode = Mode::Up;
+        Ok(notes)
     }
 
     /// Gives the disk back, with all that was stored wholly on it.
     pub fn close<H: Shelf<Disk = D>>(self, shelf: &mut H)
         requires out { (H.disks shelf.old 1).is_out ≡ true }
         ensures stands { D.Tells → (k : Known) →
-            Stands D.files D.fault_count D.fuse_count (aside_of (H.disks shelf.old) (H.arms shelf.old)) self k →
+            Holds D.files D.fault_count D.fuse_count (aside_of (H.disks shelf.old) (H.arms shelf.old)) self k →
             StandsOn (IsReplica self.settings) (IsRows self.settings) self.settings k (outside_of (H.disks shelf.new) (H.arms shelf.new)) }
         ensures counts { ((H.disks shelf.new 1).fault_count ≡ D.fault_count self.disk)
             × ((H.disks shelf.new 1).fuse_count ≡ D.fuse_count self.disk) }
@@ -262,110 +440,70 @@ impl<D: Disk> Cluster<D> {
             settings: _,
             disk,
             volume: _,
-            cells: _,
+            front: _,
             places: _,
-            failed: _,
+            mode: _,
         } = self;
         shelf.give_disk(SLOT, disk);
     }
 }
 
-// Formats a disk that must be void: a volume file without cells, wholly on the disk.
-fn format_void<D: Disk>(disk: &mut D, settings: &Settings) -> Result<VolumeFile, ClusterFault>
-    requires free { D.Tells → IsFree (D.files disk.old 1) }
-    ensures made { IfOk result (λ volume. volume ≡ record { file = 1; end = 64; capacity = settings.now.capacity }) }
-    ensures void { D.Tells → OnOk result ((D.files disk.old 1).now ≡ []) }
-    ensures formatted { D.Tells → OnOk result (HasVolume settings.now (D.files disk.new 1).now [] 64) }
-    ensures solid { D.Tells → OnOk result (IsSolid (D.files disk.new 1)) }
-    ensures gate { D.Tells → OnOk result (IsGate needle_magic 64 (D.files disk.new 1)) }
-    ensures failed { IfErr result (λ fault. (slot faults : ℕ) → fault ≡ ClusterFault.Failed slot faults →
-        (slot ≡ 1) × Rose (D.fault_count disk.old) (D.fault_count disk.new) × (faults ≡ D.fault_count disk.new)) }
-    ensures used { D.Tells → IfErr result (λ fault. (slot : ℕ) → fault ≡ ClusterFault.Used slot →
-        (slot ≡ 1) × ((D.files disk.old 1).now ≢ [])) }
-    ensures not_shelf { IfErr result (λ fault. (faults : ℕ) → fault ≡ ClusterFault.Shelf faults → ⊥) }
-    ensures counts { (D.fault_count disk.old ≤ D.fault_count disk.new)
-        × (D.fuse_count disk.new ≡ D.fuse_count disk.old) }
+// A volume whose change failed.
+fn frozen(tag: CoreTag, pair: Pair, change: Change) -> Mode
+    ensures { result ≡ Mode.Frozen (record { tag = tag; pair = pair; change = change }) }
 {
-    match disk.size(VOLUME_FILE) {
-        Ok(0) => {}
-        Ok(_) => return Err(ClusterFault::Used { slot: SLOT }),
-        Err(Failed) => return Err(failed(disk)),
-    }
-    let front = Super {
-        settings: *settings,
-        kind: FileKind::Volume,
-        volume: 0,
-        replica: 0,
-        generation: 0,
-    };
-    let volume = match VolumeFile::format(disk, VOLUME_FILE, &front) {
-        Ok(volume) => volume,
-        Err(DiskFault::NoMemory) => return Err(ClusterFault::NoMemory),
-        Err(DiskFault::Failed) => return Err(failed(disk)),
-    };
-    match disk.sync(VOLUME_FILE) {
-        Ok(()) => Ok(volume),
-        Err(Failed) => Err(failed(disk)),
-    }
+    Mode::Frozen(Unsure { tag, pair, change })
 }
 
-// What a failed call of the disk is answered.
-fn failed<D: Disk>(disk: &D) -> ClusterFault
-    ensures { result ≡ ClusterFault.Failed 1 (D.fault_count disk.now) }
+// The disk failed in a change.
+fn failed<D: Disk>(disk: &D) -> Reply
+    ensures { result ≡ Reply.Failed 0 0 (D.fault_count disk.now) }
 {
-    ClusterFault::Failed {
-        slot: SLOT,
+    Reply::Failed {
+        volume: 0,
+        machine: 0,
         faults: disk.faults(),
     }
 }
 
-// The refusal of a photo that needs more bytes than there are behind `end`.
-fn full(alloc: Global, end: u64, need: u64) -> Reply
-    ensures { (result ≡ Reply.Full (Refused.NoRoom 0 0 end need ∷ [])) ⊎ (result ≡ Reply.NoMem) }
+// Whether a store that was opened again has the change that had failed. A put's cell would have come at `end`.
+fn is_kept(unsure: &Unsure, end: u64, places: &Places) -> bool
+    ensures { result ≡ keeps unsure.now.change end (place_at places.now unsure.now.pair) }
 {
-    let refused = Refused::NoRoom {
-        volume: 0,
-        machine: 0,
-        end,
-        need,
-    };
-    match Listed::one(alloc, refused) {
-        Ok(tries) => Reply::Full { tries },
-        Err(_) => Reply::NoMem,
+    match (unsure.change, places.get(unsure.pair)) {
+        (Change::Put, Some(Spot::Live(at))) => at == end,
+        (Change::Put, _) => false,
+        (Change::Delete, Some(Spot::Live(_))) => false,
+        (Change::Delete, _) => true,
     }
 }
 
-// What a needle shows to who has this cookie.
-fn shown(head: &CellHead, needle: Vec<u8>, cookie: Cookie, front: u64, rows: u64) -> Reply
-    requires { 36 + head.now.size ≤ vec_len needle }
-    ensures own { head.now.cookie ≡ cookie →
-        result ≡ Reply.Photo 0 0 front rows (take head.now.size (drop 36 needle.items)) }
-    ensures other { head.now.cookie ≢ cookie → result ≡ Reply.WrongCookie 0 0 front rows }
+// The notes of a restart: what became of the change that had failed, if there was one.
+fn notes_of(
+    alloc: Global,
+    before: Mode,
+    end: u64,
+    places: &Places,
+) -> Result<Listed<Note>, NoMemory>
+    ensures { IfOk result (λ notes. notes ≡ notes_by before end places.now) }
 {
-    if head.cookie == cookie {
-        Reply::Photo {
+    let Mode::Frozen(unsure) = before else {
+        return Ok(Listed::new(alloc));
+    };
+    let line = unsure.tag.line;
+    let note = if is_kept(&unsure, end, places) {
+        Note::Kept {
             volume: 0,
             machine: 0,
-            front,
-            rows,
-            photo: photo_of(needle, head.size as usize),
+            line,
         }
     } else {
-        Reply::WrongCookie {
+        Note::Lost {
             volume: 0,
             machine: 0,
-            front,
-            rows,
+            line,
         }
-    }
-}
-
-// The photo of a needle, which stands behind its head.
-fn photo_of(mut needle: Vec<u8>, size: usize) -> Bytes
-    requires { 36 + size ≤ vec_len needle }
-    ensures { result ≡ take size (drop 36 needle.items) }
-{
-    needle.copy_within(HEAD_LEN..HEAD_LEN + size, 0);
-    needle.truncate(size);
-    Bytes::from_vec(needle)
+    };
+    let notes = Listed::one(alloc, note)?;
+    Ok(notes)
 }

@@ -23,7 +23,7 @@ use Rattle.hay_core.specs.declared.entry.Entry.TheVariants as entry
 use Rattle.hay_core.specs.declared.entry.CoreTag.{CoreTag}
 use Rattle.hay_needle.specs.Tables.{outcome_at, live_end}
 use Rattle.hay_needle.specs.Sizes.{total_of_lem}
-use Rattle.hay_disk.specs.Counts.{Rose}
+use Rattle.hay_disk.specs.Counts.{Rose, IsNext}
 use Rattle.hay_legal.specs.Known.{stands}
 use Rattle.hay_legal.specs.declared.known.Run.{Run}
 use Rattle.hay_legal.specs.declared.known.ReplicaKnown.{ReplicaKnown}
@@ -31,7 +31,7 @@ use Rattle.hay_legal.specs.declared.known.VolumeKnown.{VolumeKnown}
 use Rattle.hay_legal.specs.declared.known.Known.{Known}
 use Rattle.hay_legal.specs.declared.turn.Item.{Item}
 use Rattle.hay_legal.specs.declared.turn.Item.TheVariants as item
-use Rattle.hay_legal.specs.Known.{volume_at, replica_at, with_volume, with_replica, machine_of, slot_of, replicas_of, replica_on, home_of, tries_of, with_home, now, closed, refusal_of, taker_of, has_risen, fault_count, arm_count, CameUp, Leaves, EachPair}
+use Rattle.hay_legal.specs.Known.{volume_at, replica_at, with_volume, with_replica, machine_of, slot_of, replicas_of, replica_on, home_of, tries_of, with_home, now, closed, refusal_of, taker_of, has_risen, fault_count, arm_count, fuse_count, CameUp, Leaves, EachPair}
 
 -- CHANGES OF A VOLUME
 
@@ -485,20 +485,20 @@ LegalUndrain settings k m Nowhere t = (settings.machines ≤ m) × Leaves k k t
 LegalUndrain settings k m NoMem t = Leaves k k t
 LegalUndrain settings k m _ t = ⊥
 
--- one fuse more, unless the number stands at its end
-abbrev pub one_more : ℕ → ℕ
-one_more n = min (n + 1) (2 ^ 64 - 1)
+abbrev pub with_fuses : Known → ℕ → ℕ → Known
+with_fuses k slot n = record k { fuses = slice_set k.fuses slot n }
 
-abbrev pub with_fuse : Known → ℕ → Known
-with_fuse k slot = record k { fuses = slice_set k.fuses slot (one_more (slice_index k.fuses slot)) }
+-- one fuse more was set on the disk in this slot, or their number stands at its end
+abbrev pub IsFused : Known → ℕ → Known → Type 0
+IsFused k slot t = (n : ℕ) × IsNext (fuse_count k slot) n × Leaves k (with_fuses k slot n) t
 
 abbrev pub LegalFuse : Settings → Known → ℕ → ℕ → ℕ → ℕ → Reply → Known → Type 0
-LegalFuse settings k v m j n (Fused v' m' n') t = Names v m v' m' × (n' ≡ n) × Leaves k (with_fuse k (slot_of settings v j)) t
+LegalFuse settings k v m j n (Fused v' m' n') t = Names v m v' m' × (n' ≡ n) × IsFused k (slot_of settings v j) t
 LegalFuse settings k v m j n NoMem t = Leaves k k t
 LegalFuse settings k v m j n _ t = ⊥
 
 abbrev pub LegalFuseDir : Known → ℕ → Reply → Known → Type 0
-LegalFuseDir k n (FusedDir n') t = (n' ≡ n) × Leaves k (with_fuse k 0) t
+LegalFuseDir k n (FusedDir n') t = (n' ≡ n) × IsFused k 0 t
 LegalFuseDir k n NoMem t = Leaves k k t
 LegalFuseDir k n _ t = ⊥
 
@@ -532,6 +532,9 @@ LegalCommand settings k tag (command.Restart pick) reply t = ⊥
 abbrev pub is_built : Command → Bool
 is_built (command.Put pair bytes) = true
 is_built (command.Read pair cookie) = true
+is_built (command.Del pair) = true
+is_built (command.Fuse v m calls) = true
+is_built (command.Restart pick) = true
 is_built _ = false
 
 -- A command that is not built yet is answered so, and changes nothing.

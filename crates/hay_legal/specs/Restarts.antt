@@ -7,6 +7,7 @@ use Rattle.hay_reply.specs.declared.Note.{Note}
 use Rattle.hay_reply.specs.declared.Note.TheVariants.{Kept, Lost, KeptDir, LostDir}
 use Rattle.hay_core.specs.declared.entry.Entry.{Entry}
 use Rattle.hay_core.specs.declared.entry.Entry.TheVariants.{Put, Del}
+use Rattle.hay_needle.specs.declared.needle.Pair.{Pair}
 use Rattle.hay_needle.specs.Tables.{Table, live_end}
 use Rattle.hay_needle.specs.Sizes.{total_of_lem}
 use Rattle.hay_core.specs.Entries.{apply_entry}
@@ -17,7 +18,7 @@ use Rattle.hay_legal.specs.declared.known.ReplicaKnown.{ReplicaKnown}
 use Rattle.hay_legal.specs.declared.known.VolumeKnown.{VolumeKnown}
 use Rattle.hay_legal.specs.declared.known.DirKnown.{DirKnown}
 use Rattle.hay_legal.specs.declared.known.Known.{Known}
-use Rattle.hay_legal.specs.Known.{replica_at, machine_of, replica_on, now, NoneFalls}
+use Rattle.hay_legal.specs.Known.{volume_at, replica_at, machine_of, replica_on, now, NoneFalls}
 use Rattle.hay_legal.specs.Plain.{has_pair}
 
 -- WHICH REPLICAS KEEP A PENDING CHANGE
@@ -122,16 +123,37 @@ abbrev pub kept_row : Option PendingRow → Bool → List HomeRow
 kept_row (Some pending) true = pending.row ∷ []
 kept_row pending kept = []
 
-abbrev pub reopened_directory : DirKnown → Bool → DirKnown
-reopened_directory directory kept = record { rows = directory.rows ++ kept_row directory.pending kept; frozen = false; pending = None }
+abbrev pub directory_with : List HomeRow → DirKnown
+directory_with rows = record { rows = rows; frozen = false; pending = None }
+
+-- the pair of a put
+abbrev pub pair_put : Entry → Option Pair
+pair_put (Put pair cookie bytes) = Some pair
+pair_put (Del pair) = None
 
 abbrev pub undrained : Bool → Bool
 undrained drained = false
 
+-- Until rows have a file of their own they are those of the cells of replica 0: a put that was lost, and that was the first
+-- of its pair, takes its row with it.
+pub record LosesRow (k : Known) (kept : List (List Bool)) (rows : List HomeRow) : Type 0 where
+  pub v : ℕ
+  pub pending : Pending
+  pub pair : Pair
+  pub there : (volume_at k v).pending ≡ Some pending
+  pub put : pair_put pending.entry ≡ Some pair
+  pub lost : is_kept (slice_index_or kept v []) 0 ≡ false
+  pub nothing : has_pair (volume_at k v) pair (replica_at (volume_at k v) 0) ≡ false
+  pub last : k.directory.rows ≡ rows ++ record { pair = pair; volume = v } ∷ []
+
+abbrev pub ReopensRows : Known → List (List Bool) → Bool → List HomeRow → Type 0
+ReopensRows k kept row rows = (rows ≡ k.directory.rows ++ kept_row k.directory.pending row) ⊎ LosesRow k kept rows
+
 -- From k the disks open as t, with these changes and this row kept.
 pub record Reopens (settings : Settings) (k : Known) (kept : List (List Bool)) (row : Bool) (t : Known) : Type 0 where
   pub volumes : ReopenedVolumes settings 0 k.volumes kept t.volumes
-  pub directory : t.directory ≡ reopened_directory k.directory row
+  pub rows : ReopensRows k kept row t.directory.rows
+  pub directory : t.directory ≡ directory_with t.directory.rows
   pub drained : t.drained ≡ map undrained k.drained
   pub fuses : t.fuses ≡ k.fuses
   pub faults : NoneFalls k.faults t.faults

@@ -1,5 +1,6 @@
 -- What a run has written, and what it leaves, at each status.
-use Rattle.std.specs.Prelude.{◌≡◌, ℕ, ◌^◌, ◌-◌, ◌<◌, ◌⊎◌, List, [], ◌∷◌, ◌++◌, map}
+use Rattle.std.specs.Prelude.{◌≡◌, ℕ, ◌^◌, ◌-◌, ◌<◌, ◌≤◌, ◌⊎◌, Bool, false, List, [], ◌∷◌, ◌++◌, length, map, replicate, None}
+use Rattle.std.specs.List.{AllByRecursion}
 use Rattle.hay_needle.specs.declared.settings.Settings.{Settings}
 use Rattle.hay_script.specs.declared.Command.TheVariants as command
 use Rattle.hay_reply.specs.declared.Note.{Note}
@@ -10,10 +11,14 @@ use Rattle.hay_legal.specs.declared.turn.Item.TheVariants as item
 use Rattle.hay_legal.specs.declared.turn.Turn.{Turn}
 use Rattle.hay_legal.specs.Items.{Asked, items_of, items_before, item_of_turn}
 use Rattle.hay_legal.specs.Items.Asked.{Alone}
-use Rattle.hay_legal.specs.Known.{fault_count}
+use Rattle.hay_legal.specs.declared.known.ReplicaKnown.{ReplicaKnown}
+use Rattle.hay_legal.specs.declared.known.VolumeKnown.{VolumeKnown}
+use Rattle.hay_legal.specs.Known.{disk_count, fault_count, fuse_count, arm_count}
+use Rattle.hay_legal.specs.Restarts.{Reopens, directory_with}
+use Rattle.hay_disk.specs.Disk.{MayLeave}
 use Rattle.hay_legal.specs.Transcript.{transcript_text}
 use Rattle.hay_legal.specs.Legal.{Legal}
-use Rattle.hay_legal.specs.Stands.{Contents, Found, Outside, StandsOn}
+use Rattle.hay_legal.specs.Stands.{Contents, Found, Outside, IsFound, StandsOn}
 use Rattle.hay_legal.specs.declared.known.HomeRow.{HomeRow}
 
 -- front stands at the front of all
@@ -76,20 +81,76 @@ Wrote settings OutputFault taken turns t written =
 Wrote settings NoMemory taken turns t written =
     IsFront (asked_of turns) (items_of taken) × WrotePart settings t turns written
 
--- The disks given back: they hold what the last turn left, or, where an opening did not succeed, in every image one of
--- the outcomes of a restart, but for disks that were void and are formatted in part.
-abbrev pub GivenBack : (Contents → Found → Type 0) → ((ℕ → Contents) → List HomeRow → Type 0) → Settings → Ending → Known → Outside → Type 0 → Type 0
-GivenBack replica rows settings NotOpened t outside found = found
-GivenBack replica rows settings NoMemory t outside found = StandsOn replica rows settings t outside ⊎ found
-GivenBack replica rows settings OutputFault t outside found = StandsOn replica rows settings t outside ⊎ found
-GivenBack replica rows settings _ t outside found = StandsOn replica rows settings t outside
+-- A store at which nothing has happened yet.
+abbrev pub IsAtRest : ReplicaKnown → Type 0
+IsAtRest replica = (replica.stuck ≡ false) × (replica.run ≡ None) × (replica.poised ≡ false)
 
--- A whole run, from the disks and arms taken to those given back.
-pub record RunsTo (replica : Contents → Found → Type 0) (rows : (ℕ → Contents) → List HomeRow → Type 0) (settings : Settings) (ending : Ending) (taken : List ℕ) (before : Outside) (written : List ℕ) (after : Outside) (unopened : Known → Outside → Type 0) : Type 0 where
+pub record IsNewVolume (settings : Settings) (volume : VolumeKnown) : Type 0 where
+  pub log : volume.log ≡ []
+  pub frozen : volume.frozen ≡ None
+  pub pending : volume.pending ≡ None
+  pub count : length volume.replicas ≡ settings.replicas
+  pub replicas : AllByRecursion IsAtRest volume.replicas
+
+pub record IsNew (settings : Settings) (k : Known) : Type 0 where
+  pub count : length k.volumes ≡ settings.volumes
+  pub volumes : AllByRecursion (IsNewVolume settings) k.volumes
+  pub directory : k.directory ≡ directory_with k.directory.rows
+  pub drained : k.drained ≡ replicate settings.machines false
+
+-- what reads of the disks give
+abbrev pub contents_of : Outside → ℕ → Contents
+contents_of outside slot file = ((outside.files slot) file).now
+
+-- An opening of these disks finds a new store. Its counts are those behind the opening.
+pub record IsOpened (replica : Contents → Found → Type 0) (rows : (ℕ → Contents) → List HomeRow → Type 0) (settings : Settings) (taken : Outside) (k : Known) : Type 0 where
+  pub new : IsNew settings k
+  pub found : IsFound replica rows settings (contents_of taken) k
+  pub faults : (slot : ℕ) → slot < disk_count settings → taken.faults slot ≤ fault_count k slot
+  pub fuses : (slot : ℕ) → slot < disk_count settings → fuse_count k slot ≡ taken.fuses slot
+  pub arms : (lane : ℕ) → lane < 8 → taken.arms lane ≤ arm_count k lane
+
+-- What stands for a slot's disk: what a stop may leave of it; nothing, where it was void and may be formatted in part;
+-- or what reads gave of a disk that was not taken.
+abbrev pub StandsIn : (Contents → Type 0) → Outside → Outside → (ℕ → Contents) → ℕ → Contents → Type 0
+StandsIn void taken given image slot contents =
+    ((file : ℕ) → contents file ≡ image slot file)
+    ⊎ (void (contents_of taken slot) × void contents)
+    ⊎ ((given.files slot ≡ taken.files slot) × ((file : ℕ) → contents file ≡ contents_of taken slot file))
+
+-- the same, or what a restart from it may find
+abbrev pub MayReopen : Settings → Known → Known → Type 0
+MayReopen settings k t = (t ≡ k) ⊎ ((kept : List (List Bool)) × (row : Bool) × Reopens settings k kept row t)
+
+-- An opening finds what was known, or what it was left at by a restart that was refused.
+pub record IsFoundFrom (replica : Contents → Found → Type 0) (rows : (ℕ → Contents) → List HomeRow → Type 0) (settings : Settings) (k : Known) (contents : ℕ → Contents) : Type 0 where
+  pub restarted : Known
+  pub first : MayReopen settings k restarted
+  pub opened : Known
+  pub second : MayReopen settings restarted opened
+  pub found : IsFound replica rows settings contents opened
+
+-- An opening did not succeed: in every image of the disks given back the next one finds what it may.
+pub record IsUnopened (replica : Contents → Found → Type 0) (rows : (ℕ → Contents) → List HomeRow → Type 0) (void : Contents → Type 0) (settings : Settings) (k : Known) (taken given : Outside) : Type 0 where
+  pub images : (image : ℕ → Contents) → ((slot : ℕ) → slot < disk_count settings → MayLeave (given.files slot) (image slot)) →
+      (contents : ℕ → Contents) × ((slot : ℕ) → slot < disk_count settings → StandsIn void taken given image slot (contents slot))
+      × IsFoundFrom replica rows settings k contents
+
+-- What the disks given back hold: what the last turn left, or what an opening that did not succeed has left.
+abbrev pub GivenBack : (Contents → Found → Type 0) → ((ℕ → Contents) → List HomeRow → Type 0) → (Contents → Type 0) → Settings → Ending → Known → Outside → Outside → Type 0
+GivenBack replica rows void settings NotOpened t taken given = IsUnopened replica rows void settings t taken given
+GivenBack replica rows void settings OutputFault t taken given =
+    StandsOn replica rows settings t given ⊎ IsUnopened replica rows void settings t taken given
+GivenBack replica rows void settings NoMemory t taken given =
+    StandsOn replica rows settings t given ⊎ IsUnopened replica rows void settings t taken given
+GivenBack replica rows void settings _ t taken given = StandsOn replica rows settings t given
+
+-- A whole run of a script: from the disks and arms as they were taken to those given back.
+pub record RunsTo (replica : Contents → Found → Type 0) (rows : (ℕ → Contents) → List HomeRow → Type 0) (void : Contents → Type 0) (settings : Settings) (ending : Ending) (script : List ℕ) (taken : Outside) (written : List ℕ) (given : Outside) : Type 0 where
   pub k : Known
   pub turns : List Turn
   pub t : Known
-  pub stood : StandsOn replica rows settings k before
+  pub opened : IsOpened replica rows settings taken k
   pub legal : Legal settings k turns t
-  pub wrote : Wrote settings ending taken turns t written
-  pub stands : GivenBack replica rows settings ending t after (unopened t after)
+  pub wrote : Wrote settings ending script turns t written
+  pub back : GivenBack replica rows void settings ending t taken given

@@ -1,9 +1,10 @@
 //! One file of a disk in memory.
-ghost use Rattle.std.specs.Prelude.{◌≡◌, ◌≤◌, ◌<◌, ◌+◌, ◌-◌, ◌^◌, ◌++◌, ◌∷◌, [], min, List, ℕ, length, take, drop, OnOk, OnErr, IfOk};
+ghost use Rattle.std.specs.Prelude.{◌≡◌, ◌⊎◌, ◌≤◌, ◌<◌, ◌+◌, ◌-◌, ◌^◌, ◌++◌, ◌∷◌, [], false, min, List, ℕ, length, take, drop, get_or, OnOk, OnErr, IfOk};
 ghost use Rattle.hay_disk.specs.Disk.{overwrite};
+ghost use Rattle.hay_memdisk.specs.Places.{no_place};
 
 use crate::MemPiece;
-use crate::place::{Place, draw_between, grow, image_rng, mark, restore, scatter, settle};
+use crate::place::{Place, Written, draw_between, grow, image_rng, mark, restore, scatter, settle};
 use std::alloc::{AllocError, Global};
 
 /// Where a piece was given out: its range, and the place of its hole in this.
@@ -19,6 +20,7 @@ pub(crate) struct Seal {
 pub(crate) struct MemFile {
     bytes: Vec<u8>,
     places: Vec<Place>,
+    written: Written,
     seals: Vec<Seal>,
     solid_len: usize,
     longest: usize,
@@ -26,6 +28,7 @@ pub(crate) struct MemFile {
     ghost room: { length bytes.items ≤ length places.items },
     ghost short: { solid_len ≤ length bytes.items },
     ghost fits: { length bytes.items < 2 ^ 64 },
+    ghost settled: { (k : ℕ) → k < length bytes.items → (k < written.from) ⊎ (written.to ≤ k) → (get_or places.items k no_place).loose ≡ false },
 }
 
 impl MemFile {
@@ -39,6 +42,7 @@ impl MemFile {
         MemFile {
             bytes: Vec::new(alloc),
             places: Vec::new(alloc),
+            written: Written::NONE,
             seals: Vec::new(alloc),
             solid_len: 0,
             longest: 0,
@@ -62,6 +66,7 @@ impl MemFile {
     {
         let copy = bytes.to_vec(alloc)?;
         grow(&mut self.places, copy.len())?;
+        self.written = Written::NONE.widen(0, copy.len());
         self.bytes = copy;
         self.solid_len = 0;
         self.settle();
@@ -82,6 +87,7 @@ impl MemFile {
         grow(&mut self.places, end)?;
         put(&mut self.bytes, at, bytes)?;
         mark(&mut self.places, at, bytes);
+        self.written = self.written.widen(at, end);
         self.longest = self.longest.max(end);
         Ok(())
     }
@@ -106,16 +112,18 @@ impl MemFile {
     {
         let count = bytes.len().min(self.places.len() - at);
         mark(&mut self.places, at, &bytes[..count]);
+        self.written = self.written.widen(at, at + count);
     }
 
-    /// Makes nothing loose.
+    /// Makes nothing loose. It visits the range written since the last sync alone.
     pub(crate) fn sync(&mut self)
         ensures solid { IsSolid (state_of self.new) }
         ensures keeps { Keeps (state_of self.old) (state_of self.new) }
         ensures drawn { drawn_of self.new ≡ drawn_of self.old }
     {
         let held = self.bytes.len();
-        settle(&mut self.places, &self.bytes);
+        settle(&mut self.places, &self.bytes, self.written);
+        self.written = Written::NONE;
         self.solid_len = held;
         self.longest = held;
     }

@@ -1,5 +1,5 @@
 //! What is kept beside each byte of a file in memory.
-ghost use Rattle.std.specs.Prelude.{◌≡◌, ◌⊎◌, ◌≤◌, ◌<◌, ◌+◌, ◌^◌, ℕ, true, false, length, get_or, OnOk, OnErr};
+ghost use Rattle.std.specs.Prelude.{◌≡◌, ◌⊎◌, ◌≤◌, ◌<◌, ◌+◌, ◌^◌, ℕ, true, false, min, max, length, get_or, OnOk, OnErr};
 ghost use Rattle.hay_memdisk.specs.Places.{no_place};
 
 use rand_chacha::ChaCha8Rng;
@@ -22,6 +22,32 @@ impl Place {
         asked: 0,
         loose: true,
     };
+}
+
+/// A range that has the places written since the last sync: from its first place to that after its last.
+#[derive(Clone, Copy, Debug)]
+pub(crate) struct Written {
+    pub(crate) from: usize,
+    pub(crate) to: usize,
+}
+
+impl Written {
+    /// The range of no place.
+    pub(crate) const NONE: Written = Written {
+        from: usize::MAX,
+        to: 0,
+    };
+
+    /// The least range that has the places of this one and those from `from` to before `to`.
+    pub(crate) fn widen(self, from: usize, to: usize) -> Written
+        ensures from { result.from ≡ min self.from from }
+        ensures to { result.to ≡ max self.to to }
+    {
+        Written {
+            from: self.from.min(from),
+            to: self.to.max(to),
+        }
+    }
 }
 
 /// What a stop leaves of a range of loose bytes.
@@ -62,12 +88,13 @@ pub(crate) fn mark(places: &mut [Place], at: usize, bytes: &[u8])
     }
 }
 
-// The places of bytes that are on the disk.
-pub(crate) fn settle(places: &mut [Place], bytes: &[u8])
+// The written places of bytes that are on the disk.
+pub(crate) fn settle(places: &mut [Place], bytes: &[u8], written: Written)
     requires { length bytes.now ≤ length places.old }
-    ensures { (k : ℕ) → k < length bytes.now → (get_or places.new k no_place).loose ≡ false }
+    ensures others { (k : ℕ) → (k < written.from) ⊎ (written.to ≤ k) → get_or places.new k no_place ≡ get_or places.old k no_place }
+    ensures solid { (k : ℕ) → written.from ≤ k → k < written.to → k < length bytes.now → (get_or places.new k no_place).loose ≡ false }
 {
-    for i in 0..bytes.len() {
+    for i in written.from..written.to.min(bytes.len()) {
         let place = places[i];
         places[i] = Place {
             solid: bytes[i],

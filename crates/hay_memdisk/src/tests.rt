@@ -97,6 +97,28 @@ fn a_stop_takes_what_was_not_synced(rt: HostRuntime) -> Result<(), Fail> {
     Ok(())
 }
 
+#[test]
+fn a_sync_keeps_what_was_written_since_the_last(rt: HostRuntime) -> Result<(), Fail> {
+    let alloc = rt.alloc();
+    let mut disk = MemDisk::new(alloc);
+    disk.write(1, 0, b"aaaaaaaa")?;
+    disk.sync(1)?;
+    disk.write(1, 6, b"c")?;
+    disk.write(1, 2, b"b")?;
+    disk.sync(1)?;
+    disk.write(1, 0, b"dddddddddd")?;
+    disk.power_cycle(0);
+    assert_eq!(rt; disk.bytes(1), b"aabaaaca".as_slice());
+
+    disk.fail(&[7])?;
+    assert_eq!(rt; disk.write(1, 0, b"eeee"), Err(DiskFault::Failed));
+    disk.sync(1)?;
+    disk.write(1, 0, b"ffffffff")?;
+    disk.power_cycle(0);
+    assert_eq!(rt; disk.bytes(1), b"eebaaaca".as_slice());
+    Ok(())
+}
+
 // A disk fails at the calls listed and behind its fuse, and counts them.
 fn disk_fails(rt: &impl Abort, alloc: Global) -> Result<(), Fail> {
     let mut disk = MemDisk::new(alloc);

@@ -14,7 +14,8 @@ use Rattle.hay_legal.specs.Items.Asked.{Alone, Block}
 use Rattle.hay_run.specs.Stream.{IsReadToEnd, Held, rest_of, Accounts, IsTooLong, TookAll}
 use Rattle.hay_run.specs.Lines.{NoFeed, fed_text, TookFed, TookLine, TookFeds, TookToEnd, TookLines, TookSome}
 use Rattle.hay_run.specs.Items.{SaysNext, block_behind, Asks, TookItems, TookOpen, AsksAll}
-use Rattle.hay_run.proofs.Taking.{took_nothing, took_more, took_fed_more, took_last_more, took_end, seen-inner, long_before}
+use Rattle.hay_disk.specs.Streams.{Took}
+use Rattle.hay_run.proofs.Taking.{took_nothing, took_more, took_fed_more, took_last_more, took_end, feeds_append, feeds_end, seen-inner, long_before}
 
 abbrev by_line : ℕ → Option OpenBlock → List ℕ → List Asked × Option OpenBlock
 by_line number held text = added number held (line_of (lanes_open held) text)
@@ -25,7 +26,7 @@ number_next number texts = omega arith
 number_first : (number : ℕ) → number ≡ number + 0
 number_first number = omega arith
 
-whole_items_from-append : (texts more : List (List ℕ)) (number : ℕ) (held : Option OpenBlock)
+pub whole_items_from-append : (texts more : List (List ℕ)) (number : ℕ) (held : Option OpenBlock)
     → whole_items_from number held (texts ++ more) ≡ whole_items_from number held texts ++ whole_items_from (number + length texts) (block_behind number held texts) more
 whole_items_from-append [] more number held = ap (λ (n : ℕ). whole_items_from n held more) (number_first number)
 whole_items_from-append (text ∷ texts) more number held =
@@ -34,7 +35,7 @@ whole_items_from-append (text ∷ texts) more number held =
     ∙ ap (λ (n : ℕ). whole_items_from (number + 1) (by_line number held text).1 texts ++ whole_items_from n (block_behind (number + 1) (by_line number held text).1 texts) more) (number_next number texts))
     ∙ sym (append_assoc (by_line number held text).0 (whole_items_from (number + 1) (by_line number held text).1 texts) (whole_items_from (number + suc (length texts)) (block_behind (number + 1) (by_line number held text).1 texts) more))
 
-block_behind-append : (texts more : List (List ℕ)) (number : ℕ) (held : Option OpenBlock)
+pub block_behind-append : (texts more : List (List ℕ)) (number : ℕ) (held : Option OpenBlock)
     → block_behind number held (texts ++ more) ≡ block_behind (number + length texts) (block_behind number held texts) more
 block_behind-append [] more number held = ap (λ (n : ℕ). block_behind n held more) (number_first number)
 block_behind-append (text ∷ texts) more number held =
@@ -244,27 +245,6 @@ open_line Rest number before after rest = record {
 
 -- ALL OF A SCRIPT
 
--- after these items others are left
-abbrev pub LeavesItems : ℕ → Option (List ℕ) → List Asked → ℕ → Option (List ℕ) → Type 0
-LeavesItems number None asked next after = Unit {0}
-LeavesItems number (Some all) asked next after =
-    (rest : List ℕ) × (after ≡ Some rest) × (items_from number None (lines_of all) ≡ asked ++ items_from next None (lines_of rest))
-
-pub left_nothing : (number : ℕ) (before : Option (List ℕ)) → LeavesItems number before [] number before
-left_nothing number None = tt
-left_nothing number (Some all) = (all, refl, refl)
-
-pub left_more : (number mid_number next : ℕ) (before mid after : Option (List ℕ)) (asked more : List Asked) → LeavesItems number before asked mid_number mid → LeavesItems mid_number mid more next after → LeavesItems number before (asked ++ more) next after
-left_more number mid_number next None mid after asked more h k = tt
-left_more number mid_number next (Some all) None after asked more h k = cc
-left_more number mid_number next (Some all) (Some rest) after asked more h k =
-    let same : rest ≡ h.0 = cc in
-    (k.0, k.1, h.2 ∙ ap (λ (bytes : List ℕ). asked ++ items_from mid_number None (lines_of bytes)) (sym same) ∙ ap (λ (items : List Asked). asked ++ items) k.2 ∙ sym (append_assoc asked more (items_from next None (lines_of k.0))))
-
-pub left_first : (number : ℕ) (left : Option (List ℕ)) (held : Held) → held.bytes ≡ [] → LeavesItems number left [] number (rest_of left held)
-left_first number None held none = tt
-left_first number (Some all) held none = (all, ap (λ (bytes : List ℕ). Some (bytes ++ all)) none, refl)
-
 seen-fed : (b : ℕ) (given rest : List ℕ) → seen_byte b (given ++ 10 ∷ rest) ≡ seen_byte b (given ++ 10 ∷ [])
 seen-fed b [] rest = refl
 seen-fed b (c ∷ given) rest = refl
@@ -272,7 +252,7 @@ seen-fed b (c ∷ given) rest = refl
 step_other : (b : ℕ) (bytes : List ℕ) → b ≢ 10 → lines_of (b ∷ bytes) ≡ onto_first (seen_byte b bytes) (lines_of bytes)
 step_other b bytes h = grind (arith, common_steps)
 
-lines_of-fed : (given rest : List ℕ) → NoFeed given → lines_of (given ++ 10 ∷ rest) ≡ fed_text given ∷ lines_of rest
+pub lines_of-fed : (given rest : List ℕ) → NoFeed given → lines_of (given ++ 10 ∷ rest) ≡ fed_text given ∷ lines_of rest
 lines_of-fed [] rest free = refl
 lines_of-fed (b ∷ given) rest free =
     step_other b (given ++ 10 ∷ rest) free.0
@@ -322,32 +302,9 @@ lines_end (text ∷ texts) all after (inr w) =
     let others = lines_end texts first.0 after (subst P first.1 w.2) in
     (others.0, first.2 ∙ ap (λ (lines : List (List ℕ)). text ∷ lines) others.1)
 
-asked_whole : (number : ℕ) (texts : List (List ℕ)) (asked : List Asked) → whole_items_from number None texts ≡ asked → block_behind number None texts ≡ None
-    → (more : List (List ℕ)) → items_from number None (texts ++ more) ≡ asked ++ items_from (number + length texts) None more
-asked_whole number texts asked whole behind more =
-    items_from-append texts more number None ∙ rw (whole, behind) refl
-
 asked_all : (number : ℕ) (texts : List (List ℕ)) (asked : List Asked) (ended : Bool) → Asks number None texts asked ended → items_from number None texts ≡ asked
 asked_all number texts asked ended (inl w) = items_from-behind texts number None ∙ rw (w.0, w.1) (append-nil asked)
 asked_all number texts asked ended (inr w) = w.0
-
-left_by : (number next : ℕ) (texts : List (List ℕ)) (all : List ℕ) (asked : List Asked) (after : Option (List ℕ)) (ended : Bool)
-    → TookLines (Some all) texts after ended → Asks number None texts asked ended → next ≡ number + length texts → ended ≡ false
-    → LeavesItems number (Some all) asked next after
-left_by number next texts all asked after ended (inr w) asks next_is unmet = absurd (false≢true (sym unmet ∙ w.1))
-left_by number next texts all asked after ended (inl w) (inr a) next_is unmet = absurd (false≢true (sym unmet ∙ a.1))
-left_by number next texts all asked after ended (inl w) (inl a) next_is unmet =
-    let lines = lines_feeds texts all after w.0 in (
-      lines.0,
-      lines.1,
-      ap (λ (l : List (List ℕ)). items_from number None l) lines.2 ∙ asked_whole number texts asked a.0 a.1 (lines_of lines.0)
-          ∙ ap (λ (n : ℕ). asked ++ items_from n None (lines_of lines.0)) (sym next_is),
-    )
-
--- the end was not met
-pub left_turn : (number next : ℕ) (before after : Option (List ℕ)) (asked : List Asked) (ended : Bool) → TookItems number None before asked next after ended → ended ≡ false → LeavesItems number before asked next after
-left_turn number next None after asked ended took unmet = tt
-left_turn number next (Some all) after asked ended took unmet = left_by number next took.texts all asked after ended took.lines took.asks took.next_is unmet
 
 -- what is left asks for these items
 abbrev EndsItems : ℕ → Option (List ℕ) → List Asked → Type 0
@@ -369,15 +326,58 @@ at_end_turn number next None after asked ended took met = tt
 at_end_turn number next (Some all) after asked ended took met =
     (lines_end took.texts all after (to_end (Some all) after took.texts ended took.lines met)).0
 
-all_by : (number : ℕ) (script mid : Option (List ℕ)) (asked more : List Asked) → LeavesItems 1 script asked number mid → EndsItems number mid more → AsksAll script (asked ++ more)
-all_by number None mid asked more h k = tt
-all_by number (Some script) None asked more h k = cc
-all_by number (Some script) (Some rest) asked more h k =
-    let same : rest ≡ h.0 = cc in
-    sym (h.2 ∙ ap (λ (bytes : List ℕ). asked ++ items_from number None (lines_of bytes)) (sym same) ∙ ap (λ (items : List Asked). asked ++ items) k)
+pub asks_all : (next : ℕ) (script after : Option (List ℕ)) (asked : List Asked) (ended : Bool) → TookItems 1 None script asked next after ended → ended ≡ true → AsksAll script asked
+asks_all next None after asked ended took met = tt
+asks_all next (Some script) after asked ended took met = sym (ends_turn 1 next (Some script) after asked ended took met)
 
-pub all_asked : (number next : ℕ) (script mid after : Option (List ℕ)) (asked more : List Asked) (ended : Bool) → LeavesItems 1 script asked number mid → TookItems number None mid more next after ended → ended ≡ true → AsksAll script (asked ++ more)
-all_asked number next script mid after asked more ended h took met = all_by number script mid asked more h (ends_turn number next mid after more ended took met)
+-- ITEMS BEHIND ITEMS
+
+pub took_first : (number : ℕ) (left : Option (List ℕ)) (held : Held) → held.bytes ≡ [] → TookItems number None left [] number (rest_of left held) false
+took_first number left held none = record {
+  texts = [];
+  lines = inl (first left, refl);
+  next_is = omega arith;
+  asks = inl (refl, refl);
+}
+  where
+    first : (left : Option (List ℕ)) → Took left [] (rest_of left held)
+    first None = tt
+    first (Some all) = (all, ap (λ (bytes : List ℕ). Some (bytes ++ all)) none, refl)
+
+pub fed_lines : (before after : Option (List ℕ)) (texts : List (List ℕ)) → TookLines before texts after false → TookFeds before texts after
+fed_lines before after texts (inl w) = w.0
+fed_lines before after texts (inr w) = absurd (false≢true w.1)
+
+lines_append : (texts more : List (List ℕ)) (before mid after : Option (List ℕ)) (ended : Bool) → TookFeds before texts mid → TookLines mid more after ended → TookLines before (texts ++ more) after ended
+lines_append texts more before mid after ended feeds (inl w) = inl (feeds_append texts more before mid after feeds w.0, w.1)
+lines_append texts more before mid after ended feeds (inr w) = inr (feeds_end texts more before mid after feeds w.0, w.1)
+
+pub asks_whole : (number : ℕ) (texts : List (List ℕ)) (asked : List Asked) → Asks number None texts asked false → (whole_items_from number None texts ≡ asked) × (block_behind number None texts ≡ None)
+asks_whole number texts asked (inl w) = w
+asks_whole number texts asked (inr w) = absurd (false≢true w.1)
+
+asks_append : (number mid : ℕ) (texts others : List (List ℕ)) (asked more : List Asked) (ended : Bool)
+    → whole_items_from number None texts ≡ asked → block_behind number None texts ≡ None → mid ≡ number + length texts → Asks mid None others more ended
+    → Asks number None (texts ++ others) (asked ++ more) ended
+asks_append number mid texts others asked more ended whole behind at (inl w) = inl (
+  whole_items_from-append texts others number None ∙ rw (whole, behind, sym at) (ap (λ (items : List Asked). asked ++ items) w.0),
+  block_behind-append texts others number None ∙ rw (behind, sym at) w.1,
+)
+asks_append number mid texts others asked more ended whole behind at (inr w) = inr (
+  items_from-append texts others number None ∙ rw (whole, behind, sym at) (ap (λ (items : List Asked). asked ++ items) w.0),
+  w.1,
+)
+
+pub took_items_more : (number mid next : ℕ) (before between after : Option (List ℕ)) (asked more : List Asked) (ended : Bool)
+    → TookItems number None before asked mid between false → TookItems mid None between more next after ended → TookItems number None before (asked ++ more) next after ended
+took_items_more number mid next before between after asked more ended first second =
+    let whole = asks_whole number first.texts asked first.asks in
+    record {
+      texts = first.texts ++ second.texts;
+      lines = lines_append first.texts second.texts before between after ended (fed_lines before between first.texts first.lines) second.lines;
+      next_is = omega (arith, first.next_is, second.next_is, length-append first.texts second.texts);
+      asks = asks_append number mid first.texts second.texts asked more ended whole.0 whole.1 first.next_is second.asks;
+    }
 
 -- HOW LONG A SCRIPT IS
 
@@ -391,8 +391,10 @@ short_script limit script (Some rest) (Some last) first held held' h k over at_f
     let nothing : held'.bytes ++ last ≡ [] = cc in
     omega (arith, h.2, k.2, ap length same, ap length same', ap length nothing, length-append held'.bytes last, at_first, small)
 
-pub long_script : (limit : ℕ) (script : List ℕ) (mid : Option (List ℕ)) (first held : Held) → Accounts (Some script) first mid held → IsTooLong limit mid held → first.taken ≡ 0 → limit < length script
-long_script limit script mid first held h long at_first = let more = long_before limit (Some script) mid first held h long in omega (arith, more, at_first)
+pub long_script : (limit : ℕ) (script : List ℕ) (mid after : Option (List ℕ)) (first held : Held) → Accounts (Some script) first mid held → IsTooLong limit mid held after → first.taken ≡ 0
+    → (rest : List ℕ) × (after ≡ Some rest) × (length script ≡ limit + 1 + length rest)
+long_script limit script mid after first held h long at_first =
+    let more = long_before limit (Some script) mid after first held h long in (more.0, more.1, omega (arith, more.2, at_first))
 
 last_of_none : (a b : List ℕ) → a ++ b ≡ [] → b ≡ []
 last_of_none [] b e = e

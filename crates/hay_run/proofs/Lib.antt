@@ -1,4 +1,10 @@
 pub mod Asking
-pub mod Running
+pub mod Commanding
+pub mod Ran
+pub mod Reading
+pub mod Refusing
+pub mod Restarting
+pub mod Serving
+pub mod Stopping
 pub mod Taking
 pub mod Turning

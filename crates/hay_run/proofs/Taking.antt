@@ -149,7 +149,7 @@ took_all (Some all) (Some rest) after given h k =
     (h.2 ∙ ap (λ (bytes : List ℕ). given ++ bytes) (sym same ∙ k.0) ∙ append-nil given, k.1)
 
 -- behind nothing
-took_all_of : (before mid after : Option (List ℕ)) (given : List ℕ) → Took before [] mid → TookAll mid given after → TookAll before given after
+pub took_all_of : (before mid after : Option (List ℕ)) (given : List ℕ) → Took before [] mid → TookAll mid given after → TookAll before given after
 took_all_of None mid after given h k = tt
 took_all_of (Some all) None after given h k = cc
 took_all_of (Some all) (Some rest) after given h k = let same : rest ≡ h.0 = cc in (h.2 ∙ sym same ∙ k.0, k.1)
@@ -173,11 +173,11 @@ pub accounts_same : (left : Option (List ℕ)) (a : Held) → Accounts left a le
 accounts_same None a = tt
 accounts_same (Some all) a = (all, refl, refl)
 
-pub long_before : (limit : ℕ) (left mid : Option (List ℕ)) (a b : Held) → Accounts left a mid b → IsTooLong limit mid b → IsTooLong limit left a
-long_before limit None mid a b h k = tt
-long_before limit (Some all) None a b h k = cc
-long_before limit (Some all) (Some rest) a b h k =
-    let same : rest ≡ h.0 = cc in omega (arith, h.2, k, ap length same)
+pub long_before : (limit : ℕ) (left mid after : Option (List ℕ)) (a b : Held) → Accounts left a mid b → IsTooLong limit mid b after → IsTooLong limit left a after
+long_before limit None mid after a b h k = tt
+long_before limit (Some all) None after a b h k = cc
+long_before limit (Some all) (Some rest) after a b h k =
+    let same : rest ≡ h.0 = cc in (k.0, k.1, omega (arith, h.2, k.2, ap length same))
 
 -- WHAT IS KEPT OF A LINE
 
@@ -283,3 +283,19 @@ took_last_more (first ∷ texts) before mid after text h k = inr (h.0, h.1, took
 pub took_end : (texts : List (List ℕ)) (before mid after : Option (List ℕ)) → TookFeds before texts mid → TookAll mid [] after → TookToEnd before texts after
 took_end [] before mid after h k = took_all before mid after [] h k
 took_end (first ∷ texts) before mid after h k = inr (h.0, h.1, took_end texts h.0 mid after h.2 k)
+
+-- lines behind lines
+
+first_of : (before mid after : Option (List ℕ)) (text : List ℕ) → Took before [] mid → TookFed mid text after → TookFed before text after
+first_of before mid after text h k = record { bytes = k.bytes; free = k.free; text_is = k.text_is; took = took_more before mid after [] (k.bytes ++ 10 ∷ []) h k.took }
+
+pub feeds_append : (texts more : List (List ℕ)) (before mid after : Option (List ℕ)) → TookFeds before texts mid → TookFeds mid more after → TookFeds before (texts ++ more) after
+feeds_append [] [] before mid after h k = took_more before mid after [] [] h k
+feeds_append [] (text ∷ more) before mid after h k = (k.0, first_of before mid k.0 text h k.1, k.2)
+feeds_append (first ∷ texts) more before mid after h k = (h.0, h.1, feeds_append texts more h.0 mid after h.2 k)
+
+pub feeds_end : (texts more : List (List ℕ)) (before mid after : Option (List ℕ)) → TookFeds before texts mid → TookToEnd mid more after → TookToEnd before (texts ++ more) after
+feeds_end [] [] before mid after h k = took_all before mid after [] h k
+feeds_end [] (text ∷ more) before mid after h (inl w) = inl (record { free = w.0.free; some = w.0.some; all = took_all_of before mid after text h w.0.all }, w.1)
+feeds_end [] (text ∷ more) before mid after h (inr w) = inr (w.0, first_of before mid w.0 text h w.1, w.2)
+feeds_end (first ∷ texts) more before mid after h k = inr (h.0, h.1, feeds_end texts more h.0 mid after h.2 k)

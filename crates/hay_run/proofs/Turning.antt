@@ -1,32 +1,36 @@
 -- One turn after another.
-use Rattle.std.proofs.Common.{◌≡◌, ◌⊎◌, inl, inr, ℕ, ◌≤◌, List, [], ◌∷◌, ◌++◌, map, Option, Some, None, refl, sym, ap, subst, ◌∙◌, append_assoc, arith}
+use Rattle.std.proofs.Common.{◌≡◌, ◌⊎◌, inl, inr, ℕ, ◌≤◌, List, [], ◌∷◌, ◌++◌, map, Option, Some, None, refl, sym, ap, subst, ◌∙◌, append_assoc, length, take, arith}
 use Rattle.std.specs.Prelude.{flat_map}
 use Rattle.std.specs.List.{AllByRecursion}
 use Rattle.std.specs.Prelude.{Result, Err, OnErr}
 use Rattle.std.proofs.lemmas.Grind.{flat_map-append}
 use Rattle.std.proofs.lemmas.List.{append-nil, map-append}
+use Rattle.std.proofs.Math.Seq.{take-length}
 use Rattle.std.proofs.lemmas.Result.{IfErr-at_err}
 use Rattle.hay_disk.specs.Counts.{Rose}
-use Rattle.hay_disk.specs.Disk.{Files}
-use Rattle.hay_disk.specs.Streams.{Wrote}
+use Rattle.hay_disk.specs.Streams.{Wrote, WrotePart}
 use Rattle.hay_needle.specs.declared.settings.Settings.{Settings}
 use Rattle.hay_script.specs.declared.Command.{Command}
+use Rattle.hay_script.specs.declared.Command.TheVariants as asks
+use Rattle.hay_reply.specs.declared.Note.{Note}
 use Rattle.hay_reply.specs.declared.Reply.{Reply}
 use Rattle.hay_reply.specs.declared.Reply.TheVariants.{BadLine}
-use Rattle.hay_reply.specs.Replies.{numbered_line}
+use Rattle.hay_reply.specs.Replies.{numbered_line, note_line}
 use Rattle.hay_legal.specs.declared.known.Known.{Known}
 use Rattle.hay_legal.specs.declared.turn.Item.{Item}
 use Rattle.hay_legal.specs.declared.turn.Item.TheVariants as item
 use Rattle.hay_legal.specs.declared.turn.Turn.{Turn}
-use Rattle.hay_legal.specs.declared.turn.Turn.TheVariants.{Plain, Lanes}
+use Rattle.hay_legal.specs.declared.turn.Turn.TheVariants.{Plain, Lanes, Restart}
 use Rattle.hay_legal.specs.Items.{Asked, InBlock, item_of_turn, line_asked}
 use Rattle.hay_legal.specs.Items.Asked.{Alone, Block}
 use Rattle.hay_legal.specs.Known.{Leaves, NoneFalls}
 use Rattle.hay_legal.specs.Legal.{Legal, known_after, IsUnbuiltLine}
+use Rattle.hay_legal.specs.Plain.{LegalAnswer}
+use Rattle.hay_legal.specs.Restarts.{LegalRestart}
 use Rattle.hay_legal.specs.Transcript.{turn_text, answered_line}
 use Rattle.hay_cluster.specs.Outside.{Aside}
-use Rattle.hay_cluster.specs.State.{Open, Stands, Answered}
-use Rattle.hay_run.specs.Turns.{Answers, AnswersFrom, Halts}
+use Rattle.hay_cluster.specs.State.{Open}
+use Rattle.hay_run.specs.Turns.{Writing, Standing, Answers}
 use Rattle.hay_run.specs.Unbuilt.{unbuilt_reply, unbuilt_text, unbuilt_line}
 
 -- what holds of each error holds of these two
@@ -79,7 +83,7 @@ block_text lines = simp append-nil (lines_text lines)
 
 -- one turn behind others
 
-legal_more : (settings : Settings) (k : Known) (turns : List Turn) (mid : Known) (more : List Turn) (t : Known) → Legal settings k turns mid → Legal settings mid more t → Legal settings k (turns ++ more) t
+pub legal_more : (settings : Settings) (k : Known) (turns : List Turn) (mid : Known) (more : List Turn) (t : Known) → Legal settings k turns mid → Legal settings mid more t → Legal settings k (turns ++ more) t
 legal_more settings k [] mid more t h legal = let P : Known → Type 0 = λ known. Legal settings known more t in subst P h legal
 legal_more settings k (first ∷ turns) mid more t h legal = (h.0, legal_more settings (known_after first) turns mid more t h.1 legal)
 
@@ -87,82 +91,98 @@ pub rose_more : (a b c : ℕ) → a ≤ b → Rose b c → Rose a c
 rose_more a b c h (inl less) = inl (omega arith)
 rose_more a b c h (inr most) = inr most
 
+wrote_part-by : (before after : Option (List ℕ)) (text : List ℕ) → Wrote before text after → Wrote before (take (length text) text) after
+wrote_part-by before after text wrote = let P : List ℕ → Type 0 = λ bytes. Wrote before bytes after in subst P (sym (take-length text)) wrote
+
+-- what was written whole was written in part
+pub wrote_part : (before after : Option (List ℕ)) (text : List ℕ) → Wrote before text after → WrotePart before text after
+wrote_part before after text wrote = (length text, wrote_part-by before after text wrote)
+
 -- ANSWERS
 
-module _ {D : Type 0} (files : D → Files) (faults fuses : D → ℕ) (aside : Aside) where
-  pub answers_nothing : (k : Known) (written : Option (List ℕ)) (store : Open D) → Stands files faults fuses aside store k
-      → Answers Wrote files faults fuses aside k [] written store written
-  answers_nothing k written store stands = record {
+module _ {D : Type 0} (Left : Standing D) (aside : Aside) where
+  pub answers_nothing : (k : Known) (written : Option (List ℕ)) (store : Open D) → Left aside store k
+      → Answers Wrote Left aside k [] written store written
+  answers_nothing k written store left = record {
     turns = [];
     t = k;
     items = refl;
     legal = refl;
-    stands = stands;
+    left = left;
     wrote = wrote_nothing written;
   }
 
-  pub answers_bad : (Writes : Option (List ℕ) → List ℕ → Option (List ℕ) → Type 0) (k : Known) (number : ℕ) (written written' : Option (List ℕ)) (store : Open D)
-      → Stands files faults fuses aside store k → Writes written (numbered_line number BadLine) written'
-      → Answers Writes files faults fuses aside k (Alone number item.Bad ∷ []) written store written'
-  answers_bad Writes k number written written' store stands wrote =
+  pub answers_bad : (Writes : Writing) (k : Known) (number : ℕ) (written written' : Option (List ℕ)) (store : Open D)
+      → Left aside store k → Writes written (numbered_line number BadLine) written'
+      → Answers Writes Left aside k (Alone number item.Bad ∷ []) written store written'
+  answers_bad Writes k number written written' store left wrote =
       let P : List ℕ → Type 0 = λ text. Writes written text written' in
       record {
         turns = Plain number item.Bad BadLine k ∷ [];
         t = k;
         items = refl;
         legal = ((refl, leaves_same k), refl);
-        stands = stands;
+        left = left;
         wrote = subst P (sym (append-nil (numbered_line number BadLine))) wrote;
       }
 
-  pub answers_plain : (Writes : Option (List ℕ) → List ℕ → Option (List ℕ) → Type 0) (k : Known) (number : ℕ) (command : Command) (reply : Reply) (written written' : Option (List ℕ)) (store : Open D)
-      → Answered files faults fuses aside k (record { lane = 0; line = number }) command reply store → Writes written (numbered_line number reply) written'
-      → Answers Writes files faults fuses aside k (Alone number (item.Command command) ∷ []) written store written'
-  answers_plain Writes k number command reply written written' store answered wrote =
+  pub answers_plain : (Writes : Writing) (k t : Known) (number : ℕ) (command : Command) (reply : Reply) (written written' : Option (List ℕ)) (store : Open D)
+      → LegalAnswer store.settings k (record { lane = 0; line = number }) command reply t → Left aside store t → Writes written (numbered_line number reply) written'
+      → Answers Writes Left aside k (Alone number (item.Command command) ∷ []) written store written'
+  answers_plain Writes k t number command reply written written' store legal left wrote =
       let P : List ℕ → Type 0 = λ text. Writes written text written' in
       record {
-        turns = Plain number (item.Command command) reply answered.known ∷ [];
-        t = answered.known;
+        turns = Plain number (item.Command command) reply t ∷ [];
+        t = t;
         items = refl;
-        legal = (answered.legal, refl);
-        stands = answered.stands;
+        legal = (legal, refl);
+        left = left;
         wrote = subst P (sym (append-nil (numbered_line number reply))) wrote;
       }
 
-  pub answers_block : (Writes : Option (List ℕ) → List ℕ → Option (List ℕ) → Type 0) (k : Known) (lines : List InBlock) (written written' : Option (List ℕ)) (store : Open D)
-      → Stands files faults fuses aside store k → Writes written (flat_map unbuilt_text lines) written'
-      → Answers Writes files faults fuses aside k (Block lines ∷ []) written store written'
-  answers_block Writes k lines written written' store stands wrote =
+  pub answers_restart : (Writes : Writing) (k t : Known) (number pick : ℕ) (reply : Reply) (notes : List Note) (written written' : Option (List ℕ)) (store : Open D)
+      → LegalRestart store.settings k reply notes t → Left aside store t → Writes written (numbered_line number reply ++ flat_map note_line notes) written'
+      → Answers Writes Left aside k (Alone number (item.Command (asks.Restart pick)) ∷ []) written store written'
+  answers_restart Writes k t number pick reply notes written written' store legal left wrote =
+      let P : List ℕ → Type 0 = λ text. Writes written text written' in
+      record {
+        turns = Restart number pick reply notes t ∷ [];
+        t = t;
+        items = refl;
+        legal = (legal, refl);
+        left = left;
+        wrote = subst P (sym (append-nil (numbered_line number reply ++ flat_map note_line notes))) wrote;
+      }
+
+  pub answers_block : (Writes : Writing) (k : Known) (lines : List InBlock) (written written' : Option (List ℕ)) (store : Open D)
+      → Left aside store k → Writes written (flat_map unbuilt_text lines) written'
+      → Answers Writes Left aside k (Block lines ∷ []) written store written'
+  answers_block Writes k lines written written' store left wrote =
       let P : List ℕ → Type 0 = λ text. Writes written text written' in
       record {
         turns = Lanes (map unbuilt_line lines) [] (record { from = 0; rows = [] }) k ∷ [];
         t = k;
         items = ap (λ (items : List InBlock). Block items ∷ []) (asked_lines lines);
         legal = (inr (record { lines = all_unbuilt lines; no_entries = refl; no_rows = refl; leaves = leaves_same k }), refl);
-        stands = stands;
+        left = left;
         wrote = subst P (sym (block_text lines)) wrote;
       }
 
-  pub answers_more : (Writes : Option (List ℕ) → List ℕ → Option (List ℕ) → Type 0)
-      → ((before mid after : Option (List ℕ)) (a b : List ℕ) → Wrote before a mid → Writes mid b after → Writes before (a ++ b) after)
-      → (k : Known) (asked more : List Asked) (written written' written'' : Option (List ℕ)) (store store' : Open D)
-      → store'.settings ≡ store.settings
-      → (first : Answers Wrote files faults fuses aside k asked written store written') → Answers Writes files faults fuses aside first.t more written' store' written''
-      → Answers Writes files faults fuses aside k (asked ++ more) written store' written''
-  answers_more Writes joins k asked more written written' written'' store store' same first next =
-      let P : Settings → Type 0 = λ settings. Legal settings k first.turns first.t in
-      let Q : List ℕ → Type 0 = λ text. Writes written text written'' in
-      record {
-        turns = first.turns ++ next.turns;
-        t = next.t;
-        items = map-append item_of_turn first.turns next.turns ∙ ap (λ (items : List Asked). items ++ map item_of_turn next.turns) first.items ∙ ap (λ (items : List Asked). asked ++ items) next.items;
-        legal = legal_more store'.settings k first.turns first.t next.turns next.t (subst P (sym same) first.legal) next.legal;
-        stands = next.stands;
-        wrote = subst Q (sym (flat_map-append turn_text first.turns next.turns)) (joins written written' written'' (flat_map turn_text first.turns) (flat_map turn_text next.turns) first.wrote next.wrote);
-      }
-
-pub halts_more : {D : Type 0} (files : D → Files) (faults fuses : D → ℕ) (Tells : Type 0) (asked : List Asked) (written written' : Option (List ℕ)) (store mid store' : Open D)
-    → faults store.disk ≤ faults mid.disk → AnswersFrom Tells Wrote files faults fuses asked store written mid written' → Halts Tells files faults fuses mid store' → Halts Tells files faults fuses store store'
-halts_more files faults fuses Tells asked written written' store mid store' later answers (inl rose) = inl (rose_more (faults store.disk) (faults mid.disk) (faults store'.disk) later rose)
-halts_more files faults fuses Tells asked written written' store mid store' later answers (inr none) =
-    inr (λ tells aside k stands. let a = answers tells aside k stands in none tells aside a.t a.stands)
+-- turns behind others
+pub answers_more : {D : Type 0} (Between Left : Standing D) (aside : Aside) (Writes : Writing)
+    → ((before mid after : Option (List ℕ)) (a b : List ℕ) → Wrote before a mid → Writes mid b after → Writes before (a ++ b) after)
+    → (k : Known) (asked more : List Asked) (written written' written'' : Option (List ℕ)) (store store' : Open D)
+    → store'.settings ≡ store.settings
+    → (first : Answers Wrote Between aside k asked written store written') → Answers Writes Left aside first.t more written' store' written''
+    → Answers Writes Left aside k (asked ++ more) written store' written''
+answers_more Between Left aside Writes joins k asked more written written' written'' store store' same first next =
+    let P : Settings → Type 0 = λ settings. Legal settings k first.turns first.t in
+    let Q : List ℕ → Type 0 = λ text. Writes written text written'' in
+    record {
+      turns = first.turns ++ next.turns;
+      t = next.t;
+      items = map-append item_of_turn first.turns next.turns ∙ ap (λ (items : List Asked). items ++ map item_of_turn next.turns) first.items ∙ ap (λ (items : List Asked). asked ++ items) next.items;
+      legal = legal_more store'.settings k first.turns first.t next.turns next.t (subst P (sym same) first.legal) next.legal;
+      left = next.left;
+      wrote = subst Q (sym (flat_map-append turn_text first.turns next.turns)) (joins written written' written'' (flat_map turn_text first.turns) (flat_map turn_text next.turns) first.wrote next.wrote);
+    }

@@ -1,5 +1,5 @@
 -- A script as it comes in.
-use Rattle.std.specs.Prelude.{◌≡◌, ℕ, ◌+◌, ◌-◌, ◌<◌, Bool, List, [], ◌++◌, length, Option, Some, None, option_map, if◌then◌else◌}
+use Rattle.std.specs.Prelude.{◌≡◌, ℕ, ◌+◌, ◌-◌, Bool, List, [], ◌++◌, length, Option, Some, None, option_map, if◌then◌else◌}
 use Rattle.hay_disk.specs.Streams.{Took}
 
 -- Bytes that were taken and not given out yet, how many were taken in all, and whether the end was met.
@@ -21,10 +21,10 @@ abbrev pub Accounts : Option (List ℕ) → Held → Option (List ℕ) → Held 
 Accounts None held after held' = Unit {0}
 Accounts (Some all) held after held' = (rest : List ℕ) × (after ≡ Some rest) × (held.taken + length all ≡ held'.taken + length rest)
 
--- more comes than a script may have
-abbrev pub IsTooLong : ℕ → Option (List ℕ) → Held → Type 0
-IsTooLong limit None held = Unit {0}
-IsTooLong limit (Some all) held = limit < held.taken + length all
+-- one byte more was taken than a script may have
+abbrev pub IsTooLong : ℕ → Option (List ℕ) → Held → Option (List ℕ) → Type 0
+IsTooLong limit None held after = Unit {0}
+IsTooLong limit (Some all) held after = (rest : List ℕ) × (after ≡ Some rest) × (held.taken + length all ≡ limit + 1 + length rest)
 
 -- all that was left was taken
 abbrev pub TookAll : Option (List ℕ) → List ℕ → Option (List ℕ) → Type 0

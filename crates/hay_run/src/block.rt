@@ -165,10 +165,11 @@ fn read_lines<S: Source>(
     ensures accounts { OnOk result (Accounts (S.left source.old) script.old (S.left source.new) script.new) }
     ensures left { OnOk result (budget SCRIPT script.new ≤ budget SCRIPT script.old) }
     ensures limit { OnOk result (script.new.taken ≤ SCRIPT) }
+    ensures none_held { (IsErrOf result Stop.Input ⊎ IsErrOf result Stop.TooLong) → script.new.bytes ≡ [] }
     ensures input { IsErrOf result Stop.Input → TookOpen TookPart number (Some block) (rest_of (S.left source.old) script.old) (rest_of (S.left source.new) script.new) }
     ensures over { IsErrOf result Stop.TooLong → TookOpen TookOver number (Some block) (rest_of (S.left source.old) script.old) (rest_of (S.left source.new) script.new) }
     ensures memory { IsErrOf result Stop.NoMemory → TookSome (rest_of (S.left source.old) script.old) (rest_of (S.left source.new) script.new) }
-    ensures long { IsErrOf result Stop.TooLong → IsTooLong SCRIPT (S.left source.old) script.old }
+    ensures long { IsErrOf result Stop.TooLong → IsTooLong SCRIPT (S.left source.old) script.old (S.left source.new) }
     ensures stops { OnErr result ((result ≡ Err Stop.Input) ⊎ (result ≡ Err Stop.NoMemory) ⊎ (result ≡ Err Stop.TooLong)) }
     ensures cause { IsErrOf result Stop.Input → Rose (S.fault_count source.old) (S.fault_count source.new) }
     ensures count { S.fault_count source.old ≤ S.fault_count source.new }
@@ -205,10 +206,11 @@ pub fn read_block<S: Source>(
     ensures accounts { OnOk result (Accounts (S.left source.old) script.old (S.left source.new) script.new) }
     ensures left { OnOk result (budget SCRIPT script.new ≤ budget SCRIPT script.old) }
     ensures limit { script.old.taken ≤ SCRIPT → OnOk result (script.new.taken ≤ SCRIPT) }
+    ensures none_held { (IsErrOf result Stop.Input ⊎ IsErrOf result Stop.TooLong) → script.new.bytes ≡ [] }
     ensures input { IsErrOf result Stop.Input → TookOpen TookPart number (Some (empty_block lanes)) (rest_of (S.left source.old) script.old) (rest_of (S.left source.new) script.new) }
     ensures over { IsErrOf result Stop.TooLong → TookOpen TookOver number (Some (empty_block lanes)) (rest_of (S.left source.old) script.old) (rest_of (S.left source.new) script.new) }
     ensures memory { IsErrOf result Stop.NoMemory → TookSome (rest_of (S.left source.old) script.old) (rest_of (S.left source.new) script.new) }
-    ensures long { IsErrOf result Stop.TooLong → IsTooLong SCRIPT (S.left source.old) script.old }
+    ensures long { IsErrOf result Stop.TooLong → IsTooLong SCRIPT (S.left source.old) script.old (S.left source.new) }
     ensures stops { OnErr result ((result ≡ Err Stop.Input) ⊎ (result ≡ Err Stop.NoMemory) ⊎ (result ≡ Err Stop.TooLong)) }
     ensures open { OnErr result (script.old.ended ≡ false) }
     ensures cause { IsErrOf result Stop.Input → Rose (S.fault_count source.old) (S.fault_count source.new) }

@@ -1,5 +1,5 @@
 //! Reads a script byte by byte, from a source that gives any number of bytes at a time.
-ghost use Rattle.std.specs.Prelude.{◌≡◌, ◌≢◌, ◌<◌, ◌≤◌, [], ◌∷◌, true, false, IfOk, IfSome, IfNone, OnOk, IsErrOf};
+ghost use Rattle.std.specs.Prelude.{◌≡◌, ◌≢◌, ◌<◌, ◌≤◌, [], ◌∷◌, true, false, IfOk, IfSome, IfNone, OnOk, OnErr, IsErrOf};
 ghost use Rattle.hay_disk.specs.Counts.{Rose};
 ghost use Rattle.hay_disk.specs.Streams.{Took};
 ghost use Rattle.hay_run.specs.Stream.{rest_of, budget, Accounts, IsTooLong, TookAll, TookOne};
@@ -65,9 +65,10 @@ impl ScriptBytes {
         ensures accounts { OnOk result (Accounts (S.left source.old) self.old (S.left source.new) self.new) }
         ensures left { OnOk result (budget SCRIPT self.new ≤ budget SCRIPT self.old) }
         ensures less { OnOk result (self.new.bytes ≡ [] → budget SCRIPT self.new < budget SCRIPT self.old) }
+        ensures none_held { OnErr result (self.new.bytes ≡ []) }
         ensures failed { IsErrOf result ReadFault.Failed → Took (rest_of (S.left source.old) self.old) [] (rest_of (S.left source.new) self.new) }
         ensures over { IsErrOf result ReadFault.TooLong → TookOne (rest_of (S.left source.old) self.old) (rest_of (S.left source.new) self.new) }
-        ensures long { IsErrOf result ReadFault.TooLong → IsTooLong SCRIPT (S.left source.old) self.old }
+        ensures long { IsErrOf result ReadFault.TooLong → IsTooLong SCRIPT (S.left source.old) self.old (S.left source.new) }
         ensures cause { IsErrOf result ReadFault.Failed → Rose (S.fault_count source.old) (S.fault_count source.new) }
         ensures count { S.fault_count source.old ≤ S.fault_count source.new }
     {
@@ -112,9 +113,10 @@ impl ScriptBytes {
         ensures accounts { OnOk result (Accounts (S.left source.old) self.old (S.left source.new) self.new) }
         ensures left { OnOk result (budget SCRIPT self.new ≤ budget SCRIPT self.old) }
         ensures less { OnOk result (self.new.bytes ≡ [] → budget SCRIPT self.new < budget SCRIPT self.old) }
+        ensures none_held { OnErr result (self.new.bytes ≡ []) }
         ensures failed { IsErrOf result ReadFault.Failed → Took (rest_of (S.left source.old) self.old) [] (rest_of (S.left source.new) self.new) }
         ensures over { IsErrOf result ReadFault.TooLong → TookOne (rest_of (S.left source.old) self.old) (rest_of (S.left source.new) self.new) }
-        ensures long { IsErrOf result ReadFault.TooLong → IsTooLong SCRIPT (S.left source.old) self.old }
+        ensures long { IsErrOf result ReadFault.TooLong → IsTooLong SCRIPT (S.left source.old) self.old (S.left source.new) }
         ensures cause { IsErrOf result ReadFault.Failed → Rose (S.fault_count source.old) (S.fault_count source.new) }
         ensures count { S.fault_count source.old ≤ S.fault_count source.new }
     {
@@ -153,9 +155,10 @@ impl ScriptBytes {
         ensures accounts { OnOk result (Accounts (S.left source.old) self.old (S.left source.new) self.new) }
         ensures left { OnOk result (budget SCRIPT self.new < budget SCRIPT self.old) }
         ensures limit { OnOk result (self.new.taken ≤ SCRIPT) }
+        ensures none_held { OnErr result (self.new.bytes ≡ []) }
         ensures failed { IsErrOf result ReadFault.Failed → Took (rest_of (S.left source.old) self.old) [] (rest_of (S.left source.new) self.new) }
         ensures over { IsErrOf result ReadFault.TooLong → TookOne (rest_of (S.left source.old) self.old) (rest_of (S.left source.new) self.new) }
-        ensures long { IsErrOf result ReadFault.TooLong → IsTooLong SCRIPT (S.left source.old) self.old }
+        ensures long { IsErrOf result ReadFault.TooLong → IsTooLong SCRIPT (S.left source.old) self.old (S.left source.new) }
         ensures cause { IsErrOf result ReadFault.Failed → Rose (S.fault_count source.old) (S.fault_count source.new) }
         ensures count { S.fault_count source.old ≤ S.fault_count source.new }
     {

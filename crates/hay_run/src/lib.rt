@@ -15,6 +15,8 @@ mod program;
 mod serve;
 mod stops;
 mod turns;
+mod words;
+mod writing;
 
 pub use bytes::SCRIPT;
 pub use lines::LINE;

@@ -147,10 +147,11 @@ fn next_line<S: Source>(
     ensures accounts { OnOk result (Accounts (S.left source.old) bytes.old (S.left source.new) bytes.new) }
     ensures left { OnOk result (budget SCRIPT bytes.new < budget SCRIPT bytes.old) }
     ensures limit { OnOk result (bytes.new.taken ≤ SCRIPT) }
+    ensures none_held { (IsErrOf result Stop.Input ⊎ IsErrOf result Stop.TooLong) → bytes.new.bytes ≡ [] }
     ensures failed { IsErrOf result Stop.Input → TookPart (rest_of (S.left source.old) bytes.old) (rest_of (S.left source.new) bytes.new) }
     ensures memory { IsErrOf result Stop.NoMemory → TookPart (rest_of (S.left source.old) bytes.old) (rest_of (S.left source.new) bytes.new) }
     ensures over { IsErrOf result Stop.TooLong → TookOver (rest_of (S.left source.old) bytes.old) (rest_of (S.left source.new) bytes.new) }
-    ensures long { IsErrOf result Stop.TooLong → IsTooLong SCRIPT (S.left source.old) bytes.old }
+    ensures long { IsErrOf result Stop.TooLong → IsTooLong SCRIPT (S.left source.old) bytes.old (S.left source.new) }
     ensures stops { OnErr result ((result ≡ Err Stop.Input) ⊎ (result ≡ Err Stop.NoMemory) ⊎ (result ≡ Err Stop.TooLong)) }
     ensures cause { IsErrOf result Stop.Input → Rose (S.fault_count source.old) (S.fault_count source.new) }
     ensures count { S.fault_count source.old ≤ S.fault_count source.new }
@@ -218,10 +219,11 @@ impl ScriptLines {
         ensures accounts { OnOk result (Accounts (S.left source.old) self.old (S.left source.new) self.new) }
         ensures left { OnOk result (budget SCRIPT self.new < budget SCRIPT self.old) }
         ensures limit { OnOk result (self.new.taken ≤ SCRIPT) }
+        ensures none_held { (IsErrOf result Stop.Input ⊎ IsErrOf result Stop.TooLong) → self.new.bytes ≡ [] }
         ensures failed { IsErrOf result Stop.Input → TookPart (rest_of (S.left source.old) self.old) (rest_of (S.left source.new) self.new) }
         ensures memory { IsErrOf result Stop.NoMemory → TookSome (rest_of (S.left source.old) self.old) (rest_of (S.left source.new) self.new) }
         ensures over { IsErrOf result Stop.TooLong → TookOver (rest_of (S.left source.old) self.old) (rest_of (S.left source.new) self.new) }
-        ensures long { IsErrOf result Stop.TooLong → IsTooLong SCRIPT (S.left source.old) self.old }
+        ensures long { IsErrOf result Stop.TooLong → IsTooLong SCRIPT (S.left source.old) self.old (S.left source.new) }
         ensures stops { OnErr result ((result ≡ Err Stop.Input) ⊎ (result ≡ Err Stop.NoMemory) ⊎ (result ≡ Err Stop.TooLong)) }
         ensures cause { IsErrOf result Stop.Input → Rose (S.fault_count source.old) (S.fault_count source.new) }
         ensures count { S.fault_count source.old ≤ S.fault_count source.new }

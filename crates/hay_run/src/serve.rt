@@ -1,9 +1,10 @@
 //! Turn after turn, to the end of a script.
-ghost use Rattle.std.specs.Prelude.{◌≡◌, ℕ, ◌<◌, ◌≤◌, List, length, Some, OnOk, IsErrOf};
+ghost use Rattle.std.specs.Prelude.{◌≡◌, ℕ, ◌+◌, ◌≤◌, List, length, Some, Err, OnOk, IsErrOf};
 ghost use Rattle.hay_disk.specs.Counts.{Rose};
-ghost use Rattle.hay_disk.specs.Streams.{Wrote};
+ghost use Rattle.hay_cluster.specs.State.{IsAlone, IsUp, Stands, Holds};
+ghost use Rattle.hay_run.specs.declared.stops.Stop.{Stop};
 ghost use Rattle.hay_run.specs.Stream.{IsReadToEnd};
-ghost use Rattle.hay_run.specs.Turns.{Serves, Halts};
+ghost use Rattle.hay_run.specs.Turns.{Serves, ServedUntil, Halts};
 
 use crate::bytes::SCRIPT;
 use crate::lines::ScriptLines;
@@ -20,17 +21,19 @@ pub fn serve<D: Disk, S: Source, K: Sink>(
     source: &mut S,
     sink: &mut K,
 ) -> Result<(), Stop>
-    ensures served { OnOk result (Serves D.Tells D.files D.fault_count D.fuse_count (S.left source.old) cluster.old (K.written sink.old) cluster.new (K.written sink.new)) }
+    requires up { IsUp cluster.old }
+    requires alone { IsAlone cluster.old.settings }
+    ensures served { OnOk result (Serves D.Tells (Stands D.files D.fault_count D.fuse_count) (S.left source.old) cluster.old (K.written sink.old) cluster.new (K.written sink.new)) }
+    ensures stopped { (stop : Stop) → result ≡ Err stop → ServedUntil D.Tells (Stands D.files D.fault_count D.fuse_count) (Holds D.files D.fault_count D.fuse_count) stop (S.left source.old) cluster.old (K.written sink.old) (S.left source.new) cluster.new (K.written sink.new) }
     ensures ended { OnOk result (IsReadToEnd (S.left source.old) (S.left source.new)) }
     ensures short { OnOk result ((script : List ℕ) → S.left source.old ≡ Some script → length script ≤ SCRIPT) }
-    ensures long { IsErrOf result Stop.TooLong → (script : List ℕ) → S.left source.old ≡ Some script → SCRIPT < length script }
+    ensures long { IsErrOf result Stop.TooLong → (script : List ℕ) → S.left source.old ≡ Some script → (rest : List ℕ) × (S.left source.new ≡ Some rest) × (length script ≡ SCRIPT + 1 + length rest) }
     ensures source { IsErrOf result Stop.Input → Rose (S.fault_count source.old) (S.fault_count source.new) }
     ensures source_count { S.fault_count source.old ≤ S.fault_count source.new }
     ensures sink { IsErrOf result Stop.Output → Rose (K.fault_count sink.old) (K.fault_count sink.new) }
     ensures sink_count { K.fault_count sink.old ≤ K.fault_count sink.new }
-    ensures halted { IsErrOf result Stop.Store → Halts D.Tells D.files D.fault_count D.fuse_count cluster.old cluster.new }
+    ensures halted { IsErrOf result Stop.Store → Halts D.Tells (Stands D.files D.fault_count D.fuse_count) D.fault_count cluster.old cluster.new (K.written sink.new) }
     ensures faults { D.fault_count cluster.old.disk ≤ D.fault_count cluster.new.disk }
-    ensures fuses { D.fuse_count cluster.new.disk ≡ D.fuse_count cluster.old.disk }
     ensures settings { cluster.new.settings ≡ cluster.old.settings }
 {
     let mut script = ScriptLines::new(alloc);

@@ -29,11 +29,12 @@ pub enum Stop {
 }
 
 impl Stop {
-    ghost use Rattle.hay_run.specs.Stops.{status_of};
+    ghost use Rattle.hay_legal.specs.Statuses.{status_of};
+    ghost use Rattle.hay_run.specs.Stops.{ending_of};
 
     /// The status of a run that stops so.
     pub fn status(self) -> u8
-        ensures { result ≡ status_of self }
+        ensures { result ≡ status_of (ending_of self) }
     {
         match self {
             Stop::Output => 3,

@@ -1,84 +1,33 @@
 //! One turn: what comes next is read, answered and written.
-ghost use Rattle.std.specs.Prelude.{◌≡◌, ◌⊎◌, ℕ, ◌+◌, ◌^◌, ◌<◌, ◌≤◌, [], ◌∷◌, false, None, Err, flat_map, IfOk, OnOk, OnErr, IsErrOf};
+ghost use Rattle.std.specs.Prelude.{◌≡◌, ◌≢◌, ◌⊎◌, ℕ, ◌+◌, ◌^◌, ◌<◌, ◌≤◌, [], ◌∷◌, false, Some, None, Err, IfOk, OnOk, OnErr, IsErrOf};
 ghost use Rattle.hay_disk.specs.Counts.{Rose};
 ghost use Rattle.hay_disk.specs.Streams.{Wrote, WrotePart};
 ghost use Rattle.hay_script.specs.Script.{IsWithin, IsWithinLine};
+ghost use Rattle.hay_script.specs.declared.Command.TheVariants as asks;
+ghost use Rattle.hay_reply.specs.declared.Note.{Note};
 ghost use Rattle.hay_reply.specs.Replies as texts;
-ghost use Rattle.hay_legal.specs.declared.known.Known.{Known};
 ghost use Rattle.hay_legal.specs.declared.turn.Item.TheVariants as item;
 ghost use Rattle.hay_legal.specs.Items.{outside};
 ghost use Rattle.hay_legal.specs.Items.Asked.{Alone};
-ghost use Rattle.hay_cluster.specs.Outside.{Aside};
-ghost use Rattle.hay_cluster.specs.State.{Stands, Answered};
+ghost use Rattle.hay_cluster.specs.State.{IsAlone, IsUp, Stands, Holds};
 ghost use Rattle.hay_run.specs.Items.{TookOpen};
 ghost use Rattle.hay_run.specs.Lines.{TookPart, TookOver, TookSome};
 ghost use Rattle.hay_run.specs.Stream.{rest_of, budget, Accounts, IsTooLong};
-ghost use Rattle.hay_run.specs.Turns.{AnswersFrom, Turned, Halts};
-ghost use Rattle.hay_run.specs.Unbuilt.{unbuilt_text};
+ghost use Rattle.hay_run.specs.Stops.{note_of};
+ghost use Rattle.hay_run.specs.Turns.{AnswersFrom, Turned, RestartRefused, Broke, Halts};
+ghost use Rattle.hay_run.specs.Stopping.{RefusedAsked, BrokeAsked};
 
-use crate::block::{LaneBlock, read_block};
+use crate::block::read_block;
 use crate::bytes::SCRIPT;
 use crate::lines::ScriptLines;
 use crate::stops::Stop;
-use hay_cluster::{Cluster, Halted};
+use crate::writing::{write_block, write_refusal, write_reply, write_restarted};
+use hay_cluster::{Cluster, ClusterFault};
 use hay_core::CoreTag;
-use hay_disk::{Disk, Failed, Sink, Source};
-use hay_reply::{Reply, numbered_line};
+use hay_disk::{Disk, Sink, Source};
+use hay_reply::Reply;
 use hay_script::{Command, Line};
 use std::alloc::Global;
-
-/// Answers the plain command of a line.
-fn answer<D: Disk>(
-    alloc: Global,
-    cluster: &mut Cluster<D>,
-    number: u64,
-    command: &Command,
-) -> Result<Reply, Stop>
-    requires { IsWithin command.now }
-    ensures legal { D.Tells → (aside : Aside) (k : Known) → Stands D.files D.fault_count D.fuse_count aside cluster.old k → IfOk result (λ reply. Answered D.files D.fault_count D.fuse_count aside k (record { lane = 0; line = number }) command.now reply cluster.new) }
-    ensures stops { OnErr result (result ≡ Err Stop.Store) }
-    ensures halted { OnErr result (Halts D.Tells D.files D.fault_count D.fuse_count cluster.old cluster.new) }
-    ensures faults { D.fault_count cluster.old.disk ≤ D.fault_count cluster.new.disk }
-    ensures fuses { D.fuse_count cluster.new.disk ≡ D.fuse_count cluster.old.disk }
-    ensures settings { cluster.new.settings ≡ cluster.old.settings }
-{
-    let tag = CoreTag {
-        lane: 0,
-        line: number,
-    };
-    match cluster.answer(alloc, tag, command) {
-        Ok(reply) => Ok(reply),
-        Err(Halted::Failed) => Err(Stop::Store),
-        Err(Halted::Damaged) => Err(Stop::Store),
-    }
-}
-
-/// Writes the text of a turn.
-pub fn write_text<K: Sink>(sink: &mut K, text: &[u8]) -> Result<(), Stop>
-    ensures wrote { OnOk result (Wrote (K.written sink.old) text.now (K.written sink.new)) }
-    ensures part { OnErr result (WrotePart (K.written sink.old) text.now (K.written sink.new)) }
-    ensures stops { OnErr result (result ≡ Err Stop.Output) }
-    ensures cause { OnErr result (Rose (K.fault_count sink.old) (K.fault_count sink.new)) }
-    ensures count { K.fault_count sink.old ≤ K.fault_count sink.new }
-{
-    match sink.write(text) {
-        Ok(()) => Ok(()),
-        Err(Failed) => Err(Stop::Output),
-    }
-}
-
-/// Writes the line of a reply.
-fn write_reply<K: Sink>(alloc: Global, number: u64, reply: &Reply, sink: &mut K) -> Result<(), Stop>
-    ensures wrote { OnOk result (Wrote (K.written sink.old) (texts.numbered_line number reply.now) (K.written sink.new)) }
-    ensures part { OnErr result (WrotePart (K.written sink.old) (texts.numbered_line number reply.now) (K.written sink.new)) }
-    ensures stops { OnErr result ((result ≡ Err Stop.Output) ⊎ (result ≡ Err Stop.NoMemory)) }
-    ensures cause { IsErrOf result Stop.Output → Rose (K.fault_count sink.old) (K.fault_count sink.new) }
-    ensures count { K.fault_count sink.old ≤ K.fault_count sink.new }
-{
-    let mut text = Vec::new(alloc);
-    numbered_line(alloc, number, reply, &mut text)?;
-    write_text(sink, text.as_slice())
-}
 
 /// Answers a plain command, and writes the reply.
 fn plain<D: Disk, K: Sink>(
@@ -88,19 +37,70 @@ fn plain<D: Disk, K: Sink>(
     command: &Command,
     sink: &mut K,
 ) -> Result<(), Stop>
-    requires { IsWithin command.now }
-    ensures answers { OnOk result (AnswersFrom D.Tells Wrote D.files D.fault_count D.fuse_count (Alone number (item.Command command.now) ∷ []) cluster.old (K.written sink.old) cluster.new (K.written sink.new)) }
-    ensures part { (IsErrOf result Stop.Output ⊎ IsErrOf result Stop.NoMemory) → AnswersFrom D.Tells WrotePart D.files D.fault_count D.fuse_count (Alone number (item.Command command.now) ∷ []) cluster.old (K.written sink.old) cluster.new (K.written sink.new) }
+    requires within { IsWithin command.now }
+    requires goes_on { (pick : ℕ) → command.now ≢ asks.Restart pick }
+    requires up { IsUp cluster.old }
+    requires alone { IsAlone cluster.old.settings }
+    ensures answers { OnOk result (AnswersFrom D.Tells Wrote (Stands D.files D.fault_count D.fuse_count) (Stands D.files D.fault_count D.fuse_count) (Alone number (item.Command command.now) ∷ []) cluster.old (K.written sink.old) cluster.new (K.written sink.new)) }
+    ensures part { OnErr result (AnswersFrom D.Tells WrotePart (Stands D.files D.fault_count D.fuse_count) (Holds D.files D.fault_count D.fuse_count) (Alone number (item.Command command.now) ∷ []) cluster.old (K.written sink.old) cluster.new (K.written sink.new)) }
+    ensures stops { OnErr result ((result ≡ Err Stop.Output) ⊎ (result ≡ Err Stop.NoMemory)) }
+    ensures cause { IsErrOf result Stop.Output → Rose (K.fault_count sink.old) (K.fault_count sink.new) }
+    ensures count { K.fault_count sink.old ≤ K.fault_count sink.new }
+    ensures up { IsUp cluster.new }
+    ensures faults { D.fault_count cluster.old.disk ≤ D.fault_count cluster.new.disk }
+    ensures settings { cluster.new.settings ≡ cluster.old.settings }
+{
+    let tag = CoreTag {
+        lane: 0,
+        line: number,
+    };
+    let reply = cluster.answer(alloc, tag, command);
+    write_reply(alloc, number, &reply, sink)
+}
+
+/// Ends a restart that was refused, and answers why the run stops.
+fn refuse<K: Sink>(alloc: Global, number: u64, fault: ClusterFault, sink: &mut K) -> Stop
+    ensures wanting { fault ≡ ClusterFault.NoMemory → (result ≢ Stop.Store) × WrotePart (K.written sink.old) (texts.numbered_line number Reply.NoMem) (K.written sink.new) }
+    ensures told { result ≡ Stop.Store → (note : Note) × (note_of fault ≡ Some note) × Wrote (K.written sink.old) (texts.note_line note) (K.written sink.new) }
+    ensures part { (note : Note) → note_of fault ≡ Some note → (result ≡ Stop.Store) ⊎ WrotePart (K.written sink.old) (texts.note_line note) (K.written sink.new) }
+    ensures stops { (result ≡ Stop.Output) ⊎ (result ≡ Stop.NoMemory) ⊎ (result ≡ Stop.Store) }
+    ensures cause { result ≡ Stop.Output → Rose (K.fault_count sink.old) (K.fault_count sink.new) }
+    ensures count { K.fault_count sink.old ≤ K.fault_count sink.new }
+{
+    if let ClusterFault::NoMemory = fault {
+        return match write_reply(alloc, number, &Reply::NoMem, sink) {
+            Ok(()) => Stop::NoMemory,
+            Err(stop) => stop,
+        };
+    }
+    write_refusal(alloc, fault, sink)
+}
+
+/// Restarts the store, and writes the reply and its notes.
+fn restart<D: Disk, K: Sink>(
+    alloc: Global,
+    cluster: &mut Cluster<D>,
+    number: u64,
+    pick: u64,
+    sink: &mut K,
+) -> Result<(), Stop>
+    requires up { IsUp cluster.old }
+    requires alone { IsAlone cluster.old.settings }
+    ensures answers { OnOk result (AnswersFrom D.Tells Wrote (Stands D.files D.fault_count D.fuse_count) (Stands D.files D.fault_count D.fuse_count) (Alone number (item.Command (asks.Restart pick)) ∷ []) cluster.old (K.written sink.old) cluster.new (K.written sink.new)) }
+    ensures broke { (IsErrOf result Stop.Output ⊎ IsErrOf result Stop.NoMemory) → BrokeAsked D.Tells (Stands D.files D.fault_count D.fuse_count) (Holds D.files D.fault_count D.fuse_count) number (Alone number (item.Command (asks.Restart pick)) ∷ []) cluster.old (K.written sink.old) cluster.new (K.written sink.new) }
+    ensures refused { IsErrOf result Stop.Store → RefusedAsked D.Tells Wrote (Stands D.files D.fault_count D.fuse_count) (Holds D.files D.fault_count D.fuse_count) number (Alone number (item.Command (asks.Restart pick)) ∷ []) cluster.old (K.written sink.old) cluster.new (K.written sink.new) }
+    ensures halted { IsErrOf result Stop.Store → Halts D.Tells (Stands D.files D.fault_count D.fuse_count) D.fault_count cluster.old cluster.new (K.written sink.new) }
     ensures stops { OnErr result ((result ≡ Err Stop.Output) ⊎ (result ≡ Err Stop.NoMemory) ⊎ (result ≡ Err Stop.Store)) }
     ensures cause { IsErrOf result Stop.Output → Rose (K.fault_count sink.old) (K.fault_count sink.new) }
     ensures count { K.fault_count sink.old ≤ K.fault_count sink.new }
-    ensures halted { IsErrOf result Stop.Store → Halts D.Tells D.files D.fault_count D.fuse_count cluster.old cluster.new }
+    ensures up { OnOk result (IsUp cluster.new) }
     ensures faults { D.fault_count cluster.old.disk ≤ D.fault_count cluster.new.disk }
-    ensures fuses { D.fuse_count cluster.new.disk ≡ D.fuse_count cluster.old.disk }
     ensures settings { cluster.new.settings ≡ cluster.old.settings }
 {
-    let reply = answer(alloc, cluster, number, command)?;
-    write_reply(alloc, number, &reply, sink)
+    match cluster.restart(alloc, pick) {
+        Ok(notes) => write_restarted(alloc, number, cluster.rows(), notes.as_slice(), sink),
+        Err(fault) => Err(refuse(alloc, number, fault, sink)),
+    }
 }
 
 /// Answers what a line asks for by itself, and writes the reply.
@@ -111,36 +111,28 @@ fn respond<D: Disk, K: Sink>(
     said: Line,
     sink: &mut K,
 ) -> Result<(), Stop>
-    requires { IsWithinLine said }
-    ensures answers { OnOk result (AnswersFrom D.Tells Wrote D.files D.fault_count D.fuse_count (outside number said).0 cluster.old (K.written sink.old) cluster.new (K.written sink.new)) }
-    ensures part { (IsErrOf result Stop.Output ⊎ IsErrOf result Stop.NoMemory) → AnswersFrom D.Tells WrotePart D.files D.fault_count D.fuse_count (outside number said).0 cluster.old (K.written sink.old) cluster.new (K.written sink.new) }
+    requires within { IsWithinLine said }
+    requires up { IsUp cluster.old }
+    requires alone { IsAlone cluster.old.settings }
+    ensures answers { OnOk result (AnswersFrom D.Tells Wrote (Stands D.files D.fault_count D.fuse_count) (Stands D.files D.fault_count D.fuse_count) (outside number said).0 cluster.old (K.written sink.old) cluster.new (K.written sink.new)) }
+    ensures broke { (IsErrOf result Stop.Output ⊎ IsErrOf result Stop.NoMemory) → BrokeAsked D.Tells (Stands D.files D.fault_count D.fuse_count) (Holds D.files D.fault_count D.fuse_count) number (outside number said).0 cluster.old (K.written sink.old) cluster.new (K.written sink.new) }
+    ensures refused { IsErrOf result Stop.Store → RefusedAsked D.Tells Wrote (Stands D.files D.fault_count D.fuse_count) (Holds D.files D.fault_count D.fuse_count) number (outside number said).0 cluster.old (K.written sink.old) cluster.new (K.written sink.new) }
+    ensures halted { IsErrOf result Stop.Store → Halts D.Tells (Stands D.files D.fault_count D.fuse_count) D.fault_count cluster.old cluster.new (K.written sink.new) }
     ensures stops { OnErr result ((result ≡ Err Stop.Output) ⊎ (result ≡ Err Stop.NoMemory) ⊎ (result ≡ Err Stop.Store)) }
     ensures cause { IsErrOf result Stop.Output → Rose (K.fault_count sink.old) (K.fault_count sink.new) }
     ensures count { K.fault_count sink.old ≤ K.fault_count sink.new }
-    ensures halted { IsErrOf result Stop.Store → Halts D.Tells D.files D.fault_count D.fuse_count cluster.old cluster.new }
+    ensures up { OnOk result (IsUp cluster.new) }
     ensures faults { D.fault_count cluster.old.disk ≤ D.fault_count cluster.new.disk }
-    ensures fuses { D.fuse_count cluster.new.disk ≡ D.fuse_count cluster.old.disk }
     ensures settings { cluster.new.settings ≡ cluster.old.settings }
 {
     match said {
         Line::Skip | Line::Lanes(_) => Ok(()),
+        Line::Plain(Command::Restart { pick }) => restart(alloc, cluster, number, pick, sink),
         Line::Plain(command) => plain(alloc, cluster, number, &command, sink),
         Line::Bad | Line::End | Line::InLane { .. } => {
             write_reply(alloc, number, &Reply::BadLine, sink)
         }
     }
-}
-
-/// Writes the replies to a block's lines.
-fn write_block<K: Sink>(alloc: Global, block: &LaneBlock, sink: &mut K) -> Result<(), Stop>
-    ensures wrote { OnOk result (Wrote (K.written sink.old) (flat_map unbuilt_text block.now.lines) (K.written sink.new)) }
-    ensures part { OnErr result (WrotePart (K.written sink.old) (flat_map unbuilt_text block.now.lines) (K.written sink.new)) }
-    ensures stops { OnErr result ((result ≡ Err Stop.Output) ⊎ (result ≡ Err Stop.NoMemory)) }
-    ensures cause { IsErrOf result Stop.Output → Rose (K.fault_count sink.old) (K.fault_count sink.new) }
-    ensures count { K.fault_count sink.old ≤ K.fault_count sink.new }
-{
-    let text = block.text(alloc)?;
-    write_text(sink, text.as_slice())
 }
 
 /// Takes what comes next, answers it and writes the answer. Answers with the number of the next line. It isn't called
@@ -155,27 +147,31 @@ pub fn turn<D: Disk, S: Source, K: Sink>(
 ) -> Result<u64, Stop>
     requires open { script.old.ended ≡ false }
     requires few { number + budget SCRIPT script.old < 2 ^ 64 }
-    ensures turned { IfOk result (λ next. Turned D.Tells Wrote D.files D.fault_count D.fuse_count cluster.old number (rest_of (S.left source.old) script.old) (K.written sink.old) cluster.new next (rest_of (S.left source.new) script.new) script.new.ended (K.written sink.new)) }
+    requires up { IsUp cluster.old }
+    requires alone { IsAlone cluster.old.settings }
+    ensures turned { IfOk result (λ next. Turned D.Tells (Stands D.files D.fault_count D.fuse_count) cluster.old number (rest_of (S.left source.old) script.old) (K.written sink.old) cluster.new next (rest_of (S.left source.new) script.new) script.new.ended (K.written sink.new)) }
     ensures few { IfOk result (λ next. next + budget SCRIPT script.new ≤ number + budget SCRIPT script.old) }
     ensures accounts { OnOk result (Accounts (S.left source.old) script.old (S.left source.new) script.new) }
     ensures left { OnOk result (budget SCRIPT script.new < budget SCRIPT script.old) }
     ensures limit { OnOk result (script.new.taken ≤ SCRIPT) }
 
     // What was taken and written where the run stops here.
+    ensures none_held { (IsErrOf result Stop.Input ⊎ IsErrOf result Stop.TooLong) → script.new.bytes ≡ [] }
     ensures input { IsErrOf result Stop.Input → TookOpen TookPart number None (rest_of (S.left source.old) script.old) (rest_of (S.left source.new) script.new) × (cluster.new ≡ cluster.old) × (sink.new ≡ sink.old) }
     ensures over { IsErrOf result Stop.TooLong → TookOpen TookOver number None (rest_of (S.left source.old) script.old) (rest_of (S.left source.new) script.new) × (cluster.new ≡ cluster.old) × (sink.new ≡ sink.old) }
-    ensures output { IsErrOf result Stop.Output → (next : ℕ) × Turned D.Tells WrotePart D.files D.fault_count D.fuse_count cluster.old number (rest_of (S.left source.old) script.old) (K.written sink.old) cluster.new next (rest_of (S.left source.new) script.new) script.new.ended (K.written sink.new) }
-    ensures memory { IsErrOf result Stop.NoMemory → (TookSome (rest_of (S.left source.old) script.old) (rest_of (S.left source.new) script.new) × (cluster.new ≡ cluster.old) × (sink.new ≡ sink.old)) ⊎ ((next : ℕ) × Turned D.Tells WrotePart D.files D.fault_count D.fuse_count cluster.old number (rest_of (S.left source.old) script.old) (K.written sink.old) cluster.new next (rest_of (S.left source.new) script.new) script.new.ended (K.written sink.new)) }
+    ensures output { IsErrOf result Stop.Output → Broke D.Tells (Stands D.files D.fault_count D.fuse_count) (Holds D.files D.fault_count D.fuse_count) cluster.old number (rest_of (S.left source.old) script.old) (K.written sink.old) cluster.new (rest_of (S.left source.new) script.new) (K.written sink.new) }
+    ensures memory { IsErrOf result Stop.NoMemory → (TookSome (rest_of (S.left source.old) script.old) (rest_of (S.left source.new) script.new) × (cluster.new ≡ cluster.old) × (sink.new ≡ sink.old)) ⊎ Broke D.Tells (Stands D.files D.fault_count D.fuse_count) (Holds D.files D.fault_count D.fuse_count) cluster.old number (rest_of (S.left source.old) script.old) (K.written sink.old) cluster.new (rest_of (S.left source.new) script.new) (K.written sink.new) }
+    ensures store { IsErrOf result Stop.Store → RestartRefused D.Tells Wrote (Stands D.files D.fault_count D.fuse_count) (Holds D.files D.fault_count D.fuse_count) cluster.old number (rest_of (S.left source.old) script.old) (K.written sink.old) cluster.new (rest_of (S.left source.new) script.new) (K.written sink.new) }
 
     // The causes of each stop.
-    ensures long { IsErrOf result Stop.TooLong → IsTooLong SCRIPT (S.left source.old) script.old }
+    ensures long { IsErrOf result Stop.TooLong → IsTooLong SCRIPT (S.left source.old) script.old (S.left source.new) }
     ensures source { IsErrOf result Stop.Input → Rose (S.fault_count source.old) (S.fault_count source.new) }
     ensures source_count { S.fault_count source.old ≤ S.fault_count source.new }
     ensures sink { IsErrOf result Stop.Output → Rose (K.fault_count sink.old) (K.fault_count sink.new) }
     ensures sink_count { K.fault_count sink.old ≤ K.fault_count sink.new }
-    ensures halted { IsErrOf result Stop.Store → Halts D.Tells D.files D.fault_count D.fuse_count cluster.old cluster.new }
+    ensures halted { IsErrOf result Stop.Store → Halts D.Tells (Stands D.files D.fault_count D.fuse_count) D.fault_count cluster.old cluster.new (K.written sink.new) }
+    ensures up { OnOk result (IsUp cluster.new) }
     ensures faults { D.fault_count cluster.old.disk ≤ D.fault_count cluster.new.disk }
-    ensures fuses { D.fuse_count cluster.new.disk ≡ D.fuse_count cluster.old.disk }
     ensures settings { cluster.new.settings ≡ cluster.old.settings }
 {
     let Some(said) = script.next_said(alloc, source, None)? else {

@@ -1,12 +1,14 @@
-//! The program `haystack`: runs the script on standard input over disks in memory, and writes the transcript to standard
-//! output. Everything that matters stands in `hay_run`.
+//! The program `haystack`: runs the script on standard input over disks in memory, or over files in the folder that
+//! `--folder` names, and writes the transcript to standard output. Everything that matters stands in `hay_run`.
 #![tactic(auto)]
 
 #[cfg(test)]
 mod tests;
 
-use hay_filedisk::{StdinSource, StdoutSink};
-use hay_memdisk::SureShelf;
+use hay_base::NoMemory;
+use hay_cli::folder_of;
+use hay_filedisk::{FileShelf, StdinSource, StdoutSink};
+use hay_memdisk::MemShelf;
 use hay_run::run;
 use std::env::Env;
 use std::process::ExitCode;
@@ -40,20 +42,24 @@ fn message_of(status: u8) -> Option<&'static str> {
     }
 }
 
+/// The status of a run over the disks that the words name.
+fn status_of(rt: HostRuntime, words: &[String]) -> u8 {
+    let alloc = rt.alloc();
+    let mut source = StdinSource::new(rt.stdin());
+    let mut sink = StdoutSink::new(rt.stdout());
+    let Some(folder) = folder_of(words) else {
+        let mut shelf = MemShelf::new(alloc);
+        return run(alloc, words, &mut source, &mut sink, &mut shelf);
+    };
+    match FileShelf::new(rt, alloc, folder) {
+        Ok(mut shelf) => run(alloc, words, &mut source, &mut sink, &mut shelf),
+        Err(NoMemory) => NO_MEMORY,
+    }
+}
+
 fn main(rt: HostRuntime) -> ExitCode {
     let status = match words_of(&rt) {
-        Ok(words) => {
-            let mut source = StdinSource::new(rt.stdin());
-            let mut sink = StdoutSink::new(rt.stdout());
-            let mut shelf = SureShelf::new(rt.alloc());
-            run(
-                rt.alloc(),
-                words.as_slice(),
-                &mut source,
-                &mut sink,
-                &mut shelf,
-            )
-        }
+        Ok(words) => status_of(rt, words.as_slice()),
         Err(error) if error.kind() == io::ErrorKind::OutOfMemory => NO_MEMORY,
         Err(_) => USAGE,
     };

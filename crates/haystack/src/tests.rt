@@ -3,16 +3,21 @@
 ghost use Rattle.std.specs.Prelude.{◌≡◌, ◌<◌, false};
 ghost use Rattle.hay_memdisk.specs.MemShelf.{mem_disks};
 
+mod faults;
+
 use hay_disk::Shelf;
-use hay_memdisk::{MemShelf, MemSink, MemSource, SureShelf};
+use hay_memdisk::{MemDisk, MemShelf, MemSink, MemSource, SureShelf};
 use hay_run::run;
 use std::alloc::Global;
 use std::test::Fail;
 
 struct Case {
+    words: &'static [&'static str],
     script: &'static [u8],
     transcript: &'static [u8],
 }
+
+const RUN: &[&str] = &["run"];
 
 /// What a run writes, its status, and how many bytes its volume file has.
 #[derive(Drop)]
@@ -54,38 +59,75 @@ fn outcome_of(alloc: Global, words: &[&str], script: &[u8], step: usize) -> Resu
     })
 }
 
-const CASES: [Case; 7] = [
+const CASES: [Case; 12] = [
     Case {
+        words: RUN,
         script: b"put 0 1 68656c6c6f\nread 0 1 903df1a0ade0b876\n",
         transcript: b"haystack 1 1 1 67108864\n1 stored 0 1 1 903df1a0ade0b876\n2 photo 0 0 1 1 68656c6c6f\n",
     },
     Case {
+        words: RUN,
         script: b"",
         transcript: b"haystack 1 1 1 67108864\n",
     },
     // A photo that is put again is read as it was put last. The last line has no line feed.
     Case {
+        words: RUN,
         script: b"put 0 1 61\nput 0 1 62\nread 0 1 903df1a0ade0b876",
         transcript: b"haystack 1 1 1 67108864\n1 stored 0 1 1 903df1a0ade0b876\n2 stored 0 2 1 903df1a0ade0b876\n3 photo 0 0 2 1 62\n",
     },
     // Another cookie, and a pair that was never put.
     Case {
+        words: RUN,
         script: b"put 0 1 61\nread 0 1 0\nread 5 1 0\nread 0 1 903DF1A0ADE0B876\n",
         transcript: b"haystack 1 1 1 67108864\n1 stored 0 1 1 903df1a0ade0b876\n2 wrong cookie 0 0 1 1\n3 unknown 1\n4 photo 0 0 1 1 61\n",
     },
     // Lines that say nothing, and lines that are no command.
     Case {
+        words: RUN,
         script: b"# note\n\nput 0 1 6\nput 18446744073709551616 1 61\nend\nPUT 0 1 61\nput 0 1 61\r\nlanes 9\n \t# \xff\nput 0 1\xff 61\n",
         transcript: b"haystack 1 1 1 67108864\n3 bad line\n4 bad line\n5 bad line\n6 bad line\n7 stored 0 1 1 903df1a0ade0b876\n8 bad line\n10 bad line\n",
     },
     // The cookie of key 2^57, and a photo whose bytes are all equal.
     Case {
+        words: RUN,
         script: b"put 144115188075855872 4294967295 x16:Ab\nread 144115188075855872 04294967295 3736d58c374dc6c2\n",
         transcript: b"haystack 1 1 1 67108864\n1 stored 0 1 1 3736d58c374dc6c2\n2 photo 0 0 1 1 x16:ab\n",
     },
+    // A photo that is deleted is gone, before its cookie is looked at.
+    Case {
+        words: RUN,
+        script: b"put 0 1 61\nput 0 1 62\nread 0 1 903df1a0ade0b876\ndel 0 1\nread 0 1 903df1a0ade0b876\ndel 0 1\nread 0 1 0\ndel 0 2\n",
+        transcript: b"haystack 1 1 1 67108864\n1 stored 0 1 1 903df1a0ade0b876\n2 stored 0 2 1 903df1a0ade0b876\n3 photo 0 0 2 1 62\n4 deleted 0 3 1\n5 gone 0 0 3 1\n6 gone 0 3 1\n7 gone 0 0 3 1\n8 unknown 1\n",
+    },
+    // A deleted photo stays deleted behind a restart, and may be put again.
+    Case {
+        words: RUN,
+        script: b"put 0 1 61\nput 0 2 62\ndel 0 1\nrestart\nread 0 1 903df1a0ade0b876\nread 0 2 903df1a0ade0b876\nput 0 1 63\nrestart 7\nread 0 1 903df1a0ade0b876\n",
+        transcript: b"haystack 1 1 1 67108864\n1 stored 0 1 1 903df1a0ade0b876\n2 stored 0 2 2 903df1a0ade0b876\n3 deleted 0 3 2\n4 restarted 2\n5 gone 0 0 0 2\n6 photo 0 0 0 2 62\n7 stored 0 1 2 903df1a0ade0b876\n8 restarted 2\n9 photo 0 0 0 2 63\n",
+    },
+    // The smallest volume, filled to its last byte.
+    Case {
+        words: &["run", "--capacity", "4096"],
+        script: b"put 0 1 x3976:61\nput 0 1 -\nput 0 2 -\n",
+        transcript: b"haystack 1 1 1 4096\n1 stored 0 1 1 903df1a0ade0b876\n2 full 0:0:4088:48\n3 full 0:0:4088:48\n",
+    },
+    // A delete that fails leaves the photo in sight, and closes the volume.
+    Case {
+        words: RUN,
+        script: b"put 0 1 61\nfuse 0 0 0\ndel 0 1\nread 0 1 903df1a0ade0b876\ndel 0 1\nfuse 1 0 0\nfuse 0 1 0\nrestart 1\nread 0 1 903df1a0ade0b876\n",
+        transcript: b"haystack 1 1 1 67108864\n1 stored 0 1 1 903df1a0ade0b876\n2 fused 0:0 0\n3 failed 0:0 1\n4 photo 0 0 1 1 61\n5 readonly 0:0\n6 nowhere\n7 nowhere\n8 restarted 1\nlost 0:0 3\n9 photo 0 0 0 1 61\n",
+    },
+    // Its mark was written and not synced: a stop may keep it.
+    Case {
+        words: RUN,
+        script: b"put 0 1 61\nfuse 0 0 1\ndel 0 1\nread 0 1 903df1a0ade0b876\nrestart 1\nread 0 1 903df1a0ade0b876\n",
+        transcript: b"haystack 1 1 1 67108864\n1 stored 0 1 1 903df1a0ade0b876\n2 fused 0:0 1\n3 failed 0:0 1\n4 photo 0 0 1 1 61\n5 restarted 1\nkept 0:0 3\n6 gone 0 0 0 1\n",
+    },
     // Commands that are not built, alone and in a block that the script's end closes.
     Case {
-        script: b"del 0 1\nlanes 2\n0 put 0 1 61\n2 del 0 1\n\n1 url 0 1",
+        words: RUN,
+        script: b"drain 0\nlanes 2\n0 put 0 1 61\n2 del 0 1\n\n1 url 0 1",
         transcript: b"haystack 1 1 1 67108864\n1 unbuilt\n3 unbuilt\n4 bad line\n6 unbuilt\n",
     },
 ];
@@ -94,7 +136,7 @@ const CASES: [Case; 7] = [
 fn transcripts_are_exact(rt: HostRuntime) -> Result<(), Fail> {
     for case in &CASES {
         for step in [1, 7, 4096] {
-            let outcome = outcome_of(rt.alloc(), &["run"], case.script, step)?;
+            let outcome = outcome_of(rt.alloc(), case.words, case.script, step)?;
             assert_eq!(rt; outcome.status, 0);
             assert_eq!(rt; outcome.written.as_slice(), case.transcript);
         }
@@ -147,7 +189,9 @@ fn statuses_have_their_causes(rt: HostRuntime) -> Result<(), Fail> {
         &[] as &[&str],
         &["fly"],
         &["run", "run"],
-        &["run", "--machines", "1"],
+        &["run", "--volumes", "0"],
+        &["run", "--capacity", "4095"],
+        &["run", "--machines", "2"],
     ] {
         let mut shelf = MemShelf::new(alloc);
         assert_eq!(rt; status_of(alloc, words, &[], &[], &mut shelf)?, 2);
@@ -160,8 +204,12 @@ fn statuses_have_their_causes(rt: HostRuntime) -> Result<(), Fail> {
     assert_eq!(rt; status_of(alloc, &["run"], &[2], &[], &mut shelf)?, 4);
     let mut shelf = MemShelf::new(alloc);
     assert_eq!(rt; status_of(alloc, &["run"], &[], &[], &mut shelf)?, 0);
-    // The disk is not void any more.
-    assert_eq!(rt; status_of(alloc, &["run"], &[], &[], &mut shelf)?, 6);
+    // The store is opened again, but not with other settings.
+    assert_eq!(rt; status_of(alloc, &["run"], &[], &[], &mut shelf)?, 0);
+    assert_eq!(rt;
+        status_of(alloc, &["run", "--capacity", "8192"], &[], &[], &mut shelf)?,
+        6
+    );
     Ok(())
 }
 
@@ -184,5 +232,137 @@ fn a_full_volume_names_its_numbers(rt: HostRuntime) -> Result<(), Fail> {
     let last =
         b"63 stored 0 63 1 903df1a0ade0b876\n64 full 0:0:66063376:1048624\n65 full 0:0:66063376:1045488\n66 stored 0 64 2 903df1a0ade0b876\n67 full 0:0:67108856:48\n68 photo 0 0 64 2 x1045432:63\n";
     assert!(rt; sink.bytes().ends_with(last.as_slice()));
+    Ok(())
+}
+
+/// The transcript of a stop in an append: of `put 0 1 62`, behind so many of its device calls, or of the put behind it.
+fn stopped(alloc: Global, calls: u64, pick: u64) -> Result<String, Fail> {
+    let head = format!(in alloc;
+        "haystack 1 1 1 67108864\n1 stored 0 1 1 903df1a0ade0b876\n2 fused 0:0 {calls}\n"
+    )?;
+    let rest = match (calls, pick) {
+        (3, 1) => "3 failed 0:0 1\n4 readonly 0:0\n5 restarted 1\nkept 0:0 3\n6 photo 0 0 0 1 62\n",
+        (4, _) =>
+            "3 stored 0 2 1 903df1a0ade0b876\n4 failed 0:0 1\n5 restarted 1\nlost 0:0 4\n6 photo 0 0 0 1 62\n",
+        _ => "3 failed 0:0 1\n4 readonly 0:0\n5 restarted 1\nlost 0:0 3\n6 photo 0 0 0 1 61\n",
+    };
+    Ok(format!(in alloc; "{head}{rest}")?)
+}
+
+#[test]
+fn a_stop_keeps_an_append_or_loses_it(rt: HostRuntime) -> Result<(), Fail> {
+    let alloc = rt.alloc();
+    for calls in 0..5 {
+        for pick in 0..2 {
+            let script = format!(in alloc;
+                "put 0 1 61\nfuse 0 0 {calls}\nput 0 1 62\nput 0 2 63\nrestart {pick}\nread 0 1 903df1a0ade0b876\n"
+            )?;
+            let outcome = outcome_of(alloc, &["run"], script.as_bytes(), 4096)?;
+            assert_eq!(rt; outcome.status, 0);
+            assert_eq!(rt;
+                outcome.written.as_slice(),
+                stopped(alloc, calls, pick)?.as_bytes()
+            );
+        }
+    }
+    Ok(())
+}
+
+/// What a run over this shelf writes, and its status.
+fn run_over(
+    alloc: Global,
+    words: &[&str],
+    script: &[u8],
+    shelf: &mut MemShelf,
+) -> Result<(u8, Vec<u8>), Fail>
+    requires { (mem_disks shelf.old 1).is_out ≡ false }
+    ensures { (mem_disks shelf.new 1).is_out ≡ false }
+{
+    let words = words_of(alloc, words)?;
+    let mut text = Vec::new(alloc);
+    text.extend_from_slice(script)?;
+    let mut source = MemSource::new(alloc, text, 4096);
+    let mut sink = MemSink::new(alloc);
+    let status = run(alloc, words.as_slice(), &mut source, &mut sink, shelf);
+    let mut written = Vec::new(alloc);
+    written.extend_from_slice(sink.bytes())?;
+    Ok((status, written))
+}
+
+#[test]
+fn the_store_outlives_the_run(rt: HostRuntime) -> Result<(), Fail> {
+    let alloc = rt.alloc();
+    let mut shelf = MemShelf::new(alloc);
+    let (status, _) = run_over(alloc, &["run"], b"put 0 1 68656c6c6f\n", &mut shelf)?;
+    assert_eq!(rt; status, 0);
+    let (status, written) = run_over(alloc, &["run"], b"read 0 1 903df1a0ade0b876\n", &mut shelf)?;
+    assert_eq!(rt; status, 0);
+    assert_eq!(rt;
+        written.as_slice(),
+        b"haystack 1 1 1 67108864\n1 photo 0 0 0 1 68656c6c6f\n".as_slice()
+    );
+    let (status, written) = run_over(
+        alloc,
+        &["run", "--capacity=8192"],
+        b"read 0 1 0\n",
+        &mut shelf,
+    )?;
+    assert_eq!(rt; status, 6);
+    assert_eq!(rt;
+        written.as_slice(),
+        b"haystack 1 1 1 8192\nopen damaged 1 1 40\n".as_slice()
+    );
+    Ok(())
+}
+
+/// A run over the volume file of `put 0 1 61`, which is cut at this place, with these bytes behind it.
+fn damaged(alloc: Global, at: usize, patch: &[u8]) -> Result<(u8, Vec<u8>), Fail> {
+    let mut shelf = MemShelf::new(alloc);
+    let _ = run_over(alloc, &["run"], b"put 0 1 61\n", &mut shelf)?;
+    let mut bytes = Vec::new(alloc);
+    if let Some(disk) = shelf.disk(1) {
+        bytes.extend_from_slice(disk.bytes(1))?;
+    }
+    bytes.truncate(at);
+    bytes.extend_from_slice(patch)?;
+    let mut disk = MemDisk::new(alloc);
+    disk.set_bytes(1, bytes.as_slice())?;
+    let mut shelf = MemShelf::new(alloc);
+    shelf.put_disk(1, disk)?;
+    run_over(alloc, &["run"], b"", &mut shelf)
+}
+
+#[test]
+fn damage_is_told_at_its_place(rt: HostRuntime) -> Result<(), Fail> {
+    let alloc = rt.alloc();
+    // The superblock is cut.
+    let (status, written) = damaged(alloc, 40, b"")?;
+    assert_eq!(rt; status, 6);
+    assert_eq!(rt;
+        written.as_slice(),
+        b"haystack 1 1 1 67108864\nopen damaged 1 1 40\n".as_slice()
+    );
+    // A needle's magic without its needle.
+    let (status, written) = damaged(alloc, 120, b"NEEDLE01")?;
+    assert_eq!(rt; status, 6);
+    assert_eq!(rt;
+        written.as_slice(),
+        b"haystack 1 1 1 67108864\nopen damaged 1 1 120\n".as_slice()
+    );
+    // Any other eight bytes end the cells.
+    let (status, written) = damaged(alloc, 120, &[0xff; 8])?;
+    assert_eq!(rt; status, 0);
+    assert_eq!(rt; written.as_slice(), b"haystack 1 1 1 67108864\n".as_slice());
+    // Another photo than the checksum is of.
+    let (status, written) = damaged(
+        alloc,
+        100,
+        b"bNEND\xca\x97\x81\x12\xca\x1b\xbd\xca\0\0\0\0\0\0\0\0\0\0\0\0\0\0\0\0",
+    )?;
+    assert_eq!(rt; status, 6);
+    assert_eq!(rt;
+        written.as_slice(),
+        b"haystack 1 1 1 67108864\nopen damaged 1 1 64\n".as_slice()
+    );
     Ok(())
 }

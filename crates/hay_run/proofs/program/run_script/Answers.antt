@@ -1,15 +1,22 @@
-use Rattle.std.proofs.Common.{arith}
-use Rattle.std.proofs.lemmas.Result.{on_ok_weaker}
-use Rattle.hay_run.proofs.Running.{ran_whole}
+use Rattle.std.proofs.Common.{◌≡◌, Some, List, ℕ, sym, subst}
+use Rattle.std.specs.Prelude.{Result, Err, Option}
+use Rattle.std.proofs.lemmas.Result.{err_from_is_err_and}
+use Rattle.hay_disk.specs.Streams.{WrotePart}
+use Rattle.hay_reply.specs.Replies.{header_line}
+use Rattle.hay_cluster.specs.Outside.{outside_of}
+use Rattle.hay_run.specs.declared.stops.Stop.{Stop}
+use Rattle.hay_run.specs.Runs.{RanTo}
+use Rattle.hay_run.specs.Stops.{ending_of}
+use Rattle.hay_run.proofs.Refusing.{ran_unwritten}
 use Rattle.hay_run.proofs.program.run_script.Goals as goal
 
-pub returns-clause-ran : goal.returns-clause-ran
-returns-clause-ran g c = λ tells.
-    on_ok_weaker c.answer_script.result (λ ran script told.
-    ran_whole (g.H.Shelf.disks c.args.shelf.now) (g.H.Shelf.disks c.answer_script.new.shelf) (g.H.Shelf.arms c.args.shelf.now) (g.H.Shelf.arms c.answer_script.new.shelf)
-    script c.default_settings-settings.result (g.K.Sink.written c.args.sink.now) (g.K.Sink.written c.write_header.new.sink) (g.K.Sink.written c.answer_script.new.sink)
-    c.default_settings-settings.ensures c.in_ok-write_header.ensures.wrote (ran script told))
-    (c.answer_script.ensures.ran tells)
-
-pub returns-clause-sink_count : goal.returns-clause-sink_count
-returns-clause-sink_count g c = omega (arith, c.in_ok-write_header.ensures.count, c.answer_script.ensures.sink_count)
+pub returns-in_err-write_header-clause-stopped : goal.returns-in_err-write_header-clause-stopped
+returns-in_err-write_header-clause-stopped g c = λ tells why is.
+    let wrong : Result (Unit {0}) Stop = Err c.in_err-write_header.field-0.0 in
+    let same : wrong ≡ Err why = (let p = err_from_is_err_and c.from_residual.result c.from_residual.ensures.1 in cc (p.1, p.2)) in
+    λ k taken script held told told_sink.
+    let outside = outside_of (g.H.Shelf.disks c.args.shelf.now) (g.H.Shelf.arms c.args.shelf.now) in
+    let written' = g.K.Sink.written c.write_header.new.sink in
+    let wrote : WrotePart (Some held) (header_line c.args.settings) written' = rw told_sink at c.in_err-write_header.ensures.part in
+    let P : Option (List ℕ) → Type 0 = λ left. RanTo c.args.settings (ending_of why) script left outside outside held written' in
+    subst P (sym told) (ran_unwritten c.args.settings outside k taken.opened script held written' wrote wrong why same c.in_err-write_header.ensures.stops)

@@ -1,33 +1,65 @@
-use Rattle.std.proofs.Common.{◌++◌, [], Some, refl, sym, ◌∙◌, arith, lit≤}
+use Rattle.std.proofs.Common.{◌++◌, [], Some, refl, sym, ap, ◌∙◌, arith, lit≤, false, ◌≡◌, ℕ}
+use Rattle.std.specs.Prelude.{Result, Err, IsErrOf}
+use Rattle.hay_run.specs.declared.stops.Stop.{Stop}
 use Rattle.std.proofs.lemmas.Result.{err_from_is_err_and}
 use Rattle.hay_disk.specs.Streams.{Wrote}
+use Rattle.hay_cluster.specs.State.{Stands, Holds}
 use Rattle.hay_run.specs.Stream.{rest_of, Accounts}
-use Rattle.hay_run.proofs.Asking.{left_first, left_more, left_turn, all_asked, at_end_turn, read_to_end, short_script}
+use Rattle.hay_run.proofs.Asking.{took_first, took_items_more, asks_all, at_end_turn, read_to_end, short_script}
 use Rattle.hay_run.proofs.Taking.{accounts_same, accounts_more}
-use Rattle.hay_run.proofs.Turning.{answers_nothing, answers_more, wrote_more, halts_more}
+use Rattle.hay_run.proofs.Turning.{answers_nothing, answers_more, wrote_more}
+use Rattle.hay_run.proofs.Serving.{stops_by, holds_none, memory_same, halts_more}
 use Rattle.hay_run.proofs.serve.serve.Goals as goal
 
 pub turns-init : goal.turns-init
 turns-init g c = record {
   unmet = c.new-script.ensures.ended;
   few = rw (c.new-script.ensures.bytes, c.new-script.ensures.taken, c.new-script.ensures.ended) (lit≤ tt);
+  up = c.requires.up;
   same = refl;
   asked = [];
-  items = left_first 1 (g.S.Source.left c.args.source.now) c.new-script.result c.new-script.ensures.bytes;
-  answers = λ tells aside k stands. answers_nothing g.D.Disk.files g.D.Disk.fault_count g.D.Disk.fuse_count aside k (g.K.Sink.written c.args.sink.now) c.args.cluster.now stands;
+  took = took_first 1 (g.S.Source.left c.args.source.now) c.new-script.result c.new-script.ensures.bytes;
+  answers = λ tells aside k stands. answers_nothing (Stands g.D.Disk.files g.D.Disk.fault_count g.D.Disk.fuse_count) aside k (g.K.Sink.written c.args.sink.now) c.args.cluster.now stands;
   first = c.new-script.result;
   at_first = c.new-script.ensures.taken;
   accounts = accounts_same (g.S.Source.left c.args.source.now) c.new-script.result;
   source = omega arith;
   sink = omega arith;
   faults = omega arith;
-  fuses = refl;
 }
+
+pub returns-in_err-number-clause-stopped : goal.returns-in_err-number-clause-stopped
+returns-in_err-number-clause-stopped g c = λ why is.
+    let wrong : Result ℕ Stop = Err c.in_err-number.field-0.0 in
+    let stop_is : wrong ≡ Err why = (let p = err_from_is_err_and c.from_residual.result c.from_residual.ensures.1 in cc (p.1, p.2)) in
+    let same : IsErrOf c.turn.result why = c.in_err-number.was ∙ stop_is in
+    let inv = c.turns.invariant in
+    let left = g.S.Source.left in
+    record {
+      asked = inv.asked;
+      number = c.turns.number;
+      rest = rest_of (left c.turns.source) c.turns.script;
+      mid = c.turns.cluster;
+      text = g.K.Sink.written c.turns.sink;
+      took = inv.took;
+      answers = inv.answers;
+      settings = inv.same;
+      held = c.turn.new.script;
+      none = holds_none c.turn.result c.turn.new.script why same c.turn.ensures.none_held;
+      stops = stops_by g.D.Disk.Tells (Stands g.D.Disk.files g.D.Disk.fault_count g.D.Disk.fuse_count) (Holds g.D.Disk.files g.D.Disk.fault_count g.D.Disk.fuse_count)
+          c.turns.number (rest_of (left c.turns.source) c.turns.script) (g.K.Sink.written c.turns.sink) (rest_of (left c.turn.new.source) c.turn.new.script) (g.K.Sink.written c.turn.new.sink)
+          c.turns.cluster c.turn.new.cluster c.turn.result why same
+          (λ e. let h = c.turn.ensures.input e in (h.0, h.1, ap g.K.Sink.written h.2))
+          (λ e. let h = c.turn.ensures.over e in (h.0, h.1, ap g.K.Sink.written h.2))
+          c.turn.ensures.output
+          (λ e. memory_same g.K.Sink.written c.turns.sink c.turn.new.sink (c.turn.ensures.memory e))
+          c.turn.ensures.store;
+    }
 
 pub returns-in_err-number-clause-halted : goal.returns-in_err-number-clause-halted
 returns-in_err-number-clause-halted g c = λ is.
     let inv = c.turns.invariant in
-    halts_more g.D.Disk.files g.D.Disk.fault_count g.D.Disk.fuse_count g.D.Disk.Tells inv.asked (g.K.Sink.written c.args.sink.now) (g.K.Sink.written c.turns.sink)
+    halts_more g.D.Disk.Tells (Stands g.D.Disk.files g.D.Disk.fault_count g.D.Disk.fuse_count) g.D.Disk.fault_count inv.asked (g.K.Sink.written c.args.sink.now) (g.K.Sink.written c.turns.sink) (g.K.Sink.written c.turn.new.sink)
     c.args.cluster.now c.turns.cluster c.turn.new.cluster inv.faults inv.answers
     (c.in_err-number.ensures.halted (let p = err_from_is_err_and c.from_residual.result c.from_residual.ensures.1 in cc (p.1, p.2)))
 
@@ -39,13 +71,14 @@ returns-then-is_ended-clause-served g c =
     let met = sym c.is_ended.ensures ∙ c.if-is_ended.true in
     record {
       asked = inv.asked ++ turned.asked;
-      all = all_asked c.turns.number c.in_ok-number.number (left c.args.source.now) (rest_of (left c.turns.source) c.turns.script) (rest_of (left c.turn.new.source) c.turn.new.script)
-          inv.asked turned.asked c.turn.new.script.ended inv.items turned.took met;
+      all = asks_all c.in_ok-number.number (left c.args.source.now) (rest_of (left c.turn.new.source) c.turn.new.script) (inv.asked ++ turned.asked) c.turn.new.script.ended
+          (took_items_more 1 c.turns.number c.in_ok-number.number (left c.args.source.now) (rest_of (left c.turns.source) c.turns.script) (rest_of (left c.turn.new.source) c.turn.new.script)
+          inv.asked turned.asked c.turn.new.script.ended inv.took turned.took) met;
       answers = λ tells aside k stands.
           let first = inv.answers tells aside k stands in
-          answers_more g.D.Disk.files g.D.Disk.fault_count g.D.Disk.fuse_count aside Wrote wrote_more k inv.asked turned.asked
+          answers_more (Stands g.D.Disk.files g.D.Disk.fault_count g.D.Disk.fuse_count) (Stands g.D.Disk.files g.D.Disk.fault_count g.D.Disk.fuse_count) aside Wrote wrote_more k inv.asked turned.asked
           (g.K.Sink.written c.args.sink.now) (g.K.Sink.written c.turns.sink) (g.K.Sink.written c.turn.new.sink) c.turns.cluster c.turn.new.cluster c.in_ok-number.ensures.settings
-          first (turned.answers tells aside first.t first.stands);
+          first (turned.answers tells aside first.t first.left);
     }
 
 pub returns-then-is_ended-clause-ended : goal.returns-then-is_ended-clause-ended
@@ -73,26 +106,24 @@ turns-preserved g c =
     let inv = c.turns.invariant in
     let left = g.S.Source.left in
     let turned = c.in_ok-number.ensures.turned in
-    let unmet = sym c.is_ended.ensures ∙ c.if-is_ended.false in
-    let mid = rest_of (left c.turns.source) c.turns.script in
-    let after = rest_of (left c.turn.new.source) c.turn.new.script in
+    let unmet : c.turn.new.script.ended ≡ false = sym c.is_ended.ensures ∙ c.if-is_ended.false in
     record {
       unmet = unmet;
       few = omega (arith, inv.few, c.in_ok-number.ensures.few);
+      up = c.in_ok-number.ensures.up;
       same = c.in_ok-number.ensures.settings ∙ inv.same;
       asked = inv.asked ++ turned.asked;
-      items = left_more 1 c.turns.number c.in_ok-number.number (left c.args.source.now) mid after inv.asked turned.asked inv.items
-          (left_turn c.turns.number c.in_ok-number.number mid after turned.asked c.turn.new.script.ended turned.took unmet);
+      took = took_items_more 1 c.turns.number c.in_ok-number.number (left c.args.source.now) (rest_of (left c.turns.source) c.turns.script) (rest_of (left c.turn.new.source) c.turn.new.script)
+          inv.asked turned.asked false inv.took (rw unmet at turned.took);
       answers = λ tells aside k stands.
           let first = inv.answers tells aside k stands in
-          answers_more g.D.Disk.files g.D.Disk.fault_count g.D.Disk.fuse_count aside Wrote wrote_more k inv.asked turned.asked
+          answers_more (Stands g.D.Disk.files g.D.Disk.fault_count g.D.Disk.fuse_count) (Stands g.D.Disk.files g.D.Disk.fault_count g.D.Disk.fuse_count) aside Wrote wrote_more k inv.asked turned.asked
           (g.K.Sink.written c.args.sink.now) (g.K.Sink.written c.turns.sink) (g.K.Sink.written c.turn.new.sink) c.turns.cluster c.turn.new.cluster c.in_ok-number.ensures.settings
-          first (turned.answers tells aside first.t first.stands);
+          first (turned.answers tells aside first.t first.left);
       first = inv.first;
       at_first = inv.at_first;
       accounts = accounts_more (left c.args.source.now) (left c.turns.source) (left c.turn.new.source) inv.first c.turns.script c.turn.new.script inv.accounts c.in_ok-number.ensures.accounts;
       source = omega (arith, inv.source, c.in_ok-number.ensures.source_count);
       sink = omega (arith, inv.sink, c.in_ok-number.ensures.sink_count);
       faults = omega (arith, inv.faults, c.in_ok-number.ensures.faults);
-      fuses = c.in_ok-number.ensures.fuses ∙ inv.fuses;
     }

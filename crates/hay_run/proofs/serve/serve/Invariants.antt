@@ -1,26 +1,27 @@
-use Rattle.std.proofs.Common.{◌≡◌, ◌+◌, ◌≤◌, false, List}
+use Rattle.std.proofs.Common.{◌≡◌, ◌+◌, ◌≤◌, false, None, List}
 use Rattle.hay_disk.specs.Streams.{Wrote}
 use Rattle.hay_legal.specs.Items.{Asked}
+use Rattle.hay_cluster.specs.State.{IsUp, Stands}
+use Rattle.hay_run.specs.Items.{TookItems}
 use Rattle.hay_run.specs.Stream.{Held, rest_of, budget, Accounts}
 use Rattle.hay_run.specs.Turns.{AnswersFrom}
-use Rattle.hay_run.proofs.Asking.{LeavesItems}
 use Rattle.hay_run.proofs.serve.serve.Given as goal
 
 abbrev pub invariant-turns : goal.invariant-turns
 invariant-turns g l = record {
   unmet : l.script.ended ≡ false;
   few : l.number + budget 1073741824 l.script ≤ 1073741826;
+  up : IsUp l.cluster;
   same : l.cluster.settings ≡ l.fn.cluster.settings;
   asked : List Asked;
-  items : LeavesItems 1 (g.S.Source.left l.fn.source) asked l.number (rest_of (g.S.Source.left l.source) l.script);
-  answers : AnswersFrom g.D.Disk.Tells Wrote g.D.Disk.files g.D.Disk.fault_count g.D.Disk.fuse_count asked l.fn.cluster (g.K.Sink.written l.fn.sink) l.cluster (g.K.Sink.written l.sink);
+  took : TookItems 1 None (g.S.Source.left l.fn.source) asked l.number (rest_of (g.S.Source.left l.source) l.script) false;
+  answers : AnswersFrom g.D.Disk.Tells Wrote (Stands g.D.Disk.files g.D.Disk.fault_count g.D.Disk.fuse_count) (Stands g.D.Disk.files g.D.Disk.fault_count g.D.Disk.fuse_count) asked l.fn.cluster (g.K.Sink.written l.fn.sink) l.cluster (g.K.Sink.written l.sink);
   first : Held;
   at_first : first.taken ≡ 0;
   accounts : Accounts (g.S.Source.left l.fn.source) first (g.S.Source.left l.source) l.script;
   source : g.S.Source.fault_count l.fn.source ≤ g.S.Source.fault_count l.source;
   sink : g.K.Sink.fault_count l.fn.sink ≤ g.K.Sink.fault_count l.sink;
   faults : g.D.Disk.fault_count l.fn.cluster.disk ≤ g.D.Disk.fault_count l.cluster.disk;
-  fuses : g.D.Disk.fuse_count l.cluster.disk ≡ g.D.Disk.fuse_count l.fn.cluster.disk;
 }
 
 abbrev pub decreases-turns : goal.decreases-turns

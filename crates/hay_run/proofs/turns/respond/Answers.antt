@@ -1,9 +1,11 @@
-use Rattle.std.proofs.Common.{◌≡◌, [], ◌∷◌}
+use Rattle.std.proofs.Common.{◌≡◌, inl, [], ◌∷◌}
 use Rattle.std.proofs.lemmas.Result.{on_ok_weaker}
 use Rattle.hay_disk.specs.Streams.{Wrote, WrotePart}
 use Rattle.hay_legal.specs.declared.turn.Item.TheVariants as item
 use Rattle.hay_legal.specs.Items.{outside}
 use Rattle.hay_legal.specs.Items.Asked.{Alone}
+use Rattle.hay_cluster.specs.State.{Stands, Holds}
+use Rattle.hay_cluster.proofs.Reopening.{holds}
 use Rattle.hay_run.specs.declared.stops.Stop.TheVariants as stop
 use Rattle.hay_run.proofs.Asking.{outside-bad}
 use Rattle.hay_run.proofs.Turning.{answers_bad, on_either}
@@ -11,17 +13,24 @@ use Rattle.hay_run.proofs.turns.respond.Goals as goal
 
 pub returns-clause-answers : goal.returns-clause-answers
 returns-clause-answers g c =
+    let D = g.D.Disk in
     let says : (outside c.args.number c.args.said).0 ≡ Alone c.args.number item.Bad ∷ [] = outside-bad c.args.number c.args.said c.in-Bad.is in
     rw says
     (on_ok_weaker c.write_reply.result (λ wrote tells aside k stands.
-    answers_bad g.D.Disk.files g.D.Disk.fault_count g.D.Disk.fuse_count aside Wrote k c.args.number
+    answers_bad (Stands D.files D.fault_count D.fuse_count) aside Wrote k c.args.number
     (g.K.Sink.written c.args.sink.now) (g.K.Sink.written c.write_reply.new.sink) c.args.cluster.now stands wrote)
     c.write_reply.ensures.wrote)
 
-pub returns-clause-part : goal.returns-clause-part
-returns-clause-part g c = λ stopped tells aside k stands.
+pub returns-clause-broke : goal.returns-clause-broke
+returns-clause-broke g c = λ stopped.
+    let D = g.D.Disk in
     let says : (outside c.args.number c.args.said).0 ≡ Alone c.args.number item.Bad ∷ [] = outside-bad c.args.number c.args.said c.in-Bad.is in
     rw says
-    (answers_bad g.D.Disk.files g.D.Disk.fault_count g.D.Disk.fuse_count aside WrotePart k c.args.number
-    (g.K.Sink.written c.args.sink.now) (g.K.Sink.written c.write_reply.new.sink) c.args.cluster.now stands
-    (on_either c.write_reply.result stop.Output stop.NoMemory c.write_reply.ensures.part stopped))
+    (inl (λ tells aside k stands.
+    answers_bad (Holds D.files D.fault_count D.fuse_count) aside WrotePart k c.args.number
+    (g.K.Sink.written c.args.sink.now) (g.K.Sink.written c.write_reply.new.sink) c.args.cluster.now
+    (holds D.files D.fault_count D.fuse_count aside c.args.cluster.now c.requires.alone k stands)
+    (on_either c.write_reply.result stop.Output stop.NoMemory c.write_reply.ensures.part stopped)))
+
+pub returns-in-Plain-Restart-clause-broke : goal.returns-in-Plain-Restart-clause-broke
+returns-in-Plain-Restart-clause-broke g c = λ stopped. rw (c.in-Plain-Restart.is, c.in-Plain-Restart.field-0-is) (c.restart.ensures.broke stopped)

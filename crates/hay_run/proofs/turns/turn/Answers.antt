@@ -1,6 +1,8 @@
-use Rattle.std.proofs.Common.{inl, inr, ◌+◌, Some, None, [], ◌∷◌, refl}
+use Rattle.std.proofs.Common.{inl, inr, Some, None, [], ◌∷◌, refl, lit≤}
 use Rattle.std.proofs.lemmas.Result.{err_from_is_err_and}
 use Rattle.hay_disk.specs.Streams.{Wrote, WrotePart}
+use Rattle.hay_cluster.specs.State.{Stands, Holds}
+use Rattle.hay_cluster.proofs.Reopening.{holds}
 use Rattle.hay_script.specs.declared.Line.TheVariants as line
 use Rattle.hay_legal.specs.Items.{outside}
 use Rattle.hay_legal.specs.Items.Asked.{Block}
@@ -10,6 +12,7 @@ use Rattle.hay_run.specs.Stream.{rest_of}
 use Rattle.hay_run.proofs.Asking.{items_none, items_alone, items_either, open_block, open_line, some_more, some_line}
 use Rattle.hay_run.proofs.Taking.{accounts_more}
 use Rattle.hay_run.proofs.Turning.{answers_nothing, answers_block}
+use Rattle.hay_run.proofs.Stopping.{broke_line, refused_line}
 use Rattle.hay_run.proofs.turns.turn.Goals as goal
 
 -- the script ends, or breaks off
@@ -35,7 +38,7 @@ returns-in_default-clause-turned g c = record {
   asked = [];
   took = items_none c.args.number (rest_of (g.S.Source.left c.args.source.now) c.args.script.now) (rest_of (g.S.Source.left c.next_said.new.source) c.next_said.new.self) c.next_said.new.self.ended
       (rw c.in_default.is at c.in_ok-said.ensures.said);
-  answers = λ tells aside k stands. answers_nothing g.D.Disk.files g.D.Disk.fault_count g.D.Disk.fuse_count aside k (g.K.Sink.written c.args.sink.now) c.args.cluster.now stands;
+  answers = λ tells aside k stands. answers_nothing (Stands g.D.Disk.files g.D.Disk.fault_count g.D.Disk.fuse_count) aside k (g.K.Sink.written c.args.sink.now) c.args.cluster.now stands;
 }
 
 -- a block
@@ -88,7 +91,7 @@ returns-in-Lanes-clause-turned g c =
       asked = Block c.in_ok-block.block.lines ∷ [];
       took = items_either c.args.number c.in-Lanes.lanes c.in_ok-block.next c.in_ok-block.block.lines before mid after c.next_said.new.self.ended c.read_block.new.script.ended says
           c.in_ok-block.ensures.read (λ over. let e = c.in_ok-block.ensures.empty over in (e.0, e.1, rw (e.2, e.3) refl, rw e.3 refl));
-      answers = λ tells aside k stands. answers_block g.D.Disk.files g.D.Disk.fault_count g.D.Disk.fuse_count aside Wrote k c.in_ok-block.block.lines
+      answers = λ tells aside k stands. answers_block (Stands g.D.Disk.files g.D.Disk.fault_count g.D.Disk.fuse_count) aside Wrote k c.in_ok-block.block.lines
           (g.K.Sink.written c.args.sink.now) (g.K.Sink.written c.write_block.new.sink) c.args.cluster.now stands c.in_ok-write_block.ensures.wrote;
     }
 
@@ -103,16 +106,18 @@ returns-in_err-write_block-clause-output g c = λ _.
     let before = rest_of (left c.args.source.now) c.args.script.now in
     let mid = rest_of (left c.next_said.new.source) c.next_said.new.self in
     let after = rest_of (left c.read_block.new.source) c.read_block.new.script in
-    let says : SaysNext None (Some (line.Lanes c.in-Lanes.lanes)) before mid c.next_said.new.self.ended = rw c.in-Lanes.is at (rw c.in-Some.is at c.in_ok-said.ensures.said) in (
-      c.in_ok-block.next,
-      record {
-        asked = Block c.in_ok-block.block.lines ∷ [];
-        took = items_either c.args.number c.in-Lanes.lanes c.in_ok-block.next c.in_ok-block.block.lines before mid after c.next_said.new.self.ended c.read_block.new.script.ended says
-            c.in_ok-block.ensures.read (λ over. let e = c.in_ok-block.ensures.empty over in (e.0, e.1, rw (e.2, e.3) refl, rw e.3 refl));
-        answers = λ tells aside k stands. answers_block g.D.Disk.files g.D.Disk.fault_count g.D.Disk.fuse_count aside WrotePart k c.in_ok-block.block.lines
-            (g.K.Sink.written c.args.sink.now) (g.K.Sink.written c.write_block.new.sink) c.args.cluster.now stands c.in_err-write_block.ensures.part;
-      },
-    )
+    let says : SaysNext None (Some (line.Lanes c.in-Lanes.lanes)) before mid c.next_said.new.self.ended = rw c.in-Lanes.is at (rw c.in-Some.is at c.in_ok-said.ensures.said) in
+    inl (record {
+      asked = Block c.in_ok-block.block.lines ∷ [];
+      one = lit≤ tt;
+      next = c.in_ok-block.next;
+      ended = c.read_block.new.script.ended;
+      took = items_either c.args.number c.in-Lanes.lanes c.in_ok-block.next c.in_ok-block.block.lines before mid after c.next_said.new.self.ended c.read_block.new.script.ended says
+          c.in_ok-block.ensures.read (λ over. let e = c.in_ok-block.ensures.empty over in (e.0, e.1, rw (e.2, e.3) refl, rw e.3 refl));
+      answers = λ tells aside k stands. answers_block (Holds g.D.Disk.files g.D.Disk.fault_count g.D.Disk.fuse_count) aside WrotePart k c.in_ok-block.block.lines
+          (g.K.Sink.written c.args.sink.now) (g.K.Sink.written c.write_block.new.sink) c.args.cluster.now
+          (holds g.D.Disk.files g.D.Disk.fault_count g.D.Disk.fuse_count aside c.args.cluster.now c.requires.alone k stands) c.in_err-write_block.ensures.part;
+    })
 
 pub returns-in_err-write_block-clause-memory : goal.returns-in_err-write_block-clause-memory
 returns-in_err-write_block-clause-memory g c = λ _.
@@ -121,45 +126,49 @@ returns-in_err-write_block-clause-memory g c = λ _.
     let mid = rest_of (left c.next_said.new.source) c.next_said.new.self in
     let after = rest_of (left c.read_block.new.source) c.read_block.new.script in
     let says : SaysNext None (Some (line.Lanes c.in-Lanes.lanes)) before mid c.next_said.new.self.ended = rw c.in-Lanes.is at (rw c.in-Some.is at c.in_ok-said.ensures.said) in
-    inr (
-      c.in_ok-block.next,
-      record {
-        asked = Block c.in_ok-block.block.lines ∷ [];
-        took = items_either c.args.number c.in-Lanes.lanes c.in_ok-block.next c.in_ok-block.block.lines before mid after c.next_said.new.self.ended c.read_block.new.script.ended says
-            c.in_ok-block.ensures.read (λ over. let e = c.in_ok-block.ensures.empty over in (e.0, e.1, rw (e.2, e.3) refl, rw e.3 refl));
-        answers = λ tells aside k stands. answers_block g.D.Disk.files g.D.Disk.fault_count g.D.Disk.fuse_count aside WrotePart k c.in_ok-block.block.lines
-            (g.K.Sink.written c.args.sink.now) (g.K.Sink.written c.write_block.new.sink) c.args.cluster.now stands c.in_err-write_block.ensures.part;
-      },
-    )
+    inr (inl (record {
+      asked = Block c.in_ok-block.block.lines ∷ [];
+      one = lit≤ tt;
+      next = c.in_ok-block.next;
+      ended = c.read_block.new.script.ended;
+      took = items_either c.args.number c.in-Lanes.lanes c.in_ok-block.next c.in_ok-block.block.lines before mid after c.next_said.new.self.ended c.read_block.new.script.ended says
+          c.in_ok-block.ensures.read (λ over. let e = c.in_ok-block.ensures.empty over in (e.0, e.1, rw (e.2, e.3) refl, rw e.3 refl));
+      answers = λ tells aside k stands. answers_block (Holds g.D.Disk.files g.D.Disk.fault_count g.D.Disk.fuse_count) aside WrotePart k c.in_ok-block.block.lines
+          (g.K.Sink.written c.args.sink.now) (g.K.Sink.written c.write_block.new.sink) c.args.cluster.now
+          (holds g.D.Disk.files g.D.Disk.fault_count g.D.Disk.fuse_count aside c.args.cluster.now c.requires.alone k stands) c.in_err-write_block.ensures.part;
+    }))
 
 -- a line alone
 
 pub returns-in_err-respond-clause-output : goal.returns-in_err-respond-clause-output
 returns-in_err-respond-clause-output g c = λ is.
     let left = g.S.Source.left in
-    let before = rest_of (left c.args.source.now) c.args.script.now in
-    let after = rest_of (left c.next_said.new.source) c.next_said.new.self in (
-      c.args.number + 1,
-      record {
-        asked = (outside c.args.number c.in-Some.said).0;
-        took = items_alone c.args.number c.in-Some.said before after c.next_said.new.self.ended (rw c.in-Some.is at c.in_ok-said.ensures.said) (λ lanes is_lanes. c.in_default-said.not-Lanes lanes is_lanes);
-        answers = c.in_err-respond.ensures.part (inl (let p = err_from_is_err_and c.from_residual-in_err-respond.result c.from_residual-in_err-respond.ensures.1 in cc (p.1, p.2)));
-      },
-    )
+    broke_line g.D.Disk.Tells (Stands g.D.Disk.files g.D.Disk.fault_count g.D.Disk.fuse_count) (Holds g.D.Disk.files g.D.Disk.fault_count g.D.Disk.fuse_count) c.args.number c.in-Some.said c.args.cluster.now c.respond.new.cluster
+    (g.K.Sink.written c.args.sink.now) (g.K.Sink.written c.respond.new.sink)
+    (rest_of (left c.args.source.now) c.args.script.now) (rest_of (left c.next_said.new.source) c.next_said.new.self) c.next_said.new.self.ended
+    (items_alone c.args.number c.in-Some.said (rest_of (left c.args.source.now) c.args.script.now) (rest_of (left c.next_said.new.source) c.next_said.new.self) c.next_said.new.self.ended
+    (rw c.in-Some.is at c.in_ok-said.ensures.said) (λ lanes is_lanes. c.in_default-said.not-Lanes lanes is_lanes))
+    (c.in_err-respond.ensures.broke (inl (let p = err_from_is_err_and c.from_residual-in_err-respond.result c.from_residual-in_err-respond.ensures.1 in cc (p.1, p.2))))
 
 pub returns-in_err-respond-clause-memory : goal.returns-in_err-respond-clause-memory
 returns-in_err-respond-clause-memory g c = λ is.
     let left = g.S.Source.left in
-    let before = rest_of (left c.args.source.now) c.args.script.now in
-    let after = rest_of (left c.next_said.new.source) c.next_said.new.self in
-    inr (
-      c.args.number + 1,
-      record {
-        asked = (outside c.args.number c.in-Some.said).0;
-        took = items_alone c.args.number c.in-Some.said before after c.next_said.new.self.ended (rw c.in-Some.is at c.in_ok-said.ensures.said) (λ lanes is_lanes. c.in_default-said.not-Lanes lanes is_lanes);
-        answers = c.in_err-respond.ensures.part (inr (let p = err_from_is_err_and c.from_residual-in_err-respond.result c.from_residual-in_err-respond.ensures.1 in cc (p.1, p.2)));
-      },
-    )
+    inr (broke_line g.D.Disk.Tells (Stands g.D.Disk.files g.D.Disk.fault_count g.D.Disk.fuse_count) (Holds g.D.Disk.files g.D.Disk.fault_count g.D.Disk.fuse_count) c.args.number c.in-Some.said c.args.cluster.now c.respond.new.cluster
+    (g.K.Sink.written c.args.sink.now) (g.K.Sink.written c.respond.new.sink)
+    (rest_of (left c.args.source.now) c.args.script.now) (rest_of (left c.next_said.new.source) c.next_said.new.self) c.next_said.new.self.ended
+    (items_alone c.args.number c.in-Some.said (rest_of (left c.args.source.now) c.args.script.now) (rest_of (left c.next_said.new.source) c.next_said.new.self) c.next_said.new.self.ended
+    (rw c.in-Some.is at c.in_ok-said.ensures.said) (λ lanes is_lanes. c.in_default-said.not-Lanes lanes is_lanes))
+    (c.in_err-respond.ensures.broke (inr (let p = err_from_is_err_and c.from_residual-in_err-respond.result c.from_residual-in_err-respond.ensures.1 in cc (p.1, p.2)))))
+
+pub returns-in_err-respond-clause-store : goal.returns-in_err-respond-clause-store
+returns-in_err-respond-clause-store g c = λ is.
+    let left = g.S.Source.left in
+    refused_line g.D.Disk.Tells Wrote (Stands g.D.Disk.files g.D.Disk.fault_count g.D.Disk.fuse_count) (Holds g.D.Disk.files g.D.Disk.fault_count g.D.Disk.fuse_count) c.args.number c.in-Some.said c.args.cluster.now c.respond.new.cluster
+    (g.K.Sink.written c.args.sink.now) (g.K.Sink.written c.respond.new.sink)
+    (rest_of (left c.args.source.now) c.args.script.now) (rest_of (left c.next_said.new.source) c.next_said.new.self) c.next_said.new.self.ended
+    (items_alone c.args.number c.in-Some.said (rest_of (left c.args.source.now) c.args.script.now) (rest_of (left c.next_said.new.source) c.next_said.new.self) c.next_said.new.self.ended
+    (rw c.in-Some.is at c.in_ok-said.ensures.said) (λ lanes is_lanes. c.in_default-said.not-Lanes lanes is_lanes))
+    (c.in_err-respond.ensures.refused (let p = err_from_is_err_and c.from_residual-in_err-respond.result c.from_residual-in_err-respond.ensures.1 in cc (p.1, p.2)))
 
 pub returns-clause-turned : goal.returns-clause-turned
 returns-clause-turned g c =

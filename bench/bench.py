@@ -1,0 +1,177 @@
+#!/usr/bin/env python3
+"""Measures the built program: photos of three sizes, put and read, and how time and memory grow with their number.
+
+    bench/bench.py [--program PATH] [--words WORDS] [--repeat N] [--max PUTS]
+
+Each measure has two scripts: the puts alone, and the same puts with a read of each photo behind them. The program runs
+on each of them with plain files as its standard input and output. The time of the reads is the difference of the two
+runs. Times are those of the processor, user and system together, the least of all repeats; the time on the clock stands
+beside them. The memory is the greatest resident size of the process, by /usr/bin/time, and its bytes a photo are those
+above a run of an empty script. Each reply is looked at: a run in which a put is not stored, or a read shows other bytes
+than were put, ends the benchmark.
+"""
+
+import argparse
+import functools
+import os
+import random
+import subprocess
+import sys
+import tempfile
+import time
+from pathlib import Path
+
+ROOT = Path(__file__).resolve().parent.parent
+MIB = 1024 * 1024
+TIME = "/usr/bin/time"
+SIZES = ((10_000, 64), (10_000, 4096), (100, MIB))
+COUNTS = (1_000, 3_000, 10_000, 30_000, 100_000)
+
+
+class Run:
+    """What one run of the program took."""
+
+    def __init__(self, cpu, clock, peak):
+        self.cpu = cpu
+        self.clock = clock
+        self.peak = peak
+
+    def joined(self, other):
+        """The least times of both, and the greatest memory."""
+        return Run(min(self.cpu, other.cpu), min(self.clock, other.clock), max(self.peak, other.peak))
+
+
+def photo(number, size):
+    """The bytes of a photo, which are not all equal."""
+    return random.Random(number).randbytes(size).hex()
+
+
+def put_lines(count, size):
+    return (f"put {number} 1 {photo(number, size)}\n" for number in range(count))
+
+
+def read_lines(cookies):
+    return (f"read {number} 1 {cookie}\n" for number, cookie in enumerate(cookies))
+
+
+def run_once(program, words, script, transcript):
+    peak = transcript.with_name("peak")
+    with open(script, "rb") as source, open(transcript, "wb") as sink:
+        began = time.monotonic()
+        # by a small process between, since a peak is never below that of the process that forked
+        process = subprocess.Popen([TIME, "-f", "%M", "-o", peak, program, *words], stdin=source, stdout=sink)
+        _, status, usage = os.wait4(process.pid, 0)
+        clock = time.monotonic() - began
+    process.returncode = os.waitstatus_to_exitcode(status)
+    if process.returncode != 0:
+        sys.exit(f"{program} {' '.join(words)}: status {process.returncode}")
+    return Run(usage.ru_utime + usage.ru_stime, clock, int(peak.read_text(encoding="ascii")) * 1024)
+
+
+def run_script(options, folder, lines):
+    """Runs the program on a script, and gives what it took and the file of its transcript."""
+    script, transcript = folder / "script", folder / "transcript"
+    with open(script, "w", encoding="ascii") as file:
+        file.writelines(lines)
+    runs = [run_once(options.program, options.words.split(), script, transcript) for _ in range(options.repeat)]
+    return functools.reduce(Run.joined, runs), transcript
+
+
+def replies(transcript):
+    """The words of each reply behind its line number, without the header."""
+    with open(transcript, encoding="ascii") as file:
+        next(file)
+        for line in file:
+            yield line.split()[1:]
+
+
+def cookies_of(transcript):
+    cookies = []
+    for words in replies(transcript):
+        if words[0] != "stored":
+            sys.exit(f"put {len(cookies) + 1} was answered: {' '.join(words)[:80]}")
+        cookies.append(words[4])
+    return cookies
+
+
+def check_photos(transcript, count, size):
+    shown = 0
+    for number, words in enumerate(replies(transcript)):
+        if number < count:
+            continue
+        if words[0] != "photo" or words[5] != photo(number - count, size):
+            sys.exit(f"read {number - count + 1} was answered: {' '.join(words)[:80]}")
+        shown += 1
+    if shown != count:
+        sys.exit(f"{count} reads were asked, and {shown} photos shown")
+
+
+def measure(options, folder, count, size):
+    """What the puts took, and what the puts with the reads took."""
+    puts, transcript = run_script(options, folder, put_lines(count, size))
+    cookies = cookies_of(transcript)
+    if len(cookies) != count:
+        sys.exit(f"{count} puts were asked, and {len(cookies)} stored")
+    both, transcript = run_script(options, folder, (line for lines in (put_lines(count, size), read_lines(cookies)) for line in lines))
+    check_photos(transcript, count, size)
+    return puts, both
+
+
+def speeds(count, size, seconds):
+    seconds = max(seconds, 0.001)
+    return f"{count / seconds:,.0f} | {count * size / seconds / MIB:,.1f}"
+
+
+def machine():
+    """The machine, in a line."""
+    fields = dict(line.split(":", 1) for line in Path("/proc/cpuinfo").read_text(encoding="utf-8").splitlines() if ":" in line)
+    model = {key.strip(): value.strip() for key, value in fields.items()}.get("model name", "an unknown processor")
+    memory = os.sysconf("SC_PAGE_SIZE") * os.sysconf("SC_PHYS_PAGES") / 1024**3
+    return f"{os.cpu_count()} processors of {model}, {memory:.0f} GiB of memory, Linux {os.uname().release}"
+
+
+def sizes_table(options, folder):
+    print("| photos | bytes each | puts/s | MiB/s | reads/s | MiB/s | seconds on the clock, all | peak MiB |")
+    print("|---:|---:|---:|---:|---:|---:|---:|---:|")
+    for count, size in SIZES:
+        puts, both = measure(options, folder, count, size)
+        print(
+            f"| {count:,} | {size:,} | {speeds(count, size, puts.cpu)} | {speeds(count, size, both.cpu - puts.cpu)}"
+            f" | {both.clock:.2f} | {both.peak / MIB:.1f} |",
+            flush=True,
+        )
+
+
+def growth_table(options, folder):
+    empty, _ = run_script(options, folder, [])
+    print("| puts of 64 bytes, and as many reads | seconds | microseconds a put | microseconds a read | peak MiB | bytes a photo |")
+    print("|---:|---:|---:|---:|---:|---:|")
+    for count in COUNTS:
+        if count > options.max:
+            break
+        puts, both = measure(options, folder, count, 64)
+        print(
+            f"| {count:,} | {both.cpu:.2f} | {(puts.cpu - empty.cpu) / count * 1e6:.1f} | {(both.cpu - puts.cpu) / count * 1e6:.1f}"
+            f" | {both.peak / MIB:.1f} | {(both.peak - empty.peak) / count:.0f} |",
+            flush=True,
+        )
+
+
+def main():
+    parser = argparse.ArgumentParser(description=__doc__, formatter_class=argparse.RawDescriptionHelpFormatter)
+    parser.add_argument("--program", default=ROOT / "crates" / "haystack" / "out" / "haystack")
+    parser.add_argument("--words", default=f"run --capacity {1024 * MIB}")
+    parser.add_argument("--repeat", type=int, default=3)
+    parser.add_argument("--max", type=int, default=100_000)
+    options = parser.parse_args()
+    if not os.access(options.program, os.X_OK):
+        sys.exit(f"{options.program} is not there: cd crates/haystack && rt run -- run < stdin")
+    print(f"{machine()}; the least of {options.repeat} runs of `haystack {options.words}`.\n", flush=True)
+    with tempfile.TemporaryDirectory(prefix="haystack-bench-") as name:
+        sizes_table(options, Path(name))
+        print()
+        growth_table(options, Path(name))
+
+
+if __name__ == "__main__":
+    main()

@@ -1,0 +1,147 @@
+//! What a run writes: lines of replies and notes.
+ghost use Rattle.std.specs.Prelude.{◌≡◌, ◌⊎◌, ◌≤◌, ◌++◌, Some, None, Err, flat_map, OnOk, OnErr, IsErrOf};
+ghost use Rattle.hay_disk.specs.Counts.{Rose};
+ghost use Rattle.hay_disk.specs.Streams.{Wrote, WrotePart};
+ghost use Rattle.hay_reply.specs.declared.Note.{Note};
+ghost use Rattle.hay_reply.specs.Replies as texts;
+ghost use Rattle.hay_run.specs.Stops.{note_of};
+ghost use Rattle.hay_run.specs.Unbuilt.{unbuilt_text};
+
+use crate::block::LaneBlock;
+use crate::stops::Stop;
+use hay_base::NoMemory;
+use hay_cluster::ClusterFault;
+use hay_disk::{Failed, Sink};
+use hay_needle::Settings;
+use hay_reply::{Note, Reply, header_line, note_text, numbered_line};
+use std::alloc::Global;
+
+/// Writes a text.
+fn write_text<K: Sink>(sink: &mut K, text: &[u8]) -> Result<(), Stop>
+    ensures wrote { OnOk result (Wrote (K.written sink.old) text.now (K.written sink.new)) }
+    ensures part { OnErr result (WrotePart (K.written sink.old) text.now (K.written sink.new)) }
+    ensures stops { OnErr result (result ≡ Err Stop.Output) }
+    ensures cause { OnErr result (Rose (K.fault_count sink.old) (K.fault_count sink.new)) }
+    ensures count { K.fault_count sink.old ≤ K.fault_count sink.new }
+{
+    match sink.write(text) {
+        Ok(()) => Ok(()),
+        Err(Failed) => Err(Stop::Output),
+    }
+}
+
+/// Writes the first line of the transcript.
+pub fn write_header<K: Sink>(alloc: Global, settings: &Settings, sink: &mut K) -> Result<(), Stop>
+    ensures wrote { OnOk result (Wrote (K.written sink.old) (texts.header_line settings.now) (K.written sink.new)) }
+    ensures part { OnErr result (WrotePart (K.written sink.old) (texts.header_line settings.now) (K.written sink.new)) }
+    ensures stops { OnErr result ((result ≡ Err Stop.Output) ⊎ (result ≡ Err Stop.NoMemory)) }
+    ensures cause { IsErrOf result Stop.Output → Rose (K.fault_count sink.old) (K.fault_count sink.new) }
+    ensures count { K.fault_count sink.old ≤ K.fault_count sink.new }
+{
+    let mut text = Vec::new(alloc);
+    header_line(alloc, settings, &mut text)?;
+    write_text(sink, text.as_slice())
+}
+
+/// Writes the line of a reply.
+pub fn write_reply<K: Sink>(
+    alloc: Global,
+    number: u64,
+    reply: &Reply,
+    sink: &mut K,
+) -> Result<(), Stop>
+    ensures wrote { OnOk result (Wrote (K.written sink.old) (texts.numbered_line number reply.now) (K.written sink.new)) }
+    ensures part { OnErr result (WrotePart (K.written sink.old) (texts.numbered_line number reply.now) (K.written sink.new)) }
+    ensures stops { OnErr result ((result ≡ Err Stop.Output) ⊎ (result ≡ Err Stop.NoMemory)) }
+    ensures cause { IsErrOf result Stop.Output → Rose (K.fault_count sink.old) (K.fault_count sink.new) }
+    ensures count { K.fault_count sink.old ≤ K.fault_count sink.new }
+{
+    let mut text = Vec::new(alloc);
+    numbered_line(alloc, number, reply, &mut text)?;
+    write_text(sink, text.as_slice())
+}
+
+/// Writes the replies to a block's lines.
+pub fn write_block<K: Sink>(alloc: Global, block: &LaneBlock, sink: &mut K) -> Result<(), Stop>
+    ensures wrote { OnOk result (Wrote (K.written sink.old) (flat_map unbuilt_text block.now.lines) (K.written sink.new)) }
+    ensures part { OnErr result (WrotePart (K.written sink.old) (flat_map unbuilt_text block.now.lines) (K.written sink.new)) }
+    ensures stops { OnErr result ((result ≡ Err Stop.Output) ⊎ (result ≡ Err Stop.NoMemory)) }
+    ensures cause { IsErrOf result Stop.Output → Rose (K.fault_count sink.old) (K.fault_count sink.new) }
+    ensures count { K.fault_count sink.old ≤ K.fault_count sink.new }
+{
+    let text = block.text(alloc)?;
+    write_text(sink, text.as_slice())
+}
+
+/// Adds the line of a note.
+fn add_note(alloc: Global, note: &Note, text: &mut Vec<u8>) -> Result<(), NoMemory>
+    ensures { OnOk result (text.new.items ≡ text.old.items ++ texts.note_line note.now) }
+{
+    note_text(alloc, note, text)?;
+    text.push(b'\n')?;
+    Ok(())
+}
+
+/// Adds the lines of notes.
+fn add_notes(alloc: Global, notes: &[Note], text: &mut Vec<u8>) -> Result<(), NoMemory>
+    ensures { OnOk result (text.new.items ≡ text.old.items ++ flat_map texts.note_line notes.now) }
+{
+    for note in notes {
+        add_note(alloc, note, text)?;
+    }
+    Ok(())
+}
+
+/// Writes the reply to a restart, and the notes behind it.
+pub fn write_restarted<K: Sink>(
+    alloc: Global,
+    number: u64,
+    rows: u64,
+    notes: &[Note],
+    sink: &mut K,
+) -> Result<(), Stop>
+    ensures wrote { OnOk result (Wrote (K.written sink.old) (texts.numbered_line number (Reply.Restarted rows) ++ flat_map texts.note_line notes.now) (K.written sink.new)) }
+    ensures part { OnErr result (WrotePart (K.written sink.old) (texts.numbered_line number (Reply.Restarted rows) ++ flat_map texts.note_line notes.now) (K.written sink.new)) }
+    ensures stops { OnErr result ((result ≡ Err Stop.Output) ⊎ (result ≡ Err Stop.NoMemory)) }
+    ensures cause { IsErrOf result Stop.Output → Rose (K.fault_count sink.old) (K.fault_count sink.new) }
+    ensures count { K.fault_count sink.old ≤ K.fault_count sink.new }
+{
+    let mut text = Vec::new(alloc);
+    numbered_line(alloc, number, &Reply::Restarted { rows }, &mut text)?;
+    add_notes(alloc, notes, &mut text)?;
+    write_text(sink, text.as_slice())
+}
+
+/// Writes the line of a note.
+fn write_note<K: Sink>(alloc: Global, note: &Note, sink: &mut K) -> Result<(), Stop>
+    ensures wrote { OnOk result (Wrote (K.written sink.old) (texts.note_line note.now) (K.written sink.new)) }
+    ensures part { OnErr result (WrotePart (K.written sink.old) (texts.note_line note.now) (K.written sink.new)) }
+    ensures stops { OnErr result ((result ≡ Err Stop.Output) ⊎ (result ≡ Err Stop.NoMemory)) }
+    ensures cause { IsErrOf result Stop.Output → Rose (K.fault_count sink.old) (K.fault_count sink.new) }
+    ensures count { K.fault_count sink.old ≤ K.fault_count sink.new }
+{
+    let mut text = Vec::new(alloc);
+    add_note(alloc, note, &mut text)?;
+    write_text(sink, text.as_slice())
+}
+
+/// Writes how an opening was refused, and answers why the run stops. Where memory was wanting nothing is written.
+pub fn write_refusal<K: Sink>(alloc: Global, fault: ClusterFault, sink: &mut K) -> Stop
+    ensures told { result ≡ Stop.Store → (note : Note) × (note_of fault ≡ Some note) × Wrote (K.written sink.old) (texts.note_line note) (K.written sink.new) }
+    ensures part { (note : Note) → note_of fault ≡ Some note → (result ≡ Stop.Store) ⊎ WrotePart (K.written sink.old) (texts.note_line note) (K.written sink.new) }
+    ensures wanting { note_of fault ≡ None → (result ≡ Stop.NoMemory) × (sink.new ≡ sink.old) }
+    ensures stops { (result ≡ Stop.Output) ⊎ (result ≡ Stop.NoMemory) ⊎ (result ≡ Stop.Store) }
+    ensures cause { result ≡ Stop.Output → Rose (K.fault_count sink.old) (K.fault_count sink.new) }
+    ensures count { K.fault_count sink.old ≤ K.fault_count sink.new }
+{
+    let note = match fault {
+        ClusterFault::NoMemory => return Stop::NoMemory,
+        ClusterFault::Shelf { faults } => Note::OpenShelf { faults },
+        ClusterFault::Failed { slot, faults } => Note::OpenFailed { slot, faults },
+        ClusterFault::Damaged { slot, file, at } => Note::OpenDamaged { slot, file, at },
+    };
+    match write_note(alloc, &note, sink) {
+        Ok(()) => Stop::Store,
+        Err(stop) => stop,
+    }
+}
