@@ -4,7 +4,6 @@ ghost use Rattle.std.specs.Prelude.{◌≤◌, length, IfOk};
 use std::fs::File;
 use std::io;
 use std::io::ErrorKind;
-use std::os::fd::AsRawFd;
 use std::os::unix::fs::FileExt;
 
 /// Reads from an offset on until `out` is full or the file ends, and answers how many bytes came.
@@ -44,15 +43,4 @@ pub(crate) fn write_whole(file: &File, at: u64, bytes: &[u8]) -> io::Result<()> 
         }
     }
     Err(ErrorKind::Interrupted.into())
-}
-
-/// Syncs a file, and drops the kernel's copies of its pages, which a failed sync of an earlier process may have left
-/// other than the disk has them.
-pub(crate) fn settle(file: &File) -> io::Result<()> {
-    file.sync_all()?;
-    let advised = libc::posix_fadvise(file.as_raw_fd(), 0, 0, libc::POSIX_FADV_DONTNEED);
-    if advised != 0 {
-        return Err(io::Error::from_raw_os_error(advised));
-    }
-    Ok(())
 }

@@ -1,7 +1,7 @@
 //! The files of one slot in a folder.
 ghost use Rattle.std.specs.Prelude.{◌≤◌, length, IfOk};
 
-use crate::opened::{read_whole, settle, write_whole};
+use crate::opened::{read_whole, write_whole};
 use crate::system::{System, lock, open, open_folder};
 use std::alloc::{AllocError, Global};
 use std::collections::BTreeMap;
@@ -65,7 +65,7 @@ impl<R: System> SlotFiles<R> {
 
     fn settle_file(&mut self, file: u32) -> io::Result<()> {
         match self.open_file(file)? {
-            Some(opened) => settle(&opened),
+            Some(opened) => opened.sync_all(),
             None => Ok(()),
         }
     }
