@@ -59,7 +59,7 @@ fn outcome_of(alloc: Global, words: &[&str], script: &[u8], step: usize) -> Resu
     })
 }
 
-const CASES: [Case; 12] = [
+const CASES: [Case; 13] = [
     Case {
         words: RUN,
         script: b"put 0 1 68656c6c6f\nread 0 1 903df1a0ade0b876\n",
@@ -93,6 +93,12 @@ const CASES: [Case; 12] = [
         words: RUN,
         script: b"put 144115188075855872 4294967295 x16:Ab\nread 144115188075855872 04294967295 3736d58c374dc6c2\n",
         transcript: b"haystack 1 1 1 67108864\n1 stored 0 1 1 3736d58c374dc6c2\n2 photo 0 0 1 1 x16:ab\n",
+    },
+    // A wrong cookie is refused while the photo stands, and not asked for any more once it is deleted.
+    Case {
+        words: RUN,
+        script: b"put 0 1 61\nread 0 1 0\ndel 0 1\nread 0 1 0\nread 5 1 0\n",
+        transcript: b"haystack 1 1 1 67108864\n1 stored 0 1 1 903df1a0ade0b876\n2 wrong cookie 0 0 1 1\n3 deleted 0 2 1\n4 gone 0 0 2 1\n5 unknown 1\n",
     },
     // A photo that is deleted is gone, before its cookie is looked at.
     Case {
@@ -157,6 +163,10 @@ fn sizes_are_exact(rt: HostRuntime) -> Result<(), Fail> {
     assert_eq!(rt; outcome.file_len, 1_048_744);
     let padded = b"put 0 1 x1:61\nput 0 2 x7:61\nput 0 3 x8:61\nput 0 4 x9:61\n";
     let outcome = outcome_of(rt.alloc(), &["run"], padded, 4096)?;
+    assert_eq!(rt;
+        outcome.written.as_slice(),
+        b"haystack 1 1 1 67108864\n1 stored 0 1 1 903df1a0ade0b876\n2 stored 0 2 2 903df1a0ade0b876\n3 stored 0 3 3 903df1a0ade0b876\n4 stored 0 4 4 903df1a0ade0b876\n".as_slice()
+    );
     assert_eq!(rt; outcome.file_len, 304);
     Ok(())
 }
@@ -364,5 +374,36 @@ fn damage_is_told_at_its_place(rt: HostRuntime) -> Result<(), Fail> {
         written.as_slice(),
         b"haystack 1 1 1 67108864\nopen damaged 1 1 64\n".as_slice()
     );
+    Ok(())
+}
+
+/// What a run over `put 0 1 61` writes, and its status, where the source and the sink fail at these calls.
+fn faulty(alloc: Global, source_fails: &[u64], sink_fails: &[u64]) -> Result<(u8, Vec<u8>), Fail> {
+    let words = words_of(alloc, &["run"])?;
+    let mut text = Vec::new(alloc);
+    text.extend_from_slice(b"put 0 1 61\n")?;
+    let mut source = MemSource::new(alloc, text, 11);
+    source.fail(source_fails)?;
+    let mut sink = MemSink::new(alloc);
+    sink.fail(sink_fails)?;
+    let mut shelf = MemShelf::new(alloc);
+    let status = run(alloc, words.as_slice(), &mut source, &mut sink, &mut shelf);
+    let mut written = Vec::new(alloc);
+    written.extend_from_slice(sink.bytes())?;
+    Ok((status, written))
+}
+
+#[test]
+fn a_fault_of_a_stream_ends_the_run(rt: HostRuntime) -> Result<(), Fail> {
+    let alloc = rt.alloc();
+    let (status, written) = faulty(alloc, &[2], &[])?;
+    assert_eq!(rt; status, 4);
+    assert_eq!(rt;
+        written.as_slice(),
+        b"haystack 1 1 1 67108864\n1 stored 0 1 1 903df1a0ade0b876\n".as_slice()
+    );
+    let (status, written) = faulty(alloc, &[], &[1])?;
+    assert_eq!(rt; status, 3);
+    assert!(rt; b"haystack 1 1 1 67108864\n".starts_with(written.as_slice()));
     Ok(())
 }
