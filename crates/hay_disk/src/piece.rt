@@ -29,7 +29,7 @@ pub trait Piece: Send + Sync + Drop {
     fn dup(&self) -> Self
         ensures len { piece_len result ≡ piece_len self.now }
         ensures hole { piece_hole result ≡ piece_hole self.now }
-        ensures bytes { Tells → piece_bytes result ≡ piece_bytes self.now };
+        ensures bytes { piece_bytes result ≡ piece_bytes self.now };
 
     ghost hole_inside: { (piece : Self) → piece_hole piece < piece_len piece };
 

@@ -1,9 +1,9 @@
 -- A byte of flags that is written over.
-use Rattle.std.proofs.Common.{◌≡◌, ◌≢◌, ◌+◌, ◌-◌, ◌<◌, ◌≤◌, ◌^◌, min, ℕ, suc, Bool, true, false, eqb, List, [], ◌∷◌, ◌++◌, length, take, drop, refl, sym, ◌∙◌, ap, subst, arith, inl, inr, append_assoc, length-take, length-drop}
-use Rattle.std.specs.Prelude.{not, slice_set}
+use Rattle.std.proofs.Common.{◌≡◌, ◌≢◌, ◌+◌, ◌-◌, ◌<◌, ◌≤◌, ◌^◌, min, ℕ, suc, Bool, true, false, eqb, List, [], ◌∷◌, ◌++◌, length, get_or, take, drop, refl, sym, ◌∙◌, ap, subst, arith, inl, inr, append_assoc, take-append-drop, length-take, length-drop}
+use Rattle.std.specs.Prelude.{not, slice_set, Result, Ok, Err, OnOk}
 use Rattle.std.proofs.Math.Seq.{take-set-lt}
 use Rattle.std.proofs.lemmas.Bool.{cases_eq, eq-eqb, ne_eqb}
-use Rattle.std.proofs.lemmas.List.{length-set, length-append, set-append_left, set-append_right, set_split, take-set-le, drop-set-lt, drop-set-add}
+use Rattle.std.proofs.lemmas.List.{length-set, length-append, set-append_left, set-append_right, set_split, take-set-le, drop-set-lt, drop-set-add, drop_more}
 use Rattle.hay_needle.specs.declared.needle.Cell.{Cell}
 use Rattle.hay_needle.specs.Needle.{BeginsWithNeedle, head_of_needle, needle_of_cell}
 use Rattle.hay_needle.proofs.Needles.{length-head, length-needle, head_first, reflagged}
@@ -123,8 +123,8 @@ flag_left superblock old new image cells end at inside solid changes leaves volu
     (not (eqb byte.0 0), subst (λ (l : List ℕ). IsVolume superblock l (with_flag at (not (eqb byte.0 0)) cells) end) (sym is) (flag_volume superblock old.now cells end at byte.0 volume has))
 
 -- the place of the flags is a number of 64 bits
-pub flags_place : (at place : ℕ) (file : List ℕ) (n : Needle) → BeginsWithNeedle (drop at file) n → length file < 2 ^ 64 → place ≡ min (at + 28) 18446744073709551615 → place ≡ at + 28
-flags_place at place file n begins fits is = let inside = flags_within at file n begins in omega arith
+pub flags_place : (at place : ℕ) (file : List ℕ) → at + 28 < length file → length file < 2 ^ 64 → place ≡ min (at + 28) 18446744073709551615 → place ≡ at + 28
+flags_place at place file inside fits is = omega arith
 
 pub changes_there : (at place : ℕ) (a b : FileState) → place ≡ at + 28 → Changes place 1 a b → Changes (at + 28) 1 a b
 changes_there at place a b is changes = subst (λ k. Changes k 1 a b) is changes
@@ -134,3 +134,21 @@ written_there at place bytes old new is written = subst (λ k. new ≡ overwrite
 
 pub free_there : (at place k : ℕ) (file : FileState) → place ≡ at + 28 → place ≤ k → k < place + 1 → file.sealed (at + 28) ≡ false → file.sealed k ≡ false
 free_there at place k file is from to free = subst (λ n. file.sealed n ≡ false) (let e : at + 28 ≡ k = omega arith in e) free
+
+-- a change of that place alone leaves the flag set or not
+pub flag_either : (superblock : List ℕ) (old new : FileState) (cells : List Cell) (end at : ℕ) → at + 28 < length old.now → Changes (at + 28) 1 old new → IsVolume superblock old.now cells end → HasPlace at cells
+    → (deleted : Bool) × IsVolume superblock new.now (with_flag at deleted cells) end
+flag_either superblock old new cells end at inside changes volume has =
+    let byte : ℕ = get_or new.now (at + 28) 0 in
+    let next : at + 28 + 1 ≡ suc (at + 28) = omega arith in
+    let long : at + 28 < length new.now = omega (arith, changes.grows) in
+    let is : new.now ≡ slice_set old.now (at + 28) byte =
+    sym (take-append-drop (at + 28) new.now) ∙ ap (λ (l : List ℕ). l ++ drop (at + 28) new.now) changes.before
+    ∙ ap (λ (l : List ℕ). take (at + 28) old.now ++ l) (drop_more new.now (at + 28) 0 long ∙ ap (λ (l : List ℕ). byte ∷ l) changes.after)
+    ∙ ap (λ n. take (at + 28) old.now ++ byte ∷ drop n old.now) next ∙ sym (set_split old.now (at + 28) byte inside) in
+    (not (eqb byte 0), subst (λ (l : List ℕ). IsVolume superblock l (with_flag at (not (eqb byte 0)) cells) end) (sym is) (flag_volume superblock old.now cells end at byte volume has))
+
+-- what follows at `Ok`
+pub on_ok : {T E : Type 0} (r : Result T E) (P Q : Type 0) → (P → Q) → OnOk r P → OnOk r Q
+on_ok (Ok value) P Q follows holds = follows holds
+on_ok (Err fault) P Q follows holds = tt

@@ -56,7 +56,7 @@ shut_at at file closed (inr broken) = closed.shut broken.0
 same_needle : (at : ℕ) (file : List ℕ) (c d : Cell) → StandsCell at file c → StandsCell at file d → needle_of_cell c ≡ needle_of_cell d
 same_needle at file c d here there = one_needle (drop at file) (needle_of_cell c) (needle_of_cell d) (cell_begins at file c here) (cell_begins at file d there)
 
-same_cell : (at : ℕ) (file : List ℕ) (c d : Cell) → StandsCell at file c → StandsCell at file d → c ≡ d
+pub same_cell : (at : ℕ) (file : List ℕ) (c d : Cell) → StandsCell at file c → StandsCell at file d → c ≡ d
 same_cell at file c d here there =
     let with : ℕ → Needle → Cell = λ k n. record { at = k; pair = n.pair; cookie = n.photo.cookie; bytes = n.photo.bytes; deleted = n.deleted } in
     ap (λ k. with k (needle_of_cell c)) (here.is.place ∙ sym there.is.place) ∙ ap (with d.at) (same_needle at file c d here there)

@@ -1,16 +1,17 @@
 -- One more cell in a volume file.
-use Rattle.std.proofs.Common.{false, ◌≡◌, ◌⊎◌, inl, inr, ⊎_elim, ◌≤◌, ◌+◌, ℕ, List, [], ◌∷◌, ◌++◌, length, take, drop, sym, ◌∙◌, ap, subst, refl, arith, length-append, append_assoc, lit<}
+use Rattle.std.proofs.Common.{false, ◌≡◌, ◌⊎◌, inl, inr, ⊎_elim, ◌≤◌, ◌+◌, ◌-◌, ℕ, List, [], ◌∷◌, ◌++◌, length, take, drop, sym, ◌∙◌, ap, subst, refl, arith, length-append, append_assoc, take-append-drop, lit<}
 use Rattle.std.proofs.lemmas.List.{take_at, drop_at}
 use Rattle.hay_needle.specs.declared.needle.Cell.{Cell}
 use Rattle.hay_needle.specs.declared.needle.Cookie.{Cookie}
 use Rattle.hay_needle.specs.declared.needle.Pair.{Pair}
-use Rattle.hay_needle.specs.Needle.{live, needle_magic, AppendsBehindMagic}
+use Rattle.hay_needle.specs.declared.needle.Needle.{Needle}
+use Rattle.hay_needle.specs.Needle.{live, needle_magic, AppendsBehindMagic, NeedleBytes, head_bytes}
 use Rattle.hay_needle.specs.Sizes.{total_of_lem}
 use Rattle.hay_needle.proofs.Needles.{length-needle}
 use Rattle.hay_disk.specs.Disk.{FileState, IsImage, IsSolid, IsSolidIn, Changes, overwrite}
 use Rattle.hay_disk.specs.Gate.{magic_bytes, record_of, end_mark, EndsInMark, IsLog, IsGate, LogGrows, LogStays}
-use Rattle.hay_disk.proofs.Logs.{log_kept, not_mark}
-use Rattle.hay_volume.specs.Cells.{IsVolume, live_cell}
+use Rattle.hay_disk.proofs.Logs.{log_kept, log_grows, not_mark}
+use Rattle.hay_volume.specs.Cells.{IsVolume, IsMarked, cell_of_needle, live_cell}
 use Rattle.hay_volume.proofs.CellLaws.{one_more, volume_log, log_volume, length-superblock}
 
 -- what is written behind the magic: it ends in the end mark, and is as long as the needle
@@ -98,3 +99,31 @@ formatted superblock bytes old new long is written =
 -- once such a file is on the disk, and no piece stands behind its end, a cell may be appended
 pub volume_gate : (superblock : List ℕ) (cells : List Cell) (end : ℕ) (file : FileState) → IsVolume superblock file.now cells end → IsSolid file → ((k : ℕ) → end ≤ k → file.sealed k ≡ false) → IsGate needle_magic end file
 volume_gate superblock cells end file is solid free = record { closed = is.closed; solid = λ k from to. solid.places k; free = free }
+
+-- A NEEDLE THAT IS WRITTEN WHOLE
+
+-- a needle is its magic and what stands behind it
+magic_and_rest : (needle : List ℕ) (n : Needle) → NeedleBytes needle n → needle ≡ record_of needle_magic (drop 8 needle)
+unfolding head_bytes
+magic_and_rest needle n is =
+    sym (take-append-drop 8 needle) ∙ ap (λ (l : List ℕ). l ++ drop 8 needle) (ap (λ (l : List ℕ). take 8 l) is.spelled)
+
+pub length-marked : (bytes : List ℕ) (n : Needle) → IsMarked bytes n → length bytes ≡ total_of_lem (length n.photo.bytes) + 8
+length-marked bytes n marked = omega (arith, ap length marked.parts, length-append marked.needle end_mark, length-needle marked.needle n marked.is)
+
+pub needle_grows : (superblock bytes old new : List ℕ) (cells : List Cell) (end : ℕ) (n : Needle) → IsMarked bytes n → new ≡ overwrite end bytes old → IsVolume superblock old cells end
+    → IsVolume superblock new (cells ++ cell_of_needle end n ∷ []) (end + (length bytes - 8))
+needle_grows superblock bytes old new cells end n marked written is =
+    let needle : List ℕ = marked.needle in
+    let rest : List ℕ = drop 8 needle in
+    let split : needle ≡ record_of needle_magic rest = magic_and_rest needle n marked.is in
+    let whole : bytes ≡ record_of needle_magic (rest ++ end_mark) =
+    marked.parts ∙ ap (λ (l : List ℕ). l ++ end_mark) split ∙ append_assoc (magic_bytes needle_magic) rest end_mark in
+    let grows = log_grows needle_magic end (rest ++ end_mark) old new (lit< tt) (lit< tt) (written ∙ ap (λ (l : List ℕ). overwrite end l old) whole) in
+    let log = grows.longer (superblock ++ is.has.needles) rest (front_length superblock old cells end is) refl (volume_log superblock old cells end is) in
+    let longer : IsLog needle_magic ((superblock ++ is.has.needles) ++ needle) new = subst (λ (l : List ℕ). IsLog needle_magic ((superblock ++ is.has.needles) ++ l) new) (sym split) log in
+    log_volume superblock (is.has.needles ++ needle) new (cells ++ cell_of_needle end n ∷ []) (end + (length bytes - 8))
+    (length-superblock superblock old cells end is)
+    (omega (arith, length-append is.has.needles needle, is.has.ends, ap length marked.parts, length-append needle end_mark))
+    (one_more 64 end is.has.needles needle cells (cell_of_needle end n) is.has.are (sym is.has.ends) (record { place = refl; is = marked.is }))
+    (subst (λ (l : List ℕ). IsLog needle_magic l new) (append_assoc superblock is.has.needles needle) longer)

@@ -6,7 +6,7 @@ use Rattle.hay_needle.specs.declared.needle.Cookie.{Cookie}
 use Rattle.hay_needle.specs.declared.needle.Needle.{Needle}
 use Rattle.hay_needle.specs.declared.needle.Pair.{Pair}
 use Rattle.hay_needle.specs.Needle.{needle_magic, needle_of_cell, NeedleBytes, BeginsWithNeedle}
-use Rattle.hay_disk.specs.Gate.{magic_bytes, IsClosed, Stands}
+use Rattle.hay_disk.specs.Gate.{magic_bytes, IsClosed, Stands, end_mark}
 
 -- the bytes are the needle of this cell, and it stands at `at`
 pub record IsCellAt (at : ℕ) (bytes : List ℕ) (cell : Cell) : Type 0 where
@@ -54,6 +54,16 @@ pub record IsDamagedAt (from : ℕ) (file : List ℕ) (at : ℕ) : Type 0 where
 -- the cell of a photo that is not deleted
 abbrev pub live_cell : ℕ → Pair → Cookie → List ℕ → Cell
 live_cell at pair cookie photo = record { at = at; pair = pair; cookie = cookie; bytes = photo; deleted = false }
+
+-- the cell of a needle that stands at `at`
+abbrev pub cell_of_needle : ℕ → Needle → Cell
+cell_of_needle at n = record { at = at; pair = n.pair; cookie = n.photo.cookie; bytes = n.photo.bytes; deleted = n.deleted }
+
+-- the bytes are this needle and the end mark behind it
+pub record IsMarked (bytes : List ℕ) (n : Needle) : Type 0 where
+  pub needle : List ℕ
+  pub parts : bytes ≡ needle ++ end_mark
+  pub is : NeedleBytes needle n
 
 -- one of the cells stands at `at`
 abbrev pub HasPlace : ℕ → List Cell → Type 0

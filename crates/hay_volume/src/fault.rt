@@ -76,6 +76,17 @@ impl From<DiskFault> for CellFault {
     }
 }
 
+impl From<NoMemory> for CellFault {
+    ghost use Rattle.std.specs.Prelude.{◌≡◌};
+    ghost use Rattle.hay_volume.specs.declared.fault.CellFault.{CellFault};
+
+    ghost from_gives = { λ _ fault. fault ≡ CellFault.NoMemory };
+
+    fn from(_error: NoMemory) -> CellFault {
+        CellFault::NoMemory
+    }
+}
+
 impl From<AllocError> for CellFault {
     ghost use Rattle.std.specs.Prelude.{◌≡◌};
     ghost use Rattle.hay_volume.specs.declared.fault.CellFault.{CellFault};

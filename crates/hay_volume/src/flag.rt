@@ -34,9 +34,52 @@ fn write_over<D: Disk>(disk: &mut D, file: u32, at: u64, bytes: &[u8]) -> Result
 }
 
 impl VolumeFile {
+    // Writes the flag of the cell at `at`.
+    fn write_flag<D: Disk>(&self, disk: &mut D, at: u64) -> Result<(), Failed>
+        requires inside { D.Tells → at + 28 < length (D.files disk.old self.now.file).now }
+        requires free { D.Tells → (D.files disk.old self.now.file).sealed (at + 28) ≡ false }
+
+        ensures flagged { D.Tells → OnOk result ((superblock : List ℕ) (cells : List Cell) (end : ℕ) →
+            IsVolume superblock (D.files disk.old self.now.file).now cells end → HasPlace at cells →
+            IsVolume superblock (D.files disk.new self.now.file).now (with_flag at true cells) end) }
+        ensures either { D.Tells → (superblock : List ℕ) (cells : List Cell) (end : ℕ) →
+            IsVolume superblock (D.files disk.old self.now.file).now cells end → HasPlace at cells →
+            (deleted : Bool) × IsVolume superblock (D.files disk.new self.now.file).now (with_flag at deleted cells) end }
+
+        ensures changes { D.Tells → Changes (at + 28) 1 (D.files disk.old self.now.file) (D.files disk.new self.now.file) }
+        ensures others { D.Tells → KeepsOthers self.now.file (D.files disk.old) (D.files disk.new) }
+        ensures drawn { D.Tells → (n : ℕ) → D.drawn disk.new n ≡ D.drawn disk.old n }
+        ensures counted { IsCounted (D.fault_count disk.old) (D.fault_count disk.new) (IsErr result) }
+        ensures fuses { D.fuse_count disk.new ≡ D.fuse_count disk.old }
+    {
+        write_over(disk, self.file, at.saturating_add(FLAGS_AT), &[1])
+    }
+
+    /// Marks the cell at `at` as deleted, in one write. It does not sync, so the file must not be a current one.
+    pub fn flag_loose<D: Disk>(&self, disk: &mut D, at: u64) -> Result<(), Failed>
+        requires stands { D.Tells → (n : Needle) × BeginsWithNeedle (drop at (D.files disk.old self.now.file).now) n }
+        requires free { D.Tells → (D.files disk.old self.now.file).sealed (at + 28) ≡ false }
+
+        // At `Ok` the cell is deleted. `Failed` leaves the same cells, that one deleted or not.
+        ensures flagged { D.Tells → OnOk result ((superblock : List ℕ) (cells : List Cell) (end : ℕ) →
+            IsVolume superblock (D.files disk.old self.now.file).now cells end → HasPlace at cells →
+            IsVolume superblock (D.files disk.new self.now.file).now (with_flag at true cells) end) }
+        ensures either { D.Tells → (superblock : List ℕ) (cells : List Cell) (end : ℕ) →
+            IsVolume superblock (D.files disk.old self.now.file).now cells end → HasPlace at cells →
+            (deleted : Bool) × IsVolume superblock (D.files disk.new self.now.file).now (with_flag at deleted cells) end }
+
+        ensures changes { D.Tells → Changes (at + 28) 1 (D.files disk.old self.now.file) (D.files disk.new self.now.file) }
+        ensures others { D.Tells → KeepsOthers self.now.file (D.files disk.old) (D.files disk.new) }
+        ensures drawn { D.Tells → (n : ℕ) → D.drawn disk.new n ≡ D.drawn disk.old n }
+        ensures counted { IsCounted (D.fault_count disk.old) (D.fault_count disk.new) (IsErr result) }
+        ensures fuses { D.fuse_count disk.new ≡ D.fuse_count disk.old }
+    {
+        self.write_flag(disk, at)
+    }
+
     /// Marks the cell at `at` as deleted, and has the mark on the disk.
     pub fn flag<D: Disk>(&mut self, disk: &mut D, at: u64) -> Result<(), Failed>
-        requires stands { D.Tells → (n : Needle) × BeginsWithNeedle (drop at (D.files disk.old self.old.file).now) n }
+        requires inside { D.Tells → at + 28 < length (D.files disk.old self.old.file).now }
         requires free { D.Tells → (D.files disk.old self.old.file).sealed (at + 28) ≡ false }
 
         // At `Ok` the cell is deleted, and all of the file is on the disk.
@@ -60,7 +103,7 @@ impl VolumeFile {
         ensures counted { IsCounted (D.fault_count disk.old) (D.fault_count disk.new) (IsErr result) }
         ensures fuses { D.fuse_count disk.new ≡ D.fuse_count disk.old }
     {
-        write_over(disk, self.file, at.saturating_add(FLAGS_AT), &[1])?;
+        self.write_flag(disk, at)?;
         disk.sync(self.file)?;
         Ok(())
     }

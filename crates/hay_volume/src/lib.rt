@@ -4,6 +4,7 @@
 //!
 //! An append adds one cell at the end, and whatever a stop leaves has the cells with the new one or without it. A flag
 //! marks one cell as deleted, and whatever a stop leaves has the cells with this mark or without it.
+//! The loose forms of both write once and don't sync, for a file that is not a current one yet.
 //! Reading answers by the bytes: a cell is read exactly where a needle stands, and a scan ends exactly at the end mark
 //! or at the first place where neither it nor a needle stands. On a disk that doesn't tell its bytes a cell that is read
 //! is a whole needle still.

@@ -1,6 +1,6 @@
 //! A volume file and its end.
 
-ghost use Rattle.std.specs.Prelude.{◌≡◌, ◌⊎◌, ◌≤◌, ◌<◌, ◌+◌, ◌^◌, List, [], ◌∷◌, ◌++◌, ℕ, length, IfOk, IfErr, OnOk, OnErr, IsErrOf, Err};
+ghost use Rattle.std.specs.Prelude.{◌≡◌, ◌⊎◌, ◌≤◌, ◌<◌, ◌+◌, ◌-◌, ◌^◌, List, [], ◌∷◌, ◌++◌, ℕ, length, IfOk, IfErr, OnOk, OnErr, IsErrOf, Err};
 ghost use Rattle.hay_disk.specs.Counts.{IsCounted};
 ghost use Rattle.hay_disk.specs.Disk.{IsImage, IsSolid, IsSolidIn, IsFreeIn, Changes, KeepsOthers, overwrite};
 ghost use Rattle.hay_disk.specs.Gate.{IsGate, end_mark};
@@ -8,7 +8,8 @@ ghost use Rattle.hay_needle.specs.Needle.{needle_magic};
 ghost use Rattle.hay_needle.specs.Sizes.{total_of_lem};
 ghost use Rattle.hay_needle.specs.Super.{super_bytes};
 ghost use Rattle.hay_needle.specs.declared.needle.Cell.{Cell};
-ghost use Rattle.hay_volume.specs.Cells.{IsVolume, live_cell};
+ghost use Rattle.hay_needle.specs.declared.needle.Needle.{Needle};
+ghost use Rattle.hay_volume.specs.Cells.{IsMarked, IsVolume, cell_of_needle, live_cell};
 
 use crate::fault::VolumeFault;
 use hay_disk::{Disk, DiskFault, gate_append};
@@ -16,6 +17,9 @@ use hay_needle::{
     Cookie, NEEDLE_MAGIC, Pair, SUPER_LEN, Super, encode_rest, total_of, write_super,
 };
 use std::alloc::Global;
+
+// The number of bytes of the end mark.
+const MARK_LEN: u64 = 8;
 
 /// A volume file of a disk. Its next cell comes at `end`, and the end mark behind that cell is to end at `capacity` at
 /// the latest.
@@ -142,6 +146,53 @@ impl VolumeFile {
         gate_append(disk, self.file, self.end, NEEDLE_MAGIC, body.as_slice())?;
         let at = self.end;
         self.end += need;
+        Ok(at)
+    }
+
+    /// Writes a needle at the end and the end mark behind it, which `needle` both has, in one write, and answers the
+    /// needle's place. It does not sync, so the file must not be a current one.
+    /// A value whose append failed must not be used for another.
+    pub fn append_loose<D: Disk>(&mut self, disk: &mut D, needle: &[u8]) -> Result<u64, VolumeFault>
+        requires marked { (n : Needle) × IsMarked needle.now n }
+        requires inside { D.Tells → self.old.end ≤ length (D.files disk.old self.old.file).now }
+        requires free { D.Tells → IsFreeIn self.old.end (length needle.now) (D.files disk.old self.old.file) }
+
+        // `Full` comes exactly where the needle and the end mark do not fit, and it comes first.
+        ensures full { self.old.capacity < self.old.end + length needle.now
+            → result ≡ Err (VolumeFault.Full self.old.end (length needle.now - 8) self.old.capacity) }
+        ensures room { self.old.end + length needle.now ≤ self.old.capacity
+            → IfErr result (λ fault. (fault ≡ VolumeFault.Failed) ⊎ (fault ≡ VolumeFault.NoMemory)) }
+
+        // A refusal leaves the value as it was, and but for `Failed` the files too.
+        ensures place { IfOk result (λ at. at ≡ self.old.end) }
+        ensures moved { OnOk result (self.new ≡ record self.old { end = self.old.end + (length needle.now - 8) }) }
+        ensures stayed { OnErr result (self.new ≡ self.old) }
+        ensures kept { D.Tells → IfErr result (λ fault. (fault ≡ VolumeFault.Failed → ⊥) → D.files disk.new ≡ D.files disk.old) }
+
+        // At `Ok` the file has one more cell.
+        ensures added { D.Tells → OnOk result ((superblock : List ℕ) (cells : List Cell) (n : Needle) →
+            IsMarked needle.now n →
+            IsVolume superblock (D.files disk.old self.old.file).now cells self.old.end →
+            IsVolume superblock (D.files disk.new self.old.file).now (cells ++ cell_of_needle self.old.end n ∷ []) self.new.end) }
+
+        ensures changes { D.Tells → Changes self.old.end (length needle.now) (D.files disk.old self.old.file) (D.files disk.new self.old.file) }
+        ensures others { D.Tells → KeepsOthers self.old.file (D.files disk.old) (D.files disk.new) }
+        ensures drawn { D.Tells → (n : ℕ) → D.drawn disk.new n ≡ D.drawn disk.old n }
+        ensures counted { IsCounted (D.fault_count disk.old) (D.fault_count disk.new) (IsErrOf result VolumeFault.Failed) }
+        ensures fuses { D.fuse_count disk.new ≡ D.fuse_count disk.old }
+    {
+        let all = needle.len() as u64;
+        let need = all - MARK_LEN;
+        if self.capacity < all || self.capacity - all < self.end {
+            return Err(VolumeFault::Full {
+                end: self.end,
+                need,
+                capacity: self.capacity,
+            });
+        }
+        let at = self.end;
+        disk.write(self.file, at, needle)?;
+        self.end = at + need;
         Ok(at)
     }
 }

@@ -3,6 +3,7 @@ use Rattle.hay_needle.specs.Needle.{needle_of_cell}
 use Rattle.hay_needle.specs.Tables.{Table, outcome_at}
 use Rattle.hay_needle.specs.declared.needle.Outcome.TheVariants as outcome
 use Rattle.hay_volume.specs.declared.volume.VolumeFile.{VolumeFile}
+use Rattle.hay_volume.proofs.FlagLaws.{flags_within}
 use Rattle.hay_core.specs.declared.entry.Entry.TheVariants.{Del}
 use Rattle.hay_core.specs.Entries.{after, entries_of}
 use Rattle.hay_cluster.specs.declared.mode.Mode.TheVariants.{Up}
@@ -19,14 +20,15 @@ use Rattle.hay_cluster.proofs.Spots.{last_cell}
 use Rattle.hay_cluster.proofs.Standing.{up_found, up_stands, held_changed, held_pending, answered_still, answered_changed, answered_failed, is_up}
 use Rattle.hay_cluster.proofs.cluster.Cluster.flag.Goals as goal
 
-pub flag-requires-clause-stands : goal.flag-requires-clause-stands
-flag-requires-clause-stands g c κs within = λ tells.
+pub flag-requires-clause-inside : goal.flag-requires-clause-inside
+flag-requires-clause-inside g c κs within = λ tells.
     let files = g.D.Disk.files in
     let was = c.self.inside in
     let up : was.mode ≡ Up = ap (λ (store : Open _). store.mode) c.self.view_is ∙ c.requires.up in
     let place : place_at was.places c.args.pair ≡ Some (Live c.args.at) = ap (λ (store : Open _). place_at store.places c.args.pair) c.self.view_is ∙ c.requires.place in
     let f = up_found files was.settings was.disk was.volume was.front was.places was.mode (c.self.invariant.held tells (is_up was.mode up)) up in
-    flag_stands was.settings (files was.disk) was.volume.file c.args.at was.volume.end f.cells c.args.pair c.self.invariant.file (sym (f.spots c.args.pair) ∙ place) f.settled
+    let stands = flag_stands was.settings (files was.disk) was.volume.file c.args.at was.volume.end f.cells c.args.pair c.self.invariant.file (sym (f.spots c.args.pair) ∙ place) f.settled in
+    flags_within c.args.at (files was.disk was.volume.file).now stands.0 stands.1
 
 pub flag-requires-clause-free : goal.flag-requires-clause-free
 flag-requires-clause-free g c κs within = λ tells.
