@@ -1,0 +1,9 @@
+pub mod CellLists
+pub mod Copied
+pub mod Copyings
+pub mod Finishes
+pub mod LiveNeedles
+pub mod Meanwhile
+pub mod Repeated
+pub mod Sealings
+pub mod StandingLaws

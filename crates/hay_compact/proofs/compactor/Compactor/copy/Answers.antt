@@ -1,0 +1,68 @@
+use Rattle.std.proofs.Common.{◌≡◌, ◌<◌, ◌+◌, ◌-◌, ◌^◌, ◌∙◌, List, ℕ, length, cond, true, refl, ap, arith, inl, inr, sym, subst, Some}
+use Rattle.hay_needle.specs.Tables.{pair_eq}
+use Rattle.hay_volume.specs.Cells.{IsMarked}
+use Rattle.hay_volume.specs.declared.fault.CellFault.{CellFault}
+use Rattle.hay_volume.specs.declared.fault.VolumeFault.{VolumeFault}
+use Rattle.hay_index.specs.declared.record.Record.{Record}
+use Rattle.hay_index.specs.declared.index.IndexFile.{IndexFile}
+use Rattle.hay_volume.specs.declared.volume.VolumeFile.{VolumeFile}
+use Rattle.hay_compact.specs.Standing.{place_in}
+use Rattle.hay_compact.specs.Copying.{Copying, HasPeeked, IsCopy, MovesOn, Stage}
+use Rattle.hay_compact.proofs.Copied.{peeked_fits, stays_safe, copy_skips, copy_copies, copy_stands, unnoted, not_next, is_next}
+use Rattle.hay_compact.proofs.compactor.Compactor.copy.Goals as goal
+use Rattle.hay_compact.proofs.compactor.Compactor.copy.Goals.{then-cell-via-then-cell, then-cell-via-else-cell+then-ne}
+
+pub overflow_add-self : goal.overflow_add-self
+overflow_add-self g c =
+    let fits : c.self.inside.next + c.total_of.result < 2 ^ 64 = peeked_fits c.args.self.now.next c.self.inside.next c.total_of.result c.args.self.now.bytes c.args.cell c.requires.peeked (ap (λ (s : Stage). s.next) c.self.view_is) c.total_of.ensures in
+    omega arith
+
+pub returns-then-cell-clause-examined : goal.returns-then-cell-clause-examined
+returns-then-cell-clause-examined g c = λ tells sup old current fresh examined cell copying is copy latest.
+    let new : Stage = record { generation = c.self.inside.generation; capacity = c.self.inside.capacity; volume = c.self.inside.volume; index = c.self.inside.index; standing = c.self.inside.standing; next = c.self.inside.next + c.total_of.result; bytes = c.self.inside.bytes.items } in
+    copy_skips sup (g.D.Disk.files c.args.disk.now) old c.args.self.now new current fresh examined c.args.self.now.volume.end c.total_of.result cell c.args.cell c.args.latest copying is copy latest
+    (elim c.then-cell.branch [
+      | then-cell-via-then-cell w ↦ inl w.if-cell.true
+      | then-cell-via-else-cell+then-ne w ↦ inr (not_next c.args.latest c.self.inside.next c.args.self.now.next w.if-ne.ensures (ap (λ (s : Stage). s.next) c.self.view_is))
+    ])
+    c.total_of.ensures (ap (λ (s : Stage). record s { next = s.next + c.total_of.result }) c.self.view_is)
+
+pub overflow_add-self-in-Ok : goal.overflow_add-self-in-Ok
+overflow_add-self-in-Ok g c =
+    let fits : c.self.inside.next + c.total_of-in-Ok.result < 2 ^ 64 = peeked_fits c.args.self.now.next c.self.inside.next c.total_of-in-Ok.result c.args.self.now.bytes c.args.cell c.requires.peeked (ap (λ (s : Stage). s.next) c.self.view_is) c.total_of-in-Ok.ensures in
+    omega arith
+
+pub invariant_of-self-in-Ok : goal.invariant_of-self-in-Ok
+invariant_of-self-in-Ok g c =
+    let s : Stage = record { generation = c.self.inside.generation; capacity = c.self.inside.capacity; volume = c.self.inside.volume; index = c.self.inside.index; standing = c.self.inside.standing; next = c.self.inside.next; bytes = c.self.inside.bytes.items } in
+    let row : Record = record { pair = c.args.cell.pair; at = c.end.result; size = c.args.cell.size } in
+    stays_safe s c.append_loose.new.self c.note.new.self row c.args.cell c.total_of-in-Ok.result (subst (λ (x : Stage). HasPeeked x.next x.bytes c.args.cell) (sym c.self.view_is) c.requires.peeked) c.self.invariant
+    (c.in-Ok.ensures.moved ∙ ap (λ (l : List ℕ). record s.volume { end = s.volume.end + (length l - 8) }) c.as_slice.ensures.value) c.in_ok-note.ensures.ok refl c.total_of-in-Ok.ensures
+
+pub returns-in-Ok-clause-examined : goal.returns-in-Ok-clause-examined
+returns-in-Ok-clause-examined g c = λ tells sup old current fresh examined cell copying is copy latest.
+    let s : Stage = record { generation = c.self.inside.generation; capacity = c.self.inside.capacity; volume = c.self.inside.volume; index = c.self.inside.index; standing = c.self.inside.standing; next = c.self.inside.next; bytes = c.self.inside.bytes.items } in
+    let row : Record = record { pair = c.args.cell.pair; at = c.end.result; size = c.args.cell.size } in
+    let made = copy_copies sup (g.D.Disk.files c.args.disk.now) (g.D.Disk.files c.append_loose.new.disk) old s c.append_loose.new.self c.note.new.self c.set.new.self current fresh examined c.total_of-in-Ok.result cell c.args.cell c.args.latest row
+    (subst (λ (x : Stage). Copying sup (g.D.Disk.files c.args.disk.now) old x current fresh examined) (sym c.self.view_is) copying) is (subst (λ (x : Stage). IsCopy x.next x.bytes c.args.cell cell) (sym c.self.view_is) copy) latest
+    c.if-cell.false (is_next c.args.latest c.self.inside.next c.ne.result c.ne.ensures c.if-ne.false) c.total_of-in-Ok.ensures
+    (c.in-Ok.ensures.moved ∙ ap (λ (l : List ℕ). record s.volume { end = s.volume.end + (length l - 8) }) c.as_slice.ensures.value)
+    (λ superblock cells needle marked volume. c.in-Ok.ensures.added tells superblock cells needle (subst (λ (l : List ℕ). IsMarked l needle) (sym c.as_slice.ensures.value) marked) volume)
+    (c.append_loose.ensures.changes tells).free (c.append_loose.ensures.others tells)
+    c.in_ok-note.ensures.ok (ap (λ k. let r : Record = record { pair = c.args.cell.pair; at = k; size = c.args.cell.size } in r) c.end.ensures)
+    (λ pair. c.set.ensures pair ∙ ap (λ k. cond (pair_eq c.args.cell.pair pair) (Some k) (place_in c.reserve.new.self pair)) c.in-Ok.ensures.place ∙ ap (λ o. cond (pair_eq c.args.cell.pair pair) (Some s.volume.end) o) (c.in_ok-reserve.ensures.same pair)) in
+    subst (λ k. MovesOn sup (g.D.Disk.files c.append_loose.new.disk) old (record s { volume = c.append_loose.new.self; index = c.note.new.self; standing = c.set.new.self; next = s.next + c.total_of-in-Ok.result }) current fresh examined cell k true)
+    (ap (λ (x : Stage). x.volume.end) c.self.view_is) made
+
+pub returns-in-Err-clause-stands : goal.returns-in-Err-clause-stands
+returns-in-Err-clause-stands g c = λ tells memory sup old current fresh examined copying.
+    let s : Stage = record { generation = c.self.inside.generation; capacity = c.self.inside.capacity; volume = c.self.inside.volume; index = c.self.inside.index; standing = c.self.inside.standing; next = c.self.inside.next; bytes = c.self.inside.bytes.items } in
+    let why : c.refusal.result ≡ CellFault.NoMemory = cc in
+    let wants : c.in-Err.fault ≡ VolumeFault.NoMemory = c.refusal.ensures.no_memory why in
+    let index : c.unnote.new.self ≡ s.index = unnoted s.index c.unnote.new.self c.note.new.self c.unnote.ensures.0 (record { pair = c.args.cell.pair; at = c.end.result; size = c.args.cell.size }) c.unnote.ensures.1 c.in_ok-note.ensures.ok in
+    copy_stands sup (g.D.Disk.files c.args.disk.now) (g.D.Disk.files c.append_loose.new.disk) old c.args.self.now (record s { volume = c.append_loose.new.self; index = c.unnote.new.self; standing = c.reserve.new.self }) c.reserve.new.self current fresh examined copying
+    (c.in-Err.ensures.kept tells (λ failed. let e : VolumeFault.NoMemory ≡ VolumeFault.Failed = sym wants ∙ failed in cc))
+    (λ pair. c.in_ok-reserve.ensures.same pair ∙ ap (λ (x : Stage). place_in x.standing pair) c.self.view_is)
+    (ap (λ (v : VolumeFile). let x : Stage = record s { volume = v; index = c.unnote.new.self; standing = c.reserve.new.self } in x) c.in-Err.ensures.stayed
+    ∙ ap (λ (i : IndexFile). let x : Stage = record s { index = i; standing = c.reserve.new.self } in x) index
+    ∙ ap (λ (x : Stage). record x { standing = c.reserve.new.self }) c.self.view_is)

@@ -1,0 +1,21 @@
+use Rattle.std.proofs.Common.{◌∙◌, sym, subst, ap}
+use Rattle.hay_compact.specs.Standing.{place_in}
+use Rattle.hay_compact.specs.Copying.{Copying, IsCopying, Stage}
+use Rattle.hay_compact.proofs.Repeated.{repeats_nothing, copying_stands, repeats_flag}
+use Rattle.hay_compact.proofs.compactor.Compactor.repeat_delete.Goals as goal
+
+pub returns-in_default-clause-repeated : goal.returns-in_default-clause-repeated
+returns-in_default-clause-repeated g c = λ tells sup old current fresh examined copying.
+    repeats_nothing sup (g.D.Disk.files c.args.disk.now) old c.args.self.now current fresh examined c.args.pair copying (ap (λ (x : Stage). place_in x.standing c.args.pair) (sym c.self.view_is) ∙ sym c.in_default.ensures.place)
+
+pub flag_loose-requires-clause-stands : goal.flag_loose-requires-clause-stands
+flag_loose-requires-clause-stands g c κs within = λ tells.
+    let s : Stage = record { generation = c.self.inside.generation; capacity = c.self.inside.capacity; volume = c.self.inside.volume; index = c.self.inside.index; standing = c.self.inside.standing; next = c.self.inside.next; bytes = c.self.inside.bytes.items } in
+    copying_stands (g.D.Disk.files c.args.disk.now) s c.in-Some.at c.args.pair (subst (λ (x : Stage). IsCopying (g.D.Disk.files c.args.disk.now) x) (sym c.self.view_is) (c.requires tells)) (sym c.in-Some.ensures.place)
+
+pub returns-clause-repeated : goal.returns-clause-repeated
+returns-clause-repeated g c = λ tells sup old current fresh examined copying.
+    let s : Stage = record { generation = c.self.inside.generation; capacity = c.self.inside.capacity; volume = c.self.inside.volume; index = c.self.inside.index; standing = c.self.inside.standing; next = c.self.inside.next; bytes = c.self.inside.bytes.items } in
+    repeats_flag sup (g.D.Disk.files c.args.disk.now) (g.D.Disk.files c.flag_loose.new.disk) old s c.set.new.self current fresh examined c.in-Some.at c.args.pair
+    (subst (λ (x : Stage). Copying sup (g.D.Disk.files c.args.disk.now) old x current fresh examined) (sym c.self.view_is) copying) (sym c.in-Some.ensures.place)
+    (c.in_ok-flag_loose.ensures.flagged tells) (c.flag_loose.ensures.changes tells).free (c.flag_loose.ensures.others tells) c.set.ensures

@@ -1,0 +1,269 @@
+//! A compaction that is under way.
+
+ghost use Rattle.std.specs.Prelude.{◌≡◌, ◌⊎◌, ◌≢◌, ◌≤◌, ◌<◌, ◌+◌, ◌∷◌, [], List, ℕ, length, drop, Err, IsTrue, IfOk, OnOk, IsErr, IsErrOf, IfSome, IfNone, ◌↔◌};
+ghost use Rattle.hay_disk.specs.Counts.{IsCounted};
+ghost use Rattle.hay_disk.specs.Disk.{Files, KeepsOthers};
+ghost use Rattle.hay_needle.specs.declared.needle.Cell.{Cell};
+ghost use Rattle.hay_needle.specs.declared.settings.Super.{Super};
+ghost use Rattle.hay_needle.specs.Sizes.{total_of_lem};
+ghost use Rattle.hay_needle.specs.Tables.{live_needles, table_of};
+ghost use Rattle.hay_volume.specs.Cells.{IsVolume, needles_of};
+ghost use Rattle.hay_volume.specs.declared.fault.CellFault.{CellFault};
+ghost use Rattle.hay_volume.specs.declared.volume.VolumeFile.{VolumeFile};
+ghost use Rattle.hay_open.specs.Stored.{index_file, volume_file};
+ghost use Rattle.hay_compact.specs.Copying.{Copies, Copying, HasPeeked, IsCopy, IsCopying, IsLatest, KeepsOtherFiles, MovesOn, Repeats, live_among};
+
+use crate::standing::Standing;
+use hay_disk::{Disk, DiskFault, Failed};
+use hay_index::{IndexFile, Record};
+use hay_needle::{CellHead, FileKind, Pair, Super, total_of};
+use hay_volume::{CellFault, VolumeFault, VolumeFile};
+use std::alloc::Global;
+use std::marker::Model;
+
+// The number of bytes of the end mark.
+const MARK_LEN: u64 = 8;
+
+/// The files of the new generation, and how far the current one is examined.
+#[derive(Drop)]
+pub struct Compactor {
+    pub(crate) generation: u64,
+    /// The bytes that the new volume file may have once it is the current one. What is copied is never longer than what it
+    /// is copied from, so until then nothing bounds it.
+    pub(crate) capacity: u64,
+    pub(crate) volume: VolumeFile,
+    /// The records of the cells that were copied are noted in it.
+    pub(crate) index: IndexFile,
+    pub(crate) standing: Standing,
+    /// Where the next cell of the current volume file stands.
+    pub(crate) next: u64,
+    /// That cell once it was peeked at, and the end mark behind it.
+    pub(crate) bytes: Vec<u8>,
+}
+
+impl Model for Compactor {
+    ghost use Rattle.hay_compact.specs.Copying.{IsSafe, Stage};
+
+    ghost Value = { Stage };
+
+    ghost view = { λ c. record { generation = c.generation; capacity = c.capacity; volume = c.volume; index = c.index; standing = c.standing; next = c.next; bytes = c.bytes.items } };
+
+    ghost invariant = { λ c. IsSafe c.volume c.index c.next };
+}
+
+impl Compactor {
+    /// Begins the files of a new generation: what stands in their place is taken away, and each gets a superblock and the
+    /// end mark. Four changing calls.
+    pub fn begin<D: Disk>(
+        alloc: Global,
+        disk: &mut D,
+        sup: &Super,
+        generation: u64,
+    ) -> Result<Compactor, DiskFault>
+        requires { generation ≤ 65535 }
+
+        // Nothing is examined, and nothing is copied.
+        ensures begun { D.Tells → IfOk result (λ stage. (old : VolumeFile) (superblock : List ℕ) (cells : List Cell) →
+            IsVolume superblock (D.files disk.old old.file).now cells old.end →
+            old.file ≢ volume_file generation → old.file ≢ index_file generation →
+            Copying sup.now (D.files disk.new) old stage cells [] 0) }
+        ensures names { IfOk result (λ stage. stage.generation ≡ generation) }
+
+        ensures others { D.Tells → KeepsOtherFiles generation (D.files disk.old) (D.files disk.new) }
+        ensures drawn { D.Tells → (n : ℕ) → D.drawn disk.new n ≡ D.drawn disk.old n }
+        ensures counted { IsCounted (D.fault_count disk.old) (D.fault_count disk.new) (IsErrOf result DiskFault.Failed) }
+        ensures fuses { D.fuse_count disk.new ≡ D.fuse_count disk.old }
+    {
+        let volume_file = (2 * generation + 1) as u32;
+        let index_file = (2 * generation + 2) as u32;
+        disk.remove(volume_file)?;
+        disk.remove(index_file)?;
+        let volume = VolumeFile::format(
+            disk,
+            volume_file,
+            &super_of(sup, FileKind::Volume, generation),
+        )?;
+        let index = IndexFile::format(
+            alloc,
+            disk,
+            index_file,
+            &super_of(sup, FileKind::Index, generation),
+        )?;
+        Ok(Compactor {
+            generation,
+            capacity: volume.capacity(),
+            volume: VolumeFile::adopt(volume_file, volume.end(), u64::MAX),
+            index,
+            standing: Standing::new(alloc),
+            next: volume.end(),
+            bytes: Vec::new(alloc),
+        })
+    }
+
+    /// Whether all cells of the current volume file were examined.
+    pub fn ready(&self, old: &VolumeFile) -> bool
+        ensures end { IsTrue result ↔ (old.now.end ≤ self.now.next) }
+        ensures all { (sup : Super) (files : Files) (current fresh : List Cell) (examined : ℕ) →
+            Copying sup files old.now self.now current fresh examined → (IsTrue result ↔ (examined ≡ length current)) }
+
+        // Then the new file has the table of the current one, and where nothing was changed meanwhile, its live needles.
+        ensures table { (sup : Super) (files : Files) (current fresh : List Cell) (examined : ℕ) →
+            Copying sup files old.now self.now current fresh examined → IsTrue result →
+            Copies fresh current examined → table_of (needles_of fresh) ≡ table_of (needles_of current) }
+        ensures live { (sup : Super) (files : Files) (current fresh : List Cell) (examined : ℕ) →
+            Copying sup files old.now self.now current fresh examined → IsTrue result →
+            needles_of fresh ≡ live_among examined (needles_of current) → needles_of fresh ≡ live_needles (needles_of current) }
+    {
+        old.end() <= self.next
+    }
+
+    /// The next cell of the current volume file, or none at its end.
+    ///
+    /// `Damaged` comes only where that file has no needle at this place.
+    pub fn peek<D: Disk>(
+        &mut self,
+        disk: &mut D,
+        old: &VolumeFile,
+    ) -> Result<Option<CellHead>, CellFault>
+        // On any disk the cell may be copied.
+        ensures peeked { IfOk result (λ next. IfSome next (λ head. HasPeeked self.new.next self.new.bytes head)) }
+        ensures cell { D.Tells → (sup : Super) (current fresh : List Cell) (examined : ℕ) →
+            Copying sup (D.files disk.old) old.now self.old current fresh examined →
+            IfOk result (λ next. IfSome next (λ head. (cell : Cell)
+            × (drop examined current ≡ cell ∷ drop (examined + 1) current)
+            × IsCopy self.new.next self.new.bytes head cell)) }
+        ensures all { D.Tells → (sup : Super) (current fresh : List Cell) (examined : ℕ) →
+            Copying sup (D.files disk.old) old.now self.old current fresh examined →
+            IfOk result (λ next. IfNone next (examined ≡ length current)) }
+
+        ensures place { (k : ℕ) → result ≡ Err (CellFault.Damaged k) → k ≡ self.old.next }
+        ensures whole { D.Tells → (sup : Super) (current fresh : List Cell) (examined k : ℕ) →
+            Copying sup (D.files disk.old) old.now self.old current fresh examined → result ≡ Err (CellFault.Damaged k) → ⊥ }
+
+        // The compaction stands where it stood.
+        ensures stands { self.new ≡ record self.old { bytes = self.new.bytes } }
+        ensures same { D.Tells → D.files disk.new ≡ D.files disk.old }
+        ensures drawn { D.Tells → IfOk result (λ next. IfSome next (λ head. D.drawn disk.new old.now.file ≤ D.drawn disk.old old.now.file + total_of_lem head.size)) }
+        ensures drawn_none { D.Tells → IfOk result (λ next. IfNone next ((n : ℕ) → D.drawn disk.new n ≡ D.drawn disk.old n)) }
+        ensures drawn_others { D.Tells → KeepsOthers old.now.file (D.drawn disk.old) (D.drawn disk.new) }
+        ensures counted { IsCounted (D.fault_count disk.old) (D.fault_count disk.new) (IsErrOf result CellFault.Failed) }
+        ensures fuses { D.fuse_count disk.new ≡ D.fuse_count disk.old }
+    {
+        if self.ready(old) {
+            return Ok(None);
+        }
+        let head = old.cell_at(disk, self.next, &mut self.bytes)?;
+        let room = old.end().saturating_add(MARK_LEN).saturating_sub(self.next);
+        if room < total_of(head.size) + MARK_LEN {
+            return Err(CellFault::Damaged { at: self.next });
+        }
+        self.bytes.extend_from_slice(&[0; MARK_LEN as usize])?;
+        Ok(Some(head))
+    }
+
+    /// Examines the cell that was peeked at: it is copied if it is not deleted and `latest` is its place, and the answer is
+    /// whether it was. `latest` is the place of the last cell of its pair in the current volume file, or none where that cell
+    /// is deleted.
+    ///
+    /// `NoMemory` leaves the compaction where it stood. After `Failed` it must not go on.
+    pub fn copy<D: Disk>(
+        &mut self,
+        disk: &mut D,
+        cell: CellHead,
+        latest: Option<u64>,
+    ) -> Result<bool, CellFault>
+        requires peeked { HasPeeked self.old.next self.old.bytes cell }
+        requires copying { D.Tells → IsCopying (D.files disk.old) self.old }
+
+        ensures examined { D.Tells → IfOk result (λ copied. (sup : Super) (old : VolumeFile) (current fresh : List Cell) (examined : ℕ) (c : Cell) →
+            Copying sup (D.files disk.old) old self.old current fresh examined →
+            drop examined current ≡ c ∷ drop (examined + 1) current →
+            IsCopy self.old.next self.old.bytes cell c →
+            IsLatest current c.pair latest →
+            MovesOn sup (D.files disk.new) old self.new current fresh examined c self.old.volume.end copied) }
+        ensures stands { D.Tells → IsErrOf result CellFault.NoMemory → (sup : Super) (old : VolumeFile) (current fresh : List Cell) (examined : ℕ) →
+            Copying sup (D.files disk.old) old self.old current fresh examined →
+            Copying sup (D.files disk.new) old self.new current fresh examined }
+        ensures kept { D.Tells → IsErrOf result CellFault.NoMemory → D.files disk.new ≡ D.files disk.old }
+        ensures damaged { (k : ℕ) → result ≡ Err (CellFault.Damaged k) → ⊥ }
+
+        ensures names { self.new.generation ≡ self.old.generation }
+        ensures others { D.Tells → KeepsOthers self.old.volume.file (D.files disk.old) (D.files disk.new) }
+        ensures drawn { D.Tells → (n : ℕ) → D.drawn disk.new n ≡ D.drawn disk.old n }
+        ensures counted { IsCounted (D.fault_count disk.old) (D.fault_count disk.new) (IsErrOf result CellFault.Failed) }
+        ensures fuses { D.fuse_count disk.new ≡ D.fuse_count disk.old }
+    {
+        if cell.deleted || latest != Some(self.next) {
+            self.next += total_of(cell.size);
+            return Ok(false);
+        }
+        self.standing.reserve(cell.pair)?;
+        let row = Record {
+            pair: cell.pair,
+            at: self.volume.end(),
+            size: cell.size,
+        };
+        self.index.note(row)?;
+        match self.volume.append_loose(disk, self.bytes.as_slice()) {
+            Ok(at) => {
+                self.standing.set(cell.pair, Some(at));
+                self.next += total_of(cell.size);
+                Ok(true)
+            }
+            Err(fault) => {
+                self.index.unnote();
+                Err(refusal(fault))
+            }
+        }
+    }
+
+    /// Repeats a delete: the pair's last cell in the new file, whatever version it is, is marked as deleted. Where there is
+    /// none that is not deleted, nothing is called. It takes no memory. After `Failed` the compaction must not go on.
+    pub fn repeat_delete<D: Disk>(&mut self, disk: &mut D, pair: Pair) -> Result<(), Failed>
+        requires { D.Tells → IsCopying (D.files disk.old) self.old }
+
+        ensures repeated { D.Tells → OnOk result ((sup : Super) (old : VolumeFile) (current fresh : List Cell) (examined : ℕ) →
+            Copying sup (D.files disk.old) old self.old current fresh examined →
+            Repeats sup (D.files disk.new) old self.new current fresh examined pair) }
+
+        ensures names { self.new.generation ≡ self.old.generation }
+        ensures others { D.Tells → KeepsOthers self.old.volume.file (D.files disk.old) (D.files disk.new) }
+        ensures drawn { D.Tells → (n : ℕ) → D.drawn disk.new n ≡ D.drawn disk.old n }
+        ensures counted { IsCounted (D.fault_count disk.old) (D.fault_count disk.new) (IsErr result) }
+        ensures fuses { D.fuse_count disk.new ≡ D.fuse_count disk.old }
+    {
+        let Some(at) = self.standing.place(pair) else {
+            return Ok(());
+        };
+        self.volume.flag_loose(disk, at)?;
+        self.standing.set(pair, None);
+        Ok(())
+    }
+}
+
+// The superblock of a file of this generation.
+fn super_of(sup: &Super, kind: FileKind, generation: u64) -> Super
+    ensures { result ≡ record sup.now { kind = kind; generation = generation } }
+{
+    Super {
+        settings: sup.settings,
+        kind,
+        volume: sup.volume,
+        replica: sup.replica,
+        generation,
+    }
+}
+
+// Why a cell was not copied.
+fn refusal(fault: VolumeFault) -> CellFault
+    requires { (fault ≡ VolumeFault.Failed) ⊎ (fault ≡ VolumeFault.NoMemory) }
+    ensures failed { result ≡ CellFault.Failed → fault ≡ VolumeFault.Failed }
+    ensures no_memory { result ≡ CellFault.NoMemory → fault ≡ VolumeFault.NoMemory }
+    ensures damaged { (k : ℕ) → result ≡ CellFault.Damaged k → ⊥ }
+{
+    match fault {
+        VolumeFault::Failed => CellFault::Failed,
+        VolumeFault::NoMemory => CellFault::NoMemory,
+        VolumeFault::Full { .. } => unreachable!(), // nothing bounds the new file
+    }
+}

@@ -1,0 +1,131 @@
+//! The end of a compaction.
+
+ghost use Rattle.std.specs.Prelude.{◌≡◌, ◌≤◌, ◌∷◌, [], List, ℕ, All, map, drop, IfOk, OnOk, IsErrOf};
+ghost use Rattle.hay_disk.specs.Counts.{IsCounted};
+ghost use Rattle.hay_disk.specs.Disk.{KeepsOthers};
+ghost use Rattle.hay_needle.specs.declared.needle.Cell.{Cell};
+ghost use Rattle.hay_needle.specs.declared.settings.Super.{Super};
+ghost use Rattle.hay_volume.specs.declared.volume.VolumeFile.{VolumeFile};
+ghost use Rattle.hay_index.specs.declared.record.Record.{Record};
+ghost use Rattle.hay_open.specs.Stored.{Stored, VolumeRests, cell_record};
+ghost use Rattle.hay_compact.specs.Copying.{Copying, IsCopying, KeepsOtherFiles};
+ghost use Rattle.hay_compact.specs.Finishing.{ArePlacesSoFar, AreThePlaces, CanSeal, IsDue, IsFinished};
+
+use crate::compactor::Compactor;
+use crate::standing::Standing;
+use hay_disk::{Disk, DiskFault, Piece};
+use hay_index::{IndexFile, Record};
+use hay_map::{OpenCell, Place, Sealed};
+use hay_needle::total_of;
+use hay_volume::VolumeFile;
+use std::alloc::Global;
+
+// The place of the flags in a needle.
+const FLAGS_AT: usize = 28;
+
+/// The files of the new generation, and the place of each pair whose photo stands.
+#[derive(Drop)]
+pub struct Finished<P: Piece> {
+    pub volume: VolumeFile,
+    pub index: IndexFile,
+    pub places: Vec<OpenCell<P>>,
+}
+
+impl Compactor {
+    /// Ends the compaction, once all cells are examined: the new volume file is on the disk, the needle of each pair whose
+    /// photo stands is sealed, but for its flags, and the index has a record for each cell and is on the disk. Two syncs, and one write
+    /// between them where a cell was copied.
+    pub fn finish<D: Disk>(self, disk: &mut D) -> Result<Finished<D::Piece>, DiskFault>
+        requires { D.Tells → IsCopying (D.files disk.old) self }
+
+        ensures finished { D.Tells → IfOk result (λ finished. (sup : Super) (old : VolumeFile) (current fresh : List Cell) (examined : ℕ) →
+            Copying sup (D.files disk.old) old self current fresh examined →
+            IsFinished D.Piece.Tells sup (D.files disk.new) finished self fresh) }
+
+        ensures others { D.Tells → KeepsOtherFiles self.generation (D.files disk.old) (D.files disk.new) }
+        ensures drawn { D.Tells → (n : ℕ) → D.drawn disk.new n ≡ D.drawn disk.old n }
+        ensures counted { IsCounted (D.fault_count disk.old) (D.fault_count disk.new) (IsErrOf result DiskFault.Failed) }
+        ensures fuses { D.fuse_count disk.new ≡ D.fuse_count disk.old }
+    {
+        let Compactor {
+            generation: _,
+            capacity,
+            volume,
+            mut index,
+            standing,
+            next: _,
+            bytes,
+        } = self;
+        let file = volume.file();
+        disk.sync(file)?;
+        let places = seal_all(
+            *bytes.allocator(),
+            disk,
+            file,
+            index.pending.as_slice(),
+            &standing,
+        )?;
+        index.flush_loose(disk)?;
+        disk.sync(index.file)?;
+        Ok(Finished {
+            volume: VolumeFile::adopt(file, volume.end(), capacity),
+            index,
+            places,
+        })
+    }
+}
+
+// Seals the needle of each of these records that is the last of its pair and not deleted.
+fn seal_all<D: Disk>(
+    alloc: Global,
+    disk: &mut D,
+    file: u32,
+    records: &[Record],
+    standing: &Standing,
+) -> Result<Vec<OpenCell<D::Piece>>, DiskFault>
+    requires small { All (λ (row : Record). row.size ≤ 1048576) records.now }
+    requires ready { D.Tells → (sup : Super) × (s : Stored) × CanSeal sup (D.files disk.old file) standing.now s × (records.now ≡ map cell_record s.cells) }
+    ensures places { D.Tells → IfOk result (λ places. (sup : Super) (s : Stored) → CanSeal sup (D.files disk.old file) standing.now s → records.now ≡ map cell_record s.cells
+        → AreThePlaces D.Piece.Tells s.cells places.items) }
+    ensures rests { D.Tells → (sup : Super) (s : Stored) → VolumeRests sup (D.files disk.old file) s → records.now ≡ map cell_record s.cells → VolumeRests sup (D.files disk.new file) s }
+    ensures others { D.Tells → KeepsOthers file (D.files disk.old) (D.files disk.new) }
+    ensures drawn { D.Tells → (n : ℕ) → D.drawn disk.new n ≡ D.drawn disk.old n }
+    ensures counted { IsCounted (D.fault_count disk.old) (D.fault_count disk.new) (IsErrOf result DiskFault.Failed) }
+    ensures fuses { D.fuse_count disk.new ≡ D.fuse_count disk.old }
+{
+    let mut places = Vec::new(alloc);
+    for row in records {
+        seal_next(disk, file, *row, standing, &mut places)?;
+    }
+    Ok(places)
+}
+
+// Seals the needle of a record, if it is the last of its pair and not deleted.
+fn seal_next<D: Disk>(
+    disk: &mut D,
+    file: u32,
+    row: Record,
+    standing: &Standing,
+    places: &mut Vec<OpenCell<D::Piece>>,
+) -> Result<(), DiskFault>
+    requires small { row.size ≤ 1048576 }
+    requires ready { D.Tells → (sup : Super) × (s : Stored) × (rest : List Cell) × CanSeal sup (D.files disk.old file) standing.now s × IsDue s row rest }
+    ensures places { D.Tells → OnOk result ((sup : Super) (s : Stored) (rest : List Cell) → CanSeal sup (D.files disk.old file) standing.now s → IsDue s row rest
+        → ArePlacesSoFar D.Piece.Tells s.cells rest places.old.items → ArePlacesSoFar D.Piece.Tells s.cells (drop 1 rest) places.new.items) }
+    ensures rests { D.Tells → (sup : Super) (s : Stored) (rest : List Cell) → VolumeRests sup (D.files disk.old file) s → IsDue s row rest → VolumeRests sup (D.files disk.new file) s }
+    ensures others { D.Tells → KeepsOthers file (D.files disk.old) (D.files disk.new) }
+    ensures drawn { D.Tells → (n : ℕ) → D.drawn disk.new n ≡ D.drawn disk.old n }
+    ensures counted { IsCounted (D.fault_count disk.old) (D.fault_count disk.new) (IsErrOf result DiskFault.Failed) }
+    ensures fuses { D.fuse_count disk.new ≡ D.fuse_count disk.old }
+{
+    if standing.place(row.pair) != Some(row.at) {
+        return Ok(());
+    }
+    let total = total_of(row.size) as usize;
+    let piece = disk.seal(file, row.at, total, FLAGS_AT)?;
+    places.push(OpenCell {
+        pair: row.pair,
+        place: Place::Live(Sealed::new(row.at, row.size, piece)),
+    })?;
+    Ok(())
+}

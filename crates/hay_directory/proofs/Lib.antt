@@ -1,0 +1,4 @@
+pub mod Drains
+pub mod HomeLaws
+pub mod RowLaws
+pub mod Standing

@@ -1,0 +1,277 @@
+-- What a directory stands for behind each call.
+use Rattle.std.proofs.Common.{◌≡◌, inr, ◌<◌, ◌+◌, ◌^◌, ℕ, Bool, true, false, min, List, [], ◌∷◌, ◌++◌, length, Option, Some, None, refl, sym, ap, subst, ◌∙◌}
+use Rattle.std.proofs.lemmas.Bool.{true≢false}
+use Rattle.std.specs.Prelude.{slice_set, is_some, option_map, Result, Ok, Err, OnErr}
+use Rattle.hay_core.specs.declared.entry.CoreTag.{CoreTag}
+use Rattle.hay_disk.specs.Disk.{Files, FileState, IsFree, IsImage, IsSolid, MayLeave}
+use Rattle.hay_disk.specs.Gate.{IsGate}
+use Rattle.hay_disk.proofs.Images.{solid_whole}
+use Rattle.hay_dirfile.specs.declared.fault.OpenFault.{OpenFault}
+use Rattle.hay_dirfile.specs.Journal.{journal_magic}
+use Rattle.hay_legal.specs.declared.known.DirKnown.{DirKnown}
+use Rattle.hay_legal.specs.declared.known.HomeRow.{HomeRow}
+use Rattle.hay_legal.specs.declared.known.PendingRow.{PendingRow}
+use Rattle.hay_legal.specs.Known.{home_in}
+use Rattle.hay_legal.specs.Restarts.{directory_with, kept_row, row_notes}
+use Rattle.hay_reply.specs.declared.Note.{Note}
+use Rattle.hay_needle.specs.declared.needle.Pair.{Pair}
+use Rattle.hay_needle.specs.declared.settings.Settings.{Settings}
+use Rattle.hay_directory.specs.declared.mode.Mode.{Mode}
+use Rattle.hay_directory.specs.declared.mode.Mode.TheVariants.{Closed, Open, Frozen}
+use Rattle.hay_directory.specs.declared.mode.Unsure.{Unsure}
+use Rattle.hay_directory.specs.Homes.{SetsHome}
+use Rattle.hay_directory.specs.Notes.{notes_by}
+use Rattle.hay_directory.specs.Rows.{dir_row, HasJournal, OpensRows}
+use Rattle.hay_directory.specs.State.{State, StandsFor, StoppedFor, HoldsFor, Stands, Stopped, Holds, HoldsRows, IsSettled, IsUnsure, IsDue, FindsRows, mode_of, unsure_of, unsure_row, home_of, is_frozen}
+use Rattle.hay_directory.proofs.HomeLaws.{AreHomes, homes_settled, homes_undone, notes_are}
+use Rattle.hay_directory.proofs.RowLaws.{Adds, Leaves, journal_left, not_void, opens_journal, row_added, row_left, next_count}
+
+-- WHAT CANNOT BE: that a directory is both up and closed
+
+pub not_closed : (drained none : List Bool) → false ≡ true → drained ≡ none
+not_closed drained none closed = absurd (true≢false (sym closed))
+
+pub not_up : {D : Type 0} (files : D → Files) (d : State D) → true ≡ false → (known : DirKnown) × StandsFor files d known d.drained
+not_up files d up = absurd (true≢false up)
+
+-- WHAT IS KNOWN WHERE NOTHING IS PENDING
+
+not_pending : (mode : Mode) (pending : Option PendingRow) → mode ≡ mode_of pending → mode ≡ Open → pending ≡ None
+not_pending mode None is serves = refl
+not_pending mode (Some pending) is serves = absurd cc
+
+pub record StandsOpen {D : Type 0} (files : D → Files) (d : State D) (known : DirKnown) : Type 0 where
+  pub none : known.pending ≡ None
+  pub settled : IsSettled d.settings (files d.disk 0) d.journal.end known.rows
+  pub homes : AreHomes d.homes known.rows
+
+pub stands_open : {D : Type 0} (files : D → Files) (d : State D) (known : DirKnown) (drained : List Bool) → StandsFor files d known drained → d.mode ≡ Open → StandsOpen files d known
+stands_open files d known drained s serves =
+    let none : known.pending ≡ None = not_pending d.mode known.pending s.mode serves in
+    record {
+      none = none;
+      settled = subst (λ p. HoldsRows d.settings (files d.disk 0) d.journal.end known.rows p) none s.holds;
+      homes = record { are = s.homes };
+    }
+
+frozen_mode : (pending : Option PendingRow) → is_frozen (mode_of pending) ≡ is_some pending
+frozen_mode None = refl
+frozen_mode (Some pending) = refl
+
+-- whether it is frozen
+pub stands_frozen : {D : Type 0} (files : D → Files) (d : State D) (known : DirKnown) (drained : List Bool) → StandsFor files d known drained → is_frozen d.mode ≡ known.frozen
+stands_frozen files d known drained s = ap is_frozen s.mode ∙ frozen_mode known.pending ∙ sym s.frozen
+
+-- BEHIND A SETTLING
+
+-- the rows with one more
+abbrev pub with_row : DirKnown → HomeRow → DirKnown
+with_row known row = record known { rows = known.rows ++ row ∷ [] }
+
+-- with a row that failed
+abbrev pub with_pending : DirKnown → CoreTag → HomeRow → DirKnown
+with_pending known tag row = record known { frozen = true; pending = Some (record { tag = tag; row = row }) }
+
+pub stands_added : {D : Type 0} (files : D → Files) (d d' : State D) (known : DirKnown) (drained : List Bool) (row : HomeRow) → StandsFor files d known drained → d.mode ≡ Open → d'.mode ≡ Open → d'.settings ≡ d.settings → d'.drained ≡ d.drained
+    → row.volume < d.settings.volumes → home_of d row.pair ≡ None → SetsHome row.pair (Some row.volume) d.homes d'.homes
+    → Adds (dir_row row) d.journal.end (files d.disk 0).now (files d'.disk 0).now → IsSolid (files d'.disk 0) → IsGate journal_magic d'.journal.end (files d'.disk 0) → d'.journal.end ≡ d.journal.end + 24
+    → length (files d.disk 0).now < 2 ^ 64 → d'.count ≡ min (d.count + 1) 18446744073709551615 → StandsFor files d' (with_row known row) drained
+stands_added files d d' known drained row s serves serves' settings drains below homeless set adds solid gate ends fits counts =
+    let o = stands_open files d known drained s serves in
+    let settled = subst (λ k. IsSettled k (files d'.disk 0) d'.journal.end (known.rows ++ row ∷ [])) (sym settings) (row_added d.settings (files d.disk 0) (files d'.disk 0) d.journal.end d'.journal.end known.rows row o.settled below adds solid gate ends) in
+    let free : home_in known.rows row.pair ≡ None = sym (s.homes row.pair) ∙ homeless in
+    record {
+      mode = serves' ∙ sym serves ∙ s.mode;
+      frozen = s.frozen;
+      holds = subst (λ p. HoldsRows d'.settings (files d'.disk 0) d'.journal.end (known.rows ++ row ∷ []) p) (sym o.none) settled;
+      homes = (homes_settled known.rows row d.homes d'.homes o.homes free set).are;
+      count = next_count d.settings (files d.disk 0) d.journal.end d.count d'.count known.rows row o.settled fits s.count counts;
+      drained_is = s.drained_is ∙ sym drains;
+    }
+
+-- want of memory
+pub stands_undone : {D : Type 0} (files : D → Files) (d d' : State D) (known : DirKnown) (drained : List Bool) (row : HomeRow) (mid : List ((ℕ × ℕ) × ℕ)) → StandsFor files d known drained → d.mode ≡ Open → d'.mode ≡ d.mode → d'.settings ≡ d.settings → d'.drained ≡ d.drained
+    → home_of d row.pair ≡ None → SetsHome row.pair (Some row.volume) d.homes mid → SetsHome row.pair None mid d'.homes → files d'.disk ≡ files d.disk → d'.journal ≡ d.journal → d'.count ≡ d.count → StandsFor files d' known drained
+stands_undone files d d' known drained row mid s serves modes settings drains homeless set undone same ends counts =
+    let o = stands_open files d known drained s serves in
+    let free : home_in known.rows row.pair ≡ None = sym (s.homes row.pair) ∙ homeless in
+    let here = subst (λ f. HoldsRows d.settings (f 0) d.journal.end known.rows known.pending) (sym same) s.holds in
+    let there = subst (λ j. HoldsRows d.settings (files d'.disk 0) j.end known.rows known.pending) (sym ends) here in
+    record {
+      mode = modes ∙ s.mode;
+      frozen = s.frozen;
+      holds = subst (λ k. HoldsRows k (files d'.disk 0) d'.journal.end known.rows known.pending) (sym settings) there;
+      homes = (homes_undone known.rows row.pair row.volume d.homes mid d'.homes o.homes free set undone).are;
+      count = counts ∙ s.count;
+      drained_is = s.drained_is ∙ sym drains;
+    }
+
+-- a failure
+pub stands_failed : {D : Type 0} (files : D → Files) (d d' : State D) (known : DirKnown) (drained : List Bool) (tag : CoreTag) (row : HomeRow) (mid : List ((ℕ × ℕ) × ℕ)) → StandsFor files d known drained → d.mode ≡ Open
+    → d'.mode ≡ Frozen (record { tag = tag; row = dir_row row }) → d'.settings ≡ d.settings → d'.drained ≡ d.drained → row.volume < d.settings.volumes
+    → home_of d row.pair ≡ None → SetsHome row.pair (Some row.volume) d.homes mid → SetsHome row.pair None mid d'.homes → Leaves (dir_row row) d.journal.end (files d.disk 0) (files d'.disk 0) → d'.count ≡ d.count
+    → StandsFor files d' (with_pending known tag row) drained
+stands_failed files d d' known drained tag row mid s serves frozen settings drains below homeless set undone leaves counts =
+    let o = stands_open files d known drained s serves in
+    let free : home_in known.rows row.pair ≡ None = sym (s.homes row.pair) ∙ homeless in
+    record {
+      mode = frozen;
+      frozen = refl;
+      holds = subst (λ k. IsUnsure k (files d'.disk 0) known.rows row) (sym settings) (row_left d.settings (files d.disk 0) (files d'.disk 0) d.journal.end known.rows row o.settled below leaves free);
+      homes = (homes_undone known.rows row.pair row.volume d.homes mid d'.homes o.homes free set undone).are;
+      count = counts ∙ s.count;
+      drained_is = s.drained_is ∙ sym drains;
+    }
+
+-- BEHIND A FUSE OR A DRAIN
+
+-- another disk with the same files, and other drains
+pub stands_moved : {D : Type 0} (files : D → Files) (d : State D) (disk : D) (known : DirKnown) (drained more drains : List Bool) → StandsFor files d known drained → files disk ≡ files d.disk → drains ≡ more
+    → StandsFor files (record d { disk = disk; drained = more }) known drains
+stands_moved files d disk known drained more drains s same is = record {
+  mode = s.mode;
+  frozen = s.frozen;
+  holds = subst (λ f. HoldsRows d.settings (f 0) d.journal.end known.rows known.pending) (sym same) s.holds;
+  homes = s.homes;
+  count = s.count;
+  drained_is = is;
+}
+
+-- other drains
+pub stands_drained : {D : Type 0} (files : D → Files) (d d' : State D) (known : DirKnown) (drained : List Bool) (machine : ℕ) (is_drained : Bool) → StandsFor files d known drained → d' ≡ record d { drained = slice_set d.drained machine is_drained }
+    → StandsFor files d' known (slice_set drained machine is_drained)
+stands_drained files d d' known drained machine is_drained s is =
+    let set : List Bool → List Bool = λ l. slice_set l machine is_drained in
+    subst (λ (x : State _). StandsFor files x known (set drained)) (sym is) (stands_moved files d d.disk known drained (set d.drained) (set drained) s refl (ap set s.drained_is))
+
+-- BEHIND A STOP
+
+-- A stop leaves one of the images of each file.
+pub record Stops {D : Type 0} (files : D → Files) (d d' : State D) : Type 0 where
+  pub settings : d'.settings ≡ d.settings
+  pub mode : d'.mode ≡ Closed (unsure_of d.mode)
+  pub left : MayLeave (files d.disk) (λ n. (files d'.disk n).now)
+  pub solid : (n : ℕ) → IsSolid (files d'.disk n)
+  pub free : (n : ℕ) → IsFree (files d'.disk n)
+
+unsure_mode : (pending : Option PendingRow) → unsure_of (mode_of pending) ≡ option_map unsure_row pending
+unsure_mode None = refl
+unsure_mode (Some pending) = refl
+
+due : (settings : Settings) (file : FileState) (end : ℕ) (rows : List HomeRow) (pending : Option PendingRow) → HoldsRows settings file end rows pending → IsDue rows pending
+due settings file end rows None holds = tt
+due settings file end rows (Some pending) holds = holds.homeless
+
+closed_as : {D : Type 0} (d : State D) (d' : State D) (unsure : Option Unsure) → d'.mode ≡ Closed (unsure_of d.mode) → unsure_of d.mode ≡ unsure → d'.mode ≡ Closed unsure
+closed_as d d' unsure mode is = mode ∙ ap (λ (u : Option Unsure). Closed u) is
+
+pub stopped_open : {D : Type 0} (files : D → Files) (d d' : State D) (known : DirKnown) (drained : List Bool) → StandsFor files d known drained → Stops files d d' → StoppedFor files d' known
+stopped_open files d d' known drained s stops =
+    let found = journal_left d.settings (files d.disk 0) d.journal.end known.rows known.pending (files d'.disk 0).now s.holds (stops.left 0) in
+    record {
+      mode = closed_as d d' (option_map unsure_row known.pending) stops.mode (ap unsure_of s.mode ∙ unsure_mode known.pending);
+      solid = stops.solid;
+      free = stops.free;
+      kept = found.0;
+      journal = subst (λ k. HasJournal k (files d'.disk 0).now (known.rows ++ kept_row known.pending found.0)) (sym stops.settings) found.1;
+      due = due d.settings (files d.disk 0) d.journal.end known.rows known.pending s.holds;
+    }
+
+pub stopped_again : {D : Type 0} (files : D → Files) (d d' : State D) (known : DirKnown) → StoppedFor files d known → Stops files d d' → StoppedFor files d' known
+stopped_again files d d' known s stops =
+    let now : (files d'.disk 0).now ≡ (files d.disk 0).now = solid_whole (files d.disk 0) (files d'.disk 0).now (s.solid 0) (stops.left 0) in
+    let here = subst (λ l. HasJournal d.settings l (known.rows ++ kept_row known.pending s.kept)) (sym now) s.journal in
+    record {
+      mode = closed_as d d' (option_map unsure_row known.pending) stops.mode (ap unsure_of s.mode);
+      solid = stops.solid;
+      free = stops.free;
+      kept = s.kept;
+      journal = subst (λ k. HasJournal k (files d'.disk 0).now (known.rows ++ kept_row known.pending s.kept)) (sym stops.settings) here;
+      due = s.due;
+    }
+
+pub holds_behind : {D : Type 0} (files : D → Files) (d d' : State D) (known : DirKnown) → HoldsFor files d known → Stops files d d' → HoldsFor files d' known
+holds_behind files d d' known h stops = record {
+  images = λ image is.
+      let now : image 0 ≡ (files d'.disk 0).now = solid_whole (files d'.disk 0) (image 0) (stops.solid 0) is in
+      let found = h.images image (subst (λ l. IsImage (files d.disk 0) l) (sym now) (stops.left 0)) in
+      (found.0, subst (λ k. OpensRows k image (known.rows ++ kept_row known.pending found.0)) (sym stops.settings) found.1);
+}
+
+-- BEHIND AN OPENING
+
+pub stands_opened : {D : Type 0} (files : D → Files) (settings : Settings) (old : FileState) (d' : State D) (drained : List Bool) (found : FindsRows settings old (files d'.disk 0) d'.journal.end d'.homes d'.count) → d'.settings ≡ settings → d'.mode ≡ Open → d'.drained ≡ drained
+    → StandsFor files d' (directory_with found.rows) drained
+stands_opened files settings old d' drained found same mode drains = record {
+  mode = mode;
+  frozen = refl;
+  holds = subst (λ k. IsSettled k (files d'.disk 0) d'.journal.end found.rows) (sym same) found.settled;
+  homes = found.homes_are;
+  count = found.count_is;
+  drained_is = sym drains;
+}
+
+-- and behind a stop
+pub reopened : {D : Type 0} (files : D → Files) (d d' : State D) (drained : List Bool) (known : DirKnown) (notes : List Note) (found : FindsRows d.settings (files d.disk 0) (files d'.disk 0) d'.journal.end d'.homes d'.count) → StoppedFor files d known
+    → d'.settings ≡ d.settings → d'.mode ≡ Open → d'.drained ≡ drained → notes ≡ notes_by (unsure_of d.mode) d'.homes
+    → (kept : Bool) × (notes ≡ row_notes known.pending kept) × StandsFor files d' (directory_with (known.rows ++ kept_row known.pending kept)) drained
+reopened files d d' drained known notes found s settings mode drains told =
+    let rows : found.rows ≡ known.rows ++ kept_row known.pending s.kept = found.only (known.rows ++ kept_row known.pending s.kept) (inr s.journal) in
+    let homes : AreHomes d'.homes (known.rows ++ kept_row known.pending s.kept) = subst (λ l. AreHomes d'.homes l) rows (record { are = found.homes_are }) in (
+      s.kept,
+      told ∙ ap (λ u. notes_by u d'.homes) (ap unsure_of s.mode) ∙ notes_are known.rows known.pending s.kept d'.homes s.due homes,
+      subst (λ l. StandsFor files d' (directory_with l) drained) rows (stands_opened files d.settings (files d.disk 0) d' drained found settings mode drains),
+    )
+
+-- a refusal keeps what stood
+pub stopped_still : {D : Type 0} (files : D → Files) (d d' : State D) (known : DirKnown) → StoppedFor files d known → d'.settings ≡ d.settings → d'.mode ≡ d.mode → (0 < length (files d.disk 0).now → files d'.disk ≡ files d.disk) → StoppedFor files d' known
+stopped_still files d d' known s settings modes keeps =
+    let same = keeps (not_void d.settings (files d.disk 0).now (known.rows ++ kept_row known.pending s.kept) s.journal) in
+    let here = subst (λ f. HasJournal d.settings (f 0).now (known.rows ++ kept_row known.pending s.kept)) (sym same) s.journal in
+    record {
+      mode = modes ∙ s.mode;
+      solid = subst (λ f. (n : ℕ) → IsSolid (f n)) (sym same) s.solid;
+      free = subst (λ f. (n : ℕ) → IsFree (f n)) (sym same) s.free;
+      kept = s.kept;
+      journal = subst (λ k. HasJournal k (files d'.disk 0).now (known.rows ++ kept_row known.pending s.kept)) (sym settings) here;
+      due = s.due;
+    }
+
+-- WHAT A `?` PASSES ON
+
+pub on_err : {T E : Type 0} (r : Result T E) (P : Type 0) → P → OnErr r P
+on_err (Ok x) P p = tt
+on_err (Err e) P p = p
+
+pub same_fault : {T : Type 0} (r : Result T OpenFault) (passed fault said : OpenFault) → r ≡ Err passed → passed ≡ fault → r ≡ Err said → fault ≡ said
+same_fault r passed fault said is from told = cc
+
+-- WHAT FOLLOWS, FOR WHO HOLDS A DIRECTORY
+
+-- In every image of an serves directory's disk an opening finds its rows.
+pub stands_holds : {D : Type 0} (files : D → Files) (directory : State D) (known : DirKnown) (drained : List Bool) → Stands files directory known drained → Holds files directory known
+unfolding Stands Holds
+stands_holds files d known drained s = record {
+  images = λ image is.
+      let found = journal_left d.settings (files d.disk 0) d.journal.end known.rows known.pending (image 0) s.holds is in
+      (found.0, opens_journal d.settings image (known.rows ++ kept_row known.pending found.0) found.1);
+}
+
+-- and so of a stopped one's
+pub stopped_holds : {D : Type 0} (files : D → Files) (directory : State D) (known : DirKnown) → Stopped files directory known → Holds files directory known
+unfolding Stopped Holds
+stopped_holds files d known s = record {
+  images = λ image is.
+      let now : image 0 ≡ (files d.disk 0).now = solid_whole (files d.disk 0) (image 0) (s.solid 0) is in
+      (s.kept, opens_journal d.settings image (known.rows ++ kept_row known.pending s.kept) (subst (λ l. HasJournal d.settings l (known.rows ++ kept_row known.pending s.kept)) (sym now) s.journal));
+}
+
+pub holds_opens : {D : Type 0} (files : D → Files) (directory : State D) (known : DirKnown) (image : ℕ → List ℕ) → Holds files directory known → IsImage (files directory.disk 0) (image 0)
+    → (kept : Bool) × OpensRows directory.settings image (known.rows ++ kept_row known.pending kept)
+unfolding Holds
+holds_opens files d known image h is = h.images image is
+
+-- a home by what is kept in memory
+pub stands_home : {D : Type 0} (files : D → Files) (directory : State D) (known : DirKnown) (drained : List Bool) (pair : Pair) → Stands files directory known drained → home_of directory pair ≡ home_in known.rows pair
+unfolding Stands
+stands_home files d known drained pair s = s.homes pair

@@ -1,0 +1,8 @@
+use Rattle.std.proofs.Common.{true}
+use Rattle.hay_directory.specs.State.{Stands}
+use Rattle.hay_directory.proofs.Standing.{stands_drained}
+use Rattle.hay_directory.proofs.directory.Directory.drain.Goals as goal
+
+pub returns-clause-stands : goal.returns-clause-stands
+unfolding Stands
+returns-clause-stands g c = λ known drained s. stands_drained g.D.Disk.files c.args.self.now c.set_drained.new.self known drained c.args.machine true s c.set_drained.ensures

@@ -1,0 +1,36 @@
+use Rattle.std.proofs.Common.{◌≡◌, ◌<◌, ◌∙◌, Err, length, map, ap, sym, subst}
+use Rattle.std.proofs.lemmas.Result.{err_from_is_err_and}
+use Rattle.hay_disk.specs.Disk.{Files}
+use Rattle.hay_needle.specs.declared.settings.Super.{Super}
+use Rattle.hay_dirfile.specs.declared.fault.OpenFault.{OpenFault}
+use Rattle.hay_dirfile.specs.Journal.{IsDamagedJournal}
+use Rattle.hay_legal.specs.Known.{home_in}
+use Rattle.hay_directory.specs.Rows.{home_row}
+use Rattle.hay_directory.proofs.RowLaws.{found_rows, undamaged}
+use Rattle.hay_directory.proofs.Standing.{same_fault}
+use Rattle.hay_directory.proofs.load.load.Goals as goal
+
+pub returns-in_err-journal-clause-damaged : goal.returns-in_err-journal-clause-damaged
+returns-in_err-journal-clause-damaged g c = λ tells file at is.
+    let old = (g.D.Disk.files c.args.disk.now 0).now in
+    let fault = err_from_is_err_and c.from_residual.result c.from_residual.ensures.1 in
+    let said = same_fault c.from_residual.result fault.0 c.in_err-journal.field-0.0 (OpenFault.Damaged file at) fault.1 fault.2 is in
+    subst (λ (s : Super). (file ≡ 0) × (0 < length old) × IsDamagedJournal s old at) c.super_of-sup.ensures (c.in_err-journal.ensures.damaged tells file at (ap Err said))
+
+pub returns-in_err-journal-clause-whole : goal.returns-in_err-journal-clause-whole
+returns-in_err-journal-clause-whole g c = λ tells rows file at has is.
+    let old = (g.D.Disk.files c.args.disk.now 0).now in
+    let fault = err_from_is_err_and c.from_residual.result c.from_residual.ensures.1 in
+    let said = same_fault c.from_residual.result fault.0 c.in_err-journal.field-0.0 (OpenFault.Damaged file at) fault.1 fault.2 is in
+    undamaged c.args.settings.now c.super_of-sup.result old rows c.super_of-sup.ensures has (c.in_err-journal.ensures.damaged tells file at (ap Err said)).1
+    (λ items journal. c.in_err-journal.ensures.only tells items file at journal (ap Err said))
+
+pub returns-clause-found : goal.returns-clause-found
+returns-clause-found g c = λ tells.
+    let files = g.D.Disk.files in
+    let opened = c.in_ok-journal.ensures in
+    let slice = c.as_slice.ensures in
+    found_rows c.args.settings.now c.super_of-sup.result (files c.args.disk.now 0) (files c.open.new.disk 0) c.in_ok-journal.journal.end c.len-count.result c.in-Ok.homes c.in_ok-journal.rows.items c.super_of-sup.ensures
+    (opened.rows tells) (opened.end tells) (opened.rest tells) (opened.next tells) (opened.void tells) (λ some. ap (λ (f : Files). f 0) (opened.same tells some)) (opened.exact tells)
+    (λ pair. c.in-Ok.ensures pair ∙ ap (λ l. home_in (map home_row l) pair) slice.value)
+    (c.len-count.ensures ∙ sym slice.len ∙ ap length slice.value)

@@ -1,0 +1,4 @@
+pub mod Homes
+pub mod Notes
+pub mod Rows
+pub mod State

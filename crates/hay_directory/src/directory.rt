@@ -1,0 +1,342 @@
+//! The Directory on its disk.
+ghost use Rattle.std.specs.Prelude.{◌≡◌, ◌≤◌, ◌<◌, ℕ, List, Bool, [], ◌∷◌, ◌++◌, None, Some, true, false, length, map, replicate, slice_index_or, slice_set, Err, IfOk, OnOk, OnErr, IfErr, IsErrOf};
+ghost use Rattle.hay_disk.specs.Counts.{Rose, IsNext};
+ghost use Rattle.hay_disk.specs.Disk.{IsFree, IsSolid, KeepsOthers, MayLeave};
+ghost use Rattle.hay_dirfile.specs.Journal.{IsDamagedJournal};
+ghost use Rattle.hay_legal.specs.declared.known.DirKnown.{DirKnown};
+ghost use Rattle.hay_legal.specs.declared.known.HomeRow.{HomeRow};
+ghost use Rattle.hay_legal.specs.Known.{home_in};
+ghost use Rattle.hay_legal.specs.Restarts.{directory_with, kept_row, row_notes};
+ghost use Rattle.hay_directory.specs.Rows.{OpensRows, dir_row, journal_super};
+ghost use Rattle.hay_directory.specs.State.{Holds, IsClosed, IsFresh, IsFrozen, IsUp, Stands, Stopped, home_of, is_frozen, unsure_of};
+
+use crate::fault::DirFault;
+use crate::homes::Homes;
+use crate::load::{Loaded, load};
+use crate::mode::{Mode, Unsure};
+use hay_base::Listed;
+use hay_core::CoreTag;
+use hay_dirfile::{DirRow, Journal, OpenFault};
+use hay_disk::{Disk, DiskFault};
+use hay_needle::{Pair, Settings};
+use hay_reply::Note;
+use std::alloc::Global;
+use std::marker::Model;
+
+// The most machines that settings may have.
+const MOST_MACHINES: usize = 16;
+
+/// The homes of pairs, in a journal on a disk, and the drained machines.
+#[derive(Drop)]
+pub struct Directory<D: Disk> {
+    settings: Settings,
+    disk: D,
+    journal: Journal,
+    homes: Homes,
+    /// How many rows the journal has.
+    count: u64,
+    /// By machine.
+    drained: [bool; MOST_MACHINES],
+    mode: Mode,
+}
+
+impl<D: Disk> Model for Directory<D> {
+    ghost use Rattle.std.specs.Prelude.{take};
+    ghost use Rattle.hay_directory.specs.State.{State, IsSound};
+
+    ghost Value = { State D };
+
+    ghost view = { λ d. record {
+      settings = d.settings;
+      disk = d.disk;
+      journal = d.journal;
+      homes = d.homes;
+      count = d.count;
+      drained = take d.settings.machines d.drained;
+      mode = d.mode;
+    } };
+
+    ghost invariant = { λ d. IsSound D.Tells D.files (record {
+      settings = d.settings;
+      disk = d.disk;
+      journal = d.journal;
+      homes = d.homes;
+      count = d.count;
+      drained = take d.settings.machines d.drained;
+      mode = d.mode;
+    }) };
+}
+
+impl<D: Disk> Directory<D> {
+    /// A closed directory on this disk. No call of the disk is made, and no memory is taken.
+    pub fn new(alloc: Global, settings: Settings, disk: D) -> Directory<D>
+        requires { settings.machines ≤ 16 }
+        ensures settings { result.settings ≡ settings }
+        ensures disk { result.disk ≡ disk }
+        ensures fresh { IsFresh result }
+    {
+        Directory {
+            settings,
+            disk,
+            journal: Journal { end: 0 },
+            homes: Homes::new(alloc),
+            count: 0,
+            drained: [false; MOST_MACHINES],
+            mode: Mode::Closed(None),
+        }
+    }
+
+    /// Opens the journal, and answers the note of a row that was pending at the stop, if there was one. A void disk is
+    /// formatted. A refusal leaves the directory closed, and what stood on a disk that was not void.
+    pub fn open(&mut self, alloc: Global) -> Result<Listed<Note>, OpenFault>
+        requires closed { IsClosed self.old }
+        requires solid { D.Tells → IsSolid (D.files self.old.disk 0) }
+        requires free { D.Tells → IsFree (D.files self.old.disk 0) }
+
+        // The first opening finds the rows that the disk has.
+        ensures opened { D.Tells → IsFresh self.old → IfOk result (λ notes. (notes ≡ []) × ((rows : List HomeRow)
+            × OpensRows self.old.settings (λ n. (D.files self.old.disk n).now) rows
+            × Stands D.files self.new (directory_with rows) (replicate self.old.settings.machines false))) }
+
+        // A later one finds the rows, and tells whether the pending one was kept.
+        ensures reopened { D.Tells → (known : DirKnown) → Stopped D.files self.old known → IfOk result (λ notes. (kept : Bool)
+            × (notes ≡ row_notes known.pending kept)
+            × Stands D.files self.new (directory_with (known.rows ++ kept_row known.pending kept)) (replicate self.old.settings.machines false)) }
+        ensures up { OnOk result (IsUp self.new) }
+
+        // What a refusal leaves, and its cause.
+        ensures closed { OnErr result (IsClosed self.new × (self.new.mode ≡ self.old.mode)) }
+        ensures stopped { D.Tells → (known : DirKnown) → Stopped D.files self.old known → OnErr result (Stopped D.files self.new known) }
+        ensures failed { (faults : ℕ) → result ≡ Err (OpenFault.Failed faults) →
+            (faults ≡ D.fault_count self.new.disk) × Rose (D.fault_count self.old.disk) (D.fault_count self.new.disk) }
+        ensures damaged { D.Tells → (file at : ℕ) → result ≡ Err (OpenFault.Damaged file at) →
+            (file ≡ 0) × (0 < length (D.files self.old.disk 0).now)
+            × IsDamagedJournal (journal_super self.old.settings) (D.files self.old.disk 0).now at }
+        ensures whole { D.Tells → (rows : List HomeRow) (file at : ℕ) →
+            OpensRows self.old.settings (λ n. (D.files self.old.disk n).now) rows →
+            result ≡ Err (OpenFault.Damaged file at) → ⊥ }
+
+        ensures same { D.Tells → 0 < length (D.files self.old.disk 0).now → D.files self.new.disk ≡ D.files self.old.disk }
+        ensures others { D.Tells → KeepsOthers 0 (D.files self.old.disk) (D.files self.new.disk) }
+        ensures settings { self.new.settings ≡ self.old.settings }
+        ensures later { D.fault_count self.old.disk ≤ D.fault_count self.new.disk }
+        ensures fuses { D.fuse_count self.new.disk ≡ D.fuse_count self.old.disk }
+    {
+        let unsure = self.mode.unsure();
+        self.homes = Homes::new(alloc); // before memory is taken for others
+        let loaded = load(alloc, &mut self.disk, &self.settings, unsure)?;
+        let Loaded {
+            journal,
+            homes,
+            count,
+            notes,
+        } = loaded;
+        self.journal = journal;
+        self.homes = homes;
+        self.count = count;
+        self.mode = Mode::Open;
+        Ok(notes)
+    }
+
+    /// The home of a pair.
+    pub fn home(&self, pair: Pair) -> Option<u32>
+        ensures kept { result ≡ home_of self.now pair }
+        ensures known { (known : DirKnown) (drained : List Bool) → Stands D.files self.now known drained → result ≡ home_in known.rows pair }
+    {
+        self.homes.get(pair)
+    }
+
+    /// How many rows there are.
+    pub fn rows(&self) -> u64
+        ensures count { result ≡ self.now.count }
+        ensures known { (known : DirKnown) (drained : List Bool) → Stands D.files self.now known drained → result ≡ length known.rows }
+    {
+        self.count
+    }
+
+    /// Whether a row failed since the opening.
+    pub fn is_frozen(&self) -> bool
+        ensures frozen { result ≡ is_frozen self.now.mode }
+        ensures known { (known : DirKnown) (drained : List Bool) → Stands D.files self.now known drained → result ≡ known.frozen }
+    {
+        match self.mode {
+            Mode::Frozen(_) => true,
+            Mode::Closed(_) => false,
+            Mode::Open => false,
+        }
+    }
+
+    /// Gives a pair, which has no home, one. The row is on the disk then. `NoMemory` changes nothing, and `Failed` freezes
+    /// the directory: the row is pending.
+    pub fn settle(&mut self, tag: CoreTag, pair: Pair, volume: u32) -> Result<(), DirFault>
+        requires up { IsUp self.old }
+        requires volume { volume < self.old.settings.volumes }
+        requires homeless { home_of self.old pair ≡ None }
+
+        ensures settled { D.Tells → (known : DirKnown) (drained : List Bool) → Stands D.files self.old known drained →
+            OnOk result (Stands D.files self.new (record known { rows = known.rows ++ record { pair = pair; volume = volume } ∷ [] }) drained) }
+        ensures no_memory { D.Tells → (known : DirKnown) (drained : List Bool) → Stands D.files self.old known drained →
+            IsErrOf result DirFault.NoMemory → Stands D.files self.new known drained }
+        ensures pending { D.Tells → (known : DirKnown) (drained : List Bool) (faults : ℕ) → Stands D.files self.old known drained →
+            result ≡ Err (DirFault.Failed faults) → Stands D.files self.new (record known {
+              frozen = true;
+              pending = Some (record { tag = tag; row = record { pair = pair; volume = volume } });
+            }) drained }
+
+        // A frozen directory refuses, and nothing else is refused so.
+        ensures frozen { IsFrozen self.old → IsErrOf result DirFault.Frozen }
+        ensures only_frozen { IsErrOf result DirFault.Frozen → IsFrozen self.old × (self.new ≡ self.old) }
+        ensures failed { (faults : ℕ) → result ≡ Err (DirFault.Failed faults) →
+            (faults ≡ D.fault_count self.new.disk) × Rose (D.fault_count self.old.disk) (D.fault_count self.new.disk) }
+
+        ensures up { IsUp self.new }
+        ensures settings { self.new.settings ≡ self.old.settings }
+        ensures later { D.fault_count self.old.disk ≤ D.fault_count self.new.disk }
+        ensures fuses { D.fuse_count self.new.disk ≡ D.fuse_count self.old.disk }
+    {
+        if self.is_frozen() {
+            return Err(DirFault::Frozen);
+        }
+        self.add_row(tag, DirRow { pair, volume })
+    }
+
+    // Adds a row. Memory is taken before the disk is called, and what it was taken for is undone after a refusal.
+    fn add_row(&mut self, tag: CoreTag, row: DirRow) -> Result<(), DirFault>
+        requires serves { self.old.mode ≡ Mode.Open }
+        requires volume { row.volume < self.old.settings.volumes }
+        requires homeless { home_of self.old row.pair ≡ None }
+
+        ensures settled { D.Tells → (known : DirKnown) (drained : List Bool) → Stands D.files self.old known drained →
+            OnOk result (Stands D.files self.new (record known { rows = known.rows ++ record { pair = row.pair; volume = row.volume } ∷ [] }) drained) }
+        ensures no_memory { D.Tells → (known : DirKnown) (drained : List Bool) → Stands D.files self.old known drained →
+            IsErrOf result DirFault.NoMemory → Stands D.files self.new known drained }
+        ensures pending { D.Tells → (known : DirKnown) (drained : List Bool) (faults : ℕ) → Stands D.files self.old known drained →
+            result ≡ Err (DirFault.Failed faults) → Stands D.files self.new (record known {
+              frozen = true;
+              pending = Some (record { tag = tag; row = record { pair = row.pair; volume = row.volume } });
+            }) drained }
+        ensures not_frozen { IsErrOf result DirFault.Frozen → ⊥ }
+        ensures failed { (faults : ℕ) → result ≡ Err (DirFault.Failed faults) →
+            (faults ≡ D.fault_count self.new.disk) × Rose (D.fault_count self.old.disk) (D.fault_count self.new.disk) }
+        ensures up { IsUp self.new }
+        ensures settings { self.new.settings ≡ self.old.settings }
+        ensures later { D.fault_count self.old.disk ≤ D.fault_count self.new.disk }
+        ensures fuses { D.fuse_count self.new.disk ≡ D.fuse_count self.old.disk }
+    {
+        let Ok(()) = self.homes.insert(row.pair, row.volume) else {
+            return Err(DirFault::NoMemory);
+        };
+        match self.journal.settle_row(&mut self.disk, row) {
+            Ok(()) => {
+                self.count = self.count.saturating_add(1);
+                Ok(())
+            }
+            Err(DiskFault::NoMemory) => {
+                self.homes.remove(row.pair);
+                Err(DirFault::NoMemory)
+            }
+            Err(DiskFault::Failed) => {
+                self.homes.remove(row.pair);
+                self.mode = Mode::Frozen(Unsure { tag, row });
+                Err(DirFault::Failed {
+                    faults: self.disk.faults(),
+                })
+            }
+        }
+    }
+
+    /// Closes a machine to changes.
+    pub fn drain(&mut self, machine: u32)
+        requires up { IsUp self.old }
+        requires machine { machine < self.old.settings.machines }
+        ensures only { self.new ≡ record self.old { drained = slice_set self.old.drained machine true } }
+        ensures stands { (known : DirKnown) (drained : List Bool) → Stands D.files self.old known drained →
+            Stands D.files self.new known (slice_set drained machine true) }
+    {
+        self.set_drained(machine, true);
+    }
+
+    /// Opens a machine to changes again.
+    pub fn undrain(&mut self, machine: u32)
+        requires up { IsUp self.old }
+        requires machine { machine < self.old.settings.machines }
+        ensures only { self.new ≡ record self.old { drained = slice_set self.old.drained machine false } }
+        ensures stands { (known : DirKnown) (drained : List Bool) → Stands D.files self.old known drained →
+            Stands D.files self.new known (slice_set drained machine false) }
+    {
+        self.set_drained(machine, false);
+    }
+
+    // Drains a machine, or no longer.
+    fn set_drained(&mut self, machine: u32, is_drained: bool)
+        requires up { IsUp self.old }
+        requires machine { machine < self.old.settings.machines }
+        ensures { self.new ≡ record self.old { drained = slice_set self.old.drained machine is_drained } }
+    {
+        self.drained[machine as usize] = is_drained;
+    }
+
+    /// Whether a machine is drained.
+    pub fn drained(&self, machine: u32) -> bool
+        requires { machine < self.now.settings.machines }
+        ensures is { result ≡ slice_index_or self.now.drained machine false }
+        ensures known { (known : DirKnown) (drained : List Bool) → Stands D.files self.now known drained →
+            result ≡ slice_index_or drained machine false }
+    {
+        self.drained[machine as usize]
+    }
+
+    /// How many calls of the disk have failed.
+    pub fn faults(&self) -> u64
+        ensures { result ≡ D.fault_count self.now.disk }
+    {
+        self.disk.faults()
+    }
+
+    /// Sets a fuse on the disk.
+    pub fn fuse(&mut self, calls: u32)
+        ensures only { self.new ≡ record self.old { disk = self.new.disk } }
+        ensures same { D.Tells → D.files self.new.disk ≡ D.files self.old.disk }
+        ensures stands { D.Tells → (known : DirKnown) (drained : List Bool) → Stands D.files self.old known drained → Stands D.files self.new known drained }
+        ensures faults { D.fault_count self.new.disk ≡ D.fault_count self.old.disk }
+        ensures fuses { IsNext (D.fuse_count self.old.disk) (D.fuse_count self.new.disk) }
+    {
+        self.disk.fuse(u64::from(calls));
+    }
+
+    /// Stops the disk and starts it again; `pick` chooses what it then holds. The directory is closed, and no machine is
+    /// drained.
+    pub fn stop(&mut self, pick: u64)
+        ensures stopped { D.Tells → (known : DirKnown) (drained : List Bool) → Stands D.files self.old known drained → Stopped D.files self.new known }
+        ensures again { D.Tells → (known : DirKnown) → Stopped D.files self.old known → Stopped D.files self.new known }
+        ensures holds { D.Tells → (known : DirKnown) → Holds D.files self.old known → Holds D.files self.new known }
+        ensures left { D.Tells → MayLeave (D.files self.old.disk) (λ n. (D.files self.new.disk n).now) }
+        ensures solid { D.Tells → (n : ℕ) → IsSolid (D.files self.new.disk n) }
+        ensures free { D.Tells → (n : ℕ) → IsFree (D.files self.new.disk n) }
+        ensures closed { IsClosed self.new × (self.new.mode ≡ Mode.Closed (unsure_of self.old.mode)) }
+        ensures undrained { self.new.drained ≡ replicate self.old.settings.machines false }
+        ensures settings { self.new.settings ≡ self.old.settings }
+        ensures faults { D.fault_count self.new.disk ≡ D.fault_count self.old.disk }
+        ensures fuses { D.fuse_count self.new.disk ≡ D.fuse_count self.old.disk }
+    {
+        self.mode = Mode::Closed(self.mode.unsure());
+        self.drained = [false; MOST_MACHINES];
+        self.disk.power_cycle(pick);
+    }
+
+    /// Gives the disk back.
+    pub fn into_disk(self) -> D
+        ensures { result ≡ self.disk }
+    {
+        let Directory {
+            settings: _,
+            disk,
+            journal: _,
+            homes: _,
+            count: _,
+            drained: _,
+            mode: _,
+        } = self;
+        disk
+    }
+}

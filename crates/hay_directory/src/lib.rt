@@ -1,0 +1,21 @@
+//! The Directory: which volume is the home of each pair, and which machines are drained.
+//! It stands on the journal of `hay_dirfile`, which is file 0 of its disk. What it promises is said of the rows of
+//! `hay_legal`: of several rows of one pair the first one counts.
+//!
+//! A home that was settled is in the journal, on the disk, whatever a stop leaves. A row that failed freezes the
+//! Directory until it is stopped and opened again, and the opening tells whether the journal has the row. Drains are kept
+//! in memory alone, and end at a stop. A home is found with one look-up in memory.
+#![tactic(auto)]
+
+mod directory;
+mod fault;
+mod homes;
+mod load;
+mod mode;
+mod notes;
+mod spread;
+
+pub use directory::Directory;
+pub use fault::DirFault;
+pub use mode::{Mode, Unsure};
+pub use spread::{machine_of, tries};

@@ -1,0 +1,80 @@
+//! Loading the rows of a journal.
+ghost use Rattle.std.specs.Prelude.{◌≡◌, ◌≤◌, ◌<◌, ℕ, List, length, map, Err, IfOk};
+ghost use Rattle.hay_disk.specs.Counts.{Rose};
+ghost use Rattle.hay_disk.specs.Disk.{IsFree, IsSolid, KeepsOthers};
+ghost use Rattle.hay_dirfile.specs.Journal.{IsDamagedJournal};
+ghost use Rattle.hay_legal.specs.declared.known.HomeRow.{HomeRow};
+ghost use Rattle.hay_directory.specs.Notes.{notes_by};
+ghost use Rattle.hay_directory.specs.Rows.{HasRows, journal_super};
+ghost use Rattle.hay_directory.specs.State.{FindsRows};
+
+use crate::homes::Homes;
+use crate::mode::Unsure;
+use crate::notes::notes_of;
+use hay_base::Listed;
+use hay_dirfile::{Journal, OpenFault};
+use hay_disk::Disk;
+use hay_needle::{FileKind, Settings, Super};
+use hay_reply::Note;
+use std::alloc::Global;
+
+/// What an opening makes of a journal.
+#[derive(Drop)]
+pub struct Loaded {
+    pub journal: Journal,
+    pub homes: Homes,
+    pub count: u64,
+    pub notes: Listed<Note>,
+}
+
+/// Opens a journal and keeps its homes in memory. The notes tell of a row that was pending, if there was one.
+pub fn load<D: Disk>(
+    alloc: Global,
+    disk: &mut D,
+    settings: &Settings,
+    unsure: Option<Unsure>,
+) -> Result<Loaded, OpenFault>
+    requires solid { D.Tells → IsSolid (D.files disk.old 0) }
+    requires free { D.Tells → IsFree (D.files disk.old 0) }
+    ensures found { D.Tells → IfOk result (λ loaded. FindsRows settings.now (D.files disk.old 0) (D.files disk.new 0) loaded.journal.end loaded.homes loaded.count) }
+    ensures notes { IfOk result (λ loaded. loaded.notes ≡ notes_by unsure loaded.homes) }
+    ensures failed { (faults : ℕ) → result ≡ Err (OpenFault.Failed faults) →
+        (faults ≡ D.fault_count disk.new) × Rose (D.fault_count disk.old) (D.fault_count disk.new) }
+    ensures damaged { D.Tells → (file at : ℕ) → result ≡ Err (OpenFault.Damaged file at) →
+        (file ≡ 0) × (0 < length (D.files disk.old 0).now) × IsDamagedJournal (journal_super settings.now) (D.files disk.old 0).now at }
+    ensures whole { D.Tells → (rows : List HomeRow) (file at : ℕ) → HasRows settings.now (D.files disk.old 0).now rows →
+        result ≡ Err (OpenFault.Damaged file at) → ⊥ }
+    ensures same { D.Tells → 0 < length (D.files disk.old 0).now → D.files disk.new ≡ D.files disk.old }
+    ensures others { D.Tells → KeepsOthers 0 (D.files disk.old) (D.files disk.new) }
+    ensures later { D.fault_count disk.old ≤ D.fault_count disk.new }
+    ensures fuses { D.fuse_count disk.new ≡ D.fuse_count disk.old }
+{
+    let sup = super_of(settings);
+    let (journal, rows) = Journal::open(alloc, disk, &sup)?;
+    let Ok(homes) = Homes::of_rows(alloc, rows.as_slice()) else {
+        return Err(OpenFault::NoMemory);
+    };
+    let Ok(notes) = notes_of(alloc, unsure, &homes) else {
+        return Err(OpenFault::NoMemory);
+    };
+    let count = rows.len() as u64;
+    Ok(Loaded {
+        journal,
+        homes,
+        count,
+        notes,
+    })
+}
+
+// What stands at the front of a journal.
+fn super_of(settings: &Settings) -> Super
+    ensures { result ≡ journal_super settings.now }
+{
+    Super {
+        settings: *settings,
+        kind: FileKind::Journal,
+        volume: 0,
+        replica: 0,
+        generation: 0,
+    }
+}

@@ -1,0 +1,4 @@
+pub mod Changes
+pub mod Leaving
+pub mod Lists
+pub mod RowLaws

@@ -1,0 +1,8 @@
+use Rattle.hay_map.proofs.Changes.{load_gives, all_known}
+use Rattle.hay_map.proofs.view.MapView.load.Goals as goal
+
+pub returns-clause-ok : goal.returns-clause-ok
+returns-clause-ok g c = load_gives _ _ _ _ _ c.in_ok-add_all.ensures.rows c.set_all.ensures
+
+pub returns-clause-known : goal.returns-clause-known
+returns-clause-known g c = all_known _ _ c.set_all.ensures.known _ c.in_ok-add_all.ensures.known

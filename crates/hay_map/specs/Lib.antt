@@ -1,0 +1,4 @@
+pub mod MapRows
+pub mod Places
+pub mod Rows
+pub mod Sealed

@@ -1,0 +1,32 @@
+-- What the place of a pair's photo means.
+use Rattle.std.specs.Prelude.{◌≡◌, ℕ, List, length, false, slice_index_or}
+use Rattle.hay_needle.specs.declared.needle.Outcome.{Outcome}
+use Rattle.hay_needle.specs.declared.needle.Outcome.TheVariants as outcome
+use Rattle.hay_needle.specs.declared.needle.Pair.{Pair}
+use Rattle.hay_needle.specs.declared.needle.Photo.{Photo}
+use Rattle.hay_needle.specs.Needle.{NeedleBytes}
+use Rattle.hay_map.specs.Sealed.{SealedNeedle}
+use Rattle.hay_map.specs.declared.place.Place.{Place}
+use Rattle.hay_map.specs.declared.place.Place.TheVariants as place
+
+-- The piece tells, and has the needle of this photo.
+pub record IsSealed (Tells : Type 0) (pair : Pair) (photo : Photo) (needle : SealedNeedle) : Type 0 where
+  pub tells : Tells
+  pub size : needle.size ≡ length photo.bytes
+  pub is : NeedleBytes needle.bytes (record { pair = pair; photo = photo; deleted = false })
+
+-- what a place says of its pair
+abbrev pub PlaceMeans : {P : Type 0} → Type 0 → Pair → Place P → Outcome → Type 0
+PlaceMeans Tells pair (place.Live needle) (outcome.Photo photo) = IsSealed Tells pair photo needle
+PlaceMeans Tells pair place.None outcome.Nothing = Unit {0}
+PlaceMeans Tells pair place.Gone outcome.Nothing = Unit {0}
+PlaceMeans Tells pair _ _ = ⊥
+
+-- the place once the photo was deleted
+abbrev pub gone_place : {P : Type 0} → Place P → Place P
+gone_place place.None = place.None
+gone_place _ = place.Gone
+
+-- the place of a replica in a row
+abbrev pub place_in : {P : Type 0} → List (Place P) → ℕ → Place P
+place_in row replica = slice_index_or row replica place.None

@@ -1,0 +1,118 @@
+//! Places, and rows of them.
+ghost use Rattle.std.specs.Prelude.{◌≡◌, ◌≤◌, ◌<◌, ◌++◌, ◌∷◌, [], true, length, IfOk, IsErr, IsOk};
+ghost use Rattle.hay_disk.specs.Counts.{IsCounted};
+ghost use Rattle.hay_disk.specs.Disk.{IsBut};
+ghost use Rattle.hay_needle.specs.Sizes.{total_of_lem};
+ghost use Rattle.hay_map.specs.Places.{gone_place};
+
+use hay_disk::{Arm, Failed, Piece};
+use std::marker::Model;
+
+/// A needle that a volume file gave out: where it stands in the file, how many bytes its photo has, and the piece to fetch it by.
+#[derive(Drop)]
+pub struct Sealed<P: Piece> {
+    at: u64,
+    size: u32,
+    piece: P,
+}
+
+impl<P: Piece> Model for Sealed<P> {
+    ghost use Rattle.std.specs.Prelude.{◌≡◌, ◌≤◌};
+    ghost use Rattle.hay_needle.specs.Sizes.{total_of_lem};
+    ghost use Rattle.hay_map.specs.Sealed.{SealedNeedle};
+
+    ghost Value = { SealedNeedle };
+
+    ghost view = { λ s. record { at = s.at; size = s.size; bytes = P.piece_bytes s.piece } };
+
+    ghost invariant = { λ s. (s.size ≤ 1048576) × (P.piece_len s.piece ≡ total_of_lem s.size) × (P.piece_hole s.piece ≡ 28) };
+}
+
+impl<P: Piece> Sealed<P> {
+    /// The needle whose piece this is. The piece's hole is the flags byte.
+    pub fn new(at: u64, size: u32, piece: P) -> Sealed<P>
+        requires size { size ≤ 1048576 }
+        requires len { P.piece_len piece ≡ total_of_lem size }
+        requires hole { P.piece_hole piece ≡ 28 }
+        ensures { result ≡ record { at = at; size = size; bytes = P.piece_bytes piece } }
+    {
+        Sealed { at, size, piece }
+    }
+
+    /// Where the needle stands in its file.
+    pub fn at(&self) -> u64
+        ensures { result ≡ self.now.at }
+    {
+        self.at
+    }
+
+    /// How many bytes the photo has.
+    pub fn size(&self) -> u32
+        ensures is { result ≡ self.now.size }
+        ensures most { result ≤ 1048576 }
+    {
+        self.size
+    }
+
+    /// The same needle once more.
+    pub fn dup(&self) -> Sealed<P>
+        ensures { result ≡ self.now }
+    {
+        Sealed {
+            at: self.at,
+            size: self.size,
+            piece: self.piece.dup(),
+        }
+    }
+
+    /// Puts the needle's bytes into `out`, with any byte for the flags, and answers their number.
+    pub fn fetch<A: Arm<P>>(&self, arm: &mut A, out: &mut [u8]) -> Result<usize, Failed>
+        requires { length out.old ≡ total_of_lem self.now.size }
+        ensures within { IfOk result (λ n. n ≤ length out.old) }
+        ensures count { P.Tells → IfOk result (λ n. n ≡ length out.old) }
+        ensures bytes { P.Tells → IfOk result (λ _. IsBut 28 self.now.bytes out.new) }
+        ensures sure { A.is_sure arm.old ≡ true → IsOk result }
+        ensures stays_sure { A.is_sure arm.old ≡ true → A.is_sure arm.new ≡ true }
+        ensures counted { IsCounted (A.fault_count arm.old) (A.fault_count arm.new) (IsErr result) }
+    {
+        arm.fetch(&self.piece, out)
+    }
+}
+
+/// Where a replica has a pair's photo.
+#[derive(Drop)]
+pub enum Place<P: Piece> {
+    /// It never had one.
+    None,
+    Live(Sealed<P>),
+    /// It was deleted.
+    Gone,
+}
+
+impl<P: Piece> Place<P> {
+    /// The same place once more.
+    pub fn dup(&self) -> Place<P>
+        ensures { result ≡ self.now }
+    {
+        match self {
+            Place::None => Place::None,
+            Place::Live(needle) => Place::Live(needle.dup()),
+            Place::Gone => Place::Gone,
+        }
+    }
+
+    /// The place once the photo was deleted.
+    pub fn leave(&mut self)
+        ensures { self.new ≡ gone_place self.old }
+    {
+        if let Place::Live(_) = self {
+            *self = Place::Gone;
+        }
+    }
+}
+
+impl<P: Piece> Default for Place<P> {
+    fn default() -> Place<P> {
+        Place::None
+    }
+}

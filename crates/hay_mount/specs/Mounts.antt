@@ -1,0 +1,62 @@
+-- What disks and arms are when they are taken from a shelf, and what the shelf has when they are given back.
+use Rattle.std.specs.Prelude.{◌≡◌, ◌⊎◌, ◌≤◌, ◌<◌, ℕ, ◌+◌, true, false, List, [], ◌∷◌}
+use Rattle.hay_disk.specs.Disk.{Files, IsFree, IsSolid, MayLeave}
+use Rattle.hay_disk.specs.Shelf.{HeldArm, HeldDisk}
+
+-- P holds of each item at its number, counted from this one
+abbrev pub InOrder : {X : Type 0} → (ℕ → X → Type 0) → ℕ → List X → Type 0
+InOrder P number [] = Unit {0}
+InOrder P number (x ∷ xs) = P number x × InOrder P (number + 1) xs
+
+-- nothing changed from this number on
+abbrev pub SameFrom : {X : Type 0} → ℕ → (ℕ → X) → (ℕ → X) → Type 0
+SameFrom first old new = (number : ℕ) → first ≤ number → new number ≡ old number
+
+abbrev pub AreOut : ℕ → (ℕ → HeldDisk) → Type 0
+AreOut n disks = (slot : ℕ) → slot < n → (disks slot).is_out ≡ true
+
+abbrev pub AreIn : ℕ → (ℕ → HeldDisk) → Type 0
+AreIn n disks = (slot : ℕ) → slot < n → (disks slot).is_out ≡ false
+
+abbrev pub AreArmsOut : ℕ → (ℕ → HeldArm) → Type 0
+AreArmsOut n arms = (lane : ℕ) → lane < n → (arms lane).is_out ≡ true
+
+abbrev pub AreArmsIn : ℕ → (ℕ → HeldArm) → Type 0
+AreArmsIn n arms = (lane : ℕ) → lane < n → (arms lane).is_out ≡ false
+
+-- A disk that was taken from its slot: what reads give is all that there is of it.
+pub record IsMountedDisk {D : Type 0} (Tells : Type 0) (files : D → Files) (faults fuses : D → ℕ) (held : HeldDisk) (disk : D) : Type 0 where
+  pub now : Tells → (n : ℕ) → (files disk n).now ≡ (held.files n).now
+  pub solid : Tells → (n : ℕ) → IsSolid (files disk n)
+  pub free : Tells → (n : ℕ) → IsFree (files disk n)
+  pub fault_count : faults disk ≡ held.fault_count
+  pub fuse_count : fuses disk ≡ held.fuse_count
+
+abbrev pub IsMountedArm : {A : Type 0} → (A → ℕ) → HeldArm → A → Type 0
+IsMountedArm faults held arm = faults arm ≡ held.fault_count
+
+-- A disk that was given back to its slot.
+pub record IsGivenDisk {D : Type 0} (Tells : Type 0) (files : D → Files) (faults fuses : D → ℕ) (held : HeldDisk) (disk : D) : Type 0 where
+  pub files_are : Tells → held.files ≡ files disk
+  pub fault_count : held.fault_count ≡ faults disk
+  pub fuse_count : held.fuse_count ≡ fuses disk
+  pub back : held.is_out ≡ false
+
+pub record IsGivenArm {A : Type 0} (faults : A → ℕ) (held : HeldArm) (arm : A) : Type 0 where
+  pub fault_count : held.fault_count ≡ faults arm
+  pub back : held.is_out ≡ false
+
+-- a stop leaves of these files what reads gave of those
+abbrev pub LeavesAsRead : Files → Files → Type 0
+LeavesAsRead old new = (image : ℕ → List ℕ) → MayLeave new image → (n : ℕ) → image n ≡ (old n).now
+
+-- A disk was not taken, or was taken and given back as it was.
+pub record IsPutBack (Tells : Type 0) (old new : HeldDisk) : Type 0 where
+  pub kept : Tells → (new.files ≡ old.files) ⊎ LeavesAsRead old.files new.files
+  pub fault_count : new.fault_count ≡ old.fault_count
+  pub fuse_count : new.fuse_count ≡ old.fuse_count
+  pub back : new.is_out ≡ false
+
+pub record IsArmBack (old new : HeldArm) : Type 0 where
+  pub fault_count : new.fault_count ≡ old.fault_count
+  pub back : new.is_out ≡ false

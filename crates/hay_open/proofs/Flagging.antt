@@ -1,0 +1,45 @@
+-- Needles that were found, and the records that they have.
+use Rattle.std.proofs.Common.{◌≡◌, ℕ, zero, suc, ◌+◌, ◌≤◌, false, List, [], ◌∷◌, ◌++◌, Some, sym, subst, arith}
+use Rattle.std.specs.List.{AllByRecursion, slice_get}
+use Rattle.hay_disk.specs.Disk.{FileState}
+use Rattle.hay_index.specs.declared.record.Record.{Record}
+use Rattle.hay_index.specs.Records.{AreInRow, place_behind}
+use Rattle.hay_map.specs.declared.place.Place.{Place}
+use Rattle.hay_map.specs.declared.place.Place.TheVariants as place
+use Rattle.hay_map.specs.declared.view.OpenCell.{OpenCell}
+use Rattle.hay_open.specs.Finds.{AddsAt, AreOfRows, IsOfRow, MayFlagPlace, StandsAt}
+use Rattle.hay_open.specs.Listing.{RowFlagsFree}
+use Rattle.hay_open.proofs.CellRows.{row_within}
+
+flag_free : (rows : List Record) (i : ℕ) (r : Record) (file : FileState) → RowFlagsFree file rows → slice_get rows i ≡ Some r → file.sealed (r.at + 28) ≡ false
+flag_free [] i r file free there = absurd cc
+flag_free (first ∷ rows) zero r file free there = let same : first ≡ r = cc in subst (λ (x : Record). file.sealed (x.at + 28) ≡ false) same free.0
+flag_free (first ∷ rows) (suc i) r file free there = flag_free rows i r file free.1 there
+
+module _ {P : Type 0} where
+  place_row : (rows : List Record) (i : ℕ) (r : Record) (p : Place P) → slice_get rows i ≡ Some r → StandsAt r.at p → IsOfRow rows p
+  place_row rows i r (place.Live needle) there here = (i, r, there, here)
+  place_row rows i r place.None there here = tt
+  place_row rows i r place.Gone there here = tt
+
+  rows_last : (rows : List Record) (cells : List (OpenCell P)) (cell : OpenCell P) → AreOfRows rows cells → IsOfRow rows cell.place → AreOfRows rows (cells ++ cell ∷ [])
+  rows_last rows [] cell all one = (one, tt)
+  rows_last rows (first ∷ cells) cell all one = (all.0, rows_last rows cells cell all.1 one)
+
+  -- one more cell, whose needle is that of a record
+  pub rows_more : (rows : List Record) (i : ℕ) (r : Record) (old new : List (OpenCell P)) → slice_get rows i ≡ Some r → AreOfRows rows old → AddsAt r.at old new → AreOfRows rows new
+  rows_more rows i r old new there all adds =
+      subst (λ (l : List (OpenCell P)). AreOfRows rows l) (sym adds.1) (rows_last rows old adds.0 all (place_row rows i r adds.0.place there adds.2))
+
+  flag_place : (rows : List Record) (file : FileState) (end : ℕ) (p : Place P) → AreInRow 64 rows → place_behind 64 rows ≤ end → RowFlagsFree file rows → IsOfRow rows p → MayFlagPlace file end p
+  flag_place rows file end (place.Live needle) row ends free (i, r, there, here) =
+      let within = row_within 64 i rows r row there in
+      (omega (arith, within.1, ends, here), subst (λ n. file.sealed (n + 28) ≡ false) (sym here) (flag_free rows i r file free there))
+  flag_place rows file end place.None row ends free is = tt
+  flag_place rows file end place.Gone row ends free is = tt
+
+  -- each needle may be flagged
+  pub flag_each : (rows : List Record) (file : FileState) (end : ℕ) (cells : List (OpenCell P)) → AreInRow 64 rows → place_behind 64 rows ≤ end → RowFlagsFree file rows → AreOfRows rows cells
+      → AllByRecursion (λ cell. MayFlagPlace file end cell.place) cells
+  flag_each rows file end [] row ends free all = tt
+  flag_each rows file end (cell ∷ cells) row ends free all = (flag_place rows file end cell.place row ends free all.0, flag_each rows file end cells row ends free all.1)

@@ -1,0 +1,63 @@
+-- A disk that was formatted.
+use Rattle.std.proofs.Common.{◌≡◌, ℕ, zero, suc, ◌<◌, false, List, [], sym, subst, ◌∙◌, arith}
+use Rattle.hay_needle.specs.declared.settings.Super.{Super}
+use Rattle.hay_needle.specs.Super.{super_bytes}
+use Rattle.hay_disk.specs.Disk.{Files, FileState, Changes, IsFree, IsSolid, Keeps, KeepsOthers}
+use Rattle.hay_disk.specs.Gate.{IsGate}
+use Rattle.hay_head.specs.Head.{IsHead, head_magic, row_place}
+use Rattle.hay_index.specs.Records.{IsIndex}
+use Rattle.hay_index.proofs.IndexLaws.{index_gate}
+use Rattle.hay_volume.specs.Cells.{IsVolume}
+use Rattle.hay_volume.proofs.Volumes.{volume_gate}
+use Rattle.hay_open.specs.Stored.{HeadRests, IndexRests, VolumeRests, fresh_stored, head_super, index_super, volume_super}
+
+-- where each call changes one file alone
+pub record Frames (f0 f1 f2 f3 f4 f5 f6 f7 : Files) : Type 0 where
+  pub head : f6 0 ≡ f0 0
+  pub volume_gone : f2 1 ≡ f1 1
+  pub volume_stays : f7 1 ≡ f4 1
+  pub index_gone : f4 2 ≡ f2 2
+  pub index_stays : f7 2 ≡ f6 2
+  pub others : (n : ℕ) → 2 < n → f7 n ≡ f0 n
+
+pub frames : (f0 f1 f2 f3 f4 f5 f6 f7 : Files) → KeepsOthers 1 f0 f1 → KeepsOthers 2 f1 f2 → KeepsOthers 1 f2 f3 → KeepsOthers 1 f3 f4 → KeepsOthers 2 f4 f5 → KeepsOthers 2 f5 f6 → KeepsOthers 0 f6 f7
+    → Frames f0 f1 f2 f3 f4 f5 f6 f7
+frames f0 f1 f2 f3 f4 f5 f6 f7 a b c d e f g = record {
+  head = f 0 (λ is. omega arith) ∙ e 0 (λ is. omega arith) ∙ d 0 (λ is. omega arith) ∙ c 0 (λ is. omega arith) ∙ b 0 (λ is. omega arith) ∙ a 0 (λ is. omega arith);
+  volume_gone = b 1 (λ is. omega arith);
+  volume_stays = g 1 (λ is. omega arith) ∙ f 1 (λ is. omega arith) ∙ e 1 (λ is. omega arith);
+  index_gone = d 2 (λ is. omega arith) ∙ c 2 (λ is. omega arith);
+  index_stays = g 2 (λ is. omega arith);
+  others = λ n far. g n (λ is. omega arith) ∙ f n (λ is. omega arith) ∙ e n (λ is. omega arith) ∙ d n (λ is. omega arith) ∙ c n (λ is. omega arith) ∙ b n (λ is. omega arith) ∙ a n (λ is. omega arith);
+}
+
+pub fresh_head : (sup one : Super) (file : FileState) → one ≡ head_super sup → IsHead (super_bytes one) file.now 0 → IsSolid file → IsGate head_magic (row_place 1) file → HeadRests sup file 0
+fresh_head sup one file same is solid gate = record {
+  is = subst (λ (s : Super). IsHead (super_bytes s) file.now 0) same is;
+  solid = solid;
+  gate = gate;
+}
+
+-- nothing of a file that was taken away is sealed, nor of what was written then
+pub still_free : (gone before made kept : FileState) → IsFree gone → before ≡ gone → Changes 0 72 before made → Keeps made kept → IsFree kept
+still_free gone before made kept free same changes keeps k = keeps.free k (changes.free k (subst (λ (f : FileState). f.sealed k ≡ false) (sym same) (free k)))
+
+pub fresh_volume : (sup one : Super) (made kept file : FileState) → one ≡ volume_super sup 0 → IsVolume (super_bytes one) made.now [] 64 → Keeps made kept → IsSolid kept → IsFree kept → file ≡ kept → VolumeRests sup file fresh_stored
+fresh_volume sup one made kept file same is keeps solid free stays =
+    let there : IsVolume (super_bytes (volume_super sup 0)) kept.now [] 64 = subst (λ (l : List ℕ). IsVolume (super_bytes (volume_super sup 0)) l [] 64) (sym keeps.now) (subst (λ (s : Super). IsVolume (super_bytes s) made.now [] 64) same is) in
+    subst (λ (f : FileState). VolumeRests sup f fresh_stored) (sym stays)
+    (record { is = there; solid = solid; gate = volume_gate (super_bytes (volume_super sup 0)) [] 64 kept there solid (λ k from. free k); flags = tt })
+
+pub fresh_index : (sup one : Super) (made kept file : FileState) (end : ℕ) → one ≡ index_super sup 0 → IsIndex (super_bytes one) made.now [] 64 → Keeps made kept → IsSolid kept → IsFree kept → file ≡ kept → end ≡ 64 → IndexRests sup file fresh_stored end
+fresh_index sup one made kept file end same is keeps solid free stays ends =
+    let there : IsIndex (super_bytes (index_super sup 0)) kept.now [] 64 = subst (λ (l : List ℕ). IsIndex (super_bytes (index_super sup 0)) l [] 64) (sym keeps.now) (subst (λ (s : Super). IsIndex (super_bytes s) made.now [] 64) same is) in
+    subst (λ (f : FileState). IndexRests sup f fresh_stored end) (sym stays)
+    (subst (λ n. IndexRests sup kept fresh_stored n) (sym ends)
+    (record { is = there; solid = solid; gate = index_gate (super_bytes (index_super sup 0)) [] 64 kept there solid (λ k from. free k) }))
+
+-- all of the disk is solid then
+pub all_solid : (f0 f1 f2 f3 f4 f5 f6 f7 : Files) → Frames f0 f1 f2 f3 f4 f5 f6 f7 → ((n : ℕ) → IsSolid (f0 n)) → IsSolid (f7 0) → IsSolid (f4 1) → IsSolid (f6 2) → (n : ℕ) → IsSolid (f7 n)
+all_solid f0 f1 f2 f3 f4 f5 f6 f7 by old head volume index zero = head
+all_solid f0 f1 f2 f3 f4 f5 f6 f7 by old head volume index (suc zero) = subst (λ (f : FileState). IsSolid f) (sym by.volume_stays) volume
+all_solid f0 f1 f2 f3 f4 f5 f6 f7 by old head volume index (suc (suc zero)) = subst (λ (f : FileState). IsSolid f) (sym by.index_stays) index
+all_solid f0 f1 f2 f3 f4 f5 f6 f7 by old head volume index (suc (suc (suc n))) = subst (λ (f : FileState). IsSolid f) (sym (by.others (suc (suc (suc n))) (omega arith))) (old (suc (suc (suc n))))

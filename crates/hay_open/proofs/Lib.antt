@@ -1,0 +1,14 @@
+pub mod HeadReads
+pub mod Walks
+pub mod LastRows
+pub mod Formatting
+pub mod Reading
+pub mod CellRows
+pub mod PieceLaws
+pub mod Flagging
+pub mod PlaceLaws
+pub mod Misfits
+pub mod Listings
+pub mod Opening
+pub mod Faults
+pub mod Standing

@@ -1,0 +1,111 @@
+-- The places of the last cells of pairs, one cell after another.
+use Rattle.std.proofs.Common.{◌≡◌, ℕ, ◌+◌, ◌≤◌, Bool, true, false, cond, List, [], ◌∷◌, ◌++◌, length, map, take, drop, Option, Some, None, refl, sym, ap, subst, ◌∙◌}
+use Rattle.std.specs.Option.{option_or}
+use Rattle.std.specs.List.{slice_get}
+use Rattle.std.proofs.lemmas.Bool.{true≢false}
+use Rattle.std.proofs.lemmas.List.{take_all, drop_all}
+use Rattle.hay_needle.specs.declared.needle.Cell.{Cell}
+use Rattle.hay_needle.specs.declared.needle.CellHead.{CellHead}
+use Rattle.hay_needle.specs.declared.needle.Pair.{Pair}
+use Rattle.hay_needle.specs.Needle.{NeedleBytes, needle_of_cell}
+use Rattle.hay_needle.specs.Sizes.{total_of_lem}
+use Rattle.hay_needle.specs.Tables.{pair_eq}
+use Rattle.hay_needle.proofs.Needles.{length-needle}
+use Rattle.hay_needle.proofs.TableLaws.{pair_same, pair_refl}
+use Rattle.hay_volume.specs.Cells.{StandsCell, cell_head}
+use Rattle.hay_index.specs.declared.record.Record.{Record}
+use Rattle.hay_map.specs.declared.place.Place.{Place}
+use Rattle.hay_map.specs.declared.place.Place.TheVariants as place
+use Rattle.hay_map.specs.declared.view.OpenCell.{OpenCell}
+use Rattle.hay_map.specs.Rows.{last_place}
+use Rattle.hay_map.specs.Sealed.{SealedNeedle}
+use Rattle.hay_open.specs.Damage.{LacksPair}
+use Rattle.hay_open.specs.Listing.{ArePlaced}
+use Rattle.hay_open.specs.Stored.{IsSealedCell, PlaceOf, cell_record, last_cell}
+use Rattle.hay_open.proofs.CellRows.{drop_here, take_here, row_there}
+
+-- THE PIECE OF A CELL
+
+pub sealed_cell : (Tells : Type 0) (head : CellHead) (cell : Cell) (file bytes : List ℕ) (len : ℕ) (needle : SealedNeedle) → Tells → StandsCell head.at file cell → head ≡ cell_head cell → head.deleted ≡ false → len ≡ total_of_lem head.size
+    → bytes ≡ take len (drop head.at file) → needle ≡ record { at = head.at; size = head.size; bytes = bytes } → IsSealedCell Tells cell needle
+sealed_cell Tells head cell file bytes len needle tells here is live long seen made =
+    let alive : cell.deleted ≡ false = ap (λ (h : CellHead). h.deleted) (sym is) ∙ live in
+    let size : len ≡ length here.needle = long ∙ ap (λ (h : CellHead). total_of_lem h.size) is ∙ sym (length-needle here.needle (needle_of_cell cell) here.is.is) in
+    let same : here.needle ≡ needle.bytes = sym here.stand ∙ ap (λ n. take n (drop head.at file)) (sym size) ∙ sym seen ∙ ap (λ (s : SealedNeedle). s.bytes) (sym made) in
+    record {
+      alive = alive;
+      at = ap (λ (s : SealedNeedle). s.at) made ∙ sym here.is.place;
+      sealed = record {
+        tells = tells;
+        size = ap (λ (s : SealedNeedle). s.size) made ∙ ap (λ (h : CellHead). h.size) is;
+        is = subst (λ (l : List ℕ). NeedleBytes l (record { pair = cell.pair; photo = record { cookie = cell.cookie; bytes = cell.bytes }; deleted = false })) same
+            (subst (λ (b : Bool). NeedleBytes here.needle (record { pair = cell.pair; photo = record { cookie = cell.cookie; bytes = cell.bytes }; deleted = b })) alive here.is.is);
+      };
+    }
+
+-- ONE CELL MORE
+
+or_cond : (b : Bool) (s : Cell) (x y : Option Cell) → option_or (cond b (Some s) x) y ≡ cond b (Some s) (option_or x y)
+or_cond true s x y = refl
+or_cond false s x y = refl
+
+pub last_cell-more : (cells : List Cell) (cell : Cell) (pair : Pair) → last_cell (cells ++ cell ∷ []) pair ≡ cond (pair_eq cell.pair pair) (Some cell) (last_cell cells pair)
+last_cell-more [] cell pair = refl
+last_cell-more (first ∷ cells) cell pair =
+    ap (λ (o : Option Cell). option_or o (cond (pair_eq first.pair pair) (Some first) None)) (last_cell-more cells cell pair)
+    ∙ or_cond (pair_eq cell.pair pair) cell (last_cell cells pair) (cond (pair_eq first.pair pair) (Some first) None)
+
+pub last_place-more : {P : Type 0} (cells : List (OpenCell P)) (cell : OpenCell P) (pair : Pair) (before : Place P) → last_place (cells ++ cell ∷ []) pair before ≡ cond (pair_eq cell.pair pair) cell.place (last_place cells pair before)
+last_place-more [] cell pair before = refl
+last_place-more (first ∷ cells) cell pair before = last_place-more cells cell pair (cond (pair_eq first.pair pair) first.place before)
+
+pub none_placed : {P : Type 0} (Tells : Type 0) (whole : List Cell) (done : List (OpenCell P)) → done ≡ [] → ArePlaced Tells whole 0 done
+none_placed {P} Tells whole done none =
+    subst (λ (l : List (OpenCell P)). ArePlaced Tells whole 0 l) (sym none) (record { right = λ pair lacks. tt })
+
+lacks_more : (k : ℕ) (whole : List Cell) (cell : Cell) (pair : Pair) → slice_get whole k ≡ Some cell → pair_eq cell.pair pair ≡ false → LacksPair pair (drop (k + 1) (map cell_record whole)) → LacksPair pair (drop k (map cell_record whole))
+lacks_more k whole cell pair there apart lacks =
+    subst (λ (l : List Record). LacksPair pair l) (sym (drop_here k (map cell_record whole) (cell_record cell) (row_there k whole cell there)))
+    ((λ same. true≢false (sym (ap (λ (p : Pair). pair_eq p pair) same ∙ pair_refl pair) ∙ apart)), lacks)
+
+pub place_step : {P : Type 0} (Tells : Type 0) (whole : List Cell) (k : ℕ) (cell : Cell) (own : Pair) (done next : List (OpenCell P)) (at : Place P) → slice_get whole k ≡ Some cell → own ≡ cell.pair → ArePlaced Tells whole k done
+    → next ≡ done ++ record { pair = own; place = at } ∷ [] → PlaceOf Tells (Some cell) at → ArePlaced Tells whole (k + 1) next
+place_step {P} Tells whole k cell own done next at there pair_is before is holds = record { right = λ pair lacks. by_pair pair lacks (pair_eq cell.pair pair) refl }
+  where
+    chosen : (pair : Pair) → LacksPair pair (drop (k + 1) (map cell_record whole)) → (b : Bool) → pair_eq cell.pair pair ≡ b → PlaceOf Tells (cond b (Some cell) (last_cell (take k whole) pair)) (cond b at (last_place done pair place.None))
+    chosen pair lacks true test = holds
+    chosen pair lacks false test = before.right pair (lacks_more k whole cell pair there test lacks)
+
+    by_pair : (pair : Pair) → LacksPair pair (drop (k + 1) (map cell_record whole)) → (b : Bool) → pair_eq cell.pair pair ≡ b → PlaceOf Tells (last_cell (take (k + 1) whole) pair) (last_place next pair place.None)
+    by_pair pair lacks b test =
+        let cells : last_cell (take (k + 1) whole) pair ≡ cond b (Some cell) (last_cell (take k whole) pair) =
+        ap (λ (l : List Cell). last_cell l pair) (take_here k whole cell there) ∙ last_cell-more (take k whole) cell pair ∙ ap (λ (t : Bool). cond t (Some cell) (last_cell (take k whole) pair)) test in
+        let places : last_place next pair place.None ≡ cond b at (last_place done pair place.None) =
+        ap (λ (l : List (OpenCell P)). last_place l pair place.None) is ∙ last_place-more done (record { pair = own; place = at }) pair place.None ∙ ap (λ (p : Pair). cond (pair_eq p pair) at (last_place done pair place.None)) pair_is ∙ ap (λ (t : Bool). cond t at (last_place done pair place.None)) test in
+        subst (λ (o : Option Cell). PlaceOf Tells o (last_place next pair place.None)) (sym cells)
+        (subst (λ (p : Place P). PlaceOf Tells (cond b (Some cell) (last_cell (take k whole) pair)) p) (sym places) (chosen pair lacks b test))
+
+-- a cell whose pair comes again
+pub place_skip : {P : Type 0} (Tells : Type 0) (whole : List Cell) (k : ℕ) (cell : Cell) (done : List (OpenCell P)) → slice_get whole k ≡ Some cell → ArePlaced Tells whole k done
+    → (LacksPair cell.pair (drop (k + 1) (map cell_record whole)) → ⊥) → ArePlaced Tells whole (k + 1) done
+place_skip {P} Tells whole k cell done there before again = record { right = λ pair lacks. by_pair pair lacks (pair_eq cell.pair pair) refl }
+  where
+    by_pair : (pair : Pair) → LacksPair pair (drop (k + 1) (map cell_record whole)) → (b : Bool) → pair_eq cell.pair pair ≡ b → PlaceOf Tells (last_cell (take (k + 1) whole) pair) (last_place done pair place.None)
+    by_pair pair lacks true test = absurd (again (subst (λ (p : Pair). LacksPair p (drop (k + 1) (map cell_record whole))) (sym (pair_same cell.pair pair test)) lacks))
+    by_pair pair lacks false test =
+        let cells : last_cell (take (k + 1) whole) pair ≡ last_cell (take k whole) pair =
+        ap (λ (l : List Cell). last_cell l pair) (take_here k whole cell there) ∙ last_cell-more (take k whole) cell pair ∙ ap (λ (t : Bool). cond t (Some cell) (last_cell (take k whole) pair)) test in
+        subst (λ (o : Option Cell). PlaceOf Tells o (last_place done pair place.None)) (sym cells) (before.right pair (lacks_more k whole cell pair there test lacks))
+
+-- behind the last cell all places are right
+pub all_placed : {P : Type 0} (Tells : Type 0) (whole : List Cell) (k : ℕ) (done : List (OpenCell P)) → length (map cell_record whole) ≤ k → length whole ≤ k → ArePlaced Tells whole k done
+    → (pair : Pair) → PlaceOf Tells (last_cell whole pair) (last_place done pair place.None)
+all_placed Tells whole k done rows cells placed pair =
+    subst (λ (l : List Cell). PlaceOf Tells (last_cell l pair) (last_place done pair place.None)) (take_all k whole cells)
+    (placed.right pair (subst (λ (l : List Record). LacksPair pair l) (sym (drop_all k (map cell_record whole) rows)) tt))
+
+-- a disk without cells has no places
+pub void_places : {P : Type 0} (Tells : Type 0) (cells : List Cell) (done : List (OpenCell P)) → cells ≡ [] → done ≡ [] → (pair : Pair) → PlaceOf Tells (last_cell cells pair) (last_place done pair place.None)
+void_places {P} Tells cells done none void pair =
+    subst (λ (l : List Cell). PlaceOf Tells (last_cell l pair) (last_place done pair place.None)) (sym none)
+    (subst (λ (l : List (OpenCell P)). PlaceOf Tells (last_cell [] pair) (last_place l pair place.None)) (sym void) tt)

@@ -1,0 +1,57 @@
+use Rattle.std.proofs.Common.{◌≡◌, ℕ, List, length, Err, ap, arith, sym, subst}
+use Rattle.hay_disk.specs.Disk.{Files}
+use Rattle.hay_open.specs.declared.fault.Refusal.{Refusal}
+use Rattle.hay_open.specs.declared.fault.Refusal.TheVariants as refusal
+use Rattle.hay_open.specs.Damage.{IsOpeningDamage, IsReadingDamage}
+use Rattle.hay_open.specs.Finds.{OpenedAs}
+use Rattle.hay_open.specs.Stored.{Stored, IsStored, IsVoid, fresh_stored}
+use Rattle.hay_open.proofs.Faults.{told_damaged, void_is}
+use Rattle.hay_open.proofs.Opening.{opened_ready}
+use Rattle.hay_open.proofs.PlaceLaws.{void_places}
+use Rattle.hay_open.proofs.Standing.{opens_stored, opens_void}
+use Rattle.hay_open.proofs.open_replica.Goals as goal
+
+pub returns-in-Ok-format_disk-clause-opened : goal.returns-in-Ok-format_disk-clause-opened
+returns-in-Ok-format_disk-clause-opened g c = λ tells s opens.
+    let contents : ℕ → List ℕ = λ n. (g.D.Disk.files c.args.disk.now n).now in
+    let void : IsVoid contents = void_is (contents 0) (omega (arith, c.in-Ok-eq0.ensures.size tells, c.in-Ok-eq0.field-0-test)) in
+    subst (λ (t : Stored). OpenedAs c.args.sup.now (g.D.Disk.files c.format_disk.new.disk) c.in-Ok-format_disk.opened t) (sym (opens_void c.args.sup.now contents s void opens)) (c.in-Ok-format_disk.ensures.opened tells)
+
+pub returns-in-Ok-format_disk-clause-places : goal.returns-in-Ok-format_disk-clause-places
+returns-in-Ok-format_disk-clause-places g c = λ tells s opens.
+    let contents : ℕ → List ℕ = λ n. (g.D.Disk.files c.args.disk.now n).now in
+    let void : IsVoid contents = void_is (contents 0) (omega (arith, c.in-Ok-eq0.ensures.size tells, c.in-Ok-eq0.field-0-test)) in
+    void_places g.D.Piece.Piece.Tells s.cells c.in-Ok-format_disk.opened.cells.items (ap (λ (t : Stored). t.cells) (opens_void c.args.sup.now contents s void opens)) c.in-Ok-format_disk.ensures.none
+
+pub returns-in-Ok-format_disk-clause-ready : goal.returns-in-Ok-format_disk-clause-ready
+returns-in-Ok-format_disk-clause-ready g c = λ tells.
+    opened_ready c.args.sup.now (g.D.Disk.files c.format_disk.new.disk) c.in-Ok-format_disk.opened fresh_stored (c.in-Ok-format_disk.ensures.opened tells)
+
+pub returns-in-Ok-read_disk-clause-opened : goal.returns-in-Ok-read_disk-clause-opened
+returns-in-Ok-read_disk-clause-opened g c = λ tells s opens.
+    let contents : ℕ → List ℕ = λ n. (g.D.Disk.files c.args.disk.now n).now in
+    let some : IsVoid contents → ⊥ = λ void. c.in-Ok.field-0-test.1 (omega (arith, c.in-Ok.ensures.size tells, ap (λ (l : List ℕ). length l) void)) in
+    c.in-Ok-read_disk.ensures.opened tells s (subst (λ (fs : Files). IsStored c.args.sup.now (λ n. (fs n).now) s) (sym (c.size.ensures.same tells)) (opens_stored c.args.sup.now contents s some opens))
+
+pub returns-in-Ok-read_disk-clause-places : goal.returns-in-Ok-read_disk-clause-places
+returns-in-Ok-read_disk-clause-places g c = λ tells s opens.
+    let contents : ℕ → List ℕ = λ n. (g.D.Disk.files c.args.disk.now n).now in
+    let some : IsVoid contents → ⊥ = λ void. c.in-Ok.field-0-test.1 (omega (arith, c.in-Ok.ensures.size tells, ap (λ (l : List ℕ). length l) void)) in
+    c.in-Ok-read_disk.ensures.places tells s (subst (λ (fs : Files). IsStored c.args.sup.now (λ n. (fs n).now) s) (sym (c.size.ensures.same tells)) (opens_stored c.args.sup.now contents s some opens))
+
+pub returns-in-Err-read_disk-clause-damaged : goal.returns-in-Err-read_disk-clause-damaged
+unfolding IsOpeningDamage
+returns-in-Err-read_disk-clause-damaged g c = λ tells file at is.
+    let contents : ℕ → List ℕ = λ n. (g.D.Disk.files c.args.disk.now n).now in
+    let some : IsVoid contents → ⊥ = λ void. c.in-Ok.field-0-test.1 (omega (arith, c.in-Ok.ensures.size tells, ap (λ (l : List ℕ). length l) void)) in
+    let was : c.in-Err-read_disk.refusal ≡ refusal.Damaged file at = told_damaged c.in-Err-read_disk.refusal _ file at c.told-in-Err-read_disk.result c.told-in-Err-read_disk.ensures (cc) in (
+      some,
+      subst (λ (fs : Files). IsReadingDamage c.args.sup.now (λ n. (fs n).now) file at) (c.size.ensures.same tells) (c.in-Err-read_disk.ensures.damaged tells file at (ap (λ (r : Refusal). Err r) was)),
+    )
+
+pub returns-in-Err-read_disk-clause-only : goal.returns-in-Err-read_disk-clause-only
+returns-in-Err-read_disk-clause-only g c = λ tells s opens file at is.
+    let contents : ℕ → List ℕ = λ n. (g.D.Disk.files c.args.disk.now n).now in
+    let some : IsVoid contents → ⊥ = λ void. c.in-Ok.field-0-test.1 (omega (arith, c.in-Ok.ensures.size tells, ap (λ (l : List ℕ). length l) void)) in
+    let was : c.in-Err-read_disk.refusal ≡ refusal.Damaged file at = told_damaged c.in-Err-read_disk.refusal _ file at c.told-in-Err-read_disk.result c.told-in-Err-read_disk.ensures (cc) in
+    c.in-Err-read_disk.ensures.only tells s (subst (λ (fs : Files). IsStored c.args.sup.now (λ n. (fs n).now) s) (sym (c.size.ensures.same tells)) (opens_stored c.args.sup.now contents s some opens)) file at (ap (λ (r : Refusal). Err r) was)

@@ -1,0 +1,64 @@
+-- What an opening answers.
+use Rattle.std.specs.Prelude.{◌≡◌, ◌≤◌, ◌+◌, ◌++◌, ◌∷◌, [], ℕ, false, List, length, Some}
+use Rattle.std.specs.List.{AllByRecursion, slice_get}
+use Rattle.hay_needle.specs.declared.settings.Super.{Super}
+use Rattle.hay_needle.specs.Needle.{needle_magic}
+use Rattle.hay_disk.specs.Disk.{Files, FileState}
+use Rattle.hay_disk.specs.Gate.{IsGate}
+use Rattle.hay_head.specs.Head.{head_magic, row_place}
+use Rattle.hay_index.specs.Records.{index_magic}
+use Rattle.hay_index.specs.declared.record.Record.{Record}
+use Rattle.hay_map.specs.declared.place.Place.{Place}
+use Rattle.hay_map.specs.declared.place.Place.TheVariants as place
+use Rattle.hay_map.specs.declared.view.OpenCell.{OpenCell}
+use Rattle.hay_open.specs.declared.opened.Opened.{Opened}
+use Rattle.hay_open.specs.Stored.{Stored, HeadRests, VolumeRests, IndexRests, index_file, unrecorded, volume_file}
+
+-- The replica was opened as what its disk has, and changes can be made to each of its files.
+pub record OpenedAs {P : Type 0} (sup : Super) (files : Files) (opened : Opened P) (s : Stored) : Type 0 where
+  pub generation : opened.head.generation ≡ s.generation
+  pub lags : s.records ≤ length s.cells
+  pub head : HeadRests sup (files 0) s.generation
+  pub volume : opened.volume ≡ record { file = volume_file s.generation; end = s.end; capacity = sup.settings.capacity }
+  pub cells : VolumeRests sup (files (volume_file s.generation)) s
+  pub index_number : opened.index.file ≡ index_file s.generation
+  pub noted : opened.index.pending ≡ unrecorded s
+  pub index : IndexRests sup (files (index_file s.generation)) s opened.index.end
+  pub records : opened.records ≡ s.records
+  pub orphans : opened.orphans + s.records ≡ length s.cells
+
+-- The files are those of the generation that was opened, and a row, a cell and a block may be appended to them.
+pub record IsReady {P : Type 0} (files : Files) (opened : Opened P) : Type 0 where
+  pub volume_number : opened.volume.file ≡ volume_file opened.head.generation
+  pub index_number : opened.index.file ≡ index_file opened.head.generation
+  pub head : IsGate head_magic (row_place (opened.head.generation + 1)) (files 0)
+  pub volume : IsGate needle_magic opened.volume.end (files opened.volume.file)
+  pub index : IsGate index_magic opened.index.end (files opened.index.file)
+
+-- WHERE THE NEEDLES OF PLACES STAND
+
+-- a needle that a place has stands here
+abbrev pub StandsAt : {P : Type 0} → ℕ → Place P → Type 0
+StandsAt at (place.Live needle) = needle.at ≡ at
+StandsAt at _ = Unit {0}
+
+-- the cells, and one more whose needle stands here
+abbrev pub AddsAt : {P : Type 0} → ℕ → List (OpenCell P) → List (OpenCell P) → Type 0
+AddsAt {P} at old new = (cell : OpenCell P) × (new ≡ old ++ cell ∷ []) × StandsAt at cell.place
+
+-- a needle that a place has is that of one of these records
+abbrev pub IsOfRow : {P : Type 0} → List Record → Place P → Type 0
+IsOfRow rows (place.Live needle) = (i : ℕ) × (r : Record) × (slice_get rows i ≡ Some r) × (needle.at ≡ r.at)
+IsOfRow rows _ = Unit {0}
+
+abbrev pub AreOfRows : {P : Type 0} → List Record → List (OpenCell P) → Type 0
+AreOfRows rows cells = AllByRecursion (λ cell. IsOfRow rows cell.place) cells
+
+-- the flags of a needle that a place has may be written
+abbrev pub MayFlagPlace : {P : Type 0} → FileState → ℕ → Place P → Type 0
+MayFlagPlace file end (place.Live needle) = (needle.at + 29 ≤ end) × (file.sealed (needle.at + 28) ≡ false)
+MayFlagPlace file end _ = Unit {0}
+
+-- Each needle that was found lies before the end of the cells, and may be flagged.
+abbrev pub MayFlagEach : {P : Type 0} → Files → Opened P → Type 0
+MayFlagEach files opened = AllByRecursion (λ cell. MayFlagPlace (files opened.volume.file) opened.volume.end cell.place) opened.cells.items

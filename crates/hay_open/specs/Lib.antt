@@ -1,0 +1,5 @@
+pub mod Stored
+pub mod Damage
+pub mod Finds
+pub mod Faults
+pub mod Listing

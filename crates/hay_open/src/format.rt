@@ -1,0 +1,54 @@
+//! Formatting a void disk.
+
+ghost use Rattle.std.specs.Prelude.{◌≡◌, ◌<◌, ℕ, [], false, IfOk, OnOk, Err, IsErrOf};
+ghost use Rattle.hay_disk.specs.Counts.{IsCounted};
+ghost use Rattle.hay_disk.specs.Disk.{IsFree, IsSolid};
+ghost use Rattle.hay_open.specs.Finds.{OpenedAs};
+ghost use Rattle.hay_open.specs.Stored.{fresh_stored};
+
+use crate::fault::Refusal;
+use crate::files::{HEAD_FILE, head_super, index_file, index_super, volume_file, volume_super};
+use crate::opened::Opened;
+use hay_disk::Disk;
+use hay_head::Head;
+use hay_index::IndexFile;
+use hay_needle::Super;
+use hay_volume::VolumeFile;
+use std::alloc::Global;
+
+// Formats a disk whose head file is empty: whatever its files 1 and 2 had is taken away, and each file is on the disk
+// before the next is written, the head file last.
+pub(crate) fn format_disk<D: Disk>(
+    alloc: Global,
+    disk: &mut D,
+    sup: &Super,
+) -> Result<Opened<D::Piece>, Refusal>
+    requires solid { D.Tells → (n : ℕ) → IsSolid (D.files disk.old n) }
+    requires free { D.Tells → (n : ℕ) → IsFree (D.files disk.old n) }
+    ensures opened { D.Tells → IfOk result (λ opened. OpenedAs sup.now (D.files disk.new) opened fresh_stored) }
+    ensures none { IfOk result (λ opened. opened.cells.items ≡ []) }
+    ensures open { IfOk result (λ opened. opened.index.frozen ≡ false) }
+    ensures solid { D.Tells → OnOk result ((n : ℕ) → IsSolid (D.files disk.new n)) }
+    ensures others { D.Tells → (n : ℕ) → 2 < n → D.files disk.new n ≡ D.files disk.old n }
+    ensures void { D.Tells → IsErrOf result Refusal.NoMemory → D.files disk.new 0 ≡ D.files disk.old 0 }
+    ensures undamaged { (file at : ℕ) → result ≡ Err (Refusal.Damaged file at) → ⊥ }
+    ensures counted { IsCounted (D.fault_count disk.old) (D.fault_count disk.new) (IsErrOf result Refusal.Failed) }
+    ensures fuses { D.fuse_count disk.new ≡ D.fuse_count disk.old }
+{
+    let (volume_number, index_number) = (volume_file(0), index_file(0));
+    disk.remove(volume_number)?;
+    disk.remove(index_number)?;
+    let volume = VolumeFile::format(disk, volume_number, &volume_super(sup, 0))?;
+    disk.sync(volume_number)?;
+    let index = IndexFile::format(alloc, disk, index_number, &index_super(sup, 0))?;
+    disk.sync(index_number)?;
+    let head = Head::format(disk, &head_super(sup))?;
+    Ok(Opened {
+        head,
+        volume,
+        index,
+        cells: Vec::new(alloc),
+        records: 0,
+        orphans: 0,
+    })
+}

@@ -1,0 +1,81 @@
+-- What follows from the words on replicas.
+use Rattle.std.proofs.Common.{◌≡◌, inl, inr, ℕ, Bool, true, false, cond, List, [], ◌∷◌, refl, sym, ◌∙◌, ap, subst}
+use Rattle.std.specs.Prelude.{Option, Some, None}
+use Rattle.std.specs.Option.{option_or}
+use Rattle.hay_needle.specs.declared.needle.Cell.{Cell}
+use Rattle.hay_needle.specs.declared.needle.Pair.{Pair}
+use Rattle.hay_needle.specs.Tables.{pair_eq}
+use Rattle.hay_disk.specs.Disk.{Files, MayLeave}
+use Rattle.hay_volume.specs.declared.volume.VolumeFile.{VolumeFile}
+use Rattle.hay_map.specs.Sealed.{SealedNeedle}
+use Rattle.hay_map.specs.declared.place.Place.TheVariants as place
+use Rattle.hay_open.specs.Stored.{IsSealedCell, PlaceOf, Stored, last_cell}
+use Rattle.hay_physical.specs.declared.state.Phase.{Phase}
+use Rattle.hay_physical.specs.Copies.{Copy, HasFrozen, IsUp, capacity_of, end_of, generation_of, is_stuck, phase_capacity, phase_end, phase_generation, phase_stuck}
+use Rattle.hay_physical.specs.Replicas.{Finds, HasLive, Holds, MayDelete, MayFind, PhaseMayDelete, Stands}
+use Rattle.hay_physical.proofs.Holding.{stand_finds}
+use Rattle.hay_physical.proofs.Standing.{stand_flag}
+
+-- A REPLICA THAT STANDS
+
+-- takes changes
+pub stands_up : {D : Type 0} (files : D → Files) (r : Copy D) (s : Stored) → Stands files r s → IsUp r
+unfolding Stands
+stands_up files r s stands = subst (λ (p : Phase). HasFrozen false p) (sym stands.phase) stands.up
+
+-- and each image of its disk has what it stands for
+pub stands_hold : {D : Type 0} (files : D → Files) (r : Copy D) (s : Stored) → Stands files r s → Holds files r (is_stuck r) s s
+unfolding Stands
+stands_hold files r s stands =
+    subst (λ (b : Bool). MayFind r.sup (files r.disk) b s s) (sym (ap phase_stuck stands.phase)) (stand_finds r.sup (files r.disk) stands.opened s stands.stand)
+
+pub stands_end : {D : Type 0} (files : D → Files) (r : Copy D) (s : Stored) → Stands files r s → end_of r ≡ s.end
+unfolding Stands
+stands_end files r s stands = ap phase_end stands.phase ∙ ap (λ (v : VolumeFile). v.end) stands.stand.volume
+
+pub stands_capacity : {D : Type 0} (files : D → Files) (r : Copy D) (s : Stored) → Stands files r s → capacity_of r ≡ r.sup.settings.capacity
+unfolding Stands
+stands_capacity files r s stands = ap phase_capacity stands.phase ∙ ap (λ (v : VolumeFile). v.capacity) stands.stand.volume
+
+pub stands_generation : {D : Type 0} (files : D → Files) (r : Copy D) (s : Stored) → Stands files r s → generation_of r ≡ s.generation
+unfolding Stands
+stands_generation files r s stands = ap phase_generation stands.phase ∙ stands.stand.generation
+
+-- its live cells can be deleted
+pub stands_delete : {D : Type 0} (files : D → Files) (r : Copy D) (s : Stored) (at : ℕ) → Stands files r s → HasLive at s.cells → MayDelete files r at
+unfolding Stands MayDelete
+stands_delete files r s at stands live =
+    subst (λ (p : Phase). PhaseMayDelete (files r.disk) p at) (sym stands.phase) (stand_flag r.sup (files r.disk) stands.opened s at stands.stand live)
+
+-- WHAT AN IMAGE HAS
+
+pub holds_image : {D : Type 0} (files : D → Files) (r : Copy D) (stuck : Bool) (s t : Stored) (image : ℕ → List ℕ) → Holds files r stuck s t → MayLeave (files r.disk) image → Finds r.sup image stuck s t
+unfolding MayFind
+holds_image files r stuck s t image holds leaves = holds image leaves
+
+-- LIVE CELLS
+
+-- the last cell of a pair, if it is live, is a live cell
+pub last_live : (cells : List Cell) (pair : Pair) (cell : Cell) → last_cell cells pair ≡ Some cell → cell.deleted ≡ false → HasLive cell.at cells
+last_live [] pair cell last alive = absurd cc
+last_live (first ∷ cells) pair cell last alive = by_rest (λ e. last_live cells pair cell e alive) (last_cell cells pair) refl last
+  where
+    here : (b : Bool) → cond b (Some first) None ≡ Some cell → (first.at ≡ cell.at) × (first.deleted ≡ false)
+    here true is = let same : first ≡ cell = cc in (ap (λ (c : Cell). c.at) same, ap (λ (c : Cell). c.deleted) same ∙ alive)
+    here false is = absurd cc
+
+    by_rest : (last_cell cells pair ≡ Some cell → HasLive cell.at cells) → (rest : Option Cell) → last_cell cells pair ≡ rest → option_or rest (cond (pair_eq first.pair pair) (Some first) None) ≡ Some cell → HasLive cell.at (first ∷ cells)
+    by_rest again (Some other) was is = inr (again (was ∙ is))
+    by_rest again None was is = inl (here (pair_eq first.pair pair) is)
+
+-- where its needle was given out, its place is that of a live cell
+pub sealed_live : (Tells : Type 0) (cells : List Cell) (pair : Pair) (cell : Cell) (needle : SealedNeedle) → last_cell cells pair ≡ Some cell → IsSealedCell Tells cell needle → HasLive needle.at cells
+sealed_live Tells cells pair cell needle last is = subst (λ n. HasLive n cells) (sym is.at) (last_live cells pair cell last is.alive)
+
+-- and so is the place of a pair that an opening has found live
+pub place_live : (P Tells : Type 0) (cells : List Cell) (pair : Pair) (needle : SealedNeedle) → PlaceOf {P = P} Tells (last_cell cells pair) (place.Live needle) → HasLive needle.at cells
+place_live P Tells cells pair needle of = by_last (last_cell cells pair) refl of
+  where
+    by_last : (last : Option Cell) → last_cell cells pair ≡ last → PlaceOf {P = P} Tells last (place.Live needle) → HasLive needle.at cells
+    by_last (Some cell) was is = sealed_live Tells cells pair cell needle was is
+    by_last None was is = absurd is

@@ -1,0 +1,83 @@
+use Rattle.std.proofs.Common.{◌≡◌, ap, refl, subst, Err}
+use Rattle.std.proofs.lemmas.Result.{err_from_is_err_and}
+use Rattle.hay_open.specs.Damage.{IsOpeningDamage}
+use Rattle.hay_open.specs.Stored.{IsVoid}
+use Rattle.hay_physical.specs.Copies.{Copy}
+use Rattle.hay_physical.proofs.Deleting.{found_deletes}
+use Rattle.hay_physical.proofs.Holding.{finds_now, finds_opens}
+use Rattle.hay_physical.proofs.Openings.{disk_finds, disk_opens, finds_kept, finds_not_void, on_any, opened_ready, opened_stands, same_fault}
+use Rattle.hay_physical.proofs.Views.{open_stands}
+use Rattle.hay_physical.proofs.replica.Replica.open.Goals as goal
+
+pub returns-in_err-head-clause-left : goal.returns-in_err-head-clause-left
+returns-in_err-head-clause-left g c = λ tells stuck s t holds.
+    let files = g.D.Disk.files in
+    let was = c.self.inside in
+    let left = (g.met.D.Disk g.world.𝓛 g.world.𝓜 g.world.𝓡 ((λ s x. x), (λ x. x), (λ x. x), λ x. x)).may_leave_now was.disk in
+    let finds = disk_finds files c.args.self.now (record { sup = was.sup; disk = was.disk; phase = was.phase }) stuck s t c.self.view_is holds in
+    let void = finds_not_void was.sup (files was.disk) stuck s t (λ n. left n tells) finds in
+    on_any c.from_residual.result _ (finds_kept was.sup (files was.disk) (files c.open_replica.new.disk) stuck s t (λ n. left n tells) (c.in_err-head.ensures.kept tells void) (c.in_err-head.ensures.stays tells void) finds)
+
+pub returns-in_err-head-clause-damaged : goal.returns-in_err-head-clause-damaged
+returns-in_err-head-clause-damaged g c = λ tells file at is.
+    let fault = err_from_is_err_and c.from_residual.result c.from_residual.ensures.1 in
+    let damage = c.in_err-head.ensures.damaged tells file at (ap (λ x. Err x) (same_fault c.from_residual.result fault.0 c.in_err-head.field-0.0 file at fault.1 fault.2 is)) in
+    subst (λ (x : Copy _). IsOpeningDamage x.sup (λ n. (g.D.Disk.files x.disk n).now) file at) c.self.view_is damage
+
+pub returns-in_err-head-clause-only : goal.returns-in_err-head-clause-only
+returns-in_err-head-clause-only g c = λ tells s opens file at is.
+    let was = c.self.inside in
+    let fault = err_from_is_err_and c.from_residual.result c.from_residual.ensures.1 in
+    c.in_err-head.ensures.only tells s (disk_opens g.D.Disk.files c.args.self.now (record { sup = was.sup; disk = was.disk; phase = was.phase }) s c.self.view_is opens) file at
+    (ap (λ x. Err x) (same_fault c.from_residual.result fault.0 c.in_err-head.field-0.0 file at fault.1 fault.2 is))
+
+pub returns-in_err-head-clause-whole : goal.returns-in_err-head-clause-whole
+returns-in_err-head-clause-whole g c = λ tells stuck s t holds file at is.
+    let files = g.D.Disk.files in
+    let was = c.self.inside in
+    let left = (g.met.D.Disk g.world.𝓛 g.world.𝓜 g.world.𝓡 ((λ s x. x), (λ x. x), (λ x. x), λ x. x)).may_leave_now was.disk in
+    let finds = disk_finds files c.args.self.now (record { sup = was.sup; disk = was.disk; phase = was.phase }) stuck s t c.self.view_is holds in
+    let f = finds_now was.sup (files was.disk) stuck s t (λ n. left n tells) finds in
+    let fault = err_from_is_err_and c.from_residual.result c.from_residual.ensures.1 in
+    c.in_err-head.ensures.only tells f.found (finds_opens was.sup _ stuck s t f) file at
+    (ap (λ x. Err x) (same_fault c.from_residual.result fault.0 c.in_err-head.field-0.0 file at fault.1 fault.2 is))
+
+pub invariant_of-self-2 : goal.invariant_of-self-2
+invariant_of-self-2 g c = λ tells going. opened_ready (g.D.Disk.files c.open_replica.new.disk) c.in_ok-head.field-0 (c.in_ok-head.ensures.ready tells)
+
+pub returns-clause-opened : goal.returns-clause-opened
+returns-clause-opened g c = λ tells s opens.
+    let files = g.D.Disk.files in
+    let was = c.self.inside in
+    let done = c.in_ok-head.ensures in
+    let here = disk_opens files c.args.self.now (record { sup = was.sup; disk = was.disk; phase = was.phase }) s c.self.view_is opens in (
+      open_stands files was.sup c.open_replica.new.disk _ s refl (opened_stands was.sup (files c.open_replica.new.disk) c.in_ok-head.field-0 s (done.opened tells s here) done.open),
+      done.places tells s here,
+    )
+
+pub returns-clause-reopened : goal.returns-clause-reopened
+returns-clause-reopened g c = λ tells stuck s t holds.
+    let files = g.D.Disk.files in
+    let was = c.self.inside in
+    let done = c.in_ok-head.ensures in
+    let left = (g.met.D.Disk g.world.𝓛 g.world.𝓜 g.world.𝓡 ((λ s x. x), (λ x. x), (λ x. x), λ x. x)).may_leave_now was.disk in
+    let finds = disk_finds files c.args.self.now (record { sup = was.sup; disk = was.disk; phase = was.phase }) stuck s t c.self.view_is holds in
+    let f = finds_now was.sup (files was.disk) stuck s t (λ n. left n tells) finds in
+    let here = finds_opens was.sup _ stuck s t f in (
+      f.found,
+      f.like,
+      open_stands files was.sup c.open_replica.new.disk _ f.found refl (opened_stands was.sup (files c.open_replica.new.disk) c.in_ok-head.field-0 f.found (done.opened tells f.found here) done.open),
+      done.places tells f.found here,
+    )
+
+pub returns-clause-kept : goal.returns-clause-kept
+returns-clause-kept g c = λ tells void n.
+    let files = g.D.Disk.files in
+    let was = c.self.inside in
+    let here : IsVoid (λ n. (files was.disk n).now) → ⊥ = λ empty. void (subst (λ (x : Copy _). IsVoid (λ n. (files x.disk n).now)) c.self.view_is empty) in (
+      subst (λ (x : Copy _). (files c.open_replica.new.disk n).now ≡ (files x.disk n).now) c.self.view_is (c.in_ok-head.ensures.kept tells here n),
+      c.in_ok-head.ensures.stays tells here n,
+    )
+
+pub returns-clause-can_delete : goal.returns-clause-can_delete
+returns-clause-can_delete g c = λ tells pair. found_deletes g.D.Disk.files c.self.inside.sup c.open_replica.new.disk _ c.in_ok-head.field-0.cells.items (c.in_ok-head.ensures.flags tells) pair

@@ -1,0 +1,19 @@
+use Rattle.std.proofs.Common.{◌≡◌, ◌∙◌, ap, subst, length}
+use Rattle.hay_needle.specs.Sizes.{total_of_lem}
+use Rattle.hay_disk.specs.Disk.{KeepsOthers, Seals}
+use Rattle.hay_physical.proofs.Standing.{last_sealed, stand_sealed}
+use Rattle.hay_physical.proofs.state.OpenFiles.give.Goals as goal
+
+pub returns-in-Ok-clause-given : goal.returns-in-Ok-clause-given
+returns-in-Ok-clause-given g c = λ tells sup s pair cookie photo stand there size.
+    let old = g.D.Disk.files c.args.disk.now in
+    let new = g.D.Disk.files c.seal.new.self in
+    let opened = c.args.self.now in
+    let done = c.in-Ok.ensures in
+    let total : c.total_of.result ≡ total_of_lem (length photo) = c.total_of.ensures ∙ ap total_of_lem size in
+    let seals = subst (λ k. Seals c.args.at c.total_of.result 28 (old k) (new k)) c.file.ensures (done.seals tells) in
+    let others = subst (λ k. KeepsOthers k old new) c.file.ensures (done.others tells) in
+    let read = (done.bytes tells).1 ∙ ap (λ k. Rattle.std.proofs.Common.take c.total_of.result (Rattle.std.proofs.Common.drop c.args.at (old k).now)) c.file.ensures in (
+      stand_sealed sup old new opened s pair cookie photo c.args.at c.total_of.result stand there total seals others,
+      last_sealed g.D.Piece.Piece.Tells sup old opened s pair cookie photo (g.D.Piece.Piece.piece_bytes c.in-Ok.piece) c.args.at c.args.size c.total_of.result c.new.result stand there size total c.new.ensures (done.bytes tells).0 read,
+    )

@@ -1,0 +1,75 @@
+-- A replica as contracts see it.
+use Rattle.std.specs.Prelude.{◌≡◌, ℕ, Bool, true, false, List, ⊤}
+use Rattle.hay_needle.specs.declared.settings.Super.{Super}
+use Rattle.hay_disk.specs.Disk.{Files}
+use Rattle.hay_physical.specs.declared.state.Phase.{Phase}
+use Rattle.hay_physical.specs.declared.state.Phase.TheVariants.{Closed, Open}
+
+-- what its superblocks say, its disk, and what is kept of its files
+pub record Copy (D : Type 0) : Type 0 where
+  pub sup : Super
+  pub disk : D
+  pub phase : Phase
+
+abbrev pub IsOpenPhase : Phase → Type 0
+IsOpenPhase Closed = ⊥
+IsOpenPhase (Open opened) = ⊤
+
+abbrev pub HasFrozen : Bool → Phase → Type 0
+HasFrozen frozen Closed = ⊥
+HasFrozen frozen (Open opened) = opened.frozen ≡ frozen
+
+-- it is open
+abbrev pub IsOpen : {D : Type 0} → Copy D → Type 0
+IsOpen r = IsOpenPhase r.phase
+
+-- it is open, and takes changes
+abbrev pub IsUp : {D : Type 0} → Copy D → Type 0
+IsUp r = HasFrozen false r.phase
+
+-- it is open, and a change failed
+abbrev pub IsFrozen : {D : Type 0} → Copy D → Type 0
+IsFrozen r = HasFrozen true r.phase
+
+abbrev pub phase_frozen : Phase → Bool
+phase_frozen Closed = false
+phase_frozen (Open opened) = opened.frozen
+
+abbrev pub phase_stuck : Phase → Bool
+phase_stuck Closed = false
+phase_stuck (Open opened) = opened.index.frozen
+
+abbrev pub phase_end : Phase → ℕ
+phase_end Closed = 0
+phase_end (Open opened) = opened.volume.end
+
+abbrev pub phase_capacity : Phase → ℕ
+phase_capacity Closed = 0
+phase_capacity (Open opened) = opened.volume.capacity
+
+abbrev pub phase_generation : Phase → ℕ
+phase_generation Closed = 0
+phase_generation (Open opened) = opened.head.generation
+
+-- whether a change failed
+abbrev pub is_frozen : {D : Type 0} → Copy D → Bool
+is_frozen r = phase_frozen r.phase
+
+-- whether a flush failed
+abbrev pub is_stuck : {D : Type 0} → Copy D → Bool
+is_stuck r = phase_stuck r.phase
+
+-- where the cells end
+abbrev pub end_of : {D : Type 0} → Copy D → ℕ
+end_of r = phase_end r.phase
+
+-- how many bytes the volume file may have
+abbrev pub capacity_of : {D : Type 0} → Copy D → ℕ
+capacity_of r = phase_capacity r.phase
+
+abbrev pub generation_of : {D : Type 0} → Copy D → ℕ
+generation_of r = phase_generation r.phase
+
+-- what reads of its disk give
+abbrev pub contents_of : {D : Type 0} → (D → Files) → D → ℕ → List ℕ
+contents_of files disk n = (files disk n).now

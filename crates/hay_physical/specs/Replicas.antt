@@ -1,0 +1,142 @@
+-- When a replica stands for what its disk has, and what a change that failed may have left.
+use Rattle.std.specs.Prelude.{◌≡◌, ◌⊎◌, ◌≤◌, ℕ, ◌+◌, Bool, true, false, List, [], ◌∷◌, ◌++◌, length, map, take, ⊤}
+use Rattle.hay_needle.specs.declared.needle.Cell.{Cell}
+use Rattle.hay_needle.specs.declared.needle.Cookie.{Cookie}
+use Rattle.hay_needle.specs.declared.needle.Pair.{Pair}
+use Rattle.hay_needle.specs.declared.settings.Super.{Super}
+use Rattle.hay_needle.specs.Sizes.{total_of_lem}
+use Rattle.hay_needle.specs.Super.{super_bytes}
+use Rattle.hay_disk.specs.Disk.{Files, FileState, IsFree, IsImage, IsSolid, MayLeave}
+use Rattle.hay_volume.specs.Cells.{live_cell, with_flag}
+use Rattle.hay_index.specs.Records.{IsIndex, index_magic}
+use Rattle.hay_needle.specs.Needle.{needle_magic}
+use Rattle.hay_disk.specs.Gate.{IsGate}
+use Rattle.hay_head.specs.Head.{head_magic, row_place}
+use Rattle.hay_map.specs.declared.place.Place.{Place}
+use Rattle.hay_map.specs.declared.place.Place.TheVariants as place
+use Rattle.hay_open.specs.Stored.{HeadRests, IndexRests, IsStored, Stored, VolumeRests, cell_record, index_file, index_super, unrecorded, volume_file}
+use Rattle.hay_physical.specs.declared.state.OpenFiles.{OpenFiles}
+use Rattle.hay_physical.specs.declared.state.Phase.{Phase}
+use Rattle.hay_physical.specs.declared.state.Phase.TheVariants.{Closed, Open}
+use Rattle.hay_physical.specs.Copies.{Copy}
+
+-- A closed replica, all of whose disk is solid, with no pieces given out.
+pub record IsIdle {D : Type 0} (files : D → Files) (r : Copy D) : Type 0 where
+  pub closed : r.phase ≡ Closed
+  pub solid : (n : ℕ) → IsSolid (files r.disk n)
+  pub free : (n : ℕ) → IsFree (files r.disk n)
+
+-- WHAT STANDS
+
+-- The file is an index with records of the first of these cells, of as many as before or more.
+pub record HasIndex (sup : Super) (file : List ℕ) (s : Stored) : Type 0 where
+  pub records : ℕ
+  pub end : ℕ
+  pub fewer : s.records ≤ records
+  pub lags : records ≤ length s.cells
+  pub is : IsIndex (super_bytes (index_super sup s.generation)) file (take records (map cell_record s.cells)) end
+
+-- Where a flush failed, a stop leaves the records from before or more of them.
+abbrev pub IndexStands : Super → FileState → Stored → ℕ → Bool → Type 0
+IndexStands sup file s end false = IndexRests sup file s end
+IndexStands sup file s end true = (image : List ℕ) → IsImage file image → HasIndex sup image s
+
+-- Changes can be made to the files, whatever they hold.
+pub record FilesReady (files : Files) (opened : OpenFiles) : Type 0 where
+  pub volume_number : opened.volume.file ≡ volume_file opened.head.generation
+  pub index_number : opened.index.file ≡ index_file opened.head.generation
+  pub head : IsGate head_magic (row_place (opened.head.generation + 1)) (files 0)
+  pub volume : IsGate needle_magic opened.volume.end (files opened.volume.file)
+  pub index : opened.index.frozen ≡ false → IsGate index_magic opened.index.end (files opened.index.file)
+
+-- The files stand for what the disk has.
+pub record FilesStand (sup : Super) (files : Files) (opened : OpenFiles) (s : Stored) : Type 0 where
+  pub generation : opened.head.generation ≡ s.generation
+  pub lags : s.records ≤ length s.cells
+  pub volume : opened.volume ≡ record { file = volume_file s.generation; end = s.end; capacity = sup.settings.capacity }
+  pub index_number : opened.index.file ≡ index_file s.generation
+  pub noted : opened.index.pending ≡ unrecorded s
+  pub head : HeadRests sup (files 0) s.generation
+  pub cells : VolumeRests sup (files (volume_file s.generation)) s
+  pub index : IndexStands sup (files (index_file s.generation)) s opened.index.end opened.index.frozen
+
+-- A replica that is open and takes changes stands for what its disk has.
+pub record StandsFor {D : Type 0} (files : D → Files) (r : Copy D) (s : Stored) : Type 0 where
+  pub opened : OpenFiles
+  pub phase : r.phase ≡ Open opened
+  pub up : opened.frozen ≡ false
+  pub stand : FilesStand r.sup (files r.disk) opened s
+
+unfoldable pub Stands : {D : Type 0} → (D → Files) → Copy D → Stored → Type 0
+Stands files r s = StandsFor files r s
+
+-- What holds of every replica that takes changes.
+abbrev pub PhaseReady : Files → Phase → Type 0
+PhaseReady files Closed = ⊤
+PhaseReady files (Open opened) = opened.frozen ≡ false → FilesReady files opened
+
+abbrev pub IsReady : {D : Type 0} → Type 0 → (D → Files) → Copy D → Type 0
+IsReady Tells files r = Tells → PhaseReady (files r.disk) r.phase
+
+-- WHAT A STOP MAY LEAVE
+
+-- the same but for records that a stuck index may have beside
+pub record IsLike (stuck : Bool) (s found : Stored) : Type 0 where
+  pub cells : found.cells ≡ s.cells
+  pub end : found.end ≡ s.end
+  pub generation : found.generation ≡ s.generation
+  pub fewer : s.records ≤ found.records
+  pub same : stuck ≡ false → found.records ≡ s.records
+
+-- The disk has been formatted, and an opening finds this or that.
+pub record Finds (sup : Super) (contents : ℕ → List ℕ) (stuck : Bool) (s t : Stored) : Type 0 where
+  pub found : Stored
+  pub is : IsStored sup contents found
+  pub like : IsLike stuck s found ⊎ IsLike stuck t found
+
+unfoldable pub MayFind : Super → Files → Bool → Stored → Stored → Type 0
+MayFind sup files stuck s t = (image : ℕ → List ℕ) → MayLeave files image → Finds sup image stuck s t
+
+-- In every image of its disk an opening finds this or that.
+abbrev pub Holds : {D : Type 0} → (D → Files) → Copy D → Bool → Stored → Stored → Type 0
+Holds files r stuck s t = MayFind r.sup (files r.disk) stuck s t
+
+-- WHAT CHANGES DO
+
+-- one of the cells stands at `at`, and is not deleted
+abbrev pub HasLive : ℕ → List Cell → Type 0
+HasLive at [] = ⊥
+HasLive at (cell ∷ cells) = ((cell.at ≡ at) × (cell.deleted ≡ false)) ⊎ HasLive at cells
+
+-- The flags of a cell at this place can be written.
+pub record MayFlag (file : FileState) (end at : ℕ) : Type 0 where
+  pub within : at + 29 ≤ end
+  pub free : file.sealed (at + 28) ≡ false
+
+-- A cell of so many bytes ends at `end`, and nothing of it is loose or sealed.
+pub record IsLastCell (file : FileState) (end at total : ℕ) : Type 0 where
+  pub ends : at + total ≡ end
+  pub solid : IsSolid file
+  pub free : (k : ℕ) → at ≤ k → file.sealed k ≡ false
+
+abbrev pub PhaseMayDelete : Files → Phase → ℕ → Type 0
+PhaseMayDelete files Closed at = ⊥
+PhaseMayDelete files (Open opened) at = MayFlag (files opened.volume.file) opened.volume.end at
+
+-- A photo whose cell stands at this place can be deleted.
+unfoldable pub MayDelete : {D : Type 0} → (D → Files) → Copy D → ℕ → Type 0
+MayDelete files r at = PhaseMayDelete (files r.disk) r.phase at
+
+-- the photo of a place, if it has one, can be deleted
+abbrev pub MayDeletePlace : {D P : Type 0} → (D → Files) → Copy D → Place P → Type 0
+MayDeletePlace files r (place.Live needle) = MayDelete files r needle.at
+MayDeletePlace files r _ = Unit {0}
+
+abbrev pub with_cell : Stored → Pair → Cookie → List ℕ → Stored
+with_cell s pair cookie bytes = record s { cells = s.cells ++ live_cell s.end pair cookie bytes ∷ []; end = s.end + total_of_lem (length bytes) }
+
+abbrev pub without_cell : Stored → ℕ → Stored
+without_cell s at = record s { cells = with_flag at true s.cells }
+
+abbrev pub all_recorded : Stored → Stored
+all_recorded s = record s { records = length s.cells }

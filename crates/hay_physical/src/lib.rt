@@ -1,0 +1,18 @@
+//! One replica of a logical volume: its disk, and on it the current volume file, its index and the head.
+//!
+//! An open replica that no change has frozen stands for what its disk has: the cells of the volume file, where they end,
+//! and how many of them have a record in the index. A put adds a cell and answers the piece of its needle, a delete
+//! marks a cell, and a flush gives the cells without a record theirs. A change that fails freezes the replica, and in
+//! whatever a stop leaves an opening finds what stood before or what the change makes of it. A flush that fails freezes
+//! the index alone.
+//!
+//! It stands on `hay_open`, and by it on the files of a disk, and on `hay_map` for the needles that it gives out.
+#![tactic(auto)]
+
+mod fault;
+mod files;
+mod replica;
+mod state;
+
+pub use fault::ReplicaFault;
+pub use replica::Replica;

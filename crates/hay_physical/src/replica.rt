@@ -1,0 +1,343 @@
+//! A replica, closed or open.
+
+ghost use Rattle.std.specs.Prelude.{◌≡◌, ◌⊎◌, ◌≤◌, ◌<◌, ◌+◌, ℕ, List, Bool, true, false, length, Err, IfOk, IfErr, OnOk, OnErr, IsErrOf};
+ghost use Rattle.hay_needle.specs.Sizes.{total_of_lem};
+ghost use Rattle.hay_needle.specs.declared.needle.Cookie.{Cookie};
+ghost use Rattle.hay_needle.specs.declared.needle.Pair.{Pair};
+ghost use Rattle.hay_disk.specs.Counts.{Rose, IsNext};
+ghost use Rattle.hay_disk.specs.Disk.{IsSolid, MayLeave};
+ghost use Rattle.hay_volume.specs.Cells.{live_cell};
+ghost use Rattle.hay_map.specs.declared.place.Place.TheVariants as place;
+ghost use Rattle.hay_map.specs.Rows.{last_place};
+ghost use Rattle.hay_open.specs.Damage.{IsOpeningDamage};
+ghost use Rattle.hay_open.specs.Stored.{IsSealedCell, IsVoid, OpensAs, PlaceOf, Stored, last_cell};
+ghost use Rattle.hay_physical.specs.declared.state.Phase.TheVariants.{Closed};
+ghost use Rattle.hay_physical.specs.Copies.{IsFrozen, IsOpen, IsUp, capacity_of, contents_of, end_of, generation_of, is_frozen, is_stuck};
+ghost use Rattle.hay_physical.specs.Faults.{IsDeleteFault, IsFlushFault, IsPutFault};
+ghost use Rattle.hay_physical.specs.Replicas.{HasLive, Holds, IsIdle, IsLike, MayDelete, Stands, all_recorded, with_cell, without_cell, MayDeletePlace};
+
+use crate::fault::ReplicaFault;
+use crate::state::{OpenFiles, Phase};
+use hay_disk::Disk;
+use hay_map::{OpenCell, Sealed};
+use hay_needle::{Cookie, Pair, Super};
+use hay_open::{OpenFault, Opened, open_replica};
+use std::alloc::Global;
+use std::marker::Model;
+
+/// A replica of a logical volume.
+#[derive(Drop)]
+pub struct Replica<D: Disk> {
+    sup: Super,
+    disk: D,
+    phase: Phase,
+}
+
+impl<D: Disk> Model for Replica<D> {
+    ghost use Rattle.hay_physical.specs.Copies.{Copy};
+    ghost use Rattle.hay_physical.specs.Replicas.{IsReady};
+
+    ghost Value = { Copy D };
+
+    ghost view = { λ r. record { sup = r.sup; disk = r.disk; phase = r.phase } };
+
+    ghost invariant = { λ r. IsReady D.Tells D.files (record { sup = r.sup; disk = r.disk; phase = r.phase }) };
+}
+
+impl<D: Disk> Replica<D> {
+    /// A closed replica. The superblock gives the settings, the volume and the replica. The disk is not called.
+    pub fn new(disk: D, sup: Super) -> Replica<D>
+        ensures { result ≡ record { sup = sup; disk = disk; phase = Closed } }
+    {
+        Replica {
+            sup,
+            disk,
+            phase: Phase::Closed,
+        }
+    }
+
+    /// Opens the disk: a void one is formatted, and any other is read. Answers the places of its photos.
+    /// A refusal leaves the replica closed.
+    pub fn open(&mut self, alloc: Global) -> Result<Vec<OpenCell<D::Piece>>, OpenFault>
+        requires closed { self.old.phase ≡ Closed }
+        requires idle { D.Tells → IsIdle D.files self.old }
+
+        // A disk that is void or whole is opened as what it has, and the places are those of its photos.
+        ensures opened { D.Tells → (s : Stored) → OpensAs self.old.sup (contents_of D.files self.old.disk) s → IfOk result (λ cells.
+            Stands D.files self.new s
+            × ((pair : Pair) → PlaceOf D.Piece.Tells (last_cell s.cells pair) (last_place cells.items pair place.None))) }
+        // Behind a stop that is what the stop may have left.
+        ensures reopened { D.Tells → (stuck : Bool) (s t : Stored) → Holds D.files self.old stuck s t → IfOk result (λ cells. (found : Stored)
+            × (IsLike stuck s found ⊎ IsLike stuck t found) × Stands D.files self.new found
+            × ((pair : Pair) → PlaceOf D.Piece.Tells (last_cell found.cells pair) (last_place cells.items pair place.None))) }
+        ensures up { OnOk result (IsUp self.new) }
+        ensures stuck { OnOk result (is_stuck self.new ≡ false) }
+        // Whatever the disk had, each photo that was found can be deleted.
+        ensures can_delete { D.Tells → IfOk result (λ cells. (pair : Pair) → MayDeletePlace D.files self.new (last_place cells.items pair place.None)) }
+
+        // What a refusal leaves, and its cause.
+        ensures closed { OnErr result (self.new.phase ≡ Closed) }
+        ensures kept { D.Tells → (IsVoid (contents_of D.files self.old.disk) → ⊥) →
+            (n : ℕ) → ((D.files self.new.disk n).now ≡ (D.files self.old.disk n).now) × IsSolid (D.files self.new.disk n) }
+        ensures left { D.Tells → (stuck : Bool) (s t : Stored) → Holds D.files self.old stuck s t → OnErr result (Holds D.files self.new stuck s t) }
+        ensures damaged { D.Tells → (file at : ℕ) → result ≡ Err (OpenFault.Damaged file at) → IsOpeningDamage self.old.sup (contents_of D.files self.old.disk) file at }
+        ensures only { D.Tells → (s : Stored) → OpensAs self.old.sup (contents_of D.files self.old.disk) s →
+            (file at : ℕ) → result ≡ Err (OpenFault.Damaged file at) → ⊥ }
+        ensures whole { D.Tells → (stuck : Bool) (s t : Stored) → Holds D.files self.old stuck s t →
+            (file at : ℕ) → result ≡ Err (OpenFault.Damaged file at) → ⊥ }
+        ensures failed { IfErr result (λ fault. (faults : ℕ) → fault ≡ OpenFault.Failed faults →
+            Rose (D.fault_count self.old.disk) (D.fault_count self.new.disk) × (faults ≡ D.fault_count self.new.disk)) }
+        ensures counts { D.fault_count self.old.disk ≤ D.fault_count self.new.disk }
+        ensures fuses { D.fuse_count self.new.disk ≡ D.fuse_count self.old.disk }
+        ensures sup { self.new.sup ≡ self.old.sup }
+    {
+        let Opened {
+            head,
+            volume,
+            index,
+            cells,
+            records: _,
+            orphans: _,
+        } = open_replica(alloc, &mut self.disk, &self.sup)?;
+        self.phase = Phase::Open(OpenFiles {
+            head,
+            volume,
+            index,
+            frozen: false,
+        });
+        Ok(cells)
+    }
+
+    /// Whether the needle of a photo of this size and the end mark behind it fit into the volume file.
+    pub fn room(&self, size: u32) -> Result<(), ReplicaFault>
+        requires open { IsOpen self.now }
+        ensures full { let need = total_of_lem size in capacity_of self.now < end_of self.now + need + 8
+            → result ≡ Err (ReplicaFault.Full (end_of self.now) need (capacity_of self.now)) }
+        ensures fits { OnErr result (capacity_of self.now < end_of self.now + total_of_lem size + 8) }
+        ensures known { D.Tells → (s : Stored) → Stands D.files self.now s → (end_of self.now ≡ s.end) × (capacity_of self.now ≡ self.now.sup.settings.capacity) }
+    {
+        match &self.phase {
+            Phase::Open(files) => files.room(size),
+            Phase::Closed => unreachable!(),
+        }
+    }
+
+    /// Stores a photo, and answers its needle. Where the volume file has no room, that is found before all else.
+    /// `Failed` freezes the replica, and so does `NoMemory` once the cell was added.
+    pub fn put(
+        &mut self,
+        alloc: Global,
+        pair: Pair,
+        cookie: Cookie,
+        bytes: &[u8],
+    ) -> Result<Sealed<D::Piece>, ReplicaFault>
+        requires size { length bytes.now ≤ 1048576 }
+        requires open { IsOpen self.old }
+
+        ensures frozen { IsFrozen self.old → (result ≡ Err ReplicaFault.Frozen) × (self.new ≡ self.old) }
+        ensures thawed { IsErrOf result ReplicaFault.Frozen → IsFrozen self.old }
+        ensures full { let need = total_of_lem (length bytes.now) in IsUp self.old → capacity_of self.old < end_of self.old + need + 8
+            → (result ≡ Err (ReplicaFault.Full (end_of self.old) need (capacity_of self.old))) × (self.new ≡ self.old) }
+        ensures fits { (end need capacity : ℕ) → result ≡ Err (ReplicaFault.Full end need capacity)
+            → capacity_of self.old < end_of self.old + total_of_lem (length bytes.now) + 8 }
+
+        ensures stored { D.Tells → (s : Stored) → Stands D.files self.old s →
+            IfOk result (λ needle. Stands D.files self.new (with_cell s pair cookie bytes.now)
+            × IsSealedCell D.Piece.Tells (live_cell s.end pair cookie bytes.now) needle) }
+        ensures up { OnOk result (IsUp self.new) }
+
+        ensures can_delete { D.Tells → IfOk result (λ needle. MayDelete D.files self.new needle.at) }
+        ensures deletes { D.Tells → (place : ℕ) → MayDelete D.files self.old place → MayDelete D.files self.new place }
+
+        // A refusal leaves the photos, or a frozen replica, on whose disk the photo stands or not.
+        ensures refused { D.Tells → (s : Stored) → Stands D.files self.old s → OnErr result (Stands D.files self.new s
+            ⊎ (IsFrozen self.new × Holds D.files self.new (is_stuck self.old) s (with_cell s pair cookie bytes.now))) }
+        ensures kept { OnErr result (IsUp self.new → self.new.phase ≡ self.old.phase) }
+        ensures froze { IfErr result (λ fault. (faults : ℕ) → fault ≡ ReplicaFault.Failed faults → IsFrozen self.new) }
+        ensures open { IsOpen self.new }
+        ensures stuck { is_stuck self.new ≡ is_stuck self.old }
+
+        ensures causes { IfErr result (IsPutFault (D.fault_count self.old.disk) (D.fault_count self.new.disk)) }
+        ensures counts { D.fault_count self.old.disk ≤ D.fault_count self.new.disk }
+        ensures fuses { D.fuse_count self.new.disk ≡ D.fuse_count self.old.disk }
+        ensures sup { self.new.sup ≡ self.old.sup }
+    {
+        match &mut self.phase {
+            Phase::Open(files) => files.put(alloc, &mut self.disk, pair, cookie, bytes),
+            Phase::Closed => unreachable!(),
+        }
+    }
+
+    /// Deletes the photo whose cell stands at this place. It takes no memory. `Failed` freezes the replica.
+    pub fn delete(&mut self, at: u64) -> Result<(), ReplicaFault>
+        requires open { IsOpen self.old }
+        requires flag { D.Tells → IsUp self.old → MayDelete D.files self.old at }
+
+        ensures frozen { IsFrozen self.old → (result ≡ Err ReplicaFault.Frozen) × (self.new ≡ self.old) }
+        ensures thawed { IsErrOf result ReplicaFault.Frozen → IsFrozen self.old }
+
+        ensures deleted { D.Tells → (s : Stored) → Stands D.files self.old s → HasLive at s.cells →
+            OnOk result (Stands D.files self.new (without_cell s at)) }
+        ensures up { OnOk result (IsUp self.new) }
+
+        ensures deletes { D.Tells → (place : ℕ) → MayDelete D.files self.old place → MayDelete D.files self.new place }
+
+        // A refusal leaves a frozen replica, on whose disk the photo is deleted or not.
+        ensures refused { D.Tells → (s : Stored) → Stands D.files self.old s → HasLive at s.cells →
+            OnErr result (IsFrozen self.new × Holds D.files self.new (is_stuck self.old) s (without_cell s at)) }
+        ensures froze { OnErr result (IsFrozen self.new) }
+        ensures open { IsOpen self.new }
+        ensures stuck { is_stuck self.new ≡ is_stuck self.old }
+
+        ensures causes { IfErr result (IsDeleteFault (D.fault_count self.old.disk) (D.fault_count self.new.disk)) }
+        ensures counts { D.fault_count self.old.disk ≤ D.fault_count self.new.disk }
+        ensures fuses { D.fuse_count self.new.disk ≡ D.fuse_count self.old.disk }
+        ensures sup { self.new.sup ≡ self.old.sup }
+    {
+        match &mut self.phase {
+            Phase::Open(files) => files.delete(&mut self.disk, at),
+            Phase::Closed => unreachable!(),
+        }
+    }
+
+    /// Gives the cells without a record theirs, and answers how many these were. `Frozen` comes where the replica is
+    /// frozen or its index. `Failed` freezes the index alone.
+    pub fn flush(&mut self) -> Result<u64, ReplicaFault>
+        requires open { IsOpen self.old }
+
+        ensures frozen { IsFrozen self.old ⊎ (is_stuck self.old ≡ true) → (result ≡ Err ReplicaFault.Frozen) × (self.new ≡ self.old) }
+        ensures thawed { IsErrOf result ReplicaFault.Frozen → IsFrozen self.old ⊎ (is_stuck self.old ≡ true) }
+
+        ensures flushed { D.Tells → (s : Stored) → Stands D.files self.old s →
+            IfOk result (λ n. (n + s.records ≡ length s.cells) × Stands D.files self.new (all_recorded s)) }
+        ensures going { OnOk result (is_stuck self.new ≡ false) }
+        ensures up { OnOk result (IsUp self.new) }
+
+        ensures deletes { D.Tells → (place : ℕ) → MayDelete D.files self.old place → MayDelete D.files self.new place }
+
+        // A refusal leaves the photos and the records.
+        ensures refused { D.Tells → (s : Stored) → Stands D.files self.old s → OnErr result (Stands D.files self.new s) }
+        ensures stuck { IfErr result (λ fault. (faults : ℕ) → fault ≡ ReplicaFault.Failed faults → is_stuck self.new ≡ true) }
+        ensures stayed { IsErrOf result ReplicaFault.NoMemory → self.new.phase ≡ self.old.phase }
+        ensures open { IsOpen self.new }
+        ensures same { is_frozen self.new ≡ is_frozen self.old }
+
+        ensures causes { IfErr result (IsFlushFault (D.fault_count self.old.disk) (D.fault_count self.new.disk)) }
+        ensures counts { D.fault_count self.old.disk ≤ D.fault_count self.new.disk }
+        ensures fuses { D.fuse_count self.new.disk ≡ D.fuse_count self.old.disk }
+        ensures sup { self.new.sup ≡ self.old.sup }
+    {
+        match &mut self.phase {
+            Phase::Open(files) => files.flush(&mut self.disk),
+            Phase::Closed => unreachable!(),
+        }
+    }
+
+    /// Takes no more changes.
+    pub fn freeze(&mut self)
+        requires { IsOpen self.old }
+        ensures frozen { IsFrozen self.new }
+        ensures held { D.Tells → (s : Stored) → Stands D.files self.old s → Holds D.files self.new (is_stuck self.old) s s }
+        ensures holds { D.Tells → (stuck : Bool) (s t : Stored) → Holds D.files self.old stuck s t → Holds D.files self.new stuck s t }
+        ensures stuck { is_stuck self.new ≡ is_stuck self.old }
+        ensures disk { self.new.disk ≡ self.old.disk }
+        ensures sup { self.new.sup ≡ self.old.sup }
+    {
+        match &mut self.phase {
+            Phase::Open(files) => files.frozen = true,
+            Phase::Closed => unreachable!(),
+        }
+    }
+
+    /// Whether a change failed, or the replica was frozen. A closed one is not.
+    pub fn is_frozen(&self) -> bool
+        ensures { result ≡ is_frozen self.now }
+    {
+        match &self.phase {
+            Phase::Open(files) => files.frozen,
+            Phase::Closed => false,
+        }
+    }
+
+    /// Whether a flush failed. A closed replica has no index that is stuck.
+    pub fn is_stuck(&self) -> bool
+        ensures { result ≡ is_stuck self.now }
+    {
+        match &self.phase {
+            Phase::Open(files) => files.index.is_frozen(),
+            Phase::Closed => false,
+        }
+    }
+
+    /// The generation of the files.
+    pub fn generation(&self) -> u64
+        requires { IsOpen self.now }
+        ensures is { result ≡ generation_of self.now }
+        ensures known { D.Tells → (s : Stored) → Stands D.files self.now s → result ≡ s.generation }
+    {
+        match &self.phase {
+            Phase::Open(files) => files.head.current(),
+            Phase::Closed => unreachable!(),
+        }
+    }
+
+    /// Where the cells end.
+    pub fn end(&self) -> u64
+        requires { IsOpen self.now }
+        ensures is { result ≡ end_of self.now }
+        ensures known { D.Tells → (s : Stored) → Stands D.files self.now s → result ≡ s.end }
+    {
+        match &self.phase {
+            Phase::Open(files) => files.volume.end(),
+            Phase::Closed => unreachable!(),
+        }
+    }
+
+    /// How many calls of the disk have failed.
+    pub fn faults(&self) -> u64
+        ensures { result ≡ D.fault_count self.now.disk }
+    {
+        self.disk.faults()
+    }
+
+    /// Sets a fuse on the disk.
+    pub fn fuse(&mut self, calls: u64)
+        ensures stands { D.Tells → (s : Stored) → Stands D.files self.old s → Stands D.files self.new s }
+        ensures holds { D.Tells → (stuck : Bool) (s t : Stored) → Holds D.files self.old stuck s t → Holds D.files self.new stuck s t }
+        ensures deletes { D.Tells → (place : ℕ) → MayDelete D.files self.old place → MayDelete D.files self.new place }
+        ensures idle { D.Tells → IsIdle D.files self.old → IsIdle D.files self.new }
+        ensures same { self.new ≡ record self.old { disk = self.new.disk } }
+        ensures files { D.Tells → D.files self.new.disk ≡ D.files self.old.disk }
+        ensures faults { D.fault_count self.new.disk ≡ D.fault_count self.old.disk }
+        ensures fuses { IsNext (D.fuse_count self.old.disk) (D.fuse_count self.new.disk) }
+    {
+        self.disk.fuse(calls);
+    }
+
+    /// Stops the disk and starts it again: the replica is closed then. `pick` chooses what the stop leaves.
+    pub fn stop(&mut self, pick: u64)
+        ensures closed { self.new.phase ≡ Closed }
+        ensures idle { D.Tells → IsIdle D.files self.new }
+        ensures left { D.Tells → MayLeave (D.files self.old.disk) (contents_of D.files self.new.disk) }
+        ensures stood { D.Tells → (s : Stored) → Stands D.files self.old s → Holds D.files self.new (is_stuck self.old) s s }
+        ensures holds { D.Tells → (stuck : Bool) (s t : Stored) → Holds D.files self.old stuck s t → Holds D.files self.new stuck s t }
+        ensures faults { D.fault_count self.new.disk ≡ D.fault_count self.old.disk }
+        ensures fuses { D.fuse_count self.new.disk ≡ D.fuse_count self.old.disk }
+        ensures sup { self.new.sup ≡ self.old.sup }
+    {
+        self.disk.power_cycle(pick);
+        self.phase = Phase::Closed;
+    }
+
+    /// Gives the disk back.
+    pub fn into_disk(self) -> D
+        ensures { result ≡ self.disk }
+    {
+        let Replica {
+            sup: _,
+            disk,
+            phase: _,
+        } = self;
+        disk
+    }
+}

@@ -1,0 +1,61 @@
+//! Why replicas were passed over.
+ghost use Rattle.std.specs.Prelude.{◌≡◌, ◌<◌, ◌≤◌, ◌++◌, ◌∷◌, [], length};
+
+use arrayvec::ArrayVec;
+use hay_reply::Cause;
+use std::marker::Model;
+
+/// A replica that was passed over, and why.
+#[derive(Clone, Copy, Debug)]
+pub struct PassedReplica {
+    pub replica: u32,
+    pub cause: Cause,
+}
+
+impl Default for PassedReplica {
+    fn default() -> PassedReplica {
+        PassedReplica {
+            replica: 0,
+            cause: Cause::Arm { faults: 0 },
+        }
+    }
+}
+
+/// The replicas that were passed over, four at most, in the order in which they were tried. A clause sees a list.
+#[derive(Drop)]
+pub struct Causes {
+    passed: ArrayVec<PassedReplica, 4>,
+}
+
+impl Model for Causes {
+    ghost use Rattle.std.specs.Prelude.{List};
+    ghost use Rattle.hay_reader.specs.declared.causes.PassedReplica.{PassedReplica};
+
+    ghost Value = { List PassedReplica };
+
+    ghost view = { λ c. c.passed.items };
+}
+
+impl Causes {
+    pub(crate) fn new() -> Causes
+        ensures { result ≡ [] }
+    {
+        Causes {
+            passed: ArrayVec::new(),
+        }
+    }
+
+    pub(crate) fn push(&mut self, passed: PassedReplica)
+        requires { length self.old < 4 }
+        ensures { self.new ≡ self.old ++ passed ∷ [] }
+    {
+        self.passed.push(passed);
+    }
+
+    pub fn as_slice(&self) -> &[PassedReplica]
+        ensures is { result.now ≡ self.now }
+        ensures most { length result.now ≤ 4 }
+    {
+        self.passed.as_slice()
+    }
+}

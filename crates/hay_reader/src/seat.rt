@@ -1,0 +1,158 @@
+//! The seat of a lane that reads.
+ghost use Rattle.std.specs.Prelude.{◌≡◌, ◌<◌, ◌≤◌, ◌^◌, ◌⊎◌, [], true, ℕ, List, length, IfOk, IfErr};
+ghost use Rattle.std.specs.List.{AllZip};
+ghost use Rattle.std.specs.Vec.{vec_capacity};
+ghost use Rattle.hay_needle.specs.declared.needle.Pair.{Pair};
+ghost use Rattle.hay_needle.specs.declared.needle.Outcome.{Outcome};
+ghost use Rattle.hay_map.specs.Places.{PlaceMeans};
+ghost use Rattle.hay_reader.specs.Causes.{IsDamage};
+ghost use Rattle.hay_reader.specs.Tried.{Tells, FailsBy, PutsOut, PlaceLets};
+ghost use Rattle.hay_reader.specs.Shown.{reply_at, Answers, HasCauses, NoArm, HasBytes};
+
+use crate::trial::{Shown, try_place};
+use crate::{Causes, PassedReplica};
+use hay_base::NoMemory;
+use hay_disk::{Arm, Piece};
+use hay_map::{Place, Row};
+use hay_needle::Cookie;
+use hay_reply::Cause;
+use std::alloc::Global;
+use std::marker::Model;
+
+/// What a read found. A replica is named by its number in the row.
+#[derive(Drop)]
+pub enum ReadReply {
+    /// The photo, whose bytes were put out.
+    Photo { replica: u32 },
+    Gone { replica: u32 },
+    WrongCookie { replica: u32 },
+    /// Every replica was passed over.
+    Unreadable { causes: Causes },
+}
+
+/// A lane's arm, and a buffer for the longest needle. A clause sees the arm.
+#[derive(Drop)]
+pub struct LaneSeat<A> {
+    arm: A,
+    needle: Vec<u8>,
+}
+
+impl<A> Model for LaneSeat<A> {
+    ghost use Rattle.std.specs.Prelude.{◌≡◌, length};
+
+    ghost Value = { A };
+
+    ghost view = { λ s. s.arm };
+
+    ghost invariant = { λ s. length s.needle.items ≡ 1048624 };
+}
+
+/// The longest needle.
+const MAX_NEEDLE: usize = 1_048_624;
+
+impl<A> LaneSeat<A> {
+    /// The seat of this arm. `NoMemory` gives the arm back.
+    pub fn new(alloc: Global, arm: A) -> Result<LaneSeat<A>, (A, NoMemory)>
+        ensures ok { IfOk result (λ seat. seat ≡ arm) }
+        ensures err { IfErr result (λ back. back.0 ≡ arm) }
+    {
+        match vec![in alloc; 0u8; MAX_NEEDLE] {
+            Ok(needle) => Ok(LaneSeat { arm, needle }),
+            Err(_) => Err((arm, NoMemory)),
+        }
+    }
+
+    /// The arm.
+    pub fn into_arm(self) -> A
+        ensures { result ≡ self }
+    {
+        let LaneSeat { arm, needle: _ } = self;
+        arm
+    }
+
+    /// How many fetches of the arm have failed.
+    pub fn faults<P: Piece>(&self) -> u64
+    where
+        A: Arm<P>,
+        ensures { result ≡ A.fault_count self.now }
+    {
+        self.arm.faults()
+    }
+
+    /// Shows the photo of the row's pair: tries the replicas in turn, from `start` on, and puts the photo's bytes out. It takes no
+    /// memory, as `out` has room for the largest photo.
+    pub fn show<P: Piece>(
+        &mut self,
+        row: &Row<P>,
+        cookie: Cookie,
+        start: usize,
+        out: &mut Vec<u8>,
+    ) -> ReadReply
+    where
+        A: Arm<P>,
+        requires start { start < length row.now }
+        requires empty { out.old.items ≡ [] }
+        requires room { 1048576 ≤ vec_capacity out.old }
+
+        // What is shown is what the replica has. A replica is passed over only for a failure of the arm.
+        ensures shown { (pair : Pair) (outcomes : List Outcome) → AllZip (PlaceMeans P.Tells pair) row.now outcomes → Answers start cookie (A.fault_count self.old) (A.fault_count self.new) outcomes out.new.items result }
+
+        // Where all are passed over, each has its cause.
+        ensures causes { HasCauses start row.now (A.fault_count self.old) (A.fault_count self.new) result }
+        ensures sure { A.is_sure self.old ≡ true → (A.is_sure self.new ≡ true) × NoArm result }
+        ensures later { A.fault_count self.old ≤ A.fault_count self.new }
+        ensures bytes { HasBytes out.new.items result }
+        ensures room { vec_capacity out.old ≤ vec_capacity out.new }
+    {
+        let mut causes = Causes::new();
+        for step in 0..row.len() {
+            let replica = (start + step) % row.len();
+            match self.try_replica(row.place(replica), cookie, out) {
+                Ok(shown) => return reply_of(shown, replica as u32),
+                Err(cause) => causes.push(PassedReplica {
+                    replica: replica as u32,
+                    cause,
+                }),
+            }
+        }
+        ReadReply::Unreadable { causes }
+    }
+
+    fn try_replica<P: Piece>(
+        &mut self,
+        place: &Place<P>,
+        cookie: Cookie,
+        out: &mut Vec<u8>,
+    ) -> Result<Shown, Cause>
+    where
+        A: Arm<P>,
+        requires empty { out.old.items ≡ [] }
+        requires room { 1048576 ≤ vec_capacity out.old }
+        ensures tells { (pair : Pair) (what : Outcome) → PlaceMeans P.Tells pair place.now what → Tells cookie what out.new.items result }
+        ensures lets { PlaceLets place.now result }
+        ensures cause { IfErr result (FailsBy (A.fault_count self.old) (A.fault_count self.new)) }
+        ensures later { A.fault_count self.old ≤ A.fault_count self.new }
+        ensures most { (A.fault_count self.new ≡ A.fault_count self.old) ⊎ (A.fault_count self.new < 2 ^ 64) }
+        ensures sure { A.is_sure self.old ≡ true → (A.is_sure self.new ≡ true) × IfErr result IsDamage }
+        ensures bytes { PutsOut out.new.items result }
+        ensures room { vec_capacity out.old ≤ vec_capacity out.new }
+    {
+        try_place(
+            &mut self.arm,
+            self.needle.as_mut_slice(),
+            place,
+            cookie,
+            out,
+        )
+    }
+}
+
+fn reply_of(shown: Shown, replica: u32) -> ReadReply
+    ensures { result ≡ reply_at replica shown }
+{
+    match shown {
+        Shown::Photo => ReadReply::Photo { replica },
+        Shown::Gone => ReadReply::Gone { replica },
+        Shown::WrongCookie => ReadReply::WrongCookie { replica },
+    }
+}

@@ -1,0 +1,114 @@
+//! The try of one replica.
+ghost use Rattle.std.specs.Prelude.{◌≡◌, ◌≤◌, ◌<◌, ◌+◌, ◌^◌, ◌⊎◌, ◌++◌, [], true, length, vec_len, IfErr, IfOk};
+ghost use Rattle.std.specs.Vec.{vec_capacity};
+ghost use Rattle.hay_disk.specs.Counts.{IsCounted};
+ghost use Rattle.hay_needle.specs.declared.needle.Needle.{Needle};
+ghost use Rattle.hay_needle.specs.declared.needle.Outcome.{Outcome};
+ghost use Rattle.hay_needle.specs.declared.needle.Outcome.TheVariants as outcome_is;
+ghost use Rattle.hay_needle.specs.declared.needle.Pair.{Pair};
+ghost use Rattle.hay_needle.specs.declared.needle.Photo.{Photo};
+ghost use Rattle.hay_needle.specs.Needle.{BeginsWithNeedle};
+ghost use Rattle.hay_map.specs.Places.{PlaceMeans, IsSealed};
+ghost use Rattle.hay_reader.specs.Causes.{IsDamage, IsDamageAt};
+ghost use Rattle.hay_reader.specs.Tried.{Tells, FailsBy, PutsOut, PlaceLets, NeedleLets, IsRead};
+
+use hay_disk::{Arm, Failed, Piece};
+use hay_map::{Place, Sealed};
+use hay_needle::{Cookie, read_needle, total_of};
+use hay_reply::Cause;
+
+/// What a replica showed.
+#[derive(Clone, Copy, Debug)]
+pub enum Shown {
+    Photo,
+    Gone,
+    WrongCookie,
+}
+
+/// Tries the replica of this place. The buffer is as long as the longest needle.
+pub fn try_place<P: Piece, A: Arm<P>>(
+    arm: &mut A,
+    buffer: &mut [u8],
+    place: &Place<P>,
+    cookie: Cookie,
+    out: &mut Vec<u8>,
+) -> Result<Shown, Cause>
+    requires buffer { length buffer.old ≡ 1048624 }
+    requires empty { out.old.items ≡ [] }
+    requires room { 1048576 ≤ vec_capacity out.old }
+    ensures tells { (pair : Pair) (what : Outcome) → PlaceMeans P.Tells pair place.now what → Tells cookie what out.new.items result }
+    ensures lets { PlaceLets place.now result }
+    ensures cause { IfErr result (FailsBy (A.fault_count arm.old) (A.fault_count arm.new)) }
+    ensures later { A.fault_count arm.old ≤ A.fault_count arm.new }
+    ensures most { (A.fault_count arm.new ≡ A.fault_count arm.old) ⊎ (A.fault_count arm.new < 2 ^ 64) }
+    ensures sure { A.is_sure arm.old ≡ true → (A.is_sure arm.new ≡ true) × IfErr result IsDamage }
+    ensures bytes { PutsOut out.new.items result }
+    ensures room { vec_capacity out.old ≤ vec_capacity out.new }
+{
+    match place {
+        Place::Live(needle) => try_needle(arm, buffer, needle, cookie, out),
+        Place::None | Place::Gone => Ok(Shown::Gone),
+    }
+}
+
+fn try_needle<P: Piece, A: Arm<P>>(
+    arm: &mut A,
+    buffer: &mut [u8],
+    needle: &Sealed<P>,
+    cookie: Cookie,
+    out: &mut Vec<u8>,
+) -> Result<Shown, Cause>
+    requires buffer { length buffer.old ≡ 1048624 }
+    requires empty { out.old.items ≡ [] }
+    requires room { 1048576 ≤ vec_capacity out.old }
+    ensures tells { (pair : Pair) (photo : Photo) → IsSealed P.Tells pair photo needle.now → Tells cookie (outcome_is.Photo photo) out.new.items result }
+    ensures lets { NeedleLets needle.now result }
+    ensures cause { IfErr result (FailsBy (A.fault_count arm.old) (A.fault_count arm.new)) }
+    ensures later { A.fault_count arm.old ≤ A.fault_count arm.new }
+    ensures most { A.fault_count arm.new < 2 ^ 64 }
+    ensures sure { A.is_sure arm.old ≡ true → (A.is_sure arm.new ≡ true) × IfErr result IsDamage }
+    ensures bytes { PutsOut out.new.items result }
+    ensures room { vec_capacity out.old ≤ vec_capacity out.new }
+{
+    let bytes = &mut buffer[..total_of(needle.size()) as usize];
+    let fetched = needle.fetch(arm, bytes);
+    let faults = arm.faults();
+    match fetched {
+        Ok(count) => read_photo(&bytes[..count], needle.at(), cookie, out),
+        Err(Failed) => Err(Cause::Arm { faults }),
+    }
+}
+
+// Reads the needle that was fetched.
+fn read_photo(bytes: &[u8], at: u64, cookie: Cookie, out: &mut Vec<u8>) -> Result<Shown, Cause>
+    requires empty { out.old.items ≡ [] }
+    requires room { 1048576 ≤ vec_capacity out.old }
+    ensures tells { (needle : Needle) → BeginsWithNeedle bytes.now needle → Tells cookie (outcome_is.Photo needle.photo) out.new.items result }
+    ensures damage { IfErr result (IsDamageAt at) }
+    ensures shown { IfOk result IsRead }
+    ensures bytes { PutsOut out.new.items result }
+    ensures room { vec_capacity out.old ≤ vec_capacity out.new }
+{
+    match read_needle(bytes) {
+        Ok(needle) => {
+            if needle.cookie.0 == cookie.0 {
+                put_out(needle.bytes, out);
+                Ok(Shown::Photo)
+            } else {
+                Ok(Shown::WrongCookie)
+            }
+        }
+        Err(_) => Err(Cause::Damage { at }),
+    }
+}
+
+// Puts bytes out, for which there is room.
+fn put_out(bytes: &[u8], out: &mut Vec<u8>)
+    requires empty { out.old.items ≡ [] }
+    requires room { length bytes.now ≤ vec_capacity out.old }
+    ensures bytes { out.new.items ≡ bytes.now }
+    ensures room { vec_capacity out.old ≤ vec_capacity out.new }
+{
+    // There is room, so that no memory is wanted.
+    let _ = out.extend_from_slice(bytes);
+}
