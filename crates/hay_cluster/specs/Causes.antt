@@ -1,30 +1,70 @@
--- What an answer and a fault say of the count of a disk's faults, from before the call to behind it.
-use Rattle.std.specs.Prelude.{◌≡◌, ℕ}
+-- What an answer and a fault say of the counts of faults, from before the call to behind it.
+use Rattle.std.specs.Prelude.{◌≡◌, ◌<◌, ℕ, List, Some, slice_index}
 use Rattle.std.specs.List.{AllByRecursion}
+use Rattle.hay_needle.specs.declared.settings.Settings.{Settings}
 use Rattle.hay_disk.specs.Counts.{Rose}
 use Rattle.hay_reply.specs.declared.Cause.{Cause}
-use Rattle.hay_reply.specs.declared.Cause.TheVariants.{Disk}
+use Rattle.hay_reply.specs.declared.Cause.TheVariants.{Arm, Disk}
 use Rattle.hay_reply.specs.declared.Reply.{Reply}
 use Rattle.hay_reply.specs.declared.Reply.TheVariants as reply
+use Rattle.hay_legal.specs.Known.{CameUp, disk_count, replica_on, slot_of}
+use Rattle.hay_logical.specs.declared.fault.LogicalFault.{LogicalFault}
+use Rattle.hay_logical.specs.declared.fault.LogicalFault.TheVariants as refusal
 use Rattle.hay_cluster.specs.declared.fault.ClusterFault.{ClusterFault}
 use Rattle.hay_cluster.specs.declared.fault.ClusterFault.TheVariants as fault
 
--- the count rose, to this
-abbrev pub IsRisen : ℕ → ℕ → ℕ → Type 0
-IsRisen before after count = Rose before after × (count ≡ after)
+-- The counts of the disks' faults by slot, and those of the arms' by lane.
+pub record Counts : Type 0 where
+  pub disks : List ℕ
+  pub arms : List ℕ
 
-abbrev pub CauseIsRisen : ℕ → ℕ → Cause → Type 0
-CauseIsRisen before after (Disk count) = IsRisen before after count
-CauseIsRisen before after _ = Unit {0}
+-- the count of a slot's disk rose, to this
+abbrev pub RoseIn : ℕ → List ℕ → List ℕ → ℕ → Type 0
+RoseIn slot before after count = Rose (slice_index before slot) (slice_index after slot) × (count ≡ slice_index after slot)
 
--- A reply tells of a failure of the disk only where the count rose, and prints the count.
-abbrev pub HasCause : ℕ → ℕ → Reply → Type 0
-HasCause before after (reply.Failed volume machine count) = IsRisen before after count
-HasCause before after (reply.Unreadable volume front rows causes) = AllByRecursion (λ passed. CauseIsRisen before after passed.cause) causes
-HasCause before after _ = Unit {0}
+-- so did that of a replica's disk on this machine
+pub record RoseAt (settings : Settings) (v m : ℕ) (before after : List ℕ) (count : ℕ) : Type 0 where
+  pub replica : ℕ
+  pub there : replica_on settings v m ≡ Some replica
+  pub rose : Rose (slice_index before (slot_of settings v replica)) (slice_index after (slot_of settings v replica))
+  pub told : count ≡ slice_index after (slot_of settings v replica)
 
--- So does an opening. The shelf has no part in what is done to a disk.
-abbrev pub HasFaultCause : ℕ → ℕ → ClusterFault → Type 0
-HasFaultCause before after (fault.Shelf count) = ⊥
-HasFaultCause before after (fault.Failed slot count) = (slot ≡ 1) × IsRisen before after count
-HasFaultCause before after _ = Unit {0}
+-- a printed count came up while a replica was passed over
+abbrev pub CauseCameUp : Settings → ℕ → ℕ → Counts → Counts → ℕ → Cause → Type 0
+CauseCameUp settings lane v before after m (Arm count) = CameUp (slice_index before.arms lane) count (slice_index after.arms lane)
+CauseCameUp settings lane v before after m (Disk count) = RoseAt settings v m before.disks after.disks count
+CauseCameUp settings lane v before after m _ = Unit {0}
+
+-- A reply tells of a failure only where the count that it prints rose.
+abbrev pub HasCause : Settings → ℕ → Counts → Counts → Reply → Type 0
+HasCause settings lane before after (reply.Failed v m count) = RoseAt settings v m before.disks after.disks count
+HasCause settings lane before after (reply.FailedDir count) = RoseIn 0 before.disks after.disks count
+HasCause settings lane before after (reply.Unreadable v front rows causes) =
+    AllByRecursion (λ passed. CauseCameUp settings lane v before after passed.machine passed.cause) causes
+HasCause settings lane before after _ = Unit {0}
+
+-- So does an opening. The shelf has no part in what is done to disks.
+abbrev pub HasFaultCause : Settings → List ℕ → List ℕ → ClusterFault → Type 0
+HasFaultCause settings before after (fault.Shelf count) = ⊥
+HasFaultCause settings before after (fault.Failed slot count) =
+    (slot < disk_count settings) × Rose (slice_index before slot) (slice_index after slot) × (count ≡ slice_index after slot)
+HasFaultCause settings before after (fault.Damaged slot file at) = Unit {0}
+HasFaultCause settings before after fault.NoMemory = Unit {0}
+
+-- WHAT A VOLUME'S REFUSALS TELL
+
+abbrev pub IsPutCause : Settings → ℕ → List ℕ → List ℕ → LogicalFault → Type 0
+IsPutCause settings v before after (refusal.Failed m count) = RoseAt settings v m before after count
+IsPutCause settings v before after (refusal.Gone front) = ⊥
+IsPutCause settings v before after _ = Unit {0}
+
+abbrev pub IsDeleteCause : Settings → ℕ → List ℕ → List ℕ → LogicalFault → Type 0
+IsDeleteCause settings v before after (refusal.Failed m count) = RoseAt settings v m before after count
+IsDeleteCause settings v before after (refusal.Full m end need capacity) = ⊥
+IsDeleteCause settings v before after _ = Unit {0}
+
+abbrev pub IsFlushCause : Settings → ℕ → List ℕ → List ℕ → LogicalFault → Type 0
+IsFlushCause settings v before after (refusal.Failed m count) = RoseAt settings v m before after count
+IsFlushCause settings v before after (refusal.Full m end need capacity) = ⊥
+IsFlushCause settings v before after (refusal.Gone front) = ⊥
+IsFlushCause settings v before after _ = Unit {0}

@@ -1,6 +1,11 @@
 pub mod Causes
-pub mod Contents
-pub mod Notes
+pub mod Changes
+pub mod Faults
+pub mod Lacks
+pub mod Opening
 pub mod Outside
-pub mod PairPlaces
+pub mod Parts
+pub mod Puts
+pub mod Reads
 pub mod State
+pub mod Store

@@ -1,8 +1,15 @@
--- What of a shelf a store stands on, and what of it lies aside.
-use Rattle.std.specs.Prelude.{ℕ, List, map}
+-- What of a shelf a store stands on.
+use Rattle.std.specs.Prelude.{◌≡◌, ◌⊎◌, ◌≤◌, ◌<◌, ℕ, List, []}
+use Rattle.hay_needle.specs.declared.settings.Settings.{Settings}
 use Rattle.hay_disk.specs.Shelf.{HeldDisk, HeldArm}
-use Rattle.hay_legal.specs.Known.{all_lanes}
-use Rattle.hay_legal.specs.Stands.{Outside}
+use Rattle.hay_mount.specs.Mounts.{LeavesAsRead}
+use Rattle.hay_legal.specs.declared.known.HomeRow.{HomeRow}
+use Rattle.hay_legal.specs.Known.{slot_of}
+use Rattle.hay_legal.specs.Stands.{Contents, Found, Outside}
+use Rattle.hay_open.specs.Damage.{IsOpeningDamage}
+use Rattle.hay_dirfile.specs.Journal.{IsDamagedJournal}
+use Rattle.hay_directory.specs.Rows.{OpensRows, journal_super}
+use Rattle.hay_logical.specs.Fits.{IsReplica, super_of}
 
 -- the disks by slot, with their counts, and the arms' counts by lane
 abbrev pub outside_of : (ℕ → HeldDisk) → (ℕ → HeldArm) → Outside
@@ -13,15 +20,29 @@ outside_of disks arms = record {
   arms = λ lane. (arms lane).fault_count;
 }
 
--- The counts of what is not used yet: the Directory's disk and the arms.
-pub record Aside : Type 0 where
-  pub faults : ℕ
-  pub fuses : ℕ
-  pub arms : List ℕ
+-- what reads of a slot's disk give
+abbrev pub read_of : HeldDisk → Contents
+read_of held file = (held.files file).now
 
-abbrev pub aside_of : (ℕ → HeldDisk) → (ℕ → HeldArm) → Aside
-aside_of disks arms = record {
-  faults = (disks 0).fault_count;
-  fuses = (disks 0).fuse_count;
-  arms = map (λ lane. (arms lane).fault_count) all_lanes;
-}
+-- A disk whose file 0 is empty was never formatted.
+abbrev pub IsVoid : Contents → Type 0
+IsVoid contents = contents 0 ≡ []
+
+-- What a refused opening leaves of a slot's disk: it was void; it is as it was; or a stop leaves what reads gave of it.
+abbrev pub IsKept : HeldDisk → HeldDisk → Type 0
+IsKept old new = IsVoid (read_of old) ⊎ (new.files ≡ old.files) ⊎ LeavesAsRead old.files new.files
+
+-- The counts of a slot's disk behind an opening: its fuses are those from before.
+pub record CountsOn (old : HeldDisk) (faults fuses : ℕ) : Type 0 where
+  pub faults_rise : old.fault_count ≤ faults
+  pub fuses_are : fuses ≡ old.fuse_count
+
+-- What an opening names of the disk in this slot: the first place, of all that it reads, that is not of the format.
+pub record IsDamagedAt (settings : Settings) (slot file at : ℕ) (contents : Contents) : Type 0 where
+  pub journal : slot ≡ 0 → (file ≡ 0) × IsDamagedJournal (journal_super settings) (contents 0) at
+  pub replica : (v j : ℕ) → v < settings.volumes → j < settings.replicas → slot ≡ slot_of settings v j → IsOpeningDamage (super_of settings v j) contents file at
+
+-- The disk in this slot has neither rows nor a replica of these settings, and is not void.
+pub record IsNotWhole (settings : Settings) (slot : ℕ) (contents : Contents) : Type 0 where
+  pub directory : slot ≡ 0 → (rows : List HomeRow) → OpensRows settings contents rows → ⊥
+  pub replica : (v j : ℕ) → v < settings.volumes → j < settings.replicas → slot ≡ slot_of settings v j → (found : Found) → IsReplica settings v j contents found → ⊥

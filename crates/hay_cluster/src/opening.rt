@@ -1,194 +1,404 @@
-//! Opening the disk of the only replica.
-ghost use Rattle.std.specs.Prelude.{◌≡◌, ◌≤◌, ℕ, List, [], length, take, Err, IfOk, IfErr, OnOk};
-ghost use Rattle.hay_needle.specs.declared.needle.Cell.{Cell};
-ghost use Rattle.hay_needle.specs.Needle.{needle_magic};
-ghost use Rattle.hay_needle.specs.Super.{super_bytes};
-ghost use Rattle.hay_disk.specs.Disk.{IsFree, IsSolid};
-ghost use Rattle.hay_disk.specs.Gate.{IsGate};
+//! How a store is opened, restarted and closed.
+ghost use Rattle.std.specs.Prelude.{◌≡◌, ◌⊎◌, ◌++◌, ◌∷◌, [], ◌≤◌, ◌<◌, ◌+◌, ◌*◌, ℕ, List, None, length, map, reverse, slice_index, Err, IfOk, OnOk, OnErr, IfErr};
+ghost use Rattle.std.specs.List.{AllByRecursion, AllZip};
+ghost use Rattle.std.specs.Vec.{vec_capacity};
+ghost use Rattle.hay_disk.specs.Counts.{Rose};
+ghost use Rattle.hay_mount.specs.Mounts.{AreIn, AreOut, AreArmsIn, AreArmsOut, InOrder, IsArmBack, IsMountedArm, IsMountedDisk, IsPutBack, SameFrom};
+ghost use Rattle.hay_legal.specs.declared.known.Known.{Known};
+ghost use Rattle.hay_legal.specs.Known.{NoneFalls, disk_count};
+ghost use Rattle.hay_legal.specs.Known as known;
+ghost use Rattle.hay_legal.specs.Restarts.{IsRestarted};
+ghost use Rattle.hay_legal.specs.Statuses.{IsOpened};
+ghost use Rattle.hay_directory.specs.Rows.{OpensRows};
+ghost use Rattle.hay_directory.specs.State as directory;
+ghost use Rattle.hay_logical.specs.Fits.{IsReplica};
+ghost use Rattle.hay_logical.specs.Stands.{IsIdle};
+ghost use Rattle.hay_logical.specs.Volumes.{IsClosed, IsOfSettings};
 ghost use Rattle.hay_cluster.specs.Causes.{HasFaultCause};
-ghost use Rattle.hay_cluster.specs.Contents.{HasSuperFault, HasVolume, IsNotWhole, IsOpeningDamage, head_rows};
-ghost use Rattle.hay_cluster.specs.Contents as contents;
-ghost use Rattle.hay_cluster.specs.PairPlaces.{place_at, last_spot};
-ghost use Rattle.hay_cluster.specs.State.{FindsVolume, MakesVolume};
+ghost use Rattle.hay_cluster.specs.Outside.{CountsOn, IsDamagedAt, IsKept, IsNotWhole, outside_of, read_of};
+ghost use Rattle.hay_cluster.specs.Opening.{FillsVolume, Gathers, IsAtRest, IsEmptyVolume, MovesDirectory, MovesVolume, OpensDirectory, OpensParts, OpensVolume, RefusesDirectory, RefusesParts, RefusesVolume, RefusesVolumes, StopsDirectory, StopsVolume};
+ghost use Rattle.hay_cluster.specs.State.{LeftAt, Stands};
+ghost use Rattle.hay_cluster.specs.Store.{IsBuilt, IsShaped, IsUp, IsVolumeOf, disks_of, volume_disks};
 
-use crate::fault::ClusterFault;
-use crate::places::Places;
-use hay_disk::{Disk, DiskFault, Failed};
-use hay_needle::{CellHead, FileKind, Pair, SUPER_LEN, Settings, Super, read_super};
-use hay_volume::{CellFault, VolumeFile};
+use crate::cluster::Cluster;
+use crate::fault::{ClusterFault, no_directory, not_mounted, not_opened};
+use hay_base::{Listed, NoMemory};
+use hay_directory::Directory;
+use hay_disk::{Arm, Disk, Shelf};
+use hay_logical::{Logical, Unopened};
+use hay_mount::{Mounted, mount, unmount};
+use hay_needle::Settings;
+use hay_reader::LaneSeat;
+use hay_reply::Note;
 use std::alloc::Global;
+use std_alloc::room::may_hold;
 
-/// The slot of the only replica's disk.
-pub const SLOT: u32 = 1;
+impl<D: Disk, A: Arm<D::Piece>> Cluster<D, A> {
+    /// Opens a store on the disks of a shelf, from slot 0 upwards: void disks are formatted, and any others must be of
+    /// these settings. A refusal gives the disks and arms back.
+    pub fn open<H: Shelf<Disk = D, Arm = A>>(
+        alloc: Global,
+        settings: Settings,
+        shelf: &mut H,
+    ) -> Result<Cluster<D, A>, ClusterFault>
+        requires built { IsBuilt settings }
+        requires disks_in { AreIn (disk_count settings) (H.disks shelf.old) }
+        requires arms_in { AreArmsIn 8 (H.arms shelf.old) }
 
-/// The number of the volume file on its disk.
-pub const VOLUME_FILE: u32 = 1;
+        // The store stands for what the disks have, where they have it wholly.
+        ensures opened { D.Tells → (k : Known) →
+            IsOpened (IsReplica settings) (OpensRows settings) settings (outside_of (H.disks shelf.old) (H.arms shelf.old)) k →
+            IfOk result (λ store. (t : Known)
+            × IsOpened (IsReplica settings) (OpensRows settings) settings (outside_of (H.disks shelf.old) (H.arms shelf.old)) t
+            × Stands D.files D.Piece.Tells D.fault_count D.fuse_count A.fault_count store t) }
+        ensures settings { IfOk result (λ store. store.settings ≡ settings) }
+        ensures up { IfOk result IsUp }
+        ensures counts { IfOk result (λ store. (slot : ℕ) → slot < disk_count settings →
+            CountsOn (H.disks shelf.old slot) (slice_index (map D.fault_count (disks_of store)) slot) (slice_index (map D.fuse_count (disks_of store)) slot)) }
+        ensures arm_counts { IfOk result (λ store. (lane : ℕ) → lane < 8 →
+            slice_index (map A.fault_count store.arms) lane ≡ (H.arms shelf.old lane).fault_count) }
+        ensures disks_out { OnOk result (AreOut (disk_count settings) (H.disks shelf.new)) }
+        ensures arms_out { OnOk result (AreArmsOut 8 (H.arms shelf.new)) }
 
-/// A volume file, and the places of its cells.
-#[derive(Drop)]
-pub struct Opened {
-    pub volume: VolumeFile,
-    pub places: Places,
-}
+        // What a refusal leaves, and its cause.
+        ensures kept { D.Tells → OnErr result ((slot : ℕ) → slot < disk_count settings → IsKept (H.disks shelf.old slot) (H.disks shelf.new slot)) }
+        ensures disks_back { OnErr result (AreIn (disk_count settings) (H.disks shelf.new)) }
+        ensures arms_back { OnErr result (AreArmsIn 8 (H.arms shelf.new)) }
+        ensures back_counts { OnErr result ((slot : ℕ) → slot < disk_count settings →
+            CountsOn (H.disks shelf.old slot) (H.disks shelf.new slot).fault_count (H.disks shelf.new slot).fuse_count) }
+        ensures back_arm_counts { OnErr result ((lane : ℕ) → lane < 8 → (H.arms shelf.new lane).fault_count ≡ (H.arms shelf.old lane).fault_count) }
+        ensures shelf { IfErr result (λ fault. (faults : ℕ) → fault ≡ ClusterFault.Shelf faults →
+            Rose (H.fault_count shelf.old) (H.fault_count shelf.new) × (faults ≡ H.fault_count shelf.new)) }
+        ensures failed { IfErr result (λ fault. (slot faults : ℕ) → fault ≡ ClusterFault.Failed slot faults → (slot < disk_count settings)
+            × Rose (H.disks shelf.old slot).fault_count (H.disks shelf.new slot).fault_count × (faults ≡ (H.disks shelf.new slot).fault_count)) }
+        ensures damaged { D.Tells → (slot file at : ℕ) → result ≡ Err (ClusterFault.Damaged slot file at) →
+            (slot < disk_count settings) × IsNotWhole settings slot (read_of (H.disks shelf.old slot)) × IsDamagedAt settings slot file at (read_of (H.disks shelf.old slot)) }
 
-/// Opens a disk: a void one is formatted, wholly on the disk, and any other is read.
-pub fn open_disk<D: Disk>(
-    alloc: Global,
-    disk: &mut D,
-    settings: &Settings,
-) -> Result<Opened, ClusterFault>
-    requires solid { D.Tells → IsSolid (D.files disk.old 1) }
-    requires free { D.Tells → IsFree (D.files disk.old 1) }
-    ensures volume { IfOk result (λ opened. opened.volume ≡ record { file = 1; end = opened.volume.end; capacity = settings.now.capacity }) }
-    ensures opened { D.Tells → IfOk result (λ opened.
-        MakesVolume settings.now (D.files disk.old 1) (D.files disk.new 1) opened.volume.end opened.places) }
-    ensures damaged { D.Tells → (slot file at : ℕ) → result ≡ Err (ClusterFault.Damaged slot file at) →
-        (slot ≡ 1) × (file ≡ 1) × IsOpeningDamage settings.now (D.files disk.old 1).now at }
-    ensures not_whole { D.Tells → (slot file at : ℕ) → result ≡ Err (ClusterFault.Damaged slot file at) →
-        IsNotWhole settings.now (D.files disk.old 1).now }
-    ensures kept { D.Tells → ((D.files disk.old 1).now ≡ [] → ⊥) → D.files disk.new ≡ D.files disk.old }
-    ensures cause { IfErr result (HasFaultCause (D.fault_count disk.old) (D.fault_count disk.new)) }
-    ensures counts { D.fault_count disk.old ≤ D.fault_count disk.new }
-    ensures fuses { D.fuse_count disk.new ≡ D.fuse_count disk.old }
-{
-    match disk.size(VOLUME_FILE) {
-        Ok(0) => format_void(alloc, disk, settings),
-        Ok(_) => find_volume(alloc, disk, settings),
-        Err(Failed) => Err(failed(disk)),
+        ensures other_slots { SameFrom (disk_count settings) (H.disks shelf.old) (H.disks shelf.new) }
+        ensures other_lanes { SameFrom 8 (H.arms shelf.old) (H.arms shelf.new) }
+        ensures counted { H.fault_count shelf.old ≤ H.fault_count shelf.new }
+    {
+        if !may_hold::<Logical<D>>(1) {
+            return Err(ClusterFault::NoMemory); // one volume is larger than any memory
+        }
+        let volumes = empty_volumes(alloc, &settings)?;
+        let (disks, seats) = take_parts(alloc, shelf, disk_count(&settings))?;
+        let mut cluster = assemble(alloc, settings, volumes, disks, seats);
+        match cluster.open_parts(alloc) {
+            Ok(_notes) => Ok(cluster),
+            Err(fault) => {
+                cluster.close(shelf);
+                Err(fault)
+            }
+        }
+    }
+
+    /// Cuts the disks' power, and opens what is left, from slot 0 upwards; `pick` chooses what that is. The answer tells
+    /// what became of each change that had failed, volume by volume, and then of a row. A refusal leaves a store that is
+    /// down, and that can only be closed.
+    pub fn restart(&mut self, alloc: Global, pick: u64) -> Result<Listed<Note>, ClusterFault>
+        requires up { IsUp self.old }
+        ensures reopened { D.Tells → (k : Known) →
+            Stands D.files D.Piece.Tells D.fault_count D.fuse_count A.fault_count self.old k → IfOk result (λ notes. (t : Known)
+            × IsRestarted self.new.settings k self.new.directory.count notes t
+            × Stands D.files D.Piece.Tells D.fault_count D.fuse_count A.fault_count self.new t) }
+        ensures up { OnOk result (IsUp self.new) }
+
+        // What a refusal leaves, and its cause.
+        ensures left { D.Tells → (k : Known) →
+            Stands D.files D.Piece.Tells D.fault_count D.fuse_count A.fault_count self.old k →
+            OnErr result (LeftAt D.files D.fault_count D.fuse_count A.fault_count k self.new) }
+        ensures cause { IfErr result (HasFaultCause self.old.settings (map D.fault_count (disks_of self.old)) (map D.fault_count (disks_of self.new))) }
+        ensures damaged { D.Tells → (k : Known) →
+            Stands D.files D.Piece.Tells D.fault_count D.fuse_count A.fault_count self.old k →
+            (slot file at : ℕ) → result ≡ Err (ClusterFault.Damaged slot file at) → ⊥ }
+
+        ensures counts { NoneFalls (map D.fault_count (disks_of self.old)) (map D.fault_count (disks_of self.new)) }
+        ensures fuses { map D.fuse_count (disks_of self.new) ≡ map D.fuse_count (disks_of self.old) }
+        ensures arms { self.new.arms ≡ self.old.arms }
+        ensures settings { self.new.settings ≡ self.old.settings }
+    {
+        self.stop(pick);
+        self.open_parts(alloc)
+    }
+
+    // Stops all disks, and starts them again.
+    fn stop(&mut self, pick: u64)
+        ensures directory { StopsDirectory D.Tells D.files D.fault_count D.fuse_count self.old.directory self.new.directory }
+        ensures volumes { AllZip (StopsVolume D.Tells D.files D.Piece.Tells D.fault_count D.fuse_count) self.old.volumes self.new.volumes }
+        ensures arms { self.new.arms ≡ self.old.arms }
+        ensures settings { self.new.settings ≡ self.old.settings }
+        ensures shape { IsShaped self.new }
+    {
+        self.directory.stop(pick);
+        stop_volumes(self.volumes.as_mut_slice(), pick);
+    }
+
+    // Opens the Directory and then each volume, and answers the notes of the volumes and then of the Directory.
+    fn open_parts(&mut self, alloc: Global) -> Result<Listed<Note>, ClusterFault>
+        requires directory { IsAtRest D.Tells D.files self.old.directory }
+        requires closed { AllByRecursion IsClosed self.old.volumes }
+        requires idle { D.Tells → AllByRecursion (IsIdle D.files) self.old.volumes }
+        ensures opened { IfOk result (OpensParts D.Tells D.files D.Piece.Tells D.fault_count D.fuse_count self.old.directory self.new.directory self.old.volumes self.new.volumes) }
+        ensures refused { IfErr result (RefusesParts D.Tells D.files D.fault_count self.old.settings self.old.directory self.new.directory self.old.volumes self.new.volumes) }
+        ensures directory { MovesDirectory D.Tells D.files D.fault_count D.fuse_count self.old.directory self.new.directory }
+        ensures volumes { AllZip (MovesVolume D.Tells D.files D.Piece.Tells D.fault_count D.fuse_count) self.old.volumes self.new.volumes }
+        ensures arms { self.new.arms ≡ self.old.arms }
+        ensures settings { self.new.settings ≡ self.old.settings }
+        ensures shape { IsShaped self.new }
+    {
+        let settings = self.settings;
+        let row_notes = open_directory(alloc, &mut self.directory)?;
+        let mut notes = open_volumes(alloc, &settings, self.volumes.as_mut_slice())?;
+        notes.append(&mut row_notes.into_vec())?;
+        Ok(Listed::from_vec(notes))
     }
 }
 
-/// Reads the volume file of a disk, from its superblock to its end mark.
-pub fn find_volume<D: Disk>(
+// Takes the disks of the first slots, so many, and the arms of the lanes, each with its seat. A refusal leaves none of
+// them out.
+fn take_parts<H: Shelf>(
     alloc: Global,
-    disk: &mut D,
-    settings: &Settings,
-) -> Result<Opened, ClusterFault>
-    requires solid { D.Tells → IsSolid (D.files disk.old 1) }
-    requires free { D.Tells → IsFree (D.files disk.old 1) }
-    ensures volume { IfOk result (λ opened. opened.volume ≡ record { file = 1; end = opened.volume.end; capacity = settings.now.capacity }) }
-    ensures found { D.Tells → IfOk result (λ opened.
-        FindsVolume settings.now (D.files disk.new 1) opened.volume.end opened.places) }
-    ensures damaged { D.Tells → (slot file at : ℕ) → result ≡ Err (ClusterFault.Damaged slot file at) →
-        (slot ≡ 1) × (file ≡ 1) × IsOpeningDamage settings.now (D.files disk.old 1).now at }
-    ensures only { D.Tells → (cells : List Cell) (end : ℕ) → HasVolume settings.now (D.files disk.old 1).now cells end →
-        (slot file at : ℕ) → result ≡ Err (ClusterFault.Damaged slot file at) → ⊥ }
-    ensures same { D.Tells → D.files disk.new ≡ D.files disk.old }
-    ensures cause { IfErr result (HasFaultCause (D.fault_count disk.old) (D.fault_count disk.new)) }
-    ensures counts { D.fault_count disk.old ≤ D.fault_count disk.new }
-    ensures fuses { D.fuse_count disk.new ≡ D.fuse_count disk.old }
+    shelf: &mut H,
+    slots: u32,
+) -> Result<(Vec<H::Disk>, Vec<LaneSeat<H::Arm>>), ClusterFault>
+    requires disks_in { AreIn slots (H.disks shelf.old) }
+    requires arms_in { AreArmsIn 8 (H.arms shelf.old) }
+    ensures disks { IfOk result (λ parts. InOrder (λ slot disk. IsMountedDisk H.Disk.Tells H.Disk.files H.Disk.fault_count H.Disk.fuse_count (H.disks shelf.old slot) disk) 0 parts.0.items) }
+    ensures arms { IfOk result (λ parts. InOrder (λ lane arm. IsMountedArm H.Arm.fault_count (H.arms shelf.old lane) arm) 0 parts.1.items) }
+    ensures disk_count { IfOk result (λ parts. length parts.0.items ≡ slots) }
+    ensures arm_count { IfOk result (λ parts. length parts.1.items ≡ 8) }
+    ensures disks_out { OnOk result (AreOut slots (H.disks shelf.new)) }
+    ensures arms_out { OnOk result (AreArmsOut 8 (H.arms shelf.new)) }
+
+    // What a refusal leaves, and its cause.
+    ensures put_back { OnErr result ((slot : ℕ) → slot < slots → IsPutBack H.Disk.Tells (H.disks shelf.old slot) (H.disks shelf.new slot)) }
+    ensures arms_back { OnErr result ((lane : ℕ) → lane < 8 → IsArmBack (H.arms shelf.old lane) (H.arms shelf.new lane)) }
+    ensures cause { IfErr result (λ fault. (fault ≡ ClusterFault.NoMemory) ⊎ ((faults : ℕ) × (fault ≡ ClusterFault.Shelf faults)
+        × Rose (H.fault_count shelf.old) (H.fault_count shelf.new) × (faults ≡ H.fault_count shelf.new))) }
+
+    ensures other_slots { SameFrom slots (H.disks shelf.old) (H.disks shelf.new) }
+    ensures other_lanes { SameFrom 8 (H.arms shelf.old) (H.arms shelf.new) }
+    ensures counted { H.fault_count shelf.old ≤ H.fault_count shelf.new }
 {
-    check_super(disk, settings)?;
-    let start = VolumeFile::adopt(VOLUME_FILE, SUPER_LEN as u64, settings.capacity);
-    match start.scan_from(alloc, disk, SUPER_LEN as u64) {
-        Ok((heads, end)) => noted(alloc, heads.as_slice(), end, settings.capacity),
-        Err(CellFault::NoMemory) => Err(ClusterFault::NoMemory),
-        Err(CellFault::Failed) => Err(failed(disk)),
-        Err(CellFault::Damaged { at }) => Err(damaged(at)),
+    let Mounted { disks, arms } = match mount(alloc, shelf, slots) {
+        Ok(mounted) => mounted,
+        Err(fault) => return Err(not_mounted(fault)),
+    };
+    match seats_of(alloc, arms) {
+        Ok(seats) => Ok((disks, seats)),
+        Err(arms) => {
+            unmount(shelf, Mounted { disks, arms });
+            Err(ClusterFault::NoMemory)
+        }
     }
 }
 
-// What was read of a volume file, as it is kept in memory.
-fn noted(alloc: Global, heads: &[CellHead], end: u64, capacity: u64) -> Result<Opened, ClusterFault>
-    ensures volume { IfOk result (λ opened. opened.volume ≡ record { file = 1; end = end; capacity = capacity }) }
-    ensures spots { IfOk result (λ opened. (pair : Pair) → place_at opened.places pair ≡ last_spot heads.now pair) }
-    ensures count { IfOk result (λ opened. length opened.places ≡ length (head_rows heads.now)) }
+// Opens the Directory.
+fn open_directory<D: Disk>(
+    alloc: Global,
+    directory: &mut Directory<D>,
+) -> Result<Listed<Note>, ClusterFault>
+    requires { IsAtRest D.Tells D.files directory.old }
+    ensures opened { IfOk result (OpensDirectory D.Tells D.files directory.old directory.new) }
+    ensures refused { IfErr result (RefusesDirectory D.Tells D.files D.fault_count directory.old directory.new) }
+    ensures moves { MovesDirectory D.Tells D.files D.fault_count D.fuse_count directory.old directory.new }
+{
+    match directory.open(alloc) {
+        Ok(notes) => Ok(notes),
+        Err(fault) => Err(no_directory(fault)),
+    }
+}
+
+// Opens each volume, and answers their notes.
+fn open_volumes<D: Disk>(
+    alloc: Global,
+    settings: &Settings,
+    volumes: &mut [Logical<D>],
+) -> Result<Vec<Note>, ClusterFault>
+    requires built { IsBuilt settings.now }
+    requires many { length volumes.old ≡ settings.now.volumes }
+    requires numbers { InOrder (IsVolumeOf settings.now) 0 volumes.old }
+    requires closed { AllByRecursion IsClosed volumes.old }
+    requires idle { D.Tells → AllByRecursion (IsIdle D.files) volumes.old }
+    ensures opened { IfOk result (λ notes. Gathers (OpensVolume D.Tells D.files D.Piece.Tells D.fault_count D.fuse_count) volumes.old volumes.new notes.items) }
+    ensures refused { IfErr result (RefusesVolumes D.Tells D.files D.fault_count settings.now volumes.old volumes.new) }
+    ensures moves { AllZip (MovesVolume D.Tells D.files D.Piece.Tells D.fault_count D.fuse_count) volumes.old volumes.new }
+{
+    let mut notes = Vec::new(alloc);
+    for (number, volume) in volumes.iter_mut().enumerate() {
+        open_volume(alloc, settings, volume, number as u32, &mut notes)?;
+    }
+    Ok(notes)
+}
+
+// Opens a volume, and adds its notes.
+fn open_volume<D: Disk>(
+    alloc: Global,
+    settings: &Settings,
+    volume: &mut Logical<D>,
+    number: u32,
+    notes: &mut Vec<Note>,
+) -> Result<(), ClusterFault>
+    requires built { IsBuilt settings.now }
+    requires within { number < settings.now.volumes }
+    requires is { IsVolumeOf settings.now number volume.old }
+    requires closed { IsClosed volume.old }
+    requires idle { D.Tells → IsIdle D.files volume.old }
+    ensures opened { OnOk result ((more : List Note) × (notes.new.items ≡ notes.old.items ++ more)
+        × OpensVolume D.Tells D.files D.Piece.Tells D.fault_count D.fuse_count volume.old volume.new more) }
+    ensures refused { IfErr result (RefusesVolume D.Tells D.files D.fault_count settings.now number volume.old volume.new) }
+    ensures moves { MovesVolume D.Tells D.files D.Piece.Tells D.fault_count D.fuse_count volume.old volume.new }
+{
+    match volume.open(alloc) {
+        Ok(more) => {
+            notes.append(&mut more.into_vec())?;
+            Ok(())
+        }
+        Err(Unopened { replica, fault }) => {
+            Err(not_opened(slot_of(settings, number, replica), fault))
+        }
+    }
+}
+
+// Stops each volume.
+fn stop_volumes<D: Disk>(volumes: &mut [Logical<D>], pick: u64)
+    ensures { AllZip (StopsVolume D.Tells D.files D.Piece.Tells D.fault_count D.fuse_count) volumes.old volumes.new }
+{
+    for volume in volumes.iter_mut() {
+        volume.stop(pick);
+    }
+}
+
+// A closed store of these disks and arms.
+fn assemble<D: Disk, A: Arm<D::Piece>>(
+    alloc: Global,
+    settings: Settings,
+    mut volumes: Vec<Logical<D>>,
+    mut disks: Vec<D>,
+    seats: Vec<LaneSeat<A>>,
+) -> Cluster<D, A>
+    requires built { IsBuilt settings }
+    requires many { length volumes.items ≡ settings.volumes }
+    requires empty { InOrder (IsEmptyVolume settings) 0 volumes.items }
+    requires disks { length disks.items ≡ disk_count settings }
+    requires lanes { length seats.items ≡ 8 }
+    ensures settings { result.settings ≡ settings }
+    ensures fresh { directory.IsFresh result.directory }
+    ensures closed { AllByRecursion IsClosed result.volumes }
+    ensures unsure { AllByRecursion (λ volume. volume.unsure ≡ None) result.volumes }
+    ensures disks { disks_of result ≡ disks.items }
+    ensures arms { result.arms ≡ seats.items }
+    ensures shape { IsShaped result }
+{
+    disks.reverse(); // so that the lowest slot is the last
+    let Some(first) = disks.pop() else {
+        unreachable!();
+    };
+    fill_volumes(&settings, volumes.as_mut_slice(), &mut disks);
+    Cluster {
+        settings,
+        directory: Directory::new(alloc, settings, first),
+        volumes,
+        seats,
+    }
+}
+
+// Gives each volume its disks, from the last disk down.
+fn fill_volumes<D: Disk>(settings: &Settings, volumes: &mut [Logical<D>], disks: &mut Vec<D>)
+    requires empty { InOrder (IsEmptyVolume settings.now) 0 volumes.old }
+    requires enough { length disks.old.items ≡ length volumes.old * settings.now.replicas }
+    ensures { Gathers FillsVolume volumes.old volumes.new (reverse disks.old.items) }
+{
+    for volume in volumes.iter_mut() {
+        fill_volume(settings, volume, disks);
+    }
+}
+
+// Gives a volume its disks.
+fn fill_volume<D: Disk>(settings: &Settings, volume: &mut Logical<D>, disks: &mut Vec<D>)
+    requires empty { volume.old.replicas ≡ [] }
+    requires settings { volume.old.settings ≡ settings.now }
+    requires enough { settings.now.replicas ≤ length disks.old.items }
+    ensures taken { (taken : List D) × (reverse disks.old.items ≡ taken ++ reverse disks.new.items) × FillsVolume volume.old volume.new taken }
+    ensures fewer { length disks.new.items + settings.now.replicas ≡ length disks.old.items }
+{
+    for _replica in 0..settings.replicas {
+        let Some(disk) = disks.pop() else {
+            unreachable!();
+        };
+        volume.add(disk);
+    }
+}
+
+// The volumes of a store, without disks.
+fn empty_volumes<D: Disk>(
+    alloc: Global,
+    settings: &Settings,
+) -> Result<Vec<Logical<D>>, ClusterFault>
+    requires { IsBuilt settings.now }
+    ensures count { IfOk result (λ volumes. length volumes.items ≡ settings.now.volumes) }
+    ensures empty { IfOk result (λ volumes. InOrder (IsEmptyVolume settings.now) 0 volumes.items) }
     ensures no_memory { IfErr result (λ fault. fault ≡ ClusterFault.NoMemory) }
 {
-    let Ok(places) = Places::of_cells(alloc, heads) else {
-        return Err(ClusterFault::NoMemory);
+    let mut volumes = Vec::with_capacity(alloc, settings.volumes as usize)?;
+    for number in 0..settings.volumes {
+        match Logical::new(alloc, *settings, number) {
+            Ok(volume) => volumes.push_reserved(volume),
+            Err(NoMemory) => return Err(ClusterFault::NoMemory),
+        }
+    }
+    Ok(volumes)
+}
+
+// A seat for each arm. For want of memory the arms are given back.
+fn seats_of<A: Drop>(alloc: Global, mut arms: Vec<A>) -> Result<Vec<LaneSeat<A>>, Vec<A>>
+    ensures ok { IfOk result (λ seats. seats.items ≡ arms.items) }
+    ensures err { IfErr result (λ back. back.items ≡ arms.items) }
+{
+    let Ok(mut seats) = Vec::with_capacity(alloc, arms.len()) else {
+        return Err(arms);
     };
-    Ok(Opened {
-        volume: VolumeFile::adopt(VOLUME_FILE, end, capacity),
-        places,
-    })
+    while let Some(arm) = arms.pop() {
+        match LaneSeat::new(alloc, arm) {
+            Ok(seat) => seats.push_reserved(seat),
+            Err((arm, _)) => {
+                arms.push_reserved(arm);
+                return Err(unseated(arms, seats));
+            }
+        }
+    }
+    seats.reverse();
+    Ok(seats)
 }
 
-// The superblock of the volume file of the only replica.
-fn volume_super(settings: &Settings) -> Super
-    ensures { result ≡ contents.volume_super settings.now }
+// The arms, with those of the seats behind them, from the last seat on.
+fn unseated<A: Drop>(mut arms: Vec<A>, mut seats: Vec<LaneSeat<A>>) -> Vec<A>
+    requires { length arms.items + length seats.items ≤ vec_capacity arms }
+    ensures { result.items ≡ arms.items ++ reverse seats.items }
 {
-    Super {
-        settings: *settings,
-        kind: FileKind::Volume,
-        volume: 0,
-        replica: 0,
-        generation: 0,
+    while let Some(seat) = seats.pop() {
+        arms.push_reserved(seat.into_arm());
     }
+    arms
 }
 
-// Tests the superblock of the volume file.
-fn check_super<D: Disk>(disk: &mut D, settings: &Settings) -> Result<(), ClusterFault>
-    ensures right { D.Tells → OnOk result (take 64 (D.files disk.old 1).now ≡ super_bytes (contents.volume_super settings.now)) }
-    ensures damaged { D.Tells → (slot file at : ℕ) → result ≡ Err (ClusterFault.Damaged slot file at) →
-        (slot ≡ 1) × (file ≡ 1) × HasSuperFault settings.now (D.files disk.old 1).now at }
-    ensures only { D.Tells → take 64 (D.files disk.old 1).now ≡ super_bytes (contents.volume_super settings.now) →
-        (slot file at : ℕ) → result ≡ Err (ClusterFault.Damaged slot file at) → ⊥ }
-    ensures same { D.Tells → D.files disk.new ≡ D.files disk.old }
-    ensures cause { IfErr result (HasFaultCause (D.fault_count disk.old) (D.fault_count disk.new)) }
-    ensures counts { D.fault_count disk.old ≤ D.fault_count disk.new }
-    ensures fuses { D.fuse_count disk.new ≡ D.fuse_count disk.old }
+// How many disks a store has.
+fn disk_count(settings: &Settings) -> u32
+    requires { IsBuilt settings.now }
+    ensures is { result ≡ known.disk_count settings.now }
+    ensures few { result ≤ 257 }
 {
-    let mut front = [0; SUPER_LEN];
-    let got = match disk.read_into(VOLUME_FILE, 0, &mut front) {
-        Ok(got) => got,
-        Err(Failed) => return Err(failed(disk)),
-    };
-    match read_super(&front[..got], &volume_super(settings)) {
-        Ok(()) => Ok(()),
-        Err(fault) => Err(damaged(fault.place())),
-    }
+    1 + settings.volumes * settings.replicas
 }
 
-// Formats a void disk: a volume file without cells, wholly on the disk.
-fn format_void<D: Disk>(
-    alloc: Global,
-    disk: &mut D,
-    settings: &Settings,
-) -> Result<Opened, ClusterFault>
-    requires free { D.Tells → IsFree (D.files disk.old 1) }
-    ensures made { IfOk result (λ opened. opened.volume ≡ record { file = 1; end = 64; capacity = settings.now.capacity }) }
-    ensures none { IfOk result (λ opened. opened.places ≡ []) }
-    ensures formatted { D.Tells → OnOk result (HasVolume settings.now (D.files disk.new 1).now [] 64) }
-    ensures solid { D.Tells → OnOk result (IsSolid (D.files disk.new 1)) }
-    ensures still_free { D.Tells → OnOk result (IsFree (D.files disk.new 1)) }
-    ensures gate { D.Tells → OnOk result (IsGate needle_magic 64 (D.files disk.new 1)) }
-    ensures not_damaged { IfErr result (λ fault. (slot file at : ℕ) → fault ≡ ClusterFault.Damaged slot file at → ⊥) }
-    ensures cause { IfErr result (HasFaultCause (D.fault_count disk.old) (D.fault_count disk.new)) }
-    ensures counts { D.fault_count disk.old ≤ D.fault_count disk.new }
-    ensures fuses { D.fuse_count disk.new ≡ D.fuse_count disk.old }
+// The slot of a replica's disk.
+fn slot_of(settings: &Settings, volume: u32, replica: u32) -> u32
+    requires built { IsBuilt settings.now }
+    requires volume { volume < settings.now.volumes }
+    requires replica { replica < settings.now.replicas }
+    ensures is { result ≡ known.slot_of settings.now volume replica }
+    ensures within { result < known.disk_count settings.now }
 {
-    let volume = match VolumeFile::format(disk, VOLUME_FILE, &volume_super(settings)) {
-        Ok(volume) => volume,
-        Err(DiskFault::NoMemory) => return Err(ClusterFault::NoMemory),
-        Err(DiskFault::Failed) => return Err(failed(disk)),
-    };
-    match disk.sync(VOLUME_FILE) {
-        Ok(()) => Ok(Opened {
-            volume,
-            places: Places::new(alloc),
-        }),
-        Err(Failed) => Err(failed(disk)),
-    }
-}
-
-// What a failed call of the disk is answered.
-fn failed<D: Disk>(disk: &D) -> ClusterFault
-    ensures { result ≡ ClusterFault.Failed 1 (D.fault_count disk.now) }
-{
-    ClusterFault::Failed {
-        slot: SLOT,
-        faults: disk.faults(),
-    }
-}
-
-// The volume file is damaged at this place.
-fn damaged(at: u64) -> ClusterFault
-    ensures { result ≡ ClusterFault.Damaged 1 1 at }
-{
-    ClusterFault::Damaged {
-        slot: SLOT,
-        file: VOLUME_FILE,
-        at,
-    }
+    1 + volume * settings.replicas + replica
 }

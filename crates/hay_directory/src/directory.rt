@@ -315,6 +315,7 @@ impl<D: Disk> Directory<D> {
         ensures free { D.Tells → (n : ℕ) → IsFree (D.files self.new.disk n) }
         ensures closed { IsClosed self.new × (self.new.mode ≡ Mode.Closed (unsure_of self.old.mode)) }
         ensures undrained { self.new.drained ≡ replicate self.old.settings.machines false }
+        ensures long { length self.old.drained ≡ self.old.settings.machines }
         ensures settings { self.new.settings ≡ self.old.settings }
         ensures faults { D.fault_count self.new.disk ≡ D.fault_count self.old.disk }
         ensures fuses { D.fuse_count self.new.disk ≡ D.fuse_count self.old.disk }

@@ -65,7 +65,7 @@ Rise k t = NoneFalls k.faults t.faults × NoneFalls k.arms t.arms
 
 restart_counts : (settings : Settings) (k : Known) (r : Reply) (notes : List Note) (t : Known) → LegalRestart settings k r notes t → Rise k t
 restart_counts settings k (reply.Restarted d) notes t h = ((h.opened).faults, (h.opened).arms)
-restart_counts settings k reply.NoMem notes t h = ((h.opened).faults, (h.opened).arms)
+restart_counts settings k reply.NoMem notes t h = ((h.leaves).faults, (h.leaves).arms)
 restart_counts settings k _ notes t h = absurd h
 
 turn_counts : (settings : Settings) (k : Known) (turn : Turn) → LegalTurn settings k turn → Rise k (known_after turn)
@@ -385,6 +385,11 @@ read_is_built : (settings : Settings) (k : Known) (tag : CoreTag) (pair : Pair) 
 read_is_built settings k tag pair cookie reply.Unbuilt t h e = absurd cc
 read_is_built settings k tag pair cookie r t h e = absurd cc
 
+get_is_built : (settings : Settings) (k : Known) (tag : CoreTag) (url : UrlParts) (r : Reply) (t : Known)
+    → LegalAnswer settings k tag (command.Get url) r t → r ≢ reply.Unbuilt
+get_is_built settings k tag url reply.Unbuilt t h e = absurd cc
+get_is_built settings k tag url r t h e = absurd cc
+
 pub standing_photo_is_shown : StandingPhotoIsShown
 standing_photo_is_shown settings k t earlier later line pair cookie bytes r after some legal calm has =
     let turn = calm_turn settings k t earlier later (Plain line (item.Command (command.Read pair cookie)) r after) legal calm in
@@ -402,9 +407,9 @@ get_everywhere settings k tag url start bytes (reply.Moved v d) t some calm stan
 get_everywhere settings k tag url start bytes r t some calm stands home h = show_everywhere settings k tag start url.pair url.cookie bytes r t some calm stands h.0
 
 pub standing_photo_is_got : StandingPhotoIsGot
-standing_photo_is_got settings k t earlier later line url bytes r after replica some legal calm has home there is_built =
+standing_photo_is_got settings k t earlier later line url bytes r after replica some legal calm has home there =
     let turn = calm_turn settings k t earlier later (Plain line (item.Command (command.Get url)) r after) legal calm in
     let b : Known = known_behind k earlier in
     let tag : CoreTag = record { lane = 0; line = line } in
     get_everywhere settings b tag url replica bytes r after some turn.1 (everywhere_stands settings b url.pair url.cookie bytes has) home
-    (subst (λ (o : Option ℕ). LegalGetAt settings b tag url o r after) there (built settings b tag (command.Get url) r after is_built turn.0))
+    (subst (λ (o : Option ℕ). LegalGetAt settings b tag url o r after) there (built settings b tag (command.Get url) r after (get_is_built settings b tag url r after turn.0) turn.0))

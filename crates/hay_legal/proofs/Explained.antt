@@ -14,9 +14,6 @@ use Rattle.hay_needle.specs.declared.needle.Cookie.{Cookie}
 use Rattle.hay_legal.specs.declared.known.Known.{Known}
 use Rattle.hay_legal.specs.declared.turn.Turn.TheVariants.{Restart}
 use Rattle.hay_legal.specs.Known.{fresh_unharmed, empty_replica, empty_volume}
-use Rattle.hay_core.specs.declared.entry.Entry.TheVariants as entry
-use Rattle.hay_url.specs.Url.{cookie_of}
-use Rattle.hay_legal.specs.Restarts.{directory_with}
 use Rattle.hay_legal.specs.Plain.{change_replica, put_frozen, row_pending, with_run, swapped, poised_by, with_bare, with_fuses, with_drain}
 use Rattle.hay_legal.proofs.Steps.{shaped, one, pair, own, at_line, plain, put_on, del_on, with_faults, none_falls, same_counts, more_faults, more_arms, Explains}
 
@@ -178,7 +175,7 @@ row_8 = record {
           (
             record { home = record { home = refl; «open» = refl; rows = refl }; stood = refl; position = refl; ended = []; cause = λ j e. cc; leaves = same_counts row_8_4 row_8_5 refl refl },
             (
-              record { kept = [] ∷ []; row = false; opened = record { volumes = (record { may = refl; replicas = (record { base = refl; stands = inl (record { end = refl; cells = refl; bare = refl; generation = refl }); loose = refl; idle = refl; settled = refl }, tt); log = refl; frozen = refl; pending = refl }, tt); rows = inl refl; directory = refl; drained = refl; fuses = refl; faults = none_falls row_8_5.faults; arms = none_falls row_8_5.arms }; told = refl; rows = refl },
+              record { kept = [] ∷ []; row = false; opened = record { volumes = (record { may = refl; replicas = (record { base = refl; stands = inl (record { end = refl; cells = refl; bare = refl; generation = refl }); loose = refl; idle = refl; settled = refl }, tt); log = refl; frozen = refl; pending = refl }, tt); rows = refl; directory = refl; drained = refl; fuses = refl; faults = none_falls row_8_5.faults; arms = none_falls row_8_5.arms }; told = refl; rows = refl },
               (
                 record { seen = record { home = refl; front = refl; rows = refl }; replica = 0; there = refl; stands = refl; passed = inl (lit≤ tt); leaves = same_counts row_8_6 row_8_6 refl refl },
                 (
@@ -232,7 +229,7 @@ row_10 = record {
         (
           (refl, same_counts row_10_4 row_10_4 refl refl),
           (
-            record { kept = (true ∷ []) ∷ []; row = false; opened = record { volumes = (record { may = (refl, (0, 0, refl, refl, record { below = λ j h. absurd (no_less j h); nothing = λ j h e. cc; above = λ j h l e. absurd (one_only j h l) })); replicas = (record { base = ap (photo_alone (codes "b")) (sym cookie_of-zero); stands = inl (record { end = refl; cells = refl; bare = refl; generation = refl }); loose = refl; idle = refl; settled = refl }, tt); log = refl; frozen = refl; pending = refl }, tt); rows = inl refl; directory = refl; drained = refl; fuses = refl; faults = none_falls row_10_4.faults; arms = none_falls row_10_4.arms }; told = refl; rows = refl },
+            record { kept = (true ∷ []) ∷ []; row = false; opened = record { volumes = (record { may = (refl, (0, 0, refl, refl, record { below = λ j h. absurd (no_less j h); nothing = λ j h e. cc; above = λ j h l e. absurd (one_only j h l) })); replicas = (record { base = ap (photo_alone (codes "b")) (sym cookie_of-zero); stands = inl (record { end = refl; cells = refl; bare = refl; generation = refl }); loose = refl; idle = refl; settled = refl }, tt); log = refl; frozen = refl; pending = refl }, tt); rows = refl; directory = refl; drained = refl; fuses = refl; faults = none_falls row_10_4.faults; arms = none_falls row_10_4.arms }; told = refl; rows = refl },
             (record { seen = record { home = refl; front = refl; rows = refl }; replica = 0; there = refl; stands = refl; passed = inl (lit≤ tt); leaves = same_counts row_10_5 row_10_5 refl refl }, refl),
           ),
         ),
@@ -242,7 +239,7 @@ row_10 = record {
   text = refl;
 }
 
--- The fourth changing call passes, and the next put fails at once: it was the first of its pair, so its row goes with it.
+-- The fourth changing call passes, and the next put fails at once: it was the first of its pair, and its row stays.
 abbrev row_10_later_3 : Known
 row_10_later_3 = put_on row_10_2 0 3 1 (codes "b")
 
@@ -252,20 +249,19 @@ row_10_later_4 = with_faults (put_frozen one row_10_later_3 (at_line 4) (pair 2)
 abbrev row_10_later_5 : Known
 row_10_later_5 = record row_10_later_4 {
   volumes = record empty_volume { replicas = record empty_replica { base = (pair 1, record { cookie = own; bytes = codes "b" }) ∷ []; end = 176; cells = 2; bare = 2 } ∷ [] } ∷ [];
-  directory = directory_with (record { pair = pair 1; volume = 0 } ∷ []);
 }
 
 row_10_later : Explains one (fresh_unharmed one)
     (codes "put 0 1 61\nfuse 0 0 4\nput 0 1 62\nput 0 2 63\nrestart 0\nread 0 1 903df1a0ade0b876")
-    (codes "haystack 1 1 1 67108864\n1 stored 0 1 1 903df1a0ade0b876\n2 fused 0:0 4\n3 stored 0 2 1 903df1a0ade0b876\n4 failed 0:0 1\n5 restarted 1\nlost 0:0 4\n6 photo 0 0 0 1 62\n")
+    (codes "haystack 1 1 1 67108864\n1 stored 0 1 1 903df1a0ade0b876\n2 fused 0:0 4\n3 stored 0 2 1 903df1a0ade0b876\n4 failed 0:0 1\n5 restarted 2\nlost 0:0 4\n6 photo 0 0 0 2 62\n")
 unfolding decode_pairs encode_with digits
 row_10_later = record {
   turns = plain 1 (command.Put (pair 1) (codes "a")) (reply.Stored 0 1 1 own) row_10_1
       ∷ plain 2 (command.Fuse 0 0 4) (reply.Fused 0 0 4) row_10_2
       ∷ plain 3 (command.Put (pair 1) (codes "b")) (reply.Stored 0 2 1 own) row_10_later_3
       ∷ plain 4 (command.Put (pair 2) (codes "c")) (reply.Failed 0 0 1) row_10_later_4
-      ∷ Restart 5 0 (reply.Restarted 1) (note.Lost 0 0 4 ∷ []) row_10_later_5
-      ∷ plain 6 (command.Read (pair 1) own) (reply.Photo 0 0 0 1 (codes "b")) row_10_later_5 ∷ [];
+      ∷ Restart 5 0 (reply.Restarted 2) (note.Lost 0 0 4 ∷ []) row_10_later_5
+      ∷ plain 6 (command.Read (pair 1) own) (reply.Photo 0 0 0 2 (codes "b")) row_10_later_5 ∷ [];
   t = row_10_later_5;
   items = refl;
   legal = (
@@ -277,7 +273,7 @@ row_10_later = record {
         (
           record { taker = refl; directory = λ e. refl; replica = 0; there = refl; rose = record { count = refl; rose = inl (lit< tt) }; leaves = more_faults row_10_later_3 (put_frozen one row_10_later_3 (at_line 4) (pair 2) (codes "c") 0 0 true) (0 ∷ 1 ∷ []) (lit≤ tt, (lit≤ tt, tt)) refl },
           (
-            record { kept = (false ∷ []) ∷ []; row = false; opened = record { volumes = (record { may = (refl, (0, 0, refl, refl, record { below = λ j h. absurd (no_less j h); nothing = λ j h e. cc; above = λ j h l e. absurd (one_only j h l) })); replicas = (record { base = refl; stands = inl (record { end = refl; cells = refl; bare = refl; generation = refl }); loose = refl; idle = refl; settled = refl }, tt); log = refl; frozen = refl; pending = refl }, tt); rows = inr (record { v = 0; pending = record { tag = at_line 4; entry = entry.Put (pair 2) (cookie_of (replicate 32 0) 0) (codes "c"); failed = true }; pair = pair 2; there = refl; put = refl; lost = refl; nothing = refl; last = refl }); directory = refl; drained = refl; fuses = refl; faults = none_falls row_10_later_4.faults; arms = none_falls row_10_later_4.arms }; told = refl; rows = refl },
+            record { kept = (false ∷ []) ∷ []; row = false; opened = record { volumes = (record { may = (refl, (0, 0, refl, refl, record { below = λ j h. absurd (no_less j h); nothing = λ j h e. cc; above = λ j h l e. absurd (one_only j h l) })); replicas = (record { base = refl; stands = inl (record { end = refl; cells = refl; bare = refl; generation = refl }); loose = refl; idle = refl; settled = refl }, tt); log = refl; frozen = refl; pending = refl }, tt); rows = refl; directory = refl; drained = refl; fuses = refl; faults = none_falls row_10_later_4.faults; arms = none_falls row_10_later_4.arms }; told = refl; rows = refl },
             (record { seen = record { home = refl; front = refl; rows = refl }; replica = 0; there = refl; stands = refl; passed = inl (lit≤ tt); leaves = same_counts row_10_later_5 row_10_later_5 refl refl }, refl),
           ),
         ),
@@ -330,7 +326,7 @@ row_12 = record {
         (
           record { seen = record { home = refl; front = refl; rows = refl }; replica = 0; there = refl; stands = refl; passed = inl (lit≤ tt); leaves = same_counts row_12_4 row_12_4 refl refl },
           (
-            record { kept = (true ∷ false ∷ []) ∷ []; row = false; opened = record { volumes = (record { may = (refl, (1, 1, refl, refl, record { below = λ j h. true_below_one j h; nothing = λ j h e. cc; above = λ j h l e. absurd (two_only j h l) })); replicas = (record { base = ap (photo_alone (codes "b")) (sym cookie_of-zero); stands = inl (record { end = refl; cells = refl; bare = refl; generation = refl }); loose = refl; idle = refl; settled = refl }, (record { base = refl; stands = inl (record { end = refl; cells = refl; bare = refl; generation = refl }); loose = refl; idle = refl; settled = refl }, tt)); log = refl; frozen = refl; pending = refl }, tt); rows = inl refl; directory = refl; drained = refl; fuses = refl; faults = none_falls row_12_4.faults; arms = none_falls row_12_4.arms }; told = refl; rows = refl },
+            record { kept = (true ∷ false ∷ []) ∷ []; row = false; opened = record { volumes = (record { may = (refl, (1, 1, refl, refl, record { below = λ j h. true_below_one j h; nothing = λ j h e. cc; above = λ j h l e. absurd (two_only j h l) })); replicas = (record { base = ap (photo_alone (codes "b")) (sym cookie_of-zero); stands = inl (record { end = refl; cells = refl; bare = refl; generation = refl }); loose = refl; idle = refl; settled = refl }, (record { base = refl; stands = inl (record { end = refl; cells = refl; bare = refl; generation = refl }); loose = refl; idle = refl; settled = refl }, tt)); log = refl; frozen = refl; pending = refl }, tt); rows = refl; directory = refl; drained = refl; fuses = refl; faults = none_falls row_12_4.faults; arms = none_falls row_12_4.arms }; told = refl; rows = refl },
             (
               record { seen = record { home = refl; front = refl; rows = refl }; replica = 0; there = refl; stands = refl; passed = inl (lit≤ tt); leaves = same_counts row_12_5 row_12_5 refl refl },
               (
@@ -471,7 +467,7 @@ row_9 = record {
               (
                 record { seen = record { home = refl; front = refl; rows = refl }; replica = 0; there = refl; stands = refl; passed = inl (lit≤ tt); leaves = same_counts row_9_6 row_9_6 refl refl },
                 (
-                  record { kept = [] ∷ []; row = false; opened = record { volumes = (record { may = refl; replicas = (record { base = refl; stands = inl (record { end = refl; cells = refl; bare = refl; generation = refl }); loose = refl; idle = refl; settled = refl }, tt); log = refl; frozen = refl; pending = refl }, tt); rows = inl refl; directory = refl; drained = refl; fuses = refl; faults = none_falls row_9_6.faults; arms = none_falls row_9_6.arms }; told = refl; rows = refl },
+                  record { kept = [] ∷ []; row = false; opened = record { volumes = (record { may = refl; replicas = (record { base = refl; stands = inl (record { end = refl; cells = refl; bare = refl; generation = refl }); loose = refl; idle = refl; settled = refl }, tt); log = refl; frozen = refl; pending = refl }, tt); rows = refl; directory = refl; drained = refl; fuses = refl; faults = none_falls row_9_6.faults; arms = none_falls row_9_6.arms }; told = refl; rows = refl },
                   (record { seen = record { home = refl; front = refl; rows = refl }; replica = 0; there = refl; stands = refl; passed = inl (lit≤ tt); leaves = same_counts row_9_7 row_9_7 refl refl }, refl),
                 ),
               ),
@@ -537,7 +533,7 @@ row_11_at_0 = record {
             (
               (refl, same_counts row_11_at_0_6 row_11_at_0_6 refl refl),
               (
-                record { kept = [] ∷ []; row = false; opened = record { volumes = (record { may = refl; replicas = (record { base = refl; stands = inl (record { end = refl; cells = refl; bare = refl; generation = refl }); loose = refl; idle = refl; settled = refl }, tt); log = refl; frozen = refl; pending = refl }, tt); rows = inl refl; directory = refl; drained = refl; fuses = refl; faults = none_falls row_11_at_0_6.faults; arms = none_falls row_11_at_0_6.arms }; told = refl; rows = refl },
+                record { kept = [] ∷ []; row = false; opened = record { volumes = (record { may = refl; replicas = (record { base = refl; stands = inl (record { end = refl; cells = refl; bare = refl; generation = refl }); loose = refl; idle = refl; settled = refl }, tt); log = refl; frozen = refl; pending = refl }, tt); rows = refl; directory = refl; drained = refl; fuses = refl; faults = none_falls row_11_at_0_6.faults; arms = none_falls row_11_at_0_6.arms }; told = refl; rows = refl },
                 (
                   record { seen = record { home = refl; front = refl; rows = refl }; replica = 0; there = refl; stands = refl; passed = inl (lit≤ tt); leaves = same_counts row_11_at_0_7 row_11_at_0_7 refl refl },
                   (((refl, refl), refl, (refl, lit< tt), refl, (120, 1, (refl, refl), same_counts row_11_at_0_7 row_11_at_0_8 refl refl)), refl),
@@ -605,7 +601,7 @@ row_11_at_1 = record {
             (
               (refl, same_counts row_11_at_1_6 row_11_at_1_6 refl refl),
               (
-                record { kept = [] ∷ []; row = false; opened = record { volumes = (record { may = refl; replicas = (record { base = refl; stands = inr (record { poised = refl; end = lit≤ tt; no_longer = lit≤ tt; cells = lit≤ tt; no_more = lit≤ tt; bare = refl; generation = refl }); loose = refl; idle = refl; settled = refl }, tt); log = refl; frozen = refl; pending = refl }, tt); rows = inl refl; directory = refl; drained = refl; fuses = refl; faults = none_falls row_11_at_1_6.faults; arms = none_falls row_11_at_1_6.arms }; told = refl; rows = refl },
+                record { kept = [] ∷ []; row = false; opened = record { volumes = (record { may = refl; replicas = (record { base = refl; stands = inr (record { poised = refl; end = lit≤ tt; no_longer = lit≤ tt; cells = lit≤ tt; no_more = lit≤ tt; bare = refl; generation = refl }); loose = refl; idle = refl; settled = refl }, tt); log = refl; frozen = refl; pending = refl }, tt); rows = refl; directory = refl; drained = refl; fuses = refl; faults = none_falls row_11_at_1_6.faults; arms = none_falls row_11_at_1_6.arms }; told = refl; rows = refl },
                 (
                   record { seen = record { home = refl; front = refl; rows = refl }; replica = 0; there = refl; stands = refl; passed = inl (lit≤ tt); leaves = same_counts row_11_at_1_7 row_11_at_1_7 refl refl },
                   (((refl, refl), refl, (refl, lit< tt), refl, (120, 1, (refl, refl), same_counts row_11_at_1_7 row_11_at_1_8 refl refl)), refl),
@@ -680,7 +676,7 @@ row_22_at_0 = record {
       (
         (record { volume = 0; missing = refl; taker = refl }, refl, same_counts row_22_at_0_3 row_22_at_0_3 refl refl),
         (
-          record { kept = [] ∷ []; row = false; opened = record { volumes = (record { may = refl; replicas = (record { base = refl; stands = inl (record { end = refl; cells = refl; bare = refl; generation = refl }); loose = refl; idle = refl; settled = refl }, tt); log = refl; frozen = refl; pending = refl }, tt); rows = inl refl; directory = refl; drained = refl; fuses = refl; faults = none_falls row_22_at_0_3.faults; arms = none_falls row_22_at_0_3.arms }; told = refl; rows = refl },
+          record { kept = [] ∷ []; row = false; opened = record { volumes = (record { may = refl; replicas = (record { base = refl; stands = inl (record { end = refl; cells = refl; bare = refl; generation = refl }); loose = refl; idle = refl; settled = refl }, tt); log = refl; frozen = refl; pending = refl }, tt); rows = refl; directory = refl; drained = refl; fuses = refl; faults = none_falls row_22_at_0_3.faults; arms = none_falls row_22_at_0_3.arms }; told = refl; rows = refl },
           (((refl, refl), same_counts row_22_at_0_4 row_22_at_0_4 refl refl), refl),
         ),
       ),
@@ -720,7 +716,7 @@ row_22_at_3 = record {
       (
         (record { volume = 0; missing = refl; taker = refl }, refl, same_counts row_22_at_3_3 row_22_at_3_3 refl refl),
         (
-          record { kept = [] ∷ []; row = true; opened = record { volumes = (record { may = refl; replicas = (record { base = refl; stands = inl (record { end = refl; cells = refl; bare = refl; generation = refl }); loose = refl; idle = refl; settled = refl }, tt); log = refl; frozen = refl; pending = refl }, tt); rows = inl refl; directory = refl; drained = refl; fuses = refl; faults = none_falls row_22_at_3_3.faults; arms = none_falls row_22_at_3_3.arms }; told = refl; rows = refl },
+          record { kept = [] ∷ []; row = true; opened = record { volumes = (record { may = refl; replicas = (record { base = refl; stands = inl (record { end = refl; cells = refl; bare = refl; generation = refl }); loose = refl; idle = refl; settled = refl }, tt); log = refl; frozen = refl; pending = refl }, tt); rows = refl; directory = refl; drained = refl; fuses = refl; faults = none_falls row_22_at_3_3.faults; arms = none_falls row_22_at_3_3.arms }; told = refl; rows = refl },
           (record { seen = record { home = refl; front = refl; rows = refl }; replica = 0; there = refl; stands = refl; passed = inl (lit≤ tt); leaves = same_counts row_22_at_3_4 row_22_at_3_4 refl refl }, refl),
         ),
       ),

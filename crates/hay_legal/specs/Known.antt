@@ -135,10 +135,13 @@ abbrev pub lacks_room : Settings → ℕ → ReplicaKnown → Bool
 lacks_room settings size replica = nat_lt settings.capacity (replica.end + total_of_lem size + 8)
 
 -- the lowest replica without room for a photo of this size
-abbrev pub room_refusal : Settings → Known → ℕ → ℕ → Option Refused
-room_refusal settings k v size =
+abbrev pub room_refusal_of : Settings → ℕ → VolumeKnown → ℕ → Option Refused
+room_refusal_of settings v volume size =
     option_map (λ at. NoRoom v (machine_of settings v at.0) (at.1).end (total_of_lem size))
-    (find (λ at. lacks_room settings size at.1) (enumerate_from 0 (volume_at k v).replicas))
+    (find (λ at. lacks_room settings size at.1) (enumerate_from 0 volume.replicas))
+
+abbrev pub room_refusal : Settings → Known → ℕ → ℕ → Option Refused
+room_refusal settings k v size = room_refusal_of settings v (volume_at k v) size
 
 abbrev pub refusal_by : ℕ → Option ℕ → Option Refused → Option Refused
 refusal_by v (Some m) room = Some (Closed v m)

@@ -1,5 +1,5 @@
 -- Which replies a command may have, and what the store stands at behind each.
-use Rattle.std.specs.Prelude.{◌≡◌, ◌≢◌, ℕ, ◌+◌, ◌-◌, ◌^◌, ◌<◌, ◌≤◌, ◌==◌, ◌⊎◌, min, not, Bool, true, false, List, [], ◌∷◌, ◌++◌, length, map, take_while, count_by, slice_get, slice_set, slice_index, ◌%◌, Option, Some, None, option_map}
+use Rattle.std.specs.Prelude.{◌≡◌, ◌≢◌, ℕ, ◌+◌, ◌-◌, ◌^◌, ◌<◌, ◌≤◌, ◌==◌, ◌⊎◌, min, not, Bool, true, false, List, [], ◌∷◌, ◌++◌, length, map, take_while, count_by, slice_get, slice_set, ◌%◌, Option, Some, None, option_map}
 use Rattle.std.specs.List.{AllZip, list_any}
 use Rattle.hay_needle.specs.declared.needle.Pair.{Pair}
 use Rattle.hay_needle.specs.declared.needle.Cookie.{Cookie}
@@ -530,12 +530,11 @@ LegalCommand settings k tag (command.Restart pick) reply t = ⊥
 
 -- the commands that are built
 abbrev pub is_built : Command → Bool
-is_built (command.Put pair bytes) = true
-is_built (command.Read pair cookie) = true
-is_built (command.Del pair) = true
-is_built (command.Fuse v m calls) = true
-is_built (command.Restart pick) = true
-is_built _ = false
+is_built (command.Begin v m) = false
+is_built (command.Step v m n) = false
+is_built (command.Finish v m) = false
+is_built (command.Compact v m) = false
+is_built _ = true
 
 -- A command that is not built yet is answered so, and changes nothing.
 abbrev pub LegalAnswer : Settings → Known → CoreTag → Command → Reply → Known → Type 0

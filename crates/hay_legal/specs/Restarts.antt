@@ -7,7 +7,6 @@ use Rattle.hay_reply.specs.declared.Note.{Note}
 use Rattle.hay_reply.specs.declared.Note.TheVariants.{Kept, Lost, KeptDir, LostDir}
 use Rattle.hay_core.specs.declared.entry.Entry.{Entry}
 use Rattle.hay_core.specs.declared.entry.Entry.TheVariants.{Put, Del}
-use Rattle.hay_needle.specs.declared.needle.Pair.{Pair}
 use Rattle.hay_needle.specs.Tables.{Table, live_end}
 use Rattle.hay_needle.specs.Sizes.{total_of_lem}
 use Rattle.hay_core.specs.Entries.{apply_entry}
@@ -18,7 +17,7 @@ use Rattle.hay_legal.specs.declared.known.ReplicaKnown.{ReplicaKnown}
 use Rattle.hay_legal.specs.declared.known.VolumeKnown.{VolumeKnown}
 use Rattle.hay_legal.specs.declared.known.DirKnown.{DirKnown}
 use Rattle.hay_legal.specs.declared.known.Known.{Known}
-use Rattle.hay_legal.specs.Known.{volume_at, replica_at, machine_of, replica_on, now, NoneFalls}
+use Rattle.hay_legal.specs.Known.{Leaves, replica_at, machine_of, replica_on, now, NoneFalls}
 use Rattle.hay_legal.specs.Plain.{has_pair}
 
 -- WHICH REPLICAS KEEP A PENDING CHANGE
@@ -126,33 +125,13 @@ kept_row pending kept = []
 abbrev pub directory_with : List HomeRow → DirKnown
 directory_with rows = record { rows = rows; frozen = false; pending = None }
 
--- the pair of a put
-abbrev pub pair_put : Entry → Option Pair
-pair_put (Put pair cookie bytes) = Some pair
-pair_put (Del pair) = None
-
 abbrev pub undrained : Bool → Bool
 undrained drained = false
-
--- Until rows have a file of their own they are those of the cells of replica 0: a put that was lost, and that was the first
--- of its pair, takes its row with it.
-pub record LosesRow (k : Known) (kept : List (List Bool)) (rows : List HomeRow) : Type 0 where
-  pub v : ℕ
-  pub pending : Pending
-  pub pair : Pair
-  pub there : (volume_at k v).pending ≡ Some pending
-  pub put : pair_put pending.entry ≡ Some pair
-  pub lost : is_kept (slice_index_or kept v []) 0 ≡ false
-  pub nothing : has_pair (volume_at k v) pair (replica_at (volume_at k v) 0) ≡ false
-  pub last : k.directory.rows ≡ rows ++ record { pair = pair; volume = v } ∷ []
-
-abbrev pub ReopensRows : Known → List (List Bool) → Bool → List HomeRow → Type 0
-ReopensRows k kept row rows = (rows ≡ k.directory.rows ++ kept_row k.directory.pending row) ⊎ LosesRow k kept rows
 
 -- From k the disks open as t, with these changes and this row kept.
 pub record Reopens (settings : Settings) (k : Known) (kept : List (List Bool)) (row : Bool) (t : Known) : Type 0 where
   pub volumes : ReopenedVolumes settings 0 k.volumes kept t.volumes
-  pub rows : ReopensRows k kept row t.directory.rows
+  pub rows : t.directory.rows ≡ k.directory.rows ++ kept_row k.directory.pending row
   pub directory : t.directory ≡ directory_with t.directory.rows
   pub drained : t.drained ≡ map undrained k.drained
   pub fuses : t.fuses ≡ k.fuses
@@ -196,14 +175,12 @@ pub record IsRestarted (settings : Settings) (k : Known) (d : ℕ) (notes : List
   pub told : notes ≡ restart_notes settings k kept row
   pub rows : d ≡ length t.directory.rows
 
--- Want of memory ends the run, and tells nothing of what was kept.
-pub record IsNotRestarted (settings : Settings) (k : Known) (notes : List Note) (t : Known) : Type 0 where
-  pub kept : List (List Bool)
-  pub row : Bool
-  pub opened : Reopens settings k kept row t
+-- Want of memory ends the run, and tells nothing of what was kept: what was known, pending changes with it, is known still.
+pub record IsNotRestarted (k : Known) (notes : List Note) (t : Known) : Type 0 where
+  pub leaves : Leaves k k t
   pub told : notes ≡ []
 
 abbrev pub LegalRestart : Settings → Known → Reply → List Note → Known → Type 0
 LegalRestart settings k (Restarted d) notes t = IsRestarted settings k d notes t
-LegalRestart settings k NoMem notes t = IsNotRestarted settings k notes t
+LegalRestart settings k NoMem notes t = IsNotRestarted k notes t
 LegalRestart settings k _ notes t = ⊥

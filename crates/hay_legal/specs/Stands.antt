@@ -5,9 +5,10 @@ use Rattle.hay_disk.specs.Disk.{Files, MayLeave}
 use Rattle.hay_needle.specs.Tables.{Table}
 use Rattle.hay_legal.specs.declared.known.HomeRow.{HomeRow}
 use Rattle.hay_legal.specs.declared.known.ReplicaKnown.{ReplicaKnown}
+use Rattle.hay_legal.specs.declared.known.VolumeKnown.{VolumeKnown}
 use Rattle.hay_legal.specs.declared.known.Known.{Known}
 use Rattle.hay_legal.specs.Known.{volume_at, replica_at, slot_of, disk_count, fault_count, arm_count, fuse_count}
-use Rattle.hay_legal.specs.Restarts.{Reopens}
+use Rattle.hay_legal.specs.Restarts.{Reopens, ReopenedVolume}
 
 -- What an opening finds on a replica's disk.
 pub record Found : Type 0 where
@@ -32,22 +33,29 @@ pub record Outside : Type 0 where
   pub arms : ℕ → ℕ
 
 -- A restart over these contents may find t.
-pub record IsFound (replica : Contents → Found → Type 0) (rows : (ℕ → Contents) → List HomeRow → Type 0) (settings : Settings) (image : ℕ → Contents) (t : Known) : Type 0 where
+pub record IsFound (replica : ℕ → ℕ → Contents → Found → Type 0) (rows : Contents → List HomeRow → Type 0) (settings : Settings) (image : ℕ → Contents) (t : Known) : Type 0 where
   pub replicas : (v j : ℕ) → v < settings.volumes → j < settings.replicas →
-      replica (image (slot_of settings v j)) (found_of (replica_at (volume_at t v) j))
-  pub directory : rows image t.directory.rows
+      replica v j (image (slot_of settings v j)) (found_of (replica_at (volume_at t v) j))
+  pub directory : rows (image 0) t.directory.rows
 
 -- what one of the outcomes of a restart from k is
-pub record HasOutcome (replica : Contents → Found → Type 0) (rows : (ℕ → Contents) → List HomeRow → Type 0) (settings : Settings) (k : Known) (image : ℕ → Contents) : Type 0 where
+pub record HasOutcome (replica : ℕ → ℕ → Contents → Found → Type 0) (rows : Contents → List HomeRow → Type 0) (settings : Settings) (k : Known) (image : ℕ → Contents) : Type 0 where
   pub kept : List (List Bool)
   pub row : Bool
   pub opened : Known
   pub reopens : Reopens settings k kept row opened
   pub found : IsFound replica rows settings image opened
 
+-- one volume's part of it, over the contents of its replicas' disks
+pub record VolumeOutcome (replica : ℕ → ℕ → Contents → Found → Type 0) (settings : Settings) (v : ℕ) (volume : VolumeKnown) (image : ℕ → Contents) : Type 0 where
+  pub kept : List Bool
+  pub opened : VolumeKnown
+  pub reopened : ReopenedVolume settings v volume kept opened
+  pub found : (j : ℕ) → j < settings.replicas → replica v j (image j) (found_of (replica_at opened j))
+
 -- In every image an opening finds one of the outcomes of a restart: where nothing is pending, stuck or poised, there is
 -- just one, which is what is known.
-pub record StandsOn (replica : Contents → Found → Type 0) (rows : (ℕ → Contents) → List HomeRow → Type 0) (settings : Settings) (k : Known) (outside : Outside) : Type 0 where
+pub record StandsOn (replica : ℕ → ℕ → Contents → Found → Type 0) (rows : Contents → List HomeRow → Type 0) (settings : Settings) (k : Known) (outside : Outside) : Type 0 where
   pub images : (image : ℕ → Contents) → ((slot : ℕ) → slot < disk_count settings → MayLeave (outside.files slot) (image slot)) →
       HasOutcome replica rows settings k image
   pub faults : (slot : ℕ) → slot < disk_count settings → fault_count k slot ≡ outside.faults slot

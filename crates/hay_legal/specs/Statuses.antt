@@ -103,7 +103,7 @@ abbrev pub contents_of : Outside → ℕ → Contents
 contents_of outside slot file = ((outside.files slot) file).now
 
 -- An opening of these disks finds a new store. Its counts are those behind the opening.
-pub record IsOpened (replica : Contents → Found → Type 0) (rows : (ℕ → Contents) → List HomeRow → Type 0) (settings : Settings) (taken : Outside) (k : Known) : Type 0 where
+pub record IsOpened (replica : ℕ → ℕ → Contents → Found → Type 0) (rows : Contents → List HomeRow → Type 0) (settings : Settings) (taken : Outside) (k : Known) : Type 0 where
   pub new : IsNew settings k
   pub found : IsFound replica rows settings (contents_of taken) k
   pub faults : (slot : ℕ) → slot < disk_count settings → taken.faults slot ≤ fault_count k slot
@@ -123,7 +123,7 @@ abbrev pub MayReopen : Settings → Known → Known → Type 0
 MayReopen settings k t = (t ≡ k) ⊎ ((kept : List (List Bool)) × (row : Bool) × Reopens settings k kept row t)
 
 -- An opening finds what was known, or what it was left at by a restart that was refused.
-pub record IsFoundFrom (replica : Contents → Found → Type 0) (rows : (ℕ → Contents) → List HomeRow → Type 0) (settings : Settings) (k : Known) (contents : ℕ → Contents) : Type 0 where
+pub record IsFoundFrom (replica : ℕ → ℕ → Contents → Found → Type 0) (rows : Contents → List HomeRow → Type 0) (settings : Settings) (k : Known) (contents : ℕ → Contents) : Type 0 where
   pub restarted : Known
   pub first : MayReopen settings k restarted
   pub opened : Known
@@ -131,13 +131,13 @@ pub record IsFoundFrom (replica : Contents → Found → Type 0) (rows : (ℕ �
   pub found : IsFound replica rows settings contents opened
 
 -- An opening did not succeed: in every image of the disks given back the next one finds what it may.
-pub record IsUnopened (replica : Contents → Found → Type 0) (rows : (ℕ → Contents) → List HomeRow → Type 0) (void : Contents → Type 0) (settings : Settings) (k : Known) (taken given : Outside) : Type 0 where
+pub record IsUnopened (replica : ℕ → ℕ → Contents → Found → Type 0) (rows : Contents → List HomeRow → Type 0) (void : Contents → Type 0) (settings : Settings) (k : Known) (taken given : Outside) : Type 0 where
   pub images : (image : ℕ → Contents) → ((slot : ℕ) → slot < disk_count settings → MayLeave (given.files slot) (image slot)) →
       (contents : ℕ → Contents) × ((slot : ℕ) → slot < disk_count settings → StandsIn void taken given image slot (contents slot))
       × IsFoundFrom replica rows settings k contents
 
 -- What the disks given back hold: what the last turn left, or what an opening that did not succeed has left.
-abbrev pub GivenBack : (Contents → Found → Type 0) → ((ℕ → Contents) → List HomeRow → Type 0) → (Contents → Type 0) → Settings → Ending → Known → Outside → Outside → Type 0
+abbrev pub GivenBack : (ℕ → ℕ → Contents → Found → Type 0) → (Contents → List HomeRow → Type 0) → (Contents → Type 0) → Settings → Ending → Known → Outside → Outside → Type 0
 GivenBack replica rows void settings NotOpened t taken given = IsUnopened replica rows void settings t taken given
 GivenBack replica rows void settings OutputFault t taken given =
     StandsOn replica rows settings t given ⊎ IsUnopened replica rows void settings t taken given
@@ -146,7 +146,7 @@ GivenBack replica rows void settings NoMemory t taken given =
 GivenBack replica rows void settings _ t taken given = StandsOn replica rows settings t given
 
 -- A whole run of a script: from the disks and arms as they were taken to those given back.
-pub record RunsTo (replica : Contents → Found → Type 0) (rows : (ℕ → Contents) → List HomeRow → Type 0) (void : Contents → Type 0) (settings : Settings) (ending : Ending) (script : List ℕ) (taken : Outside) (written : List ℕ) (given : Outside) : Type 0 where
+pub record RunsTo (replica : ℕ → ℕ → Contents → Found → Type 0) (rows : Contents → List HomeRow → Type 0) (void : Contents → Type 0) (settings : Settings) (ending : Ending) (script : List ℕ) (taken : Outside) (written : List ℕ) (given : Outside) : Type 0 where
   pub k : Known
   pub turns : List Turn
   pub t : Known

@@ -15,7 +15,7 @@ use Rattle.hay_reply.specs.declared.Cause.TheVariants.{Arm, Disk, Damage}
 use Rattle.hay_reply.specs.declared.Note.{Note}
 use Rattle.hay_reply.specs.declared.Note.TheVariants.{Kept, Lost}
 use Rattle.hay_reply.specs.declared.Reply.{Reply}
-use Rattle.hay_reply.specs.declared.Reply.TheVariants.{Stored, Deleted, Photo, Gone, WrongCookie, Unknown, Moved, Nowhere, Failed, FailedDir, Unreadable, Damaged, Restarted, Unbuilt, NoMem}
+use Rattle.hay_reply.specs.declared.Reply.TheVariants.{Stored, Deleted, Photo, Gone, WrongCookie, Unknown, Moved, Nowhere, Failed, FailedDir, Unreadable, Damaged, Restarted, NoMem}
 use Rattle.hay_core.specs.declared.entry.Entry.{Entry}
 use Rattle.hay_core.specs.declared.entry.Entry.TheVariants as entry
 use Rattle.hay_core.specs.declared.entry.CoreTag.{CoreTag}
@@ -178,13 +178,12 @@ LeavesAlone pair (Lanes items logs rows after) = ⊥
 LeavesAlone pair (Restart line pick reply notes after) = ⊥
 
 -- A reply to a reader that says nothing of what stands at the pair: every replica was passed over, memory was wanting, or a
--- URL is not of the pair's home. Gets are answered unbuilt until they are built.
+-- URL is not of the pair's home.
 abbrev pub SaysNothing : Reply → Type 0
 SaysNothing (Unreadable v p d causes) = Unit {0}
 SaysNothing NoMem = Unit {0}
 SaysNothing (Moved v d) = Unit {0}
 SaysNothing Nowhere = Unit {0}
-SaysNothing Unbuilt = Unit {0}
 SaysNothing _ = ⊥
 
 abbrev pub IsReadAs : List ℕ → Reply → Type 0
@@ -340,7 +339,7 @@ pub record IsTidy (settings : Settings) (k : Known) : Type 0 where
 abbrev pub TidyStays : Type 0
 TidyStays =
     (settings : Settings) (k t : Known) (turns : List Turn)
-    → IsOf settings k → IsTidy settings k → settings.replicas ≡ 1 → Each IsNoBlock turns → Legal settings k turns t
+    → IsOf settings k → IsTidy settings k → Each IsNoBlock turns → Legal settings k turns t
     → IsTidy settings t
 
 -- a reader that is shown no photo, and finds no cookie wrong
@@ -349,8 +348,7 @@ IsRefusedAsAbsent (Gone v m p d) = Unit {0}
 IsRefusedAsAbsent (Unknown d) = Unit {0}
 IsRefusedAsAbsent reply = SaysNothing reply
 
--- Behind a delete that was answered deleted, over plain turns and restarts until a put of the pair is stored or kept. The
--- pair may be unknown then: a put that was lost takes its row with it.
+-- Behind a delete that was answered deleted, over plain turns and restarts until a put of the pair is stored or kept.
 abbrev pub DeletedIsGoneBehindRestarts : Type 0
 DeletedIsGoneBehindRestarts =
     (settings : Settings) (k t : Known) (earlier between later : List Turn) (line line' : ℕ) (pair : Pair) (v p d : ℕ) (after after' : Known)
@@ -436,7 +434,7 @@ StandingPhotoIsShown =
     → HasEverywhere settings (known_behind k earlier) pair cookie bytes
     → IsShownOrNoMem bytes reply
 
--- So does a get by a URL of the home, on a machine that has a replica, unless gets are not built.
+-- So does a get by a URL of the home, on a machine that has a replica.
 abbrev pub StandingPhotoIsGot : Type 0
 StandingPhotoIsGot =
     (settings : Settings) (k t : Known) (earlier later : List Turn) (line : ℕ) (url : UrlParts) (bytes : List ℕ) (reply : Reply) (after : Known) (replica : ℕ)
@@ -446,5 +444,4 @@ StandingPhotoIsGot =
     → HasEverywhere settings (known_behind k earlier) url.pair url.cookie bytes
     → home_of (known_behind k earlier) url.pair ≡ Some url.volume
     → replica_on settings url.volume url.machine ≡ Some replica
-    → reply ≢ Unbuilt
     → IsShownOrNoMem bytes reply

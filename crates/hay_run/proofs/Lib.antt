@@ -1,5 +1,7 @@
 pub mod Asking
 pub mod Commanding
+pub mod Counting
+pub mod Giving
 pub mod Ran
 pub mod Reading
 pub mod Refusing
@@ -8,3 +10,4 @@ pub mod Serving
 pub mod Stopping
 pub mod Taking
 pub mod Turning
+pub mod Unread

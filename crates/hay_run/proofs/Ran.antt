@@ -8,21 +8,25 @@ use Rattle.hay_needle.specs.declared.settings.Settings.{Settings}
 use Rattle.hay_reply.specs.declared.Note.{Note}
 use Rattle.hay_reply.specs.Replies.{header_line, note_line}
 use Rattle.hay_script.specs.declared.Command.TheVariants as asks
+use Rattle.hay_legal.specs.declared.known.DirKnown.{DirKnown}
 use Rattle.hay_legal.specs.declared.known.Known.{Known}
+use Rattle.hay_legal.specs.declared.known.VolumeKnown.{VolumeKnown}
 use Rattle.hay_legal.specs.declared.turn.Item.TheVariants as item
 use Rattle.hay_legal.specs.declared.turn.Turn.{Turn}
 use Rattle.hay_legal.specs.Items.{Asked, items_of, item_of_turn}
 use Rattle.hay_legal.specs.Items.Asked.{Alone}
+use Rattle.hay_legal.specs.Known.{Leaves}
 use Rattle.hay_legal.specs.Legal.{Legal}
 use Rattle.hay_legal.specs.Stands.{Outside, StandsOn}
 use Rattle.hay_legal.specs.Statuses as statuses
 use Rattle.hay_legal.specs.Statuses.{IsFront, TellsOpening}
 use Rattle.hay_legal.specs.Transcript.{turn_text, transcript_text}
-use Rattle.hay_cluster.specs.Contents.{IsReplica, IsRows}
-use Rattle.hay_cluster.specs.Outside.{Aside}
-use Rattle.hay_cluster.specs.State.{Open}
+use Rattle.hay_directory.specs.Rows.{OpensRows}
+use Rattle.hay_logical.specs.Fits.{IsReplica}
+use Rattle.hay_cluster.specs.Outside.{IsVoid}
+use Rattle.hay_cluster.specs.Store.{Open}
 use Rattle.hay_legal.specs.Statuses.Ending.{ReadAll, OutputFault, InputFault, NoMemory, NotOpened, TooLong}
-use Rattle.hay_legal.specs.Restarts.{Reopens}
+use Rattle.hay_legal.specs.Restarts.{Reopens, ReopenedVolumes, kept_row, undrained}
 use Rattle.hay_run.specs.declared.stops.Stop.{Stop}
 use Rattle.hay_run.specs.declared.stops.Stop.TheVariants as stop
 use Rattle.hay_run.specs.Stops.{ending_of}
@@ -30,9 +34,10 @@ use Rattle.hay_run.specs.Stream.{Held, rest_of}
 use Rattle.hay_run.specs.Lines.{TookPart, TookOver, TookSome}
 use Rattle.hay_run.specs.Items.{TookItems, TookOpen}
 use Rattle.hay_run.specs.Turns.{Writing, Standing, Answers, TurnedPart, RestartRefused, Broke, HoldsNone, StopsTurn}
-use Rattle.hay_run.specs.Runs.{IsVoid, RanTo}
+use Rattle.hay_run.specs.Runs.{OpensTo, RanTo}
 use Rattle.hay_run.proofs.Asking.{took_items_more}
 use Rattle.hay_run.proofs.Reading.{ReadsFront, rest_none, breaks_off, over_part, front_some, front_read}
+use Rattle.hay_run.proofs.Counting.{NoneFalls-more}
 use Rattle.hay_run.proofs.Turning.{legal_more}
 
 -- WHAT IS WRITTEN
@@ -120,10 +125,10 @@ pub record RanPart (settings : Settings) (k : Known) (script : List ℕ) (left :
   pub legal : Legal settings k turns t
   pub front : IsFront (statuses.asked_of turns) (items_of reads.0)
   pub part : statuses.WrotePart settings t turns text
-  pub back : StandsOn (IsReplica settings) (IsRows settings) settings t given ⊎ statuses.IsUnopened (IsReplica settings) (IsRows settings) IsVoid settings t taken given
+  pub back : StandsOn (IsReplica settings) (OpensRows settings) settings t given ⊎ statuses.IsUnopened (IsReplica settings) (OpensRows settings) IsVoid settings t taken given
 
 pub ran_output : (settings : Settings) (k : Known) (script : List ℕ) (left : Option (List ℕ)) (taken given : Outside) (held : List ℕ) (written : Option (List ℕ))
-    → statuses.IsOpened (IsReplica settings) (IsRows settings) settings taken k → RanPart settings k script left taken given held written
+    → OpensTo settings taken k → RanPart settings k script left taken given held written
     → RanTo settings OutputFault script left taken given held written
 ran_output settings k script left taken given held written opened part = record {
   read = part.reads.0;
@@ -134,7 +139,7 @@ ran_output settings k script left taken given held written opened part = record 
 }
 
 pub ran_memory : (settings : Settings) (k : Known) (script : List ℕ) (left : Option (List ℕ)) (taken given : Outside) (held : List ℕ) (written : Option (List ℕ))
-    → statuses.IsOpened (IsReplica settings) (IsRows settings) settings taken k → RanPart settings k script left taken given held written
+    → OpensTo settings taken k → RanPart settings k script left taken given held written
     → RanTo settings NoMemory script left taken given held written
 ran_memory settings k script left taken given held written opened part = record {
   read = part.reads.0;
@@ -144,29 +149,43 @@ ran_memory settings k script left taken given held written opened part = record 
   runs = record { k = k; turns = part.turns; t = part.t; opened = opened; legal = part.legal; wrote = (part.front, part.part); back = part.back };
 }
 
+-- a restart finds no more where only counts have risen
+reopens_before : (settings : Settings) (k known : Known) (kept : List (List Bool)) (row : Bool) (t : Known) → Leaves k k known → Reopens settings known kept row t → Reopens settings k kept row t
+reopens_before settings k known kept row t leaves h =
+    let P : List VolumeKnown → Type 0 = λ volumes. ReopenedVolumes settings 0 volumes kept t.volumes in
+    record {
+      volumes = subst P leaves.volumes h.volumes;
+      rows = h.rows ∙ ap (λ (d : DirKnown). d.rows ++ kept_row d.pending row) leaves.directory;
+      directory = h.directory;
+      drained = h.drained ∙ ap (λ (l : List Bool). map undrained l) leaves.drained;
+      fuses = h.fuses ∙ leaves.fuses;
+      faults = NoneFalls-more k.faults known.faults t.faults leaves.faults h.faults;
+      arms = NoneFalls-more k.arms known.arms t.arms leaves.arms h.arms;
+    }
+
 -- what the disks given back hold where a restart was refused
-unopened : (settings : Settings) (k t : Known) (kept : List (List Bool)) (row : Bool) (taken given : Outside) → Reopens settings k kept row t
-    → StandsOn (IsReplica settings) (IsRows settings) settings t given → statuses.IsUnopened (IsReplica settings) (IsRows settings) IsVoid settings k taken given
-unopened settings k t kept row taken given reopens stands = record {
+unopened : (settings : Settings) (k t : Known) (taken given : Outside) → Leaves k k t
+    → StandsOn (IsReplica settings) (OpensRows settings) settings t given → statuses.IsUnopened (IsReplica settings) (OpensRows settings) IsVoid settings k taken given
+unopened settings k t taken given leaves stands = record {
   images = λ image may.
       let h = stands.images image may in (
         image,
         λ slot lt. inl (λ file. refl),
-        record { restarted = t; first = inr (kept, row, reopens); opened = h.opened; second = inr (h.kept, h.row, h.reopens); found = h.found },
+        record { restarted = k; first = inl refl; opened = h.opened; second = inr (h.kept, h.row, reopens_before settings k t h.kept h.row h.opened leaves h.reopens); found = h.found },
       );
 }
 
 -- FROM WHAT WAS SERVED
 
-module _ {D : Type 0} (Tells : Type 0) (Begins Left : Standing D) (settings : Settings) (taken given : Outside) (aside : Aside) (store store' : Open D) (k : Known)
+module _ {D P A : Type 0} (Tells : Type 0) (Begins Left : Standing D P A) (settings : Settings) (taken given : Outside) (store store' : Open D P A) (k : Known)
     (tells : Tells)
-    (opened : statuses.IsOpened (IsReplica settings) (IsRows settings) settings taken k)
+    (opened : OpensTo settings taken k)
     (store_is : store.settings ≡ settings) (store'_is : store'.settings ≡ settings)
-    (begins : Begins aside store k)
-    (weaken : (between : Open D) → between.settings ≡ settings → (known : Known) → Begins aside between known → Left aside between known)
-    (closed : (known : Known) → Left aside store' known → StandsOn (IsReplica settings) (IsRows settings) settings known given)
+    (begins : Begins store k)
+    (weaken : (between : Open D P A) → between.settings ≡ settings → (known : Known) → Begins between known → Left between known)
+    (closed : (known : Known) → Left store' known → StandsOn (IsReplica settings) (OpensRows settings) settings known given)
     (script held : List ℕ) (left written' : Option (List ℕ)) where
-  pub ran_all : (asked : List Asked) → asked ≡ items_of script → Answers Wrote Begins aside k asked (Some (held ++ header_line settings)) store' written' → left ≡ Some []
+  pub ran_all : (asked : List Asked) → asked ≡ items_of script → Answers Wrote Begins k asked (Some (held ++ header_line settings)) store' written' → left ≡ Some []
       → RanTo settings ReadAll script left taken given held written'
   ran_all asked all answers over =
       let P : Settings → Type 0 = λ s. Legal s k answers.turns answers.t in
@@ -186,18 +205,18 @@ module _ {D : Type 0} (Tells : Type 0) (Begins Left : Standing D) (settings : Se
         };
       }
 
-  module _ (asked : List Asked) (number : ℕ) (rest : Option (List ℕ)) (mid : Open D) (text : Option (List ℕ)) (holding : Held)
+  module _ (asked : List Asked) (number : ℕ) (rest : Option (List ℕ)) (mid : Open D P A) (text : Option (List ℕ)) (holding : Held)
       (took : TookItems 1 None (Some script) asked number rest false)
       (mid_is : mid.settings ≡ store.settings)
-      (answers : Answers Wrote Begins aside k asked (Some (held ++ header_line settings)) mid text) where
+      (answers : Answers Wrote Begins k asked (Some (held ++ header_line settings)) mid text) where
     mid_legal : Legal settings k answers.turns answers.t
     mid_legal = let P : Settings → Type 0 = λ s. Legal s k answers.turns answers.t in subst P (mid_is ∙ store_is) answers.legal
 
     mid_text : text ≡ Some (held ++ transcript_text settings answers.turns)
     mid_text = header_more settings held answers.turns text answers.wrote
 
-    mid_closed : store' ≡ mid → StandsOn (IsReplica settings) (IsRows settings) settings answers.t given
-    mid_closed same = let P : Open D → Type 0 = λ s. Left aside s answers.t in closed answers.t (subst P (sym same) (weaken mid (mid_is ∙ store_is) answers.t answers.left))
+    mid_closed : store' ≡ mid → StandsOn (IsReplica settings) (OpensRows settings) settings answers.t given
+    mid_closed same = let P : Open D P A → Type 0 = λ s. Left s answers.t in closed answers.t (subst P (sym same) (weaken mid (mid_is ∙ store_is) answers.t answers.left))
 
     -- a front of a text was written behind the turns
     part_text : (bytes : List ℕ) → WrotePart text bytes written' → (n : ℕ) × (written' ≡ Some (held ++ (transcript_text settings answers.turns ++ take n bytes)))
@@ -256,7 +275,7 @@ module _ {D : Type 0} (Tells : Type 0) (Begins Left : Standing D) (settings : Se
 
     pub ran_turn : TurnedPart Tells Begins Left mid number rest text store' (rest_of left holding) written' → RanPart settings k script left taken given held written'
     ran_turn p =
-        let last = p.answers tells aside answers.t answers.left in
+        let last = p.answers tells answers.t answers.left in
         let all = took_items_more 1 number p.next (Some script) rest (rest_of left holding) asked p.asked p.ended took p.took in
         let reads = front_read script (asked ++ p.asked) p.next left holding p.ended all in
         let wrote = part_text (flat_map turn_text last.turns) last.wrote in
@@ -288,11 +307,10 @@ module _ {D : Type 0} (Tells : Type 0) (Begins Left : Standing D) (settings : Se
 
     pub ran_refused : RestartRefused Tells WrotePart Begins Left mid number rest text store' (rest_of left holding) written' → RanPart settings k script left taken given held written'
     ran_refused r =
-        let f = r.refused tells aside answers.t answers.left in
+        let f = r.refused tells answers.t answers.left in
         let reads = restart_reads WrotePart r in
         let wrote = part_text (note_line f.note) f.wrote in
         let P : List Asked → Type 0 = λ all. IsFront all (items_of reads.read) in
-        let Q : Settings → Type 0 = λ s. Reopens s answers.t f.kept f.row f.t in
         record {
           reads = (reads.read, reads.rest, reads.script_is, reads.left_is);
           text = transcript_text settings answers.turns ++ take wrote.0 (note_line f.note);
@@ -304,7 +322,7 @@ module _ {D : Type 0} (Tells : Type 0) (Begins Left : Standing D) (settings : Se
           part = part_by settings answers.t answers.turns (transcript_text settings answers.turns ++ take wrote.0 (note_line f.note))
               (but_last_same settings answers.turns (take wrote.0 (note_line f.note)))
               (inr (f.note, f.tells, front_behind (transcript_text settings answers.turns) (take wrote.0 (note_line f.note)) (note_line f.note) (front_take wrote.0 (note_line f.note))));
-          back = inr (unopened settings answers.t f.t f.kept f.row taken given (subst Q store'_is f.reopens) (closed f.t f.left));
+          back = inr (unopened settings answers.t f.t taken given f.leaves (closed f.t f.left));
         }
 
     pub ran_broke : Broke Tells Begins Left mid number rest text store' (rest_of left holding) written' → RanPart settings k script left taken given held written'
@@ -313,10 +331,9 @@ module _ {D : Type 0} (Tells : Type 0) (Begins Left : Standing D) (settings : Se
 
     pub ran_store : RestartRefused Tells Wrote Begins Left mid number rest text store' (rest_of left holding) written' → RanTo settings NotOpened script left taken given held written'
     ran_store r =
-        let f = r.refused tells aside answers.t answers.left in
+        let f = r.refused tells answers.t answers.left in
         let reads = restart_reads Wrote r in
         let P : List Asked → Type 0 = λ all. IsFront (all ++ Alone number (item.Command (asks.Restart r.pick)) ∷ []) (items_of reads.read) in
-        let Q : Settings → Type 0 = λ s. Reopens s answers.t f.kept f.row f.t in
         let R : Option (List ℕ) → Type 0 = λ before. Wrote before (note_line f.note) written' in
         record {
           read = reads.read;
@@ -330,7 +347,7 @@ module _ {D : Type 0} (Tells : Type 0) (Begins Left : Standing D) (settings : Se
             opened = opened;
             legal = mid_legal;
             wrote = (inr (number, r.pick, subst P (sym answers.items) reads.front), (f.note, f.tells, refl));
-            back = unopened settings answers.t f.t f.kept f.row taken given (subst Q store'_is f.reopens) (closed f.t f.left);
+            back = unopened settings answers.t f.t taken given f.leaves (closed f.t f.left);
           };
         }
 

@@ -1,9 +1,10 @@
 -- Openings that were refused, and the run around what was served.
-use Rattle.std.proofs.Common.{◌≡◌, ◌≢◌, ◌⊎◌, inl, inr, ℕ, zero, suc, ◌+◌, ◌*◌, ◌<◌, ◌≤◌, List, [], ◌++◌, map, take, Option, Some, None, refl, sym, ap, subst, ◌∙◌, append_assoc, arith, lit≤}
-use Rattle.std.specs.Prelude.{Result, Ok, Err, OnOk, IsErrOf, ◌==◌, if◌then◌else◌}
+use Rattle.std.proofs.Common.{◌≡◌, ◌≢◌, ◌⊎◌, inl, inr, ℕ, zero, suc, ◌+◌, ◌*◌, ◌/◌, ◌%◌, ◌<◌, ◌≤◌, List, [], ◌++◌, take, Option, Some, None, refl, sym, ap, subst, ◌∙◌, append_assoc, arith}
+use Rattle.std.specs.Prelude.{slice_index, Result, Ok, Err, OnOk, ◌==◌, if◌then◌else◌}
 use Rattle.std.proofs.lemmas.List.{append-nil}
+use Rattle.std.proofs.lemmas.Nat.{div_below}
 use Rattle.hay_disk.specs.Counts.{Rose}
-use Rattle.hay_disk.specs.Disk.{KeepsOthers, MayLeave}
+use Rattle.hay_disk.specs.Disk.{MayLeave}
 use Rattle.hay_disk.specs.Shelf.{HeldDisk, HeldArm}
 use Rattle.hay_disk.specs.Streams.{Wrote, WrotePart}
 use Rattle.hay_needle.specs.declared.settings.Settings.{Settings}
@@ -11,22 +12,23 @@ use Rattle.hay_reply.specs.declared.Note.{Note}
 use Rattle.hay_reply.specs.declared.Note.TheVariants as told
 use Rattle.hay_reply.specs.Replies.{header_line, note_line}
 use Rattle.hay_legal.specs.declared.known.Known.{Known}
-use Rattle.hay_legal.specs.Known.{all_lanes, disk_count, slot_of, replica_at, volume_at}
-use Rattle.hay_legal.specs.Stands.{Contents, Found, Outside, found_of}
+use Rattle.hay_legal.specs.Known.{disk_count, slot_of, replica_at, volume_at}
+use Rattle.hay_legal.specs.Stands.{Outside, found_of}
 use Rattle.hay_legal.specs.Statuses as statuses
 use Rattle.hay_legal.specs.Statuses.{Ending, TellsOpening, contents_of, status_of}
 use Rattle.hay_legal.specs.Statuses.Ending.{ReadAll, OutputFault, InputFault, NoMemory, NotOpened, TooLong}
 use Rattle.hay_cluster.specs.declared.fault.ClusterFault.{ClusterFault}
 use Rattle.hay_cluster.specs.declared.fault.ClusterFault.TheVariants as refusal
-use Rattle.hay_cluster.specs.Contents.{IsReplica, IsRows, IsOpeningDamage, IsNotWhole}
-use Rattle.hay_cluster.specs.Outside.{Aside, aside_of, outside_of}
-use Rattle.hay_cluster.specs.State.{IsAlone, Open}
+use Rattle.hay_directory.specs.Rows.{OpensRows}
+use Rattle.hay_logical.specs.Fits.{IsReplica}
+use Rattle.hay_cluster.specs.Outside.{IsDamagedAt, IsKept, IsNotWhole, IsVoid, outside_of}
+use Rattle.hay_cluster.specs.Store.{Open}
 use Rattle.hay_run.specs.declared.stops.Stop.{Stop}
 use Rattle.hay_run.specs.declared.stops.Stop.TheVariants as stop
 use Rattle.hay_run.specs.Stops.{ending_of, note_of}
-use Rattle.hay_run.specs.Runs.{IsVoid, IsTaken, RanTo, UnopenedFor, NotOpenedFor}
-use Rattle.hay_run.specs.Turns.{Standing, RefusedFor, Halts}
-use Rattle.hay_run.proofs.Serving.{rose_more}
+use Rattle.hay_run.specs.Runs.{OpensTo, IsTaken, RanTo, IsDamaged, UnopenedFor, NotOpenedFor}
+use Rattle.hay_run.specs.Turns.{Standing, counts_of, RefusedFor, Halts}
+use Rattle.hay_run.proofs.Counting.{rose_more}
 use Rattle.hay_run.proofs.Restarting.{tells_failed}
 use Rattle.hay_run.proofs.Ran.{RanPart, ran_output, ran_memory, front_take, front_behind}
 
@@ -34,26 +36,14 @@ pub on_ok_both : {T E : Type 0} (P Q : Type 0) (r : Result T E) → OnOk r P →
 on_ok_both P Q (Ok x) p q = (p, q)
 on_ok_both P Q (Err e) p q = tt
 
--- what lies aside is as it was
-pub aside-same : (disks disks' : ℕ → HeldDisk) (arms arms' : ℕ → HeldArm) → KeepsOthers 1 disks disks' → arms' ≡ arms → aside_of disks arms ≡ aside_of disks' arms'
-aside-same disks disks' arms arms' others lanes =
-    let first : disks 0 ≡ disks' 0 = sym (others 0 (λ same. absurd (omega (arith, same)))) in
-    ap (λ (d : HeldDisk). record { faults = d.fault_count; fuses = d.fuse_count; arms = map (λ lane. (arms lane).fault_count) all_lanes }) first
-    ∙ ap (λ (a : ℕ → HeldArm). record { faults = (disks' 0).fault_count; fuses = (disks' 0).fuse_count; arms = map (λ lane. (a lane).fault_count) all_lanes }) (sym lanes)
-
-two_slots : (settings : Settings) → IsAlone settings → (slot : ℕ) → slot < disk_count settings → slot < 2
-two_slots settings alone slot lt =
-    let P : ℕ → ℕ → Type 0 = λ v r. slot < 1 + v * r in
-    let one : slot < 1 + 1 * 1 = rw (alone.volumes, alone.replicas) at lt in omega (arith, one)
-
 -- an opening finds the same again
-same_found : (settings : Settings) (taken : Outside) (k : Known) → statuses.IsOpened (IsReplica settings) (IsRows settings) settings taken k
-    → statuses.IsFoundFrom (IsReplica settings) (IsRows settings) settings k (contents_of taken)
+same_found : (settings : Settings) (taken : Outside) (k : Known) → OpensTo settings taken k
+    → statuses.IsFoundFrom (IsReplica settings) (OpensRows settings) settings k (contents_of taken)
 same_found settings taken k opened = record { restarted = k; first = inl refl; opened = k; second = inl refl; found = opened.found }
 
 -- no disk was touched
-pub untouched : (settings : Settings) (taken given : Outside) (k : Known) → given.files ≡ taken.files → statuses.IsOpened (IsReplica settings) (IsRows settings) settings taken k
-    → statuses.IsUnopened (IsReplica settings) (IsRows settings) IsVoid settings k taken given
+pub untouched : (settings : Settings) (taken given : Outside) (k : Known) → given.files ≡ taken.files → OpensTo settings taken k
+    → statuses.IsUnopened (IsReplica settings) (OpensRows settings) IsVoid settings k taken given
 untouched settings taken given k same opened = record {
   images = λ image may. (
     contents_of taken,
@@ -62,59 +52,61 @@ untouched settings taken given k same opened = record {
   );
 }
 
-abbrev pub Kept : (ℕ → HeldDisk) → (ℕ → HeldDisk) → Type 0
-Kept disks disks' = (((disks 1).files 1).now ≡ [])
-    ⊎ ((disks' 1).files ≡ (disks 1).files)
-    ⊎ ((image : ℕ → List ℕ) → MayLeave (disks' 1).files image → (n : ℕ) → image n ≡ ((disks 1).files n).now)
+-- each slot has a disk of the Directory or of a replica
+slot_found : (settings : Settings) (n : ℕ) → 1 ≤ settings.replicas → suc n < disk_count settings
+    → (v : ℕ) × (j : ℕ) × (v < settings.volumes) × (j < settings.replicas) × (slot_of settings v j ≡ suc n)
+slot_found settings n some below =
+    let inside : n < settings.volumes * settings.replicas = omega (arith, below) in
+    let split : settings.replicas * (n / settings.replicas) + n % settings.replicas ≡ n = omega (arith, some) in (
+      n / settings.replicas,
+      n % settings.replicas,
+      div_below n settings.replicas settings.volumes some inside,
+      omega (arith, some),
+      omega (arith, split),
+    )
 
-module _ (settings : Settings) (alone : IsAlone settings) (disks disks' : ℕ → HeldDisk) (arms arms' : ℕ → HeldArm) (k : Known) (taken : IsTaken settings (outside_of disks arms) k)
-    (others : KeepsOthers 1 disks disks') where
-  stands_in : Kept disks disks' → (image : ℕ → (ℕ → List ℕ)) → ((slot : ℕ) → slot < disk_count settings → MayLeave ((outside_of disks' arms').files slot) (image slot))
-      → (slot : ℕ) → slot < 2 → slot < disk_count settings → statuses.StandsIn IsVoid (outside_of disks arms) (outside_of disks' arms') image slot (contents_of (outside_of disks arms) slot)
-  stands_in kept image may zero lt within = inr (inr (ap (λ (d : HeldDisk). d.files) (others 0 (λ same. absurd (omega (arith, same)))), λ file. refl))
-  stands_in (inl void) image may (suc zero) lt within = inr (inl (void, void))
-  stands_in (inr (inl same)) image may (suc zero) lt within = inr (inr (same, λ file. refl))
-  stands_in (inr (inr all)) image may (suc zero) lt within = inl (λ file. sym (all (image 1) (may 1 within) file))
-  stands_in kept image may (suc (suc slot)) lt within = absurd (omega (arith, lt))
+-- what an opening finds is not damaged
+pub not_damaged : (settings : Settings) → 1 ≤ settings.replicas → (taken : Outside) (k : Known) → OpensTo settings taken k → (slot file at : ℕ) → IsDamaged settings taken slot file at → ⊥
+not_damaged settings some taken k opened zero file at damaged = damaged.not_whole.directory refl k.directory.rows opened.found.directory
+not_damaged settings some taken k opened (suc n) file at damaged =
+    let there = slot_found settings n some damaged.within in
+    let found = found_of (replica_at (volume_at k there.0) there.1) in
+    let P : ℕ → Type 0 = λ slot. IsReplica settings there.0 there.1 (contents_of taken slot) found in
+    damaged.not_whole.replica there.0 there.1 there.2 there.3 (sym there.4) found (subst P there.4 (opened.found.replicas there.0 there.1 there.2 there.3))
 
-  unopened : Kept disks disks' → statuses.IsUnopened (IsReplica settings) (IsRows settings) IsVoid settings k (outside_of disks arms) (outside_of disks' arms')
+-- what a refused opening has left of the disks of a store
+abbrev pub AreKept : Settings → (ℕ → HeldDisk) → (ℕ → HeldDisk) → Type 0
+AreKept settings disks disks' = (slot : ℕ) → slot < disk_count settings → IsKept (disks slot) (disks' slot)
+
+module _ (settings : Settings) (disks disks' : ℕ → HeldDisk) (arms arms' : ℕ → HeldArm) (k : Known) (taken : IsTaken settings (outside_of disks arms) k) where
+  stands_in : (slot : ℕ) (image : ℕ → (ℕ → List ℕ)) → MayLeave (disks' slot).files (image slot) → IsKept (disks slot) (disks' slot)
+      → statuses.StandsIn IsVoid (outside_of disks arms) (outside_of disks' arms') image slot (contents_of (outside_of disks arms) slot)
+  stands_in slot image may (inl void) = inr (inl (void, void))
+  stands_in slot image may (inr (inl same)) = inr (inr (same, λ file. refl))
+  stands_in slot image may (inr (inr all)) = inl (λ file. sym (all (image slot) may file))
+
+  unopened : AreKept settings disks disks' → statuses.IsUnopened (IsReplica settings) (OpensRows settings) IsVoid settings k (outside_of disks arms) (outside_of disks' arms')
   unopened kept = record {
     images = λ image may. (
       contents_of (outside_of disks arms),
-      λ slot lt. stands_in kept image may slot (two_slots settings alone slot lt) lt,
+      λ slot within. stands_in slot image (may slot within) (kept slot within),
       same_found settings (outside_of disks arms) k taken.opened,
     );
   }
 
-  some_disk : 1 < disk_count settings
-  some_disk = rw (alone.volumes, alone.replicas) (lit≤ tt)
+  tells_of : (Tells Unread : Type 0) → Tells → (shelf shelf' : ℕ) (note : Note) → UnopenedFor Tells Unread settings shelf (outside_of disks arms) shelf' (outside_of disks' arms') note → TellsOpening k note
+  tells_of Tells Unread tells shelf shelf' (told.OpenShelf count) cause = tt
+  tells_of Tells Unread tells shelf shelf' (told.OpenFailed slot count) cause =
+      tells_failed k slot count (disks slot).fault_count (disks' slot).fault_count (taken.counts slot cause.0) cause.1 cause.2
+  tells_of Tells Unread tells shelf shelf' (told.OpenDamaged slot file at) cause = (cause tells).0 k taken.opened
+  tells_of Tells Unread tells shelf shelf' (told.Kept v m line) cause = absurd cause
+  tells_of Tells Unread tells shelf shelf' (told.Lost v m line) cause = absurd cause
+  tells_of Tells Unread tells shelf shelf' (told.KeptDir line) cause = absurd cause
+  tells_of Tells Unread tells shelf shelf' (told.LostDir line) cause = absurd cause
+  tells_of Tells Unread tells shelf shelf' (told.Log v from lines) cause = absurd cause
+  tells_of Tells Unread tells shelf shelf' (told.Rows from rows) cause = absurd cause
 
-  whole_disk : (contents : Contents) (found : Found) → IsReplica settings contents found → IsNotWhole settings (contents 1) → ⊥
-  unfolding IsReplica
-  whole_disk contents found (inl void) not = not.0 void.0
-  whole_disk contents found (inr some) not = not.1 some.cells found.end some.volume
-
-  not_damaged : IsNotWhole settings ((disks 1).files 1).now → ⊥
-  not_damaged not =
-      let found = found_of (replica_at (volume_at k 0) 0) in
-      let P : ℕ → Type 0 = λ slot. IsReplica settings (contents_of (outside_of disks arms) slot) found in
-      let first : slot_of settings 0 0 ≡ 1 = rw alone.replicas refl in
-      whole_disk (contents_of (outside_of disks arms) 1) found
-      (subst P first (taken.opened.found.replicas 0 0 (rw alone.volumes (lit≤ tt)) (rw alone.replicas (lit≤ tt)))) not
-
-  tells_of : (Tells : Type 0) → Tells → (shelf shelf' : ℕ) (note : Note) → UnopenedFor Tells settings shelf disks shelf' disks' note → TellsOpening k note
-  tells_of Tells tells shelf shelf' (told.OpenShelf count) cause = tt
-  tells_of Tells tells shelf shelf' (told.OpenFailed slot count) cause =
-      tells_failed k slot count (disks 1).fault_count (disks' 1).fault_count (taken.counts 1 some_disk) cause.0 cause.1 cause.2
-  tells_of Tells tells shelf shelf' (told.OpenDamaged slot file at) cause = let damage = cause tells in not_damaged damage.3
-  tells_of Tells tells shelf shelf' (told.Kept v m line) cause = absurd cause
-  tells_of Tells tells shelf shelf' (told.Lost v m line) cause = absurd cause
-  tells_of Tells tells shelf shelf' (told.KeptDir line) cause = absurd cause
-  tells_of Tells tells shelf shelf' (told.LostDir line) cause = absurd cause
-  tells_of Tells tells shelf shelf' (told.Log v from lines) cause = absurd cause
-  tells_of Tells tells shelf shelf' (told.Rows from rows) cause = absurd cause
-
-  module _ (script held : List ℕ) (written' : Option (List ℕ)) (kept : Kept disks disks') where
+  module _ (script held : List ℕ) (written' : Option (List ℕ)) (kept : AreKept settings disks disks') where
     -- a note was written behind the header, or a front of it
     noted : (note : Note) → TellsOpening k note → WrotePart (Some (held ++ header_line settings)) (note_line note) written'
         → RanPart settings k script (Some script) (outside_of disks arms) (outside_of disks' arms') held written'
@@ -170,40 +162,40 @@ module _ (settings : Settings) (alone : IsAlone settings) (disks disks' : ℕ �
     not_store why not (inl is) = absurd (not is)
     not_store why not (inr x) = x
 
-    broken : (Tells : Type 0) → Tells → (shelf shelf' : ℕ) (fault : ClusterFault) (why : Stop) (note : Option Note) → note_of fault ≡ note
-        → ((note : Note) → note_of fault ≡ Some note → UnopenedFor Tells settings shelf disks shelf' disks' note)
+    broken : (Tells Unread : Type 0) → Tells → (shelf shelf' : ℕ) (fault : ClusterFault) (why : Stop) (note : Option Note) → note_of fault ≡ note
+        → ((note : Note) → note_of fault ≡ Some note → UnopenedFor Tells Unread settings shelf (outside_of disks arms) shelf' (outside_of disks' arms') note)
         → ((note : Note) → note_of fault ≡ Some note → (why ≡ stop.Store) ⊎ WrotePart (Some (held ++ header_line settings)) (note_line note) written')
         → (note_of fault ≡ None → (why ≡ stop.NoMemory) × (written' ≡ Some (held ++ header_line settings)))
         → why ≢ stop.Store → RanPart settings k script (Some script) (outside_of disks arms) (outside_of disks' arms') held written'
-    broken Tells tells shelf shelf' fault why (Some note) is cause part wanting not =
-        noted note (tells_of Tells tells shelf shelf' note (cause note is)) (not_store why not (part note is))
-    broken Tells tells shelf shelf' fault why None is cause part wanting not = header_alone (wanting is).1
+    broken Tells Unread tells shelf shelf' fault why (Some note) is cause part wanting not =
+        noted note (tells_of Tells Unread tells shelf shelf' note (cause note is)) (not_store why not (part note is))
+    broken Tells Unread tells shelf shelf' fault why None is cause part wanting not = header_alone (wanting is).1
 
     -- how the refusal of an opening was told
-    pub ran_unopened : (Tells : Type 0) → Tells → (shelf shelf' : ℕ) (fault : ClusterFault) (why : Stop)
-        → ((note : Note) → note_of fault ≡ Some note → UnopenedFor Tells settings shelf disks shelf' disks' note)
+    pub ran_unopened : (Tells Unread : Type 0) → Tells → (shelf shelf' : ℕ) (fault : ClusterFault) (why : Stop)
+        → ((note : Note) → note_of fault ≡ Some note → UnopenedFor Tells Unread settings shelf (outside_of disks arms) shelf' (outside_of disks' arms') note)
         → (why ≡ stop.Store → (note : Note) × (note_of fault ≡ Some note) × Wrote (Some (held ++ header_line settings)) (note_line note) written')
         → ((note : Note) → note_of fault ≡ Some note → (why ≡ stop.Store) ⊎ WrotePart (Some (held ++ header_line settings)) (note_line note) written')
         → (note_of fault ≡ None → (why ≡ stop.NoMemory) × (written' ≡ Some (held ++ header_line settings)))
         → (why ≡ stop.Output) ⊎ (why ≡ stop.NoMemory) ⊎ (why ≡ stop.Store)
         → RanTo settings (ending_of why) script (Some script) (outside_of disks arms) (outside_of disks' arms') held written'
-    ran_unopened Tells tells shelf shelf' fault stop.Store cause whole part wanting kinds =
-        let note = whole refl in note_whole note.0 (tells_of Tells tells shelf shelf' note.0 (cause note.0 note.1)) note.2
-    ran_unopened Tells tells shelf shelf' fault stop.Output cause whole part wanting kinds =
+    ran_unopened Tells Unread tells shelf shelf' fault stop.Store cause whole part wanting kinds =
+        let note = whole refl in note_whole note.0 (tells_of Tells Unread tells shelf shelf' note.0 (cause note.0 note.1)) note.2
+    ran_unopened Tells Unread tells shelf shelf' fault stop.Output cause whole part wanting kinds =
         ran_output settings k script (Some script) (outside_of disks arms) (outside_of disks' arms') held written' taken.opened
-        (broken Tells tells shelf shelf' fault stop.Output (note_of fault) refl cause part wanting (λ is. cc))
-    ran_unopened Tells tells shelf shelf' fault stop.NoMemory cause whole part wanting kinds =
+        (broken Tells Unread tells shelf shelf' fault stop.Output (note_of fault) refl cause part wanting (λ is. cc))
+    ran_unopened Tells Unread tells shelf shelf' fault stop.NoMemory cause whole part wanting kinds =
         ran_memory settings k script (Some script) (outside_of disks arms) (outside_of disks' arms') held written' taken.opened
-        (broken Tells tells shelf shelf' fault stop.NoMemory (note_of fault) refl cause part wanting (λ is. cc))
-    ran_unopened Tells tells shelf shelf' fault stop.Input cause whole part wanting (inl is) = cc
-    ran_unopened Tells tells shelf shelf' fault stop.Input cause whole part wanting (inr (inl is)) = cc
-    ran_unopened Tells tells shelf shelf' fault stop.Input cause whole part wanting (inr (inr is)) = cc
-    ran_unopened Tells tells shelf shelf' fault stop.TooLong cause whole part wanting (inl is) = cc
-    ran_unopened Tells tells shelf shelf' fault stop.TooLong cause whole part wanting (inr (inl is)) = cc
-    ran_unopened Tells tells shelf shelf' fault stop.TooLong cause whole part wanting (inr (inr is)) = cc
+        (broken Tells Unread tells shelf shelf' fault stop.NoMemory (note_of fault) refl cause part wanting (λ is. cc))
+    ran_unopened Tells Unread tells shelf shelf' fault stop.Input cause whole part wanting (inl is) = cc
+    ran_unopened Tells Unread tells shelf shelf' fault stop.Input cause whole part wanting (inr (inl is)) = cc
+    ran_unopened Tells Unread tells shelf shelf' fault stop.Input cause whole part wanting (inr (inr is)) = cc
+    ran_unopened Tells Unread tells shelf shelf' fault stop.TooLong cause whole part wanting (inl is) = cc
+    ran_unopened Tells Unread tells shelf shelf' fault stop.TooLong cause whole part wanting (inr (inl is)) = cc
+    ran_unopened Tells Unread tells shelf shelf' fault stop.TooLong cause whole part wanting (inr (inr is)) = cc
 
 -- The header was not written whole, and no disk was touched.
-pub ran_header : (settings : Settings) (taken : Outside) (k : Known) → statuses.IsOpened (IsReplica settings) (IsRows settings) settings taken k
+pub ran_header : (settings : Settings) (taken : Outside) (k : Known) → OpensTo settings taken k
     → (script held : List ℕ) (written' : Option (List ℕ)) → WrotePart (Some held) (header_line settings) written'
     → RanPart settings k script (Some script) taken taken held written'
 ran_header settings taken k opened script held written' wrote = record {
@@ -220,45 +212,57 @@ ran_header settings taken k opened script held written' wrote = record {
 
 -- WHY A STORE IS NOT OPENED
 
-module _ (Tells : Type 0) (settings : Settings) (shelf shelf' : ℕ) (disks disks' : ℕ → HeldDisk) where
+module _ (Tells Unread : Type 0) (settings : Settings) (shelf shelf' : ℕ) (taken given : Outside) where
   -- as the refusal of the opening says
-  pub cause_of : (fault : ClusterFault)
+  pub cause_of : 1 ≤ settings.replicas → (fault : ClusterFault)
       → ((count : ℕ) → fault ≡ refusal.Shelf count → Rose shelf shelf' × (count ≡ shelf'))
-      → ((slot count : ℕ) → fault ≡ refusal.Failed slot count → (slot ≡ 1) × Rose (disks 1).fault_count (disks' 1).fault_count × (count ≡ (disks' 1).fault_count))
-      → (Tells → (slot file at : ℕ) → fault ≡ refusal.Damaged slot file at → (slot ≡ 1) × (file ≡ 1) × IsOpeningDamage settings ((disks 1).files 1).now at × IsNotWhole settings ((disks 1).files 1).now)
-      → (note : Note) → note_of fault ≡ Some note → UnopenedFor Tells settings shelf disks shelf' disks' note
-  cause_of (refusal.Shelf count) of_shelf of_disk of_damage note is =
-      let same : note ≡ told.OpenShelf count = cc in subst (UnopenedFor Tells settings shelf disks shelf' disks') (sym same) (of_shelf count refl)
-  cause_of (refusal.Failed slot count) of_shelf of_disk of_damage note is =
-      let same : note ≡ told.OpenFailed slot count = cc in subst (UnopenedFor Tells settings shelf disks shelf' disks') (sym same) (of_disk slot count refl)
-  cause_of (refusal.Damaged slot file at) of_shelf of_disk of_damage note is =
+      → ((slot count : ℕ) → fault ≡ refusal.Failed slot count → (slot < disk_count settings) × Rose (taken.faults slot) (given.faults slot) × (count ≡ given.faults slot))
+      → (Tells → (slot file at : ℕ) → fault ≡ refusal.Damaged slot file at → (slot < disk_count settings) × IsNotWhole settings slot (contents_of taken slot) × IsDamagedAt settings slot file at (contents_of taken slot))
+      → (note : Note) → note_of fault ≡ Some note → UnopenedFor Tells Unread settings shelf taken shelf' given note
+  cause_of some (refusal.Shelf count) of_shelf of_disk of_damage note is =
+      let same : note ≡ told.OpenShelf count = cc in subst (UnopenedFor Tells Unread settings shelf taken shelf' given) (sym same) (of_shelf count refl)
+  cause_of some (refusal.Failed slot count) of_shelf of_disk of_damage note is =
+      let same : note ≡ told.OpenFailed slot count = cc in subst (UnopenedFor Tells Unread settings shelf taken shelf' given) (sym same) (of_disk slot count refl)
+  cause_of some (refusal.Damaged slot file at) of_shelf of_disk of_damage note is =
       let same : note ≡ told.OpenDamaged slot file at = cc in
-      subst (UnopenedFor Tells settings shelf disks shelf' disks') (sym same) (λ tells. of_damage tells slot file at refl)
-  cause_of refusal.NoMemory of_shelf of_disk of_damage note is = cc
+      subst (UnopenedFor Tells Unread settings shelf taken shelf' given) (sym same)
+      (λ tells. let d = of_damage tells slot file at refl in
+      let damaged : IsDamaged settings taken slot file at = record { within = d.0; not_whole = d.1; place = d.2 } in (
+        λ k opened. not_damaged settings some taken k opened slot file at damaged,
+        λ unread. damaged,
+      ))
+  cause_of some refusal.NoMemory of_shelf of_disk of_damage note is = cc
 
   -- as the refusal of a restart says
-  cause_later : {D : Type 0} (Begins : Standing D) (faults : D → ℕ) (store store' : Open D) (note : Note)
-      → (disks 1).fault_count ≤ faults store.disk → (disks' 1).fault_count ≡ faults store'.disk → (Tells → (aside : Aside) × (k : Known) × Begins aside store k)
-      → RefusedFor Tells Begins faults store store' note → UnopenedFor Tells settings shelf disks shelf' disks' note
-  cause_later Begins faults store store' (told.OpenFailed slot count) later back stands h =
-      let P : ℕ → Type 0 = λ n. Rose (disks 1).fault_count n in
-      (h.0, subst P (sym back) (rose_more (disks 1).fault_count (faults store.disk) (faults store'.disk) later h.1), h.2 ∙ sym back)
-  cause_later Begins faults store store' (told.OpenDamaged slot file at) later back stands h =
-      λ tells. let s = stands tells in absurd (h tells s.0 s.1 s.2)
-  cause_later Begins faults store store' (told.OpenShelf count) later back stands h = absurd h
-  cause_later Begins faults store store' (told.Kept v m line) later back stands h = absurd h
-  cause_later Begins faults store store' (told.Lost v m line) later back stands h = absurd h
-  cause_later Begins faults store store' (told.KeptDir line) later back stands h = absurd h
-  cause_later Begins faults store store' (told.LostDir line) later back stands h = absurd h
-  cause_later Begins faults store store' (told.Log v from lines) later back stands h = absurd h
-  cause_later Begins faults store store' (told.Rows from rows) later back stands h = absurd h
+  module _ {D P A : Type 0} (Begins : Standing D P A) (faults : D → ℕ) (store store' : Open D P A)
+      (same : store.settings ≡ settings)
+      (later : (slot : ℕ) → slot < disk_count settings → taken.faults slot ≤ slice_index (counts_of faults store) slot)
+      (back : (slot : ℕ) → slot < disk_count settings → given.faults slot ≡ slice_index (counts_of faults store') slot)
+      (stands : Tells → (k : Known) → OpensTo settings taken k → (t : Known) × Begins store t)
+      (read : Unread → ⊥) where
+    cause_later : (note : Note) → RefusedFor Tells Begins faults store store' note → UnopenedFor Tells Unread settings shelf taken shelf' given note
+    cause_later (told.OpenFailed slot count) h =
+        let P : ℕ → Type 0 = λ n. Rose (taken.faults slot) n in
+        let Q : Settings → Type 0 = λ s. slot < disk_count s in
+        let within : slot < disk_count settings = subst Q same h.0 in (
+          within,
+          subst P (sym (back slot within)) (rose_more (taken.faults slot) (slice_index (counts_of faults store) slot) (slice_index (counts_of faults store') slot) (later slot within) h.1),
+          h.2 ∙ sym (back slot within),
+        )
+    cause_later (told.OpenDamaged slot file at) h =
+        λ tells. (λ k opened. let s = stands tells k opened in h tells s.0 s.1, λ unread. absurd (read unread))
+    cause_later (told.OpenShelf count) h = absurd h
+    cause_later (told.Kept v m line) h = absurd h
+    cause_later (told.Lost v m line) h = absurd h
+    cause_later (told.KeptDir line) h = absurd h
+    cause_later (told.LostDir line) h = absurd h
+    cause_later (told.Log v from lines) h = absurd h
+    cause_later (told.Rows from rows) h = absurd h
 
-  pub not_opened_later : {D : Type 0} (Begins : Standing D) (faults : D → ℕ) (store store' : Open D) (written' : Option (List ℕ))
-      → (disks 1).fault_count ≤ faults store.disk → (disks' 1).fault_count ≡ faults store'.disk → (Tells → (aside : Aside) × (k : Known) × Begins aside store k)
-      → Halts Tells Begins faults store store' written' → NotOpenedFor Tells settings shelf disks shelf' disks' written'
-  not_opened_later Begins faults store store' written' later back stands h = (h.0, cause_later Begins faults store store' h.0 later back stands h.1, h.2)
+    pub not_opened_later : (written' : Option (List ℕ)) → Halts Tells Begins faults store store' written' → NotOpenedFor Tells Unread settings shelf taken shelf' given written'
+    not_opened_later written' h = (h.0, cause_later h.0 h.1, h.2)
 
-pub ran_unwritten : (settings : Settings) (taken : Outside) (k : Known) → statuses.IsOpened (IsReplica settings) (IsRows settings) settings taken k
+pub ran_unwritten : (settings : Settings) (taken : Outside) (k : Known) → OpensTo settings taken k
     → (script held : List ℕ) (written' : Option (List ℕ)) → WrotePart (Some held) (header_line settings) written'
     → (r : Result (Unit {0}) Stop) (why : Stop) → r ≡ Err why → (r ≡ Err stop.Output) ⊎ (r ≡ Err stop.NoMemory)
     → RanTo settings (ending_of why) script (Some script) taken taken held written'
@@ -295,7 +299,7 @@ module _ (settings : Settings) (script : List ℕ) (left : Option (List ℕ)) (t
   ran_by other same ran = subst (λ e. RanTo settings e script left taken given held written') (same_ending other ending same) ran
 
 -- Nothing was read or written, and no disk was touched.
-pub ran_nothing : (settings : Settings) (taken : Outside) (k : Known) → statuses.IsOpened (IsReplica settings) (IsRows settings) settings taken k
+pub ran_nothing : (settings : Settings) (taken : Outside) (k : Known) → OpensTo settings taken k
     → (script held : List ℕ) (written : Option (List ℕ)) → written ≡ Some held → (ending : Ending) → status_of NoMemory ≡ status_of ending
     → RanTo settings ending script (Some script) taken taken held written
 ran_nothing settings taken k opened script held written same ending is =
@@ -311,21 +315,6 @@ ran_nothing settings taken k opened script held written same ending is =
       part = (tt, inl (header_line settings ++ [], refl));
       back = inr (untouched settings taken taken k refl opened);
     }))
-
--- the script broke off, by the status
-pub broke_off : (why : Stop) → (status_of (ending_of why) ≡ 0) ⊎ (status_of (ending_of why) ≡ 4) ⊎ (status_of (ending_of why) ≡ 7)
-    → IsErrOf {T = Unit {0}} {E = Stop} (Err why) stop.Input ⊎ IsErrOf {T = Unit {0}} {E = Stop} (Err why) stop.TooLong
-broke_off stop.Input is = inl refl
-broke_off stop.TooLong is = inr refl
-broke_off stop.Output (inl e) = absurd (omega (arith, e))
-broke_off stop.Output (inr (inl e)) = absurd (omega (arith, e))
-broke_off stop.Output (inr (inr e)) = absurd (omega (arith, e))
-broke_off stop.NoMemory (inl e) = absurd (omega (arith, e))
-broke_off stop.NoMemory (inr (inl e)) = absurd (omega (arith, e))
-broke_off stop.NoMemory (inr (inr e)) = absurd (omega (arith, e))
-broke_off stop.Store (inl e) = absurd (omega (arith, e))
-broke_off stop.Store (inr (inl e)) = absurd (omega (arith, e))
-broke_off stop.Store (inr (inr e)) = absurd (omega (arith, e))
 
 pub store_by : (why : Stop) → status_of (ending_of why) ≡ 6 → why ≡ stop.Store
 store_by stop.Output e = absurd (omega (arith, e))

@@ -3,7 +3,7 @@ use Rattle.std.proofs.Common.{inl, inr, ℕ, ◌+◌, ◌≤◌, Bool, List, len
 use Rattle.hay_script.specs.declared.Line.{Line}
 use Rattle.hay_script.specs.declared.Line.TheVariants as line
 use Rattle.hay_legal.specs.Items.{Asked, outside}
-use Rattle.hay_cluster.specs.State.{Open}
+use Rattle.hay_cluster.specs.Store.{Open}
 use Rattle.hay_disk.specs.Streams.{WrotePart}
 use Rattle.hay_run.specs.Items.{TookItems}
 use Rattle.hay_run.specs.Stopping.{RefusedAsked, BrokeAsked}
@@ -18,8 +18,8 @@ outside-one number line.Bad = lit≤ tt
 outside-one number line.End = lit≤ tt
 outside-one number (line.InLane lane command) = lit≤ tt
 
-module _ {D : Type 0} (Tells : Type 0) where
-  pub refused_line : (Writes : Writing) (Begins Left : Standing D) (number : ℕ) (said : Line) (store store' : Open D) (written written' before after : Option (List ℕ)) (ended : Bool)
+module _ {D P A : Type 0} (Tells : Type 0) where
+  pub refused_line : (Writes : Writing) (Begins Left : Standing D P A) (number : ℕ) (said : Line) (store store' : Open D P A) (written written' before after : Option (List ℕ)) (ended : Bool)
       → TookItems number None before (outside number said).0 (number + 1) after ended
       → RefusedAsked Tells Writes Begins Left number (outside number said).0 store written store' written'
       → RestartRefused Tells Writes Begins Left store number before written store' after written'
@@ -33,7 +33,7 @@ module _ {D : Type 0} (Tells : Type 0) where
         refused = refused.2;
       }
 
-  pub broke_line : (Begins Left : Standing D) (number : ℕ) (said : Line) (store store' : Open D) (written written' before after : Option (List ℕ)) (ended : Bool)
+  pub broke_line : (Begins Left : Standing D P A) (number : ℕ) (said : Line) (store store' : Open D P A) (written written' before after : Option (List ℕ)) (ended : Bool)
       → TookItems number None before (outside number said).0 (number + 1) after ended
       → BrokeAsked Tells Begins Left number (outside number said).0 store written store' written'
       → Broke Tells Begins Left store number before written store' after written'

@@ -1,5 +1,5 @@
 -- One turn after another.
-use Rattle.std.proofs.Common.{◌≡◌, ◌⊎◌, inl, inr, ℕ, ◌≤◌, List, [], ◌∷◌, ◌++◌, map, Option, Some, None, refl, sym, ap, subst, ◌∙◌, append_assoc, length, take, arith}
+use Rattle.std.proofs.Common.{◌≡◌, ◌⊎◌, inl, inr, ℕ, List, [], ◌∷◌, ◌++◌, map, Option, Some, None, refl, sym, ap, subst, ◌∙◌, append_assoc, length, take}
 use Rattle.std.specs.Prelude.{flat_map}
 use Rattle.std.specs.List.{AllByRecursion}
 use Rattle.std.specs.Prelude.{Result, Err, OnErr}
@@ -7,7 +7,6 @@ use Rattle.std.proofs.lemmas.Grind.{flat_map-append}
 use Rattle.std.proofs.lemmas.List.{append-nil, map-append}
 use Rattle.std.proofs.Math.Seq.{take-length}
 use Rattle.std.proofs.lemmas.Result.{IfErr-at_err}
-use Rattle.hay_disk.specs.Counts.{Rose}
 use Rattle.hay_disk.specs.Streams.{Wrote, WrotePart}
 use Rattle.hay_needle.specs.declared.settings.Settings.{Settings}
 use Rattle.hay_script.specs.declared.Command.{Command}
@@ -23,15 +22,15 @@ use Rattle.hay_legal.specs.declared.turn.Turn.{Turn}
 use Rattle.hay_legal.specs.declared.turn.Turn.TheVariants.{Plain, Lanes, Restart}
 use Rattle.hay_legal.specs.Items.{Asked, InBlock, item_of_turn, line_asked}
 use Rattle.hay_legal.specs.Items.Asked.{Alone, Block}
-use Rattle.hay_legal.specs.Known.{Leaves, NoneFalls}
+use Rattle.hay_legal.specs.Known.{Leaves}
 use Rattle.hay_legal.specs.Legal.{Legal, known_after, IsUnbuiltLine}
 use Rattle.hay_legal.specs.Plain.{LegalAnswer}
 use Rattle.hay_legal.specs.Restarts.{LegalRestart}
 use Rattle.hay_legal.specs.Transcript.{turn_text, answered_line}
-use Rattle.hay_cluster.specs.Outside.{Aside}
-use Rattle.hay_cluster.specs.State.{Open}
+use Rattle.hay_cluster.specs.Store.{Open}
 use Rattle.hay_run.specs.Turns.{Writing, Standing, Answers}
 use Rattle.hay_run.specs.Unbuilt.{unbuilt_reply, unbuilt_text, unbuilt_line}
+use Rattle.hay_run.proofs.Counting.{NoneFalls-same}
 
 -- what holds of each error holds of these two
 pub on_either : {T P : Type 0} {E : Type 0} (r : Result T E) (a b : E) → OnErr r P → (r ≡ Err a) ⊎ (r ≡ Err b) → P
@@ -52,10 +51,6 @@ wrote_more (Some old) (Some new) after a b h k =
     k ∙ ap (λ (bytes : List ℕ). Some (bytes ++ b)) same ∙ ap (λ (bytes : List ℕ). Some bytes) (append_assoc old a b)
 
 -- nothing changes
-
-NoneFalls-same : (counts : List ℕ) → NoneFalls counts counts
-NoneFalls-same [] = tt
-NoneFalls-same (count ∷ counts) = (omega arith, NoneFalls-same counts)
 
 leaves_same : (k : Known) → Leaves k k k
 leaves_same k = record { volumes = refl; directory = refl; drained = refl; fuses = refl; faults = NoneFalls-same k.faults; arms = NoneFalls-same k.arms }
@@ -87,10 +82,6 @@ pub legal_more : (settings : Settings) (k : Known) (turns : List Turn) (mid : Kn
 legal_more settings k [] mid more t h legal = let P : Known → Type 0 = λ known. Legal settings known more t in subst P h legal
 legal_more settings k (first ∷ turns) mid more t h legal = (h.0, legal_more settings (known_after first) turns mid more t h.1 legal)
 
-pub rose_more : (a b c : ℕ) → a ≤ b → Rose b c → Rose a c
-rose_more a b c h (inl less) = inl (omega arith)
-rose_more a b c h (inr most) = inr most
-
 wrote_part-by : (before after : Option (List ℕ)) (text : List ℕ) → Wrote before text after → Wrote before (take (length text) text) after
 wrote_part-by before after text wrote = let P : List ℕ → Type 0 = λ bytes. Wrote before bytes after in subst P (sym (take-length text)) wrote
 
@@ -100,9 +91,9 @@ wrote_part before after text wrote = (length text, wrote_part-by before after te
 
 -- ANSWERS
 
-module _ {D : Type 0} (Left : Standing D) (aside : Aside) where
-  pub answers_nothing : (k : Known) (written : Option (List ℕ)) (store : Open D) → Left aside store k
-      → Answers Wrote Left aside k [] written store written
+module _ {D P A : Type 0} (Left : Standing D P A) where
+  pub answers_nothing : (k : Known) (written : Option (List ℕ)) (store : Open D P A) → Left store k
+      → Answers Wrote Left k [] written store written
   answers_nothing k written store left = record {
     turns = [];
     t = k;
@@ -112,9 +103,9 @@ module _ {D : Type 0} (Left : Standing D) (aside : Aside) where
     wrote = wrote_nothing written;
   }
 
-  pub answers_bad : (Writes : Writing) (k : Known) (number : ℕ) (written written' : Option (List ℕ)) (store : Open D)
-      → Left aside store k → Writes written (numbered_line number BadLine) written'
-      → Answers Writes Left aside k (Alone number item.Bad ∷ []) written store written'
+  pub answers_bad : (Writes : Writing) (k : Known) (number : ℕ) (written written' : Option (List ℕ)) (store : Open D P A)
+      → Left store k → Writes written (numbered_line number BadLine) written'
+      → Answers Writes Left k (Alone number item.Bad ∷ []) written store written'
   answers_bad Writes k number written written' store left wrote =
       let P : List ℕ → Type 0 = λ text. Writes written text written' in
       record {
@@ -126,9 +117,9 @@ module _ {D : Type 0} (Left : Standing D) (aside : Aside) where
         wrote = subst P (sym (append-nil (numbered_line number BadLine))) wrote;
       }
 
-  pub answers_plain : (Writes : Writing) (k t : Known) (number : ℕ) (command : Command) (reply : Reply) (written written' : Option (List ℕ)) (store : Open D)
-      → LegalAnswer store.settings k (record { lane = 0; line = number }) command reply t → Left aside store t → Writes written (numbered_line number reply) written'
-      → Answers Writes Left aside k (Alone number (item.Command command) ∷ []) written store written'
+  pub answers_plain : (Writes : Writing) (k t : Known) (number : ℕ) (command : Command) (reply : Reply) (written written' : Option (List ℕ)) (store : Open D P A)
+      → LegalAnswer store.settings k (record { lane = 0; line = number }) command reply t → Left store t → Writes written (numbered_line number reply) written'
+      → Answers Writes Left k (Alone number (item.Command command) ∷ []) written store written'
   answers_plain Writes k t number command reply written written' store legal left wrote =
       let P : List ℕ → Type 0 = λ text. Writes written text written' in
       record {
@@ -140,9 +131,9 @@ module _ {D : Type 0} (Left : Standing D) (aside : Aside) where
         wrote = subst P (sym (append-nil (numbered_line number reply))) wrote;
       }
 
-  pub answers_restart : (Writes : Writing) (k t : Known) (number pick : ℕ) (reply : Reply) (notes : List Note) (written written' : Option (List ℕ)) (store : Open D)
-      → LegalRestart store.settings k reply notes t → Left aside store t → Writes written (numbered_line number reply ++ flat_map note_line notes) written'
-      → Answers Writes Left aside k (Alone number (item.Command (asks.Restart pick)) ∷ []) written store written'
+  pub answers_restart : (Writes : Writing) (k t : Known) (number pick : ℕ) (reply : Reply) (notes : List Note) (written written' : Option (List ℕ)) (store : Open D P A)
+      → LegalRestart store.settings k reply notes t → Left store t → Writes written (numbered_line number reply ++ flat_map note_line notes) written'
+      → Answers Writes Left k (Alone number (item.Command (asks.Restart pick)) ∷ []) written store written'
   answers_restart Writes k t number pick reply notes written written' store legal left wrote =
       let P : List ℕ → Type 0 = λ text. Writes written text written' in
       record {
@@ -154,9 +145,9 @@ module _ {D : Type 0} (Left : Standing D) (aside : Aside) where
         wrote = subst P (sym (append-nil (numbered_line number reply ++ flat_map note_line notes))) wrote;
       }
 
-  pub answers_block : (Writes : Writing) (k : Known) (lines : List InBlock) (written written' : Option (List ℕ)) (store : Open D)
-      → Left aside store k → Writes written (flat_map unbuilt_text lines) written'
-      → Answers Writes Left aside k (Block lines ∷ []) written store written'
+  pub answers_block : (Writes : Writing) (k : Known) (lines : List InBlock) (written written' : Option (List ℕ)) (store : Open D P A)
+      → Left store k → Writes written (flat_map unbuilt_text lines) written'
+      → Answers Writes Left k (Block lines ∷ []) written store written'
   answers_block Writes k lines written written' store left wrote =
       let P : List ℕ → Type 0 = λ text. Writes written text written' in
       record {
@@ -169,13 +160,13 @@ module _ {D : Type 0} (Left : Standing D) (aside : Aside) where
       }
 
 -- turns behind others
-pub answers_more : {D : Type 0} (Between Left : Standing D) (aside : Aside) (Writes : Writing)
+pub answers_more : {D P A : Type 0} (Between Left : Standing D P A) (Writes : Writing)
     → ((before mid after : Option (List ℕ)) (a b : List ℕ) → Wrote before a mid → Writes mid b after → Writes before (a ++ b) after)
-    → (k : Known) (asked more : List Asked) (written written' written'' : Option (List ℕ)) (store store' : Open D)
+    → (k : Known) (asked more : List Asked) (written written' written'' : Option (List ℕ)) (store store' : Open D P A)
     → store'.settings ≡ store.settings
-    → (first : Answers Wrote Between aside k asked written store written') → Answers Writes Left aside first.t more written' store' written''
-    → Answers Writes Left aside k (asked ++ more) written store' written''
-answers_more Between Left aside Writes joins k asked more written written' written'' store store' same first next =
+    → (first : Answers Wrote Between k asked written store written') → Answers Writes Left first.t more written' store' written''
+    → Answers Writes Left k (asked ++ more) written store' written''
+answers_more Between Left Writes joins k asked more written written' written'' store store' same first next =
     let P : Settings → Type 0 = λ settings. Legal settings k first.turns first.t in
     let Q : List ℕ → Type 0 = λ text. Writes written text written'' in
     record {

@@ -6,18 +6,17 @@ use Rattle.hay_legal.specs.declared.known.Known.{Known}
 use Rattle.hay_legal.specs.declared.turn.Item.TheVariants as item
 use Rattle.hay_legal.specs.Items.{Asked}
 use Rattle.hay_legal.specs.Items.Asked.{Alone}
-use Rattle.hay_cluster.specs.Outside.{Aside}
-use Rattle.hay_cluster.specs.State.{Open}
+use Rattle.hay_cluster.specs.Store.{Open}
 use Rattle.hay_run.specs.Turns.{Writing, Standing, AnswersFrom, Refused}
 
 -- the line asks for a restart, and its opening was refused
-abbrev pub RefusedAsked : {D : Type 0} → Type 0 → Writing → Standing D → Standing D → ℕ → List Asked → Open D → Option (List ℕ) → Open D → Option (List ℕ) → Type 0
+abbrev pub RefusedAsked : {D P A : Type 0} → Type 0 → Writing → Standing D P A → Standing D P A → ℕ → List Asked → Open D P A → Option (List ℕ) → Open D P A → Option (List ℕ) → Type 0
 RefusedAsked Tells Writes Stands Left number asked store written store' written' =
     (pick : ℕ) × (asked ≡ Alone number (item.Command (command.Restart pick)) ∷ [])
-    × (Tells → (aside : Aside) (k : Known) → Stands aside store k → Refused Writes Left aside k written store' written')
+    × (Tells → (k : Known) → Stands store k → Refused Writes Left k written store' written')
 
 -- the line was answered, or its restart was refused, and only a front of the text was written
-abbrev pub BrokeAsked : {D : Type 0} → Type 0 → Standing D → Standing D → ℕ → List Asked → Open D → Option (List ℕ) → Open D → Option (List ℕ) → Type 0
+abbrev pub BrokeAsked : {D P A : Type 0} → Type 0 → Standing D P A → Standing D P A → ℕ → List Asked → Open D P A → Option (List ℕ) → Open D P A → Option (List ℕ) → Type 0
 BrokeAsked Tells Stands Left number asked store written store' written' =
     AnswersFrom Tells WrotePart Stands Left asked store written store' written'
     ⊎ RefusedAsked Tells WrotePart Stands Left number asked store written store' written'

@@ -1,5 +1,5 @@
 -- What turns do.
-use Rattle.std.specs.Prelude.{◌≡◌, ◌⊎◌, ℕ, ◌≤◌, List, [], ◌∷◌, length, Option, None, Bool, false, map, flat_map}
+use Rattle.std.specs.Prelude.{◌≡◌, ◌⊎◌, ℕ, ◌<◌, ◌≤◌, slice_index, List, [], ◌∷◌, length, Option, None, Bool, false, map, flat_map}
 use Rattle.hay_disk.specs.Counts.{Rose}
 use Rattle.hay_disk.specs.Streams.{Wrote, WrotePart}
 use Rattle.hay_script.specs.declared.Command.TheVariants as command
@@ -11,12 +11,11 @@ use Rattle.hay_legal.specs.declared.turn.Item.TheVariants as item
 use Rattle.hay_legal.specs.declared.turn.Turn.{Turn}
 use Rattle.hay_legal.specs.Items.{Asked, item_of_turn}
 use Rattle.hay_legal.specs.Items.Asked.{Alone}
+use Rattle.hay_legal.specs.Known.{Leaves, disk_count}
 use Rattle.hay_legal.specs.Legal.{Legal}
-use Rattle.hay_legal.specs.Restarts.{Reopens}
 use Rattle.hay_legal.specs.Statuses.{TellsOpening}
 use Rattle.hay_legal.specs.Transcript.{turn_text}
-use Rattle.hay_cluster.specs.Outside.{Aside}
-use Rattle.hay_cluster.specs.State.{Open}
+use Rattle.hay_cluster.specs.Store.{Open, disks_of}
 use Rattle.hay_run.specs.declared.stops.Stop.{Stop}
 use Rattle.hay_run.specs.declared.stops.Stop.TheVariants as stop
 use Rattle.hay_run.specs.Stream.{Held, rest_of}
@@ -28,32 +27,32 @@ abbrev pub Writing : Type 1
 Writing = Option (List ℕ) → List ℕ → Option (List ℕ) → Type 0
 
 -- what a store stands at
-abbrev pub Standing : Type 0 → Type 1
-Standing D = Aside → Open D → Known → Type 0
+abbrev pub Standing : Type 0 → Type 0 → Type 0 → Type 1
+Standing D P A = Open D P A → Known → Type 0
 
 -- Turns, legal from k, answer these items, and the store is left at what the last one left. Their text was written.
-pub record Answers {D : Type 0} (Writes : Writing) (Left : Standing D) (aside : Aside) (k : Known) (asked : List Asked) (written : Option (List ℕ)) (store : Open D) (written' : Option (List ℕ)) : Type 0 where
+pub record Answers {D P A : Type 0} (Writes : Writing) (Left : Standing D P A) (k : Known) (asked : List Asked) (written : Option (List ℕ)) (store : Open D P A) (written' : Option (List ℕ)) : Type 0 where
   pub turns : List Turn
   pub t : Known
   pub items : map item_of_turn turns ≡ asked
   pub legal : Legal store.settings k turns t
-  pub left : Left aside store t
+  pub left : Left store t
   pub wrote : Writes written (flat_map turn_text turns) written'
 
 -- whatever state a store that tells stands at, these items are answered from it
-abbrev pub AnswersFrom : {D : Type 0} → Type 0 → Writing → Standing D → Standing D → List Asked → Open D → Option (List ℕ) → Open D → Option (List ℕ) → Type 0
+abbrev pub AnswersFrom : {D P A : Type 0} → Type 0 → Writing → Standing D P A → Standing D P A → List Asked → Open D P A → Option (List ℕ) → Open D P A → Option (List ℕ) → Type 0
 AnswersFrom Tells Writes Stands Left asked store written store' written' =
-    Tells → (aside : Aside) (k : Known) → Stands aside store k → Answers Writes Left aside k asked written store' written'
+    Tells → (k : Known) → Stands store k → Answers Writes Left k asked written store' written'
 
 -- Lines were taken, of which the first has this number, and what they ask for was answered. The next line has the other
 -- number.
-pub record Turned {D : Type 0} (Tells : Type 0) (Stands : Standing D) (store : Open D) (number : ℕ) (before written : Option (List ℕ)) (store' : Open D) (next : ℕ) (after : Option (List ℕ)) (ended : Bool) (written' : Option (List ℕ)) : Type 0 where
+pub record Turned {D P A : Type 0} (Tells : Type 0) (Stands : Standing D P A) (store : Open D P A) (number : ℕ) (before written : Option (List ℕ)) (store' : Open D P A) (next : ℕ) (after : Option (List ℕ)) (ended : Bool) (written' : Option (List ℕ)) : Type 0 where
   pub asked : List Asked
   pub took : TookItems number None before asked next after ended
   pub answers : AnswersFrom Tells Wrote Stands Stands asked store written store' written'
 
 -- All that a script asks for was answered.
-pub record Serves {D : Type 0} (Tells : Type 0) (Stands : Standing D) (script : Option (List ℕ)) (store : Open D) (written : Option (List ℕ)) (store' : Open D) (written' : Option (List ℕ)) : Type 0 where
+pub record Serves {D P A : Type 0} (Tells : Type 0) (Stands : Standing D P A) (script : Option (List ℕ)) (store : Open D P A) (written : Option (List ℕ)) (store' : Open D P A) (written' : Option (List ℕ)) : Type 0 where
   pub asked : List Asked
   pub all : AsksAll script asked
   pub answers : AnswersFrom Tells Wrote Stands Stands asked store written store' written'
@@ -61,7 +60,7 @@ pub record Serves {D : Type 0} (Tells : Type 0) (Stands : Standing D) (script : 
 -- HOW A TURN STOPS
 
 -- A turn was answered, and only a front of its text was written.
-pub record TurnedPart {D : Type 0} (Tells : Type 0) (Stands Left : Standing D) (store : Open D) (number : ℕ) (before written : Option (List ℕ)) (store' : Open D) (after written' : Option (List ℕ)) : Type 0 where
+pub record TurnedPart {D P A : Type 0} (Tells : Type 0) (Stands Left : Standing D P A) (store : Open D P A) (number : ℕ) (before written : Option (List ℕ)) (store' : Open D P A) (after written' : Option (List ℕ)) : Type 0 where
   pub asked : List Asked
   pub one : length asked ≤ 1
   pub next : ℕ
@@ -69,34 +68,32 @@ pub record TurnedPart {D : Type 0} (Tells : Type 0) (Stands Left : Standing D) (
   pub took : TookItems number None before asked next after ended
   pub answers : AnswersFrom Tells WrotePart Stands Left asked store written store' written'
 
--- The opening of a restart was refused. The store is left at one of the outcomes of a restart, and how the opening was
--- refused was written.
-pub record Refused {D : Type 0} (Writes : Writing) (Left : Standing D) (aside : Aside) (k : Known) (written : Option (List ℕ)) (store : Open D) (written' : Option (List ℕ)) : Type 0 where
+-- The opening of a restart was refused. The store is left at what it stood at, but for counts that may have risen, and how
+-- the opening was refused was written.
+pub record Refused {D P A : Type 0} (Writes : Writing) (Left : Standing D P A) (k : Known) (written : Option (List ℕ)) (store : Open D P A) (written' : Option (List ℕ)) : Type 0 where
   pub t : Known
-  pub kept : List (List Bool)
-  pub row : Bool
-  pub reopens : Reopens store.settings k kept row t
-  pub left : Left aside store t
+  pub leaves : Leaves k k t
+  pub left : Left store t
   pub note : Note
   pub tells : TellsOpening k note
   pub wrote : Writes written (note_line note) written'
 
-pub record RestartRefused {D : Type 0} (Tells : Type 0) (Writes : Writing) (Stands Left : Standing D) (store : Open D) (number : ℕ) (before written : Option (List ℕ)) (store' : Open D) (after written' : Option (List ℕ)) : Type 0 where
+pub record RestartRefused {D P A : Type 0} (Tells : Type 0) (Writes : Writing) (Stands Left : Standing D P A) (store : Open D P A) (number : ℕ) (before written : Option (List ℕ)) (store' : Open D P A) (after written' : Option (List ℕ)) : Type 0 where
   pub pick : ℕ
   pub next : ℕ
   pub ended : Bool
   pub took : TookItems number None before (Alone number (item.Command (command.Restart pick)) ∷ []) next after ended
-  pub refused : Tells → (aside : Aside) (k : Known) → Stands aside store k → Refused Writes Left aside k written store' written'
+  pub refused : Tells → (k : Known) → Stands store k → Refused Writes Left k written store' written'
 
 -- What a run that stops while it writes has done in its last turn.
-abbrev pub Broke : {D : Type 0} → Type 0 → Standing D → Standing D → Open D → ℕ → Option (List ℕ) → Option (List ℕ) → Open D → Option (List ℕ) → Option (List ℕ) → Type 0
+abbrev pub Broke : {D P A : Type 0} → Type 0 → Standing D P A → Standing D P A → Open D P A → ℕ → Option (List ℕ) → Option (List ℕ) → Open D P A → Option (List ℕ) → Option (List ℕ) → Type 0
 Broke Tells Stands Left store number before written store' after written' =
     TurnedPart Tells Stands Left store number before written store' after written'
     ⊎ RestartRefused Tells WrotePart Stands Left store number before written store' after written'
 
 -- What a run that stops has done behind the last whole turn, from that turn's number, what is left of the script, what was
 -- written and the store.
-abbrev pub StopsTurn : {D : Type 0} → Type 0 → Standing D → Standing D → Stop → ℕ → Option (List ℕ) → Option (List ℕ) → Open D → Option (List ℕ) → Option (List ℕ) → Open D → Type 0
+abbrev pub StopsTurn : {D P A : Type 0} → Type 0 → Standing D P A → Standing D P A → Stop → ℕ → Option (List ℕ) → Option (List ℕ) → Open D P A → Option (List ℕ) → Option (List ℕ) → Open D P A → Type 0
 StopsTurn Tells Stands Left stop.Input number rest written store after written' store' =
     TookOpen TookPart number None rest after × (store' ≡ store) × (written' ≡ written)
 StopsTurn Tells Stands Left stop.TooLong number rest written store after written' store' =
@@ -115,11 +112,11 @@ HoldsNone stop.TooLong held = held.bytes ≡ []
 HoldsNone _ held = Unit {0}
 
 -- Turn after turn was answered, and then the run stopped.
-pub record ServedUntil {D : Type 0} (Tells : Type 0) (Stands Left : Standing D) (why : Stop) (script : Option (List ℕ)) (store : Open D) (written : Option (List ℕ)) (script' : Option (List ℕ)) (store' : Open D) (written' : Option (List ℕ)) : Type 0 where
+pub record ServedUntil {D P A : Type 0} (Tells : Type 0) (Stands Left : Standing D P A) (why : Stop) (script : Option (List ℕ)) (store : Open D P A) (written : Option (List ℕ)) (script' : Option (List ℕ)) (store' : Open D P A) (written' : Option (List ℕ)) : Type 0 where
   pub asked : List Asked
   pub number : ℕ
   pub rest : Option (List ℕ)
-  pub mid : Open D
+  pub mid : Open D P A
   pub text : Option (List ℕ)
   pub took : TookItems 1 None script asked number rest false
   pub answers : AnswersFrom Tells Wrote Stands Stands asked store written mid text
@@ -130,14 +127,19 @@ pub record ServedUntil {D : Type 0} (Tells : Type 0) (Stands Left : Standing D) 
 
 -- WHY A RESTART IS REFUSED
 
--- The disk failed, and its count rose to the one that is told, or the store that is told stood at nothing.
-abbrev pub RefusedFor : {D : Type 0} → Type 0 → Standing D → (D → ℕ) → Open D → Open D → Note → Type 0
+-- the counts of the disks' faults by slot
+abbrev pub counts_of : {D P A : Type 0} → (D → ℕ) → Open D P A → List ℕ
+counts_of faults store = map faults (disks_of store)
+
+-- The disk in a slot failed, and its count rose to the one that is told, or the store that is told stood at nothing.
+abbrev pub RefusedFor : {D P A : Type 0} → Type 0 → Standing D P A → (D → ℕ) → Open D P A → Open D P A → Note → Type 0
 RefusedFor Tells Stands faults store store' (OpenFailed slot count) =
-    (slot ≡ 1) × Rose (faults store.disk) (faults store'.disk) × (count ≡ faults store'.disk)
-RefusedFor Tells Stands faults store store' (OpenDamaged slot file at) = (Tells → (aside : Aside) (k : Known) → Stands aside store k → ⊥)
+    (slot < disk_count store.settings) × Rose (slice_index (counts_of faults store) slot) (slice_index (counts_of faults store') slot)
+    × (count ≡ slice_index (counts_of faults store') slot)
+RefusedFor Tells Stands faults store store' (OpenDamaged slot file at) = (Tells → (k : Known) → Stands store k → ⊥)
 RefusedFor Tells Stands faults store store' _ = ⊥
 
 -- so it was told, and nothing was written behind it
-abbrev pub Halts : {D : Type 0} → Type 0 → Standing D → (D → ℕ) → Open D → Open D → Option (List ℕ) → Type 0
+abbrev pub Halts : {D P A : Type 0} → Type 0 → Standing D P A → (D → ℕ) → Open D P A → Open D P A → Option (List ℕ) → Type 0
 Halts Tells Stands faults store store' written' =
     (note : Note) × RefusedFor Tells Stands faults store store' note × ((before : Option (List ℕ)) × Wrote before (note_line note) written')

@@ -2,10 +2,10 @@
 //! on the grammar of `hay_script`, the texts of `hay_reply` and the rules of `hay_legal`, and on the source, the sink and the
 //! shelf that `hay_disk` describes.
 //!
-//! What it promises, where the source, the sink and the disks tell: after status 0 the bytes read are the whole script, and
-//! the bytes written are the transcript of turns that answer each of its items in order, each turn legal from the state that
-//! the one before it left; the disk given back holds the state behind the last turn. Each other status comes for its own
-//! cause alone, and the disk is given back at each of them.
+//! What it promises, where the source, the sink and the disks tell, and the disks are void or of the run's settings: after
+//! status 0 the bytes read are the whole script, and the bytes written are the transcript of turns that answer each of its
+//! items in order, each turn legal from the state that the one before it left; the disks given back hold the state behind
+//! the last turn. Each other status comes for its own cause alone, and the disks and arms are given back at each of them.
 #![tactic(auto)]
 
 mod block;

@@ -1,19 +1,19 @@
 //! A run, from its words to its status.
-ghost use Rattle.std.specs.Prelude.{◌≡◌, ◌⊎◌, ℕ, ◌+◌, ◌≤◌, List, ◌++◌, length, map, false, Some, Err, OnOk, OnErr, IsErrOf, string_bytes};
+ghost use Rattle.std.specs.Prelude.{◌≡◌, ◌⊎◌, ℕ, ◌+◌, ◌<◌, ◌≤◌, List, ◌++◌, length, map, false, Some, Err, OnOk, IsErrOf, string_bytes};
 ghost use Rattle.hay_disk.specs.Counts.{Rose, IsCounted};
-ghost use Rattle.hay_disk.specs.Disk.{KeepsOthers};
+ghost use Rattle.hay_mount.specs.Mounts.{AreIn, AreArmsIn, SameFrom};
 ghost use Rattle.hay_reply.specs.Replies as texts;
 ghost use Rattle.hay_legal.specs.declared.known.Known.{Known};
 ghost use Rattle.hay_needle.specs.declared.settings.Settings.{Settings};
-ghost use Rattle.hay_legal.specs.Statuses.{Ending, IsOpened, status_of};
-ghost use Rattle.hay_cluster.specs.Contents.{IsReplica, IsRows};
+ghost use Rattle.hay_legal.specs.Known.{disk_count};
+ghost use Rattle.hay_legal.specs.Statuses.{Ending, status_of};
 ghost use Rattle.hay_cluster.specs.Outside.{outside_of};
-ghost use Rattle.hay_cluster.specs.State.{IsAlone};
+ghost use Rattle.hay_cluster.specs.Store.{IsBuilt};
 ghost use Rattle.hay_run.specs.declared.stops.Stop.{Stop};
 ghost use Rattle.hay_run.specs.Stream.{IsReadToEnd};
 ghost use Rattle.hay_run.specs.Stops.{ending_of};
-ghost use Rattle.hay_run.specs.Runs.{IsTaken, RanTo, NotOpenedFor};
-ghost use Rattle.hay_run.specs.Words.{IsBuiltRun};
+ghost use Rattle.hay_run.specs.Runs.{IsTaken, IsUnread, RanTo, NotOpenedFor};
+ghost use Rattle.hay_run.specs.Words.{SaysRun};
 
 use crate::bytes::SCRIPT;
 use crate::serve::serve;
@@ -26,7 +26,7 @@ use hay_disk::{Shelf, Sink, Source};
 use hay_needle::Settings;
 use std::alloc::Global;
 
-/// Opens a store on the disk in slot 1, answers the script, and gives the disk back.
+/// Opens a store on the disks of the shelf, answers the script, and gives the disks back.
 fn answer_script<H: Shelf, S: Source, K: Sink>(
     alloc: Global,
     settings: Settings,
@@ -34,24 +34,39 @@ fn answer_script<H: Shelf, S: Source, K: Sink>(
     sink: &mut K,
     shelf: &mut H,
 ) -> Result<(), Stop>
-    requires alone { IsAlone settings }
-    requires in_place { (H.disks shelf.old 1).is_out ≡ false }
-    ensures ran { H.Disk.Tells → OnOk result ((script held : List ℕ) → S.left source.old ≡ Some script → K.written sink.old ≡ Some (held ++ texts.header_line settings) → RanTo settings Ending.ReadAll script (S.left source.new) (outside_of (H.disks shelf.old) (H.arms shelf.old)) (outside_of (H.disks shelf.new) (H.arms shelf.new)) held (K.written sink.new)) }
-    ensures stopped { H.Disk.Tells → (stop : Stop) → result ≡ Err stop → (k : Known) → IsTaken settings (outside_of (H.disks shelf.old) (H.arms shelf.old)) k → (script held : List ℕ) → S.left source.old ≡ Some script → K.written sink.old ≡ Some (held ++ texts.header_line settings) → RanTo settings (ending_of stop) script (S.left source.new) (outside_of (H.disks shelf.old) (H.arms shelf.old)) (outside_of (H.disks shelf.new) (H.arms shelf.new)) held (K.written sink.new) }
-    ensures whole { H.Disk.Tells → OnOk result ((k : Known) × IsOpened (IsReplica settings) (IsRows settings) settings (outside_of (H.disks shelf.old) (H.arms shelf.old)) k) }
-    ensures opened { H.Disk.Tells → (IsErrOf result Stop.Input ⊎ IsErrOf result Stop.TooLong) → (k : Known) × IsOpened (IsReplica settings) (IsRows settings) settings (outside_of (H.disks shelf.old) (H.arms shelf.old)) k }
+    requires built { IsBuilt settings }
+    requires disks_in { AreIn (disk_count settings) (H.disks shelf.old) }
+    requires arms_in { AreArmsIn 8 (H.arms shelf.old) }
+    ensures ran { H.Disk.Tells → OnOk result ((k : Known) →
+        IsTaken settings (outside_of (H.disks shelf.old) (H.arms shelf.old)) k → (script held : List ℕ) →
+        S.left source.old ≡ Some script → K.written sink.old ≡ Some (held ++ texts.header_line settings) →
+        RanTo settings Ending.ReadAll script (S.left source.new) (outside_of (H.disks shelf.old) (H.arms shelf.old))
+        (outside_of (H.disks shelf.new) (H.arms shelf.new)) held (K.written sink.new)) }
+    ensures stopped { H.Disk.Tells → (stop : Stop) → result ≡ Err stop → (k : Known) →
+        IsTaken settings (outside_of (H.disks shelf.old) (H.arms shelf.old)) k → (script held : List ℕ) →
+        S.left source.old ≡ Some script → K.written sink.old ≡ Some (held ++ texts.header_line settings) →
+        RanTo settings (ending_of stop) script (S.left source.new) (outside_of (H.disks shelf.old) (H.arms shelf.old))
+        (outside_of (H.disks shelf.new) (H.arms shelf.new)) held (K.written sink.new) }
     ensures ended { OnOk result (IsReadToEnd (S.left source.old) (S.left source.new)) }
     ensures short { OnOk result ((script : List ℕ) → S.left source.old ≡ Some script → length script ≤ SCRIPT) }
-    ensures long { IsErrOf result Stop.TooLong → (script : List ℕ) → S.left source.old ≡ Some script → (rest : List ℕ) × (S.left source.new ≡ Some rest) × (length script ≡ SCRIPT + 1 + length rest) }
+    ensures long { IsErrOf result Stop.TooLong → (script : List ℕ) → S.left source.old ≡ Some script →
+        (rest : List ℕ) × (S.left source.new ≡ Some rest) × (length script ≡ SCRIPT + 1 + length rest) }
     ensures source { IsErrOf result Stop.Input → Rose (S.fault_count source.old) (S.fault_count source.new) }
     ensures source_count { S.fault_count source.old ≤ S.fault_count source.new }
     ensures sink { IsErrOf result Stop.Output → Rose (K.fault_count sink.old) (K.fault_count sink.new) }
     ensures sink_count { K.fault_count sink.old ≤ K.fault_count sink.new }
-    ensures store { IsErrOf result Stop.Store → NotOpenedFor H.Disk.Tells settings (H.fault_count shelf.old) (H.disks shelf.old) (H.fault_count shelf.new) (H.disks shelf.new) (K.written sink.new) }
-    ensures back { (H.disks shelf.new 1).is_out ≡ false }
-    ensures faults { (H.disks shelf.old 1).fault_count ≤ (H.disks shelf.new 1).fault_count }
-    ensures others { KeepsOthers 1 (H.disks shelf.old) (H.disks shelf.new) }
-    ensures lanes { H.arms shelf.new ≡ H.arms shelf.old }
+    ensures store { IsErrOf result Stop.Store →
+        NotOpenedFor H.Disk.Tells (IsUnread (S.left source.old) (S.left source.new)) settings
+        (H.fault_count shelf.old) (outside_of (H.disks shelf.old) (H.arms shelf.old))
+        (H.fault_count shelf.new) (outside_of (H.disks shelf.new) (H.arms shelf.new)) (K.written sink.new) }
+    ensures disks_back { AreIn (disk_count settings) (H.disks shelf.new) }
+    ensures arms_back { AreArmsIn 8 (H.arms shelf.new) }
+    ensures faults { (slot : ℕ) → slot < disk_count settings →
+        (H.disks shelf.old slot).fault_count ≤ (H.disks shelf.new slot).fault_count }
+    ensures arm_faults { (lane : ℕ) → lane < 8 →
+        (H.arms shelf.old lane).fault_count ≤ (H.arms shelf.new lane).fault_count }
+    ensures other_slots { SameFrom (disk_count settings) (H.disks shelf.old) (H.disks shelf.new) }
+    ensures other_lanes { SameFrom 8 (H.arms shelf.old) (H.arms shelf.new) }
     ensures shelf { H.fault_count shelf.old ≤ H.fault_count shelf.new }
 {
     let mut cluster = match Cluster::open(alloc, settings, shelf) {
@@ -63,7 +78,7 @@ fn answer_script<H: Shelf, S: Source, K: Sink>(
     outcome
 }
 
-/// Writes the header, and answers the script on the disk in slot 1.
+/// Writes the header, and answers the script on the disks of the shelf.
 fn run_script<H: Shelf, S: Source, K: Sink>(
     alloc: Global,
     settings: Settings,
@@ -71,38 +86,52 @@ fn run_script<H: Shelf, S: Source, K: Sink>(
     sink: &mut K,
     shelf: &mut H,
 ) -> Result<(), Stop>
-    requires alone { IsAlone settings }
-    requires in_place { (H.disks shelf.old 1).is_out ≡ false }
-    ensures ran { H.Disk.Tells → OnOk result ((script held : List ℕ) → S.left source.old ≡ Some script → K.written sink.old ≡ Some (held) → RanTo settings Ending.ReadAll script (S.left source.new) (outside_of (H.disks shelf.old) (H.arms shelf.old)) (outside_of (H.disks shelf.new) (H.arms shelf.new)) held (K.written sink.new)) }
-    ensures stopped { H.Disk.Tells → (stop : Stop) → result ≡ Err stop → (k : Known) → IsTaken settings (outside_of (H.disks shelf.old) (H.arms shelf.old)) k → (script held : List ℕ) → S.left source.old ≡ Some script → K.written sink.old ≡ Some (held) → RanTo settings (ending_of stop) script (S.left source.new) (outside_of (H.disks shelf.old) (H.arms shelf.old)) (outside_of (H.disks shelf.new) (H.arms shelf.new)) held (K.written sink.new) }
-    ensures whole { H.Disk.Tells → OnOk result ((k : Known) × IsOpened (IsReplica settings) (IsRows settings) settings (outside_of (H.disks shelf.old) (H.arms shelf.old)) k) }
-    ensures opened { H.Disk.Tells → (IsErrOf result Stop.Input ⊎ IsErrOf result Stop.TooLong) → (k : Known) × IsOpened (IsReplica settings) (IsRows settings) settings (outside_of (H.disks shelf.old) (H.arms shelf.old)) k }
+    requires built { IsBuilt settings }
+    requires disks_in { AreIn (disk_count settings) (H.disks shelf.old) }
+    requires arms_in { AreArmsIn 8 (H.arms shelf.old) }
+    ensures ran { H.Disk.Tells → OnOk result ((k : Known) →
+        IsTaken settings (outside_of (H.disks shelf.old) (H.arms shelf.old)) k → (script held : List ℕ) →
+        S.left source.old ≡ Some script → K.written sink.old ≡ Some held →
+        RanTo settings Ending.ReadAll script (S.left source.new) (outside_of (H.disks shelf.old) (H.arms shelf.old))
+        (outside_of (H.disks shelf.new) (H.arms shelf.new)) held (K.written sink.new)) }
+    ensures stopped { H.Disk.Tells → (stop : Stop) → result ≡ Err stop → (k : Known) →
+        IsTaken settings (outside_of (H.disks shelf.old) (H.arms shelf.old)) k → (script held : List ℕ) →
+        S.left source.old ≡ Some script → K.written sink.old ≡ Some held →
+        RanTo settings (ending_of stop) script (S.left source.new) (outside_of (H.disks shelf.old) (H.arms shelf.old))
+        (outside_of (H.disks shelf.new) (H.arms shelf.new)) held (K.written sink.new) }
     ensures ended { OnOk result (IsReadToEnd (S.left source.old) (S.left source.new)) }
     ensures short { OnOk result ((script : List ℕ) → S.left source.old ≡ Some script → length script ≤ SCRIPT) }
-    ensures long { IsErrOf result Stop.TooLong → (script : List ℕ) → S.left source.old ≡ Some script → (rest : List ℕ) × (S.left source.new ≡ Some rest) × (length script ≡ SCRIPT + 1 + length rest) }
+    ensures long { IsErrOf result Stop.TooLong → (script : List ℕ) → S.left source.old ≡ Some script →
+        (rest : List ℕ) × (S.left source.new ≡ Some rest) × (length script ≡ SCRIPT + 1 + length rest) }
     ensures source { IsErrOf result Stop.Input → Rose (S.fault_count source.old) (S.fault_count source.new) }
     ensures source_count { S.fault_count source.old ≤ S.fault_count source.new }
     ensures sink { IsErrOf result Stop.Output → Rose (K.fault_count sink.old) (K.fault_count sink.new) }
     ensures sink_count { K.fault_count sink.old ≤ K.fault_count sink.new }
-    ensures store { IsErrOf result Stop.Store → NotOpenedFor H.Disk.Tells settings (H.fault_count shelf.old) (H.disks shelf.old) (H.fault_count shelf.new) (H.disks shelf.new) (K.written sink.new) }
-    ensures back { (H.disks shelf.new 1).is_out ≡ false }
-    ensures faults { (H.disks shelf.old 1).fault_count ≤ (H.disks shelf.new 1).fault_count }
-    ensures others { KeepsOthers 1 (H.disks shelf.old) (H.disks shelf.new) }
-    ensures lanes { H.arms shelf.new ≡ H.arms shelf.old }
+    ensures store { IsErrOf result Stop.Store →
+        NotOpenedFor H.Disk.Tells (IsUnread (S.left source.old) (S.left source.new)) settings
+        (H.fault_count shelf.old) (outside_of (H.disks shelf.old) (H.arms shelf.old))
+        (H.fault_count shelf.new) (outside_of (H.disks shelf.new) (H.arms shelf.new)) (K.written sink.new) }
+    ensures disks_back { AreIn (disk_count settings) (H.disks shelf.new) }
+    ensures arms_back { AreArmsIn 8 (H.arms shelf.new) }
+    ensures faults { (slot : ℕ) → slot < disk_count settings →
+        (H.disks shelf.old slot).fault_count ≤ (H.disks shelf.new slot).fault_count }
+    ensures arm_faults { (lane : ℕ) → lane < 8 →
+        (H.arms shelf.old lane).fault_count ≤ (H.arms shelf.new lane).fault_count }
+    ensures other_slots { SameFrom (disk_count settings) (H.disks shelf.old) (H.disks shelf.new) }
+    ensures other_lanes { SameFrom 8 (H.arms shelf.old) (H.arms shelf.new) }
     ensures shelf { H.fault_count shelf.old ≤ H.fault_count shelf.new }
 {
     write_header(alloc, &settings, sink)?;
     answer_script(alloc, settings, source, sink, shelf)
 }
 
-/// Runs a script on the disk in slot 1 of a shelf, and answers with the status of the run. The words are `run` and its
-/// options; one machine, one volume and one replica are built. The transcript goes to the sink, and the disk is given back
-/// whatever the status is.
+/// Runs a script on the disks of a shelf, from slot 0 upwards, and answers with the status of the run. The words are `run`
+/// and its options. The transcript goes to the sink, and the disks and arms are given back whatever the status is.
 ///
 /// | status | comes |
 /// |---|---|
 /// | 0 | the script was read to its end, and all of it was answered |
-/// | 2 | the words are no run that is built, and nothing was touched |
+/// | 2 | the words are no run, and nothing was touched |
 /// | 3 | the sink failed |
 /// | 4 | the source failed |
 /// | 5 | memory was wanting outside of a reply, or to a restart |
@@ -115,28 +144,39 @@ pub fn run<H: Shelf, S: Source, K: Sink>(
     sink: &mut K,
     shelf: &mut H,
 ) -> u8
-    requires { (H.disks shelf.old 1).is_out ≡ false }
-    // The headline: what was read, answered and written, and what the disk given back holds, at each status but 2.
-    ensures ran { H.Disk.Tells → (settings : Settings) (k : Known) → IsBuiltRun (map string_bytes words.now) settings → IsTaken settings (outside_of (H.disks shelf.old) (H.arms shelf.old)) k → (script held : List ℕ) → S.left source.old ≡ Some script → K.written sink.old ≡ Some held → (ending : Ending) → result ≡ status_of ending → RanTo settings ending script (S.left source.new) (outside_of (H.disks shelf.old) (H.arms shelf.old)) (outside_of (H.disks shelf.new) (H.arms shelf.new)) held (K.written sink.new) }
+    requires disks_in { (slot : ℕ) → (H.disks shelf.old slot).is_out ≡ false }
+    requires arms_in { (lane : ℕ) → (H.arms shelf.old lane).is_out ≡ false }
+    // The headline: what was read, answered and written, and what the disks given back hold, at each status but 2.
+    ensures ran { H.Disk.Tells → (settings : Settings) (k : Known) → SaysRun (map string_bytes words.now) settings →
+        IsTaken settings (outside_of (H.disks shelf.old) (H.arms shelf.old)) k → (script held : List ℕ) →
+        S.left source.old ≡ Some script → K.written sink.old ≡ Some held → (ending : Ending) → result ≡ status_of ending →
+        RanTo settings ending script (S.left source.new) (outside_of (H.disks shelf.old) (H.arms shelf.old))
+        (outside_of (H.disks shelf.new) (H.arms shelf.new)) held (K.written sink.new) }
 
     // When each status comes.
     ensures status { (result ≡ 2) ⊎ ((ending : Ending) × (result ≡ status_of ending)) }
-    ensures usage { result ≡ 2 → (settings : Settings) → IsBuiltRun (map string_bytes words.now) settings → ⊥ }
-    ensures command { ((settings : Settings) → IsBuiltRun (map string_bytes words.now) settings → ⊥) → (result ≡ 2) ⊎ (result ≡ 5) }
+    ensures usage { result ≡ 2 → (settings : Settings) → SaysRun (map string_bytes words.now) settings → ⊥ }
+    ensures command { ((settings : Settings) → SaysRun (map string_bytes words.now) settings → ⊥) → (result ≡ 2) ⊎ (result ≡ 5) }
     ensures untouched { result ≡ 2 → (source.new ≡ source.old) × (sink.new ≡ sink.old) × (shelf.new ≡ shelf.old) }
-    ensures opened { H.Disk.Tells → (settings : Settings) → IsBuiltRun (map string_bytes words.now) settings → ((result ≡ 0) ⊎ (result ≡ 4) ⊎ (result ≡ 7)) → (k : Known) × IsOpened (IsReplica settings) (IsRows settings) settings (outside_of (H.disks shelf.old) (H.arms shelf.old)) k }
     ensures ended { result ≡ 0 → IsReadToEnd (S.left source.old) (S.left source.new) }
     ensures sink { IsCounted (K.fault_count sink.old) (K.fault_count sink.new) (result ≡ 3) }
     ensures source { IsCounted (S.fault_count source.old) (S.fault_count source.new) (result ≡ 4) }
-    ensures store { result ≡ 6 → (settings : Settings) → IsBuiltRun (map string_bytes words.now) settings → NotOpenedFor H.Disk.Tells settings (H.fault_count shelf.old) (H.disks shelf.old) (H.fault_count shelf.new) (H.disks shelf.new) (K.written sink.new) }
-    ensures long { result ≡ 7 → (script : List ℕ) → S.left source.old ≡ Some script → (rest : List ℕ) × (S.left source.new ≡ Some rest) × (length script ≡ SCRIPT + 1 + length rest) }
+    ensures store { result ≡ 6 → (settings : Settings) → SaysRun (map string_bytes words.now) settings →
+        NotOpenedFor H.Disk.Tells (IsUnread (S.left source.old) (S.left source.new)) settings
+        (H.fault_count shelf.old) (outside_of (H.disks shelf.old) (H.arms shelf.old))
+        (H.fault_count shelf.new) (outside_of (H.disks shelf.new) (H.arms shelf.new)) (K.written sink.new) }
+    ensures long { result ≡ 7 → (script : List ℕ) → S.left source.old ≡ Some script →
+        (rest : List ℕ) × (S.left source.new ≡ Some rest) × (length script ≡ SCRIPT + 1 + length rest) }
     ensures short { result ≡ 0 → (script : List ℕ) → S.left source.old ≡ Some script → length script ≤ SCRIPT }
 
-    // What is given back at each status.
-    ensures back { (H.disks shelf.new 1).is_out ≡ false }
-    ensures faults { (H.disks shelf.old 1).fault_count ≤ (H.disks shelf.new 1).fault_count }
-    ensures others { KeepsOthers 1 (H.disks shelf.old) (H.disks shelf.new) }
-    ensures lanes { H.arms shelf.new ≡ H.arms shelf.old }
+    // What is given back at each status. Nothing is taken but what the settings name.
+    ensures disks_back { (slot : ℕ) → (H.disks shelf.new slot).is_out ≡ false }
+    ensures arms_back { (lane : ℕ) → (H.arms shelf.new lane).is_out ≡ false }
+    ensures faults { (slot : ℕ) → (H.disks shelf.old slot).fault_count ≤ (H.disks shelf.new slot).fault_count }
+    ensures arm_faults { (lane : ℕ) → (H.arms shelf.old lane).fault_count ≤ (H.arms shelf.new lane).fault_count }
+    ensures other_slots { (settings : Settings) → SaysRun (map string_bytes words.now) settings →
+        SameFrom (disk_count settings) (H.disks shelf.old) (H.disks shelf.new) }
+    ensures other_lanes { SameFrom 8 (H.arms shelf.old) (H.arms shelf.new) }
     ensures shelf { H.fault_count shelf.old ≤ H.fault_count shelf.new }
 {
     let settings = match read_settings(alloc, words) {

@@ -22,7 +22,7 @@ pub enum Stop {
     Input,
     /// Memory was wanting.
     NoMemory,
-    /// The store was not opened, or its disk failed.
+    /// The store was not opened.
     Store,
     /// The script is longer than one may be.
     TooLong,

@@ -1,5 +1,5 @@
 //! One turn: what comes next is read, answered and written.
-ghost use Rattle.std.specs.Prelude.{◌≡◌, ◌≢◌, ◌⊎◌, ℕ, ◌+◌, ◌^◌, ◌<◌, ◌≤◌, [], ◌∷◌, false, Some, None, Err, IfOk, OnOk, OnErr, IsErrOf};
+ghost use Rattle.std.specs.Prelude.{◌≡◌, ◌≢◌, ◌⊎◌, ℕ, ◌+◌, ◌^◌, ◌<◌, ◌≤◌, [], ◌∷◌, map, false, Some, None, Err, IfOk, OnOk, OnErr, IsErrOf};
 ghost use Rattle.hay_disk.specs.Counts.{Rose};
 ghost use Rattle.hay_disk.specs.Streams.{Wrote, WrotePart};
 ghost use Rattle.hay_script.specs.Script.{IsWithin, IsWithinLine};
@@ -8,8 +8,10 @@ ghost use Rattle.hay_reply.specs.declared.Note.{Note};
 ghost use Rattle.hay_reply.specs.Replies as texts;
 ghost use Rattle.hay_legal.specs.declared.turn.Item.TheVariants as item;
 ghost use Rattle.hay_legal.specs.Items.{outside};
+ghost use Rattle.hay_legal.specs.Known.{NoneFalls};
 ghost use Rattle.hay_legal.specs.Items.Asked.{Alone};
-ghost use Rattle.hay_cluster.specs.State.{IsAlone, IsUp, Stands, Holds};
+ghost use Rattle.hay_cluster.specs.State.{Stands, Holds};
+ghost use Rattle.hay_cluster.specs.Store.{IsUp, disks_of};
 ghost use Rattle.hay_run.specs.Items.{TookOpen};
 ghost use Rattle.hay_run.specs.Lines.{TookPart, TookOver, TookSome};
 ghost use Rattle.hay_run.specs.Stream.{rest_of, budget, Accounts, IsTooLong};
@@ -24,15 +26,15 @@ use crate::stops::Stop;
 use crate::writing::{write_block, write_refusal, write_reply, write_restarted};
 use hay_cluster::{Cluster, ClusterFault};
 use hay_core::CoreTag;
-use hay_disk::{Disk, Sink, Source};
+use hay_disk::{Arm, Disk, Sink, Source};
 use hay_reply::Reply;
 use hay_script::{Command, Line};
 use std::alloc::Global;
 
 /// Answers a plain command, and writes the reply.
-fn plain<D: Disk, K: Sink>(
+fn plain<D: Disk, A: Arm<D::Piece>, K: Sink>(
     alloc: Global,
-    cluster: &mut Cluster<D>,
+    cluster: &mut Cluster<D, A>,
     number: u64,
     command: &Command,
     sink: &mut K,
@@ -40,14 +42,14 @@ fn plain<D: Disk, K: Sink>(
     requires within { IsWithin command.now }
     requires goes_on { (pick : ℕ) → command.now ≢ asks.Restart pick }
     requires up { IsUp cluster.old }
-    requires alone { IsAlone cluster.old.settings }
-    ensures answers { OnOk result (AnswersFrom D.Tells Wrote (Stands D.files D.fault_count D.fuse_count) (Stands D.files D.fault_count D.fuse_count) (Alone number (item.Command command.now) ∷ []) cluster.old (K.written sink.old) cluster.new (K.written sink.new)) }
-    ensures part { OnErr result (AnswersFrom D.Tells WrotePart (Stands D.files D.fault_count D.fuse_count) (Holds D.files D.fault_count D.fuse_count) (Alone number (item.Command command.now) ∷ []) cluster.old (K.written sink.old) cluster.new (K.written sink.new)) }
+    ensures answers { OnOk result (AnswersFrom D.Tells Wrote (Stands D.files D.Piece.Tells D.fault_count D.fuse_count A.fault_count) (Stands D.files D.Piece.Tells D.fault_count D.fuse_count A.fault_count) (Alone number (item.Command command.now) ∷ []) cluster.old (K.written sink.old) cluster.new (K.written sink.new)) }
+    ensures part { OnErr result (AnswersFrom D.Tells WrotePart (Stands D.files D.Piece.Tells D.fault_count D.fuse_count A.fault_count) (Holds D.files D.fault_count D.fuse_count A.fault_count) (Alone number (item.Command command.now) ∷ []) cluster.old (K.written sink.old) cluster.new (K.written sink.new)) }
     ensures stops { OnErr result ((result ≡ Err Stop.Output) ⊎ (result ≡ Err Stop.NoMemory)) }
     ensures cause { IsErrOf result Stop.Output → Rose (K.fault_count sink.old) (K.fault_count sink.new) }
     ensures count { K.fault_count sink.old ≤ K.fault_count sink.new }
     ensures up { IsUp cluster.new }
-    ensures faults { D.fault_count cluster.old.disk ≤ D.fault_count cluster.new.disk }
+    ensures faults { NoneFalls (map D.fault_count (disks_of cluster.old)) (map D.fault_count (disks_of cluster.new)) }
+    ensures arm_faults { NoneFalls (map A.fault_count cluster.old.arms) (map A.fault_count cluster.new.arms) }
     ensures settings { cluster.new.settings ≡ cluster.old.settings }
 {
     let tag = CoreTag {
@@ -77,24 +79,24 @@ fn refuse<K: Sink>(alloc: Global, number: u64, fault: ClusterFault, sink: &mut K
 }
 
 /// Restarts the store, and writes the reply and its notes.
-fn restart<D: Disk, K: Sink>(
+fn restart<D: Disk, A: Arm<D::Piece>, K: Sink>(
     alloc: Global,
-    cluster: &mut Cluster<D>,
+    cluster: &mut Cluster<D, A>,
     number: u64,
     pick: u64,
     sink: &mut K,
 ) -> Result<(), Stop>
     requires up { IsUp cluster.old }
-    requires alone { IsAlone cluster.old.settings }
-    ensures answers { OnOk result (AnswersFrom D.Tells Wrote (Stands D.files D.fault_count D.fuse_count) (Stands D.files D.fault_count D.fuse_count) (Alone number (item.Command (asks.Restart pick)) ∷ []) cluster.old (K.written sink.old) cluster.new (K.written sink.new)) }
-    ensures broke { (IsErrOf result Stop.Output ⊎ IsErrOf result Stop.NoMemory) → BrokeAsked D.Tells (Stands D.files D.fault_count D.fuse_count) (Holds D.files D.fault_count D.fuse_count) number (Alone number (item.Command (asks.Restart pick)) ∷ []) cluster.old (K.written sink.old) cluster.new (K.written sink.new) }
-    ensures refused { IsErrOf result Stop.Store → RefusedAsked D.Tells Wrote (Stands D.files D.fault_count D.fuse_count) (Holds D.files D.fault_count D.fuse_count) number (Alone number (item.Command (asks.Restart pick)) ∷ []) cluster.old (K.written sink.old) cluster.new (K.written sink.new) }
-    ensures halted { IsErrOf result Stop.Store → Halts D.Tells (Stands D.files D.fault_count D.fuse_count) D.fault_count cluster.old cluster.new (K.written sink.new) }
+    ensures answers { OnOk result (AnswersFrom D.Tells Wrote (Stands D.files D.Piece.Tells D.fault_count D.fuse_count A.fault_count) (Stands D.files D.Piece.Tells D.fault_count D.fuse_count A.fault_count) (Alone number (item.Command (asks.Restart pick)) ∷ []) cluster.old (K.written sink.old) cluster.new (K.written sink.new)) }
+    ensures broke { (IsErrOf result Stop.Output ⊎ IsErrOf result Stop.NoMemory) → BrokeAsked D.Tells (Stands D.files D.Piece.Tells D.fault_count D.fuse_count A.fault_count) (Holds D.files D.fault_count D.fuse_count A.fault_count) number (Alone number (item.Command (asks.Restart pick)) ∷ []) cluster.old (K.written sink.old) cluster.new (K.written sink.new) }
+    ensures refused { IsErrOf result Stop.Store → RefusedAsked D.Tells Wrote (Stands D.files D.Piece.Tells D.fault_count D.fuse_count A.fault_count) (Holds D.files D.fault_count D.fuse_count A.fault_count) number (Alone number (item.Command (asks.Restart pick)) ∷ []) cluster.old (K.written sink.old) cluster.new (K.written sink.new) }
+    ensures halted { IsErrOf result Stop.Store → Halts D.Tells (Stands D.files D.Piece.Tells D.fault_count D.fuse_count A.fault_count) D.fault_count cluster.old cluster.new (K.written sink.new) }
     ensures stops { OnErr result ((result ≡ Err Stop.Output) ⊎ (result ≡ Err Stop.NoMemory) ⊎ (result ≡ Err Stop.Store)) }
     ensures cause { IsErrOf result Stop.Output → Rose (K.fault_count sink.old) (K.fault_count sink.new) }
     ensures count { K.fault_count sink.old ≤ K.fault_count sink.new }
     ensures up { OnOk result (IsUp cluster.new) }
-    ensures faults { D.fault_count cluster.old.disk ≤ D.fault_count cluster.new.disk }
+    ensures faults { NoneFalls (map D.fault_count (disks_of cluster.old)) (map D.fault_count (disks_of cluster.new)) }
+    ensures arm_faults { NoneFalls (map A.fault_count cluster.old.arms) (map A.fault_count cluster.new.arms) }
     ensures settings { cluster.new.settings ≡ cluster.old.settings }
 {
     match cluster.restart(alloc, pick) {
@@ -104,25 +106,25 @@ fn restart<D: Disk, K: Sink>(
 }
 
 /// Answers what a line asks for by itself, and writes the reply.
-fn respond<D: Disk, K: Sink>(
+fn respond<D: Disk, A: Arm<D::Piece>, K: Sink>(
     alloc: Global,
-    cluster: &mut Cluster<D>,
+    cluster: &mut Cluster<D, A>,
     number: u64,
     said: Line,
     sink: &mut K,
 ) -> Result<(), Stop>
     requires within { IsWithinLine said }
     requires up { IsUp cluster.old }
-    requires alone { IsAlone cluster.old.settings }
-    ensures answers { OnOk result (AnswersFrom D.Tells Wrote (Stands D.files D.fault_count D.fuse_count) (Stands D.files D.fault_count D.fuse_count) (outside number said).0 cluster.old (K.written sink.old) cluster.new (K.written sink.new)) }
-    ensures broke { (IsErrOf result Stop.Output ⊎ IsErrOf result Stop.NoMemory) → BrokeAsked D.Tells (Stands D.files D.fault_count D.fuse_count) (Holds D.files D.fault_count D.fuse_count) number (outside number said).0 cluster.old (K.written sink.old) cluster.new (K.written sink.new) }
-    ensures refused { IsErrOf result Stop.Store → RefusedAsked D.Tells Wrote (Stands D.files D.fault_count D.fuse_count) (Holds D.files D.fault_count D.fuse_count) number (outside number said).0 cluster.old (K.written sink.old) cluster.new (K.written sink.new) }
-    ensures halted { IsErrOf result Stop.Store → Halts D.Tells (Stands D.files D.fault_count D.fuse_count) D.fault_count cluster.old cluster.new (K.written sink.new) }
+    ensures answers { OnOk result (AnswersFrom D.Tells Wrote (Stands D.files D.Piece.Tells D.fault_count D.fuse_count A.fault_count) (Stands D.files D.Piece.Tells D.fault_count D.fuse_count A.fault_count) (outside number said).0 cluster.old (K.written sink.old) cluster.new (K.written sink.new)) }
+    ensures broke { (IsErrOf result Stop.Output ⊎ IsErrOf result Stop.NoMemory) → BrokeAsked D.Tells (Stands D.files D.Piece.Tells D.fault_count D.fuse_count A.fault_count) (Holds D.files D.fault_count D.fuse_count A.fault_count) number (outside number said).0 cluster.old (K.written sink.old) cluster.new (K.written sink.new) }
+    ensures refused { IsErrOf result Stop.Store → RefusedAsked D.Tells Wrote (Stands D.files D.Piece.Tells D.fault_count D.fuse_count A.fault_count) (Holds D.files D.fault_count D.fuse_count A.fault_count) number (outside number said).0 cluster.old (K.written sink.old) cluster.new (K.written sink.new) }
+    ensures halted { IsErrOf result Stop.Store → Halts D.Tells (Stands D.files D.Piece.Tells D.fault_count D.fuse_count A.fault_count) D.fault_count cluster.old cluster.new (K.written sink.new) }
     ensures stops { OnErr result ((result ≡ Err Stop.Output) ⊎ (result ≡ Err Stop.NoMemory) ⊎ (result ≡ Err Stop.Store)) }
     ensures cause { IsErrOf result Stop.Output → Rose (K.fault_count sink.old) (K.fault_count sink.new) }
     ensures count { K.fault_count sink.old ≤ K.fault_count sink.new }
     ensures up { OnOk result (IsUp cluster.new) }
-    ensures faults { D.fault_count cluster.old.disk ≤ D.fault_count cluster.new.disk }
+    ensures faults { NoneFalls (map D.fault_count (disks_of cluster.old)) (map D.fault_count (disks_of cluster.new)) }
+    ensures arm_faults { NoneFalls (map A.fault_count cluster.old.arms) (map A.fault_count cluster.new.arms) }
     ensures settings { cluster.new.settings ≡ cluster.old.settings }
 {
     match said {
@@ -137,9 +139,9 @@ fn respond<D: Disk, K: Sink>(
 
 /// Takes what comes next, answers it and writes the answer. Answers with the number of the next line. It isn't called
 /// once the end was met.
-pub fn turn<D: Disk, S: Source, K: Sink>(
+pub fn turn<D: Disk, A: Arm<D::Piece>, S: Source, K: Sink>(
     alloc: Global,
-    cluster: &mut Cluster<D>,
+    cluster: &mut Cluster<D, A>,
     script: &mut ScriptLines,
     number: u64,
     source: &mut S,
@@ -148,8 +150,7 @@ pub fn turn<D: Disk, S: Source, K: Sink>(
     requires open { script.old.ended ≡ false }
     requires few { number + budget SCRIPT script.old < 2 ^ 64 }
     requires up { IsUp cluster.old }
-    requires alone { IsAlone cluster.old.settings }
-    ensures turned { IfOk result (λ next. Turned D.Tells (Stands D.files D.fault_count D.fuse_count) cluster.old number (rest_of (S.left source.old) script.old) (K.written sink.old) cluster.new next (rest_of (S.left source.new) script.new) script.new.ended (K.written sink.new)) }
+    ensures turned { IfOk result (λ next. Turned D.Tells (Stands D.files D.Piece.Tells D.fault_count D.fuse_count A.fault_count) cluster.old number (rest_of (S.left source.old) script.old) (K.written sink.old) cluster.new next (rest_of (S.left source.new) script.new) script.new.ended (K.written sink.new)) }
     ensures few { IfOk result (λ next. next + budget SCRIPT script.new ≤ number + budget SCRIPT script.old) }
     ensures accounts { OnOk result (Accounts (S.left source.old) script.old (S.left source.new) script.new) }
     ensures left { OnOk result (budget SCRIPT script.new < budget SCRIPT script.old) }
@@ -159,9 +160,9 @@ pub fn turn<D: Disk, S: Source, K: Sink>(
     ensures none_held { (IsErrOf result Stop.Input ⊎ IsErrOf result Stop.TooLong) → script.new.bytes ≡ [] }
     ensures input { IsErrOf result Stop.Input → TookOpen TookPart number None (rest_of (S.left source.old) script.old) (rest_of (S.left source.new) script.new) × (cluster.new ≡ cluster.old) × (sink.new ≡ sink.old) }
     ensures over { IsErrOf result Stop.TooLong → TookOpen TookOver number None (rest_of (S.left source.old) script.old) (rest_of (S.left source.new) script.new) × (cluster.new ≡ cluster.old) × (sink.new ≡ sink.old) }
-    ensures output { IsErrOf result Stop.Output → Broke D.Tells (Stands D.files D.fault_count D.fuse_count) (Holds D.files D.fault_count D.fuse_count) cluster.old number (rest_of (S.left source.old) script.old) (K.written sink.old) cluster.new (rest_of (S.left source.new) script.new) (K.written sink.new) }
-    ensures memory { IsErrOf result Stop.NoMemory → (TookSome (rest_of (S.left source.old) script.old) (rest_of (S.left source.new) script.new) × (cluster.new ≡ cluster.old) × (sink.new ≡ sink.old)) ⊎ Broke D.Tells (Stands D.files D.fault_count D.fuse_count) (Holds D.files D.fault_count D.fuse_count) cluster.old number (rest_of (S.left source.old) script.old) (K.written sink.old) cluster.new (rest_of (S.left source.new) script.new) (K.written sink.new) }
-    ensures store { IsErrOf result Stop.Store → RestartRefused D.Tells Wrote (Stands D.files D.fault_count D.fuse_count) (Holds D.files D.fault_count D.fuse_count) cluster.old number (rest_of (S.left source.old) script.old) (K.written sink.old) cluster.new (rest_of (S.left source.new) script.new) (K.written sink.new) }
+    ensures output { IsErrOf result Stop.Output → Broke D.Tells (Stands D.files D.Piece.Tells D.fault_count D.fuse_count A.fault_count) (Holds D.files D.fault_count D.fuse_count A.fault_count) cluster.old number (rest_of (S.left source.old) script.old) (K.written sink.old) cluster.new (rest_of (S.left source.new) script.new) (K.written sink.new) }
+    ensures memory { IsErrOf result Stop.NoMemory → (TookSome (rest_of (S.left source.old) script.old) (rest_of (S.left source.new) script.new) × (cluster.new ≡ cluster.old) × (sink.new ≡ sink.old)) ⊎ Broke D.Tells (Stands D.files D.Piece.Tells D.fault_count D.fuse_count A.fault_count) (Holds D.files D.fault_count D.fuse_count A.fault_count) cluster.old number (rest_of (S.left source.old) script.old) (K.written sink.old) cluster.new (rest_of (S.left source.new) script.new) (K.written sink.new) }
+    ensures store { IsErrOf result Stop.Store → RestartRefused D.Tells Wrote (Stands D.files D.Piece.Tells D.fault_count D.fuse_count A.fault_count) (Holds D.files D.fault_count D.fuse_count A.fault_count) cluster.old number (rest_of (S.left source.old) script.old) (K.written sink.old) cluster.new (rest_of (S.left source.new) script.new) (K.written sink.new) }
 
     // The causes of each stop.
     ensures long { IsErrOf result Stop.TooLong → IsTooLong SCRIPT (S.left source.old) script.old (S.left source.new) }
@@ -169,9 +170,10 @@ pub fn turn<D: Disk, S: Source, K: Sink>(
     ensures source_count { S.fault_count source.old ≤ S.fault_count source.new }
     ensures sink { IsErrOf result Stop.Output → Rose (K.fault_count sink.old) (K.fault_count sink.new) }
     ensures sink_count { K.fault_count sink.old ≤ K.fault_count sink.new }
-    ensures halted { IsErrOf result Stop.Store → Halts D.Tells (Stands D.files D.fault_count D.fuse_count) D.fault_count cluster.old cluster.new (K.written sink.new) }
+    ensures halted { IsErrOf result Stop.Store → Halts D.Tells (Stands D.files D.Piece.Tells D.fault_count D.fuse_count A.fault_count) D.fault_count cluster.old cluster.new (K.written sink.new) }
     ensures up { OnOk result (IsUp cluster.new) }
-    ensures faults { D.fault_count cluster.old.disk ≤ D.fault_count cluster.new.disk }
+    ensures faults { NoneFalls (map D.fault_count (disks_of cluster.old)) (map D.fault_count (disks_of cluster.new)) }
+    ensures arm_faults { NoneFalls (map A.fault_count cluster.old.arms) (map A.fault_count cluster.new.arms) }
     ensures settings { cluster.new.settings ≡ cluster.old.settings }
 {
     let Some(said) = script.next_said(alloc, source, None)? else {

@@ -1,8 +1,10 @@
 //! Runs of the public call over memory disks, against transcripts that were written by hand.
 
-ghost use Rattle.std.specs.Prelude.{◌≡◌, ◌<◌, false};
-ghost use Rattle.hay_memdisk.specs.MemShelf.{mem_disks};
+ghost use Rattle.std.specs.Prelude.{◌≡◌, ◌<◌, ℕ, false};
+ghost use Rattle.hay_memdisk.specs.MemShelf.{mem_arms, mem_disks};
 
+mod damage;
+mod devices;
 mod faults;
 
 use hay_disk::Shelf;
@@ -59,7 +61,7 @@ fn outcome_of(alloc: Global, words: &[&str], script: &[u8], step: usize) -> Resu
     })
 }
 
-const CASES: [Case; 13] = [
+const CASES: [Case; 22] = [
     Case {
         words: RUN,
         script: b"put 0 1 68656c6c6f\nread 0 1 903df1a0ade0b876\n",
@@ -133,8 +135,70 @@ const CASES: [Case; 13] = [
     // Commands that are not built, alone and in a block that the script's end closes.
     Case {
         words: RUN,
-        script: b"drain 0\nlanes 2\n0 put 0 1 61\n2 del 0 1\n\n1 url 0 1",
+        script: b"begin 0 0\nlanes 2\n0 put 0 1 61\n2 del 0 1\n\n1 url 0 1",
         transcript: b"haystack 1 1 1 67108864\n1 unbuilt\n3 unbuilt\n4 bad line\n6 unbuilt\n",
+    },
+    // Two volumes: a photo goes to the first try that takes it, and then stays there.
+    Case {
+        words: &["run", "--volumes", "2", "--capacity", "4096"],
+        script: b"put 0 1 x3976:61\nput 0 1 -\nput 0 2 -\nput 0 2 x3977:62\nput 0 3 x3976:63\nput 0 3 x3928:63\n",
+        transcript: b"haystack 1 2 1 4096\n1 stored 0 1 1 903df1a0ade0b876\n2 full 0:0:4088:48\n3 stored 1 1 2 903df1a0ade0b876\n4 full 1:0:112:4032\n5 full 0:0:4088:4024 1:0:112:4024\n6 stored 1 2 3 903df1a0ade0b876\n",
+    },
+    // An index that lags: what has no record is found, and what was deleted stays so.
+    Case {
+        words: &["run"],
+        script: b"put 0 1 61\nput 0 2 62\nflush 0 0\nput 0 3 63\ndel 0 1\nrestart 0\nread 0 1 903df1a0ade0b876\nread 0 2 903df1a0ade0b876\nread 0 3 903df1a0ade0b876\n",
+        transcript: b"haystack 1 1 1 67108864\n1 stored 0 1 1 903df1a0ade0b876\n2 stored 0 2 2 903df1a0ade0b876\n3 flushed 0:0 2\n4 stored 0 3 3 903df1a0ade0b876\n5 deleted 0 4 3\n6 restarted 3\n7 gone 0 0 0 3\n8 photo 0 0 0 3 62\n9 photo 0 0 0 3 63\n",
+    },
+    // A flush that fails closes the index alone.
+    Case {
+        words: &["run"],
+        script: b"put 0 1 61\nfuse 0 0 2\nflush 0 0\nflush 0 0\nput 0 1 62\nrestart 0\nread 0 1 903df1a0ade0b876\n",
+        transcript: b"haystack 1 1 1 67108864\n1 stored 0 1 1 903df1a0ade0b876\n2 fused 0:0 2\n3 failed 0:0 1\n4 readonly 0:0\n5 failed 0:0 2\n6 restarted 1\nlost 0:0 5\n7 photo 0 0 0 1 61\n",
+    },
+    // Replicas that differ: each tells what it kept.
+    Case {
+        words: &["run", "--machines", "2", "--replicas", "2"],
+        script: b"put 0 1 61\nfuse 0 1 0\nput 0 1 62\nread 0 1 903df1a0ade0b876\nrestart 0\nread 0 1 903df1a0ade0b876\nread 0 1 903df1a0ade0b876\nput 0 1 63\nread 0 1 903df1a0ade0b876\n",
+        transcript: b"haystack 2 1 2 67108864\n1 stored 0 1 1 903df1a0ade0b876\n2 fused 0:1 0\n3 failed 0:1 1\n4 photo 0 0 1 1 61\n5 restarted 1\nkept 0:0 3\nlost 0:1 3\n6 photo 0 0 0 1 62\n7 photo 0 1 0 1 61\n8 stored 0 1 1 903df1a0ade0b876\n9 photo 0 1 1 1 63\n",
+    },
+    // URLs name the machine of the start replica.
+    Case {
+        words: &[
+            "run",
+            "--machines",
+            "3",
+            "--volumes",
+            "3",
+            "--replicas",
+            "2",
+        ],
+        script: b"put 144115188075855872 1 61\nurl 144115188075855872 1\nget http://store/2/2,0200000000000000_00000001_3736d58c374dc6c2\nget http://store/0/2,0200000000000000_00000001_3736d58c374dc6c2\nget http://store/1/2,0200000000000000_00000001_3736d58c374dc6c2\nget http://store/0/0,0200000000000000_00000001_3736d58c374dc6c2\nget http://store/2/2,0200000000000000_00000001_0000000000000000\nurl 144115188075855872 2\nget http://store/02/2,0200000000000000_00000001_3736d58c374dc6c2\n",
+        transcript: b"haystack 3 3 2 67108864\n1 stored 2 1 1 3736d58c374dc6c2\n2 url 1 http://store/2/2,0200000000000000_00000001_3736d58c374dc6c2\n3 photo 2 2 1 1 61\n4 photo 2 0 1 1 61\n5 nowhere\n6 moved 2 1\n7 wrong cookie 2 2 1 1\n8 unknown 1\n9 bad line\n",
+    },
+    // A drained machine takes neither puts nor deletes.
+    Case {
+        words: &["run", "--machines", "2", "--volumes", "2"],
+        script: b"put 0 1 61\ndrain 0\nput 0 1 62\ndel 0 1\nput 0 2 63\ndrain 1\nput 0 3 64\nread 0 1 903df1a0ade0b876\nundrain 0\nput 0 1 62\ndrain 2\n",
+        transcript: b"haystack 2 2 1 67108864\n1 stored 0 1 1 903df1a0ade0b876\n2 drained 0\n3 readonly 0:0\n4 readonly 0:0\n5 stored 1 1 2 903df1a0ade0b876\n6 drained 1\n7 readonly 0:0 1:1\n8 photo 0 0 1 2 61\n9 undrained 0\n10 stored 0 2 2 903df1a0ade0b876\n11 nowhere\n",
+    },
+    // A row that could not be written is lost.
+    Case {
+        words: &["run"],
+        script: b"fuse dir 0\nput 0 1 61\nput 0 2 62\nrestart 0\nread 0 1 903df1a0ade0b876\n",
+        transcript: b"haystack 1 1 1 67108864\n1 fused dir 0\n2 failed dir 1\n3 readonly dir\n4 restarted 0\nlost dir 2\n5 unknown 0\n",
+    },
+    // A row that was written and not synced is there behind the stop, without its photo.
+    Case {
+        words: &["run"],
+        script: b"fuse dir 3\nput 0 1 61\nput 0 2 62\nrestart 1\nread 0 1 903df1a0ade0b876\n",
+        transcript: b"haystack 1 1 1 67108864\n1 fused dir 3\n2 failed dir 1\n3 readonly dir\n4 restarted 1\nkept dir 2\n5 gone 0 0 0 1\n",
+    },
+    // Volumes and machines that there are not.
+    Case {
+        words: &["run", "--machines", "2", "--volumes", "2"],
+        script: b"flush 2 0\nflush 0 1\nflush 0 2\nflush 1 1\nfuse 0 1 5\nfuse 1 0 5\nundrain 2\nget http://store/1/0,0000000000000000_00000001_903df1a0ade0b876\ndrain 4294967295\n",
+        transcript: b"haystack 2 2 1 67108864\n1 nowhere\n2 nowhere\n3 nowhere\n4 flushed 1:1 0\n5 nowhere\n6 nowhere\n7 nowhere\n8 nowhere\n9 nowhere\n",
     },
 ];
 
@@ -179,8 +243,10 @@ fn status_of(
     sink_fails: &[u64],
     shelf: &mut MemShelf,
 ) -> Result<u8, Fail>
-    requires { (mem_disks shelf.old 1).is_out ≡ false }
-    ensures { (mem_disks shelf.new 1).is_out ≡ false }
+    requires disks { (slot : ℕ) → (mem_disks shelf.old slot).is_out ≡ false }
+    requires arms { (lane : ℕ) → (mem_arms shelf.old lane).is_out ≡ false }
+    ensures disks { (slot : ℕ) → (mem_disks shelf.new slot).is_out ≡ false }
+    ensures arms { (lane : ℕ) → (mem_arms shelf.new lane).is_out ≡ false }
 {
     let words = words_of(alloc, words)?;
     let mut text = Vec::new(alloc);
@@ -201,7 +267,8 @@ fn statuses_have_their_causes(rt: HostRuntime) -> Result<(), Fail> {
         &["run", "run"],
         &["run", "--volumes", "0"],
         &["run", "--capacity", "4095"],
-        &["run", "--machines", "2"],
+        &["drill", "1", "0"],
+        &["run", "--machines", "2", "--replicas", "3"],
     ] {
         let mut shelf = MemShelf::new(alloc);
         assert_eq!(rt; status_of(alloc, words, &[], &[], &mut shelf)?, 2);
@@ -253,7 +320,7 @@ fn stopped(alloc: Global, calls: u64, pick: u64) -> Result<String, Fail> {
     let rest = match (calls, pick) {
         (3, 1) => "3 failed 0:0 1\n4 readonly 0:0\n5 restarted 1\nkept 0:0 3\n6 photo 0 0 0 1 62\n",
         (4, _) =>
-            "3 stored 0 2 1 903df1a0ade0b876\n4 failed 0:0 1\n5 restarted 1\nlost 0:0 4\n6 photo 0 0 0 1 62\n",
+            "3 stored 0 2 1 903df1a0ade0b876\n4 failed 0:0 1\n5 restarted 2\nlost 0:0 4\n6 photo 0 0 0 2 62\n",
         _ => "3 failed 0:0 1\n4 readonly 0:0\n5 restarted 1\nlost 0:0 3\n6 photo 0 0 0 1 61\n",
     };
     Ok(format!(in alloc; "{head}{rest}")?)
@@ -285,8 +352,10 @@ fn run_over(
     script: &[u8],
     shelf: &mut MemShelf,
 ) -> Result<(u8, Vec<u8>), Fail>
-    requires { (mem_disks shelf.old 1).is_out ≡ false }
-    ensures { (mem_disks shelf.new 1).is_out ≡ false }
+    requires disks { (slot : ℕ) → (mem_disks shelf.old slot).is_out ≡ false }
+    requires arms { (lane : ℕ) → (mem_arms shelf.old lane).is_out ≡ false }
+    ensures disks { (slot : ℕ) → (mem_disks shelf.new slot).is_out ≡ false }
+    ensures arms { (lane : ℕ) → (mem_arms shelf.new lane).is_out ≡ false }
 {
     let words = words_of(alloc, words)?;
     let mut text = Vec::new(alloc);
@@ -320,8 +389,39 @@ fn the_store_outlives_the_run(rt: HostRuntime) -> Result<(), Fail> {
     assert_eq!(rt; status, 6);
     assert_eq!(rt;
         written.as_slice(),
-        b"haystack 1 1 1 8192\nopen damaged 1 1 40\n".as_slice()
+        b"haystack 1 1 1 8192\nopen damaged 0 0 40\n".as_slice()
     );
+    Ok(())
+}
+
+/// Puts a copy of a slot's disk onto another shelf, with these bytes in place of one of its files.
+fn copy_disk(
+    from: &MemShelf,
+    slot: u32,
+    file: u32,
+    bytes: &[u8],
+    alloc: Global,
+    to: &mut MemShelf,
+) -> Result<(), Fail>
+    requires disks { (slot : ℕ) → (mem_disks to.old slot).is_out ≡ false }
+    requires arms { (lane : ℕ) → (mem_arms to.old lane).is_out ≡ false }
+    ensures disks { (slot : ℕ) → (mem_disks to.new slot).is_out ≡ false }
+    ensures arms { (lane : ℕ) → (mem_arms to.new lane).is_out ≡ false }
+{
+    let mut disk = MemDisk::new(alloc);
+    if let Some(old) = from.disk(slot) {
+        for other in 0..3 {
+            disk.set_bytes(
+                other,
+                if other == file {
+                    bytes
+                } else {
+                    old.bytes(other)
+                },
+            )?;
+        }
+    }
+    to.put_disk(slot, disk)?;
     Ok(())
 }
 
@@ -335,11 +435,10 @@ fn damaged(alloc: Global, at: usize, patch: &[u8]) -> Result<(u8, Vec<u8>), Fail
     }
     bytes.truncate(at);
     bytes.extend_from_slice(patch)?;
-    let mut disk = MemDisk::new(alloc);
-    disk.set_bytes(1, bytes.as_slice())?;
-    let mut shelf = MemShelf::new(alloc);
-    shelf.put_disk(1, disk)?;
-    run_over(alloc, &["run"], b"", &mut shelf)
+    let mut second = MemShelf::new(alloc);
+    copy_disk(&shelf, 0, 3, &[], alloc, &mut second)?;
+    copy_disk(&shelf, 1, 1, bytes.as_slice(), alloc, &mut second)?;
+    run_over(alloc, &["run"], b"", &mut second)
 }
 
 #[test]

@@ -35,7 +35,7 @@ use Rattle.hay_legal.specs.Blocks.{LegalBlock, LogIsLegal}
 use Rattle.hay_legal.specs.Legal.{Legal, IsUnbuiltBlock}
 use Rattle.hay_legal.specs.Subject.{known_behind, IsOf, IsAppended, StoredIsTheLastEntry, DeletedIsTheLastEntry, LogsGrow, IsNoBlock}
 use Rattle.hay_legal.proofs.Subject.Shown.{legal_split}
-use Rattle.hay_legal.proofs.Subject.Effects.{Bounded, RowsGrow, each_append, calm_undisturbed, find_of, each_try, taken_home, Disturbed, put_disturbed, del_disturbed, plain_effect}
+use Rattle.hay_legal.proofs.Subject.Effects.{Bounded, RowsGrow, each_append, calm_undisturbed, unchanged, find_of, each_try, taken_home, Disturbed, put_disturbed, del_disturbed, plain_effect}
 
 -- A STORE KEEPS ITS VOLUMES
 
@@ -111,27 +111,21 @@ kept_row_bounded settings (Some pending) true bounded = (bounded pending refl, t
 kept_row_bounded settings (Some pending) false bounded = tt
 kept_row_bounded settings None kept bounded = tt
 
-pub each_front : {X : Type 0} (P : X → Type 0) (xs ys : List X) → Each P (xs ++ ys) → Each P xs
-each_front P [] ys h = tt
-each_front P (x ∷ xs) ys h = (h.0, each_front P xs ys h.1)
-
 pub reopened_is_of : (settings : Settings) (k : Known) (kept : List (List Bool)) (row : Bool) (t : Known) → IsOf settings k → Reopens settings k kept row t → IsOf settings t
 reopened_is_of settings k kept row t is h = record {
   volumes = reopened_many settings 0 k.volumes kept t.volumes h.volumes ∙ is.volumes;
   replicas = λ v below.
       let found = volume_reopened settings k kept row t v h (subst (λ (n : ℕ). v < n) (sym is.volumes) below) in
       replicas_many (volume_at k v) (slice_index_or kept v []) 0 (volume_at k v).replicas (volume_at t v).replicas found.replicas ∙ is.replicas v below;
-  homes = elim (h.rows) [
-    | inl e ↦ subst (λ (rows : List HomeRow). Bounded settings rows) (sym e)
-        (each_append _ k.directory.rows (kept_row k.directory.pending row) is.homes (kept_row_bounded settings k.directory.pending row is.pending))
-    | inr loses ↦ each_front _ t.directory.rows _ (subst (λ (rows : List HomeRow). Bounded settings rows) loses.last is.homes)
-  ];
+  homes = subst (λ (rows : List HomeRow). Bounded settings rows) (sym h.rows)
+      (each_append _ k.directory.rows (kept_row k.directory.pending row) is.homes (kept_row_bounded settings k.directory.pending row is.pending));
   pending = λ pending e. let none : None ≡ Some pending = sym (ap (λ (d : DirKnown). d.pending) h.directory) ∙ e in absurd cc;
 }
 
 pub restart_is_of : (settings : Settings) (k : Known) (r : Reply) (notes : List Note) (t : Known) → IsOf settings k → LegalRestart settings k r notes t → IsOf settings t
 restart_is_of settings k (reply.Restarted d) notes t is h = reopened_is_of settings k h.kept h.row t is h.opened
-restart_is_of settings k reply.NoMem notes t is h = reopened_is_of settings k h.kept h.row t is h.opened
+restart_is_of settings k reply.NoMem notes t is h =
+    let same = calm_undisturbed settings k t (unchanged settings k t h.leaves) in is_of_grown settings k t is same.many (λ w. (same.each w).many) same.grow
 restart_is_of settings k _ notes t is h = absurd h
 
 -- over turns outside blocks

@@ -1,5 +1,5 @@
 -- What a restart leaves of what stands.
-use Rattle.std.proofs.Common.{◌≡◌, ℕ, zero, suc, ◌+◌, ◌<◌, Bool, true, false, List, [], ◌∷◌, ◌++◌, length, map, Option, Some, None, refl, sym, ap, subst, ◌∙◌, ◌⊎◌, inl, inr, arith}
+use Rattle.std.proofs.Common.{◌≡◌, ℕ, zero, suc, ◌+◌, ◌<◌, Bool, true, false, List, [], ◌∷◌, length, map, Option, Some, None, refl, sym, ap, subst, ◌∙◌, inl, inr, arith}
 use Rattle.std.specs.Prelude.{slice_index_or, is_none, Contains}
 use Rattle.std.proofs.lemmas.List.Elements.{Contains-append_left, Contains-append_right}
 use Rattle.std.proofs.lemmas.List.{get_or-set_same}
@@ -9,7 +9,7 @@ use Rattle.hay_needle.specs.declared.needle.Photo.{Photo}
 use Rattle.hay_needle.specs.declared.needle.Outcome.TheVariants as outcome
 use Rattle.hay_needle.specs.declared.settings.Settings.{Settings}
 use Rattle.hay_needle.specs.Tables.{Table, outcome_at, pair_eq, look_after}
-use Rattle.hay_needle.proofs.TableLaws.{pair_same, pair_refl}
+use Rattle.hay_needle.proofs.TableLaws.{pair_refl}
 use Rattle.hay_script.specs.declared.Command.TheVariants as command
 use Rattle.hay_reply.specs.declared.Reply.{Reply}
 use Rattle.hay_reply.specs.declared.Reply.TheVariants as reply
@@ -26,9 +26,9 @@ use Rattle.hay_legal.specs.declared.known.Known.{Known}
 use Rattle.hay_legal.specs.declared.turn.Item.TheVariants as item
 use Rattle.hay_legal.specs.declared.turn.Turn.{Turn}
 use Rattle.hay_legal.specs.declared.turn.Turn.TheVariants.{Plain, Lanes, Restart}
-use Rattle.hay_legal.specs.Known.{stands as has_photo, now, home_of, home_in, volume_at, replica_at, empty_volume, refusal_of, machine_of}
+use Rattle.hay_legal.specs.Known.{now, home_of, home_in, volume_at, replica_at, empty_volume, refusal_of, machine_of}
 use Rattle.hay_url.specs.Url.{cookie_of}
-use Rattle.hay_legal.specs.Plain.{PutFailed, has_pair, frozen_with, put_entry}
+use Rattle.hay_legal.specs.Plain.{PutFailed, frozen_with, put_entry}
 use Rattle.hay_reply.specs.declared.Note.{Note}
 use Rattle.hay_legal.specs.Restarts.{Reopens, ReopenedVolumes, ReopenedReplica, LegalRestart, IsRestarted, MayKeep, kept_row, kept_entry, is_kept, with_entries, kept_note, replica_notes, pending_notes, volume_notes, row_notes}
 use Rattle.hay_legal.specs.Legal.{Legal}
@@ -143,40 +143,11 @@ replica_over settings k kept row t v j pair h is below within =
     subst (λ (i : ℕ). ReopenedReplica (volume_at k v) (replica_at (volume_at k v) j) (kept_entry (volume_at k v).pending (is_kept (slice_index_or kept v []) i)) (replica_at (volume_at t v) j)) plus opened in
     at_reopened (volume_at k v) (volume_at t v) j (kept_entry (volume_at k v).pending (is_kept (slice_index_or kept v []) j)) pair found.log opened_j
 
--- the last row of all is the pair's only one, or the pair's home stands without it
-pub home_front : (rows : List HomeRow) (row : HomeRow) (pair : Pair) (v : ℕ) → home_in (rows ++ row ∷ []) pair ≡ Some v
-    → (home_in rows pair ≡ Some v) ⊎ ((row.pair ≡ pair) × (row.volume ≡ v))
-home_front [] row pair v e =
-    elim (cases_Bool (pair_eq row.pair pair)) [
-      | inl t ↦
-          let found : Some row.volume ≡ Some v = sym (cond-true (pair_eq row.pair pair) (Some row.volume) None t) ∙ e in
-          inr (pair_same row.pair pair t, (let same : row.volume ≡ v = cc in same))
-      | inr f ↦ let none : None ≡ Some v = sym (cond-false (pair_eq row.pair pair) (Some row.volume) None f) ∙ e in absurd cc
-    ]
-home_front (first ∷ rows) row pair v e =
-    elim (cases_Bool (pair_eq first.pair pair)) [
-      | inl t ↦ inl (cond-true (pair_eq first.pair pair) (Some first.volume) (home_in rows pair) t
-          ∙ sym (cond-true (pair_eq first.pair pair) (Some first.volume) (home_in (rows ++ row ∷ []) pair) t) ∙ e)
-      | inr f ↦ elim (home_front rows row pair v (sym (cond-false (pair_eq first.pair pair) (Some first.volume) (home_in (rows ++ row ∷ []) pair) f) ∙ e)) [
-        | inl same ↦ inl (cond-false (pair_eq first.pair pair) (Some first.volume) (home_in rows pair) f ∙ same)
-        | inr last ↦ inr last
-      ]
-    ]
-
--- a home stands over a restart that loses no row of the pair there
+-- a home stands over a restart
 pub home_over : (settings : Settings) (k : Known) (kept : List (List Bool)) (row : Bool) (t : Known) (pair : Pair) (v : ℕ) → Reopens settings k kept row t → home_of k pair ≡ Some v
-    → (is_kept (slice_index_or kept v []) 0 ≡ false → has_pair (volume_at k v) pair (replica_at (volume_at k v) 0) ≡ false → ⊥) → home_of t pair ≡ Some v
-home_over settings k kept row t pair v h home never =
-    elim (h.rows) [
-      | inl e ↦ ap (λ (rows : List HomeRow). home_in rows pair) e ∙ home_stays k.directory.rows (kept_row k.directory.pending row) pair v home
-      | inr loses ↦ elim (home_front t.directory.rows (record { pair = loses.pair; volume = loses.v }) pair v (sym (ap (λ (rows : List HomeRow). home_in rows pair) loses.last) ∙ home)) [
-        | inl same ↦ same
-        | inr last ↦ absurd (never
-            (subst (λ (u : ℕ). is_kept (slice_index_or kept u []) 0 ≡ false) last.1 loses.lost)
-            (subst (λ (u : ℕ). has_pair (volume_at k u) pair (replica_at (volume_at k u) 0) ≡ false) last.1
-            (subst (λ (p : Pair). has_pair (volume_at k loses.v) p (replica_at (volume_at k loses.v) 0) ≡ false) last.0 loses.nothing)))
-      ]
-    ]
+    → home_of t pair ≡ Some v
+home_over settings k kept row t pair v h home =
+    ap (λ (rows : List HomeRow). home_in rows pair) h.rows ∙ home_stays k.directory.rows (kept_row k.directory.pending row) pair v home
 
 -- the answer about a change that no note calls kept, or none lost
 pub answer_lost : (settings : Settings) (k : Known) (d : ℕ) (notes : List Note) (t : Known) (v j : ℕ) (pending : Pending) → (h : IsRestarted settings k d notes t)
@@ -207,8 +178,7 @@ standing_restart settings k d notes t pair photo is some h loses stands =
     let below : v < settings.volumes = home_bounded settings k.directory.rows pair v is.homes stands.home in
     record {
       volume = v;
-      home = home_over settings k h.kept h.row t pair v h.opened stands.home
-          (λ lost nothing. true≢false (sym (ap has_photo (stands.each 0 some)) ∙ nothing));
+      home = home_over settings k h.kept h.row t pair v h.opened stands.home;
       each = λ j within.
           replica_over settings k h.kept h.row t v j pair h.opened is below within
           ∙ kept_other (now (volume_at k v) (replica_at (volume_at k v) j)) (volume_at k v).pending (is_kept (slice_index_or h.kept v []) j) pair
@@ -224,8 +194,7 @@ standing_kept settings k d notes t pair v pending is some h there own home none 
     let below : v < settings.volumes = home_bounded settings k.directory.rows pair v is.homes home in
     record {
       volume = v;
-      home = home_over settings k h.kept h.row t pair v h.opened home
-          (λ lost nothing. true≢false (sym (answer_kept settings k d notes t v 0 pending h is below some there none) ∙ lost));
+      home = home_over settings k h.kept h.row t pair v h.opened home;
       each = λ j within.
           replica_over settings k h.kept h.row t v j pair h.opened is below within
           ∙ kept_own (now (volume_at k v) (replica_at (volume_at k v) j)) (volume_at k v).pending (is_kept (slice_index_or h.kept v []) j) pending pair there

@@ -1,5 +1,5 @@
 -- What stands at a pair, and what is read of it.
-use Rattle.std.proofs.Common.{◌≡◌, ◌≢◌, ℕ, ◌+◌, ◌<◌, Bool, false, cond, List, [], ◌∷◌, ◌++◌, length, map, Option, Some, None, refl, sym, ap, subst, ◌∙◌, ◌⊎◌, inl, inr, arith}
+use Rattle.std.proofs.Common.{true, ◌≡◌, ◌≢◌, ℕ, ◌+◌, ◌<◌, Bool, false, cond, List, [], ◌∷◌, ◌++◌, length, map, Option, Some, None, refl, sym, ap, subst, ◌∙◌, ◌⊎◌, inl, inr, arith}
 use Rattle.std.specs.List.{AllByRecursion as Each}
 use Rattle.std.specs.Prelude.{◌==◌, nat_lt, find, is_none}
 use Rattle.std.proofs.lemmas.List.FromFn.{length-range_with_len, get_or-range_with_len}
@@ -30,7 +30,7 @@ use Rattle.hay_legal.specs.declared.turn.Turn.TheVariants.{Plain, Lanes, Restart
 use Rattle.hay_legal.specs.Known.{now, home_of, home_in, volume_at, replica_at, refusal_of, machine_of, replicas_of, replica_on}
 use Rattle.hay_url.specs.declared.Url.{Url as UrlParts}
 use Rattle.hay_url.specs.Url.{cookie_of}
-use Rattle.hay_legal.specs.Plain.{IsStored, IsDeleted, LegalPlain, LegalAnswer, LegalShow, LegalGetAt, IsShown, start_of}
+use Rattle.hay_legal.specs.Plain.{is_built, IsStored, IsDeleted, LegalPlain, LegalAnswer, LegalShow, LegalGetAt, IsShown, start_of}
 use Rattle.hay_legal.specs.Legal.{Legal}
 use Rattle.hay_legal.specs.Subject.{known_behind, pair_of, AsksFor, IsOf, changed_pair, LeavesAlone, SaysNothing, IsReadAs, IsRefusedAsGone, IsRefusedForItsCookie, StoredIsRead, DeletedIsGone}
 use Rattle.hay_legal.proofs.Subject.Shown.{legal_split, outcome_of, row_pair, row_outcome, at-now, pair_differs, map-append_rows, cookie_in, bytes_in, Tells, asked, carried_out}
@@ -224,6 +224,11 @@ reader_never settings k tag (command.Read p q) r t pair cookie strange asks h = 
 reader_never settings k tag (command.Get url) r t pair cookie strange asks h = get_strange settings k tag url (replica_on settings url.volume url.machine) r t strange h
 reader_never settings k tag _ r t pair cookie strange asks h = asks
 
+asked_is_built : (c : Command) (pair : Pair) (cookie : Cookie) → AsksFor c pair cookie → is_built c ≡ true
+asked_is_built (command.Read pair' cookie') pair cookie asks = refl
+asked_is_built (command.Get url) pair cookie asks = refl
+asked_is_built c pair cookie asks = absurd asks
+
 pub tells_or_nothing : (settings : Settings) (k : Known) (tag : CoreTag) (c : Command) (r : Reply) (t : Known) (pair : Pair) (cookie : Cookie)
     → AsksFor c pair cookie → LegalAnswer settings k tag c r t → Tells r ⊎ SaysNothing r
 tells_or_nothing settings k tag c (reply.Photo v m p d bytes) t pair cookie asks h = inl tt
@@ -233,7 +238,7 @@ tells_or_nothing settings k tag c (reply.Unknown d) t pair cookie asks h = inl t
 tells_or_nothing settings k tag c (reply.Unreadable v p d causes) t pair cookie asks h = inr tt
 tells_or_nothing settings k tag c (reply.Moved v d) t pair cookie asks h = inr tt
 tells_or_nothing settings k tag c reply.Nowhere t pair cookie asks h = inr tt
-tells_or_nothing settings k tag c reply.Unbuilt t pair cookie asks h = inr tt
+tells_or_nothing settings k tag c reply.Unbuilt t pair cookie asks h = let e : true ≡ false = sym (asked_is_built c pair cookie asks) ∙ h.0 in absurd cc
 tells_or_nothing settings k tag c reply.NoMem t pair cookie asks h = inr tt
 tells_or_nothing settings k tag c r t pair cookie asks h = absurd (reader_never settings k tag c r t pair cookie tt asks h)
 

@@ -2,7 +2,7 @@
 use Rattle.std.proofs.Common.{◌≡◌, ◌≢◌, ℕ, ◌<◌, ◌≤◌, Bool, true, false, List, [], ◌∷◌, length, Option, Some, None, refl, sym, ap, subst, ◌∙◌, ◌⊎◌, inl, inr, arith}
 use Rattle.std.specs.Prelude.{slice_index_or, replicate}
 use Rattle.std.proofs.lemmas.List.{length-replicate, get_or-replicate, get_or_past}
-use Rattle.std.proofs.lemmas.Bool.{cases_Bool, cond-true, cond-false, true≢false, cases_lt}
+use Rattle.std.proofs.lemmas.Bool.{cases_Bool, cond-true, cond-false, cases_lt}
 use Rattle.hay_needle.specs.declared.needle.Pair.{Pair}
 use Rattle.hay_needle.specs.declared.needle.Cookie.{Cookie}
 use Rattle.hay_needle.specs.declared.needle.Outcome.{Outcome}
@@ -28,7 +28,7 @@ use Rattle.hay_legal.specs.declared.turn.Item.{Item}
 use Rattle.hay_legal.specs.declared.turn.Item.TheVariants as item
 use Rattle.hay_legal.specs.declared.turn.Turn.{Turn}
 use Rattle.hay_legal.specs.declared.turn.Turn.TheVariants.{Plain, Lanes, Restart}
-use Rattle.hay_legal.specs.Known.{stands as has_photo, now, home_of, home_in, volume_at, replica_at, empty_volume, empty_replica, fresh_unharmed, fresh_volume}
+use Rattle.hay_legal.specs.Known.{now, home_of, home_in, volume_at, replica_at, empty_volume, empty_replica, fresh_unharmed, fresh_volume}
 use Rattle.hay_legal.specs.Plain.{IsDeleted, LegalPlain, LegalAnswer, LegalShow, IsShown}
 use Rattle.hay_reply.specs.declared.Note.{Note}
 use Rattle.hay_legal.specs.Restarts.{Reopens, LegalRestart, IsRestarted, kept_entry, is_kept, with_entries}
@@ -75,41 +75,34 @@ pub kept_none : (table : Table) (o : Option Pending) → with_entries table (kep
 kept_none table None = refl
 kept_none table (Some pending) = refl
 
-pub no_photo : (o : Outcome) → has_photo o ≡ false → o ≡ outcome.Nothing
-no_photo outcome.Nothing e = refl
-no_photo (outcome.Photo photo) e = absurd cc
-
--- where replica 0 lost what was pending, it has what it had
-pub tidy_lost : (settings : Settings) (k : Known) (kept : List (List Bool)) (row : Bool) (t : Known) (v : ℕ) (pair : Pair) → Reopens settings k kept row t → IsTidy settings k
-    → v < settings.volumes → 0 < settings.replicas → at_replica (volume_at t v) 0 pair ≡ at_replica (volume_at k v) 0 pair
-    → (at_replica (volume_at t v) 0 pair ≡ outcome.Nothing) ⊎ (home_of t pair ≡ Some v)
-tidy_lost settings k kept row t v pair h tidy below first same =
-    elim (cases_Bool (has_photo (at_replica (volume_at k v) 0 pair))) [
-      | inl photo ↦ elim (tidy.photos v 0 pair below first) [
-        | inl nothing ↦ inl (same ∙ nothing)
-        | inr home ↦ inr (home_over settings k kept row t pair v h home (λ lost nothing. true≢false (sym photo ∙ nothing)))
-      ]
-      | inr none ↦ inl (same ∙ no_photo (at_replica (volume_at k v) 0 pair) none)
+-- where a replica lost what was pending, it has what it had
+pub tidy_lost : (settings : Settings) (k : Known) (kept : List (List Bool)) (row : Bool) (t : Known) (v j : ℕ) (pair : Pair) → Reopens settings k kept row t → IsTidy settings k
+    → v < settings.volumes → j < settings.replicas → at_replica (volume_at t v) j pair ≡ at_replica (volume_at k v) j pair
+    → (at_replica (volume_at t v) j pair ≡ outcome.Nothing) ⊎ (home_of t pair ≡ Some v)
+tidy_lost settings k kept row t v j pair h tidy below within same =
+    elim (tidy.photos v j pair below within) [
+      | inl nothing ↦ inl (same ∙ nothing)
+      | inr home ↦ inr (home_over settings k kept row t pair v h home)
     ]
 
 -- where it kept it, that is in the home of its pair
-pub tidy_kept : (settings : Settings) (k : Known) (kept : List (List Bool)) (row : Bool) (t : Known) (v : ℕ) (pair : Pair) → Reopens settings k kept row t → IsTidy settings k
-    → v < settings.volumes → 0 < settings.replicas → is_kept (slice_index_or kept v []) 0 ≡ true
+pub tidy_kept : (settings : Settings) (k : Known) (kept : List (List Bool)) (row : Bool) (t : Known) (v j : ℕ) (pair : Pair) → Reopens settings k kept row t → IsTidy settings k
+    → v < settings.volumes → j < settings.replicas → is_kept (slice_index_or kept v []) j ≡ true
     → (o : Option Pending) → (volume_at k v).pending ≡ o
-    → at_replica (volume_at t v) 0 pair ≡ outcome_at (with_entries (now (volume_at k v) (replica_at (volume_at k v) 0)) (kept_entry o true)) pair
-    → (at_replica (volume_at t v) 0 pair ≡ outcome.Nothing) ⊎ (home_of t pair ≡ Some v)
-tidy_kept settings k kept row t v pair h tidy below first is o pends over =
+    → at_replica (volume_at t v) j pair ≡ outcome_at (with_entries (now (volume_at k v) (replica_at (volume_at k v) j)) (kept_entry o true)) pair
+    → (at_replica (volume_at t v) j pair ≡ outcome.Nothing) ⊎ (home_of t pair ≡ Some v)
+tidy_kept settings k kept row t v j pair h tidy below within is o pends over =
     let stays : home_of k pair ≡ Some v → home_of t pair ≡ Some v =
-    λ home. home_over settings k kept row t pair v h home (λ lost nothing. true≢false (sym is ∙ lost)) in
-    elim (tidy.photos v 0 pair below first) [
+    λ home. home_over settings k kept row t pair v h home in
+    elim (tidy.photos v j pair below within) [
       | inl nothing ↦ go o pends over stays nothing
       | inr home ↦ inr (stays home)
     ]
   where
     go : (o : Option Pending) → (volume_at k v).pending ≡ o
-        → at_replica (volume_at t v) 0 pair ≡ outcome_at (with_entries (now (volume_at k v) (replica_at (volume_at k v) 0)) (kept_entry o true)) pair
-        → (home_of k pair ≡ Some v → home_of t pair ≡ Some v) → at_replica (volume_at k v) 0 pair ≡ outcome.Nothing
-        → (at_replica (volume_at t v) 0 pair ≡ outcome.Nothing) ⊎ (home_of t pair ≡ Some v)
+        → at_replica (volume_at t v) j pair ≡ outcome_at (with_entries (now (volume_at k v) (replica_at (volume_at k v) j)) (kept_entry o true)) pair
+        → (home_of k pair ≡ Some v → home_of t pair ≡ Some v) → at_replica (volume_at k v) j pair ≡ outcome.Nothing
+        → (at_replica (volume_at t v) j pair ≡ outcome.Nothing) ⊎ (home_of t pair ≡ Some v)
     go None pends over stays nothing = inl (over ∙ nothing)
     go (Some pending) pends over stays nothing =
         elim (cases_Bool (pair_eq (entry_row pending.entry).pair pair)) [
@@ -117,21 +110,21 @@ tidy_kept settings k kept row t v pair h tidy below first is o pends over =
               let same : pair_of pending.entry ≡ pair = sym (row_pair pending.entry) ∙ pair_same (entry_row pending.entry).pair pair own in
               inr (stays (subst (λ (p : Pair). home_of k p ≡ Some v) same (tidy.pending v pending pends)))
           | inr other ↦ inl (over
-              ∙ at-apply_entry (now (volume_at k v) (replica_at (volume_at k v) 0)) pending.entry pair
-              ∙ cond-false (pair_eq (entry_row pending.entry).pair pair) (entry_row pending.entry).outcome (at_replica (volume_at k v) 0 pair) other
+              ∙ at-apply_entry (now (volume_at k v) (replica_at (volume_at k v) j)) pending.entry pair
+              ∙ cond-false (pair_eq (entry_row pending.entry).pair pair) (entry_row pending.entry).outcome (at_replica (volume_at k v) j pair) other
               ∙ nothing)
         ]
 
-pub tidy_over : (settings : Settings) (k : Known) (kept : List (List Bool)) (row : Bool) (t : Known) (v : ℕ) (pair : Pair) → IsOf settings k → Reopens settings k kept row t → IsTidy settings k
-    → v < settings.volumes → 0 < settings.replicas
-    → (at_replica (volume_at t v) 0 pair ≡ outcome.Nothing) ⊎ (home_of t pair ≡ Some v)
-tidy_over settings k kept row t v pair is h tidy below first =
-    let table : Table = now (volume_at k v) (replica_at (volume_at k v) 0) in
-    let over = replica_over settings k kept row t v 0 pair h is below first in
-    elim (cases_Bool (is_kept (slice_index_or kept v []) 0)) [
-      | inl has ↦ tidy_kept settings k kept row t v pair h tidy below first has (volume_at k v).pending refl
+pub tidy_over : (settings : Settings) (k : Known) (kept : List (List Bool)) (row : Bool) (t : Known) (v j : ℕ) (pair : Pair) → IsOf settings k → Reopens settings k kept row t → IsTidy settings k
+    → v < settings.volumes → j < settings.replicas
+    → (at_replica (volume_at t v) j pair ≡ outcome.Nothing) ⊎ (home_of t pair ≡ Some v)
+tidy_over settings k kept row t v j pair is h tidy below within =
+    let table : Table = now (volume_at k v) (replica_at (volume_at k v) j) in
+    let over = replica_over settings k kept row t v j pair h is below within in
+    elim (cases_Bool (is_kept (slice_index_or kept v []) j)) [
+      | inl has ↦ tidy_kept settings k kept row t v j pair h tidy below within has (volume_at k v).pending refl
           (over ∙ ap (λ (b : Bool). outcome_at (with_entries table (kept_entry (volume_at k v).pending b)) pair) has)
-      | inr lost ↦ tidy_lost settings k kept row t v pair h tidy below first
+      | inr lost ↦ tidy_lost settings k kept row t v j pair h tidy below within
           (over ∙ ap (λ (b : Bool). outcome_at (with_entries table (kept_entry (volume_at k v).pending b)) pair) lost
           ∙ ap (λ (s : Table). outcome_at s pair) (kept_none table (volume_at k v).pending))
     ]
@@ -149,30 +142,35 @@ none_pends settings k kept row t v pending h there =
           let none : None ≡ Some pending = sym (ap (λ (volume : VolumeKnown). volume.pending) (get_or_past t.volumes v empty_volume more)) ∙ there in absurd cc
     ]
 
-pub reopened_is_tidy : (settings : Settings) (k : Known) (kept : List (List Bool)) (row : Bool) (t : Known) → IsOf settings k → settings.replicas ≡ 1 → Reopens settings k kept row t
+pub reopened_is_tidy : (settings : Settings) (k : Known) (kept : List (List Bool)) (row : Bool) (t : Known) → IsOf settings k → Reopens settings k kept row t
     → IsTidy settings k → IsTidy settings t
-reopened_is_tidy settings k kept row t is one h tidy = record {
-  photos = λ v j pair below within.
-      let zero_th : j ≡ 0 = omega (arith, within, one) in
-      let first : 0 < settings.replicas = omega (arith, one) in
-      subst (λ (i : ℕ). (at_replica (volume_at t v) i pair ≡ outcome.Nothing) ⊎ (home_of t pair ≡ Some v)) (sym zero_th)
-      (tidy_over settings k kept row t v pair is h tidy below first);
+reopened_is_tidy settings k kept row t is h tidy = record {
+  photos = λ v j pair below within. tidy_over settings k kept row t v j pair is h tidy below within;
   pending = λ v pending there. absurd (none_pends settings k kept row t v pending h there);
 }
 
-pub restart_is_tidy : (settings : Settings) (k : Known) (r : Reply) (notes : List Note) (t : Known) → IsOf settings k → settings.replicas ≡ 1 → LegalRestart settings k r notes t
+pub restart_is_tidy : (settings : Settings) (k : Known) (r : Reply) (notes : List Note) (t : Known) → IsOf settings k → LegalRestart settings k r notes t
     → IsTidy settings k → IsTidy settings t
-restart_is_tidy settings k (reply.Restarted d) notes t is one h tidy = reopened_is_tidy settings k h.kept h.row t is one h.opened tidy
-restart_is_tidy settings k reply.NoMem notes t is one h tidy = reopened_is_tidy settings k h.kept h.row t is one h.opened tidy
-restart_is_tidy settings k _ notes t is one h tidy = absurd h
+restart_is_tidy settings k (reply.Restarted d) notes t is h tidy = reopened_is_tidy settings k h.kept h.row t is h.opened tidy
+restart_is_tidy settings k reply.NoMem notes t is h tidy = record {
+  photos = λ v j pair below within.
+      subst (λ (volumes : List VolumeKnown). (at_replica (slice_index_or volumes v empty_volume) j pair ≡ outcome.Nothing) ⊎ (home_of t pair ≡ Some v)) (sym (h.leaves).volumes)
+      (subst (λ (dir : DirKnown). (at_replica (volume_at k v) j pair ≡ outcome.Nothing) ⊎ (home_in dir.rows pair ≡ Some v)) (sym (h.leaves).directory)
+      (tidy.photos v j pair below within));
+  pending = λ v pending there.
+      let before : (volume_at k v).pending ≡ Some pending =
+      subst (λ (volumes : List VolumeKnown). (slice_index_or volumes v empty_volume).pending ≡ Some pending) (h.leaves).volumes there in
+      subst (λ (dir : DirKnown). home_in dir.rows (pair_of pending.entry) ≡ Some v) (sym (h.leaves).directory) (tidy.pending v pending before);
+}
+restart_is_tidy settings k _ notes t is h tidy = absurd h
 
 pub tidy_stays : TidyStays
-tidy_stays settings k t [] is tidy one none legal = subst (λ (x : Known). IsTidy settings x) (sym legal) tidy
-tidy_stays settings k t (Plain line i r after ∷ turns) is tidy one none legal =
-    tidy_stays settings after t turns (plain_is_of settings k line i r after is legal.0) (plain_tidy settings k line i r after legal.0 tidy) one none.1 legal.1
-tidy_stays settings k t (Lanes items logs rows after ∷ turns) is tidy one none legal = absurd none.0
-tidy_stays settings k t (Restart line pick r notes after ∷ turns) is tidy one none legal =
-    tidy_stays settings after t turns (restart_is_of settings k r notes after is legal.0) (restart_is_tidy settings k r notes after is one legal.0 tidy) one none.1 legal.1
+tidy_stays settings k t [] is tidy none legal = subst (λ (x : Known). IsTidy settings x) (sym legal) tidy
+tidy_stays settings k t (Plain line i r after ∷ turns) is tidy none legal =
+    tidy_stays settings after t turns (plain_is_of settings k line i r after is legal.0) (plain_tidy settings k line i r after legal.0 tidy) none.1 legal.1
+tidy_stays settings k t (Lanes items logs rows after ∷ turns) is tidy none legal = absurd none.0
+tidy_stays settings k t (Restart line pick r notes after ∷ turns) is tidy none legal =
+    tidy_stays settings after t turns (restart_is_of settings k r notes after is legal.0) (restart_is_tidy settings k r notes after is legal.0 tidy) none.1 legal.1
 
 -- a store that was just formatted
 pub is_tidy-fresh : (settings : Settings) → IsTidy settings (fresh_unharmed settings)

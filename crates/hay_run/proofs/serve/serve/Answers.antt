@@ -1,11 +1,13 @@
-use Rattle.std.proofs.Common.{◌++◌, [], Some, refl, sym, ap, ◌∙◌, arith, lit≤, false, ◌≡◌, ℕ}
+use Rattle.std.proofs.Common.{◌++◌, map, [], Some, refl, sym, ap, ◌∙◌, arith, lit≤, false, ◌≡◌, ℕ}
 use Rattle.std.specs.Prelude.{Result, Err, IsErrOf}
 use Rattle.hay_run.specs.declared.stops.Stop.{Stop}
 use Rattle.std.proofs.lemmas.Result.{err_from_is_err_and}
 use Rattle.hay_disk.specs.Streams.{Wrote}
 use Rattle.hay_cluster.specs.State.{Stands, Holds}
+use Rattle.hay_cluster.specs.Store.{disks_of}
 use Rattle.hay_run.specs.Stream.{rest_of, Accounts}
 use Rattle.hay_run.proofs.Asking.{took_first, took_items_more, asks_all, at_end_turn, read_to_end, short_script}
+use Rattle.hay_run.proofs.Counting.{NoneFalls-same, NoneFalls-more}
 use Rattle.hay_run.proofs.Taking.{accounts_same, accounts_more}
 use Rattle.hay_run.proofs.Turning.{answers_nothing, answers_more, wrote_more}
 use Rattle.hay_run.proofs.Serving.{stops_by, holds_none, memory_same, halts_more}
@@ -19,13 +21,14 @@ turns-init g c = record {
   same = refl;
   asked = [];
   took = took_first 1 (g.S.Source.left c.args.source.now) c.new-script.result c.new-script.ensures.bytes;
-  answers = λ tells aside k stands. answers_nothing (Stands g.D.Disk.files g.D.Disk.fault_count g.D.Disk.fuse_count) aside k (g.K.Sink.written c.args.sink.now) c.args.cluster.now stands;
+  answers = λ tells k stands. answers_nothing (Stands g.D.Disk.files g.D.Piece.Piece.Tells g.D.Disk.fault_count g.D.Disk.fuse_count g.A.Arm.fault_count) k (g.K.Sink.written c.args.sink.now) c.args.cluster.now stands;
   first = c.new-script.result;
   at_first = c.new-script.ensures.taken;
   accounts = accounts_same (g.S.Source.left c.args.source.now) c.new-script.result;
   source = omega arith;
   sink = omega arith;
-  faults = omega arith;
+  faults = NoneFalls-same (map g.D.Disk.fault_count (disks_of c.args.cluster.now));
+  arm_faults = NoneFalls-same (map g.A.Arm.fault_count c.args.cluster.now.arms);
 }
 
 pub returns-in_err-number-clause-stopped : goal.returns-in_err-number-clause-stopped
@@ -46,7 +49,7 @@ returns-in_err-number-clause-stopped g c = λ why is.
       settings = inv.same;
       held = c.turn.new.script;
       none = holds_none c.turn.result c.turn.new.script why same c.turn.ensures.none_held;
-      stops = stops_by g.D.Disk.Tells (Stands g.D.Disk.files g.D.Disk.fault_count g.D.Disk.fuse_count) (Holds g.D.Disk.files g.D.Disk.fault_count g.D.Disk.fuse_count)
+      stops = stops_by g.D.Disk.Tells (Stands g.D.Disk.files g.D.Piece.Piece.Tells g.D.Disk.fault_count g.D.Disk.fuse_count g.A.Arm.fault_count) (Holds g.D.Disk.files g.D.Disk.fault_count g.D.Disk.fuse_count g.A.Arm.fault_count)
           c.turns.number (rest_of (left c.turns.source) c.turns.script) (g.K.Sink.written c.turns.sink) (rest_of (left c.turn.new.source) c.turn.new.script) (g.K.Sink.written c.turn.new.sink)
           c.turns.cluster c.turn.new.cluster c.turn.result why same
           (λ e. let h = c.turn.ensures.input e in (h.0, h.1, ap g.K.Sink.written h.2))
@@ -59,8 +62,8 @@ returns-in_err-number-clause-stopped g c = λ why is.
 pub returns-in_err-number-clause-halted : goal.returns-in_err-number-clause-halted
 returns-in_err-number-clause-halted g c = λ is.
     let inv = c.turns.invariant in
-    halts_more g.D.Disk.Tells (Stands g.D.Disk.files g.D.Disk.fault_count g.D.Disk.fuse_count) g.D.Disk.fault_count inv.asked (g.K.Sink.written c.args.sink.now) (g.K.Sink.written c.turns.sink) (g.K.Sink.written c.turn.new.sink)
-    c.args.cluster.now c.turns.cluster c.turn.new.cluster inv.faults inv.answers
+    halts_more g.D.Disk.Tells (Stands g.D.Disk.files g.D.Piece.Piece.Tells g.D.Disk.fault_count g.D.Disk.fuse_count g.A.Arm.fault_count) g.D.Disk.fault_count inv.asked (g.K.Sink.written c.args.sink.now) (g.K.Sink.written c.turns.sink) (g.K.Sink.written c.turn.new.sink)
+    c.args.cluster.now c.turns.cluster c.turn.new.cluster inv.same inv.faults inv.answers
     (c.in_err-number.ensures.halted (let p = err_from_is_err_and c.from_residual.result c.from_residual.ensures.1 in cc (p.1, p.2)))
 
 pub returns-then-is_ended-clause-served : goal.returns-then-is_ended-clause-served
@@ -74,11 +77,11 @@ returns-then-is_ended-clause-served g c =
       all = asks_all c.in_ok-number.number (left c.args.source.now) (rest_of (left c.turn.new.source) c.turn.new.script) (inv.asked ++ turned.asked) c.turn.new.script.ended
           (took_items_more 1 c.turns.number c.in_ok-number.number (left c.args.source.now) (rest_of (left c.turns.source) c.turns.script) (rest_of (left c.turn.new.source) c.turn.new.script)
           inv.asked turned.asked c.turn.new.script.ended inv.took turned.took) met;
-      answers = λ tells aside k stands.
-          let first = inv.answers tells aside k stands in
-          answers_more (Stands g.D.Disk.files g.D.Disk.fault_count g.D.Disk.fuse_count) (Stands g.D.Disk.files g.D.Disk.fault_count g.D.Disk.fuse_count) aside Wrote wrote_more k inv.asked turned.asked
+      answers = λ tells k stands.
+          let first = inv.answers tells k stands in
+          answers_more (Stands g.D.Disk.files g.D.Piece.Piece.Tells g.D.Disk.fault_count g.D.Disk.fuse_count g.A.Arm.fault_count) (Stands g.D.Disk.files g.D.Piece.Piece.Tells g.D.Disk.fault_count g.D.Disk.fuse_count g.A.Arm.fault_count) Wrote wrote_more k inv.asked turned.asked
           (g.K.Sink.written c.args.sink.now) (g.K.Sink.written c.turns.sink) (g.K.Sink.written c.turn.new.sink) c.turns.cluster c.turn.new.cluster c.in_ok-number.ensures.settings
-          first (turned.answers tells aside first.t first.left);
+          first (turned.answers tells first.t first.left);
     }
 
 pub returns-then-is_ended-clause-ended : goal.returns-then-is_ended-clause-ended
@@ -115,15 +118,38 @@ turns-preserved g c =
       asked = inv.asked ++ turned.asked;
       took = took_items_more 1 c.turns.number c.in_ok-number.number (left c.args.source.now) (rest_of (left c.turns.source) c.turns.script) (rest_of (left c.turn.new.source) c.turn.new.script)
           inv.asked turned.asked false inv.took (rw unmet at turned.took);
-      answers = λ tells aside k stands.
-          let first = inv.answers tells aside k stands in
-          answers_more (Stands g.D.Disk.files g.D.Disk.fault_count g.D.Disk.fuse_count) (Stands g.D.Disk.files g.D.Disk.fault_count g.D.Disk.fuse_count) aside Wrote wrote_more k inv.asked turned.asked
+      answers = λ tells k stands.
+          let first = inv.answers tells k stands in
+          answers_more (Stands g.D.Disk.files g.D.Piece.Piece.Tells g.D.Disk.fault_count g.D.Disk.fuse_count g.A.Arm.fault_count) (Stands g.D.Disk.files g.D.Piece.Piece.Tells g.D.Disk.fault_count g.D.Disk.fuse_count g.A.Arm.fault_count) Wrote wrote_more k inv.asked turned.asked
           (g.K.Sink.written c.args.sink.now) (g.K.Sink.written c.turns.sink) (g.K.Sink.written c.turn.new.sink) c.turns.cluster c.turn.new.cluster c.in_ok-number.ensures.settings
-          first (turned.answers tells aside first.t first.left);
+          first (turned.answers tells first.t first.left);
       first = inv.first;
       at_first = inv.at_first;
       accounts = accounts_more (left c.args.source.now) (left c.turns.source) (left c.turn.new.source) inv.first c.turns.script c.turn.new.script inv.accounts c.in_ok-number.ensures.accounts;
       source = omega (arith, inv.source, c.in_ok-number.ensures.source_count);
       sink = omega (arith, inv.sink, c.in_ok-number.ensures.sink_count);
-      faults = omega (arith, inv.faults, c.in_ok-number.ensures.faults);
+      faults = NoneFalls-more (map g.D.Disk.fault_count (disks_of c.args.cluster.now)) (map g.D.Disk.fault_count (disks_of c.turns.cluster)) (map g.D.Disk.fault_count (disks_of c.turn.new.cluster))
+          inv.faults c.in_ok-number.ensures.faults;
+      arm_faults = NoneFalls-more (map g.A.Arm.fault_count c.args.cluster.now.arms) (map g.A.Arm.fault_count c.turns.cluster.arms) (map g.A.Arm.fault_count c.turn.new.cluster.arms)
+          inv.arm_faults c.in_ok-number.ensures.arm_faults;
     }
+
+pub returns-in_err-number-clause-faults : goal.returns-in_err-number-clause-faults
+returns-in_err-number-clause-faults g c =
+    NoneFalls-more (map g.D.Disk.fault_count (disks_of c.args.cluster.now)) (map g.D.Disk.fault_count (disks_of c.turns.cluster)) (map g.D.Disk.fault_count (disks_of c.turn.new.cluster))
+    c.turns.invariant.faults c.in_err-number.ensures.faults
+
+pub returns-in_err-number-clause-arm_faults : goal.returns-in_err-number-clause-arm_faults
+returns-in_err-number-clause-arm_faults g c =
+    NoneFalls-more (map g.A.Arm.fault_count c.args.cluster.now.arms) (map g.A.Arm.fault_count c.turns.cluster.arms) (map g.A.Arm.fault_count c.turn.new.cluster.arms)
+    c.turns.invariant.arm_faults c.in_err-number.ensures.arm_faults
+
+pub returns-then-is_ended-clause-faults : goal.returns-then-is_ended-clause-faults
+returns-then-is_ended-clause-faults g c =
+    NoneFalls-more (map g.D.Disk.fault_count (disks_of c.args.cluster.now)) (map g.D.Disk.fault_count (disks_of c.turns.cluster)) (map g.D.Disk.fault_count (disks_of c.turn.new.cluster))
+    c.turns.invariant.faults c.in_ok-number.ensures.faults
+
+pub returns-then-is_ended-clause-arm_faults : goal.returns-then-is_ended-clause-arm_faults
+returns-then-is_ended-clause-arm_faults g c =
+    NoneFalls-more (map g.A.Arm.fault_count c.args.cluster.now.arms) (map g.A.Arm.fault_count c.turns.cluster.arms) (map g.A.Arm.fault_count c.turn.new.cluster.arms)
+    c.turns.invariant.arm_faults c.in_ok-number.ensures.arm_faults

@@ -1,8 +1,9 @@
-use Rattle.std.proofs.Common.{inl, inr, Some, None, [], ◌∷◌, refl, lit≤}
+use Rattle.std.proofs.Common.{map, inl, inr, Some, None, [], ◌∷◌, refl, lit≤}
 use Rattle.std.proofs.lemmas.Result.{err_from_is_err_and}
 use Rattle.hay_disk.specs.Streams.{Wrote, WrotePart}
 use Rattle.hay_cluster.specs.State.{Stands, Holds}
-use Rattle.hay_cluster.proofs.Reopening.{holds}
+use Rattle.hay_cluster.specs.Store.{disks_of}
+use Rattle.hay_cluster.proofs.Standing.{stands_holds}
 use Rattle.hay_script.specs.declared.Line.TheVariants as line
 use Rattle.hay_legal.specs.Items.{outside}
 use Rattle.hay_legal.specs.Items.Asked.{Block}
@@ -10,6 +11,7 @@ use Rattle.hay_run.specs.Items.{SaysNext}
 use Rattle.hay_run.specs.Lines.{TookPart, TookOver}
 use Rattle.hay_run.specs.Stream.{rest_of}
 use Rattle.hay_run.proofs.Asking.{items_none, items_alone, items_either, open_block, open_line, some_more, some_line}
+use Rattle.hay_run.proofs.Counting.{NoneFalls-same}
 use Rattle.hay_run.proofs.Taking.{accounts_more}
 use Rattle.hay_run.proofs.Turning.{answers_nothing, answers_block}
 use Rattle.hay_run.proofs.Stopping.{broke_line, refused_line}
@@ -38,7 +40,7 @@ returns-in_default-clause-turned g c = record {
   asked = [];
   took = items_none c.args.number (rest_of (g.S.Source.left c.args.source.now) c.args.script.now) (rest_of (g.S.Source.left c.next_said.new.source) c.next_said.new.self) c.next_said.new.self.ended
       (rw c.in_default.is at c.in_ok-said.ensures.said);
-  answers = λ tells aside k stands. answers_nothing (Stands g.D.Disk.files g.D.Disk.fault_count g.D.Disk.fuse_count) aside k (g.K.Sink.written c.args.sink.now) c.args.cluster.now stands;
+  answers = λ tells k stands. answers_nothing (Stands g.D.Disk.files g.D.Piece.Piece.Tells g.D.Disk.fault_count g.D.Disk.fuse_count g.A.Arm.fault_count) k (g.K.Sink.written c.args.sink.now) c.args.cluster.now stands;
 }
 
 -- a block
@@ -91,7 +93,7 @@ returns-in-Lanes-clause-turned g c =
       asked = Block c.in_ok-block.block.lines ∷ [];
       took = items_either c.args.number c.in-Lanes.lanes c.in_ok-block.next c.in_ok-block.block.lines before mid after c.next_said.new.self.ended c.read_block.new.script.ended says
           c.in_ok-block.ensures.read (λ over. let e = c.in_ok-block.ensures.empty over in (e.0, e.1, rw (e.2, e.3) refl, rw e.3 refl));
-      answers = λ tells aside k stands. answers_block (Stands g.D.Disk.files g.D.Disk.fault_count g.D.Disk.fuse_count) aside Wrote k c.in_ok-block.block.lines
+      answers = λ tells k stands. answers_block (Stands g.D.Disk.files g.D.Piece.Piece.Tells g.D.Disk.fault_count g.D.Disk.fuse_count g.A.Arm.fault_count) Wrote k c.in_ok-block.block.lines
           (g.K.Sink.written c.args.sink.now) (g.K.Sink.written c.write_block.new.sink) c.args.cluster.now stands c.in_ok-write_block.ensures.wrote;
     }
 
@@ -114,9 +116,9 @@ returns-in_err-write_block-clause-output g c = λ _.
       ended = c.read_block.new.script.ended;
       took = items_either c.args.number c.in-Lanes.lanes c.in_ok-block.next c.in_ok-block.block.lines before mid after c.next_said.new.self.ended c.read_block.new.script.ended says
           c.in_ok-block.ensures.read (λ over. let e = c.in_ok-block.ensures.empty over in (e.0, e.1, rw (e.2, e.3) refl, rw e.3 refl));
-      answers = λ tells aside k stands. answers_block (Holds g.D.Disk.files g.D.Disk.fault_count g.D.Disk.fuse_count) aside WrotePart k c.in_ok-block.block.lines
+      answers = λ tells k stands. answers_block (Holds g.D.Disk.files g.D.Disk.fault_count g.D.Disk.fuse_count g.A.Arm.fault_count) WrotePart k c.in_ok-block.block.lines
           (g.K.Sink.written c.args.sink.now) (g.K.Sink.written c.write_block.new.sink) c.args.cluster.now
-          (holds g.D.Disk.files g.D.Disk.fault_count g.D.Disk.fuse_count aside c.args.cluster.now c.requires.alone k stands) c.in_err-write_block.ensures.part;
+          (stands_holds g.D.Disk.files g.D.Piece.Piece.Tells g.D.Disk.fault_count g.D.Disk.fuse_count g.A.Arm.fault_count c.args.cluster.now k stands) c.in_err-write_block.ensures.part;
     })
 
 pub returns-in_err-write_block-clause-memory : goal.returns-in_err-write_block-clause-memory
@@ -133,9 +135,9 @@ returns-in_err-write_block-clause-memory g c = λ _.
       ended = c.read_block.new.script.ended;
       took = items_either c.args.number c.in-Lanes.lanes c.in_ok-block.next c.in_ok-block.block.lines before mid after c.next_said.new.self.ended c.read_block.new.script.ended says
           c.in_ok-block.ensures.read (λ over. let e = c.in_ok-block.ensures.empty over in (e.0, e.1, rw (e.2, e.3) refl, rw e.3 refl));
-      answers = λ tells aside k stands. answers_block (Holds g.D.Disk.files g.D.Disk.fault_count g.D.Disk.fuse_count) aside WrotePart k c.in_ok-block.block.lines
+      answers = λ tells k stands. answers_block (Holds g.D.Disk.files g.D.Disk.fault_count g.D.Disk.fuse_count g.A.Arm.fault_count) WrotePart k c.in_ok-block.block.lines
           (g.K.Sink.written c.args.sink.now) (g.K.Sink.written c.write_block.new.sink) c.args.cluster.now
-          (holds g.D.Disk.files g.D.Disk.fault_count g.D.Disk.fuse_count aside c.args.cluster.now c.requires.alone k stands) c.in_err-write_block.ensures.part;
+          (stands_holds g.D.Disk.files g.D.Piece.Piece.Tells g.D.Disk.fault_count g.D.Disk.fuse_count g.A.Arm.fault_count c.args.cluster.now k stands) c.in_err-write_block.ensures.part;
     }))
 
 -- a line alone
@@ -143,7 +145,7 @@ returns-in_err-write_block-clause-memory g c = λ _.
 pub returns-in_err-respond-clause-output : goal.returns-in_err-respond-clause-output
 returns-in_err-respond-clause-output g c = λ is.
     let left = g.S.Source.left in
-    broke_line g.D.Disk.Tells (Stands g.D.Disk.files g.D.Disk.fault_count g.D.Disk.fuse_count) (Holds g.D.Disk.files g.D.Disk.fault_count g.D.Disk.fuse_count) c.args.number c.in-Some.said c.args.cluster.now c.respond.new.cluster
+    broke_line g.D.Disk.Tells (Stands g.D.Disk.files g.D.Piece.Piece.Tells g.D.Disk.fault_count g.D.Disk.fuse_count g.A.Arm.fault_count) (Holds g.D.Disk.files g.D.Disk.fault_count g.D.Disk.fuse_count g.A.Arm.fault_count) c.args.number c.in-Some.said c.args.cluster.now c.respond.new.cluster
     (g.K.Sink.written c.args.sink.now) (g.K.Sink.written c.respond.new.sink)
     (rest_of (left c.args.source.now) c.args.script.now) (rest_of (left c.next_said.new.source) c.next_said.new.self) c.next_said.new.self.ended
     (items_alone c.args.number c.in-Some.said (rest_of (left c.args.source.now) c.args.script.now) (rest_of (left c.next_said.new.source) c.next_said.new.self) c.next_said.new.self.ended
@@ -153,7 +155,7 @@ returns-in_err-respond-clause-output g c = λ is.
 pub returns-in_err-respond-clause-memory : goal.returns-in_err-respond-clause-memory
 returns-in_err-respond-clause-memory g c = λ is.
     let left = g.S.Source.left in
-    inr (broke_line g.D.Disk.Tells (Stands g.D.Disk.files g.D.Disk.fault_count g.D.Disk.fuse_count) (Holds g.D.Disk.files g.D.Disk.fault_count g.D.Disk.fuse_count) c.args.number c.in-Some.said c.args.cluster.now c.respond.new.cluster
+    inr (broke_line g.D.Disk.Tells (Stands g.D.Disk.files g.D.Piece.Piece.Tells g.D.Disk.fault_count g.D.Disk.fuse_count g.A.Arm.fault_count) (Holds g.D.Disk.files g.D.Disk.fault_count g.D.Disk.fuse_count g.A.Arm.fault_count) c.args.number c.in-Some.said c.args.cluster.now c.respond.new.cluster
     (g.K.Sink.written c.args.sink.now) (g.K.Sink.written c.respond.new.sink)
     (rest_of (left c.args.source.now) c.args.script.now) (rest_of (left c.next_said.new.source) c.next_said.new.self) c.next_said.new.self.ended
     (items_alone c.args.number c.in-Some.said (rest_of (left c.args.source.now) c.args.script.now) (rest_of (left c.next_said.new.source) c.next_said.new.self) c.next_said.new.self.ended
@@ -163,7 +165,7 @@ returns-in_err-respond-clause-memory g c = λ is.
 pub returns-in_err-respond-clause-store : goal.returns-in_err-respond-clause-store
 returns-in_err-respond-clause-store g c = λ is.
     let left = g.S.Source.left in
-    refused_line g.D.Disk.Tells Wrote (Stands g.D.Disk.files g.D.Disk.fault_count g.D.Disk.fuse_count) (Holds g.D.Disk.files g.D.Disk.fault_count g.D.Disk.fuse_count) c.args.number c.in-Some.said c.args.cluster.now c.respond.new.cluster
+    refused_line g.D.Disk.Tells Wrote (Stands g.D.Disk.files g.D.Piece.Piece.Tells g.D.Disk.fault_count g.D.Disk.fuse_count g.A.Arm.fault_count) (Holds g.D.Disk.files g.D.Disk.fault_count g.D.Disk.fuse_count g.A.Arm.fault_count) c.args.number c.in-Some.said c.args.cluster.now c.respond.new.cluster
     (g.K.Sink.written c.args.sink.now) (g.K.Sink.written c.respond.new.sink)
     (rest_of (left c.args.source.now) c.args.script.now) (rest_of (left c.next_said.new.source) c.next_said.new.self) c.next_said.new.self.ended
     (items_alone c.args.number c.in-Some.said (rest_of (left c.args.source.now) c.args.script.now) (rest_of (left c.next_said.new.source) c.next_said.new.self) c.next_said.new.self.ended
@@ -184,3 +186,35 @@ returns-clause-turned g c =
 pub returns-in_err-respond-clause-halted : goal.returns-in_err-respond-clause-halted
 returns-in_err-respond-clause-halted g c = λ is.
     c.in_err-respond.ensures.halted (let p = err_from_is_err_and c.from_residual-in_err-respond.result c.from_residual-in_err-respond.ensures.1 in cc (p.1, p.2))
+
+-- the counts of a store that is not touched
+
+pub returns-in_err-said-clause-faults : goal.returns-in_err-said-clause-faults
+returns-in_err-said-clause-faults g c = NoneFalls-same (map g.D.Disk.fault_count (disks_of c.args.cluster.now))
+
+pub returns-in_err-said-clause-arm_faults : goal.returns-in_err-said-clause-arm_faults
+returns-in_err-said-clause-arm_faults g c = NoneFalls-same (map g.A.Arm.fault_count c.args.cluster.now.arms)
+
+pub returns-in_default-clause-faults : goal.returns-in_default-clause-faults
+returns-in_default-clause-faults g c = NoneFalls-same (map g.D.Disk.fault_count (disks_of c.args.cluster.now))
+
+pub returns-in_default-clause-arm_faults : goal.returns-in_default-clause-arm_faults
+returns-in_default-clause-arm_faults g c = NoneFalls-same (map g.A.Arm.fault_count c.args.cluster.now.arms)
+
+pub returns-in_err-block-clause-faults : goal.returns-in_err-block-clause-faults
+returns-in_err-block-clause-faults g c = NoneFalls-same (map g.D.Disk.fault_count (disks_of c.args.cluster.now))
+
+pub returns-in_err-block-clause-arm_faults : goal.returns-in_err-block-clause-arm_faults
+returns-in_err-block-clause-arm_faults g c = NoneFalls-same (map g.A.Arm.fault_count c.args.cluster.now.arms)
+
+pub returns-in_err-write_block-clause-faults : goal.returns-in_err-write_block-clause-faults
+returns-in_err-write_block-clause-faults g c = NoneFalls-same (map g.D.Disk.fault_count (disks_of c.args.cluster.now))
+
+pub returns-in_err-write_block-clause-arm_faults : goal.returns-in_err-write_block-clause-arm_faults
+returns-in_err-write_block-clause-arm_faults g c = NoneFalls-same (map g.A.Arm.fault_count c.args.cluster.now.arms)
+
+pub returns-in-Lanes-clause-faults : goal.returns-in-Lanes-clause-faults
+returns-in-Lanes-clause-faults g c = NoneFalls-same (map g.D.Disk.fault_count (disks_of c.args.cluster.now))
+
+pub returns-in-Lanes-clause-arm_faults : goal.returns-in-Lanes-clause-arm_faults
+returns-in-Lanes-clause-arm_faults g c = NoneFalls-same (map g.A.Arm.fault_count c.args.cluster.now.arms)

@@ -1,4 +1,6 @@
-//! Scripts of two rounds: a fuse, a mix of commands, a restart, and reads of all pairs.
+//! Scripts of two rounds: a fuse on a replica's disk, a mix of commands, a restart, and reads of all pairs.
+
+ghost use Rattle.std.specs.Prelude.{◌<◌};
 
 use std::alloc::Global;
 use std::test::Fail;
@@ -19,7 +21,7 @@ pub enum Command {
     Put(Pair),
     Delete(Pair),
     Read(Pair),
-    Fuse(u64),
+    Fuse { machine: u64, calls: u64 },
     Restart(u64),
 }
 
@@ -61,7 +63,7 @@ fn line_of(alloc: Global, line: u64, command: Command) -> Result<String, Fail> {
         }
         Command::Delete(pair) => format!(in alloc; "del 0 {pair}\n")?,
         Command::Read(pair) => format!(in alloc; "read 0 {pair} {COOKIE}\n")?,
-        Command::Fuse(calls) => format!(in alloc; "fuse 0 0 {calls}\n")?,
+        Command::Fuse { machine, calls } => format!(in alloc; "fuse 0 {machine} {calls}\n")?,
         Command::Restart(pick) => format!(in alloc; "restart {pick}\n")?,
     })
 }
@@ -88,38 +90,72 @@ fn push_mix(commands: &mut Vec<Command>, draw: &mut Draw) -> Result<(), Fail> {
     Ok(())
 }
 
-/// A fuse, commands that it stops, a restart, and what stands behind it.
-fn push_round(
-    commands: &mut Vec<Command>,
-    draw: &mut Draw,
+/// A round of a script: the fuse that stops its changes, and what the restart behind them picks.
+#[derive(Clone, Copy)]
+struct Round {
+    machine: u64,
     calls: u64,
     pick: u64,
-) -> Result<(), Fail> {
-    commands.push(Command::Fuse(calls))?;
+}
+
+/// A fuse, commands that it stops, a restart, and what stands behind it: each pair is read at two lines in a row.
+fn push_round(commands: &mut Vec<Command>, draw: &mut Draw, round: Round) -> Result<(), Fail> {
+    commands.push(Command::Fuse {
+        machine: round.machine,
+        calls: round.calls,
+    })?;
     push_mix(commands, draw)?;
-    commands.push(Command::Restart(pick))?;
+    commands.push(Command::Restart(round.pick))?;
     for pair in 1..=PAIRS {
+        commands.push(Command::Read(pair))?;
         commands.push(Command::Read(pair))?;
     }
     Ok(())
 }
 
-/// Three photos and two rounds. The first rounds of the scripts below 123 have each fuse with the picks 0, 1 and 7.
-pub fn commands_of(alloc: Global, number: u64) -> Result<Vec<Command>, Fail> {
-    let mut draw = Draw { state: number };
+/// How many replicas a script's volume has, and which of them its first fuse is for.
+pub const SIDES: [(u64, u64); 12] = [
+    (1, 0),
+    (1, 0),
+    (1, 0),
+    (2, 0),
+    (2, 1),
+    (3, 0),
+    (3, 1),
+    (3, 2),
+    (4, 0),
+    (4, 1),
+    (4, 2),
+    (4, 3),
+];
+
+/// Each script of one replica has each of these picks once.
+const PICKS: [u64; 3] = [0, 1, 7];
+
+/// Three photos and two rounds.
+pub fn commands_of(alloc: Global, side: usize, calls: u64) -> Result<Vec<Command>, Fail>
+    requires { side < 12 }
+{
+    let (replicas, machine) = SIDES[side];
+    let number = calls.wrapping_add(side as u64);
+    let mut draw = Draw {
+        state: number.wrapping_mul(1_000_003),
+    };
     let mut commands = Vec::new(alloc);
     for pair in 1..=3 {
         commands.push(Command::Put(pair))?;
     }
-    let pick = match number / FUSES {
-        0 => 0,
-        1 => 1,
-        2 => 7,
-        _ => draw.number(),
+    let first = Round {
+        machine,
+        calls,
+        pick: PICKS[(number % 3) as usize],
     };
-    push_round(&mut commands, &mut draw, number % FUSES, pick)?;
-    let calls = draw.number() % FUSES;
-    let pick = draw.number();
-    push_round(&mut commands, &mut draw, calls, pick)?;
+    push_round(&mut commands, &mut draw, first)?;
+    let second = Round {
+        machine: draw.number() % replicas.max(1),
+        calls: draw.number() % FUSES,
+        pick: draw.number(),
+    };
+    push_round(&mut commands, &mut draw, second)?;
     Ok(commands)
 }

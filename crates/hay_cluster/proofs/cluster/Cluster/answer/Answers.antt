@@ -1,18 +1,41 @@
-use Rattle.std.proofs.Common.{length, refl, arith}
-use Rattle.hay_cluster.specs.State.{Stands, rows_with}
-use Rattle.hay_cluster.proofs.LegalRows.{unbuilt, not_built}
-use Rattle.hay_cluster.proofs.PlaceSteps.{same_places}
-use Rattle.hay_cluster.proofs.Standing.{answered_as}
+use Rattle.hay_cluster.proofs.Answering.{same_falls}
 use Rattle.hay_cluster.proofs.cluster.Cluster.answer.Goals as goal
 
-pub returns-in_default-clause-legal : goal.returns-in_default-clause-legal
-unfolding Stands
-returns-in_default-clause-legal g c = λ tells aside k s.
-    let disk = g.D.Disk in
-    let was = c.args.self.now in
-    answered_as disk.files disk.fault_count disk.fuse_count aside was.settings was.disk was.disk was.volume was.volume was.front was.places was.places was.mode k s
-    refl refl (same_places was.places) c.args.tag _ _
-    (unbuilt was.settings.capacity was.settings.secret s.base s.log was.volume.end (length s.held.cells) (rows_with s.held.cells s.held.pending) aside (disk.fault_count was.disk) (disk.fault_count was.disk) (disk.fuse_count was.disk)
-    s.held.pending c.args.tag c.args.command.now
-    (not_built c.args.command.now (λ pair bytes. c.in_default.not-Put pair bytes) (λ pair cookie. c.in_default.not-Read pair cookie) (λ pair. c.in_default.not-Del pair) (λ v m calls. c.in_default.not-Fuse v m calls) c.requires.no_restart)
-    (omega arith))
+pub returns-in-Flush-clause-causes : goal.returns-in-Flush-clause-causes
+returns-in-Flush-clause-causes g c = c.flush.ensures.causes c.args.tag.lane
+
+pub returns-in-Drain-clause-causes : goal.returns-in-Drain-clause-causes
+returns-in-Drain-clause-causes g c = c.drain.ensures.causes c.args.tag.lane
+
+pub returns-in-Undrain-clause-causes : goal.returns-in-Undrain-clause-causes
+returns-in-Undrain-clause-causes g c = c.undrain.ensures.causes c.args.tag.lane
+
+pub returns-in-Fuse-clause-causes : goal.returns-in-Fuse-clause-causes
+returns-in-Fuse-clause-causes g c = c.fuse.ensures.causes c.args.tag.lane
+
+pub returns-in-FuseDir-clause-causes : goal.returns-in-FuseDir-clause-causes
+returns-in-FuseDir-clause-causes g c = c.fuse_dir.ensures.causes c.args.tag.lane
+
+pub returns-in-Put-clause-arm_counts : goal.returns-in-Put-clause-arm_counts
+returns-in-Put-clause-arm_counts g c = same_falls g.A.Arm.fault_count (c.args.self.now).arms (c.put.new.self).arms c.put.ensures.arms
+
+pub returns-in-Del-clause-arm_counts : goal.returns-in-Del-clause-arm_counts
+returns-in-Del-clause-arm_counts g c = same_falls g.A.Arm.fault_count (c.args.self.now).arms (c.delete.new.self).arms c.delete.ensures.arms
+
+pub returns-in-Url-clause-arm_counts : goal.returns-in-Url-clause-arm_counts
+returns-in-Url-clause-arm_counts g c = same_falls g.A.Arm.fault_count (c.args.self.now).arms (c.url.new.self).arms c.url.ensures.arms
+
+pub returns-in-Flush-clause-arm_counts : goal.returns-in-Flush-clause-arm_counts
+returns-in-Flush-clause-arm_counts g c = same_falls g.A.Arm.fault_count (c.args.self.now).arms (c.flush.new.self).arms c.flush.ensures.arms
+
+pub returns-in-Drain-clause-arm_counts : goal.returns-in-Drain-clause-arm_counts
+returns-in-Drain-clause-arm_counts g c = same_falls g.A.Arm.fault_count (c.args.self.now).arms (c.drain.new.self).arms c.drain.ensures.arms
+
+pub returns-in-Undrain-clause-arm_counts : goal.returns-in-Undrain-clause-arm_counts
+returns-in-Undrain-clause-arm_counts g c = same_falls g.A.Arm.fault_count (c.args.self.now).arms (c.undrain.new.self).arms c.undrain.ensures.arms
+
+pub returns-in-Fuse-clause-arm_counts : goal.returns-in-Fuse-clause-arm_counts
+returns-in-Fuse-clause-arm_counts g c = same_falls g.A.Arm.fault_count (c.args.self.now).arms (c.fuse.new.self).arms c.fuse.ensures.arms
+
+pub returns-in-FuseDir-clause-arm_counts : goal.returns-in-FuseDir-clause-arm_counts
+returns-in-FuseDir-clause-arm_counts g c = same_falls g.A.Arm.fault_count (c.args.self.now).arms (c.fuse_dir.new.self).arms c.fuse_dir.ensures.arms

@@ -1,22 +1,188 @@
-use Rattle.std.proofs.Common.{refl, ap}
-use Rattle.hay_disk.specs.Shelf.{HeldDisk}
-use Rattle.hay_cluster.specs.Outside.{aside_of, outside_of}
-use Rattle.hay_cluster.specs.State.{Holds}
-use Rattle.hay_cluster.proofs.Closing.{stands_on}
+use Rattle.std.proofs.Common.{◌≡◌, ◌*◌, ◌<◌, ℕ, List, length, sym, ap, subst, ◌∙◌, arith}
+use Rattle.std.proofs.lemmas.Bool.Decides.{nat_tests}
+use Rattle.std.specs.List.{flat_map}
+use Rattle.hay_disk.specs.Shelf.{HeldArm, HeldDisk}
+use Rattle.hay_mount.specs.Mounts.{InOrder, IsGivenDisk}
+use Rattle.hay_mount.proofs.Orders.{InOrder-map}
+use Rattle.hay_legal.specs.Known.{disk_count}
+use Rattle.hay_cluster.specs.Store.{Open, disks_of, volume_disks}
+use Rattle.hay_logical.specs.Volumes.{Volume}
+use Rattle.hay_cluster.proofs.Lists.{one_fits}
+use Rattle.hay_cluster.proofs.ClosingStore.{GivesBack, given_arms, given_arms_in, given_faults, given_fuses, given_in, stands_on, volumes_long}
 use Rattle.hay_cluster.proofs.cluster.Cluster.close.Goals as goal
 
+pub give_volumes-requires-after_bounds : goal.give_volumes-requires-after_bounds
+give_volumes-requires-after_bounds g c = λ κs lives.
+    let same : disk_count c.self.inside.settings ≡ disk_count c.args.self.settings = ap (λ (st : Open g.row.D.Denot g.row.D-Piece.Denot g.row.A.Denot). disk_count st.settings) c.self.view_is in
+    let product = ap (λ m. m * c.self.inside.settings.replicas) c.self.invariant.many in
+    let some : 0 < length c.as_slice.result.now = omega (arith, ap (λ (l : List (Volume g.row.D.Denot g.row.D-Piece.Denot)). length l) c.as_slice.ensures.value, c.self.invariant.many, c.self.invariant.built.some_volumes) in (
+      one_fits (length c.as_slice.result.now) _ some c.as_slice.type_inv.1,
+      (
+        (let many = c.self.invariant.many in let few = c.self.invariant.built.few_volumes in omega (arith, many, few)),
+        (
+          c.self.invariant.built.few_replicas,
+          (
+            volumes_long c.self.inside.settings 0 c.self.inside.volumes.items c.self.invariant.volumes,
+            (λ n low. c.requires.disks_out n (let below : n < disk_count c.args.self.settings = omega (arith, low, product, same) in below)),
+          ),
+        ),
+      ),
+    )
+
+pub prove-unreachable-requires : goal.prove-unreachable-requires
+prove-unreachable-requires g c =
+    let some : 0 < length c.as_slice.result.now = omega (arith, ap (λ (l : List (Volume g.row.D.Denot g.row.D-Piece.Denot)). length l) c.as_slice.ensures.value, c.self.invariant.many, c.self.invariant.built.some_volumes) in
+    let e = c.is_empty-has_volumes.ensures in
+    let t = c.if-prove.true in
+    grind (arith, nat_tests, e, t, some)
+
+pub give_disk-requires : goal.give_disk-requires
+give_disk-requires g c = ap (λ (held : HeldDisk). held.is_out) c.give_volumes.ensures.below ∙ c.requires.disks_out 0 (omega arith)
+
+pub give_seats-requires-clause-few : goal.give_seats-requires-clause-few
+give_seats-requires-clause-few g c = λ κs lives. omega (arith, c.self.invariant.lanes)
+
+pub give_seats-requires-clause-out : goal.give_seats-requires-clause-out
+give_seats-requires-clause-out g c = λ κs lives n low.
+    ap (λ (held : ℕ → HeldArm). (held n).is_out) (c.give_disk.ensures.lanes ∙ c.give_volumes.ensures.lanes) ∙ c.requires.arms_out n (omega (arith, low, c.self.invariant.lanes))
+
 pub returns-clause-stands : goal.returns-clause-stands
-unfolding Holds
-returns-clause-stands g c = rw (← c.self.view_is) (λ tells k holds.
-    let given = c.give_disk.ensures in
-    let kept = given.others 0 (λ e. absurd cc) in
-    stands_on g.D.Disk.files g.D.Disk.fault_count g.D.Disk.fuse_count (aside_of (g.H.Shelf.disks c.args.shelf.now) (g.H.Shelf.arms c.args.shelf.now))
-    _ c.self.invariant.alone k (outside_of (g.H.Shelf.disks c.give_disk.new.self) (g.H.Shelf.arms c.give_disk.new.self)) holds
-    (record {
-      files_are = given.files tells;
-      faults_are = given.faults;
-      fuses_are = given.fuses;
-      faults_aside = ap (λ (disk : HeldDisk). disk.fault_count) kept;
-      fuses_aside = ap (λ (disk : HeldDisk). disk.fuse_count) kept;
-      arms = rw given.lanes refl;
-    }))
+returns-clause-stands g c =
+    let disks = g.H.Shelf.disks c.give_seats.new.shelf in
+    let arms = g.H.Shelf.arms c.give_seats.new.shelf in
+    let mid = g.H.Shelf.disks c.give_disk.new.self in
+    let low = g.H.Shelf.disks c.give_volumes.new.shelf in
+    let inside : Open g.row.D.Denot g.row.D-Piece.Denot g.row.A.Denot = record { settings = c.self.inside.settings; directory = c.self.inside.directory; volumes = c.self.inside.volumes.items; arms = c.self.inside.seats.items } in
+    let front : IsGivenDisk g.D.Disk.Tells g.D.Disk.files g.D.Disk.fault_count g.D.Disk.fuse_count (mid 0) c.self.inside.directory.disk = subst (λ (d : g.row.D.Denot). IsGivenDisk g.D.Disk.Tells g.D.Disk.files g.D.Disk.fault_count g.D.Disk.fuse_count (mid 0) d) c.into_disk.ensures (record { files_are = c.give_disk.ensures.files; fault_count = c.give_disk.ensures.faults; fuse_count = c.give_disk.ensures.fuses; back = c.give_disk.ensures.back }) in
+    let behind : InOrder (λ slot (disk : g.row.D.Denot). IsGivenDisk g.D.Disk.Tells g.D.Disk.files g.D.Disk.fault_count g.D.Disk.fuse_count (mid slot) disk) 1 (flat_map volume_disks c.self.inside.volumes.items) =
+    InOrder-map (λ slot (disk : g.row.D.Denot). IsGivenDisk g.D.Disk.Tells g.D.Disk.files g.D.Disk.fault_count g.D.Disk.fuse_count (low slot) disk) (λ slot (disk : g.row.D.Denot). IsGivenDisk g.D.Disk.Tells g.D.Disk.files g.D.Disk.fault_count g.D.Disk.fuse_count (mid slot) disk) 1 (flat_map volume_disks c.self.inside.volumes.items)
+    (λ n disk from to given. subst (λ (held : HeldDisk). IsGivenDisk g.D.Disk.Tells g.D.Disk.files g.D.Disk.fault_count g.D.Disk.fuse_count held disk) (sym (c.give_disk.ensures.others n (λ zeroth. absurd (omega (arith, from, zeroth))))) given) c.give_volumes.ensures.given in
+    let all : InOrder (λ slot (disk : g.row.D.Denot). IsGivenDisk g.D.Disk.Tells g.D.Disk.files g.D.Disk.fault_count g.D.Disk.fuse_count (disks slot) disk) 0 (disks_of inside) =
+    subst (λ (held : ℕ → HeldDisk). InOrder (λ slot (disk : g.row.D.Denot). IsGivenDisk g.D.Disk.Tells g.D.Disk.files g.D.Disk.fault_count g.D.Disk.fuse_count (held slot) disk) 0 (disks_of inside)) (sym c.give_seats.ensures.slots) (front, behind) in
+    let back : GivesBack g.D.Disk.Tells g.D.Disk.files g.D.Disk.fault_count g.D.Disk.fuse_count g.A.Arm.fault_count disks arms inside = record { shape = c.self.invariant; disks_are = all; arms_are = c.give_seats.ensures.given } in
+    let view = c.self.view_is in
+    let gives : GivesBack g.D.Disk.Tells g.D.Disk.files g.D.Disk.fault_count g.D.Disk.fuse_count g.A.Arm.fault_count disks arms c.args.self = subst (λ (st : Open g.row.D.Denot g.row.D-Piece.Denot g.row.A.Denot). GivesBack g.D.Disk.Tells g.D.Disk.files g.D.Disk.fault_count g.D.Disk.fuse_count g.A.Arm.fault_count disks arms st) view back in
+    λ tells k holds. stands_on g.D.Disk.Tells g.D.Disk.files g.D.Disk.fault_count g.D.Disk.fuse_count g.A.Arm.fault_count disks arms tells c.args.self gives k holds
+
+pub returns-clause-disks : goal.returns-clause-disks
+returns-clause-disks g c =
+    let disks = g.H.Shelf.disks c.give_seats.new.shelf in
+    let arms = g.H.Shelf.arms c.give_seats.new.shelf in
+    let mid = g.H.Shelf.disks c.give_disk.new.self in
+    let low = g.H.Shelf.disks c.give_volumes.new.shelf in
+    let inside : Open g.row.D.Denot g.row.D-Piece.Denot g.row.A.Denot = record { settings = c.self.inside.settings; directory = c.self.inside.directory; volumes = c.self.inside.volumes.items; arms = c.self.inside.seats.items } in
+    let front : IsGivenDisk g.D.Disk.Tells g.D.Disk.files g.D.Disk.fault_count g.D.Disk.fuse_count (mid 0) c.self.inside.directory.disk = subst (λ (d : g.row.D.Denot). IsGivenDisk g.D.Disk.Tells g.D.Disk.files g.D.Disk.fault_count g.D.Disk.fuse_count (mid 0) d) c.into_disk.ensures (record { files_are = c.give_disk.ensures.files; fault_count = c.give_disk.ensures.faults; fuse_count = c.give_disk.ensures.fuses; back = c.give_disk.ensures.back }) in
+    let behind : InOrder (λ slot (disk : g.row.D.Denot). IsGivenDisk g.D.Disk.Tells g.D.Disk.files g.D.Disk.fault_count g.D.Disk.fuse_count (mid slot) disk) 1 (flat_map volume_disks c.self.inside.volumes.items) =
+    InOrder-map (λ slot (disk : g.row.D.Denot). IsGivenDisk g.D.Disk.Tells g.D.Disk.files g.D.Disk.fault_count g.D.Disk.fuse_count (low slot) disk) (λ slot (disk : g.row.D.Denot). IsGivenDisk g.D.Disk.Tells g.D.Disk.files g.D.Disk.fault_count g.D.Disk.fuse_count (mid slot) disk) 1 (flat_map volume_disks c.self.inside.volumes.items)
+    (λ n disk from to given. subst (λ (held : HeldDisk). IsGivenDisk g.D.Disk.Tells g.D.Disk.files g.D.Disk.fault_count g.D.Disk.fuse_count held disk) (sym (c.give_disk.ensures.others n (λ zeroth. absurd (omega (arith, from, zeroth))))) given) c.give_volumes.ensures.given in
+    let all : InOrder (λ slot (disk : g.row.D.Denot). IsGivenDisk g.D.Disk.Tells g.D.Disk.files g.D.Disk.fault_count g.D.Disk.fuse_count (disks slot) disk) 0 (disks_of inside) =
+    subst (λ (held : ℕ → HeldDisk). InOrder (λ slot (disk : g.row.D.Denot). IsGivenDisk g.D.Disk.Tells g.D.Disk.files g.D.Disk.fault_count g.D.Disk.fuse_count (held slot) disk) 0 (disks_of inside)) (sym c.give_seats.ensures.slots) (front, behind) in
+    let back : GivesBack g.D.Disk.Tells g.D.Disk.files g.D.Disk.fault_count g.D.Disk.fuse_count g.A.Arm.fault_count disks arms inside = record { shape = c.self.invariant; disks_are = all; arms_are = c.give_seats.ensures.given } in
+    let view = c.self.view_is in
+    let gives : GivesBack g.D.Disk.Tells g.D.Disk.files g.D.Disk.fault_count g.D.Disk.fuse_count g.A.Arm.fault_count disks arms c.args.self = subst (λ (st : Open g.row.D.Denot g.row.D-Piece.Denot g.row.A.Denot). GivesBack g.D.Disk.Tells g.D.Disk.files g.D.Disk.fault_count g.D.Disk.fuse_count g.A.Arm.fault_count disks arms st) view back in
+    gives.disks_are
+
+pub returns-clause-fault_counts : goal.returns-clause-fault_counts
+returns-clause-fault_counts g c =
+    let disks = g.H.Shelf.disks c.give_seats.new.shelf in
+    let arms = g.H.Shelf.arms c.give_seats.new.shelf in
+    let mid = g.H.Shelf.disks c.give_disk.new.self in
+    let low = g.H.Shelf.disks c.give_volumes.new.shelf in
+    let inside : Open g.row.D.Denot g.row.D-Piece.Denot g.row.A.Denot = record { settings = c.self.inside.settings; directory = c.self.inside.directory; volumes = c.self.inside.volumes.items; arms = c.self.inside.seats.items } in
+    let front : IsGivenDisk g.D.Disk.Tells g.D.Disk.files g.D.Disk.fault_count g.D.Disk.fuse_count (mid 0) c.self.inside.directory.disk = subst (λ (d : g.row.D.Denot). IsGivenDisk g.D.Disk.Tells g.D.Disk.files g.D.Disk.fault_count g.D.Disk.fuse_count (mid 0) d) c.into_disk.ensures (record { files_are = c.give_disk.ensures.files; fault_count = c.give_disk.ensures.faults; fuse_count = c.give_disk.ensures.fuses; back = c.give_disk.ensures.back }) in
+    let behind : InOrder (λ slot (disk : g.row.D.Denot). IsGivenDisk g.D.Disk.Tells g.D.Disk.files g.D.Disk.fault_count g.D.Disk.fuse_count (mid slot) disk) 1 (flat_map volume_disks c.self.inside.volumes.items) =
+    InOrder-map (λ slot (disk : g.row.D.Denot). IsGivenDisk g.D.Disk.Tells g.D.Disk.files g.D.Disk.fault_count g.D.Disk.fuse_count (low slot) disk) (λ slot (disk : g.row.D.Denot). IsGivenDisk g.D.Disk.Tells g.D.Disk.files g.D.Disk.fault_count g.D.Disk.fuse_count (mid slot) disk) 1 (flat_map volume_disks c.self.inside.volumes.items)
+    (λ n disk from to given. subst (λ (held : HeldDisk). IsGivenDisk g.D.Disk.Tells g.D.Disk.files g.D.Disk.fault_count g.D.Disk.fuse_count held disk) (sym (c.give_disk.ensures.others n (λ zeroth. absurd (omega (arith, from, zeroth))))) given) c.give_volumes.ensures.given in
+    let all : InOrder (λ slot (disk : g.row.D.Denot). IsGivenDisk g.D.Disk.Tells g.D.Disk.files g.D.Disk.fault_count g.D.Disk.fuse_count (disks slot) disk) 0 (disks_of inside) =
+    subst (λ (held : ℕ → HeldDisk). InOrder (λ slot (disk : g.row.D.Denot). IsGivenDisk g.D.Disk.Tells g.D.Disk.files g.D.Disk.fault_count g.D.Disk.fuse_count (held slot) disk) 0 (disks_of inside)) (sym c.give_seats.ensures.slots) (front, behind) in
+    let back : GivesBack g.D.Disk.Tells g.D.Disk.files g.D.Disk.fault_count g.D.Disk.fuse_count g.A.Arm.fault_count disks arms inside = record { shape = c.self.invariant; disks_are = all; arms_are = c.give_seats.ensures.given } in
+    let view = c.self.view_is in
+    let gives : GivesBack g.D.Disk.Tells g.D.Disk.files g.D.Disk.fault_count g.D.Disk.fuse_count g.A.Arm.fault_count disks arms c.args.self = subst (λ (st : Open g.row.D.Denot g.row.D-Piece.Denot g.row.A.Denot). GivesBack g.D.Disk.Tells g.D.Disk.files g.D.Disk.fault_count g.D.Disk.fuse_count g.A.Arm.fault_count disks arms st) view back in
+    given_faults g.D.Disk.Tells g.D.Disk.files g.D.Disk.fault_count g.D.Disk.fuse_count g.A.Arm.fault_count disks arms c.args.self gives
+
+pub returns-clause-fuse_counts : goal.returns-clause-fuse_counts
+returns-clause-fuse_counts g c =
+    let disks = g.H.Shelf.disks c.give_seats.new.shelf in
+    let arms = g.H.Shelf.arms c.give_seats.new.shelf in
+    let mid = g.H.Shelf.disks c.give_disk.new.self in
+    let low = g.H.Shelf.disks c.give_volumes.new.shelf in
+    let inside : Open g.row.D.Denot g.row.D-Piece.Denot g.row.A.Denot = record { settings = c.self.inside.settings; directory = c.self.inside.directory; volumes = c.self.inside.volumes.items; arms = c.self.inside.seats.items } in
+    let front : IsGivenDisk g.D.Disk.Tells g.D.Disk.files g.D.Disk.fault_count g.D.Disk.fuse_count (mid 0) c.self.inside.directory.disk = subst (λ (d : g.row.D.Denot). IsGivenDisk g.D.Disk.Tells g.D.Disk.files g.D.Disk.fault_count g.D.Disk.fuse_count (mid 0) d) c.into_disk.ensures (record { files_are = c.give_disk.ensures.files; fault_count = c.give_disk.ensures.faults; fuse_count = c.give_disk.ensures.fuses; back = c.give_disk.ensures.back }) in
+    let behind : InOrder (λ slot (disk : g.row.D.Denot). IsGivenDisk g.D.Disk.Tells g.D.Disk.files g.D.Disk.fault_count g.D.Disk.fuse_count (mid slot) disk) 1 (flat_map volume_disks c.self.inside.volumes.items) =
+    InOrder-map (λ slot (disk : g.row.D.Denot). IsGivenDisk g.D.Disk.Tells g.D.Disk.files g.D.Disk.fault_count g.D.Disk.fuse_count (low slot) disk) (λ slot (disk : g.row.D.Denot). IsGivenDisk g.D.Disk.Tells g.D.Disk.files g.D.Disk.fault_count g.D.Disk.fuse_count (mid slot) disk) 1 (flat_map volume_disks c.self.inside.volumes.items)
+    (λ n disk from to given. subst (λ (held : HeldDisk). IsGivenDisk g.D.Disk.Tells g.D.Disk.files g.D.Disk.fault_count g.D.Disk.fuse_count held disk) (sym (c.give_disk.ensures.others n (λ zeroth. absurd (omega (arith, from, zeroth))))) given) c.give_volumes.ensures.given in
+    let all : InOrder (λ slot (disk : g.row.D.Denot). IsGivenDisk g.D.Disk.Tells g.D.Disk.files g.D.Disk.fault_count g.D.Disk.fuse_count (disks slot) disk) 0 (disks_of inside) =
+    subst (λ (held : ℕ → HeldDisk). InOrder (λ slot (disk : g.row.D.Denot). IsGivenDisk g.D.Disk.Tells g.D.Disk.files g.D.Disk.fault_count g.D.Disk.fuse_count (held slot) disk) 0 (disks_of inside)) (sym c.give_seats.ensures.slots) (front, behind) in
+    let back : GivesBack g.D.Disk.Tells g.D.Disk.files g.D.Disk.fault_count g.D.Disk.fuse_count g.A.Arm.fault_count disks arms inside = record { shape = c.self.invariant; disks_are = all; arms_are = c.give_seats.ensures.given } in
+    let view = c.self.view_is in
+    let gives : GivesBack g.D.Disk.Tells g.D.Disk.files g.D.Disk.fault_count g.D.Disk.fuse_count g.A.Arm.fault_count disks arms c.args.self = subst (λ (st : Open g.row.D.Denot g.row.D-Piece.Denot g.row.A.Denot). GivesBack g.D.Disk.Tells g.D.Disk.files g.D.Disk.fault_count g.D.Disk.fuse_count g.A.Arm.fault_count disks arms st) view back in
+    given_fuses g.D.Disk.Tells g.D.Disk.files g.D.Disk.fault_count g.D.Disk.fuse_count g.A.Arm.fault_count disks arms c.args.self gives
+
+pub returns-clause-arm_counts : goal.returns-clause-arm_counts
+returns-clause-arm_counts g c =
+    let disks = g.H.Shelf.disks c.give_seats.new.shelf in
+    let arms = g.H.Shelf.arms c.give_seats.new.shelf in
+    let mid = g.H.Shelf.disks c.give_disk.new.self in
+    let low = g.H.Shelf.disks c.give_volumes.new.shelf in
+    let inside : Open g.row.D.Denot g.row.D-Piece.Denot g.row.A.Denot = record { settings = c.self.inside.settings; directory = c.self.inside.directory; volumes = c.self.inside.volumes.items; arms = c.self.inside.seats.items } in
+    let front : IsGivenDisk g.D.Disk.Tells g.D.Disk.files g.D.Disk.fault_count g.D.Disk.fuse_count (mid 0) c.self.inside.directory.disk = subst (λ (d : g.row.D.Denot). IsGivenDisk g.D.Disk.Tells g.D.Disk.files g.D.Disk.fault_count g.D.Disk.fuse_count (mid 0) d) c.into_disk.ensures (record { files_are = c.give_disk.ensures.files; fault_count = c.give_disk.ensures.faults; fuse_count = c.give_disk.ensures.fuses; back = c.give_disk.ensures.back }) in
+    let behind : InOrder (λ slot (disk : g.row.D.Denot). IsGivenDisk g.D.Disk.Tells g.D.Disk.files g.D.Disk.fault_count g.D.Disk.fuse_count (mid slot) disk) 1 (flat_map volume_disks c.self.inside.volumes.items) =
+    InOrder-map (λ slot (disk : g.row.D.Denot). IsGivenDisk g.D.Disk.Tells g.D.Disk.files g.D.Disk.fault_count g.D.Disk.fuse_count (low slot) disk) (λ slot (disk : g.row.D.Denot). IsGivenDisk g.D.Disk.Tells g.D.Disk.files g.D.Disk.fault_count g.D.Disk.fuse_count (mid slot) disk) 1 (flat_map volume_disks c.self.inside.volumes.items)
+    (λ n disk from to given. subst (λ (held : HeldDisk). IsGivenDisk g.D.Disk.Tells g.D.Disk.files g.D.Disk.fault_count g.D.Disk.fuse_count held disk) (sym (c.give_disk.ensures.others n (λ zeroth. absurd (omega (arith, from, zeroth))))) given) c.give_volumes.ensures.given in
+    let all : InOrder (λ slot (disk : g.row.D.Denot). IsGivenDisk g.D.Disk.Tells g.D.Disk.files g.D.Disk.fault_count g.D.Disk.fuse_count (disks slot) disk) 0 (disks_of inside) =
+    subst (λ (held : ℕ → HeldDisk). InOrder (λ slot (disk : g.row.D.Denot). IsGivenDisk g.D.Disk.Tells g.D.Disk.files g.D.Disk.fault_count g.D.Disk.fuse_count (held slot) disk) 0 (disks_of inside)) (sym c.give_seats.ensures.slots) (front, behind) in
+    let back : GivesBack g.D.Disk.Tells g.D.Disk.files g.D.Disk.fault_count g.D.Disk.fuse_count g.A.Arm.fault_count disks arms inside = record { shape = c.self.invariant; disks_are = all; arms_are = c.give_seats.ensures.given } in
+    let view = c.self.view_is in
+    let gives : GivesBack g.D.Disk.Tells g.D.Disk.files g.D.Disk.fault_count g.D.Disk.fuse_count g.A.Arm.fault_count disks arms c.args.self = subst (λ (st : Open g.row.D.Denot g.row.D-Piece.Denot g.row.A.Denot). GivesBack g.D.Disk.Tells g.D.Disk.files g.D.Disk.fault_count g.D.Disk.fuse_count g.A.Arm.fault_count disks arms st) view back in
+    given_arms g.D.Disk.Tells g.D.Disk.files g.D.Disk.fault_count g.D.Disk.fuse_count g.A.Arm.fault_count disks arms c.args.self gives
+
+pub returns-clause-disks_back : goal.returns-clause-disks_back
+returns-clause-disks_back g c =
+    let disks = g.H.Shelf.disks c.give_seats.new.shelf in
+    let arms = g.H.Shelf.arms c.give_seats.new.shelf in
+    let mid = g.H.Shelf.disks c.give_disk.new.self in
+    let low = g.H.Shelf.disks c.give_volumes.new.shelf in
+    let inside : Open g.row.D.Denot g.row.D-Piece.Denot g.row.A.Denot = record { settings = c.self.inside.settings; directory = c.self.inside.directory; volumes = c.self.inside.volumes.items; arms = c.self.inside.seats.items } in
+    let front : IsGivenDisk g.D.Disk.Tells g.D.Disk.files g.D.Disk.fault_count g.D.Disk.fuse_count (mid 0) c.self.inside.directory.disk = subst (λ (d : g.row.D.Denot). IsGivenDisk g.D.Disk.Tells g.D.Disk.files g.D.Disk.fault_count g.D.Disk.fuse_count (mid 0) d) c.into_disk.ensures (record { files_are = c.give_disk.ensures.files; fault_count = c.give_disk.ensures.faults; fuse_count = c.give_disk.ensures.fuses; back = c.give_disk.ensures.back }) in
+    let behind : InOrder (λ slot (disk : g.row.D.Denot). IsGivenDisk g.D.Disk.Tells g.D.Disk.files g.D.Disk.fault_count g.D.Disk.fuse_count (mid slot) disk) 1 (flat_map volume_disks c.self.inside.volumes.items) =
+    InOrder-map (λ slot (disk : g.row.D.Denot). IsGivenDisk g.D.Disk.Tells g.D.Disk.files g.D.Disk.fault_count g.D.Disk.fuse_count (low slot) disk) (λ slot (disk : g.row.D.Denot). IsGivenDisk g.D.Disk.Tells g.D.Disk.files g.D.Disk.fault_count g.D.Disk.fuse_count (mid slot) disk) 1 (flat_map volume_disks c.self.inside.volumes.items)
+    (λ n disk from to given. subst (λ (held : HeldDisk). IsGivenDisk g.D.Disk.Tells g.D.Disk.files g.D.Disk.fault_count g.D.Disk.fuse_count held disk) (sym (c.give_disk.ensures.others n (λ zeroth. absurd (omega (arith, from, zeroth))))) given) c.give_volumes.ensures.given in
+    let all : InOrder (λ slot (disk : g.row.D.Denot). IsGivenDisk g.D.Disk.Tells g.D.Disk.files g.D.Disk.fault_count g.D.Disk.fuse_count (disks slot) disk) 0 (disks_of inside) =
+    subst (λ (held : ℕ → HeldDisk). InOrder (λ slot (disk : g.row.D.Denot). IsGivenDisk g.D.Disk.Tells g.D.Disk.files g.D.Disk.fault_count g.D.Disk.fuse_count (held slot) disk) 0 (disks_of inside)) (sym c.give_seats.ensures.slots) (front, behind) in
+    let back : GivesBack g.D.Disk.Tells g.D.Disk.files g.D.Disk.fault_count g.D.Disk.fuse_count g.A.Arm.fault_count disks arms inside = record { shape = c.self.invariant; disks_are = all; arms_are = c.give_seats.ensures.given } in
+    let view = c.self.view_is in
+    let gives : GivesBack g.D.Disk.Tells g.D.Disk.files g.D.Disk.fault_count g.D.Disk.fuse_count g.A.Arm.fault_count disks arms c.args.self = subst (λ (st : Open g.row.D.Denot g.row.D-Piece.Denot g.row.A.Denot). GivesBack g.D.Disk.Tells g.D.Disk.files g.D.Disk.fault_count g.D.Disk.fuse_count g.A.Arm.fault_count disks arms st) view back in
+    given_in g.D.Disk.Tells g.D.Disk.files g.D.Disk.fault_count g.D.Disk.fuse_count g.A.Arm.fault_count disks arms c.args.self gives
+
+pub returns-clause-arms_back : goal.returns-clause-arms_back
+returns-clause-arms_back g c =
+    let disks = g.H.Shelf.disks c.give_seats.new.shelf in
+    let arms = g.H.Shelf.arms c.give_seats.new.shelf in
+    let mid = g.H.Shelf.disks c.give_disk.new.self in
+    let low = g.H.Shelf.disks c.give_volumes.new.shelf in
+    let inside : Open g.row.D.Denot g.row.D-Piece.Denot g.row.A.Denot = record { settings = c.self.inside.settings; directory = c.self.inside.directory; volumes = c.self.inside.volumes.items; arms = c.self.inside.seats.items } in
+    let front : IsGivenDisk g.D.Disk.Tells g.D.Disk.files g.D.Disk.fault_count g.D.Disk.fuse_count (mid 0) c.self.inside.directory.disk = subst (λ (d : g.row.D.Denot). IsGivenDisk g.D.Disk.Tells g.D.Disk.files g.D.Disk.fault_count g.D.Disk.fuse_count (mid 0) d) c.into_disk.ensures (record { files_are = c.give_disk.ensures.files; fault_count = c.give_disk.ensures.faults; fuse_count = c.give_disk.ensures.fuses; back = c.give_disk.ensures.back }) in
+    let behind : InOrder (λ slot (disk : g.row.D.Denot). IsGivenDisk g.D.Disk.Tells g.D.Disk.files g.D.Disk.fault_count g.D.Disk.fuse_count (mid slot) disk) 1 (flat_map volume_disks c.self.inside.volumes.items) =
+    InOrder-map (λ slot (disk : g.row.D.Denot). IsGivenDisk g.D.Disk.Tells g.D.Disk.files g.D.Disk.fault_count g.D.Disk.fuse_count (low slot) disk) (λ slot (disk : g.row.D.Denot). IsGivenDisk g.D.Disk.Tells g.D.Disk.files g.D.Disk.fault_count g.D.Disk.fuse_count (mid slot) disk) 1 (flat_map volume_disks c.self.inside.volumes.items)
+    (λ n disk from to given. subst (λ (held : HeldDisk). IsGivenDisk g.D.Disk.Tells g.D.Disk.files g.D.Disk.fault_count g.D.Disk.fuse_count held disk) (sym (c.give_disk.ensures.others n (λ zeroth. absurd (omega (arith, from, zeroth))))) given) c.give_volumes.ensures.given in
+    let all : InOrder (λ slot (disk : g.row.D.Denot). IsGivenDisk g.D.Disk.Tells g.D.Disk.files g.D.Disk.fault_count g.D.Disk.fuse_count (disks slot) disk) 0 (disks_of inside) =
+    subst (λ (held : ℕ → HeldDisk). InOrder (λ slot (disk : g.row.D.Denot). IsGivenDisk g.D.Disk.Tells g.D.Disk.files g.D.Disk.fault_count g.D.Disk.fuse_count (held slot) disk) 0 (disks_of inside)) (sym c.give_seats.ensures.slots) (front, behind) in
+    let back : GivesBack g.D.Disk.Tells g.D.Disk.files g.D.Disk.fault_count g.D.Disk.fuse_count g.A.Arm.fault_count disks arms inside = record { shape = c.self.invariant; disks_are = all; arms_are = c.give_seats.ensures.given } in
+    let view = c.self.view_is in
+    let gives : GivesBack g.D.Disk.Tells g.D.Disk.files g.D.Disk.fault_count g.D.Disk.fuse_count g.A.Arm.fault_count disks arms c.args.self = subst (λ (st : Open g.row.D.Denot g.row.D-Piece.Denot g.row.A.Denot). GivesBack g.D.Disk.Tells g.D.Disk.files g.D.Disk.fault_count g.D.Disk.fuse_count g.A.Arm.fault_count disks arms st) view back in
+    given_arms_in g.D.Disk.Tells g.D.Disk.files g.D.Disk.fault_count g.D.Disk.fuse_count g.A.Arm.fault_count disks arms c.args.self gives
+
+pub returns-clause-other_slots : goal.returns-clause-other_slots
+returns-clause-other_slots g c = λ n high.
+    let same : disk_count c.self.inside.settings ≡ disk_count c.args.self.settings = ap (λ (st : Open g.row.D.Denot g.row.D-Piece.Denot g.row.A.Denot). disk_count st.settings) c.self.view_is in
+    let product = ap (λ m. m * c.self.inside.settings.replicas) c.self.invariant.many in
+    ap (λ (held : ℕ → HeldDisk). held n) c.give_seats.ensures.slots
+    ∙ c.give_disk.ensures.others n (λ zeroth. absurd (omega (arith, high, zeroth)))
+    ∙ c.give_volumes.ensures.others n (omega (arith, high, same, product))
+
+pub returns-clause-other_lanes : goal.returns-clause-other_lanes
+returns-clause-other_lanes g c = λ n high.
+    c.give_seats.ensures.others n (omega (arith, high, c.self.invariant.lanes)) ∙ ap (λ (held : ℕ → HeldArm). held n) (c.give_disk.ensures.lanes ∙ c.give_volumes.ensures.lanes)
+
+pub returns-clause-counted : goal.returns-clause-counted
+returns-clause-counted g c = c.give_seats.ensures.counted ∙ c.give_disk.ensures.counted ∙ c.give_volumes.ensures.counted

@@ -1,29 +1,19 @@
-use Rattle.std.proofs.Common.{length, refl, sym, subst, arith}
-use Rattle.hay_cluster.specs.State.{Open, Stands, rows_with}
-use Rattle.hay_cluster.proofs.LegalRows.{fused_as, not_fused}
-use Rattle.hay_cluster.proofs.PlaceSteps.{same_places}
-use Rattle.hay_cluster.proofs.Standing.{answered_still}
+use Rattle.std.proofs.Common.{◌≡◌, ℕ, Option, Some, refl, sym, ap, subst, ◌∙◌}
+use Rattle.hay_needle.specs.declared.settings.Settings.{Settings}
+use Rattle.hay_reply.specs.declared.Reply.TheVariants as reply
+use Rattle.hay_legal.specs.Known.{replica_on}
+use Rattle.hay_legal.specs.Plain.{LegalFuse, OnReplica}
+use Rattle.hay_cluster.specs.Store.{Open}
+use Rattle.hay_cluster.proofs.Answering.{answered}
 use Rattle.hay_cluster.proofs.cluster.Cluster.fuse.Goals as goal
 
-pub returns-then-not-has_replica-clause-legal : goal.returns-then-not-has_replica-clause-legal
-unfolding Stands
-returns-then-not-has_replica-clause-legal g c = λ tells aside k tag s.
-    let disk = g.D.Disk in
-    let was = c.args.self.now in
-    answered_still disk.files disk.fault_count disk.fuse_count aside was.settings c.has_replica.ensures.alone was.disk was.disk was.volume was.volume was.front was.places was.places was.mode k s
-    refl refl (same_places was.places) tag _ _
-    (not_fused was.settings.capacity was.settings.secret s.base s.log was.volume.end (length s.held.cells) (rows_with s.held.cells s.held.pending) aside (disk.fault_count was.disk) (disk.fault_count was.disk) (disk.fuse_count was.disk)
-    s.held.pending tag c.args.volume c.args.machine c.args.calls (c.if-not-has_replica.ensures.not_there refl) (omega arith))
-
 pub returns-clause-legal : goal.returns-clause-legal
-unfolding Stands
-returns-clause-legal g c = λ tells aside k tag stands.
-    let disk = g.D.Disk in
-    let was = c.self.inside in
-    let new = c.fuse.new.self in
-    let there = c.if-not-has_replica.ensures.there refl in
-    let s = subst (λ (store : Open _). Stands disk.files disk.fault_count disk.fuse_count aside store k) (sym c.self.view_is) stands in
-    answered_still disk.files disk.fault_count disk.fuse_count aside was.settings c.self.invariant.alone was.disk new was.volume was.volume was.front was.places was.places was.mode k s
-    refl (c.fuse.ensures.same tells) (same_places was.places) tag _ _
-    (fused_as was.settings.capacity was.settings.secret s.base s.log was.volume.end (length s.held.cells) (rows_with s.held.cells s.held.pending) aside (disk.fault_count was.disk) (disk.fault_count new) (disk.fuse_count was.disk) (disk.fuse_count new)
-    s.held.pending tag c.args.volume c.args.machine c.args.calls there.0 there.1 c.fuse.ensures.faults c.fuse.ensures.fuses)
+returns-clause-legal g c = λ tells k tag stands.
+    let same = ap (λ (st : Open g.row.D.Denot g.row.D-Piece.Denot g.row.A.Denot). st.settings) c.self.view_is in
+    let there : replica_on (c.args.self.now).settings c.args.volume c.args.machine ≡ Some c.in-Some.replica =
+    ap (λ (s : Settings). replica_on s c.args.volume c.args.machine) (sym same) ∙ sym c.replica_on.ensures.is ∙ c.in-Some.is in
+    let fused = c.fuse_in.ensures.fused tells k stands in
+    let came = fused.2 in
+    answered g.D.Disk.files g.D.Piece.Piece.Tells g.D.Disk.fault_count g.D.Disk.fuse_count g.A.Arm.fault_count c.fuse_in.new.self (c.args.self.now).settings k came.known tag _ (reply.Fused c.args.volume c.args.machine c.args.calls) c.fuse_in.ensures.settings
+    (subst (λ (o : Option ℕ). OnReplica k o (λ j. LegalFuse (c.args.self.now).settings k c.args.volume c.args.machine j c.args.calls) (reply.Fused c.args.volume c.args.machine c.args.calls) came.known) (sym there)
+    ((refl, refl), refl, (fused.0, fused.1, came.leaves))) came.stands

@@ -1,57 +1,213 @@
-use Rattle.std.proofs.Common.{◌≡◌, ℕ, List, [], refl, sym, ap, subst, ◌∙◌, inl, inr, arith, Err}
-use Rattle.hay_needle.specs.Tables.{table_of}
-use Rattle.hay_disk.specs.Disk.{Files, IsImage}
-use Rattle.hay_disk.proofs.Images.{solid_whole}
-use Rattle.hay_volume.specs.Cells.{needles_of}
-use Rattle.hay_cluster.specs.declared.fault.ClusterFault.{ClusterFault}
-use Rattle.hay_cluster.specs.Contents.{IsNotWhole, IsOpeningDamage}
-use Rattle.hay_cluster.specs.Outside.{aside_of}
-use Rattle.hay_cluster.specs.State.{Stands}
-use Rattle.hay_cluster.proofs.Closing.{empty_or, is_opened, made_found}
-use Rattle.hay_cluster.proofs.Reopening.{found_known}
-use Rattle.hay_cluster.proofs.Standing.{stands_up}
+use Rattle.std.proofs.Common.{◌≡◌, ◌<◌, ◌≤◌, ℕ, inr, map, sym, ap, ◌∙◌, arith, rules}
+use Rattle.std.proofs.lemmas.Result.{err_from_is_err_and}
+use Rattle.std.specs.Prelude.{IsTrue, slice_index}
+use Rattle.hay_needle.specs.declared.settings.Settings.{Settings}
+use Rattle.hay_disk.specs.Counts.{Rose}
+use Rattle.hay_mount.specs.Mounts.{IsPutBack}
+use Rattle.hay_legal.specs.Known.{disk_count}
+use Rattle.hay_cluster.specs.declared.fault.ClusterFault.TheVariants.{Shelf, Failed, Damaged, NoMemory}
+use Rattle.hay_cluster.specs.Store.{disks_of}
+use Rattle.hay_cluster.proofs.Lists.{one_fits}
+use Rattle.hay_cluster.proofs.OpeningFound.{found_damaged, found_new}
+use Rattle.hay_cluster.proofs.OpeningLists.{passed_on}
+use Rattle.hay_cluster.proofs.OpeningStore.{MovedParts, opens_up}
+use Rattle.hay_cluster.proofs.OpeningTaken.{IsTakingFault, back_counts, back_failed, back_kept, back_shelf, is_taken, moved_arms, moved_counts, not_memory_damaged, one_fault, passed_back, taken_idle, taken_rests, taking_damaged, taking_failed, taking_shelf}
 use Rattle.hay_cluster.proofs.cluster.Cluster.open.Goals as goal
 
-pub returns-in-Ok-open_disk-clause-opened : goal.returns-in-Ok-open_disk-clause-opened
-unfolding Stands
-returns-in-Ok-open_disk-clause-opened g c = λ tells.
-    let disk = g.D.Disk in
-    let disks = g.H.Shelf.disks c.args.shelf.now in
-    let arms = g.H.Shelf.arms c.args.shelf.now in
-    let new = c.open_disk.new.disk in
-    let done = c.in-Ok-open_disk.ensures in
-    let volume = c.in-Ok-open_disk.field-0.volume in
-    let places = c.in-Ok-open_disk.field-0.places in
-    let made = done.opened tells in
-    let found = made.0 in
-    let k = found_known found.cells volume.end (aside_of disks arms) (disk.fault_count new) (disk.fuse_count new) in (
-      k,
-      is_opened c.args.settings c.requires.alone disks arms found.cells volume.end (disk.fault_count new) (disk.fuse_count new)
-          (made_found c.args.settings (disk.files c.in-Ok.disk 1) (disk.files new 1) ((disks 1).files 1).now volume.end places made (c.in-Ok.ensures.now tells 1))
-          (omega (arith, done.counts, c.in-Ok.ensures.faults)) (done.fuses ∙ c.in-Ok.ensures.fuses),
-      stands_up disk.files disk.fault_count disk.fuse_count (aside_of disks arms) c.args.settings new volume 0 places k
-          (record { found = found; base = table_of (needles_of found.cells); log = []; known = refl; table = refl; front_is = refl }),
-    )
+pub empty_volumes-requires-after_bounds : goal.empty_volumes-requires-after_bounds
+empty_volumes-requires-after_bounds g c =
+    let held : IsTrue c.may_hold.result = search rules in
+    let room = c.may_hold.ensures held in
+    λ κs lives. (one_fits 1 _ (omega arith) room.0, c.requires.built)
+
+pub assemble-cluster-requires-after_bounds : goal.assemble-cluster-requires-after_bounds
+assemble-cluster-requires-after_bounds g c =
+    let held : IsTrue c.may_hold.result = search rules in
+    let room = c.may_hold.ensures held in
+    let count : c.disk_count.result ≡ disk_count c.args.settings = c.disk_count.ensures.is in
+    λ κs lives. (one_fits 1 _ (omega arith) room.0, (c.requires.built, (c.in_ok-volumes.ensures.count, (c.in_ok-volumes.ensures.empty, (c.in_ok-disks.ensures.disk_count ∙ count, c.in_ok-disks.ensures.arm_count)))))
+
+pub drop-volumes-requires-room-T-Destruct : goal.drop-volumes-requires-room-T-Destruct
+drop-volumes-requires-room-T-Destruct g c =
+    let held : IsTrue c.may_hold.result = search rules in
+    let room = c.may_hold.ensures held in
+    λ κs lives. one_fits 1 _ (omega arith) room.0
+
+pub take_parts-requires-clause-disks_in : goal.take_parts-requires-clause-disks_in
+take_parts-requires-clause-disks_in g c =
+    let count : c.disk_count.result ≡ disk_count c.args.settings = c.disk_count.ensures.is in
+    λ κs lives slot below. c.requires.disks_in slot (let low : slot < disk_count c.args.settings = omega (arith, count, below) in low)
+
+pub open_parts-requires-clause-directory : goal.open_parts-requires-clause-directory
+open_parts-requires-clause-directory g c =
+    let taken = is_taken g.D.Disk.Tells g.D.Disk.files g.D.Piece.Piece.Tells g.D.Disk.fault_count g.D.Disk.fuse_count g.A.Arm.fault_count (g.H.Shelf.disks c.args.shelf.now) (g.H.Shelf.arms c.args.shelf.now) c.assemble-cluster.result c.in_ok-disks.disks.items c.in_ok-disks.seats.items c.assemble-cluster.ensures.shape c.assemble-cluster.ensures.fresh c.assemble-cluster.ensures.closed c.assemble-cluster.ensures.unsure c.assemble-cluster.ensures.disks c.assemble-cluster.ensures.arms c.in_ok-disks.ensures.disks c.in_ok-disks.ensures.arms in
+    λ κs lives. taken_rests g.D.Disk.Tells g.D.Disk.files g.D.Piece.Piece.Tells g.D.Disk.fault_count g.D.Disk.fuse_count g.A.Arm.fault_count (g.H.Shelf.disks c.args.shelf.now) (g.H.Shelf.arms c.args.shelf.now) c.assemble-cluster.result taken
+
+pub open_parts-requires-clause-idle : goal.open_parts-requires-clause-idle
+open_parts-requires-clause-idle g c =
+    let taken = is_taken g.D.Disk.Tells g.D.Disk.files g.D.Piece.Piece.Tells g.D.Disk.fault_count g.D.Disk.fuse_count g.A.Arm.fault_count (g.H.Shelf.disks c.args.shelf.now) (g.H.Shelf.arms c.args.shelf.now) c.assemble-cluster.result c.in_ok-disks.disks.items c.in_ok-disks.seats.items c.assemble-cluster.ensures.shape c.assemble-cluster.ensures.fresh c.assemble-cluster.ensures.closed c.assemble-cluster.ensures.unsure c.assemble-cluster.ensures.disks c.assemble-cluster.ensures.arms c.in_ok-disks.ensures.disks c.in_ok-disks.ensures.arms in
+    λ κs lives tells. taken_idle g.D.Disk.Tells g.D.Disk.files g.D.Piece.Piece.Tells g.D.Disk.fault_count g.D.Disk.fuse_count g.A.Arm.fault_count (g.H.Shelf.disks c.args.shelf.now) (g.H.Shelf.arms c.args.shelf.now) tells c.assemble-cluster.result taken
+
+pub close-requires-clause-disks_out : goal.close-requires-clause-disks_out
+close-requires-clause-disks_out g c =
+    let count : c.disk_count.result ≡ disk_count c.args.settings = c.disk_count.ensures.is in
+    let more : disk_count c.open_parts.new.self.settings ≡ disk_count c.args.settings = ap (λ (s : Settings). disk_count s) (c.open_parts.ensures.settings ∙ c.assemble-cluster.ensures.settings) in
+    λ κs lives slot below. c.in_ok-disks.ensures.disks_out slot (let low : slot < c.disk_count.result = omega (arith, count, more, below) in low)
+
+pub returns-in_err-volumes-clause-damaged : goal.returns-in_err-volumes-clause-damaged
+returns-in_err-volumes-clause-damaged g c =
+    let p = err_from_is_err_and c.from_residual.result c.from_residual.ensures.1 in
+    let memory : c.in_err-volumes.field-0.0 ≡ NoMemory = c.in_err-volumes.ensures.no_memory in
+    λ tells slot file at is. absurd (not_memory_damaged p.0 slot file at (p.2 ∙ memory) (one_fault c.from_residual.result p.0 (Damaged slot file at) p.1 is))
+
+pub returns-in_err-disks-clause-kept : goal.returns-in_err-disks-clause-kept
+returns-in_err-disks-clause-kept g c =
+    let p = err_from_is_err_and c.from_residual-in_err-disks.result c.from_residual-in_err-disks.ensures.1 in
+    let count : c.disk_count.result ≡ disk_count c.args.settings = c.disk_count.ensures.is in
+    let back : (slot : ℕ) → slot < disk_count c.args.settings → IsPutBack g.D.Disk.Tells (g.H.Shelf.disks c.args.shelf.now slot) (g.H.Shelf.disks c.take_parts.new.shelf slot) = λ slot below. c.in_err-disks.ensures.put_back slot (let low : slot < c.disk_count.result = omega (arith, count, below) in low) in
+    λ tells. passed_back c.from_residual-in_err-disks.result _ p.0 p.1 (λ slot below. inr ((back slot below).kept tells))
+
+pub returns-in_err-disks-clause-disks_back : goal.returns-in_err-disks-clause-disks_back
+returns-in_err-disks-clause-disks_back g c =
+    let p = err_from_is_err_and c.from_residual-in_err-disks.result c.from_residual-in_err-disks.ensures.1 in
+    let count : c.disk_count.result ≡ disk_count c.args.settings = c.disk_count.ensures.is in
+    let back : (slot : ℕ) → slot < disk_count c.args.settings → IsPutBack g.D.Disk.Tells (g.H.Shelf.disks c.args.shelf.now slot) (g.H.Shelf.disks c.take_parts.new.shelf slot) = λ slot below. c.in_err-disks.ensures.put_back slot (let low : slot < c.disk_count.result = omega (arith, count, below) in low) in
+    passed_back c.from_residual-in_err-disks.result _ p.0 p.1 (λ slot below. (back slot below).back)
+
+pub returns-in_err-disks-clause-arms_back : goal.returns-in_err-disks-clause-arms_back
+returns-in_err-disks-clause-arms_back g c =
+    let p = err_from_is_err_and c.from_residual-in_err-disks.result c.from_residual-in_err-disks.ensures.1 in
+    passed_back c.from_residual-in_err-disks.result _ p.0 p.1 (λ lane below. (c.in_err-disks.ensures.arms_back lane below).back)
+
+pub returns-in_err-disks-clause-back_counts : goal.returns-in_err-disks-clause-back_counts
+returns-in_err-disks-clause-back_counts g c =
+    let p = err_from_is_err_and c.from_residual-in_err-disks.result c.from_residual-in_err-disks.ensures.1 in
+    let count : c.disk_count.result ≡ disk_count c.args.settings = c.disk_count.ensures.is in
+    let back : (slot : ℕ) → slot < disk_count c.args.settings → IsPutBack g.D.Disk.Tells (g.H.Shelf.disks c.args.shelf.now slot) (g.H.Shelf.disks c.take_parts.new.shelf slot) = λ slot below. c.in_err-disks.ensures.put_back slot (let low : slot < c.disk_count.result = omega (arith, count, below) in low) in
+    passed_back c.from_residual-in_err-disks.result _ p.0 p.1 (λ slot below. let b = back slot below in record { faults_rise = (let e = b.fault_count in omega (arith, e)); fuses_are = b.fuse_count })
+
+pub returns-in_err-disks-clause-back_arm_counts : goal.returns-in_err-disks-clause-back_arm_counts
+returns-in_err-disks-clause-back_arm_counts g c =
+    let p = err_from_is_err_and c.from_residual-in_err-disks.result c.from_residual-in_err-disks.ensures.1 in
+    passed_back c.from_residual-in_err-disks.result _ p.0 p.1 (λ lane below. (c.in_err-disks.ensures.arms_back lane below).fault_count)
+
+pub returns-in_err-disks-clause-shelf : goal.returns-in_err-disks-clause-shelf
+returns-in_err-disks-clause-shelf g c =
+    let p = err_from_is_err_and c.from_residual-in_err-disks.result c.from_residual-in_err-disks.ensures.1 in
+    let cause : IsTakingFault (g.H.Shelf.fault_count c.args.shelf.now) (g.H.Shelf.fault_count c.take_parts.new.shelf) c.in_err-disks.field-0.0 = c.in_err-disks.ensures.cause in
+    passed_on c.from_residual-in_err-disks.result (λ fault. (faults : ℕ) → fault ≡ Shelf faults → Rose (g.H.Shelf.fault_count c.args.shelf.now) (g.H.Shelf.fault_count c.take_parts.new.shelf) × (faults ≡ g.H.Shelf.fault_count c.take_parts.new.shelf)) c.in_err-disks.field-0.0 p.0 p.1 p.2 (λ faults is. taking_shelf (g.H.Shelf.fault_count c.args.shelf.now) (g.H.Shelf.fault_count c.take_parts.new.shelf) c.in_err-disks.field-0.0 faults cause is)
+
+pub returns-in_err-disks-clause-failed : goal.returns-in_err-disks-clause-failed
+returns-in_err-disks-clause-failed g c =
+    let p = err_from_is_err_and c.from_residual-in_err-disks.result c.from_residual-in_err-disks.ensures.1 in
+    let cause : IsTakingFault (g.H.Shelf.fault_count c.args.shelf.now) (g.H.Shelf.fault_count c.take_parts.new.shelf) c.in_err-disks.field-0.0 = c.in_err-disks.ensures.cause in
+    passed_on c.from_residual-in_err-disks.result (λ fault. (slot faults : ℕ) → fault ≡ Failed slot faults → (slot < disk_count c.args.settings) × Rose (g.H.Shelf.disks c.args.shelf.now slot).fault_count (g.H.Shelf.disks c.take_parts.new.shelf slot).fault_count × (faults ≡ (g.H.Shelf.disks c.take_parts.new.shelf slot).fault_count)) c.in_err-disks.field-0.0 p.0 p.1 p.2 (λ slot faults is. absurd (taking_failed (g.H.Shelf.fault_count c.args.shelf.now) (g.H.Shelf.fault_count c.take_parts.new.shelf) c.in_err-disks.field-0.0 slot faults cause is))
+
+pub returns-in_err-disks-clause-damaged : goal.returns-in_err-disks-clause-damaged
+returns-in_err-disks-clause-damaged g c =
+    let p = err_from_is_err_and c.from_residual-in_err-disks.result c.from_residual-in_err-disks.ensures.1 in
+    let cause : IsTakingFault (g.H.Shelf.fault_count c.args.shelf.now) (g.H.Shelf.fault_count c.take_parts.new.shelf) c.in_err-disks.field-0.0 = c.in_err-disks.ensures.cause in
+    λ tells slot file at is. absurd (taking_damaged (g.H.Shelf.fault_count c.args.shelf.now) (g.H.Shelf.fault_count c.take_parts.new.shelf) c.in_err-disks.field-0.0 slot file at cause (sym p.2 ∙ one_fault c.from_residual-in_err-disks.result p.0 (Damaged slot file at) p.1 is))
+
+pub returns-in_err-disks-clause-other_slots : goal.returns-in_err-disks-clause-other_slots
+returns-in_err-disks-clause-other_slots g c =
+    let count : c.disk_count.result ≡ disk_count c.args.settings = c.disk_count.ensures.is in
+    λ slot high. c.take_parts.ensures.other_slots slot (let more : c.disk_count.result ≤ slot = omega (arith, count, high) in more)
+
+pub returns-in-Ok-clause-opened : goal.returns-in-Ok-clause-opened
+returns-in-Ok-clause-opened g c =
+    let taken = is_taken g.D.Disk.Tells g.D.Disk.files g.D.Piece.Piece.Tells g.D.Disk.fault_count g.D.Disk.fuse_count g.A.Arm.fault_count (g.H.Shelf.disks c.args.shelf.now) (g.H.Shelf.arms c.args.shelf.now) c.assemble-cluster.result c.in_ok-disks.disks.items c.in_ok-disks.seats.items c.assemble-cluster.ensures.shape c.assemble-cluster.ensures.fresh c.assemble-cluster.ensures.closed c.assemble-cluster.ensures.unsure c.assemble-cluster.ensures.disks c.assemble-cluster.ensures.arms c.in_ok-disks.ensures.disks c.in_ok-disks.ensures.arms in
+    let moved : MovedParts g.D.Disk.Tells g.D.Disk.files g.D.Piece.Piece.Tells g.D.Disk.fault_count g.D.Disk.fuse_count g.A.Arm.fault_count c.assemble-cluster.result c.open_parts.new.self = record { settings = c.open_parts.ensures.settings; arms = c.open_parts.ensures.arms; directory = c.open_parts.ensures.directory; volumes = c.open_parts.ensures.volumes } in
+    λ tells k finds. found_new g.D.Disk.Tells g.D.Disk.files g.D.Piece.Piece.Tells g.D.Disk.fault_count g.D.Disk.fuse_count g.A.Arm.fault_count (g.H.Shelf.disks c.args.shelf.now) (g.H.Shelf.arms c.args.shelf.now) tells c.args.settings c.assemble-cluster.result c.open_parts.new.self k c.in-Ok._notes c.assemble-cluster.ensures.settings taken moved c.in-Ok.ensures.opened finds
+
+pub returns-in-Ok-clause-up : goal.returns-in-Ok-clause-up
+returns-in-Ok-clause-up g c =
+    record { directory = c.in-Ok.ensures.opened.directory.up; volumes = opens_up g.D.Disk.Tells g.D.Disk.files g.D.Piece.Piece.Tells g.D.Disk.fault_count g.D.Disk.fuse_count _ _ c.in-Ok.ensures.opened.of_volumes c.in-Ok.ensures.opened.volumes }
+
+pub returns-in-Ok-clause-counts : goal.returns-in-Ok-clause-counts
+returns-in-Ok-clause-counts g c =
+    let taken = is_taken g.D.Disk.Tells g.D.Disk.files g.D.Piece.Piece.Tells g.D.Disk.fault_count g.D.Disk.fuse_count g.A.Arm.fault_count (g.H.Shelf.disks c.args.shelf.now) (g.H.Shelf.arms c.args.shelf.now) c.assemble-cluster.result c.in_ok-disks.disks.items c.in_ok-disks.seats.items c.assemble-cluster.ensures.shape c.assemble-cluster.ensures.fresh c.assemble-cluster.ensures.closed c.assemble-cluster.ensures.unsure c.assemble-cluster.ensures.disks c.assemble-cluster.ensures.arms c.in_ok-disks.ensures.disks c.in_ok-disks.ensures.arms in
+    let moved : MovedParts g.D.Disk.Tells g.D.Disk.files g.D.Piece.Piece.Tells g.D.Disk.fault_count g.D.Disk.fuse_count g.A.Arm.fault_count c.assemble-cluster.result c.open_parts.new.self = record { settings = c.open_parts.ensures.settings; arms = c.open_parts.ensures.arms; directory = c.open_parts.ensures.directory; volumes = c.open_parts.ensures.volumes } in
+    let many : disk_count c.assemble-cluster.result.settings ≡ disk_count c.args.settings = ap (λ (s : Settings). disk_count s) c.assemble-cluster.ensures.settings in
+    λ slot below. moved_counts g.D.Disk.Tells g.D.Disk.files g.D.Piece.Piece.Tells g.D.Disk.fault_count g.D.Disk.fuse_count g.A.Arm.fault_count (g.H.Shelf.disks c.args.shelf.now) (g.H.Shelf.arms c.args.shelf.now) c.assemble-cluster.result c.open_parts.new.self taken moved slot (let low : slot < disk_count c.assemble-cluster.result.settings = omega (arith, many, below) in low)
+
+pub returns-in-Ok-clause-arm_counts : goal.returns-in-Ok-clause-arm_counts
+returns-in-Ok-clause-arm_counts g c =
+    let taken = is_taken g.D.Disk.Tells g.D.Disk.files g.D.Piece.Piece.Tells g.D.Disk.fault_count g.D.Disk.fuse_count g.A.Arm.fault_count (g.H.Shelf.disks c.args.shelf.now) (g.H.Shelf.arms c.args.shelf.now) c.assemble-cluster.result c.in_ok-disks.disks.items c.in_ok-disks.seats.items c.assemble-cluster.ensures.shape c.assemble-cluster.ensures.fresh c.assemble-cluster.ensures.closed c.assemble-cluster.ensures.unsure c.assemble-cluster.ensures.disks c.assemble-cluster.ensures.arms c.in_ok-disks.ensures.disks c.in_ok-disks.ensures.arms in
+    λ lane below. moved_arms g.D.Disk.Tells g.D.Disk.files g.D.Piece.Piece.Tells g.D.Disk.fault_count g.D.Disk.fuse_count g.A.Arm.fault_count (g.H.Shelf.disks c.args.shelf.now) (g.H.Shelf.arms c.args.shelf.now) c.assemble-cluster.result c.open_parts.new.self taken c.open_parts.ensures.arms lane below
+
+pub returns-in-Ok-clause-disks_out : goal.returns-in-Ok-clause-disks_out
+returns-in-Ok-clause-disks_out g c =
+    let count : c.disk_count.result ≡ disk_count c.args.settings = c.disk_count.ensures.is in
+    λ slot below. c.in_ok-disks.ensures.disks_out slot (let low : slot < c.disk_count.result = omega (arith, count, below) in low)
+
+pub returns-in-Ok-clause-other_slots : goal.returns-in-Ok-clause-other_slots
+returns-in-Ok-clause-other_slots g c =
+    let count : c.disk_count.result ≡ disk_count c.args.settings = c.disk_count.ensures.is in
+    λ slot high. c.take_parts.ensures.other_slots slot (let more : c.disk_count.result ≤ slot = omega (arith, count, high) in more)
 
 pub returns-in-Err-clause-kept : goal.returns-in-Err-clause-kept
-returns-in-Err-clause-kept g c = λ tells.
-    let files = g.D.Disk.files in
-    let now = c.in-Ok.ensures.now tells in
-    elim (empty_or (files c.in-Ok.disk 1).now) [
-      | inl void ↦ inl (sym (now 1) ∙ void)
-      | inr full ↦ inr (inr (λ image may n.
-          let same : (g.H.Shelf.disks c.give_disk.new.self 1).files ≡ files c.in-Ok.disk = c.give_disk.ensures.files tells ∙ c.open_disk.ensures.kept tells full in
-          let is : IsImage (files c.in-Ok.disk n) (image n) = subst (λ (fs : Files). IsImage (fs n) (image n)) same (may n) in
-          solid_whole (files c.in-Ok.disk n) (image n) (c.in-Ok.ensures.solid tells n) is ∙ now n))
-    ]
+returns-in-Err-clause-kept g c =
+    let taken = is_taken g.D.Disk.Tells g.D.Disk.files g.D.Piece.Piece.Tells g.D.Disk.fault_count g.D.Disk.fuse_count g.A.Arm.fault_count (g.H.Shelf.disks c.args.shelf.now) (g.H.Shelf.arms c.args.shelf.now) c.assemble-cluster.result c.in_ok-disks.disks.items c.in_ok-disks.seats.items c.assemble-cluster.ensures.shape c.assemble-cluster.ensures.fresh c.assemble-cluster.ensures.closed c.assemble-cluster.ensures.unsure c.assemble-cluster.ensures.disks c.assemble-cluster.ensures.arms c.in_ok-disks.ensures.disks c.in_ok-disks.ensures.arms in
+    let moved : MovedParts g.D.Disk.Tells g.D.Disk.files g.D.Piece.Piece.Tells g.D.Disk.fault_count g.D.Disk.fuse_count g.A.Arm.fault_count c.assemble-cluster.result c.open_parts.new.self = record { settings = c.open_parts.ensures.settings; arms = c.open_parts.ensures.arms; directory = c.open_parts.ensures.directory; volumes = c.open_parts.ensures.volumes } in
+    let many : disk_count c.assemble-cluster.result.settings ≡ disk_count c.args.settings = ap (λ (s : Settings). disk_count s) c.assemble-cluster.ensures.settings in
+    λ tells slot below. back_kept g.D.Disk.Tells g.D.Disk.files g.D.Piece.Piece.Tells g.D.Disk.fault_count g.D.Disk.fuse_count g.A.Arm.fault_count (g.H.Shelf.disks c.args.shelf.now) (g.H.Shelf.arms c.args.shelf.now) tells c.assemble-cluster.result c.open_parts.new.self (g.H.Shelf.disks c.close.new.shelf) taken moved c.close.ensures.disks slot (let low : slot < disk_count c.assemble-cluster.result.settings = omega (arith, many, below) in low)
+
+pub returns-in-Err-clause-disks_back : goal.returns-in-Err-clause-disks_back
+returns-in-Err-clause-disks_back g c =
+    let more : disk_count c.open_parts.new.self.settings ≡ disk_count c.args.settings = ap (λ (s : Settings). disk_count s) (c.open_parts.ensures.settings ∙ c.assemble-cluster.ensures.settings) in
+    λ slot below. c.close.ensures.disks_back slot (let low : slot < disk_count c.open_parts.new.self.settings = omega (arith, more, below) in low)
+
+pub returns-in-Err-clause-back_counts : goal.returns-in-Err-clause-back_counts
+returns-in-Err-clause-back_counts g c =
+    let taken = is_taken g.D.Disk.Tells g.D.Disk.files g.D.Piece.Piece.Tells g.D.Disk.fault_count g.D.Disk.fuse_count g.A.Arm.fault_count (g.H.Shelf.disks c.args.shelf.now) (g.H.Shelf.arms c.args.shelf.now) c.assemble-cluster.result c.in_ok-disks.disks.items c.in_ok-disks.seats.items c.assemble-cluster.ensures.shape c.assemble-cluster.ensures.fresh c.assemble-cluster.ensures.closed c.assemble-cluster.ensures.unsure c.assemble-cluster.ensures.disks c.assemble-cluster.ensures.arms c.in_ok-disks.ensures.disks c.in_ok-disks.ensures.arms in
+    let moved : MovedParts g.D.Disk.Tells g.D.Disk.files g.D.Piece.Piece.Tells g.D.Disk.fault_count g.D.Disk.fuse_count g.A.Arm.fault_count c.assemble-cluster.result c.open_parts.new.self = record { settings = c.open_parts.ensures.settings; arms = c.open_parts.ensures.arms; directory = c.open_parts.ensures.directory; volumes = c.open_parts.ensures.volumes } in
+    let many : disk_count c.assemble-cluster.result.settings ≡ disk_count c.args.settings = ap (λ (s : Settings). disk_count s) c.assemble-cluster.ensures.settings in
+    let more : disk_count c.open_parts.new.self.settings ≡ disk_count c.args.settings = ap (λ (s : Settings). disk_count s) (c.open_parts.ensures.settings ∙ c.assemble-cluster.ensures.settings) in
+    let faults_are : (slot : ℕ) → slot < disk_count c.assemble-cluster.result.settings → ((g.H.Shelf.disks c.close.new.shelf) slot).fault_count ≡ slice_index (map g.D.Disk.fault_count (disks_of c.open_parts.new.self)) slot = λ slot low. c.close.ensures.fault_counts slot (let less : slot < disk_count c.open_parts.new.self.settings = omega (arith, many, more, low) in less) in
+    let fuses_are : (slot : ℕ) → slot < disk_count c.assemble-cluster.result.settings → ((g.H.Shelf.disks c.close.new.shelf) slot).fuse_count ≡ slice_index (map g.D.Disk.fuse_count (disks_of c.open_parts.new.self)) slot = λ slot low. c.close.ensures.fuse_counts slot (let less : slot < disk_count c.open_parts.new.self.settings = omega (arith, many, more, low) in less) in
+    λ slot below. back_counts g.D.Disk.Tells g.D.Disk.files g.D.Piece.Piece.Tells g.D.Disk.fault_count g.D.Disk.fuse_count g.A.Arm.fault_count (g.H.Shelf.disks c.args.shelf.now) (g.H.Shelf.arms c.args.shelf.now) c.assemble-cluster.result c.open_parts.new.self (g.H.Shelf.disks c.close.new.shelf) taken moved faults_are fuses_are slot (let low : slot < disk_count c.assemble-cluster.result.settings = omega (arith, many, below) in low)
+
+pub returns-in-Err-clause-back_arm_counts : goal.returns-in-Err-clause-back_arm_counts
+returns-in-Err-clause-back_arm_counts g c =
+    let taken = is_taken g.D.Disk.Tells g.D.Disk.files g.D.Piece.Piece.Tells g.D.Disk.fault_count g.D.Disk.fuse_count g.A.Arm.fault_count (g.H.Shelf.disks c.args.shelf.now) (g.H.Shelf.arms c.args.shelf.now) c.assemble-cluster.result c.in_ok-disks.disks.items c.in_ok-disks.seats.items c.assemble-cluster.ensures.shape c.assemble-cluster.ensures.fresh c.assemble-cluster.ensures.closed c.assemble-cluster.ensures.unsure c.assemble-cluster.ensures.disks c.assemble-cluster.ensures.arms c.in_ok-disks.ensures.disks c.in_ok-disks.ensures.arms in
+    λ lane below. c.close.ensures.arm_counts lane below ∙ moved_arms g.D.Disk.Tells g.D.Disk.files g.D.Piece.Piece.Tells g.D.Disk.fault_count g.D.Disk.fuse_count g.A.Arm.fault_count (g.H.Shelf.disks c.args.shelf.now) (g.H.Shelf.arms c.args.shelf.now) c.assemble-cluster.result c.open_parts.new.self taken c.open_parts.ensures.arms lane below
+
+pub returns-in-Err-clause-shelf : goal.returns-in-Err-clause-shelf
+returns-in-Err-clause-shelf g c =
+    let taken = is_taken g.D.Disk.Tells g.D.Disk.files g.D.Piece.Piece.Tells g.D.Disk.fault_count g.D.Disk.fuse_count g.A.Arm.fault_count (g.H.Shelf.disks c.args.shelf.now) (g.H.Shelf.arms c.args.shelf.now) c.assemble-cluster.result c.in_ok-disks.disks.items c.in_ok-disks.seats.items c.assemble-cluster.ensures.shape c.assemble-cluster.ensures.fresh c.assemble-cluster.ensures.closed c.assemble-cluster.ensures.unsure c.assemble-cluster.ensures.disks c.assemble-cluster.ensures.arms c.in_ok-disks.ensures.disks c.in_ok-disks.ensures.arms in
+    let moved : MovedParts g.D.Disk.Tells g.D.Disk.files g.D.Piece.Piece.Tells g.D.Disk.fault_count g.D.Disk.fuse_count g.A.Arm.fault_count c.assemble-cluster.result c.open_parts.new.self = record { settings = c.open_parts.ensures.settings; arms = c.open_parts.ensures.arms; directory = c.open_parts.ensures.directory; volumes = c.open_parts.ensures.volumes } in
+    λ faults is. absurd (back_shelf g.D.Disk.Tells g.D.Disk.files g.D.Piece.Piece.Tells g.D.Disk.fault_count g.D.Disk.fuse_count g.A.Arm.fault_count (g.H.Shelf.disks c.args.shelf.now) (g.H.Shelf.arms c.args.shelf.now) c.assemble-cluster.result c.open_parts.new.self c.in-Err.fault taken moved c.in-Err.ensures.refused faults is)
+
+pub returns-in-Err-clause-failed : goal.returns-in-Err-clause-failed
+returns-in-Err-clause-failed g c =
+    let taken = is_taken g.D.Disk.Tells g.D.Disk.files g.D.Piece.Piece.Tells g.D.Disk.fault_count g.D.Disk.fuse_count g.A.Arm.fault_count (g.H.Shelf.disks c.args.shelf.now) (g.H.Shelf.arms c.args.shelf.now) c.assemble-cluster.result c.in_ok-disks.disks.items c.in_ok-disks.seats.items c.assemble-cluster.ensures.shape c.assemble-cluster.ensures.fresh c.assemble-cluster.ensures.closed c.assemble-cluster.ensures.unsure c.assemble-cluster.ensures.disks c.assemble-cluster.ensures.arms c.in_ok-disks.ensures.disks c.in_ok-disks.ensures.arms in
+    let moved : MovedParts g.D.Disk.Tells g.D.Disk.files g.D.Piece.Piece.Tells g.D.Disk.fault_count g.D.Disk.fuse_count g.A.Arm.fault_count c.assemble-cluster.result c.open_parts.new.self = record { settings = c.open_parts.ensures.settings; arms = c.open_parts.ensures.arms; directory = c.open_parts.ensures.directory; volumes = c.open_parts.ensures.volumes } in
+    let many : disk_count c.assemble-cluster.result.settings ≡ disk_count c.args.settings = ap (λ (s : Settings). disk_count s) c.assemble-cluster.ensures.settings in
+    let more : disk_count c.open_parts.new.self.settings ≡ disk_count c.args.settings = ap (λ (s : Settings). disk_count s) (c.open_parts.ensures.settings ∙ c.assemble-cluster.ensures.settings) in
+    let faults_are : (slot : ℕ) → slot < disk_count c.assemble-cluster.result.settings → ((g.H.Shelf.disks c.close.new.shelf) slot).fault_count ≡ slice_index (map g.D.Disk.fault_count (disks_of c.open_parts.new.self)) slot = λ slot low. c.close.ensures.fault_counts slot (let less : slot < disk_count c.open_parts.new.self.settings = omega (arith, many, more, low) in less) in
+    λ slot faults is.
+    let f = back_failed g.D.Disk.Tells g.D.Disk.files g.D.Piece.Piece.Tells g.D.Disk.fault_count g.D.Disk.fuse_count g.A.Arm.fault_count (g.H.Shelf.disks c.args.shelf.now) (g.H.Shelf.arms c.args.shelf.now) c.assemble-cluster.result c.open_parts.new.self (g.H.Shelf.disks c.close.new.shelf) c.in-Err.fault taken moved c.in-Err.ensures.refused faults_are slot faults is in
+    let low = f.0 in
+    ((let less : slot < disk_count c.args.settings = omega (arith, many, low) in less), f.1, f.2)
 
 pub returns-in-Err-clause-damaged : goal.returns-in-Err-clause-damaged
-returns-in-Err-clause-damaged g c = λ tells slot file at is.
-    let fault : c.in-Err.fault ≡ ClusterFault.Damaged slot file at = cc in
-    let found = c.in-Err.ensures.damaged tells slot file at (ap Err fault) in
-    (found.0, found.1, subst (λ (l : List ℕ). IsOpeningDamage c.args.settings l at) (c.in-Ok.ensures.now tells 1) found.2)
+returns-in-Err-clause-damaged g c =
+    let taken = is_taken g.D.Disk.Tells g.D.Disk.files g.D.Piece.Piece.Tells g.D.Disk.fault_count g.D.Disk.fuse_count g.A.Arm.fault_count (g.H.Shelf.disks c.args.shelf.now) (g.H.Shelf.arms c.args.shelf.now) c.assemble-cluster.result c.in_ok-disks.disks.items c.in_ok-disks.seats.items c.assemble-cluster.ensures.shape c.assemble-cluster.ensures.fresh c.assemble-cluster.ensures.closed c.assemble-cluster.ensures.unsure c.assemble-cluster.ensures.disks c.assemble-cluster.ensures.arms c.in_ok-disks.ensures.disks c.in_ok-disks.ensures.arms in
+    λ tells slot file at is.
+    let told : c.in-Err.fault ≡ Damaged slot file at = cc in
+    found_damaged g.D.Disk.Tells g.D.Disk.files g.D.Piece.Piece.Tells g.D.Disk.fault_count g.D.Disk.fuse_count g.A.Arm.fault_count (g.H.Shelf.disks c.args.shelf.now) (g.H.Shelf.arms c.args.shelf.now) tells c.args.settings c.assemble-cluster.result c.open_parts.new.self c.in-Err.fault c.assemble-cluster.ensures.settings taken c.in-Err.ensures.refused slot file at told
 
-pub returns-in-Err-clause-not_whole : goal.returns-in-Err-clause-not_whole
-returns-in-Err-clause-not_whole g c = λ tells slot file at is.
-    let fault : c.in-Err.fault ≡ ClusterFault.Damaged slot file at = cc in
-    subst (IsNotWhole c.args.settings) (c.in-Ok.ensures.now tells 1) (c.in-Err.ensures.not_whole tells slot file at (ap Err fault))
+pub returns-in-Err-clause-other_slots : goal.returns-in-Err-clause-other_slots
+returns-in-Err-clause-other_slots g c =
+    let count : c.disk_count.result ≡ disk_count c.args.settings = c.disk_count.ensures.is in
+    let more : disk_count c.open_parts.new.self.settings ≡ disk_count c.args.settings = ap (λ (s : Settings). disk_count s) (c.open_parts.ensures.settings ∙ c.assemble-cluster.ensures.settings) in
+    λ slot high. c.close.ensures.other_slots slot (let far : disk_count c.open_parts.new.self.settings ≤ slot = omega (arith, more, high) in far) ∙ c.take_parts.ensures.other_slots slot (let far : c.disk_count.result ≤ slot = omega (arith, count, high) in far)
+
+pub returns-in-Err-clause-other_lanes : goal.returns-in-Err-clause-other_lanes
+returns-in-Err-clause-other_lanes g c =
+    λ lane high. c.close.ensures.other_lanes lane high ∙ c.take_parts.ensures.other_lanes lane high
+
+pub returns-in-Err-clause-counted : goal.returns-in-Err-clause-counted
+returns-in-Err-clause-counted g c =
+    omega (arith, c.close.ensures.counted, c.take_parts.ensures.counted)

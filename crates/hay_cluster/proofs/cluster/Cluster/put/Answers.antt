@@ -1,16 +1,23 @@
-use Rattle.hay_cluster.specs.State.{Stands, rows_with}
-use Rattle.std.proofs.Common.{Some, length}
-use Rattle.hay_cluster.proofs.LegalRows.{put_read_only_as}
-use Rattle.hay_cluster.proofs.Rows.{in_zero_with}
-use Rattle.hay_cluster.proofs.Standing.{answered_frozen}
+use Rattle.std.proofs.Common.{map, sym, ◌∙◌, refl, inl}
+use Rattle.hay_cluster.specs.Store.{disks_of}
+use Rattle.hay_cluster.proofs.Answering.{answered, put_command, stays}
+use Rattle.hay_cluster.proofs.Moves.{none_falls}
+use Rattle.hay_cluster.proofs.Puts.{home_refused}
 use Rattle.hay_cluster.proofs.cluster.Cluster.put.Goals as goal
 
-pub returns-then-is_frozen-clause-legal : goal.returns-then-is_frozen-clause-legal
-unfolding Stands
-returns-then-is_frozen-clause-legal g c = λ tells aside k s.
-    let disk = g.D.Disk in
-    let was = c.args.self.now in
-    answered_frozen disk.files disk.fault_count disk.fuse_count aside was.settings c.is_frozen.ensures.alone was.disk was.volume was.front was.places was.mode k s
-    (c.is_frozen.ensures.up c.if-is_frozen.true) c.args.tag _ _
-    (λ p is. put_read_only_as was.settings.capacity was.settings.secret s.base s.log was.volume.end (length s.held.cells) (rows_with s.held.cells (Some p)) aside (disk.fault_count was.disk) (disk.fuse_count was.disk)
-    p c.args.tag c.args.pair c.args.bytes.now c.read_only.result (in_zero_with s.held.cells (Some p) c.args.pair) c.read_only.ensures)
+pub returns-in-Err-clause-legal : goal.returns-in-Err-clause-legal
+returns-in-Err-clause-legal g c = λ tells k stands. record { known = k; legal = inl (stays k); stands = stands }
+
+pub returns-in-Err-clause-counts : goal.returns-in-Err-clause-counts
+returns-in-Err-clause-counts g c = none_falls (map g.D.Disk.fault_count (disks_of c.args.self.now))
+
+pub returns-in-Some-refusal-clause-legal : goal.returns-in-Some-refusal-clause-legal
+returns-in-Some-refusal-clause-legal g c = λ tells k stands.
+    let home = sym (c.home.ensures.known tells k stands) ∙ c.in-Some.is in
+    answered g.D.Disk.files g.D.Piece.Piece.Tells g.D.Disk.fault_count g.D.Disk.fuse_count g.A.Arm.fault_count c.args.self.now (c.args.self.now).settings k k c.args.tag _ c.refuse_one.result refl
+    (put_command (c.args.self.now).settings k k c.args.tag c.args.pair c.args.bytes.now c.refuse_one.result
+    (home_refused (c.args.self.now).settings k k c.args.tag c.args.pair c.args.bytes.now c.in-Some.volume c.in-Some-refusal.refused c.refuse_one.result home
+    (sym (c.refusal.ensures.known tells k stands) ∙ c.in-Some-refusal.is) c.refuse_one.ensures (stays k))) stands
+
+pub returns-in-Some-refusal-clause-counts : goal.returns-in-Some-refusal-clause-counts
+returns-in-Some-refusal-clause-counts g c = none_falls (map g.D.Disk.fault_count (disks_of c.args.self.now))

@@ -1,50 +1,59 @@
-use Rattle.std.proofs.Common.{Err, sym, ap, subst, ◌∙◌, arith}
-use Rattle.std.proofs.lemmas.Result.{err_from_is_err_and}
-use Rattle.hay_cluster.specs.declared.fault.ClusterFault.{ClusterFault}
-use Rattle.hay_cluster.specs.declared.mode.Mode.TheVariants.{Down}
-use Rattle.hay_cluster.specs.State.{Open, Stands, Holds}
-use Rattle.hay_cluster.proofs.Reopening.{on_err, refused, restarted, not_refused, same_fault}
+use Rattle.std.proofs.Common.{◌≡◌, ℕ, refl}
+use Rattle.std.proofs.lemmas.Result.{IfErr-at_err, IfErr-weaker, IfOk-weaker}
+use Rattle.hay_cluster.specs.declared.fault.ClusterFault.TheVariants.{Damaged}
+use Rattle.hay_cluster.proofs.OpeningStore.{MovedParts, StoppedParts, opens_up, restart_cause, restart_fuses, restart_later, restart_left, restart_opened, restart_whole, stops_closed, stops_idle}
 use Rattle.hay_cluster.proofs.cluster.Cluster.restart.Goals as goal
 
-pub returns-in_err-volume-clause-left : goal.returns-in_err-volume-clause-left
-unfolding Stands Holds
-returns-in_err-volume-clause-left g c = λ tells aside k stands.
-    let disk = g.D.Disk in
-    let was = c.self.inside in
-    let s = subst (λ (store : Open _). Stands disk.files disk.fault_count disk.fuse_count aside store k) (sym c.self.view_is) stands in
-    on_err c.from_residual.result _
-    (refused disk.files disk.fault_count disk.fuse_count aside was.settings c.self.invariant.alone was.disk c.power_cycle.new.self c.find_volume.new.disk was.volume was.front was.places was.mode Down k s
-    (c.power_cycle.ensures.left tells 1) (c.power_cycle.ensures.solid tells 1) (c.find_volume.ensures.same tells)
-    (omega (arith, c.find_volume.ensures.counts, c.power_cycle.ensures.faults)) (c.find_volume.ensures.fuses ∙ c.power_cycle.ensures.fuses))
+pub open_parts-requires-clause-closed : goal.open_parts-requires-clause-closed
+open_parts-requires-clause-closed g c = λ κs lives.
+    stops_closed g.D.Disk.Tells g.D.Disk.files g.D.Piece.Piece.Tells g.D.Disk.fault_count g.D.Disk.fuse_count _ _ c.stop.ensures.volumes
 
-pub returns-in_err-volume-clause-damaged : goal.returns-in_err-volume-clause-damaged
-unfolding Stands
-returns-in_err-volume-clause-damaged g c = λ tells aside k stands slot file at is.
-    let disk = g.D.Disk in
-    let was = c.self.inside in
-    let s = subst (λ (store : Open _). Stands disk.files disk.fault_count disk.fuse_count aside store k) (sym c.self.view_is) stands in
-    let fault = err_from_is_err_and c.from_residual.result c.from_residual.ensures.1 in
-    let said = same_fault c.from_residual.result fault.0 c.in_err-volume.field-0.0 (ClusterFault.Damaged slot file at) fault.1 fault.2 is in
-    let whole = not_refused disk.files disk.fault_count disk.fuse_count aside was.settings c.self.invariant.alone was.disk c.power_cycle.new.self was.volume was.front was.places was.mode k s (c.power_cycle.ensures.left tells 1) in
-    c.in_err-volume.ensures.only tells whole.0 whole.1 whole.2 slot file at (ap Err said)
-
-pub returns-in_default-clause-left : goal.returns-in_default-clause-left
-unfolding Stands Holds
-returns-in_default-clause-left g c = λ tells aside k stands.
-    let disk = g.D.Disk in
-    let was = c.self.inside in
-    let s = subst (λ (store : Open _). Stands disk.files disk.fault_count disk.fuse_count aside store k) (sym c.self.view_is) stands in
-    refused disk.files disk.fault_count disk.fuse_count aside was.settings c.self.invariant.alone was.disk c.power_cycle.new.self c.find_volume.new.disk was.volume was.front was.places was.mode Down k s
-    (c.power_cycle.ensures.left tells 1) (c.power_cycle.ensures.solid tells 1) (c.find_volume.ensures.same tells)
-    (omega (arith, c.find_volume.ensures.counts, c.power_cycle.ensures.faults)) (c.find_volume.ensures.fuses ∙ c.power_cycle.ensures.fuses)
+pub open_parts-requires-clause-idle : goal.open_parts-requires-clause-idle
+open_parts-requires-clause-idle g c = λ κs lives tells.
+    stops_idle g.D.Disk.Tells g.D.Disk.files g.D.Piece.Piece.Tells g.D.Disk.fault_count g.D.Disk.fuse_count tells _ _ c.stop.ensures.volumes
 
 pub returns-clause-reopened : goal.returns-clause-reopened
-unfolding Stands
-returns-clause-reopened g c = λ tells aside k stands.
-    let disk = g.D.Disk in
-    let was = c.self.inside in
-    let s = subst (λ (store : Open _). Stands disk.files disk.fault_count disk.fuse_count aside store k) (sym c.self.view_is) stands in
-    restarted disk.files disk.fault_count disk.fuse_count aside was.settings c.self.invariant.alone was.disk c.power_cycle.new.self c.find_volume.new.disk was.volume c.in_ok-volume.field-0.volume was.front was.places c.in_ok-volume.field-0.places was.mode k c.in-Ok.notes s
-    (c.power_cycle.ensures.left tells 1) (c.find_volume.ensures.same tells)
-    (omega (arith, c.find_volume.ensures.counts, c.power_cycle.ensures.faults)) (c.find_volume.ensures.fuses ∙ c.power_cycle.ensures.fuses)
-    (c.in_ok-volume.ensures.found tells) c.in-Ok.ensures
+returns-clause-reopened g c = λ tells k stands.
+    let stopped : StoppedParts g.D.Disk.Tells g.D.Disk.files g.D.Piece.Piece.Tells g.D.Disk.fault_count g.D.Disk.fuse_count g.A.Arm.fault_count c.args.self.now c.stop.new.self = record { settings = c.stop.ensures.settings; arms = c.stop.ensures.arms; directory = c.stop.ensures.directory; volumes = c.stop.ensures.volumes } in
+    let moved : MovedParts g.D.Disk.Tells g.D.Disk.files g.D.Piece.Piece.Tells g.D.Disk.fault_count g.D.Disk.fuse_count g.A.Arm.fault_count c.stop.new.self c.open_parts.new.self = record { settings = c.open_parts.ensures.settings; arms = c.open_parts.ensures.arms; directory = c.open_parts.ensures.directory; volumes = c.open_parts.ensures.volumes } in
+    IfOk-weaker c.open_parts.result _ _
+    (λ notes opens. restart_opened g.D.Disk.Tells g.D.Disk.files g.D.Piece.Piece.Tells g.D.Disk.fault_count g.D.Disk.fuse_count g.A.Arm.fault_count tells c.args.self.now c.stop.new.self c.open_parts.new.self k notes stands stopped moved opens) c.open_parts.ensures.opened
+
+pub returns-clause-up : goal.returns-clause-up
+returns-clause-up g c =
+    IfOk-weaker c.open_parts.result _ _
+    (λ notes opens. record { directory = opens.directory.up; volumes = opens_up g.D.Disk.Tells g.D.Disk.files g.D.Piece.Piece.Tells g.D.Disk.fault_count g.D.Disk.fuse_count _ _ opens.of_volumes opens.volumes }) c.open_parts.ensures.opened
+
+pub returns-clause-left : goal.returns-clause-left
+returns-clause-left g c = λ tells k stands.
+    let stopped : StoppedParts g.D.Disk.Tells g.D.Disk.files g.D.Piece.Piece.Tells g.D.Disk.fault_count g.D.Disk.fuse_count g.A.Arm.fault_count c.args.self.now c.stop.new.self = record { settings = c.stop.ensures.settings; arms = c.stop.ensures.arms; directory = c.stop.ensures.directory; volumes = c.stop.ensures.volumes } in
+    let moved : MovedParts g.D.Disk.Tells g.D.Disk.files g.D.Piece.Piece.Tells g.D.Disk.fault_count g.D.Disk.fuse_count g.A.Arm.fault_count c.stop.new.self c.open_parts.new.self = record { settings = c.open_parts.ensures.settings; arms = c.open_parts.ensures.arms; directory = c.open_parts.ensures.directory; volumes = c.open_parts.ensures.volumes } in
+    IfErr-weaker c.open_parts.result _ _
+    (λ fault refused. restart_left g.D.Disk.Tells g.D.Disk.files g.D.Piece.Piece.Tells g.D.Disk.fault_count g.D.Disk.fuse_count g.A.Arm.fault_count tells c.args.self.now c.stop.new.self c.open_parts.new.self k stands stopped moved) c.open_parts.ensures.refused
+
+pub returns-clause-cause : goal.returns-clause-cause
+returns-clause-cause g c =
+    let stopped : StoppedParts g.D.Disk.Tells g.D.Disk.files g.D.Piece.Piece.Tells g.D.Disk.fault_count g.D.Disk.fuse_count g.A.Arm.fault_count c.args.self.now c.stop.new.self = record { settings = c.stop.ensures.settings; arms = c.stop.ensures.arms; directory = c.stop.ensures.directory; volumes = c.stop.ensures.volumes } in
+    let moved : MovedParts g.D.Disk.Tells g.D.Disk.files g.D.Piece.Piece.Tells g.D.Disk.fault_count g.D.Disk.fuse_count g.A.Arm.fault_count c.stop.new.self c.open_parts.new.self = record { settings = c.open_parts.ensures.settings; arms = c.open_parts.ensures.arms; directory = c.open_parts.ensures.directory; volumes = c.open_parts.ensures.volumes } in
+    IfErr-weaker c.open_parts.result _ _
+    (λ fault refused. restart_cause g.D.Disk.Tells g.D.Disk.files g.D.Piece.Piece.Tells g.D.Disk.fault_count g.D.Disk.fuse_count g.A.Arm.fault_count c.args.self.now c.stop.new.self c.open_parts.new.self fault c.stop.ensures.shape stopped moved refused) c.open_parts.ensures.refused
+
+pub returns-clause-damaged : goal.returns-clause-damaged
+returns-clause-damaged g c = λ tells k stands slot file at is.
+    let stopped : StoppedParts g.D.Disk.Tells g.D.Disk.files g.D.Piece.Piece.Tells g.D.Disk.fault_count g.D.Disk.fuse_count g.A.Arm.fault_count c.args.self.now c.stop.new.self = record { settings = c.stop.ensures.settings; arms = c.stop.ensures.arms; directory = c.stop.ensures.directory; volumes = c.stop.ensures.volumes } in
+    IfErr-at_err (λ fault. (s f a : ℕ) → fault ≡ Damaged s f a → ⊥) is
+    (IfErr-weaker c.open_parts.result _ _
+    (λ fault refused. restart_whole g.D.Disk.Tells g.D.Disk.files g.D.Piece.Piece.Tells g.D.Disk.fault_count g.D.Disk.fuse_count g.A.Arm.fault_count tells c.args.self.now c.stop.new.self c.open_parts.new.self k fault stands stopped refused) c.open_parts.ensures.refused)
+    slot file at refl
+
+pub returns-clause-counts : goal.returns-clause-counts
+returns-clause-counts g c =
+    let stopped : StoppedParts g.D.Disk.Tells g.D.Disk.files g.D.Piece.Piece.Tells g.D.Disk.fault_count g.D.Disk.fuse_count g.A.Arm.fault_count c.args.self.now c.stop.new.self = record { settings = c.stop.ensures.settings; arms = c.stop.ensures.arms; directory = c.stop.ensures.directory; volumes = c.stop.ensures.volumes } in
+    let moved : MovedParts g.D.Disk.Tells g.D.Disk.files g.D.Piece.Piece.Tells g.D.Disk.fault_count g.D.Disk.fuse_count g.A.Arm.fault_count c.stop.new.self c.open_parts.new.self = record { settings = c.open_parts.ensures.settings; arms = c.open_parts.ensures.arms; directory = c.open_parts.ensures.directory; volumes = c.open_parts.ensures.volumes } in
+    restart_later g.D.Disk.Tells g.D.Disk.files g.D.Piece.Piece.Tells g.D.Disk.fault_count g.D.Disk.fuse_count g.A.Arm.fault_count c.args.self.now c.stop.new.self c.open_parts.new.self stopped moved
+
+pub returns-clause-fuses : goal.returns-clause-fuses
+returns-clause-fuses g c =
+    let stopped : StoppedParts g.D.Disk.Tells g.D.Disk.files g.D.Piece.Piece.Tells g.D.Disk.fault_count g.D.Disk.fuse_count g.A.Arm.fault_count c.args.self.now c.stop.new.self = record { settings = c.stop.ensures.settings; arms = c.stop.ensures.arms; directory = c.stop.ensures.directory; volumes = c.stop.ensures.volumes } in
+    let moved : MovedParts g.D.Disk.Tells g.D.Disk.files g.D.Piece.Piece.Tells g.D.Disk.fault_count g.D.Disk.fuse_count g.A.Arm.fault_count c.stop.new.self c.open_parts.new.self = record { settings = c.open_parts.ensures.settings; arms = c.open_parts.ensures.arms; directory = c.open_parts.ensures.directory; volumes = c.open_parts.ensures.volumes } in
+    restart_fuses g.D.Disk.Tells g.D.Disk.files g.D.Piece.Piece.Tells g.D.Disk.fault_count g.D.Disk.fuse_count g.A.Arm.fault_count c.args.self.now c.stop.new.self c.open_parts.new.self stopped moved

@@ -1,101 +1,125 @@
-use Rattle.std.proofs.Common.{◌≡◌, ℕ, length, take, drop, Some, Err, refl, sym, ap, subst, ◌∙◌, arith}
-use Rattle.hay_needle.specs.Needle.{BeginsWithNeedle, needle_of_cell}
-use Rattle.hay_needle.specs.Tables.{Table, outcome_at}
-use Rattle.hay_needle.specs.declared.needle.CellHead.{CellHead}
+use Rattle.std.proofs.Common.{◌≡◌, ℕ, List, map, sym, ap, subst, inl, ◌∙◌, arith}
+use Rattle.std.specs.Prelude.{slice_index}
+use Rattle.std.specs.List.{AllByRecursion}
 use Rattle.hay_needle.specs.declared.needle.Outcome.TheVariants as outcome
-use Rattle.hay_needle.specs.declared.needle.Photo.{Photo}
-use Rattle.hay_disk.specs.Gate.{Stands as StandsBytes}
-use Rattle.hay_volume.specs.declared.fault.CellFault.{CellFault}
-use Rattle.hay_core.specs.Entries.{after, entries_of}
-use Rattle.hay_legal.specs.Known.{home_in}
-use Rattle.hay_cluster.specs.declared.spot.Spot.TheVariants.{Live}
-use Rattle.hay_cluster.specs.PairPlaces.{place_at}
-use Rattle.hay_cluster.specs.State.{Open, Stands, rows_with, spot_with}
-use Rattle.hay_cluster.proofs.Cells.{cookies_same, held_photo, photo_read, photo_within}
-use Rattle.hay_cluster.proofs.Changes.{stands_photo}
-use Rattle.hay_cluster.proofs.LegalRows.{photo_as, read_no_memory, unreadable_as}
-use Rattle.hay_cluster.proofs.PlaceSteps.{same_places}
-use Rattle.hay_cluster.proofs.Rows.{home_with, home_by, live_with}
-use Rattle.hay_cluster.proofs.Spots.{last_cell}
-use Rattle.hay_cluster.proofs.Standing.{answered_still}
+use Rattle.hay_needle.specs.declared.settings.Settings.{Settings}
+use Rattle.hay_legal.specs.Known.{machine_of, volume_at}
+use Rattle.hay_reply.specs.declared.Passed.{Passed}
+use Rattle.hay_reader.specs.Shown.{Answers, HasCauses, Shows}
+use Rattle.hay_reader.specs.declared.causes.PassedReplica.{PassedReplica}
+use Rattle.hay_reader.specs.declared.seat.ReadReply.{ReadReply}
+use Rattle.hay_cluster.specs.Causes.{CauseCameUp, Counts}
+use Rattle.hay_cluster.specs.Reads.{outcomes_of, passed_at}
+use Rattle.hay_cluster.specs.Store.{IsBuilt, Open, disks_of}
+use Rattle.hay_cluster.proofs.Answering.{same_falls, stays}
+use Rattle.hay_cluster.proofs.Moves.{none_falls}
+use Rattle.hay_cluster.proofs.Showing.{causes_told, read_shown, read_unreadable}
 use Rattle.hay_cluster.proofs.cluster.Cluster.show.Goals as goal
 
-pub shown-requires : goal.shown-requires
-shown-requires g c =
-    let read = c.in-Ok.ensures.cell in
-    let size : c.in-Ok.head.size ≡ length (read.0).bytes = ap (λ (h : CellHead). h.size) read.2 in
-    omega (arith, photo_within _ (needle_of_cell read.0) read.1.is)
+pub returns-in_default-clause-shown : goal.returns-in_default-clause-shown
+returns-in_default-clause-shown g c = λ tells k stands home. record { known = k; legal = inl (stays k); stands = stands }
 
-pub returns-in-Ok-clause-legal : goal.returns-in-Ok-clause-legal
-unfolding Stands
-returns-in-Ok-clause-legal g c = λ tells aside k tag stands.
-    let disk = g.D.Disk in
-    let was = c.self.inside in
-    let new = c.cell_at.new.disk in
-    let pair = c.args.pair in
-    let s = subst (λ (store : Open _). Stands disk.files disk.fault_count disk.fuse_count aside store k) (sym c.self.view_is) stands in
-    let place : place_at was.places pair ≡ Some (Live c.args.at) = ap (λ (store : Open _). place_at store.places c.args.pair) c.self.view_is ∙ c.requires.place in
-    let cells = s.held.cells in
-    let shown : spot_with cells s.held.pending pair ≡ Some (Live c.args.at) = sym (s.held.places pair) ∙ place in
-    let l = last_cell cells pair (Live c.args.at) (live_with cells s.held.pending pair c.args.at shown) in
-    let has = held_photo was.settings (disk.files was.disk 1) cells pair c.args.at was.volume.end s.held.pending s.held.holds s.held.due ((g.met.D.Disk g.world.𝓛 g.world.𝓜 g.world.𝓡 ((λ s x. x), (λ x. x), (λ x. x), λ x. x)).may_leave_now was.disk 1 tells) l in
-    let read = c.in-Ok.ensures.cell in
-    let stand : StandsBytes c.args.at c.cell_at.new.out.items (disk.files was.disk 1).now = subst (λ (file : ℕ). StandsBytes c.args.at c.cell_at.new.out.items (disk.files was.disk file).now) c.self.invariant.file (c.in-Ok.ensures.stands tells) in
-    let bytes = take c.in-Ok.head.size (drop 36 c.cell_at.new.out.items) in
-    let is : (needle_of_cell l.cell).photo ≡ record { cookie = c.in-Ok.head.cookie; bytes = bytes } =
-    photo_read c.args.at (disk.files was.disk 1).now c.cell_at.new.out.items c.in-Ok.head read.0 (needle_of_cell l.cell).photo has read.1 read.2 stand in
-    let stood : outcome_at (after (entries_of s.log) (length s.log) s.base) pair ≡ outcome.Photo (record { cookie = c.in-Ok.head.cookie; bytes = bytes }) =
-    ap (λ (table : Table). outcome_at table pair) s.table ∙ stands_photo cells pair c.args.at l ∙ ap (λ (p : Photo). outcome.Photo p) is in
-    let home : home_in (rows_with cells s.held.pending) pair ≡ Some 0 = home_with cells s.held.pending pair ∙ ap home_by shown in
-    answered_still disk.files disk.fault_count disk.fuse_count aside was.settings c.self.invariant.alone was.disk new was.volume was.volume was.front was.places was.places was.mode k s
-    refl (c.cell_at.ensures.same tells) (same_places was.places) tag _ _
-    (photo_as was.settings.capacity was.settings.secret s.base s.log was.volume.end (length cells) (rows_with cells s.held.pending) aside (disk.fault_count was.disk) (disk.fault_count new) (disk.fuse_count was.disk) (disk.fuse_count new)
-    s.held.pending tag pair c.in-Ok.head.cookie c.args.cookie bytes was.front c.len-rows.result c.shown.result home stood c.cell_at.ensures.counted.later c.cell_at.ensures.fuses s.front (c.len-rows.ensures ∙ s.held.count)
-    (cookies_same c.in-Ok.head.cookie c.args.cookie) c.shown.ensures.own c.shown.ensures.other)
+pub returns-in_default-clause-counts : goal.returns-in_default-clause-counts
+returns-in_default-clause-counts g c = none_falls (map g.D.Disk.fault_count (disks_of c.args.self.now))
 
-pub returns-in-Err-NoMemory-clause-legal : goal.returns-in-Err-NoMemory-clause-legal
-unfolding Stands
-returns-in-Err-NoMemory-clause-legal g c = λ tells aside k tag stands.
-    let disk = g.D.Disk in
-    let was = c.self.inside in
-    let new = c.cell_at.new.disk in
-    let s = subst (λ (store : Open _). Stands disk.files disk.fault_count disk.fuse_count aside store k) (sym c.self.view_is) stands in
-    answered_still disk.files disk.fault_count disk.fuse_count aside was.settings c.self.invariant.alone was.disk new was.volume was.volume was.front was.places was.places was.mode k s
-    refl (c.cell_at.ensures.same tells) (same_places was.places) tag _ _
-    (rw c.cell_at.ensures.fuses (read_no_memory was.settings.capacity was.settings.secret s.base s.log was.volume.end (length s.held.cells) (rows_with s.held.cells s.held.pending) aside (disk.fault_count was.disk) (disk.fault_count new) (disk.fuse_count was.disk)
-    s.held.pending tag c.args.pair c.args.cookie c.cell_at.ensures.counted.later))
+pub returns-in_default-clause-arm_counts : goal.returns-in_default-clause-arm_counts
+returns-in_default-clause-arm_counts g c = none_falls (map g.A.Arm.fault_count (c.args.self.now).arms)
 
-pub returns-in-Err-Damaged-clause-legal : goal.returns-in-Err-Damaged-clause-legal
-unfolding Stands
-returns-in-Err-Damaged-clause-legal g c = λ tells aside k tag stands.
-    let disk = g.D.Disk in
-    let was = c.self.inside in
-    let pair = c.args.pair in
-    let s = subst (λ (store : Open _). Stands disk.files disk.fault_count disk.fuse_count aside store k) (sym c.self.view_is) stands in
-    let place : place_at was.places pair ≡ Some (Live c.args.at) = ap (λ (store : Open _). place_at store.places c.args.pair) c.self.view_is ∙ c.requires.place in
-    let cells = s.held.cells in
-    let shown : spot_with cells s.held.pending pair ≡ Some (Live c.args.at) = sym (s.held.places pair) ∙ place in
-    let l = last_cell cells pair (Live c.args.at) (live_with cells s.held.pending pair c.args.at shown) in
-    let has = held_photo was.settings (disk.files was.disk 1) cells pair c.args.at was.volume.end s.held.pending s.held.holds s.held.due ((g.met.D.Disk g.world.𝓛 g.world.𝓜 g.world.𝓡 ((λ s x. x), (λ x. x), (λ x. x), λ x. x)).may_leave_now was.disk 1 tells) l in
-    let refused = c.in-Err-Damaged.ensures in
-    let is = c.in-Err-Damaged.field-0-is in
-    let there = refused.place _ (ap Err is) in
-    absurd (refused.damaged tells (ap Err (is ∙ ap CellFault.Damaged there)) has.needle (subst (λ (file : ℕ). BeginsWithNeedle (drop c.args.at (disk.files was.disk file).now) has.needle) (sym c.self.invariant.file) has.begins))
+pub fetch-front-requires-clause-empty : goal.fetch-front-requires-clause-empty
+fetch-front-requires-clause-empty g c = λ κs lives. c.in-Ok.ensures.items
 
-pub returns-clause-legal : goal.returns-clause-legal
-unfolding Stands
-returns-clause-legal g c = λ tells aside k tag stands.
-    let disk = g.D.Disk in
-    let was = c.self.inside in
-    let new = c.cell_at.new.disk in
-    let pair = c.args.pair in
-    let s = subst (λ (store : Open _). Stands disk.files disk.fault_count disk.fuse_count aside store k) (sym c.self.view_is) stands in
-    let place : place_at was.places pair ≡ Some (Live c.args.at) = ap (λ (store : Open _). place_at store.places c.args.pair) c.self.view_is ∙ c.requires.place in
-    let cells = s.held.cells in
-    let shown : spot_with cells s.held.pending pair ≡ Some (Live c.args.at) = sym (s.held.places pair) ∙ place in
-    let home : home_in (rows_with cells s.held.pending) pair ≡ Some 0 = home_with cells s.held.pending pair ∙ ap home_by shown in
-    answered_still disk.files disk.fault_count disk.fuse_count aside was.settings c.self.invariant.alone was.disk new was.volume was.volume was.front was.places was.places was.mode k s
-    refl (c.cell_at.ensures.same tells) (same_places was.places) tag _ _
-    (unreadable_as was.settings.capacity was.settings.secret s.base s.log was.volume.end (length cells) (rows_with cells s.held.pending) aside (disk.fault_count was.disk) (disk.fault_count new) (disk.fuse_count was.disk) (disk.fuse_count new)
-    s.held.pending tag pair c.args.cookie was.front c.len-rows.result c.faults-faults.result c.unreadable-in-Err-Failed.result home c.cell_at.ensures.counted.later
-    (c.in-Err-Failed.ensures.counted.cause (ap Err c.in-Err-Failed.field-0-is)) c.cell_at.ensures.fuses s.front (c.len-rows.ensures ∙ s.held.count) c.faults-faults.ensures c.unreadable-in-Err-Failed.ensures)
+pub fetch-front-requires-clause-room : goal.fetch-front-requires-clause-room
+fetch-front-requires-clause-room g c = omega (arith, c.in-Ok.ensures.exact)
+
+pub returns-in-Photo-clause-shown : goal.returns-in-Photo-clause-shown
+returns-in-Photo-clause-shown g c = λ tells k stands home.
+    let same : c.self.inside.settings ≡ (c.args.self.now).settings = ap (λ (st : Open g.row.D.Denot g.row.D-Piece.Denot g.row.A.Denot). st.settings) c.self.view_is ∙ c.fetch-front.ensures.settings in
+    let read = c.fetch-front.ensures.read tells k stands in
+    let shows = subst (λ (r : ReadReply). Answers c.args.start c.args.cookie (slice_index (map g.A.Arm.fault_count (c.args.self.now).arms) c.args.tag.lane) (slice_index (map g.A.Arm.fault_count (c.fetch-front.new.self).arms) c.args.tag.lane) (outcomes_of (c.args.self.now).settings (volume_at k c.args.volume) c.args.pair) c.fetch-front.new.photo.items r) c.in-Photo.is read.1 in
+    let here = subst (λ (bytes : List ℕ). Shows c.args.start (slice_index (map g.A.Arm.fault_count (c.args.self.now).arms) c.args.tag.lane) (slice_index (map g.A.Arm.fault_count (c.fetch-front.new.self).arms) c.args.tag.lane) (outcomes_of (c.args.self.now).settings (volume_at k c.args.volume) c.args.pair) c.in-Photo.replica (outcome.Photo (record { cookie = c.args.cookie; bytes = bytes }))) (sym c.from_vec.ensures) shows in
+    let legal = read_shown g.D.Disk.files g.D.Piece.Piece.Tells g.D.Disk.fault_count g.D.Disk.fuse_count g.A.Arm.fault_count c.args.self.now c.fetch-front.new.self (c.args.self.now).settings k c.args.tag c.args.start c.args.pair c.args.volume c.in-Photo.replica c.machine_of.result c.fetch-front.result.0 c.rows-rows.result (outcome.Photo (record { cookie = c.args.cookie; bytes = c.from_vec.result }))
+    (subst (λ (s : Settings). IsBuilt s) same c.self.invariant.built) c.requires.volume home read.0 (c.rows-rows.ensures.known tells k stands)
+    (c.machine_of.ensures.is ∙ ap (λ (s : Settings). machine_of s c.args.volume c.in-Photo.replica) same) stands read.2 here in
+    record { known = (read.2).known; legal = legal; stands = (read.2).stands }
+
+pub returns-in-Gone-clause-shown : goal.returns-in-Gone-clause-shown
+returns-in-Gone-clause-shown g c = λ tells k stands home.
+    let same : c.self.inside.settings ≡ (c.args.self.now).settings = ap (λ (st : Open g.row.D.Denot g.row.D-Piece.Denot g.row.A.Denot). st.settings) c.self.view_is ∙ c.fetch-front.ensures.settings in
+    let read = c.fetch-front.ensures.read tells k stands in
+    let shows = subst (λ (r : ReadReply). Answers c.args.start c.args.cookie (slice_index (map g.A.Arm.fault_count (c.args.self.now).arms) c.args.tag.lane) (slice_index (map g.A.Arm.fault_count (c.fetch-front.new.self).arms) c.args.tag.lane) (outcomes_of (c.args.self.now).settings (volume_at k c.args.volume) c.args.pair) c.fetch-front.new.photo.items r) c.in-Gone.is read.1 in
+    let legal = read_shown g.D.Disk.files g.D.Piece.Piece.Tells g.D.Disk.fault_count g.D.Disk.fuse_count g.A.Arm.fault_count c.args.self.now c.fetch-front.new.self (c.args.self.now).settings k c.args.tag c.args.start c.args.pair c.args.volume c.in-Gone.replica c.machine_of-in-Gone.result c.fetch-front.result.0 c.rows-rows.result outcome.Nothing
+    (subst (λ (s : Settings). IsBuilt s) same c.self.invariant.built) c.requires.volume home read.0 (c.rows-rows.ensures.known tells k stands)
+    (c.machine_of-in-Gone.ensures.is ∙ ap (λ (s : Settings). machine_of s c.args.volume c.in-Gone.replica) same) stands read.2 shows in
+    record { known = (read.2).known; legal = legal; stands = (read.2).stands }
+
+pub returns-in-WrongCookie-clause-shown : goal.returns-in-WrongCookie-clause-shown
+returns-in-WrongCookie-clause-shown g c = λ tells k stands home.
+    let same : c.self.inside.settings ≡ (c.args.self.now).settings = ap (λ (st : Open g.row.D.Denot g.row.D-Piece.Denot g.row.A.Denot). st.settings) c.self.view_is ∙ c.fetch-front.ensures.settings in
+    let read = c.fetch-front.ensures.read tells k stands in
+    let shows = subst (λ (r : ReadReply). Answers c.args.start c.args.cookie (slice_index (map g.A.Arm.fault_count (c.args.self.now).arms) c.args.tag.lane) (slice_index (map g.A.Arm.fault_count (c.fetch-front.new.self).arms) c.args.tag.lane) (outcomes_of (c.args.self.now).settings (volume_at k c.args.volume) c.args.pair) c.fetch-front.new.photo.items r) c.in-WrongCookie.is read.1 in
+    let legal = read_shown g.D.Disk.files g.D.Piece.Piece.Tells g.D.Disk.fault_count g.D.Disk.fuse_count g.A.Arm.fault_count c.args.self.now c.fetch-front.new.self (c.args.self.now).settings k c.args.tag c.args.start c.args.pair c.args.volume c.in-WrongCookie.replica c.machine_of-in-WrongCookie.result c.fetch-front.result.0 c.rows-rows.result (outcome.Photo shows.0)
+    (subst (λ (s : Settings). IsBuilt s) same c.self.invariant.built) c.requires.volume home read.0 (c.rows-rows.ensures.known tells k stands)
+    (c.machine_of-in-WrongCookie.ensures.is ∙ ap (λ (s : Settings). machine_of s c.args.volume c.in-WrongCookie.replica) same) stands read.2 shows.2 in
+    record { known = (read.2).known; legal = (shows.0.cookie, shows.0.bytes, shows.1, legal); stands = (read.2).stands }
+
+pub returns-in-Ok-passed_of-clause-shown : goal.returns-in-Ok-passed_of-clause-shown
+returns-in-Ok-passed_of-clause-shown g c = λ tells k stands home.
+    let same : c.self.inside.settings ≡ (c.args.self.now).settings = ap (λ (st : Open g.row.D.Denot g.row.D-Piece.Denot g.row.A.Denot). st.settings) c.self.view_is ∙ c.fetch-front.ensures.settings in
+    let read = c.fetch-front.ensures.read tells k stands in
+    let shows = subst (λ (r : ReadReply). Answers c.args.start c.args.cookie (slice_index (map g.A.Arm.fault_count (c.args.self.now).arms) c.args.tag.lane) (slice_index (map g.A.Arm.fault_count (c.fetch-front.new.self).arms) c.args.tag.lane) (outcomes_of (c.args.self.now).settings (volume_at k c.args.volume) c.args.pair) c.fetch-front.new.photo.items r) c.in-Unreadable.is read.1 in
+    let causes = c.fetch-front.ensures.causes in
+    let passes = subst (λ (r : ReadReply). HasCauses c.args.start causes.0 (slice_index (map g.A.Arm.fault_count (c.args.self.now).arms) c.args.tag.lane) (slice_index (map g.A.Arm.fault_count (c.fetch-front.new.self).arms) c.args.tag.lane) r) c.in-Unreadable.is causes.2 in
+    let is : c.in-Ok-passed_of.causes ≡ map (passed_at (c.args.self.now).settings c.args.volume) c.in-Unreadable.causes =
+    c.in-Ok-passed_of.ensures ∙ ap (λ (over : List PassedReplica). map (passed_at c.self.inside.settings c.args.volume) over) c.as_slice.ensures.is
+    ∙ ap (λ (s : Settings). map (passed_at s c.args.volume) c.in-Unreadable.causes) same in
+    record {
+      known = (read.2).known;
+      legal = read_unreadable g.D.Disk.files g.D.Piece.Piece.Tells g.D.Disk.fault_count g.D.Disk.fuse_count g.A.Arm.fault_count c.args.self.now c.fetch-front.new.self (c.args.self.now).settings k c.args.tag c.args.start c.args.pair c.args.volume c.fetch-front.result.0 c.rows-rows.result causes.0 c.in-Unreadable.causes c.in-Ok-passed_of.causes causes.1
+          home read.0 (c.rows-rows.ensures.known tells k stands) is stands read.2 passes shows;
+      stands = (read.2).stands;
+    }
+
+pub returns-in-Ok-passed_of-clause-causes : goal.returns-in-Ok-passed_of-clause-causes
+returns-in-Ok-passed_of-clause-causes g c =
+    let same : c.self.inside.settings ≡ (c.args.self.now).settings = ap (λ (st : Open g.row.D.Denot g.row.D-Piece.Denot g.row.A.Denot). st.settings) c.self.view_is ∙ c.fetch-front.ensures.settings in
+    let causes = c.fetch-front.ensures.causes in
+    let passes = subst (λ (r : ReadReply). HasCauses c.args.start causes.0 (slice_index (map g.A.Arm.fault_count (c.args.self.now).arms) c.args.tag.lane) (slice_index (map g.A.Arm.fault_count (c.fetch-front.new.self).arms) c.args.tag.lane) r) c.in-Unreadable.is causes.2 in
+    let is : c.in-Ok-passed_of.causes ≡ map (passed_at (c.args.self.now).settings c.args.volume) c.in-Unreadable.causes =
+    c.in-Ok-passed_of.ensures ∙ ap (λ (over : List PassedReplica). map (passed_at c.self.inside.settings c.args.volume) over) c.as_slice.ensures.is
+    ∙ ap (λ (s : Settings). map (passed_at s c.args.volume) c.in-Unreadable.causes) same in
+    let before : Counts = record { disks = map g.D.Disk.fault_count (disks_of c.args.self.now); arms = map g.A.Arm.fault_count (c.args.self.now).arms } in
+    let after : Counts = record { disks = map g.D.Disk.fault_count (disks_of c.fetch-front.new.self); arms = map g.A.Arm.fault_count (c.fetch-front.new.self).arms } in
+    subst (λ (all : List Passed). AllByRecursion (λ (passed : Passed). CauseCameUp (c.args.self.now).settings c.args.tag.lane c.args.volume before after passed.machine passed.cause) all) (sym is)
+    (causes_told (c.args.self.now).settings c.args.tag.lane c.args.volume before after c.in-Unreadable.causes passes.each)
+
+pub passed_of-requires : goal.passed_of-requires
+passed_of-requires g c = c.self.invariant.built
+
+pub returns-clause-shown : goal.returns-clause-shown
+returns-clause-shown g c = λ tells k stands home.
+    let read = c.fetch-front.ensures.read tells k stands in
+    record { known = (read.2).known; legal = inl (read.2).leaves; stands = (read.2).stands }
+
+pub returns-in-Photo-clause-counts : goal.returns-in-Photo-clause-counts
+returns-in-Photo-clause-counts g c = same_falls g.D.Disk.fault_count (disks_of c.args.self.now) (disks_of c.fetch-front.new.self) c.fetch-front.ensures.disks
+
+pub machine_of-requires : goal.machine_of-requires
+machine_of-requires g c = (c.self.invariant.built).some_machines
+
+pub returns-in-Gone-clause-counts : goal.returns-in-Gone-clause-counts
+returns-in-Gone-clause-counts g c = same_falls g.D.Disk.fault_count (disks_of c.args.self.now) (disks_of c.fetch-front.new.self) c.fetch-front.ensures.disks
+
+pub machine_of-requires-in-Gone : goal.machine_of-requires-in-Gone
+machine_of-requires-in-Gone g c = (c.self.invariant.built).some_machines
+
+pub returns-in-WrongCookie-clause-counts : goal.returns-in-WrongCookie-clause-counts
+returns-in-WrongCookie-clause-counts g c = same_falls g.D.Disk.fault_count (disks_of c.args.self.now) (disks_of c.fetch-front.new.self) c.fetch-front.ensures.disks
+
+pub machine_of-requires-in-WrongCookie : goal.machine_of-requires-in-WrongCookie
+machine_of-requires-in-WrongCookie g c = (c.self.invariant.built).some_machines
+
+pub returns-in-Ok-passed_of-clause-counts : goal.returns-in-Ok-passed_of-clause-counts
+returns-in-Ok-passed_of-clause-counts g c = same_falls g.D.Disk.fault_count (disks_of c.args.self.now) (disks_of c.fetch-front.new.self) c.fetch-front.ensures.disks
+
+pub returns-clause-counts : goal.returns-clause-counts
+returns-clause-counts g c = same_falls g.D.Disk.fault_count (disks_of c.args.self.now) (disks_of c.fetch-front.new.self) c.fetch-front.ensures.disks

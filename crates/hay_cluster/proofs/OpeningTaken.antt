@@ -1,0 +1,240 @@
+-- What a store is that was put together of the disks and arms of a shelf, and what is given back of it.
+use Rattle.std.proofs.Common.{◌≡◌, ℕ, zero, suc, ◌+◌, ◌*◌, ◌<◌, ◌≤◌, ◌⊎◌, inl, inr, List, [], ◌∷◌, length, map, Some, None, refl, sym, ap, subst, ◌∙◌, arith}
+use Rattle.std.specs.Prelude.{slice_get, slice_index, Result, Err, OnErr}
+use Rattle.std.specs.List.{AllByRecursion, AllZip, flat_map}
+use Rattle.hay_disk.specs.Counts.{Rose}
+use Rattle.hay_disk.specs.Disk.{Files, IsImage, IsSolid}
+use Rattle.hay_disk.specs.Shelf.{HeldArm, HeldDisk}
+use Rattle.hay_disk.proofs.Images.{solid_whole}
+use Rattle.hay_mount.specs.Mounts.{InOrder, IsGivenDisk, IsMountedArm, IsMountedDisk}
+use Rattle.hay_mount.proofs.Orders.{InOrder-front, InOrder-rest}
+use Rattle.hay_legal.specs.Known.{NoneFalls, disk_count, slot_of}
+use Rattle.hay_directory.specs.State as directory
+use Rattle.hay_physical.specs.Copies.{Copy}
+use Rattle.hay_logical.specs.Fits.{At}
+use Rattle.hay_logical.specs.Stands.{IsIdle}
+use Rattle.hay_logical.specs.Volumes.{IsClosed, Volume}
+use Rattle.hay_cluster.specs.declared.fault.ClusterFault.{ClusterFault}
+use Rattle.hay_cluster.specs.declared.fault.ClusterFault.TheVariants.{Shelf, Failed, Damaged, NoMemory}
+use Rattle.hay_cluster.specs.Causes.{HasFaultCause}
+use Rattle.hay_cluster.specs.Opening.{IsAtRest, MovesDirectory, MovesVolume, RefusesParts}
+use Rattle.hay_cluster.specs.Outside.{CountsOn, IsKept}
+use Rattle.hay_cluster.specs.Store.{IsShaped, Open, disk_of, disks_of, volume_disks}
+use Rattle.hay_cluster.proofs.ClosingStore.{disks_many, index_of, order_flat, order_get, order_item, volumes_long}
+use Rattle.hay_cluster.proofs.Lists.{AllZip-append}
+use Rattle.hay_cluster.proofs.Moves.{disk_at, falls_at}
+use Rattle.hay_cluster.proofs.OpeningStore.{MovedParts, faults_moved, fuses_moved, opening_cause}
+
+-- WHY DISKS WERE NOT TAKEN
+
+-- the shelf failed, or memory was wanting
+abbrev pub IsTakingFault : ℕ → ℕ → ClusterFault → Type 0
+IsTakingFault before after fault = (fault ≡ NoMemory) ⊎ ((count : ℕ) × (fault ≡ Shelf count) × Rose before after × (count ≡ after))
+
+not_memory_shelf : (fault : ClusterFault) (count : ℕ) → fault ≡ NoMemory → fault ≡ Shelf count → ⊥
+not_memory_shelf fault count memory is = let both : NoMemory ≡ Shelf count = sym memory ∙ is in absurd cc
+
+not_memory_failed : (fault : ClusterFault) (slot count : ℕ) → fault ≡ NoMemory → fault ≡ Failed slot count → ⊥
+not_memory_failed fault slot count memory is = let both : NoMemory ≡ Failed slot count = sym memory ∙ is in absurd cc
+
+pub not_memory_damaged : (fault : ClusterFault) (slot file at : ℕ) → fault ≡ NoMemory → fault ≡ Damaged slot file at → ⊥
+not_memory_damaged fault slot file at memory is = let both : NoMemory ≡ Damaged slot file at = sym memory ∙ is in absurd cc
+
+pub taking_shelf : (before after : ℕ) (fault : ClusterFault) (count : ℕ) → IsTakingFault before after fault → fault ≡ Shelf count → Rose before after × (count ≡ after)
+taking_shelf before after fault count (inl memory) is = absurd (not_memory_shelf fault count memory is)
+taking_shelf before after fault count (inr (n, told, rose, same)) is = let both : Shelf n ≡ Shelf count = sym told ∙ is in let e : n ≡ count = cc in (rose, sym e ∙ same)
+
+pub taking_failed : (before after : ℕ) (fault : ClusterFault) (slot count : ℕ) → IsTakingFault before after fault → fault ≡ Failed slot count → ⊥
+taking_failed before after fault slot count (inl memory) is = not_memory_failed fault slot count memory is
+taking_failed before after fault slot count (inr (n, told, rose, same)) is = let both : Shelf n ≡ Failed slot count = sym told ∙ is in absurd cc
+
+pub taking_damaged : (before after : ℕ) (fault : ClusterFault) (slot file at : ℕ) → IsTakingFault before after fault → fault ≡ Damaged slot file at → ⊥
+taking_damaged before after fault slot file at (inl memory) is = not_memory_damaged fault slot file at memory is
+taking_damaged before after fault slot file at (inr (n, told, rose, same)) is = let both : Shelf n ≡ Damaged slot file at = sym told ∙ is in absurd cc
+
+-- the exit of a `?`
+pub passed_back : {T E : Type 0} (r : Result T E) (Q : Type 0) (y : E) → r ≡ Err y → Q → OnErr r Q
+passed_back r Q y e q = subst (λ s. OnErr s Q) (sym e) q
+
+pub one_fault : {T E : Type 0} (r : Result T E) (y z : E) → r ≡ Err y → r ≡ Err z → y ≡ z
+one_fault r y z first second = cc
+
+-- ITEMS OF TWO LISTS BY THEIR NUMBERS
+
+pair_at : {X : Type 0} (P Q : ℕ → X → Type 0) (R : X → X → Type 0) (C : ℕ → Type 0) (n : ℕ) (xs ys : List X) → ((k : ℕ) (x y : X) → P k x → Q k y → R x y → C k) → InOrder P n xs → InOrder Q n ys → AllZip R xs ys
+    → (i k : ℕ) → k ≡ n + i → i < length xs → C k
+pair_at P Q R C n [] ys f ps qs rs i k is below = absurd (omega (arith, below))
+pair_at P Q R C n (x ∷ xs) [] f ps qs rs i k is below = absurd rs
+pair_at P Q R C n (x ∷ xs) (y ∷ ys) f ps qs rs zero k is below = let here : n ≡ k = omega (arith, is) in subst (λ m. C m) here (f n x y ps.0 qs.0 rs.0)
+pair_at P Q R C n (x ∷ xs) (y ∷ ys) f ps qs rs (suc i) k is below =
+    let place : k ≡ n + 1 + i = omega (arith, is) in
+    let less : i < length xs = omega (arith, below) in
+    pair_at P Q R C (n + 1) xs ys f ps.1 qs.1 rs.1 i k place less
+
+void_or : (l : List ℕ) → (l ≡ []) ⊎ (l ≡ [] → ⊥)
+void_or [] = inl refl
+void_or (byte ∷ bytes) = inr (λ is. absurd cc)
+
+some_of : (l : List ℕ) → (l ≡ [] → ⊥) → 0 < length l
+some_of [] none = absurd (none refl)
+some_of (byte ∷ bytes) none = omega arith
+
+-- an item of a store by its volume and replica
+pub in_volume : {D P A : Type 0} (Q : ℕ → D → Type 0) (store : Open D P A) (v j : ℕ) (x : Volume D P) (r : Copy D) → IsShaped store → At store.volumes v x → At x.replicas j r → InOrder Q 0 (disks_of store)
+    → Q (slot_of store.settings v j) r.disk
+in_volume Q store v j x r shape at there all =
+    let place : slot_of store.settings v j ≡ 1 + (v * (store.settings).replicas + j) = omega arith in
+    order_flat Q volume_disks (store.settings).replicas 1 store.volumes v j (slot_of store.settings v j) x r.disk (volumes_long store.settings 0 store.volumes shape.volumes) place at (disk_at x.replicas j r there) all.1
+
+-- what an opening does to a disk that is wholly solid: one that is not void keeps its bytes, and is solid
+abbrev KeepsSolid : {D : Type 0} → (D → Files) → D → D → Type 0
+KeepsSolid files d d' = ((files d 0).now ≡ [] → ⊥) → ((n : ℕ) → IsSolid (files d n)) → (n : ℕ) → ((files d' n).now ≡ (files d n).now) × IsSolid (files d' n)
+
+module _ {D : Type 0} (DiskTells : Type 0) (files : D → Files) (faults fuses : D → ℕ) where
+  copies_keep : (old new : List (Copy D)) → length new ≡ length old → ((j : ℕ) (r r' : Copy D) → At old j r → At new j r' → KeepsSolid files r.disk r'.disk) → AllZip (KeepsSolid files) (map disk_of old) (map disk_of new)
+  copies_keep [] [] many keeps = tt
+  copies_keep [] (r' ∷ new) many keeps = absurd (omega (arith, many))
+  copies_keep (r ∷ old) [] many keeps = absurd (omega (arith, many))
+  copies_keep (r ∷ old) (r' ∷ new) many keeps =
+      (keeps 0 r r' refl refl, copies_keep old new (let less : length new ≡ length old = omega (arith, many) in less) (λ j s s' at at'. keeps (suc j) s s' at at'))
+
+  directory_keeps : DiskTells → (d d' : directory.State D) → MovesDirectory DiskTells files faults fuses d d' → KeepsSolid files d.disk d'.disk
+  directory_keeps tells d d' moves some solid n =
+      let same : files d'.disk ≡ files d.disk = moves.same tells (some_of (files d.disk 0).now some) in
+      (ap (λ (f : Files). (f n).now) same, subst (λ (f : Files). IsSolid (f n)) (sym same) (solid n))
+
+  one_kept : DiskTells → (held held' : HeldDisk) (d d' : D) → IsMountedDisk DiskTells files faults fuses held d → IsGivenDisk DiskTells files faults fuses held' d' → KeepsSolid files d d' → IsKept held held'
+  one_kept tells held held' d d' taken given keeps = elim (void_or ((held.files 0).now)) [
+    | inl void ↦ inl void
+    | inr some ↦ inr (inr (λ image may n.
+        let k = keeps (λ none. some (sym (taken.now tells 0) ∙ none)) (taken.solid tells) n in
+        solid_whole (files d' n) (image n) k.1 (subst (λ (f : Files). IsImage (f n) (image n)) (given.files_are tells) (may n)) ∙ k.0 ∙ taken.now tells n))
+  ]
+
+module _ {D P A : Type 0} (DiskTells : Type 0) (files : D → Files) (Tells : Type 0) (faults fuses : D → ℕ) (arm_faults : A → ℕ) where
+  volumes_keep : DiskTells → (xs ys : List (Volume D P)) → AllZip (MovesVolume DiskTells files Tells faults fuses) xs ys → AllZip (KeepsSolid files) (flat_map volume_disks xs) (flat_map volume_disks ys)
+  volumes_keep tells [] [] all = tt
+  volumes_keep tells [] (y ∷ ys) all = absurd all
+  volumes_keep tells (x ∷ xs) [] all = absurd all
+  volumes_keep tells (x ∷ xs) (y ∷ ys) all =
+      AllZip-append (KeepsSolid files) (volume_disks x) (flat_map volume_disks xs) (volume_disks y) (flat_map volume_disks ys)
+      (copies_keep DiskTells files faults fuses x.replicas y.replicas (all.0).counts.count (λ j r r' at at' some solid n. (all.0).kept tells j r r' at at' some n))
+      (volumes_keep tells xs ys all.1)
+
+  disks_keep : DiskTells → (old new : Open D P A) → MovedParts DiskTells files Tells faults fuses arm_faults old new → AllZip (KeepsSolid files) (disks_of old) (disks_of new)
+  disks_keep tells old new m = (directory_keeps DiskTells files faults fuses tells old.directory new.directory m.directory, volumes_keep tells old.volumes new.volumes m.volumes)
+
+  module _ (disks : ℕ → HeldDisk) (arms : ℕ → HeldArm) where
+    -- A closed store of these disks and arms.
+    pub record IsTaken (store : Open D P A) : Type 0 where
+      pub shape : IsShaped store
+      pub fresh : directory.IsFresh store.directory
+      pub closed : AllByRecursion IsClosed store.volumes
+      pub unsure : AllByRecursion (λ volume. volume.unsure ≡ None) store.volumes
+      pub disks_are : InOrder (λ slot disk. IsMountedDisk DiskTells files faults fuses (disks slot) disk) 0 (disks_of store)
+      pub arms_are : InOrder (λ lane arm. IsMountedArm arm_faults (arms lane) arm) 0 store.arms
+
+    pub is_taken : (store : Open D P A) (ds : List D) (as' : List A) → IsShaped store → directory.IsFresh store.directory → AllByRecursion IsClosed store.volumes → AllByRecursion (λ volume. volume.unsure ≡ None) store.volumes
+        → disks_of store ≡ ds → store.arms ≡ as' → InOrder (λ slot disk. IsMountedDisk DiskTells files faults fuses (disks slot) disk) 0 ds → InOrder (λ lane arm. IsMountedArm arm_faults (arms lane) arm) 0 as' → IsTaken store
+    is_taken store ds as' shape fresh closed unsure same_disks same_arms mounted mounted_arms = record {
+      shape = shape;
+      fresh = fresh;
+      closed = closed;
+      unsure = unsure;
+      disks_are = subst (λ (l : List D). InOrder (λ slot disk. IsMountedDisk DiskTells files faults fuses (disks slot) disk) 0 l) (sym same_disks) mounted;
+      arms_are = subst (λ (l : List A). InOrder (λ lane arm. IsMountedArm arm_faults (arms lane) arm) 0 l) (sym same_arms) mounted_arms;
+    }
+
+    pub taken_rests : (store : Open D P A) → IsTaken store → IsAtRest DiskTells files store.directory
+    taken_rests store t = record {
+      closed = ap directory.is_closed t.fresh;
+      solid = λ tells. (t.disks_are).0.solid tells 0;
+      free = λ tells. (t.disks_are).0.free tells 0;
+    }
+
+    idle_each : DiskTells → (n : ℕ) (vs : List (Volume D P)) → AllByRecursion IsClosed vs → InOrder (λ slot disk. IsMountedDisk DiskTells files faults fuses (disks slot) disk) n (flat_map volume_disks vs)
+        → AllByRecursion (IsIdle files) vs
+    idle_each tells n [] closed all = tt
+    idle_each tells n (x ∷ vs) closed all =
+        let front = InOrder-front (λ slot disk. IsMountedDisk DiskTells files faults fuses (disks slot) disk) n (volume_disks x) (flat_map volume_disks vs) all in
+        let rest = InOrder-rest (λ slot disk. IsMountedDisk DiskTells files faults fuses (disks slot) disk) n (volume_disks x) (flat_map volume_disks vs) all in (
+          λ j r at.
+              let taken = order_get (λ slot disk. IsMountedDisk DiskTells files faults fuses (disks slot) disk) n (volume_disks x) j (n + j) r.disk refl (disk_at x.replicas j r at) front in
+              record { closed = closed.0 j r at; solid = taken.solid tells; free = taken.free tells },
+          idle_each tells (n + length (volume_disks x)) vs closed.1 rest,
+        )
+
+    pub taken_idle : DiskTells → (store : Open D P A) → IsTaken store → AllByRecursion (IsIdle files) store.volumes
+    taken_idle tells store t = idle_each tells 1 store.volumes t.closed (t.disks_are).1
+
+    taken_disk : (store : Open D P A) → IsTaken store → (slot : ℕ) → slot < disk_count store.settings
+        → (disk : D) × (slice_get (disks_of store) slot ≡ Some disk) × IsMountedDisk DiskTells files faults fuses (disks slot) disk
+    taken_disk store t slot below =
+        let many = disks_many store t.shape in
+        let there = order_item (disks_of store) slot (let less : slot < length (disks_of store) = omega (arith, below, many) in less) in
+        let place : slot ≡ 0 + slot = omega arith in
+        (there.0, there.1, order_get (λ n disk. IsMountedDisk DiskTells files faults fuses (disks n) disk) 0 (disks_of store) slot slot there.0 place there.1 t.disks_are)
+
+    taken_faults : (store : Open D P A) → IsTaken store → (slot : ℕ) → slot < disk_count store.settings → slice_index (map faults (disks_of store)) slot ≡ (disks slot).fault_count
+    taken_faults store t slot below = let i = taken_disk store t slot below in index_of faults (disks_of store) slot i.0 i.1 ∙ (i.2).fault_count
+
+    taken_fuses : (store : Open D P A) → IsTaken store → (slot : ℕ) → slot < disk_count store.settings → slice_index (map fuses (disks_of store)) slot ≡ (disks slot).fuse_count
+    taken_fuses store t slot below = let i = taken_disk store t slot below in index_of fuses (disks_of store) slot i.0 i.1 ∙ (i.2).fuse_count
+
+    -- the counts of a store that was opened, or was not
+    pub moved_counts : (old new : Open D P A) → IsTaken old → MovedParts DiskTells files Tells faults fuses arm_faults old new → (slot : ℕ) → slot < disk_count old.settings
+        → CountsOn (disks slot) (slice_index (map faults (disks_of new)) slot) (slice_index (map fuses (disks_of new)) slot)
+    moved_counts old new t m slot below =
+        let falls : NoneFalls (map faults (disks_of old)) (map faults (disks_of new)) = faults_moved DiskTells files Tells faults fuses arm_faults old new m in
+        let rises : slice_index (map faults (disks_of old)) slot ≤ slice_index (map faults (disks_of new)) slot = falls_at (map faults (disks_of old)) (map faults (disks_of new)) slot falls in
+        record {
+          faults_rise = subst (λ n. n ≤ slice_index (map faults (disks_of new)) slot) (taken_faults old t slot below) rises;
+          fuses_are = ap (λ (ns : List ℕ). slice_index ns slot) (fuses_moved DiskTells files Tells faults fuses arm_faults old new m) ∙ taken_fuses old t slot below;
+        }
+
+    pub moved_arms : (old new : Open D P A) → IsTaken old → new.arms ≡ old.arms → (lane : ℕ) → lane < 8 → slice_index (map arm_faults new.arms) lane ≡ (arms lane).fault_count
+    moved_arms old new t same lane below =
+        let many = (t.shape).lanes in
+        let there = order_item old.arms lane (let less : lane < length old.arms = omega (arith, below, many) in less) in
+        let place : lane ≡ 0 + lane = omega arith in
+        ap (λ (l : List A). slice_index (map arm_faults l) lane) same ∙ index_of arm_faults old.arms lane there.0 there.1
+        ∙ order_get (λ n arm. IsMountedArm arm_faults (arms n) arm) 0 old.arms lane lane there.0 place there.1 t.arms_are
+
+    -- WHAT IS GIVEN BACK OF A STORE THAT WAS NOT OPENED
+
+    pub back_kept : DiskTells → (old new : Open D P A) (after : ℕ → HeldDisk) → IsTaken old → MovedParts DiskTells files Tells faults fuses arm_faults old new
+        → InOrder (λ slot disk. IsGivenDisk DiskTells files faults fuses (after slot) disk) 0 (disks_of new) → (slot : ℕ) → slot < disk_count old.settings → IsKept (disks slot) (after slot)
+    back_kept tells old new after t m given slot below =
+        let many = disks_many old t.shape in
+        let place : slot ≡ 0 + slot = omega arith in
+        let less : slot < length (disks_of old) = omega (arith, below, many) in
+        pair_at (λ n disk. IsMountedDisk DiskTells files faults fuses (disks n) disk) (λ n disk. IsGivenDisk DiskTells files faults fuses (after n) disk) (KeepsSolid files) (λ n. IsKept (disks n) (after n)) 0 (disks_of old) (disks_of new)
+        (λ n d d' taken back keeps. one_kept DiskTells files faults fuses tells (disks n) (after n) d d' taken back keeps) t.disks_are given (disks_keep tells old new m) slot slot place less
+
+    pub back_counts : (old new : Open D P A) (after : ℕ → HeldDisk) → IsTaken old → MovedParts DiskTells files Tells faults fuses arm_faults old new
+        → ((slot : ℕ) → slot < disk_count old.settings → (after slot).fault_count ≡ slice_index (map faults (disks_of new)) slot)
+        → ((slot : ℕ) → slot < disk_count old.settings → (after slot).fuse_count ≡ slice_index (map fuses (disks_of new)) slot)
+        → (slot : ℕ) → slot < disk_count old.settings → CountsOn (disks slot) (after slot).fault_count (after slot).fuse_count
+    back_counts old new after t m given_faults given_fuses slot below =
+        let counts = moved_counts old new t m slot below in
+        let same = given_faults slot below in
+        record { faults_rise = subst (λ n. (disks slot).fault_count ≤ n) (sym same) counts.faults_rise; fuses_are = given_fuses slot below ∙ counts.fuses_are }
+
+    -- a disk's failure is told where its count rose
+    pub back_failed : (old new : Open D P A) (after : ℕ → HeldDisk) (fault : ClusterFault) → IsTaken old → MovedParts DiskTells files Tells faults fuses arm_faults old new
+        → RefusesParts DiskTells files faults old.settings old.directory new.directory old.volumes new.volumes fault
+        → ((slot : ℕ) → slot < disk_count old.settings → (after slot).fault_count ≡ slice_index (map faults (disks_of new)) slot)
+        → (slot count : ℕ) → fault ≡ Failed slot count → (slot < disk_count old.settings) × Rose (disks slot).fault_count (after slot).fault_count × (count ≡ (after slot).fault_count)
+    back_failed old new after fault t m refused given slot count is =
+        let cause : HasFaultCause old.settings (map faults (disks_of old)) (map faults (disks_of new)) (Failed slot count) =
+        subst (λ f. HasFaultCause old.settings (map faults (disks_of old)) (map faults (disks_of new)) f) is (opening_cause DiskTells files Tells faults fuses arm_faults old new fault t.shape m refused) in (
+          cause.0,
+          subst (λ n. Rose n (after slot).fault_count) (taken_faults old t slot cause.0) (subst (λ n. Rose (slice_index (map faults (disks_of old)) slot) n) (sym (given slot cause.0)) cause.1),
+          cause.2 ∙ sym (given slot cause.0),
+        )
+
+    -- the shelf has no part in it
+    pub back_shelf : (old new : Open D P A) (fault : ClusterFault) → IsTaken old → MovedParts DiskTells files Tells faults fuses arm_faults old new
+        → RefusesParts DiskTells files faults old.settings old.directory new.directory old.volumes new.volumes fault → (count : ℕ) → fault ≡ Shelf count → ⊥
+    back_shelf old new fault t m refused count is =
+        subst (λ f. HasFaultCause old.settings (map faults (disks_of old)) (map faults (disks_of new)) f) is (opening_cause DiskTells files Tells faults fuses arm_faults old new fault t.shape m refused)

@@ -1,0 +1,148 @@
+use Rattle.std.proofs.Common.{◌<◌, List, length, map, sym, ap, subst, ◌∙◌, arith}
+use Rattle.std.specs.Prelude.{slice_index_or, slice_set}
+use Rattle.std.proofs.lemmas.List.{with_items_is}
+use borrow.Author.Rules.{scaled_Fits}
+use Rattle.hay_needle.specs.declared.settings.Settings.{Settings}
+use Rattle.hay_map.specs.Places.{PlaceMeans}
+use Rattle.hay_legal.specs.Known.{NoneFalls, volume_at}
+use Rattle.hay_logical.specs.Fits.{At}
+use Rattle.hay_logical.specs.Volumes.{Volume}
+use Rattle.hay_logical.proofs.Lists.{at_read}
+use Rattle.hay_reader.specs.Shown.{Answers, HasCauses}
+use Rattle.hay_cluster.specs.Reads.{outcomes_of}
+use Rattle.hay_cluster.specs.State.{Stands}
+use Rattle.hay_cluster.specs.Store.{IsUp, Open, disks_of}
+use Rattle.hay_cluster.proofs.Rooms.{begin_room, item_room, looked_room, places_room, row_room}
+use Rattle.hay_cluster.proofs.Lists.{length-set}
+use Rattle.hay_cluster.proofs.Moves.{volume_of, volume_stood}
+use Rattle.hay_cluster.proofs.Showing.{counts_at, later_set, row_means, seat_comes}
+use Rattle.hay_cluster.proofs.cluster.Cluster.fetch.Goals as goal
+
+pub offset_bounds-as_slice-volume : goal.offset_bounds-as_slice-volume
+offset_bounds-as_slice-volume g c =
+    let within : c.args.volume < length c.self.inside.volumes.items = let same = ap (λ (st : Open g.row.D.Denot g.row.D-Piece.Denot g.row.A.Denot). (st.settings).volumes) c.self.view_is in omega (arith, c.requires.volume, c.self.invariant.many, same) in
+    let long = ap length c.as_slice.ensures.value in
+    omega (arith, within, long)
+
+pub offset_bounds-as_mut_slice-lane : goal.offset_bounds-as_mut_slice-lane
+offset_bounds-as_mut_slice-lane g c =
+    let inside : c.args.lane < length c.self.inside.seats.items = omega (arith, c.requires.lane, c.self.invariant.lanes) in
+    let long = ap length c.as_mut_slice.ensures.value in
+    scaled_Fits c.args.lane (length c.as_mut_slice.result.now) _ (omega (arith, inside, long)) c.as_mut_slice.type_inv.1
+
+pub look-front-requires-after_bounds : goal.look-front-requires-after_bounds
+look-front-requires-after_bounds g c = λ κs lives.
+    let within : c.args.volume < length c.self.inside.volumes.items = let same = ap (λ (st : Open g.row.D.Denot g.row.D-Piece.Denot g.row.A.Denot). (st.settings).volumes) c.self.view_is in omega (arith, c.requires.volume, c.self.invariant.many, same) in
+    let long = ap length c.as_slice.ensures.value in
+    let room = item_room (length c.as_slice.result.now) _ (let some : 0 < length c.as_slice.result.now = omega (arith, within, long) in some) c.as_slice.type_inv.1 in
+    (room, looked_room _ _ (omega arith) (begin_room _ _ _ room))
+
+pub show-read-requires-after_bounds : goal.show-read-requires-after_bounds
+show-read-requires-after_bounds g c = λ κs lives.
+    let store : Open g.row.D.Denot g.row.D-Piece.Denot g.row.A.Denot = record { settings = c.self.inside.settings; directory = c.self.inside.directory; volumes = c.self.inside.volumes.items; arms = c.self.inside.seats.items } in
+    let within : c.args.volume < length c.self.inside.volumes.items = let same = ap (λ (st : Open g.row.D.Denot g.row.D-Piece.Denot g.row.A.Denot). (st.settings).volumes) c.self.view_is in omega (arith, c.requires.volume, c.self.invariant.many, same) in
+    let volume = c.index-as_slice-volume.result in
+    let at : At store.volumes c.args.volume volume = subst (λ (w : Volume g.row.D.Denot g.row.D-Piece.Denot). At store.volumes c.args.volume w) (sym c.index-as_slice-volume.is)
+    (subst (λ (vs : List (Volume g.row.D.Denot g.row.D-Piece.Denot)). At vs c.args.volume (slice_index_or c.as_slice.result.now c.args.volume volume)) c.as_slice.ensures.value
+    (at_read c.as_slice.result.now c.args.volume volume (let long = ap length c.as_slice.ensures.value in omega (arith, within, long)))) in
+    let was = volume_of store c.args.volume volume c.self.invariant at in
+    let same = was.settings_are ∙ ap (λ (st : Open g.row.D.Denot g.row.D-Piece.Denot g.row.A.Denot). st.settings) c.self.view_is in
+    let long = ap length c.as_slice.ensures.value in
+    let room = item_room (length c.as_slice.result.now) _ (let some : 0 < length c.as_slice.result.now = omega (arith, within, long) in some) c.as_slice.type_inv.1 in
+    let start : c.args.start < length c.look-front.result.row = let row = c.look-front.ensures.long ∙ ap (λ (s : Settings). s.replicas) same in omega (arith, c.requires.start, row) in
+    (row_room _ _ (begin_room _ _ _ room), (start, (c.requires.empty, c.requires.room)))
+
+pub returns-clause-read : goal.returns-clause-read
+returns-clause-read g c = λ tells k stands.
+    let store : Open g.row.D.Denot g.row.D-Piece.Denot g.row.A.Denot = record { settings = c.self.inside.settings; directory = c.self.inside.directory; volumes = c.self.inside.volumes.items; arms = c.self.inside.seats.items } in
+    let within : c.args.volume < length c.self.inside.volumes.items = let same = ap (λ (st : Open g.row.D.Denot g.row.D-Piece.Denot g.row.A.Denot). (st.settings).volumes) c.self.view_is in omega (arith, c.requires.volume, c.self.invariant.many, same) in
+    let volume = c.index-as_slice-volume.result in
+    let at : At store.volumes c.args.volume volume = subst (λ (w : Volume g.row.D.Denot g.row.D-Piece.Denot). At store.volumes c.args.volume w) (sym c.index-as_slice-volume.is)
+    (subst (λ (vs : List (Volume g.row.D.Denot g.row.D-Piece.Denot)). At vs c.args.volume (slice_index_or c.as_slice.result.now c.args.volume volume)) c.as_slice.ensures.value
+    (at_read c.as_slice.result.now c.args.volume volume (let long = ap length c.as_slice.ensures.value in omega (arith, within, long)))) in
+    let was = volume_of store c.args.volume volume c.self.invariant at in
+    let same = was.settings_are ∙ ap (λ (st : Open g.row.D.Denot g.row.D-Piece.Denot g.row.A.Denot). st.settings) c.self.view_is in
+    let inside : c.args.lane < length c.self.inside.seats.items = omega (arith, c.requires.lane, c.self.invariant.lanes) in
+    let arm : g.row.A.Denot = slice_index_or c.as_mut_slice.result.now c.args.lane c.index-as_mut_slice-lane.result in
+    let seat : At store.arms c.args.lane arm = subst (λ (xs : List (g.row.A.Denot)). At xs c.args.lane arm) c.as_mut_slice.ensures.value
+    (at_read c.as_mut_slice.result.now c.args.lane c.index-as_mut_slice-lane.result (let long = ap length c.as_mut_slice.ensures.value in omega (arith, inside, long))) in
+    let items = with_items_is c.self.inside.seats (slice_set c.as_mut_slice.result.now c.args.lane c.show-read.new.self) (length-set c.as_mut_slice.result.now c.args.lane c.show-read.new.self ∙ c.as_mut_slice.ensures.len)
+    ∙ ap (λ (xs : List (g.row.A.Denot)). slice_set xs c.args.lane c.show-read.new.self) c.as_mut_slice.ensures.value in
+    let here = subst (λ (st : Open g.row.D.Denot g.row.D-Piece.Denot g.row.A.Denot). Stands g.D.Disk.files g.D.Piece.Piece.Tells g.D.Disk.fault_count g.D.Disk.fuse_count g.A.Arm.fault_count st k) (sym c.self.view_is) stands in
+    let known = c.look-front.ensures.known tells (volume_at k c.args.volume) (volume_stood g.D.Disk.files g.D.Piece.Piece.Tells g.D.Disk.fault_count g.D.Disk.fuse_count g.A.Arm.fault_count store k c.args.volume volume here at) in
+    let means = row_means (PlaceMeans g.D.Piece.Piece.Tells c.args.pair) c.look-front.result.row (c.args.self.now).settings (volume_at k c.args.volume) c.args.pair
+    (c.look-front.ensures.long ∙ ap (λ (s : Settings). s.replicas) same)
+    (λ j below. known.1 j (subst (λ (s : Settings). j < s.replicas) (sym same) below)) in
+    rw items (
+      known.0,
+      counts_at g.A.Arm.fault_count (λ before after. Answers c.args.start c.args.cookie before after (outcomes_of (c.args.self.now).settings (volume_at k c.args.volume) c.args.pair) c.show-read.new.out.items c.show-read.result)
+          (c.args.self.now).arms store.arms c.args.lane arm c.show-read.new.self (ap (λ (st : Open g.row.D.Denot g.row.D-Piece.Denot g.row.A.Denot). st.arms) c.self.view_is) seat
+          (c.show-read.ensures.shown c.args.pair _ means),
+      seat_comes g.D.Disk.files g.D.Piece.Piece.Tells g.D.Disk.fault_count g.D.Disk.fuse_count g.A.Arm.fault_count c.args.self.now store k c.args.lane arm c.show-read.new.self c.self.view_is stands seat c.show-read.ensures.later,
+    )
+
+pub returns-clause-causes : goal.returns-clause-causes
+returns-clause-causes g c =
+    let store : Open g.row.D.Denot g.row.D-Piece.Denot g.row.A.Denot = record { settings = c.self.inside.settings; directory = c.self.inside.directory; volumes = c.self.inside.volumes.items; arms = c.self.inside.seats.items } in
+    let within : c.args.volume < length c.self.inside.volumes.items = let same = ap (λ (st : Open g.row.D.Denot g.row.D-Piece.Denot g.row.A.Denot). (st.settings).volumes) c.self.view_is in omega (arith, c.requires.volume, c.self.invariant.many, same) in
+    let volume = c.index-as_slice-volume.result in
+    let at : At store.volumes c.args.volume volume = subst (λ (w : Volume g.row.D.Denot g.row.D-Piece.Denot). At store.volumes c.args.volume w) (sym c.index-as_slice-volume.is)
+    (subst (λ (vs : List (Volume g.row.D.Denot g.row.D-Piece.Denot)). At vs c.args.volume (slice_index_or c.as_slice.result.now c.args.volume volume)) c.as_slice.ensures.value
+    (at_read c.as_slice.result.now c.args.volume volume (let long = ap length c.as_slice.ensures.value in omega (arith, within, long)))) in
+    let was = volume_of store c.args.volume volume c.self.invariant at in
+    let same = was.settings_are ∙ ap (λ (st : Open g.row.D.Denot g.row.D-Piece.Denot g.row.A.Denot). st.settings) c.self.view_is in
+    let inside : c.args.lane < length c.self.inside.seats.items = omega (arith, c.requires.lane, c.self.invariant.lanes) in
+    let arm : g.row.A.Denot = slice_index_or c.as_mut_slice.result.now c.args.lane c.index-as_mut_slice-lane.result in
+    let seat : At store.arms c.args.lane arm = subst (λ (xs : List (g.row.A.Denot)). At xs c.args.lane arm) c.as_mut_slice.ensures.value
+    (at_read c.as_mut_slice.result.now c.args.lane c.index-as_mut_slice-lane.result (let long = ap length c.as_mut_slice.ensures.value in omega (arith, inside, long))) in
+    let items = with_items_is c.self.inside.seats (slice_set c.as_mut_slice.result.now c.args.lane c.show-read.new.self) (length-set c.as_mut_slice.result.now c.args.lane c.show-read.new.self ∙ c.as_mut_slice.ensures.len)
+    ∙ ap (λ (xs : List (g.row.A.Denot)). slice_set xs c.args.lane c.show-read.new.self) c.as_mut_slice.ensures.value in
+    rw items (
+      c.look-front.result.row,
+      c.look-front.ensures.long ∙ ap (λ (s : Settings). s.replicas) same,
+      counts_at g.A.Arm.fault_count (λ before after. HasCauses c.args.start c.look-front.result.row before after c.show-read.result)
+          (c.args.self.now).arms store.arms c.args.lane arm c.show-read.new.self (ap (λ (st : Open g.row.D.Denot g.row.D-Piece.Denot g.row.A.Denot). st.arms) c.self.view_is) seat
+          c.show-read.ensures.causes,
+    )
+
+pub returns-clause-arm_counts : goal.returns-clause-arm_counts
+returns-clause-arm_counts g c =
+    let store : Open g.row.D.Denot g.row.D-Piece.Denot g.row.A.Denot = record { settings = c.self.inside.settings; directory = c.self.inside.directory; volumes = c.self.inside.volumes.items; arms = c.self.inside.seats.items } in
+    let inside : c.args.lane < length c.self.inside.seats.items = omega (arith, c.requires.lane, c.self.invariant.lanes) in
+    let arm : g.row.A.Denot = slice_index_or c.as_mut_slice.result.now c.args.lane c.index-as_mut_slice-lane.result in
+    let seat : At store.arms c.args.lane arm = subst (λ (xs : List (g.row.A.Denot)). At xs c.args.lane arm) c.as_mut_slice.ensures.value
+    (at_read c.as_mut_slice.result.now c.args.lane c.index-as_mut_slice-lane.result (let long = ap length c.as_mut_slice.ensures.value in omega (arith, inside, long))) in
+    let items = with_items_is c.self.inside.seats (slice_set c.as_mut_slice.result.now c.args.lane c.show-read.new.self) (length-set c.as_mut_slice.result.now c.args.lane c.show-read.new.self ∙ c.as_mut_slice.ensures.len)
+    ∙ ap (λ (xs : List (g.row.A.Denot)). slice_set xs c.args.lane c.show-read.new.self) c.as_mut_slice.ensures.value in
+    rw items
+    (subst (λ (st : Open g.row.D.Denot g.row.D-Piece.Denot g.row.A.Denot). NoneFalls (map g.A.Arm.fault_count st.arms) (map g.A.Arm.fault_count (slice_set store.arms c.args.lane c.show-read.new.self))) c.self.view_is
+    (later_set g.A.Arm.fault_count store.arms c.args.lane arm c.show-read.new.self seat c.show-read.ensures.later))
+
+pub returns-clause-disks : goal.returns-clause-disks
+returns-clause-disks g c = ap (λ (st : Open g.row.D.Denot g.row.D-Piece.Denot g.row.A.Denot). disks_of st) c.self.view_is
+
+pub returns-clause-up : goal.returns-clause-up
+returns-clause-up g c =
+    let up : IsUp c.args.self.now = c.requires.up in
+    let store : Open g.row.D.Denot g.row.D-Piece.Denot g.row.A.Denot = record { settings = c.self.inside.settings; directory = c.self.inside.directory; volumes = c.self.inside.volumes.items; arms = c.self.inside.seats.items } in
+    let here : IsUp store = subst (λ (st : Open g.row.D.Denot g.row.D-Piece.Denot g.row.A.Denot). IsUp st) (sym c.self.view_is) up in
+    record { directory = here.directory; volumes = here.volumes }
+
+pub invariant_of-self : goal.invariant_of-self
+invariant_of-self g c =
+    let items = with_items_is c.self.inside.seats (slice_set c.as_mut_slice.result.now c.args.lane c.show-read.new.self) (length-set c.as_mut_slice.result.now c.args.lane c.show-read.new.self ∙ c.as_mut_slice.ensures.len)
+    ∙ ap (λ (xs : List (g.row.A.Denot)). slice_set xs c.args.lane c.show-read.new.self) c.as_mut_slice.ensures.value in
+    rw items (record {
+      built = c.self.invariant.built;
+      directory = c.self.invariant.directory;
+      many = c.self.invariant.many;
+      volumes = c.self.invariant.volumes;
+      lanes = length-set c.self.inside.seats.items c.args.lane c.show-read.new.self ∙ c.self.invariant.lanes;
+    })
+
+pub array_drop-row-inside-requires : goal.array_drop-row-inside-requires
+array_drop-row-inside-requires g c =
+    let within : c.args.volume < length c.self.inside.volumes.items = let same = ap (λ (st : Open g.row.D.Denot g.row.D-Piece.Denot g.row.A.Denot). (st.settings).volumes) c.self.view_is in omega (arith, c.requires.volume, c.self.invariant.many, same) in
+    let long = ap length c.as_slice.ensures.value in
+    let room = item_room (length c.as_slice.result.now) _ (let some : 0 < length c.as_slice.result.now = omega (arith, within, long) in some) c.as_slice.type_inv.1 in
+    places_room _ _ _ _ _ (row_room _ _ (begin_room _ _ _ room))

@@ -1,0 +1,70 @@
+use Rattle.std.proofs.Common.{◌≡◌, ◌<◌, ℕ, Option, Some, None, map, refl, sym, ap, subst, ◌∙◌}
+use Rattle.hay_needle.specs.declared.settings.Settings.{Settings}
+use Rattle.hay_reply.specs.declared.Reply.TheVariants as reply
+use Rattle.hay_legal.specs.Known.{home_of, replica_on}
+use Rattle.hay_legal.specs.Plain.{LegalGetAt}
+use Rattle.hay_cluster.specs.Store.{Open, disks_of}
+use Rattle.hay_cluster.proofs.Answering.{answered, stays}
+use Rattle.hay_cluster.proofs.Moves.{none_falls}
+use Rattle.hay_cluster.proofs.Showing.{get_command}
+use Rattle.hay_cluster.proofs.cluster.Cluster.get.Goals as goal
+
+pub returns-in_default-clause-legal : goal.returns-in_default-clause-legal
+returns-in_default-clause-legal g c = λ tells k stands.
+    let same = ap (λ (st : Open g.row.D.Denot g.row.D-Piece.Denot g.row.A.Denot). st.settings) c.self.view_is in
+    let there : replica_on (c.args.self.now).settings (c.args.url.now).volume (c.args.url.now).machine ≡ None = ap (λ (s : Settings). replica_on s (c.args.url.now).volume (c.args.url.now).machine) (sym same) ∙ sym c.replica_on.ensures.is ∙ c.in_default.is in
+    answered g.D.Disk.files g.D.Piece.Piece.Tells g.D.Disk.fault_count g.D.Disk.fuse_count g.A.Arm.fault_count c.args.self.now (c.args.self.now).settings k k c.args.tag _ reply.Nowhere refl
+    (subst (λ (o : Option ℕ). LegalGetAt (c.args.self.now).settings k c.args.tag c.args.url.now o reply.Nowhere k) (sym there) (stays k)) stands
+
+pub returns-in_default-home-clause-legal : goal.returns-in_default-home-clause-legal
+returns-in_default-home-clause-legal g c = λ tells k stands.
+    let same = ap (λ (st : Open g.row.D.Denot g.row.D-Piece.Denot g.row.A.Denot). st.settings) c.self.view_is in
+    let there : replica_on (c.args.self.now).settings (c.args.url.now).volume (c.args.url.now).machine ≡ Some c.in-Some.start = ap (λ (s : Settings). replica_on s (c.args.url.now).volume (c.args.url.now).machine) (sym same) ∙ sym c.replica_on.ensures.is ∙ c.in-Some.is in
+    let home : home_of k (c.args.url.now).pair ≡ None = sym (c.home.ensures.known tells k stands) ∙ c.in_default-home.is in
+    answered g.D.Disk.files g.D.Piece.Piece.Tells g.D.Disk.fault_count g.D.Disk.fuse_count g.A.Arm.fault_count c.args.self.now (c.args.self.now).settings k k c.args.tag _ (reply.Unknown c.rows.result) refl
+    (subst (λ (o : Option ℕ). LegalGetAt (c.args.self.now).settings k c.args.tag c.args.url.now o (reply.Unknown c.rows.result) k) (sym there)
+    (((home, c.rows.ensures.known tells k stands), stays k), tt)) stands
+
+pub returns-then-volume-url-clause-legal : goal.returns-then-volume-url-clause-legal
+returns-then-volume-url-clause-legal g c = λ tells k stands.
+    let same = ap (λ (st : Open g.row.D.Denot g.row.D-Piece.Denot g.row.A.Denot). st.settings) c.self.view_is in
+    let there : replica_on (c.args.self.now).settings (c.args.url.now).volume (c.args.url.now).machine ≡ Some c.in-Some.start = ap (λ (s : Settings). replica_on s (c.args.url.now).volume (c.args.url.now).machine) (sym same) ∙ sym c.replica_on.ensures.is ∙ c.in-Some.is in
+    let home : home_of k (c.args.url.now).pair ≡ Some c.in-Some-home.volume = sym (c.home.ensures.known tells k stands) ∙ c.in-Some-home.is in
+    answered g.D.Disk.files g.D.Piece.Piece.Tells g.D.Disk.fault_count g.D.Disk.fuse_count g.A.Arm.fault_count c.args.self.now (c.args.self.now).settings k k c.args.tag _ (reply.Moved c.in-Some-home.volume c.rows-then-volume-url.result) refl
+    (subst (λ (o : Option ℕ). LegalGetAt (c.args.self.now).settings k c.args.tag c.args.url.now o (reply.Moved c.in-Some-home.volume c.rows-then-volume-url.result) k) (sym there)
+    (home, c.if-volume-url.true, c.rows-then-volume-url.ensures.known tells k stands, stays k)) stands
+
+pub show-requires-clause-start : goal.show-requires-clause-start
+show-requires-clause-start g c = λ κs lives.
+    let same = ap (λ (st : Open g.row.D.Denot g.row.D-Piece.Denot g.row.A.Denot). st.settings) c.self.view_is in
+    subst (λ (s : Settings). c.in-Some.start < s.replicas) same (c.in-Some.ensures).within.0
+
+pub show-requires-clause-volume : goal.show-requires-clause-volume
+show-requires-clause-volume g c = λ κs lives. (c.in-Some-home.ensures).within
+
+pub returns-clause-legal : goal.returns-clause-legal
+returns-clause-legal g c = λ tells k stands.
+    let same = ap (λ (st : Open g.row.D.Denot g.row.D-Piece.Denot g.row.A.Denot). st.settings) c.self.view_is in
+    let there : replica_on (c.args.self.now).settings (c.args.url.now).volume (c.args.url.now).machine ≡ Some c.in-Some.start = ap (λ (s : Settings). replica_on s (c.args.url.now).volume (c.args.url.now).machine) (sym same) ∙ sym c.replica_on.ensures.is ∙ c.in-Some.is in
+    let home : home_of k (c.args.url.now).pair ≡ Some c.in-Some-home.volume = sym (c.home.ensures.known tells k stands) ∙ c.in-Some-home.is in
+    let shown = c.show.ensures.shown tells k stands home in
+    answered g.D.Disk.files g.D.Piece.Piece.Tells g.D.Disk.fault_count g.D.Disk.fuse_count g.A.Arm.fault_count c.show.new.self (c.args.self.now).settings k shown.known c.args.tag _ c.show.result c.show.ensures.settings
+    (get_command (c.args.self.now).settings k shown.known c.args.tag c.args.url.now c.in-Some.start c.in-Some-home.volume c.show.result there c.if-volume-url.false shown.legal c.show.ensures.here) shown.stands
+
+pub returns-in_default-clause-counts : goal.returns-in_default-clause-counts
+returns-in_default-clause-counts g c = none_falls (map g.D.Disk.fault_count (disks_of c.args.self.now))
+
+pub returns-in_default-clause-arm_counts : goal.returns-in_default-clause-arm_counts
+returns-in_default-clause-arm_counts g c = none_falls (map g.A.Arm.fault_count (c.args.self.now).arms)
+
+pub returns-in_default-home-clause-counts : goal.returns-in_default-home-clause-counts
+returns-in_default-home-clause-counts g c = none_falls (map g.D.Disk.fault_count (disks_of c.args.self.now))
+
+pub returns-in_default-home-clause-arm_counts : goal.returns-in_default-home-clause-arm_counts
+returns-in_default-home-clause-arm_counts g c = none_falls (map g.A.Arm.fault_count (c.args.self.now).arms)
+
+pub returns-then-volume-url-clause-counts : goal.returns-then-volume-url-clause-counts
+returns-then-volume-url-clause-counts g c = none_falls (map g.D.Disk.fault_count (disks_of c.args.self.now))
+
+pub returns-then-volume-url-clause-arm_counts : goal.returns-then-volume-url-clause-arm_counts
+returns-then-volume-url-clause-arm_counts g c = none_falls (map g.A.Arm.fault_count (c.args.self.now).arms)

@@ -1,0 +1,48 @@
+use Rattle.std.proofs.Common.{◌≡◌, None, Some, length, map, sym, ap, subst, ◌∙◌, refl}
+use Rattle.std.specs.Prelude.{Ok, Err}
+use Rattle.hay_directory.specs.declared.fault.DirFault.TheVariants as settling
+use Rattle.hay_needle.specs.declared.settings.Settings.{Settings}
+use Rattle.hay_legal.specs.Known.{refusal_of, taker_of}
+use Rattle.hay_script.specs.declared.Command.TheVariants as command
+use Rattle.hay_reply.specs.declared.Reply.{Reply}
+use Rattle.hay_cluster.specs.Causes.{HasCause}
+use Rattle.hay_cluster.specs.State.{Answered}
+use Rattle.hay_cluster.specs.Store.{disks_of}
+use Rattle.hay_cluster.proofs.Answering.{answered, cause_earlier, not_settled, put_command, refusal_same, taker_takes}
+use Rattle.hay_cluster.proofs.Moves.{falls_trans}
+use Rattle.hay_cluster.proofs.Puts.{put_legal}
+use Rattle.hay_cluster.proofs.cluster.Cluster.put_new.Goals as goal
+
+ok_not_err : {T E : Type 0} (x : T) (y : E) → Ok x ≡ Err y → ⊥
+ok_not_err x y is = absurd cc
+
+pub returns-in-Ok-clause-legal : goal.returns-in-Ok-clause-legal
+returns-in-Ok-clause-legal g c = λ tells k stands home taker.
+    let came = c.in-Ok.ensures.settled tells k stands in
+    let size = length c.args.bytes.now in
+    let takes = taker_takes (c.args.self.now).settings k c.args.pair size c.args.volume taker in
+    let still : refusal_of (c.settle.new.self).settings came.known size c.args.volume ≡ None =
+    ap (λ (s : Settings). refusal_of s came.known size c.args.volume) c.settle.ensures.settings
+    ∙ refusal_same (c.args.self.now).settings k came.known size c.args.volume (came.leaves).volumes (came.leaves).drained ∙ takes in
+    let stored = c.put_at.ensures.stored tells came.known came.stands still in
+    answered g.D.Disk.files g.D.Piece.Piece.Tells g.D.Disk.fault_count g.D.Disk.fuse_count g.A.Arm.fault_count c.put_at.new.self (c.settle.new.self).settings k stored.known c.args.tag _ c.put_at.result c.put_at.ensures.settings
+    (put_command (c.settle.new.self).settings k stored.known c.args.tag c.args.pair c.args.bytes.now c.put_at.result
+    (put_legal (c.settle.new.self).settings k came.known stored.known c.args.tag c.args.pair c.args.bytes.now c.args.volume c.put_at.result
+    (subst (λ (s : Settings). taker_of s k c.args.pair size ≡ Some c.args.volume) (sym c.settle.ensures.settings) taker)
+    (λ _. c.settle.ensures.thawed tells k stands (λ frozen. absurd (ok_not_err c.in-Ok.field-0 settling.Frozen (sym c.in-Ok.is ∙ frozen)))) came.leaves stored.stores)) stored.stands
+
+pub returns-in-Ok-clause-causes : goal.returns-in-Ok-clause-causes
+returns-in-Ok-clause-causes g c =
+    subst (λ (s : Settings). HasCause s c.args.tag.lane (record { disks = map g.D.Disk.fault_count (disks_of c.args.self.now); arms = map g.A.Arm.fault_count (c.args.self.now).arms }) (record { disks = map g.D.Disk.fault_count (disks_of c.put_at.new.self); arms = map g.A.Arm.fault_count (c.put_at.new.self).arms }) c.put_at.result) c.settle.ensures.settings
+    (cause_earlier (c.settle.new.self).settings c.args.tag.lane (record { disks = map g.D.Disk.fault_count (disks_of c.args.self.now); arms = map g.A.Arm.fault_count (c.args.self.now).arms }) (record { disks = map g.D.Disk.fault_count (disks_of c.settle.new.self); arms = map g.A.Arm.fault_count (c.settle.new.self).arms }) (record { disks = map g.D.Disk.fault_count (disks_of c.put_at.new.self); arms = map g.A.Arm.fault_count (c.put_at.new.self).arms }) c.put_at.result
+    c.settle.ensures.counts (ap (λ xs. map g.A.Arm.fault_count xs) c.settle.ensures.arms) c.put_at.ensures.causes)
+
+pub returns-in-Ok-clause-counts : goal.returns-in-Ok-clause-counts
+returns-in-Ok-clause-counts g c =
+    falls_trans (map g.D.Disk.fault_count (disks_of c.args.self.now)) (map g.D.Disk.fault_count (disks_of c.settle.new.self)) (map g.D.Disk.fault_count (disks_of c.put_at.new.self)) c.settle.ensures.counts c.put_at.ensures.counts
+
+pub returns-in-Err-clause-legal : goal.returns-in-Err-clause-legal
+returns-in-Err-clause-legal g c = λ tells k stands home taker.
+    subst (λ (r : Reply). Answered g.D.Disk.files g.D.Piece.Piece.Tells g.D.Disk.fault_count g.D.Disk.fuse_count g.A.Arm.fault_count k c.args.tag (command.Put c.args.pair c.args.bytes.now) r c.settle.new.self) (sym c.settle_refusal.ensures)
+    (not_settled g.D.Disk.files g.D.Piece.Piece.Tells g.D.Disk.fault_count g.D.Disk.fuse_count g.A.Arm.fault_count c.args.self.now c.settle.new.self (c.args.self.now).settings k c.args.tag c.args.pair c.args.bytes.now c.args.volume c.in-Err.fault c.settle.result c.in-Err.is refl c.settle.ensures.settings stands home taker
+    (c.settle.ensures.no_memory tells k stands) (λ f. c.settle.ensures.pending tells k f stands) (c.settle.ensures.thawed tells k stands) (c.settle.ensures.frozen tells k stands) c.settle.ensures.causes)

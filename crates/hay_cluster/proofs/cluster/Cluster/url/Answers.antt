@@ -1,0 +1,22 @@
+use Rattle.std.proofs.Common.{◌≡◌, Some, refl, sym, ap, ◌∙◌}
+use Rattle.hay_needle.specs.declared.settings.Settings.{Settings}
+use Rattle.hay_url.specs.Url.{cookie_of}
+use Rattle.hay_reply.specs.declared.Reply.TheVariants as reply
+use Rattle.hay_legal.specs.Known.{home_of, machine_of}
+use Rattle.hay_cluster.specs.Store.{Open}
+use Rattle.hay_cluster.proofs.Answering.{answered, stays}
+use Rattle.hay_cluster.proofs.cluster.Cluster.url.Goals as goal
+
+pub returns-clause-legal : goal.returns-clause-legal
+returns-clause-legal g c = λ tells k stands.
+    let same = ap (λ (st : Open g.row.D.Denot g.row.D-Piece.Denot g.row.A.Denot). st.settings) c.self.view_is in
+    let home : home_of k c.args.pair ≡ Some c.in-Some.volume = sym (c.home.ensures.known tells k stands) ∙ c.in-Some.is in
+    answered g.D.Disk.files g.D.Piece.Piece.Tells g.D.Disk.fault_count g.D.Disk.fuse_count g.A.Arm.fault_count c.args.self.now (c.args.self.now).settings k k c.args.tag _ (reply.Url c.rows-rows.result (record { machine = c.machine_of.result; volume = c.in-Some.volume; pair = c.args.pair; cookie = c.cookie_of.result })) refl
+    (record {
+      home = home;
+      pair_is = refl;
+      cookie = c.cookie_of.ensures ∙ ap (λ (s : Settings). cookie_of s.secret c.args.pair.key) same;
+      machine = c.machine_of.ensures.is ∙ ap (λ (s : Settings). machine_of s c.in-Some.volume c.start_of-start.result) same ∙ ap (λ j. machine_of (c.args.self.now).settings c.in-Some.volume j) c.start_of-start.ensures.is;
+      rows = c.rows-rows.ensures.known tells k stands;
+      leaves = stays k;
+    }) stands

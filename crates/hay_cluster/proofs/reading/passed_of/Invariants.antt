@@ -1,0 +1,6 @@
+use Rattle.std.proofs.Common.{◌≡◌, map, take}
+use Rattle.hay_cluster.specs.Reads.{passed_at}
+use Rattle.hay_cluster.proofs.reading.passed_of.Given as goal
+
+abbrev pub invariant-loop-over : goal.invariant-loop-over
+invariant-loop-over l = l.passed ≡ map (passed_at l.settings l.volume) (take l.over-index l.causes)

@@ -1,0 +1,26 @@
+-- How deletes and flushes are answered.
+use Rattle.std.specs.Prelude.{◌≡◌, ◌⊎◌, ℕ, [], ◌∷◌}
+use Rattle.hay_reply.specs.declared.Reply.{Reply}
+use Rattle.hay_reply.specs.declared.Reply.TheVariants.{Absent, Failed, ReadOnly, NoMem}
+use Rattle.hay_logical.specs.declared.fault.LogicalFault.{LogicalFault}
+use Rattle.hay_logical.specs.declared.fault.LogicalFault.TheVariants as refusal
+
+-- volume v is closed by this machine, if there is memory to say so
+abbrev pub IsReadOnly : ℕ → ℕ → Reply → Type 0
+IsReadOnly v m reply = (reply ≡ ReadOnly (record { volume = v; machine = m } ∷ [])) ⊎ (reply ≡ NoMem)
+
+-- how a delete is answered that volume v did not make
+abbrev pub IsDeleteReply : ℕ → ℕ → LogicalFault → Reply → Type 0
+IsDeleteReply v rows (refusal.Gone front) reply = reply ≡ Absent v front rows
+IsDeleteReply v rows (refusal.Failed m f) reply = reply ≡ Failed v m f
+IsDeleteReply v rows (refusal.ReadOnly m) reply = IsReadOnly v m reply
+IsDeleteReply v rows refusal.NoMemory reply = reply ≡ NoMem
+IsDeleteReply v rows (refusal.Full m end need capacity) reply = reply ≡ NoMem
+
+-- how a flush is answered that volume v did not make
+abbrev pub IsFlushReply : ℕ → LogicalFault → Reply → Type 0
+IsFlushReply v (refusal.Failed m f) reply = reply ≡ Failed v m f
+IsFlushReply v (refusal.ReadOnly m) reply = IsReadOnly v m reply
+IsFlushReply v refusal.NoMemory reply = reply ≡ NoMem
+IsFlushReply v (refusal.Gone front) reply = reply ≡ NoMem
+IsFlushReply v (refusal.Full m end need capacity) reply = reply ≡ NoMem

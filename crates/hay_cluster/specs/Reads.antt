@@ -1,0 +1,43 @@
+-- What a read of the store shows.
+use Rattle.std.specs.Prelude.{◌≡◌, ℕ, List, map}
+use Rattle.std.specs.List.{range_with_len}
+use Rattle.hay_needle.specs.declared.needle.Cookie.{Cookie}
+use Rattle.hay_needle.specs.declared.needle.Outcome.{Outcome}
+use Rattle.hay_needle.specs.declared.needle.Pair.{Pair}
+use Rattle.hay_needle.specs.declared.settings.Settings.{Settings}
+use Rattle.hay_needle.specs.Tables.{outcome_at}
+use Rattle.hay_disk.specs.Disk.{Files}
+use Rattle.hay_reply.specs.declared.Passed.{Passed}
+use Rattle.hay_reply.specs.declared.Reply.{Reply}
+use Rattle.hay_reply.specs.declared.Reply.TheVariants.{Photo, Gone, WrongCookie, Unreadable, NoMem}
+use Rattle.hay_core.specs.declared.entry.CoreTag.{CoreTag}
+use Rattle.hay_legal.specs.declared.known.Known.{Known}
+use Rattle.hay_legal.specs.declared.known.VolumeKnown.{VolumeKnown}
+use Rattle.hay_legal.specs.Known.{machine_of, now, replica_at}
+use Rattle.hay_legal.specs.Plain.{LegalShow}
+use Rattle.hay_reader.specs.declared.causes.PassedReplica.{PassedReplica}
+use Rattle.hay_cluster.specs.State.{Stands}
+use Rattle.hay_cluster.specs.Store.{Open}
+
+-- a replica of a volume that was passed over, by its machine
+abbrev pub passed_at : Settings → ℕ → PassedReplica → Passed
+passed_at settings v over = record { machine = machine_of settings v over.replica; cause = over.cause }
+
+-- A reader that starts at this replica is answered so.
+pub record ShownAs {D P A : Type 0} (files : D → Files) (Tells : Type 0) (faults fuses : D → ℕ) (arm_faults : A → ℕ) (settings : Settings) (k : Known) (tag : CoreTag) (start : ℕ) (pair : Pair) (cookie : Cookie) (reply : Reply) (store : Open D P A) : Type 0 where
+  pub known : Known
+  pub legal : LegalShow settings k tag start pair cookie reply known
+  pub stands : Stands files Tells faults fuses arm_faults store known
+
+-- a reply that shows, shows this volume
+abbrev pub ShowsIn : ℕ → Reply → Type 0
+ShowsIn volume (Photo v m p d bytes) = v ≡ volume
+ShowsIn volume (Gone v m p d) = v ≡ volume
+ShowsIn volume (WrongCookie v m p d) = v ≡ volume
+ShowsIn volume (Unreadable v p d causes) = v ≡ volume
+ShowsIn volume NoMem = Unit {0}
+ShowsIn volume _ = ⊥
+
+-- what each replica of a volume has of a pair
+abbrev pub outcomes_of : Settings → VolumeKnown → Pair → List Outcome
+outcomes_of settings volume pair = map (λ j. outcome_at (now volume (replica_at volume j)) pair) (range_with_len 0 settings.replicas)

@@ -1,0 +1,248 @@
+//! Deletes, flushes, drains and fuses, and the URLs of photos.
+ghost use Rattle.std.specs.Prelude.{◌≡◌, ℕ, map};
+ghost use Rattle.hay_script.specs.declared.Command.TheVariants as asks;
+ghost use Rattle.hay_core.specs.declared.entry.CoreTag.{CoreTag};
+ghost use Rattle.hay_legal.specs.declared.known.Known.{Known};
+ghost use Rattle.hay_legal.specs.Known.{NoneFalls};
+ghost use Rattle.hay_cluster.specs.Causes.{HasCause};
+ghost use Rattle.hay_cluster.specs.Changes.{IsDeleteReply, IsFlushReply, IsReadOnly};
+ghost use Rattle.hay_cluster.specs.State.{Answered, Stands};
+ghost use Rattle.hay_cluster.specs.Store.{IsUp, disks_of};
+
+use crate::closed::replica_on;
+use crate::cluster::Cluster;
+use hay_base::Listed;
+use hay_core::CoreTag;
+use hay_directory::machine_of;
+use hay_disk::{Arm, Disk};
+use hay_logical::LogicalFault;
+use hay_needle::Pair;
+use hay_reply::{ClosedBy, Reply};
+use hay_url::{Url, cookie_of};
+use std::alloc::Global;
+
+#[tactic(auto, using(crate::proofs::Moves::none_falls))]
+impl<D: Disk, A: Arm<D::Piece>> Cluster<D, A> {
+    /// Deletes the photo of a pair.
+    pub(crate) fn delete(&mut self, alloc: Global, tag: CoreTag, pair: Pair) -> Reply
+        requires up { IsUp self.old }
+        ensures legal { D.Tells → (k : Known) → Stands D.files D.Piece.Tells D.fault_count D.fuse_count A.fault_count self.old k →
+            Answered D.files D.Piece.Tells D.fault_count D.fuse_count A.fault_count k tag (asks.Del pair) result self.new }
+        ensures causes { HasCause self.old.settings tag.lane
+            (record { disks = map D.fault_count (disks_of self.old); arms = map A.fault_count self.old.arms })
+            (record { disks = map D.fault_count (disks_of self.new); arms = map A.fault_count self.new.arms }) result }
+        ensures counts { NoneFalls (map D.fault_count (disks_of self.old)) (map D.fault_count (disks_of self.new)) }
+        ensures arms { self.new.arms ≡ self.old.arms }
+        ensures settings { self.new.settings ≡ self.old.settings }
+        ensures up { IsUp self.new }
+    {
+        let Some(volume) = self.home(pair) else {
+            return Reply::Unknown { rows: self.rows() };
+        };
+        if let Some(machine) = self.closed_by(volume) {
+            return read_only(alloc, volume, machine);
+        }
+        match self.delete_in(tag, pair, volume) {
+            Ok(position) => Reply::Deleted {
+                volume,
+                position,
+                rows: self.rows(),
+            },
+            Err(fault) => delete_refusal(alloc, volume, self.rows(), fault),
+        }
+    }
+
+    /// The URL by which a photo is read.
+    pub(crate) fn url(&mut self, tag: CoreTag, pair: Pair) -> Reply
+        requires up { IsUp self.old }
+        ensures legal { D.Tells → (k : Known) → Stands D.files D.Piece.Tells D.fault_count D.fuse_count A.fault_count self.old k →
+            Answered D.files D.Piece.Tells D.fault_count D.fuse_count A.fault_count k tag (asks.Url pair) result self.new }
+        ensures causes { HasCause self.old.settings tag.lane
+            (record { disks = map D.fault_count (disks_of self.old); arms = map A.fault_count self.old.arms })
+            (record { disks = map D.fault_count (disks_of self.new); arms = map A.fault_count self.new.arms }) result }
+        ensures counts { NoneFalls (map D.fault_count (disks_of self.old)) (map D.fault_count (disks_of self.new)) }
+        ensures arms { self.new.arms ≡ self.old.arms }
+        ensures settings { self.new.settings ≡ self.old.settings }
+        ensures up { IsUp self.new }
+    {
+        let rows = self.rows();
+        let Some(volume) = self.home(pair) else {
+            return Reply::Unknown { rows };
+        };
+        let start = self.start_of(tag);
+        Reply::Url {
+            rows,
+            url: Url {
+                machine: machine_of(&self.settings, volume, start),
+                volume,
+                pair,
+                cookie: cookie_of(&self.settings.secret, pair.key),
+            },
+        }
+    }
+
+    /// Flushes the index of the replica of a volume on a machine.
+    pub(crate) fn flush(&mut self, alloc: Global, volume: u32, machine: u32) -> Reply
+        requires up { IsUp self.old }
+        ensures legal { D.Tells → (k : Known) (tag : CoreTag) → Stands D.files D.Piece.Tells D.fault_count D.fuse_count A.fault_count self.old k →
+            Answered D.files D.Piece.Tells D.fault_count D.fuse_count A.fault_count k tag (asks.Flush volume machine) result self.new }
+        ensures causes { (lane : ℕ) → HasCause self.old.settings lane
+            (record { disks = map D.fault_count (disks_of self.old); arms = map A.fault_count self.old.arms })
+            (record { disks = map D.fault_count (disks_of self.new); arms = map A.fault_count self.new.arms }) result }
+        ensures counts { NoneFalls (map D.fault_count (disks_of self.old)) (map D.fault_count (disks_of self.new)) }
+        ensures arms { self.new.arms ≡ self.old.arms }
+        ensures settings { self.new.settings ≡ self.old.settings }
+        ensures up { IsUp self.new }
+    {
+        let Some(replica) = replica_on(&self.settings, volume, machine) else {
+            return Reply::Nowhere;
+        };
+        match self.flush_in(volume, replica) {
+            Ok(records) => Reply::Flushed {
+                volume,
+                machine,
+                records,
+            },
+            Err(fault) => flush_refusal(alloc, volume, fault),
+        }
+    }
+
+    /// Closes a machine to changes.
+    pub(crate) fn drain(&mut self, machine: u32) -> Reply
+        requires up { IsUp self.old }
+        ensures legal { D.Tells → (k : Known) (tag : CoreTag) → Stands D.files D.Piece.Tells D.fault_count D.fuse_count A.fault_count self.old k →
+            Answered D.files D.Piece.Tells D.fault_count D.fuse_count A.fault_count k tag (asks.Drain machine) result self.new }
+        ensures causes { (lane : ℕ) → HasCause self.old.settings lane
+            (record { disks = map D.fault_count (disks_of self.old); arms = map A.fault_count self.old.arms })
+            (record { disks = map D.fault_count (disks_of self.new); arms = map A.fault_count self.new.arms }) result }
+        ensures counts { NoneFalls (map D.fault_count (disks_of self.old)) (map D.fault_count (disks_of self.new)) }
+        ensures arms { self.new.arms ≡ self.old.arms }
+        ensures settings { self.new.settings ≡ self.old.settings }
+        ensures up { IsUp self.new }
+    {
+        if machine >= self.settings.machines {
+            return Reply::Nowhere;
+        }
+        self.set_drained(machine, true);
+        Reply::Drained { machine }
+    }
+
+    /// Opens a machine to changes again.
+    pub(crate) fn undrain(&mut self, machine: u32) -> Reply
+        requires up { IsUp self.old }
+        ensures legal { D.Tells → (k : Known) (tag : CoreTag) → Stands D.files D.Piece.Tells D.fault_count D.fuse_count A.fault_count self.old k →
+            Answered D.files D.Piece.Tells D.fault_count D.fuse_count A.fault_count k tag (asks.Undrain machine) result self.new }
+        ensures causes { (lane : ℕ) → HasCause self.old.settings lane
+            (record { disks = map D.fault_count (disks_of self.old); arms = map A.fault_count self.old.arms })
+            (record { disks = map D.fault_count (disks_of self.new); arms = map A.fault_count self.new.arms }) result }
+        ensures counts { NoneFalls (map D.fault_count (disks_of self.old)) (map D.fault_count (disks_of self.new)) }
+        ensures arms { self.new.arms ≡ self.old.arms }
+        ensures settings { self.new.settings ≡ self.old.settings }
+        ensures up { IsUp self.new }
+    {
+        if machine >= self.settings.machines {
+            return Reply::Nowhere;
+        }
+        self.set_drained(machine, false);
+        Reply::Undrained { machine }
+    }
+
+    /// Sets a fuse on the disk of the replica of a volume on a machine.
+    pub(crate) fn fuse(&mut self, volume: u32, machine: u32, calls: u32) -> Reply
+        requires up { IsUp self.old }
+        ensures legal { D.Tells → (k : Known) (tag : CoreTag) → Stands D.files D.Piece.Tells D.fault_count D.fuse_count A.fault_count self.old k →
+            Answered D.files D.Piece.Tells D.fault_count D.fuse_count A.fault_count k tag (asks.Fuse volume machine calls) result self.new }
+        ensures causes { (lane : ℕ) → HasCause self.old.settings lane
+            (record { disks = map D.fault_count (disks_of self.old); arms = map A.fault_count self.old.arms })
+            (record { disks = map D.fault_count (disks_of self.new); arms = map A.fault_count self.new.arms }) result }
+        ensures counts { NoneFalls (map D.fault_count (disks_of self.old)) (map D.fault_count (disks_of self.new)) }
+        ensures arms { self.new.arms ≡ self.old.arms }
+        ensures settings { self.new.settings ≡ self.old.settings }
+        ensures up { IsUp self.new }
+    {
+        let Some(replica) = replica_on(&self.settings, volume, machine) else {
+            return Reply::Nowhere;
+        };
+        self.fuse_in(volume, replica, calls);
+        Reply::Fused {
+            volume,
+            machine,
+            calls,
+        }
+    }
+
+    /// Sets a fuse on the Directory's disk.
+    pub(crate) fn fuse_dir(&mut self, calls: u32) -> Reply
+        requires up { IsUp self.old }
+        ensures legal { D.Tells → (k : Known) (tag : CoreTag) → Stands D.files D.Piece.Tells D.fault_count D.fuse_count A.fault_count self.old k →
+            Answered D.files D.Piece.Tells D.fault_count D.fuse_count A.fault_count k tag (asks.FuseDir calls) result self.new }
+        ensures causes { (lane : ℕ) → HasCause self.old.settings lane
+            (record { disks = map D.fault_count (disks_of self.old); arms = map A.fault_count self.old.arms })
+            (record { disks = map D.fault_count (disks_of self.new); arms = map A.fault_count self.new.arms }) result }
+        ensures counts { NoneFalls (map D.fault_count (disks_of self.old)) (map D.fault_count (disks_of self.new)) }
+        ensures arms { self.new.arms ≡ self.old.arms }
+        ensures settings { self.new.settings ≡ self.old.settings }
+        ensures up { IsUp self.new }
+    {
+        self.fuse_directory(calls);
+        Reply::FusedDir { calls }
+    }
+}
+
+// The refusal of a change of a volume that is closed by this machine.
+fn read_only(alloc: Global, volume: u32, machine: u32) -> Reply
+    ensures { IsReadOnly volume machine result }
+{
+    match Listed::one(alloc, ClosedBy { volume, machine }) {
+        Ok(tries) => Reply::ReadOnly { tries },
+        Err(_) => Reply::NoMem,
+    }
+}
+
+// What a delete is answered that a volume did not make.
+fn delete_refusal(alloc: Global, volume: u32, rows: u64, fault: LogicalFault) -> Reply
+    ensures { IsDeleteReply volume rows fault result }
+{
+    match fault {
+        LogicalFault::Gone { front } => Reply::Absent {
+            volume,
+            front,
+            rows,
+        },
+        LogicalFault::Failed { machine, faults } => Reply::Failed {
+            volume,
+            machine,
+            faults,
+        },
+        LogicalFault::ReadOnly { machine } => read_only(alloc, volume, machine),
+        LogicalFault::NoMemory => Reply::NoMem,
+        LogicalFault::Full {
+            machine: _,
+            end: _,
+            need: _,
+            capacity: _,
+        } => Reply::NoMem,
+    }
+}
+
+// What a flush is answered that a volume did not make.
+fn flush_refusal(alloc: Global, volume: u32, fault: LogicalFault) -> Reply
+    ensures { IsFlushReply volume fault result }
+{
+    match fault {
+        LogicalFault::Failed { machine, faults } => Reply::Failed {
+            volume,
+            machine,
+            faults,
+        },
+        LogicalFault::ReadOnly { machine } => read_only(alloc, volume, machine),
+        LogicalFault::NoMemory => Reply::NoMem,
+        LogicalFault::Gone { front: _ } => Reply::NoMem,
+        LogicalFault::Full {
+            machine: _,
+            end: _,
+            need: _,
+            capacity: _,
+        } => Reply::NoMem,
+    }
+}

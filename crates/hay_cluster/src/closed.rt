@@ -1,0 +1,112 @@
+//! Where pairs and replicas are, and which volumes take a photo.
+ghost use Rattle.std.specs.Prelude.{◌≡◌, ◌<◌, ℕ, None, Some, map, find, slice_index_or, false, IfSome, is_some};
+ghost use Rattle.hay_legal.specs.declared.known.Known.{Known};
+ghost use Rattle.hay_legal.specs.Known as known;
+ghost use Rattle.hay_directory.specs.State as directory;
+ghost use Rattle.hay_cluster.specs.Lacks as lacks;
+ghost use Rattle.hay_cluster.specs.State.{Stands};
+ghost use Rattle.hay_cluster.specs.Store.{IsBuilt, IsUp};
+
+use crate::cluster::Cluster;
+use hay_directory::machine_of;
+use hay_disk::{Arm, Disk};
+use hay_logical::LogicalFault;
+use hay_needle::{Pair, Settings};
+use hay_reply::Refused;
+
+/// The replica of a volume on a machine, if there is one.
+pub(crate) fn replica_on(settings: &Settings, volume: u32, machine: u32) -> Option<u32>
+    requires { IsBuilt settings.now }
+    ensures is { result ≡ known.replica_on settings.now volume machine }
+    ensures within { IfSome result (λ replica. (replica < settings.now.replicas) × (volume < settings.now.volumes)) }
+{
+    if volume >= settings.volumes {
+        return None;
+    }
+    for replica in 0..settings.replicas {
+        if machine_of(settings, volume, replica) == machine {
+            return Some(replica);
+        }
+    }
+    None
+}
+
+impl<D: Disk, A: Arm<D::Piece>> Cluster<D, A> {
+    /// The home of a pair. A disk that doesn't tell what it holds may name any volume.
+    pub(crate) fn home(&self, pair: Pair) -> Option<u32>
+        ensures known { D.Tells → (k : Known) → Stands D.files D.Piece.Tells D.fault_count D.fuse_count A.fault_count self.now k → result ≡ known.home_of k pair }
+        ensures within { IfSome result (λ volume. volume < self.now.settings.volumes) }
+        ensures homeless { result ≡ None → directory.home_of self.now.directory pair ≡ None }
+    {
+        let last = self.settings.volumes - 1;
+        match self.directory.home(pair) {
+            Some(volume) => Some(volume.min(last)),
+            None => None,
+        }
+    }
+
+    /// The drained machine of the lowest replica of a volume that is on one.
+    pub(crate) fn drained_by(&self, volume: u32) -> Option<u32>
+        ensures { result ≡ find (λ m. slice_index_or self.now.directory.drained m false) (map (known.machine_of self.now.settings volume) (known.replicas_of self.now.settings)) }
+    {
+        for replica in 0..self.settings.replicas {
+            let machine = machine_of(&self.settings, volume, replica);
+            if self.directory.drained(machine) {
+                return Some(machine);
+            }
+        }
+        None
+    }
+
+    /// The machine by which a volume is closed to changes.
+    pub(crate) fn closed_by(&self, volume: u32) -> Option<u32>
+        requires volume { volume < self.now.settings.volumes }
+        ensures known { D.Tells → (k : Known) → Stands D.files D.Piece.Tells D.fault_count D.fuse_count A.fault_count self.now k → result ≡ known.closed self.now.settings k volume }
+    {
+        match self.volumes.as_slice()[volume as usize].frozen() {
+            Some(machine) => Some(machine),
+            None => self.drained_by(volume),
+        }
+    }
+
+    /// Why a volume does not take a photo of this size, if it does not.
+    pub(crate) fn refusal(&self, volume: u32, size: u32) -> Option<Refused>
+        requires volume { volume < self.now.settings.volumes }
+        requires up { IsUp self.now }
+        ensures known { D.Tells → (k : Known) → Stands D.files D.Piece.Tells D.fault_count D.fuse_count A.fault_count self.now k → result ≡ known.refusal_of self.now.settings k size volume }
+    {
+        if let Some(machine) = self.closed_by(volume) {
+            return Some(Refused::Closed { volume, machine });
+        }
+        match self.volumes.as_slice()[volume as usize].room(size) {
+            Ok(()) => None,
+            Err(fault) => lack_of(volume, fault),
+        }
+    }
+}
+
+// What a volume without room is refused for.
+fn lack_of(volume: u32, fault: LogicalFault) -> Option<Refused>
+    ensures { result ≡ lacks.lack_of volume fault }
+{
+    match fault {
+        LogicalFault::Full {
+            machine,
+            end,
+            need,
+            capacity: _,
+        } => Some(Refused::NoRoom {
+            volume,
+            machine,
+            end,
+            need,
+        }),
+        LogicalFault::ReadOnly { machine: _ } => None,
+        LogicalFault::Gone { front: _ } => None,
+        LogicalFault::Failed {
+            machine: _,
+            faults: _,
+        } => None,
+        LogicalFault::NoMemory => None,
+    }
+}

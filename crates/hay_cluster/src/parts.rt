@@ -1,0 +1,158 @@
+//! Calls of one part of a store: of a volume, of the Directory.
+//!
+//! A volume is reached by the slice of all, which tells how much room one takes at most.
+ghost use Rattle.std.specs.Prelude.{◌≡◌, ◌≤◌, ◌<◌, ℕ, true, false, None, length, map, Err, IfOk, IfErr, OnOk, IsErrOf};
+ghost use Rattle.hay_disk.specs.Counts.{IsNext};
+ghost use Rattle.hay_legal.specs.declared.known.Known.{Known};
+ghost use Rattle.hay_legal.specs.Known.{NoneFalls, fuse_count, slot_of, volume_at, with_home};
+ghost use Rattle.hay_legal.specs.Plain.{row_pending, with_drain, with_fuses};
+ghost use Rattle.hay_logical.specs.Answers.{DeleteRefused, FlushRefused, IsDeleted, IsFlushed, IsPut, PutRefused};
+ghost use Rattle.hay_directory.specs.State as directory;
+ghost use Rattle.hay_cluster.specs.Causes.{IsPutCause, IsDeleteCause, IsFlushCause, RoseIn};
+ghost use Rattle.hay_cluster.specs.Parts.{Comes, InVolume};
+ghost use Rattle.hay_cluster.specs.State.{Stands};
+ghost use Rattle.hay_cluster.specs.Store.{IsUp, disks_of};
+
+use crate::cluster::Cluster;
+use hay_core::CoreTag;
+use hay_directory::DirFault;
+use hay_disk::{Arm, Disk};
+use hay_logical::LogicalFault;
+use hay_needle::{Cookie, Pair};
+use std::alloc::Global;
+
+impl<D: Disk, A: Arm<D::Piece>> Cluster<D, A> {
+    /// Stores a photo in a volume, and answers the position of the change there.
+    pub(crate) fn put_in(
+        &mut self,
+        alloc: Global,
+        tag: CoreTag,
+        pair: Pair,
+        cookie: Cookie,
+        bytes: &[u8],
+        volume: u32,
+    ) -> Result<u64, LogicalFault>
+        requires volume { volume < self.old.settings.volumes }
+        requires size { length bytes.now ≤ 1048576 }
+        requires up { IsUp self.old }
+        ensures moves { D.Tells → (k : Known) → Stands D.files D.Piece.Tells D.fault_count D.fuse_count A.fault_count self.old k →
+            InVolume D.files D.Piece.Tells D.fault_count D.fuse_count A.fault_count k volume self.old self.new (λ before after.
+            IfOk result (λ position. IsPut D.files D.Piece.Tells (volume_at k volume) tag pair cookie bytes.now position after)
+            × IfErr result (PutRefused D.files D.Piece.Tells (volume_at k volume) tag pair cookie bytes.now before after)) }
+        ensures causes { IfErr result (IsPutCause self.old.settings volume (map D.fault_count (disks_of self.old)) (map D.fault_count (disks_of self.new))) }
+        ensures counts { NoneFalls (map D.fault_count (disks_of self.old)) (map D.fault_count (disks_of self.new)) }
+        ensures arms { self.new.arms ≡ self.old.arms }
+        ensures settings { self.new.settings ≡ self.old.settings }
+        ensures up { IsUp self.new }
+    {
+        self.volumes.as_mut_slice()[volume as usize].put(alloc, tag, pair, cookie, bytes)
+    }
+
+    /// Deletes a pair's photo from a volume, and answers the position of the change there.
+    pub(crate) fn delete_in(
+        &mut self,
+        tag: CoreTag,
+        pair: Pair,
+        volume: u32,
+    ) -> Result<u64, LogicalFault>
+        requires volume { volume < self.old.settings.volumes }
+        requires up { IsUp self.old }
+        ensures moves { D.Tells → (k : Known) → Stands D.files D.Piece.Tells D.fault_count D.fuse_count A.fault_count self.old k →
+            InVolume D.files D.Piece.Tells D.fault_count D.fuse_count A.fault_count k volume self.old self.new (λ before after.
+            IfOk result (λ position. IsDeleted D.files D.Piece.Tells (volume_at k volume) tag pair position after)
+            × IfErr result (DeleteRefused D.files D.Piece.Tells (volume_at k volume) tag pair before after)) }
+        ensures causes { IfErr result (IsDeleteCause self.old.settings volume (map D.fault_count (disks_of self.old)) (map D.fault_count (disks_of self.new))) }
+        ensures counts { NoneFalls (map D.fault_count (disks_of self.old)) (map D.fault_count (disks_of self.new)) }
+        ensures arms { self.new.arms ≡ self.old.arms }
+        ensures settings { self.new.settings ≡ self.old.settings }
+        ensures up { IsUp self.new }
+    {
+        self.volumes.as_mut_slice()[volume as usize].delete(tag, pair)
+    }
+
+    /// Flushes the index of a replica of a volume, and answers how many of its cells had no record.
+    pub(crate) fn flush_in(&mut self, volume: u32, replica: u32) -> Result<u64, LogicalFault>
+        requires volume { volume < self.old.settings.volumes }
+        requires replica { replica < self.old.settings.replicas }
+        requires up { IsUp self.old }
+        ensures moves { D.Tells → (k : Known) → Stands D.files D.Piece.Tells D.fault_count D.fuse_count A.fault_count self.old k →
+            InVolume D.files D.Piece.Tells D.fault_count D.fuse_count A.fault_count k volume self.old self.new (λ before after.
+            IfOk result (λ number. IsFlushed D.files D.Piece.Tells (volume_at k volume) replica number after)
+            × IfErr result (FlushRefused D.files D.Piece.Tells (volume_at k volume) replica before after)) }
+        ensures causes { IfErr result (IsFlushCause self.old.settings volume (map D.fault_count (disks_of self.old)) (map D.fault_count (disks_of self.new))) }
+        ensures counts { NoneFalls (map D.fault_count (disks_of self.old)) (map D.fault_count (disks_of self.new)) }
+        ensures arms { self.new.arms ≡ self.old.arms }
+        ensures settings { self.new.settings ≡ self.old.settings }
+        ensures up { IsUp self.new }
+    {
+        self.volumes.as_mut_slice()[volume as usize].flush(replica)
+    }
+
+    /// Sets a fuse on the disk of a replica of a volume.
+    pub(crate) fn fuse_in(&mut self, volume: u32, replica: u32, calls: u32)
+        requires volume { volume < self.old.settings.volumes }
+        requires replica { replica < self.old.settings.replicas }
+        requires up { IsUp self.old }
+        ensures fused { D.Tells → (k : Known) → Stands D.files D.Piece.Tells D.fault_count D.fuse_count A.fault_count self.old k →
+            (n : ℕ) × IsNext (fuse_count k (slot_of self.old.settings volume replica)) n
+            × Comes D.files D.Piece.Tells D.fault_count D.fuse_count A.fault_count k (with_fuses k (slot_of self.old.settings volume replica) n) self.new }
+        ensures counts { NoneFalls (map D.fault_count (disks_of self.old)) (map D.fault_count (disks_of self.new)) }
+        ensures arms { self.new.arms ≡ self.old.arms }
+        ensures settings { self.new.settings ≡ self.old.settings }
+        ensures up { IsUp self.new }
+    {
+        self.volumes.as_mut_slice()[volume as usize].fuse(replica, calls);
+    }
+
+    /// Gives a pair, which has no home, one.
+    pub(crate) fn settle(&mut self, tag: CoreTag, pair: Pair, volume: u32) -> Result<(), DirFault>
+        requires volume { volume < self.old.settings.volumes }
+        requires homeless { directory.home_of self.old.directory pair ≡ None }
+        requires up { IsUp self.old }
+        ensures settled { D.Tells → (k : Known) → Stands D.files D.Piece.Tells D.fault_count D.fuse_count A.fault_count self.old k →
+            OnOk result (Comes D.files D.Piece.Tells D.fault_count D.fuse_count A.fault_count k (with_home k pair volume) self.new) }
+        ensures no_memory { D.Tells → (k : Known) → Stands D.files D.Piece.Tells D.fault_count D.fuse_count A.fault_count self.old k →
+            IsErrOf result DirFault.NoMemory → Comes D.files D.Piece.Tells D.fault_count D.fuse_count A.fault_count k k self.new }
+        ensures pending { D.Tells → (k : Known) (faults : ℕ) → Stands D.files D.Piece.Tells D.fault_count D.fuse_count A.fault_count self.old k →
+            result ≡ Err (DirFault.Failed faults) → Comes D.files D.Piece.Tells D.fault_count D.fuse_count A.fault_count k (row_pending k tag pair volume) self.new }
+        ensures thawed { D.Tells → (k : Known) → Stands D.files D.Piece.Tells D.fault_count D.fuse_count A.fault_count self.old k → (IsErrOf result DirFault.Frozen → ⊥) → k.directory.frozen ≡ false }
+        ensures frozen { D.Tells → (k : Known) → Stands D.files D.Piece.Tells D.fault_count D.fuse_count A.fault_count self.old k → IsErrOf result DirFault.Frozen → (k.directory.frozen ≡ true) × (self.new ≡ self.old) }
+        ensures causes { (faults : ℕ) → result ≡ Err (DirFault.Failed faults) → RoseIn 0 (map D.fault_count (disks_of self.old)) (map D.fault_count (disks_of self.new)) faults }
+        ensures counts { NoneFalls (map D.fault_count (disks_of self.old)) (map D.fault_count (disks_of self.new)) }
+        ensures arms { self.new.arms ≡ self.old.arms }
+        ensures settings { self.new.settings ≡ self.old.settings }
+        ensures up { IsUp self.new }
+    {
+        self.directory.settle(tag, pair, volume)
+    }
+
+    /// Drains a machine, or no longer.
+    pub(crate) fn set_drained(&mut self, machine: u32, is_drained: bool)
+        requires machine { machine < self.old.settings.machines }
+        requires up { IsUp self.old }
+        ensures set { D.Tells → (k : Known) → Stands D.files D.Piece.Tells D.fault_count D.fuse_count A.fault_count self.old k → Comes D.files D.Piece.Tells D.fault_count D.fuse_count A.fault_count k (with_drain k machine is_drained) self.new }
+        ensures counts { NoneFalls (map D.fault_count (disks_of self.old)) (map D.fault_count (disks_of self.new)) }
+        ensures arms { self.new.arms ≡ self.old.arms }
+        ensures settings { self.new.settings ≡ self.old.settings }
+        ensures up { IsUp self.new }
+    {
+        if is_drained {
+            self.directory.drain(machine);
+        } else {
+            self.directory.undrain(machine);
+        }
+    }
+
+    /// Sets a fuse on the Directory's disk.
+    pub(crate) fn fuse_directory(&mut self, calls: u32)
+        requires up { IsUp self.old }
+        ensures fused { D.Tells → (k : Known) → Stands D.files D.Piece.Tells D.fault_count D.fuse_count A.fault_count self.old k →
+            (n : ℕ) × IsNext (fuse_count k 0) n × Comes D.files D.Piece.Tells D.fault_count D.fuse_count A.fault_count k (with_fuses k 0 n) self.new }
+        ensures counts { NoneFalls (map D.fault_count (disks_of self.old)) (map D.fault_count (disks_of self.new)) }
+        ensures arms { self.new.arms ≡ self.old.arms }
+        ensures settings { self.new.settings ≡ self.old.settings }
+        ensures up { IsUp self.new }
+    {
+        self.directory.fuse(calls);
+    }
+}

@@ -1,0 +1,214 @@
+//! Reads, and gets by URL.
+ghost use Rattle.std.specs.Prelude.{◌≡◌, ◌≤◌, ◌<◌, ℕ, List, [], Some, length, map, slice_index, IfOk};
+ghost use Rattle.hay_script.specs.declared.Command.TheVariants as asks;
+ghost use Rattle.hay_legal.specs.declared.known.Known.{Known};
+ghost use Rattle.std.specs.Vec.{vec_capacity};
+ghost use Rattle.hay_map.specs.declared.place.Place.{Place};
+ghost use Rattle.hay_reader.specs.Shown.{Answers, HasCauses};
+ghost use Rattle.hay_legal.specs.Known.{NoneFalls, home_of, volume_at};
+ghost use Rattle.hay_legal.specs.Plain.{start_of};
+ghost use Rattle.hay_cluster.specs.Causes.{HasCause};
+ghost use Rattle.hay_cluster.specs.Reads.{ShownAs, ShowsIn, outcomes_of, passed_at};
+ghost use Rattle.hay_cluster.specs.Parts.{Comes};
+ghost use Rattle.hay_cluster.specs.State.{Answered, Stands};
+ghost use Rattle.hay_cluster.specs.Store.{IsBuilt, IsUp, disks_of};
+
+use crate::closed::replica_on;
+use crate::cluster::Cluster;
+use hay_base::{Listed, NoMemory};
+use hay_core::CoreTag;
+use hay_directory::machine_of;
+use hay_disk::{Arm, Disk};
+use hay_logical::Looked;
+use hay_needle::{Bytes, Cookie, Pair, Settings};
+use hay_reader::{PassedReplica, ReadReply};
+use hay_reply::{Passed, Reply};
+use hay_url::Url;
+use std::alloc::Global;
+
+/// The most bytes that a photo has.
+const MOST_BYTES: usize = 1_048_576;
+
+impl<D: Disk, A: Arm<D::Piece>> Cluster<D, A> {
+    /// The replica from which a line reads first.
+    pub(crate) fn start_of(&self, tag: CoreTag) -> u32
+        ensures is { result ≡ start_of self.now.settings tag }
+        ensures within { result < self.now.settings.replicas }
+    {
+        (tag.line % u64::from(self.settings.replicas)) as u32
+    }
+
+    /// Shows the photo of a pair to who has its cookie.
+    #[tactic(auto, using(crate::proofs::Moves::none_falls))]
+    pub(crate) fn read(&mut self, alloc: Global, tag: CoreTag, pair: Pair, cookie: Cookie) -> Reply
+        requires lane { tag.lane < 8 }
+        requires up { IsUp self.old }
+        ensures legal { D.Tells → (k : Known) → Stands D.files D.Piece.Tells D.fault_count D.fuse_count A.fault_count self.old k →
+            Answered D.files D.Piece.Tells D.fault_count D.fuse_count A.fault_count k tag (asks.Read pair cookie) result self.new }
+        ensures causes { HasCause self.old.settings tag.lane
+            (record { disks = map D.fault_count (disks_of self.old); arms = map A.fault_count self.old.arms })
+            (record { disks = map D.fault_count (disks_of self.new); arms = map A.fault_count self.new.arms }) result }
+        ensures counts { NoneFalls (map D.fault_count (disks_of self.old)) (map D.fault_count (disks_of self.new)) }
+        ensures arm_counts { NoneFalls (map A.fault_count self.old.arms) (map A.fault_count self.new.arms) }
+        ensures settings { self.new.settings ≡ self.old.settings }
+        ensures up { IsUp self.new }
+    {
+        let Some(volume) = self.home(pair) else {
+            return Reply::Unknown { rows: self.rows() };
+        };
+        let start = self.start_of(tag);
+        self.show(alloc, tag, volume, pair, cookie, start)
+    }
+
+    /// Shows the photo of a URL, if it names a replica of the home of its pair.
+    pub(crate) fn get(&mut self, alloc: Global, tag: CoreTag, url: &Url) -> Reply
+        requires lane { tag.lane < 8 }
+        requires up { IsUp self.old }
+        ensures legal { D.Tells → (k : Known) → Stands D.files D.Piece.Tells D.fault_count D.fuse_count A.fault_count self.old k →
+            Answered D.files D.Piece.Tells D.fault_count D.fuse_count A.fault_count k tag (asks.Get url.now) result self.new }
+        ensures causes { HasCause self.old.settings tag.lane
+            (record { disks = map D.fault_count (disks_of self.old); arms = map A.fault_count self.old.arms })
+            (record { disks = map D.fault_count (disks_of self.new); arms = map A.fault_count self.new.arms }) result }
+        ensures counts { NoneFalls (map D.fault_count (disks_of self.old)) (map D.fault_count (disks_of self.new)) }
+        ensures arm_counts { NoneFalls (map A.fault_count self.old.arms) (map A.fault_count self.new.arms) }
+        ensures settings { self.new.settings ≡ self.old.settings }
+        ensures up { IsUp self.new }
+    {
+        let Some(start) = replica_on(&self.settings, url.volume, url.machine) else {
+            return Reply::Nowhere;
+        };
+        let Some(volume) = self.home(url.pair) else {
+            return Reply::Unknown { rows: self.rows() };
+        };
+        if volume != url.volume {
+            return Reply::Moved {
+                volume,
+                rows: self.rows(),
+            };
+        }
+        self.show(alloc, tag, volume, url.pair, url.cookie, start)
+    }
+
+    // Shows the photo of a pair, from this replica of its home on.
+    fn show(
+        &mut self,
+        alloc: Global,
+        tag: CoreTag,
+        volume: u32,
+        pair: Pair,
+        cookie: Cookie,
+        start: u32,
+    ) -> Reply
+        requires lane { tag.lane < 8 }
+        requires volume { volume < self.old.settings.volumes }
+        requires start { start < self.old.settings.replicas }
+        requires up { IsUp self.old }
+        ensures shown { D.Tells → (k : Known) → Stands D.files D.Piece.Tells D.fault_count D.fuse_count A.fault_count self.old k → home_of k pair ≡ Some volume →
+            ShownAs D.files D.Piece.Tells D.fault_count D.fuse_count A.fault_count self.old.settings k tag start pair cookie result self.new }
+        ensures here { ShowsIn volume result }
+        ensures causes { HasCause self.old.settings tag.lane
+            (record { disks = map D.fault_count (disks_of self.old); arms = map A.fault_count self.old.arms })
+            (record { disks = map D.fault_count (disks_of self.new); arms = map A.fault_count self.new.arms }) result }
+        ensures counts { NoneFalls (map D.fault_count (disks_of self.old)) (map D.fault_count (disks_of self.new)) }
+        ensures arm_counts { NoneFalls (map A.fault_count self.old.arms) (map A.fault_count self.new.arms) }
+        ensures settings { self.new.settings ≡ self.old.settings }
+        ensures up { IsUp self.new }
+    {
+        let Ok(mut photo) = Vec::with_capacity(alloc, MOST_BYTES) else {
+            return Reply::NoMem;
+        };
+        let rows = self.rows();
+        let (front, read) = self.fetch(tag.lane, volume, pair, cookie, start, &mut photo);
+        match read {
+            ReadReply::Photo { replica } => Reply::Photo {
+                volume,
+                machine: machine_of(&self.settings, volume, replica),
+                front,
+                rows,
+                photo: Bytes::from_vec(photo),
+            },
+            ReadReply::Gone { replica } => Reply::Gone {
+                volume,
+                machine: machine_of(&self.settings, volume, replica),
+                front,
+                rows,
+            },
+            ReadReply::WrongCookie { replica } => Reply::WrongCookie {
+                volume,
+                machine: machine_of(&self.settings, volume, replica),
+                front,
+                rows,
+            },
+            ReadReply::Unreadable { causes } => {
+                match passed_of(alloc, &self.settings, volume, causes.as_slice()) {
+                    Ok(causes) => Reply::Unreadable {
+                        volume,
+                        front,
+                        rows,
+                        causes,
+                    },
+                    Err(NoMemory) => Reply::NoMem,
+                }
+            }
+        }
+    }
+
+    // Reads the photo of a pair in a volume, from this replica on, with a lane's arm. Answers how many changes the volume
+    // had, and what was read.
+    fn fetch(
+        &mut self,
+        lane: u32,
+        volume: u32,
+        pair: Pair,
+        cookie: Cookie,
+        start: u32,
+        photo: &mut Vec<u8>,
+    ) -> (u64, ReadReply)
+        requires lane { lane < 8 }
+        requires volume { volume < self.old.settings.volumes }
+        requires start { start < self.old.settings.replicas }
+        requires empty { photo.old.items ≡ [] }
+        requires room { 1048576 ≤ vec_capacity photo.old }
+        requires up { IsUp self.old }
+        ensures read { D.Tells → (k : Known) → Stands D.files D.Piece.Tells D.fault_count D.fuse_count A.fault_count self.old k →
+            (result.0 ≡ length (volume_at k volume).log)
+            × Answers start cookie (slice_index (map A.fault_count self.old.arms) lane) (slice_index (map A.fault_count self.new.arms) lane)
+            (outcomes_of self.old.settings (volume_at k volume) pair) photo.new.items result.1
+            × Comes D.files D.Piece.Tells D.fault_count D.fuse_count A.fault_count k k self.new }
+        ensures causes { (row : List (Place D.Piece)) × (length row ≡ self.old.settings.replicas)
+            × HasCauses start row (slice_index (map A.fault_count self.old.arms) lane) (slice_index (map A.fault_count self.new.arms) lane) result.1 }
+        ensures disks { disks_of self.new ≡ disks_of self.old }
+        ensures arm_counts { NoneFalls (map A.fault_count self.old.arms) (map A.fault_count self.new.arms) }
+        ensures settings { self.new.settings ≡ self.old.settings }
+        ensures up { IsUp self.new }
+    {
+        let Looked { front, row } = self.volumes.as_slice()[volume as usize].look(pair);
+        let read = self.seats.as_mut_slice()[lane as usize].show(
+            &row,
+            cookie,
+            start as usize,
+            photo,
+        );
+        (front, read)
+    }
+}
+
+// The machines of the replicas of a volume that were passed over.
+fn passed_of(
+    alloc: Global,
+    settings: &Settings,
+    volume: u32,
+    causes: &[PassedReplica],
+) -> Result<Listed<Passed>, NoMemory>
+    requires { IsBuilt settings.now }
+    ensures { IfOk result (λ passed. passed ≡ map (passed_at settings.now volume) causes.now) }
+{
+    let mut passed = Listed::new(alloc);
+    for over in causes {
+        passed.push(Passed {
+            machine: machine_of(settings, volume, over.replica),
+            cause: over.cause,
+        })?;
+    }
+    Ok(passed)
+}

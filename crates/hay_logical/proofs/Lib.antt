@@ -1,0 +1,14 @@
+pub mod Calls
+pub mod Changing
+pub mod Deletable
+pub mod Holding
+pub mod Knowing
+pub mod Lists
+pub mod Machines
+pub mod Methods
+pub mod Opened
+pub mod Putting
+pub mod Reopening
+pub mod Rooms
+pub mod Standing
+pub mod Tables

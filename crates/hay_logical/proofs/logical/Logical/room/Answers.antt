@@ -1,0 +1,102 @@
+use Rattle.std.proofs.Common.{◌≡◌, Some, None, Ok, Err, length, sym, ap, subst, ◌∙◌, arith}
+use Rattle.hay_needle.specs.Sizes.{total_of_lem}
+use Rattle.hay_legal.specs.Known.{machine_of, room_refusal_of}
+use Rattle.hay_reply.specs.declared.Refused.TheVariants.{NoRoom}
+use Rattle.hay_physical.specs.Copies.{capacity_of, end_of}
+use Rattle.hay_logical.specs.declared.fault.LogicalFault.TheVariants.{Full}
+use Rattle.hay_logical.specs.declared.fault.LogicalFault.{LogicalFault}
+use Rattle.hay_logical.specs.Answers.{IsRoomFault, room_answer}
+use Rattle.hay_logical.specs.Fits.{At}
+use Rattle.hay_logical.specs.Stands.{Stands, StandsFor}
+use Rattle.hay_logical.specs.Steps.{LacksRoom}
+use Rattle.hay_logical.specs.Volumes.{Volume}
+use Rattle.hay_logical.proofs.Lists.{at_below}
+use Rattle.hay_logical.proofs.Rooms.{known_capacity, room_by, room_none, room_some}
+use Rattle.hay_logical.proofs.Standing.{volume_with}
+use Rattle.hay_logical.proofs.logical.Logical.room.Goals as goal
+
+pub returns-in-Some-clause-known : goal.returns-in-Some-clause-known
+unfolding Stands
+returns-in-Some-clause-known g c = λ tells k stands.
+    let frozen : k.frozen ≡ Some c.in-Some.machine = stands.frozen ∙ ap (λ (v : Volume g.row.D.Denot g.row.D-Piece.Denot). v.frozen) (sym c.self.view_is) ∙ c.in-Some.is in
+    ap (λ o. room_answer c.args.self.now.settings o (room_refusal_of c.args.self.now.settings c.args.self.now.number k c.args.size)) (sym frozen)
+
+pub returns-in-Some-clause-frozen : goal.returns-in-Some-clause-frozen
+returns-in-Some-clause-frozen g c = λ m e.
+    let both : Some c.in-Some.machine ≡ Some m = sym c.in-Some.is ∙ ap (λ (v : Volume g.row.D.Denot g.row.D-Piece.Denot). v.frozen) c.self.view_is ∙ e in
+    cc
+
+pub room_in-requires-clause-most : goal.room_in-requires-clause-most
+room_in-requires-clause-most g c = λ κs within.
+    let e = ap length c.as_slice.ensures.value in
+    let n = (c.self.invariant.0).count in
+    let m = ((c.self.invariant.0).settings).most in
+    omega (arith, e, n, m)
+
+pub room_in-requires-clause-open : goal.room_in-requires-clause-open
+room_in-requires-clause-open g c = λ κs within j r e.
+    c.requires.«open».each j r (subst (λ (v : Volume g.row.D.Denot g.row.D-Piece.Denot). At v.replicas j r) c.self.view_is (subst (λ xs. At xs j r) c.as_slice.ensures.value e))
+
+pub returns-in_default-room_in-clause-known : goal.returns-in_default-room_in-clause-known
+unfolding Stands
+returns-in_default-room_in-clause-known g c = λ tells k stands.
+    let here = c.self.inside in
+    let known : StandsFor g.D.Disk.files g.D.Piece.Piece.Tells (volume_with here.settings here.number here.replicas.items here.rows here.front None here.unsure) k =
+    subst (λ fr. StandsFor g.D.Disk.files g.D.Piece.Piece.Tells (volume_with here.settings here.number here.replicas.items here.rows here.front fr here.unsure) k) c.in_default.is
+    (subst (λ v. StandsFor g.D.Disk.files g.D.Piece.Piece.Tells v k) (sym c.self.view_is) stands) in
+    let none = room_none g.D.Disk.files g.D.Piece.Piece.Tells here.settings here.number here.replicas.items here.rows here.front here.unsure k known (c.self.invariant.0).sups c.args.size
+    (λ j r e. c.in_default-room_in.ensures.fits j r (subst (λ xs. At xs j r) (sym c.as_slice.ensures.value) e)) in
+    subst (λ (v : Volume g.row.D.Denot g.row.D-Piece.Denot). Ok tt ≡ room_answer v.settings k.frozen (room_refusal_of v.settings v.number k c.args.size)) c.self.view_is
+    (room_by here.settings None k.frozen None (room_refusal_of here.settings here.number k c.args.size) known.frozen none)
+
+pub returns-in_default-room_in-clause-frozen : goal.returns-in_default-room_in-clause-frozen
+returns-in_default-room_in-clause-frozen g c = λ m e.
+    let both : None ≡ Some m = sym c.in_default.is ∙ ap (λ (v : Volume g.row.D.Denot g.row.D-Piece.Denot). v.frozen) c.self.view_is ∙ e in
+    absurd cc
+
+pub returns-in_default-room_in-clause-fits : goal.returns-in_default-room_in-clause-fits
+returns-in_default-room_in-clause-fits g c = (
+  ap (λ (v : Volume g.row.D.Denot g.row.D-Piece.Denot). v.frozen) (sym c.self.view_is) ∙ c.in_default.is,
+  λ j r e. c.in_default-room_in.ensures.fits j r (subst (λ xs. At xs j r) (sym c.as_slice.ensures.value) (subst (λ (v : Volume g.row.D.Denot g.row.D-Piece.Denot). At v.replicas j r) (sym c.self.view_is) e)),
+)
+
+pub machine_of-machine-requires-clause-of : goal.machine_of-machine-requires-clause-of
+machine_of-machine-requires-clause-of g c = (c.self.invariant.0).settings
+
+pub machine_of-machine-requires-clause-within : goal.machine_of-machine-requires-clause-within
+machine_of-machine-requires-clause-within g c =
+    let l = c.in-Err.ensures.lacks in
+    let h = at_below c.as_slice.result.now c.in-Err.lacking.at l.replica l.there in
+    let e = ap length c.as_slice.ensures.value in
+    let n = (c.self.invariant.0).count in
+    let m = ((c.self.invariant.0).settings).most in
+    omega (arith, h, e, n, m)
+
+pub full_at-requires : goal.full_at-requires
+full_at-requires g c = let l = c.in-Err.ensures.lacks in (end_of l.replica, total_of_lem c.args.size, capacity_of l.replica, l.cause)
+
+pub returns-clause-known : goal.returns-clause-known
+unfolding Stands
+returns-clause-known g c = λ tells k stands.
+    let here = c.self.inside in
+    let known : StandsFor g.D.Disk.files g.D.Piece.Piece.Tells (volume_with here.settings here.number here.replicas.items here.rows here.front None here.unsure) k =
+    subst (λ fr. StandsFor g.D.Disk.files g.D.Piece.Piece.Tells (volume_with here.settings here.number here.replicas.items here.rows here.front fr here.unsure) k) c.in_default.is
+    (subst (λ v. StandsFor g.D.Disk.files g.D.Piece.Piece.Tells v k) (sym c.self.view_is) stands) in
+    let l : LacksRoom c.args.size here.replicas.items c.in-Err.lacking = subst (λ xs. LacksRoom c.args.size xs c.in-Err.lacking) c.as_slice.ensures.value c.in-Err.ensures.lacks in
+    let capacity = known_capacity g.D.Disk.files g.D.Piece.Piece.Tells here.settings here.number here.replicas.items here.rows here.front here.unsure k known (c.self.invariant.0).sups c.args.size c.in-Err.lacking.at l.replica l.there in
+    let refusal = room_some g.D.Disk.files g.D.Piece.Piece.Tells here.settings here.number here.replicas.items here.rows here.front here.unsure k known (c.self.invariant.0).sups c.args.size c.in-Err.lacking l in
+    let total = total_of_lem c.args.size in
+    subst (λ (v : Volume g.row.D.Denot g.row.D-Piece.Denot). Err c.full_at.result ≡ room_answer v.settings k.frozen (room_refusal_of v.settings v.number k c.args.size)) c.self.view_is
+    (ap (λ (f : LogicalFault). Err f) (c.full_at.ensures (end_of l.replica) total (capacity_of l.replica) l.cause)
+    ∙ ap (λ m. Err (Full m (end_of l.replica) total (capacity_of l.replica))) c.machine_of-machine.ensures
+    ∙ ap (λ n. Err (Full (machine_of here.settings here.number c.in-Err.lacking.at) (end_of l.replica) total n)) capacity
+    ∙ room_by here.settings None k.frozen (Some (NoRoom here.number (machine_of here.settings here.number c.in-Err.lacking.at) (end_of l.replica) total))
+    (room_refusal_of here.settings here.number k c.args.size) known.frozen refusal)
+
+pub returns-clause-frozen : goal.returns-clause-frozen
+returns-clause-frozen g c = λ m e.
+    let both : None ≡ Some m = sym c.in_default.is ∙ ap (λ (v : Volume g.row.D.Denot g.row.D-Piece.Denot). v.frozen) c.self.view_is ∙ e in
+    absurd cc
+
+pub returns-clause-causes : goal.returns-clause-causes
+returns-clause-causes g c = let l = c.in-Err.ensures.lacks in subst IsRoomFault (sym (c.full_at.ensures (end_of l.replica) (total_of_lem c.args.size) (capacity_of l.replica) l.cause)) tt

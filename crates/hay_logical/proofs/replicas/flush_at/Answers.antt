@@ -1,0 +1,40 @@
+use Rattle.std.proofs.Common.{◌≡◌, refl, sym, subst}
+use Rattle.std.specs.Prelude.{slice_index_or}
+use Rattle.hay_physical.specs.declared.fault.ReplicaFault.TheVariants as fault
+use Rattle.hay_physical.specs.Copies.{Copy}
+use Rattle.hay_logical.specs.Fits.{At}
+use Rattle.hay_logical.specs.Steps.{FlushesAt}
+use Rattle.hay_logical.proofs.Calls.{flush_if, not_stuck_before, one_counts, still_up, two_faults, went_on}
+use Rattle.hay_logical.proofs.Lists.{at_read, one_same}
+use Rattle.hay_logical.proofs.replicas.flush_at.Goals as goal
+
+pub returns-clause-one : goal.returns-clause-one
+returns-clause-one g c =
+    let here : Copy g.row.D.Denot = slice_index_or c.args.replicas.now c.args.at c.index-replicas-at.result in
+    let there : At c.args.replicas.now c.args.at here = at_read c.args.replicas.now c.args.at c.index-replicas-at.result c.requires.within in
+    record { before = here; after = c.flush.new.self; was = there; is = refl }
+
+pub returns-clause-flushes : goal.returns-clause-flushes
+returns-clause-flushes g c = λ r r' e f.
+    let here : Copy g.row.D.Denot = slice_index_or c.args.replicas.now c.args.at c.index-replicas-at.result in
+    let there : At c.args.replicas.now c.args.at here = at_read c.args.replicas.now c.args.at c.index-replicas-at.result c.requires.within in
+    let same = one_same c.args.replicas.now c.args.at here c.flush.new.self r r' there e f in
+    let up = c.requires.up c.args.at here there in
+    let step : FlushesAt g.D.Disk.Tells g.D.Disk.files g.D.Disk.fault_count here c.flush.new.self c.flush.result = record {
+      up = still_up here c.flush.new.self c.flush.ensures.«open» c.flush.ensures.same up;
+      sup = c.flush.ensures.sup;
+      loose = went_on here c.flush.new.self c.flush.result c.flush.ensures.frozen c.flush.ensures.going;
+      flushed = c.flush.ensures.flushed;
+      refused = c.flush.ensures.refused;
+      cause = flush_if g.D.Disk.fault_count here c.flush.new.self c.flush.result up c.flush.ensures.causes c.flush.ensures.stuck c.flush.ensures.stayed c.flush.ensures.thawed c.flush.ensures.frozen;
+      not_stuck = λ n e. not_stuck_before here c.flush.new.self c.flush.result c.flush.ensures.frozen (λ z. two_faults c.flush.result (fault.Failed n) fault.Frozen e z (λ w. (let wrong : fault.Failed n ≡ fault.Frozen = w in cc)));
+      deletable = c.flush.ensures.deletes;
+    } in
+    subst (λ x. FlushesAt g.D.Disk.Tells g.D.Disk.files g.D.Disk.fault_count x r' c.flush.result) (sym same.0)
+    (subst (λ x. FlushesAt g.D.Disk.Tells g.D.Disk.files g.D.Disk.fault_count here x c.flush.result) (sym same.1) step)
+
+pub returns-clause-counts : goal.returns-clause-counts
+returns-clause-counts g c =
+    let here : Copy g.row.D.Denot = slice_index_or c.args.replicas.now c.args.at c.index-replicas-at.result in
+    let there : At c.args.replicas.now c.args.at here = at_read c.args.replicas.now c.args.at c.index-replicas-at.result c.requires.within in
+    one_counts g.D.Disk.fault_count g.D.Disk.fuse_count c.args.at c.args.replicas.now here c.flush.new.self there (c.flush.ensures.counts, c.flush.ensures.fuses)

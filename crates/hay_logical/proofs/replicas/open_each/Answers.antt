@@ -1,0 +1,152 @@
+use Rattle.std.proofs.Common.{◌≡◌, ◌≤◌, ◌<◌, ◌+◌, inl, inr, ℕ, length, refl, sym, ap, subst, ◌∙◌, arith, rules}
+use Rattle.std.specs.Prelude.{slice_index_or, slice_set}
+use Rattle.std.proofs.lemmas.Bool.{cases_lt}
+use Rattle.std.proofs.lemmas.List.{length-replicate}
+use Rattle.hay_map.specs.Places.{place_in}
+use Rattle.hay_map.specs.Rows.{row_at}
+use Rattle.hay_needle.specs.declared.needle.Pair.{Pair}
+use Rattle.hay_physical.specs.Copies.{Copy, IsUp, is_frozen, phase_frozen}
+use Rattle.hay_physical.specs.Replicas as physical
+use Rattle.hay_logical.specs.Fits.{At}
+use Rattle.hay_logical.specs.Steps.{KeepsDisk, LeftAt}
+use Rattle.hay_logical.proofs.Calls.{Counted, deletable_from, left_same, none_in, opens_on, up_thawed, went_counts}
+use Rattle.hay_logical.proofs.Lists.{Went, at_below, at_read, at_same, at_there, broken_above, broken_below, broken_is, broken_was, length-slice_set, went_all, went_every, went_next, went_start, went_step}
+use Rattle.hay_logical.proofs.replicas.open_each.Goals as goal
+
+pub loop-j-init : goal.loop-j-init
+loop-j-init g c = record {
+  went = went_start _ c.args.replicas.now;
+  width = c.requires.width;
+  long = λ pair. ap length (c.requires.empty pair) ∙ length-replicate _ _ ∙ sym c.requires.width;
+  empty = λ pair i h. ap (λ l. place_in l i) (c.requires.empty pair) ∙ none_in (length c.args.replicas.now) i;
+}
+
+pub open_one-requires-after_bounds : goal.open_one-requires-after_bounds
+open_one-requires-after_bounds g c = λ κs lives.
+    let within : c.loop-j.j < length c.loop-j.replicas = omega arith in
+    let here : Copy g.row.D.Denot = slice_index_or c.loop-j.replicas c.loop-j.j c.index-replicas-j.result in
+    let there : At c.loop-j.replicas c.loop-j.j here = at_read c.loop-j.replicas c.loop-j.j c.index-replicas-j.result within in
+    let was : At c.args.replicas.now c.loop-j.j here = went_next _ c.loop-j.j c.args.replicas.now c.loop-j.replicas here c.loop-j.invariant.went there in
+    let wide : c.loop-j.j < c.loop-j.rows.replicas = (let w = c.loop-j.invariant.width in omega (arith, w)) in
+    let low : c.loop-j.j ≤ c.loop-j.j = omega arith in
+    (search rules, (wide, (c.requires.closed c.loop-j.j here was, ((λ tells. c.requires.idle tells c.loop-j.j here was), (c.loop-j.invariant.long, λ pair. c.loop-j.invariant.empty pair c.loop-j.j low)))))
+
+pub returns-in-Err-clause-counts : goal.returns-in-Err-clause-counts
+returns-in-Err-clause-counts g c =
+    let within : c.loop-j.j < length c.loop-j.replicas = omega arith in
+    let here : Copy g.row.D.Denot = slice_index_or c.loop-j.replicas c.loop-j.j c.index-replicas-j.result in
+    let there : At c.loop-j.replicas c.loop-j.j here = at_read c.loop-j.replicas c.loop-j.j c.index-replicas-j.result within in
+    let L : ℕ → Copy g.row.D.Denot → Copy g.row.D.Denot → Type 0 =
+    λ i r r'. Counted g.D.Disk.fault_count g.D.Disk.fuse_count r r' × LeftAt g.D.Disk.Tells g.D.Disk.files r r' × (g.D.Disk.Tells → KeepsDisk g.D.Disk.files r r') in
+    let went : Went L (c.loop-j.j + 1) c.args.replicas.now (slice_set c.loop-j.replicas c.loop-j.j c.open_one.new.replica) =
+    went_step _ L c.loop-j.j c.args.replicas.now c.loop-j.replicas here c.open_one.new.replica c.loop-j.invariant.went there (λ i r r' h p. (p.1, p.2, p.3))
+    ((c.open_one.ensures.counts, c.open_one.ensures.fuses), c.open_one.ensures.left, c.open_one.ensures.kept) in
+    went_counts g.D.Disk.fault_count g.D.Disk.fuse_count L (c.loop-j.j + 1) c.args.replicas.now _ went (λ i r r' p. p.0)
+
+pub returns-in-Err-clause-left : goal.returns-in-Err-clause-left
+returns-in-Err-clause-left g c =
+    let within : c.loop-j.j < length c.loop-j.replicas = omega arith in
+    let here : Copy g.row.D.Denot = slice_index_or c.loop-j.replicas c.loop-j.j c.index-replicas-j.result in
+    let there : At c.loop-j.replicas c.loop-j.j here = at_read c.loop-j.replicas c.loop-j.j c.index-replicas-j.result within in
+    let L : ℕ → Copy g.row.D.Denot → Copy g.row.D.Denot → Type 0 =
+    λ i r r'. Counted g.D.Disk.fault_count g.D.Disk.fuse_count r r' × LeftAt g.D.Disk.Tells g.D.Disk.files r r' × (g.D.Disk.Tells → KeepsDisk g.D.Disk.files r r') in
+    let went : Went L (c.loop-j.j + 1) c.args.replicas.now (slice_set c.loop-j.replicas c.loop-j.j c.open_one.new.replica) =
+    went_step _ L c.loop-j.j c.args.replicas.now c.loop-j.replicas here c.open_one.new.replica c.loop-j.invariant.went there (λ i r r' h p. (p.1, p.2, p.3))
+    ((c.open_one.ensures.counts, c.open_one.ensures.fuses), c.open_one.ensures.left, c.open_one.ensures.kept) in
+    went_every L (λ r r'. LeftAt g.D.Disk.Tells g.D.Disk.files r r') (c.loop-j.j + 1) c.args.replicas.now _ went (λ i r r' p. p.1) (left_same g.D.Disk.Tells g.D.Disk.files)
+
+pub returns-in-Err-clause-kept : goal.returns-in-Err-clause-kept
+returns-in-Err-clause-kept g c = λ tells j r r' e f void n.
+    let within : c.loop-j.j < length c.loop-j.replicas = omega arith in
+    let here : Copy g.row.D.Denot = slice_index_or c.loop-j.replicas c.loop-j.j c.index-replicas-j.result in
+    let there : At c.loop-j.replicas c.loop-j.j here = at_read c.loop-j.replicas c.loop-j.j c.index-replicas-j.result within in
+    let L : ℕ → Copy g.row.D.Denot → Copy g.row.D.Denot → Type 0 = λ i x y. KeepsDisk g.D.Disk.files x y in
+    let went : Went L (c.loop-j.j + 1) c.args.replicas.now (slice_set c.loop-j.replicas c.loop-j.j c.open_one.new.replica) =
+    went_step _ L c.loop-j.j c.args.replicas.now c.loop-j.replicas here c.open_one.new.replica c.loop-j.invariant.went there (λ i x y h p. p.3 tells) (c.open_one.ensures.kept tells) in
+    elim (cases_lt j (c.loop-j.j + 1)) [
+      | inl less ↦ went.done j r r' less e f void n
+      | inr most ↦ let same : r' ≡ r = went.rest j r r' most e f in
+          subst (λ x. KeepsDisk g.D.Disk.files r x) (sym same) (λ no k. (refl, (c.requires.idle tells j r e).solid k)) void n
+    ]
+
+pub returns-in-Err-clause-refused : goal.returns-in-Err-clause-refused
+returns-in-Err-clause-refused g c =
+    let within : c.loop-j.j < length c.loop-j.replicas = omega arith in
+    let here : Copy g.row.D.Denot = slice_index_or c.loop-j.replicas c.loop-j.j c.index-replicas-j.result in
+    let there : At c.loop-j.replicas c.loop-j.j here = at_read c.loop-j.replicas c.loop-j.j c.index-replicas-j.result within in
+    record {
+      before = here;
+      after = c.open_one.new.replica;
+      was = broken_was _ c.loop-j.j c.args.replicas.now c.loop-j.replicas here c.open_one.new.replica c.loop-j.invariant.went there;
+      is = broken_is _ c.loop-j.j c.args.replicas.now c.loop-j.replicas here c.open_one.new.replica c.loop-j.invariant.went there;
+      cause = c.in-Err.ensures.refused;
+    }
+
+pub loop-j-preserved : goal.loop-j-preserved
+loop-j-preserved g c =
+    let within : c.loop-j.j < length c.loop-j.replicas = omega arith in
+    let here : Copy g.row.D.Denot = slice_index_or c.loop-j.replicas c.loop-j.j c.index-replicas-j.result in
+    let there : At c.loop-j.replicas c.loop-j.j here = at_read c.loop-j.replicas c.loop-j.j c.index-replicas-j.result within in
+    record {
+      went = went_step _ _ c.loop-j.j c.args.replicas.now c.loop-j.replicas here c.open_one.new.replica c.loop-j.invariant.went there
+          (λ i r r' h p. (
+            opens_on g.D.Disk.Tells g.D.Disk.files g.D.Piece.Piece.Tells c.loop-j.rows c.open_one.new.rows i r r'
+                (λ pair. c.open_one.ensures.others pair i (λ e. absurd (omega (arith, h, e)))) p.0,
+            p.1,
+            p.2,
+            p.3,
+          ))
+          (c.in-Ok.ensures.opened, (c.open_one.ensures.counts, c.open_one.ensures.fuses), c.open_one.ensures.left, c.open_one.ensures.kept);
+      width = c.open_one.ensures.width ∙ c.loop-j.invariant.width;
+      long = c.open_one.ensures.long;
+      empty = λ pair i h. c.open_one.ensures.others pair i (λ e. absurd (omega (arith, h, e))) ∙ c.loop-j.invariant.empty pair i (let less : c.loop-j.j ≤ i = omega (arith, h) in less);
+    }
+
+pub returns-clause-counts : goal.returns-clause-counts
+returns-clause-counts g c = went_counts g.D.Disk.fault_count g.D.Disk.fuse_count _ _ c.args.replicas.now _ c.loop-j.invariant.went (λ i r r' p. p.1)
+
+pub returns-clause-opened : goal.returns-clause-opened
+returns-clause-opened g c = λ j r r' e f. (went_all _ _ c.args.replicas.now _ c.loop-j.invariant.went (let all : length c.args.replicas.now ≤ c.loop-j.j = omega arith in all) j r r' e f).0
+
+pub returns-clause-left : goal.returns-clause-left
+returns-clause-left g c = λ j r r' e f. (went_all _ _ c.args.replicas.now _ c.loop-j.invariant.went (let all : length c.args.replicas.now ≤ c.loop-j.j = omega arith in all) j r r' e f).2
+
+pub returns-clause-kept : goal.returns-clause-kept
+returns-clause-kept g c = λ tells j r r' e f. (went_all _ _ c.args.replicas.now _ c.loop-j.invariant.went (let all : length c.args.replicas.now ≤ c.loop-j.j = omega arith in all) j r r' e f).3 tells
+
+pub returns-in-Err-clause-deletable : goal.returns-in-Err-clause-deletable
+returns-in-Err-clause-deletable g c =
+    let within : c.loop-j.j < length c.loop-j.replicas = omega arith in
+    let here : Copy g.row.D.Denot = slice_index_or c.loop-j.replicas c.loop-j.j c.index-replicas-j.result in
+    let there : At c.loop-j.replicas c.loop-j.j here = at_read c.loop-j.replicas c.loop-j.j c.index-replicas-j.result within in
+    let Deletable : ℕ → Copy g.row.D.Denot → Copy g.row.D.Denot → Type 0 = λ i x y.
+    g.D.Disk.Tells → IsUp y → (pair : Pair) → physical.MayDeletePlace g.D.Disk.files y (place_in (row_at c.open_one.new.rows pair) i) in
+    let went : Went Deletable (c.loop-j.j + 1) c.args.replicas.now (slice_set c.loop-j.replicas c.loop-j.j c.open_one.new.replica) =
+    went_step _ Deletable c.loop-j.j c.args.replicas.now c.loop-j.replicas here c.open_one.new.replica c.loop-j.invariant.went there
+    (λ i x y h p tells up pair. subst (physical.MayDeletePlace g.D.Disk.files y) (sym (c.open_one.ensures.others pair i (λ e. absurd (omega (arith, h, e))))) (p.0.deletable tells pair))
+    c.open_one.ensures.deletable in
+    deletable_from g.D.Disk.Tells g.D.Disk.files c.open_one.new.rows Deletable (c.loop-j.j + 1) c.args.replicas.now _ went (λ i x y d. d) c.requires.closed
+
+pub returns-clause-deletable : goal.returns-clause-deletable
+returns-clause-deletable g c =
+    deletable_from g.D.Disk.Tells g.D.Disk.files c.loop-j.rows _ c.loop-j.j c.args.replicas.now _ c.loop-j.invariant.went (λ i x y p tells up pair. p.0.deletable tells pair) c.requires.closed
+
+pub returns-in-Err-clause-thawed : goal.returns-in-Err-clause-thawed
+returns-in-Err-clause-thawed g c = λ i r f.
+    let within : c.loop-j.j < length c.loop-j.replicas = omega arith in
+    let here : Copy g.row.D.Denot = slice_index_or c.loop-j.replicas c.loop-j.j c.index-replicas-j.result in
+    let there : At c.loop-j.replicas c.loop-j.j here = at_read c.loop-j.replicas c.loop-j.j c.index-replicas-j.result within in
+    let low : i < length c.args.replicas.now =
+    (let h = at_below _ i r f in let l = length-slice_set c.loop-j.replicas c.loop-j.j c.open_one.new.replica in let w = c.loop-j.invariant.went.count in omega (arith, h, l, w)) in
+    let old = at_there c.args.replicas.now i low in
+    elim (cases_lt i c.loop-j.j) [
+      | inl less ↦ up_thawed r (broken_below _ c.loop-j.j c.args.replicas.now c.loop-j.replicas here c.open_one.new.replica c.loop-j.invariant.went there i old.0 r less old.1 f).0.up
+      | inr most ↦ elim (cases_lt c.loop-j.j i) [
+        | inl more ↦ ap (λ (x : Copy g.row.D.Denot). is_frozen x) (broken_above _ c.loop-j.j c.args.replicas.now c.loop-j.replicas here c.open_one.new.replica c.loop-j.invariant.went there i old.0 r more old.1 f)
+            ∙ ap phase_frozen (c.requires.closed i old.0 old.1)
+        | inr no_more ↦
+            let same : i ≡ c.loop-j.j = omega (arith, most, no_more) in
+            let is = broken_is _ c.loop-j.j c.args.replicas.now c.loop-j.replicas here c.open_one.new.replica c.loop-j.invariant.went there in
+            ap (λ (x : Copy g.row.D.Denot). is_frozen x) (at_same _ c.loop-j.j r c.open_one.new.replica (subst (λ k. At (slice_set c.loop-j.replicas c.loop-j.j c.open_one.new.replica) k r) same f) is) ∙ c.open_one.ensures.thawed
+      ]
+    ]

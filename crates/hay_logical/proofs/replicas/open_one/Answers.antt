@@ -1,0 +1,92 @@
+use Rattle.std.proofs.Common.{◌≡◌, ◌<◌, length, Err, sym, ap, subst, ◌∙◌, arith}
+use Rattle.hay_needle.specs.declared.needle.Pair.{Pair}
+use Rattle.hay_map.specs.Places.{place_in}
+use Rattle.hay_map.specs.Rows.{last_place, row_at}
+use Rattle.hay_map.specs.declared.place.Place.TheVariants as place
+use Rattle.hay_open.specs.Stored.{PlaceOf, last_cell}
+use Rattle.hay_physical.specs.Copies.{phase_frozen}
+use Rattle.hay_physical.specs.Replicas as physical
+use Rattle.hay_logical.proofs.Calls.{loaded, loaded_other, open_cause, opened_holds, up_thawed}
+use Rattle.hay_logical.proofs.Lists.{length-slice_set}
+use Rattle.hay_logical.proofs.replicas.open_one.Goals as goal
+
+pub returns-in-Ok-load-clause-opened : goal.returns-in-Ok-load-clause-opened
+returns-in-Ok-load-clause-opened g c =
+    let place : (pair : Pair) → place_in (row_at c.load.new.self pair) c.args.j ≡ last_place c.in-Ok.cells.items pair place.None = λ pair.
+    loaded (row_at c.args.rows.now pair) (row_at c.load.new.self pair) c.args.j _ (c.in-Ok-load.ensures.ok.rows pair)
+    (let long = c.requires.long pair in let h = c.requires.within in let less : c.args.j < length (row_at c.args.rows.now pair) = omega (arith, long, h) in less)
+    ∙ ap (λ l. last_place l pair (place_in (row_at c.args.rows.now pair) c.args.j)) c.as_slice.ensures.value
+    ∙ ap (λ p. last_place c.in-Ok.cells.items pair p) (c.requires.empty pair) in
+    record {
+      up = c.in-Ok.ensures.up;
+      sup = c.open.ensures.sup;
+      loose = c.in-Ok.ensures.stuck;
+      opened = λ tells s opens.
+          let p = c.in-Ok.ensures.opened tells s opens in
+          (p.0, λ pair. subst (PlaceOf g.D.Piece.Piece.Tells (last_cell s.cells pair)) (sym (place pair)) (p.1 pair));
+      reopened = λ tells stuck s t holds.
+          let p = c.in-Ok.ensures.reopened tells stuck s t holds in
+          (p.0, p.1, p.2, λ pair. subst (PlaceOf g.D.Piece.Piece.Tells (last_cell (p.0).cells pair)) (sym (place pair)) (p.3 pair));
+      deletable = λ tells pair. subst (physical.MayDeletePlace g.D.Disk.files c.open.new.self) (sym (place pair)) (c.in-Ok.ensures.can_delete tells pair);
+    }
+
+pub returns-in-Ok-load-clause-left : goal.returns-in-Ok-load-clause-left
+returns-in-Ok-load-clause-left g c = record {
+  sup = c.open.ensures.sup;
+  holds = λ tells stuck s t holds.
+      let p = c.in-Ok.ensures.reopened tells stuck s t holds in
+      opened_holds g.D.Disk.files c.open.new.self stuck s t p.0 c.in-Ok.ensures.stuck p.2 p.1;
+}
+
+pub returns-in-Ok-load-clause-others : goal.returns-in-Ok-load-clause-others
+returns-in-Ok-load-clause-others g c = λ pair i apart. loaded_other (row_at c.args.rows.now pair) (row_at c.load.new.self pair) i c.args.j _ (c.in-Ok-load.ensures.ok.rows pair) apart
+
+pub returns-in-Ok-load-clause-long : goal.returns-in-Ok-load-clause-long
+returns-in-Ok-load-clause-long g c = λ pair.
+    ap length (c.in-Ok-load.ensures.ok.rows pair) ∙ length-slice_set (row_at c.args.rows.now pair) c.args.j _ ∙ c.requires.long pair ∙ sym c.in-Ok-load.ensures.ok.replicas
+
+pub returns-in-Ok-clause-left : goal.returns-in-Ok-clause-left
+returns-in-Ok-clause-left g c = record {
+  sup = c.open.ensures.sup;
+  holds = λ tells stuck s t holds.
+      let p = c.in-Ok.ensures.reopened tells stuck s t holds in
+      opened_holds g.D.Disk.files c.open.new.self stuck s t p.0 c.in-Ok.ensures.stuck p.2 p.1;
+}
+
+pub returns-in-Ok-clause-others : goal.returns-in-Ok-clause-others
+returns-in-Ok-clause-others g c = λ pair i apart. ap (λ l. place_in l i) (c.in-Err-load.ensures.err.rows pair)
+
+pub returns-in-Ok-clause-long : goal.returns-in-Ok-clause-long
+returns-in-Ok-clause-long g c = λ pair. ap length (c.in-Err-load.ensures.err.rows pair) ∙ c.requires.long pair ∙ sym c.in-Err-load.ensures.err.replicas
+
+pub returns-clause-refused : goal.returns-clause-refused
+returns-clause-refused g c =
+    open_cause g.D.Disk.Tells g.D.Disk.files g.D.Disk.fault_count c.args.replica.now c.open.new.self c.in-Err.fault c.in-Err.ensures.failed
+    (λ tells file at e. c.in-Err.ensures.damaged tells file at (ap Err e))
+    (λ tells s opens file at e. c.in-Err.ensures.only tells s opens file at (ap Err e))
+    (λ tells stuck s t holds file at e. c.in-Err.ensures.whole tells stuck s t holds file at (ap Err e))
+
+pub returns-in-Ok-load-clause-deletable : goal.returns-in-Ok-load-clause-deletable
+returns-in-Ok-load-clause-deletable g c = λ tells up pair.
+    let place : place_in (row_at c.load.new.self pair) c.args.j ≡ last_place c.in-Ok.cells.items pair place.None =
+    loaded (row_at c.args.rows.now pair) (row_at c.load.new.self pair) c.args.j _ (c.in-Ok-load.ensures.ok.rows pair)
+    (let long = c.requires.long pair in let h = c.requires.within in let less : c.args.j < length (row_at c.args.rows.now pair) = omega (arith, long, h) in less)
+    ∙ ap (λ l. last_place l pair (place_in (row_at c.args.rows.now pair) c.args.j)) c.as_slice.ensures.value
+    ∙ ap (λ p. last_place c.in-Ok.cells.items pair p) (c.requires.empty pair) in
+    subst (physical.MayDeletePlace g.D.Disk.files c.open.new.self) (sym place) (c.in-Ok.ensures.can_delete tells pair)
+
+pub returns-in-Ok-clause-deletable : goal.returns-in-Ok-clause-deletable
+returns-in-Ok-clause-deletable g c = λ tells up pair.
+    subst (physical.MayDeletePlace g.D.Disk.files c.open.new.self) (sym (ap (λ l. place_in l c.args.j) (c.in-Err-load.ensures.err.rows pair) ∙ c.requires.empty pair)) tt
+
+pub returns-clause-deletable : goal.returns-clause-deletable
+returns-clause-deletable g c = λ tells up pair. subst (physical.MayDeletePlace g.D.Disk.files c.open.new.self) (sym (c.requires.empty pair)) tt
+
+pub returns-in-Ok-load-clause-thawed : goal.returns-in-Ok-load-clause-thawed
+returns-in-Ok-load-clause-thawed g c = up_thawed c.open.new.self c.in-Ok.ensures.up
+
+pub returns-in-Ok-clause-thawed : goal.returns-in-Ok-clause-thawed
+returns-in-Ok-clause-thawed g c = up_thawed c.open.new.self c.in-Ok.ensures.up
+
+pub returns-clause-thawed : goal.returns-clause-thawed
+returns-clause-thawed g c = ap phase_frozen c.in-Err.ensures.closed

@@ -1,0 +1,74 @@
+-- What is known of a replica against what its disk has, and what a change that was broken off has left of itself.
+use Rattle.std.specs.Prelude.{◌≡◌, ℕ, ◌+◌, ◌-◌, nat_lt, Bool, false, List, [], ◌∷◌, length, Some, None, slice_get, if◌then◌else◌}
+use Rattle.hay_needle.specs.declared.settings.Settings.{Settings}
+use Rattle.hay_needle.specs.declared.settings.Super.{Super}
+use Rattle.hay_needle.specs.declared.settings.FileKind.TheVariants as kind
+use Rattle.hay_needle.specs.Tables.{table_of}
+use Rattle.hay_disk.specs.Disk.{Files}
+use Rattle.hay_volume.specs.Cells.{needles_of}
+use Rattle.hay_core.specs.declared.entry.Entry.{Entry}
+use Rattle.hay_core.specs.Entries.{apply_entry}
+use Rattle.hay_legal.specs.declared.known.ReplicaKnown.{ReplicaKnown}
+use Rattle.hay_legal.specs.declared.known.VolumeKnown.{VolumeKnown}
+use Rattle.hay_legal.specs.Known.{now}
+use Rattle.hay_legal.specs.Restarts.{added_cells, added_end}
+use Rattle.hay_legal.specs.Stands.{Contents, Found}
+use Rattle.hay_open.specs.Stored.{Stored, OpensAs}
+use Rattle.hay_physical.specs.Copies.{Copy}
+use Rattle.hay_physical.specs.Replicas as physical
+
+-- the item at this place of a list
+abbrev pub At : {X : Type 0} → List X → ℕ → X → Type 0
+At xs j x = slice_get xs j ≡ Some x
+
+-- what an opening finds on the disk of replica j of volume v
+abbrev pub super_of : Settings → ℕ → ℕ → Super
+super_of settings v j = record { settings = settings; kind = kind.Volume; volume = v; replica = j; generation = 0 }
+
+abbrev pub found_as : Stored → Found
+found_as s = record {
+  table = table_of (needles_of s.cells);
+  end = s.end;
+  cells = length s.cells;
+  bare = length s.cells - s.records;
+  generation = s.generation;
+}
+
+pub record FoundReplica (settings : Settings) (v j : ℕ) (contents : Contents) (found : Found) : Type 0 where
+  pub stored : Stored
+  pub opens : OpensAs (super_of settings v j) contents stored
+  pub is : found ≡ found_as stored
+
+unfoldable pub IsReplica : Settings → ℕ → ℕ → Contents → Found → Type 0
+IsReplica settings v j contents found = FoundReplica settings v j contents found
+
+-- what is known of a replica of a volume is what its disk has
+pub record Fits (k : VolumeKnown) (replica : ReplicaKnown) (s : Stored) : Type 0 where
+  pub table : table_of (needles_of s.cells) ≡ now k replica
+  pub end : replica.end ≡ s.end
+  pub cells : replica.cells ≡ length s.cells
+  pub bare : replica.bare + s.records ≡ length s.cells
+  pub generation : replica.generation ≡ s.generation
+  pub idle : replica.run ≡ None
+  pub settled : replica.poised ≡ false
+
+-- a change makes t of s
+pub record Makes (entry : Entry) (s t : Stored) : Type 0 where
+  pub table : table_of (needles_of t.cells) ≡ apply_entry (table_of (needles_of s.cells)) entry
+  pub end : t.end ≡ s.end + added_end (entry ∷ [])
+  pub cells : length t.cells ≡ length s.cells + added_cells (entry ∷ [])
+  pub records : t.records ≡ s.records
+  pub generation : t.generation ≡ s.generation
+
+-- A change that was broken off at one replica is kept by those below it, lost by those above it, and by that one perhaps
+-- kept.
+pub data Part : Type 0 where
+  Kept Unsure Lost : Part
+
+abbrev pub part_of : ℕ → ℕ → Part
+part_of broken_at j = if nat_lt j broken_at then Kept else if nat_lt broken_at j then Lost else Unsure
+
+abbrev pub HoldsPart : {D : Type 0} → (D → Files) → Copy D → Bool → Entry → Stored → Part → Type 0
+HoldsPart files r stuck entry s Kept = (t : Stored) × Makes entry s t × physical.Holds files r stuck t t
+HoldsPart files r stuck entry s Unsure = (t : Stored) × Makes entry s t × physical.Holds files r stuck s t
+HoldsPart files r stuck entry s Lost = physical.Holds files r stuck s s

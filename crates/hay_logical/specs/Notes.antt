@@ -1,0 +1,34 @@
+-- Which replicas have a change that was broken off, by what was kept of it in memory, and how that is told.
+use Rattle.std.specs.Prelude.{◌≡◌, ◌==◌, ℕ, not, Bool, true, false, List, [], length, slice_get, slice_index, Option, Some, None}
+use Rattle.hay_needle.specs.declared.settings.Settings.{Settings}
+use Rattle.hay_reply.specs.declared.Note.{Note}
+use Rattle.hay_legal.specs.Restarts.{replica_notes}
+use Rattle.hay_map.specs.MapRows.{MapRows}
+use Rattle.hay_map.specs.Places.{place_in}
+use Rattle.hay_map.specs.Rows.{row_at}
+use Rattle.hay_map.specs.declared.place.Place.{Place}
+use Rattle.hay_map.specs.declared.place.Place.TheVariants as place
+use Rattle.hay_physical.specs.Copies.{Copy, end_of}
+use Rattle.hay_logical.specs.declared.unsure.Change.{Change}
+use Rattle.hay_logical.specs.declared.unsure.Change.TheVariants as change
+use Rattle.hay_logical.specs.declared.unsure.Unsure.{Unsure}
+use Rattle.hay_logical.specs.Fits.{At}
+
+abbrev pub is_live : {P : Type 0} → Place P → Bool
+is_live (place.Live needle) = true
+is_live _ = false
+
+-- a replica has a put if its cells end elsewhere now, and a delete if no photo of the pair is there
+abbrev pub keeps : {P : Type 0} → Change → MapRows P → ℕ → ℕ → Bool
+keeps (change.Put ends) rows j end = not (end == slice_index ends j)
+keeps (change.Delete pair) rows j end = not (is_live (place_in (row_at rows pair) j))
+
+pub record KeptIn {D P : Type 0} (change : Change) (rows : MapRows P) (replicas : List (Copy D)) (kept : List Bool) : Type 0 where
+  pub count : length kept ≡ length replicas
+  pub each : (j : ℕ) (r : Copy D) → At replicas j r → slice_get kept j ≡ Some (keeps change rows j (end_of r))
+
+-- one note for each replica, where a change was broken off
+abbrev pub NotesAre : {D P : Type 0} → Settings → ℕ → Option Unsure → MapRows P → List (Copy D) → List Note → Type 0
+NotesAre settings v None rows replicas notes = notes ≡ []
+NotesAre settings v (Some unsure) rows replicas notes =
+    (kept : List Bool) × KeptIn unsure.change rows replicas kept × (notes ≡ replica_notes settings v (unsure.tag).line 0 kept)

@@ -1,0 +1,126 @@
+-- When a logical volume stands for what is known of it.
+use Rattle.std.specs.Prelude.{◌≡◌, ℕ, ◌<◌, Bool, true, false, length, Option, Some, None, slice_index}
+use Rattle.hay_needle.specs.declared.needle.Pair.{Pair}
+use Rattle.hay_needle.specs.declared.settings.Settings.{Settings}
+use Rattle.hay_needle.specs.Tables.{outcome_at}
+use Rattle.hay_disk.specs.Disk.{Files}
+use Rattle.hay_core.specs.declared.entry.Entry.{Entry}
+use Rattle.hay_core.specs.declared.entry.Entry.TheVariants.{Put, Del}
+use Rattle.hay_legal.specs.declared.known.Pending.{Pending}
+use Rattle.hay_legal.specs.declared.known.VolumeKnown.{VolumeKnown}
+use Rattle.hay_legal.specs.Known.{now, replica_at, machine_of}
+use Rattle.hay_legal.specs.Statuses.{IsNewVolume}
+use Rattle.hay_legal.specs.Stands.{found_of}
+use Rattle.hay_map.specs.Places.{PlaceMeans, place_in}
+use Rattle.hay_map.specs.Rows.{row_at}
+use Rattle.hay_open.specs.Stored.{Stored, PlaceOf, last_cell}
+use Rattle.hay_physical.specs.Copies.{Copy, contents_of, is_stuck}
+use Rattle.hay_physical.specs.Replicas as physical
+use Rattle.hay_logical.specs.declared.unsure.Change.{Change}
+use Rattle.hay_logical.specs.declared.unsure.Change.TheVariants as change
+use Rattle.hay_logical.specs.declared.unsure.Unsure.{Unsure}
+use Rattle.hay_logical.specs.Fits.{At, Fits, HoldsPart, IsReplica, part_of}
+use Rattle.hay_logical.specs.Volumes.{HasAll, Volume}
+
+-- A CHANGE THAT WAS BROKEN OFF
+
+-- it is kept in memory: a put with where each replica's cells ended
+abbrev pub IsChange : Change → VolumeKnown → Entry → Type 0
+IsChange (change.Put ends) k (Put pair cookie bytes) = (j : ℕ) → j < length k.replicas → slice_index ends j ≡ (replica_at k j).end
+IsChange (change.Delete other) k (Del pair) = other ≡ pair
+IsChange _ k _ = ⊥
+
+abbrev pub IsPending : Option Unsure → VolumeKnown → Option Pending → Type 0
+IsPending None k None = Unit {0}
+IsPending (Some unsure) k (Some pending) = (unsure.tag ≡ pending.tag) × IsChange unsure.change k pending.entry
+IsPending _ k _ = ⊥
+
+-- Where it failed, its volume is frozen by the machine of the replica that broke it off. For want of memory only a put
+-- is broken off.
+abbrev pub IsBrokenAt : Settings → ℕ → Option ℕ → ℕ → Bool → Entry → Type 0
+IsBrokenAt settings v frozen broken_at true entry = (broken_at < settings.replicas) × (frozen ≡ Some (machine_of settings v broken_at))
+IsBrokenAt settings v frozen broken_at false (Put pair cookie bytes) = Unit {0}
+IsBrokenAt settings v frozen broken_at false (Del pair) = ⊥
+
+abbrev pub IsBroken : Settings → ℕ → Option ℕ → ℕ → Option Pending → Type 0
+IsBroken settings v frozen broken_at None = Unit {0}
+IsBroken settings v frozen broken_at (Some pending) = IsBrokenAt settings v frozen broken_at pending.failed pending.entry
+
+-- WHAT THE DISKS HOLD
+
+abbrev pub HoldsPending : {D : Type 0} → (D → Files) → Copy D → Bool → Stored → Option Pending → ℕ → ℕ → Type 0
+HoldsPending files r stuck s None broken_at j = physical.Holds files r stuck s s
+HoldsPending files r stuck s (Some pending) broken_at j = HoldsPart files r stuck pending.entry s (part_of broken_at j)
+
+-- A replica's disk has what is known, and of a change that was broken off what it may have.
+pub record ReplicaHolds {D : Type 0} (files : D → Files) (k : VolumeKnown) (broken_at j : ℕ) (r : Copy D) : Type 0 where
+  pub stored : Stored
+  pub fits : Fits k (replica_at k j) stored
+  pub holds : HoldsPending files r (replica_at k j).stuck stored k.pending broken_at j
+
+pub record HoldsFor {D P : Type 0} (files : D → Files) (volume : Volume D P) (k : VolumeKnown) : Type 0 where
+  pub all : HasAll volume
+  pub many : length k.replicas ≡ volume.settings.replicas
+  pub broken_at : ℕ
+  pub broken : IsBroken volume.settings volume.number k.frozen broken_at k.pending
+  pub each : (j : ℕ) (r : Copy D) → At volume.replicas j r → ReplicaHolds files k broken_at j r
+
+-- In every image of its disks an opening finds one of the outcomes of a restart from what is known.
+unfoldable pub Holds : {D P : Type 0} → (D → Files) → Volume D P → VolumeKnown → Type 0
+Holds files volume k = HoldsFor files volume k
+
+-- OPEN VOLUMES
+
+-- A replica takes changes, and its places are those of its photos.
+pub record ReplicaStands {D P : Type 0} (files : D → Files) (Tells : Type 0) (volume : Volume D P) (k : VolumeKnown) (j : ℕ) (r : Copy D) : Type 0 where
+  pub stored : Stored
+  pub fits : Fits k (replica_at k j) stored
+  pub stands : physical.Stands files r stored
+  pub stuck : (replica_at k j).stuck ≡ is_stuck r
+  pub places : (pair : Pair) → PlaceOf Tells (last_cell stored.cells pair) (place_in (row_at volume.rows pair) j)
+
+pub record TakesChanges {D P : Type 0} (files : D → Files) (Tells : Type 0) (volume : Volume D P) (k : VolumeKnown) : Type 0 where
+  pub pending : k.pending ≡ None
+  pub each : (j : ℕ) (r : Copy D) → At volume.replicas j r → ReplicaStands files Tells volume k j r
+
+-- Of a frozen volume the places mean what stood before the change that was broken off.
+pub record IsFrozen {D P : Type 0} (files : D → Files) (Tells : Type 0) (volume : Volume D P) (k : VolumeKnown) : Type 0 where
+  pub places : (pair : Pair) (j : ℕ) → j < volume.settings.replicas →
+      PlaceMeans Tells pair (place_in (row_at volume.rows pair) j) (outcome_at (now k (replica_at k j)) pair)
+  pub holds : HoldsFor files volume k
+
+abbrev pub StandsBy : {D P : Type 0} → (D → Files) → Type 0 → Volume D P → VolumeKnown → Option ℕ → Type 0
+StandsBy files Tells volume k None = TakesChanges files Tells volume k
+StandsBy files Tells volume k (Some m) = IsFrozen files Tells volume k
+
+pub record StandsFor {D P : Type 0} (files : D → Files) (Tells : Type 0) (volume : Volume D P) (k : VolumeKnown) : Type 0 where
+  pub all : HasAll volume
+  pub many : length k.replicas ≡ volume.settings.replicas
+  pub front : volume.front ≡ length k.log
+  pub frozen : k.frozen ≡ volume.frozen
+  pub unsure : IsPending volume.unsure k k.pending
+  pub by : StandsBy files Tells volume k volume.frozen
+
+-- An open volume stands for what is known of it.
+unfoldable pub Stands : {D P : Type 0} → (D → Files) → Type 0 → Volume D P → VolumeKnown → Type 0
+Stands files Tells volume k = StandsFor files Tells volume k
+
+-- CLOSED VOLUMES
+
+abbrev pub IsIdle : {D P : Type 0} → (D → Files) → Volume D P → Type 0
+IsIdle {D} files volume = (j : ℕ) (r : Copy D) → At volume.replicas j r → physical.IsIdle files r
+
+-- A volume that was stopped: its disks hold what is known, and what was broken off is kept in memory.
+pub record StoppedFor {D P : Type 0} (files : D → Files) (volume : Volume D P) (k : VolumeKnown) : Type 0 where
+  pub holds : HoldsFor files volume k
+  pub unsure : IsPending volume.unsure k k.pending
+
+unfoldable pub Stopped : {D P : Type 0} → (D → Files) → Volume D P → VolumeKnown → Type 0
+Stopped files volume k = StoppedFor files volume k
+
+-- A volume at which nothing has happened yet, as its disks have it.
+pub record IsFirst {D P : Type 0} (files : D → Files) (volume : Volume D P) (k : VolumeKnown) : Type 0 where
+  pub new : IsNewVolume volume.settings k
+  pub unsure : volume.unsure ≡ None
+  pub found : (j : ℕ) (r : Copy D) → At volume.replicas j r →
+      IsReplica volume.settings volume.number j (contents_of files r.disk) (found_of (replica_at k j))

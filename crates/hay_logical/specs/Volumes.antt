@@ -1,0 +1,74 @@
+-- A logical volume as contracts see it.
+use Rattle.std.specs.Prelude.{◌≡◌, ℕ, ◌<◌, ◌≤◌, false, List, length, Option, None}
+use Rattle.hay_needle.specs.declared.settings.Settings.{Settings}
+use Rattle.hay_needle.specs.declared.needle.Pair.{Pair}
+use Rattle.hay_disk.specs.Disk.{Files}
+use Rattle.hay_map.specs.MapRows.{MapRows}
+use Rattle.hay_map.specs.Places.{place_in}
+use Rattle.hay_map.specs.Rows.{row_at}
+use Rattle.hay_physical.specs.declared.state.Phase.TheVariants.{Closed}
+use Rattle.hay_physical.specs.Copies.{Copy, is_frozen}
+use Rattle.hay_physical.specs.Copies as copies
+use Rattle.hay_physical.specs.Replicas as physical
+use Rattle.hay_logical.specs.declared.unsure.Unsure.{Unsure}
+use Rattle.hay_logical.specs.Fits.{At, super_of}
+
+-- its replicas in order, the rows of places, how many changes were made since the opening, the machine by which it is
+-- frozen, and the change that was broken off
+pub record Volume (D P : Type 0) : Type 0 where
+  pub settings : Settings
+  pub number : ℕ
+  pub replicas : List (Copy D)
+  pub rows : MapRows P
+  pub front : ℕ
+  pub frozen : Option ℕ
+  pub unsure : Option Unsure
+
+-- settings and a volume's number that a store may have
+pub record IsOfSettings (settings : Settings) (v : ℕ) : Type 0 where
+  pub some : 1 ≤ settings.replicas
+  pub most : settings.replicas ≤ 4
+  pub fits : settings.replicas ≤ settings.machines
+  pub volumes : settings.volumes ≤ 64
+  pub within : v < settings.volumes
+
+-- each replica has the superblock of its place
+abbrev pub HasSupers : {D P : Type 0} → Volume D P → Type 0
+HasSupers {D} volume = (j : ℕ) (r : Copy D) → At volume.replicas j r → r.sup ≡ super_of volume.settings volume.number j
+
+-- What holds of every volume.
+pub record IsShaped {D P : Type 0} (volume : Volume D P) : Type 0 where
+  pub settings : IsOfSettings volume.settings volume.number
+  pub count : length volume.replicas ≤ volume.settings.replicas
+  pub sups : HasSupers volume
+  pub width : volume.rows.replicas ≡ volume.settings.replicas
+  pub thawed : volume.frozen ≡ None → (j : ℕ) (r : Copy D) → At volume.replicas j r → is_frozen r ≡ false
+
+-- Each photo that the rows have of a replica which takes changes can be deleted there.
+abbrev pub CanDelete : {D P : Type 0} → Type 0 → (D → Files) → List (Copy D) → MapRows P → Type 0
+CanDelete {D} DiskTells files replicas rows = DiskTells → (j : ℕ) (r : Copy D) → At replicas j r → copies.IsUp r → (pair : Pair) →
+    physical.MayDeletePlace files r (place_in (row_at rows pair) j)
+
+-- all replicas are there
+abbrev pub HasAll : {D P : Type 0} → Volume D P → Type 0
+HasAll volume = length volume.replicas ≡ volume.settings.replicas
+
+-- each replica is closed, and each is open
+abbrev pub IsClosed : {D P : Type 0} → Volume D P → Type 0
+IsClosed {D} volume = (j : ℕ) (r : Copy D) → At volume.replicas j r → r.phase ≡ Closed
+
+pub record IsOpen {D P : Type 0} (volume : Volume D P) : Type 0 where
+  pub all : HasAll volume
+  pub each : (j : ℕ) (r : Copy D) → At volume.replicas j r → copies.IsOpen r
+
+-- no count of faults fell, and the fuses stayed
+pub record KeepsCounts {D : Type 0} (faults fuses : D → ℕ) (old new : List (Copy D)) : Type 0 where
+  pub count : length new ≡ length old
+  pub rises : (j : ℕ) (r r' : Copy D) → At old j r → At new j r' → faults r.disk ≤ faults r'.disk
+  pub stay : (j : ℕ) (r r' : Copy D) → At old j r → At new j r' → fuses r'.disk ≡ fuses r.disk
+
+-- the same volume, of which each replica keeps its superblock
+pub record IsSame {D P : Type 0} (old new : Volume D P) : Type 0 where
+  pub settings : new.settings ≡ old.settings
+  pub number : new.number ≡ old.number
+  pub sups : (j : ℕ) (r r' : Copy D) → At old.replicas j r → At new.replicas j r' → r'.sup ≡ r.sup

@@ -1,0 +1,20 @@
+//! A logical volume: up to four replicas that have the same changes in the same order, and in memory the place of each
+//! photo on each of them. It stands on `hay_physical`, and on `hay_map` for the places.
+//!
+//! A change is made on each replica in order, and then in memory. Where one of them fails, the volume is frozen by its
+//! machine: it takes no more changes, and shows what stood before. Once it was stopped and is opened again, each replica
+//! has the change or lacks it, and the opening tells which. What it stands for is said in the words of `hay_legal`.
+//!
+//! A volume also stands for what is known where a disk tells nothing of what it holds, as far as counts go.
+#![tactic(auto)]
+
+mod fault;
+mod logical;
+mod notes;
+mod refusals;
+mod replicas;
+mod unsure;
+
+pub use fault::{LogicalFault, Unopened};
+pub use logical::{Logical, Looked};
+pub use unsure::{Change, Unsure};

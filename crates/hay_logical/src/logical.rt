@@ -1,0 +1,387 @@
+//! A logical volume.
+ghost use Rattle.std.specs.Prelude.{◌≡◌, ◌≢◌, ◌⊎◌, ◌≤◌, ◌<◌, ◌+◌, ◌++◌, ◌∷◌, [], ℕ, List, Option, Some, None, true, false, length, map, Ok, Err, IfOk, IfErr, IfSome, IfNone, OnOk, OnErr};
+ghost use Rattle.hay_disk.specs.Counts.{IsNext, Rose};
+ghost use Rattle.hay_disk.specs.Disk.{MayLeave};
+ghost use Rattle.hay_legal.specs.declared.known.VolumeKnown.{VolumeKnown};
+ghost use Rattle.hay_legal.specs.Known.{machine_of, now, replica_at, room_refusal_of};
+ghost use Rattle.hay_needle.specs.Tables.{outcome_at};
+ghost use Rattle.hay_map.specs.Places.{PlaceMeans, place_in};
+ghost use Rattle.hay_map.specs.Rows.{row_at};
+ghost use Rattle.hay_open.specs.declared.fault.OpenFault.TheVariants as open_fault;
+ghost use Rattle.hay_physical.specs.declared.state.Phase.TheVariants.{Closed};
+ghost use Rattle.hay_physical.specs.Copies.{Copy, contents_of};
+ghost use Rattle.hay_physical.specs.Copies as copies;
+ghost use Rattle.hay_logical.specs.Fits.{At, super_of};
+ghost use Rattle.hay_logical.specs.Steps.{IsRefusedAt, KeepsDisk, RoomFor};
+ghost use Rattle.hay_logical.specs.Volumes.{HasAll, IsClosed, IsOfSettings, IsOpen, IsSame, KeepsCounts};
+ghost use Rattle.hay_logical.specs.Stands.{Holds, IsFirst, IsIdle, Stands, Stopped};
+ghost use Rattle.hay_logical.specs.Answers.{DeleteRefused, FlushRefused, IsDeleteFault, IsDeleted, IsFlushFault, IsFlushed, IsPut, IsPutFault, IsReopened, IsRoomFault, PutRefused, room_answer};
+
+use crate::fault::{LogicalFault, Unopened};
+use crate::notes::{machine_of, notes_of};
+use crate::refusals::{flush_refusal, full_at, has_live, is_untouched, put_refusal};
+use crate::replicas::{
+    delete_each, ends_of, flush_at, fuse_at, open_each, put_each, room_in, stop_each,
+};
+use crate::unsure::{Change, Unsure};
+use hay_base::{Listed, NoMemory};
+use hay_core::CoreTag;
+use hay_disk::{Disk, Piece};
+use hay_map::{MapView, Row};
+use hay_needle::{Cookie, FileKind, Pair, Settings, Super};
+use hay_open::OpenFault;
+use hay_physical::Replica;
+use hay_reply::Note;
+use std::alloc::Global;
+use std::marker::Model;
+
+/// The place of a pair's photo on each replica, and how many changes were made since the opening.
+#[derive(Drop)]
+pub struct Looked<P: Piece> {
+    pub front: u64,
+    pub row: Row<P>,
+}
+
+/// A logical volume.
+#[derive(Drop)]
+pub struct Logical<D: Disk> {
+    settings: Settings,
+    number: u32,
+    // Room for four is taken at the start.
+    replicas: Vec<Replica<D>>,
+    rows: MapView<D::Piece>,
+    front: u64,
+    frozen: Option<u32>,
+    unsure: Option<Unsure>,
+}
+
+impl<D: Disk> Model for Logical<D> {
+    ghost use Rattle.std.specs.Prelude.{◌≤◌};
+    ghost use Rattle.std.specs.Vec.{vec_capacity};
+    ghost use Rattle.hay_logical.specs.Volumes.{CanDelete, IsShaped, Volume};
+
+    ghost Value = { Volume D D.Piece };
+
+    ghost view = { λ v. record {
+      settings = v.settings;
+      number = v.number;
+      replicas = v.replicas.items;
+      rows = v.rows;
+      front = v.front;
+      frozen = v.frozen;
+      unsure = v.unsure;
+    } };
+
+    ghost invariant = { λ v. IsShaped (record {
+      settings = v.settings;
+      number = v.number;
+      replicas = v.replicas.items;
+      rows = v.rows;
+      front = v.front;
+      frozen = v.frozen;
+      unsure = v.unsure;
+    }) × (4 ≤ vec_capacity v.replicas) × CanDelete D.Tells D.files v.replicas.items v.rows };
+}
+
+impl<D: Disk> Logical<D> {
+    /// A closed volume without replicas. It has the memory for them.
+    pub fn new(alloc: Global, settings: Settings, number: u32) -> Result<Logical<D>, NoMemory>
+        requires { IsOfSettings settings number }
+        ensures settings { IfOk result (λ volume. (volume.settings ≡ settings) × (volume.number ≡ number)) }
+        ensures replicas { IfOk result (λ volume. volume.replicas ≡ []) }
+        ensures unsure { IfOk result (λ volume. (volume.frozen ≡ None) × (volume.unsure ≡ None)) }
+    {
+        let Ok(replicas) = Vec::with_capacity(alloc, 4) else {
+            return Err(NoMemory);
+        };
+        Ok(Logical {
+            settings,
+            number,
+            replicas,
+            rows: MapView::new(alloc, settings.replicas),
+            front: 0,
+            frozen: None,
+            unsure: None,
+        })
+    }
+
+    /// Adds the disk of the next replica, which is closed.
+    pub fn add(&mut self, disk: D)
+        requires { length self.old.replicas < self.old.settings.replicas }
+        ensures { self.new ≡ record self.old {
+          replicas = self.old.replicas ++ record { sup = super_of self.old.settings self.old.number (length self.old.replicas); disk = disk; phase = Closed } ∷ [];
+        } }
+    {
+        let sup = Super {
+            settings: self.settings,
+            kind: FileKind::Volume,
+            volume: self.number,
+            replica: self.replicas.len() as u32,
+            generation: 0,
+        };
+        self.replicas.push_reserved(Replica::new(disk, sup));
+    }
+
+    /// Opens each replica in order, and answers the notes of a change that was broken off before the stop: of each
+    /// replica, whether it has it. A refusal leaves some of the replicas closed.
+    pub fn open(&mut self, alloc: Global) -> Result<Listed<Note>, Unopened>
+        requires all { HasAll self.old }
+        requires closed { IsClosed self.old }
+        requires idle { D.Tells → IsIdle D.files self.old }
+
+        // The volume stands for what the disks had, or behind a stop for what that may have left.
+        ensures first { D.Tells → (k : VolumeKnown) → IsFirst D.files self.old k →
+            IfOk result (λ notes. (notes ≡ []) × Stands D.files D.Piece.Tells self.new k) }
+        ensures reopened { D.Tells → (k : VolumeKnown) → Stopped D.files self.old k →
+            IfOk result (λ notes. IsReopened D.files D.Piece.Tells k notes self.new) }
+        ensures open { OnOk result (IsOpen self.new) }
+
+        // What a refusal leaves, and its cause.
+        ensures left { D.Tells → (k : VolumeKnown) → Stopped D.files self.old k → OnErr result (Holds D.files self.new k) }
+        ensures kept { D.Tells → (j : ℕ) (r r' : Copy D) → At self.old.replicas j r → At self.new.replicas j r' → KeepsDisk D.files r r' }
+        ensures refused { IfErr result (IsRefusedAt D.Tells D.files D.fault_count self.old.replicas self.new.replicas) }
+        ensures whole { D.Tells → (k : VolumeKnown) → Stopped D.files self.old k → (replica file at : ℕ) →
+            result ≡ Err (record { replica = replica; fault = open_fault.Damaged file at }) → ⊥ }
+
+        ensures counts { KeepsCounts D.fault_count D.fuse_count self.old.replicas self.new.replicas }
+        ensures same { IsSame self.old self.new }
+    {
+        self.rows = MapView::new(alloc, self.settings.replicas);
+        match open_each(self.replicas.as_mut_slice(), &mut self.rows, alloc) {
+            Ok(()) => {}
+            Err(refusal) => return Err(refusal),
+        }
+        let Ok(notes) = notes_of(
+            alloc,
+            &self.settings,
+            self.number,
+            &self.unsure,
+            self.replicas.as_slice(),
+            &self.rows,
+        ) else {
+            return Err(Unopened {
+                replica: 0,
+                fault: OpenFault::NoMemory,
+            });
+        };
+        self.front = 0;
+        self.frozen = None;
+        self.unsure = None;
+        Ok(notes)
+    }
+
+    /// Whether the volume takes a photo of this size: `ReadOnly` where it is frozen, and then `Full` for the lowest
+    /// replica that lacks room.
+    pub fn room(&self, size: u32) -> Result<(), LogicalFault>
+        requires open { IsOpen self.now }
+        ensures known { D.Tells → (k : VolumeKnown) → Stands D.files D.Piece.Tells self.now k →
+            result ≡ room_answer self.now.settings k.frozen (room_refusal_of self.now.settings self.now.number k size) }
+        ensures frozen { (m : ℕ) → self.now.frozen ≡ Some m → result ≡ Err (LogicalFault.ReadOnly m) }
+        ensures fits { OnOk result ((self.now.frozen ≡ None) × ((j : ℕ) (r : Copy D) → At self.now.replicas j r → RoomFor size r)) }
+        ensures causes { IfErr result IsRoomFault }
+    {
+        if let Some(machine) = self.frozen {
+            return Err(LogicalFault::ReadOnly { machine });
+        }
+        let Err(lacking) = room_in(self.replicas.as_slice(), size) else {
+            return Ok(());
+        };
+        let machine = machine_of(&self.settings, self.number, lacking.at);
+        Err(full_at(machine, lacking.fault))
+    }
+
+    /// The places of a pair's photo. It takes no memory.
+    pub fn look(&self, pair: Pair) -> Looked<D::Piece>
+        ensures front { result.front ≡ self.now.front }
+        ensures row { result.row ≡ row_at self.now.rows pair }
+        ensures long { length result.row ≡ self.now.settings.replicas }
+        ensures known { D.Tells → (k : VolumeKnown) → Stands D.files D.Piece.Tells self.now k → (result.front ≡ length k.log)
+            × ((j : ℕ) → j < self.now.settings.replicas → PlaceMeans D.Piece.Tells pair (place_in result.row j) (outcome_at (now k (replica_at k j)) pair)) }
+    {
+        Looked {
+            front: self.front,
+            row: self.rows.row(pair),
+        }
+    }
+
+    /// Stores a photo on each replica in order, and then in the rows, and answers the position of the change.
+    /// `Failed` freezes the volume, and so does `NoMemory` once a disk was changed.
+    pub fn put(
+        &mut self,
+        alloc: Global,
+        tag: CoreTag,
+        pair: Pair,
+        cookie: Cookie,
+        bytes: &[u8],
+    ) -> Result<u64, LogicalFault>
+        requires size { length bytes.now ≤ 1048576 }
+        requires open { IsOpen self.old }
+        ensures stored { D.Tells → (k : VolumeKnown) → Stands D.files D.Piece.Tells self.old k →
+            IfOk result (λ position. IsPut D.files D.Piece.Tells k tag pair cookie bytes.now position self.new) }
+        ensures refused { D.Tells → (k : VolumeKnown) → Stands D.files D.Piece.Tells self.old k →
+            IfErr result (PutRefused D.files D.Piece.Tells k tag pair cookie bytes.now self.old self.new) }
+        ensures causes { IfErr result (IsPutFault D.fault_count self.old.settings self.old.number self.old.replicas self.new.replicas) }
+        ensures open { IsOpen self.new }
+        ensures counts { KeepsCounts D.fault_count D.fuse_count self.old.replicas self.new.replicas }
+        ensures same { IsSame self.old self.new }
+    {
+        self.room(bytes.len() as u32)?;
+        let Some(position) = self.front.checked_add(1) else {
+            return Err(LogicalFault::NoMemory);
+        };
+        if self.rows.reserve().is_err() {
+            return Err(LogicalFault::NoMemory);
+        }
+        let ends = ends_of(self.replicas.as_slice());
+        match put_each(self.replicas.as_mut_slice(), alloc, pair, cookie, bytes) {
+            Ok(row) => {
+                if self.rows.put(pair, &row).is_err() {
+                    unreachable!();
+                }
+                self.front = position;
+                Ok(position)
+            }
+            Err(broken) => {
+                if is_untouched(self.replicas.as_slice(), &broken) {
+                    return Err(LogicalFault::NoMemory);
+                }
+                let refusal = put_refusal(&self.settings, self.number, &broken);
+                self.frozen = Some(refusal.machine);
+                self.unsure = Some(Unsure {
+                    tag,
+                    change: Change::Put { ends },
+                });
+                Err(refusal.fault)
+            }
+        }
+    }
+
+    /// Deletes a pair's photo from each replica that has it, in order, and then from the rows, and answers the position of
+    /// the change. It takes no memory. `Failed` freezes the volume.
+    pub fn delete(&mut self, tag: CoreTag, pair: Pair) -> Result<u64, LogicalFault>
+        requires open { IsOpen self.old }
+        ensures deleted { D.Tells → (k : VolumeKnown) → Stands D.files D.Piece.Tells self.old k →
+            IfOk result (λ position. IsDeleted D.files D.Piece.Tells k tag pair position self.new) }
+        ensures refused { D.Tells → (k : VolumeKnown) → Stands D.files D.Piece.Tells self.old k →
+            IfErr result (DeleteRefused D.files D.Piece.Tells k tag pair self.old self.new) }
+        ensures causes { IfErr result (IsDeleteFault D.fault_count self.old.settings self.old.number self.old.replicas self.new.replicas) }
+        ensures open { IsOpen self.new }
+        ensures counts { KeepsCounts D.fault_count D.fuse_count self.old.replicas self.new.replicas }
+        ensures same { IsSame self.old self.new }
+    {
+        if let Some(machine) = self.frozen {
+            return Err(LogicalFault::ReadOnly { machine });
+        }
+        let row = self.rows.row(pair);
+        if !has_live(&row) {
+            return Err(LogicalFault::Gone { front: self.front });
+        }
+        let Some(position) = self.front.checked_add(1) else {
+            return Err(LogicalFault::NoMemory);
+        };
+        match delete_each(self.replicas.as_mut_slice(), &row) {
+            Ok(()) => {
+                self.rows.del(pair);
+                self.front = position;
+                Ok(position)
+            }
+            Err(failed) => {
+                let machine = machine_of(&self.settings, self.number, failed.at);
+                self.frozen = Some(machine);
+                self.unsure = Some(Unsure {
+                    tag,
+                    change: Change::Delete { pair },
+                });
+                Err(LogicalFault::Failed {
+                    machine,
+                    faults: failed.faults,
+                })
+            }
+        }
+    }
+
+    /// Gives the cells of a replica without an index record theirs, and answers how many these were. `ReadOnly` comes
+    /// where the volume is frozen, or the replica's index, which `Failed` freezes.
+    pub fn flush(&mut self, replica: u32) -> Result<u64, LogicalFault>
+        requires within { replica < self.old.settings.replicas }
+        requires open { IsOpen self.old }
+        ensures flushed { D.Tells → (k : VolumeKnown) → Stands D.files D.Piece.Tells self.old k →
+            IfOk result (λ number. IsFlushed D.files D.Piece.Tells k replica number self.new) }
+        ensures refused { D.Tells → (k : VolumeKnown) → Stands D.files D.Piece.Tells self.old k →
+            IfErr result (FlushRefused D.files D.Piece.Tells k replica self.old self.new) }
+        ensures causes { IfErr result (IsFlushFault D.fault_count self.old.settings self.old.number self.old.replicas self.new.replicas) }
+        ensures open { IsOpen self.new }
+        ensures counts { KeepsCounts D.fault_count D.fuse_count self.old.replicas self.new.replicas }
+        ensures same { IsSame self.old self.new }
+    {
+        if let Some(machine) = self.frozen {
+            return Err(LogicalFault::ReadOnly { machine });
+        }
+        let machine = machine_of(&self.settings, self.number, replica);
+        match flush_at(self.replicas.as_mut_slice(), replica as usize) {
+            Ok(count) => Ok(count),
+            Err(fault) => Err(flush_refusal(machine, fault)),
+        }
+    }
+
+    /// The machine by which the volume is frozen.
+    pub fn frozen(&self) -> Option<u32>
+        ensures is { result ≡ self.now.frozen }
+        ensures known { D.Tells → (k : VolumeKnown) → Stands D.files D.Piece.Tells self.now k → result ≡ k.frozen }
+    {
+        self.frozen
+    }
+
+    /// How many changes were made since the opening.
+    pub fn front(&self) -> u64
+        ensures is { result ≡ self.now.front }
+        ensures known { D.Tells → (k : VolumeKnown) → Stands D.files D.Piece.Tells self.now k → result ≡ length k.log }
+    {
+        self.front
+    }
+
+    /// How many calls of a replica's disk have failed.
+    pub fn faults(&self, replica: u32) -> u64
+        requires { replica < length self.now.replicas }
+        ensures { (r : Copy D) → At self.now.replicas replica r → result ≡ D.fault_count r.disk }
+    {
+        self.replicas.as_slice()[replica as usize].faults()
+    }
+
+    /// Sets a fuse on a replica's disk.
+    pub fn fuse(&mut self, replica: u32, calls: u32)
+        requires { replica < length self.old.replicas }
+        ensures stands { D.Tells → (k : VolumeKnown) → Stands D.files D.Piece.Tells self.old k → Stands D.files D.Piece.Tells self.new k }
+        ensures open { IsOpen self.old → IsOpen self.new }
+        ensures fused { (r r' : Copy D) → At self.old.replicas replica r → At self.new.replicas replica r' →
+            IsNext (D.fuse_count r.disk) (D.fuse_count r'.disk) × (D.fault_count r'.disk ≡ D.fault_count r.disk) }
+        ensures others { (j : ℕ) → (j ≡ replica → ⊥) → (r r' : Copy D) → At self.old.replicas j r → At self.new.replicas j r' → r' ≡ r }
+        ensures count { length self.new.replicas ≡ length self.old.replicas }
+        ensures same { IsSame self.old self.new }
+    {
+        fuse_at(self.replicas.as_mut_slice(), replica as usize, calls);
+    }
+
+    /// Stops each disk. `pick` chooses what that leaves.
+    pub fn stop(&mut self, pick: u64)
+        ensures stopped { D.Tells → (k : VolumeKnown) → Stands D.files D.Piece.Tells self.old k → Stopped D.files self.new k }
+        ensures closed { IsClosed self.new }
+        ensures idle { D.Tells → IsIdle D.files self.new }
+        ensures all { length self.new.replicas ≡ length self.old.replicas }
+        ensures counts { (j : ℕ) (r r' : Copy D) → At self.old.replicas j r → At self.new.replicas j r' →
+            (D.fault_count r'.disk ≡ D.fault_count r.disk) × (D.fuse_count r'.disk ≡ D.fuse_count r.disk) }
+        ensures same { IsSame self.old self.new }
+    {
+        stop_each(self.replicas.as_mut_slice(), pick);
+    }
+
+    /// Gives back the disk of the last replica that is there.
+    pub fn take(&mut self) -> Option<D>
+        ensures disk { IfSome result (λ disk. (r : Copy D) × (self.old.replicas ≡ self.new.replicas ++ r ∷ []) × (disk ≡ r.disk)) }
+        ensures none { IfNone result (self.old.replicas ≡ []) }
+        ensures same { IsSame self.old self.new }
+    {
+        let replica = self.replicas.pop()?;
+        Some(replica.into_disk())
+    }
+}

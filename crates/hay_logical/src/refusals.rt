@@ -1,0 +1,105 @@
+//! What a volume goes by where a change is refused.
+ghost use Rattle.std.specs.Prelude.{◌≡◌, ◌<◌, ◌⊎◌, ℕ, List, true, false, length};
+ghost use Rattle.hay_map.specs.Places.{place_in};
+ghost use Rattle.hay_physical.specs.Copies.{Copy, is_frozen};
+ghost use Rattle.hay_logical.specs.Fits.{At};
+ghost use Rattle.hay_logical.specs.Notes.{is_live};
+ghost use Rattle.hay_logical.specs.Refusals.{IsRefusal, IsUntouched, flush_answer};
+ghost use Rattle.hay_logical.specs.Volumes.{IsOfSettings};
+
+use crate::fault::LogicalFault;
+use crate::notes::machine_of;
+use crate::replicas::Broken;
+use hay_disk::{Disk, Piece};
+use hay_map::{Place, Row};
+use hay_needle::Settings;
+use hay_physical::{Replica, ReplicaFault};
+
+/// A refusal that freezes the volume by this machine.
+#[derive(Clone, Copy, Debug, PartialEq, Eq)]
+pub(crate) struct Refusal {
+    pub machine: u32,
+    pub fault: LogicalFault,
+}
+
+/// The refusal of a replica that lacks room.
+pub(crate) fn full_at(machine: u32, fault: ReplicaFault) -> LogicalFault
+    requires { (end : ℕ) × (need : ℕ) × (capacity : ℕ) × (fault ≡ ReplicaFault.Full end need capacity) }
+    ensures { (end need capacity : ℕ) → fault ≡ ReplicaFault.Full end need capacity → result ≡ LogicalFault.Full machine end need capacity }
+{
+    match fault {
+        ReplicaFault::Full {
+            end,
+            need,
+            capacity,
+        } => LogicalFault::Full {
+            machine,
+            end,
+            need,
+            capacity,
+        },
+        _ => unreachable!(),
+    }
+}
+
+/// Whether some replica has a photo.
+pub(crate) fn has_live<P: Piece>(row: &Row<P>) -> bool
+    ensures some { result ≡ true → (j : ℕ) × (j < length row.now) × (is_live (place_in row.now j) ≡ true) }
+    ensures none { result ≡ false → (j : ℕ) → j < length row.now → is_live (place_in row.now j) ≡ false }
+{
+    for j in 0..row.len() {
+        if let Place::Live(_) = row.place(j) {
+            return true;
+        }
+    }
+    false
+}
+
+/// Whether a put was broken off before it changed anything.
+pub(crate) fn is_untouched<D: Disk>(replicas: &[Replica<D>], broken: &Broken) -> bool
+    requires { broken.now.at < length replicas.now }
+    ensures untouched { result ≡ true → IsUntouched replicas.now broken.now }
+    ensures touched { result ≡ false → broken.now.fault ≡ ReplicaFault.NoMemory → (broken.now.at ≡ 0) → (r : Copy D) → At replicas.now 0 r → is_frozen r ≡ true }
+{
+    match broken.fault {
+        ReplicaFault::NoMemory => {
+            if broken.at != 0 {
+                return false;
+            }
+            !replicas[0].is_frozen()
+        }
+        _ => false,
+    }
+}
+
+/// What a put that was broken off is answered.
+pub(crate) fn put_refusal(settings: &Settings, number: u32, broken: &Broken) -> Refusal
+    requires of { IsOfSettings settings.now number }
+    requires within { broken.now.at < 4 }
+    ensures { IsRefusal settings.now number broken.now result }
+{
+    match broken.fault {
+        ReplicaFault::Failed { faults } => {
+            let machine = machine_of(settings, number, broken.at);
+            Refusal {
+                machine,
+                fault: LogicalFault::Failed { machine, faults },
+            }
+        }
+        _ => Refusal {
+            machine: machine_of(settings, number, 0),
+            fault: LogicalFault::NoMemory,
+        },
+    }
+}
+
+/// What a flush is answered that the replica on this machine refused.
+pub(crate) fn flush_refusal(machine: u32, fault: ReplicaFault) -> LogicalFault
+    ensures { result ≡ flush_answer machine fault }
+{
+    match fault {
+        ReplicaFault::Failed { faults } => LogicalFault::Failed { machine, faults },
+        ReplicaFault::NoMemory => LogicalFault::NoMemory,
+        ReplicaFault::Frozen | ReplicaFault::Full { .. } => LogicalFault::ReadOnly { machine },
+    }
+}
