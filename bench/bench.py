@@ -1,7 +1,9 @@
 #!/usr/bin/env python3
 """Measures the built program: photos of three sizes, put and read, and how time and memory grow with their number.
 
-    bench/bench.py [--program PATH] [--words WORDS] [--repeat N] [--max PUTS]
+    bench/bench.py [--program PATH] [--words WORDS] [--repeat N] [--max PUTS] [--size BYTES] [--folder PATH] [--growth]
+
+With --folder each run has real files, in a new folder below PATH. With --growth the table of sizes is left out.
 
 Each measure has two scripts: the puts alone, and the same puts with a read of each photo behind them. The program runs
 on each of them with plain files as its standard input and output. The time of the reads is the difference of the two
@@ -25,7 +27,7 @@ ROOT = Path(__file__).resolve().parent.parent
 MIB = 1024 * 1024
 TIME = "/usr/bin/time"
 SIZES = ((10_000, 64), (10_000, 4096), (100, MIB))
-COUNTS = (1_000, 3_000, 10_000, 30_000, 100_000)
+COUNTS = (1_000, 10_000, 100_000, 1_000_000)
 
 
 class Run:
@@ -68,12 +70,21 @@ def run_once(program, words, script, transcript):
     return Run(usage.ru_utime + usage.ru_stime, clock, int(peak.read_text(encoding="ascii")) * 1024)
 
 
+def run_in(options, script, transcript):
+    """Runs the program once, over real files if they are asked for."""
+    words = options.words.split()
+    if options.folder is None:
+        return run_once(options.program, words, script, transcript)
+    with tempfile.TemporaryDirectory(prefix="haystack-bench-", dir=options.folder) as store:
+        return run_once(options.program, [*words, "--folder", store], script, transcript)
+
+
 def run_script(options, folder, lines):
     """Runs the program on a script, and gives what it took and the file of its transcript."""
     script, transcript = folder / "script", folder / "transcript"
     with open(script, "w", encoding="ascii") as file:
         file.writelines(lines)
-    runs = [run_once(options.program, options.words.split(), script, transcript) for _ in range(options.repeat)]
+    runs = [run_in(options, script, transcript) for _ in range(options.repeat)]
     return functools.reduce(Run.joined, runs), transcript
 
 
@@ -144,12 +155,12 @@ def sizes_table(options, folder):
 
 def growth_table(options, folder):
     empty, _ = run_script(options, folder, [])
-    print("| puts of 64 bytes, and as many reads | seconds | microseconds a put | microseconds a read | peak MiB | bytes a photo |")
+    print(f"| puts of {options.size} bytes, and as many reads | seconds | microseconds a put | microseconds a read | peak MiB | bytes a photo |")
     print("|---:|---:|---:|---:|---:|---:|")
     for count in COUNTS:
         if count > options.max:
             break
-        puts, both = measure(options, folder, count, 64)
+        puts, both = measure(options, folder, count, options.size)
         print(
             f"| {count:,} | {both.cpu:.2f} | {(puts.cpu - empty.cpu) / count * 1e6:.1f} | {(both.cpu - puts.cpu) / count * 1e6:.1f}"
             f" | {both.peak / MIB:.1f} | {(both.peak - empty.peak) / count:.0f} |",
@@ -163,13 +174,17 @@ def main():
     parser.add_argument("--words", default=f"run --capacity {1024 * MIB}")
     parser.add_argument("--repeat", type=int, default=3)
     parser.add_argument("--max", type=int, default=100_000)
+    parser.add_argument("--size", type=int, default=64)
+    parser.add_argument("--folder")
+    parser.add_argument("--growth", action="store_true")
     options = parser.parse_args()
     if not os.access(options.program, os.X_OK):
         sys.exit(f"{options.program} is not there: cd crates/haystack && rt run -- run < stdin")
     print(f"{machine()}; the least of {options.repeat} runs of `haystack {options.words}`.\n", flush=True)
     with tempfile.TemporaryDirectory(prefix="haystack-bench-") as name:
-        sizes_table(options, Path(name))
-        print()
+        if not options.growth:
+            sizes_table(options, Path(name))
+            print()
         growth_table(options, Path(name))
 
 
