@@ -21,6 +21,8 @@ pub(crate) struct SlotFiles<R> {
     folder: File,
     open: BTreeMap<u32, Arc<File>>,
     is_settled: bool,
+    /// A file was made or taken away since the folder was synced.
+    folder_changed: bool,
 }
 
 impl<R: System> SlotFiles<R> {
@@ -37,6 +39,7 @@ impl<R: System> SlotFiles<R> {
             folder,
             open: BTreeMap::new(alloc),
             is_settled: false,
+            folder_changed: false,
         };
         files.settle()?;
         Ok(files)
@@ -59,6 +62,7 @@ impl<R: System> SlotFiles<R> {
             }
         }
         self.folder.sync_all()?;
+        self.folder_changed = false;
         self.is_settled = true;
         Ok(())
     }
@@ -107,6 +111,7 @@ impl<R: System> SlotFiles<R> {
             return Ok(opened);
         }
         let path = self.path_of(file)?;
+        self.folder_changed = true;
         let made = open(
             &self.rt,
             OpenOptions::new().read(true).write(true).create(true),
@@ -147,17 +152,22 @@ impl<R: System> SlotFiles<R> {
         write_whole(&*self.open_or_make(file)?, at, bytes)
     }
 
-    /// Syncs the file, and then the folder.
+    /// Syncs the file, and then the folder, if a file was made or taken away.
     pub(crate) fn sync(&mut self, file: u32) -> io::Result<()> {
         if let Some(opened) = self.find(file)? {
             opened.sync_all()?;
         }
-        self.folder.sync_all()
+        if self.folder_changed {
+            self.folder.sync_all()?;
+            self.folder_changed = false;
+        }
+        Ok(())
     }
 
     pub(crate) fn remove(&mut self, file: u32) -> io::Result<()> {
         let path = self.path_of(file)?;
         self.open.remove(&file);
+        self.folder_changed = true;
         match fs::remove_file(&self.rt, path.as_str()) {
             Err(error) if error.kind() == ErrorKind::NotFound => Ok(()),
             removed => removed,
