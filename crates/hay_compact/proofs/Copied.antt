@@ -25,7 +25,7 @@ use Rattle.hay_index.specs.declared.record.Record.{Record}
 use Rattle.hay_index.specs.Records.{IsIndex}
 use Rattle.hay_open.specs.Stored.{cell_record, index_super, last_cell, volume_super}
 use Rattle.hay_compact.specs.Standing.{Places, place_in}
-use Rattle.hay_compact.specs.Copying.{Copying, HasPeeked, IsCopy, IsLatest, IsSafe, MovesOn, Stage, cell_total, live_among, moved, photo_place}
+use Rattle.hay_compact.specs.Copying.{Copying, HasPeeked, IsCopy, IsLatest, IsSafe, Making, MovesOn, Stage, cell_total, live_among, moved, photo_place}
 use Rattle.hay_compact.proofs.LiveNeedles.{next_among}
 use Rattle.hay_compact.proofs.CellLists.{lacks_more, lacks_parts, last_cell-append, latest_live, other_dead}
 use Rattle.hay_compact.proofs.Copyings.{current_parts, end_next, needles_next, skips, within_next}
@@ -99,43 +99,27 @@ copy_skips sup files old s new current fresh n at total cell head latest h is co
 
 -- A CELL IS COPIED
 
-pub copy_copies : (sup : Super) (files later : Files) (old : VolumeFile) (s : Stage) (volume : VolumeFile) (index : IndexFile) (standing : Places) (current fresh : List Cell) (n total : ℕ) (cell : Cell) (head : CellHead) (latest : Option ℕ) (row : Record)
-    → Copying sup files old s current fresh n → drop n current ≡ cell ∷ drop (n + 1) current → IsCopy s.next s.bytes head cell → IsLatest current cell.pair latest
-    → head.deleted ≡ false → latest ≡ Some s.next → total ≡ total_of_lem head.size
+-- what that makes of the new files
+pub copy_makes : (sup : Super) (files later : Files) (s : Stage) (volume : VolumeFile) (index : IndexFile) (standing : Places) (fresh : List Cell) (next : ℕ) (cell : Cell) (head : CellHead) (row : Record)
+    → Making sup files s fresh → IsCopy s.next s.bytes head cell → head.deleted ≡ false
     → volume ≡ record s.volume { end = s.volume.end + (length s.bytes - 8) }
     → ((superblock : List ℕ) (cells : List Cell) (needle : Needle) → IsMarked s.bytes needle → IsVolume superblock (files s.volume.file).now cells s.volume.end → IsVolume superblock (later s.volume.file).now (cells ++ cell_of_needle s.volume.end needle ∷ []) volume.end)
     → ((k : ℕ) → (files s.volume.file).sealed k ≡ false → (later s.volume.file).sealed k ≡ false) → KeepsOthers s.volume.file files later
     → index ≡ record s.index { pending = s.index.pending ++ row ∷ [] } → row ≡ record { pair = head.pair; at = s.volume.end; size = head.size }
     → ((pair : Pair) → place_in standing pair ≡ cond (pair_eq head.pair pair) (Some s.volume.end) (place_in s.standing pair))
-    → MovesOn sup later old (record s { volume = volume; index = index; standing = standing; next = s.next + total }) current fresh n cell s.volume.end true
-copy_copies sup files later old s volume index standing current fresh n total cell head latest row h is copy last alive here size grown added free others noted row_is set = record {
-  copying = record {
-    names_volume = file ∙ h.names_volume;
-    names_index = ap (λ (i : IndexFile). i.file) noted ∙ h.names_index;
-    volume_is = subst (λ k. IsVolume (super_bytes (volume_super sup s.generation)) (later k).now (fresh ++ copied ∷ []) volume.end) (sym file)
-        (added (super_bytes (volume_super sup s.generation)) fresh (needle_of_cell cell) copy.marked h.volume_is);
-    index_is = subst (λ (i : IndexFile). IsIndex (super_bytes (index_super sup s.generation)) (later i.file).now [] i.end) (sym noted)
-        (subst (λ (f : FileState). IsIndex (super_bytes (index_super sup s.generation)) f.now [] s.index.end) (sym index_stays) h.index_is);
-    volume_free = λ k. subst (λ j. (later j).sealed k ≡ false) (sym file) (free k (h.volume_free k));
-    index_free = λ k. subst (λ (i : IndexFile). (later i.file).sealed k ≡ false) (sym noted) (ap (λ (f : FileState). f.sealed k) index_stays ∙ h.index_free k);
-    noted = ap (λ (i : IndexFile). i.pending) noted ∙ ap (λ (l : List Record). l ++ row ∷ []) h.noted ∙ ap (λ (r : Record). map cell_record fresh ++ r ∷ []) record_is ∙ sym (map-append cell_record fresh (copied ∷ []));
-    places = λ pair. set pair ∙ placed pair;
-    capacity_is = h.capacity_is;
-    volume_apart = λ same. h.volume_apart (same ∙ file);
-    index_apart = λ same. h.index_apart (same ∙ ap (λ (i : IndexFile). i.file) noted);
-    superblock = h.superblock;
-    current_is = subst (λ (f : FileState). IsVolume h.superblock f.now current old.end) (sym (others old.file h.volume_apart)) h.current_is;
-    within = within_next n current cell h.within is;
-    next_is = (let before = h.next_is in omega (arith, end_next n current cell is, size, ap (λ (x : CellHead). total_of_lem x.size) copy.head_is));
-    known = λ pair none. lacks_more pair fresh copied (h.known pair none) (not_here pair none);
-  };
-  live = sym lives;
-  table = λ pair table.
-      subst (λ (l : List Needle). CopiesAt pair l (needles_of current) (n + 1)) (sym (map-append needle_of_cell fresh (copied ∷ [])))
-      (copies_one pair (needles_of fresh) (needles_of current) n (needle_of_cell cell) (needles_of (drop (n + 1) current)) (needles_next n current cell is) lives table);
-  exact = λ exact.
-      map-append needle_of_cell fresh (copied ∷ []) ∙ ap (λ (l : List Needle). l ++ needle_of_cell cell ∷ []) exact
-      ∙ sym (next_among n (needles_of current) (needle_of_cell cell) (needles_of (drop (n + 1) current)) (needles_next n current cell is) ∙ ap (λ (b : Bool). live_among n (needles_of current) ++ cond b (needle_of_cell cell ∷ []) []) lives);
+    → Making sup later (record s { volume = volume; index = index; standing = standing; next = next }) (fresh ++ moved s.volume.end cell ∷ [])
+copy_makes sup files later s volume index standing fresh next cell head row h copy alive grown added free others noted row_is set = record {
+  names_volume = file ∙ h.names_volume;
+  names_index = ap (λ (i : IndexFile). i.file) noted ∙ h.names_index;
+  volume_is = subst (λ k. IsVolume (super_bytes (volume_super sup s.generation)) (later k).now (fresh ++ copied ∷ []) volume.end) (sym file)
+      (added (super_bytes (volume_super sup s.generation)) fresh (needle_of_cell cell) copy.marked h.volume_is);
+  index_is = subst (λ (i : IndexFile). IsIndex (super_bytes (index_super sup s.generation)) (later i.file).now [] i.end) (sym noted)
+      (subst (λ (f : FileState). IsIndex (super_bytes (index_super sup s.generation)) f.now [] s.index.end) (sym index_stays) h.index_is);
+  volume_free = λ k. subst (λ j. (later j).sealed k ≡ false) (sym file) (free k (h.volume_free k));
+  index_free = λ k. subst (λ (i : IndexFile). (later i.file).sealed k ≡ false) (sym noted) (ap (λ (f : FileState). f.sealed k) index_stays ∙ h.index_free k);
+  noted = ap (λ (i : IndexFile). i.pending) noted ∙ ap (λ (l : List Record). l ++ row ∷ []) h.noted ∙ ap (λ (r : Record). map cell_record fresh ++ r ∷ []) record_is ∙ sym (map-append cell_record fresh (copied ∷ []));
+  places = λ pair. set pair ∙ placed pair;
+  capacity_is = h.capacity_is;
 }
   where
     copied : Cell
@@ -166,6 +150,46 @@ copy_copies sup files later old s volume index standing current fresh n total ce
         ∙ by_test (pair_eq head.pair pair) (last_cell fresh pair)
         ∙ ap (λ (p : Pair). photo_place (option_or (cond (pair_eq p pair) (Some copied) None) (last_cell fresh pair))) pair_is
         ∙ ap photo_place (sym (last_cell-append fresh (copied ∷ []) pair))
+
+pub copy_copies : (sup : Super) (files later : Files) (old : VolumeFile) (s : Stage) (volume : VolumeFile) (index : IndexFile) (standing : Places) (current fresh : List Cell) (n total : ℕ) (cell : Cell) (head : CellHead) (latest : Option ℕ)
+    → Copying sup files old s current fresh n → drop n current ≡ cell ∷ drop (n + 1) current → IsCopy s.next s.bytes head cell → IsLatest current cell.pair latest
+    → head.deleted ≡ false → latest ≡ Some s.next → total ≡ total_of_lem head.size
+    → volume.file ≡ s.volume.file → index.file ≡ s.index.file → KeepsOthers s.volume.file files later
+    → Making sup later (record s { volume = volume; index = index; standing = standing; next = s.next + total }) (fresh ++ moved s.volume.end cell ∷ [])
+    → MovesOn sup later old (record s { volume = volume; index = index; standing = standing; next = s.next + total }) current fresh n cell s.volume.end true
+copy_copies sup files later old s volume index standing current fresh n total cell head latest h is copy last alive here size file index_file others made = record {
+  copying = record {
+    names_volume = made.names_volume;
+    names_index = made.names_index;
+    volume_is = made.volume_is;
+    index_is = made.index_is;
+    volume_free = made.volume_free;
+    index_free = made.index_free;
+    noted = made.noted;
+    places = made.places;
+    capacity_is = made.capacity_is;
+    volume_apart = λ same. h.volume_apart (same ∙ file);
+    index_apart = λ same. h.index_apart (same ∙ index_file);
+    superblock = h.superblock;
+    current_is = subst (λ (f : FileState). IsVolume h.superblock f.now current old.end) (sym (others old.file h.volume_apart)) h.current_is;
+    within = within_next n current cell h.within is;
+    next_is = (let before = h.next_is in omega (arith, end_next n current cell is, size, ap (λ (x : CellHead). total_of_lem x.size) copy.head_is));
+    known = λ pair none. lacks_more pair fresh copied (h.known pair none) (not_here pair none);
+  };
+  live = sym lives;
+  table = λ pair table.
+      subst (λ (l : List Needle). CopiesAt pair l (needles_of current) (n + 1)) (sym (map-append needle_of_cell fresh (copied ∷ [])))
+      (copies_one pair (needles_of fresh) (needles_of current) n (needle_of_cell cell) (needles_of (drop (n + 1) current)) (needles_next n current cell is) lives table);
+  exact = λ exact.
+      map-append needle_of_cell fresh (copied ∷ []) ∙ ap (λ (l : List Needle). l ++ needle_of_cell cell ∷ []) exact
+      ∙ sym (next_among n (needles_of current) (needle_of_cell cell) (needles_of (drop (n + 1) current)) (needles_next n current cell is) ∙ ap (λ (b : Bool). live_among n (needles_of current) ++ cond b (needle_of_cell cell ∷ []) []) lives);
+}
+  where
+    copied : Cell
+    copied = moved s.volume.end cell
+
+    kept : cell.deleted ≡ false
+    kept = sym (head_deleted head cell copy.head_is) ∙ alive
 
     parts : current ≡ take n current ++ cell ∷ drop (n + 1) current
     parts = current_parts n current cell is
@@ -201,6 +225,24 @@ unnoted a b m r q is was =
     ∙ ap (λ k. with a.file k b.pending b.frozen) (ap (λ (i : IndexFile). i.end) both)
     ∙ ap (λ (l : List Record). with a.file a.end l b.frozen) list
     ∙ ap (λ z. with a.file a.end a.pending z) (ap (λ (i : IndexFile). i.frozen) both)
+
+-- it stands where it stood
+pub making_stands : (sup : Super) (files later : Files) (s new : Stage) (standing : Places) (fresh : List Cell) → Making sup files s fresh → later ≡ files
+    → ((pair : Pair) → place_in standing pair ≡ place_in s.standing pair) → new ≡ record s { standing = standing } → Making sup later new fresh
+making_stands sup files later s new standing fresh h same places is =
+    subst (λ (f : Files). Making sup f new fresh) (sym same)
+    (subst (λ (x : Stage). Making sup files x fresh) (sym is)
+    (record {
+      names_volume = h.names_volume;
+      names_index = h.names_index;
+      volume_is = h.volume_is;
+      index_is = h.index_is;
+      volume_free = h.volume_free;
+      index_free = h.index_free;
+      noted = h.noted;
+      places = λ pair. places pair ∙ h.places pair;
+      capacity_is = h.capacity_is;
+    }))
 
 -- it stands where it stood
 pub copy_stands : (sup : Super) (files later : Files) (old : VolumeFile) (s new : Stage) (standing : Places) (current fresh : List Cell) (n : ℕ) → Copying sup files old s current fresh n → later ≡ files

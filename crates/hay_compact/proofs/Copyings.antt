@@ -19,9 +19,23 @@ use Rattle.hay_volume.specs.Cells.{HasCells, StandsCell, IsCellAt, cell_head, ne
 use Rattle.hay_volume.proofs.Readings.{cells_first, cell_begins, same_cell}
 use Rattle.hay_disk.specs.Gate.{Stands, end_mark}
 use Rattle.hay_needle.proofs.Needles.{length-needle}
-use Rattle.hay_compact.specs.Copying.{Copying, HasPeeked, IsCopy, MovesOn, Stage, cell_total, end_of, live_among}
+use Rattle.hay_compact.specs.Copying.{Copying, HasPeeked, IsCopy, Making, MovesOn, Stage, cell_total, end_of, live_among}
 use Rattle.hay_compact.proofs.LiveNeedles.{next_among}
 use Rattle.hay_compact.proofs.CellLists.{after_front, cells_end}
+
+-- what was made of the new files
+pub making_of : (sup : Super) (files : Files) (old : VolumeFile) (s : Stage) (current fresh : List Cell) (n : ℕ) → Copying sup files old s current fresh n → Making sup files s fresh
+making_of sup files old s current fresh n h = record {
+  names_volume = h.names_volume;
+  names_index = h.names_index;
+  volume_is = h.volume_is;
+  index_is = h.index_is;
+  volume_free = h.volume_free;
+  index_free = h.index_free;
+  noted = h.noted;
+  places = h.places;
+  capacity_is = h.capacity_is;
+}
 
 -- WHERE IT STANDS
 

@@ -103,14 +103,23 @@ pub record Copying (sup : Super) (files : Files) (old : VolumeFile) (stage : Sta
   pub next_is : stage.next ≡ end_of (take examined current)
   pub known : (pair : Pair) → lacks pair (needles_of current) ≡ true → lacks pair (needles_of fresh) ≡ true
 
--- it is somewhere between two such files
-pub record IsCopying (files : Files) (stage : Stage) : Type 0 where
+-- What was made of the new files, whatever the current ones hold.
+pub record Making (sup : Super) (files : Files) (stage : Stage) (fresh : List Cell) : Type 0 where
+  pub names_volume : stage.volume.file ≡ volume_file stage.generation
+  pub names_index : stage.index.file ≡ index_file stage.generation
+  pub volume_is : IsVolume (super_bytes (volume_super sup stage.generation)) (files stage.volume.file).now fresh stage.volume.end
+  pub index_is : IsIndex (super_bytes (index_super sup stage.generation)) (files stage.index.file).now [] stage.index.end
+  pub volume_free : IsFree (files stage.volume.file)
+  pub index_free : IsFree (files stage.index.file)
+  pub noted : stage.index.pending ≡ map cell_record fresh
+  pub places : (pair : Pair) → place_in stage.standing pair ≡ photo_place (last_cell fresh pair)
+  pub capacity_is : stage.capacity ≡ sup.settings.capacity
+
+-- something was made of them
+pub record IsMaking (files : Files) (stage : Stage) : Type 0 where
   pub sup : Super
-  pub old : VolumeFile
-  pub current : List Cell
   pub fresh : List Cell
-  pub examined : ℕ
-  pub copying : Copying sup files old stage current fresh examined
+  pub making : Making sup files stage fresh
 
 -- The invariant of a compaction: at each pair the new file followed by the cells that are not examined yet has the current
 -- file's table, and a pair that has nothing in the current file has nothing in the new one.

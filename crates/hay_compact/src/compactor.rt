@@ -11,7 +11,7 @@ ghost use Rattle.hay_volume.specs.Cells.{IsVolume, needles_of};
 ghost use Rattle.hay_volume.specs.declared.fault.CellFault.{CellFault};
 ghost use Rattle.hay_volume.specs.declared.volume.VolumeFile.{VolumeFile};
 ghost use Rattle.hay_open.specs.Stored.{index_file, volume_file};
-ghost use Rattle.hay_compact.specs.Copying.{Copies, Copying, HasPeeked, IsCopy, IsCopying, IsLatest, KeepsOtherFiles, MovesOn, Repeats, live_among};
+ghost use Rattle.hay_compact.specs.Copying.{Copies, Copying, HasPeeked, IsCopy, IsLatest, IsMaking, KeepsOtherFiles, Making, MovesOn, Repeats, live_among};
 
 use crate::standing::Standing;
 use hay_disk::{Disk, DiskFault, Failed};
@@ -67,6 +67,7 @@ impl Compactor {
             IsVolume superblock (D.files disk.old old.file).now cells old.end →
             old.file ≢ volume_file generation → old.file ≢ index_file generation →
             Copying sup.now (D.files disk.new) old stage cells [] 0) }
+        ensures made { D.Tells → IfOk result (λ stage. Making sup.now (D.files disk.new) stage []) }
         ensures names { IfOk result (λ stage. stage.generation ≡ generation) }
 
         ensures others { D.Tells → KeepsOtherFiles generation (D.files disk.old) (D.files disk.new) }
@@ -98,6 +99,13 @@ impl Compactor {
             next: volume.end(),
             bytes: Vec::new(alloc),
         })
+    }
+
+    /// The generation that is made.
+    pub fn generation(&self) -> u64
+        ensures { result ≡ self.now.generation }
+    {
+        self.generation
     }
 
     /// Whether all cells of the current volume file were examined.
@@ -173,7 +181,7 @@ impl Compactor {
         latest: Option<u64>,
     ) -> Result<bool, CellFault>
         requires peeked { HasPeeked self.old.next self.old.bytes cell }
-        requires copying { D.Tells → IsCopying (D.files disk.old) self.old }
+        requires making { D.Tells → IsMaking (D.files disk.old) self.old }
 
         ensures examined { D.Tells → IfOk result (λ copied. (sup : Super) (old : VolumeFile) (current fresh : List Cell) (examined : ℕ) (c : Cell) →
             Copying sup (D.files disk.old) old self.old current fresh examined →
@@ -185,6 +193,8 @@ impl Compactor {
             Copying sup (D.files disk.old) old self.old current fresh examined →
             Copying sup (D.files disk.new) old self.new current fresh examined }
         ensures kept { D.Tells → IsErrOf result CellFault.NoMemory → D.files disk.new ≡ D.files disk.old }
+        ensures making { D.Tells → OnOk result (IsMaking (D.files disk.new) self.new) }
+        ensures made { D.Tells → IsErrOf result CellFault.NoMemory → IsMaking (D.files disk.new) self.new }
         ensures damaged { (k : ℕ) → result ≡ Err (CellFault.Damaged k) → ⊥ }
 
         ensures names { self.new.generation ≡ self.old.generation }
@@ -220,11 +230,12 @@ impl Compactor {
     /// Repeats a delete: the pair's last cell in the new file, whatever version it is, is marked as deleted. Where there is
     /// none that is not deleted, nothing is called. It takes no memory. After `Failed` the compaction must not go on.
     pub fn repeat_delete<D: Disk>(&mut self, disk: &mut D, pair: Pair) -> Result<(), Failed>
-        requires { D.Tells → IsCopying (D.files disk.old) self.old }
+        requires { D.Tells → IsMaking (D.files disk.old) self.old }
 
         ensures repeated { D.Tells → OnOk result ((sup : Super) (old : VolumeFile) (current fresh : List Cell) (examined : ℕ) →
             Copying sup (D.files disk.old) old self.old current fresh examined →
             Repeats sup (D.files disk.new) old self.new current fresh examined pair) }
+        ensures making { D.Tells → OnOk result (IsMaking (D.files disk.new) self.new) }
 
         ensures names { self.new.generation ≡ self.old.generation }
         ensures others { D.Tells → KeepsOthers self.old.volume.file (D.files disk.old) (D.files disk.new) }

@@ -1,14 +1,13 @@
 //! The end of a compaction.
 
-ghost use Rattle.std.specs.Prelude.{◌≡◌, ◌≤◌, ◌∷◌, [], List, ℕ, All, map, drop, IfOk, OnOk, IsErrOf};
+ghost use Rattle.std.specs.Prelude.{◌≡◌, ◌≤◌, List, ℕ, All, map, drop, false, IfOk, OnOk, IsErrOf};
 ghost use Rattle.hay_disk.specs.Counts.{IsCounted};
 ghost use Rattle.hay_disk.specs.Disk.{KeepsOthers};
 ghost use Rattle.hay_needle.specs.declared.needle.Cell.{Cell};
 ghost use Rattle.hay_needle.specs.declared.settings.Super.{Super};
-ghost use Rattle.hay_volume.specs.declared.volume.VolumeFile.{VolumeFile};
 ghost use Rattle.hay_index.specs.declared.record.Record.{Record};
 ghost use Rattle.hay_open.specs.Stored.{Stored, VolumeRests, cell_record};
-ghost use Rattle.hay_compact.specs.Copying.{Copying, IsCopying, KeepsOtherFiles};
+ghost use Rattle.hay_compact.specs.Copying.{IsMaking, KeepsOtherFiles, Making};
 ghost use Rattle.hay_compact.specs.Finishing.{ArePlacesSoFar, AreThePlaces, CanSeal, IsDue, IsFinished};
 
 use crate::compactor::Compactor;
@@ -32,15 +31,16 @@ pub struct Finished<P: Piece> {
 }
 
 impl Compactor {
-    /// Ends the compaction, once all cells are examined: the new volume file is on the disk, the needle of each pair whose
-    /// photo stands is sealed, but for its flags, and the index has a record for each cell and is on the disk. Two syncs, and one write
-    /// between them where a cell was copied.
+    /// Ends the compaction, once all cells are examined: the index has a record for each cell and is on the disk, the new
+    /// volume file is on the disk, and the needle of each pair whose photo stands is sealed, but for its flags. One write where
+    /// a cell was copied, and two syncs behind it.
     pub fn finish<D: Disk>(self, disk: &mut D) -> Result<Finished<D::Piece>, DiskFault>
-        requires { D.Tells → IsCopying (D.files disk.old) self }
+        requires { D.Tells → IsMaking (D.files disk.old) self }
 
-        ensures finished { D.Tells → IfOk result (λ finished. (sup : Super) (old : VolumeFile) (current fresh : List Cell) (examined : ℕ) →
-            Copying sup (D.files disk.old) old self current fresh examined →
+        ensures finished { D.Tells → IfOk result (λ finished. (sup : Super) (fresh : List Cell) →
+            Making sup (D.files disk.old) self fresh →
             IsFinished D.Piece.Tells sup (D.files disk.new) finished self fresh) }
+        ensures thawed { IfOk result (λ finished. finished.index.frozen ≡ false) }
 
         ensures others { D.Tells → KeepsOtherFiles self.generation (D.files disk.old) (D.files disk.new) }
         ensures drawn { D.Tells → (n : ℕ) → D.drawn disk.new n ≡ D.drawn disk.old n }
@@ -56,17 +56,13 @@ impl Compactor {
             next: _,
             bytes,
         } = self;
+        let alloc = *bytes.allocator();
         let file = volume.file();
-        disk.sync(file)?;
-        let places = seal_all(
-            *bytes.allocator(),
-            disk,
-            file,
-            index.pending.as_slice(),
-            &standing,
-        )?;
+        let records = Vec::from_slice(alloc, index.pending.as_slice())?;
         index.flush_loose(disk)?;
         disk.sync(index.file)?;
+        disk.sync(file)?;
+        let places = seal_all(alloc, disk, file, records.as_slice(), &standing)?;
         Ok(Finished {
             volume: VolumeFile::adopt(file, volume.end(), capacity),
             index,

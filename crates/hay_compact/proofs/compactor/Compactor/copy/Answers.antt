@@ -1,4 +1,4 @@
-use Rattle.std.proofs.Common.{◌≡◌, ◌<◌, ◌+◌, ◌-◌, ◌^◌, ◌∙◌, List, ℕ, length, cond, true, refl, ap, arith, inl, inr, sym, subst, Some}
+use Rattle.std.proofs.Common.{◌≡◌, ◌<◌, ◌+◌, ◌-◌, ◌^◌, ◌∙◌, ◌++◌, ◌∷◌, [], List, ℕ, length, cond, true, refl, ap, arith, inl, inr, sym, subst, Some}
 use Rattle.hay_needle.specs.Tables.{pair_eq}
 use Rattle.hay_volume.specs.Cells.{IsMarked}
 use Rattle.hay_volume.specs.declared.fault.CellFault.{CellFault}
@@ -7,8 +7,9 @@ use Rattle.hay_index.specs.declared.record.Record.{Record}
 use Rattle.hay_index.specs.declared.index.IndexFile.{IndexFile}
 use Rattle.hay_volume.specs.declared.volume.VolumeFile.{VolumeFile}
 use Rattle.hay_compact.specs.Standing.{place_in}
-use Rattle.hay_compact.specs.Copying.{Copying, HasPeeked, IsCopy, MovesOn, Stage}
-use Rattle.hay_compact.proofs.Copied.{peeked_fits, stays_safe, copy_skips, copy_copies, copy_stands, unnoted, not_next, is_next}
+use Rattle.hay_compact.specs.Copying.{Copying, HasPeeked, IsCopy, IsMaking, MovesOn, Stage, moved}
+use Rattle.hay_compact.proofs.Copyings.{making_of}
+use Rattle.hay_compact.proofs.Copied.{peeked_fits, stays_safe, copy_skips, copy_makes, copy_copies, copy_stands, making_stands, unnoted, not_next, is_next}
 use Rattle.hay_compact.proofs.compactor.Compactor.copy.Goals as goal
 use Rattle.hay_compact.proofs.compactor.Compactor.copy.Goals.{then-cell-via-then-cell, then-cell-via-else-cell+then-ne}
 
@@ -39,20 +40,42 @@ invariant_of-self-in-Ok g c =
     stays_safe s c.append_loose.new.self c.note.new.self row c.args.cell c.total_of-in-Ok.result (subst (λ (x : Stage). HasPeeked x.next x.bytes c.args.cell) (sym c.self.view_is) c.requires.peeked) c.self.invariant
     (c.in-Ok.ensures.moved ∙ ap (λ (l : List ℕ). record s.volume { end = s.volume.end + (length l - 8) }) c.as_slice.ensures.value) c.in_ok-note.ensures.ok refl c.total_of-in-Ok.ensures
 
+pub returns-in-Ok-clause-making : goal.returns-in-Ok-clause-making
+returns-in-Ok-clause-making g c = λ tells.
+    let s : Stage = record { generation = c.self.inside.generation; capacity = c.self.inside.capacity; volume = c.self.inside.volume; index = c.self.inside.index; standing = c.self.inside.standing; next = c.self.inside.next; bytes = c.self.inside.bytes.items } in
+    let row : Record = record { pair = c.args.cell.pair; at = c.end.result; size = c.args.cell.size } in
+    let under = subst (λ (x : Stage). IsMaking (g.D.Disk.files c.args.disk.now) x) (sym c.self.view_is) (c.requires.making tells) in
+    let peeked = subst (λ (x : Stage). HasPeeked x.next x.bytes c.args.cell) (sym c.self.view_is) c.requires.peeked in
+    record {
+      sup = under.sup;
+      fresh = under.fresh ++ moved s.volume.end peeked.cell ∷ [];
+      making = copy_makes under.sup (g.D.Disk.files c.args.disk.now) (g.D.Disk.files c.append_loose.new.disk) s c.append_loose.new.self c.note.new.self c.set.new.self under.fresh (s.next + c.total_of-in-Ok.result) peeked.cell c.args.cell row
+          under.making peeked.is c.if-cell.false
+          (c.in-Ok.ensures.moved ∙ ap (λ (l : List ℕ). record s.volume { end = s.volume.end + (length l - 8) }) c.as_slice.ensures.value)
+          (λ superblock cells needle marked volume. c.in-Ok.ensures.added tells superblock cells needle (subst (λ (l : List ℕ). IsMarked l needle) (sym c.as_slice.ensures.value) marked) volume)
+          (c.append_loose.ensures.changes tells).free (c.append_loose.ensures.others tells)
+          c.in_ok-note.ensures.ok (ap (λ k. let r : Record = record { pair = c.args.cell.pair; at = k; size = c.args.cell.size } in r) c.end.ensures)
+          (λ pair. c.set.ensures pair ∙ ap (λ k. cond (pair_eq c.args.cell.pair pair) (Some k) (place_in c.reserve.new.self pair)) c.in-Ok.ensures.place ∙ ap (λ o. cond (pair_eq c.args.cell.pair pair) (Some s.volume.end) o) (c.in_ok-reserve.ensures.same pair));
+    }
+
 pub returns-in-Ok-clause-examined : goal.returns-in-Ok-clause-examined
 returns-in-Ok-clause-examined g c = λ tells sup old current fresh examined cell copying is copy latest.
     let s : Stage = record { generation = c.self.inside.generation; capacity = c.self.inside.capacity; volume = c.self.inside.volume; index = c.self.inside.index; standing = c.self.inside.standing; next = c.self.inside.next; bytes = c.self.inside.bytes.items } in
     let row : Record = record { pair = c.args.cell.pair; at = c.end.result; size = c.args.cell.size } in
-    let made = copy_copies sup (g.D.Disk.files c.args.disk.now) (g.D.Disk.files c.append_loose.new.disk) old s c.append_loose.new.self c.note.new.self c.set.new.self current fresh examined c.total_of-in-Ok.result cell c.args.cell c.args.latest row
-    (subst (λ (x : Stage). Copying sup (g.D.Disk.files c.args.disk.now) old x current fresh examined) (sym c.self.view_is) copying) is (subst (λ (x : Stage). IsCopy x.next x.bytes c.args.cell cell) (sym c.self.view_is) copy) latest
-    c.if-cell.false (is_next c.args.latest c.self.inside.next c.ne.result c.ne.ensures c.if-ne.false) c.total_of-in-Ok.ensures
-    (c.in-Ok.ensures.moved ∙ ap (λ (l : List ℕ). record s.volume { end = s.volume.end + (length l - 8) }) c.as_slice.ensures.value)
+    let h = subst (λ (x : Stage). Copying sup (g.D.Disk.files c.args.disk.now) old x current fresh examined) (sym c.self.view_is) copying in
+    let this = subst (λ (x : Stage). IsCopy x.next x.bytes c.args.cell cell) (sym c.self.view_is) copy in
+    let moves : c.append_loose.new.self ≡ record s.volume { end = s.volume.end + (length s.bytes - 8) } = c.in-Ok.ensures.moved ∙ ap (λ (l : List ℕ). record s.volume { end = s.volume.end + (length l - 8) }) c.as_slice.ensures.value in
+    let made = copy_makes sup (g.D.Disk.files c.args.disk.now) (g.D.Disk.files c.append_loose.new.disk) s c.append_loose.new.self c.note.new.self c.set.new.self fresh (s.next + c.total_of-in-Ok.result) cell c.args.cell row
+    (making_of sup (g.D.Disk.files c.args.disk.now) old s current fresh examined h) this c.if-cell.false moves
     (λ superblock cells needle marked volume. c.in-Ok.ensures.added tells superblock cells needle (subst (λ (l : List ℕ). IsMarked l needle) (sym c.as_slice.ensures.value) marked) volume)
     (c.append_loose.ensures.changes tells).free (c.append_loose.ensures.others tells)
     c.in_ok-note.ensures.ok (ap (λ k. let r : Record = record { pair = c.args.cell.pair; at = k; size = c.args.cell.size } in r) c.end.ensures)
     (λ pair. c.set.ensures pair ∙ ap (λ k. cond (pair_eq c.args.cell.pair pair) (Some k) (place_in c.reserve.new.self pair)) c.in-Ok.ensures.place ∙ ap (λ o. cond (pair_eq c.args.cell.pair pair) (Some s.volume.end) o) (c.in_ok-reserve.ensures.same pair)) in
+    let step = copy_copies sup (g.D.Disk.files c.args.disk.now) (g.D.Disk.files c.append_loose.new.disk) old s c.append_loose.new.self c.note.new.self c.set.new.self current fresh examined c.total_of-in-Ok.result cell c.args.cell c.args.latest
+    h is this latest c.if-cell.false (is_next c.args.latest c.self.inside.next c.ne.result c.ne.ensures c.if-ne.false) c.total_of-in-Ok.ensures
+    (ap (λ (v : VolumeFile). v.file) moves) (ap (λ (i : IndexFile). i.file) c.in_ok-note.ensures.ok) (c.append_loose.ensures.others tells) made in
     subst (λ k. MovesOn sup (g.D.Disk.files c.append_loose.new.disk) old (record s { volume = c.append_loose.new.self; index = c.note.new.self; standing = c.set.new.self; next = s.next + c.total_of-in-Ok.result }) current fresh examined cell k true)
-    (ap (λ (x : Stage). x.volume.end) c.self.view_is) made
+    (ap (λ (x : Stage). x.volume.end) c.self.view_is) step
 
 pub returns-in-Err-clause-stands : goal.returns-in-Err-clause-stands
 returns-in-Err-clause-stands g c = λ tells memory sup old current fresh examined copying.
@@ -66,3 +89,21 @@ returns-in-Err-clause-stands g c = λ tells memory sup old current fresh examine
     (ap (λ (v : VolumeFile). let x : Stage = record s { volume = v; index = c.unnote.new.self; standing = c.reserve.new.self } in x) c.in-Err.ensures.stayed
     ∙ ap (λ (i : IndexFile). let x : Stage = record s { index = i; standing = c.reserve.new.self } in x) index
     ∙ ap (λ (x : Stage). record x { standing = c.reserve.new.self }) c.self.view_is)
+
+pub returns-in-Err-clause-made : goal.returns-in-Err-clause-made
+returns-in-Err-clause-made g c = λ tells memory.
+    let s : Stage = record { generation = c.self.inside.generation; capacity = c.self.inside.capacity; volume = c.self.inside.volume; index = c.self.inside.index; standing = c.self.inside.standing; next = c.self.inside.next; bytes = c.self.inside.bytes.items } in
+    let why : c.refusal.result ≡ CellFault.NoMemory = cc in
+    let wants : c.in-Err.fault ≡ VolumeFault.NoMemory = c.refusal.ensures.no_memory why in
+    let index : c.unnote.new.self ≡ s.index = unnoted s.index c.unnote.new.self c.note.new.self c.unnote.ensures.0 (record { pair = c.args.cell.pair; at = c.end.result; size = c.args.cell.size }) c.unnote.ensures.1 c.in_ok-note.ensures.ok in
+    let under = c.requires.making tells in
+    record {
+      sup = under.sup;
+      fresh = under.fresh;
+      making = making_stands under.sup (g.D.Disk.files c.args.disk.now) (g.D.Disk.files c.append_loose.new.disk) c.args.self.now (record s { volume = c.append_loose.new.self; index = c.unnote.new.self; standing = c.reserve.new.self }) c.reserve.new.self under.fresh under.making
+          (c.in-Err.ensures.kept tells (λ failed. let e : VolumeFault.NoMemory ≡ VolumeFault.Failed = sym wants ∙ failed in cc))
+          (λ pair. c.in_ok-reserve.ensures.same pair ∙ ap (λ (x : Stage). place_in x.standing pair) c.self.view_is)
+          (ap (λ (v : VolumeFile). let x : Stage = record s { volume = v; index = c.unnote.new.self; standing = c.reserve.new.self } in x) c.in-Err.ensures.stayed
+          ∙ ap (λ (i : IndexFile). let x : Stage = record s { index = i; standing = c.reserve.new.self } in x) index
+          ∙ ap (λ (x : Stage). record x { standing = c.reserve.new.self }) c.self.view_is);
+    }
