@@ -96,7 +96,7 @@ def shown(data):
 def check(program, folder, photos):
     """Runs the program over the folder, and answers how it ended."""
     script = "".join(f"read 0 {alt} {COOKIE}\n" * 2 for alt in range(1, PAIRS + 1)) + "put 0 99 61\ndel 0 1\nread 0 99 0\nflush 0 0\n"
-    done = subprocess.run([program, *WORDS, "--folder", folder], input=script, capture_output=True, timeout=60)
+    done = subprocess.run([program, *WORDS, "--folder", folder], input=script.encode(), capture_output=True, timeout=60)
     if done.returncode not in ENDS or done.stderr.decode() != ENDS[done.returncode]:
         sys.exit(f"{folder}: status {done.returncode}, {done.stderr!r}, {done.stdout[-300:]!r}")
     replies = done.stdout.decode("ascii").splitlines()

@@ -1,12 +1,13 @@
 #!/usr/bin/env python3
 """Kills the built program at random moments of a long run over a folder, opens the folder again, and reads every photo.
 
-    bench/kill.py [--program PATH] [--rounds N] [--seed N]
+    bench/kill.py [--program PATH] [--rounds N] [--seed N] [--compact]
 
-A round feeds the program puts, deletes, flushes and compactions over two machines, two volumes and two replicas, and kills
-it (SIGKILL) at a random moment. What it had printed by then is acknowledged; the one line behind that may have been carried
-out too. A second run over the folder then reads each pair: it must show what the acknowledged lines, or these and the next
-one, leave, on each replica. Before the rounds, two programs are started on one folder, and the second must be refused.
+A round feeds the program puts, deletes and flushes (with --compact: compactions too) over two machines, two volumes and two
+replicas, and kills it (SIGKILL) at a random moment. What it had printed by then is acknowledged; the one line behind that may
+have been carried out too. A second run over the folder then reads each pair: it must show what the acknowledged lines, or
+these and the next one, leave, on each replica. Before the rounds, two programs are started on one folder, and the second must
+be refused.
 """
 
 import argparse
@@ -140,7 +141,7 @@ def main():
     parser.add_argument("--program", default=str(ROOT / "crates/haystack/out/haystack"))
     parser.add_argument("--rounds", type=int, default=200)
     parser.add_argument("--seed", type=int, default=1)
-    parser.add_argument("--no-compact", action="store_true")
+    parser.add_argument("--compact", action="store_true", help="with compactions among the lines")
     options = parser.parse_args()
     program = str(Path(options.program).resolve())
     draw = random.Random(options.seed)
@@ -152,7 +153,7 @@ def main():
             shutil.rmtree(folder, ignore_errors=True)
             before = {}
             for _ in range(draw.randrange(1, 4)):
-                lines = script_of(draw, not options.no_compact)
+                lines = script_of(draw, options.compact)
                 done = kill_run(program, folder, lines, draw.uniform(0.02, 0.6))
                 changes = [change for _, change in lines]
                 least = contents_behind(before, changes[:done])
