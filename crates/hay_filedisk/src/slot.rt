@@ -56,6 +56,11 @@ impl<R: System> SlotFiles<R> {
         if self.is_settled {
             return Ok(());
         }
+        self.settle_all()
+    }
+
+    // The locals of reading a folder are large and are cleared when a function begins: so it is one of its own.
+    fn settle_all(&mut self) -> io::Result<()> {
         for entry in fs::read_dir(&self.rt, self.path.as_str())? {
             if let Some(file) = self.number_of(entry?.file_name()) {
                 self.settle_file(file)?;
