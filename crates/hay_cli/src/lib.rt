@@ -86,6 +86,3 @@ fn mode_of_words(alloc: Global, words: &[String]) -> Result<Mode, CliFault>
         _ => Err(CliFault::Usage),
     }
 }
-
-#[cfg(test)]
-mod tests;

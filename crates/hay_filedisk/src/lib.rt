@@ -18,8 +18,6 @@ mod shelf;
 mod slot;
 mod stream;
 mod system;
-#[cfg(test)]
-mod tests;
 
 pub use arm::FileArm;
 pub use disk::FileDisk;

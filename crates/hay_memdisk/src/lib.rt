@@ -21,8 +21,6 @@ mod slots;
 mod stream;
 mod sure;
 mod sure_shelf;
-#[cfg(test)]
-mod tests;
 
 pub use arm::MemArm;
 pub use disk::MemDisk;

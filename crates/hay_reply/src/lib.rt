@@ -234,6 +234,3 @@ pub enum Note {
         at: u64,
     },
 }
-
-#[cfg(test)]
-mod tests;

@@ -105,6 +105,3 @@ pub enum Line {
     /// `end`: the block is whole.
     End,
 }
-
-#[cfg(test)]
-mod tests;

@@ -1,4 +1,4 @@
-use crate::{CliFault, Mode, folder_of, read_words};
+use hay_cli::{CliFault, Mode, folder_of, read_words};
 use hay_needle::Settings;
 use std::alloc::Global;
 use std::test::Fail;

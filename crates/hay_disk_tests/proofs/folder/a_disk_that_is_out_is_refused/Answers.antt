@@ -1,6 +1,6 @@
 use Rattle.std.proofs.Common.{◌∙◌, ℕ, ap, rules}
 use Rattle.hay_disk.specs.Shelf.{HeldDisk}
-use Rattle.hay_filedisk.proofs.tests.a_disk_that_is_out_is_refused.Goals as goal
+use Rattle.hay_disk_tests.proofs.folder.a_disk_that_is_out_is_refused.Goals as goal
 
 pub take_disk-requires-4 : goal.take_disk-requires-4
 take_disk-requires-4 g c =

@@ -1,10 +1,10 @@
 //! What no clause says: that files keep what was written, and when the system fails a call.
-#![tactic(auto, unfolding(crate::specs::Shelf::file_disks, crate::specs::Shelf::file_arms))]
+#![tactic(auto, unfolding(hay_filedisk::specs::Shelf::file_disks, hay_filedisk::specs::Shelf::file_arms))]
 
 ghost use Rattle.std.specs.Prelude.{◌≡◌, IfOk};
 
-use super::*;
 use hay_disk::{Arm, Disk, DiskFault, Failed, Piece, Shelf, ShelfFault};
+use hay_filedisk::{FileDisk, FilePiece, FileShelf, System};
 use std::alloc::Global;
 use std::fs;
 use std::fs::Files;

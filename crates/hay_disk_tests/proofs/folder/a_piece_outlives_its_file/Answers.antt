@@ -1,6 +1,6 @@
 use Rattle.std.proofs.Common.{◌∙◌, ℕ, ap}
 use Rattle.hay_disk.specs.Shelf.{HeldDisk}
-use Rattle.hay_filedisk.proofs.tests.a_piece_outlives_its_file.Goals as goal
+use Rattle.hay_disk_tests.proofs.folder.a_piece_outlives_its_file.Goals as goal
 
 pub take_disk-requires : goal.take_disk-requires
 take_disk-requires g c =

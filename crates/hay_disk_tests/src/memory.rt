@@ -4,8 +4,8 @@ ghost use Rattle.hay_disk.specs.Gate.{IsGate};
 ghost use Rattle.hay_memdisk.specs.MemDisk.{mem_files};
 ghost use Rattle.hay_memdisk.specs.MemShelf.{mem_disks};
 
-use super::*;
 use hay_disk::{Arm, Disk, DiskFault, Failed, Piece, Shelf, Sink, Source, gate_append};
+use hay_memdisk::{MemArm, MemDisk, MemShelf, MemSink, MemSource, SureShelf};
 use std::alloc::Global;
 use std::process::Abort;
 use std::test::Fail;

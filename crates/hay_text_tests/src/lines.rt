@@ -1,4 +1,4 @@
-use crate::read_line;
+use hay_script::read_line;
 use std::test::Fail;
 
 #[test]
