@@ -3,7 +3,6 @@ use Rattle.std.proofs.Common.{◌≡◌, ℕ, ◌≤◌, true, false, List, [], 
 use Rattle.std.specs.Prelude.{find, is_none, slice_index, Err, Result, IsErrOf}
 use Rattle.std.specs.List.{AllByRecursion}
 use Rattle.std.proofs.lemmas.Bool.{cases_Bool, cond-true, cond-false}
-use Rattle.hay_needle.specs.declared.needle.Cookie.{Cookie}
 use Rattle.hay_needle.specs.declared.needle.Pair.{Pair}
 use Rattle.hay_needle.specs.declared.settings.Settings.{Settings}
 use Rattle.hay_disk.specs.Counts.{Rose}
@@ -18,7 +17,7 @@ use Rattle.hay_reply.specs.declared.Reply.TheVariants as reply
 use Rattle.hay_core.specs.declared.entry.CoreTag.{CoreTag}
 use Rattle.hay_legal.specs.declared.known.Known.{Known}
 use Rattle.hay_legal.specs.Known.{CameUp, Leaves, NoneFalls, fault_count, home_of, refusal_of, slot_of, taker_of, tries_of}
-use Rattle.hay_legal.specs.Plain.{LegalAnswer, LegalPut, LegalShow, row_pending, start_of}
+use Rattle.hay_legal.specs.Plain.{LegalCommand, row_pending}
 use Rattle.hay_directory.specs.declared.fault.DirFault.{DirFault}
 use Rattle.hay_directory.specs.declared.fault.DirFault.TheVariants as settling
 use Rattle.hay_cluster.specs.Causes.{CauseCameUp, Counts, HasCause, RoseAt, RoseIn}
@@ -28,15 +27,6 @@ use Rattle.hay_cluster.specs.State.{Answered, Stands}
 use Rattle.hay_cluster.specs.Store.{Open, disks_of}
 use Rattle.hay_cluster.proofs.Moves.{falls_at, none_falls}
 
--- what is legal for a put is legal for its command
-pub put_command : (settings : Settings) (k t : Known) (tag : CoreTag) (pair : Pair) (bytes : List ℕ) (answer : Reply) → LegalPut settings k tag pair bytes answer t → LegalAnswer settings k tag (command.Put pair bytes) answer t
-put_command settings k t tag pair bytes reply.Unbuilt legal = absurd legal
-put_command settings k t tag pair bytes _ legal = legal
-
-pub read_command : (settings : Settings) (k t : Known) (tag : CoreTag) (pair : Pair) (cookie : Cookie) (answer : Reply) → LegalShow settings k tag (start_of settings tag) pair cookie answer t → LegalAnswer settings k tag (command.Read pair cookie) answer t
-read_command settings k t tag pair cookie reply.Unbuilt legal = absurd legal
-read_command settings k t tag pair cookie _ legal = legal
-
 -- no count falls where nothing changed
 pub same_falls : {X : Type 0} (count : X → ℕ) (xs ys : List X) → ys ≡ xs → NoneFalls (map count xs) (map count ys)
 same_falls count xs ys same = subst (λ zs. NoneFalls (map count xs) (map count zs)) (sym same) (none_falls (map count xs))
@@ -45,11 +35,11 @@ pub stays : (k : Known) → Leaves k k k
 stays k = record { volumes = refl; directory = refl; drained = refl; fuses = refl; faults = none_falls k.faults; arms = none_falls k.arms }
 
 module _ {D P A : Type 0} (files : D → Files) (Tells : Type 0) (faults fuses : D → ℕ) (arm_faults : A → ℕ) where
-  pub answered : (store : Open D P A) (settings : Settings) (k known : Known) (tag : CoreTag) (asked : Command) (answer : Reply) → store.settings ≡ settings → LegalAnswer settings k tag asked answer known
+  pub answered : (store : Open D P A) (settings : Settings) (k known : Known) (tag : CoreTag) (asked : Command) (answer : Reply) → store.settings ≡ settings → LegalCommand settings k tag asked answer known
       → Stands files Tells faults fuses arm_faults store known → Answered files Tells faults fuses arm_faults k tag asked answer store
   answered store settings k known tag asked answer same legal stands = record {
     known = known;
-    legal = subst (λ (s : Settings). LegalAnswer s k tag asked answer known) (sym same) legal;
+    legal = subst (λ (s : Settings). LegalCommand s k tag asked answer known) (sym same) legal;
     stands = stands;
   }
 

@@ -1,11 +1,12 @@
 -- Calls of one volume, and why they were refused, by the store's counts.
 use Rattle.std.proofs.Common.{◌≡◌, ℕ, map, sym, subst}
 use Rattle.hay_logical.specs.Fits.{At}
-use Rattle.hay_logical.specs.Answers.{IsPutFault, IsDeleteFault, IsFlushFault}
+use Rattle.hay_logical.specs.Answers.{IsPutFault, IsDeleteFault}
 use Rattle.hay_logical.specs.Volumes.{IsOpen, Volume}
 use Rattle.hay_logical.specs.declared.fault.LogicalFault.{LogicalFault}
 use Rattle.hay_logical.specs.declared.fault.LogicalFault.TheVariants.{ReadOnly, Full, Gone, Failed, NoMemory}
-use Rattle.hay_cluster.specs.Causes.{IsPutCause, IsDeleteCause, IsFlushCause}
+use Rattle.hay_cluster.specs.Causes.{IsPutCause, IsDeleteCause, IsReplicaCause}
+use Rattle.hay_cluster.specs.Maintenance.{IsReplicaFault}
 use Rattle.hay_cluster.specs.Store.{Open, IsShaped, IsUp, disks_of}
 use Rattle.hay_cluster.proofs.Lists.{AllByRecursion-at}
 use Rattle.hay_cluster.proofs.Moves.{Called, called_failed, up_kept, with_one}
@@ -27,24 +28,23 @@ module _ {D P A : Type 0} (faults fuses : D → ℕ) where
       → IsPutCause old.settings v (map faults (disks_of old)) (map faults (disks_of (with_one store v after))) fault
   put_cause old store v before after (ReadOnly m) is shape called h = tt
   put_cause old store v before after (Full m end need capacity) is shape called h = tt
-  put_cause old store v before after (Gone front) is shape called h = absurd h
   put_cause old store v before after (Failed m count) is shape called h = called_failed faults fuses old store v before after m count is shape called h
   put_cause old store v before after NoMemory is shape called h = tt
+  put_cause old store v before after _ is shape called h = absurd h
 
   pub delete_cause : (old store : Open D P A) (v : ℕ) (before after : Volume D P) (fault : LogicalFault) → store ≡ old → IsShaped store → Called faults fuses store v before after
       → IsDeleteFault faults before.settings before.number before.replicas after.replicas fault
       → IsDeleteCause old.settings v (map faults (disks_of old)) (map faults (disks_of (with_one store v after))) fault
   delete_cause old store v before after (ReadOnly m) is shape called h = tt
-  delete_cause old store v before after (Full m end need capacity) is shape called h = absurd h
   delete_cause old store v before after (Gone front) is shape called h = tt
   delete_cause old store v before after (Failed m count) is shape called h = called_failed faults fuses old store v before after m count is shape called h
   delete_cause old store v before after NoMemory is shape called h = tt
+  delete_cause old store v before after _ is shape called h = absurd h
 
-  pub flush_cause : (old store : Open D P A) (v : ℕ) (before after : Volume D P) (fault : LogicalFault) → store ≡ old → IsShaped store → Called faults fuses store v before after
-      → IsFlushFault faults before.settings before.number before.replicas after.replicas fault
-      → IsFlushCause old.settings v (map faults (disks_of old)) (map faults (disks_of (with_one store v after))) fault
-  flush_cause old store v before after (ReadOnly m) is shape called h = tt
-  flush_cause old store v before after (Full m end need capacity) is shape called h = absurd h
-  flush_cause old store v before after (Gone front) is shape called h = absurd h
-  flush_cause old store v before after (Failed m count) is shape called h = called_failed faults fuses old store v before after m count is shape called h
-  flush_cause old store v before after NoMemory is shape called h = tt
+  pub replica_cause : (old store : Open D P A) (v : ℕ) (before after : Volume D P) (fault : LogicalFault) → store ≡ old → IsShaped store → Called faults fuses store v before after
+      → IsReplicaFault faults before.settings before.number before.replicas after.replicas fault
+      → IsReplicaCause old.settings v (map faults (disks_of old)) (map faults (disks_of (with_one store v after))) fault
+  replica_cause old store v before after (Full m end need capacity) is shape called h = absurd h
+  replica_cause old store v before after (Gone front) is shape called h = absurd h
+  replica_cause old store v before after (Failed m count) is shape called h = called_failed faults fuses old store v before after m count is shape called h
+  replica_cause old store v before after _ is shape called h = tt

@@ -1,31 +1,37 @@
--- Deletes and flushes are legal.
-use Rattle.std.proofs.Common.{◌≡◌, ℕ, ◌<◌, Bool, true, List, [], ◌∷◌, length, map, Option, Some, None, refl, sym, ap, subst, ◌∙◌, inl, inr}
-use Rattle.std.specs.Prelude.{◌==◌, find, nat_lt, slice_get}
+-- Deletes are legal.
+use Rattle.std.proofs.Common.{◌≡◌, ℕ, ◌<◌, true, List, [], ◌∷◌, length, map, Some, None, refl, sym, ap, subst, ◌∙◌, inl, inr, arith}
+use Rattle.std.specs.Prelude.{◌==◌, ◌<◌, find, nat_lt, slice_index}
 use Rattle.std.specs.List.{range_with_len}
 use Rattle.std.proofs.lemmas.Bool.{cases_Bool, cond-true, cond-false, eqb-true}
+use Rattle.std.proofs.lemmas.Bool.Decides.{nat_tests}
+use Rattle.std.proofs.lemmas.Option.{slice_get_within}
 use Rattle.hay_needle.specs.declared.needle.Pair.{Pair}
 use Rattle.hay_needle.specs.declared.settings.Settings.{Settings}
+use Rattle.hay_disk.specs.Counts.{Rose}
 use Rattle.hay_disk.specs.Disk.{Files}
 use Rattle.hay_script.specs.declared.Command.TheVariants as command
 use Rattle.hay_reply.specs.declared.Reply.{Reply}
 use Rattle.hay_reply.specs.declared.Reply.TheVariants as reply
 use Rattle.hay_core.specs.declared.entry.CoreTag.{CoreTag}
 use Rattle.hay_core.specs.declared.entry.Entry.TheVariants as entry
+use Rattle.hay_physical.specs.Copies.{Copy}
 use Rattle.hay_legal.specs.declared.known.Known.{Known}
 use Rattle.hay_legal.specs.declared.known.VolumeKnown.{VolumeKnown}
-use Rattle.hay_legal.specs.Known.{Leaves, closed, drained_of, home_of, machine_of, replica_on, volume_at, with_volume}
-use Rattle.hay_legal.specs.Plain.{LegalAnswer, LegalDel, LegalFlush, OnReplica, RoseTo, frozen_with, with_bare, with_del, with_stuck}
-use Rattle.hay_logical.specs.Answers.{DeleteRefused, FlushRefused, IsDeleted, IsFlushed, change_at}
+use Rattle.hay_legal.specs.Known.{Leaves, closed, drained_of, has_risen, home_of, machine_of, replica_on, slot_of, volume_at, with_volume}
+use Rattle.hay_legal.specs.Plain.{disk_rose, frozen_with, with_del}
+use Rattle.hay_logical.specs.Answers.{DeleteRefused, IsDeleted}
 use Rattle.hay_logical.specs.declared.fault.LogicalFault.{LogicalFault}
 use Rattle.hay_logical.specs.declared.fault.LogicalFault.TheVariants.{ReadOnly, Full, Gone, Failed, NoMemory}
+use Rattle.hay_logical.specs.Fits.{At}
 use Rattle.hay_logical.specs.Stands as logical
 use Rattle.hay_logical.specs.Volumes.{Volume}
-use Rattle.hay_cluster.specs.Causes.{Counts, HasCause, IsDeleteCause, IsFlushCause}
-use Rattle.hay_cluster.specs.Changes.{IsDeleteReply, IsFlushReply, IsReadOnly}
+use Rattle.hay_cluster.specs.Causes.{Counts, HasCause, IsDeleteCause}
+use Rattle.hay_cluster.specs.Changes.{IsDeleteReply, IsReadOnly}
 use Rattle.hay_cluster.specs.Parts.{Comes}
 use Rattle.hay_cluster.specs.State.{Answered, Stands}
-use Rattle.hay_cluster.specs.Store.{Open, IsVolumeOf, disks_of}
+use Rattle.hay_cluster.specs.Store.{Open, disks_of}
 use Rattle.hay_cluster.proofs.Answering.{answered, stays}
+use Rattle.hay_cluster.proofs.Moves.{count_at, has_item, volume_of}
 use Rattle.hay_cluster.proofs.Puts.{rose_to, with_same}
 use Rattle.hay_cluster.proofs.Refusals.{open-thawed}
 
@@ -48,22 +54,9 @@ replica_machine settings v m j is =
           | inr miss ↦ go js (sym (cond-false (machine_of settings v i == m) (Some i) (find (λ u. machine_of settings v u == m) js) miss) ∙ h)
         ]
 
--- what is legal for a delete or a flush is legal for its command
-pub del_command : (settings : Settings) (k t : Known) (tag : CoreTag) (pair : Pair) (answer : Reply) → LegalDel settings k tag pair answer t → LegalAnswer settings k tag (command.Del pair) answer t
-del_command settings k t tag pair reply.Unbuilt legal = absurd legal
-del_command settings k t tag pair _ legal = legal
-
-pub flush_command : (settings : Settings) (k t : Known) (tag : CoreTag) (v m j : ℕ) (answer : Reply) → replica_on settings v m ≡ Some j → LegalFlush settings k v m j answer t → LegalAnswer settings k tag (command.Flush v m) answer t
-flush_command settings k t tag v m j answer there legal =
-    go answer (subst (λ (o : Option ℕ). OnReplica k o (LegalFlush settings k v m) answer t) (sym there) legal)
-  where
-    go : (r : Reply) → OnReplica k (replica_on settings v m) (LegalFlush settings k v m) r t → LegalAnswer settings k tag (command.Flush v m) r t
-    go reply.Unbuilt h = absurd (never (replica_on settings v m) h)
-      where
-        never : (o : Option ℕ) → OnReplica k o (LegalFlush settings k v m) reply.Unbuilt t → ⊥
-        never None h' = h'
-        never (Some i) h' = h'
-    go _ h = h
+-- a count that rose is seen to have risen
+risen : (before after : ℕ) → Rose before after → has_risen before after ≡ true
+risen before after rose = grind (arith, nat_tests, rose)
 
 module _ {D P A : Type 0} (files : D → Files) (Tells : Type 0) (faults fuses : D → ℕ) (arm_faults : A → ℕ) where
   -- nothing but counts changed where a volume stands for what it stood for
@@ -75,22 +68,38 @@ module _ {D P A : Type 0} (files : D → Files) (Tells : Type 0) (faults fuses :
     stands = came.stands;
   }
 
-  pub deleted : (new : Open D P A) (settings : Settings) (k : Known) (tag : CoreTag) (pair : Pair) (v p d : ℕ) (after : Volume D P) → new.settings ≡ settings → home_of k pair ≡ Some v → closed settings k v ≡ None
-      → IsDeleted files Tells (volume_at k v) tag pair p after → (came : Comes files Tells faults fuses arm_faults k (with_volume k v (with_del [] tag pair (volume_at k v))) new) → d ≡ length (came.known).directory.rows
-      → Answered files Tells faults fuses arm_faults k tag (command.Del pair) (reply.Deleted v p d) new
-  deleted new settings k tag pair v p d after same home opened done came rows =
-      answered files Tells faults fuses arm_faults new settings k came.known tag (command.Del pair) (reply.Deleted v p d) same
+  -- a compaction that a delete ended
+  ended_rose : (old new : Open D P A) (k t : Known) (v : ℕ) (before after : Volume D P) (j : ℕ) → Stands files Tells faults fuses arm_faults old k → Stands files Tells faults fuses arm_faults new t
+      → new.settings ≡ old.settings → At old.volumes v before → At new.volumes v after → j < (before.settings).replicas
+      → ((r r' : Copy D) → At before.replicas j r → At after.replicas j r' → Rose (faults r.disk) (faults r'.disk)) → disk_rose old.settings k t v j ≡ true
+  unfolding Stands
+  ended_rose old new k t v before after j s s' same at now within rose =
+      let was = volume_of old v before s.shape at in
+      let is = volume_of new v after s'.shape now in
+      let long : length before.replicas ≡ (before.settings).replicas = was.all in
+      let long' : length after.replicas ≡ (before.settings).replicas = is.all ∙ ap (λ (t : Settings). t.replicas) (is.settings_are ∙ same ∙ sym was.settings_are) in
+      let old_one = has_item before.replicas j (omega (arith, long, within)) in
+      let new_one = has_item after.replicas j (omega (arith, long', within)) in
+      let counted : slice_index k.faults (slot_of old.settings v j) ≡ faults (old_one.0).disk = ap (λ ns. slice_index ns (slot_of old.settings v j)) s.fault_counts ∙ count_at faults old v j before old_one.0 s.shape at old_one.1 in
+      let counted' : slice_index t.faults (slot_of old.settings v j) ≡ faults (new_one.0).disk =
+      ap (λ ns. slice_index ns (slot_of old.settings v j)) s'.fault_counts ∙ ap (λ (q : Settings). slice_index (map faults (disks_of new)) (slot_of q v j)) (sym same) ∙ count_at faults new v j after new_one.0 s'.shape now new_one.1 in
+      ap (λ n. has_risen n (slice_index t.faults (slot_of old.settings v j))) counted ∙ ap (λ n. has_risen (faults (old_one.0).disk) n) counted'
+      ∙ risen (faults (old_one.0).disk) (faults (new_one.0).disk) (rose old_one.0 new_one.0 old_one.1 new_one.1)
+
+  pub deleted : (old new : Open D P A) (k : Known) (tag : CoreTag) (pair : Pair) (v p d : ℕ) (before after : Volume D P) → new.settings ≡ old.settings → Stands files Tells faults fuses arm_faults old k
+      → home_of k pair ≡ Some v → closed old.settings k v ≡ None → At old.volumes v before → At new.volumes v after
+      → (done : IsDeleted files faults Tells (volume_at k v) tag pair p before after) → (came : Comes files Tells faults fuses arm_faults k (with_volume k v (with_del done.ended tag pair (volume_at k v))) new)
+      → d ≡ length (came.known).directory.rows → Answered files Tells faults fuses arm_faults k tag (command.Del pair) (reply.Deleted v p d) new
+  deleted old new k tag pair v p d before after same stands home opened at now done came rows =
+      answered files Tells faults fuses arm_faults new old.settings k came.known tag (command.Del pair) (reply.Deleted v p d) same
       (record {
         home = record { home = home; «open» = opened; rows = rows ∙ ap (λ dir. length dir.rows) (came.leaves).directory };
         stood = done.stood;
         position = done.position;
-        ended = [];
-        cause = λ j at. absurd (none j at);
+        ended = done.ended;
+        cause = λ j is. ended_rose old new k came.known v before after j stands came.stands same at now (subst (λ n. j < n) done.count (slice_get_within done.ended j true is)) (λ r r' was now'. done.cause j r r' is was now');
         leaves = came.leaves;
       }) came.stands
-    where
-      none : (j : ℕ) → slice_get {X = Bool} [] j ≡ Some true → ⊥
-      none j at = absurd cc
 
   pub read_only_del : (store : Open D P A) (k : Known) (tag : CoreTag) (pair : Pair) (v m : ℕ) (answer : Reply) → Stands files Tells faults fuses arm_faults store k → home_of k pair ≡ Some v
       → closed store.settings k v ≡ Some m → IsReadOnly v m answer → Answered files Tells faults fuses arm_faults k tag (command.Del pair) answer store
@@ -110,7 +119,6 @@ module _ {D P A : Type 0} (files : D → Files) (Tells : Type 0) (faults fuses :
       → IsDeleteReply v d fault answer → Answered files Tells faults fuses arm_faults k tag (command.Del pair) answer new
   not_deleted old new k tag pair v d (ReadOnly m) answer before after same within stands home opened stood rows cause refused comes told =
       let e : None ≡ Some m = sym (open-thawed (volume_at k v).frozen (drained_of old.settings k v) opened) ∙ refused.0 in absurd cc
-  not_deleted old new k tag pair v d (Full m end need capacity) answer before after same within stands home opened stood rows cause refused comes told = absurd cause
   not_deleted old new k tag pair v d (Gone front) answer before after same within stands home opened stood rows cause refused comes told =
       let came = comes_still old new k v stands within (comes (volume_at k v) (subst (λ (w : Volume D P). logical.Stands files Tells w (volume_at k v)) (sym refused.3) stood)) in
       subst (λ (r : Reply). Answered files Tells faults fuses arm_faults k tag (command.Del pair) r new) (sym told)
@@ -131,51 +139,7 @@ module _ {D P A : Type 0} (files : D → Files) (Tells : Type 0) (faults fuses :
       let came = comes_still old new k v stands within (comes (volume_at k v) (subst (λ (w : Volume D P). logical.Stands files Tells w (volume_at k v)) (sym refused.1) stood)) in
       subst (λ (r : Reply). Answered files Tells faults fuses arm_faults k tag (command.Del pair) r new) (sym told)
       (answered files Tells faults fuses arm_faults new old.settings k came.known tag (command.Del pair) reply.NoMem same (inl came.leaves) came.stands)
-
-  pub flushed : (new : Open D P A) (settings : Settings) (k : Known) (tag : CoreTag) (v m j n : ℕ) (after : Volume D P) → new.settings ≡ settings → replica_on settings v m ≡ Some j
-      → IsFlushed files Tells (volume_at k v) j n after → Comes files Tells faults fuses arm_faults k (with_volume k v (change_at (volume_at k v) j (with_bare 0))) new
-      → Answered files Tells faults fuses arm_faults k tag (command.Flush v m) (reply.Flushed v m n) new
-  flushed new settings k tag v m j n after same there done came =
-      answered files Tells faults fuses arm_faults new settings k came.known tag (command.Flush v m) (reply.Flushed v m n) same
-      (flush_command settings k came.known tag v m j (reply.Flushed v m n) there ((refl, refl), done.thawed, done.loose, done.number, came.leaves)) came.stands
-
-  -- a flush that a volume did not make
-  pub not_flushed : (old new : Open D P A) (k : Known) (tag : CoreTag) (v m j : ℕ) (fault : LogicalFault) (answer : Reply) (before after : Volume D P) → new.settings ≡ old.settings
-      → v < (old.settings).volumes → replica_on old.settings v m ≡ Some j → Stands files Tells faults fuses arm_faults old k → IsVolumeOf old.settings v before → logical.Stands files Tells before (volume_at k v)
-      → IsFlushCause old.settings v (map faults (disks_of old)) (map faults (disks_of new)) fault → FlushRefused files Tells (volume_at k v) j before after fault
-      → ((known : VolumeKnown) → logical.Stands files Tells after known → Comes files Tells faults fuses arm_faults k (with_volume k v known) new)
-      → IsFlushReply v fault answer → Answered files Tells faults fuses arm_faults k tag (command.Flush v m) answer new
-  not_flushed old new k tag v m j (ReadOnly m') answer before after same within there stands was stood cause refused comes told =
-      let came = comes_still old new k v stands within (comes (volume_at k v) (subst (λ (w : Volume D P). logical.Stands files Tells w (volume_at k v)) (sym refused.1) stood)) in
-      let machine : machine_of before.settings before.number j ≡ m = ap (λ (s : Settings). machine_of s before.number j) was.settings_are ∙ ap (λ n. machine_of old.settings n j) was.number ∙ replica_machine old.settings v m j there in
-      elim told [
-        | inl is ↦
-            subst (λ (r : Reply). Answered files Tells faults fuses arm_faults k tag (command.Flush v m) r new) (sym is)
-            (answered files Tells faults fuses arm_faults new old.settings k came.known tag (command.Flush v m) (reply.ReadOnly (record { volume = v; machine = m' } ∷ [])) same
-            (flush_command old.settings k came.known tag v m j (reply.ReadOnly (record { volume = v; machine = m' } ∷ [])) there
-            ((elim refused.0 [ inl frozen ↦ inl (refl, frozen) | inr stuck ↦ inr ((refl, stuck.2 ∙ machine), stuck.0, stuck.1) ]), came.leaves)) came.stands)
-        | inr is ↦
-            subst (λ (r : Reply). Answered files Tells faults fuses arm_faults k tag (command.Flush v m) r new) (sym is)
-            (answered files Tells faults fuses arm_faults new old.settings k came.known tag (command.Flush v m) reply.NoMem same
-            (flush_command old.settings k came.known tag v m j reply.NoMem there came.leaves) came.stands)
-      ]
-  not_flushed old new k tag v m j (Full m' end need capacity) answer before after same within there stands was stood cause refused comes told = absurd cause
-  not_flushed old new k tag v m j (Gone front) answer before after same within there stands was stood cause refused comes told = absurd cause
-  not_flushed old new k tag v m j (Failed m' f) answer before after same within there stands was stood cause refused comes told =
-      let came = comes (change_at (volume_at k v) j with_stuck) refused.3 in
-      let machine : machine_of before.settings before.number j ≡ m = ap (λ (s : Settings). machine_of s before.number j) was.settings_are ∙ ap (λ n. machine_of old.settings n j) was.number ∙ replica_machine old.settings v m j there in
-      let rose = rose_to files Tells faults fuses arm_faults old new old.settings k came.known v m' f stands came.stands cause in
-      let found : Some rose.0 ≡ Some j = sym rose.1 ∙ ap (λ n. replica_on old.settings v n) (refused.2 ∙ machine) ∙ there in
-      let one : rose.0 ≡ j = cc in
-      subst (λ (r : Reply). Answered files Tells faults fuses arm_faults k tag (command.Flush v m) r new) (sym told)
-      (answered files Tells faults fuses arm_faults new old.settings k came.known tag (command.Flush v m) (reply.Failed v m' f) same
-      (flush_command old.settings k came.known tag v m j (reply.Failed v m' f) there
-      ((refl, refused.2 ∙ machine), refused.0, refused.1, subst (λ i. RoseTo old.settings k v i f came.known) one rose.2, came.leaves)) came.stands)
-  not_flushed old new k tag v m j NoMemory answer before after same within there stands was stood cause refused comes told =
-      let came = comes_still old new k v stands within (comes (volume_at k v) refused) in
-      subst (λ (r : Reply). Answered files Tells faults fuses arm_faults k tag (command.Flush v m) r new) (sym told)
-      (answered files Tells faults fuses arm_faults new old.settings k came.known tag (command.Flush v m) reply.NoMem same
-      (flush_command old.settings k came.known tag v m j reply.NoMem there came.leaves) came.stands)
+  not_deleted old new k tag pair v d _ answer before after same within stands home opened stood rows cause refused comes told = absurd refused
 
 -- causes
 pub delete_caused : (settings : Settings) (lane v d : ℕ) (before after : Counts) (fault : LogicalFault) (answer : Reply) → IsDeleteCause settings v before.disks after.disks fault → IsDeleteReply v d fault answer → HasCause settings lane before after answer
@@ -184,12 +148,4 @@ delete_caused settings lane v d before after (ReadOnly m) answer cause (inr told
 delete_caused settings lane v d before after (Full m end need capacity) answer cause told = absurd cause
 delete_caused settings lane v d before after (Gone front) answer cause told = subst (λ (r : Reply). HasCause settings lane before after r) (sym told) tt
 delete_caused settings lane v d before after (Failed m f) answer cause told = subst (λ (r : Reply). HasCause settings lane before after r) (sym told) cause
-delete_caused settings lane v d before after NoMemory answer cause told = subst (λ (r : Reply). HasCause settings lane before after r) (sym told) tt
-
-pub flush_caused : (settings : Settings) (lane v : ℕ) (before after : Counts) (fault : LogicalFault) (answer : Reply) → IsFlushCause settings v before.disks after.disks fault → IsFlushReply v fault answer → HasCause settings lane before after answer
-flush_caused settings lane v before after (ReadOnly m) answer cause (inl told) = subst (λ (r : Reply). HasCause settings lane before after r) (sym told) tt
-flush_caused settings lane v before after (ReadOnly m) answer cause (inr told) = subst (λ (r : Reply). HasCause settings lane before after r) (sym told) tt
-flush_caused settings lane v before after (Full m end need capacity) answer cause told = absurd cause
-flush_caused settings lane v before after (Gone front) answer cause told = absurd cause
-flush_caused settings lane v before after (Failed m f) answer cause told = subst (λ (r : Reply). HasCause settings lane before after r) (sym told) cause
-flush_caused settings lane v before after NoMemory answer cause told = subst (λ (r : Reply). HasCause settings lane before after r) (sym told) tt
+delete_caused settings lane v d before after _ answer cause told = subst (λ (r : Reply). HasCause settings lane before after r) (sym told) tt

@@ -7,6 +7,7 @@ pub mod Finds
 pub mod Homes
 pub mod Lists
 pub mod Machines
+pub mod Maintaining
 pub mod Moves
 pub mod OpeningDirectory
 pub mod OpeningFill

@@ -87,6 +87,11 @@ slice_index_or-set (x' ∷ xs) zero x d within = refl
 slice_index_or-set (x' ∷ xs) (suc i) x d within = slice_index_or-set xs i x d (omega arith)
 
 -- what stands at a place, put there again
+pub set-set : {A : Type 0} (xs : List A) (i : ℕ) (x y : A) → slice_set (slice_set xs i x) i y ≡ slice_set xs i y
+set-set [] i x y = refl
+set-set (z ∷ xs) zero x y = refl
+set-set (z ∷ xs) (suc i) x y = ap (λ zs. z ∷ zs) (set-set xs i x y)
+
 pub set-same : {A : Type 0} (xs : List A) (i : ℕ) (d : A) → i < length xs → slice_set xs i (slice_index_or xs i d) ≡ xs
 set-same [] i d within = refl
 set-same (x' ∷ xs) zero d within = refl

@@ -243,6 +243,8 @@ module _ {D P A : Type 0} (files : D → Files) (Tells : Type 0) (faults fuses :
       record {
         before = before;
         after = after;
+        at = subst (λ (st : Open D P A). At st.volumes v before) is called.at;
+        now = slice_get-set store.volumes v before after called.at;
         was = subst (λ (st : Open D P A). IsVolumeOf st.settings v before) is (volume_of store v before shape called.at);
         stood = stood;
         does = does stood;
@@ -299,7 +301,7 @@ module _ {D P A : Type 0} (files : D → Files) (Tells : Type 0) (faults fuses :
 
 -- A FUSE ON A REPLICA'S DISK
 
-has_item : {X : Type 0} (xs : List X) (i : ℕ) → i < length xs → (x : X) × (slice_get xs i ≡ Some x)
+pub has_item : {X : Type 0} (xs : List X) (i : ℕ) → i < length xs → (x : X) × (slice_get xs i ≡ Some x)
 has_item [] i within = absurd (omega arith)
 has_item (x ∷ xs) zero within = (x, refl)
 has_item (x ∷ xs) (suc i) within = has_item xs i (omega arith)

@@ -235,7 +235,6 @@ module _ {D P A : Type 0} (files : D → Files) (Tells : Type 0) (faults fuses :
       let e : None ≡ Some (NoRoom before.number m end need) = sym roomy
       ∙ ap (λ n. room_refusal_of old.settings n (volume_at k v) (length bytes)) (sym was.number) ∙ ap (λ (s : Settings). room_refusal_of s before.number (volume_at k v) (length bytes)) (sym was.settings_are) ∙ refused.1 in
       absurd cc
-  put_refused old new k tag pair bytes v cookie (Gone front) answer before after own within stood takes was cause refused comes told = absurd cause
   put_refused old new k tag pair bytes v cookie (Failed m f) answer before after own within stood takes was cause refused comes told =
       subst (λ (r : Reply). StoredAs files Tells faults fuses arm_faults old.settings k tag pair bytes v r new) (sym told)
       (put_failed old new old.settings k tag pair bytes v m f cookie own stood cause (comes (frozen_with m tag (entry.Put pair cookie bytes) true (volume_at k v)) refused.1))
@@ -251,6 +250,7 @@ module _ {D P A : Type 0} (files : D → Files) (Tells : Type 0) (faults fuses :
             let machine : machine_of before.settings before.number 0 ≡ first_machine old.settings v = ap (λ (s : Settings). machine_of s before.number 0) was.settings_are ∙ ap (λ n. machine_of old.settings n 0) was.number in
             record { known = came.known; stores = inr (subst (λ c. P (first_machine old.settings v) c) own (subst (λ m. P m cookie) machine came.leaves)); stands = came.stands }
       ])
+  put_refused old new k tag pair bytes v cookie _ answer before after own within stood takes was cause refused comes told = absurd refused
 
 -- a put that a volume did not store tells of a failure only with its cause
 pub put_caused : (settings : Settings) (lane v : ℕ) (before after : Counts) (fault : LogicalFault) (answer : Reply) → IsPutCause settings v before.disks after.disks fault → IsPutReply v fault answer → HasCause settings lane before after answer
@@ -258,4 +258,4 @@ put_caused settings lane v before after (ReadOnly m) answer cause told = refusal
 put_caused settings lane v before after (Full m end need capacity) answer cause told = refusal_caused settings lane before after (NoRoom v m end need ∷ []) answer told
 put_caused settings lane v before after (Gone front) answer cause told = absurd cause
 put_caused settings lane v before after (Failed m f) answer cause told = subst (λ (r : Reply). HasCause settings lane before after r) (sym told) cause
-put_caused settings lane v before after NoMemory answer cause told = subst (λ (r : Reply). HasCause settings lane before after r) (sym told) tt
+put_caused settings lane v before after _ answer cause told = subst (λ (r : Reply). HasCause settings lane before after r) (sym told) tt

@@ -16,7 +16,7 @@ use Rattle.hay_legal.specs.declared.known.VolumeKnown.{VolumeKnown}
 use Rattle.hay_legal.specs.Known.{Leaves, NoneFalls, arm_count, home_of, machine_of, now, replica_at, replica_on, replicas_of, volume_at}
 use Rattle.hay_legal.specs.Known as known
 use Rattle.hay_legal.specs.Plain as legal
-use Rattle.hay_legal.specs.Plain.{IsShown, IsUnreadable, LegalAnswer, LegalGet, LegalGetAt, LegalShow, PassedBefore, disk_rose, order_from}
+use Rattle.hay_legal.specs.Plain.{IsShown, IsUnreadable, LegalCommand, LegalGet, LegalGetAt, LegalShow, PassedBefore, disk_rose, order_from}
 use Rattle.hay_reply.specs.declared.Cause.{Cause}
 use Rattle.hay_reply.specs.declared.Cause.TheVariants.{Arm, Disk, Damage}
 use Rattle.hay_reply.specs.declared.Passed.{Passed}
@@ -218,14 +218,14 @@ module _ {D P A : Type 0} (files : D → Files) (Tells : Type 0) (faults fuses :
 
 -- what is legal to show to a reader of a URL is legal for its command
 pub get_command : (settings : Settings) (k t : Known) (tag : CoreTag) (url : Url) (start v : ℕ) (answer : Reply) → replica_on settings url.volume url.machine ≡ Some start → v ≡ url.volume
-    → LegalShow settings k tag start url.pair url.cookie answer t → ShowsIn v answer → LegalAnswer settings k tag (command.Get url) answer t
+    → LegalShow settings k tag start url.pair url.cookie answer t → ShowsIn v answer → LegalCommand settings k tag (command.Get url) answer t
 get_command settings k t tag url start v answer there same legal shows =
     go answer legal shows
   where
     at : (r : Reply) → LegalGetAt settings k tag url (Some start) r t → LegalGet settings k tag url r t
     at r h = subst (λ (o : Option ℕ). LegalGetAt settings k tag url o r t) (sym there) h
 
-    go : (r : Reply) → LegalShow settings k tag start url.pair url.cookie r t → ShowsIn v r → LegalAnswer settings k tag (command.Get url) r t
+    go : (r : Reply) → LegalShow settings k tag start url.pair url.cookie r t → ShowsIn v r → LegalCommand settings k tag (command.Get url) r t
     go (reply.Photo w m p d bytes) h is = at (reply.Photo w m p d bytes) (h, is ∙ same)
     go (reply.Gone w m p d) h is = at (reply.Gone w m p d) (h, is ∙ same)
     go (reply.WrongCookie w m p d) h is = at (reply.WrongCookie w m p d) (h, is ∙ same)

@@ -63,8 +63,9 @@ IsDeleteCause settings v before after (refusal.Failed m count) = RoseAt settings
 IsDeleteCause settings v before after (refusal.Full m end need capacity) = ⊥
 IsDeleteCause settings v before after _ = Unit {0}
 
-abbrev pub IsFlushCause : Settings → ℕ → List ℕ → List ℕ → LogicalFault → Type 0
-IsFlushCause settings v before after (refusal.Failed m count) = RoseAt settings v m before after count
-IsFlushCause settings v before after (refusal.Full m end need capacity) = ⊥
-IsFlushCause settings v before after (refusal.Gone front) = ⊥
-IsFlushCause settings v before after _ = Unit {0}
+-- of work on one replica
+abbrev pub IsReplicaCause : Settings → ℕ → List ℕ → List ℕ → LogicalFault → Type 0
+IsReplicaCause settings v before after (refusal.Failed m count) = RoseAt settings v m before after count
+IsReplicaCause settings v before after (refusal.Full m end need capacity) = ⊥
+IsReplicaCause settings v before after (refusal.Gone front) = ⊥
+IsReplicaCause settings v before after _ = Unit {0}

@@ -1,4 +1,4 @@
--- How deletes and flushes are answered.
+-- How deletes are answered.
 use Rattle.std.specs.Prelude.{◌≡◌, ◌⊎◌, ℕ, [], ◌∷◌}
 use Rattle.hay_reply.specs.declared.Reply.{Reply}
 use Rattle.hay_reply.specs.declared.Reply.TheVariants.{Absent, Failed, ReadOnly, NoMem}
@@ -14,13 +14,4 @@ abbrev pub IsDeleteReply : ℕ → ℕ → LogicalFault → Reply → Type 0
 IsDeleteReply v rows (refusal.Gone front) reply = reply ≡ Absent v front rows
 IsDeleteReply v rows (refusal.Failed m f) reply = reply ≡ Failed v m f
 IsDeleteReply v rows (refusal.ReadOnly m) reply = IsReadOnly v m reply
-IsDeleteReply v rows refusal.NoMemory reply = reply ≡ NoMem
-IsDeleteReply v rows (refusal.Full m end need capacity) reply = reply ≡ NoMem
-
--- how a flush is answered that volume v did not make
-abbrev pub IsFlushReply : ℕ → LogicalFault → Reply → Type 0
-IsFlushReply v (refusal.Failed m f) reply = reply ≡ Failed v m f
-IsFlushReply v (refusal.ReadOnly m) reply = IsReadOnly v m reply
-IsFlushReply v refusal.NoMemory reply = reply ≡ NoMem
-IsFlushReply v (refusal.Gone front) reply = reply ≡ NoMem
-IsFlushReply v (refusal.Full m end need capacity) reply = reply ≡ NoMem
+IsDeleteReply v rows _ reply = reply ≡ NoMem

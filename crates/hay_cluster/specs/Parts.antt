@@ -6,6 +6,7 @@ use Rattle.hay_legal.specs.declared.known.Known.{Known}
 use Rattle.hay_legal.specs.declared.known.VolumeKnown.{VolumeKnown}
 use Rattle.hay_legal.specs.Known.{Leaves, volume_at, with_volume}
 use Rattle.hay_directory.specs.State as directory
+use Rattle.hay_logical.specs.Fits.{At}
 use Rattle.hay_logical.specs.Stands as logical
 use Rattle.hay_logical.specs.Volumes.{Volume}
 use Rattle.hay_cluster.specs.State.{Stands}
@@ -21,6 +22,8 @@ pub record Comes {D P A : Type 0} (files : D → Files) (Tells : Type 0) (faults
 pub record InVolume {D P A : Type 0} (files : D → Files) (Tells : Type 0) (faults fuses : D → ℕ) (arm_faults : A → ℕ) (k : Known) (v : ℕ) (old new : Open D P A) (Does : Volume D P → Volume D P → Type 0) : Type 0 where
   pub before : Volume D P
   pub after : Volume D P
+  pub at : At old.volumes v before
+  pub now : At new.volumes v after
   pub was : IsVolumeOf old.settings v before
   pub stood : logical.Stands files Tells before (volume_at k v)
   pub does : Does before after

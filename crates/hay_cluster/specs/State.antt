@@ -11,7 +11,7 @@ use Rattle.hay_legal.specs.declared.known.DirKnown.{DirKnown}
 use Rattle.hay_legal.specs.declared.known.Known.{Known}
 use Rattle.hay_legal.specs.declared.known.VolumeKnown.{VolumeKnown}
 use Rattle.hay_legal.specs.Known.{Leaves}
-use Rattle.hay_legal.specs.Plain.{LegalAnswer}
+use Rattle.hay_legal.specs.Plain.{LegalCommand}
 use Rattle.hay_legal.specs.Restarts.{kept_row}
 use Rattle.hay_legal.specs.Stands.{Contents, VolumeOutcome}
 use Rattle.hay_directory.specs.Rows.{OpensRows}
@@ -36,7 +36,7 @@ Stands files Tells faults fuses arm_faults store k = StandsFor files Tells fault
 -- What an answer leaves: a state to which it is legal.
 pub record Answered {D P A : Type 0} (files : D → Files) (Tells : Type 0) (faults fuses : D → ℕ) (arm_faults : A → ℕ) (k : Known) (tag : CoreTag) (command : Command) (reply : Reply) (store : Open D P A) : Type 0 where
   pub known : Known
-  pub legal : LegalAnswer store.settings k tag command reply known
+  pub legal : LegalCommand store.settings k tag command reply known
   pub stands : Stands files Tells faults fuses arm_faults store known
 
 -- WHAT IS ON THE DISKS OF ANY STORE, up or down: in every image an opening finds one of the outcomes of a restart.

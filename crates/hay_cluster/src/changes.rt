@@ -1,11 +1,11 @@
-//! Deletes, flushes, drains and fuses, and the URLs of photos.
+//! Deletes, drains and fuses, and the URLs of photos.
 ghost use Rattle.std.specs.Prelude.{◌≡◌, ℕ, map};
 ghost use Rattle.hay_script.specs.declared.Command.TheVariants as asks;
 ghost use Rattle.hay_core.specs.declared.entry.CoreTag.{CoreTag};
 ghost use Rattle.hay_legal.specs.declared.known.Known.{Known};
 ghost use Rattle.hay_legal.specs.Known.{NoneFalls};
 ghost use Rattle.hay_cluster.specs.Causes.{HasCause};
-ghost use Rattle.hay_cluster.specs.Changes.{IsDeleteReply, IsFlushReply, IsReadOnly};
+ghost use Rattle.hay_cluster.specs.Changes.{IsDeleteReply, IsReadOnly};
 ghost use Rattle.hay_cluster.specs.State.{Answered, Stands};
 ghost use Rattle.hay_cluster.specs.Store.{IsUp, disks_of};
 
@@ -78,32 +78,6 @@ impl<D: Disk, A: Arm<D::Piece>> Cluster<D, A> {
                 pair,
                 cookie: cookie_of(&self.settings.secret, pair.key),
             },
-        }
-    }
-
-    /// Flushes the index of the replica of a volume on a machine.
-    pub(crate) fn flush(&mut self, alloc: Global, volume: u32, machine: u32) -> Reply
-        requires up { IsUp self.old }
-        ensures legal { D.Tells → (k : Known) (tag : CoreTag) → Stands D.files D.Piece.Tells D.fault_count D.fuse_count A.fault_count self.old k →
-            Answered D.files D.Piece.Tells D.fault_count D.fuse_count A.fault_count k tag (asks.Flush volume machine) result self.new }
-        ensures causes { (lane : ℕ) → HasCause self.old.settings lane
-            (record { disks = map D.fault_count (disks_of self.old); arms = map A.fault_count self.old.arms })
-            (record { disks = map D.fault_count (disks_of self.new); arms = map A.fault_count self.new.arms }) result }
-        ensures counts { NoneFalls (map D.fault_count (disks_of self.old)) (map D.fault_count (disks_of self.new)) }
-        ensures arms { self.new.arms ≡ self.old.arms }
-        ensures settings { self.new.settings ≡ self.old.settings }
-        ensures up { IsUp self.new }
-    {
-        let Some(replica) = replica_on(&self.settings, volume, machine) else {
-            return Reply::Nowhere;
-        };
-        match self.flush_in(volume, replica) {
-            Ok(records) => Reply::Flushed {
-                volume,
-                machine,
-                records,
-            },
-            Err(fault) => flush_refusal(alloc, volume, fault),
         }
     }
 
@@ -190,7 +164,7 @@ impl<D: Disk, A: Arm<D::Piece>> Cluster<D, A> {
 }
 
 // The refusal of a change of a volume that is closed by this machine.
-fn read_only(alloc: Global, volume: u32, machine: u32) -> Reply
+pub(crate) fn read_only(alloc: Global, volume: u32, machine: u32) -> Reply
     ensures { IsReadOnly volume machine result }
 {
     match Listed::one(alloc, ClosedBy { volume, machine }) {
@@ -215,34 +189,6 @@ fn delete_refusal(alloc: Global, volume: u32, rows: u64, fault: LogicalFault) ->
             faults,
         },
         LogicalFault::ReadOnly { machine } => read_only(alloc, volume, machine),
-        LogicalFault::NoMemory => Reply::NoMem,
-        LogicalFault::Full {
-            machine: _,
-            end: _,
-            need: _,
-            capacity: _,
-        } => Reply::NoMem,
-    }
-}
-
-// What a flush is answered that a volume did not make.
-fn flush_refusal(alloc: Global, volume: u32, fault: LogicalFault) -> Reply
-    ensures { IsFlushReply volume fault result }
-{
-    match fault {
-        LogicalFault::Failed { machine, faults } => Reply::Failed {
-            volume,
-            machine,
-            faults,
-        },
-        LogicalFault::ReadOnly { machine } => read_only(alloc, volume, machine),
-        LogicalFault::NoMemory => Reply::NoMem,
-        LogicalFault::Gone { front: _ } => Reply::NoMem,
-        LogicalFault::Full {
-            machine: _,
-            end: _,
-            need: _,
-            capacity: _,
-        } => Reply::NoMem,
+        _ => Reply::NoMem,
     }
 }

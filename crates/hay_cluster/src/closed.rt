@@ -101,12 +101,6 @@ fn lack_of(volume: u32, fault: LogicalFault) -> Option<Refused>
             end,
             need,
         }),
-        LogicalFault::ReadOnly { machine: _ } => None,
-        LogicalFault::Gone { front: _ } => None,
-        LogicalFault::Failed {
-            machine: _,
-            faults: _,
-        } => None,
-        LogicalFault::NoMemory => None,
+        _ => None,
     }
 }

@@ -7,6 +7,7 @@ ghost use Rattle.hay_cluster.specs.Causes.{HasCause};
 ghost use Rattle.hay_cluster.specs.State.{Answered, Stands};
 ghost use Rattle.hay_cluster.specs.Store.{IsUp, disks_of};
 
+use crate::maintenance::Maintenance;
 use hay_core::CoreTag;
 use hay_directory::Directory;
 use hay_disk::{Arm, Disk};
@@ -48,7 +49,7 @@ impl<D: Disk, A: Arm<D::Piece>> Model for Cluster<D, A> {
 }
 
 impl<D: Disk, A: Arm<D::Piece>> Cluster<D, A> {
-    /// Answers a command of this lane and line. `Unbuilt` comes for compactions alone.
+    /// Answers a command of this lane and line.
     #[tactic(auto, using(crate::proofs::Moves::none_falls))]
     pub fn answer(&mut self, alloc: Global, tag: CoreTag, command: &Command) -> Reply
         requires within { IsWithin command.now }
@@ -73,7 +74,9 @@ impl<D: Disk, A: Arm<D::Piece>> Cluster<D, A> {
             Command::Get { url } => self.get(alloc, tag, url),
             Command::Del { pair } => self.delete(alloc, tag, *pair),
             Command::Url { pair } => self.url(tag, *pair),
-            Command::Flush { volume, machine } => self.flush(alloc, *volume, *machine),
+            Command::Flush { volume, machine } => {
+                self.maintain(alloc, *volume, *machine, Maintenance::Flush)
+            }
             Command::Drain { machine } => self.drain(*machine),
             Command::Undrain { machine } => self.undrain(*machine),
             Command::Fuse {
@@ -82,23 +85,25 @@ impl<D: Disk, A: Arm<D::Piece>> Cluster<D, A> {
                 calls,
             } => self.fuse(*volume, *machine, *calls),
             Command::FuseDir { calls } => self.fuse_dir(*calls),
-            Command::Compact {
-                volume: _,
-                machine: _,
-            } => Reply::Unbuilt,
-            Command::Begin {
-                volume: _,
-                machine: _,
-            } => Reply::Unbuilt,
+            Command::Compact { volume, machine } => {
+                self.maintain(alloc, *volume, *machine, Maintenance::Compact)
+            }
+            Command::Begin { volume, machine } => {
+                self.maintain(alloc, *volume, *machine, Maintenance::Begin)
+            }
             Command::Step {
-                volume: _,
-                machine: _,
-                cells: _,
-            } => Reply::Unbuilt,
-            Command::Finish {
-                volume: _,
-                machine: _,
-            } => Reply::Unbuilt,
+                volume,
+                machine,
+                cells,
+            } => self.maintain(
+                alloc,
+                *volume,
+                *machine,
+                Maintenance::Step { cells: *cells },
+            ),
+            Command::Finish { volume, machine } => {
+                self.maintain(alloc, *volume, *machine, Maintenance::Finish)
+            }
             Command::Restart { pick: _ } => unreachable!(),
         }
     }

@@ -13,6 +13,7 @@ mod closed;
 mod closing;
 mod cluster;
 mod fault;
+mod maintenance;
 mod opening;
 mod parts;
 mod put;

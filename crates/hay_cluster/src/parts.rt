@@ -6,14 +6,16 @@ ghost use Rattle.hay_disk.specs.Counts.{IsNext};
 ghost use Rattle.hay_legal.specs.declared.known.Known.{Known};
 ghost use Rattle.hay_legal.specs.Known.{NoneFalls, fuse_count, slot_of, volume_at, with_home};
 ghost use Rattle.hay_legal.specs.Plain.{row_pending, with_drain, with_fuses};
-ghost use Rattle.hay_logical.specs.Answers.{DeleteRefused, FlushRefused, IsDeleted, IsFlushed, IsPut, PutRefused};
+ghost use Rattle.hay_logical.specs.Answers.{DeleteRefused, IsDeleted, IsPut, PutRefused};
 ghost use Rattle.hay_directory.specs.State as directory;
-ghost use Rattle.hay_cluster.specs.Causes.{IsPutCause, IsDeleteCause, IsFlushCause, RoseIn};
+ghost use Rattle.hay_cluster.specs.Causes.{IsPutCause, IsDeleteCause, IsReplicaCause, RoseIn};
+ghost use Rattle.hay_cluster.specs.Maintenance.{IsDone, IsRefused};
 ghost use Rattle.hay_cluster.specs.Parts.{Comes, InVolume};
 ghost use Rattle.hay_cluster.specs.State.{Stands};
 ghost use Rattle.hay_cluster.specs.Store.{IsUp, disks_of};
 
 use crate::cluster::Cluster;
+use crate::maintenance::{Maintenance, maintain};
 use hay_core::CoreTag;
 use hay_directory::DirFault;
 use hay_disk::{Arm, Disk};
@@ -59,7 +61,7 @@ impl<D: Disk, A: Arm<D::Piece>> Cluster<D, A> {
         requires up { IsUp self.old }
         ensures moves { D.Tells → (k : Known) → Stands D.files D.Piece.Tells D.fault_count D.fuse_count A.fault_count self.old k →
             InVolume D.files D.Piece.Tells D.fault_count D.fuse_count A.fault_count k volume self.old self.new (λ before after.
-            IfOk result (λ position. IsDeleted D.files D.Piece.Tells (volume_at k volume) tag pair position after)
+            IfOk result (λ position. IsDeleted D.files D.fault_count D.Piece.Tells (volume_at k volume) tag pair position before after)
             × IfErr result (DeleteRefused D.files D.Piece.Tells (volume_at k volume) tag pair before after)) }
         ensures causes { IfErr result (IsDeleteCause self.old.settings volume (map D.fault_count (disks_of self.old)) (map D.fault_count (disks_of self.new))) }
         ensures counts { NoneFalls (map D.fault_count (disks_of self.old)) (map D.fault_count (disks_of self.new)) }
@@ -70,22 +72,33 @@ impl<D: Disk, A: Arm<D::Piece>> Cluster<D, A> {
         self.volumes.as_mut_slice()[volume as usize].delete(tag, pair)
     }
 
-    /// Flushes the index of a replica of a volume, and answers how many of its cells had no record.
-    pub(crate) fn flush_in(&mut self, volume: u32, replica: u32) -> Result<u64, LogicalFault>
+    /// Does maintenance work on a replica of a volume, and answers its number.
+    pub(crate) fn maintain_in(
+        &mut self,
+        alloc: Global,
+        volume: u32,
+        replica: u32,
+        work: Maintenance,
+    ) -> Result<u64, LogicalFault>
         requires volume { volume < self.old.settings.volumes }
         requires replica { replica < self.old.settings.replicas }
         requires up { IsUp self.old }
         ensures moves { D.Tells → (k : Known) → Stands D.files D.Piece.Tells D.fault_count D.fuse_count A.fault_count self.old k →
             InVolume D.files D.Piece.Tells D.fault_count D.fuse_count A.fault_count k volume self.old self.new (λ before after.
-            IfOk result (λ number. IsFlushed D.files D.Piece.Tells (volume_at k volume) replica number after)
-            × IfErr result (FlushRefused D.files D.Piece.Tells (volume_at k volume) replica before after)) }
-        ensures causes { IfErr result (IsFlushCause self.old.settings volume (map D.fault_count (disks_of self.old)) (map D.fault_count (disks_of self.new))) }
+            IfOk result (λ number. IsDone D.files D.Piece.Tells work (volume_at k volume) replica number after)
+            × IfErr result (IsRefused D.files D.Piece.Tells work (volume_at k volume) replica before after)) }
+        ensures causes { IfErr result (IsReplicaCause self.old.settings volume (map D.fault_count (disks_of self.old)) (map D.fault_count (disks_of self.new))) }
         ensures counts { NoneFalls (map D.fault_count (disks_of self.old)) (map D.fault_count (disks_of self.new)) }
         ensures arms { self.new.arms ≡ self.old.arms }
         ensures settings { self.new.settings ≡ self.old.settings }
         ensures up { IsUp self.new }
     {
-        self.volumes.as_mut_slice()[volume as usize].flush(replica)
+        maintain(
+            &mut self.volumes.as_mut_slice()[volume as usize],
+            alloc,
+            replica,
+            work,
+        )
     }
 
     /// Sets a fuse on the disk of a replica of a volume.

@@ -210,8 +210,7 @@ fn put_refusal(alloc: Global, volume: u32, fault: LogicalFault) -> Reply
                 need,
             },
         ),
-        LogicalFault::Gone { front: _ } => Reply::NoMem,
-        LogicalFault::NoMemory => Reply::NoMem,
+        _ => Reply::NoMem,
     }
 }
 

@@ -16,7 +16,7 @@ use Rattle.hay_volume.proofs.Readings.{cells_first}
 use Rattle.hay_index.specs.declared.record.Record.{Record}
 use Rattle.hay_index.specs.Records.{AreInRow}
 use Rattle.hay_open.specs.Stored.{cell_record, last_cell}
-use Rattle.hay_compact.specs.Copying.{IsLatest, IsPlaceOf, cell_total, photo_place}
+use Rattle.hay_compact.specs.Copying.{IsLatest, IsPlaceOf, cell_total}
 
 -- PLACES
 
@@ -234,9 +234,9 @@ flagged_needles end file cells pair last has is =
     ∙ sym (flag_parts (needles_of h.front) (needles_of h.behind) (needle_of_cell last) pair h.has h.none)
     ∙ sym (ap (λ (l : List Needle). flag_last pair l) needles)
 
--- the pair has nothing then, and each other pair what it had
+-- the last cell of the pair is deleted then, and that of each other pair is as it was
 pub flagged_last : (end : ℕ) (file : List ℕ) (cells : List Cell) (pair other : Pair) (last : Cell) → HasCells 64 file cells end → last_cell cells pair ≡ Some last
-    → photo_place (last_cell (with_flag last.at true cells) other) ≡ cond (pair_eq pair other) None (photo_place (last_cell cells other))
+    → last_cell (with_flag last.at true cells) other ≡ cond (pair_eq pair other) (Some (record last { deleted = true })) (last_cell cells other)
 flagged_last end file cells pair other last has is =
     let h = last_parts cells pair last is in
     let flagged : Cell = record last { deleted = true } in
@@ -246,14 +246,14 @@ flagged_last end file cells pair other last has is =
       | inl here ↦
           let one : pair ≡ other = pair_same pair other here in
           let gone = parts_last h.front h.behind flagged other (ap (λ (p : Pair). pair_eq p other) same ∙ here) (ap (λ (p : Pair). lacks p (needles_of h.behind)) (sym one) ∙ h.none) in
-          ap (λ (l : List Cell). photo_place (last_cell l other)) list ∙ ap photo_place gone ∙ sym (cond-true (pair_eq pair other) None (photo_place (last_cell cells other)) here)
+          ap (λ (l : List Cell). last_cell l other) list ∙ gone ∙ sym (cond-true (pair_eq pair other) (Some flagged) (last_cell cells other) here)
       | inr apart ↦
           let differ : pair_eq last.pair other ≡ false = ap (λ (p : Pair). pair_eq p other) same ∙ apart in
           let same_last : (c : Cell) → pair_eq c.pair other ≡ false → last_cell (h.front ++ c ∷ h.behind) other ≡ option_or (option_or (last_cell h.behind other) None) (last_cell h.front other) =
           (λ c ne. last_cell-append h.front (c ∷ h.behind) other ∙ ap (λ (o : Option Cell). option_or (option_or (last_cell h.behind other) o) (last_cell h.front other)) (cond-false (pair_eq c.pair other) (Some c) None ne)) in
-          ap (λ (l : List Cell). photo_place (last_cell l other)) list
-          ∙ ap photo_place (same_last flagged differ ∙ sym (same_last last differ) ∙ sym (ap (λ (l : List Cell). last_cell l other) h.parts))
-          ∙ sym (cond-false (pair_eq pair other) None (photo_place (last_cell cells other)) apart)
+          ap (λ (l : List Cell). last_cell l other) list
+          ∙ same_last flagged differ ∙ sym (same_last last differ) ∙ sym (ap (λ (l : List Cell). last_cell l other) h.parts)
+          ∙ sym (cond-false (pair_eq pair other) (Some flagged) (last_cell cells other) apart)
     ]
 
 -- RECORDS

@@ -1,8 +1,8 @@
 -- A cell is examined.
 use Rattle.std.proofs.Common.{◌≡◌, ◌≢◌, ◌⊎◌, inl, inr, ◌≤◌, ◌<◌, ◌+◌, ◌-◌, ◌^◌, ℕ, Bool, true, false, not, ◌&&◌, cond, eqb, List, [], ◌∷◌, ◌++◌, length, take, drop, Option, Some, None, refl, sym, ap, ◌∙◌, subst, arith}
-use Rattle.std.specs.Prelude.{All, map}
+use Rattle.std.specs.Prelude.{All, map, option_map}
 use Rattle.std.specs.Option.{option_or, option_eq}
-use Rattle.std.proofs.lemmas.Bool.{cond-false, cases_Bool, true≢false, and_from, and_parts, not-true, eq-eqb, eqb-true}
+use Rattle.std.proofs.lemmas.Bool.{cases_Bool, true≢false, and_from, and_parts, not-true, eq-eqb, eqb-true}
 use Rattle.std.proofs.lemmas.List.{length-append, map-append}
 use Rattle.std.proofs.lemmas.List.Elements.{All-append, All-cons, All-nil}
 use Rattle.hay_needle.specs.declared.needle.Cell.{Cell}
@@ -24,8 +24,9 @@ use Rattle.hay_index.specs.declared.index.IndexFile.{IndexFile}
 use Rattle.hay_index.specs.declared.record.Record.{Record}
 use Rattle.hay_index.specs.Records.{IsIndex}
 use Rattle.hay_open.specs.Stored.{cell_record, index_super, last_cell, volume_super}
-use Rattle.hay_compact.specs.Standing.{Places, place_in}
-use Rattle.hay_compact.specs.Copying.{Copying, HasPeeked, IsCopy, IsLatest, IsSafe, Making, MovesOn, Stage, cell_total, live_among, moved, photo_place}
+use Rattle.hay_compact.specs.declared.standing.LastCell.{LastCell}
+use Rattle.hay_compact.specs.Standing.{LastCells, last_in}
+use Rattle.hay_compact.specs.Copying.{Copying, HasPeeked, IsCopy, IsLatest, IsSafe, Making, MovesOn, Stage, cell_total, kept_cell, live_among, moved}
 use Rattle.hay_compact.proofs.LiveNeedles.{next_among}
 use Rattle.hay_compact.proofs.CellLists.{lacks_more, lacks_parts, last_cell-append, latest_live, other_dead}
 use Rattle.hay_compact.proofs.Copyings.{current_parts, end_next, needles_next, skips, within_next}
@@ -99,14 +100,18 @@ copy_skips sup files old s new current fresh n at total cell head latest h is co
 
 -- A CELL IS COPIED
 
+-- what is kept of a cell that is not deleted
+abbrev pub copied_at : ℕ → LastCell
+copied_at at = record { at = at; deleted = false }
+
 -- what that makes of the new files
-pub copy_makes : (sup : Super) (files later : Files) (s : Stage) (volume : VolumeFile) (index : IndexFile) (standing : Places) (fresh : List Cell) (next : ℕ) (cell : Cell) (head : CellHead) (row : Record)
+pub copy_makes : (sup : Super) (files later : Files) (s : Stage) (volume : VolumeFile) (index : IndexFile) (standing : LastCells) (fresh : List Cell) (next : ℕ) (cell : Cell) (head : CellHead) (row : Record)
     → Making sup files s fresh → IsCopy s.next s.bytes head cell → head.deleted ≡ false
     → volume ≡ record s.volume { end = s.volume.end + (length s.bytes - 8) }
     → ((superblock : List ℕ) (cells : List Cell) (needle : Needle) → IsMarked s.bytes needle → IsVolume superblock (files s.volume.file).now cells s.volume.end → IsVolume superblock (later s.volume.file).now (cells ++ cell_of_needle s.volume.end needle ∷ []) volume.end)
     → ((k : ℕ) → (files s.volume.file).sealed k ≡ false → (later s.volume.file).sealed k ≡ false) → KeepsOthers s.volume.file files later
     → index ≡ record s.index { pending = s.index.pending ++ row ∷ [] } → row ≡ record { pair = head.pair; at = s.volume.end; size = head.size }
-    → ((pair : Pair) → place_in standing pair ≡ cond (pair_eq head.pair pair) (Some s.volume.end) (place_in s.standing pair))
+    → ((pair : Pair) → last_in standing pair ≡ cond (pair_eq head.pair pair) (Some (copied_at s.volume.end)) (last_in s.standing pair))
     → Making sup later (record s { volume = volume; index = index; standing = standing; next = next }) (fresh ++ moved s.volume.end cell ∷ [])
 copy_makes sup files later s volume index standing fresh next cell head row h copy alive grown added free others noted row_is set = record {
   names_volume = file ∙ h.names_volume;
@@ -140,18 +145,18 @@ copy_makes sup files later s volume index standing fresh next cell head row h co
     pair_is : head.pair ≡ cell.pair
     pair_is = ap (λ (x : CellHead). x.pair) copy.head_is
 
-    by_test : (b : Bool) (o : Option Cell) → cond b (Some s.volume.end) (photo_place o) ≡ photo_place (option_or (cond b (Some copied) None) o)
-    by_test true o = sym (cond-false copied.deleted None (Some copied.at) kept)
+    by_test : (b : Bool) (o : Option Cell) → cond b (Some (copied_at s.volume.end)) (option_map kept_cell o) ≡ option_map kept_cell (option_or (cond b (Some copied) None) o)
+    by_test true o = ap (λ d. let last : LastCell = record { at = s.volume.end; deleted = d } in Some last) (sym kept)
     by_test false o = refl
 
-    placed : (pair : Pair) → cond (pair_eq head.pair pair) (Some s.volume.end) (place_in s.standing pair) ≡ photo_place (last_cell (fresh ++ copied ∷ []) pair)
+    placed : (pair : Pair) → cond (pair_eq head.pair pair) (Some (copied_at s.volume.end)) (last_in s.standing pair) ≡ option_map kept_cell (last_cell (fresh ++ copied ∷ []) pair)
     placed pair =
-        ap (λ (o : Option ℕ). cond (pair_eq head.pair pair) (Some s.volume.end) o) (h.places pair)
+        ap (λ (o : Option LastCell). cond (pair_eq head.pair pair) (Some (copied_at s.volume.end)) o) (h.places pair)
         ∙ by_test (pair_eq head.pair pair) (last_cell fresh pair)
-        ∙ ap (λ (p : Pair). photo_place (option_or (cond (pair_eq p pair) (Some copied) None) (last_cell fresh pair))) pair_is
-        ∙ ap photo_place (sym (last_cell-append fresh (copied ∷ []) pair))
+        ∙ ap (λ (p : Pair). option_map kept_cell (option_or (cond (pair_eq p pair) (Some copied) None) (last_cell fresh pair))) pair_is
+        ∙ ap (option_map kept_cell) (sym (last_cell-append fresh (copied ∷ []) pair))
 
-pub copy_copies : (sup : Super) (files later : Files) (old : VolumeFile) (s : Stage) (volume : VolumeFile) (index : IndexFile) (standing : Places) (current fresh : List Cell) (n total : ℕ) (cell : Cell) (head : CellHead) (latest : Option ℕ)
+pub copy_copies : (sup : Super) (files later : Files) (old : VolumeFile) (s : Stage) (volume : VolumeFile) (index : IndexFile) (standing : LastCells) (current fresh : List Cell) (n total : ℕ) (cell : Cell) (head : CellHead) (latest : Option ℕ)
     → Copying sup files old s current fresh n → drop n current ≡ cell ∷ drop (n + 1) current → IsCopy s.next s.bytes head cell → IsLatest current cell.pair latest
     → head.deleted ≡ false → latest ≡ Some s.next → total ≡ total_of_lem head.size
     → volume.file ≡ s.volume.file → index.file ≡ s.index.file → KeepsOthers s.volume.file files later
@@ -227,8 +232,8 @@ unnoted a b m r q is was =
     ∙ ap (λ z. with a.file a.end a.pending z) (ap (λ (i : IndexFile). i.frozen) both)
 
 -- it stands where it stood
-pub making_stands : (sup : Super) (files later : Files) (s new : Stage) (standing : Places) (fresh : List Cell) → Making sup files s fresh → later ≡ files
-    → ((pair : Pair) → place_in standing pair ≡ place_in s.standing pair) → new ≡ record s { standing = standing } → Making sup later new fresh
+pub making_stands : (sup : Super) (files later : Files) (s new : Stage) (standing : LastCells) (fresh : List Cell) → Making sup files s fresh → later ≡ files
+    → ((pair : Pair) → last_in standing pair ≡ last_in s.standing pair) → new ≡ record s { standing = standing } → Making sup later new fresh
 making_stands sup files later s new standing fresh h same places is =
     subst (λ (f : Files). Making sup f new fresh) (sym same)
     (subst (λ (x : Stage). Making sup files x fresh) (sym is)
@@ -245,8 +250,8 @@ making_stands sup files later s new standing fresh h same places is =
     }))
 
 -- it stands where it stood
-pub copy_stands : (sup : Super) (files later : Files) (old : VolumeFile) (s new : Stage) (standing : Places) (current fresh : List Cell) (n : ℕ) → Copying sup files old s current fresh n → later ≡ files
-    → ((pair : Pair) → place_in standing pair ≡ place_in s.standing pair) → new ≡ record s { standing = standing } → Copying sup later old new current fresh n
+pub copy_stands : (sup : Super) (files later : Files) (old : VolumeFile) (s new : Stage) (standing : LastCells) (current fresh : List Cell) (n : ℕ) → Copying sup files old s current fresh n → later ≡ files
+    → ((pair : Pair) → last_in standing pair ≡ last_in s.standing pair) → new ≡ record s { standing = standing } → Copying sup later old new current fresh n
 copy_stands sup files later old s new standing current fresh n h same places is =
     subst (λ (f : Files). Copying sup f old new current fresh n) (sym same)
     (subst (λ (x : Stage). Copying sup files old x current fresh n) (sym is)

@@ -13,11 +13,12 @@ use Rattle.hay_index.specs.declared.index.IndexFile.{IndexFile}
 use Rattle.hay_index.specs.declared.record.Record.{Record}
 use Rattle.hay_index.specs.Records.{AreInRow, IsIndex}
 use Rattle.hay_index.proofs.IndexLaws.{index_gate}
-use Rattle.hay_open.specs.Stored.{FlagsFree, IndexRests, VolumeRests, cell_record, index_file, index_super, recorded, volume_file, volume_super}
+use Rattle.hay_open.specs.Stored.{FlagsFree, IndexRests, VolumeRests, cell_record, index_file, index_super, last_cell, recorded, volume_file, volume_super}
 use Rattle.hay_compact.specs.declared.finish.Finished.{Finished}
 use Rattle.hay_compact.specs.Copying.{Making, Stage, stored_of}
 use Rattle.hay_compact.specs.Finishing.{AreThePlaces, CanSeal, IsFinished}
 use Rattle.hay_compact.proofs.CellLists.{records_row}
+use Rattle.hay_compact.proofs.StandingLaws.{place_kept}
 
 all_free : (file : FileState) (cells : List Cell) → IsFree file → FlagsFree file cells
 all_free file [] free = tt
@@ -38,7 +39,7 @@ ready_to_seal sup files middle later s fresh file h same stays keeps solid =
         gate = volume_gate (super_bytes (volume_super sup s.generation)) fresh s.volume.end (later file) is solid (λ k low. free k);
         flags = all_free (later file) fresh free;
       };
-      places = h.places;
+      places = λ pair. place_kept s.standing pair (last_cell fresh pair) (h.places pair);
     }
 
 -- the two files are two

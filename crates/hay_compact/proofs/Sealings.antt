@@ -26,7 +26,7 @@ use Rattle.hay_map.specs.Places.{gone_place}
 use Rattle.hay_map.specs.Rows.{last_place}
 use Rattle.hay_map.specs.Sealed.{SealedNeedle}
 use Rattle.hay_open.specs.Stored.{FlagsFree, IsSealedCell, PlaceOf, Stored, VolumeRests, cell_record, last_cell, volume_super}
-use Rattle.hay_compact.specs.Standing.{Places, place_in}
+use Rattle.hay_compact.specs.Standing.{LastCells, place_in}
 use Rattle.hay_compact.specs.Copying.{cell_total, photo_place}
 use Rattle.hay_compact.specs.Finishing.{AreThePlaces, ArePlacesSoFar, CanSeal, IsDue, PlaceSoFar}
 use Rattle.hay_compact.proofs.CellLists.{after_front, cells_end, last_stands, later_last, lacks_none, none_lacks, parts_last}
@@ -103,7 +103,7 @@ rests_sealed sup a b s row rest total rests d is seals =
           (flags_sealed 64 s.end a.now d.front d.behind d.cell a b has here (subst (λ (l : List Cell). FlagsFree a l) d.cells rests.flags));
     }
 
-pub can_seal_still : (sup : Super) (a b : FileState) (standing : Places) (s : Stored) → CanSeal sup a standing s → VolumeRests sup b s → CanSeal sup b standing s
+pub can_seal_still : (sup : Super) (a b : FileState) (standing : LastCells) (s : Stored) → CanSeal sup a standing s → VolumeRests sup b s → CanSeal sup b standing s
 can_seal_still sup a b standing s can rests = record { rests = rests; places = can.places }
 
 -- WHICH CELLS ARE SEALED
@@ -113,7 +113,7 @@ none_or None = inl refl
 none_or (Some c) = inr (c, refl)
 
 -- a cell whose place is its pair's is the last one of the pair, and not deleted
-pub due_last : (sup : Super) (file : FileState) (standing : Places) (s : Stored) (row : Record) (rest : List Cell) → CanSeal sup file standing s → (d : IsDue s row rest) → place_in standing row.pair ≡ Some row.at → (last_cell s.cells d.cell.pair ≡ Some d.cell) × (d.cell.deleted ≡ false)
+pub due_last : (sup : Super) (file : FileState) (standing : LastCells) (s : Stored) (row : Record) (rest : List Cell) → CanSeal sup file standing s → (d : IsDue s row rest) → place_in standing row.pair ≡ Some row.at → (last_cell s.cells d.cell.pair ≡ Some d.cell) × (d.cell.deleted ≡ false)
 due_last sup file standing s row rest can d is =
     let there = due_of sup file s row rest can.rests d in
     let pair : row.pair ≡ d.cell.pair = ap (λ (r : Record). r.pair) d.is in
@@ -141,7 +141,7 @@ due_last sup file standing s row rest can d is =
     ]
 
 -- where it is not, the last one is deleted or comes later
-pub due_other : (sup : Super) (file : FileState) (standing : Places) (s : Stored) (row : Record) (rest : List Cell) (last : Cell) → CanSeal sup file standing s → (d : IsDue s row rest) → place_in standing row.pair ≢ Some row.at → last_cell s.cells d.cell.pair ≡ Some last
+pub due_other : (sup : Super) (file : FileState) (standing : LastCells) (s : Stored) (row : Record) (rest : List Cell) (last : Cell) → CanSeal sup file standing s → (d : IsDue s row rest) → place_in standing row.pair ≢ Some row.at → last_cell s.cells d.cell.pair ≡ Some last
     → (last.deleted ≡ true) ⊎ (lacks d.cell.pair (needles_of d.behind) ≡ false)
 due_other sup file standing s row rest last can d other is =
     let pair : row.pair ≡ d.cell.pair = ap (λ (r : Record). r.pair) d.is in
@@ -183,7 +183,7 @@ last_place-push [] one pair before = refl
 last_place-push (x ∷ places) one pair before = last_place-push places one pair (cond (pair_eq x.pair pair) x.place before)
 
 -- nothing is sealed
-pub places_pass : {P : Type 0} (Tells : Type 0) (sup : Super) (file : FileState) (standing : Places) (s : Stored) (row : Record) (rest : List Cell) (places : List (OpenCell P)) → CanSeal sup file standing s → IsDue s row rest → place_in standing row.pair ≢ Some row.at
+pub places_pass : {P : Type 0} (Tells : Type 0) (sup : Super) (file : FileState) (standing : LastCells) (s : Stored) (row : Record) (rest : List Cell) (places : List (OpenCell P)) → CanSeal sup file standing s → IsDue s row rest → place_in standing row.pair ≢ Some row.at
     → ArePlacesSoFar Tells s.cells rest places → ArePlacesSoFar Tells s.cells (drop 1 rest) places
 places_pass Tells sup file standing s row rest places can d other so_far = λ pair.
     let last = last_cell s.cells pair in
@@ -210,7 +210,7 @@ sealed_cell Tells file end cell behind needle total tells there alive at size lo
       sealed = record { tells = tells; size = size; is = subst (λ (n : Needle). NeedleBytes needle.bytes n) same (subst (λ (l : List ℕ). NeedleBytes l (needle_of_cell cell)) (sym all) there.stands.is.is) };
     }
 
-pub places_sealed : {P : Type 0} (Tells : Type 0) (sup : Super) (file : FileState) (standing : Places) (s : Stored) (row : Record) (rest : List Cell) (places later : List (OpenCell P)) (needle : SealedNeedle) (total : ℕ) → Tells → CanSeal sup file standing s → IsDue s row rest → place_in standing row.pair ≡ Some row.at
+pub places_sealed : {P : Type 0} (Tells : Type 0) (sup : Super) (file : FileState) (standing : LastCells) (s : Stored) (row : Record) (rest : List Cell) (places later : List (OpenCell P)) (needle : SealedNeedle) (total : ℕ) → Tells → CanSeal sup file standing s → IsDue s row rest → place_in standing row.pair ≡ Some row.at
     → total ≡ total_of_lem row.size → needle.at ≡ row.at → needle.size ≡ row.size → needle.bytes ≡ take total (drop row.at file.now)
     → later ≡ places ++ record { pair = row.pair; place = place.Live needle } ∷ []
     → ArePlacesSoFar Tells s.cells rest places → ArePlacesSoFar Tells s.cells (drop 1 rest) later

@@ -1,5 +1,5 @@
 -- What a compaction has made so far of a current volume file.
-use Rattle.std.specs.Prelude.{◌≡◌, ◌≢◌, ◌≤◌, ◌<◌, ◌+◌, ◌^◌, ℕ, zero, suc, Bool, true, false, All, List, [], ◌∷◌, ◌++◌, length, map, take, drop, sum_by, Option, Some, None, if◌then◌else◌}
+use Rattle.std.specs.Prelude.{◌≡◌, ◌≢◌, ◌≤◌, ◌<◌, ◌+◌, ◌^◌, ℕ, zero, suc, Bool, true, false, All, List, [], ◌∷◌, ◌++◌, length, map, take, drop, sum_by, Option, Some, None, option_map, if◌then◌else◌}
 use Rattle.hay_needle.specs.declared.needle.Cell.{Cell}
 use Rattle.hay_needle.specs.declared.needle.CellHead.{CellHead}
 use Rattle.hay_needle.specs.declared.needle.Needle.{Needle}
@@ -17,7 +17,8 @@ use Rattle.hay_index.specs.Records.{IsIndex}
 use Rattle.hay_open.specs.Stored.{Stored, cell_record, index_file, index_super, last_cell, volume_file, volume_super}
 use Rattle.hay_index.specs.declared.index.IndexFile.{IndexFile}
 use Rattle.hay_index.specs.declared.record.Record.{Record}
-use Rattle.hay_compact.specs.Standing.{Places, place_in}
+use Rattle.hay_compact.specs.Standing.{LastCells, last_in}
+use Rattle.hay_compact.specs.declared.standing.LastCell.{LastCell}
 
 -- CELLS
 
@@ -37,6 +38,10 @@ moved at cell = record cell { at = at }
 abbrev pub photo_place : Option Cell → Option ℕ
 photo_place None = None
 photo_place (Some cell) = if cell.deleted then None else Some cell.at
+
+-- what is kept of a cell
+abbrev pub kept_cell : Cell → LastCell
+kept_cell cell = record { at = cell.at; deleted = cell.deleted }
 
 -- `latest` is the place of this cell, or none where it is deleted
 abbrev pub IsPlaceOf : Option ℕ → Cell → Type 0
@@ -65,14 +70,14 @@ pub record HasPeeked (at : ℕ) (bytes : List ℕ) (head : CellHead) : Type 0 wh
 
 -- HOW FAR A COMPACTION IS
 
--- A compaction as it stands: the files of the new generation, with the capacity that its volume file is to have, each pair's place in
--- it, where the next cell of the current volume file stands, and what was read there.
+-- A compaction as it stands: the files of the new generation, with the capacity that its volume file is to have, each pair's last cell
+-- in it, where the next cell of the current volume file stands, and what was read there.
 pub record Stage : Type 0 where
   pub generation : ℕ
   pub capacity : ℕ
   pub volume : VolumeFile
   pub index : IndexFile
-  pub standing : Places
+  pub standing : LastCells
   pub next : ℕ
   pub bytes : List ℕ
 
@@ -93,7 +98,7 @@ pub record Copying (sup : Super) (files : Files) (old : VolumeFile) (stage : Sta
   pub volume_free : IsFree (files stage.volume.file)
   pub index_free : IsFree (files stage.index.file)
   pub noted : stage.index.pending ≡ map cell_record fresh
-  pub places : (pair : Pair) → place_in stage.standing pair ≡ photo_place (last_cell fresh pair)
+  pub places : (pair : Pair) → last_in stage.standing pair ≡ option_map kept_cell (last_cell fresh pair)
   pub capacity_is : stage.capacity ≡ sup.settings.capacity
   pub volume_apart : old.file ≢ stage.volume.file
   pub index_apart : old.file ≢ stage.index.file
@@ -112,7 +117,7 @@ pub record Making (sup : Super) (files : Files) (stage : Stage) (fresh : List Ce
   pub volume_free : IsFree (files stage.volume.file)
   pub index_free : IsFree (files stage.index.file)
   pub noted : stage.index.pending ≡ map cell_record fresh
-  pub places : (pair : Pair) → place_in stage.standing pair ≡ photo_place (last_cell fresh pair)
+  pub places : (pair : Pair) → last_in stage.standing pair ≡ option_map kept_cell (last_cell fresh pair)
   pub capacity_is : stage.capacity ≡ sup.settings.capacity
 
 -- something was made of them

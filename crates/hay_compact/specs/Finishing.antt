@@ -14,7 +14,7 @@ use Rattle.hay_map.specs.Rows.{last_place}
 use Rattle.hay_open.specs.Stored.{IndexRests, IsSealedCell, PlaceOf, Stored, VolumeRests, cell_record, index_file, last_cell, volume_file}
 use Rattle.hay_compact.specs.declared.finish.Finished.{Finished}
 use Rattle.hay_compact.specs.Copying.{Stage, photo_place, stored_of}
-use Rattle.hay_compact.specs.Standing.{Places, place_in}
+use Rattle.hay_compact.specs.Standing.{LastCells, place_in}
 
 -- The place of each pair is that of its last cell. A pair that is not listed has no photo.
 abbrev pub AreThePlaces : {P : Type 0} → Type 0 → List Cell → List (OpenCell P) → Type 0
@@ -44,7 +44,7 @@ abbrev pub ArePlacesSoFar : {P : Type 0} → Type 0 → List Cell → List Cell 
 ArePlacesSoFar Tells cells rest places = (pair : Pair) → PlaceSoFar Tells rest pair (last_cell cells pair) (last_place places pair place.Gone)
 
 -- the file has these cells, and the places of the pairs' photos are those of their last cells
-pub record CanSeal (sup : Super) (file : FileState) (standing : Places) (s : Stored) : Type 0 where
+pub record CanSeal (sup : Super) (file : FileState) (standing : LastCells) (s : Stored) : Type 0 where
   pub rests : VolumeRests sup file s
   pub places : (pair : Pair) → place_in standing pair ≡ photo_place (last_cell s.cells pair)
 

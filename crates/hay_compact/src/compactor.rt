@@ -13,7 +13,7 @@ ghost use Rattle.hay_volume.specs.declared.volume.VolumeFile.{VolumeFile};
 ghost use Rattle.hay_open.specs.Stored.{index_file, volume_file};
 ghost use Rattle.hay_compact.specs.Copying.{Copies, Copying, HasPeeked, IsCopy, IsLatest, IsMaking, KeepsOtherFiles, Making, MovesOn, Repeats, live_among};
 
-use crate::standing::Standing;
+use crate::standing::{LastCell, Standing};
 use hay_disk::{Disk, DiskFault, Failed};
 use hay_index::{IndexFile, Record};
 use hay_needle::{CellHead, FileKind, Pair, Super, total_of};
@@ -216,7 +216,8 @@ impl Compactor {
         self.index.note(row)?;
         match self.volume.append_loose(disk, self.bytes.as_slice()) {
             Ok(at) => {
-                self.standing.set(cell.pair, Some(at));
+                self.standing
+                    .set(cell.pair, LastCell { at, deleted: false });
                 self.next += total_of(cell.size);
                 Ok(true)
             }
@@ -227,8 +228,9 @@ impl Compactor {
         }
     }
 
-    /// Repeats a delete: the pair's last cell in the new file, whatever version it is, is marked as deleted. Where there is
-    /// none that is not deleted, nothing is called. It takes no memory. After `Failed` the compaction must not go on.
+    /// Repeats a delete: the pair's last cell in the new file, whatever version it is, is marked as deleted. One write, also
+    /// where that cell is deleted already. Where the pair has no cell there, nothing is called. It takes no memory. After
+    /// `Failed` the compaction must not go on.
     pub fn repeat_delete<D: Disk>(&mut self, disk: &mut D, pair: Pair) -> Result<(), Failed>
         requires { D.Tells → IsMaking (D.files disk.old) self.old }
 
@@ -243,11 +245,17 @@ impl Compactor {
         ensures counted { IsCounted (D.fault_count disk.old) (D.fault_count disk.new) (IsErr result) }
         ensures fuses { D.fuse_count disk.new ≡ D.fuse_count disk.old }
     {
-        let Some(at) = self.standing.place(pair) else {
+        let Some(last) = self.standing.last(pair) else {
             return Ok(());
         };
-        self.volume.flag_loose(disk, at)?;
-        self.standing.set(pair, None);
+        self.volume.flag_loose(disk, last.at)?;
+        self.standing.set(
+            pair,
+            LastCell {
+                at: last.at,
+                deleted: true,
+            },
+        );
         Ok(())
     }
 }

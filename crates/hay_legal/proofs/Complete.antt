@@ -32,7 +32,7 @@ use Rattle.hay_legal.specs.declared.turn.Item.TheVariants as item
 use Rattle.hay_legal.specs.declared.turn.Turn.{Turn}
 use Rattle.hay_legal.specs.declared.turn.Turn.TheVariants.{Plain, Lanes, Restart}
 use Rattle.hay_legal.specs.Known.{NoneFalls, fault_count, arm_count, slot_of, machine_of, replica_on, volume_at, replica_at, home_of, tries_of, now, lacks_room, refusal_by, refusal_of, room_refusal}
-use Rattle.hay_legal.specs.Plain.{LegalPlain, LegalAnswer, LegalCommand, LegalGetAt, LegalShow, LegalFlush, LegalCompact, LegalBegin, LegalStep, LegalFinish, LegalFuse, OnReplica, RoseTo, HasCause, IsUnreadable, order_from, start_of, as_closed, DirectoryOpen}
+use Rattle.hay_legal.specs.Plain.{LegalPlain, LegalCommand, LegalGetAt, LegalShow, LegalFlush, LegalCompact, LegalBegin, LegalStep, LegalFinish, LegalFuse, OnReplica, RoseTo, HasCause, IsUnreadable, order_from, start_of, as_closed, DirectoryOpen}
 use Rattle.hay_legal.specs.Restarts.{LegalRestart}
 use Rattle.hay_legal.specs.Legal.{Legal, LegalTurn, known_after}
 use Rattle.hay_legal.specs.Subject.{known_behind, HasPhoto, NothingFailed, count_of, BlamesNothing, NothingIsBlamed, MayTake, IsStoredOrNoMem, TakenPutIsStored, HasEverywhere, IsShownOrNoMem, StandingPhotoIsShown, StandingPhotoIsGot}
@@ -272,7 +272,7 @@ command_blames settings k tag (command.Fuse w m n) v p d causes t some calm h =
 command_blames settings k tag _ v p d causes t some calm h = absurd h
 
 answer_blames : (settings : Settings) (k : Known) (tag : CoreTag) (c : Command) (r : Reply) (t : Known) → 0 < settings.replicas → NothingFailed k t
-    → LegalAnswer settings k tag c r t → BlamesNothing r
+    → LegalCommand settings k tag c r t → BlamesNothing r
 answer_blames settings k tag c (reply.Failed v m f) t some calm h = never_failed settings k tag c v m f t calm h
 answer_blames settings k tag c (reply.FailedDir f) t some calm h = never_failed_dir settings k tag c f t calm h
 answer_blames settings k tag c (reply.Damaged v m at) t some calm h = never_damaged settings k tag c v m at t h
@@ -322,7 +322,7 @@ each_answers f (x ∷ xs) (y ∷ ys) v e (suc i, below, is) none =
     each_answers f xs ys v tail (i, omega (arith, below), is) none
 
 put_taken : (settings : Settings) (k : Known) (tag : CoreTag) (pair : Pair) (bytes : List ℕ) (r : Reply) (t : Known) (v : ℕ) → NothingFailed k t
-    → MayTake settings k pair (length bytes) v → DirectoryOpen k pair → LegalAnswer settings k tag (command.Put pair bytes) r t → IsStoredOrNoMem r
+    → MayTake settings k pair (length bytes) v → DirectoryOpen k pair → LegalCommand settings k tag (command.Put pair bytes) r t → IsStoredOrNoMem r
 put_taken settings k tag pair bytes (reply.Stored w p d c) t v calm takes_it dir h = tt
 put_taken settings k tag pair bytes reply.NoMem t v calm takes_it dir h = tt
 put_taken settings k tag pair bytes (reply.Full refused) t v calm takes_it dir h =
@@ -333,7 +333,6 @@ put_taken settings k tag pair bytes reply.ReadOnlyDir t v calm takes_it dir h =
     let clash : true ≡ false = sym h.1 ∙ dir (h.0).missing in absurd cc
 put_taken settings k tag pair bytes (reply.Failed w m f) t v calm takes_it dir h = never_failed settings k tag (command.Put pair bytes) w m f t calm h
 put_taken settings k tag pair bytes (reply.FailedDir f) t v calm takes_it dir h = never_failed_dir settings k tag (command.Put pair bytes) f t calm h
-put_taken settings k tag pair bytes reply.Unbuilt t v calm takes_it dir h = absurd cc
 put_taken settings k tag pair bytes _ t v calm takes_it dir h = absurd h
 
 pub taken_put_is_stored : TakenPutIsStored
@@ -375,28 +374,13 @@ show_everywhere settings k tag start pair cookie bytes (reply.Unreadable v p d c
 show_everywhere settings k tag start pair cookie bytes reply.NoMem t some calm stands h = tt
 show_everywhere settings k tag start pair cookie bytes _ t some calm stands h = absurd h
 
--- an answer that a command gets where it is built
-pub built : (settings : Settings) (k : Known) (tag : CoreTag) (c : Command) (r : Reply) (t : Known) → r ≢ reply.Unbuilt → LegalAnswer settings k tag c r t → LegalCommand settings k tag c r t
-built settings k tag c reply.Unbuilt t is h = absurd (is refl)
-built settings k tag c r t is h = h
-
-read_is_built : (settings : Settings) (k : Known) (tag : CoreTag) (pair : Pair) (cookie : Cookie) (r : Reply) (t : Known)
-    → LegalAnswer settings k tag (command.Read pair cookie) r t → r ≢ reply.Unbuilt
-read_is_built settings k tag pair cookie reply.Unbuilt t h e = absurd cc
-read_is_built settings k tag pair cookie r t h e = absurd cc
-
-get_is_built : (settings : Settings) (k : Known) (tag : CoreTag) (url : UrlParts) (r : Reply) (t : Known)
-    → LegalAnswer settings k tag (command.Get url) r t → r ≢ reply.Unbuilt
-get_is_built settings k tag url reply.Unbuilt t h e = absurd cc
-get_is_built settings k tag url r t h e = absurd cc
-
 pub standing_photo_is_shown : StandingPhotoIsShown
 standing_photo_is_shown settings k t earlier later line pair cookie bytes r after some legal calm has =
     let turn = calm_turn settings k t earlier later (Plain line (item.Command (command.Read pair cookie)) r after) legal calm in
     let b : Known = known_behind k earlier in
     let tag : CoreTag = record { lane = 0; line = line } in
     show_everywhere settings b tag (start_of settings tag) pair cookie bytes r after some turn.1 (everywhere_stands settings b pair cookie bytes has)
-    (built settings b tag (command.Read pair cookie) r after (read_is_built settings b tag pair cookie r after turn.0) turn.0)
+    turn.0
 
 get_everywhere : (settings : Settings) (k : Known) (tag : CoreTag) (url : UrlParts) (start : ℕ) (bytes : List ℕ) (r : Reply) (t : Known) → 0 < settings.replicas
     → NothingFailed k t → Standing settings k url.pair (outcome.Photo (record { cookie = url.cookie; bytes = bytes })) → home_of k url.pair ≡ Some url.volume
@@ -412,4 +396,4 @@ standing_photo_is_got settings k t earlier later line url bytes r after replica 
     let b : Known = known_behind k earlier in
     let tag : CoreTag = record { lane = 0; line = line } in
     get_everywhere settings b tag url replica bytes r after some turn.1 (everywhere_stands settings b url.pair url.cookie bytes has) home
-    (subst (λ (o : Option ℕ). LegalGetAt settings b tag url o r after) there (built settings b tag (command.Get url) r after (get_is_built settings b tag url r after turn.0) turn.0))
+    (subst (λ (o : Option ℕ). LegalGetAt settings b tag url o r after) there turn.0)

@@ -17,7 +17,7 @@ use Rattle.hay_reply.specs.declared.Cause.{Cause}
 use Rattle.hay_reply.specs.declared.Cause.TheVariants.{Arm, Disk, Damage}
 use Rattle.hay_reply.specs.declared.Passed.{Passed}
 use Rattle.hay_reply.specs.declared.Reply.{Reply}
-use Rattle.hay_reply.specs.declared.Reply.TheVariants.{Stored, Deleted, Photo, Gone, Absent, WrongCookie, Unknown, Moved, Url, Full, ReadOnly, ReadOnlyDir, Failed, FailedDir, Unreadable, Flushed, Begun, Stepped, Compacted, Busy, Idle, Worn, Drained, Undrained, Fused, FusedDir, Nowhere, BadLine, Unbuilt, NoMem}
+use Rattle.hay_reply.specs.declared.Reply.TheVariants.{Stored, Deleted, Photo, Gone, Absent, WrongCookie, Unknown, Moved, Url, Full, ReadOnly, ReadOnlyDir, Failed, FailedDir, Unreadable, Flushed, Begun, Stepped, Compacted, Busy, Idle, Worn, Drained, Undrained, Fused, FusedDir, Nowhere, BadLine, NoMem}
 use Rattle.hay_core.specs.declared.entry.Entry.{Entry}
 use Rattle.hay_core.specs.declared.entry.Entry.TheVariants as entry
 use Rattle.hay_core.specs.declared.entry.CoreTag.{CoreTag}
@@ -528,22 +528,9 @@ LegalCommand settings k tag (command.Fuse v m n) reply t = OnReplica k (replica_
 LegalCommand settings k tag (command.FuseDir n) reply t = LegalFuseDir k n reply t
 LegalCommand settings k tag (command.Restart pick) reply t = ⊥
 
--- the commands that are built
-abbrev pub is_built : Command → Bool
-is_built (command.Begin v m) = false
-is_built (command.Step v m n) = false
-is_built (command.Finish v m) = false
-is_built (command.Compact v m) = false
-is_built _ = true
-
--- A command that is not built yet is answered so, and changes nothing.
-abbrev pub LegalAnswer : Settings → Known → CoreTag → Command → Reply → Known → Type 0
-LegalAnswer settings k tag command Unbuilt t = (is_built command ≡ false) × Leaves k k t
-LegalAnswer settings k tag command reply t = LegalCommand settings k tag command reply t
-
 -- a line that is no command is answered so, and changes nothing
 abbrev pub LegalItem : Settings → Known → CoreTag → Item → Reply → Known → Type 0
-LegalItem settings k tag (item.Command command) reply t = LegalAnswer settings k tag command reply t
+LegalItem settings k tag (item.Command command) reply t = LegalCommand settings k tag command reply t
 LegalItem settings k tag item.Bad reply t = (reply ≡ BadLine) × Leaves k k t
 
 -- A plain line uses lane 0.

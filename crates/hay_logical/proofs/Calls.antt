@@ -1,6 +1,6 @@
 -- What the calls of the replicas in order do.
 use Rattle.std.proofs.Common.{◌≡◌, ◌≢◌, ◌⊎◌, inl, inr, ℕ, zero, suc, ◌+◌, ◌<◌, ◌≤◌, Bool, true, false, List, [], ◌∷◌, ◌++◌, length, replicate, refl, sym, ap, subst, ◌∙◌, arith}
-use Rattle.std.specs.Prelude.{slice_set, Result, Ok, Err, OnOk, IfErr}
+use Rattle.std.specs.Prelude.{slice_set, None, Result, Ok, Err, OnOk, IfErr}
 use Rattle.std.proofs.lemmas.Bool.{cases_Bool, cases_eq, cases_lt}
 use Rattle.std.proofs.lemmas.List.{get_or-set_same, get_or-set_other}
 use Rattle.hay_needle.specs.declared.needle.Cookie.{Cookie}
@@ -22,13 +22,13 @@ use Rattle.hay_physical.specs.declared.state.Phase.{Phase}
 use Rattle.hay_physical.specs.declared.state.Phase.TheVariants as phase
 use Rattle.hay_physical.specs.declared.fault.ReplicaFault.{ReplicaFault}
 use Rattle.hay_physical.specs.declared.fault.ReplicaFault.TheVariants as fault
-use Rattle.hay_physical.specs.Copies.{Copy, HasFrozen, IsFrozen, IsOpen, IsOpenPhase, IsUp, capacity_of, contents_of, end_of, is_frozen, is_stuck, phase_frozen, phase_stuck}
+use Rattle.hay_physical.specs.Copies.{Copy, EndedAt, HasFrozen, IsFrozen, IsOpen, IsOpenPhase, IsUp, capacity_of, contents_of, end_of, goal_of, is_frozen, is_stuck, phase_frozen, phase_stuck}
 use Rattle.hay_physical.specs.Replicas as physical
 use Rattle.hay_physical.proofs.Laws.{stands_hold}
 use Rattle.hay_physical.specs.Faults as physical_faults
 use Rattle.hay_logical.specs.Fits.{At}
 use Rattle.hay_logical.specs.Volumes.{CanDelete, KeepsCounts}
-use Rattle.hay_logical.specs.Steps.{DeletesAt, LeftAt, OpensAt, IsFlushFault, IsOpenFault, IsPutFault, PutsAt, RoomFor}
+use Rattle.hay_logical.specs.Steps.{DeletesAt, FollowsAt, IsFlushFault, IsOpenFault, IsPutFault, LeftAt, LosesRun, OpensAt, PutsAt, RoomFor}
 use Rattle.hay_logical.proofs.Lists.{Went, at_below, at_same, at_set_other, at_set_same, at_there, length-slice_set}
 
 -- PHASES
@@ -67,6 +67,13 @@ up_thawed r h = phase_thawed false r.phase h
 pub frozen_is : {D : Type 0} (r : Copy D) → IsFrozen r → is_frozen r ≡ true
 frozen_is r h = phase_thawed true r.phase h
 
+phase_froze : (p : Phase) → IsOpenPhase p → phase_frozen p ≡ true → HasFrozen true p
+phase_froze phase.Closed is frozen = absurd is
+phase_froze (phase.Open opened) is frozen = frozen
+
+pub open_frozen : {D : Type 0} (r : Copy D) → IsOpen r → is_frozen r ≡ true → IsFrozen r
+open_frozen r is frozen = phase_froze r.phase is frozen
+
 -- COUNTS
 
 module _ {D : Type 0} (faults fuses : D → ℕ) where
@@ -101,6 +108,10 @@ put_cause faults r r' size fault.Frozen up room thawed full cause froze = not_bo
 put_cause faults r r' size (fault.Full end need capacity) up room thawed full cause froze =
     let h = full end need capacity refl in absurd (omega (arith, h, room))
 put_cause faults r r' size fault.NoMemory up room thawed full cause froze = tt
+put_cause faults r r' size (fault.Busy generation) up room thawed full cause froze = absurd cause
+put_cause faults r r' size (fault.Ended count) up room thawed full cause froze = absurd cause
+put_cause faults r r' size fault.Worn up room thawed full cause froze = absurd cause
+put_cause faults r r' size (fault.Damaged at) up room thawed full cause froze = absurd cause
 
 -- the place of a new row's last replica, and the places before it
 pub place_last : {P : Type 0} (row : List (Place P)) (p : Place P) (n : ℕ) → length row ≡ n → place_in (row ++ p ∷ []) n ≡ p
@@ -126,6 +137,10 @@ delete_rose faults r r' (fault.Failed n) up thawed cause = cause.0
 delete_rose faults r r' fault.Frozen up thawed cause = absurd (not_both r up (thawed refl))
 delete_rose faults r r' (fault.Full end need capacity) up thawed cause = absurd cause
 delete_rose faults r r' fault.NoMemory up thawed cause = absurd cause
+delete_rose faults r r' (fault.Busy generation) up thawed cause = absurd cause
+delete_rose faults r r' (fault.Ended count) up thawed cause = absurd cause
+delete_rose faults r r' fault.Worn up thawed cause = absurd cause
+delete_rose faults r r' (fault.Damaged at) up thawed cause = absurd cause
 
 pub deletes_on : {D P : Type 0} (DiskTells : Type 0) (files : D → Files) (r r' : Copy D) (p q : Place P) → q ≡ p → DeletesAt DiskTells files p r r' → DeletesAt DiskTells files q r r'
 deletes_on DiskTells files r r' p q e h = subst (λ x. DeletesAt DiskTells files x r r') (sym e) h
@@ -202,7 +217,11 @@ flush_cause faults r r' fault.Frozen up cause stuck stayed thawed same = elim (t
   | inl frozen ↦ absurd (not_both r up frozen)
   | inr is ↦ (is, same (inr is))
 ]
-flush_cause faults r r' (fault.Full end need capacity) up cause stuck stayed thawed same = cause
+flush_cause faults r r' (fault.Full end need capacity) up cause stuck stayed thawed same = absurd cause
+flush_cause faults r r' (fault.Busy generation) up cause stuck stayed thawed same = absurd cause
+flush_cause faults r r' (fault.Ended count) up cause stuck stayed thawed same = absurd cause
+flush_cause faults r r' fault.Worn up cause stuck stayed thawed same = absurd cause
+flush_cause faults r r' (fault.Damaged at) up cause stuck stayed thawed same = absurd cause
 flush_cause faults r r' fault.NoMemory up cause stuck stayed thawed same = ap phase_stuck (stayed refl)
 
 pub flush_if : {D : Type 0} (faults : D → ℕ) (r r' : Copy D) (result : Result ℕ ReplicaFault) → IsUp r → IfErr result (physical_faults.IsFlushFault (faults r.disk) (faults r'.disk))
@@ -236,10 +255,37 @@ fault_is result f h e g = let both : Err f ≡ Err h = sym e ∙ g in cc
 pub not_both_ways : {X : Type 0} (result : Result X ReplicaFault) (f : ReplicaFault) {x : X} → result ≡ Ok x → result ≡ Err f → ⊥
 not_both_ways result f {x = x} e g = let both : Ok x ≡ Err f = sym e ∙ g in cc
 
+pub loses_none : {D : Type 0} (DiskTells : Type 0) (files : D → Files) (r : Copy D) → LosesRun DiskTells files r r
+loses_none DiskTells files r = record {
+  idle = λ e. refl;
+  «open» = λ h. h;
+  up = λ h. h;
+  froze = λ h. h;
+  sup = refl;
+  disk = refl;
+  frozen = refl;
+  stuck = refl;
+  stands = λ tells s h. h;
+  holds = λ tells b s t h. h;
+  deletable = λ tells place may. may;
+}
+
+pub ended_or : {D : Type 0} (r r' : Copy D) (count : ℕ) {Q : Type 0} → (goal_of r' ≡ goal_of r) ⊎ (EndedAt count r' × Q) → (goal_of r' ≡ goal_of r) ⊎ ((goal_of r' ≡ None) × Q)
+ended_or r r' count (inl same) = inl same
+ended_or r r' count (inr ended) = inr (ended.0.0, ended.1)
+
 pub stays_where : {D P : Type 0} (DiskTells : Type 0) (files : D → Files) (p : Place P) (r : Copy D) → ((needle : SealedNeedle) → p ≡ place.Live needle → ⊥) → DeletesAt DiskTells files p r r
 stays_where DiskTells files (place.Live needle) r never = absurd (never needle refl)
-stays_where DiskTells files place.Gone r never = refl
-stays_where DiskTells files place.None r never = refl
+stays_where DiskTells files place.Gone r never = loses_none DiskTells files r
+stays_where DiskTells files place.None r never = loses_none DiskTells files r
+
+pub follows_where : {D P : Type 0} (DiskTells : Type 0) (files : D → Files) (faults : D → ℕ) (pair : Pair) (p : Place P) (r : Copy D) → ((needle : SealedNeedle) → p ≡ place.Live needle → ⊥) → FollowsAt DiskTells files faults pair p r r
+follows_where DiskTells files faults pair (place.Live needle) r never = absurd (never needle refl)
+follows_where DiskTells files faults pair place.Gone r never = refl
+follows_where DiskTells files faults pair place.None r never = refl
+
+pub follows_on : {D P : Type 0} (DiskTells : Type 0) (files : D → Files) (faults : D → ℕ) (pair : Pair) (r r' : Copy D) (p q : Place P) → q ≡ p → FollowsAt DiskTells files faults pair p r r' → FollowsAt DiskTells files faults pair q r r'
+follows_on DiskTells files faults pair r r' p q e h = subst (λ x. FollowsAt DiskTells files faults pair x r r') (sym e) h
 
 pub two_faults : {X : Type 0} (result : Result X ReplicaFault) (f h : ReplicaFault) → result ≡ Err f → result ≡ Err h → (f ≡ h → ⊥) → ⊥
 two_faults result f h e g never = never (fault_is result f h e g)
@@ -258,6 +304,7 @@ opens_on DiskTells files Tells rows rows' j r r' same h = record {
   up = h.up;
   sup = h.sup;
   loose = h.loose;
+  alone = h.alone;
   opened = λ tells s opens.
       let p = h.opened tells s opens in
       (p.0, λ pair. subst (PlaceOf Tells (last_cell s.cells pair)) (sym (same pair)) (p.1 pair));

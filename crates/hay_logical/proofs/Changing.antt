@@ -1,14 +1,15 @@
 -- What puts, deletes and flushes of a volume answer.
-use Rattle.std.proofs.Common.{◌≡◌, ◌≢◌, inl, inr, ℕ, zero, suc, ◌+◌, ◌<◌, Bool, true, false, cond, List, [], ◌∷◌, length, map, Option, Some, None, refl, sym, ap, subst, ◌∙◌, arith}
+use Rattle.std.proofs.Common.{◌≡◌, ◌≢◌, ◌⊎◌, inl, inr, ℕ, zero, suc, ◌+◌, ◌<◌, Bool, true, false, cond, List, [], ◌∷◌, length, map, Option, Some, None, option_map, refl, sym, ap, subst, ◌∙◌, arith}
 use Rattle.std.specs.Prelude.{Err, Ok, slice_index_or, slice_set}
 use Rattle.std.specs.List.{list_any}
-use Rattle.std.proofs.lemmas.Bool.{cases_Bool, cases_eq, cases_lt}
+use Rattle.std.proofs.lemmas.Bool.{cases_Bool, cases_eq, cases_lt, false≢true, true≢false}
 use Rattle.hay_needle.specs.declared.needle.Cookie.{Cookie}
 use Rattle.hay_needle.specs.declared.needle.Outcome.{Outcome}
 use Rattle.hay_needle.specs.declared.needle.Outcome.TheVariants as outcome
 use Rattle.hay_needle.specs.declared.needle.Pair.{Pair}
 use Rattle.hay_needle.specs.declared.settings.Settings.{Settings}
 use Rattle.hay_needle.specs.Tables.{outcome_at, pair_eq}
+use Rattle.hay_disk.specs.Counts.{Rose}
 use Rattle.hay_disk.specs.Disk.{Files}
 use Rattle.hay_core.specs.declared.entry.CoreTag.{CoreTag}
 use Rattle.hay_core.specs.declared.entry.Entry.TheVariants.{Del}
@@ -24,7 +25,7 @@ use Rattle.hay_map.specs.declared.place.Place.{Place}
 use Rattle.hay_map.specs.declared.place.Place.TheVariants as place
 use Rattle.hay_physical.specs.declared.fault.ReplicaFault.{ReplicaFault}
 use Rattle.hay_physical.specs.declared.fault.ReplicaFault.TheVariants as fault
-use Rattle.hay_physical.specs.Copies.{Copy, IsOpen, IsUp, is_stuck}
+use Rattle.hay_physical.specs.Copies.{Copy, IsOpen, IsUp, goal_of, is_stuck}
 use Rattle.hay_physical.specs.Replicas as physical
 use Rattle.hay_logical.specs.declared.fault.LogicalFault.TheVariants as logical
 use Rattle.hay_logical.specs.declared.replicas.Broken.{Broken}
@@ -33,17 +34,18 @@ use Rattle.hay_logical.specs.declared.unsure.Change.TheVariants as change
 use Rattle.hay_logical.specs.declared.unsure.Unsure.{Unsure}
 use Rattle.hay_logical.specs.Answers.{DeleteRefused, FlushRefused, HasFailed, HasRoom, IsDeleted, IsFlushed, IsPut, PutRefused, change_at, is_held, room_answer}
 use Rattle.hay_logical.specs.Answers as answers
-use Rattle.hay_logical.specs.Fits.{At}
+use Rattle.hay_logical.specs.Fits.{At, RunsAs, copier_run}
 use Rattle.hay_logical.specs.Notes.{is_live}
 use Rattle.hay_logical.specs.Refusals.{flush_answer}
 use Rattle.hay_logical.specs.Stands.{ReplicaStands, Stands, StandsFor}
-use Rattle.hay_logical.specs.Steps.{CallsOne, DeleteLeaves, DeletesAt, FlushesAt, PutLeaves}
+use Rattle.hay_logical.specs.Steps.{AllIdle, CallsOne, DeleteLeaves, DeletesAt, FlushesAt, FollowsAt, PutLeaves}
 use Rattle.hay_logical.specs.Volumes.{Volume}
 use Rattle.hay_logical.proofs.Calls.{up_open, frozen_open}
-use Rattle.hay_logical.proofs.Holding.{delete_part, stands_broken, stands_changed, stands_delete}
+use Rattle.hay_logical.proofs.Holding.{RunEnd, delete_part, stands_broken, stands_changed, stands_delete}
 use Rattle.hay_logical.proofs.Knowing.{changed_here, changed_other, fits_flushed, fits_other, fits_stuck}
-use Rattle.hay_logical.proofs.Lists.{at_below, at_same, length-slice_set}
+use Rattle.hay_logical.proofs.Lists.{at_below, at_same, at_there, length-slice_set}
 use Rattle.hay_logical.proofs.Methods.{one_after, one_count, other_same, shown}
+use Rattle.hay_logical.proofs.Reopening.{Chosen, choose}
 use Rattle.hay_logical.proofs.Standing.{takes, volume_with}
 
 pub not_some : (o : Option ℕ) → ((m : ℕ) → o ≡ Some m → ⊥) → o ≡ None
@@ -83,18 +85,41 @@ some_any f (x ∷ xs) (suc j) d h e =
 -- what a delete of one replica leaves of it
 deletes_sup : {D P : Type 0} (DiskTells : Type 0) (files : D → Files) (p : Place P) (r r' : Copy D) → DeletesAt DiskTells files p r r' → (r'.sup ≡ r.sup) × (is_stuck r' ≡ is_stuck r)
 deletes_sup DiskTells files (place.Live needle) r r' h = (h.1, h.2)
-deletes_sup DiskTells files place.Gone r r' h = (ap (λ x. x.sup) h, ap is_stuck h)
-deletes_sup DiskTells files place.None r r' h = (ap (λ x. x.sup) h, ap is_stuck h)
+deletes_sup DiskTells files place.Gone r r' h = (h.sup, h.stuck)
+deletes_sup DiskTells files place.None r r' h = (h.sup, h.stuck)
 
 deletes_up : {D P : Type 0} (DiskTells : Type 0) (files : D → Files) (p : Place P) (r r' : Copy D) → DeletesAt DiskTells files p r r' → IsUp r → IsUp r'
 deletes_up {D = D} DiskTells files (place.Live needle) r r' h up = h.0
-deletes_up {D = D} DiskTells files place.Gone r r' h up = subst (λ (x : Copy D). IsUp x) (sym h) up
-deletes_up {D = D} DiskTells files place.None r r' h up = subst (λ (x : Copy D). IsUp x) (sym h) up
+deletes_up {D = D} DiskTells files place.Gone r r' h up = h.up up
+deletes_up {D = D} DiskTells files place.None r r' h up = h.up up
 
 pub deleted_same : {D P : Type 0} (DiskTells : Type 0) (files : D → Files) (p : Place P) (r r' : Copy D) → DeletesAt DiskTells files p r r' → IsUp r → IsUp r' × (r'.sup ≡ r.sup) × (is_stuck r' ≡ is_stuck r)
 deleted_same DiskTells files p r r' h up =
     let s = deletes_sup DiskTells files p r r' h in
     (deletes_up DiskTells files p r r' h up, s.0, s.1)
+
+-- whether a compaction ended
+goal_follows : {D P : Type 0} (DiskTells : Type 0) (files : D → Files) (faults : D → ℕ) (pair : Pair) (p : Place P) (r r' : Copy D) → FollowsAt DiskTells files faults pair p r r'
+    → (goal_of r' ≡ goal_of r) ⊎ ((goal_of r' ≡ None) × Rose (faults r.disk) (faults r'.disk))
+goal_follows DiskTells files faults pair (place.Live needle) r r' h = h.goal
+goal_follows DiskTells files faults pair place.Gone r r' h = inl (ap (λ x. goal_of x) h)
+goal_follows DiskTells files faults pair place.None r r' h = inl (ap (λ x. goal_of x) h)
+
+abbrev EndedIn : {D : Type 0} → (D → ℕ) → List (Copy D) → List (Copy D) → ℕ → Bool → Type 0
+EndedIn {D} faults olds news j b = (r r' : Copy D) → At olds j r → At news j r' → RunEnd faults r r' b
+
+ends_in : {D : Type 0} (faults : D → ℕ) (olds news : List (Copy D)) (n : ℕ) → length olds ≡ n → length news ≡ length olds
+    → ((j : ℕ) (r r' : Copy D) → At olds j r → At news j r' → (goal_of r' ≡ goal_of r) ⊎ ((goal_of r' ≡ None) × Rose (faults r.disk) (faults r'.disk)))
+    → Chosen (EndedIn faults olds news) n
+ends_in {D} faults olds news n all count each = choose (EndedIn faults olds news) n (λ j low.
+    let old = at_there olds j (let less : j < length olds = omega (arith, low, all) in less) in
+    let new = at_there news j (let less : j < length news = omega (arith, low, all, count) in less) in
+    let on : (b : Bool) → RunEnd faults old.0 new.0 b → EndedIn faults olds news j b =
+    λ b end r r' e f. subst (λ (x : Copy D). RunEnd faults x r' b) (at_same olds j old.0 r old.1 e) (subst (λ (x : Copy D). RunEnd faults old.0 x b) (at_same news j new.0 r' new.1 f) end) in
+    elim (each j old.0 new.0 old.1 new.1) [
+      | inl same ↦ (false, on false (record { rose = λ e. absurd (false≢true e); gone = λ e. absurd (false≢true e); kept = λ e. same }))
+      | inr gone ↦ (true, on true (record { rose = λ e. gone.1; gone = λ e. gone.0; kept = λ e. absurd (true≢false e) }))
+    ])
 
 -- what a delete that was broken off leaves: each replica is open, with its superblock and its index
 pub record Remains {D : Type 0} (r r' : Copy D) : Type 0 where
@@ -137,26 +162,38 @@ module _ {D P : Type 0} (settings : Settings) (number : ℕ) (DiskTells : Type 0
       → ((other : Pair) → row_at rows' other ≡ cond (pair_eq pair other) (map gone_place (row_at rows other)) (row_at rows other))
       → ((j : ℕ) (r : Copy D) → At items j r → IsUp r)
       → ((j : ℕ) (r r' : Copy D) → At items j r → At new j r' → DeletesAt DiskTells files (place_in row j) r r')
-      → IsDeleted files Tells k tag pair front' (volume_with settings number new rows' front' frozen unsure)
+      → ((j : ℕ) (r r' : Copy D) → At items j r → At new j r' → FollowsAt DiskTells files faults pair (place_in row j) r r')
+      → IsDeleted files faults Tells k tag pair front' (volume_with settings number items rows front frozen unsure) (volume_with settings number new rows' front' frozen unsure)
   unfolding Stands
-  deleted tells items new rows rows' front front' (Some m) unsure k tag pair row stands thawed count next is long some changed up each = some_none thawed
-  deleted tells items new rows rows' front front' None unsure k tag pair row stands thawed count next is long some changed up each = record {
-    thawed = stands.frozen;
-    stood = is_held_at items rows front None unsure k pair row stands is long some;
-    position = let e = stands.front in omega (arith, e, next);
-    stands = stands_delete DiskTells files Tells settings number tells items new rows rows' front front' unsure k tag pair stands count next changed
-        (λ j r r' e f. subst (λ l. DeletesAt DiskTells files (place_in l j) r r') is (each j r r' e f))
-        (λ j r r' e f. (deletes_sup DiskTells files (place_in row j) r r' (each j r r' e f)).1);
-  }
+  deleted tells items new rows rows' front front' (Some m) unsure k tag pair row stands thawed count next is long some changed up each follow = some_none thawed
+  deleted tells items new rows rows' front front' None unsure k tag pair row stands thawed count next is long some changed up each follow =
+      let ended = ends_in faults items new settings.replicas stands.all count (λ j r r' e f. goal_follows DiskTells files faults pair (place_in row j) r r' (follow j r r' e f)) in
+      record {
+        thawed = stands.frozen;
+        stood = is_held_at items rows front None unsure k pair row stands is long some;
+        position = let e = stands.front in omega (arith, e, next);
+        ended = ended.items;
+        count = ended.count;
+        cause = λ j r r' there e f. (ended.each j true there r r' e f).rose refl;
+        stands = stands_delete DiskTells files Tells settings number tells items new rows rows' front front' unsure k tag pair stands count next changed
+            (λ j r r' e f. subst (λ l. DeletesAt DiskTells files (place_in l j) r r') is (each j r r' e f))
+            (λ j r r' e f. (deletes_sup DiskTells files (place_in row j) r r' (each j r r' e f)).1)
+            faults (λ j r r' e f. subst (λ l. FollowsAt DiskTells files faults pair (place_in l j) r r') is (follow j r r' e f)) ended.items
+            (λ j r r' e f.
+            let low = at_below items j r e in
+            let all = stands.all in
+            let there = at_there ended.items j (let n = ended.count in let less : j < length ended.items = omega (arith, low, n, all) in less) in
+            (there.0, there.1, ended.each j there.0 there.1 r r' e f));
+      }
 
   pub delete_refused : DiskTells → (items new : List (Copy D)) (rows : MapRows P) (front : ℕ) (frozen : Option ℕ) (unsure : Option Unsure) (k : VolumeKnown) (tag : CoreTag) (pair : Pair) (row : List (Place P)) (failed : DiskFailed) (m : ℕ)
       → StandsFor files Tells (volume_with settings number items rows front frozen unsure) k → frozen ≡ None → length new ≡ length items → row ≡ row_at rows pair
-      → m ≡ machine_of settings number failed.at → DeleteLeaves DiskTells files faults row items new failed
+      → m ≡ machine_of settings number failed.at → DeleteLeaves DiskTells files faults row items new failed → AllIdle new
       → DeleteRefused files Tells k tag pair (volume_with settings number items rows front frozen unsure)
       (volume_with settings number new rows front (Some m) (Some (record { tag = tag; change = change.Delete pair }))) (logical.Failed m failed.faults)
   unfolding Stands
-  delete_refused tells items new rows front (Some n) unsure k tag pair row failed m stands thawed count is machine left = some_none thawed
-  delete_refused tells items new rows front None unsure k tag pair row failed m stands thawed count is machine left =
+  delete_refused tells items new rows front (Some n) unsure k tag pair row failed m stands thawed count is machine left idle = some_none thawed
+  delete_refused tells items new rows front None unsure k tag pair row failed m stands thawed count is machine left idle =
       let left' : DeleteLeaves DiskTells files faults (row_at rows pair) items new failed = subst (λ l. DeleteLeaves DiskTells files faults l items new failed) is left in
       let below = at_below items failed.at left.before left.was in
       let all : length items ≡ settings.replicas = stands.all in (
@@ -164,7 +201,7 @@ module _ {D P : Type 0} (settings : Settings) (number : ℕ) (DiskTells : Type 0
         stands_broken DiskTells files Tells settings number items new rows rows front unsure k tag (Del pair) (change.Delete pair) m failed.at true stands count
             ((let less : failed.at < settings.replicas = omega (arith, below, all) in less), ap (λ n. Some n) machine) refl (λ q. refl)
             (delete_part DiskTells files Tells settings number tells faults items new rows front unsure k pair failed left'
-            (λ j r r' less e f. (deletes_sup DiskTells files (place_in row j) r r' (left.below j r r' less e f)).1)),
+            (λ j r r' less e f. (deletes_sup DiskTells files (place_in row j) r r' (left.below j r r' less e f)).1)) idle,
       )
 
   pub delete_failed : (items new : List (Copy D)) (row : List (Place P)) (failed : DiskFailed) (m : ℕ) → length items ≡ settings.replicas
@@ -193,7 +230,7 @@ delete_remains DiskTells files faults items new row failed left up j r r' e f =
           let h = deleted_same DiskTells files (place_in row j) r r' (left.below j r r' less e f) (up j r e) in
           record { «open» = up_open r' h.0; sup = h.1; stuck = h.2 }
       | inr most ↦ elim (cases_lt failed.at j) [
-        | inl later ↦ subst (λ x. Remains r x) (sym (left.above j r r' later e f)) (record { «open» = up_open r (up j r e); sup = refl; stuck = refl })
+        | inl later ↦ let ends = left.above j r r' later e f in record { «open» = ends.«open» (up_open r (up j r e)); sup = ends.sup; stuck = ends.stuck }
         | inr no_later ↦
             let here : j ≡ failed.at = omega (arith, most, no_later) in
             let before : r ≡ left.before = at_same items j r left.before e (subst (λ n. At items n left.before) (sym here) left.was) in
@@ -210,7 +247,7 @@ put_remains DiskTells files faults pair cookie bytes items new broken left up j 
     elim (cases_lt j broken.at) [
       | inl less ↦ let h = left.below j r r' less e f in record { «open» = up_open r' h.0; sup = h.1; stuck = h.2 }
       | inr most ↦ elim (cases_lt broken.at j) [
-        | inl later ↦ subst (λ x. Remains r x) (sym (left.above j r r' later e f)) (record { «open» = up_open r (up j r e); sup = refl; stuck = refl })
+        | inl later ↦ let ends = left.above j r r' later e f in record { «open» = ends.«open» (up_open r (up j r e)); sup = ends.sup; stuck = ends.stuck }
         | inr no_later ↦
             let here : j ≡ broken.at = omega (arith, most, no_later) in
             let before : r ≡ left.before = at_same items j r left.before e (subst (λ n. At items n left.before) (sym here) left.was) in
@@ -221,14 +258,14 @@ put_remains DiskTells files faults pair cookie bytes items new broken left up j 
 
 -- FLUSHES
 
-set_back : {X : Type 0} (xs : List X) (j : ℕ) (x : X) → At xs j x → slice_set xs j x ≡ xs
+pub set_back : {X : Type 0} (xs : List X) (j : ℕ) (x : X) → At xs j x → slice_set xs j x ≡ xs
 set_back [] j x e = refl
 set_back (y ∷ xs) zero x e = let same : y ≡ x = cc in ap (λ z. z ∷ xs) (sym same)
 set_back (y ∷ xs) (suc j) x e = ap (λ l. y ∷ l) (set_back xs j x e)
 
 module _ {D P : Type 0} (settings : Settings) (number : ℕ) (DiskTells : Type 0) (files : D → Files) (Tells : Type 0) (faults : D → ℕ) where
   -- one replica was called
-  stands_one : (items new : List (Copy D)) (rows : MapRows P) (front : ℕ) (unsure : Option Unsure) (k t : VolumeKnown) (at : ℕ) (one : CallsOne at items new)
+  pub stands_one : (items new : List (Copy D)) (rows : MapRows P) (front : ℕ) (unsure : Option Unsure) (k t : VolumeKnown) (at : ℕ) (one : CallsOne at items new)
       → StandsFor files Tells (volume_with settings number items rows front None unsure) k
       → t.log ≡ k.log → t.frozen ≡ k.frozen → t.pending ≡ k.pending → length t.replicas ≡ length k.replicas
       → (ReplicaStands files Tells (volume_with settings number items rows front None unsure) k at one.before → ReplicaStands files Tells (volume_with settings number new rows front None unsure) t at one.after)
@@ -247,13 +284,15 @@ module _ {D P : Type 0} (settings : Settings) (number : ℕ) (DiskTells : Type 0
         | inr apart ↦ subst (λ x. ReplicaStands files Tells W t j x) (sym (other_same at items new one j apart r r' e f)) (others j apart r was)
       ])
 
-  other_changed : (items new : List (Copy D)) (rows : MapRows P) (front : ℕ) (unsure : Option Unsure) (k : VolumeKnown) (at : ℕ) (alter : ReplicaKnown → ReplicaKnown) (j : ℕ) → j ≢ at → (r : Copy D)
+  pub other_changed : (items new : List (Copy D)) (rows : MapRows P) (front : ℕ) (unsure : Option Unsure) (k : VolumeKnown) (at : ℕ) (alter : ReplicaKnown → ReplicaKnown) (j : ℕ) → j ≢ at → (r : Copy D)
       → ReplicaStands files Tells (volume_with settings number items rows front None unsure) k j r → ReplicaStands files Tells (volume_with settings number new rows front None unsure) (change_at k at alter) j r
   other_changed items new rows front unsure k at alter j apart r was = record {
     stored = was.stored;
     fits = fits_other k j at alter was.stored apart was.fits;
     stands = was.stands;
     stuck = ap (λ x. x.stuck) (changed_other k j at alter apart) ∙ was.stuck;
+    run = subst (λ (x : ReplicaKnown). RunsAs files r was.stored x.run) (sym (changed_other k j at alter apart)) was.run;
+    settled = ap (λ x. x.poised) (changed_other k j at alter apart) ∙ was.settled;
     places = was.places;
   }
 
@@ -282,6 +321,9 @@ module _ {D P : Type 0} (settings : Settings) (number : ℕ) (DiskTells : Type 0
               fits = fits_flushed k at w.stored known w.fits;
               stands = h.1;
               stuck = ap (λ x. x.stuck) (changed_here k at (with_bare 0) known) ∙ w.stuck ∙ step.loose.0 ∙ sym step.loose.1;
+              run = subst (λ (x : ReplicaKnown). RunsAs files one.after (physical.all_recorded w.stored) x.run) (sym (changed_here k at (with_bare 0) known))
+                  (step.run tells w.stored (option_map copier_run (replica_at k at).run) w.stands w.run);
+              settled = ap (λ x. x.poised) (changed_here k at (with_bare 0) known) ∙ w.settled;
               places = w.places;
             })
             (other_changed items new rows front unsure k at (with_bare 0));
@@ -308,6 +350,9 @@ module _ {D P : Type 0} (settings : Settings) (number : ℕ) (DiskTells : Type 0
               fits = fits_stuck k at w.stored known w.fits;
               stands = step.refused tells w.stored w.stands;
               stuck = ap (λ x. x.stuck) (changed_here k at with_stuck known) ∙ sym (step.cause.2);
+              run = subst (λ (x : ReplicaKnown). RunsAs files one.after w.stored x.run) (sym (changed_here k at with_stuck known))
+                  (step.run_stays tells w.stored (option_map copier_run (replica_at k at).run) w.stands w.run);
+              settled = ap (λ x. x.poised) (changed_here k at with_stuck known) ∙ w.settled;
               places = w.places;
             })
             (other_changed items new rows front unsure k at with_stuck),
@@ -319,6 +364,10 @@ module _ {D P : Type 0} (settings : Settings) (number : ℕ) (DiskTells : Type 0
         ap (λ rs. volume_with settings number rs rows front None unsure) (one.is ∙ ap (λ x. slice_set items at x) step.cause.1 ∙ set_back items at one.before one.was),
       )
   flush_refused tells items new rows front None unsure k at m (fault.Full end need capacity) one stands thawed machine step = absurd step.cause
+  flush_refused tells items new rows front None unsure k at m (fault.Busy generation) one stands thawed machine step = absurd step.cause
+  flush_refused tells items new rows front None unsure k at m (fault.Ended count) one stands thawed machine step = absurd step.cause
+  flush_refused tells items new rows front None unsure k at m fault.Worn one stands thawed machine step = absurd step.cause
+  flush_refused tells items new rows front None unsure k at m (fault.Damaged place) one stands thawed machine step = absurd step.cause
   flush_refused tells items new rows front None unsure k at m fault.NoMemory one stands thawed machine step =
       stands_one items new rows front unsure k k at one stands refl refl refl refl
       (λ w. record {
@@ -326,9 +375,11 @@ module _ {D P : Type 0} (settings : Settings) (number : ℕ) (DiskTells : Type 0
         fits = w.fits;
         stands = step.refused tells w.stored w.stands;
         stuck = w.stuck ∙ sym step.cause;
+        run = step.run_stays tells w.stored (option_map copier_run (replica_at k at).run) w.stands w.run;
+        settled = w.settled;
         places = w.places;
       })
-      (λ j apart r w. record { stored = w.stored; fits = w.fits; stands = w.stands; stuck = w.stuck; places = w.places })
+      (λ j apart r w. record { stored = w.stored; fits = w.fits; stands = w.stands; stuck = w.stuck; run = w.run; settled = w.settled; places = w.places })
 
 module _ {D : Type 0} (settings : Settings) (number : ℕ) (DiskTells : Type 0) (files : D → Files) (faults : D → ℕ) where
   pub flush_cause : (items new : List (Copy D)) (at m : ℕ) (f : ReplicaFault) (one : CallsOne at items new) → length items ≡ settings.replicas → m ≡ machine_of settings number at
@@ -348,4 +399,8 @@ module _ {D : Type 0} (settings : Settings) (number : ℕ) (DiskTells : Type 0) 
       }
   flush_cause items new at m fault.Frozen one all machine step = tt
   flush_cause items new at m (fault.Full end need capacity) one all machine step = tt
+  flush_cause items new at m (fault.Busy generation) one all machine step = tt
+  flush_cause items new at m (fault.Ended count) one all machine step = tt
+  flush_cause items new at m fault.Worn one all machine step = tt
+  flush_cause items new at m (fault.Damaged place) one all machine step = tt
   flush_cause items new at m fault.NoMemory one all machine step = tt

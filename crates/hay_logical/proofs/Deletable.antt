@@ -19,7 +19,7 @@ use Rattle.hay_logical.proofs.Holding.{gone_in}
 use Rattle.hay_logical.proofs.Lists.{at_below, at_first, at_there}
 
 module _ {D P : Type 0} (DiskTells : Type 0) (files : D → Files) where
-  place_kept : (r r' : Copy D) → KeepsDeletable DiskTells files r r' → DiskTells → (p : Place P) → physical.MayDeletePlace files r p → physical.MayDeletePlace files r' p
+  pub place_kept : (r r' : Copy D) → KeepsDeletable DiskTells files r r' → DiskTells → (p : Place P) → physical.MayDeletePlace files r p → physical.MayDeletePlace files r' p
   place_kept r r' keeps tells (place.Live needle) may = keeps tells needle.at may
   place_kept r r' keeps tells place.Gone may = tt
   place_kept r r' keeps tells place.None may = tt

@@ -1,5 +1,5 @@
 -- What is known of a volume behind each of its steps.
-use Rattle.std.proofs.Common.{◌≡◌, ◌≢◌, ℕ, ◌+◌, ◌<◌, Bool, List, [], ◌∷◌, ◌++◌, length, map, fold, Option, None, option_map, refl, sym, ap, subst, ◌∙◌, arith}
+use Rattle.std.proofs.Common.{◌≡◌, ◌≢◌, ℕ, ◌+◌, ◌<◌, Bool, true, false, List, [], ◌∷◌, ◌++◌, length, map, fold, refl, sym, ap, subst, ◌∙◌, arith}
 use Rattle.std.specs.Prelude.{slice_index_or}
 use Rattle.std.proofs.lemmas.List.{length-map, map-append, take_all, get_or-map, get_or-set_same, get_or-set_other}
 use Rattle.std.proofs.lemmas.List.Sums.{fold-append}
@@ -12,15 +12,15 @@ use Rattle.hay_core.specs.declared.entry.Entry.TheVariants.{Put, Del}
 use Rattle.hay_core.specs.declared.entry.Logged.{Logged}
 use Rattle.hay_core.specs.Entries.{after, apply_entry, entries_of}
 use Rattle.hay_legal.specs.declared.known.ReplicaKnown.{ReplicaKnown}
-use Rattle.hay_legal.specs.declared.known.Run.{Run}
 use Rattle.hay_legal.specs.declared.known.VolumeKnown.{VolumeKnown}
 use Rattle.hay_legal.specs.Known.{empty_replica, now, replica_at}
-use Rattle.hay_legal.specs.Plain.{frozen_with, grown, run_grown, with_bare, with_del, with_put, with_stuck, without_run}
+use Rattle.hay_legal.specs.Plain.{frozen_with, grown, with_bare, with_del, with_put, with_stuck, without_run}
 use Rattle.hay_legal.specs.Restarts.{added_cells, added_end}
 use Rattle.hay_open.specs.Stored.{Stored}
 use Rattle.hay_physical.specs.Replicas.{all_recorded}
 use Rattle.hay_logical.specs.Answers.{change_at}
-use Rattle.hay_logical.specs.Fits.{Fits, Makes}
+use Rattle.hay_logical.specs.Fits.{At, Fits, Makes}
+use Rattle.hay_logical.proofs.Compacting.{ended_at, ended_by}
 
 whole_log : (log : List Logged) (base : Table) → after (entries_of log) (length log) base ≡ fold apply_entry base (entries_of log)
 whole_log log base = ap (λ (l : List Entry). fold apply_entry base l) (take_all (length log) (entries_of log) (omega (arith, length-map log (λ (l : Logged). l.entry))))
@@ -37,8 +37,6 @@ pub record Grows (entry : Entry) (r r' : ReplicaKnown) : Type 0 where
   pub cells : r'.cells ≡ r.cells + added_cells (entry ∷ [])
   pub bare : r'.bare ≡ r.bare + added_cells (entry ∷ [])
   pub generation : r'.generation ≡ r.generation
-  pub idle : r.run ≡ None → r'.run ≡ None
-  pub settled : r'.poised ≡ r.poised
 
 pub grown_grows : (pair : Pair) (cookie : Cookie) (bytes : List ℕ) (r : ReplicaKnown) → Grows (Put pair cookie bytes) r (grown (length bytes) r)
 grown_grows pair cookie bytes r = record {
@@ -47,8 +45,6 @@ grown_grows pair cookie bytes r = record {
   cells = refl;
   bare = refl;
   generation = refl;
-  idle = λ e. ap (λ (o : Option Run). option_map run_grown o) e;
-  settled = refl;
 }
 
 pub same_grows : (pair : Pair) (r : ReplicaKnown) → Grows (Del pair) r r
@@ -58,8 +54,6 @@ same_grows pair r = record {
   cells = let e : r.cells ≡ r.cells + 0 = omega arith in e;
   bare = let e : r.bare ≡ r.bare + 0 = omega arith in e;
   generation = refl;
-  idle = λ e. e;
-  settled = refl;
 }
 
 pub fits_logged : (k t : VolumeKnown) (tag : CoreTag) (entry : Entry) (r r' : ReplicaKnown) (s s' : Stored) → t.log ≡ k.log ++ record { tag = tag; entry = entry } ∷ []
@@ -73,21 +67,17 @@ fits_logged k t tag entry r r' s s' log grows makes fits = record {
   cells = grows.cells ∙ ap (λ n. n + added_cells (entry ∷ [])) fits.cells ∙ sym makes.cells;
   bare = let b = fits.bare in let m = makes.cells in let g = grows.bare in let r_is = makes.records in omega (arith, b, m, g, r_is);
   generation = grows.generation ∙ fits.generation ∙ sym makes.generation;
-  idle = grows.idle fits.idle;
-  settled = grows.settled ∙ fits.settled;
 }
 
 -- the same log and the same table
 pub fits_same : (k t : VolumeKnown) (r r' : ReplicaKnown) (s : Stored) → t.log ≡ k.log → r'.base ≡ r.base → r'.end ≡ r.end → r'.cells ≡ r.cells → r'.bare ≡ r.bare
-    → r'.generation ≡ r.generation → r'.run ≡ None → r'.poised ≡ r.poised → Fits k r s → Fits t r' s
-fits_same k t r r' s log base end cells bare generation run poised fits = record {
+    → r'.generation ≡ r.generation → Fits k r s → Fits t r' s
+fits_same k t r r' s log base end cells bare generation fits = record {
   table = fits.table ∙ ap (λ (l : List Logged). after (entries_of l) (length l) r.base) (sym log) ∙ ap (λ (b : Table). after (entries_of t.log) (length t.log) b) (sym base);
   end = end ∙ fits.end;
   cells = cells ∙ fits.cells;
   bare = ap (λ n. n + s.records) bare ∙ fits.bare;
   generation = generation ∙ fits.generation;
-  idle = run;
-  settled = poised ∙ fits.settled;
 }
 
 -- REPLICAS OF A CHANGED VOLUME
@@ -102,16 +92,29 @@ fits_put k tag pair cookie bytes j s s' h makes fits =
     subst (λ (r : ReplicaKnown). Fits (with_put k tag pair cookie bytes) r s') (sym (replica_mapped (grown (length bytes)) k.replicas j h))
     (fits_logged k (with_put k tag pair cookie bytes) tag (Put pair cookie bytes) (replica_at k j) (grown (length bytes) (replica_at k j)) s s' refl (grown_grows pair cookie bytes (replica_at k j)) makes fits)
 
-pub fits_delete : (k : VolumeKnown) (tag : CoreTag) (pair : Pair) (j : ℕ) (s s' : Stored)
-    → Makes (Del pair) s s' → Fits k (replica_at k j) s → Fits (with_del [] tag pair k) (replica_at (with_del [] tag pair k) j) s'
-fits_delete k tag pair j s s' makes fits =
-    fits_logged k (with_del [] tag pair k) tag (Del pair) (replica_at k j) (replica_at k j) s s' refl (same_grows pair (replica_at k j)) makes fits
+pub put_replica : (k : VolumeKnown) (tag : CoreTag) (pair : Pair) (cookie : Cookie) (bytes : List ℕ) (j : ℕ) → j < length k.replicas
+    → replica_at (with_put k tag pair cookie bytes) j ≡ grown (length bytes) (replica_at k j)
+put_replica k tag pair cookie bytes j h = replica_mapped (grown (length bytes)) k.replicas j h
+
+ended_grows : (pair : Pair) (b : Bool) (r : ReplicaKnown) → Grows (Del pair) r (ended_by b r)
+ended_grows pair false r = same_grows pair r
+ended_grows pair true r = let g = same_grows pair r in record { base = g.base; end = g.end; cells = g.cells; bare = g.bare; generation = g.generation }
+
+pub deleted_replica : (k : VolumeKnown) (ended : List Bool) (tag : CoreTag) (pair : Pair) (j : ℕ) (b : Bool) → At ended j b → j < length k.replicas
+    → replica_at (with_del ended tag pair k) j ≡ ended_by b (replica_at k j)
+deleted_replica k ended tag pair j b e h = ended_at ended k.replicas j b e h
+
+pub fits_delete : (k : VolumeKnown) (ended : List Bool) (tag : CoreTag) (pair : Pair) (j : ℕ) (b : Bool) (s s' : Stored) → At ended j b → j < length k.replicas
+    → Makes (Del pair) s s' → Fits k (replica_at k j) s → Fits (with_del ended tag pair k) (replica_at (with_del ended tag pair k) j) s'
+fits_delete k ended tag pair j b s s' e h makes fits =
+    subst (λ (r : ReplicaKnown). Fits (with_del ended tag pair k) r s') (sym (deleted_replica k ended tag pair j b e h))
+    (fits_logged k (with_del ended tag pair k) tag (Del pair) (replica_at k j) (ended_by b (replica_at k j)) s s' refl (ended_grows pair b (replica_at k j)) makes fits)
 
 pub fits_frozen : (k : VolumeKnown) (m : ℕ) (tag : CoreTag) (entry : Entry) (failed : Bool) (j : ℕ) (s : Stored) → j < length k.replicas
     → Fits k (replica_at k j) s → Fits (frozen_with m tag entry failed k) (replica_at (frozen_with m tag entry failed k) j) s
 fits_frozen k m tag entry failed j s h fits =
     subst (λ (r : ReplicaKnown). Fits (frozen_with m tag entry failed k) r s) (sym (replica_mapped without_run k.replicas j h))
-    (fits_same k (frozen_with m tag entry failed k) (replica_at k j) (without_run (replica_at k j)) s refl refl refl refl refl refl refl refl fits)
+    (fits_same k (frozen_with m tag entry failed k) (replica_at k j) (without_run (replica_at k j)) s refl refl refl refl refl refl fits)
 
 pub frozen_base : (k : VolumeKnown) (m : ℕ) (tag : CoreTag) (entry : Entry) (failed : Bool) (j : ℕ) → j < length k.replicas
     → now (frozen_with m tag entry failed k) (replica_at (frozen_with m tag entry failed k) j) ≡ now k (replica_at k j)
@@ -124,6 +127,10 @@ put_stuck k tag pair cookie bytes j h = ap (λ (r : ReplicaKnown). r.stuck) (rep
 pub frozen_stuck : (k : VolumeKnown) (m : ℕ) (tag : CoreTag) (entry : Entry) (failed : Bool) (j : ℕ) → j < length k.replicas
     → (replica_at (frozen_with m tag entry failed k) j).stuck ≡ (replica_at k j).stuck
 frozen_stuck k m tag entry failed j h = ap (λ (r : ReplicaKnown). r.stuck) (replica_mapped without_run k.replicas j h)
+
+pub frozen_replica : (k : VolumeKnown) (m : ℕ) (tag : CoreTag) (entry : Entry) (failed : Bool) (j : ℕ) → j < length k.replicas
+    → replica_at (frozen_with m tag entry failed k) j ≡ without_run (replica_at k j)
+frozen_replica k m tag entry failed j h = replica_mapped without_run k.replicas j h
 
 pub frozen_end : (k : VolumeKnown) (m : ℕ) (tag : CoreTag) (entry : Entry) (failed : Bool) (j : ℕ) → j < length k.replicas
     → (replica_at (frozen_with m tag entry failed k) j).end ≡ (replica_at k j).end
@@ -145,18 +152,16 @@ fits_flushed k j s h fits =
       cells = fits.cells;
       bare = let e : 0 + length s.cells ≡ length s.cells = omega arith in e;
       generation = fits.generation;
-      idle = fits.idle;
-      settled = fits.settled;
     })
 
 pub fits_stuck : (k : VolumeKnown) (j : ℕ) (s : Stored) → j < length k.replicas → Fits k (replica_at k j) s
     → Fits (change_at k j with_stuck) (replica_at (change_at k j with_stuck) j) s
 fits_stuck k j s h fits =
     subst (λ (r : ReplicaKnown). Fits (change_at k j with_stuck) r s) (sym (changed_here k j with_stuck h))
-    (fits_same k (change_at k j with_stuck) (replica_at k j) (with_stuck (replica_at k j)) s refl refl refl refl refl refl fits.idle refl fits)
+    (fits_same k (change_at k j with_stuck) (replica_at k j) (with_stuck (replica_at k j)) s refl refl refl refl refl refl fits)
 
 pub fits_other : (k : VolumeKnown) (i j : ℕ) (change : ReplicaKnown → ReplicaKnown) (s : Stored) → i ≢ j → Fits k (replica_at k i) s
     → Fits (change_at k j change) (replica_at (change_at k j change) i) s
 fits_other k i j change s h fits =
     subst (λ (r : ReplicaKnown). Fits (change_at k j change) r s) (sym (changed_other k i j change h))
-    (fits_same k (change_at k j change) (replica_at k i) (replica_at k i) s refl refl refl refl refl refl fits.idle refl fits)
+    (fits_same k (change_at k j change) (replica_at k i) (replica_at k i) s refl refl refl refl refl refl fits)

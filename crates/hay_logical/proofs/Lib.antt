@@ -1,6 +1,13 @@
+pub mod Beginning
 pub mod Calls
 pub mod Changing
+pub mod Compacted
+pub mod Compacting
 pub mod Deletable
+pub mod Dropping
+pub mod Ends
+pub mod Examining
+pub mod Finishing
 pub mod Holding
 pub mod Knowing
 pub mod Lists
@@ -11,4 +18,8 @@ pub mod Putting
 pub mod Reopening
 pub mod Rooms
 pub mod Standing
+pub mod Stepping
+pub mod SwapShapes
+pub mod SwapSizes
+pub mod Swapping
 pub mod Tables

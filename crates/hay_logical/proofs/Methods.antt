@@ -1,5 +1,5 @@
 -- A volume behind its calls, field by field.
-use Rattle.std.proofs.Common.{◌≡◌, inl, inr, ℕ, ◌+◌, ◌<◌, ◌≤◌, Bool, false, List, [], ◌∷◌, ◌++◌, length, Option, Some, None, refl, sym, ap, subst, ◌∙◌, arith, length-append}
+use Rattle.std.proofs.Common.{◌≡◌, inl, inr, ℕ, ◌+◌, ◌<◌, ◌≤◌, Bool, false, List, [], ◌∷◌, ◌++◌, length, Option, Some, None, option_map, refl, sym, ap, subst, ◌∙◌, arith, length-append}
 use Rattle.std.specs.Prelude.{slice_set}
 use Rattle.std.proofs.lemmas.Bool.{cases_eq}
 use Rattle.hay_needle.specs.declared.needle.Pair.{Pair}
@@ -12,10 +12,11 @@ use Rattle.hay_map.specs.MapRows.{MapRows}
 use Rattle.hay_map.specs.Places.{PlaceMeans, place_in}
 use Rattle.hay_map.specs.Rows.{row_at}
 use Rattle.hay_open.specs.Stored.{Stored}
-use Rattle.hay_physical.specs.Copies.{Copy, is_frozen, is_stuck}
+use Rattle.hay_physical.specs.Copies.{Copy, goal_of, is_frozen, is_stuck}
+use Rattle.hay_physical.specs.Runs.{HasRun, Run}
 use Rattle.hay_physical.specs.Replicas as physical
 use Rattle.hay_logical.specs.declared.unsure.Unsure.{Unsure}
-use Rattle.hay_logical.specs.Fits.{At, super_of}
+use Rattle.hay_logical.specs.Fits.{At, copier_run, super_of}
 use Rattle.hay_logical.specs.Stands.{StandsFor, StoppedFor}
 use Rattle.hay_logical.specs.Steps.{CallsOne, Stops}
 use Rattle.hay_logical.specs.Volumes.{HasSupers, IsSame, IsShaped, Volume}
@@ -27,6 +28,8 @@ use Rattle.hay_logical.proofs.Tables.{place_means}
 -- a call that changes nothing of what stands or is held
 pub record Quiet {D : Type 0} (files : D → Files) (r r' : Copy D) : Type 0 where
   pub stuck : is_stuck r' ≡ is_stuck r
+  pub goal : goal_of r' ≡ goal_of r
+  pub run : (s : Stored) (run : Option Run) → HasRun files r s run → HasRun files r' s run
   pub stands : (s : Stored) → physical.Stands files r s → physical.Stands files r' s
   pub holds : (b : Bool) (a t : Stored) → physical.Holds files r b a t → physical.Holds files r' b a t
 
@@ -81,6 +84,8 @@ module _ {D P : Type 0} (settings : Settings) (number : ℕ) where
           fits = was.fits;
           stands = (each j r r' e f).stands was.stored was.stands;
           stuck = was.stuck ∙ sym (each j r r' e f).stuck;
+          run = (each j r r' e f).run was.stored (option_map copier_run (replica_at k j).run) was.run;
+          settled = was.settled;
           places = was.places;
         })
     quiet items new rows front (Some m) unsure k stands count each = record {
@@ -91,6 +96,10 @@ module _ {D P : Type 0} (settings : Settings) (number : ℕ) where
       unsure = stands.unsure;
       by = record {
         places = stands.by.places;
+        idle = λ j r' f.
+            let old = at_there items j (let h = at_below new j r' f in let less : j < length items = omega (arith, h, count) in less) in
+            let was = stands.by.idle j old.0 old.1 in
+            (was.0, (each j old.0 r' old.1 f).goal ∙ was.1);
         holds = held_on DiskTells files Tells settings number items new rows rows front front (Some m) (Some m) unsure unsure k count (λ j r r' e f. (each j r r' e f).holds) stands.by.holds;
       };
     }

@@ -33,21 +33,22 @@ use Rattle.hay_map.specs.Rows.{row_at}
 use Rattle.hay_map.specs.declared.place.Place.{Place}
 use Rattle.hay_map.specs.declared.place.Place.TheVariants as place
 use Rattle.hay_open.specs.declared.fault.OpenFault.TheVariants as open_fault
-use Rattle.hay_open.specs.Stored.{OpensAs, PlaceOf, Stored, last_cell}
-use Rattle.hay_physical.specs.Copies.{Copy, contents_of, end_of, is_stuck}
+use Rattle.hay_open.specs.Stored.{OpensAs, Stored, last_cell}
+use Rattle.hay_physical.specs.Copies.{Copy, contents_of, end_of, goal_of, is_stuck}
 use Rattle.hay_physical.specs.Replicas as physical
-use Rattle.hay_physical.proofs.Laws.{stands_end}
+use Rattle.hay_physical.proofs.Laws.{stands_cells_end, stands_end}
 use Rattle.hay_logical.specs.declared.fault.Unopened.{Unopened}
 use Rattle.hay_logical.specs.declared.unsure.Change.{Change}
 use Rattle.hay_logical.specs.declared.unsure.Change.TheVariants as change
 use Rattle.hay_logical.specs.declared.unsure.Unsure.{Unsure}
 use Rattle.hay_logical.specs.Answers.{IsReopened}
-use Rattle.hay_logical.specs.Fits.{At, Fits, HoldsPart, IsReplica, Part, found_as, part_of, super_of}
+use Rattle.hay_logical.specs.Fits.{At, Fits, HoldsPart, HoldsSwap, IsReplica, Part, PhotoAt, found_as, part_of, super_of}
 use Rattle.hay_logical.specs.Fits.Part.{Kept, Unsure as Perhaps, Lost}
 use Rattle.hay_logical.specs.Notes.{NotesAre, is_live, keeps}
 use Rattle.hay_logical.specs.Stands.{HoldsFor, HoldsPending, IsChange, IsFirst, IsPending, ReplicaStands, Stands, StandsFor}
 use Rattle.hay_logical.specs.Steps.{IsRefusedAt, OpensAt}
 use Rattle.hay_logical.specs.Volumes.{IsOfSettings}
+use Rattle.hay_logical.proofs.Compacting.{no_run, photo_at}
 use Rattle.hay_logical.proofs.Lists.{at_below, at_map, at_or, at_same, at_there}
 use Rattle.hay_logical.proofs.Reopening.{Choice, Chosen, KeptRule, ReplicaOutcome, RuleBy, choose, kept_list, known_of, opened_as, reopened_volume, replica_outcome}
 use Rattle.hay_logical.proofs.Standing.{volume_with}
@@ -89,19 +90,15 @@ fits_known k s log lags = record {
   cells = refl;
   bare = less_back (length s.cells) s.records lags;
   generation = refl;
-  idle = refl;
-  settled = refl;
 }
 
-fits_first : (k : VolumeKnown) (r : ReplicaKnown) (s : Stored) → k.log ≡ [] → IsAtRest r → s.records ≤ length s.cells → found_of r ≡ found_as s → Fits k r s
-fits_first k r s log rest lags is = record {
+fits_first : (k : VolumeKnown) (r : ReplicaKnown) (s : Stored) → k.log ≡ [] → s.records ≤ length s.cells → found_of r ≡ found_as s → Fits k r s
+fits_first k r s log lags is = record {
   table = sym (ap (λ f. f.table) is) ∙ now_fresh k r log;
   end = ap (λ f. f.end) is;
   cells = ap (λ f. f.cells) is;
   bare = ap (λ n. n + s.records) (ap (λ f. f.bare) is) ∙ less_back (length s.cells) s.records lags;
   generation = ap (λ f. f.generation) is;
-  idle = rest.1;
-  settled = rest.2;
 }
 
 -- WHAT THE NOTES TELL
@@ -124,7 +121,7 @@ live_is Tells pair place.Gone (outcome.Photo photo) is = absurd is
 live_is Tells pair place.Gone outcome.Nothing is = refl
 
 module _ {P : Type 0} (Tells : Type 0) (k : VolumeKnown) (at j : ℕ) (found : Stored) (settled : (replica_at k j).poised ≡ false) (known : j < length k.replicas)
-    (rows : MapRows P) (end : ℕ) (ends : end ≡ found.end) (places : (pair : Pair) → PlaceOf Tells (last_cell found.cells pair) (place_in (row_at rows pair) j)) where
+    (rows : MapRows P) (end : ℕ) (ends : end ≡ found.end) (places : (pair : Pair) → PhotoAt Tells (last_cell found.cells pair) (place_in (row_at rows pair) j)) where
   put_keeps : (before : ℕ) (pair : Pair) (cookie : Cookie) (bytes : List ℕ) (b : Bool) (pending : Pending) → pending.entry ≡ Put pair cookie bytes → before ≡ (replica_at k j).end
       → ReopenedReplica k (replica_at k j) (kept_entry (Some pending) b) (known_of found) → not (end == before) ≡ b
   put_keeps before pair cookie bytes true pending is was r =
@@ -165,18 +162,24 @@ module _ {P : Type 0} (Tells : Type 0) (k : VolumeKnown) (at j : ℕ) (found : S
   keeps_by (change.Delete other) (Del pair) b pending is asked rule r =
       ap (λ (q : Pair). not (is_live (place_in (row_at rows q) j))) asked ∙ delete_keeps pair b pending is rule r
 
+-- a replica is settled where a change is pending
+settled_by : {D : Type 0} (files : D → Files) (r : Copy D) (stuck poised : Bool) (s : Stored) (p : Option Pending) (at j : ℕ) (pending : Pending) → p ≡ Some pending → HoldsPending files r stuck poised s p at j → poised ≡ false
+settled_by files r stuck poised s None at j pending e h = absurd cc
+settled_by files r stuck poised s (Some other) at j pending e h = h.0
+
 -- what was found of a replica that is open now
 pub record FoundIn {D P : Type 0} (files : D → Files) (Tells : Type 0) (rows : MapRows P) (j : ℕ) (r : Copy D) (found : Stored) : Type 0 where
   pub stands : physical.Stands files r found
-  pub places : (pair : Pair) → PlaceOf Tells (last_cell found.cells pair) (place_in (row_at rows pair) j)
+  pub places : (pair : Pair) → PhotoAt Tells (last_cell found.cells pair) (place_in (row_at rows pair) j)
 
 pub record ChosenIn {D P : Type 0} (files : D → Files) (Tells : Type 0) (news : List (Copy D)) (rows : MapRows P) (k : VolumeKnown) (at j : ℕ) (c : Choice) : Type 0 where
   pub outcome : ReplicaOutcome k at j c
-  pub settled : (replica_at k j).poised ≡ false
+  pub settled : (pending : Pending) → k.pending ≡ Some pending → (replica_at k j).poised ≡ false
   pub replica : Copy D
   pub there : At news j replica
   pub found : FoundIn files Tells rows j replica c.found
   pub loose : is_stuck replica ≡ false
+  pub alone : goal_of replica ≡ None
 
 module _ {D P : Type 0} (DiskTells : Type 0) (files : D → Files) (Tells : Type 0) (settings : Settings) (number : ℕ) (olds news : List (Copy D)) (rows : MapRows P) (count : length news ≡ length olds)
     (each : (j : ℕ) (r r' : Copy D) → At olds j r → At news j r' → OpensAt DiskTells files Tells rows j r r') where
@@ -215,10 +218,12 @@ module _ {D P : Type 0} (DiskTells : Type 0) (files : D → Files) (Tells : Type
       let rest : IsAtRest (replica_at k j) = subst IsAtRest (sym (at_or k.replicas j known.0 empty_replica known.1)) (every_at IsAtRest k.replicas j known.0 (first.new).replicas known.1) in
       record {
         stored = found.stored;
-        fits = fits_first k (replica_at k j) found.stored (first.new).log rest (stands_lags files r' found.stored stood.0) found.is;
+        fits = fits_first k (replica_at k j) found.stored (first.new).log (stands_lags files r' found.stored stood.0) found.is;
         stands = stood.0;
         stuck = rest.0 ∙ sym o.loose;
-        places = stood.1;
+        run = no_run files r' found.stored (replica_at k j).run rest.1 o.alone;
+        settled = rest.2;
+        places = λ pair. photo_at Tells (last_cell found.stored.cells pair) (place_in (row_at rows pair) j) (stood.1 pair);
       })
 
   -- behind a stop
@@ -231,9 +236,20 @@ module _ {D P : Type 0} (DiskTells : Type 0) (files : D → Files) (Tells : Type
         let o = each j old.0 new.0 old.1 new.1 in
         let h = holds.each j old.0 old.1 in
         let found = replica_outcome files old.0 (λ (s : Stored). FoundIn files Tells rows j new.0 s)
-        (λ b a t is. let f = o.reopened tells b a t is in (f.0, f.1, record { stands = f.2; places = f.3 }))
-        k holds.broken_at j h in
-        (found.0, record { outcome = found.1; settled = h.fits.settled; replica = new.0; there = new.1; found = found.2; loose = o.loose })
+        (λ b a t is. let f = o.reopened tells b a t is in (f.0, f.1, record { stands = f.2; places = λ pair. photo_at Tells (last_cell (f.0).cells pair) (place_in (row_at rows pair) j) (f.3 pair) }))
+        (λ s is. stands_cells_end files new.0 s is.stands)
+        k holds.broken_at j h in (
+          found.0,
+          record {
+            outcome = found.1;
+            settled = λ pending e. settled_by files old.0 (replica_at k j).stuck (replica_at k j).poised h.stored k.pending holds.broken_at j pending e h.holds;
+            replica = new.0;
+            there = new.1;
+            found = found.2;
+            loose = o.loose;
+            alone = o.alone;
+          },
+        )
 
     pub reopened : (notes : List Note) → NotesAre settings number unsure rows news notes → IsReopened files Tells k notes (volume_with settings number news rows 0 None None)
     unfolding Stands
@@ -265,6 +281,8 @@ module _ {D P : Type 0} (DiskTells : Type 0) (files : D → Files) (Tells : Type
                   (fits_known (opened_as both.items) (c.0).found refl (stands_lags files is.replica (c.0).found (is.found).stands));
               stands = subst (λ (x : Copy D). physical.Stands files x (c.0).found) (sym same) (is.found).stands;
               stuck = ap (λ (x : ReplicaKnown). x.stuck) new_is ∙ sym is.loose ∙ ap (λ (x : Copy D). is_stuck x) (sym same);
+              run = no_run files r (c.0).found (replica_at (opened_as both.items) j).run (ap (λ (x : ReplicaKnown). x.run) new_is) (ap (λ (x : Copy D). goal_of x) same ∙ is.alone);
+              settled = ap (λ (x : ReplicaKnown). x.poised) new_is;
               places = (is.found).places;
             }
 
@@ -285,7 +303,7 @@ module _ {D P : Type 0} (DiskTells : Type 0) (files : D → Files) (Tells : Type
             subst (λ (q : Option Pending). ReopenedReplica k (replica_at k j) (kept_entry q (c.0).kept) (known_of (c.0).found)) e (b.outcome).reopened in
             let rule : KeptRule k pending.entry at_of j (c.0).kept = subst (λ (q : Option Pending). RuleBy k q at_of j (c.0).kept) e (b.outcome).rule in
             (are.1).each j b.replica b.there
-            ∙ ap Some (keeps_by Tells k at_of j (c.0).found b.settled known rows (end_of b.replica) (stands_end files b.replica (c.0).found (b.found).stands) (b.found).places
+            ∙ ap Some (keeps_by Tells k at_of j (c.0).found (b.settled pending e) known rows (end_of b.replica) (stands_end files b.replica (c.0).found (b.found).stands) (b.found).places
             u.change pending.entry (c.0).kept pending refl is.1 rule outcome)
             ∙ sym (at_map (λ (x : Choice). x.kept) both.items j c.0 c.1)))
           where
@@ -299,9 +317,14 @@ some_part files r stuck entry s Kept h = (h.0, h.0, h.2)
 some_part files r stuck entry s Perhaps h = (s, h.0, h.2)
 some_part files r stuck entry s Lost h = (s, s, h)
 
-some_pending : {D : Type 0} (files : D → Files) (r : Copy D) (stuck : Bool) (s : Stored) (p : Option Pending) (at j : ℕ) → HoldsPending files r stuck s p at j → (a : Stored) × (t : Stored) × physical.Holds files r stuck a t
-some_pending files r stuck s None at j h = (s, s, h)
-some_pending files r stuck s (Some pending) at j h = some_part files r stuck pending.entry s (part_of at j) h
+some_swap : {D : Type 0} (files : D → Files) (r : Copy D) (stuck : Bool) (s : Stored) (poised : Bool) → HoldsSwap files r stuck s poised → (a : Stored) × (t : Stored) × physical.Holds files r stuck a t
+some_swap files r stuck s false h = (s, s, h)
+some_swap files r stuck s true h = (s, h.0, h.2)
+
+some_pending : {D : Type 0} (files : D → Files) (r : Copy D) (stuck poised : Bool) (s : Stored) (p : Option Pending) (at j : ℕ) → HoldsPending files r stuck poised s p at j
+    → (a : Stored) × (t : Stored) × physical.Holds files r stuck a t
+some_pending files r stuck poised s None at j h = some_swap files r stuck s poised h
+some_pending files r stuck poised s (Some pending) at j h = some_part files r stuck pending.entry s (part_of at j) h.1
 
 -- a disk that holds what is known is not damaged
 pub not_damaged : {D P : Type 0} (DiskTells : Type 0) (files : D → Files) (faults : D → ℕ) (settings : Settings) (number : ℕ) (olds news : List (Copy D)) (before : MapRows P) (front : ℕ)
@@ -309,7 +332,7 @@ pub not_damaged : {D P : Type 0} (DiskTells : Type 0) (files : D → Files) (fau
     → IsRefusedAt DiskTells files faults olds news (record { replica = j; fault = open_fault.Damaged file at }) → ⊥
 not_damaged DiskTells files faults settings number olds news before front frozen unsure k j file at tells holds refused =
     let h = holds.each j refused.before refused.was in
-    let some = some_pending files refused.before (replica_at k j).stuck h.stored k.pending holds.broken_at j h.holds in
+    let some = some_pending files refused.before (replica_at k j).stuck (replica_at k j).poised h.stored k.pending holds.broken_at j h.holds in
     (refused.cause).2 tells (replica_at k j).stuck some.0 some.1 some.2
 
 -- OTHER FACTS OF VOLUMES

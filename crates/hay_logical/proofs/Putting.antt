@@ -16,13 +16,13 @@ use Rattle.hay_core.specs.declared.entry.CoreTag.{CoreTag}
 use Rattle.hay_core.specs.declared.entry.Entry.TheVariants.{Put}
 use Rattle.hay_legal.specs.declared.known.ReplicaKnown.{ReplicaKnown}
 use Rattle.hay_legal.specs.declared.known.VolumeKnown.{VolumeKnown}
-use Rattle.hay_legal.specs.Known.{lacks_room, machine_of, room_refusal_of}
+use Rattle.hay_legal.specs.Known.{lacks_room, machine_of, replica_at, room_refusal_of}
 use Rattle.hay_legal.specs.Plain.{frozen_with, without_run}
 use Rattle.hay_map.specs.MapRows.{MapRows}
 use Rattle.hay_map.specs.Places.{place_in}
 use Rattle.hay_map.specs.Rows.{row_at}
 use Rattle.hay_map.specs.declared.place.Place.{Place}
-use Rattle.hay_open.specs.Stored.{PlaceOf, last_cell}
+use Rattle.hay_open.specs.Stored.{last_cell}
 use Rattle.hay_physical.specs.declared.fault.ReplicaFault.{ReplicaFault}
 use Rattle.hay_physical.specs.declared.fault.ReplicaFault.TheVariants as fault
 use Rattle.hay_physical.specs.Copies.{Copy, IsUp, end_of, is_frozen, is_stuck}
@@ -36,12 +36,12 @@ use Rattle.hay_logical.specs.declared.unsure.Change.TheVariants as change
 use Rattle.hay_logical.specs.declared.unsure.Unsure.{Unsure}
 use Rattle.hay_logical.specs.Answers.{HasRoom, IsPut, IsRoomFault, PutRefused, room_answer}
 use Rattle.hay_logical.specs.Answers as answers
-use Rattle.hay_logical.specs.Fits.{At}
+use Rattle.hay_logical.specs.Fits.{At, PhotoAt, RunsAs, copier_run}
 use Rattle.hay_logical.specs.Refusals.{IsRefusal, IsUntouched, RefusalBy}
 use Rattle.hay_logical.specs.Stands.{IsBrokenAt, IsChange, Stands, StandsFor}
-use Rattle.hay_logical.specs.Steps.{IsPutFault, PutLeaves, PutsAt}
+use Rattle.hay_logical.specs.Steps.{AllIdle, IsPutFault, PutLeaves, PutsAt, StillRuns}
 use Rattle.hay_logical.specs.Volumes.{Volume}
-use Rattle.hay_logical.proofs.Calls.{frozen_is, up_thawed}
+use Rattle.hay_logical.proofs.Calls.{frozen_is, open_up, up_thawed}
 use Rattle.hay_logical.proofs.Changing.{some_none}
 use Rattle.hay_logical.proofs.Holding.{put_part, stands_broken, stands_changed}
 use Rattle.hay_logical.proofs.Knowing.{frozen_end}
@@ -92,6 +92,10 @@ room_cause faults settings v old new (logical.Full m end need capacity) is = tt
 room_cause faults settings v old new (logical.Gone front) is = absurd is
 room_cause faults settings v old new (logical.Failed m printed) is = absurd is
 room_cause faults settings v old new logical.NoMemory is = absurd is
+room_cause faults settings v old new (logical.Busy m generation) is = absurd is
+room_cause faults settings v old new (logical.Worn m) is = absurd is
+room_cause faults settings v old new logical.Idle is = absurd is
+room_cause faults settings v old new (logical.Damaged m at) is = absurd is
 
 module _ {D : Type 0} (DiskTells : Type 0) (files : D → Files) (faults : D → ℕ) (pair : Pair) (cookie : Cookie) (bytes : List ℕ) (items new : List (Copy D)) (broken : Broken) (left : PutLeaves DiskTells files faults pair cookie bytes items new broken) where
   first_thawed : IsUntouched new broken → (r' : Copy D) → At new broken.at r' → is_frozen r' ≡ false
@@ -99,7 +103,7 @@ module _ {D : Type 0} (DiskTells : Type 0) (files : D → Files) (faults : D →
 
   pub all_thawed : IsUntouched new broken → ((j : ℕ) (r : Copy D) → At items j r → IsUp r) → (j : ℕ) (r r' : Copy D) → At items j r → At new j r' → is_frozen r' ≡ false
   all_thawed un up j r r' e f = elim (cases_lt broken.at j) [
-    | inl later ↦ ap is_frozen (left.above j r r' later e f) ∙ up_thawed r (up j r e)
+    | inl later ↦ (left.above j r r' later e f).frozen ∙ up_thawed r (up j r e)
     | inr not_later ↦
         let zero_is = un.first in
         let here : j ≡ broken.at = omega (arith, not_later, zero_is) in
@@ -123,6 +127,10 @@ module _ {D : Type 0} (DiskTells : Type 0) (files : D → Files) (faults : D →
         printed = cause.1;
       })
   by_cause settings number refusal all fault.NoMemory by cause = subst (answers.IsPutFault faults settings number items new) (sym by.1) tt
+  by_cause settings number refusal all (fault.Busy generation) by cause = absurd cause
+  by_cause settings number refusal all (fault.Ended count) by cause = absurd cause
+  by_cause settings number refusal all fault.Worn by cause = absurd cause
+  by_cause settings number refusal all (fault.Damaged place) by cause = absurd cause
   by_cause settings number refusal all fault.Frozen by cause = subst (answers.IsPutFault faults settings number items new) (sym by.1) tt
   by_cause settings number refusal all (fault.Full end need capacity) by cause = subst (answers.IsPutFault faults settings number items new) (sym by.1) tt
 
@@ -149,7 +157,9 @@ module _ {D P : Type 0} (settings : Settings) (number : ℕ) (DiskTells : Type 0
             fits = was.fits;
             stands = was.stands;
             stuck = was.stuck;
-            places = λ q. subst (λ l. PlaceOf Tells (last_cell was.stored.cells q) (place_in l j)) (sym (same q)) (was.places q);
+            run = was.run;
+            settled = was.settled;
+            places = λ q. subst (λ l. PhotoAt Tells (last_cell was.stored.cells q) (place_in l j)) (sym (same q)) (was.places q);
           };
         };
       }
@@ -169,19 +179,22 @@ module _ {D P : Type 0} (settings : Settings) (number : ℕ) (DiskTells : Type 0
     }
 
     -- a put that changed nothing
-    module _ (items new : List (Copy D)) (broken : Broken) (left : PutLeaves DiskTells files faults pair cookie bytes items new broken) (un : IsUntouched new broken) where
+    module _ (items new : List (Copy D)) (broken : Broken) (left : PutLeaves DiskTells files faults pair cookie bytes items new broken) (un : IsUntouched new broken)
+        (still : StillRuns DiskTells files items new broken) where
       pub untouched : DiskTells → (rows : MapRows P) (front : ℕ) (frozen : Option ℕ) (unsure : Option Unsure) (k : VolumeKnown) → frozen ≡ None → length new ≡ length items
           → StandsFor files Tells (volume_with settings number items rows front frozen unsure) k → StandsFor files Tells (volume_with settings number new rows front frozen unsure) k
       untouched tells rows front (Some m) unsure k thawed count stands = some_none thawed
       untouched tells rows front None unsure k thawed count stands =
           stands_changed DiskTells files Tells settings number items new rows front unsure k k stands count refl refl refl refl (λ j r r' e f was. elim (cases_lt broken.at j) [
             | inl later ↦
-                let same : r' ≡ r = left.above j r r' later e f in
+                let same : r' ≡ r = still.above j r r' later e f in
                 record {
                   stored = was.stored;
                   fits = was.fits;
                   stands = subst (λ (x : Copy D). physical.Stands files x was.stored) (sym same) was.stands;
                   stuck = was.stuck ∙ ap is_stuck (sym same);
+                  run = subst (λ (x : Copy D). RunsAs files x was.stored (replica_at k j).run) (sym same) was.run;
+                  settled = was.settled;
                   places = was.places;
                 }
             | inr not_later ↦
@@ -199,12 +212,16 @@ module _ {D P : Type 0} (settings : Settings) (number : ℕ) (DiskTells : Type 0
                   fits = was.fits;
                   stands = subst (λ (x : Copy D). physical.Stands files x was.stored) (sym after) there;
                   stuck = was.stuck ∙ ap is_stuck before ∙ sym left.there.stuck ∙ ap is_stuck (sym after);
+                  run = subst (λ (x : Copy D). RunsAs files x was.stored (replica_at k j).run) (sym after)
+                      (still.there left.before left.after left.was left.is (open_up left.after left.there.«open» thaw) tells was.stored (option_map copier_run (replica_at k j).run)
+                      (subst (λ (x : Copy D). physical.Stands files x was.stored) before was.stands) (subst (λ (x : Copy D). RunsAs files x was.stored (replica_at k j).run) before was.run));
+                  settled = was.settled;
                   places = was.places;
                 }
           ])
 
     -- a put that was broken off
-    module _ (items new : List (Copy D)) (broken : Broken) (refusal : Refusal) (left : PutLeaves DiskTells files faults pair cookie bytes items new broken) (answered : IsRefusal settings number broken refusal) where
+    module _ (items new : List (Copy D)) (broken : Broken) (refusal : Refusal) (left : PutLeaves DiskTells files faults pair cookie bytes items new broken) (answered : IsRefusal settings number broken refusal) (idle : AllIdle new) where
       module _ (tells : DiskTells) (rows rows' : MapRows P) (front : ℕ) (unsure : Option Unsure) (k : VolumeKnown) (tag : CoreTag) (ends : List ℕ)
           (stands : StandsFor files Tells (volume_with settings number items rows front None unsure) k) (count : length new ≡ length items)
           (same : (q : Pair) → row_at rows' q ≡ row_at rows q) (room : HasRoom settings number k (length bytes))
@@ -224,7 +241,7 @@ module _ {D P : Type 0} (settings : Settings) (number : ℕ) (DiskTells : Type 0
             → StandsFor files Tells (volume_with settings number new rows' front (Some m) (Some (record { tag = tag; change = change.Put ends }))) (frozen_with m tag (Put pair cookie bytes) failed k)
         frozen_by m failed at_is =
             stands_broken DiskTells files Tells settings number items new rows rows' front unsure k tag (Put pair cookie bytes) (change.Put ends) m broken.at failed stands count at_is (ends_known m failed) same
-            (put_part DiskTells files Tells settings number tells faults items new rows front unsure k pair cookie bytes broken left)
+            (put_part DiskTells files Tells settings number tells faults items new rows front unsure k pair cookie bytes broken left) idle
 
         no_memory : (refusal.machine ≡ machine_of settings number 0) × (refusal.fault ≡ logical.NoMemory)
             → PutRefused files Tells k tag pair cookie bytes (volume_with settings number items rows front None unsure)
@@ -254,6 +271,10 @@ module _ {D P : Type 0} (settings : Settings) (number : ℕ) (DiskTells : Type 0
             )
         by_fault fault.NoMemory by = no_memory by
         by_fault fault.Frozen by = no_memory by
+        by_fault (fault.Busy generation) by = no_memory by
+        by_fault (fault.Ended count) by = no_memory by
+        by_fault fault.Worn by = no_memory by
+        by_fault (fault.Damaged place) by = no_memory by
         by_fault (fault.Full end need capacity) by = no_memory by
 
       pub put_refused : DiskTells → (rows rows' : MapRows P) (front : ℕ) (frozen : Option ℕ) (unsure : Option Unsure) (k : VolumeKnown) (tag : CoreTag) (ends : List ℕ) → frozen ≡ None

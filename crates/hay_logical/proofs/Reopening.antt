@@ -8,7 +8,7 @@ use Rattle.hay_needle.specs.declared.needle.Cell.{Cell}
 use Rattle.hay_needle.specs.declared.needle.Outcome.{Outcome}
 use Rattle.hay_needle.specs.declared.needle.Outcome.TheVariants as outcome
 use Rattle.hay_needle.specs.declared.settings.Settings.{Settings}
-use Rattle.hay_needle.specs.Tables.{Table, outcome_at, table_of}
+use Rattle.hay_needle.specs.Tables.{Table, live_end, outcome_at, table_of}
 use Rattle.hay_disk.specs.Disk.{Files, MayLeave}
 use Rattle.hay_volume.specs.Cells.{needles_of}
 use Rattle.hay_core.specs.declared.entry.Entry.{Entry}
@@ -19,19 +19,24 @@ use Rattle.hay_legal.specs.declared.known.VolumeKnown.{VolumeKnown}
 use Rattle.hay_legal.specs.Known.{empty_replica, machine_of, now, replica_at, stands as has_photo}
 use Rattle.hay_legal.specs.Restarts.{BareIs, KeptAfter, KeptBelow, KeptFirst, MayKeep, ReopenedReplica, ReopenedReplicas, ReopenedVolume, added_cells, added_end, is_kept, kept_entry, nothing_at, with_entries}
 use Rattle.hay_legal.specs.Stands.{Contents, VolumeOutcome, found_of}
-use Rattle.hay_open.specs.Stored.{OpensAs, Stored}
+use Rattle.hay_open.specs.Stored.{IsStored, OpensAs, Stored, volume_file}
+use Rattle.hay_compact.specs.Copying.{end_of}
+use Rattle.hay_compact.proofs.CellLists.{cells_end}
+use Rattle.hay_physical.specs.Runs.{Swaps}
+use Rattle.hay_needle.specs.declared.settings.Super.{Super}
 use Rattle.hay_physical.specs.Copies.{Copy}
 use Rattle.hay_physical.specs.Replicas.{IsLike}
 use Rattle.hay_physical.specs.Replicas as physical
 use Rattle.hay_physical.proofs.Holding.{finds_opens}
 use Rattle.hay_physical.proofs.Laws.{holds_image}
-use Rattle.hay_logical.specs.Fits.{At, Fits, HoldsPart, IsReplica, Makes, Part, part_of, super_of}
+use Rattle.hay_logical.specs.Fits.{At, Fits, HoldsPart, HoldsSwap, IsReplica, Makes, Part, part_of, super_of}
 use Rattle.hay_logical.specs.Fits.Part.{Kept, Unsure as Perhaps, Lost}
 use Rattle.hay_logical.specs.Stands.{HoldsFor, HoldsPending, IsBroken, ReplicaHolds}
 use Rattle.hay_logical.specs.Volumes.{IsOfSettings, Volume}
 use Rattle.hay_logical.proofs.Holding.{part_kept, part_lost}
 use Rattle.hay_logical.proofs.Lists.{at_below, at_either, at_map, at_or, at_same, at_there}
 use Rattle.hay_logical.proofs.Machines.{replica_found}
+use Rattle.hay_logical.proofs.SwapSizes.{photos_end, photos_fewer}
 use Rattle.hay_logical.proofs.Tables.{makes_nothing}
 
 -- A REPLICA
@@ -85,6 +90,28 @@ reopened_by k old entries s t found fits adds like =
         cells = ap length like.cells ∙ adds.cells ∙ ap (λ n. n + added_cells entries) (sym fits.cells);
         bare = bare_by old.stuck (old.bare + added_cells entries) (length found.cells) found.records t.records sum like.fewer like.same;
         generation = like.generation ∙ adds.generation ∙ sym fits.generation;
+      });
+      loose = refl;
+      idle = refl;
+      settled = refl;
+    }
+
+-- behind a head switch that was not known to be made
+swapped_by : (k : VolumeKnown) (old : ReplicaKnown) (s t found : Stored) → old.poised ≡ true → Fits k old s → Swaps s t → IsLike old.stuck t found → found.end ≡ end_of found.cells
+    → ReopenedReplica k old [] (known_of found)
+swapped_by k old s t found poised fits swaps like ends =
+    let table : table_of (needles_of found.cells) ≡ now k old = ap (λ (cells : List Cell). table_of (needles_of cells)) like.cells ∙ swaps.table ∙ fits.table in
+    let count : length found.cells ≡ length t.cells = ap length like.cells in
+    record {
+      base = table;
+      stands = inr (record {
+        poised = poised;
+        end = subst (λ (x : Table). live_end x ≤ found.end) table (let e = photos_end found.cells in omega (arith, e, ends));
+        no_longer = let a = like.end in let b = swaps.shorter in let c = fits.end in omega (arith, a, b, c);
+        cells = subst (λ (x : Table). length x ≤ length found.cells) table (photos_fewer found.cells);
+        no_more = let b = swaps.fewer in let c = fits.cells in omega (arith, count, b, c);
+        bare = let a = like.fewer in let b = swaps.records in omega (arith, a, b, count);
+        generation = like.generation ∙ swaps.generation ∙ ap (λ n. n + 1) (sym fits.generation);
       });
       loose = refl;
       idle = refl;
@@ -167,7 +194,8 @@ at_part at j e = elim (cases_lt j at) [
 
 -- what finds a replica, and what is known of it then
 module _ {D : Type 0} (files : D → Files) (r : Copy D) (E : Stored → Type 0)
-    (finder : (b : Bool) (a t : Stored) → physical.Holds files r b a t → (found : Stored) × (IsLike b a found ⊎ IsLike b t found) × E found) where
+    (finder : (b : Bool) (a t : Stored) → physical.Holds files r b a t → (found : Stored) × (IsLike b a found ⊎ IsLike b t found) × E found)
+    (sized : (found : Stored) → E found → found.end ≡ end_of found.cells) where
   abbrev OutcomeBy : VolumeKnown → ℕ → ℕ → Option Pending → Type 0
   OutcomeBy k at j p = (c : Choice) × (ReopenedReplica k (replica_at k j) (kept_entry p c.kept) (known_of c.found) × RuleBy k p at j c.kept) × E c.found
 
@@ -191,12 +219,21 @@ module _ {D : Type 0} (files : D → Files) (r : Copy D) (E : Stored → Type 0)
       let c = as_before k pending at j s fits f.0 like (λ below. let wrong : Kept ≡ Lost = sym (part_kept at j below) ∙ is in cc) in
       (record { found = f.0; kept = c.0 }, c.1, f.2)
 
-  by_pending : (k : VolumeKnown) (p : Option Pending) (at j : ℕ) (s : Stored) → Fits k (replica_at k j) s → HoldsPending files r (replica_at k j).stuck s p at j → OutcomeBy k at j p
-  by_pending k None at j s fits h =
+  by_swap : (k : VolumeKnown) (at j : ℕ) (s : Stored) → Fits k (replica_at k j) s → (poised : Bool) → (replica_at k j).poised ≡ poised → HoldsSwap files r (replica_at k j).stuck s poised → OutcomeBy k at j None
+  by_swap k at j s fits false is h =
       let f = finder (replica_at k j).stuck s s h in
       let like : IsLike (replica_at k j).stuck s f.0 = elim (f.1) [ inl l ↦ l | inr l ↦ l ] in
       (record { found = f.0; kept = false }, (reopened_by k (replica_at k j) [] s s f.0 fits (adds_none s) like, tt), f.2)
-  by_pending k (Some pending) at j s fits h = by_part k pending at j s fits (part_of at j) refl h
+  by_swap k at j s fits true is h =
+      let f = finder (replica_at k j).stuck s h.0 h.2 in
+      elim (f.1) [
+        | inl l ↦ (record { found = f.0; kept = false }, (reopened_by k (replica_at k j) [] s s f.0 fits (adds_none s) l, tt), f.2)
+        | inr l ↦ (record { found = f.0; kept = false }, (swapped_by k (replica_at k j) s h.0 f.0 is fits h.1 l (sized f.0 f.2), tt), f.2)
+      ]
+
+  by_pending : (k : VolumeKnown) (p : Option Pending) (at j : ℕ) (s : Stored) → Fits k (replica_at k j) s → HoldsPending files r (replica_at k j).stuck (replica_at k j).poised s p at j → OutcomeBy k at j p
+  by_pending k None at j s fits h = by_swap k at j s fits (replica_at k j).poised refl h
+  by_pending k (Some pending) at j s fits h = by_part k pending at j s fits (part_of at j) refl h.1
 
   pub replica_outcome : (k : VolumeKnown) (at j : ℕ) → ReplicaHolds files k at j r → (c : Choice) × ReplicaOutcome k at j c × E c.found
   replica_outcome k at j h =
@@ -357,22 +394,31 @@ module _ (settings : Settings) (v : ℕ) (of : IsOfSettings settings v) (k : Vol
 
 -- IN EVERY IMAGE
 
+-- an opening finds this, and its cells stand without gaps
+record OpensFor (sup : Super) (contents : Contents) (s : Stored) : Type 0 where
+  opens : OpensAs sup contents s
+  ends : s.end ≡ end_of s.cells
+
+stored_end : (sup : Super) (contents : ℕ → List ℕ) (s : Stored) → IsStored sup contents s → s.end ≡ end_of s.cells
+stored_end sup contents s is = sym (cells_end 64 s.end (contents (volume_file s.generation)) s.cells is.volume.has)
+
 pub volume_outcome : {D P : Type 0} (files : D → Files) (volume : Volume D P) (k : VolumeKnown) → IsOfSettings volume.settings volume.number → HoldsFor files volume k
     → ((j : ℕ) (r : Copy D) → At volume.replicas j r → r.sup ≡ super_of volume.settings volume.number j)
     → (image : ℕ → Contents) → ((j : ℕ) (r : Copy D) → At volume.replicas j r → MayLeave (files r.disk) (image j))
     → VolumeOutcome (IsReplica volume.settings) volume.settings volume.number k image
 unfolding IsReplica
 volume_outcome files volume k of h sups image leaves =
-    let each : (j : ℕ) → j < volume.settings.replicas → (c : Choice) × (ReplicaOutcome k h.broken_at j c × OpensAs (super_of volume.settings volume.number j) (image j) c.found) =
+    let each : (j : ℕ) → j < volume.settings.replicas → (c : Choice) × (ReplicaOutcome k h.broken_at j c × OpensFor (super_of volume.settings volume.number j) (image j) c.found) =
     (λ j low.
     let there = at_there volume.replicas j (let a = h.all in let less : j < length volume.replicas = omega (arith, low, a) in less) in
-    let o = replica_outcome files there.0 (λ found. OpensAs (super_of volume.settings volume.number j) (image j) found)
+    let o = replica_outcome files there.0 (λ found. OpensFor (super_of volume.settings volume.number j) (image j) found)
     (λ b a t holds.
     let f = holds_image files there.0 b a t (image j) holds (leaves j there.0 there.1) in
-    (f.found, f.like, subst (λ sup. OpensAs sup (image j) f.found) (sups j there.0 there.1) (finds_opens there.0.sup (image j) b a t f)))
+    (f.found, f.like, record { opens = subst (λ sup. OpensAs sup (image j) f.found) (sups j there.0 there.1) (finds_opens there.0.sup (image j) b a t f); ends = stored_end there.0.sup (image j) f.found f.is }))
+    (λ found is. is.ends)
     k h.broken_at j (h.each j there.0 there.1) in
     (o.0, (o.1, o.2))) in
-    let both = choose (λ j c. ReplicaOutcome k h.broken_at j c × OpensAs (super_of volume.settings volume.number j) (image j) c.found) volume.settings.replicas each in
+    let both = choose (λ j c. ReplicaOutcome k h.broken_at j c × OpensFor (super_of volume.settings volume.number j) (image j) c.found) volume.settings.replicas each in
     let chosen : Chosen (ReplicaOutcome k h.broken_at) volume.settings.replicas = record { items = both.items; count = both.count; each = λ j c e. (both.each j c e).0 } in
     record {
       kept = kept_list k.pending both.items;
@@ -384,7 +430,7 @@ volume_outcome files volume k of h sups image leaves =
           at_or (map (λ (x : Choice). known_of x.found) both.items) j (known_of there.0.found) empty_replica (at_map (λ (x : Choice). known_of x.found) both.items j there.0 there.1) in
           record {
             stored = there.0.found;
-            opens = (both.each j there.0 there.1).1;
+            opens = (both.each j there.0 there.1).1.opens;
             is = ap found_of new_is;
           };
     }

@@ -1,5 +1,5 @@
 -- What a volume stands for behind each of its calls.
-use Rattle.std.proofs.Common.{◌≡◌, inl, inr, ℕ, ◌+◌, ◌<◌, Bool, cond, List, [], ◌∷◌, ◌++◌, length, Option, Some, None, refl, sym, ap, subst, ◌∙◌, arith, length-append}
+use Rattle.std.proofs.Common.{◌≡◌, inl, inr, ℕ, ◌+◌, ◌<◌, Bool, cond, List, [], ◌∷◌, ◌++◌, length, Option, Some, None, option_map, refl, sym, ap, subst, ◌∙◌, arith, length-append}
 use Rattle.std.specs.Option.{option_or}
 use Rattle.std.proofs.lemmas.Bool.{cases_Bool, cond-true, cond-false}
 use Rattle.std.proofs.lemmas.List.{length-map}
@@ -13,22 +13,26 @@ use Rattle.hay_volume.specs.Cells.{live_cell}
 use Rattle.hay_core.specs.declared.entry.CoreTag.{CoreTag}
 use Rattle.hay_core.specs.declared.entry.Entry.TheVariants.{Put}
 use Rattle.hay_legal.specs.declared.known.Pending.{Pending}
+use Rattle.hay_legal.specs.declared.known.ReplicaKnown.{ReplicaKnown}
 use Rattle.hay_legal.specs.declared.known.VolumeKnown.{VolumeKnown}
+use Rattle.hay_legal.specs.Known.{replica_at}
 use Rattle.hay_legal.specs.Plain.{with_put}
 use Rattle.hay_map.specs.MapRows.{MapRows}
 use Rattle.hay_map.specs.Places.{place_in}
 use Rattle.hay_map.specs.Rows.{row_at}
 use Rattle.hay_map.specs.declared.place.Place.{Place}
 use Rattle.hay_map.specs.declared.place.Place.TheVariants as place
-use Rattle.hay_open.specs.Stored.{PlaceOf, Stored, last_cell}
+use Rattle.hay_open.specs.Stored.{Stored, last_cell}
 use Rattle.hay_physical.specs.Copies.{Copy}
 use Rattle.hay_physical.specs.Replicas as physical
+use Rattle.hay_physical.specs.Runs.{HasRun, Run}
 use Rattle.hay_logical.specs.declared.unsure.Unsure.{Unsure}
-use Rattle.hay_logical.specs.Fits.{At}
+use Rattle.hay_logical.specs.Fits.{At, PhotoAt, RunsAs, copier_run}
 use Rattle.hay_logical.specs.Stands.{IsPending, StandsBy, StandsFor, TakesChanges}
 use Rattle.hay_logical.specs.Steps.{IsPlaceOf, PutsAt}
 use Rattle.hay_logical.specs.Volumes.{Volume}
-use Rattle.hay_logical.proofs.Knowing.{fits_put, put_stuck}
+use Rattle.hay_logical.proofs.Compacting.{longer_run}
+use Rattle.hay_logical.proofs.Knowing.{fits_put, put_replica, put_stuck}
 use Rattle.hay_logical.proofs.Lists.{at_below, at_there}
 use Rattle.hay_logical.proofs.Tables.{last_more, makes_put}
 
@@ -47,7 +51,7 @@ none_pending None k None e f = tt
 none_pending None k (Some pending) e f = absurd cc
 none_pending (Some unsure) k p e f = absurd cc
 
-place_put : {P : Type 0} (Tells : Type 0) (end : ℕ) (pair : Pair) (cookie : Cookie) (bytes : List ℕ) (p : Place P) → IsPlaceOf Tells end pair cookie bytes p → PlaceOf Tells (Some (live_cell end pair cookie bytes)) p
+place_put : {P : Type 0} (Tells : Type 0) (end : ℕ) (pair : Pair) (cookie : Cookie) (bytes : List ℕ) (p : Place P) → IsPlaceOf Tells end pair cookie bytes p → PhotoAt Tells (Some (live_cell end pair cookie bytes)) p
 place_put Tells end pair cookie bytes (place.Live needle) is = is
 place_put Tells end pair cookie bytes place.None is = absurd is
 place_put Tells end pair cookie bytes place.Gone is = absurd is
@@ -61,21 +65,21 @@ module _ {D P : Type 0} (DiskTells : Type 0) (files : D → Files) (Tells : Type
   -- the places behind a put
   put_places : (pair : Pair) (cookie : Cookie) (bytes : List ℕ) (row : List (Place P)) (rows rows' : MapRows P) (j : ℕ) (s : Stored)
       → ((other : Pair) → row_at rows' other ≡ cond (pair_eq pair other) row (row_at rows other))
-      → IsPlaceOf Tells s.end pair cookie bytes (place_in row j) → ((q : Pair) → PlaceOf Tells (last_cell s.cells q) (place_in (row_at rows q) j))
-      → (q : Pair) → PlaceOf Tells (last_cell (physical.with_cell s pair cookie bytes).cells q) (place_in (row_at rows' q) j)
+      → IsPlaceOf Tells s.end pair cookie bytes (place_in row j) → ((q : Pair) → PhotoAt Tells (last_cell s.cells q) (place_in (row_at rows q) j))
+      → (q : Pair) → PhotoAt Tells (last_cell (physical.with_cell s pair cookie bytes).cells q) (place_in (row_at rows' q) j)
   put_places pair cookie bytes row rows rows' j s changed is places q =
       let c : Cell = live_cell s.end pair cookie bytes in
       elim (cases_Bool (pair_eq pair q)) [
         | inl t ↦
             let cell : last_cell (s.cells ++ c ∷ []) q ≡ Some c = last_more s.cells c q ∙ ap (λ (b : Bool). option_or (cond b (Some c) None) (last_cell s.cells q)) t in
             let there : row_at rows' q ≡ row = changed q ∙ cond-true (pair_eq pair q) row (row_at rows q) t in
-            subst (λ (o : Option Cell). PlaceOf Tells o (place_in (row_at rows' q) j)) (sym cell)
-            (subst (λ (l : List (Place P)). PlaceOf Tells (Some c) (place_in l j)) (sym there) (place_put Tells s.end pair cookie bytes (place_in row j) is))
+            subst (λ (o : Option Cell). PhotoAt Tells o (place_in (row_at rows' q) j)) (sym cell)
+            (subst (λ (l : List (Place P)). PhotoAt Tells (Some c) (place_in l j)) (sym there) (place_put Tells s.end pair cookie bytes (place_in row j) is))
         | inr f ↦
             let cell : last_cell (s.cells ++ c ∷ []) q ≡ last_cell s.cells q = last_more s.cells c q ∙ ap (λ (b : Bool). option_or (cond b (Some c) None) (last_cell s.cells q)) f in
             let there : row_at rows' q ≡ row_at rows q = changed q ∙ cond-false (pair_eq pair q) row (row_at rows q) f in
-            subst (λ (o : Option Cell). PlaceOf Tells o (place_in (row_at rows' q) j)) (sym cell)
-            (subst (λ (l : List (Place P)). PlaceOf Tells (last_cell s.cells q) (place_in l j)) (sym there) (places q))
+            subst (λ (o : Option Cell). PhotoAt Tells o (place_in (row_at rows' q) j)) (sym cell)
+            (subst (λ (l : List (Place P)). PhotoAt Tells (last_cell s.cells q) (place_in l j)) (sym there) (places q))
       ]
 
   pub stands_put : DiskTells → (replicas replicas' : List (Copy D)) (rows rows' : MapRows P) (front front' : ℕ) (unsure : Option Unsure) (k : VolumeKnown)
@@ -106,6 +110,10 @@ module _ {D P : Type 0} (DiskTells : Type 0) (files : D → Files) (Tells : Type
                 fits = fits_put k tag pair cookie bytes j was.stored (physical.with_cell was.stored pair cookie bytes) known (makes_put was.stored pair cookie bytes) was.fits;
                 stands = behind.0;
                 stuck = put_stuck k tag pair cookie bytes j known ∙ was.stuck ∙ sym p.stuck;
+                run = subst (λ (x : ReplicaKnown). RunsAs files r' (physical.with_cell was.stored pair cookie bytes) x.run) (sym (put_replica k tag pair cookie bytes j known))
+                    (subst (λ (x : Option Run). HasRun files r' (physical.with_cell was.stored pair cookie bytes) x) (longer_run (replica_at k j).run)
+                    (p.run tells was.stored (option_map copier_run (replica_at k j).run) was.stands was.run));
+                settled = ap (λ (x : ReplicaKnown). x.poised) (put_replica k tag pair cookie bytes j known) ∙ was.settled;
                 places = put_places pair cookie bytes row rows rows' j was.stored changed behind.1 was.places;
               };
         };

@@ -19,9 +19,9 @@ use Rattle.hay_map.specs.Places.{IsSealed, PlaceMeans}
 use Rattle.hay_map.specs.Sealed.{SealedNeedle}
 use Rattle.hay_map.specs.declared.place.Place.{Place}
 use Rattle.hay_map.specs.declared.place.Place.TheVariants as place
-use Rattle.hay_open.specs.Stored.{IsSealedCell, PlaceOf, Stored, last_cell}
+use Rattle.hay_open.specs.Stored.{IsSealedCell, Stored, last_cell}
 use Rattle.hay_physical.specs.Replicas.{with_cell, without_cell}
-use Rattle.hay_logical.specs.Fits.{Makes}
+use Rattle.hay_logical.specs.Fits.{Makes, PhotoAt}
 
 -- THE LAST CELL AND THE TABLE
 
@@ -80,15 +80,19 @@ gone_means : (P : Type 0) (Tells : Type 0) (pair : Pair) (cell : Cell) → cell.
 gone_means P Tells pair cell deleted =
     subst (λ (b : Bool). PlaceMeans {P = P} Tells pair place.Gone (cond b outcome.Nothing (outcome.Photo (record { cookie = cell.cookie; bytes = cell.bytes })))) (sym deleted) tt
 
-means_by : {P : Type 0} (Tells : Type 0) (pair : Pair) (o : Option Cell) (p : Place P) → ((c : Cell) → o ≡ Some c → c.pair ≡ pair) → PlaceOf Tells o p → PlaceMeans Tells pair p (cell_outcome o outcome.Nothing)
+none_means : (P : Type 0) (Tells : Type 0) (pair : Pair) (cell : Cell) → cell.deleted ≡ true → PlaceMeans {P = P} Tells pair place.None (needle_outcome (needle_of_cell cell))
+none_means P Tells pair cell deleted =
+    subst (λ (b : Bool). PlaceMeans {P = P} Tells pair place.None (cond b outcome.Nothing (outcome.Photo (record { cookie = cell.cookie; bytes = cell.bytes })))) (sym deleted) tt
+
+means_by : {P : Type 0} (Tells : Type 0) (pair : Pair) (o : Option Cell) (p : Place P) → ((c : Cell) → o ≡ Some c → c.pair ≡ pair) → PhotoAt Tells o p → PlaceMeans Tells pair p (cell_outcome o outcome.Nothing)
 means_by {P} Tells pair (Some cell) (place.Live needle) same is = sealed_means P Tells pair cell needle (same cell refl) is
 means_by {P} Tells pair (Some cell) place.Gone same is = gone_means P Tells pair cell is
-means_by Tells pair (Some cell) place.None same is = absurd is
+means_by {P} Tells pair (Some cell) place.None same is = none_means P Tells pair cell is
 means_by Tells pair None place.None same is = tt
 means_by Tells pair None place.Gone same is = tt
 means_by Tells pair None (place.Live needle) same is = absurd is
 
-pub place_means : {P : Type 0} (Tells : Type 0) (cells : List Cell) (pair : Pair) (p : Place P) → PlaceOf Tells (last_cell cells pair) p
+pub place_means : {P : Type 0} (Tells : Type 0) (cells : List Cell) (pair : Pair) (p : Place P) → PhotoAt Tells (last_cell cells pair) p
     → PlaceMeans Tells pair p (outcome_at (table_of (needles_of cells)) pair)
 place_means Tells cells pair p is =
     subst (PlaceMeans Tells pair p) (sym (at_cells cells pair)) (means_by Tells pair (last_cell cells pair) p (λ c e. last_pair cells pair c e) is)

@@ -1,9 +1,10 @@
 -- What the calls of a logical volume answer.
-use Rattle.std.specs.Prelude.{◌≡◌, ◌⊎◌, ℕ, ◌<◌, ◌+◌, Bool, true, false, List, [], length, Option, Some, None, Result, Ok, Err}
+use Rattle.std.specs.Prelude.{◌≡◌, ◌⊎◌, ℕ, ◌<◌, ◌≤◌, ◌+◌, min, Bool, true, false, List, length, slice_get, Option, Some, None, Result, Ok, Err}
 use Rattle.std.specs.List.{list_any}
 use Rattle.hay_needle.specs.declared.needle.Cookie.{Cookie}
 use Rattle.hay_needle.specs.declared.needle.Pair.{Pair}
 use Rattle.hay_needle.specs.declared.settings.Settings.{Settings}
+use Rattle.hay_needle.specs.Tables.{live_end}
 use Rattle.hay_reply.specs.declared.Note.{Note}
 use Rattle.hay_reply.specs.declared.Refused.{Refused}
 use Rattle.hay_reply.specs.declared.Refused.TheVariants.{NoRoom, Closed}
@@ -12,13 +13,14 @@ use Rattle.hay_core.specs.declared.entry.Entry.TheVariants as entry
 use Rattle.hay_disk.specs.Counts.{Rose}
 use Rattle.hay_disk.specs.Disk.{Files}
 use Rattle.hay_legal.specs.declared.known.ReplicaKnown.{ReplicaKnown}
+use Rattle.hay_legal.specs.declared.known.Run.{Run}
 use Rattle.hay_legal.specs.declared.known.VolumeKnown.{VolumeKnown}
-use Rattle.hay_legal.specs.Known.{machine_of, replica_at, room_refusal_of, with_replica}
-use Rattle.hay_legal.specs.Plain.{frozen_with, has_pair, with_bare, with_del, with_put, with_stuck}
+use Rattle.hay_legal.specs.Known.{machine_of, now, replica_at, room_refusal_of, with_replica}
+use Rattle.hay_legal.specs.Plain.{as_it_is, frozen_by, frozen_with, has_pair, poised, stepped, swapped, with_bare, with_del, with_put, with_run, with_stuck, without_run}
 use Rattle.hay_legal.specs.Restarts.{ReopenedVolume, pending_notes}
 use Rattle.hay_physical.specs.Copies.{Copy}
 use Rattle.hay_logical.specs.declared.fault.LogicalFault.{LogicalFault}
-use Rattle.hay_logical.specs.declared.fault.LogicalFault.TheVariants.{ReadOnly, Full, Gone, Failed, NoMemory}
+use Rattle.hay_logical.specs.declared.fault.LogicalFault.TheVariants.{Busy, Damaged, Failed, Full, Gone, Idle, NoMemory, ReadOnly, Worn}
 use Rattle.hay_logical.specs.Fits.{At}
 use Rattle.hay_logical.specs.Volumes.{Volume}
 use Rattle.hay_logical.specs.Stands.{Stands}
@@ -45,19 +47,43 @@ IsRoomFault _ = ⊥
 
 abbrev pub IsPutFault : {D : Type 0} → (D → ℕ) → Settings → ℕ → List (Copy D) → List (Copy D) → LogicalFault → Type 0
 IsPutFault faults settings v old new (Failed machine printed) = HasFailed faults settings v old new machine printed
-IsPutFault faults settings v old new (Gone front) = ⊥
-IsPutFault faults settings v old new _ = Unit {0}
+IsPutFault faults settings v old new (ReadOnly m) = Unit {0}
+IsPutFault faults settings v old new (Full machine end need capacity) = Unit {0}
+IsPutFault faults settings v old new NoMemory = Unit {0}
+IsPutFault faults settings v old new _ = ⊥
 
 abbrev pub IsDeleteFault : {D : Type 0} → (D → ℕ) → Settings → ℕ → List (Copy D) → List (Copy D) → LogicalFault → Type 0
 IsDeleteFault faults settings v old new (Failed machine printed) = HasFailed faults settings v old new machine printed
-IsDeleteFault faults settings v old new (Full machine end need capacity) = ⊥
-IsDeleteFault faults settings v old new _ = Unit {0}
+IsDeleteFault faults settings v old new (ReadOnly m) = Unit {0}
+IsDeleteFault faults settings v old new (Gone front) = Unit {0}
+IsDeleteFault faults settings v old new NoMemory = Unit {0}
+IsDeleteFault faults settings v old new _ = ⊥
 
 abbrev pub IsFlushFault : {D : Type 0} → (D → ℕ) → Settings → ℕ → List (Copy D) → List (Copy D) → LogicalFault → Type 0
 IsFlushFault faults settings v old new (Failed machine printed) = HasFailed faults settings v old new machine printed
-IsFlushFault faults settings v old new (Full machine end need capacity) = ⊥
-IsFlushFault faults settings v old new (Gone front) = ⊥
-IsFlushFault faults settings v old new _ = Unit {0}
+IsFlushFault faults settings v old new (ReadOnly m) = Unit {0}
+IsFlushFault faults settings v old new NoMemory = Unit {0}
+IsFlushFault faults settings v old new _ = ⊥
+
+abbrev pub IsBeginFault : {D : Type 0} → (D → ℕ) → Settings → ℕ → List (Copy D) → List (Copy D) → LogicalFault → Type 0
+IsBeginFault faults settings v old new (Failed machine printed) = HasFailed faults settings v old new machine printed
+IsBeginFault faults settings v old new (ReadOnly m) = Unit {0}
+IsBeginFault faults settings v old new (Busy m generation) = Unit {0}
+IsBeginFault faults settings v old new (Worn m) = Unit {0}
+IsBeginFault faults settings v old new NoMemory = Unit {0}
+IsBeginFault faults settings v old new _ = ⊥
+
+abbrev pub IsRunFault : {D : Type 0} → (D → ℕ) → Settings → ℕ → List (Copy D) → List (Copy D) → LogicalFault → Type 0
+IsRunFault faults settings v old new (Failed machine printed) = HasFailed faults settings v old new machine printed
+IsRunFault faults settings v old new (ReadOnly m) = Unit {0}
+IsRunFault faults settings v old new Idle = Unit {0}
+IsRunFault faults settings v old new (Damaged m at) = Unit {0}
+IsRunFault faults settings v old new NoMemory = Unit {0}
+IsRunFault faults settings v old new _ = ⊥
+
+abbrev pub IsCompactFault : {D : Type 0} → (D → ℕ) → Settings → ℕ → List (Copy D) → List (Copy D) → LogicalFault → Type 0
+IsCompactFault faults settings v old new (Damaged m at) = Unit {0}
+IsCompactFault faults settings v old new fault = IsBeginFault faults settings v old new fault
 
 -- WHETHER A VOLUME TAKES A PHOTO
 
@@ -89,7 +115,7 @@ PutRefused files Tells k tag pair cookie bytes old new (Failed m faults) =
 PutRefused files Tells k tag pair cookie bytes old new NoMemory =
     HasRoom old.settings old.number k (length bytes)
     × (Stands files Tells new k ⊎ Stands files Tells new (frozen_with (machine_of old.settings old.number 0) tag (entry.Put pair cookie bytes) false k))
-PutRefused files Tells k tag pair cookie bytes old new (Gone front) = ⊥
+PutRefused files Tells k tag pair cookie bytes old new _ = ⊥
 
 -- DELETES
 
@@ -97,11 +123,15 @@ PutRefused files Tells k tag pair cookie bytes old new (Gone front) = ⊥
 abbrev pub is_held : VolumeKnown → Pair → Bool
 is_held k pair = list_any (has_pair k pair) k.replicas
 
-pub record IsDeleted {D P : Type 0} (files : D → Files) (Tells : Type 0) (k : VolumeKnown) (tag : CoreTag) (pair : Pair) (p : ℕ) (new : Volume D P) : Type 0 where
+-- A compaction ended only where its disk's count of faults rose.
+pub record IsDeleted {D P : Type 0} (files : D → Files) (faults : D → ℕ) (Tells : Type 0) (k : VolumeKnown) (tag : CoreTag) (pair : Pair) (p : ℕ) (old new : Volume D P) : Type 0 where
   pub thawed : k.frozen ≡ None
   pub stood : is_held k pair ≡ true
   pub position : p ≡ length k.log + 1
-  pub stands : Stands files Tells new (with_del [] tag pair k)
+  pub ended : List Bool
+  pub count : length ended ≡ old.settings.replicas
+  pub cause : (j : ℕ) (r r' : Copy D) → slice_get ended j ≡ Some true → At old.replicas j r → At new.replicas j r' → Rose (faults r.disk) (faults r'.disk)
+  pub stands : Stands files Tells new (with_del ended tag pair k)
 
 abbrev pub DeleteRefused : {D P : Type 0} → (D → Files) → Type 0 → VolumeKnown → CoreTag → Pair → Volume D P → Volume D P → LogicalFault → Type 0
 DeleteRefused files Tells k tag pair old new (ReadOnly m) = (k.frozen ≡ Some m) × (new ≡ old)
@@ -109,7 +139,7 @@ DeleteRefused files Tells k tag pair old new (Gone front) = (k.frozen ≡ None) 
 DeleteRefused files Tells k tag pair old new (Failed m faults) =
     (k.frozen ≡ None) × Stands files Tells new (frozen_with m tag (entry.Del pair) true k)
 DeleteRefused files Tells k tag pair old new NoMemory = (k.frozen ≡ None) × (new ≡ old)
-DeleteRefused files Tells k tag pair old new (Full m end need capacity) = ⊥
+DeleteRefused files Tells k tag pair old new _ = ⊥
 
 -- FLUSHES
 
@@ -129,8 +159,119 @@ FlushRefused files Tells k replica old new (Failed m faults) =
     (k.frozen ≡ None) × ((replica_at k replica).stuck ≡ false) × (m ≡ machine_of old.settings old.number replica)
     × Stands files Tells new (change_at k replica with_stuck)
 FlushRefused files Tells k replica old new NoMemory = Stands files Tells new k
-FlushRefused files Tells k replica old new (Full m end need capacity) = ⊥
-FlushRefused files Tells k replica old new (Gone front) = ⊥
+FlushRefused files Tells k replica old new _ = ⊥
+
+-- COMPACTIONS
+
+-- none stands at a replica, and its generation is not the last one
+abbrev pub IsAtRest : VolumeKnown → ℕ → Type 0
+IsAtRest k j = ((replica_at k j).run ≡ None) × ((replica_at k j).generation < 65535)
+
+-- one stands there
+abbrev pub IsRunning : VolumeKnown → ℕ → Type 0
+IsRunning k j = (run : Run) × ((replica_at k j).run ≡ Some run)
+
+pub record IsBegun {D P : Type 0} (files : D → Files) (Tells : Type 0) (k : VolumeKnown) (replica generation : ℕ) (new : Volume D P) : Type 0 where
+  pub thawed : k.frozen ≡ None
+  pub rest : IsAtRest k replica
+  pub next : generation ≡ (replica_at k replica).generation + 1
+  pub stands : Stands files Tells new (change_at k replica (with_run (record { goal = generation; left = (replica_at k replica).cells })))
+
+abbrev pub BeginRefused : {D P : Type 0} → (D → Files) → Type 0 → VolumeKnown → ℕ → Volume D P → Volume D P → LogicalFault → Type 0
+BeginRefused files Tells k replica old new (ReadOnly m) = (k.frozen ≡ Some m) × (new ≡ old)
+BeginRefused files Tells k replica old new (Busy m generation) =
+    (k.frozen ≡ None) × (m ≡ machine_of old.settings old.number replica)
+    × ((run : Run) × ((replica_at k replica).run ≡ Some run) × (run.goal ≡ generation)) × (new ≡ old)
+BeginRefused files Tells k replica old new (Worn m) =
+    (k.frozen ≡ None) × (m ≡ machine_of old.settings old.number replica)
+    × ((replica_at k replica).run ≡ None) × ((replica_at k replica).generation ≡ 65535) × (new ≡ old)
+BeginRefused files Tells k replica old new (Failed m faults) =
+    (k.frozen ≡ None) × (m ≡ machine_of old.settings old.number replica) × IsAtRest k replica × Stands files Tells new k
+BeginRefused files Tells k replica old new NoMemory = Stands files Tells new k
+BeginRefused files Tells k replica old new _ = ⊥
+
+-- so many cells of a compaction were examined
+abbrev pub StandsStepped : {D P : Type 0} → (D → Files) → Type 0 → VolumeKnown → ℕ → Run → ℕ → Volume D P → Type 0
+StandsStepped files Tells k replica run n new = Stands files Tells new (change_at k replica (with_run (stepped n run)))
+
+pub record IsStepped {D P : Type 0} (files : D → Files) (Tells : Type 0) (k : VolumeKnown) (replica cells n : ℕ) (new : Volume D P) : Type 0 where
+  pub thawed : k.frozen ≡ None
+  pub run : Run
+  pub stood : (replica_at k replica).run ≡ Some run
+  pub number : n ≡ min cells run.left
+  pub stands : StandsStepped files Tells k replica run n new
+
+-- A failure ends the compaction, and want of memory comes behind some cells.
+abbrev pub StepRefused : {D P : Type 0} → (D → Files) → Type 0 → VolumeKnown → ℕ → ℕ → Volume D P → Volume D P → LogicalFault → Type 0
+StepRefused files Tells k replica cells old new (ReadOnly m) = (k.frozen ≡ Some m) × (new ≡ old)
+StepRefused files Tells k replica cells old new Idle = (k.frozen ≡ None) × ((replica_at k replica).run ≡ None) × (new ≡ old)
+StepRefused files Tells k replica cells old new (Failed m faults) =
+    (k.frozen ≡ None) × (m ≡ machine_of old.settings old.number replica) × IsRunning k replica × Stands files Tells new (change_at k replica without_run)
+StepRefused files Tells k replica cells old new NoMemory =
+    (k.frozen ≡ None) × ((run : Run) × (n : ℕ) × ((replica_at k replica).run ≡ Some run) × (n ≤ min cells run.left) × StandsStepped files Tells k replica run n new)
+StepRefused files Tells k replica cells old new _ = ⊥
+
+-- The sizes behind a swap: the standing photos alone, or those and what came while the compaction stood.
+abbrev pub IsTight : VolumeKnown → ℕ → ℕ → ℕ → Type 0
+IsTight k j end cells = (end ≡ live_end (now k (replica_at k j))) × (cells ≡ length (now k (replica_at k j)))
+
+abbrev pub IsLoose : VolumeKnown → ℕ → ℕ → ℕ → Type 0
+IsLoose k j end cells =
+    (live_end (now k (replica_at k j)) ≤ end) × (end ≤ (replica_at k j).end)
+    × (length (now k (replica_at k j)) ≤ cells) × (cells ≤ (replica_at k j).cells)
+
+-- The files of a replica were swapped, with sizes of this kind, and the volume changed besides.
+abbrev pub StandsSwapped : {D P : Type 0} → (D → Files) → Type 0 → (VolumeKnown → ℕ → ℕ → ℕ → Type 0) → (VolumeKnown → VolumeKnown) → VolumeKnown → ℕ → Volume D P → Type 0
+StandsSwapped files Tells sizes besides k replica new =
+    (end : ℕ) × (cells : ℕ) × sizes k replica end cells × Stands files Tells new (besides (change_at k replica (swapped end cells)))
+
+-- A failed head switch freezes the volume by the replica's machine, and the replica stands before it or behind it.
+abbrev pub poised_at : ℕ → VolumeKnown → ℕ → VolumeKnown
+poised_at m k replica = change_at (frozen_by m k) replica poised
+
+abbrev pub StandsFailed : {D P : Type 0} → (D → Files) → Type 0 → ℕ → VolumeKnown → ℕ → Volume D P → Type 0
+StandsFailed files Tells m k replica new =
+    Stands files Tells new (change_at k replica without_run) ⊎ Stands files Tells new (poised_at m k replica)
+
+-- Where no memory was left to give the photos their new places, the volume is frozen by the first replica's machine.
+abbrev pub StandsUnplaced : {D P : Type 0} → (D → Files) → Type 0 → (VolumeKnown → ℕ → ℕ → ℕ → Type 0) → ℕ → VolumeKnown → ℕ → Volume D P → Type 0
+StandsUnplaced files Tells sizes first k replica new =
+    Stands files Tells new (change_at k replica without_run) ⊎ StandsSwapped files Tells sizes (frozen_by first) k replica new
+
+pub record IsFinished {D P : Type 0} (files : D → Files) (Tells : Type 0) (k : VolumeKnown) (replica generation : ℕ) (new : Volume D P) : Type 0 where
+  pub thawed : k.frozen ≡ None
+  pub stood : IsRunning k replica
+  pub next : generation ≡ (replica_at k replica).generation + 1
+  pub swaps : StandsSwapped files Tells IsLoose as_it_is k replica new
+
+abbrev pub FinishRefused : {D P : Type 0} → (D → Files) → Type 0 → VolumeKnown → ℕ → Volume D P → Volume D P → LogicalFault → Type 0
+FinishRefused files Tells k replica old new (ReadOnly m) = (k.frozen ≡ Some m) × (new ≡ old)
+FinishRefused files Tells k replica old new Idle = (k.frozen ≡ None) × ((replica_at k replica).run ≡ None) × (new ≡ old)
+FinishRefused files Tells k replica old new (Failed m faults) =
+    (k.frozen ≡ None) × (m ≡ machine_of old.settings old.number replica) × IsRunning k replica × StandsFailed files Tells m k replica new
+FinishRefused files Tells k replica old new NoMemory =
+    (k.frozen ≡ None) × IsRunning k replica × StandsUnplaced files Tells IsLoose (machine_of old.settings old.number 0) k replica new
+FinishRefused files Tells k replica old new _ = ⊥
+
+pub record IsCompacted {D P : Type 0} (files : D → Files) (Tells : Type 0) (k : VolumeKnown) (replica generation : ℕ) (new : Volume D P) : Type 0 where
+  pub thawed : k.frozen ≡ None
+  pub rest : IsAtRest k replica
+  pub next : generation ≡ (replica_at k replica).generation + 1
+  pub swaps : StandsSwapped files Tells IsTight as_it_is k replica new
+
+abbrev pub CompactRefused : {D P : Type 0} → (D → Files) → Type 0 → VolumeKnown → ℕ → Volume D P → Volume D P → LogicalFault → Type 0
+CompactRefused files Tells k replica old new (ReadOnly m) = (k.frozen ≡ Some m) × (new ≡ old)
+CompactRefused files Tells k replica old new (Busy m generation) =
+    (k.frozen ≡ None) × (m ≡ machine_of old.settings old.number replica)
+    × ((run : Run) × ((replica_at k replica).run ≡ Some run) × (run.goal ≡ generation)) × Stands files Tells new k
+CompactRefused files Tells k replica old new (Worn m) =
+    (k.frozen ≡ None) × (m ≡ machine_of old.settings old.number replica)
+    × ((replica_at k replica).run ≡ None) × ((replica_at k replica).generation ≡ 65535) × Stands files Tells new k
+CompactRefused files Tells k replica old new (Failed m faults) =
+    (k.frozen ≡ None) × (m ≡ machine_of old.settings old.number replica) × IsAtRest k replica × StandsFailed files Tells m k replica new
+CompactRefused files Tells k replica old new NoMemory =
+    (k.frozen ≡ None) × IsAtRest k replica × StandsUnplaced files Tells IsTight (machine_of old.settings old.number 0) k replica new
+CompactRefused files Tells k replica old new _ = ⊥
 
 -- OPENINGS
 

@@ -1,5 +1,5 @@
 -- What is known of a replica against what its disk has, and what a change that was broken off has left of itself.
-use Rattle.std.specs.Prelude.{◌≡◌, ℕ, ◌+◌, ◌-◌, nat_lt, Bool, false, List, [], ◌∷◌, length, Some, None, slice_get, if◌then◌else◌}
+use Rattle.std.specs.Prelude.{◌≡◌, ℕ, ◌+◌, ◌-◌, nat_lt, Bool, false, true, List, [], ◌∷◌, length, Option, Some, None, option_map, slice_get, if◌then◌else◌}
 use Rattle.hay_needle.specs.declared.settings.Settings.{Settings}
 use Rattle.hay_needle.specs.declared.settings.Super.{Super}
 use Rattle.hay_needle.specs.declared.settings.FileKind.TheVariants as kind
@@ -9,13 +9,18 @@ use Rattle.hay_volume.specs.Cells.{needles_of}
 use Rattle.hay_core.specs.declared.entry.Entry.{Entry}
 use Rattle.hay_core.specs.Entries.{apply_entry}
 use Rattle.hay_legal.specs.declared.known.ReplicaKnown.{ReplicaKnown}
+use Rattle.hay_legal.specs.declared.known.Run.{Run}
 use Rattle.hay_legal.specs.declared.known.VolumeKnown.{VolumeKnown}
 use Rattle.hay_legal.specs.Known.{now}
 use Rattle.hay_legal.specs.Restarts.{added_cells, added_end}
 use Rattle.hay_legal.specs.Stands.{Contents, Found}
-use Rattle.hay_open.specs.Stored.{Stored, OpensAs}
+use Rattle.hay_needle.specs.declared.needle.Cell.{Cell}
+use Rattle.hay_map.specs.declared.place.Place.{Place}
+use Rattle.hay_map.specs.declared.place.Place.TheVariants as place
+use Rattle.hay_open.specs.Stored.{IsSealedCell, Stored, OpensAs}
 use Rattle.hay_physical.specs.Copies.{Copy}
 use Rattle.hay_physical.specs.Replicas as physical
+use Rattle.hay_physical.specs.Runs as runs
 
 -- the item at this place of a list
 abbrev pub At : {X : Type 0} → List X → ℕ → X → Type 0
@@ -49,8 +54,21 @@ pub record Fits (k : VolumeKnown) (replica : ReplicaKnown) (s : Stored) : Type 0
   pub cells : replica.cells ≡ length s.cells
   pub bare : replica.bare + s.records ≡ length s.cells
   pub generation : replica.generation ≡ s.generation
-  pub idle : replica.run ≡ None
-  pub settled : replica.poised ≡ false
+
+-- a compaction that is known, as a replica has it
+abbrev pub copier_run : Run → runs.Run
+copier_run run = record { goal = run.goal; left = run.left; tight = false }
+
+-- The compaction that is known stands at a replica, or none.
+abbrev pub RunsAs : {D : Type 0} → (D → Files) → Copy D → Stored → Option Run → Type 0
+RunsAs files r s run = runs.HasRun files r s (option_map copier_run run)
+
+-- The place of a pair whose last cell this is. Behind a swap a pair that never had a row may have a deleted cell.
+abbrev pub PhotoAt : {P : Type 0} → Type 0 → Option Cell → Place P → Type 0
+PhotoAt Tells (Some cell) (place.Live needle) = IsSealedCell Tells cell needle
+PhotoAt Tells (Some cell) _ = cell.deleted ≡ true
+PhotoAt Tells None (place.Live needle) = ⊥
+PhotoAt Tells None _ = Unit {0}
 
 -- a change makes t of s
 pub record Makes (entry : Entry) (s t : Stored) : Type 0 where
@@ -72,3 +90,8 @@ abbrev pub HoldsPart : {D : Type 0} → (D → Files) → Copy D → Bool → En
 HoldsPart files r stuck entry s Kept = (t : Stored) × Makes entry s t × physical.Holds files r stuck t t
 HoldsPart files r stuck entry s Unsure = (t : Stored) × Makes entry s t × physical.Holds files r stuck s t
 HoldsPart files r stuck entry s Lost = physical.Holds files r stuck s s
+
+-- Where a head switch failed, a replica holds what stood, or what its compaction made of that.
+abbrev pub HoldsSwap : {D : Type 0} → (D → Files) → Copy D → Bool → Stored → Bool → Type 0
+HoldsSwap files r stuck s false = physical.Holds files r stuck s s
+HoldsSwap files r stuck s true = (t : Stored) × runs.Swaps s t × physical.Holds files r stuck s t

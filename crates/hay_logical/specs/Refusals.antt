@@ -1,14 +1,17 @@
--- What puts and flushes that were broken off are answered.
-use Rattle.std.specs.Prelude.{◌≡◌, ℕ, false, List}
+-- What puts, flushes and compactions that were broken off are answered.
+use Rattle.std.specs.Prelude.{◌≡◌, ℕ, false, List, Some, None}
 use Rattle.hay_needle.specs.declared.settings.Settings.{Settings}
 use Rattle.hay_legal.specs.Known.{machine_of}
 use Rattle.hay_physical.specs.declared.fault.ReplicaFault.{ReplicaFault}
 use Rattle.hay_physical.specs.declared.fault.ReplicaFault.TheVariants as fault
 use Rattle.hay_physical.specs.Copies.{Copy, is_frozen}
 use Rattle.hay_logical.specs.declared.fault.LogicalFault.{LogicalFault}
-use Rattle.hay_logical.specs.declared.fault.LogicalFault.TheVariants.{Failed, NoMemory, ReadOnly}
+use Rattle.hay_logical.specs.declared.fault.LogicalFault.TheVariants.{Busy, Damaged, Failed, Idle, NoMemory, ReadOnly, Worn}
 use Rattle.hay_logical.specs.declared.refusals.Refusal.{Refusal}
+use Rattle.hay_logical.specs.declared.refusals.Unfinished.{Unfinished}
 use Rattle.hay_logical.specs.declared.replicas.Broken.{Broken}
+use Rattle.hay_logical.specs.declared.runs.Unswapped.{Unswapped}
+use Rattle.hay_logical.specs.declared.runs.Unswapped.TheVariants.{Refused, Unsure, Unplaced}
 use Rattle.hay_logical.specs.Fits.{At}
 
 -- memory was wanting on the first replica, which takes changes still
@@ -33,3 +36,20 @@ abbrev pub flush_answer : ℕ → ReplicaFault → LogicalFault
 flush_answer machine (fault.Failed printed) = Failed machine printed
 flush_answer machine fault.NoMemory = NoMemory
 flush_answer machine _ = ReadOnly machine
+
+-- a beginning or a step that was refused by the replica on this machine
+abbrev pub run_answer : ℕ → ReplicaFault → LogicalFault
+run_answer machine (fault.Failed printed) = Failed machine printed
+run_answer machine (fault.Busy generation) = Busy machine generation
+run_answer machine (fault.Ended faults) = Idle
+run_answer machine fault.Worn = Worn machine
+run_answer machine (fault.Damaged at) = Damaged machine at
+run_answer machine fault.NoMemory = NoMemory
+run_answer machine _ = ReadOnly machine
+
+-- A compaction that no swap ended: the machine that freezes the volume then, if one does, and what is answered.
+abbrev pub unfinished_by : Settings → ℕ → ℕ → Unswapped → Unfinished
+unfinished_by settings v replica (Refused fault) = record { frozen = None; fault = run_answer (machine_of settings v replica) fault }
+unfinished_by settings v replica (Unsure printed) =
+    record { frozen = Some (machine_of settings v replica); fault = Failed (machine_of settings v replica) printed }
+unfinished_by settings v replica Unplaced = record { frozen = Some (machine_of settings v 0); fault = NoMemory }

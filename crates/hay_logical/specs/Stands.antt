@@ -13,13 +13,13 @@ use Rattle.hay_legal.specs.Statuses.{IsNewVolume}
 use Rattle.hay_legal.specs.Stands.{found_of}
 use Rattle.hay_map.specs.Places.{PlaceMeans, place_in}
 use Rattle.hay_map.specs.Rows.{row_at}
-use Rattle.hay_open.specs.Stored.{Stored, PlaceOf, last_cell}
-use Rattle.hay_physical.specs.Copies.{Copy, contents_of, is_stuck}
+use Rattle.hay_open.specs.Stored.{Stored, last_cell}
+use Rattle.hay_physical.specs.Copies.{Copy, contents_of, goal_of, is_stuck}
 use Rattle.hay_physical.specs.Replicas as physical
 use Rattle.hay_logical.specs.declared.unsure.Change.{Change}
 use Rattle.hay_logical.specs.declared.unsure.Change.TheVariants as change
 use Rattle.hay_logical.specs.declared.unsure.Unsure.{Unsure}
-use Rattle.hay_logical.specs.Fits.{At, Fits, HoldsPart, IsReplica, part_of}
+use Rattle.hay_logical.specs.Fits.{At, Fits, HoldsPart, HoldsSwap, IsReplica, PhotoAt, RunsAs, part_of}
 use Rattle.hay_logical.specs.Volumes.{HasAll, Volume}
 
 -- A CHANGE THAT WAS BROKEN OFF
@@ -48,15 +48,15 @@ IsBroken settings v frozen broken_at (Some pending) = IsBrokenAt settings v froz
 
 -- WHAT THE DISKS HOLD
 
-abbrev pub HoldsPending : {D : Type 0} → (D → Files) → Copy D → Bool → Stored → Option Pending → ℕ → ℕ → Type 0
-HoldsPending files r stuck s None broken_at j = physical.Holds files r stuck s s
-HoldsPending files r stuck s (Some pending) broken_at j = HoldsPart files r stuck pending.entry s (part_of broken_at j)
+abbrev pub HoldsPending : {D : Type 0} → (D → Files) → Copy D → Bool → Bool → Stored → Option Pending → ℕ → ℕ → Type 0
+HoldsPending files r stuck poised s None broken_at j = HoldsSwap files r stuck s poised
+HoldsPending files r stuck poised s (Some pending) broken_at j = (poised ≡ false) × HoldsPart files r stuck pending.entry s (part_of broken_at j)
 
--- A replica's disk has what is known, and of a change that was broken off what it may have.
+-- A replica's disk has what is known, and of a change or a head switch that was broken off what it may have.
 pub record ReplicaHolds {D : Type 0} (files : D → Files) (k : VolumeKnown) (broken_at j : ℕ) (r : Copy D) : Type 0 where
   pub stored : Stored
   pub fits : Fits k (replica_at k j) stored
-  pub holds : HoldsPending files r (replica_at k j).stuck stored k.pending broken_at j
+  pub holds : HoldsPending files r (replica_at k j).stuck (replica_at k j).poised stored k.pending broken_at j
 
 pub record HoldsFor {D P : Type 0} (files : D → Files) (volume : Volume D P) (k : VolumeKnown) : Type 0 where
   pub all : HasAll volume
@@ -71,22 +71,25 @@ Holds files volume k = HoldsFor files volume k
 
 -- OPEN VOLUMES
 
--- A replica takes changes, and its places are those of its photos.
+-- A replica takes changes, the compaction that is known stands at it, and its places are those of its photos.
 pub record ReplicaStands {D P : Type 0} (files : D → Files) (Tells : Type 0) (volume : Volume D P) (k : VolumeKnown) (j : ℕ) (r : Copy D) : Type 0 where
   pub stored : Stored
   pub fits : Fits k (replica_at k j) stored
   pub stands : physical.Stands files r stored
   pub stuck : (replica_at k j).stuck ≡ is_stuck r
-  pub places : (pair : Pair) → PlaceOf Tells (last_cell stored.cells pair) (place_in (row_at volume.rows pair) j)
+  pub run : RunsAs files r stored (replica_at k j).run
+  pub settled : (replica_at k j).poised ≡ false
+  pub places : (pair : Pair) → PhotoAt Tells (last_cell stored.cells pair) (place_in (row_at volume.rows pair) j)
 
 pub record TakesChanges {D P : Type 0} (files : D → Files) (Tells : Type 0) (volume : Volume D P) (k : VolumeKnown) : Type 0 where
   pub pending : k.pending ≡ None
   pub each : (j : ℕ) (r : Copy D) → At volume.replicas j r → ReplicaStands files Tells volume k j r
 
--- Of a frozen volume the places mean what stood before the change that was broken off.
+-- Of a frozen volume the places mean what stood before the change that was broken off. No compaction stands.
 pub record IsFrozen {D P : Type 0} (files : D → Files) (Tells : Type 0) (volume : Volume D P) (k : VolumeKnown) : Type 0 where
   pub places : (pair : Pair) (j : ℕ) → j < volume.settings.replicas →
       PlaceMeans Tells pair (place_in (row_at volume.rows pair) j) (outcome_at (now k (replica_at k j)) pair)
+  pub idle : (j : ℕ) (r : Copy D) → At volume.replicas j r → ((replica_at k j).run ≡ None) × (goal_of r ≡ None)
   pub holds : HoldsFor files volume k
 
 abbrev pub StandsBy : {D P : Type 0} → (D → Files) → Type 0 → Volume D P → VolumeKnown → Option ℕ → Type 0

@@ -1,5 +1,5 @@
 -- What the calls of one replica do, as far as a volume goes by it.
-use Rattle.std.specs.Prelude.{◌≡◌, ◌⊎◌, ◌≤◌, ◌<◌, ◌+◌, ℕ, Bool, true, false, List, length, slice_set, Result, Err, IfOk, IfErr, OnOk, OnErr}
+use Rattle.std.specs.Prelude.{◌≡◌, ◌⊎◌, ◌≤◌, ◌<◌, ◌+◌, ℕ, ◌-◌, min, Bool, true, false, List, length, slice_set, Option, Some, None, option_map, Result, Err, IfOk, IfErr, OnOk, OnErr}
 use Rattle.hay_needle.specs.declared.needle.Cookie.{Cookie}
 use Rattle.hay_needle.specs.declared.needle.Pair.{Pair}
 use Rattle.hay_needle.specs.Sizes.{total_of_lem}
@@ -19,12 +19,17 @@ use Rattle.hay_open.specs.Stored.{Stored, IsSealedCell, IsVoid, OpensAs, PlaceOf
 use Rattle.hay_physical.specs.declared.fault.ReplicaFault.{ReplicaFault}
 use Rattle.hay_physical.specs.declared.fault.ReplicaFault.TheVariants as fault
 use Rattle.hay_physical.specs.declared.state.Phase.TheVariants.{Closed}
-use Rattle.hay_physical.specs.Copies.{Copy, IsFrozen, IsOpen, IsUp, capacity_of, contents_of, end_of, is_stuck}
+use Rattle.hay_physical.specs.Copies.{Copy, IsFrozen, IsOpen, IsUp, capacity_of, contents_of, end_of, generation_of, goal_of, is_frozen, is_stuck}
 use Rattle.hay_physical.specs.Replicas as physical
+use Rattle.hay_compact.specs.Copying.{end_of as cells_end_of}
+use Rattle.hay_physical.specs.Runs.{HasLastAt, HasRun, IsTight, Run, Swaps, longer, loosened}
 use Rattle.hay_logical.specs.declared.fault.Unopened.{Unopened}
 use Rattle.hay_logical.specs.declared.replicas.Broken.{Broken}
 use Rattle.hay_logical.specs.declared.replicas.DiskFailed.{DiskFailed}
-use Rattle.hay_logical.specs.Fits.{At}
+use Rattle.hay_logical.specs.declared.runs.Unswapped.{Unswapped}
+use Rattle.hay_logical.specs.declared.runs.Unswapped.TheVariants.{Refused, Unsure, Unplaced}
+use Rattle.hay_logical.specs.Fits.{At, PhotoAt}
+use Rattle.hay_logical.specs.Refusals.{IsUntouched}
 
 -- ROOM
 
@@ -45,6 +50,26 @@ pub record LacksRoom {D : Type 0} (size : ℕ) (replicas : List (Copy D)) (broke
 abbrev pub KeepsDeletable : {D : Type 0} → Type 0 → (D → Files) → Copy D → Copy D → Type 0
 KeepsDeletable DiskTells files r r' = DiskTells → (place : ℕ) → physical.MayDelete files r place → physical.MayDelete files r' place
 
+-- ENDS OF COMPACTIONS
+
+-- Nothing but a compaction of the replica ended, where one stood.
+pub record LosesRun {D : Type 0} (DiskTells : Type 0) (files : D → Files) (r r' : Copy D) : Type 0 where
+  pub idle : goal_of r ≡ None → r' ≡ r
+  pub «open» : IsOpen r → IsOpen r'
+  pub up : IsUp r → IsUp r'
+  pub froze : IsFrozen r → IsFrozen r'
+  pub sup : r'.sup ≡ r.sup
+  pub disk : r'.disk ≡ r.disk
+  pub frozen : is_frozen r' ≡ is_frozen r
+  pub stuck : is_stuck r' ≡ is_stuck r
+  pub stands : DiskTells → (s : Stored) → physical.Stands files r s → physical.Stands files r' s
+  pub holds : DiskTells → (stuck : Bool) (s t : Stored) → physical.Holds files r stuck s t → physical.Holds files r' stuck s t
+  pub deletable : KeepsDeletable DiskTells files r r'
+
+-- no compaction stands
+abbrev pub AllIdle : {D : Type 0} → List (Copy D) → Type 0
+AllIdle {D} replicas = (j : ℕ) (r : Copy D) → At replicas j r → goal_of r ≡ None
+
 -- PUTS
 
 abbrev pub IsPlaceOf : {P : Type 0} → Type 0 → ℕ → Pair → Cookie → List ℕ → Place P → Type 0
@@ -57,6 +82,8 @@ pub record PutsAt {D P : Type 0} (DiskTells : Type 0) (files : D → Files) (Tel
   pub stuck : is_stuck r' ≡ is_stuck r
   pub stands : DiskTells → (s : Stored) → physical.Stands files r s →
       physical.Stands files r' (physical.with_cell s pair cookie bytes) × IsPlaceOf Tells s.end pair cookie bytes p
+  pub run : DiskTells → (s : Stored) (run : Option Run) → physical.Stands files r s → HasRun files r s run →
+      HasRun files r' (physical.with_cell s pair cookie bytes) (option_map longer run)
   pub deletable : DiskTells → physical.MayDeletePlace files r' p
 
 -- Where a put was broken off, the replicas below have the photo, that one perhaps, and those above are as they were.
@@ -69,9 +96,8 @@ pub record PutBroken {D : Type 0} (DiskTells : Type 0) (files : D → Files) (pa
 
 abbrev pub IsPutFault : {D : Type 0} → (D → ℕ) → Copy D → Copy D → ReplicaFault → Type 0
 IsPutFault faults r r' (fault.Failed printed) = Rose (faults r.disk) (faults r'.disk) × (printed ≡ faults r'.disk) × IsFrozen r'
-IsPutFault faults r r' fault.Frozen = ⊥
-IsPutFault faults r r' (fault.Full end need capacity) = ⊥
 IsPutFault faults r r' fault.NoMemory = Unit {0}
+IsPutFault faults r r' _ = ⊥
 
 pub record PutLeaves {D : Type 0} (DiskTells : Type 0) (files : D → Files) (faults : D → ℕ) (pair : Pair) (cookie : Cookie) (bytes : List ℕ) (old new : List (Copy D)) (broken : Broken) : Type 0 where
   pub before : Copy D
@@ -82,8 +108,19 @@ pub record PutLeaves {D : Type 0} (DiskTells : Type 0) (files : D → Files) (fa
       IsUp r' × (r'.sup ≡ r.sup) × (is_stuck r' ≡ is_stuck r)
       × (DiskTells → (s : Stored) → physical.Stands files r s → physical.Stands files r' (physical.with_cell s pair cookie bytes))
   pub there : PutBroken DiskTells files pair cookie bytes before after
-  pub above : (j : ℕ) (r r' : Copy D) → broken.at < j → At old j r → At new j r' → r' ≡ r
+  pub above : (j : ℕ) (r r' : Copy D) → broken.at < j → At old j r → At new j r' → LosesRun DiskTells files r r'
   pub cause : IsPutFault faults before after broken.fault
+
+-- A put that was broken off before it changed anything: each compaction goes on.
+pub record StillRuns {D : Type 0} (DiskTells : Type 0) (files : D → Files) (old new : List (Copy D)) (broken : Broken) : Type 0 where
+  pub is : IsUntouched new broken
+  pub above : (j : ℕ) (r r' : Copy D) → broken.at < j → At old j r → At new j r' → r' ≡ r
+  pub there : (r r' : Copy D) → At old broken.at r → At new broken.at r' → IsUp r' → DiskTells → (s : Stored) (run : Option Run) →
+      physical.Stands files r s → HasRun files r s run → HasRun files r' s run
+
+-- any other one ended them
+abbrev pub EndsRuns : {D : Type 0} → Type 0 → (D → Files) → List (Copy D) → List (Copy D) → Broken → Type 0
+EndsRuns DiskTells files old new broken = StillRuns DiskTells files old new broken ⊎ (AllIdle new × (IsUntouched new broken → ⊥))
 
 -- DELETES
 
@@ -91,7 +128,17 @@ abbrev pub DeletesAt : {D P : Type 0} → Type 0 → (D → Files) → Place P �
 DeletesAt DiskTells files (place.Live needle) r r' =
     IsUp r' × (r'.sup ≡ r.sup) × (is_stuck r' ≡ is_stuck r)
     × (DiskTells → (s : Stored) → physical.Stands files r s → physical.HasLive needle.at s.cells → physical.Stands files r' (physical.without_cell s needle.at))
-DeletesAt DiskTells files _ r r' = r' ≡ r
+DeletesAt DiskTells files _ r r' = LosesRun DiskTells files r r'
+
+-- A compaction that stands follows a delete, or it ended where the disk's count of faults rose.
+pub record RunFollows {D : Type 0} (DiskTells : Type 0) (files : D → Files) (faults : D → ℕ) (pair : Pair) (at : ℕ) (r r' : Copy D) : Type 0 where
+  pub run : DiskTells → (s : Stored) (run : Option Run) → physical.Stands files r s → HasRun files r s run → HasLastAt s.cells pair at →
+      HasRun files r' (physical.without_cell s at) (option_map loosened run) ⊎ (goal_of r' ≡ None)
+  pub goal : (goal_of r' ≡ goal_of r) ⊎ ((goal_of r' ≡ None) × Rose (faults r.disk) (faults r'.disk))
+
+abbrev pub FollowsAt : {D P : Type 0} → Type 0 → (D → Files) → (D → ℕ) → Pair → Place P → Copy D → Copy D → Type 0
+FollowsAt DiskTells files faults pair (place.Live needle) r r' = RunFollows DiskTells files faults pair needle.at r r'
+FollowsAt DiskTells files faults pair _ r r' = r' ≡ r
 
 pub record DeleteLeaves {D P : Type 0} (DiskTells : Type 0) (files : D → Files) (faults : D → ℕ) (row : List (Place P)) (old new : List (Copy D)) (failed : DiskFailed) : Type 0 where
   pub before : Copy D
@@ -106,7 +153,7 @@ pub record DeleteLeaves {D P : Type 0} (DiskTells : Type 0) (files : D → Files
   pub stuck : is_stuck after ≡ is_stuck before
   pub left : DiskTells → (s : Stored) → physical.Stands files before s → physical.HasLive needle.at s.cells →
       physical.Holds files after (is_stuck before) s (physical.without_cell s needle.at)
-  pub above : (j : ℕ) (r r' : Copy D) → failed.at < j → At old j r → At new j r' → r' ≡ r
+  pub above : (j : ℕ) (r r' : Copy D) → failed.at < j → At old j r → At new j r' → LosesRun DiskTells files r r'
   pub rose : Rose (faults before.disk) (faults after.disk)
   pub printed : failed.faults ≡ faults after.disk
 
@@ -115,8 +162,8 @@ pub record DeleteLeaves {D P : Type 0} (DiskTells : Type 0) (files : D → Files
 abbrev pub IsFlushFault : {D : Type 0} → (D → ℕ) → Copy D → Copy D → ReplicaFault → Type 0
 IsFlushFault faults r r' (fault.Failed printed) = Rose (faults r.disk) (faults r'.disk) × (printed ≡ faults r'.disk) × (is_stuck r' ≡ true)
 IsFlushFault faults r r' fault.Frozen = (is_stuck r ≡ true) × (r' ≡ r)
-IsFlushFault faults r r' (fault.Full end need capacity) = ⊥
 IsFlushFault faults r r' fault.NoMemory = is_stuck r' ≡ is_stuck r
+IsFlushFault faults r r' _ = ⊥
 
 -- The replica's cells all have records, or it is as it was.
 pub record FlushesAt {D : Type 0} (DiskTells : Type 0) (files : D → Files) (faults : D → ℕ) (r r' : Copy D) (result : Result ℕ ReplicaFault) : Type 0 where
@@ -126,6 +173,9 @@ pub record FlushesAt {D : Type 0} (DiskTells : Type 0) (files : D → Files) (fa
   pub flushed : DiskTells → (s : Stored) → physical.Stands files r s →
       IfOk result (λ n. (n + s.records ≡ length s.cells) × physical.Stands files r' (physical.all_recorded s))
   pub refused : DiskTells → (s : Stored) → physical.Stands files r s → OnErr result (physical.Stands files r' s)
+  pub run : DiskTells → (s : Stored) (run : Option Run) → physical.Stands files r s → HasRun files r s run →
+      OnOk result (HasRun files r' (physical.all_recorded s) run)
+  pub run_stays : DiskTells → (s : Stored) (run : Option Run) → physical.Stands files r s → HasRun files r s run → OnErr result (HasRun files r' s run)
   pub cause : IfErr result (IsFlushFault faults r r')
   pub not_stuck : (printed : ℕ) → result ≡ Err (fault.Failed printed) → is_stuck r ≡ false
   pub deletable : KeepsDeletable DiskTells files r r'
@@ -143,6 +193,7 @@ pub record FusesAt {D : Type 0} (DiskTells : Type 0) (files : D → Files) (faul
   pub same : r' ≡ record r { disk = r'.disk }
   pub stands : DiskTells → (s : Stored) → physical.Stands files r s → physical.Stands files r' s
   pub holds : DiskTells → (stuck : Bool) (s t : Stored) → physical.Holds files r stuck s t → physical.Holds files r' stuck s t
+  pub run : DiskTells → (s : Stored) (run : Option Run) → HasRun files r s run → HasRun files r' s run
   pub deletable : KeepsDeletable DiskTells files r r'
   pub same_faults : faults r'.disk ≡ faults r.disk
   pub next : IsNext (fuses r.disk) (fuses r'.disk)
@@ -159,12 +210,176 @@ pub record Stops {D : Type 0} (DiskTells : Type 0) (files : D → Files) (faults
   pub same_faults : faults r'.disk ≡ faults r.disk
   pub same_fuses : fuses r'.disk ≡ fuses r.disk
 
+-- COMPACTIONS
+
+-- The replica takes changes still, and stands for what it stood for. Of a compaction nothing is said.
+pub record GoesOn {D : Type 0} (DiskTells : Type 0) (files : D → Files) (r r' : Copy D) : Type 0 where
+  pub up : IsUp r'
+  pub sup : r'.sup ≡ r.sup
+  pub stuck : is_stuck r' ≡ is_stuck r
+  pub stands : DiskTells → (s : Stored) → physical.Stands files r s → physical.Stands files r' s
+  pub deletable : KeepsDeletable DiskTells files r r'
+
+-- the places of a replica are those of these photos
+abbrev pub PlacesAre : {P : Type 0} → Type 0 → MapRows P → ℕ → Stored → Type 0
+PlacesAre Tells rows at s = (pair : Pair) → PhotoAt Tells (last_cell s.cells pair) (place_in (row_at rows pair) at)
+
+-- the latest place of a pair, as a compaction asks for it
+abbrev pub latest_of : {P : Type 0} → Place P → Option ℕ
+latest_of (place.Live needle) = Some needle.at
+latest_of _ = None
+
+abbrev pub stepped_by : ℕ → Run → Run
+stepped_by n run = record run { left = run.left - n }
+
+abbrev pub IsBeginFault : {D : Type 0} → (D → ℕ) → Copy D → Copy D → ReplicaFault → Type 0
+IsBeginFault faults r r' (fault.Failed printed) =
+    Rose (faults r.disk) (faults r'.disk) × (printed ≡ faults r'.disk) × (goal_of r ≡ None) × (generation_of r < 65535)
+IsBeginFault faults r r' (fault.Busy goal) = (goal_of r ≡ Some goal) × (r' ≡ r)
+IsBeginFault faults r r' fault.Worn = (goal_of r ≡ None) × (65535 ≤ generation_of r) × (r' ≡ r)
+IsBeginFault faults r r' fault.NoMemory = (goal_of r ≡ None) × (generation_of r < 65535)
+IsBeginFault faults r r' _ = ⊥
+
+pub record BeginsAt {D : Type 0} (DiskTells : Type 0) (files : D → Files) (faults : D → ℕ) (r r' : Copy D) (result : Result ℕ ReplicaFault) : Type 0 where
+  pub on : GoesOn DiskTells files r r'
+  pub rest : OnOk result ((goal_of r ≡ None) × (generation_of r < 65535))
+  pub goal : IfOk result (λ goal. goal_of r' ≡ Some goal)
+  pub begun : DiskTells → (s : Stored) → physical.Stands files r s →
+      IfOk result (λ goal. (goal ≡ s.generation + 1) × HasRun files r' s (Some (record { goal = goal; left = length s.cells; tight = true })))
+  pub last : DiskTells → (s : Stored) → physical.Stands files r s → result ≡ Err fault.Worn → s.generation ≡ 65535
+  pub kept : OnErr result (goal_of r' ≡ goal_of r)
+  pub cause : IfErr result (IsBeginFault faults r r')
+
+-- damage is found only on a disk that does not tell what it holds
+abbrev pub IsStepFault : {D : Type 0} → (D → ℕ) → Copy D → Copy D → ReplicaFault → Type 0
+IsStepFault faults r r' (fault.Failed printed) = Rose (faults r.disk) (faults r'.disk) × (printed ≡ faults r'.disk) × (goal_of r' ≡ None)
+IsStepFault faults r r' (fault.Damaged at) = goal_of r' ≡ None
+IsStepFault faults r r' fault.NoMemory = goal_of r' ≡ goal_of r
+IsStepFault faults r r' _ = ⊥
+
+-- what want of memory leaves of so many cells to examine
+pub record SteppedPart {D : Type 0} (files : D → Files) (r' : Copy D) (s : Stored) (run : Run) (cells : ℕ) : Type 0 where
+  pub number : ℕ
+  pub within : number ≤ min cells run.left
+  pub has : HasRun files r' s (Some (stepped_by number run))
+
+abbrev pub StepLeaves : {D : Type 0} → (D → Files) → Copy D → Stored → Run → ℕ → ReplicaFault → Type 0
+StepLeaves files r' s run cells fault.NoMemory = SteppedPart files r' s run cells
+StepLeaves files r' s run cells (fault.Damaged at) = ⊥
+StepLeaves files r' s run cells _ = Unit {0}
+
+-- So many cells are examined, or all that are left.
+pub record StepsAt {D P : Type 0} (DiskTells : Type 0) (files : D → Files) (faults : D → ℕ) (Tells : Type 0) (rows : MapRows P) (at cells : ℕ) (r r' : Copy D) (result : Result ℕ ReplicaFault) : Type 0 where
+  pub on : GoesOn DiskTells files r r'
+  pub goal : OnOk result (goal_of r' ≡ goal_of r)
+  pub stepped : DiskTells → (s : Stored) (run : Run) → physical.Stands files r s → HasRun files r s (Some run) → PlacesAre Tells rows at s →
+      IfOk result (λ n. (n ≡ min cells run.left) × HasRun files r' s (Some (stepped_by n run)))
+  pub refused : DiskTells → (s : Stored) (run : Run) → physical.Stands files r s → HasRun files r s (Some run) → PlacesAre Tells rows at s →
+      IfErr result (StepLeaves files r' s run cells)
+  pub cause : IfErr result (IsStepFault faults r r')
+
+-- one cell is examined, if one is left
+pub record ExaminesAt {D P : Type 0} (DiskTells : Type 0) (files : D → Files) (faults : D → ℕ) (Tells : Type 0) (rows : MapRows P) (at : ℕ) (r r' : Copy D) (result : Result Bool ReplicaFault) : Type 0 where
+  pub on : GoesOn DiskTells files r r'
+  pub goal : OnOk result (goal_of r' ≡ goal_of r)
+  pub examined : DiskTells → (s : Stored) (run : Run) → physical.Stands files r s → HasRun files r s (Some run) → PlacesAre Tells rows at s →
+      IfOk result (λ more. (more ≡ true → (1 ≤ run.left) × HasRun files r' s (Some (stepped_by 1 run))) × (more ≡ false → (run.left ≡ 0) × HasRun files r' s (Some run)))
+  pub refused : DiskTells → (s : Stored) (run : Run) → physical.Stands files r s → HasRun files r s (Some run) → PlacesAre Tells rows at s →
+      IfErr result (StepLeaves files r' s run 0)
+  pub cause : IfErr result (IsStepFault faults r r')
+
+-- SWAPS
+
+-- What a call finds that ends a compaction: none, one, or one whose cells are all examined.
+pub data Start : Type 0 where
+  Fresh Going Examined : Start
+
+abbrev pub StartsRun : {D : Type 0} → (D → Files) → Start → Copy D → Stored → Run → Type 0
+StartsRun files Fresh r s run = HasRun files r s None × (run ≡ record { goal = s.generation + 1; left = length s.cells; tight = true })
+StartsRun files Going r s run = HasRun files r s (Some run)
+StartsRun files Examined r s run = HasRun files r s (Some run) × (run.left ≡ 0)
+
+-- a fresh one could begin
+abbrev pub WasAtRest : {D : Type 0} → Start → Copy D → Type 0
+WasAtRest Fresh r = (goal_of r ≡ None) × (generation_of r < 65535)
+WasAtRest _ r = Unit {0}
+
+-- The replica takes changes, or its volume has to be frozen. No compaction stands.
+abbrev pub IsLeftBy : {D : Type 0} → (D → ℕ) → Start → Copy D → Copy D → Unswapped → Type 0
+IsLeftBy faults start r r' (Refused (fault.Failed printed)) =
+    IsUp r' × (goal_of r' ≡ None) × WasAtRest start r × Rose (faults r.disk) (faults r'.disk) × (printed ≡ faults r'.disk)
+IsLeftBy faults start r r' (Refused (fault.Damaged at)) = IsUp r' × (goal_of r' ≡ None) × WasAtRest start r
+IsLeftBy faults start r r' (Refused fault.NoMemory) = IsUp r' × (goal_of r' ≡ None) × WasAtRest start r
+IsLeftBy faults start r r' (Refused (fault.Busy goal)) = (start ≡ Fresh) × (goal_of r ≡ Some goal) × (r' ≡ r)
+IsLeftBy faults start r r' (Refused fault.Worn) = (start ≡ Fresh) × (goal_of r ≡ None) × (65535 ≤ generation_of r) × (r' ≡ r)
+IsLeftBy faults start r r' (Refused _) = ⊥
+IsLeftBy faults start r r' (Unsure printed) =
+    IsFrozen r' × (goal_of r' ≡ None) × WasAtRest start r × Rose (faults r.disk) (faults r'.disk) × (printed ≡ faults r'.disk)
+IsLeftBy faults start r r' Unplaced = IsFrozen r' × (goal_of r' ≡ None) × WasAtRest start r
+
+-- A swap was made, and these are the cells behind it.
+pub record SwapsTo (s t : Stored) (run : Run) : Type 0 where
+  pub swaps : Swaps s t
+  pub tight : IsTight run s t
+  pub ends : t.end ≡ cells_end_of t.cells
+
+pub record Unpublished {D : Type 0} (files : D → Files) (r' : Copy D) (s : Stored) (run : Run) : Type 0 where
+  pub stored : Stored
+  pub to : SwapsTo s stored run
+  pub loose : is_stuck r' ≡ false
+  pub holds : physical.Holds files r' false stored stored
+
+abbrev pub HoldsUnswapped : {D : Type 0} → (D → Files) → Copy D → Copy D → Stored → Run → Unswapped → Type 0
+HoldsUnswapped files r r' s run (Refused (fault.Damaged at)) = ⊥
+HoldsUnswapped files r r' s run (Refused fault.Worn) = s.generation ≡ 65535
+HoldsUnswapped files r r' s run (Refused _) = physical.Stands files r' s × (is_stuck r' ≡ is_stuck r)
+HoldsUnswapped files r r' s run (Unsure printed) = (t : Stored) × Swaps s t × physical.Holds files r' (is_stuck r) s t
+HoldsUnswapped files r r' s run Unplaced = Unpublished files r' s run
+
+-- A replica whose current files are those of its compaction.
+pub record Swapped {D P : Type 0} (files : D → Files) (Tells : Type 0) (rows' : MapRows P) (at : ℕ) (r' : Copy D) (s : Stored) (run : Run) (generation : ℕ) : Type 0 where
+  pub stored : Stored
+  pub to : SwapsTo s stored run
+  pub stands : physical.Stands files r' stored
+  pub places : PlacesAre Tells rows' at stored
+  pub generation_is : generation ≡ stored.generation
+
+-- The compaction ended with a swap of the files, or nothing of the replica's photos has changed.
+pub record SwapsAt {D P : Type 0} (DiskTells : Type 0) (files : D → Files) (faults : D → ℕ) (Tells : Type 0) (start : Start) (rows rows' : MapRows P) (at : ℕ) (r r' : Copy D) (result : Result ℕ Unswapped) : Type 0 where
+  pub «open» : IsOpen r'
+  pub sup : r'.sup ≡ r.sup
+  pub up : OnOk result (IsUp r' × (is_stuck r' ≡ false) × (goal_of r' ≡ None) × WasAtRest start r)
+  pub left : IfErr result (IsLeftBy faults start r r')
+  pub swapped : DiskTells → (s : Stored) (run : Run) → physical.Stands files r s → StartsRun files start r s run → PlacesAre Tells rows at s →
+      IfOk result (Swapped files Tells rows' at r' s run)
+  pub refused : DiskTells → (s : Stored) (run : Run) → physical.Stands files r s → StartsRun files start r s run → PlacesAre Tells rows at s →
+      IfErr result (HoldsUnswapped files r r' s run)
+  pub deletable : DiskTells → ((pair : Pair) → physical.MayDeletePlace files r (place_in (row_at rows pair) at)) → IsUp r' →
+      (pair : Pair) → physical.MayDeletePlace files r' (place_in (row_at rows' pair) at)
+
+-- the places of the other replicas stay, and of all where none were published
+pub record KeepsPlaces {P : Type 0} (rows rows' : MapRows P) (at : ℕ) (result : Result ℕ Unswapped) : Type 0 where
+  pub width : rows'.replicas ≡ rows.replicas
+  pub others : (pair : Pair) (i : ℕ) → (i ≡ at → ⊥) → place_in (row_at rows' pair) i ≡ place_in (row_at rows pair) i
+  pub same : OnErr result ((pair : Pair) → row_at rows' pair ≡ row_at rows pair)
+
+-- A replica was called so, and where it takes no changes then, the compactions of the others ended.
+pub record SwapsOne {D : Type 0} (DiskTells : Type 0) (files : D → Files) (at : ℕ) (old new : List (Copy D)) : Type 0 where
+  pub before : Copy D
+  pub after : Copy D
+  pub was : At old at before
+  pub is : At new at after
+  pub count : length new ≡ length old
+  pub others : (j : ℕ) (r r' : Copy D) → (j ≡ at → ⊥) → At old j r → At new j r' → LosesRun DiskTells files r r' × (IsUp after → r' ≡ r)
+  pub idle : IsFrozen after → AllIdle new
+
 -- OPENINGS
 
 pub record OpensAt {D P : Type 0} (DiskTells : Type 0) (files : D → Files) (Tells : Type 0) (rows : MapRows P) (j : ℕ) (r r' : Copy D) : Type 0 where
   pub up : IsUp r'
   pub sup : r'.sup ≡ r.sup
   pub loose : is_stuck r' ≡ false
+  pub alone : goal_of r' ≡ None
   pub opened : DiskTells → (s : Stored) → OpensAs r.sup (contents_of files r.disk) s → physical.Stands files r' s
       × ((pair : Pair) → PlaceOf Tells (last_cell s.cells pair) (place_in (row_at rows pair) j))
   pub reopened : DiskTells → (stuck : Bool) (s t : Stored) → physical.Holds files r stuck s t → (found : Stored)

@@ -25,6 +25,22 @@ pub enum LogicalFault {
         machine: u32,
         faults: u64,
     },
+    /// A compaction of the replica on this machine stands, which makes this generation.
+    Busy {
+        machine: u32,
+        generation: u64,
+    },
+    /// The generation of the replica on this machine is the last one.
+    Worn {
+        machine: u32,
+    },
+    /// No compaction of the replica stands.
+    Idle,
+    /// On this machine no cell stands at this place of the volume file.
+    Damaged {
+        machine: u32,
+        at: u64,
+    },
     /// Memory was wanting.
     NoMemory,
 }

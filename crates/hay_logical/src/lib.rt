@@ -5,6 +5,10 @@
 //! machine: it takes no more changes, and shows what stood before. Once it was stopped and is opened again, each replica
 //! has the change or lacks it, and the opening tells which. What it stands for is said in the words of `hay_legal`.
 //!
+//! A compaction of a replica goes on beside the changes, a few cells at a time, or all at once. What freezes the volume
+//! ends the compactions of all replicas: a change that was broken off, or a swap of a replica's files of which no one knows
+//! whether it was made, or whose photos were not given their new places.
+//!
 //! A volume also stands for what is known where a disk tells nothing of what it holds, as far as counts go.
 #![tactic(auto)]
 
@@ -13,6 +17,7 @@ mod logical;
 mod notes;
 mod refusals;
 mod replicas;
+mod runs;
 mod unsure;
 
 pub use fault::{LogicalFault, Unopened};

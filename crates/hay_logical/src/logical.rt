@@ -1,5 +1,5 @@
 //! A logical volume.
-ghost use Rattle.std.specs.Prelude.{◌≡◌, ◌≢◌, ◌⊎◌, ◌≤◌, ◌<◌, ◌+◌, ◌++◌, ◌∷◌, [], ℕ, List, Option, Some, None, true, false, length, map, Ok, Err, IfOk, IfErr, IfSome, IfNone, OnOk, OnErr};
+ghost use Rattle.std.specs.Prelude.{◌≡◌, ◌≢◌, ◌⊎◌, ◌≤◌, ◌<◌, ◌+◌, ◌++◌, ◌∷◌, [], ℕ, List, Option, Some, None, true, false, length, map, option_map, Ok, Err, IfOk, IfErr, IfSome, IfNone, OnOk, OnErr};
 ghost use Rattle.hay_disk.specs.Counts.{IsNext, Rose};
 ghost use Rattle.hay_disk.specs.Disk.{MayLeave};
 ghost use Rattle.hay_legal.specs.declared.known.VolumeKnown.{VolumeKnown};
@@ -9,20 +9,23 @@ ghost use Rattle.hay_map.specs.Places.{PlaceMeans, place_in};
 ghost use Rattle.hay_map.specs.Rows.{row_at};
 ghost use Rattle.hay_open.specs.declared.fault.OpenFault.TheVariants as open_fault;
 ghost use Rattle.hay_physical.specs.declared.state.Phase.TheVariants.{Closed};
-ghost use Rattle.hay_physical.specs.Copies.{Copy, contents_of};
+ghost use Rattle.hay_physical.specs.Copies.{Copy, contents_of, goal_of};
 ghost use Rattle.hay_physical.specs.Copies as copies;
 ghost use Rattle.hay_logical.specs.Fits.{At, super_of};
 ghost use Rattle.hay_logical.specs.Steps.{IsRefusedAt, KeepsDisk, RoomFor};
 ghost use Rattle.hay_logical.specs.Volumes.{HasAll, IsClosed, IsOfSettings, IsOpen, IsSame, KeepsCounts};
 ghost use Rattle.hay_logical.specs.Stands.{Holds, IsFirst, IsIdle, Stands, Stopped};
-ghost use Rattle.hay_logical.specs.Answers.{DeleteRefused, FlushRefused, IsDeleteFault, IsDeleted, IsFlushFault, IsFlushed, IsPut, IsPutFault, IsReopened, IsRoomFault, PutRefused, room_answer};
+ghost use Rattle.hay_logical.specs.Answers.{BeginRefused, CompactRefused, DeleteRefused, FinishRefused, FlushRefused, IsBeginFault, IsBegun, IsCompactFault, IsCompacted, IsDeleteFault, IsDeleted, IsFinished, IsFlushFault, IsFlushed, IsPut, IsPutFault, IsReopened, IsRoomFault, IsRunFault, IsStepped, PutRefused, StepRefused, room_answer};
 
 use crate::fault::{LogicalFault, Unopened};
 use crate::notes::{machine_of, notes_of};
-use crate::refusals::{flush_refusal, full_at, has_live, is_untouched, put_refusal};
+use crate::refusals::{
+    flush_refusal, full_at, has_live, is_untouched, put_refusal, run_refusal, unfinished_by,
+};
 use crate::replicas::{
     delete_each, ends_of, flush_at, fuse_at, open_each, put_each, room_in, stop_each,
 };
+use crate::runs::{begin_at, compact_at, finish_at, step_at};
 use crate::unsure::{Change, Unsure};
 use hay_base::{Listed, NoMemory};
 use hay_core::CoreTag;
@@ -257,11 +260,12 @@ impl<D: Disk> Logical<D> {
     }
 
     /// Deletes a pair's photo from each replica that has it, in order, and then from the rows, and answers the position of
-    /// the change. It takes no memory. `Failed` freezes the volume.
+    /// the change. It takes no memory. `Failed` freezes the volume. A compaction whose disk fails as it follows ends, and
+    /// that is no refusal.
     pub fn delete(&mut self, tag: CoreTag, pair: Pair) -> Result<u64, LogicalFault>
         requires open { IsOpen self.old }
         ensures deleted { D.Tells → (k : VolumeKnown) → Stands D.files D.Piece.Tells self.old k →
-            IfOk result (λ position. IsDeleted D.files D.Piece.Tells k tag pair position self.new) }
+            IfOk result (λ position. IsDeleted D.files D.fault_count D.Piece.Tells k tag pair position self.old self.new) }
         ensures refused { D.Tells → (k : VolumeKnown) → Stands D.files D.Piece.Tells self.old k →
             IfErr result (DeleteRefused D.files D.Piece.Tells k tag pair self.old self.new) }
         ensures causes { IfErr result (IsDeleteFault D.fault_count self.old.settings self.old.number self.old.replicas self.new.replicas) }
@@ -279,7 +283,7 @@ impl<D: Disk> Logical<D> {
         let Some(position) = self.front.checked_add(1) else {
             return Err(LogicalFault::NoMemory);
         };
-        match delete_each(self.replicas.as_mut_slice(), &row) {
+        match delete_each(self.replicas.as_mut_slice(), pair, &row) {
             Ok(()) => {
                 self.rows.del(pair);
                 self.front = position;
@@ -322,6 +326,141 @@ impl<D: Disk> Logical<D> {
             Ok(count) => Ok(count),
             Err(fault) => Err(flush_refusal(machine, fault)),
         }
+    }
+
+    /// Begins a compaction of a replica, and answers the generation that it makes. `Busy` comes where one stands, and
+    /// `Worn` where the replica's generation is the last one. A refusal leaves what stood.
+    pub fn begin(&mut self, alloc: Global, replica: u32) -> Result<u64, LogicalFault>
+        requires within { replica < self.old.settings.replicas }
+        requires open { IsOpen self.old }
+        ensures begun { D.Tells → (k : VolumeKnown) → Stands D.files D.Piece.Tells self.old k →
+            IfOk result (λ generation. IsBegun D.files D.Piece.Tells k replica generation self.new) }
+        ensures refused { D.Tells → (k : VolumeKnown) → Stands D.files D.Piece.Tells self.old k →
+            IfErr result (BeginRefused D.files D.Piece.Tells k replica self.old self.new) }
+        ensures causes { IfErr result (IsBeginFault D.fault_count self.old.settings self.old.number self.old.replicas self.new.replicas) }
+        ensures open { IsOpen self.new }
+        ensures counts { KeepsCounts D.fault_count D.fuse_count self.old.replicas self.new.replicas }
+        ensures same { IsSame self.old self.new }
+    {
+        if let Some(machine) = self.frozen {
+            return Err(LogicalFault::ReadOnly { machine });
+        }
+        let machine = machine_of(&self.settings, self.number, replica);
+        match begin_at(self.replicas.as_mut_slice(), replica as usize, alloc) {
+            Ok(generation) => Ok(generation),
+            Err(fault) => Err(run_refusal(machine, fault)),
+        }
+    }
+
+    /// Examines so many cells of a replica for its compaction, or all that are left, and answers how many these were.
+    /// `Idle` comes where none stands. `Failed` and `Damaged` end it, and `NoMemory` leaves it behind some of the cells.
+    pub fn step(&mut self, replica: u32, cells: u32) -> Result<u64, LogicalFault>
+        requires within { replica < self.old.settings.replicas }
+        requires open { IsOpen self.old }
+        ensures stepped { D.Tells → (k : VolumeKnown) → Stands D.files D.Piece.Tells self.old k →
+            IfOk result (λ number. IsStepped D.files D.Piece.Tells k replica cells number self.new) }
+        ensures refused { D.Tells → (k : VolumeKnown) → Stands D.files D.Piece.Tells self.old k →
+            IfErr result (StepRefused D.files D.Piece.Tells k replica cells self.old self.new) }
+        ensures causes { IfErr result (IsRunFault D.fault_count self.old.settings self.old.number self.old.replicas self.new.replicas) }
+        ensures open { IsOpen self.new }
+        ensures counts { KeepsCounts D.fault_count D.fuse_count self.old.replicas self.new.replicas }
+        ensures same { IsSame self.old self.new }
+    {
+        if let Some(machine) = self.frozen {
+            return Err(LogicalFault::ReadOnly { machine });
+        }
+        if self.standing(replica).is_none() {
+            return Err(LogicalFault::Idle);
+        }
+        let machine = machine_of(&self.settings, self.number, replica);
+        match step_at(
+            self.replicas.as_mut_slice(),
+            replica as usize,
+            &self.rows,
+            cells as u64,
+        ) {
+            Ok(number) => Ok(number),
+            Err(fault) => Err(run_refusal(machine, fault)),
+        }
+    }
+
+    /// Examines what is left for a replica's compaction, makes its files the current ones, and then changes the rows.
+    /// Answers the new generation. Any refusal but `ReadOnly` and `Idle` ends the compaction.
+    ///
+    /// `Failed` freezes the volume where the replica may stand before the swap or behind it, and so does `NoMemory`
+    /// behind the swap.
+    pub fn finish(&mut self, replica: u32) -> Result<u64, LogicalFault>
+        requires within { replica < self.old.settings.replicas }
+        requires open { IsOpen self.old }
+        ensures finished { D.Tells → (k : VolumeKnown) → Stands D.files D.Piece.Tells self.old k →
+            IfOk result (λ generation. IsFinished D.files D.Piece.Tells k replica generation self.new) }
+        ensures refused { D.Tells → (k : VolumeKnown) → Stands D.files D.Piece.Tells self.old k →
+            IfErr result (FinishRefused D.files D.Piece.Tells k replica self.old self.new) }
+        ensures causes { IfErr result (IsRunFault D.fault_count self.old.settings self.old.number self.old.replicas self.new.replicas) }
+        ensures open { IsOpen self.new }
+        ensures counts { KeepsCounts D.fault_count D.fuse_count self.old.replicas self.new.replicas }
+        ensures same { IsSame self.old self.new }
+    {
+        if let Some(machine) = self.frozen {
+            return Err(LogicalFault::ReadOnly { machine });
+        }
+        if self.standing(replica).is_none() {
+            return Err(LogicalFault::Idle);
+        }
+        match finish_at(
+            self.replicas.as_mut_slice(),
+            replica as usize,
+            &mut self.rows,
+        ) {
+            Ok(generation) => Ok(generation),
+            Err(unswapped) => {
+                let unfinished = unfinished_by(&self.settings, self.number, replica, unswapped);
+                self.frozen = unfinished.frozen;
+                Err(unfinished.fault)
+            }
+        }
+    }
+
+    /// Begins a compaction of a replica and finishes it: its files have just the photos that stand then. A refusal
+    /// leaves what one of `begin` or `finish` does.
+    pub fn compact(&mut self, alloc: Global, replica: u32) -> Result<u64, LogicalFault>
+        requires within { replica < self.old.settings.replicas }
+        requires open { IsOpen self.old }
+        ensures compacted { D.Tells → (k : VolumeKnown) → Stands D.files D.Piece.Tells self.old k →
+            IfOk result (λ generation. IsCompacted D.files D.Piece.Tells k replica generation self.new) }
+        ensures refused { D.Tells → (k : VolumeKnown) → Stands D.files D.Piece.Tells self.old k →
+            IfErr result (CompactRefused D.files D.Piece.Tells k replica self.old self.new) }
+        ensures causes { IfErr result (IsCompactFault D.fault_count self.old.settings self.old.number self.old.replicas self.new.replicas) }
+        ensures open { IsOpen self.new }
+        ensures counts { KeepsCounts D.fault_count D.fuse_count self.old.replicas self.new.replicas }
+        ensures same { IsSame self.old self.new }
+    {
+        if let Some(machine) = self.frozen {
+            return Err(LogicalFault::ReadOnly { machine });
+        }
+        match compact_at(
+            self.replicas.as_mut_slice(),
+            replica as usize,
+            &mut self.rows,
+            alloc,
+        ) {
+            Ok(generation) => Ok(generation),
+            Err(unswapped) => {
+                let unfinished = unfinished_by(&self.settings, self.number, replica, unswapped);
+                self.frozen = unfinished.frozen;
+                Err(unfinished.fault)
+            }
+        }
+    }
+
+    /// The generation that a compaction of a replica makes, if one stands.
+    pub fn standing(&self, replica: u32) -> Option<u64>
+        requires { replica < length self.now.replicas }
+        ensures is { (r : Copy D) → At self.now.replicas replica r → result ≡ goal_of r }
+        ensures known { D.Tells → (k : VolumeKnown) → Stands D.files D.Piece.Tells self.now k →
+            result ≡ option_map (λ run. run.goal) (replica_at k replica).run }
+    {
+        self.replicas.as_slice()[replica as usize].standing()
     }
 
     /// The machine by which the volume is frozen.

@@ -4,12 +4,13 @@ ghost use Rattle.hay_map.specs.Places.{place_in};
 ghost use Rattle.hay_physical.specs.Copies.{Copy, is_frozen};
 ghost use Rattle.hay_logical.specs.Fits.{At};
 ghost use Rattle.hay_logical.specs.Notes.{is_live};
-ghost use Rattle.hay_logical.specs.Refusals.{IsRefusal, IsUntouched, flush_answer};
+ghost use Rattle.hay_logical.specs.Refusals.{IsRefusal, IsUntouched, flush_answer, run_answer, unfinished_by};
 ghost use Rattle.hay_logical.specs.Volumes.{IsOfSettings};
 
 use crate::fault::LogicalFault;
 use crate::notes::machine_of;
 use crate::replicas::Broken;
+use crate::runs::Unswapped;
 use hay_disk::{Disk, Piece};
 use hay_map::{Place, Row};
 use hay_needle::Settings;
@@ -19,6 +20,13 @@ use hay_physical::{Replica, ReplicaFault};
 #[derive(Clone, Copy, Debug, PartialEq, Eq)]
 pub(crate) struct Refusal {
     pub machine: u32,
+    pub fault: LogicalFault,
+}
+
+/// Why a compaction did not end with a swap, and the machine that freezes the volume then, if one does.
+#[derive(Clone, Copy, Debug, PartialEq, Eq)]
+pub(crate) struct Unfinished {
+    pub frozen: Option<u32>,
     pub fault: LogicalFault,
 }
 
@@ -100,6 +108,57 @@ pub(crate) fn flush_refusal(machine: u32, fault: ReplicaFault) -> LogicalFault
     match fault {
         ReplicaFault::Failed { faults } => LogicalFault::Failed { machine, faults },
         ReplicaFault::NoMemory => LogicalFault::NoMemory,
+        ReplicaFault::Frozen
+        | ReplicaFault::Full { .. }
+        | ReplicaFault::Busy { .. }
+        | ReplicaFault::Ended { .. }
+        | ReplicaFault::Worn
+        | ReplicaFault::Damaged { .. } => LogicalFault::ReadOnly { machine },
+    }
+}
+
+/// What a beginning or a step of a compaction is answered that the replica on this machine refused.
+pub(crate) fn run_refusal(machine: u32, fault: ReplicaFault) -> LogicalFault
+    ensures { result ≡ run_answer machine fault }
+{
+    match fault {
+        ReplicaFault::Failed { faults } => LogicalFault::Failed { machine, faults },
+        ReplicaFault::Busy { generation } => LogicalFault::Busy {
+            machine,
+            generation,
+        },
+        ReplicaFault::Ended { .. } => LogicalFault::Idle,
+        ReplicaFault::Worn => LogicalFault::Worn { machine },
+        ReplicaFault::Damaged { at } => LogicalFault::Damaged { machine, at },
+        ReplicaFault::NoMemory => LogicalFault::NoMemory,
         ReplicaFault::Frozen | ReplicaFault::Full { .. } => LogicalFault::ReadOnly { machine },
+    }
+}
+
+/// What a compaction is answered that no swap ended.
+pub(crate) fn unfinished_by(
+    settings: &Settings,
+    number: u32,
+    replica: u32,
+    unswapped: Unswapped,
+) -> Unfinished
+    requires of { IsOfSettings settings.now number }
+    requires within { replica < 4 }
+    ensures { result ≡ unfinished_by settings.now number replica unswapped }
+{
+    let machine = machine_of(settings, number, replica);
+    match unswapped {
+        Unswapped::Refused(fault) => Unfinished {
+            frozen: None,
+            fault: run_refusal(machine, fault),
+        },
+        Unswapped::Unsure { faults } => Unfinished {
+            frozen: Some(machine),
+            fault: LogicalFault::Failed { machine, faults },
+        },
+        Unswapped::Unplaced => Unfinished {
+            frozen: Some(machine_of(settings, number, 0)),
+            fault: LogicalFault::NoMemory,
+        },
     }
 }

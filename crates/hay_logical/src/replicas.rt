@@ -1,5 +1,5 @@
 //! Calls that go over the replicas in order.
-ghost use Rattle.std.specs.Prelude.{◌≡◌, ◌≤◌, ◌<◌, ◌+◌, ℕ, false, length, replicate, slice_index, IfOk, IfErr, OnOk, OnErr, slice_set};
+ghost use Rattle.std.specs.Prelude.{◌≡◌, ◌≤◌, ◌<◌, ◌+◌, ℕ, Option, false, length, replicate, slice_index, IfOk, IfErr, OnOk, OnErr, slice_set};
 ghost use Rattle.hay_needle.specs.declared.needle.Pair.{Pair};
 ghost use Rattle.hay_map.specs.Places.{place_in};
 ghost use Rattle.hay_map.specs.Rows.{row_at};
@@ -8,11 +8,15 @@ ghost use Rattle.hay_map.specs.declared.place.Place.TheVariants as place;
 ghost use Rattle.hay_physical.specs.Copies.{Copy, IsOpen, IsUp, end_of, is_frozen};
 ghost use Rattle.hay_physical.specs.declared.state.Phase.TheVariants.{Closed};
 ghost use Rattle.hay_physical.specs.Replicas as physical;
+ghost use Rattle.hay_physical.specs.Runs.{HasRun, Run};
+ghost use Rattle.hay_open.specs.Stored.{Stored};
 ghost use Rattle.hay_logical.specs.Fits.{At};
 ghost use Rattle.hay_logical.specs.Volumes.{CanDelete, KeepsCounts};
-ghost use Rattle.hay_logical.specs.Steps.{CallsOne, DeleteLeaves, DeletesAt, FlushesAt, FusesAt, IsOpenFault, IsRefusedAt, KeepsDeletable, KeepsDisk, LacksRoom, LeftAt, OpensAt, PutLeaves, PutsAt, RoomFor, Stops};
+ghost use Rattle.hay_logical.specs.Steps.{AllIdle, CallsOne, DeleteLeaves, DeletesAt, EndsRuns, FlushesAt, FollowsAt, FusesAt, IsOpenFault, IsRefusedAt, KeepsDeletable, KeepsDisk, LacksRoom, LeftAt, OpensAt, PutLeaves, PutsAt, RoomFor, Stops};
 
 use crate::fault::Unopened;
+use crate::refusals::is_untouched;
+use crate::runs::drop_runs;
 use hay_base::NoMemory;
 use hay_disk::Disk;
 use hay_map::{MapView, Place, Row};
@@ -69,7 +73,8 @@ pub(crate) fn room_in<D: Disk>(replicas: &[Replica<D>], size: u32) -> Result<(),
     Ok(())
 }
 
-/// Stores a photo on each replica in order, and answers its places.
+/// Stores a photo on each replica in order, and answers its places. A put that is broken off ends each compaction, unless
+/// nothing was changed.
 pub(crate) fn put_each<D: Disk>(
     replicas: &mut [Replica<D>],
     alloc: Global,
@@ -87,6 +92,40 @@ pub(crate) fn put_each<D: Disk>(
         PutsAt D.Tells D.files D.Piece.Tells pair cookie bytes.now r r' (place_in row j)) }
     ensures deletable { (j : ℕ) (r r' : Copy D) → At replicas.old j r → At replicas.new j r' → KeepsDeletable D.Tells D.files r r' }
     ensures broken { IfErr result (PutLeaves D.Tells D.files D.fault_count pair cookie bytes.now replicas.old replicas.new) }
+    ensures runs { IfErr result (EndsRuns D.Tells D.files replicas.old replicas.new) }
+{
+    match put_in_order(replicas, alloc, pair, cookie, bytes) {
+        Ok(row) => Ok(row),
+        Err(broken) => {
+            if !is_untouched(replicas, &broken) {
+                drop_runs(replicas);
+            }
+            Err(broken)
+        }
+    }
+}
+
+// Stores a photo on each replica in order, and answers its places.
+fn put_in_order<D: Disk>(
+    replicas: &mut [Replica<D>],
+    alloc: Global,
+    pair: Pair,
+    cookie: Cookie,
+    bytes: &[u8],
+) -> Result<Row<D::Piece>, Broken>
+    requires most { length replicas.old ≤ 4 }
+    requires size { length bytes.now ≤ 1048576 }
+    requires up { (j : ℕ) (r : Copy D) → At replicas.old j r → IsUp r }
+    requires room { (j : ℕ) (r : Copy D) → At replicas.old j r → RoomFor (length bytes.now) r }
+    ensures counts { KeepsCounts D.fault_count D.fuse_count replicas.old replicas.new }
+    ensures places { IfOk result (λ row. length row ≡ length replicas.old) }
+    ensures put { IfOk result (λ row. (j : ℕ) (r r' : Copy D) → At replicas.old j r → At replicas.new j r' →
+        PutsAt D.Tells D.files D.Piece.Tells pair cookie bytes.now r r' (place_in row j)) }
+    ensures deletable { (j : ℕ) (r r' : Copy D) → At replicas.old j r → At replicas.new j r' → KeepsDeletable D.Tells D.files r r' }
+    ensures broken { IfErr result (PutLeaves D.Tells D.files D.fault_count pair cookie bytes.now replicas.old replicas.new) }
+    ensures others { IfErr result (λ broken. (j : ℕ) (r r' : Copy D) → broken.at < j → At replicas.old j r → At replicas.new j r' → r' ≡ r) }
+    ensures run { IfErr result (λ broken. (r r' : Copy D) → At replicas.old broken.at r → At replicas.new broken.at r' → IsUp r' → D.Tells → (s : Stored) (run : Option Run) →
+        physical.Stands D.files r s → HasRun D.files r s run → HasRun D.files r' s run) }
 {
     let mut row = Row::new();
     for (j, replica) in replicas.iter_mut().enumerate() {
@@ -103,9 +142,11 @@ pub(crate) fn put_each<D: Disk>(
     Ok(row)
 }
 
-/// Deletes the photo on each replica where the row has it, in order.
+/// Deletes the photo of a pair on each replica where the row has it, in order. One that is broken off ends each
+/// compaction.
 pub(crate) fn delete_each<D: Disk>(
     replicas: &mut [Replica<D>],
+    pair: Pair,
     row: &Row<D::Piece>,
 ) -> Result<(), DiskFailed>
     requires most { length replicas.old ≤ 4 }
@@ -115,12 +156,42 @@ pub(crate) fn delete_each<D: Disk>(
     ensures counts { KeepsCounts D.fault_count D.fuse_count replicas.old replicas.new }
     ensures deleted { OnOk result ((j : ℕ) (r r' : Copy D) → At replicas.old j r → At replicas.new j r' →
         DeletesAt D.Tells D.files (place_in row.now j) r r') }
+    ensures follow { OnOk result ((j : ℕ) (r r' : Copy D) → At replicas.old j r → At replicas.new j r' →
+        FollowsAt D.Tells D.files D.fault_count pair (place_in row.now j) r r') }
+    ensures deletable { (j : ℕ) (r r' : Copy D) → At replicas.old j r → At replicas.new j r' → KeepsDeletable D.Tells D.files r r' }
+    ensures broken { IfErr result (DeleteLeaves D.Tells D.files D.fault_count row.now replicas.old replicas.new) }
+    ensures runs { OnErr result (AllIdle replicas.new) }
+{
+    match delete_in_order(replicas, pair, row) {
+        Ok(()) => Ok(()),
+        Err(failed) => {
+            drop_runs(replicas);
+            Err(failed)
+        }
+    }
+}
+
+// Deletes the photo of a pair on each replica where the row has it, in order.
+fn delete_in_order<D: Disk>(
+    replicas: &mut [Replica<D>],
+    pair: Pair,
+    row: &Row<D::Piece>,
+) -> Result<(), DiskFailed>
+    requires most { length replicas.old ≤ 4 }
+    requires places { length row.now ≡ length replicas.old }
+    requires up { (j : ℕ) (r : Copy D) → At replicas.old j r → IsUp r }
+    requires live { D.Tells → (j : ℕ) (r : Copy D) → At replicas.old j r → (needle : SealedNeedle) → place_in row.now j ≡ place.Live needle → physical.MayDelete D.files r needle.at }
+    ensures counts { KeepsCounts D.fault_count D.fuse_count replicas.old replicas.new }
+    ensures deleted { OnOk result ((j : ℕ) (r r' : Copy D) → At replicas.old j r → At replicas.new j r' →
+        DeletesAt D.Tells D.files (place_in row.now j) r r') }
+    ensures follow { OnOk result ((j : ℕ) (r r' : Copy D) → At replicas.old j r → At replicas.new j r' →
+        FollowsAt D.Tells D.files D.fault_count pair (place_in row.now j) r r') }
     ensures deletable { (j : ℕ) (r r' : Copy D) → At replicas.old j r → At replicas.new j r' → KeepsDeletable D.Tells D.files r r' }
     ensures broken { IfErr result (DeleteLeaves D.Tells D.files D.fault_count row.now replicas.old replicas.new) }
 {
     for (j, replica) in replicas.iter_mut().enumerate() {
         if let Place::Live(needle) = row.place(j) {
-            match replica.delete(needle.at()) {
+            match replica.delete(pair, needle.at()) {
                 Ok(()) => {}
                 Err(_) => {
                     return Err(DiskFailed {

@@ -22,15 +22,15 @@ use Rattle.hay_physical.proofs.CellRows.{length-with_flag, live_place, not_flagg
 use Rattle.hay_physical.proofs.Standing.{flagged_rows, index_not_volume, same_records, volume_not_head}
 
 -- the records of an image of the index
-record Records (sup : Super) (image : List ℕ) (s : Stored) (stuck : Bool) : Type 0 where
-  records : ℕ
-  end : ℕ
-  fewer : s.records ≤ records
-  lags : records ≤ length s.cells
-  same : stuck ≡ false → records ≡ s.records
-  is : IsIndex (super_bytes (index_super sup s.generation)) image (take records (map cell_record s.cells)) end
+pub record Records (sup : Super) (image : List ℕ) (s : Stored) (stuck : Bool) : Type 0 where
+  pub records : ℕ
+  pub end : ℕ
+  pub fewer : s.records ≤ records
+  pub lags : records ≤ length s.cells
+  pub same : stuck ≡ false → records ≡ s.records
+  pub is : IsIndex (super_bytes (index_super sup s.generation)) image (take records (map cell_record s.cells)) end
 
-image_index : (sup : Super) (file : FileState) (s : Stored) (end : ℕ) (stuck : Bool) (image : List ℕ) → s.records ≤ length s.cells → IndexStands sup file s end stuck → IsImage file image → Records sup image s stuck
+pub image_index : (sup : Super) (file : FileState) (s : Stored) (end : ℕ) (stuck : Bool) (image : List ℕ) → s.records ≤ length s.cells → IndexStands sup file s end stuck → IsImage file image → Records sup image s stuck
 image_index sup file s end false image lags index leaves = record {
   records = s.records;
   end = end;

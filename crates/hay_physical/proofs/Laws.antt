@@ -1,5 +1,10 @@
 -- What follows from the words on replicas.
-use Rattle.std.proofs.Common.{◌≡◌, inl, inr, ℕ, Bool, true, false, cond, List, [], ◌∷◌, refl, sym, ◌∙◌, ap, subst}
+use Rattle.std.proofs.Common.{◌≡◌, inl, inr, ℕ, suc, ◌+◌, ◌≤◌, Bool, true, false, cond, List, [], ◌∷◌, length, drop, refl, sym, ◌∙◌, ap, subst, arith}
+use Rattle.std.proofs.lemmas.List.{length-drop}
+use Rattle.hay_needle.specs.declared.needle.CellHead.{CellHead}
+use Rattle.hay_compact.specs.Copying.{end_of as cells_end_of}
+use Rattle.hay_compact.proofs.CellLists.{cells_end}
+use Rattle.hay_physical.specs.Runs.{HasNext, HasRun, Run}
 use Rattle.std.specs.Prelude.{Option, Some, None}
 use Rattle.std.specs.Option.{option_or}
 use Rattle.hay_needle.specs.declared.needle.Cell.{Cell}
@@ -9,9 +14,9 @@ use Rattle.hay_disk.specs.Disk.{Files, MayLeave}
 use Rattle.hay_volume.specs.declared.volume.VolumeFile.{VolumeFile}
 use Rattle.hay_map.specs.Sealed.{SealedNeedle}
 use Rattle.hay_map.specs.declared.place.Place.TheVariants as place
-use Rattle.hay_open.specs.Stored.{IsSealedCell, PlaceOf, Stored, last_cell}
+use Rattle.hay_open.specs.Stored.{IsSealedCell, PlaceOf, Stored, last_cell, volume_file}
 use Rattle.hay_physical.specs.declared.state.Phase.{Phase}
-use Rattle.hay_physical.specs.Copies.{Copy, HasFrozen, IsUp, capacity_of, end_of, generation_of, is_stuck, phase_capacity, phase_end, phase_generation, phase_stuck}
+use Rattle.hay_physical.specs.Copies.{Copy, HasFrozen, IsUp, capacity_of, copier_goal, end_of, generation_of, goal_of, is_stuck, phase_capacity, phase_goal, phase_end, phase_generation, phase_stuck}
 use Rattle.hay_physical.specs.Replicas.{Finds, HasLive, Holds, MayDelete, MayFind, PhaseMayDelete, Stands}
 use Rattle.hay_physical.proofs.Holding.{stand_finds}
 use Rattle.hay_physical.proofs.Standing.{stand_flag}
@@ -40,6 +45,13 @@ stands_capacity files r s stands = ap phase_capacity stands.phase ∙ ap (λ (v 
 pub stands_generation : {D : Type 0} (files : D → Files) (r : Copy D) (s : Stored) → Stands files r s → generation_of r ≡ s.generation
 unfolding Stands
 stands_generation files r s stands = ap phase_generation stands.phase ∙ stands.stand.generation
+
+-- its cells stand without gaps
+pub stands_cells_end : {D : Type 0} (files : D → Files) (r : Copy D) (s : Stored) → Stands files r s → s.end ≡ cells_end_of s.cells
+unfolding Stands
+stands_cells_end files r s stands =
+    let f = stands.stand in
+    sym (cells_end 64 s.end (files r.disk (volume_file s.generation)).now s.cells f.cells.is.has)
 
 -- its live cells can be deleted
 pub stands_delete : {D : Type 0} (files : D → Files) (r : Copy D) (s : Stored) (at : ℕ) → Stands files r s → HasLive at s.cells → MayDelete files r at
@@ -79,3 +91,39 @@ place_live P Tells cells pair needle of = by_last (last_cell cells pair) refl of
     by_last : (last : Option Cell) → last_cell cells pair ≡ last → PlaceOf {P = P} Tells last (place.Live needle) → HasLive needle.at cells
     by_last (Some cell) was is = sealed_live Tells cells pair cell needle was is
     by_last None was is = absurd is
+
+-- A COMPACTION
+
+-- no compaction stands, or this one
+pub run_goal : {D : Type 0} (files : D → Files) (r : Copy D) (s : Stored) (run : Run) → HasRun files r s (Some run) → goal_of r ≡ Some run.goal
+unfolding HasRun
+run_goal files r s run has = ap phase_goal has.phase ∙ ap copier_goal has.has.stands ∙ ap (λ k. Some k) has.has.goal
+
+pub run_next : {D : Type 0} (files : D → Files) (r : Copy D) (s : Stored) (run : Run) → HasRun files r s (Some run) → run.goal ≡ s.generation + 1
+unfolding HasRun
+run_next files r s run has = has.has.next
+
+pub run_within : {D : Type 0} (files : D → Files) (r : Copy D) (s : Stored) (run : Run) → HasRun files r s (Some run) → run.left ≤ length s.cells
+unfolding HasRun
+run_within files r s run has = let left = has.has.left in omega arith
+
+pub none_goal : {D : Type 0} (files : D → Files) (r : Copy D) (s : Stored) → HasRun files r s None → goal_of r ≡ None
+unfolding HasRun
+none_goal files r s none = none
+
+pub goal_none : {D : Type 0} (files : D → Files) (r : Copy D) (s : Stored) → goal_of r ≡ None → HasRun files r s None
+unfolding HasRun
+goal_none files r s none = none
+
+-- where a next cell was read, one is left
+pub next_left : {D : Type 0} (files : D → Files) (r : Copy D) (s : Stored) (run : Run) (head : CellHead) → HasNext files r s run head → 1 ≤ run.left
+unfolding HasNext
+next_left files r s run head next =
+    let p = next.has in
+    let left = p.has.left in
+    let some : length (drop p.has.examined s.cells) ≡ suc (length (drop (p.has.examined + 1) s.cells)) = ap length p.is in
+    omega (arith, length-drop p.has.examined s.cells)
+
+pub next_run : {D : Type 0} (files : D → Files) (r : Copy D) (s : Stored) (run : Run) (head : CellHead) → HasNext files r s run head → HasRun files r s (Some run)
+unfolding HasNext HasRun
+next_run files r s run head next = record { opened = next.opened; phase = next.phase; has = next.has.has }

@@ -1,7 +1,10 @@
 pub mod CellRows
 pub mod Standing
+pub mod RunLaws
+pub mod SwapLaws
 pub mod Holding
 pub mod Laws
 pub mod Openings
 pub mod Views
+pub mod RunViews
 pub mod Deleting

@@ -8,13 +8,14 @@ use Rattle.hay_open.specs.declared.opened.Opened.{Opened}
 use Rattle.hay_open.specs.Finds as found
 use Rattle.hay_open.specs.Finds.{OpenedAs}
 use Rattle.hay_open.specs.Stored.{IsVoid, OpensAs, Stored, index_file}
+use Rattle.hay_physical.specs.declared.state.Copier.TheVariants.{Ended}
 use Rattle.hay_physical.specs.Copies.{Copy}
 use Rattle.hay_physical.specs.Replicas.{FilesReady, FilesStand, Holds, IndexStands, MayFind}
 use Rattle.hay_physical.proofs.Holding.{finds_left, finds_now, not_void}
 
 -- a disk that is void or whole stands as what it was opened
 pub opened_stands : {P : Type 0} (sup : Super) (files : Files) (opened : Opened P) (s : Stored) → OpenedAs sup files opened s → opened.index.frozen ≡ false
-    → FilesStand sup files (record { head = opened.head; volume = opened.volume; index = opened.index; frozen = false }) s
+    → FilesStand sup files (record { head = opened.head; volume = opened.volume; index = opened.index; frozen = false; copier = Ended 0 }) s
 opened_stands sup files opened s o live = record {
   generation = o.generation;
   lags = o.lags;
@@ -27,7 +28,7 @@ opened_stands sup files opened s o live = record {
 }
 
 -- and any one is ready for changes
-pub opened_ready : {P : Type 0} (files : Files) (opened : Opened P) → found.IsReady files opened → FilesReady files (record { head = opened.head; volume = opened.volume; index = opened.index; frozen = false })
+pub opened_ready : {P : Type 0} (files : Files) (opened : Opened P) → found.IsReady files opened → FilesReady files (record { head = opened.head; volume = opened.volume; index = opened.index; frozen = false; copier = Ended 0 })
 opened_ready files opened r = record { volume_number = r.volume_number; index_number = r.index_number; head = r.head; volume = r.volume; index = λ live. r.index }
 
 -- THE DISK OF A REPLICA

@@ -78,11 +78,11 @@ rows_more cells cell = map-append cell_record cells (cell ∷ [])
 head_same : (sup : Super) (old new : Files) (file g : ℕ) → 0 ≢ file → KeepsOthers file old new → HeadRests sup (old 0) g → HeadRests sup (new 0) g
 head_same sup old new file g apart others head = subst (λ (f : FileState). HeadRests sup f g) (sym (others 0 apart)) head
 
-pub stand_added : (sup : Super) (old new : Files) (opened : OpenFiles) (next : VolumeFile) (index : IndexFile) (row : Record) (frozen : Bool) (s : Stored) (pair : Pair) (cookie : Cookie) (photo : List ℕ)
+pub stand_added : (sup : Super) (old new : Files) (opened : OpenFiles) (next : VolumeFile) (index : IndexFile) (row : Record) (s : Stored) (pair : Pair) (cookie : Cookie) (photo : List ℕ)
     → FilesStand sup old opened s → row ≡ record { pair = pair; at = opened.volume.end; size = length photo }
     → index ≡ record opened.index { pending = opened.index.pending ++ row ∷ [] } → Appended old new opened.volume next pair cookie photo
-    → FilesStand sup new (record { head = opened.head; volume = next; index = index; frozen = frozen }) (with_cell s pair cookie photo)
-stand_added sup old new opened next index row frozen s pair cookie photo f row_is noted made =
+    → FilesStand sup new (record opened { volume = next; index = index }) (with_cell s pair cookie photo)
+stand_added sup old new opened next index row s pair cookie photo f row_is noted made =
     let volume : VolumeFile = record { file = volume_file s.generation; end = s.end; capacity = sup.settings.capacity } in
     let here : Appended old new volume next pair cookie photo = subst (λ (v : VolumeFile). Appended old new v next pair cookie photo) f.volume made in
     let a : Appended old new volume (record volume { end = s.end + total_of_lem (length photo) }) pair cookie photo = subst (λ (v : VolumeFile). Appended old new volume v pair cookie photo) here.moved here in
@@ -186,9 +186,9 @@ pub record Flags (old new : Files) (file at : ℕ) : Type 0 where
 pub flagged_rows : (at : ℕ) (cells : List Cell) → map cell_record (with_flag at true cells) ≡ map cell_record cells ++ []
 flagged_rows at cells = records_flagged at true cells ∙ sym (append-nil (map cell_record cells))
 
-pub stand_flagged : (sup : Super) (old new : Files) (opened : OpenFiles) (volume : VolumeFile) (frozen : Bool) (s : Stored) (at : ℕ) → FilesStand sup old opened s → HasLive at s.cells → at + 29 ≤ opened.volume.end → volume ≡ opened.volume
-    → Flags old new opened.volume.file at → FilesStand sup new (record { head = opened.head; volume = volume; index = opened.index; frozen = frozen }) (without_cell s at)
-stand_flagged sup old new opened volume frozen s at f live low_was stayed made =
+pub stand_flagged : (sup : Super) (old new : Files) (opened : OpenFiles) (volume : VolumeFile) (s : Stored) (at : ℕ) → FilesStand sup old opened s → HasLive at s.cells → at + 29 ≤ opened.volume.end → volume ≡ opened.volume
+    → Flags old new opened.volume.file at → FilesStand sup new (record opened { volume = volume }) (without_cell s at)
+stand_flagged sup old new opened volume s at f live low_was stayed made =
     let file : ℕ = volume_file s.generation in
     let end_is : opened.volume.end ≡ s.end = ap (λ (v : VolumeFile). v.end) f.volume in
     let low : at + 29 ≤ s.end = omega (arith, low_was, end_is) in
@@ -238,9 +238,9 @@ pub record Flushes (old new : Files) (index next : IndexFile) : Type 0 where
 pub index_rests : (sup : Super) (file : FileState) (s : Stored) (end : ℕ) (frozen : Bool) → frozen ≡ false → IndexStands sup file s end frozen → IndexRests sup file s end
 index_rests sup file s end frozen live index = subst (λ (b : Bool). IndexStands sup file s end b) live index
 
-pub stand_flushed : (sup : Super) (old new : Files) (opened : OpenFiles) (next : IndexFile) (frozen : Bool) (s : Stored) → FilesStand sup old opened s → opened.index.frozen ≡ false → Flushes old new opened.index next
-    → FilesStand sup new (record { head = opened.head; volume = opened.volume; index = next; frozen = frozen }) (all_recorded s)
-stand_flushed sup old new opened next frozen s f live a =
+pub stand_flushed : (sup : Super) (old new : Files) (opened : OpenFiles) (next : IndexFile) (s : Stored) → FilesStand sup old opened s → opened.index.frozen ≡ false → Flushes old new opened.index next
+    → FilesStand sup new (record opened { index = next }) (all_recorded s)
+stand_flushed sup old new opened next s f live a =
     let rests = index_rests sup (old (index_file s.generation)) s opened.index.end opened.index.frozen live f.index in
     let volume_apart : volume_file s.generation ≢ opened.index.file = λ e. index_not_volume s.generation (sym (e ∙ f.index_number)) in
     let head_apart : 0 ≢ opened.index.file = λ e. index_not_head s.generation (e ∙ f.index_number) in
@@ -274,13 +274,13 @@ count_flushed sup files opened s n f is =
     take_long n l within = Rattle.std.proofs.lemmas.List.length-take-le n l within
 
 -- a flush that failed
-pub stand_stuck : (sup : Super) (old new : Files) (opened : OpenFiles) (next : IndexFile) (frozen : Bool) (s : Stored) → FilesStand sup old opened s → opened.index.frozen ≡ false → next ≡ record opened.index { frozen = true }
+pub stand_stuck : (sup : Super) (old new : Files) (opened : OpenFiles) (next : IndexFile) (s : Stored) → FilesStand sup old opened s → opened.index.frozen ≡ false → next ≡ record opened.index { frozen = true }
     → KeepsOthers opened.index.file old new
     → ((superblock : List ℕ) (records : List Record) (image : List ℕ) → IsIndex superblock (old opened.index.file).now records opened.index.end → AreInRow 64 (records ++ opened.index.pending)
     → IsSolidIn 0 opened.index.end (old opened.index.file) → IsImage (new opened.index.file) image
     → IsIndex superblock image records opened.index.end ⊎ IsIndex superblock image (records ++ opened.index.pending) (opened.index.end + 16 + 32 * length opened.index.pending))
-    → FilesStand sup new (record { head = opened.head; volume = opened.volume; index = next; frozen = frozen }) s
-stand_stuck sup old new opened next frozen s f live froze others left =
+    → FilesStand sup new (record opened { index = next }) s
+stand_stuck sup old new opened next s f live froze others left =
     let rests = index_rests sup (old (index_file s.generation)) s opened.index.end opened.index.frozen live f.index in
     let volume_apart : volume_file s.generation ≢ opened.index.file = λ e. index_not_volume s.generation (sym (e ∙ f.index_number)) in
     let head_apart : 0 ≢ opened.index.file = λ e. index_not_head s.generation (e ∙ f.index_number) in

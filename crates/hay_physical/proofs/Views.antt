@@ -1,6 +1,6 @@
 -- A replica and the files that it has open.
 use Rattle.std.proofs.Common.{◌≡◌, ℕ, false, refl, sym, ◌∙◌, ap, subst}
-use Rattle.std.specs.Prelude.{Result, Ok, Err, IfOk, OnOk, OnErr}
+use Rattle.std.specs.Prelude.{Option, Some, None, Result, Ok, Err, IfErr, IfOk, IfSome, OnOk, OnErr}
 use Rattle.hay_needle.specs.declared.settings.Super.{Super}
 use Rattle.hay_disk.specs.Disk.{Files}
 use Rattle.hay_open.specs.Stored.{Stored}
@@ -11,7 +11,7 @@ use Rattle.hay_physical.specs.Copies.{Copy, HasFrozen, IsUp, is_stuck, phase_stu
 use Rattle.hay_physical.specs.Replicas.{FilesStand, MayDelete, MayFlag, PhaseMayDelete, Stands}
 
 -- the same open files
-one_open : (a b : OpenFiles) → Open a ≡ Open b → a ≡ b
+pub one_open : (a b : OpenFiles) → Open a ≡ Open b → a ≡ b
 one_open a b e = cc
 
 -- WHAT IS KNOWN OF THE FILES
@@ -86,3 +86,40 @@ on_ok_so (Err fault) P Q O makes p o = p
 pub on_err_so : {T E : Type 0} (r : Result T E) (P Q : Type 0) → (P → Q) → OnErr r P → OnErr r Q
 on_err_so (Ok value) P Q makes p = p
 on_err_so (Err fault) P Q makes p = makes p
+
+pub on_ok_both : {T E : Type 0} (r : Result T E) (A B : Type 0) → OnOk r A → OnOk r B → OnOk r (A × B)
+on_ok_both (Ok value) A B a b = (a, b)
+on_ok_both (Err fault) A B a b = tt
+
+pub by_result : {T E : Type 0} (r : Result T E) (P : Type 0) → IfOk r (λ value. P) → OnErr r P → P
+by_result (Ok value) P ok err = ok
+by_result (Err fault) P ok err = err
+
+pub if_ok_from : {T E : Type 0} (r : Result T E) (P : Type 0) {Q : Type 0} → (P → Q) → OnOk r P → IfOk r (λ value. Q)
+if_ok_from (Ok value) P makes p = makes p
+if_ok_from (Err fault) P makes p = tt
+
+pub if_ok_unit : {T E : Type 0} (r : Result T E) (P : T → Type 0) (Q : Type 0) → ((v : T) → P v → Q) → IfOk r P → OnOk r Q
+if_ok_unit (Ok value) P Q makes p = makes value p
+if_ok_unit (Err fault) P Q makes p = tt
+
+pub if_ok_both : {T E : Type 0} (r : Result T E) (P Q R : T → Type 0) → ((v : T) → P v → Q v → R v) → IfOk r P → IfOk r Q → IfOk r R
+if_ok_both (Ok value) P Q R makes p q = makes value p q
+if_ok_both (Err fault) P Q R makes p q = p
+
+pub if_ok_some : {T E : Type 0} (r : Result (Option T) E) (P Q : T → Type 0) → ((v : T) → P v → Q v) → IfOk r (λ o. IfSome o P) → IfOk r (λ o. IfSome o Q)
+if_ok_some (Ok None) P Q makes p = p
+if_ok_some (Ok (Some value)) P Q makes p = makes value p
+if_ok_some (Err fault) P Q makes p = p
+
+pub if_err_so : {T E : Type 0} (r : Result T E) (P Q : E → Type 0) → ((e : E) → P e → Q e) → IfErr r P → IfErr r Q
+if_err_so (Ok value) P Q makes p = p
+if_err_so (Err fault) P Q makes p = makes fault p
+
+pub if_ok_on : {T E : Type 0} (r : Result T E) (P : T → Type 0) (O Q : Type 0) → ((v : T) → P v → O → Q) → IfOk r P → OnOk r O → OnOk r Q
+if_ok_on (Ok value) P O Q makes p o = makes value p o
+if_ok_on (Err fault) P O Q makes p o = tt
+
+pub on_ok_one : {T E : Type 0} (r : Result T E) (P Q : Type 0) → (P → Q) → OnOk r P → OnOk r Q
+on_ok_one (Ok value) P Q makes p = makes p
+on_ok_one (Err fault) P Q makes p = p

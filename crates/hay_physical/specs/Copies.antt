@@ -1,7 +1,9 @@
 -- A replica as contracts see it.
-use Rattle.std.specs.Prelude.{◌≡◌, ℕ, Bool, true, false, List, ⊤}
+use Rattle.std.specs.Prelude.{◌≡◌, ℕ, Bool, true, false, List, Option, Some, None, ⊤}
 use Rattle.hay_needle.specs.declared.settings.Super.{Super}
 use Rattle.hay_disk.specs.Disk.{Files}
+use Rattle.hay_physical.specs.declared.state.Copier.{Copier}
+use Rattle.hay_physical.specs.declared.state.Copier.TheVariants.{Ended, Standing}
 use Rattle.hay_physical.specs.declared.state.Phase.{Phase}
 use Rattle.hay_physical.specs.declared.state.Phase.TheVariants.{Closed, Open}
 
@@ -50,6 +52,34 @@ phase_capacity (Open opened) = opened.volume.capacity
 abbrev pub phase_generation : Phase → ℕ
 phase_generation Closed = 0
 phase_generation (Open opened) = opened.head.generation
+
+abbrev pub copier_goal : Copier → Option ℕ
+copier_goal (Ended faults) = None
+copier_goal (Standing stage) = Some stage.generation
+
+abbrev pub copier_faults : Copier → ℕ
+copier_faults (Ended faults) = faults
+copier_faults (Standing stage) = 0
+
+abbrev pub phase_goal : Phase → Option ℕ
+phase_goal Closed = None
+phase_goal (Open opened) = copier_goal opened.copier
+
+abbrev pub phase_faults : Phase → ℕ
+phase_faults Closed = 0
+phase_faults (Open opened) = copier_faults opened.copier
+
+-- the generation that a compaction makes, if one stands
+abbrev pub goal_of : {D : Type 0} → Copy D → Option ℕ
+goal_of r = phase_goal r.phase
+
+-- how many calls of the disk had failed when the last compaction ended
+abbrev pub faults_at_end : {D : Type 0} → Copy D → ℕ
+faults_at_end r = phase_faults r.phase
+
+-- no compaction stands, and the last one ended where so many calls of the disk had failed
+abbrev pub EndedAt : {D : Type 0} → ℕ → Copy D → Type 0
+EndedAt faults r = (goal_of r ≡ None) × (faults_at_end r ≡ faults)
 
 -- whether a change failed
 abbrev pub is_frozen : {D : Type 0} → Copy D → Bool

@@ -1,5 +1,5 @@
 -- When a replica stands for what its disk has, and what a change that failed may have left.
-use Rattle.std.specs.Prelude.{◌≡◌, ◌⊎◌, ◌≤◌, ℕ, ◌+◌, Bool, true, false, List, [], ◌∷◌, ◌++◌, length, map, take, ⊤}
+use Rattle.std.specs.Prelude.{◌≡◌, ◌⊎◌, ◌≤◌, ℕ, ◌+◌, Bool, true, false, List, [], ◌∷◌, ◌++◌, length, map, take, Some, None, ⊤}
 use Rattle.hay_needle.specs.declared.needle.Cell.{Cell}
 use Rattle.hay_needle.specs.declared.needle.Cookie.{Cookie}
 use Rattle.hay_needle.specs.declared.needle.Pair.{Pair}
@@ -18,7 +18,9 @@ use Rattle.hay_open.specs.Stored.{HeadRests, IndexRests, IsStored, Stored, Volum
 use Rattle.hay_physical.specs.declared.state.OpenFiles.{OpenFiles}
 use Rattle.hay_physical.specs.declared.state.Phase.{Phase}
 use Rattle.hay_physical.specs.declared.state.Phase.TheVariants.{Closed, Open}
-use Rattle.hay_physical.specs.Copies.{Copy}
+use Rattle.hay_physical.specs.declared.state.Copier.TheVariants.{Standing}
+use Rattle.hay_compact.specs.Copying.{IsMaking, Stage}
+use Rattle.hay_physical.specs.Copies.{Copy, copier_goal}
 
 -- A closed replica, all of whose disk is solid, with no pieces given out.
 pub record IsIdle {D : Type 0} (files : D → Files) (r : Copy D) : Type 0 where
@@ -70,13 +72,27 @@ pub record StandsFor {D : Type 0} (files : D → Files) (r : Copy D) (s : Stored
 unfoldable pub Stands : {D : Type 0} → (D → Files) → Copy D → Stored → Type 0
 Stands files r s = StandsFor files r s
 
+-- Where a compaction stands, its copier has made something of the files of the next generation.
+abbrev pub IsCopierReady : Files → OpenFiles → Type 0
+IsCopierReady files opened = (stage : Stage) → opened.copier ≡ Standing stage → IsMaking files stage
+
 -- What holds of every replica that takes changes.
 abbrev pub PhaseReady : Files → Phase → Type 0
 PhaseReady files Closed = ⊤
-PhaseReady files (Open opened) = opened.frozen ≡ false → FilesReady files opened
+PhaseReady files (Open opened) = opened.frozen ≡ false → FilesReady files opened × IsCopierReady files opened
 
 abbrev pub IsReady : {D : Type 0} → Type 0 → (D → Files) → Copy D → Type 0
 IsReady Tells files r = Tells → PhaseReady (files r.disk) r.phase
+
+-- On any disk a copier makes the next generation, and a replica that takes no changes has none.
+pub record IsSettled (opened : OpenFiles) : Type 0 where
+  pub next : (goal : ℕ) → copier_goal opened.copier ≡ Some goal → goal ≡ opened.head.generation + 1
+  pub most : (goal : ℕ) → copier_goal opened.copier ≡ Some goal → goal ≤ 65535
+  pub dropped : opened.frozen ≡ true → copier_goal opened.copier ≡ None
+
+abbrev pub IsSettledPhase : Phase → Type 0
+IsSettledPhase Closed = ⊤
+IsSettledPhase (Open opened) = IsSettled opened
 
 -- WHAT A STOP MAY LEAVE
 
@@ -112,6 +128,11 @@ HasLive at (cell ∷ cells) = ((cell.at ≡ at) × (cell.deleted ≡ false)) ⊎
 pub record MayFlag (file : FileState) (end at : ℕ) : Type 0 where
   pub within : at + 29 ≤ end
   pub free : file.sealed (at + 28) ≡ false
+
+-- the flags of the cell of a place, if it has one, can be written
+abbrev pub MayFlagPlace : {P : Type 0} → Files → OpenFiles → Place P → Type 0
+MayFlagPlace files opened (place.Live needle) = MayFlag (files opened.volume.file) opened.volume.end needle.at
+MayFlagPlace files opened _ = Unit {0}
 
 -- A cell of so many bytes ends at `end`, and nothing of it is loose or sealed.
 pub record IsLastCell (file : FileState) (end at total : ℕ) : Type 0 where

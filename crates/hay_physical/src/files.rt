@@ -9,9 +9,12 @@ ghost use Rattle.hay_volume.specs.Cells.{live_cell};
 ghost use Rattle.hay_open.specs.Stored.{IsSealedCell, Stored};
 ghost use Rattle.hay_physical.specs.Faults.{IsDeleteFault, IsFlushFault, IsPutFault};
 ghost use Rattle.hay_physical.specs.Replicas.{FilesReady, FilesStand, HasLive, IsLastCell, MayFind, MayFlag, all_recorded, with_cell, without_cell};
+ghost use Rattle.hay_physical.specs.Runs.{KeepsCopier};
+ghost use Rattle.hay_physical.specs.declared.state.Copier.TheVariants.{Ended};
+ghost use Rattle.hay_disk.specs.Disk.{KeepsOthers};
 
 use crate::fault::ReplicaFault;
-use crate::state::OpenFiles;
+use crate::state::{Copier, OpenFiles};
 use hay_disk::{Disk, DiskFault, Failed};
 use hay_index::Record;
 use hay_map::Sealed;
@@ -23,12 +26,22 @@ use std::alloc::Global;
 const FLAGS_AT: usize = 28;
 
 impl OpenFiles {
+    // Takes no more changes. A compaction ends.
+    pub(crate) fn freeze<D: Disk>(&mut self, disk: &D)
+        ensures { self.new ≡ record self.old { frozen = true; copier = Ended (D.fault_count disk.now) } }
+    {
+        self.frozen = true;
+        self.copier = Copier::Ended {
+            faults: disk.faults(),
+        };
+    }
+
     // A change failed: no more are taken.
     fn failed<D: Disk>(&mut self, disk: &D) -> ReplicaFault
         ensures fault { result ≡ ReplicaFault.Failed (D.fault_count disk.now) }
-        ensures froze { self.new ≡ record self.old { frozen = true } }
+        ensures froze { self.new ≡ record self.old { frozen = true; copier = Ended (D.fault_count disk.now) } }
     {
-        self.frozen = true;
+        self.freeze(disk);
         ReplicaFault::Failed {
             faults: disk.faults(),
         }
@@ -87,6 +100,8 @@ impl OpenFiles {
         ensures flags { D.Tells → (place : ℕ) → MayFlag (D.files disk.old self.old.volume.file) self.old.volume.end place
             → MayFlag (D.files disk.new self.new.volume.file) self.new.volume.end place }
         ensures flag { D.Tells → IfOk result (λ needle. MayFlag (D.files disk.new self.new.volume.file) self.new.volume.end needle.at) }
+        ensures copier { KeepsCopier self.old self.new }
+        ensures others { D.Tells → KeepsOthers self.old.volume.file (D.files disk.old) (D.files disk.new) }
 
         ensures causes { IfErr result (IsPutFault (D.fault_count disk.old) (D.fault_count disk.new)) }
         ensures counts { D.fault_count disk.old ≤ D.fault_count disk.new }
@@ -131,6 +146,9 @@ impl OpenFiles {
         ensures flags { D.Tells → (place : ℕ) → MayFlag (D.files disk.old self.old.volume.file) self.old.volume.end place
             → MayFlag (D.files disk.new self.new.volume.file) self.new.volume.end place }
         ensures last { D.Tells → IfOk result (λ at. IsLastCell (D.files disk.new self.new.volume.file) self.new.volume.end at (total_of_lem (length bytes.now))) }
+        ensures volume { self.new.volume.file ≡ self.old.volume.file }
+        ensures copier { self.old.frozen ≡ false → KeepsCopier self.old self.new }
+        ensures others { D.Tells → KeepsOthers self.old.volume.file (D.files disk.old) (D.files disk.new) }
 
         ensures causes { IfErr result (IsPutFault (D.fault_count disk.old) (D.fault_count disk.new)) }
         ensures counts { D.fault_count disk.old ≤ D.fault_count disk.new }
@@ -171,13 +189,14 @@ impl OpenFiles {
             IfOk result (λ needle. FilesStand sup (D.files disk.new) self.new (with_cell s pair cookie photo)
             × IsSealedCell D.Piece.Tells (live_cell s.end pair cookie photo) needle) }
         ensures stayed { OnOk result (self.new ≡ self.old) }
-        ensures froze { OnErr result (self.new ≡ record self.old { frozen = true }) }
+        ensures froze { OnErr result (self.new ≡ record self.old { frozen = true; copier = Ended (D.fault_count disk.new) }) }
         ensures kept { D.Tells → OnErr result (D.files disk.new ≡ D.files disk.old) }
         ensures ready { D.Tells → OnOk result (FilesReady (D.files disk.new) self.new) }
         ensures flags { D.Tells → (place : ℕ) → MayFlag (D.files disk.old self.old.volume.file) at place → MayFlag (D.files disk.new self.old.volume.file) at place }
         ensures flag { D.Tells → IfOk result (λ needle. (needle.at ≡ at) × MayFlag (D.files disk.new self.old.volume.file) self.old.volume.end at) }
         ensures never_frozen { IsErrOf result ReplicaFault.Frozen → ⊥ }
         ensures never_full { (end need capacity : ℕ) → result ≡ Err (ReplicaFault.Full end need capacity) → ⊥ }
+        ensures others { D.Tells → KeepsOthers self.old.volume.file (D.files disk.old) (D.files disk.new) }
 
         ensures causes { IfErr result (IsPutFault (D.fault_count disk.old) (D.fault_count disk.new)) }
         ensures counts { D.fault_count disk.old ≤ D.fault_count disk.new }
@@ -186,7 +205,7 @@ impl OpenFiles {
         match disk.seal(self.volume.file(), at, total_of(size) as usize, FLAGS_AT) {
             Ok(piece) => Ok(Sealed::new(at, size, piece)),
             Err(DiskFault::NoMemory) => {
-                self.frozen = true;
+                self.freeze(disk);
                 Err(ReplicaFault::NoMemory)
             }
             Err(DiskFault::Failed) => Err(self.failed(disk)),
@@ -211,6 +230,9 @@ impl OpenFiles {
         ensures ready { D.Tells → self.new.frozen ≡ false → FilesReady (D.files disk.new) self.new }
         ensures flags { D.Tells → (place : ℕ) → MayFlag (D.files disk.old self.old.volume.file) self.old.volume.end place
             → MayFlag (D.files disk.new self.new.volume.file) self.new.volume.end place }
+        ensures volume { self.new.volume ≡ self.old.volume }
+        ensures copier { KeepsCopier self.old self.new }
+        ensures others { D.Tells → KeepsOthers self.old.volume.file (D.files disk.old) (D.files disk.new) }
 
         ensures causes { IfErr result (IsDeleteFault (D.fault_count disk.old) (D.fault_count disk.new)) }
         ensures counts { D.fault_count disk.old ≤ D.fault_count disk.new }
@@ -244,6 +266,8 @@ impl OpenFiles {
         ensures ready { D.Tells → self.new.frozen ≡ false → FilesReady (D.files disk.new) self.new }
         ensures flags { D.Tells → (place : ℕ) → MayFlag (D.files disk.old self.old.volume.file) self.old.volume.end place
             → MayFlag (D.files disk.new self.new.volume.file) self.new.volume.end place }
+        ensures copier { (self.new.copier ≡ self.old.copier) × (self.new.head ≡ self.old.head) × (self.new.volume ≡ self.old.volume) }
+        ensures others { D.Tells → KeepsOthers self.old.index.file (D.files disk.old) (D.files disk.new) }
 
         ensures causes { IfErr result (IsFlushFault (D.fault_count disk.old) (D.fault_count disk.new)) }
         ensures counts { D.fault_count disk.old ≤ D.fault_count disk.new }

@@ -6,13 +6,21 @@
 //! whatever a stop leaves an opening finds what stood before or what the change makes of it. A flush that fails freezes
 //! the index alone.
 //!
-//! It stands on `hay_open`, and by it on the files of a disk, and on `hay_map` for the needles that it gives out.
+//! A compaction may stand beside it, which copies the photos that stand to the files of the next generation. Puts and
+//! deletes go on meanwhile, and the copier follows them. At its end the head names the new files in one step: whatever a
+//! stop leaves has the old files or the new ones, with the same photos. A fault before that ends the compaction alone.
+//!
+//! It stands on `hay_open` and `hay_compact`, and by them on the files of a disk, and on `hay_map` for the needles that it
+//! gives out.
 #![tactic(auto)]
 
 mod fault;
 mod files;
 mod replica;
+mod running;
+mod runs;
 mod state;
+mod swap;
 
 pub use fault::ReplicaFault;
 pub use replica::Replica;

@@ -1,6 +1,6 @@
 //! A replica, closed or open.
 
-ghost use Rattle.std.specs.Prelude.{◌≡◌, ◌⊎◌, ◌≤◌, ◌<◌, ◌+◌, ℕ, List, Bool, true, false, length, Err, IfOk, IfErr, OnOk, OnErr, IsErrOf};
+ghost use Rattle.std.specs.Prelude.{◌≡◌, ◌⊎◌, ◌≤◌, ◌<◌, ◌+◌, ℕ, List, Bool, true, false, length, Option, None, Err, IfOk, IfErr, OnOk, OnErr, IsErrOf};
 ghost use Rattle.hay_needle.specs.Sizes.{total_of_lem};
 ghost use Rattle.hay_needle.specs.declared.needle.Cookie.{Cookie};
 ghost use Rattle.hay_needle.specs.declared.needle.Pair.{Pair};
@@ -12,12 +12,14 @@ ghost use Rattle.hay_map.specs.Rows.{last_place};
 ghost use Rattle.hay_open.specs.Damage.{IsOpeningDamage};
 ghost use Rattle.hay_open.specs.Stored.{IsSealedCell, IsVoid, OpensAs, PlaceOf, Stored, last_cell};
 ghost use Rattle.hay_physical.specs.declared.state.Phase.TheVariants.{Closed};
-ghost use Rattle.hay_physical.specs.Copies.{IsFrozen, IsOpen, IsUp, capacity_of, contents_of, end_of, generation_of, is_frozen, is_stuck};
+ghost use Rattle.hay_physical.specs.Runs.{HasLastAt, HasRun, Run, longer, loosened};
+ghost use Rattle.std.specs.Option.{option_map};
+ghost use Rattle.hay_physical.specs.Copies.{EndedAt, IsFrozen, IsOpen, IsUp, capacity_of, contents_of, end_of, generation_of, goal_of, is_frozen, is_stuck};
 ghost use Rattle.hay_physical.specs.Faults.{IsDeleteFault, IsFlushFault, IsPutFault};
 ghost use Rattle.hay_physical.specs.Replicas.{HasLive, Holds, IsIdle, IsLike, MayDelete, Stands, all_recorded, with_cell, without_cell, MayDeletePlace};
 
 use crate::fault::ReplicaFault;
-use crate::state::{OpenFiles, Phase};
+use crate::state::{Copier, OpenFiles, Phase};
 use hay_disk::Disk;
 use hay_map::{OpenCell, Sealed};
 use hay_needle::{Cookie, Pair, Super};
@@ -28,20 +30,20 @@ use std::marker::Model;
 /// A replica of a logical volume.
 #[derive(Drop)]
 pub struct Replica<D: Disk> {
-    sup: Super,
-    disk: D,
-    phase: Phase,
+    pub(crate) sup: Super,
+    pub(crate) disk: D,
+    pub(crate) phase: Phase,
 }
 
 impl<D: Disk> Model for Replica<D> {
     ghost use Rattle.hay_physical.specs.Copies.{Copy};
-    ghost use Rattle.hay_physical.specs.Replicas.{IsReady};
+    ghost use Rattle.hay_physical.specs.Replicas.{IsReady, IsSettledPhase};
 
     ghost Value = { Copy D };
 
     ghost view = { λ r. record { sup = r.sup; disk = r.disk; phase = r.phase } };
 
-    ghost invariant = { λ r. IsReady D.Tells D.files (record { sup = r.sup; disk = r.disk; phase = r.phase }) };
+    ghost invariant = { λ r. IsReady D.Tells D.files (record { sup = r.sup; disk = r.disk; phase = r.phase }) × IsSettledPhase r.phase };
 }
 
 impl<D: Disk> Replica<D> {
@@ -72,6 +74,7 @@ impl<D: Disk> Replica<D> {
             × ((pair : Pair) → PlaceOf D.Piece.Tells (last_cell found.cells pair) (last_place cells.items pair place.None))) }
         ensures up { OnOk result (IsUp self.new) }
         ensures stuck { OnOk result (is_stuck self.new ≡ false) }
+        ensures alone { goal_of self.new ≡ None }
         // Whatever the disk had, each photo that was found can be deleted.
         ensures can_delete { D.Tells → IfOk result (λ cells. (pair : Pair) → MayDeletePlace D.files self.new (last_place cells.items pair place.None)) }
 
@@ -104,6 +107,7 @@ impl<D: Disk> Replica<D> {
             volume,
             index,
             frozen: false,
+            copier: Copier::Ended { faults: 0 },
         });
         Ok(cells)
     }
@@ -157,6 +161,14 @@ impl<D: Disk> Replica<D> {
         ensures open { IsOpen self.new }
         ensures stuck { is_stuck self.new ≡ is_stuck self.old }
 
+        // A compaction that stands has one more cell to examine. A freeze ends it.
+        ensures run { D.Tells → (s : Stored) (run : Option Run) → Stands D.files self.old s → HasRun D.files self.old s run →
+            OnOk result (HasRun D.files self.new (with_cell s pair cookie bytes.now) (option_map longer run)) }
+        ensures run_stays { D.Tells → (s : Stored) (run : Option Run) → Stands D.files self.old s → HasRun D.files self.old s run →
+            OnErr result (IsUp self.new → HasRun D.files self.new s run) }
+        ensures dropped { IsFrozen self.new → goal_of self.new ≡ None }
+        ensures goal { IsUp self.new → goal_of self.new ≡ goal_of self.old }
+
         ensures causes { IfErr result (IsPutFault (D.fault_count self.old.disk) (D.fault_count self.new.disk)) }
         ensures counts { D.fault_count self.old.disk ≤ D.fault_count self.new.disk }
         ensures fuses { D.fuse_count self.new.disk ≡ D.fuse_count self.old.disk }
@@ -168,8 +180,9 @@ impl<D: Disk> Replica<D> {
         }
     }
 
-    /// Deletes the photo whose cell stands at this place. It takes no memory. `Failed` freezes the replica.
-    pub fn delete(&mut self, at: u64) -> Result<(), ReplicaFault>
+    /// Deletes the photo of a pair, whose last cell stands at this place, and repeats that in a compaction that stands: a
+    /// failure there ends it, and is no refusal. It takes no memory. `Failed` freezes the replica.
+    pub fn delete(&mut self, pair: Pair, at: u64) -> Result<(), ReplicaFault>
         requires open { IsOpen self.old }
         requires flag { D.Tells → IsUp self.old → MayDelete D.files self.old at }
 
@@ -189,13 +202,26 @@ impl<D: Disk> Replica<D> {
         ensures open { IsOpen self.new }
         ensures stuck { is_stuck self.new ≡ is_stuck self.old }
 
+        // A compaction that stands follows, or ends where the disk's count of faults rose. A freeze ends it.
+        ensures run { D.Tells → (s : Stored) (run : Option Run) → Stands D.files self.old s → HasRun D.files self.old s run → HasLastAt s.cells pair at →
+            OnOk result (HasRun D.files self.new (without_cell s at) (option_map loosened run) ⊎ (goal_of self.new ≡ None)) }
+        ensures dropped { IsFrozen self.new → goal_of self.new ≡ None }
+        ensures goal { OnOk result ((goal_of self.new ≡ goal_of self.old)
+            ⊎ (EndedAt (D.fault_count self.new.disk) self.new × Rose (D.fault_count self.old.disk) (D.fault_count self.new.disk))) }
+
         ensures causes { IfErr result (IsDeleteFault (D.fault_count self.old.disk) (D.fault_count self.new.disk)) }
         ensures counts { D.fault_count self.old.disk ≤ D.fault_count self.new.disk }
         ensures fuses { D.fuse_count self.new.disk ≡ D.fuse_count self.old.disk }
         ensures sup { self.new.sup ≡ self.old.sup }
     {
         match &mut self.phase {
-            Phase::Open(files) => files.delete(&mut self.disk, at),
+            Phase::Open(files) => match files.delete(&mut self.disk, at) {
+                Ok(()) => {
+                    files.repeat_delete(&mut self.disk, pair);
+                    Ok(())
+                }
+                Err(fault) => Err(fault),
+            },
             Phase::Closed => unreachable!(),
         }
     }
@@ -222,6 +248,12 @@ impl<D: Disk> Replica<D> {
         ensures open { IsOpen self.new }
         ensures same { is_frozen self.new ≡ is_frozen self.old }
 
+        ensures run { D.Tells → (s : Stored) (run : Option Run) → Stands D.files self.old s → HasRun D.files self.old s run →
+            OnOk result (HasRun D.files self.new (all_recorded s) run) }
+        ensures run_stays { D.Tells → (s : Stored) (run : Option Run) → Stands D.files self.old s → HasRun D.files self.old s run →
+            OnErr result (HasRun D.files self.new s run) }
+        ensures goal { goal_of self.new ≡ goal_of self.old }
+
         ensures causes { IfErr result (IsFlushFault (D.fault_count self.old.disk) (D.fault_count self.new.disk)) }
         ensures counts { D.fault_count self.old.disk ≤ D.fault_count self.new.disk }
         ensures fuses { D.fuse_count self.new.disk ≡ D.fuse_count self.old.disk }
@@ -233,10 +265,11 @@ impl<D: Disk> Replica<D> {
         }
     }
 
-    /// Takes no more changes.
+    /// Takes no more changes. A compaction that stands ends.
     pub fn freeze(&mut self)
         requires { IsOpen self.old }
         ensures frozen { IsFrozen self.new }
+        ensures dropped { EndedAt (D.fault_count self.new.disk) self.new }
         ensures held { D.Tells → (s : Stored) → Stands D.files self.old s → Holds D.files self.new (is_stuck self.old) s s }
         ensures holds { D.Tells → (stuck : Bool) (s t : Stored) → Holds D.files self.old stuck s t → Holds D.files self.new stuck s t }
         ensures stuck { is_stuck self.new ≡ is_stuck self.old }
@@ -244,7 +277,7 @@ impl<D: Disk> Replica<D> {
         ensures sup { self.new.sup ≡ self.old.sup }
     {
         match &mut self.phase {
-            Phase::Open(files) => files.frozen = true,
+            Phase::Open(files) => files.freeze(&self.disk),
             Phase::Closed => unreachable!(),
         }
     }
@@ -306,6 +339,7 @@ impl<D: Disk> Replica<D> {
         ensures holds { D.Tells → (stuck : Bool) (s t : Stored) → Holds D.files self.old stuck s t → Holds D.files self.new stuck s t }
         ensures deletes { D.Tells → (place : ℕ) → MayDelete D.files self.old place → MayDelete D.files self.new place }
         ensures idle { D.Tells → IsIdle D.files self.old → IsIdle D.files self.new }
+        ensures run { D.Tells → (s : Stored) (run : Option Run) → HasRun D.files self.old s run → HasRun D.files self.new s run }
         ensures same { self.new ≡ record self.old { disk = self.new.disk } }
         ensures files { D.Tells → D.files self.new.disk ≡ D.files self.old.disk }
         ensures faults { D.fault_count self.new.disk ≡ D.fault_count self.old.disk }

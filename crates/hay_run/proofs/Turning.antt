@@ -24,7 +24,7 @@ use Rattle.hay_legal.specs.Items.{Asked, InBlock, item_of_turn, line_asked}
 use Rattle.hay_legal.specs.Items.Asked.{Alone, Block}
 use Rattle.hay_legal.specs.Known.{Leaves}
 use Rattle.hay_legal.specs.Legal.{Legal, known_after, IsUnbuiltLine}
-use Rattle.hay_legal.specs.Plain.{LegalAnswer}
+use Rattle.hay_legal.specs.Plain.{LegalCommand}
 use Rattle.hay_legal.specs.Restarts.{LegalRestart}
 use Rattle.hay_legal.specs.Transcript.{turn_text, answered_line}
 use Rattle.hay_cluster.specs.Store.{Open}
@@ -118,7 +118,7 @@ module _ {D P A : Type 0} (Left : Standing D P A) where
       }
 
   pub answers_plain : (Writes : Writing) (k t : Known) (number : ℕ) (command : Command) (reply : Reply) (written written' : Option (List ℕ)) (store : Open D P A)
-      → LegalAnswer store.settings k (record { lane = 0; line = number }) command reply t → Left store t → Writes written (numbered_line number reply) written'
+      → LegalCommand store.settings k (record { lane = 0; line = number }) command reply t → Left store t → Writes written (numbered_line number reply) written'
       → Answers Writes Left k (Alone number (item.Command command) ∷ []) written store written'
   answers_plain Writes k t number command reply written written' store legal left wrote =
       let P : List ℕ → Type 0 = λ text. Writes written text written' in

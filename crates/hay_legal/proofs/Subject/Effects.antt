@@ -31,7 +31,7 @@ use Rattle.hay_legal.specs.declared.turn.Item.{Item}
 use Rattle.hay_legal.specs.declared.turn.Item.TheVariants as item
 use Rattle.hay_legal.specs.Known.{home_of, home_in, volume_at, replica_at, with_replica, empty_volume, empty_replica, Leaves, NoneFalls, slot_of, settled_by, with_home, taker_of, tries_by, all_tries, try_at, refusal_of, replica_on}
 use Rattle.hay_url.specs.declared.Url.{Url as UrlParts}
-use Rattle.hay_legal.specs.Plain.{IsStored, IsDeleted, LegalPlain, LegalAnswer, LegalCommand, LegalShow, LegalGetAt, start_of, LegalPut, LegalDel, LegalUrl, LegalFlush, LegalBegin, LegalStep, LegalFinish, LegalCompact, LegalDrain, LegalUndrain, LegalFuse, LegalFuseDir, OnReplica, IsLoose, IsTight, replica_of, Swaps, SwapFailed, SwapNoMem, change_volume, change_replica, frozen_by, frozen_with, without_run, with_bare, with_stuck, with_run, swapped, stepped, poised, poised_by, as_it_is, row_pending, put_frozen, put_entry, first_machine, with_put, with_del, grown, ended_where, with_drain, with_fuses}
+use Rattle.hay_legal.specs.Plain.{IsStored, IsDeleted, LegalPlain, LegalCommand, LegalShow, LegalGetAt, start_of, LegalPut, LegalDel, LegalUrl, LegalFlush, LegalBegin, LegalStep, LegalFinish, LegalCompact, LegalDrain, LegalUndrain, LegalFuse, LegalFuseDir, OnReplica, IsLoose, IsTight, replica_of, Swaps, SwapFailed, SwapNoMem, change_volume, change_replica, frozen_by, frozen_with, without_run, with_bare, with_stuck, with_run, swapped, stepped, poised, poised_by, as_it_is, row_pending, put_frozen, put_entry, first_machine, with_put, with_del, grown, ended_where, with_drain, with_fuses}
 use Rattle.hay_legal.specs.Blocks.{acknowledged}
 use Rattle.hay_legal.specs.Subject.{known_behind, pair_of, OthersLeaveTheLogs, changed_pair}
 use Rattle.hay_legal.proofs.Subject.Shown.{legal_split}
@@ -499,15 +499,10 @@ command_undisturbed settings k tag (command.Put pair bytes) r t a h = put_undist
 command_undisturbed settings k tag (command.Del pair) r t a h = del_undisturbed settings k tag pair r t a h
 command_undisturbed settings k tag c r t a h = other_undisturbed settings k tag c r t tt h
 
-pub answer_undisturbed : (settings : Settings) (k : Known) (tag : CoreTag) (c : Command) (r : Reply) (t : Known)
-    → acknowledged r ≡ None → LegalAnswer settings k tag c r t → Calm settings k t
-answer_undisturbed settings k tag c reply.Unbuilt t a h = unchanged settings k t h.1
-answer_undisturbed settings k tag c r t a h = command_undisturbed settings k tag c r t a h
-
 -- a plain turn that acknowledges no change leaves every log
 pub plain_undisturbed : (settings : Settings) (k : Known) (line : ℕ) (i : Item) (r : Reply) (t : Known)
     → acknowledged r ≡ None → LegalPlain settings k line i r t → Calm settings k t
-plain_undisturbed settings k line (item.Command c) r t a h = answer_undisturbed settings k (record { lane = 0; line = line }) c r t a h
+plain_undisturbed settings k line (item.Command c) r t a h = command_undisturbed settings k (record { lane = 0; line = line }) c r t a h
 plain_undisturbed settings k line item.Bad r t a h = unchanged settings k t h.1
 
 pub others_leave_the_logs : OthersLeaveTheLogs
@@ -678,12 +673,7 @@ command_effect settings k tag (command.Put pair bytes) r t h = put_effect settin
 command_effect settings k tag (command.Del pair) r t h = del_effect settings k tag pair r t h
 command_effect settings k tag c r t h = inl (other_undisturbed settings k tag c r t tt h)
 
-pub answer_effect : (settings : Settings) (k : Known) (tag : CoreTag) (c : Command) (r : Reply) (t : Known)
-    → LegalAnswer settings k tag c r t → Effect settings k (item.Command c) r t
-answer_effect settings k tag c reply.Unbuilt t h = inl (unchanged settings k t h.1)
-answer_effect settings k tag c r t h = command_effect settings k tag c r t h
-
 pub plain_effect : (settings : Settings) (k : Known) (line : ℕ) (i : Item) (r : Reply) (t : Known)
     → LegalPlain settings k line i r t → Effect settings k i r t
-plain_effect settings k line (item.Command c) r t h = answer_effect settings k (record { lane = 0; line = line }) c r t h
+plain_effect settings k line (item.Command c) r t h = command_effect settings k (record { lane = 0; line = line }) c r t h
 plain_effect settings k line item.Bad r t h = inl (unchanged settings k t h.1)

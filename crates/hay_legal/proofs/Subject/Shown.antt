@@ -24,7 +24,7 @@ use Rattle.hay_legal.specs.declared.known.Known.{Known}
 use Rattle.hay_legal.specs.declared.turn.Turn.{Turn}
 use Rattle.hay_legal.specs.Known.{now}
 use Rattle.hay_url.specs.declared.Url.{Url as UrlParts}
-use Rattle.hay_legal.specs.Plain.{LegalAnswer, LegalCommand, LegalShow, LegalGetAt, IsShown, start_of}
+use Rattle.hay_legal.specs.Plain.{LegalCommand, LegalShow, LegalGetAt, IsShown, start_of}
 use Rattle.hay_legal.specs.Legal.{Legal, known_after}
 use Rattle.hay_legal.specs.Subject.{known_behind, pair_of, Spares, IsLast, HasPhoto, HasNothing, AsksFor, IsSeenOn, IsTrueOf, ShowsTheLastChange}
 
@@ -175,16 +175,6 @@ asked settings k tag (command.Get url) r t pair cookie tells asks h =
     (at.0, subst (λ (q : Cookie). LegalShow settings k tag at.0 pair q r t) asks.1 (subst (λ (q : Pair). LegalShow settings k tag at.0 q url.cookie r t) asks.0 at.1))
 asked settings k tag _ r t pair cookie tells asks h = absurd asks
 
--- a command that was answered so was carried out
-pub carried_out : (settings : Settings) (k : Known) (tag : CoreTag) (c : Command) (r : Reply) (t : Known) → Tells r
-    → LegalAnswer settings k tag c r t → LegalCommand settings k tag c r t
-carried_out settings k tag c (reply.Photo v m p d bytes) t tells h = h
-carried_out settings k tag c (reply.Gone v m p d) t tells h = h
-carried_out settings k tag c (reply.WrongCookie v m p d) t tells h = h
-carried_out settings k tag c (reply.Unknown d) t tells h = h
-carried_out settings k tag c (reply.Unreadable v p d causes) t tells h = h
-carried_out settings k tag c _ t tells h = absurd tells
-
 pub seen_by : (settings : Settings) (k : Known) (tag : CoreTag) (start : ℕ) (pair : Pair) (v m p d : ℕ) (shown : Outcome) (t : Known)
     (Has : VolumeKnown → ReplicaKnown → Type 0)
     → ((volume : VolumeKnown) (replica : ReplicaKnown) → outcome_at (now volume replica) pair ≡ shown → Has volume replica)
@@ -210,14 +200,14 @@ show_true settings k tag start pair cookie (reply.Unknown d) t h = h.0
 show_true settings k tag start pair cookie _ t h = tt
 
 pub told_true : (settings : Settings) (k : Known) (tag : CoreTag) (c : Command) (r : Reply) (t : Known) (pair : Pair) (cookie : Cookie) → Tells r
-    → AsksFor c pair cookie → LegalAnswer settings k tag c r t → IsTrueOf settings k pair cookie r
+    → AsksFor c pair cookie → LegalCommand settings k tag c r t → IsTrueOf settings k pair cookie r
 told_true settings k tag c r t pair cookie tells asks h =
-    let shows = asked settings k tag c r t pair cookie tells asks (carried_out settings k tag c r t tells h) in
+    let shows = asked settings k tag c r t pair cookie tells asks h in
     show_true settings k tag shows.0 pair cookie r t shows.1
 
 -- a reply that tells nothing says nothing that could be untrue
 pub answer_true : (settings : Settings) (k : Known) (tag : CoreTag) (c : Command) (r : Reply) (t : Known) (pair : Pair) (cookie : Cookie)
-    → AsksFor c pair cookie → LegalAnswer settings k tag c r t → IsTrueOf settings k pair cookie r
+    → AsksFor c pair cookie → LegalCommand settings k tag c r t → IsTrueOf settings k pair cookie r
 answer_true settings k tag c (reply.Photo v m p d bytes) t pair cookie asks h = told_true settings k tag c (reply.Photo v m p d bytes) t pair cookie tt asks h
 answer_true settings k tag c (reply.Gone v m p d) t pair cookie asks h = told_true settings k tag c (reply.Gone v m p d) t pair cookie tt asks h
 answer_true settings k tag c (reply.WrongCookie v m p d) t pair cookie asks h = told_true settings k tag c (reply.WrongCookie v m p d) t pair cookie tt asks h

@@ -1,5 +1,5 @@
 -- What stands at a pair, and what is read of it.
-use Rattle.std.proofs.Common.{true, ◌≡◌, ◌≢◌, ℕ, ◌+◌, ◌<◌, Bool, false, cond, List, [], ◌∷◌, ◌++◌, length, map, Option, Some, None, refl, sym, ap, subst, ◌∙◌, ◌⊎◌, inl, inr, arith}
+use Rattle.std.proofs.Common.{◌≡◌, ◌≢◌, ℕ, ◌+◌, ◌<◌, Bool, false, cond, List, [], ◌∷◌, ◌++◌, length, map, Option, Some, None, refl, sym, ap, subst, ◌∙◌, ◌⊎◌, inl, inr, arith}
 use Rattle.std.specs.List.{AllByRecursion as Each}
 use Rattle.std.specs.Prelude.{◌==◌, nat_lt, find, is_none}
 use Rattle.std.proofs.lemmas.List.FromFn.{length-range_with_len, get_or-range_with_len}
@@ -30,10 +30,10 @@ use Rattle.hay_legal.specs.declared.turn.Turn.TheVariants.{Plain, Lanes, Restart
 use Rattle.hay_legal.specs.Known.{now, home_of, home_in, volume_at, replica_at, refusal_of, machine_of, replicas_of, replica_on}
 use Rattle.hay_url.specs.declared.Url.{Url as UrlParts}
 use Rattle.hay_url.specs.Url.{cookie_of}
-use Rattle.hay_legal.specs.Plain.{is_built, IsStored, IsDeleted, LegalPlain, LegalAnswer, LegalShow, LegalGetAt, IsShown, start_of}
+use Rattle.hay_legal.specs.Plain.{IsStored, IsDeleted, LegalPlain, LegalCommand, LegalShow, LegalGetAt, IsShown, start_of}
 use Rattle.hay_legal.specs.Legal.{Legal}
 use Rattle.hay_legal.specs.Subject.{known_behind, pair_of, AsksFor, IsOf, changed_pair, LeavesAlone, SaysNothing, IsReadAs, IsRefusedAsGone, IsRefusedForItsCookie, StoredIsRead, DeletedIsGone}
-use Rattle.hay_legal.proofs.Subject.Shown.{legal_split, outcome_of, row_pair, row_outcome, at-now, pair_differs, map-append_rows, cookie_in, bytes_in, Tells, asked, carried_out}
+use Rattle.hay_legal.proofs.Subject.Shown.{legal_split, outcome_of, row_pair, row_outcome, at-now, pair_differs, map-append_rows, cookie_in, bytes_in, Tells, asked}
 use Rattle.hay_legal.proofs.Subject.Effects.{SameLog, RowsGrow, calm_undisturbed, find_of, home_stays, taken_home, Adds, Disturbed, put_disturbed, del_disturbed, plain_effect}
 use Rattle.hay_legal.proofs.Subject.Entries.{is_of_behind, home_bounded, taken_bounded}
 
@@ -182,9 +182,9 @@ show_gone settings k tag start pair cookie _ t tells stands h = absurd tells
 
 -- a fact about the reply to a reader, which each reply that tells nothing has
 pub answered : (settings : Settings) (k : Known) (tag : CoreTag) (c : Command) (r : Reply) (t : Known) (pair : Pair) (cookie : Cookie) (Fact : Reply → Type 0) → Tells r
-    → AsksFor c pair cookie → ((start : ℕ) → LegalShow settings k tag start pair cookie r t → Fact r) → LegalAnswer settings k tag c r t → Fact r
+    → AsksFor c pair cookie → ((start : ℕ) → LegalShow settings k tag start pair cookie r t → Fact r) → LegalCommand settings k tag c r t → Fact r
 answered settings k tag c r t pair cookie Fact tells asks fact h =
-    let shows = asked settings k tag c r t pair cookie tells asks (carried_out settings k tag c r t tells h) in fact shows.0 shows.1
+    let shows = asked settings k tag c r t pair cookie tells asks h in fact shows.0 shows.1
 
 -- the replies that no reader gets
 abbrev pub IsStrange : Reply → Type 0
@@ -195,7 +195,6 @@ IsStrange (reply.Unknown d) = ⊥
 IsStrange (reply.Unreadable v p d causes) = ⊥
 IsStrange (reply.Moved v d) = ⊥
 IsStrange reply.Nowhere = ⊥
-IsStrange reply.Unbuilt = ⊥
 IsStrange reply.NoMem = ⊥
 IsStrange _ = Unit {0}
 
@@ -218,19 +217,13 @@ get_strange settings k tag url None reply.NoMem t strange h = strange
 get_strange settings k tag url None _ t strange h = h
 
 pub reader_never : (settings : Settings) (k : Known) (tag : CoreTag) (c : Command) (r : Reply) (t : Known) (pair : Pair) (cookie : Cookie) → IsStrange r
-    → AsksFor c pair cookie → LegalAnswer settings k tag c r t → ⊥
-reader_never settings k tag c reply.Unbuilt t pair cookie strange asks h = strange
+    → AsksFor c pair cookie → LegalCommand settings k tag c r t → ⊥
 reader_never settings k tag (command.Read p q) r t pair cookie strange asks h = show_never settings k tag (start_of settings tag) p q r t strange h
 reader_never settings k tag (command.Get url) r t pair cookie strange asks h = get_strange settings k tag url (replica_on settings url.volume url.machine) r t strange h
 reader_never settings k tag _ r t pair cookie strange asks h = asks
 
-asked_is_built : (c : Command) (pair : Pair) (cookie : Cookie) → AsksFor c pair cookie → is_built c ≡ true
-asked_is_built (command.Read pair' cookie') pair cookie asks = refl
-asked_is_built (command.Get url) pair cookie asks = refl
-asked_is_built c pair cookie asks = absurd asks
-
 pub tells_or_nothing : (settings : Settings) (k : Known) (tag : CoreTag) (c : Command) (r : Reply) (t : Known) (pair : Pair) (cookie : Cookie)
-    → AsksFor c pair cookie → LegalAnswer settings k tag c r t → Tells r ⊎ SaysNothing r
+    → AsksFor c pair cookie → LegalCommand settings k tag c r t → Tells r ⊎ SaysNothing r
 tells_or_nothing settings k tag c (reply.Photo v m p d bytes) t pair cookie asks h = inl tt
 tells_or_nothing settings k tag c (reply.Gone v m p d) t pair cookie asks h = inl tt
 tells_or_nothing settings k tag c (reply.WrongCookie v m p d) t pair cookie asks h = inl tt
@@ -238,7 +231,6 @@ tells_or_nothing settings k tag c (reply.Unknown d) t pair cookie asks h = inl t
 tells_or_nothing settings k tag c (reply.Unreadable v p d causes) t pair cookie asks h = inr tt
 tells_or_nothing settings k tag c (reply.Moved v d) t pair cookie asks h = inr tt
 tells_or_nothing settings k tag c reply.Nowhere t pair cookie asks h = inr tt
-tells_or_nothing settings k tag c reply.Unbuilt t pair cookie asks h = let e : true ≡ false = sym (asked_is_built c pair cookie asks) ∙ h.0 in absurd cc
 tells_or_nothing settings k tag c reply.NoMem t pair cookie asks h = inr tt
 tells_or_nothing settings k tag c r t pair cookie asks h = absurd (reader_never settings k tag c r t pair cookie tt asks h)
 
@@ -249,7 +241,7 @@ silent_as bytes (reply.WrongCookie v m p d) h = absurd h
 silent_as bytes r h = (h, h, h)
 
 pub answer_photo : (settings : Settings) (k : Known) (tag : CoreTag) (c : Command) (r : Reply) (t : Known) (pair : Pair) (cookie own : Cookie) (bytes : List ℕ)
-    → Standing settings k pair (outcome.Photo (record { cookie = own; bytes = bytes })) → AsksFor c pair cookie → LegalAnswer settings k tag c r t
+    → Standing settings k pair (outcome.Photo (record { cookie = own; bytes = bytes })) → AsksFor c pair cookie → LegalCommand settings k tag c r t
     → ReadsPhoto cookie own bytes r
 answer_photo settings k tag c r t pair cookie own bytes stands asks h =
     elim (tells_or_nothing settings k tag c r t pair cookie asks h) [
@@ -259,7 +251,7 @@ answer_photo settings k tag c r t pair cookie own bytes stands asks h =
     ]
 
 pub answer_gone : (settings : Settings) (k : Known) (tag : CoreTag) (c : Command) (r : Reply) (t : Known) (pair : Pair) (cookie : Cookie)
-    → Standing settings k pair outcome.Nothing → AsksFor c pair cookie → LegalAnswer settings k tag c r t → IsRefusedAsGone r
+    → Standing settings k pair outcome.Nothing → AsksFor c pair cookie → LegalCommand settings k tag c r t → IsRefusedAsGone r
 answer_gone settings k tag c r t pair cookie stands asks h =
     elim (tells_or_nothing settings k tag c r t pair cookie asks h) [
       | inl tells ↦ answered settings k tag c r t pair cookie IsRefusedAsGone tells asks (λ start. show_gone settings k tag start pair cookie r t tells stands) h

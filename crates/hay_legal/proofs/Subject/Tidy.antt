@@ -29,7 +29,7 @@ use Rattle.hay_legal.specs.declared.turn.Item.TheVariants as item
 use Rattle.hay_legal.specs.declared.turn.Turn.{Turn}
 use Rattle.hay_legal.specs.declared.turn.Turn.TheVariants.{Plain, Lanes, Restart}
 use Rattle.hay_legal.specs.Known.{now, home_of, home_in, volume_at, replica_at, empty_volume, empty_replica, fresh_unharmed, fresh_volume}
-use Rattle.hay_legal.specs.Plain.{IsDeleted, LegalPlain, LegalAnswer, LegalShow, IsShown}
+use Rattle.hay_legal.specs.Plain.{IsDeleted, LegalPlain, LegalCommand, LegalShow, IsShown}
 use Rattle.hay_reply.specs.declared.Note.{Note}
 use Rattle.hay_legal.specs.Restarts.{Reopens, LegalRestart, IsRestarted, kept_entry, is_kept, with_entries}
 use Rattle.hay_legal.specs.Legal.{Legal}
@@ -261,7 +261,7 @@ silent_as_absent (reply.Unknown d) h = tt
 silent_as_absent r h = h
 
 pub answer_absent : (settings : Settings) (k : Known) (tag : CoreTag) (c : Command) (r : Reply) (t : Known) (pair : Pair) (cookie : Cookie) → IsOf settings k
-    → Absent settings k pair → AsksFor c pair cookie → LegalAnswer settings k tag c r t → IsRefusedAsAbsent r
+    → Absent settings k pair → AsksFor c pair cookie → LegalCommand settings k tag c r t → IsRefusedAsAbsent r
 answer_absent settings k tag c r t pair cookie is absent asks h =
     elim (tells_or_nothing settings k tag c r t pair cookie asks h) [
       | inl tells ↦ answered settings k tag c r t pair cookie IsRefusedAsAbsent tells asks (λ start. show_absent settings k tag start pair cookie r t tells is absent) h

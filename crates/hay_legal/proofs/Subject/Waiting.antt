@@ -27,7 +27,7 @@ use Rattle.hay_legal.specs.declared.turn.Turn.TheVariants.{Plain, Lanes, Restart
 use Rattle.hay_legal.specs.Known.{home_of, home_in, volume_at, replica_at, with_replica, empty_volume, Leaves, with_home, taker_of, tries_by, refusal_of, replica_on, closed, drained_of, refusal_by, room_refusal, closed_by}
 use Rattle.hay_url.specs.declared.Url.{Url as UrlParts}
 use Rattle.hay_url.specs.Url.{cookie_of}
-use Rattle.hay_legal.specs.Plain.{PutFailed, LegalPlain, LegalAnswer, LegalCommand, LegalShow, LegalGetAt, start_of, LegalPut, LegalDel, LegalUrl, LegalFlush, LegalBegin, LegalStep, LegalFinish, LegalCompact, LegalDrain, LegalUndrain, LegalFuse, LegalFuseDir, OnReplica, IsLoose, IsTight, replica_of, Swaps, SwapFailed, SwapNoMem, change_volume, change_replica, frozen_by, frozen_with, without_run, with_bare, with_stuck, with_run, swapped, stepped, poised, poised_by, as_it_is, put_frozen, put_entry, first_machine, with_put, with_del}
+use Rattle.hay_legal.specs.Plain.{PutFailed, LegalPlain, LegalCommand, LegalShow, LegalGetAt, start_of, LegalPut, LegalDel, LegalUrl, LegalFlush, LegalBegin, LegalStep, LegalFinish, LegalCompact, LegalDrain, LegalUndrain, LegalFuse, LegalFuseDir, OnReplica, IsLoose, IsTight, replica_of, Swaps, SwapFailed, SwapNoMem, change_volume, change_replica, frozen_by, frozen_with, without_run, with_bare, with_stuck, with_run, swapped, stepped, poised, poised_by, as_it_is, put_frozen, put_entry, first_machine, with_put, with_del}
 use Rattle.hay_legal.specs.Legal.{Legal}
 use Rattle.hay_legal.specs.Subject.{known_behind, pair_of, IsOf, IsNoBlock, IsAnswered, FailedPutThatWasKeptIsRead}
 use Rattle.hay_legal.proofs.Subject.Shown.{legal_split}
@@ -272,14 +272,9 @@ command_steady settings k tag (command.Fuse v n calls) r t w m frozen is h =
 command_steady settings k tag (command.FuseDir calls) r t w m frozen is h = fuse_dir_steady settings k calls r t w h
 command_steady settings k tag (command.Restart pick) r t w m frozen is h = absurd h
 
-pub answer_steady : (settings : Settings) (k : Known) (tag : CoreTag) (c : Command) (r : Reply) (t : Known) (w m : ℕ) → (volume_at k w).frozen ≡ Some m → r ≢ reply.NoMem
-    → LegalAnswer settings k tag c r t → Steady (volume_at k w) (volume_at t w)
-answer_steady settings k tag c reply.Unbuilt t w m frozen is h = steady_same k t w h.1
-answer_steady settings k tag c r t w m frozen is h = command_steady settings k tag c r t w m frozen is h
-
 pub plain_steady : (settings : Settings) (k : Known) (line : ℕ) (i : Item) (r : Reply) (t : Known) (w m : ℕ) → (volume_at k w).frozen ≡ Some m → r ≢ reply.NoMem
     → LegalPlain settings k line i r t → Steady (volume_at k w) (volume_at t w)
-plain_steady settings k line (item.Command c) r t w m frozen is h = answer_steady settings k (record { lane = 0; line = line }) c r t w m frozen is h
+plain_steady settings k line (item.Command c) r t w m frozen is h = command_steady settings k (record { lane = 0; line = line }) c r t w m frozen is h
 plain_steady settings k line item.Bad r t w m frozen is h = steady_same k t w h.1
 
 -- a volume that is frozen stays so, and its pending change stays pending
@@ -600,10 +595,6 @@ command_pends settings k tag (command.Fuse v n calls) r t w h =
 command_pends settings k tag (command.FuseDir calls) r t w h = fuse_dir_pends settings k calls r t w h
 command_pends settings k tag (command.Restart pick) r t w h = absurd h
 
-pub answer_pends : (settings : Settings) (k : Known) (tag : CoreTag) (c : Command) (r : Reply) (t : Known) (w : ℕ) → LegalAnswer settings k tag c r t → Pends k t w
-answer_pends settings k tag c reply.Unbuilt t w h = pends_same k t w h.1
-answer_pends settings k tag c r t w h = command_pends settings k tag c r t w h
-
 pub plain_pends : (settings : Settings) (k : Known) (line : ℕ) (i : Item) (r : Reply) (t : Known) (w : ℕ) → LegalPlain settings k line i r t → Pends k t w
-plain_pends settings k line (item.Command c) r t w h = answer_pends settings k (record { lane = 0; line = line }) c r t w h
+plain_pends settings k line (item.Command c) r t w h = command_pends settings k (record { lane = 0; line = line }) c r t w h
 plain_pends settings k line item.Bad r t w h = pends_same k t w h.1

@@ -1,31 +1,32 @@
-//! Scripts with fuses and restarts over one to four replicas: all replies agree with the failures and notes among them.
+//! Scripts with fuses, compactions and restarts over one to four replicas: all replies agree with the calls that a fuse let pass,
+//! and with the notes of the restarts.
 
+mod replica;
 mod script;
 mod story;
-
-ghost use Rattle.std.specs.Prelude.{◌<◌};
+mod tally;
 
 use super::outcome_of;
-use script::{FUSES, SIDES, commands_of, script_of};
+use script::{FUSES, Round, commands_of, script_of};
 use std::alloc::Global;
 use std::process::Abort;
 use std::str;
 use std::test::Fail;
-use story::{Story, Tally};
+use story::Story;
+use tally::Tally;
 
-/// Runs a script, and adds what it met.
-fn run_script(
-    rt: &impl Abort,
-    alloc: Global,
-    side: usize,
-    calls: u64,
-    met: &mut Tally,
-) -> Result<(), Fail>
-    requires { side < 12 }
-{
-    let commands = commands_of(alloc, side, calls)?;
+const PICKS: [u64; 3] = [0, 1, 7];
+
+/// Runs a script, and answers what it met.
+fn run_script(rt: &impl Abort, alloc: Global, round: Round) -> Result<Tally, Fail> {
+    let Round {
+        replicas,
+        machine,
+        calls,
+        pick,
+    } = round;
+    let commands = commands_of(alloc, round)?;
     let script = script_of(alloc, commands.as_slice())?;
-    let (replicas, _) = SIDES[side];
     let count = format!(in alloc; "{replicas}")?;
     let words = [
         "run",
@@ -41,27 +42,50 @@ fn run_script(
         .ok_or("no text")?;
     let mut story = Story::new(alloc, transcript, replicas)?;
     let replies = story.replies(commands.as_slice())?;
-    assert_eq!(rt; transcript, replies.as_str(), "side {side}, fuse {calls}");
-    assert_eq!(rt; story.tally.failed, 2, "side {side}, fuse {calls}");
-    met.failed = met.failed.saturating_add(story.tally.failed);
-    met.kept = met.kept.saturating_add(story.tally.kept);
-    met.lost = met.lost.saturating_add(story.tally.lost);
+    assert_eq!(rt;
+        transcript,
+        replies.as_str(),
+        "{replicas} replicas, fuse {calls} on {machine}, pick {pick}: {script}"
+    );
+    Ok(story.tally)
+}
+
+/// Runs a script for each replica, fuse and pick. Each kind of failure is met at least ten times.
+fn run_scripts(rt: &impl Abort, alloc: Global, replicas: u64) -> Result<(), Fail> {
+    let mut met = Tally::new();
+    for machine in 0..replicas {
+        for calls in 0..FUSES {
+            for pick in PICKS {
+                let round = Round {
+                    replicas,
+                    machine,
+                    calls,
+                    pick,
+                };
+                met.add(&run_script(rt, alloc, round)?);
+            }
+        }
+    }
+    assert!(rt; met.least() >= 10, "{met:?}");
     Ok(())
 }
 
 #[test]
-fn scripts_with_faults_agree_with_their_notes(rt: HostRuntime) -> Result<(), Fail> {
-    let mut met = Tally {
-        failed: 0,
-        kept: 0,
-        lost: 0,
-    };
-    for side in 0..12 {
-        for calls in 0..FUSES {
-            run_script(&rt, rt.alloc(), side, calls, &mut met)?;
-        }
-    }
-    assert!(rt; met.kept > 400, "too little was kept");
-    assert!(rt; met.lost > 400, "too little was lost");
-    Ok(())
+fn one_replica_agrees_with_its_notes(rt: HostRuntime) -> Result<(), Fail> {
+    run_scripts(&rt, rt.alloc(), 1)
+}
+
+#[test]
+fn two_replicas_agree_with_their_notes(rt: HostRuntime) -> Result<(), Fail> {
+    run_scripts(&rt, rt.alloc(), 2)
+}
+
+#[test]
+fn three_replicas_agree_with_their_notes(rt: HostRuntime) -> Result<(), Fail> {
+    run_scripts(&rt, rt.alloc(), 3)
+}
+
+#[test]
+fn four_replicas_agree_with_their_notes(rt: HostRuntime) -> Result<(), Fail> {
+    run_scripts(&rt, rt.alloc(), 4)
 }

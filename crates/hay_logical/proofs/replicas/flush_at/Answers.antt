@@ -26,6 +26,8 @@ returns-clause-flushes g c = λ r r' e f.
       loose = went_on here c.flush.new.self c.flush.result c.flush.ensures.frozen c.flush.ensures.going;
       flushed = c.flush.ensures.flushed;
       refused = c.flush.ensures.refused;
+      run = c.flush.ensures.run;
+      run_stays = c.flush.ensures.run_stays;
       cause = flush_if g.D.Disk.fault_count here c.flush.new.self c.flush.result up c.flush.ensures.causes c.flush.ensures.stuck c.flush.ensures.stayed c.flush.ensures.thawed c.flush.ensures.frozen;
       not_stuck = λ n e. not_stuck_before here c.flush.new.self c.flush.result c.flush.ensures.frozen (λ z. two_faults c.flush.result (fault.Failed n) fault.Frozen e z (λ w. (let wrong : fault.Failed n ≡ fault.Frozen = w in cc)));
       deletable = c.flush.ensures.deletes;

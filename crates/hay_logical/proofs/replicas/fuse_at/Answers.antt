@@ -21,6 +21,7 @@ returns-clause-fuses g c = λ r r' e f.
       same = c.fuse.ensures.same;
       stands = c.fuse.ensures.stands;
       holds = c.fuse.ensures.holds;
+      run = c.fuse.ensures.run;
       deletable = c.fuse.ensures.deletes;
       same_faults = c.fuse.ensures.faults;
       next = c.fuse.ensures.fuses;

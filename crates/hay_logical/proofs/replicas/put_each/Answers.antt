@@ -1,99 +1,46 @@
-use Rattle.std.proofs.Common.{Err, ◌≡◌, ◌≤◌, ◌<◌, ◌+◌, ℕ, ◌∷◌, [], length, length-append, refl, ap, ◌∙◌, arith}
-use Rattle.std.specs.Prelude.{slice_index_or}
-use Rattle.hay_map.specs.Places.{place_in}
-use Rattle.hay_map.specs.declared.place.Place.TheVariants as place
-use Rattle.hay_physical.specs.Copies.{Copy}
+use Rattle.std.proofs.Common.{inl, inr, sym, subst}
+use Rattle.hay_logical.specs.Steps.{EndsRuns, PutLeaves}
+use Rattle.hay_logical.specs.Volumes.{KeepsCounts}
 use Rattle.hay_logical.specs.Fits.{At}
-use Rattle.hay_logical.specs.Steps.{KeepsDeletable}
-use Rattle.hay_logical.proofs.Calls.{Counted, place_before, place_last, put_cause, puts_on, up_open, went_counts}
-use Rattle.hay_logical.proofs.Lists.{at_read, broken_above, broken_below, broken_is, broken_was, went_all, went_every, went_next, went_start, went_step}
+use Rattle.hay_logical.proofs.Dropping.{counts_on, deletable_on, not_untouched, put_leaves_on, untouched_back}
 use Rattle.hay_logical.proofs.replicas.put_each.Goals as goal
+use Rattle.hay_logical.proofs.replicas.put_each.Goals.{then-not-is_untouched, else-not-is_untouched}
 
-pub loop-j-init : goal.loop-j-init
-loop-j-init g c = record { went = went_start _ c.args.replicas.now; places = rw c.new-row.ensures refl }
+pub returns-after-not-is_untouched-clause-counts : goal.returns-after-not-is_untouched-clause-counts
+returns-after-not-is_untouched-clause-counts g c = elim c.if-not-is_untouched.branch [
+  | then-not-is_untouched w ↦
+      subst (λ rs. KeepsCounts g.D.Disk.fault_count g.D.Disk.fuse_count c.args.replicas.now rs) (sym w.replicas-is)
+      (counts_on g.D.Disk.Tells g.D.Disk.files g.D.Disk.fault_count c.args.replicas.now c.put_in_order.new.replicas w.drop_runs.new.replicas w.drop_runs.ensures.count w.drop_runs.ensures.each
+      g.D.Disk.fuse_count c.put_in_order.ensures.counts)
+  | else-not-is_untouched w ↦ subst (λ rs. KeepsCounts g.D.Disk.fault_count g.D.Disk.fuse_count c.args.replicas.now rs) (sym w.replicas-is) c.put_in_order.ensures.counts
+]
 
-pub put-requires-clause-open : goal.put-requires-clause-open
-put-requires-clause-open g c = λ κs lives.
-    let within : c.loop-j.j < length c.loop-j.replicas = omega arith in
-    let here : Copy g.row.D.Denot = slice_index_or c.loop-j.replicas c.loop-j.j c.index-replicas-j.result in
-    let there : At c.loop-j.replicas c.loop-j.j here = at_read c.loop-j.replicas c.loop-j.j c.index-replicas-j.result within in
-    up_open here (c.requires.up c.loop-j.j here (went_next _ c.loop-j.j c.args.replicas.now c.loop-j.replicas here c.loop-j.invariant.went there))
+pub returns-after-not-is_untouched-clause-deletable : goal.returns-after-not-is_untouched-clause-deletable
+returns-after-not-is_untouched-clause-deletable g c = λ j r r' e f. elim c.if-not-is_untouched.branch [
+  | then-not-is_untouched w ↦
+      deletable_on g.D.Disk.Tells g.D.Disk.files g.D.Disk.fault_count c.args.replicas.now c.put_in_order.new.replicas w.drop_runs.new.replicas w.drop_runs.ensures.count w.drop_runs.ensures.each
+      c.put_in_order.ensures.deletable j r r' e (subst (λ rs. At rs j r') w.replicas-is f)
+  | else-not-is_untouched w ↦ c.put_in_order.ensures.deletable j r r' e (subst (λ rs. At rs j r') w.replicas-is f)
+]
 
-pub returns-in-Err-clause-counts : goal.returns-in-Err-clause-counts
-returns-in-Err-clause-counts g c =
-    let within : c.loop-j.j < length c.loop-j.replicas = omega arith in
-    let there = at_read c.loop-j.replicas c.loop-j.j c.index-replicas-j.result within in
-    went_counts g.D.Disk.fault_count g.D.Disk.fuse_count (λ i. Counted g.D.Disk.fault_count g.D.Disk.fuse_count) (c.loop-j.j + 1) c.args.replicas.now _
-    (went_step _ (λ i. Counted g.D.Disk.fault_count g.D.Disk.fuse_count) c.loop-j.j c.args.replicas.now c.loop-j.replicas _ c.put.new.self c.loop-j.invariant.went there
-    (λ i r r' h p. (p.1, p.2)) (c.put.ensures.counts, c.put.ensures.fuses))
-    (λ i r r' h. h)
+pub returns-after-not-is_untouched-clause-broken : goal.returns-after-not-is_untouched-clause-broken
+returns-after-not-is_untouched-clause-broken g c = elim c.if-not-is_untouched.branch [
+  | then-not-is_untouched w ↦
+      subst (λ rs. PutLeaves g.D.Disk.Tells g.D.Disk.files g.D.Disk.fault_count c.args.pair c.args.cookie c.args.bytes.now c.args.replicas.now rs c.in-Err.broken) (sym w.replicas-is)
+      (put_leaves_on g.D.Disk.Tells g.D.Disk.files g.D.Disk.fault_count c.args.replicas.now c.put_in_order.new.replicas w.drop_runs.new.replicas w.drop_runs.ensures.count w.drop_runs.ensures.each
+      c.args.pair c.args.cookie c.args.bytes.now c.in-Err.broken c.in-Err.ensures.broken)
+  | else-not-is_untouched w ↦
+      subst (λ rs. PutLeaves g.D.Disk.Tells g.D.Disk.files g.D.Disk.fault_count c.args.pair c.args.cookie c.args.bytes.now c.args.replicas.now rs c.in-Err.broken) (sym w.replicas-is) c.in-Err.ensures.broken
+]
 
-pub returns-in-Err-clause-broken : goal.returns-in-Err-clause-broken
-returns-in-Err-clause-broken g c =
-    let within : c.loop-j.j < length c.loop-j.replicas = omega arith in
-    let here : Copy g.row.D.Denot = slice_index_or c.loop-j.replicas c.loop-j.j c.index-replicas-j.result in
-    let there : At c.loop-j.replicas c.loop-j.j here = at_read c.loop-j.replicas c.loop-j.j c.index-replicas-j.result within in
-    let was : At c.args.replicas.now c.loop-j.j here = broken_was _ c.loop-j.j c.args.replicas.now c.loop-j.replicas here c.put.new.self c.loop-j.invariant.went there in
-    record {
-      before = here;
-      after = c.put.new.self;
-      was = was;
-      is = broken_is _ c.loop-j.j c.args.replicas.now c.loop-j.replicas here c.put.new.self c.loop-j.invariant.went there;
-      below = λ i r r' h e f.
-          let p = broken_below _ c.loop-j.j c.args.replicas.now c.loop-j.replicas here c.put.new.self c.loop-j.invariant.went there i r r' h e f in
-          (p.0.up, p.0.sup, p.0.stuck, λ tells s stands. (p.0.stands tells s stands).0);
-      there = record {
-        «open» = c.put.ensures.«open»;
-        sup = c.put.ensures.sup;
-        stuck = c.put.ensures.stuck;
-        stands = λ tells s stands. c.in-Err.ensures.refused tells s stands;
-      };
-      above = broken_above _ c.loop-j.j c.args.replicas.now c.loop-j.replicas here c.put.new.self c.loop-j.invariant.went there;
-      cause = put_cause g.D.Disk.fault_count here c.put.new.self (length c.args.bytes.now) c.in-Err.fault (c.requires.up c.loop-j.j here was) (c.requires.room c.loop-j.j here was)
-          (λ e. c.in-Err.ensures.thawed (ap Err e)) (λ end need capacity e. c.in-Err.ensures.fits end need capacity (ap Err e)) c.in-Err.ensures.causes c.in-Err.ensures.froze;
-    }
-
-pub loop-j-preserved : goal.loop-j-preserved
-loop-j-preserved g c =
-    let within : c.loop-j.j < length c.loop-j.replicas = omega arith in
-    let here : Copy g.row.D.Denot = slice_index_or c.loop-j.replicas c.loop-j.j c.index-replicas-j.result in
-    let there : At c.loop-j.replicas c.loop-j.j here = at_read c.loop-j.replicas c.loop-j.j c.index-replicas-j.result within in
-    let places : length c.loop-j.row ≡ c.loop-j.j = c.loop-j.invariant.places in
-    let same : (i : ℕ) → i < c.loop-j.j → place_in c.push.new.self i ≡ place_in c.loop-j.row i =
-    λ i h. rw c.push.ensures (place_before c.loop-j.row (place.Live c.in-Ok.needle) i (let less : i < length c.loop-j.row = omega (arith, h, places) in less)) in
-    let last : place_in c.push.new.self c.loop-j.j ≡ place.Live c.in-Ok.needle = rw c.push.ensures (place_last c.loop-j.row (place.Live c.in-Ok.needle) c.loop-j.j places) in
-    record {
-      went = went_step _ _ c.loop-j.j c.args.replicas.now c.loop-j.replicas here c.put.new.self c.loop-j.invariant.went there
-          (λ i r r' h p. (puts_on g.D.Disk.Tells g.D.Disk.files g.D.Piece.Piece.Tells c.args.pair c.args.cookie c.args.bytes.now r r' (place_in c.loop-j.row i) (place_in c.push.new.self i) (same i h) p.0, p.1, p.2, p.3)) (
-            puts_on g.D.Disk.Tells g.D.Disk.files g.D.Piece.Piece.Tells c.args.pair c.args.cookie c.args.bytes.now here c.put.new.self (place.Live c.in-Ok.needle) (place_in c.push.new.self c.loop-j.j) last
-                (record { up = c.in-Ok.ensures.up; sup = c.put.ensures.sup; stuck = c.put.ensures.stuck; stands = λ tells s stands. c.in-Ok.ensures.stored tells s stands; deletable = c.in-Ok.ensures.can_delete }),
-            c.put.ensures.counts,
-            c.put.ensures.fuses,
-            c.put.ensures.deletes,
-          );
-      places = ap length c.push.ensures ∙ length-append c.loop-j.row (place.Live c.in-Ok.needle ∷ []) ∙ ap (λ n. n + 1) places;
-    }
-
-pub returns-clause-counts : goal.returns-clause-counts
-returns-clause-counts g c =
-    went_counts g.D.Disk.fault_count g.D.Disk.fuse_count _ _ c.args.replicas.now _ c.loop-j.invariant.went (λ i r r' p. (p.1, p.2))
-
-pub returns-clause-places : goal.returns-clause-places
-returns-clause-places g c = c.loop-j.invariant.places ∙ (let e : c.loop-j.j ≡ length c.args.replicas.now = omega arith in e)
-
-pub returns-clause-put : goal.returns-clause-put
-returns-clause-put g c = λ j r r' e f. (went_all _ _ c.args.replicas.now _ c.loop-j.invariant.went (let all : length c.args.replicas.now ≤ c.loop-j.j = omega arith in all) j r r' e f).0
-
-pub returns-clause-deletable : goal.returns-clause-deletable
-returns-clause-deletable g c = λ j r r' e f.
-    went_every _ (KeepsDeletable g.D.Disk.Tells g.D.Disk.files) _ c.args.replicas.now _ c.loop-j.invariant.went (λ i r r' p. p.3) (λ x tells place may. may) j r r' e f
-
-pub returns-in-Err-clause-deletable : goal.returns-in-Err-clause-deletable
-returns-in-Err-clause-deletable g c = λ j r r' e f.
-    let within : c.loop-j.j < length c.loop-j.replicas = omega arith in
-    let here : Copy g.row.D.Denot = slice_index_or c.loop-j.replicas c.loop-j.j c.index-replicas-j.result in
-    let there : At c.loop-j.replicas c.loop-j.j here = at_read c.loop-j.replicas c.loop-j.j c.index-replicas-j.result within in
-    let K : ℕ → Copy g.row.D.Denot → Copy g.row.D.Denot → Type 0 = λ i x y. KeepsDeletable g.D.Disk.Tells g.D.Disk.files x y in
-    went_every K (KeepsDeletable g.D.Disk.Tells g.D.Disk.files) (c.loop-j.j + 1) c.args.replicas.now _
-    (went_step _ K c.loop-j.j c.args.replicas.now c.loop-j.replicas here c.put.new.self c.loop-j.invariant.went there (λ i x y h p. p.3) c.put.ensures.deletes)
-    (λ i x y p. p) (λ x tells place may. may) j r r' e f
+pub returns-after-not-is_untouched-clause-runs : goal.returns-after-not-is_untouched-clause-runs
+returns-after-not-is_untouched-clause-runs g c = elim c.if-not-is_untouched.branch [
+  | then-not-is_untouched w ↦ subst (λ rs. EndsRuns g.D.Disk.Tells g.D.Disk.files c.args.replicas.now rs c.in-Err.broken) (sym w.replicas-is) (inr (
+    w.drop_runs.ensures.idle,
+    λ un. not_untouched c.put_in_order.new.replicas c.in-Err.broken (λ e f r there. c.is_untouched.ensures.touched w.if-not-is_untouched.true e f r there)
+        (untouched_back g.D.Disk.Tells g.D.Disk.files g.D.Disk.fault_count c.args.replicas.now c.put_in_order.new.replicas w.drop_runs.new.replicas w.drop_runs.ensures.count w.drop_runs.ensures.each c.in-Err.broken un),
+  ))
+  | else-not-is_untouched w ↦
+      subst (λ rs. EndsRuns g.D.Disk.Tells g.D.Disk.files c.args.replicas.now rs c.in-Err.broken) (sym w.replicas-is)
+      (inl (record { is = c.is_untouched.ensures.untouched w.if-not-is_untouched.false; above = c.in-Err.ensures.others; there = c.in-Err.ensures.run }))
+]

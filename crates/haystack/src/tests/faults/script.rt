@@ -1,7 +1,5 @@
 //! Scripts of two rounds: a fuse on a replica's disk, a mix of commands, a restart, and reads of all pairs.
 
-ghost use Rattle.std.specs.Prelude.{◌<◌};
-
 use std::alloc::Global;
 use std::test::Fail;
 
@@ -13,14 +11,25 @@ pub type Pair = u64;
 
 const PAIRS: Pair = 5;
 
-/// How many fuses there are: 0 to 40. The puts of a mix alone make more calls than each lets pass.
-pub const FUSES: u64 = 41;
+/// How many fuses there are: 0 to 60.
+pub const FUSES: u64 = 61;
+
+/// Maintenance work on a replica.
+#[derive(Clone, Copy)]
+pub enum Work {
+    Flush,
+    Begin,
+    Step(u64),
+    Finish,
+    Compact,
+}
 
 #[derive(Clone, Copy)]
 pub enum Command {
     Put(Pair),
     Delete(Pair),
     Read(Pair),
+    Work { machine: u64, work: Work },
     Fuse { machine: u64, calls: u64 },
     Restart(u64),
 }
@@ -43,6 +52,16 @@ impl Draw {
     fn pair(&mut self) -> Pair {
         self.number() % PAIRS + 1
     }
+
+    fn work(&mut self) -> Work {
+        match self.number() % 8 {
+            0 => Work::Flush,
+            1 | 2 => Work::Begin,
+            3..6 => Work::Step(self.number() % 4 + 1),
+            6 => Work::Finish,
+            _ => Work::Compact,
+        }
+    }
 }
 
 /// The photo that a line puts, as it is read again.
@@ -54,6 +73,16 @@ pub fn photo_of(alloc: Global, line: u64) -> Result<String, Fail> {
     }
 }
 
+fn work_line(alloc: Global, machine: u64, work: Work) -> Result<String, Fail> {
+    Ok(match work {
+        Work::Flush => format!(in alloc; "flush 0 {machine}\n")?,
+        Work::Begin => format!(in alloc; "begin 0 {machine}\n")?,
+        Work::Step(cells) => format!(in alloc; "step 0 {machine} {cells}\n")?,
+        Work::Finish => format!(in alloc; "finish 0 {machine}\n")?,
+        Work::Compact => format!(in alloc; "compact 0 {machine}\n")?,
+    })
+}
+
 /// A line of the script, with its line feed.
 fn line_of(alloc: Global, line: u64, command: Command) -> Result<String, Fail> {
     Ok(match command {
@@ -63,6 +92,7 @@ fn line_of(alloc: Global, line: u64, command: Command) -> Result<String, Fail> {
         }
         Command::Delete(pair) => format!(in alloc; "del 0 {pair}\n")?,
         Command::Read(pair) => format!(in alloc; "read 0 {pair} {COOKIE}\n")?,
+        Command::Work { machine, work } => work_line(alloc, machine, work)?,
         Command::Fuse { machine, calls } => format!(in alloc; "fuse 0 {machine} {calls}\n")?,
         Command::Restart(pick) => format!(in alloc; "restart {pick}\n")?,
     })
@@ -76,36 +106,45 @@ pub fn script_of(alloc: Global, commands: &[Command]) -> Result<String, Fail> {
     Ok(script)
 }
 
-/// Twelve puts, four deletes and four reads, from any place of their turn on.
-fn push_mix(commands: &mut Vec<Command>, draw: &mut Draw) -> Result<(), Fail> {
-    let first = draw.number();
-    for turn in 0..20 {
+/// A round of a script: the fuse that stops its changes, and what the restart behind them picks.
+#[derive(Clone, Copy)]
+pub struct Round {
+    pub replicas: u64,
+    pub machine: u64,
+    pub calls: u64,
+    pub pick: u64,
+}
+
+/// A compaction of the replica with the fuse, which has copied what stands; then puts, deletes, a few reads, and work on
+/// replicas, half of it on that one.
+fn push_mix(commands: &mut Vec<Command>, draw: &mut Draw, round: Round) -> Result<(), Fail> {
+    for work in [Work::Begin, Work::Step(9)] {
+        commands.push(Command::Work {
+            machine: round.machine,
+            work,
+        })?;
+    }
+    for _ in 0..40 {
         let pair = draw.pair();
-        commands.push(match first.wrapping_add(turn) % 5 {
-            0 | 1 | 3 => Command::Put(pair),
-            2 => Command::Delete(pair),
-            _ => Command::Read(pair),
+        let machine = match draw.number() % 2 {
+            0 => round.machine,
+            _ => draw.number() % round.replicas.max(1),
+        };
+        commands.push(match draw.number() % 16 {
+            0..5 => Command::Put(pair),
+            5..9 => Command::Delete(pair),
+            9 => Command::Read(pair),
+            _ => Command::Work {
+                machine,
+                work: draw.work(),
+            },
         })?;
     }
     Ok(())
 }
 
-/// A round of a script: the fuse that stops its changes, and what the restart behind them picks.
-#[derive(Clone, Copy)]
-struct Round {
-    machine: u64,
-    calls: u64,
-    pick: u64,
-}
-
-/// A fuse, commands that it stops, a restart, and what stands behind it: each pair is read at two lines in a row.
-fn push_round(commands: &mut Vec<Command>, draw: &mut Draw, round: Round) -> Result<(), Fail> {
-    commands.push(Command::Fuse {
-        machine: round.machine,
-        calls: round.calls,
-    })?;
-    push_mix(commands, draw)?;
-    commands.push(Command::Restart(round.pick))?;
+/// Each pair is read at two lines in a row.
+fn push_reads(commands: &mut Vec<Command>) -> Result<(), Fail> {
     for pair in 1..=PAIRS {
         commands.push(Command::Read(pair))?;
         commands.push(Command::Read(pair))?;
@@ -113,49 +152,47 @@ fn push_round(commands: &mut Vec<Command>, draw: &mut Draw, round: Round) -> Res
     Ok(())
 }
 
-/// How many replicas a script's volume has, and which of them its first fuse is for.
-pub const SIDES: [(u64, u64); 12] = [
-    (1, 0),
-    (1, 0),
-    (1, 0),
-    (2, 0),
-    (2, 1),
-    (3, 0),
-    (3, 1),
-    (3, 2),
-    (4, 0),
-    (4, 1),
-    (4, 2),
-    (4, 3),
-];
+/// A fuse, commands that it stops, a restart, and what stands behind it: a compaction then tells the generation of the replica that
+/// failed, and a flush how many of its cells have no record.
+fn push_round(commands: &mut Vec<Command>, draw: &mut Draw, round: Round) -> Result<(), Fail> {
+    let machine = round.machine;
+    commands.push(Command::Fuse {
+        machine,
+        calls: round.calls,
+    })?;
+    push_mix(commands, draw, round)?;
+    commands.push(Command::Restart(round.pick))?;
+    push_reads(commands)?;
+    for work in [Work::Begin, Work::Flush] {
+        commands.push(Command::Work { machine, work })?;
+    }
+    Ok(())
+}
 
-/// Each script of one replica has each of these picks once.
-const PICKS: [u64; 3] = [0, 1, 7];
-
-/// Three photos and two rounds.
-pub fn commands_of(alloc: Global, side: usize, calls: u64) -> Result<Vec<Command>, Fail>
-    requires { side < 12 }
-{
-    let (replicas, machine) = SIDES[side];
-    let number = calls.wrapping_add(side as u64);
+/// Three photos, this round, one that is drawn, and the end of the compaction that stands.
+pub fn commands_of(alloc: Global, first: Round) -> Result<Vec<Command>, Fail> {
+    let number = first.calls.wrapping_mul(4).wrapping_add(first.machine);
     let mut draw = Draw {
-        state: number.wrapping_mul(1_000_003),
+        state: number.wrapping_mul(1_000_003).wrapping_add(first.pick),
     };
     let mut commands = Vec::new(alloc);
     for pair in 1..=3 {
         commands.push(Command::Put(pair))?;
     }
-    let first = Round {
-        machine,
-        calls,
-        pick: PICKS[(number % 3) as usize],
-    };
     push_round(&mut commands, &mut draw, first)?;
     let second = Round {
-        machine: draw.number() % replicas.max(1),
+        replicas: first.replicas,
+        machine: draw.number() % first.replicas.max(1),
         calls: draw.number() % FUSES,
         pick: draw.number(),
     };
     push_round(&mut commands, &mut draw, second)?;
+    commands.push(Command::Work {
+        machine: second.machine,
+        work: Work::Finish,
+    })?;
+    push_reads(&mut commands)?;
+    commands.push(Command::Restart(first.pick))?;
+    push_reads(&mut commands)?;
     Ok(commands)
 }

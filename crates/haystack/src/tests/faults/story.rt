@@ -1,22 +1,11 @@
-//! The transcript of a script, from the changes that it says failed and its notes on them.
+//! The transcript of a script, from what its fuses let pass and from the notes of its restarts.
 
-use super::script::{COOKIE, Command, Pair, photo_of};
+use super::replica::{Content, Done, Replica};
+use super::script::{COOKIE, Command, Pair, Work, photo_of};
+use super::tally::Tally;
 use std::alloc::Global;
 use std::collections::BTreeMap;
 use std::test::Fail;
-
-/// What the last change of a pair made of it.
-#[derive(Clone, Copy)]
-enum Content {
-    Photo { line: u64 },
-    Gone,
-}
-
-impl Content {
-    fn is_gone(self) -> bool {
-        matches!(self, Content::Gone)
-    }
-}
 
 /// A change that was answered `failed`, by the replica on this machine.
 #[derive(Clone, Copy)]
@@ -27,38 +16,11 @@ struct FailedChange {
     machine: u64,
 }
 
-/// How many changes failed, and how many replicas kept or lost theirs behind the restart.
-#[derive(Drop)]
-pub struct Tally {
-    pub failed: u64,
-    pub kept: u64,
-    pub lost: u64,
-}
-
-/// One replica, as the replies and notes so far say.
-#[derive(Drop)]
-struct Replica {
-    /// A pair stands here from its first put on, also where that put failed and was lost: it has its row.
-    contents: BTreeMap<Pair, Content>,
-    faults: u64,
-}
-
-impl Replica {
-    fn content(&self, pair: Pair) -> Content {
-        self.contents.get(&pair).copied().unwrap_or(Content::Gone)
-    }
-
-    fn set(&mut self, pair: Pair, content: Content) -> Result<(), Fail> {
-        self.contents.insert(pair, content).ok().ok_or("memory")?;
-        Ok(())
-    }
-}
-
-/// What the replies and notes so far say.
+/// What the commands and notes so far make of the store.
 #[derive(Drop)]
 pub struct Story<'a> {
     alloc: Global,
-    /// Which changes failed, and which of them the failing replica kept, is looked up here; all else follows.
+    /// What a stop kept of the failed command is looked up here; all else follows.
     transcript: &'a str,
     /// The replica on machine M is the one at M.
     replicas: Vec<Replica>,
@@ -66,9 +28,9 @@ pub struct Story<'a> {
     rows: BTreeMap<Pair, u64>,
     /// How many changes were acknowledged since the last restart.
     position: u64,
-    /// The machine whose disk has a fuse.
-    fused: u64,
-    /// The change that closed the volume.
+    /// The machine that closed the volume.
+    frozen: Option<u64>,
+    /// The change by which it did.
     failed: Option<FailedChange>,
     pub tally: Tally,
 }
@@ -77,10 +39,7 @@ impl<'a> Story<'a> {
     pub fn new(alloc: Global, transcript: &'a str, replicas: u64) -> Result<Story<'a>, Fail> {
         let mut all = Vec::new(alloc);
         for _ in 0..replicas {
-            all.push(Replica {
-                contents: BTreeMap::new(alloc),
-                faults: 0,
-            })?;
+            all.push(Replica::new(alloc))?;
         }
         Ok(Story {
             alloc,
@@ -88,13 +47,9 @@ impl<'a> Story<'a> {
             replicas: all,
             rows: BTreeMap::new(alloc),
             position: 0,
-            fused: 0,
+            frozen: None,
             failed: None,
-            tally: Tally {
-                failed: 0,
-                kept: 0,
-                lost: 0,
-            },
+            tally: Tally::new(),
         })
     }
 
@@ -106,28 +61,66 @@ impl<'a> Story<'a> {
         )
     }
 
-    /// The reply to a change, failed or acknowledged as the transcript says.
+    fn replica(&self, machine: u64) -> Result<&Replica, Fail> {
+        match self.replicas.get(machine as usize) {
+            Some(replica) => Ok(replica),
+            None => Err("no such machine".into()),
+        }
+    }
+
+    fn replica_mut(&mut self, machine: u64) -> Result<&mut Replica, Fail> {
+        match self.replicas.get_mut(machine as usize) {
+            Some(replica) => Ok(replica),
+            None => Err("no such machine".into()),
+        }
+    }
+
+    /// How many calls have failed.
+    fn faults(&self) -> u64 {
+        let mut faults = 0_u64;
+        for replica in self.replicas.iter() {
+            faults = faults.saturating_add(replica.faults());
+        }
+        faults
+    }
+
+    /// A failure closes the volume, and ends its compactions.
+    fn freeze(&mut self, machine: u64) {
+        self.frozen = Some(machine);
+        for replica in self.replicas.iter_mut() {
+            replica.drop_run();
+        }
+    }
+
+    /// Makes the calls of a change, replica by replica, and answers the machine of the first that fails.
+    fn first_failed(&mut self, pair: Pair, content: Content) -> Option<u64> {
+        for (machine, replica) in (0..).zip(self.replicas.iter_mut()) {
+            if !replica.change(pair, content) {
+                return Some(machine);
+            }
+        }
+        None
+    }
+
+    /// The reply to a change of a pair that has a home, or gets one.
     fn change(&mut self, line: u64, pair: Pair, content: Content) -> Result<String, Fail> {
-        if let Some(failed) = self.failed {
-            return Ok(format!(in self.alloc; "readonly 0:{}", failed.machine)?);
+        if let Some(machine) = self.frozen {
+            return Ok(format!(in self.alloc; "readonly 0:{machine}")?);
         }
         if !content.is_gone() {
             self.rows.insert(pair, line).ok().ok_or("memory")?;
         }
-        let machine = self.fused;
-        let faults = match self.replicas.get(machine as usize) {
-            Some(replica) => replica.faults.saturating_add(1),
-            None => return Err("no such machine".into()),
-        };
-        let failed = format!(in self.alloc; "failed 0:{machine} {faults}")?;
-        if self.has(format!(in self.alloc; "{line} {failed}")?.as_str())? {
-            self.fail(FailedChange {
+        let before = self.faults();
+        if let Some(machine) = self.first_failed(pair, content) {
+            return self.fail(FailedChange {
                 line,
                 pair,
                 content,
                 machine,
             });
-            return Ok(failed);
+        }
+        if before < self.faults() {
+            self.tally.repeats = self.tally.repeats.saturating_add(1);
         }
         for replica in self.replicas.iter_mut() {
             replica.set(pair, content)?;
@@ -141,12 +134,17 @@ impl<'a> Story<'a> {
     }
 
     /// Until the restart a failed change shows what stood before.
-    fn fail(&mut self, change: FailedChange) {
-        if let Some(replica) = self.replicas.get_mut(change.machine as usize) {
-            replica.faults = replica.faults.saturating_add(1);
-        }
-        self.tally.failed = self.tally.failed.saturating_add(1);
+    fn fail(&mut self, change: FailedChange) -> Result<String, Fail> {
+        let machine = change.machine;
+        self.tally.changes = self.tally.changes.saturating_add(1);
         self.failed = Some(change);
+        self.freeze(machine);
+        self.failed_text(machine)
+    }
+
+    fn failed_text(&self, machine: u64) -> Result<String, Fail> {
+        let faults = self.replica(machine)?.faults();
+        Ok(format!(in self.alloc; "failed 0:{machine} {faults}")?)
     }
 
     fn delete(&mut self, line: u64, pair: Pair) -> Result<String, Fail> {
@@ -158,7 +156,7 @@ impl<'a> Story<'a> {
             .replicas
             .iter()
             .all(|replica| replica.content(pair).is_gone());
-        if is_gone && self.failed.is_none() {
+        if is_gone && self.frozen.is_none() {
             return Ok(format!(in self.alloc; "gone 0 {position} {rows}")?);
         }
         self.change(line, pair, Content::Gone)
@@ -171,10 +169,7 @@ impl<'a> Story<'a> {
             return Ok(format!(in self.alloc; "unknown {rows}")?);
         }
         let machine = line % (self.replicas.len() as u64).max(1);
-        let Some(replica) = self.replicas.get(machine as usize) else {
-            return Err("no such machine".into());
-        };
-        Ok(match replica.content(pair) {
+        Ok(match self.replica(machine)?.content(pair) {
             Content::Photo { line } => {
                 let photo = photo_of(self.alloc, line)?;
                 format!(in self.alloc; "photo 0 {machine} {position} {rows} {photo}")?
@@ -183,12 +178,73 @@ impl<'a> Story<'a> {
         })
     }
 
+    /// What failed before a restart and may have been kept shows at the first work behind it: a flush whose block was written has
+    /// left no cell without a record, and behind a switch whose row was written the next generation is made.
+    fn settle(&mut self, line: u64, machine: u64, work: Work) -> Result<(), Fail> {
+        match (work, self.replica(machine)?.bare_if_flushed()) {
+            (Work::Flush, Some(bare)) => {
+                let wrote = self.has(format!(in self.alloc;
+                    "{line} flushed 0:{machine} {bare}"
+                )?.as_str())?;
+                self.replica_mut(machine)?.settle_flush(wrote);
+            }
+            _ => {}
+        }
+        match (work, self.replica(machine)?.generation_if_switched()) {
+            (Work::Begin, Some(current)) => {
+                let goal = current.saturating_add(1);
+                let wrote = self.has(format!(in self.alloc;
+                    "{line} begun 0:{machine} {goal}"
+                )?.as_str())?;
+                self.replica_mut(machine)?.settle_switch(wrote);
+            }
+            _ => {}
+        }
+        Ok(())
+    }
+
+    /// The reply to work on a replica.
+    fn work(&mut self, line: u64, machine: u64, work: Work) -> Result<String, Fail> {
+        if let Some(frozen) = self.frozen {
+            return Ok(format!(in self.alloc; "readonly 0:{frozen}")?);
+        }
+        self.settle(line, machine, work)?;
+        let before = self.faults();
+        let replica = self.replica_mut(machine)?;
+        let done = match work {
+            Work::Flush => replica.flush(),
+            Work::Begin => replica.begin(),
+            Work::Step(cells) => replica.step(cells)?,
+            Work::Finish => replica.finish()?,
+            Work::Compact => replica.compact()?,
+        };
+        let rose = before < self.faults();
+        self.tally.count(work, done, rose);
+        self.done_text(machine, done)
+    }
+
+    fn done_text(&mut self, machine: u64, done: Done) -> Result<String, Fail> {
+        let alloc = self.alloc;
+        Ok(match done {
+            Done::Flushed(records) => format!(in alloc; "flushed 0:{machine} {records}")?,
+            Done::Begun(goal) => format!(in alloc; "begun 0:{machine} {goal}")?,
+            Done::Stepped(cells) => format!(in alloc; "stepped 0:{machine} {cells}")?,
+            Done::Compacted(goal) => format!(in alloc; "compacted 0:{machine} {goal}")?,
+            Done::Busy(goal) => format!(in alloc; "busy 0:{machine} {goal}")?,
+            Done::Idle => format!(in alloc; "idle 0:{machine}")?,
+            Done::ReadOnly => format!(in alloc; "readonly 0:{machine}")?,
+            Done::Failed => self.failed_text(machine)?,
+            Done::Unsure => {
+                self.freeze(machine);
+                self.failed_text(machine)?
+            }
+        })
+    }
+
     /// Whether a replica has kept a change: those below the one that failed have it, those above have not, and of that one the
     /// transcript tells. A delete counts as kept where nothing stood.
     fn is_kept(&self, change: FailedChange, machine: u64) -> Result<bool, Fail> {
-        let Some(replica) = self.replicas.get(machine as usize) else {
-            return Err("no such machine".into());
-        };
+        let replica = self.replica(machine)?;
         if change.content.is_gone() && replica.content(change.pair).is_gone() {
             return Ok(true);
         }
@@ -205,15 +261,17 @@ impl<'a> Story<'a> {
             return Ok(format!(in self.alloc; "\nlost 0:{machine} {}", change.line)?);
         }
         self.tally.kept = self.tally.kept.saturating_add(1);
-        if let Some(replica) = self.replicas.get_mut(machine as usize) {
-            replica.set(change.pair, change.content)?;
-        }
+        self.replica_mut(machine)?.set(change.pair, change.content)?;
         Ok(format!(in self.alloc; "\nkept 0:{machine} {}", change.line)?)
     }
 
     /// The reply to a restart, and the notes on the change that failed.
     fn restart(&mut self) -> Result<String, Fail> {
         self.position = 0;
+        self.frozen = None;
+        for replica in self.replicas.iter_mut() {
+            replica.stop();
+        }
         let mut reply = format!(in self.alloc; "restarted {}", self.rows.len())?;
         if let Some(change) = self.failed.take() {
             for machine in 0..self.replicas.len() {
@@ -229,8 +287,9 @@ impl<'a> Story<'a> {
             Command::Put(pair) => self.change(line, pair, Content::Photo { line }),
             Command::Delete(pair) => self.delete(line, pair),
             Command::Read(pair) => self.read(line, pair),
+            Command::Work { machine, work } => self.work(line, machine, work),
             Command::Fuse { machine, calls } => {
-                self.fused = machine;
+                self.replica_mut(machine)?.fuse(calls);
                 Ok(format!(in self.alloc; "fused 0:{machine} {calls}")?)
             }
             Command::Restart(_) => self.restart(),

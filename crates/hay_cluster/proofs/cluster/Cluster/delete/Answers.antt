@@ -1,4 +1,4 @@
-use Rattle.std.proofs.Common.{◌≡◌, None, Some, [], sym, ◌∙◌}
+use Rattle.std.proofs.Common.{◌≡◌, None, Some, sym, ◌∙◌}
 use Rattle.std.proofs.lemmas.Result.{IfErr-at_err, IfOk-at_ok}
 use Rattle.hay_legal.specs.Known.{closed, home_of, volume_at}
 use Rattle.hay_legal.specs.Plain.{with_del}
@@ -11,8 +11,8 @@ returns-in-Ok-clause-legal g c = λ tells k stands.
     let thawed : closed (c.args.self.now).settings k c.in-Some.volume ≡ None = sym (c.closed_by.ensures.known tells k stands) ∙ c.in_default-closed_by.is in
     let moved = c.delete_in.ensures.moves tells k stands in
     let done = IfOk-at_ok _ c.in-Ok.is moved.does.0 in
-    let came = moved.comes (with_del [] c.args.tag c.args.pair (volume_at k c.in-Some.volume)) done.stands in
-    deleted g.D.Disk.files g.D.Piece.Piece.Tells g.D.Disk.fault_count g.D.Disk.fuse_count g.A.Arm.fault_count c.delete_in.new.self (c.args.self.now).settings k c.args.tag c.args.pair c.in-Some.volume c.in-Ok.position c.rows-in-Ok.result moved.after c.delete_in.ensures.settings home thawed done came
+    let came = moved.comes (with_del done.ended c.args.tag c.args.pair (volume_at k c.in-Some.volume)) done.stands in
+    deleted g.D.Disk.files g.D.Piece.Piece.Tells g.D.Disk.fault_count g.D.Disk.fuse_count g.A.Arm.fault_count c.args.self.now c.delete_in.new.self k c.args.tag c.args.pair c.in-Some.volume c.in-Ok.position c.rows-in-Ok.result moved.before moved.after c.delete_in.ensures.settings stands home thawed moved.at moved.now done came
     (c.rows-in-Ok.ensures.known tells came.known came.stands)
 
 pub returns-in-Err-clause-legal : goal.returns-in-Err-clause-legal

@@ -1,6 +1,6 @@
 use Rattle.std.proofs.Common.{map, sym, ◌∙◌, refl, inl}
 use Rattle.hay_cluster.specs.Store.{disks_of}
-use Rattle.hay_cluster.proofs.Answering.{answered, put_command, stays}
+use Rattle.hay_cluster.proofs.Answering.{answered, stays}
 use Rattle.hay_cluster.proofs.Moves.{none_falls}
 use Rattle.hay_cluster.proofs.Puts.{home_refused}
 use Rattle.hay_cluster.proofs.cluster.Cluster.put.Goals as goal
@@ -15,9 +15,8 @@ pub returns-in-Some-refusal-clause-legal : goal.returns-in-Some-refusal-clause-l
 returns-in-Some-refusal-clause-legal g c = λ tells k stands.
     let home = sym (c.home.ensures.known tells k stands) ∙ c.in-Some.is in
     answered g.D.Disk.files g.D.Piece.Piece.Tells g.D.Disk.fault_count g.D.Disk.fuse_count g.A.Arm.fault_count c.args.self.now (c.args.self.now).settings k k c.args.tag _ c.refuse_one.result refl
-    (put_command (c.args.self.now).settings k k c.args.tag c.args.pair c.args.bytes.now c.refuse_one.result
     (home_refused (c.args.self.now).settings k k c.args.tag c.args.pair c.args.bytes.now c.in-Some.volume c.in-Some-refusal.refused c.refuse_one.result home
-    (sym (c.refusal.ensures.known tells k stands) ∙ c.in-Some-refusal.is) c.refuse_one.ensures (stays k))) stands
+    (sym (c.refusal.ensures.known tells k stands) ∙ c.in-Some-refusal.is) c.refuse_one.ensures (stays k)) stands
 
 pub returns-in-Some-refusal-clause-counts : goal.returns-in-Some-refusal-clause-counts
 returns-in-Some-refusal-clause-counts g c = none_falls (map g.D.Disk.fault_count (disks_of c.args.self.now))

@@ -8,7 +8,7 @@ use Rattle.hay_reply.specs.declared.Reply.{Reply}
 use Rattle.hay_cluster.specs.Causes.{HasCause}
 use Rattle.hay_cluster.specs.State.{Answered}
 use Rattle.hay_cluster.specs.Store.{disks_of}
-use Rattle.hay_cluster.proofs.Answering.{answered, cause_earlier, not_settled, put_command, refusal_same, taker_takes}
+use Rattle.hay_cluster.proofs.Answering.{answered, cause_earlier, not_settled, refusal_same, taker_takes}
 use Rattle.hay_cluster.proofs.Moves.{falls_trans}
 use Rattle.hay_cluster.proofs.Puts.{put_legal}
 use Rattle.hay_cluster.proofs.cluster.Cluster.put_new.Goals as goal
@@ -26,10 +26,9 @@ returns-in-Ok-clause-legal g c = λ tells k stands home taker.
     ∙ refusal_same (c.args.self.now).settings k came.known size c.args.volume (came.leaves).volumes (came.leaves).drained ∙ takes in
     let stored = c.put_at.ensures.stored tells came.known came.stands still in
     answered g.D.Disk.files g.D.Piece.Piece.Tells g.D.Disk.fault_count g.D.Disk.fuse_count g.A.Arm.fault_count c.put_at.new.self (c.settle.new.self).settings k stored.known c.args.tag _ c.put_at.result c.put_at.ensures.settings
-    (put_command (c.settle.new.self).settings k stored.known c.args.tag c.args.pair c.args.bytes.now c.put_at.result
     (put_legal (c.settle.new.self).settings k came.known stored.known c.args.tag c.args.pair c.args.bytes.now c.args.volume c.put_at.result
     (subst (λ (s : Settings). taker_of s k c.args.pair size ≡ Some c.args.volume) (sym c.settle.ensures.settings) taker)
-    (λ _. c.settle.ensures.thawed tells k stands (λ frozen. absurd (ok_not_err c.in-Ok.field-0 settling.Frozen (sym c.in-Ok.is ∙ frozen)))) came.leaves stored.stores)) stored.stands
+    (λ _. c.settle.ensures.thawed tells k stands (λ frozen. absurd (ok_not_err c.in-Ok.field-0 settling.Frozen (sym c.in-Ok.is ∙ frozen)))) came.leaves stored.stores) stored.stands
 
 pub returns-in-Ok-clause-causes : goal.returns-in-Ok-clause-causes
 returns-in-Ok-clause-causes g c =

@@ -3,7 +3,7 @@ use Rattle.std.specs.Prelude.{find, is_none}
 use Rattle.hay_legal.specs.Known.{refusal_of, tries_by}
 use Rattle.hay_cluster.specs.declared.put.Tried.{Tried}
 use Rattle.hay_cluster.specs.Puts.{IsTried}
-use Rattle.hay_cluster.proofs.Answering.{answered, put_command, stays}
+use Rattle.hay_cluster.proofs.Answering.{answered, stays}
 use Rattle.hay_cluster.specs.Store.{disks_of}
 use Rattle.hay_cluster.proofs.Moves.{none_falls}
 use Rattle.hay_cluster.proofs.Puts.{all_refused}
@@ -20,9 +20,8 @@ returns-in-Nobody-clause-legal g c = λ tells k stands home tried.
     let size = length c.args.bytes.now in
     let all = subst (λ (t : Tried). IsTried (c.args.self.now).settings k c.args.pair size t) c.in-Nobody.is tried in
     answered g.D.Disk.files g.D.Piece.Piece.Tells g.D.Disk.fault_count g.D.Disk.fuse_count g.A.Arm.fault_count c.args.self.now (c.args.self.now).settings k k c.args.tag _ c.refuse.result refl
-    (put_command (c.args.self.now).settings k k c.args.tag c.args.pair c.args.bytes.now c.refuse.result
     (all_refused (c.args.self.now).settings k k c.args.tag c.args.pair c.args.bytes.now c.in-Nobody.refused c.refuse.result
-    (ap (λ o. map (refusal_of (c.args.self.now).settings k size) (tries_by (c.args.self.now).settings c.args.pair o)) home ∙ all) c.refuse.ensures (stays k))) stands
+    (ap (λ o. map (refusal_of (c.args.self.now).settings k size) (tries_by (c.args.self.now).settings c.args.pair o)) home ∙ all) c.refuse.ensures (stays k)) stands
 
 pub returns-in-Nobody-clause-counts : goal.returns-in-Nobody-clause-counts
 returns-in-Nobody-clause-counts g c = none_falls (map g.D.Disk.fault_count (disks_of c.args.self.now))

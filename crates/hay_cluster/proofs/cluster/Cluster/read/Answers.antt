@@ -1,7 +1,7 @@
 use Rattle.std.proofs.Common.{◌≡◌, Some, sym, subst, ◌∙◌}
 use Rattle.hay_legal.specs.Known.{home_of}
 use Rattle.hay_legal.specs.Plain.{LegalShow}
-use Rattle.hay_cluster.proofs.Answering.{answered, read_command}
+use Rattle.hay_cluster.proofs.Answering.{answered}
 use Rattle.hay_cluster.proofs.cluster.Cluster.read.Goals as goal
 
 pub returns-clause-legal : goal.returns-clause-legal
@@ -9,5 +9,4 @@ returns-clause-legal g c = λ tells k stands.
     let home : home_of k c.args.pair ≡ Some c.in-Some.volume = sym (c.home.ensures.known tells k stands) ∙ c.in-Some.is in
     let shown = c.show.ensures.shown tells k stands home in
     answered g.D.Disk.files g.D.Piece.Piece.Tells g.D.Disk.fault_count g.D.Disk.fuse_count g.A.Arm.fault_count c.show.new.self (c.args.self.now).settings k shown.known c.args.tag _ c.show.result c.show.ensures.settings
-    (read_command (c.args.self.now).settings k shown.known c.args.tag c.args.pair c.args.cookie c.show.result
-    (subst (λ start. LegalShow (c.args.self.now).settings k c.args.tag start c.args.pair c.args.cookie c.show.result shown.known) c.start_of-start.ensures.is shown.legal)) shown.stands
+    (subst (λ start. LegalShow (c.args.self.now).settings k c.args.tag start c.args.pair c.args.cookie c.show.result shown.known) c.start_of-start.ensures.is shown.legal) shown.stands

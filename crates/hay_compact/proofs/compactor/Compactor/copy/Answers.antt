@@ -6,10 +6,10 @@ use Rattle.hay_volume.specs.declared.fault.VolumeFault.{VolumeFault}
 use Rattle.hay_index.specs.declared.record.Record.{Record}
 use Rattle.hay_index.specs.declared.index.IndexFile.{IndexFile}
 use Rattle.hay_volume.specs.declared.volume.VolumeFile.{VolumeFile}
-use Rattle.hay_compact.specs.Standing.{place_in}
+use Rattle.hay_compact.specs.Standing.{last_in}
 use Rattle.hay_compact.specs.Copying.{Copying, HasPeeked, IsCopy, IsMaking, MovesOn, Stage, moved}
 use Rattle.hay_compact.proofs.Copyings.{making_of}
-use Rattle.hay_compact.proofs.Copied.{peeked_fits, stays_safe, copy_skips, copy_makes, copy_copies, copy_stands, making_stands, unnoted, not_next, is_next}
+use Rattle.hay_compact.proofs.Copied.{peeked_fits, stays_safe, copy_skips, copy_makes, copy_copies, copied_at, copy_stands, making_stands, unnoted, not_next, is_next}
 use Rattle.hay_compact.proofs.compactor.Compactor.copy.Goals as goal
 use Rattle.hay_compact.proofs.compactor.Compactor.copy.Goals.{then-cell-via-then-cell, then-cell-via-else-cell+then-ne}
 
@@ -55,7 +55,7 @@ returns-in-Ok-clause-making g c = λ tells.
           (λ superblock cells needle marked volume. c.in-Ok.ensures.added tells superblock cells needle (subst (λ (l : List ℕ). IsMarked l needle) (sym c.as_slice.ensures.value) marked) volume)
           (c.append_loose.ensures.changes tells).free (c.append_loose.ensures.others tells)
           c.in_ok-note.ensures.ok (ap (λ k. let r : Record = record { pair = c.args.cell.pair; at = k; size = c.args.cell.size } in r) c.end.ensures)
-          (λ pair. c.set.ensures pair ∙ ap (λ k. cond (pair_eq c.args.cell.pair pair) (Some k) (place_in c.reserve.new.self pair)) c.in-Ok.ensures.place ∙ ap (λ o. cond (pair_eq c.args.cell.pair pair) (Some s.volume.end) o) (c.in_ok-reserve.ensures.same pair));
+          (λ pair. c.set.ensures pair ∙ ap (λ k. cond (pair_eq c.args.cell.pair pair) (Some (copied_at k)) (last_in c.reserve.new.self pair)) c.in-Ok.ensures.place ∙ ap (λ o. cond (pair_eq c.args.cell.pair pair) (Some (copied_at s.volume.end)) o) (c.in_ok-reserve.ensures.same pair));
     }
 
 pub returns-in-Ok-clause-examined : goal.returns-in-Ok-clause-examined
@@ -70,7 +70,7 @@ returns-in-Ok-clause-examined g c = λ tells sup old current fresh examined cell
     (λ superblock cells needle marked volume. c.in-Ok.ensures.added tells superblock cells needle (subst (λ (l : List ℕ). IsMarked l needle) (sym c.as_slice.ensures.value) marked) volume)
     (c.append_loose.ensures.changes tells).free (c.append_loose.ensures.others tells)
     c.in_ok-note.ensures.ok (ap (λ k. let r : Record = record { pair = c.args.cell.pair; at = k; size = c.args.cell.size } in r) c.end.ensures)
-    (λ pair. c.set.ensures pair ∙ ap (λ k. cond (pair_eq c.args.cell.pair pair) (Some k) (place_in c.reserve.new.self pair)) c.in-Ok.ensures.place ∙ ap (λ o. cond (pair_eq c.args.cell.pair pair) (Some s.volume.end) o) (c.in_ok-reserve.ensures.same pair)) in
+    (λ pair. c.set.ensures pair ∙ ap (λ k. cond (pair_eq c.args.cell.pair pair) (Some (copied_at k)) (last_in c.reserve.new.self pair)) c.in-Ok.ensures.place ∙ ap (λ o. cond (pair_eq c.args.cell.pair pair) (Some (copied_at s.volume.end)) o) (c.in_ok-reserve.ensures.same pair)) in
     let step = copy_copies sup (g.D.Disk.files c.args.disk.now) (g.D.Disk.files c.append_loose.new.disk) old s c.append_loose.new.self c.note.new.self c.set.new.self current fresh examined c.total_of-in-Ok.result cell c.args.cell c.args.latest
     h is this latest c.if-cell.false (is_next c.args.latest c.self.inside.next c.ne.result c.ne.ensures c.if-ne.false) c.total_of-in-Ok.ensures
     (ap (λ (v : VolumeFile). v.file) moves) (ap (λ (i : IndexFile). i.file) c.in_ok-note.ensures.ok) (c.append_loose.ensures.others tells) made in
@@ -85,7 +85,7 @@ returns-in-Err-clause-stands g c = λ tells memory sup old current fresh examine
     let index : c.unnote.new.self ≡ s.index = unnoted s.index c.unnote.new.self c.note.new.self c.unnote.ensures.0 (record { pair = c.args.cell.pair; at = c.end.result; size = c.args.cell.size }) c.unnote.ensures.1 c.in_ok-note.ensures.ok in
     copy_stands sup (g.D.Disk.files c.args.disk.now) (g.D.Disk.files c.append_loose.new.disk) old c.args.self.now (record s { volume = c.append_loose.new.self; index = c.unnote.new.self; standing = c.reserve.new.self }) c.reserve.new.self current fresh examined copying
     (c.in-Err.ensures.kept tells (λ failed. let e : VolumeFault.NoMemory ≡ VolumeFault.Failed = sym wants ∙ failed in cc))
-    (λ pair. c.in_ok-reserve.ensures.same pair ∙ ap (λ (x : Stage). place_in x.standing pair) c.self.view_is)
+    (λ pair. c.in_ok-reserve.ensures.same pair ∙ ap (λ (x : Stage). last_in x.standing pair) c.self.view_is)
     (ap (λ (v : VolumeFile). let x : Stage = record s { volume = v; index = c.unnote.new.self; standing = c.reserve.new.self } in x) c.in-Err.ensures.stayed
     ∙ ap (λ (i : IndexFile). let x : Stage = record s { index = i; standing = c.reserve.new.self } in x) index
     ∙ ap (λ (x : Stage). record x { standing = c.reserve.new.self }) c.self.view_is)
@@ -102,7 +102,7 @@ returns-in-Err-clause-made g c = λ tells memory.
       fresh = under.fresh;
       making = making_stands under.sup (g.D.Disk.files c.args.disk.now) (g.D.Disk.files c.append_loose.new.disk) c.args.self.now (record s { volume = c.append_loose.new.self; index = c.unnote.new.self; standing = c.reserve.new.self }) c.reserve.new.self under.fresh under.making
           (c.in-Err.ensures.kept tells (λ failed. let e : VolumeFault.NoMemory ≡ VolumeFault.Failed = sym wants ∙ failed in cc))
-          (λ pair. c.in_ok-reserve.ensures.same pair ∙ ap (λ (x : Stage). place_in x.standing pair) c.self.view_is)
+          (λ pair. c.in_ok-reserve.ensures.same pair ∙ ap (λ (x : Stage). last_in x.standing pair) c.self.view_is)
           (ap (λ (v : VolumeFile). let x : Stage = record s { volume = v; index = c.unnote.new.self; standing = c.reserve.new.self } in x) c.in-Err.ensures.stayed
           ∙ ap (λ (i : IndexFile). let x : Stage = record s { index = i; standing = c.reserve.new.self } in x) index
           ∙ ap (λ (x : Stage). record x { standing = c.reserve.new.self }) c.self.view_is);

@@ -95,10 +95,12 @@ returns-in-Ok-clause-deleted g c = λ tells k stands.
     let each : (j : ℕ) (r r' : Copy g.row.D.Denot) → At c.self.inside.replicas.items j r → At c.delete_each.new.replicas j r' → DeletesAt g.D.Disk.Tells g.D.Disk.files (place_in c.row-row.result j) r r' =
     λ j r r' e f. c.in-Ok.ensures.deleted j r r' (subst (λ xs. At xs j r) (sym now) e) f in
     let next : c.in-Some-checked_add.position ≡ c.self.inside.front + 1 = (let h = c.in-Some-checked_add.ensures in omega (arith, h)) in
-    subst (λ rs. IsDeleted g.D.Disk.files g.D.Piece.Piece.Tells k c.args.tag c.args.pair c.in-Some-checked_add.position (volume_with c.self.inside.settings c.self.inside.number rs c.del.new.self c.in-Some-checked_add.position c.self.inside.frozen c.self.inside.unsure)) (sym kept)
+    subst (λ v. IsDeleted g.D.Disk.files g.D.Disk.fault_count g.D.Piece.Piece.Tells k c.args.tag c.args.pair c.in-Some-checked_add.position v (volume_with c.self.inside.settings c.self.inside.number ((with_items c.self.inside.replicas c.delete_each.new.replicas).items) c.del.new.self c.in-Some-checked_add.position c.self.inside.frozen c.self.inside.unsure)) c.self.view_is
+    (subst (λ rs. IsDeleted g.D.Disk.files g.D.Disk.fault_count g.D.Piece.Piece.Tells k c.args.tag c.args.pair c.in-Some-checked_add.position (volume_with c.self.inside.settings c.self.inside.number c.self.inside.replicas.items c.self.inside.rows c.self.inside.front c.self.inside.frozen c.self.inside.unsure) (volume_with c.self.inside.settings c.self.inside.number rs c.del.new.self c.in-Some-checked_add.position c.self.inside.frozen c.self.inside.unsure)) (sym kept)
     (deleted c.self.inside.settings c.self.inside.number g.D.Disk.Tells g.D.Disk.files g.D.Piece.Piece.Tells g.D.Disk.fault_count g.D.Disk.fuse_count tells c.self.inside.replicas.items c.delete_each.new.replicas c.self.inside.rows c.del.new.self c.self.inside.front c.in-Some-checked_add.position c.self.inside.frozen c.self.inside.unsure k c.args.tag c.args.pair c.row-row.result
     (subst (λ v. StandsFor g.D.Disk.files g.D.Piece.Piece.Tells v k) (sym c.self.view_is) stands) thawed (c.delete_each.ensures.counts.count ∙ ap length now) next
-    c.row-row.ensures.row (c.row-row.ensures.long ∙ (c.self.invariant.0).width) (c.has_live.ensures.some c.if-not-has_live.false) c.del.ensures.rows up each)
+    c.row-row.ensures.row (c.row-row.ensures.long ∙ (c.self.invariant.0).width) (c.has_live.ensures.some c.if-not-has_live.false) c.del.ensures.rows up each
+    (λ j r r' e f. c.in-Ok.ensures.follow j r r' (subst (λ xs. At xs j r) (sym now) e) f)))
 
 pub returns-in-Ok-clause-open : goal.returns-in-Ok-clause-open
 returns-in-Ok-clause-open g c =
@@ -166,7 +168,7 @@ returns-clause-refused g c = λ tells k stands.
     (volume_with c.self.inside.settings c.self.inside.number rs c.self.inside.rows c.self.inside.front (Some c.machine_of-machine.result) (Some (record { tag = c.args.tag; change = change.Delete c.args.pair })))
     (fault.Failed c.machine_of-machine.result c.in-Err.failed.faults)) (sym kept)
     (delete_refused c.self.inside.settings c.self.inside.number g.D.Disk.Tells g.D.Disk.files g.D.Piece.Piece.Tells g.D.Disk.fault_count g.D.Disk.fuse_count tells c.self.inside.replicas.items c.delete_each.new.replicas c.self.inside.rows c.self.inside.front c.self.inside.frozen c.self.inside.unsure k c.args.tag c.args.pair c.row-row.result c.in-Err.failed
-    c.machine_of-machine.result (subst (λ v. StandsFor g.D.Disk.files g.D.Piece.Piece.Tells v k) (sym c.self.view_is) stands) thawed (c.delete_each.ensures.counts.count ∙ ap length now) c.row-row.ensures.row c.machine_of-machine.ensures left)
+    c.machine_of-machine.result (subst (λ v. StandsFor g.D.Disk.files g.D.Piece.Piece.Tells v k) (sym c.self.view_is) stands) thawed (c.delete_each.ensures.counts.count ∙ ap length now) c.row-row.ensures.row c.machine_of-machine.ensures left c.in-Err.ensures.runs)
 
 pub returns-clause-causes : goal.returns-clause-causes
 returns-clause-causes g c =

@@ -1,6 +1,6 @@
 use Rattle.std.proofs.Common.{◌≡◌, ◌<◌, ℕ, false, length, refl, sym, ap, subst, ◌∙◌}
 use Rattle.std.proofs.lemmas.List.{with_items_is}
-use Rattle.hay_physical.specs.Copies.{Copy, phase_frozen, phase_stuck}
+use Rattle.hay_physical.specs.Copies.{Copy, phase_frozen, phase_goal, phase_stuck}
 use Rattle.hay_logical.specs.Fits.{At}
 use Rattle.hay_logical.specs.Stands.{Stands, StandsFor}
 use Rattle.hay_logical.specs.Steps.{KeepsDeletable}
@@ -25,7 +25,8 @@ returns-clause-stands g c = λ tells k stands.
     c.self.inside.replicas.items c.fuse_at.new.replicas c.self.inside.rows c.self.inside.front c.self.inside.frozen c.self.inside.unsure k
     (subst (λ v. StandsFor g.D.Disk.files g.D.Piece.Piece.Tells v k) (sym c.self.view_is) stands) (one_count c.args.replica c.as_mut_slice.result.now c.fuse_at.new.replicas one ∙ ap length now)
     (λ j r r' e f. one_each (Quiet g.D.Disk.files) c.args.replica c.as_mut_slice.result.now c.fuse_at.new.replicas one
-    (record { stuck = ap (λ r. phase_stuck r.phase) step.same; stands = step.stands tells; holds = step.holds tells }) (λ x. record { stuck = refl; stands = λ s h. h; holds = λ b a t h. h }) j r r'
+    (record { stuck = ap (λ r. phase_stuck r.phase) step.same; goal = ap (λ r. phase_goal r.phase) step.same; run = step.run tells; stands = step.stands tells; holds = step.holds tells })
+    (λ x. record { stuck = refl; goal = refl; run = λ s run h. h; stands = λ s h. h; holds = λ b a t h. h }) j r r'
     (subst (λ xs. At xs j r) (sym now) e) f))
 
 pub invariant_of-self : goal.invariant_of-self

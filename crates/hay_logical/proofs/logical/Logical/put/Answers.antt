@@ -12,9 +12,10 @@ use Rattle.hay_logical.specs.Answers.{DeleteRefused, HasRoom, FlushRefused, HasF
 use Rattle.hay_logical.specs.Answers as answers
 use Rattle.hay_logical.specs.Fits.{At}
 use Rattle.hay_logical.specs.Stands.{Stands, StandsFor}
-use Rattle.hay_logical.specs.Steps.{KeepsDeletable, PutLeaves, PutsAt}
+use Rattle.hay_logical.specs.Steps.{AllIdle, EndsRuns, KeepsDeletable, PutLeaves, PutsAt}
 use Rattle.hay_logical.specs.Volumes.{CanDelete, IsShaped, KeepsCounts}
 use Rattle.hay_logical.proofs.Calls.{counted_same, keeps_counts, open_up, up_open, up_thawed}
+use Rattle.hay_logical.proofs.Dropping.{all_idle, not_untouched, still_runs}
 use Rattle.hay_logical.proofs.Lists.{at_below, at_same, at_there}
 use Rattle.hay_logical.proofs.Methods.{same_by, same_still, shaped_on}
 use Rattle.hay_logical.proofs.Standing.{volume_with}
@@ -173,7 +174,7 @@ returns-then-is_untouched-clause-refused g c = λ tells k stands.
     let un : IsUntouched c.put_each.new.replicas c.in-Err.broken = subst (λ xs. IsUntouched xs c.in-Err.broken) (c.as_slice-in-Err.ensures.value ∙ kept) (c.is_untouched.ensures.untouched c.if-is_untouched.true) in (
       (room_ok c.args.self.now.settings k.frozen (room_refusal_of c.args.self.now.settings c.args.self.now.number k (length c.args.bytes.now)) c.in_ok-room.field-0 (sym c.in_ok-room.was ∙ c.room.ensures.known tells k stands)),
       inl (subst (λ rs. StandsFor g.D.Disk.files g.D.Piece.Piece.Tells (volume_with c.self.inside.settings c.self.inside.number rs c.reserve.new.self c.self.inside.front c.self.inside.frozen c.self.inside.unsure) k) (sym kept)
-          (untouched c.self.inside.settings c.self.inside.number g.D.Disk.Tells g.D.Disk.files g.D.Piece.Piece.Tells g.D.Disk.fault_count c.args.pair c.args.cookie c.args.bytes.now c.self.inside.replicas.items c.put_each.new.replicas c.in-Err.broken left un tells c.reserve.new.self c.self.inside.front c.self.inside.frozen c.self.inside.unsure k thawed (c.put_each.ensures.counts.count ∙ ap length now)
+          (untouched c.self.inside.settings c.self.inside.number g.D.Disk.Tells g.D.Disk.files g.D.Piece.Piece.Tells g.D.Disk.fault_count c.args.pair c.args.cookie c.args.bytes.now c.self.inside.replicas.items c.put_each.new.replicas c.in-Err.broken left un (still_runs g.D.Disk.Tells g.D.Disk.files c.self.inside.replicas.items c.put_each.new.replicas c.in-Err.broken (subst (λ xs. EndsRuns g.D.Disk.Tells g.D.Disk.files xs c.put_each.new.replicas c.in-Err.broken) now c.in-Err.ensures.runs) un) tells c.reserve.new.self c.self.inside.front c.self.inside.frozen c.self.inside.unsure k thawed (c.put_each.ensures.counts.count ∙ ap length now)
           (rows_kept c.self.inside.settings c.self.inside.number g.D.Disk.Tells g.D.Disk.files g.D.Piece.Piece.Tells g.D.Disk.fault_count c.self.inside.replicas.items c.self.inside.rows c.reserve.new.self c.self.inside.front c.self.inside.frozen c.self.inside.unsure k thawed c.reserve.ensures.rows.rows
           (subst (λ v. StandsFor g.D.Disk.files g.D.Piece.Piece.Tells v k) (sym c.self.view_is) stands)))),
     )
@@ -277,9 +278,12 @@ returns-else-is_untouched-clause-refused g c = λ tells k stands.
     let thawed : c.self.inside.frozen ≡ None = ap (λ v. v.frozen) c.self.view_is ∙ c.in_ok-room.ensures.fits.0 in
     let left : PutLeaves g.D.Disk.Tells g.D.Disk.files g.D.Disk.fault_count c.args.pair c.args.cookie c.args.bytes.now c.self.inside.replicas.items c.put_each.new.replicas c.in-Err.broken =
     subst (λ xs. PutLeaves g.D.Disk.Tells g.D.Disk.files g.D.Disk.fault_count c.args.pair c.args.cookie c.args.bytes.now xs c.put_each.new.replicas c.in-Err.broken) now c.in-Err.ensures.broken in
+    let idle : AllIdle c.put_each.new.replicas = all_idle g.D.Disk.Tells g.D.Disk.files c.self.inside.replicas.items c.put_each.new.replicas c.in-Err.broken
+    (subst (λ xs. EndsRuns g.D.Disk.Tells g.D.Disk.files xs c.put_each.new.replicas c.in-Err.broken) now c.in-Err.ensures.runs)
+    (not_untouched c.put_each.new.replicas c.in-Err.broken (λ e f r there. c.is_untouched.ensures.touched c.if-is_untouched.false e f r (subst (λ xs. At xs 0 r) (sym (c.as_slice-in-Err.ensures.value ∙ kept)) there))) in
     subst (λ v. PutRefused g.D.Disk.files g.D.Piece.Piece.Tells k c.args.tag c.args.pair c.args.cookie c.args.bytes.now v (volume_with c.self.inside.settings c.self.inside.number ((with_items c.self.inside.replicas c.put_each.new.replicas).items) c.reserve.new.self c.self.inside.front (Some c.put_refusal-refusal.result.machine) (Some (record { tag = c.args.tag; change = change.Put c.ends_of-ends.result }))) c.put_refusal-refusal.result.fault) c.self.view_is
     (subst (λ rs. PutRefused g.D.Disk.files g.D.Piece.Piece.Tells k c.args.tag c.args.pair c.args.cookie c.args.bytes.now (volume_with c.self.inside.settings c.self.inside.number c.self.inside.replicas.items c.self.inside.rows c.self.inside.front c.self.inside.frozen c.self.inside.unsure) (volume_with c.self.inside.settings c.self.inside.number rs c.reserve.new.self c.self.inside.front (Some c.put_refusal-refusal.result.machine) (Some (record { tag = c.args.tag; change = change.Put c.ends_of-ends.result }))) c.put_refusal-refusal.result.fault) (sym kept)
-    (put_refused c.self.inside.settings c.self.inside.number g.D.Disk.Tells g.D.Disk.files g.D.Piece.Piece.Tells g.D.Disk.fault_count c.args.pair c.args.cookie c.args.bytes.now c.self.inside.replicas.items c.put_each.new.replicas c.in-Err.broken c.put_refusal-refusal.result left c.put_refusal-refusal.ensures
+    (put_refused c.self.inside.settings c.self.inside.number g.D.Disk.Tells g.D.Disk.files g.D.Piece.Piece.Tells g.D.Disk.fault_count c.args.pair c.args.cookie c.args.bytes.now c.self.inside.replicas.items c.put_each.new.replicas c.in-Err.broken c.put_refusal-refusal.result left c.put_refusal-refusal.ensures idle
     tells c.self.inside.rows c.reserve.new.self c.self.inside.front c.self.inside.frozen c.self.inside.unsure k c.args.tag c.ends_of-ends.result thawed (subst (λ v. StandsFor g.D.Disk.files g.D.Piece.Piece.Tells v k) (sym c.self.view_is) stands) (c.put_each.ensures.counts.count ∙ ap length now) c.reserve.ensures.rows.rows (subst (λ v. HasRoom v.settings v.number k (length c.args.bytes.now)) (sym c.self.view_is) (room_ok c.args.self.now.settings k.frozen (room_refusal_of c.args.self.now.settings c.args.self.now.number k (length c.args.bytes.now)) c.in_ok-room.field-0 (sym c.in_ok-room.was ∙ c.room.ensures.known tells k stands)))
     (λ j r e. c.ends_of-ends.ensures j r (subst (λ xs. At xs j r) (sym c.as_slice.ensures.value) e))))
 

@@ -1,6 +1,10 @@
-use Rattle.std.proofs.Common.{subst, Bool}
-use Rattle.hay_physical.specs.Replicas.{MayFind, without_cell}
-use Rattle.hay_physical.proofs.Views.{files_flag, files_going, files_stand, files_stuck, files_up, on_err_so, on_ok_so, open_deletes, open_stands}
+use Rattle.std.proofs.Common.{◌∙◌, ap, subst, Bool}
+use Rattle.hay_physical.specs.declared.state.OpenFiles.{OpenFiles}
+use Rattle.hay_physical.specs.Replicas.{HasLive, MayFind, without_cell}
+use Rattle.hay_physical.proofs.RunLaws.{copier_ready_volume, flag_beside, stand_beside}
+use Rattle.hay_physical.proofs.Laws.{last_live}
+use Rattle.hay_physical.proofs.RunViews.{delete_run, files_ready, files_settled}
+use Rattle.hay_physical.proofs.Views.{files_flag, files_going, files_stand, files_stuck, files_up, open_deletes, open_stands}
 use Rattle.hay_physical.proofs.replica.Replica.delete.Goals as goal
 
 pub delete-requires-clause-flag : goal.delete-requires-clause-flag
@@ -9,26 +13,55 @@ delete-requires-clause-flag g c κs within = λ tells going.
     let may = c.requires.flag tells (files_up c.args.self.now was.sup was.disk was.phase c.in-Open.files c.self.view_is c.in-Open.is going) in
     files_flag g.D.Disk.files c.args.self.now was.sup was.disk was.phase c.in-Open.files c.args.at c.self.view_is c.in-Open.is may
 
-pub returns-clause-deleted : goal.returns-clause-deleted
-returns-clause-deleted g c = λ tells s stands live.
+pub repeat_delete-requires-clause-making : goal.repeat_delete-requires-clause-making
+repeat_delete-requires-clause-making g c κs within = λ tells.
+    let files = g.D.Disk.files in
+    let was = c.self.inside in
+    let opened = c.in-Open.files in
+    let thawed = c.in-Ok.ensures.open in
+    let ready = files_ready (files was.disk) was.phase opened c.in-Open.is (c.self.invariant.0 tells) (c.delete.ensures.copier.thawed thawed) in
+    copier_ready_volume (files was.disk) (files c.delete.new.disk) opened c.delete.new.self (files_settled was.phase opened c.in-Open.is c.self.invariant.1) ready.0 ready.1 (c.delete.ensures.copier.same thawed) (c.delete.ensures.others tells)
+
+pub returns-in-Ok-clause-deleted : goal.returns-in-Ok-clause-deleted
+returns-in-Ok-clause-deleted g c = λ tells s stands live.
     let files = g.D.Disk.files in
     let was = c.self.inside in
     let opened = c.in-Open.files in
     let stand = files_stand files c.args.self.now was.sup was.disk was.phase opened s c.self.view_is c.in-Open.is stands in
-    on_ok_so c.delete.result _ _ _ (λ done going. open_stands files was.sup c.delete.new.disk c.delete.new.self _ going done) (c.delete.ensures.deleted tells was.sup s stand live) c.delete.ensures.open
+    open_stands files was.sup c.repeat_delete.new.disk c.repeat_delete.new.self (without_cell s c.args.at) (ap (λ (o : OpenFiles). o.frozen) c.repeat_delete.ensures.keeps ∙ c.in-Ok.ensures.open)
+    (stand_beside was.sup (files c.delete.new.disk) (files c.repeat_delete.new.disk) c.delete.new.self c.repeat_delete.new.self (without_cell s c.args.at) (c.in-Ok.ensures.deleted tells was.sup s stand live) c.repeat_delete.ensures.keeps (c.repeat_delete.ensures.others tells))
 
-pub returns-clause-deletes : goal.returns-clause-deletes
-returns-clause-deletes g c = λ tells place may.
+pub returns-in-Ok-clause-deletes : goal.returns-in-Ok-clause-deletes
+returns-in-Ok-clause-deletes g c = λ tells place may.
+    let files = g.D.Disk.files in
+    let was = c.self.inside in
+    open_deletes files was.sup c.repeat_delete.new.disk c.repeat_delete.new.self place
+    (flag_beside (files c.delete.new.disk) (files c.repeat_delete.new.disk) c.delete.new.self c.repeat_delete.new.self place (c.delete.ensures.ready tells c.in-Ok.ensures.open) c.repeat_delete.ensures.keeps (c.repeat_delete.ensures.others tells)
+    (c.delete.ensures.flags tells place (files_flag files c.args.self.now was.sup was.disk was.phase c.in-Open.files place c.self.view_is c.in-Open.is may)))
+
+pub returns-in-Ok-clause-run : goal.returns-in-Ok-clause-run
+returns-in-Ok-clause-run g c = λ tells s run stands has last.
+    let files = g.D.Disk.files in
+    let was = c.self.inside in
+    let opened = c.in-Open.files in
+    let stand = files_stand files c.args.self.now was.sup was.disk was.phase opened s c.self.view_is c.in-Open.is stands in
+    delete_run run files c.args.self.now was.sup was.disk c.delete.new.disk c.repeat_delete.new.disk was.phase opened c.delete.new.self c.repeat_delete.new.self s c.args.pair c.args.at (g.D.Disk.fault_count c.delete.new.disk) (g.D.Disk.fault_count c.repeat_delete.new.disk)
+    c.self.view_is c.in-Open.is stand (c.delete.ensures.copier.same c.in-Ok.ensures.open) c.delete.ensures.volume (c.in-Ok.ensures.deleted tells was.sup s stand (subst (λ k. HasLive k s.cells) last.place (last_live s.cells c.args.pair last.cell last.last last.alive))) (c.delete.ensures.others tells) last
+    (c.repeat_delete.ensures.repeated tells) c.repeat_delete.ensures.ends c.repeat_delete.ensures.keeps has
+
+pub returns-in-Err-clause-deletes : goal.returns-in-Err-clause-deletes
+returns-in-Err-clause-deletes g c = λ tells place may.
     let files = g.D.Disk.files in
     let was = c.self.inside in
     open_deletes files was.sup c.delete.new.disk c.delete.new.self place (c.delete.ensures.flags tells place (files_flag files c.args.self.now was.sup was.disk was.phase c.in-Open.files place c.self.view_is c.in-Open.is may))
 
-pub returns-clause-refused : goal.returns-clause-refused
-returns-clause-refused g c = λ tells s stands live.
+pub returns-in-Err-clause-refused : goal.returns-in-Err-clause-refused
+returns-in-Err-clause-refused g c = λ tells s stands live.
     let files = g.D.Disk.files in
     let was = c.self.inside in
     let opened = c.in-Open.files in
     let stand = files_stand files c.args.self.now was.sup was.disk was.phase opened s c.self.view_is c.in-Open.is stands in
     let going = files_going files c.args.self.now was.sup was.disk was.phase opened s c.self.view_is c.in-Open.is stands in
     let stuck = files_stuck c.args.self.now was.sup was.disk was.phase opened c.self.view_is c.in-Open.is in
-    on_err_so c.delete.result _ _ (λ unsure. (unsure.0, subst (λ (b : Bool). MayFind was.sup (files c.delete.new.disk) b s (without_cell s c.args.at)) stuck unsure.1)) (c.delete.ensures.refused tells was.sup s going stand live)
+    let unsure = c.in-Err.ensures.refused tells was.sup s going stand live in
+    (unsure.0, subst (λ (b : Bool). MayFind was.sup (files c.delete.new.disk) b s (without_cell s c.args.at)) stuck unsure.1)

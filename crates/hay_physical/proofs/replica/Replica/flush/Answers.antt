@@ -1,5 +1,8 @@
-use Rattle.std.proofs.Common.{◌∙◌}
-use Rattle.hay_physical.proofs.Views.{files_flag, files_going, files_stand, if_ok_so, on_err_so, open_deletes, open_stands}
+use Rattle.std.proofs.Common.{◌∙◌, length, sym}
+use Rattle.hay_physical.specs.Replicas.{all_recorded}
+use Rattle.hay_physical.proofs.RunLaws.{copier_ready_index, next_besides_index, run_kept, settled_still}
+use Rattle.hay_physical.proofs.RunViews.{files_ready, files_settled, run_still}
+use Rattle.hay_physical.proofs.Views.{files_flag, files_going, files_stand, if_ok_so, if_ok_unit, on_err_so, open_deletes, open_stands}
 use Rattle.hay_physical.proofs.replica.Replica.flush.Goals as goal
 
 pub returns-clause-flushed : goal.returns-clause-flushed
@@ -25,3 +28,37 @@ returns-clause-deletes g c = λ tells place may.
     let files = g.D.Disk.files in
     let was = c.self.inside in
     open_deletes files was.sup c.flush.new.disk c.flush.new.self place (c.flush.ensures.flags tells place (files_flag files c.args.self.now was.sup was.disk was.phase c.in-Open.files place c.self.view_is c.in-Open.is may))
+
+pub invariant_of-self : goal.invariant_of-self
+invariant_of-self g c =
+    let files = g.D.Disk.files in
+    let was = c.self.inside in
+    let opened = c.in-Open.files in
+    let settled = files_settled was.phase opened c.in-Open.is c.self.invariant.1 in (
+      λ tells thawed.
+          let ready = files_ready (files was.disk) was.phase opened c.in-Open.is (c.self.invariant.0 tells) (sym c.flush.ensures.open ∙ thawed) in
+          (c.flush.ensures.ready tells thawed, copier_ready_index (files was.disk) (files c.flush.new.disk) opened c.flush.new.self settled ready.0 ready.1 c.flush.ensures.copier.0 (c.flush.ensures.others tells)),
+      settled_still opened c.flush.new.self settled c.flush.ensures.copier.1 c.flush.ensures.copier.0 c.flush.ensures.open,
+    )
+
+pub returns-clause-run : goal.returns-clause-run
+returns-clause-run g c = λ tells s run stands has.
+    let files = g.D.Disk.files in
+    let was = c.self.inside in
+    let opened = c.in-Open.files in
+    let f = files_stand files c.args.self.now was.sup was.disk was.phase opened s c.self.view_is c.in-Open.is stands in
+    if_ok_unit c.flush.result _ _
+    (λ n done. run_still run files c.args.self.now was.sup was.disk c.flush.new.disk was.phase opened c.flush.new.self s (all_recorded s) c.self.view_is c.in-Open.is c.flush.ensures.copier.0
+    (λ x r. run_kept was.sup (files was.disk) (files c.flush.new.disk) opened c.flush.new.self s (length s.cells) x r c.flush.ensures.copier.0 c.flush.ensures.copier.2 done.1 (next_besides_index was.sup (files was.disk) (files was.disk) (files c.flush.new.disk) opened s f (c.flush.ensures.others tells))) has)
+    (c.flush.ensures.flushed tells was.sup s f)
+
+pub returns-clause-run_stays : goal.returns-clause-run_stays
+returns-clause-run_stays g c = λ tells s run stands has.
+    let files = g.D.Disk.files in
+    let was = c.self.inside in
+    let opened = c.in-Open.files in
+    let f = files_stand files c.args.self.now was.sup was.disk was.phase opened s c.self.view_is c.in-Open.is stands in
+    on_err_so c.flush.result _ _
+    (λ stays. run_still run files c.args.self.now was.sup was.disk c.flush.new.disk was.phase opened c.flush.new.self s s c.self.view_is c.in-Open.is c.flush.ensures.copier.0
+    (λ x r. run_kept was.sup (files was.disk) (files c.flush.new.disk) opened c.flush.new.self s s.records x r c.flush.ensures.copier.0 c.flush.ensures.copier.2 stays (next_besides_index was.sup (files was.disk) (files was.disk) (files c.flush.new.disk) opened s f (c.flush.ensures.others tells))) has)
+    (c.flush.ensures.refused tells was.sup s f)

@@ -7,6 +7,7 @@ use Rattle.hay_physical.proofs.Deleting.{found_deletes}
 use Rattle.hay_physical.proofs.Holding.{finds_now, finds_opens}
 use Rattle.hay_physical.proofs.Openings.{disk_finds, disk_opens, finds_kept, finds_not_void, on_any, opened_ready, opened_stands, same_fault}
 use Rattle.hay_physical.proofs.Views.{open_stands}
+use Rattle.hay_physical.proofs.RunLaws.{not_ended, settled_none}
 use Rattle.hay_physical.proofs.replica.Replica.open.Goals as goal
 
 pub returns-in_err-head-clause-left : goal.returns-in_err-head-clause-left
@@ -43,7 +44,10 @@ returns-in_err-head-clause-whole g c = λ tells stuck s t holds file at is.
     (ap (λ x. Err x) (same_fault c.from_residual.result fault.0 c.in_err-head.field-0.0 file at fault.1 fault.2 is))
 
 pub invariant_of-self-2 : goal.invariant_of-self-2
-invariant_of-self-2 g c = λ tells going. opened_ready (g.D.Disk.files c.open_replica.new.disk) c.in_ok-head.field-0 (c.in_ok-head.ensures.ready tells)
+invariant_of-self-2 g c = (
+  λ tells going. (opened_ready (g.D.Disk.files c.open_replica.new.disk) c.in_ok-head.field-0 (c.in_ok-head.ensures.ready tells), λ stage is. not_ended _ 0 stage refl is),
+  settled_none _ refl,
+)
 
 pub returns-clause-opened : goal.returns-clause-opened
 returns-clause-opened g c = λ tells s opens.

@@ -1,6 +1,14 @@
 use Rattle.std.proofs.Common.{inl, inr, subst, Bool, ⊎_elim}
 use Rattle.hay_physical.specs.Replicas.{MayFind, with_cell}
-use Rattle.hay_physical.proofs.Views.{files_flag, files_going, files_stand, files_stuck, if_ok, if_ok_so, on_err_so, open_deletes, open_stands}
+use Rattle.hay_physical.proofs.Views.{files_flag, files_going, files_stand, files_stuck, if_ok, if_ok_on, if_ok_so, on_err_so, open_deletes, open_stands}
+use Rattle.std.proofs.Common.{◌≡◌, ◌∙◌, true≢false, inl, inr, sym, ap}
+use Rattle.hay_volume.specs.declared.volume.VolumeFile.{VolumeFile}
+use Rattle.hay_physical.specs.declared.state.OpenFiles.{OpenFiles}
+use Rattle.hay_physical.specs.Replicas.{FilesStand}
+use Rattle.hay_physical.specs.Runs.{longer}
+use Rattle.hay_physical.proofs.Standing.{on_err}
+use Rattle.hay_physical.proofs.RunLaws.{copier_ready_volume, next_besides_volume, run_kept, run_put, settled_kept}
+use Rattle.hay_physical.proofs.RunViews.{files_ready, files_settled, run_still, run_through}
 use Rattle.hay_physical.proofs.replica.Replica.put.Goals as goal
 
 pub returns-clause-stored : goal.returns-clause-stored
@@ -36,3 +44,45 @@ returns-clause-refused g c = λ tells s stands.
     (λ stays. inl (open_stands files was.sup c.put.new.disk c.put.new.self _ stays.0 stays.1))
     (λ unsure. inr (unsure.0, subst (λ (b : Bool). MayFind was.sup (files c.put.new.disk) b s (with_cell s c.args.pair c.args.cookie c.args.bytes.now)) stuck unsure.1)) left)
     (c.put.ensures.refused tells was.sup s going stand)
+
+pub invariant_of-self : goal.invariant_of-self
+invariant_of-self g c =
+    let files = g.D.Disk.files in
+    let was = c.self.inside in
+    let opened = c.in-Open.files in
+    let settled = files_settled was.phase opened c.in-Open.is c.self.invariant.1 in (
+      λ tells thawed.
+          let ready = files_ready (files was.disk) was.phase opened c.in-Open.is (c.self.invariant.0 tells) (c.put.ensures.copier.thawed thawed) in
+          (c.put.ensures.ready tells thawed, copier_ready_volume (files was.disk) (files c.put.new.disk) opened c.put.new.self settled ready.0 ready.1 (c.put.ensures.copier.same thawed) (c.put.ensures.others tells)),
+      settled_kept opened c.put.new.self settled c.put.ensures.copier,
+    )
+
+pub returns-clause-run : goal.returns-clause-run
+returns-clause-run g c = λ tells s run stands has.
+    let files = g.D.Disk.files in
+    let was = c.self.inside in
+    let opened = c.in-Open.files in
+    let f = files_stand files c.args.self.now was.sup was.disk was.phase opened s c.self.view_is c.in-Open.is stands in
+    let t = with_cell s c.args.pair c.args.cookie c.args.bytes.now in
+    if_ok_on c.put.result _ _ _
+    (λ needle stored going.
+    let same = c.put.ensures.copier.same going in
+    let file : c.put.new.self.volume.file ≡ opened.volume.file = ap (λ (v : VolumeFile). v.file) (stored.0.volume) ∙ sym (ap (λ (v : VolumeFile). v.file) f.volume) in
+    run_through run longer files c.args.self.now was.sup was.disk c.put.new.disk was.phase opened c.put.new.self s t c.self.view_is c.in-Open.is same
+    (λ x r. run_put was.sup (files was.disk) (files c.put.new.disk) opened c.put.new.self s c.args.pair c.args.cookie c.args.bytes.now x r same file stored.0 (next_besides_volume was.sup (files was.disk) (files was.disk) (files c.put.new.disk) opened s f (c.put.ensures.others tells))) has)
+    (c.put.ensures.stored tells was.sup s f) c.put.ensures.open
+
+pub returns-clause-run_stays : goal.returns-clause-run_stays
+returns-clause-run_stays g c = λ tells s run stands has.
+    let files = g.D.Disk.files in
+    let was = c.self.inside in
+    let opened = c.in-Open.files in
+    let f = files_stand files c.args.self.now was.sup was.disk was.phase opened s c.self.view_is c.in-Open.is stands in
+    let going = files_going files c.args.self.now was.sup was.disk was.phase opened s c.self.view_is c.in-Open.is stands in
+    on_err c.put.result _ _ _
+    (λ left kept thawed.
+    let same = c.put.ensures.copier.same thawed in
+    let stand : FilesStand was.sup (files c.put.new.disk) c.put.new.self s = elim left [ inl stays ↦ stays.1 | inr frozen ↦ absurd (true≢false (sym frozen.0 ∙ thawed)) ] in
+    run_still run files c.args.self.now was.sup was.disk c.put.new.disk was.phase opened c.put.new.self s s c.self.view_is c.in-Open.is same
+    (λ x r. run_kept was.sup (files was.disk) (files c.put.new.disk) opened c.put.new.self s s.records x r same (ap (λ (o : OpenFiles). o.volume) (kept thawed)) stand (next_besides_volume was.sup (files was.disk) (files was.disk) (files c.put.new.disk) opened s f (c.put.ensures.others tells))) has)
+    (c.put.ensures.refused tells was.sup s going f) c.put.ensures.kept

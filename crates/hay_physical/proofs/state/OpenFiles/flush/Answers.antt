@@ -12,7 +12,7 @@ returns-in-Ok-clause-flushed g c = λ tells sup s stand.
     let solid = solid_flushed (files c.args.disk.now opened.index.file) (files c.flush.new.disk opened.index.file) opened.index.pending (index_solid sup (files c.args.disk.now) opened s stand live)
     (λ none. ap (λ d. files d opened.index.file) (done.nothing none).2) (done.solid tells) in (
       count_flushed sup (files c.args.disk.now) opened s c.in-Ok.count stand done.number,
-      stand_flushed sup (files c.args.disk.now) (files c.flush.new.disk) opened c.flush.new.self opened.frozen s stand live
+      stand_flushed sup (files c.args.disk.now) (files c.flush.new.disk) opened c.flush.new.self s stand live
           (record { moved = done.moved; added = done.added tells; solid = solid; gate = done.next tells; others = done.others tells }),
     )
 
@@ -22,4 +22,4 @@ returns-in-Err-Failed-clause-refused g c = λ tells sup s stand.
     let opened = c.args.self.now in
     let refused = c.in-Err-Failed.ensures in
     let live : opened.index.frozen ≡ false = sym c.is_frozen.ensures ∙ c.if-is_frozen.false in
-    stand_stuck sup (files c.args.disk.now) (files c.flush.new.disk) opened c.flush.new.self opened.frozen s stand live (refused.froze (ap (λ (f : DiskFault). let r : Result ℕ DiskFault = Err f in r) c.in-Err-Failed.field-0-is)) (refused.others tells) (refused.left tells)
+    stand_stuck sup (files c.args.disk.now) (files c.flush.new.disk) opened c.flush.new.self s stand live (refused.froze (ap (λ (f : DiskFault). let r : Result ℕ DiskFault = Err f in r) c.in-Err-Failed.field-0-is)) (refused.others tells) (refused.left tells)

@@ -1,0 +1,152 @@
+//! Flushes and compactions: work on one replica of a volume, which changes no photo.
+ghost use Rattle.std.specs.Prelude.{◌≡◌, ◌<◌, ℕ, map, IfOk, IfErr};
+ghost use Rattle.hay_core.specs.declared.entry.CoreTag.{CoreTag};
+ghost use Rattle.hay_legal.specs.declared.known.Known.{Known};
+ghost use Rattle.hay_legal.specs.declared.known.VolumeKnown.{VolumeKnown};
+ghost use Rattle.hay_legal.specs.Known.{NoneFalls};
+ghost use Rattle.hay_logical.specs.Stands as logical;
+ghost use Rattle.hay_logical.specs.Volumes.{IsOpen, IsSame, KeepsCounts};
+ghost use Rattle.hay_cluster.specs.Causes.{HasCause};
+ghost use Rattle.hay_cluster.specs.Maintenance.{IsDone, IsRefused, IsRefusedAs, IsReplicaFault, command_of, done_as};
+ghost use Rattle.hay_cluster.specs.State.{Answered, Stands};
+ghost use Rattle.hay_cluster.specs.Store.{IsUp, disks_of};
+
+use crate::changes::read_only;
+use crate::closed::replica_on;
+use crate::cluster::Cluster;
+use hay_disk::{Arm, Disk};
+use hay_logical::{Logical, LogicalFault};
+use hay_reply::Reply;
+use std::alloc::Global;
+
+/// What is asked of one replica.
+#[derive(Clone, Copy, Debug, PartialEq, Eq)]
+pub(crate) enum Maintenance {
+    /// Gives the cells without an index record theirs.
+    Flush,
+    /// Begins a compaction.
+    Begin,
+    /// Examines so many cells for the compaction that stands.
+    Step { cells: u32 },
+    /// Finishes the compaction that stands.
+    Finish,
+    /// Begins a compaction and finishes it.
+    Compact,
+}
+
+#[tactic(auto, using(crate::proofs::Moves::none_falls))]
+impl<D: Disk, A: Arm<D::Piece>> Cluster<D, A> {
+    /// Does maintenance work on the replica of a volume on a machine.
+    pub(crate) fn maintain(
+        &mut self,
+        alloc: Global,
+        volume: u32,
+        machine: u32,
+        work: Maintenance,
+    ) -> Reply
+        requires up { IsUp self.old }
+        ensures legal { D.Tells → (k : Known) (tag : CoreTag) → Stands D.files D.Piece.Tells D.fault_count D.fuse_count A.fault_count self.old k →
+            Answered D.files D.Piece.Tells D.fault_count D.fuse_count A.fault_count k tag (command_of work volume machine) result self.new }
+        ensures causes { (lane : ℕ) → HasCause self.old.settings lane
+            (record { disks = map D.fault_count (disks_of self.old); arms = map A.fault_count self.old.arms })
+            (record { disks = map D.fault_count (disks_of self.new); arms = map A.fault_count self.new.arms }) result }
+        ensures counts { NoneFalls (map D.fault_count (disks_of self.old)) (map D.fault_count (disks_of self.new)) }
+        ensures arms { self.new.arms ≡ self.old.arms }
+        ensures settings { self.new.settings ≡ self.old.settings }
+        ensures up { IsUp self.new }
+    {
+        let Some(replica) = replica_on(&self.settings, volume, machine) else {
+            return Reply::Nowhere;
+        };
+        match self.maintain_in(alloc, volume, replica, work) {
+            Ok(number) => done(volume, machine, work, number),
+            Err(fault) => refused(alloc, volume, machine, fault),
+        }
+    }
+}
+
+/// Does maintenance work on a replica of a volume, and answers its number: of the cells that got a record or were
+/// examined, or of the generation that is made.
+pub(crate) fn maintain<D: Disk>(
+    volume: &mut Logical<D>,
+    alloc: Global,
+    replica: u32,
+    work: Maintenance,
+) -> Result<u64, LogicalFault>
+    requires within { replica < volume.old.settings.replicas }
+    requires open { IsOpen volume.old }
+    ensures done { D.Tells → (k : VolumeKnown) → logical.Stands D.files D.Piece.Tells volume.old k →
+        IfOk result (λ number. IsDone D.files D.Piece.Tells work k replica number volume.new) }
+    ensures refused { D.Tells → (k : VolumeKnown) → logical.Stands D.files D.Piece.Tells volume.old k →
+        IfErr result (IsRefused D.files D.Piece.Tells work k replica volume.old volume.new) }
+    ensures causes { IfErr result (IsReplicaFault D.fault_count volume.old.settings volume.old.number volume.old.replicas volume.new.replicas) }
+    ensures open { IsOpen volume.new }
+    ensures counts { KeepsCounts D.fault_count D.fuse_count volume.old.replicas volume.new.replicas }
+    ensures same { IsSame volume.old volume.new }
+{
+    match work {
+        Maintenance::Flush => volume.flush(replica),
+        Maintenance::Begin => volume.begin(alloc, replica),
+        Maintenance::Step { cells } => volume.step(replica, cells),
+        Maintenance::Finish => volume.finish(replica),
+        Maintenance::Compact => volume.compact(alloc, replica),
+    }
+}
+
+// What work is answered that was done.
+fn done(volume: u32, machine: u32, work: Maintenance, number: u64) -> Reply
+    ensures { result ≡ done_as volume machine work number }
+{
+    match work {
+        Maintenance::Flush => Reply::Flushed {
+            volume,
+            machine,
+            records: number,
+        },
+        Maintenance::Begin => Reply::Begun {
+            volume,
+            machine,
+            generation: number,
+        },
+        Maintenance::Step { cells: _ } => Reply::Stepped {
+            volume,
+            machine,
+            cells: number,
+        },
+        Maintenance::Finish | Maintenance::Compact => Reply::Compacted {
+            volume,
+            machine,
+            generation: number,
+        },
+    }
+}
+
+// What work is answered that a volume did not do.
+fn refused(alloc: Global, volume: u32, machine: u32, fault: LogicalFault) -> Reply
+    ensures { IsRefusedAs volume machine fault result }
+{
+    match fault {
+        LogicalFault::ReadOnly { machine } => read_only(alloc, volume, machine),
+        LogicalFault::Failed { machine, faults } => Reply::Failed {
+            volume,
+            machine,
+            faults,
+        },
+        LogicalFault::Busy {
+            machine,
+            generation,
+        } => Reply::Busy {
+            volume,
+            machine,
+            generation,
+        },
+        LogicalFault::Worn { machine } => Reply::Worn { volume, machine },
+        LogicalFault::Idle => Reply::Idle { volume, machine },
+        LogicalFault::Damaged { machine, at } => Reply::Damaged {
+            volume,
+            machine,
+            at,
+        },
+        _ => Reply::NoMem,
+    }
+}

@@ -1,0 +1,223 @@
+-- What ends of a volume's compactions answer, by what is known.
+use Rattle.std.proofs.Common.{◌≡◌, inl, inr, ℕ, ◌+◌, ◌<◌, true, List, length, Option, Some, None, refl, sym, ap, subst, ◌∙◌, arith}
+use Rattle.std.specs.Prelude.{Err, Ok}
+use Rattle.std.proofs.lemmas.Bool.{cases_eq}
+use Rattle.hay_needle.specs.declared.settings.Settings.{Settings}
+use Rattle.hay_disk.specs.Counts.{Rose}
+use Rattle.hay_disk.specs.Disk.{Files}
+use Rattle.hay_legal.specs.declared.known.Run.{Run}
+use Rattle.hay_legal.specs.declared.known.VolumeKnown.{VolumeKnown}
+use Rattle.hay_legal.specs.Known.{machine_of, replica_at}
+use Rattle.hay_map.specs.MapRows.{MapRows}
+use Rattle.hay_physical.specs.declared.fault.ReplicaFault.TheVariants as fault
+use Rattle.hay_physical.specs.Copies.{Copy, IsUp, generation_of, goal_of}
+use Rattle.hay_physical.specs.Runs as runs
+use Rattle.hay_physical.proofs.Laws.{goal_none, stands_generation}
+use Rattle.hay_logical.specs.declared.runs.Unswapped.{Unswapped}
+use Rattle.hay_logical.specs.declared.runs.Unswapped.TheVariants.{Refused, Unsure as Perhaps, Unplaced}
+use Rattle.hay_logical.specs.declared.unsure.Unsure.{Unsure}
+use Rattle.hay_logical.specs.Answers.{CompactRefused, FinishRefused, HasFailed, IsAtRest, IsCompacted, IsFinished, IsRunning}
+use Rattle.hay_logical.specs.Answers as answers
+use Rattle.hay_logical.specs.Fits.{At, RunsAs, copier_run}
+use Rattle.hay_logical.specs.Refusals.{unfinished_by}
+use Rattle.hay_logical.specs.Stands.{ReplicaStands, Stands, StandsFor}
+use Rattle.hay_logical.specs.Steps.{KeepsPlaces, SwapsAt, SwapsOne}
+use Rattle.hay_logical.specs.Steps.Start.{Fresh, Going}
+use Rattle.hay_logical.proofs.Compacting.{known_goal, known_none}
+use Rattle.hay_logical.proofs.Finishing.{loose_sizes, stands_dropped, stands_poised, stands_same, stands_swap, stands_unplaced, tight_sizes, was_there}
+use Rattle.hay_logical.proofs.Lists.{at_below, at_same}
+use Rattle.hay_logical.proofs.Standing.{volume_with}
+use Rattle.hay_logical.proofs.Stepping.{is_run, some_run}
+
+module _ {D P : Type 0} (settings : Settings) (number : ℕ) (DiskTells : Type 0) (files : D → Files) (Tells : Type 0) (faults : D → ℕ) (items new : List (Copy D)) (rows rows' : MapRows P) (front : ℕ) (unsure : Option Unsure) (k : VolumeKnown)
+    (stands : StandsFor files Tells (volume_with settings number items rows front None unsure) k) (tells : DiskTells) (at : ℕ) (one : SwapsOne DiskTells files at items new) where
+  was : ReplicaStands files Tells (volume_with settings number items rows front None unsure) k at one.before
+  was = was_there settings number DiskTells files Tells items new rows rows' front unsure k stands one.count tells at one
+
+  running : (goal_of one.before ≡ None → ⊥) → IsRunning k at
+  running standing = is_run (replica_at k at).run (λ e. standing (known_goal files one.before was.stored (replica_at k at).run was.run ∙ e))
+
+  has_run : (run : IsRunning k at) → runs.HasRun files one.before was.stored (Some (copier_run run.0))
+  has_run run = subst (λ (o : Option Run). RunsAs files one.before was.stored o) run.1 was.run
+
+  pub finished : (generation : ℕ) → (goal_of one.before ≡ None → ⊥) → SwapsAt DiskTells files faults Tells Going rows rows' at one.before one.after (Ok generation) → KeepsPlaces rows rows' at (Ok generation)
+      → IsFinished files Tells k at generation (volume_with settings number new rows' front None unsure)
+  unfolding Stands was has_run
+  finished generation standing swaps places =
+      let run = running standing in
+      let made = swaps.swapped tells was.stored (copier_run run.0) was.stands (has_run run) was.places in
+      record {
+        thawed = stands.frozen;
+        stood = run;
+        next = made.generation_is ∙ made.to.swaps.generation ∙ ap (λ n. n + 1) (sym was.fits.generation);
+        swaps = (
+          made.stored.end,
+          length made.stored.cells,
+          loose_sizes k at was.stored made.stored (copier_run run.0) was.fits made.to,
+          stands_swap settings number DiskTells files Tells items new rows rows' front unsure k stands one.count tells at one (copier_run run.0) generation swaps.up.0 swaps.up.1 swaps.up.2 made places.others,
+        );
+      }
+
+  pub finish_refused : (u : Unswapped) → (goal_of one.before ≡ None → ⊥) → SwapsAt DiskTells files faults Tells Going rows rows' at one.before one.after (Err u) → KeepsPlaces rows rows' at (Err u)
+      → FinishRefused files Tells k at (volume_with settings number items rows front None unsure) (volume_with settings number new rows' front (unfinished_by settings number at u).frozen unsure) (unfinished_by settings number at u).fault
+  unfolding Stands was has_run
+  finish_refused (Refused (fault.Failed n)) standing swaps places =
+      let run = running standing in
+      let h = swaps.refused tells was.stored (copier_run run.0) was.stands (has_run run) was.places in
+      (stands.frozen, refl, run, inl (stands_dropped settings number DiskTells files Tells items new rows rows' front unsure k stands one.count tells at one swaps.left.0 swaps.left.1 h.0 h.1 places.same))
+  finish_refused (Refused fault.Frozen) standing swaps places = absurd swaps.left
+  finish_refused (Refused (fault.Full end need capacity)) standing swaps places = absurd swaps.left
+  finish_refused (Refused (fault.Busy goal)) standing swaps places = let wrong : Going ≡ Fresh = swaps.left.0 in absurd cc
+  finish_refused (Refused (fault.Ended n)) standing swaps places = absurd swaps.left
+  finish_refused (Refused fault.Worn) standing swaps places = let wrong : Going ≡ Fresh = swaps.left.0 in absurd cc
+  finish_refused (Refused (fault.Damaged place)) standing swaps places =
+      let run = running standing in
+      absurd (swaps.refused tells was.stored (copier_run run.0) was.stands (has_run run) was.places)
+  finish_refused (Refused fault.NoMemory) standing swaps places =
+      let run = running standing in
+      let h = swaps.refused tells was.stored (copier_run run.0) was.stands (has_run run) was.places in
+      (stands.frozen, run, inl (stands_dropped settings number DiskTells files Tells items new rows rows' front unsure k stands one.count tells at one swaps.left.0 swaps.left.1 h.0 h.1 places.same))
+  finish_refused (Perhaps n) standing swaps places =
+      let run = running standing in
+      let h = swaps.refused tells was.stored (copier_run run.0) was.stands (has_run run) was.places in
+      (stands.frozen, refl, run, inr (stands_poised settings number DiskTells files Tells items new rows rows' front unsure k stands one.count tells at one (machine_of settings number at) h.0 swaps.left.0 h.1 h.2 places.same))
+  finish_refused Unplaced standing swaps places =
+      let run = running standing in
+      let h = swaps.refused tells was.stored (copier_run run.0) was.stands (has_run run) was.places in (
+        stands.frozen,
+        run,
+        inr (
+          h.stored.end,
+          length h.stored.cells,
+          loose_sizes k at was.stored h.stored (copier_run run.0) was.fits h.to,
+          stands_unplaced settings number DiskTells files Tells items new rows rows' front unsure k stands one.count tells at one (machine_of settings number 0) (copier_run run.0) swaps.left.0 h places.same,
+        ),
+      )
+
+  -- ALL AT ONCE
+
+  fresh : runs.Run
+  fresh = record { goal = was.stored.generation + 1; left = length was.stored.cells; tight = true }
+
+  rest : (goal_of one.before ≡ None) × (generation_of one.before < 65535) → IsAtRest k at
+  rest idle =
+      let same = stands_generation files one.before was.stored was.stands in
+      let fits = was.fits.generation in
+      let less = idle.1 in
+      (known_none files one.before was.stored (replica_at k at).run was.run idle.0, (let e : (replica_at k at).generation < 65535 = omega (arith, less, same, fits) in e))
+
+  pub compacted : (generation : ℕ) → SwapsAt DiskTells files faults Tells Fresh rows rows' at one.before one.after (Ok generation) → KeepsPlaces rows rows' at (Ok generation)
+      → IsCompacted files Tells k at generation (volume_with settings number new rows' front None unsure)
+  unfolding Stands was fresh
+  compacted generation swaps places =
+      let idle = swaps.up.3 in
+      let made = swaps.swapped tells was.stored fresh was.stands (goal_none files one.before was.stored idle.0, refl) was.places in
+      record {
+        thawed = stands.frozen;
+        rest = rest idle;
+        next = made.generation_is ∙ made.to.swaps.generation ∙ ap (λ n. n + 1) (sym was.fits.generation);
+        swaps = (
+          made.stored.end,
+          length made.stored.cells,
+          tight_sizes k at was.stored made.stored fresh refl was.fits made.to,
+          stands_swap settings number DiskTells files Tells items new rows rows' front unsure k stands one.count tells at one fresh generation swaps.up.0 swaps.up.1 swaps.up.2 made places.others,
+        );
+      }
+
+  all_same : one.after ≡ one.before → (j : ℕ) (r r' : Copy D) → At items j r → At new j r' → IsUp one.after → r' ≡ r
+  all_same is j r r' e f up = elim (cases_eq j at) [
+    | inl here ↦ at_same new at r' one.after (subst (λ n. At new n r') here f) one.is ∙ is ∙ at_same items at one.before r one.was (subst (λ n. At items n r) here e)
+    | inr apart ↦ (one.others j r r' apart e f).1 up
+  ]
+
+  pub compact_refused : (u : Unswapped) → IsUp one.before → SwapsAt DiskTells files faults Tells Fresh rows rows' at one.before one.after (Err u) → KeepsPlaces rows rows' at (Err u)
+      → CompactRefused files Tells k at (volume_with settings number items rows front None unsure) (volume_with settings number new rows' front (unfinished_by settings number at u).frozen unsure) (unfinished_by settings number at u).fault
+  unfolding Stands was fresh
+  compact_refused (Refused (fault.Failed n)) up swaps places =
+      let idle = swaps.left.2 in
+      let h = swaps.refused tells was.stored fresh was.stands (goal_none files one.before was.stored idle.0, refl) was.places in
+      (stands.frozen, refl, rest idle, inl (stands_dropped settings number DiskTells files Tells items new rows rows' front unsure k stands one.count tells at one swaps.left.0 swaps.left.1 h.0 h.1 places.same))
+  compact_refused (Refused fault.Frozen) up swaps places = absurd swaps.left
+  compact_refused (Refused (fault.Full end need capacity)) up swaps places = absurd swaps.left
+  compact_refused (Refused (fault.Busy goal)) up swaps places = (
+    stands.frozen,
+    refl,
+    some_run (replica_at k at).run goal (sym (known_goal files one.before was.stored (replica_at k at).run was.run) ∙ swaps.left.1),
+    stands_same settings number DiskTells files Tells items new rows rows' front unsure k stands one.count tells at one
+        (λ j r r' e f. all_same swaps.left.2 j r r' e f (subst (λ (x : Copy D). IsUp x) (sym swaps.left.2) up)) places.same,
+  )
+  compact_refused (Refused (fault.Ended n)) up swaps places = absurd swaps.left
+  compact_refused (Refused fault.Worn) up swaps places =
+      let h = swaps.refused tells was.stored fresh was.stands (goal_none files one.before was.stored swaps.left.1, refl) was.places in (
+        stands.frozen,
+        refl,
+        known_none files one.before was.stored (replica_at k at).run was.run swaps.left.1,
+        was.fits.generation ∙ h,
+        stands_same settings number DiskTells files Tells items new rows rows' front unsure k stands one.count tells at one
+            (λ j r r' e f. all_same swaps.left.3 j r r' e f (subst (λ (x : Copy D). IsUp x) (sym swaps.left.3) up)) places.same,
+      )
+  compact_refused (Refused (fault.Damaged place)) up swaps places =
+      absurd (swaps.refused tells was.stored fresh was.stands (goal_none files one.before was.stored swaps.left.2.0, refl) was.places)
+  compact_refused (Refused fault.NoMemory) up swaps places =
+      let idle = swaps.left.2 in
+      let h = swaps.refused tells was.stored fresh was.stands (goal_none files one.before was.stored idle.0, refl) was.places in
+      (stands.frozen, rest idle, inl (stands_dropped settings number DiskTells files Tells items new rows rows' front unsure k stands one.count tells at one swaps.left.0 swaps.left.1 h.0 h.1 places.same))
+  compact_refused (Perhaps n) up swaps places =
+      let idle = swaps.left.2 in
+      let h = swaps.refused tells was.stored fresh was.stands (goal_none files one.before was.stored idle.0, refl) was.places in
+      (stands.frozen, refl, rest idle, inr (stands_poised settings number DiskTells files Tells items new rows rows' front unsure k stands one.count tells at one (machine_of settings number at) h.0 swaps.left.0 h.1 h.2 places.same))
+  compact_refused Unplaced up swaps places =
+      let idle = swaps.left.2 in
+      let h = swaps.refused tells was.stored fresh was.stands (goal_none files one.before was.stored idle.0, refl) was.places in (
+        stands.frozen,
+        rest idle,
+        inr (
+          h.stored.end,
+          length h.stored.cells,
+          tight_sizes k at was.stored h.stored fresh refl was.fits h.to,
+          stands_unplaced settings number DiskTells files Tells items new rows rows' front unsure k stands one.count tells at one (machine_of settings number 0) fresh swaps.left.0 h places.same,
+        ),
+      )
+
+-- CAUSES
+
+module _ {D P : Type 0} (settings : Settings) (number : ℕ) (DiskTells : Type 0) (files : D → Files) (Tells : Type 0) (faults : D → ℕ) (items new : List (Copy D)) (rows rows' : MapRows P) (at : ℕ) (one : SwapsOne DiskTells files at items new)
+    (all : length items ≡ settings.replicas) where
+  failed_at : (printed : ℕ) → Rose (faults (one.before).disk) (faults (one.after).disk) → printed ≡ faults (one.after).disk → HasFailed faults settings number items new (machine_of settings number at) printed
+  failed_at printed rose is =
+      let below = at_below items at one.before one.was in
+      record {
+        replica = at;
+        within = omega (arith, below, all);
+        before = one.before;
+        after = one.after;
+        was = one.was;
+        is = one.is;
+        machine = refl;
+        rose = rose;
+        printed = is;
+      }
+
+  pub finish_fault : (u : Unswapped) → SwapsAt DiskTells files faults Tells Going rows rows' at one.before one.after (Err u) → answers.IsRunFault faults settings number items new (unfinished_by settings number at u).fault
+  finish_fault (Refused (fault.Failed n)) swaps = failed_at n swaps.left.3 swaps.left.4
+  finish_fault (Refused fault.Frozen) swaps = absurd swaps.left
+  finish_fault (Refused (fault.Full end need capacity)) swaps = absurd swaps.left
+  finish_fault (Refused (fault.Busy goal)) swaps = let wrong : Going ≡ Fresh = swaps.left.0 in absurd cc
+  finish_fault (Refused (fault.Ended n)) swaps = absurd swaps.left
+  finish_fault (Refused fault.Worn) swaps = let wrong : Going ≡ Fresh = swaps.left.0 in absurd cc
+  finish_fault (Refused (fault.Damaged place)) swaps = tt
+  finish_fault (Refused fault.NoMemory) swaps = tt
+  finish_fault (Perhaps n) swaps = failed_at n swaps.left.3 swaps.left.4
+  finish_fault Unplaced swaps = tt
+
+  pub compact_fault : (u : Unswapped) → SwapsAt DiskTells files faults Tells Fresh rows rows' at one.before one.after (Err u) → answers.IsCompactFault faults settings number items new (unfinished_by settings number at u).fault
+  compact_fault (Refused (fault.Failed n)) swaps = failed_at n swaps.left.3 swaps.left.4
+  compact_fault (Refused fault.Frozen) swaps = absurd swaps.left
+  compact_fault (Refused (fault.Full end need capacity)) swaps = absurd swaps.left
+  compact_fault (Refused (fault.Busy goal)) swaps = tt
+  compact_fault (Refused (fault.Ended n)) swaps = absurd swaps.left
+  compact_fault (Refused fault.Worn) swaps = tt
+  compact_fault (Refused (fault.Damaged place)) swaps = tt
+  compact_fault (Refused fault.NoMemory) swaps = tt
+  compact_fault (Perhaps n) swaps = failed_at n swaps.left.3 swaps.left.4
+  compact_fault Unplaced swaps = tt

@@ -1,0 +1,124 @@
+-- Cells that a compaction examines.
+use Rattle.std.proofs.Common.{◌≡◌, inl, inr, ℕ, ◌+◌, ◌-◌, ◌≤◌, List, Option, Some, None, refl, sym, ap, subst, ◌∙◌, arith}
+use Rattle.hay_needle.specs.declared.needle.Cell.{Cell}
+use Rattle.hay_needle.specs.declared.needle.Pair.{Pair}
+use Rattle.hay_disk.specs.Counts.{Rose}
+use Rattle.hay_disk.specs.Disk.{Files}
+use Rattle.hay_map.specs.declared.place.Place.{Place}
+use Rattle.hay_map.specs.declared.place.Place.TheVariants as place
+use Rattle.hay_open.specs.Stored.{Stored, last_cell}
+use Rattle.hay_compact.specs.Copying.{IsLatest}
+use Rattle.hay_physical.specs.declared.fault.ReplicaFault.{ReplicaFault}
+use Rattle.hay_physical.specs.declared.fault.ReplicaFault.TheVariants as fault
+use Rattle.hay_physical.specs.Copies.{Copy, IsFrozen, IsUp, goal_of}
+use Rattle.hay_physical.specs.Faults as physical_faults
+use Rattle.hay_physical.specs.Runs.{EndsRun, HasRun, Run}
+use Rattle.hay_logical.specs.Fits.{PhotoAt}
+use Rattle.hay_logical.specs.Steps.{GoesOn, IsStepFault, StepLeaves, latest_of, stepped_by}
+use Rattle.hay_logical.proofs.Calls.{not_both}
+
+-- COUNTS
+
+pub rose_later : (a b c : ℕ) → a ≤ b → Rose b c → Rose a c
+rose_later a b c low (inl less) = inl (omega (arith, low, less))
+rose_later a b c low (inr most) = inr most
+
+-- STEPS
+
+pub step_none : (run : Run) → stepped_by 0 run ≡ run
+step_none run = let e : run.left - 0 ≡ run.left = omega arith in ap (λ n. record run { left = n }) e
+
+pub step_more : (n m : ℕ) (run : Run) → stepped_by m (stepped_by n run) ≡ stepped_by (n + m) run
+step_more n m run = let e : run.left - n - m ≡ run.left - (n + m) = omega arith in ap (λ k. record run { left = k }) e
+
+module _ {D : Type 0} (DiskTells : Type 0) (files : D → Files) where
+  pub goes_none : (r : Copy D) → IsUp r → GoesOn DiskTells files r r
+  goes_none r up = record { up = up; sup = refl; stuck = refl; stands = λ tells s h. h; deletable = λ tells place may. may }
+
+  pub goes_after : (r x y : Copy D) → GoesOn DiskTells files r x → GoesOn DiskTells files x y → GoesOn DiskTells files r y
+  goes_after r x y a b = record {
+    up = b.up;
+    sup = b.sup ∙ a.sup;
+    stuck = b.stuck ∙ a.stuck;
+    stands = λ tells s h. b.stands tells s (a.stands tells s h);
+    deletable = λ tells place may. b.deletable tells place (a.deletable tells place may);
+  }
+
+module _ {D : Type 0} (faults : D → ℕ) where
+  -- a cell was not read
+  pub peek_cause : (r r' : Copy D) (f : ReplicaFault) → IsUp r → (goal_of r ≡ None → ⊥) → (f ≡ fault.Frozen → IsFrozen r) → ((n : ℕ) → f ≡ fault.Ended n → goal_of r ≡ None)
+      → physical_faults.IsPeekFault (faults r.disk) (faults r'.disk) f → EndsRun (faults r'.disk) r r' f → IsStepFault faults r r' f
+  peek_cause r r' (fault.Failed n) up standing thawed none cause ends = (cause.0, cause.1, ends.0)
+  peek_cause r r' fault.Frozen up standing thawed none cause ends = absurd (not_both r up (thawed refl))
+  peek_cause r r' (fault.Full end need capacity) up standing thawed none cause ends = absurd cause
+  peek_cause r r' (fault.Busy generation) up standing thawed none cause ends = absurd cause
+  peek_cause r r' (fault.Ended n) up standing thawed none cause ends = absurd (standing (none n refl))
+  peek_cause r r' fault.Worn up standing thawed none cause ends = absurd cause
+  peek_cause r r' (fault.Damaged at) up standing thawed none cause ends = ends.0
+  peek_cause r r' fault.NoMemory up standing thawed none cause ends = ends
+
+  -- or not copied
+  pub copy_cause : (r r' : Copy D) (f : ReplicaFault) → IsUp r → (goal_of r ≡ None → ⊥) → (f ≡ fault.Frozen → IsFrozen r) → ((n : ℕ) → f ≡ fault.Ended n → goal_of r ≡ None)
+      → physical_faults.IsRunFault (faults r.disk) (faults r'.disk) f → EndsRun (faults r'.disk) r r' f → IsStepFault faults r r' f
+  copy_cause r r' (fault.Failed n) up standing thawed none cause ends = (cause.0, cause.1, ends.0)
+  copy_cause r r' fault.Frozen up standing thawed none cause ends = absurd (not_both r up (thawed refl))
+  copy_cause r r' (fault.Full end need capacity) up standing thawed none cause ends = absurd cause
+  copy_cause r r' (fault.Busy generation) up standing thawed none cause ends = absurd cause
+  copy_cause r r' (fault.Ended n) up standing thawed none cause ends = absurd (standing (none n refl))
+  copy_cause r r' fault.Worn up standing thawed none cause ends = absurd cause
+  copy_cause r r' (fault.Damaged at) up standing thawed none cause ends = absurd cause
+  copy_cause r r' fault.NoMemory up standing thawed none cause ends = ends
+
+  -- behind what went before
+  pub step_later : (r x y : Copy D) (f : ReplicaFault) → faults r.disk ≤ faults x.disk → goal_of x ≡ goal_of r → IsStepFault faults x y f → IsStepFault faults r y f
+  step_later r x y (fault.Failed n) low goal cause = (rose_later (faults r.disk) (faults x.disk) (faults y.disk) low cause.0, cause.1, cause.2)
+  step_later r x y fault.Frozen low goal cause = cause
+  step_later r x y (fault.Full end need capacity) low goal cause = cause
+  step_later r x y (fault.Busy generation) low goal cause = cause
+  step_later r x y (fault.Ended n) low goal cause = cause
+  step_later r x y fault.Worn low goal cause = cause
+  step_later r x y (fault.Damaged at) low goal cause = cause
+  step_later r x y fault.NoMemory low goal cause = cause ∙ goal
+
+module _ {D : Type 0} (files : D → Files) where
+  -- nothing was examined
+  pub leaves_none : (r' : Copy D) (s : Stored) (run : Run) (cells : ℕ) (f : ReplicaFault) → (f ≡ fault.NoMemory → HasRun files r' s (Some run)) → ((at : ℕ) → f ≡ fault.Damaged at → ⊥) → StepLeaves files r' s run cells f
+  leaves_none r' s run cells (fault.Failed n) memory whole = tt
+  leaves_none r' s run cells fault.Frozen memory whole = tt
+  leaves_none r' s run cells (fault.Full end need capacity) memory whole = tt
+  leaves_none r' s run cells (fault.Busy generation) memory whole = tt
+  leaves_none r' s run cells (fault.Ended n) memory whole = tt
+  leaves_none r' s run cells fault.Worn memory whole = tt
+  leaves_none r' s run cells (fault.Damaged at) memory whole = whole at refl
+  leaves_none r' s run cells fault.NoMemory memory whole =
+      record { number = 0; within = omega arith; has = subst (λ (x : Run). HasRun files r' s (Some x)) (sym (step_none run)) (memory refl) }
+
+  -- nothing more was examined
+  pub leaves_some : (r' : Copy D) (s : Stored) (run : Run) (cells n : ℕ) (f : ReplicaFault) → n ≤ cells → n ≤ run.left → StepLeaves files r' s (stepped_by n run) 0 f → StepLeaves files r' s run cells f
+  leaves_some r' s run cells n (fault.Failed count) low few leaves = tt
+  leaves_some r' s run cells n fault.Frozen low few leaves = tt
+  leaves_some r' s run cells n (fault.Full end need capacity) low few leaves = tt
+  leaves_some r' s run cells n (fault.Busy generation) low few leaves = tt
+  leaves_some r' s run cells n (fault.Ended count) low few leaves = tt
+  leaves_some r' s run cells n fault.Worn low few leaves = tt
+  leaves_some r' s run cells n (fault.Damaged at) low few leaves = leaves
+  leaves_some r' s run cells n fault.NoMemory low few leaves =
+      let none : leaves.number ≡ 0 = (let w = leaves.within in omega (arith, w)) in
+      record {
+        number = n;
+        within = omega (arith, low, few);
+        has = subst (λ (x : Run). HasRun files r' s (Some x)) (ap (λ k. stepped_by k (stepped_by n run)) none ∙ step_none (stepped_by n run)) leaves.has;
+      }
+
+pub run_whole : (before after : ℕ) (f : ReplicaFault) (at : ℕ) → f ≡ fault.Damaged at → physical_faults.IsRunFault before after f → ⊥
+run_whole before after f at e cause = subst (λ (x : ReplicaFault). physical_faults.IsRunFault before after x) e cause
+
+-- THE LATEST PLACE
+
+pub latest_is : {P : Type 0} (Tells : Type 0) (cells : List Cell) (pair : Pair) (p : Place P) (cell : Cell) → last_cell cells pair ≡ Some cell → PhotoAt Tells (last_cell cells pair) p → IsLatest cells pair (latest_of p)
+latest_is {P = P} Tells cells pair p cell last at = by_place p (subst (λ (o : Option Cell). PhotoAt Tells o p) last at)
+  where
+    by_place : (q : Place P) → PhotoAt Tells (Some cell) q → IsLatest cells pair (latest_of q)
+    by_place (place.Live needle) is = record { cell = cell; last = last; place = sym is.at }
+    by_place place.Gone is = record { cell = cell; last = last; place = is }
+    by_place place.None is = record { cell = cell; last = last; place = is }

@@ -1,0 +1,110 @@
+-- The shape of a volume behind the end of a compaction.
+use Rattle.std.proofs.Common.{◌≡◌, inl, inr, ℕ, ◌<◌, false, List, length, Option, None, sym, ap, subst, ◌∙◌, arith}
+use Rattle.std.specs.Prelude.{Err, Result}
+use Rattle.std.proofs.lemmas.Bool.{cases_eq}
+use Rattle.hay_needle.specs.declared.settings.Settings.{Settings}
+use Rattle.hay_disk.specs.Disk.{Files}
+use Rattle.hay_map.specs.MapRows.{MapRows}
+use Rattle.hay_map.specs.Places.{place_in}
+use Rattle.hay_map.specs.Rows.{row_at}
+use Rattle.hay_physical.specs.declared.fault.ReplicaFault.TheVariants as fault
+use Rattle.hay_physical.specs.Copies.{Copy, IsOpen, IsUp, is_frozen}
+use Rattle.hay_physical.specs.Replicas as physical
+use Rattle.hay_logical.specs.declared.unsure.Unsure.{Unsure}
+use Rattle.hay_logical.specs.declared.runs.Unswapped.{Unswapped}
+use Rattle.hay_logical.specs.declared.runs.Unswapped.TheVariants.{Refused, Unsure as Perhaps, Unplaced}
+use Rattle.hay_logical.specs.Fits.{At}
+use Rattle.hay_logical.specs.Refusals.{unfinished_by}
+use Rattle.hay_logical.specs.Steps.{KeepsPlaces, LosesRun, Start, SwapsAt, SwapsOne}
+use Rattle.hay_logical.specs.Volumes.{CanDelete, IsShaped, Volume}
+use Rattle.hay_logical.specs.Volumes as volumes
+use Rattle.hay_logical.proofs.Calls.{up_open, up_thawed}
+use Rattle.hay_logical.proofs.Deletable.{place_kept}
+use Rattle.hay_logical.proofs.Lists.{at_below, at_same, at_there}
+use Rattle.hay_logical.proofs.Methods.{shaped_on}
+use Rattle.hay_logical.proofs.Standing.{volume_with}
+
+module _ {D P : Type 0} (DiskTells : Type 0) (files : D → Files) (Tells : Type 0) (faults : D → ℕ) (start : Start) (items new : List (Copy D)) (rows rows' : MapRows P) (at : ℕ) (one : SwapsOne DiskTells files at items new)
+    (ups : (j : ℕ) (r : Copy D) → At items j r → IsUp r) where
+  -- what holds of the replica that was called, and of the others
+  each_of : (Q : Copy D → Copy D → Type 0) → Q one.before one.after → ((r r' : Copy D) → IsUp r → LosesRun DiskTells files r r' → Q r r') → (j : ℕ) (r r' : Copy D) → At items j r → At new j r' → Q r r'
+  each_of Q here others j r r' e f = elim (cases_eq j at) [
+    | inl same ↦
+        let r_is : r ≡ one.before = at_same items at r one.before (subst (λ n. At items n r) same e) one.was in
+        let r'_is : r' ≡ one.after = at_same new at r' one.after (subst (λ n. At new n r') same f) one.is in
+        subst (λ x. Q x r') (sym r_is) (subst (λ x. Q one.before x) (sym r'_is) here)
+    | inr apart ↦ others r r' (ups j r e) (one.others j r r' apart e f).0
+  ]
+
+  pub swaps_kept : (result : Result ℕ Unswapped) → SwapsAt DiskTells files faults Tells start rows rows' at one.before one.after result → (j : ℕ) (r r' : Copy D) → At items j r → At new j r' → IsOpen r' × (r'.sup ≡ r.sup)
+  swaps_kept result swaps = each_of (λ r r'. IsOpen r' × (r'.sup ≡ r.sup)) (swaps.«open», swaps.sup) (λ r r' up loses. (loses.«open» (up_open r up), loses.sup))
+
+  pub swaps_thawed : IsUp one.after → (j : ℕ) (r r' : Copy D) → At items j r → At new j r' → is_frozen r' ≡ false
+  swaps_thawed up = each_of (λ r r'. is_frozen r' ≡ false) (up_thawed one.after up) (λ r r' was loses. loses.frozen ∙ up_thawed r was)
+
+  pub swaps_up : (settings : Settings) (number : ℕ) (u : Unswapped) → SwapsAt DiskTells files faults Tells start rows rows' at one.before one.after (Err u) → (unfinished_by settings number at u).frozen ≡ None → IsUp one.after
+  swaps_up settings number (Refused (fault.Failed n)) swaps none = swaps.left.0
+  swaps_up settings number (Refused (fault.Damaged place)) swaps none = swaps.left.0
+  swaps_up settings number (Refused fault.NoMemory) swaps none = swaps.left.0
+  swaps_up settings number (Refused (fault.Busy goal)) swaps none = subst (λ (x : Copy D). IsUp x) (sym swaps.left.2) (ups at one.before one.was)
+  swaps_up settings number (Refused fault.Worn) swaps none = subst (λ (x : Copy D). IsUp x) (sym swaps.left.3) (ups at one.before one.was)
+  swaps_up settings number (Refused fault.Frozen) swaps none = absurd swaps.left
+  swaps_up settings number (Refused (fault.Full end need capacity)) swaps none = absurd swaps.left
+  swaps_up settings number (Refused (fault.Ended n)) swaps none = absurd swaps.left
+  swaps_up settings number (Perhaps n) swaps none = absurd cc
+  swaps_up settings number Unplaced swaps none = absurd cc
+
+  pub swaps_deletable : (result : Result ℕ Unswapped) → SwapsAt DiskTells files faults Tells start rows rows' at one.before one.after result → KeepsPlaces rows rows' at result → CanDelete DiskTells files items rows → CanDelete DiskTells files new rows'
+  swaps_deletable result swaps places can tells j r' f up pair = elim (cases_eq j at) [
+    | inl same ↦
+        let r'_is : r' ≡ one.after = at_same new at r' one.after (subst (λ n. At new n r') same f) one.is in
+        subst (λ n. physical.MayDeletePlace files r' (place_in (row_at rows' pair) n)) (sym same)
+        (subst (λ (x : Copy D). physical.MayDeletePlace files x (place_in (row_at rows' pair) at)) (sym r'_is)
+        (swaps.deletable tells (can tells at one.before one.was (ups at one.before one.was)) (subst (λ (x : Copy D). IsUp x) r'_is up) pair))
+    | inr apart ↦
+        let old = at_there items j (let h = at_below new j r' f in let count = one.count in let less : j < length items = omega (arith, h, count) in less) in
+        subst (λ p. physical.MayDeletePlace files r' p) (sym (places.others pair j apart))
+        (place_kept DiskTells files old.0 r' ((one.others j old.0 r' apart old.1 f).0).deletable tells (place_in (row_at rows pair) j) (can tells j old.0 old.1 (ups j old.0 old.1) pair))
+  ]
+
+-- a volume's call that ended a compaction
+pub record SwapCall {D P : Type 0} (DiskTells : Type 0) (files : D → Files) (Tells : Type 0) (faults : D → ℕ) (start : Start) (items new : List (Copy D)) (rows rows' : MapRows P) (at : ℕ) (result : Result ℕ Unswapped) : Type 0 where
+  pub one : SwapsOne DiskTells files at items new
+  pub ups : (j : ℕ) (r : Copy D) → At items j r → IsUp r
+  pub swaps : SwapsAt DiskTells files faults Tells start rows rows' at one.before one.after result
+  pub places : KeepsPlaces rows rows' at result
+
+pub called_with : {D P : Type 0} {DiskTells : Type 0} {files : D → Files} {Tells : Type 0} {faults : D → ℕ} {start : Start} {items new : List (Copy D)} {rows rows' : MapRows P} {at : ℕ} {result result' : Result ℕ Unswapped}
+    → result ≡ result' → SwapCall DiskTells files Tells faults start items new rows rows' at result → SwapCall DiskTells files Tells faults start items new rows rows' at result'
+called_with {D} {P} {DiskTells} {files} {Tells} {faults} {start} {items} {new} {rows} {rows'} {at} is call = subst (λ z. SwapCall DiskTells files Tells faults start items new rows rows' at z) is call
+
+module _ {D P : Type 0} {DiskTells : Type 0} {files : D → Files} {Tells : Type 0} {faults : D → ℕ} {start : Start} {items new : List (Copy D)} {rows rows' : MapRows P} {at : ℕ} {result : Result ℕ Unswapped}
+    (call : SwapCall DiskTells files Tells faults start items new rows rows' at result) where
+  pub called_each : (j : ℕ) (r r' : Copy D) → At items j r → At new j r' → IsOpen r' × (r'.sup ≡ r.sup)
+  called_each = swaps_kept DiskTells files Tells faults start items new rows rows' at call.one call.ups result call.swaps
+
+  pub called_shaped : (settings : Settings) (number : ℕ) (replicas : List (Copy D)) (front : ℕ) (frozen frozen' : Option ℕ) (unsure : Option Unsure) → replicas ≡ new → (frozen' ≡ None → IsUp call.one.after)
+      → IsShaped (volume_with settings number items rows front frozen unsure) → IsShaped (volume_with settings number replicas rows' front frozen' unsure)
+  called_shaped settings number replicas front frozen frozen' unsure is up shape =
+      subst (λ rs. IsShaped (volume_with settings number rs rows' front frozen' unsure)) (sym is)
+      (shaped_on settings number items new rows rows' front front frozen frozen' unsure unsure shape call.one.count (λ j r r' e f. (called_each j r r' e f).1) call.places.width
+      (λ none. swaps_thawed DiskTells files Tells faults start items new rows rows' at call.one call.ups (up none)))
+
+  pub called_deletable : (replicas : List (Copy D)) → replicas ≡ new → CanDelete DiskTells files items rows → CanDelete DiskTells files replicas rows'
+  called_deletable replicas is can =
+      subst (λ rs. CanDelete DiskTells files rs rows') (sym is) (swaps_deletable DiskTells files Tells faults start items new rows rows' at call.one call.ups result call.swaps call.places can)
+
+  pub called_open : (volume : Volume D P) → volume.replicas ≡ new → length items ≡ volume.settings.replicas → volumes.IsOpen volume
+  called_open volume is all = record {
+    all = ap length is ∙ call.one.count ∙ all;
+    each = λ j r' f.
+        let there = subst (λ xs. At xs j r') is f in
+        let old = at_there items j (subst (λ n. j < n) call.one.count (at_below new j r' there)) in
+        (called_each j old.0 r' old.1 there).0;
+  }
+
+-- where nothing freezes the volume the replica takes changes
+pub called_up : {D P : Type 0} {DiskTells : Type 0} {files : D → Files} {Tells : Type 0} {faults : D → ℕ} {start : Start} {items new : List (Copy D)} {rows rows' : MapRows P} {at : ℕ} (settings : Settings) (number : ℕ) (u : Unswapped)
+    (call : SwapCall DiskTells files Tells faults start items new rows rows' at (Err u)) → (unfinished_by settings number at u).frozen ≡ None → IsUp call.one.after
+called_up {D} {P} {DiskTells} {files} {Tells} {faults} {start} {items} {new} {rows} {rows'} {at} settings number u call none =
+    swaps_up DiskTells files Tells faults start items new rows rows' at call.one call.ups settings number u call.swaps none

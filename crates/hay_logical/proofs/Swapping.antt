@@ -1,0 +1,219 @@
+-- How a compaction of a replica ends.
+use Rattle.std.proofs.Common.{◌≡◌, ◌≢◌, inl, inr, ℕ, zero, suc, ◌≤◌, Bool, true, false, cond, List, [], ◌∷◌, length, Option, Some, None, refl, sym, ap, subst, ◌∙◌, arith}
+use Rattle.std.specs.Prelude.{slice_set, Result, Ok, Err, IfErr}
+use Rattle.std.proofs.lemmas.Bool.{cases_lt}
+use Rattle.hay_needle.specs.declared.needle.Cell.{Cell}
+use Rattle.hay_needle.specs.declared.needle.Outcome.{Outcome}
+use Rattle.hay_needle.specs.declared.needle.Outcome.TheVariants as outcome
+use Rattle.hay_needle.specs.declared.needle.Pair.{Pair}
+use Rattle.hay_needle.specs.Tables.{Table, outcome_at, pair_eq, table_of}
+use Rattle.hay_disk.specs.Counts.{Rose}
+use Rattle.hay_disk.specs.Disk.{Files}
+use Rattle.hay_volume.specs.Cells.{needles_of}
+use Rattle.hay_map.specs.MapRows.{MapRows}
+use Rattle.hay_map.specs.Places.{gone_place, place_in}
+use Rattle.hay_map.specs.Rows.{last_place, row_at}
+use Rattle.hay_map.specs.declared.place.Place.{Place}
+use Rattle.hay_map.specs.declared.place.Place.TheVariants as place
+use Rattle.hay_map.specs.declared.view.OpenCell.{OpenCell}
+use Rattle.hay_open.specs.Stored.{Stored, last_cell}
+use Rattle.hay_compact.specs.Finishing.{AreThePlaces}
+use Rattle.hay_physical.specs.declared.fault.ReplicaFault.{ReplicaFault}
+use Rattle.hay_physical.specs.declared.fault.ReplicaFault.TheVariants as fault
+use Rattle.hay_physical.specs.Copies.{Copy, IsFrozen, IsUp, goal_of, is_stuck}
+use Rattle.hay_physical.specs.Faults as physical_faults
+use Rattle.hay_physical.specs.Replicas as physical
+use Rattle.hay_physical.specs.Runs.{Run}
+use Rattle.hay_logical.specs.declared.runs.Unswapped.{Unswapped}
+use Rattle.hay_logical.specs.declared.runs.Unswapped.TheVariants.{Refused, Unsure, Unplaced}
+use Rattle.hay_logical.specs.Fits.{PhotoAt}
+use Rattle.hay_logical.specs.Steps.{GoesOn, HoldsUnswapped, IsLeftBy, IsStepFault, KeepsPlaces, PlacesAre, Start, StartsRun, StepLeaves, SwapsAt, SwapsTo, WasAtRest}
+use Rattle.hay_logical.specs.Steps.Start.{Examined, Fresh, Going}
+use Rattle.hay_logical.proofs.Calls.{loaded, not_both}
+use Rattle.hay_logical.proofs.Compacting.{photo_at}
+use Rattle.hay_logical.proofs.Deletable.{place_kept}
+use Rattle.hay_logical.proofs.Examining.{rose_later}
+use Rattle.hay_logical.proofs.Holding.{no_photo}
+use Rattle.hay_logical.proofs.Lists.{length-slice_set}
+use Rattle.hay_logical.proofs.Tables.{at_cells, cell_outcome, place_means}
+
+-- THE PLACES BEHIND A SWAP
+
+beyond : {P : Type 0} (row : List (Place P)) (j : ℕ) → length row ≤ j → place_in row j ≡ place.None
+beyond [] j h = refl
+beyond (p ∷ row) zero h = absurd (omega (arith, h))
+beyond (p ∷ row) (suc j) h = beyond row j (let less : length row ≤ j = omega (arith, h) in less)
+
+-- a pair that is not listed has no photo, whichever place without one it had
+last_gone : {P : Type 0} (Q : Place P → Type 0) → (Q place.Gone → Q place.None) → (cells : List (OpenCell P)) (pair : Pair) (p : Place P)
+    → Q (last_place cells pair place.Gone) → Q (last_place cells pair (gone_place p))
+last_gone Q none cells pair (place.Live needle) h = h
+last_gone Q none cells pair place.Gone h = h
+last_gone {P = P} Q none cells pair place.None h = by_cells cells h
+  where
+    by_first : (b : Bool) (q : Place P) (rest : List (OpenCell P)) → (Q (last_place rest pair place.Gone) → Q (last_place rest pair place.None))
+        → Q (last_place rest pair (cond b q place.Gone)) → Q (last_place rest pair (cond b q place.None))
+    by_first true q rest again k = k
+    by_first false q rest again k = again k
+
+    by_cells : (rest : List (OpenCell P)) → Q (last_place rest pair place.Gone) → Q (last_place rest pair place.None)
+    by_cells [] k = none k
+    by_cells (cell ∷ rest) k = by_first (pair_eq cell.pair pair) cell.place rest (by_cells rest) k
+
+gone_none : (P Tells : Type 0) (o : Option Cell) → PhotoAt {P = P} Tells o place.Gone → PhotoAt {P = P} Tells o place.None
+gone_none P Tells None h = tt
+gone_none P Tells (Some cell) h = h
+
+deleted_is : (d : Bool) (o : Outcome) → o ≢ outcome.Nothing → cond d outcome.Nothing o ≡ outcome.Nothing → d ≡ true
+deleted_is true o not e = refl
+deleted_is false o not e = absurd (not e)
+
+nothing_at : (P Tells : Type 0) (o : Option Cell) → cell_outcome o outcome.Nothing ≡ outcome.Nothing → PhotoAt {P = P} Tells o place.None
+nothing_at P Tells None e = tt
+nothing_at P Tells (Some cell) e = deleted_is cell.deleted (outcome.Photo (record { cookie = cell.cookie; bytes = cell.bytes })) (λ w. cc) e
+
+module _ {P : Type 0} (Tells : Type 0) (rows rows' : MapRows P) (at : ℕ) (cells : List (OpenCell P))
+    (changed : (pair : Pair) → row_at rows' pair ≡ slice_set (row_at rows pair) at (last_place cells pair (gone_place (place_in (row_at rows pair) at)))) where
+  -- the place of a pair, or none where there is no room for one
+  pub new_place : (pair : Pair) (Q : Place P → Type 0) → Q (last_place cells pair (gone_place (place_in (row_at rows pair) at)))
+      → (place_in (row_at rows pair) at ≡ place.None → Q place.None) → Q (place_in (row_at rows' pair) at)
+  new_place pair Q here none =
+      let p : Place P = last_place cells pair (gone_place (place_in (row_at rows pair) at)) in
+      elim (cases_lt at (length (row_at rows pair))) [
+        | inl less ↦ subst Q (sym (loaded (row_at rows pair) (row_at rows' pair) at p (changed pair) less)) here
+        | inr most ↦
+            let long : length (row_at rows' pair) ≡ length (row_at rows pair) = ap (λ l. length l) (changed pair) ∙ length-slice_set (row_at rows pair) at p in
+            subst Q (sym (beyond (row_at rows' pair) at (let e : length (row_at rows' pair) ≤ at = omega (arith, most, long) in e))) (none (beyond (row_at rows pair) at most))
+      ]
+
+  pub places_swapped : (s t : Stored) → table_of (needles_of t.cells) ≡ table_of (needles_of s.cells) → PlacesAre Tells rows at s → AreThePlaces Tells t.cells cells → PlacesAre Tells rows' at t
+  places_swapped s t table were are pair =
+      new_place pair (PhotoAt Tells (last_cell t.cells pair))
+      (last_gone (PhotoAt Tells (last_cell t.cells pair)) (gone_none P Tells (last_cell t.cells pair)) cells pair (place_in (row_at rows pair) at) (photo_at Tells (last_cell t.cells pair) (last_place cells pair place.Gone) (are pair)))
+      (λ e.
+      let nothing : outcome_at (table_of (needles_of s.cells)) pair ≡ outcome.Nothing =
+      no_photo P Tells pair _ (inr (place_means Tells s.cells pair place.None (subst (λ (p : Place P). PhotoAt Tells (last_cell s.cells pair) p) e (were pair)))) in
+      nothing_at P Tells (last_cell t.cells pair) (sym (at_cells t.cells pair) ∙ ap (λ (x : Table). outcome_at x pair) table ∙ nothing))
+
+  pub deletable_swapped : {D : Type 0} (files : D → Files) (r : Copy D) → ((pair : Pair) → physical.MayDeletePlace files r (last_place cells pair place.Gone))
+      → (pair : Pair) → physical.MayDeletePlace files r (place_in (row_at rows' pair) at)
+  deletable_swapped files r may pair =
+      new_place pair (physical.MayDeletePlace files r) (last_gone (physical.MayDeletePlace files r) (λ h. tt) cells pair (place_in (row_at rows pair) at) (may pair)) (λ e. tt)
+
+-- WHY NO SWAP WAS MADE
+
+module _ {D : Type 0} (files : D → Files) (faults : D → ℕ) where
+  -- the end was refused, and the replica takes changes
+  pub refused_left : (r x : Copy D) (f : ReplicaFault) → IsUp r → (goal_of r ≡ None → ⊥) → IsUp x → goal_of x ≡ None → (f ≡ fault.Frozen → IsFrozen r) → ((n : ℕ) → f ≡ fault.Ended n → goal_of r ≡ None)
+      → physical_faults.IsRunFault (faults r.disk) (faults x.disk) f → IsLeftBy faults Examined r x (Refused f)
+  refused_left r x (fault.Failed n) was standing up goal thawed none cause = (up, goal, tt, cause.0, cause.1)
+  refused_left r x fault.Frozen was standing up goal thawed none cause = absurd (not_both r was (thawed refl))
+  refused_left r x (fault.Full end need capacity) was standing up goal thawed none cause = absurd cause
+  refused_left r x (fault.Busy generation) was standing up goal thawed none cause = absurd cause
+  refused_left r x (fault.Ended n) was standing up goal thawed none cause = absurd (standing (none n refl))
+  refused_left r x fault.Worn was standing up goal thawed none cause = absurd cause
+  refused_left r x (fault.Damaged at) was standing up goal thawed none cause = absurd cause
+  refused_left r x fault.NoMemory was standing up goal thawed none cause = (up, goal, tt)
+
+  -- or the replica does not
+  pub unsure_left : {X : Type 0} (r x : Copy D) (result : Result X ReplicaFault) → IsFrozen x → goal_of x ≡ None → result ≡ Err (fault.Failed (faults x.disk))
+      → IfErr result (physical_faults.IsRunFault (faults r.disk) (faults x.disk)) → IsLeftBy faults Examined r x (Unsure (faults x.disk))
+  unsure_left r x result frozen goal failed cause =
+      let both = subst (λ z. IfErr z (physical_faults.IsRunFault (faults r.disk) (faults x.disk))) failed cause in
+      (frozen, goal, tt, both.0, refl)
+
+  pub refused_holds : (r x : Copy D) (s : Stored) (run : Run) (f : ReplicaFault) → physical_faults.IsRunFault (faults r.disk) (faults x.disk) f → physical.Stands files x s → is_stuck x ≡ is_stuck r
+      → HoldsUnswapped files r x s run (Refused f)
+  refused_holds r x s run (fault.Failed n) cause stands stuck = (stands, stuck)
+  refused_holds r x s run fault.Frozen cause stands stuck = (stands, stuck)
+  refused_holds r x s run (fault.Full end need capacity) cause stands stuck = (stands, stuck)
+  refused_holds r x s run (fault.Busy generation) cause stands stuck = (stands, stuck)
+  refused_holds r x s run (fault.Ended n) cause stands stuck = (stands, stuck)
+  refused_holds r x s run fault.Worn cause stands stuck = absurd cause
+  refused_holds r x s run (fault.Damaged at) cause stands stuck = absurd cause
+  refused_holds r x s run fault.NoMemory cause stands stuck = (stands, stuck)
+
+  -- cells could not be examined
+  pub step_left : (r x y : Copy D) (f : ReplicaFault) → IsUp y → goal_of y ≡ None → y.disk ≡ x.disk → IsStepFault faults r x f → IsLeftBy faults Going r y (Refused f)
+  step_left r x y (fault.Failed n) up goal disk cause = (up, goal, tt, subst (λ d. Rose (faults r.disk) (faults d)) (sym disk) cause.0, cause.1 ∙ ap faults (sym disk))
+  step_left r x y fault.Frozen up goal disk cause = absurd cause
+  step_left r x y (fault.Full end need capacity) up goal disk cause = absurd cause
+  step_left r x y (fault.Busy generation) up goal disk cause = absurd cause
+  step_left r x y (fault.Ended n) up goal disk cause = absurd cause
+  step_left r x y fault.Worn up goal disk cause = absurd cause
+  step_left r x y (fault.Damaged at) up goal disk cause = (up, goal, tt)
+  step_left r x y fault.NoMemory up goal disk cause = (up, goal, tt)
+
+  pub step_holds : (r x y : Copy D) (s : Stored) (run : Run) (cells : ℕ) (f : ReplicaFault) → IsStepFault faults r x f → StepLeaves files x s run cells f → physical.Stands files y s → is_stuck y ≡ is_stuck r
+      → HoldsUnswapped files r y s run (Refused f)
+  step_holds r x y s run cells (fault.Failed n) cause leaves stands stuck = (stands, stuck)
+  step_holds r x y s run cells fault.Frozen cause leaves stands stuck = (stands, stuck)
+  step_holds r x y s run cells (fault.Full end need capacity) cause leaves stands stuck = (stands, stuck)
+  step_holds r x y s run cells (fault.Busy generation) cause leaves stands stuck = (stands, stuck)
+  step_holds r x y s run cells (fault.Ended n) cause leaves stands stuck = (stands, stuck)
+  step_holds r x y s run cells fault.Worn cause leaves stands stuck = absurd cause
+  step_holds r x y s run cells (fault.Damaged at) cause leaves stands stuck = absurd leaves
+  step_holds r x y s run cells fault.NoMemory cause leaves stands stuck = (stands, stuck)
+
+  -- BEHIND WHAT WENT BEFORE
+
+  pub left_later : (r x y : Copy D) (u : Unswapped) (a b : Start) → (b ≡ Fresh → ⊥) → WasAtRest a r → faults r.disk ≤ faults x.disk → IsLeftBy faults b x y u → IsLeftBy faults a r y u
+  left_later r x y (Refused (fault.Failed n)) a b later rest low left = (left.0, left.1, rest, rose_later (faults r.disk) (faults x.disk) (faults y.disk) low left.3, left.4)
+  left_later r x y (Refused (fault.Damaged at)) a b later rest low left = (left.0, left.1, rest)
+  left_later r x y (Refused fault.NoMemory) a b later rest low left = (left.0, left.1, rest)
+  left_later r x y (Refused (fault.Busy goal)) a b later rest low left = absurd (later left.0)
+  left_later r x y (Refused fault.Worn) a b later rest low left = absurd (later left.0)
+  left_later r x y (Refused fault.Frozen) a b later rest low left = left
+  left_later r x y (Refused (fault.Full end need capacity)) a b later rest low left = left
+  left_later r x y (Refused (fault.Ended n)) a b later rest low left = left
+  left_later r x y (Unsure n) a b later rest low left = (left.0, left.1, rest, rose_later (faults r.disk) (faults x.disk) (faults y.disk) low left.3, left.4)
+  left_later r x y Unplaced a b later rest low left = (left.0, left.1, rest)
+
+  pub to_later : (s t : Stored) (run next : Run) → next.tight ≡ run.tight → SwapsTo s t next → SwapsTo s t run
+  to_later s t run next same to = record { swaps = to.swaps; tight = λ e. to.tight (same ∙ e); ends = to.ends }
+
+  pub holds_later : (r x y : Copy D) (s : Stored) (run next : Run) (u : Unswapped) → next.tight ≡ run.tight → is_stuck x ≡ is_stuck r → HoldsUnswapped files x y s next u → HoldsUnswapped files r y s run u
+  holds_later r x y s run next (Refused (fault.Failed n)) same stuck h = (h.0, h.1 ∙ stuck)
+  holds_later r x y s run next (Refused (fault.Damaged at)) same stuck h = h
+  holds_later r x y s run next (Refused fault.NoMemory) same stuck h = (h.0, h.1 ∙ stuck)
+  holds_later r x y s run next (Refused (fault.Busy goal)) same stuck h = (h.0, h.1 ∙ stuck)
+  holds_later r x y s run next (Refused fault.Worn) same stuck h = h
+  holds_later r x y s run next (Refused fault.Frozen) same stuck h = (h.0, h.1 ∙ stuck)
+  holds_later r x y s run next (Refused (fault.Full end need capacity)) same stuck h = (h.0, h.1 ∙ stuck)
+  holds_later r x y s run next (Refused (fault.Ended n)) same stuck h = (h.0, h.1 ∙ stuck)
+  holds_later r x y s run next (Unsure n) same stuck h = (h.0, h.1, subst (λ b. physical.Holds files y b s h.0) stuck h.2)
+  holds_later r x y s run next Unplaced same stuck h = record { stored = h.stored; to = to_later s h.stored run next same h.to; loose = h.loose; holds = h.holds }
+
+-- the rows stay
+pub keeps_rows : {P : Type 0} (rows rows' : MapRows P) (at : ℕ) (result : Result ℕ Unswapped) → rows'.replicas ≡ rows.replicas → ((pair : Pair) → row_at rows' pair ≡ row_at rows pair) → KeepsPlaces rows rows' at result
+keeps_rows rows rows' at (Ok n) width same = record { width = width; others = λ pair i apart. ap (λ l. place_in l i) (same pair); same = tt }
+keeps_rows rows rows' at (Err u) width same = record { width = width; others = λ pair i apart. ap (λ l. place_in l i) (same pair); same = same }
+
+-- A swap behind what went before. `meets` says what it finds then.
+module _ {D P : Type 0} (DiskTells : Type 0) (files : D → Files) (faults : D → ℕ) (Tells : Type 0) (rows rows' : MapRows P) (at : ℕ) (r x y : Copy D) where
+  pub swaps_later : (result : Result ℕ Unswapped) (a b : Start) → (b ≡ Fresh → ⊥) → GoesOn DiskTells files r x → WasAtRest a r → faults r.disk ≤ faults x.disk
+      → (DiskTells → (s : Stored) (run : Run) → physical.Stands files r s → StartsRun files a r s run → PlacesAre Tells rows at s → (next : Run) × (next.tight ≡ run.tight) × StartsRun files b x s next)
+      → SwapsAt DiskTells files faults Tells b rows rows' at x y result → SwapsAt DiskTells files faults Tells a rows rows' at r y result
+  swaps_later (Ok generation) a b later on rest low meets swaps = record {
+    «open» = swaps.«open»;
+    sup = swaps.sup ∙ on.sup;
+    up = ((swaps.up).0, (swaps.up).1, (swaps.up).2, rest);
+    left = tt;
+    swapped = λ tells s run stands start places.
+        let next = meets tells s run stands start places in
+        let made = swaps.swapped tells s next.0 (on.stands tells s stands) next.2 places in
+        record { stored = made.stored; to = to_later files faults s made.stored run next.0 next.1 made.to; stands = made.stands; places = made.places; generation_is = made.generation_is };
+    refused = λ tells s run stands start places. tt;
+    deletable = λ tells may up. swaps.deletable tells (λ pair. place_kept DiskTells files r x on.deletable tells (place_in (row_at rows pair) at) (may pair)) up;
+  }
+  swaps_later (Err u) a b later on rest low meets swaps = record {
+    «open» = swaps.«open»;
+    sup = swaps.sup ∙ on.sup;
+    up = tt;
+    left = left_later files faults r x y u a b later rest low swaps.left;
+    swapped = λ tells s run stands start places. tt;
+    refused = λ tells s run stands start places.
+        let next = meets tells s run stands start places in
+        holds_later files faults r x y s run next.0 u next.1 on.stuck (swaps.refused tells s next.0 (on.stands tells s stands) next.2 places);
+    deletable = λ tells may up. swaps.deletable tells (λ pair. place_kept DiskTells files r x on.deletable tells (place_in (row_at rows pair) at) (may pair)) up;
+  }

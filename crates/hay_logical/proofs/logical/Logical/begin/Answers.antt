@@ -1,0 +1,174 @@
+use Rattle.std.proofs.Common.{◌≡◌, ◌<◌, ℕ, length, Ok, Err, refl, sym, ap, subst, ◌∙◌, arith}
+use Rattle.std.specs.Prelude.{IfErr, IfOk}
+use Rattle.std.specs.Vec.{with_items}
+use Rattle.std.proofs.lemmas.List.{with_items_is}
+use Rattle.hay_physical.specs.Copies.{Copy, IsUp}
+use Rattle.hay_logical.specs.Answers.{BeginRefused, IsBegun}
+use Rattle.hay_logical.specs.Answers as answers
+use Rattle.hay_logical.specs.Fits.{At}
+use Rattle.hay_logical.specs.Refusals.{run_answer}
+use Rattle.hay_logical.specs.Stands.{Stands, StandsFor}
+use Rattle.hay_logical.specs.Steps.{CallsOne, KeepsDeletable, BeginsAt}
+use Rattle.hay_logical.specs.Volumes.{CanDelete, IsShaped, KeepsCounts}
+use Rattle.hay_logical.proofs.Calls.{open_up, up_open, up_thawed}
+use Rattle.hay_logical.proofs.Lists.{at_below, at_there}
+use Rattle.hay_logical.proofs.Methods.{one_after, one_count, one_each, same_by, same_still, shaped_on}
+use Rattle.hay_logical.proofs.Standing.{volume_with}
+use Rattle.hay_logical.proofs.Changing.{not_some}
+use Rattle.hay_logical.proofs.Stepping.{begin_fault, begin_refused, begun}
+use Rattle.hay_logical.proofs.Deletable.{same_rows}
+use Rattle.hay_logical.proofs.logical.Logical.begin.Goals as goal
+use Rattle.hay_logical.proofs.logical.Logical.begin.Goals.{in-Ok, in-Err}
+
+pub returns-in-Some-clause-refused : goal.returns-in-Some-clause-refused
+unfolding Stands
+returns-in-Some-clause-refused g c = λ tells k stands. (stands.frozen ∙ ap (λ v. v.frozen) (sym c.self.view_is) ∙ c.in-Some.is, refl)
+
+pub machine_of-machine-requires-clause-within : goal.machine_of-machine-requires-clause-within
+machine_of-machine-requires-clause-within g c =
+    let most = (c.self.invariant.0).settings.most in
+    let within : c.args.replica < c.self.inside.settings.replicas = subst (λ v. c.args.replica < v.settings.replicas) (sym c.self.view_is) c.requires.within in
+    omega (arith, most, within)
+
+pub begin_at-requires-clause-within : goal.begin_at-requires-clause-within
+begin_at-requires-clause-within g c = λ κs lives.
+    let within : c.args.replica < c.self.inside.settings.replicas = subst (λ v. c.args.replica < v.settings.replicas) (sym c.self.view_is) c.requires.within in
+    let all : length c.self.inside.replicas.items ≡ c.self.inside.settings.replicas = ap (λ v. length v.replicas) c.self.view_is ∙ c.requires.«open».all ∙ ap (λ v. v.settings.replicas) (sym c.self.view_is) in
+    let long = ap length c.as_mut_slice.ensures.value in
+    omega (arith, within, all, long)
+
+pub begin_at-requires-clause-up : goal.begin_at-requires-clause-up
+begin_at-requires-clause-up g c = λ κs lives.
+    let thawed = not_some c.self.inside.frozen c.in_default.not-Some in
+    let up : (j : ℕ) (r : Copy g.row.D.Denot) → At c.self.inside.replicas.items j r → IsUp r =
+    λ j r e. open_up r (c.requires.«open».each j r (subst (λ v. At v.replicas j r) c.self.view_is e)) ((c.self.invariant.0).thawed thawed j r e) in
+    λ j r e. up j r (subst (λ xs. At xs j r) c.as_mut_slice.ensures.value e)
+
+pub invariant_of-self : goal.invariant_of-self
+invariant_of-self g c =
+    let now = c.as_mut_slice.ensures.value in
+    let kept = with_items_is c.self.inside.replicas c.begin_at.new.replicas (c.begin_at.auto.replicas ∙ c.as_mut_slice.ensures.len) in
+    let one : CallsOne c.args.replica c.self.inside.replicas.items c.begin_at.new.replicas = subst (λ xs. CallsOne c.args.replica xs c.begin_at.new.replicas) now c.begin_at.ensures.one in
+    let count = one_count c.args.replica c.self.inside.replicas.items c.begin_at.new.replicas one in
+    let thawed = not_some c.self.inside.frozen c.in_default.not-Some in
+    let up : (j : ℕ) (r : Copy g.row.D.Denot) → At c.self.inside.replicas.items j r → IsUp r =
+    λ j r e. open_up r (c.requires.«open».each j r (subst (λ v. At v.replicas j r) c.self.view_is e)) ((c.self.invariant.0).thawed thawed j r e) in
+    let step : BeginsAt g.D.Disk.Tells g.D.Disk.files g.D.Disk.fault_count one.before one.after c.begin_at.result =
+    c.begin_at.ensures.begins one.before one.after (subst (λ xs. At xs c.args.replica one.before) (sym now) one.was) (one_after c.args.replica c.self.inside.replicas.items c.begin_at.new.replicas one) in
+    let each : (j : ℕ) (r r' : Copy g.row.D.Denot) → At c.self.inside.replicas.items j r → At c.begin_at.new.replicas j r' → (IsUp r → IsUp r') × (r'.sup ≡ r.sup) × KeepsDeletable g.D.Disk.Tells g.D.Disk.files r r' =
+    one_each (λ (x y : Copy g.row.D.Denot). (IsUp x → IsUp y) × (y.sup ≡ x.sup) × KeepsDeletable g.D.Disk.Tells g.D.Disk.files x y) c.args.replica c.self.inside.replicas.items c.begin_at.new.replicas one
+    (λ u. step.on.up, step.on.sup, step.on.deletable) (λ x. (λ u. u, refl, λ tells place may. may)) in (
+      subst (λ rs. IsShaped (volume_with c.self.inside.settings c.self.inside.number rs c.self.inside.rows c.self.inside.front c.self.inside.frozen c.self.inside.unsure)) (sym kept)
+          (shaped_on c.self.inside.settings c.self.inside.number c.self.inside.replicas.items c.begin_at.new.replicas c.self.inside.rows c.self.inside.rows c.self.inside.front c.self.inside.front c.self.inside.frozen c.self.inside.frozen c.self.inside.unsure c.self.inside.unsure
+          c.self.invariant.0 count (λ j r r' e f. (each j r r' e f).1) refl (λ none j r r' e f. up_thawed r' ((each j r r' e f).0 (up j r e)))),
+      c.self.invariant.1,
+      subst (λ rs. CanDelete g.D.Disk.Tells g.D.Disk.files rs c.self.inside.rows) (sym kept)
+          (same_rows g.D.Disk.Tells g.D.Disk.files c.self.inside.replicas.items c.begin_at.new.replicas c.self.inside.rows c.self.inside.rows c.self.invariant.2 count
+          (λ j r r' e f u. up j r e) (λ j r r' e f. (each j r r' e f).2) (λ pair. refl)),
+    )
+
+pub returns-clause-begun : goal.returns-clause-begun
+unfolding Stands
+returns-clause-begun g c = λ tells k stands.
+    let now = c.as_mut_slice.ensures.value in
+    let kept = with_items_is c.self.inside.replicas c.begin_at.new.replicas (c.begin_at.auto.replicas ∙ c.as_mut_slice.ensures.len) in
+    let one : CallsOne c.args.replica c.self.inside.replicas.items c.begin_at.new.replicas = subst (λ xs. CallsOne c.args.replica xs c.begin_at.new.replicas) now c.begin_at.ensures.one in
+    let thawed = not_some c.self.inside.frozen c.in_default.not-Some in
+    elim c.match-begin_at.branch [
+      | in-Ok w ↦
+          let step : BeginsAt g.D.Disk.Tells g.D.Disk.files g.D.Disk.fault_count one.before one.after (Ok w.in-Ok.generation) =
+          subst (λ x. BeginsAt g.D.Disk.Tells g.D.Disk.files g.D.Disk.fault_count one.before one.after x) w.in-Ok.is
+          (c.begin_at.ensures.begins one.before one.after (subst (λ xs. At xs c.args.replica one.before) (sym now) one.was) (one_after c.args.replica c.self.inside.replicas.items c.begin_at.new.replicas one)) in
+          subst (λ r. IfOk r (λ n. IsBegun g.D.Disk.files g.D.Piece.Piece.Tells k c.args.replica n (volume_with c.self.inside.settings c.self.inside.number (with_items c.self.inside.replicas c.begin_at.new.replicas).items c.self.inside.rows c.self.inside.front c.self.inside.frozen c.self.inside.unsure))) (sym w.result-is)
+          (subst (λ rs. IsBegun g.D.Disk.files g.D.Piece.Piece.Tells k c.args.replica w.in-Ok.generation (volume_with c.self.inside.settings c.self.inside.number rs c.self.inside.rows c.self.inside.front c.self.inside.frozen c.self.inside.unsure)) (sym kept)
+          (subst (λ o. IsBegun g.D.Disk.files g.D.Piece.Piece.Tells k c.args.replica w.in-Ok.generation (volume_with c.self.inside.settings c.self.inside.number c.begin_at.new.replicas c.self.inside.rows c.self.inside.front o c.self.inside.unsure)) (sym thawed)
+          (begun c.self.inside.settings c.self.inside.number g.D.Disk.Tells g.D.Disk.files g.D.Piece.Piece.Tells g.D.Disk.fault_count c.self.inside.replicas.items c.begin_at.new.replicas c.self.inside.rows c.self.inside.front c.self.inside.unsure k c.args.replica one
+          (subst (λ o. StandsFor g.D.Disk.files g.D.Piece.Piece.Tells (volume_with c.self.inside.settings c.self.inside.number c.self.inside.replicas.items c.self.inside.rows c.self.inside.front o c.self.inside.unsure) k) thawed (subst (λ v. StandsFor g.D.Disk.files g.D.Piece.Piece.Tells v k) (sym c.self.view_is) stands)) tells w.in-Ok.generation step)))
+      | in-Err w ↦ rw w.result-is tt
+    ]
+
+pub returns-clause-refused : goal.returns-clause-refused
+unfolding Stands
+returns-clause-refused g c = λ tells k stands.
+    let now = c.as_mut_slice.ensures.value in
+    let kept = with_items_is c.self.inside.replicas c.begin_at.new.replicas (c.begin_at.auto.replicas ∙ c.as_mut_slice.ensures.len) in
+    let one : CallsOne c.args.replica c.self.inside.replicas.items c.begin_at.new.replicas = subst (λ xs. CallsOne c.args.replica xs c.begin_at.new.replicas) now c.begin_at.ensures.one in
+    let thawed = not_some c.self.inside.frozen c.in_default.not-Some in
+    elim c.match-begin_at.branch [
+      | in-Ok w ↦ rw w.result-is tt
+      | in-Err w ↦
+          let step : BeginsAt g.D.Disk.Tells g.D.Disk.files g.D.Disk.fault_count one.before one.after (Err w.in-Err.fault) =
+          subst (λ x. BeginsAt g.D.Disk.Tells g.D.Disk.files g.D.Disk.fault_count one.before one.after x) w.in-Err.is
+          (c.begin_at.ensures.begins one.before one.after (subst (λ xs. At xs c.args.replica one.before) (sym now) one.was) (one_after c.args.replica c.self.inside.replicas.items c.begin_at.new.replicas one)) in
+          subst (λ r. IfErr r (BeginRefused g.D.Disk.files g.D.Piece.Piece.Tells k c.args.replica c.args.self.now (volume_with c.self.inside.settings c.self.inside.number (with_items c.self.inside.replicas c.begin_at.new.replicas).items c.self.inside.rows c.self.inside.front c.self.inside.frozen c.self.inside.unsure))) (sym w.result-is)
+          (subst (λ v. BeginRefused g.D.Disk.files g.D.Piece.Piece.Tells k c.args.replica v (volume_with c.self.inside.settings c.self.inside.number (with_items c.self.inside.replicas c.begin_at.new.replicas).items c.self.inside.rows c.self.inside.front c.self.inside.frozen c.self.inside.unsure) w.run_refusal.result) c.self.view_is
+          (subst (λ rs. BeginRefused g.D.Disk.files g.D.Piece.Piece.Tells k c.args.replica (volume_with c.self.inside.settings c.self.inside.number c.self.inside.replicas.items c.self.inside.rows c.self.inside.front c.self.inside.frozen c.self.inside.unsure) (volume_with c.self.inside.settings c.self.inside.number rs c.self.inside.rows c.self.inside.front c.self.inside.frozen c.self.inside.unsure) w.run_refusal.result) (sym kept)
+          (subst (λ f. BeginRefused g.D.Disk.files g.D.Piece.Piece.Tells k c.args.replica (volume_with c.self.inside.settings c.self.inside.number c.self.inside.replicas.items c.self.inside.rows c.self.inside.front c.self.inside.frozen c.self.inside.unsure) (volume_with c.self.inside.settings c.self.inside.number c.begin_at.new.replicas c.self.inside.rows c.self.inside.front c.self.inside.frozen c.self.inside.unsure) f) (sym w.run_refusal.ensures)
+          (subst (λ o. BeginRefused g.D.Disk.files g.D.Piece.Piece.Tells k c.args.replica (volume_with c.self.inside.settings c.self.inside.number c.self.inside.replicas.items c.self.inside.rows c.self.inside.front o c.self.inside.unsure) (volume_with c.self.inside.settings c.self.inside.number c.begin_at.new.replicas c.self.inside.rows c.self.inside.front o c.self.inside.unsure) (run_answer c.machine_of-machine.result w.in-Err.fault)) (sym thawed)
+          (begin_refused c.self.inside.settings c.self.inside.number g.D.Disk.Tells g.D.Disk.files g.D.Piece.Piece.Tells g.D.Disk.fault_count c.self.inside.replicas.items c.begin_at.new.replicas c.self.inside.rows c.self.inside.front c.self.inside.unsure k c.args.replica one
+          (subst (λ o. StandsFor g.D.Disk.files g.D.Piece.Piece.Tells (volume_with c.self.inside.settings c.self.inside.number c.self.inside.replicas.items c.self.inside.rows c.self.inside.front o c.self.inside.unsure) k) thawed (subst (λ v. StandsFor g.D.Disk.files g.D.Piece.Piece.Tells v k) (sym c.self.view_is) stands)) tells c.machine_of-machine.result w.in-Err.fault c.machine_of-machine.ensures step)))))
+    ]
+
+pub returns-clause-causes : goal.returns-clause-causes
+returns-clause-causes g c =
+    let now = c.as_mut_slice.ensures.value in
+    let kept = with_items_is c.self.inside.replicas c.begin_at.new.replicas (c.begin_at.auto.replicas ∙ c.as_mut_slice.ensures.len) in
+    let one : CallsOne c.args.replica c.self.inside.replicas.items c.begin_at.new.replicas = subst (λ xs. CallsOne c.args.replica xs c.begin_at.new.replicas) now c.begin_at.ensures.one in
+    let count = one_count c.args.replica c.self.inside.replicas.items c.begin_at.new.replicas one in
+    let all : length c.self.inside.replicas.items ≡ c.self.inside.settings.replicas = ap (λ v. length v.replicas) c.self.view_is ∙ c.requires.«open».all ∙ ap (λ v. v.settings.replicas) (sym c.self.view_is) in
+    elim c.match-begin_at.branch [
+      | in-Ok w ↦ rw w.result-is tt
+      | in-Err w ↦
+          let step : BeginsAt g.D.Disk.Tells g.D.Disk.files g.D.Disk.fault_count one.before one.after (Err w.in-Err.fault) =
+          subst (λ x. BeginsAt g.D.Disk.Tells g.D.Disk.files g.D.Disk.fault_count one.before one.after x) w.in-Err.is
+          (c.begin_at.ensures.begins one.before one.after (subst (λ xs. At xs c.args.replica one.before) (sym now) one.was) (one_after c.args.replica c.self.inside.replicas.items c.begin_at.new.replicas one)) in
+          subst (λ r. IfErr r (answers.IsBeginFault g.D.Disk.fault_count c.args.self.now.settings c.args.self.now.number c.args.self.now.replicas (with_items c.self.inside.replicas c.begin_at.new.replicas).items)) (sym w.result-is)
+          (subst (λ v. answers.IsBeginFault g.D.Disk.fault_count v.settings v.number v.replicas (with_items c.self.inside.replicas c.begin_at.new.replicas).items w.run_refusal.result) c.self.view_is
+          (subst (λ rs. answers.IsBeginFault g.D.Disk.fault_count c.self.inside.settings c.self.inside.number c.self.inside.replicas.items rs w.run_refusal.result) (sym kept)
+          (subst (λ f. answers.IsBeginFault g.D.Disk.fault_count c.self.inside.settings c.self.inside.number c.self.inside.replicas.items c.begin_at.new.replicas f) (sym w.run_refusal.ensures)
+          (begin_fault c.self.inside.settings c.self.inside.number g.D.Disk.Tells g.D.Disk.files g.D.Disk.fault_count c.self.inside.replicas.items c.begin_at.new.replicas c.args.replica c.machine_of-machine.result w.in-Err.fault one all c.machine_of-machine.ensures step))))
+    ]
+
+pub returns-clause-open : goal.returns-clause-open
+returns-clause-open g c =
+    let now = c.as_mut_slice.ensures.value in
+    let kept = with_items_is c.self.inside.replicas c.begin_at.new.replicas (c.begin_at.auto.replicas ∙ c.as_mut_slice.ensures.len) in
+    let one : CallsOne c.args.replica c.self.inside.replicas.items c.begin_at.new.replicas = subst (λ xs. CallsOne c.args.replica xs c.begin_at.new.replicas) now c.begin_at.ensures.one in
+    let count = one_count c.args.replica c.self.inside.replicas.items c.begin_at.new.replicas one in
+    let thawed = not_some c.self.inside.frozen c.in_default.not-Some in
+    let up : (j : ℕ) (r : Copy g.row.D.Denot) → At c.self.inside.replicas.items j r → IsUp r =
+    λ j r e. open_up r (c.requires.«open».each j r (subst (λ v. At v.replicas j r) c.self.view_is e)) ((c.self.invariant.0).thawed thawed j r e) in
+    let step : BeginsAt g.D.Disk.Tells g.D.Disk.files g.D.Disk.fault_count one.before one.after c.begin_at.result =
+    c.begin_at.ensures.begins one.before one.after (subst (λ xs. At xs c.args.replica one.before) (sym now) one.was) (one_after c.args.replica c.self.inside.replicas.items c.begin_at.new.replicas one) in
+    let each : (j : ℕ) (r r' : Copy g.row.D.Denot) → At c.self.inside.replicas.items j r → At c.begin_at.new.replicas j r' → (IsUp r → IsUp r') × (r'.sup ≡ r.sup) × KeepsDeletable g.D.Disk.Tells g.D.Disk.files r r' =
+    one_each (λ (x y : Copy g.row.D.Denot). (IsUp x → IsUp y) × (y.sup ≡ x.sup) × KeepsDeletable g.D.Disk.Tells g.D.Disk.files x y) c.args.replica c.self.inside.replicas.items c.begin_at.new.replicas one
+    (λ u. step.on.up, step.on.sup, step.on.deletable) (λ x. (λ u. u, refl, λ tells place may. may)) in
+    record {
+      all = ap length kept ∙ count ∙ ap (λ v. length v.replicas) c.self.view_is ∙ c.requires.«open».all ∙ ap (λ v. v.settings.replicas) (sym c.self.view_is);
+      each = λ j r' f.
+          let there = subst (λ xs. At xs j r') kept f in
+          let old = at_there c.self.inside.replicas.items j (subst (λ n. j < n) count (at_below c.begin_at.new.replicas j r' there)) in
+          up_open r' ((each j old.0 r' old.1 there).0 (up j old.0 old.1));
+    }
+
+pub returns-clause-counts : goal.returns-clause-counts
+returns-clause-counts g c =
+    let now = c.as_mut_slice.ensures.value in
+    let kept = with_items_is c.self.inside.replicas c.begin_at.new.replicas (c.begin_at.auto.replicas ∙ c.as_mut_slice.ensures.len) in
+    let one : CallsOne c.args.replica c.self.inside.replicas.items c.begin_at.new.replicas = subst (λ xs. CallsOne c.args.replica xs c.begin_at.new.replicas) now c.begin_at.ensures.one in
+    let count = one_count c.args.replica c.self.inside.replicas.items c.begin_at.new.replicas one in
+    subst (λ rs. KeepsCounts g.D.Disk.fault_count g.D.Disk.fuse_count c.args.self.now.replicas rs) (sym kept)
+    (subst (λ xs. KeepsCounts g.D.Disk.fault_count g.D.Disk.fuse_count xs c.begin_at.new.replicas) (now ∙ ap (λ v. v.replicas) c.self.view_is) c.begin_at.ensures.counts)
+
+pub returns-in-Some-clause-same : goal.returns-in-Some-clause-same
+returns-in-Some-clause-same g c = same_still _
+
+pub returns-clause-same : goal.returns-clause-same
+returns-clause-same g c =
+    let now = c.as_mut_slice.ensures.value in
+    let kept = with_items_is c.self.inside.replicas c.begin_at.new.replicas (c.begin_at.auto.replicas ∙ c.as_mut_slice.ensures.len) in
+    let one : CallsOne c.args.replica c.self.inside.replicas.items c.begin_at.new.replicas = subst (λ xs. CallsOne c.args.replica xs c.begin_at.new.replicas) now c.begin_at.ensures.one in
+    let step : BeginsAt g.D.Disk.Tells g.D.Disk.files g.D.Disk.fault_count one.before one.after c.begin_at.result =
+    c.begin_at.ensures.begins one.before one.after (subst (λ xs. At xs c.args.replica one.before) (sym now) one.was) (one_after c.args.replica c.self.inside.replicas.items c.begin_at.new.replicas one) in
+    same_by _ _ _ _ c.self.view_is refl refl kept
+    (one_each (λ (x y : Copy g.row.D.Denot). y.sup ≡ x.sup) c.args.replica c.self.inside.replicas.items c.begin_at.new.replicas one step.on.sup (λ x. refl))

@@ -1,0 +1,150 @@
+use Rattle.std.proofs.Common.{◌≡◌, ◌<◌, ◌≤◌, ℕ, length, None, refl, sym, ap, subst, ◌∙◌, arith, rules}
+use Rattle.std.specs.Vec.{with_items}
+use Rattle.std.proofs.lemmas.List.{with_items_is}
+use Rattle.hay_physical.specs.Copies.{Copy, IsUp, goal_of}
+use Rattle.hay_logical.specs.Answers.{FinishRefused, IsFinished}
+use Rattle.hay_logical.specs.Answers as answers
+use Rattle.hay_logical.specs.Fits.{At}
+use Rattle.hay_logical.specs.Refusals.{unfinished_by}
+use Rattle.hay_logical.specs.Stands.{Stands, StandsFor}
+use Rattle.hay_logical.specs.Steps.{SwapsOne}
+use Rattle.hay_logical.specs.Steps.Start.{Going}
+use Rattle.hay_logical.proofs.Calls.{open_up}
+use Rattle.hay_logical.proofs.Changing.{not_some}
+use Rattle.hay_logical.proofs.Compacted.{finish_fault, finish_refused, finished}
+use Rattle.hay_logical.proofs.Methods.{same_by}
+use Rattle.hay_logical.proofs.Standing.{volume_with}
+use Rattle.hay_logical.proofs.Stepping.{none_there, stands_there}
+use Rattle.hay_logical.proofs.SwapShapes.{SwapCall, called_deletable, called_each, called_open, called_shaped, called_up, called_with}
+use Rattle.hay_logical.proofs.logical.Logical.finish.Given as given
+use Rattle.hay_logical.proofs.logical.Logical.finish.Goals as goal
+use Rattle.hay_logical.proofs.logical.Logical.finish.Goals.{After-finish_at}
+
+pub returns-in-Some-clause-refused : goal.returns-in-Some-clause-refused
+unfolding Stands
+returns-in-Some-clause-refused g c = λ tells k stands. (stands.frozen ∙ ap (λ v. v.frozen) (sym c.self.view_is) ∙ c.in-Some.is, refl)
+
+pub returns-then-is_none-clause-refused : goal.returns-then-is_none-clause-refused
+unfolding Stands
+returns-then-is_none-clause-refused g c = λ tells k stands. (
+  stands.frozen ∙ ap (λ v. v.frozen) (sym c.self.view_is) ∙ not_some c.self.inside.frozen c.in_default.not-Some,
+  none_there _ c.standing.result c.is_none.result (c.standing.ensures.known tells k stands) c.is_none.ensures c.if-is_none.true,
+  refl,
+)
+
+pub finish_at-requires-after_bounds : goal.finish_at-requires-after_bounds
+finish_at-requires-after_bounds g c = λ κs lives.
+    let now = c.as_mut_slice.ensures.value in
+    let thawed = not_some c.self.inside.frozen c.in_default.not-Some in
+    let up : (j : ℕ) (r : Copy g.row.D.Denot) → At c.self.inside.replicas.items j r → IsUp r =
+    λ j r e. open_up r (c.requires.«open».each j r (subst (λ v. At v.replicas j r) c.self.view_is e)) ((c.self.invariant.0).thawed thawed j r e) in
+    let all : length c.self.inside.replicas.items ≡ c.self.inside.settings.replicas = ap (λ v. length v.replicas) c.self.view_is ∙ c.requires.«open».all ∙ ap (λ v. v.settings.replicas) (sym c.self.view_is) in
+    let within : c.args.replica < c.self.inside.settings.replicas = subst (λ v. c.args.replica < v.settings.replicas) (sym c.self.view_is) c.requires.within in
+    let most = (c.self.invariant.0).settings.most in
+    let few = (c.self.invariant.0).count in
+    let long = ap length now in (
+      search rules,
+      (
+        (let less : c.args.replica < length c.as_mut_slice.result.now = omega (arith, within, all, long) in less),
+        (
+          (let n : length c.as_mut_slice.result.now ≤ 4 = omega (arith, most, few, long) in n),
+          (
+            (c.self.invariant.0).width ∙ sym all ∙ sym long,
+            (
+              (λ j r e. up j r (subst (λ xs. At xs j r) now e)),
+              (λ r e none. stands_there c.standing.result c.is_none.result c.is_none.ensures c.if-is_none.false (c.standing.ensures.is r (subst (λ v. At v.replicas c.args.replica r) c.self.view_is (subst (λ xs. At xs c.args.replica r) now e)) ∙ none)),
+            ),
+          ),
+        ),
+      ),
+    )
+
+-- what the call found and left
+called : (g : given.Over) (c : goal.After-finish_at g) → SwapCall g.D.Disk.Tells g.D.Disk.files g.D.Piece.Piece.Tells g.D.Disk.fault_count Going c.self.inside.replicas.items c.finish_at.new.replicas c.self.inside.rows c.finish_at.new.rows c.args.replica c.finish_at.result
+called g c =
+    let now = c.as_mut_slice.ensures.value in
+    let thawed = not_some c.self.inside.frozen c.in_default.not-Some in
+    let one : SwapsOne g.D.Disk.Tells g.D.Disk.files c.args.replica c.self.inside.replicas.items c.finish_at.new.replicas = subst (λ xs. SwapsOne g.D.Disk.Tells g.D.Disk.files c.args.replica xs c.finish_at.new.replicas) now c.finish_at.ensures.one in
+    record {
+      one = one;
+      ups = λ j r e. open_up r (c.requires.«open».each j r (subst (λ v. At v.replicas j r) c.self.view_is e)) ((c.self.invariant.0).thawed thawed j r e);
+      swaps = c.finish_at.ensures.swaps one.before one.after (subst (λ xs. At xs c.args.replica one.before) (sym now) one.was) one.is;
+      places = c.finish_at.ensures.places;
+    }
+
+kept : (g : given.Over) (c : goal.After-finish_at g) → (with_items c.self.inside.replicas c.finish_at.new.replicas).items ≡ c.finish_at.new.replicas
+kept g c = with_items_is c.self.inside.replicas c.finish_at.new.replicas (c.finish_at.auto.replicas ∙ c.as_mut_slice.ensures.len)
+
+all : (g : given.Over) (c : goal.After-finish_at g) → length c.self.inside.replicas.items ≡ c.self.inside.settings.replicas
+all g c = ap (λ v. length v.replicas) c.self.view_is ∙ c.requires.«open».all ∙ ap (λ v. v.settings.replicas) (sym c.self.view_is)
+
+pub invariant_of-self : goal.invariant_of-self
+invariant_of-self g c =
+    let after = (goal.at.invariant_of-self g c).After-finish_at in
+    let call = called_with c.in-Ok.is (called g after) in (
+      called_shaped call c.self.inside.settings c.self.inside.number _ c.self.inside.front c.self.inside.frozen c.self.inside.frozen c.self.inside.unsure (kept g after) (λ none. call.swaps.up.0) c.self.invariant.0,
+      c.self.invariant.1,
+      called_deletable call _ (kept g after) c.self.invariant.2,
+    )
+
+pub invariant_of-self-in-Err : goal.invariant_of-self-in-Err
+invariant_of-self-in-Err g c =
+    let after = (goal.at.invariant_of-self-in-Err g c).After-finish_at in
+    let call = called_with c.in-Err.is (called g after) in (
+      called_shaped call c.self.inside.settings c.self.inside.number _ c.self.inside.front c.self.inside.frozen c.unfinished_by-unfinished.result.frozen c.self.inside.unsure (kept g after) (λ none. called_up c.self.inside.settings c.self.inside.number c.in-Err.unswapped call (ap (λ x. x.frozen) (sym c.unfinished_by-unfinished.ensures) ∙ none)) c.self.invariant.0,
+      c.self.invariant.1,
+      called_deletable call _ (kept g after) c.self.invariant.2,
+    )
+
+pub returns-in-Ok-clause-finished : goal.returns-in-Ok-clause-finished
+unfolding Stands
+returns-in-Ok-clause-finished g c = λ tells k stands.
+    let after = (goal.at.returns-in-Ok-clause-finished g c).After-finish_at in
+    let call = called_with c.in-Ok.is (called g after) in
+    let thawed = not_some c.self.inside.frozen c.in_default.not-Some in
+    let standing : goal_of call.one.before ≡ None → ⊥ =
+    λ e. stands_there c.standing.result c.is_none.result c.is_none.ensures c.if-is_none.false (c.standing.ensures.is call.one.before (subst (λ v. At v.replicas c.args.replica call.one.before) c.self.view_is call.one.was) ∙ e) in
+    subst (λ rs. IsFinished g.D.Disk.files g.D.Piece.Piece.Tells k c.args.replica c.in-Ok.generation (volume_with c.self.inside.settings c.self.inside.number rs c.finish_at.new.rows c.self.inside.front c.self.inside.frozen c.self.inside.unsure)) (sym (kept g after))
+    (subst (λ o. IsFinished g.D.Disk.files g.D.Piece.Piece.Tells k c.args.replica c.in-Ok.generation (volume_with c.self.inside.settings c.self.inside.number c.finish_at.new.replicas c.finish_at.new.rows c.self.inside.front o c.self.inside.unsure)) (sym thawed)
+    (finished c.self.inside.settings c.self.inside.number g.D.Disk.Tells g.D.Disk.files g.D.Piece.Piece.Tells g.D.Disk.fault_count c.self.inside.replicas.items c.finish_at.new.replicas c.self.inside.rows c.finish_at.new.rows c.self.inside.front c.self.inside.unsure k
+    (subst (λ o. StandsFor g.D.Disk.files g.D.Piece.Piece.Tells (volume_with c.self.inside.settings c.self.inside.number c.self.inside.replicas.items c.self.inside.rows c.self.inside.front o c.self.inside.unsure) k) thawed (subst (λ v. StandsFor g.D.Disk.files g.D.Piece.Piece.Tells v k) (sym c.self.view_is) stands)) tells c.args.replica call.one c.in-Ok.generation standing call.swaps call.places))
+
+pub returns-in-Ok-clause-open : goal.returns-in-Ok-clause-open
+returns-in-Ok-clause-open g c = let after = (goal.at.returns-in-Ok-clause-open g c).After-finish_at in called_open (called g after) _ (kept g after) (all g after)
+
+pub returns-in-Ok-clause-same : goal.returns-in-Ok-clause-same
+returns-in-Ok-clause-same g c =
+    let after = (goal.at.returns-in-Ok-clause-same g c).After-finish_at in
+    same_by _ _ _ _ c.self.view_is refl refl (kept g after) (λ j r r' e f. (called_each (called g after) j r r' e f).1)
+
+pub returns-in-Err-clause-refused : goal.returns-in-Err-clause-refused
+unfolding Stands
+returns-in-Err-clause-refused g c = λ tells k stands.
+    let after = (goal.at.returns-in-Err-clause-refused g c).After-finish_at in
+    let call = called_with c.in-Err.is (called g after) in
+    let thawed = not_some c.self.inside.frozen c.in_default.not-Some in
+    let standing : goal_of call.one.before ≡ None → ⊥ =
+    λ e. stands_there c.standing.result c.is_none.result c.is_none.ensures c.if-is_none.false (c.standing.ensures.is call.one.before (subst (λ v. At v.replicas c.args.replica call.one.before) c.self.view_is call.one.was) ∙ e) in
+    subst (λ v. FinishRefused g.D.Disk.files g.D.Piece.Piece.Tells k c.args.replica v (volume_with c.self.inside.settings c.self.inside.number ((with_items c.self.inside.replicas c.finish_at.new.replicas).items) c.finish_at.new.rows c.self.inside.front c.unfinished_by-unfinished.result.frozen c.self.inside.unsure) c.unfinished_by-unfinished.result.fault) c.self.view_is
+    (subst (λ rs. FinishRefused g.D.Disk.files g.D.Piece.Piece.Tells k c.args.replica (volume_with c.self.inside.settings c.self.inside.number c.self.inside.replicas.items c.self.inside.rows c.self.inside.front c.self.inside.frozen c.self.inside.unsure) (volume_with c.self.inside.settings c.self.inside.number rs c.finish_at.new.rows c.self.inside.front c.unfinished_by-unfinished.result.frozen c.self.inside.unsure) c.unfinished_by-unfinished.result.fault) (sym (kept g after))
+    (subst (λ u. FinishRefused g.D.Disk.files g.D.Piece.Piece.Tells k c.args.replica (volume_with c.self.inside.settings c.self.inside.number c.self.inside.replicas.items c.self.inside.rows c.self.inside.front c.self.inside.frozen c.self.inside.unsure) (volume_with c.self.inside.settings c.self.inside.number c.finish_at.new.replicas c.finish_at.new.rows c.self.inside.front u.frozen c.self.inside.unsure) u.fault) (sym c.unfinished_by-unfinished.ensures)
+    (subst (λ o. FinishRefused g.D.Disk.files g.D.Piece.Piece.Tells k c.args.replica (volume_with c.self.inside.settings c.self.inside.number c.self.inside.replicas.items c.self.inside.rows c.self.inside.front o c.self.inside.unsure) (volume_with c.self.inside.settings c.self.inside.number c.finish_at.new.replicas c.finish_at.new.rows c.self.inside.front (unfinished_by c.self.inside.settings c.self.inside.number c.args.replica c.in-Err.unswapped).frozen c.self.inside.unsure) (unfinished_by c.self.inside.settings c.self.inside.number c.args.replica c.in-Err.unswapped).fault) (sym thawed)
+    (finish_refused c.self.inside.settings c.self.inside.number g.D.Disk.Tells g.D.Disk.files g.D.Piece.Piece.Tells g.D.Disk.fault_count c.self.inside.replicas.items c.finish_at.new.replicas c.self.inside.rows c.finish_at.new.rows c.self.inside.front c.self.inside.unsure k
+    (subst (λ o. StandsFor g.D.Disk.files g.D.Piece.Piece.Tells (volume_with c.self.inside.settings c.self.inside.number c.self.inside.replicas.items c.self.inside.rows c.self.inside.front o c.self.inside.unsure) k) thawed (subst (λ v. StandsFor g.D.Disk.files g.D.Piece.Piece.Tells v k) (sym c.self.view_is) stands)) tells c.args.replica call.one c.in-Err.unswapped standing call.swaps call.places))))
+
+pub returns-in-Err-clause-causes : goal.returns-in-Err-clause-causes
+returns-in-Err-clause-causes g c =
+    let after = (goal.at.returns-in-Err-clause-causes g c).After-finish_at in
+    let call = called_with c.in-Err.is (called g after) in
+    subst (λ v. answers.IsRunFault g.D.Disk.fault_count v.settings v.number v.replicas ((with_items c.self.inside.replicas c.finish_at.new.replicas).items) c.unfinished_by-unfinished.result.fault) c.self.view_is
+    (subst (λ rs. answers.IsRunFault g.D.Disk.fault_count c.self.inside.settings c.self.inside.number c.self.inside.replicas.items rs c.unfinished_by-unfinished.result.fault) (sym (kept g after))
+    (subst (λ u. answers.IsRunFault g.D.Disk.fault_count c.self.inside.settings c.self.inside.number c.self.inside.replicas.items c.finish_at.new.replicas u.fault) (sym c.unfinished_by-unfinished.ensures)
+    (finish_fault c.self.inside.settings c.self.inside.number g.D.Disk.Tells g.D.Disk.files g.D.Piece.Piece.Tells g.D.Disk.fault_count c.self.inside.replicas.items c.finish_at.new.replicas c.self.inside.rows c.finish_at.new.rows c.args.replica call.one (all g after) c.in-Err.unswapped call.swaps)))
+
+pub returns-in-Err-clause-open : goal.returns-in-Err-clause-open
+returns-in-Err-clause-open g c = let after = (goal.at.returns-in-Err-clause-open g c).After-finish_at in called_open (called g after) _ (kept g after) (all g after)
+
+pub returns-in-Err-clause-same : goal.returns-in-Err-clause-same
+returns-in-Err-clause-same g c =
+    let after = (goal.at.returns-in-Err-clause-same g c).After-finish_at in
+    same_by _ _ _ _ c.self.view_is refl refl (kept g after) (λ j r r' e f. (called_each (called g after) j r r' e f).1)

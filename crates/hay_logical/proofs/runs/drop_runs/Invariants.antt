@@ -1,0 +1,8 @@
+use Rattle.std.proofs.Common.{◌≡◌, None}
+use Rattle.hay_physical.specs.Copies.{goal_of}
+use Rattle.hay_logical.specs.Steps.{LosesRun}
+use Rattle.hay_logical.proofs.Lists.{Went}
+use Rattle.hay_logical.proofs.runs.drop_runs.Given as goal
+
+abbrev pub invariant-loop-replica : goal.invariant-loop-replica
+invariant-loop-replica g l = Went (λ i r r'. LosesRun g.D.Disk.Tells g.D.Disk.files r r' × (goal_of r' ≡ None)) l.replica-index l.fn.replicas l.replicas

@@ -1,0 +1,95 @@
+use Rattle.std.proofs.Common.{◌≡◌, Err, sym, ap, subst, ◌∙◌}
+use Rattle.hay_map.specs.Places.{place_in}
+use Rattle.hay_open.specs.Stored.{last_cell}
+use Rattle.hay_compact.specs.Copying.{IsLatest}
+use Rattle.hay_physical.specs.Copies.{Copy, goal_of}
+use Rattle.hay_physical.proofs.Laws.{next_left}
+use Rattle.hay_logical.specs.Fits.{PhotoAt}
+use Rattle.hay_logical.specs.Steps.{GoesOn}
+use Rattle.std.proofs.lemmas.Bool.{true≢false}
+use Rattle.hay_logical.proofs.Calls.{still_up}
+use Rattle.hay_logical.proofs.Examining.{copy_cause, goes_after, latest_is, leaves_none, peek_cause, run_whole, step_later}
+use Rattle.hay_logical.proofs.runs.examine.Given as given
+use Rattle.hay_logical.proofs.runs.examine.Goals as goal
+use Rattle.hay_logical.proofs.runs.examine.Goals.{After-peek, After-copy}
+
+-- the replica behind the two calls
+peeked : (g : given.Over) (c : goal.After-peek g) → GoesOn g.D.Disk.Tells g.D.Disk.files c.args.replica.now c.peek.new.self
+peeked g c = record {
+  up = still_up c.args.replica.now c.peek.new.self c.peek.ensures.«open» c.peek.ensures.same c.requires.up;
+  sup = c.peek.ensures.sup;
+  stuck = c.peek.ensures.stuck;
+  stands = c.peek.ensures.stands;
+  deletable = c.peek.ensures.deletes;
+}
+
+copied : (g : given.Over) (c : goal.After-copy g) → GoesOn g.D.Disk.Tells g.D.Disk.files c.peek.new.self c.copy.new.self
+copied g c = record {
+  up = still_up c.peek.new.self c.copy.new.self c.copy.ensures.«open» c.copy.ensures.same (still_up c.args.replica.now c.peek.new.self c.peek.ensures.«open» c.peek.ensures.same c.requires.up);
+  sup = c.copy.ensures.sup;
+  stuck = c.copy.ensures.stuck;
+  stands = c.copy.ensures.stands;
+  deletable = c.copy.ensures.deletes;
+}
+
+pub returns-in-Ok-clause-examines : goal.returns-in-Ok-clause-examines
+returns-in-Ok-clause-examines g c =
+    let r : Copy g.row.D.Denot = c.args.replica.now in
+    let x : Copy g.row.D.Denot = c.peek.new.self in
+    let y : Copy g.row.D.Denot = c.copy.new.self in
+    let peeks = peeked g (goal.at.returns-in-Ok-clause-examines g c).After-peek in
+    let copies = copied g (goal.at.returns-in-Ok-clause-examines g c).After-copy in
+    record {
+      on = goes_after g.D.Disk.Tells g.D.Disk.files r x y peeks copies;
+      goal = c.in-Ok.ensures.goal ∙ c.in-Ok-Some.ensures.goal;
+      examined = λ tells s run stands has places.
+          let next = rw c.in-Ok-Some.field-0-is at (c.in-Ok-Some.ensures.next tells s run has) in
+          let latest : IsLatest s.cells c.in-Ok-Some.cell.pair c.latest_in-latest.result =
+          subst (λ l. IsLatest s.cells c.in-Ok-Some.cell.pair l) (sym c.latest_in-latest.ensures)
+          (latest_is g.D.Piece.Piece.Tells s.cells c.in-Ok-Some.cell.pair (place_in c.row.result c.args.at) next.1.0 next.1.1
+          (subst (λ l. PhotoAt g.D.Piece.Piece.Tells (last_cell s.cells c.in-Ok-Some.cell.pair) (place_in l c.args.at)) (sym c.row.ensures.row) (places c.in-Ok-Some.cell.pair))) in (
+            λ e. (next_left g.D.Disk.files x s run c.in-Ok-Some.cell next.0, c.in-Ok.ensures.run tells s run next.0 latest),
+            λ e. absurd (true≢false e),
+          );
+      refused = λ tells s run stands has places. tt;
+      cause = tt;
+    }
+
+pub returns-in-Err-copy-clause-examines : goal.returns-in-Err-copy-clause-examines
+returns-in-Err-copy-clause-examines g c =
+    let r : Copy g.row.D.Denot = c.args.replica.now in
+    let x : Copy g.row.D.Denot = c.peek.new.self in
+    let y : Copy g.row.D.Denot = c.copy.new.self in
+    let peeks = peeked g (goal.at.returns-in-Err-copy-clause-examines g c).After-peek in
+    let copies = copied g (goal.at.returns-in-Err-copy-clause-examines g c).After-copy in
+    let goal_stays : goal_of x ≡ goal_of r = c.in-Ok-Some.ensures.goal in
+    record {
+      on = goes_after g.D.Disk.Tells g.D.Disk.files r x y peeks copies;
+      goal = tt;
+      examined = λ tells s run stands has places. tt;
+      refused = λ tells s run stands has places.
+          leaves_none g.D.Disk.files y s run 0 c.in-Err-copy.fault
+          (λ e. c.copy.ensures.memory tells (c.in-Err-copy.is ∙ ap Err e) s run (c.in-Ok-Some.ensures.run tells s run has))
+          (λ at e. run_whole (g.D.Disk.fault_count x.disk) (g.D.Disk.fault_count y.disk) c.in-Err-copy.fault at e c.in-Err-copy.ensures.causes);
+      cause = step_later g.D.Disk.fault_count r x y c.in-Err-copy.fault c.peek.ensures.counts goal_stays
+          (copy_cause g.D.Disk.fault_count x y c.in-Err-copy.fault peeks.up (λ e. c.requires.standing (sym goal_stays ∙ e))
+          (λ e. c.copy.ensures.thawed (c.in-Err-copy.is ∙ ap Err e)) (λ n e. c.copy.ensures.none n (c.in-Err-copy.is ∙ ap Err e))
+          c.in-Err-copy.ensures.causes c.in-Err-copy.ensures.ends);
+    }
+
+pub returns-in-Err-clause-examines : goal.returns-in-Err-clause-examines
+returns-in-Err-clause-examines g c =
+    let r : Copy g.row.D.Denot = c.args.replica.now in
+    let x : Copy g.row.D.Denot = c.peek.new.self in
+    record {
+      on = peeked g (goal.at.returns-in-Err-clause-examines g c).After-peek;
+      goal = tt;
+      examined = λ tells s run stands has places. tt;
+      refused = λ tells s run stands has places.
+          leaves_none g.D.Disk.files x s run 0 c.in-Err.fault
+          (λ e. c.peek.ensures.memory tells (c.in-Err.is ∙ ap Err e) s run has)
+          (λ at e. c.peek.ensures.whole tells s run has at (c.in-Err.is ∙ ap Err e));
+      cause = peek_cause g.D.Disk.fault_count r x c.in-Err.fault c.requires.up c.requires.standing
+          (λ e. c.peek.ensures.thawed (c.in-Err.is ∙ ap Err e)) (λ n e. c.peek.ensures.none n (c.in-Err.is ∙ ap Err e))
+          c.in-Err.ensures.causes c.in-Err.ensures.ends;
+    }

@@ -1,0 +1,54 @@
+use Rattle.std.proofs.Common.{◌≡◌, ◌-◌, refl, ◌∙◌, arith}
+use Rattle.hay_map.specs.Places.{place_in}
+use Rattle.hay_map.specs.Rows.{row_at}
+use Rattle.hay_physical.specs.Copies.{Copy, IsUp}
+use Rattle.hay_physical.proofs.Laws.{run_within, stands_cells_end}
+use Rattle.hay_logical.specs.Steps.{GoesOn, stepped_by}
+use Rattle.hay_logical.specs.Steps.Start.{Examined, Fresh, Going}
+use Rattle.hay_logical.proofs.Calls.{up_open}
+use Rattle.hay_logical.proofs.Deletable.{place_kept}
+use Rattle.hay_logical.proofs.SwapSizes.{cells_within}
+use Rattle.hay_logical.proofs.Swapping.{keeps_rows, step_holds, step_left, swaps_later}
+use Rattle.hay_logical.proofs.runs.finish.Goals as goal
+
+pub returns-in-Ok-clause-swaps : goal.returns-in-Ok-clause-swaps
+returns-in-Ok-clause-swaps g c =
+    let r : Copy g.row.D.Denot = c.args.replica.now in
+    let x : Copy g.row.D.Denot = c.step.new.replica in
+    let y : Copy g.row.D.Denot = c.swap.new.replica in
+    swaps_later g.D.Disk.Tells g.D.Disk.files g.D.Disk.fault_count g.D.Piece.Piece.Tells c.args.rows.now c.swap.new.rows c.args.at r x y c.swap.result Going Examined (λ e. let wrong : Examined ≡ Fresh = e in cc)
+    c.in-Ok.ensures.steps.on tt c.step.ensures.counts
+    (λ tells s run stands has places.
+    let done = c.in-Ok.ensures.steps.stepped tells s run stands has places in
+    let number = done.0 in
+    let end = c.end-most.ensures.known tells s stands in
+    let cells = stands_cells_end g.D.Disk.files r s stands in
+    let within = cells_within s.cells in
+    let left = run_within g.D.Disk.files r s run has in
+    let none : run.left - c.in-Ok.field-0 ≡ 0 = omega (arith, number, end, cells, within, left) in
+    (stepped_by c.in-Ok.field-0 run, refl, (done.1, none)))
+    c.swap.ensures.swaps
+
+pub returns-in-Err-clause-swaps : goal.returns-in-Err-clause-swaps
+returns-in-Err-clause-swaps g c =
+    let r : Copy g.row.D.Denot = c.args.replica.now in
+    let x : Copy g.row.D.Denot = c.step.new.replica in
+    let y : Copy g.row.D.Denot = c.drop_run.new.self in
+    let on : GoesOn g.D.Disk.Tells g.D.Disk.files r x = c.in-Err.ensures.steps.on in
+    let up : IsUp y = c.drop_run.ensures.up on.up in
+    record {
+      «open» = up_open y up;
+      sup = c.drop_run.ensures.sup ∙ on.sup;
+      up = tt;
+      left = step_left g.D.Disk.files g.D.Disk.fault_count r x y c.in-Err.fault up c.drop_run.ensures.goal c.drop_run.ensures.disk c.in-Err.ensures.steps.cause;
+      swapped = λ tells s run stands start places. tt;
+      refused = λ tells s run stands start places.
+          step_holds g.D.Disk.files g.D.Disk.fault_count r x y s run c.end-most.result c.in-Err.fault c.in-Err.ensures.steps.cause (c.in-Err.ensures.steps.refused tells s run stands start places)
+          (c.drop_run.ensures.stands tells s (on.stands tells s stands)) (c.drop_run.ensures.stuck ∙ on.stuck);
+      deletable = λ tells may u pair.
+          place_kept g.D.Disk.Tells g.D.Disk.files x y c.drop_run.ensures.deletes tells (place_in (row_at c.args.rows.now pair) c.args.at)
+          (place_kept g.D.Disk.Tells g.D.Disk.files r x on.deletable tells (place_in (row_at c.args.rows.now pair) c.args.at) (may pair));
+    }
+
+pub returns-in-Err-clause-places : goal.returns-in-Err-clause-places
+returns-in-Err-clause-places g c = keeps_rows c.args.rows.now c.args.rows.now c.args.at _ refl (λ pair. refl)

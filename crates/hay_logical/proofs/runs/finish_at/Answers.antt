@@ -1,0 +1,40 @@
+use Rattle.std.proofs.Common.{◌<◌, arith, rules}
+use Rattle.std.specs.Prelude.{slice_index_or, slice_set}
+use Rattle.hay_physical.specs.Copies.{Copy}
+use Rattle.hay_logical.specs.Fits.{At}
+use Rattle.hay_logical.specs.Steps.Start.{Going}
+use Rattle.hay_logical.proofs.Calls.{one_counts}
+use Rattle.hay_logical.proofs.Dropping.{counts_on}
+use Rattle.hay_logical.proofs.Ends.{swaps_one, swaps_there}
+use Rattle.hay_logical.proofs.Lists.{at_read}
+use Rattle.hay_logical.proofs.runs.finish_at.Goals as goal
+
+pub finish-result-requires-after_bounds : goal.finish-result-requires-after_bounds
+finish-result-requires-after_bounds g c κs within =
+    let here : Copy g.row.D.Denot = slice_index_or c.args.replicas.now c.args.at c.index-replicas-at.result in
+    let there : At c.args.replicas.now c.args.at here = at_read c.args.replicas.now c.args.at c.index-replicas-at.result c.requires.within in
+    let low = c.requires.within in
+    let wide = c.requires.width in
+    let less : c.args.at < c.args.rows.now.replicas = omega (arith, low, wide) in
+    (search rules, (c.requires.up c.args.at here there, (less, c.requires.standing here there)))
+
+pub returns-clause-one : goal.returns-clause-one
+returns-clause-one g c =
+    let here : Copy g.row.D.Denot = slice_index_or c.args.replicas.now c.args.at c.index-replicas-at.result in
+    let there : At c.args.replicas.now c.args.at here = at_read c.args.replicas.now c.args.at c.index-replicas-at.result c.requires.within in
+    swaps_one g.D.Disk.Tells g.D.Disk.files g.D.Disk.fault_count g.D.Piece.Piece.Tells Going c.args.rows.now c.finish-result.new.rows c.args.at c.args.replicas.now c.drop_behind.new.replicas here c.finish-result.new.replica c.finish-result.result there
+    (c.requires.up c.args.at here there) c.finish-result.ensures.swaps c.drop_behind.ensures.count c.drop_behind.ensures.each c.drop_behind.ensures.still c.drop_behind.ensures.idle
+
+pub returns-clause-swaps : goal.returns-clause-swaps
+returns-clause-swaps g c = λ r r' e f.
+    let here : Copy g.row.D.Denot = slice_index_or c.args.replicas.now c.args.at c.index-replicas-at.result in
+    let there : At c.args.replicas.now c.args.at here = at_read c.args.replicas.now c.args.at c.index-replicas-at.result c.requires.within in
+    swaps_there g.D.Disk.Tells g.D.Disk.files g.D.Disk.fault_count g.D.Piece.Piece.Tells Going c.args.rows.now c.finish-result.new.rows c.args.at c.args.replicas.now c.drop_behind.new.replicas here c.finish-result.new.replica c.finish-result.result there
+    (c.requires.up c.args.at here there) c.finish-result.ensures.swaps c.drop_behind.ensures.count c.drop_behind.ensures.each c.drop_behind.ensures.still c.drop_behind.ensures.idle r r' e f
+
+pub returns-clause-counts : goal.returns-clause-counts
+returns-clause-counts g c =
+    let here : Copy g.row.D.Denot = slice_index_or c.args.replicas.now c.args.at c.index-replicas-at.result in
+    let there : At c.args.replicas.now c.args.at here = at_read c.args.replicas.now c.args.at c.index-replicas-at.result c.requires.within in
+    counts_on g.D.Disk.Tells g.D.Disk.files g.D.Disk.fault_count c.args.replicas.now (slice_set c.args.replicas.now c.args.at c.finish-result.new.replica) c.drop_behind.new.replicas c.drop_behind.ensures.count c.drop_behind.ensures.each
+    g.D.Disk.fuse_count (one_counts g.D.Disk.fault_count g.D.Disk.fuse_count c.args.at c.args.replicas.now here c.finish-result.new.replica there (c.finish-result.ensures.counts, c.finish-result.ensures.fuses))

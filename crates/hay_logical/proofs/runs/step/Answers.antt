@@ -1,0 +1,86 @@
+use Rattle.std.proofs.Common.{◌≡◌, ◌≤◌, ◌+◌, Some, refl, sym, subst, ◌∙◌, arith}
+use Rattle.std.specs.Prelude.{min}
+use Rattle.hay_physical.specs.Runs.{HasRun, Run}
+use Rattle.hay_logical.specs.Steps.{stepped_by}
+use Rattle.hay_logical.proofs.Examining.{goes_after, goes_none, leaves_some, step_later, step_more, step_none}
+use Rattle.hay_logical.proofs.runs.step.Goals as goal
+
+pub loop-examined-init : goal.loop-examined-init
+loop-examined-init g c = record {
+  on = goes_none g.D.Disk.Tells g.D.Disk.files c.args.replica.now c.requires.up;
+  goal = refl;
+  counts = omega arith;
+  fuses = refl;
+  stepped = λ tells s run stands has places. ((let low : 0 ≤ run.left = omega arith in low), subst (λ (x : Run). HasRun g.D.Disk.files c.args.replica.now s (Some x)) (sym (step_none run)) has);
+}
+
+pub loop-examined-preserved : goal.loop-examined-preserved
+loop-examined-preserved g c =
+    let was = c.loop-examined.invariant in
+    let counts = c.examine.ensures.counts in
+    record {
+      on = goes_after g.D.Disk.Tells g.D.Disk.files c.args.replica.now c.loop-examined.replica c.examine.new.replica was.on c.in-Ok-true.ensures.examines.on;
+      goal = c.in-Ok-true.ensures.examines.goal ∙ was.goal;
+      counts = (let low = was.counts in omega (arith, low, counts));
+      fuses = c.examine.ensures.fuses ∙ was.fuses;
+      stepped = λ tells s run stands has places.
+          let so_far = was.stepped tells s run stands has places in
+          let here = (c.in-Ok-true.ensures.examines.examined tells s (stepped_by c.loop-examined.examined run) (was.on.stands tells s stands) so_far.1 places).0 c.in-Ok-true.field-0-test in
+          let few = so_far.0 in
+          let some = here.0 in (
+            (let low : c.loop-examined.examined + 1 ≤ run.left = omega (arith, few, some) in low),
+            subst (λ (x : Run). HasRun g.D.Disk.files c.examine.new.replica s (Some x)) (step_more c.loop-examined.examined 1 run) here.1,
+          );
+    }
+
+pub returns-in-Ok-false-clause-steps : goal.returns-in-Ok-false-clause-steps
+returns-in-Ok-false-clause-steps g c =
+    let was = c.loop-examined.invariant in
+    record {
+      on = goes_after g.D.Disk.Tells g.D.Disk.files c.args.replica.now c.loop-examined.replica c.examine.new.replica was.on c.in-Ok-false.ensures.examines.on;
+      goal = c.in-Ok-false.ensures.examines.goal ∙ was.goal;
+      stepped = λ tells s run stands has places.
+          let so_far = was.stepped tells s run stands has places in
+          let here = (c.in-Ok-false.ensures.examines.examined tells s (stepped_by c.loop-examined.examined run) (was.on.stands tells s stands) so_far.1 places).1 c.in-Ok-false.field-0-test in
+          let few = so_far.0 in
+          let none = here.0 in
+          let low = c.loop-examined-test.true in (
+            (let e : c.loop-examined.examined ≡ min c.args.cells run.left = omega (arith, few, none, low) in e),
+            here.1,
+          );
+      refused = λ tells s run stands has places. tt;
+      cause = tt;
+    }
+
+pub returns-in-Err-clause-steps : goal.returns-in-Err-clause-steps
+returns-in-Err-clause-steps g c =
+    let was = c.loop-examined.invariant in
+    record {
+      on = goes_after g.D.Disk.Tells g.D.Disk.files c.args.replica.now c.loop-examined.replica c.examine.new.replica was.on c.in-Err.ensures.examines.on;
+      goal = tt;
+      stepped = λ tells s run stands has places. tt;
+      refused = λ tells s run stands has places.
+          let so_far = was.stepped tells s run stands has places in
+          let test = c.loop-examined-test.true in
+          let low : c.loop-examined.examined ≤ c.args.cells = omega (arith, test) in
+          leaves_some g.D.Disk.files c.examine.new.replica s run c.args.cells c.loop-examined.examined c.in-Err.fault low so_far.0
+          (c.in-Err.ensures.examines.refused tells s (stepped_by c.loop-examined.examined run) (was.on.stands tells s stands) so_far.1 places);
+      cause = step_later g.D.Disk.fault_count c.args.replica.now c.loop-examined.replica c.examine.new.replica c.in-Err.fault was.counts was.goal c.in-Err.ensures.examines.cause;
+    }
+
+pub returns-clause-steps : goal.returns-clause-steps
+returns-clause-steps g c =
+    let was = c.loop-examined.invariant in
+    record {
+      on = was.on;
+      goal = was.goal;
+      stepped = λ tells s run stands has places.
+          let so_far = was.stepped tells s run stands has places in
+          let few = so_far.0 in
+          let done : c.loop-examined.examined ≡ c.args.cells = omega arith in (
+            (let e : c.args.cells ≡ min c.args.cells run.left = omega (arith, few, done) in e),
+            subst (λ n. HasRun g.D.Disk.files c.loop-examined.replica s (Some (stepped_by n run))) done so_far.1,
+          );
+      refused = λ tells s run stands has places. tt;
+      cause = tt;
+    }

@@ -1,0 +1,37 @@
+use Rattle.std.proofs.Common.{◌<◌, refl, sym, subst, arith, rules}
+use Rattle.std.specs.Prelude.{slice_index_or}
+use Rattle.hay_physical.specs.Copies.{Copy}
+use Rattle.hay_logical.specs.Fits.{At}
+use Rattle.hay_logical.specs.Steps.{StepsAt}
+use Rattle.hay_logical.proofs.Calls.{one_counts}
+use Rattle.hay_logical.proofs.Lists.{at_read, one_same}
+use Rattle.hay_logical.proofs.runs.step_at.Goals as goal
+
+pub step-requires-after_bounds : goal.step-requires-after_bounds
+step-requires-after_bounds g c κs within =
+    let here : Copy g.row.D.Denot = slice_index_or c.args.replicas.now c.args.at c.index-replicas-at.result in
+    let there : At c.args.replicas.now c.args.at here = at_read c.args.replicas.now c.args.at c.index-replicas-at.result c.requires.within in
+    let low = c.requires.within in
+    let wide = c.requires.width in
+    let less : c.args.at < c.args.rows.now.replicas = omega (arith, low, wide) in
+    (search rules, (c.requires.up c.args.at here there, (less, c.requires.standing here there)))
+
+pub returns-clause-one : goal.returns-clause-one
+returns-clause-one g c =
+    let here : Copy g.row.D.Denot = slice_index_or c.args.replicas.now c.args.at c.index-replicas-at.result in
+    let there : At c.args.replicas.now c.args.at here = at_read c.args.replicas.now c.args.at c.index-replicas-at.result c.requires.within in
+    record { before = here; after = c.step.new.replica; was = there; is = refl }
+
+pub returns-clause-steps : goal.returns-clause-steps
+returns-clause-steps g c = λ r r' e f.
+    let here : Copy g.row.D.Denot = slice_index_or c.args.replicas.now c.args.at c.index-replicas-at.result in
+    let there : At c.args.replicas.now c.args.at here = at_read c.args.replicas.now c.args.at c.index-replicas-at.result c.requires.within in
+    let same = one_same c.args.replicas.now c.args.at here c.step.new.replica r r' there e f in
+    subst (λ x. StepsAt g.D.Disk.Tells g.D.Disk.files g.D.Disk.fault_count g.D.Piece.Piece.Tells c.args.rows.now c.args.at c.args.cells x r' c.step.result) (sym same.0)
+    (subst (λ x. StepsAt g.D.Disk.Tells g.D.Disk.files g.D.Disk.fault_count g.D.Piece.Piece.Tells c.args.rows.now c.args.at c.args.cells here x c.step.result) (sym same.1) c.step.ensures.steps)
+
+pub returns-clause-counts : goal.returns-clause-counts
+returns-clause-counts g c =
+    let here : Copy g.row.D.Denot = slice_index_or c.args.replicas.now c.args.at c.index-replicas-at.result in
+    let there : At c.args.replicas.now c.args.at here = at_read c.args.replicas.now c.args.at c.index-replicas-at.result c.requires.within in
+    one_counts g.D.Disk.fault_count g.D.Disk.fuse_count c.args.at c.args.replicas.now here c.step.new.replica there (c.step.ensures.counts, c.step.ensures.fuses)

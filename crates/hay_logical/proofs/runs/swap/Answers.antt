@@ -1,0 +1,111 @@
+use Rattle.std.proofs.Common.{◌≡◌, inl, inr, Err, false, sym, ap, subst, ◌∙◌}
+use Rattle.std.proofs.lemmas.Bool.{cases_Bool}
+use Rattle.std.specs.Prelude.{slice_set}
+use Rattle.hay_needle.specs.declared.needle.Pair.{Pair}
+use Rattle.hay_map.specs.Places.{gone_place, place_in}
+use Rattle.hay_map.specs.Rows.{last_place, row_at}
+use Rattle.hay_physical.specs.Copies.{Copy, is_frozen, is_stuck}
+use Rattle.hay_physical.specs.Replicas as physical
+use Rattle.hay_physical.proofs.Laws.{stands_cells_end, stands_generation, stands_up}
+use Rattle.hay_logical.specs.Steps.{HoldsUnswapped, IsLeftBy}
+use Rattle.hay_logical.specs.Steps.Start.{Examined}
+use Rattle.hay_logical.proofs.Calls.{frozen_open, loaded_other, not_both, open_frozen, open_up}
+use Rattle.hay_logical.proofs.Deletable.{place_kept}
+use Rattle.hay_logical.proofs.Swapping.{deletable_swapped, keeps_rows, places_swapped, refused_holds, refused_left, unsure_left}
+use Rattle.hay_logical.proofs.runs.swap.Goals as goal
+
+pub returns-in-Ok-swap-clause-swaps : goal.returns-in-Ok-swap-clause-swaps
+returns-in-Ok-swap-clause-swaps g c =
+    let x : Copy g.row.D.Denot = c.finish.new.self in
+    let changed : (pair : Pair) → row_at c.swap.new.self pair ≡ slice_set (row_at c.args.rows.now pair) c.args.at (last_place c.in-Ok.places.items pair (gone_place (place_in (row_at c.args.rows.now pair) c.args.at))) =
+    λ pair. c.in-Ok-swap.ensures.ok.rows pair ∙ ap (λ l. slice_set (row_at c.args.rows.now pair) c.args.at (last_place l pair (gone_place (place_in (row_at c.args.rows.now pair) c.args.at)))) c.as_slice.ensures.value in
+    record {
+      «open» = c.finish.ensures.«open»;
+      sup = c.finish.ensures.sup;
+      up = (c.in-Ok.ensures.up, c.in-Ok.ensures.going, c.finish.ensures.goal, tt);
+      left = tt;
+      swapped = λ tells s run stands start places.
+          let made = c.in-Ok.ensures.swapped tells s run stands start.0 start.1 in
+          record {
+            stored = made.0;
+            to = record { swaps = made.1; tight = made.2; ends = stands_cells_end g.D.Disk.files x made.0 made.3 };
+            stands = made.3;
+            places = places_swapped g.D.Piece.Piece.Tells c.args.rows.now c.swap.new.self c.args.at c.in-Ok.places.items changed s made.0 made.1.table places made.4;
+            generation_is = c.generation.ensures.is ∙ stands_generation g.D.Disk.files x made.0 made.3;
+          };
+      refused = λ tells s run stands start places. tt;
+      deletable = λ tells may up. deletable_swapped g.D.Piece.Piece.Tells c.args.rows.now c.swap.new.self c.args.at c.in-Ok.places.items changed g.D.Disk.files x (c.in-Ok.ensures.can_delete tells);
+    }
+
+pub returns-in-Ok-swap-clause-places : goal.returns-in-Ok-swap-clause-places
+returns-in-Ok-swap-clause-places g c = record {
+  width = c.in-Ok-swap.ensures.ok.replicas;
+  others = λ pair i apart. loaded_other (row_at c.args.rows.now pair) (row_at c.swap.new.self pair) i c.args.at _ (c.in-Ok-swap.ensures.ok.rows pair) apart;
+  same = tt;
+}
+
+pub returns-in-Ok-clause-swaps : goal.returns-in-Ok-clause-swaps
+returns-in-Ok-clause-swaps g c =
+    let x : Copy g.row.D.Denot = c.finish.new.self in
+    let y : Copy g.row.D.Denot = c.freeze.new.self in
+    record {
+      «open» = frozen_open y c.freeze.ensures.frozen;
+      sup = c.freeze.ensures.sup ∙ c.finish.ensures.sup;
+      up = tt;
+      left = (c.freeze.ensures.frozen, c.freeze.ensures.dropped.0, tt);
+      swapped = λ tells s run stands start places. tt;
+      refused = λ tells s run stands start places.
+          let made = c.in-Ok.ensures.swapped tells s run stands start.0 start.1 in
+          let loose : is_stuck x ≡ false = c.in-Ok.ensures.going in
+          record {
+            stored = made.0;
+            to = record { swaps = made.1; tight = made.2; ends = stands_cells_end g.D.Disk.files x made.0 made.3 };
+            loose = c.freeze.ensures.stuck ∙ loose;
+            holds = subst (λ b. physical.Holds g.D.Disk.files y b made.0 made.0) loose (c.freeze.ensures.held tells made.0 made.3);
+          };
+      deletable = λ tells may up. absurd (not_both y up c.freeze.ensures.frozen);
+    }
+
+pub returns-in-Ok-clause-places : goal.returns-in-Ok-clause-places
+returns-in-Ok-clause-places g c = keeps_rows c.args.rows.now c.swap.new.self c.args.at _ c.in-Err-swap.ensures.err.replicas c.in-Err-swap.ensures.err.rows
+
+pub returns-clause-swaps : goal.returns-clause-swaps
+returns-clause-swaps g c =
+    let r : Copy g.row.D.Denot = c.args.replica.now in
+    let x : Copy g.row.D.Denot = c.finish.new.self in
+    elim (cases_Bool (is_frozen x)) [
+      | inl froze ↦
+          let frozen = open_frozen x c.finish.ensures.«open» froze in
+          let is = c.why_unswapped.ensures.frozen froze in
+          let failed = c.finish.ensures.froze c.requires.up frozen in
+          record {
+            «open» = c.finish.ensures.«open»;
+            sup = c.finish.ensures.sup;
+            up = tt;
+            left = subst (λ u. IsLeftBy g.D.Disk.fault_count Examined r x u) (sym is) (unsure_left g.D.Disk.files g.D.Disk.fault_count r x c.finish.result frozen c.finish.ensures.goal failed c.finish.ensures.causes);
+            swapped = λ tells s run stands start places. tt;
+            refused = λ tells s run stands start places.
+                subst (λ u. HoldsUnswapped g.D.Disk.files r x s run u) (sym is)
+                (elim (c.in-Err.ensures.refused tells s run stands start.0 start.1) [
+                  | inl stays ↦ absurd (not_both x (stands_up g.D.Disk.files x s stays) frozen)
+                  | inr made ↦ (made.1.0, made.1.1, made.1.3)
+                ]);
+            deletable = λ tells may up. absurd (not_both x up frozen);
+          }
+      | inr thawed ↦
+          let up = open_up x c.finish.ensures.«open» thawed in
+          let is = c.why_unswapped.ensures.up thawed in
+          record {
+            «open» = c.finish.ensures.«open»;
+            sup = c.finish.ensures.sup;
+            up = tt;
+            left = subst (λ u. IsLeftBy g.D.Disk.fault_count Examined r x u) (sym is)
+                (refused_left g.D.Disk.files g.D.Disk.fault_count r x c.in-Err.fault c.requires.up c.requires.standing up c.finish.ensures.goal
+                (λ e. c.finish.ensures.thawed (c.in-Err.is ∙ ap Err e)) (λ n e. c.finish.ensures.none n (c.in-Err.is ∙ ap Err e)) c.in-Err.ensures.causes);
+            swapped = λ tells s run stands start places. tt;
+            refused = λ tells s run stands start places.
+                subst (λ u. HoldsUnswapped g.D.Disk.files r x s run u) (sym is)
+                (refused_holds g.D.Disk.files g.D.Disk.fault_count r x s run c.in-Err.fault c.in-Err.ensures.causes (c.in-Err.ensures.kept tells s stands up) c.in-Err.ensures.still.0);
+            deletable = λ tells may up pair. place_kept g.D.Disk.Tells g.D.Disk.files r x (λ t place h. c.in-Err.ensures.deletes t place h) tells (place_in (row_at c.args.rows.now pair) c.args.at) (may pair);
+          }
+    ]

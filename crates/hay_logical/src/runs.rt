@@ -1,0 +1,277 @@
+//! Compactions of replicas.
+ghost use Rattle.std.specs.Prelude.{◌≡◌, ◌≤◌, ◌<◌, ℕ, true, false, length, None};
+ghost use Rattle.hay_map.specs.Places.{place_in};
+ghost use Rattle.hay_physical.specs.Copies.{Copy, IsUp, goal_of, is_frozen};
+ghost use Rattle.hay_logical.specs.Fits.{At};
+ghost use Rattle.hay_logical.specs.Steps.Start.{Examined, Fresh, Going};
+ghost use Rattle.hay_logical.specs.Steps.{AllIdle, BeginsAt, CallsOne, ExaminesAt, KeepsPlaces, LosesRun, StepsAt, SwapsAt, SwapsOne, latest_of};
+ghost use Rattle.hay_logical.specs.Volumes.{KeepsCounts};
+
+use hay_base::NoMemory;
+use hay_disk::{Disk, Piece};
+use hay_map::{MapView, Place, Row};
+use hay_physical::{Replica, ReplicaFault};
+use std::alloc::Global;
+
+/// Why a compaction did not end with a swap.
+#[derive(Clone, Copy, Debug, PartialEq, Eq)]
+pub(crate) enum Unswapped {
+    /// It was refused, and the replica takes changes as before.
+    Refused(ReplicaFault),
+    /// The disk failed, and its count of faults rose to this: the head may name either generation.
+    Unsure { faults: u64 },
+    /// The files were swapped, and memory was wanting for the places.
+    Unplaced,
+}
+
+/// Lets go of the compaction of each replica.
+pub(crate) fn drop_runs<D: Disk>(replicas: &mut [Replica<D>])
+    ensures count { length replicas.new ≡ length replicas.old }
+    ensures each { (j : ℕ) (r r' : Copy D) → At replicas.old j r → At replicas.new j r' → LosesRun D.Tells D.files r r' }
+    ensures idle { AllIdle replicas.new }
+{
+    for replica in replicas.iter_mut() {
+        replica.drop_run();
+    }
+}
+
+/// Begins a compaction of one replica, and answers the generation that it makes.
+pub(crate) fn begin_at<D: Disk>(
+    replicas: &mut [Replica<D>],
+    at: usize,
+    alloc: Global,
+) -> Result<u64, ReplicaFault>
+    requires within { at < length replicas.old }
+    requires up { (j : ℕ) (r : Copy D) → At replicas.old j r → IsUp r }
+    ensures one { CallsOne at replicas.old replicas.new }
+    ensures begins { (r r' : Copy D) → At replicas.old at r → At replicas.new at r' → BeginsAt D.Tells D.files D.fault_count r r' result }
+    ensures counts { KeepsCounts D.fault_count D.fuse_count replicas.old replicas.new }
+{
+    replicas[at].begin(alloc)
+}
+
+/// Examines so many cells of one replica, or all that are left, and answers how many these were.
+pub(crate) fn step_at<D: Disk>(
+    replicas: &mut [Replica<D>],
+    at: usize,
+    rows: &MapView<D::Piece>,
+    cells: u64,
+) -> Result<u64, ReplicaFault>
+    requires within { at < length replicas.old }
+    requires most { length replicas.old ≤ 4 }
+    requires width { rows.now.replicas ≡ length replicas.old }
+    requires up { (j : ℕ) (r : Copy D) → At replicas.old j r → IsUp r }
+    requires standing { (r : Copy D) → At replicas.old at r → goal_of r ≡ None → ⊥ }
+    ensures one { CallsOne at replicas.old replicas.new }
+    ensures steps { (r r' : Copy D) → At replicas.old at r → At replicas.new at r' →
+        StepsAt D.Tells D.files D.fault_count D.Piece.Tells rows.now at cells r r' result }
+    ensures counts { KeepsCounts D.fault_count D.fuse_count replicas.old replicas.new }
+{
+    step(&mut replicas[at], at as u32, rows, cells)
+}
+
+/// Ends the compaction of one replica, and gives its photos their new places. Where it takes no changes then, the
+/// compactions of the others end.
+pub(crate) fn finish_at<D: Disk>(
+    replicas: &mut [Replica<D>],
+    at: usize,
+    rows: &mut MapView<D::Piece>,
+) -> Result<u64, Unswapped>
+    requires within { at < length replicas.old }
+    requires most { length replicas.old ≤ 4 }
+    requires width { rows.old.replicas ≡ length replicas.old }
+    requires up { (j : ℕ) (r : Copy D) → At replicas.old j r → IsUp r }
+    requires standing { (r : Copy D) → At replicas.old at r → goal_of r ≡ None → ⊥ }
+    ensures one { SwapsOne D.Tells D.files at replicas.old replicas.new }
+    ensures swaps { (r r' : Copy D) → At replicas.old at r → At replicas.new at r' →
+        SwapsAt D.Tells D.files D.fault_count D.Piece.Tells Going rows.old rows.new at r r' result }
+    ensures places { KeepsPlaces rows.old rows.new at result }
+    ensures counts { KeepsCounts D.fault_count D.fuse_count replicas.old replicas.new }
+{
+    let result = finish(&mut replicas[at], at as u32, rows);
+    drop_behind(replicas, at);
+    result
+}
+
+/// Begins a compaction of one replica and ends it at once, as `finish_at` does.
+pub(crate) fn compact_at<D: Disk>(
+    replicas: &mut [Replica<D>],
+    at: usize,
+    rows: &mut MapView<D::Piece>,
+    alloc: Global,
+) -> Result<u64, Unswapped>
+    requires within { at < length replicas.old }
+    requires most { length replicas.old ≤ 4 }
+    requires width { rows.old.replicas ≡ length replicas.old }
+    requires up { (j : ℕ) (r : Copy D) → At replicas.old j r → IsUp r }
+    ensures one { SwapsOne D.Tells D.files at replicas.old replicas.new }
+    ensures swaps { (r r' : Copy D) → At replicas.old at r → At replicas.new at r' →
+        SwapsAt D.Tells D.files D.fault_count D.Piece.Tells Fresh rows.old rows.new at r r' result }
+    ensures places { KeepsPlaces rows.old rows.new at result }
+    ensures counts { KeepsCounts D.fault_count D.fuse_count replicas.old replicas.new }
+{
+    let result = compact(&mut replicas[at], at as u32, rows, alloc);
+    drop_behind(replicas, at);
+    result
+}
+
+// Lets go of each compaction where this replica takes no changes.
+fn drop_behind<D: Disk>(replicas: &mut [Replica<D>], at: usize)
+    requires { at < length replicas.old }
+    ensures count { length replicas.new ≡ length replicas.old }
+    ensures each { (j : ℕ) (r r' : Copy D) → At replicas.old j r → At replicas.new j r' → LosesRun D.Tells D.files r r' }
+    ensures still { (r : Copy D) → At replicas.old at r → is_frozen r ≡ false → replicas.new ≡ replicas.old }
+    ensures idle { (r : Copy D) → At replicas.old at r → is_frozen r ≡ true → AllIdle replicas.new }
+{
+    if replicas[at].is_frozen() {
+        drop_runs(replicas);
+    }
+}
+
+// Begins a compaction and ends it at once.
+fn compact<D: Disk>(
+    replica: &mut Replica<D>,
+    at: u32,
+    rows: &mut MapView<D::Piece>,
+    alloc: Global,
+) -> Result<u64, Unswapped>
+    requires up { IsUp replica.old }
+    requires within { at < rows.old.replicas }
+    ensures swaps { SwapsAt D.Tells D.files D.fault_count D.Piece.Tells Fresh rows.old rows.new at replica.old replica.new result }
+    ensures places { KeepsPlaces rows.old rows.new at result }
+    ensures counts { D.fault_count replica.old.disk ≤ D.fault_count replica.new.disk }
+    ensures fuses { D.fuse_count replica.new.disk ≡ D.fuse_count replica.old.disk }
+{
+    match replica.begin(alloc) {
+        Ok(_) => finish(replica, at, rows),
+        Err(fault) => Err(Unswapped::Refused(fault)),
+    }
+}
+
+// Examines all cells that are left, and swaps the files. A refusal ends the compaction.
+fn finish<D: Disk>(
+    replica: &mut Replica<D>,
+    at: u32,
+    rows: &mut MapView<D::Piece>,
+) -> Result<u64, Unswapped>
+    requires up { IsUp replica.old }
+    requires within { at < rows.old.replicas }
+    requires standing { goal_of replica.old ≡ None → ⊥ }
+    ensures swaps { SwapsAt D.Tells D.files D.fault_count D.Piece.Tells Going rows.old rows.new at replica.old replica.new result }
+    ensures places { KeepsPlaces rows.old rows.new at result }
+    ensures counts { D.fault_count replica.old.disk ≤ D.fault_count replica.new.disk }
+    ensures fuses { D.fuse_count replica.new.disk ≡ D.fuse_count replica.old.disk }
+{
+    // There are fewer cells than bytes.
+    let most = replica.end();
+    match step(replica, at, rows, most) {
+        Ok(_) => swap(replica, at, rows),
+        Err(fault) => {
+            replica.drop_run();
+            Err(Unswapped::Refused(fault))
+        }
+    }
+}
+
+// Swaps the files of a replica whose cells are all examined, and gives its photos their new places. Where memory is
+// wanting for these, the replica takes no more changes.
+fn swap<D: Disk>(
+    replica: &mut Replica<D>,
+    at: u32,
+    rows: &mut MapView<D::Piece>,
+) -> Result<u64, Unswapped>
+    requires up { IsUp replica.old }
+    requires within { at < rows.old.replicas }
+    requires standing { goal_of replica.old ≡ None → ⊥ }
+    ensures swaps { SwapsAt D.Tells D.files D.fault_count D.Piece.Tells Examined rows.old rows.new at replica.old replica.new result }
+    ensures places { KeepsPlaces rows.old rows.new at result }
+    ensures counts { D.fault_count replica.old.disk ≤ D.fault_count replica.new.disk }
+    ensures fuses { D.fuse_count replica.new.disk ≡ D.fuse_count replica.old.disk }
+{
+    match replica.finish() {
+        Ok(places) => match rows.swap(at, places.as_slice()) {
+            Ok(()) => Ok(replica.generation()),
+            Err(NoMemory) => {
+                replica.freeze();
+                Err(Unswapped::Unplaced)
+            }
+        },
+        Err(fault) => Err(why_unswapped(replica, fault)),
+    }
+}
+
+// Why a replica's files were not swapped.
+fn why_unswapped<D: Disk>(replica: &Replica<D>, fault: ReplicaFault) -> Unswapped
+    ensures frozen { is_frozen replica.now ≡ true → result ≡ Unswapped.Unsure (D.fault_count replica.now.disk) }
+    ensures up { is_frozen replica.now ≡ false → result ≡ Unswapped.Refused fault }
+{
+    if replica.is_frozen() {
+        Unswapped::Unsure {
+            faults: replica.faults(),
+        }
+    } else {
+        Unswapped::Refused(fault)
+    }
+}
+
+// Examines so many cells, or all that are left, and answers how many these were.
+fn step<D: Disk>(
+    replica: &mut Replica<D>,
+    at: u32,
+    rows: &MapView<D::Piece>,
+    cells: u64,
+) -> Result<u64, ReplicaFault>
+    requires up { IsUp replica.old }
+    requires within { at < rows.now.replicas }
+    requires standing { goal_of replica.old ≡ None → ⊥ }
+    ensures steps { StepsAt D.Tells D.files D.fault_count D.Piece.Tells rows.now at cells replica.old replica.new result }
+    ensures counts { D.fault_count replica.old.disk ≤ D.fault_count replica.new.disk }
+    ensures fuses { D.fuse_count replica.new.disk ≡ D.fuse_count replica.old.disk }
+{
+    for examined in 0..cells {
+        match examine(replica, at, rows) {
+            Ok(true) => {}
+            Ok(false) => return Ok(examined),
+            Err(fault) => return Err(fault),
+        }
+    }
+    Ok(cells)
+}
+
+// Examines the next cell, and answers whether one was left.
+fn examine<D: Disk>(
+    replica: &mut Replica<D>,
+    at: u32,
+    rows: &MapView<D::Piece>,
+) -> Result<bool, ReplicaFault>
+    requires up { IsUp replica.old }
+    requires within { at < rows.now.replicas }
+    requires standing { goal_of replica.old ≡ None → ⊥ }
+    ensures examines { ExaminesAt D.Tells D.files D.fault_count D.Piece.Tells rows.now at replica.old replica.new result }
+    ensures counts { D.fault_count replica.old.disk ≤ D.fault_count replica.new.disk }
+    ensures fuses { D.fuse_count replica.new.disk ≡ D.fuse_count replica.old.disk }
+{
+    match replica.peek() {
+        Ok(None) => Ok(false),
+        Ok(Some(cell)) => {
+            let latest = latest_in(&rows.row(cell.pair), at as usize);
+            match replica.copy(cell, latest) {
+                Ok(()) => Ok(true),
+                Err(fault) => Err(fault),
+            }
+        }
+        Err(fault) => Err(fault),
+    }
+}
+
+// The place of a replica's photo in a row, if it has one.
+fn latest_in<P: Piece>(row: &Row<P>, at: usize) -> Option<u64>
+    requires { at < length row.now }
+    ensures { result ≡ latest_of (place_in row.now at) }
+{
+    match row.place(at) {
+        Place::Live(needle) => Some(needle.at()),
+        Place::Gone => None,
+        Place::None => None,
+    }
+}

@@ -1,0 +1,33 @@
+use Rattle.std.proofs.Common.{arith, ◌∙◌, ◌+◌, ap}
+use Rattle.hay_physical.proofs.Views.{files_stand, if_ok_both}
+use Rattle.hay_physical.proofs.RunViews.{beside_deletes, beside_stands, open_run}
+use Rattle.hay_physical.proofs.replica.Replica.begin.Goals as goal
+
+pub returns-clause-last : goal.returns-clause-last
+returns-clause-last g c = λ tells s stands worn.
+    let was = c.self.inside in
+    let f = files_stand g.D.Disk.files c.args.self.now was.sup was.disk was.phase c.in-Open.files s c.self.view_is c.in-Open.is stands in
+    let low = (c.begin.ensures.most worn).1 in
+    let generation = f.generation in
+    let most = f.head.is.most in
+    omega arith
+
+pub returns-clause-begun : goal.returns-clause-begun
+returns-clause-begun g c = λ tells s stands.
+    let files = g.D.Disk.files in
+    let was = c.self.inside in
+    let f = files_stand files c.args.self.now was.sup was.disk was.phase c.in-Open.files s c.self.view_is c.in-Open.is stands in
+    if_ok_both c.begin.result _ _ _
+    (λ goal begun run. (begun.2 ∙ ap (λ k. k + 1) f.generation, open_run files was.sup c.begin.new.disk c.begin.new.self s _ (run s f)))
+    c.begin.ensures.begun (c.begin.ensures.run tells)
+
+pub returns-clause-stands : goal.returns-clause-stands
+returns-clause-stands g c = λ tells s stands.
+    let was = c.self.inside in
+    beside_stands g.D.Disk.files c.args.self.now was.sup was.disk c.begin.new.disk was.phase c.in-Open.files c.begin.new.self s c.self.view_is c.in-Open.is c.begin.ensures.keeps (c.begin.ensures.others tells) stands
+
+pub returns-clause-deletes : goal.returns-clause-deletes
+returns-clause-deletes g c = λ tells at may.
+    let was = c.self.inside in
+    beside_deletes g.D.Disk.files c.args.self.now was.sup was.disk c.begin.new.disk was.phase c.in-Open.files c.begin.new.self at c.self.view_is c.in-Open.is
+    (λ stuck. let same = c.begin.ensures.frozen stuck in (same.1, same.2)) (c.self.invariant.0 tells) c.begin.ensures.keeps (c.begin.ensures.others tells) may

@@ -1,0 +1,36 @@
+use Rattle.hay_physical.proofs.Views.{if_err_so, on_ok_one}
+use Rattle.hay_physical.proofs.RunViews.{beside_deletes, beside_stands, ends_run, files_run, files_peek, open_run}
+use Rattle.hay_physical.specs.Runs.{stepped}
+use Rattle.hay_physical.proofs.replica.Replica.copy.Goals as goal
+
+pub returns-clause-run : goal.returns-clause-run
+returns-clause-run g c = λ tells s run has last.
+    let files = g.D.Disk.files in
+    let was = c.self.inside in
+    on_ok_one c.copy.result _ _ (λ r. open_run files was.sup c.copy.new.disk c.copy.new.self s (stepped run) r)
+    (c.copy.ensures.run tells was.sup s run (files_peek files c.args.self.now was.sup was.disk was.phase c.in-Open.files s run c.args.cell c.self.view_is c.in-Open.is has) last)
+
+pub returns-clause-memory : goal.returns-clause-memory
+returns-clause-memory g c = λ tells wants s run has.
+    let files = g.D.Disk.files in
+    let was = c.self.inside in
+    open_run files was.sup c.copy.new.disk c.copy.new.self s run
+    (c.copy.ensures.memory tells wants was.sup s run (files_run files c.args.self.now was.sup was.disk was.phase c.in-Open.files s run c.self.view_is c.in-Open.is has))
+
+pub returns-clause-stands : goal.returns-clause-stands
+returns-clause-stands g c = λ tells s stands.
+    let was = c.self.inside in
+    beside_stands g.D.Disk.files c.args.self.now was.sup was.disk c.copy.new.disk was.phase c.in-Open.files c.copy.new.self s c.self.view_is c.in-Open.is c.copy.ensures.keeps
+    (c.copy.ensures.others tells) stands
+
+pub returns-clause-deletes : goal.returns-clause-deletes
+returns-clause-deletes g c = λ tells at may.
+    let was = c.self.inside in
+    beside_deletes g.D.Disk.files c.args.self.now was.sup was.disk c.copy.new.disk was.phase c.in-Open.files c.copy.new.self at c.self.view_is c.in-Open.is
+    (λ stuck. let same = c.copy.ensures.frozen stuck in (same.1, same.2)) (c.self.invariant.0 tells) c.copy.ensures.keeps
+    (c.copy.ensures.others tells) may
+
+pub returns-clause-ends : goal.returns-clause-ends
+returns-clause-ends g c =
+    let was = c.self.inside in
+    if_err_so c.copy.result _ _ (λ why ends. ends_run why (g.D.Disk.fault_count c.copy.new.disk) c.args.self.now was.sup was.disk c.copy.new.disk was.phase c.in-Open.files c.copy.new.self c.self.view_is c.in-Open.is ends) c.copy.ensures.err

@@ -1,0 +1,68 @@
+use Rattle.std.proofs.Common.{◌≡◌, inl, inr, Bool, sym, ap, subst}
+use Rattle.std.proofs.lemmas.Bool.{cases_Bool}
+use Rattle.hay_disk.specs.Disk.{FileState}
+use Rattle.hay_volume.specs.declared.volume.VolumeFile.{VolumeFile}
+use Rattle.hay_physical.specs.declared.state.OpenFiles.{OpenFiles}
+use Rattle.hay_physical.specs.Replicas.{MayFind, MayFlag}
+use Rattle.hay_physical.proofs.Openings.{on_any}
+use Rattle.hay_physical.proofs.Standing.{on_err}
+use Rattle.hay_physical.proofs.Views.{files_flag, files_going, files_stand, files_stuck, if_ok, if_ok_so, on_err_so, open_deletes, open_stands}
+use Rattle.hay_physical.proofs.RunViews.{files_run, place_deletes}
+use Rattle.hay_physical.proofs.replica.Replica.finish.Goals as goal
+
+pub returns-clause-swapped : goal.returns-clause-swapped
+returns-clause-swapped g c = λ tells s run stands has none.
+    let files = g.D.Disk.files in
+    let was = c.self.inside in
+    let f = files_stand files c.args.self.now was.sup was.disk was.phase c.in-Open.files s c.self.view_is c.in-Open.is stands in
+    let r = files_run files c.args.self.now was.sup was.disk was.phase c.in-Open.files s run c.self.view_is c.in-Open.is has in
+    if_ok c.finish.result _ _ _
+    (λ places made going. (made.0, made.1, made.2, open_stands files was.sup c.finish.new.disk c.finish.new.self made.0 going.0 made.3, made.4))
+    (c.finish.ensures.swapped tells was.sup s run f r none) c.finish.ensures.open
+
+pub returns-clause-can_delete : goal.returns-clause-can_delete
+returns-clause-can_delete g c = λ tells.
+    if_ok_so c.finish.result _ _ (λ places flags pair. place_deletes g.D.Disk.files c.self.inside.sup c.finish.new.disk c.finish.new.self _ (flags pair)) (c.finish.ensures.flags tells)
+
+pub returns-clause-refused : goal.returns-clause-refused
+returns-clause-refused g c = λ tells s run stands has none.
+    let files = g.D.Disk.files in
+    let was = c.self.inside in
+    let f = files_stand files c.args.self.now was.sup was.disk was.phase c.in-Open.files s c.self.view_is c.in-Open.is stands in
+    let going = files_going files c.args.self.now was.sup was.disk was.phase c.in-Open.files s c.self.view_is c.in-Open.is stands in
+    let r = files_run files c.args.self.now was.sup was.disk was.phase c.in-Open.files s run c.self.view_is c.in-Open.is has in
+    let stuck = files_stuck c.args.self.now was.sup was.disk was.phase c.in-Open.files c.self.view_is c.in-Open.is in
+    on_err c.finish.result _ _ _
+    (λ kept unsure. elim (cases_Bool c.finish.new.self.frozen) [
+      | inl frozen ↦ let u = unsure frozen in inr (frozen, (u.0, u.1, u.2, subst (λ (b : Bool). MayFind was.sup (files c.finish.new.disk) b s u.0) stuck u.3))
+      | inr thawed ↦ inl (open_stands files was.sup c.finish.new.disk c.finish.new.self s thawed (kept thawed))
+    ])
+    (c.finish.ensures.kept tells was.sup s going f) (c.finish.ensures.unsure tells was.sup s run going f r none)
+
+pub returns-clause-kept : goal.returns-clause-kept
+returns-clause-kept g c = λ tells s stands.
+    let files = g.D.Disk.files in
+    let was = c.self.inside in
+    let f = files_stand files c.args.self.now was.sup was.disk was.phase c.in-Open.files s c.self.view_is c.in-Open.is stands in
+    let going = files_going files c.args.self.now was.sup was.disk was.phase c.in-Open.files s c.self.view_is c.in-Open.is stands in
+    on_err_so c.finish.result _ _ (λ kept up. open_stands files was.sup c.finish.new.disk c.finish.new.self s up (kept up)) (c.finish.ensures.kept tells was.sup s going f)
+
+pub returns-clause-deletes : goal.returns-clause-deletes
+returns-clause-deletes g c = λ tells at may.
+    let files = g.D.Disk.files in
+    let was = c.self.inside in
+    let opened = c.in-Open.files in
+    let flag = files_flag files c.args.self.now was.sup was.disk was.phase opened at c.self.view_is c.in-Open.is may in
+    elim (cases_Bool opened.frozen) [
+      | inl frozen ↦
+          let same = c.finish.ensures.frozen frozen in
+          on_any c.finish.result _ (open_deletes files was.sup c.finish.new.disk c.finish.new.self at
+          (subst (λ (d : _). MayFlag (files d c.finish.new.self.volume.file) c.finish.new.self.volume.end at) (sym same.2) (subst (λ (o : OpenFiles). MayFlag (files was.disk o.volume.file) o.volume.end at) (sym same.1) flag)))
+      | inr going ↦
+          on_err c.finish.result _ _ _
+          (λ same file.
+          let volume : c.finish.new.self.volume ≡ opened.volume = ap (λ (o : OpenFiles). o.volume) same in
+          open_deletes files was.sup c.finish.new.disk c.finish.new.self at
+          (subst (λ (v : VolumeFile). MayFlag (files c.finish.new.disk v.file) v.end at) (sym volume) (subst (λ (x : FileState). MayFlag x opened.volume.end at) (sym file) flag)))
+          c.finish.ensures.same (c.finish.ensures.volume tells going)
+    ]

@@ -1,0 +1,56 @@
+use Rattle.std.proofs.Common.{ap}
+use Rattle.hay_disk.specs.Disk.{Files}
+use Rattle.hay_physical.proofs.Views.{if_err_so, if_ok_some, on_ok_one}
+use Rattle.hay_physical.proofs.RunViews.{beside_deletes, beside_stands, ends_run, files_run, open_next, open_run, peek_pair}
+use Rattle.hay_physical.proofs.replica.Replica.peek.Goals as goal
+
+pub returns-clause-next : goal.returns-clause-next
+returns-clause-next g c = λ tells s run has.
+    let files = g.D.Disk.files in
+    let was = c.self.inside in
+    let r = files_run files c.args.self.now was.sup was.disk was.phase c.in-Open.files s run c.self.view_is c.in-Open.is has in
+    if_ok_some c.peek.result _ _
+    (λ head p. (open_next files was.sup c.peek.new.disk c.peek.new.self s run head p, peek_pair was.sup (files c.peek.new.disk) c.peek.new.self s run head p))
+    (c.peek.ensures.next tells was.sup s run r)
+
+pub returns-clause-all : goal.returns-clause-all
+returns-clause-all g c = λ tells s run has.
+    let was = c.self.inside in
+    c.peek.ensures.all tells was.sup s run (files_run g.D.Disk.files c.args.self.now was.sup was.disk was.phase c.in-Open.files s run c.self.view_is c.in-Open.is has)
+
+pub returns-clause-whole : goal.returns-clause-whole
+returns-clause-whole g c = λ tells s run has.
+    let was = c.self.inside in
+    c.peek.ensures.whole tells was.sup s run (files_run g.D.Disk.files c.args.self.now was.sup was.disk was.phase c.in-Open.files s run c.self.view_is c.in-Open.is has)
+
+pub returns-clause-run : goal.returns-clause-run
+returns-clause-run g c = λ tells s run has.
+    let files = g.D.Disk.files in
+    let was = c.self.inside in
+    on_ok_one c.peek.result _ _ (λ r. open_run files was.sup c.peek.new.disk c.peek.new.self s run r)
+    (c.peek.ensures.run tells was.sup s run (files_run files c.args.self.now was.sup was.disk was.phase c.in-Open.files s run c.self.view_is c.in-Open.is has))
+
+pub returns-clause-memory : goal.returns-clause-memory
+returns-clause-memory g c = λ tells wants s run has.
+    let files = g.D.Disk.files in
+    let was = c.self.inside in
+    open_run files was.sup c.peek.new.disk c.peek.new.self s run
+    (c.peek.ensures.memory tells wants was.sup s run (files_run files c.args.self.now was.sup was.disk was.phase c.in-Open.files s run c.self.view_is c.in-Open.is has))
+
+pub returns-clause-stands : goal.returns-clause-stands
+returns-clause-stands g c = λ tells s stands.
+    let was = c.self.inside in
+    beside_stands g.D.Disk.files c.args.self.now was.sup was.disk c.peek.new.disk was.phase c.in-Open.files c.peek.new.self s c.self.view_is c.in-Open.is c.peek.ensures.keeps
+    (λ other first second. ap (λ (f : Files). f other) (c.peek.ensures.files tells)) stands
+
+pub returns-clause-deletes : goal.returns-clause-deletes
+returns-clause-deletes g c = λ tells at may.
+    let was = c.self.inside in
+    beside_deletes g.D.Disk.files c.args.self.now was.sup was.disk c.peek.new.disk was.phase c.in-Open.files c.peek.new.self at c.self.view_is c.in-Open.is
+    (λ stuck. let same = c.peek.ensures.frozen stuck in (same.1, same.2)) (c.self.invariant.0 tells) c.peek.ensures.keeps
+    (λ other first second. ap (λ (f : Files). f other) (c.peek.ensures.files tells)) may
+
+pub returns-clause-ends : goal.returns-clause-ends
+returns-clause-ends g c =
+    let was = c.self.inside in
+    if_err_so c.peek.result _ _ (λ why ends. ends_run why (g.D.Disk.fault_count c.peek.new.disk) c.args.self.now was.sup was.disk c.peek.new.disk was.phase c.in-Open.files c.peek.new.self c.self.view_is c.in-Open.is ends) c.peek.ensures.err

@@ -1,0 +1,39 @@
+use Rattle.std.proofs.Common.{◌≡◌, refl, sym, ◌∙◌}
+use Rattle.hay_compact.specs.Copying.{stored_of}
+use Rattle.hay_physical.specs.declared.state.Copier.TheVariants.{Standing}
+use Rattle.hay_physical.proofs.Views.{if_ok_so, on_err_so}
+use Rattle.hay_physical.proofs.RunLaws.{copying_at, stand_with}
+use Rattle.hay_physical.proofs.SwapLaws.{run_swaps, run_tight}
+use Rattle.hay_compact.proofs.Copyings.{making_of}
+use Rattle.hay_physical.proofs.state.OpenFiles.finish.Goals as goal
+
+pub returns-in-Standing-clause-swapped : goal.returns-in-Standing-clause-swapped
+returns-in-Standing-clause-swapped g c = λ tells sup s run f r none.
+    let files = g.D.Disk.files c.args.disk.now in
+    let opened = c.args.self.now in
+    let is : opened.copier ≡ Standing c.in-Standing.compactor = sym c.replace.ensures.value ∙ c.in-Standing.is in
+    let h = copying_at sup files opened s run c.in-Standing.compactor r is in
+    if_ok_so c.make_current-answer.result _ _
+    (λ places made. (
+      stored_of c.in-Standing.compactor r.fresh,
+      run_swaps sup files opened s run c.in-Standing.compactor f r is none c.make_current-answer.ensures.behind,
+      run_tight sup files opened s run c.in-Standing.compactor r none,
+      stand_with sup (g.D.Disk.files c.make_current-answer.new.disk) c.make_current-answer.new.self _ (stored_of c.in-Standing.compactor r.fresh) made.0 refl,
+      made.1,
+    ))
+    (c.make_current-answer.ensures.stands tells sup s r.fresh (stand_with sup files opened _ s f refl) (making_of sup files opened.volume c.in-Standing.compactor s.cells r.fresh r.examined h))
+
+pub returns-in-Standing-clause-unsure : goal.returns-in-Standing-clause-unsure
+returns-in-Standing-clause-unsure g c = λ tells sup s run going f r none.
+    let files = g.D.Disk.files c.args.disk.now in
+    let opened = c.args.self.now in
+    let is : opened.copier ≡ Standing c.in-Standing.compactor = sym c.replace.ensures.value ∙ c.in-Standing.is in
+    let h = copying_at sup files opened s run c.in-Standing.compactor r is in
+    on_err_so c.make_current-answer.result _ _
+    (λ finds frozen. (
+      stored_of c.in-Standing.compactor r.fresh,
+      run_swaps sup files opened s run c.in-Standing.compactor f r is none c.make_current-answer.ensures.behind,
+      run_tight sup files opened s run c.in-Standing.compactor r none,
+      finds frozen,
+    ))
+    (c.make_current-answer.ensures.unsure tells sup s r.fresh (stand_with sup files opened _ s f refl) (making_of sup files opened.volume c.in-Standing.compactor s.cells r.fresh r.examined h))

@@ -1,0 +1,72 @@
+use Rattle.std.proofs.Common.{sym, ap, ◌∙◌, subst}
+use Rattle.hay_compact.specs.Finishing.{AreThePlaces}
+use Rattle.hay_disk.specs.Disk.{Files}
+use Rattle.hay_physical.specs.declared.state.OpenFiles.{OpenFiles}
+use Rattle.hay_physical.specs.Replicas.{FilesReady, FilesStand}
+use Rattle.hay_physical.proofs.Views.{by_result, if_ok, if_ok_unit, on_ok_both}
+use Rattle.hay_physical.proofs.Standing.{on_err}
+use Rattle.hay_physical.proofs.SwapLaws.{made_kept, old_apart, old_index_apart, swap_finds, swap_flags, swap_ready, swap_stands, unfrozen_ready, unfrozen_stands}
+use Rattle.hay_physical.proofs.state.OpenFiles.make_current.Goals as goal
+
+pub returns-in-Ok-clause-open : goal.returns-in-Ok-clause-open
+returns-in-Ok-clause-open g c =
+    if_ok_unit c.swap.result _ _ (λ places is. (ap (λ (o : OpenFiles). o.frozen) is.1 ∙ c.requires.open, ap (λ (o : OpenFiles). o.index.frozen) is.1 ∙ c.in-Ok.ensures.thawed)) c.swap.ensures.swapped
+
+pub returns-in-Ok-clause-stands : goal.returns-in-Ok-clause-stands
+returns-in-Ok-clause-stands g c = λ tells sup s fresh f making.
+    let files = g.D.Disk.files in
+    let fin = c.in-Ok.ensures.finished tells sup fresh making in
+    let switches = c.swap.ensures.switches tells (old_apart (files c.args.disk.now) c.args.self.now (c.requires.ready tells)) (old_index_apart (files c.args.disk.now) c.args.self.now (c.requires.ready tells)) in
+    if_ok c.swap.result _ _ _
+    (λ places is both. (
+      swap_stands g.D.Piece.Piece.Tells sup (files c.args.disk.now) (files c.finish.new.disk) (files c.swap.new.disk) c.args.self.now c.swap.new.self s c.args.compactor fresh c.in-Ok.finished f (c.finish.ensures.others tells) c.requires.next fin is.1 both.0 both.1,
+      subst (λ x. AreThePlaces g.D.Piece.Piece.Tells fresh x.items) (sym is.0) fin.places,
+    ))
+    c.swap.ensures.swapped (on_ok_both c.swap.result _ _ switches (c.swap.ensures.others tells))
+
+pub returns-in-Ok-clause-flags : goal.returns-in-Ok-clause-flags
+returns-in-Ok-clause-flags g c = λ tells.
+    let files = g.D.Disk.files in
+    let m = c.requires.making tells in
+    let fin = c.in-Ok.ensures.finished tells m.sup m.fresh m.making in
+    if_ok c.swap.result _ _ _
+    (λ places is but pair.
+    swap_flags g.D.Piece.Piece.Tells m.sup (files c.finish.new.disk) (files c.swap.new.disk) c.args.self.now c.swap.new.self c.args.compactor m.fresh c.in-Ok.finished pair _ fin is.1
+    (made_kept (files c.args.disk.now) (files c.finish.new.disk) (files c.swap.new.disk) c.args.self.now c.args.compactor (c.requires.ready tells) c.requires.next but)
+    (subst (λ x. AreThePlaces g.D.Piece.Piece.Tells m.fresh x.items) (sym is.0) fin.places pair))
+    c.swap.ensures.swapped (c.swap.ensures.others tells)
+
+pub returns-in-Ok-clause-ready : goal.returns-in-Ok-clause-ready
+returns-in-Ok-clause-ready g c = λ tells going.
+    let files = g.D.Disk.files in
+    let m = c.requires.making tells in
+    let r = c.requires.ready tells in
+    let fin = c.in-Ok.ensures.finished tells m.sup m.fresh m.making in
+    let switches = c.swap.ensures.switches tells (old_apart (files c.args.disk.now) c.args.self.now r) (old_index_apart (files c.args.disk.now) c.args.self.now r) in
+    by_result c.swap.result (FilesReady (files c.swap.new.disk) c.swap.new.self)
+    (if_ok c.swap.result _ _ _
+    (λ places is both.
+    swap_ready g.D.Piece.Piece.Tells m.sup (files c.finish.new.disk) (files c.swap.new.disk) c.args.self.now c.swap.new.self c.args.compactor m.fresh c.in-Ok.finished c.requires.next fin is.1 both.0
+    (made_kept (files c.args.disk.now) (files c.finish.new.disk) (files c.swap.new.disk) c.args.self.now c.args.compactor r c.requires.next both.1))
+    c.swap.ensures.swapped (on_ok_both c.swap.result _ _ switches (c.swap.ensures.others tells)))
+    (on_err c.swap.result _ _ _
+    (λ is kept. subst (λ (f : Files). FilesReady f c.swap.new.self) (sym (kept going)) (unfrozen_ready (files c.args.disk.now) (files c.finish.new.disk) c.args.self.now c.swap.new.self c.args.compactor r (c.finish.ensures.others tells) c.requires.next is))
+    c.swap.ensures.err (c.swap.ensures.kept tells))
+
+pub returns-in-Ok-clause-kept : goal.returns-in-Ok-clause-kept
+returns-in-Ok-clause-kept g c = λ tells sup s f.
+    let files = g.D.Disk.files in
+    on_err c.swap.result _ _ _
+    (λ is kept going. subst (λ (x : Files). FilesStand sup x c.swap.new.self s) (sym (kept going)) (unfrozen_stands sup (files c.args.disk.now) (files c.finish.new.disk) c.args.self.now c.swap.new.self c.args.compactor s f (c.finish.ensures.others tells) c.requires.next is))
+    c.swap.ensures.err (c.swap.ensures.kept tells)
+
+pub returns-in-Ok-clause-unsure : goal.returns-in-Ok-clause-unsure
+returns-in-Ok-clause-unsure g c = λ tells sup s fresh f making.
+    let files = g.D.Disk.files in
+    let fin = c.in-Ok.ensures.finished tells sup fresh making in
+    on_err c.swap.result _ _ _
+    (λ left rest froze. swap_finds g.D.Piece.Piece.Tells sup (files c.args.disk.now) (files c.finish.new.disk) (files c.swap.new.disk) c.args.self.now s c.args.compactor fresh c.in-Ok.finished f (c.finish.ensures.others tells) c.requires.next fin left rest)
+    (c.swap.ensures.left tells) (c.swap.ensures.err_others tells)
+
+pub returns-in-Ok-clause-moved : goal.returns-in-Ok-clause-moved
+returns-in-Ok-clause-moved g c = if_ok_unit c.swap.result _ _ (λ places is. ap (λ (o : OpenFiles). o.head.generation) is.1) c.swap.ensures.swapped

@@ -1,0 +1,212 @@
+//! A compaction of a replica.
+
+ghost use Rattle.std.specs.Prelude.{◌≡◌, ◌⊎◌, ◌≤◌, ◌+◌, ℕ, Bool, true, false, length, Option, Some, None, Err, IfOk, IfErr, IfSome, IfNone, OnOk, OnErr, IsErrOf};
+ghost use Rattle.hay_needle.specs.declared.needle.Pair.{Pair};
+ghost use Rattle.hay_map.specs.declared.place.Place.TheVariants as place;
+ghost use Rattle.hay_map.specs.Rows.{last_place};
+ghost use Rattle.hay_open.specs.Stored.{Stored};
+ghost use Rattle.hay_compact.specs.Copying.{IsLatest};
+ghost use Rattle.hay_compact.specs.Finishing.{AreThePlaces};
+ghost use Rattle.hay_physical.specs.Copies.{IsFrozen, IsOpen, IsUp, faults_at_end, generation_of, goal_of, is_frozen, is_stuck};
+ghost use Rattle.hay_physical.specs.Faults.{IsBeginFault, IsPeekFault, IsRunFault};
+ghost use Rattle.hay_physical.specs.Replicas.{Holds, MayDelete, MayDeletePlace, Stands};
+ghost use Rattle.hay_physical.specs.Runs.{EndsRun, HasNext, HasPair, HasRun, IsPeeked, IsTight, Run, Swaps, stepped};
+
+use crate::fault::ReplicaFault;
+use crate::replica::Replica;
+use crate::state::{Copier, Phase};
+use hay_disk::Disk;
+use hay_map::OpenCell;
+use hay_needle::CellHead;
+use std::alloc::Global;
+
+impl<D: Disk> Replica<D> {
+    /// Begins a compaction, and answers the generation that it makes. `Busy` comes exactly where one stands, and `Worn` where
+    /// the generation is the last one. A refusal leaves none.
+    pub fn begin(&mut self, alloc: Global) -> Result<u64, ReplicaFault>
+        requires open { IsOpen self.old }
+
+        ensures frozen { IsFrozen self.old → (result ≡ Err ReplicaFault.Frozen) × (self.new ≡ self.old) }
+        ensures thawed { IsErrOf result ReplicaFault.Frozen → IsFrozen self.old }
+        ensures busy { (goal : ℕ) → IsUp self.old → goal_of self.old ≡ Some goal → (result ≡ Err (ReplicaFault.Busy goal)) × (self.new ≡ self.old) }
+        ensures idle { (goal : ℕ) → result ≡ Err (ReplicaFault.Busy goal) → goal_of self.old ≡ Some goal }
+        ensures worn { IsUp self.old → goal_of self.old ≡ None → 65535 ≤ generation_of self.old → (result ≡ Err ReplicaFault.Worn) × (self.new ≡ self.old) }
+        ensures most { IsErrOf result ReplicaFault.Worn → (goal_of self.old ≡ None) × (65535 ≤ generation_of self.old) }
+        ensures last { D.Tells → (s : Stored) → Stands D.files self.old s → IsErrOf result ReplicaFault.Worn → s.generation ≡ 65535 }
+
+        // The photos stand as they stood, and all cells are to be examined.
+        ensures begun { D.Tells → (s : Stored) → Stands D.files self.old s →
+            IfOk result (λ goal. (goal ≡ s.generation + 1) × HasRun D.files self.new s (Some (record { goal = goal; left = length s.cells; tight = true }))) }
+        ensures goal { IfOk result (λ goal. (goal ≡ generation_of self.old + 1) × (goal_of self.old ≡ None) × (goal_of self.new ≡ Some goal)) }
+        ensures stands { D.Tells → (s : Stored) → Stands D.files self.old s → Stands D.files self.new s }
+        ensures deletes { D.Tells → (place : ℕ) → MayDelete D.files self.old place → MayDelete D.files self.new place }
+        ensures up { OnOk result (IsUp self.new) }
+        ensures kept { OnErr result (self.new.phase ≡ self.old.phase) }
+        ensures open { IsOpen self.new }
+        ensures same { is_frozen self.new ≡ is_frozen self.old }
+        ensures stuck { is_stuck self.new ≡ is_stuck self.old }
+
+        ensures causes { IfErr result (IsBeginFault (D.fault_count self.old.disk) (D.fault_count self.new.disk)) }
+        ensures counts { D.fault_count self.old.disk ≤ D.fault_count self.new.disk }
+        ensures fuses { D.fuse_count self.new.disk ≡ D.fuse_count self.old.disk }
+        ensures sup { self.new.sup ≡ self.old.sup }
+    {
+        match &mut self.phase {
+            Phase::Open(files) => files.begin(alloc, &mut self.disk, &self.sup),
+            Phase::Closed => unreachable!(),
+        }
+    }
+
+    /// The generation that a compaction makes, if one stands.
+    pub fn standing(&self) -> Option<u64>
+        ensures is { result ≡ goal_of self.now }
+    {
+        match &self.phase {
+            Phase::Open(files) => match &files.copier {
+                Copier::Standing(compactor) => Some(compactor.generation()),
+                Copier::Ended { .. } => None,
+            },
+            Phase::Closed => None,
+        }
+    }
+
+    /// The next cell that the compaction is to examine, or none at the end of the current volume file. `Ended` comes exactly
+    /// where no compaction stands. `Failed` and `Damaged` end it.
+    pub fn peek(&mut self) -> Result<Option<CellHead>, ReplicaFault>
+        requires open { IsOpen self.old }
+
+        ensures frozen { IsFrozen self.old → (result ≡ Err ReplicaFault.Frozen) × (self.new ≡ self.old) }
+        ensures thawed { IsErrOf result ReplicaFault.Frozen → IsFrozen self.old }
+        ensures ended { IsUp self.old → goal_of self.old ≡ None → (result ≡ Err (ReplicaFault.Ended (faults_at_end self.old))) × (self.new ≡ self.old) }
+        ensures none { (faults : ℕ) → result ≡ Err (ReplicaFault.Ended faults) → goal_of self.old ≡ None }
+
+        // On any disk the cell may be copied. Where the disk tells, its pair has a last cell.
+        ensures peeked { IfOk result (λ next. IfSome next (λ head. IsPeeked self.new head)) }
+        ensures next { D.Tells → (s : Stored) (run : Run) → HasRun D.files self.old s (Some run) →
+            IfOk result (λ next. IfSome next (λ head. HasNext D.files self.new s run head × HasPair s.cells head.pair)) }
+        ensures all { D.Tells → (s : Stored) (run : Run) → HasRun D.files self.old s (Some run) →
+            IfOk result (λ next. IfNone next (run.left ≡ 0)) }
+        ensures whole { D.Tells → (s : Stored) (run : Run) → HasRun D.files self.old s (Some run) →
+            (at : ℕ) → result ≡ Err (ReplicaFault.Damaged at) → ⊥ }
+
+        // It stands where it stood, unless a failure or damage ended it.
+        ensures run { D.Tells → (s : Stored) (run : Run) → HasRun D.files self.old s (Some run) → OnOk result (HasRun D.files self.new s (Some run)) }
+        ensures memory { D.Tells → IsErrOf result ReplicaFault.NoMemory → (s : Stored) (run : Run) → HasRun D.files self.old s (Some run) → HasRun D.files self.new s (Some run) }
+        ensures goal { OnOk result (goal_of self.new ≡ goal_of self.old) }
+        ensures ends { IfErr result (EndsRun (D.fault_count self.new.disk) self.old self.new) }
+        ensures stands { D.Tells → (s : Stored) → Stands D.files self.old s → Stands D.files self.new s }
+        ensures deletes { D.Tells → (place : ℕ) → MayDelete D.files self.old place → MayDelete D.files self.new place }
+        ensures open { IsOpen self.new }
+        ensures same { is_frozen self.new ≡ is_frozen self.old }
+        ensures stuck { is_stuck self.new ≡ is_stuck self.old }
+
+        ensures causes { IfErr result (IsPeekFault (D.fault_count self.old.disk) (D.fault_count self.new.disk)) }
+        ensures counts { D.fault_count self.old.disk ≤ D.fault_count self.new.disk }
+        ensures fuses { D.fuse_count self.new.disk ≡ D.fuse_count self.old.disk }
+        ensures sup { self.new.sup ≡ self.old.sup }
+    {
+        match &mut self.phase {
+            Phase::Open(files) => files.peek(&mut self.disk),
+            Phase::Closed => unreachable!(),
+        }
+    }
+
+    /// Examines the cell that `peek` gave: it is copied if it is not deleted and `latest` is its place. `latest` is the place of
+    /// the last cell of its pair, or none where that cell is deleted. `NoMemory` leaves the compaction where it stood, and
+    /// `Failed` ends it.
+    pub fn copy(&mut self, cell: CellHead, latest: Option<u64>) -> Result<(), ReplicaFault>
+        requires open { IsOpen self.old }
+        requires peeked { IsUp self.old → IsPeeked self.old cell }
+
+        ensures frozen { IsFrozen self.old → (result ≡ Err ReplicaFault.Frozen) × (self.new ≡ self.old) }
+        ensures thawed { IsErrOf result ReplicaFault.Frozen → IsFrozen self.old }
+        ensures ended { IsUp self.old → goal_of self.old ≡ None → (result ≡ Err (ReplicaFault.Ended (faults_at_end self.old))) × (self.new ≡ self.old) }
+        ensures none { (faults : ℕ) → result ≡ Err (ReplicaFault.Ended faults) → goal_of self.old ≡ None }
+
+        // One cell less is left.
+        ensures run { D.Tells → (s : Stored) (run : Run) → HasNext D.files self.old s run cell → IsLatest s.cells cell.pair latest →
+            OnOk result (HasRun D.files self.new s (Some (stepped run))) }
+        ensures memory { D.Tells → IsErrOf result ReplicaFault.NoMemory → (s : Stored) (run : Run) → HasRun D.files self.old s (Some run) → HasRun D.files self.new s (Some run) }
+        ensures goal { OnOk result (goal_of self.new ≡ goal_of self.old) }
+        ensures ends { IfErr result (EndsRun (D.fault_count self.new.disk) self.old self.new) }
+        ensures stands { D.Tells → (s : Stored) → Stands D.files self.old s → Stands D.files self.new s }
+        ensures deletes { D.Tells → (place : ℕ) → MayDelete D.files self.old place → MayDelete D.files self.new place }
+        ensures open { IsOpen self.new }
+        ensures same { is_frozen self.new ≡ is_frozen self.old }
+        ensures stuck { is_stuck self.new ≡ is_stuck self.old }
+
+        ensures causes { IfErr result (IsRunFault (D.fault_count self.old.disk) (D.fault_count self.new.disk)) }
+        ensures counts { D.fault_count self.old.disk ≤ D.fault_count self.new.disk }
+        ensures fuses { D.fuse_count self.new.disk ≡ D.fuse_count self.old.disk }
+        ensures sup { self.new.sup ≡ self.old.sup }
+    {
+        match &mut self.phase {
+            Phase::Open(files) => files.copy(&mut self.disk, cell, latest),
+            Phase::Closed => unreachable!(),
+        }
+    }
+
+    /// Ends a compaction whose cells are all examined, and makes its files the current ones. Answers the places of the photos:
+    /// a pair that is not listed has none. The old files are taken away then; where that fails they stay, and it is no refusal.
+    ///
+    /// Any refusal ends the compaction. `Failed` freezes the replica where the head may name either generation.
+    pub fn finish(&mut self) -> Result<Vec<OpenCell<D::Piece>>, ReplicaFault>
+        requires open { IsOpen self.old }
+
+        ensures frozen { IsFrozen self.old → (result ≡ Err ReplicaFault.Frozen) × (self.new ≡ self.old) }
+        ensures thawed { IsErrOf result ReplicaFault.Frozen → IsFrozen self.old }
+        ensures ended { IsUp self.old → goal_of self.old ≡ None → (result ≡ Err (ReplicaFault.Ended (faults_at_end self.old))) × (self.new ≡ self.old) }
+        ensures none { (faults : ℕ) → result ≡ Err (ReplicaFault.Ended faults) → goal_of self.old ≡ None }
+
+        // The replica stands for the cells that were copied.
+        ensures swapped { D.Tells → (s : Stored) (run : Run) → Stands D.files self.old s → HasRun D.files self.old s (Some run) → run.left ≡ 0 →
+            IfOk result (λ places. (t : Stored) × Swaps s t × IsTight run s t × Stands D.files self.new t × AreThePlaces D.Piece.Tells t.cells places.items) }
+        ensures moved { OnOk result (generation_of self.new ≡ generation_of self.old + 1) }
+        ensures up { OnOk result (IsUp self.new) }
+        ensures going { OnOk result (is_stuck self.new ≡ false) }
+        ensures can_delete { D.Tells → IfOk result (λ places. (pair : Pair) → MayDeletePlace D.files self.new (last_place places.items pair place.Gone)) }
+
+        // A refusal leaves the photos, or a frozen replica, on whose disk stands what stood or what was to stand.
+        ensures refused { D.Tells → (s : Stored) (run : Run) → Stands D.files self.old s → HasRun D.files self.old s (Some run) → run.left ≡ 0 →
+            OnErr result (Stands D.files self.new s
+            ⊎ (IsFrozen self.new × ((t : Stored) × Swaps s t × IsTight run s t × Holds D.files self.new (is_stuck self.old) s t))) }
+        ensures kept { D.Tells → (s : Stored) → Stands D.files self.old s → OnErr result (IsUp self.new → Stands D.files self.new s) }
+        ensures froze { IsUp self.old → IsFrozen self.new → result ≡ Err (ReplicaFault.Failed (D.fault_count self.new.disk)) }
+        ensures still { OnErr result ((is_stuck self.new ≡ is_stuck self.old) × (generation_of self.new ≡ generation_of self.old)) }
+        ensures deletes { D.Tells → (place : ℕ) → MayDelete D.files self.old place → OnErr result (MayDelete D.files self.new place) }
+        ensures goal { goal_of self.new ≡ None }
+        ensures faults { (goal : ℕ) → IsUp self.old → goal_of self.old ≡ Some goal → faults_at_end self.new ≡ D.fault_count self.new.disk }
+        ensures open { IsOpen self.new }
+
+        ensures causes { IfErr result (IsRunFault (D.fault_count self.old.disk) (D.fault_count self.new.disk)) }
+        ensures counts { D.fault_count self.old.disk ≤ D.fault_count self.new.disk }
+        ensures fuses { D.fuse_count self.new.disk ≡ D.fuse_count self.old.disk }
+        ensures sup { self.new.sup ≡ self.old.sup }
+    {
+        match &mut self.phase {
+            Phase::Open(files) => files.finish(&mut self.disk),
+            Phase::Closed => unreachable!(),
+        }
+    }
+
+    /// Lets go of a compaction that stands. The disk is not called.
+    pub fn drop_run(&mut self)
+        ensures goal { goal_of self.new ≡ None }
+        ensures faults { (goal : ℕ) → goal_of self.old ≡ Some goal → faults_at_end self.new ≡ D.fault_count self.new.disk }
+        ensures idle { goal_of self.old ≡ None → self.new ≡ self.old }
+        ensures stands { D.Tells → (s : Stored) → Stands D.files self.old s → Stands D.files self.new s }
+        ensures holds { D.Tells → (stuck : Bool) (s t : Stored) → Holds D.files self.old stuck s t → Holds D.files self.new stuck s t }
+        ensures deletes { D.Tells → (place : ℕ) → MayDelete D.files self.old place → MayDelete D.files self.new place }
+        ensures up { IsUp self.old → IsUp self.new }
+        ensures open { IsOpen self.old → IsOpen self.new }
+        ensures same { is_frozen self.new ≡ is_frozen self.old }
+        ensures stuck { is_stuck self.new ≡ is_stuck self.old }
+        ensures disk { self.new.disk ≡ self.old.disk }
+        ensures sup { self.new.sup ≡ self.old.sup }
+    {
+        match &mut self.phase {
+            Phase::Open(files) => files.end_run(&self.disk),
+            Phase::Closed => {}
+        }
+    }
+}
