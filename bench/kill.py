@@ -1,10 +1,10 @@
 #!/usr/bin/env python3
 """Kills the built program at random moments of a long run over a folder, opens the folder again, and reads every photo.
 
-    bench/kill.py [--program PATH] [--rounds N] [--seed N] [--compact]
+    bench/kill.py [--program PATH] [--rounds N] [--seed N]
 
-A round feeds the program puts, deletes and flushes (with --compact: compactions too) over two machines, two volumes and two
-replicas, and kills it (SIGKILL) at a random moment. What it had printed by then is acknowledged; the one line behind that may
+A round feeds the program puts, deletes, flushes and compactions, in one command and in parts, over two machines, two volumes and
+two replicas, and kills it (SIGKILL) at a random moment. What it had printed by then is acknowledged; the one line behind that may
 have been carried out too. A second run over the folder then reads each pair: it must show what the acknowledged lines, or
 these and the next one, leave, on each replica. Before the rounds, two programs are started on one folder, and the second must
 be refused.
@@ -27,29 +27,29 @@ WORDS = ["run", "--machines", "2", "--volumes", "2", "--replicas", "2"]
 COOKIES = {0: "903df1a0ade0b876"}
 PAIRS = 24
 LINES = 4000
+WORK = ("flush 0 {}", "compact 0 {}", "begin 0 {}", "step 0 {} 5", "step 0 {} 50", "finish 0 {}")
+REPLIES = "stored|deleted|gone|unknown|flushed|begun|stepped|compacted|idle|busy"
 
 
-def script_of(draw, compacts):
+def script_of(draw):
     """Lines of a script, each with the change that it asks for: a pair and its photo, which is none for a delete."""
     lines = []
     for number in range(LINES):
         alt = draw.randrange(1, PAIRS + 1)
         kind = draw.random()
-        if kind < 0.70:
+        if kind < 0.60:
             size = draw.choice((1, 20, 300, 5000))
             photo = f"{number:08x}" + draw.randbytes(size).hex()
             lines.append((f"put 0 {alt} {photo}", (alt, photo)))
-        elif kind < 0.90 or not compacts:
+        elif kind < 0.75:
             lines.append((f"del 0 {alt}", (alt, None)))
-        elif kind < 0.95:
-            lines.append((f"flush 0 {draw.randrange(2)}", None))
         else:
-            lines.append((f"compact 0 {draw.randrange(2)}", None))
+            lines.append((draw.choice(WORK).format(draw.randrange(2)), None))
     return lines
 
 
 def kill_run(program, folder, lines, delay):
-    """Runs the script until it is killed, and answers how many lines were acknowledged by then."""
+    """Runs the script until it is killed, and answers the replies to the lines that were acknowledged by then."""
     with tempfile.TemporaryFile() as out:
         process = subprocess.Popen([program, *WORDS, "--folder", folder], stdin=subprocess.PIPE, stdout=out, stderr=subprocess.DEVNULL)
         os.set_blocking(process.stdin.fileno(), False)
@@ -70,9 +70,9 @@ def kill_run(program, folder, lines, delay):
         replies = out.read().decode("ascii")
     whole = replies[: replies.rfind("\n") + 1].splitlines()[1:]
     for number, reply in enumerate(whole, 1):
-        if not re.match(rf"{number} (stored|deleted|gone|unknown|flushed|compacted) ", reply):
+        if not re.match(rf"{number} ({REPLIES}) ", reply):
             sys.exit(f"a run over real files answered: {reply}")
-    return len(whole)
+    return whole
 
 
 def contents_behind(before, changes):
@@ -141,11 +141,10 @@ def main():
     parser.add_argument("--program", default=str(ROOT / "crates/haystack/out/haystack"))
     parser.add_argument("--rounds", type=int, default=200)
     parser.add_argument("--seed", type=int, default=1)
-    parser.add_argument("--compact", action="store_true", help="with compactions among the lines")
     options = parser.parse_args()
     program = str(Path(options.program).resolve())
     draw = random.Random(options.seed)
-    acknowledged = next_kept = 0
+    acknowledged = compacted = next_kept = 0
     with tempfile.TemporaryDirectory() as scratch:
         try_two(program, os.path.join(scratch, "two"))
         for number in range(options.rounds):
@@ -153,8 +152,9 @@ def main():
             shutil.rmtree(folder, ignore_errors=True)
             before = {}
             for _ in range(draw.randrange(1, 4)):
-                lines = script_of(draw, options.compact)
-                done = kill_run(program, folder, lines, draw.uniform(0.02, 0.6))
+                lines = script_of(draw)
+                replies = kill_run(program, folder, lines, draw.uniform(0.02, 0.6))
+                done = len(replies)
                 changes = [change for _, change in lines]
                 least = contents_behind(before, changes[:done])
                 most = contents_behind(least, changes[done : done + 1])
@@ -167,8 +167,12 @@ def main():
                     break
                 next_kept += drop_gone(found[0]) != drop_gone(least)
                 acknowledged += done
+                compacted += sum(" compacted " in reply for reply in replies)
                 before = found[0]
-    print(f"{options.rounds} rounds: {acknowledged} lines acknowledged, all of them found; {next_kept} times the line under way was kept too")
+    print(
+        f"{options.rounds} rounds: {acknowledged} lines acknowledged, {compacted} of them compactions, and all of them found;"
+        f" {next_kept} times the line under way was kept too"
+    )
 
 
 if __name__ == "__main__":
