@@ -26,19 +26,19 @@ module _ {D P A : Type 0} (faults fuses : D → ℕ) where
   pub put_cause : (old store : Open D P A) (v : ℕ) (before after : Volume D P) (fault : LogicalFault) → store ≡ old → IsShaped store → Called faults fuses store v before after
       → IsPutFault faults before.settings before.number before.replicas after.replicas fault
       → IsPutCause old.settings v (map faults (disks_of old)) (map faults (disks_of (with_one store v after))) fault
-  put_cause old store v before after (ReadOnly m) is shape called h = tt
-  put_cause old store v before after (Full m end need capacity) is shape called h = tt
-  put_cause old store v before after (Failed m count) is shape called h = called_failed faults fuses old store v before after m count is shape called h
-  put_cause old store v before after NoMemory is shape called h = tt
+  put_cause old store v before after (ReadOnly m) is shape called h = (tt, tt)
+  put_cause old store v before after (Full m end need capacity) is shape called h = (tt, tt)
+  put_cause old store v before after (Failed m count) is shape called h = (tt, called_failed faults fuses old store v before after m count is shape called h)
+  put_cause old store v before after NoMemory is shape called h = (tt, tt)
   put_cause old store v before after _ is shape called h = absurd h
 
   pub delete_cause : (old store : Open D P A) (v : ℕ) (before after : Volume D P) (fault : LogicalFault) → store ≡ old → IsShaped store → Called faults fuses store v before after
       → IsDeleteFault faults before.settings before.number before.replicas after.replicas fault
       → IsDeleteCause old.settings v (map faults (disks_of old)) (map faults (disks_of (with_one store v after))) fault
-  delete_cause old store v before after (ReadOnly m) is shape called h = tt
-  delete_cause old store v before after (Gone front) is shape called h = tt
-  delete_cause old store v before after (Failed m count) is shape called h = called_failed faults fuses old store v before after m count is shape called h
-  delete_cause old store v before after NoMemory is shape called h = tt
+  delete_cause old store v before after (ReadOnly m) is shape called h = (tt, tt)
+  delete_cause old store v before after (Gone front) is shape called h = (tt, tt)
+  delete_cause old store v before after (Failed m count) is shape called h = (tt, called_failed faults fuses old store v before after m count is shape called h)
+  delete_cause old store v before after NoMemory is shape called h = (tt, tt)
   delete_cause old store v before after _ is shape called h = absurd h
 
   pub replica_cause : (old store : Open D P A) (v : ℕ) (before after : Volume D P) (fault : LogicalFault) → store ≡ old → IsShaped store → Called faults fuses store v before after
@@ -46,5 +46,5 @@ module _ {D P A : Type 0} (faults fuses : D → ℕ) where
       → IsReplicaCause old.settings v (map faults (disks_of old)) (map faults (disks_of (with_one store v after))) fault
   replica_cause old store v before after (Full m end need capacity) is shape called h = absurd h
   replica_cause old store v before after (Gone front) is shape called h = absurd h
-  replica_cause old store v before after (Failed m count) is shape called h = called_failed faults fuses old store v before after m count is shape called h
-  replica_cause old store v before after _ is shape called h = tt
+  replica_cause old store v before after (Failed m count) is shape called h = (tt, called_failed faults fuses old store v before after m count is shape called h)
+  replica_cause old store v before after _ is shape called h = (tt, tt)

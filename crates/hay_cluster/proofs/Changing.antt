@@ -21,11 +21,11 @@ use Rattle.hay_legal.specs.Known.{Leaves, closed, drained_of, has_risen, home_of
 use Rattle.hay_legal.specs.Plain.{disk_rose, frozen_with, with_del}
 use Rattle.hay_logical.specs.Answers.{DeleteRefused, IsDeleted}
 use Rattle.hay_logical.specs.declared.fault.LogicalFault.{LogicalFault}
-use Rattle.hay_logical.specs.declared.fault.LogicalFault.TheVariants.{ReadOnly, Full, Gone, Failed, NoMemory}
+use Rattle.hay_logical.specs.declared.fault.LogicalFault.TheVariants.{ReadOnly, Gone, Failed, NoMemory}
 use Rattle.hay_logical.specs.Fits.{At}
 use Rattle.hay_logical.specs.Stands as logical
 use Rattle.hay_logical.specs.Volumes.{Volume}
-use Rattle.hay_cluster.specs.Causes.{Counts, HasCause, IsDeleteCause}
+use Rattle.hay_cluster.specs.Causes.{IsDeleteCause}
 use Rattle.hay_cluster.specs.Changes.{IsDeleteReply, IsReadOnly}
 use Rattle.hay_cluster.specs.Parts.{Comes}
 use Rattle.hay_cluster.specs.State.{Answered, Stands}
@@ -131,7 +131,7 @@ module _ {D P A : Type 0} (files : D → Files) (Tells : Type 0) (faults fuses :
       }) came.stands)
   not_deleted old new k tag pair v d (Failed m f) answer before after same within stands home opened stood rows cause refused comes told =
       let came = comes (frozen_with m tag (entry.Del pair) true (volume_at k v)) refused.1 in
-      let rose = rose_to files Tells faults fuses arm_faults old new old.settings k came.known v m f stands came.stands cause in
+      let rose = rose_to files Tells faults fuses arm_faults old new old.settings k came.known v m f stands came.stands cause.1 in
       subst (λ (r : Reply). Answered files Tells faults fuses arm_faults k tag (command.Del pair) r new) (sym told)
       (answered files Tells faults fuses arm_faults new old.settings k came.known tag (command.Del pair) (reply.Failed v m f) same
       (record { home = home; «open» = opened; replica = rose.0; there = rose.1; rose = rose.2; leaves = inr came.leaves }) came.stands)
@@ -140,12 +140,3 @@ module _ {D P A : Type 0} (files : D → Files) (Tells : Type 0) (faults fuses :
       subst (λ (r : Reply). Answered files Tells faults fuses arm_faults k tag (command.Del pair) r new) (sym told)
       (answered files Tells faults fuses arm_faults new old.settings k came.known tag (command.Del pair) reply.NoMem same (inl came.leaves) came.stands)
   not_deleted old new k tag pair v d _ answer before after same within stands home opened stood rows cause refused comes told = absurd refused
-
--- causes
-pub delete_caused : (settings : Settings) (lane v d : ℕ) (before after : Counts) (fault : LogicalFault) (answer : Reply) → IsDeleteCause settings v before.disks after.disks fault → IsDeleteReply v d fault answer → HasCause settings lane before after answer
-delete_caused settings lane v d before after (ReadOnly m) answer cause (inl told) = subst (λ (r : Reply). HasCause settings lane before after r) (sym told) tt
-delete_caused settings lane v d before after (ReadOnly m) answer cause (inr told) = subst (λ (r : Reply). HasCause settings lane before after r) (sym told) tt
-delete_caused settings lane v d before after (Full m end need capacity) answer cause told = absurd cause
-delete_caused settings lane v d before after (Gone front) answer cause told = subst (λ (r : Reply). HasCause settings lane before after r) (sym told) tt
-delete_caused settings lane v d before after (Failed m f) answer cause told = subst (λ (r : Reply). HasCause settings lane before after r) (sym told) cause
-delete_caused settings lane v d before after _ answer cause told = subst (λ (r : Reply). HasCause settings lane before after r) (sym told) tt

@@ -18,7 +18,7 @@ use Rattle.hay_logical.specs.Stands as logical
 use Rattle.hay_logical.specs.Volumes.{Volume}
 use Rattle.hay_cluster.specs.declared.maintenance.Maintenance.{Maintenance}
 use Rattle.hay_cluster.specs.declared.maintenance.Maintenance.TheVariants.{Flush, Begin, Step, Finish, Compact}
-use Rattle.hay_cluster.specs.Causes.{Counts, HasCause, IsReplicaCause, RoseAt}
+use Rattle.hay_cluster.specs.Causes.{IsReplicaCause, RoseAt}
 use Rattle.hay_cluster.specs.Changes.{IsReadOnly}
 use Rattle.hay_cluster.specs.Maintenance.{IsDone, IsRefused, IsRefusedAs, command_of, done_as}
 use Rattle.hay_cluster.specs.Parts.{Comes}
@@ -172,9 +172,9 @@ module _ {D P A : Type 0} (files : D → Files) (Tells : Type 0) (faults fuses :
         let came = asked.comes (change_at (volume_at k v) j with_stuck) refused.3 in
         let here : m' ≡ m = refused.2 ∙ machine_is in
         told_by tag Flush (reply.Failed v m' f) answer came.known told
-        (found_here (LegalFlush old.settings k v m) _ came.known ((refl, here), refused.0, refused.1, risen came.known m' f here came.stands cause, came.leaves)) came.stands
+        (found_here (LegalFlush old.settings k v m) _ came.known ((refl, here), refused.0, refused.1, risen came.known m' f here came.stands cause.1, came.leaves)) came.stands
     not_flushed tag NoMemory answer cause refused told =
-        let came = still refused in
+        let came = still refused.2 in
         told_by tag Flush reply.NoMem answer came.known told (found_here (LegalFlush old.settings k v m) _ came.known came.leaves) came.stands
     not_flushed tag _ answer cause refused told = absurd refused
 
@@ -195,9 +195,9 @@ module _ {D P A : Type 0} (files : D → Files) (Tells : Type 0) (faults fuses :
         let came = still refused.3 in
         let here : m' ≡ m = refused.1 ∙ machine_is in
         told_by tag Begin (reply.Failed v m' f) answer came.known told
-        (found_here (LegalBegin old.settings k v m) _ came.known ((refl, here), refused.0, refused.2, risen came.known m' f here came.stands cause, came.leaves)) came.stands
+        (found_here (LegalBegin old.settings k v m) _ came.known ((refl, here), refused.0, refused.2, risen came.known m' f here came.stands cause.1, came.leaves)) came.stands
     not_begun tag NoMemory answer cause refused told =
-        let came = still refused in
+        let came = still refused.2 in
         told_by tag Begin reply.NoMem answer came.known told (found_here (LegalBegin old.settings k v m) _ came.known came.leaves) came.stands
     not_begun tag _ answer cause refused told = absurd refused
 
@@ -214,7 +214,7 @@ module _ {D P A : Type 0} (files : D → Files) (Tells : Type 0) (faults fuses :
         let came = asked.comes (change_at (volume_at k v) j without_run) refused.3 in
         let here : m' ≡ m = refused.1 ∙ machine_is in
         told_by tag (Step cells) (reply.Failed v m' f) answer came.known told
-        (found_here (λ i. LegalStep old.settings k v m i cells) _ came.known ((refl, here), refused.0, refused.2, risen came.known m' f here came.stands cause, came.leaves)) came.stands
+        (found_here (λ i. LegalStep old.settings k v m i cells) _ came.known ((refl, here), refused.0, refused.2, risen came.known m' f here came.stands cause.1, came.leaves)) came.stands
     not_stepped tag cells NoMemory answer cause (thawed, (run, n, stood, few, stands)) told =
         let came = asked.comes (change_at (volume_at k v) j (with_run (stepped n run))) stands in
         told_by tag (Step cells) reply.NoMem answer came.known told
@@ -234,7 +234,7 @@ module _ {D P A : Type 0} (files : D → Files) (Tells : Type 0) (faults fuses :
         let here : m' ≡ m = refused.1 ∙ machine_is in
         let reached = failed m' here refused.3 in
         told_by tag Finish (reply.Failed v m' f) answer reached.known told
-        (found_here (LegalFinish old.settings k v m) _ reached.known ((refl, here), refused.0, refused.2, risen reached.known m' f here reached.stands cause, reached.is)) reached.stands
+        (found_here (LegalFinish old.settings k v m) _ reached.known ((refl, here), refused.0, refused.2, risen reached.known m' f here reached.stands cause.1, reached.is)) reached.stands
     not_finished tag NoMemory answer cause refused told =
         let reached = unplaced answers.IsLoose refused.2 in
         told_by tag Finish reply.NoMem answer reached.known told (found_here (LegalFinish old.settings k v m) _ reached.known reached.is) reached.stands
@@ -257,7 +257,7 @@ module _ {D P A : Type 0} (files : D → Files) (Tells : Type 0) (faults fuses :
         let here : m' ≡ m = refused.1 ∙ machine_is in
         let reached = failed m' here refused.3 in
         told_by tag Compact (reply.Failed v m' f) answer reached.known told
-        (found_here (LegalCompact old.settings k v m) _ reached.known ((refl, here), refused.0, refused.2, risen reached.known m' f here reached.stands cause, reached.is)) reached.stands
+        (found_here (LegalCompact old.settings k v m) _ reached.known ((refl, here), refused.0, refused.2, risen reached.known m' f here reached.stands cause.1, reached.is)) reached.stands
     not_compacted tag NoMemory answer cause refused told =
         let reached = unplaced answers.IsTight refused.2 in
         told_by tag Compact reply.NoMem answer reached.known told (found_here (LegalCompact old.settings k v m) _ reached.known reached.is) reached.stands
@@ -288,19 +288,3 @@ module _ {D P A : Type 0} (files : D → Files) (Tells : Type 0) (faults fuses :
       at (Step cells) = none_here (λ i. LegalStep store.settings k v m i cells)
       at Finish = none_here (LegalFinish store.settings k v m)
       at Compact = none_here (LegalCompact store.settings k v m)
-
--- CAUSES
-
-pub maintained_cause : (settings : Settings) (lane v m : ℕ) (before after : Counts) (work : Maintenance) (n : ℕ) → HasCause settings lane before after (done_as v m work n)
-maintained_cause settings lane v m before after Flush n = tt
-maintained_cause settings lane v m before after Begin n = tt
-maintained_cause settings lane v m before after (Step cells) n = tt
-maintained_cause settings lane v m before after Finish n = tt
-maintained_cause settings lane v m before after Compact n = tt
-
-pub refused_cause : (settings : Settings) (lane v m : ℕ) (before after : Counts) (fault : LogicalFault) (answer : Reply) → IsReplicaCause settings v before.disks after.disks fault → IsRefusedAs v m fault answer
-    → HasCause settings lane before after answer
-refused_cause settings lane v m before after (ReadOnly m') answer cause (inl told) = subst (λ (r : Reply). HasCause settings lane before after r) (sym told) tt
-refused_cause settings lane v m before after (ReadOnly m') answer cause (inr told) = subst (λ (r : Reply). HasCause settings lane before after r) (sym told) tt
-refused_cause settings lane v m before after (Failed m' f) answer cause told = subst (λ (r : Reply). HasCause settings lane before after r) (sym told) cause
-refused_cause settings lane v m before after _ answer cause told = subst (λ (r : Reply). HasCause settings lane before after r) (sym told) tt

@@ -21,7 +21,7 @@ use Rattle.hay_legal.specs.Known.{Leaves, closed, drained_of, empty_volume, faul
 use Rattle.hay_legal.specs.Plain.{DirectoryOpen, LegalPut, RefusedBy, RoseTo, change_volume, first_machine, frozen_with, lacks, put_entry, with_put}
 use Rattle.hay_logical.specs.Answers.{IsPut, PutRefused}
 use Rattle.hay_logical.specs.declared.fault.LogicalFault.{LogicalFault}
-use Rattle.hay_logical.specs.declared.fault.LogicalFault.TheVariants.{ReadOnly, Full, Gone, Failed, NoMemory}
+use Rattle.hay_logical.specs.declared.fault.LogicalFault.TheVariants.{ReadOnly, Full, Failed, NoMemory}
 use Rattle.hay_logical.specs.Stands as logical
 use Rattle.hay_logical.specs.Volumes.{Volume}
 use Rattle.hay_cluster.specs.Causes.{Counts, HasCause, IsPutCause, RoseAt}
@@ -237,7 +237,7 @@ module _ {D P A : Type 0} (files : D → Files) (Tells : Type 0) (faults fuses :
       absurd cc
   put_refused old new k tag pair bytes v cookie (Failed m f) answer before after own within stood takes was cause refused comes told =
       subst (λ (r : Reply). StoredAs files Tells faults fuses arm_faults old.settings k tag pair bytes v r new) (sym told)
-      (put_failed old new old.settings k tag pair bytes v m f cookie own stood cause (comes (frozen_with m tag (entry.Put pair cookie bytes) true (volume_at k v)) refused.1))
+      (put_failed old new old.settings k tag pair bytes v m f cookie own stood cause.1 (comes (frozen_with m tag (entry.Put pair cookie bytes) true (volume_at k v)) refused.1))
   put_refused old new k tag pair bytes v cookie NoMemory answer before after own within stood takes was cause refused comes told =
       subst (λ (r : Reply). StoredAs files Tells faults fuses arm_faults old.settings k tag pair bytes v r new) (sym told)
       (elim refused.1 [
@@ -256,6 +256,6 @@ module _ {D P A : Type 0} (files : D → Files) (Tells : Type 0) (faults fuses :
 pub put_caused : (settings : Settings) (lane v : ℕ) (before after : Counts) (fault : LogicalFault) (answer : Reply) → IsPutCause settings v before.disks after.disks fault → IsPutReply v fault answer → HasCause settings lane before after answer
 put_caused settings lane v before after (ReadOnly m) answer cause told = refusal_caused settings lane before after (Closed v m ∷ []) answer told
 put_caused settings lane v before after (Full m end need capacity) answer cause told = refusal_caused settings lane before after (NoRoom v m end need ∷ []) answer told
-put_caused settings lane v before after (Gone front) answer cause told = absurd cause
-put_caused settings lane v before after (Failed m f) answer cause told = subst (λ (r : Reply). HasCause settings lane before after r) (sym told) cause
-put_caused settings lane v before after _ answer cause told = subst (λ (r : Reply). HasCause settings lane before after r) (sym told) tt
+put_caused settings lane v before after (Failed m f) answer cause told = subst (λ (r : Reply). HasCause settings lane before after r) (sym told) cause.1
+put_caused settings lane v before after NoMemory answer cause told = subst (λ (r : Reply). HasCause settings lane before after r) (sym told) tt
+put_caused settings lane v before after _ answer cause told = absurd told

@@ -53,19 +53,36 @@ HasFaultCause settings before after fault.NoMemory = Unit {0}
 
 -- WHAT A VOLUME'S REFUSALS TELL
 
+-- a put, a delete and work on one replica are refused only so
+abbrev pub RefusesPut : LogicalFault → Type 0
+RefusesPut (refusal.Failed m count) = Unit {0}
+RefusesPut (refusal.ReadOnly m) = Unit {0}
+RefusesPut (refusal.Full m end need capacity) = Unit {0}
+RefusesPut refusal.NoMemory = Unit {0}
+RefusesPut _ = ⊥
+
+abbrev pub RefusesDelete : LogicalFault → Type 0
+RefusesDelete (refusal.Failed m count) = Unit {0}
+RefusesDelete (refusal.ReadOnly m) = Unit {0}
+RefusesDelete (refusal.Gone front) = Unit {0}
+RefusesDelete refusal.NoMemory = Unit {0}
+RefusesDelete _ = ⊥
+
+abbrev pub RefusesWork : LogicalFault → Type 0
+RefusesWork (refusal.Full m end need capacity) = ⊥
+RefusesWork (refusal.Gone front) = ⊥
+RefusesWork _ = Unit {0}
+
+-- a failure is told only where the count that it prints rose
+abbrev pub RoseWhereFailed : Settings → ℕ → List ℕ → List ℕ → LogicalFault → Type 0
+RoseWhereFailed settings v before after (refusal.Failed m count) = RoseAt settings v m before after count
+RoseWhereFailed settings v before after _ = Unit {0}
+
 abbrev pub IsPutCause : Settings → ℕ → List ℕ → List ℕ → LogicalFault → Type 0
-IsPutCause settings v before after (refusal.Failed m count) = RoseAt settings v m before after count
-IsPutCause settings v before after (refusal.Gone front) = ⊥
-IsPutCause settings v before after _ = Unit {0}
+IsPutCause settings v before after fault = RefusesPut fault × RoseWhereFailed settings v before after fault
 
 abbrev pub IsDeleteCause : Settings → ℕ → List ℕ → List ℕ → LogicalFault → Type 0
-IsDeleteCause settings v before after (refusal.Failed m count) = RoseAt settings v m before after count
-IsDeleteCause settings v before after (refusal.Full m end need capacity) = ⊥
-IsDeleteCause settings v before after _ = Unit {0}
+IsDeleteCause settings v before after fault = RefusesDelete fault × RoseWhereFailed settings v before after fault
 
--- of work on one replica
 abbrev pub IsReplicaCause : Settings → ℕ → List ℕ → List ℕ → LogicalFault → Type 0
-IsReplicaCause settings v before after (refusal.Failed m count) = RoseAt settings v m before after count
-IsReplicaCause settings v before after (refusal.Full m end need capacity) = ⊥
-IsReplicaCause settings v before after (refusal.Gone front) = ⊥
-IsReplicaCause settings v before after _ = Unit {0}
+IsReplicaCause settings v before after fault = RefusesWork fault × RoseWhereFailed settings v before after fault

@@ -14,4 +14,5 @@ abbrev pub IsDeleteReply : ℕ → ℕ → LogicalFault → Reply → Type 0
 IsDeleteReply v rows (refusal.Gone front) reply = reply ≡ Absent v front rows
 IsDeleteReply v rows (refusal.Failed m f) reply = reply ≡ Failed v m f
 IsDeleteReply v rows (refusal.ReadOnly m) reply = IsReadOnly v m reply
-IsDeleteReply v rows _ reply = reply ≡ NoMem
+IsDeleteReply v rows refusal.NoMemory reply = reply ≡ NoMem
+IsDeleteReply v rows _ reply = ⊥

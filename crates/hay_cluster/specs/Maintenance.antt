@@ -10,7 +10,7 @@ use Rattle.hay_legal.specs.declared.known.VolumeKnown.{VolumeKnown}
 use Rattle.hay_physical.specs.Copies.{Copy}
 use Rattle.hay_logical.specs.Answers.{BeginRefused, CompactRefused, FinishRefused, FlushRefused, HasFailed, IsBegun, IsCompacted, IsFinished, IsFlushed, IsStepped, StepRefused}
 use Rattle.hay_logical.specs.declared.fault.LogicalFault.{LogicalFault}
-use Rattle.hay_logical.specs.declared.fault.LogicalFault.TheVariants.{Busy, Damaged, Failed, Full, Gone, Idle, ReadOnly, Worn}
+use Rattle.hay_logical.specs.declared.fault.LogicalFault.TheVariants.{Busy, Damaged, Failed, Full, Gone, Idle, NoMemory, ReadOnly, Worn}
 use Rattle.hay_logical.specs.Volumes.{Volume}
 use Rattle.hay_cluster.specs.declared.maintenance.Maintenance.{Maintenance}
 use Rattle.hay_cluster.specs.declared.maintenance.Maintenance.TheVariants.{Flush, Begin, Step, Finish, Compact}
@@ -63,4 +63,5 @@ IsRefusedAs v m (Busy m' generation) answer = answer ≡ reply.Busy v m' generat
 IsRefusedAs v m (Worn m') answer = answer ≡ reply.Worn v m'
 IsRefusedAs v m Idle answer = answer ≡ reply.Idle v m
 IsRefusedAs v m (Damaged m' at) answer = answer ≡ reply.Damaged v m' at
-IsRefusedAs v m _ answer = answer ≡ reply.NoMem
+IsRefusedAs v m NoMemory answer = answer ≡ reply.NoMem
+IsRefusedAs v m _ answer = ⊥

@@ -45,7 +45,8 @@ abbrev pub IsPutReply : ℕ → LogicalFault → Reply → Type 0
 IsPutReply v (refusal.Failed m f) reply = reply ≡ Failed v m f
 IsPutReply v (refusal.ReadOnly m) reply = IsRefusal (Closed v m ∷ []) reply
 IsPutReply v (refusal.Full m end need capacity) reply = IsRefusal (NoRoom v m end need ∷ []) reply
-IsPutReply v _ reply = reply ≡ NoMem
+IsPutReply v refusal.NoMemory reply = reply ≡ NoMem
+IsPutReply v _ reply = ⊥
 
 -- what is answered when a photo is stored in volume v, which takes it, and what is known behind it
 abbrev pub Stores : Settings → Known → CoreTag → Pair → List ℕ → ℕ → Reply → Known → Type 0

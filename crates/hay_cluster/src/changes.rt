@@ -4,7 +4,7 @@ ghost use Rattle.hay_script.specs.declared.Command.TheVariants as asks;
 ghost use Rattle.hay_core.specs.declared.entry.CoreTag.{CoreTag};
 ghost use Rattle.hay_legal.specs.declared.known.Known.{Known};
 ghost use Rattle.hay_legal.specs.Known.{NoneFalls};
-ghost use Rattle.hay_cluster.specs.Causes.{HasCause};
+ghost use Rattle.hay_cluster.specs.Causes.{HasCause, RefusesDelete};
 ghost use Rattle.hay_cluster.specs.Changes.{IsDeleteReply, IsReadOnly};
 ghost use Rattle.hay_cluster.specs.State.{Answered, Stands};
 ghost use Rattle.hay_cluster.specs.Store.{IsUp, disks_of};
@@ -175,6 +175,7 @@ pub(crate) fn read_only(alloc: Global, volume: u32, machine: u32) -> Reply
 
 // What a delete is answered that a volume did not make.
 fn delete_refusal(alloc: Global, volume: u32, rows: u64, fault: LogicalFault) -> Reply
+    requires { RefusesDelete fault }
     ensures { IsDeleteReply volume rows fault result }
 {
     match fault {
@@ -189,6 +190,11 @@ fn delete_refusal(alloc: Global, volume: u32, rows: u64, fault: LogicalFault) ->
             faults,
         },
         LogicalFault::ReadOnly { machine } => read_only(alloc, volume, machine),
-        _ => Reply::NoMem,
+        LogicalFault::NoMemory => Reply::NoMem,
+        LogicalFault::Full { .. }
+        | LogicalFault::Busy { .. }
+        | LogicalFault::Worn { .. }
+        | LogicalFault::Idle
+        | LogicalFault::Damaged { .. } => unreachable!(),
     }
 }

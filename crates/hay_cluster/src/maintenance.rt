@@ -6,7 +6,7 @@ ghost use Rattle.hay_legal.specs.declared.known.VolumeKnown.{VolumeKnown};
 ghost use Rattle.hay_legal.specs.Known.{NoneFalls};
 ghost use Rattle.hay_logical.specs.Stands as logical;
 ghost use Rattle.hay_logical.specs.Volumes.{IsOpen, IsSame, KeepsCounts};
-ghost use Rattle.hay_cluster.specs.Causes.{HasCause};
+ghost use Rattle.hay_cluster.specs.Causes.{HasCause, RefusesWork};
 ghost use Rattle.hay_cluster.specs.Maintenance.{IsDone, IsRefused, IsRefusedAs, IsReplicaFault, command_of, done_as};
 ghost use Rattle.hay_cluster.specs.State.{Answered, Stands};
 ghost use Rattle.hay_cluster.specs.Store.{IsUp, disks_of};
@@ -123,6 +123,7 @@ fn done(volume: u32, machine: u32, work: Maintenance, number: u64) -> Reply
 
 // What work is answered that a volume did not do.
 fn refused(alloc: Global, volume: u32, machine: u32, fault: LogicalFault) -> Reply
+    requires { RefusesWork fault }
     ensures { IsRefusedAs volume machine fault result }
 {
     match fault {
@@ -147,6 +148,7 @@ fn refused(alloc: Global, volume: u32, machine: u32, fault: LogicalFault) -> Rep
             machine,
             at,
         },
-        _ => Reply::NoMem,
+        LogicalFault::NoMemory => Reply::NoMem,
+        LogicalFault::Full { .. } | LogicalFault::Gone { .. } => unreachable!(),
     }
 }

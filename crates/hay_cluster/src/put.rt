@@ -6,7 +6,7 @@ ghost use Rattle.hay_legal.specs.Known.{NoneFalls, home_of, refusal_of, taker_of
 ghost use Rattle.hay_legal.specs.Plain.{lacks, as_closed};
 ghost use Rattle.hay_script.specs.declared.Command.TheVariants as asks;
 ghost use Rattle.hay_directory.specs.State as directory;
-ghost use Rattle.hay_cluster.specs.Causes.{HasCause};
+ghost use Rattle.hay_cluster.specs.Causes.{HasCause, RefusesPut};
 ghost use Rattle.hay_cluster.specs.Puts as puts;
 ghost use Rattle.hay_cluster.specs.Puts.{IsPutReply, IsRefusal, IsTried, StoredAs};
 ghost use Rattle.hay_cluster.specs.State.{Answered, Stands};
@@ -185,6 +185,7 @@ fn settle_refusal(fault: DirFault) -> Reply
 
 // What a put is answered that a volume did not store.
 fn put_refusal(alloc: Global, volume: u32, fault: LogicalFault) -> Reply
+    requires { RefusesPut fault }
     ensures { IsPutReply volume fault result }
 {
     match fault {
@@ -210,7 +211,12 @@ fn put_refusal(alloc: Global, volume: u32, fault: LogicalFault) -> Reply
                 need,
             },
         ),
-        _ => Reply::NoMem,
+        LogicalFault::NoMemory => Reply::NoMem,
+        LogicalFault::Gone { .. }
+        | LogicalFault::Busy { .. }
+        | LogicalFault::Worn { .. }
+        | LogicalFault::Idle
+        | LogicalFault::Damaged { .. } => unreachable!(),
     }
 }
 

@@ -287,9 +287,6 @@ follows_where DiskTells files faults pair place.None r never = refl
 pub follows_on : {D P : Type 0} (DiskTells : Type 0) (files : D → Files) (faults : D → ℕ) (pair : Pair) (r r' : Copy D) (p q : Place P) → q ≡ p → FollowsAt DiskTells files faults pair p r r' → FollowsAt DiskTells files faults pair q r r'
 follows_on DiskTells files faults pair r r' p q e h = subst (λ x. FollowsAt DiskTells files faults pair x r r') (sym e) h
 
-pub two_faults : {X : Type 0} (result : Result X ReplicaFault) (f h : ReplicaFault) → result ≡ Err f → result ≡ Err h → (f ≡ h → ⊥) → ⊥
-two_faults result f h e g never = never (fault_is result f h e g)
-
 pub left_same : {D : Type 0} (DiskTells : Type 0) (files : D → Files) (r : Copy D) → LeftAt DiskTells files r r
 left_same DiskTells files r = record { sup = refl; holds = λ tells stuck s t h. h }
 

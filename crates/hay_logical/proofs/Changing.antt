@@ -342,7 +342,7 @@ module _ {D P : Type 0} (settings : Settings) (number : ℕ) (DiskTells : Type 0
       let many : length k.replicas ≡ settings.replicas = stands.many in
       let known : at < length k.replicas = omega (arith, below, all, many) in (
         stands.frozen,
-        was.stuck ∙ step.not_stuck printed refl,
+        was.stuck ∙ step.not_stuck (λ e. cc),
         machine,
         stands_one items new rows front unsure k (change_at k at with_stuck) at one stands refl refl refl (length-slice_set k.replicas at _)
             (λ w. record {
@@ -369,34 +369,44 @@ module _ {D P : Type 0} (settings : Settings) (number : ℕ) (DiskTells : Type 0
   flush_refused tells items new rows front None unsure k at m fault.Worn one stands thawed machine step = absurd step.cause
   flush_refused tells items new rows front None unsure k at m (fault.Damaged place) one stands thawed machine step = absurd step.cause
   flush_refused tells items new rows front None unsure k at m fault.NoMemory one stands thawed machine step =
-      stands_one items new rows front unsure k k at one stands refl refl refl refl
-      (λ w. record {
-        stored = w.stored;
-        fits = w.fits;
-        stands = step.refused tells w.stored w.stands;
-        stuck = w.stuck ∙ sym step.cause;
-        run = step.run_stays tells w.stored (option_map copier_run (replica_at k at).run) w.stands w.run;
-        settled = w.settled;
-        places = w.places;
-      })
-      (λ j apart r w. record { stored = w.stored; fits = w.fits; stands = w.stands; stuck = w.stuck; run = w.run; settled = w.settled; places = w.places })
+      let taking = takes DiskTells files Tells settings number items rows front None unsure k stands refl in
+      let was = taking.each at one.before one.was in (
+        stands.frozen,
+        was.stuck ∙ step.not_stuck (λ e. cc),
+        stands_one items new rows front unsure k k at one stands refl refl refl refl
+            (λ w. record {
+              stored = w.stored;
+              fits = w.fits;
+              stands = step.refused tells w.stored w.stands;
+              stuck = w.stuck ∙ sym step.cause;
+              run = step.run_stays tells w.stored (option_map copier_run (replica_at k at).run) w.stands w.run;
+              settled = w.settled;
+              places = w.places;
+            })
+            (λ j apart r w. record { stored = w.stored; fits = w.fits; stands = w.stands; stuck = w.stuck; run = w.run; settled = w.settled; places = w.places }),
+      )
+
+-- the one replica that was called failed
+pub one_failed : {D : Type 0} (faults : D → ℕ) (settings : Settings) (number : ℕ) (items new : List (Copy D)) (at m printed : ℕ) (one : CallsOne at items new) → length items ≡ settings.replicas → m ≡ machine_of settings number at
+    → Rose (faults (one.before).disk) (faults (one.after).disk) → printed ≡ faults (one.after).disk → HasFailed faults settings number items new m printed
+one_failed faults settings number items new at m printed one all machine rose is =
+    let below = at_below items at one.before one.was in
+    record {
+      replica = at;
+      within = omega (arith, below, all);
+      before = one.before;
+      after = one.after;
+      was = one.was;
+      is = one_after at items new one;
+      machine = machine;
+      rose = rose;
+      printed = is;
+    }
 
 module _ {D : Type 0} (settings : Settings) (number : ℕ) (DiskTells : Type 0) (files : D → Files) (faults : D → ℕ) where
   pub flush_cause : (items new : List (Copy D)) (at m : ℕ) (f : ReplicaFault) (one : CallsOne at items new) → length items ≡ settings.replicas → m ≡ machine_of settings number at
       → FlushesAt DiskTells files faults one.before one.after (Err f) → answers.IsFlushFault faults settings number items new (flush_answer m f)
-  flush_cause items new at m (fault.Failed printed) one all machine step =
-      let below = at_below items at one.before one.was in
-      record {
-        replica = at;
-        within = omega (arith, below, all);
-        before = one.before;
-        after = one.after;
-        was = one.was;
-        is = one_after at items new one;
-        machine = machine;
-        rose = step.cause.0;
-        printed = step.cause.1;
-      }
+  flush_cause items new at m (fault.Failed printed) one all machine step = one_failed faults settings number items new at m printed one all machine step.cause.0 step.cause.1
   flush_cause items new at m fault.Frozen one all machine step = tt
   flush_cause items new at m (fault.Full end need capacity) one all machine step = tt
   flush_cause items new at m (fault.Busy generation) one all machine step = tt

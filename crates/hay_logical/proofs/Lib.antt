@@ -15,6 +15,7 @@ pub mod Machines
 pub mod Methods
 pub mod Opened
 pub mod Putting
+pub mod Refusing
 pub mod Reopening
 pub mod Rooms
 pub mod Standing

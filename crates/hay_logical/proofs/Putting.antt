@@ -127,12 +127,7 @@ module _ {D : Type 0} (DiskTells : Type 0) (files : D → Files) (faults : D →
         printed = cause.1;
       })
   by_cause settings number refusal all fault.NoMemory by cause = subst (answers.IsPutFault faults settings number items new) (sym by.1) tt
-  by_cause settings number refusal all (fault.Busy generation) by cause = absurd cause
-  by_cause settings number refusal all (fault.Ended count) by cause = absurd cause
-  by_cause settings number refusal all fault.Worn by cause = absurd cause
-  by_cause settings number refusal all (fault.Damaged place) by cause = absurd cause
-  by_cause settings number refusal all fault.Frozen by cause = subst (answers.IsPutFault faults settings number items new) (sym by.1) tt
-  by_cause settings number refusal all (fault.Full end need capacity) by cause = subst (answers.IsPutFault faults settings number items new) (sym by.1) tt
+  by_cause settings number refusal all _ by cause = absurd cause
 
   pub put_cause_of : (settings : Settings) (number : ℕ) (refusal : Refusal) → IsRefusal settings number broken refusal → length items ≡ settings.replicas → answers.IsPutFault faults settings number items new refusal.fault
   put_cause_of settings number refusal answered all = by_cause settings number refusal all broken.fault answered left.cause
@@ -270,12 +265,7 @@ module _ {D P : Type 0} (settings : Settings) (number : ℕ) (DiskTells : Type 0
                   (frozen_by refusal.machine true (less, ap (λ n. Some n) by.0)),
             )
         by_fault fault.NoMemory by = no_memory by
-        by_fault fault.Frozen by = no_memory by
-        by_fault (fault.Busy generation) by = no_memory by
-        by_fault (fault.Ended count) by = no_memory by
-        by_fault fault.Worn by = no_memory by
-        by_fault (fault.Damaged place) by = no_memory by
-        by_fault (fault.Full end need capacity) by = no_memory by
+        by_fault _ by = absurd by
 
       pub put_refused : DiskTells → (rows rows' : MapRows P) (front : ℕ) (frozen : Option ℕ) (unsure : Option Unsure) (k : VolumeKnown) (tag : CoreTag) (ends : List ℕ) → frozen ≡ None
           → StandsFor files Tells (volume_with settings number items rows front frozen unsure) k → length new ≡ length items

@@ -23,11 +23,10 @@ use Rattle.hay_logical.specs.Fits.{At, Fits, RunsAs, copier_run}
 use Rattle.hay_logical.specs.Refusals.{run_answer}
 use Rattle.hay_logical.specs.Stands.{ReplicaStands, Stands, StandsFor}
 use Rattle.hay_logical.specs.Steps.{BeginsAt, CallsOne, GoesOn, StepsAt}
-use Rattle.hay_logical.proofs.Changing.{other_changed, set_back, stands_one}
+use Rattle.hay_logical.proofs.Changing.{one_failed, other_changed, set_back, stands_one}
 use Rattle.hay_logical.proofs.Compacting.{known_goal, known_none, loosely, no_run}
 use Rattle.hay_logical.proofs.Knowing.{changed_here, fits_same}
 use Rattle.hay_logical.proofs.Lists.{at_below, length-slice_set}
-use Rattle.hay_logical.proofs.Methods.{one_after}
 use Rattle.hay_logical.proofs.Standing.{takes, volume_with}
 
 -- which compaction is known
@@ -171,8 +170,11 @@ module _ {D P : Type 0} (settings : Settings) (number : ℕ) (DiskTells : Type 0
           ap (λ rs. volume_with settings number rs rows front None unsure) (one.is ∙ ap (λ x. slice_set items at x) step.cause.2 ∙ set_back items at one.before one.was),
         )
     begin_refused tells m (fault.Damaged place) machine step = absurd step.cause
-    begin_refused tells m fault.NoMemory machine step =
-        stands_still tells step.on (λ s o has. no_run files one.after s o (known_none files one.before s o has step.cause.0) (step.kept ∙ step.cause.0))
+    begin_refused tells m fault.NoMemory machine step = (
+      stands.frozen,
+      rest_known step.cause.0 step.cause.1,
+      stands_still tells step.on (λ s o has. no_run files one.after s o (known_none files one.before s o has step.cause.0) (step.kept ∙ step.cause.0)),
+    )
 
     running : (goal_of one.before ≡ None → ⊥) → IsRunning k at
     running standing = let w = was_at in is_run (replica_at k at).run (λ e. standing (known_goal files one.before w.stored (replica_at k at).run w.run ∙ e))
@@ -218,19 +220,7 @@ module _ {D P : Type 0} (settings : Settings) (number : ℕ) (DiskTells : Type 0
 module _ {D : Type 0} (settings : Settings) (number : ℕ) (DiskTells : Type 0) (files : D → Files) (faults : D → ℕ) where
   pub begin_fault : (items new : List (Copy D)) (at m : ℕ) (f : ReplicaFault) (one : CallsOne at items new) → length items ≡ settings.replicas → m ≡ machine_of settings number at
       → BeginsAt DiskTells files faults one.before one.after (Err f) → answers.IsBeginFault faults settings number items new (run_answer m f)
-  begin_fault items new at m (fault.Failed printed) one all machine step =
-      let below = at_below items at one.before one.was in
-      record {
-        replica = at;
-        within = omega (arith, below, all);
-        before = one.before;
-        after = one.after;
-        was = one.was;
-        is = one_after at items new one;
-        machine = machine;
-        rose = step.cause.0;
-        printed = step.cause.1;
-      }
+  begin_fault items new at m (fault.Failed printed) one all machine step = one_failed faults settings number items new at m printed one all machine step.cause.0 step.cause.1
   begin_fault items new at m fault.Frozen one all machine step = tt
   begin_fault items new at m (fault.Full end need capacity) one all machine step = tt
   begin_fault items new at m (fault.Busy goal) one all machine step = tt
@@ -241,19 +231,7 @@ module _ {D : Type 0} (settings : Settings) (number : ℕ) (DiskTells : Type 0) 
 
   pub step_fault : {P : Type 0} (Tells : Type 0) (rows : MapRows P) (cells : ℕ) (items new : List (Copy D)) (at m : ℕ) (f : ReplicaFault) (one : CallsOne at items new) → length items ≡ settings.replicas → m ≡ machine_of settings number at
       → StepsAt DiskTells files faults Tells rows at cells one.before one.after (Err f) → answers.IsRunFault faults settings number items new (run_answer m f)
-  step_fault Tells rows cells items new at m (fault.Failed printed) one all machine step =
-      let below = at_below items at one.before one.was in
-      record {
-        replica = at;
-        within = omega (arith, below, all);
-        before = one.before;
-        after = one.after;
-        was = one.was;
-        is = one_after at items new one;
-        machine = machine;
-        rose = step.cause.0;
-        printed = step.cause.1;
-      }
+  step_fault Tells rows cells items new at m (fault.Failed printed) one all machine step = one_failed faults settings number items new at m printed one all machine step.cause.0 step.cause.1
   step_fault Tells rows cells items new at m fault.Frozen one all machine step = tt
   step_fault Tells rows cells items new at m (fault.Full end need capacity) one all machine step = tt
   step_fault Tells rows cells items new at m (fault.Busy goal) one all machine step = absurd step.cause

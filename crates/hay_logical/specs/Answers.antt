@@ -158,7 +158,7 @@ FlushRefused files Tells k replica old new (ReadOnly m) =
 FlushRefused files Tells k replica old new (Failed m faults) =
     (k.frozen ≡ None) × ((replica_at k replica).stuck ≡ false) × (m ≡ machine_of old.settings old.number replica)
     × Stands files Tells new (change_at k replica with_stuck)
-FlushRefused files Tells k replica old new NoMemory = Stands files Tells new k
+FlushRefused files Tells k replica old new NoMemory = (k.frozen ≡ None) × ((replica_at k replica).stuck ≡ false) × Stands files Tells new k
 FlushRefused files Tells k replica old new _ = ⊥
 
 -- COMPACTIONS
@@ -187,7 +187,7 @@ BeginRefused files Tells k replica old new (Worn m) =
     × ((replica_at k replica).run ≡ None) × ((replica_at k replica).generation ≡ 65535) × (new ≡ old)
 BeginRefused files Tells k replica old new (Failed m faults) =
     (k.frozen ≡ None) × (m ≡ machine_of old.settings old.number replica) × IsAtRest k replica × Stands files Tells new k
-BeginRefused files Tells k replica old new NoMemory = Stands files Tells new k
+BeginRefused files Tells k replica old new NoMemory = (k.frozen ≡ None) × IsAtRest k replica × Stands files Tells new k
 BeginRefused files Tells k replica old new _ = ⊥
 
 -- so many cells of a compaction were examined

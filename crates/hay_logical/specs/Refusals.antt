@@ -6,7 +6,7 @@ use Rattle.hay_physical.specs.declared.fault.ReplicaFault.{ReplicaFault}
 use Rattle.hay_physical.specs.declared.fault.ReplicaFault.TheVariants as fault
 use Rattle.hay_physical.specs.Copies.{Copy, is_frozen}
 use Rattle.hay_logical.specs.declared.fault.LogicalFault.{LogicalFault}
-use Rattle.hay_logical.specs.declared.fault.LogicalFault.TheVariants.{Busy, Damaged, Failed, Idle, NoMemory, ReadOnly, Worn}
+use Rattle.hay_logical.specs.declared.fault.LogicalFault.TheVariants.{Busy, Damaged, Failed, NoMemory, ReadOnly, Worn}
 use Rattle.hay_logical.specs.declared.refusals.Refusal.{Refusal}
 use Rattle.hay_logical.specs.declared.refusals.Unfinished.{Unfinished}
 use Rattle.hay_logical.specs.declared.replicas.Broken.{Broken}
@@ -22,11 +22,36 @@ pub record IsUntouched {D : Type 0} (replicas : List (Copy D)) (broken : Broken)
   pub there : At replicas 0 replica
   pub thawed : is_frozen replica ≡ false
 
+-- A replica that takes changes refuses a put that has room, a flush and work on a compaction only so.
+abbrev pub RefusesPut : ReplicaFault → Type 0
+RefusesPut (fault.Failed printed) = Unit {0}
+RefusesPut fault.NoMemory = Unit {0}
+RefusesPut _ = ⊥
+
+abbrev pub RefusesFlush : ReplicaFault → Type 0
+RefusesFlush (fault.Failed printed) = Unit {0}
+RefusesFlush fault.Frozen = Unit {0}
+RefusesFlush fault.NoMemory = Unit {0}
+RefusesFlush _ = ⊥
+
+abbrev pub RefusesRun : ReplicaFault → Type 0
+RefusesRun (fault.Failed printed) = Unit {0}
+RefusesRun (fault.Busy generation) = Unit {0}
+RefusesRun fault.Worn = Unit {0}
+RefusesRun (fault.Damaged at) = Unit {0}
+RefusesRun fault.NoMemory = Unit {0}
+RefusesRun _ = ⊥
+
+abbrev pub RefusesSwap : Unswapped → Type 0
+RefusesSwap (Refused fault) = RefusesRun fault
+RefusesSwap _ = Unit {0}
+
 -- a failure freezes by its own machine, and want of memory by that of the first replica
 abbrev pub RefusalBy : Settings → ℕ → ℕ → ReplicaFault → Refusal → Type 0
 RefusalBy settings v at (fault.Failed printed) refusal =
     (refusal.machine ≡ machine_of settings v at) × (refusal.fault ≡ Failed (machine_of settings v at) printed)
-RefusalBy settings v at _ refusal = (refusal.machine ≡ machine_of settings v 0) × (refusal.fault ≡ NoMemory)
+RefusalBy settings v at fault.NoMemory refusal = (refusal.machine ≡ machine_of settings v 0) × (refusal.fault ≡ NoMemory)
+RefusalBy settings v at _ refusal = ⊥
 
 abbrev pub IsRefusal : Settings → ℕ → Broken → Refusal → Type 0
 IsRefusal settings v broken refusal = RefusalBy settings v broken.at broken.fault refusal
@@ -41,7 +66,6 @@ flush_answer machine _ = ReadOnly machine
 abbrev pub run_answer : ℕ → ReplicaFault → LogicalFault
 run_answer machine (fault.Failed printed) = Failed machine printed
 run_answer machine (fault.Busy generation) = Busy machine generation
-run_answer machine (fault.Ended faults) = Idle
 run_answer machine fault.Worn = Worn machine
 run_answer machine (fault.Damaged at) = Damaged machine at
 run_answer machine fault.NoMemory = NoMemory

@@ -177,7 +177,7 @@ pub record FlushesAt {D : Type 0} (DiskTells : Type 0) (files : D → Files) (fa
       OnOk result (HasRun files r' (physical.all_recorded s) run)
   pub run_stays : DiskTells → (s : Stored) (run : Option Run) → physical.Stands files r s → HasRun files r s run → OnErr result (HasRun files r' s run)
   pub cause : IfErr result (IsFlushFault faults r r')
-  pub not_stuck : (printed : ℕ) → result ≡ Err (fault.Failed printed) → is_stuck r ≡ false
+  pub not_stuck : (result ≡ Err fault.Frozen → ⊥) → is_stuck r ≡ false
   pub deletable : KeepsDeletable DiskTells files r r'
 
 -- one replica was called, and the others are as they were

@@ -4,7 +4,7 @@ ghost use Rattle.hay_map.specs.Places.{place_in};
 ghost use Rattle.hay_physical.specs.Copies.{Copy, is_frozen};
 ghost use Rattle.hay_logical.specs.Fits.{At};
 ghost use Rattle.hay_logical.specs.Notes.{is_live};
-ghost use Rattle.hay_logical.specs.Refusals.{IsRefusal, IsUntouched, flush_answer, run_answer, unfinished_by};
+ghost use Rattle.hay_logical.specs.Refusals.{IsRefusal, IsUntouched, RefusesFlush, RefusesPut, RefusesRun, RefusesSwap, flush_answer, run_answer, unfinished_by};
 ghost use Rattle.hay_logical.specs.Volumes.{IsOfSettings};
 
 use crate::fault::LogicalFault;
@@ -84,6 +84,7 @@ pub(crate) fn is_untouched<D: Disk>(replicas: &[Replica<D>], broken: &Broken) ->
 pub(crate) fn put_refusal(settings: &Settings, number: u32, broken: &Broken) -> Refusal
     requires of { IsOfSettings settings.now number }
     requires within { broken.now.at < 4 }
+    requires refuses { RefusesPut broken.now.fault }
     ensures { IsRefusal settings.now number broken.now result }
 {
     match broken.fault {
@@ -94,31 +95,39 @@ pub(crate) fn put_refusal(settings: &Settings, number: u32, broken: &Broken) -> 
                 fault: LogicalFault::Failed { machine, faults },
             }
         }
-        _ => Refusal {
+        ReplicaFault::NoMemory => Refusal {
             machine: machine_of(settings, number, 0),
             fault: LogicalFault::NoMemory,
         },
-    }
-}
-
-/// What a flush is answered that the replica on this machine refused.
-pub(crate) fn flush_refusal(machine: u32, fault: ReplicaFault) -> LogicalFault
-    ensures { result ≡ flush_answer machine fault }
-{
-    match fault {
-        ReplicaFault::Failed { faults } => LogicalFault::Failed { machine, faults },
-        ReplicaFault::NoMemory => LogicalFault::NoMemory,
         ReplicaFault::Frozen
         | ReplicaFault::Full { .. }
         | ReplicaFault::Busy { .. }
         | ReplicaFault::Ended { .. }
         | ReplicaFault::Worn
-        | ReplicaFault::Damaged { .. } => LogicalFault::ReadOnly { machine },
+        | ReplicaFault::Damaged { .. } => unreachable!(),
+    }
+}
+
+/// What a flush is answered that the replica on this machine refused.
+pub(crate) fn flush_refusal(machine: u32, fault: ReplicaFault) -> LogicalFault
+    requires { RefusesFlush fault }
+    ensures { result ≡ flush_answer machine fault }
+{
+    match fault {
+        ReplicaFault::Failed { faults } => LogicalFault::Failed { machine, faults },
+        ReplicaFault::Frozen => LogicalFault::ReadOnly { machine },
+        ReplicaFault::NoMemory => LogicalFault::NoMemory,
+        ReplicaFault::Full { .. }
+        | ReplicaFault::Busy { .. }
+        | ReplicaFault::Ended { .. }
+        | ReplicaFault::Worn
+        | ReplicaFault::Damaged { .. } => unreachable!(),
     }
 }
 
 /// What a beginning or a step of a compaction is answered that the replica on this machine refused.
 pub(crate) fn run_refusal(machine: u32, fault: ReplicaFault) -> LogicalFault
+    requires { RefusesRun fault }
     ensures { result ≡ run_answer machine fault }
 {
     match fault {
@@ -127,11 +136,12 @@ pub(crate) fn run_refusal(machine: u32, fault: ReplicaFault) -> LogicalFault
             machine,
             generation,
         },
-        ReplicaFault::Ended { .. } => LogicalFault::Idle,
         ReplicaFault::Worn => LogicalFault::Worn { machine },
         ReplicaFault::Damaged { at } => LogicalFault::Damaged { machine, at },
         ReplicaFault::NoMemory => LogicalFault::NoMemory,
-        ReplicaFault::Frozen | ReplicaFault::Full { .. } => LogicalFault::ReadOnly { machine },
+        ReplicaFault::Frozen | ReplicaFault::Full { .. } | ReplicaFault::Ended { .. } => {
+            unreachable!()
+        }
     }
 }
 
@@ -144,6 +154,7 @@ pub(crate) fn unfinished_by(
 ) -> Unfinished
     requires of { IsOfSettings settings.now number }
     requires within { replica < 4 }
+    requires refuses { RefusesSwap unswapped }
     ensures { result ≡ unfinished_by settings.now number replica unswapped }
 {
     let machine = machine_of(settings, number, replica);

@@ -1,10 +1,9 @@
-use Rattle.std.proofs.Common.{◌≡◌, refl, sym, subst}
+use Rattle.std.proofs.Common.{refl, sym, subst}
 use Rattle.std.specs.Prelude.{slice_index_or}
-use Rattle.hay_physical.specs.declared.fault.ReplicaFault.TheVariants as fault
 use Rattle.hay_physical.specs.Copies.{Copy}
 use Rattle.hay_logical.specs.Fits.{At}
 use Rattle.hay_logical.specs.Steps.{FlushesAt}
-use Rattle.hay_logical.proofs.Calls.{flush_if, not_stuck_before, one_counts, still_up, two_faults, went_on}
+use Rattle.hay_logical.proofs.Calls.{flush_if, not_stuck_before, one_counts, still_up, went_on}
 use Rattle.hay_logical.proofs.Lists.{at_read, one_same}
 use Rattle.hay_logical.proofs.replicas.flush_at.Goals as goal
 
@@ -29,7 +28,7 @@ returns-clause-flushes g c = λ r r' e f.
       run = c.flush.ensures.run;
       run_stays = c.flush.ensures.run_stays;
       cause = flush_if g.D.Disk.fault_count here c.flush.new.self c.flush.result up c.flush.ensures.causes c.flush.ensures.stuck c.flush.ensures.stayed c.flush.ensures.thawed c.flush.ensures.frozen;
-      not_stuck = λ n e. not_stuck_before here c.flush.new.self c.flush.result c.flush.ensures.frozen (λ z. two_faults c.flush.result (fault.Failed n) fault.Frozen e z (λ w. (let wrong : fault.Failed n ≡ fault.Frozen = w in cc)));
+      not_stuck = not_stuck_before here c.flush.new.self c.flush.result c.flush.ensures.frozen;
       deletable = c.flush.ensures.deletes;
     } in
     subst (λ x. FlushesAt g.D.Disk.Tells g.D.Disk.files g.D.Disk.fault_count x r' c.flush.result) (sym same.0)

@@ -3,8 +3,14 @@ use Rattle.hay_logical.specs.Steps.{EndsRuns, PutLeaves}
 use Rattle.hay_logical.specs.Volumes.{KeepsCounts}
 use Rattle.hay_logical.specs.Fits.{At}
 use Rattle.hay_logical.proofs.Dropping.{counts_on, deletable_on, not_untouched, put_leaves_on, untouched_back}
+use Rattle.hay_logical.proofs.Lists.{at_below}
 use Rattle.hay_logical.proofs.replicas.put_each.Goals as goal
 use Rattle.hay_logical.proofs.replicas.put_each.Goals.{then-not-is_untouched, else-not-is_untouched}
+
+pub is_untouched-requires-after_bounds : goal.is_untouched-requires-after_bounds
+is_untouched-requires-after_bounds g c κs within =
+    let left = c.in-Err.ensures.broken in
+    at_below c.put_in_order.new.replicas c.in-Err.broken.at left.after left.is
 
 pub returns-after-not-is_untouched-clause-counts : goal.returns-after-not-is_untouched-clause-counts
 returns-after-not-is_untouched-clause-counts g c = elim c.if-not-is_untouched.branch [

@@ -32,6 +32,18 @@ copied g c = record {
   deletable = c.copy.ensures.deletes;
 }
 
+pub returns-in-Ok-None-clause-examines : goal.returns-in-Ok-None-clause-examines
+returns-in-Ok-None-clause-examines g c = record {
+  on = peeked g (goal.at.returns-in-Ok-None-clause-examines g c).After-peek;
+  goal = c.in-Ok-None.ensures.goal;
+  examined = λ tells s run stands has places. (
+    λ e. absurd (true≢false (sym e)),
+    λ e. (rw c.in-Ok-None.field-0-is at (c.in-Ok-None.ensures.all tells s run has), c.in-Ok-None.ensures.run tells s run has),
+  );
+  refused = λ tells s run stands has places. tt;
+  cause = tt;
+}
+
 pub returns-in-Ok-clause-examines : goal.returns-in-Ok-clause-examines
 returns-in-Ok-clause-examines g c =
     let r : Copy g.row.D.Denot = c.args.replica.now in

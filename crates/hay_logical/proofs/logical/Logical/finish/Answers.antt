@@ -15,6 +15,7 @@ use Rattle.hay_logical.proofs.Compacted.{finish_fault, finish_refused, finished}
 use Rattle.hay_logical.proofs.Methods.{same_by}
 use Rattle.hay_logical.proofs.Standing.{volume_with}
 use Rattle.hay_logical.proofs.Stepping.{none_there, stands_there}
+use Rattle.hay_logical.proofs.Refusing.{refuses_swap}
 use Rattle.hay_logical.proofs.SwapShapes.{SwapCall, called_deletable, called_each, called_open, called_shaped, called_up, called_with}
 use Rattle.hay_logical.proofs.logical.Logical.finish.Given as given
 use Rattle.hay_logical.proofs.logical.Logical.finish.Goals as goal
@@ -86,6 +87,11 @@ invariant_of-self g c =
       c.self.invariant.1,
       called_deletable call _ (kept g after) c.self.invariant.2,
     )
+
+pub unfinished_by-unfinished-requires-clause-refuses : goal.unfinished_by-unfinished-requires-clause-refuses
+unfinished_by-unfinished-requires-clause-refuses g c =
+    let call = called_with c.in-Err.is (called g (goal.at.unfinished_by-unfinished-requires-clause-refuses g c).After-finish_at) in
+    refuses_swap g.D.Disk.fault_count call.one.before call.one.after Going c.in-Err.unswapped call.swaps.left
 
 pub invariant_of-self-in-Err : goal.invariant_of-self-in-Err
 invariant_of-self-in-Err g c =

@@ -15,6 +15,7 @@ use Rattle.hay_logical.proofs.Methods.{one_after, one_count, one_each, same_by, 
 use Rattle.hay_logical.proofs.Standing.{volume_with}
 use Rattle.hay_logical.proofs.Changing.{flush_cause, flush_refused, flushed, not_some}
 use Rattle.hay_logical.proofs.Deletable.{same_rows}
+use Rattle.hay_logical.proofs.Refusing.{refuses_flush}
 use Rattle.hay_logical.proofs.logical.Logical.flush.Goals as goal
 use Rattle.hay_logical.proofs.logical.Logical.flush.Goals.{in-Ok, in-Err}
 
@@ -41,6 +42,15 @@ flush_at-requires-clause-up g c = λ κs lives.
     let up : (j : ℕ) (r : Copy g.row.D.Denot) → At c.self.inside.replicas.items j r → IsUp r =
     λ j r e. open_up r (c.requires.«open».each j r (subst (λ v. At v.replicas j r) c.self.view_is e)) ((c.self.invariant.0).thawed thawed j r e) in
     λ j r e. up j r (subst (λ xs. At xs j r) c.as_mut_slice.ensures.value e)
+
+pub flush_refusal-requires : goal.flush_refusal-requires
+flush_refusal-requires g c =
+    let now = c.as_mut_slice.ensures.value in
+    let one : CallsOne c.args.replica c.self.inside.replicas.items c.flush_at.new.replicas = subst (λ xs. CallsOne c.args.replica xs c.flush_at.new.replicas) now c.flush_at.ensures.one in
+    let step : FlushesAt g.D.Disk.Tells g.D.Disk.files g.D.Disk.fault_count one.before one.after (Err c.in-Err.fault) =
+    subst (λ x. FlushesAt g.D.Disk.Tells g.D.Disk.files g.D.Disk.fault_count one.before one.after x) c.in-Err.is
+    (c.flush_at.ensures.flushes one.before one.after (subst (λ xs. At xs c.args.replica one.before) (sym now) one.was) (one_after c.args.replica c.self.inside.replicas.items c.flush_at.new.replicas one)) in
+    refuses_flush g.D.Disk.fault_count one.before one.after c.in-Err.fault step.cause
 
 pub invariant_of-self : goal.invariant_of-self
 invariant_of-self g c =

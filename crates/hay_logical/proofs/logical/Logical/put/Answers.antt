@@ -24,6 +24,7 @@ use Rattle.hay_logical.specs.Refusals.{IsUntouched}
 use Rattle.hay_logical.proofs.Changing.{put_remains, some_none}
 use Rattle.hay_logical.proofs.Deletable.{put_row, same_rows}
 use Rattle.hay_logical.proofs.Putting.{all_thawed, done, is_err_of, never_err, ok_of, put_cause_of, put_refused, room_cause, room_ok, room_refused, rows_kept, untouched}
+use Rattle.hay_logical.proofs.Refusing.{refuses_put}
 use Rattle.hay_logical.proofs.logical.Logical.put.Goals as goal
 
 pub put_each-requires-after_bounds : goal.put_each-requires-after_bounds
@@ -206,6 +207,11 @@ returns-then-is_untouched-clause-counts g c =
 
 pub put_refusal-refusal-requires-clause-of : goal.put_refusal-refusal-requires-clause-of
 put_refusal-refusal-requires-clause-of g c = (c.self.invariant.0).settings
+
+pub put_refusal-refusal-requires-clause-refuses : goal.put_refusal-refusal-requires-clause-refuses
+put_refusal-refusal-requires-clause-refuses g c =
+    let left = c.in-Err.ensures.broken in
+    refuses_put g.D.Disk.fault_count left.before left.after c.in-Err.broken.fault left.cause
 
 pub put_refusal-refusal-requires-clause-within : goal.put_refusal-refusal-requires-clause-within
 put_refusal-refusal-requires-clause-within g c =

@@ -17,6 +17,7 @@ use Rattle.hay_logical.proofs.Standing.{volume_with}
 use Rattle.hay_logical.proofs.Changing.{not_some}
 use Rattle.hay_logical.proofs.Stepping.{none_there, stands_there, step_fault, step_refused, stepped_on}
 use Rattle.hay_logical.proofs.Deletable.{same_rows}
+use Rattle.hay_logical.proofs.Refusing.{refuses_step}
 use Rattle.hay_logical.proofs.logical.Logical.step.Goals as goal
 use Rattle.hay_logical.proofs.logical.Logical.step.Goals.{in-Ok, in-Err}
 
@@ -64,6 +65,15 @@ step_at-requires-after_bounds g c = λ κs lives.
         ),
       ),
     )
+
+pub run_refusal-requires : goal.run_refusal-requires
+run_refusal-requires g c =
+    let now = c.as_mut_slice.ensures.value in
+    let one : CallsOne c.args.replica c.self.inside.replicas.items c.step_at.new.replicas = subst (λ xs. CallsOne c.args.replica xs c.step_at.new.replicas) now c.step_at.ensures.one in
+    let step : StepsAt g.D.Disk.Tells g.D.Disk.files g.D.Disk.fault_count g.D.Piece.Piece.Tells c.self.inside.rows c.args.replica c.args.cells one.before one.after (Err c.in-Err.fault) =
+    subst (λ x. StepsAt g.D.Disk.Tells g.D.Disk.files g.D.Disk.fault_count g.D.Piece.Piece.Tells c.self.inside.rows c.args.replica c.args.cells one.before one.after x) c.in-Err.is
+    (c.step_at.ensures.steps one.before one.after (subst (λ xs. At xs c.args.replica one.before) (sym now) one.was) (one_after c.args.replica c.self.inside.replicas.items c.step_at.new.replicas one)) in
+    refuses_step g.D.Disk.fault_count one.before one.after c.in-Err.fault step.cause
 
 pub invariant_of-self : goal.invariant_of-self
 invariant_of-self g c =
