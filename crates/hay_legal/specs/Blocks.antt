@@ -37,7 +37,7 @@ use Rattle.hay_legal.specs.declared.turn.LaneItem.{LaneItem}
 use Rattle.hay_legal.specs.declared.turn.LogNote.{LogNote}
 use Rattle.hay_legal.specs.declared.turn.RowNote.{RowNote}
 use Rattle.hay_legal.specs.Known.{volume_at, replica_at, machine_of, slot_of, replica_on, home_at, home_of, all_tries, at_front, now, closed, fault_count, arm_count, CameUp, NoneFalls, EachPair, replicas_of, volumes_of, all_lanes}
-use Rattle.hay_legal.specs.Plain.{order_from, start_of, as_closed, first_machine, lacks}
+use Rattle.hay_legal.specs.Plain.{GetShows, order_from, start_of, as_closed, first_machine, lacks}
 
 -- WHAT IS NEW
 
@@ -163,6 +163,8 @@ Freezes settings v m item = FreezesBy item.item item.reply
   where
     FreezesAs : Command → Reply → Type 0
     FreezesAs (command.Flush v' m') reply = ⊥
+    FreezesAs (command.Url pair) reply = ⊥
+    FreezesAs (command.Compact v' m') NoMem = (v' ≡ v) × (m ≡ first_machine settings v)
     FreezesAs command (Failed v' m' f) = (v' ≡ v) × (m' ≡ m)
     FreezesAs command NoMem = m ≡ first_machine settings v
     FreezesAs command _ = ⊥
@@ -304,7 +306,7 @@ GetIsLegal settings t url None Nowhere = Unit {0}
 GetIsLegal settings t url None NoMem = Unit {0}
 GetIsLegal settings t url None _ = ⊥
 GetIsLegal settings t url (Some start) (Moved v d) = HomeAt t url.pair d (Some v) × (v ≢ url.volume)
-GetIsLegal settings t url (Some start) reply = ReadIsLegal settings t start url.pair url.cookie reply
+GetIsLegal settings t url (Some start) reply = ReadIsLegal settings t start url.pair url.cookie reply × GetShows url reply
 
 -- on some replica, or on none, a photo stood at the pair
 abbrev pub StoodThen : Settings → Known → ℕ → ℕ → Pair → Type 0

@@ -230,7 +230,12 @@ fn write_note(note: &Note, out: &mut String) -> Result<(), NoMemory>
 fn are_all(byte: u8, bytes: &[u8]) -> bool
     ensures { result ≡ list_all (λ other. other == byte) bytes.now }
 {
-    bytes.iter().all(|other| *other == byte)
+    for other in bytes {
+        if *other != byte {
+            return false;
+        }
+    }
+    true
 }
 
 /// At least 16 bytes that are all equal are written once.
