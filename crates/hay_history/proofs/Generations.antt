@@ -1,0 +1,277 @@
+-- The generations that a block made of a replica.
+use Rattle.std.proofs.Common.{◌≡◌, ◌≢◌, ◌⊎◌, inl, inr, ℕ, ◌<◌, ◌≤◌, ◌+◌, ◌==◌, ◌&&◌, Bool, true, false, cond, List, [], ◌∷◌, ◌++◌, length, slice_get, Contains, flat_map, Some, None, refl, sym, ap, subst, ◌∙◌, arith, eq-eqb, ne_eqb, eqb-true}
+use Rattle.std.specs.List.{AllByRecursion as Each}
+use Rattle.std.proofs.lemmas.Bool.{cases_eq}
+use Rattle.std.proofs.lemmas.List.Concat.{length-flat_map}
+use Rattle.std.proofs.lemmas.List.Elements.{Contains-append_right}
+use Rattle.std.proofs.lemmas.Option.{slice_get_within}
+use Rattle.hay_needle.specs.declared.settings.Settings.{Settings}
+use Rattle.hay_reply.specs.declared.Reply.{Reply}
+use Rattle.hay_reply.specs.declared.Reply.TheVariants as reply
+use Rattle.hay_legal.specs.declared.known.Known.{Known}
+use Rattle.hay_legal.specs.declared.known.VolumeKnown.{VolumeKnown}
+use Rattle.hay_legal.specs.declared.turn.LaneItem.{LaneItem}
+use Rattle.hay_legal.specs.Known.{EachPair, machine_of, replica_at, volume_at}
+use Rattle.hay_legal.specs.Plain.{first_machine}
+use Rattle.hay_legal.specs.Blocks.{CompactsWith, GenerationsAreLegal, IsNoMem, made_on, tag_of}
+use Rattle.hay_history.specs.Steps.{Did, IsThawed, Leads, Standing, Step}
+use Rattle.hay_history.specs.Histories.{Course, History, behind, first_of, own, standing}
+use Rattle.hay_history.specs.Commands.{Came}
+use Rattle.hay_history.proofs.Placing.{machine_there}
+use Rattle.hay_history.proofs.Lists.{each_flat, each_from, each_in, in_rest, is_first, pair_by, pair_flat}
+use Rattle.hay_history.proofs.Lines.{answered, course_of, own_at, own_leads}
+use Rattle.hay_history.proofs.Volumes.{StaysFrozen, frozen_persists, generation_grows, replicas_many, thawed_by}
+use Rattle.hay_history.proofs.Weights.{along_weighed, weigh}
+use Rattle.hay_history.proofs.Doings.{CompactedOne, LineDid, StepBy, line_did}
+use Rattle.hay_history.proofs.Freezing.{frozen_is, of_line}
+use Rattle.hay_history.proofs.ReplicaSteps.{effect, hidden_at, made_at, swaps_at}
+use Rattle.hay_history.proofs.Sizes.{Grown, generation_of, grown_same, grown_step, grown_trans}
+use Rattle.hay_history.proofs.Printed.{made_as, made_is, made_printed, printed_weight}
+
+-- THE SWAP THAT WANT OF MEMORY MAY HIDE
+
+split : (j : ℕ) (a : Standing) (did : Did) → swaps_at j a did ≡ made_at j a did + hidden_at j a did
+split j a (Did.Swaps i end cells true) = omega arith
+split j a _ = omega arith
+
+swaps_split : (j : ℕ) (before : Standing) (steps : List Step) → weigh (swaps_at j) before steps ≡ weigh (made_at j) before steps + weigh (hidden_at j) before steps
+swaps_split j before [] = omega arith
+swaps_split j before (step ∷ steps) = omega (arith, split j before step.did, swaps_split j step.after steps)
+
+record HiddenIn (steps : List Step) (j : ℕ) : Type 0 where
+  i : ℕ
+  s : Step
+  at : slice_get steps i ≡ Some s
+  end : ℕ
+  cells : ℕ
+  is : s.did ≡ Did.Swaps j end cells true
+
+abbrev pub FreezeStays : Standing → Standing → Type 0
+FreezeStays a b = StaysFrozen a.volume b.volume
+
+-- no swap was hidden, or one that froze the volume
+abbrev Hidden : Settings → ℕ → List Step → ℕ → Standing → ℕ → Standing → Type 0
+Hidden settings v steps j a n b =
+    ((n ≡ 0) × FreezeStays a b)
+    ⊎ ((n ≡ 1) × IsThawed a × ((b.volume).frozen ≡ Some (first_machine settings v)) × HiddenIn steps j)
+
+hidden_none : (settings : Settings) (v : ℕ) (steps : List Step) (j : ℕ) (a : Standing) → Hidden settings v steps j a 0 a
+hidden_none settings v steps j a = inl (refl, λ m frozen. frozen)
+
+hidden_trans : (settings : Settings) (v : ℕ) (steps : List Step) (j : ℕ) (a b c : Standing) (n m : ℕ)
+    → Hidden settings v steps j a n b → Hidden settings v steps j b m c → Hidden settings v steps j a (n + m) c
+hidden_trans settings v steps j a b c n m h g = elim h [
+  | inl x ↦ elim g [
+    | inl y ↦ inl (omega (arith, x.0, y.0), λ m frozen. y.1 m (x.1 m frozen))
+    | inr y ↦ inr (omega (arith, x.0, y.0), thawed_by (a.volume).frozen (b.volume).frozen x.1 y.1, y.2, y.3)
+  ]
+  | inr x ↦ elim g [
+    | inl y ↦ inr (omega (arith, x.0, y.0), x.1, y.1 (first_machine settings v) x.2, x.3)
+    | inr y ↦ let none : None ≡ Some (first_machine settings v) = sym y.1 ∙ x.2 in absurd cc
+  ]
+]
+
+hidden_step : (settings : Settings) (v : ℕ) (steps : List Step) (j i : ℕ) (s : Step) (a : Standing) (did : Did) → slice_get steps i ≡ Some s → s.did ≡ did
+    → Leads settings v s.tag did a s.after → Hidden settings v steps j a (hidden_at j a did) s.after
+hidden_step settings v steps j i s a (Did.Swaps n end cells true) at is h = elim (cases_eq n j) [
+  | inl same ↦ inr (
+    ap (λ (b : Bool). cond b 1 0) (eq-eqb n j same),
+    h.0,
+    frozen_is h.4,
+    record { i = i; s = s; at = at; end = end; cells = cells; is = is ∙ ap (λ (x : ℕ). Did.Swaps x end cells true) same },
+  )
+  | inr other ↦ inl (ap (λ (b : Bool). cond b 1 0) (ne_eqb n j other), frozen_persists.each settings v s.tag (Did.Swaps n end cells true) a s.after h)
+]
+hidden_step settings v steps j i s a did at is h = inl (refl, frozen_persists.each settings v s.tag did a s.after h)
+
+-- WHAT STANDS OF A REPLICA
+
+-- over steps the number of a volume's replicas stays
+pub within_then : {settings : Settings} {k : Known} {items : List LaneItem} {history : History} {t : Known} (h : Came settings k items history t)
+    (v n j : ℕ) → v < settings.volumes → j < settings.replicas → j < length ((behind (first_of settings k v) (history.volumes v) n).volume).replicas
+within_then h v n j below within = subst (λ (m : ℕ). j < m) (sym (replicas_many h v n below)) within
+
+abbrev pub last_of : Settings → Known → History → ℕ → Standing
+last_of settings k history v = behind (first_of settings k v) (history.volumes v) (length (history.volumes v))
+
+-- how far a replica grew in the block
+pub grown : {settings : Settings} {k : Known} {items : List LaneItem} {history : History} {t : Known} (h : Came settings k items history t)
+    (v j : ℕ) → v < settings.volumes → j < settings.replicas
+    → Grown j (first_of settings k v) (weigh (swaps_at j) (first_of settings k v) (history.volumes v)) (last_of settings k history v)
+grown {settings} {k} {items} {history} {t} h v j below within =
+    along_weighed settings v (swaps_at j) (λ a n b. j < length (a.volume).replicas → Grown j a n b) (first_of settings k v) (history.volumes v)
+    (λ a inside. grown_same j a)
+    (λ a b c n m x y inside. grown_trans j a b c n m (x inside) (y (subst (λ (m : ℕ). j < m) (sym (x inside).many) inside)))
+    (λ i s a at leads falls inside. grown_step j a s.did s.after (effect settings v j s.tag s.did a s.after leads inside))
+    (h.follows v below)
+    (omega (arith, (h.store).replicas v below, within))
+
+-- GENERATIONS
+
+-- a line made this generation
+record MadeAt (c : Course) (v j g : ℕ) : Type 0 where
+  place : ℕ
+  step : Step
+  end : ℕ
+  cells : ℕ
+  own : Contains (own c v) (place, step)
+  is : step.did ≡ Did.Swaps j end cells false
+  number : g ≡ generation_of (standing c v place) j + 1
+
+made_one : (c : Course) (v j : ℕ) (item : LaneItem) (one : CompactedOne c v item) (b : Bool) → (one.j == j) ≡ b
+    → Each (MadeAt c v j) (cond b (((replica_at (standing c v (one.swaps).place).volume one.j).generation + 1) ∷ []) [])
+made_one c v j item one false same = tt
+made_one c v j item one true same =
+    let to = one.swaps in
+    let this : one.j ≡ j = eqb-true one.j j same in (
+      record {
+        place = to.place;
+        step = to.step;
+        end = one.end;
+        cells = one.cells;
+        own = subst (λ (xs : List (ℕ × Step)). Contains xs (to.place, to.step)) (sym (to.ran).steps)
+            (in_rest ((to.ran).place, (to.ran).first) ((to.ran).middle ++ (to.place, to.step) ∷ []) (to.place, to.step)
+            (Contains-append_right (to.ran).middle ((to.place, to.step) ∷ []) (to.place, to.step) (is_first (to.place, to.step) [])));
+        is = to.is ∙ ap (λ (n : ℕ). Did.Swaps n one.end one.cells false) this;
+        number = ap (λ (n : ℕ). generation_of (standing c v to.place) n + 1) this;
+      },
+      tt,
+    )
+
+made_each : (c : Course) (v j : ℕ) (item : LaneItem) → (c.settings).replicas ≤ (c.settings).machines → j < (c.settings).replicas → LineDid c v item
+    → Each (MadeAt c v j) (made_on v (machine_of c.settings v j) item)
+made_each c v j item narrow within h = elim h [
+  | inl quiet ↦ subst (λ (xs : List ℕ). Each (MadeAt c v j) xs) (sym (quiet.1 (machine_of c.settings v j)).0) tt
+  | inr some ↦ elim some [
+    | inl one ↦ subst (λ (xs : List ℕ). Each (MadeAt c v j) xs) (sym (made_as v (machine_of c.settings v j) item _ one.said)) tt
+    | inr one ↦ subst (λ (xs : List ℕ). Each (MadeAt c v j) xs) (sym (made_is c v j item narrow within one))
+        (made_one c v j item one (one.j == j) refl)
+  ]
+]
+
+-- a line prints one generation at most
+made_alone : (R : ℕ → ℕ → Type 0) (v m line lane : ℕ) (it : _) (r : Reply) → EachPair R (made_on v m (record { line = line; lane = lane; item = it; reply = r }))
+made_alone R v m line lane it (reply.Compacted v' m' g) = alone ((v' == v) && (m' == m))
+  where
+    alone : (b : Bool) → EachPair R (cond b (g ∷ []) [])
+    alone true = (tt, tt)
+    alone false = tt
+made_alone R v m line lane it _ = tt
+
+module _ {settings : Settings} {k : Known} {items : List LaneItem} {history : History} {t : Known} (h : Came settings k items history t)
+    (v j : ℕ) (below : v < settings.volumes) (within : j < settings.replicas) (narrow : settings.replicas ≤ settings.machines) where
+  made_by : (item : LaneItem) → Contains items item → Each (MadeAt (course_of h item) v j) (made_on v (machine_of settings v j) item)
+  made_by item among = made_each (course_of h item) v j item narrow within (line_did (course_of h item) v item (answered h item among).did)
+
+  -- the generation stands behind the step
+  number_behind : (item : LaneItem) → Contains items item → (g : ℕ) → (made : MadeAt (course_of h item) v j g) → generation_of (standing (course_of h item) v (made.place + 1)) j ≡ g
+  number_behind item among g made =
+      let before : Standing = standing (course_of h item) v made.place in
+      let after : Standing = standing (course_of h item) v (made.place + 1) in
+      let leads = (own_leads h item v below among (made.place, made.step) made.own).0 in
+      let grows = grown_step j before (made.step).did after (effect settings v j (tag_of item) (made.step).did before after leads (within_then h v made.place j below within)) in
+      let one : swaps_at j before (made.step).did ≡ 1 = ap (swaps_at j before) made.is ∙ ap (λ (b : Bool). cond b 1 0) (eq-eqb j j refl) in
+      omega (arith, grows.generation, one, made.number)
+
+  place_within : (item : LaneItem) (g : ℕ) → (made : MadeAt (course_of h item) v j g) → made.place < length (history.volumes v)
+  place_within item g made = slice_get_within (history.volumes v) made.place made.step (own_at (history.volumes v) item.line (made.place, made.step) made.own).0
+
+  in_range : (item : LaneItem) → Contains items item → (g : ℕ) → MadeAt (course_of h item) v j g
+      → (generation_of (first_of settings k v) j < g) × (g ≤ generation_of (last_of settings k history v) j)
+  in_range item among g made =
+      let low : generation_of (first_of settings k v) j ≤ generation_of (standing (course_of h item) v made.place) j = generation_grows h v 0 made.place j below (omega arith) in
+      let high : generation_of (standing (course_of h item) v (made.place + 1)) j ≤ generation_of (last_of settings k history v) j =
+      generation_grows h v (made.place + 1) (length (history.volumes v)) j below (omega (arith, place_within item g made)) in
+      (omega (arith, low, made.number), omega (arith, high, number_behind item among g made))
+
+  earlier : (a b : LaneItem) → Contains items a → (x y : ℕ) → (p : MadeAt (course_of h a) v j x) → (q : MadeAt (course_of h b) v j y) → p.place < q.place → x < y
+  earlier a b in_a x y p q less =
+      let grows : generation_of (standing (course_of h a) v (p.place + 1)) j ≤ generation_of (standing (course_of h b) v q.place) j =
+      generation_grows h v (p.place + 1) q.place j below (omega (arith, less)) in
+      omega (arith, grows, number_behind a in_a x p, q.number)
+
+  places_differ : (a b : LaneItem) → a.line ≢ b.line → (x y : ℕ) → (p : MadeAt (course_of h a) v j x) → (q : MadeAt (course_of h b) v j y) → p.place ≡ q.place → ⊥
+  places_differ a b differ x y p q same =
+      let at_p = own_at (history.volumes v) a.line (p.place, p.step) p.own in
+      let at_q = own_at (history.volumes v) b.line (q.place, q.step) q.own in
+      let steps : Some p.step ≡ Some q.step = sym at_p.0 ∙ ap (slice_get (history.volumes v)) same ∙ at_q.0 in
+      let step : p.step ≡ q.step = cc in
+      differ (sym at_p.1 ∙ ap (λ (s : Step). (s.tag).line) step ∙ at_q.1)
+
+  numbers_differ : (a b : LaneItem) → Contains items a → Contains items b → a.line ≢ b.line → (x y : ℕ) → MadeAt (course_of h a) v j x → MadeAt (course_of h b) v j y → x ≢ y
+  numbers_differ a b in_a in_b differ x y p q same = elim (three p.place q.place) [
+    | inl less ↦ absurd (omega (arith, same, earlier a b in_a x y p q less))
+    | inr rest ↦ elim rest [
+      | inl equal ↦ places_differ a b differ x y p q equal
+      | inr more ↦ absurd (omega (arith, same, earlier b a in_b y x q p more))
+    ]
+  ]
+    where
+      three : (n m : ℕ) → (n < m) ⊎ (n ≡ m) ⊎ (m < n)
+      three n m = grind arith
+
+  once : EachPair (λ g h. g ≢ h) (flat_map (made_on v (machine_of settings v j)) items)
+  once = pair_flat (λ g h. g ≢ h) (made_on v (machine_of settings v j)) items
+      (λ item among. made_alone (λ g h. g ≢ h) v (machine_of settings v j) item.line item.lane item.item item.reply)
+      (pair_by (λ a b. a.line ≢ b.line) (λ a b. Each (λ x. Each (λ y. x ≢ y) (made_on v (machine_of settings v j) b)) (made_on v (machine_of settings v j) a)) items
+      (λ a b in_a in_b differ.
+      each_from _ (made_on v (machine_of settings v j) a) (λ x at_x. each_from _ (made_on v (machine_of settings v j) b) (λ y at_y.
+      numbers_differ a b in_a in_b differ x y
+      (each_in (MadeAt (course_of h a) v j) (made_on v (machine_of settings v j) a) x (made_by a in_a) at_x)
+      (each_in (MadeAt (course_of h b) v j) (made_on v (machine_of settings v j) b) y (made_by b in_b) at_y))))
+      h.distinct)
+
+  number_made : weigh (made_at j) (first_of settings k v) (history.volumes v) ≡ length (flat_map (made_on v (machine_of settings v j)) items)
+  number_made =
+      sym (printed_weight h (made_at j) v (λ item. length (made_on v (machine_of settings v j) item)) below
+      (λ item among did. made_printed (course_of h item) v j item narrow within did))
+      ∙ sym (length-flat_map (made_on v (machine_of settings v j)) items)
+
+  hidden : Hidden settings v (history.volumes v) j (first_of settings k v) (weigh (hidden_at j) (first_of settings k v) (history.volumes v)) (last_of settings k history v)
+  hidden =
+      along_weighed settings v (hidden_at j) (Hidden settings v (history.volumes v) j) (first_of settings k v) (history.volumes v)
+      (hidden_none settings v (history.volumes v) j)
+      (hidden_trans settings v (history.volumes v) j)
+      (λ i s a at leads falls. hidden_step settings v (history.volumes v) j i s a s.did at refl leads)
+      (h.follows v below)
+
+  hider : HiddenIn (history.volumes v) j → (item : LaneItem) × Contains items item × CompactsWith v (machine_of settings v j) IsNoMem item
+  hider some =
+      let line = of_line h v some.i some.s below some.at in
+      let by = subst (StepBy (course_of h line.item) v line.item some.i) some.is line.by in
+      let may = by.0 in (
+        line.item,
+        line.among,
+        subst (λ (m : ℕ). CompactsWith v m IsNoMem line.item) (sym (machine_there settings v may.0 j (may.1).1))
+            ((may.1).0, subst IsNoMem (sym may.2) tt),
+      )
+
+  pub generations_legal : GenerationsAreLegal settings items v j (replica_at (volume_at k v) j) (replica_at (volume_at t v) j) (volume_at t v).frozen
+  generations_legal = record {
+    inside_range = each_flat _ (made_on v (machine_of settings v j)) items (λ item among.
+        each_from _ (made_on v (machine_of settings v j) item) (λ g at.
+        let range = in_range item among g (each_in (MadeAt (course_of h item) v j) (made_on v (machine_of settings v j) item) g (made_by item among) at) in
+        (range.0, omega (arith, range.1, number))));
+    once = once;
+    all = by hidden;
+  }
+    where
+      is : volume_at t v ≡ (last_of settings k history v).volume
+      is = (h.volumes v below).volume
+
+      number : generation_of (last_of settings k history v) j ≡ (replica_at (volume_at t v) j).generation
+      number = ap (λ (volume : VolumeKnown). (replica_at volume j).generation) (sym is)
+
+      total : (replica_at (volume_at t v) j).generation
+          ≡ (replica_at (volume_at k v) j).generation + length (flat_map (made_on v (machine_of settings v j)) items) + weigh (hidden_at j) (first_of settings k v) (history.volumes v)
+      total = omega (arith, number, (grown h v j below within).generation, swaps_split j (first_of settings k v) (history.volumes v), number_made)
+
+      by : Hidden settings v (history.volumes v) j (first_of settings k v) (weigh (hidden_at j) (first_of settings k v) (history.volumes v)) (last_of settings k history v)
+          → ((replica_at (volume_at t v) j).generation ≡ (replica_at (volume_at k v) j).generation + length (flat_map (made_on v (machine_of settings v j)) items))
+          ⊎ (((replica_at (volume_at t v) j).generation ≡ (replica_at (volume_at k v) j).generation + length (flat_map (made_on v (machine_of settings v j)) items) + 1)
+          × ((volume_at t v).frozen ≡ Some (first_machine settings v))
+          × (item : LaneItem) × Contains items item × CompactsWith v (machine_of settings v j) IsNoMem item)
+      by (inl none) = inl (omega (arith, total, none.0))
+      by (inr one) =
+          let line = hider one.3 in
+          inr (omega (arith, total, one.0), frozen_is is ∙ one.2, line.0, line.1, line.2)

@@ -1,0 +1,233 @@
+-- A worked block: two lanes put to one pair, and a third reads between.
+use Rattle.std.specs.Prelude.{◌≡◌, ◌≢◌, ℕ, zero, suc, ◌<◌, ◌≤◌, ◌==◌, ◌+◌, length, false, if◌then◌else◌, List, [], ◌∷◌, codes, refl, Some, None}
+use Rattle.std.specs.List.{AllByRecursion as Each}
+use Rattle.std.proofs.Common.{sym, subst, arith, lit≤, lit<, ap, inl, inr, ◌∙◌}
+use Rattle.hay_url.proofs.Cookies.{cookie_of-zero}
+use Rattle.hay_core.specs.declared.entry.Entry.TheVariants as entry
+use Rattle.hay_core.specs.declared.entry.CoreTag.{CoreTag}
+use Rattle.hay_script.specs.declared.Command.{Command}
+use Rattle.hay_script.specs.declared.Command.TheVariants as command
+use Rattle.hay_reply.specs.declared.Reply.{Reply}
+use Rattle.hay_reply.specs.declared.Reply.TheVariants as reply
+use Rattle.hay_legal.specs.declared.known.DirKnown.{DirKnown}
+use Rattle.hay_legal.specs.declared.known.Known.{Known}
+use Rattle.hay_legal.specs.declared.known.ReplicaKnown.{ReplicaKnown}
+use Rattle.hay_legal.specs.declared.known.Run.{Run}
+use Rattle.hay_legal.specs.declared.known.VolumeKnown.{VolumeKnown}
+use Rattle.hay_legal.specs.declared.turn.Item.TheVariants as item
+use Rattle.hay_legal.specs.declared.turn.LaneItem.{LaneItem}
+use Rattle.hay_legal.specs.Known.{empty_replica, arm_count, empty_volume, fresh_unharmed, replica_at, volume_at}
+use Rattle.hay_legal.proofs.Steps.{none_falls, one, own, pair}
+use Rattle.hay_history.specs.Steps.{Follows, Standing, Step}
+use Rattle.hay_history.specs.Steps.Did.{Entered}
+use Rattle.hay_history.specs.Steps.RowDid.{AddsRow}
+use Rattle.hay_history.specs.Histories.{History, IsLater, Seen, behind, first_of, steps_of}
+use Rattle.hay_history.specs.Commands.{Answered, Came, EndsAt, IsOfLine, at_first, at_last, course}
+
+abbrev tag : ℕ → ℕ → CoreTag
+tag lane line = record { lane = lane; line = line }
+
+-- the volume behind the first put, and behind both
+abbrev first : VolumeKnown
+first = record empty_volume {
+  log = record { tag = tag 0 2; entry = entry.Put (pair 1) own (codes "a") } ∷ [];
+  replicas = record empty_replica { end = 120; cells = 1; bare = 1 } ∷ [];
+}
+
+abbrev second : VolumeKnown
+second = record empty_volume {
+  log = record { tag = tag 0 2; entry = entry.Put (pair 1) own (codes "a") }
+      ∷ record { tag = tag 1 3; entry = entry.Put (pair 1) own (codes "b") } ∷ [];
+  replicas = record empty_replica { end = 176; cells = 2; bare = 2 } ∷ [];
+}
+
+abbrev rows : DirKnown
+rows = record { rows = record { pair = pair 1; volume = 0 } ∷ []; frozen = false; pending = None }
+
+abbrev sound : VolumeKnown → Standing
+sound volume = record { volume = volume; faults = (first_of one (fresh_unharmed one) 0).faults }
+
+abbrev steps : ℕ → List Step
+steps zero =
+    record { tag = tag 0 2; did = Entered (entry.Put (pair 1) own (codes "a")); after = sound first }
+    ∷ record { tag = tag 1 3; did = Entered (entry.Put (pair 1) own (codes "b")); after = sound second } ∷ []
+steps (suc v) = []
+
+abbrev history : History
+history = record {
+  volumes = steps;
+  directory = record { tag = tag 0 2; did = AddsRow (record { pair = pair 1; volume = 0 }); after = record { directory = rows; faults = 0 } } ∷ [];
+}
+
+abbrev both : Known
+both = record (fresh_unharmed one) { volumes = second ∷ []; directory = rows }
+
+abbrev line_of : ℕ → ℕ → Command → Reply → LaneItem
+line_of lane line asked answer = record { line = line; lane = lane; item = item.Command asked; reply = answer }
+
+abbrev items : List LaneItem
+items =
+    line_of 0 2 (command.Put (pair 1) (codes "a")) (reply.Stored 0 1 1 own)
+    ∷ line_of 1 3 (command.Put (pair 1) (codes "b")) (reply.Stored 0 2 1 own)
+    ∷ line_of 2 4 (command.Read (pair 1) own) (reply.Photo 0 0 1 1 (codes "a")) ∷ []
+
+-- so many steps of the one volume
+abbrev on_first : ℕ → ℕ → ℕ
+on_first n zero = n
+on_first n (suc v) = 0
+
+abbrev seen : ℕ → ℕ → Seen
+seen n d = record { volumes = on_first n; rows = d; arm = 0 }
+
+-- what the lanes had seen before and behind each line
+abbrev from : ℕ → Seen
+from line = if line == 2 then seen 0 0 else seen 1 1
+
+abbrev to : ℕ → Seen
+to line = if line == 3 then seen 2 1 else seen 1 1
+
+grows : (n m : ℕ) → n ≤ m → (v : ℕ) → on_first n v ≤ on_first m v
+grows n m le zero = le
+grows n m le (suc v) = lit≤ tt
+
+later : (n m d e : ℕ) → n ≤ m → d ≤ e → IsLater (seen n d) (seen m e)
+later n m d e le le' = record { volumes = grows n m le; rows = le'; arm = lit≤ tt }
+
+none_elsewhere : (line u : ℕ) → u ≢ 0 → steps_of (steps u) line ≡ []
+none_elsewhere line zero differs = absurd (differs refl)
+none_elsewhere line (suc u) differs = refl
+
+-- the steps of a line on each volume stand between these
+stands_between : (n m line : ℕ) → Each (λ at. (n ≤ at.0) × (at.0 < m)) (steps_of (steps 0) line)
+    → (v : ℕ) → Each (λ at. (on_first n v ≤ at.0) × (at.0 < on_first m v)) (steps_of (steps v) line)
+stands_between n m line here zero = here
+stands_between n m line here (suc v) = tt
+
+below_one : (v : ℕ) → v < 1 → v ≡ 0
+below_one v below = omega (arith, below)
+
+put_a : Answered (course one (fresh_unharmed one) history from to (line_of 0 2 (command.Put (pair 1) (codes "a")) (reply.Stored 0 1 1 own)))
+    (line_of 0 2 (command.Put (pair 1) (codes "a")) (reply.Stored 0 1 1 own))
+put_a = record {
+  later = later 0 1 0 1 (lit≤ tt) (lit≤ tt);
+  steps = stands_between 0 1 2 ((lit≤ tt, lit< tt), tt);
+  rows = ((lit≤ tt, lit< tt), tt);
+  did = record {
+    row = inr (record {
+      row = record { pair = pair 1; volume = 0 };
+      step = record { place = 0; step = _; only = refl; is = refl };
+      own_pair = refl;
+      tried = (0, lit< tt, refl);
+      before = tt;
+    });
+    home = record { moment = 1; seen = (lit≤ tt, lit≤ tt); front = refl; is = refl };
+    below = lit< tt;
+    own_cookie = sym cookie_of-zero;
+    elsewhere = none_elsewhere 2;
+    step = record { place = 0; step = _; only = refl; is = refl };
+    room = refl;
+    position = refl;
+  };
+}
+
+put_b : Answered (course one (fresh_unharmed one) history from to (line_of 1 3 (command.Put (pair 1) (codes "b")) (reply.Stored 0 2 1 own)))
+    (line_of 1 3 (command.Put (pair 1) (codes "b")) (reply.Stored 0 2 1 own))
+put_b = record {
+  later = later 1 2 1 1 (lit≤ tt) (lit≤ tt);
+  steps = stands_between 1 2 3 ((lit≤ tt, lit< tt), tt);
+  rows = tt;
+  did = record {
+    row = inl refl;
+    home = record { moment = 1; seen = (lit≤ tt, lit≤ tt); front = refl; is = refl };
+    below = lit< tt;
+    own_cookie = sym cookie_of-zero;
+    elsewhere = none_elsewhere 3;
+    step = record { place = 1; step = _; only = refl; is = refl };
+    room = refl;
+    position = refl;
+  };
+}
+
+read_c : Answered (course one (fresh_unharmed one) history from to (line_of 2 4 (command.Read (pair 1) own) (reply.Photo 0 0 1 1 (codes "a"))))
+    (line_of 2 4 (command.Read (pair 1) own) (reply.Photo 0 0 1 1 (codes "a")))
+read_c = record {
+  later = later 1 1 1 1 (lit≤ tt) (lit≤ tt);
+  steps = stands_between 1 1 4 tt;
+  rows = tt;
+  did = record {
+    home = record { moment = 1; seen = (lit≤ tt, lit≤ tt); front = refl; is = refl };
+    below = lit< tt;
+    moment = 1;
+    seen = (lit≤ tt, lit≤ tt);
+    front = refl;
+    replica = 0;
+    there = refl;
+    stood = refl;
+    passed = record { to_arm = λ j. false; arm = inl (lit≤ tt); disks = tt };
+    looks = (refl, none_elsewhere 4, tt);
+  };
+}
+
+fresh_at : (v j : ℕ) → v < 1 → j < 1 → replica_at (volume_at (fresh_unharmed one) v) j ≡ empty_replica
+fresh_at v j below within =
+    subst (λ (u : ℕ). replica_at (volume_at (fresh_unharmed one) u) j ≡ empty_replica) (sym (below_one v below))
+    (subst (λ (i : ℕ). replica_at (volume_at (fresh_unharmed one) 0) i ≡ empty_replica) (sym (below_one j within)) refl)
+
+no_run : (v j : ℕ) → v < 1 → j < 1 → (run : Run) → (replica_at (volume_at (fresh_unharmed one) v) j).run ≡ Some run
+    → run.goal ≡ (replica_at (volume_at (fresh_unharmed one) v) j).generation + 1
+no_run v j below within run there =
+    let none : None ≡ Some run = ap (λ (r : ReplicaKnown). r.run) (sym (fresh_at v j below within)) ∙ there in
+    cc
+
+-- of the one volume
+of_first : (P : ℕ → Type 0) → P 0 → (v : ℕ) → v < 1 → P v
+of_first P here v below = subst P (sym (below_one v below)) here
+
+from_first : (lane n d : ℕ) → arm_count (fresh_unharmed one) lane ≤ 0 → IsLater (at_first (fresh_unharmed one) lane) (seen n d)
+from_first lane n d none = record { volumes = λ v. omega arith; rows = omega arith; arm = none }
+
+to_last : (lane n d : ℕ) → n ≤ 2 → d ≤ 1 → IsLater (seen n d) (at_last both history lane)
+to_last lane n d le le' = record { volumes = at_each; rows = le'; arm = omega arith }
+  where
+    at_each : (v : ℕ) → on_first n v ≤ length (steps v)
+    at_each zero = le
+    at_each (suc v) = lit≤ tt
+
+came : Came one (fresh_unharmed one) items history both
+came = record {
+  store = record {
+    volumes = refl;
+    replicas = of_first (λ v. length (volume_at (fresh_unharmed one) v).replicas ≡ 1) refl;
+    homes = tt;
+    pending = λ pending there. cc;
+  };
+  regular = record {
+    machines = lit≤ tt;
+    ends = λ v j below within. subst (λ (r : ReplicaKnown). 64 ≤ r.end) (sym (fresh_at v j below within)) (lit≤ tt);
+    runs = no_run;
+  };
+  distinct = (((λ e. omega (arith, e)), ((λ e. omega (arith, e)), tt)), (((λ e. omega (arith, e)), tt), (tt, tt)));
+  lanes = (lit< tt, (lit< tt, (lit< tt, tt)));
+  follows = of_first (λ v. Follows one v (first_of one (fresh_unharmed one) v) (steps v))
+      ((refl, refl), (λ j. omega arith), ((refl, refl), (λ j. omega arith), tt));
+  follows_rows = (((refl, refl), refl), lit≤ tt, tt);
+  lines = of_first (λ v. Each (λ step. IsOfLine items step.tag) (steps v)) ((_, (0, lit< tt, refl), refl), ((_, (1, lit< tt, refl), refl), tt));
+  row_lines = ((_, (0, lit< tt, refl), refl), tt);
+  from = from;
+  to = to;
+  answers = (put_a, (put_b, (read_c, tt)));
+  first = (from_first 0 0 0 (lit≤ tt), (from_first 1 1 1 (lit≤ tt), (from_first 2 1 1 (lit≤ tt), tt)));
+  order = (((λ e. absurd (omega (arith, e))), ((λ e. absurd (omega (arith, e))), tt)), (((λ e. absurd (omega (arith, e))), tt), (tt, tt)));
+  last = (to_last 0 1 1 (lit≤ tt) (lit≤ tt), (to_last 1 2 1 (lit≤ tt) (lit≤ tt), (to_last 2 1 1 (lit≤ tt) (lit≤ tt), tt)));
+  volumes = of_first (λ v. EndsAt one v (behind (first_of one (fresh_unharmed one) v) (steps v) (length (steps v))) both)
+      (record { volume = refl; faults = λ j within. refl });
+  directory = refl;
+  directory_faults = refl;
+  count = refl;
+  drained = refl;
+  fuses = refl;
+  faults = none_falls (fresh_unharmed one).faults;
+  arms = none_falls (fresh_unharmed one).arms;
+  faults_end = (omega arith, (omega arith, tt));
+  arms_end = (omega arith, (omega arith, (omega arith, (omega arith, (omega arith, (omega arith, (omega arith, (omega arith, tt))))))));
+}
