@@ -30,7 +30,7 @@ use Rattle.hay_legal.specs.declared.turn.Item.TheVariants as asks
 use Rattle.hay_legal.specs.declared.turn.LaneItem.{LaneItem}
 use Rattle.hay_legal.specs.Known.{CameUp, EachPair, NoneFalls, all_tries, arm_count, fault_count, machine_of, now, replica_at, replica_on, replicas_of, slot_of, stands, volume_at}
 use Rattle.hay_legal.specs.Plain.{ArmRises, GetShows, as_closed, first_machine, lacks, order_from, put_entry, start_of}
-use Rattle.hay_legal.specs.Blocks.{tag_of}
+use Rattle.hay_legal.specs.Blocks.{IsOn, tag_of}
 use Rattle.hay_legal.specs.Subject.{IsOf}
 use Rattle.hay_history.specs.Steps.{Did, Follows, FollowsRows, Standing, Step}
 use Rattle.hay_history.specs.Steps.Did.{Begins, Ends, Entered, Examines, Flushes, Freezes, Pends, Poises, Sticks, Swaps, Tries}
@@ -258,9 +258,6 @@ UrlDid c pair NoMem = DidNothing c
 UrlDid c pair _ = ⊥
 
 -- FLUSHES
-
-abbrev pub IsOn : ℕ → ℕ → ℕ → ℕ → Type 0
-IsOn v m v' m' = (v' ≡ v) × (m' ≡ m)
 
 abbrev pub IsFrozen : Course → ℕ → List ClosedBy → Type 0
 IsFrozen c v (by ∷ []) = (by.volume ≡ v) × SeesFrozen c v by.machine
