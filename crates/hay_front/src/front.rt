@@ -1,9 +1,12 @@
-//! The front in the form with one view: a look is a call on the front.
-ghost use Rattle.std.specs.Prelude.{◌≡◌, ◌<◌, ◌⊎◌, length, map, IfOk, IfErr, Some, true, false, [], replicate, filter};
+//! The front: the writer's side, with the log.
+ghost use Rattle.std.specs.Prelude.{◌≡◌, ◌+◌, ◌<◌, ◌≤◌, ◌^◌, ◌⊎◌, length, map, IfOk, IfErr, Some, true, false, [], replicate, filter, vec_len, vec_capacity};
 ghost use Rattle.hay_front.specs.Fronts.{MayPublish, Holds, with_deed, IsBehind, RowOf, logged};
-ghost use Rattle.hay_front.specs.Items.{plain_item};
+ghost use Rattle.hay_front.specs.Shows.{IsNamed};
 
-use crate::history::{History, Seat};
+use crate::history::{History, Known};
+use crate::pair::put_back;
+use crate::seat::Seat;
+use crate::shown::{Change, PairOf, begin, reader_of, show};
 use crate::view::View;
 use hay_base::NoMemory;
 use std::alloc::Global;
@@ -18,18 +21,11 @@ pub struct Tag {
     pub line: u64,
 }
 
-/// An entry of the log.
-#[derive(Debug, Drop)]
-pub struct LogItem<O> {
-    pub tag: Tag,
-    pub op: O,
-}
-
 /// What had been published when an operation was. Clauses see that.
 #[derive(Drop)]
 pub struct Receipt<T: View> {
     front: u64,
-    shown: Seat<T>,
+    shown: Known<T>,
 }
 
 impl<T: View> Model for Receipt<T> {
@@ -44,31 +40,75 @@ impl<T: View> Model for Receipt<T> {
 }
 
 /// A view, with the log of the operations that count. Clauses see what was published, what stands in the log, and whether it is
-/// closed to publishing.
-#[derive(Drop)]
+/// closed to publishing. It is not `Drop`, since it waits for looks that are under way: end it by `close`.
 pub struct Front<T: View> {
-    shown: T,
-    log: Vec<LogItem<T::Op>>,
+    // A publish has it while it goes on.
+    pair: Option<PairOf<T>>,
+    // Has the operation whose publish closed the front, too.
     history: History<T>,
+    shown: Known<T>,
+    log: Vec<Tag>,
     closed: bool,
 }
 
 impl<T: View> Model for Front<T> {
-    ghost use Rattle.std.specs.Prelude.{◌≡◌, length, map};
-    ghost use Rattle.hay_front.specs.declared.front.LogItem.{LogItem};
-    ghost use Rattle.hay_front.specs.Fronts.{Fronted, FoldOf, IsLogOf};
-    ghost use Rattle.hay_front.specs.Items.{plain_item};
+    ghost use Rattle.std.specs.Prelude.{◌≡◌, length, filter};
+    ghost use Rattle.hay_front.specs.Entries.{LogEntry, entries};
+    ghost use Rattle.hay_front.specs.Fronts.{FrontState};
+    ghost use Rattle.hay_front.specs.Insides.{IsFront};
 
-    ghost Value = { Fronted T.Means T.Start T.Deed (LogItem T.Deed) };
+    ghost Value = { FrontState T.Means T.Start T.Deed (LogEntry T.Deed) };
 
-    ghost view = { λ f. record { shown = f.history; log = map (plain_item T.deed) f.log.items; closed = f.closed } };
+    ghost view = { λ f. record { shown = f.shown; log = entries f.log.items (filter T.is_counted f.shown.deeds); closed = f.closed } };
 
-    ghost invariant = { λ f. FoldOf T.after f.history (T.means f.shown) × IsLogOf (λ i. i.op) T.is_counted (map (plain_item T.deed) f.log.items) f.history.deeds };
+    ghost invariant = { λ f. IsFront T.is_counted (λ s. s.seen.book) (λ s. s.seen.log) f.pair f.history f.shown (length f.log.items) f.closed };
+}
+
+// A seat for each reader, all of which know what was published.
+fn make_seats<T: View>(
+    mut pair: PairOf<T>,
+    all: &Known<T>,
+    mut made_seats: Vec<Seat<T>>,
+    seats: u32,
+) -> Result<(PairOf<T>, Vec<Seat<T>>), PairOf<T>>
+    requires room { (made_seats.items ≡ []) × (seats ≤ vec_capacity made_seats) }
+    requires named { IsNamed (λ q. q.book) pair.known all.now.front }
+    ensures { IfOk result (λ r. (r.0 ≡ pair) × (r.1.items ≡ replicate seats all.now)) }
+{
+    for i in 0..seats {
+        let Ok(reader) = reader_of(&mut pair) else {
+            return Err(pair);
+        };
+        made_seats.push_reserved(Seat::new(all.again(), reader));
+    }
+    Ok((pair, made_seats))
+}
+
+// The front behind an operation.
+fn front_behind(log: &Vec<Tag>, is_counted: bool, tag: Tag) -> u64
+    requires { vec_len log.now < vec_capacity log.now }
+    ensures { result ≡ length (logged is_counted log.now.items tag) }
+{
+    if is_counted {
+        log.len() as u64 + 1
+    } else {
+        log.len() as u64
+    }
+}
+
+fn enter(log: &mut Vec<Tag>, is_counted: bool, tag: Tag)
+    requires { vec_len log.old < vec_capacity log.old }
+    ensures { log.new.items ≡ logged is_counted log.old.items tag }
+{
+    if is_counted {
+        log.push_reserved(tag);
+    }
 }
 
 impl<T: View> Front<T> {
     /// A front of a view, and seats that know as much as it. The two views mean the same. `NoMemory` drops them.
-    pub fn new(
+    pub fn new<R: Wait>(
+        rt: &R,
         alloc: Global,
         first: T,
         second: T,
@@ -79,49 +119,40 @@ impl<T: View> Front<T> {
         requires fact { (b : T.Start) × T.fact b (T.means first) [] }
         ensures { IfOk result (λ r. (b : T.Start) × T.fact b (T.means first) [] × (r.0.shown.base ≡ Some (T.means first, b)) × (r.0.shown.deeds ≡ []) × (r.0.closed ≡ false) × (r.0.log ≡ []) × (r.1.items ≡ replicate seats r.0.shown)) }
     {
-        drop(second);
         let history = History::begin(&first)?;
-        let mut all = Vec::with_capacity(alloc, seats as usize)?;
-        for i in 0..seats {
-            all.push_reserved(history.seat());
+        let room = Vec::with_capacity(alloc, seats as usize)?;
+        let shown = history.known();
+        let pair = begin(rt, alloc, first, second, &shown, seats)?;
+        match make_seats(pair, &shown, room, seats) {
+            Ok((pair, made_seats)) => {
+                let front = Front {
+                    pair: Some(pair),
+                    history,
+                    shown,
+                    log: Vec::new(alloc),
+                    closed: false,
+                };
+                Ok((front, made_seats))
+            }
+            Err(pair) => {
+                pair.end(rt);
+                Err(NoMemory)
+            }
         }
-        Ok((
-            Front {
-                shown: first,
-                log: Vec::new(alloc),
-                history,
-                closed: false,
-            },
-            all,
-        ))
     }
 
-    // The seat then has seen all.
-    fn catch_up<R: Wait>(&self, rt: &R, seat: &mut Seat<T>)
+    /// The seat then has seen all that was published.
+    pub fn show_all<R: Wait>(&self, rt: &R, seat: &mut Seat<T>)
         requires { seat.old.front ≡ self.now.shown.front }
-        ensures seen { IsBehind seat.old self.now.shown }
-        ensures all { seat.new ≡ self.now.shown }
+        ensures seen { IsBehind seat.old self.now.shown × (seat.new ≡ self.now.shown) }
         ensures fact { Holds T.fact self.now.shown }
     {
-        let all = self.history.seat();
-        if !seat.is_behind(&all) {
+        if !seat.is_behind(&self.shown) {
             // No seat has seen more than was published.
             for _ in rt.forever() {}
             unreachable!();
         }
-        *seat = all;
-    }
-
-    /// The front and the row of a key. The seat then has seen all that was published.
-    pub fn look<R: Wait>(&self, rt: &R, seat: &mut Seat<T>, key: &T::Key) -> (u64, T::Row)
-        requires { seat.old.front ≡ self.now.shown.front }
-        ensures seen { IsBehind seat.old seat.new × (seat.new ≡ self.now.shown) }
-        ensures fact { Holds T.fact seat.new }
-        ensures front { result.0 ≡ length (filter T.is_counted seat.new.deeds) }
-        ensures row { RowOf T.after T.row_is seat.new key.now result.1 }
-    {
-        self.catch_up(rt, seat);
-        (self.front(), self.shown.row(key))
+        seat.see(&self.shown);
     }
 
     /// The row of a key after all that was published, which the seat then has seen.
@@ -131,11 +162,14 @@ impl<T: View> Front<T> {
         ensures fact { Holds T.fact self.now.shown }
         ensures row { RowOf T.after T.row_is self.now.shown key.now result }
     {
-        self.catch_up(rt, seat);
-        self.shown.row(key)
+        self.show_all(rt, seat);
+        let (_, row) = seat.look(rt, key);
+        self.show_all(rt, seat);
+        row
     }
 
     /// The number of operations that count.
+    #[tactic(auto, using(crate::proofs::Entries::entries_length))]
     pub fn front(&self) -> u64
         ensures log { result ≡ length self.now.log }
         ensures counted { result ≡ length (filter T.is_counted self.now.shown.deeds) }
@@ -149,15 +183,17 @@ impl<T: View> Front<T> {
         self.closed
     }
 
-    /// The operations that count, in order.
-    pub fn log(&self) -> &[LogItem<T::Op>]
-        ensures items { map (plain_item T.deed) result.now ≡ self.now.log }
-        ensures counted { map (λ i. i.op) self.now.log ≡ filter T.is_counted self.now.shown.deeds }
+    /// The tags of the operations that count, in order.
+    #[tactic(auto, using(crate::proofs::Entries::entries_tags, crate::proofs::Entries::entries_deeds))]
+    pub fn log(&self) -> &[Tag]
+        ensures tags { result.now ≡ map (λ e. e.tag) self.now.log }
+        ensures counted { map (λ e. e.deed) self.now.log ≡ filter T.is_counted self.now.shown.deeds }
     {
         self.log.as_slice()
     }
 
-    /// Publishes an operation, and enters it into the log if it counts. `NoMemory` publishes nothing, and closes the front.
+    /// Publishes an operation, and enters its tag into the log if it counts. It may wait for looks that are under way. The other copy
+    /// takes the operation at the next publish, and either may want memory: `NoMemory` publishes nothing, and closes the front.
     pub fn publish<R: Wait>(
         &mut self,
         rt: &R,
@@ -169,41 +205,59 @@ impl<T: View> Front<T> {
         requires open { self.old.closed ≡ false }
         requires fact { MayPublish T.fact self.old.shown (T.deed op) }
         ensures seen { IsBehind seat.old self.old.shown × (seat.new ≡ self.new.shown) }
-        ensures done { IfOk result (λ r. (self.new ≡ record { shown = with_deed self.old.shown (T.deed op); log = logged (T.is_counted (T.deed op)) self.old.log (record { tag = tag; op = T.deed op }); closed = false }) × (r ≡ self.new.shown)) }
+        ensures done { IfOk result (λ r. (self.new ≡ record { shown = with_deed self.old.shown (T.deed op); log = logged (T.is_counted (T.deed op)) self.old.log (record { tag = tag; deed = T.deed op }); closed = false }) × (r ≡ self.new.shown)) }
         ensures refused { IfErr result (λ _. self.new ≡ record { shown = self.old.shown; log = self.old.log; closed = true }) }
     {
-        self.catch_up(rt, seat);
+        self.show_all(rt, seat);
+        // Where it is refused it stays closed.
+        self.closed = true;
         let is_counted = T::counts(&op);
-        if !self.history.has_room()
-            || self.log.reserve(1).is_err()
-            || self.shown.apply(&op).is_err()
-        {
-            self.closed = true;
+        if !self.history.has_room() {
             return Err(NoMemory);
         }
+        self.log.reserve(1)?;
+        let front = front_behind(&self.log, is_counted, tag);
         self.history.add(rt, &op);
-        if is_counted {
-            self.log.push_reserved(LogItem { tag, op });
+        let all = self.history.known();
+        let change = Change {
+            op,
+            seen: all.seen(),
+            count: all.count(),
+            front,
+        };
+        let Some(pair) = self.pair.take() else {
+            unreachable!()
+        };
+        match show(rt, pair, change) {
+            Ok(pair) => put_back(&mut self.pair, pair),
+            Err(pair) => {
+                put_back(&mut self.pair, pair);
+                return Err(NoMemory);
+            }
         }
-        *seat = self.history.seat();
-        Ok(Receipt {
-            front: self.log.len() as u64,
-            shown: self.history.seat(),
-        })
+        enter(&mut self.log, is_counted, tag);
+        self.shown = all.again();
+        self.closed = false;
+        seat.see(&all);
+        Ok(Receipt { front, shown: all })
     }
 
-    /// Ends the front with all of its seats, and gives its log.
-    pub fn close<R: Wait>(self, _rt: &R, seats: Vec<Seat<T>>) -> Vec<LogItem<T::Op>>
-        ensures items { map (plain_item T.deed) result.items ≡ self.log }
-        ensures counted { map (λ i. i.op) self.log ≡ filter T.is_counted self.shown.deeds }
+    /// Ends the front with all of its seats, and gives its log. It may wait for looks that are under way.
+    #[tactic(auto, using(crate::proofs::Entries::entries_tags, crate::proofs::Entries::entries_deeds))]
+    pub fn close<R: Wait>(self, rt: &R, seats: Vec<Seat<T>>) -> Vec<Tag>
+        ensures tags { result.items ≡ map (λ e. e.tag) self.log }
+        ensures counted { map (λ e. e.deed) self.log ≡ filter T.is_counted self.shown.deeds }
     {
         drop(seats);
         let Front {
+            pair,
+            history: _,
             shown: _,
             log,
-            history: _,
             closed: _,
         } = self;
+        let Some(pair) = pair else { unreachable!() };
+        pair.end(rt);
         log
     }
 }
@@ -219,14 +273,11 @@ impl<T: View> Receipt<T> {
 
 impl<T: View> Seat<T> {
     /// The seat then has seen all for which the receipt stands.
-    #[tactic(auto, using(crate::proofs::Histories::is_behind_self))]
     pub fn learn(&mut self, receipt: &Receipt<T>)
         requires { self.old.front ≡ receipt.now.front }
         ensures learnt { IsBehind self.old self.new × IsBehind receipt.now self.new }
         ensures no_more { (self.new ≡ self.old) ⊎ (self.new ≡ receipt.now) }
     {
-        if self.is_behind(&receipt.shown) {
-            *self = receipt.shown.again();
-        }
+        self.learn_of(&receipt.shown);
     }
 }

@@ -1,66 +1,82 @@
 //! All lanes of a board, from the first post to the last.
-ghost use Rattle.std.specs.Prelude.{◌≡◌, ◌<◌, ◌≤◌, ◌^◌, [], length, map, vec_len, vec_capacity, All, IfOk};
-ghost use Rattle.hay_thread_tests.specs.Clerks.{IsToldOf};
+ghost use Rattle.std.specs.Prelude.{◌≡◌, ◌<◌, ◌≤◌, ◌^◌, [], length, map, vec_len, vec_capacity, All, IfOk, Ok, Err, MatchResult};
+ghost use Rattle.hay_thread_tests.specs.Workers.{IsRunOf};
 
-use crate::board::{Board, Post};
-use crate::clerk::{Clerk, Line};
-use crate::desk::{Act, Desk, Posted};
+use crate::board::Board;
+use crate::locked::LockedBoard;
+use crate::worker::{BoardWorker, Line, Posted};
 use hay_base::NoMemory;
-use hay_front::{Front, LogItem, Seat};
+use hay_front::{Front, Seat, Tag};
 use hay_lanes::{Gate, run_lanes};
 use hay_turn::{Turn, TurnSeat};
 use std::alloc::Global;
 use std::sync::Wait;
 use std::thread::Threads;
 
-/// What each lane was answered, all posts that were made, and those that count.
+type Answers = Vec<Vec<Option<Posted>>>;
+
+/// What each lane was answered, and the tags of the posts that count.
 #[derive(Drop)]
-pub struct Told {
-    pub outs: Vec<Vec<Option<Posted>>>,
-    pub acts: Vec<Act>,
-    pub log: Vec<LogItem<Post>>,
+pub struct BoardRun {
+    pub outs: Answers,
+    pub log: Vec<Tag>,
 }
 
-// Gives each clerk its seats.
-fn clerks_of<'a>(
-    turn: &'a Turn<Desk>,
-    seats: Vec<TurnSeat<Desk>>,
+// Gives each worker its seats.
+fn workers_of<'a>(
+    turn: &'a Turn<LockedBoard>,
+    seats: Vec<TurnSeat<LockedBoard>>,
     views: Vec<Seat<Board>>,
-    mut clerks: Vec<Clerk<'a>>,
-) -> Vec<Clerk<'a>>
+    mut workers: Vec<BoardWorker<'a>>,
+) -> Vec<BoardWorker<'a>>
     requires as_many { length views.items ≡ length seats.items }
-    requires room { (clerks.items ≡ []) × (vec_len seats ≤ vec_capacity clerks) }
-    ensures seats { map (λ clerk. clerk.seat) result.items ≡ seats.items }
-    ensures views { map (λ clerk. clerk.view) result.items ≡ views.items }
-    ensures turn { All (λ clerk. clerk.turn.now ≡ turn.now) result.items }
+    requires room { (workers.items ≡ []) × (vec_len seats ≤ vec_capacity workers) }
+    ensures seats { map (λ worker. worker.seat) result.items ≡ seats.items }
+    ensures views { map (λ worker. worker.view) result.items ≡ views.items }
+    ensures turn { All (λ worker. worker.turn.now ≡ turn.now) result.items }
 {
     let mut views = views.into_iter();
     for seat in seats {
         let Some(view) = views.next() else {
             unreachable!()
         };
-        clerks.push_reserved(Clerk { turn, seat, view });
+        workers.push_reserved(BoardWorker { turn, seat, view });
     }
-    clerks
+    workers
 }
 
-// The seats of all clerks, in order.
-fn seats_of(clerks: Vec<Clerk<'_>>, mut seats: Vec<TurnSeat<Desk>>) -> Vec<TurnSeat<Desk>>
-    requires { (seats.items ≡ []) × (vec_len clerks ≤ vec_capacity seats) }
-    ensures { result.items ≡ map (λ clerk. clerk.seat) clerks.entry.items }
+// The seats of all workers, in order.
+fn seats_of(
+    workers: Vec<BoardWorker<'_>>,
+    mut seats: Vec<TurnSeat<LockedBoard>>,
+) -> Vec<TurnSeat<LockedBoard>>
+    requires { (seats.items ≡ []) × (vec_len workers ≤ vec_capacity seats) }
+    ensures { result.items ≡ map (λ worker. worker.seat) workers.entry.items }
 {
-    for clerk in clerks {
-        let Clerk {
+    for worker in workers {
+        let BoardWorker {
             turn: _,
             seat,
             view: _,
-        } = clerk;
+        } = worker;
         seats.push_reserved(seat);
     }
     seats
 }
 
-fn empty_board(alloc: Global) -> Board
+// The workers, which come back either way, and what they answered.
+fn workers_and_answers<'a>(
+    ran: Result<(Vec<BoardWorker<'a>>, Answers), (Vec<BoardWorker<'a>>, NoMemory)>,
+) -> (Vec<BoardWorker<'a>>, Result<Answers, NoMemory>)
+    ensures { MatchResult ran.entry (λ r. (result.0 ≡ r.0) × (result.1 ≡ Ok r.1)) (λ r. (result.0 ≡ r.0) × (result.1 ≡ Err r.1)) }
+{
+    match ran {
+        Ok((workers, outs)) => (workers, Ok(outs)),
+        Err((workers, error)) => (workers, Err(error)),
+    }
+}
+
+pub(crate) fn empty_board(alloc: Global) -> Board
     ensures { result.seats.items ≡ [] }
 {
     Board {
@@ -68,35 +84,35 @@ fn empty_board(alloc: Global) -> Board
     }
 }
 
-/// Makes the posts of all lanes, a lane to each list of lines. Each lane's posts that it was answered stand in the history once,
-/// in its order, and no others stand there; the log has those that count.
-pub fn run_board<R: Threads + Wait + Sync, G: Gate>(
+/// Makes the posts of all lanes, a lane to each list of lines. There is one history, in which each lane's posts that it was answered
+/// stand once, in its order, each at the place that the lane was told, and no others stand there; the log has the tags of those that
+/// count.
+pub fn run_board<R: Threads + Wait + Sync, G: Gate + Sync>(
     rt: &R,
     alloc: Global,
     jobs: &[Vec<Line>],
     gate: &G,
-) -> Result<Told, NoMemory>
+) -> Result<BoardRun, NoMemory>
     requires some { 0 < length jobs.now }
     requires few { length jobs.now < 2 ^ 32 }
-    ensures { IfOk result (λ told. IsToldOf (map (λ v. v.items) jobs.now) (map (λ v. v.items) told.outs.items) told.acts.items (map (λ i. i.op) told.log.items)) }
+    ensures { IfOk result (λ told. IsRunOf (map (λ v. v.items) jobs.now) (map (λ v. v.items) told.outs.items) told.log.items) }
 {
     let lanes = jobs.len() as u32;
     let room = Vec::with_capacity(alloc, jobs.len())?;
     let seats_room = Vec::with_capacity(alloc, jobs.len())?;
-    let (front, views) = Front::new(alloc, empty_board(alloc), empty_board(alloc), lanes)?;
-    let acts = Vec::new(alloc);
-    let (turn, seats) = match Turn::new(alloc, Desk { front, acts }, lanes) {
+    let (front, views) = Front::new(rt, alloc, empty_board(alloc), empty_board(alloc), lanes)?;
+    let (turn, seats) = match Turn::new(alloc, LockedBoard { front, posts: 0 }, lanes) {
         Ok(made) => made,
-        Err((_desk, error)) => return Err(error),
+        Err((locked, error)) => {
+            locked.close(rt, views);
+            return Err(error);
+        }
     };
-    let clerks = clerks_of(&turn, seats, views, room);
-    let (clerks, outs) = match run_lanes(rt, alloc, clerks, jobs, gate) {
-        Ok(done) => done,
-        Err((_clerks, error)) => return Err(error),
-    };
-    let seats = seats_of(clerks, seats_room);
-    let desk = turn.close(seats);
-    let Desk { front, acts } = desk;
-    let log = front.close(rt, Vec::new(alloc));
-    Ok(Told { outs, acts, log })
+    let workers = workers_of(&turn, seats, views, room);
+    let (workers, outs) = workers_and_answers(run_lanes(rt, alloc, workers, jobs, gate));
+    let seats = seats_of(workers, seats_room);
+    let locked = turn.close(seats);
+    let log = locked.close(rt, Vec::new(alloc));
+    let outs = outs?;
+    Ok(BoardRun { outs, log })
 }
