@@ -112,6 +112,8 @@ impl<D: Disk> Directory<D> {
         ensures damaged { D.Tells → (file at : ℕ) → result ≡ Err (OpenFault.Damaged file at) →
             (file ≡ 0) × (0 < length (D.files self.old.disk 0).now)
             × IsDamagedJournal (journal_super self.old.settings) (D.files self.old.disk 0).now at }
+        ensures undamaged { D.Tells → 0 < length (D.files self.old.disk 0).now →
+            OnOk result ((at : ℕ) → IsDamagedJournal (journal_super self.old.settings) (D.files self.old.disk 0).now at → ⊥) }
         ensures whole { D.Tells → (rows : List HomeRow) (file at : ℕ) →
             OpensRows self.old.settings (λ n. (D.files self.old.disk n).now) rows →
             result ≡ Err (OpenFault.Damaged file at) → ⊥ }

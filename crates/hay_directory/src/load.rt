@@ -1,5 +1,5 @@
 //! Loading the rows of a journal.
-ghost use Rattle.std.specs.Prelude.{◌≡◌, ◌≤◌, ◌<◌, ℕ, List, length, map, Err, IfOk};
+ghost use Rattle.std.specs.Prelude.{◌≡◌, ◌≤◌, ◌<◌, ℕ, List, length, map, Err, IfOk, OnOk};
 ghost use Rattle.hay_disk.specs.Counts.{Rose};
 ghost use Rattle.hay_disk.specs.Disk.{IsFree, IsSolid, KeepsOthers};
 ghost use Rattle.hay_dirfile.specs.Journal.{IsDamagedJournal};
@@ -42,6 +42,7 @@ pub fn load<D: Disk>(
         (faults ≡ D.fault_count disk.new) × Rose (D.fault_count disk.old) (D.fault_count disk.new) }
     ensures damaged { D.Tells → (file at : ℕ) → result ≡ Err (OpenFault.Damaged file at) →
         (file ≡ 0) × (0 < length (D.files disk.old 0).now) × IsDamagedJournal (journal_super settings.now) (D.files disk.old 0).now at }
+    ensures undamaged { D.Tells → 0 < length (D.files disk.old 0).now → OnOk result ((at : ℕ) → IsDamagedJournal (journal_super settings.now) (D.files disk.old 0).now at → ⊥) }
     ensures whole { D.Tells → (rows : List HomeRow) (file at : ℕ) → HasRows settings.now (D.files disk.old 0).now rows →
         result ≡ Err (OpenFault.Damaged file at) → ⊥ }
     ensures same { D.Tells → 0 < length (D.files disk.old 0).now → D.files disk.new ≡ D.files disk.old }

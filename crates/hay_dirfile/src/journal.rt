@@ -47,6 +47,7 @@ impl Journal {
         ensures same { D.Tells → 0 < length (D.files disk.old 0).now → D.files disk.new ≡ D.files disk.old }
         ensures damaged { D.Tells → (file at : ℕ) → result ≡ Err (OpenFault.Damaged file at) →
             (file ≡ 0) × (0 < length (D.files disk.old 0).now) × IsDamagedJournal sup.now (D.files disk.old 0).now at }
+        ensures undamaged { D.Tells → 0 < length (D.files disk.old 0).now → OnOk result ((at : ℕ) → IsDamagedJournal sup.now (D.files disk.old 0).now at → ⊥) }
 
         // A journal is opened with its rows, unless the disk fails or memory is wanting.
         ensures exact { D.Tells → (rows : List DirRow) → IsJournal (super_bytes sup.now) sup.now.settings.volumes (D.files disk.old 0).now rows →
@@ -122,6 +123,7 @@ fn open_rows<D: Disk>(
     ensures same { D.Tells → 0 < length (D.files disk.old 0).now → D.files disk.new ≡ D.files disk.old }
     ensures damaged { D.Tells → (at : ℕ) → result ≡ Err (RowsFault.Damaged at) →
         (0 < length (D.files disk.old 0).now) × IsDamagedJournal sup.now (D.files disk.old 0).now at }
+    ensures undamaged { D.Tells → 0 < length (D.files disk.old 0).now → OnOk result ((at : ℕ) → IsDamagedJournal sup.now (D.files disk.old 0).now at → ⊥) }
     ensures exact { D.Tells → (rows : List DirRow) → IsJournal (super_bytes sup.now) sup.now.settings.volumes (D.files disk.old 0).now rows →
         IfOk result (λ scan. scan.0.items ≡ rows) }
     ensures only { D.Tells → (rows : List DirRow) → IsJournal (super_bytes sup.now) sup.now.settings.volumes (D.files disk.old 0).now rows →

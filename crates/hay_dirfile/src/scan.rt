@@ -1,6 +1,6 @@
 //! Reading the rows of a journal.
 
-ghost use Rattle.std.specs.Prelude.{◌≡◌, ◌⊎◌, ◌≤◌, ◌<◌, ◌+◌, ℕ, List, length, Ok, Err, IfOk, IfErr, IsErr, IsErrOf};
+ghost use Rattle.std.specs.Prelude.{◌≡◌, ◌⊎◌, ◌≤◌, ◌<◌, ◌+◌, ℕ, List, length, Ok, Err, IfOk, IfErr, OnOk, IsErr, IsErrOf};
 ghost use Rattle.hay_disk.specs.Counts.{IsCounted};
 ghost use Rattle.hay_disk.specs.Disk.{KeepsOthers};
 ghost use Rattle.hay_disk.specs.Gate.{IsClosed, Stands};
@@ -58,6 +58,7 @@ pub(crate) fn read_rows<D: Disk>(
     ensures damaged { D.Tells → (at : ℕ) → result ≡ Err (RowsFault.Damaged at) → IsDamagedJournal sup.now (D.files disk.old 0).now at }
     ensures only { D.Tells → (rows : List DirRow) → IsJournal (super_bytes sup.now) sup.now.settings.volumes (D.files disk.old 0).now rows →
         IfErr result (λ fault. (fault ≡ RowsFault.Failed) ⊎ (fault ≡ RowsFault.NoMemory)) }
+    ensures undamaged { D.Tells → OnOk result ((at : ℕ) → IsDamagedJournal sup.now (D.files disk.old 0).now at → ⊥) }
     ensures exact { D.Tells → (rows : List DirRow) → IsJournal (super_bytes sup.now) sup.now.settings.volumes (D.files disk.old 0).now rows →
         IfOk result (λ scan. scan.0.items ≡ rows) }
     ensures same { D.Tells → D.files disk.new ≡ D.files disk.old }

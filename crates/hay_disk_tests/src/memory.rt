@@ -1,5 +1,6 @@
 //! What no clause says: that calls succeed, which of them fail, and what a stop takes.
-ghost use Rattle.std.specs.Prelude.{◌≡◌, ◌≤◌, ◌<◌, ◌+◌, false, IfOk, OnOk};
+ghost use Rattle.std.specs.Prelude.{◌≡◌, ◌≤◌, ◌<◌, ◌+◌, false, length, IfOk, OnOk};
+ghost use Rattle.hay_disk.specs.Disk.{IsFree, IsSolid};
 ghost use Rattle.hay_disk.specs.Gate.{IsGate};
 ghost use Rattle.hay_memdisk.specs.MemDisk.{mem_files};
 ghost use Rattle.hay_memdisk.specs.MemShelf.{mem_disks};
@@ -98,6 +99,17 @@ fn a_stop_takes_what_was_not_synced(rt: HostRuntime) -> Result<(), Fail> {
 }
 
 #[test]
+fn a_removed_file_stays_away(rt: HostRuntime) -> Result<(), Fail> {
+    for pick in 0..4 {
+        let mut disk = written(rt.alloc())?;
+        disk.remove(1)?;
+        disk.power_cycle(pick);
+        assert_eq!(rt; disk.bytes(1), [].as_slice());
+    }
+    Ok(())
+}
+
+#[test]
 fn a_sync_keeps_what_was_written_since_the_last(rt: HostRuntime) -> Result<(), Fail> {
     let alloc = rt.alloc();
     let mut disk = MemDisk::new(alloc);
@@ -119,7 +131,7 @@ fn a_sync_keeps_what_was_written_since_the_last(rt: HostRuntime) -> Result<(), F
     Ok(())
 }
 
-// A disk fails at the calls listed and behind its fuse, and counts them.
+// A write that fails stores its first half, and each fault is counted.
 fn disk_fails(rt: &impl Abort, alloc: Global) -> Result<(), Fail> {
     let mut disk = MemDisk::new(alloc);
     disk.set_bytes(1, b"abcdefgh")?;
@@ -138,6 +150,78 @@ fn disk_fails(rt: &impl Abort, alloc: Global) -> Result<(), Fail> {
     disk.power_cycle(0);
     assert_eq!(rt; disk.remove(1), Ok(()));
     assert_eq!(rt; disk.size(1), Ok(0));
+    Ok(())
+}
+
+// A disk with two files, which are on the disk.
+fn two_files(alloc: Global) -> Result<MemDisk, Fail>
+    ensures first { IfOk result (λ disk. IsFree (mem_files disk 1)) }
+    ensures second { IfOk result (λ disk. IsSolid (mem_files disk 2) × (4 ≤ length (mem_files disk 2).now)) }
+{
+    let mut disk = MemDisk::new(alloc);
+    disk.set_bytes(1, b"abcdefgh")?;
+    disk.set_bytes(2, b"ijkl")?;
+    Ok(disk)
+}
+
+// Which of six calls succeed, one of each kind that can fail, where these are to fail.
+fn calls_pass(alloc: Global, failing: &[u64]) -> Result<[bool; 6], Fail> {
+    let mut disk = two_files(alloc)?;
+    disk.fail(&[1, 2, 3])?;
+    disk.fail(failing)?;
+    let sealed = disk.seal(2, 0, 4, 1).is_ok();
+    let sized = disk.size(1).is_ok();
+    let read = disk.read_into(1, 0, &mut [0; 2]).is_ok();
+    let written = disk.write(1, 0, b"xy").is_ok();
+    let synced = disk.sync(1).is_ok();
+    let removed = disk.remove(1).is_ok();
+    Ok([sealed, sized, read, written, synced, removed])
+}
+
+#[test]
+fn a_disk_fails_at_the_calls_listed_and_no_other(rt: HostRuntime) -> Result<(), Fail> {
+    let alloc = rt.alloc();
+    for n in 1..8 {
+        assert_eq!(rt;
+            calls_pass(alloc, &[n])?,
+            [n != 1, n != 2, n != 3, n != 4, n != 5, n != 6],
+            "at {n}"
+        );
+    }
+    assert_eq!(rt;
+        calls_pass(alloc, &[6, 2])?,
+        [true, false, true, true, true, false]
+    );
+    Ok(())
+}
+
+// Which of five changing calls succeed, and of a read between them.
+fn changes_pass(disk: &mut MemDisk) -> [bool; 6]
+    requires { IsFree (mem_files disk.old 1) }
+{
+    let written = disk.write(1, 0, b"abc").is_ok();
+    let synced = disk.sync(1).is_ok();
+    let read = disk.read_into(1, 0, &mut [0; 2]).is_ok();
+    let removed = disk.remove(1).is_ok();
+    let other_synced = disk.sync(2).is_ok();
+    let other_removed = disk.remove(2).is_ok();
+    [written, synced, read, removed, other_synced, other_removed]
+}
+
+#[test]
+fn a_fuse_lets_so_many_changes_pass_until_the_power_cycle(rt: HostRuntime) -> Result<(), Fail> {
+    for calls in 0..6 {
+        let mut disk = MemDisk::new(rt.alloc());
+        disk.fuse(5 - calls);
+        disk.fuse(calls);
+        assert_eq!(rt;
+            changes_pass(&mut disk),
+            [calls > 0, calls > 1, true, calls > 2, calls > 3, calls > 4],
+            "behind {calls}"
+        );
+        disk.power_cycle(0);
+        assert_eq!(rt; changes_pass(&mut disk), [true; 6], "behind {calls}");
+    }
     Ok(())
 }
 

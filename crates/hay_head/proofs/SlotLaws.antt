@@ -1,5 +1,5 @@
 -- What was read of a superblock and of a row.
-use Rattle.std.proofs.Common.{◌≡◌, inl, inr, ◌<◌, ◌≤◌, ◌+◌, ◌-◌, ◌^◌, ℕ, min, List, ◌++◌, length, take, drop, refl, sym, ◌∙◌, ap, arith, Some, length-drop, take-append-drop}
+use Rattle.std.proofs.Common.{◌≡◌, inl, inr, ◌<◌, ◌≤◌, ◌+◌, ◌-◌, ◌^◌, ℕ, min, List, ◌++◌, length, take, drop, refl, sym, ◌∙◌, ap, arith, None, Some, length-drop, take-append-drop}
 use Rattle.std.proofs.lemmas.Bool.{cases_lt}
 use Rattle.std.proofs.lemmas.List.{take_at, take_all, take-append-le, take-take, length-take-le}
 use Rattle.byteorder.specs.Numbers.{big_number-reads_back}
@@ -52,3 +52,6 @@ fault_here sup seen file fault at is first place = record {
   first = ap (λ (l : List ℕ). first_fault (super_tests l sup)) (sym is) ∙ sym first;
   place = sym place;
 }
+
+pub no_fault_here : (sup : Super) (seen file : List ℕ) (at : ℕ) → seen ≡ take 64 file → None ≡ first_fault (super_tests seen sup) → IsSuperFaultAt sup file at → ⊥
+no_fault_here sup seen file at is none damage = let some : None ≡ Some damage.fault = none ∙ ap (λ (l : List ℕ). first_fault (super_tests l sup)) is ∙ damage.first in absurd cc

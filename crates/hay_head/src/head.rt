@@ -61,6 +61,7 @@ impl Head {
     pub fn read<D: Disk>(disk: &mut D, sup: &Super) -> Result<Head, HeadFault>
         ensures head { D.Tells → IfOk result (λ head. IsHead (super_bytes sup.now) (D.files disk.old 0).now head.generation) }
         ensures damaged { D.Tells → (at : ℕ) → result ≡ Err (HeadFault.Damaged at) → IsDamagedHead sup.now (D.files disk.old 0).now at }
+        ensures undamaged { D.Tells → OnOk result ((at : ℕ) → IsDamagedHead sup.now (D.files disk.old 0).now at → ⊥) }
 
         // A head file is read, unless the disk fails.
         ensures exact { D.Tells → (generation : ℕ) → IsHead (super_bytes sup.now) (D.files disk.old 0).now generation →

@@ -27,6 +27,7 @@ pub fn read_front<D: Disk>(disk: &mut D, file: u32, sup: &Super) -> Result<Optio
     ensures stands { D.Tells → IfOk result (λ fault. IfNone fault (take 64 (D.files disk.old file).now ≡ super_bytes sup.now)) }
     ensures fault { D.Tells → IfOk result (λ fault. IfSome fault (λ at. IsSuperFaultAt sup.now (D.files disk.old file).now at)) }
     ensures only { D.Tells → take 64 (D.files disk.old file).now ≡ super_bytes sup.now → IfOk result (λ fault. IsNone fault) }
+    ensures none { D.Tells → IfOk result (λ fault. IfNone fault ((at : ℕ) → IsSuperFaultAt sup.now (D.files disk.old file).now at → ⊥)) }
     ensures same { D.Tells → D.files disk.new ≡ D.files disk.old }
     ensures drawn { D.Tells → D.drawn disk.new file ≤ D.drawn disk.old file + 64 }
     ensures drawn_others { D.Tells → KeepsOthers file (D.drawn disk.old) (D.drawn disk.new) }

@@ -35,6 +35,7 @@ impl IndexFile {
         // On any disk the records that are read are in the row.
         ensures row { IfOk result (λ read. AreInRow 64 read.1.items) }
         ensures damaged { D.Tells → (k : ℕ) → result ≡ Err (IndexFault.Damaged k) → IsDamagedAt sup.now (D.files disk.old file).now k }
+        ensures undamaged { D.Tells → OnOk result ((k : ℕ) → IsDamagedAt sup.now (D.files disk.old file).now k → ⊥) }
         // A file has one reading: over an index file its records and its end are read, and no damage is found.
         ensures only { D.Tells → (records : List Record) (end : ℕ) → IsIndex (super_bytes sup.now) (D.files disk.old file).now records end
             → IfOk result (λ read. (read.1.items ≡ records) × (read.0.end ≡ end)) }
@@ -84,6 +85,7 @@ pub(crate) fn read_index(
 ) -> Result<(Vec<Record>, u64), IndexFault>
     ensures index { IfOk result (λ read. IsIndex (super_bytes sup.now) bytes.now read.0.items read.1) }
     ensures damaged { (k : ℕ) → result ≡ Err (IndexFault.Damaged k) → IsDamagedAt sup.now bytes.now k }
+    ensures undamaged { OnOk result ((k : ℕ) → IsDamagedAt sup.now bytes.now k → ⊥) }
     ensures only { (records : List Record) (end : ℕ) → IsIndex (super_bytes sup.now) bytes.now records end → IfOk result (λ read. (read.0.items ≡ records) × (read.1 ≡ end)) }
     ensures sound { (records : List Record) (end k : ℕ) → IsIndex (super_bytes sup.now) bytes.now records end → result ≡ Err (IndexFault.Damaged k) → ⊥ }
     ensures never { IsErrOf result IndexFault.Failed → ⊥ }

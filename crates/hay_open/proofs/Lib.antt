@@ -12,3 +12,4 @@ pub mod Listings
 pub mod Opening
 pub mod Faults
 pub mod Standing
+pub mod Undamaged

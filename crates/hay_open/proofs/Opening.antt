@@ -18,7 +18,7 @@ use Rattle.hay_volume.specs.Cells.{HasCells, IsVolume, cell_head}
 use Rattle.hay_volume.proofs.Readings.{one_reading as one_volume}
 use Rattle.hay_open.specs.declared.listing.Listing.{Listing}
 use Rattle.hay_open.specs.declared.opened.Opened.{Opened}
-use Rattle.hay_open.specs.Damage.{FitsWhereLast, IsMisfitAmong, LacksPair}
+use Rattle.hay_open.specs.Damage.{FitsLasts, FitsWhereLast, IsMisfitAmong, LacksPair}
 use Rattle.hay_open.specs.Finds.{IsReady, OpenedAs}
 use Rattle.hay_open.specs.Listing.{GivesPieces, HoldsRows, IsListing, IsMisfitIn, ListsCells, RowFlagsFree}
 use Rattle.hay_open.specs.Stored.{Stored, FlagsFree, HeadRests, IndexRests, IsStored, VolumeRests, cell_record, head_super, index_file, index_super, recorded, unrecorded, volume_file, volume_super}
@@ -166,7 +166,7 @@ rests_index sup old new listing s is stored lists fits solid free gives =
 
 -- A RECORD THAT DOES NOT FIT
 
-get_front : {A : Type 0} (n : ℕ) (xs ys : List A) → n < length xs → slice_get xs n ≡ slice_get (xs ++ ys) n
+pub get_front : {A : Type 0} (n : ℕ) (xs ys : List A) → n < length xs → slice_get xs n ≡ slice_get (xs ++ ys) n
 get_front n [] ys below = absurd (omega arith)
 get_front zero (x ∷ xs) ys below = refl
 get_front (suc n) (x ∷ xs) ys below = get_front n xs ys (omega arith)
@@ -174,6 +174,18 @@ get_front (suc n) (x ∷ xs) ys below = get_front n xs ys (omega arith)
 pub record_front : (sup : Super) (contents : ℕ → List ℕ) (listing : Listing) (number : ℕ) (r : Record) → (is : IsListing sup contents listing) → number < listing.recorded → slice_get listing.rows.items number ≡ Some r → slice_get is.records number ≡ Some r
 record_front sup contents listing number r is below there =
     get_front number is.records (map cell_record is.orphans) (omega (arith, is.recorded)) ∙ ap (λ (l : List Record). slice_get l number) (sym is.rows) ∙ there
+
+-- a row of the listing that fits its needle
+fits_there : (sup : Super) (f g : Files) (listing : Listing) (k : ℕ) (is : IsListing sup (λ n. (f n).now) listing) → g ≡ f → FitsWhereLast listing.rows.items (g listing.volume).now k
+    → FitsWhereLast (is.records ++ map cell_record is.orphans) (f (volume_file listing.head.generation)).now k
+fits_there sup f g listing k is same fits =
+    let rows = is.records ++ map cell_record is.orphans in
+    subst (λ n. FitsWhereLast rows (f n).now k) is.volume_number
+    (subst (λ (fs : Files). FitsWhereLast rows (fs listing.volume).now k) same (subst (λ (l : List Record). FitsWhereLast l (g listing.volume).now k) is.rows fits))
+
+pub lasts_fit : (sup : Super) (f g : Files) (listing : Listing) (is : IsListing sup (λ n. (f n).now) listing) → g ≡ f → ((k : ℕ) → k < listing.recorded → FitsWhereLast listing.rows.items (g listing.volume).now k)
+    → FitsLasts is.records is.orphans (f (volume_file listing.head.generation)).now
+lasts_fit sup f g listing is same fits = λ k below. fits_there sup f g listing k is same (fits k (omega (arith, is.recorded)))
 
 pub misfit_among : (sup : Super) (f g : Files) (listing : Listing) (file at number : ℕ) (r : Record) (is : IsListing sup (λ n. (f n).now) listing) → g ≡ f → number < listing.recorded → slice_get listing.rows.items number ≡ Some r
     → IsMisfitIn (λ n. (g n).now) listing.volume listing.index.file r number file at → LacksPair r.pair (drop (number + 1) listing.rows.items) → ((k : ℕ) → k < number → FitsWhereLast listing.rows.items (g listing.volume).now k)
@@ -191,9 +203,7 @@ misfit_among sup f g listing file at number r is same below there misfit lacks b
           let e : Some r ≡ Some other = sym row ∙ found in
           let one : r ≡ other = cc in
           subst (λ (x : Record). LacksPair x.pair (drop (number + 1) rows)) one (subst (λ (l : List Record). LacksPair r.pair (drop (number + 1) l)) is.rows lacks);
-      before = λ k under.
-          subst (λ n. FitsWhereLast rows (f n).now k) is.volume_number
-          (subst (λ (fs : Files). FitsWhereLast rows (fs listing.volume).now k) same (subst (λ (l : List Record). FitsWhereLast l (g listing.volume).now k) is.rows (before k under)));
+      before = λ k under. fits_there sup f g listing k is same (before k under);
     }
 
 pub no_misfit : (sup : Super) (f g : Files) (listing : Listing) (s : Stored) (file at number : ℕ) (r : Record) → ((n : ℕ) → length (f n).now < 2 ^ 64) → IsListing sup (λ n. (f n).now) listing → IsStored sup (λ n. (f n).now) s → g ≡ f → number < listing.recorded

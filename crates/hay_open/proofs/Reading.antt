@@ -3,7 +3,7 @@ use Rattle.std.proofs.Common.{◌≡◌, inl, inr, ℕ, ◌≤◌, List, take, s
 use Rattle.hay_needle.specs.declared.settings.Super.{Super}
 use Rattle.hay_needle.specs.Super.{super_bytes}
 use Rattle.hay_disk.specs.Disk.{Files}
-use Rattle.hay_head.specs.Head.{IsHead}
+use Rattle.hay_head.specs.Head.{IsDamagedHead, IsHead}
 use Rattle.hay_head.specs.Rows.{IsSuperFaultAt}
 use Rattle.hay_head.proofs.HeadLaws.{one_generation}
 use Rattle.hay_index.specs.declared.record.Record.{Record}
@@ -70,3 +70,17 @@ sought_index sup isup f h generation other number end records head later counted
     let one : other ≡ generation = one_generation (super_bytes (head_super sup)) (f 0).now other generation is.head head in
     let index : IsIndex (super_bytes (index_super sup generation)) (f (index_file generation)).now records end = subst (λ n. IsIndex (super_bytes (index_super sup n)) (f (index_file n)).now records end) one is.index in
     back (λ l. IsIndex (super_bytes isup) l records end) f h number (index_file generation) later (counted head.most) (subst (λ (s : Super). IsIndex (super_bytes s) (f (index_file generation)).now records end) (sym isup_is) index)
+
+-- where none of the three is damaged
+pub front_undamaged : (sup vsup isup : Super) (f g h : Files) (generation file at volume index : ℕ) → IsHead (super_bytes (head_super sup)) (f 0).now generation → (IsDamagedHead (head_super sup) (f 0).now at → ⊥)
+    → g ≡ f → (generation ≤ 65535 → volume ≡ volume_file generation) → vsup ≡ volume_super sup generation → (IsSuperFaultAt vsup (g volume).now at → ⊥)
+    → h ≡ f → (generation ≤ 65535 → index ≡ index_file generation) → isup ≡ index_super sup generation → (IsDamagedAt isup (h index).now at → ⊥) → IsDamagedFront sup (λ n. (f n).now) file at → ⊥
+front_undamaged sup vsup isup f g h generation file at volume index is head same numbered vsup_is fault later counted isup_is broken (inl damage) = head damage.1
+front_undamaged sup vsup isup f g h generation file at volume index is head same numbered vsup_is fault later counted isup_is broken (inr (other, also, inl damage)) =
+    let one : other ≡ generation = one_generation (super_bytes (head_super sup)) (f 0).now other generation also is in
+    let here : IsSuperFaultAt (volume_super sup generation) (f (volume_file generation)).now at = subst (λ n. IsSuperFaultAt (volume_super sup n) (f (volume_file n)).now at) one damage.1 in
+    fault (back (λ l. IsSuperFaultAt vsup l at) f g volume (volume_file generation) same (numbered is.most) (subst (λ (s : Super). IsSuperFaultAt s (f (volume_file generation)).now at) (sym vsup_is) here))
+front_undamaged sup vsup isup f g h generation file at volume index is head same numbered vsup_is fault later counted isup_is broken (inr (other, also, inr damage)) =
+    let one : other ≡ generation = one_generation (super_bytes (head_super sup)) (f 0).now other generation also is in
+    let here : IsDamagedAt (index_super sup generation) (f (index_file generation)).now at = subst (λ n. IsDamagedAt (index_super sup n) (f (index_file n)).now at) one damage.2 in
+    broken (back (λ l. IsDamagedAt isup l at) f h index (index_file generation) later (counted is.most) (subst (λ (s : Super). IsDamagedAt s (f (index_file generation)).now at) (sym isup_is) here))

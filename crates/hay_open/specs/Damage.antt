@@ -85,6 +85,10 @@ LacksPair pair (r ∷ records) = (r.pair ≡ pair → ⊥) × LacksPair pair rec
 abbrev pub FitsWhereLast : List Record → List ℕ → ℕ → Type 0
 FitsWhereLast rows volume number = (r : Record) → slice_get rows number ≡ Some r → LacksPair r.pair (drop (number + 1) rows) → FitsNeedle r volume
 
+-- The recorded needles that are looked at fit: each that is the last of its pair, among the cells without records too.
+abbrev pub FitsLasts : List Record → List Cell → List ℕ → Type 0
+FitsLasts records orphans volume = (number : ℕ) → number < length records → FitsWhereLast (records ++ map cell_record orphans) volume number
+
 -- THE FIRST DAMAGE
 
 -- Up to the index: of the head file, of the superblock of the volume file, or of the index file.

@@ -1,6 +1,7 @@
 -- What an opening answers.
-use Rattle.std.specs.Prelude.{◌≡◌, ◌≤◌, ◌+◌, ◌++◌, ◌∷◌, [], ℕ, false, List, length, Some}
+use Rattle.std.specs.Prelude.{◌≡◌, ◌≤◌, ◌+◌, ◌++◌, ◌∷◌, [], ℕ, false, List, length, map, Some}
 use Rattle.std.specs.List.{AllByRecursion, slice_get}
+use Rattle.hay_needle.specs.declared.needle.Cell.{Cell}
 use Rattle.hay_needle.specs.declared.settings.Super.{Super}
 use Rattle.hay_needle.specs.Needle.{needle_magic}
 use Rattle.hay_disk.specs.Disk.{Files, FileState}
@@ -12,7 +13,8 @@ use Rattle.hay_map.specs.declared.place.Place.{Place}
 use Rattle.hay_map.specs.declared.place.Place.TheVariants as place
 use Rattle.hay_map.specs.declared.view.OpenCell.{OpenCell}
 use Rattle.hay_open.specs.declared.opened.Opened.{Opened}
-use Rattle.hay_open.specs.Stored.{Stored, HeadRests, VolumeRests, IndexRests, index_file, unrecorded, volume_file}
+use Rattle.hay_open.specs.Damage.{FitsLasts, HasOrphans, IsRecorded}
+use Rattle.hay_open.specs.Stored.{Stored, HeadRests, VolumeRests, IndexRests, cell_record, index_file, unrecorded, volume_file}
 
 -- The replica was opened as what its disk has, and changes can be made to each of its files.
 pub record OpenedAs {P : Type 0} (sup : Super) (files : Files) (opened : Opened P) (s : Stored) : Type 0 where
@@ -27,6 +29,18 @@ pub record OpenedAs {P : Type 0} (sup : Super) (files : Files) (opened : Opened 
   pub records : opened.records ≡ s.records
   pub orphans : opened.orphans + s.records ≡ length s.cells
 
+-- The replica was opened as what its disk has, and all that the opening reads is of the format.
+pub record ReadsWhole {P : Type 0} (sup : Super) (contents : ℕ → List ℕ) (opened : Opened P) : Type 0 where
+  pub records : List Record
+  pub orphans : List Cell
+  pub recorded : IsRecorded sup contents opened.head.generation records opened.index.end
+  pub behind : HasOrphans (contents (volume_file opened.head.generation)) records orphans opened.volume.end
+  pub last : FitsLasts records orphans (contents (volume_file opened.head.generation))
+  pub capacity : opened.volume.capacity ≡ sup.settings.capacity
+  pub noted : opened.index.pending ≡ map cell_record orphans
+  pub record_count : opened.records ≡ length records
+  pub orphan_count : opened.orphans ≡ length orphans
+
 -- The files are those of the generation that was opened, and a row, a cell and a block may be appended to them.
 pub record IsReady {P : Type 0} (files : Files) (opened : Opened P) : Type 0 where
   pub volume_number : opened.volume.file ≡ volume_file opened.head.generation
@@ -40,7 +54,8 @@ pub record IsReady {P : Type 0} (files : Files) (opened : Opened P) : Type 0 whe
 -- a needle that a place has stands here
 abbrev pub StandsAt : {P : Type 0} → ℕ → Place P → Type 0
 StandsAt at (place.Live needle) = needle.at ≡ at
-StandsAt at _ = Unit {0}
+StandsAt at place.Gone = Unit {0}
+StandsAt at place.None = Unit {0}
 
 -- the cells, and one more whose needle stands here
 abbrev pub AddsAt : {P : Type 0} → ℕ → List (OpenCell P) → List (OpenCell P) → Type 0
@@ -49,7 +64,8 @@ AddsAt {P} at old new = (cell : OpenCell P) × (new ≡ old ++ cell ∷ []) × S
 -- a needle that a place has is that of one of these records
 abbrev pub IsOfRow : {P : Type 0} → List Record → Place P → Type 0
 IsOfRow rows (place.Live needle) = (i : ℕ) × (r : Record) × (slice_get rows i ≡ Some r) × (needle.at ≡ r.at)
-IsOfRow rows _ = Unit {0}
+IsOfRow rows place.Gone = Unit {0}
+IsOfRow rows place.None = Unit {0}
 
 abbrev pub AreOfRows : {P : Type 0} → List Record → List (OpenCell P) → Type 0
 AreOfRows rows cells = AllByRecursion (λ cell. IsOfRow rows cell.place) cells
@@ -57,7 +73,8 @@ AreOfRows rows cells = AllByRecursion (λ cell. IsOfRow rows cell.place) cells
 -- the flags of a needle that a place has may be written
 abbrev pub MayFlagPlace : {P : Type 0} → FileState → ℕ → Place P → Type 0
 MayFlagPlace file end (place.Live needle) = (needle.at + 29 ≤ end) × (file.sealed (needle.at + 28) ≡ false)
-MayFlagPlace file end _ = Unit {0}
+MayFlagPlace file end place.Gone = Unit {0}
+MayFlagPlace file end place.None = Unit {0}
 
 -- Each needle that was found lies before the end of the cells, and may be flagged.
 abbrev pub MayFlagEach : {P : Type 0} → Files → Opened P → Type 0

@@ -93,9 +93,10 @@ pub record IsSealedCell (Tells : Type 0) (cell : Cell) (needle : SealedNeedle) :
 abbrev pub PlaceOf : {P : Type 0} → Type 0 → Option Cell → Place P → Type 0
 PlaceOf Tells (Some cell) (place.Live needle) = IsSealedCell Tells cell needle
 PlaceOf Tells (Some cell) place.Gone = cell.deleted ≡ true
-PlaceOf Tells None place.None = ⊤
+PlaceOf Tells (Some cell) place.None = ⊥
+PlaceOf Tells None (place.Live needle) = ⊥
 PlaceOf Tells None place.Gone = ⊤
-PlaceOf Tells _ _ = ⊥
+PlaceOf Tells None place.None = ⊤
 
 -- FILES TO WHICH CHANGES CAN BE MADE
 

@@ -9,14 +9,14 @@
 //! behind that needle; then the heads of the recorded cells that are the last of their pair, upwards.
 #![tactic(auto)]
 
-ghost use Rattle.std.specs.Prelude.{◌≡◌, ◌≤◌, ◌<◌, ℕ, false, Err, IfOk, IfErr, OnOk, OnErr, IsErrOf};
+ghost use Rattle.std.specs.Prelude.{◌≡◌, ◌⊎◌, ◌≤◌, ◌<◌, ℕ, false, Err, IfOk, IfErr, OnOk, OnErr, IsErrOf};
 ghost use Rattle.hay_needle.specs.declared.needle.Pair.{Pair};
 ghost use Rattle.hay_disk.specs.Counts.{Rose};
 ghost use Rattle.hay_disk.specs.Disk.{IsFree, IsSolid};
 ghost use Rattle.hay_map.specs.declared.place.Place.TheVariants as place;
 ghost use Rattle.hay_map.specs.Rows.{last_place};
 ghost use Rattle.hay_open.specs.Damage.{IsOpeningDamage};
-ghost use Rattle.hay_open.specs.Finds.{IsReady, MayFlagEach, OpenedAs};
+ghost use Rattle.hay_open.specs.Finds.{IsReady, MayFlagEach, OpenedAs, ReadsWhole};
 ghost use Rattle.hay_open.specs.Stored.{Stored, IsVoid, OpensAs, PlaceOf, last_cell};
 
 mod fault;
@@ -53,6 +53,11 @@ pub fn open_replica<D: Disk>(
         IfOk result (λ opened. OpenedAs sup.now (D.files disk.new) opened s) }
     ensures places { D.Tells → (s : Stored) → OpensAs sup.now (λ n. (D.files disk.old n).now) s →
         IfOk result (λ opened. (pair : Pair) → PlaceOf D.Piece.Tells (last_cell s.cells pair) (last_place opened.cells.items pair place.None)) }
+
+    // What is opened was void, or all that the opening reads of it is of the format.
+    ensures whole { D.Tells → IfOk result (λ opened.
+        IsVoid (λ n. (D.files disk.old n).now) ⊎ ReadsWhole sup.now (λ n. (D.files disk.old n).now) opened) }
+    ensures undamaged { D.Tells → OnOk result ((file at : ℕ) → IsOpeningDamage sup.now (λ n. (D.files disk.old n).now) file at → ⊥) }
 
     // Whatever the disk had, a row, a cell and a block may be appended to what was opened, and all of the disk is solid.
     ensures ready { D.Tells → IfOk result (λ opened. IsReady (D.files disk.new) opened) }

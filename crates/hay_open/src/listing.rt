@@ -58,6 +58,7 @@ struct Recorded {
 fn read_head_file<D: Disk>(disk: &mut D, sup: &Super) -> Result<Head, Refusal>
     ensures head { D.Tells → IfOk result (λ head. IsHead (super_bytes (stored.head_super sup.now)) (D.files disk.old 0).now head.generation) }
     ensures damaged { D.Tells → (file at : ℕ) → result ≡ Err (Refusal.Damaged file at) → (file ≡ 0) × IsDamagedHead (stored.head_super sup.now) (D.files disk.old 0).now at }
+    ensures undamaged { D.Tells → OnOk result ((at : ℕ) → IsDamagedHead (stored.head_super sup.now) (D.files disk.old 0).now at → ⊥) }
     ensures only { D.Tells → (generation : ℕ) → IsHead (super_bytes (stored.head_super sup.now)) (D.files disk.old 0).now generation
         → (file at : ℕ) → result ≡ Err (Refusal.Damaged file at) → ⊥ }
     ensures same { D.Tells → D.files disk.new ≡ D.files disk.old }
@@ -79,6 +80,7 @@ fn read_head_file<D: Disk>(disk: &mut D, sup: &Super) -> Result<Head, Refusal>
 fn check_front<D: Disk>(disk: &mut D, file: u32, sup: &Super) -> Result<(), Refusal>
     ensures begins { D.Tells → OnOk result (take 64 (D.files disk.old file).now ≡ super_bytes sup.now) }
     ensures damaged { D.Tells → (number at : ℕ) → result ≡ Err (Refusal.Damaged number at) → (number ≡ file) × IsSuperFaultAt sup.now (D.files disk.old file).now at }
+    ensures undamaged { D.Tells → OnOk result ((at : ℕ) → IsSuperFaultAt sup.now (D.files disk.old file).now at → ⊥) }
     ensures only { D.Tells → take 64 (D.files disk.old file).now ≡ super_bytes sup.now → (number at : ℕ) → result ≡ Err (Refusal.Damaged number at) → ⊥ }
     ensures same { D.Tells → D.files disk.new ≡ D.files disk.old }
     ensures counted { IsCounted (D.fault_count disk.old) (D.fault_count disk.new) (IsErrOf result Refusal.Failed) }
@@ -101,6 +103,7 @@ fn read_index<D: Disk>(
     ensures index { D.Tells → IfOk result (λ read. IsIndex (super_bytes sup.now) (D.files disk.old file).now read.1.items read.0.end) }
     ensures row { IfOk result (λ read. AreInRow 64 read.1.items) }
     ensures damaged { D.Tells → (number at : ℕ) → result ≡ Err (Refusal.Damaged number at) → (number ≡ file) × index_specs.IsDamagedAt sup.now (D.files disk.old file).now at }
+    ensures undamaged { D.Tells → OnOk result ((at : ℕ) → index_specs.IsDamagedAt sup.now (D.files disk.old file).now at → ⊥) }
     ensures only { D.Tells → (records : List Record) (end : ℕ) → IsIndex (super_bytes sup.now) (D.files disk.old file).now records end
         → (number at : ℕ) → result ≡ Err (Refusal.Damaged number at) → ⊥ }
     ensures same { D.Tells → D.files disk.new ≡ D.files disk.old }
@@ -122,6 +125,7 @@ fn read_recorded<D: Disk>(alloc: Global, disk: &mut D, sup: &Super) -> Result<Re
     ensures number { D.Tells → IfOk result (λ read. read.index.file ≡ stored.index_file read.head.generation) }
     ensures row { IfOk result (λ read. AreInRow 64 read.records.items) }
     ensures damaged { D.Tells → (file at : ℕ) → result ≡ Err (Refusal.Damaged file at) → IsDamagedFront sup.now (λ n. (D.files disk.old n).now) file at }
+    ensures undamaged { D.Tells → OnOk result ((file at : ℕ) → IsDamagedFront sup.now (λ n. (D.files disk.old n).now) file at → ⊥) }
     ensures only { D.Tells → (generation : ℕ) (records : List Record) (end : ℕ) → IsRecorded sup.now (λ n. (D.files disk.old n).now) generation records end
         → (file at : ℕ) → result ≡ Err (Refusal.Damaged file at) → ⊥ }
     ensures same { D.Tells → D.files disk.new ≡ D.files disk.old }
@@ -241,6 +245,7 @@ pub(crate) fn read_listing<D: Disk>(
         IsDamagedFront sup.now (λ n. (D.files disk.old n).now) file at
         ⊎ ((generation : ℕ) × (records : List Record) × (end : ℕ) × IsRecorded sup.now (λ n. (D.files disk.old n).now) generation records end
         × IsDamagedRest sup.now (λ n. (D.files disk.old n).now) generation records file at) }
+    ensures undamaged { D.Tells → OnOk result ((file at : ℕ) → IsDamagedFront sup.now (λ n. (D.files disk.old n).now) file at → ⊥) }
     ensures only { D.Tells → (s : Stored) → IsStored sup.now (λ n. (D.files disk.old n).now) s → (file at : ℕ) → result ≡ Err (Refusal.Damaged file at) → ⊥ }
     ensures same { D.Tells → D.files disk.new ≡ D.files disk.old }
     ensures counted { IsCounted (D.fault_count disk.old) (D.fault_count disk.new) (IsErrOf result Refusal.Failed) }

@@ -107,6 +107,7 @@ fn open_recorded<D: Disk>(
         × IsMisfitIn (λ n. (D.files disk.old n).now) listing.now.volume listing.now.index.file r number file at
         × LacksPair r.pair (drop (number + 1) listing.now.rows.items)
         × ((k : ℕ) → k < number → FitsWhereLast listing.now.rows.items (D.files disk.old listing.now.volume).now k) }
+    ensures fits { D.Tells → OnOk result ((k : ℕ) → k < listing.now.recorded → FitsWhereLast listing.now.rows.items (D.files disk.old listing.now.volume).now k) }
     ensures counted { IsCounted (D.fault_count disk.old) (D.fault_count disk.new) (IsErrOf result Refusal.Failed) }
     ensures fuses { D.fuse_count disk.new ≡ D.fuse_count disk.old }
 {
@@ -195,6 +196,7 @@ pub(crate) fn open_cells<D: Disk>(
         × IsMisfitIn (λ n. (D.files disk.old n).now) listing.now.volume listing.now.index.file r number file at
         × LacksPair r.pair (drop (number + 1) listing.now.rows.items)
         × ((k : ℕ) → k < number → FitsWhereLast listing.now.rows.items (D.files disk.old listing.now.volume).now k) }
+    ensures fits { D.Tells → OnOk result ((k : ℕ) → k < listing.now.recorded → FitsWhereLast listing.now.rows.items (D.files disk.old listing.now.volume).now k) }
     ensures counted { IsCounted (D.fault_count disk.old) (D.fault_count disk.new) (IsErrOf result Refusal.Failed) }
     ensures fuses { D.fuse_count disk.new ≡ D.fuse_count disk.old }
 {

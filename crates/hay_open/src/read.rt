@@ -1,13 +1,13 @@
 //! Opening a disk that is not void.
 
-ghost use Rattle.std.specs.Prelude.{◌≡◌, ◌⊎◌, ℕ, false, Err, IfOk, IsErrOf};
+ghost use Rattle.std.specs.Prelude.{◌≡◌, ◌⊎◌, ℕ, false, Err, IfOk, OnOk, IsErrOf};
 ghost use Rattle.hay_needle.specs.declared.needle.Pair.{Pair};
 ghost use Rattle.hay_disk.specs.Counts.{IsCounted};
 ghost use Rattle.hay_disk.specs.Disk.{IsFree, IsSolid};
 ghost use Rattle.hay_map.specs.declared.place.Place.TheVariants as place;
 ghost use Rattle.hay_map.specs.Rows.{last_place};
-ghost use Rattle.hay_open.specs.Damage.{IsReadingDamage};
-ghost use Rattle.hay_open.specs.Finds.{IsReady, MayFlagEach, OpenedAs};
+ghost use Rattle.hay_open.specs.Damage.{IsDamagedFront, IsReadingDamage};
+ghost use Rattle.hay_open.specs.Finds.{IsReady, MayFlagEach, OpenedAs, ReadsWhole};
 ghost use Rattle.hay_open.specs.Stored.{Stored, IsStored, PlaceOf, last_cell};
 
 use crate::fault::Refusal;
@@ -33,6 +33,8 @@ pub(crate) fn read_disk<D: Disk>(
         IfOk result (λ opened. (pair : Pair) → PlaceOf D.Piece.Tells (last_cell s.cells pair) (last_place opened.cells.items pair place.None)) }
     ensures flags { D.Tells → IfOk result (MayFlagEach (D.files disk.new)) }
     ensures ready { D.Tells → IfOk result (λ opened. IsReady (D.files disk.new) opened) }
+    ensures whole { D.Tells → IfOk result (ReadsWhole sup.now (λ n. (D.files disk.old n).now)) }
+    ensures front { D.Tells → OnOk result ((file at : ℕ) → IsDamagedFront sup.now (λ n. (D.files disk.old n).now) file at → ⊥) }
     ensures open { IfOk result (λ opened. opened.index.frozen ≡ false) }
     ensures kept { D.Tells → (n : ℕ) → (D.files disk.new n).now ≡ (D.files disk.old n).now }
     ensures solid { D.Tells → (n : ℕ) → IsSolid (D.files disk.new n) }

@@ -1,27 +1,22 @@
--- A needle that is seen through its hole, and the photo that a reading shows.
-use Rattle.std.proofs.Common.{◌≡◌, ◌≢◌, ℕ, add-one, ◌+◌, ◌<◌, ◌≤◌, eqb, List, [], ◌∷◌, ◌++◌, length, take, drop, get_or, set, sym, ap, ◌∙◌, subst, arith}
-use Rattle.std.specs.Prelude.{not, Result}
-use Rattle.std.proofs.lemmas.List.{set_split, take-append-drop, drop_more, append-nil, take_all}
+-- A needle that is seen through its hole, and what reading it gives.
+use Rattle.std.proofs.Common.{◌≡◌, ◌≢◌, ℕ, add-one, ◌+◌, ◌<◌, ◌≤◌, eqb, Bool, List, ◌∷◌, ◌++◌, length, take, drop, get_or, set, refl, sym, ap, ◌∙◌, subst, arith}
+use Rattle.std.specs.Prelude.{not, Result, Ok, Err, IfErr}
+use Rattle.std.proofs.lemmas.List.{set_split, set-append_left, take-append-drop, drop_more, take_all, length-append}
 use Rattle.hay_disk.specs.Disk.{IsBut}
 use Rattle.hay_needle.specs.declared.needle.Cookie.{Cookie}
-use Rattle.hay_needle.specs.declared.needle.Needle.{Needle}
 use Rattle.hay_needle.specs.declared.needle.NeedleView.{NeedleView}
-use Rattle.hay_needle.specs.declared.needle.Outcome.{Outcome}
-use Rattle.hay_needle.specs.declared.needle.Outcome.TheVariants as outcome
 use Rattle.hay_needle.specs.declared.needle.Photo.{Photo}
-use Rattle.hay_needle.specs.Needle.{NeedleBytes, BeginsWithNeedle, needle_of_view}
-use Rattle.hay_needle.specs.declared.needle.Pair.{Pair}
+use Rattle.hay_needle.specs.Needle.{BeginsWithNeedle, needle_of_view}
 use Rattle.hay_needle.proofs.Needles.{length-needle, reflagged}
 use Rattle.hay_map.specs.Sealed.{SealedNeedle}
-use Rattle.hay_map.specs.Places.{PlaceMeans, IsSealed}
-use Rattle.hay_map.specs.declared.place.Place.{Place}
-use Rattle.hay_map.specs.declared.place.Place.TheVariants as place
 use Rattle.hay_reply.specs.declared.Cause.{Cause}
+use Rattle.hay_reply.specs.declared.Cause.TheVariants as cause
 use Rattle.hay_reader.specs.declared.trial.Shown.{Shown}
-use Rattle.hay_reader.specs.Tried.{Tells}
+use Rattle.hay_reader.specs.declared.trial.Shown.TheVariants as shown
+use Rattle.hay_reader.specs.Tried.{HasPhoto, ReadsBytes, NeedleGives, IsDamageAt}
 
 -- all but the byte at the hole are as they were
-pub but_set : (bytes seen : List ℕ) (hole : ℕ) → hole < length bytes → IsBut hole bytes seen → seen ≡ set bytes hole (get_or seen hole 0)
+but_set : (bytes seen : List ℕ) (hole : ℕ) → hole < length bytes → IsBut hole bytes seen → seen ≡ set bytes hole (get_or seen hole 0)
 but_set bytes seen hole h but =
     let inside : hole < length seen = omega (arith, but.long) in
     sym (take-append-drop hole seen)
@@ -31,39 +26,62 @@ but_set bytes seen hole h but =
     ∙ ap (λ (k : ℕ). take hole bytes ++ get_or seen hole 0 ∷ drop k bytes) (add-one hole)
     ∙ sym (set_split bytes hole (get_or seen hole 0) h)
 
--- the same needle, perhaps deleted
-pub seen_needle : (bytes seen : List ℕ) (n : Needle) → NeedleBytes bytes n → IsBut 28 bytes seen → NeedleBytes seen (record n { deleted = not (eqb (get_or seen 28 0) 0) })
-seen_needle bytes seen n is but =
-    let long = length-needle bytes n is in
-    let inside : 28 < length bytes = omega arith in
+but_back : (bytes seen : List ℕ) (hole : ℕ) → IsBut hole bytes seen → IsBut hole seen bytes
+but_back bytes seen hole but = record { before = sym but.before; after = sym but.after; long = sym but.long }
+
+-- whatever the flags are, a needle of the same photo begins there
+seen_photo : (bytes seen : List ℕ) (photo : Photo) → IsBut 28 bytes seen → HasPhoto bytes photo → HasPhoto seen photo
+seen_photo bytes seen photo but has =
+    let needle : List ℕ = has.1.needle in
+    let rest : List ℕ = has.1.rest in
     let flags : ℕ = get_or seen 28 0 in
-    subst (λ (xs : List ℕ). NeedleBytes xs (record n { deleted = not (eqb flags 0) })) (sym (but_set bytes seen 28 inside but)) (reflagged bytes n flags is)
+    let long = length-needle needle has.0 has.1.is in
+    let inside : 28 < length needle = omega arith in
+    let whole : 28 < length bytes = omega (arith, ap length has.1.parts, length-append needle rest) in (
+      record has.0 { deleted = not (eqb flags 0) },
+      record {
+        needle = set needle 28 flags;
+        rest = rest;
+        parts = but_set bytes seen 28 whole but ∙ ap (λ (xs : List ℕ). set xs 28 flags) has.1.parts ∙ set-append_left needle rest 28 flags inside;
+        is = reflagged needle has.0 flags has.1.is;
+      },
+      has.2,
+    )
 
-pub begins_alone : (bytes : List ℕ) (n : Needle) → NeedleBytes bytes n → BeginsWithNeedle bytes n
-begins_alone bytes n is = record { needle = bytes; rest = []; parts = sym (append-nil bytes); is = is }
+reads_seen : (bytes seen : List ℕ) (cookie : Cookie) (put : List ℕ) (r : Result Shown Cause) → IsBut 28 bytes seen → ReadsBytes cookie put seen r → ReadsBytes cookie put bytes r
+reads_seen bytes seen cookie put (Ok shown.Photo) but reads = seen_photo seen bytes _ (but_back bytes seen 28 but) reads
+reads_seen bytes seen cookie put (Ok shown.WrongCookie) but reads = (reads.0, reads.1, seen_photo seen bytes reads.0 (but_back bytes seen 28 but) reads.2)
+reads_seen bytes seen cookie put (Ok shown.Gone) but reads = reads
+reads_seen bytes seen cookie put (Err why) but reads = λ needle begins.
+    let there = seen_photo bytes seen needle.photo but (needle, begins, refl) in
+    reads there.0 there.1
 
--- what was fetched whole begins with the needle
-pub fetched_begins : (bytes seen : List ℕ) (n : Needle) (count : ℕ) → NeedleBytes bytes n → IsBut 28 bytes seen → length seen ≤ count → BeginsWithNeedle (take count seen) (record n { deleted = not (eqb (get_or seen 28 0) 0) })
-fetched_begins bytes seen n count is but all =
-    subst (λ (xs : List ℕ). BeginsWithNeedle xs (record n { deleted = not (eqb (get_or seen 28 0) 0) })) (sym (take_all count seen all)) (begins_alone seen _ (seen_needle bytes seen n is but))
+-- what reading gives of all that was fetched, it gives of the needle
+pub reads_whole : (bytes seen : List ℕ) (count : ℕ) (cookie : Cookie) (put : List ℕ) (r : Result Shown Cause) → IsBut 28 bytes seen → length seen ≤ count → ReadsBytes cookie put (take count seen) r → ReadsBytes cookie put bytes r
+reads_whole bytes seen count cookie put r but all reads = reads_seen bytes seen cookie put r but (subst (λ (xs : List ℕ). ReadsBytes cookie put xs r) (take_all count seen all) reads)
+
+-- the try of a needle that was fetched
+pub needle_gives : (Tells : Type 0) (sure : Bool) (cookie : Cookie) (put seen : List ℕ) (needle : SealedNeedle) (at : ℕ) (r : Result Shown Cause) → at ≡ needle.at → IfErr r (IsDamageAt at)
+    → ReadsBytes cookie put seen r → (Tells → ReadsBytes cookie put needle.bytes r) → NeedleGives Tells sure cookie put needle r
+needle_gives Tells sure cookie put seen needle at (Ok shown.Photo) is damage reads whole = (tt, whole)
+needle_gives Tells sure cookie put seen needle at (Ok shown.WrongCookie) is damage reads whole = (tt, whole)
+needle_gives Tells sure cookie put seen needle at (Ok shown.Gone) is damage reads whole = absurd reads
+needle_gives Tells sure cookie put seen needle at (Err (cause.Arm f)) is damage reads whole = absurd damage
+needle_gives Tells sure cookie put seen needle at (Err (cause.Disk f)) is damage reads whole = absurd damage
+needle_gives Tells sure cookie put seen needle at (Err (cause.Damage there)) is damage reads whole = (damage ∙ is, whole)
 
 same_cookie : (a b : Cookie) → a.0 ≡ b.0 → a ≡ b
 same_cookie a b e = ap {B = Cookie} (λ (k : ℕ). record { 0 = k }) e
 
 -- the photo of the needle that was read, where the cookie is the one that is asked for
-pub photo_shown : (v : NeedleView) (n : Needle) (cookie : Cookie) (bytes : List ℕ) → needle_of_view v ≡ n → v.cookie.0 ≡ cookie.0 → bytes ≡ v.bytes.now
-    → outcome.Photo n.photo ≡ outcome.Photo (record { cookie = cookie; bytes = bytes })
-photo_shown v n cookie bytes is same put =
-    let shown : Cookie → List ℕ → Outcome = λ k xs. outcome.Photo (record { cookie = k; bytes = xs }) in
-    ap (λ (m : Needle). outcome.Photo m.photo) (sym is)
-    ∙ ap (λ (k : Cookie). shown k v.bytes.now) (same_cookie v.cookie cookie same)
-    ∙ ap (λ (xs : List ℕ). shown cookie xs) (sym put)
+pub photo_read : (bytes put : List ℕ) (v : NeedleView) (cookie : Cookie) → BeginsWithNeedle bytes (needle_of_view v) → v.cookie.0 ≡ cookie.0 → put ≡ v.bytes.now
+    → HasPhoto bytes (record { cookie = cookie; bytes = put })
+photo_read bytes put v cookie begins same out =
+    let photo : Cookie → List ℕ → Photo = λ k xs. record { cookie = k; bytes = xs } in (
+      needle_of_view v,
+      begins,
+      ap (λ (k : Cookie). photo k v.bytes.now) (same_cookie v.cookie cookie same) ∙ ap (λ (xs : List ℕ). photo cookie xs) (sym out),
+    )
 
-pub other_cookie : (v : NeedleView) (n : Needle) (cookie : Cookie) → needle_of_view v ≡ n → v.cookie.0 ≢ cookie.0 → n.photo.cookie ≢ cookie
-other_cookie v n cookie is ne e = ne (ap (λ (m : Needle). m.photo.cookie.0) is ∙ ap (λ (k : Cookie). k.0) e)
-
--- a try of a live place
-pub tried_live : {P Says : Type 0} (pair : Pair) (there : Place P) (needle : SealedNeedle) (cookie : Cookie) (what : Outcome) (bytes : List ℕ) (r : Result Shown Cause) → there ≡ place.Live needle
-    → PlaceMeans Says pair there what → ((photo : Photo) → IsSealed Says pair photo needle → Tells cookie (outcome.Photo photo) bytes r) → Tells cookie what bytes r
-tried_live {P} {Says} pair there needle cookie outcome.Nothing bytes r is means tells = absurd (subst (λ (p : Place P). PlaceMeans Says pair p outcome.Nothing) is means)
-tried_live {P} {Says} pair there needle cookie (outcome.Photo photo) bytes r is means tells = tells photo (subst (λ (p : Place P). PlaceMeans Says pair p (outcome.Photo photo)) is means)
+pub other_cookie : (v : NeedleView) (cookie : Cookie) → v.cookie.0 ≢ cookie.0 → v.cookie ≢ cookie
+other_cookie v cookie ne e = ne (ap (λ (k : Cookie). k.0) e)

@@ -1,68 +1,68 @@
 -- Why replicas were passed over.
-use Rattle.std.specs.Prelude.{◌≡◌, ◌⊎◌, ℕ, ◌+◌, ◌-◌, ◌%◌, ◌^◌, ◌<◌, ◌≤◌, ◌==◌, not, List, [], ◌∷◌, length, map, take_while}
+use Rattle.std.specs.Prelude.{◌≡◌, ◌⊎◌, ℕ, ◌+◌, ◌-◌, ◌%◌, ◌^◌, ◌<◌, ◌≤◌, ◌==◌, not, Bool, Err, List, [], ◌∷◌, length, map, take_while}
 use Rattle.std.specs.List.{AllByRecursion, range_with_len}
+use Rattle.hay_needle.specs.declared.needle.Cookie.{Cookie}
 use Rattle.hay_reply.specs.declared.Cause.{Cause}
 use Rattle.hay_reply.specs.declared.Cause.TheVariants as cause
 use Rattle.hay_map.specs.Places.{place_in}
-use Rattle.hay_map.specs.Sealed.{SealedNeedle}
 use Rattle.hay_map.specs.declared.place.Place.{Place}
-use Rattle.hay_map.specs.declared.place.Place.TheVariants as place
+use Rattle.hay_reader.specs.Tried.{PlaceGives}
 use Rattle.hay_reader.specs.declared.causes.PassedReplica.{PassedReplica}
 
--- the order in which so many replicas are tried, from this one on
-abbrev pub order_from : ℕ → ℕ → List ℕ
-order_from start replicas = map (λ i. (start + i) % replicas) (range_with_len 0 replicas)
+-- the replicas of the first so many tries, from this one on
+abbrev pub tried_from : ℕ → ℕ → ℕ → List ℕ
+tried_from start replicas tries = map (λ i. (start + i) % replicas) (range_with_len 0 tries)
 
 abbrev pub EachPair : {X : Type 0} → (X → X → Type 0) → List X → Type 0
 EachPair R [] = Unit {0}
 EachPair R (x ∷ xs) = AllByRecursion (R x) xs × EachPair R xs
 
--- a count that the arm came up to between two counts of it, or its greatest value
+-- a count that the arm came up to between two counts of it; its greatest value may come again
 abbrev pub CameUp : ℕ → ℕ → ℕ → Type 0
-CameUp before count after = ((before < count) × (count ≤ after)) ⊎ (count ≡ 2 ^ 64 - 1)
+CameUp before count after = ((before < count) ⊎ (count ≡ 2 ^ 64 - 1)) × (count ≤ after)
 
--- a cause that an arm's failure gives, or damage
+-- an arm's failure is a count that it came up to, of 64 bits
 abbrev pub HasCause : ℕ → ℕ → Cause → Type 0
-HasCause before after (cause.Arm f) = CameUp before f after
+HasCause before after (cause.Arm f) = CameUp before f after × (after < 2 ^ 64)
 HasCause before after (cause.Disk f) = ⊥
 HasCause before after (cause.Damage at) = Unit {0}
 
 -- of two counts of the arm the later one is greater, or the greatest
 abbrev pub ArmRises : Cause → Cause → Type 0
 ArmRises (cause.Arm f) (cause.Arm g) = (f < g) ⊎ (g ≡ 2 ^ 64 - 1)
-ArmRises _ _ = Unit {0}
+ArmRises (cause.Arm f) (cause.Disk g) = Unit {0}
+ArmRises (cause.Arm f) (cause.Damage at) = Unit {0}
+ArmRises (cause.Disk f) later = Unit {0}
+ArmRises (cause.Damage at) later = Unit {0}
 
 abbrev pub IsArm : Cause → Type 0
 IsArm (cause.Arm f) = Unit {0}
-IsArm _ = ⊥
+IsArm (cause.Disk f) = ⊥
+IsArm (cause.Damage at) = ⊥
 
 abbrev pub IsDamage : Cause → Type 0
 IsDamage (cause.Damage at) = Unit {0}
-IsDamage _ = ⊥
+IsDamage (cause.Arm f) = ⊥
+IsDamage (cause.Disk f) = ⊥
 
-abbrev pub IsDamageAt : ℕ → Cause → Type 0
-IsDamageAt at (cause.Damage there) = there ≡ at
-IsDamageAt at _ = ⊥
-
--- why this needle was passed over
-abbrev pub IsCauseOf : SealedNeedle → Cause → Type 0
-IsCauseOf needle (cause.Arm f) = Unit {0}
-IsCauseOf needle (cause.Disk f) = ⊥
-IsCauseOf needle (cause.Damage at) = at ≡ needle.at
-
--- only a live place is passed over
-abbrev pub IsPassedAt : {P : Type 0} → Place P → Cause → Type 0
-IsPassedAt (place.Live needle) why = IsCauseOf needle why
-IsPassedAt _ why = ⊥
-
--- Every replica was passed over, each with its cause.
-pub record PassesAll {P : Type 0} (start : ℕ) (row : List (Place P)) (before after : ℕ) (causes : List PassedReplica) : Type 0 where
-  pub order : map (λ passed. passed.replica) causes ≡ order_from start (length row)
-  pub live : AllByRecursion (λ passed. IsPassedAt (place_in row passed.replica) passed.cause) causes
+-- The first replicas that were tried, from `start` on, were passed over, each with its cause.
+pub record Passes (start replicas before after : ℕ) (causes : List PassedReplica) : Type 0 where
+  pub order : map (λ passed. passed.replica) causes ≡ tried_from start replicas (length causes)
   pub each : AllByRecursion (λ passed. HasCause before after passed.cause) causes
   pub rises : EachPair (λ a b. ArmRises a.cause b.cause) causes
+
+-- An arm before and after a call.
+pub record ArmUse : Type 0 where
+  pub sure : Bool
+  pub before : ℕ
+  pub after : ℕ
+
+-- The first replicas of a row were passed over, and each cause is what the try of the place gives.
+pub record PassesRow {P : Type 0} (Tells : Type 0) (arm : ArmUse) (start : ℕ) (row : List (Place P)) (cookie : Cookie) (causes : List PassedReplica) : Type 0 where
+  pub passed : Passes start (length row) arm.before arm.after causes
+  pub places : AllByRecursion (λ passed. PlaceGives Tells arm.sure cookie [] (place_in row passed.replica) (Err passed.cause)) causes
 
 -- The arm's count rose for each replica that was tried before this one.
 abbrev pub PassedBefore : ℕ → ℕ → ℕ → ℕ → ℕ → Type 0
 PassedBefore start replicas j before after =
-    (before + length (take_while (λ i. not (i == j)) (order_from start replicas)) ≤ after) ⊎ (after ≡ 2 ^ 64 - 1)
+    (before + length (take_while (λ i. not (i == j)) (tried_from start replicas replicas)) ≤ after) ⊎ (after ≡ 2 ^ 64 - 1)

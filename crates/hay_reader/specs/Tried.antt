@@ -1,25 +1,55 @@
--- What a try of one replica showed.
-use Rattle.std.specs.Prelude.{◌≡◌, ◌≢◌, ℕ, ◌≤◌, List, [], length, Result, Ok, Err}
+-- What a try of one replica gives.
+use Rattle.std.specs.Prelude.{◌≡◌, ◌≢◌, ℕ, ◌≤◌, true, Bool, List, [], length, Result, Ok, Err}
 use Rattle.hay_disk.specs.Counts.{Rose}
 use Rattle.hay_needle.specs.declared.needle.Cookie.{Cookie}
-use Rattle.hay_needle.specs.declared.needle.Outcome.{Outcome}
-use Rattle.hay_needle.specs.declared.needle.Outcome.TheVariants as outcome
+use Rattle.hay_needle.specs.declared.needle.Needle.{Needle}
 use Rattle.hay_needle.specs.declared.needle.Photo.{Photo}
+use Rattle.hay_needle.specs.Needle.{BeginsWithNeedle}
 use Rattle.hay_reply.specs.declared.Cause.{Cause}
 use Rattle.hay_reply.specs.declared.Cause.TheVariants as cause
 use Rattle.hay_map.specs.Sealed.{SealedNeedle}
 use Rattle.hay_map.specs.declared.place.Place.{Place}
 use Rattle.hay_map.specs.declared.place.Place.TheVariants as place
-use Rattle.hay_reader.specs.Causes.{IsArm, IsCauseOf}
 use Rattle.hay_reader.specs.declared.trial.Shown.{Shown}
 use Rattle.hay_reader.specs.declared.trial.Shown.TheVariants as shown
 
--- of a replica that has this outcome; `bytes` are those that were put out
-abbrev pub Tells : Cookie → Outcome → List ℕ → Result Shown Cause → Type 0
-Tells cookie what bytes (Ok shown.Photo) = what ≡ outcome.Photo (record { cookie = cookie; bytes = bytes })
-Tells cookie what bytes (Ok shown.Gone) = what ≡ outcome.Nothing
-Tells cookie what bytes (Ok shown.WrongCookie) = (photo : Photo) × (photo.cookie ≢ cookie) × (what ≡ outcome.Photo photo)
-Tells cookie what bytes (Err why) = IsArm why
+-- a needle of this photo begins here, deleted or not
+abbrev pub HasPhoto : List ℕ → Photo → Type 0
+HasPhoto bytes photo = (needle : Needle) × BeginsWithNeedle bytes needle × (needle.photo ≡ photo)
+
+-- no needle begins here
+abbrev pub HasNone : List ℕ → Type 0
+HasNone bytes = (needle : Needle) → BeginsWithNeedle bytes needle → ⊥
+
+-- what bytes show to who has this cookie; `put` are those that were put out
+abbrev pub ShowsPhoto : Cookie → List ℕ → List ℕ → Shown → Type 0
+ShowsPhoto cookie put bytes shown.Photo = HasPhoto bytes (record { cookie = cookie; bytes = put })
+ShowsPhoto cookie put bytes shown.WrongCookie = (photo : Photo) × (photo.cookie ≢ cookie) × HasPhoto bytes photo
+ShowsPhoto cookie put bytes shown.Gone = ⊥
+
+-- what reading bytes gives
+abbrev pub ReadsBytes : Cookie → List ℕ → List ℕ → Result Shown Cause → Type 0
+ReadsBytes cookie put bytes (Ok what) = ShowsPhoto cookie put bytes what
+ReadsBytes cookie put bytes (Err why) = HasNone bytes
+
+-- a needle was read
+abbrev pub IsRead : Shown → Type 0
+IsRead shown.Photo = Unit {0}
+IsRead shown.WrongCookie = Unit {0}
+IsRead shown.Gone = ⊥
+
+-- what the try of a needle gives: it tells its photo, or is passed over for an arm that may fail or for its damage
+abbrev pub NeedleGives : Type 0 → Bool → Cookie → List ℕ → SealedNeedle → Result Shown Cause → Type 0
+NeedleGives Tells sure cookie put needle (Ok what) = IsRead what × (Tells → ShowsPhoto cookie put needle.bytes what)
+NeedleGives Tells sure cookie put needle (Err (cause.Arm f)) = sure ≢ true
+NeedleGives Tells sure cookie put needle (Err (cause.Disk f)) = ⊥
+NeedleGives Tells sure cookie put needle (Err (cause.Damage at)) = (at ≡ needle.at) × (Tells → HasNone needle.bytes)
+
+-- what the try of a place gives: one without a needle says that the photo is gone
+abbrev pub PlaceGives : {P : Type 0} → Type 0 → Bool → Cookie → List ℕ → Place P → Result Shown Cause → Type 0
+PlaceGives Tells sure cookie put (place.Live needle) r = NeedleGives Tells sure cookie put needle r
+PlaceGives Tells sure cookie put place.None r = r ≡ Ok shown.Gone
+PlaceGives Tells sure cookie put place.Gone r = r ≡ Ok shown.Gone
 
 -- an arm's failure is its count, which rose in this call
 abbrev pub FailsBy : ℕ → ℕ → Cause → Type 0
@@ -27,23 +57,15 @@ FailsBy before after (cause.Arm f) = (f ≡ after) × Rose before after
 FailsBy before after (cause.Disk f) = ⊥
 FailsBy before after (cause.Damage at) = Unit {0}
 
+-- damage is told where the needle stands
+abbrev pub IsDamageAt : ℕ → Cause → Type 0
+IsDamageAt at (cause.Damage there) = there ≡ at
+IsDamageAt at (cause.Arm f) = ⊥
+IsDamageAt at (cause.Disk f) = ⊥
+
 -- only a photo has bytes, and at most so many
 abbrev pub PutsOut : List ℕ → Result Shown Cause → Type 0
 PutsOut bytes (Ok shown.Photo) = length bytes ≤ 1048576
-PutsOut bytes _ = bytes ≡ []
-
--- a needle was read
-abbrev pub IsRead : Shown → Type 0
-IsRead shown.Gone = ⊥
-IsRead _ = Unit {0}
-
--- what a needle lets a replica show
-abbrev pub NeedleLets : SealedNeedle → Result Shown Cause → Type 0
-NeedleLets needle (Ok shown) = IsRead shown
-NeedleLets needle (Err why) = IsCauseOf needle why
-
--- what a place lets a replica show: a live one is fetched, and any other says that the photo is gone
-abbrev pub PlaceLets : {P : Type 0} → Place P → Result Shown Cause → Type 0
-PlaceLets (place.Live needle) r = NeedleLets needle r
-PlaceLets _ (Ok shown.Gone) = Unit {0}
-PlaceLets _ _ = ⊥
+PutsOut bytes (Ok shown.Gone) = bytes ≡ []
+PutsOut bytes (Ok shown.WrongCookie) = bytes ≡ []
+PutsOut bytes (Err why) = bytes ≡ []

@@ -1,13 +1,8 @@
 //! The seat of a lane that reads.
-ghost use Rattle.std.specs.Prelude.{◌≡◌, ◌<◌, ◌≤◌, ◌^◌, ◌⊎◌, [], true, ℕ, List, length, IfOk, IfErr};
-ghost use Rattle.std.specs.List.{AllZip};
+ghost use Rattle.std.specs.Prelude.{◌≡◌, ◌<◌, ◌≤◌, ◌^◌, ◌⊎◌, [], true, length, IfOk, IfErr};
 ghost use Rattle.std.specs.Vec.{vec_capacity};
-ghost use Rattle.hay_needle.specs.declared.needle.Pair.{Pair};
-ghost use Rattle.hay_needle.specs.declared.needle.Outcome.{Outcome};
-ghost use Rattle.hay_map.specs.Places.{PlaceMeans};
-ghost use Rattle.hay_reader.specs.Causes.{IsDamage};
-ghost use Rattle.hay_reader.specs.Tried.{Tells, FailsBy, PutsOut, PlaceLets};
-ghost use Rattle.hay_reader.specs.Shown.{reply_at, Answers, HasCauses, NoArm, HasBytes};
+ghost use Rattle.hay_reader.specs.Tried.{PlaceGives, FailsBy, PutsOut};
+ghost use Rattle.hay_reader.specs.Shown.{reply_at, ReadsRow, NoArm, HasBytes};
 
 use crate::trial::{Shown, try_place};
 use crate::{Causes, PassedReplica};
@@ -94,11 +89,9 @@ impl<A> LaneSeat<A> {
         requires empty { out.old.items ≡ [] }
         requires room { 1048576 ≤ vec_capacity out.old }
 
-        // What is shown is what the replica has. A replica is passed over only for a failure of the arm.
-        ensures shown { (pair : Pair) (outcomes : List Outcome) → AllZip (PlaceMeans P.Tells pair) row.now outcomes → Answers start cookie (A.fault_count self.old) (A.fault_count self.new) outcomes out.new.items result }
-
-        // Where all are passed over, each has its cause.
-        ensures causes { HasCauses start row.now (A.fault_count self.old) (A.fault_count self.new) result }
+        // What is shown is what stands at the replica's place. A replica is passed over only where its fetch failed in this call, or
+        // where no needle begins there.
+        ensures reads { ReadsRow P.Tells (record { sure = A.is_sure self.old; before = A.fault_count self.old; after = A.fault_count self.new }) start row.now cookie out.new.items result }
         ensures sure { A.is_sure self.old ≡ true → (A.is_sure self.new ≡ true) × NoArm result }
         ensures later { A.fault_count self.old ≤ A.fault_count self.new }
         ensures bytes { HasBytes out.new.items result }
@@ -128,12 +121,11 @@ impl<A> LaneSeat<A> {
         A: Arm<P>,
         requires empty { out.old.items ≡ [] }
         requires room { 1048576 ≤ vec_capacity out.old }
-        ensures tells { (pair : Pair) (what : Outcome) → PlaceMeans P.Tells pair place.now what → Tells cookie what out.new.items result }
-        ensures lets { PlaceLets place.now result }
+        ensures gives { PlaceGives P.Tells (A.is_sure self.old) cookie out.new.items place.now result }
         ensures cause { IfErr result (FailsBy (A.fault_count self.old) (A.fault_count self.new)) }
         ensures later { A.fault_count self.old ≤ A.fault_count self.new }
         ensures most { (A.fault_count self.new ≡ A.fault_count self.old) ⊎ (A.fault_count self.new < 2 ^ 64) }
-        ensures sure { A.is_sure self.old ≡ true → (A.is_sure self.new ≡ true) × IfErr result IsDamage }
+        ensures sure { A.is_sure self.old ≡ true → A.is_sure self.new ≡ true }
         ensures bytes { PutsOut out.new.items result }
         ensures room { vec_capacity out.old ≤ vec_capacity out.new }
     {

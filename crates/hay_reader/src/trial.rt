@@ -1,16 +1,8 @@
 //! The try of one replica.
-ghost use Rattle.std.specs.Prelude.{◌≡◌, ◌≤◌, ◌<◌, ◌+◌, ◌^◌, ◌⊎◌, ◌++◌, [], true, length, vec_len, IfErr, IfOk};
+ghost use Rattle.std.specs.Prelude.{◌≡◌, ◌≤◌, ◌<◌, ◌+◌, ◌^◌, ◌⊎◌, ◌++◌, [], true, length, vec_len, IfErr};
 ghost use Rattle.std.specs.Vec.{vec_capacity};
 ghost use Rattle.hay_disk.specs.Counts.{IsCounted};
-ghost use Rattle.hay_needle.specs.declared.needle.Needle.{Needle};
-ghost use Rattle.hay_needle.specs.declared.needle.Outcome.{Outcome};
-ghost use Rattle.hay_needle.specs.declared.needle.Outcome.TheVariants as outcome_is;
-ghost use Rattle.hay_needle.specs.declared.needle.Pair.{Pair};
-ghost use Rattle.hay_needle.specs.declared.needle.Photo.{Photo};
-ghost use Rattle.hay_needle.specs.Needle.{BeginsWithNeedle};
-ghost use Rattle.hay_map.specs.Places.{PlaceMeans, IsSealed};
-ghost use Rattle.hay_reader.specs.Causes.{IsDamage, IsDamageAt};
-ghost use Rattle.hay_reader.specs.Tried.{Tells, FailsBy, PutsOut, PlaceLets, NeedleLets, IsRead};
+ghost use Rattle.hay_reader.specs.Tried.{NeedleGives, PlaceGives, ReadsBytes, FailsBy, IsDamageAt, PutsOut};
 
 use hay_disk::{Arm, Failed, Piece};
 use hay_map::{Place, Sealed};
@@ -36,12 +28,11 @@ pub fn try_place<P: Piece, A: Arm<P>>(
     requires buffer { length buffer.old ≡ 1048624 }
     requires empty { out.old.items ≡ [] }
     requires room { 1048576 ≤ vec_capacity out.old }
-    ensures tells { (pair : Pair) (what : Outcome) → PlaceMeans P.Tells pair place.now what → Tells cookie what out.new.items result }
-    ensures lets { PlaceLets place.now result }
+    ensures gives { PlaceGives P.Tells (A.is_sure arm.old) cookie out.new.items place.now result }
     ensures cause { IfErr result (FailsBy (A.fault_count arm.old) (A.fault_count arm.new)) }
     ensures later { A.fault_count arm.old ≤ A.fault_count arm.new }
     ensures most { (A.fault_count arm.new ≡ A.fault_count arm.old) ⊎ (A.fault_count arm.new < 2 ^ 64) }
-    ensures sure { A.is_sure arm.old ≡ true → (A.is_sure arm.new ≡ true) × IfErr result IsDamage }
+    ensures sure { A.is_sure arm.old ≡ true → A.is_sure arm.new ≡ true }
     ensures bytes { PutsOut out.new.items result }
     ensures room { vec_capacity out.old ≤ vec_capacity out.new }
 {
@@ -61,12 +52,11 @@ fn try_needle<P: Piece, A: Arm<P>>(
     requires buffer { length buffer.old ≡ 1048624 }
     requires empty { out.old.items ≡ [] }
     requires room { 1048576 ≤ vec_capacity out.old }
-    ensures tells { (pair : Pair) (photo : Photo) → IsSealed P.Tells pair photo needle.now → Tells cookie (outcome_is.Photo photo) out.new.items result }
-    ensures lets { NeedleLets needle.now result }
+    ensures gives { NeedleGives P.Tells (A.is_sure arm.old) cookie out.new.items needle.now result }
     ensures cause { IfErr result (FailsBy (A.fault_count arm.old) (A.fault_count arm.new)) }
     ensures later { A.fault_count arm.old ≤ A.fault_count arm.new }
     ensures most { A.fault_count arm.new < 2 ^ 64 }
-    ensures sure { A.is_sure arm.old ≡ true → (A.is_sure arm.new ≡ true) × IfErr result IsDamage }
+    ensures sure { A.is_sure arm.old ≡ true → A.is_sure arm.new ≡ true }
     ensures bytes { PutsOut out.new.items result }
     ensures room { vec_capacity out.old ≤ vec_capacity out.new }
 {
@@ -83,9 +73,8 @@ fn try_needle<P: Piece, A: Arm<P>>(
 fn read_photo(bytes: &[u8], at: u64, cookie: Cookie, out: &mut Vec<u8>) -> Result<Shown, Cause>
     requires empty { out.old.items ≡ [] }
     requires room { 1048576 ≤ vec_capacity out.old }
-    ensures tells { (needle : Needle) → BeginsWithNeedle bytes.now needle → Tells cookie (outcome_is.Photo needle.photo) out.new.items result }
+    ensures reads { ReadsBytes cookie out.new.items bytes.now result }
     ensures damage { IfErr result (IsDamageAt at) }
-    ensures shown { IfOk result IsRead }
     ensures bytes { PutsOut out.new.items result }
     ensures room { vec_capacity out.old ≤ vec_capacity out.new }
 {

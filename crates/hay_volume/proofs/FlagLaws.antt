@@ -1,9 +1,11 @@
 -- A byte of flags that is written over.
 use Rattle.std.proofs.Common.{◌≡◌, ◌≢◌, ◌+◌, ◌-◌, ◌<◌, ◌≤◌, ◌^◌, min, ℕ, suc, Bool, true, false, eqb, List, [], ◌∷◌, ◌++◌, length, get_or, take, drop, refl, sym, ◌∙◌, ap, subst, arith, inl, inr, append_assoc, take-append-drop, length-take, length-drop}
-use Rattle.std.specs.Prelude.{not, slice_set, Result, Ok, Err, OnOk}
+use Rattle.std.specs.Prelude.{not, slice_set, Some, Result, Ok, Err, OnOk}
+use Rattle.std.specs.List.{slice_get}
 use Rattle.std.proofs.Math.Seq.{take-set-lt}
 use Rattle.std.proofs.lemmas.Bool.{cases_eq, eq-eqb, ne_eqb}
-use Rattle.std.proofs.lemmas.List.{length-set, length-append, set-append_left, set-append_right, set_split, take-set-le, drop-set-lt, drop-set-add, drop_more}
+use Rattle.std.proofs.lemmas.Option.{slice_get-get_or}
+use Rattle.std.proofs.lemmas.List.{get_or-set_same, length-set, length-append, set-append_left, set-append_right, set_split, take-set-le, drop-set-lt, drop-set-add, drop_more}
 use Rattle.hay_needle.specs.declared.needle.Cell.{Cell}
 use Rattle.hay_needle.specs.Needle.{BeginsWithNeedle, head_of_needle, needle_of_cell}
 use Rattle.hay_needle.proofs.Needles.{length-head, length-needle, head_first, reflagged}
@@ -101,6 +103,11 @@ pub one_byte : (at b : ℕ) (old new : List ℕ) → at < length old → new ≡
 one_byte at b old new inside is =
     let next : at + 1 ≡ suc at = omega arith in
     is ∙ append_assoc (take at old) (b ∷ []) (drop (at + 1) old) ∙ ap (λ n. take at old ++ b ∷ drop n old) next ∙ sym (set_split old at b inside)
+
+-- and read back
+pub byte_there : (at b : ℕ) (old new : List ℕ) → at < length old → new ≡ overwrite at (b ∷ []) old → slice_get new at ≡ Some b
+byte_there at b old new inside is =
+    ap (λ (l : List ℕ). slice_get l at) (one_byte at b old new inside is) ∙ slice_get-get_or (slice_set old at b) at 0 (omega (arith, length-set old at b)) ∙ ap (λ n. Some n) (get_or-set_same old at b 0 inside)
 
 -- the place of the flags lies in the file
 pub flags_within : (at : ℕ) (file : List ℕ) (n : Needle) → BeginsWithNeedle (drop at file) n → at + 28 < length file

@@ -1,6 +1,6 @@
 //! Marking a cell as deleted.
 
-ghost use Rattle.std.specs.Prelude.{◌≡◌, ◌≤◌, ◌<◌, ◌+◌, ◌-◌, Bool, true, false, List, ℕ, length, drop, OnOk, IsErr};
+ghost use Rattle.std.specs.Prelude.{◌≡◌, ◌≤◌, ◌<◌, ◌+◌, ◌-◌, Bool, true, false, List, ℕ, Some, length, drop, slice_get, OnOk, IsErr};
 ghost use Rattle.hay_disk.specs.Counts.{IsCounted};
 ghost use Rattle.hay_disk.specs.Disk.{IsImage, IsSolid, IsFreeIn, Changes, KeepsOthers, overwrite};
 ghost use Rattle.hay_disk.specs.Gate.{IsGate};
@@ -42,6 +42,7 @@ impl VolumeFile {
         ensures flagged { D.Tells → OnOk result ((superblock : List ℕ) (cells : List Cell) (end : ℕ) →
             IsVolume superblock (D.files disk.old self.now.file).now cells end → HasPlace at cells →
             IsVolume superblock (D.files disk.new self.now.file).now (with_flag at true cells) end) }
+        ensures byte { D.Tells → OnOk result (slice_get (D.files disk.new self.now.file).now (at + 28) ≡ Some 1) }
         ensures either { D.Tells → (superblock : List ℕ) (cells : List Cell) (end : ℕ) →
             IsVolume superblock (D.files disk.old self.now.file).now cells end → HasPlace at cells →
             (deleted : Bool) × IsVolume superblock (D.files disk.new self.now.file).now (with_flag at deleted cells) end }
@@ -60,10 +61,11 @@ impl VolumeFile {
         requires stands { D.Tells → (n : Needle) × BeginsWithNeedle (drop at (D.files disk.old self.now.file).now) n }
         requires free { D.Tells → (D.files disk.old self.now.file).sealed (at + 28) ≡ false }
 
-        // At `Ok` the cell is deleted. `Failed` leaves the same cells, that one deleted or not.
+        // At `Ok` the cell is deleted, and its byte of flags is 1. `Failed` leaves the same cells, that one deleted or not.
         ensures flagged { D.Tells → OnOk result ((superblock : List ℕ) (cells : List Cell) (end : ℕ) →
             IsVolume superblock (D.files disk.old self.now.file).now cells end → HasPlace at cells →
             IsVolume superblock (D.files disk.new self.now.file).now (with_flag at true cells) end) }
+        ensures byte { D.Tells → OnOk result (slice_get (D.files disk.new self.now.file).now (at + 28) ≡ Some 1) }
         ensures either { D.Tells → (superblock : List ℕ) (cells : List Cell) (end : ℕ) →
             IsVolume superblock (D.files disk.old self.now.file).now cells end → HasPlace at cells →
             (deleted : Bool) × IsVolume superblock (D.files disk.new self.now.file).now (with_flag at deleted cells) end }
@@ -82,10 +84,11 @@ impl VolumeFile {
         requires inside { D.Tells → at + 28 < length (D.files disk.old self.old.file).now }
         requires free { D.Tells → (D.files disk.old self.old.file).sealed (at + 28) ≡ false }
 
-        // At `Ok` the cell is deleted, and all of the file is on the disk.
+        // At `Ok` the cell is deleted, its byte of flags is 1, and all of the file is on the disk.
         ensures flagged { D.Tells → OnOk result ((superblock : List ℕ) (cells : List Cell) (end : ℕ) →
             IsVolume superblock (D.files disk.old self.old.file).now cells end → HasPlace at cells →
             IsVolume superblock (D.files disk.new self.old.file).now (with_flag at true cells) end) }
+        ensures byte { D.Tells → OnOk result (slice_get (D.files disk.new self.old.file).now (at + 28) ≡ Some 1) }
         ensures solid { D.Tells → OnOk result (IsSolid (D.files disk.new self.old.file)) }
 
         // Whatever a stop leaves, then or after a refusal, has the same cells, that one deleted or not.

@@ -1,14 +1,15 @@
-use Rattle.std.proofs.Common.{◌≡◌, ℕ, List, length, Err, ap, arith, sym, subst}
+use Rattle.std.proofs.Common.{◌≡◌, inl, inr, ℕ, List, length, Err, ap, arith, sym, subst}
 use Rattle.hay_disk.specs.Disk.{Files}
 use Rattle.hay_open.specs.declared.fault.Refusal.{Refusal}
 use Rattle.hay_open.specs.declared.fault.Refusal.TheVariants as refusal
-use Rattle.hay_open.specs.Damage.{IsOpeningDamage, IsReadingDamage}
-use Rattle.hay_open.specs.Finds.{OpenedAs}
+use Rattle.hay_open.specs.Damage.{IsDamagedFront, IsOpeningDamage, IsReadingDamage}
+use Rattle.hay_open.specs.Finds.{OpenedAs, ReadsWhole}
 use Rattle.hay_open.specs.Stored.{Stored, IsStored, IsVoid, fresh_stored}
 use Rattle.hay_open.proofs.Faults.{told_damaged, void_is}
 use Rattle.hay_open.proofs.Opening.{opened_ready}
 use Rattle.hay_open.proofs.PlaceLaws.{void_places}
 use Rattle.hay_open.proofs.Standing.{opens_stored, opens_void}
+use Rattle.hay_open.proofs.Undamaged.{reads_undamaged}
 use Rattle.hay_open.proofs.open_replica.Goals as goal
 
 pub returns-in-Ok-format_disk-clause-opened : goal.returns-in-Ok-format_disk-clause-opened
@@ -26,6 +27,27 @@ returns-in-Ok-format_disk-clause-places g c = λ tells s opens.
 pub returns-in-Ok-format_disk-clause-ready : goal.returns-in-Ok-format_disk-clause-ready
 returns-in-Ok-format_disk-clause-ready g c = λ tells.
     opened_ready c.args.sup.now (g.D.Disk.files c.format_disk.new.disk) c.in-Ok-format_disk.opened fresh_stored (c.in-Ok-format_disk.ensures.opened tells)
+
+pub returns-in-Ok-format_disk-clause-whole : goal.returns-in-Ok-format_disk-clause-whole
+returns-in-Ok-format_disk-clause-whole g c = λ tells. inl (void_is (g.D.Disk.files c.args.disk.now 0).now (omega (arith, c.in-Ok-eq0.ensures.size tells, c.in-Ok-eq0.field-0-test)))
+
+pub returns-in-Ok-format_disk-clause-undamaged : goal.returns-in-Ok-format_disk-clause-undamaged
+unfolding IsOpeningDamage
+returns-in-Ok-format_disk-clause-undamaged g c = λ tells file at damage.
+    damage.0 (void_is (g.D.Disk.files c.args.disk.now 0).now (omega (arith, c.in-Ok-eq0.ensures.size tells, c.in-Ok-eq0.field-0-test)))
+
+pub returns-in-Ok-read_disk-clause-whole : goal.returns-in-Ok-read_disk-clause-whole
+returns-in-Ok-read_disk-clause-whole g c = λ tells.
+    inr (subst (λ (fs : Files). ReadsWhole c.args.sup.now (λ n. (fs n).now) c.in-Ok-read_disk.opened) (c.size.ensures.same tells) (c.in-Ok-read_disk.ensures.whole tells))
+
+pub returns-in-Ok-read_disk-clause-undamaged : goal.returns-in-Ok-read_disk-clause-undamaged
+unfolding IsOpeningDamage
+returns-in-Ok-read_disk-clause-undamaged g c = λ tells file at damage.
+    let contents : ℕ → List ℕ = λ n. (g.D.Disk.files c.args.disk.now n).now in
+    let short = (g.met.D.Disk g.world.𝓛 g.world.𝓜 g.world.𝓡 ((λ s x. x), (λ x. x), (λ x. x), λ x. x)).fits in
+    let whole = subst (λ (fs : Files). ReadsWhole c.args.sup.now (λ n. (fs n).now) c.in-Ok-read_disk.opened) (c.size.ensures.same tells) (c.in-Ok-read_disk.ensures.whole tells) in
+    reads_undamaged c.args.sup.now contents c.in-Ok-read_disk.opened file at (λ n. short c.args.disk.now n tells) whole
+    (subst (λ (fs : Files). IsDamagedFront c.args.sup.now (λ n. (fs n).now) file at → ⊥) (c.size.ensures.same tells) (c.in-Ok-read_disk.ensures.front tells file at)) damage.1
 
 pub returns-in-Ok-read_disk-clause-opened : goal.returns-in-Ok-read_disk-clause-opened
 returns-in-Ok-read_disk-clause-opened g c = λ tells s opens.

@@ -34,3 +34,7 @@ returns-clause-found g c = λ tells.
     (opened.rows tells) (opened.end tells) (opened.rest tells) (opened.next tells) (opened.void tells) (λ some. ap (λ (f : Files). f 0) (opened.same tells some)) (opened.exact tells)
     (λ pair. c.in-Ok.ensures pair ∙ ap (λ l. home_in (map home_row l) pair) slice.value)
     (c.len-count.ensures ∙ sym slice.len ∙ ap length slice.value)
+
+pub returns-clause-undamaged : goal.returns-clause-undamaged
+returns-clause-undamaged g c = λ tells some at damage.
+    c.in_ok-journal.ensures.undamaged tells some at (subst (λ (s : Super). IsDamagedJournal s (g.D.Disk.files c.args.disk.now 0).now at) (sym c.super_of-sup.ensures) damage)

@@ -1,11 +1,11 @@
-use Rattle.std.proofs.Common.{◌≡◌, ◌<◌, ◌+◌, ◌^◌, ◌∙◌, ap, subst, arith, Ok}
+use Rattle.std.proofs.Common.{◌≡◌, inl, inr, ◌<◌, ◌+◌, ◌^◌, ◌∙◌, ap, subst, arith, Ok}
 use Rattle.hay_needle.specs.Super.{super_bytes}
 use Rattle.hay_needle.proofs.Supers.{length-super}
 use Rattle.hay_disk.specs.Gate.{IsClosed, Stands}
 use Rattle.hay_head.proofs.RowLaws.{front_is}
 use Rattle.hay_head.proofs.HeadLaws.{none_is, some_is_none}
-use Rattle.hay_dirfile.specs.Journal.{journal_magic, journal_row, journal_end, IsBrokenRow}
-use Rattle.hay_dirfile.proofs.JournalLaws.{lead_first, lead_next, next_count, row_within, journal_found, one_journal, no_broken_row}
+use Rattle.hay_dirfile.specs.Journal.{journal_magic, journal_row, journal_end, IsBrokenRow, IsDamagedJournal}
+use Rattle.hay_dirfile.proofs.JournalLaws.{lead_first, lead_next, next_count, row_within, journal_found, one_journal, no_broken_row, undamaged}
 use Rattle.hay_dirfile.proofs.scan.read_rows.Goals as goal
 
 pub returns-in-Some-clause-only : goal.returns-in-Some-clause-only
@@ -31,10 +31,29 @@ returns-in-Mark-clause-exact g c = λ tells rows is.
     (journal_found (super_bytes c.args.sup.now) c.args.sup.now.settings.volumes (g.D.Disk.files c.args.disk.now 0).now c.rows.rows.items c.rows.end c.rows.invariant.end (c.rows.invariant.lead tells)
     (subst (λ files. IsClosed journal_magic c.rows.end (files 0).now) (c.rows.invariant.same tells) (c.in_ok-row.ensures.mark tells (ap (λ x. Ok x) c.in-Mark.is)))) is
 
+pub returns-in-Mark-clause-undamaged : goal.returns-in-Mark-clause-undamaged
+returns-in-Mark-clause-undamaged g c = λ tells at damage.
+    let file = (g.D.Disk.files c.args.disk.now 0).now in
+    let volumes = c.args.sup.now.settings.volumes in
+    elim damage [
+      | inl fault ↦ none_is c.in_ok-at.field-0 _ c.in_default.is (c.in_ok-at.ensures.none tells) at fault
+      | inr broken ↦ undamaged (super_bytes c.args.sup.now) volumes file c.rows.rows.items at
+          (journal_found (super_bytes c.args.sup.now) volumes file c.rows.rows.items c.rows.end c.rows.invariant.end (c.rows.invariant.lead tells)
+          (subst (λ files. IsClosed journal_magic c.rows.end (files 0).now) (c.rows.invariant.same tells) (c.in_ok-row.ensures.mark tells (ap (λ x. Ok x) c.in-Mark.is)))) broken
+    ]
+
 pub returns-in-Broken-clause-only : goal.returns-in-Broken-clause-only
 returns-in-Broken-clause-only g c = λ tells rows is.
     absurd (no_broken_row (super_bytes c.args.sup.now) c.args.sup.now.settings.volumes (g.D.Disk.files c.args.disk.now 0).now rows c.rows.rows.items c.rows.end c.rows.invariant.end is (c.rows.invariant.lead tells)
     (subst (λ files. IsBrokenRow c.args.sup.now.settings.volumes c.rows.end (files 0).now) (c.rows.invariant.same tells) (c.in_ok-row.ensures.broken tells (ap (λ x. Ok x) c.in-Broken.is))))
+
+pub returns-in-Broken-clause-damaged : goal.returns-in-Broken-clause-damaged
+returns-in-Broken-clause-damaged g c = λ tells at is.
+    let file = (g.D.Disk.files c.args.disk.now 0).now in
+    let volumes = c.args.sup.now.settings.volumes in
+    let here : c.rows.end ≡ at = cc in
+    let broken = subst (λ files. IsBrokenRow volumes c.rows.end (files 0).now) (c.rows.invariant.same tells) (c.in_ok-row.ensures.broken tells (ap (λ x. Ok x) c.in-Broken.is)) in
+    subst (λ k. IsDamagedJournal c.args.sup.now file k) here (inr (record { rows = c.rows.rows.items; place = c.rows.invariant.end; lead = c.rows.invariant.lead tells; broken = broken }))
 
 -- a row that stands ends at a number of 64 bits
 

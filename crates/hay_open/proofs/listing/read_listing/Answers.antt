@@ -122,3 +122,6 @@ returns-clause-listing g c = λ tells.
       recorded = omega (arith, c.len-recorded.ensures, r.records.ok.0);
       heads = scan.2;
     }
+
+pub returns-clause-undamaged : goal.returns-clause-undamaged
+returns-clause-undamaged g c = λ tells file at. c.in_ok-head.ensures.undamaged tells file at

@@ -1,6 +1,6 @@
 use Rattle.std.proofs.Common.{ap, Err, inl, ◌∙◌}
 use Rattle.std.proofs.lemmas.Result.{err_from_is_err_and}
-use Rattle.hay_open.proofs.Reading.{same_refusal, front_fault, index_fault, sought_front, sought_index}
+use Rattle.hay_open.proofs.Reading.{same_refusal, front_fault, front_undamaged, index_fault, sought_front, sought_index}
 use Rattle.hay_open.proofs.listing.read_recorded.Goals as goal
 
 pub returns-in_err-head-clause-damaged : goal.returns-in_err-head-clause-damaged
@@ -34,3 +34,9 @@ returns-in_err-index-clause-only g c = λ tells generation records end has file 
     c.in_err-index.ensures.only tells records end
     (sought_index c.args.sup.now c.index_super.result (g.D.Disk.files c.args.disk.now) (g.D.Disk.files c.check_front.new.disk) c.in_ok-head.head.generation generation c.index_file.result end records (c.in_ok-head.ensures.head tells) (c.check_front.ensures.same tells ∙ c.read_head_file.ensures.same tells) c.index_file.ensures c.index_super.ensures has)
     file at (ap (λ x. Err x) (same_refusal c.from_residual-in_err-index.result fault.0 c.in_err-index.field-0.0 file at fault.1 fault.2 is))
+
+pub returns-clause-undamaged : goal.returns-clause-undamaged
+returns-clause-undamaged g c = λ tells file at.
+    front_undamaged c.args.sup.now c.volume_super.result c.index_super.result (g.D.Disk.files c.args.disk.now) (g.D.Disk.files c.read_head_file.new.disk) (g.D.Disk.files c.check_front.new.disk) c.in_ok-head.head.generation file at c.volume_file.result c.index_file.result
+    (c.in_ok-head.ensures.head tells) (c.in_ok-head.ensures.undamaged tells at) (c.read_head_file.ensures.same tells) c.volume_file.ensures c.volume_super.ensures (c.in_ok-check_front.ensures.undamaged tells at)
+    (c.check_front.ensures.same tells ∙ c.read_head_file.ensures.same tells) c.index_file.ensures c.index_super.ensures (c.in_ok-index.ensures.undamaged tells at)

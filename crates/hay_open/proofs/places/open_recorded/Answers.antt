@@ -1,4 +1,4 @@
-use Rattle.std.proofs.Common.{◌≡◌, ◌+◌, ℕ, List, length, get_or, map, take, drop, Some, Err, refl, ap, sym, subst, ◌∙◌, arith, below_more}
+use Rattle.std.proofs.Common.{◌≡◌, ◌+◌, ℕ, List, length, get_or, map, take, drop, Some, Err, refl, ap, sym, subst, ◌∙◌, arith, below_more, length-take}
 use Rattle.std.specs.List.{slice_get}
 use Rattle.std.proofs.lemmas.Bool.{true≢false}
 use Rattle.std.proofs.lemmas.Result.{err_from_is_err_and}
@@ -130,3 +130,8 @@ loop-number-preserved g c =
       faults = omega (arith, c.open_record.ensures.counted.later, c.loop-number.invariant.faults);
       fuses = c.open_record.ensures.fuses ∙ c.loop-number.invariant.fuses;
     }
+
+pub returns-clause-fits : goal.returns-clause-fits
+returns-clause-fits g c = λ tells k below.
+    let listing = c.args.listing.now in
+    c.loop-number.invariant.fits tells k (omega (arith, c.loop-number-test.false, length-take listing.recorded c.as_slice.result.now, ap (λ (l : List Record). length l) c.as_slice.ensures.value, c.requires.within))

@@ -7,10 +7,11 @@ use Rattle.hay_needle.specs.declared.needle.CellHead.{CellHead}
 use Rattle.hay_volume.specs.declared.volume.VolumeFile.{VolumeFile}
 use Rattle.hay_index.specs.Records.{place_behind}
 use Rattle.std.specs.List.{AllByRecursion}
+use Rattle.hay_open.specs.Damage.{HasOrphans}
 use Rattle.hay_open.specs.Finds.{MayFlagPlace}
 use Rattle.hay_open.specs.Listing.{GivesPieces, HoldsRows, ListsCells}
 use Rattle.hay_open.specs.Stored.{HeadRests, volume_file, index_file}
-use Rattle.hay_open.proofs.Opening.{listing_holds, rows_end, lists_cells, lists_stored, misfit_among, no_misfit, ready_head, ready_index, ready_volume, rests_index, rests_volume}
+use Rattle.hay_open.proofs.Opening.{listing_holds, rows_end, lists_cells, lists_stored, lasts_fit, misfit_among, no_misfit, ready_head, ready_index, ready_volume, rests_index, rests_volume}
 use Rattle.hay_open.proofs.Flagging.{flag_each}
 use Rattle.hay_open.proofs.PieceLaws.{all_free}
 use Rattle.hay_open.proofs.Reading.{same_refusal}
@@ -116,6 +117,24 @@ returns-clause-opened g c = λ tells s stored.
       index = rests_index sup (f c.args.disk.now) (f c.open_cells.new.disk) listing s made stored lists (λ n. fits c.args.disk.now n tells) (solid listing.index.file) (free listing.index.file) gives;
       records = lists.count;
       orphans = omega (arith, c.len.ensures, listing.orphans.ok.0, ap (λ (l : List CellHead). length l) lists.heads, heads_length (drop s.records s.cells), length-drop s.records s.cells, stored.lags);
+    }
+
+pub returns-clause-whole : goal.returns-clause-whole
+returns-clause-whole g c = λ tells.
+    let listing = c.in_ok-listing.listing in
+    let f = g.D.Disk.files in
+    let made = c.in_ok-listing.ensures.listing tells in
+    let volume = (f c.args.disk.now (volume_file listing.head.generation)).now in
+    record {
+      records = made.records;
+      orphans = made.orphans;
+      recorded = made.is;
+      behind = subst (λ (v : VolumeFile). HasOrphans volume made.records made.orphans v.end) (sym c.adopt.ensures) made.behind;
+      last = lasts_fit c.args.sup.now (f c.args.disk.now) (f c.read_listing.new.disk) listing made (c.read_listing.ensures.same tells) (c.in_ok-cells.ensures.fits tells);
+      capacity = ap (λ (v : VolumeFile). v.capacity) c.adopt.ensures;
+      noted = made.noted;
+      record_count = made.recorded;
+      orphan_count = omega (arith, c.len.ensures, listing.orphans.ok.0, ap (λ (l : List CellHead). length l) made.heads, heads_length made.orphans);
     }
 
 pub returns-clause-flags : goal.returns-clause-flags

@@ -64,3 +64,6 @@ returns-clause-reopened g c = λ tells known stopped.
     let drains = c.self.invariant.undrained closed ∙ ap (λ (d : State _). replicate d.settings.machines false) c.self.view_is in
     reopened files _ _ _ known c.in_ok-loaded.loaded.notes (c.in_ok-loaded.ensures.found tells) s refl refl drains
     (c.in_ok-loaded.ensures.notes ∙ ap (λ (u : Option Unsure). notes_by u c.in_ok-loaded.loaded.homes) c.unsure-unsure.ensures)
+
+pub returns-clause-undamaged : goal.returns-clause-undamaged
+returns-clause-undamaged g c = rw (← c.self.view_is) (λ tells some. c.in_ok-loaded.ensures.undamaged tells some)

@@ -1,11 +1,11 @@
-use Rattle.std.proofs.Common.{◌≡◌, ◌∙◌, ◌-◌, ap, sym, subst, arith, Ok, inr}
+use Rattle.std.proofs.Common.{◌≡◌, ◌∙◌, ◌-◌, ap, sym, subst, arith, Ok, inl, inr}
 use Rattle.std.specs.List.{range_with_len}
 use Rattle.hay_needle.specs.Super.{super_bytes}
 use Rattle.hay_needle.proofs.Supers.{length-super}
 use Rattle.hay_disk.specs.Gate.{IsClosed, Stands}
 use Rattle.hay_head.specs.Head.{head_magic, head_row, row_place, IsBrokenRow}
 use Rattle.hay_head.proofs.RowLaws.{front_is}
-use Rattle.hay_head.proofs.HeadLaws.{lead_first, lead_next, head_found, no_broken_row, one_generation, none_is, some_is_none}
+use Rattle.hay_head.proofs.HeadLaws.{lead_first, lead_next, head_found, no_broken_row, one_generation, none_is, some_is_none, undamaged}
 use Rattle.hay_head.proofs.head.Head.read.Goals as goal
 
 pub returns-in-Some-clause-only : goal.returns-in-Some-clause-only
@@ -63,3 +63,10 @@ returns-in-Mark-clause-head g c = λ tells.
 pub returns-in-Mark-clause-exact : goal.returns-in-Mark-clause-exact
 returns-in-Mark-clause-exact g c = λ tells generation is.
     one_generation (super_bytes c.args.sup.now) (g.D.Disk.files c.args.disk.now 0).now (c.rows.rows - 1) generation (returns-in-Mark-clause-head g c tells) is
+
+pub returns-in-Mark-clause-undamaged : goal.returns-in-Mark-clause-undamaged
+returns-in-Mark-clause-undamaged g c = λ tells at damage.
+    elim damage [
+      | inl fault ↦ none_is c.in_ok-at.field-0 _ c.in_default.is (c.in_ok-at.ensures.none tells) at fault
+      | inr broken ↦ undamaged (super_bytes c.args.sup.now) (g.D.Disk.files c.args.disk.now 0).now (c.rows.rows - 1) at (returns-in-Mark-clause-head g c tells) broken
+    ]

@@ -1,7 +1,7 @@
-use Rattle.std.proofs.Common.{ap, sym, subst, ◌∙◌, Err}
+use Rattle.std.proofs.Common.{ℕ, ap, sym, subst, ◌∙◌, Err}
 use Rattle.std.proofs.lemmas.Result.{err_from_is_err_and}
 use Rattle.hay_needle.specs.Super.{super_bytes}
-use Rattle.hay_index.specs.Records.{IsIndex}
+use Rattle.hay_index.specs.Records.{IsDamagedAt, IsIndex}
 use Rattle.hay_index.proofs.ReadLaws.{same_fault}
 use Rattle.hay_index.proofs.index.IndexFile.read_all.Goals as goal
 
@@ -16,3 +16,7 @@ pub returns-clause-only : goal.returns-clause-only
 returns-clause-only g c = λ tells records end is.
     let seen = c.as_slice.ensures.value ∙ c.in_ok-bytes.ensures.read tells in
     c.in_ok-records.ensures.only records end (subst (λ l. IsIndex (super_bytes c.args.sup.now) l records end) (sym seen) is)
+
+pub returns-clause-undamaged : goal.returns-clause-undamaged
+returns-clause-undamaged g c = λ tells.
+    subst (λ l. (k : ℕ) → IsDamagedAt c.args.sup.now l k → ⊥) (c.as_slice.ensures.value ∙ c.in_ok-bytes.ensures.read tells) c.in_ok-records.ensures.undamaged

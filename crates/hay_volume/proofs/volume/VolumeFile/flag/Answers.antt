@@ -1,4 +1,5 @@
-use Rattle.std.proofs.Common.{◌+◌, sym, subst, List, ℕ, true, arith}
+use Rattle.std.proofs.Common.{◌+◌, ◌∙◌, ap, sym, subst, List, ℕ, true, arith}
+use Rattle.std.specs.List.{slice_get}
 use Rattle.hay_needle.specs.Needle.{needle_magic}
 use Rattle.hay_disk.proofs.Steps.{changes_keeps}
 use Rattle.hay_disk.proofs.Logs.{gate_changes}
@@ -45,3 +46,7 @@ returns-clause-changes g c = λ tells.
 pub returns-clause-flagged : goal.returns-clause-flagged
 returns-clause-flagged g c = λ tells superblock cells end volume has.
     subst (λ (l : List ℕ). IsVolume superblock l (with_flag c.args.at true cells) end) (sym (c.sync.ensures.keeps tells).now) (c.in_ok-write_flag.ensures.flagged tells superblock cells end volume has)
+
+pub returns-clause-byte : goal.returns-clause-byte
+returns-clause-byte g c = λ tells.
+    ap (λ (l : List ℕ). slice_get l (c.args.at + 28)) (c.sync.ensures.keeps tells).now ∙ c.in_ok-write_flag.ensures.byte tells
