@@ -130,11 +130,11 @@ module _ {D P A : Type 0} (files : D → Files) (Tells : Type 0) (faults fuses :
         leaves = came.leaves;
       }) came.stands)
   not_deleted old new k tag pair v d (Failed m f) answer before after same within stands home opened stood rows cause refused comes told =
-      let came = comes (frozen_with m tag (entry.Del pair) true (volume_at k v)) refused.1 in
+      let came = comes (frozen_with m tag (entry.Del pair) true (volume_at k v)) refused.2 in
       let rose = rose_to files Tells faults fuses arm_faults old new old.settings k came.known v m f stands came.stands cause.1 in
       subst (λ (r : Reply). Answered files Tells faults fuses arm_faults k tag (command.Del pair) r new) (sym told)
       (answered files Tells faults fuses arm_faults new old.settings k came.known tag (command.Del pair) (reply.Failed v m f) same
-      (record { home = home; «open» = opened; replica = rose.0; there = rose.1; rose = rose.2; leaves = inr came.leaves }) came.stands)
+      (record { home = home; «open» = opened; replica = rose.0; there = rose.1; rose = rose.2; leaves = inr (refused.1, came.leaves) }) came.stands)
   not_deleted old new k tag pair v d NoMemory answer before after same within stands home opened stood rows cause refused comes told =
       let came = comes_still old new k v stands within (comes (volume_at k v) (subst (λ (w : Volume D P). logical.Stands files Tells w (volume_at k v)) (sym refused.1) stood)) in
       subst (λ (r : Reply). Answered files Tells faults fuses arm_faults k tag (command.Del pair) r new) (sym told)

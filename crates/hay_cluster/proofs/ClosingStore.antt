@@ -1,14 +1,15 @@
 -- What the disks and arms that a store gives back hold.
-use Rattle.std.proofs.Common.{◌≡◌, ℕ, zero, suc, ◌+◌, ◌*◌, ◌<◌, ◌≤◌, false, List, [], ◌∷◌, length, map, Some, refl, sym, ap, subst, ◌∙◌, arith}
+use Rattle.std.proofs.Common.{◌≡◌, ℕ, zero, suc, ◌+◌, ◌*◌, ◌<◌, ◌≤◌, Bool, false, List, [], ◌∷◌, length, map, Option, Some, refl, sym, ap, subst, ◌∙◌, arith}
 use Rattle.std.proofs.Math.Nat.{mul-le-mul_left}
 use Rattle.std.proofs.lemmas.Option.{slice_get_within}
 use Rattle.std.specs.Prelude.{slice_get, slice_index}
 use Rattle.std.specs.List.{AllByRecursion, AllZip, flat_map}
+use Rattle.std.specs.Option.{option_map_or}
 use Rattle.hay_needle.specs.declared.settings.Settings.{Settings}
-use Rattle.hay_disk.specs.Disk.{Files, IsImage, MayLeave}
+use Rattle.hay_disk.specs.Disk.{Files, IsImage, KeepsOthers, MayLeave}
 use Rattle.hay_disk.specs.Shelf.{HeldArm, HeldDisk}
 use Rattle.hay_mount.specs.Mounts.{InOrder, IsGivenArm, IsGivenDisk}
-use Rattle.hay_mount.proofs.Orders.{InOrder-front, InOrder-rest}
+use Rattle.hay_mount.proofs.Orders.{InOrder-front, InOrder-map, InOrder-rest}
 use Rattle.hay_legal.specs.declared.known.Known.{Known}
 use Rattle.hay_legal.specs.Known.{disk_count, empty_volume, slot_of, volume_at}
 use Rattle.hay_legal.specs.Stands.{Contents, StandsOn, VolumeOutcome}
@@ -16,9 +17,9 @@ use Rattle.hay_legal.proofs.Joining.{joined}
 use Rattle.hay_directory.specs.Rows.{OpensRows}
 use Rattle.hay_logical.specs.Fits.{IsReplica}
 use Rattle.hay_logical.specs.Volumes.{Volume}
-use Rattle.hay_cluster.specs.Outside.{outside_of}
+use Rattle.hay_cluster.specs.Outside.{outside_of, read_of}
 use Rattle.hay_cluster.specs.State.{Holds, VolumeHolds}
-use Rattle.hay_cluster.specs.Store.{IsShaped, IsVolumeOf, Open, disks_of, volume_disks}
+use Rattle.hay_cluster.specs.Store.{IsShaped, IsVolumeOf, Open, contents_in, disks_of, volume_disks}
 use Rattle.hay_cluster.proofs.ClosingSlots.{disks-long, flat-long}
 use Rattle.hay_cluster.proofs.Lists.{AllZip-at, AllZip-long}
 use Rattle.hay_cluster.proofs.Moves.{disk_at, volume_of}
@@ -39,6 +40,17 @@ pub index_of : {X : Type 0} (f : X → ℕ) (xs : List X) (i : ℕ) (x : X) → 
 index_of f [] i x at = absurd cc
 index_of f (y ∷ xs) zero x at = let same : y ≡ x = cc in ap f same
 index_of f (y ∷ xs) (suc i) x at = index_of f xs i x at
+
+order_from : {X : Type 0} (all : List X) (n : ℕ) (xs : List X) → ((i : ℕ) (x : X) → slice_get xs i ≡ Some x → slice_get all (n + i) ≡ Some x) → InOrder (λ k x. slice_get all k ≡ Some x) n xs
+order_from all n [] f = tt
+order_from all n (x ∷ xs) f = (
+  (let e : n + 0 ≡ n = omega arith in subst (λ k. slice_get all k ≡ Some x) e (f 0 x refl)),
+  order_from all (n + 1) xs (λ i y at. let e : n + suc i ≡ n + 1 + i = omega arith in subst (λ k. slice_get all k ≡ Some y) e (f (suc i) y at)),
+)
+
+-- each item stands at its number
+pub order_self : {X : Type 0} (xs : List X) → InOrder (λ k x. slice_get xs k ≡ Some x) 0 xs
+order_self xs = order_from xs 0 xs (λ i x at. let e : i ≡ 0 + i = omega arith in subst (λ k. slice_get xs k ≡ Some x) e at)
 
 -- the item in a list of lists that are equally long
 pub order_flat : {X D : Type 0} (P : ℕ → D → Type 0) (g : X → List D) (r n : ℕ) (xs : List X) (i j m : ℕ) (x : X) (d : D) → AllByRecursion (λ y. length (g y) ≡ r) xs → m ≡ n + (i * r + j) → slice_get xs i ≡ Some x → slice_get (g x) j ≡ Some d
@@ -65,26 +77,42 @@ disks_many store shape =
     let product = ap (λ n. n * (store.settings).replicas) shape.many in
     omega (arith, flat, product)
 
-module _ {D P A : Type 0} (Tells : Type 0) (files : D → Files) (faults fuses : D → ℕ) (arm_faults : A → ℕ) (disks : ℕ → HeldDisk) (arms : ℕ → HeldArm) where
+-- what reads of a disk in its slot give
+pub contents_at : {D P A : Type 0} (files : D → Files) (store : Open D P A) (slot : ℕ) (disk : D) → slice_get (disks_of store) slot ≡ Some disk → ◌≡◌ {A = Contents} (contents_in files store slot) (λ n. (files disk n).now)
+contents_at {D} files store slot disk at = let reads : Option D → Contents = λ o n. option_map_or (λ d. (files d n).now) o [] in ap reads at
+
+module _ {D P A : Type 0} (Tells : Type 0) (files : D → Files) (drawn : D → ℕ → ℕ) (faults fuses : D → ℕ) (arm_faults : A → ℕ) (sure : A → Bool) (disks : ℕ → HeldDisk) (arms : ℕ → HeldArm) where
   -- all of a store was given back
   pub record GivesBack (store : Open D P A) : Type 0 where
     pub shape : IsShaped store
-    pub disks_are : InOrder (λ slot disk. IsGivenDisk Tells files faults fuses (disks slot) disk) 0 (disks_of store)
-    pub arms_are : InOrder (λ lane arm. IsGivenArm arm_faults (arms lane) arm) 0 store.arms
+    pub disks_are : InOrder (λ slot disk. IsGivenDisk Tells files drawn faults fuses (disks slot) disk) 0 (disks_of store)
+    pub arms_are : InOrder (λ lane arm. IsGivenArm arm_faults sure (arms lane) arm) 0 store.arms
 
-  in_slot : (store : Open D P A) → GivesBack store → (slot : ℕ) → slot < disk_count store.settings → (disk : D) × (slice_get (disks_of store) slot ≡ Some disk) × IsGivenDisk Tells files faults fuses (disks slot) disk
+  -- the disks behind the first were given back, and then that one and the arms
+  pub gives_back : (low mid : ℕ → HeldDisk) (inside store : Open D P A) → inside ≡ store → IsShaped inside
+      → InOrder (λ slot disk. IsGivenDisk Tells files drawn faults fuses (low slot) disk) 1 (flat_map volume_disks inside.volumes) → KeepsOthers 0 low mid
+      → IsGivenDisk Tells files drawn faults fuses (mid 0) (inside.directory).disk → disks ≡ mid → InOrder (λ lane arm. IsGivenArm arm_faults sure (arms lane) arm) 0 inside.arms → GivesBack store
+  gives_back low mid inside store is shape behind others first same given_arms =
+      let behind' : InOrder (λ slot disk. IsGivenDisk Tells files drawn faults fuses (mid slot) disk) 1 (flat_map volume_disks inside.volumes) =
+      InOrder-map (λ slot disk. IsGivenDisk Tells files drawn faults fuses (low slot) disk) (λ slot disk. IsGivenDisk Tells files drawn faults fuses (mid slot) disk) 1 (flat_map volume_disks inside.volumes)
+      (λ n disk from to given. subst (λ (held : HeldDisk). IsGivenDisk Tells files drawn faults fuses held disk) (sym (others n (λ zeroth. absurd (omega (arith, from, zeroth))))) given) behind in
+      let all : InOrder (λ slot disk. IsGivenDisk Tells files drawn faults fuses (disks slot) disk) 0 (disks_of inside) =
+      subst (λ (held : ℕ → HeldDisk). InOrder (λ slot disk. IsGivenDisk Tells files drawn faults fuses (held slot) disk) 0 (disks_of inside)) (sym same) (first, behind') in
+      subst (λ (st : Open D P A). GivesBack st) is (record { shape = shape; disks_are = all; arms_are = given_arms })
+
+  in_slot : (store : Open D P A) → GivesBack store → (slot : ℕ) → slot < disk_count store.settings → (disk : D) × (slice_get (disks_of store) slot ≡ Some disk) × IsGivenDisk Tells files drawn faults fuses (disks slot) disk
   in_slot store g slot below =
       let many = disks_many store g.shape in
       let there = order_item (disks_of store) slot (let less : slot < length (disks_of store) = omega (arith, below, many) in less) in
       let place : slot ≡ 0 + slot = omega arith in
-      (there.0, there.1, order_get (λ n disk. IsGivenDisk Tells files faults fuses (disks n) disk) 0 (disks_of store) slot slot there.0 place there.1 g.disks_are)
+      (there.0, there.1, order_get (λ n disk. IsGivenDisk Tells files drawn faults fuses (disks n) disk) 0 (disks_of store) slot slot there.0 place there.1 g.disks_are)
 
-  in_lane : (store : Open D P A) → GivesBack store → (lane : ℕ) → lane < 8 → (arm : A) × (slice_get store.arms lane ≡ Some arm) × IsGivenArm arm_faults (arms lane) arm
+  in_lane : (store : Open D P A) → GivesBack store → (lane : ℕ) → lane < 8 → (arm : A) × (slice_get store.arms lane ≡ Some arm) × IsGivenArm arm_faults sure (arms lane) arm
   in_lane store g lane below =
       let many = (g.shape).lanes in
       let there = order_item store.arms lane (let less : lane < length store.arms = omega (arith, below, many) in less) in
       let place : lane ≡ 0 + lane = omega arith in
-      (there.0, there.1, order_get (λ n arm. IsGivenArm arm_faults (arms n) arm) 0 store.arms lane lane there.0 place there.1 g.arms_are)
+      (there.0, there.1, order_get (λ n arm. IsGivenArm arm_faults sure (arms n) arm) 0 store.arms lane lane there.0 place there.1 g.arms_are)
 
   pub given_faults : (store : Open D P A) → GivesBack store → (slot : ℕ) → slot < disk_count store.settings → (disks slot).fault_count ≡ slice_index (map faults (disks_of store)) slot
   given_faults store g slot below = let i = in_slot store g slot below in (i.2).fault_count ∙ sym (index_of faults (disks_of store) slot i.0 i.1)
@@ -101,6 +129,15 @@ module _ {D P A : Type 0} (Tells : Type 0) (files : D → Files) (faults fuses :
   pub given_arms_in : (store : Open D P A) → GivesBack store → (lane : ℕ) → lane < 8 → (arms lane).is_out ≡ false
   given_arms_in store g lane below = ((in_lane store g lane below).2).back
 
+  pub given_sure : (store : Open D P A) → GivesBack store → (lane : ℕ) (arm : A) → slice_get store.arms lane ≡ Some arm → (arms lane).is_sure ≡ sure arm
+  given_sure store g lane arm at = let place : lane ≡ 0 + lane = omega arith in (order_get (λ n a. IsGivenArm arm_faults sure (arms n) a) 0 store.arms lane lane arm place at g.arms_are).is_sure
+
+  pub given_contents : Tells → (store : Open D P A) → GivesBack store → (slot : ℕ) → slot < disk_count store.settings → read_of (disks slot) ≡ contents_in files store slot
+  given_contents tells store g slot below =
+      let i = in_slot store g slot below in
+      let reads : Files → Contents = λ f n. (f n).now in
+      ap reads ((i.2).files_are tells) ∙ sym (contents_at files store slot i.0 i.1)
+
   volume_found : Tells → (store : Open D P A) → GivesBack store → (k : Known) → AllZip (VolumeHolds files) store.volumes k.volumes → (image : ℕ → Contents)
       → ((slot : ℕ) → slot < disk_count store.settings → MayLeave (disks slot).files (image slot))
       → (v : ℕ) → v < (store.settings).volumes → VolumeOutcome (IsReplica store.settings) store.settings v (volume_at k v) (λ j. image (slot_of store.settings v j))
@@ -116,15 +153,15 @@ module _ {D P A : Type 0} (Tells : Type 0) (files : D → Files) (faults fuses :
       let up : v + 1 ≤ settings.volumes = omega (arith, below) in
       let slot : slot_of settings v j < disk_count settings = (let product = mul-le-mul_left settings.replicas up in omega (arith, product, replica)) in
       let place : slot_of settings v j ≡ 1 + (v * settings.replicas + j) = omega arith in
-      let given = order_flat (λ n disk. IsGivenDisk Tells files faults fuses (disks n) disk) volume_disks settings.replicas 1 store.volumes v j (slot_of settings v j) x r.disk each place there.1 (disk_at x.replicas j r at) (g.disks_are).1 in
+      let given = order_flat (λ n disk. IsGivenDisk Tells files drawn faults fuses (disks n) disk) volume_disks settings.replicas 1 store.volumes v j (slot_of settings v j) x r.disk each place there.1 (disk_at x.replicas j r at) (g.disks_are).1 in
       subst (λ (f : Files). IsImage (f n) (image (slot_of settings v j) n)) (given.files_are tells) (may (slot_of settings v j) slot n)) in
       subst (λ n. VolumeOutcome (IsReplica settings) settings n (volume_at k v) (λ j. image (slot_of settings v j))) is.number
       (subst (λ (s : Settings). VolumeOutcome (IsReplica s) s x.number (volume_at k v) (λ j. image (slot_of settings v j))) is.settings_are found)
 
-  pub stands_on : Tells → (store : Open D P A) → GivesBack store → (k : Known) → Holds files faults fuses arm_faults store k
-      → StandsOn (IsReplica store.settings) (OpensRows store.settings) store.settings k (outside_of disks arms)
+  pub stands_on : (shelf : ℕ) → Tells → (store : Open D P A) → GivesBack store → (k : Known) → Holds files faults fuses arm_faults store k
+      → StandsOn (IsReplica store.settings) (OpensRows store.settings) store.settings k (outside_of shelf disks arms)
   unfolding Holds
-  stands_on tells store g k holds = record {
+  stands_on shelf tells store g k holds = record {
     images = λ image may.
         let first : 0 < disk_count store.settings = omega arith in
         let on_disk : IsImage (files (store.directory).disk 0) (image 0 0) = subst (λ (f : Files). IsImage (f 0) (image 0 0)) ((g.disks_are).0.files_are tells) (may 0 first 0) in

@@ -9,6 +9,7 @@ pub mod Lists
 pub mod Machines
 pub mod Maintaining
 pub mod Moves
+pub mod OpeningDamage
 pub mod OpeningDirectory
 pub mod OpeningFill
 pub mod OpeningFound
@@ -22,3 +23,4 @@ pub mod Refusals
 pub mod Rooms
 pub mod Showing
 pub mod Standing
+pub mod Sure

@@ -9,7 +9,7 @@ use Rattle.hay_core.specs.declared.entry.CoreTag.{CoreTag}
 use Rattle.hay_legal.specs.declared.known.Known.{Known}
 use Rattle.hay_legal.specs.declared.known.VolumeKnown.{VolumeKnown}
 use Rattle.hay_legal.specs.Known.{Leaves, empty_volume, machine_of, replica_on, volume_at, with_volume}
-use Rattle.hay_legal.specs.Plain.{LegalCommand, OnReplica, LegalBegin, LegalCompact, LegalFinish, LegalFlush, LegalStep, RoseTo, SwapFailed, SwapNoMem, Swaps, as_it_is, change_volume, first_machine, frozen_by, poised, stepped, swapped, with_bare, with_run, with_stuck, without_run}
+use Rattle.hay_legal.specs.Plain.{IsAtRest, IsOpen, LegalCommand, MayFinish, OnReplica, LegalBegin, LegalCompact, LegalFinish, LegalFlush, LegalStep, RoseTo, SwapFailed, SwapNoMem, Swaps, as_it_is, change_volume, first_machine, frozen_by, poised, stepped, swapped, with_bare, with_run, with_stuck, without_run}
 use Rattle.hay_logical.specs.Answers as answers
 use Rattle.hay_logical.specs.Answers.{BeginRefused, CompactRefused, FinishRefused, FlushRefused, StandsFailed, StandsSwapped, StandsUnplaced, StepRefused, change_at, poised_at}
 use Rattle.hay_logical.specs.declared.fault.LogicalFault.{LogicalFault}
@@ -106,14 +106,14 @@ module _ {D P A : Type 0} (files : D → Files) (Tells : Type 0) (faults fuses :
         let twice = changed_twice k v (frozen_by m (volume_at k v)) (λ volume. change_at volume j poised) known_within in
         record { known = came.known; is = inr (subst (λ (e : Known). Leaves k e came.known) (sym twice) came.leaves); stands = came.stands }
 
-    unplaced : (Sizes : VolumeKnown → ℕ → ℕ → ℕ → Type 0) → StandsUnplaced files Tells Sizes (machine_of before.settings before.number 0) (volume_at k v) j after
-        → Reached files Tells faults fuses arm_faults new (λ t. SwapNoMem old.settings (λ known u i end cells. Sizes (volume_at known u) i end cells) k v j t)
-    unplaced Sizes (inl stands) =
+    unplaced : (Ready : Known → ℕ → ℕ → Type 0) (Sizes : VolumeKnown → ℕ → ℕ → ℕ → Type 0) → IsOpen k v → Ready k v j → StandsUnplaced files Tells Sizes (machine_of before.settings before.number 0) (volume_at k v) j after
+        → Reached files Tells faults fuses arm_faults new (λ t. SwapNoMem old.settings Ready (λ known u i end cells. Sizes (volume_at known u) i end cells) k v j t)
+    unplaced Ready Sizes thawed ready (inl stands) =
         let came = asked.comes (change_at (volume_at k v) j without_run) stands in
-        record { known = came.known; is = inr (inl came.leaves); stands = came.stands }
-    unplaced Sizes (inr swapped_so) =
+        record { known = came.known; is = inr (thawed, ready, inl came.leaves); stands = came.stands }
+    unplaced Ready Sizes thawed ready (inr swapped_so) =
         let reached = swaps Sizes (frozen_by (first_machine old.settings v)) (subst (λ n. StandsSwapped files Tells Sizes (frozen_by n) (volume_at k v) j after) first_is swapped_so) in
-        record { known = reached.known; is = inr (inr reached.is); stands = reached.stands }
+        record { known = reached.known; is = inr (thawed, ready, inr reached.is); stands = reached.stands }
 
     -- an answer that is legal for the replica
     told_by : (tag : CoreTag) (work : Maintenance) (r answer : Reply) (t : Known) → answer ≡ r → LegalCommand old.settings k tag (command_of work v m) r t → Stands files Tells faults fuses arm_faults new t
@@ -218,7 +218,7 @@ module _ {D P A : Type 0} (files : D → Files) (Tells : Type 0) (faults fuses :
     not_stepped tag cells NoMemory answer cause (thawed, (run, n, stood, few, stands)) told =
         let came = asked.comes (change_at (volume_at k v) j (with_run (stepped n run))) stands in
         told_by tag (Step cells) reply.NoMem answer came.known told
-        (found_here (λ i. LegalStep old.settings k v m i cells) _ came.known (inr (run, n, stood, few, came.leaves))) came.stands
+        (found_here (λ i. LegalStep old.settings k v m i cells) _ came.known (inr (thawed, run, n, stood, few, came.leaves))) came.stands
     not_stepped tag cells _ answer cause refused told = absurd refused
 
     not_finished : (tag : CoreTag) (fault : LogicalFault) (answer : Reply) → IsReplicaCause old.settings v (map faults (disks_of old)) (map faults (disks_of new)) fault
@@ -236,7 +236,7 @@ module _ {D P A : Type 0} (files : D → Files) (Tells : Type 0) (faults fuses :
         told_by tag Finish (reply.Failed v m' f) answer reached.known told
         (found_here (LegalFinish old.settings k v m) _ reached.known ((refl, here), refused.0, refused.2, risen reached.known m' f here reached.stands cause.1, reached.is)) reached.stands
     not_finished tag NoMemory answer cause refused told =
-        let reached = unplaced answers.IsLoose refused.2 in
+        let reached = unplaced MayFinish answers.IsLoose refused.0 refused.1 refused.2 in
         told_by tag Finish reply.NoMem answer reached.known told (found_here (LegalFinish old.settings k v m) _ reached.known reached.is) reached.stands
     not_finished tag _ answer cause refused told = absurd refused
 
@@ -259,7 +259,7 @@ module _ {D P A : Type 0} (files : D → Files) (Tells : Type 0) (faults fuses :
         told_by tag Compact (reply.Failed v m' f) answer reached.known told
         (found_here (LegalCompact old.settings k v m) _ reached.known ((refl, here), refused.0, refused.2, risen reached.known m' f here reached.stands cause.1, reached.is)) reached.stands
     not_compacted tag NoMemory answer cause refused told =
-        let reached = unplaced answers.IsTight refused.2 in
+        let reached = unplaced IsAtRest answers.IsTight refused.0 refused.1 refused.2 in
         told_by tag Compact reply.NoMem answer reached.known told (found_here (LegalCompact old.settings k v m) _ reached.known reached.is) reached.stands
     not_compacted tag _ answer cause refused told = absurd refused
 

@@ -1,12 +1,13 @@
 -- What a store is that was put together of the disks and arms of a shelf, and what is given back of it.
-use Rattle.std.proofs.Common.{◌≡◌, ℕ, zero, suc, ◌+◌, ◌*◌, ◌<◌, ◌≤◌, ◌⊎◌, inl, inr, List, [], ◌∷◌, length, map, Some, None, refl, sym, ap, subst, ◌∙◌, arith}
+use Rattle.std.proofs.Common.{◌≡◌, ℕ, zero, suc, ◌+◌, ◌*◌, ◌<◌, ◌≤◌, ◌⊎◌, inl, inr, Bool, false, List, [], ◌∷◌, length, map, Some, None, refl, sym, ap, subst, ◌∙◌, arith}
+use Rattle.std.proofs.Math.Path.{fun_ext}
 use Rattle.std.specs.Prelude.{slice_get, slice_index, Result, Err, OnErr}
 use Rattle.std.specs.List.{AllByRecursion, AllZip, flat_map}
 use Rattle.hay_disk.specs.Counts.{Rose}
 use Rattle.hay_disk.specs.Disk.{Files, IsImage, IsSolid}
 use Rattle.hay_disk.specs.Shelf.{HeldArm, HeldDisk}
 use Rattle.hay_disk.proofs.Images.{solid_whole}
-use Rattle.hay_mount.specs.Mounts.{InOrder, IsGivenDisk, IsMountedArm, IsMountedDisk}
+use Rattle.hay_mount.specs.Mounts.{InOrder, IsArmBack, IsGivenDisk, IsMountedArm, IsMountedDisk}
 use Rattle.hay_mount.proofs.Orders.{InOrder-front, InOrder-rest}
 use Rattle.hay_legal.specs.Known.{NoneFalls, disk_count, slot_of}
 use Rattle.hay_directory.specs.State as directory
@@ -18,9 +19,9 @@ use Rattle.hay_cluster.specs.declared.fault.ClusterFault.{ClusterFault}
 use Rattle.hay_cluster.specs.declared.fault.ClusterFault.TheVariants.{Shelf, Failed, Damaged, NoMemory}
 use Rattle.hay_cluster.specs.Causes.{HasFaultCause}
 use Rattle.hay_cluster.specs.Opening.{IsAtRest, MovesDirectory, MovesVolume, RefusesParts}
-use Rattle.hay_cluster.specs.Outside.{CountsOn, IsKept}
-use Rattle.hay_cluster.specs.Store.{IsShaped, Open, disk_of, disks_of, volume_disks}
-use Rattle.hay_cluster.proofs.ClosingStore.{disks_many, index_of, order_flat, order_get, order_item, volumes_long}
+use Rattle.hay_cluster.specs.Outside.{CountsOn, IsKept, read_of}
+use Rattle.hay_cluster.specs.Store.{IsShaped, Open, contents_in, disk_of, disks_of, volume_disks}
+use Rattle.hay_cluster.proofs.ClosingStore.{contents_at, disks_many, index_of, order_flat, order_get, order_item, volumes_long}
 use Rattle.hay_cluster.proofs.Lists.{AllZip-append}
 use Rattle.hay_cluster.proofs.Moves.{disk_at, falls_at}
 use Rattle.hay_cluster.proofs.OpeningStore.{MovedParts, faults_moved, fuses_moved, opening_cause}
@@ -86,63 +87,63 @@ in_volume Q store v j x r shape at there all =
     let place : slot_of store.settings v j ≡ 1 + (v * (store.settings).replicas + j) = omega arith in
     order_flat Q volume_disks (store.settings).replicas 1 store.volumes v j (slot_of store.settings v j) x r.disk (volumes_long store.settings 0 store.volumes shape.volumes) place at (disk_at x.replicas j r there) all.1
 
--- what an opening does to a disk that is wholly solid: one that is not void keeps its bytes, and is solid
-abbrev KeepsSolid : {D : Type 0} → (D → Files) → D → D → Type 0
-KeepsSolid files d d' = ((files d 0).now ≡ [] → ⊥) → ((n : ℕ) → IsSolid (files d n)) → (n : ℕ) → ((files d' n).now ≡ (files d n).now) × IsSolid (files d' n)
+-- what an opening does to a disk that is not void: it keeps its bytes, and a file that was solid is
+abbrev pub KeepsBytes : {D : Type 0} → (D → Files) → D → D → Type 0
+KeepsBytes files d d' = ((files d 0).now ≡ [] → ⊥) → (n : ℕ) → ((files d' n).now ≡ (files d n).now) × (IsSolid (files d n) → IsSolid (files d' n))
 
 module _ {D : Type 0} (DiskTells : Type 0) (files : D → Files) (faults fuses : D → ℕ) where
-  copies_keep : (old new : List (Copy D)) → length new ≡ length old → ((j : ℕ) (r r' : Copy D) → At old j r → At new j r' → KeepsSolid files r.disk r'.disk) → AllZip (KeepsSolid files) (map disk_of old) (map disk_of new)
+  copies_keep : (old new : List (Copy D)) → length new ≡ length old → ((j : ℕ) (r r' : Copy D) → At old j r → At new j r' → KeepsBytes files r.disk r'.disk) → AllZip (KeepsBytes files) (map disk_of old) (map disk_of new)
   copies_keep [] [] many keeps = tt
   copies_keep [] (r' ∷ new) many keeps = absurd (omega (arith, many))
   copies_keep (r ∷ old) [] many keeps = absurd (omega (arith, many))
   copies_keep (r ∷ old) (r' ∷ new) many keeps =
       (keeps 0 r r' refl refl, copies_keep old new (let less : length new ≡ length old = omega (arith, many) in less) (λ j s s' at at'. keeps (suc j) s s' at at'))
 
-  directory_keeps : DiskTells → (d d' : directory.State D) → MovesDirectory DiskTells files faults fuses d d' → KeepsSolid files d.disk d'.disk
-  directory_keeps tells d d' moves some solid n =
+  directory_keeps : DiskTells → (d d' : directory.State D) → MovesDirectory DiskTells files faults fuses d d' → KeepsBytes files d.disk d'.disk
+  directory_keeps tells d d' moves some n =
       let same : files d'.disk ≡ files d.disk = moves.same tells (some_of (files d.disk 0).now some) in
-      (ap (λ (f : Files). (f n).now) same, subst (λ (f : Files). IsSolid (f n)) (sym same) (solid n))
+      (ap (λ (f : Files). (f n).now) same, λ solid. subst (λ (f : Files). IsSolid (f n)) (sym same) solid)
 
-  one_kept : DiskTells → (held held' : HeldDisk) (d d' : D) → IsMountedDisk DiskTells files faults fuses held d → IsGivenDisk DiskTells files faults fuses held' d' → KeepsSolid files d d' → IsKept held held'
-  one_kept tells held held' d d' taken given keeps = elim (void_or ((held.files 0).now)) [
+  one_kept : (drawn : D → ℕ → ℕ) → DiskTells → (held held' : HeldDisk) (d d' : D) → IsMountedDisk DiskTells files drawn faults fuses held d → IsGivenDisk DiskTells files drawn faults fuses held' d' → KeepsBytes files d d' → IsKept held held'
+  one_kept drawn tells held held' d d' taken given keeps = elim (void_or ((held.files 0).now)) [
     | inl void ↦ inl void
     | inr some ↦ inr (inr (λ image may n.
-        let k = keeps (λ none. some (sym (taken.now tells 0) ∙ none)) (taken.solid tells) n in
-        solid_whole (files d' n) (image n) k.1 (subst (λ (f : Files). IsImage (f n) (image n)) (given.files_are tells) (may n)) ∙ k.0 ∙ taken.now tells n))
+        let k = keeps (λ none. some (sym (taken.now tells 0) ∙ none)) n in
+        solid_whole (files d' n) (image n) (k.1 (taken.solid tells n)) (subst (λ (f : Files). IsImage (f n) (image n)) (given.files_are tells) (may n)) ∙ k.0 ∙ taken.now tells n))
   ]
 
 module _ {D P A : Type 0} (DiskTells : Type 0) (files : D → Files) (Tells : Type 0) (faults fuses : D → ℕ) (arm_faults : A → ℕ) where
-  volumes_keep : DiskTells → (xs ys : List (Volume D P)) → AllZip (MovesVolume DiskTells files Tells faults fuses) xs ys → AllZip (KeepsSolid files) (flat_map volume_disks xs) (flat_map volume_disks ys)
+  volumes_keep : DiskTells → (xs ys : List (Volume D P)) → AllZip (MovesVolume DiskTells files Tells faults fuses) xs ys → AllZip (KeepsBytes files) (flat_map volume_disks xs) (flat_map volume_disks ys)
   volumes_keep tells [] [] all = tt
   volumes_keep tells [] (y ∷ ys) all = absurd all
   volumes_keep tells (x ∷ xs) [] all = absurd all
   volumes_keep tells (x ∷ xs) (y ∷ ys) all =
-      AllZip-append (KeepsSolid files) (volume_disks x) (flat_map volume_disks xs) (volume_disks y) (flat_map volume_disks ys)
-      (copies_keep DiskTells files faults fuses x.replicas y.replicas (all.0).counts.count (λ j r r' at at' some solid n. (all.0).kept tells j r r' at at' some n))
+      AllZip-append (KeepsBytes files) (volume_disks x) (flat_map volume_disks xs) (volume_disks y) (flat_map volume_disks ys)
+      (copies_keep DiskTells files faults fuses x.replicas y.replicas (all.0).counts.count (λ j r r' at at' some n. let k = (all.0).kept tells j r r' at at' some n in (k.0, λ solid. k.1)))
       (volumes_keep tells xs ys all.1)
 
-  disks_keep : DiskTells → (old new : Open D P A) → MovedParts DiskTells files Tells faults fuses arm_faults old new → AllZip (KeepsSolid files) (disks_of old) (disks_of new)
+  pub disks_keep : DiskTells → (old new : Open D P A) → MovedParts DiskTells files Tells faults fuses arm_faults old new → AllZip (KeepsBytes files) (disks_of old) (disks_of new)
   disks_keep tells old new m = (directory_keeps DiskTells files faults fuses tells old.directory new.directory m.directory, volumes_keep tells old.volumes new.volumes m.volumes)
 
-  module _ (disks : ℕ → HeldDisk) (arms : ℕ → HeldArm) where
+  module _ (drawn : D → ℕ → ℕ) (sure : A → Bool) (disks : ℕ → HeldDisk) (arms : ℕ → HeldArm) where
     -- A closed store of these disks and arms.
     pub record IsTaken (store : Open D P A) : Type 0 where
       pub shape : IsShaped store
       pub fresh : directory.IsFresh store.directory
       pub closed : AllByRecursion IsClosed store.volumes
       pub unsure : AllByRecursion (λ volume. volume.unsure ≡ None) store.volumes
-      pub disks_are : InOrder (λ slot disk. IsMountedDisk DiskTells files faults fuses (disks slot) disk) 0 (disks_of store)
-      pub arms_are : InOrder (λ lane arm. IsMountedArm arm_faults (arms lane) arm) 0 store.arms
+      pub disks_are : InOrder (λ slot disk. IsMountedDisk DiskTells files drawn faults fuses (disks slot) disk) 0 (disks_of store)
+      pub arms_are : InOrder (λ lane arm. IsMountedArm arm_faults sure (arms lane) arm) 0 store.arms
 
     pub is_taken : (store : Open D P A) (ds : List D) (as' : List A) → IsShaped store → directory.IsFresh store.directory → AllByRecursion IsClosed store.volumes → AllByRecursion (λ volume. volume.unsure ≡ None) store.volumes
-        → disks_of store ≡ ds → store.arms ≡ as' → InOrder (λ slot disk. IsMountedDisk DiskTells files faults fuses (disks slot) disk) 0 ds → InOrder (λ lane arm. IsMountedArm arm_faults (arms lane) arm) 0 as' → IsTaken store
+        → disks_of store ≡ ds → store.arms ≡ as' → InOrder (λ slot disk. IsMountedDisk DiskTells files drawn faults fuses (disks slot) disk) 0 ds → InOrder (λ lane arm. IsMountedArm arm_faults sure (arms lane) arm) 0 as' → IsTaken store
     is_taken store ds as' shape fresh closed unsure same_disks same_arms mounted mounted_arms = record {
       shape = shape;
       fresh = fresh;
       closed = closed;
       unsure = unsure;
-      disks_are = subst (λ (l : List D). InOrder (λ slot disk. IsMountedDisk DiskTells files faults fuses (disks slot) disk) 0 l) (sym same_disks) mounted;
-      arms_are = subst (λ (l : List A). InOrder (λ lane arm. IsMountedArm arm_faults (arms lane) arm) 0 l) (sym same_arms) mounted_arms;
+      disks_are = subst (λ (l : List D). InOrder (λ slot disk. IsMountedDisk DiskTells files drawn faults fuses (disks slot) disk) 0 l) (sym same_disks) mounted;
+      arms_are = subst (λ (l : List A). InOrder (λ lane arm. IsMountedArm arm_faults sure (arms lane) arm) 0 l) (sym same_arms) mounted_arms;
     }
 
     pub taken_rests : (store : Open D P A) → IsTaken store → IsAtRest DiskTells files store.directory
@@ -152,14 +153,14 @@ module _ {D P A : Type 0} (DiskTells : Type 0) (files : D → Files) (Tells : Ty
       free = λ tells. (t.disks_are).0.free tells 0;
     }
 
-    idle_each : DiskTells → (n : ℕ) (vs : List (Volume D P)) → AllByRecursion IsClosed vs → InOrder (λ slot disk. IsMountedDisk DiskTells files faults fuses (disks slot) disk) n (flat_map volume_disks vs)
+    idle_each : DiskTells → (n : ℕ) (vs : List (Volume D P)) → AllByRecursion IsClosed vs → InOrder (λ slot disk. IsMountedDisk DiskTells files drawn faults fuses (disks slot) disk) n (flat_map volume_disks vs)
         → AllByRecursion (IsIdle files) vs
     idle_each tells n [] closed all = tt
     idle_each tells n (x ∷ vs) closed all =
-        let front = InOrder-front (λ slot disk. IsMountedDisk DiskTells files faults fuses (disks slot) disk) n (volume_disks x) (flat_map volume_disks vs) all in
-        let rest = InOrder-rest (λ slot disk. IsMountedDisk DiskTells files faults fuses (disks slot) disk) n (volume_disks x) (flat_map volume_disks vs) all in (
+        let front = InOrder-front (λ slot disk. IsMountedDisk DiskTells files drawn faults fuses (disks slot) disk) n (volume_disks x) (flat_map volume_disks vs) all in
+        let rest = InOrder-rest (λ slot disk. IsMountedDisk DiskTells files drawn faults fuses (disks slot) disk) n (volume_disks x) (flat_map volume_disks vs) all in (
           λ j r at.
-              let taken = order_get (λ slot disk. IsMountedDisk DiskTells files faults fuses (disks slot) disk) n (volume_disks x) j (n + j) r.disk refl (disk_at x.replicas j r at) front in
+              let taken = order_get (λ slot disk. IsMountedDisk DiskTells files drawn faults fuses (disks slot) disk) n (volume_disks x) j (n + j) r.disk refl (disk_at x.replicas j r at) front in
               record { closed = closed.0 j r at; solid = taken.solid tells; free = taken.free tells },
           idle_each tells (n + length (volume_disks x)) vs closed.1 rest,
         )
@@ -168,12 +169,12 @@ module _ {D P A : Type 0} (DiskTells : Type 0) (files : D → Files) (Tells : Ty
     taken_idle tells store t = idle_each tells 1 store.volumes t.closed (t.disks_are).1
 
     taken_disk : (store : Open D P A) → IsTaken store → (slot : ℕ) → slot < disk_count store.settings
-        → (disk : D) × (slice_get (disks_of store) slot ≡ Some disk) × IsMountedDisk DiskTells files faults fuses (disks slot) disk
+        → (disk : D) × (slice_get (disks_of store) slot ≡ Some disk) × IsMountedDisk DiskTells files drawn faults fuses (disks slot) disk
     taken_disk store t slot below =
         let many = disks_many store t.shape in
         let there = order_item (disks_of store) slot (let less : slot < length (disks_of store) = omega (arith, below, many) in less) in
         let place : slot ≡ 0 + slot = omega arith in
-        (there.0, there.1, order_get (λ n disk. IsMountedDisk DiskTells files faults fuses (disks n) disk) 0 (disks_of store) slot slot there.0 place there.1 t.disks_are)
+        (there.0, there.1, order_get (λ n disk. IsMountedDisk DiskTells files drawn faults fuses (disks n) disk) 0 (disks_of store) slot slot there.0 place there.1 t.disks_are)
 
     taken_faults : (store : Open D P A) → IsTaken store → (slot : ℕ) → slot < disk_count store.settings → slice_index (map faults (disks_of store)) slot ≡ (disks slot).fault_count
     taken_faults store t slot below = let i = taken_disk store t slot below in index_of faults (disks_of store) slot i.0 i.1 ∙ (i.2).fault_count
@@ -192,24 +193,51 @@ module _ {D P A : Type 0} (DiskTells : Type 0) (files : D → Files) (Tells : Ty
           fuses_are = ap (λ (ns : List ℕ). slice_index ns slot) (fuses_moved DiskTells files Tells faults fuses arm_faults old new m) ∙ taken_fuses old t slot below;
         }
 
+    taken_arm : (store : Open D P A) → IsTaken store → (lane : ℕ) → lane < 8 → (arm : A) × (slice_get store.arms lane ≡ Some arm) × IsMountedArm arm_faults sure (arms lane) arm
+    taken_arm store t lane below =
+        let many = (t.shape).lanes in
+        let there = order_item store.arms lane (let less : lane < length store.arms = omega (arith, below, many) in less) in
+        let place : lane ≡ 0 + lane = omega arith in
+        (there.0, there.1, order_get (λ n arm. IsMountedArm arm_faults sure (arms n) arm) 0 store.arms lane lane there.0 place there.1 t.arms_are)
+
     pub moved_arms : (old new : Open D P A) → IsTaken old → new.arms ≡ old.arms → (lane : ℕ) → lane < 8 → slice_index (map arm_faults new.arms) lane ≡ (arms lane).fault_count
     moved_arms old new t same lane below =
-        let many = (t.shape).lanes in
-        let there = order_item old.arms lane (let less : lane < length old.arms = omega (arith, below, many) in less) in
+        let i = taken_arm old t lane below in
+        ap (λ (l : List A). slice_index (map arm_faults l) lane) same ∙ index_of arm_faults old.arms lane i.0 i.1 ∙ (i.2).fault_count
+
+    pub moved_sure : (old new : Open D P A) → IsTaken old → new.arms ≡ old.arms → (lane : ℕ) (arm : A) → slice_get new.arms lane ≡ Some arm → sure arm ≡ (arms lane).is_sure
+    moved_sure old new t same lane arm at =
         let place : lane ≡ 0 + lane = omega arith in
-        ap (λ (l : List A). slice_index (map arm_faults l) lane) same ∙ index_of arm_faults old.arms lane there.0 there.1
-        ∙ order_get (λ n arm. IsMountedArm arm_faults (arms n) arm) 0 old.arms lane lane there.0 place there.1 t.arms_are
+        (order_get (λ n a. IsMountedArm arm_faults sure (arms n) a) 0 old.arms lane lane arm place (ap (λ (l : List A). slice_get l lane) (sym same) ∙ at) t.arms_are).is_sure
+
+    -- an arm that is given back as it was taken
+    pub back_arm : (old new : Open D P A) (after : ℕ → HeldArm) → IsTaken old → new.arms ≡ old.arms → ((lane : ℕ) → lane < 8 → (after lane).fault_count ≡ slice_index (map arm_faults new.arms) lane)
+        → ((lane : ℕ) (arm : A) → slice_get new.arms lane ≡ Some arm → (after lane).is_sure ≡ sure arm) → ((lane : ℕ) → lane < 8 → (after lane).is_out ≡ false)
+        → (lane : ℕ) → lane < 8 → IsArmBack (arms lane) (after lane)
+    back_arm old new after t same given_faults given_sure back lane below =
+        let i = taken_arm old t lane below in
+        record {
+          fault_count = given_faults lane below ∙ moved_arms old new t same lane below;
+          is_sure = given_sure lane i.0 (ap (λ (l : List A). slice_get l lane) same ∙ i.1) ∙ (i.2).is_sure;
+          back = back lane below;
+        }
+
+    -- what reads of a slot's disk gave when it was taken
+    pub taken_contents : DiskTells → (store : Open D P A) → IsTaken store → (slot : ℕ) → slot < disk_count store.settings → contents_in files store slot ≡ read_of (disks slot)
+    taken_contents tells store t slot below =
+        let i = taken_disk store t slot below in
+        contents_at files store slot i.0 i.1 ∙ fun_ext (λ n. (i.2).now tells n)
 
     -- WHAT IS GIVEN BACK OF A STORE THAT WAS NOT OPENED
 
     pub back_kept : DiskTells → (old new : Open D P A) (after : ℕ → HeldDisk) → IsTaken old → MovedParts DiskTells files Tells faults fuses arm_faults old new
-        → InOrder (λ slot disk. IsGivenDisk DiskTells files faults fuses (after slot) disk) 0 (disks_of new) → (slot : ℕ) → slot < disk_count old.settings → IsKept (disks slot) (after slot)
+        → InOrder (λ slot disk. IsGivenDisk DiskTells files drawn faults fuses (after slot) disk) 0 (disks_of new) → (slot : ℕ) → slot < disk_count old.settings → IsKept (disks slot) (after slot)
     back_kept tells old new after t m given slot below =
         let many = disks_many old t.shape in
         let place : slot ≡ 0 + slot = omega arith in
         let less : slot < length (disks_of old) = omega (arith, below, many) in
-        pair_at (λ n disk. IsMountedDisk DiskTells files faults fuses (disks n) disk) (λ n disk. IsGivenDisk DiskTells files faults fuses (after n) disk) (KeepsSolid files) (λ n. IsKept (disks n) (after n)) 0 (disks_of old) (disks_of new)
-        (λ n d d' taken back keeps. one_kept DiskTells files faults fuses tells (disks n) (after n) d d' taken back keeps) t.disks_are given (disks_keep tells old new m) slot slot place less
+        pair_at (λ n disk. IsMountedDisk DiskTells files drawn faults fuses (disks n) disk) (λ n disk. IsGivenDisk DiskTells files drawn faults fuses (after n) disk) (KeepsBytes files) (λ n. IsKept (disks n) (after n)) 0 (disks_of old) (disks_of new)
+        (λ n d d' taken back keeps. one_kept DiskTells files faults fuses drawn tells (disks n) (after n) d d' taken back keeps) t.disks_are given (disks_keep tells old new m) slot slot place less
 
     pub back_counts : (old new : Open D P A) (after : ℕ → HeldDisk) → IsTaken old → MovedParts DiskTells files Tells faults fuses arm_faults old new
         → ((slot : ℕ) → slot < disk_count old.settings → (after slot).fault_count ≡ slice_index (map faults (disks_of new)) slot)

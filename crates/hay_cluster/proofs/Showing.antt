@@ -16,7 +16,7 @@ use Rattle.hay_legal.specs.declared.known.VolumeKnown.{VolumeKnown}
 use Rattle.hay_legal.specs.Known.{Leaves, NoneFalls, arm_count, home_of, machine_of, now, replica_at, replica_on, replicas_of, volume_at}
 use Rattle.hay_legal.specs.Known as known
 use Rattle.hay_legal.specs.Plain as legal
-use Rattle.hay_legal.specs.Plain.{IsShown, IsUnreadable, LegalCommand, LegalGet, LegalGetAt, LegalShow, PassedBefore, disk_rose, order_from}
+use Rattle.hay_legal.specs.Plain.{IsShown, IsUnreadable, LegalCommand, LegalGet, LeavesElsewhere, LegalGetAt, LegalShow, PassedBefore, disk_rose, order_from}
 use Rattle.hay_reply.specs.declared.Cause.{Cause}
 use Rattle.hay_reply.specs.declared.Cause.TheVariants.{Arm, Disk, Damage}
 use Rattle.hay_reply.specs.declared.Passed.{Passed}
@@ -24,7 +24,7 @@ use Rattle.hay_reply.specs.declared.Reply.{Reply}
 use Rattle.hay_reply.specs.declared.Reply.TheVariants as reply
 use Rattle.hay_script.specs.declared.Command.TheVariants as command
 use Rattle.hay_url.specs.declared.Url.{Url}
-use Rattle.hay_reader.specs.Causes.{ArmRises, CameUp, EachPair, HasCause, IsArm, PassesAll}
+use Rattle.hay_reader.specs.Causes.{ArmRises, CameUp, EachPair, HasCause, IsArm, Passes}
 use Rattle.hay_reader.specs.Shown.{Shows}
 use Rattle.hay_reader.specs.declared.causes.PassedReplica.{PassedReplica}
 use Rattle.hay_cluster.specs.Causes.{CauseCameUp, Counts}
@@ -148,7 +148,7 @@ passed_each settings k t tag v before after (j ∷ js) (p ∷ over) old new orde
     ((ap (machine_of settings v) first, one p.cause causes.0 arms.0), passed_each settings k t tag v before after js over old new rest causes.1 arms.1)
   where
     one : (cause : Cause) → HasCause before after cause → IsArm cause → legal.HasCause settings k t tag v j cause
-    one (Arm f) came arm = subst (λ n. CameUp n f (arm_count t tag.lane)) old (subst (λ n. CameUp before f n) new came)
+    one (Arm f) came arm = subst (λ n. CameUp n f (arm_count t tag.lane)) old (subst (λ n. CameUp before f n) new came.0)
     one (Disk f) came arm = absurd came
     one (Damage at) came arm = absurd arm
 
@@ -170,11 +170,11 @@ rises_each settings v (a ∷ over) all = (rises_all settings v a over all.0, ris
 
 pub is_unreadable : {P : Type 0} (settings : Settings) (k t : Known) (tag : CoreTag) (start : ℕ) (pair : Pair) (v p d before after : ℕ) (row : List (Place P)) (over : List PassedReplica) → length row ≡ settings.replicas
     → home_of k pair ≡ Some v → p ≡ length (volume_at k v).log → d ≡ length k.directory.rows → before ≡ arm_count k tag.lane → after ≡ arm_count t tag.lane → Leaves k k t
-    → PassesAll start row before after over → AllByRecursion (λ q. IsArm q.cause) over → IsUnreadable settings k tag start pair v p d (map (passed_at settings v) over) t
-is_unreadable settings k t tag start pair v p d before after row over long home front rows old new leaves passes arms = record {
+    → Passes start (length row) before after over → length over ≡ length row → AllByRecursion (λ q. IsArm q.cause) over → IsUnreadable settings k tag start pair v p d (map (passed_at settings v) over) t
+is_unreadable settings k t tag start pair v p d before after row over long home front rows old new leaves passes all arms = record {
   seen = record { home = home; front = front; rows = rows };
   each = passed_each settings k t tag v before after (order_from settings start) over old new
-      (passes.order ∙ ap (λ n. map (λ i. (start + i) % n) (range_with_len 0 n)) long) passes.each arms;
+      (passes.order ∙ ap (λ n. map (λ i. (start + i) % length row) (range_with_len 0 n)) all ∙ ap (λ n. map (λ i. (start + i) % n) (range_with_len 0 n)) long) passes.each arms;
   arms = rises_each settings v over passes.rises;
   leaves = leaves;
 }
@@ -186,7 +186,7 @@ causes_told settings lane v before after [] each = tt
 causes_told settings lane v before after (p ∷ over) each = (one p.cause each.0, causes_told settings lane v before after over each.1)
   where
     one : (cause : Cause) → HasCause (slice_index before.arms lane) (slice_index after.arms lane) cause → CauseCameUp settings lane v before after (machine_of settings v p.replica) cause
-    one (Arm f) came = came
+    one (Arm f) came = came.0
     one (Disk f) came = absurd came
     one (Damage at) came = tt
 
@@ -209,26 +209,29 @@ module _ {D P A : Type 0} (files : D → Files) (Tells : Type 0) (faults fuses :
   pub read_unreadable : (old new : Open D P A) (settings : Settings) (k : Known) (tag : CoreTag) (start : ℕ) (pair : Pair) (v p d : ℕ) (row : List (Place P)) (over : List PassedReplica) (passed : List Passed) → length row ≡ settings.replicas
       → home_of k pair ≡ Some v → p ≡ length (volume_at k v).log → d ≡ length k.directory.rows → passed ≡ map (passed_at settings v) over
       → Stands files Tells faults fuses arm_faults old k → (came : Comes files Tells faults fuses arm_faults k k new)
-      → PassesAll start row (slice_index (map arm_faults old.arms) tag.lane) (slice_index (map arm_faults new.arms) tag.lane) over → AllByRecursion (λ q. IsArm q.cause) over
+      → Passes start (length row) (slice_index (map arm_faults old.arms) tag.lane) (slice_index (map arm_faults new.arms) tag.lane) over → length over ≡ length row → AllByRecursion (λ q. IsArm q.cause) over
       → IsUnreadable settings k tag start pair v p d passed came.known
-  read_unreadable old new settings k tag start pair v p d row over passed long home front rows is stood came passes arms =
-      subst (λ (all : List Passed). IsUnreadable settings k tag start pair v p d all came.known) (sym is)
+  read_unreadable old new settings k tag start pair v p d row over passed long home front rows is stood came passes all arms =
+      subst (λ (told : List Passed). IsUnreadable settings k tag start pair v p d told came.known) (sym is)
       (is_unreadable settings k came.known tag start pair v p d (slice_index (map arm_faults old.arms) tag.lane) (slice_index (map arm_faults new.arms) tag.lane) row over long home front rows
-      (arm_known old k tag.lane stood) (arm_known new came.known tag.lane came.stands) came.leaves passes arms)
+      (arm_known old k tag.lane stood) (arm_known new came.known tag.lane came.stands) came.leaves passes all arms)
 
 -- what is legal to show to a reader of a URL is legal for its command
-pub get_command : (settings : Settings) (k t : Known) (tag : CoreTag) (url : Url) (start v : ℕ) (answer : Reply) → replica_on settings url.volume url.machine ≡ Some start → v ≡ url.volume
+pub get_command : (settings : Settings) (k t : Known) (tag : CoreTag) (url : Url) (start v : ℕ) (answer : Reply) → replica_on settings url.volume url.machine ≡ Some start → home_of k url.pair ≡ Some v → v ≡ url.volume
     → LegalShow settings k tag start url.pair url.cookie answer t → ShowsIn v answer → LegalCommand settings k tag (command.Get url) answer t
-get_command settings k t tag url start v answer there same legal shows =
+get_command settings k t tag url start v answer there home same legal shows =
     go answer legal shows
   where
+    elsewhere : LeavesElsewhere k url t
+    elsewhere w is other = absurd (other (let one : v ≡ w = (let both : ◌≡◌ {A = Option ℕ} (Some v) (Some w) = sym home ∙ is in cc) in sym one ∙ same))
+
     at : (r : Reply) → LegalGetAt settings k tag url (Some start) r t → LegalGet settings k tag url r t
     at r h = subst (λ (o : Option ℕ). LegalGetAt settings k tag url o r t) (sym there) h
 
     go : (r : Reply) → LegalShow settings k tag start url.pair url.cookie r t → ShowsIn v r → LegalCommand settings k tag (command.Get url) r t
-    go (reply.Photo w m p d bytes) h is = at (reply.Photo w m p d bytes) (h, is ∙ same)
-    go (reply.Gone w m p d) h is = at (reply.Gone w m p d) (h, is ∙ same)
-    go (reply.WrongCookie w m p d) h is = at (reply.WrongCookie w m p d) (h, is ∙ same)
-    go (reply.Unreadable w p d causes) h is = at (reply.Unreadable w p d causes) (h, is ∙ same)
-    go reply.NoMem h is = at reply.NoMem (h, tt)
+    go (reply.Photo w m p d bytes) h is = at (reply.Photo w m p d bytes) (h, is ∙ same, elsewhere)
+    go (reply.Gone w m p d) h is = at (reply.Gone w m p d) (h, is ∙ same, elsewhere)
+    go (reply.WrongCookie w m p d) h is = at (reply.WrongCookie w m p d) (h, is ∙ same, elsewhere)
+    go (reply.Unreadable w p d causes) h is = at (reply.Unreadable w p d causes) (h, is ∙ same, elsewhere)
+    go reply.NoMem h is = at reply.NoMem (h, tt, elsewhere)
     go _ h is = absurd is

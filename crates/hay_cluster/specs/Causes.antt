@@ -1,10 +1,11 @@
 -- What an answer and a fault say of the counts of faults, from before the call to behind it.
-use Rattle.std.specs.Prelude.{◌≡◌, ◌<◌, ℕ, List, Some, slice_index}
-use Rattle.std.specs.List.{AllByRecursion}
+use Rattle.std.specs.Prelude.{◌≡◌, ◌<◌, ℕ, Bool, true, List, Some, slice_index}
+use Rattle.std.specs.List.{AllByRecursion, AllZip}
 use Rattle.hay_needle.specs.declared.settings.Settings.{Settings}
 use Rattle.hay_disk.specs.Counts.{Rose}
 use Rattle.hay_reply.specs.declared.Cause.{Cause}
-use Rattle.hay_reply.specs.declared.Cause.TheVariants.{Arm, Disk}
+use Rattle.hay_reply.specs.declared.Cause.TheVariants.{Arm, Disk, Damage}
+use Rattle.hay_reply.specs.declared.Passed.{Passed}
 use Rattle.hay_reply.specs.declared.Reply.{Reply}
 use Rattle.hay_reply.specs.declared.Reply.TheVariants as reply
 use Rattle.hay_legal.specs.Known.{CameUp, disk_count, replica_on, slot_of}
@@ -33,7 +34,7 @@ pub record RoseAt (settings : Settings) (v m : ℕ) (before after : List ℕ) (c
 abbrev pub CauseCameUp : Settings → ℕ → ℕ → Counts → Counts → ℕ → Cause → Type 0
 CauseCameUp settings lane v before after m (Arm count) = CameUp (slice_index before.arms lane) count (slice_index after.arms lane)
 CauseCameUp settings lane v before after m (Disk count) = RoseAt settings v m before.disks after.disks count
-CauseCameUp settings lane v before after m _ = Unit {0}
+CauseCameUp settings lane v before after m (Damage at) = Unit {0}
 
 -- A reply tells of a failure only where the count that it prints rose.
 abbrev pub HasCause : Settings → ℕ → Counts → Counts → Reply → Type 0
@@ -41,7 +42,35 @@ HasCause settings lane before after (reply.Failed v m count) = RoseAt settings v
 HasCause settings lane before after (reply.FailedDir count) = RoseIn 0 before.disks after.disks count
 HasCause settings lane before after (reply.Unreadable v front rows causes) =
     AllByRecursion (λ passed. CauseCameUp settings lane v before after passed.machine passed.cause) causes
-HasCause settings lane before after _ = Unit {0}
+HasCause settings lane before after (reply.Stored v p d c) = Unit {0}
+HasCause settings lane before after (reply.Deleted v p d) = Unit {0}
+HasCause settings lane before after (reply.Photo v m p d bytes) = Unit {0}
+HasCause settings lane before after (reply.Gone v m p d) = Unit {0}
+HasCause settings lane before after (reply.Absent v p d) = Unit {0}
+HasCause settings lane before after (reply.WrongCookie v m p d) = Unit {0}
+HasCause settings lane before after (reply.Unknown d) = Unit {0}
+HasCause settings lane before after (reply.Moved v d) = Unit {0}
+HasCause settings lane before after (reply.Url d url) = Unit {0}
+HasCause settings lane before after (reply.Full tries) = Unit {0}
+HasCause settings lane before after (reply.ReadOnly tries) = Unit {0}
+HasCause settings lane before after reply.ReadOnlyDir = Unit {0}
+HasCause settings lane before after (reply.Damaged v m at) = Unit {0}
+HasCause settings lane before after (reply.Flushed v m n) = Unit {0}
+HasCause settings lane before after (reply.Begun v m g) = Unit {0}
+HasCause settings lane before after (reply.Stepped v m n) = Unit {0}
+HasCause settings lane before after (reply.Compacted v m g) = Unit {0}
+HasCause settings lane before after (reply.Busy v m g) = Unit {0}
+HasCause settings lane before after (reply.Idle v m) = Unit {0}
+HasCause settings lane before after (reply.Worn v m) = Unit {0}
+HasCause settings lane before after (reply.Drained m) = Unit {0}
+HasCause settings lane before after (reply.Undrained m) = Unit {0}
+HasCause settings lane before after (reply.Fused v m n) = Unit {0}
+HasCause settings lane before after (reply.FusedDir n) = Unit {0}
+HasCause settings lane before after reply.Nowhere = Unit {0}
+HasCause settings lane before after (reply.Restarted d) = Unit {0}
+HasCause settings lane before after reply.BadLine = Unit {0}
+HasCause settings lane before after reply.Unbuilt = Unit {0}
+HasCause settings lane before after reply.NoMem = Unit {0}
 
 -- So does an opening. The shelf has no part in what is done to disks.
 abbrev pub HasFaultCause : Settings → List ℕ → List ℕ → ClusterFault → Type 0
@@ -59,24 +88,45 @@ RefusesPut (refusal.Failed m count) = Unit {0}
 RefusesPut (refusal.ReadOnly m) = Unit {0}
 RefusesPut (refusal.Full m end need capacity) = Unit {0}
 RefusesPut refusal.NoMemory = Unit {0}
-RefusesPut _ = ⊥
+RefusesPut (refusal.Gone front) = ⊥
+RefusesPut (refusal.Busy m generation) = ⊥
+RefusesPut (refusal.Worn m) = ⊥
+RefusesPut refusal.Idle = ⊥
+RefusesPut (refusal.Damaged m at) = ⊥
 
 abbrev pub RefusesDelete : LogicalFault → Type 0
 RefusesDelete (refusal.Failed m count) = Unit {0}
 RefusesDelete (refusal.ReadOnly m) = Unit {0}
 RefusesDelete (refusal.Gone front) = Unit {0}
 RefusesDelete refusal.NoMemory = Unit {0}
-RefusesDelete _ = ⊥
+RefusesDelete (refusal.Full m end need capacity) = ⊥
+RefusesDelete (refusal.Busy m generation) = ⊥
+RefusesDelete (refusal.Worn m) = ⊥
+RefusesDelete refusal.Idle = ⊥
+RefusesDelete (refusal.Damaged m at) = ⊥
 
 abbrev pub RefusesWork : LogicalFault → Type 0
 RefusesWork (refusal.Full m end need capacity) = ⊥
 RefusesWork (refusal.Gone front) = ⊥
-RefusesWork _ = Unit {0}
+RefusesWork (refusal.Failed m count) = Unit {0}
+RefusesWork (refusal.ReadOnly m) = Unit {0}
+RefusesWork (refusal.Busy m generation) = Unit {0}
+RefusesWork (refusal.Worn m) = Unit {0}
+RefusesWork refusal.Idle = Unit {0}
+RefusesWork (refusal.Damaged m at) = Unit {0}
+RefusesWork refusal.NoMemory = Unit {0}
 
 -- a failure is told only where the count that it prints rose
 abbrev pub RoseWhereFailed : Settings → ℕ → List ℕ → List ℕ → LogicalFault → Type 0
 RoseWhereFailed settings v before after (refusal.Failed m count) = RoseAt settings v m before after count
-RoseWhereFailed settings v before after _ = Unit {0}
+RoseWhereFailed settings v before after (refusal.ReadOnly m) = Unit {0}
+RoseWhereFailed settings v before after (refusal.Full m end need capacity) = Unit {0}
+RoseWhereFailed settings v before after (refusal.Gone front) = Unit {0}
+RoseWhereFailed settings v before after (refusal.Busy m generation) = Unit {0}
+RoseWhereFailed settings v before after (refusal.Worn m) = Unit {0}
+RoseWhereFailed settings v before after refusal.Idle = Unit {0}
+RoseWhereFailed settings v before after (refusal.Damaged m at) = Unit {0}
+RoseWhereFailed settings v before after refusal.NoMemory = Unit {0}
 
 abbrev pub IsPutCause : Settings → ℕ → List ℕ → List ℕ → LogicalFault → Type 0
 IsPutCause settings v before after fault = RefusesPut fault × RoseWhereFailed settings v before after fault
@@ -86,3 +136,18 @@ IsDeleteCause settings v before after fault = RefusesDelete fault × RoseWhereFa
 
 abbrev pub IsReplicaCause : Settings → ℕ → List ℕ → List ℕ → LogicalFault → Type 0
 IsReplicaCause settings v before after fault = RefusesWork fault × RoseWhereFailed settings v before after fault
+
+-- ARMS THAT ARE SURE
+
+abbrev pub IsNoArm : Cause → Type 0
+IsNoArm (Arm count) = ⊥
+IsNoArm (Disk count) = Unit {0}
+IsNoArm (Damage at) = Unit {0}
+
+-- no arm is told as the cause of a reply
+abbrev pub BlamesNoArm : Reply → Type 0
+BlamesNoArm said = (v front rows : ℕ) (causes : List Passed) → said ≡ reply.Unreadable v front rows causes → AllByRecursion (λ passed. IsNoArm passed.cause) causes
+
+-- each arm that was sure is still
+abbrev pub StaySure : {A : Type 0} → (A → Bool) → List A → List A → Type 0
+StaySure is_sure old new = AllZip (λ a b. is_sure a ≡ true → is_sure b ≡ true) old new

@@ -45,7 +45,12 @@ abbrev pub IsReplicaFault : {D : Type 0} → (D → ℕ) → Settings → ℕ �
 IsReplicaFault faults settings v old new (Failed m printed) = HasFailed faults settings v old new m printed
 IsReplicaFault faults settings v old new (Full m end need capacity) = ⊥
 IsReplicaFault faults settings v old new (Gone front) = ⊥
-IsReplicaFault faults settings v old new _ = Unit {0}
+IsReplicaFault faults settings v old new (ReadOnly m) = Unit {0}
+IsReplicaFault faults settings v old new (Busy m generation) = Unit {0}
+IsReplicaFault faults settings v old new (Worn m) = Unit {0}
+IsReplicaFault faults settings v old new Idle = Unit {0}
+IsReplicaFault faults settings v old new (Damaged m at) = Unit {0}
+IsReplicaFault faults settings v old new NoMemory = Unit {0}
 
 -- how it is answered on volume v and machine m, done with this number
 abbrev pub done_as : ℕ → ℕ → Maintenance → ℕ → Reply
@@ -64,4 +69,5 @@ IsRefusedAs v m (Worn m') answer = answer ≡ reply.Worn v m'
 IsRefusedAs v m Idle answer = answer ≡ reply.Idle v m
 IsRefusedAs v m (Damaged m' at) answer = answer ≡ reply.Damaged v m' at
 IsRefusedAs v m NoMemory answer = answer ≡ reply.NoMem
-IsRefusedAs v m _ answer = ⊥
+IsRefusedAs v m (Full m' end need capacity) answer = ⊥
+IsRefusedAs v m (Gone front) answer = ⊥

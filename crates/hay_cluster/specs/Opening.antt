@@ -5,6 +5,7 @@ use Rattle.hay_needle.specs.declared.settings.Settings.{Settings}
 use Rattle.hay_reply.specs.declared.Note.{Note}
 use Rattle.hay_disk.specs.Counts.{Rose}
 use Rattle.hay_disk.specs.Disk.{Files, IsFree, IsSolid}
+use Rattle.hay_open.specs.Damage.{IsOpeningDamage}
 use Rattle.hay_dirfile.specs.Journal.{IsDamagedJournal}
 use Rattle.hay_legal.specs.declared.known.DirKnown.{DirKnown}
 use Rattle.hay_legal.specs.declared.known.HomeRow.{HomeRow}
@@ -14,7 +15,7 @@ use Rattle.hay_legal.specs.Restarts.{ReopenedVolumes, directory_with, kept_row, 
 use Rattle.hay_directory.specs.Rows.{OpensRows, journal_super}
 use Rattle.hay_directory.specs.State.{State}
 use Rattle.hay_directory.specs.State as directory
-use Rattle.hay_physical.specs.Copies.{Copy}
+use Rattle.hay_physical.specs.Copies.{Copy, contents_of}
 use Rattle.hay_logical.specs.declared.fault.Unopened.{Unopened}
 use Rattle.hay_logical.specs.Answers.{IsReopened}
 use Rattle.hay_logical.specs.Fits.{At}
@@ -62,6 +63,7 @@ pub record OpensVolume {D P : Type 0} (DiskTells : Type 0) (files : D → Files)
   pub up : IsOpen new
   pub first : DiskTells → (k : VolumeKnown) → IsFirst files old k → (notes ≡ []) × logical.Stands files Tells new k
   pub reopened : DiskTells → (k : VolumeKnown) → Stopped files old k → IsReopened files Tells k notes new
+  pub undamaged : DiskTells → (j : ℕ) (r : Copy D) → At old.replicas j r → (file at : ℕ) → IsOpeningDamage r.sup (contents_of files r.disk) file at → ⊥
 
 -- Volume v was not opened, by one of its disks.
 pub record IsRefusedBy {D P : Type 0} (DiskTells : Type 0) (files : D → Files) (faults : D → ℕ) (settings : Settings) (v : ℕ) (old new : Volume D P) (fault : ClusterFault) : Type 0 where
@@ -142,6 +144,7 @@ pub record OpensDirectory {D : Type 0} (DiskTells : Type 0) (files : D → Files
       × directory.Stands files new (directory_with rows) (replicate (old.settings).machines false))
   pub reopened : DiskTells → (known : DirKnown) → directory.Stopped files old known → (kept : Bool) × (notes ≡ row_notes known.pending kept)
       × directory.Stands files new (directory_with (known.rows ++ kept_row known.pending kept)) (replicate (old.settings).machines false)
+  pub undamaged : DiskTells → 0 < length (files old.disk 0).now → (at : ℕ) → IsDamagedJournal (journal_super old.settings) (files old.disk 0).now at → ⊥
 
 -- why the Directory was not opened
 abbrev pub RefusesDirectory : {D : Type 0} → Type 0 → (D → Files) → (D → ℕ) → State D → State D → ClusterFault → Type 0

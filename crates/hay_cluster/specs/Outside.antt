@@ -4,20 +4,21 @@ use Rattle.hay_needle.specs.declared.settings.Settings.{Settings}
 use Rattle.hay_disk.specs.Shelf.{HeldDisk, HeldArm}
 use Rattle.hay_mount.specs.Mounts.{LeavesAsRead}
 use Rattle.hay_legal.specs.declared.known.HomeRow.{HomeRow}
-use Rattle.hay_legal.specs.Known.{slot_of}
+use Rattle.hay_legal.specs.Known.{disk_count, slot_of}
 use Rattle.hay_legal.specs.Stands.{Contents, Found, Outside}
 use Rattle.hay_open.specs.Damage.{IsOpeningDamage}
 use Rattle.hay_dirfile.specs.Journal.{IsDamagedJournal}
 use Rattle.hay_directory.specs.Rows.{OpensRows, journal_super}
 use Rattle.hay_logical.specs.Fits.{IsReplica, super_of}
 
--- the disks by slot, with their counts, and the arms' counts by lane
-abbrev pub outside_of : (ℕ → HeldDisk) → (ℕ → HeldArm) → Outside
-outside_of disks arms = record {
+-- the disks by slot, with their counts, the arms' counts by lane, and that of the shelf
+abbrev pub outside_of : ℕ → (ℕ → HeldDisk) → (ℕ → HeldArm) → Outside
+outside_of shelf disks arms = record {
   files = λ slot. (disks slot).files;
   faults = λ slot. (disks slot).fault_count;
   fuses = λ slot. (disks slot).fuse_count;
   arms = λ lane. (arms lane).fault_count;
+  shelf = shelf;
 }
 
 -- what reads of a slot's disk give
@@ -38,7 +39,7 @@ pub record CountsOn (old : HeldDisk) (faults fuses : ℕ) : Type 0 where
   pub fuses_are : fuses ≡ old.fuse_count
 
 -- What an opening names of the disk in this slot: the first place, of all that it reads, that is not of the format.
-pub record IsDamagedAt (settings : Settings) (slot file at : ℕ) (contents : Contents) : Type 0 where
+pub record IsFirstDamage (settings : Settings) (slot file at : ℕ) (contents : Contents) : Type 0 where
   pub journal : slot ≡ 0 → (file ≡ 0) × IsDamagedJournal (journal_super settings) (contents 0) at
   pub replica : (v j : ℕ) → v < settings.volumes → j < settings.replicas → slot ≡ slot_of settings v j → IsOpeningDamage (super_of settings v j) contents file at
 
@@ -46,3 +47,14 @@ pub record IsDamagedAt (settings : Settings) (slot file at : ℕ) (contents : Co
 pub record IsNotWhole (settings : Settings) (slot : ℕ) (contents : Contents) : Type 0 where
   pub directory : slot ≡ 0 → (rows : List HomeRow) → OpensRows settings contents rows → ⊥
   pub replica : (v j : ℕ) → v < settings.volumes → j < settings.replicas → slot ≡ slot_of settings v j → (found : Found) → IsReplica settings v j contents found → ⊥
+
+-- Of the disk in this slot, which is neither void nor of these settings, this is the first place that is not of the format.
+pub record IsDamagedDisk (settings : Settings) (contents : ℕ → Contents) (slot file at : ℕ) : Type 0 where
+  pub within : slot < disk_count settings
+  pub not_whole : IsNotWhole settings slot (contents slot)
+  pub place : IsFirstDamage settings slot file at (contents slot)
+
+-- nothing that an opening reads of a disk that is not void is damaged
+abbrev pub IsUndamaged : Settings → (ℕ → Contents) → Type 0
+IsUndamaged settings contents =
+    (slot file at : ℕ) → slot < disk_count settings → (IsVoid (contents slot) → ⊥) → IsFirstDamage settings slot file at (contents slot) → ⊥

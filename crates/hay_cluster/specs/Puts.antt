@@ -46,7 +46,11 @@ IsPutReply v (refusal.Failed m f) reply = reply ≡ Failed v m f
 IsPutReply v (refusal.ReadOnly m) reply = IsRefusal (Closed v m ∷ []) reply
 IsPutReply v (refusal.Full m end need capacity) reply = IsRefusal (NoRoom v m end need ∷ []) reply
 IsPutReply v refusal.NoMemory reply = reply ≡ NoMem
-IsPutReply v _ reply = ⊥
+IsPutReply v (refusal.Gone front) reply = ⊥
+IsPutReply v (refusal.Busy m generation) reply = ⊥
+IsPutReply v (refusal.Worn m) reply = ⊥
+IsPutReply v refusal.Idle reply = ⊥
+IsPutReply v (refusal.Damaged m at) reply = ⊥
 
 -- what is answered when a photo is stored in volume v, which takes it, and what is known behind it
 abbrev pub Stores : Settings → Known → CoreTag → Pair → List ℕ → ℕ → Reply → Known → Type 0

@@ -1,6 +1,6 @@
 -- What a read of the store shows.
 use Rattle.std.specs.Prelude.{◌≡◌, ℕ, List, map}
-use Rattle.std.specs.List.{range_with_len}
+use Rattle.std.specs.List.{AllByRecursion, range_with_len}
 use Rattle.hay_needle.specs.declared.needle.Cookie.{Cookie}
 use Rattle.hay_needle.specs.declared.needle.Outcome.{Outcome}
 use Rattle.hay_needle.specs.declared.needle.Pair.{Pair}
@@ -16,6 +16,9 @@ use Rattle.hay_legal.specs.declared.known.VolumeKnown.{VolumeKnown}
 use Rattle.hay_legal.specs.Known.{machine_of, now, replica_at}
 use Rattle.hay_legal.specs.Plain.{LegalShow}
 use Rattle.hay_reader.specs.declared.causes.PassedReplica.{PassedReplica}
+use Rattle.hay_reader.specs.declared.seat.ReadReply.{ReadReply}
+use Rattle.hay_reader.specs.declared.seat.ReadReply.TheVariants as read
+use Rattle.hay_cluster.specs.Causes.{IsNoArm}
 use Rattle.hay_cluster.specs.State.{Stands}
 use Rattle.hay_cluster.specs.Store.{Open}
 
@@ -37,6 +40,13 @@ ShowsIn volume (WrongCookie v m p d) = v ≡ volume
 ShowsIn volume (Unreadable v p d causes) = v ≡ volume
 ShowsIn volume NoMem = Unit {0}
 ShowsIn volume _ = ⊥
+
+-- no replica was passed over for the arm
+abbrev pub PassesNoArm : ReadReply → Type 0
+PassesNoArm (read.Photo j) = Unit {0}
+PassesNoArm (read.Gone j) = Unit {0}
+PassesNoArm (read.WrongCookie j) = Unit {0}
+PassesNoArm (read.Unreadable causes) = AllByRecursion (λ over. IsNoArm over.cause) causes
 
 -- what each replica of a volume has of a pair
 abbrev pub outcomes_of : Settings → VolumeKnown → Pair → List Outcome

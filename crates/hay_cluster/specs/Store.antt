@@ -1,7 +1,9 @@
 -- An open store as contracts see it.
-use Rattle.std.specs.Prelude.{◌≡◌, ◌≤◌, ℕ, List, ◌∷◌, length, map}
+use Rattle.std.specs.Prelude.{◌≡◌, ◌≤◌, ℕ, List, [], ◌∷◌, length, map, slice_get}
 use Rattle.std.specs.List.{AllByRecursion, flat_map}
+use Rattle.std.specs.Option.{option_map_or}
 use Rattle.hay_needle.specs.declared.settings.Settings.{Settings}
+use Rattle.hay_disk.specs.Disk.{Files}
 use Rattle.hay_mount.specs.Mounts.{InOrder}
 use Rattle.hay_physical.specs.Copies.{Copy}
 use Rattle.hay_directory.specs.State as directory
@@ -55,3 +57,7 @@ pub record IsShaped {D P A : Type 0} (store : Open D P A) : Type 0 where
 pub record IsUp {D P A : Type 0} (store : Open D P A) : Type 0 where
   pub directory : directory.IsUp store.directory
   pub volumes : AllByRecursion logical.IsOpen store.volumes
+
+-- what reads of the disk in a slot give, or nothing where the store has no such slot
+abbrev pub contents_in : {D P A : Type 0} → (D → Files) → Open D P A → ℕ → ℕ → List ℕ
+contents_in files store slot file = option_map_or (λ disk. (files disk file).now) (slice_get (disks_of store) slot) []

@@ -28,7 +28,7 @@ impl<D: Disk, A: Arm<D::Piece>> Cluster<D, A> {
         requires up { IsUp self.old }
         ensures legal { D.Tells → (k : Known) → Stands D.files D.Piece.Tells D.fault_count D.fuse_count A.fault_count self.old k →
             Answered D.files D.Piece.Tells D.fault_count D.fuse_count A.fault_count k tag (asks.Del pair) result self.new }
-        ensures causes { HasCause self.old.settings tag.lane
+        ensures causes { (lane : ℕ) → HasCause self.old.settings lane
             (record { disks = map D.fault_count (disks_of self.old); arms = map A.fault_count self.old.arms })
             (record { disks = map D.fault_count (disks_of self.new); arms = map A.fault_count self.new.arms }) result }
         ensures counts { NoneFalls (map D.fault_count (disks_of self.old)) (map D.fault_count (disks_of self.new)) }
@@ -57,7 +57,7 @@ impl<D: Disk, A: Arm<D::Piece>> Cluster<D, A> {
         requires up { IsUp self.old }
         ensures legal { D.Tells → (k : Known) → Stands D.files D.Piece.Tells D.fault_count D.fuse_count A.fault_count self.old k →
             Answered D.files D.Piece.Tells D.fault_count D.fuse_count A.fault_count k tag (asks.Url pair) result self.new }
-        ensures causes { HasCause self.old.settings tag.lane
+        ensures causes { (lane : ℕ) → HasCause self.old.settings lane
             (record { disks = map D.fault_count (disks_of self.old); arms = map A.fault_count self.old.arms })
             (record { disks = map D.fault_count (disks_of self.new); arms = map A.fault_count self.new.arms }) result }
         ensures counts { NoneFalls (map D.fault_count (disks_of self.old)) (map D.fault_count (disks_of self.new)) }

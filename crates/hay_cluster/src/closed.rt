@@ -101,6 +101,13 @@ fn lack_of(volume: u32, fault: LogicalFault) -> Option<Refused>
             end,
             need,
         }),
-        _ => None,
+        LogicalFault::ReadOnly { .. }
+        | LogicalFault::Gone { .. }
+        | LogicalFault::Failed { .. }
+        | LogicalFault::Busy { .. }
+        | LogicalFault::Worn { .. }
+        | LogicalFault::Idle
+        | LogicalFault::Damaged { .. }
+        | LogicalFault::NoMemory => None,
     }
 }

@@ -1,14 +1,14 @@
 //! How a store is closed.
-ghost use Rattle.std.specs.Prelude.{◌≡◌, ◌≤◌, ◌<◌, ◌+◌, ◌*◌, ◌^◌, ℕ, length, map, slice_index};
+ghost use Rattle.std.specs.Prelude.{◌≡◌, ◌≤◌, ◌<◌, ◌+◌, ◌*◌, ◌^◌, ℕ, length, map, slice_get, slice_index};
 ghost use Rattle.hay_mount.specs.Mounts.{AreIn, AreOut, AreArmsIn, AreArmsOut, InOrder, IsGivenArm, IsGivenDisk, SameFrom};
 ghost use Rattle.hay_legal.specs.declared.known.Known.{Known};
 ghost use Rattle.hay_legal.specs.Known.{disk_count};
 ghost use Rattle.hay_legal.specs.Stands.{StandsOn};
 ghost use Rattle.hay_directory.specs.Rows.{OpensRows};
 ghost use Rattle.hay_logical.specs.Fits.{IsReplica};
-ghost use Rattle.hay_cluster.specs.Outside.{outside_of};
+ghost use Rattle.hay_cluster.specs.Outside.{outside_of, read_of};
 ghost use Rattle.hay_cluster.specs.State.{Holds};
-ghost use Rattle.hay_cluster.specs.Store.{disks_of, volume_disks};
+ghost use Rattle.hay_cluster.specs.Store.{contents_in, disks_of, volume_disks};
 ghost use Rattle.std.specs.List.{AllByRecursion, flat_map};
 
 use crate::cluster::Cluster;
@@ -23,11 +23,13 @@ impl<D: Disk, A: Arm<D::Piece>> Cluster<D, A> {
         requires arms_out { AreArmsOut 8 (H.arms shelf.old) }
         ensures stands { D.Tells → (k : Known) →
             Holds D.files D.fault_count D.fuse_count A.fault_count self k →
-            StandsOn (IsReplica self.settings) (OpensRows self.settings) self.settings k (outside_of (H.disks shelf.new) (H.arms shelf.new)) }
-        ensures disks { InOrder (λ slot disk. IsGivenDisk D.Tells D.files D.fault_count D.fuse_count (H.disks shelf.new slot) disk) 0 (disks_of self) }
+            StandsOn (IsReplica self.settings) (OpensRows self.settings) self.settings k (outside_of (H.fault_count shelf.new) (H.disks shelf.new) (H.arms shelf.new)) }
+        ensures disks { InOrder (λ slot disk. IsGivenDisk D.Tells D.files D.drawn D.fault_count D.fuse_count (H.disks shelf.new slot) disk) 0 (disks_of self) }
         ensures fault_counts { (slot : ℕ) → slot < disk_count self.settings → (H.disks shelf.new slot).fault_count ≡ slice_index (map D.fault_count (disks_of self)) slot }
         ensures fuse_counts { (slot : ℕ) → slot < disk_count self.settings → (H.disks shelf.new slot).fuse_count ≡ slice_index (map D.fuse_count (disks_of self)) slot }
         ensures arm_counts { (lane : ℕ) → lane < 8 → (H.arms shelf.new lane).fault_count ≡ slice_index (map A.fault_count self.arms) lane }
+        ensures sure_arms { (lane : ℕ) (arm : A) → slice_get self.arms lane ≡ Some arm → (H.arms shelf.new lane).is_sure ≡ A.is_sure arm }
+        ensures contents { D.Tells → (slot : ℕ) → slot < disk_count self.settings → read_of (H.disks shelf.new slot) ≡ contents_in D.files self slot }
         ensures disks_back { AreIn (disk_count self.settings) (H.disks shelf.new) }
         ensures arms_back { AreArmsIn 8 (H.arms shelf.new) }
         ensures other_slots { SameFrom (disk_count self.settings) (H.disks shelf.old) (H.disks shelf.new) }
@@ -55,7 +57,7 @@ fn give_volumes<H: Shelf>(shelf: &mut H, mut volumes: Vec<Logical<H::Disk>>, rep
     requires most { replicas ≤ 4 }
     requires all { AllByRecursion (λ volume. length (volume_disks volume) ≡ replicas) volumes.items }
     requires out { AreOut (1 + length volumes.items * replicas) (H.disks shelf.old) }
-    ensures given { InOrder (λ slot disk. IsGivenDisk H.Disk.Tells H.Disk.files H.Disk.fault_count H.Disk.fuse_count (H.disks shelf.new slot) disk) 1 (flat_map volume_disks volumes.items) }
+    ensures given { InOrder (λ slot disk. IsGivenDisk H.Disk.Tells H.Disk.files H.Disk.drawn H.Disk.fault_count H.Disk.fuse_count (H.disks shelf.new slot) disk) 1 (flat_map volume_disks volumes.items) }
     ensures below { H.disks shelf.new 0 ≡ H.disks shelf.old 0 }
     ensures others { SameFrom (1 + length volumes.items * replicas) (H.disks shelf.old) (H.disks shelf.new) }
     ensures lanes { H.arms shelf.new ≡ H.arms shelf.old }
@@ -71,7 +73,7 @@ fn give_volume<H: Shelf>(shelf: &mut H, mut volume: Logical<H::Disk>, first: u32
     requires few { first + replicas < 1000 }
     requires all { length volume.replicas ≡ replicas }
     requires out { AreOut (first + replicas) (H.disks shelf.old) }
-    ensures given { InOrder (λ slot disk. IsGivenDisk H.Disk.Tells H.Disk.files H.Disk.fault_count H.Disk.fuse_count (H.disks shelf.new slot) disk) first (volume_disks volume) }
+    ensures given { InOrder (λ slot disk. IsGivenDisk H.Disk.Tells H.Disk.files H.Disk.drawn H.Disk.fault_count H.Disk.fuse_count (H.disks shelf.new slot) disk) first (volume_disks volume) }
     ensures below { (slot : ℕ) → slot < first → H.disks shelf.new slot ≡ H.disks shelf.old slot }
     ensures others { SameFrom (first + replicas) (H.disks shelf.old) (H.disks shelf.new) }
     ensures lanes { H.arms shelf.new ≡ H.arms shelf.old }
@@ -88,7 +90,7 @@ fn give_volume<H: Shelf>(shelf: &mut H, mut volume: Logical<H::Disk>, first: u32
 fn give_seats<H: Shelf>(shelf: &mut H, mut seats: Vec<LaneSeat<H::Arm>>)
     requires few { length seats.items < 2 ^ 32 }
     requires out { AreArmsOut (length seats.items) (H.arms shelf.old) }
-    ensures given { InOrder (λ lane arm. IsGivenArm H.Arm.fault_count (H.arms shelf.new lane) arm) 0 seats.items }
+    ensures given { InOrder (λ lane arm. IsGivenArm H.Arm.fault_count H.Arm.is_sure (H.arms shelf.new lane) arm) 0 seats.items }
     ensures others { SameFrom (length seats.items) (H.arms shelf.old) (H.arms shelf.new) }
     ensures slots { H.disks shelf.new ≡ H.disks shelf.old }
     ensures counted { H.fault_count shelf.new ≡ H.fault_count shelf.old }

@@ -1,24 +1,24 @@
 //! How a store is opened, restarted and closed.
-ghost use Rattle.std.specs.Prelude.{◌≡◌, ◌⊎◌, ◌++◌, ◌∷◌, [], ◌≤◌, ◌<◌, ◌+◌, ◌*◌, ℕ, List, None, length, map, reverse, slice_index, Err, IfOk, OnOk, OnErr, IfErr};
+ghost use Rattle.std.specs.Prelude.{◌≡◌, ◌⊎◌, ◌++◌, ◌∷◌, [], ◌≤◌, ◌<◌, ◌+◌, ◌*◌, ℕ, List, None, length, map, reverse, slice_get, slice_index, Err, IfOk, OnOk, OnErr, IfErr};
 ghost use Rattle.std.specs.List.{AllByRecursion, AllZip};
 ghost use Rattle.std.specs.Vec.{vec_capacity};
 ghost use Rattle.hay_disk.specs.Counts.{Rose};
 ghost use Rattle.hay_mount.specs.Mounts.{AreIn, AreOut, AreArmsIn, AreArmsOut, InOrder, IsArmBack, IsMountedArm, IsMountedDisk, IsPutBack, SameFrom};
 ghost use Rattle.hay_legal.specs.declared.known.Known.{Known};
-ghost use Rattle.hay_legal.specs.Known.{NoneFalls, disk_count};
+ghost use Rattle.hay_legal.specs.Known.{Leaves, NoneFalls, disk_count};
 ghost use Rattle.hay_legal.specs.Known as known;
 ghost use Rattle.hay_legal.specs.Restarts.{IsRestarted};
-ghost use Rattle.hay_legal.specs.Statuses.{IsOpened};
+ghost use Rattle.hay_legal.specs.Statuses.{HoldsNew};
 ghost use Rattle.hay_directory.specs.Rows.{OpensRows};
 ghost use Rattle.hay_directory.specs.State as directory;
 ghost use Rattle.hay_logical.specs.Fits.{IsReplica};
 ghost use Rattle.hay_logical.specs.Stands.{IsIdle};
 ghost use Rattle.hay_logical.specs.Volumes.{IsClosed, IsOfSettings};
 ghost use Rattle.hay_cluster.specs.Causes.{HasFaultCause};
-ghost use Rattle.hay_cluster.specs.Outside.{CountsOn, IsDamagedAt, IsKept, IsNotWhole, outside_of, read_of};
+ghost use Rattle.hay_cluster.specs.Outside.{CountsOn, IsDamagedDisk, IsKept, IsUndamaged, outside_of, read_of};
 ghost use Rattle.hay_cluster.specs.Opening.{FillsVolume, Gathers, IsAtRest, IsEmptyVolume, MovesDirectory, MovesVolume, OpensDirectory, OpensParts, OpensVolume, RefusesDirectory, RefusesParts, RefusesVolume, RefusesVolumes, StopsDirectory, StopsVolume};
 ghost use Rattle.hay_cluster.specs.State.{LeftAt, Stands};
-ghost use Rattle.hay_cluster.specs.Store.{IsBuilt, IsShaped, IsUp, IsVolumeOf, disks_of, volume_disks};
+ghost use Rattle.hay_cluster.specs.Store.{IsBuilt, IsShaped, IsUp, IsVolumeOf, contents_in, disks_of, volume_disks};
 
 use crate::cluster::Cluster;
 use crate::fault::{ClusterFault, no_directory, not_mounted, not_opened};
@@ -45,18 +45,20 @@ impl<D: Disk, A: Arm<D::Piece>> Cluster<D, A> {
         requires disks_in { AreIn (disk_count settings) (H.disks shelf.old) }
         requires arms_in { AreArmsIn 8 (H.arms shelf.old) }
 
-        // The store stands for what the disks have, where they have it wholly.
+        // The store stands for what the disks have, where they have it wholly, but for counts that rose.
         ensures opened { D.Tells → (k : Known) →
-            IsOpened (IsReplica settings) (OpensRows settings) settings (outside_of (H.disks shelf.old) (H.arms shelf.old)) k →
-            IfOk result (λ store. (t : Known)
-            × IsOpened (IsReplica settings) (OpensRows settings) settings (outside_of (H.disks shelf.old) (H.arms shelf.old)) t
-            × Stands D.files D.Piece.Tells D.fault_count D.fuse_count A.fault_count store t) }
+            HoldsNew (IsReplica settings) (OpensRows settings) settings (outside_of (H.fault_count shelf.old) (H.disks shelf.old) (H.arms shelf.old)) k →
+            IfOk result (λ store. (t : Known) × Leaves k k t × Stands D.files D.Piece.Tells D.fault_count D.fuse_count A.fault_count store t) }
+        // Nothing that it read of a disk is damaged.
+        ensures sound { D.Tells → OnOk result (IsUndamaged settings (λ slot. read_of (H.disks shelf.old slot))) }
         ensures settings { IfOk result (λ store. store.settings ≡ settings) }
         ensures up { IfOk result IsUp }
         ensures counts { IfOk result (λ store. (slot : ℕ) → slot < disk_count settings →
             CountsOn (H.disks shelf.old slot) (slice_index (map D.fault_count (disks_of store)) slot) (slice_index (map D.fuse_count (disks_of store)) slot)) }
         ensures arm_counts { IfOk result (λ store. (lane : ℕ) → lane < 8 →
             slice_index (map A.fault_count store.arms) lane ≡ (H.arms shelf.old lane).fault_count) }
+        ensures sure_arms { IfOk result (λ store. (lane : ℕ) (arm : A) → slice_get store.arms lane ≡ Some arm → A.is_sure arm ≡ (H.arms shelf.old lane).is_sure) }
+        ensures lanes { IfOk result (λ store. length store.arms ≡ 8) }
         ensures disks_out { OnOk result (AreOut (disk_count settings) (H.disks shelf.new)) }
         ensures arms_out { OnOk result (AreArmsOut 8 (H.arms shelf.new)) }
 
@@ -66,13 +68,13 @@ impl<D: Disk, A: Arm<D::Piece>> Cluster<D, A> {
         ensures arms_back { OnErr result (AreArmsIn 8 (H.arms shelf.new)) }
         ensures back_counts { OnErr result ((slot : ℕ) → slot < disk_count settings →
             CountsOn (H.disks shelf.old slot) (H.disks shelf.new slot).fault_count (H.disks shelf.new slot).fuse_count) }
-        ensures back_arm_counts { OnErr result ((lane : ℕ) → lane < 8 → (H.arms shelf.new lane).fault_count ≡ (H.arms shelf.old lane).fault_count) }
+        ensures back_arms { OnErr result ((lane : ℕ) → lane < 8 → IsArmBack (H.arms shelf.old lane) (H.arms shelf.new lane)) }
         ensures shelf { IfErr result (λ fault. (faults : ℕ) → fault ≡ ClusterFault.Shelf faults →
             Rose (H.fault_count shelf.old) (H.fault_count shelf.new) × (faults ≡ H.fault_count shelf.new)) }
         ensures failed { IfErr result (λ fault. (slot faults : ℕ) → fault ≡ ClusterFault.Failed slot faults → (slot < disk_count settings)
             × Rose (H.disks shelf.old slot).fault_count (H.disks shelf.new slot).fault_count × (faults ≡ (H.disks shelf.new slot).fault_count)) }
         ensures damaged { D.Tells → (slot file at : ℕ) → result ≡ Err (ClusterFault.Damaged slot file at) →
-            (slot < disk_count settings) × IsNotWhole settings slot (read_of (H.disks shelf.old slot)) × IsDamagedAt settings slot file at (read_of (H.disks shelf.old slot)) }
+            IsDamagedDisk settings (λ slot. read_of (H.disks shelf.old slot)) slot file at × IsDamagedDisk settings (λ slot. read_of (H.disks shelf.new slot)) slot file at }
 
         ensures other_slots { SameFrom (disk_count settings) (H.disks shelf.old) (H.disks shelf.new) }
         ensures other_lanes { SameFrom 8 (H.arms shelf.old) (H.arms shelf.new) }
@@ -109,9 +111,11 @@ impl<D: Disk, A: Arm<D::Piece>> Cluster<D, A> {
             Stands D.files D.Piece.Tells D.fault_count D.fuse_count A.fault_count self.old k →
             OnErr result (LeftAt D.files D.fault_count D.fuse_count A.fault_count k self.new) }
         ensures cause { IfErr result (HasFaultCause self.old.settings (map D.fault_count (disks_of self.old)) (map D.fault_count (disks_of self.new))) }
-        ensures damaged { D.Tells → (k : Known) →
+        ensures whole { D.Tells → (k : Known) →
             Stands D.files D.Piece.Tells D.fault_count D.fuse_count A.fault_count self.old k →
             (slot file at : ℕ) → result ≡ Err (ClusterFault.Damaged slot file at) → ⊥ }
+        ensures damaged { D.Tells → (slot file at : ℕ) → result ≡ Err (ClusterFault.Damaged slot file at) →
+            IsDamagedDisk self.old.settings (contents_in D.files self.new) slot file at }
 
         ensures counts { NoneFalls (map D.fault_count (disks_of self.old)) (map D.fault_count (disks_of self.new)) }
         ensures fuses { map D.fuse_count (disks_of self.new) ≡ map D.fuse_count (disks_of self.old) }
@@ -164,8 +168,8 @@ fn take_parts<H: Shelf>(
 ) -> Result<(Vec<H::Disk>, Vec<LaneSeat<H::Arm>>), ClusterFault>
     requires disks_in { AreIn slots (H.disks shelf.old) }
     requires arms_in { AreArmsIn 8 (H.arms shelf.old) }
-    ensures disks { IfOk result (λ parts. InOrder (λ slot disk. IsMountedDisk H.Disk.Tells H.Disk.files H.Disk.fault_count H.Disk.fuse_count (H.disks shelf.old slot) disk) 0 parts.0.items) }
-    ensures arms { IfOk result (λ parts. InOrder (λ lane arm. IsMountedArm H.Arm.fault_count (H.arms shelf.old lane) arm) 0 parts.1.items) }
+    ensures disks { IfOk result (λ parts. InOrder (λ slot disk. IsMountedDisk H.Disk.Tells H.Disk.files H.Disk.drawn H.Disk.fault_count H.Disk.fuse_count (H.disks shelf.old slot) disk) 0 parts.0.items) }
+    ensures arms { IfOk result (λ parts. InOrder (λ lane arm. IsMountedArm H.Arm.fault_count H.Arm.is_sure (H.arms shelf.old lane) arm) 0 parts.1.items) }
     ensures disk_count { IfOk result (λ parts. length parts.0.items ≡ slots) }
     ensures arm_count { IfOk result (λ parts. length parts.1.items ≡ 8) }
     ensures disks_out { OnOk result (AreOut slots (H.disks shelf.new)) }

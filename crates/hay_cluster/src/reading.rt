@@ -1,5 +1,5 @@
 //! Reads, and gets by URL.
-ghost use Rattle.std.specs.Prelude.{◌≡◌, ◌≤◌, ◌<◌, ℕ, List, [], Some, length, map, slice_index, IfOk};
+ghost use Rattle.std.specs.Prelude.{◌≡◌, ◌≤◌, ◌<◌, ℕ, true, List, [], Some, length, map, slice_get, slice_index, IfOk};
 ghost use Rattle.hay_script.specs.declared.Command.TheVariants as asks;
 ghost use Rattle.hay_legal.specs.declared.known.Known.{Known};
 ghost use Rattle.std.specs.Vec.{vec_capacity};
@@ -7,8 +7,8 @@ ghost use Rattle.hay_map.specs.declared.place.Place.{Place};
 ghost use Rattle.hay_reader.specs.Shown.{Answers, HasCauses};
 ghost use Rattle.hay_legal.specs.Known.{NoneFalls, home_of, volume_at};
 ghost use Rattle.hay_legal.specs.Plain.{start_of};
-ghost use Rattle.hay_cluster.specs.Causes.{HasCause};
-ghost use Rattle.hay_cluster.specs.Reads.{ShownAs, ShowsIn, outcomes_of, passed_at};
+ghost use Rattle.hay_cluster.specs.Causes.{BlamesNoArm, HasCause, StaySure};
+ghost use Rattle.hay_cluster.specs.Reads.{PassesNoArm, ShownAs, ShowsIn, outcomes_of, passed_at};
 ghost use Rattle.hay_cluster.specs.Parts.{Comes};
 ghost use Rattle.hay_cluster.specs.State.{Answered, Stands};
 ghost use Rattle.hay_cluster.specs.Store.{IsBuilt, IsUp, disks_of};
@@ -48,6 +48,8 @@ impl<D: Disk, A: Arm<D::Piece>> Cluster<D, A> {
         ensures causes { HasCause self.old.settings tag.lane
             (record { disks = map D.fault_count (disks_of self.old); arms = map A.fault_count self.old.arms })
             (record { disks = map D.fault_count (disks_of self.new); arms = map A.fault_count self.new.arms }) result }
+        ensures sure { (arm : A) → slice_get self.old.arms tag.lane ≡ Some arm → A.is_sure arm ≡ true → BlamesNoArm result }
+        ensures sure_arms { StaySure A.is_sure self.old.arms self.new.arms }
         ensures counts { NoneFalls (map D.fault_count (disks_of self.old)) (map D.fault_count (disks_of self.new)) }
         ensures arm_counts { NoneFalls (map A.fault_count self.old.arms) (map A.fault_count self.new.arms) }
         ensures settings { self.new.settings ≡ self.old.settings }
@@ -69,6 +71,8 @@ impl<D: Disk, A: Arm<D::Piece>> Cluster<D, A> {
         ensures causes { HasCause self.old.settings tag.lane
             (record { disks = map D.fault_count (disks_of self.old); arms = map A.fault_count self.old.arms })
             (record { disks = map D.fault_count (disks_of self.new); arms = map A.fault_count self.new.arms }) result }
+        ensures sure { (arm : A) → slice_get self.old.arms tag.lane ≡ Some arm → A.is_sure arm ≡ true → BlamesNoArm result }
+        ensures sure_arms { StaySure A.is_sure self.old.arms self.new.arms }
         ensures counts { NoneFalls (map D.fault_count (disks_of self.old)) (map D.fault_count (disks_of self.new)) }
         ensures arm_counts { NoneFalls (map A.fault_count self.old.arms) (map A.fault_count self.new.arms) }
         ensures settings { self.new.settings ≡ self.old.settings }
@@ -109,6 +113,8 @@ impl<D: Disk, A: Arm<D::Piece>> Cluster<D, A> {
         ensures causes { HasCause self.old.settings tag.lane
             (record { disks = map D.fault_count (disks_of self.old); arms = map A.fault_count self.old.arms })
             (record { disks = map D.fault_count (disks_of self.new); arms = map A.fault_count self.new.arms }) result }
+        ensures sure { (arm : A) → slice_get self.old.arms tag.lane ≡ Some arm → A.is_sure arm ≡ true → BlamesNoArm result }
+        ensures sure_arms { StaySure A.is_sure self.old.arms self.new.arms }
         ensures counts { NoneFalls (map D.fault_count (disks_of self.old)) (map D.fault_count (disks_of self.new)) }
         ensures arm_counts { NoneFalls (map A.fault_count self.old.arms) (map A.fault_count self.new.arms) }
         ensures settings { self.new.settings ≡ self.old.settings }
@@ -177,6 +183,8 @@ impl<D: Disk, A: Arm<D::Piece>> Cluster<D, A> {
             × Comes D.files D.Piece.Tells D.fault_count D.fuse_count A.fault_count k k self.new }
         ensures causes { (row : List (Place D.Piece)) × (length row ≡ self.old.settings.replicas)
             × HasCauses start row (slice_index (map A.fault_count self.old.arms) lane) (slice_index (map A.fault_count self.new.arms) lane) result.1 }
+        ensures sure { (arm : A) → slice_get self.old.arms lane ≡ Some arm → A.is_sure arm ≡ true → PassesNoArm result.1 }
+        ensures sure_arms { StaySure A.is_sure self.old.arms self.new.arms }
         ensures disks { disks_of self.new ≡ disks_of self.old }
         ensures arm_counts { NoneFalls (map A.fault_count self.old.arms) (map A.fault_count self.new.arms) }
         ensures settings { self.new.settings ≡ self.old.settings }

@@ -1,5 +1,5 @@
 -- The lines that flush or compact a replica are legal.
-use Rattle.std.proofs.Common.{◌≡◌, ◌≢◌, ◌⊎◌, ℕ, zero, suc, ◌+◌, ◌-◌, ◌<◌, ◌≤◌, true, List, [], ◌∷◌, length, slice_get, Contains, Option, Some, None, option_map, refl, sym, ap, subst, ◌∙◌, inl, inr, arith}
+use Rattle.std.proofs.Common.{◌≡◌, ◌≢◌, ◌⊎◌, ℕ, zero, suc, ◌+◌, ◌-◌, ◌<◌, ◌≤◌, true, false, List, [], ◌∷◌, length, slice_get, Contains, Option, Some, None, option_map, refl, sym, ap, subst, ◌∙◌, inl, inr, arith}
 use Rattle.std.proofs.lemmas.Bool.{cases_eq}
 use Rattle.hay_needle.specs.declared.settings.Settings.{Settings}
 use Rattle.hay_core.specs.declared.entry.CoreTag.{CoreTag}
@@ -15,20 +15,22 @@ use Rattle.hay_legal.specs.declared.turn.Item.{Item}
 use Rattle.hay_legal.specs.declared.turn.Item.TheVariants as asks
 use Rattle.hay_legal.specs.declared.turn.LaneItem.{LaneItem}
 use Rattle.hay_legal.specs.Known.{machine_of, replica_at, replica_on, volume_at}
-use Rattle.hay_legal.specs.Plain.{run_grown, swapped}
-use Rattle.hay_legal.specs.Blocks.{CompactIsLegal, FlushIsLegal, MayBeBusy, MayBeFrozen, MayBeStuck, RunsBeside, SticksBy}
+use Rattle.hay_legal.specs.Plain.{IsFrozenBy, IsOpen, run_grown, with_stuck}
+use Rattle.hay_legal.specs.Blocks.{CompactIsLegal, FlushIsLegal, IsLeftStuck, MayBeBusy, MayBeStuck, MayFlush, MetOpen, RunsBeside, SticksBy}
 use Rattle.std.proofs.lemmas.Option.{slice_get_cases}
 use Rattle.hay_history.specs.Steps.{Did, Leads, Standing, Step}
-use Rattle.hay_history.specs.Steps.Did.{Begins}
-use Rattle.hay_history.specs.Histories.{Course, History, IsMoment, behind, first_of, own, volume_then}
+use Rattle.hay_history.specs.Steps.Did.{Begins, Flushes, Sticks}
+use Rattle.hay_history.specs.Histories.{Course, History, IsMoment, OneStep, behind, first_of, own, volume_then}
 use Rattle.hay_history.specs.Commands.{Came, CompactDid, CompactRefused, FlushDid, ItemDid, IsFrozen, IsStuck}
 use Rattle.hay_history.proofs.Histories.{along, behind_past, behind_step, leads_at}
-use Rattle.hay_history.proofs.Lines.{answered, course_of, owner, stops}
+use Rattle.hay_history.proofs.Lines.{answered, course_of, one_leads, owner, stops}
 use Rattle.hay_history.proofs.Own.{EndsBy, InRun, IsCompact, MayDo, in_run, item_may}
 use Rattle.hay_history.proofs.Placing.{machine_there, on_machine}
 use Rattle.hay_history.proofs.Changes.{Becomes, leads_becomes}
 use Rattle.hay_history.proofs.Lists.{each_in, none_in, pair_in}
-use Rattle.hay_history.proofs.Volumes.{frozen_by_line, generation_grows, option_map_some, run_goal, stuck_then, volume_at_moment}
+use Rattle.hay_history.proofs.Volumes.{frozen_on, generation_grows, left_stuck, loose_then, option_map_some, replicas_many, run_goal, stuck_then, thawed_before, volume_at_moment}
+use Rattle.hay_history.proofs.ReplicaSteps.{change_same}
+use Rattle.hay_history.proofs.Meeting.{compact_open}
 
 -- WHAT A STEP DOES TO A RUN
 
@@ -353,70 +355,90 @@ module _ {settings : Settings} {k : Known} {items : List LaneItem} {history : Hi
 -- FLUSHES AND COMPACTS
 
 module _ {settings : Settings} {k : Known} {items : List LaneItem} {history : History} {t : Known} (h : Came settings k items history t) (item : LaneItem) where
-  may_be_frozen : (v n : ℕ) (by : ClosedBy) → v < settings.volumes → by.volume ≡ v → (volume_at_moment settings k history v n).frozen ≡ Some by.machine
-      → MayBeFrozen settings k items t v (by ∷ [])
-  may_be_frozen v n by below same frozen = (
-    same,
-    elim (frozen_by_line h v n by.machine below frozen) [
-      | inl old ↦ inl old
-      | inr new ↦ inr (new.1, new.2, new.3, new.4)
-    ],
-  )
-
-  is_frozen : (v : ℕ) (by : List ClosedBy) → v < settings.volumes → IsFrozen (course_of h item) v by → MayBeFrozen settings k items t v by
+  is_frozen : (v : ℕ) (by : List ClosedBy) → v < settings.volumes → IsFrozen (course_of h item) v by → IsFrozenBy t v by
   is_frozen v [] below did = absurd did
-  is_frozen v (by ∷ []) below did = may_be_frozen v (did.1).moment by below did.0 (did.1).is
+  is_frozen v (by ∷ []) below did = (did.0, frozen_on h v (did.1).moment by.machine below (did.1).is)
   is_frozen v (by ∷ more ∷ rest) below did = absurd did
 
-  is_stuck : (v m j : ℕ) (by : List ClosedBy) → v < settings.volumes → j < settings.replicas → machine_of settings v j ≡ m
-      → IsStuck (course_of h item) v m j by → MayBeStuck k items t v m j by
-  is_stuck v m j [] below within on did = absurd did
-  is_stuck v m j (by ∷ []) below within on did = (
+  is_stuck : (v m j : ℕ) (by : List ClosedBy) → v < settings.volumes → machine_of settings v j ≡ m
+      → IsStuck (course_of h item) v m j by → MayBeStuck k items v m j by
+  is_stuck v m j [] below on did = absurd did
+  is_stuck v m j (by ∷ []) below on did = (
     did.0,
-    subst (λ (w : ℕ). ((replica_at (volume_at k v) j).stuck ≡ true)
-        ⊎ (((item : LaneItem) × Contains items item × SticksBy v w item)
-        × (((replica_at (volume_at t v) j).stuck ≡ true) ⊎ ((replica_at (volume_at k v) j).generation < (replica_at (volume_at t v) j).generation)))) on
-        (stuck_then h v did.1.0 j below within did.1.2),
+    thawed_before h v did.1.0 below did.1.2,
+    subst (λ (w : ℕ). ((replica_at (volume_at k v) j).stuck ≡ true) ⊎ ((item : LaneItem) × Contains items item × SticksBy v w item)) on
+        (stuck_then h v did.1.0 j below did.1.3),
   )
-  is_stuck v m j (by ∷ more ∷ rest) below within on did = absurd did
+  is_stuck v m j (by ∷ more ∷ rest) below on did = absurd did
 
-  flush_on : (v m : ℕ) (on : Option ℕ) (r : Reply) → replica_on settings v m ≡ on → FlushDid (course_of h item) v m on r
+  may_flush : (v n j : ℕ) → v < settings.volumes → (volume_at_moment settings k history v n).frozen ≡ None
+      → (replica_at (volume_at_moment settings k history v n) j).stuck ≡ false → MayFlush k t v j
+  may_flush v n j below thawed loose = (thawed_before h v n below thawed, loose_then h v n j below loose)
+
+  flush_failed : (v j : ℕ) → v < settings.volumes → j < settings.replicas → Contains items item → OneStep (course_of h item) v (Sticks j)
+      → MayFlush k t v j × IsLeftStuck k t v j
+  flush_failed v j below within among step =
+      let did = one_leads h item v (Sticks j) below among step in
+      let stuck : (replica_at (volume_at_moment settings k history v (step.place + 1)) j).stuck ≡ true =
+      ap (λ (volume : VolumeKnown). (replica_at volume j).stuck) did.3
+      ∙ ap (λ (r : ReplicaKnown). r.stuck) (change_same (volume_at_moment settings k history v step.place) j j with_stuck refl
+      (subst (λ (many : ℕ). j < many) (sym (replicas_many h v step.place below)) within)) in
+      (may_flush v step.place j below did.0 did.2, left_stuck h v (step.place + 1) j below stuck)
+
+  flush_on : (v m : ℕ) (on : Option ℕ) (r : Reply) → Contains items item → replica_on settings v m ≡ on → FlushDid (course_of h item) v m on r
       → FlushIsLegal settings k items t v m on r
-  flush_on v m None reply.NoMem e did = tt
-  flush_on v m None r e did = search
-  flush_on v m (Some j) (reply.ReadOnly by) e did =
+  flush_on v m None reply.NoMem among e did = tt
+  flush_on v m None r among e did = search
+  flush_on v m (Some j) (reply.ReadOnly by) among e did =
       let there = on_machine settings v m j e in
       elim did.0 [
         | inl frozen ↦ inl (is_frozen v by there.0 frozen)
-        | inr stuck ↦ inr (is_stuck v m j by there.0 there.1 there.2 stuck)
+        | inr stuck ↦ inr (is_stuck v m j by there.0 there.2 stuck)
       ]
-  flush_on v m (Some j) r e did = search
+  flush_on v m (Some j) (reply.Flushed v' m' n) among e did =
+      let there = on_machine settings v m j e in
+      let flushed = one_leads h item v (Flushes j) there.0 among (did.1).step in
+      (did.0, may_flush v ((did.1).step).place j there.0 flushed.0 flushed.2)
+  flush_on v m (Some j) (reply.Failed v' m' f) among e did =
+      let there = on_machine settings v m j e in
+      let failed = flush_failed v j there.0 there.1 among (did.1).step in
+      (did.0, failed.0, failed.1)
+  flush_on v m (Some j) r among e did = search
 
-  pub flush_legal : (v m : ℕ) (r : Reply) → FlushDid (course_of h item) v m (replica_on settings v m) r
+  pub flush_legal : (v m : ℕ) (r : Reply) → Contains items item → FlushDid (course_of h item) v m (replica_on settings v m) r
       → FlushIsLegal settings k items t v m (replica_on settings v m) r
-  flush_legal v m r did = flush_on v m (replica_on settings v m) r refl did
+  flush_legal v m r among did = flush_on v m (replica_on settings v m) r among refl did
 
-  compact_refused : (v j : ℕ) (by : List ClosedBy) → v < settings.volumes → CompactRefused (course_of h item) v j by → MayBeFrozen settings k items t v by
+  compact_refused : (v j : ℕ) (by : List ClosedBy) → v < settings.volumes → CompactRefused (course_of h item) v j by → IsFrozenBy t v by
   compact_refused v j by below (inl frozen) = is_frozen v by below frozen.0
   compact_refused v j [] below (inr ran) = absurd ran
-  compact_refused v j (by ∷ []) below (inr ran) = may_be_frozen v (ran.1.0).ended by below ran.0 ran.1.1
+  compact_refused v j (by ∷ []) below (inr ran) = (ran.0, frozen_on h v (ran.1.0).ended by.machine below ran.1.1)
   compact_refused v j (by ∷ more ∷ rest) below (inr ran) = absurd ran
+
+  -- a compact that met its volume open
+  was_open : (v m j : ℕ) (r : Reply) → Contains items item → replica_on settings v m ≡ Some j → CompactDid (course_of h item) v m (Some j) r → MetOpen v r → IsOpen k v
+  was_open v m j r among e did met =
+      let saw = compact_open h item among v m (Some j) r v e did met in
+      thawed_before h v saw.0 (on_machine settings v m j e).0 saw.2
 
   compact_on : (v m : ℕ) (on : Option ℕ) (r : Reply) → Contains items item → replica_on settings v m ≡ on → CompactDid (course_of h item) v m on r
       → CompactIsLegal settings k items t item.lane v m on r
   compact_on v m None reply.NoMem among e did = tt
   compact_on v m None r among e did = search
   compact_on v m (Some j) (reply.ReadOnly by) among e did = compact_refused v j by (on_machine settings v m j e).0 did
+  compact_on v m (Some j) (reply.Compacted v' m' g) among e did = (did.0, was_open v m j (reply.Compacted v' m' g) among e did (did.0).0)
   compact_on v m (Some j) (reply.Busy v' m' g) among e did =
       let there = on_machine settings v m j e in
       let seen = did.2 in (
         did.0,
-        busy_legal h v j there.0 there.1 item m g among (did.1.0 v) there.2 seen.0 seen.1 seen.2.0 seen.2.1 seen.2.2,
+        was_open v m j (reply.Busy v' m' g) among e did (did.0).0,
+        busy_legal h v j there.0 there.1 item m g among (did.1.0 v) there.2 seen.0 seen.1 seen.3.0 seen.3.1 seen.3.2,
       )
   compact_on v m (Some j) (reply.Worn v' m') among e did =
       let there = on_machine settings v m j e in
       let seen = did.2 in
-      (did.0, worn_legal h v j there.0 there.1 item among seen.0 seen.1 seen.2 seen.3)
+      (did.0, was_open v m j (reply.Worn v' m') among e did (did.0).0, worn_legal h v j there.0 there.1 item among seen.0 seen.1 seen.3 seen.4)
+  compact_on v m (Some j) (reply.Failed v' m' f) among e did = (did.0, was_open v m j (reply.Failed v' m' f) among e did (did.0).0)
   compact_on v m (Some j) r among e did = search
 
   pub compact_legal : (v m : ℕ) (r : Reply) → Contains items item → CompactDid (course_of h item) v m (replica_on settings v m) r

@@ -84,6 +84,7 @@ show_prints c v start pair cookie reply h = search
 
 get_prints : (c : Course) (v : ℕ) (url : UrlParts) (o : Option ℕ) (reply : Reply) → GetDid c url o reply → AllPrints c v reply
 get_prints c v url (Some start) (Moved v' d) h = (tt, row_print_of c url.pair d (Some v') h.0)
+get_prints c v url (Some start) NoMem h = (tt, tt)
 get_prints c v url (Some start) reply h = show_prints c v start url.pair url.cookie reply h.0
 get_prints c v url None NoMem h = (tt, tt)
 get_prints c v url None reply h = search

@@ -1,7 +1,6 @@
 -- The generations that a block made of a replica.
-use Rattle.std.proofs.Common.{◌≡◌, ◌≢◌, ◌⊎◌, inl, inr, ℕ, ◌<◌, ◌≤◌, ◌+◌, ◌==◌, ◌&&◌, Bool, true, false, cond, List, [], ◌∷◌, ◌++◌, length, slice_get, Contains, flat_map, Some, None, refl, sym, ap, subst, ◌∙◌, arith, eq-eqb, ne_eqb, eqb-true}
+use Rattle.std.proofs.Common.{◌≡◌, ◌≢◌, ◌⊎◌, inl, inr, ℕ, ◌<◌, ◌≤◌, ◌+◌, ◌==◌, ◌&&◌, Bool, true, false, cond, List, [], ◌∷◌, ◌++◌, length, slice_get, Contains, flat_map, Option, Some, refl, sym, ap, subst, ◌∙◌, arith, eq-eqb, eqb-true}
 use Rattle.std.specs.List.{AllByRecursion as Each}
-use Rattle.std.proofs.lemmas.Bool.{cases_eq}
 use Rattle.std.proofs.lemmas.List.Concat.{length-flat_map}
 use Rattle.std.proofs.lemmas.List.Elements.{Contains-append_right}
 use Rattle.std.proofs.lemmas.Option.{slice_get_within}
@@ -9,26 +8,29 @@ use Rattle.hay_needle.specs.declared.settings.Settings.{Settings}
 use Rattle.hay_reply.specs.declared.Reply.{Reply}
 use Rattle.hay_reply.specs.declared.Reply.TheVariants as reply
 use Rattle.hay_legal.specs.declared.known.Known.{Known}
+use Rattle.hay_legal.specs.declared.known.ReplicaKnown.{ReplicaKnown}
 use Rattle.hay_legal.specs.declared.known.VolumeKnown.{VolumeKnown}
 use Rattle.hay_legal.specs.declared.turn.LaneItem.{LaneItem}
 use Rattle.hay_legal.specs.Known.{EachPair, machine_of, replica_at, volume_at}
-use Rattle.hay_legal.specs.Plain.{first_machine}
-use Rattle.hay_legal.specs.Blocks.{CompactsWith, GenerationsAreLegal, IsNoMem, made_on, tag_of}
-use Rattle.hay_history.specs.Steps.{Did, IsThawed, Leads, Standing, Step}
+use Rattle.hay_legal.specs.Blocks.{GenerationsAreLegal, froze_at_compact, is_wanting, made_on, tag_of}
+use Rattle.hay_history.specs.Steps.{Did, Standing, Step}
 use Rattle.hay_history.specs.Histories.{Course, History, behind, first_of, own, standing}
 use Rattle.hay_history.specs.Commands.{Came}
-use Rattle.hay_history.proofs.Placing.{machine_there}
 use Rattle.hay_history.proofs.Lists.{each_flat, each_from, each_in, in_rest, is_first, pair_by, pair_flat}
 use Rattle.hay_history.proofs.Lines.{answered, course_of, own_at, own_leads}
-use Rattle.hay_history.proofs.Volumes.{StaysFrozen, frozen_persists, generation_grows, replicas_many, thawed_by}
+use Rattle.hay_history.proofs.Volumes.{Persists, generation_grows, persists_on, replicas_many}
+use Rattle.hay_history.proofs.Changes.{leads_becomes}
+use Rattle.hay_history.proofs.Changes.Becomes.{Goes, Grows, IsFlushed, IsPoised, IsStuck, IsSwapped, Rests, Starts, Stays}
 use Rattle.hay_history.proofs.Weights.{along_weighed, weigh}
-use Rattle.hay_history.proofs.Doings.{CompactedOne, LineDid, StepBy, line_did}
-use Rattle.hay_history.proofs.Freezing.{frozen_is, of_line}
+use Rattle.hay_history.proofs.Doings.{CompactedOne, LineDid, line_did}
 use Rattle.hay_history.proofs.ReplicaSteps.{effect, hidden_at, made_at, swaps_at}
 use Rattle.hay_history.proofs.Sizes.{Grown, generation_of, grown_same, grown_step, grown_trans}
 use Rattle.hay_history.proofs.Printed.{made_as, made_is, made_printed, printed_weight}
 
--- THE SWAP THAT WANT OF MEMORY MAY HIDE
+abbrev number_of : ReplicaKnown → ℕ
+number_of r = r.generation
+
+-- SWAPS THAT A REPLY TELLS, AND OTHERS
 
 split : (j : ℕ) (a : Standing) (did : Did) → swaps_at j a did ≡ made_at j a did + hidden_at j a did
 split j a (Did.Swaps i end cells true) = omega arith
@@ -37,52 +39,6 @@ split j a _ = omega arith
 swaps_split : (j : ℕ) (before : Standing) (steps : List Step) → weigh (swaps_at j) before steps ≡ weigh (made_at j) before steps + weigh (hidden_at j) before steps
 swaps_split j before [] = omega arith
 swaps_split j before (step ∷ steps) = omega (arith, split j before step.did, swaps_split j step.after steps)
-
-record HiddenIn (steps : List Step) (j : ℕ) : Type 0 where
-  i : ℕ
-  s : Step
-  at : slice_get steps i ≡ Some s
-  end : ℕ
-  cells : ℕ
-  is : s.did ≡ Did.Swaps j end cells true
-
-abbrev pub FreezeStays : Standing → Standing → Type 0
-FreezeStays a b = StaysFrozen a.volume b.volume
-
--- no swap was hidden, or one that froze the volume
-abbrev Hidden : Settings → ℕ → List Step → ℕ → Standing → ℕ → Standing → Type 0
-Hidden settings v steps j a n b =
-    ((n ≡ 0) × FreezeStays a b)
-    ⊎ ((n ≡ 1) × IsThawed a × ((b.volume).frozen ≡ Some (first_machine settings v)) × HiddenIn steps j)
-
-hidden_none : (settings : Settings) (v : ℕ) (steps : List Step) (j : ℕ) (a : Standing) → Hidden settings v steps j a 0 a
-hidden_none settings v steps j a = inl (refl, λ m frozen. frozen)
-
-hidden_trans : (settings : Settings) (v : ℕ) (steps : List Step) (j : ℕ) (a b c : Standing) (n m : ℕ)
-    → Hidden settings v steps j a n b → Hidden settings v steps j b m c → Hidden settings v steps j a (n + m) c
-hidden_trans settings v steps j a b c n m h g = elim h [
-  | inl x ↦ elim g [
-    | inl y ↦ inl (omega (arith, x.0, y.0), λ m frozen. y.1 m (x.1 m frozen))
-    | inr y ↦ inr (omega (arith, x.0, y.0), thawed_by (a.volume).frozen (b.volume).frozen x.1 y.1, y.2, y.3)
-  ]
-  | inr x ↦ elim g [
-    | inl y ↦ inr (omega (arith, x.0, y.0), x.1, y.1 (first_machine settings v) x.2, x.3)
-    | inr y ↦ let none : None ≡ Some (first_machine settings v) = sym y.1 ∙ x.2 in absurd cc
-  ]
-]
-
-hidden_step : (settings : Settings) (v : ℕ) (steps : List Step) (j i : ℕ) (s : Step) (a : Standing) (did : Did) → slice_get steps i ≡ Some s → s.did ≡ did
-    → Leads settings v s.tag did a s.after → Hidden settings v steps j a (hidden_at j a did) s.after
-hidden_step settings v steps j i s a (Did.Swaps n end cells true) at is h = elim (cases_eq n j) [
-  | inl same ↦ inr (
-    ap (λ (b : Bool). cond b 1 0) (eq-eqb n j same),
-    h.0,
-    frozen_is h.4,
-    record { i = i; s = s; at = at; end = end; cells = cells; is = is ∙ ap (λ (x : ℕ). Did.Swaps x end cells true) same },
-  )
-  | inr other ↦ inl (ap (λ (b : Bool). cond b 1 0) (ne_eqb n j other), frozen_persists.each settings v s.tag (Did.Swaps n end cells true) a s.after h)
-]
-hidden_step settings v steps j i s a did at is h = inl (refl, frozen_persists.each settings v s.tag did a s.after h)
 
 -- WHAT STANDS OF A REPLICA
 
@@ -107,6 +63,33 @@ grown {settings} {k} {items} {history} {t} h v j below within =
     (omega (arith, (h.store).replicas v below, within))
 
 -- GENERATIONS
+
+-- a replica's generation is as it was, or has a number
+abbrev Numbered : ℕ → VolumeKnown → VolumeKnown → Type 0
+Numbered j a b = ((replica_at b j).generation ≡ (replica_at a j).generation) ⊎ ((replica_at b j).generation ≤ 65535)
+
+numbered_persists : (j : ℕ) → Persists (Numbered j)
+numbered_persists j = record {
+  same = λ a. inl refl;
+  trans = λ a b c h g. elim g [ inr least ↦ inr least | inl same ↦ elim h [ inl before ↦ inl (same ∙ before) | inr least ↦ inr (omega (arith, same, least)) ] ];
+  each = λ settings v tag did a b leads. elim (leads_becomes settings v tag did a b leads j) [
+    | Stays e ↦ inl (ap number_of e)
+    | Grows pair cookie bytes is e ↦ inl (ap number_of e)
+    | Rests e ↦ inl (ap number_of e)
+    | IsFlushed is e ↦ inl (ap number_of e)
+    | IsStuck is e ↦ inl (ap number_of e)
+    | Starts is none less e ↦ inl (ap number_of e)
+    | Goes n run is stands within e ↦ inl (ap number_of e)
+    | IsSwapped end cells freezes is stands sizes e ↦
+        let next : (replica_at b.volume j).generation ≡ (replica_at a.volume j).generation + 1 = ap number_of e in
+        inr (omega (arith, next, stands.2))
+    | IsPoised m is e ↦ inl (ap number_of e)
+  ];
+}
+
+numbered : {settings : Settings} {k : Known} {items : List LaneItem} {history : History} {t : Known} (h : Came settings k items history t)
+    (v j : ℕ) → v < settings.volumes → Numbered j (volume_at k v) (volume_at t v)
+numbered h v j below = persists_on h (Numbered j) (numbered_persists j) v 0 below
 
 -- a line made this generation
 record MadeAt (c : Course) (v j g : ℕ) : Type 0 where
@@ -227,51 +210,21 @@ module _ {settings : Settings} {k : Known} {items : List LaneItem} {history : Hi
       (λ item among did. made_printed (course_of h item) v j item narrow within did))
       ∙ sym (length-flat_map (made_on v (machine_of settings v j)) items)
 
-  hidden : Hidden settings v (history.volumes v) j (first_of settings k v) (weigh (hidden_at j) (first_of settings k v) (history.volumes v)) (last_of settings k history v)
-  hidden =
-      along_weighed settings v (hidden_at j) (Hidden settings v (history.volumes v) j) (first_of settings k v) (history.volumes v)
-      (hidden_none settings v (history.volumes v) j)
-      (hidden_trans settings v (history.volumes v) j)
-      (λ i s a at leads falls. hidden_step settings v (history.volumes v) j i s a s.did at refl leads)
-      (h.follows v below)
-
-  hider : HiddenIn (history.volumes v) j → (item : LaneItem) × Contains items item × CompactsWith v (machine_of settings v j) IsNoMem item
-  hider some =
-      let line = of_line h v some.i some.s below some.at in
-      let by = subst (StepBy (course_of h line.item) v line.item some.i) some.is line.by in
-      let may = by.0 in (
-        line.item,
-        line.among,
-        subst (λ (m : ℕ). CompactsWith v m IsNoMem line.item) (sym (machine_there settings v may.0 j (may.1).1))
-            ((may.1).0, subst IsNoMem (sym may.2) tt),
-      )
-
-  pub generations_legal : GenerationsAreLegal settings items v j (replica_at (volume_at k v) j) (replica_at (volume_at t v) j) (volume_at t v).frozen
-  generations_legal = record {
+  pub generations_legal : (froze : Option LaneItem)
+      → weigh (hidden_at j) (first_of settings k v) (history.volumes v) ≡ cond (froze_at_compact v (machine_of settings v j) is_wanting froze) 1 0
+      → GenerationsAreLegal settings items v j froze (replica_at (volume_at k v) j) (replica_at (volume_at t v) j)
+  generations_legal froze hidden = record {
     inside_range = each_flat _ (made_on v (machine_of settings v j)) items (λ item among.
         each_from _ (made_on v (machine_of settings v j) item) (λ g at.
         let range = in_range item among g (each_in (MadeAt (course_of h item) v j) (made_on v (machine_of settings v j) item) g (made_by item among) at) in
         (range.0, omega (arith, range.1, number))));
     once = once;
-    all = by hidden;
+    last = λ grew. elim (numbered h v j below) [
+      | inl same ↦ absurd (omega (arith, grew, same))
+      | inr least ↦ least
+    ];
+    all = omega (arith, number, (grown h v j below within).generation, swaps_split j (first_of settings k v) (history.volumes v), number_made, hidden);
   }
     where
-      is : volume_at t v ≡ (last_of settings k history v).volume
-      is = (h.volumes v below).volume
-
       number : generation_of (last_of settings k history v) j ≡ (replica_at (volume_at t v) j).generation
-      number = ap (λ (volume : VolumeKnown). (replica_at volume j).generation) (sym is)
-
-      total : (replica_at (volume_at t v) j).generation
-          ≡ (replica_at (volume_at k v) j).generation + length (flat_map (made_on v (machine_of settings v j)) items) + weigh (hidden_at j) (first_of settings k v) (history.volumes v)
-      total = omega (arith, number, (grown h v j below within).generation, swaps_split j (first_of settings k v) (history.volumes v), number_made)
-
-      by : Hidden settings v (history.volumes v) j (first_of settings k v) (weigh (hidden_at j) (first_of settings k v) (history.volumes v)) (last_of settings k history v)
-          → ((replica_at (volume_at t v) j).generation ≡ (replica_at (volume_at k v) j).generation + length (flat_map (made_on v (machine_of settings v j)) items))
-          ⊎ (((replica_at (volume_at t v) j).generation ≡ (replica_at (volume_at k v) j).generation + length (flat_map (made_on v (machine_of settings v j)) items) + 1)
-          × ((volume_at t v).frozen ≡ Some (first_machine settings v))
-          × (item : LaneItem) × Contains items item × CompactsWith v (machine_of settings v j) IsNoMem item)
-      by (inl none) = inl (omega (arith, total, none.0))
-      by (inr one) =
-          let line = hider one.3 in
-          inr (omega (arith, total, one.0), frozen_is is ∙ one.2, line.0, line.1, line.2)
+      number = ap (λ (volume : VolumeKnown). (replica_at volume j).generation) (sym (h.volumes v below).volume)

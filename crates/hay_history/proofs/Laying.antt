@@ -1,5 +1,5 @@
 -- What each line's reply says of the counts, by its steps: which steps its counts are charged to, and what is laid to its arm.
-use Rattle.std.proofs.Common.{◌≡◌, ◌⊎◌, ℕ, ◌≤◌, ◌+◌, ◌-◌, ◌^◌, ◌==◌, Bool, true, false, not, List, [], ◌∷◌, ◌++◌, count_by, take_while, Contains, Option, Some, None, refl, sym, ap, subst, ◌∙◌, inl, inr, arith, unwrap_or}
+use Rattle.std.proofs.Common.{◌≡◌, ◌⊎◌, ℕ, ◌≤◌, ◌+◌, ◌-◌, ◌^◌, Bool, true, false, List, [], ◌∷◌, ◌++◌, count_by, Contains, Option, Some, None, refl, sym, ap, subst, ◌∙◌, inl, inr, arith, unwrap_or}
 use Rattle.std.specs.List.{AllByRecursion as Each, AllZip}
 use Rattle.std.proofs.lemmas.List.Elements.{Contains-push}
 use Rattle.hay_needle.specs.declared.needle.Pair.{Pair}
@@ -16,6 +16,7 @@ use Rattle.hay_legal.specs.declared.turn.Item.{Item}
 use Rattle.hay_legal.specs.declared.turn.Item.TheVariants as asks
 use Rattle.hay_legal.specs.Known.{EachPair, machine_of, replica_on}
 use Rattle.hay_legal.specs.Plain.{ArmRises, order_from, put_entry, start_of}
+use Rattle.hay_legal.specs.Blocks.{before_machine}
 use Rattle.hay_history.specs.Steps.{Did, RowStep, Step}
 use Rattle.hay_history.specs.Steps.Did.{Ends, Pends, Poises, Sticks, Tries}
 use Rattle.hay_history.specs.Histories.{Course, OneStep, own, own_rows, rows_standing}
@@ -102,13 +103,10 @@ pub record RowCharge (c : Course) (f : ℕ) : Type 0 where
   pub rose : Rose (rows_standing c place).faults (rows_standing c (place + 1)).faults
   pub printed : f ≡ (rows_standing c (place + 1)).faults
 
-abbrev pub before_on : Course → ℕ → ℕ → ℕ → List ℕ
-before_on c start v m = take_while (λ j. not (machine_of c.settings v j == m)) (order_from c.settings start)
-
 abbrev pub Laid : Course → ℕ → (ℕ → Bool) → Reply → Type 0
-Laid c start to_arm (reply.Photo v m p d bytes) = LaidOver c v to_arm (before_on c start v m)
-Laid c start to_arm (reply.Gone v m p d) = LaidOver c v to_arm (before_on c start v m)
-Laid c start to_arm (reply.WrongCookie v m p d) = LaidOver c v to_arm (before_on c start v m)
+Laid c start to_arm (reply.Photo v m p d bytes) = LaidOver c v to_arm (before_machine c.settings start v m)
+Laid c start to_arm (reply.Gone v m p d) = LaidOver c v to_arm (before_machine c.settings start v m)
+Laid c start to_arm (reply.WrongCookie v m p d) = LaidOver c v to_arm (before_machine c.settings start v m)
 Laid c start to_arm (reply.Unreadable v p d causes) = LaidAll c start v to_arm causes
 Laid c start to_arm (reply.Failed v m f) = (j : ℕ) × (replica_on c.settings v m ≡ Some j) × Charge c v j f
 Laid c start to_arm (reply.FailedDir f) = RowCharge c f
@@ -145,9 +143,9 @@ none_laid c start v causes each arms looks =
     (chosen.0, record { each = chosen.1; arms = arms })
 
 show_laid : (c : Course) (start : ℕ) (pair : Pair) (cookie : Cookie) (r : Reply) → ShowDid c start pair cookie r → LaidSo c start r
-show_laid c start pair cookie (reply.Photo v m p d bytes) h = ((h.passed).to_arm, over_laid c v (before_on c start v m) h.passed h.looks)
-show_laid c start pair cookie (reply.Gone v m p d) h = ((h.passed).to_arm, over_laid c v (before_on c start v m) h.passed h.looks)
-show_laid c start pair cookie (reply.WrongCookie v m p d) h = (((h.3).passed).to_arm, over_laid c v (before_on c start v m) (h.3).passed (h.3).looks)
+show_laid c start pair cookie (reply.Photo v m p d bytes) h = ((h.passed).to_arm, over_laid c v (before_machine c.settings start v m) h.passed h.looks)
+show_laid c start pair cookie (reply.Gone v m p d) h = ((h.passed).to_arm, over_laid c v (before_machine c.settings start v m) h.passed h.looks)
+show_laid c start pair cookie (reply.WrongCookie v m p d) h = (((h.3).passed).to_arm, over_laid c v (before_machine c.settings start v m) (h.3).passed (h.3).looks)
 show_laid c start pair cookie (reply.Unreadable v p d causes) h = none_laid c start v causes h.each h.arms h.looks
 show_laid c start pair cookie reply.NoMem h = (none_to_arm, tt)
 show_laid c start pair cookie r h = search (none_to_arm)
@@ -156,6 +154,7 @@ get_laid : (c : Course) (url : UrlParts) (on : Option ℕ) (r : Reply) → GetDi
 get_laid c url None reply.NoMem h = (none_to_arm, tt)
 get_laid c url None r h = search (none_to_arm)
 get_laid c url (Some start) (reply.Moved v d) h = (none_to_arm, tt)
+get_laid c url (Some start) reply.NoMem h = (none_to_arm, tt)
 get_laid c url (Some start) r h = show_laid c start url.pair url.cookie r h.0
 
 -- THE OTHER COMMANDS
@@ -179,7 +178,7 @@ put_laid c start pair bytes r h = search (none_to_arm)
 
 del_laid : (c : Course) (start : ℕ) (pair : Pair) (r : Reply) → DelDid c pair r → LaidSo c start r
 del_laid c start pair (reply.Failed v m f) h =
-    let quiet : is_quiet h.did ≡ true = elim h.which [ inl e ↦ ap is_quiet e | inr e ↦ ap is_quiet e ] in
+    let quiet : is_quiet h.did ≡ true = elim h.which [ inl e ↦ ap is_quiet e | inr e ↦ ap is_quiet e.0 ] in
     (none_to_arm, ((h.failed).0, (h.failed).1, step_charge c v (h.failed).0 f h.did h.step quiet (h.failed).2))
 del_laid c start pair reply.NoMem h = (none_to_arm, tt)
 del_laid c start pair r h = search (none_to_arm)

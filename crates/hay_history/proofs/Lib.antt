@@ -5,10 +5,12 @@ pub mod Changes
 pub mod Own
 pub mod Volumes
 pub mod Rows
+pub mod Takers
 pub mod Homes
 pub mod Fronts
 pub mod ReadLines
 pub mod PutLines
+pub mod Meeting
 pub mod CompactLines
 pub mod Answers
 pub mod Weights

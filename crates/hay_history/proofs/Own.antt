@@ -1,5 +1,5 @@
 -- What a line's own steps may be, by its command and its reply.
-use Rattle.std.proofs.Common.{◌≡◌, ◌⊎◌, inl, inr, ℕ, Bool, true, false, List, [], ◌∷◌, ◌++◌, Contains, Option, Some, None, refl, sym, ap, subst, ◌∙◌, ◌+◌, ◌<◌}
+use Rattle.std.proofs.Common.{◌≡◌, ◌⊎◌, inl, inr, ℕ, Bool, true, false, List, [], ◌∷◌, ◌++◌, length, Contains, Option, Some, None, refl, sym, ap, subst, ◌∙◌, ◌+◌, ◌<◌}
 use Rattle.std.specs.Prelude.{◌≢◌, ◌==◌, ◌&&◌}
 use Rattle.std.specs.List.{AllByRecursion as Each}
 use Rattle.std.proofs.lemmas.Bool.{cases_Bool, eq-eqb, eqb-true, eqb-false}
@@ -19,29 +19,26 @@ use Rattle.hay_legal.specs.declared.turn.Item.TheVariants as asks
 use Rattle.hay_legal.specs.declared.turn.LaneItem.{LaneItem}
 use Rattle.hay_legal.specs.Known.{EachPair, machine_of, replica_at, replica_on}
 use Rattle.hay_legal.specs.Plain.{first_machine, put_entry, start_of}
-use Rattle.hay_legal.specs.Blocks.{SticksBy, acknowledged, entry_of_item, is_compacted, is_failed}
-use Rattle.hay_legal.specs.Blocks.{Freezes as FreezesLine}
+use Rattle.hay_legal.specs.Blocks.{SticksBy, acknowledged, entry_of_item, is_compacted}
 use Rattle.hay_legal.proofs.Subject.Effects.{each_append}
 use Rattle.hay_history.specs.Steps.{Did, Step}
 use Rattle.hay_history.specs.Steps.Did.{Begins, Ends, Entered, Examines, Flushes, Freezes, Pends, Poises, Sticks, Swaps, Tries}
-use Rattle.hay_history.specs.Histories.{Course, NoSteps, OneStep, OnlyOn, own, volume_then}
-use Rattle.hay_history.specs.Commands.{CommandDid, CompactDid, CompactFailed, CompactRefused, CompactWanting, DelDid, FlushDid, GetDid, ItemDid, LookWanting, MayPend, OnlyLooks, PutDid, Ran, RanTo, ShowDid, UrlDid}
-use Rattle.hay_history.proofs.Changes.{FreezesAs}
+use Rattle.hay_history.specs.Histories.{Course, NoSteps, OneStep, OnlyOn, SeesHome, SeesOpen, closing_then, own, refusal_then, volume_then}
+use Rattle.hay_history.specs.Commands.{CommandDid, CompactDid, CompactFailed, CompactRefused, CompactWanting, DelDid, FlushDid, GetDid, ItemDid, LeftPending, LookFroze, LookWanting, OnlyLooks, PutDid, Ran, RanTo, ShowDid, UrlDid, stood_then}
 use Rattle.hay_history.proofs.Placing.{machine_there}
-use Rattle.hay_history.proofs.Lists.{each_in, first_or_rest, none_in}
+use Rattle.hay_history.proofs.Lists.{each_in, first_or_rest, none_in, one_in}
 use Rattle.hay_history.proofs.Lines.{own_in_order}
 
 -- a line asks for the compaction of replica j
 abbrev pub IsCompact : Settings → Item → ℕ → ℕ → ℕ → Type 0
 IsCompact settings item v m j = (item ≡ asks.Command (command.Compact v m)) × (replica_on settings v m ≡ Some j)
 
--- a command that may freeze the volume v
-abbrev pub MayFreeze : ℕ → Item → Type 0
-MayFreeze v (asks.Command (command.Flush u m)) = ⊥
-MayFreeze v (asks.Command (command.Url pair)) = ⊥
-MayFreeze v (asks.Command (command.Compact u m)) = u ≡ v
-MayFreeze v (asks.Command _) = Unit {0}
-MayFreeze v asks.Bad = ⊥
+-- a command that looks at places of its pair's home
+abbrev pub MayLook : Item → Type 0
+MayLook (asks.Command (command.Read pair cookie)) = Unit {0}
+MayLook (asks.Command (command.Get url)) = Unit {0}
+MayLook (asks.Command (command.Del pair)) = Unit {0}
+MayLook _ = ⊥
 
 -- A line with this item and this reply may have done this on the volume v.
 abbrev pub MayDo : Settings → Item → Reply → ℕ → Did → Type 0
@@ -49,7 +46,7 @@ MayDo settings item reply v Tries = Unit {0}
 MayDo settings item reply v (Entered change) = (entry_of_item settings item ≡ Some change) × (p : ℕ) × (acknowledged reply ≡ Some (v, p))
 MayDo settings item reply v (Pends m change true) = (entry_of_item settings item ≡ Some change) × (f : ℕ) × (reply ≡ Failed v m f)
 MayDo settings item reply v (Pends m change false) = (entry_of_item settings item ≡ Some change) × (reply ≡ NoMem) × (m ≡ first_machine settings v)
-MayDo settings item reply v (Freezes m) = MayFreeze v item × (reply ≡ NoMem) × (m ≡ first_machine settings v)
+MayDo settings item reply v (Freezes m) = MayLook item × (reply ≡ NoMem) × (m ≡ first_machine settings v)
 MayDo settings item reply v (Flushes j) =
     (m : ℕ) × (n : ℕ) × (item ≡ asks.Command (command.Flush v m)) × (replica_on settings v m ≡ Some j) × (reply ≡ Flushed v m n)
 MayDo settings item reply v (Sticks j) =
@@ -110,22 +107,20 @@ module _ (c : Course) (item : Item) (reply : Reply) where
   pub may_look : (u : ℕ) → OnlyLooks c u → AllMay
   may_look u looks = may_each u (λ did. did ≡ Tries) looks.1 looks.2 (λ did is. subst (λ (d : Did). Does u d) (sym is) tt)
 
-  pub may_pend : (change : Entry) → entry_of_item c.settings item ≡ Some change → reply ≡ NoMem → MayPend c change → AllMay
-  may_pend change is_change wanting h =
-      elim h [
-        | inl none ↦ may_none none
-        | inr some ↦ may_one some.0 (Pends (first_machine c.settings some.0) change false) some.2 some.3 (is_change, wanting, refl)
-      ]
+  pub may_pend : (pair : Pair) (change : Entry) (Takes : ℕ → ℕ → Type 0) → entry_of_item c.settings item ≡ Some change → reply ≡ NoMem
+      → LeftPending c pair change Takes → AllMay
+  may_pend pair change Takes is_change wanting left =
+      may_one left.v (Pends (first_machine c.settings left.v) change false) left.elsewhere left.step (is_change, wanting, refl)
 
-  pub may_want : ((v : ℕ) → MayFreeze v item) → reply ≡ NoMem → LookWanting c → AllMay
-  may_want freezes wanting h =
-      elim h.1 [
-        | inl none ↦ may_none none
-        | inr some ↦ may_each some.0 (λ did. (did ≡ Tries) ⊎ (did ≡ Freezes (first_machine c.settings some.0))) some.2 some.3 (λ did q. elim q [
-          | inl is ↦ subst (λ (d : Did). Does some.0 d) (sym is) tt
-          | inr is ↦ subst (λ (d : Did). Does some.0 d) (sym is) (freezes some.0, wanting, refl)
-        ])
-      ]
+  pub may_freeze : (pair : Pair) → MayLook item → reply ≡ NoMem → LookFroze c pair → AllMay
+  may_freeze pair looks wanting froze =
+      may_each froze.v (λ did. (did ≡ Tries) ⊎ (did ≡ Freezes (first_machine c.settings froze.v))) froze.elsewhere froze.steps (λ did q. elim q [
+        | inl is ↦ subst (λ (d : Did). Does froze.v d) (sym is) tt
+        | inr is ↦ subst (λ (d : Did). Does froze.v d) (sym is) (looks, wanting, refl)
+      ])
+
+  pub may_want : (pair : Pair) → MayLook item → reply ≡ NoMem → LookWanting c pair → AllMay
+  may_want pair looks wanting h = elim h.1 [ inl none ↦ may_none none | inr froze ↦ may_freeze pair looks wanting froze ]
 
   -- the examining steps of a compaction
   examines_each : (u m j : ℕ) → IsCompact c.settings item u m j → (middle : List (ℕ × Step))
@@ -157,23 +152,31 @@ put_may c pair bytes (Failed u m f) h =
 put_may c pair bytes NoMem h =
     elim h [
       | inl pends ↦ may_none c (asks.Command (command.Put pair bytes)) NoMem pends.0
-      | inr changes ↦ may_pend c (asks.Command (command.Put pair bytes)) NoMem (put_entry c.settings pair bytes) refl refl changes.1
+      | inr changes ↦ elim changes.1 [
+        | inl none ↦ may_none c (asks.Command (command.Put pair bytes)) NoMem none
+        | inr left ↦ may_pend c (asks.Command (command.Put pair bytes)) NoMem pair (put_entry c.settings pair bytes)
+            (λ v n. refusal_then c v n (length bytes) ≡ None) refl refl left
+      ]
     ]
 put_may c pair bytes reply h = search (h, may_none c (asks.Command (command.Put pair bytes)) reply)
 
-show_may : (c : Course) (item : Item) (start : ℕ) (pair : Pair) (cookie : Cookie) (reply : Reply) → ((v : ℕ) → MayFreeze v item) → ShowDid c start pair cookie reply → AllMay c item reply
+show_may : (c : Course) (item : Item) (start : ℕ) (pair : Pair) (cookie : Cookie) (reply : Reply) → MayLook item → ShowDid c start pair cookie reply → AllMay c item reply
 show_may c item start pair cookie (Photo u m p d bytes) other h = may_look c item (Photo u m p d bytes) u h.looks
 show_may c item start pair cookie (Gone u m p d) other h = may_look c item (Gone u m p d) u h.looks
 show_may c item start pair cookie (WrongCookie u m p d) other h = may_look c item (WrongCookie u m p d) u (h.3).looks
 show_may c item start pair cookie (Unreadable u p d causes) other h = may_look c item (Unreadable u p d causes) u h.looks
-show_may c item start pair cookie NoMem other h = may_want c item NoMem other refl h
+show_may c item start pair cookie NoMem other h = may_want c item NoMem pair other refl h
 show_may c item start pair cookie reply other h = search (h, may_none c item reply)
 
 get_may : (c : Course) (url : UrlParts) (o : Option ℕ) (reply : Reply) → GetDid c url o reply → AllMay c (asks.Command (command.Get url)) reply
 get_may c url None NoMem h = may_none c (asks.Command (command.Get url)) NoMem h.0
 get_may c url None reply h = search (h, may_none c (asks.Command (command.Get url)) reply)
 get_may c url (Some start) (Moved u d) h = may_none c (asks.Command (command.Get url)) (Moved u d) (h.2).0
-get_may c url (Some start) reply h = show_may c (asks.Command (command.Get url)) start url.pair url.cookie reply (λ v. tt) h.0
+get_may c url (Some start) NoMem h = elim h.1 [
+  | inl none ↦ may_none c (asks.Command (command.Get url)) NoMem none
+  | inr froze ↦ may_freeze c (asks.Command (command.Get url)) NoMem url.pair tt refl froze.0
+]
+get_may c url (Some start) reply h = show_may c (asks.Command (command.Get url)) start url.pair url.cookie reply tt h.0
 
 del_may : (c : Course) (pair : Pair) (reply : Reply) → DelDid c pair reply → AllMay c (asks.Command (command.Del pair)) reply
 del_may c pair (Deleted u p d) h =
@@ -181,12 +184,16 @@ del_may c pair (Deleted u p d) h =
 del_may c pair (Failed u m f) h =
     may_one c (asks.Command (command.Del pair)) (Failed u m f) u h.did h.elsewhere h.step (elim (h.which) [
       | inl is ↦ subst (λ (d : Did). MayDo c.settings (asks.Command (command.Del pair)) (Failed u m f) u d) (sym is) tt
-      | inr is ↦ subst (λ (d : Did). MayDo c.settings (asks.Command (command.Del pair)) (Failed u m f) u d) (sym is) (refl, f, refl)
+      | inr is ↦ subst (λ (d : Did). MayDo c.settings (asks.Command (command.Del pair)) (Failed u m f) u d) (sym is.0) (refl, f, refl)
     ])
 del_may c pair NoMem h =
-    elim h [
-      | inl changes ↦ may_pend c (asks.Command (command.Del pair)) NoMem (entry.Del pair) refl refl changes.1
-      | inr looks ↦ may_want c (asks.Command (command.Del pair)) NoMem (λ v. tt) refl looks
+    elim h.1 [
+      | inl none ↦ may_none c (asks.Command (command.Del pair)) NoMem none
+      | inr some ↦ elim some [
+        | inl froze ↦ may_freeze c (asks.Command (command.Del pair)) NoMem pair tt refl froze.0
+        | inr left ↦ may_pend c (asks.Command (command.Del pair)) NoMem pair (entry.Del pair)
+            (λ v n. (closing_then c v n ≡ None) × (stood_then c v n pair ≡ true)) refl refl left
+      ]
     ]
 del_may c pair reply h = search (h, may_none c (asks.Command (command.Del pair)) reply)
 
@@ -243,7 +250,7 @@ compact_may c u m (Some j) reply there h = search (h, may_none c (asks.Command (
 
 command_may : (c : Course) (request : Command) (reply : Reply) → CommandDid c request reply → AllMay c (asks.Command request) reply
 command_may c (command.Put pair bytes) reply h = put_may c pair bytes reply h
-command_may c (command.Read pair cookie) reply h = show_may c (asks.Command (command.Read pair cookie)) (start_of c.settings c.tag) pair cookie reply (λ v. tt) h
+command_may c (command.Read pair cookie) reply h = show_may c (asks.Command (command.Read pair cookie)) (start_of c.settings c.tag) pair cookie reply tt h
 command_may c (command.Get url) reply h = get_may c url (replica_on c.settings url.volume url.machine) reply h
 command_may c (command.Del pair) reply h = del_may c pair reply h
 command_may c (command.Url pair) reply h = url_may c pair reply h
@@ -255,6 +262,144 @@ command_may c _ reply h = absurd h
 pub item_may : (c : Course) (item : Item) (reply : Reply) → ItemDid c item reply → AllMay c item reply
 item_may c (asks.Command request) reply h = command_may c request reply h
 item_may c asks.Bad reply h = may_none c asks.Bad reply (h.1).0
+
+-- WHAT A LINE SAW OF A VOLUME THAT IT FROZE
+
+-- that its change was taken, where it left it pending at this place
+abbrev pub SawTaken : Course → Item → ℕ → ℕ → Type 0
+SawTaken c (asks.Command (command.Put pair bytes)) v n = ((d : ℕ) × SeesHome c pair d (Some v)) × (refusal_then c v n (length bytes) ≡ None)
+SawTaken c (asks.Command (command.Del pair)) v n =
+    ((d : ℕ) × SeesHome c pair d (Some v)) × (closing_then c v n ≡ None) × (stood_then c v n pair ≡ true)
+SawTaken c _ v n = ⊥
+
+-- that it is the home of its pair, where it looked at places of it
+abbrev pub SawHome : Course → Item → ℕ → Type 0
+SawHome c (asks.Command (command.Read pair cookie)) v = (d : ℕ) × SeesHome c pair d (Some v)
+SawHome c (asks.Command (command.Get url)) v = ((d : ℕ) × SeesHome c url.pair d (Some v)) × (v ≡ url.volume)
+SawHome c (asks.Command (command.Del pair)) v = ((d : ℕ) × SeesHome c pair d (Some v)) × SeesOpen c v
+SawHome c _ v = ⊥
+
+abbrev pub Saw : Course → Item → ℕ → ℕ → Did → Type 0
+Saw c item v n (Pends m change failed) = SawTaken c item v n
+Saw c item v n (Freezes m) = SawHome c item v
+Saw c item v n _ = Unit {0}
+
+module _ (c : Course) (item : Item) where
+  abbrev pub AllSaw : Type 0
+  AllSaw = (v : ℕ) (at : ℕ × Step) → Contains (own c v) at → Saw c item v at.0 (at.1).did
+
+  saw_none : NoSteps c → AllSaw
+  saw_none none v at among = absurd (no_step c v at none among)
+
+  saw_on : (u : ℕ) → OnlyOn c u → ((at : ℕ × Step) → Contains (own c u) at → Saw c item u at.0 (at.1).did) → AllSaw
+  saw_on u only each v at among =
+      let there : u ≡ v = only_there c u v at only among in
+      subst (λ (w : ℕ). Saw c item w at.0 (at.1).did) there (each at (subst (λ (w : ℕ). Contains (own c w) at) (sym there) among))
+
+  saw_one : (u : ℕ) (did : Did) → OnlyOn c u → (one : OneStep c u did) → Saw c item u one.place did → AllSaw
+  saw_one u did only one saw =
+      saw_on u only (λ at among.
+      subst (λ (x : ℕ × Step). Saw c item u x.0 (x.1).did) (one_in (one.place, one.step) at (subst (λ (l : List (ℕ × Step)). Contains l at) one.only among))
+      (subst (λ (d : Did). Saw c item u one.place d) (sym one.is) saw))
+
+  saw_look : (u : ℕ) → OnlyLooks c u → AllSaw
+  saw_look u looks =
+      saw_on u looks.1 (λ at among.
+      subst (λ (d : Did). Saw c item u at.0 d) (sym (each_in (λ (x : ℕ × Step). (x.1).did ≡ Tries) (own c u) at looks.2 among)) tt)
+
+  saw_froze : (pair : Pair) → (froze : LookFroze c pair) → SawHome c item froze.v → AllSaw
+  saw_froze pair froze saw =
+      saw_on froze.v froze.elsewhere (λ at among.
+      elim (each_in (λ (x : ℕ × Step). ((x.1).did ≡ Tries) ⊎ ((x.1).did ≡ Freezes (first_machine c.settings froze.v))) (own c froze.v) at froze.steps among) [
+        | inl is ↦ subst (λ (d : Did). Saw c item froze.v at.0 d) (sym is) tt
+        | inr is ↦ subst (λ (d : Did). Saw c item froze.v at.0 d) (sym is) saw
+      ])
+
+  -- a line that makes no change and looks at no place froze no volume so
+  saw_idle : (reply : Reply) → entry_of_item c.settings item ≡ None → (MayLook item → ⊥) → AllMay c item reply → AllSaw
+  saw_idle reply none looks may v at among = by (at.1).did (may v at among)
+    where
+      by : (did : Did) → MayDo c.settings item reply v did → Saw c item v at.0 did
+      by (Pends m change true) does = let clash : None ≡ Some change = sym none ∙ does.0 in absurd cc
+      by (Pends m change false) does = let clash : None ≡ Some change = sym none ∙ does.0 in absurd cc
+      by (Freezes m) does = absurd (looks does.0)
+      by _ does = tt
+
+put_saw : (c : Course) (pair : Pair) (bytes : List ℕ) (reply : Reply) → PutDid c pair bytes reply → AllSaw c (asks.Command (command.Put pair bytes))
+put_saw c pair bytes (Stored u p d cookie) h =
+    saw_one c (asks.Command (command.Put pair bytes)) u (Entered (entry.Put pair cookie bytes)) h.elsewhere h.step tt
+put_saw c pair bytes (Failed u m f) h =
+    saw_one c (asks.Command (command.Put pair bytes)) u (Pends m (put_entry c.settings pair bytes) true) h.elsewhere h.step ((h.d, h.home), h.room)
+put_saw c pair bytes NoMem h =
+    elim h [
+      | inl pends ↦ saw_none c (asks.Command (command.Put pair bytes)) pends.0
+      | inr changes ↦ elim changes.1 [
+        | inl none ↦ saw_none c (asks.Command (command.Put pair bytes)) none
+        | inr left ↦ saw_one c (asks.Command (command.Put pair bytes)) left.v (Pends (first_machine c.settings left.v) (put_entry c.settings pair bytes) false)
+            left.elsewhere left.step ((left.d, left.home), left.takes)
+      ]
+    ]
+put_saw c pair bytes reply h = search (h, saw_none c (asks.Command (command.Put pair bytes)))
+
+show_saw : (c : Course) (item : Item) (start : ℕ) (pair : Pair) (cookie : Cookie) (reply : Reply) → (reply ≡ NoMem → LookWanting c pair → AllSaw c item)
+    → ShowDid c start pair cookie reply → AllSaw c item
+show_saw c item start pair cookie (Photo u m p d bytes) wants h = saw_look c item u h.looks
+show_saw c item start pair cookie (Gone u m p d) wants h = saw_look c item u h.looks
+show_saw c item start pair cookie (WrongCookie u m p d) wants h = saw_look c item u (h.3).looks
+show_saw c item start pair cookie (Unreadable u p d causes) wants h = saw_look c item u h.looks
+show_saw c item start pair cookie NoMem wants h = wants refl h
+show_saw c item start pair cookie reply wants h = search (h, saw_none c item)
+
+get_saw : (c : Course) (url : UrlParts) (o : Option ℕ) (reply : Reply) → GetDid c url o reply → AllSaw c (asks.Command (command.Get url))
+get_saw c url None NoMem h = saw_none c (asks.Command (command.Get url)) h.0
+get_saw c url None reply h = search (h, saw_none c (asks.Command (command.Get url)))
+get_saw c url (Some start) (Moved u d) h = saw_none c (asks.Command (command.Get url)) (h.2).0
+get_saw c url (Some start) NoMem h = elim h.1 [
+  | inl none ↦ saw_none c (asks.Command (command.Get url)) none
+  | inr froze ↦ saw_froze c (asks.Command (command.Get url)) url.pair froze.0 (((froze.0).d, (froze.0).home), froze.1)
+]
+get_saw c url (Some start) reply h = show_saw c (asks.Command (command.Get url)) start url.pair url.cookie reply (λ is look. absurd cc) h.0
+
+del_saw : (c : Course) (pair : Pair) (reply : Reply) → DelDid c pair reply → AllSaw c (asks.Command (command.Del pair))
+del_saw c pair (Deleted u p d) h = saw_one c (asks.Command (command.Del pair)) u (Entered (entry.Del pair)) h.elsewhere h.step tt
+del_saw c pair (Failed u m f) h =
+    saw_one c (asks.Command (command.Del pair)) u h.did h.elsewhere h.step (elim h.which [
+      | inl is ↦ subst (λ (d : Did). Saw c (asks.Command (command.Del pair)) u (h.step).place d) (sym is) tt
+      | inr is ↦ subst (λ (d : Did). Saw c (asks.Command (command.Del pair)) u (h.step).place d) (sym is.0) ((h.d, h.home), h.«open», is.1)
+    ])
+del_saw c pair NoMem h =
+    elim h.1 [
+      | inl none ↦ saw_none c (asks.Command (command.Del pair)) none
+      | inr some ↦ elim some [
+        | inl froze ↦ saw_froze c (asks.Command (command.Del pair)) pair froze.0 (((froze.0).d, (froze.0).home), froze.1)
+        | inr left ↦ saw_one c (asks.Command (command.Del pair)) left.v (Pends (first_machine c.settings left.v) (entry.Del pair) false)
+            left.elsewhere left.step ((left.d, left.home), (left.takes).0, (left.takes).1)
+      ]
+    ]
+del_saw c pair reply h = search (h, saw_none c (asks.Command (command.Del pair)))
+
+command_saw : (c : Course) (request : Command) (reply : Reply) → CommandDid c request reply → AllSaw c (asks.Command request)
+command_saw c (command.Put pair bytes) reply h = put_saw c pair bytes reply h
+command_saw c (command.Read pair cookie) reply h =
+    show_saw c (asks.Command (command.Read pair cookie)) (start_of c.settings c.tag) pair cookie reply
+    (λ is look. elim look.1 [
+      | inl none ↦ saw_none c (asks.Command (command.Read pair cookie)) none
+      | inr froze ↦ saw_froze c (asks.Command (command.Read pair cookie)) pair froze (froze.d, froze.home)
+    ])
+    h
+command_saw c (command.Get url) reply h = get_saw c url (replica_on c.settings url.volume url.machine) reply h
+command_saw c (command.Del pair) reply h = del_saw c pair reply h
+command_saw c (command.Url pair) reply h = saw_idle c (asks.Command (command.Url pair)) reply refl (λ never. never) (url_may c pair reply h)
+command_saw c (command.Flush u m) reply h =
+    saw_idle c (asks.Command (command.Flush u m)) reply refl (λ never. never) (flush_may c u m (replica_on c.settings u m) reply refl h)
+command_saw c (command.Compact u m) reply h =
+    saw_idle c (asks.Command (command.Compact u m)) reply refl (λ never. never) (compact_may c u m (replica_on c.settings u m) reply refl h)
+command_saw c _ reply h = absurd h
+
+-- a line saw what its command needs of a volume that it froze
+pub item_saw : (c : Course) (item : Item) (reply : Reply) → ItemDid c item reply → AllSaw c item
+item_saw c (asks.Command request) reply h = command_saw c request reply h
+item_saw c asks.Bad reply h = saw_none c asks.Bad (h.1).0
 
 -- WHERE THE STEPS OF A COMPACTION ARE
 
@@ -372,6 +517,7 @@ get_says : (c : Course) (url : UrlParts) (o : Option ℕ) (r : Reply) → GetDid
 get_says c url None NoMem h = tt
 get_says c url None r h = assumption (h)
 get_says c url (Some start) (Moved v d) h = tt
+get_says c url (Some start) NoMem h = tt
 get_says c url (Some start) r h = show_says c start url.pair url.cookie r h.0
 
 flush_says : (c : Course) (u m : ℕ) (o : Option ℕ) (r : Reply) → FlushDid c u m o r → Says (asks.Command (command.Flush u m)) r
@@ -408,51 +554,6 @@ item_says c asks.Bad r h = subst (Says asks.Bad) (sym h.0) tt
 -- a reply, as a line of a block
 abbrev pub line_of : ℕ → ℕ → Item → Reply → LaneItem
 line_of line lane item reply = record { line = line; lane = lane; item = item; reply = reply }
-
-failed_freezes : (settings : Settings) (v m m' f line lane : ℕ) (item : Item) → MayFreeze v item → m' ≡ m → FreezesLine settings v m (line_of line lane item (Failed v m' f))
-failed_freezes settings v m m' f line lane (asks.Command (command.Flush u n)) may same = absurd may
-failed_freezes settings v m m' f line lane (asks.Command (command.Url pair)) may same = absurd may
-failed_freezes settings v m m' f line lane (asks.Command _) may same = (refl, same)
-failed_freezes settings v m m' f line lane asks.Bad may same = absurd may
-
-wanting_freezes : (settings : Settings) (v m line lane : ℕ) (item : Item) → MayFreeze v item → m ≡ first_machine settings v → FreezesLine settings v m (line_of line lane item NoMem)
-wanting_freezes settings v m line lane (asks.Command (command.Flush u n)) may same = absurd may
-wanting_freezes settings v m line lane (asks.Command (command.Url pair)) may same = absurd may
-wanting_freezes settings v m line lane (asks.Command (command.Compact u n)) may same = (may, same)
-wanting_freezes settings v m line lane (asks.Command _) may same = same
-wanting_freezes settings v m line lane asks.Bad may same = absurd may
-
-pub entry_may_freeze : (settings : Settings) (v : ℕ) (item : Item) (change : Entry) → entry_of_item settings item ≡ Some change → MayFreeze v item
-entry_may_freeze settings v (asks.Command (command.Flush u n)) change is = let no : None ≡ Some change = is in absurd cc
-entry_may_freeze settings v (asks.Command (command.Url pair)) change is = let no : None ≡ Some change = is in absurd cc
-entry_may_freeze settings v (asks.Command (command.Compact u n)) change is = let no : None ≡ Some change = is in absurd cc
-entry_may_freeze settings v (asks.Command _) change is = tt
-entry_may_freeze settings v asks.Bad change is = let no : None ≡ Some change = is in absurd cc
-
--- a step that freezes the volume is that of a line whose reply says so
-pub freezes_line : (settings : Settings) (v m line lane : ℕ) (item : Item) (reply : Reply) (did : Did) → MayDo settings item reply v did → FreezesAs settings v m did
-    → FreezesLine settings v m (line_of line lane item reply)
-freezes_line settings v m line lane item reply (Pends m' change true) may is =
-    subst (λ (r : Reply). FreezesLine settings v m (line_of line lane item r)) (sym may.2)
-    (failed_freezes settings v m m' may.1 line lane item (entry_may_freeze settings v item change may.0) is)
-freezes_line settings v m line lane item reply (Pends m' change false) may is =
-    subst (λ (r : Reply). FreezesLine settings v m (line_of line lane item r)) (sym may.1)
-    (wanting_freezes settings v m line lane item (entry_may_freeze settings v item change may.0) (sym is ∙ may.2))
-freezes_line settings v m line lane item reply (Freezes m') may is =
-    subst (λ (r : Reply). FreezesLine settings v m (line_of line lane item r)) (sym may.1) (wanting_freezes settings v m line lane item may.0 (sym is ∙ may.2))
-freezes_line settings v m line lane item reply (Swaps j end cells true) may is =
-    subst (λ (r : Reply). FreezesLine settings v m (line_of line lane item r)) (sym may.2)
-    (wanting_freezes settings v m line lane item (subst (MayFreeze v) (sym (may.1).0) refl) is)
-freezes_line settings v m line lane item reply (Poises m' j) may is =
-    subst (λ (r : Reply). FreezesLine settings v m (line_of line lane item r)) (sym may.2)
-    (failed_freezes settings v m m' may.0 line lane item (subst (MayFreeze v) (sym (may.1).0) refl) is)
-freezes_line settings v m line lane item reply _ may is = absurd is
-
--- what is pending is the line's change, and the reply says whether a disk failed
-pub pends_line : (settings : Settings) (v m : ℕ) (change : Entry) (failed : Bool) (item : Item) (reply : Reply) → MayDo settings item reply v (Pends m change failed)
-    → (entry_of_item settings item ≡ Some change) × (failed ≡ is_failed reply)
-pends_line settings v m change true item reply may = (may.0, sym (ap is_failed may.2))
-pends_line settings v m change false item reply may = (may.0, sym (ap is_failed may.1))
 
 -- a step that leaves an index stuck is that of a flush whose reply says so
 pub sticks_line : (settings : Settings) (v j line lane : ℕ) (item : Item) (reply : Reply) → MayDo settings item reply v (Sticks j)

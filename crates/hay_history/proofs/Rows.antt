@@ -23,7 +23,7 @@ use Rattle.hay_legal.specs.declared.turn.Item.TheVariants as asks
 use Rattle.hay_legal.specs.declared.turn.LaneItem.{LaneItem}
 use Rattle.hay_legal.specs.Known.{home_in, home_of, replica_on}
 use Rattle.hay_legal.specs.Plain.{start_of}
-use Rattle.hay_legal.specs.Blocks.{DirectoryMayBeFrozen, FreezesDirectory, HomeAt, tag_of}
+use Rattle.hay_legal.specs.Blocks.{HomeAt, MayHaveAdded, MayHaveFrozen, tag_of}
 use Rattle.hay_legal.proofs.Subject.Effects.{each_append, each_try, home_stays}
 use Rattle.hay_legal.proofs.Subject.Entries.{home_bounded}
 use Rattle.hay_history.specs.Steps.{FollowsRows, LeadsRows, RowDid, RowsStanding, RowStep}
@@ -71,20 +71,19 @@ stays_frozen_step tag (PendsRow row) a b h le frozen = absurd (true≢false (sym
 
 abbrev pub HasRows : Course → Pair → List ℕ → Reply → Type 0
 HasRows c pair bytes reply =
-    AddedRow c pair (length bytes)
-    ⊎ (RowPends c pair × FreezesDirectory (record { line = 0; lane = 0; item = asks.Command (command.Put pair bytes); reply = reply }))
+    (AddedRow c pair (length bytes) × MayHaveAdded reply) ⊎ (RowPends c pair (length bytes) × MayHaveFrozen reply)
 
 put_rows : (c : Course) (pair : Pair) (bytes : List ℕ) (reply : Reply) → PutDid c pair bytes reply → NoRows c ⊎ HasRows c pair bytes reply
-put_rows c pair bytes (Stored v p d cookie) h = elim h.row [ inl none ↦ inl none | inr added ↦ inr (inl added) ]
-put_rows c pair bytes (Full refused) h = elim (h.0).row [ inl none ↦ inl none | inr added ↦ inr (inl added) ]
-put_rows c pair bytes (ReadOnly by) h = elim h.row [ inl none ↦ inl none | inr added ↦ inr (inl added) ]
+put_rows c pair bytes (Stored v p d cookie) h = elim h.row [ inl none ↦ inl none | inr added ↦ inr (inl (added, tt)) ]
+put_rows c pair bytes (Full refused) h = elim (h.0).row [ inl none ↦ inl none | inr added ↦ inr (inl (added, tt)) ]
+put_rows c pair bytes (ReadOnly by) h = elim h.row [ inl none ↦ inl none | inr added ↦ inr (inl (added, tt)) ]
 put_rows c pair bytes ReadOnlyDir h = inl h.1
-put_rows c pair bytes (Failed v m f) h = elim h.row [ inl none ↦ inl none | inr added ↦ inr (inl added) ]
+put_rows c pair bytes (Failed v m f) h = elim h.row [ inl none ↦ inl none | inr added ↦ inr (inl (added, tt)) ]
 put_rows c pair bytes (FailedDir f) h = inr (inr (h.pends, tt))
 put_rows c pair bytes NoMem h =
     elim h [
       | inl pends ↦ inr (inr (pends.1, tt))
-      | inr wanting ↦ elim wanting.0 [ inl none ↦ inl none | inr added ↦ inr (inl added) ]
+      | inr wanting ↦ elim wanting.0 [ inl none ↦ inl none | inr added ↦ inr (inl (added, tt)) ]
     ]
 put_rows c pair bytes _ h = absurd h
 
@@ -94,12 +93,13 @@ show_rows c start pair cookie r h = search (h)
 
 get_rows : (c : Course) (url : UrlParts) (o : Option ℕ) (reply : Reply) → GetDid c url o reply → NoRows c
 get_rows c url (Some start) (Moved v d) h = h.2.1
+get_rows c url (Some start) NoMem h = h.0
 get_rows c url (Some start) reply h = show_rows c start url.pair url.cookie reply h.0
 get_rows c url None NoMem h = h.1
 get_rows c url None reply h = search (h)
 
 del_rows : (c : Course) (pair : Pair) (reply : Reply) → DelDid c pair reply → NoRows c
-del_rows c pair NoMem h = elim h [ inl pends ↦ pends.0 | inr looks ↦ looks.0 ]
+del_rows c pair NoMem h = h.0
 del_rows c pair r h = search (h)
 
 url_rows : (c : Course) (pair : Pair) (reply : Reply) → UrlDid c pair reply → NoRows c
@@ -169,19 +169,22 @@ pub record RowsLine (settings : Settings) (k : Known) (items : List LaneItem) (h
   pub pair : Pair
   pub bytes : List ℕ
   pub put : item.item ≡ asks.Command (command.Put pair bytes)
+  pub reply : MayHaveAdded item.reply
   pub added : AddedRow (course_of h item) pair (length bytes)
   pub is : added.row ≡ row
 
 -- the line that froze the Directory with a row pending
-pub record PendsLine (items : List LaneItem) (tag : CoreTag) (row : HomeRow) : Type 0 where
+pub record PendsLine (settings : Settings) (k : Known) (items : List LaneItem) (history : History) (t : Known) (h : Came settings k items history t) (tag : CoreTag) (row : HomeRow)
+    : Type 0 where
   pub item : LaneItem
   pub among : Contains items item
   pub own : tag_of item ≡ tag
   pub pair : Pair
   pub bytes : List ℕ
   pub put : item.item ≡ asks.Command (command.Put pair bytes)
-  pub pending_pair : row.pair ≡ pair
-  pub freezes : FreezesDirectory item
+  pub reply : MayHaveFrozen item.reply
+  pub pends : RowPends (course_of h item) pair (length bytes)
+  pub is : record { pair = pair; volume = pends.v } ≡ row
 
 -- an own step that is the only one did what that did
 own_did : (c : Course) (did : RowDid) (i : ℕ) (s : RowStep) → OneRowStep c did → Contains (own_rows c) (i, s) → s.did ≡ did
@@ -197,8 +200,8 @@ adds_of h i s row did item among tag own rows =
       | inl none ↦ absurd (none_contained _ _ none own)
       | inr (pair, bytes, put, has) ↦ elim has [
         | inl added ↦
-            let same : AddsRow added.row ≡ AddsRow row = sym (own_did (course_of h item) (AddsRow added.row) i s added.step own) ∙ did in
-            record { item = item; among = among; own = tag; pair = pair; bytes = bytes; put = put; added = added; is = cc }
+            let same : AddsRow (added.0).row ≡ AddsRow row = sym (own_did (course_of h item) (AddsRow (added.0).row) i s (added.0).step own) ∙ did in
+            record { item = item; among = among; own = tag; pair = pair; bytes = bytes; put = put; reply = added.1; added = added.0; is = cc }
         | inr pends ↦
             let other : PendsRow (record { pair = pair; volume = (pends.0).v }) ≡ AddsRow row =
             sym (own_did (course_of h item) (PendsRow (record { pair = pair; volume = (pends.0).v })) i s (pends.0).step own) ∙ did in
@@ -213,38 +216,29 @@ adds_line h i s row at did =
     adds_of h i s row did found.0 found.1 found.2 found.3
     (item_rows (course_of h found.0) (found.0).item (found.0).reply (answered h found.0 found.1).did)
 
-pends_of : (items : List LaneItem) (c : Course)
+pends_of : {settings : Settings} {k : Known} {items : List LaneItem} {history : History} {t : Known} (h : Came settings k items history t)
     (i : ℕ) (s : RowStep) (row : HomeRow) → s.did ≡ PendsRow row → (item : LaneItem) → Contains items item → tag_of item ≡ s.tag
-    → Contains (own_rows c) (i, s) → NoRows c ⊎ PutHasRows c item.item item.reply
-    → PendsLine items s.tag row
-pends_of items c i s row did item among tag own rows =
+    → Contains (own_rows (course_of h item)) (i, s) → NoRows (course_of h item) ⊎ PutHasRows (course_of h item) item.item item.reply
+    → PendsLine settings k items history t h s.tag row
+pends_of h i s row did item among tag own rows =
     elim rows [
       | inl none ↦ absurd (none_contained _ _ none own)
       | inr (pair, bytes, put, has) ↦ elim has [
         | inl added ↦
-            let other : AddsRow added.row ≡ PendsRow row = sym (own_did c (AddsRow added.row) i s added.step own) ∙ did in absurd cc
+            let other : AddsRow (added.0).row ≡ PendsRow row =
+            sym (own_did (course_of h item) (AddsRow (added.0).row) i s (added.0).step own) ∙ did in absurd cc
         | inr pends ↦
             let same : PendsRow (record { pair = pair; volume = (pends.0).v }) ≡ PendsRow row =
-            sym (own_did c (PendsRow (record { pair = pair; volume = (pends.0).v })) i s (pends.0).step own) ∙ did in
-            let is : record { pair = pair; volume = (pends.0).v } ≡ row = cc in
-            record {
-              item = item;
-              among = among;
-              own = tag;
-              pair = pair;
-              bytes = bytes;
-              put = put;
-              pending_pair = sym (ap (λ (r : HomeRow). r.pair) is);
-              freezes = subst (λ (i : Item). FreezesDirectory (record { line = 0; lane = 0; item = i; reply = item.reply })) (sym put) pends.1;
-            }
+            sym (own_did (course_of h item) (PendsRow (record { pair = pair; volume = (pends.0).v })) i s (pends.0).step own) ∙ did in
+            record { item = item; among = among; own = tag; pair = pair; bytes = bytes; put = put; reply = pends.1; pends = pends.0; is = cc }
       ]
     ]
 
 pub pends_line : {settings : Settings} {k : Known} {items : List LaneItem} {history : History} {t : Known} (h : Came settings k items history t)
-    (i : ℕ) (s : RowStep) (row : HomeRow) → slice_get history.directory i ≡ Some s → s.did ≡ PendsRow row → PendsLine items s.tag row
-pends_line {items} h i s row at did =
+    (i : ℕ) (s : RowStep) (row : HomeRow) → slice_get history.directory i ≡ Some s → s.did ≡ PendsRow row → PendsLine settings k items history t h s.tag row
+pends_line h i s row at did =
     let found = row_owner h i s at in
-    pends_of items (course_of h found.0) i s row did found.0 found.1 found.2 found.3
+    pends_of h i s row did found.0 found.1 found.2 found.3
     (item_rows (course_of h found.0) (found.0).item (found.0).reply (answered h found.0 found.1).did)
 
 -- THE ROWS
@@ -336,7 +330,7 @@ pub new_row_below : {settings : Settings} {k : Known} {items : List LaneItem} {h
 new_row_below {settings} h i s row at did =
     let line = adds_line h i s row at did in
     subst (λ (r : HomeRow). r.volume < settings.volumes) line.is
-    (each_try settings line.pair ((line.added).row).volume (line.added).tried)
+    (each_try settings line.pair ((line.added).row).volume ((line.added).taker).tried)
 
 -- a home that was seen is a volume of the store
 pub home_below : {settings : Settings} {k : Known} {items : List LaneItem} {history : History} {t : Known} (h : Came settings k items history t)
@@ -346,35 +340,7 @@ home_below {settings} {k} {items} {history} {t} h item pair d v sees =
     (rows_hold (λ row. row.volume < settings.volumes) (first_rows k) history.directory sees.moment (h.store).homes h.follows_rows (λ i s row at did. new_row_below h i s row at did))
     sees.is
 
--- a Directory that is frozen at a moment was so before, or a step froze it
-pub row_freeze : (before : RowsStanding) (steps : List RowStep) (n : ℕ) → FollowsRows before steps → ((rows_behind before steps n).directory).frozen ≡ true
-    → ((before.directory).frozen ≡ true)
-    ⊎ ((i : ℕ) × (s : RowStep) × (slice_get steps i ≡ Some s) × (row : HomeRow) × (s.did ≡ PendsRow row))
-row_freeze before steps zero f frozen = inl frozen
-row_freeze before [] (suc n) f frozen = inl frozen
-row_freeze before (step ∷ steps) (suc n) f frozen =
-    elim (row_freeze step.after steps n f.2 frozen) [
-      | inl here ↦ elim (by step.tag step.did before step.after f.0 here) [
-        | inl before ↦ inl before
-        | inr pends ↦ inr (0, step, refl, pends.0, pends.1)
-      ]
-      | inr later ↦ inr (suc later.0, later.1, later.2, later.3, later.4)
-    ]
-  where
-    by : (tag : CoreTag) (did : RowDid) (a b : RowsStanding) → LeadsRows tag did a b → (b.directory).frozen ≡ true
-        → ((a.directory).frozen ≡ true) ⊎ ((row : HomeRow) × (did ≡ PendsRow row))
-    by tag TriesRow a b h frozen = inl (sym (ap (λ (d : DirKnown). d.frozen) h) ∙ frozen)
-    by tag (AddsRow row) a b h frozen = inl (sym (ap (λ (d : DirKnown). d.frozen) h.1) ∙ frozen)
-    by tag (PendsRow row) a b h frozen = inr (row, refl)
-
--- A Directory that is frozen at a moment was so before the block, or a line of the block froze it.
+-- a Directory that is frozen at a moment is left as it was then
 pub rows_frozen_then : {settings : Settings} {k : Known} {items : List LaneItem} {history : History} {t : Known} (h : Came settings k items history t)
-    (n : ℕ) → ((rows_moment k history n).directory).frozen ≡ true → DirectoryMayBeFrozen k items t
-rows_frozen_then {k = k} {items = items} {history = history} {t = t} h n frozen =
-    let kept = frozen_last (first_rows k) history.directory h.follows_rows n frozen in (
-      ap (λ (d : DirKnown). d.frozen) (h.directory ∙ kept) ∙ frozen,
-      elim (row_freeze (first_rows k) history.directory n h.follows_rows frozen) [
-        | inl before ↦ inl before
-        | inr step ↦ let line = pends_line h step.0 step.1 step.3 step.2 step.4 in inr (line.item, line.among, line.freezes)
-      ],
-    )
+    (n : ℕ) → ((rows_moment k history n).directory).frozen ≡ true → t.directory ≡ (rows_moment k history n).directory
+rows_frozen_then {k = k} {history = history} h n frozen = h.directory ∙ frozen_last (first_rows k) history.directory h.follows_rows n frozen

@@ -17,28 +17,25 @@ use Rattle.hay_legal.specs.declared.known.VolumeKnown.{VolumeKnown}
 use Rattle.hay_legal.specs.declared.turn.LaneItem.{LaneItem}
 use Rattle.hay_legal.specs.Known.{empty_replica, fault_count, replica_at, slot_of, volume_at}
 use Rattle.hay_legal.specs.Plain.{ended_where, first_machine, frozen_by, grown, poised, run_grown, stepped, swapped, with_bare, with_run, with_stuck, without_run}
-use Rattle.hay_legal.specs.Blocks.{RunIsLegal, is_put, new_entries, run_longer, tag_of}
-use Rattle.hay_history.specs.Steps.{Did, Leads, NoneFall, Standing, Step, change_at}
+use Rattle.hay_legal.specs.Blocks.{DeletesOn, RunIsLegal, is_put, new_entries, run_longer, tag_of}
+use Rattle.hay_history.specs.Steps.{Did, IsThawed, Leads, NoneFall, Standing, Step, change_at}
 use Rattle.hay_history.specs.Histories.{Course, History, behind, first_of, own}
 use Rattle.hay_history.specs.Commands.{Came}
 use Rattle.hay_history.proofs.Changes.{ended_at, rested_at}
 use Rattle.hay_history.proofs.Lists.{is_first}
 use Rattle.hay_history.proofs.Histories.{along, behind_past, behind_step, leads_at}
 use Rattle.hay_history.proofs.Lines.{course_of, own_leads}
-use Rattle.hay_history.proofs.Volumes.{frozen_stays}
+use Rattle.hay_history.proofs.Volumes.{frozen_keeps, frozen_stays, thawed_before}
 use Rattle.hay_history.proofs.Own.{RanBefore, RanFrom}
 use Rattle.hay_history.proofs.Doings.{StepBy}
 use Rattle.hay_history.proofs.Freezing.{OfLine, frozen_is, of_line}
-use Rattle.hay_history.proofs.ReplicaSteps.{change_other, set_keeps}
+use Rattle.hay_history.proofs.ReplicaSteps.{change_other, ended_keeps, set_keeps}
 use Rattle.hay_history.proofs.Sizes.{logs_joined, new_is}
 use Rattle.hay_history.proofs.Generations.{last_of, within_then}
 use Rattle.hay_history.proofs.Flags.{replica_is}
 
 abbrev run_of : ReplicaKnown → Option Run
 run_of r = r.run
-
-abbrev SameRun : ReplicaKnown → ReplicaKnown → Type 0
-SameRun old new = new.run ≡ old.run
 
 abbrev run_at : Standing → ℕ → Option Run
 run_at a j = (replica_at a.volume j).run
@@ -68,30 +65,37 @@ record RunStays (j : ℕ) (a b : Standing) : Type 0 where
   new : List Logged
   log : (b.volume).log ≡ (a.volume).log ++ new
   run : run_at b j ≡ option_map (run_longer (count_by is_put new)) (run_at a j)
+  number : (replica_at b.volume j).generation ≡ (replica_at a.volume j).generation
   frozen : (b.volume).frozen ≡ (a.volume).frozen
 
-record RunEnded (j : ℕ) (a b : Standing) : Type 0 where
-  none : run_at b j ≡ None
-  cause : Rose (a.faults j) (b.faults j) ⊎ ((m : ℕ) × ((b.volume).frozen ≡ Some m))
+abbrev SameNumber : ReplicaKnown → ReplicaKnown → Type 0
+SameNumber old new = new.generation ≡ old.generation
 
-abbrev RunStep : Course → ℕ → ℕ → ℕ → Standing → Standing → Type 0
-RunStep c v j n a b =
+-- the run ended in a delete in which a call of its disk failed, or as the volume froze
+record RunEnded (settings : Settings) (v j : ℕ) (item : LaneItem) (a b : Standing) : Type 0 where
+  none : run_at b j ≡ None
+  cause : (Rose (a.faults j) (b.faults j) × DeletesOn settings v item) ⊎ (IsThawed a × ((m : ℕ) × ((b.volume).frozen ≡ Some m)) × SameNumber (replica_at a.volume j) (replica_at b.volume j))
+
+abbrev RunStep : Course → ℕ → ℕ → ℕ → LaneItem → Standing → Standing → Type 0
+RunStep c v j n item a b =
     RunStays j a b
-    ⊎ RunEnded j a b
+    ⊎ RunEnded c.settings v j item a b
     ⊎ (RanFrom c v j n × (run_at a j ≡ None))
     ⊎ (RanBefore c v j n × (run : Run) × (run_at a j ≡ Some run))
 
-stays_with : (j : ℕ) (a b : Standing) (new : VolumeKnown) → b.volume ≡ new → new.log ≡ (a.volume).log → (replica_at new j).run ≡ run_at a j
+-- a replica's run and its generation
+abbrev SameRun : ReplicaKnown → ReplicaKnown → Type 0
+SameRun old new = (new.run ≡ old.run) × (new.generation ≡ old.generation)
+
+stays_with : (j : ℕ) (a b : Standing) (new : VolumeKnown) → b.volume ≡ new → new.log ≡ (a.volume).log → SameRun (replica_at a.volume j) (replica_at new j)
     → new.frozen ≡ (a.volume).frozen → RunStays j a b
 stays_with j a b new e log run frozen = record {
   new = [];
   log = ap (λ (volume : VolumeKnown). volume.log) e ∙ log ∙ sym (append-nil (a.volume).log);
-  run = ap run_of (replica_is j e) ∙ run ∙ sym (longer_none (run_at a j));
+  run = ap run_of (replica_is j e) ∙ run.0 ∙ sym (longer_none (run_at a j));
+  number = ap (λ (r : ReplicaKnown). r.generation) (replica_is j e) ∙ run.1;
   frozen = frozen_is e ∙ frozen;
 }
-
-ended_with : (j m : ℕ) (a b : Standing) (new : VolumeKnown) → b.volume ≡ new → (replica_at new j).run ≡ None → new.frozen ≡ Some m → RunEnded j a b
-ended_with j m a b new e none frozen = record { none = ap run_of (replica_is j e) ∙ none; cause = inr (m, frozen_is e ∙ frozen) }
 
 -- a delete leaves the run, or ends it
 deleted : (ended : List Bool) (rs : List ReplicaKnown) (j : ℕ)
@@ -100,69 +104,97 @@ deleted : (ended : List Bool) (rs : List ReplicaKnown) (j : ℕ)
 deleted ended rs j = elim (ended_at ended rs j) [ inl e ↦ inl (ap run_of e) | inr e ↦ inr (ap run_of e.1, e.0) ]
 
 run_step : (c : Course) (v j n : ℕ) (item : LaneItem) (tag : CoreTag) (did : Did) (a b : Standing) → Leads c.settings v tag did a b → j < length (a.volume).replicas
-    → StepBy c v item n did → RunStep c v j n a b
+    → StepBy c v item n did → RunStep c v j n item a b
 run_step c v j n item tag did a b h within own = by did h own
   where
-    keeps : (new : VolumeKnown) → b.volume ≡ new → new.log ≡ (a.volume).log → (replica_at new j).run ≡ run_at a j → new.frozen ≡ (a.volume).frozen → RunStep c v j n a b
+    keeps : (new : VolumeKnown) → b.volume ≡ new → new.log ≡ (a.volume).log → SameRun (replica_at a.volume j) (replica_at new j) → new.frozen ≡ (a.volume).frozen
+        → RunStep c v j n item a b
     keeps new e log run frozen = inl (stays_with j a b new e log run frozen)
 
-    freezes : (m : ℕ) (new : VolumeKnown) → b.volume ≡ new → (replica_at new j).run ≡ None → new.frozen ≡ Some m → RunStep c v j n a b
-    freezes m new e none frozen = inr (inl (ended_with j m a b new e none frozen))
+    freezes : IsThawed a → (m : ℕ) (new : VolumeKnown) → b.volume ≡ new → replica_at new j ≡ without_run (replica_at a.volume j) → new.frozen ≡ Some m → RunStep c v j n item a b
+    freezes thawed m new e rests frozen = inr (inl (record {
+      none = ap run_of (replica_is j e ∙ rests);
+      cause = inr (thawed, (m, frozen_is e ∙ frozen), ap (λ (r : ReplicaKnown). r.generation) (replica_is j e ∙ rests));
+    }))
+
+    -- a volume that is frozen as replica i is changed
+    froze_at : IsThawed a → (m : ℕ) (new : VolumeKnown) → b.volume ≡ new → (replica_at new j).run ≡ None → SameNumber (replica_at a.volume j) (replica_at new j) → new.frozen ≡ Some m
+        → RunStep c v j n item a b
+    froze_at thawed m new e none number frozen = inr (inl (record {
+      none = ap run_of (replica_is j e) ∙ none;
+      cause = inr (thawed, (m, frozen_is e ∙ frozen), ap (λ (r : ReplicaKnown). r.generation) (replica_is j e) ∙ number);
+    }))
 
     -- a change of another replica
-    other_run : (i : ℕ) (change : ReplicaKnown → ReplicaKnown) → b.volume ≡ change_at a.volume i change → i ≢ j → RunStep c v j n a b
-    other_run i change e other = keeps _ e refl (ap run_of (change_other a.volume i j change other)) refl
+    other_run : (i : ℕ) (change : ReplicaKnown → ReplicaKnown) → b.volume ≡ change_at a.volume i change → i ≢ j → RunStep c v j n item a b
+    other_run i change e other =
+        let same = change_other a.volume i j change other in
+        keeps _ e refl (ap run_of same, ap (λ (r : ReplicaKnown). r.generation) same) refl
 
-    begins : (i : ℕ) (change : ReplicaKnown → ReplicaKnown) → b.volume ≡ change_at a.volume i change → run_at a i ≡ None → RanFrom c v i n → (i ≡ j) ⊎ (i ≢ j) → RunStep c v j n a b
+    begins : (i : ℕ) (change : ReplicaKnown → ReplicaKnown) → b.volume ≡ change_at a.volume i change → run_at a i ≡ None → RanFrom c v i n → (i ≡ j) ⊎ (i ≢ j) → RunStep c v j n item a b
     begins i change e none ran (inl same) = inr (inr (inl (subst (λ (x : ℕ). RanFrom c v x n × (run_at a x ≡ None)) same (ran, none))))
     begins i change e none ran (inr other) = other_run i change e other
 
-    runs : (i : ℕ) (change : ReplicaKnown → ReplicaKnown) → b.volume ≡ change_at a.volume i change → (run : Run) → run_at a i ≡ Some run → RanBefore c v i n → (i ≡ j) ⊎ (i ≢ j) → RunStep c v j n a b
+    runs : (i : ℕ) (change : ReplicaKnown → ReplicaKnown) → b.volume ≡ change_at a.volume i change → (run : Run) → run_at a i ≡ Some run → RanBefore c v i n → (i ≡ j) ⊎ (i ≢ j) → RunStep c v j n item a b
     runs i change e run some ran (inl same) = inr (inr (inr (subst (λ (x : ℕ). RanBefore c v x n × (run : Run) × (run_at a x ≡ Some run)) same (ran, run, some))))
     runs i change e run some ran (inr other) = other_run i change e other
 
     puts : (size : ℕ) (new : Logged) → is_put new ≡ true → (b.volume).log ≡ (a.volume).log ++ new ∷ []
-        → (replica_at b.volume j).run ≡ (slice_index_or (map (grown size) (a.volume).replicas) j empty_replica).run → (b.volume).frozen ≡ (a.volume).frozen → RunStep c v j n a b
-    puts size new is log run frozen = inl (record {
+        → replica_at b.volume j ≡ slice_index_or (map (grown size) (a.volume).replicas) j empty_replica → (b.volume).frozen ≡ (a.volume).frozen → RunStep c v j n item a b
+    puts size new is log same frozen = inl (record {
       new = new ∷ [];
       log = log;
-      run = run ∙ ap run_of (get_or-map (grown size) (a.volume).replicas j empty_replica empty_replica within)
+      number = ap (λ (r : ReplicaKnown). r.generation) (same ∙ get_or-map (grown size) (a.volume).replicas j empty_replica empty_replica within);
+      run = ap run_of (same ∙ get_or-map (grown size) (a.volume).replicas j empty_replica empty_replica within)
           ∙ sym (grown_by (count_by is_put (new ∷ [])) (run_at a j) (ap (λ (x : Bool). 0 + cond x 1 0) is));
       frozen = frozen;
     })
 
     deletes : (ended : List Bool) (new : Logged) → is_put new ≡ false → ((j : ℕ) → slice_get ended j ≡ Some true → Rose (a.faults j) (b.faults j))
-        → (b.volume).log ≡ (a.volume).log ++ new ∷ []
-        → (replica_at b.volume j).run ≡ (slice_index_or (ended_where ended (a.volume).replicas) j empty_replica).run → (b.volume).frozen ≡ (a.volume).frozen
+        → DeletesOn c.settings v item → (b.volume).log ≡ (a.volume).log ++ new ∷ []
+        → replica_at b.volume j ≡ slice_index_or (ended_where ended (a.volume).replicas) j empty_replica → (b.volume).frozen ≡ (a.volume).frozen
         → ((slice_index_or (ended_where ended (a.volume).replicas) j empty_replica).run ≡ run_at a j)
         ⊎ (((slice_index_or (ended_where ended (a.volume).replicas) j empty_replica).run ≡ None) × (slice_get ended j ≡ Some true))
-        → RunStep c v j n a b
-    deletes ended new is rose log run frozen (inl same) = inl (record {
+        → RunStep c v j n item a b
+    deletes ended new is rose line log same frozen (inl stays) = inl (record {
       new = new ∷ [];
       log = log;
-      run = run ∙ same ∙ sym (longer_by (count_by is_put (new ∷ [])) (run_at a j) (ap (λ (x : Bool). 0 + cond x 1 0) is));
+      run = ap run_of same ∙ stays ∙ sym (longer_by (count_by is_put (new ∷ [])) (run_at a j) (ap (λ (x : Bool). 0 + cond x 1 0) is));
+      number = ap (λ (r : ReplicaKnown). r.generation) same ∙ ended_keeps SameNumber (λ r. refl) (λ r. refl) ended (a.volume).replicas j;
       frozen = frozen;
     })
-    deletes ended new is rose log run frozen (inr none) = inr (inl (record { none = run ∙ none.0; cause = inl (rose j none.1) }))
+    deletes ended new is rose line log same frozen (inr none) =
+        inr (inl (record { none = ap run_of same ∙ none.0; cause = inl (rose j none.1, line) }))
 
-    by : (did : Did) → Leads c.settings v tag did a b → StepBy c v item n did → RunStep c v j n a b
-    by Did.Tries h own = keeps _ h refl refl refl
+    by : (did : Did) → Leads c.settings v tag did a b → StepBy c v item n did → RunStep c v j n item a b
+    by Did.Tries h own = keeps _ h refl (refl, refl) refl
     by (Did.Entered (entry.Put pair cookie bytes)) h own =
-        puts (length bytes) (record { tag = tag; entry = entry.Put pair cookie bytes }) refl (ap (λ (volume : VolumeKnown). volume.log) h.1) (ap run_of (replica_is j h.1)) (frozen_is h.1)
+        puts (length bytes) (record { tag = tag; entry = entry.Put pair cookie bytes }) refl (ap (λ (volume : VolumeKnown). volume.log) h.1) (replica_is j h.1) (frozen_is h.1)
     by (Did.Entered (entry.Del pair)) h own =
         let e = (h.1).2 in
-        deletes (h.1).0 (record { tag = tag; entry = entry.Del pair }) refl (h.1).1 (ap (λ (volume : VolumeKnown). volume.log) e) (ap run_of (replica_is j e)) (frozen_is e)
+        deletes (h.1).0 (record { tag = tag; entry = entry.Del pair }) refl (h.1).1 (pair, (own.0).1, (own.0).0, (own.0).2)
+        (ap (λ (volume : VolumeKnown). volume.log) e) (replica_is j e) (frozen_is e)
         (deleted (h.1).0 (a.volume).replicas j)
-    by (Did.Pends m change failed) h own = freezes m _ h.1 (ap run_of (rested_at (a.volume).replicas j)) refl
-    by (Did.Freezes m) h own = freezes m _ h.1 (ap run_of (rested_at (a.volume).replicas j)) refl
-    by (Did.Flushes i) h own = keeps _ h.3 refl (set_keeps SameRun (λ r. refl) a.volume i j (with_bare 0) refl) refl
-    by (Did.Sticks i) h own = keeps _ h.3 refl (set_keeps SameRun (λ r. refl) a.volume i j with_stuck refl) refl
+    by (Did.Pends m change failed) h own = freezes h.0 m _ h.1 (rested_at (a.volume).replicas j) refl
+    by (Did.Freezes m) h own = freezes h.0 m _ h.1 (rested_at (a.volume).replicas j) refl
+    by (Did.Flushes i) h own = keeps _ h.3 refl (set_keeps SameRun (λ r. (refl, refl)) a.volume i j (with_bare 0) (refl, refl)) refl
+    by (Did.Sticks i) h own = keeps _ h.3 refl (set_keeps SameRun (λ r. (refl, refl)) a.volume i j with_stuck (refl, refl)) refl
     by (Did.Begins i) h own = begins i (with_run (record { goal = (replica_at a.volume i).generation + 1; left = (replica_at a.volume i).cells })) h.4 h.2 own.1 (cases_eq i j)
     by (Did.Examines i x) h own = runs i (with_run (stepped x (h.2).0)) (h.2).3 (h.2).0 (h.2).1 own.1 (cases_eq i j)
     by (Did.Ends i) h own = runs i without_run h.3 (h.2).0 (h.2).1 own.1 (cases_eq i j)
     by (Did.Swaps i end cells false) h own = runs i (swapped end cells) h.4 (h.2).0 (h.2).1 own.1 (cases_eq i j)
-    by (Did.Swaps i end cells true) h own = freezes (first_machine c.settings v) _ h.4 (ap run_of (rested_at (change_at a.volume i (swapped end cells)).replicas j)) refl
-    by (Did.Poises m i) h own = freezes m _ h.3 (set_keeps SameRun (λ r. refl) (frozen_by m a.volume) i j poised refl ∙ ap run_of (rested_at (a.volume).replicas j)) refl
+    by (Did.Swaps i end cells true) h own = swaps_frozen (cases_eq i j)
+      where
+        swaps_frozen : (i ≡ j) ⊎ (i ≢ j) → RunStep c v j n item a b
+        swaps_frozen (inl same) =
+            inr (inr (inr (subst (λ (x : ℕ). RanBefore c v x n × (run : Run) × (run_at a x ≡ Some run)) same (own.1, (h.2).0, (h.2).1))))
+        swaps_frozen (inr other) =
+            freezes h.0 (first_machine c.settings v) _ h.4
+            (rested_at (change_at a.volume i (swapped end cells)).replicas j ∙ ap without_run (change_other a.volume i j (swapped end cells) other)) refl
+    by (Did.Poises m i) h own =
+        let same = set_keeps SameRun (λ r. (refl, refl)) (frozen_by m a.volume) i j poised (refl, refl) in
+        froze_at h.0 m _ h.3 (same.0 ∙ ap run_of (rested_at (a.volume).replicas j))
+        (same.1 ∙ ap (λ (r : ReplicaKnown). r.generation) (rested_at (a.volume).replicas j)) refl
 
 -- ALONG THE BLOCK
 
@@ -179,12 +211,12 @@ module _ {settings : Settings} {k : Known} {items : List LaneItem} {history : Hi
   ]
 
   -- what a step does to the run
-  does : (n : ℕ) (s : Step) → slice_get (history.volumes v) n ≡ Some s → (line : OfLine h v n s) × RunStep (course_of h line.item) v j n (then n) (then (n + 1))
+  does : (n : ℕ) (s : Step) → slice_get (history.volumes v) n ≡ Some s → (line : OfLine h v n s) × RunStep (course_of h line.item) v j n line.item (then n) (then (n + 1))
   does n s at =
       let line = of_line h v n s below at in
       let leads = leads_at settings v (first_of settings k v) (history.volumes v) n s (h.follows v below) at in (
         line,
-        subst (λ (b : Standing). RunStep (course_of h line.item) v j n (then n) b) (sym (behind_step (first_of settings k v) (history.volumes v) n s at))
+        subst (λ (b : Standing). RunStep (course_of h line.item) v j n line.item (then n) b) (sym (behind_step (first_of settings k v) (history.volumes v) n s at))
             (run_step (course_of h line.item) v j n line.item s.tag s.did (then n) s.after leads.0 (within_then h v n j below within) line.by),
       )
 
@@ -239,6 +271,7 @@ module _ {settings : Settings} {k : Known} {items : List LaneItem} {history : Hi
     run = y.run ∙ ap (option_map (run_longer (count_by is_put y.new))) x.run
         ∙ longer_twice (count_by is_put x.new) (count_by is_put y.new) (run_at a j)
         ∙ ap (λ (n : ℕ). option_map (run_longer n) (run_at a j)) (sym (sum_by-append (λ (l : Logged). cond (is_put l) 1 0) x.new y.new));
+    number = y.number ∙ x.number;
     frozen = y.frozen ∙ x.frozen;
   }
 
@@ -266,15 +299,26 @@ module _ {settings : Settings} {k : Known} {items : List LaneItem} {history : Hi
   abbrev Ended : Type 0
   Ended =
       (run_at (last_of settings k history v) j ≡ None)
-      × (Rose ((then 0).faults j) ((last_of settings k history v).faults j) ⊎ ((m : ℕ) × (((last_of settings k history v).volume).frozen ≡ Some m)))
+      × ((Rose ((then 0).faults j) ((last_of settings k history v).faults j) × (item : LaneItem) × Contains items item × DeletesOn settings v item)
+      ⊎ (((volume_at k v).frozen ≡ None) × ((m : ℕ) × (((last_of settings k history v).volume).frozen ≡ Some m))
+      × SameNumber (replica_at (volume_at k v) j) (replica_at (volume_at t v) j)))
 
-  ended_by : (n : ℕ) → n < length (history.volumes v) → RunEnded j (then n) (then (n + 1)) → Ended
-  ended_by n less ended = (
+  ended_by : (n : ℕ) (item : LaneItem) → Contains items item → n < length (history.volumes v) → RunStays j (then 0) (then n) → RunEnded settings v j item (then n) (then (n + 1)) → Ended
+  ended_by n item among less stays ended = (
     none_stays (n + 1) ended.none,
     elim ended.cause [
-      | inl rose ↦ inl (risen ((then 0).faults j) ((then n).faults j) ((then (n + 1)).faults j) ((last_of settings k history v).faults j)
-          (faults_grow 0 n (omega arith)) (faults_grow n (n + 1) (omega arith)) (faults_grow (n + 1) (length (history.volumes v)) (omega (arith, less))) rose)
-      | inr froze ↦ inr (froze.0, frozen_stays h v (n + 1) (length (history.volumes v)) froze.0 below (omega (arith, less)) froze.1)
+      | inl rose ↦ inl (
+        risen ((then 0).faults j) ((then n).faults j) ((then (n + 1)).faults j) ((last_of settings k history v).faults j)
+            (faults_grow 0 n (omega arith)) (faults_grow n (n + 1) (omega arith)) (faults_grow (n + 1) (length (history.volumes v)) (omega (arith, less))) rose.0,
+        item,
+        among,
+        rose.1,
+      )
+      | inr froze ↦ inr (
+        thawed_before h v n below froze.0,
+        ((froze.1).0, frozen_stays h v (n + 1) (length (history.volumes v)) (froze.1).0 below (omega (arith, less)) (froze.1).1),
+        ap (λ (volume : VolumeKnown). (replica_at volume j).generation) (frozen_keeps h v (n + 1) (froze.1).0 below (froze.1).1) ∙ froze.2 ∙ stays.number,
+      )
     ],
   )
 
@@ -287,7 +331,7 @@ module _ {settings : Settings} {k : Known} {items : List LaneItem} {history : Hi
         elim step.1 [
           | inl stays ↦ inl (alive_next n alive stays)
           | inr rest ↦ elim rest [
-            | inl ended ↦ inr (ended_by n less ended)
+            | inl ended ↦ inr (ended_by n (step.0).item (step.0).among less alive.1 ended)
             | inr rest ↦ elim rest [
               | inl begun ↦ absurd (alive.0 n (omega arith) begun.1)
               | inr own ↦
@@ -304,7 +348,7 @@ module _ {settings : Settings} {k : Known} {items : List LaneItem} {history : Hi
         let first : run_at (then i) j ≡ run_at (then 0) j = ap (λ (m : ℕ). run_at (then m) j) (zero_is i low) in
         let unlikely : None ≡ Some run = sym none ∙ first ∙ some in
         absurd cc),
-    record { new = []; log = sym (append-nil ((then 0).volume).log); run = sym (longer_none (run_at (then 0) j)); frozen = refl },
+    record { new = []; log = sym (append-nil ((then 0).volume).log); run = sym (longer_none (run_at (then 0) j)); number = refl; frozen = refl },
   )
     where
       zero_is : (i : ℕ) → i ≤ 0 → i ≡ 0
@@ -320,49 +364,34 @@ module _ {settings : Settings} {k : Known} {items : List LaneItem} {history : Hi
   fault_is : (last_of settings k history v).faults j ≡ fault_count t (slot_of settings v j)
   fault_is = sym ((h.volumes v below).faults j within)
 
-  stayed : RunStays j (then 0) (last_of settings k history v)
-      → RunIsLegal settings k t v j (new_entries k t v) (replica_at (volume_at k v) j) (replica_at (volume_at t v) j)
-  stayed stays =
-      let entries : new_entries k t v ≡ stays.new =
-      ap (λ (volume : VolumeKnown). drop (length (volume_at k v).log) volume.log) is_last
-      ∙ new_is (volume_at k v) (last_of settings k history v).volume stays.new stays.log in
-      inl (
-        ap run_of (replica_is j is_last) ∙ stays.run
-            ∙ ap (λ (new : List Logged). option_map (run_longer (count_by is_put new)) (run_at (then 0) j)) (sym entries),
-        frozen_is is_last ∙ stays.frozen,
-      )
-
-  ended : Ended → RunIsLegal settings k t v j (new_entries k t v) (replica_at (volume_at k v) j) (replica_at (volume_at t v) j)
-  ended end = inr (
-    ap run_of (replica_is j is_last) ∙ end.0,
-    elim end.1 [
-      | inl rose ↦ inl (subst (λ (n : ℕ). Rose ((then 0).faults j) n) fault_is rose)
-      | inr froze ↦ inr (froze.0, frozen_is is_last ∙ froze.1)
-    ],
-  )
-
-  -- where no run stood before the block
-  idle : run_at (then 0) j ≡ None → RunIsLegal settings k t v j (new_entries k t v) (replica_at (volume_at k v) j) (replica_at (volume_at t v) j)
-  idle is = by ((last_of settings k history v).volume).frozen refl ((volume_at k v).frozen) refl
-    where
-      none : run_at (last_of settings k history v) j ≡ None
-      none = none_stays 0 is
-
-      none_longer : option_map (run_longer (count_by is_put (new_entries k t v))) (run_at (then 0) j) ≡ None
-      none_longer = ap (option_map (run_longer (count_by is_put (new_entries k t v)))) is
-
-      by : (f : Option ℕ) → ((last_of settings k history v).volume).frozen ≡ f → (g : Option ℕ) → (volume_at k v).frozen ≡ g
-          → RunIsLegal settings k t v j (new_entries k t v) (replica_at (volume_at k v) j) (replica_at (volume_at t v) j)
-      by (Some m) frozen g before = ended (none, inr (m, frozen))
-      by None thawed (Some m) before =
-          let unlikely : None ≡ Some m = sym thawed ∙ frozen_stays h v 0 (length (history.volumes v)) m below (omega arith) before in absurd cc
-      by None thawed None before = inl (ap run_of (replica_is j is_last) ∙ none ∙ sym none_longer, frozen_is is_last ∙ thawed ∙ sym before)
-
-  pub run_legal : RunIsLegal settings k t v j (new_entries k t v) (replica_at (volume_at k v) j) (replica_at (volume_at t v) j)
+  pub run_legal : RunIsLegal settings k items t v j (new_entries k t v) (replica_at (volume_at k v) j) (replica_at (volume_at t v) j)
   run_legal = by (run_at (then 0) j) refl
     where
-      by : (o : Option Run) → run_at (then 0) j ≡ o → RunIsLegal settings k t v j (new_entries k t v) (replica_at (volume_at k v) j) (replica_at (volume_at t v) j)
-      by None is = idle is
+      stayed : RunStays j (then 0) (last_of settings k history v)
+          → RunIsLegal settings k items t v j (new_entries k t v) (replica_at (volume_at k v) j) (replica_at (volume_at t v) j)
+      stayed stays =
+          let entries : new_entries k t v ≡ stays.new =
+          ap (λ (volume : VolumeKnown). drop (length (volume_at k v).log) volume.log) is_last
+          ∙ new_is (volume_at k v) (last_of settings k history v).volume stays.new stays.log in
+          inr (inl (
+            ap run_of (replica_is j is_last) ∙ stays.run
+                ∙ ap (λ (new : List Logged). option_map (run_longer (count_by is_put new)) (run_at (then 0) j)) (sym entries),
+            ap (λ (r : ReplicaKnown). r.generation) (replica_is j is_last) ∙ stays.number,
+            frozen_is is_last ∙ stays.frozen,
+          ))
+
+      ended : Ended → RunIsLegal settings k items t v j (new_entries k t v) (replica_at (volume_at k v) j) (replica_at (volume_at t v) j)
+      ended end = inr (inr (
+        ap run_of (replica_is j is_last) ∙ end.0,
+        elim end.1 [
+          | inl rose ↦ inl (subst (λ (n : ℕ). Rose ((then 0).faults j) n) fault_is rose.0, rose.1, rose.2, rose.3)
+          | inr froze ↦ inr (froze.0, ((froze.1).0, frozen_is is_last ∙ (froze.1).1), froze.2)
+        ],
+      ))
+
+      by : (o : Option Run) → run_at (then 0) j ≡ o
+          → RunIsLegal settings k items t v j (new_entries k t v) (replica_at (volume_at k v) j) (replica_at (volume_at t v) j)
+      by None is = inl (is, ap run_of (replica_is j is_last) ∙ none_stays 0 is)
       by (Some run) is = elim (walk (length (history.volumes v)) (omega arith) run is) [
         | inl alive ↦ stayed alive.1
         | inr end ↦ ended end

@@ -35,7 +35,7 @@ use Rattle.hay_legal.specs.Subject.{IsOf}
 use Rattle.hay_history.specs.Steps.{Did, Follows, FollowsRows, Standing, Step}
 use Rattle.hay_history.specs.Steps.Did.{Begins, Ends, Entered, Examines, Flushes, Freezes, Pends, Poises, Sticks, Swaps, Tries}
 use Rattle.hay_history.specs.Steps.RowDid.{AddsRow, PendsRow}
-use Rattle.hay_history.specs.Histories.{Course, History, IsLater, IsMoment, IsRowMoment, NoRows, NoSteps, OneRowStep, OneStep, OnlyOn, Seen, SeesClosed, SeesFrozen, SeesHome, SeesRefusal, behind, first_of, first_rows, own, own_rows, refusal_then, rows_behind, rows_standing, standing, volume_then}
+use Rattle.hay_history.specs.Histories.{Course, History, IsLater, IsMoment, IsRowMoment, NoRows, NoSteps, OneRowStep, OneStep, OnlyOn, Seen, SeesClosed, SeesFrozen, SeesHome, SeesOpen, SeesRefusal, SeesTaker, behind, closing_then, first_of, first_rows, own, own_rows, refusal_then, rows_behind, rows_standing, standing, volume_then}
 
 -- COUNTS
 
@@ -50,13 +50,12 @@ FailedIn c v m place f = (j : ℕ) × (replica_on c.settings v m ≡ Some j) × 
 
 -- ROWS
 
--- The line added the row of its pair: at a try before which each try refused it.
+-- The line added the row of its pair: at the try that it saw take the photo.
 pub record AddedRow (c : Course) (pair : Pair) (size : ℕ) : Type 0 where
   pub row : HomeRow
   pub step : OneRowStep c (AddsRow row)
   pub own_pair : row.pair ≡ pair
-  pub tried : Contains (all_tries c.settings pair) row.volume
-  pub before : Each (λ v. (refused : Refused) × SeesRefusal c size v refused) (take_while (λ v. not (v == row.volume)) (all_tries c.settings pair))
+  pub taker : SeesTaker c pair size row.volume
 
 abbrev pub MayAddRow : Course → Pair → ℕ → Type 0
 MayAddRow c pair size = NoRows c ⊎ AddedRow c pair size
@@ -94,37 +93,45 @@ pub record PutFailed (c : Course) (pair : Pair) (bytes : List ℕ) (v m f : ℕ)
   pub below : v < (c.settings).volumes
   pub elsewhere : OnlyOn c v
   pub step : OneStep c v (Pends m (put_entry c.settings pair bytes) true)
+  pub room : refusal_then c v step.place (length bytes) ≡ None
   pub failed : FailedIn c v m step.place f
 
--- the line froze the Directory with the row of its pair pending
-pub record RowPends (c : Course) (pair : Pair) : Type 0 where
+-- the line froze the Directory with the row of its pair pending, for the try that it saw take the photo
+pub record RowPends (c : Course) (pair : Pair) (size : ℕ) : Type 0 where
   pub v : ℕ
   pub step : OneRowStep c (PendsRow (record { pair = pair; volume = v }))
+  pub taker : SeesTaker c pair size v
 
-pub record PutRowFailed (c : Course) (pair : Pair) (f : ℕ) : Type 0 where
+pub record PutRowFailed (c : Course) (pair : Pair) (size f : ℕ) : Type 0 where
   pub nothing : NoSteps c
-  pub pends : RowPends c pair
+  pub pends : RowPends c pair size
   pub rose : Rose (rows_standing c (pends.step).place).faults (rows_standing c ((pends.step).place + 1)).faults
   pub printed : f ≡ (rows_standing c ((pends.step).place + 1)).faults
 
--- what want of memory may leave of a change that a line makes on a volume: nothing, or the volume frozen with the change pending
-abbrev pub MayPend : Course → Entry → Type 0
-MayPend c change =
-    NoSteps c ⊎ ((v : ℕ) × (v < (c.settings).volumes) × OnlyOn c v × OneStep c v (Pends (first_machine c.settings v) change false))
+-- For want of memory the line froze the home of its pair with its change pending. It had seen that the volume takes it.
+pub record LeftPending (c : Course) (pair : Pair) (change : Entry) (Takes : ℕ → ℕ → Type 0) : Type 0 where
+  pub d : ℕ
+  pub v : ℕ
+  pub home : SeesHome c pair d (Some v)
+  pub elsewhere : OnlyOn c v
+  pub step : OneStep c v (Pends (first_machine c.settings v) change false)
+  pub takes : Takes v step.place
 
 abbrev pub PutWanting : Course → Pair → List ℕ → Type 0
 PutWanting c pair bytes =
-    (NoSteps c × RowPends c pair) ⊎ (MayAddRow c pair (length bytes) × MayPend c (put_entry c.settings pair bytes))
+    (NoSteps c × RowPends c pair (length bytes))
+    ⊎ (MayAddRow c pair (length bytes)
+    × (NoSteps c ⊎ LeftPending c pair (put_entry c.settings pair bytes) (λ v n. refusal_then c v n (length bytes) ≡ None)))
 
 abbrev pub PutDid : Course → Pair → List ℕ → Reply → Type 0
 PutDid c pair bytes (Stored v p d cookie) = PutStored c pair bytes v p d cookie
 PutDid c pair bytes (Full refused) = PutRefused c pair (length bytes) refused × (list_any lacks refused ≡ true)
 PutDid c pair bytes (ReadOnly by) = PutRefused c pair (length bytes) (map as_closed by)
 PutDid c pair bytes ReadOnlyDir =
-    NoSteps c × NoRows c × ((d : ℕ) × SeesHome c pair d None)
+    NoSteps c × NoRows c × ((d : ℕ) × SeesHome c pair d None) × ((v : ℕ) × SeesTaker c pair (length bytes) v)
     × ((moment : ℕ) × IsRowMoment c moment × (((rows_standing c moment).directory).frozen ≡ true))
 PutDid c pair bytes (Failed v m f) = PutFailed c pair bytes v m f
-PutDid c pair bytes (FailedDir f) = PutRowFailed c pair f
+PutDid c pair bytes (FailedDir f) = PutRowFailed c pair (length bytes) f
 PutDid c pair bytes NoMem = PutWanting c pair bytes
 PutDid c pair bytes _ = ⊥
 
@@ -158,7 +165,7 @@ pub record Showed (c : Course) (start : ℕ) (pair : Pair) (v m p d : ℕ) (show
   pub looks : OnlyLooks c v
 
 abbrev pub PassedFor : Course → ℕ → ℕ → Cause → Type 0
-PassedFor c v j (Arm f) = CameUp (c.from).arm f (c.to).arm × (f ≤ (c.to).arm)
+PassedFor c v j (Arm f) = CameUp (c.from).arm f (c.to).arm
 PassedFor c v j (Disk f) = LookFailed c v j f
 PassedFor c v j (Damage at) = ⊥
 
@@ -172,13 +179,16 @@ pub record ShowedNone (c : Course) (start : ℕ) (pair : Pair) (v p d : ℕ) (ca
   pub arms : EachPair (λ a b. ArmRises a.cause b.cause) causes
   pub looks : OnlyLooks c v
 
--- what want of memory may leave of a line that looks at places: its volume frozen
-abbrev pub LookWanting : Course → Type 0
-LookWanting c =
-    NoRows c
-    × (NoSteps c
-    ⊎ ((v : ℕ) × (v < (c.settings).volumes) × OnlyOn c v
-    × Each (λ at. ((at.1).did ≡ Tries) ⊎ ((at.1).did ≡ Freezes (first_machine c.settings v))) (own c v)))
+-- For want of memory a line that looked at places of its pair's home froze it.
+pub record LookFroze (c : Course) (pair : Pair) : Type 0 where
+  pub d : ℕ
+  pub v : ℕ
+  pub home : SeesHome c pair d (Some v)
+  pub elsewhere : OnlyOn c v
+  pub steps : Each (λ at. ((at.1).did ≡ Tries) ⊎ ((at.1).did ≡ Freezes (first_machine c.settings v))) (own c v)
+
+abbrev pub LookWanting : Course → Pair → Type 0
+LookWanting c pair = NoRows c × (NoSteps c ⊎ LookFroze c pair)
 
 abbrev pub DidNothing : Course → Type 0
 DidNothing c = NoSteps c × NoRows c
@@ -190,7 +200,7 @@ ShowDid c start pair cookie (WrongCookie v m p d) =
     (other : Cookie) × (bytes : List ℕ) × (other ≢ cookie) × Showed c start pair v m p d (outcome.Photo (record { cookie = other; bytes = bytes }))
 ShowDid c start pair cookie (Unreadable v p d causes) = ShowedNone c start pair v p d causes
 ShowDid c start pair cookie (Unknown d) = SeesHome c pair d None × DidNothing c
-ShowDid c start pair cookie NoMem = LookWanting c
+ShowDid c start pair cookie NoMem = LookWanting c pair
 ShowDid c start pair cookie _ = ⊥
 
 abbrev pub GetDid : Course → UrlParts → Option ℕ → Reply → Type 0
@@ -198,6 +208,7 @@ GetDid c url None Nowhere = DidNothing c
 GetDid c url None NoMem = DidNothing c
 GetDid c url None _ = ⊥
 GetDid c url (Some start) (Moved v d) = SeesHome c url.pair d (Some v) × (v ≢ url.volume) × DidNothing c
+GetDid c url (Some start) NoMem = NoRows c × (NoSteps c ⊎ ((froze : LookFroze c url.pair) × (froze.v ≡ url.volume)))
 GetDid c url (Some start) reply = ShowDid c start url.pair url.cookie reply × GetShows url reply
 
 -- DELETES
@@ -213,6 +224,7 @@ pub record DelDone (c : Course) (pair : Pair) (v p d : ℕ) : Type 0 where
   pub rows : NoRows c
   pub elsewhere : OnlyOn c v
   pub step : OneStep c v (Entered (entry.Del pair))
+  pub «open» : closing_then c v step.place ≡ None
   pub stood : stood_then c v step.place pair ≡ true
   pub position : p ≡ length (volume_then c v step.place).log + 1
 
@@ -220,6 +232,7 @@ pub record DelAbsent (c : Course) (pair : Pair) (v p d : ℕ) : Type 0 where
   pub home : SeesHome c pair d (Some v)
   pub moment : ℕ
   pub seen : IsMoment c v moment
+  pub «open» : closing_then c v moment ≡ None
   pub nothing : stood_then c v moment pair ≡ false
   pub front : p ≡ length (volume_then c v moment).log
   pub none : DidNothing c
@@ -237,8 +250,17 @@ pub record DelFailed (c : Course) (pair : Pair) (v m f : ℕ) : Type 0 where
   pub elsewhere : OnlyOn c v
   pub did : Did
   pub step : OneStep c v did
-  pub which : (did ≡ Tries) ⊎ (did ≡ Pends m (entry.Del pair) true)
+  pub «open» : closing_then c v step.place ≡ None
+  pub which : (did ≡ Tries) ⊎ ((did ≡ Pends m (entry.Del pair) true) × (stood_then c v step.place pair ≡ true))
   pub failed : FailedIn c v m step.place f
+
+-- what want of memory may leave of a delete: nothing, or its volume frozen, also with the delete pending
+abbrev pub DelWanting : Course → Pair → Type 0
+DelWanting c pair =
+    NoRows c
+    × (NoSteps c
+    ⊎ ((froze : LookFroze c pair) × SeesOpen c froze.v)
+    ⊎ LeftPending c pair (entry.Del pair) (λ v n. (closing_then c v n ≡ None) × (stood_then c v n pair ≡ true)))
 
 abbrev pub DelDid : Course → Pair → Reply → Type 0
 DelDid c pair (Deleted v p d) = DelDone c pair v p d
@@ -246,7 +268,7 @@ DelDid c pair (Absent v p d) = DelAbsent c pair v p d
 DelDid c pair (Unknown d) = SeesHome c pair d None × DidNothing c
 DelDid c pair (ReadOnly by) = HomeIsClosed c pair by × DidNothing c
 DelDid c pair (Failed v m f) = DelFailed c pair v m f
-DelDid c pair NoMem = (NoRows c × MayPend c (entry.Del pair)) ⊎ LookWanting c
+DelDid c pair NoMem = DelWanting c pair
 DelDid c pair _ = ⊥
 
 abbrev pub UrlDid : Course → Pair → Reply → Type 0
@@ -265,7 +287,8 @@ IsFrozen c v _ = ⊥
 
 abbrev pub IsStuck : Course → ℕ → ℕ → ℕ → List ClosedBy → Type 0
 IsStuck c v m j (by ∷ []) =
-    IsOn v m by.volume by.machine × ((moment : ℕ) × IsMoment c v moment × ((replica_at (volume_then c v moment) j).stuck ≡ true))
+    IsOn v m by.volume by.machine
+    × ((moment : ℕ) × IsMoment c v moment × ((volume_then c v moment).frozen ≡ None) × ((replica_at (volume_then c v moment) j).stuck ≡ true))
 IsStuck c v m j _ = ⊥
 
 pub record FlushDone (c : Course) (v j n : ℕ) : Type 0 where
@@ -329,6 +352,7 @@ pub record BeginFailed (c : Course) (v j f : ℕ) : Type 0 where
   pub rows : NoRows c
   pub elsewhere : OnlyOn c v
   pub step : OneStep c v Tries
+  pub thawed : (volume_then c v step.place).frozen ≡ None
   pub failed : RoseIn c v step.place j f
 
 abbrev pub CompactFailed : Course → ℕ → ℕ → ℕ → ℕ → Type 0
@@ -369,10 +393,11 @@ CompactDid c v m (Some j) (Compacted v' m' g) =
 CompactDid c v m (Some j) (ReadOnly by) = CompactRefused c v j by
 CompactDid c v m (Some j) (Busy v' m' g) =
     IsOn v m v' m' × DidNothing c
-    × ((moment : ℕ) × IsMoment c v moment × ((run : Run) × ((replica_at (volume_then c v moment) j).run ≡ Some run) × (run.goal ≡ g)))
+    × ((moment : ℕ) × IsMoment c v moment × ((volume_then c v moment).frozen ≡ None)
+    × ((run : Run) × ((replica_at (volume_then c v moment) j).run ≡ Some run) × (run.goal ≡ g)))
 CompactDid c v m (Some j) (Worn v' m') =
     IsOn v m v' m' × DidNothing c
-    × ((moment : ℕ) × IsMoment c v moment
+    × ((moment : ℕ) × IsMoment c v moment × ((volume_then c v moment).frozen ≡ None)
     × ((replica_at (volume_then c v moment) j).run ≡ None) × ((replica_at (volume_then c v moment) j).generation ≡ 65535))
 CompactDid c v m (Some j) (Failed v' m' f) = IsOn v m v' m' × CompactFailed c v m j f
 CompactDid c v m (Some j) NoMem = CompactWanting c v j

@@ -1,6 +1,6 @@
 -- The history of a block, and what a lane sees of it.
-use Rattle.std.specs.Prelude.{◌≡◌, ◌≢◌, ℕ, zero, suc, ◌≤◌, ◌==◌, List, [], ◌∷◌, length, filter, filter_map, Option, Some, None}
-use Rattle.std.specs.List.{enumerate_from}
+use Rattle.std.specs.Prelude.{◌≡◌, ◌≢◌, ℕ, zero, suc, ◌≤◌, ◌==◌, not, List, [], ◌∷◌, length, filter, filter_map, take_while, Contains, Option, Some, None}
+use Rattle.std.specs.List.{AllByRecursion as Each, enumerate_from}
 use Rattle.hay_needle.specs.declared.settings.Settings.{Settings}
 use Rattle.hay_core.specs.declared.entry.CoreTag.{CoreTag}
 use Rattle.hay_reply.specs.declared.LineVolume.{LineVolume}
@@ -9,7 +9,7 @@ use Rattle.hay_needle.specs.declared.needle.Pair.{Pair}
 use Rattle.hay_legal.specs.declared.known.Known.{Known}
 use Rattle.hay_legal.specs.declared.known.VolumeKnown.{VolumeKnown}
 use Rattle.hay_legal.specs.declared.turn.RowNote.{RowNote}
-use Rattle.hay_legal.specs.Known.{closed_by, drained_of, fault_count, home_in, refusal_by, room_refusal_of, slot_of, volume_at}
+use Rattle.hay_legal.specs.Known.{all_tries, closed_by, drained_of, fault_count, home_in, refusal_by, room_refusal_of, slot_of, volume_at}
 use Rattle.hay_history.specs.Steps.{Did, RowDid, RowsStanding, RowStep, Standing, Step}
 use Rattle.hay_history.specs.Steps.RowDid.{AddsRow}
 
@@ -130,10 +130,13 @@ pub record SeesHome (c : Course) (pair : Pair) (d : ℕ) (home : Option ℕ) : T
   pub front : d ≡ length ((rows_standing c moment).directory).rows
   pub is : home_in ((rows_standing c moment).directory).rows pair ≡ home
 
+-- the machine by which a volume was closed to changes then, if it was
+abbrev pub closing_then : Course → ℕ → ℕ → Option ℕ
+closing_then c v n = closed_by (volume_then c v n).frozen (drained_of c.settings c.k v)
+
 -- why a volume did not take a photo of this size then, if it did not
 abbrev pub refusal_then : Course → ℕ → ℕ → ℕ → Option Refused
-refusal_then c v n size =
-    refusal_by v (closed_by (volume_then c v n).frozen (drained_of c.settings c.k v)) (room_refusal_of c.settings v (volume_then c v n) size)
+refusal_then c v n size = refusal_by v (closing_then c v n) (room_refusal_of c.settings v (volume_then c v n) size)
 
 -- the line saw the volume refuse a photo so
 pub record SeesRefusal (c : Course) (size v : ℕ) (refused : Refused) : Type 0 where
@@ -141,11 +144,25 @@ pub record SeesRefusal (c : Course) (size v : ℕ) (refused : Refused) : Type 0 
   pub seen : IsMoment c v moment
   pub is : refusal_then c v moment size ≡ Some refused
 
+-- The line saw that a volume takes a photo of this size of a pair without a home, and that each try before it refuses it.
+pub record SeesTaker (c : Course) (pair : Pair) (size v : ℕ) : Type 0 where
+  pub tried : Contains (all_tries c.settings pair) v
+  pub moment : ℕ
+  pub seen : IsMoment c v moment
+  pub takes : refusal_then c v moment size ≡ None
+  pub before : Each (λ u. (refused : Refused) × SeesRefusal c size u refused) (take_while (λ u. not (u == v)) (all_tries c.settings pair))
+
+-- the line saw a volume open to changes
+pub record SeesOpen (c : Course) (v : ℕ) : Type 0 where
+  pub moment : ℕ
+  pub seen : IsMoment c v moment
+  pub is : closing_then c v moment ≡ None
+
 -- the machine by which the line saw a volume closed to changes
 pub record SeesClosed (c : Course) (v m : ℕ) : Type 0 where
   pub moment : ℕ
   pub seen : IsMoment c v moment
-  pub is : closed_by (volume_then c v moment).frozen (drained_of c.settings c.k v) ≡ Some m
+  pub is : closing_then c v moment ≡ Some m
 
 -- and by which it was frozen
 pub record SeesFrozen (c : Course) (v m : ℕ) : Type 0 where

@@ -35,7 +35,7 @@ use Rattle.hay_legal.specs.Known.{NoneFalls, fault_count, arm_count, slot_of, ma
 use Rattle.hay_legal.specs.Plain.{LegalPlain, LegalCommand, LegalGetAt, LegalShow, LegalFlush, LegalCompact, LegalBegin, LegalStep, LegalFinish, LegalFuse, OnReplica, RoseTo, HasCause, IsUnreadable, order_from, start_of, as_closed, DirectoryOpen}
 use Rattle.hay_legal.specs.Restarts.{LegalRestart}
 use Rattle.hay_legal.specs.Legal.{Legal, LegalTurn, known_after}
-use Rattle.hay_legal.specs.Subject.{known_behind, HasPhoto, NothingFailed, count_of, BlamesNothing, NothingIsBlamed, MayTake, IsStoredOrNoMem, TakenPutIsStored, HasEverywhere, IsShownOrNoMem, StandingPhotoIsShown, StandingPhotoIsGot}
+use Rattle.hay_legal.specs.Subject.{known_behind, HasPhoto, NothingFailed, BlamesNothing, NothingIsBlamed, MayTake, IsStoredOrNoMem, TakenPutIsStored, HasEverywhere, IsShownOrNoMem, StandingPhotoIsShown, StandingPhotoIsGot}
 use Rattle.hay_legal.proofs.Subject.Shown.{legal_split, at-now, last_look, spared_look, bytes_in, cookie_in}
 use Rattle.hay_legal.proofs.Subject.Effects.{plain_effect}
 use Rattle.hay_legal.proofs.Subject.Standing.{Standing, shown_stands}
@@ -131,43 +131,37 @@ not_rose_to settings k v j f t calm h =
     (sym h.count ∙ ap (λ (xs : List ℕ). slice_index xs (slot_of settings v j)) calm.faults)
     (count_below k.faults (slot_of settings v j) calm.disks)
 
--- a count that is printed though none rose is one that stands at its end
-came_up_end : (before printed after end : ℕ) → ((before < printed) × (printed ≤ after)) ⊎ (printed ≡ end) → after ≡ before → printed ≡ end
-came_up_end before printed after end (inl between) same = absurd (omega (arith, between.0, between.1, same))
-came_up_end before printed after end (inr at_end) same = at_end
+-- a count that did not rise, and does not stand at its end, is not printed
+not_come_up : (before printed after end : ℕ) → ((before < printed) ⊎ (printed ≡ end)) × (printed ≤ after) → after ≡ before → before < end → ⊥
+not_come_up before printed after end (inl above, below) same low = omega (arith, above, below, same)
+not_come_up before printed after end (inr at_end, below) same low = omega (arith, at_end, below, same, low)
 
-cause_at_end : (settings : Settings) (k t : Known) (tag : CoreTag) (v j : ℕ) (c : Cause) → NothingFailed k t → HasCause settings k t tag v j c → count_of c ≡ 2 ^ 64 - 1
-cause_at_end settings k t tag v j (cause.Arm f) calm h =
-    came_up_end (arm_count k tag.lane) f (arm_count t tag.lane) (2 ^ 64 - 1) h (ap (λ (xs : List ℕ). slice_index xs tag.lane) calm.arms)
-cause_at_end settings k t tag v j (cause.Disk f) calm h =
-    came_up_end (fault_count k (slot_of settings v j)) f (fault_count t (slot_of settings v j)) (2 ^ 64 - 1) h (ap (λ (xs : List ℕ). slice_index xs (slot_of settings v j)) calm.faults)
-cause_at_end settings k t tag v j (cause.Damage at) calm h = absurd h
+no_cause : (settings : Settings) (k t : Known) (tag : CoreTag) (v j : ℕ) (c : Cause) → NothingFailed k t → HasCause settings k t tag v j c → ⊥
+no_cause settings k t tag v j (cause.Arm f) calm h =
+    not_come_up (arm_count k tag.lane) f (arm_count t tag.lane) (2 ^ 64 - 1) h (ap (λ (xs : List ℕ). slice_index xs tag.lane) calm.arms)
+    (count_below k.arms tag.lane calm.lanes)
+no_cause settings k t tag v j (cause.Disk f) calm h =
+    not_come_up (fault_count k (slot_of settings v j)) f (fault_count t (slot_of settings v j)) (2 ^ 64 - 1) h
+    (ap (λ (xs : List ℕ). slice_index xs (slot_of settings v j)) calm.faults) (count_below k.faults (slot_of settings v j) calm.disks)
+no_cause settings k t tag v j (cause.Damage at) calm h = h
 
 abbrev Passes : Settings → Known → Known → CoreTag → ℕ → ℕ → Passed → Type 0
 Passes settings k t tag v j passed = (passed.machine ≡ machine_of settings v j) × HasCause settings k t tag v j passed.cause
 
-causes_at_end : (settings : Settings) (k t : Known) (tag : CoreTag) (v : ℕ) (js : List ℕ) (causes : List Passed) → NothingFailed k t
-    → AllZip (Passes settings k t tag v) js causes → Each (λ passed. count_of passed.cause ≡ 2 ^ 64 - 1) causes
-causes_at_end settings k t tag v [] [] calm h = tt
-causes_at_end settings k t tag v (j ∷ js) (passed ∷ causes) calm h =
-    (cause_at_end settings k t tag v j passed.cause calm h.0.1, causes_at_end settings k t tag v js causes calm h.1)
-causes_at_end settings k t tag v [] (passed ∷ causes) calm h = absurd h
-causes_at_end settings k t tag v (j ∷ js) [] calm h = absurd h
-
-some_cause : (settings : Settings) (k t : Known) (tag : CoreTag) (v : ℕ) (js : List ℕ) (causes : List Passed) → 0 < length js
-    → AllZip (Passes settings k t tag v) js causes → causes ≢ []
-some_cause settings k t tag v [] causes some h e = absurd (omega (arith, some))
-some_cause settings k t tag v (j ∷ js) [] some h e = absurd h
-some_cause settings k t tag v (j ∷ js) (passed ∷ causes) some h e = absurd cc
+no_causes : (settings : Settings) (k t : Known) (tag : CoreTag) (v : ℕ) (js : List ℕ) (causes : List Passed) → NothingFailed k t → 0 < length js
+    → AllZip (Passes settings k t tag v) js causes → ⊥
+no_causes settings k t tag v [] causes calm some h = omega (arith, some)
+no_causes settings k t tag v (j ∷ js) (passed ∷ causes) calm some h = no_cause settings k t tag v j passed.cause calm h.0.1
+no_causes settings k t tag v (j ∷ js) [] calm some h = h
 
 length-order : (settings : Settings) (start : ℕ) → length (order_from settings start) ≡ settings.replicas
 length-order settings start = length-map-range_with_len (λ i. (start + i) % settings.replicas) 0 settings.replicas
 
-unreadable_blames : (settings : Settings) (k : Known) (tag : CoreTag) (start : ℕ) (pair : Pair) (v p d : ℕ) (causes : List Passed) (t : Known) → 0 < settings.replicas
+pub unreadable_blames : (settings : Settings) (k : Known) (tag : CoreTag) (start : ℕ) (pair : Pair) (v p d : ℕ) (causes : List Passed) (t : Known) → 0 < settings.replicas
     → NothingFailed k t → IsUnreadable settings k tag start pair v p d causes t → BlamesNothing (reply.Unreadable v p d causes)
 unreadable_blames settings k tag start pair v p d causes t some calm h =
     let more : 0 < length (order_from settings start) = subst (λ (n : ℕ). 0 < n) (sym (length-order settings start)) some in
-    (causes_at_end settings k t tag v (order_from settings start) causes calm h.each, some_cause settings k t tag v (order_from settings start) causes more h.each)
+    no_causes settings k t tag v (order_from settings start) causes calm more h.each
 
 -- a reply to a command on a replica
 on_replica_never : (k : Known) (o : Option ℕ) (legal : ℕ → Reply → Known → Type 0) (r : Reply) (t : Known) → r ≢ reply.Nowhere → r ≢ reply.NoMem

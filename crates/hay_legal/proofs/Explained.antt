@@ -463,7 +463,7 @@ row_9 = record {
           (
             record { home = record { home = refl; «open» = refl; rows = refl }; stood = refl; position = refl; ended = []; cause = λ j e. cc; leaves = same_counts row_9_4 row_9_5 refl refl },
             (
-              ((refl, refl), refl, (record { goal = 1; left = 1 }, refl), refl, (120, 1, (lit≤ tt, lit≤ tt, lit≤ tt, lit≤ tt), same_counts row_9_5 row_9_6 refl refl)),
+              ((refl, refl), refl, ((record { goal = 1; left = 1 }, refl), lit< tt), refl, (120, 1, (lit≤ tt, lit≤ tt, lit≤ tt, lit≤ tt), same_counts row_9_5 row_9_6 refl refl)),
               (
                 record { seen = record { home = refl; front = refl; rows = refl }; replica = 0; there = refl; stands = refl; passed = inl (lit≤ tt); leaves = same_counts row_9_6 row_9_6 refl refl },
                 (
@@ -639,7 +639,7 @@ row_14 = record {
     record { taker = refl; directory = λ missing. refl; own = sym cookie_of-zero; position = refl; rows = refl; leaves = same_counts (fresh_unharmed (shaped 2 1 2)) row_14_1 refl refl },
     (
       record { seen = record { home = refl; front = refl; rows = refl }; replica = 1; there = refl; stands = refl; passed = inl (lit≤ tt); leaves = more_arms row_14_1 (1 ∷ 0 ∷ 0 ∷ 0 ∷ 0 ∷ 0 ∷ 0 ∷ 0 ∷ []) (lit≤ tt, (lit≤ tt, (lit≤ tt, (lit≤ tt, (lit≤ tt, (lit≤ tt, (lit≤ tt, (lit≤ tt, tt)))))))) },
-      (record { seen = record { home = refl; front = refl; rows = refl }; each = ((refl, inl (lit< tt, lit≤ tt)), ((refl, inl (lit< tt, lit≤ tt)), tt)); arms = ((inl (lit< tt), tt), (tt, tt)); leaves = more_arms row_14_2 (3 ∷ 0 ∷ 0 ∷ 0 ∷ 0 ∷ 0 ∷ 0 ∷ 0 ∷ []) (lit≤ tt, (lit≤ tt, (lit≤ tt, (lit≤ tt, (lit≤ tt, (lit≤ tt, (lit≤ tt, (lit≤ tt, tt)))))))) }, refl),
+      (record { seen = record { home = refl; front = refl; rows = refl }; each = ((refl, (inl (lit< tt), lit≤ tt)), ((refl, (inl (lit< tt), lit≤ tt)), tt)); arms = ((inl (lit< tt), tt), (tt, tt)); leaves = more_arms row_14_2 (3 ∷ 0 ∷ 0 ∷ 0 ∷ 0 ∷ 0 ∷ 0 ∷ 0 ∷ []) (lit≤ tt, (lit≤ tt, (lit≤ tt, (lit≤ tt, (lit≤ tt, (lit≤ tt, (lit≤ tt, (lit≤ tt, tt)))))))) }, refl),
     ),
   );
   text = refl;
@@ -758,7 +758,7 @@ row_23 = record {
         (
           ((refl, refl), refl, (record { goal = 1; left = 0 }, refl, refl, same_counts row_23_1 row_23_2 refl refl)),
           (
-            ((refl, refl), refl, (record { goal = 1; left = 0 }, refl), refl, (64, 0, (lit≤ tt, lit≤ tt, lit≤ tt, lit≤ tt), same_counts row_23_2 row_23_3 refl refl)),
+            ((refl, refl), refl, ((record { goal = 1; left = 0 }, refl), lit< tt), refl, (64, 0, (lit≤ tt, lit≤ tt, lit≤ tt, lit≤ tt), same_counts row_23_2 row_23_3 refl refl)),
             (
               ((refl, refl), refl, refl, same_counts row_23_3 row_23_3 refl refl),
               (

@@ -1,5 +1,5 @@
 -- A worked block of lanes, and blocks that are not legal.
-use Rattle.std.specs.Prelude.{◌≡◌, ℕ, false, List, [], ◌∷◌, codes, refl, Option, Some, None, slice_index_or, slice_get, Contains}
+use Rattle.std.specs.Prelude.{◌≡◌, ℕ, true, false, List, [], ◌∷◌, codes, refl, Option, Some, None, slice_index_or, slice_get, Contains}
 use Rattle.std.specs.List.{AllByRecursion as Each, enumerate_from}
 use Rattle.hay_needle.specs.declared.needle.Outcome.{Outcome}
 use Rattle.hay_needle.specs.declared.needle.Outcome.TheVariants as outcome
@@ -16,13 +16,14 @@ use Rattle.hay_core.specs.declared.entry.Entry.TheVariants as entry
 use Rattle.hay_core.specs.declared.entry.Entry.{Entry}
 use Rattle.hay_needle.specs.declared.needle.Cookie.{Cookie}
 use Rattle.hay_legal.specs.declared.known.Known.{Known}
+use Rattle.hay_legal.specs.declared.known.Pending.{Pending}
 use Rattle.hay_legal.specs.declared.turn.Item.TheVariants as item
 use Rattle.hay_legal.specs.declared.turn.LaneItem.{LaneItem}
 use Rattle.hay_legal.specs.declared.turn.LogNote.{LogNote}
 use Rattle.hay_legal.specs.declared.turn.RowNote.{RowNote}
 use Rattle.hay_legal.specs.declared.turn.Turn.TheVariants.{Lanes}
 use Rattle.hay_legal.specs.Known.{fresh_unharmed, empty_replica, empty_volume, volume_at, replica_at}
-use Rattle.hay_legal.specs.Blocks.{LegalBlock, IsMade, acknowledged, FreezesDirectory}
+use Rattle.hay_legal.specs.Blocks.{LegalBlock, IsMade, MayHaveFrozen, acknowledged}
 use Rattle.hay_legal.proofs.Steps.{one, pair, own, plain, none_falls, same_counts, Explains}
 
 -- two puts of two lanes, in the order of their lines
@@ -80,7 +81,20 @@ block = record {
   homes = record {
     kept = refl;
     from = refl;
-    each = (record { volume = refl; missing = refl; item = put_a; among = (0, lit< tt, refl); line = refl; bytes = codes "a"; put = refl; tried = (0, lit< tt, refl); before = tt }, tt);
+    each = (
+      record {
+        volume = refl;
+        item = put_a;
+        among = (0, lit< tt, refl);
+        line = refl;
+        bytes = codes "a";
+        put = refl;
+        reply = tt;
+        «open» = refl;
+        gets = record { missing = refl; tried = (0, lit< tt, refl); takes = (refl, ((64, (lit≤ tt, lit≤ tt), lit≤ tt), tt)); before = tt };
+      },
+      tt,
+    );
     distinct = (tt, tt);
   };
   fronts = record {
@@ -88,9 +102,9 @@ block = record {
     directory = (((tt, tt), ((lit≤ tt, lit≤ tt), tt)), (((tt, tt), ((lit≤ tt, lit≤ tt), tt)), (((tt, tt), ((lit≤ tt, lit≤ tt), tt)), ((tt, tt), ((tt, tt), ((tt, tt), ((tt, tt), ((tt, tt), tt))))))));
   };
   lines = (
-    (refl, sym cookie_of-zero, ((64, (lit≤ tt, lit≤ tt), lit≤ tt), tt)),
+    (refl, sym cookie_of-zero, (refl, ((64, (lit≤ tt, lit≤ tt), lit≤ tt), tt))),
     (
-      (refl, sym cookie_of-zero, ((64, (lit≤ tt, lit≤ tt), lit≤ tt), tt)),
+      (refl, sym cookie_of-zero, (refl, ((64, (lit≤ tt, lit≤ tt), lit≤ tt), tt))),
       (record { home = refl; replica = 0; there = refl; stands = refl }, tt),
     ),
   );
@@ -98,31 +112,36 @@ block = record {
     faults = none_falls (fresh_unharmed one).faults;
     arms = none_falls (fresh_unharmed one).arms;
     to_arm = λ line j. false;
-    as_printed = (tt, (tt, (tt, tt)));
+    as_printed = ((λ v p d causes is. absurd cc), ((λ v p d causes is. absurd cc), ((λ v p d causes is. absurd cc), tt)));
     disk = ((((tt, tt), inl (lit≤ tt)), tt), tt);
-    directory = (tt, tt);
+    directory = ((tt, tt), inl (lit≤ tt));
     arm = (((tt, tt), inl (lit≤ tt)), (((tt, tt), inl (lit≤ tt)), (((tt, tt), inl (lit≤ tt)), (((tt, tt), inl (lit≤ tt)), (((tt, tt), inl (lit≤ tt)), (((tt, tt), inl (lit≤ tt)), (((tt, tt), inl (lit≤ tt)), (((tt, tt), inl (lit≤ tt)), tt))))))));
   };
-  freezes = (record { frozen = inl refl; pending = inl refl }, tt);
-  replicas = (
-    (
-      record {
-        base = refl;
-        generations = record { inside_range = tt; once = tt; all = inl refl };
-        sizes = inl (refl, refl, refl);
-        bare = ((λ e. lit≤ tt), inl (refl, refl));
-        run = inl (refl, refl);
-        stuck = inl refl;
-        poised = inl refl;
-      },
-      tt,
-    ),
+  volumes = (
+    record {
+      many = refl;
+      froze = None;
+      freeze = (refl, refl);
+      lanes = (((λ e met opened. omega (arith, e)), ((λ e met opened. omega (arith, e)), tt)), (((λ e met opened. omega (arith, e)), tt), (tt, tt)));
+      replicas = (
+        record {
+          base = refl;
+          generations = record { inside_range = tt; once = tt; all = refl; last = λ less. omega (arith, less) };
+          sizes = inl (refl, refl, refl);
+          bare = ((λ e. lit≤ tt), inl (refl, refl));
+          run = inl (refl, refl);
+          stuck = inl (refl, refl);
+          poised = refl;
+        },
+        tt,
+      );
+    },
     tt,
   );
-  directory = record { frozen = inl refl; pending = inl refl };
+  directory = inl (refl, refl);
   drained = refl;
   fuses = refl;
-  volumes = refl;
+  many = refl;
 }
 
 row_15 : Explains one (fresh_unharmed one)
@@ -136,6 +155,109 @@ row_15 = record {
   items = refl;
   legal = (inl block, (record { seen = record { home = refl; front = refl; rows = refl }; replica = 0; there = refl; stands = refl; passed = inl (lit≤ tt); leaves = same_counts both both refl refl }, refl));
   text = refl;
+}
+
+-- a put that failed and froze its volume, and what met the freeze in other lanes
+abbrev frozen : Known
+frozen = record (fresh_unharmed one) {
+  volumes = record empty_volume {
+    frozen = Some 0;
+    pending = Some (record { tag = record { lane = 0; line = 2 }; entry = entry.Put (pair 1) own (codes "a"); failed = true });
+    replicas = empty_replica ∷ [];
+  } ∷ [];
+  directory = record { rows = record { pair = pair 1; volume = 0 } ∷ []; frozen = false; pending = None };
+  faults = 0 ∷ 1 ∷ [];
+}
+
+abbrev put_failed : LaneItem
+put_failed = put_line 2 0 (codes "a") (reply.Failed 0 0 1)
+
+abbrev put_refused : LaneItem
+put_refused = put_line 3 1 (codes "b") (reply.ReadOnly (record { volume = 0; machine = 0 } ∷ []))
+
+abbrev flush_refused : LaneItem
+flush_refused = record { line = 4; lane = 2; item = item.Command (command.Flush 0 0); reply = reply.ReadOnly (record { volume = 0; machine = 0 } ∷ []) }
+
+abbrev met_freeze : List LaneItem
+met_freeze = put_failed ∷ put_refused ∷ flush_refused ∷ []
+
+abbrev left_pending : Cookie → Option Pending
+left_pending cookie = Some (record { tag = record { lane = 0; line = 2 }; entry = entry.Put (pair 1) cookie (codes "a"); failed = true })
+
+freezing_block : LegalBlock one (fresh_unharmed one) met_freeze [] (record { from = 0; rows = record { line = 2; volume = 0 } ∷ [] }) frozen
+freezing_block = record {
+  notes = refl;
+  entered = (tt, (tt, (tt, tt)));
+  log = (record { kept = refl; made = tt }, tt);
+  homes = record {
+    kept = refl;
+    from = refl;
+    each = (
+      record {
+        volume = refl;
+        item = put_failed;
+        among = (0, lit< tt, refl);
+        line = refl;
+        bytes = codes "a";
+        put = refl;
+        reply = tt;
+        «open» = refl;
+        gets = record { missing = refl; tried = (0, lit< tt, refl); takes = (refl, ((64, (lit≤ tt, lit≤ tt), lit≤ tt), tt)); before = tt };
+      },
+      tt,
+    );
+    distinct = (tt, tt);
+  };
+  fronts = record {
+    volumes = (((tt, tt), tt), (((tt, tt), tt), (((tt, tt), tt), (((tt, tt), tt), (((tt, tt), tt), (((tt, tt), tt), (((tt, tt), tt), (((tt, tt), tt), tt))))))));
+    directory = ((tt, tt), ((tt, tt), ((tt, tt), ((tt, tt), ((tt, tt), ((tt, tt), ((tt, tt), ((tt, tt), tt))))))));
+  };
+  lines = (
+    ((1, lit≤ tt, lit≤ tt, refl), (0, refl), (refl, ((64, (lit≤ tt, lit≤ tt), lit≤ tt), tt)), (refl, ap left_pending (sym cookie_of-zero))),
+    (inr (0, (1, lit≤ tt, lit≤ tt, refl), (refl, inr refl)), (inl (refl, refl), tt)),
+  );
+  counts = record {
+    faults = (lit≤ tt, (lit≤ tt, tt));
+    arms = none_falls (fresh_unharmed one).arms;
+    to_arm = λ line j. false;
+    as_printed = ((λ v p d causes is. absurd cc), ((λ v p d causes is. absurd cc), ((λ v p d causes is. absurd cc), tt)));
+    disk = ((((((inl (lit< tt), lit≤ tt), tt), (tt, tt)), inl (lit≤ tt)), tt), tt);
+    directory = ((tt, tt), inl (lit≤ tt));
+    arm = (((tt, tt), inl (lit≤ tt)), (((tt, tt), inl (lit≤ tt)), (((tt, tt), inl (lit≤ tt)), (((tt, tt), inl (lit≤ tt)), (((tt, tt), inl (lit≤ tt)), (((tt, tt), inl (lit≤ tt)), (((tt, tt), inl (lit≤ tt)), (((tt, tt), inl (lit≤ tt)), tt))))))));
+  };
+  volumes = (
+    record {
+      many = refl;
+      froze = Some put_failed;
+      freeze = record {
+        among = (0, lit< tt, refl);
+        «open» = refl;
+        machine = 0;
+        frozen = refl;
+        change = Some (entry.Put (pair 1) own (codes "a"));
+        freezes = ((refl, refl), ap (entry_with (codes "a")) (sym cookie_of-zero));
+        pending = refl;
+      };
+      lanes = (((λ e met opened. omega (arith, e)), ((λ e met opened. omega (arith, e)), tt)), (((λ e met opened. omega (arith, e)), tt), (tt, tt)));
+      replicas = (
+        record {
+          base = refl;
+          generations = record { inside_range = tt; once = tt; all = refl; last = λ less. omega (arith, less) };
+          sizes = inl (refl, refl, refl);
+          bare = ((λ e. lit≤ tt), inl (refl, refl));
+          run = inl (refl, refl);
+          stuck = inl (refl, refl);
+          poised = refl;
+        },
+        tt,
+      );
+    },
+    tt,
+  );
+  directory = inl (refl, refl);
+  drained = refl;
+  fuses = refl;
+  many = refl;
 }
 
 -- BLOCKS THAT ARE NOT LEGAL
@@ -170,11 +292,11 @@ position_skipped logs rows t b = skips _ _ (b.entered.0).1.1 (b.log.0).made
 -- the Directory frozen by nothing
 no_freeze : (logs : List LogNote) (rows : RowNote) (t : Known) → LegalBlock one (fresh_unharmed one) (alone reply.ReadOnlyDir) logs rows t → ⊥
 no_freeze logs rows t b =
-    elim (b.lines.0).1.1 [
-      | inl was ↦ cc
+    elim b.directory [
+      | inl same ↦ let clash : true ≡ false = sym (b.lines.0).1 ∙ same.0 in absurd cc
       | inr froze ↦
-          let same : put_line 2 0 (codes "a") reply.ReadOnlyDir ≡ froze.0 = the_only reply.ReadOnlyDir froze.0 froze.1 in
-          subst (λ i. FreezesDirectory i) (sym same) froze.2
+          let same : put_line 2 0 (codes "a") reply.ReadOnlyDir ≡ froze.item = the_only reply.ReadOnlyDir froze.item froze.among in
+          subst (λ i. MayHaveFrozen i.reply) (sym same) froze.reply
     ]
 
 abbrev reads : List LaneItem
@@ -190,7 +312,7 @@ unfolding is_photo
 photo_too_early logs rows t b =
     let shown = b.lines.0 in
     let j : shown.replica ≡ 0 = cc in
-    let base : (replica_at (volume_at t 0) 0).base ≡ [] = ((b.replicas.0).0).base in
+    let base : (replica_at (volume_at t 0) 0).base ≡ [] = (((b.volumes.0).replicas).0).base in
     let stands : outcome_at (replica_at (volume_at t 0) 0).base (pair 1) ≡ outcome.Photo (record { cookie = own; bytes = codes "a" }) =
     subst (λ i. outcome_at (replica_at (volume_at t 0) i).base (pair 1) ≡ outcome.Photo (record { cookie = own; bytes = codes "a" })) j shown.stands in
     let nothing : outcome.Nothing ≡ outcome.Photo (record { cookie = own; bytes = codes "a" }) =

@@ -1,5 +1,5 @@
 -- Which blocks of lanes are legal: what their replies show of the log, the rows and the counts, whatever the order was.
-use Rattle.std.specs.Prelude.{◌≡◌, ◌≢◌, ℕ, ◌+◌, ◌-◌, ◌^◌, ◌<◌, ◌≤◌, ◌==◌, ◌&&◌, ◌⊎◌, not, Bool, true, false, cond, List, [], ◌∷◌, length, map, drop, take, filter, filter_map, flat_map, sum_by, count_by, take_while, slice_get, unwrap_or, Contains, Option, Some, None, option_map, if◌then◌else◌}
+use Rattle.std.specs.Prelude.{◌≡◌, ◌≢◌, ℕ, ◌+◌, ◌-◌, ◌^◌, ◌<◌, ◌≤◌, ◌==◌, ◌&&◌, ◌||◌, ◌⊎◌, not, Bool, true, false, cond, List, [], ◌∷◌, length, map, drop, take, filter, filter_map, flat_map, sum_by, count_by, take_while, slice_get, unwrap_or, Contains, Option, Some, None, option_map, if◌then◌else◌}
 use Rattle.std.specs.List.{AllZip, AllByRecursion as Each, list_any, enumerate_from}
 use Rattle.hay_needle.specs.declared.needle.Pair.{Pair}
 use Rattle.hay_needle.specs.declared.needle.Cookie.{Cookie}
@@ -18,7 +18,7 @@ use Rattle.hay_reply.specs.declared.Cause.TheVariants.{Arm, Disk, Damage}
 use Rattle.hay_reply.specs.declared.Passed.{Passed}
 use Rattle.hay_reply.specs.declared.LineVolume.{LineVolume}
 use Rattle.hay_reply.specs.declared.Reply.{Reply}
-use Rattle.hay_reply.specs.declared.Reply.TheVariants.{Stored, Deleted, Photo, Gone, Absent, WrongCookie, Unknown, Moved, Url, Full, ReadOnly, ReadOnlyDir, Failed, FailedDir, Unreadable, Flushed, Compacted, Busy, Worn, Nowhere, BadLine, NoMem}
+use Rattle.hay_reply.specs.declared.Reply.TheVariants.{Stored, Deleted, Photo, Gone, Absent, WrongCookie, Unknown, Moved, Url, Full, ReadOnly, ReadOnlyDir, Failed, FailedDir, Unreadable, Damaged, Flushed, Begun, Stepped, Compacted, Busy, Idle, Worn, Drained, Undrained, Fused, FusedDir, Nowhere, Restarted, BadLine, Unbuilt, NoMem}
 use Rattle.hay_core.specs.declared.entry.Entry.{Entry}
 use Rattle.hay_core.specs.declared.entry.Entry.TheVariants as entry
 use Rattle.hay_core.specs.declared.entry.CoreTag.{CoreTag}
@@ -30,6 +30,7 @@ use Rattle.hay_core.specs.declared.entry.Logged.{Logged}
 use Rattle.hay_legal.specs.declared.known.Run.{Run}
 use Rattle.hay_legal.specs.declared.known.ReplicaKnown.{ReplicaKnown}
 use Rattle.hay_legal.specs.declared.known.HomeRow.{HomeRow}
+use Rattle.hay_legal.specs.declared.known.Pending.{Pending}
 use Rattle.hay_legal.specs.declared.known.Known.{Known}
 use Rattle.hay_legal.specs.declared.turn.Item.{Item}
 use Rattle.hay_legal.specs.declared.turn.Item.TheVariants as asks
@@ -37,7 +38,64 @@ use Rattle.hay_legal.specs.declared.turn.LaneItem.{LaneItem}
 use Rattle.hay_legal.specs.declared.turn.LogNote.{LogNote}
 use Rattle.hay_legal.specs.declared.turn.RowNote.{RowNote}
 use Rattle.hay_legal.specs.Known.{volume_at, replica_at, machine_of, slot_of, replica_on, home_at, home_of, all_tries, at_front, now, closed, fault_count, arm_count, CameUp, NoneFalls, EachPair, replicas_of, volumes_of, all_lanes}
-use Rattle.hay_legal.specs.Plain.{GetShows, order_from, start_of, as_closed, first_machine, lacks}
+use Rattle.hay_legal.specs.Plain.{GetShows, IsFrozenBy, IsOpen, as_closed, first_machine, lacks, order_from, put_entry, start_of}
+
+-- WHAT A REPLY TELLS
+
+-- the volume, the machine, and the number or the fronts of the volume and of the Directory that it prints
+pub data Told : Type 0 where
+  -- a change, at this position
+  Changed : ℕ → ℕ → ℕ → Told
+  -- what a replica shows, why none shows anything, or that nothing is there
+  Shown : ℕ → ℕ → ℕ → ℕ → Told
+  ShownByNone : ℕ → ℕ → ℕ → List Passed → Told
+  ShownNothing : ℕ → ℕ → ℕ → Told
+  -- what the rows tell
+  ShownRows : ℕ → Told
+  -- a fault of a replica's disk, or of the Directory's
+  Blamed : ℕ → ℕ → ℕ → Told
+  BlamedRows : ℕ → Told
+  -- the records that were written of a replica, or the generation that was made
+  Recorded : ℕ → ℕ → ℕ → Told
+  Made : ℕ → ℕ → ℕ → Told
+  -- want of memory, a refusal, or what no line of a block is answered
+  Wanted : Told
+  RefusedIt : Told
+  NotInBlocks : Told
+
+abbrev pub told : Reply → Told
+told (Stored v p d c) = Changed v p d
+told (Deleted v p d) = Changed v p d
+told (Photo v m p d bytes) = Shown v m p d
+told (Gone v m p d) = Shown v m p d
+told (WrongCookie v m p d) = Shown v m p d
+told (Unreadable v p d causes) = ShownByNone v p d causes
+told (Absent v p d) = ShownNothing v p d
+told (Unknown d) = ShownRows d
+told (Moved v d) = ShownRows d
+told (Url d url) = ShownRows d
+told (Failed v m f) = Blamed v m f
+told (FailedDir f) = BlamedRows f
+told (Flushed v m n) = Recorded v m n
+told (Compacted v m g) = Made v m g
+told NoMem = Wanted
+told (Full refused) = RefusedIt
+told (ReadOnly by) = RefusedIt
+told ReadOnlyDir = RefusedIt
+told (Busy v m g) = RefusedIt
+told (Worn v m) = RefusedIt
+told Nowhere = RefusedIt
+told BadLine = RefusedIt
+told (Damaged v m at) = NotInBlocks
+told (Begun v m g) = NotInBlocks
+told (Stepped v m n) = NotInBlocks
+told (Idle v m) = NotInBlocks
+told (Drained m) = NotInBlocks
+told (Undrained m) = NotInBlocks
+told (Fused v m n) = NotInBlocks
+told (FusedDir n) = NotInBlocks
+told (Restarted d) = NotInBlocks
+told Unbuilt = NotInBlocks
 
 -- WHAT IS NEW
 
@@ -78,9 +136,11 @@ entry_of_item settings asks.Bad = None
 
 -- the volume and the position that a reply acknowledges
 abbrev pub acknowledged : Reply → Option (ℕ × ℕ)
-acknowledged (Stored v p d c) = Some (v, p)
-acknowledged (Deleted v p d) = Some (v, p)
-acknowledged _ = None
+acknowledged reply = changed (told reply)
+  where
+    changed : Told → Option (ℕ × ℕ)
+    changed (Changed v p d) = Some (v, p)
+    changed _ = None
 
 -- the entry at this position is this line's
 pub record IsEntryOf (settings : Settings) (item : LaneItem) (logged : Logged) : Type 0 where
@@ -119,6 +179,17 @@ log_note k t v = log_note_of (new_entries k t v)
 abbrev pub log_notes : Settings → Known → Known → List LogNote
 log_notes settings k t = flat_map (log_note k t) (volumes_of settings)
 
+-- HOMES
+
+-- a pair's home at a front of the Directory
+abbrev pub HomeAt : Known → Pair → ℕ → Option ℕ → Type 0
+HomeAt t pair d home = home_at t.directory.rows d pair ≡ home
+
+-- a lone volume in a reply is the pair's home at some front of the block
+abbrev pub HomeInBlock : Known → Known → Pair → ℕ → Type 0
+HomeInBlock k t pair v =
+    (d : ℕ) × (length k.directory.rows ≤ d) × (d ≤ length t.directory.rows) × HomeAt t pair d (Some v)
+
 -- ROOM: a printed end, and the end at a put, lie in a range
 
 abbrev pub is_compacted : ℕ → ℕ → LaneItem → Bool
@@ -144,67 +215,56 @@ highest_end k t v j = (replica_at (volume_at k v) j).end + sum_by put_total (new
 abbrev pub MayEnd : Settings → Known → List LaneItem → Known → ℕ → ℕ → ℕ → Type 0
 MayEnd settings k items t v j end = (lowest_end settings k items v j ≤ end) × (end ≤ highest_end k t v j)
 
--- the replica on this machine may have lacked room for a photo of this size
-abbrev pub MayLackRoom : Settings → Known → List LaneItem → Known → ℕ → Refused → Type 0
-MayLackRoom settings k items t size (NoRoom v m end need) =
-    (j : ℕ) × (replica_on settings v m ≡ Some j) × MayEnd settings k items t v j end
-    × (need ≡ total_of_lem size) × (settings.capacity < end + need + 8)
-MayLackRoom settings k items t size (Closed v m) = ⊥
-
+-- each replica had room for a photo of this size at some time
 abbrev pub MayHaveRoom : Settings → Known → List LaneItem → Known → ℕ → ℕ → Type 0
 MayHaveRoom settings k items t size v =
     Each (λ j. (end : ℕ) × MayEnd settings k items t v j end × (end + total_of_lem size + 8 ≤ settings.capacity)) (replicas_of settings)
 
--- FREEZES: a volume may have been frozen in the block where it is frozen behind it
+-- a volume may have taken a photo of this size: what was closed before the block takes no change in it
+abbrev pub MayHaveTaken : Settings → Known → List LaneItem → Known → ℕ → ℕ → Type 0
+MayHaveTaken settings k items t size v = (closed settings k v ≡ None) × MayHaveRoom settings k items t size v
 
--- a reply of the block that froze a volume by this machine
-abbrev pub Freezes : Settings → ℕ → ℕ → LaneItem → Type 0
-Freezes settings v m item = FreezesBy item.item item.reply
-  where
-    FreezesAs : Command → Reply → Type 0
-    FreezesAs (command.Flush v' m') reply = ⊥
-    FreezesAs (command.Url pair) reply = ⊥
-    FreezesAs (command.Compact v' m') NoMem = (v' ≡ v) × (m ≡ first_machine settings v)
-    FreezesAs command (Failed v' m' f) = (v' ≡ v) × (m' ≡ m)
-    FreezesAs command NoMem = m ≡ first_machine settings v
-    FreezesAs command _ = ⊥
+-- a volume was closed by this machine before the block, or it was frozen by it in the block, and is so still
+abbrev pub MayBeClosed : Settings → Known → Known → ℕ → ℕ → Type 0
+MayBeClosed settings k t v m = (closed settings k v ≡ Some m) ⊎ ((volume_at t v).frozen ≡ Some m)
 
-    FreezesBy : Item → Reply → Type 0
-    FreezesBy (asks.Command command) reply = FreezesAs command reply
-    FreezesBy asks.Bad reply = ⊥
+-- why a volume may have refused a photo of this size
+abbrev pub MayRefuse : Settings → Known → List LaneItem → Known → ℕ → ℕ → Refused → Type 0
+MayRefuse settings k items t size v (NoRoom v' m end need) =
+    (v' ≡ v) × (closed settings k v ≡ None)
+    × ((j : ℕ) × (replica_on settings v m ≡ Some j) × MayEnd settings k items t v j end)
+    × (need ≡ total_of_lem size) × (settings.capacity < end + need + 8)
+MayRefuse settings k items t size v (Closed v' m) = (v' ≡ v) × MayBeClosed settings k t v m
 
-abbrev pub SticksBy : ℕ → ℕ → LaneItem → Type 0
-SticksBy v m item = Sticks item.item item.reply
-  where
-    SticksAs : Command → Reply → Type 0
-    SticksAs (command.Flush v' m') (Failed v'' m'' f) = (v' ≡ v) × (m' ≡ m)
-    SticksAs _ _ = ⊥
+-- ROWS: each new row is that of a put line, at the try that may have taken its photo
 
-    Sticks : Item → Reply → Type 0
-    Sticks (asks.Command command) reply = SticksAs command reply
-    Sticks asks.Bad reply = ⊥
+-- A volume may have got the row of a pair for a photo of this size: the pair had no home before the block, and the volume
+-- is the try that may have taken the photo, before which each try may have refused it.
+pub record MayGetRow (settings : Settings) (k : Known) (items : List LaneItem) (t : Known) (pair : Pair) (size v : ℕ) : Type 0 where
+  pub missing : home_of k pair ≡ None
+  pub tried : Contains (all_tries settings pair) v
+  pub takes : MayHaveTaken settings k items t size v
+  pub before : Each (λ u. (refused : Refused) × MayRefuse settings k items t size u refused) (take_while (λ u. not (u == v)) (all_tries settings pair))
 
--- a volume was closed by this machine before the block, or was frozen by it in the block
-abbrev pub MayBeClosed : Settings → Known → List LaneItem → Known → ℕ → ℕ → Type 0
-MayBeClosed settings k items t v m =
-    (closed settings k v ≡ Some m)
-    ⊎ (((volume_at t v).frozen ≡ Some m) × (item : LaneItem) × Contains items item × Freezes settings v m item)
-
--- ROWS: each new row is that of a put line, at a try before which each try may have refused
+-- a reply to a put that may have added its row
+abbrev pub MayHaveAdded : Reply → Type 0
+MayHaveAdded (Stored v p d c) = Unit {0}
+MayHaveAdded (Full refused) = Unit {0}
+MayHaveAdded (ReadOnly by) = Unit {0}
+MayHaveAdded (Failed v m f) = Unit {0}
+MayHaveAdded NoMem = Unit {0}
+MayHaveAdded _ = ⊥
 
 pub record IsNewRow (settings : Settings) (k : Known) (items : List LaneItem) (t : Known) (named : LineVolume) (row : HomeRow) : Type 0 where
   pub volume : named.volume ≡ row.volume
-  pub missing : home_of k row.pair ≡ None
   pub item : LaneItem
   pub among : Contains items item
   pub line : item.line ≡ named.line
   pub bytes : List ℕ
   pub put : item.item ≡ asks.Command (command.Put row.pair bytes)
-  pub tried : Contains (all_tries settings row.pair) row.volume
-  pub before : Each
-      (λ v. ((m : ℕ) × MayBeClosed settings k items t v m)
-      ⊎ ((refused : Refused) × MayLackRoom settings k items t (length bytes) refused))
-      (take_while (λ v. not (v == row.volume)) (all_tries settings row.pair))
+  pub reply : MayHaveAdded item.reply
+  pub «open» : k.directory.frozen ≡ false
+  pub gets : MayGetRow settings k items t row.pair (length bytes) row.volume
 
 pub record RowsAreLegal (settings : Settings) (k : Known) (items : List LaneItem) (rows : RowNote) (t : Known) : Type 0 where
   pub kept : take (length k.directory.rows) t.directory.rows ≡ k.directory.rows
@@ -224,28 +284,26 @@ printed front entered = record { front = front; entered = entered }
 
 -- what a reply prints of the volume v
 abbrev pub volume_print : ℕ → Reply → List Printed
-volume_print v (Stored v' p d c) = cond (v' == v) (printed p true ∷ []) []
-volume_print v (Deleted v' p d) = cond (v' == v) (printed p true ∷ []) []
-volume_print v (Photo v' m p d bytes) = cond (v' == v) (printed p false ∷ []) []
-volume_print v (Gone v' m p d) = cond (v' == v) (printed p false ∷ []) []
-volume_print v (Absent v' p d) = cond (v' == v) (printed p false ∷ []) []
-volume_print v (WrongCookie v' m p d) = cond (v' == v) (printed p false ∷ []) []
-volume_print v (Unreadable v' p d causes) = cond (v' == v) (printed p false ∷ []) []
-volume_print v _ = []
+volume_print v reply = prints (told reply)
+  where
+    prints : Told → List Printed
+    prints (Changed v' p d) = cond (v' == v) (printed p true ∷ []) []
+    prints (Shown v' m p d) = cond (v' == v) (printed p false ∷ []) []
+    prints (ShownByNone v' p d causes) = cond (v' == v) (printed p false ∷ []) []
+    prints (ShownNothing v' p d) = cond (v' == v) (printed p false ∷ []) []
+    prints _ = []
 
 -- what it prints of the Directory
 abbrev pub row_print : Reply → List Printed
-row_print (Stored v p d c) = printed d false ∷ []
-row_print (Deleted v p d) = printed d false ∷ []
-row_print (Photo v m p d bytes) = printed d false ∷ []
-row_print (Gone v m p d) = printed d false ∷ []
-row_print (Absent v p d) = printed d false ∷ []
-row_print (WrongCookie v m p d) = printed d false ∷ []
-row_print (Unreadable v p d causes) = printed d false ∷ []
-row_print (Unknown d) = printed d false ∷ []
-row_print (Moved v d) = printed d false ∷ []
-row_print (Url d url) = printed d false ∷ []
-row_print _ = []
+row_print reply = prints (told reply)
+  where
+    prints : Told → List Printed
+    prints (Changed v p d) = printed d false ∷ []
+    prints (Shown v m p d) = printed d false ∷ []
+    prints (ShownByNone v p d causes) = printed d false ∷ []
+    prints (ShownNothing v p d) = printed d false ∷ []
+    prints (ShownRows d) = printed d false ∷ []
+    prints _ = []
 
 abbrev pub lane_items : List LaneItem → ℕ → List LaneItem
 lane_items items lane = filter (λ item. item.lane == lane) items
@@ -272,10 +330,6 @@ pub record FrontsAreLegal (settings : Settings) (k : Known) (items : List LaneIt
       all_lanes
 
 -- READS: a reply is what its printed fronts show
-
--- a pair's home at a front of the Directory
-abbrev pub HomeAt : Known → Pair → ℕ → Option ℕ → Type 0
-HomeAt t pair d home = home_at t.directory.rows d pair ≡ home
 
 abbrev pub outcome_then : Known → ℕ → ℕ → ℕ → Pair → Outcome
 outcome_then t v j p pair = outcome_at (at_front (volume_at t v) (replica_at (volume_at t v) j) p) pair
@@ -315,30 +369,28 @@ StoodThen settings t v p pair = list_any (λ j. stands (outcome_then t v j p pai
 abbrev pub NothingThen : Settings → Known → ℕ → ℕ → Pair → Type 0
 NothingThen settings t v p pair = list_any (λ j. stands (outcome_then t v j p pair)) (replicas_of settings) ≡ false
 
--- a lone volume in a reply is the pair's home at some front of the block
-abbrev pub HomeInBlock : Known → Known → Pair → ℕ → Type 0
-HomeInBlock k t pair v =
-    (d : ℕ) × (length k.directory.rows ≤ d) × (d ≤ length t.directory.rows) × HomeAt t pair d (Some v)
+-- DELETES
 
-abbrev pub ClosedHome : Settings → Known → List LaneItem → Known → Pair → List ClosedBy → Type 0
-ClosedHome settings k items t pair (by ∷ []) = HomeInBlock k t pair by.volume × MayBeClosed settings k items t by.volume by.machine
-ClosedHome settings k items t pair _ = ⊥
+-- some replica of the volume is on this machine
+abbrev pub HasReplica : Settings → ℕ → ℕ → Type 0
+HasReplica settings v m = (j : ℕ) × (replica_on settings v m ≡ Some j)
 
-abbrev pub DelIsLegal : Settings → Known → List LaneItem → Known → Pair → Reply → Type 0
-DelIsLegal settings k items t pair (Deleted v p d) = HomeAt t pair d (Some v) × StoodThen settings t v (p - 1) pair
-DelIsLegal settings k items t pair (Absent v p d) = HomeAt t pair d (Some v) × NothingThen settings t v p pair
-DelIsLegal settings k items t pair (Unknown d) = HomeAt t pair d None
-DelIsLegal settings k items t pair (ReadOnly by) = ClosedHome settings k items t pair by
-DelIsLegal settings k items t pair (Failed v m f) = HomeInBlock k t pair v
-DelIsLegal settings k items t pair NoMem = Unit {0}
-DelIsLegal settings k items t pair _ = ⊥
+abbrev pub ClosedHome : Settings → Known → Known → Pair → List ClosedBy → Type 0
+ClosedHome settings k t pair (by ∷ []) = HomeInBlock k t pair by.volume × MayBeClosed settings k t by.volume by.machine
+ClosedHome settings k t pair _ = ⊥
+
+abbrev pub DelIsLegal : Settings → Known → Known → Pair → Reply → Type 0
+DelIsLegal settings k t pair (Deleted v p d) =
+    HomeAt t pair d (Some v) × (closed settings k v ≡ None) × StoodThen settings t v (p - 1) pair
+DelIsLegal settings k t pair (Absent v p d) =
+    HomeAt t pair d (Some v) × (closed settings k v ≡ None) × NothingThen settings t v p pair
+DelIsLegal settings k t pair (Unknown d) = HomeAt t pair d None
+DelIsLegal settings k t pair (ReadOnly by) = ClosedHome settings k t pair by
+DelIsLegal settings k t pair (Failed v m f) = HomeInBlock k t pair v × HasReplica settings v m × (closed settings k v ≡ None)
+DelIsLegal settings k t pair NoMem = Unit {0}
+DelIsLegal settings k t pair _ = ⊥
 
 -- PUTS
-
--- why a try of an unsettled pair may have refused
-abbrev pub MayRefuse : Settings → Known → List LaneItem → Known → ℕ → ℕ → Refused → Type 0
-MayRefuse settings k items t size v (NoRoom v' m end need) = (v' ≡ v) × MayLackRoom settings k items t size (NoRoom v' m end need)
-MayRefuse settings k items t size v (Closed v' m) = (v' ≡ v) × MayBeClosed settings k items t v m
 
 abbrev pub TriesRefuse : Settings → Known → List LaneItem → Known → Pair → List ℕ → List Refused → Type 0
 TriesRefuse settings k items t pair bytes refused =
@@ -353,63 +405,75 @@ abbrev pub RefusesPut : Settings → Known → List LaneItem → Known → Pair 
 RefusesPut settings k items t pair bytes refused =
     TriesRefuse settings k items t pair bytes refused ⊎ HomeRefuses settings k items t pair bytes refused
 
--- a reply of the block that froze the Directory
-abbrev pub FreezesDirectory : LaneItem → Type 0
-FreezesDirectory item = FreezesBy item.item item.reply
-  where
-    FreezesAs : Command → Reply → Type 0
-    FreezesAs (command.Put pair bytes) (FailedDir f) = Unit {0}
-    FreezesAs (command.Put pair bytes) NoMem = Unit {0}
-    FreezesAs _ _ = ⊥
+-- a volume is left frozen by this machine, with this change pending
+abbrev pub IsLeftPending : Known → ℕ → ℕ → Pending → Type 0
+IsLeftPending t v m pending = ((volume_at t v).frozen ≡ Some m) × ((volume_at t v).pending ≡ Some pending)
 
-    FreezesBy : Item → Reply → Type 0
-    FreezesBy (asks.Command command) reply = FreezesAs command reply
-    FreezesBy asks.Bad reply = ⊥
+-- the Directory is left frozen, with the row of a pair pending that has none
+abbrev pub RowIsPending : Known → CoreTag → Pair → ℕ → Type 0
+RowIsPending t tag pair v =
+    (home_of t pair ≡ None) × (t.directory.frozen ≡ true)
+    × (t.directory.pending ≡ Some (record { tag = tag; row = record { pair = pair; volume = v } }))
 
-abbrev pub DirectoryMayBeFrozen : Known → List LaneItem → Known → Type 0
-DirectoryMayBeFrozen k items t =
-    (t.directory.frozen ≡ true)
-    × ((k.directory.frozen ≡ true) ⊎ ((item : LaneItem) × Contains items item × FreezesDirectory item))
-
-abbrev pub PutIsLegal : Settings → Known → List LaneItem → Known → Pair → List ℕ → Reply → Type 0
-PutIsLegal settings k items t pair bytes (Stored v p d c) =
-    HomeAt t pair d (Some v) × (c ≡ cookie_of settings.secret pair.key) × MayHaveRoom settings k items t (length bytes) v
-PutIsLegal settings k items t pair bytes (Full refused) =
+abbrev pub PutIsLegal : Settings → Known → List LaneItem → Known → CoreTag → Pair → List ℕ → Reply → Type 0
+PutIsLegal settings k items t tag pair bytes (Stored v p d c) =
+    HomeAt t pair d (Some v) × (c ≡ cookie_of settings.secret pair.key) × MayHaveTaken settings k items t (length bytes) v
+PutIsLegal settings k items t tag pair bytes (Full refused) =
     RefusesPut settings k items t pair bytes refused × (list_any lacks refused ≡ true)
-PutIsLegal settings k items t pair bytes (ReadOnly by) = RefusesPut settings k items t pair bytes (map as_closed by)
-PutIsLegal settings k items t pair bytes ReadOnlyDir = (home_of k pair ≡ None) × DirectoryMayBeFrozen k items t
-PutIsLegal settings k items t pair bytes (Failed v m f) = Contains (all_tries settings pair) v
-PutIsLegal settings k items t pair bytes (FailedDir f) = (home_of k pair ≡ None) × (t.directory.frozen ≡ true)
-PutIsLegal settings k items t pair bytes NoMem = Unit {0}
-PutIsLegal settings k items t pair bytes _ = ⊥
+PutIsLegal settings k items t tag pair bytes (ReadOnly by) = RefusesPut settings k items t pair bytes (map as_closed by)
+PutIsLegal settings k items t tag pair bytes ReadOnlyDir =
+    ((v : ℕ) × MayGetRow settings k items t pair (length bytes) v) × (t.directory.frozen ≡ true)
+PutIsLegal settings k items t tag pair bytes (Failed v m f) =
+    HomeInBlock k t pair v × HasReplica settings v m × MayHaveTaken settings k items t (length bytes) v
+    × IsLeftPending t v m (record { tag = tag; entry = put_entry settings pair bytes; failed = true })
+PutIsLegal settings k items t tag pair bytes (FailedDir f) =
+    (k.directory.frozen ≡ false) × ((v : ℕ) × MayGetRow settings k items t pair (length bytes) v × RowIsPending t tag pair v)
+PutIsLegal settings k items t tag pair bytes NoMem = Unit {0}
+PutIsLegal settings k items t tag pair bytes _ = ⊥
 
 -- FLUSHES AND COMPACTIONS
 
 abbrev pub IsOn : ℕ → ℕ → ℕ → ℕ → Type 0
 IsOn v m v' m' = (v' ≡ v) × (m' ≡ m)
 
-abbrev pub MayBeFrozen : Settings → Known → List LaneItem → Known → ℕ → List ClosedBy → Type 0
-MayBeFrozen settings k items t v (by ∷ []) =
-    (by.volume ≡ v)
-    × (((volume_at k v).frozen ≡ Some by.machine)
-    ⊎ (((volume_at t v).frozen ≡ Some by.machine) × (item : LaneItem) × Contains items item × Freezes settings v by.machine item))
-MayBeFrozen settings k items t v _ = ⊥
+-- a flush of the replica on m that failed
+abbrev pub SticksBy : ℕ → ℕ → LaneItem → Type 0
+SticksBy v m item = Sticks item.item item.reply
+  where
+    SticksAs : Command → Reply → Type 0
+    SticksAs (command.Flush v' m') (Failed v'' m'' f) = IsOn v m v' m'
+    SticksAs _ _ = ⊥
 
-abbrev pub MayBeStuck : Known → List LaneItem → Known → ℕ → ℕ → ℕ → List ClosedBy → Type 0
-MayBeStuck k items t v m j (by ∷ []) =
-    IsOn v m by.volume by.machine
-    × (((replica_at (volume_at k v) j).stuck ≡ true)
-    ⊎ (((item : LaneItem) × Contains items item × SticksBy v m item)
-    × (((replica_at (volume_at t v) j).stuck ≡ true) ⊎ ((replica_at (volume_at k v) j).generation < (replica_at (volume_at t v) j).generation))))
-MayBeStuck k items t v m j _ = ⊥
+    Sticks : Item → Reply → Type 0
+    Sticks (asks.Command command) reply = SticksAs command reply
+    Sticks asks.Bad reply = ⊥
 
+-- the block swapped the replica
+abbrev pub WasSwapped : Known → Known → ℕ → ℕ → Type 0
+WasSwapped k t v j = (replica_at (volume_at k v) j).generation < (replica_at (volume_at t v) j).generation
+
+-- a flush may have met the replica: its volume was not frozen before the block, nor its index stuck but where it was swapped
+abbrev pub MayFlush : Known → Known → ℕ → ℕ → Type 0
+MayFlush k t v j = IsOpen k v × (((replica_at (volume_at k v) j).stuck ≡ false) ⊎ WasSwapped k t v j)
+
+-- a flush that failed leaves the index stuck, unless the replica was swapped behind it
+abbrev pub IsLeftStuck : Known → Known → ℕ → ℕ → Type 0
+IsLeftStuck k t v j = ((replica_at (volume_at t v) j).stuck ≡ true) ⊎ WasSwapped k t v j
+
+abbrev pub MayBeStuck : Known → List LaneItem → ℕ → ℕ → ℕ → List ClosedBy → Type 0
+MayBeStuck k items v m j (by ∷ []) =
+    IsOn v m by.volume by.machine × IsOpen k v
+    × (((replica_at (volume_at k v) j).stuck ≡ true) ⊎ ((item : LaneItem) × Contains items item × SticksBy v m item))
+MayBeStuck k items v m j _ = ⊥
+
+-- a freeze of before the block, or of the block, stands behind it
 abbrev pub FlushIsLegal : Settings → Known → List LaneItem → Known → ℕ → ℕ → Option ℕ → Reply → Type 0
 FlushIsLegal settings k items t v m None Nowhere = Unit {0}
 FlushIsLegal settings k items t v m None NoMem = Unit {0}
 FlushIsLegal settings k items t v m None _ = ⊥
-FlushIsLegal settings k items t v m (Some j) (Flushed v' m' n) = IsOn v m v' m'
-FlushIsLegal settings k items t v m (Some j) (ReadOnly by) = MayBeFrozen settings k items t v by ⊎ MayBeStuck k items t v m j by
-FlushIsLegal settings k items t v m (Some j) (Failed v' m' f) = IsOn v m v' m'
+FlushIsLegal settings k items t v m (Some j) (Flushed v' m' n) = IsOn v m v' m' × MayFlush k t v j
+FlushIsLegal settings k items t v m (Some j) (ReadOnly by) = IsFrozenBy t v by ⊎ MayBeStuck k items v m j by
+FlushIsLegal settings k items t v m (Some j) (Failed v' m' f) = IsOn v m v' m' × MayFlush k t v j × IsLeftStuck k t v j
 FlushIsLegal settings k items t v m (Some j) NoMem = Unit {0}
 FlushIsLegal settings k items t v m (Some j) _ = ⊥
 
@@ -434,11 +498,12 @@ abbrev pub CompactIsLegal : Settings → Known → List LaneItem → Known → �
 CompactIsLegal settings k items t lane v m None Nowhere = Unit {0}
 CompactIsLegal settings k items t lane v m None NoMem = Unit {0}
 CompactIsLegal settings k items t lane v m None _ = ⊥
-CompactIsLegal settings k items t lane v m (Some j) (Compacted v' m' g) = IsOn v m v' m'
-CompactIsLegal settings k items t lane v m (Some j) (ReadOnly by) = MayBeFrozen settings k items t v by
-CompactIsLegal settings k items t lane v m (Some j) (Busy v' m' g) = IsOn v m v' m' × MayBeBusy k items t lane v m j g
-CompactIsLegal settings k items t lane v m (Some j) (Worn v' m') = IsOn v m v' m' × ((replica_at (volume_at t v) j).generation ≡ 65535)
-CompactIsLegal settings k items t lane v m (Some j) (Failed v' m' f) = IsOn v m v' m'
+CompactIsLegal settings k items t lane v m (Some j) (Compacted v' m' g) = IsOn v m v' m' × IsOpen k v
+CompactIsLegal settings k items t lane v m (Some j) (ReadOnly by) = IsFrozenBy t v by
+CompactIsLegal settings k items t lane v m (Some j) (Busy v' m' g) = IsOn v m v' m' × IsOpen k v × MayBeBusy k items t lane v m j g
+CompactIsLegal settings k items t lane v m (Some j) (Worn v' m') =
+    IsOn v m v' m' × IsOpen k v × ((replica_at (volume_at t v) j).generation ≡ 65535)
+CompactIsLegal settings k items t lane v m (Some j) (Failed v' m' f) = IsOn v m v' m' × IsOpen k v
 CompactIsLegal settings k items t lane v m (Some j) NoMem = Unit {0}
 CompactIsLegal settings k items t lane v m (Some j) _ = ⊥
 
@@ -453,10 +518,10 @@ UrlIsLegal settings t tag pair NoMem = Unit {0}
 UrlIsLegal settings t tag pair _ = ⊥
 
 abbrev pub CommandInLane : Settings → Known → List LaneItem → Known → CoreTag → Command → Reply → Type 0
-CommandInLane settings k items t tag (command.Put pair bytes) reply = PutIsLegal settings k items t pair bytes reply
+CommandInLane settings k items t tag (command.Put pair bytes) reply = PutIsLegal settings k items t tag pair bytes reply
 CommandInLane settings k items t tag (command.Read pair cookie) reply = ReadIsLegal settings t (start_of settings tag) pair cookie reply
 CommandInLane settings k items t tag (command.Get url) reply = GetIsLegal settings t url (replica_on settings url.volume url.machine) reply
-CommandInLane settings k items t tag (command.Del pair) reply = DelIsLegal settings k items t pair reply
+CommandInLane settings k items t tag (command.Del pair) reply = DelIsLegal settings k t pair reply
 CommandInLane settings k items t tag (command.Url pair) reply = UrlIsLegal settings t tag pair reply
 CommandInLane settings k items t tag (command.Flush v m) reply = FlushIsLegal settings k items t v m (replica_on settings v m) reply
 CommandInLane settings k items t tag (command.Compact v m) reply = CompactIsLegal settings k items t tag.lane v m (replica_on settings v m) reply
@@ -477,21 +542,23 @@ cause_of_disk m passed = by_machine (passed.machine == m) passed.cause
   where
     by_machine : Bool → Cause → Option ℕ
     by_machine true (Disk f) = Some f
-    by_machine _ _ = None
+    by_machine true (Arm f) = None
+    by_machine true (Damage at) = None
+    by_machine false cause = None
 
-abbrev pub disk_prints : ℕ → ℕ → LaneItem → List ℕ
-disk_prints v m item = prints item.reply
+abbrev pub disk_prints : ℕ → ℕ → Reply → List ℕ
+disk_prints v m reply = prints (told reply)
   where
-    prints : Reply → List ℕ
-    prints (Failed v' m' f) = cond ((v' == v) && (m' == m)) (f ∷ []) []
-    prints (Unreadable v' p d causes) = cond (v' == v) (filter_map (cause_of_disk m) causes) []
+    prints : Told → List ℕ
+    prints (Blamed v' m' f) = cond ((v' == v) && (m' == m)) (f ∷ []) []
+    prints (ShownByNone v' p d causes) = cond (v' == v) (filter_map (cause_of_disk m) causes) []
     prints _ = []
 
-abbrev pub row_faults : LaneItem → List ℕ
-row_faults item = prints item.reply
+abbrev pub row_faults : Reply → List ℕ
+row_faults reply = prints (told reply)
   where
-    prints : Reply → List ℕ
-    prints (FailedDir f) = f ∷ []
+    prints : Told → List ℕ
+    prints (BlamedRows f) = f ∷ []
     prints _ = []
 
 abbrev pub cause_of_arm : Passed → Option ℕ
@@ -499,13 +566,14 @@ cause_of_arm passed = at_arm passed.cause
   where
     at_arm : Cause → Option ℕ
     at_arm (Arm f) = Some f
-    at_arm _ = None
+    at_arm (Disk f) = None
+    at_arm (Damage at) = None
 
-abbrev pub arm_prints : LaneItem → List ℕ
-arm_prints item = prints item.reply
+abbrev pub arm_prints : Reply → List ℕ
+arm_prints reply = prints (told reply)
   where
-    prints : Reply → List ℕ
-    prints (Unreadable v p d causes) = filter_map cause_of_arm causes
+    prints : Told → List ℕ
+    prints (ShownByNone v p d causes) = filter_map cause_of_arm causes
     prints _ = []
 
 abbrev pub Differ : ℕ → ℕ → Type 0
@@ -526,17 +594,15 @@ start_by settings item = start_at item.item
     start_at (asks.Command (command.Get url)) = unwrap_or (replica_on settings url.volume url.machine) 0
     start_at _ = start_of settings (tag_of item)
 
-abbrev pub before_machine : Settings → LaneItem → ℕ → ℕ → List ℕ
-before_machine settings item v m = take_while (λ j. not (machine_of settings v j == m)) (order_from settings (start_by settings item))
+abbrev pub before_machine : Settings → ℕ → ℕ → ℕ → List ℕ
+before_machine settings start v m = take_while (λ j. not (machine_of settings v j == m)) (order_from settings start)
 
-abbrev pub passed_over : Settings → ℕ → LaneItem → List ℕ
-passed_over settings v item = passed item.reply
+abbrev pub passed_over : Settings → ℕ → ℕ → Reply → List ℕ
+passed_over settings start v reply = passed (told reply)
   where
-    passed : Reply → List ℕ
-    passed (Photo v' m p d bytes) = cond (v' == v) (before_machine settings item v m) []
-    passed (Gone v' m p d) = cond (v' == v) (before_machine settings item v m) []
-    passed (WrongCookie v' m p d) = cond (v' == v) (before_machine settings item v m) []
-    passed (Unreadable v' p d causes) = cond (v' == v) (order_from settings (start_by settings item)) []
+    passed : Told → List ℕ
+    passed (Shown v' m p d) = cond (v' == v) (before_machine settings start v m) []
+    passed (ShownByNone v' p d causes) = cond (v' == v) (order_from settings start) []
     passed _ = []
 
 -- Which replicas, by line and number, are laid to the lane's arm. The others are laid to their disks.
@@ -544,49 +610,52 @@ abbrev pub Laying : Type 0
 Laying = ℕ → ℕ → Bool
 
 abbrev pub laid_to_disk : Settings → Laying → ℕ → ℕ → LaneItem → ℕ
-laid_to_disk settings to_arm v j item = count_by (λ i. (i == j) && not (to_arm item.line i)) (passed_over settings v item)
+laid_to_disk settings to_arm v j item = count_by (λ i. (i == j) && not (to_arm item.line i)) (passed_over settings (start_by settings item) v item.reply)
 
 abbrev pub laid_to_arm : Settings → Laying → LaneItem → ℕ
 laid_to_arm settings to_arm item =
-    sum_by (λ v. count_by (to_arm item.line) (passed_over settings v item)) (volumes_of settings)
+    sum_by (λ v. count_by (to_arm item.line) (passed_over settings (start_by settings item) v item.reply)) (volumes_of settings)
 
 -- an unreadable reply says itself what its replicas are laid to
 abbrev pub LaysAsPrinted : Settings → Laying → LaneItem → Type 0
-LaysAsPrinted settings to_arm item = printed_by item.reply
+LaysAsPrinted settings to_arm item =
+    (v p d : ℕ) (causes : List Passed) → item.reply ≡ Unreadable v p d causes
+    → AllZip (λ j passed. LaidTo (to_arm item.line j) passed.cause) (order_from settings (start_by settings item)) causes
   where
-    is_arm : Cause → Bool
-    is_arm (Arm f) = true
-    is_arm _ = false
-
-    no_damage : Cause → Type 0
-    no_damage (Damage at) = ⊥
-    no_damage _ = Unit {0}
-
-    printed_by : Reply → Type 0
-    printed_by (Unreadable v p d causes) =
-        AllZip (λ j passed. (to_arm item.line j ≡ is_arm passed.cause) × no_damage passed.cause) (order_from settings (start_by settings item)) causes
-    printed_by _ = Unit {0}
+    LaidTo : Bool → Cause → Type 0
+    LaidTo to_arm (Arm f) = to_arm ≡ true
+    LaidTo to_arm (Disk f) = to_arm ≡ false
+    LaidTo to_arm (Damage at) = ⊥
 
 abbrev pub RoseBy : ℕ → ℕ → ℕ → Type 0
 RoseBy n before after = (before + n ≤ after) ⊎ (after ≡ 2 ^ 64 - 1)
 
-abbrev pub failed_on : ℕ → ℕ → LaneItem → ℕ
-failed_on v m item = failed item.reply
+abbrev pub failed_on : ℕ → ℕ → Reply → ℕ
+failed_on v m reply = failed (told reply)
   where
-    failed : Reply → ℕ
-    failed (Failed v' m' f) = cond ((v' == v) && (m' == m)) 1 0
+    failed : Told → ℕ
+    failed (Blamed v' m' f) = cond ((v' == v) && (m' == m)) 1 0
     failed _ = 0
 
 abbrev pub DiskIsLegal : Settings → Known → List LaneItem → Known → Laying → ℕ → ℕ → Type 0
 DiskIsLegal settings k items t to_arm v j =
-    CameUpEach Differ (fault_count k (slot_of settings v j)) (fault_count t (slot_of settings v j)) (flat_map (disk_prints v (machine_of settings v j)) items)
-    × RoseBy (sum_by (laid_to_disk settings to_arm v j) items + sum_by (failed_on v (machine_of settings v j)) items)
+    CameUpEach Differ (fault_count k (slot_of settings v j)) (fault_count t (slot_of settings v j)) (flat_map (λ item. disk_prints v (machine_of settings v j) item.reply) items)
+    × RoseBy (sum_by (laid_to_disk settings to_arm v j) items + sum_by (λ item. failed_on v (machine_of settings v j) item.reply) items)
     (fault_count k (slot_of settings v j)) (fault_count t (slot_of settings v j))
 
 abbrev pub ArmIsLegal : Settings → Known → List LaneItem → Known → Laying → ℕ → Type 0
 ArmIsLegal settings k items t to_arm lane =
-    CameUpEach Rises (arm_count k lane) (arm_count t lane) (flat_map arm_prints (lane_items items lane))
+    CameUpEach Rises (arm_count k lane) (arm_count t lane) (flat_map (λ item. arm_prints item.reply) (lane_items items lane))
     × RoseBy (sum_by (laid_to_arm settings to_arm) (lane_items items lane)) (arm_count k lane) (arm_count t lane)
+
+-- how many times a line failed on the Directory's disk
+abbrev pub row_failed : LaneItem → ℕ
+row_failed item = length (row_faults item.reply)
+
+abbrev pub RowDiskIsLegal : Known → List LaneItem → Known → Type 0
+RowDiskIsLegal k items t =
+    CameUpEach Differ (fault_count k 0) (fault_count t 0) (flat_map (λ item. row_faults item.reply) items)
+    × RoseBy (sum_by row_failed items) (fault_count k 0) (fault_count t 0)
 
 pub record CountsAreLegal (settings : Settings) (k : Known) (items : List LaneItem) (t : Known) : Type 0 where
   pub faults : NoneFalls k.faults t.faults
@@ -594,47 +663,52 @@ pub record CountsAreLegal (settings : Settings) (k : Known) (items : List LaneIt
   pub to_arm : Laying
   pub as_printed : Each (LaysAsPrinted settings to_arm) items
   pub disk : Each (λ v. Each (DiskIsLegal settings k items t to_arm v) (replicas_of settings)) (volumes_of settings)
-  pub directory : CameUpEach Differ (fault_count k 0) (fault_count t 0) (flat_map row_faults items)
+  pub directory : RowDiskIsLegal k items t
   pub arm : Each (ArmIsLegal settings k items t to_arm) all_lanes
 
 -- WHAT IS LEFT OF EACH REPLICA
 
 -- the generations that a block made of a replica, and the records that it flushed there
 abbrev pub made_on : ℕ → ℕ → LaneItem → List ℕ
-made_on v m item = made item.reply
+made_on v m item = made (told item.reply)
   where
-    made : Reply → List ℕ
-    made (Compacted v' m' g) = cond ((v' == v) && (m' == m)) (g ∷ []) []
+    made : Told → List ℕ
+    made (Made v' m' g) = cond ((v' == v) && (m' == m)) (g ∷ []) []
     made _ = []
 
 abbrev pub flushed_on : ℕ → ℕ → LaneItem → List ℕ
-flushed_on v m item = flushed item.reply
+flushed_on v m item = flushed (told item.reply)
   where
-    flushed : Reply → List ℕ
-    flushed (Flushed v' m' n) = cond ((v' == v) && (m' == m)) (n ∷ []) []
+    flushed : Told → List ℕ
+    flushed (Recorded v' m' n) = cond ((v' == v) && (m' == m)) (n ∷ []) []
     flushed _ = []
 
--- a compact of this replica answered so
-abbrev pub CompactsWith : ℕ → ℕ → (Reply → Type 0) → LaneItem → Type 0
-CompactsWith v m said item = (item.item ≡ asks.Command (command.Compact v m)) × said item.reply
+abbrev pub is_failed : Reply → Bool
+is_failed reply = failed (told reply)
+  where
+    failed : Told → Bool
+    failed (Blamed v m f) = true
+    failed _ = false
 
-abbrev pub IsNoMem : Reply → Type 0
-IsNoMem NoMem = Unit {0}
-IsNoMem _ = ⊥
+abbrev pub is_wanting : Reply → Bool
+is_wanting reply = wanting (told reply)
+  where
+    wanting : Told → Bool
+    wanting Wanted = true
+    wanting _ = false
 
-abbrev pub IsFailed : Reply → Type 0
-IsFailed (Failed v m f) = Unit {0}
-IsFailed _ = ⊥
+-- the line that froze the volume is a compact of the replica on m, with such a reply
+abbrev pub froze_at_compact : ℕ → ℕ → (Reply → Bool) → Option LaneItem → Bool
+froze_at_compact v m says None = false
+froze_at_compact v m says (Some item) = is_compacted v m item && says item.reply
 
--- the printed generations are all that were made, but for one swap that want of memory may have hidden
-pub record GenerationsAreLegal (settings : Settings) (items : List LaneItem) (v j : ℕ) (old new : ReplicaKnown) (frozen : Option ℕ) : Type 0 where
+-- the printed generations are all that were made, but for the swap behind which want of memory froze the volume
+pub record GenerationsAreLegal (settings : Settings) (items : List LaneItem) (v j : ℕ) (froze : Option LaneItem) (old new : ReplicaKnown) : Type 0 where
   pub inside_range : Each (λ g. (old.generation < g) × (g ≤ new.generation)) (flat_map (made_on v (machine_of settings v j)) items)
   pub once : EachPair (λ g h. g ≢ h) (flat_map (made_on v (machine_of settings v j)) items)
-  pub all :
-      (new.generation ≡ old.generation + length (flat_map (made_on v (machine_of settings v j)) items))
-      ⊎ ((new.generation ≡ old.generation + length (flat_map (made_on v (machine_of settings v j)) items) + 1)
-      × (frozen ≡ Some (first_machine settings v))
-      × (item : LaneItem) × Contains items item × CompactsWith v (machine_of settings v j) IsNoMem item)
+  pub all : new.generation
+      ≡ old.generation + length (flat_map (made_on v (machine_of settings v j)) items) + cond (froze_at_compact v (machine_of settings v j) is_wanting froze) 1 0
+  pub last : (old.generation < new.generation) → (new.generation ≤ 65535)
 
 -- how far a replica grew, where it was not swapped and where it was
 abbrev pub Grew : Known → ℕ → List Logged → ReplicaKnown → ReplicaKnown → Type 0
@@ -653,58 +727,165 @@ BareIsLegal flushed new_log old new =
 abbrev pub run_longer : ℕ → Run → Run
 run_longer n run = record run { left = run.left + n }
 
--- a run of before the block stands on, with the new cells left besides, or it ended: by a fault of its disk or a freeze
-abbrev pub RunIsLegal : Settings → Known → Known → ℕ → ℕ → List Logged → ReplicaKnown → ReplicaKnown → Type 0
-RunIsLegal settings k t v j new_log old new =
-    ((new.run ≡ option_map (run_longer (count_by is_put new_log)) old.run) × ((volume_at t v).frozen ≡ (volume_at k v).frozen))
-    ⊎ ((new.run ≡ None)
-    × (Rose (fault_count k (slot_of settings v j)) (fault_count t (slot_of settings v j)) ⊎ (m : ℕ) × ((volume_at t v).frozen ≡ Some m)))
+-- a line that deleted a photo of the volume
+abbrev pub DeletesOn : Settings → ℕ → LaneItem → Type 0
+DeletesOn settings v item = (pair : Pair) × (p : ℕ) × (entry_of_item settings item.item ≡ Some (entry.Del pair)) × (acknowledged item.reply ≡ Some (v, p))
 
--- an index stays stuck unless the replica was swapped, and gets stuck only by a failed flush
+-- a run of before the block ended: in a delete in which a call of its disk failed, or as the volume froze
+abbrev pub RunMayEnd : Settings → Known → List LaneItem → Known → ℕ → ℕ → ReplicaKnown → ReplicaKnown → Type 0
+RunMayEnd settings k items t v j old new =
+    (Rose (fault_count k (slot_of settings v j)) (fault_count t (slot_of settings v j)) × (item : LaneItem) × Contains items item × DeletesOn settings v item)
+    ⊎ (IsOpen k v × ((m : ℕ) × ((volume_at t v).frozen ≡ Some m)) × (new.generation ≡ old.generation))
+
+-- No run stood before the block, and none is left; or one stands on, with the new cells left besides; or it ended.
+abbrev pub RunIsLegal : Settings → Known → List LaneItem → Known → ℕ → ℕ → List Logged → ReplicaKnown → ReplicaKnown → Type 0
+RunIsLegal settings k items t v j new_log old new =
+    ((old.run ≡ None) × (new.run ≡ None))
+    ⊎ ((new.run ≡ option_map (run_longer (count_by is_put new_log)) old.run) × (new.generation ≡ old.generation)
+    × ((volume_at t v).frozen ≡ (volume_at k v).frozen))
+    ⊎ ((new.run ≡ None) × RunMayEnd settings k items t v j old new)
+
+-- an index gets stuck by a flush that failed, and loose as its replica is swapped
 abbrev pub StuckIsLegal : List LaneItem → ℕ → ℕ → ReplicaKnown → ReplicaKnown → Type 0
 StuckIsLegal items v m old new =
-    (new.stuck ≡ old.stuck)
+    ((new.stuck ≡ old.stuck) × (new.generation ≡ old.generation))
     ⊎ ((new.stuck ≡ true) × (item : LaneItem) × Contains items item × SticksBy v m item)
     ⊎ ((new.stuck ≡ false) × (old.generation < new.generation))
 
-abbrev pub PoisedIsLegal : List LaneItem → ℕ → ℕ → Option ℕ → ReplicaKnown → ReplicaKnown → Type 0
-PoisedIsLegal items v m frozen old new =
-    (new.poised ≡ old.poised)
-    ⊎ ((new.poised ≡ true) × (frozen ≡ Some m) × (item : LaneItem) × Contains items item × CompactsWith v m IsFailed item)
-
-pub record ReplicaIsLegal (settings : Settings) (k : Known) (items : List LaneItem) (t : Known) (v j : ℕ) (old new : ReplicaKnown) : Type 0 where
+pub record ReplicaIsLegal (settings : Settings) (k : Known) (items : List LaneItem) (t : Known) (v : ℕ) (froze : Option LaneItem) (j : ℕ) (old new : ReplicaKnown) : Type 0 where
   pub base : new.base ≡ old.base
-  pub generations : GenerationsAreLegal settings items v j old new (volume_at t v).frozen
+  pub generations : GenerationsAreLegal settings items v j froze old new
   pub sizes : Grew t v (new_entries k t v) old new
   pub bare : BareIsLegal (flat_map (flushed_on v (machine_of settings v j)) items) (new_entries k t v) old new
-  pub run : RunIsLegal settings k t v j (new_entries k t v) old new
+  pub run : RunIsLegal settings k items t v j (new_entries k t v) old new
   pub stuck : StuckIsLegal items v (machine_of settings v j) old new
-  pub poised : PoisedIsLegal items v (machine_of settings v j) (volume_at t v).frozen old new
+  pub poised : new.poised ≡ (old.poised || froze_at_compact v (machine_of settings v j) is_failed froze)
 
-abbrev pub is_failed : Reply → Bool
-is_failed (Failed v m f) = true
-is_failed _ = false
+-- WHAT IS LEFT OF EACH VOLUME
 
--- a freeze, and a pending change, are of before the block or of one of its lines
-pub record FreezeIsLegal (settings : Settings) (k : Known) (items : List LaneItem) (t : Known) (v : ℕ) : Type 0 where
-  pub frozen :
-      ((volume_at t v).frozen ≡ (volume_at k v).frozen)
-      ⊎ (((volume_at k v).frozen ≡ None) × (m : ℕ) × ((volume_at t v).frozen ≡ Some m) × (item : LaneItem) × Contains items item × Freezes settings v m item)
-  pub pending :
-      ((volume_at t v).pending ≡ (volume_at k v).pending)
-      ⊎ (((volume_at k v).frozen ≡ None)
-      × (m : ℕ) × (item : LaneItem) × (change : Entry)
-      × ((volume_at t v).frozen ≡ Some m) × Contains items item × Freezes settings v m item
-      × (entry_of_item settings item.item ≡ Some change)
-      × ((volume_at t v).pending ≡ Some (record { tag = tag_of item; entry = change; failed = is_failed item.reply })))
+-- A line froze the volume v by this machine, with this change of its own pending, or with none.
+abbrev pub Freezes : Settings → Known → List LaneItem → Known → ℕ → ℕ → Option Entry → LaneItem → Type 0
+Freezes settings k items t v m change item = FreezesBy item.item item.reply
+  where
+    -- want of memory froze the pair's home
+    Wants : Pair → Type 0
+    Wants pair = (m ≡ first_machine settings v) × HomeInBlock k t pair v
 
-pub record DirectoryIsLegal (k : Known) (items : List LaneItem) (t : Known) : Type 0 where
-  pub frozen : (t.directory.frozen ≡ k.directory.frozen) ⊎ DirectoryMayBeFrozen k items t
-  pub pending :
-      (t.directory.pending ≡ k.directory.pending)
-      ⊎ ((k.directory.frozen ≡ false) × (item : LaneItem) × (pair : Pair) × (bytes : List ℕ) × (v : ℕ)
-      × Contains items item × FreezesDirectory item × (item.item ≡ asks.Command (command.Put pair bytes))
-      × (t.directory.pending ≡ Some (record { tag = tag_of item; row = record { pair = pair; volume = v } })))
+    -- the pair had a photo at the last front, behind which the volume takes no change
+    Deletes : Pair → Type 0
+    Deletes pair = (change ≡ Some (entry.Del pair)) × StoodThen settings t v (length (volume_at t v).log) pair
+
+    FreezesAs : Command → Reply → Type 0
+    FreezesAs (command.Put pair bytes) (Failed v' m' f) = IsOn v m v' m' × (change ≡ Some (put_entry settings pair bytes))
+    FreezesAs (command.Put pair bytes) NoMem =
+        Wants pair × MayHaveTaken settings k items t (length bytes) v × (change ≡ Some (put_entry settings pair bytes))
+    FreezesAs (command.Del pair) (Failed v' m' f) = IsOn v m v' m' × Deletes pair
+    FreezesAs (command.Del pair) NoMem = Wants pair × (closed settings k v ≡ None) × ((change ≡ None) ⊎ Deletes pair)
+    FreezesAs (command.Read pair cookie) NoMem = Wants pair × (change ≡ None)
+    FreezesAs (command.Get url) NoMem = Wants url.pair × (v ≡ url.volume) × (change ≡ None)
+    FreezesAs (command.Compact v' m') (Failed v'' m'' f) = IsOn v m v' m' × (change ≡ None)
+    FreezesAs (command.Compact v' m') NoMem =
+        (v' ≡ v) × (m ≡ first_machine settings v) × HasReplica settings v m' × (change ≡ None)
+    FreezesAs _ _ = ⊥
+
+    FreezesBy : Item → Reply → Type 0
+    FreezesBy (asks.Command command) reply = FreezesAs command reply
+    FreezesBy asks.Bad reply = ⊥
+
+-- what is pending behind a line that left this change pending, or none
+abbrev pub pending_behind : Option Pending → LaneItem → Option Entry → Option Pending
+pending_behind old item None = old
+pending_behind old item (Some change) = Some (record { tag = tag_of item; entry = change; failed = is_failed item.reply })
+
+-- A line froze the volume, and nothing else did.
+pub record WasFrozen (settings : Settings) (k : Known) (items : List LaneItem) (t : Known) (v : ℕ) (item : LaneItem) : Type 0 where
+  pub among : Contains items item
+  pub «open» : IsOpen k v
+  pub machine : ℕ
+  pub frozen : (volume_at t v).frozen ≡ Some machine
+  pub change : Option Entry
+  pub freezes : Freezes settings k items t v machine change item
+  pub pending : (volume_at t v).pending ≡ pending_behind (volume_at k v).pending item change
+
+abbrev pub FreezeIsLegal : Settings → Known → List LaneItem → Known → ℕ → Option LaneItem → Type 0
+FreezeIsLegal settings k items t v None =
+    ((volume_at t v).frozen ≡ (volume_at k v).frozen) × ((volume_at t v).pending ≡ (volume_at k v).pending)
+FreezeIsLegal settings k items t v (Some item) = WasFrozen settings k items t v item
+
+-- a line that met the volume v closed to what it asked for
+abbrev pub MetClosed : ℕ → LaneItem → Type 0
+MetClosed v item = Met item.item item.reply
+  where
+    Names : List ClosedBy → Type 0
+    Names tries = (by : ClosedBy) × Contains tries by × (by.volume ≡ v)
+
+    MetAs : Command → Reply → Type 0
+    MetAs (command.Put pair bytes) (Full refused) = (m : ℕ) × Contains refused (Closed v m)
+    MetAs (command.Put pair bytes) (ReadOnly tries) = Names tries
+    MetAs (command.Del pair) (ReadOnly tries) = Names tries
+    MetAs (command.Compact u m) (ReadOnly tries) = Names tries
+    MetAs _ _ = ⊥
+
+    Met : Item → Reply → Type 0
+    Met (asks.Command command) reply = MetAs command reply
+    Met asks.Bad reply = ⊥
+
+-- a reply that no frozen volume gives
+abbrev pub MetOpen : ℕ → Reply → Type 0
+MetOpen v (Stored v' p d c) = v' ≡ v
+MetOpen v (Deleted v' p d) = v' ≡ v
+MetOpen v (Absent v' p d) = v' ≡ v
+MetOpen v (Full refused) = (m : ℕ) × (end : ℕ) × (need : ℕ) × Contains refused (NoRoom v m end need)
+MetOpen v (Failed v' m f) = v' ≡ v
+MetOpen v (Flushed v' m n) = v' ≡ v
+MetOpen v (Compacted v' m g) = v' ≡ v
+MetOpen v (Busy v' m g) = v' ≡ v
+MetOpen v (Worn v' m) = v' ≡ v
+MetOpen v _ = ⊥
+
+-- a line that froze the volume in the block, or that met it frozen then
+abbrev pub MetFrozen : Settings → Known → ℕ → Option LaneItem → LaneItem → Type 0
+MetFrozen settings k v froze item = (froze ≡ Some item) ⊎ ((closed settings k v ≡ None) × MetClosed v item)
+
+-- a line that froze the volume, or that met it open
+abbrev pub MetThawed : ℕ → Option LaneItem → LaneItem → Type 0
+MetThawed v froze item = (froze ≡ Some item) ⊎ MetOpen v item.reply
+
+-- A freeze, the change that it left pending, and the replica that it left poised or that was swapped before it, are one line's.
+-- A lane that met the freeze meets it from then on.
+pub record VolumeIsLegal (settings : Settings) (k : Known) (items : List LaneItem) (t : Known) (v : ℕ) : Type 0 where
+  pub many : length (volume_at t v).replicas ≡ length (volume_at k v).replicas
+  pub froze : Option LaneItem
+  pub freeze : FreezeIsLegal settings k items t v froze
+  pub lanes : EachPair (λ a b. a.lane ≡ b.lane → MetFrozen settings k v froze a → MetThawed v froze b → ⊥) items
+  pub replicas : Each
+      (λ j. ReplicaIsLegal settings k items t v froze j (replica_at (volume_at k v) j) (replica_at (volume_at t v) j))
+      (replicas_of settings)
+
+-- WHAT IS LEFT OF THE DIRECTORY
+
+-- a reply to a put that may have frozen the Directory
+abbrev pub MayHaveFrozen : Reply → Type 0
+MayHaveFrozen (FailedDir f) = Unit {0}
+MayHaveFrozen NoMem = Unit {0}
+MayHaveFrozen _ = ⊥
+
+-- A line froze the Directory, with the row of its pair pending.
+pub record RowsWereFrozen (settings : Settings) (k : Known) (items : List LaneItem) (t : Known) : Type 0 where
+  pub «open» : k.directory.frozen ≡ false
+  pub item : LaneItem
+  pub among : Contains items item
+  pub pair : Pair
+  pub bytes : List ℕ
+  pub put : item.item ≡ asks.Command (command.Put pair bytes)
+  pub reply : MayHaveFrozen item.reply
+  pub volume : ℕ
+  pub gets : MayGetRow settings k items t pair (length bytes) volume
+  pub pending : RowIsPending t (tag_of item) pair volume
+
+abbrev pub DirectoryIsLegal : Settings → Known → List LaneItem → Known → Type 0
+DirectoryIsLegal settings k items t =
+    ((t.directory.frozen ≡ k.directory.frozen) × (t.directory.pending ≡ k.directory.pending)) ⊎ RowsWereFrozen settings k items t
 
 -- THE BLOCK
 
@@ -716,11 +897,8 @@ pub record LegalBlock (settings : Settings) (k : Known) (items : List LaneItem) 
   pub fronts : FrontsAreLegal settings k items t
   pub lines : Each (LineIsLegal settings k items t) items
   pub counts : CountsAreLegal settings k items t
-  pub freezes : Each (FreezeIsLegal settings k items t) (volumes_of settings)
-  pub replicas : Each (λ v. Each
-      (λ j. ReplicaIsLegal settings k items t v j (replica_at (volume_at k v) j) (replica_at (volume_at t v) j))
-      (replicas_of settings)) (volumes_of settings)
-  pub directory : DirectoryIsLegal k items t
+  pub volumes : Each (VolumeIsLegal settings k items t) (volumes_of settings)
+  pub directory : DirectoryIsLegal settings k items t
   pub drained : t.drained ≡ k.drained
   pub fuses : t.fuses ≡ k.fuses
-  pub volumes : length t.volumes ≡ length k.volumes
+  pub many : length t.volumes ≡ length k.volumes

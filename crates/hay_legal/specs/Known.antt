@@ -169,9 +169,9 @@ arm_count k lane = slice_index k.arms lane
 abbrev pub fuse_count : Known → ℕ → ℕ
 fuse_count k slot = slice_index k.fuses slot
 
--- a count that was printed came up between two states, or stands at its end
+-- a count that was printed is one that was reached between two states: a count stands still at its end
 abbrev pub CameUp : ℕ → ℕ → ℕ → Type 0
-CameUp before printed after = ((before < printed) × (printed ≤ after)) ⊎ (printed ≡ 2 ^ 64 - 1)
+CameUp before printed after = ((before < printed) ⊎ (printed ≡ 2 ^ 64 - 1)) × (printed ≤ after)
 
 abbrev pub NoneFalls : List ℕ → List ℕ → Type 0
 NoneFalls before after = AllZip ◌≤◌ before after

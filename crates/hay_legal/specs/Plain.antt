@@ -65,6 +65,10 @@ change_replica k v j change = with_volume k v (with_replica (volume_at k v) j (c
 abbrev pub change_volume : Known → ℕ → (VolumeKnown → VolumeKnown) → Known
 change_volume k v change = with_volume k v (change (volume_at k v))
 
+-- a volume that is not frozen
+abbrev pub IsOpen : Known → ℕ → Type 0
+IsOpen k v = (volume_at k v).frozen ≡ None
+
 -- PUT
 
 -- a new row could be written, or none is missing
@@ -194,7 +198,10 @@ HasCause settings k t tag v j (Damage at) = ⊥
 -- counts of one arm rise
 abbrev pub ArmRises : Cause → Cause → Type 0
 ArmRises (Arm f) (Arm g) = (f < g) ⊎ (g ≡ 2 ^ 64 - 1)
-ArmRises _ _ = Unit {0}
+ArmRises (Arm f) (Disk g) = Unit {0}
+ArmRises (Arm f) (Damage at) = Unit {0}
+ArmRises (Disk f) cause = Unit {0}
+ArmRises (Damage at) cause = Unit {0}
 
 -- Every replica was passed over, each with its cause.
 pub record IsUnreadable (settings : Settings) (k : Known) (tag : CoreTag) (start : ℕ) (pair : Pair) (v p d : ℕ) (causes : List Passed) (t : Known) : Type 0 where
@@ -220,24 +227,31 @@ LegalShow settings k tag start pair cookie (WrongCookie v m p d) t = WrongPhoto 
 LegalShow settings k tag start pair cookie (Unreadable v p d causes) t = IsUnreadable settings k tag start pair v p d causes t
 LegalShow settings k tag start pair cookie (Unknown d) t = IsUnknown k pair d × Leaves k k t
 LegalShow settings k tag start pair cookie NoMem t =
-    Leaves k k t ⊎ ((v : ℕ) × (home_of k pair ≡ Some v) × Leaves k (change_volume k v (frozen_by (first_machine settings v))) t)
+    Leaves k k t ⊎ ((v : ℕ) × (home_of k pair ≡ Some v) × IsOpen k v × Leaves k (change_volume k v (frozen_by (first_machine settings v))) t)
 LegalShow settings k tag start pair cookie _ t = ⊥
 
 abbrev pub start_of : Settings → CoreTag → ℕ
 start_of settings tag = tag.line % settings.replicas
 
--- a reply to a get that shows the volume v
+-- a reply to a get names no other volume than the URL's
 abbrev pub GetShows : UrlParts → Reply → Type 0
 GetShows url (Photo v m p d bytes) = v ≡ url.volume
 GetShows url (Gone v m p d) = v ≡ url.volume
 GetShows url (WrongCookie v m p d) = v ≡ url.volume
 GetShows url (Unreadable v p d causes) = v ≡ url.volume
-GetShows url reply = Unit {0}
+GetShows url (Unknown d) = Unit {0}
+GetShows url NoMem = Unit {0}
+GetShows url _ = ⊥
+
+-- where the pair's home is another volume, a get leaves all as it was
+abbrev pub LeavesElsewhere : Known → UrlParts → Known → Type 0
+LeavesElsewhere k url t = (v : ℕ) → home_of k url.pair ≡ Some v → v ≢ url.volume → Leaves k k t
 
 abbrev pub LegalGetAt : Settings → Known → CoreTag → UrlParts → Option ℕ → Reply → Known → Type 0
 LegalGetAt settings k tag url (Some start) (Moved v d) t =
     (home_of k url.pair ≡ Some v) × (v ≢ url.volume) × (d ≡ length k.directory.rows) × Leaves k k t
-LegalGetAt settings k tag url (Some start) reply t = LegalShow settings k tag start url.pair url.cookie reply t × GetShows url reply
+LegalGetAt settings k tag url (Some start) reply t =
+    LegalShow settings k tag start url.pair url.cookie reply t × GetShows url reply × LeavesElsewhere k url t
 LegalGetAt settings k tag url None Nowhere t = Leaves k k t
 LegalGetAt settings k tag url None NoMem t = Leaves k k t
 LegalGetAt settings k tag url None _ t = ⊥
@@ -265,10 +279,14 @@ pub record IsAtHome (settings : Settings) (k : Known) (pair : Pair) (v d : ℕ) 
   pub «open» : closed settings k v ≡ None
   pub rows : d ≡ length k.directory.rows
 
+-- on some replica of the volume a photo stands at the pair
+abbrev pub HasPair : Known → ℕ → Pair → Type 0
+HasPair k v pair = list_any (has_pair (volume_at k v) pair) (volume_at k v).replicas ≡ true
+
 -- A run ends in a delete only where its disk's count rose.
 pub record IsDeleted (settings : Settings) (k : Known) (tag : CoreTag) (pair : Pair) (v p d : ℕ) (t : Known) : Type 0 where
   pub home : IsAtHome settings k pair v d
-  pub stood : list_any (has_pair (volume_at k v) pair) (volume_at k v).replicas ≡ true
+  pub stood : HasPair k v pair
   pub position : p ≡ length (volume_at k v).log + 1
   pub ended : List Bool
   pub cause : (j : ℕ) → slice_get ended j ≡ Some true → disk_rose settings k t v j ≡ true
@@ -286,18 +304,19 @@ pub record DelFailed (settings : Settings) (k : Known) (tag : CoreTag) (pair : P
   pub replica : ℕ
   pub there : replica_on settings v m ≡ Some replica
   pub rose : RoseTo settings k v replica f t
-  pub leaves : Leaves k k t ⊎ Leaves k (change_volume k v (frozen_with m tag (entry.Del pair) true)) t
+  pub leaves : Leaves k k t ⊎ (HasPair k v pair × Leaves k (change_volume k v (frozen_with m tag (entry.Del pair) true)) t)
 
 -- the machine by which a home is closed
 abbrev pub IsClosedHome : Settings → Known → Pair → List ClosedBy → Type 0
 IsClosedHome settings k pair (by ∷ []) = (home_of k pair ≡ Some by.volume) × (closed settings k by.volume ≡ Some by.machine)
 IsClosedHome settings k pair _ = ⊥
 
+-- what want of memory may leave of a deletion: nothing; its volume frozen, with the deletion pending or without
 abbrev pub DelNoMem : Settings → Known → CoreTag → Pair → Known → Type 0
 DelNoMem settings k tag pair t =
     Leaves k k t
-    ⊎ ((v : ℕ) × (home_of k pair ≡ Some v)
-    × (Leaves k (change_volume k v (frozen_with (first_machine settings v) tag (entry.Del pair) false)) t
+    ⊎ ((v : ℕ) × (home_of k pair ≡ Some v) × (closed settings k v ≡ None)
+    × ((HasPair k v pair × Leaves k (change_volume k v (frozen_with (first_machine settings v) tag (entry.Del pair) false)) t)
     ⊎ Leaves k (change_volume k v (frozen_by (first_machine settings v))) t))
 
 abbrev pub LegalDel : Settings → Known → CoreTag → Pair → Reply → Known → Type 0
@@ -338,9 +357,6 @@ IsFrozenBy k v _ = ⊥
 abbrev pub IsStuckOn : Known → ℕ → ℕ → ℕ → List ClosedBy → Type 0
 IsStuckOn k v m j (by ∷ []) = Names v m by.volume by.machine × ((volume_at k v).frozen ≡ None) × ((replica_at (volume_at k v) j).stuck ≡ true)
 IsStuckOn k v m j _ = ⊥
-
-abbrev pub IsOpen : Known → ℕ → Type 0
-IsOpen k v = (volume_at k v).frozen ≡ None
 
 abbrev pub replica_of : Known → ℕ → ℕ → ReplicaKnown
 replica_of k v j = replica_at (volume_at k v) j
@@ -398,6 +414,10 @@ LegalBegin settings k v m j _ t = ⊥
 abbrev pub HasRun : Known → ℕ → ℕ → Type 0
 HasRun k v j = (run : Run) × ((replica_of k v j).run ≡ Some run)
 
+-- a run stands, and there is a number for the generation that it makes
+abbrev pub MayFinish : Known → ℕ → ℕ → Type 0
+MayFinish k v j = HasRun k v j × ((replica_of k v j).generation < 65535)
+
 abbrev pub IsIdle : Known → ℕ → ℕ → Type 0
 IsIdle k v j = (replica_of k v j).run ≡ None
 
@@ -414,7 +434,7 @@ LegalStep settings k v m j cells (Failed v' m' f) t =
     Names v m v' m' × IsOpen k v × HasRun k v j × RoseTo settings k v j f t × Leaves k (change_replica k v j without_run) t
 LegalStep settings k v m j cells NoMem t =
     Leaves k k t
-    ⊎ ((run : Run) × (n : ℕ) × ((replica_of k v j).run ≡ Some run) × (n ≤ min cells run.left) × Leaves k (change_replica k v j (with_run (stepped n run))) t)
+    ⊎ (IsOpen k v × (run : Run) × (n : ℕ) × ((replica_of k v j).run ≡ Some run) × (n ≤ min cells run.left) × Leaves k (change_replica k v j (with_run (stepped n run))) t)
 LegalStep settings k v m j cells _ t = ⊥
 
 -- The sizes behind a swap: the standing photos alone, or those and what came while the run stood.
@@ -443,18 +463,21 @@ poised_by m k v j = change_replica (change_volume k v (frozen_by m)) v j poised
 abbrev pub SwapFailed : ℕ → Known → ℕ → ℕ → Known → Type 0
 SwapFailed m k v j t = Leaves k (change_replica k v j without_run) t ⊎ Leaves k (poised_by m k v j) t
 
-abbrev pub SwapNoMem : Settings → (Known → ℕ → ℕ → ℕ → ℕ → Type 0) → Known → ℕ → ℕ → Known → Type 0
-SwapNoMem settings sizes k v j t =
-    Leaves k k t ⊎ Leaves k (change_replica k v j without_run) t ⊎ Swaps sizes (frozen_by (first_machine settings v)) k v j t
+-- what want of memory may leave of a swap: nothing; where the volume is open and the replica ready, no run, or the swap and a freeze
+abbrev pub SwapNoMem : Settings → (Known → ℕ → ℕ → Type 0) → (Known → ℕ → ℕ → ℕ → ℕ → Type 0) → Known → ℕ → ℕ → Known → Type 0
+SwapNoMem settings ready sizes k v j t =
+    Leaves k k t
+    ⊎ (IsOpen k v × ready k v j
+    × (Leaves k (change_replica k v j without_run) t ⊎ Swaps sizes (frozen_by (first_machine settings v)) k v j t))
 
 abbrev pub LegalFinish : Settings → Known → ℕ → ℕ → ℕ → Reply → Known → Type 0
 LegalFinish settings k v m j (Compacted v' m' g) t =
-    Names v m v' m' × IsOpen k v × HasRun k v j × (g ≡ (replica_of k v j).generation + 1) × Swaps IsLoose as_it_is k v j t
+    Names v m v' m' × IsOpen k v × MayFinish k v j × (g ≡ (replica_of k v j).generation + 1) × Swaps IsLoose as_it_is k v j t
 LegalFinish settings k v m j (ReadOnly by) t = IsFrozenBy k v by × Leaves k k t
 LegalFinish settings k v m j (Idle v' m') t = Names v m v' m' × IsOpen k v × IsIdle k v j × Leaves k k t
 LegalFinish settings k v m j (Failed v' m' f) t =
     Names v m v' m' × IsOpen k v × HasRun k v j × RoseTo settings k v j f t × SwapFailed m k v j t
-LegalFinish settings k v m j NoMem t = SwapNoMem settings IsLoose k v j t
+LegalFinish settings k v m j NoMem t = SwapNoMem settings MayFinish IsLoose k v j t
 LegalFinish settings k v m j _ t = ⊥
 
 abbrev pub LegalCompact : Settings → Known → ℕ → ℕ → ℕ → Reply → Known → Type 0
@@ -465,7 +488,7 @@ LegalCompact settings k v m j (Busy v' m' g) t = Names v m v' m' × IsOpen k v �
 LegalCompact settings k v m j (Worn v' m') t = Names v m v' m' × IsOpen k v × IsWorn k v j × Leaves k k t
 LegalCompact settings k v m j (Failed v' m' f) t =
     Names v m v' m' × IsOpen k v × IsAtRest k v j × RoseTo settings k v j f t × SwapFailed m k v j t
-LegalCompact settings k v m j NoMem t = SwapNoMem settings IsTight k v j t
+LegalCompact settings k v m j NoMem t = SwapNoMem settings IsAtRest IsTight k v j t
 LegalCompact settings k v m j _ t = ⊥
 
 -- DRAINS AND FUSES

@@ -25,12 +25,13 @@ found_of replica = record { table = replica.base; end = replica.end; cells = rep
 abbrev pub Contents : Type 0
 Contents = ℕ → List ℕ
 
--- The disks by slot, with their counts, and the arms' counts by lane.
+-- The disks by slot, with their counts, the arms' counts by lane, and that of the shelf.
 pub record Outside : Type 0 where
   pub files : ℕ → Files
   pub faults : ℕ → ℕ
   pub fuses : ℕ → ℕ
   pub arms : ℕ → ℕ
+  pub shelf : ℕ
 
 -- A restart over these contents may find t.
 pub record IsFound (replica : ℕ → ℕ → Contents → Found → Type 0) (rows : Contents → List HomeRow → Type 0) (settings : Settings) (image : ℕ → Contents) (t : Known) : Type 0 where

@@ -1,56 +1,122 @@
 -- What a run has written, and what it leaves, at each status.
-use Rattle.std.specs.Prelude.{◌≡◌, ℕ, ◌^◌, ◌-◌, ◌<◌, ◌≤◌, ◌⊎◌, Bool, false, List, [], ◌∷◌, ◌++◌, length, map, replicate, None}
+use Rattle.std.specs.Prelude.{◌≡◌, ℕ, ◌<◌, ◌≤◌, ◌⊎◌, false, List, [], ◌∷◌, ◌++◌, length, map, replicate, None}
 use Rattle.std.specs.List.{AllByRecursion}
+use Rattle.hay_disk.specs.Disk.{MayLeave}
 use Rattle.hay_needle.specs.declared.settings.Settings.{Settings}
 use Rattle.hay_script.specs.declared.Command.TheVariants as command
 use Rattle.hay_reply.specs.declared.Note.{Note}
-use Rattle.hay_reply.specs.declared.Note.TheVariants.{OpenShelf, OpenFailed, OpenDamaged}
+use Rattle.hay_reply.specs.declared.Note.TheVariants.{OpenShelf, OpenFailed}
+use Rattle.hay_reply.specs.declared.Reply.TheVariants.{NoMem}
 use Rattle.hay_reply.specs.Replies.{note_line}
+use Rattle.hay_legal.specs.declared.known.HomeRow.{HomeRow}
 use Rattle.hay_legal.specs.declared.known.Known.{Known}
-use Rattle.hay_legal.specs.declared.turn.Item.TheVariants as item
-use Rattle.hay_legal.specs.declared.turn.Turn.{Turn}
-use Rattle.hay_legal.specs.Items.{Asked, items_of, items_before, item_of_turn}
-use Rattle.hay_legal.specs.Items.Asked.{Alone}
 use Rattle.hay_legal.specs.declared.known.ReplicaKnown.{ReplicaKnown}
 use Rattle.hay_legal.specs.declared.known.VolumeKnown.{VolumeKnown}
-use Rattle.hay_legal.specs.Known.{disk_count, fault_count, fuse_count, arm_count}
-use Rattle.hay_legal.specs.Restarts.{Reopens, directory_with}
-use Rattle.hay_disk.specs.Disk.{MayLeave}
-use Rattle.hay_legal.specs.Transcript.{transcript_text}
+use Rattle.hay_legal.specs.declared.turn.Item.TheVariants as item
+use Rattle.hay_legal.specs.declared.turn.Turn.{Turn}
+use Rattle.hay_legal.specs.declared.turn.Turn.TheVariants.{Restart}
+use Rattle.hay_legal.specs.Items.{Asked, items_of, items_before, item_of_turn}
+use Rattle.hay_legal.specs.Items.Asked.{Alone}
+use Rattle.hay_legal.specs.Known.{CameUp, Leaves, arm_count, disk_count, fault_count, fuse_count}
 use Rattle.hay_legal.specs.Legal.{Legal}
-use Rattle.hay_legal.specs.Stands.{Contents, Found, Outside, IsFound, StandsOn}
-use Rattle.hay_legal.specs.declared.known.HomeRow.{HomeRow}
+use Rattle.hay_legal.specs.Restarts.{directory_with}
+use Rattle.hay_legal.specs.Stands.{Contents, Found, HasOutcome, IsFound, Outside, StandsOn}
+use Rattle.hay_legal.specs.Transcript.{transcript_text}
 
 -- front stands at the front of all
 abbrev pub IsFront : {X : Type 0} → List X → List X → Type 0
 IsFront {X} front all = (rest : List X) × (all ≡ front ++ rest)
 
--- how an opening that did not succeed is told; these are the counts before it
-abbrev pub TellsOpening : Known → Note → Type 0
-TellsOpening k (OpenShelf faults) = Unit {0}
-TellsOpening k (OpenFailed slot faults) = (fault_count k slot < faults) ⊎ (faults ≡ 2 ^ 64 - 1)
-TellsOpening k (OpenDamaged slot file at) = ⊥
-TellsOpening k _ = ⊥
+-- THE STORE THAT AN OPENING FINDS
 
--- the first opening, or a restart that is the next item
-abbrev pub OpensNext : List Asked → List Asked → Type 0
-OpensNext asked all =
-    (asked ≡ []) ⊎ ((line : ℕ) × (pick : ℕ) × IsFront (asked ++ Alone line (item.Command (command.Restart pick)) ∷ []) all)
+-- Nothing has happened yet to a replica.
+abbrev pub IsUntouched : ReplicaKnown → Type 0
+IsUntouched replica = (replica.stuck ≡ false) × (replica.run ≡ None) × (replica.poised ≡ false)
 
-abbrev pub asked_of : List Turn → List Asked
-asked_of turns = map item_of_turn turns
+pub record IsNewVolume (settings : Settings) (volume : VolumeKnown) : Type 0 where
+  pub log : volume.log ≡ []
+  pub frozen : volume.frozen ≡ None
+  pub pending : volume.pending ≡ None
+  pub count : length volume.replicas ≡ settings.replicas
+  pub replicas : AllByRecursion IsUntouched volume.replicas
 
--- All was written of all turns but the last, and a part of the rest.
-abbrev pub WrotePart : Settings → Known → List Turn → List ℕ → Type 0
-WrotePart settings t turns written =
-    WroteAllButLast settings turns written
-    × (IsFront written (transcript_text settings turns)
-    ⊎ ((note : Note) × TellsOpening t note × IsFront written (transcript_text settings turns ++ note_line note)))
-  where
-    WroteAllButLast : Settings → List Turn → List ℕ → Type 0
-    WroteAllButLast settings [] written = Unit {0}
-    WroteAllButLast settings (turn ∷ turns) written =
-        (before : List Turn) × (last : Turn) × (turn ∷ turns ≡ before ++ last ∷ []) × IsFront (transcript_text settings before) written
+-- A store of these settings at which nothing has happened yet.
+pub record IsNew (settings : Settings) (k : Known) : Type 0 where
+  pub count : length k.volumes ≡ settings.volumes
+  pub volumes : AllByRecursion (IsNewVolume settings) k.volumes
+  pub directory : k.directory ≡ directory_with k.directory.rows
+  pub drained : k.drained ≡ replicate settings.machines false
+  pub disks : length k.faults ≡ disk_count settings
+  pub fused : length k.fuses ≡ disk_count settings
+  pub lanes : length k.arms ≡ 8
+
+-- what reads of the disks give
+abbrev pub contents_of : Outside → ℕ → Contents
+contents_of outside slot file = ((outside.files slot) file).now
+
+-- These disks hold a new store, void ones as they are when they are formatted, and its counts are those of the disks and arms.
+pub record HoldsNew (replica : ℕ → ℕ → Contents → Found → Type 0) (rows : Contents → List HomeRow → Type 0) (settings : Settings) (taken : Outside) (k : Known) : Type 0 where
+  pub new : IsNew settings k
+  pub found : IsFound replica rows settings (contents_of taken) k
+  pub faults : (slot : ℕ) → slot < disk_count settings → fault_count k slot ≡ taken.faults slot
+  pub fuses : (slot : ℕ) → slot < disk_count settings → fuse_count k slot ≡ taken.fuses slot
+  pub arms : (lane : ℕ) → lane < 8 → arm_count k lane ≡ taken.arms lane
+
+-- WHAT A REFUSED OPENING LEAVES
+
+-- What stands for a slot's disk behind a first opening that was refused: what a stop may leave of it ..
+abbrev pub IsImageOf : (ℕ → Contents) → ℕ → Contents → Type 0
+IsImageOf image slot contents = (file : ℕ) → contents file ≡ image slot file
+
+-- .. a void disk, where it was void and may be formatted in part ..
+abbrev pub IsVoidStill : (Contents → Type 0) → Outside → ℕ → Contents → Type 0
+IsVoidStill void taken slot contents = void (contents_of taken slot) × void contents
+
+-- .. or what reads give of it, where it is as it was taken.
+abbrev pub IsAsTaken : Outside → Outside → ℕ → Contents → Type 0
+IsAsTaken taken given slot contents = (given.files slot ≡ taken.files slot) × ((file : ℕ) → contents file ≡ contents_of taken slot file)
+
+abbrev pub StandsIn : (Contents → Type 0) → Outside → Outside → (ℕ → Contents) → ℕ → Contents → Type 0
+StandsIn void taken given image slot contents =
+    IsImageOf image slot contents ⊎ IsVoidStill void taken slot contents ⊎ IsAsTaken taken given slot contents
+
+-- The first opening of the disks that hold k was refused, or not begun: in every image of those given back the next one finds
+-- what k is. No fuse was set, and no count fell.
+pub record IsUnopened (replica : ℕ → ℕ → Contents → Found → Type 0) (rows : Contents → List HomeRow → Type 0) (void : Contents → Type 0) (settings : Settings) (k : Known) (taken given : Outside) : Type 0 where
+  pub images : (image : ℕ → Contents) → ((slot : ℕ) → slot < disk_count settings → MayLeave (given.files slot) (image slot)) →
+      (contents : ℕ → Contents) × ((slot : ℕ) → slot < disk_count settings → StandsIn void taken given image slot (contents slot))
+      × HasOutcome replica rows settings k contents
+  pub faults : (slot : ℕ) → slot < disk_count settings → fault_count k slot ≤ given.faults slot
+  pub fuses : (slot : ℕ) → slot < disk_count settings → fuse_count k slot ≡ given.fuses slot
+  pub arms : (lane : ℕ) → lane < 8 → arm_count k lane ≤ given.arms lane
+
+-- A restart from t was refused: the disks given back hold what t is, but for counts that may have risen.
+pub record IsNotReopened (replica : ℕ → ℕ → Contents → Found → Type 0) (rows : Contents → List HomeRow → Type 0) (settings : Settings) (t : Known) (given : Outside) : Type 0 where
+  pub left : Known
+  pub leaves : Leaves t t left
+  pub stands : StandsOn replica rows settings left given
+
+-- HOW A REFUSED OPENING IS TOLD
+
+-- A disk failed, and its count came up to the one that is told.
+abbrev pub TellsFailure : Settings → Known → Outside → Note → Type 0
+TellsFailure settings k given note =
+    (slot : ℕ) × (faults : ℕ) × (note ≡ OpenFailed slot faults) × (slot < disk_count settings) × CameUp (fault_count k slot) faults (given.faults slot)
+
+-- the first opening takes the disks from a shelf, which may fail too
+abbrev pub TellsFirst : Settings → Known → Outside → Outside → Note → Type 0
+TellsFirst settings k taken given note =
+    TellsFailure settings k given note ⊎ ((faults : ℕ) × (note ≡ OpenShelf faults) × CameUp taken.shelf faults given.shelf)
+
+-- the whole of a line was written, or a front of it
+abbrev pub Whole : List ℕ → List ℕ → Type 0
+Whole written line = written ≡ line
+
+-- these bytes were written behind the text of the turns
+abbrev pub WroteBehind : (List ℕ → List ℕ → Type 0) → Settings → List Turn → List ℕ → List ℕ → Type 0
+WroteBehind Much settings turns line written = (part : List ℕ) × Much part line × (written ≡ transcript_text settings turns ++ part)
+
+-- HOW A RUN ENDS
 
 -- how a run of a script ends, but for words that are no command
 pub data Ending : Type 0 where
@@ -64,93 +130,80 @@ status_of NoMemory = 5
 status_of NotOpened = 6
 status_of TooLong = 7
 
--- What the turns answered of the bytes taken, and what was written. Before these turns the store stood at k, and t is
--- what the last one left.
-abbrev pub Wrote : Settings → Ending → List ℕ → List Turn → Known → List ℕ → Type 0
-Wrote settings ReadAll taken turns t written =
-    (asked_of turns ≡ items_of taken) × (written ≡ transcript_text settings turns)
-Wrote settings InputFault taken turns t written =
-    (asked_of turns ≡ items_before taken) × (written ≡ transcript_text settings turns)
-Wrote settings TooLong taken turns t written =
-    (asked_of turns ≡ items_before taken) × (written ≡ transcript_text settings turns)
-Wrote settings NotOpened taken turns t written =
-    OpensNext (asked_of turns) (items_of taken)
-    × ((note : Note) × TellsOpening t note × (written ≡ transcript_text settings turns ++ note_line note))
-Wrote settings OutputFault taken turns t written =
-    IsFront (asked_of turns) (items_of taken) × WrotePart settings t turns written
-Wrote settings NoMemory taken turns t written =
-    IsFront (asked_of turns) (items_of taken) × WrotePart settings t turns written
+abbrev pub asked_of : List Turn → List Asked
+asked_of turns = map item_of_turn turns
 
--- A store at which nothing has happened yet.
-abbrev pub IsAtRest : ReplicaKnown → Type 0
-IsAtRest replica = (replica.stuck ≡ false) × (replica.run ≡ None) × (replica.poised ≡ false)
+-- the next item is a restart
+abbrev pub RestartsNext : List Asked → List Asked → Type 0
+RestartsNext asked all = (line : ℕ) × (pick : ℕ) × IsFront (asked ++ Alone line (item.Command (command.Restart pick)) ∷ []) all
 
-pub record IsNewVolume (settings : Settings) (volume : VolumeKnown) : Type 0 where
-  pub log : volume.log ≡ []
-  pub frozen : volume.frozen ≡ None
-  pub pending : volume.pending ≡ None
-  pub count : length volume.replicas ≡ settings.replicas
-  pub replicas : AllByRecursion IsAtRest volume.replicas
+-- a run that wants memory, or whose output fails before it can say so
+abbrev pub EndsWanting : Ending → Type 0
+EndsWanting ending = (ending ≡ NoMemory) ⊎ (ending ≡ OutputFault)
 
-pub record IsNew (settings : Settings) (k : Known) : Type 0 where
-  pub count : length k.volumes ≡ settings.volumes
-  pub volumes : AllByRecursion (IsNewVolume settings) k.volumes
-  pub directory : k.directory ≡ directory_with k.directory.rows
-  pub drained : k.drained ≡ replicate settings.machines false
+-- A restart that wanted memory is the last turn.
+abbrev pub WantsLast : Ending → List Turn → Type 0
+WantsLast ending turns =
+    (before : List Turn) (line pick : ℕ) (notes : List Note) (after : Known) (behind : List Turn)
+    → turns ≡ before ++ Restart line pick NoMem notes after ∷ behind → (behind ≡ []) × EndsWanting ending
 
--- what reads of the disks give
-abbrev pub contents_of : Outside → ℕ → Contents
-contents_of outside slot file = ((outside.files slot) file).now
+module _ (replica : ℕ → ℕ → Contents → Found → Type 0) (rows : Contents → List HomeRow → Type 0) (void : Contents → Type 0) (settings : Settings) (k : Known) (script : List ℕ) (taken : Outside) (turns : List Turn) (t : Known) (written : List ℕ) (given : Outside) where
+  -- The turns are these items, and their text is all that was written.
+  pub record AnsweredAll (items : List Asked) : Type 0 where
+    pub asked : asked_of turns ≡ items
+    pub wrote : written ≡ transcript_text settings turns
+    pub stands : StandsOn replica rows settings t given
 
--- An opening of these disks finds a new store. Its counts are those behind the opening.
-pub record IsOpened (replica : ℕ → ℕ → Contents → Found → Type 0) (rows : Contents → List HomeRow → Type 0) (settings : Settings) (taken : Outside) (k : Known) : Type 0 where
-  pub new : IsNew settings k
-  pub found : IsFound replica rows settings (contents_of taken) k
-  pub faults : (slot : ℕ) → slot < disk_count settings → taken.faults slot ≤ fault_count k slot
-  pub fuses : (slot : ℕ) → slot < disk_count settings → fuse_count k slot ≡ taken.fuses slot
-  pub arms : (lane : ℕ) → lane < 8 → taken.arms lane ≤ arm_count k lane
+  -- The first opening was refused, as is told.
+  pub record FirstRefused (Much : List ℕ → List ℕ → Type 0) : Type 0 where
+    pub none : turns ≡ []
+    pub note : Note
+    pub tells : TellsFirst settings k taken given note
+    pub wrote : WroteBehind Much settings [] (note_line note) written
+    pub left : IsUnopened replica rows void settings k taken given
 
--- What stands for a slot's disk: what a stop may leave of it; nothing, where it was void and may be formatted in part;
--- or what reads gave of a disk that was not taken.
-abbrev pub StandsIn : (Contents → Type 0) → Outside → Outside → (ℕ → Contents) → ℕ → Contents → Type 0
-StandsIn void taken given image slot contents =
-    ((file : ℕ) → contents file ≡ image slot file)
-    ⊎ (void (contents_of taken slot) × void contents)
-    ⊎ ((given.files slot ≡ taken.files slot) × ((file : ℕ) → contents file ≡ contents_of taken slot file))
+  -- The opening of a restart was refused, as is told.
+  pub record RestartRefused (Much : List ℕ → List ℕ → Type 0) : Type 0 where
+    pub next : RestartsNext (asked_of turns) (items_of script)
+    pub note : Note
+    pub tells : TellsFailure settings t given note
+    pub wrote : WroteBehind Much settings turns (note_line note) written
+    pub left : IsNotReopened replica rows settings t given
 
--- the same, or what a restart from it may find
-abbrev pub MayReopen : Settings → Known → Known → Type 0
-MayReopen settings k t = (t ≡ k) ⊎ ((kept : List (List Bool)) × (row : Bool) × Reopens settings k kept row t)
+  -- The first opening was not begun, or wanted memory.
+  pub record NeverOpened : Type 0 where
+    pub none : turns ≡ []
+    pub wrote : IsFront written (transcript_text settings [])
+    pub left : IsUnopened replica rows void settings k taken given
 
--- An opening finds what was known, or what it was left at by a restart that was refused.
-pub record IsFoundFrom (replica : ℕ → ℕ → Contents → Found → Type 0) (rows : Contents → List HomeRow → Type 0) (settings : Settings) (k : Known) (contents : ℕ → Contents) : Type 0 where
-  pub restarted : Known
-  pub first : MayReopen settings k restarted
+  -- The store was open to the end. All was written of all turns but the last, and a front of the last.
+  pub record StoodOpen : Type 0 where
+    pub asked : IsFront (asked_of turns) (items_of script)
+    pub before : List Turn
+    pub last : List Turn
+    pub parts : turns ≡ before ++ last
+    pub one : length last ≤ 1
+    pub wrote : IsFront (transcript_text settings before) written
+    pub no_more : IsFront written (transcript_text settings turns)
+    pub stands : StandsOn replica rows settings t given
+
+  abbrev pub Interrupted : Type 0
+  Interrupted = StoodOpen ⊎ NeverOpened ⊎ FirstRefused IsFront ⊎ RestartRefused IsFront
+
+  abbrev pub Ends : Ending → Type 0
+  Ends ReadAll = AnsweredAll (items_of script)
+  Ends InputFault = AnsweredAll (items_before script)
+  Ends TooLong = AnsweredAll (items_before script)
+  Ends NotOpened = FirstRefused Whole ⊎ RestartRefused Whole
+  Ends OutputFault = Interrupted
+  Ends NoMemory = Interrupted
+
+-- A whole run of a script, whose bytes are those that were taken: from the disks and arms that hold k to those given back.
+pub record RunsTo (replica : ℕ → ℕ → Contents → Found → Type 0) (rows : Contents → List HomeRow → Type 0) (void : Contents → Type 0) (settings : Settings) (k : Known) (ending : Ending) (script : List ℕ) (taken : Outside) (written : List ℕ) (given : Outside) : Type 0 where
   pub opened : Known
-  pub second : MayReopen settings restarted opened
-  pub found : IsFound replica rows settings contents opened
-
--- An opening did not succeed: in every image of the disks given back the next one finds what it may.
-pub record IsUnopened (replica : ℕ → ℕ → Contents → Found → Type 0) (rows : Contents → List HomeRow → Type 0) (void : Contents → Type 0) (settings : Settings) (k : Known) (taken given : Outside) : Type 0 where
-  pub images : (image : ℕ → Contents) → ((slot : ℕ) → slot < disk_count settings → MayLeave (given.files slot) (image slot)) →
-      (contents : ℕ → Contents) × ((slot : ℕ) → slot < disk_count settings → StandsIn void taken given image slot (contents slot))
-      × IsFoundFrom replica rows settings k contents
-
--- What the disks given back hold: what the last turn left, or what an opening that did not succeed has left.
-abbrev pub GivenBack : (ℕ → ℕ → Contents → Found → Type 0) → (Contents → List HomeRow → Type 0) → (Contents → Type 0) → Settings → Ending → Known → Outside → Outside → Type 0
-GivenBack replica rows void settings NotOpened t taken given = IsUnopened replica rows void settings t taken given
-GivenBack replica rows void settings OutputFault t taken given =
-    StandsOn replica rows settings t given ⊎ IsUnopened replica rows void settings t taken given
-GivenBack replica rows void settings NoMemory t taken given =
-    StandsOn replica rows settings t given ⊎ IsUnopened replica rows void settings t taken given
-GivenBack replica rows void settings _ t taken given = StandsOn replica rows settings t given
-
--- A whole run of a script: from the disks and arms as they were taken to those given back.
-pub record RunsTo (replica : ℕ → ℕ → Contents → Found → Type 0) (rows : Contents → List HomeRow → Type 0) (void : Contents → Type 0) (settings : Settings) (ending : Ending) (script : List ℕ) (taken : Outside) (written : List ℕ) (given : Outside) : Type 0 where
-  pub k : Known
+  pub opening : Leaves k k opened
   pub turns : List Turn
   pub t : Known
-  pub opened : IsOpened replica rows settings taken k
-  pub legal : Legal settings k turns t
-  pub wrote : Wrote settings ending script turns t written
-  pub back : GivenBack replica rows void settings ending t taken given
+  pub legal : Legal settings opened turns t
+  pub wanting : WantsLast ending turns
+  pub ends : Ends replica rows void settings k script taken turns t written given ending

@@ -10,8 +10,6 @@ use Rattle.hay_url.specs.declared.Url.{Url as UrlParts}
 use Rattle.hay_url.specs.Url.{cookie_of}
 use Rattle.hay_script.specs.declared.Command.{Command}
 use Rattle.hay_script.specs.declared.Command.TheVariants as command
-use Rattle.hay_reply.specs.declared.Cause.{Cause}
-use Rattle.hay_reply.specs.declared.Cause.TheVariants.{Arm, Disk, Damage}
 use Rattle.hay_reply.specs.declared.Note.{Note}
 use Rattle.hay_reply.specs.declared.Note.TheVariants.{Kept, Lost}
 use Rattle.hay_reply.specs.declared.Reply.{Reply}
@@ -278,11 +276,11 @@ FailedPutIsPending =
     → ((volume_at after v).pending ≡ Some (record { tag = record { lane = 0; line = line }; entry = entry.Put pair (cookie_of settings.secret pair.key) bytes; failed = true }))
     × (home_of after pair ≡ Some v)
 
--- a plain turn that does not end for want of memory
-abbrev pub IsAnswered : Turn → Type 0
-IsAnswered (Plain line item reply after) = reply ≢ NoMem
-IsAnswered (Lanes items logs rows after) = ⊥
-IsAnswered (Restart line pick reply notes after) = ⊥
+-- a turn that is neither a block nor a restart
+abbrev pub IsPlain : Turn → Type 0
+IsPlain (Plain line item reply after) = Unit {0}
+IsPlain (Lanes items logs rows after) = ⊥
+IsPlain (Restart line pick reply notes after) = ⊥
 
 -- A put that was answered failed, and that the notes of the next restart call kept, counts as the last change of its pair:
 -- each read behind that restart shows it, until the next change of the pair is acknowledged or kept.
@@ -295,7 +293,7 @@ FailedPutThatWasKeptIsRead =
     (earlier ++ Plain line (item.Command (command.Put pair bytes)) (Failed v m f) after
     ∷ (waiting ++ Restart line' pick (Restarted d) notes after'
     ∷ (between ++ Plain line'' (item.Command request) reply after'' ∷ later))) t
-    → Each IsAnswered waiting
+    → Each IsPlain waiting
     → NoneLost notes v line
     → AllLeaveAlone settings pair after' between → AsksFor request pair cookie
     → (cookie ≡ cookie_of settings.secret pair.key → IsReadAs bytes reply)
@@ -369,17 +367,12 @@ pub record NothingFailed (k t : Known) : Type 0 where
   pub disks : Each (λ count. count < 2 ^ 64 - 1) k.faults
   pub lanes : Each (λ count. count < 2 ^ 64 - 1) k.arms
 
-abbrev pub count_of : Cause → ℕ
-count_of (Arm count) = count
-count_of (Disk count) = count
-count_of (Damage at) = 0
-
--- No disk and no arm is blamed. Of an unreadable reply it is known only that it prints each count as 2^64 - 1.
+-- No disk and no arm is blamed.
 abbrev pub BlamesNothing : Reply → Type 0
 BlamesNothing (Failed v m f) = ⊥
 BlamesNothing (FailedDir f) = ⊥
 BlamesNothing (Damaged v m at) = ⊥
-BlamesNothing (Unreadable v p d causes) = Each (λ passed. count_of passed.cause ≡ 2 ^ 64 - 1) causes × (causes ≢ [])
+BlamesNothing (Unreadable v p d causes) = ⊥
 BlamesNothing _ = Unit {0}
 
 -- Where nothing failed, no reply blames a disk or an arm.
@@ -421,7 +414,6 @@ pub record HasEverywhere (settings : Settings) (k : Known) (pair : Pair) (cookie
 abbrev pub IsShownOrNoMem : List ℕ → Reply → Type 0
 IsShownOrNoMem bytes (Photo v m p d bytes') = bytes' ≡ bytes
 IsShownOrNoMem bytes NoMem = Unit {0}
-IsShownOrNoMem bytes (Unreadable v p d causes) = BlamesNothing (Unreadable v p d causes)
 IsShownOrNoMem bytes _ = ⊥
 
 -- Where nothing failed, a read with its cookie of a photo that stands on each replica shows it, if memory suffices.

@@ -302,6 +302,7 @@ opens_on DiskTells files Tells rows rows' j r r' same h = record {
   sup = h.sup;
   loose = h.loose;
   alone = h.alone;
+  undamaged = h.undamaged;
   opened = λ tells s opens.
       let p = h.opened tells s opens in
       (p.0, λ pair. subst (PlaceOf Tells (last_cell s.cells pair)) (sym (same pair)) (p.1 pair));

@@ -36,7 +36,7 @@ use Rattle.hay_logical.specs.Answers.{DeleteRefused, FlushRefused, HasFailed, Ha
 use Rattle.hay_logical.specs.Answers as answers
 use Rattle.hay_logical.specs.Fits.{At, RunsAs, copier_run}
 use Rattle.hay_logical.specs.Notes.{is_live}
-use Rattle.hay_logical.specs.Refusals.{flush_answer}
+use Rattle.hay_logical.specs.Refusals.{answer_at}
 use Rattle.hay_logical.specs.Stands.{ReplicaStands, Stands, StandsFor}
 use Rattle.hay_logical.specs.Steps.{AllIdle, CallsOne, DeleteLeaves, DeletesAt, FlushesAt, FollowsAt, PutLeaves}
 use Rattle.hay_logical.specs.Volumes.{Volume}
@@ -188,16 +188,17 @@ module _ {D P : Type 0} (settings : Settings) (number : ℕ) (DiskTells : Type 0
 
   pub delete_refused : DiskTells → (items new : List (Copy D)) (rows : MapRows P) (front : ℕ) (frozen : Option ℕ) (unsure : Option Unsure) (k : VolumeKnown) (tag : CoreTag) (pair : Pair) (row : List (Place P)) (failed : DiskFailed) (m : ℕ)
       → StandsFor files Tells (volume_with settings number items rows front frozen unsure) k → frozen ≡ None → length new ≡ length items → row ≡ row_at rows pair
-      → m ≡ machine_of settings number failed.at → DeleteLeaves DiskTells files faults row items new failed → AllIdle new
+      → length row ≡ settings.replicas → (some : (j : ℕ) × (j < length row) × (is_live (place_in row j) ≡ true)) → m ≡ machine_of settings number failed.at → DeleteLeaves DiskTells files faults row items new failed → AllIdle new
       → DeleteRefused files Tells k tag pair (volume_with settings number items rows front frozen unsure)
       (volume_with settings number new rows front (Some m) (Some (record { tag = tag; change = change.Delete pair }))) (logical.Failed m failed.faults)
   unfolding Stands
-  delete_refused tells items new rows front (Some n) unsure k tag pair row failed m stands thawed count is machine left idle = some_none thawed
-  delete_refused tells items new rows front None unsure k tag pair row failed m stands thawed count is machine left idle =
+  delete_refused tells items new rows front (Some n) unsure k tag pair row failed m stands thawed count is long some machine left idle = some_none thawed
+  delete_refused tells items new rows front None unsure k tag pair row failed m stands thawed count is long some machine left idle =
       let left' : DeleteLeaves DiskTells files faults (row_at rows pair) items new failed = subst (λ l. DeleteLeaves DiskTells files faults l items new failed) is left in
       let below = at_below items failed.at left.before left.was in
       let all : length items ≡ settings.replicas = stands.all in (
         stands.frozen,
+        is_held_at items rows front None unsure k pair row stands is long some,
         stands_broken DiskTells files Tells settings number items new rows rows front unsure k tag (Del pair) (change.Delete pair) m failed.at true stands count
             ((let less : failed.at < settings.replicas = omega (arith, below, all) in less), ap (λ n. Some n) machine) refl (λ q. refl)
             (delete_part DiskTells files Tells settings number tells faults items new rows front unsure k pair failed left'
@@ -331,7 +332,7 @@ module _ {D P : Type 0} (settings : Settings) (number : ℕ) (DiskTells : Type 0
 
   pub flush_refused : DiskTells → (items new : List (Copy D)) (rows : MapRows P) (front : ℕ) (frozen : Option ℕ) (unsure : Option Unsure) (k : VolumeKnown) (at m : ℕ) (f : ReplicaFault) (one : CallsOne at items new)
       → StandsFor files Tells (volume_with settings number items rows front frozen unsure) k → frozen ≡ None → m ≡ machine_of settings number at → FlushesAt DiskTells files faults one.before one.after (Err f)
-      → FlushRefused files Tells k at (volume_with settings number items rows front frozen unsure) (volume_with settings number new rows front frozen unsure) (flush_answer m f)
+      → FlushRefused files Tells k at (volume_with settings number items rows front frozen unsure) (volume_with settings number new rows front frozen unsure) (answer_at m f)
   unfolding Stands
   flush_refused tells items new rows front (Some n) unsure k at m f one stands thawed machine step = some_none thawed
   flush_refused tells items new rows front None unsure k at m (fault.Failed printed) one stands thawed machine step =
@@ -405,12 +406,12 @@ one_failed faults settings number items new at m printed one all machine rose is
 
 module _ {D : Type 0} (settings : Settings) (number : ℕ) (DiskTells : Type 0) (files : D → Files) (faults : D → ℕ) where
   pub flush_cause : (items new : List (Copy D)) (at m : ℕ) (f : ReplicaFault) (one : CallsOne at items new) → length items ≡ settings.replicas → m ≡ machine_of settings number at
-      → FlushesAt DiskTells files faults one.before one.after (Err f) → answers.IsFlushFault faults settings number items new (flush_answer m f)
+      → FlushesAt DiskTells files faults one.before one.after (Err f) → answers.IsFlushFault faults settings number items new (answer_at m f)
   flush_cause items new at m (fault.Failed printed) one all machine step = one_failed faults settings number items new at m printed one all machine step.cause.0 step.cause.1
   flush_cause items new at m fault.Frozen one all machine step = tt
-  flush_cause items new at m (fault.Full end need capacity) one all machine step = tt
-  flush_cause items new at m (fault.Busy generation) one all machine step = tt
-  flush_cause items new at m (fault.Ended count) one all machine step = tt
-  flush_cause items new at m fault.Worn one all machine step = tt
-  flush_cause items new at m (fault.Damaged place) one all machine step = tt
+  flush_cause items new at m (fault.Full end need capacity) one all machine step = absurd step.cause
+  flush_cause items new at m (fault.Busy generation) one all machine step = absurd step.cause
+  flush_cause items new at m (fault.Ended count) one all machine step = absurd step.cause
+  flush_cause items new at m fault.Worn one all machine step = absurd step.cause
+  flush_cause items new at m (fault.Damaged place) one all machine step = absurd step.cause
   flush_cause items new at m fault.NoMemory one all machine step = tt

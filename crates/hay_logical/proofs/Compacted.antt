@@ -1,6 +1,6 @@
 -- What ends of a volume's compactions answer, by what is known.
-use Rattle.std.proofs.Common.{◌≡◌, inl, inr, ℕ, ◌+◌, ◌<◌, true, List, length, Option, Some, None, refl, sym, ap, subst, ◌∙◌, arith}
-use Rattle.std.specs.Prelude.{Err, Ok}
+use Rattle.std.proofs.Common.{◌≡◌, inl, inr, ℕ, ◌+◌, ◌<◌, ◌≤◌, true, List, length, Option, Some, None, refl, sym, ap, subst, ◌∙◌, arith}
+use Rattle.std.specs.Prelude.{Err, Ok, option_map}
 use Rattle.std.proofs.lemmas.Bool.{cases_eq}
 use Rattle.hay_needle.specs.declared.settings.Settings.{Settings}
 use Rattle.hay_disk.specs.Counts.{Rose}
@@ -10,24 +10,31 @@ use Rattle.hay_legal.specs.declared.known.VolumeKnown.{VolumeKnown}
 use Rattle.hay_legal.specs.Known.{machine_of, replica_at}
 use Rattle.hay_map.specs.MapRows.{MapRows}
 use Rattle.hay_physical.specs.declared.fault.ReplicaFault.TheVariants as fault
+use Rattle.hay_open.specs.Stored.{Stored, index_file, volume_file}
 use Rattle.hay_physical.specs.Copies.{Copy, IsUp, generation_of, goal_of}
 use Rattle.hay_physical.specs.Runs as runs
+use Rattle.hay_physical.specs.Runs.{HasRun, RemovedBoth}
 use Rattle.hay_physical.proofs.Laws.{goal_none, stands_generation}
 use Rattle.hay_logical.specs.declared.runs.Unswapped.{Unswapped}
 use Rattle.hay_logical.specs.declared.runs.Unswapped.TheVariants.{Refused, Unsure as Perhaps, Unplaced}
 use Rattle.hay_logical.specs.declared.unsure.Unsure.{Unsure}
-use Rattle.hay_logical.specs.Answers.{CompactRefused, FinishRefused, HasFailed, IsAtRest, IsCompacted, IsFinished, IsRunning}
+use Rattle.hay_logical.specs.Answers.{CompactRefused, FinishRefused, HasFailed, IsAtRest, IsCompacted, IsFinished, IsRunning, MayFinish, RemovesOld}
 use Rattle.hay_logical.specs.Answers as answers
 use Rattle.hay_logical.specs.Fits.{At, RunsAs, copier_run}
 use Rattle.hay_logical.specs.Refusals.{unfinished_by}
 use Rattle.hay_logical.specs.Stands.{ReplicaStands, Stands, StandsFor}
-use Rattle.hay_logical.specs.Steps.{KeepsPlaces, SwapsAt, SwapsOne}
+use Rattle.hay_logical.specs.Steps.{KeepsPlaces, Start, SwapsAt, SwapsOne}
 use Rattle.hay_logical.specs.Steps.Start.{Fresh, Going}
 use Rattle.hay_logical.proofs.Compacting.{known_goal, known_none}
 use Rattle.hay_logical.proofs.Finishing.{loose_sizes, stands_dropped, stands_poised, stands_same, stands_swap, stands_unplaced, tight_sizes, was_there}
 use Rattle.hay_logical.proofs.Lists.{at_below, at_same}
 use Rattle.hay_logical.proofs.Standing.{volume_with}
 use Rattle.hay_logical.proofs.Stepping.{is_run, some_run}
+
+-- a compaction makes the next generation
+run_next : {D : Type 0} (files : D → Files) (r : Copy D) (s : Stored) (run : runs.Run) → runs.HasRun files r s (Some run) → run.goal ≡ s.generation + 1
+unfolding HasRun
+run_next files r s run h = h.has.next
 
 module _ {D P : Type 0} (settings : Settings) (number : ℕ) (DiskTells : Type 0) (files : D → Files) (Tells : Type 0) (faults : D → ℕ) (items new : List (Copy D)) (rows rows' : MapRows P) (front : ℕ) (unsure : Option Unsure) (k : VolumeKnown)
     (stands : StandsFor files Tells (volume_with settings number items rows front None unsure) k) (tells : DiskTells) (at : ℕ) (one : SwapsOne DiskTells files at items new) where
@@ -40,15 +47,25 @@ module _ {D P : Type 0} (settings : Settings) (number : ℕ) (DiskTells : Type 0
   has_run : (run : IsRunning k at) → runs.HasRun files one.before was.stored (Some (copier_run run.0))
   has_run run = subst (λ (o : Option Run). RunsAs files one.before was.stored o) run.1 was.run
 
-  pub finished : (generation : ℕ) → (goal_of one.before ≡ None → ⊥) → SwapsAt DiskTells files faults Tells Going rows rows' at one.before one.after (Ok generation) → KeepsPlaces rows rows' at (Ok generation)
+  may_finish : (goal_of one.before ≡ None → ⊥) → ((goal : ℕ) → goal_of one.before ≡ Some goal → goal ≤ 65535) → MayFinish k at
+  unfolding has_run
+  may_finish standing few =
+      let run = running standing in
+      let next = run_next files one.before was.stored (copier_run run.0) (has_run run) in
+      let goal = known_goal files one.before was.stored (replica_at k at).run was.run ∙ ap (λ (o : Option Run). option_map (λ (r : Run). r.goal) o) run.1 in
+      let most = few (run.0).goal goal in
+      let fits = was.fits.generation in
+      (run, (let e : (replica_at k at).generation < 65535 = omega (arith, most, next, fits) in e))
+
+  pub finished : (generation : ℕ) → (goal_of one.before ≡ None → ⊥) → ((goal : ℕ) → goal_of one.before ≡ Some goal → goal ≤ 65535) → SwapsAt DiskTells files faults Tells Going rows rows' at one.before one.after (Ok generation) → KeepsPlaces rows rows' at (Ok generation)
       → IsFinished files Tells k at generation (volume_with settings number new rows' front None unsure)
   unfolding Stands was has_run
-  finished generation standing swaps places =
+  finished generation standing few swaps places =
       let run = running standing in
       let made = swaps.swapped tells was.stored (copier_run run.0) was.stands (has_run run) was.places in
       record {
         thawed = stands.frozen;
-        stood = run;
+        stood = may_finish standing few;
         next = made.generation_is ∙ made.to.swaps.generation ∙ ap (λ n. n + 1) (sym was.fits.generation);
         swaps = (
           made.stored.end,
@@ -58,34 +75,34 @@ module _ {D P : Type 0} (settings : Settings) (number : ℕ) (DiskTells : Type 0
         );
       }
 
-  pub finish_refused : (u : Unswapped) → (goal_of one.before ≡ None → ⊥) → SwapsAt DiskTells files faults Tells Going rows rows' at one.before one.after (Err u) → KeepsPlaces rows rows' at (Err u)
+  pub finish_refused : (u : Unswapped) → (goal_of one.before ≡ None → ⊥) → ((goal : ℕ) → goal_of one.before ≡ Some goal → goal ≤ 65535) → SwapsAt DiskTells files faults Tells Going rows rows' at one.before one.after (Err u) → KeepsPlaces rows rows' at (Err u)
       → FinishRefused files Tells k at (volume_with settings number items rows front None unsure) (volume_with settings number new rows' front (unfinished_by settings number at u).frozen unsure) (unfinished_by settings number at u).fault
   unfolding Stands was has_run
-  finish_refused (Refused (fault.Failed n)) standing swaps places =
+  finish_refused (Refused (fault.Failed n)) standing few swaps places =
       let run = running standing in
       let h = swaps.refused tells was.stored (copier_run run.0) was.stands (has_run run) was.places in
       (stands.frozen, refl, run, inl (stands_dropped settings number DiskTells files Tells items new rows rows' front unsure k stands one.count tells at one swaps.left.0 swaps.left.1 h.0 h.1 places.same))
-  finish_refused (Refused fault.Frozen) standing swaps places = absurd swaps.left
-  finish_refused (Refused (fault.Full end need capacity)) standing swaps places = absurd swaps.left
-  finish_refused (Refused (fault.Busy goal)) standing swaps places = let wrong : Going ≡ Fresh = swaps.left.0 in absurd cc
-  finish_refused (Refused (fault.Ended n)) standing swaps places = absurd swaps.left
-  finish_refused (Refused fault.Worn) standing swaps places = let wrong : Going ≡ Fresh = swaps.left.0 in absurd cc
-  finish_refused (Refused (fault.Damaged place)) standing swaps places =
+  finish_refused (Refused fault.Frozen) standing few swaps places = absurd swaps.left
+  finish_refused (Refused (fault.Full end need capacity)) standing few swaps places = absurd swaps.left
+  finish_refused (Refused (fault.Busy goal)) standing few swaps places = let wrong : Going ≡ Fresh = swaps.left.0 in absurd cc
+  finish_refused (Refused (fault.Ended n)) standing few swaps places = absurd swaps.left
+  finish_refused (Refused fault.Worn) standing few swaps places = let wrong : Going ≡ Fresh = swaps.left.0 in absurd cc
+  finish_refused (Refused (fault.Damaged place)) standing few swaps places =
       let run = running standing in
       absurd (swaps.refused tells was.stored (copier_run run.0) was.stands (has_run run) was.places)
-  finish_refused (Refused fault.NoMemory) standing swaps places =
+  finish_refused (Refused fault.NoMemory) standing few swaps places =
       let run = running standing in
       let h = swaps.refused tells was.stored (copier_run run.0) was.stands (has_run run) was.places in
-      (stands.frozen, run, inl (stands_dropped settings number DiskTells files Tells items new rows rows' front unsure k stands one.count tells at one swaps.left.0 swaps.left.1 h.0 h.1 places.same))
-  finish_refused (Perhaps n) standing swaps places =
+      (stands.frozen, may_finish standing few, inl (stands_dropped settings number DiskTells files Tells items new rows rows' front unsure k stands one.count tells at one swaps.left.0 swaps.left.1 h.0 h.1 places.same))
+  finish_refused (Perhaps n) standing few swaps places =
       let run = running standing in
       let h = swaps.refused tells was.stored (copier_run run.0) was.stands (has_run run) was.places in
       (stands.frozen, refl, run, inr (stands_poised settings number DiskTells files Tells items new rows rows' front unsure k stands one.count tells at one (machine_of settings number at) h.0 swaps.left.0 h.1 h.2 places.same))
-  finish_refused Unplaced standing swaps places =
+  finish_refused Unplaced standing few swaps places =
       let run = running standing in
       let h = swaps.refused tells was.stored (copier_run run.0) was.stands (has_run run) was.places in (
         stands.frozen,
-        run,
+        may_finish standing few,
         inr (
           h.stored.end,
           length h.stored.cells,
@@ -93,6 +110,16 @@ module _ {D P : Type 0} (settings : Settings) (number : ℕ) (DiskTells : Type 0
           stands_unplaced settings number DiskTells files Tells items new rows rows' front unsure k stands one.count tells at one (machine_of settings number 0) (copier_run run.0) swaps.left.0 h places.same,
         ),
       )
+
+  -- the files of the old generation
+  pub removes_old : (start : Start) (generation : ℕ) → SwapsAt DiskTells files faults Tells start rows rows' at one.before one.after (Ok generation)
+      → RemovesOld files faults k at (volume_with settings number items rows front None unsure) (volume_with settings number new rows' front None unsure)
+  unfolding Stands was
+  removes_old start generation swaps = λ r r' e f.
+      subst (λ n. RemovedBoth (files r'.disk) (volume_file n) (index_file n) (faults r.disk) (faults r'.disk)) (sym was.fits.generation)
+      (subst (λ (x : Copy D). RemovedBoth (files x.disk) (volume_file was.stored.generation) (index_file was.stored.generation) (faults r.disk) (faults x.disk)) (at_same new at one.after r' one.is f)
+      (subst (λ (x : Copy D). RemovedBoth (files (one.after).disk) (volume_file was.stored.generation) (index_file was.stored.generation) (faults x.disk) (faults (one.after).disk)) (at_same items at one.before r one.was e)
+      (swaps.removed tells was.stored was.stands)))
 
   -- ALL AT ONCE
 

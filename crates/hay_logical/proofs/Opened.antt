@@ -26,7 +26,7 @@ use Rattle.hay_legal.specs.declared.known.VolumeKnown.{VolumeKnown}
 use Rattle.hay_legal.specs.Known.{empty_replica, now, replica_at, stands as has_photo}
 use Rattle.hay_legal.specs.Restarts.{ReopenedReplica, added_end, kept_entry, pending_notes, replica_notes}
 use Rattle.hay_legal.specs.Stands.{found_of}
-use Rattle.hay_legal.specs.Statuses.{IsAtRest}
+use Rattle.hay_legal.specs.Statuses.{IsUntouched}
 use Rattle.hay_map.specs.MapRows.{MapRows}
 use Rattle.hay_map.specs.Places.{PlaceMeans, place_in}
 use Rattle.hay_map.specs.Rows.{row_at}
@@ -215,7 +215,7 @@ module _ {D P : Type 0} (DiskTells : Type 0) (files : D → Files) (Tells : Type
       let stood = o.opened tells found.stored (subst (λ (sup : Super). OpensAs sup (contents_of files (old.0).disk) found.stored) (sym (sups j old.0 old.1)) found.opens) in
       let low = at_below olds j old.0 old.1 in
       let known = at_there k.replicas j (let m = (first.new).count in let less : j < length k.replicas = omega (arith, low, m, all) in less) in
-      let rest : IsAtRest (replica_at k j) = subst IsAtRest (sym (at_or k.replicas j known.0 empty_replica known.1)) (every_at IsAtRest k.replicas j known.0 (first.new).replicas known.1) in
+      let rest : IsUntouched (replica_at k j) = subst IsUntouched (sym (at_or k.replicas j known.0 empty_replica known.1)) (every_at IsUntouched k.replicas j known.0 (first.new).replicas known.1) in
       record {
         stored = found.stored;
         fits = fits_first k (replica_at k j) found.stored (first.new).log (stands_lags files r' found.stored stood.0) found.is;

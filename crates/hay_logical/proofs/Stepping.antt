@@ -20,7 +20,7 @@ use Rattle.hay_logical.specs.declared.unsure.Unsure.{Unsure}
 use Rattle.hay_logical.specs.Answers.{BeginRefused, IsAtRest, IsBegun, IsRunning, IsStepped, StepRefused, change_at}
 use Rattle.hay_logical.specs.Answers as answers
 use Rattle.hay_logical.specs.Fits.{At, Fits, RunsAs, copier_run}
-use Rattle.hay_logical.specs.Refusals.{run_answer}
+use Rattle.hay_logical.specs.Refusals.{answer_at}
 use Rattle.hay_logical.specs.Stands.{ReplicaStands, Stands, StandsFor}
 use Rattle.hay_logical.specs.Steps.{BeginsAt, CallsOne, GoesOn, StepsAt}
 use Rattle.hay_logical.proofs.Changing.{one_failed, other_changed, set_back, stands_one}
@@ -143,7 +143,7 @@ module _ {D P : Type 0} (settings : Settings) (number : ℕ) (DiskTells : Type 0
         }
 
     pub begin_refused : DiskTells → (m : ℕ) (f : ReplicaFault) → m ≡ machine_of settings number at → BeginsAt DiskTells files faults one.before one.after (Err f)
-        → BeginRefused files Tells k at (volume_with settings number items rows front None unsure) (volume_with settings number new rows front None unsure) (run_answer m f)
+        → BeginRefused files Tells k at (volume_with settings number items rows front None unsure) (volume_with settings number new rows front None unsure) (answer_at m f)
     unfolding Stands
     begin_refused tells m (fault.Failed printed) machine step = (
       stands.frozen,
@@ -196,7 +196,7 @@ module _ {D P : Type 0} (settings : Settings) (number : ℕ) (DiskTells : Type 0
         }
 
     pub step_refused : DiskTells → (cells m : ℕ) (f : ReplicaFault) → (goal_of one.before ≡ None → ⊥) → m ≡ machine_of settings number at → StepsAt DiskTells files faults Tells rows at cells one.before one.after (Err f)
-        → StepRefused files Tells k at cells (volume_with settings number items rows front None unsure) (volume_with settings number new rows front None unsure) (run_answer m f)
+        → StepRefused files Tells k at cells (volume_with settings number items rows front None unsure) (volume_with settings number new rows front None unsure) (answer_at m f)
     unfolding Stands
     step_refused tells cells m (fault.Failed printed) standing machine step = (stands.frozen, machine, running standing, stands_ended tells step.on step.cause.2)
     step_refused tells cells m fault.Frozen standing machine step = absurd step.cause
@@ -219,10 +219,10 @@ module _ {D P : Type 0} (settings : Settings) (number : ℕ) (DiskTells : Type 0
 -- causes
 module _ {D : Type 0} (settings : Settings) (number : ℕ) (DiskTells : Type 0) (files : D → Files) (faults : D → ℕ) where
   pub begin_fault : (items new : List (Copy D)) (at m : ℕ) (f : ReplicaFault) (one : CallsOne at items new) → length items ≡ settings.replicas → m ≡ machine_of settings number at
-      → BeginsAt DiskTells files faults one.before one.after (Err f) → answers.IsBeginFault faults settings number items new (run_answer m f)
+      → BeginsAt DiskTells files faults one.before one.after (Err f) → answers.IsBeginFault faults settings number items new (answer_at m f)
   begin_fault items new at m (fault.Failed printed) one all machine step = one_failed faults settings number items new at m printed one all machine step.cause.0 step.cause.1
   begin_fault items new at m fault.Frozen one all machine step = tt
-  begin_fault items new at m (fault.Full end need capacity) one all machine step = tt
+  begin_fault items new at m (fault.Full end need capacity) one all machine step = absurd step.cause
   begin_fault items new at m (fault.Busy goal) one all machine step = tt
   begin_fault items new at m (fault.Ended n) one all machine step = absurd step.cause
   begin_fault items new at m fault.Worn one all machine step = tt
@@ -230,12 +230,12 @@ module _ {D : Type 0} (settings : Settings) (number : ℕ) (DiskTells : Type 0) 
   begin_fault items new at m fault.NoMemory one all machine step = tt
 
   pub step_fault : {P : Type 0} (Tells : Type 0) (rows : MapRows P) (cells : ℕ) (items new : List (Copy D)) (at m : ℕ) (f : ReplicaFault) (one : CallsOne at items new) → length items ≡ settings.replicas → m ≡ machine_of settings number at
-      → StepsAt DiskTells files faults Tells rows at cells one.before one.after (Err f) → answers.IsRunFault faults settings number items new (run_answer m f)
+      → StepsAt DiskTells files faults Tells rows at cells one.before one.after (Err f) → answers.IsRunFault faults settings number items new (answer_at m f)
   step_fault Tells rows cells items new at m (fault.Failed printed) one all machine step = one_failed faults settings number items new at m printed one all machine step.cause.0 step.cause.1
   step_fault Tells rows cells items new at m fault.Frozen one all machine step = tt
-  step_fault Tells rows cells items new at m (fault.Full end need capacity) one all machine step = tt
+  step_fault Tells rows cells items new at m (fault.Full end need capacity) one all machine step = absurd step.cause
   step_fault Tells rows cells items new at m (fault.Busy goal) one all machine step = absurd step.cause
-  step_fault Tells rows cells items new at m (fault.Ended n) one all machine step = tt
+  step_fault Tells rows cells items new at m (fault.Ended n) one all machine step = absurd step.cause
   step_fault Tells rows cells items new at m fault.Worn one all machine step = absurd step.cause
   step_fault Tells rows cells items new at m (fault.Damaged place) one all machine step = tt
   step_fault Tells rows cells items new at m fault.NoMemory one all machine step = tt

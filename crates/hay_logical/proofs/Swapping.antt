@@ -16,7 +16,7 @@ use Rattle.hay_map.specs.Rows.{last_place, row_at}
 use Rattle.hay_map.specs.declared.place.Place.{Place}
 use Rattle.hay_map.specs.declared.place.Place.TheVariants as place
 use Rattle.hay_map.specs.declared.view.OpenCell.{OpenCell}
-use Rattle.hay_open.specs.Stored.{Stored, last_cell}
+use Rattle.hay_open.specs.Stored.{Stored, index_file, last_cell, volume_file}
 use Rattle.hay_compact.specs.Finishing.{AreThePlaces}
 use Rattle.hay_physical.specs.declared.fault.ReplicaFault.{ReplicaFault}
 use Rattle.hay_physical.specs.declared.fault.ReplicaFault.TheVariants as fault
@@ -24,6 +24,7 @@ use Rattle.hay_physical.specs.Copies.{Copy, IsFrozen, IsUp, goal_of, is_stuck}
 use Rattle.hay_physical.specs.Faults as physical_faults
 use Rattle.hay_physical.specs.Replicas as physical
 use Rattle.hay_physical.specs.Runs.{Run}
+use Rattle.hay_physical.proofs.Removing.{removed_since}
 use Rattle.hay_logical.specs.declared.runs.Unswapped.{Unswapped}
 use Rattle.hay_logical.specs.declared.runs.Unswapped.TheVariants.{Refused, Unsure, Unplaced}
 use Rattle.hay_logical.specs.Fits.{PhotoAt}
@@ -203,6 +204,7 @@ module _ {D P : Type 0} (DiskTells : Type 0) (files : D → Files) (faults : D �
         let next = meets tells s run stands start places in
         let made = swaps.swapped tells s next.0 (on.stands tells s stands) next.2 places in
         record { stored = made.stored; to = to_later files faults s made.stored run next.0 next.1 made.to; stands = made.stands; places = made.places; generation_is = made.generation_is };
+    removed = λ tells s stands. removed_since (files y.disk) (volume_file s.generation) (index_file s.generation) (faults r.disk) (faults x.disk) (faults y.disk) low (swaps.removed tells s (on.stands tells s stands));
     refused = λ tells s run stands start places. tt;
     deletable = λ tells may up. swaps.deletable tells (λ pair. place_kept DiskTells files r x on.deletable tells (place_in (row_at rows pair) at) (may pair)) up;
   }
@@ -212,6 +214,7 @@ module _ {D P : Type 0} (DiskTells : Type 0) (files : D → Files) (faults : D �
     up = tt;
     left = left_later files faults r x y u a b later rest low swaps.left;
     swapped = λ tells s run stands start places. tt;
+    removed = λ tells s stands. tt;
     refused = λ tells s run stands start places.
         let next = meets tells s run stands start places in
         holds_later files faults r x y s run next.0 u next.1 on.stuck (swaps.refused tells s next.0 (on.stands tells s stands) next.2 places);

@@ -18,7 +18,9 @@ use Rattle.hay_legal.specs.declared.known.VolumeKnown.{VolumeKnown}
 use Rattle.hay_legal.specs.Known.{machine_of, now, replica_at, room_refusal_of, with_replica}
 use Rattle.hay_legal.specs.Plain.{as_it_is, frozen_by, frozen_with, has_pair, poised, stepped, swapped, with_bare, with_del, with_put, with_run, with_stuck, without_run}
 use Rattle.hay_legal.specs.Restarts.{ReopenedVolume, pending_notes}
+use Rattle.hay_open.specs.Stored.{index_file, volume_file}
 use Rattle.hay_physical.specs.Copies.{Copy}
+use Rattle.hay_physical.specs.Runs.{RemovedBoth}
 use Rattle.hay_logical.specs.declared.fault.LogicalFault.{LogicalFault}
 use Rattle.hay_logical.specs.declared.fault.LogicalFault.TheVariants.{Busy, Damaged, Failed, Full, Gone, Idle, NoMemory, ReadOnly, Worn}
 use Rattle.hay_logical.specs.Fits.{At}
@@ -43,27 +45,46 @@ pub record HasFailed {D : Type 0} (faults : D → ℕ) (settings : Settings) (v 
 abbrev pub IsRoomFault : LogicalFault → Type 0
 IsRoomFault (ReadOnly m) = Unit {0}
 IsRoomFault (Full machine end need capacity) = Unit {0}
-IsRoomFault _ = ⊥
+IsRoomFault (Failed m faults) = ⊥
+IsRoomFault (Gone front) = ⊥
+IsRoomFault (Busy m generation) = ⊥
+IsRoomFault (Worn m) = ⊥
+IsRoomFault Idle = ⊥
+IsRoomFault (Damaged m at) = ⊥
+IsRoomFault NoMemory = ⊥
 
 abbrev pub IsPutFault : {D : Type 0} → (D → ℕ) → Settings → ℕ → List (Copy D) → List (Copy D) → LogicalFault → Type 0
 IsPutFault faults settings v old new (Failed machine printed) = HasFailed faults settings v old new machine printed
 IsPutFault faults settings v old new (ReadOnly m) = Unit {0}
 IsPutFault faults settings v old new (Full machine end need capacity) = Unit {0}
 IsPutFault faults settings v old new NoMemory = Unit {0}
-IsPutFault faults settings v old new _ = ⊥
+IsPutFault faults settings v old new (Gone front) = ⊥
+IsPutFault faults settings v old new (Busy m generation) = ⊥
+IsPutFault faults settings v old new (Worn m) = ⊥
+IsPutFault faults settings v old new Idle = ⊥
+IsPutFault faults settings v old new (Damaged m at) = ⊥
 
 abbrev pub IsDeleteFault : {D : Type 0} → (D → ℕ) → Settings → ℕ → List (Copy D) → List (Copy D) → LogicalFault → Type 0
 IsDeleteFault faults settings v old new (Failed machine printed) = HasFailed faults settings v old new machine printed
 IsDeleteFault faults settings v old new (ReadOnly m) = Unit {0}
 IsDeleteFault faults settings v old new (Gone front) = Unit {0}
 IsDeleteFault faults settings v old new NoMemory = Unit {0}
-IsDeleteFault faults settings v old new _ = ⊥
+IsDeleteFault faults settings v old new (Full m end need capacity) = ⊥
+IsDeleteFault faults settings v old new (Busy m generation) = ⊥
+IsDeleteFault faults settings v old new (Worn m) = ⊥
+IsDeleteFault faults settings v old new Idle = ⊥
+IsDeleteFault faults settings v old new (Damaged m at) = ⊥
 
 abbrev pub IsFlushFault : {D : Type 0} → (D → ℕ) → Settings → ℕ → List (Copy D) → List (Copy D) → LogicalFault → Type 0
 IsFlushFault faults settings v old new (Failed machine printed) = HasFailed faults settings v old new machine printed
 IsFlushFault faults settings v old new (ReadOnly m) = Unit {0}
 IsFlushFault faults settings v old new NoMemory = Unit {0}
-IsFlushFault faults settings v old new _ = ⊥
+IsFlushFault faults settings v old new (Full m end need capacity) = ⊥
+IsFlushFault faults settings v old new (Gone front) = ⊥
+IsFlushFault faults settings v old new (Busy m generation) = ⊥
+IsFlushFault faults settings v old new (Worn m) = ⊥
+IsFlushFault faults settings v old new Idle = ⊥
+IsFlushFault faults settings v old new (Damaged m at) = ⊥
 
 abbrev pub IsBeginFault : {D : Type 0} → (D → ℕ) → Settings → ℕ → List (Copy D) → List (Copy D) → LogicalFault → Type 0
 IsBeginFault faults settings v old new (Failed machine printed) = HasFailed faults settings v old new machine printed
@@ -71,7 +92,10 @@ IsBeginFault faults settings v old new (ReadOnly m) = Unit {0}
 IsBeginFault faults settings v old new (Busy m generation) = Unit {0}
 IsBeginFault faults settings v old new (Worn m) = Unit {0}
 IsBeginFault faults settings v old new NoMemory = Unit {0}
-IsBeginFault faults settings v old new _ = ⊥
+IsBeginFault faults settings v old new (Full m end need capacity) = ⊥
+IsBeginFault faults settings v old new (Gone front) = ⊥
+IsBeginFault faults settings v old new Idle = ⊥
+IsBeginFault faults settings v old new (Damaged m at) = ⊥
 
 abbrev pub IsRunFault : {D : Type 0} → (D → ℕ) → Settings → ℕ → List (Copy D) → List (Copy D) → LogicalFault → Type 0
 IsRunFault faults settings v old new (Failed machine printed) = HasFailed faults settings v old new machine printed
@@ -79,11 +103,21 @@ IsRunFault faults settings v old new (ReadOnly m) = Unit {0}
 IsRunFault faults settings v old new Idle = Unit {0}
 IsRunFault faults settings v old new (Damaged m at) = Unit {0}
 IsRunFault faults settings v old new NoMemory = Unit {0}
-IsRunFault faults settings v old new _ = ⊥
+IsRunFault faults settings v old new (Full m end need capacity) = ⊥
+IsRunFault faults settings v old new (Gone front) = ⊥
+IsRunFault faults settings v old new (Busy m generation) = ⊥
+IsRunFault faults settings v old new (Worn m) = ⊥
 
 abbrev pub IsCompactFault : {D : Type 0} → (D → ℕ) → Settings → ℕ → List (Copy D) → List (Copy D) → LogicalFault → Type 0
+IsCompactFault faults settings v old new (Failed machine printed) = HasFailed faults settings v old new machine printed
+IsCompactFault faults settings v old new (ReadOnly m) = Unit {0}
+IsCompactFault faults settings v old new (Busy m generation) = Unit {0}
+IsCompactFault faults settings v old new (Worn m) = Unit {0}
 IsCompactFault faults settings v old new (Damaged m at) = Unit {0}
-IsCompactFault faults settings v old new fault = IsBeginFault faults settings v old new fault
+IsCompactFault faults settings v old new NoMemory = Unit {0}
+IsCompactFault faults settings v old new (Full m end need capacity) = ⊥
+IsCompactFault faults settings v old new (Gone front) = ⊥
+IsCompactFault faults settings v old new Idle = ⊥
 
 -- WHETHER A VOLUME TAKES A PHOTO
 
@@ -115,7 +149,11 @@ PutRefused files Tells k tag pair cookie bytes old new (Failed m faults) =
 PutRefused files Tells k tag pair cookie bytes old new NoMemory =
     HasRoom old.settings old.number k (length bytes)
     × (Stands files Tells new k ⊎ Stands files Tells new (frozen_with (machine_of old.settings old.number 0) tag (entry.Put pair cookie bytes) false k))
-PutRefused files Tells k tag pair cookie bytes old new _ = ⊥
+PutRefused files Tells k tag pair cookie bytes old new (Gone front) = ⊥
+PutRefused files Tells k tag pair cookie bytes old new (Busy m generation) = ⊥
+PutRefused files Tells k tag pair cookie bytes old new (Worn m) = ⊥
+PutRefused files Tells k tag pair cookie bytes old new Idle = ⊥
+PutRefused files Tells k tag pair cookie bytes old new (Damaged m at) = ⊥
 
 -- DELETES
 
@@ -137,9 +175,13 @@ abbrev pub DeleteRefused : {D P : Type 0} → (D → Files) → Type 0 → Volum
 DeleteRefused files Tells k tag pair old new (ReadOnly m) = (k.frozen ≡ Some m) × (new ≡ old)
 DeleteRefused files Tells k tag pair old new (Gone front) = (k.frozen ≡ None) × (is_held k pair ≡ false) × (front ≡ length k.log) × (new ≡ old)
 DeleteRefused files Tells k tag pair old new (Failed m faults) =
-    (k.frozen ≡ None) × Stands files Tells new (frozen_with m tag (entry.Del pair) true k)
+    (k.frozen ≡ None) × (is_held k pair ≡ true) × Stands files Tells new (frozen_with m tag (entry.Del pair) true k)
 DeleteRefused files Tells k tag pair old new NoMemory = (k.frozen ≡ None) × (new ≡ old)
-DeleteRefused files Tells k tag pair old new _ = ⊥
+DeleteRefused files Tells k tag pair old new (Full m end need capacity) = ⊥
+DeleteRefused files Tells k tag pair old new (Busy m generation) = ⊥
+DeleteRefused files Tells k tag pair old new (Worn m) = ⊥
+DeleteRefused files Tells k tag pair old new Idle = ⊥
+DeleteRefused files Tells k tag pair old new (Damaged m at) = ⊥
 
 -- FLUSHES
 
@@ -159,7 +201,12 @@ FlushRefused files Tells k replica old new (Failed m faults) =
     (k.frozen ≡ None) × ((replica_at k replica).stuck ≡ false) × (m ≡ machine_of old.settings old.number replica)
     × Stands files Tells new (change_at k replica with_stuck)
 FlushRefused files Tells k replica old new NoMemory = (k.frozen ≡ None) × ((replica_at k replica).stuck ≡ false) × Stands files Tells new k
-FlushRefused files Tells k replica old new _ = ⊥
+FlushRefused files Tells k replica old new (Full m end need capacity) = ⊥
+FlushRefused files Tells k replica old new (Gone front) = ⊥
+FlushRefused files Tells k replica old new (Busy m generation) = ⊥
+FlushRefused files Tells k replica old new (Worn m) = ⊥
+FlushRefused files Tells k replica old new Idle = ⊥
+FlushRefused files Tells k replica old new (Damaged m at) = ⊥
 
 -- COMPACTIONS
 
@@ -170,6 +217,10 @@ IsAtRest k j = ((replica_at k j).run ≡ None) × ((replica_at k j).generation <
 -- one stands there
 abbrev pub IsRunning : VolumeKnown → ℕ → Type 0
 IsRunning k j = (run : Run) × ((replica_at k j).run ≡ Some run)
+
+-- one stands, and there is a number for the generation that it makes
+abbrev pub MayFinish : VolumeKnown → ℕ → Type 0
+MayFinish k j = IsRunning k j × ((replica_at k j).generation < 65535)
 
 pub record IsBegun {D P : Type 0} (files : D → Files) (Tells : Type 0) (k : VolumeKnown) (replica generation : ℕ) (new : Volume D P) : Type 0 where
   pub thawed : k.frozen ≡ None
@@ -188,7 +239,10 @@ BeginRefused files Tells k replica old new (Worn m) =
 BeginRefused files Tells k replica old new (Failed m faults) =
     (k.frozen ≡ None) × (m ≡ machine_of old.settings old.number replica) × IsAtRest k replica × Stands files Tells new k
 BeginRefused files Tells k replica old new NoMemory = (k.frozen ≡ None) × IsAtRest k replica × Stands files Tells new k
-BeginRefused files Tells k replica old new _ = ⊥
+BeginRefused files Tells k replica old new (Full m end need capacity) = ⊥
+BeginRefused files Tells k replica old new (Gone front) = ⊥
+BeginRefused files Tells k replica old new Idle = ⊥
+BeginRefused files Tells k replica old new (Damaged m at) = ⊥
 
 -- so many cells of a compaction were examined
 abbrev pub StandsStepped : {D P : Type 0} → (D → Files) → Type 0 → VolumeKnown → ℕ → Run → ℕ → Volume D P → Type 0
@@ -209,7 +263,11 @@ StepRefused files Tells k replica cells old new (Failed m faults) =
     (k.frozen ≡ None) × (m ≡ machine_of old.settings old.number replica) × IsRunning k replica × Stands files Tells new (change_at k replica without_run)
 StepRefused files Tells k replica cells old new NoMemory =
     (k.frozen ≡ None) × ((run : Run) × (n : ℕ) × ((replica_at k replica).run ≡ Some run) × (n ≤ min cells run.left) × StandsStepped files Tells k replica run n new)
-StepRefused files Tells k replica cells old new _ = ⊥
+StepRefused files Tells k replica cells old new (Full m end need capacity) = ⊥
+StepRefused files Tells k replica cells old new (Gone front) = ⊥
+StepRefused files Tells k replica cells old new (Busy m generation) = ⊥
+StepRefused files Tells k replica cells old new (Worn m) = ⊥
+StepRefused files Tells k replica cells old new (Damaged m at) = ⊥
 
 -- The sizes behind a swap: the standing photos alone, or those and what came while the compaction stood.
 abbrev pub IsTight : VolumeKnown → ℕ → ℕ → ℕ → Type 0
@@ -238,9 +296,14 @@ abbrev pub StandsUnplaced : {D P : Type 0} → (D → Files) → Type 0 → (Vol
 StandsUnplaced files Tells sizes first k replica new =
     Stands files Tells new (change_at k replica without_run) ⊎ StandsSwapped files Tells sizes (frozen_by first) k replica new
 
+-- The files of a replica's old generation are gone, but for one whose removal failed.
+abbrev pub RemovesOld : {D P : Type 0} → (D → Files) → (D → ℕ) → VolumeKnown → ℕ → Volume D P → Volume D P → Type 0
+RemovesOld {D} files faults k j old new = (r r' : Copy D) → At old.replicas j r → At new.replicas j r' →
+    RemovedBoth (files r'.disk) (volume_file (replica_at k j).generation) (index_file (replica_at k j).generation) (faults r.disk) (faults r'.disk)
+
 pub record IsFinished {D P : Type 0} (files : D → Files) (Tells : Type 0) (k : VolumeKnown) (replica generation : ℕ) (new : Volume D P) : Type 0 where
   pub thawed : k.frozen ≡ None
-  pub stood : IsRunning k replica
+  pub stood : MayFinish k replica
   pub next : generation ≡ (replica_at k replica).generation + 1
   pub swaps : StandsSwapped files Tells IsLoose as_it_is k replica new
 
@@ -250,8 +313,12 @@ FinishRefused files Tells k replica old new Idle = (k.frozen ≡ None) × ((repl
 FinishRefused files Tells k replica old new (Failed m faults) =
     (k.frozen ≡ None) × (m ≡ machine_of old.settings old.number replica) × IsRunning k replica × StandsFailed files Tells m k replica new
 FinishRefused files Tells k replica old new NoMemory =
-    (k.frozen ≡ None) × IsRunning k replica × StandsUnplaced files Tells IsLoose (machine_of old.settings old.number 0) k replica new
-FinishRefused files Tells k replica old new _ = ⊥
+    (k.frozen ≡ None) × MayFinish k replica × StandsUnplaced files Tells IsLoose (machine_of old.settings old.number 0) k replica new
+FinishRefused files Tells k replica old new (Full m end need capacity) = ⊥
+FinishRefused files Tells k replica old new (Gone front) = ⊥
+FinishRefused files Tells k replica old new (Busy m generation) = ⊥
+FinishRefused files Tells k replica old new (Worn m) = ⊥
+FinishRefused files Tells k replica old new (Damaged m at) = ⊥
 
 pub record IsCompacted {D P : Type 0} (files : D → Files) (Tells : Type 0) (k : VolumeKnown) (replica generation : ℕ) (new : Volume D P) : Type 0 where
   pub thawed : k.frozen ≡ None
@@ -271,7 +338,10 @@ CompactRefused files Tells k replica old new (Failed m faults) =
     (k.frozen ≡ None) × (m ≡ machine_of old.settings old.number replica) × IsAtRest k replica × StandsFailed files Tells m k replica new
 CompactRefused files Tells k replica old new NoMemory =
     (k.frozen ≡ None) × IsAtRest k replica × StandsUnplaced files Tells IsTight (machine_of old.settings old.number 0) k replica new
-CompactRefused files Tells k replica old new _ = ⊥
+CompactRefused files Tells k replica old new (Full m end need capacity) = ⊥
+CompactRefused files Tells k replica old new (Gone front) = ⊥
+CompactRefused files Tells k replica old new Idle = ⊥
+CompactRefused files Tells k replica old new (Damaged m at) = ⊥
 
 -- OPENINGS
 

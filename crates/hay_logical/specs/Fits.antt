@@ -66,9 +66,11 @@ RunsAs files r s run = runs.HasRun files r s (option_map copier_run run)
 -- The place of a pair whose last cell this is. Behind a swap a pair that never had a row may have a deleted cell.
 abbrev pub PhotoAt : {P : Type 0} → Type 0 → Option Cell → Place P → Type 0
 PhotoAt Tells (Some cell) (place.Live needle) = IsSealedCell Tells cell needle
-PhotoAt Tells (Some cell) _ = cell.deleted ≡ true
+PhotoAt Tells (Some cell) place.None = cell.deleted ≡ true
+PhotoAt Tells (Some cell) place.Gone = cell.deleted ≡ true
 PhotoAt Tells None (place.Live needle) = ⊥
-PhotoAt Tells None _ = Unit {0}
+PhotoAt Tells None place.None = Unit {0}
+PhotoAt Tells None place.Gone = Unit {0}
 
 -- a change makes t of s
 pub record Makes (entry : Entry) (s t : Stored) : Type 0 where

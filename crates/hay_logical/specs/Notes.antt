@@ -16,7 +16,8 @@ use Rattle.hay_logical.specs.Fits.{At}
 
 abbrev pub is_live : {P : Type 0} → Place P → Bool
 is_live (place.Live needle) = true
-is_live _ = false
+is_live place.None = false
+is_live place.Gone = false
 
 -- a replica has a put if its cells end elsewhere now, and a delete if no photo of the pair is there
 abbrev pub keeps : {P : Type 0} → Change → MapRows P → ℕ → ℕ → Bool

@@ -6,7 +6,7 @@ use Rattle.hay_physical.specs.declared.fault.ReplicaFault.{ReplicaFault}
 use Rattle.hay_physical.specs.declared.fault.ReplicaFault.TheVariants as fault
 use Rattle.hay_physical.specs.Copies.{Copy, is_frozen}
 use Rattle.hay_logical.specs.declared.fault.LogicalFault.{LogicalFault}
-use Rattle.hay_logical.specs.declared.fault.LogicalFault.TheVariants.{Busy, Damaged, Failed, NoMemory, ReadOnly, Worn}
+use Rattle.hay_logical.specs.declared.fault.LogicalFault.TheVariants.{Busy, Damaged, Failed, Full, NoMemory, ReadOnly, Worn}
 use Rattle.hay_logical.specs.declared.refusals.Refusal.{Refusal}
 use Rattle.hay_logical.specs.declared.refusals.Unfinished.{Unfinished}
 use Rattle.hay_logical.specs.declared.replicas.Broken.{Broken}
@@ -22,58 +22,46 @@ pub record IsUntouched {D : Type 0} (replicas : List (Copy D)) (broken : Broken)
   pub there : At replicas 0 replica
   pub thawed : is_frozen replica ≡ false
 
--- A replica that takes changes refuses a put that has room, a flush and work on a compaction only so.
+-- A replica that takes changes refuses a put that has room only so.
 abbrev pub RefusesPut : ReplicaFault → Type 0
 RefusesPut (fault.Failed printed) = Unit {0}
+RefusesPut fault.Frozen = ⊥
+RefusesPut (fault.Full end need capacity) = ⊥
+RefusesPut (fault.Busy generation) = ⊥
+RefusesPut (fault.Ended printed) = ⊥
+RefusesPut fault.Worn = ⊥
+RefusesPut (fault.Damaged at) = ⊥
 RefusesPut fault.NoMemory = Unit {0}
-RefusesPut _ = ⊥
-
-abbrev pub RefusesFlush : ReplicaFault → Type 0
-RefusesFlush (fault.Failed printed) = Unit {0}
-RefusesFlush fault.Frozen = Unit {0}
-RefusesFlush fault.NoMemory = Unit {0}
-RefusesFlush _ = ⊥
-
-abbrev pub RefusesRun : ReplicaFault → Type 0
-RefusesRun (fault.Failed printed) = Unit {0}
-RefusesRun (fault.Busy generation) = Unit {0}
-RefusesRun fault.Worn = Unit {0}
-RefusesRun (fault.Damaged at) = Unit {0}
-RefusesRun fault.NoMemory = Unit {0}
-RefusesRun _ = ⊥
-
-abbrev pub RefusesSwap : Unswapped → Type 0
-RefusesSwap (Refused fault) = RefusesRun fault
-RefusesSwap _ = Unit {0}
 
 -- a failure freezes by its own machine, and want of memory by that of the first replica
 abbrev pub RefusalBy : Settings → ℕ → ℕ → ReplicaFault → Refusal → Type 0
 RefusalBy settings v at (fault.Failed printed) refusal =
     (refusal.machine ≡ machine_of settings v at) × (refusal.fault ≡ Failed (machine_of settings v at) printed)
+RefusalBy settings v at fault.Frozen refusal = ⊥
+RefusalBy settings v at (fault.Full end need capacity) refusal = ⊥
+RefusalBy settings v at (fault.Busy generation) refusal = ⊥
+RefusalBy settings v at (fault.Ended printed) refusal = ⊥
+RefusalBy settings v at fault.Worn refusal = ⊥
+RefusalBy settings v at (fault.Damaged place) refusal = ⊥
 RefusalBy settings v at fault.NoMemory refusal = (refusal.machine ≡ machine_of settings v 0) × (refusal.fault ≡ NoMemory)
-RefusalBy settings v at _ refusal = ⊥
 
 abbrev pub IsRefusal : Settings → ℕ → Broken → Refusal → Type 0
 IsRefusal settings v broken refusal = RefusalBy settings v broken.at broken.fault refusal
 
--- a flush that was refused by the replica on this machine
-abbrev pub flush_answer : ℕ → ReplicaFault → LogicalFault
-flush_answer machine (fault.Failed printed) = Failed machine printed
-flush_answer machine fault.NoMemory = NoMemory
-flush_answer machine _ = ReadOnly machine
-
--- a beginning or a step that was refused by the replica on this machine
-abbrev pub run_answer : ℕ → ReplicaFault → LogicalFault
-run_answer machine (fault.Failed printed) = Failed machine printed
-run_answer machine (fault.Busy generation) = Busy machine generation
-run_answer machine fault.Worn = Worn machine
-run_answer machine (fault.Damaged at) = Damaged machine at
-run_answer machine fault.NoMemory = NoMemory
-run_answer machine _ = ReadOnly machine
+-- What is answered where the replica on this machine refused. A compaction that had ended did so by a failure.
+abbrev pub answer_at : ℕ → ReplicaFault → LogicalFault
+answer_at machine (fault.Failed printed) = Failed machine printed
+answer_at machine fault.Frozen = ReadOnly machine
+answer_at machine (fault.Full end need capacity) = Full machine end need capacity
+answer_at machine (fault.Busy generation) = Busy machine generation
+answer_at machine (fault.Ended printed) = Failed machine printed
+answer_at machine fault.Worn = Worn machine
+answer_at machine (fault.Damaged at) = Damaged machine at
+answer_at machine fault.NoMemory = NoMemory
 
 -- A compaction that no swap ended: the machine that freezes the volume then, if one does, and what is answered.
 abbrev pub unfinished_by : Settings → ℕ → ℕ → Unswapped → Unfinished
-unfinished_by settings v replica (Refused fault) = record { frozen = None; fault = run_answer (machine_of settings v replica) fault }
+unfinished_by settings v replica (Refused fault) = record { frozen = None; fault = answer_at (machine_of settings v replica) fault }
 unfinished_by settings v replica (Unsure printed) =
     record { frozen = Some (machine_of settings v replica); fault = Failed (machine_of settings v replica) printed }
 unfinished_by settings v replica Unplaced = record { frozen = Some (machine_of settings v 0); fault = NoMemory }

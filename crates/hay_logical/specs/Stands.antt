@@ -28,12 +28,14 @@ use Rattle.hay_logical.specs.Volumes.{HasAll, Volume}
 abbrev pub IsChange : Change → VolumeKnown → Entry → Type 0
 IsChange (change.Put ends) k (Put pair cookie bytes) = (j : ℕ) → j < length k.replicas → slice_index ends j ≡ (replica_at k j).end
 IsChange (change.Delete other) k (Del pair) = other ≡ pair
-IsChange _ k _ = ⊥
+IsChange (change.Put ends) k (Del pair) = ⊥
+IsChange (change.Delete other) k (Put pair cookie bytes) = ⊥
 
 abbrev pub IsPending : Option Unsure → VolumeKnown → Option Pending → Type 0
 IsPending None k None = Unit {0}
 IsPending (Some unsure) k (Some pending) = (unsure.tag ≡ pending.tag) × IsChange unsure.change k pending.entry
-IsPending _ k _ = ⊥
+IsPending None k (Some pending) = ⊥
+IsPending (Some unsure) k None = ⊥
 
 -- Where it failed, its volume is frozen by the machine of the replica that broke it off. For want of memory only a put
 -- is broken off.

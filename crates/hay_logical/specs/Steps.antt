@@ -15,14 +15,14 @@ use Rattle.hay_map.specs.declared.place.Place.TheVariants as place
 use Rattle.hay_open.specs.declared.fault.OpenFault.{OpenFault}
 use Rattle.hay_open.specs.declared.fault.OpenFault.TheVariants as open_fault
 use Rattle.hay_open.specs.Damage.{IsOpeningDamage}
-use Rattle.hay_open.specs.Stored.{Stored, IsSealedCell, IsVoid, OpensAs, PlaceOf, last_cell}
+use Rattle.hay_open.specs.Stored.{Stored, IsSealedCell, IsVoid, OpensAs, PlaceOf, index_file, last_cell, volume_file}
 use Rattle.hay_physical.specs.declared.fault.ReplicaFault.{ReplicaFault}
 use Rattle.hay_physical.specs.declared.fault.ReplicaFault.TheVariants as fault
 use Rattle.hay_physical.specs.declared.state.Phase.TheVariants.{Closed}
 use Rattle.hay_physical.specs.Copies.{Copy, IsFrozen, IsOpen, IsUp, capacity_of, contents_of, end_of, generation_of, goal_of, is_frozen, is_stuck}
 use Rattle.hay_physical.specs.Replicas as physical
 use Rattle.hay_compact.specs.Copying.{end_of as cells_end_of}
-use Rattle.hay_physical.specs.Runs.{HasLastAt, HasRun, IsTight, Run, Swaps, longer, loosened}
+use Rattle.hay_physical.specs.Runs.{HasLastAt, HasRun, IsTight, RemovedBoth, Run, Swaps, longer, loosened}
 use Rattle.hay_logical.specs.declared.fault.Unopened.{Unopened}
 use Rattle.hay_logical.specs.declared.replicas.Broken.{Broken}
 use Rattle.hay_logical.specs.declared.replicas.DiskFailed.{DiskFailed}
@@ -74,7 +74,8 @@ AllIdle {D} replicas = (j : ℕ) (r : Copy D) → At replicas j r → goal_of r 
 
 abbrev pub IsPlaceOf : {P : Type 0} → Type 0 → ℕ → Pair → Cookie → List ℕ → Place P → Type 0
 IsPlaceOf Tells end pair cookie bytes (place.Live needle) = IsSealedCell Tells (live_cell end pair cookie bytes) needle
-IsPlaceOf Tells end pair cookie bytes _ = ⊥
+IsPlaceOf Tells end pair cookie bytes place.None = ⊥
+IsPlaceOf Tells end pair cookie bytes place.Gone = ⊥
 
 pub record PutsAt {D P : Type 0} (DiskTells : Type 0) (files : D → Files) (Tells : Type 0) (pair : Pair) (cookie : Cookie) (bytes : List ℕ) (r r' : Copy D) (p : Place P) : Type 0 where
   pub up : IsUp r'
@@ -96,8 +97,13 @@ pub record PutBroken {D : Type 0} (DiskTells : Type 0) (files : D → Files) (pa
 
 abbrev pub IsPutFault : {D : Type 0} → (D → ℕ) → Copy D → Copy D → ReplicaFault → Type 0
 IsPutFault faults r r' (fault.Failed printed) = Rose (faults r.disk) (faults r'.disk) × (printed ≡ faults r'.disk) × IsFrozen r'
+IsPutFault faults r r' fault.Frozen = ⊥
+IsPutFault faults r r' (fault.Full end need capacity) = ⊥
+IsPutFault faults r r' (fault.Busy generation) = ⊥
+IsPutFault faults r r' (fault.Ended printed) = ⊥
+IsPutFault faults r r' fault.Worn = ⊥
+IsPutFault faults r r' (fault.Damaged at) = ⊥
 IsPutFault faults r r' fault.NoMemory = Unit {0}
-IsPutFault faults r r' _ = ⊥
 
 pub record PutLeaves {D : Type 0} (DiskTells : Type 0) (files : D → Files) (faults : D → ℕ) (pair : Pair) (cookie : Cookie) (bytes : List ℕ) (old new : List (Copy D)) (broken : Broken) : Type 0 where
   pub before : Copy D
@@ -128,7 +134,8 @@ abbrev pub DeletesAt : {D P : Type 0} → Type 0 → (D → Files) → Place P �
 DeletesAt DiskTells files (place.Live needle) r r' =
     IsUp r' × (r'.sup ≡ r.sup) × (is_stuck r' ≡ is_stuck r)
     × (DiskTells → (s : Stored) → physical.Stands files r s → physical.HasLive needle.at s.cells → physical.Stands files r' (physical.without_cell s needle.at))
-DeletesAt DiskTells files _ r r' = LosesRun DiskTells files r r'
+DeletesAt DiskTells files place.None r r' = LosesRun DiskTells files r r'
+DeletesAt DiskTells files place.Gone r r' = LosesRun DiskTells files r r'
 
 -- A compaction that stands follows a delete, or it ended where the disk's count of faults rose.
 pub record RunFollows {D : Type 0} (DiskTells : Type 0) (files : D → Files) (faults : D → ℕ) (pair : Pair) (at : ℕ) (r r' : Copy D) : Type 0 where
@@ -138,7 +145,8 @@ pub record RunFollows {D : Type 0} (DiskTells : Type 0) (files : D → Files) (f
 
 abbrev pub FollowsAt : {D P : Type 0} → Type 0 → (D → Files) → (D → ℕ) → Pair → Place P → Copy D → Copy D → Type 0
 FollowsAt DiskTells files faults pair (place.Live needle) r r' = RunFollows DiskTells files faults pair needle.at r r'
-FollowsAt DiskTells files faults pair _ r r' = r' ≡ r
+FollowsAt DiskTells files faults pair place.None r r' = r' ≡ r
+FollowsAt DiskTells files faults pair place.Gone r r' = r' ≡ r
 
 pub record DeleteLeaves {D P : Type 0} (DiskTells : Type 0) (files : D → Files) (faults : D → ℕ) (row : List (Place P)) (old new : List (Copy D)) (failed : DiskFailed) : Type 0 where
   pub before : Copy D
@@ -162,8 +170,12 @@ pub record DeleteLeaves {D P : Type 0} (DiskTells : Type 0) (files : D → Files
 abbrev pub IsFlushFault : {D : Type 0} → (D → ℕ) → Copy D → Copy D → ReplicaFault → Type 0
 IsFlushFault faults r r' (fault.Failed printed) = Rose (faults r.disk) (faults r'.disk) × (printed ≡ faults r'.disk) × (is_stuck r' ≡ true)
 IsFlushFault faults r r' fault.Frozen = (is_stuck r ≡ true) × (r' ≡ r)
+IsFlushFault faults r r' (fault.Full end need capacity) = ⊥
+IsFlushFault faults r r' (fault.Busy generation) = ⊥
+IsFlushFault faults r r' (fault.Ended printed) = ⊥
+IsFlushFault faults r r' fault.Worn = ⊥
+IsFlushFault faults r r' (fault.Damaged at) = ⊥
 IsFlushFault faults r r' fault.NoMemory = is_stuck r' ≡ is_stuck r
-IsFlushFault faults r r' _ = ⊥
 
 -- The replica's cells all have records, or it is as it was.
 pub record FlushesAt {D : Type 0} (DiskTells : Type 0) (files : D → Files) (faults : D → ℕ) (r r' : Copy D) (result : Result ℕ ReplicaFault) : Type 0 where
@@ -227,7 +239,8 @@ PlacesAre Tells rows at s = (pair : Pair) → PhotoAt Tells (last_cell s.cells p
 -- the latest place of a pair, as a compaction asks for it
 abbrev pub latest_of : {P : Type 0} → Place P → Option ℕ
 latest_of (place.Live needle) = Some needle.at
-latest_of _ = None
+latest_of place.None = None
+latest_of place.Gone = None
 
 abbrev pub stepped_by : ℕ → Run → Run
 stepped_by n run = record run { left = run.left - n }
@@ -235,10 +248,13 @@ stepped_by n run = record run { left = run.left - n }
 abbrev pub IsBeginFault : {D : Type 0} → (D → ℕ) → Copy D → Copy D → ReplicaFault → Type 0
 IsBeginFault faults r r' (fault.Failed printed) =
     Rose (faults r.disk) (faults r'.disk) × (printed ≡ faults r'.disk) × (goal_of r ≡ None) × (generation_of r < 65535)
+IsBeginFault faults r r' fault.Frozen = ⊥
+IsBeginFault faults r r' (fault.Full end need capacity) = ⊥
 IsBeginFault faults r r' (fault.Busy goal) = (goal_of r ≡ Some goal) × (r' ≡ r)
+IsBeginFault faults r r' (fault.Ended printed) = ⊥
 IsBeginFault faults r r' fault.Worn = (goal_of r ≡ None) × (65535 ≤ generation_of r) × (r' ≡ r)
+IsBeginFault faults r r' (fault.Damaged at) = ⊥
 IsBeginFault faults r r' fault.NoMemory = (goal_of r ≡ None) × (generation_of r < 65535)
-IsBeginFault faults r r' _ = ⊥
 
 pub record BeginsAt {D : Type 0} (DiskTells : Type 0) (files : D → Files) (faults : D → ℕ) (r r' : Copy D) (result : Result ℕ ReplicaFault) : Type 0 where
   pub on : GoesOn DiskTells files r r'
@@ -253,9 +269,13 @@ pub record BeginsAt {D : Type 0} (DiskTells : Type 0) (files : D → Files) (fau
 -- damage is found only on a disk that does not tell what it holds
 abbrev pub IsStepFault : {D : Type 0} → (D → ℕ) → Copy D → Copy D → ReplicaFault → Type 0
 IsStepFault faults r r' (fault.Failed printed) = Rose (faults r.disk) (faults r'.disk) × (printed ≡ faults r'.disk) × (goal_of r' ≡ None)
+IsStepFault faults r r' fault.Frozen = ⊥
+IsStepFault faults r r' (fault.Full end need capacity) = ⊥
+IsStepFault faults r r' (fault.Busy generation) = ⊥
+IsStepFault faults r r' (fault.Ended printed) = ⊥
+IsStepFault faults r r' fault.Worn = ⊥
 IsStepFault faults r r' (fault.Damaged at) = goal_of r' ≡ None
 IsStepFault faults r r' fault.NoMemory = goal_of r' ≡ goal_of r
-IsStepFault faults r r' _ = ⊥
 
 -- what want of memory leaves of so many cells to examine
 pub record SteppedPart {D : Type 0} (files : D → Files) (r' : Copy D) (s : Stored) (run : Run) (cells : ℕ) : Type 0 where
@@ -264,9 +284,14 @@ pub record SteppedPart {D : Type 0} (files : D → Files) (r' : Copy D) (s : Sto
   pub has : HasRun files r' s (Some (stepped_by number run))
 
 abbrev pub StepLeaves : {D : Type 0} → (D → Files) → Copy D → Stored → Run → ℕ → ReplicaFault → Type 0
-StepLeaves files r' s run cells fault.NoMemory = SteppedPart files r' s run cells
+StepLeaves files r' s run cells (fault.Failed printed) = Unit {0}
+StepLeaves files r' s run cells fault.Frozen = Unit {0}
+StepLeaves files r' s run cells (fault.Full end need capacity) = Unit {0}
+StepLeaves files r' s run cells (fault.Busy generation) = Unit {0}
+StepLeaves files r' s run cells (fault.Ended printed) = Unit {0}
+StepLeaves files r' s run cells fault.Worn = Unit {0}
 StepLeaves files r' s run cells (fault.Damaged at) = ⊥
-StepLeaves files r' s run cells _ = Unit {0}
+StepLeaves files r' s run cells fault.NoMemory = SteppedPart files r' s run cells
 
 -- So many cells are examined, or all that are left.
 pub record StepsAt {D P : Type 0} (DiskTells : Type 0) (files : D → Files) (faults : D → ℕ) (Tells : Type 0) (rows : MapRows P) (at cells : ℕ) (r r' : Copy D) (result : Result ℕ ReplicaFault) : Type 0 where
@@ -302,7 +327,8 @@ StartsRun files Examined r s run = HasRun files r s (Some run) × (run.left ≡ 
 -- a fresh one could begin
 abbrev pub WasAtRest : {D : Type 0} → Start → Copy D → Type 0
 WasAtRest Fresh r = (goal_of r ≡ None) × (generation_of r < 65535)
-WasAtRest _ r = Unit {0}
+WasAtRest Going r = Unit {0}
+WasAtRest Examined r = Unit {0}
 
 -- The replica takes changes, or its volume has to be frozen. No compaction stands.
 abbrev pub IsLeftBy : {D : Type 0} → (D → ℕ) → Start → Copy D → Copy D → Unswapped → Type 0
@@ -312,7 +338,9 @@ IsLeftBy faults start r r' (Refused (fault.Damaged at)) = IsUp r' × (goal_of r'
 IsLeftBy faults start r r' (Refused fault.NoMemory) = IsUp r' × (goal_of r' ≡ None) × WasAtRest start r
 IsLeftBy faults start r r' (Refused (fault.Busy goal)) = (start ≡ Fresh) × (goal_of r ≡ Some goal) × (r' ≡ r)
 IsLeftBy faults start r r' (Refused fault.Worn) = (start ≡ Fresh) × (goal_of r ≡ None) × (65535 ≤ generation_of r) × (r' ≡ r)
-IsLeftBy faults start r r' (Refused _) = ⊥
+IsLeftBy faults start r r' (Refused fault.Frozen) = ⊥
+IsLeftBy faults start r r' (Refused (fault.Full end need capacity)) = ⊥
+IsLeftBy faults start r r' (Refused (fault.Ended printed)) = ⊥
 IsLeftBy faults start r r' (Unsure printed) =
     IsFrozen r' × (goal_of r' ≡ None) × WasAtRest start r × Rose (faults r.disk) (faults r'.disk) × (printed ≡ faults r'.disk)
 IsLeftBy faults start r r' Unplaced = IsFrozen r' × (goal_of r' ≡ None) × WasAtRest start r
@@ -330,9 +358,14 @@ pub record Unpublished {D : Type 0} (files : D → Files) (r' : Copy D) (s : Sto
   pub holds : physical.Holds files r' false stored stored
 
 abbrev pub HoldsUnswapped : {D : Type 0} → (D → Files) → Copy D → Copy D → Stored → Run → Unswapped → Type 0
-HoldsUnswapped files r r' s run (Refused (fault.Damaged at)) = ⊥
+HoldsUnswapped files r r' s run (Refused (fault.Failed printed)) = physical.Stands files r' s × (is_stuck r' ≡ is_stuck r)
+HoldsUnswapped files r r' s run (Refused fault.Frozen) = physical.Stands files r' s × (is_stuck r' ≡ is_stuck r)
+HoldsUnswapped files r r' s run (Refused (fault.Full end need capacity)) = physical.Stands files r' s × (is_stuck r' ≡ is_stuck r)
+HoldsUnswapped files r r' s run (Refused (fault.Busy goal)) = physical.Stands files r' s × (is_stuck r' ≡ is_stuck r)
+HoldsUnswapped files r r' s run (Refused (fault.Ended printed)) = physical.Stands files r' s × (is_stuck r' ≡ is_stuck r)
 HoldsUnswapped files r r' s run (Refused fault.Worn) = s.generation ≡ 65535
-HoldsUnswapped files r r' s run (Refused _) = physical.Stands files r' s × (is_stuck r' ≡ is_stuck r)
+HoldsUnswapped files r r' s run (Refused (fault.Damaged at)) = ⊥
+HoldsUnswapped files r r' s run (Refused fault.NoMemory) = physical.Stands files r' s × (is_stuck r' ≡ is_stuck r)
 HoldsUnswapped files r r' s run (Unsure printed) = (t : Stored) × Swaps s t × physical.Holds files r' (is_stuck r) s t
 HoldsUnswapped files r r' s run Unplaced = Unpublished files r' s run
 
@@ -352,6 +385,8 @@ pub record SwapsAt {D P : Type 0} (DiskTells : Type 0) (files : D → Files) (fa
   pub left : IfErr result (IsLeftBy faults start r r')
   pub swapped : DiskTells → (s : Stored) (run : Run) → physical.Stands files r s → StartsRun files start r s run → PlacesAre Tells rows at s →
       IfOk result (Swapped files Tells rows' at r' s run)
+  pub removed : DiskTells → (s : Stored) → physical.Stands files r s →
+      OnOk result (RemovedBoth (files r'.disk) (volume_file s.generation) (index_file s.generation) (faults r.disk) (faults r'.disk))
   pub refused : DiskTells → (s : Stored) (run : Run) → physical.Stands files r s → StartsRun files start r s run → PlacesAre Tells rows at s →
       IfErr result (HoldsUnswapped files r r' s run)
   pub deletable : DiskTells → ((pair : Pair) → physical.MayDeletePlace files r (place_in (row_at rows pair) at)) → IsUp r' →
@@ -380,6 +415,7 @@ pub record OpensAt {D P : Type 0} (DiskTells : Type 0) (files : D → Files) (Te
   pub sup : r'.sup ≡ r.sup
   pub loose : is_stuck r' ≡ false
   pub alone : goal_of r' ≡ None
+  pub undamaged : DiskTells → (file at : ℕ) → IsOpeningDamage r.sup (contents_of files r.disk) file at → ⊥
   pub opened : DiskTells → (s : Stored) → OpensAs r.sup (contents_of files r.disk) s → physical.Stands files r' s
       × ((pair : Pair) → PlaceOf Tells (last_cell s.cells pair) (place_in (row_at rows pair) j))
   pub reopened : DiskTells → (stuck : Bool) (s t : Stored) → physical.Holds files r stuck s t → (found : Stored)

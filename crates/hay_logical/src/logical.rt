@@ -7,6 +7,7 @@ ghost use Rattle.hay_legal.specs.Known.{machine_of, now, replica_at, room_refusa
 ghost use Rattle.hay_needle.specs.Tables.{outcome_at};
 ghost use Rattle.hay_map.specs.Places.{PlaceMeans, place_in};
 ghost use Rattle.hay_map.specs.Rows.{row_at};
+ghost use Rattle.hay_open.specs.Damage.{IsOpeningDamage};
 ghost use Rattle.hay_open.specs.declared.fault.OpenFault.TheVariants as open_fault;
 ghost use Rattle.hay_physical.specs.declared.state.Phase.TheVariants.{Closed};
 ghost use Rattle.hay_physical.specs.Copies.{Copy, contents_of, goal_of};
@@ -15,13 +16,11 @@ ghost use Rattle.hay_logical.specs.Fits.{At, super_of};
 ghost use Rattle.hay_logical.specs.Steps.{IsRefusedAt, KeepsDisk, RoomFor};
 ghost use Rattle.hay_logical.specs.Volumes.{HasAll, IsClosed, IsOfSettings, IsOpen, IsSame, KeepsCounts};
 ghost use Rattle.hay_logical.specs.Stands.{Holds, IsFirst, IsIdle, Stands, Stopped};
-ghost use Rattle.hay_logical.specs.Answers.{BeginRefused, CompactRefused, DeleteRefused, FinishRefused, FlushRefused, IsBeginFault, IsBegun, IsCompactFault, IsCompacted, IsDeleteFault, IsDeleted, IsFinished, IsFlushFault, IsFlushed, IsPut, IsPutFault, IsReopened, IsRoomFault, IsRunFault, IsStepped, PutRefused, StepRefused, room_answer};
+ghost use Rattle.hay_logical.specs.Answers.{BeginRefused, CompactRefused, DeleteRefused, FinishRefused, FlushRefused, IsBeginFault, IsBegun, IsCompactFault, IsCompacted, IsDeleteFault, IsDeleted, IsFinished, IsFlushFault, IsFlushed, IsPut, IsPutFault, IsReopened, IsRoomFault, IsRunFault, IsStepped, PutRefused, RemovesOld, StepRefused, room_answer};
 
 use crate::fault::{LogicalFault, Unopened};
 use crate::notes::{machine_of, notes_of};
-use crate::refusals::{
-    flush_refusal, full_at, has_live, is_untouched, put_refusal, run_refusal, unfinished_by,
-};
+use crate::refusals::{answer_at, has_live, is_untouched, put_refusal, unfinished_by};
 use crate::replicas::{
     delete_each, ends_of, flush_at, fuse_at, open_each, put_each, room_in, stop_each,
 };
@@ -138,6 +137,9 @@ impl<D: Disk> Logical<D> {
         ensures reopened { D.Tells → (k : VolumeKnown) → Stopped D.files self.old k →
             IfOk result (λ notes. IsReopened D.files D.Piece.Tells k notes self.new) }
         ensures open { OnOk result (IsOpen self.new) }
+        // Nothing of what was read of the disks is damaged.
+        ensures undamaged { D.Tells → OnOk result ((j : ℕ) (r : Copy D) → At self.old.replicas j r →
+            (file at : ℕ) → IsOpeningDamage r.sup (contents_of D.files r.disk) file at → ⊥) }
 
         // What a refusal leaves, and its cause.
         ensures left { D.Tells → (k : VolumeKnown) → Stopped D.files self.old k → OnErr result (Holds D.files self.new k) }
@@ -190,7 +192,7 @@ impl<D: Disk> Logical<D> {
             return Ok(());
         };
         let machine = machine_of(&self.settings, self.number, lacking.at);
-        Err(full_at(machine, lacking.fault))
+        Err(answer_at(machine, lacking.fault))
     }
 
     /// The places of a pair's photo. It takes no memory.
@@ -324,7 +326,7 @@ impl<D: Disk> Logical<D> {
         let machine = machine_of(&self.settings, self.number, replica);
         match flush_at(self.replicas.as_mut_slice(), replica as usize) {
             Ok(count) => Ok(count),
-            Err(fault) => Err(flush_refusal(machine, fault)),
+            Err(fault) => Err(answer_at(machine, fault)),
         }
     }
 
@@ -348,7 +350,7 @@ impl<D: Disk> Logical<D> {
         let machine = machine_of(&self.settings, self.number, replica);
         match begin_at(self.replicas.as_mut_slice(), replica as usize, alloc) {
             Ok(generation) => Ok(generation),
-            Err(fault) => Err(run_refusal(machine, fault)),
+            Err(fault) => Err(answer_at(machine, fault)),
         }
     }
 
@@ -380,7 +382,7 @@ impl<D: Disk> Logical<D> {
             cells as u64,
         ) {
             Ok(number) => Ok(number),
-            Err(fault) => Err(run_refusal(machine, fault)),
+            Err(fault) => Err(answer_at(machine, fault)),
         }
     }
 
@@ -394,6 +396,8 @@ impl<D: Disk> Logical<D> {
         requires open { IsOpen self.old }
         ensures finished { D.Tells → (k : VolumeKnown) → Stands D.files D.Piece.Tells self.old k →
             IfOk result (λ generation. IsFinished D.files D.Piece.Tells k replica generation self.new) }
+        ensures removed { D.Tells → (k : VolumeKnown) → Stands D.files D.Piece.Tells self.old k →
+            OnOk result (RemovesOld D.files D.fault_count k replica self.old self.new) }
         ensures refused { D.Tells → (k : VolumeKnown) → Stands D.files D.Piece.Tells self.old k →
             IfErr result (FinishRefused D.files D.Piece.Tells k replica self.old self.new) }
         ensures causes { IfErr result (IsRunFault D.fault_count self.old.settings self.old.number self.old.replicas self.new.replicas) }
@@ -428,6 +432,8 @@ impl<D: Disk> Logical<D> {
         requires open { IsOpen self.old }
         ensures compacted { D.Tells → (k : VolumeKnown) → Stands D.files D.Piece.Tells self.old k →
             IfOk result (λ generation. IsCompacted D.files D.Piece.Tells k replica generation self.new) }
+        ensures removed { D.Tells → (k : VolumeKnown) → Stands D.files D.Piece.Tells self.old k →
+            OnOk result (RemovesOld D.files D.fault_count k replica self.old self.new) }
         ensures refused { D.Tells → (k : VolumeKnown) → Stands D.files D.Piece.Tells self.old k →
             IfErr result (CompactRefused D.files D.Piece.Tells k replica self.old self.new) }
         ensures causes { IfErr result (IsCompactFault D.fault_count self.old.settings self.old.number self.old.replicas self.new.replicas) }
@@ -459,6 +465,7 @@ impl<D: Disk> Logical<D> {
         ensures is { (r : Copy D) → At self.now.replicas replica r → result ≡ goal_of r }
         ensures known { D.Tells → (k : VolumeKnown) → Stands D.files D.Piece.Tells self.now k →
             result ≡ option_map (λ run. run.goal) (replica_at k replica).run }
+        ensures most { IfSome result (λ goal. goal ≤ 65535) }
     {
         self.replicas.as_slice()[replica as usize].standing()
     }

@@ -4,7 +4,7 @@ ghost use Rattle.hay_map.specs.Places.{place_in};
 ghost use Rattle.hay_physical.specs.Copies.{Copy, is_frozen};
 ghost use Rattle.hay_logical.specs.Fits.{At};
 ghost use Rattle.hay_logical.specs.Notes.{is_live};
-ghost use Rattle.hay_logical.specs.Refusals.{IsRefusal, IsUntouched, RefusesFlush, RefusesPut, RefusesRun, RefusesSwap, flush_answer, run_answer, unfinished_by};
+ghost use Rattle.hay_logical.specs.Refusals.{IsRefusal, IsUntouched, RefusesPut, answer_at, unfinished_by};
 ghost use Rattle.hay_logical.specs.Volumes.{IsOfSettings};
 
 use crate::fault::LogicalFault;
@@ -30,12 +30,15 @@ pub(crate) struct Unfinished {
     pub fault: LogicalFault,
 }
 
-/// The refusal of a replica that lacks room.
-pub(crate) fn full_at(machine: u32, fault: ReplicaFault) -> LogicalFault
-    requires { (end : ℕ) × (need : ℕ) × (capacity : ℕ) × (fault ≡ ReplicaFault.Full end need capacity) }
-    ensures { (end need capacity : ℕ) → fault ≡ ReplicaFault.Full end need capacity → result ≡ LogicalFault.Full machine end need capacity }
+/// What is answered where the replica on this machine refused.
+pub(crate) fn answer_at(machine: u32, fault: ReplicaFault) -> LogicalFault
+    ensures { result ≡ answer_at machine fault }
 {
     match fault {
+        ReplicaFault::Failed { faults } | ReplicaFault::Ended { faults } => {
+            LogicalFault::Failed { machine, faults }
+        }
+        ReplicaFault::Frozen => LogicalFault::ReadOnly { machine },
         ReplicaFault::Full {
             end,
             need,
@@ -46,7 +49,13 @@ pub(crate) fn full_at(machine: u32, fault: ReplicaFault) -> LogicalFault
             need,
             capacity,
         },
-        _ => unreachable!(),
+        ReplicaFault::Busy { generation } => LogicalFault::Busy {
+            machine,
+            generation,
+        },
+        ReplicaFault::Worn => LogicalFault::Worn { machine },
+        ReplicaFault::Damaged { at } => LogicalFault::Damaged { machine, at },
+        ReplicaFault::NoMemory => LogicalFault::NoMemory,
     }
 }
 
@@ -76,7 +85,13 @@ pub(crate) fn is_untouched<D: Disk>(replicas: &[Replica<D>], broken: &Broken) ->
             }
             !replicas[0].is_frozen()
         }
-        _ => false,
+        ReplicaFault::Failed { .. }
+        | ReplicaFault::Frozen
+        | ReplicaFault::Full { .. }
+        | ReplicaFault::Busy { .. }
+        | ReplicaFault::Ended { .. }
+        | ReplicaFault::Worn
+        | ReplicaFault::Damaged { .. } => false,
     }
 }
 
@@ -108,43 +123,6 @@ pub(crate) fn put_refusal(settings: &Settings, number: u32, broken: &Broken) -> 
     }
 }
 
-/// What a flush is answered that the replica on this machine refused.
-pub(crate) fn flush_refusal(machine: u32, fault: ReplicaFault) -> LogicalFault
-    requires { RefusesFlush fault }
-    ensures { result ≡ flush_answer machine fault }
-{
-    match fault {
-        ReplicaFault::Failed { faults } => LogicalFault::Failed { machine, faults },
-        ReplicaFault::Frozen => LogicalFault::ReadOnly { machine },
-        ReplicaFault::NoMemory => LogicalFault::NoMemory,
-        ReplicaFault::Full { .. }
-        | ReplicaFault::Busy { .. }
-        | ReplicaFault::Ended { .. }
-        | ReplicaFault::Worn
-        | ReplicaFault::Damaged { .. } => unreachable!(),
-    }
-}
-
-/// What a beginning or a step of a compaction is answered that the replica on this machine refused.
-pub(crate) fn run_refusal(machine: u32, fault: ReplicaFault) -> LogicalFault
-    requires { RefusesRun fault }
-    ensures { result ≡ run_answer machine fault }
-{
-    match fault {
-        ReplicaFault::Failed { faults } => LogicalFault::Failed { machine, faults },
-        ReplicaFault::Busy { generation } => LogicalFault::Busy {
-            machine,
-            generation,
-        },
-        ReplicaFault::Worn => LogicalFault::Worn { machine },
-        ReplicaFault::Damaged { at } => LogicalFault::Damaged { machine, at },
-        ReplicaFault::NoMemory => LogicalFault::NoMemory,
-        ReplicaFault::Frozen | ReplicaFault::Full { .. } | ReplicaFault::Ended { .. } => {
-            unreachable!()
-        }
-    }
-}
-
 /// What a compaction is answered that no swap ended.
 pub(crate) fn unfinished_by(
     settings: &Settings,
@@ -154,14 +132,13 @@ pub(crate) fn unfinished_by(
 ) -> Unfinished
     requires of { IsOfSettings settings.now number }
     requires within { replica < 4 }
-    requires refuses { RefusesSwap unswapped }
     ensures { result ≡ unfinished_by settings.now number replica unswapped }
 {
     let machine = machine_of(settings, number, replica);
     match unswapped {
         Unswapped::Refused(fault) => Unfinished {
             frozen: None,
-            fault: run_refusal(machine, fault),
+            fault: answer_at(machine, fault),
         },
         Unswapped::Unsure { faults } => Unfinished {
             frozen: Some(machine),

@@ -1,5 +1,5 @@
 -- How disks are given back from the last slot down, and what was taken before.
-use Rattle.std.proofs.Common.{◌≡◌, false, ℕ, ◌+◌, ◌<◌, List, [], ◌∷◌, ◌++◌, length, refl, sym, ap, subst, ◌∙◌, arith, append_assoc, inl, inr}
+use Rattle.std.proofs.Common.{◌≡◌, Bool, false, ℕ, ◌+◌, ◌<◌, List, [], ◌∷◌, ◌++◌, length, refl, sym, ap, subst, ◌∙◌, arith, append_assoc, inl, inr}
 use Rattle.std.proofs.lemmas.List.{length-append, append-nil}
 use Rattle.std.proofs.lemmas.Bool.{cases_lt}
 use Rattle.hay_disk.specs.Disk.{Files, IsImage, KeepsOthers}
@@ -44,8 +44,8 @@ module _ {X H : Type 0} (P : H → X → Type 0) where
       (subst (λ l. InOrder (λ n x. P (new n) x) (length l) gives.given) none gives.placed)
 
 -- What was taken and was given back is as it was.
-module _ {D : Type 0} (Tells : Type 0) (files : D → Files) (faults fuses : D → ℕ) where
-  back_at : (old new : HeldDisk) (disk : D) → IsMountedDisk Tells files faults fuses old disk → IsGivenDisk Tells files faults fuses new disk → IsPutBack Tells old new
+module _ {D : Type 0} (Tells : Type 0) (files : D → Files) (drawn : D → ℕ → ℕ) (faults fuses : D → ℕ) where
+  back_at : (old new : HeldDisk) (disk : D) → IsMountedDisk Tells files drawn faults fuses old disk → IsGivenDisk Tells files drawn faults fuses new disk → IsPutBack Tells old new
   back_at old new disk taken given = record {
     kept = λ tells. inr (λ image may n.
         solid_whole (files disk n) (image n) (taken.solid tells n) (subst (λ (held : Files). IsImage (held n) (image n)) (given.files_are tells) (may n)) ∙ taken.now tells n);
@@ -63,33 +63,34 @@ module _ {D : Type 0} (Tells : Type 0) (files : D → Files) (faults fuses : D �
   }
 
   pub disks_back : (slots : ℕ) (disks : List D) (old mid new : ℕ → HeldDisk) → AreIn slots old
-      → InOrder (λ slot disk. IsMountedDisk Tells files faults fuses (old slot) disk) 0 disks → SameFrom (length disks) old mid
-      → InOrder (λ slot disk. IsGivenDisk Tells files faults fuses (new slot) disk) 0 disks → SameFrom (length disks) mid new
+      → InOrder (λ slot disk. IsMountedDisk Tells files drawn faults fuses (old slot) disk) 0 disks → SameFrom (length disks) old mid
+      → InOrder (λ slot disk. IsGivenDisk Tells files drawn faults fuses (new slot) disk) 0 disks → SameFrom (length disks) mid new
       → (slot : ℕ) → slot < slots → IsPutBack Tells (old slot) (new slot)
   disks_back slots disks old mid new in_place taken same given others slot below =
       elim (cases_lt slot (length disks)) [
-        | inl low ↦ InOrder-at (λ k disk. IsMountedDisk Tells files faults fuses (old k) disk × IsGivenDisk Tells files faults fuses (new k) disk) (λ k. IsPutBack Tells (old k) (new k)) 0 disks
+        | inl low ↦ InOrder-at (λ k disk. IsMountedDisk Tells files drawn faults fuses (old k) disk × IsGivenDisk Tells files drawn faults fuses (new k) disk) (λ k. IsPutBack Tells (old k) (new k)) 0 disks
             (λ k disk both. back_at (old k) (new k) disk both.0 both.1) (InOrder-zip _ _ 0 disks taken given) slot (omega arith) (omega arith)
         | inr high ↦ not_taken (old slot) (new slot) (others slot high ∙ same slot high) (in_place slot below)
       ]
 
-module _ {A : Type 0} (faults : A → ℕ) where
-  arm_at : (old new : HeldArm) (arm : A) → IsMountedArm faults old arm → IsGivenArm faults new arm → IsArmBack old new
-  arm_at old new arm taken given = record { fault_count = given.fault_count ∙ taken; back = given.back }
+module _ {A : Type 0} (faults : A → ℕ) (sure : A → Bool) where
+  arm_at : (old new : HeldArm) (arm : A) → IsMountedArm faults sure old arm → IsGivenArm faults sure new arm → IsArmBack old new
+  arm_at old new arm taken given = record { fault_count = given.fault_count ∙ taken.fault_count; is_sure = given.is_sure ∙ taken.is_sure; back = given.back }
 
   arm_left : (old new : HeldArm) → new ≡ old → old.is_out ≡ false → IsArmBack old new
   arm_left old new same in_place = record {
     fault_count = ap (λ (held : HeldArm). held.fault_count) same;
+    is_sure = ap (λ (held : HeldArm). held.is_sure) same;
     back = ap (λ (held : HeldArm). held.is_out) same ∙ in_place;
   }
 
   pub arms_back : (lanes : ℕ) (arms : List A) (old mid new : ℕ → HeldArm) → AreArmsIn lanes old
-      → InOrder (λ lane arm. IsMountedArm faults (old lane) arm) 0 arms → SameFrom (length arms) old mid
-      → InOrder (λ lane arm. IsGivenArm faults (new lane) arm) 0 arms → SameFrom (length arms) mid new
+      → InOrder (λ lane arm. IsMountedArm faults sure (old lane) arm) 0 arms → SameFrom (length arms) old mid
+      → InOrder (λ lane arm. IsGivenArm faults sure (new lane) arm) 0 arms → SameFrom (length arms) mid new
       → (lane : ℕ) → lane < lanes → IsArmBack (old lane) (new lane)
   arms_back lanes arms old mid new in_place taken same given others lane below =
       elim (cases_lt lane (length arms)) [
-        | inl low ↦ InOrder-at (λ k arm. IsMountedArm faults (old k) arm × IsGivenArm faults (new k) arm) (λ k. IsArmBack (old k) (new k)) 0 arms
+        | inl low ↦ InOrder-at (λ k arm. IsMountedArm faults sure (old k) arm × IsGivenArm faults sure (new k) arm) (λ k. IsArmBack (old k) (new k)) 0 arms
             (λ k arm both. arm_at (old k) (new k) arm both.0 both.1) (InOrder-zip _ _ 0 arms taken given) lane (omega arith) (omega arith)
         | inr high ↦ arm_left (old lane) (new lane) (others lane high ∙ same lane high) (in_place lane below)
       ]

@@ -14,7 +14,7 @@ pub fn take_arms<H: Shelf>(
     lanes: u32,
 ) -> Result<Vec<H::Arm>, MountFault>
     requires arms_in { AreArmsIn lanes (H.arms shelf.old) }
-    ensures arms { IfOk result (λ arms. InOrder (λ lane arm. IsMountedArm H.Arm.fault_count (H.arms shelf.old lane) arm) 0 arms.items) }
+    ensures arms { IfOk result (λ arms. InOrder (λ lane arm. IsMountedArm H.Arm.fault_count H.Arm.is_sure (H.arms shelf.old lane) arm) 0 arms.items) }
     ensures count { IfOk result (λ arms. length arms.items ≡ lanes) }
     ensures out { OnOk result (AreArmsOut lanes (H.arms shelf.new)) }
     ensures put_back { OnErr result ((lane : ℕ) → lane < lanes → IsArmBack (H.arms shelf.old lane) (H.arms shelf.new lane)) }
@@ -47,7 +47,7 @@ pub fn take_arms<H: Shelf>(
 pub fn give_arms<H: Shelf>(shelf: &mut H, mut arms: Vec<H::Arm>)
     requires few { length arms.items < 2 ^ 32 }
     requires out { AreArmsOut (length arms.items) (H.arms shelf.old) }
-    ensures given { InOrder (λ lane arm. IsGivenArm H.Arm.fault_count (H.arms shelf.new lane) arm) 0 arms.items }
+    ensures given { InOrder (λ lane arm. IsGivenArm H.Arm.fault_count H.Arm.is_sure (H.arms shelf.new lane) arm) 0 arms.items }
     ensures others { SameFrom (length arms.items) (H.arms shelf.old) (H.arms shelf.new) }
     ensures slots { H.disks shelf.new ≡ H.disks shelf.old }
     ensures counted { H.fault_count shelf.new ≡ H.fault_count shelf.old }

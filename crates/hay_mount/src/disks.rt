@@ -14,7 +14,7 @@ pub fn take_disks<H: Shelf>(
     slots: u32,
 ) -> Result<Vec<H::Disk>, MountFault>
     requires disks_in { AreIn slots (H.disks shelf.old) }
-    ensures disks { IfOk result (λ disks. InOrder (λ slot disk. IsMountedDisk H.Disk.Tells H.Disk.files H.Disk.fault_count H.Disk.fuse_count (H.disks shelf.old slot) disk) 0 disks.items) }
+    ensures disks { IfOk result (λ disks. InOrder (λ slot disk. IsMountedDisk H.Disk.Tells H.Disk.files H.Disk.drawn H.Disk.fault_count H.Disk.fuse_count (H.disks shelf.old slot) disk) 0 disks.items) }
     ensures count { IfOk result (λ disks. length disks.items ≡ slots) }
     ensures out { OnOk result (AreOut slots (H.disks shelf.new)) }
     ensures put_back { OnErr result ((slot : ℕ) → slot < slots → IsPutBack H.Disk.Tells (H.disks shelf.old slot) (H.disks shelf.new slot)) }
@@ -47,7 +47,7 @@ pub fn take_disks<H: Shelf>(
 pub fn give_disks<H: Shelf>(shelf: &mut H, mut disks: Vec<H::Disk>)
     requires few { length disks.items < 2 ^ 32 }
     requires out { AreOut (length disks.items) (H.disks shelf.old) }
-    ensures given { InOrder (λ slot disk. IsGivenDisk H.Disk.Tells H.Disk.files H.Disk.fault_count H.Disk.fuse_count (H.disks shelf.new slot) disk) 0 disks.items }
+    ensures given { InOrder (λ slot disk. IsGivenDisk H.Disk.Tells H.Disk.files H.Disk.drawn H.Disk.fault_count H.Disk.fuse_count (H.disks shelf.new slot) disk) 0 disks.items }
     ensures others { SameFrom (length disks.items) (H.disks shelf.old) (H.disks shelf.new) }
     ensures lanes { H.arms shelf.new ≡ H.arms shelf.old }
     ensures counted { H.fault_count shelf.new ≡ H.fault_count shelf.old }

@@ -27,8 +27,8 @@ pub fn mount<H: Shelf>(
 ) -> Result<Mounted<H::Disk, H::Arm>, MountFault>
     requires disks_in { AreIn slots (H.disks shelf.old) }
     requires arms_in { AreArmsIn 8 (H.arms shelf.old) }
-    ensures disks { IfOk result (λ mounted. InOrder (λ slot disk. IsMountedDisk H.Disk.Tells H.Disk.files H.Disk.fault_count H.Disk.fuse_count (H.disks shelf.old slot) disk) 0 mounted.disks.items) }
-    ensures arms { IfOk result (λ mounted. InOrder (λ lane arm. IsMountedArm H.Arm.fault_count (H.arms shelf.old lane) arm) 0 mounted.arms.items) }
+    ensures disks { IfOk result (λ mounted. InOrder (λ slot disk. IsMountedDisk H.Disk.Tells H.Disk.files H.Disk.drawn H.Disk.fault_count H.Disk.fuse_count (H.disks shelf.old slot) disk) 0 mounted.disks.items) }
+    ensures arms { IfOk result (λ mounted. InOrder (λ lane arm. IsMountedArm H.Arm.fault_count H.Arm.is_sure (H.arms shelf.old lane) arm) 0 mounted.arms.items) }
     ensures disk_count { IfOk result (λ mounted. length mounted.disks.items ≡ slots) }
     ensures arm_count { IfOk result (λ mounted. length mounted.arms.items ≡ 8) }
     ensures disks_out { OnOk result (AreOut slots (H.disks shelf.new)) }
@@ -60,8 +60,8 @@ pub fn unmount<H: Shelf>(shelf: &mut H, mounted: Mounted<H::Disk, H::Arm>)
     requires few_arms { length mounted.arms.items < 2 ^ 32 }
     requires disks_out { AreOut (length mounted.disks.items) (H.disks shelf.old) }
     requires arms_out { AreArmsOut (length mounted.arms.items) (H.arms shelf.old) }
-    ensures disks { InOrder (λ slot disk. IsGivenDisk H.Disk.Tells H.Disk.files H.Disk.fault_count H.Disk.fuse_count (H.disks shelf.new slot) disk) 0 mounted.disks.items }
-    ensures arms { InOrder (λ lane arm. IsGivenArm H.Arm.fault_count (H.arms shelf.new lane) arm) 0 mounted.arms.items }
+    ensures disks { InOrder (λ slot disk. IsGivenDisk H.Disk.Tells H.Disk.files H.Disk.drawn H.Disk.fault_count H.Disk.fuse_count (H.disks shelf.new slot) disk) 0 mounted.disks.items }
+    ensures arms { InOrder (λ lane arm. IsGivenArm H.Arm.fault_count H.Arm.is_sure (H.arms shelf.new lane) arm) 0 mounted.arms.items }
     ensures other_slots { SameFrom (length mounted.disks.items) (H.disks shelf.old) (H.disks shelf.new) }
     ensures other_lanes { SameFrom (length mounted.arms.items) (H.arms shelf.old) (H.arms shelf.new) }
     ensures counted { H.fault_count shelf.new ≡ H.fault_count shelf.old }

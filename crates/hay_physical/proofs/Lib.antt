@@ -8,3 +8,4 @@ pub mod Openings
 pub mod Views
 pub mod RunViews
 pub mod Deleting
+pub mod Removing

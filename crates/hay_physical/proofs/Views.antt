@@ -123,3 +123,7 @@ if_ok_on (Err fault) P O Q makes p o = tt
 pub on_ok_one : {T E : Type 0} (r : Result T E) (P Q : Type 0) → (P → Q) → OnOk r P → OnOk r Q
 on_ok_one (Ok value) P Q makes p = makes p
 on_ok_one (Err fault) P Q makes p = p
+
+pub refused : {T E : Type 0} (r : Result T E) (why : E) (P : Type 0) → r ≡ Err why → OnErr r P → P
+refused (Ok value) why P is p = let wrong : Ok value ≡ Err why = is in absurd cc
+refused (Err fault) why P is p = p

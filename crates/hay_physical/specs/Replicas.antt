@@ -132,7 +132,8 @@ pub record MayFlag (file : FileState) (end at : ℕ) : Type 0 where
 -- the flags of the cell of a place, if it has one, can be written
 abbrev pub MayFlagPlace : {P : Type 0} → Files → OpenFiles → Place P → Type 0
 MayFlagPlace files opened (place.Live needle) = MayFlag (files opened.volume.file) opened.volume.end needle.at
-MayFlagPlace files opened _ = Unit {0}
+MayFlagPlace files opened place.None = Unit {0}
+MayFlagPlace files opened place.Gone = Unit {0}
 
 -- A cell of so many bytes ends at `end`, and nothing of it is loose or sealed.
 pub record IsLastCell (file : FileState) (end at total : ℕ) : Type 0 where
@@ -151,7 +152,8 @@ MayDelete files r at = PhaseMayDelete (files r.disk) r.phase at
 -- the photo of a place, if it has one, can be deleted
 abbrev pub MayDeletePlace : {D P : Type 0} → (D → Files) → Copy D → Place P → Type 0
 MayDeletePlace files r (place.Live needle) = MayDelete files r needle.at
-MayDeletePlace files r _ = Unit {0}
+MayDeletePlace files r place.None = Unit {0}
+MayDeletePlace files r place.Gone = Unit {0}
 
 abbrev pub with_cell : Stored → Pair → Cookie → List ℕ → Stored
 with_cell s pair cookie bytes = record s { cells = s.cells ++ live_cell s.end pair cookie bytes ∷ []; end = s.end + total_of_lem (length bytes) }

@@ -1,5 +1,5 @@
 -- A compaction that stands beside an open replica.
-use Rattle.std.specs.Prelude.{◌≡◌, ◌⊎◌, ◌≢◌, ◌≤◌, ◌+◌, ◌-◌, ℕ, Bool, true, false, List, ◌∷◌, length, drop, Option, Some, None}
+use Rattle.std.specs.Prelude.{◌≡◌, ◌⊎◌, ◌≢◌, ◌≤◌, ◌+◌, ◌-◌, ℕ, Bool, true, false, List, [], ◌∷◌, length, drop, Option, Some, None}
 use Rattle.hay_needle.specs.declared.needle.Cell.{Cell}
 use Rattle.hay_needle.specs.declared.needle.CellHead.{CellHead}
 use Rattle.hay_needle.specs.declared.needle.Pair.{Pair}
@@ -95,11 +95,16 @@ PhasePeeked (Open opened) head = CopierPeeked opened.copier head
 abbrev pub IsPeeked : {D : Type 0} → Copy D → CellHead → Type 0
 IsPeeked r head = PhasePeeked r.phase head
 
--- A failure or damage ended the compaction, and want of memory left it.
+-- A failure or damage ended the compaction, and any other refusal left it.
 abbrev pub EndsRun : {D : Type 0} → ℕ → Copy D → Copy D → ReplicaFault → Type 0
 EndsRun faults old new (fault.Failed printed) = EndedAt faults new
+EndsRun faults old new fault.Frozen = goal_of new ≡ goal_of old
+EndsRun faults old new (fault.Full end need capacity) = goal_of new ≡ goal_of old
+EndsRun faults old new (fault.Busy generation) = goal_of new ≡ goal_of old
+EndsRun faults old new (fault.Ended printed) = goal_of new ≡ goal_of old
+EndsRun faults old new fault.Worn = goal_of new ≡ goal_of old
 EndsRun faults old new (fault.Damaged at) = EndedAt faults new
-EndsRun faults old new _ = goal_of new ≡ goal_of old
+EndsRun faults old new fault.NoMemory = goal_of new ≡ goal_of old
 
 -- the pair has a cell
 abbrev pub HasPair : List Cell → Pair → Type 0
@@ -127,8 +132,13 @@ KeepsFiles old new = new ≡ record old { copier = new.copier }
 -- a failure or damage ended the compaction, and all else left it
 abbrev pub EndsBy : ℕ → Copier → Copier → ReplicaFault → Type 0
 EndsBy faults old new (fault.Failed printed) = new ≡ Ended faults
+EndsBy faults old new fault.Frozen = copier_goal new ≡ copier_goal old
+EndsBy faults old new (fault.Full end need capacity) = copier_goal new ≡ copier_goal old
+EndsBy faults old new (fault.Busy generation) = copier_goal new ≡ copier_goal old
+EndsBy faults old new (fault.Ended printed) = copier_goal new ≡ copier_goal old
+EndsBy faults old new fault.Worn = copier_goal new ≡ copier_goal old
 EndsBy faults old new (fault.Damaged at) = new ≡ Ended faults
-EndsBy faults old new _ = copier_goal new ≡ copier_goal old
+EndsBy faults old new fault.NoMemory = copier_goal new ≡ copier_goal old
 
 -- The delete was repeated in the new file, or ended the compaction.
 abbrev pub RepeatsIn : Files → Files → OpenFiles → Pair → Stage → Copier → Type 0
@@ -159,6 +169,16 @@ MaySwitch old new generation =
 -- All but the head and these two files are as they were.
 abbrev pub KeepsBut : ℕ → ℕ → Files → Files → Type 0
 KeepsBut first second old new = (n : ℕ) → n ≢ 0 → n ≢ first → n ≢ second → new n ≡ old n
+
+-- A file was taken away, or the disk's count of faults rose.
+abbrev pub IsRemoved : FileState → ℕ → ℕ → Type 0
+IsRemoved file before after = (file.now ≡ []) ⊎ Rose before after
+
+-- Two files were taken away, and each that stays made the count rise by itself.
+pub record RemovedBoth (files : Files) (first second before after : ℕ) : Type 0 where
+  pub between : ℕ
+  pub first_gone : IsRemoved (files first) before between
+  pub second_gone : IsRemoved (files second) between after
 
 -- The cells that a swap leaves have the table, and are no more and no longer than they were.
 pub record Swaps (s t : Stored) : Type 0 where

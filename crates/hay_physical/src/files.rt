@@ -93,6 +93,10 @@ impl OpenFiles {
             OnErr result (((self.new.frozen ≡ false) × FilesStand sup (D.files disk.new) self.new s)
             ⊎ ((self.new.frozen ≡ true) × MayFind sup (D.files disk.new) self.old.index.frozen s (with_cell s pair cookie bytes.now))) }
         ensures kept { OnErr result (self.new.frozen ≡ false → self.new ≡ self.old) }
+        ensures unchanged { D.Tells → IsErrOf result ReplicaFault.NoMemory → self.new.frozen ≡ false → D.files disk.new ≡ D.files disk.old }
+        ensures added { D.Tells → (sup : Super) (s : Stored) → self.old.frozen ≡ false → FilesStand sup (D.files disk.old) self.old s →
+            IsErrOf result ReplicaFault.NoMemory → self.new.frozen ≡ true →
+            MayFind sup (D.files disk.new) self.old.index.frozen (with_cell s pair cookie bytes.now) (with_cell s pair cookie bytes.now) }
         ensures froze { IfErr result (λ fault. (faults : ℕ) → fault ≡ ReplicaFault.Failed faults → self.new.frozen ≡ true) }
         ensures stuck { self.new.index.frozen ≡ self.old.index.frozen }
 
@@ -138,6 +142,7 @@ impl OpenFiles {
             ⊎ ((self.new.frozen ≡ true) × MayFind sup (D.files disk.new) self.old.index.frozen s (with_cell s pair cookie bytes.now))) }
         ensures kept { OnErr result (self.new.frozen ≡ false → self.new ≡ self.old) }
         ensures froze { IfErr result (λ fault. (faults : ℕ) → fault ≡ ReplicaFault.Failed faults → self.new.frozen ≡ true) }
+        ensures unchanged { IsErrOf result ReplicaFault.NoMemory → (self.new ≡ self.old) × (D.Tells → D.files disk.new ≡ D.files disk.old) }
         ensures never_frozen { IsErrOf result ReplicaFault.Frozen → ⊥ }
         ensures never_full { (end need capacity : ℕ) → result ≡ Err (ReplicaFault.Full end need capacity) → ⊥ }
         ensures stuck { self.new.index.frozen ≡ self.old.index.frozen }

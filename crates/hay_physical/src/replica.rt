@@ -72,6 +72,8 @@ impl<D: Disk> Replica<D> {
         ensures reopened { D.Tells → (stuck : Bool) (s t : Stored) → Holds D.files self.old stuck s t → IfOk result (λ cells. (found : Stored)
             × (IsLike stuck s found ⊎ IsLike stuck t found) × Stands D.files self.new found
             × ((pair : Pair) → PlaceOf D.Piece.Tells (last_cell found.cells pair) (last_place cells.items pair place.None))) }
+        // Nothing of what was read is damaged.
+        ensures undamaged { D.Tells → OnOk result ((file at : ℕ) → IsOpeningDamage self.old.sup (contents_of D.files self.old.disk) file at → ⊥) }
         ensures up { OnOk result (IsUp self.new) }
         ensures stuck { OnOk result (is_stuck self.new ≡ false) }
         ensures alone { goal_of self.new ≡ None }
@@ -157,6 +159,10 @@ impl<D: Disk> Replica<D> {
         ensures refused { D.Tells → (s : Stored) → Stands D.files self.old s → OnErr result (Stands D.files self.new s
             ⊎ (IsFrozen self.new × Holds D.files self.new (is_stuck self.old) s (with_cell s pair cookie bytes.now))) }
         ensures kept { OnErr result (IsUp self.new → self.new.phase ≡ self.old.phase) }
+        // Want of memory comes before any change, or behind the new cell, and then freezes the replica.
+        ensures unchanged { D.Tells → IsErrOf result ReplicaFault.NoMemory → IsUp self.new → D.files self.new.disk ≡ D.files self.old.disk }
+        ensures added { D.Tells → (s : Stored) → Stands D.files self.old s → IsErrOf result ReplicaFault.NoMemory → IsFrozen self.new →
+            Holds D.files self.new (is_stuck self.old) (with_cell s pair cookie bytes.now) (with_cell s pair cookie bytes.now) }
         ensures froze { IfErr result (λ fault. (faults : ℕ) → fault ≡ ReplicaFault.Failed faults → IsFrozen self.new) }
         ensures open { IsOpen self.new }
         ensures stuck { is_stuck self.new ≡ is_stuck self.old }

@@ -4,13 +4,13 @@ ghost use Rattle.std.specs.Prelude.{◌≡◌, ◌⊎◌, ◌≤◌, ◌+◌, �
 ghost use Rattle.hay_needle.specs.declared.needle.Pair.{Pair};
 ghost use Rattle.hay_map.specs.declared.place.Place.TheVariants as place;
 ghost use Rattle.hay_map.specs.Rows.{last_place};
-ghost use Rattle.hay_open.specs.Stored.{Stored};
+ghost use Rattle.hay_open.specs.Stored.{Stored, index_file, volume_file};
 ghost use Rattle.hay_compact.specs.Copying.{IsLatest};
 ghost use Rattle.hay_compact.specs.Finishing.{AreThePlaces};
 ghost use Rattle.hay_physical.specs.Copies.{IsFrozen, IsOpen, IsUp, faults_at_end, generation_of, goal_of, is_frozen, is_stuck};
 ghost use Rattle.hay_physical.specs.Faults.{IsBeginFault, IsPeekFault, IsRunFault};
 ghost use Rattle.hay_physical.specs.Replicas.{Holds, MayDelete, MayDeletePlace, Stands};
-ghost use Rattle.hay_physical.specs.Runs.{EndsRun, HasNext, HasPair, HasRun, IsPeeked, IsTight, Run, Swaps, stepped};
+ghost use Rattle.hay_physical.specs.Runs.{EndsRun, HasNext, HasPair, HasRun, IsPeeked, IsTight, RemovedBoth, Run, Swaps, stepped};
 
 use crate::fault::ReplicaFault;
 use crate::replica::Replica;
@@ -60,6 +60,7 @@ impl<D: Disk> Replica<D> {
     /// The generation that a compaction makes, if one stands.
     pub fn standing(&self) -> Option<u64>
         ensures is { result ≡ goal_of self.now }
+        ensures most { IfSome result (λ goal. goal ≤ 65535) }
     {
         match &self.phase {
             Phase::Open(files) => match &files.copier {
@@ -165,6 +166,10 @@ impl<D: Disk> Replica<D> {
         ensures up { OnOk result (IsUp self.new) }
         ensures going { OnOk result (is_stuck self.new ≡ false) }
         ensures can_delete { D.Tells → IfOk result (λ places. (pair : Pair) → MayDeletePlace D.files self.new (last_place places.items pair place.Gone)) }
+
+        // The files of the old generation are gone, but for one whose removal failed.
+        ensures removed { D.Tells → OnOk result (RemovedBoth (D.files self.new.disk) (volume_file (generation_of self.old)) (index_file (generation_of self.old))
+            (D.fault_count self.old.disk) (D.fault_count self.new.disk)) }
 
         // A refusal leaves the photos, or a frozen replica, on whose disk stands what stood or what was to stand.
         ensures refused { D.Tells → (s : Stored) (run : Run) → Stands D.files self.old s → HasRun D.files self.old s (Some run) → run.left ≡ 0 →

@@ -11,7 +11,7 @@ ghost use Rattle.hay_compact.specs.Finishing.{AreThePlaces};
 ghost use Rattle.hay_physical.specs.Copies.{copier_faults, copier_goal};
 ghost use Rattle.hay_physical.specs.Faults.{IsBeginFault, IsPeekFault, IsRunFault};
 ghost use Rattle.hay_physical.specs.Replicas.{FilesReady, FilesStand, IsCopierReady, IsSettled, MayFind, MayFlagPlace};
-ghost use Rattle.hay_physical.specs.Runs.{CopierPeeked, EndsBy, EndsInDelete, FilesPeek, FilesRun, IsTight, KeepsFiles, RepeatsIn, Run, Swaps, stepped};
+ghost use Rattle.hay_physical.specs.Runs.{CopierPeeked, EndsBy, EndsInDelete, FilesPeek, FilesRun, IsTight, KeepsFiles, RemovedBoth, RepeatsIn, Run, Swaps, stepped};
 ghost use Rattle.hay_physical.specs.declared.state.Copier.TheVariants.{Ended, Standing};
 
 use crate::fault::ReplicaFault;
@@ -246,6 +246,7 @@ impl OpenFiles {
         ensures open { OnOk result ((self.new.frozen ≡ false) × (self.new.index.frozen ≡ false)) }
         ensures moved { OnOk result (self.new.head.generation ≡ self.old.head.generation + 1) }
         ensures goal { copier_goal self.new.copier ≡ None }
+        ensures removed { D.Tells → OnOk result (RemovedBoth (D.files disk.new) self.old.volume.file self.old.index.file (D.fault_count disk.old) (D.fault_count disk.new)) }
         ensures kept { D.Tells → (sup : Super) (s : Stored) → self.old.frozen ≡ false → FilesStand sup (D.files disk.old) self.old s →
             OnErr result (self.new.frozen ≡ false → FilesStand sup (D.files disk.new) self.new s) }
         ensures unsure { D.Tells → (sup : Super) (s : Stored) (run : Run) → self.old.frozen ≡ false → FilesStand sup (D.files disk.old) self.old s → FilesRun sup (D.files disk.old) self.old s run → run.left ≡ 0 →

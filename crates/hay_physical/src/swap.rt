@@ -14,7 +14,7 @@ ghost use Rattle.hay_compact.specs.Copying.{IsMaking, Making, stored_of};
 ghost use Rattle.hay_compact.specs.Finishing.{AreThePlaces};
 ghost use Rattle.hay_physical.specs.Faults.{IsRunFault};
 ghost use Rattle.hay_physical.specs.Replicas.{FilesReady, FilesStand, MayFind, MayFlagPlace};
-ghost use Rattle.hay_physical.specs.Runs.{KeepsBut, MaySwitch, Switches};
+ghost use Rattle.hay_physical.specs.Runs.{KeepsBut, MaySwitch, RemovedBoth, Switches};
 
 use crate::fault::ReplicaFault;
 use crate::state::OpenFiles;
@@ -43,6 +43,7 @@ impl OpenFiles {
         ensures flags { D.Tells → IfOk result (λ places. (pair : Pair) → MayFlagPlace (D.files disk.new) self.new (last_place places.items pair place.Gone)) }
         ensures ready { D.Tells → self.new.frozen ≡ false → FilesReady (D.files disk.new) self.new }
         ensures copier { self.new.copier ≡ self.old.copier }
+        ensures removed { D.Tells → OnOk result (RemovedBoth (D.files disk.new) self.old.volume.file self.old.index.file (D.fault_count disk.old) (D.fault_count disk.new)) }
 
         // A refusal leaves what stood, but where the head was not written whole an opening finds that or the new files.
         ensures kept { D.Tells → (sup : Super) (s : Stored) → FilesStand sup (D.files disk.old) self.old s →
@@ -82,6 +83,7 @@ impl OpenFiles {
             × (self.new ≡ record self.old { head = record { generation = self.old.head.generation + 1 }; volume = finished.volume; index = finished.index })) }
         ensures switches { D.Tells → 0 ≢ self.old.volume.file → 0 ≢ self.old.index.file → OnOk result (Switches (D.files disk.old 0) (D.files disk.new 0) self.old.head.generation) }
         ensures others { D.Tells → OnOk result (KeepsBut self.old.volume.file self.old.index.file (D.files disk.old) (D.files disk.new)) }
+        ensures removed { D.Tells → OnOk result (RemovedBoth (D.files disk.new) self.old.volume.file self.old.index.file (D.fault_count disk.old) (D.fault_count disk.new)) }
 
         ensures left { D.Tells → OnErr result (MaySwitch (D.files disk.old 0) (D.files disk.new 0) self.old.head.generation) }
         ensures err_others { D.Tells → OnErr result (KeepsOthers 0 (D.files disk.old) (D.files disk.new)) }
@@ -116,6 +118,7 @@ impl OpenFiles {
     ) -> Vec<OpenCell<D::Piece>>
         ensures places { result ≡ finished.places }
         ensures adopted { self.new ≡ record self.old { volume = finished.volume; index = finished.index } }
+        ensures removed { D.Tells → RemovedBoth (D.files disk.new) self.old.volume.file self.old.index.file (D.fault_count disk.old) (D.fault_count disk.new) }
         ensures others { D.Tells → (n : ℕ) → n ≢ self.old.volume.file → n ≢ self.old.index.file → D.files disk.new n ≡ D.files disk.old n }
         ensures counts { D.fault_count disk.old ≤ D.fault_count disk.new }
         ensures fuses { D.fuse_count disk.new ≡ D.fuse_count disk.old }

@@ -1,8 +1,9 @@
 -- Counts that never fall.
-use Rattle.std.proofs.Common.{◌≡◌, inl, inr, ℕ, zero, suc, ◌≤◌, List, [], ◌∷◌, sym, subst, arith}
-use Rattle.std.specs.Prelude.{slice_index}
+use Rattle.std.proofs.Common.{◌≡◌, inl, inr, ℕ, zero, suc, ◌<◌, ◌≤◌, Bool, true, List, [], ◌∷◌, length, Some, refl, sym, subst, arith}
+use Rattle.std.specs.Prelude.{slice_get, slice_index}
 use Rattle.hay_disk.specs.Counts.{Rose}
 use Rattle.hay_legal.specs.Known.{NoneFalls}
+use Rattle.hay_cluster.specs.Causes.{StaySure}
 
 pub NoneFalls-same : (counts : List ℕ) → NoneFalls counts counts
 NoneFalls-same [] = tt
@@ -30,3 +31,27 @@ NoneFalls-at (x ∷ a) [] i h = absurd h
 pub rose_more : (a b c : ℕ) → a ≤ b → Rose b c → Rose a c
 rose_more a b c h (inl less) = inl (omega arith)
 rose_more a b c h (inr most) = inr most
+
+-- arms that stay sure
+
+pub sure_more : {A : Type 0} (is_sure : A → Bool) (a b c : List A) → StaySure is_sure a b → StaySure is_sure b c → StaySure is_sure a c
+sure_more is_sure [] [] [] h k = tt
+sure_more is_sure (x ∷ a) (y ∷ b) (z ∷ c) h k = (λ is. k.0 (h.0 is), sure_more is_sure a b c h.1 k.1)
+sure_more is_sure [] [] (z ∷ c) h k = absurd k
+sure_more is_sure [] (y ∷ b) c h k = absurd h
+sure_more is_sure (x ∷ a) [] c h k = absurd h
+sure_more is_sure (x ∷ a) (y ∷ b) [] h k = absurd k
+
+-- the arm of a lane
+pub sure_at : {A : Type 0} (is_sure : A → Bool) (a b : List A) (lane : ℕ) (old : A) → StaySure is_sure a b → slice_get a lane ≡ Some old
+    → (new : A) × (slice_get b lane ≡ Some new) × (is_sure old ≡ true → is_sure new ≡ true)
+sure_at is_sure [] [] lane old h there = absurd cc
+sure_at {A} is_sure (x ∷ a) (y ∷ b) zero old h there = let same : x ≡ old = cc in (y, refl, subst (λ (z : A). is_sure z ≡ true → is_sure y ≡ true) same h.0)
+sure_at is_sure (x ∷ a) (y ∷ b) (suc lane) old h there = sure_at is_sure a b lane old h.1 there
+sure_at is_sure [] (y ∷ b) lane old h there = absurd h
+sure_at is_sure (x ∷ a) [] lane old h there = absurd h
+
+pub arm_there : {A : Type 0} (arms : List A) (lane : ℕ) → lane < length arms → (arm : A) × (slice_get arms lane ≡ Some arm)
+arm_there [] lane below = absurd (omega (arith, below))
+arm_there (arm ∷ arms) zero below = (arm, refl)
+arm_there (arm ∷ arms) (suc lane) below = arm_there arms lane (omega (arith, below))

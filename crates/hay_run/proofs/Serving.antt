@@ -1,19 +1,21 @@
 -- From the stop of a turn to that of all turns.
-use Rattle.std.proofs.Common.{◌≡◌, ◌⊎◌, inl, inr, ℕ, ◌<◌, List, [], Option, None, ap, subst}
+use Rattle.std.proofs.Common.{◌≡◌, ◌⊎◌, inl, inr, ℕ, ◌<◌, List, [], ◌++◌, Option, None, Some, ap, subst, ◌∙◌, append_assoc}
 use Rattle.std.specs.Prelude.{slice_index, Result, Err, IsErrOf}
+use Rattle.hay_disk.specs.Disk.{Files}
 use Rattle.hay_disk.specs.Streams.{Wrote}
 use Rattle.hay_needle.specs.declared.settings.Settings.{Settings}
 use Rattle.hay_legal.specs.Items.{Asked}
 use Rattle.hay_legal.specs.Known.{NoneFalls, disk_count}
 use Rattle.hay_reply.specs.declared.Note.{Note}
-use Rattle.hay_reply.specs.declared.Note.TheVariants as note
-use Rattle.hay_cluster.specs.Store.{Open}
+use Rattle.hay_reply.specs.Replies.{note_line}
+use Rattle.hay_cluster.specs.Outside.{IsDamagedDisk}
+use Rattle.hay_cluster.specs.Store.{Open, contents_in}
 use Rattle.hay_run.specs.declared.stops.Stop.{Stop}
 use Rattle.hay_run.specs.declared.stops.Stop.TheVariants as stop
 use Rattle.hay_run.specs.Items.{TookOpen}
 use Rattle.hay_run.specs.Lines.{TookPart, TookOver, TookSome}
 use Rattle.hay_run.specs.Stream.{Held}
-use Rattle.hay_run.specs.Turns.{Standing, AnswersFrom, Broke, RestartRefused, StopsTurn, HoldsNone, counts_of, RefusedFor, Halts}
+use Rattle.hay_run.specs.Turns.{Standing, AnswersAll, Appends, Broke, RestartRefused, StopsTurn, HoldsNone, counts_of, RefusedFor, Halts}
 use Rattle.hay_run.proofs.Counting.{NoneFalls-at, rose_more}
 
 module _ {D P A : Type 0} (Tells : Type 0) (Begins Left : Standing D P A) (number : ℕ) (rest written after written' : Option (List ℕ)) (store store' : Open D P A) (r : Result ℕ Stop) where
@@ -43,28 +45,41 @@ holds_none r held stop.Output is none = tt
 holds_none r held stop.NoMemory is none = tt
 holds_none r held stop.Store is none = tt
 
-refused_more : {D P A : Type 0} (Tells : Type 0) (Stands : Standing D P A) (faults : D → ℕ) (asked : List Asked) (written written' : Option (List ℕ)) (store mid store' : Open D P A) (told : Note)
-    → mid.settings ≡ store.settings → NoneFalls (counts_of faults store) (counts_of faults mid) → AnswersFrom Tells Wrote Stands Stands asked store written mid written'
-    → RefusedFor Tells Stands faults mid store' told → RefusedFor Tells Stands faults store store' told
-refused_more Tells Stands faults asked written written' store mid store' (note.OpenFailed slot count) same later answers h =
-    let P : Settings → Type 0 = λ settings. slot < disk_count settings in (
-      subst P same h.0,
+refused_more : {D P A : Type 0} (Tells : Type 0) (Stands : Standing D P A) (files : D → Files) (faults : D → ℕ) (asked : List Asked) (written written' : Option (List ℕ)) (store mid store' : Open D P A) (told : Note)
+    → mid.settings ≡ store.settings → NoneFalls (counts_of faults store) (counts_of faults mid) → AnswersAll Tells Stands asked store written mid written'
+    → RefusedFor Tells Stands files faults mid store' told → RefusedFor Tells Stands files faults store store' told
+refused_more Tells Stands files faults asked written written' store mid store' told same later answers (inl (slot, count, is, below, rose, count_is)) =
+    inl (
+      slot,
+      count,
+      is,
+      subst (λ (settings : Settings). slot < disk_count settings) same below,
       rose_more (slice_index (counts_of faults store) slot) (slice_index (counts_of faults mid) slot) (slice_index (counts_of faults store') slot)
-          (NoneFalls-at (counts_of faults store) (counts_of faults mid) slot later) h.1,
-      h.2,
+          (NoneFalls-at (counts_of faults store) (counts_of faults mid) slot later) rose,
+      count_is,
     )
-refused_more Tells Stands faults asked written written' store mid store' (note.OpenDamaged slot file at) same later answers h =
-    λ tells k stands. let a = answers tells k stands in h tells a.t a.left
-refused_more Tells Stands faults asked written written' store mid store' (note.Kept v m line) same later answers h = absurd h
-refused_more Tells Stands faults asked written written' store mid store' (note.Lost v m line) same later answers h = absurd h
-refused_more Tells Stands faults asked written written' store mid store' (note.KeptDir line) same later answers h = absurd h
-refused_more Tells Stands faults asked written written' store mid store' (note.LostDir line) same later answers h = absurd h
-refused_more Tells Stands faults asked written written' store mid store' (note.Log v from lines) same later answers h = absurd h
-refused_more Tells Stands faults asked written written' store mid store' (note.Rows from rows) same later answers h = absurd h
-refused_more Tells Stands faults asked written written' store mid store' (note.OpenShelf count) same later answers h = absurd h
+refused_more Tells Stands files faults asked written written' store mid store' told same later answers (inr (slot, file, at, is, damaged)) =
+    inr (
+      slot,
+      file,
+      at,
+      is,
+      λ tells. (
+        λ k stands. let a = answers tells k stands in (damaged tells).0 a.t a.left,
+        subst (λ (settings : Settings). IsDamagedDisk settings (contents_in files store') slot file at) same (damaged tells).1,
+      ),
+    )
 
-pub halts_more : {D P A : Type 0} (Tells : Type 0) (Stands : Standing D P A) (faults : D → ℕ) (asked : List Asked) (written written' written'' : Option (List ℕ)) (store mid store' : Open D P A)
-    → mid.settings ≡ store.settings → NoneFalls (counts_of faults store) (counts_of faults mid) → AnswersFrom Tells Wrote Stands Stands asked store written mid written'
-    → Halts Tells Stands faults mid store' written'' → Halts Tells Stands faults store store' written''
-halts_more Tells Stands faults asked written written' written'' store mid store' same later answers h =
-    (h.0, refused_more Tells Stands faults asked written written' store mid store' h.0 same later answers h.1, h.2)
+pub halts_more : {D P A : Type 0} (Tells : Type 0) (Stands : Standing D P A) (files : D → Files) (faults : D → ℕ) (asked : List Asked) (written written' written'' : Option (List ℕ)) (store mid store' : Open D P A)
+    → mid.settings ≡ store.settings → NoneFalls (counts_of faults store) (counts_of faults mid) → Appends written written' → AnswersAll Tells Stands asked store written mid written'
+    → Halts Tells Stands files faults mid store' written' written'' → Halts Tells Stands files faults store store' written written''
+halts_more Tells Stands files faults asked written written' written'' store mid store' same later appends answers h = record {
+  note = h.note;
+  why = refused_more Tells Stands files faults asked written written' store mid store' h.note same later answers h.why;
+  told = λ held is.
+      let first = appends held is in
+      let next = h.told (held ++ first.0) first.1 in (
+        first.0 ++ next.0,
+        next.1 ∙ ap (λ (bytes : List ℕ). Some (bytes ++ note_line h.note)) (append_assoc held first.0 next.0),
+      );
+}

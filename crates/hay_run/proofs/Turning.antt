@@ -13,11 +13,14 @@ use Rattle.hay_script.specs.declared.Command.{Command}
 use Rattle.hay_script.specs.declared.Command.TheVariants as asks
 use Rattle.hay_reply.specs.declared.Note.{Note}
 use Rattle.hay_reply.specs.declared.Reply.{Reply}
-use Rattle.hay_reply.specs.declared.Reply.TheVariants.{BadLine}
+use Rattle.hay_reply.specs.declared.Reply.TheVariants.{BadLine, Restarted}
 use Rattle.hay_reply.specs.Replies.{numbered_line, note_line}
 use Rattle.hay_legal.specs.declared.known.Known.{Known}
 use Rattle.hay_legal.specs.declared.turn.Item.{Item}
 use Rattle.hay_legal.specs.declared.turn.Item.TheVariants as item
+use Rattle.hay_legal.specs.declared.turn.LaneItem.{LaneItem}
+use Rattle.hay_legal.specs.declared.turn.LogNote.{LogNote}
+use Rattle.hay_legal.specs.declared.turn.RowNote.{RowNote}
 use Rattle.hay_legal.specs.declared.turn.Turn.{Turn}
 use Rattle.hay_legal.specs.declared.turn.Turn.TheVariants.{Plain, Lanes, Restart}
 use Rattle.hay_legal.specs.Items.{Asked, InBlock, item_of_turn, line_asked}
@@ -28,7 +31,7 @@ use Rattle.hay_legal.specs.Plain.{LegalCommand}
 use Rattle.hay_legal.specs.Restarts.{LegalRestart}
 use Rattle.hay_legal.specs.Transcript.{turn_text, answered_line}
 use Rattle.hay_cluster.specs.Store.{Open}
-use Rattle.hay_run.specs.Turns.{Writing, Standing, Answers}
+use Rattle.hay_run.specs.Turns.{Writing, Standing, Answers, Appends, GoesOn}
 use Rattle.hay_run.specs.Unbuilt.{unbuilt_reply, unbuilt_text, unbuilt_line}
 use Rattle.hay_run.proofs.Counting.{NoneFalls-same}
 
@@ -52,7 +55,7 @@ wrote_more (Some old) (Some new) after a b h k =
 
 -- nothing changes
 
-leaves_same : (k : Known) → Leaves k k k
+pub leaves_same : (k : Known) → Leaves k k k
 leaves_same k = record { volumes = refl; directory = refl; drained = refl; fuses = refl; faults = NoneFalls-same k.faults; arms = NoneFalls-same k.arms }
 
 -- a block that is not built yet
@@ -89,70 +92,109 @@ wrote_part-by before after text wrote = let P : List ℕ → Type 0 = λ bytes. 
 pub wrote_part : (before after : Option (List ℕ)) (text : List ℕ) → Wrote before text after → WrotePart before text after
 wrote_part before after text wrote = (length text, wrote_part-by before after text wrote)
 
+-- TURNS THAT GO ON
+
+pub each_more : (Is : Turn → Type 0) (turns more : List Turn) → AllByRecursion Is turns → AllByRecursion Is more → AllByRecursion Is (turns ++ more)
+each_more Is [] more h k = k
+each_more Is (turn ∷ turns) more h k = (h.0, each_more Is turns more h.1 k)
+
+pub plain_goes_on : (line : ℕ) (item : Item) (reply : Reply) (after : Known) → GoesOn (Plain line item reply after)
+plain_goes_on line item reply after = λ line' pick notes after' is. cc
+
+pub block_goes_on : (items : List LaneItem) (logs : List LogNote) (rows : RowNote) (after : Known) → GoesOn (Lanes items logs rows after)
+block_goes_on items logs rows after = λ line pick notes after' is. cc
+
+pub restarted_goes_on : (line pick d : ℕ) (notes : List Note) (after : Known) → GoesOn (Restart line pick (Restarted d) notes after)
+restarted_goes_on line pick d notes after = λ line' pick' notes' after' is. cc
+
+-- WHAT A SINK HOLDS
+
+pub appends_nothing : (written : Option (List ℕ)) → Appends written written
+appends_nothing written held is = ([], is ∙ ap (λ (bytes : List ℕ). Some bytes) (sym (append-nil held)))
+
+pub appends_more : (a b c : Option (List ℕ)) → Appends a b → Appends b c → Appends a c
+appends_more a b c h k held is =
+    let first = h held is in
+    let next = k (held ++ first.0) first.1 in
+    (first.0 ++ next.0, next.1 ∙ ap (λ (bytes : List ℕ). Some bytes) (append_assoc held first.0 next.0))
+
+pub wrote_appends : (before after : Option (List ℕ)) (text : List ℕ) → Wrote before text after → Appends before after
+wrote_appends None after text wrote = λ held is. cc
+wrote_appends (Some old) after text wrote = λ held is. (text, (let same : old ≡ held = cc in subst (λ (bytes : List ℕ). after ≡ Some (bytes ++ text)) same wrote))
+
+pub part_appends : (before after : Option (List ℕ)) (text : List ℕ) → WrotePart before text after → Appends before after
+part_appends before after text part = wrote_appends before after (take part.0 text) part.1
+
 -- ANSWERS
 
 module _ {D P A : Type 0} (Left : Standing D P A) where
   pub answers_nothing : (k : Known) (written : Option (List ℕ)) (store : Open D P A) → Left store k
-      → Answers Wrote Left k [] written store written
+      → Answers GoesOn Wrote Left k [] written store written
   answers_nothing k written store left = record {
     turns = [];
     t = k;
+    each = tt;
     items = refl;
     legal = refl;
     left = left;
     wrote = wrote_nothing written;
   }
 
-  pub answers_bad : (Writes : Writing) (k : Known) (number : ℕ) (written written' : Option (List ℕ)) (store : Open D P A)
+  pub answers_bad : (Is : Turn → Type 0) → ((line : ℕ) (item : Item) (reply : Reply) (after : Known) → Is (Plain line item reply after)) → (Writes : Writing) (k : Known) (number : ℕ) (written written' : Option (List ℕ)) (store : Open D P A)
       → Left store k → Writes written (numbered_line number BadLine) written'
-      → Answers Writes Left k (Alone number item.Bad ∷ []) written store written'
-  answers_bad Writes k number written written' store left wrote =
+      → Answers Is Writes Left k (Alone number item.Bad ∷ []) written store written'
+  answers_bad Is is Writes k number written written' store left wrote =
       let P : List ℕ → Type 0 = λ text. Writes written text written' in
       record {
         turns = Plain number item.Bad BadLine k ∷ [];
         t = k;
+        each = (is number item.Bad BadLine k, tt);
         items = refl;
         legal = ((refl, leaves_same k), refl);
         left = left;
         wrote = subst P (sym (append-nil (numbered_line number BadLine))) wrote;
       }
 
-  pub answers_plain : (Writes : Writing) (k t : Known) (number : ℕ) (command : Command) (reply : Reply) (written written' : Option (List ℕ)) (store : Open D P A)
+  pub answers_plain : (Is : Turn → Type 0) → ((line : ℕ) (item : Item) (reply : Reply) (after : Known) → Is (Plain line item reply after)) → (Writes : Writing) (k t : Known) (number : ℕ) (command : Command) (reply : Reply) (written written' : Option (List ℕ)) (store : Open D P A)
       → LegalCommand store.settings k (record { lane = 0; line = number }) command reply t → Left store t → Writes written (numbered_line number reply) written'
-      → Answers Writes Left k (Alone number (item.Command command) ∷ []) written store written'
-  answers_plain Writes k t number command reply written written' store legal left wrote =
+      → Answers Is Writes Left k (Alone number (item.Command command) ∷ []) written store written'
+  answers_plain Is is Writes k t number command reply written written' store legal left wrote =
       let P : List ℕ → Type 0 = λ text. Writes written text written' in
       record {
         turns = Plain number (item.Command command) reply t ∷ [];
         t = t;
+        each = (is number (item.Command command) reply t, tt);
         items = refl;
         legal = (legal, refl);
         left = left;
         wrote = subst P (sym (append-nil (numbered_line number reply))) wrote;
       }
 
-  pub answers_restart : (Writes : Writing) (k t : Known) (number pick : ℕ) (reply : Reply) (notes : List Note) (written written' : Option (List ℕ)) (store : Open D P A)
+  pub answers_restart : (Is : Turn → Type 0) (Writes : Writing) (k t : Known) (number pick : ℕ) (reply : Reply) (notes : List Note) (written written' : Option (List ℕ)) (store : Open D P A)
+      → Is (Restart number pick reply notes t)
       → LegalRestart store.settings k reply notes t → Left store t → Writes written (numbered_line number reply ++ flat_map note_line notes) written'
-      → Answers Writes Left k (Alone number (item.Command (asks.Restart pick)) ∷ []) written store written'
-  answers_restart Writes k t number pick reply notes written written' store legal left wrote =
+      → Answers Is Writes Left k (Alone number (item.Command (asks.Restart pick)) ∷ []) written store written'
+  answers_restart Is Writes k t number pick reply notes written written' store is legal left wrote =
       let P : List ℕ → Type 0 = λ text. Writes written text written' in
       record {
         turns = Restart number pick reply notes t ∷ [];
         t = t;
+        each = (is, tt);
         items = refl;
         legal = (legal, refl);
         left = left;
         wrote = subst P (sym (append-nil (numbered_line number reply ++ flat_map note_line notes))) wrote;
       }
 
-  pub answers_block : (Writes : Writing) (k : Known) (lines : List InBlock) (written written' : Option (List ℕ)) (store : Open D P A)
+  pub answers_block : (Is : Turn → Type 0) → ((items : List LaneItem) (logs : List LogNote) (rows : RowNote) (after : Known) → Is (Lanes items logs rows after)) → (Writes : Writing) (k : Known) (lines : List InBlock) (written written' : Option (List ℕ)) (store : Open D P A)
       → Left store k → Writes written (flat_map unbuilt_text lines) written'
-      → Answers Writes Left k (Block lines ∷ []) written store written'
-  answers_block Writes k lines written written' store left wrote =
+      → Answers Is Writes Left k (Block lines ∷ []) written store written'
+  answers_block Is is Writes k lines written written' store left wrote =
       let P : List ℕ → Type 0 = λ text. Writes written text written' in
       record {
         turns = Lanes (map unbuilt_line lines) [] (record { from = 0; rows = [] }) k ∷ [];
         t = k;
+        each = (is (map unbuilt_line lines) [] (record { from = 0; rows = [] }) k, tt);
         items = ap (λ (items : List InBlock). Block items ∷ []) (asked_lines lines);
         legal = (inr (record { lines = all_unbuilt lines; no_entries = refl; no_rows = refl; leaves = leaves_same k }), refl);
         left = left;
@@ -160,20 +202,20 @@ module _ {D P A : Type 0} (Left : Standing D P A) where
       }
 
 -- turns behind others
-pub answers_more : {D P A : Type 0} (Between Left : Standing D P A) (Writes : Writing)
-    → ((before mid after : Option (List ℕ)) (a b : List ℕ) → Wrote before a mid → Writes mid b after → Writes before (a ++ b) after)
+pub answers_more : {D P A : Type 0} (Stands : Standing D P A)
     → (k : Known) (asked more : List Asked) (written written' written'' : Option (List ℕ)) (store store' : Open D P A)
     → store'.settings ≡ store.settings
-    → (first : Answers Wrote Between k asked written store written') → Answers Writes Left first.t more written' store' written''
-    → Answers Writes Left k (asked ++ more) written store' written''
-answers_more Between Left Writes joins k asked more written written' written'' store store' same first next =
+    → (first : Answers GoesOn Wrote Stands k asked written store written') → Answers GoesOn Wrote Stands first.t more written' store' written''
+    → Answers GoesOn Wrote Stands k (asked ++ more) written store' written''
+answers_more Stands k asked more written written' written'' store store' same first next =
     let P : Settings → Type 0 = λ settings. Legal settings k first.turns first.t in
-    let Q : List ℕ → Type 0 = λ text. Writes written text written'' in
+    let Q : List ℕ → Type 0 = λ text. Wrote written text written'' in
     record {
       turns = first.turns ++ next.turns;
       t = next.t;
+      each = each_more GoesOn first.turns next.turns first.each next.each;
       items = map-append item_of_turn first.turns next.turns ∙ ap (λ (items : List Asked). items ++ map item_of_turn next.turns) first.items ∙ ap (λ (items : List Asked). asked ++ items) next.items;
       legal = legal_more store'.settings k first.turns first.t next.turns next.t (subst P (sym same) first.legal) next.legal;
       left = next.left;
-      wrote = subst Q (sym (flat_map-append turn_text first.turns next.turns)) (joins written written' written'' (flat_map turn_text first.turns) (flat_map turn_text next.turns) first.wrote next.wrote);
+      wrote = subst Q (sym (flat_map-append turn_text first.turns next.turns)) (wrote_more written written' written'' (flat_map turn_text first.turns) (flat_map turn_text next.turns) first.wrote next.wrote);
     }

@@ -7,7 +7,7 @@ use Rattle.hay_legal.specs.declared.turn.Item.TheVariants as item
 use Rattle.hay_legal.specs.Items.{Asked}
 use Rattle.hay_legal.specs.Items.Asked.{Alone}
 use Rattle.hay_cluster.specs.Store.{Open}
-use Rattle.hay_run.specs.Turns.{Writing, Standing, AnswersFrom, Refused}
+use Rattle.hay_run.specs.Turns.{Writing, Standing, AnswersPart, Refused}
 
 -- the line asks for a restart, and its opening was refused
 abbrev pub RefusedAsked : {D P A : Type 0} → Type 0 → Writing → Standing D P A → Standing D P A → ℕ → List Asked → Open D P A → Option (List ℕ) → Open D P A → Option (List ℕ) → Type 0
@@ -18,5 +18,5 @@ RefusedAsked Tells Writes Stands Left number asked store written store' written'
 -- the line was answered, or its restart was refused, and only a front of the text was written
 abbrev pub BrokeAsked : {D P A : Type 0} → Type 0 → Standing D P A → Standing D P A → ℕ → List Asked → Open D P A → Option (List ℕ) → Open D P A → Option (List ℕ) → Type 0
 BrokeAsked Tells Stands Left number asked store written store' written' =
-    AnswersFrom Tells WrotePart Stands Left asked store written store' written'
+    AnswersPart Tells Stands Left asked store written store' written'
     ⊎ RefusedAsked Tells WrotePart Stands Left number asked store written store' written'

@@ -1,21 +1,25 @@
 -- What turns do.
-use Rattle.std.specs.Prelude.{◌≡◌, ◌⊎◌, ℕ, ◌<◌, ◌≤◌, slice_index, List, [], ◌∷◌, length, Option, None, Bool, false, map, flat_map}
+use Rattle.std.specs.Prelude.{◌≡◌, ◌⊎◌, ℕ, ◌<◌, ◌≤◌, slice_index, List, [], ◌∷◌, ◌++◌, length, Option, None, Some, Bool, false, map, flat_map}
+use Rattle.std.specs.List.{AllByRecursion}
 use Rattle.hay_disk.specs.Counts.{Rose}
+use Rattle.hay_disk.specs.Disk.{Files}
 use Rattle.hay_disk.specs.Streams.{Wrote, WrotePart}
 use Rattle.hay_script.specs.declared.Command.TheVariants as command
 use Rattle.hay_reply.specs.declared.Note.{Note}
 use Rattle.hay_reply.specs.declared.Note.TheVariants.{OpenFailed, OpenDamaged}
+use Rattle.hay_reply.specs.declared.Reply.TheVariants.{NoMem}
 use Rattle.hay_reply.specs.Replies.{note_line}
 use Rattle.hay_legal.specs.declared.known.Known.{Known}
 use Rattle.hay_legal.specs.declared.turn.Item.TheVariants as item
 use Rattle.hay_legal.specs.declared.turn.Turn.{Turn}
+use Rattle.hay_legal.specs.declared.turn.Turn.TheVariants.{Restart}
 use Rattle.hay_legal.specs.Items.{Asked, item_of_turn}
 use Rattle.hay_legal.specs.Items.Asked.{Alone}
-use Rattle.hay_legal.specs.Known.{Leaves, disk_count}
+use Rattle.hay_legal.specs.Known.{CameUp, Leaves, disk_count, fault_count}
 use Rattle.hay_legal.specs.Legal.{Legal}
-use Rattle.hay_legal.specs.Statuses.{TellsOpening}
 use Rattle.hay_legal.specs.Transcript.{turn_text}
-use Rattle.hay_cluster.specs.Store.{Open, disks_of}
+use Rattle.hay_cluster.specs.Outside.{IsDamagedDisk}
+use Rattle.hay_cluster.specs.Store.{Open, contents_in, disks_of}
 use Rattle.hay_run.specs.declared.stops.Stop.{Stop}
 use Rattle.hay_run.specs.declared.stops.Stop.TheVariants as stop
 use Rattle.hay_run.specs.Stream.{Held, rest_of}
@@ -30,32 +34,49 @@ Writing = Option (List ℕ) → List ℕ → Option (List ℕ) → Type 0
 abbrev pub Standing : Type 0 → Type 0 → Type 0 → Type 1
 Standing D P A = Open D P A → Known → Type 0
 
--- Turns, legal from k, answer these items, and the store is left at what the last one left. Their text was written.
-pub record Answers {D P A : Type 0} (Writes : Writing) (Left : Standing D P A) (k : Known) (asked : List Asked) (written : Option (List ℕ)) (store : Open D P A) (written' : Option (List ℕ)) : Type 0 where
+-- A turn that goes on: no restart that wanted memory.
+abbrev pub GoesOn : Turn → Type 0
+GoesOn turn = (line pick : ℕ) (notes : List Note) (after : Known) → turn ≡ Restart line pick NoMem notes after → ⊥
+
+abbrev pub AnyTurn : Turn → Type 0
+AnyTurn turn = Unit {0}
+
+-- Turns of this kind, legal from k, answer these items, and the store is left at what the last one left. Their text was written.
+pub record Answers {D P A : Type 0} (Is : Turn → Type 0) (Writes : Writing) (Left : Standing D P A) (k : Known) (asked : List Asked) (written : Option (List ℕ)) (store : Open D P A) (written' : Option (List ℕ)) : Type 0 where
   pub turns : List Turn
   pub t : Known
+  pub each : AllByRecursion Is turns
   pub items : map item_of_turn turns ≡ asked
   pub legal : Legal store.settings k turns t
   pub left : Left store t
   pub wrote : Writes written (flat_map turn_text turns) written'
 
--- whatever state a store that tells stands at, these items are answered from it
-abbrev pub AnswersFrom : {D P A : Type 0} → Type 0 → Writing → Standing D P A → Standing D P A → List Asked → Open D P A → Option (List ℕ) → Open D P A → Option (List ℕ) → Type 0
-AnswersFrom Tells Writes Stands Left asked store written store' written' =
-    Tells → (k : Known) → Stands store k → Answers Writes Left k asked written store' written'
+-- Whatever state a store that tells stands at, these items are answered from it: in whole turns behind which it stands, or so that
+-- a front of their text was written.
+abbrev pub AnswersAll : {D P A : Type 0} → Type 0 → Standing D P A → List Asked → Open D P A → Option (List ℕ) → Open D P A → Option (List ℕ) → Type 0
+AnswersAll Tells Stands asked store written store' written' =
+    Tells → (k : Known) → Stands store k → Answers GoesOn Wrote Stands k asked written store' written'
+
+abbrev pub AnswersPart : {D P A : Type 0} → Type 0 → Standing D P A → Standing D P A → List Asked → Open D P A → Option (List ℕ) → Open D P A → Option (List ℕ) → Type 0
+AnswersPart Tells Stands Left asked store written store' written' =
+    Tells → (k : Known) → Stands store k → Answers AnyTurn WrotePart Left k asked written store' written'
+
+-- a sink that tells holds what it held, and perhaps more behind it
+abbrev pub Appends : Option (List ℕ) → Option (List ℕ) → Type 0
+Appends before after = (held : List ℕ) → before ≡ Some held → (text : List ℕ) × (after ≡ Some (held ++ text))
 
 -- Lines were taken, of which the first has this number, and what they ask for was answered. The next line has the other
 -- number.
 pub record Turned {D P A : Type 0} (Tells : Type 0) (Stands : Standing D P A) (store : Open D P A) (number : ℕ) (before written : Option (List ℕ)) (store' : Open D P A) (next : ℕ) (after : Option (List ℕ)) (ended : Bool) (written' : Option (List ℕ)) : Type 0 where
   pub asked : List Asked
   pub took : TookItems number None before asked next after ended
-  pub answers : AnswersFrom Tells Wrote Stands Stands asked store written store' written'
+  pub answers : AnswersAll Tells Stands asked store written store' written'
 
 -- All that a script asks for was answered.
 pub record Serves {D P A : Type 0} (Tells : Type 0) (Stands : Standing D P A) (script : Option (List ℕ)) (store : Open D P A) (written : Option (List ℕ)) (store' : Open D P A) (written' : Option (List ℕ)) : Type 0 where
   pub asked : List Asked
   pub all : AsksAll script asked
-  pub answers : AnswersFrom Tells Wrote Stands Stands asked store written store' written'
+  pub answers : AnswersAll Tells Stands asked store written store' written'
 
 -- HOW A TURN STOPS
 
@@ -66,17 +87,19 @@ pub record TurnedPart {D P A : Type 0} (Tells : Type 0) (Stands Left : Standing 
   pub next : ℕ
   pub ended : Bool
   pub took : TookItems number None before asked next after ended
-  pub answers : AnswersFrom Tells WrotePart Stands Left asked store written store' written'
+  pub answers : AnswersPart Tells Stands Left asked store written store' written'
 
--- The opening of a restart was refused. The store is left at what it stood at, but for counts that may have risen, and how
--- the opening was refused was written.
+-- The opening of a restart was refused for a disk that failed. The store is left at what it stood at, but for counts that may
+-- have risen, and how the opening was refused was written.
 pub record Refused {D P A : Type 0} (Writes : Writing) (Left : Standing D P A) (k : Known) (written : Option (List ℕ)) (store : Open D P A) (written' : Option (List ℕ)) : Type 0 where
   pub t : Known
   pub leaves : Leaves k k t
   pub left : Left store t
-  pub note : Note
-  pub tells : TellsOpening k note
-  pub wrote : Writes written (note_line note) written'
+  pub slot : ℕ
+  pub count : ℕ
+  pub within : slot < disk_count store.settings
+  pub came : CameUp (fault_count k slot) count (fault_count t slot)
+  pub wrote : Writes written (note_line (OpenFailed slot count)) written'
 
 pub record RestartRefused {D P A : Type 0} (Tells : Type 0) (Writes : Writing) (Stands Left : Standing D P A) (store : Open D P A) (number : ℕ) (before written : Option (List ℕ)) (store' : Open D P A) (after written' : Option (List ℕ)) : Type 0 where
   pub pick : ℕ
@@ -119,7 +142,7 @@ pub record ServedUntil {D P A : Type 0} (Tells : Type 0) (Stands Left : Standing
   pub mid : Open D P A
   pub text : Option (List ℕ)
   pub took : TookItems 1 None script asked number rest false
-  pub answers : AnswersFrom Tells Wrote Stands Stands asked store written mid text
+  pub answers : AnswersAll Tells Stands asked store written mid text
   pub settings : mid.settings ≡ store.settings
   pub held : Held
   pub none : HoldsNone why held
@@ -131,15 +154,17 @@ pub record ServedUntil {D P A : Type 0} (Tells : Type 0) (Stands Left : Standing
 abbrev pub counts_of : {D P A : Type 0} → (D → ℕ) → Open D P A → List ℕ
 counts_of faults store = map faults (disks_of store)
 
--- The disk in a slot failed, and its count rose to the one that is told, or the store that is told stood at nothing.
-abbrev pub RefusedFor : {D P A : Type 0} → Type 0 → Standing D P A → (D → ℕ) → Open D P A → Open D P A → Note → Type 0
-RefusedFor Tells Stands faults store store' (OpenFailed slot count) =
-    (slot < disk_count store.settings) × Rose (slice_index (counts_of faults store) slot) (slice_index (counts_of faults store') slot)
-    × (count ≡ slice_index (counts_of faults store') slot)
-RefusedFor Tells Stands faults store store' (OpenDamaged slot file at) = (Tells → (k : Known) → Stands store k → ⊥)
-RefusedFor Tells Stands faults store store' _ = ⊥
+-- The disk in a slot failed, and its count rose to the one that is told; or the store stood at nothing, and the disk that it is
+-- left with in the slot is damaged at the place that is told.
+abbrev pub RefusedFor : {D P A : Type 0} → Type 0 → Standing D P A → (D → Files) → (D → ℕ) → Open D P A → Open D P A → Note → Type 0
+RefusedFor Tells Stands files faults store store' note =
+    ((slot : ℕ) × (count : ℕ) × (note ≡ OpenFailed slot count) × (slot < disk_count store.settings)
+    × Rose (slice_index (counts_of faults store) slot) (slice_index (counts_of faults store') slot) × (count ≡ slice_index (counts_of faults store') slot))
+    ⊎ ((slot : ℕ) × (file : ℕ) × (at : ℕ) × (note ≡ OpenDamaged slot file at)
+    × (Tells → ((k : Known) → Stands store k → ⊥) × IsDamagedDisk store.settings (contents_in files store') slot file at))
 
--- so it was told, and nothing was written behind it
-abbrev pub Halts : {D P A : Type 0} → Type 0 → Standing D P A → (D → ℕ) → Open D P A → Open D P A → Option (List ℕ) → Type 0
-Halts Tells Stands faults store store' written' =
-    (note : Note) × RefusedFor Tells Stands faults store store' note × ((before : Option (List ℕ)) × Wrote before (note_line note) written')
+-- so it was told, behind what was written before
+pub record Halts {D P A : Type 0} (Tells : Type 0) (Stands : Standing D P A) (files : D → Files) (faults : D → ℕ) (store store' : Open D P A) (written written' : Option (List ℕ)) : Type 0 where
+  pub note : Note
+  pub why : RefusedFor Tells Stands files faults store store' note
+  pub told : (held : List ℕ) → written ≡ Some held → (text : List ℕ) × (written' ≡ Some (held ++ text ++ note_line note))

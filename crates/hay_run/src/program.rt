@@ -7,12 +7,13 @@ ghost use Rattle.hay_legal.specs.declared.known.Known.{Known};
 ghost use Rattle.hay_needle.specs.declared.settings.Settings.{Settings};
 ghost use Rattle.hay_legal.specs.Known.{disk_count};
 ghost use Rattle.hay_legal.specs.Statuses.{Ending, status_of};
-ghost use Rattle.hay_cluster.specs.Outside.{outside_of};
+ghost use Rattle.hay_cluster.specs.Outside.{IsUndamaged, outside_of, read_of};
 ghost use Rattle.hay_cluster.specs.Store.{IsBuilt};
 ghost use Rattle.hay_run.specs.declared.stops.Stop.{Stop};
 ghost use Rattle.hay_run.specs.Stream.{IsReadToEnd};
 ghost use Rattle.hay_run.specs.Stops.{ending_of};
-ghost use Rattle.hay_run.specs.Runs.{IsTaken, IsUnread, RanTo, NotOpenedFor};
+ghost use Rattle.hay_run.specs.Runs.{HasOpened, IsNotOpened, IsNotOpenedBehind, IsSureStill, IsTaken, IsUnread, RanTo};
+ghost use Rattle.hay_run.specs.Turns.{Appends};
 ghost use Rattle.hay_run.specs.Words.{SaysRun};
 
 use crate::bytes::SCRIPT;
@@ -38,15 +39,15 @@ fn answer_script<H: Shelf, S: Source, K: Sink>(
     requires disks_in { AreIn (disk_count settings) (H.disks shelf.old) }
     requires arms_in { AreArmsIn 8 (H.arms shelf.old) }
     ensures ran { H.Disk.Tells → OnOk result ((k : Known) →
-        IsTaken settings (outside_of (H.disks shelf.old) (H.arms shelf.old)) k → (script held : List ℕ) →
+        IsTaken settings (outside_of (H.fault_count shelf.old) (H.disks shelf.old) (H.arms shelf.old)) k → (script held : List ℕ) →
         S.left source.old ≡ Some script → K.written sink.old ≡ Some (held ++ texts.header_line settings) →
-        RanTo settings Ending.ReadAll script (S.left source.new) (outside_of (H.disks shelf.old) (H.arms shelf.old))
-        (outside_of (H.disks shelf.new) (H.arms shelf.new)) held (K.written sink.new)) }
+        RanTo settings k Ending.ReadAll script (S.left source.new) (outside_of (H.fault_count shelf.old) (H.disks shelf.old) (H.arms shelf.old))
+        (outside_of (H.fault_count shelf.new) (H.disks shelf.new) (H.arms shelf.new)) held (K.written sink.new)) }
     ensures stopped { H.Disk.Tells → (stop : Stop) → result ≡ Err stop → (k : Known) →
-        IsTaken settings (outside_of (H.disks shelf.old) (H.arms shelf.old)) k → (script held : List ℕ) →
+        IsTaken settings (outside_of (H.fault_count shelf.old) (H.disks shelf.old) (H.arms shelf.old)) k → (script held : List ℕ) →
         S.left source.old ≡ Some script → K.written sink.old ≡ Some (held ++ texts.header_line settings) →
-        RanTo settings (ending_of stop) script (S.left source.new) (outside_of (H.disks shelf.old) (H.arms shelf.old))
-        (outside_of (H.disks shelf.new) (H.arms shelf.new)) held (K.written sink.new) }
+        RanTo settings k (ending_of stop) script (S.left source.new) (outside_of (H.fault_count shelf.old) (H.disks shelf.old) (H.arms shelf.old))
+        (outside_of (H.fault_count shelf.new) (H.disks shelf.new) (H.arms shelf.new)) held (K.written sink.new) }
     ensures ended { OnOk result (IsReadToEnd (S.left source.old) (S.left source.new)) }
     ensures short { OnOk result ((script : List ℕ) → S.left source.old ≡ Some script → length script ≤ SCRIPT) }
     ensures long { IsErrOf result Stop.TooLong → (script : List ℕ) → S.left source.old ≡ Some script →
@@ -56,9 +57,9 @@ fn answer_script<H: Shelf, S: Source, K: Sink>(
     ensures sink { IsErrOf result Stop.Output → Rose (K.fault_count sink.old) (K.fault_count sink.new) }
     ensures sink_count { K.fault_count sink.old ≤ K.fault_count sink.new }
     ensures store { IsErrOf result Stop.Store →
-        NotOpenedFor H.Disk.Tells (IsUnread (S.left source.old) (S.left source.new)) settings
-        (H.fault_count shelf.old) (outside_of (H.disks shelf.old) (H.arms shelf.old))
-        (H.fault_count shelf.new) (outside_of (H.disks shelf.new) (H.arms shelf.new)) (K.written sink.new) }
+        IsNotOpenedBehind H.Disk.Tells (IsUnread (S.left source.old) (S.left source.new)) settings
+        (outside_of (H.fault_count shelf.old) (H.disks shelf.old) (H.arms shelf.old))
+        (outside_of (H.fault_count shelf.new) (H.disks shelf.new) (H.arms shelf.new)) (K.written sink.old) (K.written sink.new) }
     ensures disks_back { AreIn (disk_count settings) (H.disks shelf.new) }
     ensures arms_back { AreArmsIn 8 (H.arms shelf.new) }
     ensures faults { (slot : ℕ) → slot < disk_count settings →
@@ -67,6 +68,9 @@ fn answer_script<H: Shelf, S: Source, K: Sink>(
         (H.arms shelf.old lane).fault_count ≤ (H.arms shelf.new lane).fault_count }
     ensures other_slots { SameFrom (disk_count settings) (H.disks shelf.old) (H.disks shelf.new) }
     ensures other_lanes { SameFrom 8 (H.arms shelf.old) (H.arms shelf.new) }
+    ensures sound { H.Disk.Tells → HasOpened result → IsUndamaged settings (λ slot. read_of (H.disks shelf.old slot)) }
+    ensures sure_arms { (lane : ℕ) → lane < 8 → IsSureStill (H.arms shelf.old lane) (H.arms shelf.new lane) }
+    ensures appends { Appends (K.written sink.old) (K.written sink.new) }
     ensures shelf { H.fault_count shelf.old ≤ H.fault_count shelf.new }
 {
     let mut cluster = match Cluster::open(alloc, settings, shelf) {
@@ -90,15 +94,15 @@ fn run_script<H: Shelf, S: Source, K: Sink>(
     requires disks_in { AreIn (disk_count settings) (H.disks shelf.old) }
     requires arms_in { AreArmsIn 8 (H.arms shelf.old) }
     ensures ran { H.Disk.Tells → OnOk result ((k : Known) →
-        IsTaken settings (outside_of (H.disks shelf.old) (H.arms shelf.old)) k → (script held : List ℕ) →
+        IsTaken settings (outside_of (H.fault_count shelf.old) (H.disks shelf.old) (H.arms shelf.old)) k → (script held : List ℕ) →
         S.left source.old ≡ Some script → K.written sink.old ≡ Some held →
-        RanTo settings Ending.ReadAll script (S.left source.new) (outside_of (H.disks shelf.old) (H.arms shelf.old))
-        (outside_of (H.disks shelf.new) (H.arms shelf.new)) held (K.written sink.new)) }
+        RanTo settings k Ending.ReadAll script (S.left source.new) (outside_of (H.fault_count shelf.old) (H.disks shelf.old) (H.arms shelf.old))
+        (outside_of (H.fault_count shelf.new) (H.disks shelf.new) (H.arms shelf.new)) held (K.written sink.new)) }
     ensures stopped { H.Disk.Tells → (stop : Stop) → result ≡ Err stop → (k : Known) →
-        IsTaken settings (outside_of (H.disks shelf.old) (H.arms shelf.old)) k → (script held : List ℕ) →
+        IsTaken settings (outside_of (H.fault_count shelf.old) (H.disks shelf.old) (H.arms shelf.old)) k → (script held : List ℕ) →
         S.left source.old ≡ Some script → K.written sink.old ≡ Some held →
-        RanTo settings (ending_of stop) script (S.left source.new) (outside_of (H.disks shelf.old) (H.arms shelf.old))
-        (outside_of (H.disks shelf.new) (H.arms shelf.new)) held (K.written sink.new) }
+        RanTo settings k (ending_of stop) script (S.left source.new) (outside_of (H.fault_count shelf.old) (H.disks shelf.old) (H.arms shelf.old))
+        (outside_of (H.fault_count shelf.new) (H.disks shelf.new) (H.arms shelf.new)) held (K.written sink.new) }
     ensures ended { OnOk result (IsReadToEnd (S.left source.old) (S.left source.new)) }
     ensures short { OnOk result ((script : List ℕ) → S.left source.old ≡ Some script → length script ≤ SCRIPT) }
     ensures long { IsErrOf result Stop.TooLong → (script : List ℕ) → S.left source.old ≡ Some script →
@@ -108,9 +112,9 @@ fn run_script<H: Shelf, S: Source, K: Sink>(
     ensures sink { IsErrOf result Stop.Output → Rose (K.fault_count sink.old) (K.fault_count sink.new) }
     ensures sink_count { K.fault_count sink.old ≤ K.fault_count sink.new }
     ensures store { IsErrOf result Stop.Store →
-        NotOpenedFor H.Disk.Tells (IsUnread (S.left source.old) (S.left source.new)) settings
-        (H.fault_count shelf.old) (outside_of (H.disks shelf.old) (H.arms shelf.old))
-        (H.fault_count shelf.new) (outside_of (H.disks shelf.new) (H.arms shelf.new)) (K.written sink.new) }
+        IsNotOpened H.Disk.Tells (IsUnread (S.left source.old) (S.left source.new)) settings
+        (outside_of (H.fault_count shelf.old) (H.disks shelf.old) (H.arms shelf.old))
+        (outside_of (H.fault_count shelf.new) (H.disks shelf.new) (H.arms shelf.new)) (K.written sink.old) (K.written sink.new) }
     ensures disks_back { AreIn (disk_count settings) (H.disks shelf.new) }
     ensures arms_back { AreArmsIn 8 (H.arms shelf.new) }
     ensures faults { (slot : ℕ) → slot < disk_count settings →
@@ -119,6 +123,9 @@ fn run_script<H: Shelf, S: Source, K: Sink>(
         (H.arms shelf.old lane).fault_count ≤ (H.arms shelf.new lane).fault_count }
     ensures other_slots { SameFrom (disk_count settings) (H.disks shelf.old) (H.disks shelf.new) }
     ensures other_lanes { SameFrom 8 (H.arms shelf.old) (H.arms shelf.new) }
+    ensures sound { H.Disk.Tells → HasOpened result → IsUndamaged settings (λ slot. read_of (H.disks shelf.old slot)) }
+    ensures sure_arms { (lane : ℕ) → lane < 8 → IsSureStill (H.arms shelf.old lane) (H.arms shelf.new lane) }
+    ensures appends { Appends (K.written sink.old) (K.written sink.new) }
     ensures shelf { H.fault_count shelf.old ≤ H.fault_count shelf.new }
 {
     write_header(alloc, &settings, sink)?;
@@ -148,10 +155,10 @@ pub fn run<H: Shelf, S: Source, K: Sink>(
     requires arms_in { (lane : ℕ) → (H.arms shelf.old lane).is_out ≡ false }
     // The headline: what was read, answered and written, and what the disks given back hold, at each status but 2.
     ensures ran { H.Disk.Tells → (settings : Settings) (k : Known) → SaysRun (map string_bytes words.now) settings →
-        IsTaken settings (outside_of (H.disks shelf.old) (H.arms shelf.old)) k → (script held : List ℕ) →
+        IsTaken settings (outside_of (H.fault_count shelf.old) (H.disks shelf.old) (H.arms shelf.old)) k → (script held : List ℕ) →
         S.left source.old ≡ Some script → K.written sink.old ≡ Some held → (ending : Ending) → result ≡ status_of ending →
-        RanTo settings ending script (S.left source.new) (outside_of (H.disks shelf.old) (H.arms shelf.old))
-        (outside_of (H.disks shelf.new) (H.arms shelf.new)) held (K.written sink.new) }
+        RanTo settings k ending script (S.left source.new) (outside_of (H.fault_count shelf.old) (H.disks shelf.old) (H.arms shelf.old))
+        (outside_of (H.fault_count shelf.new) (H.disks shelf.new) (H.arms shelf.new)) held (K.written sink.new) }
 
     // When each status comes.
     ensures status { (result ≡ 2) ⊎ ((ending : Ending) × (result ≡ status_of ending)) }
@@ -162,9 +169,12 @@ pub fn run<H: Shelf, S: Source, K: Sink>(
     ensures sink { IsCounted (K.fault_count sink.old) (K.fault_count sink.new) (result ≡ 3) }
     ensures source { IsCounted (S.fault_count source.old) (S.fault_count source.new) (result ≡ 4) }
     ensures store { result ≡ 6 → (settings : Settings) → SaysRun (map string_bytes words.now) settings →
-        NotOpenedFor H.Disk.Tells (IsUnread (S.left source.old) (S.left source.new)) settings
-        (H.fault_count shelf.old) (outside_of (H.disks shelf.old) (H.arms shelf.old))
-        (H.fault_count shelf.new) (outside_of (H.disks shelf.new) (H.arms shelf.new)) (K.written sink.new) }
+        IsNotOpened H.Disk.Tells (IsUnread (S.left source.old) (S.left source.new)) settings
+        (outside_of (H.fault_count shelf.old) (H.disks shelf.old) (H.arms shelf.old))
+        (outside_of (H.fault_count shelf.new) (H.disks shelf.new) (H.arms shelf.new)) (K.written sink.old) (K.written sink.new) }
+    // Behind an opening that succeeded, nothing of what was read of the disks is damaged.
+    ensures sound { H.Disk.Tells → (result ≡ 0) ⊎ (result ≡ 4) ⊎ (result ≡ 7) → (settings : Settings) → SaysRun (map string_bytes words.now) settings →
+        IsUndamaged settings (λ slot. read_of (H.disks shelf.old slot)) }
     ensures long { result ≡ 7 → (script : List ℕ) → S.left source.old ≡ Some script →
         (rest : List ℕ) × (S.left source.new ≡ Some rest) × (length script ≡ SCRIPT + 1 + length rest) }
     ensures short { result ≡ 0 → (script : List ℕ) → S.left source.old ≡ Some script → length script ≤ SCRIPT }
@@ -174,6 +184,8 @@ pub fn run<H: Shelf, S: Source, K: Sink>(
     ensures arms_back { (lane : ℕ) → (H.arms shelf.new lane).is_out ≡ false }
     ensures faults { (slot : ℕ) → (H.disks shelf.old slot).fault_count ≤ (H.disks shelf.new slot).fault_count }
     ensures arm_faults { (lane : ℕ) → (H.arms shelf.old lane).fault_count ≤ (H.arms shelf.new lane).fault_count }
+    ensures sure_arms { (lane : ℕ) → IsSureStill (H.arms shelf.old lane) (H.arms shelf.new lane) }
+    ensures appends { Appends (K.written sink.old) (K.written sink.new) }
     ensures other_slots { (settings : Settings) → SaysRun (map string_bytes words.now) settings →
         SameFrom (disk_count settings) (H.disks shelf.old) (H.disks shelf.new) }
     ensures other_lanes { SameFrom 8 (H.arms shelf.old) (H.arms shelf.new) }

@@ -3,10 +3,11 @@ ghost use Rattle.std.specs.Prelude.{◌≡◌, ℕ, ◌+◌, ◌≤◌, List, le
 ghost use Rattle.hay_disk.specs.Counts.{Rose};
 ghost use Rattle.hay_legal.specs.Known.{NoneFalls};
 ghost use Rattle.hay_cluster.specs.State.{Stands, Holds};
+ghost use Rattle.hay_cluster.specs.Causes.{StaySure};
 ghost use Rattle.hay_cluster.specs.Store.{IsUp, disks_of};
 ghost use Rattle.hay_run.specs.declared.stops.Stop.{Stop};
 ghost use Rattle.hay_run.specs.Stream.{IsReadToEnd};
-ghost use Rattle.hay_run.specs.Turns.{Serves, ServedUntil, Halts};
+ghost use Rattle.hay_run.specs.Turns.{Appends, Serves, ServedUntil, Halts};
 
 use crate::bytes::SCRIPT;
 use crate::lines::ScriptLines;
@@ -33,9 +34,11 @@ pub fn serve<D: Disk, A: Arm<D::Piece>, S: Source, K: Sink>(
     ensures source_count { S.fault_count source.old ≤ S.fault_count source.new }
     ensures sink { IsErrOf result Stop.Output → Rose (K.fault_count sink.old) (K.fault_count sink.new) }
     ensures sink_count { K.fault_count sink.old ≤ K.fault_count sink.new }
-    ensures halted { IsErrOf result Stop.Store → Halts D.Tells (Stands D.files D.Piece.Tells D.fault_count D.fuse_count A.fault_count) D.fault_count cluster.old cluster.new (K.written sink.new) }
+    ensures halted { IsErrOf result Stop.Store → Halts D.Tells (Stands D.files D.Piece.Tells D.fault_count D.fuse_count A.fault_count) D.files D.fault_count cluster.old cluster.new (K.written sink.old) (K.written sink.new) }
     ensures faults { NoneFalls (map D.fault_count (disks_of cluster.old)) (map D.fault_count (disks_of cluster.new)) }
     ensures arm_faults { NoneFalls (map A.fault_count cluster.old.arms) (map A.fault_count cluster.new.arms) }
+    ensures sure_arms { StaySure A.is_sure cluster.old.arms cluster.new.arms }
+    ensures appends { Appends (K.written sink.old) (K.written sink.new) }
     ensures settings { cluster.new.settings ≡ cluster.old.settings }
 {
     let mut script = ScriptLines::new(alloc);

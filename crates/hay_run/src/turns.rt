@@ -11,12 +11,13 @@ ghost use Rattle.hay_legal.specs.Items.{outside};
 ghost use Rattle.hay_legal.specs.Known.{NoneFalls};
 ghost use Rattle.hay_legal.specs.Items.Asked.{Alone};
 ghost use Rattle.hay_cluster.specs.State.{Stands, Holds};
+ghost use Rattle.hay_cluster.specs.Causes.{StaySure};
 ghost use Rattle.hay_cluster.specs.Store.{IsUp, disks_of};
 ghost use Rattle.hay_run.specs.Items.{TookOpen};
 ghost use Rattle.hay_run.specs.Lines.{TookPart, TookOver, TookSome};
 ghost use Rattle.hay_run.specs.Stream.{rest_of, budget, Accounts, IsTooLong};
 ghost use Rattle.hay_run.specs.Stops.{note_of};
-ghost use Rattle.hay_run.specs.Turns.{AnswersFrom, Turned, RestartRefused, Broke, Halts};
+ghost use Rattle.hay_run.specs.Turns.{AnswersAll, AnswersPart, Appends, Turned, RestartRefused, Broke, Halts};
 ghost use Rattle.hay_run.specs.Stopping.{RefusedAsked, BrokeAsked};
 
 use crate::block::read_block;
@@ -42,14 +43,16 @@ fn plain<D: Disk, A: Arm<D::Piece>, K: Sink>(
     requires within { IsWithin command.now }
     requires goes_on { (pick : ℕ) → command.now ≢ asks.Restart pick }
     requires up { IsUp cluster.old }
-    ensures answers { OnOk result (AnswersFrom D.Tells Wrote (Stands D.files D.Piece.Tells D.fault_count D.fuse_count A.fault_count) (Stands D.files D.Piece.Tells D.fault_count D.fuse_count A.fault_count) (Alone number (item.Command command.now) ∷ []) cluster.old (K.written sink.old) cluster.new (K.written sink.new)) }
-    ensures part { OnErr result (AnswersFrom D.Tells WrotePart (Stands D.files D.Piece.Tells D.fault_count D.fuse_count A.fault_count) (Holds D.files D.fault_count D.fuse_count A.fault_count) (Alone number (item.Command command.now) ∷ []) cluster.old (K.written sink.old) cluster.new (K.written sink.new)) }
+    ensures answers { OnOk result (AnswersAll D.Tells (Stands D.files D.Piece.Tells D.fault_count D.fuse_count A.fault_count) (Alone number (item.Command command.now) ∷ []) cluster.old (K.written sink.old) cluster.new (K.written sink.new)) }
+    ensures part { OnErr result (AnswersPart D.Tells (Stands D.files D.Piece.Tells D.fault_count D.fuse_count A.fault_count) (Holds D.files D.fault_count D.fuse_count A.fault_count) (Alone number (item.Command command.now) ∷ []) cluster.old (K.written sink.old) cluster.new (K.written sink.new)) }
     ensures stops { OnErr result ((result ≡ Err Stop.Output) ⊎ (result ≡ Err Stop.NoMemory)) }
     ensures cause { IsErrOf result Stop.Output → Rose (K.fault_count sink.old) (K.fault_count sink.new) }
     ensures count { K.fault_count sink.old ≤ K.fault_count sink.new }
     ensures up { IsUp cluster.new }
     ensures faults { NoneFalls (map D.fault_count (disks_of cluster.old)) (map D.fault_count (disks_of cluster.new)) }
     ensures arm_faults { NoneFalls (map A.fault_count cluster.old.arms) (map A.fault_count cluster.new.arms) }
+    ensures sure_arms { StaySure A.is_sure cluster.old.arms cluster.new.arms }
+    ensures appends { Appends (K.written sink.old) (K.written sink.new) }
     ensures settings { cluster.new.settings ≡ cluster.old.settings }
 {
     let tag = CoreTag {
@@ -68,6 +71,7 @@ fn refuse<K: Sink>(alloc: Global, number: u64, fault: ClusterFault, sink: &mut K
     ensures stops { (result ≡ Stop.Output) ⊎ (result ≡ Stop.NoMemory) ⊎ (result ≡ Stop.Store) }
     ensures cause { result ≡ Stop.Output → Rose (K.fault_count sink.old) (K.fault_count sink.new) }
     ensures count { K.fault_count sink.old ≤ K.fault_count sink.new }
+    ensures appends { Appends (K.written sink.old) (K.written sink.new) }
 {
     if let ClusterFault::NoMemory = fault {
         return match write_reply(alloc, number, &Reply::NoMem, sink) {
@@ -87,16 +91,18 @@ fn restart<D: Disk, A: Arm<D::Piece>, K: Sink>(
     sink: &mut K,
 ) -> Result<(), Stop>
     requires up { IsUp cluster.old }
-    ensures answers { OnOk result (AnswersFrom D.Tells Wrote (Stands D.files D.Piece.Tells D.fault_count D.fuse_count A.fault_count) (Stands D.files D.Piece.Tells D.fault_count D.fuse_count A.fault_count) (Alone number (item.Command (asks.Restart pick)) ∷ []) cluster.old (K.written sink.old) cluster.new (K.written sink.new)) }
+    ensures answers { OnOk result (AnswersAll D.Tells (Stands D.files D.Piece.Tells D.fault_count D.fuse_count A.fault_count) (Alone number (item.Command (asks.Restart pick)) ∷ []) cluster.old (K.written sink.old) cluster.new (K.written sink.new)) }
     ensures broke { (IsErrOf result Stop.Output ⊎ IsErrOf result Stop.NoMemory) → BrokeAsked D.Tells (Stands D.files D.Piece.Tells D.fault_count D.fuse_count A.fault_count) (Holds D.files D.fault_count D.fuse_count A.fault_count) number (Alone number (item.Command (asks.Restart pick)) ∷ []) cluster.old (K.written sink.old) cluster.new (K.written sink.new) }
     ensures refused { IsErrOf result Stop.Store → RefusedAsked D.Tells Wrote (Stands D.files D.Piece.Tells D.fault_count D.fuse_count A.fault_count) (Holds D.files D.fault_count D.fuse_count A.fault_count) number (Alone number (item.Command (asks.Restart pick)) ∷ []) cluster.old (K.written sink.old) cluster.new (K.written sink.new) }
-    ensures halted { IsErrOf result Stop.Store → Halts D.Tells (Stands D.files D.Piece.Tells D.fault_count D.fuse_count A.fault_count) D.fault_count cluster.old cluster.new (K.written sink.new) }
+    ensures halted { IsErrOf result Stop.Store → Halts D.Tells (Stands D.files D.Piece.Tells D.fault_count D.fuse_count A.fault_count) D.files D.fault_count cluster.old cluster.new (K.written sink.old) (K.written sink.new) }
     ensures stops { OnErr result ((result ≡ Err Stop.Output) ⊎ (result ≡ Err Stop.NoMemory) ⊎ (result ≡ Err Stop.Store)) }
     ensures cause { IsErrOf result Stop.Output → Rose (K.fault_count sink.old) (K.fault_count sink.new) }
     ensures count { K.fault_count sink.old ≤ K.fault_count sink.new }
     ensures up { OnOk result (IsUp cluster.new) }
     ensures faults { NoneFalls (map D.fault_count (disks_of cluster.old)) (map D.fault_count (disks_of cluster.new)) }
     ensures arm_faults { NoneFalls (map A.fault_count cluster.old.arms) (map A.fault_count cluster.new.arms) }
+    ensures sure_arms { StaySure A.is_sure cluster.old.arms cluster.new.arms }
+    ensures appends { Appends (K.written sink.old) (K.written sink.new) }
     ensures settings { cluster.new.settings ≡ cluster.old.settings }
 {
     match cluster.restart(alloc, pick) {
@@ -115,16 +121,18 @@ fn respond<D: Disk, A: Arm<D::Piece>, K: Sink>(
 ) -> Result<(), Stop>
     requires within { IsWithinLine said }
     requires up { IsUp cluster.old }
-    ensures answers { OnOk result (AnswersFrom D.Tells Wrote (Stands D.files D.Piece.Tells D.fault_count D.fuse_count A.fault_count) (Stands D.files D.Piece.Tells D.fault_count D.fuse_count A.fault_count) (outside number said).0 cluster.old (K.written sink.old) cluster.new (K.written sink.new)) }
+    ensures answers { OnOk result (AnswersAll D.Tells (Stands D.files D.Piece.Tells D.fault_count D.fuse_count A.fault_count) (outside number said).0 cluster.old (K.written sink.old) cluster.new (K.written sink.new)) }
     ensures broke { (IsErrOf result Stop.Output ⊎ IsErrOf result Stop.NoMemory) → BrokeAsked D.Tells (Stands D.files D.Piece.Tells D.fault_count D.fuse_count A.fault_count) (Holds D.files D.fault_count D.fuse_count A.fault_count) number (outside number said).0 cluster.old (K.written sink.old) cluster.new (K.written sink.new) }
     ensures refused { IsErrOf result Stop.Store → RefusedAsked D.Tells Wrote (Stands D.files D.Piece.Tells D.fault_count D.fuse_count A.fault_count) (Holds D.files D.fault_count D.fuse_count A.fault_count) number (outside number said).0 cluster.old (K.written sink.old) cluster.new (K.written sink.new) }
-    ensures halted { IsErrOf result Stop.Store → Halts D.Tells (Stands D.files D.Piece.Tells D.fault_count D.fuse_count A.fault_count) D.fault_count cluster.old cluster.new (K.written sink.new) }
+    ensures halted { IsErrOf result Stop.Store → Halts D.Tells (Stands D.files D.Piece.Tells D.fault_count D.fuse_count A.fault_count) D.files D.fault_count cluster.old cluster.new (K.written sink.old) (K.written sink.new) }
     ensures stops { OnErr result ((result ≡ Err Stop.Output) ⊎ (result ≡ Err Stop.NoMemory) ⊎ (result ≡ Err Stop.Store)) }
     ensures cause { IsErrOf result Stop.Output → Rose (K.fault_count sink.old) (K.fault_count sink.new) }
     ensures count { K.fault_count sink.old ≤ K.fault_count sink.new }
     ensures up { OnOk result (IsUp cluster.new) }
     ensures faults { NoneFalls (map D.fault_count (disks_of cluster.old)) (map D.fault_count (disks_of cluster.new)) }
     ensures arm_faults { NoneFalls (map A.fault_count cluster.old.arms) (map A.fault_count cluster.new.arms) }
+    ensures sure_arms { StaySure A.is_sure cluster.old.arms cluster.new.arms }
+    ensures appends { Appends (K.written sink.old) (K.written sink.new) }
     ensures settings { cluster.new.settings ≡ cluster.old.settings }
 {
     match said {
@@ -170,10 +178,12 @@ pub fn turn<D: Disk, A: Arm<D::Piece>, S: Source, K: Sink>(
     ensures source_count { S.fault_count source.old ≤ S.fault_count source.new }
     ensures sink { IsErrOf result Stop.Output → Rose (K.fault_count sink.old) (K.fault_count sink.new) }
     ensures sink_count { K.fault_count sink.old ≤ K.fault_count sink.new }
-    ensures halted { IsErrOf result Stop.Store → Halts D.Tells (Stands D.files D.Piece.Tells D.fault_count D.fuse_count A.fault_count) D.fault_count cluster.old cluster.new (K.written sink.new) }
+    ensures halted { IsErrOf result Stop.Store → Halts D.Tells (Stands D.files D.Piece.Tells D.fault_count D.fuse_count A.fault_count) D.files D.fault_count cluster.old cluster.new (K.written sink.old) (K.written sink.new) }
     ensures up { OnOk result (IsUp cluster.new) }
     ensures faults { NoneFalls (map D.fault_count (disks_of cluster.old)) (map D.fault_count (disks_of cluster.new)) }
     ensures arm_faults { NoneFalls (map A.fault_count cluster.old.arms) (map A.fault_count cluster.new.arms) }
+    ensures sure_arms { StaySure A.is_sure cluster.old.arms cluster.new.arms }
+    ensures appends { Appends (K.written sink.old) (K.written sink.new) }
     ensures settings { cluster.new.settings ≡ cluster.old.settings }
 {
     let Some(said) = script.next_said(alloc, source, None)? else {

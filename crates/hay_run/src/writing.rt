@@ -5,6 +5,7 @@ ghost use Rattle.hay_disk.specs.Streams.{Wrote, WrotePart};
 ghost use Rattle.hay_reply.specs.declared.Note.{Note};
 ghost use Rattle.hay_reply.specs.Replies as texts;
 ghost use Rattle.hay_run.specs.Stops.{note_of};
+ghost use Rattle.hay_run.specs.Turns.{Appends};
 ghost use Rattle.hay_run.specs.Unbuilt.{unbuilt_text};
 
 use crate::block::LaneBlock;
@@ -23,6 +24,7 @@ fn write_text<K: Sink>(sink: &mut K, text: &[u8]) -> Result<(), Stop>
     ensures stops { OnErr result (result ≡ Err Stop.Output) }
     ensures cause { OnErr result (Rose (K.fault_count sink.old) (K.fault_count sink.new)) }
     ensures count { K.fault_count sink.old ≤ K.fault_count sink.new }
+    ensures appends { Appends (K.written sink.old) (K.written sink.new) }
 {
     match sink.write(text) {
         Ok(()) => Ok(()),
@@ -37,6 +39,7 @@ pub fn write_header<K: Sink>(alloc: Global, settings: &Settings, sink: &mut K) -
     ensures stops { OnErr result ((result ≡ Err Stop.Output) ⊎ (result ≡ Err Stop.NoMemory)) }
     ensures cause { IsErrOf result Stop.Output → Rose (K.fault_count sink.old) (K.fault_count sink.new) }
     ensures count { K.fault_count sink.old ≤ K.fault_count sink.new }
+    ensures appends { Appends (K.written sink.old) (K.written sink.new) }
 {
     let mut text = Vec::new(alloc);
     header_line(alloc, settings, &mut text)?;
@@ -55,6 +58,7 @@ pub fn write_reply<K: Sink>(
     ensures stops { OnErr result ((result ≡ Err Stop.Output) ⊎ (result ≡ Err Stop.NoMemory)) }
     ensures cause { IsErrOf result Stop.Output → Rose (K.fault_count sink.old) (K.fault_count sink.new) }
     ensures count { K.fault_count sink.old ≤ K.fault_count sink.new }
+    ensures appends { Appends (K.written sink.old) (K.written sink.new) }
 {
     let mut text = Vec::new(alloc);
     numbered_line(alloc, number, reply, &mut text)?;
@@ -68,6 +72,7 @@ pub fn write_block<K: Sink>(alloc: Global, block: &LaneBlock, sink: &mut K) -> R
     ensures stops { OnErr result ((result ≡ Err Stop.Output) ⊎ (result ≡ Err Stop.NoMemory)) }
     ensures cause { IsErrOf result Stop.Output → Rose (K.fault_count sink.old) (K.fault_count sink.new) }
     ensures count { K.fault_count sink.old ≤ K.fault_count sink.new }
+    ensures appends { Appends (K.written sink.old) (K.written sink.new) }
 {
     let text = block.text(alloc)?;
     write_text(sink, text.as_slice())
@@ -105,6 +110,7 @@ pub fn write_restarted<K: Sink>(
     ensures stops { OnErr result ((result ≡ Err Stop.Output) ⊎ (result ≡ Err Stop.NoMemory)) }
     ensures cause { IsErrOf result Stop.Output → Rose (K.fault_count sink.old) (K.fault_count sink.new) }
     ensures count { K.fault_count sink.old ≤ K.fault_count sink.new }
+    ensures appends { Appends (K.written sink.old) (K.written sink.new) }
 {
     let mut text = Vec::new(alloc);
     numbered_line(alloc, number, &Reply::Restarted { rows }, &mut text)?;
@@ -119,6 +125,7 @@ fn write_note<K: Sink>(alloc: Global, note: &Note, sink: &mut K) -> Result<(), S
     ensures stops { OnErr result ((result ≡ Err Stop.Output) ⊎ (result ≡ Err Stop.NoMemory)) }
     ensures cause { IsErrOf result Stop.Output → Rose (K.fault_count sink.old) (K.fault_count sink.new) }
     ensures count { K.fault_count sink.old ≤ K.fault_count sink.new }
+    ensures appends { Appends (K.written sink.old) (K.written sink.new) }
 {
     let mut text = Vec::new(alloc);
     add_note(alloc, note, &mut text)?;
@@ -133,6 +140,7 @@ pub fn write_refusal<K: Sink>(alloc: Global, fault: ClusterFault, sink: &mut K) 
     ensures stops { (result ≡ Stop.Output) ⊎ (result ≡ Stop.NoMemory) ⊎ (result ≡ Stop.Store) }
     ensures cause { result ≡ Stop.Output → Rose (K.fault_count sink.old) (K.fault_count sink.new) }
     ensures count { K.fault_count sink.old ≤ K.fault_count sink.new }
+    ensures appends { Appends (K.written sink.old) (K.written sink.new) }
 {
     let note = match fault {
         ClusterFault::NoMemory => return Stop::NoMemory,

@@ -31,7 +31,7 @@ use Rattle.hay_legal.specs.declared.turn.Item.{Item}
 use Rattle.hay_legal.specs.declared.turn.Item.TheVariants as item
 use Rattle.hay_legal.specs.Known.{home_of, home_in, volume_at, replica_at, with_replica, empty_volume, empty_replica, Leaves, NoneFalls, slot_of, settled_by, with_home, taker_of, tries_by, all_tries, try_at, refusal_of, replica_on}
 use Rattle.hay_url.specs.declared.Url.{Url as UrlParts}
-use Rattle.hay_legal.specs.Plain.{IsStored, IsDeleted, LegalPlain, LegalCommand, LegalShow, LegalGetAt, start_of, LegalPut, LegalDel, LegalUrl, LegalFlush, LegalBegin, LegalStep, LegalFinish, LegalCompact, LegalDrain, LegalUndrain, LegalFuse, LegalFuseDir, OnReplica, IsLoose, IsTight, replica_of, Swaps, SwapFailed, SwapNoMem, change_volume, change_replica, frozen_by, frozen_with, without_run, with_bare, with_stuck, with_run, swapped, stepped, poised, poised_by, as_it_is, row_pending, put_frozen, put_entry, first_machine, with_put, with_del, grown, ended_where, with_drain, with_fuses}
+use Rattle.hay_legal.specs.Plain.{IsStored, IsDeleted, LegalPlain, LegalCommand, LegalShow, LegalGetAt, start_of, LegalPut, LegalDel, LegalUrl, LegalFlush, LegalBegin, LegalStep, LegalFinish, LegalCompact, LegalDrain, LegalUndrain, LegalFuse, LegalFuseDir, OnReplica, IsLoose, IsTight, replica_of, Swaps, SwapFailed, SwapNoMem, IsAtRest, MayFinish, change_volume, change_replica, frozen_by, frozen_with, without_run, with_bare, with_stuck, with_run, swapped, stepped, poised, poised_by, as_it_is, row_pending, put_frozen, put_entry, first_machine, with_put, with_del, grown, ended_where, with_drain, with_fuses}
 use Rattle.hay_legal.specs.Blocks.{acknowledged}
 use Rattle.hay_legal.specs.Subject.{known_behind, pair_of, OthersLeaveTheLogs, changed_pair}
 use Rattle.hay_legal.proofs.Subject.Shown.{legal_split}
@@ -306,7 +306,7 @@ show_undisturbed settings k tag start pair cookie (reply.Unknown d) t h = unchan
 show_undisturbed settings k tag start pair cookie reply.NoMem t h =
     elim h [
       | inl leaves ↦ unchanged settings k t leaves
-      | inr some ↦ undisturbed_leaves settings k _ t (frozen_undisturbed settings k some.0 (first_machine settings some.0)) some.2
+      | inr some ↦ undisturbed_leaves settings k _ t (frozen_undisturbed settings k some.0 (first_machine settings some.0)) some.3
     ]
 show_undisturbed settings k tag start pair cookie _ t h = absurd h
 
@@ -332,13 +332,13 @@ del_undisturbed settings k tag pair (reply.ReadOnly by) t a h = unchanged settin
 del_undisturbed settings k tag pair (reply.Failed v m f) t a h =
     elim (h.leaves) [
       | inl leaves ↦ unchanged settings k t leaves
-      | inr leaves ↦ undisturbed_leaves settings k _ t (del_frozen_undisturbed settings k tag pair v m true) leaves
+      | inr froze ↦ undisturbed_leaves settings k _ t (del_frozen_undisturbed settings k tag pair v m true) froze.1
     ]
 del_undisturbed settings k tag pair reply.NoMem t a h =
     elim h [
       | inl leaves ↦ unchanged settings k t leaves
-      | inr some ↦ elim some.2 [
-        | inl leaves ↦ undisturbed_leaves settings k _ t (del_frozen_undisturbed settings k tag pair some.0 (first_machine settings some.0) false) leaves
+      | inr some ↦ elim some.3 [
+        | inl froze ↦ undisturbed_leaves settings k _ t (del_frozen_undisturbed settings k tag pair some.0 (first_machine settings some.0) false) froze.1
         | inr leaves ↦ undisturbed_leaves settings k _ t (frozen_undisturbed settings k some.0 (first_machine settings some.0)) leaves
       ]
     ]
@@ -380,7 +380,7 @@ step_undisturbed settings k v m j cells (reply.Failed v' m' f) t h = replica_lea
 step_undisturbed settings k v m j cells reply.NoMem t h =
     elim h [
       | inl leaves ↦ unchanged settings k t leaves
-      | inr some ↦ replica_leaves settings k v j (with_run (stepped some.1 some.0)) t (λ r. refl) some.4
+      | inr some ↦ replica_leaves settings k v j (with_run (stepped some.2 some.1)) t (λ r. refl) some.5
     ]
 step_undisturbed settings k v m j cells _ t h = absurd h
 
@@ -407,22 +407,19 @@ swap_failed_undisturbed settings k v j m t h =
       | inr leaves ↦ undisturbed_leaves settings k (poised_by m k v j) t (poised_undisturbed settings k v j m) leaves
     ]
 
-pub swap_no_mem_undisturbed : (settings : Settings) (sizes : Known → ℕ → ℕ → ℕ → ℕ → Type 0) (k : Known) (v j : ℕ) (t : Known) → SwapNoMem settings sizes k v j t → Calm settings k t
-swap_no_mem_undisturbed settings sizes k v j t h =
-    elim h [
-      | inl leaves ↦ unchanged settings k t leaves
-      | inr others ↦ elim others [
-        | inl leaves ↦ replica_leaves settings k v j without_run t (λ r. refl) leaves
-        | inr swaps ↦ swap_undisturbed settings sizes (frozen_by (first_machine settings v)) k v j t (frozen_same (first_machine settings v)) swaps
-      ]
-    ]
+pub swap_no_mem_undisturbed : (settings : Settings) (ready : Known → ℕ → ℕ → Type 0) (sizes : Known → ℕ → ℕ → ℕ → ℕ → Type 0) (k : Known) (v j : ℕ) (t : Known)
+    → SwapNoMem settings ready sizes k v j t → Calm settings k t
+swap_no_mem_undisturbed settings ready sizes k v j t (inl leaves) = unchanged settings k t leaves
+swap_no_mem_undisturbed settings ready sizes k v j t (inr (thawed, is, inl leaves)) = replica_leaves settings k v j without_run t (λ r. refl) leaves
+swap_no_mem_undisturbed settings ready sizes k v j t (inr (thawed, is, inr swaps)) =
+    swap_undisturbed settings sizes (frozen_by (first_machine settings v)) k v j t (frozen_same (first_machine settings v)) swaps
 
 pub finish_undisturbed : (settings : Settings) (k : Known) (v m j : ℕ) (r : Reply) (t : Known) → LegalFinish settings k v m j r t → Calm settings k t
 finish_undisturbed settings k v m j (reply.Compacted v' m' g) t h = swap_undisturbed settings IsLoose as_it_is k v j t same_log h.4
 finish_undisturbed settings k v m j (reply.ReadOnly by) t h = unchanged settings k t h.1
 finish_undisturbed settings k v m j (reply.Idle v' m') t h = unchanged settings k t h.3
 finish_undisturbed settings k v m j (reply.Failed v' m' f) t h = swap_failed_undisturbed settings k v j m t h.4
-finish_undisturbed settings k v m j reply.NoMem t h = swap_no_mem_undisturbed settings IsLoose k v j t h
+finish_undisturbed settings k v m j reply.NoMem t h = swap_no_mem_undisturbed settings MayFinish IsLoose k v j t h
 finish_undisturbed settings k v m j _ t h = absurd h
 
 pub compact_undisturbed : (settings : Settings) (k : Known) (v m j : ℕ) (r : Reply) (t : Known) → LegalCompact settings k v m j r t → Calm settings k t
@@ -431,7 +428,7 @@ compact_undisturbed settings k v m j (reply.ReadOnly by) t h = unchanged setting
 compact_undisturbed settings k v m j (reply.Busy v' m' g) t h = unchanged settings k t h.3
 compact_undisturbed settings k v m j (reply.Worn v' m') t h = unchanged settings k t h.3
 compact_undisturbed settings k v m j (reply.Failed v' m' f) t h = swap_failed_undisturbed settings k v j m t h.4
-compact_undisturbed settings k v m j reply.NoMem t h = swap_no_mem_undisturbed settings IsTight k v j t h
+compact_undisturbed settings k v m j reply.NoMem t h = swap_no_mem_undisturbed settings IsAtRest IsTight k v j t h
 compact_undisturbed settings k v m j _ t h = absurd h
 
 pub drain_undisturbed : (settings : Settings) (k : Known) (m : ℕ) (r : Reply) (t : Known) → LegalDrain settings k m r t → Calm settings k t

@@ -1,5 +1,5 @@
 -- Which changes are pending, and until when.
-use Rattle.std.proofs.Common.{◌≡◌, ◌≢◌, ℕ, ◌<◌, Bool, true, false, List, [], ◌∷◌, length, Option, Some, None, refl, sym, ap, subst, ◌∙◌, ◌⊎◌, inl, inr}
+use Rattle.std.proofs.Common.{◌≡◌, ℕ, ◌<◌, Bool, true, false, List, [], ◌∷◌, length, Option, Some, None, refl, sym, ap, subst, ◌∙◌, ◌⊎◌, inl, inr}
 use Rattle.std.specs.List.{AllByRecursion as Each}
 use Rattle.std.specs.Prelude.{slice_index_or, is_none}
 use Rattle.std.proofs.lemmas.List.{get_or-set_same}
@@ -27,9 +27,9 @@ use Rattle.hay_legal.specs.declared.turn.Turn.TheVariants.{Plain, Lanes, Restart
 use Rattle.hay_legal.specs.Known.{home_of, home_in, volume_at, replica_at, with_replica, empty_volume, Leaves, with_home, taker_of, tries_by, refusal_of, replica_on, closed, drained_of, refusal_by, room_refusal, closed_by}
 use Rattle.hay_url.specs.declared.Url.{Url as UrlParts}
 use Rattle.hay_url.specs.Url.{cookie_of}
-use Rattle.hay_legal.specs.Plain.{PutFailed, LegalPlain, LegalCommand, LegalShow, LegalGetAt, start_of, LegalPut, LegalDel, LegalUrl, LegalFlush, LegalBegin, LegalStep, LegalFinish, LegalCompact, LegalDrain, LegalUndrain, LegalFuse, LegalFuseDir, OnReplica, IsLoose, IsTight, replica_of, Swaps, SwapFailed, SwapNoMem, change_volume, change_replica, frozen_by, frozen_with, without_run, with_bare, with_stuck, with_run, swapped, stepped, poised, poised_by, as_it_is, put_frozen, put_entry, first_machine, with_put, with_del}
+use Rattle.hay_legal.specs.Plain.{PutFailed, LegalPlain, LegalCommand, LegalShow, LegalGetAt, start_of, LegalPut, LegalDel, LegalUrl, LegalFlush, LegalBegin, LegalStep, LegalFinish, LegalCompact, LegalDrain, LegalUndrain, LegalFuse, LegalFuseDir, OnReplica, IsLoose, IsTight, replica_of, Swaps, SwapFailed, SwapNoMem, IsAtRest, IsOpen, MayFinish, change_volume, change_replica, frozen_by, frozen_with, without_run, with_bare, with_stuck, with_run, swapped, stepped, poised, poised_by, as_it_is, put_frozen, put_entry, first_machine, with_put, with_del}
 use Rattle.hay_legal.specs.Legal.{Legal}
-use Rattle.hay_legal.specs.Subject.{known_behind, pair_of, IsOf, IsNoBlock, IsAnswered, FailedPutThatWasKeptIsRead}
+use Rattle.hay_legal.specs.Subject.{known_behind, pair_of, IsOf, IsNoBlock, IsPlain, FailedPutThatWasKeptIsRead}
 use Rattle.hay_legal.proofs.Subject.Shown.{legal_split}
 use Rattle.hay_legal.proofs.Subject.Effects.{read_set, find_of, taken_home}
 use Rattle.hay_legal.proofs.Subject.Entries.{plain_is_of, is_of_behind, taken_bounded}
@@ -95,54 +95,71 @@ steady_replica k v j w change t leaves =
     steady_leaves k (change_replica k v j change) t w
     (steady_change k v w (λ volume. with_replica volume j (change (replica_at volume j))) (record { frozen = refl; pending = refl })) leaves
 
-pub put_steady : (settings : Settings) (k : Known) (tag : CoreTag) (pair : Pair) (bytes : List ℕ) (r : Reply) (t : Known) (w m : ℕ) → (volume_at k w).frozen ≡ Some m → r ≢ reply.NoMem
+-- a freeze of a volume that is open
+pub frozen_steady : (k : Known) (v by : ℕ) (t : Known) (w m : ℕ) → (volume_at k w).frozen ≡ Some m → IsOpen k v → Leaves k (change_volume k v (frozen_by by)) t → Steady (volume_at k w) (volume_at t w)
+frozen_steady k v by t w m frozen thawed leaves =
+    steady_leaves k (change_volume k v (frozen_by by)) t w (steady_other k v w m (frozen_by by) frozen (not_open k v m thawed)) leaves
+
+pub put_steady : (settings : Settings) (k : Known) (tag : CoreTag) (pair : Pair) (bytes : List ℕ) (r : Reply) (t : Known) (w m : ℕ) → (volume_at k w).frozen ≡ Some m
     → LegalPut settings k tag pair bytes r t → Steady (volume_at k w) (volume_at t w)
-put_steady settings k tag pair bytes (reply.Stored v p d c) t w m frozen is h =
+put_steady settings k tag pair bytes (reply.Stored v p d c) t w m frozen h =
     let put : Known = change_volume k v (λ volume. with_put volume tag pair c bytes) in
     steady_leaves k (with_home put pair v) t w (steady_change k v w (λ volume. with_put volume tag pair c bytes) (record { frozen = refl; pending = refl })) h.leaves
-put_steady settings k tag pair bytes (reply.Full refused) t w m frozen is h = steady_same k t w h.2
-put_steady settings k tag pair bytes (reply.ReadOnly by) t w m frozen is h = steady_same k t w h.1
-put_steady settings k tag pair bytes reply.ReadOnlyDir t w m frozen is h = steady_same k t w h.2
-put_steady settings k tag pair bytes (reply.Failed v n f) t w m frozen is h =
+put_steady settings k tag pair bytes (reply.Full refused) t w m frozen h = steady_same k t w h.2
+put_steady settings k tag pair bytes (reply.ReadOnly by) t w m frozen h = steady_same k t w h.1
+put_steady settings k tag pair bytes reply.ReadOnlyDir t w m frozen h = steady_same k t w h.2
+put_steady settings k tag pair bytes (reply.Failed v n f) t w m frozen h =
     steady_leaves k (put_frozen settings k tag pair bytes v n true) t w
     (steady_other k v w m (frozen_with n tag (put_entry settings pair bytes) true) frozen (taker_open settings k pair (length bytes) v m h.taker)) h.leaves
-put_steady settings k tag pair bytes (reply.FailedDir f) t w m frozen is h = steady_volumes k t w (h.leaves).volumes
-put_steady settings k tag pair bytes reply.NoMem t w m frozen is h = absurd (is refl)
-put_steady settings k tag pair bytes _ t w m frozen is h = absurd h
+put_steady settings k tag pair bytes (reply.FailedDir f) t w m frozen h = steady_volumes k t w (h.leaves).volumes
+put_steady settings k tag pair bytes reply.NoMem t w m frozen (inl leaves) = steady_same k t w leaves
+put_steady settings k tag pair bytes reply.NoMem t w m frozen (inr (v, taker, row, inl leaves)) = steady_volumes k t w leaves.volumes
+put_steady settings k tag pair bytes reply.NoMem t w m frozen (inr (v, taker, row, inr (inl (none, leaves)))) = steady_volumes k t w leaves.volumes
+put_steady settings k tag pair bytes reply.NoMem t w m frozen (inr (v, taker, row, inr (inr leaves))) =
+    steady_leaves k (put_frozen settings k tag pair bytes v (first_machine settings v) false) t w
+    (steady_other k v w m (frozen_with (first_machine settings v) tag (put_entry settings pair bytes) false) frozen (taker_open settings k pair (length bytes) v m taker)) leaves
+put_steady settings k tag pair bytes _ t w m frozen h = absurd h
 
-pub show_steady : (settings : Settings) (k : Known) (tag : CoreTag) (start : ℕ) (pair : Pair) (cookie : Cookie) (r : Reply) (t : Known) (w : ℕ) → r ≢ reply.NoMem
+pub show_steady : (settings : Settings) (k : Known) (tag : CoreTag) (start : ℕ) (pair : Pair) (cookie : Cookie) (r : Reply) (t : Known) (w m : ℕ) → (volume_at k w).frozen ≡ Some m
     → LegalShow settings k tag start pair cookie r t → Steady (volume_at k w) (volume_at t w)
-show_steady settings k tag start pair cookie (reply.Photo v m p d bytes) t w is h = steady_same k t w h.leaves
-show_steady settings k tag start pair cookie (reply.Gone v m p d) t w is h = steady_same k t w h.leaves
-show_steady settings k tag start pair cookie (reply.WrongCookie v m p d) t w is h = steady_same k t w (h.3).leaves
-show_steady settings k tag start pair cookie (reply.Unreadable v p d causes) t w is h = steady_same k t w h.leaves
-show_steady settings k tag start pair cookie (reply.Unknown d) t w is h = steady_same k t w h.1
-show_steady settings k tag start pair cookie reply.NoMem t w is h = absurd (is refl)
-show_steady settings k tag start pair cookie _ t w is h = absurd h
+show_steady settings k tag start pair cookie (reply.Photo v n p d bytes) t w m frozen h = steady_same k t w h.leaves
+show_steady settings k tag start pair cookie (reply.Gone v n p d) t w m frozen h = steady_same k t w h.leaves
+show_steady settings k tag start pair cookie (reply.WrongCookie v n p d) t w m frozen h = steady_same k t w (h.3).leaves
+show_steady settings k tag start pair cookie (reply.Unreadable v p d causes) t w m frozen h = steady_same k t w h.leaves
+show_steady settings k tag start pair cookie (reply.Unknown d) t w m frozen h = steady_same k t w h.1
+show_steady settings k tag start pair cookie reply.NoMem t w m frozen (inl leaves) = steady_same k t w leaves
+show_steady settings k tag start pair cookie reply.NoMem t w m frozen (inr (v, home, thawed, leaves)) = frozen_steady k v (first_machine settings v) t w m frozen thawed leaves
+show_steady settings k tag start pair cookie _ t w m frozen h = absurd h
 
-pub get_steady : (settings : Settings) (k : Known) (tag : CoreTag) (url : UrlParts) (o : Option ℕ) (r : Reply) (t : Known) (w : ℕ) → r ≢ reply.NoMem
+pub get_steady : (settings : Settings) (k : Known) (tag : CoreTag) (url : UrlParts) (o : Option ℕ) (r : Reply) (t : Known) (w m : ℕ) → (volume_at k w).frozen ≡ Some m
     → LegalGetAt settings k tag url o r t → Steady (volume_at k w) (volume_at t w)
-get_steady settings k tag url (Some start) (reply.Moved v d) t w is h = steady_same k t w h.3
-get_steady settings k tag url (Some start) r t w is h = show_steady settings k tag start url.pair url.cookie r t w is h.0
-get_steady settings k tag url None reply.Nowhere t w is h = steady_same k t w h
-get_steady settings k tag url None reply.NoMem t w is h = steady_same k t w h
-get_steady settings k tag url None _ t w is h = absurd h
+get_steady settings k tag url (Some start) (reply.Moved v d) t w m frozen h = steady_same k t w h.3
+get_steady settings k tag url (Some start) r t w m frozen h = show_steady settings k tag start url.pair url.cookie r t w m frozen h.0
+get_steady settings k tag url None reply.Nowhere t w m frozen h = steady_same k t w h
+get_steady settings k tag url None reply.NoMem t w m frozen h = steady_same k t w h
+get_steady settings k tag url None _ t w m frozen h = absurd h
 
-pub del_steady : (settings : Settings) (k : Known) (tag : CoreTag) (pair : Pair) (r : Reply) (t : Known) (w m : ℕ) → (volume_at k w).frozen ≡ Some m → r ≢ reply.NoMem
+pub del_steady : (settings : Settings) (k : Known) (tag : CoreTag) (pair : Pair) (r : Reply) (t : Known) (w m : ℕ) → (volume_at k w).frozen ≡ Some m
     → LegalDel settings k tag pair r t → Steady (volume_at k w) (volume_at t w)
-del_steady settings k tag pair (reply.Deleted v p d) t w m frozen is h =
+del_steady settings k tag pair (reply.Deleted v p d) t w m frozen h =
     steady_leaves k (change_volume k v (with_del h.ended tag pair)) t w (steady_change k v w (with_del h.ended tag pair) (record { frozen = refl; pending = refl })) h.leaves
-del_steady settings k tag pair (reply.Absent v p d) t w m frozen is h = steady_same k t w h.leaves
-del_steady settings k tag pair (reply.Unknown d) t w m frozen is h = steady_same k t w h.1
-del_steady settings k tag pair (reply.ReadOnly by) t w m frozen is h = steady_same k t w h.1
-del_steady settings k tag pair (reply.Failed v n f) t w m frozen is h =
+del_steady settings k tag pair (reply.Absent v p d) t w m frozen h = steady_same k t w h.leaves
+del_steady settings k tag pair (reply.Unknown d) t w m frozen h = steady_same k t w h.1
+del_steady settings k tag pair (reply.ReadOnly by) t w m frozen h = steady_same k t w h.1
+del_steady settings k tag pair (reply.Failed v n f) t w m frozen h =
     elim (h.leaves) [
       | inl leaves ↦ steady_same k t w leaves
-      | inr leaves ↦ steady_leaves k (change_volume k v (frozen_with n tag (entry.Del pair) true)) t w
-          (steady_other k v w m (frozen_with n tag (entry.Del pair) true) frozen (is_open settings k v m h.«open»)) leaves
+      | inr froze ↦ steady_leaves k (change_volume k v (frozen_with n tag (entry.Del pair) true)) t w
+          (steady_other k v w m (frozen_with n tag (entry.Del pair) true) frozen (is_open settings k v m h.«open»)) froze.1
     ]
-del_steady settings k tag pair reply.NoMem t w m frozen is h = absurd (is refl)
-del_steady settings k tag pair _ t w m frozen is h = absurd h
+del_steady settings k tag pair reply.NoMem t w m frozen (inl leaves) = steady_same k t w leaves
+del_steady settings k tag pair reply.NoMem t w m frozen (inr (v, home, none, inl (has, leaves))) =
+    steady_leaves k (change_volume k v (frozen_with (first_machine settings v) tag (entry.Del pair) false)) t w
+    (steady_other k v w m (frozen_with (first_machine settings v) tag (entry.Del pair) false) frozen (is_open settings k v m none)) leaves
+del_steady settings k tag pair reply.NoMem t w m frozen (inr (v, home, none, inr leaves)) =
+    steady_leaves k (change_volume k v (frozen_by (first_machine settings v))) t w
+    (steady_other k v w m (frozen_by (first_machine settings v)) frozen (is_open settings k v m none)) leaves
+del_steady settings k tag pair _ t w m frozen h = absurd h
 
 pub url_steady : (settings : Settings) (k : Known) (tag : CoreTag) (pair : Pair) (r : Reply) (t : Known) (w : ℕ) → LegalUrl settings k tag pair r t → Steady (volume_at k w) (volume_at t w)
 url_steady settings k tag pair (reply.Url d url) t w h = steady_same k t w h.leaves
@@ -174,7 +191,7 @@ step_steady settings k v m j cells (reply.Failed v' m' f) t w h = steady_replica
 step_steady settings k v m j cells reply.NoMem t w h =
     elim h [
       | inl leaves ↦ steady_same k t w leaves
-      | inr some ↦ steady_replica k v j w (with_run (stepped some.1 some.0)) t some.4
+      | inr some ↦ steady_replica k v j w (with_run (stepped some.2 some.1)) t some.5
     ]
 step_steady settings k v m j cells _ t w h = absurd h
 
@@ -200,24 +217,40 @@ swap_failed_steady k v j n t w m frozen none h =
           leaves
     ]
 
-pub finish_steady : (settings : Settings) (k : Known) (v n j : ℕ) (r : Reply) (t : Known) (w m : ℕ) → (volume_at k w).frozen ≡ Some m → r ≢ reply.NoMem
-    → LegalFinish settings k v n j r t → Steady (volume_at k w) (volume_at t w)
-finish_steady settings k v n j (reply.Compacted v' m' g) t w m frozen is h = swap_steady IsLoose k v j t w h.4
-finish_steady settings k v n j (reply.ReadOnly by) t w m frozen is h = steady_same k t w h.1
-finish_steady settings k v n j (reply.Idle v' m') t w m frozen is h = steady_same k t w h.3
-finish_steady settings k v n j (reply.Failed v' m' f) t w m frozen is h = swap_failed_steady k v j n t w m frozen h.1 h.4
-finish_steady settings k v n j reply.NoMem t w m frozen is h = absurd (is refl)
-finish_steady settings k v n j _ t w m frozen is h = absurd h
+pub swap_no_mem_steady : (settings : Settings) (ready : Known → ℕ → ℕ → Type 0) (sizes : Known → ℕ → ℕ → ℕ → ℕ → Type 0) (k : Known) (v j : ℕ) (t : Known) (w m : ℕ) → (volume_at k w).frozen ≡ Some m
+    → SwapNoMem settings ready sizes k v j t → Steady (volume_at k w) (volume_at t w)
+swap_no_mem_steady settings ready sizes k v j t w m frozen (inl leaves) = steady_same k t w leaves
+swap_no_mem_steady settings ready sizes k v j t w m frozen (inr (thawed, is, inl leaves)) = steady_replica k v j w without_run t leaves
+swap_no_mem_steady settings ready sizes k v j t w m frozen (inr (thawed, is, inr (end, cells, sized, leaves))) =
+    let after : Known = change_replica k v j (swapped end cells) in
+    let by : ℕ = first_machine settings v in
+    let same : Steady (volume_at k w) (volume_at after w) =
+    steady_change k v w (λ volume. with_replica volume j (swapped end cells (replica_at volume j))) (record { frozen = refl; pending = refl }) in
+    let mine : Steady (volume_at k v) (volume_at after v) =
+    steady_change k v v (λ volume. with_replica volume j (swapped end cells (replica_at volume j))) (record { frozen = refl; pending = refl }) in
+    steady_leaves k (change_volume after v (frozen_by by)) t w
+    (steady_trans (volume_at k w) (volume_at after w) (volume_at (change_volume after v (frozen_by by)) w) same
+    (steady_other after v w m (frozen_by by) (same.frozen ∙ frozen) (not_open after v m (mine.frozen ∙ thawed))))
+    leaves
 
-pub compact_steady : (settings : Settings) (k : Known) (v n j : ℕ) (r : Reply) (t : Known) (w m : ℕ) → (volume_at k w).frozen ≡ Some m → r ≢ reply.NoMem
+pub finish_steady : (settings : Settings) (k : Known) (v n j : ℕ) (r : Reply) (t : Known) (w m : ℕ) → (volume_at k w).frozen ≡ Some m
+    → LegalFinish settings k v n j r t → Steady (volume_at k w) (volume_at t w)
+finish_steady settings k v n j (reply.Compacted v' m' g) t w m frozen h = swap_steady IsLoose k v j t w h.4
+finish_steady settings k v n j (reply.ReadOnly by) t w m frozen h = steady_same k t w h.1
+finish_steady settings k v n j (reply.Idle v' m') t w m frozen h = steady_same k t w h.3
+finish_steady settings k v n j (reply.Failed v' m' f) t w m frozen h = swap_failed_steady k v j n t w m frozen h.1 h.4
+finish_steady settings k v n j reply.NoMem t w m frozen h = swap_no_mem_steady settings MayFinish IsLoose k v j t w m frozen h
+finish_steady settings k v n j _ t w m frozen h = absurd h
+
+pub compact_steady : (settings : Settings) (k : Known) (v n j : ℕ) (r : Reply) (t : Known) (w m : ℕ) → (volume_at k w).frozen ≡ Some m
     → LegalCompact settings k v n j r t → Steady (volume_at k w) (volume_at t w)
-compact_steady settings k v n j (reply.Compacted v' m' g) t w m frozen is h = swap_steady IsTight k v j t w h.4
-compact_steady settings k v n j (reply.ReadOnly by) t w m frozen is h = steady_same k t w h.1
-compact_steady settings k v n j (reply.Busy v' m' g) t w m frozen is h = steady_same k t w h.3
-compact_steady settings k v n j (reply.Worn v' m') t w m frozen is h = steady_same k t w h.3
-compact_steady settings k v n j (reply.Failed v' m' f) t w m frozen is h = swap_failed_steady k v j n t w m frozen h.1 h.4
-compact_steady settings k v n j reply.NoMem t w m frozen is h = absurd (is refl)
-compact_steady settings k v n j _ t w m frozen is h = absurd h
+compact_steady settings k v n j (reply.Compacted v' m' g) t w m frozen h = swap_steady IsTight k v j t w h.4
+compact_steady settings k v n j (reply.ReadOnly by) t w m frozen h = steady_same k t w h.1
+compact_steady settings k v n j (reply.Busy v' m' g) t w m frozen h = steady_same k t w h.3
+compact_steady settings k v n j (reply.Worn v' m') t w m frozen h = steady_same k t w h.3
+compact_steady settings k v n j (reply.Failed v' m' f) t w m frozen h = swap_failed_steady k v j n t w m frozen h.1 h.4
+compact_steady settings k v n j reply.NoMem t w m frozen h = swap_no_mem_steady settings IsAtRest IsTight k v j t w m frozen h
+compact_steady settings k v n j _ t w m frozen h = absurd h
 
 pub drain_steady : (settings : Settings) (k : Known) (n : ℕ) (r : Reply) (t : Known) (w : ℕ) → LegalDrain settings k n r t → Steady (volume_at k w) (volume_at t w)
 drain_steady settings k n (reply.Drained m') t w h = steady_volumes k t w (h.2).volumes
@@ -248,61 +281,61 @@ on_replica_steady k None legal reply.Nowhere t w each h = steady_same k t w h
 on_replica_steady k None legal reply.NoMem t w each h = steady_same k t w h
 on_replica_steady k None legal _ t w each h = absurd h
 
-pub command_steady : (settings : Settings) (k : Known) (tag : CoreTag) (c : Command) (r : Reply) (t : Known) (w m : ℕ) → (volume_at k w).frozen ≡ Some m → r ≢ reply.NoMem
+pub command_steady : (settings : Settings) (k : Known) (tag : CoreTag) (c : Command) (r : Reply) (t : Known) (w m : ℕ) → (volume_at k w).frozen ≡ Some m
     → LegalCommand settings k tag c r t → Steady (volume_at k w) (volume_at t w)
-command_steady settings k tag (command.Put pair bytes) r t w m frozen is h = put_steady settings k tag pair bytes r t w m frozen is h
-command_steady settings k tag (command.Read pair cookie) r t w m frozen is h = show_steady settings k tag (start_of settings tag) pair cookie r t w is h
-command_steady settings k tag (command.Get url) r t w m frozen is h = get_steady settings k tag url (replica_on settings url.volume url.machine) r t w is h
-command_steady settings k tag (command.Del pair) r t w m frozen is h = del_steady settings k tag pair r t w m frozen is h
-command_steady settings k tag (command.Url pair) r t w m frozen is h = url_steady settings k tag pair r t w h
-command_steady settings k tag (command.Flush v n) r t w m frozen is h =
+command_steady settings k tag (command.Put pair bytes) r t w m frozen h = put_steady settings k tag pair bytes r t w m frozen h
+command_steady settings k tag (command.Read pair cookie) r t w m frozen h = show_steady settings k tag (start_of settings tag) pair cookie r t w m frozen h
+command_steady settings k tag (command.Get url) r t w m frozen h = get_steady settings k tag url (replica_on settings url.volume url.machine) r t w m frozen h
+command_steady settings k tag (command.Del pair) r t w m frozen h = del_steady settings k tag pair r t w m frozen h
+command_steady settings k tag (command.Url pair) r t w m frozen h = url_steady settings k tag pair r t w h
+command_steady settings k tag (command.Flush v n) r t w m frozen h =
     on_replica_steady k (replica_on settings v n) (LegalFlush settings k v n) r t w (λ j. flush_steady settings k v n j r t w) h
-command_steady settings k tag (command.Compact v n) r t w m frozen is h =
-    on_replica_steady k (replica_on settings v n) (LegalCompact settings k v n) r t w (λ j. compact_steady settings k v n j r t w m frozen is) h
-command_steady settings k tag (command.Begin v n) r t w m frozen is h =
+command_steady settings k tag (command.Compact v n) r t w m frozen h =
+    on_replica_steady k (replica_on settings v n) (LegalCompact settings k v n) r t w (λ j. compact_steady settings k v n j r t w m frozen) h
+command_steady settings k tag (command.Begin v n) r t w m frozen h =
     on_replica_steady k (replica_on settings v n) (LegalBegin settings k v n) r t w (λ j. begin_steady settings k v n j r t w) h
-command_steady settings k tag (command.Step v n cells) r t w m frozen is h =
+command_steady settings k tag (command.Step v n cells) r t w m frozen h =
     on_replica_steady k (replica_on settings v n) (λ j. LegalStep settings k v n j cells) r t w (λ j. step_steady settings k v n j cells r t w) h
-command_steady settings k tag (command.Finish v n) r t w m frozen is h =
-    on_replica_steady k (replica_on settings v n) (LegalFinish settings k v n) r t w (λ j. finish_steady settings k v n j r t w m frozen is) h
-command_steady settings k tag (command.Drain n) r t w m frozen is h = drain_steady settings k n r t w h
-command_steady settings k tag (command.Undrain n) r t w m frozen is h = undrain_steady settings k n r t w h
-command_steady settings k tag (command.Fuse v n calls) r t w m frozen is h =
+command_steady settings k tag (command.Finish v n) r t w m frozen h =
+    on_replica_steady k (replica_on settings v n) (LegalFinish settings k v n) r t w (λ j. finish_steady settings k v n j r t w m frozen) h
+command_steady settings k tag (command.Drain n) r t w m frozen h = drain_steady settings k n r t w h
+command_steady settings k tag (command.Undrain n) r t w m frozen h = undrain_steady settings k n r t w h
+command_steady settings k tag (command.Fuse v n calls) r t w m frozen h =
     on_replica_steady k (replica_on settings v n) (λ j. LegalFuse settings k v n j calls) r t w (λ j. fuse_steady settings k v n j calls r t w) h
-command_steady settings k tag (command.FuseDir calls) r t w m frozen is h = fuse_dir_steady settings k calls r t w h
-command_steady settings k tag (command.Restart pick) r t w m frozen is h = absurd h
+command_steady settings k tag (command.FuseDir calls) r t w m frozen h = fuse_dir_steady settings k calls r t w h
+command_steady settings k tag (command.Restart pick) r t w m frozen h = absurd h
 
-pub plain_steady : (settings : Settings) (k : Known) (line : ℕ) (i : Item) (r : Reply) (t : Known) (w m : ℕ) → (volume_at k w).frozen ≡ Some m → r ≢ reply.NoMem
+pub plain_steady : (settings : Settings) (k : Known) (line : ℕ) (i : Item) (r : Reply) (t : Known) (w m : ℕ) → (volume_at k w).frozen ≡ Some m
     → LegalPlain settings k line i r t → Steady (volume_at k w) (volume_at t w)
-plain_steady settings k line (item.Command c) r t w m frozen is h = command_steady settings k (record { lane = 0; line = line }) c r t w m frozen is h
-plain_steady settings k line item.Bad r t w m frozen is h = steady_same k t w h.1
+plain_steady settings k line (item.Command c) r t w m frozen h = command_steady settings k (record { lane = 0; line = line }) c r t w m frozen h
+plain_steady settings k line item.Bad r t w m frozen h = steady_same k t w h.1
 
 -- a volume that is frozen stays so, and its pending change stays pending
-pub steady_over : (settings : Settings) (k t : Known) (turns : List Turn) (w m : ℕ) → (volume_at k w).frozen ≡ Some m → Each IsAnswered turns → Legal settings k turns t
+pub steady_over : (settings : Settings) (k t : Known) (turns : List Turn) (w m : ℕ) → (volume_at k w).frozen ≡ Some m → Each IsPlain turns → Legal settings k turns t
     → Steady (volume_at k w) (volume_at t w)
 steady_over settings k t [] w m frozen answered legal = steady_volumes k t w (ap (λ (x : Known). x.volumes) legal)
 steady_over settings k t (Plain line i r after ∷ turns) w m frozen answered legal =
-    let first = plain_steady settings k line i r after w m frozen answered.0 legal.0 in
+    let first = plain_steady settings k line i r after w m frozen legal.0 in
     steady_trans (volume_at k w) (volume_at after w) (volume_at t w) first
     (steady_over settings after t turns w m (first.frozen ∙ frozen) answered.1 legal.1)
 steady_over settings k t (Lanes items logs rows after ∷ turns) w m frozen answered legal = absurd answered.0
 steady_over settings k t (Restart line pick r notes after ∷ turns) w m frozen answered legal = absurd answered.0
 
-pub answered_is_of : (settings : Settings) (k t : Known) (turns : List Turn) → IsOf settings k → Each IsAnswered turns → Legal settings k turns t
+pub plain_turns_is_of : (settings : Settings) (k t : Known) (turns : List Turn) → IsOf settings k → Each IsPlain turns → Legal settings k turns t
     → IsOf settings t × ((pair : Pair) (v : ℕ) → home_of k pair ≡ Some v → home_of t pair ≡ Some v)
-answered_is_of settings k t [] is answered legal =
+plain_turns_is_of settings k t [] is answered legal =
     (subst (λ (x : Known). IsOf settings x) (sym legal) is, λ pair v home. ap (λ (x : Known). home_of x pair) legal ∙ home)
-answered_is_of settings k t (Plain line i r after ∷ turns) is answered legal =
-    let rest = answered_is_of settings after t turns (plain_is_of settings k line i r after is legal.0) answered.1 legal.1 in
+plain_turns_is_of settings k t (Plain line i r after ∷ turns) is answered legal =
+    let rest = plain_turns_is_of settings after t turns (plain_is_of settings k line i r after is legal.0) answered.1 legal.1 in
     (rest.0, λ pair v home. rest.1 pair v (plain_home settings k line i r after pair v legal.0 home))
-answered_is_of settings k t (Lanes items logs rows after ∷ turns) is answered legal = absurd answered.0
-answered_is_of settings k t (Restart line pick r notes after ∷ turns) is answered legal = absurd answered.0
+plain_turns_is_of settings k t (Lanes items logs rows after ∷ turns) is answered legal = absurd answered.0
+plain_turns_is_of settings k t (Restart line pick r notes after ∷ turns) is answered legal = absurd answered.0
 
-pub answered_no_block : (turns : List Turn) → Each IsAnswered turns → Each IsNoBlock turns
-answered_no_block [] h = tt
-answered_no_block (Plain line i r after ∷ turns) h = (tt, answered_no_block turns h.1)
-answered_no_block (Lanes items logs rows after ∷ turns) h = absurd h.0
-answered_no_block (Restart line pick r notes after ∷ turns) h = absurd h.0
+pub plain_turns_no_block : (turns : List Turn) → Each IsPlain turns → Each IsNoBlock turns
+plain_turns_no_block [] h = tt
+plain_turns_no_block (Plain line i r after ∷ turns) h = (tt, plain_turns_no_block turns h.1)
+plain_turns_no_block (Lanes items logs rows after ∷ turns) h = absurd h.0
+plain_turns_no_block (Restart line pick r notes after ∷ turns) h = absurd h.0
 
 pub failed_froze : (settings : Settings) (b : Known) (tag : CoreTag) (pair : Pair) (bytes : List ℕ) (v m f : ℕ) (after : Known) → IsOf settings b
     → PutFailed settings b tag pair bytes v m f after
@@ -326,10 +359,10 @@ failed_put_that_was_kept_is_read settings k t earlier waiting between later line
     let froze = failed_froze settings b tag pair bytes v m f after now_of parts.1.0 in
     let pending = (failed_put_is_pending settings k t earlier _ line pair bytes v m f after is none legal) in
     let steady = steady_over settings after e waiting v m (ap (λ (volume : VolumeKnown). volume.frozen) froze) answered rest.0 in
-    let end = answered_is_of settings after e waiting after_of answered rest.0 in
+    let end = plain_turns_is_of settings after e waiting after_of answered rest.0 in
     kept_is_read settings after t waiting between later line' line'' pick d notes pair (cookie_of settings.secret pair.key) bytes v
     (record { tag = tag; entry = entry.Put pair (cookie_of settings.secret pair.key) bytes; failed = true }) after' after'' request cookie r
-    after_of some (answered_no_block waiting answered) parts.1.1
+    after_of some (plain_turns_no_block waiting answered) parts.1.1
     (steady.pending ∙ pending.0) refl (end.1 pair v pending.1) lost alone asks
 
 -- WHAT BECOMES PENDING
@@ -432,7 +465,7 @@ show_pends settings k tag start pair cookie (reply.Unknown d) t w h = pends_same
 show_pends settings k tag start pair cookie reply.NoMem t w h =
     elim h [
       | inl leaves ↦ pends_same k t w leaves
-      | inr some ↦ pends_change k some.0 w (frozen_by (first_machine settings some.0)) t refl some.2
+      | inr some ↦ pends_change k some.0 w (frozen_by (first_machine settings some.0)) t refl some.3
     ]
 show_pends settings k tag start pair cookie _ t w h = absurd h
 
@@ -451,13 +484,13 @@ del_pends settings k tag pair (reply.ReadOnly by) t w h = pends_same k t w h.1
 del_pends settings k tag pair (reply.Failed v n f) t w h =
     elim (h.leaves) [
       | inl leaves ↦ pends_same k t w leaves
-      | inr leaves ↦ del_frozen_pends k tag pair v n true t w h.home leaves
+      | inr froze ↦ del_frozen_pends k tag pair v n true t w h.home froze.1
     ]
 del_pends settings k tag pair reply.NoMem t w h =
     elim h [
       | inl leaves ↦ pends_same k t w leaves
-      | inr some ↦ elim some.2 [
-        | inl leaves ↦ del_frozen_pends k tag pair some.0 (first_machine settings some.0) false t w some.1 leaves
+      | inr some ↦ elim some.3 [
+        | inl froze ↦ del_frozen_pends k tag pair some.0 (first_machine settings some.0) false t w some.1 froze.1
         | inr leaves ↦ pends_change k some.0 w (frozen_by (first_machine settings some.0)) t refl leaves
       ]
     ]
@@ -496,7 +529,7 @@ step_pends settings k v m j cells (reply.Failed v' m' f) t w h = replica_pends k
 step_pends settings k v m j cells reply.NoMem t w h =
     elim h [
       | inl leaves ↦ pends_same k t w leaves
-      | inr some ↦ replica_pends k v j w (with_run (stepped some.1 some.0)) t some.4
+      | inr some ↦ replica_pends k v j w (with_run (stepped some.2 some.1)) t some.5
     ]
 step_pends settings k v m j cells _ t w h = absurd h
 
@@ -520,22 +553,18 @@ swap_failed_pends k v j n t w h =
           leaves
     ]
 
-pub swap_no_mem_pends : (settings : Settings) (sizes : Known → ℕ → ℕ → ℕ → ℕ → Type 0) (k : Known) (v j : ℕ) (t : Known) (w : ℕ) → SwapNoMem settings sizes k v j t → Pends k t w
-swap_no_mem_pends settings sizes k v j t w h =
-    elim h [
-      | inl leaves ↦ pends_same k t w leaves
-      | inr others ↦ elim others [
-        | inl leaves ↦ replica_pends k v j w without_run t leaves
-        | inr swaps ↦ swap_pends sizes (frozen_by (first_machine settings v)) k v j t w (λ volume. refl) swaps
-      ]
-    ]
+pub swap_no_mem_pends : (settings : Settings) (ready : Known → ℕ → ℕ → Type 0) (sizes : Known → ℕ → ℕ → ℕ → ℕ → Type 0) (k : Known) (v j : ℕ) (t : Known) (w : ℕ)
+    → SwapNoMem settings ready sizes k v j t → Pends k t w
+swap_no_mem_pends settings ready sizes k v j t w (inl leaves) = pends_same k t w leaves
+swap_no_mem_pends settings ready sizes k v j t w (inr (thawed, is, inl leaves)) = replica_pends k v j w without_run t leaves
+swap_no_mem_pends settings ready sizes k v j t w (inr (thawed, is, inr swaps)) = swap_pends sizes (frozen_by (first_machine settings v)) k v j t w (λ volume. refl) swaps
 
 pub finish_pends : (settings : Settings) (k : Known) (v n j : ℕ) (r : Reply) (t : Known) (w : ℕ) → LegalFinish settings k v n j r t → Pends k t w
 finish_pends settings k v n j (reply.Compacted v' m' g) t w h = swap_pends IsLoose as_it_is k v j t w (λ volume. refl) h.4
 finish_pends settings k v n j (reply.ReadOnly by) t w h = pends_same k t w h.1
 finish_pends settings k v n j (reply.Idle v' m') t w h = pends_same k t w h.3
 finish_pends settings k v n j (reply.Failed v' m' f) t w h = swap_failed_pends k v j n t w h.4
-finish_pends settings k v n j reply.NoMem t w h = swap_no_mem_pends settings IsLoose k v j t w h
+finish_pends settings k v n j reply.NoMem t w h = swap_no_mem_pends settings MayFinish IsLoose k v j t w h
 finish_pends settings k v n j _ t w h = absurd h
 
 pub compact_pends : (settings : Settings) (k : Known) (v n j : ℕ) (r : Reply) (t : Known) (w : ℕ) → LegalCompact settings k v n j r t → Pends k t w
@@ -544,7 +573,7 @@ compact_pends settings k v n j (reply.ReadOnly by) t w h = pends_same k t w h.1
 compact_pends settings k v n j (reply.Busy v' m' g) t w h = pends_same k t w h.3
 compact_pends settings k v n j (reply.Worn v' m') t w h = pends_same k t w h.3
 compact_pends settings k v n j (reply.Failed v' m' f) t w h = swap_failed_pends k v j n t w h.4
-compact_pends settings k v n j reply.NoMem t w h = swap_no_mem_pends settings IsTight k v j t w h
+compact_pends settings k v n j reply.NoMem t w h = swap_no_mem_pends settings IsAtRest IsTight k v j t w h
 compact_pends settings k v n j _ t w h = absurd h
 
 pub drain_pends : (settings : Settings) (k : Known) (n : ℕ) (r : Reply) (t : Known) (w : ℕ) → LegalDrain settings k n r t → Pends k t w

@@ -10,9 +10,9 @@ loop-seat-init g c = record { gives = gives-none _ _ _; others = refl; counted =
 
 pub loop-seat-preserved : goal.loop-seat-preserved
 loop-seat-preserved g c =
-    let P = IsGivenArm g.H.Arm.Arm.fault_count in
+    let P = IsGivenArm g.H.Arm.Arm.fault_count g.H.Arm.Arm.is_sure in
     let held = g.H.Shelf.arms c.give_arm.new.self in
-    let first : P (held c.len.result) c.into_arm.result = record { fault_count = c.give_arm.ensures.faults; back = c.give_arm.ensures.back } in
+    let first : P (held c.len.result) c.into_arm.result = record { fault_count = c.give_arm.ensures.faults; is_sure = c.give_arm.ensures.sure; back = c.give_arm.ensures.back } in
     let given : P (held c.len.result) c.in-Some.seat = subst (λ a. P (held c.len.result) a) c.into_arm.ensures first in
     let at : c.len.result ≡ length c.pop.new.self.items = c.len.ensures ∙ c.pop.new.self.ok.0 in
     record {
@@ -26,5 +26,5 @@ loop-seat-preserved g c =
 
 pub returns-clause-given : goal.returns-clause-given
 returns-clause-given g c =
-    gives-all (IsGivenArm g.H.Arm.Arm.fault_count) c.args.seats.items c.loop-seat.seats.items (g.H.Shelf.arms c.args.shelf.now) (g.H.Shelf.arms c.loop-seat.shelf)
+    gives-all (IsGivenArm g.H.Arm.Arm.fault_count g.H.Arm.Arm.is_sure) c.args.seats.items c.loop-seat.seats.items (g.H.Shelf.arms c.args.shelf.now) (g.H.Shelf.arms c.loop-seat.shelf)
     (nil_from_length c.loop-seat.seats.items (let none = (c.in_default.ensures).cases in omega (arith, none.0, c.loop-seat.seats.ok.0))) c.loop-seat.invariant.gives

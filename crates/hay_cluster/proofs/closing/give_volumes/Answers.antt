@@ -11,7 +11,7 @@ use Rattle.hay_cluster.proofs.closing.give_volumes.Goals as goal
 
 pub loop-volume-init : goal.loop-volume-init
 loop-volume-init g c = record {
-  gives = from-none (IsGivenDisk g.H.Disk.Disk.Tells g.H.Disk.Disk.files g.H.Disk.Disk.fault_count g.H.Disk.Disk.fuse_count) 1 (flat_map volume_disks c.args.volumes.items) (g.H.Shelf.disks c.args.shelf.now);
+  gives = from-none (IsGivenDisk g.H.Disk.Disk.Tells g.H.Disk.Disk.files g.H.Disk.Disk.drawn g.H.Disk.Disk.fault_count g.H.Disk.Disk.fuse_count) 1 (flat_map volume_disks c.args.volumes.items) (g.H.Shelf.disks c.args.shelf.now);
   few = c.requires.few;
   all = c.requires.all;
   others = refl;
@@ -20,7 +20,7 @@ loop-volume-init g c = record {
 
 pub loop-volume-preserved : goal.loop-volume-preserved
 loop-volume-preserved g c =
-    let P = (IsGivenDisk g.H.Disk.Disk.Tells g.H.Disk.Disk.files g.H.Disk.Disk.fault_count g.H.Disk.Disk.fuse_count) in
+    let P = (IsGivenDisk g.H.Disk.Disk.Tells g.H.Disk.Disk.files g.H.Disk.Disk.drawn g.H.Disk.Disk.fault_count g.H.Disk.Disk.fuse_count) in
     let items = (c.in-Some.ensures).items in
     let vs = c.pop.new.self.items in
     let each : AllByRecursion (λ (v : Volume g.row.H-Disk.Denot g.row.H-Disk-Piece.Denot). length (volume_disks v) ≡ c.args.replicas) (vs ++ c.in-Some.volume ∷ []) = subst (λ (l : List (Volume g.row.H-Disk.Denot g.row.H-Disk-Piece.Denot)). AllByRecursion (λ (v : Volume g.row.H-Disk.Denot g.row.H-Disk-Piece.Denot). length (volume_disks v) ≡ c.args.replicas) l) items c.loop-volume.invariant.all in
@@ -44,7 +44,7 @@ loop-volume-preserved g c =
 pub returns-clause-given : goal.returns-clause-given
 returns-clause-given g c =
     let none : c.loop-volume.volumes.items ≡ [] = nil_from_length c.loop-volume.volumes.items (let no = (c.in_default.ensures).cases in omega (arith, no.0, c.loop-volume.volumes.ok.0)) in
-    from-all (IsGivenDisk g.H.Disk.Disk.Tells g.H.Disk.Disk.files g.H.Disk.Disk.fault_count g.H.Disk.Disk.fuse_count) 1 (flat_map volume_disks c.args.volumes.items) (flat_map volume_disks c.loop-volume.volumes.items) (g.H.Shelf.disks c.args.shelf.now) (g.H.Shelf.disks c.loop-volume.shelf)
+    from-all (IsGivenDisk g.H.Disk.Disk.Tells g.H.Disk.Disk.files g.H.Disk.Disk.drawn g.H.Disk.Disk.fault_count g.H.Disk.Disk.fuse_count) 1 (flat_map volume_disks c.args.volumes.items) (flat_map volume_disks c.loop-volume.volumes.items) (g.H.Shelf.disks c.args.shelf.now) (g.H.Shelf.disks c.loop-volume.shelf)
     (ap (λ (l : List (Volume g.row.H-Disk.Denot g.row.H-Disk-Piece.Denot)). flat_map volume_disks l) none) c.loop-volume.invariant.gives
 
 pub returns-clause-below : goal.returns-clause-below
@@ -88,7 +88,7 @@ give_volume-requires-after_bounds g c = λ κs lives.
     let low : c.len.result + 1 ≤ 64 = omega (arith, count, long, c.loop-volume.invariant.few) in
     let product : c.len.result * c.args.replicas ≤ c.len.result * 4 = mul-le-mul_left c.len.result c.requires.most in
     let gives = c.loop-volume.invariant.gives in
-    let shorter = rest_shorter (IsGivenDisk g.H.Disk.Disk.Tells g.H.Disk.Disk.files g.H.Disk.Disk.fault_count g.H.Disk.Disk.fuse_count) 1 (flat_map volume_disks c.args.volumes.items) (flat_map volume_disks c.loop-volume.volumes.items) (g.H.Shelf.disks c.args.shelf.now) (g.H.Shelf.disks c.loop-volume.shelf) gives in
+    let shorter = rest_shorter (IsGivenDisk g.H.Disk.Disk.Tells g.H.Disk.Disk.files g.H.Disk.Disk.drawn g.H.Disk.Disk.fault_count g.H.Disk.Disk.fuse_count) 1 (flat_map volume_disks c.args.volumes.items) (flat_map volume_disks c.loop-volume.volumes.items) (g.H.Shelf.disks c.args.shelf.now) (g.H.Shelf.disks c.loop-volume.shelf) gives in
     let all = flat-long volume_disks c.args.replicas c.args.volumes.items c.requires.all in
     let rest = flat-long volume_disks c.args.replicas c.loop-volume.volumes.items c.loop-volume.invariant.all in
     let more : length c.loop-volume.volumes.items * c.args.replicas ≡ c.len.result * c.args.replicas + c.args.replicas = (let e = ap (λ n. n * c.args.replicas) long in let d = ap (λ n. n * c.args.replicas) count in omega (arith, e, d)) in

@@ -50,6 +50,7 @@ returns-in_ok-append-in-Ok-clause-opened g c =
         up = e.«open»;
         first = e.first;
         reopened = e.reopened;
+        undamaged = e.undamaged;
       },
     )
 

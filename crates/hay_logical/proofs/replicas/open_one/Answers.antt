@@ -22,6 +22,7 @@ returns-in-Ok-load-clause-opened g c =
       sup = c.open.ensures.sup;
       loose = c.in-Ok.ensures.stuck;
       alone = c.open.ensures.alone;
+      undamaged = c.in-Ok.ensures.undamaged;
       opened = λ tells s opens.
           let p = c.in-Ok.ensures.opened tells s opens in
           (p.0, λ pair. subst (PlaceOf g.D.Piece.Piece.Tells (last_cell s.cells pair)) (sym (place pair)) (p.1 pair));

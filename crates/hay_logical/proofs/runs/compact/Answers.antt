@@ -40,6 +40,7 @@ returns-in-Err-clause-swaps g c =
       up = tt;
       left = begin_left g.D.Disk.Tells g.D.Disk.files g.D.Disk.fault_count r x c.in-Err.fault began.on.up began.kept began.cause;
       swapped = λ tells s run stands start places. tt;
+      removed = λ tells s stands. tt;
       refused = λ tells s run stands start places.
           begin_holds g.D.Disk.Tells g.D.Disk.files g.D.Disk.fault_count r x s run c.in-Err.fault (began.on.stands tells s stands) began.on.stuck (λ e. began.last tells s stands (ap Err e)) began.cause;
       deletable = λ tells may up pair. place_kept g.D.Disk.Tells g.D.Disk.files r x began.on.deletable tells (place_in (row_at c.args.rows.now pair) c.args.at) (may pair);

@@ -42,6 +42,7 @@ returns-in-Err-clause-swaps g c =
       up = tt;
       left = step_left g.D.Disk.files g.D.Disk.fault_count r x y c.in-Err.fault up c.drop_run.ensures.goal c.drop_run.ensures.disk c.in-Err.ensures.steps.cause;
       swapped = λ tells s run stands start places. tt;
+      removed = λ tells s stands. tt;
       refused = λ tells s run stands start places.
           step_holds g.D.Disk.files g.D.Disk.fault_count r x y s run c.end-most.result c.in-Err.fault c.in-Err.ensures.steps.cause (c.in-Err.ensures.steps.refused tells s run stands start places)
           (c.drop_run.ensures.stands tells s (on.stands tells s stands)) (c.drop_run.ensures.stuck ∙ on.stuck);

@@ -4,8 +4,10 @@ use Rattle.std.specs.Prelude.{slice_set}
 use Rattle.hay_needle.specs.declared.needle.Pair.{Pair}
 use Rattle.hay_map.specs.Places.{gone_place, place_in}
 use Rattle.hay_map.specs.Rows.{last_place, row_at}
+use Rattle.hay_open.specs.Stored.{index_file, volume_file}
 use Rattle.hay_physical.specs.Copies.{Copy, is_frozen, is_stuck}
 use Rattle.hay_physical.specs.Replicas as physical
+use Rattle.hay_physical.specs.Runs.{RemovedBoth}
 use Rattle.hay_physical.proofs.Laws.{stands_cells_end, stands_generation, stands_up}
 use Rattle.hay_logical.specs.Steps.{HoldsUnswapped, IsLeftBy}
 use Rattle.hay_logical.specs.Steps.Start.{Examined}
@@ -33,6 +35,9 @@ returns-in-Ok-swap-clause-swaps g c =
             places = places_swapped g.D.Piece.Piece.Tells c.args.rows.now c.swap.new.self c.args.at c.in-Ok.places.items changed s made.0 made.1.table places made.4;
             generation_is = c.generation.ensures.is ∙ stands_generation g.D.Disk.files x made.0 made.3;
           };
+      removed = λ tells s stands.
+          subst (λ n. RemovedBoth (g.D.Disk.files x.disk) (volume_file n) (index_file n) (g.D.Disk.fault_count (c.args.replica.now).disk) (g.D.Disk.fault_count x.disk))
+          (stands_generation g.D.Disk.files c.args.replica.now s stands) (c.in-Ok.ensures.removed tells);
       refused = λ tells s run stands start places. tt;
       deletable = λ tells may up. deletable_swapped g.D.Piece.Piece.Tells c.args.rows.now c.swap.new.self c.args.at c.in-Ok.places.items changed g.D.Disk.files x (c.in-Ok.ensures.can_delete tells);
     }
@@ -54,6 +59,7 @@ returns-in-Ok-clause-swaps g c =
       up = tt;
       left = (c.freeze.ensures.frozen, c.freeze.ensures.dropped.0, tt);
       swapped = λ tells s run stands start places. tt;
+      removed = λ tells s stands. tt;
       refused = λ tells s run stands start places.
           let made = c.in-Ok.ensures.swapped tells s run stands start.0 start.1 in
           let loose : is_stuck x ≡ false = c.in-Ok.ensures.going in
@@ -84,6 +90,7 @@ returns-clause-swaps g c =
             up = tt;
             left = subst (λ u. IsLeftBy g.D.Disk.fault_count Examined r x u) (sym is) (unsure_left g.D.Disk.files g.D.Disk.fault_count r x c.finish.result frozen c.finish.ensures.goal failed c.finish.ensures.causes);
             swapped = λ tells s run stands start places. tt;
+            removed = λ tells s stands. tt;
             refused = λ tells s run stands start places.
                 subst (λ u. HoldsUnswapped g.D.Disk.files r x s run u) (sym is)
                 (elim (c.in-Err.ensures.refused tells s run stands start.0 start.1) [
@@ -103,6 +110,7 @@ returns-clause-swaps g c =
                 (refused_left g.D.Disk.files g.D.Disk.fault_count r x c.in-Err.fault c.requires.up c.requires.standing up c.finish.ensures.goal
                 (λ e. c.finish.ensures.thawed (c.in-Err.is ∙ ap Err e)) (λ n e. c.finish.ensures.none n (c.in-Err.is ∙ ap Err e)) c.in-Err.ensures.causes);
             swapped = λ tells s run stands start places. tt;
+            removed = λ tells s stands. tt;
             refused = λ tells s run stands start places.
                 subst (λ u. HoldsUnswapped g.D.Disk.files r x s run u) (sym is)
                 (refused_holds g.D.Disk.files g.D.Disk.fault_count r x s run c.in-Err.fault c.in-Err.ensures.causes (c.in-Err.ensures.kept tells s stands up) c.in-Err.ensures.still.0);

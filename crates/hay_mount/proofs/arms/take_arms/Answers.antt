@@ -10,7 +10,7 @@ pub returns-in-Err-Failed-clause-put_back : goal.returns-in-Err-Failed-clause-pu
 returns-in-Err-Failed-clause-put_back g c =
     let loop = c.loop-lane.invariant in
     let same : g.H.Shelf.arms c.take_arm.new.self ≡ g.H.Shelf.arms c.loop-lane.shelf = c.in-Err-Failed.ensures.refused refl in
-    arms_back g.H.Arm.Arm.fault_count c.args.lanes c.loop-lane.arms.items (g.H.Shelf.arms c.args.shelf.now) (g.H.Shelf.arms c.loop-lane.shelf) (g.H.Shelf.arms c.give_arms.new.shelf)
+    arms_back g.H.Arm.Arm.fault_count g.H.Arm.Arm.is_sure c.args.lanes c.loop-lane.arms.items (g.H.Shelf.arms c.args.shelf.now) (g.H.Shelf.arms c.loop-lane.shelf) (g.H.Shelf.arms c.give_arms.new.shelf)
     c.requires.arms_in loop.taken (λ number high. loop.rest number (omega (arith, loop.count)))
     c.give_arms.ensures.given (λ number high. c.give_arms.ensures.others number high ∙ ap (λ (held : ℕ → HeldArm). held number) same)
 
@@ -18,7 +18,7 @@ pub returns-in-Err-NoMemory-clause-put_back : goal.returns-in-Err-NoMemory-claus
 returns-in-Err-NoMemory-clause-put_back g c =
     let loop = c.loop-lane.invariant in
     let same : g.H.Shelf.arms c.take_arm.new.self ≡ g.H.Shelf.arms c.loop-lane.shelf = c.in-Err-NoMemory.ensures.refused refl in
-    arms_back g.H.Arm.Arm.fault_count c.args.lanes c.loop-lane.arms.items (g.H.Shelf.arms c.args.shelf.now) (g.H.Shelf.arms c.loop-lane.shelf) (g.H.Shelf.arms c.give_arms-in-Err-NoMemory.new.shelf)
+    arms_back g.H.Arm.Arm.fault_count g.H.Arm.Arm.is_sure c.args.lanes c.loop-lane.arms.items (g.H.Shelf.arms c.args.shelf.now) (g.H.Shelf.arms c.loop-lane.shelf) (g.H.Shelf.arms c.give_arms-in-Err-NoMemory.new.shelf)
     c.requires.arms_in loop.taken (λ number high. loop.rest number (omega (arith, loop.count)))
     c.give_arms-in-Err-NoMemory.ensures.given (λ number high. c.give_arms-in-Err-NoMemory.ensures.others number high ∙ ap (λ (held : ℕ → HeldArm). held number) same)
 
@@ -27,8 +27,11 @@ loop-lane-preserved g c =
     let loop = c.loop-lane.invariant in
     let old = g.H.Shelf.arms c.args.shelf.now in
     let same : g.H.Shelf.arms c.loop-lane.shelf c.loop-lane.lane ≡ old c.loop-lane.lane = loop.rest c.loop-lane.lane (omega arith) in
-    let P : ℕ → g.row.H-Arm.Denot → Type 0 = λ number arm. IsMountedArm g.H.Arm.Arm.fault_count (old number) arm in
-    let taken : P c.loop-lane.lane c.in-Ok.arm = c.in-Ok.ensures.faults ∙ ap (λ (held : HeldArm). held.fault_count) same in
+    let P : ℕ → g.row.H-Arm.Denot → Type 0 = λ number arm. IsMountedArm g.H.Arm.Arm.fault_count g.H.Arm.Arm.is_sure (old number) arm in
+    let taken : P c.loop-lane.lane c.in-Ok.arm = record {
+      fault_count = c.in-Ok.ensures.faults ∙ ap (λ (held : HeldArm). held.fault_count) same;
+      is_sure = c.in-Ok.ensures.sure ∙ ap (λ (held : HeldArm). held.is_sure) same;
+    } in
     record {
       taken = subst (λ items. InOrder P 0 items) (sym c.push_reserved.ensures.items)
           (InOrder-snoc P 0 c.loop-lane.arms.items c.in-Ok.arm loop.taken (subst (λ number. P number c.in-Ok.arm) (omega (arith, loop.count)) taken));

@@ -4,7 +4,7 @@ use Rattle.hay_mount.proofs.arms.take_arms.Given as goal
 
 abbrev pub invariant-loop-lane : goal.invariant-loop-lane
 invariant-loop-lane g l = record {
-  taken : InOrder (λ number arm. IsMountedArm g.H.Arm.Arm.fault_count (g.H.Shelf.arms l.fn.shelf number) arm) 0 l.arms.items;
+  taken : InOrder (λ number arm. IsMountedArm g.H.Arm.Arm.fault_count g.H.Arm.Arm.is_sure (g.H.Shelf.arms l.fn.shelf number) arm) 0 l.arms.items;
   count : length l.arms.items ≡ l.lane;
   room : vec_capacity l.arms ≡ l.lanes;
   out : (number : ℕ) → number < l.lane → (g.H.Shelf.arms l.shelf number).is_out ≡ true;

@@ -1,9 +1,11 @@
-use Rattle.std.proofs.Common.{◌≡◌, ◌<◌, ◌++◌, Some, List, [], ℕ, length, map, sym, ap, subst, ◌∙◌, arith}
+use Rattle.std.proofs.Common.{◌≡◌, ◌<◌, ◌++◌, Some, List, [], ℕ, length, map, refl, sym, ap, subst, ◌∙◌, arith}
 use Rattle.std.specs.Prelude.{Err, Option}
+use Rattle.std.proofs.lemmas.List.{append-nil}
 use Rattle.std.proofs.lemmas.Result.{on_ok_weaker}
 use Rattle.hay_needle.specs.declared.settings.Settings.{Settings}
 use Rattle.hay_mount.specs.Mounts.{AreIn, AreOut, SameFrom}
-use Rattle.hay_reply.specs.Replies.{header_line}
+use Rattle.hay_disk.specs.Streams.{Wrote}
+use Rattle.hay_reply.specs.Replies.{header_line, note_line}
 use Rattle.hay_legal.specs.declared.known.Known.{Known}
 use Rattle.hay_legal.specs.Known.{disk_count}
 use Rattle.hay_legal.specs.Stands.{StandsOn}
@@ -17,7 +19,7 @@ use Rattle.hay_run.specs.declared.stops.Stop.TheVariants as stop
 use Rattle.hay_run.specs.Runs.{RanTo}
 use Rattle.hay_run.specs.Stops.{ending_of}
 use Rattle.hay_run.specs.Turns.{Serves, ServedUntil}
-use Rattle.hay_run.proofs.Counting.{NoneFalls-at}
+use Rattle.hay_run.proofs.Counting.{NoneFalls-at, arm_there, sure_at}
 use Rattle.hay_run.proofs.Giving.{same_more}
 use Rattle.hay_run.proofs.Ran.{ran_all, ran_stopped}
 use Rattle.hay_run.proofs.Refusing.{on_ok_both, ran_unopened, cause_of, not_opened_later}
@@ -69,7 +71,7 @@ pub returns-in-Err-clause-faults : goal.returns-in-Err-clause-faults
 returns-in-Err-clause-faults g c = λ slot within. (c.in-Err.ensures.back_counts slot within).faults_rise
 
 pub returns-in-Err-clause-arm_faults : goal.returns-in-Err-clause-arm_faults
-returns-in-Err-clause-arm_faults g c = λ lane within. let same = c.in-Err.ensures.back_arm_counts lane within in omega (arith, same)
+returns-in-Err-clause-arm_faults g c = λ lane within. let same = (c.in-Err.ensures.back_arms lane within).fault_count in omega (arith, same)
 
 -- what was answered
 
@@ -77,8 +79,8 @@ pub returns-clause-ran : goal.returns-clause-ran
 returns-clause-ran g c = λ tells.
     let D = g.H.Disk.Disk in
     let A = g.H.Arm.Arm in
-    let taken = outside_of (g.H.Shelf.disks c.args.shelf.now) (g.H.Shelf.arms c.args.shelf.now) in
-    let given = outside_of (g.H.Shelf.disks c.close.new.shelf) (g.H.Shelf.arms c.close.new.shelf) in
+    let taken = outside_of (g.H.Shelf.fault_count c.args.shelf.now) (g.H.Shelf.disks c.args.shelf.now) (g.H.Shelf.arms c.args.shelf.now) in
+    let given = outside_of (g.H.Shelf.fault_count c.close.new.shelf) (g.H.Shelf.disks c.close.new.shelf) (g.H.Shelf.arms c.close.new.shelf) in
     let store' = c.serve-outcome.new.cluster in
     let is_settings : store'.settings ≡ c.args.settings = c.serve-outcome.ensures.settings ∙ c.in-Ok.ensures.settings in
     let closed : (known : Known) → Holds D.files D.fault_count D.fuse_count A.fault_count store' known → StandsOn (IsReplica c.args.settings) (OpensRows c.args.settings) c.args.settings known given =
@@ -86,11 +88,11 @@ returns-clause-ran g c = λ tells.
     let P : Settings → Type 0 = λ s. StandsOn (IsReplica s) (OpensRows s) s known given in
     subst P is_settings (c.close.ensures.stands tells known held) in
     on_ok_weaker c.serve-outcome.result (λ both k taken_is script held told told_sink.
-    let opened = c.in-Ok.ensures.opened tells k taken_is.opened in
+    let opened = c.in-Ok.ensures.opened tells k taken_is in
     let served : Serves D.Tells (Stands D.files g.H.Disk.Piece.Piece.Tells D.fault_count D.fuse_count A.fault_count) (Some script) c.in-Ok.cluster (Some (held ++ header_line c.args.settings)) store' (g.K.Sink.written c.serve-outcome.new.sink) =
     rw (told, told_sink) at both.0 in
     let over : g.S.Source.left c.serve-outcome.new.source ≡ Some [] = rw told at both.1 in
-    ran_all D.Tells (Stands D.files g.H.Disk.Piece.Piece.Tells D.fault_count D.fuse_count A.fault_count) (Holds D.files D.fault_count D.fuse_count A.fault_count) c.args.settings taken given c.in-Ok.cluster store' opened.0
+    ran_all D.Tells (Stands D.files g.H.Disk.Piece.Piece.Tells D.fault_count D.fuse_count A.fault_count) (Holds D.files D.fault_count D.fuse_count A.fault_count) c.args.settings taken given c.in-Ok.cluster store' k opened.0
     tells opened.1 c.in-Ok.ensures.settings is_settings opened.2 (λ between is known stands. stands_holds D.files g.H.Disk.Piece.Piece.Tells D.fault_count D.fuse_count A.fault_count between known stands) closed
     script held (g.S.Source.left c.serve-outcome.new.source) (g.K.Sink.written c.serve-outcome.new.sink)
     served.asked served.all (served.answers tells opened.0 opened.2) over)
@@ -100,18 +102,18 @@ pub returns-clause-stopped : goal.returns-clause-stopped
 returns-clause-stopped g c = λ tells why is k taken_is script held told told_sink.
     let D = g.H.Disk.Disk in
     let A = g.H.Arm.Arm in
-    let taken = outside_of (g.H.Shelf.disks c.args.shelf.now) (g.H.Shelf.arms c.args.shelf.now) in
-    let given = outside_of (g.H.Shelf.disks c.close.new.shelf) (g.H.Shelf.arms c.close.new.shelf) in
+    let taken = outside_of (g.H.Shelf.fault_count c.args.shelf.now) (g.H.Shelf.disks c.args.shelf.now) (g.H.Shelf.arms c.args.shelf.now) in
+    let given = outside_of (g.H.Shelf.fault_count c.close.new.shelf) (g.H.Shelf.disks c.close.new.shelf) (g.H.Shelf.arms c.close.new.shelf) in
     let store' = c.serve-outcome.new.cluster in
     let is_settings : store'.settings ≡ c.args.settings = c.serve-outcome.ensures.settings ∙ c.in-Ok.ensures.settings in
     let closed : (known : Known) → Holds D.files D.fault_count D.fuse_count A.fault_count store' known → StandsOn (IsReplica c.args.settings) (OpensRows c.args.settings) c.args.settings known given =
     λ known held.
     let P : Settings → Type 0 = λ s. StandsOn (IsReplica s) (OpensRows s) s known given in
     subst P is_settings (c.close.ensures.stands tells known held) in
-    let opened = c.in-Ok.ensures.opened tells k taken_is.opened in
+    let opened = c.in-Ok.ensures.opened tells k taken_is in
     let u : ServedUntil D.Tells (Stands D.files g.H.Disk.Piece.Piece.Tells D.fault_count D.fuse_count A.fault_count) (Holds D.files D.fault_count D.fuse_count A.fault_count) why (Some script) c.in-Ok.cluster (Some (held ++ header_line c.args.settings)) (g.S.Source.left c.serve-outcome.new.source) store' (g.K.Sink.written c.serve-outcome.new.sink) =
     rw (told, told_sink) at (c.serve-outcome.ensures.stopped why is) in
-    ran_stopped D.Tells (Stands D.files g.H.Disk.Piece.Piece.Tells D.fault_count D.fuse_count A.fault_count) (Holds D.files D.fault_count D.fuse_count A.fault_count) c.args.settings taken given c.in-Ok.cluster store' opened.0
+    ran_stopped D.Tells (Stands D.files g.H.Disk.Piece.Piece.Tells D.fault_count D.fuse_count A.fault_count) (Holds D.files D.fault_count D.fuse_count A.fault_count) c.args.settings taken given c.in-Ok.cluster store' k opened.0
     tells opened.1 c.in-Ok.ensures.settings is_settings opened.2 (λ between is known stands. stands_holds D.files g.H.Disk.Piece.Piece.Tells D.fault_count D.fuse_count A.fault_count between known stands) closed
     script held (g.S.Source.left c.serve-outcome.new.source) (g.K.Sink.written c.serve-outcome.new.sink)
     u.asked u.number u.rest u.mid u.text u.held u.took u.settings (u.answers tells opened.0 opened.2)
@@ -123,38 +125,56 @@ pub returns-clause-store : goal.returns-clause-store
 returns-clause-store g c = λ is.
     let D = g.H.Disk.Disk in
     let A = g.H.Arm.Arm in
-    let taken = outside_of (g.H.Shelf.disks c.args.shelf.now) (g.H.Shelf.arms c.args.shelf.now) in
-    let given = outside_of (g.H.Shelf.disks c.close.new.shelf) (g.H.Shelf.arms c.close.new.shelf) in
+    let taken = outside_of (g.H.Shelf.fault_count c.args.shelf.now) (g.H.Shelf.disks c.args.shelf.now) (g.H.Shelf.arms c.args.shelf.now) in
+    let given = outside_of (g.H.Shelf.fault_count c.close.new.shelf) (g.H.Shelf.disks c.close.new.shelf) (g.H.Shelf.arms c.close.new.shelf) in
     let store' = c.serve-outcome.new.cluster in
     let is_settings : store'.settings ≡ c.args.settings = c.serve-outcome.ensures.settings ∙ c.in-Ok.ensures.settings in
     let P : Settings → ℕ → Type 0 = λ s slot. slot < disk_count s in
-    not_opened_later D.Tells _ c.args.settings (g.H.Shelf.fault_count c.args.shelf.now) (g.H.Shelf.fault_count c.close.new.shelf) taken given
-    (Stands D.files g.H.Disk.Piece.Piece.Tells D.fault_count D.fuse_count A.fault_count) D.fault_count c.in-Ok.cluster store' c.in-Ok.ensures.settings
+    not_opened_later D.Tells _ c.args.settings taken given
+    (Stands D.files g.H.Disk.Piece.Piece.Tells D.fault_count D.fuse_count A.fault_count) D.files D.fault_count c.in-Ok.cluster store' c.in-Ok.ensures.settings
     (λ slot within. (c.in-Ok.ensures.counts slot within).faults_rise)
     (λ slot within. c.close.ensures.fault_counts slot (subst (λ s. P s slot) (sym is_settings) within))
+    (λ tells slot within. c.close.ensures.contents tells slot (subst (λ s. P s slot) (sym is_settings) within))
     (λ tells k taken_is. let opened = c.in-Ok.ensures.opened tells k taken_is in (opened.0, opened.2))
     (λ unread.
     let u : ServedUntil D.Tells (Stands D.files g.H.Disk.Piece.Piece.Tells D.fault_count D.fuse_count A.fault_count) (Holds D.files D.fault_count D.fuse_count A.fault_count) stop.Store (Some unread.0) c.in-Ok.cluster (g.K.Sink.written c.args.sink.now) (g.S.Source.left c.serve-outcome.new.source) store' (g.K.Sink.written c.serve-outcome.new.sink) =
     rw unread.1 at (c.serve-outcome.ensures.stopped stop.Store is) in
     was_read D.Tells (Stands D.files g.H.Disk.Piece.Piece.Tells D.fault_count D.fuse_count A.fault_count) (Holds D.files D.fault_count D.fuse_count A.fault_count) unread.0 (g.S.Source.left c.serve-outcome.new.source) c.in-Ok.cluster store' (g.K.Sink.written c.args.sink.now) (g.K.Sink.written c.serve-outcome.new.sink) u unread.2)
-    (g.K.Sink.written c.serve-outcome.new.sink) (c.serve-outcome.ensures.halted is)
+    (g.K.Sink.written c.args.sink.now) (g.K.Sink.written c.serve-outcome.new.sink) (c.serve-outcome.ensures.halted is)
+
+-- each arm that is sure is given back so
+pub returns-clause-sure_arms : goal.returns-clause-sure_arms
+returns-clause-sure_arms g c = λ lane within sure.
+    let A = g.H.Arm.Arm in
+    let arms = c.in-Ok.cluster.arms in
+    let some = arm_there arms lane (subst (λ n. lane < n) (sym c.in-Ok.ensures.lanes) within) in
+    let later = sure_at A.is_sure arms c.serve-outcome.new.cluster.arms lane some.0 c.serve-outcome.ensures.sure_arms some.1 in
+    c.close.ensures.sure_arms lane later.0 later.1 ∙ later.2 (c.in-Ok.ensures.sure_arms lane some.0 some.1 ∙ sure)
+
+pub returns-clause-sound : goal.returns-clause-sound
+returns-clause-sound g c = λ tells opened. c.in-Ok.ensures.sound tells
 
 -- the store was not opened
+
+pub returns-in-Err-clause-sure_arms : goal.returns-in-Err-clause-sure_arms
+returns-in-Err-clause-sure_arms g c = λ lane within sure. (c.in-Err.ensures.back_arms lane within).is_sure ∙ sure
 
 pub returns-in-Err-clause-stopped : goal.returns-in-Err-clause-stopped
 returns-in-Err-clause-stopped g c = λ tells why is k taken_is script held told told_sink.
     let D = g.H.Disk.Disk in
+    let shelf = g.H.Shelf.fault_count c.args.shelf.now in
+    let shelf' = g.H.Shelf.fault_count c.open.new.shelf in
     let disks = g.H.Shelf.disks c.args.shelf.now in
     let disks' = g.H.Shelf.disks c.open.new.shelf in
     let arms = g.H.Shelf.arms c.args.shelf.now in
     let arms' = g.H.Shelf.arms c.open.new.shelf in
     let same : c.write_refusal.result ≡ why = cc in
     let written' = g.K.Sink.written c.write_refusal.new.sink in
-    let P : Option (List ℕ) → Type 0 = λ left. RanTo c.args.settings (ending_of why) script left (outside_of disks arms) (outside_of disks' arms') held written' in
+    let P : Option (List ℕ) → Type 0 = λ left. RanTo c.args.settings k (ending_of why) script left (outside_of shelf disks arms) (outside_of shelf' disks' arms') held written' in
     subst P (sym told)
-    (ran_unopened c.args.settings disks disks' arms arms' k taken_is
-    script held written' (c.in-Err.ensures.kept tells) D.Tells (Unit {0}) tells (g.H.Shelf.fault_count c.args.shelf.now) (g.H.Shelf.fault_count c.open.new.shelf) c.in-Err.fault why
-    (cause_of D.Tells (Unit {0}) c.args.settings (g.H.Shelf.fault_count c.args.shelf.now) (g.H.Shelf.fault_count c.open.new.shelf) (outside_of disks arms) (outside_of disks' arms') c.requires.built.some_replicas c.in-Err.fault
+    (ran_unopened c.args.settings shelf shelf' disks disks' arms arms' k taken_is (c.in-Err.ensures.kept tells) c.in-Err.ensures.back_counts c.in-Err.ensures.back_arms
+    script held written' D.Tells (Unit {0}) tells c.in-Err.fault why
+    (cause_of D.Tells (Unit {0}) c.args.settings (outside_of shelf disks arms) (outside_of shelf' disks' arms') c.requires.built.some_replicas c.in-Err.fault
     c.in-Err.ensures.shelf c.in-Err.ensures.failed (λ t slot file at e. c.in-Err.ensures.damaged t slot file at (ap (λ f. Err f) e)))
     (rw (told_sink, same) at c.write_refusal.ensures.told) (rw (told_sink, same) at c.write_refusal.ensures.part)
     (λ none. let w = c.write_refusal.ensures.wanting none in (sym same ∙ w.0, ap g.K.Sink.written w.1 ∙ told_sink)) (rw same at c.write_refusal.ensures.stops))
@@ -162,10 +182,21 @@ returns-in-Err-clause-stopped g c = λ tells why is k taken_is script held told 
 pub returns-in-Err-clause-store : goal.returns-in-Err-clause-store
 returns-in-Err-clause-store g c = λ is.
     let D = g.H.Disk.Disk in
-    let note = c.write_refusal.ensures.told (let e = is in cc e) in (
-      note.0,
-      cause_of D.Tells _ c.args.settings (g.H.Shelf.fault_count c.args.shelf.now) (g.H.Shelf.fault_count c.open.new.shelf) (outside_of (g.H.Shelf.disks c.args.shelf.now) (g.H.Shelf.arms c.args.shelf.now))
-          (outside_of (g.H.Shelf.disks c.open.new.shelf) (g.H.Shelf.arms c.open.new.shelf)) c.requires.built.some_replicas c.in-Err.fault
-          c.in-Err.ensures.shelf c.in-Err.ensures.failed (λ t slot file at e. c.in-Err.ensures.damaged t slot file at (ap (λ f. Err f) e)) note.0 note.1,
-      (g.K.Sink.written c.args.sink.now, note.2),
-    )
+    let shelf = g.H.Shelf.fault_count c.args.shelf.now in
+    let shelf' = g.H.Shelf.fault_count c.open.new.shelf in
+    let note = c.write_refusal.ensures.told (let e = is in cc e) in
+    record {
+      note = note.0;
+      why = cause_of D.Tells _ c.args.settings (outside_of shelf (g.H.Shelf.disks c.args.shelf.now) (g.H.Shelf.arms c.args.shelf.now))
+          (outside_of shelf' (g.H.Shelf.disks c.open.new.shelf) (g.H.Shelf.arms c.open.new.shelf)) c.requires.built.some_replicas c.in-Err.fault
+          c.in-Err.ensures.shelf c.in-Err.ensures.failed (λ t slot file at e. c.in-Err.ensures.damaged t slot file at (ap (λ f. Err f) e)) note.0 note.1;
+      told = λ held told_sink. (
+        [],
+        (let wrote : Wrote (Some held) (note_line note.0) (g.K.Sink.written c.write_refusal.new.sink) = rw told_sink at note.2 in
+            subst (λ (bytes : List ℕ). g.K.Sink.written c.write_refusal.new.sink ≡ Some (bytes ++ note_line note.0)) (sym (append-nil held)) wrote),
+        λ unread. refl,
+      );
+    }
+
+pub returns-clause-appends : goal.returns-clause-appends
+returns-clause-appends g c = c.serve-outcome.ensures.appends

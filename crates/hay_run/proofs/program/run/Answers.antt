@@ -5,34 +5,34 @@ use Rattle.hay_disk.specs.Shelf.{HeldDisk, HeldArm}
 use Rattle.hay_mount.specs.Mounts.{SameFrom}
 use Rattle.hay_legal.specs.Known.{disk_count}
 use Rattle.hay_legal.specs.Statuses.Ending.{ReadAll}
-use Rattle.hay_cluster.specs.Outside.{outside_of}
-use Rattle.hay_run.specs.Runs.{IsTaken, IsUnread, RanTo, NotOpenedFor}
+use Rattle.hay_cluster.specs.Outside.{IsUndamaged, outside_of, read_of}
+use Rattle.hay_run.specs.Runs.{IsTaken, IsUnread, RanTo, IsNotOpened}
 use Rattle.hay_run.specs.Stops.{ending_of}
 use Rattle.hay_run.specs.Words.{SaysRun}
 use Rattle.hay_run.proofs.Commanding.{same_run}
 use Rattle.hay_run.proofs.Giving.{disks_in, arms_in, none_fell}
-use Rattle.hay_run.proofs.Refusing.{ran_nothing, ran_by, store_by}
+use Rattle.hay_run.proofs.Refusing.{opened_by, ran_nothing, ran_by, store_by}
 use Rattle.hay_run.proofs.program.run.Goals as goal
 
 -- memory was wanting for the words
 
 pub returns-in-Err-clause-ran : goal.returns-in-Err-clause-ran
 returns-in-Err-clause-ran g c = λ tells settings k says taken script held told told_sink ending is.
-    let outside = outside_of (g.H.Shelf.disks c.args.shelf.now) (g.H.Shelf.arms c.args.shelf.now) in
-    let P : Option (List ℕ) → Type 0 = λ left. RanTo settings ending script left outside outside held (g.K.Sink.written c.args.sink.now) in
-    subst P (sym told) (ran_nothing settings outside k taken.opened script held (g.K.Sink.written c.args.sink.now) told_sink ending (sym c.status.ensures ∙ is))
+    let outside = outside_of (g.H.Shelf.fault_count c.args.shelf.now) (g.H.Shelf.disks c.args.shelf.now) (g.H.Shelf.arms c.args.shelf.now) in
+    let P : Option (List ℕ) → Type 0 = λ left. RanTo settings k ending script left outside outside held (g.K.Sink.written c.args.sink.now) in
+    subst P (sym told) (ran_nothing settings outside k taken script held (g.K.Sink.written c.args.sink.now) told_sink ending (sym c.status.ensures ∙ is))
 
 -- the script was read to its end
 
 pub returns-in-Ok-clause-ran : goal.returns-in-Ok-clause-ran
 returns-in-Ok-clause-ran g c = λ tells settings k says taken script held told told_sink ending is.
-    let given = outside_of (g.H.Shelf.disks c.run_script.new.shelf) (g.H.Shelf.arms c.run_script.new.shelf) in
-    let outside = outside_of (g.H.Shelf.disks c.args.shelf.now) (g.H.Shelf.arms c.args.shelf.now) in
+    let given = outside_of (g.H.Shelf.fault_count c.run_script.new.shelf) (g.H.Shelf.disks c.run_script.new.shelf) (g.H.Shelf.arms c.run_script.new.shelf) in
+    let outside = outside_of (g.H.Shelf.fault_count c.args.shelf.now) (g.H.Shelf.disks c.args.shelf.now) (g.H.Shelf.arms c.args.shelf.now) in
     let same : c.in-Ok-Some.settings ≡ settings = (let run : SaysRun (map string_bytes c.args.words.now) c.in-Ok-Some.settings = rw c.in-Ok-Some.field-0-is at c.in-Ok-Some.ensures.run in
     same_run (map string_bytes c.args.words.now) c.in-Ok-Some.settings settings run says) in
-    let P : Settings → Type 0 = λ s. RanTo s ending script (g.S.Source.left c.run_script.new.source) outside given held (g.K.Sink.written c.run_script.new.sink) in
+    let P : Settings → Type 0 = λ s. RanTo s k ending script (g.S.Source.left c.run_script.new.source) outside given held (g.K.Sink.written c.run_script.new.sink) in
     let Q : Settings → Type 0 = λ s. IsTaken s outside k in
-    subst P same (ran_by c.in-Ok-Some.settings script (g.S.Source.left c.run_script.new.source) outside given held (g.K.Sink.written c.run_script.new.sink) ending ReadAll is
+    subst P same (ran_by c.in-Ok-Some.settings k script (g.S.Source.left c.run_script.new.source) outside given held (g.K.Sink.written c.run_script.new.sink) ending ReadAll is
     (c.in-Ok.ensures.ran tells k (subst Q (sym same) taken) script held told told_sink))
 
 pub returns-in-Ok-clause-disks_back : goal.returns-in-Ok-clause-disks_back
@@ -62,13 +62,13 @@ returns-in-Ok-clause-other_slots g c = λ settings says.
 
 pub returns-in-Err-run_script-clause-ran : goal.returns-in-Err-run_script-clause-ran
 returns-in-Err-run_script-clause-ran g c = λ tells settings k says taken script held told told_sink ending is.
-    let given = outside_of (g.H.Shelf.disks c.run_script.new.shelf) (g.H.Shelf.arms c.run_script.new.shelf) in
-    let outside = outside_of (g.H.Shelf.disks c.args.shelf.now) (g.H.Shelf.arms c.args.shelf.now) in
+    let given = outside_of (g.H.Shelf.fault_count c.run_script.new.shelf) (g.H.Shelf.disks c.run_script.new.shelf) (g.H.Shelf.arms c.run_script.new.shelf) in
+    let outside = outside_of (g.H.Shelf.fault_count c.args.shelf.now) (g.H.Shelf.disks c.args.shelf.now) (g.H.Shelf.arms c.args.shelf.now) in
     let same : c.in-Ok-Some.settings ≡ settings = (let run : SaysRun (map string_bytes c.args.words.now) c.in-Ok-Some.settings = rw c.in-Ok-Some.field-0-is at c.in-Ok-Some.ensures.run in
     same_run (map string_bytes c.args.words.now) c.in-Ok-Some.settings settings run says) in
-    let P : Settings → Type 0 = λ s. RanTo s ending script (g.S.Source.left c.run_script.new.source) outside given held (g.K.Sink.written c.run_script.new.sink) in
+    let P : Settings → Type 0 = λ s. RanTo s k ending script (g.S.Source.left c.run_script.new.source) outside given held (g.K.Sink.written c.run_script.new.sink) in
     let Q : Settings → Type 0 = λ s. IsTaken s outside k in
-    subst P same (ran_by c.in-Ok-Some.settings script (g.S.Source.left c.run_script.new.source) outside given held (g.K.Sink.written c.run_script.new.sink) ending (ending_of c.in-Err-run_script.stop)
+    subst P same (ran_by c.in-Ok-Some.settings k script (g.S.Source.left c.run_script.new.source) outside given held (g.K.Sink.written c.run_script.new.sink) ending (ending_of c.in-Err-run_script.stop)
     (sym c.status-in-Err-run_script.ensures ∙ is)
     (c.in-Err-run_script.ensures.stopped tells c.in-Err-run_script.stop refl k (subst Q (sym same) taken) script held told told_sink))
 
@@ -99,8 +99,21 @@ pub returns-in-Err-run_script-clause-store : goal.returns-in-Err-run_script-clau
 returns-in-Err-run_script-clause-store g c = λ six settings says.
     let same : c.in-Ok-Some.settings ≡ settings = (let run : SaysRun (map string_bytes c.args.words.now) c.in-Ok-Some.settings = rw c.in-Ok-Some.field-0-is at c.in-Ok-Some.ensures.run in
     same_run (map string_bytes c.args.words.now) c.in-Ok-Some.settings settings run says) in
-    let taken = outside_of (g.H.Shelf.disks c.args.shelf.now) (g.H.Shelf.arms c.args.shelf.now) in
-    let given = outside_of (g.H.Shelf.disks c.run_script.new.shelf) (g.H.Shelf.arms c.run_script.new.shelf) in
-    let P : Settings → Type 0 = λ s. NotOpenedFor g.H.Disk.Disk.Tells (IsUnread (g.S.Source.left c.args.source.now) (g.S.Source.left c.run_script.new.source)) s
-    (g.H.Shelf.fault_count c.args.shelf.now) taken (g.H.Shelf.fault_count c.run_script.new.shelf) given (g.K.Sink.written c.run_script.new.sink) in
+    let taken = outside_of (g.H.Shelf.fault_count c.args.shelf.now) (g.H.Shelf.disks c.args.shelf.now) (g.H.Shelf.arms c.args.shelf.now) in
+    let given = outside_of (g.H.Shelf.fault_count c.run_script.new.shelf) (g.H.Shelf.disks c.run_script.new.shelf) (g.H.Shelf.arms c.run_script.new.shelf) in
+    let P : Settings → Type 0 = λ s. IsNotOpened g.H.Disk.Disk.Tells (IsUnread (g.S.Source.left c.args.source.now) (g.S.Source.left c.run_script.new.source)) s
+    taken given (g.K.Sink.written c.args.sink.now) (g.K.Sink.written c.run_script.new.sink) in
     subst P same (c.in-Err-run_script.ensures.store (ap (λ w. Err w) (store_by c.in-Err-run_script.stop (sym c.status-in-Err-run_script.ensures ∙ six))))
+
+pub returns-in-Ok-clause-sound : goal.returns-in-Ok-clause-sound
+returns-in-Ok-clause-sound g c = λ tells status settings says.
+    let same : c.in-Ok-Some.settings ≡ settings = (let run : SaysRun (map string_bytes c.args.words.now) c.in-Ok-Some.settings = rw c.in-Ok-Some.field-0-is at c.in-Ok-Some.ensures.run in
+    same_run (map string_bytes c.args.words.now) c.in-Ok-Some.settings settings run says) in
+    subst (λ (s : Settings). IsUndamaged s (λ slot. read_of (g.H.Shelf.disks c.args.shelf.now slot))) same (c.in-Ok.ensures.sound tells tt)
+
+pub returns-in-Err-run_script-clause-sound : goal.returns-in-Err-run_script-clause-sound
+returns-in-Err-run_script-clause-sound g c = λ tells status settings says.
+    let same : c.in-Ok-Some.settings ≡ settings = (let run : SaysRun (map string_bytes c.args.words.now) c.in-Ok-Some.settings = rw c.in-Ok-Some.field-0-is at c.in-Ok-Some.ensures.run in
+    same_run (map string_bytes c.args.words.now) c.in-Ok-Some.settings settings run says) in
+    subst (λ (s : Settings). IsUndamaged s (λ slot. read_of (g.H.Shelf.disks c.args.shelf.now slot))) same
+    (c.in-Err-run_script.ensures.sound tells (opened_by c.in-Err-run_script.stop c.status-in-Err-run_script.result c.status-in-Err-run_script.ensures status))

@@ -2,14 +2,14 @@ use Rattle.std.proofs.Common.{◌++◌, map, [], Some, refl, sym, ap, ◌∙◌,
 use Rattle.std.specs.Prelude.{Result, Err, IsErrOf}
 use Rattle.hay_run.specs.declared.stops.Stop.{Stop}
 use Rattle.std.proofs.lemmas.Result.{err_from_is_err_and}
-use Rattle.hay_disk.specs.Streams.{Wrote}
 use Rattle.hay_cluster.specs.State.{Stands, Holds}
 use Rattle.hay_cluster.specs.Store.{disks_of}
 use Rattle.hay_run.specs.Stream.{rest_of, Accounts}
 use Rattle.hay_run.proofs.Asking.{took_first, took_items_more, asks_all, at_end_turn, read_to_end, short_script}
-use Rattle.hay_run.proofs.Counting.{NoneFalls-same, NoneFalls-more}
+use Rattle.hay_cluster.proofs.Sure.{same_sure}
+use Rattle.hay_run.proofs.Counting.{NoneFalls-same, NoneFalls-more, sure_more}
 use Rattle.hay_run.proofs.Taking.{accounts_same, accounts_more}
-use Rattle.hay_run.proofs.Turning.{answers_nothing, answers_more, wrote_more}
+use Rattle.hay_run.proofs.Turning.{answers_nothing, answers_more, appends_nothing, appends_more}
 use Rattle.hay_run.proofs.Serving.{stops_by, holds_none, memory_same, halts_more}
 use Rattle.hay_run.proofs.serve.serve.Goals as goal
 
@@ -29,6 +29,8 @@ turns-init g c = record {
   sink = omega arith;
   faults = NoneFalls-same (map g.D.Disk.fault_count (disks_of c.args.cluster.now));
   arm_faults = NoneFalls-same (map g.A.Arm.fault_count c.args.cluster.now.arms);
+  sure_arms = same_sure g.A.Arm.is_sure c.args.cluster.now.arms c.args.cluster.now.arms refl;
+  appends = appends_nothing (g.K.Sink.written c.args.sink.now);
 }
 
 pub returns-in_err-number-clause-stopped : goal.returns-in_err-number-clause-stopped
@@ -62,8 +64,8 @@ returns-in_err-number-clause-stopped g c = λ why is.
 pub returns-in_err-number-clause-halted : goal.returns-in_err-number-clause-halted
 returns-in_err-number-clause-halted g c = λ is.
     let inv = c.turns.invariant in
-    halts_more g.D.Disk.Tells (Stands g.D.Disk.files g.D.Piece.Piece.Tells g.D.Disk.fault_count g.D.Disk.fuse_count g.A.Arm.fault_count) g.D.Disk.fault_count inv.asked (g.K.Sink.written c.args.sink.now) (g.K.Sink.written c.turns.sink) (g.K.Sink.written c.turn.new.sink)
-    c.args.cluster.now c.turns.cluster c.turn.new.cluster inv.same inv.faults inv.answers
+    halts_more g.D.Disk.Tells (Stands g.D.Disk.files g.D.Piece.Piece.Tells g.D.Disk.fault_count g.D.Disk.fuse_count g.A.Arm.fault_count) g.D.Disk.files g.D.Disk.fault_count inv.asked (g.K.Sink.written c.args.sink.now) (g.K.Sink.written c.turns.sink) (g.K.Sink.written c.turn.new.sink)
+    c.args.cluster.now c.turns.cluster c.turn.new.cluster inv.same inv.faults inv.appends inv.answers
     (c.in_err-number.ensures.halted (let p = err_from_is_err_and c.from_residual.result c.from_residual.ensures.1 in cc (p.1, p.2)))
 
 pub returns-then-is_ended-clause-served : goal.returns-then-is_ended-clause-served
@@ -79,7 +81,7 @@ returns-then-is_ended-clause-served g c =
           inv.asked turned.asked c.turn.new.script.ended inv.took turned.took) met;
       answers = λ tells k stands.
           let first = inv.answers tells k stands in
-          answers_more (Stands g.D.Disk.files g.D.Piece.Piece.Tells g.D.Disk.fault_count g.D.Disk.fuse_count g.A.Arm.fault_count) (Stands g.D.Disk.files g.D.Piece.Piece.Tells g.D.Disk.fault_count g.D.Disk.fuse_count g.A.Arm.fault_count) Wrote wrote_more k inv.asked turned.asked
+          answers_more (Stands g.D.Disk.files g.D.Piece.Piece.Tells g.D.Disk.fault_count g.D.Disk.fuse_count g.A.Arm.fault_count) k inv.asked turned.asked
           (g.K.Sink.written c.args.sink.now) (g.K.Sink.written c.turns.sink) (g.K.Sink.written c.turn.new.sink) c.turns.cluster c.turn.new.cluster c.in_ok-number.ensures.settings
           first (turned.answers tells first.t first.left);
     }
@@ -120,7 +122,7 @@ turns-preserved g c =
           inv.asked turned.asked false inv.took (rw unmet at turned.took);
       answers = λ tells k stands.
           let first = inv.answers tells k stands in
-          answers_more (Stands g.D.Disk.files g.D.Piece.Piece.Tells g.D.Disk.fault_count g.D.Disk.fuse_count g.A.Arm.fault_count) (Stands g.D.Disk.files g.D.Piece.Piece.Tells g.D.Disk.fault_count g.D.Disk.fuse_count g.A.Arm.fault_count) Wrote wrote_more k inv.asked turned.asked
+          answers_more (Stands g.D.Disk.files g.D.Piece.Piece.Tells g.D.Disk.fault_count g.D.Disk.fuse_count g.A.Arm.fault_count) k inv.asked turned.asked
           (g.K.Sink.written c.args.sink.now) (g.K.Sink.written c.turns.sink) (g.K.Sink.written c.turn.new.sink) c.turns.cluster c.turn.new.cluster c.in_ok-number.ensures.settings
           first (turned.answers tells first.t first.left);
       first = inv.first;
@@ -132,6 +134,8 @@ turns-preserved g c =
           inv.faults c.in_ok-number.ensures.faults;
       arm_faults = NoneFalls-more (map g.A.Arm.fault_count c.args.cluster.now.arms) (map g.A.Arm.fault_count c.turns.cluster.arms) (map g.A.Arm.fault_count c.turn.new.cluster.arms)
           inv.arm_faults c.in_ok-number.ensures.arm_faults;
+      sure_arms = sure_more g.A.Arm.is_sure c.args.cluster.now.arms c.turns.cluster.arms c.turn.new.cluster.arms inv.sure_arms c.in_ok-number.ensures.sure_arms;
+      appends = appends_more (g.K.Sink.written c.args.sink.now) (g.K.Sink.written c.turns.sink) (g.K.Sink.written c.turn.new.sink) inv.appends c.in_ok-number.ensures.appends;
     }
 
 pub returns-in_err-number-clause-faults : goal.returns-in_err-number-clause-faults
@@ -153,3 +157,21 @@ pub returns-then-is_ended-clause-arm_faults : goal.returns-then-is_ended-clause-
 returns-then-is_ended-clause-arm_faults g c =
     NoneFalls-more (map g.A.Arm.fault_count c.args.cluster.now.arms) (map g.A.Arm.fault_count c.turns.cluster.arms) (map g.A.Arm.fault_count c.turn.new.cluster.arms)
     c.turns.invariant.arm_faults c.in_ok-number.ensures.arm_faults
+
+-- what is sure, and what is behind what was written
+
+pub returns-in_err-number-clause-sure_arms : goal.returns-in_err-number-clause-sure_arms
+returns-in_err-number-clause-sure_arms g c =
+    sure_more g.A.Arm.is_sure c.args.cluster.now.arms c.turns.cluster.arms c.turn.new.cluster.arms c.turns.invariant.sure_arms c.in_err-number.ensures.sure_arms
+
+pub returns-then-is_ended-clause-sure_arms : goal.returns-then-is_ended-clause-sure_arms
+returns-then-is_ended-clause-sure_arms g c =
+    sure_more g.A.Arm.is_sure c.args.cluster.now.arms c.turns.cluster.arms c.turn.new.cluster.arms c.turns.invariant.sure_arms c.in_ok-number.ensures.sure_arms
+
+pub returns-in_err-number-clause-appends : goal.returns-in_err-number-clause-appends
+returns-in_err-number-clause-appends g c =
+    appends_more (g.K.Sink.written c.args.sink.now) (g.K.Sink.written c.turns.sink) (g.K.Sink.written c.turn.new.sink) c.turns.invariant.appends c.in_err-number.ensures.appends
+
+pub returns-then-is_ended-clause-appends : goal.returns-then-is_ended-clause-appends
+returns-then-is_ended-clause-appends g c =
+    appends_more (g.K.Sink.written c.args.sink.now) (g.K.Sink.written c.turns.sink) (g.K.Sink.written c.turn.new.sink) c.turns.invariant.appends c.in_ok-number.ensures.appends

@@ -4,10 +4,12 @@ use Rattle.std.proofs.lemmas.Result.{on_ok_weaker}
 use Rattle.hay_disk.specs.Streams.{Wrote, WrotePart}
 use Rattle.hay_cluster.specs.State.{Stands, Holds}
 use Rattle.hay_cluster.proofs.Standing.{stands_holds}
+use Rattle.hay_cluster.proofs.Sure.{same_sure}
 use Rattle.hay_run.specs.declared.stops.Stop.TheVariants as stop
 use Rattle.hay_run.proofs.Counting.{NoneFalls-kept}
-use Rattle.hay_run.proofs.Turning.{on_either}
-use Rattle.hay_run.proofs.Restarting.{restarted, stands_counts, not_store, broke, refused, halts}
+use Rattle.hay_run.specs.Turns.{AnyTurn, GoesOn}
+use Rattle.hay_run.proofs.Turning.{on_either, restarted_goes_on}
+use Rattle.hay_run.proofs.Restarting.{restarted, holds_counts, stands_counts, not_store, broke, refused, halts}
 use Rattle.hay_run.proofs.turns.restart.Goals as goal
 
 pub returns-in-Ok-clause-answers : goal.returns-in-Ok-clause-answers
@@ -16,7 +18,7 @@ returns-in-Ok-clause-answers g c =
     let A = g.A.Arm in
     on_ok_weaker c.write_restarted.result (λ wrote tells k stands.
     let done = c.in-Ok.ensures.reopened tells k stands in
-    restarted (Stands D.files g.D.Piece.Piece.Tells D.fault_count D.fuse_count A.fault_count) Wrote k done.0 c.args.number c.args.pick c.rows.result _ c.in-Ok.notes c.as_slice.result.now
+    restarted (Stands D.files g.D.Piece.Piece.Tells D.fault_count D.fuse_count A.fault_count) GoesOn restarted_goes_on Wrote k done.0 c.args.number c.args.pick c.rows.result _ c.in-Ok.notes c.as_slice.result.now
     (g.K.Sink.written c.args.sink.now) (g.K.Sink.written c.write_restarted.new.sink) c.restart.new.self
     done.1 c.rows.ensures.count c.as_slice.ensures done.2 wrote)
     c.write_restarted.ensures.wrote
@@ -27,7 +29,7 @@ returns-in-Ok-clause-broke g c = λ stopped.
     let A = g.A.Arm in
     inl (λ tells k stands.
     let done = c.in-Ok.ensures.reopened tells k stands in
-    restarted (Holds D.files D.fault_count D.fuse_count A.fault_count) WrotePart k done.0 c.args.number c.args.pick c.rows.result _ c.in-Ok.notes c.as_slice.result.now
+    restarted (Holds D.files D.fault_count D.fuse_count A.fault_count) AnyTurn (λ line pick d notes after. tt) WrotePart k done.0 c.args.number c.args.pick c.rows.result _ c.in-Ok.notes c.as_slice.result.now
     (g.K.Sink.written c.args.sink.now) (g.K.Sink.written c.write_restarted.new.sink) c.restart.new.self
     done.1 c.rows.ensures.count c.as_slice.ensures (stands_holds D.files g.D.Piece.Piece.Tells D.fault_count D.fuse_count A.fault_count c.restart.new.self done.0 done.2)
     (on_either c.write_restarted.result stop.Output stop.NoMemory c.write_restarted.ensures.part stopped))
@@ -36,11 +38,12 @@ pub returns-in-Err-clause-broke : goal.returns-in-Err-clause-broke
 returns-in-Err-clause-broke g c = λ stopped.
     let D = g.D.Disk in
     let A = g.A.Arm in
-    broke D.Tells (Stands D.files g.D.Piece.Piece.Tells D.fault_count D.fuse_count A.fault_count) (Holds D.files D.fault_count D.fuse_count A.fault_count) D.fault_count c.args.cluster.now c.restart.new.self
+    broke D.Tells (Stands D.files g.D.Piece.Piece.Tells D.fault_count D.fuse_count A.fault_count) (Holds D.files D.fault_count D.fuse_count A.fault_count) D.files D.fault_count c.args.cluster.now c.restart.new.self
     c.args.number c.args.pick (g.K.Sink.written c.args.sink.now) (g.K.Sink.written c.refuse.new.sink) c.refuse.result
-    (λ k stands. stands_counts D.files g.D.Piece.Piece.Tells D.fault_count D.fuse_count A.fault_count c.args.cluster.now k stands)
+    c.in-Err.ensures.settings (λ k stands. stands_counts D.files g.D.Piece.Piece.Tells D.fault_count D.fuse_count A.fault_count c.args.cluster.now k stands)
+    (λ t holds. holds_counts D.files D.fault_count D.fuse_count A.fault_count c.restart.new.self t holds)
     (λ tells k stands. let at = c.in-Err.ensures.left tells k stands in (at.known, at.leaves, at.holds))
-    c.in-Err.fault c.in-Err.ensures.cause (λ tells k stands slot file at e. c.in-Err.ensures.damaged tells k stands slot file at (ap (λ f. Err f) e))
+    c.in-Err.fault c.in-Err.ensures.cause (λ tells k stands slot file at e. c.in-Err.ensures.whole tells k stands slot file at (ap (λ f. Err f) e))
     (not_store c.refuse.result stopped) c.refuse.ensures.wanting c.refuse.ensures.part
 
 pub returns-in-Err-clause-refused : goal.returns-in-Err-clause-refused
@@ -48,11 +51,12 @@ returns-in-Err-clause-refused g c = λ stopped.
     let D = g.D.Disk in
     let A = g.A.Arm in
     let is_store : c.refuse.result ≡ stop.Store = cc in
-    refused D.Tells (Stands D.files g.D.Piece.Piece.Tells D.fault_count D.fuse_count A.fault_count) (Holds D.files D.fault_count D.fuse_count A.fault_count) D.fault_count c.args.cluster.now c.restart.new.self
+    refused D.Tells (Stands D.files g.D.Piece.Piece.Tells D.fault_count D.fuse_count A.fault_count) (Holds D.files D.fault_count D.fuse_count A.fault_count) D.files D.fault_count c.args.cluster.now c.restart.new.self
     c.args.number c.args.pick (g.K.Sink.written c.args.sink.now) (g.K.Sink.written c.refuse.new.sink) c.refuse.result
-    (λ k stands. stands_counts D.files g.D.Piece.Piece.Tells D.fault_count D.fuse_count A.fault_count c.args.cluster.now k stands)
+    c.in-Err.ensures.settings (λ k stands. stands_counts D.files g.D.Piece.Piece.Tells D.fault_count D.fuse_count A.fault_count c.args.cluster.now k stands)
+    (λ t holds. holds_counts D.files D.fault_count D.fuse_count A.fault_count c.restart.new.self t holds)
     (λ tells k stands. let at = c.in-Err.ensures.left tells k stands in (at.known, at.leaves, at.holds))
-    c.in-Err.fault c.in-Err.ensures.cause (λ tells k stands slot file at e. c.in-Err.ensures.damaged tells k stands slot file at (ap (λ f. Err f) e))
+    c.in-Err.fault c.in-Err.ensures.cause (λ tells k stands slot file at e. c.in-Err.ensures.whole tells k stands slot file at (ap (λ f. Err f) e))
     (λ e. (c.refuse.ensures.wanting e).0 is_store) (c.refuse.ensures.told is_store)
 
 pub returns-in-Err-clause-halted : goal.returns-in-Err-clause-halted
@@ -60,11 +64,13 @@ returns-in-Err-clause-halted g c = λ stopped.
     let D = g.D.Disk in
     let A = g.A.Arm in
     let is_store : c.refuse.result ≡ stop.Store = cc in
-    halts D.Tells (Stands D.files g.D.Piece.Piece.Tells D.fault_count D.fuse_count A.fault_count) (Holds D.files D.fault_count D.fuse_count A.fault_count) D.fault_count c.args.cluster.now c.restart.new.self
+    halts D.Tells (Stands D.files g.D.Piece.Piece.Tells D.fault_count D.fuse_count A.fault_count) (Holds D.files D.fault_count D.fuse_count A.fault_count) D.files D.fault_count c.args.cluster.now c.restart.new.self
     c.args.number c.args.pick (g.K.Sink.written c.args.sink.now) (g.K.Sink.written c.refuse.new.sink) c.refuse.result
-    (λ k stands. stands_counts D.files g.D.Piece.Piece.Tells D.fault_count D.fuse_count A.fault_count c.args.cluster.now k stands)
+    c.in-Err.ensures.settings (λ k stands. stands_counts D.files g.D.Piece.Piece.Tells D.fault_count D.fuse_count A.fault_count c.args.cluster.now k stands)
+    (λ t holds. holds_counts D.files D.fault_count D.fuse_count A.fault_count c.restart.new.self t holds)
     (λ tells k stands. let at = c.in-Err.ensures.left tells k stands in (at.known, at.leaves, at.holds))
-    c.in-Err.fault c.in-Err.ensures.cause (λ tells k stands slot file at e. c.in-Err.ensures.damaged tells k stands slot file at (ap (λ f. Err f) e))
+    c.in-Err.fault c.in-Err.ensures.cause (λ tells k stands slot file at e. c.in-Err.ensures.whole tells k stands slot file at (ap (λ f. Err f) e))
+    (λ tells slot file at e. c.in-Err.ensures.damaged tells slot file at (ap (λ f. Err f) e))
     (λ e. (c.refuse.ensures.wanting e).0 is_store) (c.refuse.ensures.told is_store)
 
 pub returns-in-Ok-clause-arm_faults : goal.returns-in-Ok-clause-arm_faults
@@ -76,3 +82,9 @@ pub returns-in-Err-clause-arm_faults : goal.returns-in-Err-clause-arm_faults
 returns-in-Err-clause-arm_faults g c =
     let A = g.A.Arm in
     NoneFalls-kept (map A.fault_count c.args.cluster.now.arms) (map A.fault_count c.restart.new.self.arms) (ap (map A.fault_count) c.in-Err.ensures.arms)
+
+pub returns-in-Ok-clause-sure_arms : goal.returns-in-Ok-clause-sure_arms
+returns-in-Ok-clause-sure_arms g c = same_sure g.A.Arm.is_sure c.args.cluster.now.arms c.restart.new.self.arms c.in-Ok.ensures.arms
+
+pub returns-in-Err-clause-sure_arms : goal.returns-in-Err-clause-sure_arms
+returns-in-Err-clause-sure_arms g c = same_sure g.A.Arm.is_sure c.args.cluster.now.arms c.restart.new.self.arms c.in-Err.ensures.arms

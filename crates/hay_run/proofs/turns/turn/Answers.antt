@@ -7,13 +7,15 @@ use Rattle.hay_cluster.proofs.Standing.{stands_holds}
 use Rattle.hay_script.specs.declared.Line.TheVariants as line
 use Rattle.hay_legal.specs.Items.{outside}
 use Rattle.hay_legal.specs.Items.Asked.{Block}
+use Rattle.hay_cluster.proofs.Sure.{same_sure}
 use Rattle.hay_run.specs.Items.{SaysNext}
 use Rattle.hay_run.specs.Lines.{TookPart, TookOver}
 use Rattle.hay_run.specs.Stream.{rest_of}
 use Rattle.hay_run.proofs.Asking.{items_none, items_alone, items_either, open_block, open_line, some_more, some_line}
 use Rattle.hay_run.proofs.Counting.{NoneFalls-same}
 use Rattle.hay_run.proofs.Taking.{accounts_more}
-use Rattle.hay_run.proofs.Turning.{answers_nothing, answers_block}
+use Rattle.hay_run.specs.Turns.{AnyTurn, GoesOn}
+use Rattle.hay_run.proofs.Turning.{answers_nothing, answers_block, block_goes_on}
 use Rattle.hay_run.proofs.Stopping.{broke_line, refused_line}
 use Rattle.hay_run.proofs.turns.turn.Goals as goal
 
@@ -93,7 +95,7 @@ returns-in-Lanes-clause-turned g c =
       asked = Block c.in_ok-block.block.lines ∷ [];
       took = items_either c.args.number c.in-Lanes.lanes c.in_ok-block.next c.in_ok-block.block.lines before mid after c.next_said.new.self.ended c.read_block.new.script.ended says
           c.in_ok-block.ensures.read (λ over. let e = c.in_ok-block.ensures.empty over in (e.0, e.1, rw (e.2, e.3) refl, rw e.3 refl));
-      answers = λ tells k stands. answers_block (Stands g.D.Disk.files g.D.Piece.Piece.Tells g.D.Disk.fault_count g.D.Disk.fuse_count g.A.Arm.fault_count) Wrote k c.in_ok-block.block.lines
+      answers = λ tells k stands. answers_block (Stands g.D.Disk.files g.D.Piece.Piece.Tells g.D.Disk.fault_count g.D.Disk.fuse_count g.A.Arm.fault_count) GoesOn block_goes_on Wrote k c.in_ok-block.block.lines
           (g.K.Sink.written c.args.sink.now) (g.K.Sink.written c.write_block.new.sink) c.args.cluster.now stands c.in_ok-write_block.ensures.wrote;
     }
 
@@ -116,7 +118,7 @@ returns-in_err-write_block-clause-output g c = λ _.
       ended = c.read_block.new.script.ended;
       took = items_either c.args.number c.in-Lanes.lanes c.in_ok-block.next c.in_ok-block.block.lines before mid after c.next_said.new.self.ended c.read_block.new.script.ended says
           c.in_ok-block.ensures.read (λ over. let e = c.in_ok-block.ensures.empty over in (e.0, e.1, rw (e.2, e.3) refl, rw e.3 refl));
-      answers = λ tells k stands. answers_block (Holds g.D.Disk.files g.D.Disk.fault_count g.D.Disk.fuse_count g.A.Arm.fault_count) WrotePart k c.in_ok-block.block.lines
+      answers = λ tells k stands. answers_block (Holds g.D.Disk.files g.D.Disk.fault_count g.D.Disk.fuse_count g.A.Arm.fault_count) AnyTurn (λ items logs rows after. tt) WrotePart k c.in_ok-block.block.lines
           (g.K.Sink.written c.args.sink.now) (g.K.Sink.written c.write_block.new.sink) c.args.cluster.now
           (stands_holds g.D.Disk.files g.D.Piece.Piece.Tells g.D.Disk.fault_count g.D.Disk.fuse_count g.A.Arm.fault_count c.args.cluster.now k stands) c.in_err-write_block.ensures.part;
     })
@@ -135,7 +137,7 @@ returns-in_err-write_block-clause-memory g c = λ _.
       ended = c.read_block.new.script.ended;
       took = items_either c.args.number c.in-Lanes.lanes c.in_ok-block.next c.in_ok-block.block.lines before mid after c.next_said.new.self.ended c.read_block.new.script.ended says
           c.in_ok-block.ensures.read (λ over. let e = c.in_ok-block.ensures.empty over in (e.0, e.1, rw (e.2, e.3) refl, rw e.3 refl));
-      answers = λ tells k stands. answers_block (Holds g.D.Disk.files g.D.Disk.fault_count g.D.Disk.fuse_count g.A.Arm.fault_count) WrotePart k c.in_ok-block.block.lines
+      answers = λ tells k stands. answers_block (Holds g.D.Disk.files g.D.Disk.fault_count g.D.Disk.fuse_count g.A.Arm.fault_count) AnyTurn (λ items logs rows after. tt) WrotePart k c.in_ok-block.block.lines
           (g.K.Sink.written c.args.sink.now) (g.K.Sink.written c.write_block.new.sink) c.args.cluster.now
           (stands_holds g.D.Disk.files g.D.Piece.Piece.Tells g.D.Disk.fault_count g.D.Disk.fuse_count g.A.Arm.fault_count c.args.cluster.now k stands) c.in_err-write_block.ensures.part;
     }))
@@ -218,3 +220,18 @@ returns-in-Lanes-clause-faults g c = NoneFalls-same (map g.D.Disk.fault_count (d
 
 pub returns-in-Lanes-clause-arm_faults : goal.returns-in-Lanes-clause-arm_faults
 returns-in-Lanes-clause-arm_faults g c = NoneFalls-same (map g.A.Arm.fault_count c.args.cluster.now.arms)
+
+pub returns-in_err-said-clause-sure_arms : goal.returns-in_err-said-clause-sure_arms
+returns-in_err-said-clause-sure_arms g c = same_sure g.A.Arm.is_sure c.args.cluster.now.arms c.args.cluster.now.arms refl
+
+pub returns-in_default-clause-sure_arms : goal.returns-in_default-clause-sure_arms
+returns-in_default-clause-sure_arms g c = same_sure g.A.Arm.is_sure c.args.cluster.now.arms c.args.cluster.now.arms refl
+
+pub returns-in_err-block-clause-sure_arms : goal.returns-in_err-block-clause-sure_arms
+returns-in_err-block-clause-sure_arms g c = same_sure g.A.Arm.is_sure c.args.cluster.now.arms c.args.cluster.now.arms refl
+
+pub returns-in_err-write_block-clause-sure_arms : goal.returns-in_err-write_block-clause-sure_arms
+returns-in_err-write_block-clause-sure_arms g c = same_sure g.A.Arm.is_sure c.args.cluster.now.arms c.args.cluster.now.arms refl
+
+pub returns-in-Lanes-clause-sure_arms : goal.returns-in-Lanes-clause-sure_arms
+returns-in-Lanes-clause-sure_arms g c = same_sure g.A.Arm.is_sure c.args.cluster.now.arms c.args.cluster.now.arms refl

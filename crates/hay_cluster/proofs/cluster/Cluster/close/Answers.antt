@@ -1,14 +1,12 @@
-use Rattle.std.proofs.Common.{◌≡◌, ◌*◌, ◌<◌, ℕ, List, length, sym, ap, subst, ◌∙◌, arith}
+use Rattle.std.proofs.Common.{◌≡◌, ◌*◌, ◌<◌, ℕ, List, length, ap, subst, ◌∙◌, arith}
 use Rattle.std.proofs.lemmas.Bool.Decides.{nat_tests}
-use Rattle.std.specs.List.{flat_map}
 use Rattle.hay_disk.specs.Shelf.{HeldArm, HeldDisk}
-use Rattle.hay_mount.specs.Mounts.{InOrder, IsGivenDisk}
-use Rattle.hay_mount.proofs.Orders.{InOrder-map}
+use Rattle.hay_mount.specs.Mounts.{IsGivenDisk}
 use Rattle.hay_legal.specs.Known.{disk_count}
-use Rattle.hay_cluster.specs.Store.{Open, disks_of, volume_disks}
+use Rattle.hay_cluster.specs.Store.{Open}
 use Rattle.hay_logical.specs.Volumes.{Volume}
 use Rattle.hay_cluster.proofs.Lists.{one_fits}
-use Rattle.hay_cluster.proofs.ClosingStore.{GivesBack, given_arms, given_arms_in, given_faults, given_fuses, given_in, stands_on, volumes_long}
+use Rattle.hay_cluster.proofs.ClosingStore.{given_arms, given_arms_in, given_contents, given_faults, given_fuses, given_in, given_sure, gives_back, stands_on, volumes_long}
 use Rattle.hay_cluster.proofs.cluster.Cluster.close.Goals as goal
 
 pub give_volumes-requires-after_bounds : goal.give_volumes-requires-after_bounds
@@ -53,16 +51,10 @@ returns-clause-stands g c =
     let mid = g.H.Shelf.disks c.give_disk.new.self in
     let low = g.H.Shelf.disks c.give_volumes.new.shelf in
     let inside : Open g.row.D.Denot g.row.D-Piece.Denot g.row.A.Denot = record { settings = c.self.inside.settings; directory = c.self.inside.directory; volumes = c.self.inside.volumes.items; arms = c.self.inside.seats.items } in
-    let front : IsGivenDisk g.D.Disk.Tells g.D.Disk.files g.D.Disk.fault_count g.D.Disk.fuse_count (mid 0) c.self.inside.directory.disk = subst (λ (d : g.row.D.Denot). IsGivenDisk g.D.Disk.Tells g.D.Disk.files g.D.Disk.fault_count g.D.Disk.fuse_count (mid 0) d) c.into_disk.ensures (record { files_are = c.give_disk.ensures.files; fault_count = c.give_disk.ensures.faults; fuse_count = c.give_disk.ensures.fuses; back = c.give_disk.ensures.back }) in
-    let behind : InOrder (λ slot (disk : g.row.D.Denot). IsGivenDisk g.D.Disk.Tells g.D.Disk.files g.D.Disk.fault_count g.D.Disk.fuse_count (mid slot) disk) 1 (flat_map volume_disks c.self.inside.volumes.items) =
-    InOrder-map (λ slot (disk : g.row.D.Denot). IsGivenDisk g.D.Disk.Tells g.D.Disk.files g.D.Disk.fault_count g.D.Disk.fuse_count (low slot) disk) (λ slot (disk : g.row.D.Denot). IsGivenDisk g.D.Disk.Tells g.D.Disk.files g.D.Disk.fault_count g.D.Disk.fuse_count (mid slot) disk) 1 (flat_map volume_disks c.self.inside.volumes.items)
-    (λ n disk from to given. subst (λ (held : HeldDisk). IsGivenDisk g.D.Disk.Tells g.D.Disk.files g.D.Disk.fault_count g.D.Disk.fuse_count held disk) (sym (c.give_disk.ensures.others n (λ zeroth. absurd (omega (arith, from, zeroth))))) given) c.give_volumes.ensures.given in
-    let all : InOrder (λ slot (disk : g.row.D.Denot). IsGivenDisk g.D.Disk.Tells g.D.Disk.files g.D.Disk.fault_count g.D.Disk.fuse_count (disks slot) disk) 0 (disks_of inside) =
-    subst (λ (held : ℕ → HeldDisk). InOrder (λ slot (disk : g.row.D.Denot). IsGivenDisk g.D.Disk.Tells g.D.Disk.files g.D.Disk.fault_count g.D.Disk.fuse_count (held slot) disk) 0 (disks_of inside)) (sym c.give_seats.ensures.slots) (front, behind) in
-    let back : GivesBack g.D.Disk.Tells g.D.Disk.files g.D.Disk.fault_count g.D.Disk.fuse_count g.A.Arm.fault_count disks arms inside = record { shape = c.self.invariant; disks_are = all; arms_are = c.give_seats.ensures.given } in
-    let view = c.self.view_is in
-    let gives : GivesBack g.D.Disk.Tells g.D.Disk.files g.D.Disk.fault_count g.D.Disk.fuse_count g.A.Arm.fault_count disks arms c.args.self = subst (λ (st : Open g.row.D.Denot g.row.D-Piece.Denot g.row.A.Denot). GivesBack g.D.Disk.Tells g.D.Disk.files g.D.Disk.fault_count g.D.Disk.fuse_count g.A.Arm.fault_count disks arms st) view back in
-    λ tells k holds. stands_on g.D.Disk.Tells g.D.Disk.files g.D.Disk.fault_count g.D.Disk.fuse_count g.A.Arm.fault_count disks arms tells c.args.self gives k holds
+    let first : IsGivenDisk g.D.Disk.Tells g.D.Disk.files g.D.Disk.drawn g.D.Disk.fault_count g.D.Disk.fuse_count (mid 0) c.self.inside.directory.disk = subst (λ (d : g.row.D.Denot). IsGivenDisk g.D.Disk.Tells g.D.Disk.files g.D.Disk.drawn g.D.Disk.fault_count g.D.Disk.fuse_count (mid 0) d) c.into_disk.ensures
+    (record { drawn_is = c.give_disk.ensures.drawn; files_are = c.give_disk.ensures.files; fault_count = c.give_disk.ensures.faults; fuse_count = c.give_disk.ensures.fuses; back = c.give_disk.ensures.back }) in
+    let gives = gives_back g.D.Disk.Tells g.D.Disk.files g.D.Disk.drawn g.D.Disk.fault_count g.D.Disk.fuse_count g.A.Arm.fault_count g.A.Arm.is_sure disks arms low mid inside c.args.self c.self.view_is c.self.invariant c.give_volumes.ensures.given c.give_disk.ensures.others first c.give_seats.ensures.slots c.give_seats.ensures.given in
+    λ tells k holds. stands_on g.D.Disk.Tells g.D.Disk.files g.D.Disk.drawn g.D.Disk.fault_count g.D.Disk.fuse_count g.A.Arm.fault_count g.A.Arm.is_sure disks arms (g.H.Shelf.fault_count c.give_seats.new.shelf) tells c.args.self gives k holds
 
 pub returns-clause-disks : goal.returns-clause-disks
 returns-clause-disks g c =
@@ -71,15 +63,9 @@ returns-clause-disks g c =
     let mid = g.H.Shelf.disks c.give_disk.new.self in
     let low = g.H.Shelf.disks c.give_volumes.new.shelf in
     let inside : Open g.row.D.Denot g.row.D-Piece.Denot g.row.A.Denot = record { settings = c.self.inside.settings; directory = c.self.inside.directory; volumes = c.self.inside.volumes.items; arms = c.self.inside.seats.items } in
-    let front : IsGivenDisk g.D.Disk.Tells g.D.Disk.files g.D.Disk.fault_count g.D.Disk.fuse_count (mid 0) c.self.inside.directory.disk = subst (λ (d : g.row.D.Denot). IsGivenDisk g.D.Disk.Tells g.D.Disk.files g.D.Disk.fault_count g.D.Disk.fuse_count (mid 0) d) c.into_disk.ensures (record { files_are = c.give_disk.ensures.files; fault_count = c.give_disk.ensures.faults; fuse_count = c.give_disk.ensures.fuses; back = c.give_disk.ensures.back }) in
-    let behind : InOrder (λ slot (disk : g.row.D.Denot). IsGivenDisk g.D.Disk.Tells g.D.Disk.files g.D.Disk.fault_count g.D.Disk.fuse_count (mid slot) disk) 1 (flat_map volume_disks c.self.inside.volumes.items) =
-    InOrder-map (λ slot (disk : g.row.D.Denot). IsGivenDisk g.D.Disk.Tells g.D.Disk.files g.D.Disk.fault_count g.D.Disk.fuse_count (low slot) disk) (λ slot (disk : g.row.D.Denot). IsGivenDisk g.D.Disk.Tells g.D.Disk.files g.D.Disk.fault_count g.D.Disk.fuse_count (mid slot) disk) 1 (flat_map volume_disks c.self.inside.volumes.items)
-    (λ n disk from to given. subst (λ (held : HeldDisk). IsGivenDisk g.D.Disk.Tells g.D.Disk.files g.D.Disk.fault_count g.D.Disk.fuse_count held disk) (sym (c.give_disk.ensures.others n (λ zeroth. absurd (omega (arith, from, zeroth))))) given) c.give_volumes.ensures.given in
-    let all : InOrder (λ slot (disk : g.row.D.Denot). IsGivenDisk g.D.Disk.Tells g.D.Disk.files g.D.Disk.fault_count g.D.Disk.fuse_count (disks slot) disk) 0 (disks_of inside) =
-    subst (λ (held : ℕ → HeldDisk). InOrder (λ slot (disk : g.row.D.Denot). IsGivenDisk g.D.Disk.Tells g.D.Disk.files g.D.Disk.fault_count g.D.Disk.fuse_count (held slot) disk) 0 (disks_of inside)) (sym c.give_seats.ensures.slots) (front, behind) in
-    let back : GivesBack g.D.Disk.Tells g.D.Disk.files g.D.Disk.fault_count g.D.Disk.fuse_count g.A.Arm.fault_count disks arms inside = record { shape = c.self.invariant; disks_are = all; arms_are = c.give_seats.ensures.given } in
-    let view = c.self.view_is in
-    let gives : GivesBack g.D.Disk.Tells g.D.Disk.files g.D.Disk.fault_count g.D.Disk.fuse_count g.A.Arm.fault_count disks arms c.args.self = subst (λ (st : Open g.row.D.Denot g.row.D-Piece.Denot g.row.A.Denot). GivesBack g.D.Disk.Tells g.D.Disk.files g.D.Disk.fault_count g.D.Disk.fuse_count g.A.Arm.fault_count disks arms st) view back in
+    let first : IsGivenDisk g.D.Disk.Tells g.D.Disk.files g.D.Disk.drawn g.D.Disk.fault_count g.D.Disk.fuse_count (mid 0) c.self.inside.directory.disk = subst (λ (d : g.row.D.Denot). IsGivenDisk g.D.Disk.Tells g.D.Disk.files g.D.Disk.drawn g.D.Disk.fault_count g.D.Disk.fuse_count (mid 0) d) c.into_disk.ensures
+    (record { drawn_is = c.give_disk.ensures.drawn; files_are = c.give_disk.ensures.files; fault_count = c.give_disk.ensures.faults; fuse_count = c.give_disk.ensures.fuses; back = c.give_disk.ensures.back }) in
+    let gives = gives_back g.D.Disk.Tells g.D.Disk.files g.D.Disk.drawn g.D.Disk.fault_count g.D.Disk.fuse_count g.A.Arm.fault_count g.A.Arm.is_sure disks arms low mid inside c.args.self c.self.view_is c.self.invariant c.give_volumes.ensures.given c.give_disk.ensures.others first c.give_seats.ensures.slots c.give_seats.ensures.given in
     gives.disks_are
 
 pub returns-clause-fault_counts : goal.returns-clause-fault_counts
@@ -89,16 +75,10 @@ returns-clause-fault_counts g c =
     let mid = g.H.Shelf.disks c.give_disk.new.self in
     let low = g.H.Shelf.disks c.give_volumes.new.shelf in
     let inside : Open g.row.D.Denot g.row.D-Piece.Denot g.row.A.Denot = record { settings = c.self.inside.settings; directory = c.self.inside.directory; volumes = c.self.inside.volumes.items; arms = c.self.inside.seats.items } in
-    let front : IsGivenDisk g.D.Disk.Tells g.D.Disk.files g.D.Disk.fault_count g.D.Disk.fuse_count (mid 0) c.self.inside.directory.disk = subst (λ (d : g.row.D.Denot). IsGivenDisk g.D.Disk.Tells g.D.Disk.files g.D.Disk.fault_count g.D.Disk.fuse_count (mid 0) d) c.into_disk.ensures (record { files_are = c.give_disk.ensures.files; fault_count = c.give_disk.ensures.faults; fuse_count = c.give_disk.ensures.fuses; back = c.give_disk.ensures.back }) in
-    let behind : InOrder (λ slot (disk : g.row.D.Denot). IsGivenDisk g.D.Disk.Tells g.D.Disk.files g.D.Disk.fault_count g.D.Disk.fuse_count (mid slot) disk) 1 (flat_map volume_disks c.self.inside.volumes.items) =
-    InOrder-map (λ slot (disk : g.row.D.Denot). IsGivenDisk g.D.Disk.Tells g.D.Disk.files g.D.Disk.fault_count g.D.Disk.fuse_count (low slot) disk) (λ slot (disk : g.row.D.Denot). IsGivenDisk g.D.Disk.Tells g.D.Disk.files g.D.Disk.fault_count g.D.Disk.fuse_count (mid slot) disk) 1 (flat_map volume_disks c.self.inside.volumes.items)
-    (λ n disk from to given. subst (λ (held : HeldDisk). IsGivenDisk g.D.Disk.Tells g.D.Disk.files g.D.Disk.fault_count g.D.Disk.fuse_count held disk) (sym (c.give_disk.ensures.others n (λ zeroth. absurd (omega (arith, from, zeroth))))) given) c.give_volumes.ensures.given in
-    let all : InOrder (λ slot (disk : g.row.D.Denot). IsGivenDisk g.D.Disk.Tells g.D.Disk.files g.D.Disk.fault_count g.D.Disk.fuse_count (disks slot) disk) 0 (disks_of inside) =
-    subst (λ (held : ℕ → HeldDisk). InOrder (λ slot (disk : g.row.D.Denot). IsGivenDisk g.D.Disk.Tells g.D.Disk.files g.D.Disk.fault_count g.D.Disk.fuse_count (held slot) disk) 0 (disks_of inside)) (sym c.give_seats.ensures.slots) (front, behind) in
-    let back : GivesBack g.D.Disk.Tells g.D.Disk.files g.D.Disk.fault_count g.D.Disk.fuse_count g.A.Arm.fault_count disks arms inside = record { shape = c.self.invariant; disks_are = all; arms_are = c.give_seats.ensures.given } in
-    let view = c.self.view_is in
-    let gives : GivesBack g.D.Disk.Tells g.D.Disk.files g.D.Disk.fault_count g.D.Disk.fuse_count g.A.Arm.fault_count disks arms c.args.self = subst (λ (st : Open g.row.D.Denot g.row.D-Piece.Denot g.row.A.Denot). GivesBack g.D.Disk.Tells g.D.Disk.files g.D.Disk.fault_count g.D.Disk.fuse_count g.A.Arm.fault_count disks arms st) view back in
-    given_faults g.D.Disk.Tells g.D.Disk.files g.D.Disk.fault_count g.D.Disk.fuse_count g.A.Arm.fault_count disks arms c.args.self gives
+    let first : IsGivenDisk g.D.Disk.Tells g.D.Disk.files g.D.Disk.drawn g.D.Disk.fault_count g.D.Disk.fuse_count (mid 0) c.self.inside.directory.disk = subst (λ (d : g.row.D.Denot). IsGivenDisk g.D.Disk.Tells g.D.Disk.files g.D.Disk.drawn g.D.Disk.fault_count g.D.Disk.fuse_count (mid 0) d) c.into_disk.ensures
+    (record { drawn_is = c.give_disk.ensures.drawn; files_are = c.give_disk.ensures.files; fault_count = c.give_disk.ensures.faults; fuse_count = c.give_disk.ensures.fuses; back = c.give_disk.ensures.back }) in
+    let gives = gives_back g.D.Disk.Tells g.D.Disk.files g.D.Disk.drawn g.D.Disk.fault_count g.D.Disk.fuse_count g.A.Arm.fault_count g.A.Arm.is_sure disks arms low mid inside c.args.self c.self.view_is c.self.invariant c.give_volumes.ensures.given c.give_disk.ensures.others first c.give_seats.ensures.slots c.give_seats.ensures.given in
+    given_faults g.D.Disk.Tells g.D.Disk.files g.D.Disk.drawn g.D.Disk.fault_count g.D.Disk.fuse_count g.A.Arm.fault_count g.A.Arm.is_sure disks arms c.args.self gives
 
 pub returns-clause-fuse_counts : goal.returns-clause-fuse_counts
 returns-clause-fuse_counts g c =
@@ -107,16 +87,10 @@ returns-clause-fuse_counts g c =
     let mid = g.H.Shelf.disks c.give_disk.new.self in
     let low = g.H.Shelf.disks c.give_volumes.new.shelf in
     let inside : Open g.row.D.Denot g.row.D-Piece.Denot g.row.A.Denot = record { settings = c.self.inside.settings; directory = c.self.inside.directory; volumes = c.self.inside.volumes.items; arms = c.self.inside.seats.items } in
-    let front : IsGivenDisk g.D.Disk.Tells g.D.Disk.files g.D.Disk.fault_count g.D.Disk.fuse_count (mid 0) c.self.inside.directory.disk = subst (λ (d : g.row.D.Denot). IsGivenDisk g.D.Disk.Tells g.D.Disk.files g.D.Disk.fault_count g.D.Disk.fuse_count (mid 0) d) c.into_disk.ensures (record { files_are = c.give_disk.ensures.files; fault_count = c.give_disk.ensures.faults; fuse_count = c.give_disk.ensures.fuses; back = c.give_disk.ensures.back }) in
-    let behind : InOrder (λ slot (disk : g.row.D.Denot). IsGivenDisk g.D.Disk.Tells g.D.Disk.files g.D.Disk.fault_count g.D.Disk.fuse_count (mid slot) disk) 1 (flat_map volume_disks c.self.inside.volumes.items) =
-    InOrder-map (λ slot (disk : g.row.D.Denot). IsGivenDisk g.D.Disk.Tells g.D.Disk.files g.D.Disk.fault_count g.D.Disk.fuse_count (low slot) disk) (λ slot (disk : g.row.D.Denot). IsGivenDisk g.D.Disk.Tells g.D.Disk.files g.D.Disk.fault_count g.D.Disk.fuse_count (mid slot) disk) 1 (flat_map volume_disks c.self.inside.volumes.items)
-    (λ n disk from to given. subst (λ (held : HeldDisk). IsGivenDisk g.D.Disk.Tells g.D.Disk.files g.D.Disk.fault_count g.D.Disk.fuse_count held disk) (sym (c.give_disk.ensures.others n (λ zeroth. absurd (omega (arith, from, zeroth))))) given) c.give_volumes.ensures.given in
-    let all : InOrder (λ slot (disk : g.row.D.Denot). IsGivenDisk g.D.Disk.Tells g.D.Disk.files g.D.Disk.fault_count g.D.Disk.fuse_count (disks slot) disk) 0 (disks_of inside) =
-    subst (λ (held : ℕ → HeldDisk). InOrder (λ slot (disk : g.row.D.Denot). IsGivenDisk g.D.Disk.Tells g.D.Disk.files g.D.Disk.fault_count g.D.Disk.fuse_count (held slot) disk) 0 (disks_of inside)) (sym c.give_seats.ensures.slots) (front, behind) in
-    let back : GivesBack g.D.Disk.Tells g.D.Disk.files g.D.Disk.fault_count g.D.Disk.fuse_count g.A.Arm.fault_count disks arms inside = record { shape = c.self.invariant; disks_are = all; arms_are = c.give_seats.ensures.given } in
-    let view = c.self.view_is in
-    let gives : GivesBack g.D.Disk.Tells g.D.Disk.files g.D.Disk.fault_count g.D.Disk.fuse_count g.A.Arm.fault_count disks arms c.args.self = subst (λ (st : Open g.row.D.Denot g.row.D-Piece.Denot g.row.A.Denot). GivesBack g.D.Disk.Tells g.D.Disk.files g.D.Disk.fault_count g.D.Disk.fuse_count g.A.Arm.fault_count disks arms st) view back in
-    given_fuses g.D.Disk.Tells g.D.Disk.files g.D.Disk.fault_count g.D.Disk.fuse_count g.A.Arm.fault_count disks arms c.args.self gives
+    let first : IsGivenDisk g.D.Disk.Tells g.D.Disk.files g.D.Disk.drawn g.D.Disk.fault_count g.D.Disk.fuse_count (mid 0) c.self.inside.directory.disk = subst (λ (d : g.row.D.Denot). IsGivenDisk g.D.Disk.Tells g.D.Disk.files g.D.Disk.drawn g.D.Disk.fault_count g.D.Disk.fuse_count (mid 0) d) c.into_disk.ensures
+    (record { drawn_is = c.give_disk.ensures.drawn; files_are = c.give_disk.ensures.files; fault_count = c.give_disk.ensures.faults; fuse_count = c.give_disk.ensures.fuses; back = c.give_disk.ensures.back }) in
+    let gives = gives_back g.D.Disk.Tells g.D.Disk.files g.D.Disk.drawn g.D.Disk.fault_count g.D.Disk.fuse_count g.A.Arm.fault_count g.A.Arm.is_sure disks arms low mid inside c.args.self c.self.view_is c.self.invariant c.give_volumes.ensures.given c.give_disk.ensures.others first c.give_seats.ensures.slots c.give_seats.ensures.given in
+    given_fuses g.D.Disk.Tells g.D.Disk.files g.D.Disk.drawn g.D.Disk.fault_count g.D.Disk.fuse_count g.A.Arm.fault_count g.A.Arm.is_sure disks arms c.args.self gives
 
 pub returns-clause-arm_counts : goal.returns-clause-arm_counts
 returns-clause-arm_counts g c =
@@ -125,16 +99,34 @@ returns-clause-arm_counts g c =
     let mid = g.H.Shelf.disks c.give_disk.new.self in
     let low = g.H.Shelf.disks c.give_volumes.new.shelf in
     let inside : Open g.row.D.Denot g.row.D-Piece.Denot g.row.A.Denot = record { settings = c.self.inside.settings; directory = c.self.inside.directory; volumes = c.self.inside.volumes.items; arms = c.self.inside.seats.items } in
-    let front : IsGivenDisk g.D.Disk.Tells g.D.Disk.files g.D.Disk.fault_count g.D.Disk.fuse_count (mid 0) c.self.inside.directory.disk = subst (λ (d : g.row.D.Denot). IsGivenDisk g.D.Disk.Tells g.D.Disk.files g.D.Disk.fault_count g.D.Disk.fuse_count (mid 0) d) c.into_disk.ensures (record { files_are = c.give_disk.ensures.files; fault_count = c.give_disk.ensures.faults; fuse_count = c.give_disk.ensures.fuses; back = c.give_disk.ensures.back }) in
-    let behind : InOrder (λ slot (disk : g.row.D.Denot). IsGivenDisk g.D.Disk.Tells g.D.Disk.files g.D.Disk.fault_count g.D.Disk.fuse_count (mid slot) disk) 1 (flat_map volume_disks c.self.inside.volumes.items) =
-    InOrder-map (λ slot (disk : g.row.D.Denot). IsGivenDisk g.D.Disk.Tells g.D.Disk.files g.D.Disk.fault_count g.D.Disk.fuse_count (low slot) disk) (λ slot (disk : g.row.D.Denot). IsGivenDisk g.D.Disk.Tells g.D.Disk.files g.D.Disk.fault_count g.D.Disk.fuse_count (mid slot) disk) 1 (flat_map volume_disks c.self.inside.volumes.items)
-    (λ n disk from to given. subst (λ (held : HeldDisk). IsGivenDisk g.D.Disk.Tells g.D.Disk.files g.D.Disk.fault_count g.D.Disk.fuse_count held disk) (sym (c.give_disk.ensures.others n (λ zeroth. absurd (omega (arith, from, zeroth))))) given) c.give_volumes.ensures.given in
-    let all : InOrder (λ slot (disk : g.row.D.Denot). IsGivenDisk g.D.Disk.Tells g.D.Disk.files g.D.Disk.fault_count g.D.Disk.fuse_count (disks slot) disk) 0 (disks_of inside) =
-    subst (λ (held : ℕ → HeldDisk). InOrder (λ slot (disk : g.row.D.Denot). IsGivenDisk g.D.Disk.Tells g.D.Disk.files g.D.Disk.fault_count g.D.Disk.fuse_count (held slot) disk) 0 (disks_of inside)) (sym c.give_seats.ensures.slots) (front, behind) in
-    let back : GivesBack g.D.Disk.Tells g.D.Disk.files g.D.Disk.fault_count g.D.Disk.fuse_count g.A.Arm.fault_count disks arms inside = record { shape = c.self.invariant; disks_are = all; arms_are = c.give_seats.ensures.given } in
-    let view = c.self.view_is in
-    let gives : GivesBack g.D.Disk.Tells g.D.Disk.files g.D.Disk.fault_count g.D.Disk.fuse_count g.A.Arm.fault_count disks arms c.args.self = subst (λ (st : Open g.row.D.Denot g.row.D-Piece.Denot g.row.A.Denot). GivesBack g.D.Disk.Tells g.D.Disk.files g.D.Disk.fault_count g.D.Disk.fuse_count g.A.Arm.fault_count disks arms st) view back in
-    given_arms g.D.Disk.Tells g.D.Disk.files g.D.Disk.fault_count g.D.Disk.fuse_count g.A.Arm.fault_count disks arms c.args.self gives
+    let first : IsGivenDisk g.D.Disk.Tells g.D.Disk.files g.D.Disk.drawn g.D.Disk.fault_count g.D.Disk.fuse_count (mid 0) c.self.inside.directory.disk = subst (λ (d : g.row.D.Denot). IsGivenDisk g.D.Disk.Tells g.D.Disk.files g.D.Disk.drawn g.D.Disk.fault_count g.D.Disk.fuse_count (mid 0) d) c.into_disk.ensures
+    (record { drawn_is = c.give_disk.ensures.drawn; files_are = c.give_disk.ensures.files; fault_count = c.give_disk.ensures.faults; fuse_count = c.give_disk.ensures.fuses; back = c.give_disk.ensures.back }) in
+    let gives = gives_back g.D.Disk.Tells g.D.Disk.files g.D.Disk.drawn g.D.Disk.fault_count g.D.Disk.fuse_count g.A.Arm.fault_count g.A.Arm.is_sure disks arms low mid inside c.args.self c.self.view_is c.self.invariant c.give_volumes.ensures.given c.give_disk.ensures.others first c.give_seats.ensures.slots c.give_seats.ensures.given in
+    given_arms g.D.Disk.Tells g.D.Disk.files g.D.Disk.drawn g.D.Disk.fault_count g.D.Disk.fuse_count g.A.Arm.fault_count g.A.Arm.is_sure disks arms c.args.self gives
+
+pub returns-clause-sure_arms : goal.returns-clause-sure_arms
+returns-clause-sure_arms g c =
+    let disks = g.H.Shelf.disks c.give_seats.new.shelf in
+    let arms = g.H.Shelf.arms c.give_seats.new.shelf in
+    let mid = g.H.Shelf.disks c.give_disk.new.self in
+    let low = g.H.Shelf.disks c.give_volumes.new.shelf in
+    let inside : Open g.row.D.Denot g.row.D-Piece.Denot g.row.A.Denot = record { settings = c.self.inside.settings; directory = c.self.inside.directory; volumes = c.self.inside.volumes.items; arms = c.self.inside.seats.items } in
+    let first : IsGivenDisk g.D.Disk.Tells g.D.Disk.files g.D.Disk.drawn g.D.Disk.fault_count g.D.Disk.fuse_count (mid 0) c.self.inside.directory.disk = subst (λ (d : g.row.D.Denot). IsGivenDisk g.D.Disk.Tells g.D.Disk.files g.D.Disk.drawn g.D.Disk.fault_count g.D.Disk.fuse_count (mid 0) d) c.into_disk.ensures
+    (record { drawn_is = c.give_disk.ensures.drawn; files_are = c.give_disk.ensures.files; fault_count = c.give_disk.ensures.faults; fuse_count = c.give_disk.ensures.fuses; back = c.give_disk.ensures.back }) in
+    let gives = gives_back g.D.Disk.Tells g.D.Disk.files g.D.Disk.drawn g.D.Disk.fault_count g.D.Disk.fuse_count g.A.Arm.fault_count g.A.Arm.is_sure disks arms low mid inside c.args.self c.self.view_is c.self.invariant c.give_volumes.ensures.given c.give_disk.ensures.others first c.give_seats.ensures.slots c.give_seats.ensures.given in
+    given_sure g.D.Disk.Tells g.D.Disk.files g.D.Disk.drawn g.D.Disk.fault_count g.D.Disk.fuse_count g.A.Arm.fault_count g.A.Arm.is_sure disks arms c.args.self gives
+
+pub returns-clause-contents : goal.returns-clause-contents
+returns-clause-contents g c =
+    let disks = g.H.Shelf.disks c.give_seats.new.shelf in
+    let arms = g.H.Shelf.arms c.give_seats.new.shelf in
+    let mid = g.H.Shelf.disks c.give_disk.new.self in
+    let low = g.H.Shelf.disks c.give_volumes.new.shelf in
+    let inside : Open g.row.D.Denot g.row.D-Piece.Denot g.row.A.Denot = record { settings = c.self.inside.settings; directory = c.self.inside.directory; volumes = c.self.inside.volumes.items; arms = c.self.inside.seats.items } in
+    let first : IsGivenDisk g.D.Disk.Tells g.D.Disk.files g.D.Disk.drawn g.D.Disk.fault_count g.D.Disk.fuse_count (mid 0) c.self.inside.directory.disk = subst (λ (d : g.row.D.Denot). IsGivenDisk g.D.Disk.Tells g.D.Disk.files g.D.Disk.drawn g.D.Disk.fault_count g.D.Disk.fuse_count (mid 0) d) c.into_disk.ensures
+    (record { drawn_is = c.give_disk.ensures.drawn; files_are = c.give_disk.ensures.files; fault_count = c.give_disk.ensures.faults; fuse_count = c.give_disk.ensures.fuses; back = c.give_disk.ensures.back }) in
+    let gives = gives_back g.D.Disk.Tells g.D.Disk.files g.D.Disk.drawn g.D.Disk.fault_count g.D.Disk.fuse_count g.A.Arm.fault_count g.A.Arm.is_sure disks arms low mid inside c.args.self c.self.view_is c.self.invariant c.give_volumes.ensures.given c.give_disk.ensures.others first c.give_seats.ensures.slots c.give_seats.ensures.given in
+    λ tells. given_contents g.D.Disk.Tells g.D.Disk.files g.D.Disk.drawn g.D.Disk.fault_count g.D.Disk.fuse_count g.A.Arm.fault_count g.A.Arm.is_sure disks arms tells c.args.self gives
 
 pub returns-clause-disks_back : goal.returns-clause-disks_back
 returns-clause-disks_back g c =
@@ -143,16 +135,10 @@ returns-clause-disks_back g c =
     let mid = g.H.Shelf.disks c.give_disk.new.self in
     let low = g.H.Shelf.disks c.give_volumes.new.shelf in
     let inside : Open g.row.D.Denot g.row.D-Piece.Denot g.row.A.Denot = record { settings = c.self.inside.settings; directory = c.self.inside.directory; volumes = c.self.inside.volumes.items; arms = c.self.inside.seats.items } in
-    let front : IsGivenDisk g.D.Disk.Tells g.D.Disk.files g.D.Disk.fault_count g.D.Disk.fuse_count (mid 0) c.self.inside.directory.disk = subst (λ (d : g.row.D.Denot). IsGivenDisk g.D.Disk.Tells g.D.Disk.files g.D.Disk.fault_count g.D.Disk.fuse_count (mid 0) d) c.into_disk.ensures (record { files_are = c.give_disk.ensures.files; fault_count = c.give_disk.ensures.faults; fuse_count = c.give_disk.ensures.fuses; back = c.give_disk.ensures.back }) in
-    let behind : InOrder (λ slot (disk : g.row.D.Denot). IsGivenDisk g.D.Disk.Tells g.D.Disk.files g.D.Disk.fault_count g.D.Disk.fuse_count (mid slot) disk) 1 (flat_map volume_disks c.self.inside.volumes.items) =
-    InOrder-map (λ slot (disk : g.row.D.Denot). IsGivenDisk g.D.Disk.Tells g.D.Disk.files g.D.Disk.fault_count g.D.Disk.fuse_count (low slot) disk) (λ slot (disk : g.row.D.Denot). IsGivenDisk g.D.Disk.Tells g.D.Disk.files g.D.Disk.fault_count g.D.Disk.fuse_count (mid slot) disk) 1 (flat_map volume_disks c.self.inside.volumes.items)
-    (λ n disk from to given. subst (λ (held : HeldDisk). IsGivenDisk g.D.Disk.Tells g.D.Disk.files g.D.Disk.fault_count g.D.Disk.fuse_count held disk) (sym (c.give_disk.ensures.others n (λ zeroth. absurd (omega (arith, from, zeroth))))) given) c.give_volumes.ensures.given in
-    let all : InOrder (λ slot (disk : g.row.D.Denot). IsGivenDisk g.D.Disk.Tells g.D.Disk.files g.D.Disk.fault_count g.D.Disk.fuse_count (disks slot) disk) 0 (disks_of inside) =
-    subst (λ (held : ℕ → HeldDisk). InOrder (λ slot (disk : g.row.D.Denot). IsGivenDisk g.D.Disk.Tells g.D.Disk.files g.D.Disk.fault_count g.D.Disk.fuse_count (held slot) disk) 0 (disks_of inside)) (sym c.give_seats.ensures.slots) (front, behind) in
-    let back : GivesBack g.D.Disk.Tells g.D.Disk.files g.D.Disk.fault_count g.D.Disk.fuse_count g.A.Arm.fault_count disks arms inside = record { shape = c.self.invariant; disks_are = all; arms_are = c.give_seats.ensures.given } in
-    let view = c.self.view_is in
-    let gives : GivesBack g.D.Disk.Tells g.D.Disk.files g.D.Disk.fault_count g.D.Disk.fuse_count g.A.Arm.fault_count disks arms c.args.self = subst (λ (st : Open g.row.D.Denot g.row.D-Piece.Denot g.row.A.Denot). GivesBack g.D.Disk.Tells g.D.Disk.files g.D.Disk.fault_count g.D.Disk.fuse_count g.A.Arm.fault_count disks arms st) view back in
-    given_in g.D.Disk.Tells g.D.Disk.files g.D.Disk.fault_count g.D.Disk.fuse_count g.A.Arm.fault_count disks arms c.args.self gives
+    let first : IsGivenDisk g.D.Disk.Tells g.D.Disk.files g.D.Disk.drawn g.D.Disk.fault_count g.D.Disk.fuse_count (mid 0) c.self.inside.directory.disk = subst (λ (d : g.row.D.Denot). IsGivenDisk g.D.Disk.Tells g.D.Disk.files g.D.Disk.drawn g.D.Disk.fault_count g.D.Disk.fuse_count (mid 0) d) c.into_disk.ensures
+    (record { drawn_is = c.give_disk.ensures.drawn; files_are = c.give_disk.ensures.files; fault_count = c.give_disk.ensures.faults; fuse_count = c.give_disk.ensures.fuses; back = c.give_disk.ensures.back }) in
+    let gives = gives_back g.D.Disk.Tells g.D.Disk.files g.D.Disk.drawn g.D.Disk.fault_count g.D.Disk.fuse_count g.A.Arm.fault_count g.A.Arm.is_sure disks arms low mid inside c.args.self c.self.view_is c.self.invariant c.give_volumes.ensures.given c.give_disk.ensures.others first c.give_seats.ensures.slots c.give_seats.ensures.given in
+    given_in g.D.Disk.Tells g.D.Disk.files g.D.Disk.drawn g.D.Disk.fault_count g.D.Disk.fuse_count g.A.Arm.fault_count g.A.Arm.is_sure disks arms c.args.self gives
 
 pub returns-clause-arms_back : goal.returns-clause-arms_back
 returns-clause-arms_back g c =
@@ -161,16 +147,10 @@ returns-clause-arms_back g c =
     let mid = g.H.Shelf.disks c.give_disk.new.self in
     let low = g.H.Shelf.disks c.give_volumes.new.shelf in
     let inside : Open g.row.D.Denot g.row.D-Piece.Denot g.row.A.Denot = record { settings = c.self.inside.settings; directory = c.self.inside.directory; volumes = c.self.inside.volumes.items; arms = c.self.inside.seats.items } in
-    let front : IsGivenDisk g.D.Disk.Tells g.D.Disk.files g.D.Disk.fault_count g.D.Disk.fuse_count (mid 0) c.self.inside.directory.disk = subst (λ (d : g.row.D.Denot). IsGivenDisk g.D.Disk.Tells g.D.Disk.files g.D.Disk.fault_count g.D.Disk.fuse_count (mid 0) d) c.into_disk.ensures (record { files_are = c.give_disk.ensures.files; fault_count = c.give_disk.ensures.faults; fuse_count = c.give_disk.ensures.fuses; back = c.give_disk.ensures.back }) in
-    let behind : InOrder (λ slot (disk : g.row.D.Denot). IsGivenDisk g.D.Disk.Tells g.D.Disk.files g.D.Disk.fault_count g.D.Disk.fuse_count (mid slot) disk) 1 (flat_map volume_disks c.self.inside.volumes.items) =
-    InOrder-map (λ slot (disk : g.row.D.Denot). IsGivenDisk g.D.Disk.Tells g.D.Disk.files g.D.Disk.fault_count g.D.Disk.fuse_count (low slot) disk) (λ slot (disk : g.row.D.Denot). IsGivenDisk g.D.Disk.Tells g.D.Disk.files g.D.Disk.fault_count g.D.Disk.fuse_count (mid slot) disk) 1 (flat_map volume_disks c.self.inside.volumes.items)
-    (λ n disk from to given. subst (λ (held : HeldDisk). IsGivenDisk g.D.Disk.Tells g.D.Disk.files g.D.Disk.fault_count g.D.Disk.fuse_count held disk) (sym (c.give_disk.ensures.others n (λ zeroth. absurd (omega (arith, from, zeroth))))) given) c.give_volumes.ensures.given in
-    let all : InOrder (λ slot (disk : g.row.D.Denot). IsGivenDisk g.D.Disk.Tells g.D.Disk.files g.D.Disk.fault_count g.D.Disk.fuse_count (disks slot) disk) 0 (disks_of inside) =
-    subst (λ (held : ℕ → HeldDisk). InOrder (λ slot (disk : g.row.D.Denot). IsGivenDisk g.D.Disk.Tells g.D.Disk.files g.D.Disk.fault_count g.D.Disk.fuse_count (held slot) disk) 0 (disks_of inside)) (sym c.give_seats.ensures.slots) (front, behind) in
-    let back : GivesBack g.D.Disk.Tells g.D.Disk.files g.D.Disk.fault_count g.D.Disk.fuse_count g.A.Arm.fault_count disks arms inside = record { shape = c.self.invariant; disks_are = all; arms_are = c.give_seats.ensures.given } in
-    let view = c.self.view_is in
-    let gives : GivesBack g.D.Disk.Tells g.D.Disk.files g.D.Disk.fault_count g.D.Disk.fuse_count g.A.Arm.fault_count disks arms c.args.self = subst (λ (st : Open g.row.D.Denot g.row.D-Piece.Denot g.row.A.Denot). GivesBack g.D.Disk.Tells g.D.Disk.files g.D.Disk.fault_count g.D.Disk.fuse_count g.A.Arm.fault_count disks arms st) view back in
-    given_arms_in g.D.Disk.Tells g.D.Disk.files g.D.Disk.fault_count g.D.Disk.fuse_count g.A.Arm.fault_count disks arms c.args.self gives
+    let first : IsGivenDisk g.D.Disk.Tells g.D.Disk.files g.D.Disk.drawn g.D.Disk.fault_count g.D.Disk.fuse_count (mid 0) c.self.inside.directory.disk = subst (λ (d : g.row.D.Denot). IsGivenDisk g.D.Disk.Tells g.D.Disk.files g.D.Disk.drawn g.D.Disk.fault_count g.D.Disk.fuse_count (mid 0) d) c.into_disk.ensures
+    (record { drawn_is = c.give_disk.ensures.drawn; files_are = c.give_disk.ensures.files; fault_count = c.give_disk.ensures.faults; fuse_count = c.give_disk.ensures.fuses; back = c.give_disk.ensures.back }) in
+    let gives = gives_back g.D.Disk.Tells g.D.Disk.files g.D.Disk.drawn g.D.Disk.fault_count g.D.Disk.fuse_count g.A.Arm.fault_count g.A.Arm.is_sure disks arms low mid inside c.args.self c.self.view_is c.self.invariant c.give_volumes.ensures.given c.give_disk.ensures.others first c.give_seats.ensures.slots c.give_seats.ensures.given in
+    given_arms_in g.D.Disk.Tells g.D.Disk.files g.D.Disk.drawn g.D.Disk.fault_count g.D.Disk.fuse_count g.A.Arm.fault_count g.A.Arm.is_sure disks arms c.args.self gives
 
 pub returns-clause-other_slots : goal.returns-clause-other_slots
 returns-clause-other_slots g c = λ n high.

@@ -1,5 +1,6 @@
-use Rattle.std.proofs.Common.{◌<◌, List, length, map, sym, ap, subst, ◌∙◌, arith}
-use Rattle.std.specs.Prelude.{slice_index_or, slice_set}
+use Rattle.std.proofs.Common.{◌≡◌, ◌<◌, List, length, map, sym, ap, subst, ◌∙◌, arith}
+use Rattle.std.specs.Prelude.{slice_get, slice_index_or, slice_set}
+use Rattle.std.proofs.lemmas.Option.{same_Some}
 use Rattle.std.proofs.lemmas.List.{with_items_is}
 use borrow.Author.Rules.{scaled_Fits}
 use Rattle.hay_needle.specs.declared.settings.Settings.{Settings}
@@ -9,6 +10,7 @@ use Rattle.hay_logical.specs.Fits.{At}
 use Rattle.hay_logical.specs.Volumes.{Volume}
 use Rattle.hay_logical.proofs.Lists.{at_read}
 use Rattle.hay_reader.specs.Shown.{Answers, HasCauses}
+use Rattle.hay_reader.proofs.Outcomes.{answers_row, has_causes}
 use Rattle.hay_cluster.specs.Reads.{outcomes_of}
 use Rattle.hay_cluster.specs.State.{Stands}
 use Rattle.hay_cluster.specs.Store.{IsUp, Open, disks_of}
@@ -16,6 +18,7 @@ use Rattle.hay_cluster.proofs.Rooms.{begin_room, item_room, looked_room, places_
 use Rattle.hay_cluster.proofs.Lists.{length-set}
 use Rattle.hay_cluster.proofs.Moves.{volume_of, volume_stood}
 use Rattle.hay_cluster.proofs.Showing.{counts_at, later_set, row_means, seat_comes}
+use Rattle.hay_cluster.proofs.Sure.{no_arm_passed, used_sure}
 use Rattle.hay_cluster.proofs.cluster.Cluster.fetch.Goals as goal
 
 pub offset_bounds-as_slice-volume : goal.offset_bounds-as_slice-volume
@@ -77,7 +80,7 @@ returns-clause-read g c = λ tells k stands.
       known.0,
       counts_at g.A.Arm.fault_count (λ before after. Answers c.args.start c.args.cookie before after (outcomes_of (c.args.self.now).settings (volume_at k c.args.volume) c.args.pair) c.show-read.new.out.items c.show-read.result)
           (c.args.self.now).arms store.arms c.args.lane arm c.show-read.new.self (ap (λ (st : Open g.row.D.Denot g.row.D-Piece.Denot g.row.A.Denot). st.arms) c.self.view_is) seat
-          (c.show-read.ensures.shown c.args.pair _ means),
+          (answers_row g.D.Piece.Piece.Tells (record { sure = g.A.Arm.is_sure arm; before = g.A.Arm.fault_count arm; after = g.A.Arm.fault_count c.show-read.new.self }) c.args.start c.look-front.result.row c.args.cookie c.show-read.new.out.items c.show-read.result c.args.pair _ c.show-read.ensures.later means c.show-read.ensures.reads),
       seat_comes g.D.Disk.files g.D.Piece.Piece.Tells g.D.Disk.fault_count g.D.Disk.fuse_count g.A.Arm.fault_count c.args.self.now store k c.args.lane arm c.show-read.new.self c.self.view_is stands seat c.show-read.ensures.later,
     )
 
@@ -102,7 +105,7 @@ returns-clause-causes g c =
       c.look-front.ensures.long ∙ ap (λ (s : Settings). s.replicas) same,
       counts_at g.A.Arm.fault_count (λ before after. HasCauses c.args.start c.look-front.result.row before after c.show-read.result)
           (c.args.self.now).arms store.arms c.args.lane arm c.show-read.new.self (ap (λ (st : Open g.row.D.Denot g.row.D-Piece.Denot g.row.A.Denot). st.arms) c.self.view_is) seat
-          c.show-read.ensures.causes,
+          (has_causes g.D.Piece.Piece.Tells (record { sure = g.A.Arm.is_sure arm; before = g.A.Arm.fault_count arm; after = g.A.Arm.fault_count c.show-read.new.self }) c.args.start c.look-front.result.row c.args.cookie c.show-read.new.out.items c.show-read.result c.show-read.ensures.reads),
     )
 
 pub returns-clause-arm_counts : goal.returns-clause-arm_counts
@@ -146,3 +149,25 @@ array_drop-row-inside-requires g c =
     let long = ap length c.as_slice.ensures.value in
     let room = item_room (length c.as_slice.result.now) _ (let some : 0 < length c.as_slice.result.now = omega (arith, within, long) in some) c.as_slice.type_inv.1 in
     places_room _ _ _ _ _ (row_room _ _ (begin_room _ _ _ room))
+
+pub returns-clause-sure : goal.returns-clause-sure
+returns-clause-sure g c = λ one at sure.
+    let store : Open g.row.D.Denot g.row.D-Piece.Denot g.row.A.Denot = record { settings = c.self.inside.settings; directory = c.self.inside.directory; volumes = c.self.inside.volumes.items; arms = c.self.inside.seats.items } in
+    let inside : c.args.lane < length c.self.inside.seats.items = omega (arith, c.requires.lane, c.self.invariant.lanes) in
+    let arm : g.row.A.Denot = slice_index_or c.as_mut_slice.result.now c.args.lane c.index-as_mut_slice-lane.result in
+    let seat : At store.arms c.args.lane arm = subst (λ (xs : List (g.row.A.Denot)). At xs c.args.lane arm) c.as_mut_slice.ensures.value
+    (at_read c.as_mut_slice.result.now c.args.lane c.index-as_mut_slice-lane.result (let long = ap length c.as_mut_slice.ensures.value in omega (arith, inside, long))) in
+    let same : arm ≡ one = same_Some arm one (sym seat ∙ ap (λ (st : Open g.row.D.Denot g.row.D-Piece.Denot g.row.A.Denot). slice_get st.arms c.args.lane) c.self.view_is ∙ at) in
+    no_arm_passed c.show-read.result (c.show-read.ensures.sure (ap g.A.Arm.is_sure same ∙ sure)).1
+
+pub returns-clause-sure_arms : goal.returns-clause-sure_arms
+returns-clause-sure_arms g c =
+    let store : Open g.row.D.Denot g.row.D-Piece.Denot g.row.A.Denot = record { settings = c.self.inside.settings; directory = c.self.inside.directory; volumes = c.self.inside.volumes.items; arms = c.self.inside.seats.items } in
+    let inside : c.args.lane < length c.self.inside.seats.items = omega (arith, c.requires.lane, c.self.invariant.lanes) in
+    let arm : g.row.A.Denot = slice_index_or c.as_mut_slice.result.now c.args.lane c.index-as_mut_slice-lane.result in
+    let seat : At store.arms c.args.lane arm = subst (λ (xs : List (g.row.A.Denot)). At xs c.args.lane arm) c.as_mut_slice.ensures.value
+    (at_read c.as_mut_slice.result.now c.args.lane c.index-as_mut_slice-lane.result (let long = ap length c.as_mut_slice.ensures.value in omega (arith, inside, long))) in
+    let items = with_items_is c.self.inside.seats (slice_set c.as_mut_slice.result.now c.args.lane c.show-read.new.self) (length-set c.as_mut_slice.result.now c.args.lane c.show-read.new.self ∙ c.as_mut_slice.ensures.len)
+    ∙ ap (λ (xs : List (g.row.A.Denot)). slice_set xs c.args.lane c.show-read.new.self) c.as_mut_slice.ensures.value in
+    rw items (used_sure g.A.Arm.is_sure (c.args.self.now).arms store.arms c.args.lane arm c.show-read.new.self (ap (λ (st : Open g.row.D.Denot g.row.D-Piece.Denot g.row.A.Denot). st.arms) c.self.view_is) seat
+    (λ sure. (c.show-read.ensures.sure sure).0))

@@ -7,6 +7,7 @@ use Rattle.hay_cluster.specs.Store.{Open, disks_of}
 use Rattle.hay_cluster.proofs.Answering.{answered, stays}
 use Rattle.hay_cluster.proofs.Moves.{none_falls}
 use Rattle.hay_cluster.proofs.Showing.{get_command}
+use Rattle.hay_cluster.proofs.Sure.{same_sure}
 use Rattle.hay_cluster.proofs.cluster.Cluster.get.Goals as goal
 
 pub returns-in_default-clause-legal : goal.returns-in_default-clause-legal
@@ -23,7 +24,7 @@ returns-in_default-home-clause-legal g c = λ tells k stands.
     let home : home_of k (c.args.url.now).pair ≡ None = sym (c.home.ensures.known tells k stands) ∙ c.in_default-home.is in
     answered g.D.Disk.files g.D.Piece.Piece.Tells g.D.Disk.fault_count g.D.Disk.fuse_count g.A.Arm.fault_count c.args.self.now (c.args.self.now).settings k k c.args.tag _ (reply.Unknown c.rows.result) refl
     (subst (λ (o : Option ℕ). LegalGetAt (c.args.self.now).settings k c.args.tag c.args.url.now o (reply.Unknown c.rows.result) k) (sym there)
-    (((home, c.rows.ensures.known tells k stands), stays k), tt)) stands
+    (((home, c.rows.ensures.known tells k stands), stays k), tt, λ w is other. stays k)) stands
 
 pub returns-then-volume-url-clause-legal : goal.returns-then-volume-url-clause-legal
 returns-then-volume-url-clause-legal g c = λ tells k stands.
@@ -49,7 +50,7 @@ returns-clause-legal g c = λ tells k stands.
     let home : home_of k (c.args.url.now).pair ≡ Some c.in-Some-home.volume = sym (c.home.ensures.known tells k stands) ∙ c.in-Some-home.is in
     let shown = c.show.ensures.shown tells k stands home in
     answered g.D.Disk.files g.D.Piece.Piece.Tells g.D.Disk.fault_count g.D.Disk.fuse_count g.A.Arm.fault_count c.show.new.self (c.args.self.now).settings k shown.known c.args.tag _ c.show.result c.show.ensures.settings
-    (get_command (c.args.self.now).settings k shown.known c.args.tag c.args.url.now c.in-Some.start c.in-Some-home.volume c.show.result there c.if-volume-url.false shown.legal c.show.ensures.here) shown.stands
+    (get_command (c.args.self.now).settings k shown.known c.args.tag c.args.url.now c.in-Some.start c.in-Some-home.volume c.show.result there home c.if-volume-url.false shown.legal c.show.ensures.here) shown.stands
 
 pub returns-in_default-clause-counts : goal.returns-in_default-clause-counts
 returns-in_default-clause-counts g c = none_falls (map g.D.Disk.fault_count (disks_of c.args.self.now))
@@ -68,3 +69,12 @@ returns-then-volume-url-clause-counts g c = none_falls (map g.D.Disk.fault_count
 
 pub returns-then-volume-url-clause-arm_counts : goal.returns-then-volume-url-clause-arm_counts
 returns-then-volume-url-clause-arm_counts g c = none_falls (map g.A.Arm.fault_count (c.args.self.now).arms)
+
+pub returns-in_default-clause-sure_arms : goal.returns-in_default-clause-sure_arms
+returns-in_default-clause-sure_arms g c = same_sure g.A.Arm.is_sure (c.args.self.now).arms (c.args.self.now).arms refl
+
+pub returns-in_default-home-clause-sure_arms : goal.returns-in_default-home-clause-sure_arms
+returns-in_default-home-clause-sure_arms g c = same_sure g.A.Arm.is_sure (c.args.self.now).arms (c.args.self.now).arms refl
+
+pub returns-then-volume-url-clause-sure_arms : goal.returns-then-volume-url-clause-sure_arms
+returns-then-volume-url-clause-sure_arms g c = same_sure g.A.Arm.is_sure (c.args.self.now).arms (c.args.self.now).arms refl

@@ -8,10 +8,11 @@ use Rattle.hay_legal.specs.Known.{disk_count}
 use Rattle.hay_cluster.specs.declared.fault.ClusterFault.TheVariants.{Shelf, Failed, Damaged, NoMemory}
 use Rattle.hay_cluster.specs.Store.{disks_of}
 use Rattle.hay_cluster.proofs.Lists.{one_fits}
-use Rattle.hay_cluster.proofs.OpeningFound.{found_damaged, found_new}
+use Rattle.hay_cluster.proofs.OpeningDamage.{opened_sound, opening_damaged}
+use Rattle.hay_cluster.proofs.OpeningFound.{found_new}
 use Rattle.hay_cluster.proofs.OpeningLists.{passed_on}
 use Rattle.hay_cluster.proofs.OpeningStore.{MovedParts, opens_up}
-use Rattle.hay_cluster.proofs.OpeningTaken.{IsTakingFault, back_counts, back_failed, back_kept, back_shelf, is_taken, moved_arms, moved_counts, not_memory_damaged, one_fault, passed_back, taken_idle, taken_rests, taking_damaged, taking_failed, taking_shelf}
+use Rattle.hay_cluster.proofs.OpeningTaken.{IsTakingFault, back_arm, back_counts, back_failed, back_kept, back_shelf, is_taken, moved_arms, moved_counts, moved_sure, not_memory_damaged, one_fault, passed_back, taken_idle, taken_rests, taking_damaged, taking_failed, taking_shelf}
 use Rattle.hay_cluster.proofs.cluster.Cluster.open.Goals as goal
 
 pub empty_volumes-requires-after_bounds : goal.empty_volumes-requires-after_bounds
@@ -40,13 +41,13 @@ take_parts-requires-clause-disks_in g c =
 
 pub open_parts-requires-clause-directory : goal.open_parts-requires-clause-directory
 open_parts-requires-clause-directory g c =
-    let taken = is_taken g.D.Disk.Tells g.D.Disk.files g.D.Piece.Piece.Tells g.D.Disk.fault_count g.D.Disk.fuse_count g.A.Arm.fault_count (g.H.Shelf.disks c.args.shelf.now) (g.H.Shelf.arms c.args.shelf.now) c.assemble-cluster.result c.in_ok-disks.disks.items c.in_ok-disks.seats.items c.assemble-cluster.ensures.shape c.assemble-cluster.ensures.fresh c.assemble-cluster.ensures.closed c.assemble-cluster.ensures.unsure c.assemble-cluster.ensures.disks c.assemble-cluster.ensures.arms c.in_ok-disks.ensures.disks c.in_ok-disks.ensures.arms in
-    λ κs lives. taken_rests g.D.Disk.Tells g.D.Disk.files g.D.Piece.Piece.Tells g.D.Disk.fault_count g.D.Disk.fuse_count g.A.Arm.fault_count (g.H.Shelf.disks c.args.shelf.now) (g.H.Shelf.arms c.args.shelf.now) c.assemble-cluster.result taken
+    let taken = is_taken g.D.Disk.Tells g.D.Disk.files g.D.Piece.Piece.Tells g.D.Disk.fault_count g.D.Disk.fuse_count g.A.Arm.fault_count g.D.Disk.drawn g.A.Arm.is_sure (g.H.Shelf.disks c.args.shelf.now) (g.H.Shelf.arms c.args.shelf.now) c.assemble-cluster.result c.in_ok-disks.disks.items c.in_ok-disks.seats.items c.assemble-cluster.ensures.shape c.assemble-cluster.ensures.fresh c.assemble-cluster.ensures.closed c.assemble-cluster.ensures.unsure c.assemble-cluster.ensures.disks c.assemble-cluster.ensures.arms c.in_ok-disks.ensures.disks c.in_ok-disks.ensures.arms in
+    λ κs lives. taken_rests g.D.Disk.Tells g.D.Disk.files g.D.Piece.Piece.Tells g.D.Disk.fault_count g.D.Disk.fuse_count g.A.Arm.fault_count g.D.Disk.drawn g.A.Arm.is_sure (g.H.Shelf.disks c.args.shelf.now) (g.H.Shelf.arms c.args.shelf.now) c.assemble-cluster.result taken
 
 pub open_parts-requires-clause-idle : goal.open_parts-requires-clause-idle
 open_parts-requires-clause-idle g c =
-    let taken = is_taken g.D.Disk.Tells g.D.Disk.files g.D.Piece.Piece.Tells g.D.Disk.fault_count g.D.Disk.fuse_count g.A.Arm.fault_count (g.H.Shelf.disks c.args.shelf.now) (g.H.Shelf.arms c.args.shelf.now) c.assemble-cluster.result c.in_ok-disks.disks.items c.in_ok-disks.seats.items c.assemble-cluster.ensures.shape c.assemble-cluster.ensures.fresh c.assemble-cluster.ensures.closed c.assemble-cluster.ensures.unsure c.assemble-cluster.ensures.disks c.assemble-cluster.ensures.arms c.in_ok-disks.ensures.disks c.in_ok-disks.ensures.arms in
-    λ κs lives tells. taken_idle g.D.Disk.Tells g.D.Disk.files g.D.Piece.Piece.Tells g.D.Disk.fault_count g.D.Disk.fuse_count g.A.Arm.fault_count (g.H.Shelf.disks c.args.shelf.now) (g.H.Shelf.arms c.args.shelf.now) tells c.assemble-cluster.result taken
+    let taken = is_taken g.D.Disk.Tells g.D.Disk.files g.D.Piece.Piece.Tells g.D.Disk.fault_count g.D.Disk.fuse_count g.A.Arm.fault_count g.D.Disk.drawn g.A.Arm.is_sure (g.H.Shelf.disks c.args.shelf.now) (g.H.Shelf.arms c.args.shelf.now) c.assemble-cluster.result c.in_ok-disks.disks.items c.in_ok-disks.seats.items c.assemble-cluster.ensures.shape c.assemble-cluster.ensures.fresh c.assemble-cluster.ensures.closed c.assemble-cluster.ensures.unsure c.assemble-cluster.ensures.disks c.assemble-cluster.ensures.arms c.in_ok-disks.ensures.disks c.in_ok-disks.ensures.arms in
+    λ κs lives tells. taken_idle g.D.Disk.Tells g.D.Disk.files g.D.Piece.Piece.Tells g.D.Disk.fault_count g.D.Disk.fuse_count g.A.Arm.fault_count g.D.Disk.drawn g.A.Arm.is_sure (g.H.Shelf.disks c.args.shelf.now) (g.H.Shelf.arms c.args.shelf.now) tells c.assemble-cluster.result taken
 
 pub close-requires-clause-disks_out : goal.close-requires-clause-disks_out
 close-requires-clause-disks_out g c =
@@ -86,10 +87,10 @@ returns-in_err-disks-clause-back_counts g c =
     let back : (slot : ℕ) → slot < disk_count c.args.settings → IsPutBack g.D.Disk.Tells (g.H.Shelf.disks c.args.shelf.now slot) (g.H.Shelf.disks c.take_parts.new.shelf slot) = λ slot below. c.in_err-disks.ensures.put_back slot (let low : slot < c.disk_count.result = omega (arith, count, below) in low) in
     passed_back c.from_residual-in_err-disks.result _ p.0 p.1 (λ slot below. let b = back slot below in record { faults_rise = (let e = b.fault_count in omega (arith, e)); fuses_are = b.fuse_count })
 
-pub returns-in_err-disks-clause-back_arm_counts : goal.returns-in_err-disks-clause-back_arm_counts
-returns-in_err-disks-clause-back_arm_counts g c =
+pub returns-in_err-disks-clause-back_arms : goal.returns-in_err-disks-clause-back_arms
+returns-in_err-disks-clause-back_arms g c =
     let p = err_from_is_err_and c.from_residual-in_err-disks.result c.from_residual-in_err-disks.ensures.1 in
-    passed_back c.from_residual-in_err-disks.result _ p.0 p.1 (λ lane below. (c.in_err-disks.ensures.arms_back lane below).fault_count)
+    passed_back c.from_residual-in_err-disks.result _ p.0 p.1 c.in_err-disks.ensures.arms_back
 
 pub returns-in_err-disks-clause-shelf : goal.returns-in_err-disks-clause-shelf
 returns-in_err-disks-clause-shelf g c =
@@ -116,9 +117,14 @@ returns-in_err-disks-clause-other_slots g c =
 
 pub returns-in-Ok-clause-opened : goal.returns-in-Ok-clause-opened
 returns-in-Ok-clause-opened g c =
-    let taken = is_taken g.D.Disk.Tells g.D.Disk.files g.D.Piece.Piece.Tells g.D.Disk.fault_count g.D.Disk.fuse_count g.A.Arm.fault_count (g.H.Shelf.disks c.args.shelf.now) (g.H.Shelf.arms c.args.shelf.now) c.assemble-cluster.result c.in_ok-disks.disks.items c.in_ok-disks.seats.items c.assemble-cluster.ensures.shape c.assemble-cluster.ensures.fresh c.assemble-cluster.ensures.closed c.assemble-cluster.ensures.unsure c.assemble-cluster.ensures.disks c.assemble-cluster.ensures.arms c.in_ok-disks.ensures.disks c.in_ok-disks.ensures.arms in
+    let taken = is_taken g.D.Disk.Tells g.D.Disk.files g.D.Piece.Piece.Tells g.D.Disk.fault_count g.D.Disk.fuse_count g.A.Arm.fault_count g.D.Disk.drawn g.A.Arm.is_sure (g.H.Shelf.disks c.args.shelf.now) (g.H.Shelf.arms c.args.shelf.now) c.assemble-cluster.result c.in_ok-disks.disks.items c.in_ok-disks.seats.items c.assemble-cluster.ensures.shape c.assemble-cluster.ensures.fresh c.assemble-cluster.ensures.closed c.assemble-cluster.ensures.unsure c.assemble-cluster.ensures.disks c.assemble-cluster.ensures.arms c.in_ok-disks.ensures.disks c.in_ok-disks.ensures.arms in
     let moved : MovedParts g.D.Disk.Tells g.D.Disk.files g.D.Piece.Piece.Tells g.D.Disk.fault_count g.D.Disk.fuse_count g.A.Arm.fault_count c.assemble-cluster.result c.open_parts.new.self = record { settings = c.open_parts.ensures.settings; arms = c.open_parts.ensures.arms; directory = c.open_parts.ensures.directory; volumes = c.open_parts.ensures.volumes } in
-    λ tells k finds. found_new g.D.Disk.Tells g.D.Disk.files g.D.Piece.Piece.Tells g.D.Disk.fault_count g.D.Disk.fuse_count g.A.Arm.fault_count (g.H.Shelf.disks c.args.shelf.now) (g.H.Shelf.arms c.args.shelf.now) tells c.args.settings c.assemble-cluster.result c.open_parts.new.self k c.in-Ok._notes c.assemble-cluster.ensures.settings taken moved c.in-Ok.ensures.opened finds
+    λ tells k finds. found_new g.D.Disk.Tells g.D.Disk.files g.D.Piece.Piece.Tells g.D.Disk.fault_count g.D.Disk.fuse_count g.A.Arm.fault_count g.D.Disk.drawn g.A.Arm.is_sure (g.H.Shelf.disks c.args.shelf.now) (g.H.Shelf.arms c.args.shelf.now) (g.H.Shelf.fault_count c.args.shelf.now) tells c.args.settings c.assemble-cluster.result c.open_parts.new.self k c.in-Ok._notes c.assemble-cluster.ensures.settings taken moved c.in-Ok.ensures.opened finds
+
+pub returns-in-Ok-clause-sound : goal.returns-in-Ok-clause-sound
+returns-in-Ok-clause-sound g c =
+    let taken = is_taken g.D.Disk.Tells g.D.Disk.files g.D.Piece.Piece.Tells g.D.Disk.fault_count g.D.Disk.fuse_count g.A.Arm.fault_count g.D.Disk.drawn g.A.Arm.is_sure (g.H.Shelf.disks c.args.shelf.now) (g.H.Shelf.arms c.args.shelf.now) c.assemble-cluster.result c.in_ok-disks.disks.items c.in_ok-disks.seats.items c.assemble-cluster.ensures.shape c.assemble-cluster.ensures.fresh c.assemble-cluster.ensures.closed c.assemble-cluster.ensures.unsure c.assemble-cluster.ensures.disks c.assemble-cluster.ensures.arms c.in_ok-disks.ensures.disks c.in_ok-disks.ensures.arms in
+    λ tells. opened_sound g.D.Disk.Tells g.D.Disk.files g.D.Piece.Piece.Tells g.D.Disk.fault_count g.D.Disk.fuse_count g.A.Arm.fault_count tells g.D.Disk.drawn g.A.Arm.is_sure (g.H.Shelf.disks c.args.shelf.now) (g.H.Shelf.arms c.args.shelf.now) c.args.settings c.assemble-cluster.result c.open_parts.new.self c.in-Ok._notes c.assemble-cluster.ensures.settings (let one = c.requires.built.some_replicas in omega (arith, one)) taken c.in-Ok.ensures.opened
 
 pub returns-in-Ok-clause-up : goal.returns-in-Ok-clause-up
 returns-in-Ok-clause-up g c =
@@ -126,15 +132,20 @@ returns-in-Ok-clause-up g c =
 
 pub returns-in-Ok-clause-counts : goal.returns-in-Ok-clause-counts
 returns-in-Ok-clause-counts g c =
-    let taken = is_taken g.D.Disk.Tells g.D.Disk.files g.D.Piece.Piece.Tells g.D.Disk.fault_count g.D.Disk.fuse_count g.A.Arm.fault_count (g.H.Shelf.disks c.args.shelf.now) (g.H.Shelf.arms c.args.shelf.now) c.assemble-cluster.result c.in_ok-disks.disks.items c.in_ok-disks.seats.items c.assemble-cluster.ensures.shape c.assemble-cluster.ensures.fresh c.assemble-cluster.ensures.closed c.assemble-cluster.ensures.unsure c.assemble-cluster.ensures.disks c.assemble-cluster.ensures.arms c.in_ok-disks.ensures.disks c.in_ok-disks.ensures.arms in
+    let taken = is_taken g.D.Disk.Tells g.D.Disk.files g.D.Piece.Piece.Tells g.D.Disk.fault_count g.D.Disk.fuse_count g.A.Arm.fault_count g.D.Disk.drawn g.A.Arm.is_sure (g.H.Shelf.disks c.args.shelf.now) (g.H.Shelf.arms c.args.shelf.now) c.assemble-cluster.result c.in_ok-disks.disks.items c.in_ok-disks.seats.items c.assemble-cluster.ensures.shape c.assemble-cluster.ensures.fresh c.assemble-cluster.ensures.closed c.assemble-cluster.ensures.unsure c.assemble-cluster.ensures.disks c.assemble-cluster.ensures.arms c.in_ok-disks.ensures.disks c.in_ok-disks.ensures.arms in
     let moved : MovedParts g.D.Disk.Tells g.D.Disk.files g.D.Piece.Piece.Tells g.D.Disk.fault_count g.D.Disk.fuse_count g.A.Arm.fault_count c.assemble-cluster.result c.open_parts.new.self = record { settings = c.open_parts.ensures.settings; arms = c.open_parts.ensures.arms; directory = c.open_parts.ensures.directory; volumes = c.open_parts.ensures.volumes } in
     let many : disk_count c.assemble-cluster.result.settings ≡ disk_count c.args.settings = ap (λ (s : Settings). disk_count s) c.assemble-cluster.ensures.settings in
-    λ slot below. moved_counts g.D.Disk.Tells g.D.Disk.files g.D.Piece.Piece.Tells g.D.Disk.fault_count g.D.Disk.fuse_count g.A.Arm.fault_count (g.H.Shelf.disks c.args.shelf.now) (g.H.Shelf.arms c.args.shelf.now) c.assemble-cluster.result c.open_parts.new.self taken moved slot (let low : slot < disk_count c.assemble-cluster.result.settings = omega (arith, many, below) in low)
+    λ slot below. moved_counts g.D.Disk.Tells g.D.Disk.files g.D.Piece.Piece.Tells g.D.Disk.fault_count g.D.Disk.fuse_count g.A.Arm.fault_count g.D.Disk.drawn g.A.Arm.is_sure (g.H.Shelf.disks c.args.shelf.now) (g.H.Shelf.arms c.args.shelf.now) c.assemble-cluster.result c.open_parts.new.self taken moved slot (let low : slot < disk_count c.assemble-cluster.result.settings = omega (arith, many, below) in low)
 
 pub returns-in-Ok-clause-arm_counts : goal.returns-in-Ok-clause-arm_counts
 returns-in-Ok-clause-arm_counts g c =
-    let taken = is_taken g.D.Disk.Tells g.D.Disk.files g.D.Piece.Piece.Tells g.D.Disk.fault_count g.D.Disk.fuse_count g.A.Arm.fault_count (g.H.Shelf.disks c.args.shelf.now) (g.H.Shelf.arms c.args.shelf.now) c.assemble-cluster.result c.in_ok-disks.disks.items c.in_ok-disks.seats.items c.assemble-cluster.ensures.shape c.assemble-cluster.ensures.fresh c.assemble-cluster.ensures.closed c.assemble-cluster.ensures.unsure c.assemble-cluster.ensures.disks c.assemble-cluster.ensures.arms c.in_ok-disks.ensures.disks c.in_ok-disks.ensures.arms in
-    λ lane below. moved_arms g.D.Disk.Tells g.D.Disk.files g.D.Piece.Piece.Tells g.D.Disk.fault_count g.D.Disk.fuse_count g.A.Arm.fault_count (g.H.Shelf.disks c.args.shelf.now) (g.H.Shelf.arms c.args.shelf.now) c.assemble-cluster.result c.open_parts.new.self taken c.open_parts.ensures.arms lane below
+    let taken = is_taken g.D.Disk.Tells g.D.Disk.files g.D.Piece.Piece.Tells g.D.Disk.fault_count g.D.Disk.fuse_count g.A.Arm.fault_count g.D.Disk.drawn g.A.Arm.is_sure (g.H.Shelf.disks c.args.shelf.now) (g.H.Shelf.arms c.args.shelf.now) c.assemble-cluster.result c.in_ok-disks.disks.items c.in_ok-disks.seats.items c.assemble-cluster.ensures.shape c.assemble-cluster.ensures.fresh c.assemble-cluster.ensures.closed c.assemble-cluster.ensures.unsure c.assemble-cluster.ensures.disks c.assemble-cluster.ensures.arms c.in_ok-disks.ensures.disks c.in_ok-disks.ensures.arms in
+    λ lane below. moved_arms g.D.Disk.Tells g.D.Disk.files g.D.Piece.Piece.Tells g.D.Disk.fault_count g.D.Disk.fuse_count g.A.Arm.fault_count g.D.Disk.drawn g.A.Arm.is_sure (g.H.Shelf.disks c.args.shelf.now) (g.H.Shelf.arms c.args.shelf.now) c.assemble-cluster.result c.open_parts.new.self taken c.open_parts.ensures.arms lane below
+
+pub returns-in-Ok-clause-sure_arms : goal.returns-in-Ok-clause-sure_arms
+returns-in-Ok-clause-sure_arms g c =
+    let taken = is_taken g.D.Disk.Tells g.D.Disk.files g.D.Piece.Piece.Tells g.D.Disk.fault_count g.D.Disk.fuse_count g.A.Arm.fault_count g.D.Disk.drawn g.A.Arm.is_sure (g.H.Shelf.disks c.args.shelf.now) (g.H.Shelf.arms c.args.shelf.now) c.assemble-cluster.result c.in_ok-disks.disks.items c.in_ok-disks.seats.items c.assemble-cluster.ensures.shape c.assemble-cluster.ensures.fresh c.assemble-cluster.ensures.closed c.assemble-cluster.ensures.unsure c.assemble-cluster.ensures.disks c.assemble-cluster.ensures.arms c.in_ok-disks.ensures.disks c.in_ok-disks.ensures.arms in
+    λ lane arm at. moved_sure g.D.Disk.Tells g.D.Disk.files g.D.Piece.Piece.Tells g.D.Disk.fault_count g.D.Disk.fuse_count g.A.Arm.fault_count g.D.Disk.drawn g.A.Arm.is_sure (g.H.Shelf.disks c.args.shelf.now) (g.H.Shelf.arms c.args.shelf.now) c.assemble-cluster.result c.open_parts.new.self taken c.open_parts.ensures.arms lane arm at
 
 pub returns-in-Ok-clause-disks_out : goal.returns-in-Ok-clause-disks_out
 returns-in-Ok-clause-disks_out g c =
@@ -148,10 +159,10 @@ returns-in-Ok-clause-other_slots g c =
 
 pub returns-in-Err-clause-kept : goal.returns-in-Err-clause-kept
 returns-in-Err-clause-kept g c =
-    let taken = is_taken g.D.Disk.Tells g.D.Disk.files g.D.Piece.Piece.Tells g.D.Disk.fault_count g.D.Disk.fuse_count g.A.Arm.fault_count (g.H.Shelf.disks c.args.shelf.now) (g.H.Shelf.arms c.args.shelf.now) c.assemble-cluster.result c.in_ok-disks.disks.items c.in_ok-disks.seats.items c.assemble-cluster.ensures.shape c.assemble-cluster.ensures.fresh c.assemble-cluster.ensures.closed c.assemble-cluster.ensures.unsure c.assemble-cluster.ensures.disks c.assemble-cluster.ensures.arms c.in_ok-disks.ensures.disks c.in_ok-disks.ensures.arms in
+    let taken = is_taken g.D.Disk.Tells g.D.Disk.files g.D.Piece.Piece.Tells g.D.Disk.fault_count g.D.Disk.fuse_count g.A.Arm.fault_count g.D.Disk.drawn g.A.Arm.is_sure (g.H.Shelf.disks c.args.shelf.now) (g.H.Shelf.arms c.args.shelf.now) c.assemble-cluster.result c.in_ok-disks.disks.items c.in_ok-disks.seats.items c.assemble-cluster.ensures.shape c.assemble-cluster.ensures.fresh c.assemble-cluster.ensures.closed c.assemble-cluster.ensures.unsure c.assemble-cluster.ensures.disks c.assemble-cluster.ensures.arms c.in_ok-disks.ensures.disks c.in_ok-disks.ensures.arms in
     let moved : MovedParts g.D.Disk.Tells g.D.Disk.files g.D.Piece.Piece.Tells g.D.Disk.fault_count g.D.Disk.fuse_count g.A.Arm.fault_count c.assemble-cluster.result c.open_parts.new.self = record { settings = c.open_parts.ensures.settings; arms = c.open_parts.ensures.arms; directory = c.open_parts.ensures.directory; volumes = c.open_parts.ensures.volumes } in
     let many : disk_count c.assemble-cluster.result.settings ≡ disk_count c.args.settings = ap (λ (s : Settings). disk_count s) c.assemble-cluster.ensures.settings in
-    λ tells slot below. back_kept g.D.Disk.Tells g.D.Disk.files g.D.Piece.Piece.Tells g.D.Disk.fault_count g.D.Disk.fuse_count g.A.Arm.fault_count (g.H.Shelf.disks c.args.shelf.now) (g.H.Shelf.arms c.args.shelf.now) tells c.assemble-cluster.result c.open_parts.new.self (g.H.Shelf.disks c.close.new.shelf) taken moved c.close.ensures.disks slot (let low : slot < disk_count c.assemble-cluster.result.settings = omega (arith, many, below) in low)
+    λ tells slot below. back_kept g.D.Disk.Tells g.D.Disk.files g.D.Piece.Piece.Tells g.D.Disk.fault_count g.D.Disk.fuse_count g.A.Arm.fault_count g.D.Disk.drawn g.A.Arm.is_sure (g.H.Shelf.disks c.args.shelf.now) (g.H.Shelf.arms c.args.shelf.now) tells c.assemble-cluster.result c.open_parts.new.self (g.H.Shelf.disks c.close.new.shelf) taken moved c.close.ensures.disks slot (let low : slot < disk_count c.assemble-cluster.result.settings = omega (arith, many, below) in low)
 
 pub returns-in-Err-clause-disks_back : goal.returns-in-Err-clause-disks_back
 returns-in-Err-clause-disks_back g c =
@@ -160,43 +171,46 @@ returns-in-Err-clause-disks_back g c =
 
 pub returns-in-Err-clause-back_counts : goal.returns-in-Err-clause-back_counts
 returns-in-Err-clause-back_counts g c =
-    let taken = is_taken g.D.Disk.Tells g.D.Disk.files g.D.Piece.Piece.Tells g.D.Disk.fault_count g.D.Disk.fuse_count g.A.Arm.fault_count (g.H.Shelf.disks c.args.shelf.now) (g.H.Shelf.arms c.args.shelf.now) c.assemble-cluster.result c.in_ok-disks.disks.items c.in_ok-disks.seats.items c.assemble-cluster.ensures.shape c.assemble-cluster.ensures.fresh c.assemble-cluster.ensures.closed c.assemble-cluster.ensures.unsure c.assemble-cluster.ensures.disks c.assemble-cluster.ensures.arms c.in_ok-disks.ensures.disks c.in_ok-disks.ensures.arms in
+    let taken = is_taken g.D.Disk.Tells g.D.Disk.files g.D.Piece.Piece.Tells g.D.Disk.fault_count g.D.Disk.fuse_count g.A.Arm.fault_count g.D.Disk.drawn g.A.Arm.is_sure (g.H.Shelf.disks c.args.shelf.now) (g.H.Shelf.arms c.args.shelf.now) c.assemble-cluster.result c.in_ok-disks.disks.items c.in_ok-disks.seats.items c.assemble-cluster.ensures.shape c.assemble-cluster.ensures.fresh c.assemble-cluster.ensures.closed c.assemble-cluster.ensures.unsure c.assemble-cluster.ensures.disks c.assemble-cluster.ensures.arms c.in_ok-disks.ensures.disks c.in_ok-disks.ensures.arms in
     let moved : MovedParts g.D.Disk.Tells g.D.Disk.files g.D.Piece.Piece.Tells g.D.Disk.fault_count g.D.Disk.fuse_count g.A.Arm.fault_count c.assemble-cluster.result c.open_parts.new.self = record { settings = c.open_parts.ensures.settings; arms = c.open_parts.ensures.arms; directory = c.open_parts.ensures.directory; volumes = c.open_parts.ensures.volumes } in
     let many : disk_count c.assemble-cluster.result.settings ≡ disk_count c.args.settings = ap (λ (s : Settings). disk_count s) c.assemble-cluster.ensures.settings in
     let more : disk_count c.open_parts.new.self.settings ≡ disk_count c.args.settings = ap (λ (s : Settings). disk_count s) (c.open_parts.ensures.settings ∙ c.assemble-cluster.ensures.settings) in
     let faults_are : (slot : ℕ) → slot < disk_count c.assemble-cluster.result.settings → ((g.H.Shelf.disks c.close.new.shelf) slot).fault_count ≡ slice_index (map g.D.Disk.fault_count (disks_of c.open_parts.new.self)) slot = λ slot low. c.close.ensures.fault_counts slot (let less : slot < disk_count c.open_parts.new.self.settings = omega (arith, many, more, low) in less) in
     let fuses_are : (slot : ℕ) → slot < disk_count c.assemble-cluster.result.settings → ((g.H.Shelf.disks c.close.new.shelf) slot).fuse_count ≡ slice_index (map g.D.Disk.fuse_count (disks_of c.open_parts.new.self)) slot = λ slot low. c.close.ensures.fuse_counts slot (let less : slot < disk_count c.open_parts.new.self.settings = omega (arith, many, more, low) in less) in
-    λ slot below. back_counts g.D.Disk.Tells g.D.Disk.files g.D.Piece.Piece.Tells g.D.Disk.fault_count g.D.Disk.fuse_count g.A.Arm.fault_count (g.H.Shelf.disks c.args.shelf.now) (g.H.Shelf.arms c.args.shelf.now) c.assemble-cluster.result c.open_parts.new.self (g.H.Shelf.disks c.close.new.shelf) taken moved faults_are fuses_are slot (let low : slot < disk_count c.assemble-cluster.result.settings = omega (arith, many, below) in low)
+    λ slot below. back_counts g.D.Disk.Tells g.D.Disk.files g.D.Piece.Piece.Tells g.D.Disk.fault_count g.D.Disk.fuse_count g.A.Arm.fault_count g.D.Disk.drawn g.A.Arm.is_sure (g.H.Shelf.disks c.args.shelf.now) (g.H.Shelf.arms c.args.shelf.now) c.assemble-cluster.result c.open_parts.new.self (g.H.Shelf.disks c.close.new.shelf) taken moved faults_are fuses_are slot (let low : slot < disk_count c.assemble-cluster.result.settings = omega (arith, many, below) in low)
 
-pub returns-in-Err-clause-back_arm_counts : goal.returns-in-Err-clause-back_arm_counts
-returns-in-Err-clause-back_arm_counts g c =
-    let taken = is_taken g.D.Disk.Tells g.D.Disk.files g.D.Piece.Piece.Tells g.D.Disk.fault_count g.D.Disk.fuse_count g.A.Arm.fault_count (g.H.Shelf.disks c.args.shelf.now) (g.H.Shelf.arms c.args.shelf.now) c.assemble-cluster.result c.in_ok-disks.disks.items c.in_ok-disks.seats.items c.assemble-cluster.ensures.shape c.assemble-cluster.ensures.fresh c.assemble-cluster.ensures.closed c.assemble-cluster.ensures.unsure c.assemble-cluster.ensures.disks c.assemble-cluster.ensures.arms c.in_ok-disks.ensures.disks c.in_ok-disks.ensures.arms in
-    λ lane below. c.close.ensures.arm_counts lane below ∙ moved_arms g.D.Disk.Tells g.D.Disk.files g.D.Piece.Piece.Tells g.D.Disk.fault_count g.D.Disk.fuse_count g.A.Arm.fault_count (g.H.Shelf.disks c.args.shelf.now) (g.H.Shelf.arms c.args.shelf.now) c.assemble-cluster.result c.open_parts.new.self taken c.open_parts.ensures.arms lane below
+pub returns-in-Err-clause-back_arms : goal.returns-in-Err-clause-back_arms
+returns-in-Err-clause-back_arms g c =
+    let taken = is_taken g.D.Disk.Tells g.D.Disk.files g.D.Piece.Piece.Tells g.D.Disk.fault_count g.D.Disk.fuse_count g.A.Arm.fault_count g.D.Disk.drawn g.A.Arm.is_sure (g.H.Shelf.disks c.args.shelf.now) (g.H.Shelf.arms c.args.shelf.now) c.assemble-cluster.result c.in_ok-disks.disks.items c.in_ok-disks.seats.items c.assemble-cluster.ensures.shape c.assemble-cluster.ensures.fresh c.assemble-cluster.ensures.closed c.assemble-cluster.ensures.unsure c.assemble-cluster.ensures.disks c.assemble-cluster.ensures.arms c.in_ok-disks.ensures.disks c.in_ok-disks.ensures.arms in
+    back_arm g.D.Disk.Tells g.D.Disk.files g.D.Piece.Piece.Tells g.D.Disk.fault_count g.D.Disk.fuse_count g.A.Arm.fault_count g.D.Disk.drawn g.A.Arm.is_sure (g.H.Shelf.disks c.args.shelf.now) (g.H.Shelf.arms c.args.shelf.now) c.assemble-cluster.result c.open_parts.new.self (g.H.Shelf.arms c.close.new.shelf) taken c.open_parts.ensures.arms c.close.ensures.arm_counts c.close.ensures.sure_arms c.close.ensures.arms_back
 
 pub returns-in-Err-clause-shelf : goal.returns-in-Err-clause-shelf
 returns-in-Err-clause-shelf g c =
-    let taken = is_taken g.D.Disk.Tells g.D.Disk.files g.D.Piece.Piece.Tells g.D.Disk.fault_count g.D.Disk.fuse_count g.A.Arm.fault_count (g.H.Shelf.disks c.args.shelf.now) (g.H.Shelf.arms c.args.shelf.now) c.assemble-cluster.result c.in_ok-disks.disks.items c.in_ok-disks.seats.items c.assemble-cluster.ensures.shape c.assemble-cluster.ensures.fresh c.assemble-cluster.ensures.closed c.assemble-cluster.ensures.unsure c.assemble-cluster.ensures.disks c.assemble-cluster.ensures.arms c.in_ok-disks.ensures.disks c.in_ok-disks.ensures.arms in
+    let taken = is_taken g.D.Disk.Tells g.D.Disk.files g.D.Piece.Piece.Tells g.D.Disk.fault_count g.D.Disk.fuse_count g.A.Arm.fault_count g.D.Disk.drawn g.A.Arm.is_sure (g.H.Shelf.disks c.args.shelf.now) (g.H.Shelf.arms c.args.shelf.now) c.assemble-cluster.result c.in_ok-disks.disks.items c.in_ok-disks.seats.items c.assemble-cluster.ensures.shape c.assemble-cluster.ensures.fresh c.assemble-cluster.ensures.closed c.assemble-cluster.ensures.unsure c.assemble-cluster.ensures.disks c.assemble-cluster.ensures.arms c.in_ok-disks.ensures.disks c.in_ok-disks.ensures.arms in
     let moved : MovedParts g.D.Disk.Tells g.D.Disk.files g.D.Piece.Piece.Tells g.D.Disk.fault_count g.D.Disk.fuse_count g.A.Arm.fault_count c.assemble-cluster.result c.open_parts.new.self = record { settings = c.open_parts.ensures.settings; arms = c.open_parts.ensures.arms; directory = c.open_parts.ensures.directory; volumes = c.open_parts.ensures.volumes } in
-    λ faults is. absurd (back_shelf g.D.Disk.Tells g.D.Disk.files g.D.Piece.Piece.Tells g.D.Disk.fault_count g.D.Disk.fuse_count g.A.Arm.fault_count (g.H.Shelf.disks c.args.shelf.now) (g.H.Shelf.arms c.args.shelf.now) c.assemble-cluster.result c.open_parts.new.self c.in-Err.fault taken moved c.in-Err.ensures.refused faults is)
+    λ faults is. absurd (back_shelf g.D.Disk.Tells g.D.Disk.files g.D.Piece.Piece.Tells g.D.Disk.fault_count g.D.Disk.fuse_count g.A.Arm.fault_count g.D.Disk.drawn g.A.Arm.is_sure (g.H.Shelf.disks c.args.shelf.now) (g.H.Shelf.arms c.args.shelf.now) c.assemble-cluster.result c.open_parts.new.self c.in-Err.fault taken moved c.in-Err.ensures.refused faults is)
 
 pub returns-in-Err-clause-failed : goal.returns-in-Err-clause-failed
 returns-in-Err-clause-failed g c =
-    let taken = is_taken g.D.Disk.Tells g.D.Disk.files g.D.Piece.Piece.Tells g.D.Disk.fault_count g.D.Disk.fuse_count g.A.Arm.fault_count (g.H.Shelf.disks c.args.shelf.now) (g.H.Shelf.arms c.args.shelf.now) c.assemble-cluster.result c.in_ok-disks.disks.items c.in_ok-disks.seats.items c.assemble-cluster.ensures.shape c.assemble-cluster.ensures.fresh c.assemble-cluster.ensures.closed c.assemble-cluster.ensures.unsure c.assemble-cluster.ensures.disks c.assemble-cluster.ensures.arms c.in_ok-disks.ensures.disks c.in_ok-disks.ensures.arms in
+    let taken = is_taken g.D.Disk.Tells g.D.Disk.files g.D.Piece.Piece.Tells g.D.Disk.fault_count g.D.Disk.fuse_count g.A.Arm.fault_count g.D.Disk.drawn g.A.Arm.is_sure (g.H.Shelf.disks c.args.shelf.now) (g.H.Shelf.arms c.args.shelf.now) c.assemble-cluster.result c.in_ok-disks.disks.items c.in_ok-disks.seats.items c.assemble-cluster.ensures.shape c.assemble-cluster.ensures.fresh c.assemble-cluster.ensures.closed c.assemble-cluster.ensures.unsure c.assemble-cluster.ensures.disks c.assemble-cluster.ensures.arms c.in_ok-disks.ensures.disks c.in_ok-disks.ensures.arms in
     let moved : MovedParts g.D.Disk.Tells g.D.Disk.files g.D.Piece.Piece.Tells g.D.Disk.fault_count g.D.Disk.fuse_count g.A.Arm.fault_count c.assemble-cluster.result c.open_parts.new.self = record { settings = c.open_parts.ensures.settings; arms = c.open_parts.ensures.arms; directory = c.open_parts.ensures.directory; volumes = c.open_parts.ensures.volumes } in
     let many : disk_count c.assemble-cluster.result.settings ≡ disk_count c.args.settings = ap (λ (s : Settings). disk_count s) c.assemble-cluster.ensures.settings in
     let more : disk_count c.open_parts.new.self.settings ≡ disk_count c.args.settings = ap (λ (s : Settings). disk_count s) (c.open_parts.ensures.settings ∙ c.assemble-cluster.ensures.settings) in
     let faults_are : (slot : ℕ) → slot < disk_count c.assemble-cluster.result.settings → ((g.H.Shelf.disks c.close.new.shelf) slot).fault_count ≡ slice_index (map g.D.Disk.fault_count (disks_of c.open_parts.new.self)) slot = λ slot low. c.close.ensures.fault_counts slot (let less : slot < disk_count c.open_parts.new.self.settings = omega (arith, many, more, low) in less) in
     λ slot faults is.
-    let f = back_failed g.D.Disk.Tells g.D.Disk.files g.D.Piece.Piece.Tells g.D.Disk.fault_count g.D.Disk.fuse_count g.A.Arm.fault_count (g.H.Shelf.disks c.args.shelf.now) (g.H.Shelf.arms c.args.shelf.now) c.assemble-cluster.result c.open_parts.new.self (g.H.Shelf.disks c.close.new.shelf) c.in-Err.fault taken moved c.in-Err.ensures.refused faults_are slot faults is in
+    let f = back_failed g.D.Disk.Tells g.D.Disk.files g.D.Piece.Piece.Tells g.D.Disk.fault_count g.D.Disk.fuse_count g.A.Arm.fault_count g.D.Disk.drawn g.A.Arm.is_sure (g.H.Shelf.disks c.args.shelf.now) (g.H.Shelf.arms c.args.shelf.now) c.assemble-cluster.result c.open_parts.new.self (g.H.Shelf.disks c.close.new.shelf) c.in-Err.fault taken moved c.in-Err.ensures.refused faults_are slot faults is in
     let low = f.0 in
     ((let less : slot < disk_count c.args.settings = omega (arith, many, low) in less), f.1, f.2)
 
 pub returns-in-Err-clause-damaged : goal.returns-in-Err-clause-damaged
 returns-in-Err-clause-damaged g c =
-    let taken = is_taken g.D.Disk.Tells g.D.Disk.files g.D.Piece.Piece.Tells g.D.Disk.fault_count g.D.Disk.fuse_count g.A.Arm.fault_count (g.H.Shelf.disks c.args.shelf.now) (g.H.Shelf.arms c.args.shelf.now) c.assemble-cluster.result c.in_ok-disks.disks.items c.in_ok-disks.seats.items c.assemble-cluster.ensures.shape c.assemble-cluster.ensures.fresh c.assemble-cluster.ensures.closed c.assemble-cluster.ensures.unsure c.assemble-cluster.ensures.disks c.assemble-cluster.ensures.arms c.in_ok-disks.ensures.disks c.in_ok-disks.ensures.arms in
+    let taken = is_taken g.D.Disk.Tells g.D.Disk.files g.D.Piece.Piece.Tells g.D.Disk.fault_count g.D.Disk.fuse_count g.A.Arm.fault_count g.D.Disk.drawn g.A.Arm.is_sure (g.H.Shelf.disks c.args.shelf.now) (g.H.Shelf.arms c.args.shelf.now) c.assemble-cluster.result c.in_ok-disks.disks.items c.in_ok-disks.seats.items c.assemble-cluster.ensures.shape c.assemble-cluster.ensures.fresh c.assemble-cluster.ensures.closed c.assemble-cluster.ensures.unsure c.assemble-cluster.ensures.disks c.assemble-cluster.ensures.arms c.in_ok-disks.ensures.disks c.in_ok-disks.ensures.arms in
+    let moved : MovedParts g.D.Disk.Tells g.D.Disk.files g.D.Piece.Piece.Tells g.D.Disk.fault_count g.D.Disk.fuse_count g.A.Arm.fault_count c.assemble-cluster.result c.open_parts.new.self = record { settings = c.open_parts.ensures.settings; arms = c.open_parts.ensures.arms; directory = c.open_parts.ensures.directory; volumes = c.open_parts.ensures.volumes } in
+    let more : disk_count c.open_parts.new.self.settings ≡ disk_count c.args.settings = ap (λ (s : Settings). disk_count s) (c.open_parts.ensures.settings ∙ c.assemble-cluster.ensures.settings) in
     λ tells slot file at is.
     let told : c.in-Err.fault ≡ Damaged slot file at = cc in
-    found_damaged g.D.Disk.Tells g.D.Disk.files g.D.Piece.Piece.Tells g.D.Disk.fault_count g.D.Disk.fuse_count g.A.Arm.fault_count (g.H.Shelf.disks c.args.shelf.now) (g.H.Shelf.arms c.args.shelf.now) tells c.args.settings c.assemble-cluster.result c.open_parts.new.self c.in-Err.fault c.assemble-cluster.ensures.settings taken c.in-Err.ensures.refused slot file at told
+    opening_damaged g.D.Disk.Tells g.D.Disk.files g.D.Piece.Piece.Tells g.D.Disk.fault_count g.D.Disk.fuse_count g.A.Arm.fault_count tells g.D.Disk.drawn g.A.Arm.is_sure (g.H.Shelf.disks c.args.shelf.now) (g.H.Shelf.disks c.close.new.shelf) (g.H.Shelf.arms c.args.shelf.now) c.args.settings c.assemble-cluster.result c.open_parts.new.self c.in-Err.fault c.assemble-cluster.ensures.settings taken moved
+    (λ n below. c.close.ensures.contents tells n (let low : n < disk_count c.open_parts.new.self.settings = omega (arith, more, below) in low)) c.in-Err.ensures.refused slot file at told
 
 pub returns-in-Err-clause-other_slots : goal.returns-in-Err-clause-other_slots
 returns-in-Err-clause-other_slots g c =

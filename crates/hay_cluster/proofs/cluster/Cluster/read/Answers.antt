@@ -1,7 +1,8 @@
-use Rattle.std.proofs.Common.{◌≡◌, Some, sym, subst, ◌∙◌}
+use Rattle.std.proofs.Common.{◌≡◌, Some, refl, sym, subst, ◌∙◌}
 use Rattle.hay_legal.specs.Known.{home_of}
 use Rattle.hay_legal.specs.Plain.{LegalShow}
 use Rattle.hay_cluster.proofs.Answering.{answered}
+use Rattle.hay_cluster.proofs.Sure.{same_sure}
 use Rattle.hay_cluster.proofs.cluster.Cluster.read.Goals as goal
 
 pub returns-clause-legal : goal.returns-clause-legal
@@ -10,3 +11,6 @@ returns-clause-legal g c = λ tells k stands.
     let shown = c.show.ensures.shown tells k stands home in
     answered g.D.Disk.files g.D.Piece.Piece.Tells g.D.Disk.fault_count g.D.Disk.fuse_count g.A.Arm.fault_count c.show.new.self (c.args.self.now).settings k shown.known c.args.tag _ c.show.result c.show.ensures.settings
     (subst (λ start. LegalShow (c.args.self.now).settings k c.args.tag start c.args.pair c.args.cookie c.show.result shown.known) c.start_of-start.ensures.is shown.legal) shown.stands
+
+pub returns-in_default-clause-sure_arms : goal.returns-in_default-clause-sure_arms
+returns-in_default-clause-sure_arms g c = same_sure g.A.Arm.is_sure (c.args.self.now).arms (c.args.self.now).arms refl

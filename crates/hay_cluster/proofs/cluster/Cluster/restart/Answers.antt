@@ -1,6 +1,9 @@
 use Rattle.std.proofs.Common.{◌≡◌, ℕ, refl}
 use Rattle.std.proofs.lemmas.Result.{IfErr-at_err, IfErr-weaker, IfOk-weaker}
 use Rattle.hay_cluster.specs.declared.fault.ClusterFault.TheVariants.{Damaged}
+use Rattle.hay_cluster.specs.Outside.{IsDamagedDisk}
+use Rattle.hay_cluster.specs.Store.{contents_in}
+use Rattle.hay_cluster.proofs.OpeningDamage.{restart_damaged}
 use Rattle.hay_cluster.proofs.OpeningStore.{MovedParts, StoppedParts, opens_up, restart_cause, restart_fuses, restart_later, restart_left, restart_opened, restart_whole, stops_closed, stops_idle}
 use Rattle.hay_cluster.proofs.cluster.Cluster.restart.Goals as goal
 
@@ -38,12 +41,21 @@ returns-clause-cause g c =
     IfErr-weaker c.open_parts.result _ _
     (λ fault refused. restart_cause g.D.Disk.Tells g.D.Disk.files g.D.Piece.Piece.Tells g.D.Disk.fault_count g.D.Disk.fuse_count g.A.Arm.fault_count c.args.self.now c.stop.new.self c.open_parts.new.self fault c.stop.ensures.shape stopped moved refused) c.open_parts.ensures.refused
 
-pub returns-clause-damaged : goal.returns-clause-damaged
-returns-clause-damaged g c = λ tells k stands slot file at is.
+pub returns-clause-whole : goal.returns-clause-whole
+returns-clause-whole g c = λ tells k stands slot file at is.
     let stopped : StoppedParts g.D.Disk.Tells g.D.Disk.files g.D.Piece.Piece.Tells g.D.Disk.fault_count g.D.Disk.fuse_count g.A.Arm.fault_count c.args.self.now c.stop.new.self = record { settings = c.stop.ensures.settings; arms = c.stop.ensures.arms; directory = c.stop.ensures.directory; volumes = c.stop.ensures.volumes } in
     IfErr-at_err (λ fault. (s f a : ℕ) → fault ≡ Damaged s f a → ⊥) is
     (IfErr-weaker c.open_parts.result _ _
     (λ fault refused. restart_whole g.D.Disk.Tells g.D.Disk.files g.D.Piece.Piece.Tells g.D.Disk.fault_count g.D.Disk.fuse_count g.A.Arm.fault_count tells c.args.self.now c.stop.new.self c.open_parts.new.self k fault stands stopped refused) c.open_parts.ensures.refused)
+    slot file at refl
+
+pub returns-clause-damaged : goal.returns-clause-damaged
+returns-clause-damaged g c = λ tells slot file at is.
+    let stopped : StoppedParts g.D.Disk.Tells g.D.Disk.files g.D.Piece.Piece.Tells g.D.Disk.fault_count g.D.Disk.fuse_count g.A.Arm.fault_count c.args.self.now c.stop.new.self = record { settings = c.stop.ensures.settings; arms = c.stop.ensures.arms; directory = c.stop.ensures.directory; volumes = c.stop.ensures.volumes } in
+    let moved : MovedParts g.D.Disk.Tells g.D.Disk.files g.D.Piece.Piece.Tells g.D.Disk.fault_count g.D.Disk.fuse_count g.A.Arm.fault_count c.stop.new.self c.open_parts.new.self = record { settings = c.open_parts.ensures.settings; arms = c.open_parts.ensures.arms; directory = c.open_parts.ensures.directory; volumes = c.open_parts.ensures.volumes } in
+    IfErr-at_err (λ fault. (n f a : ℕ) → fault ≡ Damaged n f a → IsDamagedDisk (c.args.self.now).settings (contents_in g.D.Disk.files c.open_parts.new.self) n f a) is
+    (IfErr-weaker c.open_parts.result _ _
+    (λ fault refused. restart_damaged g.D.Disk.Tells g.D.Disk.files g.D.Piece.Piece.Tells g.D.Disk.fault_count g.D.Disk.fuse_count g.A.Arm.fault_count tells c.args.self.now c.stop.new.self c.open_parts.new.self fault c.stop.ensures.shape stopped moved refused) c.open_parts.ensures.refused)
     slot file at refl
 
 pub returns-clause-counts : goal.returns-clause-counts

@@ -1,4 +1,4 @@
-use Rattle.std.proofs.Common.{◌≡◌, ℕ, List, map, sym, ap, subst, inl, ◌∙◌, arith}
+use Rattle.std.proofs.Common.{◌≡◌, ℕ, List, map, refl, sym, ap, subst, inl, ◌∙◌, arith}
 use Rattle.std.specs.Prelude.{slice_index}
 use Rattle.std.specs.List.{AllByRecursion}
 use Rattle.hay_needle.specs.declared.needle.Outcome.TheVariants as outcome
@@ -8,12 +8,14 @@ use Rattle.hay_reply.specs.declared.Passed.{Passed}
 use Rattle.hay_reader.specs.Shown.{Answers, HasCauses, Shows}
 use Rattle.hay_reader.specs.declared.causes.PassedReplica.{PassedReplica}
 use Rattle.hay_reader.specs.declared.seat.ReadReply.{ReadReply}
+use Rattle.hay_reader.specs.declared.seat.ReadReply.TheVariants as read
 use Rattle.hay_cluster.specs.Causes.{CauseCameUp, Counts}
-use Rattle.hay_cluster.specs.Reads.{outcomes_of, passed_at}
+use Rattle.hay_cluster.specs.Reads.{PassesNoArm, outcomes_of, passed_at}
 use Rattle.hay_cluster.specs.Store.{IsBuilt, Open, disks_of}
 use Rattle.hay_cluster.proofs.Answering.{same_falls, stays}
 use Rattle.hay_cluster.proofs.Moves.{none_falls}
 use Rattle.hay_cluster.proofs.Showing.{causes_told, read_shown, read_unreadable}
+use Rattle.hay_cluster.proofs.Sure.{same_sure, unreadable_told}
 use Rattle.hay_cluster.proofs.cluster.Cluster.show.Goals as goal
 
 pub returns-in_default-clause-shown : goal.returns-in_default-clause-shown
@@ -75,7 +77,7 @@ returns-in-Ok-passed_of-clause-shown g c = λ tells k stands home.
     record {
       known = (read.2).known;
       legal = read_unreadable g.D.Disk.files g.D.Piece.Piece.Tells g.D.Disk.fault_count g.D.Disk.fuse_count g.A.Arm.fault_count c.args.self.now c.fetch-front.new.self (c.args.self.now).settings k c.args.tag c.args.start c.args.pair c.args.volume c.fetch-front.result.0 c.rows-rows.result causes.0 c.in-Unreadable.causes c.in-Ok-passed_of.causes causes.1
-          home read.0 (c.rows-rows.ensures.known tells k stands) is stands read.2 passes shows;
+          home read.0 (c.rows-rows.ensures.known tells k stands) is stands read.2 passes.0 passes.1 shows;
       stands = (read.2).stands;
     }
 
@@ -90,7 +92,7 @@ returns-in-Ok-passed_of-clause-causes g c =
     let before : Counts = record { disks = map g.D.Disk.fault_count (disks_of c.args.self.now); arms = map g.A.Arm.fault_count (c.args.self.now).arms } in
     let after : Counts = record { disks = map g.D.Disk.fault_count (disks_of c.fetch-front.new.self); arms = map g.A.Arm.fault_count (c.fetch-front.new.self).arms } in
     subst (λ (all : List Passed). AllByRecursion (λ (passed : Passed). CauseCameUp (c.args.self.now).settings c.args.tag.lane c.args.volume before after passed.machine passed.cause) all) (sym is)
-    (causes_told (c.args.self.now).settings c.args.tag.lane c.args.volume before after c.in-Unreadable.causes passes.each)
+    (causes_told (c.args.self.now).settings c.args.tag.lane c.args.volume before after c.in-Unreadable.causes passes.0.each)
 
 pub passed_of-requires : goal.passed_of-requires
 passed_of-requires g c = c.self.invariant.built
@@ -123,3 +125,15 @@ returns-in-Ok-passed_of-clause-counts g c = same_falls g.D.Disk.fault_count (dis
 
 pub returns-clause-counts : goal.returns-clause-counts
 returns-clause-counts g c = same_falls g.D.Disk.fault_count (disks_of c.args.self.now) (disks_of c.fetch-front.new.self) c.fetch-front.ensures.disks
+
+pub returns-in-Ok-passed_of-clause-sure : goal.returns-in-Ok-passed_of-clause-sure
+returns-in-Ok-passed_of-clause-sure g c = λ arm at sure.
+    let same : c.self.inside.settings ≡ (c.args.self.now).settings = ap (λ (st : Open g.row.D.Denot g.row.D-Piece.Denot g.row.A.Denot). st.settings) c.self.view_is ∙ c.fetch-front.ensures.settings in
+    let is : c.in-Ok-passed_of.causes ≡ map (passed_at (c.args.self.now).settings c.args.volume) c.in-Unreadable.causes =
+    c.in-Ok-passed_of.ensures ∙ ap (λ (over : List PassedReplica). map (passed_at c.self.inside.settings c.args.volume) over) c.as_slice.ensures.is
+    ∙ ap (λ (s : Settings). map (passed_at s c.args.volume) c.in-Unreadable.causes) same in
+    let none : PassesNoArm (read.Unreadable c.in-Unreadable.causes) = subst (λ (r : ReadReply). PassesNoArm r) c.in-Unreadable.is (c.fetch-front.ensures.sure arm at sure) in
+    unreadable_told (c.args.self.now).settings c.args.volume c.fetch-front.result.0 c.rows-rows.result c.in-Ok-passed_of.causes c.in-Unreadable.causes is none
+
+pub returns-in_default-clause-sure_arms : goal.returns-in_default-clause-sure_arms
+returns-in_default-clause-sure_arms g c = same_sure g.A.Arm.is_sure (c.args.self.now).arms (c.args.self.now).arms refl

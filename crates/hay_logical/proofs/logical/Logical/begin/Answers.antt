@@ -6,7 +6,7 @@ use Rattle.hay_physical.specs.Copies.{Copy, IsUp}
 use Rattle.hay_logical.specs.Answers.{BeginRefused, IsBegun}
 use Rattle.hay_logical.specs.Answers as answers
 use Rattle.hay_logical.specs.Fits.{At}
-use Rattle.hay_logical.specs.Refusals.{run_answer}
+use Rattle.hay_logical.specs.Refusals.{answer_at}
 use Rattle.hay_logical.specs.Stands.{Stands, StandsFor}
 use Rattle.hay_logical.specs.Steps.{CallsOne, KeepsDeletable, BeginsAt}
 use Rattle.hay_logical.specs.Volumes.{CanDelete, IsShaped, KeepsCounts}
@@ -17,7 +17,6 @@ use Rattle.hay_logical.proofs.Standing.{volume_with}
 use Rattle.hay_logical.proofs.Changing.{not_some}
 use Rattle.hay_logical.proofs.Stepping.{begin_fault, begin_refused, begun}
 use Rattle.hay_logical.proofs.Deletable.{same_rows}
-use Rattle.hay_logical.proofs.Refusing.{refuses_begin}
 use Rattle.hay_logical.proofs.logical.Logical.begin.Goals as goal
 use Rattle.hay_logical.proofs.logical.Logical.begin.Goals.{in-Ok, in-Err}
 
@@ -44,15 +43,6 @@ begin_at-requires-clause-up g c = λ κs lives.
     let up : (j : ℕ) (r : Copy g.row.D.Denot) → At c.self.inside.replicas.items j r → IsUp r =
     λ j r e. open_up r (c.requires.«open».each j r (subst (λ v. At v.replicas j r) c.self.view_is e)) ((c.self.invariant.0).thawed thawed j r e) in
     λ j r e. up j r (subst (λ xs. At xs j r) c.as_mut_slice.ensures.value e)
-
-pub run_refusal-requires : goal.run_refusal-requires
-run_refusal-requires g c =
-    let now = c.as_mut_slice.ensures.value in
-    let one : CallsOne c.args.replica c.self.inside.replicas.items c.begin_at.new.replicas = subst (λ xs. CallsOne c.args.replica xs c.begin_at.new.replicas) now c.begin_at.ensures.one in
-    let step : BeginsAt g.D.Disk.Tells g.D.Disk.files g.D.Disk.fault_count one.before one.after (Err c.in-Err.fault) =
-    subst (λ x. BeginsAt g.D.Disk.Tells g.D.Disk.files g.D.Disk.fault_count one.before one.after x) c.in-Err.is
-    (c.begin_at.ensures.begins one.before one.after (subst (λ xs. At xs c.args.replica one.before) (sym now) one.was) (one_after c.args.replica c.self.inside.replicas.items c.begin_at.new.replicas one)) in
-    refuses_begin g.D.Disk.fault_count one.before one.after c.in-Err.fault step.cause
 
 pub invariant_of-self : goal.invariant_of-self
 invariant_of-self g c =
@@ -111,10 +101,10 @@ returns-clause-refused g c = λ tells k stands.
           subst (λ x. BeginsAt g.D.Disk.Tells g.D.Disk.files g.D.Disk.fault_count one.before one.after x) w.in-Err.is
           (c.begin_at.ensures.begins one.before one.after (subst (λ xs. At xs c.args.replica one.before) (sym now) one.was) (one_after c.args.replica c.self.inside.replicas.items c.begin_at.new.replicas one)) in
           subst (λ r. IfErr r (BeginRefused g.D.Disk.files g.D.Piece.Piece.Tells k c.args.replica c.args.self.now (volume_with c.self.inside.settings c.self.inside.number (with_items c.self.inside.replicas c.begin_at.new.replicas).items c.self.inside.rows c.self.inside.front c.self.inside.frozen c.self.inside.unsure))) (sym w.result-is)
-          (subst (λ v. BeginRefused g.D.Disk.files g.D.Piece.Piece.Tells k c.args.replica v (volume_with c.self.inside.settings c.self.inside.number (with_items c.self.inside.replicas c.begin_at.new.replicas).items c.self.inside.rows c.self.inside.front c.self.inside.frozen c.self.inside.unsure) w.run_refusal.result) c.self.view_is
-          (subst (λ rs. BeginRefused g.D.Disk.files g.D.Piece.Piece.Tells k c.args.replica (volume_with c.self.inside.settings c.self.inside.number c.self.inside.replicas.items c.self.inside.rows c.self.inside.front c.self.inside.frozen c.self.inside.unsure) (volume_with c.self.inside.settings c.self.inside.number rs c.self.inside.rows c.self.inside.front c.self.inside.frozen c.self.inside.unsure) w.run_refusal.result) (sym kept)
-          (subst (λ f. BeginRefused g.D.Disk.files g.D.Piece.Piece.Tells k c.args.replica (volume_with c.self.inside.settings c.self.inside.number c.self.inside.replicas.items c.self.inside.rows c.self.inside.front c.self.inside.frozen c.self.inside.unsure) (volume_with c.self.inside.settings c.self.inside.number c.begin_at.new.replicas c.self.inside.rows c.self.inside.front c.self.inside.frozen c.self.inside.unsure) f) (sym w.run_refusal.ensures)
-          (subst (λ o. BeginRefused g.D.Disk.files g.D.Piece.Piece.Tells k c.args.replica (volume_with c.self.inside.settings c.self.inside.number c.self.inside.replicas.items c.self.inside.rows c.self.inside.front o c.self.inside.unsure) (volume_with c.self.inside.settings c.self.inside.number c.begin_at.new.replicas c.self.inside.rows c.self.inside.front o c.self.inside.unsure) (run_answer c.machine_of-machine.result w.in-Err.fault)) (sym thawed)
+          (subst (λ v. BeginRefused g.D.Disk.files g.D.Piece.Piece.Tells k c.args.replica v (volume_with c.self.inside.settings c.self.inside.number (with_items c.self.inside.replicas c.begin_at.new.replicas).items c.self.inside.rows c.self.inside.front c.self.inside.frozen c.self.inside.unsure) w.answer_at.result) c.self.view_is
+          (subst (λ rs. BeginRefused g.D.Disk.files g.D.Piece.Piece.Tells k c.args.replica (volume_with c.self.inside.settings c.self.inside.number c.self.inside.replicas.items c.self.inside.rows c.self.inside.front c.self.inside.frozen c.self.inside.unsure) (volume_with c.self.inside.settings c.self.inside.number rs c.self.inside.rows c.self.inside.front c.self.inside.frozen c.self.inside.unsure) w.answer_at.result) (sym kept)
+          (subst (λ f. BeginRefused g.D.Disk.files g.D.Piece.Piece.Tells k c.args.replica (volume_with c.self.inside.settings c.self.inside.number c.self.inside.replicas.items c.self.inside.rows c.self.inside.front c.self.inside.frozen c.self.inside.unsure) (volume_with c.self.inside.settings c.self.inside.number c.begin_at.new.replicas c.self.inside.rows c.self.inside.front c.self.inside.frozen c.self.inside.unsure) f) (sym w.answer_at.ensures)
+          (subst (λ o. BeginRefused g.D.Disk.files g.D.Piece.Piece.Tells k c.args.replica (volume_with c.self.inside.settings c.self.inside.number c.self.inside.replicas.items c.self.inside.rows c.self.inside.front o c.self.inside.unsure) (volume_with c.self.inside.settings c.self.inside.number c.begin_at.new.replicas c.self.inside.rows c.self.inside.front o c.self.inside.unsure) (answer_at c.machine_of-machine.result w.in-Err.fault)) (sym thawed)
           (begin_refused c.self.inside.settings c.self.inside.number g.D.Disk.Tells g.D.Disk.files g.D.Piece.Piece.Tells g.D.Disk.fault_count c.self.inside.replicas.items c.begin_at.new.replicas c.self.inside.rows c.self.inside.front c.self.inside.unsure k c.args.replica one
           (subst (λ o. StandsFor g.D.Disk.files g.D.Piece.Piece.Tells (volume_with c.self.inside.settings c.self.inside.number c.self.inside.replicas.items c.self.inside.rows c.self.inside.front o c.self.inside.unsure) k) thawed (subst (λ v. StandsFor g.D.Disk.files g.D.Piece.Piece.Tells v k) (sym c.self.view_is) stands)) tells c.machine_of-machine.result w.in-Err.fault c.machine_of-machine.ensures step)))))
     ]
@@ -133,9 +123,9 @@ returns-clause-causes g c =
           subst (λ x. BeginsAt g.D.Disk.Tells g.D.Disk.files g.D.Disk.fault_count one.before one.after x) w.in-Err.is
           (c.begin_at.ensures.begins one.before one.after (subst (λ xs. At xs c.args.replica one.before) (sym now) one.was) (one_after c.args.replica c.self.inside.replicas.items c.begin_at.new.replicas one)) in
           subst (λ r. IfErr r (answers.IsBeginFault g.D.Disk.fault_count c.args.self.now.settings c.args.self.now.number c.args.self.now.replicas (with_items c.self.inside.replicas c.begin_at.new.replicas).items)) (sym w.result-is)
-          (subst (λ v. answers.IsBeginFault g.D.Disk.fault_count v.settings v.number v.replicas (with_items c.self.inside.replicas c.begin_at.new.replicas).items w.run_refusal.result) c.self.view_is
-          (subst (λ rs. answers.IsBeginFault g.D.Disk.fault_count c.self.inside.settings c.self.inside.number c.self.inside.replicas.items rs w.run_refusal.result) (sym kept)
-          (subst (λ f. answers.IsBeginFault g.D.Disk.fault_count c.self.inside.settings c.self.inside.number c.self.inside.replicas.items c.begin_at.new.replicas f) (sym w.run_refusal.ensures)
+          (subst (λ v. answers.IsBeginFault g.D.Disk.fault_count v.settings v.number v.replicas (with_items c.self.inside.replicas c.begin_at.new.replicas).items w.answer_at.result) c.self.view_is
+          (subst (λ rs. answers.IsBeginFault g.D.Disk.fault_count c.self.inside.settings c.self.inside.number c.self.inside.replicas.items rs w.answer_at.result) (sym kept)
+          (subst (λ f. answers.IsBeginFault g.D.Disk.fault_count c.self.inside.settings c.self.inside.number c.self.inside.replicas.items c.begin_at.new.replicas f) (sym w.answer_at.ensures)
           (begin_fault c.self.inside.settings c.self.inside.number g.D.Disk.Tells g.D.Disk.files g.D.Disk.fault_count c.self.inside.replicas.items c.begin_at.new.replicas c.args.replica c.machine_of-machine.result w.in-Err.fault one all c.machine_of-machine.ensures step))))
     ]
 

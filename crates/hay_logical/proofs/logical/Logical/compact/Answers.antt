@@ -11,10 +11,9 @@ use Rattle.hay_logical.specs.Steps.{SwapsOne}
 use Rattle.hay_logical.specs.Steps.Start.{Fresh}
 use Rattle.hay_logical.proofs.Calls.{open_up}
 use Rattle.hay_logical.proofs.Changing.{not_some}
-use Rattle.hay_logical.proofs.Compacted.{compact_fault, compact_refused, compacted}
+use Rattle.hay_logical.proofs.Compacted.{compact_fault, compact_refused, compacted, removes_old}
 use Rattle.hay_logical.proofs.Methods.{same_by}
 use Rattle.hay_logical.proofs.Standing.{volume_with}
-use Rattle.hay_logical.proofs.Refusing.{refuses_swap}
 use Rattle.hay_logical.proofs.SwapShapes.{SwapCall, called_deletable, called_each, called_open, called_shaped, called_up, called_with}
 use Rattle.hay_logical.proofs.logical.Logical.compact.Given as given
 use Rattle.hay_logical.proofs.logical.Logical.compact.Goals as goal
@@ -76,11 +75,6 @@ invariant_of-self g c =
       called_deletable call _ (kept g after) c.self.invariant.2,
     )
 
-pub unfinished_by-unfinished-requires-clause-refuses : goal.unfinished_by-unfinished-requires-clause-refuses
-unfinished_by-unfinished-requires-clause-refuses g c =
-    let call = called_with c.in-Err.is (called g (goal.at.unfinished_by-unfinished-requires-clause-refuses g c).After-compact_at) in
-    refuses_swap g.D.Disk.fault_count call.one.before call.one.after Fresh c.in-Err.unswapped call.swaps.left
-
 pub invariant_of-self-in-Err : goal.invariant_of-self-in-Err
 invariant_of-self-in-Err g c =
     let after = (goal.at.invariant_of-self-in-Err g c).After-compact_at in
@@ -100,6 +94,16 @@ returns-in-Ok-clause-compacted g c = λ tells k stands.
     (subst (λ o. IsCompacted g.D.Disk.files g.D.Piece.Piece.Tells k c.args.replica c.in-Ok.generation (volume_with c.self.inside.settings c.self.inside.number c.compact_at.new.replicas c.compact_at.new.rows c.self.inside.front o c.self.inside.unsure)) (sym thawed)
     (compacted c.self.inside.settings c.self.inside.number g.D.Disk.Tells g.D.Disk.files g.D.Piece.Piece.Tells g.D.Disk.fault_count c.self.inside.replicas.items c.compact_at.new.replicas c.self.inside.rows c.compact_at.new.rows c.self.inside.front c.self.inside.unsure k
     (subst (λ o. StandsFor g.D.Disk.files g.D.Piece.Piece.Tells (volume_with c.self.inside.settings c.self.inside.number c.self.inside.replicas.items c.self.inside.rows c.self.inside.front o c.self.inside.unsure) k) thawed (subst (λ v. StandsFor g.D.Disk.files g.D.Piece.Piece.Tells v k) (sym c.self.view_is) stands)) tells c.args.replica call.one c.in-Ok.generation call.swaps call.places))
+
+pub returns-in-Ok-clause-removed : goal.returns-in-Ok-clause-removed
+unfolding Stands
+returns-in-Ok-clause-removed g c = λ tells k stands r r' e f.
+    let after = (goal.at.returns-in-Ok-clause-removed g c).After-compact_at in
+    let call = called_with c.in-Ok.is (called g after) in
+    let thawed = not_some c.self.inside.frozen c.in_default.not-Some in
+    removes_old c.self.inside.settings c.self.inside.number g.D.Disk.Tells g.D.Disk.files g.D.Piece.Piece.Tells g.D.Disk.fault_count c.self.inside.replicas.items c.compact_at.new.replicas c.self.inside.rows c.compact_at.new.rows c.self.inside.front c.self.inside.unsure k
+    (subst (λ o. StandsFor g.D.Disk.files g.D.Piece.Piece.Tells (volume_with c.self.inside.settings c.self.inside.number c.self.inside.replicas.items c.self.inside.rows c.self.inside.front o c.self.inside.unsure) k) thawed (subst (λ v. StandsFor g.D.Disk.files g.D.Piece.Piece.Tells v k) (sym c.self.view_is) stands)) tells c.args.replica call.one Fresh c.in-Ok.generation call.swaps r r'
+    (subst (λ v. At v.replicas c.args.replica r) (sym c.self.view_is) e) (subst (λ xs. At xs c.args.replica r') (kept g after) f)
 
 pub returns-in-Ok-clause-open : goal.returns-in-Ok-clause-open
 returns-in-Ok-clause-open g c = let after = (goal.at.returns-in-Ok-clause-open g c).After-compact_at in called_open (called g after) _ (kept g after) (all g after)

@@ -168,7 +168,8 @@ returns-clause-refused g c = λ tells k stands.
     (volume_with c.self.inside.settings c.self.inside.number rs c.self.inside.rows c.self.inside.front (Some c.machine_of-machine.result) (Some (record { tag = c.args.tag; change = change.Delete c.args.pair })))
     (fault.Failed c.machine_of-machine.result c.in-Err.failed.faults)) (sym kept)
     (delete_refused c.self.inside.settings c.self.inside.number g.D.Disk.Tells g.D.Disk.files g.D.Piece.Piece.Tells g.D.Disk.fault_count g.D.Disk.fuse_count tells c.self.inside.replicas.items c.delete_each.new.replicas c.self.inside.rows c.self.inside.front c.self.inside.frozen c.self.inside.unsure k c.args.tag c.args.pair c.row-row.result c.in-Err.failed
-    c.machine_of-machine.result (subst (λ v. StandsFor g.D.Disk.files g.D.Piece.Piece.Tells v k) (sym c.self.view_is) stands) thawed (c.delete_each.ensures.counts.count ∙ ap length now) c.row-row.ensures.row c.machine_of-machine.ensures left c.in-Err.ensures.runs)
+    c.machine_of-machine.result (subst (λ v. StandsFor g.D.Disk.files g.D.Piece.Piece.Tells v k) (sym c.self.view_is) stands) thawed (c.delete_each.ensures.counts.count ∙ ap length now) c.row-row.ensures.row
+    (c.row-row.ensures.long ∙ (c.self.invariant.0).width) (c.has_live.ensures.some c.if-not-has_live.false) c.machine_of-machine.ensures left c.in-Err.ensures.runs)
 
 pub returns-clause-causes : goal.returns-clause-causes
 returns-clause-causes g c =

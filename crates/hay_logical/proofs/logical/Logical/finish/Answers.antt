@@ -1,4 +1,5 @@
-use Rattle.std.proofs.Common.{◌≡◌, ◌<◌, ◌≤◌, ℕ, length, None, refl, sym, ap, subst, ◌∙◌, arith, rules}
+use Rattle.std.proofs.Common.{◌≡◌, ◌<◌, ◌≤◌, ℕ, length, Option, Some, None, refl, sym, ap, subst, ◌∙◌, arith, rules}
+use Rattle.std.specs.Prelude.{IfSome}
 use Rattle.std.specs.Vec.{with_items}
 use Rattle.std.proofs.lemmas.List.{with_items_is}
 use Rattle.hay_physical.specs.Copies.{Copy, IsUp, goal_of}
@@ -11,11 +12,10 @@ use Rattle.hay_logical.specs.Steps.{SwapsOne}
 use Rattle.hay_logical.specs.Steps.Start.{Going}
 use Rattle.hay_logical.proofs.Calls.{open_up}
 use Rattle.hay_logical.proofs.Changing.{not_some}
-use Rattle.hay_logical.proofs.Compacted.{finish_fault, finish_refused, finished}
+use Rattle.hay_logical.proofs.Compacted.{finish_fault, finish_refused, finished, removes_old}
 use Rattle.hay_logical.proofs.Methods.{same_by}
 use Rattle.hay_logical.proofs.Standing.{volume_with}
 use Rattle.hay_logical.proofs.Stepping.{none_there, stands_there}
-use Rattle.hay_logical.proofs.Refusing.{refuses_swap}
 use Rattle.hay_logical.proofs.SwapShapes.{SwapCall, called_deletable, called_each, called_open, called_shaped, called_up, called_with}
 use Rattle.hay_logical.proofs.logical.Logical.finish.Given as given
 use Rattle.hay_logical.proofs.logical.Logical.finish.Goals as goal
@@ -88,11 +88,6 @@ invariant_of-self g c =
       called_deletable call _ (kept g after) c.self.invariant.2,
     )
 
-pub unfinished_by-unfinished-requires-clause-refuses : goal.unfinished_by-unfinished-requires-clause-refuses
-unfinished_by-unfinished-requires-clause-refuses g c =
-    let call = called_with c.in-Err.is (called g (goal.at.unfinished_by-unfinished-requires-clause-refuses g c).After-finish_at) in
-    refuses_swap g.D.Disk.fault_count call.one.before call.one.after Going c.in-Err.unswapped call.swaps.left
-
 pub invariant_of-self-in-Err : goal.invariant_of-self-in-Err
 invariant_of-self-in-Err g c =
     let after = (goal.at.invariant_of-self-in-Err g c).After-finish_at in
@@ -110,10 +105,22 @@ returns-in-Ok-clause-finished g c = λ tells k stands.
     let thawed = not_some c.self.inside.frozen c.in_default.not-Some in
     let standing : goal_of call.one.before ≡ None → ⊥ =
     λ e. stands_there c.standing.result c.is_none.result c.is_none.ensures c.if-is_none.false (c.standing.ensures.is call.one.before (subst (λ v. At v.replicas c.args.replica call.one.before) c.self.view_is call.one.was) ∙ e) in
+    let few : (goal : ℕ) → goal_of call.one.before ≡ Some goal → goal ≤ 65535 =
+    λ most e. subst (λ (o : Option ℕ). IfSome o (λ goal. goal ≤ 65535)) (c.standing.ensures.is call.one.before (subst (λ v. At v.replicas c.args.replica call.one.before) c.self.view_is call.one.was) ∙ e) c.standing.ensures.most in
     subst (λ rs. IsFinished g.D.Disk.files g.D.Piece.Piece.Tells k c.args.replica c.in-Ok.generation (volume_with c.self.inside.settings c.self.inside.number rs c.finish_at.new.rows c.self.inside.front c.self.inside.frozen c.self.inside.unsure)) (sym (kept g after))
     (subst (λ o. IsFinished g.D.Disk.files g.D.Piece.Piece.Tells k c.args.replica c.in-Ok.generation (volume_with c.self.inside.settings c.self.inside.number c.finish_at.new.replicas c.finish_at.new.rows c.self.inside.front o c.self.inside.unsure)) (sym thawed)
     (finished c.self.inside.settings c.self.inside.number g.D.Disk.Tells g.D.Disk.files g.D.Piece.Piece.Tells g.D.Disk.fault_count c.self.inside.replicas.items c.finish_at.new.replicas c.self.inside.rows c.finish_at.new.rows c.self.inside.front c.self.inside.unsure k
-    (subst (λ o. StandsFor g.D.Disk.files g.D.Piece.Piece.Tells (volume_with c.self.inside.settings c.self.inside.number c.self.inside.replicas.items c.self.inside.rows c.self.inside.front o c.self.inside.unsure) k) thawed (subst (λ v. StandsFor g.D.Disk.files g.D.Piece.Piece.Tells v k) (sym c.self.view_is) stands)) tells c.args.replica call.one c.in-Ok.generation standing call.swaps call.places))
+    (subst (λ o. StandsFor g.D.Disk.files g.D.Piece.Piece.Tells (volume_with c.self.inside.settings c.self.inside.number c.self.inside.replicas.items c.self.inside.rows c.self.inside.front o c.self.inside.unsure) k) thawed (subst (λ v. StandsFor g.D.Disk.files g.D.Piece.Piece.Tells v k) (sym c.self.view_is) stands)) tells c.args.replica call.one c.in-Ok.generation standing few call.swaps call.places))
+
+pub returns-in-Ok-clause-removed : goal.returns-in-Ok-clause-removed
+unfolding Stands
+returns-in-Ok-clause-removed g c = λ tells k stands r r' e f.
+    let after = (goal.at.returns-in-Ok-clause-removed g c).After-finish_at in
+    let call = called_with c.in-Ok.is (called g after) in
+    let thawed = not_some c.self.inside.frozen c.in_default.not-Some in
+    removes_old c.self.inside.settings c.self.inside.number g.D.Disk.Tells g.D.Disk.files g.D.Piece.Piece.Tells g.D.Disk.fault_count c.self.inside.replicas.items c.finish_at.new.replicas c.self.inside.rows c.finish_at.new.rows c.self.inside.front c.self.inside.unsure k
+    (subst (λ o. StandsFor g.D.Disk.files g.D.Piece.Piece.Tells (volume_with c.self.inside.settings c.self.inside.number c.self.inside.replicas.items c.self.inside.rows c.self.inside.front o c.self.inside.unsure) k) thawed (subst (λ v. StandsFor g.D.Disk.files g.D.Piece.Piece.Tells v k) (sym c.self.view_is) stands)) tells c.args.replica call.one Going c.in-Ok.generation call.swaps r r'
+    (subst (λ v. At v.replicas c.args.replica r) (sym c.self.view_is) e) (subst (λ xs. At xs c.args.replica r') (kept g after) f)
 
 pub returns-in-Ok-clause-open : goal.returns-in-Ok-clause-open
 returns-in-Ok-clause-open g c = let after = (goal.at.returns-in-Ok-clause-open g c).After-finish_at in called_open (called g after) _ (kept g after) (all g after)
@@ -131,12 +138,14 @@ returns-in-Err-clause-refused g c = λ tells k stands.
     let thawed = not_some c.self.inside.frozen c.in_default.not-Some in
     let standing : goal_of call.one.before ≡ None → ⊥ =
     λ e. stands_there c.standing.result c.is_none.result c.is_none.ensures c.if-is_none.false (c.standing.ensures.is call.one.before (subst (λ v. At v.replicas c.args.replica call.one.before) c.self.view_is call.one.was) ∙ e) in
+    let few : (goal : ℕ) → goal_of call.one.before ≡ Some goal → goal ≤ 65535 =
+    λ most e. subst (λ (o : Option ℕ). IfSome o (λ goal. goal ≤ 65535)) (c.standing.ensures.is call.one.before (subst (λ v. At v.replicas c.args.replica call.one.before) c.self.view_is call.one.was) ∙ e) c.standing.ensures.most in
     subst (λ v. FinishRefused g.D.Disk.files g.D.Piece.Piece.Tells k c.args.replica v (volume_with c.self.inside.settings c.self.inside.number ((with_items c.self.inside.replicas c.finish_at.new.replicas).items) c.finish_at.new.rows c.self.inside.front c.unfinished_by-unfinished.result.frozen c.self.inside.unsure) c.unfinished_by-unfinished.result.fault) c.self.view_is
     (subst (λ rs. FinishRefused g.D.Disk.files g.D.Piece.Piece.Tells k c.args.replica (volume_with c.self.inside.settings c.self.inside.number c.self.inside.replicas.items c.self.inside.rows c.self.inside.front c.self.inside.frozen c.self.inside.unsure) (volume_with c.self.inside.settings c.self.inside.number rs c.finish_at.new.rows c.self.inside.front c.unfinished_by-unfinished.result.frozen c.self.inside.unsure) c.unfinished_by-unfinished.result.fault) (sym (kept g after))
     (subst (λ u. FinishRefused g.D.Disk.files g.D.Piece.Piece.Tells k c.args.replica (volume_with c.self.inside.settings c.self.inside.number c.self.inside.replicas.items c.self.inside.rows c.self.inside.front c.self.inside.frozen c.self.inside.unsure) (volume_with c.self.inside.settings c.self.inside.number c.finish_at.new.replicas c.finish_at.new.rows c.self.inside.front u.frozen c.self.inside.unsure) u.fault) (sym c.unfinished_by-unfinished.ensures)
     (subst (λ o. FinishRefused g.D.Disk.files g.D.Piece.Piece.Tells k c.args.replica (volume_with c.self.inside.settings c.self.inside.number c.self.inside.replicas.items c.self.inside.rows c.self.inside.front o c.self.inside.unsure) (volume_with c.self.inside.settings c.self.inside.number c.finish_at.new.replicas c.finish_at.new.rows c.self.inside.front (unfinished_by c.self.inside.settings c.self.inside.number c.args.replica c.in-Err.unswapped).frozen c.self.inside.unsure) (unfinished_by c.self.inside.settings c.self.inside.number c.args.replica c.in-Err.unswapped).fault) (sym thawed)
     (finish_refused c.self.inside.settings c.self.inside.number g.D.Disk.Tells g.D.Disk.files g.D.Piece.Piece.Tells g.D.Disk.fault_count c.self.inside.replicas.items c.finish_at.new.replicas c.self.inside.rows c.finish_at.new.rows c.self.inside.front c.self.inside.unsure k
-    (subst (λ o. StandsFor g.D.Disk.files g.D.Piece.Piece.Tells (volume_with c.self.inside.settings c.self.inside.number c.self.inside.replicas.items c.self.inside.rows c.self.inside.front o c.self.inside.unsure) k) thawed (subst (λ v. StandsFor g.D.Disk.files g.D.Piece.Piece.Tells v k) (sym c.self.view_is) stands)) tells c.args.replica call.one c.in-Err.unswapped standing call.swaps call.places))))
+    (subst (λ o. StandsFor g.D.Disk.files g.D.Piece.Piece.Tells (volume_with c.self.inside.settings c.self.inside.number c.self.inside.replicas.items c.self.inside.rows c.self.inside.front o c.self.inside.unsure) k) thawed (subst (λ v. StandsFor g.D.Disk.files g.D.Piece.Piece.Tells v k) (sym c.self.view_is) stands)) tells c.args.replica call.one c.in-Err.unswapped standing few call.swaps call.places))))
 
 pub returns-in-Err-clause-causes : goal.returns-in-Err-clause-causes
 returns-in-Err-clause-causes g c =

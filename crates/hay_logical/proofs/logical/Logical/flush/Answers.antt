@@ -15,7 +15,6 @@ use Rattle.hay_logical.proofs.Methods.{one_after, one_count, one_each, same_by, 
 use Rattle.hay_logical.proofs.Standing.{volume_with}
 use Rattle.hay_logical.proofs.Changing.{flush_cause, flush_refused, flushed, not_some}
 use Rattle.hay_logical.proofs.Deletable.{same_rows}
-use Rattle.hay_logical.proofs.Refusing.{refuses_flush}
 use Rattle.hay_logical.proofs.logical.Logical.flush.Goals as goal
 use Rattle.hay_logical.proofs.logical.Logical.flush.Goals.{in-Ok, in-Err}
 
@@ -42,15 +41,6 @@ flush_at-requires-clause-up g c = λ κs lives.
     let up : (j : ℕ) (r : Copy g.row.D.Denot) → At c.self.inside.replicas.items j r → IsUp r =
     λ j r e. open_up r (c.requires.«open».each j r (subst (λ v. At v.replicas j r) c.self.view_is e)) ((c.self.invariant.0).thawed thawed j r e) in
     λ j r e. up j r (subst (λ xs. At xs j r) c.as_mut_slice.ensures.value e)
-
-pub flush_refusal-requires : goal.flush_refusal-requires
-flush_refusal-requires g c =
-    let now = c.as_mut_slice.ensures.value in
-    let one : CallsOne c.args.replica c.self.inside.replicas.items c.flush_at.new.replicas = subst (λ xs. CallsOne c.args.replica xs c.flush_at.new.replicas) now c.flush_at.ensures.one in
-    let step : FlushesAt g.D.Disk.Tells g.D.Disk.files g.D.Disk.fault_count one.before one.after (Err c.in-Err.fault) =
-    subst (λ x. FlushesAt g.D.Disk.Tells g.D.Disk.files g.D.Disk.fault_count one.before one.after x) c.in-Err.is
-    (c.flush_at.ensures.flushes one.before one.after (subst (λ xs. At xs c.args.replica one.before) (sym now) one.was) (one_after c.args.replica c.self.inside.replicas.items c.flush_at.new.replicas one)) in
-    refuses_flush g.D.Disk.fault_count one.before one.after c.in-Err.fault step.cause
 
 pub invariant_of-self : goal.invariant_of-self
 invariant_of-self g c =
@@ -108,9 +98,9 @@ returns-clause-refused g c = λ tells k stands.
           subst (λ x. FlushesAt g.D.Disk.Tells g.D.Disk.files g.D.Disk.fault_count one.before one.after x) w.in-Err.is
           (c.flush_at.ensures.flushes one.before one.after (subst (λ xs. At xs c.args.replica one.before) (sym now) one.was) (one_after c.args.replica c.self.inside.replicas.items c.flush_at.new.replicas one)) in
           subst (λ r. IfErr r (FlushRefused g.D.Disk.files g.D.Piece.Piece.Tells k c.args.replica c.args.self.now (volume_with c.self.inside.settings c.self.inside.number (with_items c.self.inside.replicas c.flush_at.new.replicas).items c.self.inside.rows c.self.inside.front c.self.inside.frozen c.self.inside.unsure))) (sym w.result-is)
-          (subst (λ v. FlushRefused g.D.Disk.files g.D.Piece.Piece.Tells k c.args.replica v (volume_with c.self.inside.settings c.self.inside.number (with_items c.self.inside.replicas c.flush_at.new.replicas).items c.self.inside.rows c.self.inside.front c.self.inside.frozen c.self.inside.unsure) w.flush_refusal.result) c.self.view_is
-          (subst (λ rs. FlushRefused g.D.Disk.files g.D.Piece.Piece.Tells k c.args.replica (volume_with c.self.inside.settings c.self.inside.number c.self.inside.replicas.items c.self.inside.rows c.self.inside.front c.self.inside.frozen c.self.inside.unsure) (volume_with c.self.inside.settings c.self.inside.number rs c.self.inside.rows c.self.inside.front c.self.inside.frozen c.self.inside.unsure) w.flush_refusal.result) (sym kept)
-          (subst (λ f. FlushRefused g.D.Disk.files g.D.Piece.Piece.Tells k c.args.replica (volume_with c.self.inside.settings c.self.inside.number c.self.inside.replicas.items c.self.inside.rows c.self.inside.front c.self.inside.frozen c.self.inside.unsure) (volume_with c.self.inside.settings c.self.inside.number c.flush_at.new.replicas c.self.inside.rows c.self.inside.front c.self.inside.frozen c.self.inside.unsure) f) (sym w.flush_refusal.ensures)
+          (subst (λ v. FlushRefused g.D.Disk.files g.D.Piece.Piece.Tells k c.args.replica v (volume_with c.self.inside.settings c.self.inside.number (with_items c.self.inside.replicas c.flush_at.new.replicas).items c.self.inside.rows c.self.inside.front c.self.inside.frozen c.self.inside.unsure) w.answer_at.result) c.self.view_is
+          (subst (λ rs. FlushRefused g.D.Disk.files g.D.Piece.Piece.Tells k c.args.replica (volume_with c.self.inside.settings c.self.inside.number c.self.inside.replicas.items c.self.inside.rows c.self.inside.front c.self.inside.frozen c.self.inside.unsure) (volume_with c.self.inside.settings c.self.inside.number rs c.self.inside.rows c.self.inside.front c.self.inside.frozen c.self.inside.unsure) w.answer_at.result) (sym kept)
+          (subst (λ f. FlushRefused g.D.Disk.files g.D.Piece.Piece.Tells k c.args.replica (volume_with c.self.inside.settings c.self.inside.number c.self.inside.replicas.items c.self.inside.rows c.self.inside.front c.self.inside.frozen c.self.inside.unsure) (volume_with c.self.inside.settings c.self.inside.number c.flush_at.new.replicas c.self.inside.rows c.self.inside.front c.self.inside.frozen c.self.inside.unsure) f) (sym w.answer_at.ensures)
           (flush_refused c.self.inside.settings c.self.inside.number g.D.Disk.Tells g.D.Disk.files g.D.Piece.Piece.Tells g.D.Disk.fault_count tells c.self.inside.replicas.items c.flush_at.new.replicas c.self.inside.rows c.self.inside.front c.self.inside.frozen c.self.inside.unsure k c.args.replica c.machine_of-machine.result w.in-Err.fault one
           (subst (λ v. StandsFor g.D.Disk.files g.D.Piece.Piece.Tells v k) (sym c.self.view_is) stands) (not_some c.self.inside.frozen c.in_default.not-Some) c.machine_of-machine.ensures step))))
     ]
@@ -129,9 +119,9 @@ returns-clause-causes g c =
           subst (λ x. FlushesAt g.D.Disk.Tells g.D.Disk.files g.D.Disk.fault_count one.before one.after x) w.in-Err.is
           (c.flush_at.ensures.flushes one.before one.after (subst (λ xs. At xs c.args.replica one.before) (sym now) one.was) (one_after c.args.replica c.self.inside.replicas.items c.flush_at.new.replicas one)) in
           subst (λ r. IfErr r (answers.IsFlushFault g.D.Disk.fault_count c.args.self.now.settings c.args.self.now.number c.args.self.now.replicas (with_items c.self.inside.replicas c.flush_at.new.replicas).items)) (sym w.result-is)
-          (subst (λ v. answers.IsFlushFault g.D.Disk.fault_count v.settings v.number v.replicas (with_items c.self.inside.replicas c.flush_at.new.replicas).items w.flush_refusal.result) c.self.view_is
-          (subst (λ rs. answers.IsFlushFault g.D.Disk.fault_count c.self.inside.settings c.self.inside.number c.self.inside.replicas.items rs w.flush_refusal.result) (sym kept)
-          (subst (λ f. answers.IsFlushFault g.D.Disk.fault_count c.self.inside.settings c.self.inside.number c.self.inside.replicas.items c.flush_at.new.replicas f) (sym w.flush_refusal.ensures)
+          (subst (λ v. answers.IsFlushFault g.D.Disk.fault_count v.settings v.number v.replicas (with_items c.self.inside.replicas c.flush_at.new.replicas).items w.answer_at.result) c.self.view_is
+          (subst (λ rs. answers.IsFlushFault g.D.Disk.fault_count c.self.inside.settings c.self.inside.number c.self.inside.replicas.items rs w.answer_at.result) (sym kept)
+          (subst (λ f. answers.IsFlushFault g.D.Disk.fault_count c.self.inside.settings c.self.inside.number c.self.inside.replicas.items c.flush_at.new.replicas f) (sym w.answer_at.ensures)
           (flush_cause c.self.inside.settings c.self.inside.number g.D.Disk.Tells g.D.Disk.files g.D.Disk.fault_count c.self.inside.replicas.items c.flush_at.new.replicas c.args.replica c.machine_of-machine.result w.in-Err.fault one all c.machine_of-machine.ensures step))))
     ]
 

@@ -315,3 +315,13 @@ returns-clause-same g c =
 
 pub returns-clause-whole : goal.returns-clause-whole
 returns-clause-whole g c = λ tells k stopped replica file at e. cc
+
+pub returns-clause-undamaged : goal.returns-clause-undamaged
+returns-clause-undamaged g c = λ tells j r there file at.
+    let now = c.as_mut_slice.ensures.value in
+    let olds = c.self.inside.replicas.items in
+    let news = c.open_each.new.replicas in
+    let count = c.open_each.ensures.counts.count ∙ ap length now in
+    let e : At olds j r = subst (λ (v : Volume g.row.D.Denot g.row.D-Piece.Denot). At v.replicas j r) (sym c.self.view_is) there in
+    let new = at_there news j (let h = at_below olds j r e in let less : j < length news = omega (arith, h, count) in less) in
+    (c.in-Ok.ensures.opened j r new.0 (subst (λ xs. At xs j r) (sym now) e) new.1).undamaged tells file at

@@ -7,6 +7,7 @@ use Rattle.hay_logical.specs.declared.fault.LogicalFault.TheVariants.{Full}
 use Rattle.hay_logical.specs.declared.fault.LogicalFault.{LogicalFault}
 use Rattle.hay_logical.specs.Answers.{IsRoomFault, room_answer}
 use Rattle.hay_logical.specs.Fits.{At}
+use Rattle.hay_logical.specs.Refusals.{answer_at}
 use Rattle.hay_logical.specs.Stands.{Stands, StandsFor}
 use Rattle.hay_logical.specs.Steps.{LacksRoom}
 use Rattle.hay_logical.specs.Volumes.{Volume}
@@ -72,9 +73,6 @@ machine_of-machine-requires-clause-within g c =
     let m = ((c.self.invariant.0).settings).most in
     omega (arith, h, e, n, m)
 
-pub full_at-requires : goal.full_at-requires
-full_at-requires g c = let l = c.in-Err.ensures.lacks in (end_of l.replica, total_of_lem c.args.size, capacity_of l.replica, l.cause)
-
 pub returns-clause-known : goal.returns-clause-known
 unfolding Stands
 returns-clause-known g c = λ tells k stands.
@@ -86,8 +84,8 @@ returns-clause-known g c = λ tells k stands.
     let capacity = known_capacity g.D.Disk.files g.D.Piece.Piece.Tells here.settings here.number here.replicas.items here.rows here.front here.unsure k known (c.self.invariant.0).sups c.args.size c.in-Err.lacking.at l.replica l.there in
     let refusal = room_some g.D.Disk.files g.D.Piece.Piece.Tells here.settings here.number here.replicas.items here.rows here.front here.unsure k known (c.self.invariant.0).sups c.args.size c.in-Err.lacking l in
     let total = total_of_lem c.args.size in
-    subst (λ (v : Volume g.row.D.Denot g.row.D-Piece.Denot). Err c.full_at.result ≡ room_answer v.settings k.frozen (room_refusal_of v.settings v.number k c.args.size)) c.self.view_is
-    (ap (λ (f : LogicalFault). Err f) (c.full_at.ensures (end_of l.replica) total (capacity_of l.replica) l.cause)
+    subst (λ (v : Volume g.row.D.Denot g.row.D-Piece.Denot). Err c.answer_at.result ≡ room_answer v.settings k.frozen (room_refusal_of v.settings v.number k c.args.size)) c.self.view_is
+    (ap (λ (f : LogicalFault). Err f) (c.answer_at.ensures ∙ ap (answer_at c.machine_of-machine.result) l.cause)
     ∙ ap (λ m. Err (Full m (end_of l.replica) total (capacity_of l.replica))) c.machine_of-machine.ensures
     ∙ ap (λ n. Err (Full (machine_of here.settings here.number c.in-Err.lacking.at) (end_of l.replica) total n)) capacity
     ∙ room_by here.settings None k.frozen (Some (NoRoom here.number (machine_of here.settings here.number c.in-Err.lacking.at) (end_of l.replica) total))
@@ -99,4 +97,4 @@ returns-clause-frozen g c = λ m e.
     absurd cc
 
 pub returns-clause-causes : goal.returns-clause-causes
-returns-clause-causes g c = let l = c.in-Err.ensures.lacks in subst IsRoomFault (sym (c.full_at.ensures (end_of l.replica) (total_of_lem c.args.size) (capacity_of l.replica) l.cause)) tt
+returns-clause-causes g c = let l = c.in-Err.ensures.lacks in subst IsRoomFault (sym (c.answer_at.ensures ∙ ap (answer_at c.machine_of-machine.result) l.cause)) tt

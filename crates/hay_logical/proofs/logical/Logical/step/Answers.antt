@@ -6,7 +6,7 @@ use Rattle.hay_physical.specs.Copies.{Copy, IsUp, goal_of}
 use Rattle.hay_logical.specs.Answers.{StepRefused, IsStepped}
 use Rattle.hay_logical.specs.Answers as answers
 use Rattle.hay_logical.specs.Fits.{At}
-use Rattle.hay_logical.specs.Refusals.{run_answer}
+use Rattle.hay_logical.specs.Refusals.{answer_at}
 use Rattle.hay_logical.specs.Stands.{Stands, StandsFor}
 use Rattle.hay_logical.specs.Steps.{CallsOne, KeepsDeletable, StepsAt}
 use Rattle.hay_logical.specs.Volumes.{CanDelete, IsShaped, KeepsCounts}
@@ -17,7 +17,6 @@ use Rattle.hay_logical.proofs.Standing.{volume_with}
 use Rattle.hay_logical.proofs.Changing.{not_some}
 use Rattle.hay_logical.proofs.Stepping.{none_there, stands_there, step_fault, step_refused, stepped_on}
 use Rattle.hay_logical.proofs.Deletable.{same_rows}
-use Rattle.hay_logical.proofs.Refusing.{refuses_step}
 use Rattle.hay_logical.proofs.logical.Logical.step.Goals as goal
 use Rattle.hay_logical.proofs.logical.Logical.step.Goals.{in-Ok, in-Err}
 
@@ -65,15 +64,6 @@ step_at-requires-after_bounds g c = λ κs lives.
         ),
       ),
     )
-
-pub run_refusal-requires : goal.run_refusal-requires
-run_refusal-requires g c =
-    let now = c.as_mut_slice.ensures.value in
-    let one : CallsOne c.args.replica c.self.inside.replicas.items c.step_at.new.replicas = subst (λ xs. CallsOne c.args.replica xs c.step_at.new.replicas) now c.step_at.ensures.one in
-    let step : StepsAt g.D.Disk.Tells g.D.Disk.files g.D.Disk.fault_count g.D.Piece.Piece.Tells c.self.inside.rows c.args.replica c.args.cells one.before one.after (Err c.in-Err.fault) =
-    subst (λ x. StepsAt g.D.Disk.Tells g.D.Disk.files g.D.Disk.fault_count g.D.Piece.Piece.Tells c.self.inside.rows c.args.replica c.args.cells one.before one.after x) c.in-Err.is
-    (c.step_at.ensures.steps one.before one.after (subst (λ xs. At xs c.args.replica one.before) (sym now) one.was) (one_after c.args.replica c.self.inside.replicas.items c.step_at.new.replicas one)) in
-    refuses_step g.D.Disk.fault_count one.before one.after c.in-Err.fault step.cause
 
 pub invariant_of-self : goal.invariant_of-self
 invariant_of-self g c =
@@ -136,10 +126,10 @@ returns-clause-refused g c = λ tells k stands.
           subst (λ x. StepsAt g.D.Disk.Tells g.D.Disk.files g.D.Disk.fault_count g.D.Piece.Piece.Tells c.self.inside.rows c.args.replica c.args.cells one.before one.after x) w.in-Err.is
           (c.step_at.ensures.steps one.before one.after (subst (λ xs. At xs c.args.replica one.before) (sym now) one.was) (one_after c.args.replica c.self.inside.replicas.items c.step_at.new.replicas one)) in
           subst (λ r. IfErr r (StepRefused g.D.Disk.files g.D.Piece.Piece.Tells k c.args.replica c.args.cells c.args.self.now (volume_with c.self.inside.settings c.self.inside.number (with_items c.self.inside.replicas c.step_at.new.replicas).items c.self.inside.rows c.self.inside.front c.self.inside.frozen c.self.inside.unsure))) (sym w.result-is)
-          (subst (λ v. StepRefused g.D.Disk.files g.D.Piece.Piece.Tells k c.args.replica c.args.cells v (volume_with c.self.inside.settings c.self.inside.number (with_items c.self.inside.replicas c.step_at.new.replicas).items c.self.inside.rows c.self.inside.front c.self.inside.frozen c.self.inside.unsure) w.run_refusal.result) c.self.view_is
-          (subst (λ rs. StepRefused g.D.Disk.files g.D.Piece.Piece.Tells k c.args.replica c.args.cells (volume_with c.self.inside.settings c.self.inside.number c.self.inside.replicas.items c.self.inside.rows c.self.inside.front c.self.inside.frozen c.self.inside.unsure) (volume_with c.self.inside.settings c.self.inside.number rs c.self.inside.rows c.self.inside.front c.self.inside.frozen c.self.inside.unsure) w.run_refusal.result) (sym kept)
-          (subst (λ f. StepRefused g.D.Disk.files g.D.Piece.Piece.Tells k c.args.replica c.args.cells (volume_with c.self.inside.settings c.self.inside.number c.self.inside.replicas.items c.self.inside.rows c.self.inside.front c.self.inside.frozen c.self.inside.unsure) (volume_with c.self.inside.settings c.self.inside.number c.step_at.new.replicas c.self.inside.rows c.self.inside.front c.self.inside.frozen c.self.inside.unsure) f) (sym w.run_refusal.ensures)
-          (subst (λ o. StepRefused g.D.Disk.files g.D.Piece.Piece.Tells k c.args.replica c.args.cells (volume_with c.self.inside.settings c.self.inside.number c.self.inside.replicas.items c.self.inside.rows c.self.inside.front o c.self.inside.unsure) (volume_with c.self.inside.settings c.self.inside.number c.step_at.new.replicas c.self.inside.rows c.self.inside.front o c.self.inside.unsure) (run_answer c.machine_of-machine.result w.in-Err.fault)) (sym thawed)
+          (subst (λ v. StepRefused g.D.Disk.files g.D.Piece.Piece.Tells k c.args.replica c.args.cells v (volume_with c.self.inside.settings c.self.inside.number (with_items c.self.inside.replicas c.step_at.new.replicas).items c.self.inside.rows c.self.inside.front c.self.inside.frozen c.self.inside.unsure) w.answer_at.result) c.self.view_is
+          (subst (λ rs. StepRefused g.D.Disk.files g.D.Piece.Piece.Tells k c.args.replica c.args.cells (volume_with c.self.inside.settings c.self.inside.number c.self.inside.replicas.items c.self.inside.rows c.self.inside.front c.self.inside.frozen c.self.inside.unsure) (volume_with c.self.inside.settings c.self.inside.number rs c.self.inside.rows c.self.inside.front c.self.inside.frozen c.self.inside.unsure) w.answer_at.result) (sym kept)
+          (subst (λ f. StepRefused g.D.Disk.files g.D.Piece.Piece.Tells k c.args.replica c.args.cells (volume_with c.self.inside.settings c.self.inside.number c.self.inside.replicas.items c.self.inside.rows c.self.inside.front c.self.inside.frozen c.self.inside.unsure) (volume_with c.self.inside.settings c.self.inside.number c.step_at.new.replicas c.self.inside.rows c.self.inside.front c.self.inside.frozen c.self.inside.unsure) f) (sym w.answer_at.ensures)
+          (subst (λ o. StepRefused g.D.Disk.files g.D.Piece.Piece.Tells k c.args.replica c.args.cells (volume_with c.self.inside.settings c.self.inside.number c.self.inside.replicas.items c.self.inside.rows c.self.inside.front o c.self.inside.unsure) (volume_with c.self.inside.settings c.self.inside.number c.step_at.new.replicas c.self.inside.rows c.self.inside.front o c.self.inside.unsure) (answer_at c.machine_of-machine.result w.in-Err.fault)) (sym thawed)
           (step_refused c.self.inside.settings c.self.inside.number g.D.Disk.Tells g.D.Disk.files g.D.Piece.Piece.Tells g.D.Disk.fault_count c.self.inside.replicas.items c.step_at.new.replicas c.self.inside.rows c.self.inside.front c.self.inside.unsure k c.args.replica one
           (subst (λ o. StandsFor g.D.Disk.files g.D.Piece.Piece.Tells (volume_with c.self.inside.settings c.self.inside.number c.self.inside.replicas.items c.self.inside.rows c.self.inside.front o c.self.inside.unsure) k) thawed (subst (λ v. StandsFor g.D.Disk.files g.D.Piece.Piece.Tells v k) (sym c.self.view_is) stands)) tells c.args.cells c.machine_of-machine.result w.in-Err.fault standing c.machine_of-machine.ensures step)))))
     ]
@@ -158,9 +148,9 @@ returns-clause-causes g c =
           subst (λ x. StepsAt g.D.Disk.Tells g.D.Disk.files g.D.Disk.fault_count g.D.Piece.Piece.Tells c.self.inside.rows c.args.replica c.args.cells one.before one.after x) w.in-Err.is
           (c.step_at.ensures.steps one.before one.after (subst (λ xs. At xs c.args.replica one.before) (sym now) one.was) (one_after c.args.replica c.self.inside.replicas.items c.step_at.new.replicas one)) in
           subst (λ r. IfErr r (answers.IsRunFault g.D.Disk.fault_count c.args.self.now.settings c.args.self.now.number c.args.self.now.replicas (with_items c.self.inside.replicas c.step_at.new.replicas).items)) (sym w.result-is)
-          (subst (λ v. answers.IsRunFault g.D.Disk.fault_count v.settings v.number v.replicas (with_items c.self.inside.replicas c.step_at.new.replicas).items w.run_refusal.result) c.self.view_is
-          (subst (λ rs. answers.IsRunFault g.D.Disk.fault_count c.self.inside.settings c.self.inside.number c.self.inside.replicas.items rs w.run_refusal.result) (sym kept)
-          (subst (λ f. answers.IsRunFault g.D.Disk.fault_count c.self.inside.settings c.self.inside.number c.self.inside.replicas.items c.step_at.new.replicas f) (sym w.run_refusal.ensures)
+          (subst (λ v. answers.IsRunFault g.D.Disk.fault_count v.settings v.number v.replicas (with_items c.self.inside.replicas c.step_at.new.replicas).items w.answer_at.result) c.self.view_is
+          (subst (λ rs. answers.IsRunFault g.D.Disk.fault_count c.self.inside.settings c.self.inside.number c.self.inside.replicas.items rs w.answer_at.result) (sym kept)
+          (subst (λ f. answers.IsRunFault g.D.Disk.fault_count c.self.inside.settings c.self.inside.number c.self.inside.replicas.items c.step_at.new.replicas f) (sym w.answer_at.ensures)
           (step_fault c.self.inside.settings c.self.inside.number g.D.Disk.Tells g.D.Disk.files g.D.Disk.fault_count g.D.Piece.Piece.Tells c.self.inside.rows c.args.cells c.self.inside.replicas.items c.step_at.new.replicas c.args.replica c.machine_of-machine.result w.in-Err.fault one all c.machine_of-machine.ensures step))))
     ]
 

@@ -1,13 +1,17 @@
 use Rattle.std.proofs.Common.{◌≡◌, inl, inr, Bool, sym, ap, subst}
+use Rattle.std.specs.Prelude.{OnOk}
 use Rattle.std.proofs.lemmas.Bool.{cases_Bool}
 use Rattle.hay_disk.specs.Disk.{FileState}
 use Rattle.hay_volume.specs.declared.volume.VolumeFile.{VolumeFile}
 use Rattle.hay_physical.specs.declared.state.OpenFiles.{OpenFiles}
 use Rattle.hay_physical.specs.Replicas.{MayFind, MayFlag}
+use Rattle.hay_open.specs.Stored.{index_file, volume_file}
+use Rattle.hay_physical.specs.Copies.{Copy, generation_of, phase_generation}
+use Rattle.hay_physical.specs.Runs.{RemovedBoth}
 use Rattle.hay_physical.proofs.Openings.{on_any}
 use Rattle.hay_physical.proofs.Standing.{on_err}
-use Rattle.hay_physical.proofs.Views.{files_flag, files_going, files_stand, files_stuck, if_ok, if_ok_so, on_err_so, open_deletes, open_stands}
-use Rattle.hay_physical.proofs.RunViews.{files_run, place_deletes}
+use Rattle.hay_physical.proofs.Views.{files_flag, files_going, files_stand, files_stuck, if_ok, if_ok_so, on_err_so, on_ok_one, open_deletes, open_stands}
+use Rattle.hay_physical.proofs.RunViews.{files_ready, files_run, place_deletes}
 use Rattle.hay_physical.proofs.replica.Replica.finish.Goals as goal
 
 pub returns-clause-swapped : goal.returns-clause-swapped
@@ -66,3 +70,23 @@ returns-clause-deletes g c = λ tells at may.
           (subst (λ (v : VolumeFile). MayFlag (files c.finish.new.disk v.file) v.end at) (sym volume) (subst (λ (x : FileState). MayFlag x opened.volume.end at) (sym file) flag)))
           c.finish.ensures.same (c.finish.ensures.volume tells going)
     ]
+
+pub returns-clause-removed : goal.returns-clause-removed
+returns-clause-removed g c = λ tells.
+    let files = g.D.Disk.files c.finish.new.disk in
+    let count = g.D.Disk.fault_count in
+    let was = c.self.inside in
+    let opened = c.in-Open.files in
+    let after = count c.finish.new.disk in
+    let generation : phase_generation was.phase ≡ opened.head.generation = ap phase_generation c.in-Open.is in
+    subst (λ (x : Copy _). OnOk c.finish.result (RemovedBoth files (volume_file (generation_of x)) (index_file (generation_of x)) (count x.disk) after)) c.self.view_is
+    (elim (cases_Bool opened.frozen) [
+      | inl frozen ↦ subst (λ r. OnOk r (RemovedBoth files (volume_file (phase_generation was.phase)) (index_file (phase_generation was.phase)) (count was.disk) after)) (sym (c.finish.ensures.frozen frozen).0) tt
+      | inr going ↦
+          let ready = (files_ready (g.D.Disk.files was.disk) was.phase opened c.in-Open.is (c.self.invariant.0 tells) going).0 in
+          on_ok_one c.finish.result _ _
+          (λ both. subst (λ n. RemovedBoth files (volume_file n) (index_file n) (count was.disk) after) (sym generation)
+          (subst (λ n. RemovedBoth files n (index_file opened.head.generation) (count was.disk) after) ready.volume_number
+          (subst (λ n. RemovedBoth files opened.volume.file n (count was.disk) after) ready.index_number both)))
+          (c.finish.ensures.removed tells)
+    ])

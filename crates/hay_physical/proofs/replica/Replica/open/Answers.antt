@@ -1,4 +1,4 @@
-use Rattle.std.proofs.Common.{◌≡◌, ap, refl, subst, Err}
+use Rattle.std.proofs.Common.{◌≡◌, ap, refl, subst, Err, sym}
 use Rattle.std.proofs.lemmas.Result.{err_from_is_err_and}
 use Rattle.hay_open.specs.Damage.{IsOpeningDamage}
 use Rattle.hay_open.specs.Stored.{IsVoid}
@@ -85,3 +85,7 @@ returns-clause-kept g c = λ tells void n.
 
 pub returns-clause-can_delete : goal.returns-clause-can_delete
 returns-clause-can_delete g c = λ tells pair. found_deletes g.D.Disk.files c.self.inside.sup c.open_replica.new.disk _ c.in_ok-head.field-0.cells.items (c.in_ok-head.ensures.flags tells) pair
+
+pub returns-clause-undamaged : goal.returns-clause-undamaged
+returns-clause-undamaged g c = λ tells file at damage.
+    c.in_ok-head.ensures.undamaged tells file at (subst (λ (x : Copy _). IsOpeningDamage x.sup (λ n. (g.D.Disk.files x.disk n).now) file at) (sym c.self.view_is) damage)

@@ -1,4 +1,5 @@
 use Rattle.std.proofs.Common.{inl, inr, subst, Bool, ⊎_elim}
+use Rattle.hay_physical.specs.Copies.{Copy}
 use Rattle.hay_physical.specs.Replicas.{MayFind, with_cell}
 use Rattle.hay_physical.proofs.Views.{files_flag, files_going, files_stand, files_stuck, if_ok, if_ok_on, if_ok_so, on_err_so, open_deletes, open_stands}
 use Rattle.std.proofs.Common.{◌≡◌, ◌∙◌, true≢false, inl, inr, sym, ap}
@@ -86,3 +87,19 @@ returns-clause-run_stays g c = λ tells s run stands has.
     run_still run files c.args.self.now was.sup was.disk c.put.new.disk was.phase opened c.put.new.self s s c.self.view_is c.in-Open.is same
     (λ x r. run_kept was.sup (files was.disk) (files c.put.new.disk) opened c.put.new.self s s.records x r same (ap (λ (o : OpenFiles). o.volume) (kept thawed)) stand (next_besides_volume was.sup (files was.disk) (files was.disk) (files c.put.new.disk) opened s f (c.put.ensures.others tells))) has)
     (c.put.ensures.refused tells was.sup s going f) c.put.ensures.kept
+
+pub returns-clause-unchanged : goal.returns-clause-unchanged
+returns-clause-unchanged g c = λ tells none up.
+    let files = g.D.Disk.files in
+    subst (λ (x : Copy _). files c.put.new.disk ≡ files x.disk) c.self.view_is (c.put.ensures.unchanged tells none up)
+
+pub returns-clause-added : goal.returns-clause-added
+returns-clause-added g c = λ tells s stands none froze.
+    let files = g.D.Disk.files in
+    let was = c.self.inside in
+    let opened = c.in-Open.files in
+    let t = with_cell s c.args.pair c.args.cookie c.args.bytes.now in
+    let stand = files_stand files c.args.self.now was.sup was.disk was.phase opened s c.self.view_is c.in-Open.is stands in
+    let going = files_going files c.args.self.now was.sup was.disk was.phase opened s c.self.view_is c.in-Open.is stands in
+    let stuck = files_stuck c.args.self.now was.sup was.disk was.phase opened c.self.view_is c.in-Open.is in
+    subst (λ (b : Bool). MayFind was.sup (files c.put.new.disk) b t t) stuck (c.put.ensures.added tells was.sup s going stand none froze)

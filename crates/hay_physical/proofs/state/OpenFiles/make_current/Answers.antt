@@ -3,9 +3,10 @@ use Rattle.hay_compact.specs.Finishing.{AreThePlaces}
 use Rattle.hay_disk.specs.Disk.{Files}
 use Rattle.hay_physical.specs.declared.state.OpenFiles.{OpenFiles}
 use Rattle.hay_physical.specs.Replicas.{FilesReady, FilesStand}
-use Rattle.hay_physical.proofs.Views.{by_result, if_ok, if_ok_unit, on_ok_both}
+use Rattle.hay_physical.proofs.Views.{by_result, if_ok, if_ok_unit, on_ok_both, on_ok_one}
 use Rattle.hay_physical.proofs.Standing.{on_err}
 use Rattle.hay_physical.proofs.SwapLaws.{made_kept, old_apart, old_index_apart, swap_finds, swap_flags, swap_ready, swap_stands, unfrozen_ready, unfrozen_stands}
+use Rattle.hay_physical.proofs.Removing.{removed_since}
 use Rattle.hay_physical.proofs.state.OpenFiles.make_current.Goals as goal
 
 pub returns-in-Ok-clause-open : goal.returns-in-Ok-clause-open
@@ -70,3 +71,10 @@ returns-in-Ok-clause-unsure g c = λ tells sup s fresh f making.
 
 pub returns-in-Ok-clause-moved : goal.returns-in-Ok-clause-moved
 returns-in-Ok-clause-moved g c = if_ok_unit c.swap.result _ _ (λ places is. ap (λ (o : OpenFiles). o.head.generation) is.1) c.swap.ensures.swapped
+
+pub returns-in-Ok-clause-removed : goal.returns-in-Ok-clause-removed
+returns-in-Ok-clause-removed g c = λ tells.
+    on_ok_one c.swap.result _ _
+    (removed_since (g.D.Disk.files c.swap.new.disk) c.args.self.now.volume.file c.args.self.now.index.file (g.D.Disk.fault_count c.args.disk.now) (g.D.Disk.fault_count c.finish.new.disk) (g.D.Disk.fault_count c.swap.new.disk)
+    c.finish.ensures.counted.later)
+    (c.swap.ensures.removed tells)

@@ -1,0 +1,82 @@
+-- Arms that are sure stay so, and no reply blames them.
+use Rattle.std.proofs.Common.{◌≡◌, ℕ, zero, suc, ◌+◌, Bool, true, List, [], ◌∷◌, length, map, Some, sym, ap, subst, ◌∙◌, inl, inr, arith}
+use Rattle.std.proofs.lemmas.List.{get_or_past}
+use Rattle.std.specs.Prelude.{slice_get, slice_index, slice_set}
+use Rattle.std.specs.List.{AllByRecursion}
+use Rattle.hay_needle.specs.declared.settings.Settings.{Settings}
+use Rattle.hay_reply.specs.declared.Cause.{Cause}
+use Rattle.hay_reply.specs.declared.Cause.TheVariants.{Arm, Disk, Damage}
+use Rattle.hay_reply.specs.declared.Passed.{Passed}
+use Rattle.hay_reply.specs.declared.Reply.{Reply}
+use Rattle.hay_reply.specs.declared.Reply.TheVariants as reply
+use Rattle.hay_reader.specs.Causes.{IsDamage}
+use Rattle.hay_reader.specs.Shown.{NoArm}
+use Rattle.hay_reader.specs.declared.causes.PassedReplica.{PassedReplica}
+use Rattle.hay_reader.specs.declared.seat.ReadReply.{ReadReply}
+use Rattle.hay_reader.specs.declared.seat.ReadReply.TheVariants as read
+use Rattle.hay_cluster.specs.Causes.{BlamesNoArm, CauseCameUp, Counts, HasCause, IsNoArm, StaySure}
+use Rattle.hay_cluster.specs.Reads.{PassesNoArm, passed_at}
+
+-- THE ARMS
+
+module _ {A : Type 0} (is_sure : A → Bool) where
+  each_sure : (xs : List A) → StaySure is_sure xs xs
+  each_sure [] = tt
+  each_sure (x ∷ xs) = ((λ sure. sure), each_sure xs)
+
+  pub same_sure : (xs ys : List A) → ys ≡ xs → StaySure is_sure xs ys
+  same_sure xs ys same = subst (λ (zs : List A). StaySure is_sure xs zs) (sym same) (each_sure xs)
+
+  set_sure : (xs : List A) (i : ℕ) (x x' : A) → slice_get xs i ≡ Some x → (is_sure x ≡ true → is_sure x' ≡ true) → StaySure is_sure xs (slice_set xs i x')
+  set_sure [] i x x' at stays = absurd cc
+  set_sure (y ∷ xs) zero x x' at stays = let same : y ≡ x = cc in ((λ sure. stays (ap is_sure (sym same) ∙ sure)), each_sure xs)
+  set_sure (y ∷ xs) (suc i) x x' at stays = ((λ sure. sure), set_sure xs i x x' at stays)
+
+  -- one arm was used
+  pub used_sure : (old xs : List A) (i : ℕ) (x x' : A) → xs ≡ old → slice_get xs i ≡ Some x → (is_sure x ≡ true → is_sure x' ≡ true) → StaySure is_sure old (slice_set xs i x')
+  used_sure old xs i x x' same at stays = subst (λ (ys : List A). StaySure is_sure ys (slice_set xs i x')) same (set_sure xs i x x' at stays)
+
+-- WHAT A READ TELLS
+
+pub no_arm_passed : (r : ReadReply) → NoArm r → PassesNoArm r
+no_arm_passed (read.Photo j) none = tt
+no_arm_passed (read.Gone j) none = tt
+no_arm_passed (read.WrongCookie j) none = tt
+no_arm_passed (read.Unreadable causes) none = go causes none
+  where
+    one : (cause : Cause) → IsDamage cause → IsNoArm cause
+    one (Arm f) damage = absurd damage
+    one (Disk f) damage = tt
+    one (Damage at) damage = tt
+
+    go : (over : List PassedReplica) → AllByRecursion (λ p. IsDamage p.cause) over → AllByRecursion (λ p. IsNoArm p.cause) over
+    go [] all = tt
+    go (p ∷ over) all = (one p.cause all.0, go over all.1)
+
+told_each : (settings : Settings) (v : ℕ) (over : List PassedReplica) → AllByRecursion (λ p. IsNoArm p.cause) over → AllByRecursion (λ passed. IsNoArm passed.cause) (map (passed_at settings v) over)
+told_each settings v [] all = tt
+told_each settings v (p ∷ over) all = (all.0, told_each settings v over all.1)
+
+pub unreadable_told : (settings : Settings) (v front rows : ℕ) (told : List Passed) (over : List PassedReplica) → told ≡ map (passed_at settings v) over → AllByRecursion (λ p. IsNoArm p.cause) over
+    → BlamesNoArm (reply.Unreadable v front rows told)
+unreadable_told settings v front rows told over is none = λ v' front' rows' causes same.
+    let one : told ≡ causes = cc in
+    subst (λ (all : List Passed). AllByRecursion (λ passed. IsNoArm passed.cause) all) (sym is ∙ one) (told_each settings v over none)
+
+-- WHAT ANY OTHER CALL TELLS
+
+-- a cause that any lane may have is no arm
+pub unblamed : (settings : Settings) (before after : Counts) (said : Reply) → ((lane : ℕ) → HasCause settings lane before after said) → BlamesNoArm said
+unblamed settings before after said causes = λ v front rows told is.
+    let lane = length before.arms + length after.arms in
+    go v lane (get_or_past after.arms lane 0 (omega arith)) told (subst (λ (r : Reply). HasCause settings lane before after r) is (causes lane))
+  where
+    one : (v lane m : ℕ) → slice_index after.arms lane ≡ 0 → (cause : Cause) → CauseCameUp settings lane v before after m cause → IsNoArm cause
+    one v lane m none (Arm f) came = elim (came.0) [ inl rose ↦ (let low = came.1 in absurd (omega (arith, none, rose, low))) | inr end ↦ (let low = came.1 in absurd (omega (arith, none, end, low))) ]
+    one v lane m none (Disk f) came = tt
+    one v lane m none (Damage at) came = tt
+
+    go : (v lane : ℕ) → slice_index after.arms lane ≡ 0 → (told : List Passed) → AllByRecursion (λ passed. CauseCameUp settings lane v before after passed.machine passed.cause) told
+        → AllByRecursion (λ passed. IsNoArm passed.cause) told
+    go v lane none [] all = tt
+    go v lane none (p ∷ told) all = (one v lane p.machine none p.cause all.0, go v lane none told all.1)

@@ -1,0 +1,327 @@
+-- What a line saw of a volume that it met closed or open: a lane that met a freeze of the block meets it from then on.
+use Rattle.std.proofs.Common.{◌≡◌, inl, inr, ℕ, ◌<◌, ◌≤◌, ◌+◌, true, false, List, [], ◌∷◌, length, map, Contains, Option, Some, None, refl, sym, ap, subst, ◌∙◌, arith}
+use Rattle.std.specs.Prelude.{find}
+use Rattle.std.specs.List.{AllZip, enumerate_from}
+use Rattle.std.proofs.lemmas.Option.{none-some}
+use Rattle.hay_needle.specs.declared.needle.Pair.{Pair}
+use Rattle.hay_needle.specs.declared.needle.Cookie.{Cookie}
+use Rattle.hay_needle.specs.declared.settings.Settings.{Settings}
+use Rattle.hay_url.specs.declared.Url.{Url as UrlParts}
+use Rattle.hay_script.specs.declared.Command.{Command}
+use Rattle.hay_script.specs.declared.Command.TheVariants as command
+use Rattle.hay_reply.specs.declared.ClosedBy.{ClosedBy}
+use Rattle.hay_reply.specs.declared.Refused.{Refused}
+use Rattle.hay_reply.specs.declared.Refused.TheVariants.{Closed, NoRoom}
+use Rattle.hay_reply.specs.declared.Reply.{Reply}
+use Rattle.hay_reply.specs.declared.Reply.TheVariants as reply
+use Rattle.hay_core.specs.declared.entry.Entry.TheVariants as entry
+use Rattle.hay_legal.specs.declared.known.Known.{Known}
+use Rattle.hay_legal.specs.declared.turn.Item.{Item}
+use Rattle.hay_legal.specs.declared.turn.Item.TheVariants as asks
+use Rattle.hay_legal.specs.declared.turn.LaneItem.{LaneItem}
+use Rattle.hay_legal.specs.Known.{EachPair, all_tries, closed, closed_by, drained_of, lacks_room, machine_of, refusal_by, replica_on, room_refusal_of, volume_at}
+use Rattle.hay_needle.specs.Sizes.{total_of_lem}
+use Rattle.hay_legal.specs.declared.known.ReplicaKnown.{ReplicaKnown}
+use Rattle.hay_legal.specs.Plain.{as_closed, put_entry, start_of}
+use Rattle.hay_legal.specs.Blocks.{MetClosed, MetFrozen, MetOpen, MetThawed, tag_of}
+use Rattle.hay_history.specs.Steps.{Did, IsThawed, Leads, Standing, Step}
+use Rattle.hay_history.specs.Steps.Did.{Ends, Entered, Flushes, Pends, Poises, Sticks, Swaps, Tries}
+use Rattle.hay_history.specs.Histories.{Course, History, IsLater, IsMoment, OneStep, SeesRefusal, closing_then, own, refusal_then, standing, volume_then}
+use Rattle.hay_history.specs.Commands.{Came, CommandDid, CompactDid, CompactFailed, CompactRefused, DelDid, FlushDid, GetDid, HomeIsClosed, HomeRefuses, ItemDid, PutDid, PutRefused, RanTo, ShowDid, UrlDid}
+use Rattle.hay_history.proofs.Lists.{each_in, first_or_rest, in_rest, is_first, none_in, one_in, pair_by}
+use Rattle.hay_history.proofs.Lines.{answered, course_of, one_leads, own_leads}
+use Rattle.hay_history.proofs.Placing.{on_machine}
+use Rattle.hay_history.proofs.Laying.{last_step}
+use Rattle.hay_history.proofs.Volumes.{frozen_stays, option_map_some}
+use Rattle.hay_history.proofs.Own.{line_of}
+
+-- the line saw the volume frozen by then, or thawed from then on
+abbrev pub SawFrozen : Course → ℕ → Type 0
+SawFrozen c v = (n : ℕ) × (m : ℕ) × (n ≤ (c.to).volumes v) × ((volume_then c v n).frozen ≡ Some m)
+
+abbrev pub SawThawed : Course → ℕ → Type 0
+SawThawed c v = (n : ℕ) × ((c.from).volumes v ≤ n) × ((volume_then c v n).frozen ≡ None)
+
+-- CLOSED VOLUMES
+
+-- what is not closed is not frozen
+thawed_of : (frozen drained : Option ℕ) → closed_by frozen drained ≡ None → (frozen ≡ None) × (drained ≡ None)
+thawed_of None drained e = (refl, e)
+thawed_of (Some m) drained e = absurd (none-some m (sym e))
+
+thawed_room : (v : ℕ) (closing : Option ℕ) (room : Option Refused) → refusal_by v closing room ≡ None → closing ≡ None
+thawed_room v None room e = refl
+thawed_room v (Some m) room e = let clash : Some (Closed v m) ≡ None = e in absurd cc
+
+-- what closes a volume that is not drained froze it
+frozen_of : (frozen drained : Option ℕ) (m : ℕ) → closed_by frozen drained ≡ Some m → drained ≡ None → frozen ≡ Some m
+frozen_of None drained m e none = absurd (none-some m (sym none ∙ e))
+frozen_of (Some by) drained m e none = e
+
+abbrev volume_named : Refused → ℕ
+volume_named (Closed v m) = v
+volume_named (NoRoom v m end need) = v
+
+abbrev machine_named : Refused → ℕ
+machine_named (Closed v m) = m
+machine_named (NoRoom v m end need) = m
+
+module _ (c : Course) where
+  -- a refusal is of the volume that it names: as closed, or for room where the volume was open
+  refused_closed : (size u v m n : ℕ) → refusal_then c u n size ≡ Some (Closed v m) → (u ≡ v) × (closing_then c u n ≡ Some m)
+  refused_closed size u v m n e = by (closing_then c u n) refl e
+    where
+      by : (closing : Option ℕ) → closing_then c u n ≡ closing → refusal_by u closing (room_refusal_of c.settings u (volume_then c u n) size) ≡ Some (Closed v m)
+          → (u ≡ v) × (closing_then c u n ≡ Some m)
+      by (Some other) is same =
+          let parts : Closed u other ≡ Closed v m = cc in
+          (ap volume_named parts, is ∙ ap (λ (r : Refused). Some (machine_named r)) parts)
+      by None is same =
+          let lack = option_map_some (λ (at : ℕ × ReplicaKnown). NoRoom u (machine_of c.settings u at.0) (at.1).end (total_of_lem size))
+          (find (λ at. lacks_room c.settings size at.1) (enumerate_from 0 (volume_then c u n).replicas)) (Closed v m) same in
+          let clash : NoRoom u (machine_of c.settings u (lack.0).0) ((lack.0).1).end (total_of_lem size) ≡ Closed v m = lack.2 in
+          absurd cc
+
+  refused_room : (size u v m end need n : ℕ) → refusal_then c u n size ≡ Some (NoRoom v m end need) → (u ≡ v) × (closing_then c u n ≡ None)
+  refused_room size u v m end need n e = by (closing_then c u n) refl e
+    where
+      by : (closing : Option ℕ) → closing_then c u n ≡ closing → refusal_by u closing (room_refusal_of c.settings u (volume_then c u n) size) ≡ Some (NoRoom v m end need)
+          → (u ≡ v) × (closing_then c u n ≡ None)
+      by (Some other) is same = let clash : Closed u other ≡ NoRoom v m end need = cc in absurd cc
+      by None is same =
+          let lack = option_map_some (λ (at : ℕ × ReplicaKnown). NoRoom u (machine_of c.settings u at.0) (at.1).end (total_of_lem size))
+          (find (λ at. lacks_room c.settings size at.1) (enumerate_from 0 (volume_then c u n).replicas)) (NoRoom v m end need) same in
+          (ap volume_named lack.2, is)
+
+  -- what a line met closed that was open before the block it saw frozen
+  closing_frozen : (v n m : ℕ) → IsMoment c v n → closed c.settings c.k v ≡ None → closing_then c v n ≡ Some m → SawFrozen c v
+  closing_frozen v n m seen opened closing =
+      (n, m, seen.1, frozen_of (volume_then c v n).frozen (drained_of c.settings c.k v) m closing (thawed_of (volume_at c.k v).frozen (drained_of c.settings c.k v) opened).1)
+
+  refusal_frozen : (size u v m : ℕ) → closed c.settings c.k v ≡ None → SeesRefusal c size u (Closed v m) → SawFrozen c v
+  refusal_frozen size u v m opened sees =
+      let is = refused_closed size u v m sees.moment sees.is in
+      closing_frozen v sees.moment m (subst (λ (w : ℕ). IsMoment c w sees.moment) is.0 sees.seen) opened
+      (subst (λ (w : ℕ). closing_then c w sees.moment ≡ Some m) is.0 is.1)
+
+  -- a refusal that a reply names is one that the line saw
+  try_seen : (size : ℕ) (named : Refused) (xs : List ℕ) (refused : List Refused) → AllZip (SeesRefusal c size) xs refused → Contains refused named
+      → (u : ℕ) × SeesRefusal c size u named
+  try_seen size named [] [] zip at = absurd (none_in named at)
+  try_seen size named (x ∷ xs) [] zip at = absurd zip
+  try_seen size named [] (r ∷ refused) zip at = absurd zip
+  try_seen size named (x ∷ xs) (r ∷ refused) zip at = elim (first_or_rest r refused named at) [
+    | inl same ↦ (x, subst (SeesRefusal c size x) same zip.0)
+    | inr rest ↦ try_seen size named xs refused zip.1 rest
+  ]
+
+  home_seen : (pair : Pair) (size : ℕ) (named : Refused) (refused : List Refused) → HomeRefuses c pair size refused → Contains refused named
+      → (u : ℕ) × SeesRefusal c size u named
+  home_seen pair size named [] home at = absurd home
+  home_seen pair size named (r ∷ []) home at = (home.1, subst (SeesRefusal c size home.1) (one_in r named at) home.3)
+  home_seen pair size named (r ∷ next ∷ rest) home at = absurd home
+
+  pub refusal_seen : (pair : Pair) (size : ℕ) (named : Refused) (refused : List Refused) → PutRefused c pair size refused → Contains refused named
+      → (u : ℕ) × SeesRefusal c size u named
+  refusal_seen pair size named refused did at = elim did.because [
+    | inl tries ↦ try_seen size named (all_tries c.settings pair) refused tries.0.1 at
+    | inr home ↦ home_seen pair size named refused home at
+  ]
+
+  put_frozen : (pair : Pair) (size v m : ℕ) (refused : List Refused) → closed c.settings c.k v ≡ None → PutRefused c pair size refused
+      → Contains refused (Closed v m) → SawFrozen c v
+  put_frozen pair size v m refused opened did at =
+      let sees = refusal_seen pair size (Closed v m) refused did at in
+      refusal_frozen size sees.0 v m opened sees.1
+
+  as_named : (tries : List ClosedBy) (by : ClosedBy) → Contains tries by → Contains (map as_closed tries) (as_closed by)
+  as_named [] by at = absurd (none_in by at)
+  as_named (x ∷ tries) by at = elim (first_or_rest x tries by at) [
+    | inl same ↦ subst (λ (y : ClosedBy). Contains (map as_closed (x ∷ tries)) (as_closed y)) same (is_first (as_closed x) (map as_closed tries))
+    | inr rest ↦ in_rest (as_closed x) (map as_closed tries) (as_closed by) (as_named tries by rest)
+  ]
+
+  -- one closed volume that a reply names
+  the_closed : (v : ℕ) (by named : ClosedBy) → Contains (by ∷ []) named → named.volume ≡ v → by.volume ≡ v
+  the_closed v by named at is = ap (λ (x : ClosedBy). x.volume) (one_in by named at) ∙ is
+
+  home_closed_frozen : (pair : Pair) (v : ℕ) (tries : List ClosedBy) → closed c.settings c.k v ≡ None → HomeIsClosed c pair tries
+      → (by : ClosedBy) × Contains tries by × (by.volume ≡ v) → SawFrozen c v
+  home_closed_frozen pair v [] opened did names = absurd did
+  home_closed_frozen pair v (by ∷ []) opened did names =
+      let is : by.volume ≡ v = the_closed v by names.0 names.1 names.2 in
+      closing_frozen v (did.1).moment by.machine (subst (λ (w : ℕ). IsMoment c w (did.1).moment) is (did.1).seen) opened
+      (subst (λ (w : ℕ). closing_then c w (did.1).moment ≡ Some by.machine) is (did.1).is)
+  home_closed_frozen pair v (by ∷ next ∷ rest) opened did names = absurd did
+
+  compact_frozen : (u v j : ℕ) (tries : List ClosedBy) → CompactRefused c u j tries → (by : ClosedBy) × Contains tries by × (by.volume ≡ v) → SawFrozen c v
+  compact_frozen u v j [] (inl frozen) names = absurd frozen.0
+  compact_frozen u v j (by ∷ []) (inl frozen) names =
+      let is : u ≡ v = sym (frozen.0).0 ∙ the_closed v by names.0 names.1 names.2 in
+      subst (SawFrozen c) is (((frozen.0).1).moment, by.machine, (((frozen.0).1).seen).1, ((frozen.0).1).is)
+  compact_frozen u v j (by ∷ next ∷ rest) (inl frozen) names = absurd frozen.0
+  compact_frozen u v j [] (inr ran) names = absurd ran
+  compact_frozen u v j (by ∷ []) (inr ran) names =
+      let is : u ≡ v = sym ran.0 ∙ the_closed v by names.0 names.1 names.2 in
+      subst (SawFrozen c) is (((ran.1).0).ended, by.machine, (((ran.1).0).seen).1, (ran.1).1)
+  compact_frozen u v j (by ∷ next ∷ rest) (inr ran) names = absurd ran
+
+  compact_on_frozen : (u m v : ℕ) (o : Option ℕ) (tries : List ClosedBy) → CompactDid c u m o (reply.ReadOnly tries)
+      → (by : ClosedBy) × Contains tries by × (by.volume ≡ v) → SawFrozen c v
+  compact_on_frozen u m v None tries did names = absurd did
+  compact_on_frozen u m v (Some j) tries did names = compact_frozen u v j tries did names
+
+  met_as : (line lane v : ℕ) (request : Command) (r : Reply) → closed c.settings c.k v ≡ None → CommandDid c request r
+      → MetClosed v (line_of line lane (asks.Command request) r) → SawFrozen c v
+  met_as line lane v (command.Put pair bytes) (reply.Full refused) opened did met = put_frozen pair (length bytes) v met.0 refused opened did.0 met.1
+  met_as line lane v (command.Put pair bytes) (reply.ReadOnly tries) opened did met =
+      put_frozen pair (length bytes) v (met.0).machine (map as_closed tries) opened did
+      (subst (λ (w : ℕ). Contains (map as_closed tries) (Closed w (met.0).machine)) met.2 (as_named tries met.0 met.1))
+  met_as line lane v (command.Del pair) (reply.ReadOnly tries) opened did met = home_closed_frozen pair v tries opened did.0 met
+  met_as line lane v (command.Compact u m) (reply.ReadOnly tries) opened did met = compact_on_frozen u m v (replica_on c.settings u m) tries did met
+  met_as line lane v request r opened did met = absurd met
+
+  pub met_frozen : (line lane v : ℕ) (item : Item) (r : Reply) → closed c.settings c.k v ≡ None → ItemDid c item r → MetClosed v (line_of line lane item r) → SawFrozen c v
+  met_frozen line lane v (asks.Command request) r opened did met = met_as line lane v request r opened did met
+  met_frozen line lane v asks.Bad r opened did met = absurd met
+
+-- OPEN VOLUMES
+
+module _ {settings : Settings} {k : Known} {items : List LaneItem} {history : History} {t : Known} (h : Came settings k items history t) (item : LaneItem)
+    (among : Contains items item) where
+  -- a line's steps are behind what its lane had seen
+  since : (v : ℕ) (at : ℕ × Step) → Contains (own (course_of h item) v) at → ((course_of h item).from).volumes v ≤ at.0
+  since v at mine =
+      (each_in (λ (x : ℕ × Step). (((course_of h item).from).volumes v ≤ x.0) × (x.0 < ((course_of h item).to).volumes v)) (own (course_of h item) v) at
+      ((answered h item among).steps v) mine).0
+
+  since_one : (v : ℕ) (did : Did) (one : OneStep (course_of h item) v did) → ((course_of h item).from).volumes v ≤ one.place
+  since_one v did one =
+      since v (one.place, one.step) (subst (λ (l : List (ℕ × Step)). Contains l (one.place, one.step)) (sym one.only) (is_first (one.place, one.step) []))
+
+  -- a step that finds its volume thawed
+  one_thawed : (v : ℕ) (did : Did) → v < settings.volumes → (one : OneStep (course_of h item) v did)
+      → ((a b : Standing) → Leads settings v (tag_of item) did a b → IsThawed a) → SawThawed (course_of h item) v
+  one_thawed v did below one thaws =
+      (one.place, since_one v did one, thaws (standing (course_of h item) v one.place) (standing (course_of h item) v (one.place + 1)) (one_leads h item v did below among one))
+
+  last_thawed : (v j : ℕ) (did : Did) → v < settings.volumes → (to : RanTo (course_of h item) v j did)
+      → ((a b : Standing) → Leads settings v (tag_of item) did a b → IsThawed a) → SawThawed (course_of h item) v
+  last_thawed v j did below to thaws =
+      let at : ℕ × Step = (to.place, to.step) in
+      let mine : Contains (own (course_of h item) v) at = last_step (course_of h item) v j did to in (
+        to.place,
+        since v at mine,
+        thaws (standing (course_of h item) v to.place) (standing (course_of h item) v (to.place + 1))
+            (subst (λ (d : Did). Leads settings v (tag_of item) d (standing (course_of h item) v to.place) (standing (course_of h item) v (to.place + 1))) to.is
+            (own_leads h item v below among at mine).0),
+      )
+
+  thawed_at : (v n : ℕ) → ((course_of h item).from).volumes v ≤ n → closing_then (course_of h item) v n ≡ None → SawThawed (course_of h item) v
+  thawed_at v n low opened = (n, low, (thawed_of (volume_then (course_of h item) v n).frozen (drained_of settings k v) opened).0)
+
+  put_open : (pair : Pair) (bytes : List ℕ) (r : Reply) (v : ℕ) → PutDid (course_of h item) pair bytes r → MetOpen v r → SawThawed (course_of h item) v
+  put_open pair bytes (reply.Stored u p d cookie) v did met =
+      subst (SawThawed (course_of h item)) met (one_thawed u (Entered (entry.Put pair cookie bytes)) did.below did.step (λ a b leads. leads.0))
+  put_open pair bytes (reply.Full refused) v did met =
+      let c = course_of h item in
+      let size : ℕ = length bytes in
+      let sees = refusal_seen c pair size (NoRoom v met.0 met.1 met.2) refused did.0 met.3 in
+      let is = refused_room c size sees.0 v met.0 met.1 met.2 (sees.1).moment (sees.1).is in
+      subst (SawThawed c) is.0 (thawed_at sees.0 (sees.1).moment ((sees.1).seen).0 is.1)
+  put_open pair bytes (reply.Failed u m f) v did met =
+      subst (SawThawed (course_of h item)) met (one_thawed u (Pends m (put_entry settings pair bytes) true) did.below did.step (λ a b leads. leads.0))
+  put_open pair bytes r v did met = search
+
+  del_open : (pair : Pair) (r : Reply) (v : ℕ) → DelDid (course_of h item) pair r → MetOpen v r → SawThawed (course_of h item) v
+  del_open pair (reply.Deleted u p d) v did met =
+      subst (SawThawed (course_of h item)) met (one_thawed u (Entered (entry.Del pair)) did.below did.step (λ a b leads. leads.0))
+  del_open pair (reply.Absent u p d) v did met = subst (SawThawed (course_of h item)) met (thawed_at u did.moment (did.seen).0 did.«open»)
+  del_open pair (reply.Failed u m f) v did met =
+      subst (SawThawed (course_of h item)) met (thawed_at u (did.step).place (since_one u did.did did.step) did.«open»)
+  del_open pair r v did met = search
+
+  flush_open : (u m : ℕ) (o : Option ℕ) (r : Reply) (v : ℕ) → replica_on settings u m ≡ o → FlushDid (course_of h item) u m o r → MetOpen v r → SawThawed (course_of h item) v
+  flush_open u m None reply.NoMem v there did met = absurd met
+  flush_open u m None r v there did met = search
+  flush_open u m (Some j) (reply.Flushed u' m' n) v there did met =
+      subst (SawThawed (course_of h item)) (sym (did.0).0 ∙ met) (one_thawed u (Flushes j) (on_machine settings u m j there).0 (did.1).step (λ a b leads. leads.0))
+  flush_open u m (Some j) (reply.Failed u' m' f) v there did met =
+      subst (SawThawed (course_of h item)) (sym (did.0).0 ∙ met) (one_thawed u (Sticks j) (on_machine settings u m j there).0 (did.1).step (λ a b leads. leads.0))
+  flush_open u m (Some j) reply.NoMem v there did met = absurd met
+  flush_open u m (Some j) r v there did met = search
+
+  failed_open : (u m j f : ℕ) → u < settings.volumes → CompactFailed (course_of h item) u m j f → SawThawed (course_of h item) u
+  failed_open u m j f below (inl began) = ((began.step).place, since_one u Tries began.step, began.thawed)
+  failed_open u m j f below (inr (inl ends)) = last_thawed u j (Ends j) below ends.0 (λ a b leads. leads.0)
+  failed_open u m j f below (inr (inr (inl poises))) = last_thawed u j (Poises m j) below poises.0 (λ a b leads. leads.0)
+  failed_open u m j f below (inr (inr (inr until))) = ((until.ran).ended, ((until.ran).seen).0, until.thawed)
+
+  pub compact_open : (u m : ℕ) (o : Option ℕ) (r : Reply) (v : ℕ) → replica_on settings u m ≡ o → CompactDid (course_of h item) u m o r → MetOpen v r → SawThawed (course_of h item) v
+  compact_open u m None reply.NoMem v there did met = absurd met
+  compact_open u m None r v there did met = search
+  compact_open u m (Some j) (reply.Compacted u' m' g) v there did met =
+      let done = did.1 in
+      subst (SawThawed (course_of h item)) (sym (did.0).0 ∙ met)
+      (last_thawed u j (Swaps j done.0 done.1 false) (on_machine settings u m j there).0 done.2 (λ a b leads. leads.0))
+  compact_open u m (Some j) (reply.Busy u' m' g) v there did met = let seen = did.2 in subst (SawThawed (course_of h item)) (sym (did.0).0 ∙ met) (seen.0, (seen.1).0, seen.2)
+  compact_open u m (Some j) (reply.Worn u' m') v there did met = let seen = did.2 in subst (SawThawed (course_of h item)) (sym (did.0).0 ∙ met) (seen.0, (seen.1).0, seen.2)
+  compact_open u m (Some j) (reply.Failed u' m' f) v there did met =
+      subst (SawThawed (course_of h item)) (sym (did.0).0 ∙ met) (failed_open u m j f (on_machine settings u m j there).0 did.1)
+  compact_open u m (Some j) reply.NoMem v there did met = absurd met
+  compact_open u m (Some j) r v there did met = search
+
+  show_open : (start : ℕ) (pair : Pair) (cookie : Cookie) (r : Reply) (v : ℕ) → ShowDid (course_of h item) start pair cookie r → MetOpen v r → SawThawed (course_of h item) v
+  show_open start pair cookie reply.NoMem v did met = absurd met
+  show_open start pair cookie r v did met = search
+
+  get_open : (url : UrlParts) (o : Option ℕ) (r : Reply) (v : ℕ) → GetDid (course_of h item) url o r → MetOpen v r → SawThawed (course_of h item) v
+  get_open url None reply.NoMem v did met = absurd met
+  get_open url None r v did met = search
+  get_open url (Some start) (reply.Moved u d) v did met = absurd met
+  get_open url (Some start) reply.NoMem v did met = absurd met
+  get_open url (Some start) r v did met = show_open start url.pair url.cookie r v did.0 met
+
+  url_open : (pair : Pair) (r : Reply) (v : ℕ) → UrlDid (course_of h item) pair r → MetOpen v r → SawThawed (course_of h item) v
+  url_open pair reply.NoMem v did met = absurd met
+  url_open pair r v did met = search
+
+  command_open : (request : Command) (r : Reply) (v : ℕ) → CommandDid (course_of h item) request r → MetOpen v r → SawThawed (course_of h item) v
+  command_open (command.Put pair bytes) r v did met = put_open pair bytes r v did met
+  command_open (command.Read pair cookie) r v did met = show_open (start_of settings (tag_of item)) pair cookie r v did met
+  command_open (command.Get url) r v did met = get_open url (replica_on settings url.volume url.machine) r v did met
+  command_open (command.Del pair) r v did met = del_open pair r v did met
+  command_open (command.Url pair) r v did met = url_open pair r v did met
+  command_open (command.Flush u m) r v did met = flush_open u m (replica_on settings u m) r v refl did met
+  command_open (command.Compact u m) r v did met = compact_open u m (replica_on settings u m) r v refl did met
+  command_open _ r v did met = absurd did
+
+  -- a line that met a volume open saw it thawed
+  pub met_open : (asked : Item) (r : Reply) (v : ℕ) → ItemDid (course_of h item) asked r → MetOpen v r → SawThawed (course_of h item) v
+  met_open (asks.Command request) r v did met = command_open request r v did met
+  met_open asks.Bad r v did met = absurd (subst (MetOpen v) did.0 met)
+
+-- LANES
+
+-- the line that froze a volume, if one did, saw it thawed and then frozen
+abbrev pub FrostSeen : {settings : Settings} {k : Known} {items : List LaneItem} {history : History} {t : Known} → Came settings k items history t → ℕ → Option LaneItem → Type 0
+FrostSeen h v froze = (item : LaneItem) → froze ≡ Some item → SawFrozen (course_of h item) v × SawThawed (course_of h item) v
+
+pub lanes_meet : {settings : Settings} {k : Known} {items : List LaneItem} {history : History} {t : Known} (h : Came settings k items history t)
+    (v : ℕ) → v < settings.volumes → (froze : Option LaneItem) → FrostSeen h v froze
+    → EachPair (λ a b. a.lane ≡ b.lane → MetFrozen settings k v froze a → MetThawed v froze b → ⊥) items
+lanes_meet {settings} {k} {items} {history} {t} h v below froze seen =
+    pair_by (λ a b. a.lane ≡ b.lane → IsLater (h.to a.line) (h.from b.line)) (λ a b. a.lane ≡ b.lane → MetFrozen settings k v froze a → MetThawed v froze b → ⊥) items
+    (λ a b in_a in_b later same met thawed.
+    let first : SawFrozen (course_of h a) v = elim met [
+      | inl is ↦ (seen a is).0
+      | inr closed ↦ met_frozen (course_of h a) a.line a.lane v a.item a.reply closed.0 (answered h a in_a).did closed.1
+    ] in
+    let then : SawThawed (course_of h b) v = elim thawed [
+      | inl is ↦ (seen b is).1
+      | inr opened ↦ met_open h b in_b b.item b.reply v (answered h b in_b).did opened
+    ] in
+    let apart = (later same).volumes v in
+    let still = frozen_stays h v first.0 then.0 first.1 below (omega (arith, first.2, then.1, apart)) first.3 in
+    none-some first.1 (sym then.2 ∙ still))
+    h.«order»

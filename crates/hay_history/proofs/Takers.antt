@@ -1,0 +1,78 @@
+-- The try that a line saw take a photo may have got the row of its pair, and so has a row that it left pending.
+use Rattle.std.proofs.Common.{◌≡◌, ℕ, ◌<◌, ◌≤◌, ◌+◌, false, List, [], length, Contains, None, refl, sym, ap, subst, ◌∙◌, inl, inr, arith}
+use Rattle.std.specs.Prelude.{◌==◌, not, take_while}
+use Rattle.std.specs.List.{AllByRecursion as Each}
+use Rattle.std.proofs.lemmas.Bool.{cases_Bool, true≢false}
+use Rattle.hay_needle.specs.declared.needle.Pair.{Pair}
+use Rattle.hay_needle.specs.declared.settings.Settings.{Settings}
+use Rattle.hay_reply.specs.declared.Refused.{Refused}
+use Rattle.hay_legal.specs.declared.known.DirKnown.{DirKnown}
+use Rattle.hay_legal.specs.declared.known.Known.{Known}
+use Rattle.hay_legal.specs.declared.turn.LaneItem.{LaneItem}
+use Rattle.hay_legal.specs.Known.{all_tries, home_in, home_of}
+use Rattle.hay_legal.specs.Blocks.{MayGetRow, MayRefuse, RowIsPending, tag_of}
+use Rattle.hay_legal.proofs.Subject.Effects.{each_try}
+use Rattle.hay_history.specs.Steps.{LeadsRows, RowDid, RowStep}
+use Rattle.hay_history.specs.Histories.{History, SeesRefusal, SeesTaker, first_rows, own_rows, rows_standing}
+use Rattle.hay_history.specs.Commands.{Came, RowPends}
+use Rattle.hay_history.proofs.Histories.{along_rows}
+use Rattle.hay_history.proofs.Lists.{each_both, each_from, each_take, is_first}
+use Rattle.hay_history.proofs.Lines.{answered, course_of, own_leads_rows}
+use Rattle.hay_history.proofs.Volumes.{refused_then, takes_then}
+use Rattle.hay_history.proofs.Rows.{StaysFrozen, no_home_before, rows_frozen_then, rows_moment, stays_frozen_step, stays_frozen_trans}
+
+-- each of the tries is a volume
+tries_below : (settings : Settings) (pair : Pair) → Each (λ v. v < settings.volumes) (all_tries settings pair)
+tries_below settings pair = each_from (λ v. v < settings.volumes) (all_tries settings pair) (each_try settings pair)
+
+module _ {settings : Settings} {k : Known} {items : List LaneItem} {history : History} {t : Known} (h : Came settings k items history t) (item : LaneItem) where
+  tries_refused : (size : ℕ) (vs : List ℕ) → Each (λ v. v < settings.volumes) vs
+      → Each (λ v. (refused : Refused) × SeesRefusal (course_of h item) size v refused) vs
+      → Each (λ v. (refused : Refused) × MayRefuse settings k items t size v refused) vs
+  tries_refused size vs below each =
+      each_both (λ v. v < settings.volumes) (λ v. (refused : Refused) × SeesRefusal (course_of h item) size v refused)
+      (λ v. (refused : Refused) × MayRefuse settings k items t size v refused)
+      (λ v within sees. (sees.0, refused_then h v (sees.1).moment size sees.0 within (sees.1).is))
+      vs below each
+
+  pub gets_row : (pair : Pair) (size v : ℕ) → home_of k pair ≡ None → SeesTaker (course_of h item) pair size v → MayGetRow settings k items t pair size v
+  gets_row pair size v missing sees = record {
+    missing = missing;
+    tried = sees.tried;
+    takes = takes_then h v sees.moment size (each_try settings pair v sees.tried) sees.takes;
+    before = tries_refused size (take_while (λ u. not (u == v)) (all_tries settings pair))
+        (each_take (λ v. v < settings.volumes) _ (all_tries settings pair) (tries_below settings pair)) sees.before;
+  }
+
+  -- a Directory that is open at a moment was not frozen before the block
+  pub open_rows : (n : ℕ) → ((rows_moment k history n).directory).frozen ≡ false → k.directory.frozen ≡ false
+  open_rows n thawed = elim (cases_Bool k.directory.frozen) [
+    | inr before ↦ before
+    | inl frozen ↦
+        let kept = along_rows StaysFrozen (first_rows k) history.directory (λ a frozen. refl) stays_frozen_trans stays_frozen_step h.follows_rows 0 n (omega arith) frozen in
+        absurd (true≢false (sym (ap (λ (d : DirKnown). d.frozen) kept ∙ frozen) ∙ thawed))
+  ]
+
+  -- A row that a line left pending is so still, and the Directory is frozen.
+  pub row_left : (pair : Pair) (size : ℕ) → Contains items item → (pends : RowPends (course_of h item) pair size)
+      → (k.directory.frozen ≡ false) × MayGetRow settings k items t pair size pends.v × RowIsPending t (tag_of item) pair pends.v
+  row_left pair size among pends =
+      let c = course_of h item in
+      let step = pends.step in
+      let at : ℕ × RowStep = (step.place, step.step) in
+      let own : Contains (own_rows c) at = subst (λ (ats : List (ℕ × RowStep)). Contains ats at) (sym step.only) (is_first at []) in
+      let leads = own_leads_rows h item among at own in
+      let did = subst (λ (did : RowDid). LeadsRows (tag_of item) did (rows_standing c step.place) (rows_standing c (step.place + 1))) step.is leads.0 in
+      let seen = subst (λ (ats : List (ℕ × RowStep)). Each (λ at. ((c.from).rows ≤ at.0) × (at.0 < (c.to).rows)) ats) step.only (answered h item among).rows in
+      let until : step.place < (c.to).rows = seen.0.1 in
+      let missing : home_of k pair ≡ None = no_home_before h item pair (length ((rows_standing c step.place).directory).rows)
+      (record { moment = step.place; seen = (seen.0.0, omega (arith, until)); front = refl; is = did.0.1 }) in
+      let left = rows_frozen_then h (step.place + 1) (ap (λ (d : DirKnown). d.frozen) did.1) in (
+        open_rows step.place did.0.0,
+        gets_row pair size pends.v missing pends.taker,
+        (
+          ap (λ (d : DirKnown). home_in d.rows pair) (left ∙ did.1) ∙ did.0.1,
+          ap (λ (d : DirKnown). d.frozen) (left ∙ did.1),
+          ap (λ (d : DirKnown). d.pending) (left ∙ did.1),
+        ),
+      )

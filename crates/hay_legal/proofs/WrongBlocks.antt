@@ -1,0 +1,455 @@
+-- Blocks of lanes that are not legal, each for one wrong reply or for one wrong thing that it leaves.
+use Rattle.std.specs.Prelude.{◌≡◌, ℕ, zero, suc, ◌+◌, ◌-◌, ◌^◌, ◌<◌, ◌≤◌, ◌==◌, ◌&&◌, ◌||◌, not, Bool, true, false, List, [], ◌∷◌, length, take_while, Contains, Option, Some, None, flat_map, option_map}
+use Rattle.std.specs.List.{AllByRecursion as Each, AllZip}
+use Rattle.std.proofs.Common.{refl, sym, ap, subst, inl, inr, ◌∙◌, arith, sum_by}
+use Rattle.std.proofs.lemmas.Bool.{eq-eqb}
+use Rattle.std.proofs.lemmas.List.Elements.{All-contains, All-from_recursion, Contains-append_left, Contains-append_right}
+use Rattle.std.proofs.lemmas.Option.{none-some, same_Some}
+use Rattle.std.proofs.lemmas.List.Sums.{sum_by-cons}
+use Rattle.hay_needle.specs.declared.needle.Pair.{Pair}
+use Rattle.hay_needle.specs.declared.needle.Cookie.{Cookie}
+use Rattle.hay_needle.specs.declared.settings.Settings.{Settings}
+use Rattle.hay_needle.specs.Sizes.{total_of_lem}
+use Rattle.hay_script.specs.declared.Command.{Command}
+use Rattle.hay_script.specs.declared.Command.TheVariants as command
+use Rattle.hay_reply.specs.declared.Refused.{Refused}
+use Rattle.hay_reply.specs.declared.Refused.TheVariants.{NoRoom, Closed}
+use Rattle.hay_reply.specs.declared.Reply.{Reply}
+use Rattle.hay_reply.specs.declared.Reply.TheVariants as reply
+use Rattle.hay_core.specs.declared.entry.CoreTag.{CoreTag}
+use Rattle.hay_core.specs.declared.entry.Entry.{Entry}
+use Rattle.hay_legal.specs.declared.known.HomeRow.{HomeRow}
+use Rattle.hay_legal.specs.declared.known.Known.{Known}
+use Rattle.hay_legal.specs.declared.known.Pending.{Pending}
+use Rattle.hay_legal.specs.declared.known.PendingRow.{PendingRow}
+use Rattle.hay_legal.specs.declared.known.Run.{Run}
+use Rattle.hay_legal.specs.declared.turn.Item.TheVariants as asks
+use Rattle.hay_legal.specs.declared.turn.LaneItem.{LaneItem}
+use Rattle.hay_legal.specs.declared.turn.LogNote.{LogNote}
+use Rattle.hay_legal.specs.declared.turn.RowNote.{RowNote}
+use Rattle.hay_legal.specs.Known.{CameUp, all_tries, closed, closed_by, drained_of, fault_count, home_of, machine_of, replica_at, replica_on, replicas_of, slot_of, volume_at}
+use Rattle.hay_legal.specs.Blocks.{CompactIsLegal, DeletesOn, DiskIsLegal, FlushIsLegal, FreezeIsLegal, Freezes, HomeInBlock, IsNewRow, LegalBlock, LineIsLegal, MayHaveFrozen, MayRefuse, ReplicaIsLegal, RefusesPut, SticksBy, VolumeIsLegal, WasFrozen, WasSwapped, disk_prints, froze_at_compact, highest_end, is_compacted, is_failed, new_rows, pending_behind, row_faults, row_failed}
+use Rattle.hay_legal.proofs.Subject.Entries.{each_in_range}
+
+-- LISTS
+
+each_in : {X : Type 0} (P : X → Type 0) (xs : List X) (x : X) → Each P xs → Contains xs x → P x
+each_in P xs x each at = All-contains P xs x (All-from_recursion P xs each) at
+
+the_only : (x y : LaneItem) → Contains (x ∷ []) y → x ≡ y
+the_only x y (zero, below, is) = is
+the_only x y (suc i, below, is) = absurd (omega (arith, below))
+
+-- what stands in the second list stands beside something in the first
+zip_beside : {A B : Type 0} (R : A → B → Type 0) (xs : List A) (ys : List B) (y : B) → AllZip R xs ys → Contains ys y → (x : A) × R x y
+zip_beside R [] [] y zip at = absurd (omega (arith, at.1))
+zip_beside R (x ∷ xs) [] y zip at = absurd zip
+zip_beside R [] (z ∷ ys) y zip at = absurd zip
+zip_beside R (x ∷ xs) (z ∷ ys) y zip (zero, below, is) = (x, subst (R x) is zip.0)
+zip_beside R (x ∷ xs) (z ∷ ys) y zip (suc i, below, is) = zip_beside R xs ys y zip.1 (i, omega (arith, below), is)
+
+abbrev answered : ℕ → ℕ → Command → Reply → LaneItem
+answered lane line asked answer = record { line = line; lane = lane; item = asks.Command asked; reply = answer }
+
+-- what a line prints of the Directory's disk is printed in the block
+printed_in : (xs : List LaneItem) (x : LaneItem) (f : ℕ) → Contains xs x → Contains (row_faults x.reply) f → Contains (flat_map (λ item. row_faults item.reply) xs) f
+printed_in [] x f at printed = absurd (omega (arith, at.1))
+printed_in (y ∷ xs) x f (zero, below, is) printed =
+    Contains-append_left (row_faults y.reply) (flat_map (λ item. row_faults item.reply) xs) f (subst (λ (z : LaneItem). Contains (row_faults z.reply) f) (sym is) printed)
+printed_in (y ∷ xs) x f (suc i, below, is) printed =
+    Contains-append_right (row_faults y.reply) (flat_map (λ item. row_faults item.reply) xs) f (printed_in xs x f (i, omega (arith, below), is) printed)
+
+module _ {settings : Settings} {k : Known} {items : List LaneItem} {logs : List LogNote} {rows : RowNote} {t : Known} (b : LegalBlock settings k items logs rows t) where
+  line : (item : LaneItem) → Contains items item → LineIsLegal settings k items t item
+  line item among = each_in (LineIsLegal settings k items t) items item b.lines among
+
+  volume : (v : ℕ) → v < settings.volumes → VolumeIsLegal settings k items t v
+  volume v below = each_in_range (VolumeIsLegal settings k items t) 0 settings.volumes v b.volumes (omega arith) (omega (arith, below))
+
+  replica : (v j : ℕ) → (below : v < settings.volumes) → j < settings.replicas
+      → ReplicaIsLegal settings k items t v (volume v below).froze j (replica_at (volume_at k v) j) (replica_at (volume_at t v) j)
+  replica v j below within =
+      each_in_range (λ i. ReplicaIsLegal settings k items t v (volume v below).froze i (replica_at (volume_at k v) i) (replica_at (volume_at t v) i)) 0 settings.replicas j
+      (volume v below).replicas (omega arith) (omega (arith, within))
+
+  -- VOLUMES THAT WERE CLOSED BEFORE THE BLOCK
+
+  never_closed : (v m : ℕ) → closed settings k v ≡ None → closed settings k v ≡ Some m → ⊥
+  never_closed v m thawed is = none-some m (sym thawed ∙ is)
+
+  stored_on_closed : (lane n v m p d : ℕ) (c : Cookie) (pair : Pair) (bytes : List ℕ) → closed settings k v ≡ Some m
+      → Contains items (answered lane n (command.Put pair bytes) (reply.Stored v p d c)) → ⊥
+  stored_on_closed lane n v m p d c pair bytes is among = never_closed v m (line _ among).2.0 is
+
+  put_failed_on_closed : (lane n v m m' f : ℕ) (pair : Pair) (bytes : List ℕ) → closed settings k v ≡ Some m
+      → Contains items (answered lane n (command.Put pair bytes) (reply.Failed v m' f)) → ⊥
+  put_failed_on_closed lane n v m m' f pair bytes is among = never_closed v m (line _ among).2.0 is
+
+  no_room_on_closed : (size u v m m' end need : ℕ) → closed settings k v ≡ Some m → MayRefuse settings k items t size u (NoRoom v m' end need) → ⊥
+  no_room_on_closed size u v m m' end need is may = never_closed u m may.1 (ap (closed settings k) (sym may.0) ∙ is)
+
+  full_on_closed : (lane n v m m' end need : ℕ) (refused : List Refused) (pair : Pair) (bytes : List ℕ) → closed settings k v ≡ Some m
+      → Contains refused (NoRoom v m' end need) → Contains items (answered lane n (command.Put pair bytes) (reply.Full refused)) → ⊥
+  full_on_closed lane n v m m' end need refused pair bytes is group among = by refused group (line _ among).0
+    where
+      by : (refused : List Refused) → Contains refused (NoRoom v m' end need) → RefusesPut settings k items t pair bytes refused → ⊥
+      by refused group (inl tries) =
+          let beside = zip_beside (MayRefuse settings k items t (length bytes)) (all_tries settings pair) refused (NoRoom v m' end need) tries.1 group in
+          no_room_on_closed (length bytes) beside.0 v m m' end need is beside.1
+      by [] group (inr home) = absurd home
+      by (one ∷ []) (zero, below, same) (inr home) =
+          no_room_on_closed (length bytes) home.0 v m m' end need is (subst (MayRefuse settings k items t (length bytes) home.0) same home.2)
+      by (one ∷ []) (suc i, below, same) (inr home) = absurd (omega (arith, below))
+      by (one ∷ more ∷ rest) group (inr home) = absurd home
+
+  deleted_on_closed : (lane n v m p d : ℕ) (pair : Pair) → closed settings k v ≡ Some m
+      → Contains items (answered lane n (command.Del pair) (reply.Deleted v p d)) → ⊥
+  deleted_on_closed lane n v m p d pair is among = never_closed v m (line _ among).1 is
+
+  absent_on_closed : (lane n v m p d : ℕ) (pair : Pair) → closed settings k v ≡ Some m
+      → Contains items (answered lane n (command.Del pair) (reply.Absent v p d)) → ⊥
+  absent_on_closed lane n v m p d pair is among = never_closed v m (line _ among).1 is
+
+  del_failed_on_closed : (lane n v m m' f : ℕ) (pair : Pair) → closed settings k v ≡ Some m
+      → Contains items (answered lane n (command.Del pair) (reply.Failed v m' f)) → ⊥
+  del_failed_on_closed lane n v m m' f pair is among = never_closed v m (line _ among).2 is
+
+  -- FLUSHES AND COMPACTS OF FROZEN VOLUMES
+
+  never_frozen : (v m : ℕ) → (volume_at k v).frozen ≡ None → (volume_at k v).frozen ≡ Some m → ⊥
+  never_frozen v m thawed is = none-some m (sym thawed ∙ is)
+
+  flush_on : (lane n v m j : ℕ) (r : Reply) → replica_on settings v m ≡ Some j → Contains items (answered lane n (command.Flush v m) r)
+      → FlushIsLegal settings k items t v m (Some j) r
+  flush_on lane n v m j r there among = subst (λ (o : Option ℕ). FlushIsLegal settings k items t v m o r) there (line _ among)
+
+  compact_on : (lane n v m j : ℕ) (r : Reply) → replica_on settings v m ≡ Some j → Contains items (answered lane n (command.Compact v m) r)
+      → CompactIsLegal settings k items t lane v m (Some j) r
+  compact_on lane n v m j r there among = subst (λ (o : Option ℕ). CompactIsLegal settings k items t lane v m o r) there (line _ among)
+
+  flushed_on_frozen : (lane n v m j m' v' m'' count : ℕ) → (volume_at k v).frozen ≡ Some m' → replica_on settings v m ≡ Some j
+      → Contains items (answered lane n (command.Flush v m) (reply.Flushed v' m'' count)) → ⊥
+  flushed_on_frozen lane n v m j m' v' m'' count is there among = never_frozen v m' (flush_on lane n v m j _ there among).1.0 is
+
+  flush_failed_on_frozen : (lane n v m j m' v' m'' f : ℕ) → (volume_at k v).frozen ≡ Some m' → replica_on settings v m ≡ Some j
+      → Contains items (answered lane n (command.Flush v m) (reply.Failed v' m'' f)) → ⊥
+  flush_failed_on_frozen lane n v m j m' v' m'' f is there among = never_frozen v m' (flush_on lane n v m j _ there among).1.0 is
+
+  flushed_on_stuck : (lane n v m j v' m' count : ℕ) → (replica_at (volume_at k v) j).stuck ≡ true → (WasSwapped k t v j → ⊥) → replica_on settings v m ≡ Some j
+      → Contains items (answered lane n (command.Flush v m) (reply.Flushed v' m' count)) → ⊥
+  flushed_on_stuck lane n v m j v' m' count stuck never there among = elim (flush_on lane n v m j _ there among).1.1 [
+    | inl loose ↦ let clash : true ≡ false = sym stuck ∙ loose in absurd cc
+    | inr swapped ↦ never swapped
+  ]
+
+  compacted_on_frozen : (lane n v m j m' v' m'' g : ℕ) → (volume_at k v).frozen ≡ Some m' → replica_on settings v m ≡ Some j
+      → Contains items (answered lane n (command.Compact v m) (reply.Compacted v' m'' g)) → ⊥
+  compacted_on_frozen lane n v m j m' v' m'' g is there among = never_frozen v m' (compact_on lane n v m j _ there among).1 is
+
+  busy_on_frozen : (lane n v m j m' v' m'' g : ℕ) → (volume_at k v).frozen ≡ Some m' → replica_on settings v m ≡ Some j
+      → Contains items (answered lane n (command.Compact v m) (reply.Busy v' m'' g)) → ⊥
+  busy_on_frozen lane n v m j m' v' m'' g is there among = never_frozen v m' (compact_on lane n v m j _ there among).1 is
+
+  worn_on_frozen : (lane n v m j m' v' m'' : ℕ) → (volume_at k v).frozen ≡ Some m' → replica_on settings v m ≡ Some j
+      → Contains items (answered lane n (command.Compact v m) (reply.Worn v' m'')) → ⊥
+  worn_on_frozen lane n v m j m' v' m'' is there among = never_frozen v m' (compact_on lane n v m j _ there among).1 is
+
+  compact_failed_on_frozen : (lane n v m j m' v' m'' f : ℕ) → (volume_at k v).frozen ≡ Some m' → replica_on settings v m ≡ Some j
+      → Contains items (answered lane n (command.Compact v m) (reply.Failed v' m'' f)) → ⊥
+  compact_failed_on_frozen lane n v m j m' v' m'' f is there among = never_frozen v m' (compact_on lane n v m j _ there among).1 is
+
+  -- COUNTS
+
+  -- a machine that has no replica of the volume is blamed
+  put_failed_elsewhere : (lane n v m f : ℕ) (pair : Pair) (bytes : List ℕ) → replica_on settings v m ≡ None
+      → Contains items (answered lane n (command.Put pair bytes) (reply.Failed v m f)) → ⊥
+  put_failed_elsewhere lane n v m f pair bytes none among = let there = (line _ among).1 in none-some there.0 (sym none ∙ there.1)
+
+  del_failed_elsewhere : (lane n v m f : ℕ) (pair : Pair) → replica_on settings v m ≡ None
+      → Contains items (answered lane n (command.Del pair) (reply.Failed v m f)) → ⊥
+  del_failed_elsewhere lane n v m f pair none among = let there = (line _ among).1 in none-some there.0 (sym none ∙ there.1)
+
+  -- a replica is laid to its disk at a count above what the disk's came to
+  disk_blamed_above : (v j f : ℕ) → v < settings.volumes → j < settings.replicas → fault_count t (slot_of settings v j) < f
+      → Contains (flat_map (λ item. disk_prints v (machine_of settings v j) item.reply) items) f → ⊥
+  disk_blamed_above v j f below within above printed =
+      let disks = each_in_range (λ u. Each (DiskIsLegal settings k items t (b.counts).to_arm u) (replicas_of settings)) 0 settings.volumes v (b.counts).disk (omega arith) (omega (arith, below)) in
+      let disk = each_in_range (DiskIsLegal settings k items t (b.counts).to_arm v) 0 settings.replicas j disks (omega arith) (omega (arith, within)) in
+      let came = each_in (λ f. CameUp (fault_count k (slot_of settings v j)) f (fault_count t (slot_of settings v j)))
+      (flat_map (λ item. disk_prints v (machine_of settings v j) item.reply) items) f disk.0.0 printed in
+      let high : f ≤ fault_count t (slot_of settings v j) = came.1 in
+      omega (arith, above, high)
+
+  -- the Directory's disk is blamed, and its count did not rise
+  counted : (xs : List LaneItem) (x : LaneItem) → Contains xs x → row_failed x ≤ sum_by row_failed xs
+  counted [] x at = absurd (omega (arith, at.1))
+  counted (y ∷ xs) x (zero, below, is) =
+      let total = sum_by-cons row_failed y xs in
+      let same : row_failed y ≡ row_failed x = ap row_failed is in
+      omega (arith, total, same)
+  counted (y ∷ xs) x (suc i, below, is) =
+      let total = sum_by-cons row_failed y xs in
+      let rest = counted xs x (i, omega (arith, below), is) in
+      omega (arith, total, rest)
+
+  rows_failed_without_fault : (lane n f : ℕ) (pair : Pair) (bytes : List ℕ) → fault_count t 0 ≡ fault_count k 0 → fault_count k 0 < 2 ^ 64 - 1
+      → Contains items (answered lane n (command.Put pair bytes) (reply.FailedDir f)) → ⊥
+  rows_failed_without_fault lane n f pair bytes same low among =
+      let one : 1 ≤ sum_by row_failed items = counted items _ among in
+      elim ((b.counts).directory).1 [
+        | inl rose ↦ omega (arith, rose, one, same)
+        | inr end ↦ omega (arith, end, low, same)
+      ]
+
+  rows_blamed_above : (lane n f : ℕ) (pair : Pair) (bytes : List ℕ) → fault_count t 0 < f
+      → Contains items (answered lane n (command.Put pair bytes) (reply.FailedDir f)) → ⊥
+  rows_blamed_above lane n f pair bytes above among =
+      let came = each_in (λ g. CameUp (fault_count k 0) g (fault_count t 0)) (flat_map (λ item. row_faults item.reply) items) f ((b.counts).directory).0.0
+      (printed_in items _ f among (zero, omega arith, refl)) in
+      let high : f ≤ fault_count t 0 = came.1 in
+      omega (arith, above, high)
+
+  -- ROWS
+
+  -- a volume that was open to the end of the block, and had room on each replica, refused no photo of this size
+  open_refuses : (size u : ℕ) (refused : Refused) → closed settings k u ≡ None → (volume_at t u).frozen ≡ None
+      → ((j : ℕ) → highest_end k t u j + total_of_lem size + 8 ≤ settings.capacity) → MayRefuse settings k items t size u refused → ⊥
+  open_refuses size u (NoRoom u' m end need) thawed still fits may =
+      let j : ℕ = (may.2).0 in
+      let low : highest_end k t u j + total_of_lem size + 8 ≤ settings.capacity = fits j in
+      let high : end ≤ highest_end k t u j = ((may.2).2).1 in
+      omega (arith, low, high, may.3, may.4)
+  open_refuses size u (Closed u' m) thawed still fits may = elim may.1 [
+    | inl before ↦ never_closed u m thawed before
+    | inr frozen ↦ none-some m (sym still ∙ frozen)
+  ]
+
+  -- a new row whose pair skipped such a try
+  row_skips_try : (row : HomeRow) (u : ℕ) → Contains (new_rows k t) row → Contains (take_while (λ w. not (w == row.volume)) (all_tries settings row.pair)) u
+      → closed settings k u ≡ None → (volume_at t u).frozen ≡ None
+      → ((bytes : List ℕ) (item : LaneItem) → Contains items item → item.item ≡ asks.Command (command.Put row.pair bytes)
+      → (j : ℕ) → highest_end k t u j + total_of_lem (length bytes) + 8 ≤ settings.capacity)
+      → ⊥
+  row_skips_try row u added skipped thawed still fits =
+      let is = (zip_beside (IsNewRow settings k items t) rows.rows (new_rows k t) row (b.homes).each added).1 in
+      let may = each_in (λ w. (refused : Refused) × MayRefuse settings k items t (length is.bytes) w refused)
+      (take_while (λ w. not (w == row.volume)) (all_tries settings row.pair)) u (is.gets).before skipped in
+      open_refuses (length is.bytes) u may.0 thawed still (fits is.bytes is.item is.among is.put) may.1
+
+  -- a new row where the Directory was frozen before the block
+  row_added_to_frozen : (row : HomeRow) → Contains (new_rows k t) row → k.directory.frozen ≡ true → ⊥
+  row_added_to_frozen row added frozen =
+      let is = (zip_beside (IsNewRow settings k items t) rows.rows (new_rows k t) row (b.homes).each added).1 in
+      let clash : true ≡ false = sym frozen ∙ is.«open» in absurd cc
+
+  rows_failed_without_pending : (lane n f : ℕ) (pair : Pair) (bytes : List ℕ) → t.directory.pending ≡ None
+      → Contains items (answered lane n (command.Put pair bytes) (reply.FailedDir f)) → ⊥
+  rows_failed_without_pending lane n f pair bytes none among = none-some _ (sym none ∙ (line _ among).1.2.2)
+
+  -- the row that is left pending is for a volume that is no try of its pair
+  row_pends_for_no_try : (tag : CoreTag) (pair : Pair) (v : ℕ) → k.directory.frozen ≡ false → t.directory.frozen ≡ true
+      → t.directory.pending ≡ Some (record { tag = tag; row = record { pair = pair; volume = v } }) → (Contains (all_tries settings pair) v → ⊥) → ⊥
+  row_pends_for_no_try tag pair v before frozen pending never = elim b.directory [
+    | inl same ↦ let clash : true ≡ false = sym frozen ∙ same.0 ∙ before in absurd cc
+    | inr froze ↦
+        let same : record { pair = froze.pair; volume = froze.volume } ≡ record { pair = pair; volume = v } =
+        ap (λ (p : PendingRow). p.row) (same_Some _ _ (sym (froze.pending).2 ∙ pending)) in
+        never (subst (λ (r : HomeRow). Contains (all_tries settings r.pair) r.volume) same (froze.gets).tried)
+  ]
+
+  -- the Directory is frozen though each put that may have frozen it was of a pair with a home
+  rows_frozen_by_settled : k.directory.frozen ≡ false → t.directory.frozen ≡ true
+      → ((item : LaneItem) (pair : Pair) (bytes : List ℕ) → Contains items item → item.item ≡ asks.Command (command.Put pair bytes) → MayHaveFrozen item.reply
+      → (v : ℕ) × (home_of k pair ≡ Some v))
+      → ⊥
+  rows_frozen_by_settled before frozen settled = elim b.directory [
+    | inl same ↦ let clash : true ≡ false = sym frozen ∙ same.0 ∙ before in absurd cc
+    | inr froze ↦
+        let home = settled froze.item froze.pair froze.bytes froze.among froze.put froze.reply in
+        none-some home.0 (sym (froze.gets).missing ∙ home.1)
+  ]
+
+  -- FREEZES
+
+  put_failed_without_pending : (lane n v m f : ℕ) (pair : Pair) (bytes : List ℕ) → (volume_at t v).pending ≡ None
+      → Contains items (answered lane n (command.Put pair bytes) (reply.Failed v m f)) → ⊥
+  put_failed_without_pending lane n v m f pair bytes none among = none-some _ (sym none ∙ (line _ among).3.1)
+
+  put_failed_without_freeze : (lane n v m f : ℕ) (pair : Pair) (bytes : List ℕ) → (volume_at t v).frozen ≡ None
+      → Contains items (answered lane n (command.Put pair bytes) (reply.Failed v m f)) → ⊥
+  put_failed_without_freeze lane n v m f pair bytes none among = none-some m (sym none ∙ (line _ among).3.0)
+
+  -- the line that froze a volume
+  froze_by : (v m : ℕ) (below : v < settings.volumes) → (volume_at k v).frozen ≡ None → (volume_at t v).frozen ≡ Some m
+      → (item : LaneItem) × ((volume v below).froze ≡ Some item) × WasFrozen settings k items t v item
+  froze_by v m below before frozen = by (volume v below).froze refl (volume v below).freeze
+    where
+      by : (o : Option LaneItem) → (volume v below).froze ≡ o → FreezeIsLegal settings k items t v o
+          → (item : LaneItem) × ((volume v below).froze ≡ Some item) × WasFrozen settings k items t v item
+      by None is kept = absurd (none-some m (sym before ∙ sym kept.0 ∙ frozen))
+      by (Some item) is froze = (item, is, froze)
+
+  -- REPLICAS
+
+  -- an index is stuck behind a swap though no flush failed
+  stuck_behind_swap : (v j : ℕ) → v < settings.volumes → j < settings.replicas → WasSwapped k t v j → (replica_at (volume_at t v) j).stuck ≡ true
+      → ((item : LaneItem) → Contains items item → SticksBy v (machine_of settings v j) item → ⊥) → ⊥
+  stuck_behind_swap v j below within swapped stuck never = elim (replica v j below within).stuck [
+    | inl same ↦ let number = same.1 in omega (arith, swapped, number)
+    | inr some ↦ elim some [
+      | inl flush ↦ never flush.1 flush.2 flush.3
+      | inr loose ↦ let clash : true ≡ false = sym stuck ∙ loose.0 in absurd cc
+    ]
+  ]
+
+  flush_failed_without_stuck : (lane n v m j v' m' f : ℕ) → (replica_at (volume_at t v) j).stuck ≡ false → (WasSwapped k t v j → ⊥) → replica_on settings v m ≡ Some j
+      → Contains items (answered lane n (command.Flush v m) (reply.Failed v' m' f)) → ⊥
+  flush_failed_without_stuck lane n v m j v' m' f loose never there among = elim (flush_on lane n v m j _ there among).2 [
+    | inl stuck ↦ let clash : true ≡ false = sym stuck ∙ loose in absurd cc
+    | inr swapped ↦ never swapped
+  ]
+
+  -- a run of before the block ended though no line deleted and nothing froze
+  run_ended_by_nothing : (v j : ℕ) (run : Run) → v < settings.volumes → j < settings.replicas
+      → (replica_at (volume_at k v) j).run ≡ Some run → (replica_at (volume_at t v) j).run ≡ None → (volume_at t v).frozen ≡ None
+      → ((item : LaneItem) → Contains items item → DeletesOn settings v item → ⊥) → ⊥
+  run_ended_by_nothing v j run below within stood ended thawed never = elim (replica v j below within).run [
+    | inl none ↦ none-some run (sym none.0 ∙ stood)
+    | inr some ↦ elim some [
+      | inl stays ↦ none-some _ (sym ended ∙ stays.0 ∙ ap (option_map _) stood)
+      | inr ends ↦ elim ends.1 [
+        | inl deleted ↦ never deleted.1 deleted.2 deleted.3
+        | inr froze ↦ none-some (froze.1).0 (sym thawed ∙ (froze.1).1)
+      ]
+    ]
+  ]
+
+  -- a replica was swapped beside a run that stands on
+  run_beside_swap : (v j : ℕ) (run run' : Run) → v < settings.volumes → j < settings.replicas
+      → (replica_at (volume_at k v) j).run ≡ Some run → (replica_at (volume_at t v) j).run ≡ Some run' → WasSwapped k t v j → ⊥
+  run_beside_swap v j run run' below within stood stands swapped = elim (replica v j below within).run [
+    | inl none ↦ none-some run (sym none.0 ∙ stood)
+    | inr some ↦ elim some [
+      | inl stays ↦ let number = stays.1 in omega (arith, swapped, number)
+      | inr ends ↦ none-some run' (sym ends.0 ∙ stands)
+    ]
+  ]
+
+  -- a replica is poised though nothing froze its volume
+  poised_without_freeze : (v j : ℕ) → v < settings.volumes → j < settings.replicas → (volume_at t v).frozen ≡ None
+      → (replica_at (volume_at k v) j).poised ≡ false → (replica_at (volume_at t v) j).poised ≡ true → ⊥
+  poised_without_freeze v j below within thawed before poised = by (volume v below).froze (volume v below).freeze (replica v j below within).poised
+    where
+      by : (o : Option LaneItem) → FreezeIsLegal settings k items t v o
+          → (replica_at (volume_at t v) j).poised ≡ ((replica_at (volume_at k v) j).poised || froze_at_compact v (machine_of settings v j) is_failed o) → ⊥
+      by None kept is = let clash : true ≡ false = sym poised ∙ is ∙ ap (λ (x : Bool). x || false) before in absurd cc
+      by (Some item) froze is = none-some froze.machine (sym thawed ∙ froze.frozen)
+
+-- BEHIND A FREEZE
+
+-- a photo is stored by a lane on a volume that an earlier put of the lane froze
+stored_behind_failure : {settings : Settings} {k : Known} {logs : List LogNote} {rows : RowNote} {t : Known} (lane n n' v m f p d : ℕ) (c : Cookie) (pair pair' : Pair) (bytes bytes' : List ℕ)
+    → v < settings.volumes
+    → LegalBlock settings k (answered lane n (command.Put pair bytes) (reply.Failed v m f) ∷ answered lane n' (command.Put pair' bytes') (reply.Stored v p d c) ∷ []) logs rows t → ⊥
+stored_behind_failure {settings} {k} {logs} {rows} {t} lane n n' v m f p d c pair pair' bytes bytes' below b =
+    let stored = (b.lines.1).0 in
+    let thawed : (volume_at k v).frozen ≡ None = open_thawed (volume_at k v).frozen stored.2.0 in
+    let by = froze_by b v m below thawed (b.lines.0).3.0 in
+    by_item by.0 by.1 (by.2).among (by.2).machine (by.2).change (by.2).freezes
+  where
+    first : LaneItem
+    first = answered lane n (command.Put pair bytes) (reply.Failed v m f)
+
+    second : LaneItem
+    second = answered lane n' (command.Put pair' bytes') (reply.Stored v p d c)
+
+    open_thawed : (o : Option ℕ) → closed_by o (drained_of settings k v) ≡ None → o ≡ None
+    open_thawed None e = refl
+    open_thawed (Some by) e = absurd (none-some by (sym e))
+
+    by_item : (item : LaneItem) → (volume b v below).froze ≡ Some item → Contains (first ∷ second ∷ []) item
+        → (by : ℕ) (change : Option Entry) → Freezes settings k (first ∷ second ∷ []) t v by change item → ⊥
+    by_item item is (zero, at, same) by change froze = (volume b v below).lanes.0.0 refl (inl (is ∙ ap (λ (x : LaneItem). Some x) (sym same))) (inr refl)
+    by_item item is (suc zero, at, same) by change froze = subst (λ (x : LaneItem). Freezes settings k (first ∷ second ∷ []) t v by change x) (sym same) froze
+    by_item item is (suc (suc i), at, same) by change froze = omega (arith, at)
+
+-- BLOCKS OF ONE LINE
+
+module _ {settings : Settings} {k : Known} {logs : List LogNote} {rows : RowNote} {t : Known} (v m : ℕ) (below : v < settings.volumes)
+    (before : (volume_at k v).frozen ≡ None) (frozen : (volume_at t v).frozen ≡ Some m) where
+  -- the only line froze the volume
+  froze_alone : (item : LaneItem) → LegalBlock settings k (item ∷ []) logs rows t → (by : ℕ) × (change : Option Entry) × Freezes settings k (item ∷ []) t v by change item
+  froze_alone item b =
+      let by = froze_by b v m below before frozen in
+      let same : item ≡ by.0 = the_only item by.0 (by.2).among in (
+        (by.2).machine,
+        (by.2).change,
+        subst (λ (x : LaneItem). Freezes settings k (item ∷ []) t v (by.2).machine (by.2).change x) (sym same) (by.2).freezes,
+      )
+
+  -- what is left pending is what the line left
+  pending_alone : (item : LaneItem) → LegalBlock settings k (item ∷ []) logs rows t
+      → (by : ℕ) × (change : Option Entry) × Freezes settings k (item ∷ []) t v by change item × ((volume_at t v).pending ≡ pending_behind (volume_at k v).pending item change)
+  pending_alone item b =
+      let by = froze_by b v m below before frozen in
+      let same : item ≡ by.0 = the_only item by.0 (by.2).among in (
+        (by.2).machine,
+        (by.2).change,
+        subst (λ (x : LaneItem). Freezes settings k (item ∷ []) t v (by.2).machine (by.2).change x) (sym same) (by.2).freezes,
+        (by.2).pending ∙ ap (λ (x : LaneItem). pending_behind (volume_at k v).pending x (by.2).change) (sym same),
+      )
+
+  del_failed_without_pending : (lane n v' m' f : ℕ) (pair : Pair) → (volume_at t v).pending ≡ None
+      → LegalBlock settings k (answered lane n (command.Del pair) (reply.Failed v' m' f) ∷ []) logs rows t → ⊥
+  del_failed_without_pending lane n v' m' f pair none b =
+      let item : LaneItem = answered lane n (command.Del pair) (reply.Failed v' m' f) in
+      let by = pending_alone item b in
+      none-some _ (sym none ∙ by.3 ∙ ap (pending_behind (volume_at k v).pending item) by.2.1.0)
+
+  put_wants_without_pending : (lane n : ℕ) (pair : Pair) (bytes : List ℕ) → (volume_at t v).pending ≡ None
+      → LegalBlock settings k (answered lane n (command.Put pair bytes) reply.NoMem ∷ []) logs rows t → ⊥
+  put_wants_without_pending lane n pair bytes none b =
+      let item : LaneItem = answered lane n (command.Put pair bytes) reply.NoMem in
+      let by = pending_alone item b in
+      none-some _ (sym none ∙ by.3 ∙ ap (pending_behind (volume_at k v).pending item) by.2.2)
+
+  read_wants_with_pending : (lane n : ℕ) (pair : Pair) (cookie : Cookie) (left : Pending) → (volume_at k v).pending ≡ None → (volume_at t v).pending ≡ Some left
+      → LegalBlock settings k (answered lane n (command.Read pair cookie) reply.NoMem ∷ []) logs rows t → ⊥
+  read_wants_with_pending lane n pair cookie left none pending b =
+      let item : LaneItem = answered lane n (command.Read pair cookie) reply.NoMem in
+      let by = pending_alone item b in
+      none-some left (sym none ∙ sym (by.3 ∙ ap (pending_behind (volume_at k v).pending item) by.2.1) ∙ pending)
+
+  put_wants_elsewhere : (lane n : ℕ) (pair : Pair) (bytes : List ℕ) → (HomeInBlock k t pair v → ⊥)
+      → LegalBlock settings k (answered lane n (command.Put pair bytes) reply.NoMem ∷ []) logs rows t → ⊥
+  put_wants_elsewhere lane n pair bytes never b = never (froze_alone _ b).2.0.1
+
+  del_wants_elsewhere : (lane n : ℕ) (pair : Pair) → (HomeInBlock k t pair v → ⊥)
+      → LegalBlock settings k (answered lane n (command.Del pair) reply.NoMem ∷ []) logs rows t → ⊥
+  del_wants_elsewhere lane n pair never b = never (froze_alone _ b).2.0.1
+
+  read_wants_elsewhere : (lane n : ℕ) (pair : Pair) (cookie : Cookie) → (HomeInBlock k t pair v → ⊥)
+      → LegalBlock settings k (answered lane n (command.Read pair cookie) reply.NoMem ∷ []) logs rows t → ⊥
+  read_wants_elsewhere lane n pair cookie never b = never (froze_alone _ b).2.0.1
+
+  flush_freezes : (lane n u w : ℕ) (r : Reply) → LegalBlock settings k (answered lane n (command.Flush u w) r ∷ []) logs rows t → ⊥
+  flush_freezes lane n u w r b = (froze_alone _ b).2
+
+  -- a compact that failed froze its volume, and its replica is not poised
+  compact_failed_without_poised : (lane n v' m' f j : ℕ) → j < settings.replicas → (replica_at (volume_at t v) j).poised ≡ false
+      → LegalBlock settings k (answered lane n (command.Compact v (machine_of settings v j)) (reply.Failed v' m' f) ∷ []) logs rows t → ⊥
+  compact_failed_without_poised lane n v' m' f j within idle b =
+      let item : LaneItem = answered lane n (command.Compact v (machine_of settings v j)) (reply.Failed v' m' f) in
+      let by = froze_by b v m below before frozen in
+      let same : item ≡ by.0 = the_only item by.0 (by.2).among in
+      let poised = subst (λ (o : Option LaneItem). (replica_at (volume_at t v) j).poised
+      ≡ ((replica_at (volume_at k v) j).poised || froze_at_compact v (machine_of settings v j) is_failed o)) (by.1 ∙ ap (λ (x : LaneItem). Some x) (sym same))
+      (replica b v j below within).poised in
+      let is : is_compacted v (machine_of settings v j) item ≡ true =
+      ap (λ (x : Bool). x && (machine_of settings v j == machine_of settings v j)) (eq-eqb v v refl) ∙ eq-eqb (machine_of settings v j) (machine_of settings v j) refl in
+      let clash : false ≡ true = sym idle ∙ poised ∙ ap (λ (x : Bool). (replica_at (volume_at k v) j).poised || (x && true)) is ∙ or_true (replica_at (volume_at k v) j).poised in
+      absurd cc
+    where
+      or_true : (x : Bool) → (x || true) ≡ true
+      or_true true = refl
+      or_true false = refl
