@@ -22,13 +22,13 @@ use Rattle.hay_cluster.specs.declared.fault.ClusterFault.{ClusterFault}
 use Rattle.hay_cluster.specs.declared.fault.ClusterFault.TheVariants as refusal
 use Rattle.hay_directory.specs.Rows.{OpensRows}
 use Rattle.hay_logical.specs.Fits.{IsReplica}
-use Rattle.hay_cluster.specs.Outside.{CountsOn, IsDamagedDisk, IsFirstDamage, IsKept, IsNotWhole, IsVoid, outside_of}
+use Rattle.hay_cluster.specs.Outside.{CountsOn, IsDamagedDisk, IsFirstDamage, IsKept, IsNotWhole, IsUndamaged, IsVoid, outside_of}
 use Rattle.hay_cluster.specs.Store.{Open, contents_in}
 use Rattle.hay_cluster.proofs.OpeningDamage.{slot_found}
 use Rattle.hay_run.specs.declared.stops.Stop.{Stop}
 use Rattle.hay_run.specs.declared.stops.Stop.TheVariants as stop
 use Rattle.hay_run.specs.Stops.{ending_of, note_of}
-use Rattle.hay_run.specs.Runs.{HasOpened, IsTaken, RanTo, IsRefusal, IsNotOpened, IsNotOpenedBehind}
+use Rattle.hay_run.specs.Runs.{HasOpened, IsFirstRefusal, IsLaterRefusal, IsTaken, IsNotOpened, IsNotOpenedBehind, IsUnread, RanTo, RefusedLater, WasRead}
 use Rattle.hay_run.specs.Turns.{Standing, counts_of, RefusedFor, Halts}
 use Rattle.hay_run.proofs.Counting.{rose_more}
 use Rattle.hay_run.proofs.Restarting.{rose_came_up}
@@ -81,7 +81,8 @@ AreKept settings disks disks' = (slot : ℕ) → slot < disk_count settings → 
 module _ (settings : Settings) (shelf shelf' : ℕ) (disks disks' : ℕ → HeldDisk) (arms arms' : ℕ → HeldArm) (k : Known) (taken : IsTaken settings (outside_of shelf disks arms) k)
     (kept : AreKept settings disks disks')
     (counts : (slot : ℕ) → slot < disk_count settings → CountsOn (disks slot) (disks' slot).fault_count (disks' slot).fuse_count)
-    (back : (lane : ℕ) → lane < 8 → IsArmBack (arms lane) (arms' lane)) where
+    (back : (lane : ℕ) → lane < 8 → IsArmBack (arms lane) (arms' lane))
+    (some : 1 ≤ settings.replicas) where
   stands_in : (slot : ℕ) (image : ℕ → (ℕ → List ℕ)) → MayLeave (disks' slot).files (image slot) → IsKept (disks slot) (disks' slot)
       → statuses.StandsIn IsVoid (outside_of shelf disks arms) (outside_of shelf' disks' arms') image slot (contents_of (outside_of shelf disks arms) slot)
   stands_in slot image may (inl void) = inr (inl (void, void))
@@ -100,10 +101,10 @@ module _ (settings : Settings) (shelf shelf' : ℕ) (disks disks' : ℕ → Held
     arms = λ lane within. let same = taken.arms lane within in let stays = (back lane within).fault_count in omega (arith, same, stays);
   }
 
-  tells_of : (Tells Unread : Type 0) → Tells → (note : Note) → IsRefusal Tells Unread settings (outside_of shelf disks arms) (outside_of shelf' disks' arms') note
+  tells_of : (Tells : Type 0) → Tells → (note : Note) → IsFirstRefusal Tells settings (outside_of shelf disks arms) (outside_of shelf' disks' arms') note
       → statuses.TellsFirst settings k (outside_of shelf disks arms) (outside_of shelf' disks' arms') note
-  tells_of Tells Unread tells note (inl (count, is, rose, told)) = inr (count, is, rose_came_up shelf shelf' count rose told)
-  tells_of Tells Unread tells note (inr (inl (slot, count, is, within, rose, told))) =
+  tells_of Tells tells note (inl (count, is, rose, told)) = inr (count, is, rose_came_up shelf shelf' count rose told)
+  tells_of Tells tells note (inr (inl (slot, count, is, within, rose, told))) =
       inl (
         slot,
         count,
@@ -111,7 +112,7 @@ module _ (settings : Settings) (shelf shelf' : ℕ) (disks disks' : ℕ → Held
         within,
         subst (λ n. CameUp n count (disks' slot).fault_count) (sym (taken.faults slot within)) (rose_came_up (disks slot).fault_count (disks' slot).fault_count count rose told),
       )
-  tells_of Tells Unread tells note (inr (inr (slot, file, at, is, why))) = absurd ((why tells).0 k taken)
+  tells_of Tells tells note (inr (inr (slot, file, at, is, why))) = absurd (not_damaged settings some (outside_of shelf disks arms) k taken slot file at (why tells).0)
 
   module _ (script held : List ℕ) (written' : Option (List ℕ)) where
     -- a note was written behind the header, or a front of it
@@ -178,38 +179,38 @@ module _ (settings : Settings) (shelf shelf' : ℕ) (disks disks' : ℕ → Held
     not_store why not (inl is) = absurd (not is)
     not_store why not (inr x) = x
 
-    abbrev Because : Type 0 → Type 0 → ClusterFault → Type 0
-    Because Tells Unread fault = (note : Note) → note_of fault ≡ Some note → IsRefusal Tells Unread settings (outside_of shelf disks arms) (outside_of shelf' disks' arms') note
+    abbrev Because : Type 0 → ClusterFault → Type 0
+    Because Tells fault = (note : Note) → note_of fault ≡ Some note → IsFirstRefusal Tells settings (outside_of shelf disks arms) (outside_of shelf' disks' arms') note
 
-    broken : (Tells Unread : Type 0) → Tells → (fault : ClusterFault) (why : Stop) (note : Option Note) → note_of fault ≡ note → Because Tells Unread fault
+    broken : (Tells : Type 0) → Tells → (fault : ClusterFault) (why : Stop) (note : Option Note) → note_of fault ≡ note → Because Tells fault
         → ((note : Note) → note_of fault ≡ Some note → (why ≡ stop.Store) ⊎ WrotePart (Some (held ++ header_line settings)) (note_line note) written')
         → (note_of fault ≡ None → (why ≡ stop.NoMemory) × (written' ≡ Some (held ++ header_line settings)))
         → why ≢ stop.Store → RanPart settings k script (Some script) (outside_of shelf disks arms) (outside_of shelf' disks' arms') held written'
-    broken Tells Unread tells fault why (Some note) is cause part wanting not =
-        noted note (tells_of Tells Unread tells note (cause note is)) (not_store why not (part note is))
-    broken Tells Unread tells fault why None is cause part wanting not = header_alone (wanting is).1
+    broken Tells tells fault why (Some note) is cause part wanting not =
+        noted note (tells_of Tells tells note (cause note is)) (not_store why not (part note is))
+    broken Tells tells fault why None is cause part wanting not = header_alone (wanting is).1
 
     -- how the refusal of an opening was told
-    pub ran_unopened : (Tells Unread : Type 0) → Tells → (fault : ClusterFault) (why : Stop) → Because Tells Unread fault
+    pub ran_unopened : (Tells : Type 0) → Tells → (fault : ClusterFault) (why : Stop) → Because Tells fault
         → (why ≡ stop.Store → (note : Note) × (note_of fault ≡ Some note) × Wrote (Some (held ++ header_line settings)) (note_line note) written')
         → ((note : Note) → note_of fault ≡ Some note → (why ≡ stop.Store) ⊎ WrotePart (Some (held ++ header_line settings)) (note_line note) written')
         → (note_of fault ≡ None → (why ≡ stop.NoMemory) × (written' ≡ Some (held ++ header_line settings)))
         → (why ≡ stop.Output) ⊎ (why ≡ stop.NoMemory) ⊎ (why ≡ stop.Store)
         → RanTo settings k (ending_of why) script (Some script) (outside_of shelf disks arms) (outside_of shelf' disks' arms') held written'
-    ran_unopened Tells Unread tells fault stop.Store cause whole part wanting kinds =
-        let note = whole refl in note_whole note.0 (tells_of Tells Unread tells note.0 (cause note.0 note.1)) note.2
-    ran_unopened Tells Unread tells fault stop.Output cause whole part wanting kinds =
+    ran_unopened Tells tells fault stop.Store cause whole part wanting kinds =
+        let note = whole refl in note_whole note.0 (tells_of Tells tells note.0 (cause note.0 note.1)) note.2
+    ran_unopened Tells tells fault stop.Output cause whole part wanting kinds =
         ran_output settings k script (Some script) (outside_of shelf disks arms) (outside_of shelf' disks' arms') held written'
-        (broken Tells Unread tells fault stop.Output (note_of fault) refl cause part wanting (λ is. cc))
-    ran_unopened Tells Unread tells fault stop.NoMemory cause whole part wanting kinds =
+        (broken Tells tells fault stop.Output (note_of fault) refl cause part wanting (λ is. cc))
+    ran_unopened Tells tells fault stop.NoMemory cause whole part wanting kinds =
         ran_memory settings k script (Some script) (outside_of shelf disks arms) (outside_of shelf' disks' arms') held written'
-        (broken Tells Unread tells fault stop.NoMemory (note_of fault) refl cause part wanting (λ is. cc))
-    ran_unopened Tells Unread tells fault stop.Input cause whole part wanting (inl is) = cc
-    ran_unopened Tells Unread tells fault stop.Input cause whole part wanting (inr (inl is)) = cc
-    ran_unopened Tells Unread tells fault stop.Input cause whole part wanting (inr (inr is)) = cc
-    ran_unopened Tells Unread tells fault stop.TooLong cause whole part wanting (inl is) = cc
-    ran_unopened Tells Unread tells fault stop.TooLong cause whole part wanting (inr (inl is)) = cc
-    ran_unopened Tells Unread tells fault stop.TooLong cause whole part wanting (inr (inr is)) = cc
+        (broken Tells tells fault stop.NoMemory (note_of fault) refl cause part wanting (λ is. cc))
+    ran_unopened Tells tells fault stop.Input cause whole part wanting (inl is) = cc
+    ran_unopened Tells tells fault stop.Input cause whole part wanting (inr (inl is)) = cc
+    ran_unopened Tells tells fault stop.Input cause whole part wanting (inr (inr is)) = cc
+    ran_unopened Tells tells fault stop.TooLong cause whole part wanting (inl is) = cc
+    ran_unopened Tells tells fault stop.TooLong cause whole part wanting (inr (inl is)) = cc
+    ran_unopened Tells tells fault stop.TooLong cause whole part wanting (inr (inr is)) = cc
 
 -- The header was not written whole, and no disk was touched.
 pub ran_header : (settings : Settings) (taken : Outside) (k : Known) → IsTaken settings taken k
@@ -237,27 +238,20 @@ ran_header settings taken k is script held written' wrote = record {
 
 -- WHY A STORE IS NOT OPENED
 
-module _ (Tells Unread : Type 0) (settings : Settings) (taken given : Outside) where
-  -- as the refusal of the opening says
-  pub cause_of : 1 ≤ settings.replicas → (fault : ClusterFault)
+module _ (Tells : Type 0) (settings : Settings) (taken given : Outside) where
+  -- as the refusal of the first opening says
+  pub cause_of : (fault : ClusterFault)
       → ((count : ℕ) → fault ≡ refusal.Shelf count → Rose taken.shelf given.shelf × (count ≡ given.shelf))
       → ((slot count : ℕ) → fault ≡ refusal.Failed slot count → (slot < disk_count settings) × Rose (taken.faults slot) (given.faults slot) × (count ≡ given.faults slot))
       → (Tells → (slot file at : ℕ) → fault ≡ refusal.Damaged slot file at → IsDamagedDisk settings (contents_of taken) slot file at × IsDamagedDisk settings (contents_of given) slot file at)
-      → (note : Note) → note_of fault ≡ Some note → IsRefusal Tells Unread settings taken given note
-  cause_of some (refusal.Shelf count) of_shelf of_disk of_damage note is =
+      → (note : Note) → note_of fault ≡ Some note → IsFirstRefusal Tells settings taken given note
+  cause_of (refusal.Shelf count) of_shelf of_disk of_damage note is =
       let same : note ≡ told.OpenShelf count = cc in let rose = of_shelf count refl in inl (count, same, rose.0, rose.1)
-  cause_of some (refusal.Failed slot count) of_shelf of_disk of_damage note is =
+  cause_of (refusal.Failed slot count) of_shelf of_disk of_damage note is =
       let same : note ≡ told.OpenFailed slot count = cc in let rose = of_disk slot count refl in inr (inl (slot, count, same, rose.0, rose.1, rose.2))
-  cause_of some (refusal.Damaged slot file at) of_shelf of_disk of_damage note is =
-      let same : note ≡ told.OpenDamaged slot file at = cc in
-      inr (inr (
-        slot,
-        file,
-        at,
-        same,
-        λ tells. let d = of_damage tells slot file at refl in (λ k held. not_damaged settings some taken k held slot file at d.0, d.1, λ unread. d.0),
-      ))
-  cause_of some refusal.NoMemory of_shelf of_disk of_damage note is = cc
+  cause_of (refusal.Damaged slot file at) of_shelf of_disk of_damage note is =
+      let same : note ≡ told.OpenDamaged slot file at = cc in inr (inr (slot, file, at, same, λ tells. of_damage tells slot file at refl))
+  cause_of refusal.NoMemory of_shelf of_disk of_damage note is = cc
 
   -- as the refusal of a restart says
   module _ {D P A : Type 0} (Begins : Standing D P A) (files : D → Files) (faults : D → ℕ) (store store' : Open D P A)
@@ -266,20 +260,20 @@ module _ (Tells Unread : Type 0) (settings : Settings) (taken given : Outside) w
       (back : (slot : ℕ) → slot < disk_count settings → given.faults slot ≡ slice_index (counts_of faults store') slot)
       (contents : Tells → (slot : ℕ) → slot < disk_count settings → contents_of given slot ≡ contents_in files store' slot)
       (stands : Tells → (k : Known) → IsTaken settings taken k → (t : Known) × Begins store t)
-      (read : Unread → ⊥) where
-    cause_later : (note : Note) → RefusedFor Tells Begins files faults store store' note → IsRefusal Tells Unread settings taken given note
+      (sound : Tells → IsUndamaged settings (contents_of taken)) where
+    cause_later : (note : Note) → RefusedFor Tells Begins files faults store store' note → IsLaterRefusal Tells settings taken given note
     cause_later note (inl (slot, count, is, below, rose, count_is)) =
         let within : slot < disk_count settings = subst (λ (s : Settings). slot < disk_count s) same below in
-        inr (inl (
+        inl (
           slot,
           count,
           is,
           within,
           subst (λ n. Rose (taken.faults slot) n) (sym (back slot within)) (rose_more (taken.faults slot) (slice_index (counts_of faults store) slot) (slice_index (counts_of faults store') slot) (later slot within) rose),
           count_is ∙ sym (back slot within),
-        ))
+        )
     cause_later note (inr (slot, file, at, is, why)) =
-        inr (inr (
+        inr (
           slot,
           file,
           at,
@@ -287,28 +281,25 @@ module _ (Tells Unread : Type 0) (settings : Settings) (taken given : Outside) w
           λ tells.
               let damaged : IsDamagedDisk settings (contents_in files store') slot file at = subst (λ (s : Settings). IsDamagedDisk s (contents_in files store') slot file at) same (why tells).1 in (
                 λ k held. let s = stands tells k held in (why tells).0 s.0 s.1,
+                sound tells,
                 damaged_as settings slot file at (contents_in files store') (contents_of given) (sym (contents tells slot damaged.within)) damaged,
-                λ unread. absurd (read unread),
               ),
-        ))
+        )
 
-    pub not_opened_later : (written written' : Option (List ℕ)) → Halts Tells Begins files faults store store' written written' → IsNotOpenedBehind Tells Unread settings taken given written written'
-    not_opened_later written written' h = record {
-      note = h.note;
-      why = cause_later h.note h.why;
-      told = λ held is. let t = h.told held is in (t.0, t.1, λ unread. absurd (read unread));
-    }
+    pub refused_later : (left left' written written' : Option (List ℕ)) → (IsUnread left left' → ⊥) → Halts Tells Begins files faults store store' written written' → RefusedLater Tells settings taken given left left' written written'
+    refused_later left left' written written' read h = record { note = h.note; why = cause_later h.note h.why; told = h.told; read = read }
 
 -- what was written behind the header
-pub behind_header : (Tells Unread : Type 0) (settings : Settings) (taken given : Outside) (before mid after : Option (List ℕ))
+pub behind_header : (Tells : Type 0) (settings : Settings) (disks disks' : ℕ → HeldDisk) (taken given : Outside) (left left' before mid after : Option (List ℕ))
     → ((held : List ℕ) → before ≡ Some held → mid ≡ Some (held ++ header_line settings))
-    → IsNotOpenedBehind Tells Unread settings taken given mid after → IsNotOpened Tells Unread settings taken given before after
-behind_header Tells Unread settings taken given None mid after headed h = record { note = h.note; why = h.why; told = λ held is. cc }
-behind_header Tells Unread settings taken given (Some old) mid after headed h = record {
-  note = h.note;
-  why = h.why;
-  told = λ held is. h.told held (headed old refl ∙ is);
-}
+    → IsNotOpenedBehind Tells settings disks disks' taken given left left' mid after → IsNotOpened Tells settings disks disks' taken given left left' before after
+behind_header Tells settings disks disks' taken given left left' None mid after headed (inl h) =
+    inl (record { note = h.note; why = h.why; told = λ held is. cc; unread = h.unread; kept = h.kept; counts = h.counts })
+behind_header Tells settings disks disks' taken given left left' None mid after headed (inr h) = inr (record { note = h.note; why = h.why; told = λ held is. cc; read = h.read })
+behind_header Tells settings disks disks' taken given left left' (Some old) mid after headed (inl h) =
+    inl (record { note = h.note; why = h.why; told = λ held is. h.told held (headed old refl ∙ is); unread = h.unread; kept = h.kept; counts = h.counts })
+behind_header Tells settings disks disks' taken given left left' (Some old) mid after headed (inr h) =
+    inr (record { note = h.note; why = h.why; told = λ held is. h.told held (headed old refl ∙ is); read = h.read })
 
 pub ran_unwritten : (settings : Settings) (taken : Outside) (k : Known) → IsTaken settings taken k
     → (script held : List ℕ) (written' : Option (List ℕ)) → WrotePart (Some held) (header_line settings) written'
@@ -372,10 +363,38 @@ store_by stop.NoMemory e = absurd (omega (arith, e))
 store_by stop.Store e = refl
 store_by stop.TooLong e = absurd (omega (arith, e))
 
--- a run that stopped with one of these statuses had opened its store
-pub opened_by : (why : Stop) (status : ℕ) → status ≡ status_of (ending_of why) → (status ≡ 0) ⊎ (status ≡ 4) ⊎ (status ≡ 7) → HasOpened (Err why)
-opened_by stop.Input status same is = tt
-opened_by stop.TooLong status same is = tt
-opened_by stop.Output status same is = elim is [ inl none ↦ omega (arith, same, none) | inr more ↦ elim more [ inl four ↦ omega (arith, same, four) | inr seven ↦ omega (arith, same, seven) ] ]
-opened_by stop.NoMemory status same is = elim is [ inl none ↦ omega (arith, same, none) | inr more ↦ elim more [ inl four ↦ omega (arith, same, four) | inr seven ↦ omega (arith, same, seven) ] ]
-opened_by stop.Store status same is = elim is [ inl none ↦ omega (arith, same, none) | inr more ↦ elim more [ inl four ↦ omega (arith, same, four) | inr seven ↦ omega (arith, same, seven) ] ]
+open_then : (why : Stop) → (status_of (ending_of why) ≡ 0) ⊎ (status_of (ending_of why) ≡ 4) ⊎ (status_of (ending_of why) ≡ 7) → HasOpened (Err why)
+open_then stop.Input is = tt
+open_then stop.TooLong is = tt
+open_then stop.Output (inl is) = absurd (omega (arith, is))
+open_then stop.Output (inr (inl is)) = absurd (omega (arith, is))
+open_then stop.Output (inr (inr is)) = absurd (omega (arith, is))
+open_then stop.NoMemory (inl is) = absurd (omega (arith, is))
+open_then stop.NoMemory (inr (inl is)) = absurd (omega (arith, is))
+open_then stop.NoMemory (inr (inr is)) = absurd (omega (arith, is))
+open_then stop.Store (inl is) = absurd (omega (arith, is))
+open_then stop.Store (inr (inl is)) = absurd (omega (arith, is))
+open_then stop.Store (inr (inr is)) = absurd (omega (arith, is))
+
+-- a run that stopped with one of these statuses, or behind something that was read, had opened its store
+pub opened_by : {W : Type 0} (why : Stop) (status : ℕ) → status ≡ status_of (ending_of why) → (status ≡ 0) ⊎ (status ≡ 4) ⊎ (status ≡ 7) ⊎ W → HasOpened (Err why) ⊎ W
+opened_by why status same (inl is) = inl (open_then why (inl (sym same ∙ is)))
+opened_by why status same (inr (inl is)) = inl (open_then why (inr (inl (sym same ∙ is))))
+opened_by why status same (inr (inr (inl is))) = inl (open_then why (inr (inr (sym same ∙ is))))
+opened_by why status same (inr (inr (inr read))) = inr read
+
+-- a store that was not opened
+pub none_opened : {W : Type 0} (why : Stop) → (why ≡ stop.Output) ⊎ (why ≡ stop.NoMemory) ⊎ (why ≡ stop.Store) → (W → ⊥) → HasOpened (Err why) ⊎ W → ⊥
+none_opened why kinds none (inr read) = none read
+none_opened stop.Output kinds none (inl opened) = opened
+none_opened stop.NoMemory kinds none (inl opened) = opened
+none_opened stop.Store kinds none (inl opened) = opened
+none_opened stop.Input (inl is) none (inl opened) = cc
+none_opened stop.Input (inr (inl is)) none (inl opened) = cc
+none_opened stop.Input (inr (inr is)) none (inl opened) = cc
+none_opened stop.TooLong (inl is) none (inl opened) = cc
+none_opened stop.TooLong (inr (inl is)) none (inl opened) = cc
+none_opened stop.TooLong (inr (inr is)) none (inl opened) = cc
+
+pub not_read : (left : Option (List ℕ)) → WasRead left left → ⊥
+not_read left read = read.2 read.1

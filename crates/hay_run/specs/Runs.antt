@@ -1,7 +1,7 @@
 -- What a run does.
 use Rattle.std.specs.Prelude.{◌≡◌, ◌⊎◌, ◌<◌, ℕ, true, List, ◌∷◌, ◌++◌, [], length, Option, Some, option_map, Result, Ok, Err}
 use Rattle.hay_disk.specs.Counts.{Rose}
-use Rattle.hay_disk.specs.Shelf.{HeldArm}
+use Rattle.hay_disk.specs.Shelf.{HeldArm, HeldDisk}
 use Rattle.hay_needle.specs.declared.settings.Settings.{Settings}
 use Rattle.hay_reply.specs.declared.Note.{Note}
 use Rattle.hay_reply.specs.declared.Note.TheVariants.{OpenShelf, OpenFailed, OpenDamaged}
@@ -13,7 +13,7 @@ use Rattle.hay_legal.specs.Statuses.{Ending, HoldsNew, RunsTo, contents_of}
 use Rattle.hay_legal.specs.Statuses.Ending.{ReadAll, OutputFault, InputFault, NoMemory, NotOpened, TooLong}
 use Rattle.hay_directory.specs.Rows.{OpensRows}
 use Rattle.hay_logical.specs.Fits.{IsReplica}
-use Rattle.hay_cluster.specs.Outside.{IsDamagedDisk, IsVoid}
+use Rattle.hay_cluster.specs.Outside.{CountsOn, IsDamagedDisk, IsKept, IsUndamaged, IsVoid}
 use Rattle.hay_run.specs.declared.stops.Stop.{Stop}
 use Rattle.hay_run.specs.declared.stops.Stop.TheVariants as stop
 
@@ -44,28 +44,60 @@ pub record RanTo (settings : Settings) (k : Known) (ending : Ending) (script : L
 abbrev pub IsUnread : Option (List ℕ) → Option (List ℕ) → Type 0
 IsUnread before after = (script : List ℕ) × (before ≡ Some script) × (after ≡ Some script)
 
--- Why an opening was refused, as it is told. The shelf or the disk in a slot failed, and its count rose to the one that is
--- told; or the disks that were taken are not whole, and the one in the slot is damaged at the place that is told, as it was given
--- back, and where nothing of the script was read as it was taken.
-abbrev pub IsRefusal : Type 0 → Type 0 → Settings → Outside → Outside → Note → Type 0
-IsRefusal Tells Unread settings taken given note =
-    ((count : ℕ) × (note ≡ OpenShelf count) × Rose taken.shelf given.shelf × (count ≡ given.shelf))
-    ⊎ ((slot : ℕ) × (count : ℕ) × (note ≡ OpenFailed slot count)
-    × (slot < disk_count settings) × Rose (taken.faults slot) (given.faults slot) × (count ≡ given.faults slot))
-    ⊎ ((slot : ℕ) × (file : ℕ) × (at : ℕ) × (note ≡ OpenDamaged slot file at)
-    × (Tells → ((k : Known) → IsTaken settings taken k → ⊥) × IsDamagedDisk settings (contents_of given) slot file at × (Unread → IsDamagedDisk settings (contents_of taken) slot file at)))
+-- something was read of a source that tells
+abbrev pub WasRead : Option (List ℕ) → Option (List ℕ) → Type 0
+WasRead before after = (script : List ℕ) × (before ≡ Some script) × (after ≡ Some script → ⊥)
 
--- A run whose store was not opened, behind what was written before: why, as the last line that was written tells. Where nothing
--- of the script was read, that is all that was written.
-pub record IsNotOpenedBehind (Tells Unread : Type 0) (settings : Settings) (taken given : Outside) (before after : Option (List ℕ)) : Type 0 where
+-- the disk in a slot failed, and its count rose to the one that is told
+abbrev pub TellsDisk : Settings → Outside → Outside → Note → Type 0
+TellsDisk settings taken given note =
+    (slot : ℕ) × (count : ℕ) × (note ≡ OpenFailed slot count) × (slot < disk_count settings)
+    × Rose (taken.faults slot) (given.faults slot) × (count ≡ given.faults slot)
+
+-- Why the first opening was refused, as it is told: the shelf failed, and its count rose to the one that is told; a disk failed;
+-- or the disk in a slot is damaged at the place that is told, as it was taken and as it was given back.
+abbrev pub IsFirstRefusal : Type 0 → Settings → Outside → Outside → Note → Type 0
+IsFirstRefusal Tells settings taken given note =
+    ((count : ℕ) × (note ≡ OpenShelf count) × Rose taken.shelf given.shelf × (count ≡ given.shelf))
+    ⊎ TellsDisk settings taken given note
+    ⊎ ((slot : ℕ) × (file : ℕ) × (at : ℕ) × (note ≡ OpenDamaged slot file at)
+    × (Tells → IsDamagedDisk settings (contents_of taken) slot file at × IsDamagedDisk settings (contents_of given) slot file at))
+
+-- Why the opening of a restart was refused, as it is told: a disk failed; or the disks that were taken were not whole, though
+-- nothing that was read of them was damaged, and the disk in a slot is damaged at the place that is told, as it was given back.
+abbrev pub IsLaterRefusal : Type 0 → Settings → Outside → Outside → Note → Type 0
+IsLaterRefusal Tells settings taken given note =
+    TellsDisk settings taken given note
+    ⊎ ((slot : ℕ) × (file : ℕ) × (at : ℕ) × (note ≡ OpenDamaged slot file at)
+    × (Tells → ((k : Known) → IsTaken settings taken k → ⊥) × IsUndamaged settings (contents_of taken) × IsDamagedDisk settings (contents_of given) slot file at))
+
+-- A run whose store was never opened: why, as all that was written behind what was written before tells. Nothing of the script
+-- was read, and each disk that was not void is as it was taken, but for its count.
+pub record RefusedFirst (Tells : Type 0) (settings : Settings) (disks disks' : ℕ → HeldDisk) (taken given : Outside) (left left' before after : Option (List ℕ)) : Type 0 where
   pub note : Note
-  pub why : IsRefusal Tells Unread settings taken given note
-  pub told : (held : List ℕ) → before ≡ Some held → (text : List ℕ) × (after ≡ Some (held ++ text ++ note_line note)) × (Unread → text ≡ [])
+  pub why : IsFirstRefusal Tells settings taken given note
+  pub told : (held : List ℕ) → before ≡ Some held → after ≡ Some (held ++ note_line note)
+  pub unread : left' ≡ left
+  pub kept : Tells → (slot : ℕ) → slot < disk_count settings → IsKept (disks slot) (disks' slot)
+  pub counts : (slot : ℕ) → slot < disk_count settings → CountsOn (disks slot) (disks' slot).fault_count (disks' slot).fuse_count
+
+-- A run whose store was not opened again at a restart: why, as the last line that was written tells. The line that asked for it
+-- was read.
+pub record RefusedLater (Tells : Type 0) (settings : Settings) (taken given : Outside) (left left' before after : Option (List ℕ)) : Type 0 where
+  pub note : Note
+  pub why : IsLaterRefusal Tells settings taken given note
+  pub told : (held : List ℕ) → before ≡ Some held → (text : List ℕ) × (after ≡ Some (held ++ text ++ note_line note))
+  pub read : IsUnread left left' → ⊥
+
+-- the store was not opened, at first or again
+abbrev pub IsNotOpenedBehind : Type 0 → Settings → (ℕ → HeldDisk) → (ℕ → HeldDisk) → Outside → Outside → Option (List ℕ) → Option (List ℕ) → Option (List ℕ) → Option (List ℕ) → Type 0
+IsNotOpenedBehind Tells settings disks disks' taken given left left' before after =
+    RefusedFirst Tells settings disks disks' taken given left left' before after ⊎ RefusedLater Tells settings taken given left left' before after
 
 -- so it is behind the header
-abbrev pub IsNotOpened : Type 0 → Type 0 → Settings → Outside → Outside → Option (List ℕ) → Option (List ℕ) → Type 0
-IsNotOpened Tells Unread settings taken given before after =
-    IsNotOpenedBehind Tells Unread settings taken given (option_map (λ held. held ++ header_line settings) before) after
+abbrev pub IsNotOpened : Type 0 → Settings → (ℕ → HeldDisk) → (ℕ → HeldDisk) → Outside → Outside → Option (List ℕ) → Option (List ℕ) → Option (List ℕ) → Option (List ℕ) → Type 0
+IsNotOpened Tells settings disks disks' taken given left left' before after =
+    IsNotOpenedBehind Tells settings disks disks' taken given left left' (option_map (λ held. held ++ header_line settings) before) after
 
 -- the store was opened before the run ended so
 abbrev pub HasOpened : Result (Unit {0}) Stop → Type 0

@@ -12,7 +12,7 @@ ghost use Rattle.hay_cluster.specs.Store.{IsBuilt};
 ghost use Rattle.hay_run.specs.declared.stops.Stop.{Stop};
 ghost use Rattle.hay_run.specs.Stream.{IsReadToEnd};
 ghost use Rattle.hay_run.specs.Stops.{ending_of};
-ghost use Rattle.hay_run.specs.Runs.{HasOpened, IsNotOpened, IsNotOpenedBehind, IsSureStill, IsTaken, IsUnread, RanTo};
+ghost use Rattle.hay_run.specs.Runs.{HasOpened, IsNotOpened, IsNotOpenedBehind, IsSureStill, IsTaken, RanTo, WasRead};
 ghost use Rattle.hay_run.specs.Turns.{Appends};
 ghost use Rattle.hay_run.specs.Words.{SaysRun};
 
@@ -57,9 +57,9 @@ fn answer_script<H: Shelf, S: Source, K: Sink>(
     ensures sink { IsErrOf result Stop.Output → Rose (K.fault_count sink.old) (K.fault_count sink.new) }
     ensures sink_count { K.fault_count sink.old ≤ K.fault_count sink.new }
     ensures store { IsErrOf result Stop.Store →
-        IsNotOpenedBehind H.Disk.Tells (IsUnread (S.left source.old) (S.left source.new)) settings
+        IsNotOpenedBehind H.Disk.Tells settings (H.disks shelf.old) (H.disks shelf.new)
         (outside_of (H.fault_count shelf.old) (H.disks shelf.old) (H.arms shelf.old))
-        (outside_of (H.fault_count shelf.new) (H.disks shelf.new) (H.arms shelf.new)) (K.written sink.old) (K.written sink.new) }
+        (outside_of (H.fault_count shelf.new) (H.disks shelf.new) (H.arms shelf.new)) (S.left source.old) (S.left source.new) (K.written sink.old) (K.written sink.new) }
     ensures disks_back { AreIn (disk_count settings) (H.disks shelf.new) }
     ensures arms_back { AreArmsIn 8 (H.arms shelf.new) }
     ensures faults { (slot : ℕ) → slot < disk_count settings →
@@ -68,7 +68,7 @@ fn answer_script<H: Shelf, S: Source, K: Sink>(
         (H.arms shelf.old lane).fault_count ≤ (H.arms shelf.new lane).fault_count }
     ensures other_slots { SameFrom (disk_count settings) (H.disks shelf.old) (H.disks shelf.new) }
     ensures other_lanes { SameFrom 8 (H.arms shelf.old) (H.arms shelf.new) }
-    ensures sound { H.Disk.Tells → HasOpened result → IsUndamaged settings (λ slot. read_of (H.disks shelf.old slot)) }
+    ensures sound { H.Disk.Tells → HasOpened result ⊎ WasRead (S.left source.old) (S.left source.new) → IsUndamaged settings (λ slot. read_of (H.disks shelf.old slot)) }
     ensures sure_arms { (lane : ℕ) → lane < 8 → IsSureStill (H.arms shelf.old lane) (H.arms shelf.new lane) }
     ensures appends { Appends (K.written sink.old) (K.written sink.new) }
     ensures shelf { H.fault_count shelf.old ≤ H.fault_count shelf.new }
@@ -112,9 +112,9 @@ fn run_script<H: Shelf, S: Source, K: Sink>(
     ensures sink { IsErrOf result Stop.Output → Rose (K.fault_count sink.old) (K.fault_count sink.new) }
     ensures sink_count { K.fault_count sink.old ≤ K.fault_count sink.new }
     ensures store { IsErrOf result Stop.Store →
-        IsNotOpened H.Disk.Tells (IsUnread (S.left source.old) (S.left source.new)) settings
+        IsNotOpened H.Disk.Tells settings (H.disks shelf.old) (H.disks shelf.new)
         (outside_of (H.fault_count shelf.old) (H.disks shelf.old) (H.arms shelf.old))
-        (outside_of (H.fault_count shelf.new) (H.disks shelf.new) (H.arms shelf.new)) (K.written sink.old) (K.written sink.new) }
+        (outside_of (H.fault_count shelf.new) (H.disks shelf.new) (H.arms shelf.new)) (S.left source.old) (S.left source.new) (K.written sink.old) (K.written sink.new) }
     ensures disks_back { AreIn (disk_count settings) (H.disks shelf.new) }
     ensures arms_back { AreArmsIn 8 (H.arms shelf.new) }
     ensures faults { (slot : ℕ) → slot < disk_count settings →
@@ -123,7 +123,7 @@ fn run_script<H: Shelf, S: Source, K: Sink>(
         (H.arms shelf.old lane).fault_count ≤ (H.arms shelf.new lane).fault_count }
     ensures other_slots { SameFrom (disk_count settings) (H.disks shelf.old) (H.disks shelf.new) }
     ensures other_lanes { SameFrom 8 (H.arms shelf.old) (H.arms shelf.new) }
-    ensures sound { H.Disk.Tells → HasOpened result → IsUndamaged settings (λ slot. read_of (H.disks shelf.old slot)) }
+    ensures sound { H.Disk.Tells → HasOpened result ⊎ WasRead (S.left source.old) (S.left source.new) → IsUndamaged settings (λ slot. read_of (H.disks shelf.old slot)) }
     ensures sure_arms { (lane : ℕ) → lane < 8 → IsSureStill (H.arms shelf.old lane) (H.arms shelf.new lane) }
     ensures appends { Appends (K.written sink.old) (K.written sink.new) }
     ensures shelf { H.fault_count shelf.old ≤ H.fault_count shelf.new }
@@ -164,16 +164,16 @@ pub fn run<H: Shelf, S: Source, K: Sink>(
     ensures status { (result ≡ 2) ⊎ ((ending : Ending) × (result ≡ status_of ending)) }
     ensures usage { result ≡ 2 → (settings : Settings) → SaysRun (map string_bytes words.now) settings → ⊥ }
     ensures command { ((settings : Settings) → SaysRun (map string_bytes words.now) settings → ⊥) → (result ≡ 2) ⊎ (result ≡ 5) }
-    ensures untouched { result ≡ 2 → (source.new ≡ source.old) × (sink.new ≡ sink.old) × (shelf.new ≡ shelf.old) }
+    ensures untouched { (result ≡ 2) ⊎ ((settings : Settings) → SaysRun (map string_bytes words.now) settings → ⊥) → (source.new ≡ source.old) × (sink.new ≡ sink.old) × (shelf.new ≡ shelf.old) }
     ensures ended { result ≡ 0 → IsReadToEnd (S.left source.old) (S.left source.new) }
     ensures sink { IsCounted (K.fault_count sink.old) (K.fault_count sink.new) (result ≡ 3) }
     ensures source { IsCounted (S.fault_count source.old) (S.fault_count source.new) (result ≡ 4) }
     ensures store { result ≡ 6 → (settings : Settings) → SaysRun (map string_bytes words.now) settings →
-        IsNotOpened H.Disk.Tells (IsUnread (S.left source.old) (S.left source.new)) settings
+        IsNotOpened H.Disk.Tells settings (H.disks shelf.old) (H.disks shelf.new)
         (outside_of (H.fault_count shelf.old) (H.disks shelf.old) (H.arms shelf.old))
-        (outside_of (H.fault_count shelf.new) (H.disks shelf.new) (H.arms shelf.new)) (K.written sink.old) (K.written sink.new) }
+        (outside_of (H.fault_count shelf.new) (H.disks shelf.new) (H.arms shelf.new)) (S.left source.old) (S.left source.new) (K.written sink.old) (K.written sink.new) }
     // Behind an opening that succeeded, nothing of what was read of the disks is damaged.
-    ensures sound { H.Disk.Tells → (result ≡ 0) ⊎ (result ≡ 4) ⊎ (result ≡ 7) → (settings : Settings) → SaysRun (map string_bytes words.now) settings →
+    ensures sound { H.Disk.Tells → (result ≡ 0) ⊎ (result ≡ 4) ⊎ (result ≡ 7) ⊎ WasRead (S.left source.old) (S.left source.new) → (settings : Settings) → SaysRun (map string_bytes words.now) settings →
         IsUndamaged settings (λ slot. read_of (H.disks shelf.old slot)) }
     ensures long { result ≡ 7 → (script : List ℕ) → S.left source.old ≡ Some script →
         (rest : List ℕ) × (S.left source.new ≡ Some rest) × (length script ≡ SCRIPT + 1 + length rest) }

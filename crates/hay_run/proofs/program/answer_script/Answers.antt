@@ -1,4 +1,4 @@
-use Rattle.std.proofs.Common.{◌≡◌, ◌<◌, ◌++◌, Some, List, [], ℕ, length, map, refl, sym, ap, subst, ◌∙◌, arith}
+use Rattle.std.proofs.Common.{◌≡◌, ◌<◌, ◌++◌, Some, List, [], ℕ, length, map, refl, sym, ap, subst, ◌∙◌, arith, inl, inr}
 use Rattle.std.specs.Prelude.{Err, Option}
 use Rattle.std.proofs.lemmas.List.{append-nil}
 use Rattle.std.proofs.lemmas.Result.{on_ok_weaker}
@@ -22,7 +22,7 @@ use Rattle.hay_run.specs.Turns.{Serves, ServedUntil}
 use Rattle.hay_run.proofs.Counting.{NoneFalls-at, arm_there, sure_at}
 use Rattle.hay_run.proofs.Giving.{same_more}
 use Rattle.hay_run.proofs.Ran.{ran_all, ran_stopped}
-use Rattle.hay_run.proofs.Refusing.{on_ok_both, ran_unopened, cause_of, not_opened_later}
+use Rattle.hay_run.proofs.Refusing.{cause_of, none_opened, not_read, on_ok_both, ran_unopened, refused_later}
 use Rattle.hay_run.proofs.Unread.{was_read}
 use Rattle.hay_run.proofs.program.answer_script.Goals as goal
 
@@ -130,17 +130,18 @@ returns-clause-store g c = λ is.
     let store' = c.serve-outcome.new.cluster in
     let is_settings : store'.settings ≡ c.args.settings = c.serve-outcome.ensures.settings ∙ c.in-Ok.ensures.settings in
     let P : Settings → ℕ → Type 0 = λ s slot. slot < disk_count s in
-    not_opened_later D.Tells _ c.args.settings taken given
+    inr (refused_later D.Tells c.args.settings taken given
     (Stands D.files g.H.Disk.Piece.Piece.Tells D.fault_count D.fuse_count A.fault_count) D.files D.fault_count c.in-Ok.cluster store' c.in-Ok.ensures.settings
     (λ slot within. (c.in-Ok.ensures.counts slot within).faults_rise)
     (λ slot within. c.close.ensures.fault_counts slot (subst (λ s. P s slot) (sym is_settings) within))
     (λ tells slot within. c.close.ensures.contents tells slot (subst (λ s. P s slot) (sym is_settings) within))
     (λ tells k taken_is. let opened = c.in-Ok.ensures.opened tells k taken_is in (opened.0, opened.2))
+    c.in-Ok.ensures.sound (g.S.Source.left c.args.source.now) (g.S.Source.left c.serve-outcome.new.source) (g.K.Sink.written c.args.sink.now) (g.K.Sink.written c.serve-outcome.new.sink)
     (λ unread.
     let u : ServedUntil D.Tells (Stands D.files g.H.Disk.Piece.Piece.Tells D.fault_count D.fuse_count A.fault_count) (Holds D.files D.fault_count D.fuse_count A.fault_count) stop.Store (Some unread.0) c.in-Ok.cluster (g.K.Sink.written c.args.sink.now) (g.S.Source.left c.serve-outcome.new.source) store' (g.K.Sink.written c.serve-outcome.new.sink) =
     rw unread.1 at (c.serve-outcome.ensures.stopped stop.Store is) in
     was_read D.Tells (Stands D.files g.H.Disk.Piece.Piece.Tells D.fault_count D.fuse_count A.fault_count) (Holds D.files D.fault_count D.fuse_count A.fault_count) unread.0 (g.S.Source.left c.serve-outcome.new.source) c.in-Ok.cluster store' (g.K.Sink.written c.args.sink.now) (g.K.Sink.written c.serve-outcome.new.sink) u unread.2)
-    (g.K.Sink.written c.args.sink.now) (g.K.Sink.written c.serve-outcome.new.sink) (c.serve-outcome.ensures.halted is)
+    (c.serve-outcome.ensures.halted is))
 
 -- each arm that is sure is given back so
 pub returns-clause-sure_arms : goal.returns-clause-sure_arms
@@ -172,9 +173,9 @@ returns-in-Err-clause-stopped g c = λ tells why is k taken_is script held told 
     let written' = g.K.Sink.written c.write_refusal.new.sink in
     let P : Option (List ℕ) → Type 0 = λ left. RanTo c.args.settings k (ending_of why) script left (outside_of shelf disks arms) (outside_of shelf' disks' arms') held written' in
     subst P (sym told)
-    (ran_unopened c.args.settings shelf shelf' disks disks' arms arms' k taken_is (c.in-Err.ensures.kept tells) c.in-Err.ensures.back_counts c.in-Err.ensures.back_arms
-    script held written' D.Tells (Unit {0}) tells c.in-Err.fault why
-    (cause_of D.Tells (Unit {0}) c.args.settings (outside_of shelf disks arms) (outside_of shelf' disks' arms') c.requires.built.some_replicas c.in-Err.fault
+    (ran_unopened c.args.settings shelf shelf' disks disks' arms arms' k taken_is (c.in-Err.ensures.kept tells) c.in-Err.ensures.back_counts c.in-Err.ensures.back_arms c.requires.built.some_replicas
+    script held written' D.Tells tells c.in-Err.fault why
+    (cause_of D.Tells c.args.settings (outside_of shelf disks arms) (outside_of shelf' disks' arms') c.in-Err.fault
     c.in-Err.ensures.shelf c.in-Err.ensures.failed (λ t slot file at e. c.in-Err.ensures.damaged t slot file at (ap (λ f. Err f) e)))
     (rw (told_sink, same) at c.write_refusal.ensures.told) (rw (told_sink, same) at c.write_refusal.ensures.part)
     (λ none. let w = c.write_refusal.ensures.wanting none in (sym same ∙ w.0, ap g.K.Sink.written w.1 ∙ told_sink)) (rw same at c.write_refusal.ensures.stops))
@@ -185,18 +186,20 @@ returns-in-Err-clause-store g c = λ is.
     let shelf = g.H.Shelf.fault_count c.args.shelf.now in
     let shelf' = g.H.Shelf.fault_count c.open.new.shelf in
     let note = c.write_refusal.ensures.told (let e = is in cc e) in
-    record {
+    inl (record {
       note = note.0;
-      why = cause_of D.Tells _ c.args.settings (outside_of shelf (g.H.Shelf.disks c.args.shelf.now) (g.H.Shelf.arms c.args.shelf.now))
-          (outside_of shelf' (g.H.Shelf.disks c.open.new.shelf) (g.H.Shelf.arms c.open.new.shelf)) c.requires.built.some_replicas c.in-Err.fault
+      why = cause_of D.Tells c.args.settings (outside_of shelf (g.H.Shelf.disks c.args.shelf.now) (g.H.Shelf.arms c.args.shelf.now))
+          (outside_of shelf' (g.H.Shelf.disks c.open.new.shelf) (g.H.Shelf.arms c.open.new.shelf)) c.in-Err.fault
           c.in-Err.ensures.shelf c.in-Err.ensures.failed (λ t slot file at e. c.in-Err.ensures.damaged t slot file at (ap (λ f. Err f) e)) note.0 note.1;
-      told = λ held told_sink. (
-        [],
-        (let wrote : Wrote (Some held) (note_line note.0) (g.K.Sink.written c.write_refusal.new.sink) = rw told_sink at note.2 in
-            subst (λ (bytes : List ℕ). g.K.Sink.written c.write_refusal.new.sink ≡ Some (bytes ++ note_line note.0)) (sym (append-nil held)) wrote),
-        λ unread. refl,
-      );
-    }
+      told = λ held told_sink. (let wrote : Wrote (Some held) (note_line note.0) (g.K.Sink.written c.write_refusal.new.sink) = rw told_sink at note.2 in wrote);
+      unread = refl;
+      kept = c.in-Err.ensures.kept;
+      counts = c.in-Err.ensures.back_counts;
+    })
+
+pub returns-in-Err-clause-sound : goal.returns-in-Err-clause-sound
+returns-in-Err-clause-sound g c = λ tells opened.
+    absurd (none_opened c.write_refusal.result c.write_refusal.ensures.stops (not_read (g.S.Source.left c.args.source.now)) opened)
 
 pub returns-clause-appends : goal.returns-clause-appends
 returns-clause-appends g c = c.serve-outcome.ensures.appends

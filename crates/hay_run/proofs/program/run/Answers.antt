@@ -1,12 +1,12 @@
 use Rattle.std.specs.Prelude.{Option, Err}
-use Rattle.std.proofs.Common.{◌≡◌, List, ℕ, refl, map, string_bytes, sym, ap, subst, ◌∙◌}
+use Rattle.std.proofs.Common.{◌≡◌, List, ℕ, refl, map, string_bytes, sym, ap, subst, ◌∙◌, inl, inr, arith}
 use Rattle.hay_needle.specs.declared.settings.Settings.{Settings}
 use Rattle.hay_disk.specs.Shelf.{HeldDisk, HeldArm}
 use Rattle.hay_mount.specs.Mounts.{SameFrom}
 use Rattle.hay_legal.specs.Known.{disk_count}
 use Rattle.hay_legal.specs.Statuses.Ending.{ReadAll}
 use Rattle.hay_cluster.specs.Outside.{IsUndamaged, outside_of, read_of}
-use Rattle.hay_run.specs.Runs.{IsTaken, IsUnread, RanTo, IsNotOpened}
+use Rattle.hay_run.specs.Runs.{IsTaken, RanTo, IsNotOpened}
 use Rattle.hay_run.specs.Stops.{ending_of}
 use Rattle.hay_run.specs.Words.{SaysRun}
 use Rattle.hay_run.proofs.Commanding.{same_run}
@@ -101,15 +101,15 @@ returns-in-Err-run_script-clause-store g c = λ six settings says.
     same_run (map string_bytes c.args.words.now) c.in-Ok-Some.settings settings run says) in
     let taken = outside_of (g.H.Shelf.fault_count c.args.shelf.now) (g.H.Shelf.disks c.args.shelf.now) (g.H.Shelf.arms c.args.shelf.now) in
     let given = outside_of (g.H.Shelf.fault_count c.run_script.new.shelf) (g.H.Shelf.disks c.run_script.new.shelf) (g.H.Shelf.arms c.run_script.new.shelf) in
-    let P : Settings → Type 0 = λ s. IsNotOpened g.H.Disk.Disk.Tells (IsUnread (g.S.Source.left c.args.source.now) (g.S.Source.left c.run_script.new.source)) s
-    taken given (g.K.Sink.written c.args.sink.now) (g.K.Sink.written c.run_script.new.sink) in
+    let P : Settings → Type 0 = λ s. IsNotOpened g.H.Disk.Disk.Tells s (g.H.Shelf.disks c.args.shelf.now) (g.H.Shelf.disks c.run_script.new.shelf)
+    taken given (g.S.Source.left c.args.source.now) (g.S.Source.left c.run_script.new.source) (g.K.Sink.written c.args.sink.now) (g.K.Sink.written c.run_script.new.sink) in
     subst P same (c.in-Err-run_script.ensures.store (ap (λ w. Err w) (store_by c.in-Err-run_script.stop (sym c.status-in-Err-run_script.ensures ∙ six))))
 
 pub returns-in-Ok-clause-sound : goal.returns-in-Ok-clause-sound
 returns-in-Ok-clause-sound g c = λ tells status settings says.
     let same : c.in-Ok-Some.settings ≡ settings = (let run : SaysRun (map string_bytes c.args.words.now) c.in-Ok-Some.settings = rw c.in-Ok-Some.field-0-is at c.in-Ok-Some.ensures.run in
     same_run (map string_bytes c.args.words.now) c.in-Ok-Some.settings settings run says) in
-    subst (λ (s : Settings). IsUndamaged s (λ slot. read_of (g.H.Shelf.disks c.args.shelf.now slot))) same (c.in-Ok.ensures.sound tells tt)
+    subst (λ (s : Settings). IsUndamaged s (λ slot. read_of (g.H.Shelf.disks c.args.shelf.now slot))) same (c.in-Ok.ensures.sound tells (inl tt))
 
 pub returns-in-Err-run_script-clause-sound : goal.returns-in-Err-run_script-clause-sound
 returns-in-Err-run_script-clause-sound g c = λ tells status settings says.

@@ -5,7 +5,7 @@ use Rattle.hay_disk.specs.Streams.{Wrote, WrotePart}
 use Rattle.hay_reply.specs.Replies.{header_line}
 use Rattle.hay_cluster.specs.Outside.{outside_of}
 use Rattle.hay_run.specs.declared.stops.Stop.{Stop}
-use Rattle.hay_run.specs.Runs.{IsUnread, RanTo}
+use Rattle.hay_run.specs.Runs.{RanTo}
 use Rattle.hay_run.specs.Stops.{ending_of}
 use Rattle.hay_run.proofs.Refusing.{behind_header, ran_unwritten}
 use Rattle.hay_run.proofs.Turning.{appends_more}
@@ -29,7 +29,7 @@ returns-clause-store g c = λ is.
     let before = g.K.Sink.written c.args.sink.now in
     let mid = g.K.Sink.written c.write_header.new.sink in
     let after = g.K.Sink.written c.answer_script.new.sink in
-    behind_header g.H.Disk.Disk.Tells (IsUnread (g.S.Source.left c.args.source.now) (g.S.Source.left c.answer_script.new.source)) c.args.settings taken given before mid after
+    behind_header g.H.Disk.Disk.Tells c.args.settings (g.H.Shelf.disks c.args.shelf.now) (g.H.Shelf.disks c.answer_script.new.shelf) taken given (g.S.Source.left c.args.source.now) (g.S.Source.left c.answer_script.new.source) before mid after
     (λ held told. (let wrote : Wrote (Some held) (header_line c.args.settings) mid = rw told at c.in_ok-write_header.ensures.wrote in wrote))
     (c.answer_script.ensures.store is)
 
