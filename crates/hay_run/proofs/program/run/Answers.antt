@@ -1,5 +1,5 @@
 use Rattle.std.specs.Prelude.{Option, Err}
-use Rattle.std.proofs.Common.{◌≡◌, List, ℕ, refl, map, string_bytes, sym, ap, subst, ◌∙◌, inl, inr, arith}
+use Rattle.std.proofs.Common.{◌≡◌, List, ℕ, refl, map, string_bytes, sym, ap, subst, ◌∙◌, inl}
 use Rattle.hay_needle.specs.declared.settings.Settings.{Settings}
 use Rattle.hay_disk.specs.Shelf.{HeldDisk, HeldArm}
 use Rattle.hay_mount.specs.Mounts.{SameFrom}
