@@ -2,9 +2,10 @@
 """Measures the built program: photos of three sizes, put and read, and how time and memory grow with their number.
 
     bench/bench.py [--program PATH] [--words WORDS] [--repeat N] [--max PUTS] [--size BYTES] [--folder PATH] [--only TABLE]
+                   [--before PATH] [--photos N] [--equal] [--count]
 
-With --folder each run has real files, in a new folder below PATH. The tables are `sizes`, `growth`, `compaction` and `beside`;
-without --only all are made.
+With --folder each run has real files, in a new folder below PATH. The tables are `sizes`, `growth`, `compaction`, `beside`,
+`largest` and `small`; without --only all are made.
 
 Each measure has two scripts: the puts alone, and the same puts with a read of each photo behind them. The program runs
 on each of them with plain files as its standard input and output. The time of the reads is the difference of the two
@@ -14,8 +15,15 @@ above a run of an empty script. Each reply is looked at: a run in which a put is
 than were put, ends the benchmark.
 
 A compaction is measured over a volume of which every second photo was deleted, as the difference of a run with the command
-and one without. The last table has puts and reads of one volume while another, as large and half deleted, has no compaction,
+and one without. `beside` has puts and reads of one volume while another, as large and half deleted, has no compaction,
 or one that has examined half of its cells.
+
+`largest` has a put and a read of the largest photo, 16 MiB, against those of one of 1 MiB: the time of the processor, the median
+of five runs over --photos of each size, and with --count the instructions. With --equal all bytes of a photo are equal, and its
+line is short.
+
+`small` has the greatest memory of runs over small photos alone, the median of five, and with --before PATH that of another build
+beside it: a lane keeps room for the largest photo, and is to touch no more of it than the photos need.
 """
 
 import argparse
@@ -23,6 +31,8 @@ import functools
 import itertools
 import os
 import random
+import re
+import statistics
 import subprocess
 import sys
 import tempfile
@@ -34,6 +44,8 @@ MIB = 1024 * 1024
 TIME = "/usr/bin/time"
 SIZES = ((10_000, 64), (10_000, 4096), (100, MIB))
 COUNTS = (1_000, 10_000, 100_000, 1_000_000)
+LARGE = (MIB, 16 * MIB)
+LANES = 8
 
 
 class Run:
@@ -226,7 +238,86 @@ def beside_table(options, folder):
         print(f"| {name} | {(stored.cpu - empty.cpu) / count * 1e6:.1f} | {(both.cpu - stored.cpu) / count * 1e6:.1f} |", flush=True)
 
 
-TABLES = {"sizes": sizes_table, "growth": growth_table, "compaction": compaction_table, "beside": beside_table}
+def instructions(options, script, folder):
+    """The instructions of one run, by valgrind's cachegrind, which does not depend on other work."""
+    counts = folder / "counts"
+    command = ["valgrind", "--tool=cachegrind", "--cache-sim=no", "--cachegrind-out-file=/dev/null", f"--log-file={counts}"]
+    command += [options.program, *options.words.split()]
+    with tempfile.TemporaryDirectory(prefix="haystack-bench-", dir=options.folder) as store, open(script, "rb") as source:
+        if options.folder is not None:
+            command += ["--folder", store]
+        subprocess.run(command, stdin=source, stdout=subprocess.DEVNULL, check=True)
+    return int(re.search(r"I +refs: +([0-9,]+)", counts.read_text(encoding="utf-8")).group(1).replace(",", ""))
+
+
+def taken(options, folder, lines):
+    """The median time of the processor of five runs of a script, its instructions or none, and the transcript."""
+    once = argparse.Namespace(**{**vars(options), "repeat": 1})
+    runs = [run_script(once, folder, lines) for _ in range(5)]
+    counted = instructions(options, folder / "script", folder) if options.count else None
+    return statistics.median(run.cpu for run, _ in runs), counted, runs[-1][1]
+
+
+def large_puts(options, count, size):
+    """Puts of photos in hexadecimal digits, or with --equal of equal bytes, which a line gives by their number."""
+    if options.equal:
+        return [f"put {number} 1 x{size}:61\n" for number in range(count)]
+    return put_lines(count, size)
+
+
+def check_large(options, transcript, before, count, size):
+    if not options.equal:
+        return check_photos(transcript, before, count, size)
+    shown = [words[5] for words in itertools.islice(replies(transcript), before, None) if words[0] == "photo"]
+    if shown != [f"x{size}:61"] * count:
+        sys.exit(f"{count} reads were asked, and not so many photos shown")
+
+
+def largest_table(options, folder):
+    """What a photo costs beyond the program's start and its end."""
+    count = options.photos
+    print("| photo bytes | milliseconds a put | milliseconds a read | million instructions a put | million instructions a read |")
+    print("|---:|---:|---:|---:|---:|")
+    rows = []
+    for size in LARGE:
+        empty, none, _ = taken(options, folder, [])
+        puts, most, transcript = taken(options, folder, large_puts(options, count, size))
+        cookies = cookies_of(transcript)
+        both, all_of, transcript = taken(options, folder, large_puts(options, count, size) + read_lines(cookies))
+        check_large(options, transcript, count, count, size)
+        row = [(puts - empty) / count * 1e3, (both - puts) / count * 1e3]
+        row += [None, None] if None in (none, most, all_of) else [(most - none) / count / 1e6, (all_of - most) / count / 1e6]
+        rows.append(row)
+        print(f"| {size:,} | " + " | ".join("" if value is None else f"{value:,.1f}" for value in row) + " |", flush=True)
+    print("| times as much | " + " | ".join("" if None in pair else f"{pair[1] / pair[0]:.2f}" for pair in zip(*rows)) + " |", flush=True)
+
+
+def small_table(options, folder):
+    programs = [("this build", options.program)] + ([("before", options.before)] if options.before else [])
+    print("| 10,000 photos of 64 bytes, each put and read | peak KiB | of an empty script, KiB |")
+    print("|---|---:|---:|")
+    peaks = []
+    for name, program in programs:
+        once = argparse.Namespace(**{**vars(options), "program": program, "repeat": 1})
+        puts = put_lines(10_000, 64)
+        _, transcript = run_script(once, folder, puts)
+        lines = puts + read_lines(cookies_of(transcript))
+        peak = statistics.median(run_script(once, folder, lines)[0].peak for _ in range(5)) / 1024
+        empty = statistics.median(run_script(once, folder, [])[0].peak for _ in range(5)) / 1024
+        peaks.append(peak)
+        print(f"| {name} | {peak:,.0f} | {empty:,.0f} |", flush=True)
+    if len(peaks) > 1:
+        print(f"| more, for each of {LANES} lanes | {(peaks[0] - peaks[1]) / LANES:,.1f} | |", flush=True)
+
+
+TABLES = {
+    "sizes": sizes_table,
+    "growth": growth_table,
+    "compaction": compaction_table,
+    "beside": beside_table,
+    "largest": largest_table,
+    "small": small_table,
+}
 
 
 def main():
@@ -238,6 +329,10 @@ def main():
     parser.add_argument("--size", type=int, default=64)
     parser.add_argument("--folder")
     parser.add_argument("--only", choices=TABLES)
+    parser.add_argument("--before", help="another build, beside which the memory of small photos is measured")
+    parser.add_argument("--photos", type=int, default=4, help="how many photos of each size `largest` has")
+    parser.add_argument("--equal", action="store_true", help="photos of equal bytes in `largest`")
+    parser.add_argument("--count", action="store_true", help="count the instructions of `largest` by valgrind, too")
     options = parser.parse_args()
     if not os.access(options.program, os.X_OK):
         sys.exit(f"{options.program} is not there: cd crates/haystack && rt run -- run < stdin")

@@ -3,7 +3,7 @@ use Rattle.std.proofs.Common.{◌≡◌, ℕ, Bool, false, List, map, Option, So
 use Rattle.std.specs.Prelude.{find, option_map, slice_index_or, Err, Ok}
 use Rattle.std.specs.List.{enumerate_from}
 use Rattle.hay_needle.specs.declared.settings.Settings.{Settings}
-use Rattle.hay_needle.specs.Sizes.{total_of_lem}
+use Rattle.hay_needle.specs.Sizes.{needle_total}
 use Rattle.hay_disk.specs.Disk.{Files}
 use Rattle.hay_reply.specs.declared.Refused.{Refused}
 use Rattle.hay_reply.specs.declared.Refused.TheVariants.{NoRoom}
@@ -35,12 +35,12 @@ open-thawed None drained is = refl
 open-thawed (Some m) drained is = absurd cc
 
 abbrev refusal_at : Settings → ℕ → ℕ → ℕ × ReplicaKnown → Refused
-refusal_at settings v size at = NoRoom v (machine_of settings v at.0) (at.1).end (total_of_lem size)
+refusal_at settings v size at = NoRoom v (machine_of settings v at.0) (at.1).end (needle_total size)
 
 full_at : (settings : Settings) (v size : ℕ) (o : Option (ℕ × ReplicaKnown)) (fault : LogicalFault) → room_answer settings None (option_map (refusal_at settings v size) o) ≡ Err fault → lack_of v fault ≡ option_map (refusal_at settings v size) o
 full_at settings v size None fault is = absurd cc
 full_at settings v size (Some at) fault is =
-    let same : Full (machine_of settings v at.0) (at.1).end (total_of_lem size) settings.capacity ≡ fault = cc in
+    let same : Full (machine_of settings v at.0) (at.1).end (needle_total size) settings.capacity ≡ fault = cc in
     ap (lack_of v) (sym same)
 
 free_at : (settings : Settings) (v size : ℕ) (o : Option (ℕ × ReplicaKnown)) → room_answer settings None (option_map (refusal_at settings v size) o) ≡ Ok tt → None ≡ option_map (refusal_at settings v size) o

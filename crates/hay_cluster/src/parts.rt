@@ -20,7 +20,7 @@ use hay_core::CoreTag;
 use hay_directory::DirFault;
 use hay_disk::{Arm, Disk};
 use hay_logical::LogicalFault;
-use hay_needle::{Cookie, Pair};
+use hay_needle::{Cookie, MAX_PHOTO, Pair};
 use std::alloc::Global;
 
 impl<D: Disk, A: Arm<D::Piece>> Cluster<D, A> {
@@ -35,7 +35,7 @@ impl<D: Disk, A: Arm<D::Piece>> Cluster<D, A> {
         volume: u32,
     ) -> Result<u64, LogicalFault>
         requires volume { volume < self.old.settings.volumes }
-        requires size { length bytes.now ≤ 1048576 }
+        requires size { length bytes.now ≤ MAX_PHOTO }
         requires up { IsUp self.old }
         ensures moves { D.Tells → (k : Known) → Stands D.files D.Piece.Tells D.fault_count D.fuse_count A.fault_count self.old k →
             InVolume D.files D.Piece.Tells D.fault_count D.fuse_count A.fault_count k volume self.old self.new (λ before after.

@@ -18,7 +18,7 @@ use hay_core::CoreTag;
 use hay_directory::{DirFault, tries};
 use hay_disk::{Arm, Disk};
 use hay_logical::LogicalFault;
-use hay_needle::Pair;
+use hay_needle::{MAX_PHOTO, Pair};
 use hay_reply::{ClosedBy, Refused, Reply};
 use hay_url::cookie_of;
 use std::alloc::Global;
@@ -35,7 +35,7 @@ pub enum Tried {
 impl<D: Disk, A: Arm<D::Piece>> Cluster<D, A> {
     /// Stores a photo in its pair's home, or in the first of its tries that takes it.
     pub(crate) fn put(&mut self, alloc: Global, tag: CoreTag, pair: Pair, bytes: &[u8]) -> Reply
-        requires size { length bytes.now ≤ 1048576 }
+        requires size { length bytes.now ≤ MAX_PHOTO }
         requires up { IsUp self.old }
         ensures legal { D.Tells → (k : Known) → Stands D.files D.Piece.Tells D.fault_count D.fuse_count A.fault_count self.old k →
             Answered D.files D.Piece.Tells D.fault_count D.fuse_count A.fault_count k tag (asks.Put pair bytes.now) result self.new }
@@ -86,7 +86,7 @@ impl<D: Disk, A: Arm<D::Piece>> Cluster<D, A> {
         bytes: &[u8],
         tried: Tried,
     ) -> Reply
-        requires size { length bytes.now ≤ 1048576 }
+        requires size { length bytes.now ≤ MAX_PHOTO }
         requires homeless { directory.home_of self.old.directory pair ≡ None }
         requires within { (volume : ℕ) → tried ≡ Tried.Taker volume → volume < self.old.settings.volumes }
         requires up { IsUp self.old }
@@ -116,7 +116,7 @@ impl<D: Disk, A: Arm<D::Piece>> Cluster<D, A> {
         bytes: &[u8],
         volume: u32,
     ) -> Reply
-        requires size { length bytes.now ≤ 1048576 }
+        requires size { length bytes.now ≤ MAX_PHOTO }
         requires volume { volume < self.old.settings.volumes }
         requires homeless { directory.home_of self.old.directory pair ≡ None }
         requires up { IsUp self.old }
@@ -145,7 +145,7 @@ impl<D: Disk, A: Arm<D::Piece>> Cluster<D, A> {
         bytes: &[u8],
         volume: u32,
     ) -> Reply
-        requires size { length bytes.now ≤ 1048576 }
+        requires size { length bytes.now ≤ MAX_PHOTO }
         requires volume { volume < self.old.settings.volumes }
         requires up { IsUp self.old }
         ensures stored { D.Tells → (k : Known) → Stands D.files D.Piece.Tells D.fault_count D.fuse_count A.fault_count self.old k →

@@ -20,14 +20,11 @@ use hay_core::CoreTag;
 use hay_directory::machine_of;
 use hay_disk::{Arm, Disk};
 use hay_logical::Looked;
-use hay_needle::{Bytes, Cookie, Pair, Settings};
+use hay_needle::{Bytes, Cookie, MAX_PHOTO, Pair, Settings};
 use hay_reader::{PassedReplica, ReadReply};
 use hay_reply::{Passed, Reply};
 use hay_url::Url;
 use std::alloc::Global;
-
-/// The most bytes that a photo has.
-const MOST_BYTES: usize = 1_048_576;
 
 impl<D: Disk, A: Arm<D::Piece>> Cluster<D, A> {
     /// The replica from which a line reads first.
@@ -120,7 +117,7 @@ impl<D: Disk, A: Arm<D::Piece>> Cluster<D, A> {
         ensures settings { self.new.settings ≡ self.old.settings }
         ensures up { IsUp self.new }
     {
-        let Ok(mut photo) = Vec::with_capacity(alloc, MOST_BYTES) else {
+        let Ok(mut photo) = Vec::with_capacity(alloc, MAX_PHOTO as usize) else {
             return Reply::NoMem;
         };
         let rows = self.rows();
@@ -174,7 +171,7 @@ impl<D: Disk, A: Arm<D::Piece>> Cluster<D, A> {
         requires volume { volume < self.old.settings.volumes }
         requires start { start < self.old.settings.replicas }
         requires empty { photo.old.items ≡ [] }
-        requires room { 1048576 ≤ vec_capacity photo.old }
+        requires room { MAX_PHOTO ≤ vec_capacity photo.old }
         requires up { IsUp self.old }
         ensures read { D.Tells → (k : Known) → Stands D.files D.Piece.Tells D.fault_count D.fuse_count A.fault_count self.old k →
             (result.0 ≡ length (volume_at k volume).log)

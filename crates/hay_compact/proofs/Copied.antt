@@ -1,24 +1,28 @@
 -- A cell is examined.
 use Rattle.std.proofs.Common.{◌≡◌, ◌≢◌, ◌⊎◌, inl, inr, ◌≤◌, ◌<◌, ◌+◌, ◌-◌, ◌^◌, ℕ, Bool, true, false, not, ◌&&◌, cond, eqb, List, [], ◌∷◌, ◌++◌, length, take, drop, Option, Some, None, refl, sym, ap, ◌∙◌, subst, arith}
-use Rattle.std.specs.Prelude.{All, map, option_map}
+use Rattle.std.specs.Prelude.{All, map, option_map, slice_range}
 use Rattle.std.specs.Option.{option_or, option_eq}
 use Rattle.std.proofs.lemmas.Bool.{cases_Bool, true≢false, and_from, and_parts, not-true, eq-eqb, eqb-true}
-use Rattle.std.proofs.lemmas.List.{length-append, map-append}
-use Rattle.std.proofs.lemmas.List.Elements.{All-append, All-cons, All-nil}
+use Rattle.std.proofs.lemmas.List.{drop_at, length-append, map-append, take_at}
+use Rattle.std.proofs.lemmas.List.Elements.{All-append, All-cons, All-nil, All-push}
 use Rattle.hay_needle.specs.declared.needle.Cell.{Cell}
+use Rattle.hay_needle.specs.declared.needle.Cookie.{Cookie}
+use Rattle.hay_needle.specs.declared.needle.Row.{Row}
+use Rattle.hay_needle.specs.declared.needle.Version.TheVariants.{Two}
 use Rattle.hay_needle.specs.declared.needle.CellHead.{CellHead}
 use Rattle.hay_needle.specs.declared.needle.Needle.{Needle}
 use Rattle.hay_needle.specs.declared.needle.Pair.{Pair}
 use Rattle.hay_needle.specs.declared.settings.Super.{Super}
 use Rattle.hay_needle.specs.Copies.{CopiesAt}
-use Rattle.hay_needle.specs.Needle.{needle_of_cell}
-use Rattle.hay_needle.specs.Sizes.{total_of_lem}
+use Rattle.hay_needle.specs.Needle.{footer_bytes, head_bytes, head_of_needle, live, needle_of_cell}
+use Rattle.hay_needle.specs.Sizes.{max_photo, needle_total}
 use Rattle.hay_needle.specs.Super.{super_bytes}
-use Rattle.hay_needle.specs.Tables.{is_live, lacks, pair_eq}
+use Rattle.hay_needle.specs.Tables.{is_live, lacks, look, needle_row, pair_eq, rows_of}
 use Rattle.hay_needle.proofs.CopyLaws.{copies_one}
+use Rattle.hay_needle.proofs.Needles.{length-head, length-needle, max_photo-le}
 use Rattle.hay_disk.specs.Disk.{Files, FileState, KeepsOthers}
 use Rattle.hay_volume.specs.declared.volume.VolumeFile.{VolumeFile}
-use Rattle.hay_volume.specs.Cells.{HasCells, IsVolume, IsMarked, cell_head, cell_of_needle, needles_of}
+use Rattle.hay_volume.specs.Cells.{HasCells, IsMarked, IsVolume, cell_head, live_cell, needles_of}
 use Rattle.hay_volume.proofs.Volumes.{length-marked}
 use Rattle.hay_index.specs.declared.index.IndexFile.{IndexFile}
 use Rattle.hay_index.specs.declared.record.Record.{Record}
@@ -26,35 +30,69 @@ use Rattle.hay_index.specs.Records.{IsIndex}
 use Rattle.hay_open.specs.Stored.{cell_record, index_super, last_cell, volume_super}
 use Rattle.hay_compact.specs.declared.standing.LastCell.{LastCell}
 use Rattle.hay_compact.specs.Standing.{LastCells, last_in}
-use Rattle.hay_compact.specs.Copying.{Copying, HasPeeked, IsCopy, IsLatest, IsSafe, Making, MovesOn, Stage, cell_total, kept_cell, live_among, moved}
+use Rattle.hay_compact.specs.Copying.{Copying, HasPeeked, IsCopy, IsLatest, IsSafe, Making, MovesOn, Stage, cell_total, kept_cell, live_among, renewed, renewed_needle}
 use Rattle.hay_compact.proofs.LiveNeedles.{next_among}
 use Rattle.hay_compact.proofs.CellLists.{lacks_more, lacks_parts, last_cell-append, latest_live, other_dead}
 use Rattle.hay_compact.proofs.Copyings.{current_parts, end_next, needles_next, skips, within_next}
 
 -- WHAT WAS PEEKED AT
 
-pub peeked_long : (at : ℕ) (bytes : List ℕ) (head : CellHead) → HasPeeked at bytes head → length bytes ≡ total_of_lem head.size + 8
+pub peeked_long : (at : ℕ) (bytes : List ℕ) (head : CellHead) → HasPeeked at bytes head → length bytes ≡ needle_total head.size
 peeked_long at bytes head h =
-    let size : total_of_lem head.size ≡ total_of_lem (length h.cell.bytes) = ap (λ (x : CellHead). total_of_lem x.size) h.is.head_is in
-    omega (arith, length-marked bytes (needle_of_cell h.cell) h.is.marked)
+    length-needle bytes (needle_of_cell h.cell) h.is.is.is ∙ ap (λ (x : CellHead). needle_total x.size) (sym h.is.head_is)
 
-pub peeked_small : (at : ℕ) (bytes : List ℕ) (head : CellHead) → HasPeeked at bytes head → head.size ≤ 1048576
+pub peeked_small : (at : ℕ) (bytes : List ℕ) (head : CellHead) → HasPeeked at bytes head → head.size ≤ 16777216
 peeked_small at bytes head h =
     let size : head.size ≡ length h.cell.bytes = ap (λ (x : CellHead). x.size) h.is.head_is in
-    let fits = h.is.marked.is.fits.size in
-    omega arith
+    let fits = h.is.is.is.fits.size in
+    omega (arith, max_photo-le h.cell.version)
+
+-- its photo among its bytes
+pub photo_there : (at : ℕ) (bytes photo : List ℕ) (head : CellHead) (cell : Cell) → IsCopy at bytes head cell → photo ≡ take head.size (drop 36 bytes) → photo ≡ cell.bytes
+photo_there at bytes photo head cell copy is =
+    let needle : Needle = needle_of_cell cell in
+    let flags : ℕ = copy.is.is.flags in
+    let first : List ℕ = head_bytes (head_of_needle needle) flags in
+    let long : length first ≡ 36 = length-head first (head_of_needle needle) (record { flags = flags; spelled = refl; fits = copy.is.is.fits }) in
+    is ∙ ap (λ (l : List ℕ). take head.size (drop 36 l)) copy.is.is.spelled
+    ∙ ap (λ (l : List ℕ). take head.size l) (drop_at first (cell.bytes ++ footer_bytes needle) 36 long)
+    ∙ take_at cell.bytes (footer_bytes needle) head.size (sym (ap (λ (x : CellHead). x.size) copy.head_is))
+
+pub photo_seen : (size : ℕ) (seen bytes : List ℕ) → seen ≡ bytes → slice_range seen 36 (36 + size) ≡ take size (drop 36 bytes)
+photo_seen size seen bytes same = ap (λ k. take k (drop 36 seen)) (let e : 36 + size - 36 ≡ size = omega arith in e) ∙ ap (λ (l : List ℕ). take size (drop 36 l)) same
+
+-- its needle anew, and the end mark behind it
+pub anew_long : (at : ℕ) (bytes photo anew : List ℕ) (head : CellHead) → HasPeeked at bytes head → photo ≡ take head.size (drop 36 bytes) → IsMarked anew (live head.pair head.cookie photo) → length anew ≡ needle_total head.size + 8
+anew_long at bytes photo anew head h seen marked =
+    let size : length photo ≡ head.size = ap length (photo_there at bytes photo head h.cell h.is seen) ∙ sym (ap (λ (x : CellHead). x.size) h.is.head_is) in
+    length-marked anew (live head.pair head.cookie photo) marked ∙ ap (λ k. needle_total k + 8) size
+
+-- nothing bounds the new file
+pub anew_fits : (s : Stage) (anew : List ℕ) (head : CellHead) → HasPeeked s.next s.bytes head → IsSafe s.volume s.index s.next → length anew ≡ needle_total head.size + 8 → s.volume.end + length anew ≤ s.volume.capacity
+anew_fits s anew head h safe long =
+    let behind = safe.behind in
+    let unbounded = safe.unbounded in
+    omega (arith, peeked_long s.next s.bytes head h, h.inside)
+
+-- with this photo a live needle of version 2 is the cell anew
+pub renewed_is : (at next : ℕ) (bytes photo : List ℕ) (head : CellHead) (cell : Cell) → IsCopy next bytes head cell → head.deleted ≡ false → photo ≡ cell.bytes → live_cell at head.pair head.cookie photo ≡ renewed at cell
+renewed_is at next bytes photo head cell copy alive is =
+    let with : Pair → Cookie → List ℕ → Bool → Cell = λ p k l b. record { at = at; version = Two; pair = p; cookie = k; bytes = l; deleted = b } in
+    ap (λ (x : CellHead). with x.pair x.cookie photo false) copy.head_is
+    ∙ ap (λ (l : List ℕ). with cell.pair cell.cookie l false) is
+    ∙ ap (λ (b : Bool). with cell.pair cell.cookie cell.bytes b) (sym alive ∙ ap (λ (x : CellHead). x.deleted) copy.head_is)
 
 -- the sum of the places
-pub peeked_fits : (at next total : ℕ) (bytes : List ℕ) (head : CellHead) → HasPeeked at bytes head → next ≡ at → total ≡ total_of_lem head.size → next + total < 2 ^ 64
+pub peeked_fits : (at next total : ℕ) (bytes : List ℕ) (head : CellHead) → HasPeeked at bytes head → next ≡ at → total ≡ needle_total head.size → next + total < 2 ^ 64
 peeked_fits at next total bytes head h same is = omega (arith, peeked_long at bytes head h, h.inside)
 
 -- one more cell in the new file, behind which the current one's next cell stands
-pub stays_safe : (s : Stage) (volume : VolumeFile) (index : IndexFile) (row : Record) (head : CellHead) (total : ℕ) → HasPeeked s.next s.bytes head → IsSafe s.volume s.index s.next → volume ≡ record s.volume { end = s.volume.end + (length s.bytes - 8) }
-    → index ≡ record s.index { pending = s.index.pending ++ row ∷ [] } → row.size ≡ head.size → total ≡ total_of_lem head.size → IsSafe volume index (s.next + total)
-stays_safe s volume index row head total h safe grown noted size is =
-    let Small : Record → Type 0 = λ (r : Record). r.size ≤ 1048576 in
-    let end : volume.end ≡ s.volume.end + (length s.bytes - 8) = ap (λ (v : VolumeFile). v.end) grown in
-    let long = peeked_long s.next s.bytes head h in
+pub stays_safe : (s : Stage) (volume : VolumeFile) (index : IndexFile) (row : Record) (head : CellHead) (total : ℕ) (anew : List ℕ) → HasPeeked s.next s.bytes head → length anew ≡ needle_total head.size + 8 → IsSafe s.volume s.index s.next
+    → volume ≡ record s.volume { end = s.volume.end + (length anew - 8) }
+    → index ≡ record s.index { pending = s.index.pending ++ row ∷ [] } → row.size ≡ head.size → total ≡ needle_total head.size → IsSafe volume index (s.next + total)
+stays_safe s volume index row head total anew h long safe grown noted size is =
+    let Small : Record → Type 0 = λ (r : Record). r.size ≤ max_photo Two in
+    let end : volume.end ≡ s.volume.end + (length anew - 8) = ap (λ (v : VolumeFile). v.end) grown in
     let behind = safe.behind in
     let small = peeked_small s.next s.bytes head h in
     record {
@@ -76,7 +114,7 @@ is_dead false false why = refl
 
 pub copy_skips : (sup : Super) (files : Files) (old : VolumeFile) (s new : Stage) (current fresh : List Cell) (n at total : ℕ) (cell : Cell) (head : CellHead) (latest : Option ℕ)
     → Copying sup files old s current fresh n → drop n current ≡ cell ∷ drop (n + 1) current → IsCopy s.next s.bytes head cell → IsLatest current cell.pair latest
-    → (head.deleted ≡ true) ⊎ (latest ≢ Some s.next) → total ≡ total_of_lem head.size → new ≡ record s { next = s.next + total }
+    → (head.deleted ≡ true) ⊎ (latest ≢ Some s.next) → total ≡ needle_total head.size → new ≡ record s { next = s.next + total }
     → MovesOn sup files old new current fresh n cell at false
 copy_skips sup files old s new current fresh n at total cell head latest h is copy last why size moves =
     let behind : List Cell = drop (n + 1) current in
@@ -90,11 +128,11 @@ copy_skips sup files old s new current fresh n at total cell head latest h is co
           other_dead (take n current) behind cell latest at_parts
           (λ same. elim why [
             | inl gone ↦ true≢false (sym gone ∙ head_deleted head cell copy.head_is ∙ alive)
-            | inr other ↦ other (same ∙ ap (λ k. Some k) copy.place)
+            | inr other ↦ other (same ∙ ap (λ k. Some k) copy.is.place)
           ])
           alive)
     ]) in
-    let step : s.next + total ≡ s.next + cell_total cell = omega (arith, size, ap (λ (x : CellHead). total_of_lem x.size) copy.head_is) in
+    let step : s.next + total ≡ s.next + cell_total cell = omega (arith, size, ap (λ (x : CellHead). needle_total x.size) copy.head_is) in
     subst (λ (x : Stage). MovesOn sup files old x current fresh n cell at false) (sym moves)
     (skips sup files old s current fresh n at (s.next + total) cell h is dead step)
 
@@ -105,33 +143,36 @@ abbrev pub copied_at : ℕ → LastCell
 copied_at at = record { at = at; deleted = false }
 
 -- what that makes of the new files
-pub copy_makes : (sup : Super) (files later : Files) (s : Stage) (volume : VolumeFile) (index : IndexFile) (standing : LastCells) (fresh : List Cell) (next : ℕ) (cell : Cell) (head : CellHead) (row : Record)
-    → Making sup files s fresh → IsCopy s.next s.bytes head cell → head.deleted ≡ false
-    → volume ≡ record s.volume { end = s.volume.end + (length s.bytes - 8) }
-    → ((superblock : List ℕ) (cells : List Cell) (needle : Needle) → IsMarked s.bytes needle → IsVolume superblock (files s.volume.file).now cells s.volume.end → IsVolume superblock (later s.volume.file).now (cells ++ cell_of_needle s.volume.end needle ∷ []) volume.end)
+pub copy_makes : (sup : Super) (files later : Files) (s : Stage) (volume : VolumeFile) (index : IndexFile) (standing : LastCells) (fresh : List Cell) (next : ℕ) (cell : Cell) (head : CellHead) (row : Record) (photo : List ℕ)
+    → Making sup files s fresh → IsCopy s.next s.bytes head cell → head.deleted ≡ false → photo ≡ take head.size (drop 36 s.bytes)
+    → volume.file ≡ s.volume.file
+    → ((superblock : List ℕ) (cells : List Cell) → IsVolume superblock (files s.volume.file).now cells s.volume.end → IsVolume superblock (later s.volume.file).now (cells ++ live_cell s.volume.end head.pair head.cookie photo ∷ []) volume.end)
     → ((k : ℕ) → (files s.volume.file).sealed k ≡ false → (later s.volume.file).sealed k ≡ false) → KeepsOthers s.volume.file files later
     → index ≡ record s.index { pending = s.index.pending ++ row ∷ [] } → row ≡ record { pair = head.pair; at = s.volume.end; size = head.size }
     → ((pair : Pair) → last_in standing pair ≡ cond (pair_eq head.pair pair) (Some (copied_at s.volume.end)) (last_in s.standing pair))
-    → Making sup later (record s { volume = volume; index = index; standing = standing; next = next }) (fresh ++ moved s.volume.end cell ∷ [])
-copy_makes sup files later s volume index standing fresh next cell head row h copy alive grown added free others noted row_is set = record {
+    → Making sup later (record s { volume = volume; index = index; standing = standing; next = next }) (fresh ++ renewed s.volume.end cell ∷ [])
+copy_makes sup files later s volume index standing fresh next cell head row photo h copy alive seen file added free others noted row_is set = record {
   names_volume = file ∙ h.names_volume;
   names_index = ap (λ (i : IndexFile). i.file) noted ∙ h.names_index;
   volume_is = subst (λ k. IsVolume (super_bytes (volume_super sup s.generation)) (later k).now (fresh ++ copied ∷ []) volume.end) (sym file)
-      (added (super_bytes (volume_super sup s.generation)) fresh (needle_of_cell cell) copy.marked h.volume_is);
+      (subst (λ (c : Cell). IsVolume (super_bytes (volume_super sup s.generation)) (later s.volume.file).now (fresh ++ c ∷ []) volume.end)
+      (renewed_is s.volume.end s.next s.bytes photo head cell copy alive (photo_there s.next s.bytes photo head cell copy seen))
+      (added (super_bytes (volume_super sup s.generation)) fresh h.volume_is));
   index_is = subst (λ (i : IndexFile). IsIndex (super_bytes (index_super sup s.generation)) (later i.file).now [] i.end) (sym noted)
       (subst (λ (f : FileState). IsIndex (super_bytes (index_super sup s.generation)) f.now [] s.index.end) (sym index_stays) h.index_is);
   volume_free = λ k. subst (λ j. (later j).sealed k ≡ false) (sym file) (free k (h.volume_free k));
   index_free = λ k. subst (λ (i : IndexFile). (later i.file).sealed k ≡ false) (sym noted) (ap (λ (f : FileState). f.sealed k) index_stays ∙ h.index_free k);
   noted = ap (λ (i : IndexFile). i.pending) noted ∙ ap (λ (l : List Record). l ++ row ∷ []) h.noted ∙ ap (λ (r : Record). map cell_record fresh ++ r ∷ []) record_is ∙ sym (map-append cell_record fresh (copied ∷ []));
+  anew = All-push IsAnew fresh copied h.anew refl;
   places = λ pair. set pair ∙ placed pair;
   capacity_is = h.capacity_is;
 }
   where
     copied : Cell
-    copied = moved s.volume.end cell
+    copied = renewed s.volume.end cell
 
-    file : volume.file ≡ s.volume.file
-    file = ap (λ (v : VolumeFile). v.file) grown
+    IsAnew : Cell → Type 0
+    IsAnew c = c.version ≡ Two
 
     index_stays : later s.index.file ≡ files s.index.file
     index_stays = others s.index.file (λ same. let a = h.names_volume in let b = h.names_index in absurd (omega arith))
@@ -156,11 +197,25 @@ copy_makes sup files later s volume index standing fresh next cell head row h co
         ∙ ap (λ (p : Pair). option_map kept_cell (option_or (cond (pair_eq p pair) (Some copied) None) (last_cell fresh pair))) pair_is
         ∙ ap (option_map kept_cell) (sym (last_cell-append fresh (copied ∷ []) pair))
 
+-- the version counts for nothing in the table
+rows_renewed : (fresh : List Needle) (needle : Needle) → rows_of (fresh ++ renewed_needle needle ∷ []) ≡ rows_of (fresh ++ needle ∷ [])
+rows_renewed fresh needle = map-append needle_row fresh (renewed_needle needle ∷ []) ∙ sym (map-append needle_row fresh (needle ∷ []))
+
+rows_renewed_before : (fresh behind : List Needle) (needle : Needle) → rows_of ((fresh ++ renewed_needle needle ∷ []) ++ behind) ≡ rows_of ((fresh ++ needle ∷ []) ++ behind)
+rows_renewed_before fresh behind needle =
+    map-append needle_row (fresh ++ renewed_needle needle ∷ []) behind ∙ ap (λ (l : List Row). l ++ rows_of behind) (rows_renewed fresh needle) ∙ sym (map-append needle_row (fresh ++ needle ∷ []) behind)
+
+copies_renewed : (pair : Pair) (fresh current : List Needle) (n : ℕ) (needle : Needle) → CopiesAt pair (fresh ++ needle ∷ []) current n → CopiesAt pair (fresh ++ renewed_needle needle ∷ []) current n
+copies_renewed pair fresh current n needle h = record {
+  table = ap (λ (l : List Row). look l pair) (rows_renewed_before fresh (drop n current) needle) ∙ h.table;
+  gone = λ none. ap (λ (l : List Row). look l pair) (rows_renewed fresh needle) ∙ h.gone none;
+}
+
 pub copy_copies : (sup : Super) (files later : Files) (old : VolumeFile) (s : Stage) (volume : VolumeFile) (index : IndexFile) (standing : LastCells) (current fresh : List Cell) (n total : ℕ) (cell : Cell) (head : CellHead) (latest : Option ℕ)
     → Copying sup files old s current fresh n → drop n current ≡ cell ∷ drop (n + 1) current → IsCopy s.next s.bytes head cell → IsLatest current cell.pair latest
-    → head.deleted ≡ false → latest ≡ Some s.next → total ≡ total_of_lem head.size
+    → head.deleted ≡ false → latest ≡ Some s.next → total ≡ needle_total head.size
     → volume.file ≡ s.volume.file → index.file ≡ s.index.file → KeepsOthers s.volume.file files later
-    → Making sup later (record s { volume = volume; index = index; standing = standing; next = s.next + total }) (fresh ++ moved s.volume.end cell ∷ [])
+    → Making sup later (record s { volume = volume; index = index; standing = standing; next = s.next + total }) (fresh ++ renewed s.volume.end cell ∷ [])
     → MovesOn sup later old (record s { volume = volume; index = index; standing = standing; next = s.next + total }) current fresh n cell s.volume.end true
 copy_copies sup files later old s volume index standing current fresh n total cell head latest h is copy last alive here size file index_file others made = record {
   copying = record {
@@ -171,6 +226,7 @@ copy_copies sup files later old s volume index standing current fresh n total ce
     volume_free = made.volume_free;
     index_free = made.index_free;
     noted = made.noted;
+    anew = made.anew;
     places = made.places;
     capacity_is = made.capacity_is;
     volume_apart = λ same. h.volume_apart (same ∙ file);
@@ -178,20 +234,22 @@ copy_copies sup files later old s volume index standing current fresh n total ce
     superblock = h.superblock;
     current_is = subst (λ (f : FileState). IsVolume h.superblock f.now current old.end) (sym (others old.file h.volume_apart)) h.current_is;
     within = within_next n current cell h.within is;
-    next_is = (let before = h.next_is in omega (arith, end_next n current cell is, size, ap (λ (x : CellHead). total_of_lem x.size) copy.head_is));
+    next_is = (let before = h.next_is in omega (arith, end_next n current cell is, size, ap (λ (x : CellHead). needle_total x.size) copy.head_is));
     known = λ pair none. lacks_more pair fresh copied (h.known pair none) (not_here pair none);
   };
   live = sym lives;
   table = λ pair table.
       subst (λ (l : List Needle). CopiesAt pair l (needles_of current) (n + 1)) (sym (map-append needle_of_cell fresh (copied ∷ [])))
-      (copies_one pair (needles_of fresh) (needles_of current) n (needle_of_cell cell) (needles_of (drop (n + 1) current)) (needles_next n current cell is) lives table);
+      (copies_renewed pair (needles_of fresh) (needles_of current) (n + 1) (needle_of_cell cell)
+      (copies_one pair (needles_of fresh) (needles_of current) n (needle_of_cell cell) (needles_of (drop (n + 1) current)) (needles_next n current cell is) lives table));
   exact = λ exact.
-      map-append needle_of_cell fresh (copied ∷ []) ∙ ap (λ (l : List Needle). l ++ needle_of_cell cell ∷ []) exact
-      ∙ sym (next_among n (needles_of current) (needle_of_cell cell) (needles_of (drop (n + 1) current)) (needles_next n current cell is) ∙ ap (λ (b : Bool). live_among n (needles_of current) ++ cond b (needle_of_cell cell ∷ []) []) lives);
+      map-append needle_of_cell fresh (copied ∷ []) ∙ ap (λ (l : List Needle). l ++ renewed_needle (needle_of_cell cell) ∷ []) exact
+      ∙ sym (map-append renewed_needle (live_among n (needles_of current)) (needle_of_cell cell ∷ []))
+      ∙ ap (map renewed_needle) (sym (next_among n (needles_of current) (needle_of_cell cell) (needles_of (drop (n + 1) current)) (needles_next n current cell is) ∙ ap (λ (b : Bool). live_among n (needles_of current) ++ cond b (needle_of_cell cell ∷ []) []) lives));
 }
   where
     copied : Cell
-    copied = moved s.volume.end cell
+    copied = renewed s.volume.end cell
 
     kept : cell.deleted ≡ false
     kept = sym (head_deleted head cell copy.head_is) ∙ alive
@@ -207,7 +265,7 @@ copy_copies sup files later old s volume index standing current fresh n total ce
     lives : is_live (needle_of_cell cell) (needles_of (drop (n + 1) current)) ≡ true
     lives = and_from (not cell.deleted) (lacks cell.pair (needles_of (drop (n + 1) current))) (ap not kept)
         (latest_live old.end (files old.file).now (take n current) (drop (n + 1) current) cell latest
-        (subst (λ (l : List Cell). HasCells 64 (files old.file).now l old.end) parts h.current_is.has) (subst (λ (l : List Cell). IsLatest l cell.pair latest) parts last) (here ∙ ap (λ k. Some k) (sym copy.place)))
+        (subst (λ (l : List Cell). HasCells 64 (files old.file).now l old.end) parts h.current_is.has) (subst (λ (l : List Cell). IsLatest l cell.pair latest) parts last) (here ∙ ap (λ k. Some k) (sym copy.is.place)))
 
 -- NOTHING WAS COPIED
 
@@ -245,6 +303,7 @@ making_stands sup files later s new standing fresh h same places is =
       volume_free = h.volume_free;
       index_free = h.index_free;
       noted = h.noted;
+      anew = h.anew;
       places = λ pair. places pair ∙ h.places pair;
       capacity_is = h.capacity_is;
     }))
@@ -263,6 +322,7 @@ copy_stands sup files later old s new standing current fresh n h same places is 
       volume_free = h.volume_free;
       index_free = h.index_free;
       noted = h.noted;
+      anew = h.anew;
       places = λ pair. places pair ∙ h.places pair;
       capacity_is = h.capacity_is;
       volume_apart = h.volume_apart;

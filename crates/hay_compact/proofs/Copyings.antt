@@ -1,25 +1,25 @@
 -- Steps of a compaction.
 use Rattle.std.proofs.Common.{◌≡◌, ◌≢◌, ◌≤◌, ◌<◌, ◌+◌, ◌-◌, ◌^◌, min, ℕ, zero, suc, Bool, true, false, cond, leb, List, [], ◌∷◌, ◌++◌, length, take, drop, refl, sym, ap, ◌∙◌, subst, arith, append-nil, take-append-drop}
-use Rattle.std.specs.Prelude.{sum_by}
+use Rattle.std.specs.Prelude.{map, sum_by}
 use Rattle.std.proofs.Math.Seq.{take-add}
 use Rattle.std.proofs.lemmas.Bool.{leb-true, le-leb}
-use Rattle.std.proofs.lemmas.List.{length-append, length-drop, drop-map, take_all}
+use Rattle.std.proofs.lemmas.List.{length-drop, drop-map, take_all}
 use Rattle.std.proofs.lemmas.List.Sums.{sum_by-cons, sum_by-append}
 use Rattle.hay_needle.specs.declared.needle.Cell.{Cell}
 use Rattle.hay_needle.specs.declared.needle.CellHead.{CellHead}
 use Rattle.hay_needle.specs.declared.needle.Needle.{Needle}
 use Rattle.hay_needle.specs.declared.settings.Super.{Super}
 use Rattle.hay_needle.specs.Needle.{BeginsWithNeedle, needle_of_cell}
-use Rattle.hay_needle.specs.Sizes.{total_of_lem}
+use Rattle.hay_needle.specs.Sizes.{needle_total}
 use Rattle.hay_needle.specs.Tables.{is_live}
 use Rattle.hay_needle.proofs.CopyLaws.{copies_pass}
 use Rattle.hay_disk.specs.Disk.{Files}
 use Rattle.hay_volume.specs.declared.volume.VolumeFile.{VolumeFile}
 use Rattle.hay_volume.specs.Cells.{HasCells, StandsCell, IsCellAt, cell_head, needles_of}
 use Rattle.hay_volume.proofs.Readings.{cells_first, cell_begins, same_cell}
-use Rattle.hay_disk.specs.Gate.{Stands, end_mark}
+use Rattle.hay_disk.specs.Gate.{Stands}
 use Rattle.hay_needle.proofs.Needles.{length-needle}
-use Rattle.hay_compact.specs.Copying.{Copying, HasPeeked, IsCopy, Making, MovesOn, Stage, cell_total, end_of, live_among}
+use Rattle.hay_compact.specs.Copying.{Copying, HasPeeked, Making, MovesOn, Stage, cell_total, end_of, live_among, renewed_needle}
 use Rattle.hay_compact.proofs.LiveNeedles.{next_among}
 use Rattle.hay_compact.proofs.CellLists.{after_front, cells_end}
 
@@ -33,6 +33,7 @@ making_of sup files old s current fresh n h = record {
   volume_free = h.volume_free;
   index_free = h.index_free;
   noted = h.noted;
+  anew = h.anew;
   places = h.places;
   capacity_is = h.capacity_is;
 }
@@ -124,6 +125,7 @@ skips sup files old s current fresh n at next cell h is dead moves = record {
     volume_free = h.volume_free;
     index_free = h.index_free;
     noted = h.noted;
+    anew = h.anew;
     places = h.places;
     capacity_is = h.capacity_is;
     volume_apart = h.volume_apart;
@@ -136,7 +138,9 @@ skips sup files old s current fresh n at next cell h is dead moves = record {
   };
   live = sym dead;
   table = λ pair table. copies_pass pair (needles_of fresh) (needles_of current) n (needle_of_cell cell) (needles_of (drop (n + 1) current)) (needles_next n current cell is) dead table;
-  exact = λ exact. sym (next_among n (needles_of current) (needle_of_cell cell) (needles_of (drop (n + 1) current)) (needles_next n current cell is) ∙ ap (λ (b : Bool). live_among n (needles_of current) ++ cond b (needle_of_cell cell ∷ []) []) dead ∙ append-nil (live_among n (needles_of current)) ∙ sym exact);
+  exact = λ exact.
+      exact
+      ∙ ap (map renewed_needle) (sym (next_among n (needles_of current) (needle_of_cell cell) (needles_of (drop (n + 1) current)) (needles_next n current cell is) ∙ ap (λ (b : Bool). live_among n (needles_of current) ++ cond b (needle_of_cell cell ∷ []) []) dead ∙ append-nil (live_among n (needles_of current))));
 }
 
 -- A PEEK
@@ -172,24 +176,21 @@ read_cell next end n file out current cell first is stand h = same_cell next fil
 
 -- there is room for it
 pub has_room : (next end n room most : ℕ) (file out : List ℕ) (current : List Cell) (cell : Cell) (head : CellHead) → HasNext next file end current n → IsCellAt next out cell → Stands next out file → head ≡ cell_head cell
-    → length file < 2 ^ 64 → most ≡ min (end + 8) 18446744073709551615 → room ≡ most - next → room < total_of_lem head.size + 8 → ⊥
+    → length file < 2 ^ 64 → most ≡ min (end + 8) 18446744073709551615 → room ≡ most - next → room < needle_total head.size + 8 → ⊥
 has_room next end n room most file out current cell head h is stand heads fits all left short =
     let same = read_cell next end n file out current cell h is stand h in
     let size : head.size ≡ length h.cell.bytes = ap (λ (x : CellHead). x.size) heads ∙ ap (λ (x : Cell). length x.bytes) same in
-    let total : total_of_lem head.size ≡ cell_total h.cell = ap total_of_lem size in
+    let total : needle_total head.size ≡ cell_total h.cell = ap needle_total size in
     let within = h.within in
     let room_is = h.fits in
     omega arith
 
-pub copy_of : (at : ℕ) (out bytes : List ℕ) (head : CellHead) (cell : Cell) → bytes ≡ out ++ end_mark → IsCellAt at out cell → head ≡ cell_head cell → IsCopy at bytes head cell
-copy_of at out bytes head cell made is heads = record { place = is.place; marked = record { needle = out; parts = made; is = is.is }; head_is = heads }
-
-pub peeked_of : (at end room most : ℕ) (out bytes : List ℕ) (head : CellHead) (cell : Cell) → bytes ≡ out ++ end_mark → IsCellAt at out cell → head ≡ cell_head cell → most ≡ min (end + 8) 18446744073709551615 → room ≡ most - at → total_of_lem head.size + 8 ≤ room
+pub peeked_of : (at end room most : ℕ) (bytes : List ℕ) (head : CellHead) (cell : Cell) → IsCellAt at bytes cell → head ≡ cell_head cell → most ≡ min (end + 8) 18446744073709551615 → room ≡ most - at → needle_total head.size + 8 ≤ room
     → HasPeeked at bytes head
-peeked_of at end room most out bytes head cell made is heads all left enough =
-    let size : total_of_lem head.size ≡ total_of_lem (length cell.bytes) = ap (λ (x : CellHead). total_of_lem x.size) heads in
+peeked_of at end room most bytes head cell is heads all left enough =
+    let size : needle_total head.size ≡ needle_total (length cell.bytes) = ap (λ (x : CellHead). needle_total x.size) heads in
     record {
       cell = cell;
-      is = copy_of at out bytes head cell made is heads;
-      inside = omega (arith, ap length made, length-append out end_mark, length-needle out (needle_of_cell cell) is.is);
+      is = record { is = is; head_is = heads };
+      inside = omega (arith, length-needle bytes (needle_of_cell cell) is.is);
     }

@@ -8,6 +8,7 @@ use Rattle.hay_needle.specs.Super.{super_bytes}
 use Rattle.hay_disk.specs.Disk.{Files, FileState, IsFree, IsSolid, Keeps}
 use Rattle.hay_volume.specs.declared.volume.VolumeFile.{VolumeFile}
 use Rattle.hay_volume.specs.Cells.{IsVolume}
+use Rattle.hay_volume.proofs.Readings.{one_reading}
 use Rattle.hay_volume.proofs.Volumes.{volume_gate}
 use Rattle.hay_index.specs.declared.index.IndexFile.{IndexFile}
 use Rattle.hay_index.specs.declared.record.Record.{Record}
@@ -15,7 +16,7 @@ use Rattle.hay_index.specs.Records.{AreInRow, IsIndex}
 use Rattle.hay_index.proofs.IndexLaws.{index_gate}
 use Rattle.hay_open.specs.Stored.{FlagsFree, IndexRests, VolumeRests, cell_record, index_file, index_super, last_cell, recorded, volume_file, volume_super}
 use Rattle.hay_compact.specs.declared.finish.Finished.{Finished}
-use Rattle.hay_compact.specs.Copying.{Making, Stage, stored_of}
+use Rattle.hay_compact.specs.Copying.{AreOfVersionTwo, Making, Stage, stored_of}
 use Rattle.hay_compact.specs.Finishing.{AreThePlaces, CanSeal, IsFinished}
 use Rattle.hay_compact.proofs.CellLists.{records_row}
 use Rattle.hay_compact.proofs.StandingLaws.{place_kept}
@@ -41,6 +42,11 @@ ready_to_seal sup files middle later s fresh file h same stays keeps solid =
       };
       places = λ pair. place_kept s.standing pair (last_cell fresh pair) (h.places pair);
     }
+
+-- whatever cells are read there, each is of version 2
+pub all_anew : (superblock other file : List ℕ) (cells fresh : List Cell) (end last : ℕ) → IsVolume superblock file cells end → IsVolume other file fresh last → AreOfVersionTwo fresh → AreOfVersionTwo cells
+all_anew superblock other file cells fresh end last is own anew =
+    subst AreOfVersionTwo (sym (one_reading 64 end last file cells fresh is.has is.closed own.has own.closed).0) anew
 
 -- the two files are two
 pub files_apart : (sup : Super) (files : Files) (s : Stage) (fresh : List Cell) → Making sup files s fresh → s.index.file ≢ s.volume.file

@@ -35,6 +35,7 @@ copying_current sup files later old next s current changed fresh n superblock h 
   volume_free = λ k. ap (λ (f : FileState). f.sealed k) volume ∙ h.volume_free k;
   index_free = λ k. ap (λ (f : FileState). f.sealed k) index ∙ h.index_free k;
   noted = h.noted;
+  anew = h.anew;
   places = h.places;
   capacity_is = h.capacity_is;
   volume_apart = λ same. h.volume_apart (sym file ∙ same);

@@ -1,10 +1,12 @@
 -- A delete is repeated in the new file.
-use Rattle.std.proofs.Common.{◌≡◌, inl, inr, ℕ, Bool, true, false, cond, List, [], drop, Option, Some, None, refl, sym, ap, ◌∙◌, subst, arith}
+use Rattle.std.proofs.Common.{◌≡◌, inl, inr, ℕ, Bool, true, false, cond, eqb, List, [], drop, Option, Some, None, refl, sym, ap, ◌∙◌, subst, arith}
 use Rattle.std.specs.Prelude.{option_map}
 use Rattle.std.proofs.lemmas.Bool.{cases_Bool}
+use Rattle.std.proofs.lemmas.List.Elements.{All-map, All-weaker}
 use Rattle.hay_needle.specs.declared.needle.Cell.{Cell}
 use Rattle.hay_needle.specs.declared.needle.Needle.{Needle}
 use Rattle.hay_needle.specs.declared.needle.Pair.{Pair}
+use Rattle.hay_needle.specs.declared.needle.Version.TheVariants.{Two}
 use Rattle.hay_needle.specs.declared.settings.Super.{Super}
 use Rattle.hay_needle.specs.Needle.{BeginsWithNeedle, needle_of_cell}
 use Rattle.hay_needle.specs.Super.{super_bytes}
@@ -18,7 +20,7 @@ use Rattle.hay_index.specs.Records.{IsIndex}
 use Rattle.hay_open.specs.Stored.{index_super, last_cell, volume_super}
 use Rattle.hay_compact.specs.declared.standing.LastCell.{LastCell}
 use Rattle.hay_compact.specs.Standing.{LastCells, last_in}
-use Rattle.hay_compact.specs.Copying.{Copying, IsMaking, Making, Repeats, Stage, kept_cell, photo_place}
+use Rattle.hay_compact.specs.Copying.{AreOfVersionTwo, Copying, IsMaking, Making, Repeats, Stage, kept_cell, photo_place}
 use Rattle.hay_compact.proofs.CellLists.{flag_lacks, flagged_last, flagged_needles, flagged_records, lacks_none, last_place_of, last_stands}
 
 -- what is kept where a pair has no cell
@@ -61,6 +63,17 @@ flag_stands sup files s fresh last pair h is =
 pub making_flag_stands : (files : Files) (s : Stage) (last : LastCell) (pair : Pair) → IsMaking files s → last_in s.standing pair ≡ Some last → (needle : Needle) × BeginsWithNeedle (drop last.at (files s.volume.file).now) needle
 making_flag_stands files s last pair h is = flag_stands h.sup files s h.fresh last pair h.making is
 
+-- a flag leaves each version
+version_stays : (b deleted : Bool) (cell : Cell) → (cond b (record cell { deleted = deleted }) cell).version ≡ cell.version
+version_stays true deleted cell = refl
+version_stays false deleted cell = refl
+
+flagged_anew : (at : ℕ) (deleted : Bool) (cells : List Cell) → AreOfVersionTwo cells → AreOfVersionTwo (with_flag at deleted cells)
+flagged_anew at deleted cells are =
+    let flag : Cell → Cell = λ (cell : Cell). cond (eqb cell.at at) (record cell { deleted = deleted }) cell in
+    let IsAnew : Cell → Type 0 = λ (cell : Cell). cell.version ≡ Two in
+    All-map IsAnew flag cells (All-weaker IsAnew (λ (cell : Cell). IsAnew (flag cell)) (λ (cell : Cell) is. version_stays (eqb cell.at at) deleted cell ∙ is) cells are)
+
 -- what the flag makes of the new files
 pub flag_makes : (sup : Super) (files later : Files) (s : Stage) (standing : LastCells) (fresh : List Cell) (last : LastCell) (pair : Pair) → Making sup files s fresh → last_in s.standing pair ≡ Some last
     → ((superblock : List ℕ) (cells : List Cell) (end : ℕ) → IsVolume superblock (files s.volume.file).now cells end → HasPlace last.at cells → IsVolume superblock (later s.volume.file).now (with_flag last.at true cells) end)
@@ -75,6 +88,7 @@ flag_makes sup files later s standing fresh last pair h is flagged free others s
   volume_free = λ k. free k (h.volume_free k);
   index_free = λ k. ap (λ (f : FileState). f.sealed k) index_stays ∙ h.index_free k;
   noted = h.noted ∙ sym (flagged_records last.at true fresh);
+  anew = flagged_anew last.at true fresh h.anew;
   places = λ other.
       set other ∙ ap (λ (o : Option LastCell). cond (pair_eq pair other) (Some gone) o) (h.places other)
       ∙ by_test (pair_eq pair other) (last_cell fresh other)
@@ -109,6 +123,7 @@ repeats_flag sup files later old s standing current fresh n last pair h is other
     volume_free = made.volume_free;
     index_free = made.index_free;
     noted = made.noted;
+    anew = made.anew;
     places = made.places;
     capacity_is = made.capacity_is;
     volume_apart = h.volume_apart;

@@ -8,7 +8,7 @@ use Rattle.hay_needle.specs.declared.needle.Needle.{Needle}
 use Rattle.hay_needle.specs.declared.needle.Pair.{Pair}
 use Rattle.hay_needle.specs.declared.settings.Super.{Super}
 use Rattle.hay_needle.specs.Needle.{needle_of_cell, needle_magic, NeedleBytes}
-use Rattle.hay_needle.specs.Sizes.{total_of_lem}
+use Rattle.hay_needle.specs.Sizes.{needle_total}
 use Rattle.hay_needle.specs.Super.{super_bytes}
 use Rattle.hay_needle.specs.Tables.{lacks, pair_eq}
 use Rattle.hay_needle.proofs.Needles.{length-needle}
@@ -58,11 +58,11 @@ pub due_of : (sup : Super) (file : FileState) (s : Stored) (row : Record) (rest 
 due_of sup file s row rest rests d = due file.now s.end d.front d.behind d.cell (subst (λ (l : List Cell). HasCells 64 file.now l s.end) d.cells rests.is.has)
 
 -- the part that is sealed lies in the file
-pub due_inside : (sup : Super) (file : FileState) (s : Stored) (row : Record) (rest : List Cell) (total : ℕ) → VolumeRests sup file s → IsDue s row rest → total ≡ total_of_lem row.size → row.at + total ≤ s.end
+pub due_inside : (sup : Super) (file : FileState) (s : Stored) (row : Record) (rest : List Cell) (total : ℕ) → VolumeRests sup file s → IsDue s row rest → total ≡ needle_total row.size → row.at + total ≤ s.end
 due_inside sup file s row rest total rests d is =
     let there = due_of sup file s row rest rests d in
     let at : row.at ≡ d.cell.at = ap (λ (r : Record). r.at) d.is in
-    omega (arith, is, ap (λ (r : Record). total_of_lem r.size) d.is, there.within)
+    omega (arith, is, ap (λ (r : Record). needle_total r.size) d.is, there.within)
 
 -- FLAGS
 
@@ -89,10 +89,10 @@ flags_sealed at end file (x ∷ front) behind cell a b has seals free =
 
 -- THE FILE AFTER A SEAL
 
-pub rests_sealed : (sup : Super) (a b : FileState) (s : Stored) (row : Record) (rest : List Cell) (total : ℕ) → VolumeRests sup a s → IsDue s row rest → total ≡ total_of_lem row.size → Seals row.at total 28 a b → VolumeRests sup b s
+pub rests_sealed : (sup : Super) (a b : FileState) (s : Stored) (row : Record) (rest : List Cell) (total : ℕ) → VolumeRests sup a s → IsDue s row rest → total ≡ needle_total row.size → Seals row.at total 28 a b → VolumeRests sup b s
 rests_sealed sup a b s row rest total rests d is seals =
     let at : row.at ≡ d.cell.at = ap (λ (r : Record). r.at) d.is in
-    let long : total ≡ cell_total d.cell = is ∙ ap (λ (r : Record). total_of_lem r.size) d.is in
+    let long : total ≡ cell_total d.cell = is ∙ ap (λ (r : Record). needle_total r.size) d.is in
     let here : Seals d.cell.at (cell_total d.cell) 28 a b = subst (λ k. Seals k (cell_total d.cell) 28 a b) at (subst (λ n. Seals row.at n 28 a b) long seals) in
     let has : HasCells 64 a.now (d.front ++ d.cell ∷ d.behind) s.end = subst (λ (l : List Cell). HasCells 64 a.now l s.end) d.cells rests.is.has in
     record {
@@ -200,18 +200,18 @@ places_pass Tells sup file standing s row rest places can d other so_far = λ pa
 sealed_cell : (Tells : Type 0) (file : FileState) (end : ℕ) (cell : Cell) (behind : List Cell) (needle : SealedNeedle) (total : ℕ) → Tells → Due file.now end cell behind → cell.deleted ≡ false → needle.at ≡ cell.at → needle.size ≡ length cell.bytes
     → total ≡ cell_total cell → needle.bytes ≡ take total (drop cell.at file.now) → IsSealedCell Tells cell needle
 sealed_cell Tells file end cell behind needle total tells there alive at size long bytes =
-    let live : Needle = record { pair = cell.pair; photo = record { cookie = cell.cookie; bytes = cell.bytes }; deleted = false } in
-    let same : needle_of_cell cell ≡ live = (let with : Bool → Needle = λ b. record { pair = cell.pair; photo = record { cookie = cell.cookie; bytes = cell.bytes }; deleted = b } in ap with alive) in
+    let live : Needle = record { version = cell.version; pair = cell.pair; photo = record { cookie = cell.cookie; bytes = cell.bytes }; deleted = false } in
+    let same : needle_of_cell cell ≡ live = (let with : Bool → Needle = λ b. record { version = cell.version; pair = cell.pair; photo = record { cookie = cell.cookie; bytes = cell.bytes }; deleted = b } in ap with alive) in
     let all : needle.bytes ≡ there.stands.needle =
     bytes ∙ ap (λ n. take n (drop cell.at file.now)) (long ∙ sym (length-needle there.stands.needle (needle_of_cell cell) there.stands.is.is)) ∙ there.stands.stand in
     record {
       alive = alive;
       at = at;
-      sealed = record { tells = tells; size = size; is = subst (λ (n : Needle). NeedleBytes needle.bytes n) same (subst (λ (l : List ℕ). NeedleBytes l (needle_of_cell cell)) (sym all) there.stands.is.is) };
+      sealed = record { tells = tells; size = size; version = cell.version; is = subst (λ (n : Needle). NeedleBytes needle.bytes n) same (subst (λ (l : List ℕ). NeedleBytes l (needle_of_cell cell)) (sym all) there.stands.is.is) };
     }
 
 pub places_sealed : {P : Type 0} (Tells : Type 0) (sup : Super) (file : FileState) (standing : LastCells) (s : Stored) (row : Record) (rest : List Cell) (places later : List (OpenCell P)) (needle : SealedNeedle) (total : ℕ) → Tells → CanSeal sup file standing s → IsDue s row rest → place_in standing row.pair ≡ Some row.at
-    → total ≡ total_of_lem row.size → needle.at ≡ row.at → needle.size ≡ row.size → needle.bytes ≡ take total (drop row.at file.now)
+    → total ≡ needle_total row.size → needle.at ≡ row.at → needle.size ≡ row.size → needle.bytes ≡ take total (drop row.at file.now)
     → later ≡ places ++ record { pair = row.pair; place = place.Live needle } ∷ []
     → ArePlacesSoFar Tells s.cells rest places → ArePlacesSoFar Tells s.cells (drop 1 rest) later
 places_sealed {P = P} Tells sup file standing s row rest places later needle total tells can d is long at size bytes grown so_far = λ pair.
@@ -232,7 +232,7 @@ places_sealed {P = P} Tells sup file standing s row rest places later needle tot
           let is_last : last ≡ Some d.cell = ap (λ (p : Pair). last_cell s.cells p) (sym same) ∙ found.0 in
           subst (λ (x : Place P). PlaceSoFar Tells d.behind pair last x) (sym (cond-true (pair_eq row.pair pair) (place.Live needle) seen here))
           (subst (λ (o : Option Cell). PlaceSoFar Tells d.behind pair o live) (sym is_last)
-          (sealed_cell Tells file s.end d.cell d.behind needle total tells there found.1 (at ∙ due_at) (size ∙ ap (λ (r : Record). r.size) d.is) (long ∙ ap (λ (r : Record). total_of_lem r.size) d.is)
+          (sealed_cell Tells file s.end d.cell d.behind needle total tells there found.1 (at ∙ due_at) (size ∙ ap (λ (r : Record). r.size) d.is) (long ∙ ap (λ (r : Record). needle_total r.size) d.is)
           (bytes ∙ ap (λ k. take total (drop k file.now)) due_at)))
       | inr apart ↦
           subst (λ (x : Place P). PlaceSoFar Tells d.behind pair last x) (sym (cond-false (pair_eq row.pair pair) (place.Live needle) seen apart))

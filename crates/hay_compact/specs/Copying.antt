@@ -4,15 +4,16 @@ use Rattle.hay_needle.specs.declared.needle.Cell.{Cell}
 use Rattle.hay_needle.specs.declared.needle.CellHead.{CellHead}
 use Rattle.hay_needle.specs.declared.needle.Needle.{Needle}
 use Rattle.hay_needle.specs.declared.needle.Pair.{Pair}
+use Rattle.hay_needle.specs.declared.needle.Version.TheVariants.{Two}
 use Rattle.hay_needle.specs.declared.settings.Super.{Super}
 use Rattle.hay_needle.specs.Copies.{CopiesAt}
 use Rattle.hay_needle.specs.Needle.{needle_of_cell}
-use Rattle.hay_needle.specs.Sizes.{total_of_lem}
+use Rattle.hay_needle.specs.Sizes.{max_photo, needle_total}
 use Rattle.hay_needle.specs.Super.{super_bytes}
 use Rattle.hay_needle.specs.Tables.{flag_last, is_live, lacks}
 use Rattle.hay_disk.specs.Disk.{Files, IsFree}
 use Rattle.hay_volume.specs.declared.volume.VolumeFile.{VolumeFile}
-use Rattle.hay_volume.specs.Cells.{IsMarked, IsVolume, cell_head, needles_of}
+use Rattle.hay_volume.specs.Cells.{IsCellAt, IsVolume, cell_head, needles_of}
 use Rattle.hay_index.specs.Records.{IsIndex}
 use Rattle.hay_open.specs.Stored.{Stored, cell_record, index_file, index_super, last_cell, volume_file, volume_super}
 use Rattle.hay_index.specs.declared.index.IndexFile.{IndexFile}
@@ -24,15 +25,22 @@ use Rattle.hay_compact.specs.declared.standing.LastCell.{LastCell}
 
 -- the bytes of a cell in a volume file
 abbrev pub cell_total : Cell → ℕ
-cell_total cell = total_of_lem (length cell.bytes)
+cell_total cell = needle_total (length cell.bytes)
 
 -- where cells end that stand from 64 on without gaps
 abbrev pub end_of : List Cell → ℕ
 end_of cells = 64 + sum_by cell_total cells
 
--- the cell at another place
-abbrev pub moved : ℕ → Cell → Cell
-moved at cell = record cell { at = at }
+-- the cell at another place, written anew in version 2
+abbrev pub renewed : ℕ → Cell → Cell
+renewed at cell = record cell { at = at; version = Two }
+
+abbrev pub renewed_needle : Needle → Needle
+renewed_needle needle = record needle { version = Two }
+
+-- each of the cells is of version 2
+abbrev pub AreOfVersionTwo : List Cell → Type 0
+AreOfVersionTwo cells = All (λ (cell : Cell). cell.version ≡ Two) cells
 
 -- the place of a pair's photo, if the last cell of the pair has one
 abbrev pub photo_place : Option Cell → Option ℕ
@@ -56,17 +64,16 @@ pub record IsLatest (cells : List Cell) (pair : Pair) (latest : Option ℕ) : Ty
 
 -- THE CELL THAT IS NEXT
 
--- the bytes are those of this cell, which stands at `at`, and the end mark behind it
+-- the bytes are those of this cell, which stands at `at`
 pub record IsCopy (at : ℕ) (bytes : List ℕ) (head : CellHead) (cell : Cell) : Type 0 where
-  pub place : cell.at ≡ at
-  pub marked : IsMarked bytes (needle_of_cell cell)
+  pub is : IsCellAt at bytes cell
   pub head_is : head ≡ cell_head cell
 
--- The bytes are some cell's with this head. Its place and all behind it are numbers of 64 bits.
+-- The bytes are some cell's with this head. Its place, and that of the end mark behind it, are numbers of 64 bits.
 pub record HasPeeked (at : ℕ) (bytes : List ℕ) (head : CellHead) : Type 0 where
   pub cell : Cell
   pub is : IsCopy at bytes head cell
-  pub inside : at + length bytes < 2 ^ 64
+  pub inside : at + length bytes + 8 < 2 ^ 64
 
 -- HOW FAR A COMPACTION IS
 
@@ -86,10 +93,11 @@ pub record IsSafe (volume : VolumeFile) (index : IndexFile) (next : ℕ) : Type 
   pub unbounded : volume.capacity ≡ 18446744073709551615
   pub behind : volume.end ≤ next
   pub thawed : index.frozen ≡ false
-  pub small : All (λ (row : Record). row.size ≤ 1048576) index.pending
+  pub small : All (λ (row : Record). row.size ≤ max_photo Two) index.pending
 
--- The new volume file has the cells `fresh`, whose records are noted and not written, and of the cells `current` of the current
--- volume file so many are examined. No piece stands on the new files, and no pair has a cell there that has none in the current one.
+-- The new volume file has the cells `fresh`, each of version 2, whose records are noted and not written, and of the cells `current`
+-- of the current volume file so many are examined. No piece stands on the new files, and no pair has a cell there that has none in the
+-- current one.
 pub record Copying (sup : Super) (files : Files) (old : VolumeFile) (stage : Stage) (current fresh : List Cell) (examined : ℕ) : Type 0 where
   pub names_volume : stage.volume.file ≡ volume_file stage.generation
   pub names_index : stage.index.file ≡ index_file stage.generation
@@ -98,6 +106,7 @@ pub record Copying (sup : Super) (files : Files) (old : VolumeFile) (stage : Sta
   pub volume_free : IsFree (files stage.volume.file)
   pub index_free : IsFree (files stage.index.file)
   pub noted : stage.index.pending ≡ map cell_record fresh
+  pub anew : AreOfVersionTwo fresh
   pub places : (pair : Pair) → last_in stage.standing pair ≡ option_map kept_cell (last_cell fresh pair)
   pub capacity_is : stage.capacity ≡ sup.settings.capacity
   pub volume_apart : old.file ≢ stage.volume.file
@@ -117,6 +126,7 @@ pub record Making (sup : Super) (files : Files) (stage : Stage) (fresh : List Ce
   pub volume_free : IsFree (files stage.volume.file)
   pub index_free : IsFree (files stage.index.file)
   pub noted : stage.index.pending ≡ map cell_record fresh
+  pub anew : AreOfVersionTwo fresh
   pub places : (pair : Pair) → last_in stage.standing pair ≡ option_map kept_cell (last_cell fresh pair)
   pub capacity_is : stage.capacity ≡ sup.settings.capacity
 
@@ -139,15 +149,15 @@ live_among (suc n) (needle ∷ needles) = if is_live needle needles then needle 
 
 -- the cells of the new file, with one more where it was copied
 abbrev pub with_copy : List Cell → ℕ → Cell → Bool → List Cell
-with_copy fresh at cell copied = if copied then fresh ++ moved at cell ∷ [] else fresh
+with_copy fresh at cell copied = if copied then fresh ++ renewed at cell ∷ [] else fresh
 
--- One more cell is examined. It is copied exactly where it is the last one of its pair and not deleted. What holds of a pair holds
--- of it still, and where the live needles were copied and no other, they are.
+-- One more cell is examined. It is copied, in version 2, exactly where it is the last one of its pair and not deleted. What holds of
+-- a pair holds of it still, and where the live needles were copied and no other, they are.
 pub record MovesOn (sup : Super) (files : Files) (old : VolumeFile) (stage : Stage) (current fresh : List Cell) (examined : ℕ) (cell : Cell) (at : ℕ) (copied : Bool) : Type 0 where
   pub copying : Copying sup files old stage current (with_copy fresh at cell copied) (examined + 1)
   pub live : copied ≡ is_live (needle_of_cell cell) (needles_of (drop (examined + 1) current))
   pub table : (pair : Pair) → CopiesAt pair (needles_of fresh) (needles_of current) examined → CopiesAt pair (needles_of (with_copy fresh at cell copied)) (needles_of current) (examined + 1)
-  pub exact : needles_of fresh ≡ live_among examined (needles_of current) → needles_of (with_copy fresh at cell copied) ≡ live_among (examined + 1) (needles_of current)
+  pub exact : needles_of fresh ≡ map renewed_needle (live_among examined (needles_of current)) → needles_of (with_copy fresh at cell copied) ≡ map renewed_needle (live_among (examined + 1) (needles_of current))
 
 -- a delete was repeated: the last cell of the pair is deleted
 pub record Repeats (sup : Super) (files : Files) (old : VolumeFile) (stage : Stage) (current fresh : List Cell) (examined : ℕ) (pair : Pair) : Type 0 where

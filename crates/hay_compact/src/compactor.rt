@@ -1,22 +1,27 @@
 //! A compaction that is under way.
 
-ghost use Rattle.std.specs.Prelude.{◌≡◌, ◌⊎◌, ◌≢◌, ◌≤◌, ◌<◌, ◌+◌, ◌∷◌, [], List, ℕ, length, drop, Err, IsTrue, IfOk, OnOk, IsErr, IsErrOf, IfSome, IfNone, ◌↔◌};
+ghost use Rattle.std.specs.Prelude.{◌≡◌, ◌⊎◌, ◌≢◌, ◌≤◌, ◌<◌, ◌+◌, ◌∷◌, [], List, ℕ, length, map, drop, Err, IsTrue, IfOk, OnOk, IsErr, IsErrOf, IfSome, IfNone, ◌↔◌};
 ghost use Rattle.hay_disk.specs.Counts.{IsCounted};
 ghost use Rattle.hay_disk.specs.Disk.{Files, KeepsOthers};
 ghost use Rattle.hay_needle.specs.declared.needle.Cell.{Cell};
 ghost use Rattle.hay_needle.specs.declared.settings.Super.{Super};
-ghost use Rattle.hay_needle.specs.Sizes.{total_of_lem};
+ghost use Rattle.hay_needle.specs.Needle.{live};
+ghost use Rattle.hay_needle.specs.Sizes.{needle_total};
 ghost use Rattle.hay_needle.specs.Tables.{live_needles, table_of};
-ghost use Rattle.hay_volume.specs.Cells.{IsVolume, needles_of};
+ghost use Rattle.hay_volume.specs.Cells.{IsMarked, IsVolume, needles_of};
 ghost use Rattle.hay_volume.specs.declared.fault.CellFault.{CellFault};
 ghost use Rattle.hay_volume.specs.declared.volume.VolumeFile.{VolumeFile};
 ghost use Rattle.hay_open.specs.Stored.{index_file, volume_file};
-ghost use Rattle.hay_compact.specs.Copying.{Copies, Copying, HasPeeked, IsCopy, IsLatest, IsMaking, KeepsOtherFiles, Making, MovesOn, Repeats, live_among};
+ghost use Rattle.hay_compact.specs.Copying.{Copies, Copying, HasPeeked, IsCopy, IsLatest, IsMaking, KeepsOtherFiles, Making, MovesOn, Repeats, live_among, renewed_needle};
 
 use crate::standing::{LastCell, Standing};
+use hay_base::NoMemory;
 use hay_disk::{Disk, DiskFault, Failed};
 use hay_index::{IndexFile, Record};
-use hay_needle::{CellHead, FileKind, Pair, Super, total_of};
+use hay_needle::{
+    CellHead, Cookie, FileKind, HEAD_LEN, MAX_PHOTO, NEEDLE_MAGIC, Pair, Super, encode_rest,
+    total_of,
+};
 use hay_volume::{CellFault, VolumeFault, VolumeFile};
 use std::alloc::Global;
 use std::marker::Model;
@@ -37,8 +42,10 @@ pub struct Compactor {
     pub(crate) standing: Standing,
     /// Where the next cell of the current volume file stands.
     pub(crate) next: u64,
-    /// That cell once it was peeked at, and the end mark behind it.
+    /// That cell once it was peeked at.
     pub(crate) bytes: Vec<u8>,
+    /// What is written of it: its needle anew, and the end mark behind it.
+    pub(crate) anew: Vec<u8>,
 }
 
 impl Model for Compactor {
@@ -98,6 +105,7 @@ impl Compactor {
             standing: Standing::new(alloc),
             next: volume.end(),
             bytes: Vec::new(alloc),
+            anew: Vec::new(alloc),
         })
     }
 
@@ -114,13 +122,14 @@ impl Compactor {
         ensures all { (sup : Super) (files : Files) (current fresh : List Cell) (examined : ℕ) →
             Copying sup files old.now self.now current fresh examined → (IsTrue result ↔ (examined ≡ length current)) }
 
-        // Then the new file has the table of the current one, and where nothing was changed meanwhile, its live needles.
+        // Then the new file has the table of the current one, and where nothing was changed meanwhile, its live needles, each of
+        // version 2.
         ensures table { (sup : Super) (files : Files) (current fresh : List Cell) (examined : ℕ) →
             Copying sup files old.now self.now current fresh examined → IsTrue result →
             Copies fresh current examined → table_of (needles_of fresh) ≡ table_of (needles_of current) }
         ensures live { (sup : Super) (files : Files) (current fresh : List Cell) (examined : ℕ) →
             Copying sup files old.now self.now current fresh examined → IsTrue result →
-            needles_of fresh ≡ live_among examined (needles_of current) → needles_of fresh ≡ live_needles (needles_of current) }
+            needles_of fresh ≡ map renewed_needle (live_among examined (needles_of current)) → needles_of fresh ≡ map renewed_needle (live_needles (needles_of current)) }
     {
         old.end() <= self.next
     }
@@ -151,7 +160,7 @@ impl Compactor {
         // The compaction stands where it stood.
         ensures stands { self.new ≡ record self.old { bytes = self.new.bytes } }
         ensures same { D.Tells → D.files disk.new ≡ D.files disk.old }
-        ensures drawn { D.Tells → IfOk result (λ next. IfSome next (λ head. D.drawn disk.new old.now.file ≤ D.drawn disk.old old.now.file + total_of_lem head.size)) }
+        ensures drawn { D.Tells → IfOk result (λ next. IfSome next (λ head. D.drawn disk.new old.now.file ≤ D.drawn disk.old old.now.file + needle_total head.size)) }
         ensures drawn_none { D.Tells → IfOk result (λ next. IfNone next ((n : ℕ) → D.drawn disk.new n ≡ D.drawn disk.old n)) }
         ensures drawn_others { D.Tells → KeepsOthers old.now.file (D.drawn disk.old) (D.drawn disk.new) }
         ensures counted { IsCounted (D.fault_count disk.old) (D.fault_count disk.new) (IsErrOf result CellFault.Failed) }
@@ -165,13 +174,12 @@ impl Compactor {
         if room < total_of(head.size) + MARK_LEN {
             return Err(CellFault::Damaged { at: self.next });
         }
-        self.bytes.extend_from_slice(&[0; MARK_LEN as usize])?;
         Ok(Some(head))
     }
 
-    /// Examines the cell that was peeked at: it is copied if it is not deleted and `latest` is its place, and the answer is
-    /// whether it was. `latest` is the place of the last cell of its pair in the current volume file, or none where that cell
-    /// is deleted.
+    /// Examines the cell that was peeked at: it is written anew, in version 2, if it is not deleted and `latest` is its place,
+    /// and the answer is whether it was. `latest` is the place of the last cell of its pair in the current volume file, or none
+    /// where that cell is deleted.
     ///
     /// `NoMemory` leaves the compaction where it stood. After `Failed` it must not go on.
     pub fn copy<D: Disk>(
@@ -207,6 +215,8 @@ impl Compactor {
             self.next += total_of(cell.size);
             return Ok(false);
         }
+        let photo = &self.bytes.as_slice()[HEAD_LEN..HEAD_LEN + cell.size as usize];
+        encode_marked(cell.pair, cell.cookie, photo, &mut self.anew)?;
         self.standing.reserve(cell.pair)?;
         let row = Record {
             pair: cell.pair,
@@ -214,7 +224,7 @@ impl Compactor {
             size: cell.size,
         };
         self.index.note(row)?;
-        match self.volume.append_loose(disk, self.bytes.as_slice()) {
+        match self.volume.append_loose(disk, self.anew.as_slice()) {
             Ok(at) => {
                 self.standing
                     .set(cell.pair, LastCell { at, deleted: false });
@@ -271,6 +281,21 @@ fn super_of(sup: &Super, kind: FileKind, generation: u64) -> Super
         replica: sup.replica,
         generation,
     }
+}
+
+// A photo's needle, in version 2, and the end mark behind it: `out` then has these bytes, and nothing else.
+fn encode_marked(
+    pair: Pair,
+    cookie: Cookie,
+    photo: &[u8],
+    out: &mut Vec<u8>,
+) -> Result<(), NoMemory>
+    requires { length photo.now ≤ MAX_PHOTO }
+    ensures { OnOk result (IsMarked out.new.items (live pair cookie photo.now)) }
+{
+    out.clear();
+    out.extend_from_slice(&NEEDLE_MAGIC.to_be_bytes())?;
+    encode_rest(pair, cookie, photo, out)
 }
 
 // Why a cell was not copied.

@@ -7,7 +7,8 @@ ghost use Rattle.hay_needle.specs.declared.needle.Cell.{Cell};
 ghost use Rattle.hay_needle.specs.declared.settings.Super.{Super};
 ghost use Rattle.hay_index.specs.declared.record.Record.{Record};
 ghost use Rattle.hay_open.specs.Stored.{Stored, VolumeRests, cell_record};
-ghost use Rattle.hay_compact.specs.Copying.{IsMaking, KeepsOtherFiles, Making};
+ghost use Rattle.hay_volume.specs.Cells.{IsVolume};
+ghost use Rattle.hay_compact.specs.Copying.{AreOfVersionTwo, IsMaking, KeepsOtherFiles, Making};
 ghost use Rattle.hay_compact.specs.Finishing.{ArePlacesSoFar, AreThePlaces, CanSeal, IsDue, IsFinished};
 
 use crate::compactor::Compactor;
@@ -15,7 +16,7 @@ use crate::standing::Standing;
 use hay_disk::{Disk, DiskFault, Piece};
 use hay_index::{IndexFile, Record};
 use hay_map::{OpenCell, Place, Sealed};
-use hay_needle::total_of;
+use hay_needle::{MAX_PHOTO, total_of};
 use hay_volume::VolumeFile;
 use std::alloc::Global;
 
@@ -41,6 +42,9 @@ impl Compactor {
             Making sup (D.files disk.old) self fresh →
             IsFinished D.Piece.Tells sup (D.files disk.new) finished self fresh) }
         ensures thawed { IfOk result (λ finished. finished.index.frozen ≡ false) }
+        // Each cell of the new volume file is of version 2.
+        ensures anew { D.Tells → IfOk result (λ finished. (superblock : List ℕ) (cells : List Cell) (end : ℕ) →
+            IsVolume superblock (D.files disk.new finished.volume.file).now cells end → AreOfVersionTwo cells) }
 
         ensures others { D.Tells → KeepsOtherFiles self.generation (D.files disk.old) (D.files disk.new) }
         ensures drawn { D.Tells → (n : ℕ) → D.drawn disk.new n ≡ D.drawn disk.old n }
@@ -55,6 +59,7 @@ impl Compactor {
             standing,
             next: _,
             bytes,
+            anew: _,
         } = self;
         let alloc = *bytes.allocator();
         let file = volume.file();
@@ -79,7 +84,7 @@ fn seal_all<D: Disk>(
     records: &[Record],
     standing: &Standing,
 ) -> Result<Vec<OpenCell<D::Piece>>, DiskFault>
-    requires small { All (λ (row : Record). row.size ≤ 1048576) records.now }
+    requires small { All (λ (row : Record). row.size ≤ MAX_PHOTO) records.now }
     requires ready { D.Tells → (sup : Super) × (s : Stored) × CanSeal sup (D.files disk.old file) standing.now s × (records.now ≡ map cell_record s.cells) }
     ensures places { D.Tells → IfOk result (λ places. (sup : Super) (s : Stored) → CanSeal sup (D.files disk.old file) standing.now s → records.now ≡ map cell_record s.cells
         → AreThePlaces D.Piece.Tells s.cells places.items) }
@@ -104,7 +109,7 @@ fn seal_next<D: Disk>(
     standing: &Standing,
     places: &mut Vec<OpenCell<D::Piece>>,
 ) -> Result<(), DiskFault>
-    requires small { row.size ≤ 1048576 }
+    requires small { row.size ≤ MAX_PHOTO }
     requires ready { D.Tells → (sup : Super) × (s : Stored) × (rest : List Cell) × CanSeal sup (D.files disk.old file) standing.now s × IsDue s row rest }
     ensures places { D.Tells → OnOk result ((sup : Super) (s : Stored) (rest : List Cell) → CanSeal sup (D.files disk.old file) standing.now s → IsDue s row rest
         → ArePlacesSoFar D.Piece.Tells s.cells rest places.old.items → ArePlacesSoFar D.Piece.Tells s.cells (drop 1 rest) places.new.items) }

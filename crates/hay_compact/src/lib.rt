@@ -1,6 +1,6 @@
 //! The copier of a compaction of a replica's volume file. It goes through the cells of the current generation's volume
 //! file, one after another, and copies each that is the last of its pair and not deleted to the volume file of a new
-//! generation. It stands on hay_volume, hay_index, hay_map and the words of hay_open.
+//! generation, where it is written anew in version 2. It stands on hay_volume, hay_index, hay_map and the words of hay_open.
 //!
 //! At any time the new file's cells and the current ones that are left make the table that the current file's cells make,
 //! and a pair that has nothing in the current file has nothing in the new one. A photo that is put meanwhile is a further

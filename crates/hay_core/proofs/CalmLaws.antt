@@ -92,7 +92,7 @@ finish_doubts side s t c (Copies x) is e d = no d
 doubts_same : (w : Work) (s : Side) (t : Option ℕ) (c : DeviceCall) → call_from w t s ≡ Some c → is_doubts c.effect ≡ true → settles_next (call_from w (next_progress w c.effect t) (after_ok w c s)) ≡ true
 doubts_same w s None c e d = absurd cc
 doubts_same (work.Put pair photo) s (Some t) c e d =
-    let cell : Needle = record { pair = pair; photo = photo; deleted = false } in
+    let cell : Needle = Calls.live_needle pair photo in
     paired_at (Calls.gated Freezes (Doubts (doubt.Cell cell)) (Settles (doubt.Cell cell))) t c ((λ f. no f), ((λ f. no f), ((λ f. refl), ((λ f. no f), tt)))) e d
 doubts_same (work.Del q) s (Some zero) c e d = refl
 doubts_same (work.Del q) s (Some (suc t)) c e d =
@@ -260,7 +260,7 @@ closing_fits (c ∷ cells) rest h = (refl, (refl, (refl, h)))
 pub harms : (w : Work) (s : Side) (t : Option ℕ) (c : DeviceCall) → call_from w t s ≡ Some c → harm_fits (changes w) c.harm c.effect ≡ true
 harms w s None c e = absurd cc
 harms (work.Put pair photo) s (Some t) c e =
-    let cell : Needle = record { pair = pair; photo = photo; deleted = false } in
+    let cell : Needle = Calls.live_needle pair photo in
     slice_all (HarmFits true) (Calls.gated Freezes (Doubts (doubt.Cell cell)) (Settles (doubt.Cell cell))) t c (refl, (refl, (refl, (refl, tt)))) e
 harms (work.Del q) s (Some t) c e =
     slice_all (HarmFits true) (Calls.delete_calls q s) t c (refl, (refl, cond_both (is_some s.copy && not (lacks q s.fresh)) (Calls.call GoesOn (Repeats q) ∷ []) [] (λ (cs : List DeviceCall). AllByRecursion (HarmFits true) cs) (λ t. (refl, tt)) (λ t. tt))) e

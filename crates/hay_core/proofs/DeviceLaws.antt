@@ -181,12 +181,12 @@ settled_ok (work.Put pair photo) s (Some (suc zero)) c e h f =
     let P : DeviceCall → Type 0 = λ c. is_behind (work.Put pair photo) (next_progress (work.Put pair photo) c.effect (Some 1)) ≡ true → (made c.effect s).settled ≡ true in
     subst P same (λ f. absurd (false≢true f)) f
 settled_ok (work.Put pair photo) s (Some (suc (suc zero))) c e h f =
-    let cell : Needle = record { pair = pair; photo = photo; deleted = false } in
+    let cell : Needle = Calls.live_needle pair photo in
     let same : Calls.call Freezes (Doubts (doubt.Cell cell)) ≡ c = cc in
     let P : DeviceCall → Type 0 = λ c. is_behind (work.Put pair photo) (next_progress (work.Put pair photo) c.effect (Some 2)) ≡ true → (made c.effect s).settled ≡ true in
     subst P same (λ f. absurd (false≢true f)) f
 settled_ok (work.Put pair photo) s (Some (suc (suc (suc zero)))) c e h f =
-    let cell : Needle = record { pair = pair; photo = photo; deleted = false } in
+    let cell : Needle = Calls.live_needle pair photo in
     let same : Calls.call Freezes (Settles (doubt.Cell cell)) ≡ c = cc in
     let P : DeviceCall → Type 0 = λ c. (made c.effect s).settled ≡ true in
     subst P same refl

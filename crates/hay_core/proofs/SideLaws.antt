@@ -176,7 +176,7 @@ pub call_good : (p : Pair) (tag : CoreTag) (w : Work) (s : Side) (t : Option ℕ
     → CallGood p (change_of tag w) s c
 call_good p tag w s None c copied e = absurd cc
 call_good p tag (work.Put pair photo) s (Some t) c copied e =
-    let cell : Needle = record { pair = pair; photo = photo; deleted = false } in
+    let cell : Needle = Calls.live_needle pair photo in
     slice_all (CallGood p (change_of tag (work.Put pair photo)) s) (Calls.gated Freezes (Doubts (doubt.Cell cell)) (Settles (doubt.Cell cell))) t c (tt, (tt, ((tag, refl, refl), ((tag, refl, refl), tt)))) e
 call_good p tag (work.Del pair) s (Some t) c copied e =
     let G : DeviceCall → Type 0 = CallGood p (change_of tag (work.Del pair)) s in

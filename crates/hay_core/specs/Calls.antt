@@ -3,6 +3,7 @@ use Rattle.std.specs.Prelude.{ℕ, zero, suc, ◌+◌, ◌-◌, List, [], ◌∷
 use Rattle.hay_needle.specs.declared.needle.Pair.{Pair}
 use Rattle.hay_needle.specs.declared.needle.Photo.{Photo}
 use Rattle.hay_needle.specs.declared.needle.Needle.{Needle}
+use Rattle.hay_needle.specs.declared.needle.Version.TheVariants.{Two}
 use Rattle.hay_needle.specs.Tables.{lacks, is_live}
 use Rattle.hay_core.specs.declared.machine.Side.{Side}
 use Rattle.hay_core.specs.declared.machine.Doubt.TheVariants as doubt
@@ -23,7 +24,7 @@ abbrev pub gated : Harm → Effect → Effect → List DeviceCall
 gated harm magic sync = call harm Quiet ∷ call harm Quiet ∷ call harm magic ∷ call harm sync ∷ []
 
 abbrev pub live_needle : Pair → Photo → Needle
-live_needle pair photo = record { pair = pair; photo = photo; deleted = false }
+live_needle pair photo = record { version = Two; pair = pair; photo = photo; deleted = false }
 
 -- PUT: one gated append
 abbrev pub put_calls : Needle → List DeviceCall

@@ -6,7 +6,7 @@ ghost use Rattle.hay_core.specs.Calls as calls;
 use crate::machine::{Doubt, Side, Work};
 use crate::needles::{is_live, lacks, left_behind};
 use hay_base::{Duplicate, NoMemory};
-use hay_needle::{Needle, Pair, Photo};
+use hay_needle::{Needle, Pair, Photo, Version};
 use std::alloc::Global;
 
 /// A needle that a compaction copies, and how many needles are examined with it: those before it are skipped.
@@ -99,6 +99,7 @@ fn put_call(
     ensures { IfOk result (λ call. call ≡ slice_get (calls.put_calls (calls.live_needle pair photo.now)) progress) }
 {
     let needle = Needle {
+        version: Version::Two,
         pair,
         photo: photo.duplicate(alloc)?,
         deleted: false,

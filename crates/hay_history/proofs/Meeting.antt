@@ -20,7 +20,7 @@ use Rattle.hay_legal.specs.declared.turn.Item.{Item}
 use Rattle.hay_legal.specs.declared.turn.Item.TheVariants as asks
 use Rattle.hay_legal.specs.declared.turn.LaneItem.{LaneItem}
 use Rattle.hay_legal.specs.Known.{EachPair, all_tries, closed, closed_by, drained_of, lacks_room, machine_of, refusal_by, replica_on, room_refusal_of, volume_at}
-use Rattle.hay_needle.specs.Sizes.{total_of_lem}
+use Rattle.hay_needle.specs.Sizes.{needle_total}
 use Rattle.hay_legal.specs.declared.known.ReplicaKnown.{ReplicaKnown}
 use Rattle.hay_legal.specs.Plain.{as_closed, put_entry, start_of}
 use Rattle.hay_legal.specs.Blocks.{MetClosed, MetFrozen, MetOpen, MetThawed, tag_of}
@@ -77,9 +77,9 @@ module _ (c : Course) where
           let parts : Closed u other ≡ Closed v m = cc in
           (ap volume_named parts, is ∙ ap (λ (r : Refused). Some (machine_named r)) parts)
       by None is same =
-          let lack = option_map_some (λ (at : ℕ × ReplicaKnown). NoRoom u (machine_of c.settings u at.0) (at.1).end (total_of_lem size))
+          let lack = option_map_some (λ (at : ℕ × ReplicaKnown). NoRoom u (machine_of c.settings u at.0) (at.1).end (needle_total size))
           (find (λ at. lacks_room c.settings size at.1) (enumerate_from 0 (volume_then c u n).replicas)) (Closed v m) same in
-          let clash : NoRoom u (machine_of c.settings u (lack.0).0) ((lack.0).1).end (total_of_lem size) ≡ Closed v m = lack.2 in
+          let clash : NoRoom u (machine_of c.settings u (lack.0).0) ((lack.0).1).end (needle_total size) ≡ Closed v m = lack.2 in
           absurd cc
 
   refused_room : (size u v m end need n : ℕ) → refusal_then c u n size ≡ Some (NoRoom v m end need) → (u ≡ v) × (closing_then c u n ≡ None)

@@ -6,7 +6,7 @@ use Rattle.std.proofs.lemmas.List.{take_at, drop_at, take-take, drop-take, drop-
 use Rattle.std.proofs.lemmas.Grind.{flat_map-append}
 use Rattle.byteorder.specs.Numbers.{big_number-reads_back}
 use Rattle.hay_needle.specs.Fields.{number_at}
-use Rattle.hay_needle.specs.Sizes.{total_of_lem}
+use Rattle.hay_needle.specs.Sizes.{needle_total}
 use Rattle.hay_disk.specs.Gate.{IsClosed, Stands}
 use Rattle.hay_index.specs.declared.record.Record.{Record}
 use Rattle.hay_index.specs.Records.{AreInRow, place_behind, HasRecords, IsBlock, IsBrokenAt, IsBrokenBehind, IsIndex, IsStrayAt, BeginsWithBlock, RecordFits, block_bytes, index_magic, record_bytes}
@@ -128,7 +128,7 @@ one_reading superblock file records more end other fits is again =
 -- a record in the row
 row_at : (at : ℕ) (before after : List Record) (r : Record) → AreInRow at (before ++ r ∷ after) → r.at ≡ place_behind at before
 row_at at [] after r row = row.0
-row_at at (b ∷ before) after r row = row_at (at + total_of_lem b.size) before after r row.1
+row_at at (b ∷ before) after r row = row_at (at + needle_total b.size) before after r row.1
 
 -- where the blocks end nothing is broken
 closed_whole : (at place : ℕ) (file : List ℕ) (records : List Record) → IsClosed index_magic at file → (IsBrokenAt at file × (place ≡ at)) ⊎ IsStrayAt at file records place → ⊥

@@ -5,7 +5,7 @@ use Rattle.byteorder.specs.Endian.{big_bytes}
 use Rattle.hay_needle.specs.declared.settings.Super.{Super}
 use Rattle.hay_needle.specs.declared.superblock.SuperFault.{SuperFault}
 use Rattle.hay_needle.specs.Faults.{first_fault}
-use Rattle.hay_needle.specs.Sizes.{total_of_lem}
+use Rattle.hay_needle.specs.Sizes.{needle_total}
 use Rattle.hay_needle.specs.Super.{super_bytes, super_tests, fault_place}
 use Rattle.hay_disk.specs.Gate.{magic_bytes, record_of, IsClosed}
 use Rattle.hay_index.specs.declared.record.Record.{Record}
@@ -47,12 +47,12 @@ pub record BeginsWithBlock (bytes : List ℕ) (records : List Record) : Type 0 w
 -- Each record's place is the one before plus the bytes of that needle, and the first record's is `at`.
 abbrev pub AreInRow : ℕ → List Record → Type 0
 AreInRow at [] = ⊤
-AreInRow at (r ∷ records) = (r.at ≡ at) × AreInRow (at + total_of_lem r.size) records
+AreInRow at (r ∷ records) = (r.at ≡ at) × AreInRow (at + needle_total r.size) records
 
 -- the place of the next record behind these
 abbrev pub place_behind : ℕ → List Record → ℕ
 place_behind at [] = at
-place_behind at (r ∷ records) = place_behind (at + total_of_lem r.size) records
+place_behind at (r ∷ records) = place_behind (at + needle_total r.size) records
 
 -- Up to `end` the file is this superblock and blocks of these records, without gaps.
 pub record HasRecords (superblock file : List ℕ) (records : List Record) (end : ℕ) : Type 0 where

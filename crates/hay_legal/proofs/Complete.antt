@@ -22,7 +22,7 @@ use Rattle.hay_reply.specs.declared.Reply.{Reply}
 use Rattle.hay_reply.specs.declared.Reply.TheVariants as reply
 use Rattle.hay_core.specs.declared.entry.CoreTag.{CoreTag}
 use Rattle.hay_core.specs.declared.entry.Entry.TheVariants as entry
-use Rattle.hay_needle.specs.Sizes.{total_of_lem}
+use Rattle.hay_needle.specs.Sizes.{needle_total}
 use Rattle.hay_needle.specs.Tables.{outcome_at}
 use Rattle.hay_legal.specs.declared.known.ReplicaKnown.{ReplicaKnown}
 use Rattle.hay_legal.specs.declared.known.VolumeKnown.{VolumeKnown}
@@ -289,20 +289,20 @@ has_room : (capacity need : ℕ) → need ≤ capacity → nat_lt capacity need 
 has_room capacity need h = grind (arith, nat_tests, h)
 
 abbrev Fits : Settings → ℕ → ReplicaKnown → Type 0
-Fits settings size replica = replica.end + total_of_lem size + 8 ≤ settings.capacity
+Fits settings size replica = replica.end + needle_total size + 8 ≤ settings.capacity
 
 none_lacks : (settings : Settings) (size n : ℕ) (replicas : List ReplicaKnown) → Each (Fits settings size) replicas
     → find (λ at. lacks_room settings size at.1) (enumerate_from n replicas) ≡ None
 none_lacks settings size n [] h = refl
 none_lacks settings size n (r ∷ replicas) h =
     cond-false (lacks_room settings size r) (Some (n, r)) (find (λ at. lacks_room settings size at.1) (enumerate_from (n + 1) replicas))
-    (has_room settings.capacity (r.end + total_of_lem size + 8) h.0)
+    (has_room settings.capacity (r.end + needle_total size + 8) h.0)
     ∙ none_lacks settings size (n + 1) replicas h.1
 
 takes : (settings : Settings) (k : Known) (pair : Pair) (size v : ℕ) → MayTake settings k pair size v → refusal_of settings k size v ≡ None
 takes settings k pair size v h =
     ap (λ (by : Option ℕ). refusal_by v by (room_refusal settings k v size)) h.«open»
-    ∙ ap (option_map (λ at. NoRoom v (machine_of settings v at.0) (at.1).end (total_of_lem size))) (none_lacks settings size 0 (volume_at k v).replicas h.room)
+    ∙ ap (option_map (λ at. NoRoom v (machine_of settings v at.0) (at.1).end (needle_total size))) (none_lacks settings size 0 (volume_at k v).replicas h.room)
 
 -- a list in which each item has an answer
 each_answers : (f : ℕ → Option Refused) (xs : List ℕ) (ys : List Refused) (v : ℕ) → map f xs ≡ map Some ys → Contains xs v → f v ≡ None → ⊥

@@ -12,7 +12,7 @@ use Rattle.hay_reply.specs.declared.Refused.TheVariants.{NoRoom}
 use Rattle.hay_core.specs.declared.entry.CoreTag.{CoreTag}
 use Rattle.hay_core.specs.declared.entry.Entry.TheVariants as entry
 use Rattle.hay_needle.specs.Tables.{outcome_at}
-use Rattle.hay_needle.specs.Sizes.{total_of_lem}
+use Rattle.hay_needle.specs.Sizes.{needle_total}
 use Rattle.hay_core.specs.declared.entry.Logged.{Logged}
 use Rattle.hay_legal.specs.declared.known.ReplicaKnown.{ReplicaKnown}
 use Rattle.hay_legal.specs.declared.known.VolumeKnown.{VolumeKnown}
@@ -55,12 +55,12 @@ has_room : (capacity need : ℕ) → need ≤ capacity → nat_lt capacity need 
 has_room capacity need h = grind (arith, nat_tests, h)
 
 no_refusal : (capacity : ℕ) (secret : List ℕ) (log : List Logged) (replica : ReplicaKnown) (rows : List HomeRow) (faults size : ℕ)
-    → replica.end + total_of_lem size + 8 ≤ capacity
+    → replica.end + needle_total size + 8 ≤ capacity
     → refusal_of (only capacity secret) (known_with log replica rows faults) size 0 ≡ None
 no_refusal capacity secret log replica rows faults size fits = rw (has_room capacity _ fits) refl
 
 pub takes : (capacity : ℕ) (secret : List ℕ) (log : List Logged) (replica : ReplicaKnown) (rows : List HomeRow) (faults size : ℕ) (pair : Pair)
-    → AllInZero rows pair → replica.end + total_of_lem size + 8 ≤ capacity
+    → AllInZero rows pair → replica.end + needle_total size + 8 ≤ capacity
     → taker_of (only capacity secret) (known_with log replica rows faults) pair size ≡ Some 0
 takes capacity secret log replica rows faults size pair zero fits =
     ap (find (λ v. is_none (refusal_of (only capacity secret) (known_with log replica rows faults) size v))) (tries_zero capacity secret rows pair zero)
@@ -68,7 +68,7 @@ takes capacity secret log replica rows faults size pair zero fits =
 
 -- stored, where the photo fits
 pub stored : (capacity : ℕ) (secret : List ℕ) (log : List Logged) (replica : ReplicaKnown) (rows : List HomeRow) (faults : ℕ) (tag : CoreTag) (pair : Pair) (bytes : List ℕ)
-    → AllInZero rows pair → replica.end + total_of_lem (length bytes) + 8 ≤ capacity
+    → AllInZero rows pair → replica.end + needle_total (length bytes) + 8 ≤ capacity
     → LegalPut (only capacity secret) (known_with log replica rows faults) tag pair bytes
     (reply.Stored 0 (length log + 1) (length (settled rows pair 0)) (cookie_of secret pair.key))
     (known_with (log ++ record { tag = tag; entry = entry.Put pair (cookie_of secret pair.key) bytes } ∷ []) (grown (length bytes) replica) (settled rows pair 0) faults)
@@ -83,11 +83,11 @@ stored capacity secret log replica rows faults tag pair bytes zero fits = record
 
 -- full, where it does not
 pub full : (capacity : ℕ) (secret : List ℕ) (log : List Logged) (replica : ReplicaKnown) (rows : List HomeRow) (faults : ℕ) (tag : CoreTag) (pair : Pair) (bytes : List ℕ)
-    → AllInZero rows pair → capacity < replica.end + total_of_lem (length bytes) + 8
+    → AllInZero rows pair → capacity < replica.end + needle_total (length bytes) + 8
     → LegalPut (only capacity secret) (known_with log replica rows faults) tag pair bytes
-    (reply.Full (NoRoom 0 0 replica.end (total_of_lem (length bytes)) ∷ [])) (known_with log replica rows faults)
+    (reply.Full (NoRoom 0 0 replica.end (needle_total (length bytes)) ∷ [])) (known_with log replica rows faults)
 full capacity secret log replica rows faults tag pair bytes zero lacks =
-    let no_room : nat_lt capacity (replica.end + total_of_lem (length bytes) + 8) ≡ true = grind (arith, nat_tests, lacks) in (
+    let no_room : nat_lt capacity (replica.end + needle_total (length bytes) + 8) ≡ true = grind (arith, nat_tests, lacks) in (
       ap (map (refusal_of (only capacity secret) (known_with log replica rows faults) (length bytes))) (tries_zero capacity secret rows pair zero)
           ∙ rw no_room refl,
       refl,

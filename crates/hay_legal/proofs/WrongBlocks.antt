@@ -9,7 +9,7 @@ use Rattle.std.proofs.lemmas.List.Sums.{sum_by-cons}
 use Rattle.hay_needle.specs.declared.needle.Pair.{Pair}
 use Rattle.hay_needle.specs.declared.needle.Cookie.{Cookie}
 use Rattle.hay_needle.specs.declared.settings.Settings.{Settings}
-use Rattle.hay_needle.specs.Sizes.{total_of_lem}
+use Rattle.hay_needle.specs.Sizes.{needle_total}
 use Rattle.hay_script.specs.declared.Command.{Command}
 use Rattle.hay_script.specs.declared.Command.TheVariants as command
 use Rattle.hay_reply.specs.declared.Refused.{Refused}
@@ -213,10 +213,10 @@ module _ {settings : Settings} {k : Known} {items : List LaneItem} {logs : List 
 
   -- a volume that was open to the end of the block, and had room on each replica, refused no photo of this size
   open_refuses : (size u : ℕ) (refused : Refused) → closed settings k u ≡ None → (volume_at t u).frozen ≡ None
-      → ((j : ℕ) → highest_end k t u j + total_of_lem size + 8 ≤ settings.capacity) → MayRefuse settings k items t size u refused → ⊥
+      → ((j : ℕ) → highest_end k t u j + needle_total size + 8 ≤ settings.capacity) → MayRefuse settings k items t size u refused → ⊥
   open_refuses size u (NoRoom u' m end need) thawed still fits may =
       let j : ℕ = (may.2).0 in
-      let low : highest_end k t u j + total_of_lem size + 8 ≤ settings.capacity = fits j in
+      let low : highest_end k t u j + needle_total size + 8 ≤ settings.capacity = fits j in
       let high : end ≤ highest_end k t u j = ((may.2).2).1 in
       omega (arith, low, high, may.3, may.4)
   open_refuses size u (Closed u' m) thawed still fits may = elim may.1 [
@@ -228,7 +228,7 @@ module _ {settings : Settings} {k : Known} {items : List LaneItem} {logs : List 
   row_skips_try : (row : HomeRow) (u : ℕ) → Contains (new_rows k t) row → Contains (take_while (λ w. not (w == row.volume)) (all_tries settings row.pair)) u
       → closed settings k u ≡ None → (volume_at t u).frozen ≡ None
       → ((bytes : List ℕ) (item : LaneItem) → Contains items item → item.item ≡ asks.Command (command.Put row.pair bytes)
-      → (j : ℕ) → highest_end k t u j + total_of_lem (length bytes) + 8 ≤ settings.capacity)
+      → (j : ℕ) → highest_end k t u j + needle_total (length bytes) + 8 ≤ settings.capacity)
       → ⊥
   row_skips_try row u added skipped thawed still fits =
       let is = (zip_beside (IsNewRow settings k items t) rows.rows (new_rows k t) row (b.homes).each added).1 in

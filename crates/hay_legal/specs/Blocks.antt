@@ -23,7 +23,7 @@ use Rattle.hay_core.specs.declared.entry.Entry.{Entry}
 use Rattle.hay_core.specs.declared.entry.Entry.TheVariants as entry
 use Rattle.hay_core.specs.declared.entry.CoreTag.{CoreTag}
 use Rattle.hay_needle.specs.Tables.{outcome_at, live_end}
-use Rattle.hay_needle.specs.Sizes.{total_of_lem}
+use Rattle.hay_needle.specs.Sizes.{needle_total}
 use Rattle.hay_disk.specs.Counts.{Rose}
 use Rattle.hay_legal.specs.Known.{stands}
 use Rattle.hay_core.specs.declared.entry.Logged.{Logged}
@@ -113,7 +113,7 @@ abbrev pub put_total : Logged → ℕ
 put_total logged = put_total_of logged.entry
   where
     put_total_of : Entry → ℕ
-    put_total_of (entry.Put pair cookie bytes) = total_of_lem (length bytes)
+    put_total_of (entry.Put pair cookie bytes) = needle_total (length bytes)
     put_total_of (entry.Del pair) = 0
 
 abbrev pub is_put : Logged → Bool
@@ -218,7 +218,7 @@ MayEnd settings k items t v j end = (lowest_end settings k items v j ≤ end) ×
 -- each replica had room for a photo of this size at some time
 abbrev pub MayHaveRoom : Settings → Known → List LaneItem → Known → ℕ → ℕ → Type 0
 MayHaveRoom settings k items t size v =
-    Each (λ j. (end : ℕ) × MayEnd settings k items t v j end × (end + total_of_lem size + 8 ≤ settings.capacity)) (replicas_of settings)
+    Each (λ j. (end : ℕ) × MayEnd settings k items t v j end × (end + needle_total size + 8 ≤ settings.capacity)) (replicas_of settings)
 
 -- a volume may have taken a photo of this size: what was closed before the block takes no change in it
 abbrev pub MayHaveTaken : Settings → Known → List LaneItem → Known → ℕ → ℕ → Type 0
@@ -233,7 +233,7 @@ abbrev pub MayRefuse : Settings → Known → List LaneItem → Known → ℕ �
 MayRefuse settings k items t size v (NoRoom v' m end need) =
     (v' ≡ v) × (closed settings k v ≡ None)
     × ((j : ℕ) × (replica_on settings v m ≡ Some j) × MayEnd settings k items t v j end)
-    × (need ≡ total_of_lem size) × (settings.capacity < end + need + 8)
+    × (need ≡ needle_total size) × (settings.capacity < end + need + 8)
 MayRefuse settings k items t size v (Closed v' m) = (v' ≡ v) × MayBeClosed settings k t v m
 
 -- ROWS: each new row is that of a put line, at the try that may have taken its photo

@@ -8,7 +8,7 @@ use Rattle.hay_needle.specs.declared.settings.Settings.{Settings}
 use Rattle.hay_reply.specs.declared.Refused.{Refused}
 use Rattle.hay_reply.specs.declared.Refused.TheVariants.{NoRoom, Closed}
 use Rattle.hay_needle.specs.Tables.{Table, pair_eq}
-use Rattle.hay_needle.specs.Sizes.{total_of_lem}
+use Rattle.hay_needle.specs.Sizes.{needle_total}
 use Rattle.hay_core.specs.Entries.{after, entries_of}
 use Rattle.hay_legal.specs.declared.known.ReplicaKnown.{ReplicaKnown}
 use Rattle.hay_legal.specs.declared.known.VolumeKnown.{VolumeKnown}
@@ -132,12 +132,12 @@ abbrev pub closed : Settings → Known → ℕ → Option ℕ
 closed settings k v = closed_by (volume_at k v).frozen (drained_of settings k v)
 
 abbrev pub lacks_room : Settings → ℕ → ReplicaKnown → Bool
-lacks_room settings size replica = nat_lt settings.capacity (replica.end + total_of_lem size + 8)
+lacks_room settings size replica = nat_lt settings.capacity (replica.end + needle_total size + 8)
 
 -- the lowest replica without room for a photo of this size
 abbrev pub room_refusal_of : Settings → ℕ → VolumeKnown → ℕ → Option Refused
 room_refusal_of settings v volume size =
-    option_map (λ at. NoRoom v (machine_of settings v at.0) (at.1).end (total_of_lem size))
+    option_map (λ at. NoRoom v (machine_of settings v at.0) (at.1).end (needle_total size))
     (find (λ at. lacks_room settings size at.1) (enumerate_from 0 volume.replicas))
 
 abbrev pub room_refusal : Settings → Known → ℕ → ℕ → Option Refused

@@ -22,7 +22,7 @@ use Rattle.hay_core.specs.declared.entry.Entry.{Entry}
 use Rattle.hay_core.specs.declared.entry.Entry.TheVariants as entry
 use Rattle.hay_core.specs.declared.entry.CoreTag.{CoreTag}
 use Rattle.hay_needle.specs.Tables.{outcome_at, live_end}
-use Rattle.hay_needle.specs.Sizes.{total_of_lem}
+use Rattle.hay_needle.specs.Sizes.{needle_total}
 use Rattle.hay_disk.specs.Counts.{Rose, IsNext}
 use Rattle.hay_legal.specs.Known.{stands}
 use Rattle.hay_legal.specs.declared.known.Run.{Run}
@@ -40,7 +40,7 @@ run_grown run = record run { left = run.left + 1 }
 
 -- a replica with one cell more, which has no record yet
 abbrev pub grown : ℕ → ReplicaKnown → ReplicaKnown
-grown size replica = record replica { end = replica.end + total_of_lem size; cells = replica.cells + 1; bare = replica.bare + 1; run = option_map run_grown replica.run }
+grown size replica = record replica { end = replica.end + needle_total size; cells = replica.cells + 1; bare = replica.bare + 1; run = option_map run_grown replica.run }
 
 abbrev pub logged : VolumeKnown → CoreTag → Entry → VolumeKnown
 logged volume tag entry = record volume { log = volume.log ++ record { tag = tag; entry = entry } ∷ [] }

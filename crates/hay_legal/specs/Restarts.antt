@@ -8,7 +8,7 @@ use Rattle.hay_reply.specs.declared.Note.TheVariants.{Kept, Lost, KeptDir, LostD
 use Rattle.hay_core.specs.declared.entry.Entry.{Entry}
 use Rattle.hay_core.specs.declared.entry.Entry.TheVariants.{Put, Del}
 use Rattle.hay_needle.specs.Tables.{Table, live_end}
-use Rattle.hay_needle.specs.Sizes.{total_of_lem}
+use Rattle.hay_needle.specs.Sizes.{needle_total}
 use Rattle.hay_core.specs.Entries.{apply_entry}
 use Rattle.hay_legal.specs.declared.known.Pending.{Pending}
 use Rattle.hay_legal.specs.declared.known.PendingRow.{PendingRow}
@@ -61,7 +61,7 @@ with_entries table (entry ∷ entries) = with_entries (apply_entry table entry) 
 
 -- the room and the cells of kept puts
 abbrev pub added_end : List Entry → ℕ
-added_end (Put pair cookie bytes ∷ entries) = total_of_lem (length bytes)
+added_end (Put pair cookie bytes ∷ entries) = needle_total (length bytes)
 added_end _ = 0
 
 abbrev pub added_cells : List Entry → ℕ

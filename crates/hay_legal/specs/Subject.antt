@@ -27,7 +27,7 @@ use Rattle.hay_legal.specs.declared.turn.Item.{Item}
 use Rattle.hay_legal.specs.declared.turn.Item.TheVariants as item
 use Rattle.hay_legal.specs.declared.turn.Turn.{Turn}
 use Rattle.hay_legal.specs.declared.turn.Turn.TheVariants.{Plain, Lanes, Restart}
-use Rattle.hay_needle.specs.Sizes.{total_of_lem}
+use Rattle.hay_needle.specs.Sizes.{needle_total}
 use Rattle.hay_legal.specs.Known.{now, volume_at, replica_at, replica_on, home_of, tries_of, closed}
 use Rattle.hay_legal.specs.Plain.{DirectoryOpen}
 use Rattle.hay_legal.specs.Blocks.{acknowledged}
@@ -388,7 +388,7 @@ NothingIsBlamed =
 pub record MayTake (settings : Settings) (k : Known) (pair : Pair) (size v : ℕ) : Type 0 where
   pub tried : Contains (tries_of settings k pair) v
   pub «open» : closed settings k v ≡ None
-  pub room : Each (λ replica. replica.end + total_of_lem size + 8 ≤ settings.capacity) (volume_at k v).replicas
+  pub room : Each (λ replica. replica.end + needle_total size + 8 ≤ settings.capacity) (volume_at k v).replicas
 
 abbrev pub IsStoredOrNoMem : Reply → Type 0
 IsStoredOrNoMem (Stored v p d c) = Unit {0}

@@ -5,7 +5,7 @@ use Rattle.std.proofs.lemmas.Bool.{cases_Bool, cases_eq, cases_lt}
 use Rattle.std.proofs.lemmas.List.{get_or-set_same, get_or-set_other}
 use Rattle.hay_needle.specs.declared.needle.Cookie.{Cookie}
 use Rattle.hay_needle.specs.declared.needle.Pair.{Pair}
-use Rattle.hay_needle.specs.Sizes.{total_of_lem}
+use Rattle.hay_needle.specs.Sizes.{needle_total}
 use Rattle.hay_disk.specs.Disk.{Files}
 use Rattle.hay_disk.specs.Counts.{Rose}
 use Rattle.hay_map.specs.MapRows.{MapRows}
@@ -100,7 +100,7 @@ module _ {D : Type 0} (faults fuses : D → ℕ) where
 
 -- a put of a replica that takes changes and has room fails by its disk or for want of memory
 pub put_cause : {D : Type 0} (faults : D → ℕ) (r r' : Copy D) (size : ℕ) (f : ReplicaFault) → IsUp r → RoomFor size r → (f ≡ fault.Frozen → IsFrozen r)
-    → ((end need capacity : ℕ) → f ≡ fault.Full end need capacity → capacity_of r < end_of r + total_of_lem size + 8)
+    → ((end need capacity : ℕ) → f ≡ fault.Full end need capacity → capacity_of r < end_of r + needle_total size + 8)
     → physical_faults.IsPutFault (faults r.disk) (faults r'.disk) f
     → ((n : ℕ) → f ≡ fault.Failed n → IsFrozen r') → IsPutFault faults r r' f
 put_cause faults r r' size (fault.Failed n) up room thawed full cause froze = (cause.0, cause.1, froze n refl)
@@ -148,10 +148,10 @@ deletes_on DiskTells files r r' p q e h = subst (λ x. DeletesAt DiskTells files
 -- ROOM
 
 pub room_fits : {D X : Type 0} (size : ℕ) (r : Copy D) (result : Result X ReplicaFault)
-    → (capacity_of r < end_of r + total_of_lem size + 8 → result ≡ Err (fault.Full (end_of r) (total_of_lem size) (capacity_of r)))
+    → (capacity_of r < end_of r + needle_total size + 8 → result ≡ Err (fault.Full (end_of r) (needle_total size) (capacity_of r)))
     → ((f : ReplicaFault) → result ≡ Err f → ⊥) → RoomFor size r
-room_fits size r result full never = elim (cases_lt (capacity_of r) (end_of r + total_of_lem size + 8)) [
-  | inl lacks ↦ absurd (never (fault.Full (end_of r) (total_of_lem size) (capacity_of r)) (full lacks))
+room_fits size r result full never = elim (cases_lt (capacity_of r) (end_of r + needle_total size + 8)) [
+  | inl lacks ↦ absurd (never (fault.Full (end_of r) (needle_total size) (capacity_of r)) (full lacks))
   | inr fits ↦ fits
 ]
 

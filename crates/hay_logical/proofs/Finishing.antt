@@ -1,5 +1,6 @@
 -- What ends of a volume's compactions answer.
 use Rattle.std.proofs.Common.{◌≡◌, inl, inr, ℕ, ◌+◌, ◌<◌, ◌≤◌, true, false, List, length, Option, Some, None, refl, sym, ap, subst, ◌∙◌, arith}
+use Rattle.std.specs.Prelude.{map}
 use Rattle.std.proofs.lemmas.Bool.{cases_eq}
 use Rattle.std.proofs.lemmas.List.{length-map}
 use Rattle.hay_needle.specs.declared.needle.Pair.{Pair}
@@ -7,6 +8,7 @@ use Rattle.hay_needle.specs.declared.settings.Settings.{Settings}
 use Rattle.hay_needle.specs.Tables.{Table, live_end, live_needles, outcome_at, table_of}
 use Rattle.hay_disk.specs.Disk.{Files}
 use Rattle.hay_volume.specs.Cells.{needles_of}
+use Rattle.hay_compact.specs.Copying.{renewed_needle}
 use Rattle.hay_core.specs.Entries.{after, entries_of}
 use Rattle.hay_core.specs.declared.entry.Logged.{Logged}
 use Rattle.hay_legal.specs.declared.known.ReplicaKnown.{ReplicaKnown}
@@ -56,7 +58,7 @@ loose_sizes k j s t run fits to =
 
 pub tight_sizes : (k : VolumeKnown) (j : ℕ) (s t : Stored) (run : runs.Run) → run.tight ≡ true → Fits k (replica_at k j) s → SwapsTo s t run → IsTight k j t.end (length t.cells)
 tight_sizes k j s t run tight fits to =
-    let is : needles_of t.cells ≡ live_needles (needles_of s.cells) = to.tight tight in (
+    let is : needles_of t.cells ≡ map renewed_needle (live_needles (needles_of s.cells)) = to.tight tight in (
       to.ends ∙ tight_end s.cells t.cells is ∙ ap (λ (x : Table). live_end x) fits.table,
       tight_count s.cells t.cells is ∙ ap (λ (x : Table). length x) fits.table,
     )

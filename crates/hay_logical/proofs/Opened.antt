@@ -10,7 +10,7 @@ use Rattle.hay_needle.specs.declared.needle.Cookie.{Cookie}
 use Rattle.hay_needle.specs.declared.needle.Pair.{Pair}
 use Rattle.hay_needle.specs.declared.settings.Settings.{Settings}
 use Rattle.hay_needle.specs.declared.settings.Super.{Super}
-use Rattle.hay_needle.specs.Sizes.{total_of_lem}
+use Rattle.hay_needle.specs.Sizes.{needle_total}
 use Rattle.hay_needle.specs.Tables.{Table, outcome_at, pair_eq, table_of, without_pair}
 use Rattle.hay_needle.proofs.TableLaws.{at-without_pair, pair_refl}
 use Rattle.hay_reply.specs.declared.Note.{Note}
@@ -103,7 +103,7 @@ fits_first k r s log lags is = record {
 
 -- WHAT THE NOTES TELL
 
-total_some : (n : ℕ) → 0 < total_of_lem n
+total_some : (n : ℕ) → 0 < needle_total n
 total_some n = omega arith
 
 end_is : (k : VolumeKnown) (old : ReplicaKnown) (entries : List Entry) (found : Stored) → old.poised ≡ false → ReopenedReplica k old entries (known_of found) → found.end ≡ old.end + added_end entries
@@ -126,7 +126,7 @@ module _ {P : Type 0} (Tells : Type 0) (k : VolumeKnown) (at j : ℕ) (found : S
       → ReopenedReplica k (replica_at k j) (kept_entry (Some pending) b) (known_of found) → not (end == before) ≡ b
   put_keeps before pair cookie bytes true pending is was r =
       let some = total_some (length bytes) in
-      let grown : found.end ≡ (replica_at k j).end + total_of_lem (length bytes) =
+      let grown : found.end ≡ (replica_at k j).end + needle_total (length bytes) =
       end_is k (replica_at k j) (Put pair cookie bytes ∷ []) found settled (subst (λ (e : Entry). ReopenedReplica k (replica_at k j) (e ∷ []) (known_of found)) is r) in
       let apart : end ≢ before = (λ e. omega (arith, some, grown, e, was, ends)) in
       ap not (ne_eqb end before apart)

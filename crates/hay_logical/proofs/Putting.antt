@@ -7,7 +7,7 @@ use Rattle.std.proofs.lemmas.List.{length-map}
 use Rattle.hay_needle.specs.declared.needle.Cookie.{Cookie}
 use Rattle.hay_needle.specs.declared.needle.Pair.{Pair}
 use Rattle.hay_needle.specs.declared.settings.Settings.{Settings}
-use Rattle.hay_needle.specs.Sizes.{total_of_lem}
+use Rattle.hay_needle.specs.Sizes.{needle_total}
 use Rattle.hay_needle.specs.Tables.{pair_eq}
 use Rattle.hay_disk.specs.Disk.{Files}
 use Rattle.hay_reply.specs.declared.Refused.{Refused}
@@ -72,16 +72,16 @@ room_ok settings None (Some (refused.Closed v m)) x e = absurd cc
 
 module _ {D P : Type 0} (files : D → Files) (Tells : Type 0) (k : VolumeKnown) (tag : CoreTag) (pair : Pair) (cookie : Cookie) (bytes : List ℕ) (old : Volume D P) where
   refused_by : (frozen : Option ℕ) (o : Option (ℕ × ReplicaKnown)) (f : LogicalFault) → k.frozen ≡ frozen → find (λ at. lacks_room old.settings (length bytes) at.1) (enumerate_from 0 k.replicas) ≡ o
-      → Err f ≡ room_answer old.settings frozen (option_map (λ at. refused.NoRoom old.number (machine_of old.settings old.number at.0) (at.1).end (total_of_lem (length bytes))) o)
+      → Err f ≡ room_answer old.settings frozen (option_map (λ at. refused.NoRoom old.number (machine_of old.settings old.number at.0) (at.1).end (needle_total (length bytes))) o)
       → PutRefused files Tells k tag pair cookie bytes old old f
   refused_by (Some m) o f thawed found e =
       let is : f ≡ logical.ReadOnly m = cc in
       subst (PutRefused files Tells k tag pair cookie bytes old old) (sym is) (thawed, refl)
   refused_by None None f thawed found e = absurd cc
   refused_by None (Some at) f thawed found e =
-      let is : f ≡ logical.Full (machine_of old.settings old.number at.0) (at.1).end (total_of_lem (length bytes)) old.settings.capacity = cc in
+      let is : f ≡ logical.Full (machine_of old.settings old.number at.0) (at.1).end (needle_total (length bytes)) old.settings.capacity = cc in
       subst (PutRefused files Tells k tag pair cookie bytes old old) (sym is)
-      (thawed, ap (λ o. option_map (λ at. refused.NoRoom old.number (machine_of old.settings old.number at.0) (at.1).end (total_of_lem (length bytes))) o) found, refl, refl)
+      (thawed, ap (λ o. option_map (λ at. refused.NoRoom old.number (machine_of old.settings old.number at.0) (at.1).end (needle_total (length bytes))) o) found, refl, refl)
 
   pub room_refused : (f : LogicalFault) → Err f ≡ room_answer old.settings k.frozen (room_refusal_of old.settings old.number k (length bytes)) → PutRefused files Tells k tag pair cookie bytes old old f
   room_refused f e = refused_by k.frozen (find (λ at. lacks_room old.settings (length bytes) at.1) (enumerate_from 0 k.replicas)) f refl refl e

@@ -5,7 +5,7 @@ use Rattle.std.specs.List.{enumerate_from}
 use Rattle.std.proofs.lemmas.Bool.{cond-true, cond-false}
 use Rattle.std.proofs.lemmas.Bool.Decides.{nat_tests}
 use Rattle.hay_needle.specs.declared.settings.Settings.{Settings}
-use Rattle.hay_needle.specs.Sizes.{total_of_lem}
+use Rattle.hay_needle.specs.Sizes.{needle_total}
 use Rattle.hay_reply.specs.declared.Refused.{Refused}
 use Rattle.hay_reply.specs.declared.Refused.TheVariants.{NoRoom}
 use Rattle.hay_disk.specs.Disk.{Files}
@@ -76,26 +76,26 @@ module _ {D P : Type 0} (files : D → Files) (Tells : Type 0) (settings : Setti
   copy_at j x e = let h = at_below k.replicas j x e in let m = stands.many in let a = stands.all in at_there items j (let less : j < length items = omega (arith, h, m, a) in less)
 
   has_room : (j : ℕ) (x : ReplicaKnown) (r : Copy D) → At k.replicas j x → At items j r → RoomFor size r → lacks_room settings size x ≡ false
-  has_room j x r e f fits = fits_in (total_of_lem size) x.end (end_of r) settings.capacity (capacity_of r) (ap (λ (y : ReplicaKnown). y.end) (same_at j x e) ∙ known_end j r f) (known_capacity j r f) fits
+  has_room j x r e f fits = fits_in (needle_total size) x.end (end_of r) settings.capacity (capacity_of r) (ap (λ (y : ReplicaKnown). y.end) (same_at j x e) ∙ known_end j r f) (known_capacity j r f) fits
 
   pub room_none : ((j : ℕ) (r : Copy D) → At items j r → RoomFor size r) → room_refusal_of settings number k size ≡ None
   room_none fits =
-      ap (option_map (λ (at : ℕ × ReplicaKnown). NoRoom number (machine_of settings number at.0) (at.1).end (total_of_lem size)))
+      ap (option_map (λ (at : ℕ × ReplicaKnown). NoRoom number (machine_of settings number at.0) (at.1).end (needle_total size)))
       (found_none (lacks_room settings size) 0 k.replicas (λ j x e. let r = copy_at j x e in has_room j x r.0 e r.1 (fits j r.0 r.1)))
 
   pub room_some : (broken : Broken) (lacks : LacksRoom size items broken)
-      → room_refusal_of settings number k size ≡ Some (NoRoom number (machine_of settings number broken.at) (end_of lacks.replica) (total_of_lem size))
+      → room_refusal_of settings number k size ≡ Some (NoRoom number (machine_of settings number broken.at) (end_of lacks.replica) (needle_total size))
   room_some broken lacks =
       let h = at_below items broken.at lacks.replica lacks.there in
       let known = at_there k.replicas broken.at (let m = stands.many in let a = stands.all in let less : broken.at < length k.replicas = omega (arith, h, m, a) in less) in
       let end : (known.0).end ≡ end_of lacks.replica = ap (λ (y : ReplicaKnown). y.end) (same_at broken.at known.0 known.1) ∙ known_end broken.at lacks.replica lacks.there in
       let plus : 0 + broken.at ≡ broken.at = omega arith in
-      ap (option_map (λ (at : ℕ × ReplicaKnown). NoRoom number (machine_of settings number at.0) (at.1).end (total_of_lem size)))
+      ap (option_map (λ (at : ℕ × ReplicaKnown). NoRoom number (machine_of settings number at.0) (at.1).end (needle_total size)))
       (found_some (lacks_room settings size) 0 k.replicas broken.at known.0 known.1
-      (lacks_in (total_of_lem size) (known.0).end (end_of lacks.replica) settings.capacity (capacity_of lacks.replica) end (known_capacity broken.at lacks.replica lacks.there) lacks.full)
+      (lacks_in (needle_total size) (known.0).end (end_of lacks.replica) settings.capacity (capacity_of lacks.replica) end (known_capacity broken.at lacks.replica lacks.there) lacks.full)
       (λ i y low e. let r = copy_at i y e in has_room i y r.0 e r.1 (lacks.below i r.0 low r.1)))
-      ∙ ap (λ m. Some (NoRoom number (machine_of settings number m) (known.0).end (total_of_lem size))) plus
-      ∙ ap (λ n. Some (NoRoom number (machine_of settings number broken.at) n (total_of_lem size))) end
+      ∙ ap (λ m. Some (NoRoom number (machine_of settings number m) (known.0).end (needle_total size))) plus
+      ∙ ap (λ n. Some (NoRoom number (machine_of settings number broken.at) n (needle_total size))) end
 
 pub room_by : (settings : Settings) (frozen known : Option ℕ) (refused refusal : Option Refused) → known ≡ frozen → refusal ≡ refused → room_answer settings frozen refused ≡ room_answer settings known refusal
 room_by settings frozen known refused refusal e f = ap (λ (o : Option ℕ). room_answer settings o refused) (sym e) ∙ ap (room_answer settings known) (sym f)

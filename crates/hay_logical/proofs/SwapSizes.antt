@@ -1,6 +1,6 @@
 -- How long the files of a swap are.
 use Rattle.std.proofs.Common.{◌≡◌, ℕ, ◌+◌, ◌≤◌, Bool, true, false, not, ◌&&◌, cond, List, [], ◌∷◌, length, Some, None, refl, sym, ap, ◌∙◌, inl, inr, arith}
-use Rattle.std.specs.Prelude.{sum_by}
+use Rattle.std.specs.Prelude.{map, sum_by}
 use Rattle.std.specs.FinMap.Entries.{find, put, by_order, find-put}
 use Rattle.std.specs.Ordering.{is_eq}
 use Rattle.std.specs.declared.cmp.Ordering.TheVariants.{Less, Equal, Greater}
@@ -13,12 +13,13 @@ use Rattle.hay_needle.specs.declared.needle.Photo.{Photo}
 use Rattle.hay_needle.specs.declared.needle.Outcome.{Outcome}
 use Rattle.hay_needle.specs.declared.needle.Outcome.TheVariants as outcome
 use Rattle.hay_needle.specs.declared.needle.Needle.{Needle}
-use Rattle.hay_needle.specs.Sizes.{total_of_lem}
+use Rattle.hay_needle.specs.Needle.{needle_of_cell}
+use Rattle.hay_needle.specs.Sizes.{needle_total}
 use Rattle.hay_needle.specs.Tables.{Table, is_live, lacks, live_end, live_needles, needle_outcome, pair_cmp, pair_eq, table_of, with_outcome, with_photo}
 use Rattle.hay_needle.proofs.TableLaws.{pair_refl, pair_same, pair_tied, pair_total, table_from}
-use Rattle.hay_needle.proofs.CopyLaws.{live_end-table_of, live_end_within, needle_total, table_of-live_needles}
+use Rattle.hay_needle.proofs.CopyLaws.{live_end-table_of, live_end_within, needle_length, table_of-live_needles}
 use Rattle.hay_volume.specs.Cells.{needles_of}
-use Rattle.hay_compact.specs.Copying.{cell_total, end_of}
+use Rattle.hay_compact.specs.Copying.{cell_total, end_of, renewed_needle}
 
 -- THE NUMBER OF PHOTOS
 
@@ -81,12 +82,12 @@ length_live (c ∷ cs) =
 
 -- CELLS
 
-cells_total : (cells : List Cell) → sum_by needle_total (needles_of cells) ≡ sum_by cell_total cells
+cells_total : (cells : List Cell) → sum_by needle_length (needles_of cells) ≡ sum_by cell_total cells
 cells_total [] = refl
 cells_total (c ∷ cells) =
     let rest = cells_total cells in
     let here = sum_by-cons cell_total c cells in
-    let there = sum_by-cons needle_total (record { pair = c.pair; photo = record { cookie = c.cookie; bytes = c.bytes }; deleted = c.deleted }) (needles_of cells) in
+    let there = sum_by-cons needle_length (needle_of_cell c) (needles_of cells) in
     omega (arith, rest, here, there)
 
 -- no fewer bytes than the photos take, and no fewer cells than photos
@@ -94,26 +95,31 @@ pub photos_end : (cells : List Cell) → live_end (table_of (needles_of cells)) 
 photos_end cells = let within = live_end_within (needles_of cells) in let total = cells_total cells in omega (arith, within, total)
 
 pub photos_fewer : (cells : List Cell) → length (table_of (needles_of cells)) ≤ length cells
-photos_fewer cells = let same = length-table_of (needles_of cells) in let few = length_live (needles_of cells) in let long = length-map cells (λ (c : Cell). needle_of c) in omega (arith, same, few, long)
-  where
-    needle_of : Cell → Needle
-    needle_of c = record { pair = c.pair; photo = record { cookie = c.cookie; bytes = c.bytes }; deleted = c.deleted }
+photos_fewer cells = let same = length-table_of (needles_of cells) in let few = length_live (needles_of cells) in let long = length-map cells needle_of_cell in omega (arith, same, few, long)
+
+-- a needle that is written anew is as long as it was
+renewed_total : (needles : List Needle) → sum_by needle_length (map renewed_needle needles) ≡ sum_by needle_length needles
+renewed_total [] = refl
+renewed_total (needle ∷ needles) =
+    let rest = renewed_total needles in
+    let anew = sum_by-cons needle_length (renewed_needle needle) (map renewed_needle needles) in
+    let here = sum_by-cons needle_length needle needles in
+    omega (arith, rest, anew, here)
 
 -- and just these, where only the live needles were copied
-pub tight_end : (cells fresh : List Cell) → needles_of fresh ≡ live_needles (needles_of cells) → end_of fresh ≡ live_end (table_of (needles_of cells))
+pub tight_end : (cells fresh : List Cell) → needles_of fresh ≡ map renewed_needle (live_needles (needles_of cells)) → end_of fresh ≡ live_end (table_of (needles_of cells))
 tight_end cells fresh is =
     let total = cells_total fresh in
-    let same = ap (λ (l : List Needle). sum_by needle_total l) is in
+    let same = ap (λ (l : List Needle). sum_by needle_length l) is ∙ renewed_total (live_needles (needles_of cells)) in
     let live = live_end-table_of (needles_of cells) in
     omega (arith, total, same, live)
 
-pub tight_count : (cells fresh : List Cell) → needles_of fresh ≡ live_needles (needles_of cells) → length fresh ≡ length (table_of (needles_of cells))
+pub tight_count : (cells fresh : List Cell) → needles_of fresh ≡ map renewed_needle (live_needles (needles_of cells)) → length fresh ≡ length (table_of (needles_of cells))
 tight_count cells fresh is =
-    sym (length-map fresh (λ (c : Cell). record { pair = c.pair; photo = record { cookie = c.cookie; bytes = c.bytes }; deleted = c.deleted }))
-    ∙ ap (λ (l : List Needle). length l) is ∙ sym (length-table_of (needles_of cells))
+    sym (length-map fresh needle_of_cell) ∙ ap (λ (l : List Needle). length l) is ∙ length-map (live_needles (needles_of cells)) renewed_needle ∙ sym (length-table_of (needles_of cells))
 
 -- there are no more cells than bytes
-total_some : (n : ℕ) → 1 ≤ total_of_lem n
+total_some : (n : ℕ) → 1 ≤ needle_total n
 total_some n = omega arith
 
 count_within : (cells : List Cell) → length cells ≤ sum_by cell_total cells

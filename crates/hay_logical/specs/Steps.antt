@@ -2,7 +2,7 @@
 use Rattle.std.specs.Prelude.{◌≡◌, ◌⊎◌, ◌≤◌, ◌<◌, ◌+◌, ℕ, ◌-◌, min, Bool, true, false, List, length, slice_set, Option, Some, None, option_map, Result, Err, IfOk, IfErr, OnOk, OnErr}
 use Rattle.hay_needle.specs.declared.needle.Cookie.{Cookie}
 use Rattle.hay_needle.specs.declared.needle.Pair.{Pair}
-use Rattle.hay_needle.specs.Sizes.{total_of_lem}
+use Rattle.hay_needle.specs.Sizes.{needle_total}
 use Rattle.hay_disk.specs.Counts.{IsNext, Rose}
 use Rattle.hay_disk.specs.Disk.{Files, IsSolid, MayLeave}
 use Rattle.hay_volume.specs.Cells.{live_cell}
@@ -34,15 +34,15 @@ use Rattle.hay_logical.specs.Refusals.{IsUntouched}
 -- ROOM
 
 abbrev pub RoomFor : {D : Type 0} → ℕ → Copy D → Type 0
-RoomFor size r = end_of r + total_of_lem size + 8 ≤ capacity_of r
+RoomFor size r = end_of r + needle_total size + 8 ≤ capacity_of r
 
 -- the lowest replica without room for a photo of this size
 pub record LacksRoom {D : Type 0} (size : ℕ) (replicas : List (Copy D)) (broken : Broken) : Type 0 where
   pub replica : Copy D
   pub there : At replicas broken.at replica
   pub below : (j : ℕ) (r : Copy D) → j < broken.at → At replicas j r → RoomFor size r
-  pub full : capacity_of replica < end_of replica + total_of_lem size + 8
-  pub cause : broken.fault ≡ fault.Full (end_of replica) (total_of_lem size) (capacity_of replica)
+  pub full : capacity_of replica < end_of replica + needle_total size + 8
+  pub cause : broken.fault ≡ fault.Full (end_of replica) (needle_total size) (capacity_of replica)
 
 -- DELETABLE PHOTOS
 

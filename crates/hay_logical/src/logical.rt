@@ -30,7 +30,7 @@ use hay_base::{Listed, NoMemory};
 use hay_core::CoreTag;
 use hay_disk::{Disk, Piece};
 use hay_map::{MapView, Row};
-use hay_needle::{Cookie, FileKind, Pair, Settings, Super};
+use hay_needle::{Cookie, FileKind, MAX_PHOTO, Pair, Settings, Super};
 use hay_open::OpenFault;
 use hay_physical::Replica;
 use hay_reply::Note;
@@ -219,7 +219,7 @@ impl<D: Disk> Logical<D> {
         cookie: Cookie,
         bytes: &[u8],
     ) -> Result<u64, LogicalFault>
-        requires size { length bytes.now ≤ 1048576 }
+        requires size { length bytes.now ≤ MAX_PHOTO }
         requires open { IsOpen self.old }
         ensures stored { D.Tells → (k : VolumeKnown) → Stands D.files D.Piece.Tells self.old k →
             IfOk result (λ position. IsPut D.files D.Piece.Tells k tag pair cookie bytes.now position self.new) }

@@ -20,7 +20,7 @@ use crate::runs::drop_runs;
 use hay_base::NoMemory;
 use hay_disk::Disk;
 use hay_map::{MapView, Place, Row};
-use hay_needle::{Cookie, Pair};
+use hay_needle::{Cookie, MAX_PHOTO, Pair};
 use hay_open::OpenFault;
 use hay_physical::{Replica, ReplicaFault};
 use std::alloc::Global;
@@ -83,7 +83,7 @@ pub(crate) fn put_each<D: Disk>(
     bytes: &[u8],
 ) -> Result<Row<D::Piece>, Broken>
     requires most { length replicas.old ≤ 4 }
-    requires size { length bytes.now ≤ 1048576 }
+    requires size { length bytes.now ≤ MAX_PHOTO }
     requires up { (j : ℕ) (r : Copy D) → At replicas.old j r → IsUp r }
     requires room { (j : ℕ) (r : Copy D) → At replicas.old j r → RoomFor (length bytes.now) r }
     ensures counts { KeepsCounts D.fault_count D.fuse_count replicas.old replicas.new }
@@ -114,7 +114,7 @@ fn put_in_order<D: Disk>(
     bytes: &[u8],
 ) -> Result<Row<D::Piece>, Broken>
     requires most { length replicas.old ≤ 4 }
-    requires size { length bytes.now ≤ 1048576 }
+    requires size { length bytes.now ≤ MAX_PHOTO }
     requires up { (j : ℕ) (r : Copy D) → At replicas.old j r → IsUp r }
     requires room { (j : ℕ) (r : Copy D) → At replicas.old j r → RoomFor (length bytes.now) r }
     ensures counts { KeepsCounts D.fault_count D.fuse_count replicas.old replicas.new }

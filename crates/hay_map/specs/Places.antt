@@ -4,16 +4,18 @@ use Rattle.hay_needle.specs.declared.needle.Outcome.{Outcome}
 use Rattle.hay_needle.specs.declared.needle.Outcome.TheVariants as outcome
 use Rattle.hay_needle.specs.declared.needle.Pair.{Pair}
 use Rattle.hay_needle.specs.declared.needle.Photo.{Photo}
+use Rattle.hay_needle.specs.declared.needle.Version.{Version}
 use Rattle.hay_needle.specs.Needle.{NeedleBytes}
 use Rattle.hay_map.specs.Sealed.{SealedNeedle}
 use Rattle.hay_map.specs.declared.place.Place.{Place}
 use Rattle.hay_map.specs.declared.place.Place.TheVariants as place
 
--- The piece tells, and has the needle of this photo.
+-- The piece tells, and has the needle of this photo, of either version.
 pub record IsSealed (Tells : Type 0) (pair : Pair) (photo : Photo) (needle : SealedNeedle) : Type 0 where
   pub tells : Tells
   pub size : needle.size ≡ length photo.bytes
-  pub is : NeedleBytes needle.bytes (record { pair = pair; photo = photo; deleted = false })
+  pub version : Version
+  pub is : NeedleBytes needle.bytes (record { version = version; pair = pair; photo = photo; deleted = false })
 
 -- what a place says of its pair
 abbrev pub PlaceMeans : {P : Type 0} → Type 0 → Pair → Place P → Outcome → Type 0

@@ -2,10 +2,11 @@
 ghost use Rattle.std.specs.Prelude.{◌≡◌, ◌≤◌, ◌<◌, ◌++◌, ◌∷◌, [], true, length, IfOk, IsErr, IsOk};
 ghost use Rattle.hay_disk.specs.Counts.{IsCounted};
 ghost use Rattle.hay_disk.specs.Disk.{IsBut};
-ghost use Rattle.hay_needle.specs.Sizes.{total_of_lem};
+ghost use Rattle.hay_needle.specs.Sizes.{needle_total};
 ghost use Rattle.hay_map.specs.Places.{gone_place};
 
 use hay_disk::{Arm, Failed, Piece};
+use hay_needle::MAX_PHOTO;
 use std::marker::Model;
 
 /// A needle that a volume file gave out: where it stands in the file, how many bytes its photo has, and the piece to fetch it by.
@@ -18,21 +19,22 @@ pub struct Sealed<P: Piece> {
 
 impl<P: Piece> Model for Sealed<P> {
     ghost use Rattle.std.specs.Prelude.{◌≡◌, ◌≤◌};
-    ghost use Rattle.hay_needle.specs.Sizes.{total_of_lem};
+    ghost use Rattle.hay_needle.specs.Sizes.{max_photo, needle_total};
+    ghost use Rattle.hay_needle.specs.declared.needle.Version.TheVariants.{Two};
     ghost use Rattle.hay_map.specs.Sealed.{SealedNeedle};
 
     ghost Value = { SealedNeedle };
 
     ghost view = { λ s. record { at = s.at; size = s.size; bytes = P.piece_bytes s.piece } };
 
-    ghost invariant = { λ s. (s.size ≤ 1048576) × (P.piece_len s.piece ≡ total_of_lem s.size) × (P.piece_hole s.piece ≡ 28) };
+    ghost invariant = { λ s. (s.size ≤ max_photo Two) × (P.piece_len s.piece ≡ needle_total s.size) × (P.piece_hole s.piece ≡ 28) };
 }
 
 impl<P: Piece> Sealed<P> {
     /// The needle whose piece this is. The piece's hole is the flags byte.
     pub fn new(at: u64, size: u32, piece: P) -> Sealed<P>
-        requires size { size ≤ 1048576 }
-        requires len { P.piece_len piece ≡ total_of_lem size }
+        requires size { size ≤ MAX_PHOTO }
+        requires len { P.piece_len piece ≡ needle_total size }
         requires hole { P.piece_hole piece ≡ 28 }
         ensures { result ≡ record { at = at; size = size; bytes = P.piece_bytes piece } }
     {
@@ -49,7 +51,7 @@ impl<P: Piece> Sealed<P> {
     /// How many bytes the photo has.
     pub fn size(&self) -> u32
         ensures is { result ≡ self.now.size }
-        ensures most { result ≤ 1048576 }
+        ensures most { result ≤ MAX_PHOTO }
     {
         self.size
     }
@@ -67,7 +69,7 @@ impl<P: Piece> Sealed<P> {
 
     /// Puts the needle's bytes into `out`, with any byte for the flags, and answers their number.
     pub fn fetch<A: Arm<P>>(&self, arm: &mut A, out: &mut [u8]) -> Result<usize, Failed>
-        requires { length out.old ≡ total_of_lem self.now.size }
+        requires { length out.old ≡ needle_total self.now.size }
         ensures within { IfOk result (λ n. n ≤ length out.old) }
         ensures count { P.Tells → IfOk result (λ n. n ≡ length out.old) }
         ensures bytes { P.Tells → IfOk result (λ _. IsBut 28 self.now.bytes out.new) }

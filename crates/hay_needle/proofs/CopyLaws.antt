@@ -12,7 +12,7 @@ use Rattle.hay_needle.specs.declared.needle.Photo.{Photo}
 use Rattle.hay_needle.specs.declared.needle.Outcome.{Outcome}
 use Rattle.hay_needle.specs.declared.needle.Outcome.TheVariants as outcome
 use Rattle.hay_needle.specs.declared.needle.Needle.{Needle}
-use Rattle.hay_needle.specs.Sizes.{total_of_lem}
+use Rattle.hay_needle.specs.Sizes.{needle_total}
 use Rattle.hay_needle.specs.Tables.{pair_cmp, pair_eq, Table, with_photo, with_outcome, needle_outcome, table_of, look_after, look, needle_row, rows_of, lacks, is_live, live_needles, flag_last, live_end}
 use Rattle.hay_needle.specs.Copies.{CopiesAt}
 use Rattle.hay_needle.proofs.TableLaws.{pair_same, pair_refl, pair_tied, pair_total, rows_append, lacks_look, has_look, flag_other, flag_same, drop_flag_other, drop_flag_same, drop_nothing, table_from, table_of-same}
@@ -183,11 +183,11 @@ pub table_of-live_needles : (cs : List Needle) → table_of (live_needles cs) �
 table_of-live_needles cs = table_of-same (live_needles cs) cs (look_live cs)
 
 -- the bytes of a needle's photo on the disk, and of a table's
-abbrev pub needle_total : Needle → ℕ
-needle_total n = total_of_lem (length n.photo.bytes)
+abbrev pub needle_length : Needle → ℕ
+needle_length n = needle_total (length n.photo.bytes)
 
 abbrev pub photo_total : Pair × Photo → ℕ
-photo_total e = total_of_lem (length (e.1).bytes)
+photo_total e = needle_total (length (e.1).bytes)
 
 -- a put of a pair that the table has not
 sum-put : (q : Pair) (photo : Photo) (table : Table) → find pair_cmp q table ≡ None → sum_by photo_total (put pair_cmp q photo table) ≡ sum_by photo_total table + photo_total (q, photo)
@@ -224,35 +224,35 @@ rest_new table c cs last new p has =
       | inr f ↦ f
     ]
 
-sum_live : (table : Table) (cs : List Needle) → AreNew table cs → sum_by photo_total (table_from table (live_needles cs)) ≡ sum_by photo_total table + sum_by needle_total (live_needles cs)
+sum_live : (table : Table) (cs : List Needle) → AreNew table cs → sum_by photo_total (table_from table (live_needles cs)) ≡ sum_by photo_total table + sum_by needle_length (live_needles cs)
 sum_live table [] new = omega arith
 sum_live table (c ∷ cs) new =
-    cond_both (is_live c cs) (c ∷ live_needles cs) (live_needles cs) (λ (ds : List Needle). sum_by photo_total (table_from table ds) ≡ sum_by photo_total table + sum_by needle_total ds)
+    cond_both (is_live c cs) (c ∷ live_needles cs) (live_needles cs) (λ (ds : List Needle). sum_by photo_total (table_from table ds) ≡ sum_by photo_total table + sum_by needle_length ds)
     (λ live.
     let parts = and_parts (not c.deleted) (lacks c.pair cs) live in
     let added : with_outcome table c.pair (needle_outcome c) ≡ with_photo table c.pair c.photo =
     ap (λ (o : Outcome). with_outcome table c.pair o) (cond-false c.deleted outcome.Nothing (outcome.Photo c.photo) (not-true c.deleted parts.0)) in
     let now = sum-put c.pair c.photo table (first_new table c cs new) in
     let rest = sum_live (with_photo table c.pair c.photo) cs (rest_new table c cs parts.1 new) in
-    let all = sum_by-cons needle_total c (live_needles cs) in
+    let all = sum_by-cons needle_length c (live_needles cs) in
     ap (λ (t : Table). sum_by photo_total (table_from t (live_needles cs))) added ∙ rest ∙ omega (arith, now, all))
     (λ dead. sum_live table cs (λ p has. new p (still_lacks (not (pair_eq c.pair p)) (lacks p cs) has)))
 
 -- where the live needles of a file end, one behind the other
-pub live_end-table_of : (cs : List Needle) → live_end (table_of cs) ≡ 64 + sum_by needle_total (live_needles cs)
+pub live_end-table_of : (cs : List Needle) → live_end (table_of cs) ≡ 64 + sum_by needle_length (live_needles cs)
 live_end-table_of cs =
     let sum = sum_live [] cs (λ p has. refl) in
     ap live_end (sym (table_of-live_needles cs)) ∙ ap (λ n. 64 + n) sum ∙ omega arith
 
-pub live_needles_within : (cs : List Needle) → sum_by needle_total (live_needles cs) ≤ sum_by needle_total cs
+pub live_needles_within : (cs : List Needle) → sum_by needle_length (live_needles cs) ≤ sum_by needle_length cs
 live_needles_within [] = omega arith
 live_needles_within (c ∷ cs) =
-    let all = sum_by-cons needle_total c cs in
+    let all = sum_by-cons needle_length c cs in
     let rest = live_needles_within cs in
-    cond_both (is_live c cs) (c ∷ live_needles cs) (live_needles cs) (λ (ds : List Needle). sum_by needle_total ds ≤ sum_by needle_total (c ∷ cs))
-    (λ live. let kept = sum_by-cons needle_total c (live_needles cs) in omega (arith, all, rest, kept))
+    cond_both (is_live c cs) (c ∷ live_needles cs) (live_needles cs) (λ (ds : List Needle). sum_by needle_length ds ≤ sum_by needle_length (c ∷ cs))
+    (λ live. let kept = sum_by-cons needle_length c (live_needles cs) in omega (arith, all, rest, kept))
     (λ dead. omega (arith, all, rest))
 
 -- no more than where all needles end
-pub live_end_within : (cs : List Needle) → live_end (table_of cs) ≤ 64 + sum_by needle_total cs
+pub live_end_within : (cs : List Needle) → live_end (table_of cs) ≤ 64 + sum_by needle_length cs
 live_end_within cs = omega (arith, live_end-table_of cs, live_needles_within cs)

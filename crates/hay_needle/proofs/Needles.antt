@@ -4,19 +4,20 @@ use Rattle.std.proofs.Math.Seq.{take-append-add}
 use Rattle.std.proofs.lemmas.List.{take_at, length-append}
 use Rattle.std.specs.Prelude.{slice_set, not}
 use Rattle.hay_needle.specs.declared.needle.Needle.{Needle}
-use Rattle.hay_needle.specs.Sizes.{total_of_lem}
+use Rattle.hay_needle.specs.Sizes.{needle_total}
 use Rattle.hay_needle.specs.Needle.{Head, HeadBytes, head_of_needle, footer_bytes, NeedleBytes, BeginsWithNeedle, head_bytes, head_rest, deleted_needle, needle_magic}
 use Rattle.hay_needle.specs.Fields.{number_at}
 use Rattle.hay_needle.specs.Reading.{head_at}
 use Rattle.hay_needle.proofs.NeedleLemmas.{same_needle}
 use Rattle.hay_needle.proofs.Heads.{flag_is, head_only}
 use Rattle.hay_needle.proofs.Spelling.{length-head_bytes}
+pub use Rattle.hay_needle.proofs.Heads.{max_photo-le}
 pub use Rattle.hay_needle.proofs.Spelling.{length-head, length-needle}
 pub use Rattle.hay_needle.proofs.Supers.{length-super}
 
 -- with another flags byte the bytes are the needle, deleted where that byte is not zero
 pub reflagged : (bytes : List ℕ) (n : Needle) (flags : ℕ) → NeedleBytes bytes n → NeedleBytes (slice_set bytes 28 flags) (record n { deleted = not (eqb flags 0) })
-unfolding head_bytes head_rest
+unfolding head_bytes head_rest footer_bytes
 reflagged bytes n flags b = record {
   flags = flags;
   spelled = ap (λ (x : List ℕ). slice_set x 28 flags) b.spelled;
@@ -50,8 +51,8 @@ length_zero (x ∷ xs) e = absurd (omega arith)
 pub head_first : (bytes : List ℕ) (n : Needle) → BeginsWithNeedle bytes n → HeadBytes (take 36 bytes) (head_of_needle n)
 head_first bytes n b =
     let h : List ℕ = head_bytes (head_of_needle n) b.is.flags in
-    let behind : List ℕ = (n.photo.bytes ++ footer_bytes n.photo.bytes) ++ b.rest in
-    let whole : bytes ≡ h ++ behind = b.parts ∙ ap (λ (x : List ℕ). x ++ b.rest) b.is.spelled ∙ append_assoc h (n.photo.bytes ++ footer_bytes n.photo.bytes) b.rest in
+    let behind : List ℕ = (n.photo.bytes ++ footer_bytes n) ++ b.rest in
+    let whole : bytes ≡ h ++ behind = b.parts ∙ ap (λ (x : List ℕ). x ++ b.rest) b.is.spelled ∙ append_assoc h (n.photo.bytes ++ footer_bytes n) b.rest in
     record {
       flags = b.is.flags;
       spelled = ap (λ (x : List ℕ). take 36 x) whole ∙ take_at h behind 36 (length-head_bytes (head_of_needle n) b.is.flags);
@@ -59,9 +60,9 @@ head_first bytes n b =
     }
 
 -- the first bytes begin with the needle, if they are as many as it has
-pub needle_in_front : (k : ℕ) (bytes : List ℕ) (n : Needle) → total_of_lem (length n.photo.bytes) ≤ k → BeginsWithNeedle bytes n → BeginsWithNeedle (take k bytes) n
+pub needle_in_front : (k : ℕ) (bytes : List ℕ) (n : Needle) → needle_total (length n.photo.bytes) ≤ k → BeginsWithNeedle bytes n → BeginsWithNeedle (take k bytes) n
 needle_in_front k bytes n long b =
-    let total : length b.needle ≡ total_of_lem (length n.photo.bytes) = length-needle b.needle n b.is in
+    let total : length b.needle ≡ needle_total (length n.photo.bytes) = length-needle b.needle n b.is in
     let more : k ≡ length b.needle + (k - length b.needle) = omega arith in
     record {
       needle = b.needle;
@@ -71,7 +72,7 @@ needle_in_front k bytes n long b =
     }
 
 -- bytes that are no more than the needle with which they begin are the needle
-pub needle_alone : (bytes : List ℕ) (n : Needle) → length bytes ≤ total_of_lem (length n.photo.bytes) → BeginsWithNeedle bytes n → NeedleBytes bytes n
+pub needle_alone : (bytes : List ℕ) (n : Needle) → length bytes ≤ needle_total (length n.photo.bytes) → BeginsWithNeedle bytes n → NeedleBytes bytes n
 needle_alone bytes n short b =
     let none : length b.rest ≡ 0 = omega (arith, ap length b.parts, length-append b.needle b.rest, length-needle b.needle n b.is) in
     let whole : bytes ≡ b.needle = b.parts ∙ ap (λ (x : List ℕ). b.needle ++ x) (length_zero b.rest none) ∙ append-nil b.needle in

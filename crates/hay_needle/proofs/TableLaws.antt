@@ -13,6 +13,7 @@ use Rattle.hay_needle.specs.declared.needle.Outcome.{Outcome}
 use Rattle.hay_needle.specs.declared.needle.Outcome.TheVariants as outcome
 use Rattle.hay_needle.specs.declared.needle.Needle.{Needle}
 use Rattle.hay_needle.specs.declared.needle.Row.{Row}
+use Rattle.hay_needle.specs.Needle.{deleted_needle}
 use Rattle.hay_needle.specs.Tables.{pair_cmp, pair_eq, Table, outcome_by, outcome_at, with_photo, without_pair, with_outcome, needle_outcome, table_of, look_after, look, needle_row, rows_of, lacks, flag_last}
 
 -- PAIRS
@@ -117,14 +118,11 @@ lacks_append q (c ∷ cs) ds = elim (pair_eq c.pair q) as (λ b. (not b && lacks
 
 -- FLAGS
 
-abbrev flagged : Needle → Needle
-flagged c = record { pair = c.pair; photo = c.photo; deleted = true }
-
 -- a flag leaves each other pair
 pub flag_other : (q p : Pair) (cs : List Needle) (o : Outcome) → pair_eq q p ≡ false → look_after (rows_of (flag_last q cs)) p o ≡ look_after (rows_of cs) p o
 flag_other q p [] o ne = refl
 flag_other q p (c ∷ cs) o ne =
-    cond_both (pair_eq c.pair q && lacks q cs) (flagged c ∷ cs) (c ∷ flag_last q cs)
+    cond_both (pair_eq c.pair q && lacks q cs) (deleted_needle c ∷ cs) (c ∷ flag_last q cs)
     (λ (ds : List Needle). look_after (rows_of ds) p o ≡ look_after (rows_of (c ∷ cs)) p o)
     (λ e. let same = pair_same c.pair q (and_parts (pair_eq c.pair q) (lacks q cs) e).0 in
     let n : pair_eq c.pair p ≡ false = ap (λ (x : Pair). pair_eq x p) same ∙ ne in
@@ -147,7 +145,7 @@ still_has false false e f = refl
 pub flag_has : (q : Pair) (cs : List Needle) (o : Outcome) → lacks q cs ≡ false → look_after (rows_of (flag_last q cs)) q o ≡ outcome.Nothing
 flag_has q [] o e = absurd (true≢false e)
 flag_has q (c ∷ cs) o e =
-    cond_both (pair_eq c.pair q && lacks q cs) (flagged c ∷ cs) (c ∷ flag_last q cs)
+    cond_both (pair_eq c.pair q && lacks q cs) (deleted_needle c ∷ cs) (c ∷ flag_last q cs)
     (λ (ds : List Needle). look_after (rows_of ds) q o ≡ outcome.Nothing)
     (λ t. let parts = and_parts (pair_eq c.pair q) (lacks q cs) t in
     ap (λ (x : Outcome). look_after (rows_of cs) q x) (cond-true (pair_eq c.pair q) outcome.Nothing o parts.0) ∙ lacks_look q cs outcome.Nothing parts.1)
@@ -170,7 +168,7 @@ pub drop_flag_other : (q p : Pair) (n : ℕ) (cs : List Needle) (o : Outcome) �
 drop_flag_other q p zero cs o ne = flag_other q p cs o ne
 drop_flag_other q p (suc n) [] o ne = refl
 drop_flag_other q p (suc n) (c ∷ cs) o ne =
-    cond_both (pair_eq c.pair q && lacks q cs) (flagged c ∷ cs) (c ∷ flag_last q cs)
+    cond_both (pair_eq c.pair q && lacks q cs) (deleted_needle c ∷ cs) (c ∷ flag_last q cs)
     (λ (ds : List Needle). look_after (rows_of (drop (suc n) ds)) p o ≡ look_after (rows_of (drop n cs)) p o)
     (λ e. refl)
     (λ e. drop_flag_other q p n cs o ne)
@@ -179,7 +177,7 @@ pub drop_flag_same : (q : Pair) (n : ℕ) (cs : List Needle) → look (rows_of (
 drop_flag_same q zero cs = flag_same q cs
 drop_flag_same q (suc n) [] = refl
 drop_flag_same q (suc n) (c ∷ cs) =
-    cond_both (pair_eq c.pair q && lacks q cs) (flagged c ∷ cs) (c ∷ flag_last q cs)
+    cond_both (pair_eq c.pair q && lacks q cs) (deleted_needle c ∷ cs) (c ∷ flag_last q cs)
     (λ (ds : List Needle). look (rows_of (drop (suc n) ds)) q ≡ outcome.Nothing)
     (λ e. lacks_look q (drop n cs) outcome.Nothing (lacks_drop q n cs (and_parts (pair_eq c.pair q) (lacks q cs) e).1))
     (λ e. drop_flag_same q n cs)
@@ -187,19 +185,19 @@ drop_flag_same q (suc n) (c ∷ cs) =
 pub length-flag_last : (q : Pair) (cs : List Needle) → length (flag_last q cs) ≡ length cs
 length-flag_last q [] = refl
 length-flag_last q (c ∷ cs) =
-    cond_both (pair_eq c.pair q && lacks q cs) (flagged c ∷ cs) (c ∷ flag_last q cs)
+    cond_both (pair_eq c.pair q && lacks q cs) (deleted_needle c ∷ cs) (c ∷ flag_last q cs)
     (λ (ds : List Needle). length ds ≡ length (c ∷ cs))
     (λ t. refl)
     (λ f. ap suc (length-flag_last q cs))
 
 -- one step of a pass that flags
-pub flag_here : (q : Pair) (c : Needle) (cs : List Needle) → pair_eq c.pair q ≡ true → lacks q cs ≡ true → flag_last q (c ∷ cs) ≡ flagged c ∷ flag_last q cs
+pub flag_here : (q : Pair) (c : Needle) (cs : List Needle) → pair_eq c.pair q ≡ true → lacks q cs ≡ true → flag_last q (c ∷ cs) ≡ deleted_needle c ∷ flag_last q cs
 flag_here q c cs e none =
-    cond-true (pair_eq c.pair q && lacks q cs) (flagged c ∷ cs) (c ∷ flag_last q cs) (and_from (pair_eq c.pair q) (lacks q cs) e none)
-    ∙ ap (λ (ds : List Needle). flagged c ∷ ds) (sym (lacks_flag q cs none))
+    cond-true (pair_eq c.pair q && lacks q cs) (deleted_needle c ∷ cs) (c ∷ flag_last q cs) (and_from (pair_eq c.pair q) (lacks q cs) e none)
+    ∙ ap (λ (ds : List Needle). deleted_needle c ∷ ds) (sym (lacks_flag q cs none))
 
 pub flag_not_here : (q : Pair) (c : Needle) (cs : List Needle) → (pair_eq c.pair q && lacks q cs) ≡ false → flag_last q (c ∷ cs) ≡ c ∷ flag_last q cs
-flag_not_here q c cs e = cond-false (pair_eq c.pair q && lacks q cs) (flagged c ∷ cs) (c ∷ flag_last q cs) e
+flag_not_here q c cs e = cond-false (pair_eq c.pair q && lacks q cs) (deleted_needle c ∷ cs) (c ∷ flag_last q cs) e
 
 -- FILES THAT GROW
 
@@ -223,9 +221,9 @@ extends_same cs n c e = (c, e, refl)
 pub extends_flag : (q : Pair) (cs : List Needle) → Extends cs (flag_last q cs)
 extends_flag q [] = extends_same []
 extends_flag q (x ∷ cs) =
-    cond_both (pair_eq x.pair q && lacks q cs) (flagged x ∷ cs) (x ∷ flag_last q cs)
+    cond_both (pair_eq x.pair q && lacks q cs) (deleted_needle x ∷ cs) (x ∷ flag_last q cs)
     (λ (ds : List Needle). Extends (x ∷ cs) ds)
-    (λ t. at_head x (flagged x) cs cs refl (extends_same cs))
+    (λ t. at_head x (deleted_needle x) cs cs refl (extends_same cs))
     (λ f. at_head x x cs (flag_last q cs) refl (extends_flag q cs))
 
 -- TABLES

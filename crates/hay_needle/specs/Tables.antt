@@ -9,7 +9,7 @@ use Rattle.hay_needle.specs.declared.needle.Outcome.{Outcome}
 use Rattle.hay_needle.specs.declared.needle.Outcome.TheVariants as outcome
 use Rattle.hay_needle.specs.declared.needle.Needle.{Needle}
 use Rattle.hay_needle.specs.declared.needle.Row.{Row}
-use Rattle.hay_needle.specs.Sizes.{total_of_lem}
+use Rattle.hay_needle.specs.Sizes.{needle_total}
 
 -- PAIRS
 
@@ -55,7 +55,7 @@ table_of needles = fold (λ table n. with_outcome table n.pair (needle_outcome n
 
 -- where a file ends that has one needle for each photo of the table
 abbrev pub live_end : Table → ℕ
-live_end table = 64 + sum_by (λ photo. total_of_lem (length (photo.1).bytes)) table
+live_end table = 64 + sum_by (λ photo. needle_total (length (photo.1).bytes)) table
 
 -- LOOKING UP A PAIR IN A LIST OF ROWS
 

@@ -40,6 +40,7 @@ impl Duplicate for Row {
 impl Duplicate for Needle {
     fn duplicate(&self, alloc: Global) -> Result<Needle, NoMemory> {
         Ok(Needle {
+            version: self.version,
             pair: self.pair,
             photo: self.photo.duplicate(alloc)?,
             deleted: self.deleted,

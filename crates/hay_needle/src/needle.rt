@@ -13,10 +13,19 @@ pub struct Pair {
 #[derive(Clone, Copy, Debug, PartialEq, Eq)]
 pub struct Cookie(pub u64);
 
+/// How a needle is spelled. Each new needle is of version 2.
+#[derive(Clone, Copy, Debug, PartialEq, Eq)]
+pub enum Version {
+    /// The photo has at most 1,048,576 bytes, and the checksum covers it alone.
+    One,
+    /// The photo has at most 16,777,216 bytes, and the checksum covers its cookie, its keys and its size too.
+    Two,
+}
+
 /// Bytes that a value owns, which a clause sees as a list.
 pub type Bytes = Listed<u8>;
 
-/// A photo as it was put: at most 1,048,576 bytes, and the cookie with which they are read.
+/// A photo as it was put: at most 16,777,216 bytes, and the cookie with which they are read.
 #[derive(Debug, Drop)]
 pub struct Photo {
     pub cookie: Cookie,
@@ -40,6 +49,7 @@ pub struct Row {
 /// A photo as a volume file holds it, without its place there.
 #[derive(Debug, Drop)]
 pub struct Needle {
+    pub version: Version,
     pub pair: Pair,
     pub photo: Photo,
     pub deleted: bool,
@@ -49,6 +59,7 @@ pub struct Needle {
 #[derive(Debug, Drop)]
 pub struct Cell {
     pub at: u64,
+    pub version: Version,
     pub pair: Pair,
     pub cookie: Cookie,
     pub bytes: Bytes,
@@ -59,6 +70,7 @@ pub struct Cell {
 #[derive(Clone, Copy, Debug, PartialEq, Eq)]
 pub struct CellHead {
     pub at: u64,
+    pub version: Version,
     pub pair: Pair,
     pub cookie: Cookie,
     pub size: u32,
@@ -68,6 +80,7 @@ pub struct CellHead {
 /// A needle that lies in a buffer.
 #[derive(Clone, Copy, Debug)]
 pub struct NeedleView<'a> {
+    pub version: Version,
     pub pair: Pair,
     pub cookie: Cookie,
     pub deleted: bool,

@@ -1,16 +1,17 @@
 //! Reading needles.
 
 ghost use Rattle.std.specs.Prelude.{◌≡◌, ◌+◌, ◌≤◌, length, take, IfOk, IsOkAnd};
-ghost use Rattle.hay_needle.specs.Sizes.{padding_of_lem};
+ghost use Rattle.hay_needle.specs.Sizes.{needle_padding};
 ghost use Rattle.hay_needle.specs.declared.needle.Needle.{Needle};
 ghost use Rattle.hay_needle.specs.Needle.{Head, HeadBytes, BeginsWithNeedle, head_of_cell, needle_of_view};
-ghost use Rattle.hay_needle.specs.Reading.{head_at, needle_at};
+ghost use Rattle.hay_needle.specs.Reading.{head_at, needle_at, version_of};
 ghost use Rattle.hay_needle.specs.Faults.{fault_of, first_fault, head_tests, footer_tests, needle_tests};
 
 use crate::encode::FOOTER_MAGIC;
-use crate::fields::{has_sum_of, is_zero, u32_at, u64_at};
-use crate::needle::{CellHead, Cookie, NeedleView, Pair};
-use crate::total::{MAX_PHOTO, padding_of, total_of};
+use crate::fields::{is_zero, u32_at, u64_at};
+use crate::needle::{CellHead, Cookie, NeedleView, Pair, Version};
+use crate::sum::sum_of;
+use crate::total::{max_photo_of, padding_of, total_of};
 
 /// `NEEDLE01`, which begins a needle.
 pub const NEEDLE_MAGIC: u64 = 0x4e45_4544_4c45_3031;
@@ -25,16 +26,26 @@ pub enum NeedleFault {
     Short,
     /// They do not begin with the magic.
     Magic,
-    /// The size at 32 is above the largest photo's.
+    /// The size at 32 is above 16,777,216, or above 1,048,576 where the byte at 29 is 0.
     Size,
-    /// The three bytes behind the flags, at 29, are not zero.
+    /// The byte at 29 is above 1, or the two behind it are not zero.
     Reserved,
     /// The footer magic does not stand behind the photo.
     Footer,
     /// The bytes behind the checksum are not zero.
     Padding,
-    /// The checksum is not the photo's.
+    /// The checksum is not that of the needle's version.
     Sum,
+}
+
+fn version_of_byte(byte: u8) -> Version
+    ensures { result ≡ version_of byte }
+{
+    if byte == 0 {
+        Version::One
+    } else {
+        Version::Two
+    }
 }
 
 #[tactic(auto, unfolding(crate::specs::Faults::head_tests, crate::specs::Reading::head_at))]
@@ -49,15 +60,17 @@ fn head(bytes: &[u8], at: u64) -> Result<CellHead, NeedleFault>
     if u64_at(bytes, 0) != NEEDLE_MAGIC {
         return Err(NeedleFault::Magic);
     }
+    let version = version_of_byte(bytes[29]);
     let size = u32_at(bytes, 32);
-    if size > MAX_PHOTO {
+    if size > max_photo_of(version) {
         return Err(NeedleFault::Size);
     }
-    if !is_zero(&bytes[29..32]) {
+    if bytes[29] > 1 || !is_zero(&bytes[30..32]) {
         return Err(NeedleFault::Reserved);
     }
     Ok(CellHead {
         at,
+        version,
         pair: Pair {
             key: u64_at(bytes, 16),
             alt: u32_at(bytes, 24),
@@ -69,17 +82,18 @@ fn head(bytes: &[u8], at: u64) -> Result<CellHead, NeedleFault>
 }
 
 #[tactic(auto, unfolding(crate::specs::Faults::footer_tests))]
-fn check_footer(size: u32, photo: &[u8], footer: &[u8]) -> Result<(), NeedleFault>
-    requires { 12 + padding_of_lem size ≤ length footer.now }
-    ensures { fault_of result ≡ first_fault (footer_tests size photo.now footer.now) }
+fn check_footer(needle: &NeedleView<'_>, footer: &[u8]) -> Result<(), NeedleFault>
+    requires size { length needle.now.bytes.now ≤ u32.MAX }
+    requires footer { 12 + needle_padding (length needle.now.bytes.now) ≤ length footer.now }
+    ensures { fault_of result ≡ first_fault (footer_tests (needle_of_view needle.now) footer.now) }
 {
     if u32_at(footer, 0) != FOOTER_MAGIC {
         return Err(NeedleFault::Footer);
     }
-    if !is_zero(&footer[12..12 + padding_of(size)]) {
+    if !is_zero(&footer[12..12 + padding_of(needle.bytes.len() as u32)]) {
         return Err(NeedleFault::Padding);
     }
-    if !has_sum_of(photo, &footer[4..12]) {
+    if footer[4..12] != sum_of(needle)[..] {
         return Err(NeedleFault::Sum);
     }
     Ok(())
@@ -96,13 +110,15 @@ fn needle(bytes: &[u8]) -> Result<NeedleView<'_>, NeedleFault>
     }
     let (_, body) = bytes.split_at(HEAD_LEN);
     let (photo, footer) = body.split_at(head.size as usize);
-    check_footer(head.size, photo, footer)?;
-    Ok(NeedleView {
+    let needle = NeedleView {
+        version: head.version,
         pair: head.pair,
         cookie: head.cookie,
         deleted: head.deleted,
         bytes: photo,
-    })
+    };
+    check_footer(&needle, footer)?;
+    Ok(needle)
 }
 
 /// What the first 36 bytes say of the needle that stands at `at` in its file.

@@ -5,7 +5,7 @@ use Rattle.hay_needle.specs.declared.needle.Cell.{Cell}
 use Rattle.hay_needle.specs.declared.needle.CellHead.{CellHead}
 use Rattle.hay_needle.specs.declared.needle.Needle.{Needle}
 use Rattle.hay_needle.specs.Needle.{HeadBytes, head_of_cell, head_of_needle, needle_of_cell}
-use Rattle.hay_needle.specs.Sizes.{total_of_lem}
+use Rattle.hay_needle.specs.Sizes.{needle_total}
 use Rattle.hay_needle.proofs.Needles.{head_first, length-needle, one_head}
 use Rattle.hay_volume.specs.Cells.{AreCellsAt, HasCells, StandsCell, cell_head}
 use Rattle.hay_volume.proofs.ReadLaws.{read_head_is}
@@ -20,35 +20,35 @@ use Rattle.hay_open.specs.Stored.{cell_record}
 
 pub row_join : (at : ℕ) (rows more : List Record) → AreInRow at rows → AreInRow (place_behind at rows) more → AreInRow at (rows ++ more)
 row_join at [] more row behind = behind
-row_join at (r ∷ rows) more row behind = (row.0, row_join (at + total_of_lem r.size) rows more row.1 behind)
+row_join at (r ∷ rows) more row behind = (row.0, row_join (at + needle_total r.size) rows more row.1 behind)
 
 pub behind_join : (at : ℕ) (rows more : List Record) → place_behind at (rows ++ more) ≡ place_behind (place_behind at rows) more
 behind_join at [] more = refl
-behind_join at (r ∷ rows) more = behind_join (at + total_of_lem r.size) rows more
+behind_join at (r ∷ rows) more = behind_join (at + needle_total r.size) rows more
 
 pub behind_far : (at : ℕ) (rows : List Record) → at ≤ place_behind at rows
 behind_far at [] = omega arith
-behind_far at (r ∷ rows) = omega (arith, behind_far (at + total_of_lem r.size) rows)
+behind_far at (r ∷ rows) = omega (arith, behind_far (at + needle_total r.size) rows)
 
 -- the record of this number lies between the first place and the end
-pub row_within : (at k : ℕ) (rows : List Record) (r : Record) → AreInRow at rows → slice_get rows k ≡ Some r → (at ≤ r.at) × (r.at + total_of_lem r.size ≤ place_behind at rows)
+pub row_within : (at k : ℕ) (rows : List Record) (r : Record) → AreInRow at rows → slice_get rows k ≡ Some r → (at ≤ r.at) × (r.at + needle_total r.size ≤ place_behind at rows)
 row_within at k [] r row there = absurd cc
 row_within at zero (first ∷ rows) r row there =
     let same : first ≡ r = cc in
     let place : r.at ≡ at = ap (λ (x : Record). x.at) (sym same) ∙ row.0 in
-    let size : total_of_lem first.size ≡ total_of_lem r.size = ap (λ (x : Record). total_of_lem x.size) same in
-    (omega arith, omega (arith, behind_far (at + total_of_lem first.size) rows))
+    let size : needle_total first.size ≡ needle_total r.size = ap (λ (x : Record). needle_total x.size) same in
+    (omega arith, omega (arith, behind_far (at + needle_total first.size) rows))
 row_within at (suc k) (first ∷ rows) r row there =
-    let rest = row_within (at + total_of_lem first.size) k rows r row.1 there in (omega (arith, rest.0), rest.1)
+    let rest = row_within (at + needle_total first.size) k rows r row.1 there in (omega (arith, rest.0), rest.1)
 
 -- CELLS
 
 cells_row : (at : ℕ) (bytes : List ℕ) (cells : List Cell) → AreCellsAt at bytes cells → AreInRow at (map cell_record cells) × (place_behind at (map cell_record cells) ≡ at + length bytes)
 cells_row at bytes [] are = (tt, omega (arith, ap length are))
 cells_row at bytes (cell ∷ cells) are =
-    let long : length are.0 ≡ total_of_lem (length cell.bytes) = length-needle are.0 (needle_of_cell cell) are.3.is in
+    let long : length are.0 ≡ needle_total (length cell.bytes) = length-needle are.0 (needle_of_cell cell) are.3.is in
     let rest = cells_row (at + length are.0) are.1 cells are.4 in
-    let there : at + length are.0 ≡ at + total_of_lem (length cell.bytes) = omega arith in
+    let there : at + length are.0 ≡ at + needle_total (length cell.bytes) = omega arith in
     ((are.3.place, subst (λ n. AreInRow n (map cell_record cells)) there rest.0), ap (λ n. place_behind n (map cell_record cells)) (sym there) ∙ rest.1 ∙ omega (arith, ap length are.2, length-append are.0 are.1))
 
 -- the records of cells are in the row, and it ends where they do
@@ -59,13 +59,13 @@ pub has_end : (at end : ℕ) (file : List ℕ) (cells : List Cell) → HasCells 
 has_end at end file cells has = (cells_row at has.needles cells has.are).1 ∙ has.ends
 
 -- a cell's needle lies in the file
-pub cell_inside : (at : ℕ) (file : List ℕ) (cell : Cell) → StandsCell at file cell → at + total_of_lem (length cell.bytes) ≤ length file
+pub cell_inside : (at : ℕ) (file : List ℕ) (cell : Cell) → StandsCell at file cell → at + needle_total (length cell.bytes) ≤ length file
 cell_inside at file cell here =
     omega (arith, length-needle here.needle (needle_of_cell cell) here.is.is, ap length here.stand, length-take (length here.needle) (drop at file), length-drop at file)
 
-pub head_inside : (file : List ℕ) (head : CellHead) (cell : Cell) → StandsCell head.at file cell → head ≡ cell_head cell → head.at + total_of_lem head.size ≤ length file
+pub head_inside : (file : List ℕ) (head : CellHead) (cell : Cell) → StandsCell head.at file cell → head ≡ cell_head cell → head.at + needle_total head.size ≤ length file
 head_inside file head cell here is =
-    let size : total_of_lem head.size ≡ total_of_lem (length cell.bytes) = ap (λ (h : CellHead). total_of_lem h.size) is in
+    let size : needle_total head.size ≡ needle_total (length cell.bytes) = ap (λ (h : CellHead). needle_total h.size) is in
     omega (arith, cell_inside head.at file cell here)
 
 -- the cell of this number stands at its place
@@ -76,7 +76,7 @@ cell_numbered at end zero file (first ∷ cells) cell has there =
     let here = (cells_first at end file first cells has).0 in
     subst (λ (c : Cell). StandsCell c.at file c) same (subst (λ n. StandsCell n file first) (sym here.is.place) here)
 cell_numbered at end (suc k) file (first ∷ cells) cell has there =
-    cell_numbered (at + total_of_lem (length first.bytes)) end k file cells cell (cells_first at end file first cells has).1 there
+    cell_numbered (at + needle_total (length first.bytes)) end k file cells cell (cells_first at end file first cells has).1 there
 
 -- a head that fits a record is that of the cell that stands there
 pub record_cell : (head : CellHead) (row : Record) (file : List ℕ) (cell : Cell) → head_record head ≡ row → HeadBytes (take 36 (drop row.at file)) (head_of_cell head) → StandsCell row.at file cell → head ≡ cell_head cell
@@ -96,7 +96,7 @@ cell_fits file row cell is here =
 pub cells_behind : (at end k : ℕ) (file : List ℕ) (cells : List Cell) → HasCells at file cells end → HasCells (place_behind at (take k (map cell_record cells))) file (drop k cells) end
 cells_behind at end zero file cells has = has
 cells_behind at end (suc k) file [] has = has
-cells_behind at end (suc k) file (cell ∷ cells) has = cells_behind (at + total_of_lem (length cell.bytes)) end k file cells (cells_first at end file cell cells has).1
+cells_behind at end (suc k) file (cell ∷ cells) has = cells_behind (at + needle_total (length cell.bytes)) end k file cells (cells_first at end file cell cells has).1
 
 -- LISTS
 

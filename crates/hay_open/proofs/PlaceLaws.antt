@@ -8,7 +8,7 @@ use Rattle.hay_needle.specs.declared.needle.Cell.{Cell}
 use Rattle.hay_needle.specs.declared.needle.CellHead.{CellHead}
 use Rattle.hay_needle.specs.declared.needle.Pair.{Pair}
 use Rattle.hay_needle.specs.Needle.{NeedleBytes, needle_of_cell}
-use Rattle.hay_needle.specs.Sizes.{total_of_lem}
+use Rattle.hay_needle.specs.Sizes.{needle_total}
 use Rattle.hay_needle.specs.Tables.{pair_eq}
 use Rattle.hay_needle.proofs.Needles.{length-needle}
 use Rattle.hay_needle.proofs.TableLaws.{pair_same, pair_refl}
@@ -26,11 +26,11 @@ use Rattle.hay_open.proofs.CellRows.{drop_here, take_here, row_there}
 
 -- THE PIECE OF A CELL
 
-pub sealed_cell : (Tells : Type 0) (head : CellHead) (cell : Cell) (file bytes : List ℕ) (len : ℕ) (needle : SealedNeedle) → Tells → StandsCell head.at file cell → head ≡ cell_head cell → head.deleted ≡ false → len ≡ total_of_lem head.size
+pub sealed_cell : (Tells : Type 0) (head : CellHead) (cell : Cell) (file bytes : List ℕ) (len : ℕ) (needle : SealedNeedle) → Tells → StandsCell head.at file cell → head ≡ cell_head cell → head.deleted ≡ false → len ≡ needle_total head.size
     → bytes ≡ take len (drop head.at file) → needle ≡ record { at = head.at; size = head.size; bytes = bytes } → IsSealedCell Tells cell needle
 sealed_cell Tells head cell file bytes len needle tells here is live long seen made =
     let alive : cell.deleted ≡ false = ap (λ (h : CellHead). h.deleted) (sym is) ∙ live in
-    let size : len ≡ length here.needle = long ∙ ap (λ (h : CellHead). total_of_lem h.size) is ∙ sym (length-needle here.needle (needle_of_cell cell) here.is.is) in
+    let size : len ≡ length here.needle = long ∙ ap (λ (h : CellHead). needle_total h.size) is ∙ sym (length-needle here.needle (needle_of_cell cell) here.is.is) in
     let same : here.needle ≡ needle.bytes = sym here.stand ∙ ap (λ n. take n (drop head.at file)) (sym size) ∙ sym seen ∙ ap (λ (s : SealedNeedle). s.bytes) (sym made) in
     record {
       alive = alive;
@@ -38,8 +38,9 @@ sealed_cell Tells head cell file bytes len needle tells here is live long seen m
       sealed = record {
         tells = tells;
         size = ap (λ (s : SealedNeedle). s.size) made ∙ ap (λ (h : CellHead). h.size) is;
-        is = subst (λ (l : List ℕ). NeedleBytes l (record { pair = cell.pair; photo = record { cookie = cell.cookie; bytes = cell.bytes }; deleted = false })) same
-            (subst (λ (b : Bool). NeedleBytes here.needle (record { pair = cell.pair; photo = record { cookie = cell.cookie; bytes = cell.bytes }; deleted = b })) alive here.is.is);
+        version = cell.version;
+        is = subst (λ (l : List ℕ). NeedleBytes l (record { version = cell.version; pair = cell.pair; photo = record { cookie = cell.cookie; bytes = cell.bytes }; deleted = false })) same
+            (subst (λ (b : Bool). NeedleBytes here.needle (record { version = cell.version; pair = cell.pair; photo = record { cookie = cell.cookie; bytes = cell.bytes }; deleted = b })) alive here.is.is);
       };
     }
 

@@ -3,7 +3,7 @@
 ghost use Rattle.std.specs.Prelude.{◌≡◌, ◌⊎◌, ◌≤◌, ◌<◌, ◌+◌, ◌++◌, ◌∷◌, ℕ, [], List, length, map, take, drop, Some, Err, OnOk, IfOk, IfErr, IsErrOf, slice_get};
 ghost use Rattle.hay_needle.specs.declared.needle.Cell.{Cell};
 ghost use Rattle.hay_needle.specs.declared.needle.Pair.{Pair};
-ghost use Rattle.hay_needle.specs.Sizes.{total_of_lem};
+ghost use Rattle.hay_needle.specs.Sizes.{needle_total};
 ghost use Rattle.hay_disk.specs.Counts.{IsCounted};
 ghost use Rattle.hay_disk.specs.Disk.{IsSolid, KeepsOthers, Seals};
 ghost use Rattle.hay_volume.specs.Cells.{HasCells, StandsCell, cell_head};
@@ -32,13 +32,13 @@ const FLAGS_AT: usize = 28;
 
 // The place of a cell: its piece is given out, unless it is deleted.
 fn place_of<D: Disk>(disk: &mut D, file: u32, head: CellHead) -> Result<Place<D::Piece>, Refusal>
-    requires size { head.size ≤ 1048576 }
-    requires inside { D.Tells → head.at + total_of_lem head.size ≤ length (D.files disk.old file).now }
+    requires size { head.size ≤ MAX_PHOTO }
+    requires inside { D.Tells → head.at + needle_total head.size ≤ length (D.files disk.old file).now }
     requires solid { D.Tells → IsSolid (D.files disk.old file) }
     ensures place { D.Tells → (cell : Cell) → StandsCell head.at (D.files disk.old file).now cell → head ≡ cell_head cell
         → IfOk result (λ place. PlaceOf D.Piece.Tells (Some cell) place) }
     ensures at { IfOk result (StandsAt head.at) }
-    ensures seals { D.Tells → Seals head.at (total_of_lem head.size) 28 (D.files disk.old file) (D.files disk.new file) }
+    ensures seals { D.Tells → Seals head.at (needle_total head.size) 28 (D.files disk.old file) (D.files disk.new file) }
     ensures others { D.Tells → KeepsOthers file (D.files disk.old) (D.files disk.new) }
     ensures undamaged { (number at : ℕ) → result ≡ Err (Refusal.Damaged number at) → ⊥ }
     ensures counted { IsCounted (D.fault_count disk.old) (D.fault_count disk.new) (IsErrOf result Refusal.Failed) }
@@ -59,13 +59,13 @@ fn open_record<D: Disk>(
     number: usize,
     cells: &mut Vec<OpenCell<D::Piece>>,
 ) -> Result<(), Refusal>
-    requires inside { D.Tells → row.at + total_of_lem row.size ≤ length (D.files disk.old listing.now.volume).now }
+    requires inside { D.Tells → row.at + needle_total row.size ≤ length (D.files disk.old listing.now.volume).now }
     requires solid { D.Tells → IsSolid (D.files disk.old listing.now.volume) }
     ensures added { OnOk result ((place : Place D.Piece) × (cells.new.items ≡ cells.old.items ++ record { pair = row.pair; place = place } ∷ [])
         × (D.Tells → (cell : Cell) → StandsCell row.at (D.files disk.old listing.now.volume).now cell → row ≡ cell_record cell → PlaceOf D.Piece.Tells (Some cell) place)) }
     ensures at { OnOk result (AddsAt row.at cells.old.items cells.new.items) }
     ensures fits { D.Tells → OnOk result (FitsNeedle row (D.files disk.old listing.now.volume).now) }
-    ensures seals { D.Tells → Seals row.at (total_of_lem row.size) 28 (D.files disk.old listing.now.volume) (D.files disk.new listing.now.volume) }
+    ensures seals { D.Tells → Seals row.at (needle_total row.size) 28 (D.files disk.old listing.now.volume) (D.files disk.new listing.now.volume) }
     ensures others { D.Tells → KeepsOthers listing.now.volume (D.files disk.old) (D.files disk.new) }
     ensures damaged { D.Tells → (file at : ℕ) → result ≡ Err (Refusal.Damaged file at) → IsMisfitIn (λ n. (D.files disk.old n).now) listing.now.volume listing.now.index.file row number file at }
     ensures counted { IsCounted (D.fault_count disk.old) (D.fault_count disk.new) (IsErrOf result Refusal.Failed) }
@@ -135,7 +135,7 @@ fn open_orphan<D: Disk>(
     ensures added { OnOk result ((place : Place D.Piece) × (cells.new.items ≡ cells.old.items ++ record { pair = head.pair; place = place } ∷ [])
         × (D.Tells → (cell : Cell) → StandsCell head.at (D.files disk.old file).now cell → head ≡ cell_head cell → PlaceOf D.Piece.Tells (Some cell) place)) }
     ensures at { OnOk result (AddsAt head.at cells.old.items cells.new.items) }
-    ensures seals { D.Tells → Seals head.at (total_of_lem head.size) 28 (D.files disk.old file) (D.files disk.new file) }
+    ensures seals { D.Tells → Seals head.at (needle_total head.size) 28 (D.files disk.old file) (D.files disk.new file) }
     ensures others { D.Tells → KeepsOthers file (D.files disk.old) (D.files disk.new) }
     ensures undamaged { D.Tells → (number at : ℕ) → result ≡ Err (Refusal.Damaged number at) → ⊥ }
     ensures counted { IsCounted (D.fault_count disk.old) (D.fault_count disk.new) (IsErrOf result Refusal.Failed) }

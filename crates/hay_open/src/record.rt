@@ -11,7 +11,7 @@ ghost use Rattle.hay_open.specs.Listing.{IsMisfitIn, head_record};
 use crate::fault::Refusal;
 use hay_disk::{Disk, Failed};
 use hay_index::Record;
-use hay_needle::{CellHead, HEAD_LEN, SUPER_LEN, read_head, u64_at};
+use hay_needle::{CellHead, HEAD_LEN, MAX_PHOTO, SUPER_LEN, read_head, u64_at};
 
 // The number of bytes of a block before its records, of which the last eight are how many records it has.
 const FRONT_LEN: usize = 16;
@@ -22,7 +22,7 @@ const RECORD_LEN: u64 = 32;
 // The head of the needle at a place, if one stands there.
 fn head_at<D: Disk>(disk: &mut D, file: u32, at: u64) -> Result<Option<CellHead>, Failed>
     ensures place { IfOk result (λ seen. IfSome seen (λ head. head.at ≡ at)) }
-    ensures size { IfOk result (λ seen. IfSome seen (λ head. head.size ≤ 1048576)) }
+    ensures size { IfOk result (λ seen. IfSome seen (λ head. head.size ≤ MAX_PHOTO)) }
     ensures stands { D.Tells → IfOk result (λ seen. IfSome seen (λ head. HeadBytes (take 36 (drop at (D.files disk.old file).now)) (head_of_cell head))) }
     ensures none { D.Tells → IfOk result (λ seen. IfNone seen ((head : Head) → HeadBytes (take 36 (drop at (D.files disk.old file).now)) head → ⊥)) }
     ensures same { D.Tells → D.files disk.new ≡ D.files disk.old }
@@ -80,7 +80,7 @@ pub(crate) fn fitting_head<D: Disk>(
     number: u64,
 ) -> Result<CellHead, Refusal>
     ensures fits { IfOk result (λ head. head_record head ≡ row.now) }
-    ensures size { IfOk result (λ head. head.size ≤ 1048576) }
+    ensures size { IfOk result (λ head. head.size ≤ MAX_PHOTO) }
     ensures stands { D.Tells → IfOk result (λ head. HeadBytes (take 36 (drop row.now.at (D.files disk.old volume).now)) (head_of_cell head)) }
     ensures damaged { D.Tells → (file at : ℕ) → result ≡ Err (Refusal.Damaged file at) → IsMisfitIn (λ n. (D.files disk.old n).now) volume index row.now number file at }
     ensures same { D.Tells → D.files disk.new ≡ D.files disk.old }

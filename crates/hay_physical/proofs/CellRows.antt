@@ -5,7 +5,7 @@ use Rattle.std.proofs.lemmas.Bool.{eq-eqb, ne_eqb}
 use Rattle.std.proofs.lemmas.List.{length-map}
 use Rattle.hay_needle.specs.declared.needle.Cell.{Cell}
 use Rattle.hay_needle.specs.Needle.{NeedleBytes, needle_of_cell}
-use Rattle.hay_needle.specs.Sizes.{total_of_lem}
+use Rattle.hay_needle.specs.Sizes.{needle_total}
 use Rattle.hay_needle.proofs.Needles.{length-needle}
 use Rattle.hay_disk.specs.Disk.{FileState, Seals}
 use Rattle.hay_volume.specs.Cells.{AreCellsAt, HasCells, HasPlace, IsCellAt, StandsCell, with_flag}
@@ -17,7 +17,7 @@ use Rattle.hay_open.specs.Stored.{FlagsFree, cell_record}
 use Rattle.hay_physical.specs.Replicas.{HasLive}
 
 -- a needle's length
-needle_long : (at : ℕ) (needle : List ℕ) (cell : Cell) → IsCellAt at needle cell → length needle ≡ total_of_lem (length cell.bytes)
+needle_long : (at : ℕ) (needle : List ℕ) (cell : Cell) → IsCellAt at needle cell → length needle ≡ needle_total (length cell.bytes)
 needle_long at needle cell is = length-needle needle (needle_of_cell cell) is.is
 
 -- the records of cells without gaps are in the row
@@ -31,10 +31,10 @@ pub last_stands : (at end : ℕ) (file : List ℕ) (cells : List Cell) (cell : C
 last_stands at end file [] cell has =
     let first = (cells_first at end file cell [] has).0 in
     subst (λ n. StandsCell n file cell) (sym first.is.place) first
-last_stands at end file (before ∷ cells) cell has = last_stands (at + total_of_lem (length before.bytes)) end file cells cell (cells_first at end file before (cells ++ cell ∷ []) has).1
+last_stands at end file (before ∷ cells) cell has = last_stands (at + needle_total (length before.bytes)) end file cells cell (cells_first at end file before (cells ++ cell ∷ []) has).1
 
 -- the bytes of its needle
-pub needle_there : (file : List ℕ) (cell : Cell) → StandsCell cell.at file cell → NeedleBytes (take (total_of_lem (length cell.bytes)) (drop cell.at file)) (needle_of_cell cell)
+pub needle_there : (file : List ℕ) (cell : Cell) → StandsCell cell.at file cell → NeedleBytes (take (needle_total (length cell.bytes)) (drop cell.at file)) (needle_of_cell cell)
 needle_there file cell here =
     subst (λ (l : List ℕ). NeedleBytes l (needle_of_cell cell))
     (sym here.stand ∙ ap (λ n. take n (drop cell.at file)) (needle_long cell.at here.needle cell here.is)) here.is.is
@@ -49,7 +49,7 @@ flags_kept old new (cell ∷ cells) free flags = (free (cell.at + 28) flags.0, f
 pub flags_sealed : (at start n hole : ℕ) (bytes : List ℕ) (cells : List Cell) (old new : FileState) → AreCellsAt at bytes cells → at + length bytes ≤ start → Seals start n hole old new → FlagsFree old cells → FlagsFree new cells
 flags_sealed at start n hole bytes [] old new are before seals flags = tt
 flags_sealed at start n hole bytes (cell ∷ cells) old new are before seals flags =
-    let long : length are.0 ≡ total_of_lem (length cell.bytes) = needle_long at are.0 cell are.3 in
+    let long : length are.0 ≡ needle_total (length cell.bytes) = needle_long at are.0 cell are.3 in
     let whole : length bytes ≡ length are.0 + length are.1 = ap length are.2 ∙ length-append are.0 are.1 in
     let place : cell.at ≡ at = are.3.place in
     let low : cell.at + 28 < start = omega (arith, long, whole, before, place) in (

@@ -6,7 +6,7 @@ use Rattle.hay_needle.specs.declared.needle.Cell.{Cell}
 use Rattle.hay_needle.specs.declared.needle.Cookie.{Cookie}
 use Rattle.hay_needle.specs.declared.needle.Pair.{Pair}
 use Rattle.hay_needle.specs.declared.settings.Super.{Super}
-use Rattle.hay_needle.specs.Sizes.{total_of_lem}
+use Rattle.hay_needle.specs.Sizes.{needle_total}
 use Rattle.hay_needle.specs.Super.{super_bytes}
 use Rattle.hay_disk.specs.Disk.{Files, FileState, IsImage, IsSolid, IsSolidIn, KeepsOthers, MayLeave}
 use Rattle.hay_disk.proofs.Images.{solid_whole}
@@ -93,17 +93,17 @@ finds_second sup files stuck s t finds = λ image leaves.
 -- an append that failed
 pub finds_added : (sup : Super) (old new : Files) (opened : OpenFiles) (s : Stored) (pair : Pair) (cookie : Cookie) (photo : List ℕ) → FilesStand sup old opened s → KeepsOthers opened.volume.file old new
     → ((superblock : List ℕ) (cells : List Cell) (image : List ℕ) → IsVolume superblock (old opened.volume.file).now cells opened.volume.end → IsSolidIn 0 opened.volume.end (old opened.volume.file) → IsImage (new opened.volume.file) image
-    → IsVolume superblock image cells opened.volume.end ⊎ IsVolume superblock image (cells ++ live_cell opened.volume.end pair cookie photo ∷ []) (opened.volume.end + total_of_lem (length photo)))
+    → IsVolume superblock image cells opened.volume.end ⊎ IsVolume superblock image (cells ++ live_cell opened.volume.end pair cookie photo ∷ []) (opened.volume.end + needle_total (length photo)))
     → MayFind sup new opened.index.frozen s (with_cell s pair cookie photo)
 finds_added sup old new opened s pair cookie photo f others_was left_was =
     let file : ℕ = volume_file s.generation in
     let others : KeepsOthers file old new = subst (λ (v : VolumeFile). KeepsOthers v.file old new) f.volume others_was in
     let cell : Cell = live_cell s.end pair cookie photo in
     let left : (superblock : List ℕ) (cells : List Cell) (image : List ℕ) → IsVolume superblock (old file).now cells s.end → IsSolidIn 0 s.end (old file) → IsImage (new file) image
-    → IsVolume superblock image cells s.end ⊎ IsVolume superblock image (cells ++ cell ∷ []) (s.end + total_of_lem (length photo)) =
+    → IsVolume superblock image cells s.end ⊎ IsVolume superblock image (cells ++ cell ∷ []) (s.end + needle_total (length photo)) =
     subst (λ (v : VolumeFile). (superblock : List ℕ) (cells : List Cell) (image : List ℕ) → IsVolume superblock (old v.file).now cells v.end → IsSolidIn 0 v.end (old v.file) → IsImage (new v.file) image
-    → IsVolume superblock image cells v.end ⊎ IsVolume superblock image (cells ++ live_cell v.end pair cookie photo ∷ []) (v.end + total_of_lem (length photo))) f.volume left_was in
-    may_find sup new s (s.cells ++ cell ∷ []) (s.end + total_of_lem (length photo)) opened.index.end opened.index.frozen (cell_record cell ∷ []) f.lags (omega (arith, length-append s.cells (cell ∷ [])))
+    → IsVolume superblock image cells v.end ⊎ IsVolume superblock image (cells ++ live_cell v.end pair cookie photo ∷ []) (v.end + needle_total (length photo))) f.volume left_was in
+    may_find sup new s (s.cells ++ cell ∷ []) (s.end + needle_total (length photo)) opened.index.end opened.index.frozen (cell_record cell ∷ []) f.lags (omega (arith, length-append s.cells (cell ∷ [])))
     (map-append cell_record s.cells (cell ∷ []))
     (subst (λ (state : FileState). HeadRests sup state s.generation) (sym (others 0 (volume_not_head s.generation))) f.head)
     (λ image leaves. left (super_bytes (volume_super sup s.generation)) s.cells image f.cells.is (λ k from to. f.cells.solid.places k) leaves)

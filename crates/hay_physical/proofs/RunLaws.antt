@@ -19,7 +19,7 @@ use Rattle.std.specs.Prelude.{IfSome, IfNone, nat_eq}
 use Rattle.hay_volume.specs.Cells.{IsVolume, live_cell, needles_of, with_flag}
 use Rattle.hay_index.specs.Records.{IsIndex, index_magic}
 use Rattle.hay_open.specs.Stored.{HeadRests, Stored, VolumeRests, index_file, index_super, volume_file, volume_super}
-use Rattle.hay_compact.specs.Copying.{Copying, IsCopy, IsLatest, IsMaking, KeepsOtherFiles, MovesOn, Repeats, Stage, with_copy, moved}
+use Rattle.hay_compact.specs.Copying.{Copying, IsCopy, IsLatest, IsMaking, KeepsOtherFiles, MovesOn, Repeats, Stage, with_copy, renewed}
 use Rattle.hay_compact.proofs.CellLists.{flagged_needles}
 use Rattle.hay_compact.proofs.Meanwhile.{copies_deleted, copies_none, copies_put, copies_repeated, copying_current, copying_delete, copying_put}
 use Rattle.hay_physical.specs.declared.state.Copier.{Copier}
@@ -151,6 +151,7 @@ making_moved files later stage m volume index = record {
     volume_free = λ k. ap (λ (f : FileState). f.sealed k) volume ∙ m.making.volume_free k;
     index_free = λ k. ap (λ (f : FileState). f.sealed k) index ∙ m.making.index_free k;
     noted = m.making.noted;
+    anew = m.making.anew;
     places = m.making.places;
     capacity_is = m.making.capacity_is;
   };
@@ -324,6 +325,7 @@ copying_read sup files old stage next current fresh n is h = subst (λ (x : Stag
   volume_free = h.volume_free;
   index_free = h.index_free;
   noted = h.noted;
+  anew = h.anew;
   places = h.places;
   capacity_is = h.capacity_is;
   volume_apart = h.volume_apart;
@@ -347,6 +349,7 @@ making_read files stage next is m = subst (λ (x : Stage). IsMaking files x) (sy
     volume_free = m.making.volume_free;
     index_free = m.making.index_free;
     noted = m.making.noted;
+    anew = m.making.anew;
     places = m.making.places;
     capacity_is = m.making.capacity_is;
   };
@@ -374,7 +377,7 @@ pub one_stage : (a b : Stage) → Standing a ≡ Standing b → a ≡ b
 one_stage a b e = cc
 
 length-with_copy : (fresh : List Cell) (at n : ℕ) (cell : Cell) (copied : Bool) → length fresh ≤ n → length (with_copy fresh at cell copied) ≤ n + 1
-length-with_copy fresh at n cell true few = omega (arith, length-append fresh (moved at cell ∷ []))
+length-with_copy fresh at n cell true few = omega (arith, length-append fresh (renewed at cell ∷ []))
 length-with_copy fresh at n cell false few = omega arith
 
 pub run_stepped : (sup : Super) (files later : Files) (opened new : OpenFiles) (s : Stored) (run : Run) (next : Stage) (head : CellHead) (copied : Bool) → (p : FilesPeek sup files opened s run head) → new.copier ≡ Standing next → new.volume ≡ opened.volume

@@ -7,7 +7,7 @@ use Rattle.hay_needle.specs.declared.needle.Cookie.{Cookie}
 use Rattle.hay_needle.specs.declared.needle.Pair.{Pair}
 use Rattle.hay_needle.specs.declared.settings.Super.{Super}
 use Rattle.hay_needle.specs.Needle.{NeedleBytes, needle_magic, needle_of_cell}
-use Rattle.hay_needle.specs.Sizes.{total_of_lem}
+use Rattle.hay_needle.specs.Sizes.{needle_total}
 use Rattle.hay_needle.specs.Super.{super_bytes}
 use Rattle.hay_disk.specs.Disk.{Files, FileState, IsImage, IsSolid, IsSolidIn, Changes, KeepsOthers, Seals}
 use Rattle.hay_disk.specs.Gate.{IsGate}
@@ -64,12 +64,12 @@ index_longer sup file s longer last end more true rows longs lags index = λ ima
 
 -- what the append of a cell does
 pub record Appended (old new : Files) (volume next : VolumeFile) (pair : Pair) (cookie : Cookie) (photo : List ℕ) : Type 0 where
-  pub moved : next ≡ record volume { end = volume.end + total_of_lem (length photo) }
+  pub moved : next ≡ record volume { end = volume.end + needle_total (length photo) }
   pub added : (superblock : List ℕ) (cells : List Cell) → IsVolume superblock (old volume.file).now cells volume.end
       → IsVolume superblock (new volume.file).now (cells ++ live_cell volume.end pair cookie photo ∷ []) next.end
   pub solid : IsSolid (new volume.file)
   pub gate : IsGate needle_magic next.end (new volume.file)
-  pub changes : Changes volume.end (total_of_lem (length photo) + 8) (old volume.file) (new volume.file)
+  pub changes : Changes volume.end (needle_total (length photo) + 8) (old volume.file) (new volume.file)
   pub others : KeepsOthers volume.file old new
 
 rows_more : (cells : List Cell) (cell : Cell) → map cell_record (cells ++ cell ∷ []) ≡ map cell_record cells ++ cell_record cell ∷ []
@@ -85,7 +85,7 @@ pub stand_added : (sup : Super) (old new : Files) (opened : OpenFiles) (next : V
 stand_added sup old new opened next index row s pair cookie photo f row_is noted made =
     let volume : VolumeFile = record { file = volume_file s.generation; end = s.end; capacity = sup.settings.capacity } in
     let here : Appended old new volume next pair cookie photo = subst (λ (v : VolumeFile). Appended old new v next pair cookie photo) f.volume made in
-    let a : Appended old new volume (record volume { end = s.end + total_of_lem (length photo) }) pair cookie photo = subst (λ (v : VolumeFile). Appended old new volume v pair cookie photo) here.moved here in
+    let a : Appended old new volume (record volume { end = s.end + needle_total (length photo) }) pair cookie photo = subst (λ (v : VolumeFile). Appended old new volume v pair cookie photo) here.moved here in
     let cell : Cell = live_cell s.end pair cookie photo in
     let end_is : opened.volume.end ≡ s.end = ap (λ (v : VolumeFile). v.end) f.volume in
     let row_there : row ≡ cell_record cell = row_is ∙ ap (λ (n : ℕ). let r : Record = record { pair = pair; at = n; size = length photo } in r) end_is in
@@ -109,7 +109,7 @@ stand_added sup old new opened next index row s pair cookie photo f row_is noted
       };
       index = subst (λ (i : IndexFile). IndexStands sup (new (index_file s.generation)) (with_cell s pair cookie photo) i.end i.frozen) (sym noted)
           (subst (λ (file : FileState). IndexStands sup file (with_cell s pair cookie photo) opened.index.end opened.index.frozen) (sym (a.others (index_file s.generation) (index_not_volume s.generation)))
-          (index_longer sup (old (index_file s.generation)) s (s.cells ++ cell ∷ []) (s.end + total_of_lem (length photo)) opened.index.end (cell_record cell ∷ []) opened.index.frozen (rows_more s.cells cell) longs f.lags f.index));
+          (index_longer sup (old (index_file s.generation)) s (s.cells ++ cell ∷ []) (s.end + needle_total (length photo)) opened.index.end (cell_record cell ∷ []) opened.index.frozen (rows_more s.cells cell) longs f.lags f.index));
     }
 
 -- THE PIECE OF THE LAST CELL
@@ -125,14 +125,14 @@ has_last [] cell = inl refl
 has_last (first ∷ cells) cell = inr (has_last cells cell)
 
 pub stand_sealed : (sup : Super) (old new : Files) (opened : OpenFiles) (s : Stored) (pair : Pair) (cookie : Cookie) (photo : List ℕ) (at n : ℕ) → FilesStand sup old opened (with_cell s pair cookie photo) → at ≡ s.end
-    → n ≡ total_of_lem (length photo) → Seals at n 28 (old opened.volume.file) (new opened.volume.file) → KeepsOthers opened.volume.file old new → FilesStand sup new opened (with_cell s pair cookie photo)
+    → n ≡ needle_total (length photo) → Seals at n 28 (old opened.volume.file) (new opened.volume.file) → KeepsOthers opened.volume.file old new → FilesStand sup new opened (with_cell s pair cookie photo)
 stand_sealed sup old new opened s pair cookie photo at n f there long seals_was others_was =
     let file : ℕ = volume_file s.generation in
     let file_is : opened.volume.file ≡ file = ap (λ (v : VolumeFile). v.file) f.volume in
     let others : KeepsOthers file old new = subst (λ k. KeepsOthers k old new) file_is others_was in
     let seals_there : Seals at n 28 (old file) (new file) = subst (λ k. Seals at n 28 (old k) (new k)) file_is seals_was in
     let seals_here : Seals s.end n 28 (old file) (new file) = subst (λ k. Seals k n 28 (old file) (new file)) there seals_there in
-    let seals : Seals s.end (total_of_lem (length photo)) 28 (old file) (new file) = subst (λ k. Seals s.end k 28 (old file) (new file)) long seals_here in
+    let seals : Seals s.end (needle_total (length photo)) 28 (old file) (new file) = subst (λ k. Seals s.end k 28 (old file) (new file)) long seals_here in
     let cell : Cell = live_cell s.end pair cookie photo in
     let front = row_first 64 f.cells.is.has.needles s.cells cell f.cells.is.has.are in
     record {
@@ -143,11 +143,11 @@ stand_sealed sup old new opened s pair cookie photo at n f there long seals_was 
       noted = f.noted;
       head = head_same sup old new file s.generation (volume_not_head s.generation) others f.head;
       cells = record {
-        is = subst (λ (l : List ℕ). IsVolume (super_bytes (volume_super sup s.generation)) l (s.cells ++ cell ∷ []) (s.end + total_of_lem (length photo))) (sym seals.now) f.cells.is;
-        solid = solid_seals s.end (total_of_lem (length photo)) 28 (old file) (new file) f.cells.solid seals;
-        gate = gate_seals needle_magic (s.end + total_of_lem (length photo)) s.end (total_of_lem (length photo)) 28 (old file) (new file) (omega arith) f.cells.gate seals;
+        is = subst (λ (l : List ℕ). IsVolume (super_bytes (volume_super sup s.generation)) l (s.cells ++ cell ∷ []) (s.end + needle_total (length photo))) (sym seals.now) f.cells.is;
+        solid = solid_seals s.end (needle_total (length photo)) 28 (old file) (new file) f.cells.solid seals;
+        gate = gate_seals needle_magic (s.end + needle_total (length photo)) s.end (needle_total (length photo)) 28 (old file) (new file) (omega arith) f.cells.gate seals;
         flags = flags_more (new file) s.cells cell
-            (flags_sealed 64 s.end (total_of_lem (length photo)) 28 front.0 s.cells (old file) (new file) front.1 (omega (arith, front.2)) seals (flags_first (old file) s.cells (cell ∷ []) f.cells.flags))
+            (flags_sealed 64 s.end (needle_total (length photo)) 28 front.0 s.cells (old file) (new file) front.1 (omega (arith, front.2)) seals (flags_first (old file) s.cells (cell ∷ []) f.cells.flags))
             (seals.free (s.end + 28) (flag_free (old file) s.end (s.cells ++ cell ∷ []) f.cells.flags (has_last s.cells cell)) (inr refl));
       };
       index = subst (λ (state : FileState). IndexStands sup state (with_cell s pair cookie photo) opened.index.end opened.index.frozen) (sym (others (index_file s.generation) (index_not_volume s.generation))) f.index;
@@ -155,14 +155,14 @@ stand_sealed sup old new opened s pair cookie photo at n f there long seals_was 
 
 -- the piece has the needle
 pub last_sealed : (Tells : Type 0) (sup : Super) (files : Files) (opened : OpenFiles) (s : Stored) (pair : Pair) (cookie : Cookie) (photo bytes : List ℕ) (at size n : ℕ) (needle : SealedNeedle)
-    → FilesStand sup files opened (with_cell s pair cookie photo) → at ≡ s.end → size ≡ length photo → n ≡ total_of_lem (length photo) → needle ≡ record { at = at; size = size; bytes = bytes }
+    → FilesStand sup files opened (with_cell s pair cookie photo) → at ≡ s.end → size ≡ length photo → n ≡ needle_total (length photo) → needle ≡ record { at = at; size = size; bytes = bytes }
     → Tells → bytes ≡ take n (drop at (files opened.volume.file).now) → IsSealedCell Tells (live_cell s.end pair cookie photo) needle
 last_sealed Tells sup files opened s pair cookie photo bytes at size n needle f there sized long is tells read =
     let file : ℕ = volume_file s.generation in
     let file_is : opened.volume.file ≡ file = ap (λ (v : VolumeFile). v.file) f.volume in
     let cell : Cell = live_cell s.end pair cookie photo in
-    let stands = last_stands 64 (s.end + total_of_lem (length photo)) (files file).now s.cells cell f.cells.is.has in
-    let same : bytes ≡ take (total_of_lem (length photo)) (drop s.end (files file).now) =
+    let stands = last_stands 64 (s.end + needle_total (length photo)) (files file).now s.cells cell f.cells.is.has in
+    let same : bytes ≡ take (needle_total (length photo)) (drop s.end (files file).now) =
     read ∙ ap (λ k. take n (drop at (files k).now)) file_is ∙ ap (λ k. take n (drop k (files file).now)) there ∙ ap (λ k. take k (drop s.end (files file).now)) long in
     record {
       alive = refl;
@@ -170,6 +170,7 @@ last_sealed Tells sup files opened s pair cookie photo bytes at size n needle f 
       sealed = record {
         tells = tells;
         size = ap (λ (x : SealedNeedle). x.size) is ∙ sized;
+        version = cell.version;
         is = subst (λ (l : List ℕ). NeedleBytes l (needle_of_cell cell)) (sym (ap (λ (x : SealedNeedle). x.bytes) is ∙ same)) (needle_there (files file).now cell stands);
       };
     }

@@ -20,7 +20,7 @@ use Rattle.hay_map.specs.declared.place.Place.{Place}
 use Rattle.hay_map.specs.declared.place.Place.TheVariants as place
 use Rattle.hay_open.specs.Stored.{HeadRests, IndexRests, PlaceOf, Stored, VolumeRests, cell_record, head_super, index_file, index_super, last_cell, volume_file, volume_super}
 use Rattle.hay_compact.specs.declared.finish.Finished.{Finished}
-use Rattle.hay_compact.specs.Copying.{KeepsOtherFiles, Stage, cell_total, stored_of}
+use Rattle.hay_compact.specs.Copying.{KeepsOtherFiles, Stage, cell_total, renewed_needle, stored_of}
 use Rattle.hay_compact.specs.Finishing.{IsFinished}
 use Rattle.hay_compact.proofs.CellLists.{cells_end, last_place_of}
 use Rattle.hay_physical.specs.declared.state.OpenFiles.{OpenFiles}
@@ -195,6 +195,7 @@ run_swaps sup files opened s run stage f r is none behind =
     let end : opened.volume.end ≡ s.end = ap (λ (v : VolumeFile). v.end) f.volume in
     record {
       table = copies_table r.fresh s.cells r.examined (omega arith) r.copies;
+      anew = h.anew;
       generation = ap (λ (x : Stage). x.generation) (sym (stage_at sup files opened s run stage r is)) ∙ r.goal ∙ r.next;
       records = refl;
       fewer = omega arith;
@@ -204,4 +205,4 @@ run_swaps sup files opened s run stage f r is none behind =
 pub run_tight : (sup : Super) (files : Files) (opened : OpenFiles) (s : Stored) (run : Run) (stage : Stage) → (r : FilesRun sup files opened s run) → run.left ≡ 0 → IsTight run s (stored_of stage r.fresh)
 run_tight sup files opened s run stage r none = λ yes.
     let left = r.left in
-    r.tight yes ∙ all_among r.examined (needles_of s.cells) (omega (arith, length-map s.cells needle_of_cell))
+    r.tight yes ∙ ap (map renewed_needle) (all_among r.examined (needles_of s.cells) (omega (arith, length-map s.cells needle_of_cell)))

@@ -4,7 +4,7 @@ use Rattle.hay_needle.specs.declared.needle.Cell.{Cell}
 use Rattle.hay_needle.specs.declared.needle.Cookie.{Cookie}
 use Rattle.hay_needle.specs.declared.needle.Pair.{Pair}
 use Rattle.hay_needle.specs.declared.settings.Super.{Super}
-use Rattle.hay_needle.specs.Sizes.{total_of_lem}
+use Rattle.hay_needle.specs.Sizes.{needle_total}
 use Rattle.hay_needle.specs.Super.{super_bytes}
 use Rattle.hay_disk.specs.Disk.{Files, FileState, IsFree, IsImage, IsSolid, MayLeave}
 use Rattle.hay_volume.specs.Cells.{live_cell, with_flag}
@@ -156,7 +156,7 @@ MayDeletePlace files r place.None = Unit {0}
 MayDeletePlace files r place.Gone = Unit {0}
 
 abbrev pub with_cell : Stored → Pair → Cookie → List ℕ → Stored
-with_cell s pair cookie bytes = record s { cells = s.cells ++ live_cell s.end pair cookie bytes ∷ []; end = s.end + total_of_lem (length bytes) }
+with_cell s pair cookie bytes = record s { cells = s.cells ++ live_cell s.end pair cookie bytes ∷ []; end = s.end + needle_total (length bytes) }
 
 abbrev pub without_cell : Stored → ℕ → Stored
 without_cell s at = record s { cells = with_flag at true s.cells }

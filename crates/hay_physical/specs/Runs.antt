@@ -1,5 +1,5 @@
 -- A compaction that stands beside an open replica.
-use Rattle.std.specs.Prelude.{◌≡◌, ◌⊎◌, ◌≢◌, ◌≤◌, ◌+◌, ◌-◌, ℕ, Bool, true, false, List, [], ◌∷◌, length, drop, Option, Some, None}
+use Rattle.std.specs.Prelude.{◌≡◌, ◌⊎◌, ◌≢◌, ◌≤◌, ◌+◌, ◌-◌, ℕ, Bool, true, false, List, [], ◌∷◌, length, map, drop, Option, Some, None}
 use Rattle.hay_needle.specs.declared.needle.Cell.{Cell}
 use Rattle.hay_needle.specs.declared.needle.CellHead.{CellHead}
 use Rattle.hay_needle.specs.declared.needle.Pair.{Pair}
@@ -11,7 +11,7 @@ use Rattle.hay_disk.specs.Gate.{IsGate}
 use Rattle.hay_head.specs.Head.{IsHead, head_magic, row_place}
 use Rattle.hay_volume.specs.Cells.{needles_of}
 use Rattle.hay_open.specs.Stored.{Stored, last_cell}
-use Rattle.hay_compact.specs.Copying.{Copies, Copying, HasPeeked, IsCopy, Repeats, Stage, live_among}
+use Rattle.hay_compact.specs.Copying.{AreOfVersionTwo, Copies, Copying, HasPeeked, IsCopy, Repeats, Stage, live_among, renewed_needle}
 use Rattle.hay_physical.specs.declared.fault.ReplicaFault.{ReplicaFault}
 use Rattle.hay_physical.specs.declared.fault.ReplicaFault.TheVariants as fault
 use Rattle.hay_physical.specs.declared.state.Copier.{Copier}
@@ -53,7 +53,7 @@ pub record FilesRun (sup : Super) (files : Files) (opened : OpenFiles) (s : Stor
   pub copies : Copies fresh s.cells examined
   pub fewer : length fresh ≤ examined
   pub left : examined + run.left ≡ length s.cells
-  pub tight : run.tight ≡ true → needles_of fresh ≡ live_among examined (needles_of s.cells)
+  pub tight : run.tight ≡ true → needles_of fresh ≡ map renewed_needle (live_among examined (needles_of s.cells))
 
 -- The next cell was read, and this is its head.
 pub record FilesPeek (sup : Super) (files : Files) (opened : OpenFiles) (s : Stored) (run : Run) (head : CellHead) : Type 0 where
@@ -180,14 +180,15 @@ pub record RemovedBoth (files : Files) (first second before after : ℕ) : Type 
   pub first_gone : IsRemoved (files first) before between
   pub second_gone : IsRemoved (files second) between after
 
--- The cells that a swap leaves have the table, and are no more and no longer than they were.
+-- The cells that a swap leaves have the table, each is of version 2, and they are no more and no longer than they were.
 pub record Swaps (s t : Stored) : Type 0 where
   pub table : table_of (needles_of t.cells) ≡ table_of (needles_of s.cells)
+  pub anew : AreOfVersionTwo t.cells
   pub generation : t.generation ≡ s.generation + 1
   pub records : t.records ≡ length t.cells
   pub fewer : length t.cells ≤ length s.cells
   pub shorter : t.end ≤ s.end
 
--- Where nothing else changed the replica, they are the live ones.
+-- Where nothing else changed the replica, they are the live ones, in version 2.
 abbrev pub IsTight : Run → Stored → Stored → Type 0
-IsTight run s t = run.tight ≡ true → needles_of t.cells ≡ live_needles (needles_of s.cells)
+IsTight run s t = run.tight ≡ true → needles_of t.cells ≡ map renewed_needle (live_needles (needles_of s.cells))

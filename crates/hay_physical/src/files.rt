@@ -1,7 +1,7 @@
 //! Changes of the files of an open replica.
 
 ghost use Rattle.std.specs.Prelude.{◌≡◌, ◌≢◌, ◌⊎◌, ◌≤◌, ◌<◌, ◌+◌, ℕ, List, true, false, length, Err, IfOk, IfErr, OnOk, OnErr, IsErrOf};
-ghost use Rattle.hay_needle.specs.Sizes.{total_of_lem};
+ghost use Rattle.hay_needle.specs.Sizes.{needle_total};
 ghost use Rattle.hay_needle.specs.declared.needle.Cookie.{Cookie};
 ghost use Rattle.hay_needle.specs.declared.needle.Pair.{Pair};
 ghost use Rattle.hay_needle.specs.declared.settings.Super.{Super};
@@ -18,7 +18,7 @@ use crate::state::{Copier, OpenFiles};
 use hay_disk::{Disk, DiskFault, Failed};
 use hay_index::Record;
 use hay_map::Sealed;
-use hay_needle::{Cookie, Pair, total_of};
+use hay_needle::{Cookie, MAX_PHOTO, Pair, total_of};
 use hay_volume::VolumeFault;
 use std::alloc::Global;
 
@@ -49,9 +49,9 @@ impl OpenFiles {
 
     // Whether the needle of a photo of this size and the end mark behind it fit into the volume file.
     pub(crate) fn room(&self, size: u32) -> Result<(), ReplicaFault>
-        ensures full { let need = total_of_lem size in self.now.volume.capacity < self.now.volume.end + need + 8
+        ensures full { let need = needle_total size in self.now.volume.capacity < self.now.volume.end + need + 8
             → result ≡ Err (ReplicaFault.Full self.now.volume.end need self.now.volume.capacity) }
-        ensures fits { OnErr result (self.now.volume.capacity < self.now.volume.end + total_of_lem size + 8) }
+        ensures fits { OnErr result (self.now.volume.capacity < self.now.volume.end + needle_total size + 8) }
     {
         let need = total_of(size);
         let end = self.volume.end();
@@ -75,15 +75,15 @@ impl OpenFiles {
         cookie: Cookie,
         bytes: &[u8],
     ) -> Result<Sealed<D::Piece>, ReplicaFault>
-        requires size { length bytes.now ≤ 1048576 }
+        requires size { length bytes.now ≤ MAX_PHOTO }
         requires ready { D.Tells → self.old.frozen ≡ false → FilesReady (D.files disk.old) self.old }
 
         ensures frozen { self.old.frozen ≡ true → (result ≡ Err ReplicaFault.Frozen) × (self.new ≡ self.old) × (disk.new ≡ disk.old) }
         ensures thawed { IsErrOf result ReplicaFault.Frozen → self.old.frozen ≡ true }
-        ensures full { let need = total_of_lem (length bytes.now) in self.old.frozen ≡ false → self.old.volume.capacity < self.old.volume.end + need + 8
+        ensures full { let need = needle_total (length bytes.now) in self.old.frozen ≡ false → self.old.volume.capacity < self.old.volume.end + need + 8
             → (result ≡ Err (ReplicaFault.Full self.old.volume.end need self.old.volume.capacity)) × (self.new ≡ self.old) × (disk.new ≡ disk.old) }
         ensures fits { (end need capacity : ℕ) → result ≡ Err (ReplicaFault.Full end need capacity)
-            → self.old.volume.capacity < self.old.volume.end + total_of_lem (length bytes.now) + 8 }
+            → self.old.volume.capacity < self.old.volume.end + needle_total (length bytes.now) + 8 }
 
         ensures stored { D.Tells → (sup : Super) (s : Stored) → FilesStand sup (D.files disk.old) self.old s →
             IfOk result (λ needle. FilesStand sup (D.files disk.new) self.new (with_cell s pair cookie bytes.now)
@@ -129,8 +129,8 @@ impl OpenFiles {
         cookie: Cookie,
         bytes: &[u8],
     ) -> Result<u64, ReplicaFault>
-        requires size { length bytes.now ≤ 1048576 }
-        requires room { self.old.volume.end + total_of_lem (length bytes.now) + 8 ≤ self.old.volume.capacity }
+        requires size { length bytes.now ≤ MAX_PHOTO }
+        requires room { self.old.volume.end + needle_total (length bytes.now) + 8 ≤ self.old.volume.capacity }
         requires ready { D.Tells → FilesReady (D.files disk.old) self.old }
 
         ensures place { IfOk result (λ at. at ≡ self.old.volume.end) }
@@ -150,7 +150,7 @@ impl OpenFiles {
         ensures ready { D.Tells → self.old.frozen ≡ false → self.new.frozen ≡ false → FilesReady (D.files disk.new) self.new }
         ensures flags { D.Tells → (place : ℕ) → MayFlag (D.files disk.old self.old.volume.file) self.old.volume.end place
             → MayFlag (D.files disk.new self.new.volume.file) self.new.volume.end place }
-        ensures last { D.Tells → IfOk result (λ at. IsLastCell (D.files disk.new self.new.volume.file) self.new.volume.end at (total_of_lem (length bytes.now))) }
+        ensures last { D.Tells → IfOk result (λ at. IsLastCell (D.files disk.new self.new.volume.file) self.new.volume.end at (needle_total (length bytes.now))) }
         ensures volume { self.new.volume.file ≡ self.old.volume.file }
         ensures copier { self.old.frozen ≡ false → KeepsCopier self.old self.new }
         ensures others { D.Tells → KeepsOthers self.old.volume.file (D.files disk.old) (D.files disk.new) }
@@ -185,9 +185,9 @@ impl OpenFiles {
         at: u64,
         size: u32,
     ) -> Result<Sealed<D::Piece>, ReplicaFault>
-        requires size { size ≤ 1048576 }
+        requires size { size ≤ MAX_PHOTO }
         requires ready { D.Tells → FilesReady (D.files disk.old) self.old }
-        requires last { D.Tells → IsLastCell (D.files disk.old self.old.volume.file) self.old.volume.end at (total_of_lem size) }
+        requires last { D.Tells → IsLastCell (D.files disk.old self.old.volume.file) self.old.volume.end at (needle_total size) }
 
         ensures given { D.Tells → (sup : Super) (s : Stored) (pair : Pair) (cookie : Cookie) (photo : List ℕ) →
             FilesStand sup (D.files disk.old) self.old (with_cell s pair cookie photo) → at ≡ s.end → size ≡ length photo →

@@ -1,7 +1,7 @@
 //! A replica, closed or open.
 
 ghost use Rattle.std.specs.Prelude.{◌≡◌, ◌⊎◌, ◌≤◌, ◌<◌, ◌+◌, ℕ, List, Bool, true, false, length, Option, None, Err, IfOk, IfErr, OnOk, OnErr, IsErrOf};
-ghost use Rattle.hay_needle.specs.Sizes.{total_of_lem};
+ghost use Rattle.hay_needle.specs.Sizes.{needle_total};
 ghost use Rattle.hay_needle.specs.declared.needle.Cookie.{Cookie};
 ghost use Rattle.hay_needle.specs.declared.needle.Pair.{Pair};
 ghost use Rattle.hay_disk.specs.Counts.{Rose, IsNext};
@@ -22,7 +22,7 @@ use crate::fault::ReplicaFault;
 use crate::state::{Copier, OpenFiles, Phase};
 use hay_disk::Disk;
 use hay_map::{OpenCell, Sealed};
-use hay_needle::{Cookie, Pair, Super};
+use hay_needle::{Cookie, MAX_PHOTO, Pair, Super};
 use hay_open::{OpenFault, Opened, open_replica};
 use std::alloc::Global;
 use std::marker::Model;
@@ -117,9 +117,9 @@ impl<D: Disk> Replica<D> {
     /// Whether the needle of a photo of this size and the end mark behind it fit into the volume file.
     pub fn room(&self, size: u32) -> Result<(), ReplicaFault>
         requires open { IsOpen self.now }
-        ensures full { let need = total_of_lem size in capacity_of self.now < end_of self.now + need + 8
+        ensures full { let need = needle_total size in capacity_of self.now < end_of self.now + need + 8
             → result ≡ Err (ReplicaFault.Full (end_of self.now) need (capacity_of self.now)) }
-        ensures fits { OnErr result (capacity_of self.now < end_of self.now + total_of_lem size + 8) }
+        ensures fits { OnErr result (capacity_of self.now < end_of self.now + needle_total size + 8) }
         ensures known { D.Tells → (s : Stored) → Stands D.files self.now s → (end_of self.now ≡ s.end) × (capacity_of self.now ≡ self.now.sup.settings.capacity) }
     {
         match &self.phase {
@@ -137,15 +137,15 @@ impl<D: Disk> Replica<D> {
         cookie: Cookie,
         bytes: &[u8],
     ) -> Result<Sealed<D::Piece>, ReplicaFault>
-        requires size { length bytes.now ≤ 1048576 }
+        requires size { length bytes.now ≤ MAX_PHOTO }
         requires open { IsOpen self.old }
 
         ensures frozen { IsFrozen self.old → (result ≡ Err ReplicaFault.Frozen) × (self.new ≡ self.old) }
         ensures thawed { IsErrOf result ReplicaFault.Frozen → IsFrozen self.old }
-        ensures full { let need = total_of_lem (length bytes.now) in IsUp self.old → capacity_of self.old < end_of self.old + need + 8
+        ensures full { let need = needle_total (length bytes.now) in IsUp self.old → capacity_of self.old < end_of self.old + need + 8
             → (result ≡ Err (ReplicaFault.Full (end_of self.old) need (capacity_of self.old))) × (self.new ≡ self.old) }
         ensures fits { (end need capacity : ℕ) → result ≡ Err (ReplicaFault.Full end need capacity)
-            → capacity_of self.old < end_of self.old + total_of_lem (length bytes.now) + 8 }
+            → capacity_of self.old < end_of self.old + needle_total (length bytes.now) + 8 }
 
         ensures stored { D.Tells → (s : Stored) → Stands D.files self.old s →
             IfOk result (λ needle. Stands D.files self.new (with_cell s pair cookie bytes.now)

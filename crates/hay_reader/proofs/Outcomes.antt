@@ -40,7 +40,8 @@ Says cookie put shown.Photo what = what ≡ outcome.Photo (record { cookie = coo
 Says cookie put shown.Gone what = what ≡ outcome.Nothing
 Says cookie put shown.WrongCookie what = (photo : Photo) × (photo.cookie ≢ cookie) × (what ≡ outcome.Photo photo)
 
-sealed_begins : (Tells : Type 0) (pair : Pair) (photo : Photo) (needle : SealedNeedle) → IsSealed Tells pair photo needle → BeginsWithNeedle needle.bytes (record { pair = pair; photo = photo; deleted = false })
+sealed_begins : (Tells : Type 0) (pair : Pair) (photo : Photo) (needle : SealedNeedle) → (sealed : IsSealed Tells pair photo needle)
+    → BeginsWithNeedle needle.bytes (record { version = sealed.version; pair = pair; photo = photo; deleted = false })
 sealed_begins Tells pair photo needle sealed = record { needle = needle.bytes; rest = []; parts = sym (append-nil needle.bytes); is = sealed.is }
 
 one_photo : (Tells : Type 0) (pair : Pair) (photo other : Photo) (needle : SealedNeedle) → IsSealed Tells pair photo needle → HasPhoto needle.bytes other → outcome.Photo photo ≡ outcome.Photo other

@@ -5,6 +5,7 @@ use Rattle.hay_needle.specs.declared.needle.Cookie.{Cookie}
 use Rattle.hay_needle.specs.declared.needle.Outcome.{Outcome}
 use Rattle.hay_needle.specs.declared.needle.Outcome.TheVariants as outcome
 use Rattle.hay_needle.specs.declared.needle.Photo.{Photo}
+use Rattle.hay_needle.specs.declared.total.TheConstants.{MAX_PHOTO}
 use Rattle.hay_map.specs.Places.{place_in}
 use Rattle.hay_map.specs.declared.place.Place.{Place}
 use Rattle.hay_reader.specs.Tried.{PlaceGives}
@@ -66,7 +67,7 @@ NoArm (reply.WrongCookie j) = Unit {0}
 
 -- only a photo has bytes, and at most so many
 abbrev pub HasBytes : List ℕ → ReadReply → Type 0
-HasBytes bytes (reply.Photo j) = length bytes ≤ 1048576
+HasBytes bytes (reply.Photo j) = length bytes ≤ MAX_PHOTO
 HasBytes bytes (reply.Gone j) = bytes ≡ []
 HasBytes bytes (reply.WrongCookie j) = bytes ≡ []
 HasBytes bytes (reply.Unreadable causes) = bytes ≡ []

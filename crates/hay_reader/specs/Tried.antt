@@ -4,6 +4,7 @@ use Rattle.hay_disk.specs.Counts.{Rose}
 use Rattle.hay_needle.specs.declared.needle.Cookie.{Cookie}
 use Rattle.hay_needle.specs.declared.needle.Needle.{Needle}
 use Rattle.hay_needle.specs.declared.needle.Photo.{Photo}
+use Rattle.hay_needle.specs.declared.total.TheConstants.{MAX_PHOTO}
 use Rattle.hay_needle.specs.Needle.{BeginsWithNeedle}
 use Rattle.hay_reply.specs.declared.Cause.{Cause}
 use Rattle.hay_reply.specs.declared.Cause.TheVariants as cause
@@ -65,7 +66,7 @@ IsDamageAt at (cause.Disk f) = ⊥
 
 -- only a photo has bytes, and at most so many
 abbrev pub PutsOut : List ℕ → Result Shown Cause → Type 0
-PutsOut bytes (Ok shown.Photo) = length bytes ≤ 1048576
+PutsOut bytes (Ok shown.Photo) = length bytes ≤ MAX_PHOTO
 PutsOut bytes (Ok shown.Gone) = bytes ≡ []
 PutsOut bytes (Ok shown.WrongCookie) = bytes ≡ []
 PutsOut bytes (Err why) = bytes ≡ []

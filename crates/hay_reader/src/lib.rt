@@ -1,8 +1,9 @@
 //! The read of a photo by the row of its places.
 //!
-//! A lane's seat has an arm and a buffer of the longest needle. It tries the replicas in turn: a place without a photo says that the
-//! photo is gone, and a needle that is fetched and read tells the photo or the wrong cookie. A replica is passed over only where its
-//! fetch failed in this call, or where what was fetched is no needle. A read takes no memory.
+//! A lane's seat has an arm and a buffer with room for the longest needle, of which a read touches no more than its needle. It tries
+//! the replicas in turn: a place without a photo says that the photo is gone, and a needle that is fetched and read tells the photo or
+//! the wrong cookie. A replica is passed over only where its fetch failed in this call, or where what was fetched is no needle. A read
+//! takes no memory.
 //! It stands on hay_base, hay_needle, hay_disk, hay_map and hay_reply.
 #![tactic(auto)]
 

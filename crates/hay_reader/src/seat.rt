@@ -9,7 +9,7 @@ use crate::{Causes, PassedReplica};
 use hay_base::NoMemory;
 use hay_disk::{Arm, Piece};
 use hay_map::{Place, Row};
-use hay_needle::Cookie;
+use hay_needle::{Cookie, MAX_NEEDLE, MAX_PHOTO};
 use hay_reply::Cause;
 use std::alloc::Global;
 use std::marker::Model;
@@ -25,7 +25,7 @@ pub enum ReadReply {
     Unreadable { causes: Causes },
 }
 
-/// A lane's arm, and a buffer for the longest needle. A clause sees the arm.
+/// A lane's arm, and a buffer with room for the longest needle. A clause sees the arm.
 #[derive(Drop)]
 pub struct LaneSeat<A> {
     arm: A,
@@ -33,17 +33,16 @@ pub struct LaneSeat<A> {
 }
 
 impl<A> Model for LaneSeat<A> {
-    ghost use Rattle.std.specs.Prelude.{◌≡◌, length};
+    ghost use Rattle.std.specs.Prelude.{◌≤◌};
+    ghost use Rattle.std.specs.Vec.{vec_capacity};
+    ghost use Rattle.hay_needle.specs.declared.total.TheConstants.{MAX_NEEDLE};
 
     ghost Value = { A };
 
     ghost view = { λ s. s.arm };
 
-    ghost invariant = { λ s. length s.needle.items ≡ 1048624 };
+    ghost invariant = { λ s. MAX_NEEDLE ≤ vec_capacity s.needle };
 }
-
-/// The longest needle.
-const MAX_NEEDLE: usize = 1_048_624;
 
 impl<A> LaneSeat<A> {
     /// The seat of this arm. `NoMemory` gives the arm back.
@@ -51,7 +50,7 @@ impl<A> LaneSeat<A> {
         ensures ok { IfOk result (λ seat. seat ≡ arm) }
         ensures err { IfErr result (λ back. back.0 ≡ arm) }
     {
-        match vec![in alloc; 0u8; MAX_NEEDLE] {
+        match Vec::with_capacity(alloc, MAX_NEEDLE) {
             Ok(needle) => Ok(LaneSeat { arm, needle }),
             Err(_) => Err((arm, NoMemory)),
         }
@@ -87,7 +86,7 @@ impl<A> LaneSeat<A> {
         A: Arm<P>,
         requires start { start < length row.now }
         requires empty { out.old.items ≡ [] }
-        requires room { 1048576 ≤ vec_capacity out.old }
+        requires room { MAX_PHOTO ≤ vec_capacity out.old }
 
         // What is shown is what stands at the replica's place. A replica is passed over only where its fetch failed in this call, or
         // where no needle begins there.
@@ -120,7 +119,7 @@ impl<A> LaneSeat<A> {
     where
         A: Arm<P>,
         requires empty { out.old.items ≡ [] }
-        requires room { 1048576 ≤ vec_capacity out.old }
+        requires room { MAX_PHOTO ≤ vec_capacity out.old }
         ensures gives { PlaceGives P.Tells (A.is_sure self.old) cookie out.new.items place.now result }
         ensures cause { IfErr result (FailsBy (A.fault_count self.old) (A.fault_count self.new)) }
         ensures later { A.fault_count self.old ≤ A.fault_count self.new }
@@ -129,13 +128,7 @@ impl<A> LaneSeat<A> {
         ensures bytes { PutsOut out.new.items result }
         ensures room { vec_capacity out.old ≤ vec_capacity out.new }
     {
-        try_place(
-            &mut self.arm,
-            self.needle.as_mut_slice(),
-            place,
-            cookie,
-            out,
-        )
+        try_place(&mut self.arm, &mut self.needle, place, cookie, out)
     }
 }
 

@@ -1,12 +1,12 @@
 //! The try of one replica.
-ghost use Rattle.std.specs.Prelude.{◌≡◌, ◌≤◌, ◌<◌, ◌+◌, ◌^◌, ◌⊎◌, ◌++◌, [], true, length, vec_len, IfErr};
+ghost use Rattle.std.specs.Prelude.{◌≡◌, ◌≤◌, ◌<◌, ◌+◌, ◌^◌, ◌⊎◌, ◌++◌, [], true, length, vec_len, max, IfErr};
 ghost use Rattle.std.specs.Vec.{vec_capacity};
 ghost use Rattle.hay_disk.specs.Counts.{IsCounted};
 ghost use Rattle.hay_reader.specs.Tried.{NeedleGives, PlaceGives, ReadsBytes, FailsBy, IsDamageAt, PutsOut};
 
 use hay_disk::{Arm, Failed, Piece};
 use hay_map::{Place, Sealed};
-use hay_needle::{Cookie, read_needle, total_of};
+use hay_needle::{Cookie, MAX_NEEDLE, MAX_PHOTO, read_needle, total_of};
 use hay_reply::Cause;
 
 /// What a replica showed.
@@ -17,17 +17,17 @@ pub enum Shown {
     WrongCookie,
 }
 
-/// Tries the replica of this place. The buffer is as long as the longest needle.
+/// Tries the replica of this place. The buffer has room for the longest needle.
 pub fn try_place<P: Piece, A: Arm<P>>(
     arm: &mut A,
-    buffer: &mut [u8],
+    buffer: &mut Vec<u8>,
     place: &Place<P>,
     cookie: Cookie,
     out: &mut Vec<u8>,
 ) -> Result<Shown, Cause>
-    requires buffer { length buffer.old ≡ 1048624 }
+    requires buffer { MAX_NEEDLE ≤ vec_capacity buffer.old }
     requires empty { out.old.items ≡ [] }
-    requires room { 1048576 ≤ vec_capacity out.old }
+    requires room { MAX_PHOTO ≤ vec_capacity out.old }
     ensures gives { PlaceGives P.Tells (A.is_sure arm.old) cookie out.new.items place.now result }
     ensures cause { IfErr result (FailsBy (A.fault_count arm.old) (A.fault_count arm.new)) }
     ensures later { A.fault_count arm.old ≤ A.fault_count arm.new }
@@ -35,6 +35,7 @@ pub fn try_place<P: Piece, A: Arm<P>>(
     ensures sure { A.is_sure arm.old ≡ true → A.is_sure arm.new ≡ true }
     ensures bytes { PutsOut out.new.items result }
     ensures room { vec_capacity out.old ≤ vec_capacity out.new }
+    ensures buffer { vec_capacity buffer.old ≤ vec_capacity buffer.new }
 {
     match place {
         Place::Live(needle) => try_needle(arm, buffer, needle, cookie, out),
@@ -44,14 +45,14 @@ pub fn try_place<P: Piece, A: Arm<P>>(
 
 fn try_needle<P: Piece, A: Arm<P>>(
     arm: &mut A,
-    buffer: &mut [u8],
+    buffer: &mut Vec<u8>,
     needle: &Sealed<P>,
     cookie: Cookie,
     out: &mut Vec<u8>,
 ) -> Result<Shown, Cause>
-    requires buffer { length buffer.old ≡ 1048624 }
+    requires buffer { MAX_NEEDLE ≤ vec_capacity buffer.old }
     requires empty { out.old.items ≡ [] }
-    requires room { 1048576 ≤ vec_capacity out.old }
+    requires room { MAX_PHOTO ≤ vec_capacity out.old }
     ensures gives { NeedleGives P.Tells (A.is_sure arm.old) cookie out.new.items needle.now result }
     ensures cause { IfErr result (FailsBy (A.fault_count arm.old) (A.fault_count arm.new)) }
     ensures later { A.fault_count arm.old ≤ A.fault_count arm.new }
@@ -59,8 +60,11 @@ fn try_needle<P: Piece, A: Arm<P>>(
     ensures sure { A.is_sure arm.old ≡ true → A.is_sure arm.new ≡ true }
     ensures bytes { PutsOut out.new.items result }
     ensures room { vec_capacity out.old ≤ vec_capacity out.new }
+    ensures buffer { vec_capacity buffer.old ≤ vec_capacity buffer.new }
 {
-    let bytes = &mut buffer[..total_of(needle.size()) as usize];
+    let total = total_of(needle.size()) as usize;
+    grow(buffer, total);
+    let bytes = &mut buffer[..total];
     let fetched = needle.fetch(arm, bytes);
     let faults = arm.faults();
     match fetched {
@@ -69,10 +73,22 @@ fn try_needle<P: Piece, A: Arm<P>>(
     }
 }
 
+// Makes the buffer at least so long. Its room behind the longest needle so far stays untouched.
+fn grow(buffer: &mut Vec<u8>, len: usize)
+    requires room { len ≤ vec_capacity buffer.old }
+    ensures long { vec_len buffer.new ≡ max (vec_len buffer.old) len }
+    ensures room { vec_capacity buffer.old ≤ vec_capacity buffer.new }
+{
+    if buffer.len() < len {
+        // There is room, so that no memory is wanted.
+        let _ = buffer.resize(len, 0);
+    }
+}
+
 // Reads the needle that was fetched.
 fn read_photo(bytes: &[u8], at: u64, cookie: Cookie, out: &mut Vec<u8>) -> Result<Shown, Cause>
     requires empty { out.old.items ≡ [] }
-    requires room { 1048576 ≤ vec_capacity out.old }
+    requires room { MAX_PHOTO ≤ vec_capacity out.old }
     ensures reads { ReadsBytes cookie out.new.items bytes.now result }
     ensures damage { IfErr result (IsDamageAt at) }
     ensures bytes { PutsOut out.new.items result }

@@ -7,6 +7,7 @@ use Rattle.std.proofs.lemmas.List.Sums.{fold-append}
 use Rattle.std.proofs.lemmas.Bool.{cases_lt}
 use Rattle.std.proofs.lemmas.Bool.Decides.{nat_tests}
 use Rattle.hay_disk.specs.Streams.{Took}
+use Rattle.hay_script.specs.declared.words.TheConstants.{MAX_LINE}
 use Rattle.hay_script.specs.Script.{seen_byte, words_of, is_blank, is_word, is_skipped}
 use Rattle.hay_run.specs.declared.lines.LineRead.{LineRead}
 use Rattle.hay_run.specs.declared.lines.LineRead.TheVariants.{Line, End}
@@ -182,29 +183,29 @@ long_before limit (Some all) (Some rest) after a b h k =
 -- WHAT IS KEPT OF A LINE
 
 abbrev pub Keeps : Bool → List ℕ → List ℕ → Type 0
-Keeps false items given = (items ≡ given) × (length items ≤ 2097280)
-Keeps true items given = (2097280 < length given) × (length items ≡ 2097280)
+Keeps false items given = (items ≡ given) × (length items ≤ MAX_LINE)
+Keeps true items given = (MAX_LINE < length given) × (length items ≡ MAX_LINE)
 
-Keeps-push : (long : Bool) (items given : List ℕ) (b : ℕ) → Keeps long items given → length items < 2097280 → Keeps long (items ++ b ∷ []) (given ++ b ∷ [])
+Keeps-push : (long : Bool) (items given : List ℕ) (b : ℕ) → Keeps long items given → length items < MAX_LINE → Keeps long (items ++ b ∷ []) (given ++ b ∷ [])
 Keeps-push false items given b h few = (ap (λ (bytes : List ℕ). bytes ++ b ∷ []) h.0, omega (arith, length-append items (b ∷ [])))
 Keeps-push true items given b h few = absurd (omega (arith, h.1))
 
-Keeps-long : (long : Bool) (items given : List ℕ) (b : ℕ) → Keeps long items given → 2097280 ≤ length items → Keeps true items (given ++ b ∷ [])
+Keeps-long : (long : Bool) (items given : List ℕ) (b : ℕ) → Keeps long items given → MAX_LINE ≤ length items → Keeps true items (given ++ b ∷ [])
 Keeps-long false items given b h many = (omega (arith, length-append given (b ∷ []), h.1, ap length h.0), omega (arith, h.1))
 Keeps-long true items given b h many = (omega (arith, length-append given (b ∷ []), h.0), h.1)
 
 pub Keeps-with : (long now : Bool) (items items' given : List ℕ) (b : ℕ) → Keeps long items given
-    → (length items < 2097280 → (now ≡ long) × (items' ≡ items ++ b ∷ [])) → (2097280 ≤ length items → (now ≡ true) × (items' ≡ items))
+    → (length items < MAX_LINE → (now ≡ long) × (items' ≡ items ++ b ∷ [])) → (MAX_LINE ≤ length items → (now ≡ true) × (items' ≡ items))
     → Keeps now items' (given ++ b ∷ [])
-Keeps-with long now items items' given b keeps few many = elim (cases_lt (length items) 2097280) [
+Keeps-with long now items items' given b keeps few many = elim (cases_lt (length items) MAX_LINE) [
   | inl w ↦ rw ((few w).0, (few w).1) (Keeps-push long items given b keeps w)
   | inr w ↦ rw ((many w).0, (many w).1) (Keeps-long long items given b keeps w)
 ]
 
 pub NoFeed-with : (long now : Bool) (items items' : List ℕ) (b : ℕ) → NoFeed items → b ≢ 10
-    → (length items < 2097280 → (now ≡ long) × (items' ≡ items ++ b ∷ [])) → (2097280 ≤ length items → (now ≡ true) × (items' ≡ items))
+    → (length items < MAX_LINE → (now ≡ long) × (items' ≡ items ++ b ∷ [])) → (MAX_LINE ≤ length items → (now ≡ true) × (items' ≡ items))
     → NoFeed items'
-NoFeed-with long now items items' b free unfed few many = elim (cases_lt (length items) 2097280) [
+NoFeed-with long now items items' b free unfed few many = elim (cases_lt (length items) MAX_LINE) [
   | inl w ↦ rw (few w).1 (NoFeed-push items b free unfed)
   | inr w ↦ rw (many w).1 free
 ]
@@ -216,13 +217,13 @@ Keeps-none : (long : Bool) (items given : List ℕ) → Keeps long items given �
 Keeps-none false items given h none = sym h.0 ∙ none
 Keeps-none true items given h none = absurd (omega (arith, h.1, ap length none))
 
-long_fed_reads : (start : LineStart) (kept text : List ℕ) (before after : Option (List ℕ)) (ended : Bool) → TookLine before text after ended → 2097280 < length text → is_skipped (words_of text) ≡ silent_fed start → ReadsLine (long_fed start) kept before after ended
+long_fed_reads : (start : LineStart) (kept text : List ℕ) (before after : Option (List ℕ)) (ended : Bool) → TookLine before text after ended → MAX_LINE < length text → is_skipped (words_of text) ≡ silent_fed start → ReadsLine (long_fed start) kept before after ended
 long_fed_reads Blank kept text before after ended took long says = (text, took, (long, says))
 long_fed_reads BlankReturn kept text before after ended took long says = (text, took, (long, says))
 long_fed_reads Comment kept text before after ended took long says = (text, took, (long, says))
 long_fed_reads Words kept text before after ended took long says = (text, took, (long, says))
 
-long_last_reads : (start : LineStart) (kept text : List ℕ) (before after : Option (List ℕ)) (ended : Bool) → TookLine before text after ended → 2097280 < length text → is_skipped (words_of text) ≡ silent_last start → ReadsLine (long_last start) kept before after ended
+long_last_reads : (start : LineStart) (kept text : List ℕ) (before after : Option (List ℕ)) (ended : Bool) → TookLine before text after ended → MAX_LINE < length text → is_skipped (words_of text) ≡ silent_last start → ReadsLine (long_last start) kept before after ended
 long_last_reads Blank kept text before after ended took long says = (text, took, (long, says))
 long_last_reads BlankReturn kept text before after ended took long says = (text, took, (long, says))
 long_last_reads Comment kept text before after ended took long says = (text, took, (long, says))

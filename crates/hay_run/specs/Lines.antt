@@ -1,6 +1,7 @@
 -- Lines of a script, as they are taken.
 use Rattle.std.specs.Prelude.{◌≡◌, ◌≢◌, ◌⊎◌, ◌==◌, ℕ, ◌<◌, ◌≤◌, Bool, true, false, List, [], ◌∷◌, ◌++◌, length, Option, if◌then◌else◌}
 use Rattle.hay_disk.specs.Streams.{Took}
+use Rattle.hay_script.specs.declared.words.TheConstants.{MAX_LINE}
 use Rattle.hay_script.specs.Script.{seen_byte, words_of, is_blank, is_skipped}
 use Rattle.hay_run.specs.declared.lines.LineRead.{LineRead}
 use Rattle.hay_run.specs.declared.lines.LineRead.TheVariants.{Line, TooLong, Skipped, End}
@@ -46,9 +47,9 @@ TookOver before after = (mid : Option (List ℕ)) × TookPart before mid × Took
 
 -- what is kept of a line with this text: the line, or, where it is too long, whether it says nothing
 abbrev pub IsKept : LineRead → List ℕ → List ℕ → Type 0
-IsKept Line kept text = (kept ≡ text) × (length text ≤ 2097280)
-IsKept TooLong kept text = (2097280 < length text) × (is_skipped (words_of text) ≡ false)
-IsKept Skipped kept text = (2097280 < length text) × (is_skipped (words_of text) ≡ true)
+IsKept Line kept text = (kept ≡ text) × (length text ≤ MAX_LINE)
+IsKept TooLong kept text = (MAX_LINE < length text) × (is_skipped (words_of text) ≡ false)
+IsKept Skipped kept text = (MAX_LINE < length text) × (is_skipped (words_of text) ≡ true)
 IsKept End kept text = ⊥
 
 -- a line was taken, or the end was met

@@ -19,5 +19,4 @@ mod words;
 mod writing;
 
 pub use bytes::SCRIPT;
-pub use lines::LINE;
 pub use program::run;

@@ -10,12 +10,9 @@ use crate::bytes::{SCRIPT, ScriptBytes};
 use crate::stops::Stop;
 use hay_base::NoMemory;
 use hay_disk::Source;
-use hay_script::{Line, read_line};
+use hay_script::{Line, MAX_LINE, read_line};
 use std::alloc::Global;
 use std::marker::Model;
-
-/// A line has at most so many bytes, without its line feed.
-pub const LINE: usize = 2_097_280;
 
 /// What came of a line.
 #[derive(Clone, Copy, Debug, PartialEq, Eq)]
@@ -98,10 +95,10 @@ fn end_by_feed(line: &mut Vec<u8>)
 /// Keeps a byte of a line, unless the line is too long with it, and answers whether the line is too long.
 #[inline]
 fn keep(line: &mut Vec<u8>, long: bool, byte: u8) -> Result<bool, NoMemory>
-    ensures short { length line.old.items < LINE → IfOk result (λ now. (now ≡ long) × (line.new.items ≡ line.old.items ++ byte ∷ [])) }
-    ensures long { LINE ≤ length line.old.items → IfOk result (λ now. (now ≡ true) × (line.new.items ≡ line.old.items)) }
+    ensures short { length line.old.items < MAX_LINE → IfOk result (λ now. (now ≡ long) × (line.new.items ≡ line.old.items ++ byte ∷ [])) }
+    ensures long { MAX_LINE ≤ length line.old.items → IfOk result (λ now. (now ≡ true) × (line.new.items ≡ line.old.items)) }
 {
-    if line.len() < LINE {
+    if line.len() < MAX_LINE {
         line.push(byte)?;
         Ok(long)
     } else {

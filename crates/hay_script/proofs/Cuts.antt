@@ -7,6 +7,7 @@ use Rattle.std.proofs.lemmas.List.Splits.{slice_split_first, slice_split-cons_ye
 use Rattle.std.proofs.lemmas.List.Sums.{passes_at_first, prefix_len-le-length}
 use Rattle.std.proofs.lemmas.List.{drop_all, take_all}
 use Rattle.hay_script.specs.Script.{is_blank, is_word, words_of, is_colon, equal_bytes, run_of_parts, from_one}
+use Rattle.hay_needle.specs.declared.total.TheConstants.{MAX_PHOTO}
 use Rattle.hex.specs.Hex.{is_hex_digit}
 use Rattle.std.specs.Str.Parse.{digits_value}
 use Rattle.std.specs.Prelude.{option_map, replicate}
@@ -135,8 +136,8 @@ by_none true v o e = cc
 by_none false v o e = refl
 
 pub no_byte : (count digits : List ℕ) → byte_of digits ≡ None → run_of_parts (count ∷ slice_split is_colon digits) ≡ None
-no_byte count digits e = run_split count digits ∙ by_none (length digits == 2 && list_all is_hex_digit digits) (digits_value 16 digits) (option_map (λ n. replicate n (digits_value 16 digits)) (from_one 1048577 count)) e
+no_byte count digits e = run_split count digits ∙ by_none (length digits == 2 && list_all is_hex_digit digits) (digits_value 16 digits) (option_map (λ n. replicate n (digits_value 16 digits)) (from_one (MAX_PHOTO + 1) count)) e
 
-pub some_run : (count digits : List ℕ) (byte n : ℕ) → Some byte ≡ byte_of digits → Some n ≡ from_one 1048577 count → run_of_parts (count ∷ slice_split is_colon digits) ≡ Some (replicate n byte)
+pub some_run : (count digits : List ℕ) (byte n : ℕ) → Some byte ≡ byte_of digits → Some n ≡ from_one (MAX_PHOTO + 1) count → run_of_parts (count ∷ slice_split is_colon digits) ≡ Some (replicate n byte)
 some_run count digits byte n e h =
-    run_split count digits ∙ by_byte (length digits == 2 && list_all is_hex_digit digits) (digits_value 16 digits) byte (λ v. option_map (λ n. replicate n v) (from_one 1048577 count)) e ∙ ap (option_map (λ n. replicate n byte)) (sym h)
+    run_split count digits ∙ by_byte (length digits == 2 && list_all is_hex_digit digits) (digits_value 16 digits) byte (λ v. option_map (λ n. replicate n v) (from_one (MAX_PHOTO + 1) count)) e ∙ ap (option_map (λ n. replicate n byte)) (sym h)

@@ -1,5 +1,5 @@
 -- The grammar of a script: its lines, and what each says.
-use Rattle.std.specs.Prelude.{ℕ, ◌^◌, ◌==◌, ◌&&◌, ◌||◌, nat_lt, nat_le, ◌≤◌, Bool, true, false, List, [], ◌∷◌, length, replicate, filter, drop, Option, Some, None, option_and_then, option_map, if◌then◌else◌, codes, bytes_eq}
+use Rattle.std.specs.Prelude.{ℕ, ◌+◌, ◌*◌, ◌^◌, ◌==◌, ◌&&◌, ◌||◌, nat_lt, nat_le, ◌≤◌, Bool, true, false, List, [], ◌∷◌, length, replicate, filter, drop, Option, Some, None, option_and_then, option_map, if◌then◌else◌, codes, bytes_eq}
 use Rattle.std.specs.Char.{is_ascii_digit}
 use Rattle.std.specs.List.{slice_split, onto_first, list_all, starts_with}
 use Rattle.std.specs.Str.Parse.{digits_value}
@@ -7,9 +7,11 @@ use Rattle.std.specs.Result.{result_ok}
 use Rattle.hex.specs.Hex.{decode_of, is_hex_digit}
 use Rattle.hay_needle.specs.declared.needle.Pair.{Pair}
 use Rattle.hay_needle.specs.declared.needle.Cookie.{Cookie}
+use Rattle.hay_needle.specs.declared.total.TheConstants.{MAX_PHOTO}
 use Rattle.hay_url.specs.Url.{url_of}
 use Rattle.hay_script.specs.declared.Command.{Command}
 use Rattle.hay_script.specs.declared.Command.TheVariants.{Put, Read, Get, Del, Url, Flush, Compact, Begin, Step, Finish, Drain, Undrain, Fuse, FuseDir, Restart}
+use Rattle.hay_script.specs.declared.words.TheConstants.{MAX_LINE}
 use Rattle.hay_script.specs.declared.Line.{Line}
 use Rattle.hay_script.specs.declared.Line.TheVariants as line
 
@@ -69,7 +71,7 @@ cookie_of_text text =
 abbrev pub equal_bytes : List ℕ → List ℕ → Option (List ℕ)
 equal_bytes count digits =
     if length digits == 2 && list_all is_hex_digit digits
-    then option_map (λ n. replicate n (digits_value 16 digits)) (from_one 1048577 count) else None
+    then option_map (λ n. replicate n (digits_value 16 digits)) (from_one (MAX_PHOTO + 1) count) else None
 
 -- the number and the byte of xLEN:BB
 abbrev pub run_of_parts : List (List ℕ) → Option (List ℕ)
@@ -81,7 +83,7 @@ is_colon b = b == 58
 
 abbrev pub hex_photo : List ℕ → Option (List ℕ)
 hex_photo text =
-    if nat_le 2 (length text) && nat_le (length text) 2097152 then result_ok (decode_of text) else None
+    if nat_le 2 (length text) && nat_le (length text) (2 * MAX_PHOTO) then result_ok (decode_of text) else None
 
 -- no bytes, one byte many times, or two digits for each byte
 abbrev pub photo_of_text : List ℕ → Option (List ℕ)
@@ -185,7 +187,7 @@ is_skipped [] = true
 is_skipped (word ∷ words) = starts_with ◌==◌ word (codes "#")
 
 abbrev pub is_fair : List ℕ → Bool
-is_fair text = nat_le (length text) 2097280 && list_all is_written text
+is_fair text = nat_le (length text) MAX_LINE && list_all is_written text
 
 -- what a line says, outside of a block or in one of so many lanes
 abbrev pub line_of : Option ℕ → List ℕ → Line
@@ -196,7 +198,7 @@ line_of lanes text =
 
 -- a command whose photo is no larger than a photo may be
 abbrev pub IsWithin : Command → Type 0
-IsWithin (Put pair photo) = length photo ≤ 1048576
+IsWithin (Put pair photo) = length photo ≤ MAX_PHOTO
 IsWithin _ = Unit {0}
 
 abbrev pub IsWithinLine : Line → Type 0

@@ -13,6 +13,7 @@ mod words;
 use hay_needle::{Bytes, Cookie, Pair};
 use hay_url::Url;
 pub use read::read_line;
+pub use words::MAX_LINE;
 
 /// A command of a script.
 #[derive(Debug, Drop)]

@@ -7,14 +7,14 @@ ghost use Rattle.hay_script.specs.Script as grammar;
 
 use crate::numbers::{is_hex, read_count, read_digits};
 use hay_base::NoMemory;
-use hay_needle::Bytes;
+use hay_needle::{Bytes, MAX_PHOTO};
 use hex::FromHexError;
 use std::alloc::Global;
 
 /// The photo of a word: no bytes, one byte many times, or two digits for each byte.
 pub fn read_photo(alloc: Global, text: &[u8]) -> Result<Option<Bytes>, NoMemory>
     ensures photo { IfOk result (λ photo. photo ≡ grammar.photo_of_text text.now) }
-    ensures size { IfOk result (λ photo. IfSome photo (λ bytes. length bytes ≤ 1048576)) }
+    ensures size { IfOk result (λ photo. IfSome photo (λ bytes. length bytes ≤ MAX_PHOTO)) }
 {
     match text {
         [b'-'] => Ok(Some(Bytes::new(alloc))),
@@ -25,9 +25,9 @@ pub fn read_photo(alloc: Global, text: &[u8]) -> Result<Option<Bytes>, NoMemory>
 
 fn read_hex(alloc: Global, text: &[u8]) -> Result<Option<Bytes>, NoMemory>
     ensures photo { IfOk result (λ photo. photo ≡ grammar.hex_photo text.now) }
-    ensures size { IfOk result (λ photo. IfSome photo (λ bytes. length bytes ≤ 1048576)) }
+    ensures size { IfOk result (λ photo. IfSome photo (λ bytes. length bytes ≤ MAX_PHOTO)) }
 {
-    if text.len() < 2 || text.len() > 2_097_152 {
+    if text.len() < 2 || text.len() > 2 * MAX_PHOTO as usize {
         return Ok(None);
     }
     match hex::decode(alloc, text) {
@@ -64,7 +64,7 @@ fn read_byte(digits: &[u8]) -> Option<u8>
 /// The bytes of `LEN:BB`.
 fn read_run(alloc: Global, run: &[u8]) -> Result<Option<Bytes>, NoMemory>
     ensures photo { IfOk result (λ photo. photo ≡ grammar.run_of_parts (slice_split grammar.is_colon run.now)) }
-    ensures size { IfOk result (λ photo. IfSome photo (λ bytes. length bytes ≤ 1048576)) }
+    ensures size { IfOk result (λ photo. IfSome photo (λ bytes. length bytes ≤ MAX_PHOTO)) }
 {
     let Some((count, digits)) = split_colon(run) else {
         return Ok(None);
@@ -72,7 +72,7 @@ fn read_run(alloc: Global, run: &[u8]) -> Result<Option<Bytes>, NoMemory>
     let Some(byte) = read_byte(digits) else {
         return Ok(None);
     };
-    let Some(count) = read_count(count, 1_048_576) else {
+    let Some(count) = read_count(count, MAX_PHOTO) else {
         return Ok(None);
     };
     let bytes = vec![in alloc; byte; count as usize]?;

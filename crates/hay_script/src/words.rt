@@ -3,6 +3,9 @@ ghost use Rattle.std.specs.Prelude.{◌≡◌, ◌∷◌, [], not, position, Mat
 ghost use Rattle.std.specs.List.{list_all};
 ghost use Rattle.hay_script.specs.Script as grammar;
 
+/// The most bytes that a line has, without its line feed.
+pub const MAX_LINE: usize = 33_554_560;
+
 fn is_blank(byte: u8) -> bool
     ensures { result ≡ grammar.is_blank byte }
 {
@@ -48,7 +51,7 @@ fn are_written(line: &[u8]) -> bool
 pub fn is_fair(line: &[u8]) -> bool
     ensures { result ≡ grammar.is_fair line.now }
 {
-    line.len() <= 2_097_280 && are_written(line)
+    line.len() <= MAX_LINE && are_written(line)
 }
 
 /// Whether a word is this text.

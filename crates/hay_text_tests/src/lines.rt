@@ -1,4 +1,5 @@
-use hay_script::read_line;
+use hay_script::{Command, Line, read_line};
+use std::alloc::Global;
 use std::test::Fail;
 
 #[test]
@@ -27,7 +28,7 @@ fn lines(rt: HostRuntime) -> Result<(), Fail> {
         ),
         ("put 000000000000000000007 1 61", None, "Bad"),
         ("put 0 1 x0:61", None, "Bad"),
-        ("put 0 1 x1048577:61", None, "Bad"),
+        ("put 0 1 x16777217:61", None, "Bad"),
         ("put 0 1 616", None, "Bad"),
         (
             "del 0 1",
@@ -84,6 +85,42 @@ fn lines(rt: HostRuntime) -> Result<(), Fail> {
             said,
             "{line}"
         );
+    }
+    Ok(())
+}
+
+/// A put with this text, so many digits and so many spaces behind its pair.
+fn put_line(alloc: Global, text: &str, digits: u32, spaces: u32) -> Result<Vec<u8>, Fail> {
+    let mut line = Vec::from_slice(alloc, b"put 0 1 ")?;
+    line.extend_from_slice(text.as_bytes())?;
+    line.resize(line.len() + digits as usize, b'6')?;
+    line.resize(line.len() + spaces as usize, b' ')?;
+    Ok(line)
+}
+
+/// How many bytes the photo has, where the line is a put.
+fn photo_len(line: &Line) -> Option<usize> {
+    if let Line::Plain(Command::Put { photo, .. }) = line {
+        Some(photo.len())
+    } else {
+        None
+    }
+}
+
+#[test]
+fn limits(rt: HostRuntime) -> Result<(), Fail> {
+    for (text, digits, spaces, size) in [
+        ("x16777216:61", 0, 0, Some(16_777_216)),
+        // A line of 33,554,560 bytes, and one of a byte more.
+        ("", 33_554_432, 120, Some(16_777_216)),
+        ("", 33_554_432, 121, None),
+        ("", 33_554_434, 0, None),
+    ] {
+        let line = put_line(rt.alloc(), text, digits, spaces)?;
+        let read = read_line(rt.alloc(), line.as_slice(), None)
+            .ok()
+            .ok_or("no memory")?;
+        assert_eq!(rt; photo_len(&read), size, "{text} {digits} {spaces}");
     }
     Ok(())
 }

@@ -6,7 +6,7 @@ use Rattle.std.proofs.lemmas.List.{take_at, take_all, drop_at, drop_all, drop-dr
 use Rattle.hay_needle.specs.declared.needle.CellHead.{CellHead}
 use Rattle.hay_needle.specs.declared.needle.Needle.{Needle}
 use Rattle.hay_needle.specs.Needle.{Head, HeadBytes, NeedleBytes, BeginsWithNeedle, head_of_cell, head_of_needle}
-use Rattle.hay_needle.specs.Sizes.{total_of_lem}
+use Rattle.hay_needle.specs.Sizes.{needle_total}
 use Rattle.hay_needle.proofs.Needles.{head_first, length-head, one_head, needle_in_front, needle_alone}
 use Rattle.hay_disk.specs.Gate.{Stands}
 use Rattle.hay_needle.specs.declared.needle.Cell.{Cell}
@@ -105,30 +105,30 @@ read_stands at total bytes file is =
 
 -- a cell from its parts
 pub read_head_is : (head : CellHead) (at : ℕ) (n : Needle) → head.at ≡ at → head_of_cell head ≡ head_of_needle n
-    → head ≡ record { at = at; pair = n.pair; cookie = n.photo.cookie; size = length n.photo.bytes; deleted = n.deleted }
+    → head ≡ record { at = at; version = n.version; pair = n.pair; cookie = n.photo.cookie; size = length n.photo.bytes; deleted = n.deleted }
 read_head_is head at n place same =
-    let with : ℕ → Head → CellHead = λ k h. record { at = k; pair = h.pair; cookie = h.cookie; size = h.size; deleted = h.deleted } in
+    let with : ℕ → Head → CellHead = λ k h. record { at = k; version = h.version; pair = h.pair; cookie = h.cookie; size = h.size; deleted = h.deleted } in
     ap (λ k. with k (head_of_cell head)) place ∙ ap (with at) same
 
 -- a needle that begins where its head was read begins the bytes that were read on
-pub in_bytes : (at was total : ℕ) (old out file : List ℕ) (head : Head) (n : Needle) → HeadBytes old head → total ≡ total_of_lem head.size → old ≡ take 36 (drop at file)
+pub in_bytes : (at was total : ℕ) (old out file : List ℕ) (head : Head) (n : Needle) → HeadBytes old head → total ≡ needle_total head.size → old ≡ take 36 (drop at file)
     → (old ≡ take was (drop at file) → out ≡ take total (drop at file)) → was ≡ length old → BeginsWithNeedle (drop at file) n → BeginsWithNeedle out n
 in_bytes at was total old out file head n is totals front read long begins =
     let was_is : was ≡ 36 = long ∙ length-head old head is in
     let whole : out ≡ take total (drop at file) = read (front ∙ ap (λ k. take k (drop at file)) (sym was_is)) in
     let same : head ≡ head_of_needle n = one_head old head (head_of_needle n) is (subst (λ (l : List ℕ). HeadBytes l (head_of_needle n)) (sym front) (head_first (drop at file) n begins)) in
     let size : head.size ≡ length n.photo.bytes = ap (λ x. x.size) same in
-    subst (λ (l : List ℕ). BeginsWithNeedle l n) (sym whole) (needle_in_front total (drop at file) n (omega (arith, ap total_of_lem size)) begins)
+    subst (λ (l : List ℕ). BeginsWithNeedle l n) (sym whole) (needle_in_front total (drop at file) n (omega (arith, ap needle_total size)) begins)
 
 -- the bytes that were read on are the needle of this head, if they begin with one
-pub is_needle_of : (was total : ℕ) (old out : List ℕ) (head : Head) (n : Needle) → HeadBytes old head → total ≡ total_of_lem head.size → take was out ≡ old → was ≡ length old → length out ≤ total
+pub is_needle_of : (was total : ℕ) (old out : List ℕ) (head : Head) (n : Needle) → HeadBytes old head → total ≡ needle_total head.size → take was out ≡ old → was ≡ length old → length out ≤ total
     → BeginsWithNeedle out n → NeedleBytes out n × (head ≡ head_of_needle n)
 is_needle_of was total old out head n is totals keeps long short begins =
     let was_is : was ≡ 36 = long ∙ length-head old head is in
     let first : take 36 out ≡ old = ap (λ k. take k out) (sym was_is) ∙ keeps in
     let same : head ≡ head_of_needle n = one_head old head (head_of_needle n) is (subst (λ (l : List ℕ). HeadBytes l (head_of_needle n)) first (head_first out n begins)) in
     let size : head.size ≡ length n.photo.bytes = ap (λ x. x.size) same in
-    (needle_alone out n (omega (arith, ap total_of_lem size)) begins, same)
+    (needle_alone out n (omega (arith, ap needle_total size)) begins, same)
 
 -- the first 36 bytes are as many as there are
 pub whole_front : (at was : ℕ) (old file : List ℕ) → was ≡ 36 → old ≡ take 36 (drop at file) → old ≡ take was (drop at file)
@@ -138,7 +138,7 @@ whole_front at was old file is front = front ∙ ap (λ k. take k (drop at file)
 pub cell_of : (at : ℕ) (head : CellHead) (bytes : List ℕ) (n : Needle) → head.at ≡ at → NeedleBytes bytes n → head_of_cell head ≡ head_of_needle n
     → (cell : Cell) × IsCellAt at bytes cell × (head ≡ cell_head cell)
 cell_of at head bytes n place is same =
-    (record { at = at; pair = n.pair; cookie = n.photo.cookie; bytes = n.photo.bytes; deleted = n.deleted }, record { place = refl; is = is }, read_head_is head at n place same)
+    (record { at = at; version = n.version; pair = n.pair; cookie = n.photo.cookie; bytes = n.photo.bytes; deleted = n.deleted }, record { place = refl; is = is }, read_head_is head at n place same)
 
 -- the head says its place, and the file is as it was
 pub stands_here : (at : ℕ) (head : CellHead) (front bytes file later : List ℕ) → head.at ≡ at → later ≡ file → front ≡ take 36 (drop at file) → (front ≡ take 36 (drop head.at later) → Stands head.at bytes later) → Stands at bytes file

@@ -4,14 +4,14 @@ use Rattle.std.proofs.lemmas.List.{take_at, drop_at, take-take, drop-take, drop-
 use Rattle.hay_needle.specs.declared.needle.Cell.{Cell}
 use Rattle.hay_needle.specs.declared.needle.Needle.{Needle}
 use Rattle.hay_needle.specs.Needle.{BeginsWithNeedle, needle_of_cell, needle_magic, head_bytes}
-use Rattle.hay_needle.specs.Sizes.{total_of_lem}
+use Rattle.hay_needle.specs.Sizes.{needle_total}
 use Rattle.hay_needle.proofs.Needles.{length-needle, one_needle}
 use Rattle.hay_disk.specs.Gate.{IsClosed, Stands, magic_bytes}
 use Rattle.hay_volume.specs.Cells.{HasCells, IsBrokenAt, StandsCell}
 
 -- the first cell, and the others behind it
 pub cells_first : (at end : ℕ) (file : List ℕ) (cell : Cell) (cells : List Cell) → HasCells at file (cell ∷ cells) end
-    → StandsCell at file cell × HasCells (at + total_of_lem (length cell.bytes)) file cells end
+    → StandsCell at file cell × HasCells (at + needle_total (length cell.bytes)) file cells end
 cells_first at end file cell cells has =
     let needle : List ℕ = has.are.0 in
     let rest : List ℕ = has.are.1 in
@@ -22,7 +22,7 @@ cells_first at end file cell cells has =
     let there : drop (length needle) (drop at file) ≡ drop (at + length needle) file = drop-drop (length needle) at file ∙ ap (λ n. drop n file) (omega arith) in
     let behind : Stands (at + length needle) rest file =
     ap (λ (l : List ℕ). take (length rest) l) (sym there) ∙ sym (drop-take (length needle) (length rest) (drop at file)) ∙ ap (λ (l : List ℕ). drop (length needle) l) stand ∙ drop_at needle rest (length needle) refl in
-    let total : length needle ≡ total_of_lem (length cell.bytes) = length-needle needle (needle_of_cell cell) has.are.3.is in
+    let total : length needle ≡ needle_total (length cell.bytes) = length-needle needle (needle_of_cell cell) has.are.3.is in
     let others : HasCells (at + length needle) file cells end = record { needles = rest; are = has.are.4; stand = behind; ends = omega (arith, whole, has.ends) } in
     (record { needle = needle; is = has.are.3; stand = here }, subst (λ n. HasCells (at + n) file cells end) total others)
 
@@ -58,11 +58,11 @@ same_needle at file c d here there = one_needle (drop at file) (needle_of_cell c
 
 pub same_cell : (at : ℕ) (file : List ℕ) (c d : Cell) → StandsCell at file c → StandsCell at file d → c ≡ d
 same_cell at file c d here there =
-    let with : ℕ → Needle → Cell = λ k n. record { at = k; pair = n.pair; cookie = n.photo.cookie; bytes = n.photo.bytes; deleted = n.deleted } in
+    let with : ℕ → Needle → Cell = λ k n. record { at = k; version = n.version; pair = n.pair; cookie = n.photo.cookie; bytes = n.photo.bytes; deleted = n.deleted } in
     ap (λ k. with k (needle_of_cell c)) (here.is.place ∙ sym there.is.place) ∙ ap (with d.at) (same_needle at file c d here there)
 
-same_total : (at : ℕ) (file : List ℕ) (c d : Cell) → StandsCell at file c → StandsCell at file d → total_of_lem (length d.bytes) ≡ total_of_lem (length c.bytes)
-same_total at file c d here there = ap (λ (n : Needle). total_of_lem (length n.photo.bytes)) (sym (same_needle at file c d here there))
+same_total : (at : ℕ) (file : List ℕ) (c d : Cell) → StandsCell at file c → StandsCell at file d → needle_total (length d.bytes) ≡ needle_total (length c.bytes)
+same_total at file c d here there = ap (λ (n : Needle). needle_total (length n.photo.bytes)) (sym (same_needle at file c d here there))
 
 -- the cells up to an end mark are the only ones
 pub one_reading : (at end other : ℕ) (file : List ℕ) (cells more : List Cell) → HasCells at file cells end → IsClosed needle_magic end file → HasCells at file more other → IsClosed needle_magic other file
@@ -77,8 +77,8 @@ one_reading at end other file (c ∷ cells) [] has closed again shut =
 one_reading at end other file (c ∷ cells) (d ∷ more) has closed again shut =
     let first = cells_first at end file c cells has in
     let second = cells_first at other file d more again in
-    let behind : HasCells (at + total_of_lem (length c.bytes)) file more other = subst (λ n. HasCells (at + n) file more other) (same_total at file c d first.0 second.0) second.1 in
-    let rest = one_reading (at + total_of_lem (length c.bytes)) end other file cells more first.1 closed behind shut in
+    let behind : HasCells (at + needle_total (length c.bytes)) file more other = subst (λ n. HasCells (at + n) file more other) (same_total at file c d first.0 second.0) second.1 in
+    let rest = one_reading (at + needle_total (length c.bytes)) end other file cells more first.1 closed behind shut in
     (ap (λ x. x ∷ cells) (same_cell at file c d first.0 second.0) ∙ ap (λ (l : List Cell). d ∷ l) rest.0, rest.1)
 
 -- and there is no damage among them
@@ -95,5 +95,5 @@ undamaged at end place file (c ∷ cells) [] has closed again broken =
 undamaged at end place file (c ∷ cells) (d ∷ more) has closed again broken =
     let first = cells_first at end file c cells has in
     let second = cells_first at place file d more again in
-    let behind : HasCells (at + total_of_lem (length c.bytes)) file more place = subst (λ n. HasCells (at + n) file more place) (same_total at file c d first.0 second.0) second.1 in
-    undamaged (at + total_of_lem (length c.bytes)) end place file cells more first.1 closed behind broken
+    let behind : HasCells (at + needle_total (length c.bytes)) file more place = subst (λ n. HasCells (at + n) file more place) (same_total at file c d first.0 second.0) second.1 in
+    undamaged (at + needle_total (length c.bytes)) end place file cells more first.1 closed behind broken

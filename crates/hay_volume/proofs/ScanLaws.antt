@@ -4,7 +4,7 @@ use Rattle.std.proofs.lemmas.Bool.{cases_lt}
 use Rattle.std.proofs.lemmas.List.{drop_all, take_all, drop-drop, get_or_past, length-append, map-append}
 use Rattle.std.proofs.Math.Seq.{take-add}
 use Rattle.std.specs.Prelude.{map, Option, Some, IfSome}
-use Rattle.hay_needle.specs.Sizes.{total_of_lem}
+use Rattle.hay_needle.specs.Sizes.{needle_total}
 use Rattle.hay_needle.proofs.Needles.{length-needle}
 use Rattle.std.specs.Bool.{OnTrue}
 use Rattle.hay_needle.specs.Fields.{number_at}
@@ -95,7 +95,7 @@ stands_more at xs ys file first second =
     ∙ ap (λ (l : List ℕ). take (length xs) (drop at file) ++ take (length ys) l) there ∙ ap (λ (l : List ℕ). l ++ take (length ys) (drop (at + length xs) file)) first ∙ ap (λ (l : List ℕ). xs ++ l) second
 
 -- one cell more
-pub more_cells : (at end next : ℕ) (file : List ℕ) (cells : List Cell) (cell : Cell) → HasCells at file cells end → StandsCell end file cell → next ≡ end + total_of_lem (length cell.bytes) → HasCells at file (cells ++ cell ∷ []) next
+pub more_cells : (at end next : ℕ) (file : List ℕ) (cells : List Cell) (cell : Cell) → HasCells at file cells end → StandsCell end file cell → next ≡ end + needle_total (length cell.bytes) → HasCells at file (cells ++ cell ∷ []) next
 more_cells at end next file cells cell has here is = record {
   needles = has.needles ++ here.needle;
   are = one_more at end has.needles here.needle cells cell has.are (sym has.ends) here.is;
@@ -103,18 +103,18 @@ more_cells at end next file cells cell has here is = record {
   ends = omega (arith, length-append has.needles here.needle, has.ends, length-needle here.needle (needle_of_cell cell) here.is.is);
 }
 
-pub one_scanned : (at end next : ℕ) (file : List ℕ) (heads : List CellHead) (head : CellHead) (cell : Cell) → IsScanned at file heads end → StandsCell end file cell → head ≡ cell_head cell → next ≡ end + total_of_lem head.size
+pub one_scanned : (at end next : ℕ) (file : List ℕ) (heads : List CellHead) (head : CellHead) (cell : Cell) → IsScanned at file heads end → StandsCell end file cell → head ≡ cell_head cell → next ≡ end + needle_total head.size
     → IsScanned at file (heads ++ head ∷ []) next
 one_scanned at end next file heads head cell before here is nexts = record {
   cells = before.cells ++ cell ∷ [];
-  has = more_cells at end next file before.cells cell before.has here (nexts ∙ ap (λ (h : CellHead). end + total_of_lem h.size) is);
+  has = more_cells at end next file before.cells cell before.has here (nexts ∙ ap (λ (h : CellHead). end + needle_total h.size) is);
   noted = ap (λ (l : List CellHead). l ++ head ∷ []) before.noted ∙ ap (λ (h : CellHead). map cell_head before.cells ++ h ∷ []) is ∙ sym (map-append cell_head before.cells (cell ∷ []));
 }
 
 -- a cell lies within its file
-pub cell_within : (at : ℕ) (file : List ℕ) (cell : Cell) (head : CellHead) → StandsCell at file cell → head ≡ cell_head cell → length file < 2 ^ 64 → at + total_of_lem head.size < 2 ^ 64
+pub cell_within : (at : ℕ) (file : List ℕ) (cell : Cell) (head : CellHead) → StandsCell at file cell → head ≡ cell_head cell → length file < 2 ^ 64 → at + needle_total head.size < 2 ^ 64
 cell_within at file cell head here is fits =
-    let long : length here.needle ≡ total_of_lem head.size = length-needle here.needle (needle_of_cell cell) here.is.is ∙ ap (λ (h : CellHead). total_of_lem h.size) (sym is) in
+    let long : length here.needle ≡ needle_total head.size = length-needle here.needle (needle_of_cell cell) here.is.is ∙ ap (λ (h : CellHead). needle_total h.size) (sym is) in
     omega (arith, long, ap length here.stand, length-take (length here.needle) (drop at file), length-drop at file)
 
 pub damaged_here : (at end k : ℕ) (file later : List ℕ) (heads : List CellHead) → IsScanned at file heads end → later ≡ file → k ≡ end → IsBrokenAt end later → IsDamagedAt at file k

@@ -6,31 +6,31 @@ use Rattle.hay_needle.specs.declared.needle.Cookie.{Cookie}
 use Rattle.hay_needle.specs.declared.needle.Pair.{Pair}
 use Rattle.hay_needle.specs.declared.needle.Needle.{Needle}
 use Rattle.hay_needle.specs.Needle.{live, needle_magic, AppendsBehindMagic, NeedleBytes, head_bytes}
-use Rattle.hay_needle.specs.Sizes.{total_of_lem}
+use Rattle.hay_needle.specs.Sizes.{needle_total}
 use Rattle.hay_needle.proofs.Needles.{length-needle}
 use Rattle.hay_disk.specs.Disk.{FileState, IsImage, IsSolid, IsSolidIn, Changes, overwrite}
 use Rattle.hay_disk.specs.Gate.{magic_bytes, record_of, end_mark, EndsInMark, IsLog, IsGate, LogGrows, LogStays}
 use Rattle.hay_disk.proofs.Logs.{log_kept, log_grows, not_mark}
-use Rattle.hay_volume.specs.Cells.{IsVolume, IsMarked, cell_of_needle, live_cell}
+use Rattle.hay_volume.specs.Cells.{IsVolume, IsMarked, live_cell}
 use Rattle.hay_volume.proofs.CellLaws.{one_more, volume_log, log_volume, length-superblock}
 
 -- what is written behind the magic: it ends in the end mark, and is as long as the needle
 pub ends_in_mark : (pair : Pair) (cookie : Cookie) (photo body : List ℕ) → AppendsBehindMagic [] body (live pair cookie photo) → EndsInMark body
 ends_in_mark pair cookie photo body made = (made.rest, made.grown)
 
-pub length-body : (pair : Pair) (cookie : Cookie) (photo body : List ℕ) → AppendsBehindMagic [] body (live pair cookie photo) → length body ≡ total_of_lem (length photo)
+pub length-body : (pair : Pair) (cookie : Cookie) (photo body : List ℕ) → AppendsBehindMagic [] body (live pair cookie photo) → length body ≡ needle_total (length photo)
 length-body pair cookie photo body made =
     omega (arith, ap length made.grown, length-append made.rest end_mark, length-append (magic_bytes needle_magic) made.rest, length-needle (record_of needle_magic made.rest) (live pair cookie photo) made.is)
 
 -- the log with the record is the volume file with the cell
 with_cell : (superblock file image : List ℕ) (cells : List Cell) (end : ℕ) (pair : Pair) (cookie : Cookie) (photo body : List ℕ) (made : AppendsBehindMagic [] body (live pair cookie photo))
     (is : IsVolume superblock file cells end) → IsLog needle_magic ((superblock ++ is.has.needles) ++ record_of needle_magic made.rest) image
-    → IsVolume superblock image (cells ++ live_cell end pair cookie photo ∷ []) (end + total_of_lem (length photo))
+    → IsVolume superblock image (cells ++ live_cell end pair cookie photo ∷ []) (end + needle_total (length photo))
 with_cell superblock file image cells end pair cookie photo body made is log =
     let needles = is.has.needles in
     let needle = record_of needle_magic made.rest in
-    let long : length needle ≡ total_of_lem (length photo) = length-needle needle (live pair cookie photo) made.is in
-    log_volume superblock (needles ++ needle) image (cells ++ live_cell end pair cookie photo ∷ []) (end + total_of_lem (length photo))
+    let long : length needle ≡ needle_total (length photo) = length-needle needle (live pair cookie photo) made.is in
+    log_volume superblock (needles ++ needle) image (cells ++ live_cell end pair cookie photo ∷ []) (end + needle_total (length photo))
     (length-superblock superblock file cells end is)
     (omega (arith, length-append needles needle, is.has.ends, long))
     (one_more 64 end needles needle cells (live_cell end pair cookie photo) is.has.are (sym is.has.ends) (record { place = refl; is = made.is }))
@@ -39,7 +39,7 @@ with_cell superblock file image cells end pair cookie photo body made is log =
 front_length : (superblock file : List ℕ) (cells : List Cell) (end : ℕ) (is : IsVolume superblock file cells end) → length (superblock ++ is.has.needles) ≡ end
 front_length superblock file cells end is = omega (arith, length-append superblock is.has.needles, is.has.ends, length-superblock superblock file cells end is)
 
-pub volume_grows : (superblock old new : List ℕ) (cells : List Cell) (end need : ℕ) (pair : Pair) (cookie : Cookie) (photo body : List ℕ) → need ≡ total_of_lem (length photo)
+pub volume_grows : (superblock old new : List ℕ) (cells : List Cell) (end need : ℕ) (pair : Pair) (cookie : Cookie) (photo body : List ℕ) → need ≡ needle_total (length photo)
     → AppendsBehindMagic [] body (live pair cookie photo) → LogGrows needle_magic end body old new → IsVolume superblock old cells end
     → IsVolume superblock new (cells ++ live_cell end pair cookie photo ∷ []) (end + need)
 volume_grows superblock old new cells end need pair cookie photo body needs made grows is =
@@ -54,7 +54,7 @@ without_cell superblock file image cells end is log =
 
 pub volume_stays : (superblock : List ℕ) (old new : FileState) (image : List ℕ) (cells : List Cell) (end : ℕ) (pair : Pair) (cookie : Cookie) (photo body : List ℕ) → AppendsBehindMagic [] body (live pair cookie photo)
     → LogStays needle_magic end body old new → IsVolume superblock old.now cells end → IsSolidIn 0 end old → IsImage new image
-    → IsVolume superblock image cells end ⊎ IsVolume superblock image (cells ++ live_cell end pair cookie photo ∷ []) (end + total_of_lem (length photo))
+    → IsVolume superblock image cells end ⊎ IsVolume superblock image (cells ++ live_cell end pair cookie photo ∷ []) (end + needle_total (length photo))
 volume_stays superblock old new image cells end pair cookie photo body made stays is solid leaves =
     ⊎_elim
     (λ log. inl (without_cell superblock old.now image cells end is log))
@@ -108,22 +108,22 @@ unfolding head_bytes
 magic_and_rest needle n is =
     sym (take-append-drop 8 needle) ∙ ap (λ (l : List ℕ). l ++ drop 8 needle) (ap (λ (l : List ℕ). take 8 l) is.spelled)
 
-pub length-marked : (bytes : List ℕ) (n : Needle) → IsMarked bytes n → length bytes ≡ total_of_lem (length n.photo.bytes) + 8
+pub length-marked : (bytes : List ℕ) (n : Needle) → IsMarked bytes n → length bytes ≡ needle_total (length n.photo.bytes) + 8
 length-marked bytes n marked = omega (arith, ap length marked.parts, length-append marked.needle end_mark, length-needle marked.needle n marked.is)
 
-pub needle_grows : (superblock bytes old new : List ℕ) (cells : List Cell) (end : ℕ) (n : Needle) → IsMarked bytes n → new ≡ overwrite end bytes old → IsVolume superblock old cells end
-    → IsVolume superblock new (cells ++ cell_of_needle end n ∷ []) (end + (length bytes - 8))
-needle_grows superblock bytes old new cells end n marked written is =
+pub needle_grows : (superblock bytes old new : List ℕ) (cells : List Cell) (end : ℕ) (pair : Pair) (cookie : Cookie) (photo : List ℕ) → IsMarked bytes (live pair cookie photo) → new ≡ overwrite end bytes old → IsVolume superblock old cells end
+    → IsVolume superblock new (cells ++ live_cell end pair cookie photo ∷ []) (end + (length bytes - 8))
+needle_grows superblock bytes old new cells end pair cookie photo marked written is =
     let needle : List ℕ = marked.needle in
     let rest : List ℕ = drop 8 needle in
-    let split : needle ≡ record_of needle_magic rest = magic_and_rest needle n marked.is in
+    let split : needle ≡ record_of needle_magic rest = magic_and_rest needle (live pair cookie photo) marked.is in
     let whole : bytes ≡ record_of needle_magic (rest ++ end_mark) =
     marked.parts ∙ ap (λ (l : List ℕ). l ++ end_mark) split ∙ append_assoc (magic_bytes needle_magic) rest end_mark in
     let grows = log_grows needle_magic end (rest ++ end_mark) old new (lit< tt) (lit< tt) (written ∙ ap (λ (l : List ℕ). overwrite end l old) whole) in
     let log = grows.longer (superblock ++ is.has.needles) rest (front_length superblock old cells end is) refl (volume_log superblock old cells end is) in
     let longer : IsLog needle_magic ((superblock ++ is.has.needles) ++ needle) new = subst (λ (l : List ℕ). IsLog needle_magic ((superblock ++ is.has.needles) ++ l) new) (sym split) log in
-    log_volume superblock (is.has.needles ++ needle) new (cells ++ cell_of_needle end n ∷ []) (end + (length bytes - 8))
+    log_volume superblock (is.has.needles ++ needle) new (cells ++ live_cell end pair cookie photo ∷ []) (end + (length bytes - 8))
     (length-superblock superblock old cells end is)
     (omega (arith, length-append is.has.needles needle, is.has.ends, ap length marked.parts, length-append needle end_mark))
-    (one_more 64 end is.has.needles needle cells (cell_of_needle end n) is.has.are (sym is.has.ends) (record { place = refl; is = marked.is }))
+    (one_more 64 end is.has.needles needle cells (live_cell end pair cookie photo) is.has.are (sym is.has.ends) (record { place = refl; is = marked.is }))
     (subst (λ (l : List ℕ). IsLog needle_magic l new) (append_assoc superblock is.has.needles needle) longer)

@@ -5,6 +5,7 @@ use Rattle.hay_needle.specs.declared.needle.CellHead.{CellHead}
 use Rattle.hay_needle.specs.declared.needle.Cookie.{Cookie}
 use Rattle.hay_needle.specs.declared.needle.Needle.{Needle}
 use Rattle.hay_needle.specs.declared.needle.Pair.{Pair}
+use Rattle.hay_needle.specs.declared.needle.Version.TheVariants.{Two}
 use Rattle.hay_needle.specs.Needle.{needle_magic, needle_of_cell, NeedleBytes, BeginsWithNeedle}
 use Rattle.hay_disk.specs.Gate.{magic_bytes, IsClosed, Stands, end_mark}
 
@@ -51,13 +52,9 @@ pub record IsDamagedAt (from : ℕ) (file : List ℕ) (at : ℕ) : Type 0 where
   pub lead : HasCells from file cells at
   pub broken : IsBrokenAt at file
 
--- the cell of a photo that is not deleted
+-- the cell of a new photo: of version 2, and not deleted
 abbrev pub live_cell : ℕ → Pair → Cookie → List ℕ → Cell
-live_cell at pair cookie photo = record { at = at; pair = pair; cookie = cookie; bytes = photo; deleted = false }
-
--- the cell of a needle that stands at `at`
-abbrev pub cell_of_needle : ℕ → Needle → Cell
-cell_of_needle at n = record { at = at; pair = n.pair; cookie = n.photo.cookie; bytes = n.photo.bytes; deleted = n.deleted }
+live_cell at pair cookie photo = record { at = at; version = Two; pair = pair; cookie = cookie; bytes = photo; deleted = false }
 
 -- the bytes are this needle and the end mark behind it
 pub record IsMarked (bytes : List ℕ) (n : Needle) : Type 0 where
@@ -80,4 +77,4 @@ needles_of cells = map needle_of_cell cells
 
 -- a cell without its bytes
 abbrev pub cell_head : Cell → CellHead
-cell_head cell = record { at = cell.at; pair = cell.pair; cookie = cell.cookie; size = length cell.bytes; deleted = cell.deleted }
+cell_head cell = record { at = cell.at; version = cell.version; pair = cell.pair; cookie = cell.cookie; size = length cell.bytes; deleted = cell.deleted }

@@ -5,7 +5,7 @@ ghost use Rattle.hay_disk.specs.Counts.{IsCounted};
 ghost use Rattle.hay_disk.specs.Disk.{KeepsOthers};
 ghost use Rattle.hay_disk.specs.Gate.{Stands};
 ghost use Rattle.hay_needle.specs.Needle.{BeginsWithNeedle, HeadBytes, NeedleBytes, head_of_cell, head_of_needle};
-ghost use Rattle.hay_needle.specs.Sizes.{total_of_lem};
+ghost use Rattle.hay_needle.specs.Sizes.{needle_total};
 ghost use Rattle.hay_needle.specs.declared.needle.Cell.{Cell};
 ghost use Rattle.hay_needle.specs.declared.needle.Needle.{Needle};
 ghost use Rattle.hay_volume.specs.Cells.{IsCellAt, cell_head};
@@ -13,7 +13,7 @@ ghost use Rattle.hay_volume.specs.Cells.{IsCellAt, cell_head};
 use crate::fault::CellFault;
 use crate::volume::VolumeFile;
 use hay_disk::{Disk, DiskFault, Failed};
-use hay_needle::{CellHead, HEAD_LEN, read_head, read_needle, total_of};
+use hay_needle::{CellHead, HEAD_LEN, MAX_NEEDLE, read_head, read_needle, total_of};
 
 impl VolumeFile {
     /// Reads the cell that stands at `at`. `out` then has its whole needle, and nothing else.
@@ -35,10 +35,10 @@ impl VolumeFile {
 
         ensures no_memory { IsErrOf result CellFault.NoMemory → out.new.items ≡ out.old.items }
         // Room that was reserved is enough.
-        ensures full { IsErrOf result CellFault.NoMemory → vec_capacity out.old < vec_len out.old + 1048624 }
+        ensures full { IsErrOf result CellFault.NoMemory → vec_capacity out.old < vec_len out.old + MAX_NEEDLE }
 
         ensures same { D.Tells → D.files disk.new ≡ D.files disk.old }
-        ensures drawn { D.Tells → IfOk result (λ head. D.drawn disk.new self.now.file ≤ D.drawn disk.old self.now.file + total_of_lem head.size) }
+        ensures drawn { D.Tells → IfOk result (λ head. D.drawn disk.new self.now.file ≤ D.drawn disk.old self.now.file + needle_total head.size) }
         ensures drawn_others { D.Tells → KeepsOthers self.now.file (D.drawn disk.old) (D.drawn disk.new) }
         ensures counted { IsCounted (D.fault_count disk.old) (D.fault_count disk.new) (IsErrOf result CellFault.Failed) }
         ensures fuses { D.fuse_count disk.new ≡ D.fuse_count disk.old }
@@ -71,9 +71,9 @@ pub(crate) fn read_rest<D: Disk>(
     ensures place { (k : ℕ) → result ≡ Err (CellFault.Damaged k) → k ≡ head.at }
     ensures damaged { D.Tells → bytes.old.items ≡ take 36 (drop head.at (D.files disk.old file).now) → IsErrOf result (CellFault.Damaged head.at)
         → (n : Needle) → BeginsWithNeedle (drop head.at (D.files disk.old file).now) n → ⊥ }
-    ensures longer { IsErrOf result CellFault.NoMemory → vec_capacity bytes.old < total_of_lem head.size }
+    ensures longer { IsErrOf result CellFault.NoMemory → vec_capacity bytes.old < needle_total head.size }
     ensures same { D.Tells → D.files disk.new ≡ D.files disk.old }
-    ensures drawn { D.Tells → D.drawn disk.new file + 36 ≤ D.drawn disk.old file + total_of_lem head.size }
+    ensures drawn { D.Tells → D.drawn disk.new file + 36 ≤ D.drawn disk.old file + needle_total head.size }
     ensures drawn_others { D.Tells → KeepsOthers file (D.drawn disk.old) (D.drawn disk.new) }
     ensures counted { IsCounted (D.fault_count disk.old) (D.fault_count disk.new) (IsErrOf result CellFault.Failed) }
     ensures fuses { D.fuse_count disk.new ≡ D.fuse_count disk.old }

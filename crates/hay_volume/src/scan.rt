@@ -6,7 +6,7 @@ ghost use Rattle.hay_disk.specs.Counts.{IsCounted};
 ghost use Rattle.hay_disk.specs.Disk.{KeepsOthers};
 ghost use Rattle.hay_disk.specs.Gate.{IsClosed, magic_bytes};
 ghost use Rattle.hay_needle.specs.Needle.{BeginsWithNeedle, needle_magic};
-ghost use Rattle.hay_needle.specs.Sizes.{total_of_lem};
+ghost use Rattle.hay_needle.specs.Sizes.{needle_total};
 ghost use Rattle.hay_needle.specs.declared.needle.Cell.{Cell};
 ghost use Rattle.hay_needle.specs.declared.needle.Needle.{Needle};
 ghost use Rattle.hay_volume.specs.Cells.{HasCells, IsBrokenAt, IsDamagedAt, StandsCell, cell_head};
@@ -63,7 +63,7 @@ fn read_cell<D: Disk>(
     ensures damaged { D.Tells → bytes.old.items ≡ take 8 (drop at (D.files disk.old file).now) → IsErrOf result (CellFault.Damaged at)
         → (n : Needle) → BeginsWithNeedle (drop at (D.files disk.old file).now) n → ⊥ }
     ensures same { D.Tells → D.files disk.new ≡ D.files disk.old }
-    ensures drawn { D.Tells → IfOk result (λ head. D.drawn disk.new file + 8 ≤ D.drawn disk.old file + total_of_lem head.size) }
+    ensures drawn { D.Tells → IfOk result (λ head. D.drawn disk.new file + 8 ≤ D.drawn disk.old file + needle_total head.size) }
     ensures drawn_others { D.Tells → KeepsOthers file (D.drawn disk.old) (D.drawn disk.new) }
     ensures counted { IsCounted (D.fault_count disk.old) (D.fault_count disk.new) (IsErrOf result CellFault.Failed) }
     ensures fuses { D.fuse_count disk.new ≡ D.fuse_count disk.old }
@@ -87,7 +87,7 @@ fn next_cell<D: Disk>(
     ensures mark { D.Tells → IfOk result (λ next. IfNone next (IsClosed needle_magic at (D.files disk.old file).now)) }
     ensures damaged { D.Tells → (k : ℕ) → result ≡ Err (CellFault.Damaged k) → (k ≡ at) × IsBrokenAt at (D.files disk.old file).now }
     ensures same { D.Tells → D.files disk.new ≡ D.files disk.old }
-    ensures drawn_cell { D.Tells → IfOk result (λ next. IfSome next (λ head. D.drawn disk.new file ≤ D.drawn disk.old file + total_of_lem head.size)) }
+    ensures drawn_cell { D.Tells → IfOk result (λ next. IfSome next (λ head. D.drawn disk.new file ≤ D.drawn disk.old file + needle_total head.size)) }
     ensures drawn_mark { D.Tells → IfOk result (λ next. IfNone next (D.drawn disk.new file ≤ D.drawn disk.old file + 8)) }
     ensures drawn_others { D.Tells → KeepsOthers file (D.drawn disk.old) (D.drawn disk.new) }
     ensures counted { IsCounted (D.fault_count disk.old) (D.fault_count disk.new) (IsErrOf result CellFault.Failed) }

@@ -4,17 +4,18 @@ ghost use Rattle.std.specs.Prelude.{◌≡◌, ◌⊎◌, ◌≤◌, ◌<◌, �
 ghost use Rattle.hay_disk.specs.Counts.{IsCounted};
 ghost use Rattle.hay_disk.specs.Disk.{IsImage, IsSolid, IsSolidIn, IsFreeIn, Changes, KeepsOthers, overwrite};
 ghost use Rattle.hay_disk.specs.Gate.{IsGate, end_mark};
-ghost use Rattle.hay_needle.specs.Needle.{needle_magic};
-ghost use Rattle.hay_needle.specs.Sizes.{total_of_lem};
+ghost use Rattle.hay_needle.specs.Needle.{live, needle_magic};
+ghost use Rattle.hay_needle.specs.Sizes.{needle_total};
 ghost use Rattle.hay_needle.specs.Super.{super_bytes};
 ghost use Rattle.hay_needle.specs.declared.needle.Cell.{Cell};
-ghost use Rattle.hay_needle.specs.declared.needle.Needle.{Needle};
-ghost use Rattle.hay_volume.specs.Cells.{IsMarked, IsVolume, cell_of_needle, live_cell};
+ghost use Rattle.hay_needle.specs.declared.needle.Cookie.{Cookie};
+ghost use Rattle.hay_needle.specs.declared.needle.Pair.{Pair};
+ghost use Rattle.hay_volume.specs.Cells.{IsMarked, IsVolume, live_cell};
 
 use crate::fault::VolumeFault;
 use hay_disk::{Disk, DiskFault, gate_append};
 use hay_needle::{
-    Cookie, NEEDLE_MAGIC, Pair, SUPER_LEN, Super, encode_rest, total_of, write_super,
+    Cookie, MAX_PHOTO, NEEDLE_MAGIC, Pair, SUPER_LEN, Super, encode_rest, total_of, write_super,
 };
 use std::alloc::Global;
 
@@ -87,7 +88,7 @@ impl VolumeFile {
         self.capacity
     }
 
-    /// Adds the cell of a photo at the end, and answers its place. All of it is on the disk then.
+    /// Adds the cell of a photo at the end, in version 2, and answers its place. All of it is on the disk then.
     /// A value whose append failed must not be used for another.
     pub fn append<D: Disk>(
         &mut self,
@@ -97,18 +98,18 @@ impl VolumeFile {
         cookie: Cookie,
         bytes: &[u8],
     ) -> Result<u64, VolumeFault>
-        requires size { length bytes.now ≤ 1048576 }
+        requires size { length bytes.now ≤ MAX_PHOTO }
         requires gate { D.Tells → IsGate needle_magic self.old.end (D.files disk.old self.old.file) }
 
         // `Full` comes exactly where the needle and the end mark do not fit, and it comes first.
-        ensures full { let need = total_of_lem (length bytes.now) in self.old.capacity < self.old.end + need + 8
+        ensures full { let need = needle_total (length bytes.now) in self.old.capacity < self.old.end + need + 8
             → result ≡ Err (VolumeFault.Full self.old.end need self.old.capacity) }
-        ensures room { self.old.end + total_of_lem (length bytes.now) + 8 ≤ self.old.capacity
+        ensures room { self.old.end + needle_total (length bytes.now) + 8 ≤ self.old.capacity
             → IfErr result (λ fault. (fault ≡ VolumeFault.Failed) ⊎ (fault ≡ VolumeFault.NoMemory)) }
 
         // A refusal leaves the value as it was, and but for `Failed` the files too.
         ensures place { IfOk result (λ at. at ≡ self.old.end) }
-        ensures moved { OnOk result (self.new ≡ record self.old { end = self.old.end + total_of_lem (length bytes.now) }) }
+        ensures moved { OnOk result (self.new ≡ record self.old { end = self.old.end + needle_total (length bytes.now) }) }
         ensures stayed { OnErr result (self.new ≡ self.old) }
         ensures kept { D.Tells → IfErr result (λ fault. (fault ≡ VolumeFault.Failed → ⊥) → D.files disk.new ≡ D.files disk.old) }
 
@@ -125,9 +126,9 @@ impl VolumeFile {
             IsSolidIn 0 self.old.end (D.files disk.old self.old.file) →
             IsImage (D.files disk.new self.old.file) image →
             IsVolume superblock image cells self.old.end
-            ⊎ IsVolume superblock image (cells ++ live_cell self.old.end pair cookie bytes.now ∷ []) (self.old.end + total_of_lem (length bytes.now)) }
+            ⊎ IsVolume superblock image (cells ++ live_cell self.old.end pair cookie bytes.now ∷ []) (self.old.end + needle_total (length bytes.now)) }
 
-        ensures changes { D.Tells → Changes self.old.end (total_of_lem (length bytes.now) + 8) (D.files disk.old self.old.file) (D.files disk.new self.old.file) }
+        ensures changes { D.Tells → Changes self.old.end (needle_total (length bytes.now) + 8) (D.files disk.old self.old.file) (D.files disk.new self.old.file) }
         ensures others { D.Tells → KeepsOthers self.old.file (D.files disk.old) (D.files disk.new) }
         ensures drawn { D.Tells → (n : ℕ) → D.drawn disk.new n ≡ D.drawn disk.old n }
         ensures counted { IsCounted (D.fault_count disk.old) (D.fault_count disk.new) (IsErrOf result VolumeFault.Failed) }
@@ -149,11 +150,11 @@ impl VolumeFile {
         Ok(at)
     }
 
-    /// Writes a needle at the end and the end mark behind it, which `needle` both has, in one write, and answers the
-    /// needle's place. It does not sync, so the file must not be a current one.
+    /// Writes a live needle of version 2 at the end and the end mark behind it, which `needle` both has, in one write,
+    /// and answers the needle's place. It does not sync, so the file must not be a current one.
     /// A value whose append failed must not be used for another.
     pub fn append_loose<D: Disk>(&mut self, disk: &mut D, needle: &[u8]) -> Result<u64, VolumeFault>
-        requires marked { (n : Needle) × IsMarked needle.now n }
+        requires marked { (pair : Pair) × (cookie : Cookie) × (photo : List ℕ) × IsMarked needle.now (live pair cookie photo) }
         requires inside { D.Tells → self.old.end ≤ length (D.files disk.old self.old.file).now }
         requires free { D.Tells → IsFreeIn self.old.end (length needle.now) (D.files disk.old self.old.file) }
 
@@ -170,10 +171,10 @@ impl VolumeFile {
         ensures kept { D.Tells → IfErr result (λ fault. (fault ≡ VolumeFault.Failed → ⊥) → D.files disk.new ≡ D.files disk.old) }
 
         // At `Ok` the file has one more cell.
-        ensures added { D.Tells → OnOk result ((superblock : List ℕ) (cells : List Cell) (n : Needle) →
-            IsMarked needle.now n →
+        ensures added { D.Tells → OnOk result ((superblock : List ℕ) (cells : List Cell) (pair : Pair) (cookie : Cookie) (photo : List ℕ) →
+            IsMarked needle.now (live pair cookie photo) →
             IsVolume superblock (D.files disk.old self.old.file).now cells self.old.end →
-            IsVolume superblock (D.files disk.new self.old.file).now (cells ++ cell_of_needle self.old.end n ∷ []) self.new.end) }
+            IsVolume superblock (D.files disk.new self.old.file).now (cells ++ live_cell self.old.end pair cookie photo ∷ []) self.new.end) }
 
         ensures changes { D.Tells → Changes self.old.end (length needle.now) (D.files disk.old self.old.file) (D.files disk.new self.old.file) }
         ensures others { D.Tells → KeepsOthers self.old.file (D.files disk.old) (D.files disk.new) }

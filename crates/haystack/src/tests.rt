@@ -9,6 +9,7 @@ mod compactions;
 mod damage;
 mod devices;
 mod faults;
+mod versions;
 
 use cases::CASES;
 use hay_disk::Shelf;
@@ -77,9 +78,10 @@ fn sizes_are_exact(rt: HostRuntime) -> Result<(), Fail> {
     assert_eq!(rt; outcome.status, 0);
     assert_eq!(rt;
         outcome.written.as_slice(),
-        b"haystack 1 1 1 67108864\n1 stored 0 1 1 903df1a0ade0b876\n2 stored 0 2 2 903df1a0ade0b876\n3 bad line\n4 photo 0 0 2 2 -\n5 photo 0 0 2 2 x1048576:61\n".as_slice()
+        b"haystack 1 1 1 67108864\n1 stored 0 1 1 903df1a0ade0b876\n2 stored 0 2 2 903df1a0ade0b876\n3 stored 0 3 3 903df1a0ade0b876\n4 photo 0 0 3 3 -\n5 photo 0 0 3 3 x1048576:61\n".as_slice()
     );
-    assert_eq!(rt; outcome.file_len, 1_048_744);
+    // 64 + 48 + 1,048,624 + 1,048,632 + 8
+    assert_eq!(rt; outcome.file_len, 2_097_376);
     let padded = b"put 0 1 x1:61\nput 0 2 x7:61\nput 0 3 x8:61\nput 0 4 x9:61\n";
     let outcome = outcome_of(rt.alloc(), &["run"], padded, 4096)?;
     assert_eq!(rt;
@@ -87,6 +89,41 @@ fn sizes_are_exact(rt: HostRuntime) -> Result<(), Fail> {
         b"haystack 1 1 1 67108864\n1 stored 0 1 1 903df1a0ade0b876\n2 stored 0 2 2 903df1a0ade0b876\n3 stored 0 3 3 903df1a0ade0b876\n4 stored 0 4 4 903df1a0ade0b876\n".as_slice()
     );
     assert_eq!(rt; outcome.file_len, 304);
+    Ok(())
+}
+
+#[test]
+fn the_largest_photo_is_stored_whole(rt: HostRuntime) -> Result<(), Fail> {
+    let script = b"put 0 1 x16777216:61\nput 0 2 x16777217:61\nread 0 1 903df1a0ade0b876\n";
+    let outcome = outcome_of(rt.alloc(), &["run"], script, 4096)?;
+    assert_eq!(rt; outcome.status, 0);
+    assert_eq!(rt;
+        outcome.written.as_slice(),
+        b"haystack 1 1 1 67108864\n1 stored 0 1 1 903df1a0ade0b876\n2 bad line\n3 photo 0 0 1 1 x16777216:61\n".as_slice()
+    );
+    // 64 + 16,777,264 + 8
+    assert_eq!(rt; outcome.file_len, 16_777_336);
+    Ok(())
+}
+
+/// The digits of the largest photo, in a line of 33,554,560 bytes and in one of a byte more.
+#[test]
+fn the_longest_line_is_read(rt: HostRuntime) -> Result<(), Fail> {
+    let mut script = Vec::new(rt.alloc());
+    for (head, spaces) in [("put 0 1 ", 120), ("put 0 2 ", 121)] {
+        script.extend_from_slice(head.as_bytes())?;
+        script.resize(script.len() + 33_554_432, b'6')?;
+        script.resize(script.len() + spaces, b' ')?;
+        script.push(b'\n')?;
+    }
+    script.extend_from_slice(b"read 0 1 903df1a0ade0b876\n")?;
+    let outcome = outcome_of(rt.alloc(), &["run"], script.as_slice(), 65_536)?;
+    assert_eq!(rt; outcome.status, 0);
+    assert_eq!(rt;
+        outcome.written.as_slice(),
+        b"haystack 1 1 1 67108864\n1 stored 0 1 1 903df1a0ade0b876\n2 bad line\n3 photo 0 0 1 1 x16777216:66\n".as_slice()
+    );
+    assert_eq!(rt; outcome.file_len, 16_777_336);
     Ok(())
 }
 
@@ -321,7 +358,7 @@ fn damage_is_told_at_its_place(rt: HostRuntime) -> Result<(), Fail> {
     let (status, written) = damaged(
         alloc,
         100,
-        b"bNEND\xca\x97\x81\x12\xca\x1b\xbd\xca\0\0\0\0\0\0\0\0\0\0\0\0\0\0\0\0",
+        b"bNEND\xdf\xbb\x28\xe7\xd8\x1a\xfc\xfe\0\0\0\0\0\0\0\0\0\0\0\0\0\0\0\0",
     )?;
     assert_eq!(rt; status, 6);
     assert_eq!(rt;

@@ -15,7 +15,7 @@ returns c =
       | then-is_same+then-lacks w ↦
           let a : pair_eq n.pair q ≡ true = cc in
           let b : lacks q behind ≡ true = cc in
-          let d : record { pair = n.pair; photo = n.photo; deleted = true } ≡ c.if-is_same.copy = cc (c.in_ok-copy.ensures.same) in
+          let d : record n { deleted = true } ≡ c.if-is_same.copy = cc (c.in_ok-copy.ensures.same) in
           flag_here q n behind a b ∙ ap (λ (x : Needle). x ∷ flag_last q behind) d
       | else-is_same w ↦
           let d : n ≡ c.if-is_same.copy = cc (c.in_ok-copy.ensures.same) in

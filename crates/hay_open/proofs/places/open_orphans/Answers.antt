@@ -1,5 +1,6 @@
 use Rattle.std.proofs.Common.{◌≡◌, ◌+◌, ◌≤◌, false, List, length, get_or, drop, refl, ap, sym, subst, ◌∙◌, arith, length-drop}
 use Rattle.hay_needle.specs.declared.needle.CellHead.{CellHead}
+use Rattle.hay_needle.specs.declared.needle.Version.TheVariants.{One}
 use Rattle.hay_volume.specs.Cells.{StandsCell}
 use Rattle.hay_index.specs.Records.{place_behind}
 use Rattle.hay_open.specs.Listing.{ArePlaced, head_record}
@@ -11,7 +12,7 @@ use Rattle.hay_open.proofs.PlaceLaws.{all_placed, place_step}
 use Rattle.hay_open.proofs.places.open_orphans.Goals as goal
 
 none : CellHead
-none = record { at = 0; pair = record { key = 0; alt = 0 }; cookie = record { 0 = 0 }; size = 0; deleted = false }
+none = record { at = 0; version = One; pair = record { key = 0; alt = 0 }; cookie = record { 0 = 0 }; size = 0; deleted = false }
 
 pub loop-head-init : goal.loop-head-init
 loop-head-init g c =

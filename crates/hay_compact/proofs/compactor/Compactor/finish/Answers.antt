@@ -1,10 +1,12 @@
 use Rattle.std.proofs.Common.{◌≡◌, ◌∙◌, ap, arith, subst, sym}
 use Rattle.hay_index.specs.declared.index.IndexFile.{IndexFile}
 use Rattle.hay_volume.specs.declared.volume.VolumeFile.{VolumeFile}
-use Rattle.hay_open.specs.Stored.{VolumeRests}
+use Rattle.hay_needle.specs.Super.{super_bytes}
+use Rattle.hay_volume.specs.Cells.{IsVolume}
+use Rattle.hay_open.specs.Stored.{VolumeRests, volume_super}
 use Rattle.hay_compact.specs.Copying.{IsMaking, Making, Stage, stored_of}
 use Rattle.hay_compact.specs.Finishing.{IsFinished}
-use Rattle.hay_compact.proofs.Finishes.{files_apart, finished_of, ready_to_seal}
+use Rattle.hay_compact.proofs.Finishes.{all_anew, files_apart, finished_of, ready_to_seal}
 use Rattle.hay_compact.proofs.compactor.Compactor.finish.Goals as goal
 
 pub seal_all-requires-clause-ready : goal.seal_all-requires-clause-ready
@@ -61,3 +63,21 @@ returns-clause-finished g c = λ tells sup fresh making.
     (c.adopt.ensures ∙ ap (λ k. let v : VolumeFile = record { file = k; end = c.end.result; capacity = s.capacity } in v) file ∙ ap (λ k. let v : VolumeFile = record { file = s.volume.file; end = k; capacity = s.capacity } in v) c.end.ensures)
     c.in_ok-flush_loose.ensures.moved (c.in_ok-flush_loose.ensures.added tells) (c.flush_loose.ensures.changes tells).free
     (c.sync.ensures.keeps tells) (c.in_ok-sync.ensures.solid tells) last rests (c.in_ok-places.ensures.places tells sup (stored_of s fresh) can noted))
+
+pub returns-clause-anew : goal.returns-clause-anew
+returns-clause-anew g c = λ tells superblock cells end is.
+    let files = g.D.Disk.files in
+    let s : Stage = record { generation = c.self.inside.generation; capacity = c.self.inside.capacity; volume = c.self.inside.volume; index = c.self.inside.index; standing = c.self.inside.standing; next = c.self.inside.next; bytes = c.self.inside.bytes.items } in
+    let under = subst (λ (x : Stage). IsMaking (files c.args.disk.now) x) (sym c.self.view_is) (c.requires tells) in
+    let h = under.making in
+    let apart = files_apart under.sup (files c.args.disk.now) s under.fresh h in
+    let file = c.file-file.ensures in
+    let index : c.flush_loose.new.self.file ≡ s.index.file = ap (λ (i : IndexFile). i.file) c.in_ok-flush_loose.ensures.moved in
+    let stays : (files c.sync.new.self) c.file-file.result ≡ (files c.args.disk.now) c.file-file.result =
+    c.sync.ensures.others tells c.file-file.result (λ e. apart (sym (sym file ∙ e ∙ index))) ∙ c.flush_loose.ensures.others tells c.file-file.result (λ e. apart (sym (sym file ∙ e))) in
+    let can = ready_to_seal under.sup (files c.args.disk.now) (files c.sync.new.self) (files c.sync-2.new.self) s under.fresh c.file-file.result h file stays (c.sync-2.ensures.keeps tells) (c.in_ok-sync-2.ensures.solid tells) in
+    let noted = c.as_slice-2.ensures.value ∙ c.in_ok-records.ensures.items ∙ c.as_slice.ensures ∙ h.noted in
+    let rests = c.seal_all.ensures.rests tells under.sup (stored_of s under.fresh) can.rests noted in
+    let here : c.adopt.result.file ≡ c.file-file.result = ap (λ (v : VolumeFile). v.file) c.adopt.ensures in
+    all_anew superblock (super_bytes (volume_super under.sup s.generation)) ((files c.seal_all.new.disk) c.file-file.result).now cells under.fresh end s.volume.end
+    (subst (λ k. IsVolume superblock ((files c.seal_all.new.disk) k).now cells end) here is) rests.is h.anew

@@ -4,7 +4,7 @@ use Rattle.std.proofs.lemmas.Result.{err_from_is_err_and}
 use Rattle.hay_volume.proofs.ReadLaws.{same_fault}
 use Rattle.hay_compact.specs.Copying.{IsCopy, Stage}
 use Rattle.hay_needle.specs.declared.needle.Cell.{Cell}
-use Rattle.hay_compact.proofs.Copyings.{has_next, no_damage, read_cell, has_room, copy_of, peeked_of}
+use Rattle.hay_compact.proofs.Copyings.{has_next, no_damage, read_cell, has_room, peeked_of}
 use Rattle.hay_compact.proofs.compactor.Compactor.peek.Goals as goal
 
 pub returns-then-ready-clause-all : goal.returns-then-ready-clause-all
@@ -36,8 +36,8 @@ returns-clause-peeked g c =
     let cell = c.in_ok-head.ensures.cell in
     let enough = c.if-room-total_of.false in
     let total = c.total_of.ensures in
-    peeked_of c.self.inside.next c.args.old.now.end c.saturating_sub-room.result c.saturating_add.result c.cell_at.new.out.items c.extend_from_slice.new.self.items c.in_ok-head.head cell.0
-    c.in_ok-extend_from_slice.ensures.items cell.1 cell.2 (omega (arith, c.saturating_add.ensures, c.end.ensures)) c.saturating_sub-room.ensures (omega arith)
+    peeked_of c.self.inside.next c.args.old.now.end c.saturating_sub-room.result c.saturating_add.result c.cell_at.new.out.items c.in_ok-head.head cell.0
+    cell.1 cell.2 (omega (arith, c.saturating_add.ensures, c.end.ensures)) c.saturating_sub-room.ensures (omega arith)
 
 pub returns-clause-cell : goal.returns-clause-cell
 returns-clause-cell g c = λ tells sup current fresh examined copying.
@@ -47,6 +47,5 @@ returns-clause-cell g c = λ tells sup current fresh examined copying.
     let same = read_cell c.self.inside.next c.args.old.now.end examined (g.D.Disk.files c.args.disk.now c.args.old.now.file).now c.cell_at.new.out.items current cell.0 next cell.1 (c.in_ok-head.ensures.stands tells) next in (
       next.cell,
       next.is,
-      subst (λ (x : Cell). IsCopy c.self.inside.next c.extend_from_slice.new.self.items c.in_ok-head.head x) same
-          (copy_of c.self.inside.next c.cell_at.new.out.items c.extend_from_slice.new.self.items c.in_ok-head.head cell.0 c.in_ok-extend_from_slice.ensures.items cell.1 cell.2),
+      subst (λ (x : Cell). IsCopy c.self.inside.next c.cell_at.new.out.items c.in_ok-head.head x) same (record { is = cell.1; head_is = cell.2 }),
     )

@@ -1,5 +1,5 @@
 use Rattle.std.proofs.Common.{◌≡◌, Some, None, Ok, Err, length, sym, ap, subst, ◌∙◌, arith}
-use Rattle.hay_needle.specs.Sizes.{total_of_lem}
+use Rattle.hay_needle.specs.Sizes.{needle_total}
 use Rattle.hay_legal.specs.Known.{machine_of, room_refusal_of}
 use Rattle.hay_reply.specs.declared.Refused.TheVariants.{NoRoom}
 use Rattle.hay_physical.specs.Copies.{capacity_of, end_of}
@@ -83,7 +83,7 @@ returns-clause-known g c = λ tells k stands.
     let l : LacksRoom c.args.size here.replicas.items c.in-Err.lacking = subst (λ xs. LacksRoom c.args.size xs c.in-Err.lacking) c.as_slice.ensures.value c.in-Err.ensures.lacks in
     let capacity = known_capacity g.D.Disk.files g.D.Piece.Piece.Tells here.settings here.number here.replicas.items here.rows here.front here.unsure k known (c.self.invariant.0).sups c.args.size c.in-Err.lacking.at l.replica l.there in
     let refusal = room_some g.D.Disk.files g.D.Piece.Piece.Tells here.settings here.number here.replicas.items here.rows here.front here.unsure k known (c.self.invariant.0).sups c.args.size c.in-Err.lacking l in
-    let total = total_of_lem c.args.size in
+    let total = needle_total c.args.size in
     subst (λ (v : Volume g.row.D.Denot g.row.D-Piece.Denot). Err c.answer_at.result ≡ room_answer v.settings k.frozen (room_refusal_of v.settings v.number k c.args.size)) c.self.view_is
     (ap (λ (f : LogicalFault). Err f) (c.answer_at.ensures ∙ ap (answer_at c.machine_of-machine.result) l.cause)
     ∙ ap (λ m. Err (Full m (end_of l.replica) total (capacity_of l.replica))) c.machine_of-machine.ensures

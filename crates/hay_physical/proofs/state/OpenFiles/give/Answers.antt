@@ -1,5 +1,5 @@
 use Rattle.std.proofs.Common.{◌≡◌, ◌∙◌, ap, subst, length}
-use Rattle.hay_needle.specs.Sizes.{total_of_lem}
+use Rattle.hay_needle.specs.Sizes.{needle_total}
 use Rattle.hay_disk.specs.Disk.{KeepsOthers, Seals}
 use Rattle.hay_physical.proofs.Standing.{last_sealed, stand_sealed}
 use Rattle.hay_physical.proofs.state.OpenFiles.give.Goals as goal
@@ -10,7 +10,7 @@ returns-in-Ok-clause-given g c = λ tells sup s pair cookie photo stand there si
     let new = g.D.Disk.files c.seal.new.self in
     let opened = c.args.self.now in
     let done = c.in-Ok.ensures in
-    let total : c.total_of.result ≡ total_of_lem (length photo) = c.total_of.ensures ∙ ap total_of_lem size in
+    let total : c.total_of.result ≡ needle_total (length photo) = c.total_of.ensures ∙ ap needle_total size in
     let seals = subst (λ k. Seals c.args.at c.total_of.result 28 (old k) (new k)) c.file.ensures (done.seals tells) in
     let others = subst (λ k. KeepsOthers k old new) c.file.ensures (done.others tells) in
     let read = (done.bytes tells).1 ∙ ap (λ k. Rattle.std.proofs.Common.take c.total_of.result (Rattle.std.proofs.Common.drop c.args.at (old k).now)) c.file.ensures in (

@@ -1,6 +1,8 @@
-use Rattle.std.proofs.Common.{sym, ap, ◌∙◌, subst}
+use Rattle.std.proofs.Common.{◌≡◌, ◌+◌, sym, ap, ◌∙◌, subst, arith}
 use Rattle.hay_compact.specs.Finishing.{AreThePlaces}
-use Rattle.hay_disk.specs.Disk.{Files}
+use Rattle.hay_disk.specs.Disk.{Files, FileState}
+use Rattle.hay_disk.specs.Gate.{IsGate}
+use Rattle.hay_head.specs.Head.{head_magic, row_place}
 use Rattle.hay_physical.specs.declared.state.OpenFiles.{OpenFiles}
 use Rattle.hay_physical.specs.Replicas.{FilesReady, FilesStand}
 use Rattle.hay_physical.proofs.Views.{by_result, if_ok, if_ok_unit, on_ok_both, on_ok_one}
@@ -8,6 +10,11 @@ use Rattle.hay_physical.proofs.Standing.{on_err}
 use Rattle.hay_physical.proofs.SwapLaws.{made_kept, old_apart, old_index_apart, swap_finds, swap_flags, swap_ready, swap_stands, unfrozen_ready, unfrozen_stands}
 use Rattle.hay_physical.proofs.Removing.{removed_since}
 use Rattle.hay_physical.proofs.state.OpenFiles.make_current.Goals as goal
+
+pub swap-requires-clause-gate : goal.swap-requires-clause-gate
+swap-requires-clause-gate g c κs within = λ tells.
+    let same : g.D.Disk.files c.finish.new.disk 0 ≡ g.D.Disk.files c.args.disk.now 0 = c.finish.ensures.others tells 0 (λ e. omega arith) (λ e. omega arith) in
+    subst (λ (f : FileState). IsGate head_magic (row_place (c.args.self.now.head.generation + 1)) f) (sym same) (c.requires.ready tells).head
 
 pub returns-in-Ok-clause-open : goal.returns-in-Ok-clause-open
 returns-in-Ok-clause-open g c =

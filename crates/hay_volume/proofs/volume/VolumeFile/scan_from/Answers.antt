@@ -1,6 +1,6 @@
 use Rattle.std.proofs.Common.{◌≡◌, ◌≤◌, ◌<◌, ◌+◌, ◌^◌, ◌∙◌, ap, subst, sym, refl, arith, Err}
 use Rattle.std.proofs.lemmas.Result.{err_from_is_err_and}
-use Rattle.hay_needle.specs.Sizes.{total_of_lem}
+use Rattle.hay_needle.specs.Sizes.{needle_total}
 use Rattle.hay_needle.specs.declared.needle.Cell.{Cell}
 use Rattle.hay_volume.specs.Cells.{StandsCell, cell_head}
 use Rattle.hay_volume.proofs.ReadLaws.{same_fault}
@@ -17,7 +17,7 @@ pub returns-in_default-checked_add-clause-damaged : goal.returns-in_default-chec
 returns-in_default-checked_add-clause-damaged g c = λ tells k is.
     let fits = (g.met.D.Disk g.world.𝓛 g.world.𝓜 g.world.𝓡 ((λ s x. x), (λ x. x), (λ x. x), λ x. x)).fits c.cells.disk c.args.self.now.file tells in
     let cell = found c.in_ok-head.field-0 c.in-Some.head (λ head. (cell : Cell) × StandsCell c.cells.end (g.D.Disk.files c.cells.disk c.args.self.now.file).now cell × (head ≡ cell_head cell)) c.in-Some.is (c.in_ok-head.ensures.cell tells) in
-    let within : c.cells.end + total_of_lem c.in-Some.head.size < 2 ^ 64 = cell_within c.cells.end (g.D.Disk.files c.cells.disk c.args.self.now.file).now cell.0 c.in-Some.head cell.1 cell.2 fits in
+    let within : c.cells.end + needle_total c.in-Some.head.size < 2 ^ 64 = cell_within c.cells.end (g.D.Disk.files c.cells.disk c.args.self.now.file).now cell.0 c.in-Some.head cell.1 cell.2 fits in
     let beyond = c.in_default-checked_add.ensures in
     let total = c.total_of.ensures in
     absurd (omega arith)
@@ -31,7 +31,7 @@ cells-preserved g c = record {
       (same_cell c.cells.end (g.D.Disk.files c.args.disk.now c.args.self.now.file).now (g.D.Disk.files c.cells.disk c.args.self.now.file).now cell.0 (ap (λ files. (files c.args.self.now.file).now) (c.cells.invariant.same tells)) cell.1) cell.2 (omega (arith, c.in-Some-checked_add.ensures, c.total_of.ensures)) in
       subst (λ l. IsScanned c.args.at (g.D.Disk.files c.args.disk.now c.args.self.now.file).now l c.in-Some-checked_add.next) (sym c.in_ok-push.ensures.items) next;
   drawn = λ tells.
-      let read = found c.in_ok-head.field-0 c.in-Some.head (λ head. g.D.Disk.drawn c.next_cell.new.disk c.args.self.now.file ≤ g.D.Disk.drawn c.cells.disk c.args.self.now.file + total_of_lem head.size) c.in-Some.is (c.in_ok-head.ensures.drawn_cell tells) in
+      let read = found c.in_ok-head.field-0 c.in-Some.head (λ head. g.D.Disk.drawn c.next_cell.new.disk c.args.self.now.file ≤ g.D.Disk.drawn c.cells.disk c.args.self.now.file + needle_total head.size) c.in-Some.is (c.in_ok-head.ensures.drawn_cell tells) in
       omega (arith, read, c.cells.invariant.drawn tells, c.in-Some-checked_add.ensures, c.total_of.ensures);
   drawn_others = λ tells other ne. c.next_cell.ensures.drawn_others tells other ne ∙ c.cells.invariant.drawn_others tells other ne;
   faults = omega (arith, c.next_cell.ensures.counted.later);
