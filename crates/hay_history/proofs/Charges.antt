@@ -14,8 +14,11 @@ use Rattle.hay_legal.specs.Plain.{with_run, with_stuck}
 use Rattle.hay_legal.specs.Blocks.{tag_of}
 use Rattle.hay_history.specs.Steps.{Did, Leads, Standing, Step}
 use Rattle.hay_history.specs.Steps.Did.{Begins, Ends, Pends, Poises, Sticks, Tries}
+use Rattle.hay_history.proofs.Own.{NoBegins}
+use Rattle.hay_history.proofs.OwnRuns.{ran_stood}
+use Rattle.hay_history.proofs.Trying.{changed}
 use Rattle.hay_history.specs.Histories.{Course, History, first_of, own}
-use Rattle.hay_history.specs.Commands.{Came, Ran, RanTo, RanUntil}
+use Rattle.hay_history.specs.Commands.{CameInLanes, Ran, RanTo, RanUntil}
 use Rattle.hay_history.proofs.Histories.{along}
 use Rattle.hay_history.proofs.Lines.{course_of, own_at, own_leads, stops}
 use Rattle.hay_history.proofs.Volumes.{moment, replicas_many, volume_at_moment}
@@ -55,7 +58,7 @@ quiet_keeps settings v tag _ j run a b h quiet stood none thawed = absurd cc
 -- MOMENTS OF A VOLUME
 
 -- a count of a disk never falls
-pub count_grows : {settings : Settings} {k : Known} {items : List LaneItem} {history : History} {t : Known} (h : Came settings k items history t)
+pub count_grows : {settings : Settings} {k : Known} {items : List LaneItem} {history : History} {t : Known} (h : CameInLanes settings k items history t)
     (v j n : ℕ) → v < settings.volumes → (moment settings k history v n).faults j ≤ (moment settings k history v (n + 1)).faults j
 count_grows {settings} {k} {items} {history} {t} h v j n below =
     along settings v (λ a b. a.faults j ≤ b.faults j) (first_of settings k v) (history.volumes v)
@@ -75,57 +78,40 @@ pub record Ended (settings : Settings) (k : Known) (history : History) (c : Cour
   pub thawed : (volume_at_moment settings k history v (place + 1)).frozen ≡ None
 
 first_step : (c : Course) (v j : ℕ) (last : List (ℕ × Step)) (ran : Ran c v j last) → Contains (own c v) (ran.place, ran.first)
-first_step c v j last ran = subst (λ (l : List (ℕ × Step)). Contains l (ran.place, ran.first)) (sym ran.steps) (0, omega arith, refl)
+first_step c v j last ran = changed c v (ran.place, ran.first) (subst (λ (l : List (ℕ × Step)). Contains l (ran.place, ran.first)) (sym ran.steps) (0, omega arith, refl))
 
--- a run does not end in the step that began it
-goes_on : {settings : Settings} {k : Known} {items : List LaneItem} {history : History} {t : Known} (h : Came settings k items history t)
-    (item : LaneItem) → Contains items item → (v j : ℕ) → v < settings.volumes → j < settings.replicas
-    → (last : List (ℕ × Step)) (ran : Ran (course_of h item) v j last) (place : ℕ) → ran.ended ≡ place + 1 → ran.place < place
-goes_on {settings} {k} {items} {history} {t} h item among v j below within last ran place ended =
-    let first : ran.place < ran.ended = ran.behind_it in
-    elim (cases_lt ran.place place) [
-      | inl less ↦ less
-      | inr le ↦
-          let same : ran.ended ≡ ran.place + 1 = omega (arith, first, ended, le) in
-          let less : j < length (volume_at_moment settings k history v ran.place).replicas =
-          subst (λ (m : ℕ). j < m) (sym (replicas_many h v ran.place below)) within in
-          let stands = (begins_run settings v (tag_of item) (ran.first).did j (moment settings k history v ran.place) (moment settings k history v (ran.place + 1))
-          (own_leads h item v below among (ran.place, ran.first) (first_step (course_of h item) v j last ran)).0 ran.begins less).1 in
-          absurd (none-some stands.0 (sym ran.none ∙ ap (λ (n : ℕ). (replica_at (volume_at_moment settings k history v n) j).run) same ∙ stands.1))
-    ]
-
-ran_ended : {settings : Settings} {k : Known} {items : List LaneItem} {history : History} {t : Known} (h : Came settings k items history t)
-    (item : LaneItem) → Contains items item → (v j : ℕ) → v < settings.volumes → j < settings.replicas
-    → (last : List (ℕ × Step)) (ran : Ran (course_of h item) v j last) (place : ℕ) → ran.ended ≡ place + 1
-    → (volume_at_moment settings k history v (place + 1)).frozen ≡ None → Ended settings k history (course_of h item) v j place
-ran_ended {settings} {k} {items} {history} {t} h item among v j below within last ran place ended thawed = record {
+ran_ended : {settings : Settings} {k : Known} {items : List LaneItem} {history : History} {t : Known} (h : CameInLanes settings k items history t)
+    (item : LaneItem) (v j : ℕ) → v < settings.volumes
+    → (last : List (ℕ × Step)) → NoBegins j last → (ran : Ran (course_of h item) v j last)
+    → (volume_at_moment settings k history v (ran.until + 1)).frozen ≡ None → Ended settings k history (course_of h item) v j ran.until
+ran_ended {settings} {k} {items} {history} {t} h item v j below last none ran thawed = record {
   from = ran.place;
   first = ran.first;
   among = first_step (course_of h item) v j last ran;
   begins = ran.begins;
-  before = goes_on h item among v j below within last ran place ended;
-  stood = λ n low high. ran.stood n low (omega (arith, high, ended));
-  none = ap (λ (n : ℕ). (replica_at (volume_at_moment settings k history v n) j).run) (sym ended) ∙ ran.none;
+  before = ran.behind_it;
+  stood = ran_stood h item v j below last none ran;
+  none = ran.none;
   thawed = thawed;
 }
 
-ended_run : {settings : Settings} {k : Known} {items : List LaneItem} {history : History} {t : Known} (h : Came settings k items history t)
+ended_run : {settings : Settings} {k : Known} {items : List LaneItem} {history : History} {t : Known} (h : CameInLanes settings k items history t)
     (item : LaneItem) → Contains items item → (v j place : ℕ) → v < settings.volumes → j < settings.replicas
     → EndedRun (course_of h item) v j place → Ended settings k history (course_of h item) v j place
 ended_run {settings} {k} {items} {history} {t} h item among v j place below within (inl ends) =
     let ran : RanTo (course_of h item) v j (Ends j) = ends.0 in
-    subst (λ (n : ℕ). Ended settings k history (course_of h item) v j n) ends.1
-    (ran_ended h item among v j below within ((ran.place, ran.step) ∷ []) ran.ran ran.place ran.behind_it
-    (ends_thawed settings v (tag_of item) (ran.step).did j (moment settings k history v ran.place) (moment settings k history v (ran.place + 1))
+    subst (λ (n : ℕ). Ended settings k history (course_of h item) v j n) (ran.last ∙ ends.1)
+    (ran_ended h item v j below ((ran.place, ran.step) ∷ []) ((λ is. let clash : Begins j ≡ Ends j = sym is ∙ ran.is in absurd cc), tt) ran.ran
+    (ap (λ (n : ℕ). (volume_at_moment settings k history v (n + 1)).frozen) ran.last
+    ∙ ends_thawed settings v (tag_of item) (ran.step).did j (moment settings k history v ran.place) (moment settings k history v (ran.place + 1))
     (own_leads h item v below among (ran.place, ran.step) (last_step (course_of h item) v j (Ends j) ran)).0 ran.is))
 ended_run {settings} {k} {items} {history} {t} h item among v j place below within (inr until) =
     let cut : RanUntil (course_of h item) v j until.0 = until.1 in
     subst (λ (n : ℕ). Ended settings k history (course_of h item) v j n) until.2
-    (ran_ended h item among v j below within [] cut.ran cut.place cut.behind_it
-    (ap (λ (n : ℕ). (volume_at_moment settings k history v n).frozen) (sym cut.behind_it) ∙ cut.thawed))
+    (ran_ended h item v j below [] tt cut.ran cut.thawed)
 
 -- a step is one line's
-pub one_line : {settings : Settings} {k : Known} {items : List LaneItem} {history : History} {t : Known} (h : Came settings k items history t)
+pub one_line : {settings : Settings} {k : Known} {items : List LaneItem} {history : History} {t : Known} (h : CameInLanes settings k items history t)
     (a b : LaneItem) (v place : ℕ) (s r : Step) → Contains (own (course_of h a) v) (place, s) → Contains (own (course_of h b) v) (place, r) → a.line ≡ b.line
 one_line {settings} {k} {items} {history} {t} h a b v place s r in_a in_b =
     let at_a = own_at (history.volumes v) a.line (place, s) in_a in
@@ -134,7 +120,7 @@ one_line {settings} {k} {items} {history} {t} h a b v place s r in_a in_b =
     sym at_a.1 ∙ ap (λ (x : Step). (x.tag).line) same ∙ at_b.1
 
 -- no run begins where another stands
-no_two : {settings : Settings} {k : Known} {items : List LaneItem} {history : History} {t : Known} (h : Came settings k items history t)
+no_two : {settings : Settings} {k : Known} {items : List LaneItem} {history : History} {t : Known} (h : CameInLanes settings k items history t)
     (a b : LaneItem) → Contains items a → Contains items b → (v j place : ℕ) → v < settings.volumes → j < settings.replicas
     → (first : Ended settings k history (course_of h a) v j place) (other : Ended settings k history (course_of h b) v j place) → first.from < other.from → ⊥
 no_two {settings} {k} {items} {history} {t} h a b in_a in_b v j place below within first other less =
@@ -144,7 +130,7 @@ no_two {settings} {k} {items} {history} {t} h a b in_a in_b v j place below with
     (own_leads h b v below in_b (other.from, other.first) other.among).0 other.begins many).0 in
     none-some stood.0 (sym at_rest ∙ stood.1)
 
-ended_apart : {settings : Settings} {k : Known} {items : List LaneItem} {history : History} {t : Known} (h : Came settings k items history t)
+ended_apart : {settings : Settings} {k : Known} {items : List LaneItem} {history : History} {t : Known} (h : CameInLanes settings k items history t)
     (a b : LaneItem) → Contains items a → Contains items b → a.line ≢ b.line → (v j place : ℕ) → v < settings.volumes → j < settings.replicas
     → Ended settings k history (course_of h a) v j place → Ended settings k history (course_of h b) v j place → ⊥
 ended_apart h a b in_a in_b apart v j place below within first other =
@@ -159,7 +145,7 @@ ended_apart h a b in_a in_b apart v j place below within first other =
       ]
     ]
 
-quiet_apart : {settings : Settings} {k : Known} {items : List LaneItem} {history : History} {t : Known} (h : Came settings k items history t)
+quiet_apart : {settings : Settings} {k : Known} {items : List LaneItem} {history : History} {t : Known} (h : CameInLanes settings k items history t)
     (a b : LaneItem) → Contains items a → (v j place : ℕ) → v < settings.volumes
     → QuietStep (course_of h a) v place → Ended settings k history (course_of h b) v j place → ⊥
 quiet_apart {settings} {k} {items} {history} {t} h a b in_a v j place below step other =
@@ -173,7 +159,7 @@ abbrev pub ChargedTo : Course → ℕ → ℕ → ℕ → Type 0
 ChargedTo c v j place = QuietStep c v place ⊎ EndedRun c v j place
 
 -- lines with different numbers are charged to different steps
-pub charges_apart : {settings : Settings} {k : Known} {items : List LaneItem} {history : History} {t : Known} (h : Came settings k items history t)
+pub charges_apart : {settings : Settings} {k : Known} {items : List LaneItem} {history : History} {t : Known} (h : CameInLanes settings k items history t)
     (a b : LaneItem) → Contains items a → Contains items b → a.line ≢ b.line → (v j place : ℕ) → v < settings.volumes → j < settings.replicas
     → ChargedTo (course_of h a) v j place → ChargedTo (course_of h b) v j place → ⊥
 charges_apart h a b in_a in_b apart v j place below within (inl quiet_a) (inl quiet_b) =
@@ -186,7 +172,7 @@ charges_apart h a b in_a in_b apart v j place below within (inr ended_a) (inr en
     ended_apart h a b in_a in_b apart v j place below within (ended_run h a in_a v j place below within ended_a) (ended_run h b in_b v j place below within ended_b)
 
 -- a charged step is one of the block's
-pub charge_within : {settings : Settings} {k : Known} {items : List LaneItem} {history : History} {t : Known} (h : Came settings k items history t)
+pub charge_within : {settings : Settings} {k : Known} {items : List LaneItem} {history : History} {t : Known} (h : CameInLanes settings k items history t)
     (item : LaneItem) → Contains items item → (v j place : ℕ) → ChargedTo (course_of h item) v j place → place < length (history.volumes v)
 charge_within {settings} {k} {items} {history} {t} h item among v j place (inl quiet) =
     slice_get_within (history.volumes v) place quiet.step (own_at (history.volumes v) item.line (place, quiet.step) quiet.among).0
@@ -197,8 +183,7 @@ charge_within {settings} {k} {items} {history} {t} h item among v j place (inr (
     (own_at (history.volumes v) item.line (ran.place, ran.step) (last_step (course_of h item) v j (Ends j) ran)).0)
 charge_within {settings} {k} {items} {history} {t} h item among v j place (inr (inr until)) =
     let cut : RanUntil (course_of h item) v j until.0 = until.1 in
-    let last : (cut.ran).ended ≤ (h.to item.line).volumes v = ((cut.ran).seen).1 in
+    let last : (cut.ran).until + 1 ≤ (h.to item.line).volumes v = ((cut.ran).seen).1 in
     let all : (h.to item.line).volumes v ≤ length (history.volumes v) = (stops h item among).volumes v in
-    let ended : (cut.ran).ended ≡ cut.place + 1 = cut.behind_it in
-    let is : cut.place ≡ place = until.2 in
-    omega (arith, last, all, ended, is)
+    let is : (cut.ran).until ≡ place = until.2 in
+    omega (arith, last, all, is)

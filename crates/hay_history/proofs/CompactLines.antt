@@ -19,11 +19,13 @@ use Rattle.hay_legal.specs.Plain.{IsFrozenBy, IsOpen, run_grown, with_stuck}
 use Rattle.hay_legal.specs.Blocks.{CompactIsLegal, FlushIsLegal, IsLeftStuck, MayBeBusy, MayBeStuck, MayFlush, MetOpen, RunsBeside, SticksBy}
 use Rattle.std.proofs.lemmas.Option.{slice_get_cases}
 use Rattle.hay_history.specs.Steps.{Did, Leads, Standing, Step}
-use Rattle.hay_history.specs.Steps.Did.{Begins, Flushes, Sticks}
-use Rattle.hay_history.specs.Histories.{Course, History, IsMoment, OneStep, behind, first_of, own, volume_then}
-use Rattle.hay_history.specs.Commands.{Came, CompactDid, CompactRefused, FlushDid, ItemDid, IsFrozen, IsStuck}
+use Rattle.hay_history.specs.Steps.Did.{Begins, Flushes, Sticks, Tries}
+use Rattle.hay_history.proofs.Trying.{tried_or_changed}
+use Rattle.hay_history.specs.Histories.{Course, History, IsMoment, OneStep, behind, changes, first_of, own, volume_then}
+use Rattle.hay_history.specs.Commands.{CameInLanes, CompactDid, CompactRefused, FlushDid, IsFrozen, IsStuck}
 use Rattle.hay_history.proofs.Histories.{along, behind_past, behind_step, leads_at}
 use Rattle.hay_history.proofs.Lines.{answered, course_of, one_leads, owner, stops}
+use Rattle.hay_history.proofs.OwnRuns.{ran_stood}
 use Rattle.hay_history.proofs.Own.{EndsBy, InRun, IsCompact, MayDo, in_run, item_may}
 use Rattle.hay_history.proofs.Placing.{machine_there, on_machine}
 use Rattle.hay_history.proofs.Changes.{Becomes, leads_becomes}
@@ -84,7 +86,7 @@ turns settings v j tag did a b h = elim (leads_becomes settings v tag did a b h 
 at_or_past : {X : Type 0} (xs : List X) (n : ℕ) → ((x : X) × (slice_get xs n ≡ Some x)) ⊎ (length xs ≤ n)
 at_or_past xs n = elim (slice_get_cases xs n).1 [ inl there ↦ inl (there.0, there.2) | inr past ↦ inr past.0 ]
 
-module _ {settings : Settings} {k : Known} {items : List LaneItem} {history : History} {t : Known} (h : Came settings k items history t)
+module _ {settings : Settings} {k : Known} {items : List LaneItem} {history : History} {t : Known} (h : CameInLanes settings k items history t)
     (v j : ℕ) (below : v < settings.volumes) where
   abbrev replica_then : ℕ → ReplicaKnown
   replica_then n = replica_at (volume_at_moment settings k history v n) j
@@ -210,56 +212,70 @@ worn_turns did j old new (inr (inr begun)) worn = let less = begun.2 in let most
 
 -- a compaction that began at this place stood until its end, which the line saw
 pub record Ending (c : Course) (v j place : ℕ) (r : Reply) : Type 0 where
-  pub ended : ℕ
-  pub behind_it : place < ended
-  pub seen : IsMoment c v ended
-  pub stood : (n : ℕ) → place < n → n < ended → (run : Run) × ((replica_at (volume_then c v n) j).run ≡ Some run)
-  pub none : (replica_at (volume_then c v ended) j).run ≡ None
-  pub by : EndsBy c v j ended r
+  pub until : ℕ
+  pub behind_it : place < until
+  pub seen : IsMoment c v (until + 1)
+  pub stood : (n : ℕ) → place < n → n ≤ until → (run : Run) × ((replica_at (volume_then c v n) j).run ≡ Some run)
+  pub none : (replica_at (volume_then c v (until + 1)) j).run ≡ None
+  pub by : EndsBy c v j until r
 
 -- a step of a line that begins a compaction is of a compact of its replica
-item_is_compact : (c : Course) (item : Item) (r : Reply) → ItemDid c item r
-    → (v j : ℕ) (at : ℕ × Step) → Contains (own c v) at → (at.1).did ≡ Begins j → (m : ℕ) × IsCompact c.settings item v m j × Ending c v j at.0 r
-item_is_compact c item r did v j at among begins =
-    let may : MayDo c.settings item r v (Begins j) = subst (λ (d : Did). MayDo c.settings item r v d) begins (item_may c item r did v at among) in
-    let there : InRun c v j r at.0 (Begins j) = subst (λ (d : Did). InRun c v j r at.0 d) begins (in_run c item r v may.0 j did may.1 at among) in
-    let ran = (there.0).ran in (
+item_is_compact : {settings : Settings} {k : Known} {items : List LaneItem} {history : History} {t : Known} (h : CameInLanes settings k items history t)
+    (b : LaneItem) → Contains items b → (v j : ℕ) → v < settings.volumes → (at : ℕ × Step) → Contains (own (course_of h b) v) at → (at.1).did ≡ Begins j
+    → (m : ℕ) × IsCompact settings b.item v m j × Ending (course_of h b) v j at.0 b.reply
+item_is_compact {settings} h b in_items v j below at among begins =
+    let c = course_of h b in
+    let did = (answered h b in_items).did in
+    let may : MayDo settings b.item b.reply v (Begins j) =
+    subst (λ (d : Did). MayDo settings b.item b.reply v d) begins (item_may c b.item b.reply did v at among) in
+    let there : InRun c v j b.reply at.0 (Begins j) = subst (λ (d : Did). InRun c v j b.reply at.0 d) begins (in_run c b.item b.reply v may.0 j did may.1 at among) in
+    let from = there.0 in
+    let ran = from.ran in (
       may.0,
       may.1,
-      subst (λ (n : ℕ). Ending c v j n r) (there.0).here
-          (record { ended = ran.ended; behind_it = ran.behind_it; seen = ran.seen; stood = ran.stood; none = ran.none; by = there.1 }),
+      subst (λ (n : ℕ). Ending c v j n b.reply) from.here (record {
+        until = ran.until;
+        behind_it = ran.behind_it;
+        seen = ran.seen;
+        stood = ran_stood h b v j below from.last from.none ran;
+        none = ran.none;
+        by = there.1;
+      }),
     )
 
 -- A RUN THAT ANOTHER LINE MEETS
 
-runs_beside : (c : Course) (v m j g lane ended own_lane line : ℕ) (item : Item) (r : Reply) → own_lane ≢ lane → item ≡ asks.Command (command.Compact v m)
-    → EndsBy c v j ended r → ((last : ℕ) → ended ≡ last + 1 → (replica_at (volume_then c v last) j).generation + 1 ≡ g)
+runs_beside : (c : Course) (v m j g lane until own_lane line : ℕ) (item : Item) (r : Reply) → own_lane ≢ lane → item ≡ asks.Command (command.Compact v m)
+    → EndsBy c v j until r → (replica_at (volume_then c v until) j).generation + 1 ≡ g
     → RunsBeside lane v m g (record { lane = own_lane; line = line; item = item; reply = r })
-runs_beside c v m j g lane ended own_lane line item (reply.Compacted v' m' g') other is by fits = (other, is, by.2 ∙ fits by.0 by.1)
-runs_beside c v m j g lane ended own_lane line item (reply.Failed v' m' f) other is by fits = (other, is, tt)
-runs_beside c v m j g lane ended own_lane line item (reply.ReadOnly closed) other is by fits = (other, is, tt)
-runs_beside c v m j g lane ended own_lane line item reply.NoMem other is by fits = (other, is, tt)
-runs_beside c v m j g lane ended own_lane line item _ other is by fits = absurd by
+runs_beside c v m j g lane until own_lane line item (reply.Compacted v' m' g') other is by fits = (other, is, by ∙ fits)
+runs_beside c v m j g lane until own_lane line item (reply.Failed v' m' f) other is by fits = (other, is, tt)
+runs_beside c v m j g lane until own_lane line item (reply.ReadOnly closed) other is by fits = (other, is, tt)
+runs_beside c v m j g lane until own_lane line item reply.NoMem other is by fits = (other, is, tt)
+runs_beside c v m j g lane until own_lane line item _ other is by fits = absurd by
 
-module _ {settings : Settings} {k : Known} {items : List LaneItem} {history : History} {t : Known} (h : Came settings k items history t)
+module _ {settings : Settings} {k : Known} {items : List LaneItem} {history : History} {t : Known} (h : CameInLanes settings k items history t)
     (v j : ℕ) (below : v < settings.volumes) (within : j < settings.replicas) where
   -- the run of a line of the same lane does not stand when the lane sees the replica
-  other_lane : (item b : LaneItem) → Contains items item → Contains items b → own (course_of h item) v ≡ []
+  other_lane : (item b : LaneItem) → Contains items item → Contains items b → changes (course_of h item) v ≡ []
       → (n g : ℕ) → IsMoment (course_of h item) v n → (begun : BegunAt h v j below n g)
       → Contains (own (course_of h b) v) (begun.place, begun.step) → Ending (course_of h b) v j begun.place b.reply
       → b.lane ≢ item.lane
   other_lane item b among among_b nothing n g seen begun at ending same =
       elim (pair_in _ items b item h.«order» among_b among) [
-        | inl e ↦ none_in (begun.place, begun.step)
-            (subst (λ (ats : List (ℕ × Step)). Contains ats (begun.place, begun.step)) nothing
-            (subst (λ (x : LaneItem). Contains (own (course_of h x) v) (begun.place, begun.step)) e at))
+        | inl e ↦ elim (tried_or_changed (course_of h item) v (begun.place, begun.step)
+            (subst (λ (x : LaneItem). Contains (own (course_of h x) v) (begun.place, begun.step)) e at)) [
+              | inl tried ↦ let clash : Begins j ≡ Tries = sym begun.is ∙ tried in absurd cc
+              | inr changed_it ↦ none_in (begun.place, begun.step)
+                  (subst (λ (ats : List (ℕ × Step)). Contains ats (begun.place, begun.step)) nothing changed_it)
+            ]
         | inr others ↦ elim others [
           | inl before ↦
               let later = (before same).volumes v in
               let start = seen.0 in
               let until = (ending.seen).1 in
-              let stands = begun.stands ending.ended ending.behind_it (omega (arith, later, start, until)) in
-              let clash : None ≡ Some g = sym (goal_none (replica_then h v j below ending.ended) ending.none) ∙ stands in absurd cc
+              let stands = begun.stands (ending.until + 1) (omega (arith, ending.behind_it)) (omega (arith, later, start, until)) in
+              let clash : None ≡ Some g = sym (goal_none (replica_then h v j below (ending.until + 1)) ending.none) ∙ stands in absurd cc
           | inr after ↦
               let later = (after (sym same)).volumes v in
               let until = seen.1 in
@@ -294,23 +310,21 @@ module _ {settings : Settings} {k : Known} {items : List LaneItem} {history : Hi
       ]
 
   -- a run that was begun in the block is of a compact of another lane
-  begun_beside : (item : LaneItem) (m : ℕ) → Contains items item → own (course_of h item) v ≡ [] → machine_of settings v j ≡ m
+  begun_beside : (item : LaneItem) (m : ℕ) → Contains items item → changes (course_of h item) v ≡ [] → machine_of settings v j ≡ m
       → (n g : ℕ) → IsMoment (course_of h item) v n → BegunAt h v j below n g
       → (b : LaneItem) × Contains items b × RunsBeside item.lane v m g b
   begun_beside item m among nothing on n g seen begun =
       let owns = owner h v begun.place begun.step below begun.at in
       let b : LaneItem = owns.0 in
-      let compact = item_is_compact (course_of h b) b.item b.reply (answered h b owns.1).did v j (begun.place, begun.step) owns.3 begun.is in
+      let compact = item_is_compact h b owns.1 v j below (begun.place, begun.step) owns.3 begun.is in
       let ending = compact.2 in
       let machine : compact.0 ≡ m = sym (machine_there settings v compact.0 j (compact.1).1) ∙ on in
       let is : b.item ≡ asks.Command (command.Compact v m) = (compact.1).0 ∙ ap (λ (w : ℕ). asks.Command (command.Compact v w)) machine in (
         b,
         owns.1,
-        runs_beside (course_of h b) v m j g item.lane ending.ended b.lane b.line b.item b.reply
+        runs_beside (course_of h b) v m j g item.lane ending.until b.lane b.line b.item b.reply
             (other_lane item b among owns.1 nothing n g seen begun owns.3 ending) is ending.by
-            (λ last end.
-            let behind = ending.behind_it in
-            made n g begun last (omega (arith, end, behind)) (λ i from to. ending.stood i from (omega (arith, end, to)))),
+            (made n g begun ending.until (omega (arith, ending.behind_it)) ending.stood),
       )
 
   -- the moments of a block
@@ -324,7 +338,7 @@ module _ {settings : Settings} {k : Known} {items : List LaneItem} {history : Hi
   at_last_is : replica_at (volume_at t v) j ≡ replica_then h v j below (length (history.volumes v))
   at_last_is = ap (λ (volume : VolumeKnown). replica_at volume j) (h.volumes v below).volume
 
-  busy_legal : (item : LaneItem) (m g : ℕ) → Contains items item → own (course_of h item) v ≡ [] → machine_of settings v j ≡ m
+  busy_legal : (item : LaneItem) (m g : ℕ) → Contains items item → changes (course_of h item) v ≡ [] → machine_of settings v j ≡ m
       → (n : ℕ) → IsMoment (course_of h item) v n → (run : Run) → (replica_then h v j below n).run ≡ Some run → run.goal ≡ g
       → MayBeBusy k items t item.lane v m j g
   busy_legal item m g among nothing on n seen run stands goal =
@@ -354,7 +368,7 @@ module _ {settings : Settings} {k : Known} {items : List LaneItem} {history : Hi
 
 -- FLUSHES AND COMPACTS
 
-module _ {settings : Settings} {k : Known} {items : List LaneItem} {history : History} {t : Known} (h : Came settings k items history t) (item : LaneItem) where
+module _ {settings : Settings} {k : Known} {items : List LaneItem} {history : History} {t : Known} (h : CameInLanes settings k items history t) (item : LaneItem) where
   is_frozen : (v : ℕ) (by : List ClosedBy) → v < settings.volumes → IsFrozen (course_of h item) v by → IsFrozenBy t v by
   is_frozen v [] below did = absurd did
   is_frozen v (by ∷ []) below did = (did.0, frozen_on h v (did.1).moment by.machine below (did.1).is)
@@ -412,7 +426,7 @@ module _ {settings : Settings} {k : Known} {items : List LaneItem} {history : Hi
   compact_refused : (v j : ℕ) (by : List ClosedBy) → v < settings.volumes → CompactRefused (course_of h item) v j by → IsFrozenBy t v by
   compact_refused v j by below (inl frozen) = is_frozen v by below frozen.0
   compact_refused v j [] below (inr ran) = absurd ran
-  compact_refused v j (by ∷ []) below (inr ran) = (ran.0, frozen_on h v (ran.1.0).ended by.machine below ran.1.1)
+  compact_refused v j (by ∷ []) below (inr ran) = (ran.0, frozen_on h v ((ran.1.0).until + 1) by.machine below ran.1.1)
   compact_refused v j (by ∷ more ∷ rest) below (inr ran) = absurd ran
 
   -- a compact that met its volume open

@@ -23,12 +23,13 @@ use Rattle.hay_legal.specs.Known.{EachPair, all_lanes, replica_on, volume_at, vo
 use Rattle.hay_legal.specs.Plain.{start_of}
 use Rattle.hay_legal.specs.Blocks.{Between, FrontsAreLegal, GoesOn, InOrder, Printed, lane_items, printed, row_print, tag_of, volume_print}
 use Rattle.hay_legal.proofs.Subject.Effects.{each_append}
-use Rattle.hay_history.specs.Steps.{Did, Leads, Standing}
+use Rattle.hay_history.specs.Steps.{Did, Leads, Standing, Step}
 use Rattle.hay_history.specs.Steps.Did.{Entered}
+use Rattle.hay_history.proofs.Trying.{changed}
 use Rattle.hay_history.specs.Histories.{Course, History, IsLater, IsMoment, IsRowMoment, OneStep, SeesHome, own, rows_standing, standing, volume_then}
-use Rattle.hay_history.specs.Commands.{Answered, Came, CommandDid, CompactDid, DelDid, FlushDid, GetDid, ItemDid, PutDid, ShowDid, Showed, UrlDid}
+use Rattle.hay_history.specs.Commands.{AnsweredBy, CameInLanes, CommandDid, CompactDid, DelDid, FlushDid, GetDid, ItemDid, PutDid, ShowDid, Showed, UrlDid}
 use Rattle.hay_history.proofs.Changes.{leads_extends}
-use Rattle.hay_history.proofs.Lists.{each_both, each_from, each_weaker, pair_append, pair_weaker, range_below}
+use Rattle.hay_history.proofs.Lists.{each_both, each_in, each_from, each_weaker, pair_append, pair_weaker, range_below}
 use Rattle.hay_history.proofs.Lines.{answered, course_of, own_leads}
 use Rattle.hay_history.proofs.Volumes.{log_at_last, log_kept, volume_at_moment}
 use Rattle.hay_history.proofs.Rows.{rows_at_last, rows_grow, rows_moment}
@@ -232,7 +233,7 @@ module _ (show : LaneItem → List Printed) (low high : LaneItem → ℕ) where
 
 -- THE LOGS
 
-log_grows : {settings : Settings} {k : Known} {items : List LaneItem} {history : History} {t : Known} (h : Came settings k items history t)
+log_grows : {settings : Settings} {k : Known} {items : List LaneItem} {history : History} {t : Known} (h : CameInLanes settings k items history t)
     (v n m : ℕ) → v < settings.volumes → n ≤ m
     → length (volume_at_moment settings k history v n).log ≤ length (volume_at_moment settings k history v m).log
 log_grows {settings} {k} {items} {history} h v n m below le =
@@ -246,29 +247,30 @@ entered_longer : (settings : Settings) (v : ℕ) (tag : CoreTag) (change : Entry
 entered_longer settings v tag change a b h = ap length (leads_extends settings v tag (Entered change) a b h).log ∙ length_push (a.volume).log _
 
 -- an own step that is the only one, and its place between what the lane had seen before the line and behind it
-one_within : (c : Course) (item : LaneItem) (v : ℕ) (did : Did) (one : OneStep c v did) → Answered c item
+one_within : (c : Course) (item : LaneItem) (v : ℕ) (did : Did) (one : OneStep c v did) → AnsweredBy ItemDid c item
     → ((c.from).volumes v ≤ one.place) × (one.place < (c.to).volumes v)
 one_within c item v did one h =
-    (subst (λ own. Each (λ at. ((c.from).volumes v ≤ at.0) × (at.0 < (c.to).volumes v)) own) one.only (h.steps v)).0
+    each_in (λ (at : ℕ × Step). ((c.from).volumes v ≤ at.0) × (at.0 < (c.to).volumes v)) (own c v) (one.place, one.step) (h.steps v)
+    (changed c v (one.place, one.step) (subst (λ (l : List (ℕ × Step)). Contains l (one.place, one.step)) (sym one.only) (0, omega arith, refl)))
 
-one_longer : {settings : Settings} {k : Known} {items : List LaneItem} {history : History} {t : Known} (h : Came settings k items history t)
+one_longer : {settings : Settings} {k : Known} {items : List LaneItem} {history : History} {t : Known} (h : CameInLanes settings k items history t)
     (item : LaneItem) (v : ℕ) (change : Entry) (one : OneStep (course_of h item) v (Entered change)) → v < settings.volumes → Contains items item
     → length (volume_at_moment settings k history v (one.place + 1)).log ≡ length (volume_at_moment settings k history v one.place).log + 1
 one_longer {settings} {k} {items} {history} {t} h item v change one below among =
     let own_step : Contains (own (course_of h item) v) (one.place, one.step) =
-    subst (λ steps. Contains steps (one.place, one.step)) (sym one.only) (0, omega arith, refl) in
+    changed (course_of h item) v (one.place, one.step) (subst (λ steps. Contains steps (one.place, one.step)) (sym one.only) (0, omega arith, refl)) in
     let led = (own_leads h item v below among (one.place, one.step) own_step).0 in
     entered_longer settings v (tag_of item) change (standing (course_of h item) v one.place) (standing (course_of h item) v (one.place + 1))
     (subst (λ (did : Did). Leads settings v (tag_of item) did (standing (course_of h item) v one.place) (standing (course_of h item) v (one.place + 1))) one.is led)
 
 -- how long a volume's log was when a line began, and when it ended
-abbrev log_from : {settings : Settings} {k : Known} {items : List LaneItem} {history : History} {t : Known} → Came settings k items history t → ℕ → LaneItem → ℕ
+abbrev log_from : {settings : Settings} {k : Known} {items : List LaneItem} {history : History} {t : Known} → CameInLanes settings k items history t → ℕ → LaneItem → ℕ
 log_from {settings} {k} {items} {history} h v item = length (volume_at_moment settings k history v ((h.from item.line).volumes v)).log
 
-abbrev log_to : {settings : Settings} {k : Known} {items : List LaneItem} {history : History} {t : Known} → Came settings k items history t → ℕ → LaneItem → ℕ
+abbrev log_to : {settings : Settings} {k : Known} {items : List LaneItem} {history : History} {t : Known} → CameInLanes settings k items history t → ℕ → LaneItem → ℕ
 log_to {settings} {k} {items} {history} h v item = length (volume_at_moment settings k history v ((h.to item.line).volumes v)).log
 
-print_within : {settings : Settings} {k : Known} {items : List LaneItem} {history : History} {t : Known} (h : Came settings k items history t)
+print_within : {settings : Settings} {k : Known} {items : List LaneItem} {history : History} {t : Known} (h : CameInLanes settings k items history t)
     (item : LaneItem) (v : ℕ) (shown : Printed) → v < settings.volumes → Contains items item → Prints (course_of h item) v shown
     → Within (log_from h v item) (log_to h v item) shown
 print_within {settings} {k} {items} {history} {t} h item v shown below among prints =
@@ -283,7 +285,7 @@ print_within {settings} {k} {items} {history} {t} h item v shown below among pri
           subst (Within (log_from h v item) (log_to h v item)) (sym is) (omega (arith, before), omega (arith, longer, later))
     ]
 
-volume_shows : {settings : Settings} {k : Known} {items : List LaneItem} {history : History} {t : Known} (h : Came settings k items history t)
+volume_shows : {settings : Settings} {k : Known} {items : List LaneItem} {history : History} {t : Known} (h : CameInLanes settings k items history t)
     (v : ℕ) → v < settings.volumes → (item : LaneItem) → Contains items item
     → Shows (λ item. volume_print v item.reply) (log_from h v) (log_to h v) (length (volume_at k v).log) (length (volume_at t v).log) item
 volume_shows h v below item among = record {
@@ -295,7 +297,7 @@ volume_shows h v below item among = record {
   once = prints_once v item.reply;
 }
 
-logs_later : {settings : Settings} {k : Known} {items : List LaneItem} {history : History} {t : Known} (h : Came settings k items history t)
+logs_later : {settings : Settings} {k : Known} {items : List LaneItem} {history : History} {t : Known} (h : CameInLanes settings k items history t)
     (v : ℕ) → v < settings.volumes → EachPair (λ a b. a.lane ≡ b.lane → log_to h v a ≤ log_from h v b) items
 logs_later {items = items} h v below =
     pair_weaker (λ a b. a.lane ≡ b.lane → IsLater (h.to a.line) (h.from b.line)) (λ a b. a.lane ≡ b.lane → log_to h v a ≤ log_from h v b)
@@ -304,13 +306,13 @@ logs_later {items = items} h v below =
 
 -- THE ROWS
 
-abbrev rows_from : {settings : Settings} {k : Known} {items : List LaneItem} {history : History} {t : Known} → Came settings k items history t → LaneItem → ℕ
+abbrev rows_from : {settings : Settings} {k : Known} {items : List LaneItem} {history : History} {t : Known} → CameInLanes settings k items history t → LaneItem → ℕ
 rows_from {settings} {k} {items} {history} h item = length ((rows_moment k history (h.from item.line).rows).directory).rows
 
-abbrev rows_to : {settings : Settings} {k : Known} {items : List LaneItem} {history : History} {t : Known} → Came settings k items history t → LaneItem → ℕ
+abbrev rows_to : {settings : Settings} {k : Known} {items : List LaneItem} {history : History} {t : Known} → CameInLanes settings k items history t → LaneItem → ℕ
 rows_to {settings} {k} {items} {history} h item = length ((rows_moment k history (h.to item.line).rows).directory).rows
 
-rows_show : {settings : Settings} {k : Known} {items : List LaneItem} {history : History} {t : Known} (h : Came settings k items history t)
+rows_show : {settings : Settings} {k : Known} {items : List LaneItem} {history : History} {t : Known} (h : CameInLanes settings k items history t)
     (item : LaneItem) → Contains items item
     → Shows (λ item. row_print item.reply) (rows_from h) (rows_to h) (length k.directory.rows) (length t.directory.rows) item
 rows_show h item among = record {
@@ -323,14 +325,14 @@ rows_show h item among = record {
   once = row_prints_once item.reply;
 }
 
-rows_later : {settings : Settings} {k : Known} {items : List LaneItem} {history : History} {t : Known} (h : Came settings k items history t)
+rows_later : {settings : Settings} {k : Known} {items : List LaneItem} {history : History} {t : Known} (h : CameInLanes settings k items history t)
     → EachPair (λ a b. a.lane ≡ b.lane → rows_to h a ≤ rows_from h b) items
 rows_later {items = items} h =
     pair_weaker (λ a b. a.lane ≡ b.lane → IsLater (h.to a.line) (h.from b.line)) (λ a b. a.lane ≡ b.lane → rows_to h a ≤ rows_from h b)
     (λ a b later same. rows_grow h (h.to a.line).rows (h.from b.line).rows (later same).rows)
     items h.«order»
 
-pub fronts_legal : {settings : Settings} {k : Known} {items : List LaneItem} {history : History} {t : Known} → Came settings k items history t
+pub fronts_legal : {settings : Settings} {k : Known} {items : List LaneItem} {history : History} {t : Known} → CameInLanes settings k items history t
     → FrontsAreLegal settings k items t
 fronts_legal {settings} {k} {items} {history} {t} h = record {
   volumes = each_from _ all_lanes (λ lane in_lanes. each_from _ (volumes_of settings) (λ v in_volumes.

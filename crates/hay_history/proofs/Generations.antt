@@ -14,8 +14,9 @@ use Rattle.hay_legal.specs.declared.turn.LaneItem.{LaneItem}
 use Rattle.hay_legal.specs.Known.{EachPair, machine_of, replica_at, volume_at}
 use Rattle.hay_legal.specs.Blocks.{GenerationsAreLegal, froze_at_compact, is_wanting, made_on, tag_of}
 use Rattle.hay_history.specs.Steps.{Did, Standing, Step}
+use Rattle.hay_history.proofs.Trying.{changed}
 use Rattle.hay_history.specs.Histories.{Course, History, behind, first_of, own, standing}
-use Rattle.hay_history.specs.Commands.{Came}
+use Rattle.hay_history.specs.Commands.{CameInLanes}
 use Rattle.hay_history.proofs.Lists.{each_flat, each_from, each_in, in_rest, is_first, pair_by, pair_flat}
 use Rattle.hay_history.proofs.Lines.{answered, course_of, own_at, own_leads}
 use Rattle.hay_history.proofs.Volumes.{Persists, generation_grows, persists_on, replicas_many}
@@ -43,7 +44,7 @@ swaps_split j before (step ∷ steps) = omega (arith, split j before step.did, s
 -- WHAT STANDS OF A REPLICA
 
 -- over steps the number of a volume's replicas stays
-pub within_then : {settings : Settings} {k : Known} {items : List LaneItem} {history : History} {t : Known} (h : Came settings k items history t)
+pub within_then : {settings : Settings} {k : Known} {items : List LaneItem} {history : History} {t : Known} (h : CameInLanes settings k items history t)
     (v n j : ℕ) → v < settings.volumes → j < settings.replicas → j < length ((behind (first_of settings k v) (history.volumes v) n).volume).replicas
 within_then h v n j below within = subst (λ (m : ℕ). j < m) (sym (replicas_many h v n below)) within
 
@@ -51,7 +52,7 @@ abbrev pub last_of : Settings → Known → History → ℕ → Standing
 last_of settings k history v = behind (first_of settings k v) (history.volumes v) (length (history.volumes v))
 
 -- how far a replica grew in the block
-pub grown : {settings : Settings} {k : Known} {items : List LaneItem} {history : History} {t : Known} (h : Came settings k items history t)
+pub grown : {settings : Settings} {k : Known} {items : List LaneItem} {history : History} {t : Known} (h : CameInLanes settings k items history t)
     (v j : ℕ) → v < settings.volumes → j < settings.replicas
     → Grown j (first_of settings k v) (weigh (swaps_at j) (first_of settings k v) (history.volumes v)) (last_of settings k history v)
 grown {settings} {k} {items} {history} {t} h v j below within =
@@ -87,7 +88,7 @@ numbered_persists j = record {
   ];
 }
 
-numbered : {settings : Settings} {k : Known} {items : List LaneItem} {history : History} {t : Known} (h : Came settings k items history t)
+numbered : {settings : Settings} {k : Known} {items : List LaneItem} {history : History} {t : Known} (h : CameInLanes settings k items history t)
     (v j : ℕ) → v < settings.volumes → Numbered j (volume_at k v) (volume_at t v)
 numbered h v j below = persists_on h (Numbered j) (numbered_persists j) v 0 below
 
@@ -112,9 +113,9 @@ made_one c v j item one true same =
         step = to.step;
         end = one.end;
         cells = one.cells;
-        own = subst (λ (xs : List (ℕ × Step)). Contains xs (to.place, to.step)) (sym (to.ran).steps)
+        own = changed c v (to.place, to.step) (subst (λ (xs : List (ℕ × Step)). Contains xs (to.place, to.step)) (sym (to.ran).steps)
             (in_rest ((to.ran).place, (to.ran).first) ((to.ran).middle ++ (to.place, to.step) ∷ []) (to.place, to.step)
-            (Contains-append_right (to.ran).middle ((to.place, to.step) ∷ []) (to.place, to.step) (is_first (to.place, to.step) [])));
+            (Contains-append_right (to.ran).middle ((to.place, to.step) ∷ []) (to.place, to.step) (is_first (to.place, to.step) []))));
         is = to.is ∙ ap (λ (n : ℕ). Did.Swaps n one.end one.cells false) this;
         number = ap (λ (n : ℕ). generation_of (standing c v to.place) n + 1) this;
       },
@@ -141,7 +142,7 @@ made_alone R v m line lane it (reply.Compacted v' m' g) = alone ((v' == v) && (m
     alone false = tt
 made_alone R v m line lane it _ = tt
 
-module _ {settings : Settings} {k : Known} {items : List LaneItem} {history : History} {t : Known} (h : Came settings k items history t)
+module _ {settings : Settings} {k : Known} {items : List LaneItem} {history : History} {t : Known} (h : CameInLanes settings k items history t)
     (v j : ℕ) (below : v < settings.volumes) (within : j < settings.replicas) (narrow : settings.replicas ≤ settings.machines) where
   made_by : (item : LaneItem) → Contains items item → Each (MadeAt (course_of h item) v j) (made_on v (machine_of settings v j) item)
   made_by item among = made_each (course_of h item) v j item narrow within (line_did (course_of h item) v item (answered h item among).did)

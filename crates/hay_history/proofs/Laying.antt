@@ -12,14 +12,16 @@ use Rattle.hay_reply.specs.declared.Cause.TheVariants.{Arm, Disk, Damage}
 use Rattle.hay_reply.specs.declared.Passed.{Passed}
 use Rattle.hay_reply.specs.declared.Reply.{Reply}
 use Rattle.hay_reply.specs.declared.Reply.TheVariants as reply
+use Rattle.hay_core.specs.declared.entry.Entry.TheVariants as entry
 use Rattle.hay_legal.specs.declared.turn.Item.{Item}
 use Rattle.hay_legal.specs.declared.turn.Item.TheVariants as asks
 use Rattle.hay_legal.specs.Known.{EachPair, machine_of, replica_on}
 use Rattle.hay_legal.specs.Plain.{ArmRises, order_from, put_entry, start_of}
 use Rattle.hay_legal.specs.Blocks.{before_machine}
 use Rattle.hay_history.specs.Steps.{Did, RowStep, Step}
-use Rattle.hay_history.specs.Steps.Did.{Ends, Pends, Poises, Sticks, Tries}
-use Rattle.hay_history.specs.Histories.{Course, OneStep, own, own_rows, rows_standing}
+use Rattle.hay_history.specs.Steps.Did.{Ends, Fuses, Pends, Poises, Sticks, Tries}
+use Rattle.hay_history.proofs.Trying.{changed, changed_row}
+use Rattle.hay_history.specs.Histories.{Course, OneStep, OneTry, changes, own, own_rows, rows_standing}
 use Rattle.hay_history.specs.Commands.{CompactDid, CompactFailed, DelDid, FlushDid, GetDid, ItemDid, LookFailed, OnlyLooks, PassedFor, PassedOver, PutDid, RanTo, RanUntil, RoseIn, ShowDid, UrlDid}
 use Rattle.hay_history.proofs.Lists.{each_in, each_weaker, zip_weaker}
 use Rattle.hay_history.proofs.Placing.{order_apart, zip_choice}
@@ -32,6 +34,7 @@ is_quiet Tries = true
 is_quiet (Pends m change failed) = true
 is_quiet (Sticks j) = true
 is_quiet (Poises m j) = true
+is_quiet (Fuses j) = true
 is_quiet _ = false
 
 pub record QuietStep (c : Course) (v place : ℕ) : Type 0 where
@@ -42,7 +45,7 @@ pub record QuietStep (c : Course) (v place : ℕ) : Type 0 where
 -- the line's run of a replica ended in this step
 abbrev pub EndedRun : Course → ℕ → ℕ → ℕ → Type 0
 EndedRun c v j place =
-    ((ends : RanTo c v j (Ends j)) × (ends.place ≡ place)) ⊎ ((f : ℕ) × (until : RanUntil c v j f) × (until.place ≡ place))
+    ((ends : RanTo c v j (Ends j)) × (ends.place ≡ place)) ⊎ ((f : ℕ) × (until : RanUntil c v j f) × ((until.ran).until ≡ place))
 
 -- A count of a disk that a line prints, or a replica that is laid to its disk, is charged to a step of the volume.
 pub record Charge (c : Course) (v j f : ℕ) : Type 0 where
@@ -56,10 +59,13 @@ step_charge c v j f did one quiet rose = record {
   rose = rose;
   how = inl (record {
     step = one.step;
-    among = subst (λ (l : List (ℕ × Step)). Contains l (one.place, one.step)) (sym one.only) (0, omega arith, refl);
+    among = changed c v (one.place, one.step) (subst (λ (l : List (ℕ × Step)). Contains l (one.place, one.step)) (sym one.only) (0, omega arith, refl));
     quiet = ap is_quiet one.is ∙ quiet;
   });
 }
+
+pub try_charge : (c : Course) (v j f : ℕ) (one : OneTry c v) → RoseIn c v one.place j f → Charge c v j f
+try_charge c v j f one rose = record { place = one.place; rose = rose; how = inl (record { step = one.step; among = one.among; quiet = ap is_quiet one.is }) }
 
 pub look_charge : (c : Course) (v j f : ℕ) → OnlyLooks c v → LookFailed c v j f → Charge c v j f
 look_charge c v j f looks failed = record {
@@ -168,7 +174,7 @@ put_laid c start pair bytes (reply.FailedDir f) h =
       record {
         place = pends.place;
         step = pends.step;
-        among = subst (λ (l : List (ℕ × RowStep)). Contains l (pends.place, pends.step)) (sym pends.only) (0, omega arith, refl);
+        among = changed_row c (pends.place, pends.step) (subst (λ (l : List (ℕ × RowStep)). Contains l (pends.place, pends.step)) (sym pends.only) (0, omega arith, refl));
         rose = h.rose;
         printed = h.printed;
       },
@@ -178,8 +184,10 @@ put_laid c start pair bytes r h = search (none_to_arm)
 
 del_laid : (c : Course) (start : ℕ) (pair : Pair) (r : Reply) → DelDid c pair r → LaidSo c start r
 del_laid c start pair (reply.Failed v m f) h =
-    let quiet : is_quiet h.did ≡ true = elim h.which [ inl e ↦ ap is_quiet e | inr e ↦ ap is_quiet e.0 ] in
-    (none_to_arm, ((h.failed).0, (h.failed).1, step_charge c v (h.failed).0 f h.did h.step quiet (h.failed).2))
+    elim h.which [
+      | inl try ↦ let failed = (try.1).1 in (none_to_arm, (failed.0, failed.1, try_charge c v failed.0 f try.0 failed.2))
+      | inr one ↦ let failed = (one.1).1 in (none_to_arm, (failed.0, failed.1, step_charge c v failed.0 f (Pends m (entry.Del pair) true) one.0 refl failed.2))
+    ]
 del_laid c start pair reply.NoMem h = (none_to_arm, tt)
 del_laid c start pair r h = search (none_to_arm)
 
@@ -206,19 +214,19 @@ flush_laid c start v m (Some j) r is h = search (none_to_arm)
 
 pub last_step : (c : Course) (v j : ℕ) (did : Did) (ran : RanTo c v j did) → Contains (own c v) (ran.place, ran.step)
 last_step c v j did ran =
-    let parts : own c v ≡ (((ran.ran).place, (ran.ran).first) ∷ (ran.ran).middle) ++ (ran.place, ran.step) ∷ [] = (ran.ran).steps in
-    subst (λ (l : List (ℕ × Step)). Contains l (ran.place, ran.step)) (sym parts)
-    (Contains-push (((ran.ran).place, (ran.ran).first) ∷ (ran.ran).middle) (ran.place, ran.step))
+    let parts : changes c v ≡ (((ran.ran).place, (ran.ran).first) ∷ (ran.ran).middle) ++ (ran.place, ran.step) ∷ [] = (ran.ran).steps in
+    changed c v (ran.place, ran.step) (subst (λ (l : List (ℕ × Step)). Contains l (ran.place, ran.step)) (sym parts)
+    (Contains-push (((ran.ran).place, (ran.ran).first) ∷ (ran.ran).middle) (ran.place, ran.step)))
 
 compact_charge : (c : Course) (v m j f : ℕ) → CompactFailed c v m j f → Charge c v j f
-compact_charge c v m j f (inl begins) = step_charge c v j f Tries begins.step refl begins.failed
+compact_charge c v m j f (inl begins) = try_charge c v j f begins.step begins.failed
 compact_charge c v m j f (inr (inl ends)) = record { place = (ends.0).place; rose = ends.1; how = inr (inl (ends.0, refl)) }
 compact_charge c v m j f (inr (inr (inl poises))) = record {
   place = (poises.0).place;
   rose = poises.1;
   how = inl (record { step = (poises.0).step; among = last_step c v j (Poises m j) poises.0; quiet = ap is_quiet (poises.0).is });
 }
-compact_charge c v m j f (inr (inr (inr until))) = record { place = until.place; rose = until.rose; how = inr (inr (f, until, refl)) }
+compact_charge c v m j f (inr (inr (inr until))) = record { place = (until.ran).until; rose = until.rose; how = inr (inr (f, until, refl)) }
 
 compact_laid : (c : Course) (start v m : ℕ) (on : Option ℕ) (r : Reply) → replica_on c.settings v m ≡ on → CompactDid c v m on r → LaidSo c start r
 compact_laid c start v m None reply.NoMem is h = (none_to_arm, tt)

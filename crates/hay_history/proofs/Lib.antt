@@ -2,7 +2,9 @@ pub mod Lists
 pub mod Histories
 pub mod Lines
 pub mod Changes
+pub mod Trying
 pub mod Own
+pub mod OwnRuns
 pub mod Volumes
 pub mod Rows
 pub mod Takers
@@ -32,5 +34,17 @@ pub mod Charges
 pub mod Disks
 pub mod Arms
 pub mod Counts
+pub mod Beside
+pub mod InLanes
+pub mod Alone
+pub mod AloneReads
+pub mod AlonePuts
+pub mod AloneDels
+pub mod AloneRuns
+pub mod AloneSettings
+pub mod AloneCompacts
+pub mod AloneLaw
 pub mod Law
 pub mod Worked
+pub mod WorkedTogether
+pub mod WorkedAlone

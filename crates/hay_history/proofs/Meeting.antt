@@ -25,9 +25,10 @@ use Rattle.hay_legal.specs.declared.known.ReplicaKnown.{ReplicaKnown}
 use Rattle.hay_legal.specs.Plain.{as_closed, put_entry, start_of}
 use Rattle.hay_legal.specs.Blocks.{MetClosed, MetFrozen, MetOpen, MetThawed, tag_of}
 use Rattle.hay_history.specs.Steps.{Did, IsThawed, Leads, Standing, Step}
-use Rattle.hay_history.specs.Steps.Did.{Ends, Entered, Flushes, Pends, Poises, Sticks, Swaps, Tries}
-use Rattle.hay_history.specs.Histories.{Course, History, IsLater, IsMoment, OneStep, SeesRefusal, closing_then, own, refusal_then, standing, volume_then}
-use Rattle.hay_history.specs.Commands.{Came, CommandDid, CompactDid, CompactFailed, CompactRefused, DelDid, FlushDid, GetDid, HomeIsClosed, HomeRefuses, ItemDid, PutDid, PutRefused, RanTo, ShowDid, UrlDid}
+use Rattle.hay_history.specs.Steps.Did.{Ends, Entered, Flushes, Pends, Poises, Sticks, Swaps}
+use Rattle.hay_history.specs.Histories.{Course, History, IsLater, IsMoment, OneStep, OneTry, SeesRefusal, closing_then, own, refusal_then, standing, volume_then}
+use Rattle.hay_history.specs.Commands.{CameInLanes, CommandDid, CompactDid, CompactFailed, CompactRefused, DelDid, FlushDid, GetDid, HomeIsClosed, HomeRefuses, ItemDid, PutDid, PutRefused, RanTo, ShowDid, UrlDid}
+use Rattle.hay_history.proofs.Trying.{one_own}
 use Rattle.hay_history.proofs.Lists.{each_in, first_or_rest, in_rest, is_first, none_in, one_in, pair_by}
 use Rattle.hay_history.proofs.Lines.{answered, course_of, one_leads, own_leads}
 use Rattle.hay_history.proofs.Placing.{on_machine}
@@ -89,7 +90,7 @@ module _ (c : Course) where
           → (u ≡ v) × (closing_then c u n ≡ None)
       by (Some other) is same = let clash : Closed u other ≡ NoRoom v m end need = cc in absurd cc
       by None is same =
-          let lack = option_map_some (λ (at : ℕ × ReplicaKnown). NoRoom u (machine_of c.settings u at.0) (at.1).end (total_of_lem size))
+          let lack = option_map_some (λ (at : ℕ × ReplicaKnown). NoRoom u (machine_of c.settings u at.0) (at.1).end (needle_total size))
           (find (λ at. lacks_room c.settings size at.1) (enumerate_from 0 (volume_then c u n).replicas)) (NoRoom v m end need) same in
           (ap volume_named lack.2, is)
 
@@ -163,7 +164,7 @@ module _ (c : Course) where
   compact_frozen u v j [] (inr ran) names = absurd ran
   compact_frozen u v j (by ∷ []) (inr ran) names =
       let is : u ≡ v = sym ran.0 ∙ the_closed v by names.0 names.1 names.2 in
-      subst (SawFrozen c) is (((ran.1).0).ended, by.machine, (((ran.1).0).seen).1, (ran.1).1)
+      subst (SawFrozen c) is (((ran.1).0).until + 1, by.machine, (((ran.1).0).seen).1, (ran.1).1)
   compact_frozen u v j (by ∷ next ∷ rest) (inr ran) names = absurd ran
 
   compact_on_frozen : (u m v : ℕ) (o : Option ℕ) (tries : List ClosedBy) → CompactDid c u m o (reply.ReadOnly tries)
@@ -187,7 +188,7 @@ module _ (c : Course) where
 
 -- OPEN VOLUMES
 
-module _ {settings : Settings} {k : Known} {items : List LaneItem} {history : History} {t : Known} (h : Came settings k items history t) (item : LaneItem)
+module _ {settings : Settings} {k : Known} {items : List LaneItem} {history : History} {t : Known} (h : CameInLanes settings k items history t) (item : LaneItem)
     (among : Contains items item) where
   -- a line's steps are behind what its lane had seen
   since : (v : ℕ) (at : ℕ × Step) → Contains (own (course_of h item) v) at → ((course_of h item).from).volumes v ≤ at.0
@@ -197,7 +198,10 @@ module _ {settings : Settings} {k : Known} {items : List LaneItem} {history : Hi
 
   since_one : (v : ℕ) (did : Did) (one : OneStep (course_of h item) v did) → ((course_of h item).from).volumes v ≤ one.place
   since_one v did one =
-      since v (one.place, one.step) (subst (λ (l : List (ℕ × Step)). Contains l (one.place, one.step)) (sym one.only) (is_first (one.place, one.step) []))
+      since v (one.place, one.step) (one_own (course_of h item) v did one)
+
+  since_try : (v : ℕ) (one : OneTry (course_of h item) v) → ((course_of h item).from).volumes v ≤ one.place
+  since_try v one = since v (one.place, one.step) one.among
 
   -- a step that finds its volume thawed
   one_thawed : (v : ℕ) (did : Did) → v < settings.volumes → (one : OneStep (course_of h item) v did)
@@ -238,7 +242,10 @@ module _ {settings : Settings} {k : Known} {items : List LaneItem} {history : Hi
       subst (SawThawed (course_of h item)) met (one_thawed u (Entered (entry.Del pair)) did.below did.step (λ a b leads. leads.0))
   del_open pair (reply.Absent u p d) v did met = subst (SawThawed (course_of h item)) met (thawed_at u did.moment (did.seen).0 did.«open»)
   del_open pair (reply.Failed u m f) v did met =
-      subst (SawThawed (course_of h item)) met (thawed_at u (did.step).place (since_one u did.did did.step) did.«open»)
+      subst (SawThawed (course_of h item)) met (elim did.which [
+        | inl try ↦ thawed_at u (try.0).place (since_try u try.0) (try.1).0
+        | inr one ↦ thawed_at u (one.0).place (since_one u (Pends m (entry.Del pair) true) one.0) (one.1).0
+      ])
   del_open pair r v did met = search
 
   flush_open : (u m : ℕ) (o : Option ℕ) (r : Reply) (v : ℕ) → replica_on settings u m ≡ o → FlushDid (course_of h item) u m o r → MetOpen v r → SawThawed (course_of h item) v
@@ -252,10 +259,10 @@ module _ {settings : Settings} {k : Known} {items : List LaneItem} {history : Hi
   flush_open u m (Some j) r v there did met = search
 
   failed_open : (u m j f : ℕ) → u < settings.volumes → CompactFailed (course_of h item) u m j f → SawThawed (course_of h item) u
-  failed_open u m j f below (inl began) = ((began.step).place, since_one u Tries began.step, began.thawed)
+  failed_open u m j f below (inl began) = ((began.step).place, since_try u began.step, began.thawed)
   failed_open u m j f below (inr (inl ends)) = last_thawed u j (Ends j) below ends.0 (λ a b leads. leads.0)
   failed_open u m j f below (inr (inr (inl poises))) = last_thawed u j (Poises m j) below poises.0 (λ a b leads. leads.0)
-  failed_open u m j f below (inr (inr (inr until))) = ((until.ran).ended, ((until.ran).seen).0, until.thawed)
+  failed_open u m j f below (inr (inr (inr until))) = ((until.ran).until + 1, ((until.ran).seen).0, until.thawed)
 
   pub compact_open : (u m : ℕ) (o : Option ℕ) (r : Reply) (v : ℕ) → replica_on settings u m ≡ o → CompactDid (course_of h item) u m o r → MetOpen v r → SawThawed (course_of h item) v
   compact_open u m None reply.NoMem v there did met = absurd met
@@ -304,10 +311,10 @@ module _ {settings : Settings} {k : Known} {items : List LaneItem} {history : Hi
 -- LANES
 
 -- the line that froze a volume, if one did, saw it thawed and then frozen
-abbrev pub FrostSeen : {settings : Settings} {k : Known} {items : List LaneItem} {history : History} {t : Known} → Came settings k items history t → ℕ → Option LaneItem → Type 0
+abbrev pub FrostSeen : {settings : Settings} {k : Known} {items : List LaneItem} {history : History} {t : Known} → CameInLanes settings k items history t → ℕ → Option LaneItem → Type 0
 FrostSeen h v froze = (item : LaneItem) → froze ≡ Some item → SawFrozen (course_of h item) v × SawThawed (course_of h item) v
 
-pub lanes_meet : {settings : Settings} {k : Known} {items : List LaneItem} {history : History} {t : Known} (h : Came settings k items history t)
+pub lanes_meet : {settings : Settings} {k : Known} {items : List LaneItem} {history : History} {t : Known} (h : CameInLanes settings k items history t)
     (v : ℕ) → v < settings.volumes → (froze : Option LaneItem) → FrostSeen h v froze
     → EachPair (λ a b. a.lane ≡ b.lane → MetFrozen settings k v froze a → MetThawed v froze b → ⊥) items
 lanes_meet {settings} {k} {items} {history} {t} h v below froze seen =

@@ -2,7 +2,7 @@
 use Rattle.std.proofs.Common.{◌≡◌, ◌⊎◌, inl, inr, ℕ, Bool, true, false, List, [], ◌∷◌, ◌++◌, length, Contains, Option, Some, None, refl, sym, ap, subst, ◌∙◌, ◌+◌, ◌<◌}
 use Rattle.std.specs.Prelude.{◌≢◌, ◌==◌, ◌&&◌}
 use Rattle.std.specs.List.{AllByRecursion as Each}
-use Rattle.std.proofs.lemmas.Bool.{cases_Bool, eq-eqb, eqb-true, eqb-false}
+use Rattle.std.proofs.lemmas.Bool.{cases_Bool, cases_eq, eq-eqb, eqb-true, eqb-false}
 use Rattle.hay_needle.specs.declared.needle.Pair.{Pair}
 use Rattle.hay_needle.specs.declared.needle.Cookie.{Cookie}
 use Rattle.hay_needle.specs.declared.settings.Settings.{Settings}
@@ -22,11 +22,12 @@ use Rattle.hay_legal.specs.Plain.{first_machine, put_entry, start_of}
 use Rattle.hay_legal.specs.Blocks.{SticksBy, acknowledged, entry_of_item, is_compacted}
 use Rattle.hay_legal.proofs.Subject.Effects.{each_append}
 use Rattle.hay_history.specs.Steps.{Did, Step}
-use Rattle.hay_history.specs.Steps.Did.{Begins, Ends, Entered, Examines, Flushes, Freezes, Pends, Poises, Sticks, Swaps, Tries}
-use Rattle.hay_history.specs.Histories.{Course, NoSteps, OneStep, OnlyOn, SeesHome, SeesOpen, closing_then, own, refusal_then, volume_then}
+use Rattle.hay_history.specs.Steps.Did.{Begins, Ends, Entered, Examines, Flushes, Freezes, Fuses, Pends, Poises, Sticks, Swaps, Tries}
+use Rattle.hay_history.specs.Histories.{Course, NoSteps, OneStep, OneTry, OnlyOn, SeesHome, SeesOpen, changes, changes_it, closing_then, own, refusal_then, volume_then}
 use Rattle.hay_history.specs.Commands.{CommandDid, CompactDid, CompactFailed, CompactRefused, CompactWanting, DelDid, FlushDid, GetDid, ItemDid, LeftPending, LookFroze, LookWanting, OnlyLooks, PutDid, Ran, RanTo, ShowDid, UrlDid, stood_then}
 use Rattle.hay_history.proofs.Placing.{machine_there}
-use Rattle.hay_history.proofs.Lists.{each_in, first_or_rest, none_in, one_in}
+use Rattle.hay_history.proofs.Lists.{each_in, first_or_rest, none_in, one_in, pair_kept}
+use Rattle.hay_history.proofs.Trying.{tried_or_changed}
 use Rattle.hay_history.proofs.Lines.{own_in_order}
 
 -- a line asks for the compaction of replica j
@@ -57,28 +58,37 @@ MayDo settings item reply v (Ends j) = (m : ℕ) × IsCompact settings item v m 
 MayDo settings item reply v (Swaps j end cells true) = (m : ℕ) × IsCompact settings item v m j × (reply ≡ NoMem)
 MayDo settings item reply v (Swaps j end cells false) = (m : ℕ) × (g : ℕ) × IsCompact settings item v m j × (reply ≡ Compacted v m g)
 MayDo settings item reply v (Poises m j) = (f : ℕ) × IsCompact settings item v m j × (reply ≡ Failed v m f)
+MayDo settings item reply v (Fuses j) = ⊥
 
 -- WHERE THE STEPS ARE
 
-pub no_step : (c : Course) (v : ℕ) (at : ℕ × Step) → NoSteps c → Contains (own c v) at → ⊥
-no_step c v at none among = none_in at (subst (λ (l : List (ℕ × Step)). Contains l at) (none v) among)
+pub no_step : (c : Course) (v : ℕ) (at : ℕ × Step) → NoSteps c → Contains (own c v) at → (at.1).did ≡ Tries
+no_step c v at none among = elim (tried_or_changed c v at among) [
+  | inl try ↦ try
+  | inr change ↦ absurd (none_in at (subst (λ (l : List (ℕ × Step)). Contains l at) (none v) change))
+]
 
-pub only_there : (c : Course) (u v : ℕ) (at : ℕ × Step) → OnlyOn c u → Contains (own c v) at → u ≡ v
+pub only_there : (c : Course) (u v : ℕ) (at : ℕ × Step) → OnlyOn c u → Contains (own c v) at → ((at.1).did ≡ Tries) ⊎ (u ≡ v)
 only_there c u v at only among =
     elim (cases_Bool (u == v)) [
-      | inl t ↦ eqb-true u v t
+      | inl t ↦ inr (eqb-true u v t)
       | inr f ↦
           let apart : v ≢ u = λ e. eqb-false u v f (sym e) in
-          absurd (none_in at (subst (λ (l : List (ℕ × Step)). Contains l at) (only v apart) among))
+          elim (tried_or_changed c v at among) [
+            | inl try ↦ inl try
+            | inr change ↦ absurd (none_in at (subst (λ (l : List (ℕ × Step)). Contains l at) (only v apart) change))
+          ]
     ]
 
 -- a line with one step did that
-pub the_step : (c : Course) (v : ℕ) (did : Did) (at : ℕ × Step) → OneStep c v did → Contains (own c v) at → (at.1).did ≡ did
-the_step c v did at one among =
-    elim (first_or_rest (one.place, one.step) [] at (subst (λ (l : List (ℕ × Step)). Contains l at) one.only among)) [
-      | inl e ↦ ap (λ (p : ℕ × Step). (p.1).did) (sym e) ∙ one.is
-      | inr rest ↦ absurd (none_in at rest)
-    ]
+pub the_step : (c : Course) (v : ℕ) (did : Did) (at : ℕ × Step) → OneStep c v did → Contains (own c v) at → ((at.1).did ≡ Tries) ⊎ ((one_at : ℕ × Step) × (one_at ≡ at) × ((at.1).did ≡ did))
+the_step c v did at one among = elim (tried_or_changed c v at among) [
+  | inl try ↦ inl try
+  | inr change ↦ elim (first_or_rest (one.place, one.step) [] at (subst (λ (l : List (ℕ × Step)). Contains l at) one.only change)) [
+    | inl e ↦ inr ((one.place, one.step), e, ap (λ (p : ℕ × Step). (p.1).did) (sym e) ∙ one.is)
+    | inr rest ↦ absurd (none_in at rest)
+  ]
+]
 
 module _ (c : Course) (item : Item) (reply : Reply) where
   abbrev pub Does : ℕ → Did → Type 0
@@ -89,16 +99,28 @@ module _ (c : Course) (item : Item) (reply : Reply) where
   AllMay = (v : ℕ) (at : ℕ × Step) → Contains (own c v) at → Does v (at.1).did
 
   pub may_none : NoSteps c → AllMay
-  may_none none v at among = absurd (no_step c v at none among)
+  may_none none v at among = subst (λ (d : Did). Does v d) (sym (no_step c v at none among)) tt
 
   pub may_on : (u : ℕ) → OnlyOn c u → ((at : ℕ × Step) → Contains (own c u) at → Does u (at.1).did) → AllMay
   may_on u only each v at among =
-      let there : u ≡ v = only_there c u v at only among in
-      subst (λ (w : ℕ). Does w (at.1).did) there (each at (subst (λ (w : ℕ). Contains (own c w) at) (sym there) among))
+      elim (only_there c u v at only among) [
+        | inl try ↦ subst (λ (d : Did). Does v d) (sym try) tt
+        | inr there ↦ subst (λ (w : ℕ). Does w (at.1).did) there (each at (subst (λ (w : ℕ). Contains (own c w) at) (sym there) among))
+      ]
 
   pub may_one : (u : ℕ) (did : Did) → OnlyOn c u → OneStep c u did → Does u did → AllMay
   may_one u did only one does =
-      may_on u only (λ at among. subst (λ (d : Did). Does u d) (sym (the_step c u did at one among)) does)
+      may_on u only (λ at among. elim (the_step c u did at one among) [
+        | inl try ↦ subst (λ (d : Did). Does u d) (sym try) tt
+        | inr it ↦ subst (λ (d : Did). Does u d) (sym it.2) does
+      ])
+
+  pub may_try : (u : ℕ) → OnlyOn c u → OneTry c u → AllMay
+  may_try u only one =
+      may_on u only (λ at among. elim (tried_or_changed c u at among) [
+        | inl try ↦ subst (λ (d : Did). Does u d) (sym try) tt
+        | inr change ↦ absurd (none_in at (subst (λ (l : List (ℕ × Step)). Contains l at) one.none change))
+      ])
 
   pub may_each : (u : ℕ) (Q : Did → Type 0) → OnlyOn c u → Each (λ at. Q (at.1).did) (own c u) → ((did : Did) → Q did → Does u did) → AllMay
   may_each u Q only each does =
@@ -135,8 +157,11 @@ module _ (c : Course) (item : Item) (reply : Reply) where
         subst (λ (d : Did). Does u d) (sym ran.begins) (m, is),
         each_append (λ (at : ℕ × Step). Does u (at.1).did) ran.middle last (examines_each u m j is ran.middle ran.examines) each,
       ) in
-      may_on u ran.elsewhere (λ at among. each_in (λ (x : ℕ × Step). Does u (x.1).did) ((ran.place, ran.first) ∷ (ran.middle ++ last)) at all
-      (subst (λ (l : List (ℕ × Step)). Contains l at) ran.steps among))
+      may_on u ran.elsewhere (λ at among. elim (tried_or_changed c u at among) [
+        | inl try ↦ subst (λ (d : Did). Does u d) (sym try) tt
+        | inr change ↦ each_in (λ (x : ℕ × Step). Does u (x.1).did) ((ran.place, ran.first) ∷ (ran.middle ++ last)) at all
+            (subst (λ (l : List (ℕ × Step)). Contains l at) ran.steps change)
+      ])
 
   pub may_run_to : (u m j : ℕ) (did : Did) → IsCompact c.settings item u m j → (to : RanTo c u j did) → Does u did → AllMay
   may_run_to u m j did is to does = may_run u m j ((to.place, to.step) ∷ []) is to.ran (subst (λ (d : Did). Does u d) (sym to.is) does, tt)
@@ -182,10 +207,10 @@ del_may : (c : Course) (pair : Pair) (reply : Reply) → DelDid c pair reply →
 del_may c pair (Deleted u p d) h =
     may_one c (asks.Command (command.Del pair)) (Deleted u p d) u (Entered (entry.Del pair)) h.elsewhere h.step (refl, p, refl)
 del_may c pair (Failed u m f) h =
-    may_one c (asks.Command (command.Del pair)) (Failed u m f) u h.did h.elsewhere h.step (elim (h.which) [
-      | inl is ↦ subst (λ (d : Did). MayDo c.settings (asks.Command (command.Del pair)) (Failed u m f) u d) (sym is) tt
-      | inr is ↦ subst (λ (d : Did). MayDo c.settings (asks.Command (command.Del pair)) (Failed u m f) u d) (sym is.0) (refl, f, refl)
-    ])
+    elim h.which [
+      | inl try ↦ may_try c (asks.Command (command.Del pair)) (Failed u m f) u h.elsewhere try.0
+      | inr one ↦ may_one c (asks.Command (command.Del pair)) (Failed u m f) u (Pends m (entry.Del pair) true) h.elsewhere one.0 (refl, f, refl)
+    ]
 del_may c pair NoMem h =
     elim h.1 [
       | inl none ↦ may_none c (asks.Command (command.Del pair)) NoMem none
@@ -221,7 +246,7 @@ refused_may c u m j (by ∷ next ∷ rest) there (inr ran) = absurd ran
 
 failed_may : (c : Course) (u m j u' m' f : ℕ) → replica_on c.settings u m ≡ Some j → (u' ≡ u) × (m' ≡ m) → CompactFailed c u m j f
     → AllMay c (asks.Command (command.Compact u m)) (Failed u' m' f)
-failed_may c u m j u' m' f there same (inl begins) = may_one c (asks.Command (command.Compact u m)) (Failed u' m' f) u Tries begins.elsewhere begins.step tt
+failed_may c u m j u' m' f there same (inl begins) = may_try c (asks.Command (command.Compact u m)) (Failed u' m' f) u begins.elsewhere begins.step
 failed_may c u m j u' m' f there same (inr (inl ends)) =
     may_run_to c (asks.Command (command.Compact u m)) (Failed u' m' f) u m j (Ends j) (refl, there) ends.0 (m, (refl, there))
 failed_may c u m j u' m' f there same (inr (inr (inl poises))) =
@@ -289,18 +314,30 @@ module _ (c : Course) (item : Item) where
   AllSaw = (v : ℕ) (at : ℕ × Step) → Contains (own c v) at → Saw c item v at.0 (at.1).did
 
   saw_none : NoSteps c → AllSaw
-  saw_none none v at among = absurd (no_step c v at none among)
+  saw_none none v at among = subst (λ (d : Did). Saw c item v at.0 d) (sym (no_step c v at none among)) tt
 
   saw_on : (u : ℕ) → OnlyOn c u → ((at : ℕ × Step) → Contains (own c u) at → Saw c item u at.0 (at.1).did) → AllSaw
   saw_on u only each v at among =
-      let there : u ≡ v = only_there c u v at only among in
-      subst (λ (w : ℕ). Saw c item w at.0 (at.1).did) there (each at (subst (λ (w : ℕ). Contains (own c w) at) (sym there) among))
+      elim (only_there c u v at only among) [
+        | inl try ↦ subst (λ (d : Did). Saw c item v at.0 d) (sym try) tt
+        | inr there ↦ subst (λ (w : ℕ). Saw c item w at.0 (at.1).did) there (each at (subst (λ (w : ℕ). Contains (own c w) at) (sym there) among))
+      ]
 
   saw_one : (u : ℕ) (did : Did) → OnlyOn c u → (one : OneStep c u did) → Saw c item u one.place did → AllSaw
   saw_one u did only one saw =
-      saw_on u only (λ at among.
-      subst (λ (x : ℕ × Step). Saw c item u x.0 (x.1).did) (one_in (one.place, one.step) at (subst (λ (l : List (ℕ × Step)). Contains l at) one.only among))
-      (subst (λ (d : Did). Saw c item u one.place d) (sym one.is) saw))
+      saw_on u only (λ at among. elim (tried_or_changed c u at among) [
+        | inl try ↦ subst (λ (d : Did). Saw c item u at.0 d) (sym try) tt
+        | inr change ↦
+            subst (λ (x : ℕ × Step). Saw c item u x.0 (x.1).did) (one_in (one.place, one.step) at (subst (λ (l : List (ℕ × Step)). Contains l at) one.only change))
+            (subst (λ (d : Did). Saw c item u one.place d) (sym one.is) saw)
+      ])
+
+  saw_try : (u : ℕ) → OnlyOn c u → OneTry c u → AllSaw
+  saw_try u only one =
+      saw_on u only (λ at among. elim (tried_or_changed c u at among) [
+        | inl try ↦ subst (λ (d : Did). Saw c item u at.0 d) (sym try) tt
+        | inr change ↦ absurd (none_in at (subst (λ (l : List (ℕ × Step)). Contains l at) one.none change))
+      ])
 
   saw_look : (u : ℕ) → OnlyLooks c u → AllSaw
   saw_look u looks =
@@ -363,10 +400,10 @@ get_saw c url (Some start) reply h = show_saw c (asks.Command (command.Get url))
 del_saw : (c : Course) (pair : Pair) (reply : Reply) → DelDid c pair reply → AllSaw c (asks.Command (command.Del pair))
 del_saw c pair (Deleted u p d) h = saw_one c (asks.Command (command.Del pair)) u (Entered (entry.Del pair)) h.elsewhere h.step tt
 del_saw c pair (Failed u m f) h =
-    saw_one c (asks.Command (command.Del pair)) u h.did h.elsewhere h.step (elim h.which [
-      | inl is ↦ subst (λ (d : Did). Saw c (asks.Command (command.Del pair)) u (h.step).place d) (sym is) tt
-      | inr is ↦ subst (λ (d : Did). Saw c (asks.Command (command.Del pair)) u (h.step).place d) (sym is.0) ((h.d, h.home), h.«open», is.1)
-    ])
+    elim h.which [
+      | inl try ↦ saw_try c (asks.Command (command.Del pair)) u h.elsewhere try.0
+      | inr one ↦ saw_one c (asks.Command (command.Del pair)) u (Pends m (entry.Del pair) true) h.elsewhere one.0 ((h.d, h.home), (one.1).0, one.2)
+    ]
 del_saw c pair NoMem h =
     elim h.1 [
       | inl none ↦ saw_none c (asks.Command (command.Del pair)) none
@@ -409,23 +446,42 @@ pub record RanBefore (c : Course) (v j n : ℕ) : Type 0 where
   pub ran : Ran c v j last
   pub before : ran.place < n
 
+-- none of these steps begins a compaction of the replica
+abbrev pub NoBegins : ℕ → List (ℕ × Step) → Type 0
+NoBegins j steps = Each (λ at. (at.1).did ≢ Begins j) steps
+
+pub is_begin : (j : ℕ) (did : Did) → (did ≡ Begins j) ⊎ (did ≢ Begins j)
+is_begin j (Begins i) = elim (cases_eq i j) [ inl same ↦ inl (ap Begins same) | inr apart ↦ inr (λ e. let same : i ≡ j = cc in apart same) ]
+is_begin j Tries = inr (λ e. cc)
+is_begin j (Entered change) = inr (λ e. cc)
+is_begin j (Pends m change failed) = inr (λ e. cc)
+is_begin j (Freezes m) = inr (λ e. cc)
+is_begin j (Flushes i) = inr (λ e. cc)
+is_begin j (Sticks i) = inr (λ e. cc)
+is_begin j (Examines i n) = inr (λ e. cc)
+is_begin j (Ends i) = inr (λ e. cc)
+is_begin j (Swaps i end cells freezes) = inr (λ e. cc)
+is_begin j (Poises m i) = inr (λ e. cc)
+is_begin j (Fuses i) = inr (λ e. cc)
+
 pub record RanFrom (c : Course) (v j n : ℕ) : Type 0 where
   pub last : List (ℕ × Step)
+  pub none : NoBegins j last
   pub ran : Ran c v j last
   pub here : ran.place ≡ n
 
 -- what a reply tells of the end of its line's compaction
 abbrev pub EndsBy : Course → ℕ → ℕ → ℕ → Reply → Type 0
-EndsBy c v j ended (Compacted v' m' g) = (last : ℕ) × (ended ≡ last + 1) × (g ≡ (replica_at (volume_then c v last) j).generation + 1)
-EndsBy c v j ended (Failed v' m' f) = Unit {0}
-EndsBy c v j ended (ReadOnly by) = Unit {0}
-EndsBy c v j ended NoMem = Unit {0}
-EndsBy c v j ended _ = ⊥
+EndsBy c v j until (Compacted v' m' g) = g ≡ (replica_at (volume_then c v until) j).generation + 1
+EndsBy c v j until (Failed v' m' f) = Unit {0}
+EndsBy c v j until (ReadOnly by) = Unit {0}
+EndsBy c v j until NoMem = Unit {0}
+EndsBy c v j until _ = ⊥
 
 -- a step of a compact of replica j that stands at this place
 abbrev pub InRun : Course → ℕ → ℕ → Reply → ℕ → Did → Type 0
 InRun c v j r n Tries = Unit {0}
-InRun c v j r n (Begins i) = (from : RanFrom c v j n) × EndsBy c v j (from.ran).ended r
+InRun c v j r n (Begins i) = (from : RanFrom c v j n) × EndsBy c v j (from.ran).until r
 InRun c v j r n _ = RanBefore c v j n
 
 module _ (c : Course) (v j : ℕ) (r : Reply) where
@@ -437,53 +493,60 @@ module _ (c : Course) (v j : ℕ) (r : Reply) where
   InRest at = RanBefore c v j at.0 → InRun c v j r at.0 (at.1).did
 
   idle : NoSteps c → AllInRun
-  idle none at among = absurd (no_step c v at none among)
+  idle none at among = subst (λ (d : Did). InRun c v j r at.0 d) (sym (no_step c v at none among)) tt
 
   examines_in_run : (middle : List (ℕ × Step)) → Each (λ at. (n : ℕ) × ((at.1).did ≡ Examines j n)) middle → Each InRest middle
   examines_in_run [] h = tt
   examines_in_run (at ∷ middle) h =
       (subst (λ (d : Did). RanBefore c v j at.0 → InRun c v j r at.0 d) (sym (h.0).1) (λ before. before), examines_in_run middle h.1)
 
-  ran_in_run : (last : List (ℕ × Step)) (ran : Ran c v j last) → Each InRest last → EndsBy c v j ran.ended r → AllInRun
-  ran_in_run last ran each by at among =
-      elim (first_or_rest (ran.place, ran.first) (ran.middle ++ last) at (subst (λ (l : List (ℕ × Step)). Contains l at) ran.steps among)) [
-        | inl first ↦ subst (λ (d : Did). InRun c v j r at.0 d) (sym ran.begins ∙ ap (λ (x : ℕ × Step). (x.1).did) first)
-            (record { last = last; ran = ran; here = ap (λ (x : ℕ × Step). x.0) first }, by)
-        | inr rest ↦ each_in InRest (ran.middle ++ last) at (each_append InRest ran.middle last (examines_in_run ran.middle ran.examines) each) rest (record {
-          last = last;
-          ran = ran;
-          before = each_in (λ (b : ℕ × Step). ran.place < b.0) (ran.middle ++ last) at
-              (subst (EachPair (λ (a b : ℕ × Step). a.0 < b.0)) ran.steps (own_in_order ((c.history).volumes v) (c.tag).line)).0 rest;
-        })
+  ran_in_run : (last : List (ℕ × Step)) (ran : Ran c v j last) → NoBegins j last → Each InRest last → EndsBy c v j ran.until r → AllInRun
+  ran_in_run last ran none each by at among =
+      elim (tried_or_changed c v at among) [
+        | inl try ↦ subst (λ (d : Did). InRun c v j r at.0 d) (sym try) tt
+        | inr change ↦ elim (first_or_rest (ran.place, ran.first) (ran.middle ++ last) at (subst (λ (l : List (ℕ × Step)). Contains l at) ran.steps change)) [
+          | inl first ↦ subst (λ (d : Did). InRun c v j r at.0 d) (sym ran.begins ∙ ap (λ (x : ℕ × Step). (x.1).did) first)
+              (record { last = last; none = none; ran = ran; here = ap (λ (x : ℕ × Step). x.0) first }, by)
+          | inr rest ↦ each_in InRest (ran.middle ++ last) at (each_append InRest ran.middle last (examines_in_run ran.middle ran.examines) each) rest (record {
+            last = last;
+            ran = ran;
+            before = each_in (λ (b : ℕ × Step). ran.place < b.0) (ran.middle ++ last) at
+                (subst (EachPair (λ (a b : ℕ × Step). a.0 < b.0)) ran.steps (pair_kept (λ (a b : ℕ × Step). a.0 < b.0) (λ at. changes_it (at.1).did) (own c v) (own_in_order ((c.history).volumes v) (c.tag).line))).0 rest;
+          })
+        ]
       ]
 
-  ran_to_in_run : (did : Did) (to : RanTo c v j did) → ((n : ℕ) → RanBefore c v j n → InRun c v j r n did) → EndsBy c v j (to.ran).ended r → AllInRun
-  ran_to_in_run did to by ends =
-      ran_in_run ((to.place, to.step) ∷ []) to.ran (subst (λ (d : Did). RanBefore c v j to.place → InRun c v j r to.place d) (sym to.is) (by to.place), tt) ends
+  ran_to_in_run : (did : Did) (to : RanTo c v j did) → did ≢ Begins j → ((n : ℕ) → RanBefore c v j n → InRun c v j r n did) → EndsBy c v j (to.ran).until r → AllInRun
+  ran_to_in_run did to other by ends =
+      ran_in_run ((to.place, to.step) ∷ []) to.ran ((λ is. other (sym to.is ∙ is)), tt) (subst (λ (d : Did). RanBefore c v j to.place → InRun c v j r to.place d) (sym to.is) (by to.place), tt) ends
 
 refused_in_run : (c : Course) (v j : ℕ) (by : List ClosedBy) → CompactRefused c v j by → AllInRun c v j (ReadOnly by)
 refused_in_run c v j by (inl frozen) = idle c v j (ReadOnly by) (frozen.1).0
 refused_in_run c v j [] (inr ran) = absurd ran
-refused_in_run c v j (by ∷ []) (inr ran) = ran_in_run c v j (ReadOnly (by ∷ [])) [] (ran.1).0 tt tt
+refused_in_run c v j (by ∷ []) (inr ran) = ran_in_run c v j (ReadOnly (by ∷ [])) [] (ran.1).0 tt tt tt
 refused_in_run c v j (by ∷ more ∷ rest) (inr ran) = absurd ran
 
 failed_in_run : (c : Course) (v m j v' m' f : ℕ) → CompactFailed c v m j f → AllInRun c v j (Failed v' m' f)
 failed_in_run c v m j v' m' f (inl began) =
-    λ at among. subst (λ (d : Did). InRun c v j (Failed v' m' f) at.0 d) (sym (the_step c v Tries at began.step among)) tt
-failed_in_run c v m j v' m' f (inr (inl ends)) = ran_to_in_run c v j (Failed v' m' f) (Ends j) ends.0 (λ n before. before) tt
-failed_in_run c v m j v' m' f (inr (inr (inl poises))) = ran_to_in_run c v j (Failed v' m' f) (Poises m j) poises.0 (λ n before. before) tt
-failed_in_run c v m j v' m' f (inr (inr (inr until))) = ran_in_run c v j (Failed v' m' f) [] until.ran tt tt
+    λ at among. elim (tried_or_changed c v at among) [
+      | inl try ↦ subst (λ (d : Did). InRun c v j (Failed v' m' f) at.0 d) (sym try) tt
+      | inr change ↦ absurd (none_in at (subst (λ (l : List (ℕ × Step)). Contains l at) (began.step).none change))
+    ]
+failed_in_run c v m j v' m' f (inr (inl ends)) = ran_to_in_run c v j (Failed v' m' f) (Ends j) ends.0 (λ e. cc) (λ n before. before) tt
+failed_in_run c v m j v' m' f (inr (inr (inl poises))) = ran_to_in_run c v j (Failed v' m' f) (Poises m j) poises.0 (λ e. cc) (λ n before. before) tt
+failed_in_run c v m j v' m' f (inr (inr (inr until))) = ran_in_run c v j (Failed v' m' f) [] until.ran tt tt tt
 
 wanting_in_run : (c : Course) (v j : ℕ) → CompactWanting c v j → AllInRun c v j NoMem
 wanting_in_run c v j (inl nothing) = idle c v j NoMem nothing.0
-wanting_in_run c v j (inr (inl ends)) = ran_to_in_run c v j NoMem (Ends j) ends (λ n before. before) tt
-wanting_in_run c v j (inr (inr (inl swaps))) = ran_to_in_run c v j NoMem (Swaps j swaps.0 swaps.1 true) swaps.2 (λ n before. before) tt
-wanting_in_run c v j (inr (inr (inr (inl until)))) = ran_in_run c v j NoMem [] (until.1).ran tt tt
-wanting_in_run c v j (inr (inr (inr (inr frozen)))) = ran_in_run c v j NoMem [] (frozen.1).0 tt tt
+wanting_in_run c v j (inr (inl ends)) = ran_to_in_run c v j NoMem (Ends j) ends (λ e. cc) (λ n before. before) tt
+wanting_in_run c v j (inr (inr (inl swaps))) = ran_to_in_run c v j NoMem (Swaps j swaps.0 swaps.1 true) swaps.2 (λ e. cc) (λ n before. before) tt
+wanting_in_run c v j (inr (inr (inr (inl until)))) = ran_in_run c v j NoMem [] (until.1).ran tt tt tt
+wanting_in_run c v j (inr (inr (inr (inr frozen)))) = ran_in_run c v j NoMem [] (frozen.1).0 tt tt tt
 
 compact_in_run : (c : Course) (v m j : ℕ) (r : Reply) → CompactDid c v m (Some j) r → AllInRun c v j r
 compact_in_run c v m j (Compacted v' m' g) h =
-    ran_to_in_run c v j (Compacted v' m' g) (Swaps j (h.1).0 (h.1).1 false) (h.1).2 (λ n before. before) (((h.1).2).place, ((h.1).2).behind_it, (h.1).3)
+    ran_to_in_run c v j (Compacted v' m' g) (Swaps j (h.1).0 (h.1).1 false) (h.1).2 (λ e. cc) (λ n before. before)
+    (subst (λ (n : ℕ). g ≡ (replica_at (volume_then c v n) j).generation + 1) (sym ((h.1).2).last) (h.1).3)
 compact_in_run c v m j (ReadOnly by) h = refused_in_run c v j by h
 compact_in_run c v m j (Failed v' m' f) h = failed_in_run c v m j v' m' f h.1
 compact_in_run c v m j NoMem h = wanting_in_run c v j h

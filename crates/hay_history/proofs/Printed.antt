@@ -11,8 +11,9 @@ use Rattle.hay_legal.specs.declared.turn.LaneItem.{LaneItem}
 use Rattle.hay_legal.specs.Known.{machine_of, replica_at, replica_on}
 use Rattle.hay_legal.specs.Blocks.{flushed_on, made_on}
 use Rattle.hay_history.specs.Steps.{Did, Standing, Step}
-use Rattle.hay_history.specs.Histories.{Course, History, first_of, own, standing, steps_of}
-use Rattle.hay_history.specs.Commands.{Came, IsOfLine}
+use Rattle.hay_history.proofs.Trying.{sum_changed}
+use Rattle.hay_history.specs.Histories.{Course, History, changes, first_of, own, standing, steps_of}
+use Rattle.hay_history.specs.Commands.{CameInLanes, IsOfLine}
 use Rattle.hay_history.proofs.Placing.{on_machine, same_machine}
 use Rattle.hay_history.proofs.Lists.{each_from, each_in, sum_none, sum_same}
 use Rattle.hay_history.proofs.Lines.{answered, course_of}
@@ -49,6 +50,9 @@ own_weight w c v = sum_by (weight_at w (first_of c.settings c.k v) ((c.history).
 abbrev weight_then : (Standing → Did → ℕ) → Course → ℕ → ℕ × Step → ℕ
 weight_then w c v at = w (standing c v at.0) (at.1).did
 
+changed_weighs : (w : Standing → Did → ℕ) → IgnoresQuiet w → (c : Course) (v : ℕ) → own_weight w c v ≡ sum_by (weight_then w c v) (changes c v)
+changed_weighs w ignores c v = sum_changed (weight_then w c v) (own c v) (λ x try. ignores (standing c v x.0) (x.1).did (subst IsQuiet (sym try) tt))
+
 compacted_weighs : (w : Standing → Did → ℕ) → IgnoresQuiet w → (c : Course) (v : ℕ) (item : LaneItem) (one : CompactedOne c v item)
     → own_weight w c v ≡ w (standing c v (one.swaps).place) (Did.Swaps one.j one.end one.cells false)
 compacted_weighs w ignores c v item one =
@@ -60,7 +64,7 @@ compacted_weighs w ignores c v item one =
     let middle : sum_by weight ran.middle ≡ 0 = sum_none weight ran.middle (each_from _ ran.middle (λ at among.
     let is = each_in (λ at. (n : ℕ) × ((at.1).did ≡ Did.Examines one.j n)) ran.middle at ran.examines among in
     ignores (standing c v at.0) (at.1).did (subst IsQuiet (sym is.1) tt))) in
-    let all : own_weight w c v ≡ sum_by weight ((ran.place, ran.first) ∷ (ran.middle ++ (to.place, to.step) ∷ [])) = ap (sum_by weight) ran.steps in
+    let all : own_weight w c v ≡ sum_by weight ((ran.place, ran.first) ∷ (ran.middle ++ (to.place, to.step) ∷ [])) = changed_weighs w ignores c v ∙ ap (sum_by weight) ran.steps in
     omega (
       arith,
       all,
@@ -86,7 +90,7 @@ line_weighs w ignores c v item h = elim h [
   | inr some ↦ elim some [
     | inl one ↦ inr (inl (
       one,
-      one_weight (weight_then w c v) ((one.step).place, (one.step).step) (own c v) (one.step).only
+      changed_weighs w ignores c v ∙ one_weight (weight_then w c v) ((one.step).place, (one.step).step) (changes c v) (one.step).only
           ∙ ap (λ (d : Did). w (standing c v (one.step).place) d) (one.step).is,
     ))
     | inr one ↦ inr (inr (one, compacted_weighs w ignores c v item one))
@@ -94,7 +98,7 @@ line_weighs w ignores c v item h = elim h [
 ]
 
 -- the sum over the lines is what all steps weigh
-pub weigh_of_lines : {settings : Settings} {k : Known} {items : List LaneItem} {history : History} {t : Known} (h : Came settings k items history t)
+pub weigh_of_lines : {settings : Settings} {k : Known} {items : List LaneItem} {history : History} {t : Known} (h : CameInLanes settings k items history t)
     (w : Standing → Did → ℕ) (v : ℕ) → v < settings.volumes
     → sum_by (λ item. sum_by (weight_at w (first_of settings k v) (history.volumes v)) (steps_of (history.volumes v) item.line)) items
     ≡ weigh w (first_of settings k v) (history.volumes v)
@@ -109,7 +113,7 @@ weigh_of_lines {settings} {k} {items} {history} {t} h w v below =
     owners i (step ∷ steps) h = (((h.0).0, (h.0).1, ap (λ (tag : CoreTag). tag.line) (h.0).2), owners (i + 1) steps h.1)
 
 -- A weight that for each line is what its reply prints is the sum of what is printed.
-pub printed_weight : {settings : Settings} {k : Known} {items : List LaneItem} {history : History} {t : Known} (h : Came settings k items history t)
+pub printed_weight : {settings : Settings} {k : Known} {items : List LaneItem} {history : History} {t : Known} (h : CameInLanes settings k items history t)
     (w : Standing → Did → ℕ) (v : ℕ) (print : LaneItem → ℕ) → v < settings.volumes
     → ((item : LaneItem) → Contains items item → LineDid (course_of h item) v item → own_weight w (course_of h item) v ≡ print item)
     → sum_by print items ≡ weigh w (first_of settings k v) (history.volumes v)

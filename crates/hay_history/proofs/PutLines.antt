@@ -16,7 +16,7 @@ use Rattle.hay_legal.specs.Blocks.{HomeRefuses as legal_home, IsLeftPending, May
 use Rattle.hay_legal.proofs.Subject.Effects.{each_try}
 use Rattle.hay_history.specs.Steps.Did.{Pends}
 use Rattle.hay_history.specs.Histories.{History, OneStep, SeesRefusal}
-use Rattle.hay_history.specs.Commands.{Came, HomeRefuses, PutDid, PutRefused}
+use Rattle.hay_history.specs.Commands.{CameInLanes, HomeRefuses, PutDid, PutRefused}
 use Rattle.hay_history.proofs.Lists.{zip_weaker}
 use Rattle.hay_history.proofs.Lines.{course_of, one_leads}
 use Rattle.hay_history.proofs.Volumes.{frozen_keeps, refused_then, takes_then}
@@ -24,7 +24,7 @@ use Rattle.hay_history.proofs.Rows.{home_below, home_then, no_home_before, rows_
 use Rattle.hay_history.proofs.Takers.{gets_row, row_left}
 use Rattle.hay_history.proofs.ReadLines.{home_in_block}
 
-module _ {settings : Settings} {k : Known} {items : List LaneItem} {history : History} {t : Known} (h : Came settings k items history t) (item : LaneItem) where
+module _ {settings : Settings} {k : Known} {items : List LaneItem} {history : History} {t : Known} (h : CameInLanes settings k items history t) (item : LaneItem) where
   -- REFUSALS
 
   may_refuse : (size v : ℕ) (refused : Refused) → v < settings.volumes → SeesRefusal (course_of h item) size v refused → MayRefuse settings k items t size v refused

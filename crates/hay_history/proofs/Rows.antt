@@ -1,5 +1,5 @@
 -- What holds of the Directory at the moments of a block.
-use Rattle.std.proofs.Common.{◌≡◌, ◌⊎◌, ℕ, zero, suc, ◌<◌, ◌≤◌, ◌+◌, true, List, [], ◌∷◌, ◌++◌, length, slice_get, Contains, Option, Some, None, refl, sym, ap, subst, ◌∙◌, inl, inr, arith}
+use Rattle.std.proofs.Common.{◌≢◌, ◌≡◌, ◌⊎◌, ℕ, zero, suc, ◌<◌, ◌≤◌, ◌+◌, Bool, true, false, List, [], ◌∷◌, ◌++◌, length, slice_get, Contains, Option, Some, None, refl, sym, ap, subst, ◌∙◌, inl, inr, arith}
 use Rattle.std.specs.Prelude.{take}
 use Rattle.std.specs.List.{AllByRecursion as Each}
 use Rattle.std.proofs.Math.Seq.{take-append_seam}
@@ -27,9 +27,10 @@ use Rattle.hay_legal.specs.Blocks.{HomeAt, MayHaveAdded, MayHaveFrozen, tag_of}
 use Rattle.hay_legal.proofs.Subject.Effects.{each_append, each_try, home_stays}
 use Rattle.hay_legal.proofs.Subject.Entries.{home_bounded}
 use Rattle.hay_history.specs.Steps.{FollowsRows, LeadsRows, RowDid, RowsStanding, RowStep}
-use Rattle.hay_history.specs.Steps.RowDid.{AddsRow, PendsRow, TriesRow}
-use Rattle.hay_history.specs.Histories.{Course, History, NoRows, OneRowStep, SeesHome, first_rows, own_rows, rows_behind}
-use Rattle.hay_history.specs.Commands.{AddedRow, Came, CommandDid, CompactDid, CompactFailed, CompactRefused, CompactWanting, DelDid, FlushDid, GetDid, ItemDid, PutDid, RowPends, ShowDid, UrlDid}
+use Rattle.hay_history.specs.Steps.RowDid.{AddsRow, Drains, FusesRow, PendsRow, TriesRow}
+use Rattle.hay_history.proofs.Trying.{tried_or_changed_row}
+use Rattle.hay_history.specs.Histories.{row_changes, Course, History, NoRows, OneRowStep, SeesHome, first_rows, own_rows, rows_behind}
+use Rattle.hay_history.specs.Commands.{AddedRow, CameInLanes, CommandDid, CompactDid, CompactFailed, CompactRefused, CompactWanting, DelDid, FlushDid, GetDid, ItemDid, PutDid, RowPends, ShowDid, UrlDid}
 use Rattle.hay_history.proofs.Histories.{along_rows, along_rows_last}
 use Rattle.hay_history.proofs.Lists.{one_in}
 use Rattle.hay_history.proofs.Lines.{answered, course_of, row_owner}
@@ -54,6 +55,8 @@ pub lengthens_step : (tag : CoreTag) (did : RowDid) (a b : RowsStanding) → Lea
 lengthens_step tag TriesRow a b h le = ([], ap (λ (d : DirKnown). d.rows) h ∙ sym (append-nil (a.directory).rows))
 lengthens_step tag (AddsRow row) a b h le = (row ∷ [], ap (λ (d : DirKnown). d.rows) h.1)
 lengthens_step tag (PendsRow row) a b h le = ([], ap (λ (d : DirKnown). d.rows) h.1 ∙ sym (append-nil (a.directory).rows))
+lengthens_step tag (Drains m is) a b h le = ([], ap (λ (d : DirKnown). d.rows) h ∙ sym (append-nil (a.directory).rows))
+lengthens_step tag FusesRow a b h le = ([], ap (λ (d : DirKnown). d.rows) h ∙ sym (append-nil (a.directory).rows))
 
 -- a frozen Directory stays as it is
 abbrev pub StaysFrozen : RowsStanding → RowsStanding → Type 0
@@ -66,6 +69,8 @@ pub stays_frozen_step : (tag : CoreTag) (did : RowDid) (a b : RowsStanding) → 
 stays_frozen_step tag TriesRow a b h le frozen = h
 stays_frozen_step tag (AddsRow row) a b h le frozen = absurd (true≢false (sym frozen ∙ h.0.0))
 stays_frozen_step tag (PendsRow row) a b h le frozen = absurd (true≢false (sym frozen ∙ h.0.0))
+stays_frozen_step tag (Drains m is) a b h le frozen = h
+stays_frozen_step tag FusesRow a b h le frozen = h
 
 -- THE STEPS OF A LINE ON THE DIRECTORY
 
@@ -161,7 +166,7 @@ none_contained : {X : Type 0} (xs : List X) (x : X) → xs ≡ [] → Contains x
 none_contained xs x e among = let long : length xs ≡ 0 = ap length e in omega (arith, long, among.1)
 
 -- the line of a new row, and the put that it is
-pub record RowsLine (settings : Settings) (k : Known) (items : List LaneItem) (history : History) (t : Known) (h : Came settings k items history t) (tag : CoreTag) (row : HomeRow)
+pub record RowsLine (settings : Settings) (k : Known) (items : List LaneItem) (history : History) (t : Known) (h : CameInLanes settings k items history t) (tag : CoreTag) (row : HomeRow)
     : Type 0 where
   pub item : LaneItem
   pub among : Contains items item
@@ -174,7 +179,7 @@ pub record RowsLine (settings : Settings) (k : Known) (items : List LaneItem) (h
   pub is : added.row ≡ row
 
 -- the line that froze the Directory with a row pending
-pub record PendsLine (settings : Settings) (k : Known) (items : List LaneItem) (history : History) (t : Known) (h : Came settings k items history t) (tag : CoreTag) (row : HomeRow)
+pub record PendsLine (settings : Settings) (k : Known) (items : List LaneItem) (history : History) (t : Known) (h : CameInLanes settings k items history t) (tag : CoreTag) (row : HomeRow)
     : Type 0 where
   pub item : LaneItem
   pub among : Contains items item
@@ -187,54 +192,84 @@ pub record PendsLine (settings : Settings) (k : Known) (items : List LaneItem) (
   pub is : record { pair = pair; volume = pends.v } ≡ row
 
 -- an own step that is the only one did what that did
-own_did : (c : Course) (did : RowDid) (i : ℕ) (s : RowStep) → OneRowStep c did → Contains (own_rows c) (i, s) → s.did ≡ did
+own_did : (c : Course) (did : RowDid) (i : ℕ) (s : RowStep) → OneRowStep c did → Contains (row_changes c) (i, s) → s.did ≡ did
 own_did c did i s one among =
     ap (λ (at : ℕ × RowStep). (at.1).did) (sym (one_in (one.place, one.step) (i, s) (subst (λ rows. Contains rows (i, s)) one.only among))) ∙ one.is
 
-adds_of : {settings : Settings} {k : Known} {items : List LaneItem} {history : History} {t : Known} (h : Came settings k items history t)
+-- a step that adds or leaves a row is one of those that changed something
+turned : (c : Course) (i : ℕ) (s : RowStep) (did : RowDid) → s.did ≡ did → did ≢ TriesRow → Contains (own_rows c) (i, s) → Contains (row_changes c) (i, s)
+turned c i s did is other own = elim (tried_or_changed_row c (i, s) own) [ inl tried ↦ absurd (other (sym is ∙ tried)) | inr changed_it ↦ changed_it ]
+
+-- each step of the Directory tried, or it is a put's
+abbrev pub puts_row : RowDid → Bool
+puts_row TriesRow = true
+puts_row (AddsRow row) = true
+puts_row (PendsRow row) = true
+puts_row (Drains m is) = false
+puts_row FusesRow = false
+
+pub each_puts_row : {settings : Settings} {k : Known} {items : List LaneItem} {history : History} {t : Known} (h : CameInLanes settings k items history t)
+    (i : ℕ) (s : RowStep) → slice_get history.directory i ≡ Some s → puts_row s.did ≡ true
+each_puts_row h i s at =
+    let found = row_owner h i s at in
+    let c = course_of h found.0 in
+    elim (tried_or_changed_row c (i, s) found.3) [
+      | inl tried ↦ ap puts_row tried
+      | inr change ↦ elim (item_rows c (found.0).item (found.0).reply (answered h found.0 found.1).did) [
+        | inl none ↦ absurd (none_contained _ _ none change)
+        | inr (pair, bytes, put, has) ↦ elim has [
+          | inl added ↦ ap puts_row (own_did c (AddsRow (added.0).row) i s (added.0).step change)
+          | inr pends ↦ ap puts_row (own_did c (PendsRow (record { pair = pair; volume = (pends.0).v })) i s (pends.0).step change)
+        ]
+      ]
+    ]
+
+adds_of : {settings : Settings} {k : Known} {items : List LaneItem} {history : History} {t : Known} (h : CameInLanes settings k items history t)
     (i : ℕ) (s : RowStep) (row : HomeRow) → s.did ≡ AddsRow row → (item : LaneItem) → Contains items item → tag_of item ≡ s.tag
     → Contains (own_rows (course_of h item)) (i, s) → NoRows (course_of h item) ⊎ PutHasRows (course_of h item) item.item item.reply
     → RowsLine settings k items history t h s.tag row
 adds_of h i s row did item among tag own rows =
+    let change = turned (course_of h item) i s (AddsRow row) did (λ e. cc) own in
     elim rows [
-      | inl none ↦ absurd (none_contained _ _ none own)
+      | inl none ↦ absurd (none_contained _ _ none change)
       | inr (pair, bytes, put, has) ↦ elim has [
         | inl added ↦
-            let same : AddsRow (added.0).row ≡ AddsRow row = sym (own_did (course_of h item) (AddsRow (added.0).row) i s (added.0).step own) ∙ did in
+            let same : AddsRow (added.0).row ≡ AddsRow row = sym (own_did (course_of h item) (AddsRow (added.0).row) i s (added.0).step change) ∙ did in
             record { item = item; among = among; own = tag; pair = pair; bytes = bytes; put = put; reply = added.1; added = added.0; is = cc }
         | inr pends ↦
             let other : PendsRow (record { pair = pair; volume = (pends.0).v }) ≡ AddsRow row =
-            sym (own_did (course_of h item) (PendsRow (record { pair = pair; volume = (pends.0).v })) i s (pends.0).step own) ∙ did in
+            sym (own_did (course_of h item) (PendsRow (record { pair = pair; volume = (pends.0).v })) i s (pends.0).step change) ∙ did in
             absurd cc
       ]
     ]
 
-pub adds_line : {settings : Settings} {k : Known} {items : List LaneItem} {history : History} {t : Known} (h : Came settings k items history t)
+pub adds_line : {settings : Settings} {k : Known} {items : List LaneItem} {history : History} {t : Known} (h : CameInLanes settings k items history t)
     (i : ℕ) (s : RowStep) (row : HomeRow) → slice_get history.directory i ≡ Some s → s.did ≡ AddsRow row → RowsLine settings k items history t h s.tag row
 adds_line h i s row at did =
     let found = row_owner h i s at in
     adds_of h i s row did found.0 found.1 found.2 found.3
     (item_rows (course_of h found.0) (found.0).item (found.0).reply (answered h found.0 found.1).did)
 
-pends_of : {settings : Settings} {k : Known} {items : List LaneItem} {history : History} {t : Known} (h : Came settings k items history t)
+pends_of : {settings : Settings} {k : Known} {items : List LaneItem} {history : History} {t : Known} (h : CameInLanes settings k items history t)
     (i : ℕ) (s : RowStep) (row : HomeRow) → s.did ≡ PendsRow row → (item : LaneItem) → Contains items item → tag_of item ≡ s.tag
     → Contains (own_rows (course_of h item)) (i, s) → NoRows (course_of h item) ⊎ PutHasRows (course_of h item) item.item item.reply
     → PendsLine settings k items history t h s.tag row
 pends_of h i s row did item among tag own rows =
+    let change = turned (course_of h item) i s (PendsRow row) did (λ e. cc) own in
     elim rows [
-      | inl none ↦ absurd (none_contained _ _ none own)
+      | inl none ↦ absurd (none_contained _ _ none change)
       | inr (pair, bytes, put, has) ↦ elim has [
         | inl added ↦
             let other : AddsRow (added.0).row ≡ PendsRow row =
-            sym (own_did (course_of h item) (AddsRow (added.0).row) i s (added.0).step own) ∙ did in absurd cc
+            sym (own_did (course_of h item) (AddsRow (added.0).row) i s (added.0).step change) ∙ did in absurd cc
         | inr pends ↦
             let same : PendsRow (record { pair = pair; volume = (pends.0).v }) ≡ PendsRow row =
-            sym (own_did (course_of h item) (PendsRow (record { pair = pair; volume = (pends.0).v })) i s (pends.0).step own) ∙ did in
+            sym (own_did (course_of h item) (PendsRow (record { pair = pair; volume = (pends.0).v })) i s (pends.0).step change) ∙ did in
             record { item = item; among = among; own = tag; pair = pair; bytes = bytes; put = put; reply = pends.1; pends = pends.0; is = cc }
       ]
     ]
 
-pub pends_line : {settings : Settings} {k : Known} {items : List LaneItem} {history : History} {t : Known} (h : Came settings k items history t)
+pub pends_line : {settings : Settings} {k : Known} {items : List LaneItem} {history : History} {t : Known} (h : CameInLanes settings k items history t)
     (i : ℕ) (s : RowStep) (row : HomeRow) → slice_get history.directory i ≡ Some s → s.did ≡ PendsRow row → PendsLine settings k items history t h s.tag row
 pends_line h i s row at did =
     let found = row_owner h i s at in
@@ -264,13 +299,13 @@ pub frozen_last : (before : RowsStanding) (steps : List RowStep) → FollowsRows
 frozen_last before steps = along_rows_last StaysFrozen before steps (λ a frozen. refl) stays_frozen_trans stays_frozen_step
 
 -- the number of rows grows with the moments
-pub rows_grow : {settings : Settings} {k : Known} {items : List LaneItem} {history : History} {t : Known} (h : Came settings k items history t)
+pub rows_grow : {settings : Settings} {k : Known} {items : List LaneItem} {history : History} {t : Known} (h : CameInLanes settings k items history t)
     (n m : ℕ) → n ≤ m → length ((rows_moment k history n).directory).rows ≤ length ((rows_moment k history m).directory).rows
 rows_grow {k = k} {history = history} h n m le =
     (lengthens_take (rows_moment k history n) (rows_moment k history m) (lengthens_to (first_rows k) history.directory h.follows_rows n m le)).1
 
 -- the rows of a moment are kept, and their number grew
-pub rows_at_last : {settings : Settings} {k : Known} {items : List LaneItem} {history : History} {t : Known} (h : Came settings k items history t)
+pub rows_at_last : {settings : Settings} {k : Known} {items : List LaneItem} {history : History} {t : Known} (h : CameInLanes settings k items history t)
     (n : ℕ) → (take (length ((rows_moment k history n).directory).rows) t.directory.rows ≡ ((rows_moment k history n).directory).rows)
     × (length ((rows_moment k history n).directory).rows ≤ length t.directory.rows)
     × (length k.directory.rows ≤ length ((rows_moment k history n).directory).rows)
@@ -283,10 +318,10 @@ rows_at_last {k = k} {history = history} {t = t} h n =
     (λ (d : DirKnown). (take (length ((rows_moment k history n).directory).rows) d.rows ≡ ((rows_moment k history n).directory).rows)
     × (length ((rows_moment k history n).directory).rows ≤ length d.rows)
     × (length k.directory.rows ≤ length ((rows_moment k history n).directory).rows))
-    (sym h.directory) (then.0, then.1, first.1)
+    (sym (h.directory).directory) (then.0, then.1, first.1)
 
 -- a home that a line saw is the pair's home at that front
-pub home_then : {settings : Settings} {k : Known} {items : List LaneItem} {history : History} {t : Known} (h : Came settings k items history t)
+pub home_then : {settings : Settings} {k : Known} {items : List LaneItem} {history : History} {t : Known} (h : CameInLanes settings k items history t)
     (item : LaneItem) (pair : Pair) (d : ℕ) (home : Option ℕ) → SeesHome (course_of h item) pair d home
     → HomeAt t pair d home × (length k.directory.rows ≤ d) × (d ≤ length t.directory.rows)
 home_then {k = k} {history = history} {t = t} h item pair d home sees =
@@ -302,7 +337,7 @@ none_before rows new pair e = by (home_in rows pair) refl
     by (Some v) is = let never : Some v ≡ None = sym (home_stays rows new pair v is) ∙ e in absurd cc
 
 -- a pair that was seen without a home had none before the block
-pub no_home_before : {settings : Settings} {k : Known} {items : List LaneItem} {history : History} {t : Known} (h : Came settings k items history t)
+pub no_home_before : {settings : Settings} {k : Known} {items : List LaneItem} {history : History} {t : Known} (h : CameInLanes settings k items history t)
     (item : LaneItem) (pair : Pair) (d : ℕ) → SeesHome (course_of h item) pair d None → home_of k pair ≡ None
 no_home_before {k = k} {history = history} h item pair d sees =
     let grown = lengthens_to (first_rows k) history.directory h.follows_rows 0 sees.moment (omega arith) in
@@ -315,7 +350,7 @@ pub rows_hold : (P : HomeRow → Type 0) (before : RowsStanding) (steps : List R
 rows_hold P before steps zero first f new = first
 rows_hold P before [] (suc n) first f new = first
 rows_hold P before (step ∷ steps) (suc n) first f new =
-    rows_hold P step.after steps n (by step.tag step.did before step.after f.0 first (λ row did. new 0 step row refl did)) f.2
+    rows_hold P step.after steps n (by step.tag step.did before step.after f.0 first (λ row did. new 0 step row refl did)) f.3
     (λ i s row at did. new (suc i) s row at did)
   where
     by : (tag : CoreTag) (did : RowDid) (a b : RowsStanding) → LeadsRows tag did a b → Each P (a.directory).rows → ((row : HomeRow) → did ≡ AddsRow row → P row)
@@ -324,8 +359,10 @@ rows_hold P before (step ∷ steps) (suc n) first f new =
     by tag (AddsRow row) a b h old new =
         subst (λ (d : DirKnown). Each P d.rows) (sym h.1) (each_append P (a.directory).rows (row ∷ []) old (new row refl, tt))
     by tag (PendsRow row) a b h old new = subst (λ (d : DirKnown). Each P d.rows) (sym h.1) old
+    by tag (Drains m is) a b h old new = subst (λ (d : DirKnown). Each P d.rows) (sym h) old
+    by tag FusesRow a b h old new = subst (λ (d : DirKnown). Each P d.rows) (sym h) old
 
-pub new_row_below : {settings : Settings} {k : Known} {items : List LaneItem} {history : History} {t : Known} (h : Came settings k items history t)
+pub new_row_below : {settings : Settings} {k : Known} {items : List LaneItem} {history : History} {t : Known} (h : CameInLanes settings k items history t)
     (i : ℕ) (s : RowStep) (row : HomeRow) → slice_get history.directory i ≡ Some s → s.did ≡ AddsRow row → row.volume < settings.volumes
 new_row_below {settings} h i s row at did =
     let line = adds_line h i s row at did in
@@ -333,7 +370,7 @@ new_row_below {settings} h i s row at did =
     (each_try settings line.pair ((line.added).row).volume ((line.added).taker).tried)
 
 -- a home that was seen is a volume of the store
-pub home_below : {settings : Settings} {k : Known} {items : List LaneItem} {history : History} {t : Known} (h : Came settings k items history t)
+pub home_below : {settings : Settings} {k : Known} {items : List LaneItem} {history : History} {t : Known} (h : CameInLanes settings k items history t)
     (item : LaneItem) (pair : Pair) (d v : ℕ) → SeesHome (course_of h item) pair d (Some v) → v < settings.volumes
 home_below {settings} {k} {items} {history} {t} h item pair d v sees =
     home_bounded settings ((rows_moment k history sees.moment).directory).rows pair v
@@ -341,6 +378,6 @@ home_below {settings} {k} {items} {history} {t} h item pair d v sees =
     sees.is
 
 -- a Directory that is frozen at a moment is left as it was then
-pub rows_frozen_then : {settings : Settings} {k : Known} {items : List LaneItem} {history : History} {t : Known} (h : Came settings k items history t)
+pub rows_frozen_then : {settings : Settings} {k : Known} {items : List LaneItem} {history : History} {t : Known} (h : CameInLanes settings k items history t)
     (n : ℕ) → ((rows_moment k history n).directory).frozen ≡ true → t.directory ≡ (rows_moment k history n).directory
-rows_frozen_then {k = k} {history = history} h n frozen = h.directory ∙ frozen_last (first_rows k) history.directory h.follows_rows n frozen
+rows_frozen_then {k = k} {history = history} h n frozen = (h.directory).directory ∙ frozen_last (first_rows k) history.directory h.follows_rows n frozen

@@ -19,8 +19,9 @@ use Rattle.hay_legal.specs.Known.{empty_replica, fault_count, replica_at, slot_o
 use Rattle.hay_legal.specs.Plain.{ended_where, first_machine, frozen_by, grown, poised, run_grown, stepped, swapped, with_bare, with_run, with_stuck, without_run}
 use Rattle.hay_legal.specs.Blocks.{DeletesOn, RunIsLegal, is_put, new_entries, run_longer, tag_of}
 use Rattle.hay_history.specs.Steps.{Did, IsThawed, Leads, NoneFall, Standing, Step, change_at}
+use Rattle.hay_history.proofs.Trying.{changed}
 use Rattle.hay_history.specs.Histories.{Course, History, behind, first_of, own}
-use Rattle.hay_history.specs.Commands.{Came}
+use Rattle.hay_history.specs.Commands.{CameInLanes}
 use Rattle.hay_history.proofs.Changes.{ended_at, rested_at}
 use Rattle.hay_history.proofs.Lists.{is_first}
 use Rattle.hay_history.proofs.Histories.{along, behind_past, behind_step, leads_at}
@@ -168,6 +169,7 @@ run_step c v j n item tag did a b h within own = by did h own
 
     by : (did : Did) → Leads c.settings v tag did a b → StepBy c v item n did → RunStep c v j n item a b
     by Did.Tries h own = keeps _ h refl (refl, refl) refl
+    by (Did.Fuses i) h own = keeps _ h.1 refl (refl, refl) refl
     by (Did.Entered (entry.Put pair cookie bytes)) h own =
         puts (length bytes) (record { tag = tag; entry = entry.Put pair cookie bytes }) refl (ap (λ (volume : VolumeKnown). volume.log) h.1) (replica_is j h.1) (frozen_is h.1)
     by (Did.Entered (entry.Del pair)) h own =
@@ -198,7 +200,7 @@ run_step c v j n item tag did a b h within own = by did h own
 
 -- ALONG THE BLOCK
 
-module _ {settings : Settings} {k : Known} {items : List LaneItem} {history : History} {t : Known} (h : Came settings k items history t)
+module _ {settings : Settings} {k : Known} {items : List LaneItem} {history : History} {t : Known} (h : CameInLanes settings k items history t)
     (v j : ℕ) (below : v < settings.volumes) (within : j < settings.replicas) where
   abbrev then : ℕ → Standing
   then n = behind (first_of settings k v) (history.volumes v) n
@@ -226,7 +228,7 @@ module _ {settings : Settings} {k : Known} {items : List LaneItem} {history : Hi
       let ran = before.ran in
       let at : ℕ × Step = (ran.place, ran.first) in
       let mine : Contains (own (course_of h item) v) at =
-      subst (λ (xs : List (ℕ × Step)). Contains xs at) (sym ran.steps) (is_first at (ran.middle ++ before.last)) in
+      changed (course_of h item) v at (subst (λ (xs : List (ℕ × Step)). Contains xs at) (sym ran.steps) (is_first at (ran.middle ++ before.last))) in
       let leads = (own_leads h item v below among at mine).0 in
       (subst (λ (d : Did). Leads settings v (tag_of item) d (then ran.place) (then (ran.place + 1))) ran.begins leads).2
 
@@ -246,7 +248,7 @@ module _ {settings : Settings} {k : Known} {items : List LaneItem} {history : Hi
               | inl begun ↦
                   let from = begun.0 in
                   let ran = from.ran in
-                  none_to_last fuel ran.ended (omega (arith, enough, ran.behind_it, from.here)) ran.none
+                  none_to_last fuel (ran.until + 1) (omega (arith, enough, ran.behind_it, from.here)) ran.none
               | inr own ↦ let some : None ≡ Some own.1 = sym none ∙ own.2 in absurd cc
             ]
           ]

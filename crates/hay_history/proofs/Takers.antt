@@ -1,5 +1,5 @@
 -- The try that a line saw take a photo may have got the row of its pair, and so has a row that it left pending.
-use Rattle.std.proofs.Common.{◌≡◌, ℕ, ◌<◌, ◌≤◌, ◌+◌, false, List, [], length, Contains, None, refl, sym, ap, subst, ◌∙◌, inl, inr, arith}
+use Rattle.std.proofs.Common.{◌≡◌, ℕ, ◌<◌, ◌≤◌, ◌+◌, false, List, length, Contains, None, refl, sym, ap, subst, ◌∙◌, inl, inr, arith}
 use Rattle.std.specs.Prelude.{◌==◌, not, take_while}
 use Rattle.std.specs.List.{AllByRecursion as Each}
 use Rattle.std.proofs.lemmas.Bool.{cases_Bool, true≢false}
@@ -13,10 +13,12 @@ use Rattle.hay_legal.specs.Known.{all_tries, home_in, home_of}
 use Rattle.hay_legal.specs.Blocks.{MayGetRow, MayRefuse, RowIsPending, tag_of}
 use Rattle.hay_legal.proofs.Subject.Effects.{each_try}
 use Rattle.hay_history.specs.Steps.{LeadsRows, RowDid, RowStep}
+use Rattle.hay_history.specs.Steps.RowDid.{PendsRow}
 use Rattle.hay_history.specs.Histories.{History, SeesRefusal, SeesTaker, first_rows, own_rows, rows_standing}
-use Rattle.hay_history.specs.Commands.{Came, RowPends}
+use Rattle.hay_history.specs.Commands.{CameInLanes, RowPends}
 use Rattle.hay_history.proofs.Histories.{along_rows}
-use Rattle.hay_history.proofs.Lists.{each_both, each_from, each_take, is_first}
+use Rattle.hay_history.proofs.Lists.{each_both, each_from, each_in, each_take}
+use Rattle.hay_history.proofs.Trying.{one_own_row}
 use Rattle.hay_history.proofs.Lines.{answered, course_of, own_leads_rows}
 use Rattle.hay_history.proofs.Volumes.{refused_then, takes_then}
 use Rattle.hay_history.proofs.Rows.{StaysFrozen, no_home_before, rows_frozen_then, rows_moment, stays_frozen_step, stays_frozen_trans}
@@ -25,7 +27,7 @@ use Rattle.hay_history.proofs.Rows.{StaysFrozen, no_home_before, rows_frozen_the
 tries_below : (settings : Settings) (pair : Pair) → Each (λ v. v < settings.volumes) (all_tries settings pair)
 tries_below settings pair = each_from (λ v. v < settings.volumes) (all_tries settings pair) (each_try settings pair)
 
-module _ {settings : Settings} {k : Known} {items : List LaneItem} {history : History} {t : Known} (h : Came settings k items history t) (item : LaneItem) where
+module _ {settings : Settings} {k : Known} {items : List LaneItem} {history : History} {t : Known} (h : CameInLanes settings k items history t) (item : LaneItem) where
   tries_refused : (size : ℕ) (vs : List ℕ) → Each (λ v. v < settings.volumes) vs
       → Each (λ v. (refused : Refused) × SeesRefusal (course_of h item) size v refused) vs
       → Each (λ v. (refused : Refused) × MayRefuse settings k items t size v refused) vs
@@ -60,13 +62,13 @@ module _ {settings : Settings} {k : Known} {items : List LaneItem} {history : Hi
       let c = course_of h item in
       let step = pends.step in
       let at : ℕ × RowStep = (step.place, step.step) in
-      let own : Contains (own_rows c) at = subst (λ (ats : List (ℕ × RowStep)). Contains ats at) (sym step.only) (is_first at []) in
+      let own : Contains (own_rows c) at = one_own_row c (PendsRow (record { pair = pair; volume = pends.v })) step in
       let leads = own_leads_rows h item among at own in
       let did = subst (λ (did : RowDid). LeadsRows (tag_of item) did (rows_standing c step.place) (rows_standing c (step.place + 1))) step.is leads.0 in
-      let seen = subst (λ (ats : List (ℕ × RowStep)). Each (λ at. ((c.from).rows ≤ at.0) × (at.0 < (c.to).rows)) ats) step.only (answered h item among).rows in
-      let until : step.place < (c.to).rows = seen.0.1 in
+      let seen = each_in (λ (at : ℕ × RowStep). ((c.from).rows ≤ at.0) × (at.0 < (c.to).rows)) (own_rows c) at (answered h item among).rows own in
+      let until : step.place < (c.to).rows = seen.1 in
       let missing : home_of k pair ≡ None = no_home_before h item pair (length ((rows_standing c step.place).directory).rows)
-      (record { moment = step.place; seen = (seen.0.0, omega (arith, until)); front = refl; is = did.0.1 }) in
+      (record { moment = step.place; seen = (seen.0, omega (arith, until)); front = refl; is = did.0.1 }) in
       let left = rows_frozen_then h (step.place + 1) (ap (λ (d : DirKnown). d.frozen) did.1) in (
         open_rows step.place did.0.0,
         gets_row pair size pends.v missing pends.taker,

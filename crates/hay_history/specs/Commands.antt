@@ -1,12 +1,12 @@
 -- What a line of a block did, by its reply.
-use Rattle.std.specs.Prelude.{◌≡◌, ◌≢◌, ◌⊎◌, ℕ, ◌+◌, ◌-◌, ◌^◌, ◌<◌, ◌≤◌, ◌==◌, not, Bool, true, false, List, [], ◌∷◌, ◌++◌, length, map, take_while, count_by, Contains, Option, Some, None}
+use Rattle.std.specs.Prelude.{◌≡◌, ◌≢◌, ◌⊎◌, ℕ, ◌+◌, ◌-◌, ◌^◌, ◌<◌, ◌≤◌, ◌==◌, min, not, Bool, true, false, List, [], ◌∷◌, ◌++◌, length, map, take_while, count_by, Contains, Option, Some, None}
 use Rattle.std.specs.List.{AllZip, AllByRecursion as Each, list_any}
 use Rattle.hay_needle.specs.declared.needle.Pair.{Pair}
 use Rattle.hay_needle.specs.declared.needle.Cookie.{Cookie}
 use Rattle.hay_needle.specs.declared.needle.Outcome.{Outcome}
 use Rattle.hay_needle.specs.declared.needle.Outcome.TheVariants as outcome
 use Rattle.hay_needle.specs.declared.settings.Settings.{Settings}
-use Rattle.hay_needle.specs.Tables.{outcome_at}
+use Rattle.hay_needle.specs.Tables.{live_end, outcome_at}
 use Rattle.hay_disk.specs.Counts.{Rose}
 use Rattle.hay_url.specs.declared.Url.{Url as UrlParts}
 use Rattle.hay_url.specs.Url.{cookie_of}
@@ -18,7 +18,7 @@ use Rattle.hay_reply.specs.declared.Cause.{Cause}
 use Rattle.hay_reply.specs.declared.Cause.TheVariants.{Arm, Disk, Damage}
 use Rattle.hay_reply.specs.declared.Passed.{Passed}
 use Rattle.hay_reply.specs.declared.Reply.{Reply}
-use Rattle.hay_reply.specs.declared.Reply.TheVariants.{Stored, Deleted, Photo, Gone, Absent, WrongCookie, Unknown, Moved, Url, Full, ReadOnly, ReadOnlyDir, Failed, FailedDir, Unreadable, Flushed, Compacted, Busy, Worn, Nowhere, BadLine, NoMem}
+use Rattle.hay_reply.specs.declared.Reply.TheVariants.{Stored, Deleted, Photo, Gone, Absent, WrongCookie, Unknown, Moved, Url, Full, ReadOnly, ReadOnlyDir, Failed, FailedDir, Unreadable, Flushed, Begun, Stepped, Compacted, Busy, Idle, Worn, Drained, Undrained, Fused, FusedDir, Nowhere, BadLine, NoMem}
 use Rattle.hay_core.specs.declared.entry.Entry.{Entry}
 use Rattle.hay_core.specs.declared.entry.Entry.TheVariants as entry
 use Rattle.hay_core.specs.declared.entry.CoreTag.{CoreTag}
@@ -28,14 +28,14 @@ use Rattle.hay_legal.specs.declared.known.Run.{Run}
 use Rattle.hay_legal.specs.declared.turn.Item.{Item}
 use Rattle.hay_legal.specs.declared.turn.Item.TheVariants as asks
 use Rattle.hay_legal.specs.declared.turn.LaneItem.{LaneItem}
-use Rattle.hay_legal.specs.Known.{CameUp, EachPair, NoneFalls, all_tries, arm_count, fault_count, machine_of, now, replica_at, replica_on, replicas_of, slot_of, stands, volume_at}
+use Rattle.hay_legal.specs.Known.{CameUp, EachPair, NoneFalls, all_tries, arm_count, disk_count, fault_count, fuse_count, machine_of, now, replica_at, replica_on, replicas_of, slot_of, stands, volume_at}
 use Rattle.hay_legal.specs.Plain.{ArmRises, GetShows, as_closed, first_machine, lacks, order_from, put_entry, start_of}
 use Rattle.hay_legal.specs.Blocks.{IsOn, tag_of}
 use Rattle.hay_legal.specs.Subject.{IsOf}
-use Rattle.hay_history.specs.Steps.{Did, Follows, FollowsRows, Standing, Step}
-use Rattle.hay_history.specs.Steps.Did.{Begins, Ends, Entered, Examines, Flushes, Freezes, Pends, Poises, Sticks, Swaps, Tries}
-use Rattle.hay_history.specs.Steps.RowDid.{AddsRow, PendsRow}
-use Rattle.hay_history.specs.Histories.{Course, History, IsLater, IsMoment, IsRowMoment, NoRows, NoSteps, OneRowStep, OneStep, OnlyOn, Seen, SeesClosed, SeesFrozen, SeesHome, SeesOpen, SeesRefusal, SeesTaker, behind, closing_then, first_of, first_rows, own, own_rows, refusal_then, rows_behind, rows_standing, standing, volume_then}
+use Rattle.hay_history.specs.Steps.{Did, Follows, FollowsRows, RowDid, RowsStanding, Standing, Step}
+use Rattle.hay_history.specs.Steps.Did.{Begins, Ends, Entered, Examines, Flushes, Freezes, Fuses, Pends, Poises, Sticks, Swaps, Tries}
+use Rattle.hay_history.specs.Steps.RowDid.{AddsRow, Drains, FusesRow, PendsRow}
+use Rattle.hay_history.specs.Histories.{Course, HasRunOf, History, IsLater, IsMoment, IsRowMoment, NoRows, NoSteps, OneRowStep, OneStep, OneTry, OnlyOn, Seen, SeesClosed, SeesFrozen, SeesHome, SeesOpen, SeesRefusal, SeesTaker, behind, changes, closing_then, first_of, first_rows, own, own_rows, refusal_then, rows_behind, rows_standing, standing, volume_then}
 
 -- COUNTS
 
@@ -44,9 +44,16 @@ abbrev pub RoseIn : Course → ℕ → ℕ → ℕ → ℕ → Type 0
 RoseIn c v place j f =
     Rose ((standing c v place).faults j) ((standing c v (place + 1)).faults j) × (f ≡ (standing c v (place + 1)).faults j)
 
--- the line's one step on a volume is of the replica on this machine, and its disk's count rose in it to f
+-- the line has no step on the volume, or on the Directory, behind this one
+abbrev pub IsLast : Course → ℕ → ℕ → Type 0
+IsLast c v place = Each (λ at. at.0 ≤ place) (own c v)
+
+abbrev pub IsLastRow : Course → ℕ → Type 0
+IsLastRow c place = Each (λ at. at.0 ≤ place) (own_rows c)
+
+-- the line's last step on a volume is of the replica on this machine, and its disk's count rose in it to f
 abbrev pub FailedIn : Course → ℕ → ℕ → ℕ → ℕ → Type 0
-FailedIn c v m place f = (j : ℕ) × (replica_on c.settings v m ≡ Some j) × RoseIn c v place j f
+FailedIn c v m place f = (j : ℕ) × (replica_on c.settings v m ≡ Some j) × RoseIn c v place j f × IsLast c v place
 
 -- ROWS
 
@@ -107,6 +114,7 @@ pub record PutRowFailed (c : Course) (pair : Pair) (size f : ℕ) : Type 0 where
   pub pends : RowPends c pair size
   pub rose : Rose (rows_standing c (pends.step).place).faults (rows_standing c ((pends.step).place + 1)).faults
   pub printed : f ≡ (rows_standing c ((pends.step).place + 1)).faults
+  pub last : IsLastRow c (pends.step).place
 
 -- For want of memory the line froze the home of its pair with its change pending. It had seen that the volume takes it.
 pub record LeftPending (c : Course) (pair : Pair) (change : Entry) (Takes : ℕ → ℕ → Type 0) : Type 0 where
@@ -241,6 +249,10 @@ abbrev pub HomeIsClosed : Course → Pair → List ClosedBy → Type 0
 HomeIsClosed c pair (by ∷ []) = ((d : ℕ) × SeesHome c pair d (Some by.volume)) × SeesClosed c by.volume by.machine
 HomeIsClosed c pair _ = ⊥
 
+-- a call failed in a step on a volume that was open to changes
+abbrev pub FailedOpen : Course → ℕ → ℕ → ℕ → ℕ → Type 0
+FailedOpen c v m place f = (closing_then c v place ≡ None) × FailedIn c v m place f
+
 -- A call failed: as the pair's places were looked at, or as it was deleted.
 pub record DelFailed (c : Course) (pair : Pair) (v m f : ℕ) : Type 0 where
   pub d : ℕ
@@ -248,11 +260,8 @@ pub record DelFailed (c : Course) (pair : Pair) (v m f : ℕ) : Type 0 where
   pub below : v < (c.settings).volumes
   pub rows : NoRows c
   pub elsewhere : OnlyOn c v
-  pub did : Did
-  pub step : OneStep c v did
-  pub «open» : closing_then c v step.place ≡ None
-  pub which : (did ≡ Tries) ⊎ ((did ≡ Pends m (entry.Del pair) true) × (stood_then c v step.place pair ≡ true))
-  pub failed : FailedIn c v m step.place f
+  pub which : ((one : OneTry c v) × FailedOpen c v m one.place f)
+      ⊎ ((one : OneStep c v (Pends m (entry.Del pair) true)) × FailedOpen c v m one.place f × (stood_then c v one.place pair ≡ true))
 
 -- what want of memory may leave of a delete: nothing, or its volume frozen, also with the delete pending
 abbrev pub DelWanting : Course → Pair → Type 0
@@ -302,6 +311,7 @@ pub record FlushFailed (c : Course) (v j f : ℕ) : Type 0 where
   pub elsewhere : OnlyOn c v
   pub step : OneStep c v (Sticks j)
   pub failed : RoseIn c v step.place j f
+  pub last : IsLast c v step.place
 
 abbrev pub FlushDid : Course → ℕ → ℕ → Option ℕ → Reply → Type 0
 FlushDid c v m None Nowhere = DidNothing c
@@ -315,7 +325,7 @@ FlushDid c v m (Some j) _ = ⊥
 
 -- COMPACTIONS
 
--- The line's compaction of replica j: it began, examined cells, and stood until then.
+-- The line's compaction of replica j: it began, examined cells, and ended in this step.
 pub record Ran (c : Course) (v j : ℕ) (last : List (ℕ × Step)) : Type 0 where
   pub rows : NoRows c
   pub elsewhere : OnlyOn c v
@@ -324,12 +334,13 @@ pub record Ran (c : Course) (v j : ℕ) (last : List (ℕ × Step)) : Type 0 whe
   pub begins : first.did ≡ Begins j
   pub middle : List (ℕ × Step)
   pub examines : Each (λ at. (n : ℕ) × ((at.1).did ≡ Examines j n)) middle
-  pub steps : own c v ≡ (place, first) ∷ (middle ++ last)
-  pub ended : ℕ
-  pub behind_it : place < ended
-  pub seen : IsMoment c v ended
-  pub stood : (n : ℕ) → place < n → n < ended → (run : Run) × ((replica_at (volume_then c v n) j).run ≡ Some run)
-  pub none : (replica_at (volume_then c v ended) j).run ≡ None
+  pub steps : changes c v ≡ (place, first) ∷ (middle ++ last)
+  pub until : ℕ
+  pub behind_it : place < until
+  pub inside : Each (λ at. at.0 < until) middle
+  pub seen : IsMoment c v (until + 1)
+  pub own : HasRunOf c v j until c.tag
+  pub none : (replica_at (volume_then c v (until + 1)) j).run ≡ None
 
 -- its own last step did this
 pub record RanTo (c : Course) (v j : ℕ) (did : Did) : Type 0 where
@@ -337,40 +348,48 @@ pub record RanTo (c : Course) (v j : ℕ) (did : Did) : Type 0 where
   pub step : Step
   pub is : step.did ≡ did
   pub ran : Ran c v j ((place, step) ∷ [])
-  pub behind_it : ran.ended ≡ place + 1
+  pub last : ran.until ≡ place
 
 -- a delete of another lane ended it, since the replica's disk failed
 pub record RanUntil (c : Course) (v j f : ℕ) : Type 0 where
   pub ran : Ran c v j []
-  pub place : ℕ
-  pub behind_it : ran.ended ≡ place + 1
-  pub thawed : (volume_then c v ran.ended).frozen ≡ None
-  pub rose : RoseIn c v place j f
+  pub thawed : (volume_then c v (ran.until + 1)).frozen ≡ None
+  pub rose : RoseIn c v ran.until j f
 
 -- a compaction that was not begun, since a call of the disk failed
 pub record BeginFailed (c : Course) (v j f : ℕ) : Type 0 where
   pub rows : NoRows c
   pub elsewhere : OnlyOn c v
-  pub step : OneStep c v Tries
+  pub step : OneTry c v
   pub thawed : (volume_then c v step.place).frozen ≡ None
+  pub at_rest : (replica_at (volume_then c v step.place) j).run ≡ None
+  pub number : (replica_at (volume_then c v step.place) j).generation < 65535
   pub failed : RoseIn c v step.place j f
+  pub last : IsLast c v step.place
 
 abbrev pub CompactFailed : Course → ℕ → ℕ → ℕ → ℕ → Type 0
 CompactFailed c v m j f =
     BeginFailed c v j f
-    ⊎ ((ends : RanTo c v j (Ends j)) × RoseIn c v ends.place j f)
-    ⊎ ((poises : RanTo c v j (Poises m j)) × RoseIn c v poises.place j f)
+    ⊎ ((ends : RanTo c v j (Ends j)) × RoseIn c v ends.place j f × IsLast c v ends.place)
+    ⊎ ((poises : RanTo c v j (Poises m j)) × RoseIn c v poises.place j f × IsLast c v poises.place)
     ⊎ RanUntil c v j f
 
 -- the volume was frozen by this machine in its course
 abbrev pub RanFrozen : Course → ℕ → ℕ → ℕ → Type 0
-RanFrozen c v j m = (ran : Ran c v j []) × ((volume_then c v ran.ended).frozen ≡ Some m)
+RanFrozen c v j m = (ran : Ran c v j []) × ((volume_then c v (ran.until + 1)).frozen ≡ Some m)
+
+-- where no entry came while a compaction stood, the sizes behind its swap are those of the standing photos
+abbrev pub IsTightAlone : Course → ℕ → ℕ → ℕ → ℕ → ℕ → ℕ → Type 0
+IsTightAlone c v j from to end cells =
+    (volume_then c v to).log ≡ (volume_then c v from).log
+    → (end ≡ live_end (now (volume_then c v to) (replica_at (volume_then c v to) j)))
+    × (cells ≡ length (now (volume_then c v to) (replica_at (volume_then c v to) j)))
 
 abbrev pub CompactWanting : Course → ℕ → ℕ → Type 0
 CompactWanting c v j =
     DidNothing c
     ⊎ RanTo c v j (Ends j)
-    ⊎ ((end : ℕ) × (cells : ℕ) × RanTo c v j (Swaps j end cells true))
+    ⊎ ((end : ℕ) × (cells : ℕ) × (swaps : RanTo c v j (Swaps j end cells true)) × IsTightAlone c v j (swaps.ran).place swaps.place end cells)
     ⊎ ((f : ℕ) × RanUntil c v j f)
     ⊎ ((m : ℕ) × RanFrozen c v j m)
 
@@ -382,6 +401,17 @@ CompactRefused c v j by = (IsFrozen c v by × DidNothing c) ⊎ RanFrozenBy by
     RanFrozenBy (by ∷ []) = (by.volume ≡ v) × RanFrozen c v j by.machine
     RanFrozenBy _ = ⊥
 
+-- it met the replica thawed, with a compaction that makes this generation, or with its last generation
+abbrev pub MetBusy : Course → ℕ → ℕ → ℕ → Type 0
+MetBusy c v j g =
+    (moment : ℕ) × IsMoment c v moment × ((volume_then c v moment).frozen ≡ None)
+    × ((run : Run) × ((replica_at (volume_then c v moment) j).run ≡ Some run) × (run.goal ≡ g))
+
+abbrev pub MetWorn : Course → ℕ → ℕ → Type 0
+MetWorn c v j =
+    (moment : ℕ) × IsMoment c v moment × ((volume_then c v moment).frozen ≡ None)
+    × ((replica_at (volume_then c v moment) j).run ≡ None) × ((replica_at (volume_then c v moment) j).generation ≡ 65535)
+
 abbrev pub CompactDid : Course → ℕ → ℕ → Option ℕ → Reply → Type 0
 CompactDid c v m None Nowhere = DidNothing c
 CompactDid c v m None NoMem = DidNothing c
@@ -389,21 +419,118 @@ CompactDid c v m None _ = ⊥
 CompactDid c v m (Some j) (Compacted v' m' g) =
     IsOn v m v' m'
     × ((end : ℕ) × (cells : ℕ) × (swaps : RanTo c v j (Swaps j end cells false))
-    × (g ≡ (replica_at (volume_then c v swaps.place) j).generation + 1))
+    × (g ≡ (replica_at (volume_then c v swaps.place) j).generation + 1)
+    × IsTightAlone c v j (swaps.ran).place swaps.place end cells)
 CompactDid c v m (Some j) (ReadOnly by) = CompactRefused c v j by
-CompactDid c v m (Some j) (Busy v' m' g) =
-    IsOn v m v' m' × DidNothing c
-    × ((moment : ℕ) × IsMoment c v moment × ((volume_then c v moment).frozen ≡ None)
-    × ((run : Run) × ((replica_at (volume_then c v moment) j).run ≡ Some run) × (run.goal ≡ g)))
-CompactDid c v m (Some j) (Worn v' m') =
-    IsOn v m v' m' × DidNothing c
-    × ((moment : ℕ) × IsMoment c v moment × ((volume_then c v moment).frozen ≡ None)
-    × ((replica_at (volume_then c v moment) j).run ≡ None) × ((replica_at (volume_then c v moment) j).generation ≡ 65535))
+CompactDid c v m (Some j) (Busy v' m' g) = IsOn v m v' m' × DidNothing c × MetBusy c v j g
+CompactDid c v m (Some j) (Worn v' m') = IsOn v m v' m' × DidNothing c × MetWorn c v j
 CompactDid c v m (Some j) (Failed v' m' f) = IsOn v m v' m' × CompactFailed c v m j f
 CompactDid c v m (Some j) NoMem = CompactWanting c v j
 CompactDid c v m (Some j) _ = ⊥
 
--- EVERY LINE
+-- COMPACTIONS STEP BY STEP
+
+-- a compaction of the replica stood then, which a line of this lane began
+abbrev pub HasRunOfLane : Course → ℕ → ℕ → ℕ → Type 0
+HasRunOfLane c v j n = (tag : CoreTag) × (tag.lane ≡ (c.tag).lane) × HasRunOf c v j n tag
+
+-- the line has this one step on the volume, and changed nothing else
+pub record OnlyDid (c : Course) (v : ℕ) (did : Did) : Type 0 where
+  pub rows : NoRows c
+  pub elsewhere : OnlyOn c v
+  pub step : OneStep c v did
+
+-- this step was of a compaction of the line's lane
+pub record WentOn (c : Course) (v j : ℕ) (did : Did) : Type 0 where
+  pub only : OnlyDid c v did
+  pub own : HasRunOfLane c v j (only.step).place
+
+-- the line met the replica thawed, where no compaction of its lane stood
+abbrev pub MetIdle : Course → ℕ → ℕ → Type 0
+MetIdle c v j =
+    (moment : ℕ) × IsMoment c v moment × ((volume_then c v moment).frozen ≡ None) × (HasRunOfLane c v j moment → ⊥)
+
+abbrev pub BeginDid : Course → ℕ → ℕ → Option ℕ → Reply → Type 0
+BeginDid c v m None Nowhere = DidNothing c
+BeginDid c v m None NoMem = DidNothing c
+BeginDid c v m None _ = ⊥
+BeginDid c v m (Some j) (Begun v' m' g) =
+    IsOn v m v' m' × ((begins : OnlyDid c v (Begins j)) × (g ≡ (replica_at (volume_then c v (begins.step).place) j).generation + 1))
+BeginDid c v m (Some j) (ReadOnly by) = IsFrozen c v by × DidNothing c
+BeginDid c v m (Some j) (Busy v' m' g) = IsOn v m v' m' × DidNothing c × MetBusy c v j g
+BeginDid c v m (Some j) (Worn v' m') = IsOn v m v' m' × DidNothing c × MetWorn c v j
+BeginDid c v m (Some j) (Failed v' m' f) = IsOn v m v' m' × BeginFailed c v j f
+BeginDid c v m (Some j) NoMem = DidNothing c
+BeginDid c v m (Some j) _ = ⊥
+
+-- it examined so many cells, of those that were left
+abbrev pub Stepping : Course → ℕ → ℕ → ℕ → (ℕ → ℕ → Type 0) → Type 0
+Stepping c v j n AsMany = (went : WentOn c v j (Examines j n)) × AsMany n (((went.own).2).run).left
+
+abbrev pub StepDid : Course → ℕ → ℕ → ℕ → Option ℕ → Reply → Type 0
+StepDid c v m cells None Nowhere = DidNothing c
+StepDid c v m cells None NoMem = DidNothing c
+StepDid c v m cells None _ = ⊥
+StepDid c v m cells (Some j) (Stepped v' m' n) = IsOn v m v' m' × Stepping c v j n (λ n left. n ≡ min cells left)
+StepDid c v m cells (Some j) (ReadOnly by) = IsFrozen c v by × DidNothing c
+StepDid c v m cells (Some j) (Idle v' m') = IsOn v m v' m' × MetIdle c v j × DidNothing c
+StepDid c v m cells (Some j) (Failed v' m' f) =
+    IsOn v m v' m' × ((ends : WentOn c v j (Ends j)) × RoseIn c v ((ends.only).step).place j f × IsLast c v ((ends.only).step).place)
+StepDid c v m cells (Some j) NoMem = DidNothing c ⊎ ((n : ℕ) × Stepping c v j n (λ n left. n ≤ min cells left))
+StepDid c v m cells (Some j) _ = ⊥
+
+abbrev pub FinishFailed : Course → ℕ → ℕ → ℕ → ℕ → Type 0
+FinishFailed c v m j f =
+    ((ends : WentOn c v j (Ends j)) × RoseIn c v ((ends.only).step).place j f × IsLast c v ((ends.only).step).place)
+    ⊎ ((poises : WentOn c v j (Poises m j)) × RoseIn c v ((poises.only).step).place j f × IsLast c v ((poises.only).step).place)
+
+abbrev pub FinishDid : Course → ℕ → ℕ → Option ℕ → Reply → Type 0
+FinishDid c v m None Nowhere = DidNothing c
+FinishDid c v m None NoMem = DidNothing c
+FinishDid c v m None _ = ⊥
+FinishDid c v m (Some j) (Compacted v' m' g) =
+    IsOn v m v' m'
+    × ((end : ℕ) × (cells : ℕ) × (swaps : WentOn c v j (Swaps j end cells false))
+    × (g ≡ (replica_at (volume_then c v ((swaps.only).step).place) j).generation + 1))
+FinishDid c v m (Some j) (ReadOnly by) = IsFrozen c v by × DidNothing c
+FinishDid c v m (Some j) (Idle v' m') = IsOn v m v' m' × MetIdle c v j × DidNothing c
+FinishDid c v m (Some j) (Failed v' m' f) = IsOn v m v' m' × FinishFailed c v m j f
+FinishDid c v m (Some j) NoMem =
+    DidNothing c ⊎ WentOn c v j (Ends j) ⊎ ((end : ℕ) × (cells : ℕ) × WentOn c v j (Swaps j end cells true))
+FinishDid c v m (Some j) _ = ⊥
+
+-- DRAINS AND FUSES
+
+-- the line has this one step on the Directory, and changed nothing else
+abbrev pub OnlyDidRow : Course → RowDid → Type 0
+OnlyDidRow c did = NoSteps c × OneRowStep c did
+
+abbrev pub DrainDid : Course → ℕ → Reply → Type 0
+DrainDid c m (Drained m') = (m' ≡ m) × (m < (c.settings).machines) × OnlyDidRow c (Drains m true)
+DrainDid c m Nowhere = ((c.settings).machines ≤ m) × DidNothing c
+DrainDid c m NoMem = DidNothing c
+DrainDid c m _ = ⊥
+
+abbrev pub UndrainDid : Course → ℕ → Reply → Type 0
+UndrainDid c m (Undrained m') = (m' ≡ m) × (m < (c.settings).machines) × OnlyDidRow c (Drains m false)
+UndrainDid c m Nowhere = ((c.settings).machines ≤ m) × DidNothing c
+UndrainDid c m NoMem = DidNothing c
+UndrainDid c m _ = ⊥
+
+abbrev pub FuseDid : Course → ℕ → ℕ → ℕ → Option ℕ → Reply → Type 0
+FuseDid c v m n None Nowhere = DidNothing c
+FuseDid c v m n None NoMem = DidNothing c
+FuseDid c v m n None _ = ⊥
+FuseDid c v m n (Some j) (Fused v' m' n') = IsOn v m v' m' × (n' ≡ n) × OnlyDid c v (Fuses j)
+FuseDid c v m n (Some j) NoMem = DidNothing c
+FuseDid c v m n (Some j) _ = ⊥
+
+abbrev pub FuseDirDid : Course → ℕ → Reply → Type 0
+FuseDirDid c n (FusedDir n') = (n' ≡ n) × OnlyDidRow c FusesRow
+FuseDirDid c n NoMem = DidNothing c
+FuseDirDid c n _ = ⊥
+
+-- LINES OF BLOCKS
 
 abbrev pub CommandDid : Course → Command → Reply → Type 0
 CommandDid c (command.Put pair bytes) reply = PutDid c pair bytes reply
@@ -419,17 +546,52 @@ abbrev pub ItemDid : Course → Item → Reply → Type 0
 ItemDid c (asks.Command command) reply = CommandDid c command reply
 ItemDid c asks.Bad reply = (reply ≡ BadLine) × DidNothing c
 
+-- EVERY LINE
+
+abbrev pub LineDid : Course → Item → Reply → Type 0
+LineDid c (asks.Command (command.Begin v m)) reply = BeginDid c v m (replica_on c.settings v m) reply
+LineDid c (asks.Command (command.Step v m cells)) reply = StepDid c v m cells (replica_on c.settings v m) reply
+LineDid c (asks.Command (command.Finish v m)) reply = FinishDid c v m (replica_on c.settings v m) reply
+LineDid c (asks.Command (command.Drain m)) reply = DrainDid c m reply
+LineDid c (asks.Command (command.Undrain m)) reply = UndrainDid c m reply
+LineDid c (asks.Command (command.Fuse v m n)) reply = FuseDid c v m n (replica_on c.settings v m) reply
+LineDid c (asks.Command (command.FuseDir n)) reply = FuseDirDid c n reply
+LineDid c (asks.Command (command.Restart pick)) reply = ⊥
+LineDid c item reply = ItemDid c item reply
+
+-- a line that may stand in a block
+abbrev pub MayStandInLane : Item → Type 0
+MayStandInLane (asks.Command (command.Put pair bytes)) = Unit {0}
+MayStandInLane (asks.Command (command.Read pair cookie)) = Unit {0}
+MayStandInLane (asks.Command (command.Get url)) = Unit {0}
+MayStandInLane (asks.Command (command.Del pair)) = Unit {0}
+MayStandInLane (asks.Command (command.Url pair)) = Unit {0}
+MayStandInLane (asks.Command (command.Flush v m)) = Unit {0}
+MayStandInLane (asks.Command (command.Compact v m)) = Unit {0}
+MayStandInLane (asks.Command (command.Begin v m)) = ⊥
+MayStandInLane (asks.Command (command.Step v m cells)) = ⊥
+MayStandInLane (asks.Command (command.Finish v m)) = ⊥
+MayStandInLane (asks.Command (command.Drain m)) = ⊥
+MayStandInLane (asks.Command (command.Undrain m)) = ⊥
+MayStandInLane (asks.Command (command.Fuse v m n)) = ⊥
+MayStandInLane (asks.Command (command.FuseDir n)) = ⊥
+MayStandInLane (asks.Command (command.Restart pick)) = ⊥
+MayStandInLane asks.Bad = Unit {0}
+
 -- a line between what its lane had seen before and behind it
 abbrev pub course : Settings → Known → History → (ℕ → Seen) → (ℕ → Seen) → LaneItem → Course
 course settings k history from to item =
     record { settings = settings; k = k; history = history; tag = tag_of item; from = from item.line; to = to item.line }
 
--- It was answered so, and its steps stand between.
-pub record Answered (c : Course) (item : LaneItem) : Type 0 where
+-- It was answered so, where a line does this, and its steps stand between.
+pub record AnsweredBy (Does : Course → Item → Reply → Type 0) (c : Course) (item : LaneItem) : Type 0 where
   pub later : IsLater c.from c.to
   pub steps : (v : ℕ) → Each (λ at. ((c.from).volumes v ≤ at.0) × (at.0 < (c.to).volumes v)) (own c v)
   pub rows : Each (λ at. ((c.from).rows ≤ at.0) × (at.0 < (c.to).rows)) (own_rows c)
-  pub did : ItemDid c item.item item.reply
+  pub did : Does c item.item item.reply
+
+abbrev pub Answered : Course → LaneItem → Type 0
+Answered c item = AnsweredBy LineDid c item
 
 abbrev pub at_first : Known → ℕ → Seen
 at_first k lane = record { volumes = λ v. 0; rows = 0; arm = arm_count k lane }
@@ -437,13 +599,16 @@ at_first k lane = record { volumes = λ v. 0; rows = 0; arm = arm_count k lane }
 abbrev pub at_last : Known → History → ℕ → Seen
 at_last t history lane = record { volumes = λ v. length (history.volumes v); rows = length history.directory; arm = arm_count t lane }
 
--- THE BLOCK
+-- THE LINES OF A HISTORY
 
 -- What stands where a block begins: each replica of a volume is on a machine of its own, none ends within its superblock, and a
 -- compaction makes the next generation.
 pub record IsRegular (settings : Settings) (k : Known) : Type 0 where
   pub machines : settings.replicas ≤ settings.machines
+  pub slots : length k.fuses ≡ disk_count settings
   pub ends : (v j : ℕ) → v < settings.volumes → j < settings.replicas → 64 ≤ (replica_at (volume_at k v) j).end
+  pub numbers : (v j : ℕ) → v < settings.volumes → j < settings.replicas → (run : Run) → (replica_at (volume_at k v) j).run ≡ Some run
+      → (replica_at (volume_at k v) j).generation < 65535
   pub runs : (v j : ℕ) → v < settings.volumes → j < settings.replicas → (run : Run) → (replica_at (volume_at k v) j).run ≡ Some run
       → run.goal ≡ (replica_at (volume_at k v) j).generation + 1
 
@@ -455,9 +620,17 @@ IsOfLine items tag = (item : LaneItem) × Contains items item × (tag_of item �
 pub record EndsAt (settings : Settings) (v : ℕ) (last : Standing) (t : Known) : Type 0 where
   pub volume : volume_at t v ≡ last.volume
   pub faults : (j : ℕ) → j < settings.replicas → fault_count t (slot_of settings v j) ≡ last.faults j
+  pub fuses : (j : ℕ) → j < settings.replicas → fuse_count t (slot_of settings v j) ≡ last.fuses j
+
+-- what is left of the Directory
+pub record RowsEndAt (last : RowsStanding) (t : Known) : Type 0 where
+  pub directory : t.directory ≡ last.directory
+  pub drained : t.drained ≡ last.drained
+  pub faults : fault_count t 0 ≡ last.faults
+  pub fuses : fuse_count t 0 ≡ last.fuses
 
 -- The lanes answered their lines so that this history came about, which leads from k to t.
-pub record Came (settings : Settings) (k : Known) (items : List LaneItem) (history : History) (t : Known) : Type 0 where
+pub record CameBy (Does : Course → Item → Reply → Type 0) (settings : Settings) (k : Known) (items : List LaneItem) (history : History) (t : Known) : Type 0 where
   pub store : IsOf settings k
   pub regular : IsRegular settings k
   pub distinct : EachPair (λ a b. a.line ≢ b.line) items
@@ -469,18 +642,23 @@ pub record Came (settings : Settings) (k : Known) (items : List LaneItem) (histo
   -- what each line's lane had seen before and behind it, by the number of the line
   pub from : ℕ → Seen
   pub to : ℕ → Seen
-  pub answers : Each (λ item. Answered (course settings k history from to item) item) items
+  pub answers : Each (λ item. AnsweredBy Does (course settings k history from to item) item) items
   pub first : Each (λ item. IsLater (at_first k item.lane) (from item.line)) items
   pub «order» : EachPair (λ a b. a.lane ≡ b.lane → IsLater (to a.line) (from b.line)) items
   pub last : Each (λ item. IsLater (to item.line) (at_last t history item.lane)) items
   pub volumes : (v : ℕ) → v < settings.volumes → EndsAt settings v (behind (first_of settings k v) (history.volumes v) (length (history.volumes v))) t
-  pub directory : t.directory ≡ (rows_behind (first_rows k) history.directory (length history.directory)).directory
-  pub directory_faults : fault_count t 0 ≡ (rows_behind (first_rows k) history.directory (length history.directory)).faults
+  pub directory : RowsEndAt (rows_behind (first_rows k) history.directory (length history.directory)) t
   pub count : length t.volumes ≡ length k.volumes
-  pub drained : t.drained ≡ k.drained
-  pub fuses : t.fuses ≡ k.fuses
+  pub slots : length t.fuses ≡ length k.fuses
   pub faults : NoneFalls k.faults t.faults
   pub arms : NoneFalls k.arms t.arms
   -- no count is above its end
   pub faults_end : Each (λ f. f ≤ 2 ^ 64 - 1) t.faults
   pub arms_end : Each (λ f. f ≤ 2 ^ 64 - 1) t.arms
+
+abbrev pub Came : Settings → Known → List LaneItem → History → Known → Type 0
+Came settings k items history t = CameBy LineDid settings k items history t
+
+-- the same of lines of blocks alone
+abbrev pub CameInLanes : Settings → Known → List LaneItem → History → Known → Type 0
+CameInLanes settings k items history t = CameBy ItemDid settings k items history t

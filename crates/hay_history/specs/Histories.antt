@@ -1,5 +1,5 @@
 -- The history of a block, and what a lane sees of it.
-use Rattle.std.specs.Prelude.{◌≡◌, ◌≢◌, ℕ, zero, suc, ◌≤◌, ◌==◌, not, List, [], ◌∷◌, length, filter, filter_map, take_while, Contains, Option, Some, None}
+use Rattle.std.specs.Prelude.{◌≡◌, ◌≢◌, ℕ, zero, suc, ◌≤◌, ◌==◌, not, Bool, true, false, cond, List, [], ◌∷◌, length, filter, filter_map, take_while, Contains, Option, Some, None}
 use Rattle.std.specs.List.{AllByRecursion as Each, enumerate_from}
 use Rattle.hay_needle.specs.declared.settings.Settings.{Settings}
 use Rattle.hay_core.specs.declared.entry.CoreTag.{CoreTag}
@@ -7,24 +7,28 @@ use Rattle.hay_reply.specs.declared.LineVolume.{LineVolume}
 use Rattle.hay_reply.specs.declared.Refused.{Refused}
 use Rattle.hay_needle.specs.declared.needle.Pair.{Pair}
 use Rattle.hay_legal.specs.declared.known.Known.{Known}
+use Rattle.hay_legal.specs.declared.known.Run.{Run}
 use Rattle.hay_legal.specs.declared.known.VolumeKnown.{VolumeKnown}
 use Rattle.hay_legal.specs.declared.turn.RowNote.{RowNote}
-use Rattle.hay_legal.specs.Known.{all_tries, closed_by, drained_of, fault_count, home_in, refusal_by, room_refusal_of, slot_of, volume_at}
+use Rattle.hay_legal.specs.Known.{all_tries, closed_by, drained_of, fault_count, fuse_count, home_in, refusal_by, replica_at, room_refusal_of, slot_of, volume_at}
 use Rattle.hay_history.specs.Steps.{Did, RowDid, RowsStanding, RowStep, Standing, Step}
-use Rattle.hay_history.specs.Steps.RowDid.{AddsRow}
+use Rattle.hay_history.specs.Steps.Did.{Begins, Tries}
+use Rattle.hay_history.specs.Steps.RowDid.{AddsRow, TriesRow}
 
 -- THE HISTORY
 
--- the steps of a block on each volume, and on the Directory, in the order in which they were held
+-- the steps of a block on each volume, and on the Directory, in the order in which they were held, and which line had begun the compaction
+-- that stood before them, by volume and replica
 pub record History : Type 0 where
   pub volumes : ℕ → List Step
   pub directory : List RowStep
+  pub begun : ℕ → ℕ → CoreTag
 
 abbrev pub first_of : Settings → Known → ℕ → Standing
-first_of settings k v = record { volume = volume_at k v; faults = λ j. fault_count k (slot_of settings v j) }
+first_of settings k v = record { volume = volume_at k v; faults = λ j. fault_count k (slot_of settings v j); fuses = λ j. fuse_count k (slot_of settings v j) }
 
 abbrev pub first_rows : Known → RowsStanding
-first_rows k = record { directory = k.directory; faults = fault_count k 0 }
+first_rows k = record { directory = k.directory; drained = k.drained; faults = fault_count k 0; fuses = fuse_count k 0 }
 
 -- what stands behind so many steps
 abbrev pub behind : Standing → List Step → ℕ → Standing
@@ -36,6 +40,16 @@ abbrev pub rows_behind : RowsStanding → List RowStep → ℕ → RowsStanding
 rows_behind before steps zero = before
 rows_behind before [] (suc n) = before
 rows_behind before (step ∷ steps) (suc n) = rows_behind step.after steps n
+
+-- the line that began a compaction of a replica last, behind a step and behind so many, where this one had before
+abbrev pub begun_in : ℕ → CoreTag → Did → CoreTag → CoreTag
+begun_in j tag (Begins i) before = cond (i == j) tag before
+begun_in j tag _ before = before
+
+abbrev pub begun_by : ℕ → CoreTag → List Step → ℕ → CoreTag
+begun_by j before steps zero = before
+begun_by j before [] (suc n) = before
+begun_by j before (step ∷ steps) (suc n) = begun_by j (begun_in j step.tag step.did before) steps n
 
 -- the steps of a line, each with how many stand before it
 abbrev pub steps_of : List Step → ℕ → List (ℕ × Step)
@@ -87,6 +101,12 @@ rows_standing c n = rows_behind (first_rows c.k) (c.history).directory n
 abbrev pub volume_then : Course → ℕ → ℕ → VolumeKnown
 volume_then c v n = (standing c v n).volume
 
+-- a compaction of the replica stands then, which this line began
+pub record HasRunOf (c : Course) (v j n : ℕ) (tag : CoreTag) : Type 0 where
+  pub run : Run
+  pub stands : (replica_at (volume_then c v n) j).run ≡ Some run
+  pub begun : begun_by j ((c.history).begun v j) ((c.history).volumes v) n ≡ tag
+
 -- the line might see this of a volume, and of the Directory
 abbrev pub IsMoment : Course → ℕ → ℕ → Type 0
 IsMoment c v n = ((c.from).volumes v ≤ n) × (n ≤ (c.to).volumes v)
@@ -101,26 +121,49 @@ own c v = steps_of ((c.history).volumes v) (c.tag).line
 abbrev pub own_rows : Course → List (ℕ × RowStep)
 own_rows c = row_steps_of (c.history).directory (c.tag).line
 
+-- those of them that changed something
+abbrev pub changes_it : Did → Bool
+changes_it Tries = false
+changes_it _ = true
+
+abbrev pub changes : Course → ℕ → List (ℕ × Step)
+changes c v = filter (λ at. changes_it (at.1).did) (own c v)
+
+abbrev pub changes_rows : RowDid → Bool
+changes_rows TriesRow = false
+changes_rows _ = true
+
+abbrev pub row_changes : Course → List (ℕ × RowStep)
+row_changes c = filter (λ at. changes_rows (at.1).did) (own_rows c)
+
 abbrev pub NoSteps : Course → Type 0
-NoSteps c = (v : ℕ) → own c v ≡ []
+NoSteps c = (v : ℕ) → changes c v ≡ []
 
 abbrev pub NoRows : Course → Type 0
-NoRows c = own_rows c ≡ []
+NoRows c = row_changes c ≡ []
 
 abbrev pub OnlyOn : Course → ℕ → Type 0
-OnlyOn c v = (u : ℕ) → u ≢ v → own c u ≡ []
+OnlyOn c v = (u : ℕ) → u ≢ v → changes c u ≡ []
 
 -- the line has one step on a volume, which did this
 pub record OneStep (c : Course) (v : ℕ) (did : Did) : Type 0 where
   pub place : ℕ
   pub step : Step
-  pub only : own c v ≡ (place, step) ∷ []
+  pub only : changes c v ≡ (place, step) ∷ []
   pub is : step.did ≡ did
+
+-- the line changed nothing on a volume, and this is one of its steps there
+pub record OneTry (c : Course) (v : ℕ) : Type 0 where
+  pub place : ℕ
+  pub step : Step
+  pub among : Contains (own c v) (place, step)
+  pub none : changes c v ≡ []
+  pub is : step.did ≡ Tries
 
 pub record OneRowStep (c : Course) (did : RowDid) : Type 0 where
   pub place : ℕ
   pub step : RowStep
-  pub only : own_rows c ≡ (place, step) ∷ []
+  pub only : row_changes c ≡ (place, step) ∷ []
   pub is : step.did ≡ did
 
 -- A pair's home as the line saw it, at a front of the Directory.
