@@ -17,7 +17,7 @@ use Rattle.hay_disk.specs.Disk.{Files}
 use Rattle.hay_volume.specs.declared.volume.VolumeFile.{VolumeFile}
 use Rattle.hay_volume.specs.Cells.{HasCells, StandsCell, IsCellAt, cell_head, needles_of}
 use Rattle.hay_volume.proofs.Readings.{cells_first, cell_begins, same_cell}
-use Rattle.hay_disk.specs.Gate.{Stands}
+use Rattle.hay_disk.specs.Gate.{HasBytesAt}
 use Rattle.hay_needle.proofs.Needles.{length-needle}
 use Rattle.hay_compact.specs.Copying.{Copying, HasPeeked, Making, MovesOn, Stage, cell_total, end_of, live_among, renewed_needle}
 use Rattle.hay_compact.proofs.LiveNeedles.{next_among}
@@ -171,11 +171,11 @@ pub no_damage : (next end n : ℕ) (file : List ℕ) (current : List Cell) → H
 no_damage next end n file current h none = none (needle_of_cell h.cell) (cell_begins next file h.cell h.stands)
 
 -- the cell that was read
-pub read_cell : (next end n : ℕ) (file out : List ℕ) (current : List Cell) (cell : Cell) → HasNext next file end current n → IsCellAt next out cell → Stands next out file → (h : HasNext next file end current n) → cell ≡ h.cell
+pub read_cell : (next end n : ℕ) (file out : List ℕ) (current : List Cell) (cell : Cell) → HasNext next file end current n → IsCellAt next out cell → HasBytesAt next out file → (h : HasNext next file end current n) → cell ≡ h.cell
 read_cell next end n file out current cell first is stand h = same_cell next file cell h.cell (record { needle = out; is = is; stand = stand }) h.stands
 
 -- there is room for it
-pub has_room : (next end n room most : ℕ) (file out : List ℕ) (current : List Cell) (cell : Cell) (head : CellHead) → HasNext next file end current n → IsCellAt next out cell → Stands next out file → head ≡ cell_head cell
+pub has_room : (next end n room most : ℕ) (file out : List ℕ) (current : List Cell) (cell : Cell) (head : CellHead) → HasNext next file end current n → IsCellAt next out cell → HasBytesAt next out file → head ≡ cell_head cell
     → length file < 2 ^ 64 → most ≡ min (end + 8) 18446744073709551615 → room ≡ most - next → room < needle_total head.size + 8 → ⊥
 has_room next end n room most file out current cell head h is stand heads fits all left short =
     let same = read_cell next end n file out current cell h is stand h in

@@ -61,6 +61,11 @@ pub opens_void : (settings : Settings) (contents : ℕ → List ℕ) → content
 unfolding OpensRows
 opens_void settings contents void = inl (void, refl)
 
+-- where no journal has a row, nothing has
+pub no_rows : (settings : Settings) (file : List ℕ) (rows : List HomeRow) → ((items : List DirRow) → IsJournal (super_bytes (journal_super settings)) settings.volumes file items → items ≡ []) → HasRows settings file rows → rows ≡ []
+no_rows settings file rows none (inl void) = void.1
+no_rows settings file rows none (inr is) = sym (home_rows rows) ∙ ap (λ (l : List DirRow). map home_row l) (none (map dir_row rows) is)
+
 -- WHAT A STOP LEAVES
 
 pub journal_left : (settings : Settings) (file : FileState) (end : ℕ) (rows : List HomeRow) (pending : Option PendingRow) (image : List ℕ) → HoldsRows settings file end rows pending → IsImage file image

@@ -2,21 +2,26 @@
 use Rattle.std.proofs.Common.{◌≡◌, ◌⊎◌, inl, inr, ◌<◌, ◌≤◌, ◌+◌, ◌^◌, ℕ, zero, suc, min, List, [], ◌∷◌, ◌++◌, length, take, drop, refl, sym, ◌∙◌, ap, subst, arith, length-append, append_assoc, append-nil, take-append-drop, length-take, length-drop, lit<}
 use Rattle.std.specs.List.{All, flat_map}
 use Rattle.std.specs.Int.{bytes_high_first}
+use Rattle.std.specs.Prelude.{true, false, Result, Err}
 use Rattle.std.proofs.lemmas.List.{take_at, drop_at, drop_all, take-take}
 use Rattle.std.proofs.lemmas.List.Elements.{All-append}
 use Rattle.byteorder.specs.Numbers.{big_number-reads_back}
+use Rattle.hay_needle.specs.declared.settings.Super.{Super}
+use Rattle.hay_needle.specs.declared.superblock.SuperFault.{SuperFault}
 use Rattle.hay_needle.specs.Fields.{number_at}
+use Rattle.hay_needle.specs.Super.{SuperFits, super_bytes}
+use Rattle.hay_needle.proofs.Supers.{is_only}
 use Rattle.hay_needle.proofs.FieldLemmas.{IsBytes, field_4, field_8, number_4, number_8}
-use Rattle.hay_disk.specs.Disk.{FileState, IsImage, IsSolid, IsSolidIn, IsFree, overwrite}
-use Rattle.hay_disk.specs.Gate.{magic_bytes, record_of, end_mark, Stands, IsClosed, IsGate, LogGrows, LogStays}
+use Rattle.hay_disk.specs.Disk.{Changes, FileState, IsImage, IsSolid, IsSolidIn, IsFree, overwrite}
+use Rattle.hay_disk.specs.Gate.{magic_bytes, record_of, end_mark, HasBytesAt, IsClosed, IsGate, LogGrows, LogStays}
 use Rattle.hay_disk.proofs.Logs.{not_mark}
-use Rattle.hay_head.specs.Rows.{HasRows, IsCutAt}
+use Rattle.hay_head.specs.Rows.{HasRows, IsCutAt, IsSuperFaultAt}
 use Rattle.hay_head.proofs.RowLaws.{rows_grow, rows_stay, rows_lead, no_rows, rows_stand, stands_first, stands_second, row_magic}
 use Rattle.hay_dirfile.specs.declared.row.DirRow.{DirRow}
 use Rattle.hay_dirfile.specs.declared.fault.OpenFault.{OpenFault}
 use Rattle.hay_dirfile.specs.declared.fault.RowsFault.{RowsFault}
 use Rattle.hay_dirfile.specs.Faults.{open_fault}
-use Rattle.hay_dirfile.specs.Journal.{journal_magic, journal_row, row_fields, journal_end, IsRowOf, LeadsTo, IsJournal, IsBrokenRow, IsBrokenAt}
+use Rattle.hay_dirfile.specs.Journal.{journal_magic, journal_row, row_fields, journal_end, IsRowOf, LeadsTo, IsJournal, IsBrokenRow, IsBrokenAt, IsDamagedJournal}
 
 pub row_is : (row : DirRow) → journal_row row ≡ record_of journal_magic (row_fields row)
 unfolding journal_row
@@ -99,11 +104,11 @@ no_volume volumes volume bytes row fits is beyond of same =
 
 -- A ROW IS READ
 
-row_room : (at : ℕ) (row : DirRow) (file : List ℕ) → Stands at (journal_row row) file → at + 24 ≤ length file
+row_room : (at : ℕ) (row : DirRow) (file : List ℕ) → HasBytesAt at (journal_row row) file → at + 24 ≤ length file
 row_room at row file stand = omega (arith, length-row row, ap length stand, length-take (length (journal_row row)) (drop at file), length-drop at file)
 
 -- as many bytes that are no row
-pub other_bytes : (volumes at : ℕ) (bytes file : List ℕ) → length bytes ≡ 24 → take 8 bytes ≡ magic_bytes journal_magic → Stands at bytes file
+pub other_bytes : (volumes at : ℕ) (bytes file : List ℕ) → length bytes ≡ 24 → take 8 bytes ≡ magic_bytes journal_magic → HasBytesAt at bytes file
     → ((row : DirRow) → IsRowOf volumes row → bytes ≡ journal_row row → ⊥) → IsBrokenRow volumes at file
 other_bytes volumes at bytes file long magic stand none =
     let here : take 8 (drop at file) ≡ magic_bytes journal_magic = sym (take-take 8 (length bytes) (drop at file) (omega arith)) ∙ ap (λ (l : List ℕ). take 8 l) stand ∙ magic in
@@ -173,6 +178,15 @@ formatted superblock volumes bytes old new long is written =
       };
     }
 
+-- A FILE THAT WAS EMPTY
+
+-- Whatever a stop leaves of it, formatted or in part, has no room for a row.
+pub no_row_yet : (superblock : List ℕ) (volumes : ℕ) (old new : FileState) (image : List ℕ) (rows : List DirRow) → IsSolid old → old.now ≡ [] → Changes 0 72 old new → IsImage new image → IsJournal superblock volumes image rows → rows ≡ []
+no_row_yet superblock volumes old new image [] solid void changes is journal = refl
+no_row_yet superblock volumes old new image (row ∷ rows) solid void changes is journal =
+    let none : old.longest ≤ 0 = omega (arith, solid.longest, ap length void) in
+    absurd (omega (arith, none, changes.longest, is.no_longer, journal.closed.room))
+
 -- once it is on the disk, and nothing of it is sealed, a row may be appended
 pub journal_gate : (superblock : List ℕ) (volumes : ℕ) (rows : List DirRow) (end : ℕ) (file : FileState) → end ≡ journal_end rows → IsJournal superblock volumes file.now rows → IsSolid file → IsFree file → IsGate journal_magic end file
 journal_gate superblock volumes rows end file ends is solid free = record {
@@ -187,10 +201,10 @@ pub lead_first : (superblock : List ℕ) (volumes : ℕ) (file : List ℕ) (rows
 lead_first superblock volumes file rows none long begins =
     subst (λ l. LeadsTo superblock volumes file l) (sym none) (record { all = all_none (IsRowOf volumes); stand = no_rows journal_row superblock file long begins })
 
-pub lead_next : (superblock : List ℕ) (volumes : ℕ) (file : List ℕ) (rows more : List DirRow) (row : DirRow) (end : ℕ) → more ≡ rows ++ row ∷ [] → end ≡ journal_end rows → LeadsTo superblock volumes file rows → IsRowOf volumes row → Stands end (journal_row row) file
+pub lead_next : (superblock : List ℕ) (volumes : ℕ) (file : List ℕ) (rows more : List DirRow) (row : DirRow) (end : ℕ) → more ≡ rows ++ row ∷ [] → end ≡ journal_end rows → LeadsTo superblock volumes file rows → IsRowOf volumes row → HasBytesAt end (journal_row row) file
     → LeadsTo superblock volumes file more
 lead_next superblock volumes file rows more row end mores ends lead of stand =
-    let here : Stands (journal_end rows) (journal_row row) file = subst (λ k. Stands k (journal_row row) file) ends stand in
+    let here : HasBytesAt (journal_end rows) (journal_row row) file = subst (λ k. HasBytesAt k (journal_row row) file) ends stand in
     subst (λ l. LeadsTo superblock volumes file l) (sym mores) (record {
       all = All-append (IsRowOf volumes) rows (row ∷ []) lead.all (all_one (IsRowOf volumes) row of);
       stand = rows_lead journal_row superblock file rows (journal_end rows) (journal_end (rows ++ row ∷ [])) row lead.stand here (ap (λ n. journal_end rows + n) (length-row row) ∙ next_end rows row);
@@ -200,7 +214,7 @@ pub next_count : (rows more : List DirRow) (row : DirRow) (end next : ℕ) → m
 next_count rows more row end next mores ends is = is ∙ ap (λ k. k + 24) ends ∙ next_end rows row ∙ ap journal_end (sym mores)
 
 -- a row lies within its file
-pub row_within : (end : ℕ) (row : DirRow) (file : List ℕ) → Stands end (journal_row row) file → length file < 2 ^ 64 → end + 24 < 2 ^ 64
+pub row_within : (end : ℕ) (row : DirRow) (file : List ℕ) → HasBytesAt end (journal_row row) file → length file < 2 ^ 64 → end + 24 < 2 ^ 64
 row_within end row file stand fits = let room = row_room end row file stand in omega arith
 
 pub journal_found : (superblock : List ℕ) (volumes : ℕ) (file : List ℕ) (rows : List DirRow) (end : ℕ) → end ≡ journal_end rows → LeadsTo superblock volumes file rows → IsClosed journal_magic end file → IsJournal superblock volumes file rows
@@ -208,10 +222,10 @@ journal_found superblock volumes file rows end ends lead closed = record { lead 
 
 -- where a row stands there is no end mark, and nothing is broken
 
-row_open : (at : ℕ) (row : DirRow) (file : List ℕ) → Stands at (journal_row row) file → IsClosed journal_magic at file → ⊥
+row_open : (at : ℕ) (row : DirRow) (file : List ℕ) → HasBytesAt at (journal_row row) file → IsClosed journal_magic at file → ⊥
 row_open at row file stand closed = closed.shut (row_magic journal_magic at (journal_row row) (row_fields row) file (row_is row) stand)
 
-row_whole : (volumes at : ℕ) (row : DirRow) (file : List ℕ) → IsRowOf volumes row → Stands at (journal_row row) file → IsBrokenRow volumes at file → ⊥
+row_whole : (volumes at : ℕ) (row : DirRow) (file : List ℕ) → IsRowOf volumes row → HasBytesAt at (journal_row row) file → IsBrokenRow volumes at file → ⊥
 row_whole volumes at row file of stand (inl short) = let room = row_room at row file stand in omega arith
 row_whole volumes at row file of stand (inr begun) = begun.1 row of stand
 
@@ -223,11 +237,11 @@ mark_whole volumes at file closed (inr begun) = closed.shut begun.0
 abbrev rows_bytes : List DirRow → List ℕ
 rows_bytes rows = flat_map journal_row rows
 
-first_row : (at : ℕ) (row : DirRow) (rows : List DirRow) (file : List ℕ) → Stands at (rows_bytes (row ∷ rows)) file → Stands at (journal_row row) file
+first_row : (at : ℕ) (row : DirRow) (rows : List DirRow) (file : List ℕ) → HasBytesAt at (rows_bytes (row ∷ rows)) file → HasBytesAt at (journal_row row) file
 first_row at row rows file stand = stands_first at (journal_row row) (rows_bytes rows) file stand
 
-other_rows : (at : ℕ) (row : DirRow) (rows : List DirRow) (file : List ℕ) → Stands at (rows_bytes (row ∷ rows)) file → Stands (at + 24) (rows_bytes rows) file
-other_rows at row rows file stand = subst (λ k. Stands (at + k) (rows_bytes rows) file) (length-row row) (stands_second at (journal_row row) (rows_bytes rows) file stand)
+other_rows : (at : ℕ) (row : DirRow) (rows : List DirRow) (file : List ℕ) → HasBytesAt at (rows_bytes (row ∷ rows)) file → HasBytesAt (at + 24) (rows_bytes rows) file
+other_rows at row rows file stand = subst (λ k. HasBytesAt (at + k) (rows_bytes rows) file) (length-row row) (stands_second at (journal_row row) (rows_bytes rows) file stand)
 
 behind_first : (at : ℕ) (row : DirRow) (rows : List DirRow) → at + length (rows_bytes (row ∷ rows)) ≡ (at + 24) + length (rows_bytes rows)
 behind_first at row rows = omega (arith, length-append (journal_row row) (rows_bytes rows), length-row row)
@@ -236,7 +250,7 @@ at_once : (at : ℕ) → at + 0 ≡ at
 at_once at = omega arith
 
 one_reading : (volumes at : ℕ) (rows more : List DirRow) (file : List ℕ) → volumes ≤ 2 ^ 32 → All (IsRowOf volumes) rows → All (IsRowOf volumes) more
-    → Stands at (rows_bytes rows) file → IsClosed journal_magic (at + length (rows_bytes rows)) file → Stands at (rows_bytes more) file → IsClosed journal_magic (at + length (rows_bytes more)) file → rows ≡ more
+    → HasBytesAt at (rows_bytes rows) file → IsClosed journal_magic (at + length (rows_bytes rows)) file → HasBytesAt at (rows_bytes more) file → IsClosed journal_magic (at + length (rows_bytes more)) file → rows ≡ more
 one_reading volumes at [] [] file most all also stand closed again shut = refl
 one_reading volumes at [] (s ∷ more) file most all also stand closed again shut =
     absurd (row_open at s file (first_row at s more file again) (subst (λ k. IsClosed journal_magic k file) (at_once at) closed))
@@ -252,8 +266,8 @@ one_reading volumes at (r ∷ rows) (s ∷ more) file most all also stand closed
     (other_rows at s more file again) (subst (λ k. IsClosed journal_magic k file) (behind_first at s more) shut) in
     ap (λ x. x ∷ rows) row ∙ ap (λ (l : List DirRow). s ∷ l) rest
 
-no_broken_at : (volumes at : ℕ) (rows more : List DirRow) (file : List ℕ) → All (IsRowOf volumes) rows → Stands at (rows_bytes rows) file → IsClosed journal_magic (at + length (rows_bytes rows)) file
-    → Stands at (rows_bytes more) file → IsBrokenRow volumes (at + length (rows_bytes more)) file → ⊥
+no_broken_at : (volumes at : ℕ) (rows more : List DirRow) (file : List ℕ) → All (IsRowOf volumes) rows → HasBytesAt at (rows_bytes rows) file → IsClosed journal_magic (at + length (rows_bytes rows)) file
+    → HasBytesAt at (rows_bytes more) file → IsBrokenRow volumes (at + length (rows_bytes more)) file → ⊥
 no_broken_at volumes at [] [] file all stand closed again broken = mark_whole volumes (at + 0) file closed broken
 no_broken_at volumes at [] (s ∷ more) file all stand closed again broken =
     row_open at s file (first_row at s more file again) (subst (λ k. IsClosed journal_magic k file) (at_once at) closed)
@@ -265,8 +279,8 @@ no_broken_at volumes at (r ∷ rows) (s ∷ more) file all stand closed again br
     (other_rows at s more file again) (subst (λ k. IsBrokenRow volumes k file) (behind_first at s more) broken)
 
 -- of two places with rows up to them, at which the file is broken, the first is the second
-same_place : (volumes at : ℕ) (rows more : List DirRow) (file : List ℕ) → All (IsRowOf volumes) rows → All (IsRowOf volumes) more → Stands at (rows_bytes rows) file → IsBrokenRow volumes (at + length (rows_bytes rows)) file
-    → Stands at (rows_bytes more) file → IsBrokenRow volumes (at + length (rows_bytes more)) file → at + length (rows_bytes rows) ≡ at + length (rows_bytes more)
+same_place : (volumes at : ℕ) (rows more : List DirRow) (file : List ℕ) → All (IsRowOf volumes) rows → All (IsRowOf volumes) more → HasBytesAt at (rows_bytes rows) file → IsBrokenRow volumes (at + length (rows_bytes rows)) file
+    → HasBytesAt at (rows_bytes more) file → IsBrokenRow volumes (at + length (rows_bytes more)) file → at + length (rows_bytes rows) ≡ at + length (rows_bytes more)
 same_place volumes at [] [] file all also stand broken again worse = refl
 same_place volumes at [] (s ∷ more) file all also stand broken again worse =
     absurd (row_whole volumes at s file (all_first (IsRowOf volumes) s more also) (first_row at s more file again) (subst (λ k. IsBrokenRow volumes k file) (at_once at) broken))
@@ -280,7 +294,7 @@ same_place volumes at (r ∷ rows) (s ∷ more) file all also stand broken again
 
 -- a journal has one list of rows, and no damage
 
-rows_here : (superblock : List ℕ) (volumes : ℕ) (file : List ℕ) (rows : List DirRow) → LeadsTo superblock volumes file rows → Stands 64 (rows_bytes rows) file
+rows_here : (superblock : List ℕ) (volumes : ℕ) (file : List ℕ) (rows : List DirRow) → LeadsTo superblock volumes file rows → HasBytesAt 64 (rows_bytes rows) file
 rows_here superblock volumes file rows lead = rows_stand journal_row superblock file rows (journal_end rows) lead.stand
 
 pub one_journal : (superblock : List ℕ) (volumes : ℕ) (file : List ℕ) (rows more : List DirRow) → volumes ≤ 2 ^ 32 → IsJournal superblock volumes file rows → IsJournal superblock volumes file more → rows ≡ more
@@ -296,6 +310,21 @@ no_broken_row superblock volumes file rows more at place is lead broken =
 
 pub undamaged : (superblock : List ℕ) (volumes : ℕ) (file : List ℕ) (rows : List DirRow) (at : ℕ) → IsJournal superblock volumes file rows → IsBrokenAt superblock volumes file at → ⊥
 undamaged superblock volumes file rows at is damage = no_broken_row superblock volumes file rows damage.rows at damage.place is damage.lead damage.broken
+
+-- the superblock has no fault
+front_whole : (sup : Super) (file : List ℕ) (at : ℕ) → SuperFits sup → take 64 file ≡ super_bytes sup → IsSuperFaultAt sup file at → ⊥
+front_whole sup file at fits begins damage =
+    let refused : Result (Unit {0}) SuperFault = Err damage.fault in
+    let accepted : false ≡ true = is_only (take 64 file) sup refused fits (sym damage.first) (take-take 64 64 file (omega arith) ∙ begins) in
+    absurd cc
+
+pub sound : (sup : Super) (file : List ℕ) (rows : List DirRow) (at : ℕ) → SuperFits sup → IsJournal (super_bytes sup) sup.settings.volumes file rows → IsDamagedJournal sup file at → ⊥
+sound sup file rows at fits is (inl fault) =
+    let stand = is.lead.stand in
+    let front : 64 ≤ journal_end rows = omega arith in
+    let begins : take 64 file ≡ super_bytes sup = sym (take-take 64 (journal_end rows) file front) ∙ ap (λ (l : List ℕ). take 64 l) stand.front ∙ take_at (super_bytes sup) (rows_bytes rows) 64 stand.long in
+    front_whole sup file at fits begins fault
+sound sup file rows at fits is (inr broken) = undamaged (super_bytes sup) sup.settings.volumes file rows at is broken
 
 -- and a damaged one is damaged at one place
 pub one_damage : (superblock : List ℕ) (volumes : ℕ) (file : List ℕ) (at other : ℕ) → IsBrokenAt superblock volumes file at → IsBrokenAt superblock volumes file other → at ≡ other

@@ -4,7 +4,7 @@ use Rattle.std.specs.List.{All}
 use Rattle.std.specs.Int.{bytes_high_first}
 use Rattle.hay_needle.specs.declared.settings.Super.{Super}
 use Rattle.hay_needle.specs.Super.{super_bytes}
-use Rattle.hay_disk.specs.Gate.{magic_bytes, record_of, IsClosed, Stands}
+use Rattle.hay_disk.specs.Gate.{magic_bytes, record_of, IsClosed, HasBytesAt}
 use Rattle.hay_head.specs.Rows.{HasRows, IsSuperFaultAt}
 use Rattle.hay_dirfile.specs.declared.row.DirRow.{DirRow}
 
@@ -44,7 +44,7 @@ pub record IsJournal (superblock : List ℕ) (volumes : ℕ) (file : List ℕ) (
 abbrev pub IsBrokenRow : ℕ → ℕ → List ℕ → Type 0
 IsBrokenRow volumes at file =
     (length file < at + 8)
-    ⊎ ((take 8 (drop at file) ≡ magic_bytes journal_magic) × ((row : DirRow) → IsRowOf volumes row → Stands at (journal_row row) file → ⊥))
+    ⊎ ((take 8 (drop at file) ≡ magic_bytes journal_magic) × ((row : DirRow) → IsRowOf volumes row → HasBytesAt at (journal_row row) file → ⊥))
 
 -- Rows lead up to `at`, and the next one is broken.
 pub record IsBrokenAt (superblock : List ℕ) (volumes : ℕ) (file : List ℕ) (at : ℕ) : Type 0 where

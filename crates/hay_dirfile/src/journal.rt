@@ -4,7 +4,7 @@ ghost use Rattle.std.specs.Prelude.{◌≡◌, ◌⊎◌, ◌≤◌, ◌<◌, �
 ghost use Rattle.hay_disk.specs.Counts.{IsCounted, Rose};
 ghost use Rattle.hay_disk.specs.Disk.{IsImage, IsSolid, IsSolidIn, IsFree, IsFreeIn, Changes, KeepsOthers, overwrite};
 ghost use Rattle.hay_disk.specs.Gate.{IsClosed, IsGate, end_mark};
-ghost use Rattle.hay_needle.specs.Super.{super_bytes};
+ghost use Rattle.hay_needle.specs.Super.{SuperFits, super_bytes};
 ghost use Rattle.hay_dirfile.specs.Journal.{journal_magic, journal_end, IsRowOf, IsJournal, IsDamagedJournal};
 ghost use Rattle.hay_dirfile.specs.declared.row.DirRow.{DirRow};
 
@@ -48,6 +48,12 @@ impl Journal {
         ensures damaged { D.Tells → (file at : ℕ) → result ≡ Err (OpenFault.Damaged file at) →
             (file ≡ 0) × (0 < length (D.files disk.old 0).now) × IsDamagedJournal sup.now (D.files disk.old 0).now at }
         ensures undamaged { D.Tells → 0 < length (D.files disk.old 0).now → OnOk result ((at : ℕ) → IsDamagedJournal sup.now (D.files disk.old 0).now at → ⊥) }
+
+        // What was opened is not damaged now.
+        ensures undamaged_now { D.Tells → OnOk result ((at : ℕ) → IsDamagedJournal sup.now (D.files disk.new 0).now at → ⊥) }
+        // Whatever a stop leaves of a file of size 0 has no rows, then or after a refusal.
+        ensures nothing { D.Tells → (D.files disk.old 0).now ≡ [] → (superblock image : List ℕ) (volumes : ℕ) (rows : List DirRow) →
+            IsImage (D.files disk.new 0) image → IsJournal superblock volumes image rows → rows ≡ [] }
 
         // A journal is opened with its rows, unless the disk fails or memory is wanting.
         ensures exact { D.Tells → (rows : List DirRow) → IsJournal (super_bytes sup.now) sup.now.settings.volumes (D.files disk.old 0).now rows →
@@ -124,6 +130,7 @@ fn open_rows<D: Disk>(
     ensures damaged { D.Tells → (at : ℕ) → result ≡ Err (RowsFault.Damaged at) →
         (0 < length (D.files disk.old 0).now) × IsDamagedJournal sup.now (D.files disk.old 0).now at }
     ensures undamaged { D.Tells → 0 < length (D.files disk.old 0).now → OnOk result ((at : ℕ) → IsDamagedJournal sup.now (D.files disk.old 0).now at → ⊥) }
+    ensures undamaged_now { D.Tells → OnOk result ((at : ℕ) → IsDamagedJournal sup.now (D.files disk.new 0).now at → ⊥) }
     ensures exact { D.Tells → (rows : List DirRow) → IsJournal (super_bytes sup.now) sup.now.settings.volumes (D.files disk.old 0).now rows →
         IfOk result (λ scan. scan.0.items ≡ rows) }
     ensures only { D.Tells → (rows : List DirRow) → IsJournal (super_bytes sup.now) sup.now.settings.volumes (D.files disk.old 0).now rows →
@@ -148,6 +155,7 @@ fn format<D: Disk>(disk: &mut D, sup: &Super) -> Result<(), DiskFault>
     requires { D.Tells → IsFreeIn 0 72 (D.files disk.old 0) }
     ensures empty { D.Tells → OnOk result (IsJournal (super_bytes sup.now) sup.now.settings.volumes (D.files disk.new 0).now []) }
     ensures solid { D.Tells → OnOk result (IsSolid (D.files disk.new 0)) }
+    ensures undamaged_now { D.Tells → OnOk result ((at : ℕ) → IsDamagedJournal sup.now (D.files disk.new 0).now at → ⊥) }
     ensures no_memory { D.Tells → IsErrOf result DiskFault.NoMemory → D.files disk.new ≡ D.files disk.old }
     ensures changes { D.Tells → Changes 0 72 (D.files disk.old 0) (D.files disk.new 0) }
     ensures others { D.Tells → KeepsOthers 0 (D.files disk.old) (D.files disk.new) }
@@ -155,9 +163,23 @@ fn format<D: Disk>(disk: &mut D, sup: &Super) -> Result<(), DiskFault>
     ensures counted { IsCounted (D.fault_count disk.old) (D.fault_count disk.new) (IsErrOf result DiskFault.Failed) }
     ensures fuses { D.fuse_count disk.new ≡ D.fuse_count disk.old }
 {
+    read_numbers(sup);
     disk.write(FILE, 0, &empty_file(sup))?;
     disk.sync(FILE)?;
     Ok(())
+}
+
+// The numbers behind a reference fit their types, once each was read.
+fn read_numbers(sup: &Super)
+    ensures { SuperFits sup.now }
+{
+    let _machines = sup.settings.machines;
+    let _volumes = sup.settings.volumes;
+    let _replicas = sup.settings.replicas;
+    let _capacity = sup.settings.capacity;
+    let _volume = sup.volume;
+    let _replica = sup.replica;
+    let _generation = sup.generation;
 }
 
 // The bytes of a journal without rows.

@@ -3,7 +3,7 @@
 ghost use Rattle.std.specs.Prelude.{◌≡◌, ◌⊎◌, ◌≤◌, ◌<◌, ◌+◌, ℕ, List, length, Ok, Err, IfOk, IfErr, OnOk, IsErr, IsErrOf};
 ghost use Rattle.hay_disk.specs.Counts.{IsCounted};
 ghost use Rattle.hay_disk.specs.Disk.{KeepsOthers};
-ghost use Rattle.hay_disk.specs.Gate.{IsClosed, Stands};
+ghost use Rattle.hay_disk.specs.Gate.{IsClosed, HasBytesAt};
 ghost use Rattle.hay_needle.specs.Super.{super_bytes};
 ghost use Rattle.hay_dirfile.specs.Journal.{journal_magic, journal_row, journal_end, IsRowOf, IsJournal, IsBrokenRow, IsDamagedJournal};
 ghost use Rattle.hay_dirfile.specs.declared.row.DirRow.{DirRow};
@@ -27,7 +27,7 @@ enum Due {
 
 // Reads where a row or the end mark is due.
 fn read_row<D: Disk>(disk: &mut D, at: u64, volumes: u32) -> Result<Due, Failed>
-    ensures row { D.Tells → (row : DirRow) → result ≡ Ok (Due.Row row) → IsRowOf volumes row × Stands at (journal_row row) (D.files disk.old 0).now }
+    ensures row { D.Tells → (row : DirRow) → result ≡ Ok (Due.Row row) → IsRowOf volumes row × HasBytesAt at (journal_row row) (D.files disk.old 0).now }
     ensures mark { D.Tells → result ≡ Ok Due.Mark → IsClosed journal_magic at (D.files disk.old 0).now }
     ensures broken { D.Tells → result ≡ Ok Due.Broken → IsBrokenRow volumes at (D.files disk.old 0).now }
     ensures same { D.Tells → D.files disk.new ≡ D.files disk.old }

@@ -4,7 +4,7 @@ use Rattle.std.proofs.lemmas.List.{take_at, drop_at, length-take-le}
 use Rattle.std.proofs.lemmas.Nat.{from_be_bytes-to_be_bytes_8}
 use Rattle.std.specs.Int.{from_be_bytes, w64}
 use Rattle.hay_disk.specs.Disk.{FileState, IsImage, IsSolid, IsSolidIn, Changes, Keeps, Seals, overwrite}
-use Rattle.hay_disk.specs.Gate.{magic_bytes, IsClosed, IsGate, IsLog, Stands, record_of, end_mark, EndsInMark, IsWholeOrClosed, LogGrows, LogStays}
+use Rattle.hay_disk.specs.Gate.{magic_bytes, IsClosed, IsGate, IsLog, HasBytesAt, record_of, end_mark, EndsInMark, IsWholeOrClosed, LogGrows, LogStays}
 use Rattle.hay_disk.proofs.Images.{solid_part}
 use Rattle.hay_disk.proofs.Gates.{drop-overwrite}
 use Rattle.hay_disk.proofs.Steps.{rests}
@@ -23,7 +23,7 @@ log_from magic front mark rest file is eight other =
     }
 
 -- a whole record behind the front of a log
-pub whole_log : (magic end : ℕ) (front rest file : List ℕ) → length front ≡ end → end_mark ≢ magic_bytes magic → take end file ≡ front → Stands end (record_of magic (rest ++ end_mark)) file → IsLog magic (front ++ record_of magic rest) file
+pub whole_log : (magic end : ℕ) (front rest file : List ℕ) → length front ≡ end → end_mark ≢ magic_bytes magic → take end file ≡ front → HasBytesAt end (record_of magic (rest ++ end_mark)) file → IsLog magic (front ++ record_of magic rest) file
 whole_log magic end front rest file ends other begins stands =
     let bytes = record_of magic (rest ++ end_mark) in
     let tail = drop (length bytes) (drop end file) in
@@ -43,7 +43,7 @@ log_appended magic end front rest old new ends other log is =
     let begins_old : take end old ≡ front = subst (λ n. take n old ≡ front) ends log.begins in
     let begins : take end new ≡ front =
     ap (λ (l : List ℕ). take end l) (is ∙ append_assoc (take end old) bytes tail) ∙ take_at (take end old) (bytes ++ tail) end (length-take-le end old room) ∙ begins_old in
-    let stands : Stands end bytes new =
+    let stands : HasBytesAt end bytes new =
     ap (λ (l : List ℕ). take (length bytes) (drop end l)) is ∙ ap (λ (l : List ℕ). take (length bytes) l) (drop-overwrite end bytes old room) ∙ take_at bytes tail (length bytes) refl in
     whole_log magic end front rest new ends other begins stands
 

@@ -20,8 +20,8 @@ abbrev pub record_of : ℕ → List ℕ → List ℕ
 record_of magic bytes = magic_bytes magic ++ bytes
 
 -- these bytes stand at this offset
-abbrev pub Stands : ℕ → List ℕ → List ℕ → Type 0
-Stands at bytes file = take (length bytes) (drop at file) ≡ bytes
+abbrev pub HasBytesAt : ℕ → List ℕ → List ℕ → Type 0
+HasBytesAt at bytes file = take (length bytes) (drop at file) ≡ bytes
 
 -- at `end` stand eight bytes that are not the magic
 pub record IsClosed (magic end : ℕ) (file : List ℕ) : Type 0 where
@@ -36,7 +36,7 @@ pub record IsGate (magic end : ℕ) (file : FileState) : Type 0 where
 
 -- the file has the whole record, or no magic at `end`
 abbrev pub IsWholeOrClosed : ℕ → ℕ → List ℕ → List ℕ → Type 0
-IsWholeOrClosed magic end body file = IsClosed magic end file ⊎ Stands end (record_of magic body) file
+IsWholeOrClosed magic end body file = IsClosed magic end file ⊎ HasBytesAt end (record_of magic body) file
 
 -- A log: these bytes, then eight that are not the magic, then anything.
 pub record IsLog (magic : ℕ) (front file : List ℕ) : Type 0 where

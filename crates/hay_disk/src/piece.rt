@@ -1,6 +1,6 @@
 //! Pieces of files, and the arms that fetch them.
 ghost use Rattle.std.specs.Prelude.{◌≡◌, ◌≤◌, ◌<◌, List, ℕ, Bool, true, length, IfOk, IsErr, IsOk};
-ghost use Rattle.hay_disk.specs.Counts.{IsCounted};
+ghost use Rattle.hay_disk.specs.Counts.{IsCounted, StaysSure};
 ghost use Rattle.hay_disk.specs.Disk.{IsBut};
 
 use crate::Failed;
@@ -52,7 +52,7 @@ pub trait Arm<P: Piece>: Send + Drop {
         ensures count { P.Tells → IfOk result (λ n. n ≡ length out.old) }
         ensures bytes { P.Tells → IfOk result (λ _. IsBut (P.piece_hole piece.now) (P.piece_bytes piece.now) out.new) }
         ensures sure { is_sure self.old ≡ true → IsOk result }
-        ensures stays_sure { is_sure self.old ≡ true → is_sure self.new ≡ true }
+        ensures stays_sure { StaysSure (is_sure self.old) (is_sure self.new) (fault_count self.old) (fault_count self.new) }
         ensures counted { IsCounted (fault_count self.old) (fault_count self.new) (IsErr result) };
 
     /// How many fetches have failed.

@@ -8,7 +8,7 @@ use Rattle.std.proofs.lemmas.Bool.{cases_lt}
 use Rattle.std.proofs.lemmas.List.{take_at, take_all, drop_at, drop_all, drop-drop, take-take}
 use Rattle.std.proofs.lemmas.List.FromFn.{length-range_with_len, get_or-range_with_len}
 use Rattle.hay_disk.specs.Disk.{FileState, IsImage, IsSolid, IsSolidIn, overwrite}
-use Rattle.hay_disk.specs.Gate.{magic_bytes, record_of, end_mark, Stands, IsClosed, IsGate, LogGrows, LogStays}
+use Rattle.hay_disk.specs.Gate.{magic_bytes, record_of, end_mark, HasBytesAt, IsClosed, IsGate, LogGrows, LogStays}
 use Rattle.hay_disk.proofs.Logs.{not_mark}
 use Rattle.hay_head.specs.Rows.{HasRows, IsCutAt}
 use Rattle.hay_head.specs.Head.{head_magic, head_row, row_place, LeadsTo, IsHead, IsBrokenRow, IsBrokenAt}
@@ -74,7 +74,7 @@ formatted superblock bytes old new long is written =
     let whole : new ≡ superblock ++ (row ++ (end_mark ++ tail)) =
     written ∙ ap (λ (l : List ℕ). l ++ tail) is ∙ append_assoc superblock (row ++ end_mark) tail ∙ ap (λ (l : List ℕ). superblock ++ l) (append_assoc row end_mark tail) in
     let behind : drop 64 new ≡ row ++ (end_mark ++ tail) = ap (λ (l : List ℕ). drop 64 l) whole ∙ drop_at superblock (row ++ (end_mark ++ tail)) 64 long in
-    let stand : Stands 64 row new = ap (λ (l : List ℕ). take (length row) l) behind ∙ take_at row (end_mark ++ tail) (length row) refl in
+    let stand : HasBytesAt 64 row new = ap (λ (l : List ℕ). take (length row) l) behind ∙ take_at row (end_mark ++ tail) (length row) refl in
     let both : new ≡ (superblock ++ row) ++ (end_mark ++ tail) = whole ∙ sym (append_assoc superblock row (end_mark ++ tail)) in
     let first : length (superblock ++ row) ≡ 80 = omega (arith, length-append superblock row, long, length-head_row 0) in
     let mark : take 8 (drop 80 new) ≡ end_mark = ap (λ (l : List ℕ). take 8 (drop 80 l)) both ∙ ap (λ (l : List ℕ). take 8 l) (drop_at (superblock ++ row) (end_mark ++ tail) 80 first) in
@@ -108,24 +108,24 @@ row_number : (g : ℕ) (row : List ℕ) → row ≡ head_row g → take 8 (drop 
 unfolding head_row
 row_number g row is = ap (λ (l : List ℕ). take 8 (drop 8 l)) is
 
-pub row_found : (g at : ℕ) (row file : List ℕ) → length row ≡ 16 → take 8 row ≡ magic_bytes head_magic → take 8 (drop 8 row) ≡ bytes_high_first 8 g → at ≡ row_place g → Stands at row file → Stands (row_place g) (head_row g) file
+pub row_found : (g at : ℕ) (row file : List ℕ) → length row ≡ 16 → take 8 row ≡ magic_bytes head_magic → take 8 (drop 8 row) ≡ bytes_high_first 8 g → at ≡ row_place g → HasBytesAt at row file → HasBytesAt (row_place g) (head_row g) file
 row_found g at row file long magic number place stand =
     let is : row ≡ head_row g = row_is g row long magic number in
-    subst (λ k. Stands k (head_row g) file) place (subst (λ (l : List ℕ). Stands at l file) is stand)
+    subst (λ k. HasBytesAt k (head_row g) file) place (subst (λ (l : List ℕ). HasBytesAt at l file) is stand)
 
-stands_magic : (at : ℕ) (row file : List ℕ) → 8 ≤ length row → take 8 row ≡ magic_bytes head_magic → Stands at row file → take 8 (drop at file) ≡ magic_bytes head_magic
+stands_magic : (at : ℕ) (row file : List ℕ) → 8 ≤ length row → take 8 row ≡ magic_bytes head_magic → HasBytesAt at row file → take 8 (drop at file) ≡ magic_bytes head_magic
 stands_magic at row file long magic stand =
     sym (take-take 8 (length row) (drop at file) long) ∙ ap (λ (l : List ℕ). take 8 l) stand ∙ magic
 
 -- another generation than the next
-pub other_row : (g at : ℕ) (row file : List ℕ) → length row ≡ 16 → take 8 row ≡ magic_bytes head_magic → take 8 (drop 8 row) ≢ bytes_high_first 8 g → at ≡ row_place g → Stands at row file → IsBrokenRow g file
+pub other_row : (g at : ℕ) (row file : List ℕ) → length row ≡ 16 → take 8 row ≡ magic_bytes head_magic → take 8 (drop 8 row) ≢ bytes_high_first 8 g → at ≡ row_place g → HasBytesAt at row file → IsBrokenRow g file
 other_row g at row file long magic number place stand =
-    let here : Stands (row_place g) row file = subst (λ k. Stands k row file) place stand in
-    let other : Stands (row_place g) (head_row g) file → ⊥ = λ this.
+    let here : HasBytesAt (row_place g) row file = subst (λ k. HasBytesAt k row file) place stand in
+    let other : HasBytesAt (row_place g) (head_row g) file → ⊥ = λ this.
     number (row_number g row (sym here ∙ ap (λ n. take n (drop (row_place g) file)) (long ∙ sym (length-head_row g)) ∙ this)) in
     inr (inl (stands_magic (row_place g) row file (omega arith) magic here, inl other))
 
-row_room : (at g : ℕ) (file : List ℕ) → Stands at (head_row g) file → at + 16 ≤ length file
+row_room : (at g : ℕ) (file : List ℕ) → HasBytesAt at (head_row g) file → at + 16 ≤ length file
 row_room at g file stand = omega (arith, length-head_row g, ap length stand, length-take (length (head_row g)) (drop at file), length-drop at file)
 
 -- fewer bytes than a row has
@@ -141,7 +141,7 @@ cut_row g at file place (inr cut) =
 pub lead_first : (superblock file : List ℕ) → length superblock ≡ 64 → take 64 file ≡ superblock → LeadsTo superblock file 0
 lead_first superblock file long begins = no_rows head_row superblock file long begins
 
-pub lead_next : (superblock file : List ℕ) (n : ℕ) → LeadsTo superblock file n → Stands (row_place n) (head_row n) file → LeadsTo superblock file (n + 1)
+pub lead_next : (superblock file : List ℕ) (n : ℕ) → LeadsTo superblock file n → HasBytesAt (row_place n) (head_row n) file → LeadsTo superblock file (n + 1)
 lead_next superblock file n lead stand =
     subst (λ l. HasRows head_row superblock file l (row_place (n + 1))) (next_range n)
     (rows_lead head_row superblock file (range_with_len 0 n) (row_place n) (row_place (n + 1)) n lead stand (omega (arith, length-head_row n)))
@@ -154,17 +154,17 @@ head_found superblock file n g is most lead closed = record {
 }
 
 -- the row of each generation below n stands at its place
-row_below : (superblock file : List ℕ) (n g : ℕ) → LeadsTo superblock file n → g < n → Stands (row_place g) (head_row g) file
+row_below : (superblock file : List ℕ) (n g : ℕ) → LeadsTo superblock file n → g < n → HasBytesAt (row_place g) (head_row g) file
 row_below superblock file n g lead below =
     let there = numbered_row head_row 16 g superblock file (range_with_len 0 n) (row_place n) 0 length-head_row lead (omega (arith, length-range_with_len 0 n)) in
     let is : get_or (range_with_len 0 n) g 0 ≡ g = get_or-range_with_len 0 n g 0 below ∙ omega arith in
-    subst (λ k. Stands (row_place g) (head_row k) file) is there
+    subst (λ k. HasBytesAt (row_place g) (head_row k) file) is there
 
 -- and where it stands there is no end mark
-row_open : (g : ℕ) (file : List ℕ) → Stands (row_place g) (head_row g) file → IsClosed head_magic (row_place g) file → ⊥
+row_open : (g : ℕ) (file : List ℕ) → HasBytesAt (row_place g) (head_row g) file → IsClosed head_magic (row_place g) file → ⊥
 row_open g file stand closed = closed.shut (row_magic head_magic (row_place g) (head_row g) (bytes_high_first 8 g) file (head_row_is g) stand)
 
-row_whole : (g : ℕ) (file : List ℕ) → g ≤ 65535 → Stands (row_place g) (head_row g) file → IsBrokenRow g file → ⊥
+row_whole : (g : ℕ) (file : List ℕ) → g ≤ 65535 → HasBytesAt (row_place g) (head_row g) file → IsBrokenRow g file → ⊥
 row_whole g file most stand (inl short) = let room = row_room (row_place g) g file stand in omega arith
 row_whole g file most stand (inr (inl (magic, inl other))) = other stand
 row_whole g file most stand (inr (inl (magic, inr beyond))) = omega arith

@@ -4,7 +4,7 @@ use Rattle.std.proofs.Math.Seq.{take-add}
 use Rattle.std.proofs.lemmas.List.{take_at, drop_at, drop-drop, drop-take, take-take, flat_map_more}
 use Rattle.std.specs.List.{flat_map}
 use Rattle.hay_disk.specs.Disk.{FileState, IsImage, IsSolidIn}
-use Rattle.hay_disk.specs.Gate.{magic_bytes, record_of, end_mark, Stands, IsClosed, IsLog, LogGrows, LogStays}
+use Rattle.hay_disk.specs.Gate.{magic_bytes, record_of, end_mark, HasBytesAt, IsClosed, IsLog, LogGrows, LogStays}
 use Rattle.hay_head.specs.Rows.{HasRows}
 
 -- A FILE OF ROWS IS A LOG
@@ -72,36 +72,36 @@ length-rows : {R : Type 0} (row : R → List ℕ) (w : ℕ) (rows : List R) → 
 length-rows row w [] wide = omega arith
 length-rows row w (r ∷ rows) wide = omega (arith, length-append (row r) (flat_map row rows), wide r, length-rows row w rows wide)
 
-pub stands_first : (at : ℕ) (xs ys file : List ℕ) → Stands at (xs ++ ys) file → Stands at xs file
+pub stands_first : (at : ℕ) (xs ys file : List ℕ) → HasBytesAt at (xs ++ ys) file → HasBytesAt at xs file
 stands_first at xs ys file stand =
     let whole : length (xs ++ ys) ≡ length xs + length ys = length-append xs ys in
     sym (take-take (length xs) (length (xs ++ ys)) (drop at file) (omega arith)) ∙ ap (λ (l : List ℕ). take (length xs) l) stand ∙ take_at xs ys (length xs) refl
 
-pub stands_second : (at : ℕ) (xs ys file : List ℕ) → Stands at (xs ++ ys) file → Stands (at + length xs) ys file
+pub stands_second : (at : ℕ) (xs ys file : List ℕ) → HasBytesAt at (xs ++ ys) file → HasBytesAt (at + length xs) ys file
 stands_second at xs ys file stand =
     let whole : length (xs ++ ys) ≡ length xs + length ys = length-append xs ys in
     let there : drop (length xs) (drop at file) ≡ drop (at + length xs) file = drop-drop (length xs) at file ∙ ap (λ k. drop k file) (omega arith) in
     ap (λ (l : List ℕ). take (length ys) l) (sym there) ∙ sym (drop-take (length xs) (length ys) (drop at file)) ∙ ap (λ k. drop (length xs) (take k (drop at file))) (sym whole)
     ∙ ap (λ (l : List ℕ). drop (length xs) l) stand ∙ drop_at xs ys (length xs) refl
 
-row_at : {R : Type 0} (row : R → List ℕ) (w at i : ℕ) (rows : List R) (d : R) (file : List ℕ) → ((r : R) → length (row r) ≡ w) → i < length rows → Stands at (flat_map row rows) file
-    → Stands (at + i * w) (row (get_or rows i d)) file
+row_at : {R : Type 0} (row : R → List ℕ) (w at i : ℕ) (rows : List R) (d : R) (file : List ℕ) → ((r : R) → length (row r) ≡ w) → i < length rows → HasBytesAt at (flat_map row rows) file
+    → HasBytesAt (at + i * w) (row (get_or rows i d)) file
 row_at row w at i [] d file wide below stand = absurd (omega arith)
 row_at row w at zero (r ∷ rows) d file wide below stand =
-    subst (λ k. Stands k (row r) file) (omega arith) (stands_first at (row r) (flat_map row rows) file stand)
+    subst (λ k. HasBytesAt k (row r) file) (omega arith) (stands_first at (row r) (flat_map row rows) file stand)
 row_at row w at (suc i) (r ∷ rows) d file wide below stand =
-    let rest : Stands (at + w) (flat_map row rows) file = subst (λ k. Stands (at + k) (flat_map row rows) file) (wide r) (stands_second at (row r) (flat_map row rows) file stand) in
+    let rest : HasBytesAt (at + w) (flat_map row rows) file = subst (λ k. HasBytesAt (at + k) (flat_map row rows) file) (wide r) (stands_second at (row r) (flat_map row rows) file stand) in
     let there : (at + w) + i * w ≡ at + suc i * w = omega arith in
-    subst (λ k. Stands k (row (get_or rows i d)) file) there (row_at row w (at + w) i rows d file wide (omega arith) rest)
+    subst (λ k. HasBytesAt k (row (get_or rows i d)) file) there (row_at row w (at + w) i rows d file wide (omega arith) rest)
 
-pub rows_stand : {R : Type 0} (row : R → List ℕ) (superblock file : List ℕ) (rows : List R) (end : ℕ) → HasRows row superblock file rows end → Stands 64 (flat_map row rows) file
+pub rows_stand : {R : Type 0} (row : R → List ℕ) (superblock file : List ℕ) (rows : List R) (end : ℕ) → HasRows row superblock file rows end → HasBytesAt 64 (flat_map row rows) file
 rows_stand row superblock file rows end has =
     let count = length (flat_map row rows) in
     sym (drop-take 64 count file) ∙ ap (λ k. drop 64 (take k file)) has.ends ∙ ap (λ (l : List ℕ). drop 64 l) has.front ∙ drop_at superblock (flat_map row rows) 64 has.long
 
 -- the row of this number stands at its place
 pub numbered_row : {R : Type 0} (row : R → List ℕ) (w i : ℕ) (superblock file : List ℕ) (rows : List R) (end : ℕ) (d : R) → ((r : R) → length (row r) ≡ w) → HasRows row superblock file rows end → i < length rows
-    → Stands (64 + i * w) (row (get_or rows i d)) file
+    → HasBytesAt (64 + i * w) (row (get_or rows i d)) file
 numbered_row row w i superblock file rows end d wide has below = row_at row w 64 i rows d file wide below (rows_stand row superblock file rows end has)
 
 -- they end behind the last of them
@@ -109,7 +109,7 @@ pub rows_end : {R : Type 0} (row : R → List ℕ) (w : ℕ) (superblock file : 
 rows_end row w superblock file rows end wide has = omega (arith, has.ends, length-rows row w rows wide)
 
 -- where a row stands its magic does
-pub row_magic : (magic at : ℕ) (row bytes file : List ℕ) → row ≡ record_of magic bytes → Stands at row file → take 8 (drop at file) ≡ magic_bytes magic
+pub row_magic : (magic at : ℕ) (row bytes file : List ℕ) → row ≡ record_of magic bytes → HasBytesAt at row file → take 8 (drop at file) ≡ magic_bytes magic
 row_magic magic at row bytes file is stand =
     let long : length row ≡ 8 + length bytes = ap length is ∙ length-append (magic_bytes magic) bytes in
     sym (take-take 8 (length row) (drop at file) (omega arith)) ∙ ap (λ (l : List ℕ). take 8 l) (stand ∙ is) ∙ take_at (magic_bytes magic) bytes 8 refl
@@ -120,7 +120,7 @@ front_is row superblock file rows end has =
     sym (take-take 64 end file (omega (arith, has.ends))) ∙ ap (λ (l : List ℕ). take 64 l) has.front ∙ take_at superblock (flat_map row rows) 64 has.long
 
 -- one row more that stands
-pub rows_lead : {R : Type 0} (row : R → List ℕ) (superblock file : List ℕ) (rows : List R) (end next : ℕ) (r : R) → HasRows row superblock file rows end → Stands end (row r) file → end + length (row r) ≡ next
+pub rows_lead : {R : Type 0} (row : R → List ℕ) (superblock file : List ℕ) (rows : List R) (end next : ℕ) (r : R) → HasRows row superblock file rows end → HasBytesAt end (row r) file → end + length (row r) ≡ next
     → HasRows row superblock file (rows ++ r ∷ []) next
 rows_lead row superblock file rows end next r has stand nexts = record {
   long = has.long;

@@ -4,7 +4,7 @@ use Rattle.std.specs.List.{range_with_len}
 use Rattle.std.specs.Int.{bytes_high_first}
 use Rattle.hay_needle.specs.declared.settings.Super.{Super}
 use Rattle.hay_needle.specs.Super.{super_bytes}
-use Rattle.hay_disk.specs.Gate.{magic_bytes, record_of, IsClosed, Stands}
+use Rattle.hay_disk.specs.Gate.{magic_bytes, record_of, IsClosed, HasBytesAt}
 use Rattle.hay_head.specs.Rows.{HasRows, IsSuperFaultAt}
 
 -- `HEADROW1`
@@ -35,7 +35,7 @@ pub record IsHead (superblock file : List ℕ) (generation : ℕ) : Type 0 where
 abbrev pub IsBrokenRow : ℕ → List ℕ → Type 0
 IsBrokenRow n file =
     (length file < row_place n + 8)
-    ⊎ ((take 8 (drop (row_place n) file) ≡ magic_bytes head_magic) × ((Stands (row_place n) (head_row n) file → ⊥) ⊎ (65535 < n)))
+    ⊎ ((take 8 (drop (row_place n) file) ≡ magic_bytes head_magic) × ((HasBytesAt (row_place n) (head_row n) file → ⊥) ⊎ (65535 < n)))
     ⊎ ((n ≡ 0) × IsClosed head_magic (row_place n) file)
 
 -- Rows of generations that there may be lead up to `at`, and there the next one is broken.

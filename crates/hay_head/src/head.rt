@@ -4,7 +4,7 @@ ghost use Rattle.std.specs.Prelude.{◌≡◌, ◌⊎◌, ◌≤◌, ◌<◌, �
 ghost use Rattle.std.specs.Int.{bytes_high_first};
 ghost use Rattle.hay_disk.specs.Counts.{IsCounted};
 ghost use Rattle.hay_disk.specs.Disk.{IsImage, IsSolid, IsSolidIn, IsFree, IsFreeIn, Changes, KeepsOthers, overwrite};
-ghost use Rattle.hay_disk.specs.Gate.{IsClosed, IsGate, Stands, end_mark};
+ghost use Rattle.hay_disk.specs.Gate.{IsClosed, IsGate, HasBytesAt, end_mark};
 ghost use Rattle.hay_needle.specs.Super.{super_bytes};
 ghost use Rattle.hay_head.specs.Head.{head_magic, head_row, row_place, IsHead, IsBrokenRow, IsDamagedHead};
 
@@ -181,7 +181,7 @@ fn first_row() -> [u8; 24]
 // Whether the row of generation `next` stands where it is due, or the end mark behind at least one row.
 fn read_row<D: Disk>(disk: &mut D, next: u64) -> Result<Slot, Failed>
     requires { next ≤ 65536 }
-    ensures row { D.Tells → result ≡ Ok Slot.Row → Stands (row_place next) (head_row next) (D.files disk.old 0).now }
+    ensures row { D.Tells → result ≡ Ok Slot.Row → HasBytesAt (row_place next) (head_row next) (D.files disk.old 0).now }
     ensures most { result ≡ Ok Slot.Row → next ≤ 65535 }
     ensures mark { D.Tells → result ≡ Ok Slot.Mark → IsClosed head_magic (row_place next) (D.files disk.old 0).now }
     ensures some { result ≡ Ok Slot.Mark → 0 < next }

@@ -4,7 +4,7 @@ ghost use Rattle.std.specs.Prelude.{◌≡◌, ◌≢◌, ◌⊎◌, ◌≤◌, 
 ghost use Rattle.std.specs.Bool.{OnTrue, OnFalse};
 ghost use Rattle.hay_disk.specs.Counts.{IsCounted};
 ghost use Rattle.hay_disk.specs.Disk.{KeepsOthers};
-ghost use Rattle.hay_disk.specs.Gate.{IsClosed, Stands, magic_bytes};
+ghost use Rattle.hay_disk.specs.Gate.{IsClosed, HasBytesAt, magic_bytes};
 ghost use Rattle.hay_needle.specs.Super.{super_bytes};
 ghost use Rattle.hay_head.specs.Rows.{IsSuperFaultAt, IsCutAt};
 
@@ -52,7 +52,7 @@ pub fn read_slot<D: Disk>(
     out: &mut [u8],
 ) -> Result<Slot, Failed>
     requires { 8 ≤ length out.old }
-    ensures row { D.Tells → result ≡ Ok Slot.Row → Stands at out.new (D.files disk.old file).now }
+    ensures row { D.Tells → result ≡ Ok Slot.Row → HasBytesAt at out.new (D.files disk.old file).now }
     ensures magic { result ≡ Ok Slot.Row → take 8 out.new ≡ magic_bytes magic }
     ensures mark { D.Tells → result ≡ Ok Slot.Mark → IsClosed magic at (D.files disk.old file).now }
     ensures broken { D.Tells → result ≡ Ok Slot.Broken → IsCutAt magic (length out.old) at (D.files disk.old file).now }

@@ -7,7 +7,7 @@ use Rattle.std.proofs.lemmas.Grind.{flat_map-append}
 use Rattle.byteorder.specs.Numbers.{big_number-reads_back}
 use Rattle.hay_needle.specs.Fields.{number_at}
 use Rattle.hay_needle.specs.Sizes.{needle_total}
-use Rattle.hay_disk.specs.Gate.{IsClosed, Stands}
+use Rattle.hay_disk.specs.Gate.{IsClosed, HasBytesAt}
 use Rattle.hay_index.specs.declared.record.Record.{Record}
 use Rattle.hay_index.specs.Records.{AreInRow, place_behind, HasRecords, IsBlock, IsBrokenAt, IsBrokenBehind, IsIndex, IsStrayAt, BeginsWithBlock, RecordFits, block_bytes, index_magic, record_bytes}
 use Rattle.hay_index.proofs.RecordLaws.{record_at, length-record}
@@ -51,7 +51,7 @@ one_block bytes block other fits begins again =
 -- BLOCKS FROM A PLACE ON
 
 record LeadsFrom (at : ℕ) (file : List ℕ) (blocks : List (List Record)) (end : ℕ) : Type 0 where
-  stand : Stands at (flat_map block_bytes blocks) file
+  stand : HasBytesAt at (flat_map block_bytes blocks) file
   ends : at + length (flat_map block_bytes blocks) ≡ end
   whole : All IsBlock blocks
 

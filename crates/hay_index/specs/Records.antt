@@ -104,7 +104,7 @@ pub record IsBrokenBehind (superblock file : List ℕ) (place : ℕ) : Type 0 wh
   pub broken : (IsBrokenAt at file × (place ≡ at)) ⊎ IsStrayAt at file records place
 
 -- The first damage: a fault of the superblock, or behind it that of a block, of a record or of the end mark.
-abbrev pub IsDamagedAt : Super → List ℕ → ℕ → Type 0
-IsDamagedAt sup file place =
+abbrev pub IsDamagedIndex : Super → List ℕ → ℕ → Type 0
+IsDamagedIndex sup file place =
     ((fault : SuperFault) × (first_fault (super_tests file sup) ≡ Some fault) × (place ≡ fault_place fault))
     ⊎ ((take 64 file ≡ super_bytes sup) × IsBrokenBehind (super_bytes sup) file place)

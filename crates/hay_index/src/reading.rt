@@ -7,7 +7,7 @@ ghost use Rattle.hay_disk.specs.Disk.{KeepsOthers};
 ghost use Rattle.hay_disk.specs.Gate.{IsClosed, magic_bytes};
 ghost use Rattle.hay_disk.specs.declared.disk.DiskFault.{DiskFault};
 ghost use Rattle.hay_needle.specs.Super.{super_bytes};
-ghost use Rattle.hay_index.specs.Records.{AreInRow, HasStray, IsBrokenBehind, IsDamagedAt, IsIndex, index_magic, place_behind};
+ghost use Rattle.hay_index.specs.Records.{AreInRow, HasStray, IsBrokenBehind, IsDamagedIndex, IsIndex, index_magic, place_behind};
 ghost use Rattle.hay_index.specs.declared.record.Record.{Record};
 ghost use Rattle.hay_index.specs.declared.fault.IndexFault.{IndexFault};
 
@@ -34,8 +34,8 @@ impl IndexFile {
         ensures index { D.Tells → IfOk result (λ read. IsIndex (super_bytes sup.now) (D.files disk.old file).now read.1.items read.0.end) }
         // On any disk the records that are read are in the row.
         ensures row { IfOk result (λ read. AreInRow 64 read.1.items) }
-        ensures damaged { D.Tells → (k : ℕ) → result ≡ Err (IndexFault.Damaged k) → IsDamagedAt sup.now (D.files disk.old file).now k }
-        ensures undamaged { D.Tells → OnOk result ((k : ℕ) → IsDamagedAt sup.now (D.files disk.old file).now k → ⊥) }
+        ensures damaged { D.Tells → (k : ℕ) → result ≡ Err (IndexFault.Damaged k) → IsDamagedIndex sup.now (D.files disk.old file).now k }
+        ensures undamaged { D.Tells → OnOk result ((k : ℕ) → IsDamagedIndex sup.now (D.files disk.old file).now k → ⊥) }
         // A file has one reading: over an index file its records and its end are read, and no damage is found.
         ensures only { D.Tells → (records : List Record) (end : ℕ) → IsIndex (super_bytes sup.now) (D.files disk.old file).now records end
             → IfOk result (λ read. (read.1.items ≡ records) × (read.0.end ≡ end)) }
@@ -84,8 +84,8 @@ pub(crate) fn read_index(
     sup: &Super,
 ) -> Result<(Vec<Record>, u64), IndexFault>
     ensures index { IfOk result (λ read. IsIndex (super_bytes sup.now) bytes.now read.0.items read.1) }
-    ensures damaged { (k : ℕ) → result ≡ Err (IndexFault.Damaged k) → IsDamagedAt sup.now bytes.now k }
-    ensures undamaged { OnOk result ((k : ℕ) → IsDamagedAt sup.now bytes.now k → ⊥) }
+    ensures damaged { (k : ℕ) → result ≡ Err (IndexFault.Damaged k) → IsDamagedIndex sup.now bytes.now k }
+    ensures undamaged { OnOk result ((k : ℕ) → IsDamagedIndex sup.now bytes.now k → ⊥) }
     ensures only { (records : List Record) (end : ℕ) → IsIndex (super_bytes sup.now) bytes.now records end → IfOk result (λ read. (read.0.items ≡ records) × (read.1 ≡ end)) }
     ensures sound { (records : List Record) (end k : ℕ) → IsIndex (super_bytes sup.now) bytes.now records end → result ≡ Err (IndexFault.Damaged k) → ⊥ }
     ensures never { IsErrOf result IndexFault.Failed → ⊥ }

@@ -6,7 +6,7 @@ use Rattle.std.proofs.lemmas.List.{get_or-set_same, get_or-set_other}
 use Rattle.hay_needle.specs.declared.needle.Cookie.{Cookie}
 use Rattle.hay_needle.specs.declared.needle.Pair.{Pair}
 use Rattle.hay_needle.specs.Sizes.{needle_total}
-use Rattle.hay_disk.specs.Disk.{Files}
+use Rattle.hay_disk.specs.Disk.{Files, IsSolid}
 use Rattle.hay_disk.specs.Counts.{Rose}
 use Rattle.hay_map.specs.MapRows.{MapRows}
 use Rattle.hay_map.specs.Places.{place_in}
@@ -17,6 +17,7 @@ use Rattle.hay_map.specs.declared.place.Place.TheVariants as place
 use Rattle.hay_open.specs.Damage.{IsOpeningDamage}
 use Rattle.hay_open.specs.declared.fault.OpenFault.{OpenFault}
 use Rattle.hay_open.specs.declared.fault.OpenFault.TheVariants as open_fault
+use Rattle.hay_open.proofs.Formatting.{void_left}
 use Rattle.hay_open.specs.Stored.{OpensAs, PlaceOf, Stored, last_cell}
 use Rattle.hay_physical.specs.declared.state.Phase.{Phase}
 use Rattle.hay_physical.specs.declared.state.Phase.TheVariants as phase
@@ -28,7 +29,7 @@ use Rattle.hay_physical.proofs.Laws.{stands_hold}
 use Rattle.hay_physical.specs.Faults as physical_faults
 use Rattle.hay_logical.specs.Fits.{At}
 use Rattle.hay_logical.specs.Volumes.{CanDelete, KeepsCounts}
-use Rattle.hay_logical.specs.Steps.{DeletesAt, FollowsAt, IsFlushFault, IsOpenFault, IsPutFault, LeftAt, LosesRun, OpensAt, PutsAt, RoomFor}
+use Rattle.hay_logical.specs.Steps.{DeletesAt, FollowsAt, IsFlushFault, IsOpenFault, IsPutFault, KeepsDisk, LeftAt, LosesRun, OpensAt, PutsAt, RoomFor}
 use Rattle.hay_logical.proofs.Lists.{Went, at_below, at_same, at_set_other, at_set_same, at_there, length-slice_set}
 
 -- PHASES
@@ -303,6 +304,7 @@ opens_on DiskTells files Tells rows rows' j r r' same h = record {
   loose = h.loose;
   alone = h.alone;
   undamaged = h.undamaged;
+  undamaged_now = h.undamaged_now;
   opened = λ tells s opens.
       let p = h.opened tells s opens in
       (p.0, λ pair. subst (PlaceOf Tells (last_cell s.cells pair)) (sym (same pair)) (p.1 pair));
@@ -310,6 +312,13 @@ opens_on DiskTells files Tells rows rows' j r r' same h = record {
       let p = h.reopened tells stuck s t holds in
       (p.0, p.1, p.2, λ pair. subst (PlaceOf Tells (last_cell (p.0).cells pair)) (sym (same pair)) (p.3 pair));
   deletable = λ tells pair. subst (physical.MayDeletePlace files r') (sym (same pair)) (h.deletable tells pair);
+}
+
+-- a disk that was not called, and is solid
+pub disk_same : {D : Type 0} (files : D → Files) (r : Copy D) → ((n : ℕ) → IsSolid (files r.disk n)) → KeepsDisk files r r
+disk_same files r solid = record {
+  kept = λ some n. (refl, solid n);
+  nothing = λ void image leaves s opens. void_left r.sup (files r.disk) (files r.disk) image s refl void (solid 0) leaves opens;
 }
 
 -- each replica that takes changes was opened, and so its photos can be deleted

@@ -15,7 +15,7 @@ use Rattle.hay_map.specs.declared.place.Place.TheVariants as place
 use Rattle.hay_open.specs.declared.fault.OpenFault.{OpenFault}
 use Rattle.hay_open.specs.declared.fault.OpenFault.TheVariants as open_fault
 use Rattle.hay_open.specs.Damage.{IsOpeningDamage}
-use Rattle.hay_open.specs.Stored.{Stored, IsSealedCell, IsVoid, OpensAs, PlaceOf, index_file, last_cell, volume_file}
+use Rattle.hay_open.specs.Stored.{Stored, IsSealedCell, IsVoid, OpensAs, PlaceOf, fresh_stored, index_file, last_cell, volume_file}
 use Rattle.hay_physical.specs.declared.fault.ReplicaFault.{ReplicaFault}
 use Rattle.hay_physical.specs.declared.fault.ReplicaFault.TheVariants as fault
 use Rattle.hay_physical.specs.declared.state.Phase.TheVariants.{Closed}
@@ -416,6 +416,7 @@ pub record OpensAt {D P : Type 0} (DiskTells : Type 0) (files : D → Files) (Te
   pub loose : is_stuck r' ≡ false
   pub alone : goal_of r' ≡ None
   pub undamaged : DiskTells → (file at : ℕ) → IsOpeningDamage r.sup (contents_of files r.disk) file at → ⊥
+  pub undamaged_now : DiskTells → (file at : ℕ) → IsOpeningDamage r.sup (contents_of files r'.disk) file at → ⊥
   pub opened : DiskTells → (s : Stored) → OpensAs r.sup (contents_of files r.disk) s → physical.Stands files r' s
       × ((pair : Pair) → PlaceOf Tells (last_cell s.cells pair) (place_in (row_at rows pair) j))
   pub reopened : DiskTells → (stuck : Bool) (s t : Stored) → physical.Holds files r stuck s t → (found : Stored)
@@ -428,9 +429,12 @@ pub record LeftAt {D : Type 0} (DiskTells : Type 0) (files : D → Files) (r r' 
   pub sup : r'.sup ≡ r.sup
   pub holds : DiskTells → (stuck : Bool) (s t : Stored) → physical.Holds files r stuck s t → physical.Holds files r' stuck s t
 
--- A disk that is not void keeps its bytes, and all of it stays on the disk.
-abbrev pub KeepsDisk : {D : Type 0} → (D → Files) → Copy D → Copy D → Type 0
-KeepsDisk files r r' = (IsVoid (contents_of files r.disk) → ⊥) → (n : ℕ) → ((files r'.disk n).now ≡ (files r.disk n).now) × IsSolid (files r'.disk n)
+-- A disk that is not void keeps its bytes, and all of it stays on the disk. Whatever a stop leaves of one that is void, an
+-- opening of it finds nothing.
+pub record KeepsDisk {D : Type 0} (files : D → Files) (r r' : Copy D) : Type 0 where
+  pub kept : (IsVoid (contents_of files r.disk) → ⊥) → (n : ℕ) → ((files r'.disk n).now ≡ (files r.disk n).now) × IsSolid (files r'.disk n)
+  pub nothing : IsVoid (contents_of files r.disk) → (image : ℕ → List ℕ) → MayLeave (files r'.disk) image →
+      (s : Stored) → OpensAs r.sup image s → s ≡ fresh_stored
 
 -- why replica j was not opened
 abbrev pub IsOpenFault : {D : Type 0} → Type 0 → (D → Files) → (D → ℕ) → Copy D → Copy D → OpenFault → Type 0
@@ -441,9 +445,13 @@ IsOpenFault DiskTells files faults r r' (open_fault.Damaged file at) =
     × (DiskTells → (stuck : Bool) (s t : Stored) → physical.Holds files r stuck s t → ⊥)
 IsOpenFault DiskTells files faults r r' open_fault.NoMemory = Unit {0}
 
+-- Of the replicas before it nothing that was read was damaged, and nothing that stands there now is.
 pub record IsRefusedAt {D : Type 0} (DiskTells : Type 0) (files : D → Files) (faults : D → ℕ) (old new : List (Copy D)) (refusal : Unopened) : Type 0 where
   pub before : Copy D
   pub after : Copy D
   pub was : At old refusal.replica before
   pub is : At new refusal.replica after
   pub cause : IsOpenFault DiskTells files faults before after refusal.fault
+  pub earlier : DiskTells → (i : ℕ) (r r' : Copy D) → i < refusal.replica → At old i r → At new i r' →
+      ((file at : ℕ) → IsOpeningDamage r.sup (contents_of files r.disk) file at → ⊥)
+      × ((file at : ℕ) → IsOpeningDamage r.sup (contents_of files r'.disk) file at → ⊥)

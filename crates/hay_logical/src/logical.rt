@@ -140,6 +140,8 @@ impl<D: Disk> Logical<D> {
         // Nothing of what was read of the disks is damaged.
         ensures undamaged { D.Tells → OnOk result ((j : ℕ) (r : Copy D) → At self.old.replicas j r →
             (file at : ℕ) → IsOpeningDamage r.sup (contents_of D.files r.disk) file at → ⊥) }
+        ensures undamaged_now { D.Tells → OnOk result ((j : ℕ) (r r' : Copy D) → At self.old.replicas j r → At self.new.replicas j r' →
+            (file at : ℕ) → IsOpeningDamage r.sup (contents_of D.files r'.disk) file at → ⊥) }
 
         // What a refusal leaves, and its cause.
         ensures left { D.Tells → (k : VolumeKnown) → Stopped D.files self.old k → OnErr result (Holds D.files self.new k) }

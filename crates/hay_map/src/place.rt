@@ -1,6 +1,6 @@
 //! Places, and rows of them.
 ghost use Rattle.std.specs.Prelude.{◌≡◌, ◌≤◌, ◌<◌, ◌++◌, ◌∷◌, [], true, length, IfOk, IsErr, IsOk};
-ghost use Rattle.hay_disk.specs.Counts.{IsCounted};
+ghost use Rattle.hay_disk.specs.Counts.{IsCounted, StaysSure};
 ghost use Rattle.hay_disk.specs.Disk.{IsBut};
 ghost use Rattle.hay_needle.specs.Sizes.{needle_total};
 ghost use Rattle.hay_map.specs.Places.{gone_place};
@@ -74,7 +74,7 @@ impl<P: Piece> Sealed<P> {
         ensures count { P.Tells → IfOk result (λ n. n ≡ length out.old) }
         ensures bytes { P.Tells → IfOk result (λ _. IsBut 28 self.now.bytes out.new) }
         ensures sure { A.is_sure arm.old ≡ true → IsOk result }
-        ensures stays_sure { A.is_sure arm.old ≡ true → A.is_sure arm.new ≡ true }
+        ensures stays_sure { StaysSure (A.is_sure arm.old) (A.is_sure arm.new) (A.fault_count arm.old) (A.fault_count arm.new) }
         ensures counted { IsCounted (A.fault_count arm.old) (A.fault_count arm.new) (IsErr result) }
     {
         arm.fetch(&self.piece, out)

@@ -1,15 +1,19 @@
 -- A disk that was formatted.
-use Rattle.std.proofs.Common.{◌≡◌, ℕ, zero, suc, ◌<◌, false, List, [], sym, subst, ◌∙◌, arith}
+use Rattle.std.proofs.Common.{◌≡◌, ℕ, zero, suc, ◌<◌, false, List, [], length, inl, inr, sym, ap, subst, ◌∙◌, arith}
 use Rattle.hay_needle.specs.declared.settings.Super.{Super}
 use Rattle.hay_needle.specs.Super.{super_bytes}
-use Rattle.hay_disk.specs.Disk.{Files, FileState, Changes, IsFree, IsSolid, Keeps, KeepsOthers}
+use Rattle.hay_needle.specs.declared.needle.Cell.{Cell}
+use Rattle.hay_disk.specs.Disk.{Files, FileState, Changes, IsFree, IsImage, IsSolid, Keeps, KeepsOthers, MayLeave}
+use Rattle.hay_disk.proofs.Images.{solid_whole}
 use Rattle.hay_disk.specs.Gate.{IsGate}
 use Rattle.hay_head.specs.Head.{IsHead, head_magic, row_place}
 use Rattle.hay_index.specs.Records.{IsIndex}
 use Rattle.hay_index.proofs.IndexLaws.{index_gate}
 use Rattle.hay_volume.specs.Cells.{IsVolume}
+use Rattle.hay_volume.proofs.Readings.{one_reading as one_volume}
 use Rattle.hay_volume.proofs.Volumes.{volume_gate}
-use Rattle.hay_open.specs.Stored.{HeadRests, IndexRests, VolumeRests, fresh_stored, head_super, index_super, volume_super}
+use Rattle.hay_open.specs.Stored.{HeadRests, IndexRests, IsStored, OpensAs, Stored, VolumeRests, fresh_stored, head_super, index_super, volume_file, volume_super}
+use Rattle.hay_open.proofs.Standing.{opens_void}
 
 -- where each call changes one file alone
 pub record Frames (f0 f1 f2 f3 f4 f5 f6 f7 : Files) : Type 0 where
@@ -61,3 +65,40 @@ all_solid f0 f1 f2 f3 f4 f5 f6 f7 by old head volume index zero = head
 all_solid f0 f1 f2 f3 f4 f5 f6 f7 by old head volume index (suc zero) = subst (λ (f : FileState). IsSolid f) (sym by.volume_stays) volume
 all_solid f0 f1 f2 f3 f4 f5 f6 f7 by old head volume index (suc (suc zero)) = subst (λ (f : FileState). IsSolid f) (sym by.index_stays) index
 all_solid f0 f1 f2 f3 f4 f5 f6 f7 by old head volume index (suc (suc (suc n))) = subst (λ (f : FileState). IsSolid f) (sym (by.others (suc (suc (suc n))) (omega arith))) (old (suc (suc (suc n))))
+
+-- WHAT A STOP LEAVES
+
+-- while the head file is void, and on the disk, nothing is found
+pub void_left : (sup : Super) (old new : Files) (image : ℕ → List ℕ) (s : Stored) → new 0 ≡ old 0 → (old 0).now ≡ [] → IsSolid (old 0) → MayLeave new image → OpensAs sup image s → s ≡ fresh_stored
+void_left sup old new image s same void solid leaves opens =
+    opens_void sup image s (solid_whole (old 0) (image 0) solid (subst (λ (f : FileState). IsImage f (image 0)) same (leaves 0)) ∙ void) opens
+
+-- a head file that is no longer than a new one is of generation 0
+first_generation : (generation : ℕ) (superblock image : List ℕ) (old new : FileState) → old.now ≡ [] → IsSolid old → Changes 0 88 old new → IsImage new image → IsHead superblock image generation → generation ≡ 0
+first_generation generation superblock image old new void solid changes leaves head =
+    omega (arith, head.closed.room, leaves.no_longer, changes.longest, solid.longest, ap length void)
+
+none_stored : (sup : Super) (image : ℕ → List ℕ) (s : Stored) (file : FileState) → s.generation ≡ 0 → IsVolume (super_bytes (volume_super sup 0)) file.now [] 64 → IsSolid file → IsImage file (image 1) → IsStored sup image s → s ≡ fresh_stored
+none_stored sup image s file first volume solid leaves stored =
+    let whole : image 1 ≡ file.now = solid_whole file (image 1) solid leaves in
+    let there : IsVolume (super_bytes (volume_super sup 0)) (image 1) s.cells s.end = subst (λ n. IsVolume (super_bytes (volume_super sup n)) (image (volume_file n)) s.cells s.end) first stored.volume in
+    let here : IsVolume (super_bytes (volume_super sup 0)) (image 1) [] 64 = subst (λ (l : List ℕ). IsVolume (super_bytes (volume_super sup 0)) l [] 64) (sym whole) volume in
+    let same = one_volume 64 s.end 64 (image 1) s.cells [] there.has there.closed here.has here.closed in
+    let records : s.records ≡ 0 = omega (arith, stored.lags, ap length same.0) in
+    let with : List Cell → ℕ → ℕ → ℕ → Stored = λ c e r n. record { cells = c; end = e; records = r; generation = n } in
+    ap (λ (c : List Cell). with c s.end s.records s.generation) same.0 ∙ ap (λ e. with [] e s.records s.generation) same.1
+    ∙ ap (λ r. with [] 64 r s.generation) records ∙ ap (λ n. with [] 64 0 n) first
+
+-- once it is written, the volume file beside it has no cells
+pub fresh_left : (sup : Super) (files : Files) (image : ℕ → List ℕ) (s : Stored) (old : FileState) → old.now ≡ [] → IsSolid old → Changes 0 88 old (files 0) → IsVolume (super_bytes (volume_super sup 0)) (files 1).now [] 64 → IsSolid (files 1)
+    → MayLeave files image → OpensAs sup image s → s ≡ fresh_stored
+unfolding OpensAs
+fresh_left sup files image s old void solid changes volume rests leaves (inl none) = none.1
+fresh_left sup files image s old void solid changes volume rests leaves (inr stored) =
+    none_stored sup image s (files 1) (first_generation s.generation (super_bytes (head_super sup)) (image 0) old (files 0) void solid changes (leaves 0) stored.head) volume rests (leaves 1) stored
+
+pub new_left : (sup one : Super) (f0 f3 f4 f6 f7 : Files) (image : ℕ → List ℕ) (s : Stored) → f6 0 ≡ f0 0 → (f0 0).now ≡ [] → IsSolid (f0 0) → one ≡ volume_super sup 0 → IsVolume (super_bytes one) (f3 1).now [] 64 → Keeps (f3 1) (f4 1) → IsSolid (f4 1)
+    → f7 1 ≡ f4 1 → Changes 0 88 (f6 0) (f7 0) → MayLeave f7 image → OpensAs sup image s → s ≡ fresh_stored
+new_left sup one f0 f3 f4 f6 f7 image s head void solid same is keeps rests stays changes leaves opens =
+    let there : IsVolume (super_bytes (volume_super sup 0)) (f7 1).now [] 64 = subst (λ (l : List ℕ). IsVolume (super_bytes (volume_super sup 0)) l [] 64) (sym keeps.now ∙ ap (λ (f : FileState). f.now) (sym stays)) (subst (λ (s : Super). IsVolume (super_bytes s) (f3 1).now [] 64) same is) in
+    fresh_left sup f7 image s (f6 0) (ap (λ (f : FileState). f.now) head ∙ void) (subst (λ (f : FileState). IsSolid f) (sym head) solid) changes there (subst (λ (f : FileState). IsSolid f) (sym stays) rests) leaves opens

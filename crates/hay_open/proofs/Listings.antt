@@ -13,7 +13,7 @@ use Rattle.hay_head.proofs.HeadLaws.{one_generation}
 use Rattle.hay_index.specs.declared.record.Record.{Record}
 use Rattle.hay_index.specs.Records.{IsIndex, place_behind}
 use Rattle.hay_index.proofs.Readings.{one_reading as one_index}
-use Rattle.hay_volume.specs.Cells.{HasCells, IsDamagedAt, StandsCell, cell_head}
+use Rattle.hay_volume.specs.Cells.{HasCells, IsDamagedCell, StandsCell, cell_head}
 use Rattle.hay_volume.proofs.Readings.{undamaged}
 use Rattle.hay_open.specs.Damage.{FitsNeedle, HasOrphans, IsRecorded, LastFits, scan_start}
 use Rattle.hay_open.specs.Listing.{head_record}
@@ -77,7 +77,7 @@ pub start_is : (start end : ℕ) (file : List ℕ) (records : List Record) (cell
 start_is start end file records cells fits is has closed = omega (arith, has.ends, closed.room)
 
 pub scan_whole : (start end at : ℕ) (file : List ℕ) (records : List Record) (cells : List Cell) → length file < 2 ^ 64 → start ≡ scan_start records → HasCells (place_behind 64 records) file cells end → IsClosed needle_magic end file
-    → IsDamagedAt start file at → ⊥
+    → IsDamagedCell start file at → ⊥
 scan_whole start end at file records cells fits is has closed damage =
     let same : place_behind 64 records ≡ start = omega (arith, has.ends, closed.room) in
     undamaged start end at file cells damage.cells (subst (λ n. HasCells n file cells end) same has) closed damage.lead damage.broken

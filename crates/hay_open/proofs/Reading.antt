@@ -7,7 +7,7 @@ use Rattle.hay_head.specs.Head.{IsDamagedHead, IsHead}
 use Rattle.hay_head.specs.Rows.{IsSuperFaultAt}
 use Rattle.hay_head.proofs.HeadLaws.{one_generation}
 use Rattle.hay_index.specs.declared.record.Record.{Record}
-use Rattle.hay_index.specs.Records.{IsDamagedAt, IsIndex}
+use Rattle.hay_index.specs.Records.{IsDamagedIndex, IsIndex}
 use Rattle.hay_open.specs.declared.fault.Refusal.{Refusal}
 use Rattle.hay_open.specs.declared.fault.Refusal.TheVariants.{Damaged}
 use Rattle.hay_open.specs.Damage.{IsDamagedFront, IsRecorded}
@@ -43,7 +43,7 @@ front_begins sup vsup f g generation number head same numbered vsup_is begins =
 
 pub index_fault : (sup vsup isup : Super) (f g h : Files) (generation file number at volume : ℕ) → IsHead (super_bytes (head_super sup)) (f 0).now generation → g ≡ f → (generation ≤ 65535 → volume ≡ volume_file generation)
     → vsup ≡ volume_super sup generation → take 64 (g volume).now ≡ super_bytes vsup
-    → h ≡ f → (generation ≤ 65535 → number ≡ index_file generation) → isup ≡ index_super sup generation → (file ≡ number) × IsDamagedAt isup (h number).now at → IsDamagedFront sup (λ n. (f n).now) file at
+    → h ≡ f → (generation ≤ 65535 → number ≡ index_file generation) → isup ≡ index_super sup generation → (file ≡ number) × IsDamagedIndex isup (h number).now at → IsDamagedFront sup (λ n. (f n).now) file at
 index_fault sup vsup isup f g h generation file number at volume head same numbered vsup_is begins later counted isup_is fault =
     let is = counted head.most in
     inr (
@@ -52,7 +52,7 @@ index_fault sup vsup isup f g h generation file number at volume head same numbe
       inr (
         front_begins sup vsup f g generation volume head same numbered vsup_is begins,
         fault.0 ∙ is,
-        there (λ l. IsDamagedAt (index_super sup generation) l at) f h number (index_file generation) later is (subst (λ (s : Super). IsDamagedAt s (h number).now at) isup_is fault.1),
+        there (λ l. IsDamagedIndex (index_super sup generation) l at) f h number (index_file generation) later is (subst (λ (s : Super). IsDamagedIndex s (h number).now at) isup_is fault.1),
       ),
     )
 
@@ -74,7 +74,7 @@ sought_index sup isup f h generation other number end records head later counted
 -- where none of the three is damaged
 pub front_undamaged : (sup vsup isup : Super) (f g h : Files) (generation file at volume index : ℕ) → IsHead (super_bytes (head_super sup)) (f 0).now generation → (IsDamagedHead (head_super sup) (f 0).now at → ⊥)
     → g ≡ f → (generation ≤ 65535 → volume ≡ volume_file generation) → vsup ≡ volume_super sup generation → (IsSuperFaultAt vsup (g volume).now at → ⊥)
-    → h ≡ f → (generation ≤ 65535 → index ≡ index_file generation) → isup ≡ index_super sup generation → (IsDamagedAt isup (h index).now at → ⊥) → IsDamagedFront sup (λ n. (f n).now) file at → ⊥
+    → h ≡ f → (generation ≤ 65535 → index ≡ index_file generation) → isup ≡ index_super sup generation → (IsDamagedIndex isup (h index).now at → ⊥) → IsDamagedFront sup (λ n. (f n).now) file at → ⊥
 front_undamaged sup vsup isup f g h generation file at volume index is head same numbered vsup_is fault later counted isup_is broken (inl damage) = head damage.1
 front_undamaged sup vsup isup f g h generation file at volume index is head same numbered vsup_is fault later counted isup_is broken (inr (other, also, inl damage)) =
     let one : other ≡ generation = one_generation (super_bytes (head_super sup)) (f 0).now other generation also is in
@@ -82,5 +82,5 @@ front_undamaged sup vsup isup f g h generation file at volume index is head same
     fault (back (λ l. IsSuperFaultAt vsup l at) f g volume (volume_file generation) same (numbered is.most) (subst (λ (s : Super). IsSuperFaultAt s (f (volume_file generation)).now at) (sym vsup_is) here))
 front_undamaged sup vsup isup f g h generation file at volume index is head same numbered vsup_is fault later counted isup_is broken (inr (other, also, inr damage)) =
     let one : other ≡ generation = one_generation (super_bytes (head_super sup)) (f 0).now other generation also is in
-    let here : IsDamagedAt (index_super sup generation) (f (index_file generation)).now at = subst (λ n. IsDamagedAt (index_super sup n) (f (index_file n)).now at) one damage.2 in
-    broken (back (λ l. IsDamagedAt isup l at) f h index (index_file generation) later (counted is.most) (subst (λ (s : Super). IsDamagedAt s (f (index_file generation)).now at) (sym isup_is) here))
+    let here : IsDamagedIndex (index_super sup generation) (f (index_file generation)).now at = subst (λ n. IsDamagedIndex (index_super sup n) (f (index_file n)).now at) one damage.2 in
+    broken (back (λ l. IsDamagedIndex isup l at) f h index (index_file generation) later (counted is.most) (subst (λ (s : Super). IsDamagedIndex s (f (index_file generation)).now at) (sym isup_is) here))

@@ -6,7 +6,7 @@ use Rattle.std.proofs.lemmas.List.{drop-take, drop_at}
 use Rattle.byteorder.specs.Endian.{big_number}
 use Rattle.byteorder.specs.Numbers.{big_number-reads_back}
 use Rattle.hay_needle.specs.Fields.{number_at}
-use Rattle.hay_disk.specs.Gate.{Stands}
+use Rattle.hay_disk.specs.Gate.{HasBytesAt}
 use Rattle.hay_head.proofs.RowLaws.{stands_first, stands_second}
 use Rattle.hay_index.specs.declared.record.Record.{Record}
 use Rattle.hay_index.specs.Records.{BeginsWithBlock, HasRecords, IsBlock, IsIndex, block_bytes}
@@ -39,7 +39,7 @@ pub record IsWalked (superblock file : List ℕ) (records : List Record) (start 
   pub lead : HasRecords superblock file before start
   pub parts : length records ≡ length before + length (flat_map (λ (block : List Record). block) rest)
   pub whole : All IsBlock rest
-  pub behind : Stands start (flat_map block_bytes rest) file
+  pub behind : HasBytesAt start (flat_map block_bytes rest) file
   pub number_is : number ≡ length before + left
 
 pub walk_begins : (superblock file : List ℕ) (records : List Record) (end number : ℕ) → IsIndex superblock file records end → IsWalked superblock file records 64 number number
@@ -66,14 +66,14 @@ pub record NextBlock (file : List ℕ) (start : ℕ) (rest : List (List Record))
   pub count : length (flat_map (λ (b : List Record). b) rest) ≡ length block + length (flat_map (λ (b : List Record). b) more)
   pub begins : BeginsWithBlock (drop start file) block
   pub whole : All IsBlock more
-  pub behind : Stands (start + (16 + 32 * length block)) (flat_map block_bytes more) file
+  pub behind : HasBytesAt (start + (16 + 32 * length block)) (flat_map block_bytes more) file
 
-next_block : (file : List ℕ) (start : ℕ) (rest : List (List Record)) → 0 < length (flat_map (λ (b : List Record). b) rest) → All IsBlock rest → Stands start (flat_map block_bytes rest) file → NextBlock file start rest
+next_block : (file : List ℕ) (start : ℕ) (rest : List (List Record)) → 0 < length (flat_map (λ (b : List Record). b) rest) → All IsBlock rest → HasBytesAt start (flat_map block_bytes rest) file → NextBlock file start rest
 next_block file start [] some whole behind = absurd (omega arith)
 next_block file start (block ∷ more) some whole behind =
     let first = block_bytes block in
     let others = flat_map block_bytes more in
-    let there : Stands start first file = stands_first start first others file behind in
+    let there : HasBytesAt start first file = stands_first start first others file behind in
     record {
       block = block;
       more = more;
@@ -84,7 +84,7 @@ next_block file start (block ∷ more) some whole behind =
         is = whole 0 block (omega arith);
       };
       whole = λ k d within. whole (suc k) d (omega arith);
-      behind = subst (λ n. Stands (start + n) others file) (length-block block) (stands_second start first others file behind);
+      behind = subst (λ n. HasBytesAt (start + n) others file) (length-block block) (stands_second start first others file behind);
     }
 
 pub walk_block : (superblock file : List ℕ) (records : List Record) (start left number : ℕ) → number < length records → (w : IsWalked superblock file records start left number) → NextBlock file start w.rest
@@ -104,7 +104,7 @@ walk_on superblock file records start left number count first further next w b f
       lead = one_more_block superblock file w.before b.block (w.before ++ b.block) start next w.lead b.begins refl place;
       parts = omega (arith, w.parts, b.count, length-append w.before b.block);
       whole = b.whole;
-      behind = subst (λ n. Stands n (flat_map block_bytes b.more) file) (sym place) b.behind;
+      behind = subst (λ n. HasBytesAt n (flat_map block_bytes b.more) file) (sym place) b.behind;
       number_is = omega (arith, w.number_is, length-append w.before b.block, counts, further_is);
     }
 

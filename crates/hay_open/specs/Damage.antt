@@ -98,14 +98,14 @@ IsDamagedFront sup contents file at =
     ⊎ ((generation : ℕ) × IsHead (super_bytes (head_super sup)) (contents 0) generation
     × (((file ≡ volume_file generation) × IsSuperFaultAt (volume_super sup generation) (contents (volume_file generation)) at)
     ⊎ ((take 64 (contents (volume_file generation)) ≡ super_bytes (volume_super sup generation))
-    × (file ≡ index_file generation) × index.IsDamagedAt (index_super sup generation) (contents (index_file generation)) at)))
+    × (file ≡ index_file generation) × index.IsDamagedIndex (index_super sup generation) (contents (index_file generation)) at)))
 
 -- Behind the index: its last record does not fit; or it does, and there is damage among the cells behind that needle.
 abbrev pub IsDamagedRest : Super → (ℕ → List ℕ) → ℕ → List Record → ℕ → ℕ → Type 0
 IsDamagedRest sup contents generation records file at =
     ((number : ℕ) × (number + 1 ≡ length records) × IsMisfit sup contents generation records number file at)
     ⊎ (LastFits records (contents (volume_file generation))
-    × (file ≡ volume_file generation) × volume.IsDamagedAt (scan_start records) (contents (volume_file generation)) at)
+    × (file ≡ volume_file generation) × volume.IsDamagedCell (scan_start records) (contents (volume_file generation)) at)
 
 -- Behind these: a record that is the last of its pair, among the cells without records too, does not fit its needle, and the
 -- ones before it do.

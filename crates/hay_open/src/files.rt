@@ -1,6 +1,7 @@
 //! The files of a replica's disk, and what stands at the front of each.
 
 ghost use Rattle.std.specs.Prelude.{◌≡◌, ◌≤◌, ◌+◌, ◌*◌};
+ghost use Rattle.hay_needle.specs.Super.{SuperFits};
 ghost use Rattle.hay_open.specs.Stored as stored;
 
 use hay_needle::{FileKind, Super};
@@ -36,10 +37,25 @@ pub(crate) fn head_super(sup: &Super) -> Super
     }
 }
 
+// The numbers behind a reference fit their types, once each was read.
+fn read_numbers(sup: &Super)
+    ensures { SuperFits sup.now }
+{
+    let _machines = sup.settings.machines;
+    let _volumes = sup.settings.volumes;
+    let _replicas = sup.settings.replicas;
+    let _capacity = sup.settings.capacity;
+    let _volume = sup.volume;
+    let _replica = sup.replica;
+    let _generation = sup.generation;
+}
+
 /// The superblock of the volume file of a generation.
 pub(crate) fn volume_super(sup: &Super, generation: u64) -> Super
-    ensures { result ≡ stored.volume_super sup.now generation }
+    ensures is { result ≡ stored.volume_super sup.now generation }
+    ensures fits { SuperFits result }
 {
+    read_numbers(sup);
     Super {
         kind: FileKind::Volume,
         generation,

@@ -1,10 +1,11 @@
 //! Formatting a void disk.
 
-ghost use Rattle.std.specs.Prelude.{◌≡◌, ◌<◌, ℕ, [], false, IfOk, OnOk, Err, IsErrOf};
+ghost use Rattle.std.specs.Prelude.{◌≡◌, ◌<◌, ℕ, List, [], false, IfOk, OnOk, Err, IsErrOf};
 ghost use Rattle.hay_disk.specs.Counts.{IsCounted};
-ghost use Rattle.hay_disk.specs.Disk.{IsFree, IsSolid};
+ghost use Rattle.hay_disk.specs.Disk.{IsFree, IsSolid, MayLeave};
+ghost use Rattle.hay_open.specs.Damage.{IsReadingDamage};
 ghost use Rattle.hay_open.specs.Finds.{OpenedAs};
-ghost use Rattle.hay_open.specs.Stored.{fresh_stored};
+ghost use Rattle.hay_open.specs.Stored.{IsVoid, OpensAs, Stored, fresh_stored};
 
 use crate::fault::Refusal;
 use crate::files::{HEAD_FILE, head_super, index_file, index_super, volume_file, volume_super};
@@ -31,6 +32,9 @@ pub(crate) fn format_disk<D: Disk>(
     ensures solid { D.Tells → OnOk result ((n : ℕ) → IsSolid (D.files disk.new n)) }
     ensures others { D.Tells → (n : ℕ) → 2 < n → D.files disk.new n ≡ D.files disk.old n }
     ensures void { D.Tells → IsErrOf result Refusal.NoMemory → D.files disk.new 0 ≡ D.files disk.old 0 }
+    ensures nothing { D.Tells → IsVoid (λ n. (D.files disk.old n).now) → (image : ℕ → List ℕ) → MayLeave (D.files disk.new) image →
+        (s : Stored) → OpensAs sup.now image s → s ≡ fresh_stored }
+    ensures whole { D.Tells → OnOk result ((file at : ℕ) → IsReadingDamage sup.now (λ n. (D.files disk.new n).now) file at → ⊥) }
     ensures undamaged { (file at : ℕ) → result ≡ Err (Refusal.Damaged file at) → ⊥ }
     ensures counted { IsCounted (D.fault_count disk.old) (D.fault_count disk.new) (IsErrOf result Refusal.Failed) }
     ensures fuses { D.fuse_count disk.new ≡ D.fuse_count disk.old }

@@ -9,15 +9,15 @@
 //! behind that needle; then the heads of the recorded cells that are the last of their pair, upwards.
 #![tactic(auto)]
 
-ghost use Rattle.std.specs.Prelude.{◌≡◌, ◌⊎◌, ◌≤◌, ◌<◌, ℕ, false, Err, IfOk, IfErr, OnOk, OnErr, IsErrOf};
+ghost use Rattle.std.specs.Prelude.{◌≡◌, ◌⊎◌, ◌≤◌, ◌<◌, ℕ, List, false, Err, IfOk, IfErr, OnOk, OnErr, IsErrOf};
 ghost use Rattle.hay_needle.specs.declared.needle.Pair.{Pair};
 ghost use Rattle.hay_disk.specs.Counts.{Rose};
-ghost use Rattle.hay_disk.specs.Disk.{IsFree, IsSolid};
+ghost use Rattle.hay_disk.specs.Disk.{IsFree, IsSolid, MayLeave};
 ghost use Rattle.hay_map.specs.declared.place.Place.TheVariants as place;
 ghost use Rattle.hay_map.specs.Rows.{last_place};
 ghost use Rattle.hay_open.specs.Damage.{IsOpeningDamage};
 ghost use Rattle.hay_open.specs.Finds.{IsReady, MayFlagEach, OpenedAs, ReadsWhole};
-ghost use Rattle.hay_open.specs.Stored.{Stored, IsVoid, OpensAs, PlaceOf, last_cell};
+ghost use Rattle.hay_open.specs.Stored.{Stored, IsVoid, OpensAs, PlaceOf, fresh_stored, last_cell};
 
 mod fault;
 mod files;
@@ -58,6 +58,7 @@ pub fn open_replica<D: Disk>(
     ensures whole { D.Tells → IfOk result (λ opened.
         IsVoid (λ n. (D.files disk.old n).now) ⊎ ReadsWhole sup.now (λ n. (D.files disk.old n).now) opened) }
     ensures undamaged { D.Tells → OnOk result ((file at : ℕ) → IsOpeningDamage sup.now (λ n. (D.files disk.old n).now) file at → ⊥) }
+    ensures undamaged_now { D.Tells → OnOk result ((file at : ℕ) → IsOpeningDamage sup.now (λ n. (D.files disk.new n).now) file at → ⊥) }
 
     // Whatever the disk had, a row, a cell and a block may be appended to what was opened, and all of the disk is solid.
     ensures ready { D.Tells → IfOk result (λ opened. IsReady (D.files disk.new) opened) }
@@ -71,6 +72,10 @@ pub fn open_replica<D: Disk>(
     ensures stays { D.Tells → (IsVoid (λ n. (D.files disk.old n).now) → ⊥) → (n : ℕ) → IsSolid (D.files disk.new n) }
     ensures others { D.Tells → IsVoid (λ n. (D.files disk.old n).now) → (n : ℕ) → 2 < n → D.files disk.new n ≡ D.files disk.old n }
     ensures void { D.Tells → IsVoid (λ n. (D.files disk.old n).now) → IsErrOf result OpenFault.NoMemory → D.files disk.new 0 ≡ D.files disk.old 0 }
+
+    // Whatever a stop leaves of a disk that was void, an opening of it finds nothing.
+    ensures nothing { D.Tells → IsVoid (λ n. (D.files disk.old n).now) → (image : ℕ → List ℕ) → MayLeave (D.files disk.new) image →
+        (s : Stored) → OpensAs sup.now image s → s ≡ fresh_stored }
 
     // Damage comes only where the disk is neither void nor whole, and is named at its place.
     ensures damaged { D.Tells → (file at : ℕ) → result ≡ Err (OpenFault.Damaged file at) → IsOpeningDamage sup.now (λ n. (D.files disk.old n).now) file at }

@@ -102,8 +102,8 @@ fn read_index<D: Disk>(
     ensures made { IfOk result (λ read. read.0 ≡ record { file = file; end = read.0.end; pending = []; frozen = false }) }
     ensures index { D.Tells → IfOk result (λ read. IsIndex (super_bytes sup.now) (D.files disk.old file).now read.1.items read.0.end) }
     ensures row { IfOk result (λ read. AreInRow 64 read.1.items) }
-    ensures damaged { D.Tells → (number at : ℕ) → result ≡ Err (Refusal.Damaged number at) → (number ≡ file) × index_specs.IsDamagedAt sup.now (D.files disk.old file).now at }
-    ensures undamaged { D.Tells → OnOk result ((at : ℕ) → index_specs.IsDamagedAt sup.now (D.files disk.old file).now at → ⊥) }
+    ensures damaged { D.Tells → (number at : ℕ) → result ≡ Err (Refusal.Damaged number at) → (number ≡ file) × index_specs.IsDamagedIndex sup.now (D.files disk.old file).now at }
+    ensures undamaged { D.Tells → OnOk result ((at : ℕ) → index_specs.IsDamagedIndex sup.now (D.files disk.old file).now at → ⊥) }
     ensures only { D.Tells → (records : List Record) (end : ℕ) → IsIndex (super_bytes sup.now) (D.files disk.old file).now records end
         → (number at : ℕ) → result ≡ Err (Refusal.Damaged number at) → ⊥ }
     ensures same { D.Tells → D.files disk.new ≡ D.files disk.old }
@@ -196,7 +196,7 @@ fn scan<D: Disk>(
 ) -> Result<(Vec<CellHead>, u64), Refusal>
     ensures cells { D.Tells → IfOk result (λ scan. (cells : List Cell) × HasCells at (D.files disk.old file).now cells scan.1 × (scan.0.items ≡ map cell_head cells)) }
     ensures mark { D.Tells → IfOk result (λ scan. IsClosed needle_magic scan.1 (D.files disk.old file).now) }
-    ensures damaged { D.Tells → (number k : ℕ) → result ≡ Err (Refusal.Damaged number k) → (number ≡ file) × volume_specs.IsDamagedAt at (D.files disk.old file).now k }
+    ensures damaged { D.Tells → (number k : ℕ) → result ≡ Err (Refusal.Damaged number k) → (number ≡ file) × volume_specs.IsDamagedCell at (D.files disk.old file).now k }
     ensures same { D.Tells → D.files disk.new ≡ D.files disk.old }
     ensures counted { IsCounted (D.fault_count disk.old) (D.fault_count disk.new) (IsErrOf result Refusal.Failed) }
     ensures fuses { D.fuse_count disk.new ≡ D.fuse_count disk.old }

@@ -10,7 +10,7 @@ ghost use Rattle.hay_volume.specs.Cells.{live_cell};
 ghost use Rattle.hay_map.specs.declared.place.Place.TheVariants as place;
 ghost use Rattle.hay_map.specs.Rows.{last_place};
 ghost use Rattle.hay_open.specs.Damage.{IsOpeningDamage};
-ghost use Rattle.hay_open.specs.Stored.{IsSealedCell, IsVoid, OpensAs, PlaceOf, Stored, last_cell};
+ghost use Rattle.hay_open.specs.Stored.{IsSealedCell, IsVoid, OpensAs, PlaceOf, Stored, fresh_stored, last_cell};
 ghost use Rattle.hay_physical.specs.declared.state.Phase.TheVariants.{Closed};
 ghost use Rattle.hay_physical.specs.Runs.{HasLastAt, HasRun, Run, longer, loosened};
 ghost use Rattle.std.specs.Option.{option_map};
@@ -74,6 +74,7 @@ impl<D: Disk> Replica<D> {
             × ((pair : Pair) → PlaceOf D.Piece.Tells (last_cell found.cells pair) (last_place cells.items pair place.None))) }
         // Nothing of what was read is damaged.
         ensures undamaged { D.Tells → OnOk result ((file at : ℕ) → IsOpeningDamage self.old.sup (contents_of D.files self.old.disk) file at → ⊥) }
+        ensures undamaged_now { D.Tells → OnOk result ((file at : ℕ) → IsOpeningDamage self.old.sup (contents_of D.files self.new.disk) file at → ⊥) }
         ensures up { OnOk result (IsUp self.new) }
         ensures stuck { OnOk result (is_stuck self.new ≡ false) }
         ensures alone { goal_of self.new ≡ None }
@@ -84,6 +85,9 @@ impl<D: Disk> Replica<D> {
         ensures closed { OnErr result (self.new.phase ≡ Closed) }
         ensures kept { D.Tells → (IsVoid (contents_of D.files self.old.disk) → ⊥) →
             (n : ℕ) → ((D.files self.new.disk n).now ≡ (D.files self.old.disk n).now) × IsSolid (D.files self.new.disk n) }
+        // Whatever a stop leaves of a disk that was void, an opening of it finds nothing.
+        ensures nothing { D.Tells → IsVoid (contents_of D.files self.old.disk) → (image : ℕ → List ℕ) → MayLeave (D.files self.new.disk) image →
+            (s : Stored) → OpensAs self.old.sup image s → s ≡ fresh_stored }
         ensures left { D.Tells → (stuck : Bool) (s t : Stored) → Holds D.files self.old stuck s t → OnErr result (Holds D.files self.new stuck s t) }
         ensures damaged { D.Tells → (file at : ℕ) → result ≡ Err (OpenFault.Damaged file at) → IsOpeningDamage self.old.sup (contents_of D.files self.old.disk) file at }
         ensures only { D.Tells → (s : Stored) → OpensAs self.old.sup (contents_of D.files self.old.disk) s →

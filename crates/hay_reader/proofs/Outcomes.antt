@@ -22,7 +22,7 @@ use Rattle.hay_map.specs.Places.{IsSealed, PlaceMeans, place_in}
 use Rattle.hay_map.specs.Sealed.{SealedNeedle}
 use Rattle.hay_map.specs.declared.place.Place.{Place}
 use Rattle.hay_map.specs.declared.place.Place.TheVariants as place
-use Rattle.hay_reader.specs.Causes.{ArmRises, ArmUse, EachPair, HasCause, IsArm, PassesRow, PassedBefore, tried_from}
+use Rattle.hay_reader.specs.Causes.{ArmRises, ArmUse, EachPair, HasArmCause, IsArm, PassesRow, PassedBefore, tried_from}
 use Rattle.hay_reader.specs.Shown.{Answers, HasCauses, ReadsRow, Shows, ShowsPlace}
 use Rattle.hay_reader.specs.Tried.{HasPhoto, PlaceGives}
 use Rattle.hay_reader.proofs.Passing.{all_weaken}
@@ -100,16 +100,16 @@ abbrev Climbed : ℕ → ℕ → ℕ → Type 0
 Climbed tries before now = (before + tries ≤ now) ⊎ (now ≡ 2 ^ 64 - 1)
 
 -- what came up after a count, came up from it
-from_it : (before now f : ℕ) (why : Cause) → ArmRises (cause.Arm f) why → HasCause before now why → HasCause f now why
+from_it : (before now f : ℕ) (why : Cause) → ArmRises (cause.Arm f) why → HasArmCause before now why → HasArmCause f now why
 from_it before now f (cause.Arm g) rises has = ((rises, has.0.1), has.1)
 from_it before now f (cause.Disk g) rises has = has
 from_it before now f (cause.Damage at) rises has = tt
 
-climbs_on : (before now : ℕ) (why : Cause) (rest : List PassedReplica) → HasCause before now why → IsArm why → AllByRecursion (λ p. ArmRises why p.cause) rest → AllByRecursion (λ p. HasCause before now p.cause) rest
-    → ((f : ℕ) → f ≤ now → AllByRecursion (λ p. HasCause f now p.cause) rest → Climbed (length rest) f now) → Climbed (suc (length rest)) before now
+climbs_on : (before now : ℕ) (why : Cause) (rest : List PassedReplica) → HasArmCause before now why → IsArm why → AllByRecursion (λ p. ArmRises why p.cause) rest → AllByRecursion (λ p. HasArmCause before now p.cause) rest
+    → ((f : ℕ) → f ≤ now → AllByRecursion (λ p. HasArmCause f now p.cause) rest → Climbed (length rest) f now) → Climbed (suc (length rest)) before now
 climbs_on before now (cause.Arm f) rest has arm rises each climbs =
-    let others : AllByRecursion (λ p. HasCause f now p.cause) rest =
-    all_both (λ (p : PassedReplica). ArmRises (cause.Arm f) p.cause) (λ (p : PassedReplica). HasCause before now p.cause) (λ (p : PassedReplica). HasCause f now p.cause) (λ p up came. from_it before now f p.cause up came) rest rises each in
+    let others : AllByRecursion (λ p. HasArmCause f now p.cause) rest =
+    all_both (λ (p : PassedReplica). ArmRises (cause.Arm f) p.cause) (λ (p : PassedReplica). HasArmCause before now p.cause) (λ (p : PassedReplica). HasArmCause f now p.cause) (λ p up came. from_it before now f p.cause up came) rest rises each in
     elim has.0.0 [
       | inl up ↦ elim (climbs f has.0.1 others) [ inl far ↦ inl (omega arith) | inr top ↦ inr top ]
       | inr top ↦ inr (omega (arith, has.0.1, has.1))
@@ -117,7 +117,7 @@ climbs_on before now (cause.Arm f) rest has arm rises each climbs =
 climbs_on before now (cause.Disk f) rest has arm rises each climbs = absurd has
 climbs_on before now (cause.Damage at) rest has arm rises each climbs = absurd arm
 
-climbs : (before now : ℕ) (causes : List PassedReplica) → before ≤ now → AllByRecursion (λ p. HasCause before now p.cause) causes → EachPair (λ a b. ArmRises a.cause b.cause) causes → AllByRecursion (λ p. IsArm p.cause) causes
+climbs : (before now : ℕ) (causes : List PassedReplica) → before ≤ now → AllByRecursion (λ p. HasArmCause before now p.cause) causes → EachPair (λ a b. ArmRises a.cause b.cause) causes → AllByRecursion (λ p. IsArm p.cause) causes
     → Climbed (length causes) before now
 climbs before now [] later each rises arms = inl (omega arith)
 climbs before now (p ∷ rest) later each rises arms = climbs_on before now p.cause rest each.0 arms.0 rises.0 each.1 (λ f more others. climbs f now rest more others rises.1 arms.1)

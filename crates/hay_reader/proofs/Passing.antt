@@ -10,7 +10,7 @@ use Rattle.hay_reply.specs.declared.Cause.TheVariants as cause
 use Rattle.hay_map.specs.Places.{place_in}
 use Rattle.hay_map.specs.declared.place.Place.{Place}
 use Rattle.hay_map.specs.declared.place.Place.TheVariants as place
-use Rattle.hay_reader.specs.Causes.{ArmRises, ArmUse, EachPair, HasCause, IsDamage, Passes, PassesRow, tried_from}
+use Rattle.hay_reader.specs.Causes.{ArmRises, ArmUse, EachPair, HasArmCause, IsDamage, Passes, PassesRow, tried_from}
 use Rattle.hay_reader.specs.Shown.{HasBytes, NoArm, ReadsRow, ShowsPlace, reply_at}
 use Rattle.hay_reader.specs.Tried.{FailsBy, PlaceGives, PutsOut}
 use Rattle.hay_reader.specs.declared.trial.Shown.{Shown}
@@ -33,14 +33,14 @@ each_push R (x ∷ xs) y each all = (all_push (R x) xs y each.0 all.0, each_push
 
 -- CAUSES
 
-cause_later : (before mid new : ℕ) (why : Cause) → mid ≤ new → (new ≡ mid) ⊎ (new < 2 ^ 64) → HasCause before mid why → HasCause before new why
+cause_later : (before mid new : ℕ) (why : Cause) → mid ≤ new → (new ≡ mid) ⊎ (new < 2 ^ 64) → HasArmCause before mid why → HasArmCause before new why
 cause_later before mid new (cause.Arm f) later most has =
     let below : new < 2 ^ 64 = elim most [ inl same ↦ omega (arith, has.1) | inr below ↦ below ] in
     ((has.0.0, omega (arith, has.0.1)), below)
 cause_later before mid new (cause.Disk f) later most has = has
 cause_later before mid new (cause.Damage at) later most has = tt
 
-cause_now : (before mid new : ℕ) (why : Cause) → before ≤ mid → (new ≡ mid) ⊎ (new < 2 ^ 64) → FailsBy mid new why → HasCause before new why
+cause_now : (before mid new : ℕ) (why : Cause) → before ≤ mid → (new ≡ mid) ⊎ (new < 2 ^ 64) → FailsBy mid new why → HasArmCause before new why
 cause_now before mid new (cause.Arm f) earlier most fails =
     let above : (before < f) ⊎ (f ≡ 2 ^ 64 - 1) = elim fails.1 [ inl up ↦ inl (omega (arith, fails.0)) | inr top ↦ inr (fails.0 ∙ top) ] in
     let below : new < 2 ^ 64 = elim fails.1 [ inl up ↦ elim most [ inl same ↦ absurd (omega arith) | inr below ↦ below ] | inr top ↦ omega arith ] in
@@ -48,7 +48,7 @@ cause_now before mid new (cause.Arm f) earlier most fails =
 cause_now before mid new (cause.Disk f) earlier most fails = fails
 cause_now before mid new (cause.Damage at) earlier most fails = tt
 
-rises_now : (before mid new : ℕ) (earlier why : Cause) → HasCause before mid earlier → FailsBy mid new why → ArmRises earlier why
+rises_now : (before mid new : ℕ) (earlier why : Cause) → HasArmCause before mid earlier → FailsBy mid new why → ArmRises earlier why
 rises_now before mid new (cause.Arm g) (cause.Arm f) has fails = elim fails.1 [ inl up ↦ inl (omega (arith, has.0.1, fails.0)) | inr top ↦ inr (fails.0 ∙ top) ]
 rises_now before mid new (cause.Arm g) (cause.Disk f) has fails = tt
 rises_now before mid new (cause.Arm g) (cause.Damage at) has fails = tt
@@ -60,7 +60,7 @@ rises_now before mid new (cause.Damage at) why has fails = tt
 passes_later : (start replicas before mid new : ℕ) (causes : List PassedReplica) → mid ≤ new → (new ≡ mid) ⊎ (new < 2 ^ 64) → Passes start replicas before mid causes → Passes start replicas before new causes
 passes_later start replicas before mid new causes later most passed = record {
   order = passed.order;
-  each = all_weaken (λ (p : PassedReplica). HasCause before mid p.cause) (λ (p : PassedReplica). HasCause before new p.cause) (λ p has. cause_later before mid new p.cause later most has) causes passed.each;
+  each = all_weaken (λ (p : PassedReplica). HasArmCause before mid p.cause) (λ (p : PassedReplica). HasArmCause before new p.cause) (λ p has. cause_later before mid new p.cause later most has) causes passed.each;
   rises = passed.rises;
 }
 
@@ -73,10 +73,10 @@ passes_more start replicas before mid new causes passed so_far is earlier later 
       ∙ ap (λ (j : ℕ). tried_from start replicas (length causes) ++ j ∷ []) is
       ∙ sym (map-range_with_len_more (λ (i : ℕ). (start + i) % replicas) 0 (length causes) (length causes) (zero-add (length causes)))
       ∙ ap (λ (tries : ℕ). tried_from start replicas tries) (sym (length-append causes (passed ∷ [])));
-  each = all_push (λ (p : PassedReplica). HasCause before new p.cause) causes passed (passes_later start replicas before mid new causes later most so_far).each (cause_now before mid new passed.cause earlier most fails);
+  each = all_push (λ (p : PassedReplica). HasArmCause before new p.cause) causes passed (passes_later start replicas before mid new causes later most so_far).each (cause_now before mid new passed.cause earlier most fails);
   rises =
       each_push (λ a b. ArmRises a.cause b.cause) causes passed so_far.rises
-      (all_weaken (λ (p : PassedReplica). HasCause before mid p.cause) (λ (p : PassedReplica). ArmRises p.cause passed.cause) (λ p has. rises_now before mid new p.cause passed.cause has fails) causes so_far.each);
+      (all_weaken (λ (p : PassedReplica). HasArmCause before mid p.cause) (λ (p : PassedReplica). ArmRises p.cause passed.cause) (λ p has. rises_now before mid new p.cause passed.cause has fails) causes so_far.each);
 }
 
 -- the replica of the next try

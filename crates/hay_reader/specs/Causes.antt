@@ -22,10 +22,10 @@ abbrev pub CameUp : ℕ → ℕ → ℕ → Type 0
 CameUp before count after = ((before < count) ⊎ (count ≡ 2 ^ 64 - 1)) × (count ≤ after)
 
 -- an arm's failure is a count that it came up to, of 64 bits
-abbrev pub HasCause : ℕ → ℕ → Cause → Type 0
-HasCause before after (cause.Arm f) = CameUp before f after × (after < 2 ^ 64)
-HasCause before after (cause.Disk f) = ⊥
-HasCause before after (cause.Damage at) = Unit {0}
+abbrev pub HasArmCause : ℕ → ℕ → Cause → Type 0
+HasArmCause before after (cause.Arm f) = CameUp before f after × (after < 2 ^ 64)
+HasArmCause before after (cause.Disk f) = ⊥
+HasArmCause before after (cause.Damage at) = Unit {0}
 
 -- of two counts of the arm the later one is greater, or the greatest
 abbrev pub ArmRises : Cause → Cause → Type 0
@@ -48,7 +48,7 @@ IsDamage (cause.Disk f) = ⊥
 -- The first replicas that were tried, from `start` on, were passed over, each with its cause.
 pub record Passes (start replicas before after : ℕ) (causes : List PassedReplica) : Type 0 where
   pub order : map (λ passed. passed.replica) causes ≡ tried_from start replicas (length causes)
-  pub each : AllByRecursion (λ passed. HasCause before after passed.cause) causes
+  pub each : AllByRecursion (λ passed. HasArmCause before after passed.cause) causes
   pub rises : EachPair (λ a b. ArmRises a.cause b.cause) causes
 
 -- An arm before and after a call.

@@ -1,6 +1,7 @@
 //! The seat of a lane that reads.
 ghost use Rattle.std.specs.Prelude.{◌≡◌, ◌<◌, ◌≤◌, ◌^◌, ◌⊎◌, [], true, length, IfOk, IfErr};
 ghost use Rattle.std.specs.Vec.{vec_capacity};
+ghost use Rattle.hay_disk.specs.Counts.{StaysSure};
 ghost use Rattle.hay_reader.specs.Tried.{PlaceGives, FailsBy, PutsOut};
 ghost use Rattle.hay_reader.specs.Shown.{reply_at, ReadsRow, NoArm, HasBytes};
 
@@ -91,7 +92,8 @@ impl<A> LaneSeat<A> {
         // What is shown is what stands at the replica's place. A replica is passed over only where its fetch failed in this call, or
         // where no needle begins there.
         ensures reads { ReadsRow P.Tells (record { sure = A.is_sure self.old; before = A.fault_count self.old; after = A.fault_count self.new }) start row.now cookie out.new.items result }
-        ensures sure { A.is_sure self.old ≡ true → (A.is_sure self.new ≡ true) × NoArm result }
+        ensures sure { A.is_sure self.old ≡ true → NoArm result }
+        ensures stays_sure { StaysSure (A.is_sure self.old) (A.is_sure self.new) (A.fault_count self.old) (A.fault_count self.new) }
         ensures later { A.fault_count self.old ≤ A.fault_count self.new }
         ensures bytes { HasBytes out.new.items result }
         ensures room { vec_capacity out.old ≤ vec_capacity out.new }
@@ -124,7 +126,7 @@ impl<A> LaneSeat<A> {
         ensures cause { IfErr result (FailsBy (A.fault_count self.old) (A.fault_count self.new)) }
         ensures later { A.fault_count self.old ≤ A.fault_count self.new }
         ensures most { (A.fault_count self.new ≡ A.fault_count self.old) ⊎ (A.fault_count self.new < 2 ^ 64) }
-        ensures sure { A.is_sure self.old ≡ true → A.is_sure self.new ≡ true }
+        ensures stays_sure { StaysSure (A.is_sure self.old) (A.is_sure self.new) (A.fault_count self.old) (A.fault_count self.new) }
         ensures bytes { PutsOut out.new.items result }
         ensures room { vec_capacity out.old ≤ vec_capacity out.new }
     {

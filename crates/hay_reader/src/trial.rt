@@ -1,7 +1,7 @@
 //! The try of one replica.
 ghost use Rattle.std.specs.Prelude.{◌≡◌, ◌≤◌, ◌<◌, ◌+◌, ◌^◌, ◌⊎◌, ◌++◌, [], true, length, vec_len, max, IfErr};
 ghost use Rattle.std.specs.Vec.{vec_capacity};
-ghost use Rattle.hay_disk.specs.Counts.{IsCounted};
+ghost use Rattle.hay_disk.specs.Counts.{IsCounted, StaysSure};
 ghost use Rattle.hay_reader.specs.Tried.{NeedleGives, PlaceGives, ReadsBytes, FailsBy, IsDamageAt, PutsOut};
 
 use hay_disk::{Arm, Failed, Piece};
@@ -32,7 +32,7 @@ pub fn try_place<P: Piece, A: Arm<P>>(
     ensures cause { IfErr result (FailsBy (A.fault_count arm.old) (A.fault_count arm.new)) }
     ensures later { A.fault_count arm.old ≤ A.fault_count arm.new }
     ensures most { (A.fault_count arm.new ≡ A.fault_count arm.old) ⊎ (A.fault_count arm.new < 2 ^ 64) }
-    ensures sure { A.is_sure arm.old ≡ true → A.is_sure arm.new ≡ true }
+    ensures stays_sure { StaysSure (A.is_sure arm.old) (A.is_sure arm.new) (A.fault_count arm.old) (A.fault_count arm.new) }
     ensures bytes { PutsOut out.new.items result }
     ensures room { vec_capacity out.old ≤ vec_capacity out.new }
     ensures buffer { vec_capacity buffer.old ≤ vec_capacity buffer.new }
@@ -57,7 +57,7 @@ fn try_needle<P: Piece, A: Arm<P>>(
     ensures cause { IfErr result (FailsBy (A.fault_count arm.old) (A.fault_count arm.new)) }
     ensures later { A.fault_count arm.old ≤ A.fault_count arm.new }
     ensures most { A.fault_count arm.new < 2 ^ 64 }
-    ensures sure { A.is_sure arm.old ≡ true → A.is_sure arm.new ≡ true }
+    ensures stays_sure { StaysSure (A.is_sure arm.old) (A.is_sure arm.new) (A.fault_count arm.old) (A.fault_count arm.new) }
     ensures bytes { PutsOut out.new.items result }
     ensures room { vec_capacity out.old ≤ vec_capacity out.new }
     ensures buffer { vec_capacity buffer.old ≤ vec_capacity buffer.new }

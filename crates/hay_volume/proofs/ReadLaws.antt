@@ -8,7 +8,7 @@ use Rattle.hay_needle.specs.declared.needle.Needle.{Needle}
 use Rattle.hay_needle.specs.Needle.{Head, HeadBytes, NeedleBytes, BeginsWithNeedle, head_of_cell, head_of_needle}
 use Rattle.hay_needle.specs.Sizes.{needle_total}
 use Rattle.hay_needle.proofs.Needles.{head_first, length-head, one_head, needle_in_front, needle_alone}
-use Rattle.hay_disk.specs.Gate.{Stands}
+use Rattle.hay_disk.specs.Gate.{HasBytesAt}
 use Rattle.hay_needle.specs.declared.needle.Cell.{Cell}
 use Rattle.hay_volume.specs.Cells.{IsCellAt, cell_head}
 use Rattle.hay_volume.specs.declared.fault.CellFault.{CellFault}
@@ -99,7 +99,7 @@ whole_seen at got blank out void bytes file h long count read full none made is 
     made ∙ ap (λ (l : List ℕ). l ++ out) none ∙ sym (whole_got got out h full is) ∙ front_seen at got blank out file long count read
 
 -- the bytes that were read of a place are what stands there
-pub read_stands : (at total : ℕ) (bytes file : List ℕ) → bytes ≡ take total (drop at file) → Stands at bytes file
+pub read_stands : (at total : ℕ) (bytes file : List ℕ) → bytes ≡ take total (drop at file) → HasBytesAt at bytes file
 read_stands at total bytes file is =
     take_min (length bytes) total (drop at file) (omega (arith, ap length is, length-take total (drop at file))) ∙ sym is
 
@@ -141,7 +141,7 @@ cell_of at head bytes n place is same =
     (record { at = at; version = n.version; pair = n.pair; cookie = n.photo.cookie; bytes = n.photo.bytes; deleted = n.deleted }, record { place = refl; is = is }, read_head_is head at n place same)
 
 -- the head says its place, and the file is as it was
-pub stands_here : (at : ℕ) (head : CellHead) (front bytes file later : List ℕ) → head.at ≡ at → later ≡ file → front ≡ take 36 (drop at file) → (front ≡ take 36 (drop head.at later) → Stands head.at bytes later) → Stands at bytes file
+pub stands_here : (at : ℕ) (head : CellHead) (front bytes file later : List ℕ) → head.at ≡ at → later ≡ file → front ≡ take 36 (drop at file) → (front ≡ take 36 (drop head.at later) → HasBytesAt head.at bytes later) → HasBytesAt at bytes file
 stands_here at head front bytes file later place same seen stands =
     let there : drop at file ≡ drop head.at later = rw (place, same) refl in
     ap (λ (l : List ℕ). take (length bytes) l) there ∙ stands (seen ∙ ap (λ (l : List ℕ). take 36 l) there)

@@ -6,7 +6,7 @@ use Rattle.hay_needle.specs.declared.needle.Needle.{Needle}
 use Rattle.hay_needle.specs.Needle.{BeginsWithNeedle, needle_of_cell, needle_magic, head_bytes}
 use Rattle.hay_needle.specs.Sizes.{needle_total}
 use Rattle.hay_needle.proofs.Needles.{length-needle, one_needle}
-use Rattle.hay_disk.specs.Gate.{IsClosed, Stands, magic_bytes}
+use Rattle.hay_disk.specs.Gate.{IsClosed, HasBytesAt, magic_bytes}
 use Rattle.hay_volume.specs.Cells.{HasCells, IsBrokenAt, StandsCell}
 
 -- the first cell, and the others behind it
@@ -18,9 +18,9 @@ cells_first at end file cell cells has =
     let split : has.needles ≡ needle ++ rest = has.are.2 in
     let whole : length has.needles ≡ length needle + length rest = ap length split ∙ length-append needle rest in
     let stand : take (length needle + length rest) (drop at file) ≡ needle ++ rest = ap (λ n. take n (drop at file)) (sym whole) ∙ has.stand ∙ split in
-    let here : Stands at needle file = sym (take-take (length needle) (length needle + length rest) (drop at file) (omega arith)) ∙ ap (λ (l : List ℕ). take (length needle) l) stand ∙ take_at needle rest (length needle) refl in
+    let here : HasBytesAt at needle file = sym (take-take (length needle) (length needle + length rest) (drop at file) (omega arith)) ∙ ap (λ (l : List ℕ). take (length needle) l) stand ∙ take_at needle rest (length needle) refl in
     let there : drop (length needle) (drop at file) ≡ drop (at + length needle) file = drop-drop (length needle) at file ∙ ap (λ n. drop n file) (omega arith) in
-    let behind : Stands (at + length needle) rest file =
+    let behind : HasBytesAt (at + length needle) rest file =
     ap (λ (l : List ℕ). take (length rest) l) (sym there) ∙ sym (drop-take (length needle) (length rest) (drop at file)) ∙ ap (λ (l : List ℕ). drop (length needle) l) stand ∙ drop_at needle rest (length needle) refl in
     let total : length needle ≡ needle_total (length cell.bytes) = length-needle needle (needle_of_cell cell) has.are.3.is in
     let others : HasCells (at + length needle) file cells end = record { needles = rest; are = has.are.4; stand = behind; ends = omega (arith, whole, has.ends) } in

@@ -13,8 +13,8 @@ use Rattle.hay_needle.specs.declared.needle.CellHead.{CellHead}
 use Rattle.hay_needle.specs.declared.needle.Needle.{Needle}
 use Rattle.hay_needle.specs.Needle.{Head, HeadBytes, NeedleBytes, BeginsWithNeedle, needle_of_cell, head_of_cell, head_of_needle, needle_magic}
 use Rattle.hay_needle.proofs.FieldLemmas.{IsBytes, field_8}
-use Rattle.hay_disk.specs.Gate.{magic_bytes, IsClosed, Stands}
-use Rattle.hay_volume.specs.Cells.{HasCells, StandsCell, IsBrokenAt, IsDamagedAt, cell_head}
+use Rattle.hay_disk.specs.Gate.{magic_bytes, IsClosed, HasBytesAt}
+use Rattle.hay_volume.specs.Cells.{HasCells, StandsCell, IsBrokenAt, IsDamagedCell, cell_head}
 use Rattle.hay_volume.proofs.ReadLaws.{cell_of}
 use Rattle.hay_volume.proofs.CellLaws.{one_more}
 
@@ -59,7 +59,7 @@ pub head_alone : (seen bytes : List ℕ) (h : Head) → seen ≡ bytes → lengt
 head_alone seen bytes h same short is = subst (λ (l : List ℕ). HeadBytes l h) (take_all 36 seen (omega (arith, ap length same)) ∙ same) is
 
 -- a cell from what was read of it
-pub stands_cell : (at : ℕ) (head : CellHead) (bytes file : List ℕ) (n : Needle) → head.at ≡ at → NeedleBytes bytes n → head_of_cell head ≡ head_of_needle n → Stands at bytes file
+pub stands_cell : (at : ℕ) (head : CellHead) (bytes file : List ℕ) (n : Needle) → head.at ≡ at → NeedleBytes bytes n → head_of_cell head ≡ head_of_needle n → HasBytesAt at bytes file
     → (cell : Cell) × StandsCell at file cell × (head ≡ cell_head cell)
 stands_cell at head bytes file n place is same stand =
     let made = cell_of at head bytes n place is same in
@@ -88,7 +88,7 @@ pub none_scanned : (at : ℕ) (file : List ℕ) (heads : List CellHead) → head
 none_scanned at file heads none = record { cells = []; has = record { needles = []; are = refl; stand = refl; ends = omega arith }; noted = none }
 
 -- these bytes, and these behind them
-stands_more : (at : ℕ) (xs ys file : List ℕ) → Stands at xs file → Stands (at + length xs) ys file → Stands at (xs ++ ys) file
+stands_more : (at : ℕ) (xs ys file : List ℕ) → HasBytesAt at xs file → HasBytesAt (at + length xs) ys file → HasBytesAt at (xs ++ ys) file
 stands_more at xs ys file first second =
     let there : drop (length xs) (drop at file) ≡ drop (at + length xs) file = drop-drop (length xs) at file ∙ ap (λ k. drop k file) (omega arith) in
     ap (λ k. take k (drop at file)) (length-append xs ys) ∙ take-add (length xs) (length ys) (drop at file)
@@ -99,7 +99,7 @@ pub more_cells : (at end next : ℕ) (file : List ℕ) (cells : List Cell) (cell
 more_cells at end next file cells cell has here is = record {
   needles = has.needles ++ here.needle;
   are = one_more at end has.needles here.needle cells cell has.are (sym has.ends) here.is;
-  stand = stands_more at has.needles here.needle file has.stand (subst (λ k. Stands k here.needle file) (sym has.ends) here.stand);
+  stand = stands_more at has.needles here.needle file has.stand (subst (λ k. HasBytesAt k here.needle file) (sym has.ends) here.stand);
   ends = omega (arith, length-append has.needles here.needle, has.ends, length-needle here.needle (needle_of_cell cell) here.is.is);
 }
 
@@ -117,7 +117,7 @@ cell_within at file cell head here is fits =
     let long : length here.needle ≡ needle_total head.size = length-needle here.needle (needle_of_cell cell) here.is.is ∙ ap (λ (h : CellHead). needle_total h.size) (sym is) in
     omega (arith, long, ap length here.stand, length-take (length here.needle) (drop at file), length-drop at file)
 
-pub damaged_here : (at end k : ℕ) (file later : List ℕ) (heads : List CellHead) → IsScanned at file heads end → later ≡ file → k ≡ end → IsBrokenAt end later → IsDamagedAt at file k
+pub damaged_here : (at end k : ℕ) (file later : List ℕ) (heads : List CellHead) → IsScanned at file heads end → later ≡ file → k ≡ end → IsBrokenAt end later → IsDamagedCell at file k
 damaged_here at end k file later heads scanned same here broken = record {
   cells = scanned.cells;
   lead = subst (λ n. HasCells at file scanned.cells n) (sym here) scanned.has;

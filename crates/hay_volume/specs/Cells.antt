@@ -7,7 +7,7 @@ use Rattle.hay_needle.specs.declared.needle.Needle.{Needle}
 use Rattle.hay_needle.specs.declared.needle.Pair.{Pair}
 use Rattle.hay_needle.specs.declared.needle.Version.TheVariants.{Two}
 use Rattle.hay_needle.specs.Needle.{needle_magic, needle_of_cell, NeedleBytes, BeginsWithNeedle}
-use Rattle.hay_disk.specs.Gate.{magic_bytes, IsClosed, Stands, end_mark}
+use Rattle.hay_disk.specs.Gate.{magic_bytes, IsClosed, HasBytesAt, end_mark}
 
 -- the bytes are the needle of this cell, and it stands at `at`
 pub record IsCellAt (at : ℕ) (bytes : List ℕ) (cell : Cell) : Type 0 where
@@ -24,13 +24,13 @@ AreCellsAt at bytes (cell ∷ cells) =
 pub record StandsCell (at : ℕ) (file : List ℕ) (cell : Cell) : Type 0 where
   pub needle : List ℕ
   pub is : IsCellAt at needle cell
-  pub stand : Stands at needle file
+  pub stand : HasBytesAt at needle file
 
 -- from `at` to `end` the file has the needles of these cells without gaps
 pub record HasCells (at : ℕ) (file : List ℕ) (cells : List Cell) (end : ℕ) : Type 0 where
   pub needles : List ℕ
   pub are : AreCellsAt at needles cells
-  pub stand : Stands at needles file
+  pub stand : HasBytesAt at needles file
   pub ends : at + length needles ≡ end
 
 -- A volume file: this superblock, the needles of these cells without gaps from 64 to `end`, eight bytes that are not
@@ -47,7 +47,7 @@ IsBrokenAt at file =
     ⊎ ((take 8 (drop at file) ≡ magic_bytes needle_magic) × ((n : Needle) → BeginsWithNeedle (drop at file) n → ⊥))
 
 -- Needles lead from `from` up to `at`, and there the file is broken.
-pub record IsDamagedAt (from : ℕ) (file : List ℕ) (at : ℕ) : Type 0 where
+pub record IsDamagedCell (from : ℕ) (file : List ℕ) (at : ℕ) : Type 0 where
   pub cells : List Cell
   pub lead : HasCells from file cells at
   pub broken : IsBrokenAt at file

@@ -3,7 +3,7 @@
 ghost use Rattle.std.specs.Prelude.{◌≡◌, ◌⊎◌, ◌≤◌, ◌<◌, ◌+◌, ◌-◌, ◌^◌, ℕ, min, length, take, drop, vec_len, vec_capacity, Err, IsErr, IsErrOf, IfOk, OnOk};
 ghost use Rattle.hay_disk.specs.Counts.{IsCounted};
 ghost use Rattle.hay_disk.specs.Disk.{KeepsOthers};
-ghost use Rattle.hay_disk.specs.Gate.{Stands};
+ghost use Rattle.hay_disk.specs.Gate.{HasBytesAt};
 ghost use Rattle.hay_needle.specs.Needle.{BeginsWithNeedle, HeadBytes, NeedleBytes, head_of_cell, head_of_needle};
 ghost use Rattle.hay_needle.specs.Sizes.{needle_total};
 ghost use Rattle.hay_needle.specs.declared.needle.Cell.{Cell};
@@ -27,7 +27,7 @@ impl VolumeFile {
     ) -> Result<CellHead, CellFault>
         // On any disk what is read is a whole needle, and where the disk tells, it stands there.
         ensures cell { IfOk result (λ head. (cell : Cell) × IsCellAt at out.new.items cell × (head ≡ cell_head cell)) }
-        ensures stands { D.Tells → OnOk result (Stands at out.new.items (D.files disk.old self.now.file).now) }
+        ensures stands { D.Tells → OnOk result (HasBytesAt at out.new.items (D.files disk.old self.now.file).now) }
 
         ensures place { (k : ℕ) → result ≡ Err (CellFault.Damaged k) → k ≡ at }
         ensures damaged { D.Tells → IsErrOf result (CellFault.Damaged at)
@@ -67,7 +67,7 @@ pub(crate) fn read_rest<D: Disk>(
     requires { HeadBytes bytes.old.items (head_of_cell head) }
     ensures needle { OnOk result ((n : Needle) × NeedleBytes bytes.new.items n × (head_of_cell head ≡ head_of_needle n)) }
     ensures stands { D.Tells → bytes.old.items ≡ take 36 (drop head.at (D.files disk.old file).now)
-        → OnOk result (Stands head.at bytes.new.items (D.files disk.old file).now) }
+        → OnOk result (HasBytesAt head.at bytes.new.items (D.files disk.old file).now) }
     ensures place { (k : ℕ) → result ≡ Err (CellFault.Damaged k) → k ≡ head.at }
     ensures damaged { D.Tells → bytes.old.items ≡ take 36 (drop head.at (D.files disk.old file).now) → IsErrOf result (CellFault.Damaged head.at)
         → (n : Needle) → BeginsWithNeedle (drop head.at (D.files disk.old file).now) n → ⊥ }

@@ -9,7 +9,7 @@ ghost use Rattle.hay_needle.specs.Needle.{BeginsWithNeedle, needle_magic};
 ghost use Rattle.hay_needle.specs.Sizes.{needle_total};
 ghost use Rattle.hay_needle.specs.declared.needle.Cell.{Cell};
 ghost use Rattle.hay_needle.specs.declared.needle.Needle.{Needle};
-ghost use Rattle.hay_volume.specs.Cells.{HasCells, IsBrokenAt, IsDamagedAt, StandsCell, cell_head};
+ghost use Rattle.hay_volume.specs.Cells.{HasCells, IsBrokenAt, IsDamagedCell, StandsCell, cell_head};
 
 use crate::fault::CellFault;
 use crate::reading::{read_rest, read_up_to};
@@ -112,7 +112,7 @@ impl VolumeFile {
     ) -> Result<(Vec<CellHead>, u64), CellFault>
         ensures cells { D.Tells → IfOk result (λ scan. (cells : List Cell) × HasCells at (D.files disk.old self.now.file).now cells scan.1 × (scan.0.items ≡ map cell_head cells)) }
         ensures mark { D.Tells → IfOk result (λ scan. IsClosed needle_magic scan.1 (D.files disk.old self.now.file).now) }
-        ensures damaged { D.Tells → (k : ℕ) → result ≡ Err (CellFault.Damaged k) → IsDamagedAt at (D.files disk.old self.now.file).now k }
+        ensures damaged { D.Tells → (k : ℕ) → result ≡ Err (CellFault.Damaged k) → IsDamagedCell at (D.files disk.old self.now.file).now k }
 
         ensures same { D.Tells → D.files disk.new ≡ D.files disk.old }
         // No more is read than the needles and the end mark.

@@ -1,11 +1,13 @@
-use Rattle.std.proofs.Common.{◌≡◌, inl, inr, ℕ, List, length, Err, ap, arith, sym, subst}
+use Rattle.std.proofs.Common.{◌≡◌, ◌∙◌, inl, inr, ℕ, List, length, Err, ap, arith, sym, subst}
 use Rattle.hay_disk.specs.Disk.{Files}
 use Rattle.hay_open.specs.declared.fault.Refusal.{Refusal}
 use Rattle.hay_open.specs.declared.fault.Refusal.TheVariants as refusal
 use Rattle.hay_open.specs.Damage.{IsDamagedFront, IsOpeningDamage, IsReadingDamage}
 use Rattle.hay_open.specs.Finds.{OpenedAs, ReadsWhole}
 use Rattle.hay_open.specs.Stored.{Stored, IsStored, IsVoid, fresh_stored}
+use Rattle.std.proofs.Math.Path.{fun_ext}
 use Rattle.hay_open.proofs.Faults.{told_damaged, void_is}
+use Rattle.hay_open.proofs.Formatting.{void_left}
 use Rattle.hay_open.proofs.Opening.{opened_ready}
 use Rattle.hay_open.proofs.PlaceLaws.{void_places}
 use Rattle.hay_open.proofs.Standing.{opens_stored, opens_void}
@@ -77,3 +79,27 @@ returns-in-Err-read_disk-clause-only g c = λ tells s opens file at is.
     let some : IsVoid contents → ⊥ = λ void. c.in-Ok.field-0-test.1 (omega (arith, c.in-Ok.ensures.size tells, ap (λ (l : List ℕ). length l) void)) in
     let was : c.in-Err-read_disk.refusal ≡ refusal.Damaged file at = told_damaged c.in-Err-read_disk.refusal _ file at c.told-in-Err-read_disk.result c.told-in-Err-read_disk.ensures (cc) in
     c.in-Err-read_disk.ensures.only tells s (subst (λ (fs : Files). IsStored c.args.sup.now (λ n. (fs n).now) s) (sym (c.size.ensures.same tells)) (opens_stored c.args.sup.now contents s some opens)) file at (ap (λ (r : Refusal). Err r) was)
+
+-- WHAT A STOP LEAVES OF A VOID DISK
+
+pub returns-in-Err-clause-nothing : goal.returns-in-Err-clause-nothing
+returns-in-Err-clause-nothing g c = λ tells void image leaves s opens.
+    void_left c.args.sup.now (g.D.Disk.files c.args.disk.now) (g.D.Disk.files c.size.new.self) image s (ap (λ (fs : Files). fs 0) (c.size.ensures.same tells)) void (c.requires.solid tells 0) leaves opens
+
+pub returns-in-Ok-format_disk-clause-nothing : goal.returns-in-Ok-format_disk-clause-nothing
+returns-in-Ok-format_disk-clause-nothing g c = λ tells void image leaves s opens.
+    c.format_disk.ensures.nothing tells (ap (λ (fs : Files). (fs 0).now) (c.size.ensures.same tells) ∙ void) image leaves s opens
+
+pub returns-in-Err-format_disk-clause-nothing : goal.returns-in-Err-format_disk-clause-nothing
+returns-in-Err-format_disk-clause-nothing g c = λ tells void image leaves s opens.
+    c.format_disk.ensures.nothing tells (ap (λ (fs : Files). (fs 0).now) (c.size.ensures.same tells) ∙ void) image leaves s opens
+
+pub returns-in-Ok-format_disk-clause-undamaged_now : goal.returns-in-Ok-format_disk-clause-undamaged_now
+unfolding IsOpeningDamage
+returns-in-Ok-format_disk-clause-undamaged_now g c = λ tells file at damage. c.in-Ok-format_disk.ensures.whole tells file at damage.1
+
+pub returns-in-Ok-read_disk-clause-undamaged_now : goal.returns-in-Ok-read_disk-clause-undamaged_now
+returns-in-Ok-read_disk-clause-undamaged_now g c = λ tells file at damage.
+    let f = g.D.Disk.files in
+    let kept : (λ n. (f c.read_disk.new.disk n).now) ≡ (λ n. (f c.args.disk.now n).now) = fun_ext (λ n. c.read_disk.ensures.kept tells n ∙ ap (λ (fs : Files). (fs n).now) (c.size.ensures.same tells)) in
+    returns-in-Ok-read_disk-clause-undamaged g c tells file at (subst (λ contents. IsOpeningDamage c.args.sup.now contents file at) kept damage)

@@ -4,9 +4,10 @@ use Rattle.hay_disk.specs.Disk.{Files}
 use Rattle.hay_needle.specs.declared.settings.Super.{Super}
 use Rattle.hay_dirfile.specs.declared.fault.OpenFault.{OpenFault}
 use Rattle.hay_dirfile.specs.Journal.{IsDamagedJournal}
+use Rattle.hay_needle.specs.Super.{super_bytes}
 use Rattle.hay_legal.specs.Known.{home_in}
-use Rattle.hay_directory.specs.Rows.{home_row}
-use Rattle.hay_directory.proofs.RowLaws.{found_rows, undamaged}
+use Rattle.hay_directory.specs.Rows.{home_row, journal_super}
+use Rattle.hay_directory.proofs.RowLaws.{found_rows, no_rows, undamaged}
 use Rattle.hay_directory.proofs.Standing.{same_fault}
 use Rattle.hay_directory.proofs.load.load.Goals as goal
 
@@ -38,3 +39,23 @@ returns-clause-found g c = λ tells.
 pub returns-clause-undamaged : goal.returns-clause-undamaged
 returns-clause-undamaged g c = λ tells some at damage.
     c.in_ok-journal.ensures.undamaged tells some at (subst (λ (s : Super). IsDamagedJournal s (g.D.Disk.files c.args.disk.now 0).now at) (sym c.super_of-sup.ensures) damage)
+
+pub returns-clause-undamaged_now : goal.returns-clause-undamaged_now
+returns-clause-undamaged_now g c = λ tells at damage.
+    c.in_ok-journal.ensures.undamaged_now tells at (subst (λ (s : Super). IsDamagedJournal s (g.D.Disk.files c.open.new.disk 0).now at) (sym c.super_of-sup.ensures) damage)
+
+pub returns-in_err-journal-clause-nothing : goal.returns-in_err-journal-clause-nothing
+returns-in_err-journal-clause-nothing g c = λ tells void image rows is.
+    no_rows c.args.settings.now image rows (λ items journal. c.open.ensures.nothing tells void (super_bytes (journal_super c.args.settings.now)) image c.args.settings.now.volumes items is journal)
+
+pub returns-in_default-clause-nothing : goal.returns-in_default-clause-nothing
+returns-in_default-clause-nothing g c = λ tells void image rows is.
+    no_rows c.args.settings.now image rows (λ items journal. c.open.ensures.nothing tells void (super_bytes (journal_super c.args.settings.now)) image c.args.settings.now.volumes items is journal)
+
+pub returns-in_default-notes_of-clause-nothing : goal.returns-in_default-notes_of-clause-nothing
+returns-in_default-notes_of-clause-nothing g c = λ tells void image rows is.
+    no_rows c.args.settings.now image rows (λ items journal. c.open.ensures.nothing tells void (super_bytes (journal_super c.args.settings.now)) image c.args.settings.now.volumes items is journal)
+
+pub returns-clause-nothing : goal.returns-clause-nothing
+returns-clause-nothing g c = λ tells void image rows is.
+    no_rows c.args.settings.now image rows (λ items journal. c.open.ensures.nothing tells void (super_bytes (journal_super c.args.settings.now)) image c.args.settings.now.volumes items is journal)

@@ -1,7 +1,7 @@
 use Rattle.std.proofs.Common.{◌≡◌, inl, inr, ◌<◌, ◌+◌, ◌^◌, ◌∙◌, ap, subst, arith, Ok}
 use Rattle.hay_needle.specs.Super.{super_bytes}
 use Rattle.hay_needle.proofs.Supers.{length-super}
-use Rattle.hay_disk.specs.Gate.{IsClosed, Stands}
+use Rattle.hay_disk.specs.Gate.{IsClosed, HasBytesAt}
 use Rattle.hay_head.proofs.RowLaws.{front_is}
 use Rattle.hay_head.proofs.HeadLaws.{none_is, some_is_none}
 use Rattle.hay_dirfile.specs.Journal.{journal_magic, journal_row, journal_end, IsBrokenRow, IsDamagedJournal}
@@ -82,7 +82,7 @@ rows-preserved g c =
       lead = λ tells.
           let row = c.in_ok-row.ensures.row tells c.in-Row.row (ap (λ x. Ok x) c.in-Row.is) in
           lead_next (super_bytes c.args.sup.now) c.args.sup.now.settings.volumes (g.D.Disk.files c.args.disk.now 0).now c.rows.rows.items c.push.new.self.items c.in-Row.row c.rows.end c.in_ok-push-in-Row.ensures.items c.rows.invariant.end (c.rows.invariant.lead tells) row.0
-          (subst (λ files. Stands c.rows.end (journal_row c.in-Row.row) (files 0).now) (c.rows.invariant.same tells) row.1);
+          (subst (λ files. HasBytesAt c.rows.end (journal_row c.in-Row.row) (files 0).now) (c.rows.invariant.same tells) row.1);
       drawn = λ tells. omega (arith, c.read_row.ensures.drawn tells, c.rows.invariant.drawn tells);
       drawn_others = λ tells other ne. c.read_row.ensures.drawn_others tells other ne ∙ c.rows.invariant.drawn_others tells other ne;
       faults = omega (arith, c.read_row.ensures.counted.later);

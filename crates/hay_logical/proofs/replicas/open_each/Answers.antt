@@ -9,7 +9,7 @@ use Rattle.hay_physical.specs.Copies.{Copy, IsUp, is_frozen, phase_frozen}
 use Rattle.hay_physical.specs.Replicas as physical
 use Rattle.hay_logical.specs.Fits.{At}
 use Rattle.hay_logical.specs.Steps.{KeepsDisk, LeftAt}
-use Rattle.hay_logical.proofs.Calls.{Counted, deletable_from, left_same, none_in, opens_on, up_thawed, went_counts}
+use Rattle.hay_logical.proofs.Calls.{Counted, deletable_from, disk_same, left_same, none_in, opens_on, up_thawed, went_counts}
 use Rattle.hay_logical.proofs.Lists.{Went, at_below, at_read, at_same, at_there, broken_above, broken_below, broken_is, broken_was, length-slice_set, went_all, went_every, went_next, went_start, went_step}
 use Rattle.hay_logical.proofs.replicas.open_each.Goals as goal
 
@@ -56,7 +56,7 @@ returns-in-Err-clause-left g c =
     went_every L (λ r r'. LeftAt g.D.Disk.Tells g.D.Disk.files r r') (c.loop-j.j + 1) c.args.replicas.now _ went (λ i r r' p. p.1) (left_same g.D.Disk.Tells g.D.Disk.files)
 
 pub returns-in-Err-clause-kept : goal.returns-in-Err-clause-kept
-returns-in-Err-clause-kept g c = λ tells j r r' e f void n.
+returns-in-Err-clause-kept g c = λ tells j r r' e f.
     let within : c.loop-j.j < length c.loop-j.replicas = omega arith in
     let here : Copy g.row.D.Denot = slice_index_or c.loop-j.replicas c.loop-j.j c.index-replicas-j.result in
     let there : At c.loop-j.replicas c.loop-j.j here = at_read c.loop-j.replicas c.loop-j.j c.index-replicas-j.result within in
@@ -64,9 +64,9 @@ returns-in-Err-clause-kept g c = λ tells j r r' e f void n.
     let went : Went L (c.loop-j.j + 1) c.args.replicas.now (slice_set c.loop-j.replicas c.loop-j.j c.open_one.new.replica) =
     went_step _ L c.loop-j.j c.args.replicas.now c.loop-j.replicas here c.open_one.new.replica c.loop-j.invariant.went there (λ i x y h p. p.3 tells) (c.open_one.ensures.kept tells) in
     elim (cases_lt j (c.loop-j.j + 1)) [
-      | inl less ↦ went.done j r r' less e f void n
+      | inl less ↦ went.done j r r' less e f
       | inr most ↦ let same : r' ≡ r = went.rest j r r' most e f in
-          subst (λ x. KeepsDisk g.D.Disk.files r x) (sym same) (λ no k. (refl, (c.requires.idle tells j r e).solid k)) void n
+          subst (λ x. KeepsDisk g.D.Disk.files r x) (sym same) (disk_same g.D.Disk.files r (c.requires.idle tells j r e).solid)
     ]
 
 pub returns-in-Err-clause-refused : goal.returns-in-Err-clause-refused
@@ -80,6 +80,9 @@ returns-in-Err-clause-refused g c =
       was = broken_was _ c.loop-j.j c.args.replicas.now c.loop-j.replicas here c.open_one.new.replica c.loop-j.invariant.went there;
       is = broken_is _ c.loop-j.j c.args.replicas.now c.loop-j.replicas here c.open_one.new.replica c.loop-j.invariant.went there;
       cause = c.in-Err.ensures.refused;
+      earlier = λ tells i r r' less e f.
+          let opened = (broken_below _ c.loop-j.j c.args.replicas.now c.loop-j.replicas here c.open_one.new.replica c.loop-j.invariant.went there i r r' less e f).0 in
+          (opened.undamaged tells, opened.undamaged_now tells);
     }
 
 pub loop-j-preserved : goal.loop-j-preserved

@@ -23,6 +23,7 @@ returns-in-Ok-load-clause-opened g c =
       loose = c.in-Ok.ensures.stuck;
       alone = c.open.ensures.alone;
       undamaged = c.in-Ok.ensures.undamaged;
+      undamaged_now = c.in-Ok.ensures.undamaged_now;
       opened = λ tells s opens.
           let p = c.in-Ok.ensures.opened tells s opens in
           (p.0, λ pair. subst (PlaceOf g.D.Piece.Piece.Tells (last_cell s.cells pair)) (sym (place pair)) (p.1 pair));
@@ -92,3 +93,12 @@ returns-in-Ok-clause-thawed g c = up_thawed c.open.new.self c.in-Ok.ensures.up
 
 pub returns-clause-thawed : goal.returns-clause-thawed
 returns-clause-thawed g c = ap phase_frozen c.in-Err.ensures.closed
+
+pub returns-in-Ok-load-clause-kept : goal.returns-in-Ok-load-clause-kept
+returns-in-Ok-load-clause-kept g c = λ tells. record { kept = c.open.ensures.kept tells; nothing = c.open.ensures.nothing tells }
+
+pub returns-in-Ok-clause-kept : goal.returns-in-Ok-clause-kept
+returns-in-Ok-clause-kept g c = λ tells. record { kept = c.open.ensures.kept tells; nothing = c.open.ensures.nothing tells }
+
+pub returns-clause-kept : goal.returns-clause-kept
+returns-clause-kept g c = λ tells. record { kept = c.open.ensures.kept tells; nothing = c.open.ensures.nothing tells }

@@ -1,12 +1,13 @@
-use Rattle.std.proofs.Common.{◌≡◌, ℕ, refl, ap, subst, ◌∙◌, arith}
+use Rattle.std.proofs.Common.{◌≡◌, ℕ, [], refl, ap, subst, ◌∙◌, arith}
 use Rattle.hay_needle.specs.declared.settings.Super.{Super}
 use Rattle.hay_disk.specs.Disk.{Changes, IsFree, IsSolid, Keeps, KeepsOthers}
 use Rattle.hay_volume.specs.declared.volume.VolumeFile.{VolumeFile}
 use Rattle.hay_volume.specs.Cells.{IsVolume}
 use Rattle.hay_index.specs.declared.index.IndexFile.{IndexFile}
 use Rattle.hay_index.specs.Records.{IsIndex}
-use Rattle.hay_needle.specs.Super.{super_bytes}
-use Rattle.hay_open.proofs.Formatting.{Frames, frames, all_solid, fresh_head, fresh_index, fresh_volume, still_free}
+use Rattle.hay_needle.specs.Super.{SuperFits, super_bytes}
+use Rattle.hay_open.proofs.Formatting.{Frames, frames, all_solid, fresh_head, fresh_index, fresh_volume, new_left, still_free, void_left}
+use Rattle.hay_open.proofs.Undamaged.{fresh_undamaged}
 use Rattle.hay_open.proofs.format.format_disk.Goals as goal
 
 pub format-requires-3-after_bounds : goal.format-requires-3-after_bounds
@@ -67,8 +68,8 @@ returns-clause-opened g c = λ tells.
       generation = ap (λ head. head.generation) c.in_ok-head.ensures.made;
       lags = omega arith;
       head = fresh_head sup c.head_super.result (f c.format-3.new.disk 0) c.head_super.ensures (c.in_ok-head.ensures.fresh tells) (c.in_ok-head.ensures.solid tells) (c.in_ok-head.ensures.next tells free0);
-      volume = c.in_ok-volume.ensures.made ∙ ap (λ n. made n c.volume_super.result.settings.capacity) v ∙ ap (λ (s : Super). made 1 s.settings.capacity) c.volume_super.ensures;
-      cells = fresh_volume sup c.volume_super.result (f c.format.new.disk 1) (f c.sync.new.self 1) (f c.format-3.new.disk 1) c.volume_super.ensures
+      volume = c.in_ok-volume.ensures.made ∙ ap (λ n. made n c.volume_super.result.settings.capacity) v ∙ ap (λ (s : Super). made 1 s.settings.capacity) c.volume_super.ensures.is;
+      cells = fresh_volume sup c.volume_super.result (f c.format.new.disk 1) (f c.sync.new.self 1) (f c.format-3.new.disk 1) c.volume_super.ensures.is
           (subst (λ n. IsVolume (super_bytes c.volume_super.result) (f c.format.new.disk n).now _ 64) v (c.in_ok-volume.ensures.empty tells)) volume_keeps volume_solid volume_free by.volume_stays;
       index_number = ap (λ (i : IndexFile). i.file) index_made ∙ x;
       noted = ap (λ (i : IndexFile). i.pending) index_made;
@@ -77,3 +78,86 @@ returns-clause-opened g c = λ tells.
       records = refl;
       orphans = refl;
     }
+
+pub returns-in_err-remove-clause-nothing : goal.returns-in_err-remove-clause-nothing
+returns-in_err-remove-clause-nothing g c = λ tells void image leaves s opens.
+    let v : c.volume_file-volume_number.result ≡ 1 = c.volume_file-volume_number.ensures (omega arith) in
+    let x : c.index_file-index_number.result ≡ 2 = c.index_file-index_number.ensures (omega arith) in
+    let f = g.D.Disk.files in
+    let head : f c.remove.new.self 0 ≡ f c.args.disk.now 0 = c.remove.ensures.others tells 0 (λ is. omega arith) in
+    void_left c.args.sup.now (f c.args.disk.now) (f c.remove.new.self) image s head void (c.requires.solid tells 0) leaves opens
+
+pub returns-in_err-remove-2-clause-nothing : goal.returns-in_err-remove-2-clause-nothing
+returns-in_err-remove-2-clause-nothing g c = λ tells void image leaves s opens.
+    let v : c.volume_file-volume_number.result ≡ 1 = c.volume_file-volume_number.ensures (omega arith) in
+    let x : c.index_file-index_number.result ≡ 2 = c.index_file-index_number.ensures (omega arith) in
+    let f = g.D.Disk.files in
+    let head : f c.remove-2.new.self 0 ≡ f c.args.disk.now 0 = c.remove-2.ensures.others tells 0 (λ is. omega arith) ∙ c.remove.ensures.others tells 0 (λ is. omega arith) in
+    void_left c.args.sup.now (f c.args.disk.now) (f c.remove-2.new.self) image s head void (c.requires.solid tells 0) leaves opens
+
+pub returns-in_err-volume-clause-nothing : goal.returns-in_err-volume-clause-nothing
+returns-in_err-volume-clause-nothing g c = λ tells void image leaves s opens.
+    let v : c.volume_file-volume_number.result ≡ 1 = c.volume_file-volume_number.ensures (omega arith) in
+    let x : c.index_file-index_number.result ≡ 2 = c.index_file-index_number.ensures (omega arith) in
+    let f = g.D.Disk.files in
+    let head : f c.format.new.disk 0 ≡ f c.args.disk.now 0 = c.format.ensures.others tells 0 (λ is. omega arith) ∙ c.remove-2.ensures.others tells 0 (λ is. omega arith) ∙ c.remove.ensures.others tells 0 (λ is. omega arith) in
+    void_left c.args.sup.now (f c.args.disk.now) (f c.format.new.disk) image s head void (c.requires.solid tells 0) leaves opens
+
+pub returns-in_err-sync-clause-nothing : goal.returns-in_err-sync-clause-nothing
+returns-in_err-sync-clause-nothing g c = λ tells void image leaves s opens.
+    let v : c.volume_file-volume_number.result ≡ 1 = c.volume_file-volume_number.ensures (omega arith) in
+    let x : c.index_file-index_number.result ≡ 2 = c.index_file-index_number.ensures (omega arith) in
+    let f = g.D.Disk.files in
+    let head : f c.sync.new.self 0 ≡ f c.args.disk.now 0 = c.sync.ensures.others tells 0 (λ is. omega arith) ∙ c.format.ensures.others tells 0 (λ is. omega arith) ∙ c.remove-2.ensures.others tells 0 (λ is. omega arith) ∙ c.remove.ensures.others tells 0 (λ is. omega arith) in
+    void_left c.args.sup.now (f c.args.disk.now) (f c.sync.new.self) image s head void (c.requires.solid tells 0) leaves opens
+
+pub returns-in_err-index-clause-nothing : goal.returns-in_err-index-clause-nothing
+returns-in_err-index-clause-nothing g c = λ tells void image leaves s opens.
+    let v : c.volume_file-volume_number.result ≡ 1 = c.volume_file-volume_number.ensures (omega arith) in
+    let x : c.index_file-index_number.result ≡ 2 = c.index_file-index_number.ensures (omega arith) in
+    let f = g.D.Disk.files in
+    let head : f c.format-2.new.disk 0 ≡ f c.args.disk.now 0 = c.format-2.ensures.others tells 0 (λ is. omega arith) ∙ c.sync.ensures.others tells 0 (λ is. omega arith) ∙ c.format.ensures.others tells 0 (λ is. omega arith) ∙ c.remove-2.ensures.others tells 0 (λ is. omega arith) ∙ c.remove.ensures.others tells 0 (λ is. omega arith) in
+    void_left c.args.sup.now (f c.args.disk.now) (f c.format-2.new.disk) image s head void (c.requires.solid tells 0) leaves opens
+
+pub returns-in_err-sync-2-clause-nothing : goal.returns-in_err-sync-2-clause-nothing
+returns-in_err-sync-2-clause-nothing g c = λ tells void image leaves s opens.
+    let v : c.volume_file-volume_number.result ≡ 1 = c.volume_file-volume_number.ensures (omega arith) in
+    let x : c.index_file-index_number.result ≡ 2 = c.index_file-index_number.ensures (omega arith) in
+    let f = g.D.Disk.files in
+    let head : f c.sync-2.new.self 0 ≡ f c.args.disk.now 0 = c.sync-2.ensures.others tells 0 (λ is. omega arith) ∙ c.format-2.ensures.others tells 0 (λ is. omega arith) ∙ c.sync.ensures.others tells 0 (λ is. omega arith) ∙ c.format.ensures.others tells 0 (λ is. omega arith) ∙ c.remove-2.ensures.others tells 0 (λ is. omega arith) ∙ c.remove.ensures.others tells 0 (λ is. omega arith) in
+    void_left c.args.sup.now (f c.args.disk.now) (f c.sync-2.new.self) image s head void (c.requires.solid tells 0) leaves opens
+
+pub returns-in_err-head-clause-nothing : goal.returns-in_err-head-clause-nothing
+returns-in_err-head-clause-nothing g c = λ tells void image leaves s opens.
+    let v : c.volume_file-volume_number.result ≡ 1 = c.volume_file-volume_number.ensures (omega arith) in
+    let x : c.index_file-index_number.result ≡ 2 = c.index_file-index_number.ensures (omega arith) in
+    let f = g.D.Disk.files in
+    let by = frames (f c.args.disk.now) (f c.remove.new.self) (f c.remove-2.new.self) (f c.format.new.disk) (f c.sync.new.self) (f c.format-2.new.disk) (f c.sync-2.new.self) (f c.format-3.new.disk)
+    (subst (λ n. KeepsOthers n (f c.args.disk.now) (f c.remove.new.self)) v (c.remove.ensures.others tells))
+    (subst (λ n. KeepsOthers n (f c.remove.new.self) (f c.remove-2.new.self)) x (c.remove-2.ensures.others tells))
+    (subst (λ n. KeepsOthers n (f c.remove-2.new.self) (f c.format.new.disk)) v (c.format.ensures.others tells))
+    (subst (λ n. KeepsOthers n (f c.format.new.disk) (f c.sync.new.self)) v (c.sync.ensures.others tells))
+    (subst (λ n. KeepsOthers n (f c.sync.new.self) (f c.format-2.new.disk)) x (c.format-2.ensures.others tells))
+    (subst (λ n. KeepsOthers n (f c.format-2.new.disk) (f c.sync-2.new.self)) x (c.sync-2.ensures.others tells))
+    (c.format-3.ensures.others tells) in
+    new_left c.args.sup.now c.volume_super.result (f c.args.disk.now) (f c.format.new.disk) (f c.sync.new.self) (f c.sync-2.new.self) (f c.format-3.new.disk) image s by.head void (c.requires.solid tells 0) c.volume_super.ensures.is
+    (subst (λ n. IsVolume (super_bytes c.volume_super.result) (f c.format.new.disk n).now [] 64) v (c.in_ok-volume.ensures.empty tells))
+    (subst (λ n. Keeps (f c.format.new.disk n) (f c.sync.new.self n)) v (c.sync.ensures.keeps tells))
+    (subst (λ n. IsSolid (f c.sync.new.self n)) v (c.in_ok-sync.ensures.solid tells)) by.volume_stays (c.format-3.ensures.changes tells) leaves opens
+
+pub returns-clause-nothing : goal.returns-clause-nothing
+returns-clause-nothing g c = λ tells void image leaves s opens.
+    let v : c.volume_file-volume_number.result ≡ 1 = c.volume_file-volume_number.ensures (omega arith) in
+    let x : c.index_file-index_number.result ≡ 2 = c.index_file-index_number.ensures (omega arith) in
+    let f = g.D.Disk.files in
+    let by = steps g c tells in
+    new_left c.args.sup.now c.volume_super.result (f c.args.disk.now) (f c.format.new.disk) (f c.sync.new.self) (f c.sync-2.new.self) (f c.format-3.new.disk) image s by.head void (c.requires.solid tells 0) c.volume_super.ensures.is
+    (subst (λ n. IsVolume (super_bytes c.volume_super.result) (f c.format.new.disk n).now [] 64) v (c.in_ok-volume.ensures.empty tells))
+    (subst (λ n. Keeps (f c.format.new.disk n) (f c.sync.new.self n)) v (c.sync.ensures.keeps tells))
+    (subst (λ n. IsSolid (f c.sync.new.self n)) v (c.in_ok-sync.ensures.solid tells)) by.volume_stays (c.format-3.ensures.changes tells) leaves opens
+
+pub returns-clause-whole : goal.returns-clause-whole
+returns-clause-whole g c = λ tells file at.
+    let short = (g.met.D.Disk g.world.𝓛 g.world.𝓜 g.world.𝓡 ((λ s x. x), (λ x. x), (λ x. x), λ x. x)).fits in
+    fresh_undamaged c.args.sup.now (g.D.Disk.files c.format-3.new.disk) _ file at (λ n. short c.format-3.new.disk n tells)
+    (subst (λ (s : Super). SuperFits s) c.volume_super.ensures.is c.volume_super.ensures.fits) (returns-clause-opened g c tells)

@@ -6,7 +6,7 @@ use Rattle.hay_needle.specs.Needle.{needle_magic}
 use Rattle.hay_needle.specs.declared.needle.CellHead.{CellHead}
 use Rattle.hay_index.specs.declared.index.IndexFile.{IndexFile}
 use Rattle.hay_index.specs.declared.record.Record.{Record}
-use Rattle.hay_volume.specs.Cells.{HasCells, IsDamagedAt}
+use Rattle.hay_volume.specs.Cells.{HasCells, IsDamagedCell}
 use Rattle.hay_open.specs.Damage.{IsRecorded, LastFits, scan_start}
 use Rattle.hay_open.specs.Listing.{head_record}
 use Rattle.hay_open.specs.Stored.{cell_record, volume_file}
@@ -73,8 +73,8 @@ returns-in_err-orphans-clause-damaged g c = λ tells file at is.
     let read = c.in_ok-head.ensures.is tells in
     let start : c.scan_start.result ≡ scan_start r.records.items = c.scan_start.ensures ∙ ap (λ (l : List Record). scan_start l) c.as_slice-2.ensures.value in
     let number = c.volume_file-volume.ensures read.head.most in
-    let here = there (λ l. IsDamagedAt c.scan_start.result l at) (f c.args.disk.now) (f c.check_last.new.disk) c.volume_file-volume.result (volume_file generation) (c.check_last.ensures.same tells ∙ c.read_recorded.ensures.same tells) number damage.1 in
-    inr (generation, r.records.items, r.index.end, read, inr (last_fits g c tells, damage.0 ∙ number, subst (λ n. IsDamagedAt n (f c.args.disk.now (volume_file generation)).now at) start here))
+    let here = there (λ l. IsDamagedCell c.scan_start.result l at) (f c.args.disk.now) (f c.check_last.new.disk) c.volume_file-volume.result (volume_file generation) (c.check_last.ensures.same tells ∙ c.read_recorded.ensures.same tells) number damage.1 in
+    inr (generation, r.records.items, r.index.end, read, inr (last_fits g c tells, damage.0 ∙ number, subst (λ n. IsDamagedCell n (f c.args.disk.now (volume_file generation)).now at) start here))
 
 pub returns-in_err-orphans-clause-only : goal.returns-in_err-orphans-clause-only
 returns-in_err-orphans-clause-only g c = λ tells s stored file at is.
@@ -89,7 +89,7 @@ returns-in_err-orphans-clause-only g c = λ tells s stored file at is.
     let start : c.scan_start.result ≡ scan_start r.records.items = c.scan_start.ensures ∙ ap (λ (l : List Record). scan_start l) c.as_slice-2.ensures.value in
     let same = stored_same c.args.sup.now (λ n. (f c.args.disk.now n).now) generation r.index.end r.records.items s (λ n. fits c.args.disk.now n tells) read stored in
     let behind = stored_behind c.args.sup.now (λ n. (f c.args.disk.now n).now) generation r.records.items s stored same in
-    let here = there (λ l. IsDamagedAt c.scan_start.result l at) (f c.args.disk.now) (f c.check_last.new.disk) c.volume_file-volume.result (volume_file generation) (c.check_last.ensures.same tells ∙ c.read_recorded.ensures.same tells) number damage.1 in
+    let here = there (λ l. IsDamagedCell c.scan_start.result l at) (f c.args.disk.now) (f c.check_last.new.disk) c.volume_file-volume.result (volume_file generation) (c.check_last.ensures.same tells ∙ c.read_recorded.ensures.same tells) number damage.1 in
     scan_whole c.scan_start.result s.end at (f c.args.disk.now (volume_file generation)).now r.records.items _ (fits c.args.disk.now (volume_file generation) tells) start behind.0 behind.1 here
 
 pub returns-clause-listing : goal.returns-clause-listing

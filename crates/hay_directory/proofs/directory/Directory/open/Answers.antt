@@ -67,3 +67,14 @@ returns-clause-reopened g c = λ tells known stopped.
 
 pub returns-clause-undamaged : goal.returns-clause-undamaged
 returns-clause-undamaged g c = rw (← c.self.view_is) (λ tells some. c.in_ok-loaded.ensures.undamaged tells some)
+
+pub returns-clause-undamaged_now : goal.returns-clause-undamaged_now
+returns-clause-undamaged_now g c = rw (← c.self.view_is) (λ tells. c.in_ok-loaded.ensures.undamaged_now tells)
+
+pub returns-in_err-loaded-clause-nothing : goal.returns-in_err-loaded-clause-nothing
+unfolding OpensRows
+returns-in_err-loaded-clause-nothing g c = rw (← c.self.view_is) (λ tells void image rows is opens. c.load.ensures.nothing tells void (image 0) rows is opens)
+
+pub returns-clause-nothing : goal.returns-clause-nothing
+unfolding OpensRows
+returns-clause-nothing g c = rw (← c.self.view_is) (λ tells void image rows is opens. c.load.ensures.nothing tells void (image 0) rows is opens)

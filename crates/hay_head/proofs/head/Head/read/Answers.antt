@@ -2,7 +2,7 @@ use Rattle.std.proofs.Common.{◌≡◌, ◌∙◌, ◌-◌, ap, sym, subst, ari
 use Rattle.std.specs.List.{range_with_len}
 use Rattle.hay_needle.specs.Super.{super_bytes}
 use Rattle.hay_needle.proofs.Supers.{length-super}
-use Rattle.hay_disk.specs.Gate.{IsClosed, Stands}
+use Rattle.hay_disk.specs.Gate.{IsClosed, HasBytesAt}
 use Rattle.hay_head.specs.Head.{head_magic, head_row, row_place, IsBrokenRow}
 use Rattle.hay_head.proofs.RowLaws.{front_is}
 use Rattle.hay_head.proofs.HeadLaws.{lead_first, lead_next, head_found, no_broken_row, one_generation, none_is, some_is_none, undamaged}
@@ -31,7 +31,7 @@ rows-preserved g c =
       most = omega (arith, c.in_ok-read_row.ensures.most row);
       same = λ tells. c.read_row.ensures.same tells ∙ c.rows.invariant.same tells;
       lead = λ tells. lead_next (super_bytes c.args.sup.now) (g.D.Disk.files c.args.disk.now 0).now c.rows.rows (c.rows.invariant.lead tells)
-          (subst (λ files. Stands (row_place c.rows.rows) (head_row c.rows.rows) (files 0).now) (c.rows.invariant.same tells) (c.in_ok-read_row.ensures.row tells row));
+          (subst (λ files. HasBytesAt (row_place c.rows.rows) (head_row c.rows.rows) (files 0).now) (c.rows.invariant.same tells) (c.in_ok-read_row.ensures.row tells row));
       drawn = λ tells. omega (arith, c.read_row.ensures.drawn tells, c.rows.invariant.drawn tells);
       drawn_others = λ tells other ne. c.read_row.ensures.drawn_others tells other ne ∙ c.rows.invariant.drawn_others tells other ne;
       faults = omega (arith, c.read_row.ensures.counted.later);

@@ -1,7 +1,7 @@
 use Rattle.std.proofs.Common.{ℕ, ap, sym, subst, ◌∙◌, Err}
 use Rattle.std.proofs.lemmas.Result.{err_from_is_err_and}
 use Rattle.hay_needle.specs.Super.{super_bytes}
-use Rattle.hay_index.specs.Records.{IsDamagedAt, IsIndex}
+use Rattle.hay_index.specs.Records.{IsDamagedIndex, IsIndex}
 use Rattle.hay_index.proofs.ReadLaws.{same_fault}
 use Rattle.hay_index.proofs.index.IndexFile.read_all.Goals as goal
 
@@ -19,4 +19,4 @@ returns-clause-only g c = λ tells records end is.
 
 pub returns-clause-undamaged : goal.returns-clause-undamaged
 returns-clause-undamaged g c = λ tells.
-    subst (λ l. (k : ℕ) → IsDamagedAt c.args.sup.now l k → ⊥) (c.as_slice.ensures.value ∙ c.in_ok-bytes.ensures.read tells) c.in_ok-records.ensures.undamaged
+    subst (λ l. (k : ℕ) → IsDamagedIndex c.args.sup.now l k → ⊥) (c.as_slice.ensures.value ∙ c.in_ok-bytes.ensures.read tells) c.in_ok-records.ensures.undamaged

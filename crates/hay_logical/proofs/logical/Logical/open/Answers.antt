@@ -202,6 +202,7 @@ returns-in_default-clause-refused g c =
       was = subst (λ (v : Volume g.row.D.Denot g.row.D-Piece.Denot). At v.replicas 0 old.0) c.self.view_is old.1;
       is = subst (λ xs. At xs 0 new.0) (sym kept) new.1;
       cause = tt;
+      earlier = λ tells i r r' less e f. absurd (omega (arith, less));
     }
 
 pub returns-in_default-clause-whole : goal.returns-in_default-clause-whole
@@ -325,3 +326,10 @@ returns-clause-undamaged g c = λ tells j r there file at.
     let e : At olds j r = subst (λ (v : Volume g.row.D.Denot g.row.D-Piece.Denot). At v.replicas j r) (sym c.self.view_is) there in
     let new = at_there news j (let h = at_below olds j r e in let less : j < length news = omega (arith, h, count) in less) in
     (c.in-Ok.ensures.opened j r new.0 (subst (λ xs. At xs j r) (sym now) e) new.1).undamaged tells file at
+
+pub returns-clause-undamaged_now : goal.returns-clause-undamaged_now
+returns-clause-undamaged_now g c = λ tells j r r' there here file at.
+    let now = c.as_mut_slice.ensures.value in
+    let kept = with_items_is c.self.inside.replicas c.open_each.new.replicas (c.open_each.auto.replicas ∙ c.as_mut_slice.ensures.len) in
+    let e : At c.self.inside.replicas.items j r = subst (λ (v : Volume g.row.D.Denot g.row.D-Piece.Denot). At v.replicas j r) (sym c.self.view_is) there in
+    (c.in-Ok.ensures.opened j r r' (subst (λ xs. At xs j r) (sym now) e) (subst (λ xs. At xs j r') kept here)).undamaged_now tells file at

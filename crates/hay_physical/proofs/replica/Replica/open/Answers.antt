@@ -1,7 +1,7 @@
 use Rattle.std.proofs.Common.{◌≡◌, ap, refl, subst, Err, sym}
 use Rattle.std.proofs.lemmas.Result.{err_from_is_err_and}
 use Rattle.hay_open.specs.Damage.{IsOpeningDamage}
-use Rattle.hay_open.specs.Stored.{IsVoid}
+use Rattle.hay_open.specs.Stored.{IsVoid, OpensAs}
 use Rattle.hay_physical.specs.Copies.{Copy}
 use Rattle.hay_physical.proofs.Deleting.{found_deletes}
 use Rattle.hay_physical.proofs.Holding.{finds_now, finds_opens}
@@ -89,3 +89,19 @@ returns-clause-can_delete g c = λ tells pair. found_deletes g.D.Disk.files c.se
 pub returns-clause-undamaged : goal.returns-clause-undamaged
 returns-clause-undamaged g c = λ tells file at damage.
     c.in_ok-head.ensures.undamaged tells file at (subst (λ (x : Copy _). IsOpeningDamage x.sup (λ n. (g.D.Disk.files x.disk n).now) file at) (sym c.self.view_is) damage)
+
+pub returns-clause-undamaged_now : goal.returns-clause-undamaged_now
+returns-clause-undamaged_now g c = λ tells file at damage.
+    c.in_ok-head.ensures.undamaged_now tells file at (subst (λ (x : Copy _). IsOpeningDamage x.sup (λ n. (g.D.Disk.files c.open_replica.new.disk n).now) file at) (sym c.self.view_is) damage)
+
+pub returns-clause-nothing : goal.returns-clause-nothing
+returns-clause-nothing g c = λ tells void image leaves s opens.
+    let files = g.D.Disk.files in
+    let here : IsVoid (λ n. (files c.self.inside.disk n).now) = subst (λ (x : Copy _). IsVoid (λ n. (files x.disk n).now)) (sym c.self.view_is) void in
+    c.in_ok-head.ensures.nothing tells here image leaves s (subst (λ (x : Copy _). OpensAs x.sup image s) (sym c.self.view_is) opens)
+
+pub returns-in_err-head-clause-nothing : goal.returns-in_err-head-clause-nothing
+returns-in_err-head-clause-nothing g c = λ tells void image leaves s opens.
+    let files = g.D.Disk.files in
+    let here : IsVoid (λ n. (files c.self.inside.disk n).now) = subst (λ (x : Copy _). IsVoid (λ n. (files x.disk n).now)) (sym c.self.view_is) void in
+    c.in_err-head.ensures.nothing tells here image leaves s (subst (λ (x : Copy _). OpensAs x.sup image s) (sym c.self.view_is) opens)

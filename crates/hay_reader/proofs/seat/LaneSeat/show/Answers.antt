@@ -12,7 +12,13 @@ returns-in-Ok-clause-reads g c =
     (shows_place _ _ _ _ _ _ c.args.start c.args.row.now c.args.cookie _ c.loop-step.causes _ c.in-Ok.shown c.loop-step.invariant.passed fewer next c.try_replica.ensures.later c.try_replica.ensures.most (rw c.place.ensures at c.in-Ok.ensures.gives))
 
 pub returns-in-Ok-clause-sure : goal.returns-in-Ok-clause-sure
-returns-in-Ok-clause-sure g c = λ was. (c.try_replica.ensures.sure (c.loop-step.invariant.sure was), rw c.reply_of.ensures (shows_no_arm _ c.in-Ok.shown))
+returns-in-Ok-clause-sure g c = λ was. rw c.reply_of.ensures (shows_no_arm _ c.in-Ok.shown)
+
+pub returns-in-Ok-clause-stays_sure : goal.returns-in-Ok-clause-stays_sure
+returns-in-Ok-clause-stays_sure g c = λ was.
+    let before = c.loop-step.invariant.stays_sure was in
+    let now = c.try_replica.ensures.stays_sure before.0 in
+    (now.0, now.1 ∙ before.1)
 
 pub returns-in-Ok-clause-bytes : goal.returns-in-Ok-clause-bytes
 returns-in-Ok-clause-bytes g c = rw c.reply_of.ensures (has_bytes _ _ c.in-Ok.shown c.in-Ok.ensures.bytes)
@@ -24,10 +30,13 @@ loop-step-preserved g c =
     rw c.push.ensures
     (record {
       passed = places_more _ _ _ _ _ _ c.args.start c.args.row.now c.args.cookie _ c.loop-step.causes passed c.loop-step.invariant.passed next c.loop-step.invariant.later c.try_replica.ensures.later c.try_replica.ensures.most c.in-Err.ensures.cause
-          c.loop-step.invariant.sure (rw c.place.ensures at c.in-Err.ensures.gives);
+          (λ was. (c.loop-step.invariant.stays_sure was).0) (rw c.place.ensures at c.in-Err.ensures.gives);
       long = length-append c.loop-step.causes _ ∙ ap (λ (tries : ℕ). tries + 1) c.loop-step.invariant.long;
       later = omega (arith, c.loop-step.invariant.later, c.try_replica.ensures.later);
-      sure = λ was. c.try_replica.ensures.sure (c.loop-step.invariant.sure was);
+      stays_sure = λ was.
+          let before = c.loop-step.invariant.stays_sure was in
+          let now = c.try_replica.ensures.stays_sure before.0 in
+          (now.0, now.1 ∙ before.1);
       empty = c.in-Err.ensures.bytes;
       room = omega (arith, c.loop-step.invariant.room, c.try_replica.ensures.room);
     })
@@ -36,4 +45,4 @@ pub returns-clause-reads : goal.returns-clause-reads
 returns-clause-reads g c = (c.loop-step.invariant.passed, omega (arith, c.len-step-end.ensures.is, c.loop-step.invariant.long))
 
 pub returns-clause-sure : goal.returns-clause-sure
-returns-clause-sure g c = λ was. (c.loop-step.invariant.sure was, passes_damaged _ _ _ _ c.args.start c.args.row.now c.args.cookie c.loop-step.causes was c.loop-step.invariant.passed)
+returns-clause-sure g c = λ was. passes_damaged _ _ _ _ c.args.start c.args.row.now c.args.cookie c.loop-step.causes was c.loop-step.invariant.passed

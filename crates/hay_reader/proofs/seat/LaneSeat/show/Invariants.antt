@@ -1,5 +1,6 @@
 use Rattle.std.proofs.Common.{◌≡◌, ◌≤◌, true, [], length}
 use Rattle.std.specs.Vec.{vec_capacity}
+use Rattle.hay_disk.specs.Counts.{StaysSure}
 use Rattle.hay_reader.specs.Causes.{PassesRow}
 use Rattle.hay_reader.proofs.Passing.{arm_use}
 use Rattle.hay_reader.proofs.seat.LaneSeat.show.Given as goal
@@ -9,7 +10,7 @@ invariant-loop-step g l = record {
   passed : PassesRow g.P.Piece.Tells (arm_use (g.A.Arm.is_sure l.initial.self) (g.A.Arm.fault_count l.initial.self) (g.A.Arm.fault_count l.self)) l.start l.row l.cookie l.causes;
   long : length l.causes ≡ l.step;
   later : g.A.Arm.fault_count l.initial.self ≤ g.A.Arm.fault_count l.self;
-  sure : g.A.Arm.is_sure l.initial.self ≡ true → g.A.Arm.is_sure l.self ≡ true;
+  stays_sure : StaysSure (g.A.Arm.is_sure l.initial.self) (g.A.Arm.is_sure l.self) (g.A.Arm.fault_count l.initial.self) (g.A.Arm.fault_count l.self);
   empty : l.out.items ≡ [];
   room : vec_capacity l.initial.out ≤ vec_capacity l.out;
 }
