@@ -20,7 +20,7 @@ use Rattle.hay_legal.specs.Known.{CameUp, Leaves, NoneFalls, fault_count, home_o
 use Rattle.hay_legal.specs.Plain.{LegalCommand, row_pending}
 use Rattle.hay_directory.specs.declared.fault.DirFault.{DirFault}
 use Rattle.hay_directory.specs.declared.fault.DirFault.TheVariants as settling
-use Rattle.hay_cluster.specs.Causes.{CauseCameUp, Counts, HasCause, RoseAt, RoseIn}
+use Rattle.hay_cluster.specs.Causes.{CauseCameUp, Counts, IsCaused, RoseAt, RoseIn}
 use Rattle.hay_cluster.specs.Parts.{Comes}
 use Rattle.hay_cluster.specs.Puts.{settle_reply}
 use Rattle.hay_cluster.specs.State.{Answered, Stands}
@@ -92,7 +92,7 @@ causes_earlier settings lane v before mid after (over ∷ passed) falls arms all
     one m (Disk f) h = rose_at_earlier settings v m f before.disks mid.disks after.disks falls h
     one m (Damage at) h = tt
 
-pub cause_earlier : (settings : Settings) (lane : ℕ) (before mid after : Counts) (answer : Reply) → NoneFalls before.disks mid.disks → mid.arms ≡ before.arms → HasCause settings lane mid after answer → HasCause settings lane before after answer
+pub cause_earlier : (settings : Settings) (lane : ℕ) (before mid after : Counts) (answer : Reply) → NoneFalls before.disks mid.disks → mid.arms ≡ before.arms → IsCaused settings lane mid after answer → IsCaused settings lane before after answer
 cause_earlier settings lane before mid after (reply.Failed v m f) falls arms cause = rose_at_earlier settings v m f before.disks mid.disks after.disks falls cause
 cause_earlier settings lane before mid after (reply.FailedDir f) falls arms cause =
     (rose_earlier (slice_index before.disks 0) (slice_index mid.disks 0) (slice_index after.disks 0) (falls_at before.disks mid.disks 0 falls) cause.0, cause.1)

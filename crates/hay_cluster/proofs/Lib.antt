@@ -17,6 +17,7 @@ pub mod OpeningLists
 pub mod OpeningLower
 pub mod OpeningStore
 pub mod OpeningTaken
+pub mod OpeningVoid
 pub mod OpeningVolumes
 pub mod Puts
 pub mod Refusals

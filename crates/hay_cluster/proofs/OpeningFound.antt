@@ -14,7 +14,7 @@ use Rattle.hay_legal.specs.declared.known.DirKnown.{DirKnown}
 use Rattle.hay_legal.specs.declared.known.HomeRow.{HomeRow}
 use Rattle.hay_legal.specs.declared.known.Known.{Known}
 use Rattle.hay_legal.specs.declared.known.VolumeKnown.{VolumeKnown}
-use Rattle.hay_legal.specs.Known.{Leaves, NoneFalls, disk_count, empty_volume, replica_at, slot_of, volume_at}
+use Rattle.hay_legal.specs.Known.{NoneFalls, Rises, disk_count, empty_volume, replica_at, slot_of, volume_at}
 use Rattle.hay_legal.specs.Restarts.{directory_with}
 use Rattle.hay_legal.specs.Stands.{Contents, found_of}
 use Rattle.hay_legal.specs.Statuses.{HoldsNew, IsNewVolume}
@@ -98,15 +98,15 @@ module _ {D P A : Type 0} (DiskTells : Type 0) (files : D → Files) (Tells : Ty
       → HoldsNew (IsReplica store.settings) (OpensRows store.settings) store.settings (outside_of shelf disks arms) k → AllZip (IsFirst files) store.volumes k.volumes
   firsts tells store k t opened = zip_of (IsFirst files) store.volumes k.volumes ((t.shape).many ∙ sym (opened.new).count) (first_at tells store k t opened)
 
-  -- the store stands for what is found, but for counts that rose
+  -- the store stands for what is found, but for disks' counts that rose
   abbrev FindsNew : Known → Open D P A → Type 0
-  FindsNew k store = (t : Known) × Leaves k k t × Stands files Tells faults fuses arm_faults store t
+  FindsNew k store = (t : Known) × Rises k t × Stands files Tells faults fuses arm_faults store t
 
   counted : (old new : Open D P A) → IsTaken DiskTells files Tells faults fuses arm_faults drawn sure disks arms old → MovedParts DiskTells files Tells faults fuses arm_faults old new → length (disks_of new) ≡ disk_count old.settings
   counted old new t m = disks_many new (shape_moved DiskTells files Tells faults fuses arm_faults old new t.shape m) ∙ ap (λ (s : Settings). disk_count s) m.settings
 
   leaves_new : (old new : Open D P A) (k : Known) → IsTaken DiskTells files Tells faults fuses arm_faults drawn sure disks arms old → MovedParts DiskTells files Tells faults fuses arm_faults old new
-      → HoldsNew (IsReplica old.settings) (OpensRows old.settings) old.settings (outside_of shelf disks arms) k → Leaves k k (record k { faults = map faults (disks_of new); arms = map arm_faults new.arms })
+      → HoldsNew (IsReplica old.settings) (OpensRows old.settings) old.settings (outside_of shelf disks arms) k → Rises k (record k { faults = map faults (disks_of new); arms = map arm_faults new.arms })
   leaves_new old new k t m opened =
       let many = length-map (disks_of new) faults ∙ counted old new t m in
       let lanes = length-map new.arms arm_faults ∙ ap (λ (l : List A). length l) m.arms ∙ (t.shape).lanes in
@@ -119,9 +119,9 @@ module _ {D P A : Type 0} (DiskTells : Type 0) (files : D → Files) (Tells : Ty
             let low : slot < disk_count old.settings = subst (λ n. slot < n) (opened.new).disks below in
             let rise = (moved_counts DiskTells files Tells faults fuses arm_faults drawn sure disks arms old new t m slot low).faults_rise in
             subst (λ n. n ≤ slice_index (map faults (disks_of new)) slot) (sym (opened.faults slot low)) rise);
-        arms = no_less k.arms (map arm_faults new.arms) ((opened.new).lanes ∙ sym lanes) (λ lane below.
+        arms = sym (same_numbers k.arms (map arm_faults new.arms) ((opened.new).lanes ∙ sym lanes) (λ lane below.
             let low : lane < 8 = subst (λ n. lane < n) (opened.new).lanes below in
-            let same = opened.arms lane low ∙ sym (moved_arms DiskTells files Tells faults fuses arm_faults drawn sure disks arms old new t m.arms lane low) in omega (arith, same));
+            opened.arms lane low ∙ sym (moved_arms DiskTells files Tells faults fuses arm_faults drawn sure disks arms old new t m.arms lane low)));
       }
 
   same_fuses : (old new : Open D P A) (k : Known) → IsTaken DiskTells files Tells faults fuses arm_faults drawn sure disks arms old → MovedParts DiskTells files Tells faults fuses arm_faults old new
@@ -168,6 +168,6 @@ module _ {D P A : Type 0} (DiskTells : Type 0) (files : D → Files) (Tells : Ty
   pub found_new : DiskTells → (settings : Settings) (old new : Open D P A) (k : Known) (notes : List Note) → old.settings ≡ settings → IsTaken DiskTells files Tells faults fuses arm_faults drawn sure disks arms old
       → MovedParts DiskTells files Tells faults fuses arm_faults old new → OpensParts DiskTells files Tells faults fuses old.directory new.directory old.volumes new.volumes notes
       → HoldsNew (IsReplica settings) (OpensRows settings) settings (outside_of shelf disks arms) k
-      → (t : Known) × Leaves k k t × Stands files Tells faults fuses arm_faults new t
+      → (t : Known) × Rises k t × Stands files Tells faults fuses arm_faults new t
   found_new tells settings old new k notes is t m o =
       subst (λ (s : Settings). HoldsNew (IsReplica s) (OpensRows s) s (outside_of shelf disks arms) k → FindsNew k new) is (finds_new tells old new k notes t m o)

@@ -36,6 +36,20 @@ module _ {X Y : Type 0} (R : X → X → List Y → Type 0) where
   pub gathered_was : (n : ℕ) (xs ys : List X) (all : List Y) (y : X) → Gathered R n xs ys all → At ys n y → At xs n y
   gathered_was n xs ys all y g at = was_at n xs ys all y g.first at
 
+  done_at : (n : ℕ) (xs ys : List X) (all : List Y) (i : ℕ) (x z w : X) → GathersFirst R n xs ys all → i < n → At xs i x → At (slice_set ys n z) i w → (more : List Y) × R x w more
+  done_at zero xs ys all i x z w g less at at' = absurd (omega (arith, less))
+  done_at (suc n) [] ys all i x z w g less at at' = absurd g
+  done_at (suc n) (x' ∷ xs) [] all i x z w g less at at' = absurd g
+  done_at (suc n) (x' ∷ xs) (y ∷ ys) all zero x z w g less at at' =
+      let was : x' ≡ x = cc in
+      let is : y ≡ w = cc in
+      (g.front, subst (λ v. R x v g.front) is (subst (λ v. R v y g.front) was g.first))
+  done_at (suc n) (x' ∷ xs) (y ∷ ys) all (suc i) x z w g less at at' = done_at n xs ys g.behind i x z w g.rest (let low : i < n = omega (arith, less) in low) at at'
+
+  -- what was called before the next item is called
+  pub gathered_done : (n : ℕ) (xs ys : List X) (all : List Y) (i : ℕ) (x z w : X) → Gathered R n xs ys all → i < n → At xs i x → At (slice_set ys n z) i w → (more : List Y) × R x w more
+  gathered_done n xs ys all i x z w g less at at' = done_at n xs ys all i x z w g.first less at at'
+
   step : (n : ℕ) (xs ys : List X) (all : List Y) (y z : X) (more : List Y) → GathersFirst R n xs ys all → At ys n y → R y z more → GathersFirst R (suc n) xs (slice_set ys n z) (all ++ more)
   step zero xs [] all y z more g at r = absurd cc
   step zero [] (y' ∷ ys) all y z more g at r = absurd cc

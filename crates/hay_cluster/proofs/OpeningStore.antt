@@ -37,7 +37,7 @@ use Rattle.hay_cluster.specs.Opening.{Gathers, IsLeft, MovesDirectory, MovesVolu
 use Rattle.hay_cluster.specs.State.{DirectoryHolds, Holds, LeftAt, Stands, VolumeHolds}
 use Rattle.hay_cluster.specs.Store.{IsBuilt, IsShaped, IsVolumeOf, Open, disks_of, volume_disks}
 use Rattle.hay_cluster.proofs.Lists.{AllZip-long}
-use Rattle.hay_cluster.proofs.Moves.{count_at, none_falls, volume_of}
+use Rattle.hay_cluster.proofs.Moves.{count_at, volume_of}
 use Rattle.hay_cluster.proofs.OpeningDirectory.{left_holds, stopped_rows}
 use Rattle.hay_cluster.proofs.OpeningLower.{volume_outcome, volume_stands}
 use Rattle.hay_cluster.proofs.OpeningVolumes.{moved_fuses, moved_later, moved_shape, reopened_each, stopped_each, stopped_faults, stopped_fuses, stopped_shape}
@@ -257,8 +257,8 @@ module _ {D P A : Type 0} (DiskTells : Type 0) (files : D → Files) (Tells : Ty
   pub opening_cause : (mid new : Open D P A) (fault : ClusterFault) → IsShaped mid → MovedParts mid new → RefusesParts DiskTells files faults mid.settings mid.directory new.directory mid.volumes new.volumes fault
       → HasFaultCause mid.settings (map faults (disks_of mid)) (map faults (disks_of new)) fault
   opening_cause mid new fault shape m (inl by) = by_directory mid new fault by
-  opening_cause mid new fault shape m (inr (inl memory)) = subst (λ f. HasFaultCause mid.settings (map faults (disks_of mid)) (map faults (disks_of new)) f) (sym memory) tt
-  opening_cause mid new fault shape m (inr (inr by)) =
+  opening_cause mid new fault shape m (inr (notes, opened, inl memory)) = subst (λ f. HasFaultCause mid.settings (map faults (disks_of mid)) (map faults (disks_of new)) f) (sym memory) tt
+  opening_cause mid new fault shape m (inr (notes, opened, inr by)) =
       let r = by.refused in
       subst (λ f. HasFaultCause mid.settings (map faults (disks_of mid)) (map faults (disks_of new)) f) (sym r.told)
       (by_volume mid new by.volume by.before by.after r.refusal.fault r.refusal.replica shape (shape_moved mid new shape m) m.settings by.was by.is r.cause.before r.cause.after r.cause.was r.cause.is r.cause.cause)
@@ -285,7 +285,7 @@ module _ {D P A : Type 0} (DiskTells : Type 0) (files : D → Files) (Tells : Ty
           drained = refl;
           fuses = refl;
           faults = subst (λ (ns : List ℕ). NoneFalls ns (map faults (disks_of new))) (sym stands.fault_counts) (restart_later old mid new s m);
-          arms = none_falls k.arms;
+          arms = refl;
         };
         holds = record {
           shape = shape;
@@ -310,8 +310,8 @@ module _ {D P A : Type 0} (DiskTells : Type 0) (files : D → Files) (Tells : Ty
   unfolding Stands
   restart_whole tells old mid new k fault stands s (inl by) slot file at is =
       directory_whole DiskTells files faults mid.directory new.directory k.directory fault tells (s.directory.stopped tells k.directory k.drained stands.directory) by slot file at is
-  restart_whole tells old mid new k fault stands s (inr (inl memory)) slot file at is = let both : NoMemory ≡ Damaged slot file at = sym memory ∙ is in absurd cc
-  restart_whole tells old mid new k fault stands s (inr (inr by)) slot file at is =
+  restart_whole tells old mid new k fault stands s (inr (notes, opened, inl memory)) slot file at is = let both : NoMemory ≡ Damaged slot file at = sym memory ∙ is in absurd cc
+  restart_whole tells old mid new k fault stands s (inr (notes, opened, inr by)) slot file at is =
       let stopped = stopped_each DiskTells files Tells faults fuses tells old.volumes mid.volumes k.volumes s.volumes stands.volumes in
       let known = known_at mid.volumes k.volumes by.volume by.before by.was stopped in
       by.refused.whole tells known.0 known.1 slot file at is
@@ -342,7 +342,7 @@ module _ {D P A : Type 0} (DiskTells : Type 0) (files : D → Files) (Tells : Ty
             drained = drained;
             fuses = refl;
             faults = subst (λ (ns : List ℕ). NoneFalls ns (map faults (disks_of new))) (sym stands.fault_counts) (restart_later old mid new s m);
-            arms = none_falls k.arms;
+            arms = refl;
           };
           told = o.told ∙ ap (λ (l : List Note). l ++ o.of_directory) vs.told ∙ ap (λ (l : List Note). volume_notes new.settings 0 k.volumes vs.kept ++ l) d.1;
           rows = d.2.count;

@@ -1,13 +1,12 @@
 -- What a store is that was put together of the disks and arms of a shelf, and what is given back of it.
-use Rattle.std.proofs.Common.{◌≡◌, ℕ, zero, suc, ◌+◌, ◌*◌, ◌<◌, ◌≤◌, ◌⊎◌, inl, inr, Bool, false, List, [], ◌∷◌, length, map, Some, None, refl, sym, ap, subst, ◌∙◌, arith}
+use Rattle.std.proofs.Common.{◌≡◌, ℕ, suc, ◌+◌, ◌*◌, ◌<◌, ◌≤◌, ◌⊎◌, inl, inr, Bool, false, List, [], ◌∷◌, length, map, Some, None, refl, sym, ap, subst, ◌∙◌, arith}
 use Rattle.std.proofs.Math.Path.{fun_ext}
 use Rattle.std.specs.Prelude.{slice_get, slice_index, Result, Err, OnErr}
 use Rattle.std.specs.List.{AllByRecursion, AllZip, flat_map}
 use Rattle.hay_disk.specs.Counts.{Rose}
-use Rattle.hay_disk.specs.Disk.{Files, IsImage, IsSolid}
+use Rattle.hay_disk.specs.Disk.{Files, IsSolid}
 use Rattle.hay_disk.specs.Shelf.{HeldArm, HeldDisk}
-use Rattle.hay_disk.proofs.Images.{solid_whole}
-use Rattle.hay_mount.specs.Mounts.{InOrder, IsArmBack, IsGivenDisk, IsMountedArm, IsMountedDisk}
+use Rattle.hay_mount.specs.Mounts.{InOrder, IsArmBack, IsMountedArm, IsMountedDisk}
 use Rattle.hay_mount.proofs.Orders.{InOrder-front, InOrder-rest}
 use Rattle.hay_legal.specs.Known.{NoneFalls, disk_count, slot_of}
 use Rattle.hay_directory.specs.State as directory
@@ -18,8 +17,8 @@ use Rattle.hay_logical.specs.Volumes.{IsClosed, Volume}
 use Rattle.hay_cluster.specs.declared.fault.ClusterFault.{ClusterFault}
 use Rattle.hay_cluster.specs.declared.fault.ClusterFault.TheVariants.{Shelf, Failed, Damaged, NoMemory}
 use Rattle.hay_cluster.specs.Causes.{HasFaultCause}
-use Rattle.hay_cluster.specs.Opening.{IsAtRest, MovesDirectory, MovesVolume, RefusesParts}
-use Rattle.hay_cluster.specs.Outside.{CountsOn, IsKept, read_of}
+use Rattle.hay_cluster.specs.Opening.{IsResting, MovesDirectory, MovesVolume, RefusesParts}
+use Rattle.hay_cluster.specs.Outside.{CountsOn, read_of}
 use Rattle.hay_cluster.specs.Store.{IsShaped, Open, contents_in, disk_of, disks_of, volume_disks}
 use Rattle.hay_cluster.proofs.ClosingStore.{contents_at, disks_many, index_of, order_flat, order_get, order_item, volumes_long}
 use Rattle.hay_cluster.proofs.Lists.{AllZip-append}
@@ -35,7 +34,7 @@ IsTakingFault before after fault = (fault ≡ NoMemory) ⊎ ((count : ℕ) × (f
 not_memory_shelf : (fault : ClusterFault) (count : ℕ) → fault ≡ NoMemory → fault ≡ Shelf count → ⊥
 not_memory_shelf fault count memory is = let both : NoMemory ≡ Shelf count = sym memory ∙ is in absurd cc
 
-not_memory_failed : (fault : ClusterFault) (slot count : ℕ) → fault ≡ NoMemory → fault ≡ Failed slot count → ⊥
+pub not_memory_failed : (fault : ClusterFault) (slot count : ℕ) → fault ≡ NoMemory → fault ≡ Failed slot count → ⊥
 not_memory_failed fault slot count memory is = let both : NoMemory ≡ Failed slot count = sym memory ∙ is in absurd cc
 
 pub not_memory_damaged : (fault : ClusterFault) (slot file at : ℕ) → fault ≡ NoMemory → fault ≡ Damaged slot file at → ⊥
@@ -60,21 +59,7 @@ passed_back r Q y e q = subst (λ s. OnErr s Q) (sym e) q
 pub one_fault : {T E : Type 0} (r : Result T E) (y z : E) → r ≡ Err y → r ≡ Err z → y ≡ z
 one_fault r y z first second = cc
 
--- ITEMS OF TWO LISTS BY THEIR NUMBERS
-
-pair_at : {X : Type 0} (P Q : ℕ → X → Type 0) (R : X → X → Type 0) (C : ℕ → Type 0) (n : ℕ) (xs ys : List X) → ((k : ℕ) (x y : X) → P k x → Q k y → R x y → C k) → InOrder P n xs → InOrder Q n ys → AllZip R xs ys
-    → (i k : ℕ) → k ≡ n + i → i < length xs → C k
-pair_at P Q R C n [] ys f ps qs rs i k is below = absurd (omega (arith, below))
-pair_at P Q R C n (x ∷ xs) [] f ps qs rs i k is below = absurd rs
-pair_at P Q R C n (x ∷ xs) (y ∷ ys) f ps qs rs zero k is below = let here : n ≡ k = omega (arith, is) in subst (λ m. C m) here (f n x y ps.0 qs.0 rs.0)
-pair_at P Q R C n (x ∷ xs) (y ∷ ys) f ps qs rs (suc i) k is below =
-    let place : k ≡ n + 1 + i = omega (arith, is) in
-    let less : i < length xs = omega (arith, below) in
-    pair_at P Q R C (n + 1) xs ys f ps.1 qs.1 rs.1 i k place less
-
-void_or : (l : List ℕ) → (l ≡ []) ⊎ (l ≡ [] → ⊥)
-void_or [] = inl refl
-void_or (byte ∷ bytes) = inr (λ is. absurd cc)
+-- THE DISKS
 
 some_of : (l : List ℕ) → (l ≡ [] → ⊥) → 0 < length l
 some_of [] none = absurd (none refl)
@@ -104,14 +89,6 @@ module _ {D : Type 0} (DiskTells : Type 0) (files : D → Files) (faults fuses :
       let same : files d'.disk ≡ files d.disk = moves.same tells (some_of (files d.disk 0).now some) in
       (ap (λ (f : Files). (f n).now) same, λ solid. subst (λ (f : Files). IsSolid (f n)) (sym same) solid)
 
-  one_kept : (drawn : D → ℕ → ℕ) → DiskTells → (held held' : HeldDisk) (d d' : D) → IsMountedDisk DiskTells files drawn faults fuses held d → IsGivenDisk DiskTells files drawn faults fuses held' d' → KeepsBytes files d d' → IsKept held held'
-  one_kept drawn tells held held' d d' taken given keeps = elim (void_or ((held.files 0).now)) [
-    | inl void ↦ inl void
-    | inr some ↦ inr (inr (λ image may n.
-        let k = keeps (λ none. some (sym (taken.now tells 0) ∙ none)) n in
-        solid_whole (files d' n) (image n) (k.1 (taken.solid tells n)) (subst (λ (f : Files). IsImage (f n) (image n)) (given.files_are tells) (may n)) ∙ k.0 ∙ taken.now tells n))
-  ]
-
 module _ {D P A : Type 0} (DiskTells : Type 0) (files : D → Files) (Tells : Type 0) (faults fuses : D → ℕ) (arm_faults : A → ℕ) where
   volumes_keep : DiskTells → (xs ys : List (Volume D P)) → AllZip (MovesVolume DiskTells files Tells faults fuses) xs ys → AllZip (KeepsBytes files) (flat_map volume_disks xs) (flat_map volume_disks ys)
   volumes_keep tells [] [] all = tt
@@ -119,7 +96,7 @@ module _ {D P A : Type 0} (DiskTells : Type 0) (files : D → Files) (Tells : Ty
   volumes_keep tells (x ∷ xs) [] all = absurd all
   volumes_keep tells (x ∷ xs) (y ∷ ys) all =
       AllZip-append (KeepsBytes files) (volume_disks x) (flat_map volume_disks xs) (volume_disks y) (flat_map volume_disks ys)
-      (copies_keep DiskTells files faults fuses x.replicas y.replicas (all.0).counts.count (λ j r r' at at' some n. let k = (all.0).kept tells j r r' at at' some n in (k.0, λ solid. k.1)))
+      (copies_keep DiskTells files faults fuses x.replicas y.replicas (all.0).counts.count (λ j r r' at at' some n. let k = ((all.0).kept tells j r r' at at').kept some n in (k.0, λ solid. k.1)))
       (volumes_keep tells xs ys all.1)
 
   pub disks_keep : DiskTells → (old new : Open D P A) → MovedParts DiskTells files Tells faults fuses arm_faults old new → AllZip (KeepsBytes files) (disks_of old) (disks_of new)
@@ -146,7 +123,7 @@ module _ {D P A : Type 0} (DiskTells : Type 0) (files : D → Files) (Tells : Ty
       arms_are = subst (λ (l : List A). InOrder (λ lane arm. IsMountedArm arm_faults sure (arms lane) arm) 0 l) (sym same_arms) mounted_arms;
     }
 
-    pub taken_rests : (store : Open D P A) → IsTaken store → IsAtRest DiskTells files store.directory
+    pub taken_rests : (store : Open D P A) → IsTaken store → IsResting DiskTells files store.directory
     taken_rests store t = record {
       closed = ap directory.is_closed t.fresh;
       solid = λ tells. (t.disks_are).0.solid tells 0;
@@ -168,7 +145,7 @@ module _ {D P A : Type 0} (DiskTells : Type 0) (files : D → Files) (Tells : Ty
     pub taken_idle : DiskTells → (store : Open D P A) → IsTaken store → AllByRecursion (IsIdle files) store.volumes
     taken_idle tells store t = idle_each tells 1 store.volumes t.closed (t.disks_are).1
 
-    taken_disk : (store : Open D P A) → IsTaken store → (slot : ℕ) → slot < disk_count store.settings
+    pub taken_disk : (store : Open D P A) → IsTaken store → (slot : ℕ) → slot < disk_count store.settings
         → (disk : D) × (slice_get (disks_of store) slot ≡ Some disk) × IsMountedDisk DiskTells files drawn faults fuses (disks slot) disk
     taken_disk store t slot below =
         let many = disks_many store t.shape in
@@ -229,15 +206,6 @@ module _ {D P A : Type 0} (DiskTells : Type 0) (files : D → Files) (Tells : Ty
         contents_at files store slot i.0 i.1 ∙ fun_ext (λ n. (i.2).now tells n)
 
     -- WHAT IS GIVEN BACK OF A STORE THAT WAS NOT OPENED
-
-    pub back_kept : DiskTells → (old new : Open D P A) (after : ℕ → HeldDisk) → IsTaken old → MovedParts DiskTells files Tells faults fuses arm_faults old new
-        → InOrder (λ slot disk. IsGivenDisk DiskTells files drawn faults fuses (after slot) disk) 0 (disks_of new) → (slot : ℕ) → slot < disk_count old.settings → IsKept (disks slot) (after slot)
-    back_kept tells old new after t m given slot below =
-        let many = disks_many old t.shape in
-        let place : slot ≡ 0 + slot = omega arith in
-        let less : slot < length (disks_of old) = omega (arith, below, many) in
-        pair_at (λ n disk. IsMountedDisk DiskTells files drawn faults fuses (disks n) disk) (λ n disk. IsGivenDisk DiskTells files drawn faults fuses (after n) disk) (KeepsBytes files) (λ n. IsKept (disks n) (after n)) 0 (disks_of old) (disks_of new)
-        (λ n d d' taken back keeps. one_kept DiskTells files faults fuses drawn tells (disks n) (after n) d d' taken back keeps) t.disks_are given (disks_keep tells old new m) slot slot place less
 
     pub back_counts : (old new : Open D P A) (after : ℕ → HeldDisk) → IsTaken old → MovedParts DiskTells files Tells faults fuses arm_faults old new
         → ((slot : ℕ) → slot < disk_count old.settings → (after slot).fault_count ≡ slice_index (map faults (disks_of new)) slot)

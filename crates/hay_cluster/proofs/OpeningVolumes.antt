@@ -19,6 +19,7 @@ use Rattle.hay_logical.specs.Stands.{IsFirst, IsIdle, Stopped, Holds}
 use Rattle.hay_logical.specs.Steps.{KeepsDisk}
 use Rattle.hay_logical.specs.Stands as logical
 use Rattle.hay_logical.specs.Volumes.{Volume, IsSame, KeepsCounts}
+use Rattle.hay_logical.proofs.Calls.{disk_same}
 use Rattle.hay_logical.proofs.Methods.{same_still, sups_on}
 use Rattle.hay_cluster.specs.declared.fault.ClusterFault.{ClusterFault}
 use Rattle.hay_cluster.specs.declared.fault.ClusterFault.TheVariants.{Damaged}
@@ -26,7 +27,7 @@ use Rattle.hay_cluster.specs.Faults.{not_opened}
 use Rattle.hay_cluster.specs.Opening.{Gathers, MovesVolume, OpensVolume, RefusesVolume, RefusesVolumes, StopsVolume, VolumesReopened}
 use Rattle.hay_cluster.specs.Store.{IsVolumeOf, volume_disks}
 use Rattle.hay_cluster.proofs.Moves.{copies_later, copies_same}
-use Rattle.hay_cluster.proofs.OpeningLists.{Gathered, at_set, each_later, each_same, gathered_break, gathered_was}
+use Rattle.hay_cluster.proofs.OpeningLists.{Gathered, at_set, each_later, each_same, gathered_break, gathered_done, gathered_was}
 
 -- a refusal that tells of damage
 pub damage_told : (slot : ℕ) (f : OpenFault) (s file at : ℕ) → not_opened slot f ≡ Damaged s file at → f ≡ opening.Damaged file at
@@ -50,9 +51,7 @@ module _ {D P : Type 0} (DiskTells : Type 0) (files : D → Files) (Tells : Type
       stay = λ j r r' at at'. ap (λ (c : Copy D). fuses c.disk) (same_Some r' r (sym at' ∙ at));
     };
     left = λ tells k stopped. inl (stopped_holds files volume k stopped);
-    kept = λ tells j r r' at at' void n.
-        let same : r' ≡ r = same_Some r' r (sym at' ∙ at) in
-        (ap (λ (c : Copy D). (files c.disk n).now) same, (idle tells j r' at').solid n);
+    kept = λ tells j r r' at at'. subst (λ (c : Copy D). KeepsDisk files r c) (same_Some r r' (sym at ∙ at')) (disk_same files r (idle tells j r at).solid);
   }
 
   -- a volume behind a call that opened it, or that was refused
@@ -75,6 +74,7 @@ module _ {D P : Type 0} (DiskTells : Type 0) (files : D → Files) (Tells : Type
     was = gathered_was (OpensVolume DiskTells files Tells faults fuses) n xs ys all y g at;
     is = at_set ys n y z at;
     refused = by;
+    earlier = λ tells v x w less at' at''. (gathered_done (OpensVolume DiskTells files Tells faults fuses) n xs ys all v x z w g less at' at'').1.undamaged tells;
   })
 
   pub moved_at : (n : ℕ) (xs ys : List (Volume D P)) (all : List Note) (y z : Volume D P) → Gathered (OpensVolume DiskTells files Tells faults fuses) n xs ys all → At ys n y

@@ -18,13 +18,13 @@ use Rattle.hay_core.specs.declared.entry.Entry.TheVariants as entry
 use Rattle.hay_legal.specs.declared.known.Known.{Known}
 use Rattle.hay_legal.specs.declared.known.VolumeKnown.{VolumeKnown}
 use Rattle.hay_legal.specs.Known.{Leaves, closed, drained_of, empty_volume, fault_count, home_of, machine_of, refusal_by, refusal_of, replica_on, room_refusal, room_refusal_of, settled_by, slot_of, taker_of, tries_by, try_at, volume_at, with_home, with_volume}
-use Rattle.hay_legal.specs.Plain.{DirectoryOpen, LegalPut, RefusedBy, RoseTo, change_volume, first_machine, frozen_with, lacks, put_entry, with_put}
+use Rattle.hay_legal.specs.Plain.{DirectoryOpen, LegalPut, RefusedBy, RoseTo, change_volume, first_machine, frozen_with, wants_room, put_entry, with_put}
 use Rattle.hay_logical.specs.Answers.{IsPut, PutRefused}
 use Rattle.hay_logical.specs.declared.fault.LogicalFault.{LogicalFault}
 use Rattle.hay_logical.specs.declared.fault.LogicalFault.TheVariants.{ReadOnly, Full, Failed, NoMemory}
 use Rattle.hay_logical.specs.Stands as logical
 use Rattle.hay_logical.specs.Volumes.{Volume}
-use Rattle.hay_cluster.specs.Causes.{Counts, HasCause, IsPutCause, RoseAt}
+use Rattle.hay_cluster.specs.Causes.{Counts, IsCaused, IsPutCause, RoseAt}
 use Rattle.hay_cluster.specs.Parts.{Comes}
 use Rattle.hay_cluster.specs.declared.put.Tried.TheVariants.{Taker}
 use Rattle.hay_cluster.specs.Puts.{IsPutReply, IsRefusal, IsTried, StoredAs, Stores}
@@ -75,7 +75,7 @@ one_more settings k pair size turn v refused refusal is refuses others =
     ∙ sym (map-append Some refused (refusal ∷ []))
 
 -- a refusal has no cause to tell
-pub refusal_caused : (settings : Settings) (lane : ℕ) (before after : Counts) (refused : List Refused) (answer : Reply) → IsRefusal refused answer → HasCause settings lane before after answer
+pub refusal_caused : (settings : Settings) (lane : ℕ) (before after : Counts) (refused : List Refused) (answer : Reply) → IsRefusal refused answer → IsCaused settings lane before after answer
 refusal_caused settings lane before after refused (reply.Full tries) told = tt
 refusal_caused settings lane before after refused (reply.ReadOnly closed) told = tt
 refusal_caused settings lane before after refused reply.NoMem told = tt
@@ -154,7 +154,7 @@ home_same k pair v home = ap (λ o. record k { directory = record k.directory { 
 pub all_refused : (settings : Settings) (k t : Known) (tag : CoreTag) (pair : Pair) (bytes : List ℕ) (refused : List Refused) (reply : Reply) → RefusedBy settings k pair bytes refused
     → IsRefusal refused reply → Leaves k k t → LegalPut settings k tag pair bytes reply t
 all_refused settings k t tag pair bytes refused (reply.Full tries) by is leaves =
-    (subst (λ (rs : List Refused). RefusedBy settings k pair bytes rs) (sym is.0) by, ap (λ rs. list_any lacks rs) is.0 ∙ is.1, leaves)
+    (subst (λ (rs : List Refused). RefusedBy settings k pair bytes rs) (sym is.0) by, ap (λ rs. list_any wants_room rs) is.0 ∙ is.1, leaves)
 all_refused settings k t tag pair bytes refused (reply.ReadOnly closed) by is leaves = (subst (λ (rs : List Refused). RefusedBy settings k pair bytes rs) (sym is) by, leaves)
 all_refused settings k t tag pair bytes refused reply.NoMem by is leaves = inl leaves
 all_refused settings k t tag pair bytes refused _ by is leaves = absurd is
@@ -253,9 +253,9 @@ module _ {D P A : Type 0} (files : D → Files) (Tells : Type 0) (faults fuses :
   put_refused old new k tag pair bytes v cookie _ answer before after own within stood takes was cause refused comes told = absurd refused
 
 -- a put that a volume did not store tells of a failure only with its cause
-pub put_caused : (settings : Settings) (lane v : ℕ) (before after : Counts) (fault : LogicalFault) (answer : Reply) → IsPutCause settings v before.disks after.disks fault → IsPutReply v fault answer → HasCause settings lane before after answer
+pub put_caused : (settings : Settings) (lane v : ℕ) (before after : Counts) (fault : LogicalFault) (answer : Reply) → IsPutCause settings v before.disks after.disks fault → IsPutReply v fault answer → IsCaused settings lane before after answer
 put_caused settings lane v before after (ReadOnly m) answer cause told = refusal_caused settings lane before after (Closed v m ∷ []) answer told
 put_caused settings lane v before after (Full m end need capacity) answer cause told = refusal_caused settings lane before after (NoRoom v m end need ∷ []) answer told
-put_caused settings lane v before after (Failed m f) answer cause told = subst (λ (r : Reply). HasCause settings lane before after r) (sym told) cause.1
-put_caused settings lane v before after NoMemory answer cause told = subst (λ (r : Reply). HasCause settings lane before after r) (sym told) tt
+put_caused settings lane v before after (Failed m f) answer cause told = subst (λ (r : Reply). IsCaused settings lane before after r) (sym told) cause.1
+put_caused settings lane v before after NoMemory answer cause told = subst (λ (r : Reply). IsCaused settings lane before after r) (sym told) tt
 put_caused settings lane v before after _ answer cause told = absurd told

@@ -24,7 +24,7 @@ use Rattle.hay_reply.specs.declared.Reply.{Reply}
 use Rattle.hay_reply.specs.declared.Reply.TheVariants as reply
 use Rattle.hay_script.specs.declared.Command.TheVariants as command
 use Rattle.hay_url.specs.declared.Url.{Url}
-use Rattle.hay_reader.specs.Causes.{ArmRises, CameUp, EachPair, HasCause, IsArm, Passes}
+use Rattle.hay_reader.specs.Causes.{ArmRises, CameUp, EachPair, HasArmCause, IsArm, Passes}
 use Rattle.hay_reader.specs.Shown.{Shows}
 use Rattle.hay_reader.specs.declared.causes.PassedReplica.{PassedReplica}
 use Rattle.hay_cluster.specs.Causes.{CauseCameUp, Counts}
@@ -137,7 +137,7 @@ module _ {D P A : Type 0} (files : D → Files) (Tells : Type 0) (faults fuses :
 -- EVERY REPLICA WAS PASSED OVER
 
 passed_each : (settings : Settings) (k t : Known) (tag : CoreTag) (v before after : ℕ) (js : List ℕ) (over : List PassedReplica) → before ≡ arm_count k tag.lane → after ≡ arm_count t tag.lane
-    → map (λ p. p.replica) over ≡ js → AllByRecursion (λ p. HasCause before after p.cause) over → AllByRecursion (λ p. IsArm p.cause) over
+    → map (λ p. p.replica) over ≡ js → AllByRecursion (λ p. HasArmCause before after p.cause) over → AllByRecursion (λ p. IsArm p.cause) over
     → AllZip (λ j passed. (passed.machine ≡ machine_of settings v j) × legal.HasCause settings k t tag v j passed.cause) js (map (passed_at settings v) over)
 passed_each settings k t tag v before after [] [] old new order causes arms = tt
 passed_each settings k t tag v before after (j ∷ js) [] old new order causes arms = absurd cc
@@ -147,7 +147,7 @@ passed_each settings k t tag v before after (j ∷ js) (p ∷ over) old new orde
     let rest : map (λ q. q.replica) over ≡ js = cc in
     ((ap (machine_of settings v) first, one p.cause causes.0 arms.0), passed_each settings k t tag v before after js over old new rest causes.1 arms.1)
   where
-    one : (cause : Cause) → HasCause before after cause → IsArm cause → legal.HasCause settings k t tag v j cause
+    one : (cause : Cause) → HasArmCause before after cause → IsArm cause → legal.HasCause settings k t tag v j cause
     one (Arm f) came arm = subst (λ n. CameUp n f (arm_count t tag.lane)) old (subst (λ n. CameUp before f n) new came.0)
     one (Disk f) came arm = absurd came
     one (Damage at) came arm = absurd arm
@@ -180,12 +180,12 @@ is_unreadable settings k t tag start pair v p d before after row over long home 
 }
 
 -- an arm's failure is a cause only where its count rose
-pub causes_told : (settings : Settings) (lane v : ℕ) (before after : Counts) (over : List PassedReplica) → AllByRecursion (λ p. HasCause (slice_index before.arms lane) (slice_index after.arms lane) p.cause) over
+pub causes_told : (settings : Settings) (lane v : ℕ) (before after : Counts) (over : List PassedReplica) → AllByRecursion (λ p. HasArmCause (slice_index before.arms lane) (slice_index after.arms lane) p.cause) over
     → AllByRecursion (λ passed. CauseCameUp settings lane v before after passed.machine passed.cause) (map (passed_at settings v) over)
 causes_told settings lane v before after [] each = tt
 causes_told settings lane v before after (p ∷ over) each = (one p.cause each.0, causes_told settings lane v before after over each.1)
   where
-    one : (cause : Cause) → HasCause (slice_index before.arms lane) (slice_index after.arms lane) cause → CauseCameUp settings lane v before after (machine_of settings v p.replica) cause
+    one : (cause : Cause) → HasArmCause (slice_index before.arms lane) (slice_index after.arms lane) cause → CauseCameUp settings lane v before after (machine_of settings v p.replica) cause
     one (Arm f) came = came.0
     one (Disk f) came = absurd came
     one (Damage at) came = tt

@@ -1,8 +1,9 @@
 -- Arms that are sure stay so, and no reply blames them.
-use Rattle.std.proofs.Common.{◌≡◌, ℕ, zero, suc, ◌+◌, Bool, true, List, [], ◌∷◌, length, map, Some, sym, ap, subst, ◌∙◌, inl, inr, arith}
+use Rattle.std.proofs.Common.{◌≡◌, ℕ, zero, suc, ◌+◌, Bool, List, [], ◌∷◌, length, map, Some, refl, sym, subst, ◌∙◌, inl, inr, arith}
 use Rattle.std.proofs.lemmas.List.{get_or_past}
 use Rattle.std.specs.Prelude.{slice_get, slice_index, slice_set}
 use Rattle.std.specs.List.{AllByRecursion}
+use Rattle.hay_disk.specs.Counts.{StaysSure}
 use Rattle.hay_needle.specs.declared.settings.Settings.{Settings}
 use Rattle.hay_reply.specs.declared.Cause.{Cause}
 use Rattle.hay_reply.specs.declared.Cause.TheVariants.{Arm, Disk, Damage}
@@ -14,27 +15,31 @@ use Rattle.hay_reader.specs.Shown.{NoArm}
 use Rattle.hay_reader.specs.declared.causes.PassedReplica.{PassedReplica}
 use Rattle.hay_reader.specs.declared.seat.ReadReply.{ReadReply}
 use Rattle.hay_reader.specs.declared.seat.ReadReply.TheVariants as read
-use Rattle.hay_cluster.specs.Causes.{BlamesNoArm, CauseCameUp, Counts, HasCause, IsNoArm, StaySure}
+use Rattle.hay_cluster.specs.Causes.{BlamesNoArm, CauseCameUp, Counts, IsCaused, IsNoArm, StaySure}
 use Rattle.hay_cluster.specs.Reads.{PassesNoArm, passed_at}
 
 -- THE ARMS
 
-module _ {A : Type 0} (is_sure : A → Bool) where
-  each_sure : (xs : List A) → StaySure is_sure xs xs
+module _ {A : Type 0} (is_sure : A → Bool) (faults : A → ℕ) where
+  -- where the one is sure, so is the other, with the same count
+  abbrev Stays : A → A → Type 0
+  Stays x x' = StaysSure (is_sure x) (is_sure x') (faults x) (faults x')
+
+  each_sure : (xs : List A) → StaySure is_sure faults xs xs
   each_sure [] = tt
-  each_sure (x ∷ xs) = ((λ sure. sure), each_sure xs)
+  each_sure (x ∷ xs) = ((λ sure. (sure, refl)), each_sure xs)
 
-  pub same_sure : (xs ys : List A) → ys ≡ xs → StaySure is_sure xs ys
-  same_sure xs ys same = subst (λ (zs : List A). StaySure is_sure xs zs) (sym same) (each_sure xs)
+  pub same_sure : (xs ys : List A) → ys ≡ xs → StaySure is_sure faults xs ys
+  same_sure xs ys same = subst (λ (zs : List A). StaySure is_sure faults xs zs) (sym same) (each_sure xs)
 
-  set_sure : (xs : List A) (i : ℕ) (x x' : A) → slice_get xs i ≡ Some x → (is_sure x ≡ true → is_sure x' ≡ true) → StaySure is_sure xs (slice_set xs i x')
+  set_sure : (xs : List A) (i : ℕ) (x x' : A) → slice_get xs i ≡ Some x → Stays x x' → StaySure is_sure faults xs (slice_set xs i x')
   set_sure [] i x x' at stays = absurd cc
-  set_sure (y ∷ xs) zero x x' at stays = let same : y ≡ x = cc in ((λ sure. stays (ap is_sure (sym same) ∙ sure)), each_sure xs)
-  set_sure (y ∷ xs) (suc i) x x' at stays = ((λ sure. sure), set_sure xs i x x' at stays)
+  set_sure (y ∷ xs) zero x x' at stays = let same : x ≡ y = cc in (subst (λ z. Stays z x') same stays, each_sure xs)
+  set_sure (y ∷ xs) (suc i) x x' at stays = ((λ sure. (sure, refl)), set_sure xs i x x' at stays)
 
   -- one arm was used
-  pub used_sure : (old xs : List A) (i : ℕ) (x x' : A) → xs ≡ old → slice_get xs i ≡ Some x → (is_sure x ≡ true → is_sure x' ≡ true) → StaySure is_sure old (slice_set xs i x')
-  used_sure old xs i x x' same at stays = subst (λ (ys : List A). StaySure is_sure ys (slice_set xs i x')) same (set_sure xs i x x' at stays)
+  pub used_sure : (old xs : List A) (i : ℕ) (x x' : A) → xs ≡ old → slice_get xs i ≡ Some x → Stays x x' → StaySure is_sure faults old (slice_set xs i x')
+  used_sure old xs i x x' same at stays = subst (λ (ys : List A). StaySure is_sure faults ys (slice_set xs i x')) same (set_sure xs i x x' at stays)
 
 -- WHAT A READ TELLS
 
@@ -66,10 +71,10 @@ unreadable_told settings v front rows told over is none = λ v' front' rows' cau
 -- WHAT ANY OTHER CALL TELLS
 
 -- a cause that any lane may have is no arm
-pub unblamed : (settings : Settings) (before after : Counts) (said : Reply) → ((lane : ℕ) → HasCause settings lane before after said) → BlamesNoArm said
+pub unblamed : (settings : Settings) (before after : Counts) (said : Reply) → ((lane : ℕ) → IsCaused settings lane before after said) → BlamesNoArm said
 unblamed settings before after said causes = λ v front rows told is.
     let lane = length before.arms + length after.arms in
-    go v lane (get_or_past after.arms lane 0 (omega arith)) told (subst (λ (r : Reply). HasCause settings lane before after r) is (causes lane))
+    go v lane (get_or_past after.arms lane 0 (omega arith)) told (subst (λ (r : Reply). IsCaused settings lane before after r) is (causes lane))
   where
     one : (v lane m : ℕ) → slice_index after.arms lane ≡ 0 → (cause : Cause) → CauseCameUp settings lane v before after m cause → IsNoArm cause
     one v lane m none (Arm f) came = elim (came.0) [ inl rose ↦ (let low = came.1 in absurd (omega (arith, none, rose, low))) | inr end ↦ (let low = came.1 in absurd (omega (arith, none, end, low))) ]

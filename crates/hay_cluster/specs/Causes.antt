@@ -1,8 +1,8 @@
 -- What an answer and a fault say of the counts of faults, from before the call to behind it.
-use Rattle.std.specs.Prelude.{◌≡◌, ◌<◌, ℕ, Bool, true, List, Some, slice_index}
+use Rattle.std.specs.Prelude.{◌≡◌, ◌<◌, ℕ, Bool, List, Some, slice_index}
 use Rattle.std.specs.List.{AllByRecursion, AllZip}
 use Rattle.hay_needle.specs.declared.settings.Settings.{Settings}
-use Rattle.hay_disk.specs.Counts.{Rose}
+use Rattle.hay_disk.specs.Counts.{Rose, StaysSure}
 use Rattle.hay_reply.specs.declared.Cause.{Cause}
 use Rattle.hay_reply.specs.declared.Cause.TheVariants.{Arm, Disk, Damage}
 use Rattle.hay_reply.specs.declared.Passed.{Passed}
@@ -37,40 +37,40 @@ CauseCameUp settings lane v before after m (Disk count) = RoseAt settings v m be
 CauseCameUp settings lane v before after m (Damage at) = Unit {0}
 
 -- A reply tells of a failure only where the count that it prints rose.
-abbrev pub HasCause : Settings → ℕ → Counts → Counts → Reply → Type 0
-HasCause settings lane before after (reply.Failed v m count) = RoseAt settings v m before.disks after.disks count
-HasCause settings lane before after (reply.FailedDir count) = RoseIn 0 before.disks after.disks count
-HasCause settings lane before after (reply.Unreadable v front rows causes) =
+abbrev pub IsCaused : Settings → ℕ → Counts → Counts → Reply → Type 0
+IsCaused settings lane before after (reply.Failed v m count) = RoseAt settings v m before.disks after.disks count
+IsCaused settings lane before after (reply.FailedDir count) = RoseIn 0 before.disks after.disks count
+IsCaused settings lane before after (reply.Unreadable v front rows causes) =
     AllByRecursion (λ passed. CauseCameUp settings lane v before after passed.machine passed.cause) causes
-HasCause settings lane before after (reply.Stored v p d c) = Unit {0}
-HasCause settings lane before after (reply.Deleted v p d) = Unit {0}
-HasCause settings lane before after (reply.Photo v m p d bytes) = Unit {0}
-HasCause settings lane before after (reply.Gone v m p d) = Unit {0}
-HasCause settings lane before after (reply.Absent v p d) = Unit {0}
-HasCause settings lane before after (reply.WrongCookie v m p d) = Unit {0}
-HasCause settings lane before after (reply.Unknown d) = Unit {0}
-HasCause settings lane before after (reply.Moved v d) = Unit {0}
-HasCause settings lane before after (reply.Url d url) = Unit {0}
-HasCause settings lane before after (reply.Full tries) = Unit {0}
-HasCause settings lane before after (reply.ReadOnly tries) = Unit {0}
-HasCause settings lane before after reply.ReadOnlyDir = Unit {0}
-HasCause settings lane before after (reply.Damaged v m at) = Unit {0}
-HasCause settings lane before after (reply.Flushed v m n) = Unit {0}
-HasCause settings lane before after (reply.Begun v m g) = Unit {0}
-HasCause settings lane before after (reply.Stepped v m n) = Unit {0}
-HasCause settings lane before after (reply.Compacted v m g) = Unit {0}
-HasCause settings lane before after (reply.Busy v m g) = Unit {0}
-HasCause settings lane before after (reply.Idle v m) = Unit {0}
-HasCause settings lane before after (reply.Worn v m) = Unit {0}
-HasCause settings lane before after (reply.Drained m) = Unit {0}
-HasCause settings lane before after (reply.Undrained m) = Unit {0}
-HasCause settings lane before after (reply.Fused v m n) = Unit {0}
-HasCause settings lane before after (reply.FusedDir n) = Unit {0}
-HasCause settings lane before after reply.Nowhere = Unit {0}
-HasCause settings lane before after (reply.Restarted d) = Unit {0}
-HasCause settings lane before after reply.BadLine = Unit {0}
-HasCause settings lane before after reply.Unbuilt = Unit {0}
-HasCause settings lane before after reply.NoMem = Unit {0}
+IsCaused settings lane before after (reply.Stored v p d c) = Unit {0}
+IsCaused settings lane before after (reply.Deleted v p d) = Unit {0}
+IsCaused settings lane before after (reply.Photo v m p d bytes) = Unit {0}
+IsCaused settings lane before after (reply.Gone v m p d) = Unit {0}
+IsCaused settings lane before after (reply.Absent v p d) = Unit {0}
+IsCaused settings lane before after (reply.WrongCookie v m p d) = Unit {0}
+IsCaused settings lane before after (reply.Unknown d) = Unit {0}
+IsCaused settings lane before after (reply.Moved v d) = Unit {0}
+IsCaused settings lane before after (reply.Url d url) = Unit {0}
+IsCaused settings lane before after (reply.Full tries) = Unit {0}
+IsCaused settings lane before after (reply.ReadOnly tries) = Unit {0}
+IsCaused settings lane before after reply.ReadOnlyDir = Unit {0}
+IsCaused settings lane before after (reply.Damaged v m at) = Unit {0}
+IsCaused settings lane before after (reply.Flushed v m n) = Unit {0}
+IsCaused settings lane before after (reply.Begun v m g) = Unit {0}
+IsCaused settings lane before after (reply.Stepped v m n) = Unit {0}
+IsCaused settings lane before after (reply.Compacted v m g) = Unit {0}
+IsCaused settings lane before after (reply.Busy v m g) = Unit {0}
+IsCaused settings lane before after (reply.Idle v m) = Unit {0}
+IsCaused settings lane before after (reply.Worn v m) = Unit {0}
+IsCaused settings lane before after (reply.Drained m) = Unit {0}
+IsCaused settings lane before after (reply.Undrained m) = Unit {0}
+IsCaused settings lane before after (reply.Fused v m n) = Unit {0}
+IsCaused settings lane before after (reply.FusedDir n) = Unit {0}
+IsCaused settings lane before after reply.Nowhere = Unit {0}
+IsCaused settings lane before after (reply.Restarted d) = Unit {0}
+IsCaused settings lane before after reply.BadLine = Unit {0}
+IsCaused settings lane before after reply.Unbuilt = Unit {0}
+IsCaused settings lane before after reply.NoMem = Unit {0}
 
 -- So does an opening. The shelf has no part in what is done to disks.
 abbrev pub HasFaultCause : Settings → List ℕ → List ℕ → ClusterFault → Type 0
@@ -148,6 +148,6 @@ IsNoArm (Damage at) = Unit {0}
 abbrev pub BlamesNoArm : Reply → Type 0
 BlamesNoArm said = (v front rows : ℕ) (causes : List Passed) → said ≡ reply.Unreadable v front rows causes → AllByRecursion (λ passed. IsNoArm passed.cause) causes
 
--- each arm that was sure is still
-abbrev pub StaySure : {A : Type 0} → (A → Bool) → List A → List A → Type 0
-StaySure is_sure old new = AllZip (λ a b. is_sure a ≡ true → is_sure b ≡ true) old new
+-- each arm that was sure is still, and its count is as it was
+abbrev pub StaySure : {A : Type 0} → (A → Bool) → (A → ℕ) → List A → List A → Type 0
+StaySure is_sure faults old new = AllZip (λ a b. StaysSure (is_sure a) (is_sure b) (faults a) (faults b)) old new

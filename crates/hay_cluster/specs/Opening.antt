@@ -4,7 +4,7 @@ use Rattle.std.specs.List.{AllZip}
 use Rattle.hay_needle.specs.declared.settings.Settings.{Settings}
 use Rattle.hay_reply.specs.declared.Note.{Note}
 use Rattle.hay_disk.specs.Counts.{Rose}
-use Rattle.hay_disk.specs.Disk.{Files, IsFree, IsSolid}
+use Rattle.hay_disk.specs.Disk.{Files, IsFree, IsImage, IsSolid}
 use Rattle.hay_open.specs.Damage.{IsOpeningDamage}
 use Rattle.hay_dirfile.specs.Journal.{IsDamagedJournal}
 use Rattle.hay_legal.specs.declared.known.DirKnown.{DirKnown}
@@ -57,13 +57,22 @@ pub record MovesVolume {D P : Type 0} (DiskTells : Type 0) (files : D → Files)
   pub left : DiskTells → (k : VolumeKnown) → Stopped files old k → IsLeft files Tells k new
   pub kept : DiskTells → (j : ℕ) (r r' : Copy D) → At old.replicas j r → At new.replicas j r' → KeepsDisk files r r'
 
+-- a replica was not damaged, and is not as it now is
+abbrev pub StaysUndamaged : {D : Type 0} → (D → Files) → Copy D → Copy D → Type 0
+StaysUndamaged files r r' =
+    ((file at : ℕ) → IsOpeningDamage r.sup (contents_of files r.disk) file at → ⊥)
+    × ((file at : ℕ) → IsOpeningDamage r.sup (contents_of files r'.disk) file at → ⊥)
+
+abbrev pub EachStaysUndamaged : {D P : Type 0} → (D → Files) → Volume D P → Volume D P → Type 0
+EachStaysUndamaged {D} files old new = (j : ℕ) (r r' : Copy D) → At old.replicas j r → At new.replicas j r' → StaysUndamaged files r r'
+
 -- the volume was opened, with these notes
 pub record OpensVolume {D P : Type 0} (DiskTells : Type 0) (files : D → Files) (Tells : Type 0) (faults fuses : D → ℕ) (old new : Volume D P) (notes : List Note) : Type 0 where
   pub moves : MovesVolume DiskTells files Tells faults fuses old new
   pub up : IsOpen new
   pub first : DiskTells → (k : VolumeKnown) → IsFirst files old k → (notes ≡ []) × logical.Stands files Tells new k
   pub reopened : DiskTells → (k : VolumeKnown) → Stopped files old k → IsReopened files Tells k notes new
-  pub undamaged : DiskTells → (j : ℕ) (r : Copy D) → At old.replicas j r → (file at : ℕ) → IsOpeningDamage r.sup (contents_of files r.disk) file at → ⊥
+  pub undamaged : DiskTells → EachStaysUndamaged files old new
 
 -- Volume v was not opened, by one of its disks.
 pub record IsRefusedBy {D P : Type 0} (DiskTells : Type 0) (files : D → Files) (faults : D → ℕ) (settings : Settings) (v : ℕ) (old new : Volume D P) (fault : ClusterFault) : Type 0 where
@@ -75,7 +84,7 @@ pub record IsRefusedBy {D P : Type 0} (DiskTells : Type 0) (files : D → Files)
 abbrev pub RefusesVolume : {D P : Type 0} → Type 0 → (D → Files) → (D → ℕ) → Settings → ℕ → Volume D P → Volume D P → ClusterFault → Type 0
 RefusesVolume DiskTells files faults settings v old new fault = (fault ≡ NoMemory) ⊎ IsRefusedBy DiskTells files faults settings v old new fault
 
--- one of these volumes was not opened
+-- one of these volumes was not opened, and those before it were
 pub record IsRefusedIn {D P : Type 0} (DiskTells : Type 0) (files : D → Files) (faults : D → ℕ) (settings : Settings) (old new : List (Volume D P)) (fault : ClusterFault) : Type 0 where
   pub volume : ℕ
   pub before : Volume D P
@@ -83,6 +92,7 @@ pub record IsRefusedIn {D P : Type 0} (DiskTells : Type 0) (files : D → Files)
   pub was : At old volume before
   pub is : At new volume after
   pub refused : IsRefusedBy DiskTells files faults settings volume before after fault
+  pub earlier : DiskTells → (v : ℕ) (x y : Volume D P) → v < volume → At old v x → At new v y → EachStaysUndamaged files x y
 
 abbrev pub RefusesVolumes : {D P : Type 0} → Type 0 → (D → Files) → (D → ℕ) → Settings → List (Volume D P) → List (Volume D P) → ClusterFault → Type 0
 RefusesVolumes DiskTells files faults settings old new fault = (fault ≡ NoMemory) ⊎ IsRefusedIn DiskTells files faults settings old new fault
@@ -114,7 +124,7 @@ pub record FillsVolume {D P : Type 0} (old new : Volume D P) (disks : List D) : 
 -- THE DIRECTORY
 
 -- it is closed, and all of its file is on the disk
-pub record IsAtRest {D : Type 0} (DiskTells : Type 0) (files : D → Files) (state : State D) : Type 0 where
+pub record IsResting {D : Type 0} (DiskTells : Type 0) (files : D → Files) (state : State D) : Type 0 where
   pub closed : directory.IsClosed state
   pub solid : DiskTells → IsSolid (files state.disk 0)
   pub free : DiskTells → IsFree (files state.disk 0)
@@ -124,7 +134,7 @@ pub record StopsDirectory {D : Type 0} (DiskTells : Type 0) (files : D → Files
   pub settings : new.settings ≡ old.settings
   pub same_faults : faults new.disk ≡ faults old.disk
   pub same_fuses : fuses new.disk ≡ fuses old.disk
-  pub rests : IsAtRest DiskTells files new
+  pub rests : IsResting DiskTells files new
   pub stopped : DiskTells → (known : DirKnown) (drained : List Bool) → directory.Stands files old known drained → directory.Stopped files new known
   pub long : length old.drained ≡ (old.settings).machines
 
@@ -134,6 +144,8 @@ pub record MovesDirectory {D : Type 0} (DiskTells : Type 0) (files : D → Files
   pub later : faults old.disk ≤ faults new.disk
   pub fuses_stay : fuses new.disk ≡ fuses old.disk
   pub same : DiskTells → 0 < length (files old.disk 0).now → files new.disk ≡ files old.disk
+  pub nothing : DiskTells → (files old.disk 0).now ≡ [] → (image : ℕ → List ℕ) (rows : List HomeRow) → IsImage (files new.disk 0) (image 0) →
+      OpensRows old.settings image rows → rows ≡ []
   pub left : DiskTells → (known : DirKnown) → directory.Stopped files old known → directory.Stopped files new known
       ⊎ ((kept : Bool) × directory.Stands files new (directory_with (known.rows ++ kept_row known.pending kept)) (replicate (old.settings).machines false))
 
@@ -145,6 +157,7 @@ pub record OpensDirectory {D : Type 0} (DiskTells : Type 0) (files : D → Files
   pub reopened : DiskTells → (known : DirKnown) → directory.Stopped files old known → (kept : Bool) × (notes ≡ row_notes known.pending kept)
       × directory.Stands files new (directory_with (known.rows ++ kept_row known.pending kept)) (replicate (old.settings).machines false)
   pub undamaged : DiskTells → 0 < length (files old.disk 0).now → (at : ℕ) → IsDamagedJournal (journal_super old.settings) (files old.disk 0).now at → ⊥
+  pub undamaged_now : DiskTells → (at : ℕ) → IsDamagedJournal (journal_super old.settings) (files new.disk 0).now at → ⊥
 
 -- why the Directory was not opened
 abbrev pub RefusesDirectory : {D : Type 0} → Type 0 → (D → Files) → (D → ℕ) → State D → State D → ClusterFault → Type 0
@@ -165,9 +178,11 @@ pub record OpensParts {D P : Type 0} (DiskTells : Type 0) (files : D → Files) 
   pub volumes : Gathers (OpensVolume DiskTells files Tells faults fuses) olds news of_volumes
   pub directory : OpensDirectory DiskTells files old new of_directory
 
+-- the Directory was not opened; or it was, and then one of the volumes was not
 abbrev pub RefusesParts : {D P : Type 0} → Type 0 → (D → Files) → (D → ℕ) → Settings → State D → State D → List (Volume D P) → List (Volume D P) → ClusterFault → Type 0
 RefusesParts DiskTells files faults settings old new olds news fault =
-    RefusesDirectory DiskTells files faults old new fault ⊎ RefusesVolumes DiskTells files faults settings olds news fault
+    RefusesDirectory DiskTells files faults old new fault
+    ⊎ ((notes : List Note) × OpensDirectory DiskTells files old new notes × RefusesVolumes DiskTells files faults settings olds news fault)
 
 -- Behind a stop the volumes, of which the first has number v, stand for an outcome of a restart.
 pub record VolumesReopened {D P : Type 0} (files : D → Files) (Tells : Type 0) (settings : Settings) (v : ℕ) (known : List VolumeKnown) (notes : List Note) (volumes : List (Volume D P)) : Type 0 where

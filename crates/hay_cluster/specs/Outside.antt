@@ -1,11 +1,13 @@
 -- What of a shelf a store stands on.
 use Rattle.std.specs.Prelude.{◌≡◌, ◌⊎◌, ◌≤◌, ◌<◌, ℕ, List, []}
 use Rattle.hay_needle.specs.declared.settings.Settings.{Settings}
+use Rattle.hay_disk.specs.Disk.{MayLeave}
 use Rattle.hay_disk.specs.Shelf.{HeldDisk, HeldArm}
 use Rattle.hay_mount.specs.Mounts.{LeavesAsRead}
 use Rattle.hay_legal.specs.declared.known.HomeRow.{HomeRow}
 use Rattle.hay_legal.specs.Known.{disk_count, slot_of}
 use Rattle.hay_legal.specs.Stands.{Contents, Found, Outside}
+use Rattle.hay_legal.specs.Statuses.{FindsNothing}
 use Rattle.hay_open.specs.Damage.{IsOpeningDamage}
 use Rattle.hay_dirfile.specs.Journal.{IsDamagedJournal}
 use Rattle.hay_directory.specs.Rows.{OpensRows, journal_super}
@@ -29,9 +31,14 @@ read_of held file = (held.files file).now
 abbrev pub IsVoid : Contents → Type 0
 IsVoid contents = contents 0 ≡ []
 
+-- The disk was void, and whatever a stop leaves of it, an opening finds nothing in this slot.
+pub record WasVoid (settings : Settings) (slot : ℕ) (old new : HeldDisk) : Type 0 where
+  pub void : IsVoid (read_of old)
+  pub nothing : (image : Contents) → MayLeave new.files image → FindsNothing (IsReplica settings) (OpensRows settings) settings slot image
+
 -- What a refused opening leaves of a slot's disk: it was void; it is as it was; or a stop leaves what reads gave of it.
-abbrev pub IsKept : HeldDisk → HeldDisk → Type 0
-IsKept old new = IsVoid (read_of old) ⊎ (new.files ≡ old.files) ⊎ LeavesAsRead old.files new.files
+abbrev pub IsKept : Settings → ℕ → HeldDisk → HeldDisk → Type 0
+IsKept settings slot old new = WasVoid settings slot old new ⊎ (new.files ≡ old.files) ⊎ LeavesAsRead old.files new.files
 
 -- The counts of a slot's disk behind an opening: its fuses are those from before.
 pub record CountsOn (old : HeldDisk) (faults fuses : ℕ) : Type 0 where
@@ -48,13 +55,19 @@ pub record IsNotWhole (settings : Settings) (slot : ℕ) (contents : Contents) :
   pub directory : slot ≡ 0 → (rows : List HomeRow) → OpensRows settings contents rows → ⊥
   pub replica : (v j : ℕ) → v < settings.volumes → j < settings.replicas → slot ≡ slot_of settings v j → (found : Found) → IsReplica settings v j contents found → ⊥
 
+-- Nothing that an opening reads of the disks in lower slots is damaged, but for void ones.
+abbrev pub IsUndamagedBelow : Settings → ℕ → (ℕ → Contents) → Type 0
+IsUndamagedBelow settings end contents =
+    (slot file at : ℕ) → slot < end → (IsVoid (contents slot) → ⊥) → IsFirstDamage settings slot file at (contents slot) → ⊥
+
 -- Of the disk in this slot, which is neither void nor of these settings, this is the first place that is not of the format.
+-- It is the lowest such slot.
 pub record IsDamagedDisk (settings : Settings) (contents : ℕ → Contents) (slot file at : ℕ) : Type 0 where
   pub within : slot < disk_count settings
   pub not_whole : IsNotWhole settings slot (contents slot)
   pub place : IsFirstDamage settings slot file at (contents slot)
+  pub lowest : IsUndamagedBelow settings slot contents
 
 -- nothing that an opening reads of a disk that is not void is damaged
 abbrev pub IsUndamaged : Settings → (ℕ → Contents) → Type 0
-IsUndamaged settings contents =
-    (slot file at : ℕ) → slot < disk_count settings → (IsVoid (contents slot) → ⊥) → IsFirstDamage settings slot file at (contents slot) → ⊥
+IsUndamaged settings contents = IsUndamagedBelow settings (disk_count settings) contents

@@ -12,7 +12,7 @@ use Rattle.hay_reply.specs.declared.Reply.TheVariants.{Stored, Failed, FailedDir
 use Rattle.hay_core.specs.declared.entry.CoreTag.{CoreTag}
 use Rattle.hay_legal.specs.declared.known.Known.{Known}
 use Rattle.hay_legal.specs.Known.{Leaves, all_tries, refusal_of, replica_on, volume_at}
-use Rattle.hay_legal.specs.Plain.{RoseTo, as_closed, change_volume, first_machine, frozen_with, lacks, put_entry, with_put}
+use Rattle.hay_legal.specs.Plain.{RoseTo, as_closed, change_volume, first_machine, frozen_with, wants_room, put_entry, with_put}
 use Rattle.hay_directory.specs.declared.fault.DirFault.{DirFault}
 use Rattle.hay_directory.specs.declared.fault.DirFault.TheVariants as settling
 use Rattle.hay_logical.specs.declared.fault.LogicalFault.{LogicalFault}
@@ -29,7 +29,7 @@ IsTried settings k pair size (Nobody refused) = map (refusal_of settings k size)
 
 -- how a put is answered that all its tries refuse so
 abbrev pub IsRefusal : List Refused → Reply → Type 0
-IsRefusal refused (Full tries) = (tries ≡ refused) × (list_any lacks refused ≡ true)
+IsRefusal refused (Full tries) = (tries ≡ refused) × (list_any wants_room refused ≡ true)
 IsRefusal refused (ReadOnly closed) = map as_closed closed ≡ refused
 IsRefusal refused NoMem = Unit {0}
 IsRefusal refused _ = ⊥

@@ -4,7 +4,7 @@ ghost use Rattle.hay_script.specs.declared.Command.TheVariants as asks;
 ghost use Rattle.hay_core.specs.declared.entry.CoreTag.{CoreTag};
 ghost use Rattle.hay_legal.specs.declared.known.Known.{Known};
 ghost use Rattle.hay_legal.specs.Known.{NoneFalls};
-ghost use Rattle.hay_cluster.specs.Causes.{HasCause, RefusesDelete};
+ghost use Rattle.hay_cluster.specs.Causes.{IsCaused, RefusesDelete};
 ghost use Rattle.hay_cluster.specs.Changes.{IsDeleteReply, IsReadOnly};
 ghost use Rattle.hay_cluster.specs.State.{Answered, Stands};
 ghost use Rattle.hay_cluster.specs.Store.{IsUp, disks_of};
@@ -28,7 +28,7 @@ impl<D: Disk, A: Arm<D::Piece>> Cluster<D, A> {
         requires up { IsUp self.old }
         ensures legal { D.Tells → (k : Known) → Stands D.files D.Piece.Tells D.fault_count D.fuse_count A.fault_count self.old k →
             Answered D.files D.Piece.Tells D.fault_count D.fuse_count A.fault_count k tag (asks.Del pair) result self.new }
-        ensures causes { (lane : ℕ) → HasCause self.old.settings lane
+        ensures causes { (lane : ℕ) → IsCaused self.old.settings lane
             (record { disks = map D.fault_count (disks_of self.old); arms = map A.fault_count self.old.arms })
             (record { disks = map D.fault_count (disks_of self.new); arms = map A.fault_count self.new.arms }) result }
         ensures counts { NoneFalls (map D.fault_count (disks_of self.old)) (map D.fault_count (disks_of self.new)) }
@@ -57,7 +57,7 @@ impl<D: Disk, A: Arm<D::Piece>> Cluster<D, A> {
         requires up { IsUp self.old }
         ensures legal { D.Tells → (k : Known) → Stands D.files D.Piece.Tells D.fault_count D.fuse_count A.fault_count self.old k →
             Answered D.files D.Piece.Tells D.fault_count D.fuse_count A.fault_count k tag (asks.Url pair) result self.new }
-        ensures causes { (lane : ℕ) → HasCause self.old.settings lane
+        ensures causes { (lane : ℕ) → IsCaused self.old.settings lane
             (record { disks = map D.fault_count (disks_of self.old); arms = map A.fault_count self.old.arms })
             (record { disks = map D.fault_count (disks_of self.new); arms = map A.fault_count self.new.arms }) result }
         ensures counts { NoneFalls (map D.fault_count (disks_of self.old)) (map D.fault_count (disks_of self.new)) }
@@ -86,7 +86,7 @@ impl<D: Disk, A: Arm<D::Piece>> Cluster<D, A> {
         requires up { IsUp self.old }
         ensures legal { D.Tells → (k : Known) (tag : CoreTag) → Stands D.files D.Piece.Tells D.fault_count D.fuse_count A.fault_count self.old k →
             Answered D.files D.Piece.Tells D.fault_count D.fuse_count A.fault_count k tag (asks.Drain machine) result self.new }
-        ensures causes { (lane : ℕ) → HasCause self.old.settings lane
+        ensures causes { (lane : ℕ) → IsCaused self.old.settings lane
             (record { disks = map D.fault_count (disks_of self.old); arms = map A.fault_count self.old.arms })
             (record { disks = map D.fault_count (disks_of self.new); arms = map A.fault_count self.new.arms }) result }
         ensures counts { NoneFalls (map D.fault_count (disks_of self.old)) (map D.fault_count (disks_of self.new)) }
@@ -106,7 +106,7 @@ impl<D: Disk, A: Arm<D::Piece>> Cluster<D, A> {
         requires up { IsUp self.old }
         ensures legal { D.Tells → (k : Known) (tag : CoreTag) → Stands D.files D.Piece.Tells D.fault_count D.fuse_count A.fault_count self.old k →
             Answered D.files D.Piece.Tells D.fault_count D.fuse_count A.fault_count k tag (asks.Undrain machine) result self.new }
-        ensures causes { (lane : ℕ) → HasCause self.old.settings lane
+        ensures causes { (lane : ℕ) → IsCaused self.old.settings lane
             (record { disks = map D.fault_count (disks_of self.old); arms = map A.fault_count self.old.arms })
             (record { disks = map D.fault_count (disks_of self.new); arms = map A.fault_count self.new.arms }) result }
         ensures counts { NoneFalls (map D.fault_count (disks_of self.old)) (map D.fault_count (disks_of self.new)) }
@@ -126,7 +126,7 @@ impl<D: Disk, A: Arm<D::Piece>> Cluster<D, A> {
         requires up { IsUp self.old }
         ensures legal { D.Tells → (k : Known) (tag : CoreTag) → Stands D.files D.Piece.Tells D.fault_count D.fuse_count A.fault_count self.old k →
             Answered D.files D.Piece.Tells D.fault_count D.fuse_count A.fault_count k tag (asks.Fuse volume machine calls) result self.new }
-        ensures causes { (lane : ℕ) → HasCause self.old.settings lane
+        ensures causes { (lane : ℕ) → IsCaused self.old.settings lane
             (record { disks = map D.fault_count (disks_of self.old); arms = map A.fault_count self.old.arms })
             (record { disks = map D.fault_count (disks_of self.new); arms = map A.fault_count self.new.arms }) result }
         ensures counts { NoneFalls (map D.fault_count (disks_of self.old)) (map D.fault_count (disks_of self.new)) }
@@ -150,7 +150,7 @@ impl<D: Disk, A: Arm<D::Piece>> Cluster<D, A> {
         requires up { IsUp self.old }
         ensures legal { D.Tells → (k : Known) (tag : CoreTag) → Stands D.files D.Piece.Tells D.fault_count D.fuse_count A.fault_count self.old k →
             Answered D.files D.Piece.Tells D.fault_count D.fuse_count A.fault_count k tag (asks.FuseDir calls) result self.new }
-        ensures causes { (lane : ℕ) → HasCause self.old.settings lane
+        ensures causes { (lane : ℕ) → IsCaused self.old.settings lane
             (record { disks = map D.fault_count (disks_of self.old); arms = map A.fault_count self.old.arms })
             (record { disks = map D.fault_count (disks_of self.new); arms = map A.fault_count self.new.arms }) result }
         ensures counts { NoneFalls (map D.fault_count (disks_of self.old)) (map D.fault_count (disks_of self.new)) }

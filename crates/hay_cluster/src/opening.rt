@@ -5,7 +5,7 @@ ghost use Rattle.std.specs.Vec.{vec_capacity};
 ghost use Rattle.hay_disk.specs.Counts.{Rose};
 ghost use Rattle.hay_mount.specs.Mounts.{AreIn, AreOut, AreArmsIn, AreArmsOut, InOrder, IsArmBack, IsMountedArm, IsMountedDisk, IsPutBack, SameFrom};
 ghost use Rattle.hay_legal.specs.declared.known.Known.{Known};
-ghost use Rattle.hay_legal.specs.Known.{Leaves, NoneFalls, disk_count};
+ghost use Rattle.hay_legal.specs.Known.{NoneFalls, Rises, disk_count};
 ghost use Rattle.hay_legal.specs.Known as known;
 ghost use Rattle.hay_legal.specs.Restarts.{IsRestarted};
 ghost use Rattle.hay_legal.specs.Statuses.{HoldsNew};
@@ -15,8 +15,8 @@ ghost use Rattle.hay_logical.specs.Fits.{IsReplica};
 ghost use Rattle.hay_logical.specs.Stands.{IsIdle};
 ghost use Rattle.hay_logical.specs.Volumes.{IsClosed, IsOfSettings};
 ghost use Rattle.hay_cluster.specs.Causes.{HasFaultCause};
-ghost use Rattle.hay_cluster.specs.Outside.{CountsOn, IsDamagedDisk, IsKept, IsUndamaged, outside_of, read_of};
-ghost use Rattle.hay_cluster.specs.Opening.{FillsVolume, Gathers, IsAtRest, IsEmptyVolume, MovesDirectory, MovesVolume, OpensDirectory, OpensParts, OpensVolume, RefusesDirectory, RefusesParts, RefusesVolume, RefusesVolumes, StopsDirectory, StopsVolume};
+ghost use Rattle.hay_cluster.specs.Outside.{CountsOn, IsDamagedDisk, IsKept, IsUndamaged, IsUndamagedBelow, outside_of, read_of};
+ghost use Rattle.hay_cluster.specs.Opening.{FillsVolume, Gathers, IsResting, IsEmptyVolume, MovesDirectory, MovesVolume, OpensDirectory, OpensParts, OpensVolume, RefusesDirectory, RefusesParts, RefusesVolume, RefusesVolumes, StopsDirectory, StopsVolume};
 ghost use Rattle.hay_cluster.specs.State.{LeftAt, Stands};
 ghost use Rattle.hay_cluster.specs.Store.{IsBuilt, IsShaped, IsUp, IsVolumeOf, contents_in, disks_of, volume_disks};
 
@@ -45,10 +45,10 @@ impl<D: Disk, A: Arm<D::Piece>> Cluster<D, A> {
         requires disks_in { AreIn (disk_count settings) (H.disks shelf.old) }
         requires arms_in { AreArmsIn 8 (H.arms shelf.old) }
 
-        // The store stands for what the disks have, where they have it wholly, but for counts that rose.
+        // The store stands for what the disks have, where they have it wholly, but for disks' counts that rose.
         ensures opened { D.Tells → (k : Known) →
             HoldsNew (IsReplica settings) (OpensRows settings) settings (outside_of (H.fault_count shelf.old) (H.disks shelf.old) (H.arms shelf.old)) k →
-            IfOk result (λ store. (t : Known) × Leaves k k t × Stands D.files D.Piece.Tells D.fault_count D.fuse_count A.fault_count store t) }
+            IfOk result (λ store. (t : Known) × Rises k t × Stands D.files D.Piece.Tells D.fault_count D.fuse_count A.fault_count store t) }
         // Nothing that it read of a disk is damaged.
         ensures sound { D.Tells → OnOk result (IsUndamaged settings (λ slot. read_of (H.disks shelf.old slot))) }
         ensures settings { IfOk result (λ store. store.settings ≡ settings) }
@@ -63,7 +63,7 @@ impl<D: Disk, A: Arm<D::Piece>> Cluster<D, A> {
         ensures arms_out { OnOk result (AreArmsOut 8 (H.arms shelf.new)) }
 
         // What a refusal leaves, and its cause.
-        ensures kept { D.Tells → OnErr result ((slot : ℕ) → slot < disk_count settings → IsKept (H.disks shelf.old slot) (H.disks shelf.new slot)) }
+        ensures kept { D.Tells → OnErr result ((slot : ℕ) → slot < disk_count settings → IsKept settings slot (H.disks shelf.old slot) (H.disks shelf.new slot)) }
         ensures disks_back { OnErr result (AreIn (disk_count settings) (H.disks shelf.new)) }
         ensures arms_back { OnErr result (AreArmsIn 8 (H.arms shelf.new)) }
         ensures back_counts { OnErr result ((slot : ℕ) → slot < disk_count settings →
@@ -73,6 +73,8 @@ impl<D: Disk, A: Arm<D::Piece>> Cluster<D, A> {
             Rose (H.fault_count shelf.old) (H.fault_count shelf.new) × (faults ≡ H.fault_count shelf.new)) }
         ensures failed { IfErr result (λ fault. (slot faults : ℕ) → fault ≡ ClusterFault.Failed slot faults → (slot < disk_count settings)
             × Rose (H.disks shelf.old slot).fault_count (H.disks shelf.new slot).fault_count × (faults ≡ (H.disks shelf.new slot).fault_count)) }
+        ensures failed_lowest { D.Tells → (slot faults : ℕ) → result ≡ Err (ClusterFault.Failed slot faults) →
+            IsUndamagedBelow settings slot (λ slot. read_of (H.disks shelf.old slot)) }
         ensures damaged { D.Tells → (slot file at : ℕ) → result ≡ Err (ClusterFault.Damaged slot file at) →
             IsDamagedDisk settings (λ slot. read_of (H.disks shelf.old slot)) slot file at × IsDamagedDisk settings (λ slot. read_of (H.disks shelf.new slot)) slot file at }
 
@@ -140,7 +142,7 @@ impl<D: Disk, A: Arm<D::Piece>> Cluster<D, A> {
 
     // Opens the Directory and then each volume, and answers the notes of the volumes and then of the Directory.
     fn open_parts(&mut self, alloc: Global) -> Result<Listed<Note>, ClusterFault>
-        requires directory { IsAtRest D.Tells D.files self.old.directory }
+        requires directory { IsResting D.Tells D.files self.old.directory }
         requires closed { AllByRecursion IsClosed self.old.volumes }
         requires idle { D.Tells → AllByRecursion (IsIdle D.files) self.old.volumes }
         ensures opened { IfOk result (OpensParts D.Tells D.files D.Piece.Tells D.fault_count D.fuse_count self.old.directory self.new.directory self.old.volumes self.new.volumes) }
@@ -203,7 +205,7 @@ fn open_directory<D: Disk>(
     alloc: Global,
     directory: &mut Directory<D>,
 ) -> Result<Listed<Note>, ClusterFault>
-    requires { IsAtRest D.Tells D.files directory.old }
+    requires { IsResting D.Tells D.files directory.old }
     ensures opened { IfOk result (OpensDirectory D.Tells D.files directory.old directory.new) }
     ensures refused { IfErr result (RefusesDirectory D.Tells D.files D.fault_count directory.old directory.new) }
     ensures moves { MovesDirectory D.Tells D.files D.fault_count D.fuse_count directory.old directory.new }

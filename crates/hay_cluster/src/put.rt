@@ -3,10 +3,10 @@ ghost use Rattle.std.specs.Prelude.{◌≡◌, ◌≤◌, ◌<◌, ℕ, [], ◌�
 ghost use Rattle.std.specs.List.{list_any};
 ghost use Rattle.hay_legal.specs.declared.known.Known.{Known};
 ghost use Rattle.hay_legal.specs.Known.{NoneFalls, home_of, refusal_of, taker_of};
-ghost use Rattle.hay_legal.specs.Plain.{lacks, as_closed};
+ghost use Rattle.hay_legal.specs.Plain.{wants_room, as_closed};
 ghost use Rattle.hay_script.specs.declared.Command.TheVariants as asks;
 ghost use Rattle.hay_directory.specs.State as directory;
-ghost use Rattle.hay_cluster.specs.Causes.{HasCause, RefusesPut};
+ghost use Rattle.hay_cluster.specs.Causes.{IsCaused, RefusesPut};
 ghost use Rattle.hay_cluster.specs.Puts as puts;
 ghost use Rattle.hay_cluster.specs.Puts.{IsPutReply, IsRefusal, IsTried, StoredAs};
 ghost use Rattle.hay_cluster.specs.State.{Answered, Stands};
@@ -39,7 +39,7 @@ impl<D: Disk, A: Arm<D::Piece>> Cluster<D, A> {
         requires up { IsUp self.old }
         ensures legal { D.Tells → (k : Known) → Stands D.files D.Piece.Tells D.fault_count D.fuse_count A.fault_count self.old k →
             Answered D.files D.Piece.Tells D.fault_count D.fuse_count A.fault_count k tag (asks.Put pair bytes.now) result self.new }
-        ensures causes { (lane : ℕ) → HasCause self.old.settings lane
+        ensures causes { (lane : ℕ) → IsCaused self.old.settings lane
             (record { disks = map D.fault_count (disks_of self.old); arms = map A.fault_count self.old.arms })
             (record { disks = map D.fault_count (disks_of self.new); arms = map A.fault_count self.new.arms }) result }
         ensures counts { NoneFalls (map D.fault_count (disks_of self.old)) (map D.fault_count (disks_of self.new)) }
@@ -93,7 +93,7 @@ impl<D: Disk, A: Arm<D::Piece>> Cluster<D, A> {
         ensures legal { D.Tells → (k : Known) → Stands D.files D.Piece.Tells D.fault_count D.fuse_count A.fault_count self.old k → home_of k pair ≡ None →
             IsTried self.old.settings k pair (length bytes.now) tried →
             Answered D.files D.Piece.Tells D.fault_count D.fuse_count A.fault_count k tag (asks.Put pair bytes.now) result self.new }
-        ensures causes { (lane : ℕ) → HasCause self.old.settings lane
+        ensures causes { (lane : ℕ) → IsCaused self.old.settings lane
             (record { disks = map D.fault_count (disks_of self.old); arms = map A.fault_count self.old.arms })
             (record { disks = map D.fault_count (disks_of self.new); arms = map A.fault_count self.new.arms }) result }
         ensures counts { NoneFalls (map D.fault_count (disks_of self.old)) (map D.fault_count (disks_of self.new)) }
@@ -122,7 +122,7 @@ impl<D: Disk, A: Arm<D::Piece>> Cluster<D, A> {
         requires up { IsUp self.old }
         ensures legal { D.Tells → (k : Known) → Stands D.files D.Piece.Tells D.fault_count D.fuse_count A.fault_count self.old k →
             home_of k pair ≡ None → taker_of self.old.settings k pair (length bytes.now) ≡ Some volume → Answered D.files D.Piece.Tells D.fault_count D.fuse_count A.fault_count k tag (asks.Put pair bytes.now) result self.new }
-        ensures causes { (lane : ℕ) → HasCause self.old.settings lane
+        ensures causes { (lane : ℕ) → IsCaused self.old.settings lane
             (record { disks = map D.fault_count (disks_of self.old); arms = map A.fault_count self.old.arms })
             (record { disks = map D.fault_count (disks_of self.new); arms = map A.fault_count self.new.arms }) result }
         ensures counts { NoneFalls (map D.fault_count (disks_of self.old)) (map D.fault_count (disks_of self.new)) }
@@ -151,7 +151,7 @@ impl<D: Disk, A: Arm<D::Piece>> Cluster<D, A> {
         ensures stored { D.Tells → (k : Known) → Stands D.files D.Piece.Tells D.fault_count D.fuse_count A.fault_count self.old k →
             refusal_of self.old.settings k (length bytes.now) volume ≡ None →
             StoredAs D.files D.Piece.Tells D.fault_count D.fuse_count A.fault_count self.old.settings k tag pair bytes.now volume result self.new }
-        ensures causes { (lane : ℕ) → HasCause self.old.settings lane
+        ensures causes { (lane : ℕ) → IsCaused self.old.settings lane
             (record { disks = map D.fault_count (disks_of self.old); arms = map A.fault_count self.old.arms })
             (record { disks = map D.fault_count (disks_of self.new); arms = map A.fault_count self.new.arms }) result }
         ensures counts { NoneFalls (map D.fault_count (disks_of self.old)) (map D.fault_count (disks_of self.new)) }
@@ -220,7 +220,7 @@ fn put_refusal(alloc: Global, volume: u32, fault: LogicalFault) -> Reply
     }
 }
 
-// What a put is answered that all its tries refuse: it is full where one at least lacks room.
+// What a put is answered that all its tries refuse: it is full where one at least wants_room room.
 fn refuse(alloc: Global, refused: Listed<Refused>) -> Reply
     ensures { IsRefusal refused result }
 {
@@ -242,18 +242,18 @@ fn refuse_one(alloc: Global, refused: Refused) -> Reply
     }
 }
 
-// Whether one of these at least lacks room.
+// Whether one of these at least wants_room room.
 fn has_lack(refused: &[Refused]) -> bool
-    ensures { result ≡ list_any lacks refused.now }
+    ensures { result ≡ list_any wants_room refused.now }
 {
     refused
         .iter()
         .any(|refusal| matches!(refusal, Refused::NoRoom { .. }))
 }
 
-// The machines by which volumes are closed, where none lacks room.
+// The machines by which volumes are closed, where none wants_room room.
 fn closed_of(alloc: Global, refused: &[Refused]) -> Result<Listed<ClosedBy>, NoMemory>
-    requires { list_any lacks refused.now ≡ false }
+    requires { list_any wants_room refused.now ≡ false }
     ensures { IfOk result (λ closed. map as_closed closed ≡ refused.now) }
 {
     let mut closed = Listed::new(alloc);

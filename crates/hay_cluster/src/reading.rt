@@ -7,7 +7,7 @@ ghost use Rattle.hay_map.specs.declared.place.Place.{Place};
 ghost use Rattle.hay_reader.specs.Shown.{Answers, HasCauses};
 ghost use Rattle.hay_legal.specs.Known.{NoneFalls, home_of, volume_at};
 ghost use Rattle.hay_legal.specs.Plain.{start_of};
-ghost use Rattle.hay_cluster.specs.Causes.{BlamesNoArm, HasCause, StaySure};
+ghost use Rattle.hay_cluster.specs.Causes.{BlamesNoArm, IsCaused, StaySure};
 ghost use Rattle.hay_cluster.specs.Reads.{PassesNoArm, ShownAs, ShowsIn, outcomes_of, passed_at};
 ghost use Rattle.hay_cluster.specs.Parts.{Comes};
 ghost use Rattle.hay_cluster.specs.State.{Answered, Stands};
@@ -42,11 +42,11 @@ impl<D: Disk, A: Arm<D::Piece>> Cluster<D, A> {
         requires up { IsUp self.old }
         ensures legal { D.Tells → (k : Known) → Stands D.files D.Piece.Tells D.fault_count D.fuse_count A.fault_count self.old k →
             Answered D.files D.Piece.Tells D.fault_count D.fuse_count A.fault_count k tag (asks.Read pair cookie) result self.new }
-        ensures causes { HasCause self.old.settings tag.lane
+        ensures causes { IsCaused self.old.settings tag.lane
             (record { disks = map D.fault_count (disks_of self.old); arms = map A.fault_count self.old.arms })
             (record { disks = map D.fault_count (disks_of self.new); arms = map A.fault_count self.new.arms }) result }
         ensures sure { (arm : A) → slice_get self.old.arms tag.lane ≡ Some arm → A.is_sure arm ≡ true → BlamesNoArm result }
-        ensures sure_arms { StaySure A.is_sure self.old.arms self.new.arms }
+        ensures sure_arms { StaySure A.is_sure A.fault_count self.old.arms self.new.arms }
         ensures counts { NoneFalls (map D.fault_count (disks_of self.old)) (map D.fault_count (disks_of self.new)) }
         ensures arm_counts { NoneFalls (map A.fault_count self.old.arms) (map A.fault_count self.new.arms) }
         ensures settings { self.new.settings ≡ self.old.settings }
@@ -65,11 +65,11 @@ impl<D: Disk, A: Arm<D::Piece>> Cluster<D, A> {
         requires up { IsUp self.old }
         ensures legal { D.Tells → (k : Known) → Stands D.files D.Piece.Tells D.fault_count D.fuse_count A.fault_count self.old k →
             Answered D.files D.Piece.Tells D.fault_count D.fuse_count A.fault_count k tag (asks.Get url.now) result self.new }
-        ensures causes { HasCause self.old.settings tag.lane
+        ensures causes { IsCaused self.old.settings tag.lane
             (record { disks = map D.fault_count (disks_of self.old); arms = map A.fault_count self.old.arms })
             (record { disks = map D.fault_count (disks_of self.new); arms = map A.fault_count self.new.arms }) result }
         ensures sure { (arm : A) → slice_get self.old.arms tag.lane ≡ Some arm → A.is_sure arm ≡ true → BlamesNoArm result }
-        ensures sure_arms { StaySure A.is_sure self.old.arms self.new.arms }
+        ensures sure_arms { StaySure A.is_sure A.fault_count self.old.arms self.new.arms }
         ensures counts { NoneFalls (map D.fault_count (disks_of self.old)) (map D.fault_count (disks_of self.new)) }
         ensures arm_counts { NoneFalls (map A.fault_count self.old.arms) (map A.fault_count self.new.arms) }
         ensures settings { self.new.settings ≡ self.old.settings }
@@ -107,11 +107,11 @@ impl<D: Disk, A: Arm<D::Piece>> Cluster<D, A> {
         ensures shown { D.Tells → (k : Known) → Stands D.files D.Piece.Tells D.fault_count D.fuse_count A.fault_count self.old k → home_of k pair ≡ Some volume →
             ShownAs D.files D.Piece.Tells D.fault_count D.fuse_count A.fault_count self.old.settings k tag start pair cookie result self.new }
         ensures here { ShowsIn volume result }
-        ensures causes { HasCause self.old.settings tag.lane
+        ensures causes { IsCaused self.old.settings tag.lane
             (record { disks = map D.fault_count (disks_of self.old); arms = map A.fault_count self.old.arms })
             (record { disks = map D.fault_count (disks_of self.new); arms = map A.fault_count self.new.arms }) result }
         ensures sure { (arm : A) → slice_get self.old.arms tag.lane ≡ Some arm → A.is_sure arm ≡ true → BlamesNoArm result }
-        ensures sure_arms { StaySure A.is_sure self.old.arms self.new.arms }
+        ensures sure_arms { StaySure A.is_sure A.fault_count self.old.arms self.new.arms }
         ensures counts { NoneFalls (map D.fault_count (disks_of self.old)) (map D.fault_count (disks_of self.new)) }
         ensures arm_counts { NoneFalls (map A.fault_count self.old.arms) (map A.fault_count self.new.arms) }
         ensures settings { self.new.settings ≡ self.old.settings }
@@ -181,7 +181,7 @@ impl<D: Disk, A: Arm<D::Piece>> Cluster<D, A> {
         ensures causes { (row : List (Place D.Piece)) × (length row ≡ self.old.settings.replicas)
             × HasCauses start row (slice_index (map A.fault_count self.old.arms) lane) (slice_index (map A.fault_count self.new.arms) lane) result.1 }
         ensures sure { (arm : A) → slice_get self.old.arms lane ≡ Some arm → A.is_sure arm ≡ true → PassesNoArm result.1 }
-        ensures sure_arms { StaySure A.is_sure self.old.arms self.new.arms }
+        ensures sure_arms { StaySure A.is_sure A.fault_count self.old.arms self.new.arms }
         ensures disks { disks_of self.new ≡ disks_of self.old }
         ensures arm_counts { NoneFalls (map A.fault_count self.old.arms) (map A.fault_count self.new.arms) }
         ensures settings { self.new.settings ≡ self.old.settings }

@@ -20,7 +20,7 @@ use Rattle.hay_legal.specs.Blocks.{tag_of}
 use Rattle.hay_history.specs.Steps.{Did, Leads, Standing, Step, change_at, swap_at}
 use Rattle.hay_history.specs.Steps.Did.{Begins, Ends, Examines, Poises, Swaps, Tries}
 use Rattle.hay_history.specs.Histories.{History, changes_it, first_of, own, standing, volume_then}
-use Rattle.hay_history.specs.Commands.{CameInLanes, CompactDid, CompactFailed, CompactRefused, CompactWanting, IsTightAlone, Ran, RanTo}
+use Rattle.hay_history.specs.Commands.{CameInLanes, CompactDid, CompactFailed, CompactRefused, CompactWanting, IsTightAlone, Ran, RanAs}
 use Rattle.hay_history.proofs.Alone.{all_own, among, between, busy_known, frozen_known, place_within, rose_to, same_between, worn_known}
 use Rattle.hay_history.proofs.AloneReads.{nothing_left, volume_left}
 use Rattle.hay_history.proofs.AloneRuns.{begin_failed, changed_twice}
@@ -204,7 +204,7 @@ module _ {settings : Settings} {k : Known} {history : History} {t : Known} (item
       stood_still : then (ran.until + 1) ≡ then ran.until → ⊥
       stood_still same = none-some (ran.own).run (sym ran.none ∙ ap (λ (x : VolumeKnown). (replica_at x j).run) same ∙ (ran.own).stands)
 
-  module _ (did : Did) (to : RanTo (course_of h item) v j did) where
+  module _ (did : Did) (to : RanAs (course_of h item) v j did) where
     abbrev ending : List (ℕ × Step)
     ending = (to.place, to.step) ∷ []
 
@@ -259,13 +259,13 @@ module _ {settings : Settings} {k : Known} {history : History} {t : Known} (item
 
   -- HOW IT ENDED
 
-  ends_left : (to : RanTo (course_of h item) v j (Ends j)) → Leaves k (change_volume k v (λ x. change_at x j without_run)) t
+  ends_left : (to : RanAs (course_of h item) v j (Ends j)) → Leaves k (change_volume k v (λ x. change_at x j without_run)) t
   ends_left to =
       let runs = to_runs (Ends j) to in
       to_leaves (Ends j) to (λ x. change_at x j without_run)
       ((to_led (Ends j) to).3 ∙ ap (λ (x : VolumeKnown). change_at x j without_run) runs.1 ∙ change_twice before j (with_run runs.0) without_run many)
 
-  poises_left : (m : ℕ) (to : RanTo (course_of h item) v j (Poises m j)) → Leaves k (poised_by m k v j) t
+  poises_left : (m : ℕ) (to : RanAs (course_of h item) v j (Poises m j)) → Leaves k (poised_by m k v j) t
   poises_left m to =
       let runs = to_runs (Poises m j) to in
       subst (λ (expected : Known). Leaves k expected t) (sym (changed_twice k v (frozen_by m) (λ x. change_at x j poised) (omega (arith, below, (h.store).volumes))))
@@ -278,7 +278,7 @@ module _ {settings : Settings} {k : Known} {history : History} {t : Known} (item
 
   swaps_left : (end cells : ℕ) (freezes : Bool) (besides : VolumeKnown → VolumeKnown)
       → ((x : VolumeKnown) → swap_at settings v x j end cells freezes ≡ besides (change_at x j (swapped end cells)))
-      → (to : RanTo (course_of h item) v j (Swaps j end cells freezes)) → IsTightAlone (course_of h item) v j (to.ran).place to.place end cells
+      → (to : RanAs (course_of h item) v j (Swaps j end cells freezes)) → IsTightAlone (course_of h item) v j (to.ran).place to.place end cells
       → LegalSwaps IsTight besides k v j t
   swaps_left end cells freezes besides split to tight =
       let e : Did = Swaps j end cells freezes in

@@ -18,7 +18,7 @@ use Rattle.hay_history.proofs.Own.{NoBegins}
 use Rattle.hay_history.proofs.OwnRuns.{ran_stood}
 use Rattle.hay_history.proofs.Trying.{changed}
 use Rattle.hay_history.specs.Histories.{Course, History, first_of, own}
-use Rattle.hay_history.specs.Commands.{CameInLanes, Ran, RanTo, RanUntil}
+use Rattle.hay_history.specs.Commands.{CameInLanes, Ran, RanAs, RanUntil}
 use Rattle.hay_history.proofs.Histories.{along}
 use Rattle.hay_history.proofs.Lines.{course_of, own_at, own_leads, stops}
 use Rattle.hay_history.proofs.Volumes.{moment, replicas_many, volume_at_moment}
@@ -99,7 +99,7 @@ ended_run : {settings : Settings} {k : Known} {items : List LaneItem} {history :
     (item : LaneItem) → Contains items item → (v j place : ℕ) → v < settings.volumes → j < settings.replicas
     → EndedRun (course_of h item) v j place → Ended settings k history (course_of h item) v j place
 ended_run {settings} {k} {items} {history} {t} h item among v j place below within (inl ends) =
-    let ran : RanTo (course_of h item) v j (Ends j) = ends.0 in
+    let ran : RanAs (course_of h item) v j (Ends j) = ends.0 in
     subst (λ (n : ℕ). Ended settings k history (course_of h item) v j n) (ran.last ∙ ends.1)
     (ran_ended h item v j below ((ran.place, ran.step) ∷ []) ((λ is. let clash : Begins j ≡ Ends j = sym is ∙ ran.is in absurd cc), tt) ran.ran
     (ap (λ (n : ℕ). (volume_at_moment settings k history v (n + 1)).frozen) ran.last
@@ -177,7 +177,7 @@ pub charge_within : {settings : Settings} {k : Known} {items : List LaneItem} {h
 charge_within {settings} {k} {items} {history} {t} h item among v j place (inl quiet) =
     slice_get_within (history.volumes v) place quiet.step (own_at (history.volumes v) item.line (place, quiet.step) quiet.among).0
 charge_within {settings} {k} {items} {history} {t} h item among v j place (inr (inl ends)) =
-    let ran : RanTo (course_of h item) v j (Ends j) = ends.0 in
+    let ran : RanAs (course_of h item) v j (Ends j) = ends.0 in
     subst (λ (n : ℕ). n < length (history.volumes v)) ends.1
     (slice_get_within (history.volumes v) ran.place ran.step
     (own_at (history.volumes v) item.line (ran.place, ran.step) (last_step (course_of h item) v j (Ends j) ran)).0)

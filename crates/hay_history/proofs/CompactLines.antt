@@ -220,7 +220,7 @@ pub record Ending (c : Course) (v j place : ℕ) (r : Reply) : Type 0 where
   pub by : EndsBy c v j until r
 
 -- a step of a line that begins a compaction is of a compact of its replica
-item_is_compact : {settings : Settings} {k : Known} {items : List LaneItem} {history : History} {t : Known} (h : CameInLanes settings k items history t)
+pub item_is_compact : {settings : Settings} {k : Known} {items : List LaneItem} {history : History} {t : Known} (h : CameInLanes settings k items history t)
     (b : LaneItem) → Contains items b → (v j : ℕ) → v < settings.volumes → (at : ℕ × Step) → Contains (own (course_of h b) v) at → (at.1).did ≡ Begins j
     → (m : ℕ) × IsCompact settings b.item v m j × Ending (course_of h b) v j at.0 b.reply
 item_is_compact {settings} h b in_items v j below at among begins =

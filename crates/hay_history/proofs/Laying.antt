@@ -22,7 +22,7 @@ use Rattle.hay_history.specs.Steps.{Did, RowStep, Step}
 use Rattle.hay_history.specs.Steps.Did.{Ends, Fuses, Pends, Poises, Sticks, Tries}
 use Rattle.hay_history.proofs.Trying.{changed, changed_row}
 use Rattle.hay_history.specs.Histories.{Course, OneStep, OneTry, changes, own, own_rows, rows_standing}
-use Rattle.hay_history.specs.Commands.{CompactDid, CompactFailed, DelDid, FlushDid, GetDid, ItemDid, LookFailed, OnlyLooks, PassedFor, PassedOver, PutDid, RanTo, RanUntil, RoseIn, ShowDid, UrlDid}
+use Rattle.hay_history.specs.Commands.{CompactDid, CompactFailed, DelDid, FlushDid, GetDid, ItemDid, LookFailed, OnlyLooks, PassedFor, PassedOver, PutDid, RanAs, RanUntil, RoseIn, ShowDid, UrlDid}
 use Rattle.hay_history.proofs.Lists.{each_in, each_weaker, zip_weaker}
 use Rattle.hay_history.proofs.Placing.{order_apart, zip_choice}
 
@@ -45,7 +45,7 @@ pub record QuietStep (c : Course) (v place : ℕ) : Type 0 where
 -- the line's run of a replica ended in this step
 abbrev pub EndedRun : Course → ℕ → ℕ → ℕ → Type 0
 EndedRun c v j place =
-    ((ends : RanTo c v j (Ends j)) × (ends.place ≡ place)) ⊎ ((f : ℕ) × (until : RanUntil c v j f) × ((until.ran).until ≡ place))
+    ((ends : RanAs c v j (Ends j)) × (ends.place ≡ place)) ⊎ ((f : ℕ) × (until : RanUntil c v j f) × ((until.ran).until ≡ place))
 
 -- A count of a disk that a line prints, or a replica that is laid to its disk, is charged to a step of the volume.
 pub record Charge (c : Course) (v j f : ℕ) : Type 0 where
@@ -212,7 +212,7 @@ flush_laid c start v m (Some j) (reply.Failed v' m' f) is h =
 flush_laid c start v m (Some j) reply.NoMem is h = (none_to_arm, tt)
 flush_laid c start v m (Some j) r is h = search (none_to_arm)
 
-pub last_step : (c : Course) (v j : ℕ) (did : Did) (ran : RanTo c v j did) → Contains (own c v) (ran.place, ran.step)
+pub last_step : (c : Course) (v j : ℕ) (did : Did) (ran : RanAs c v j did) → Contains (own c v) (ran.place, ran.step)
 last_step c v j did ran =
     let parts : changes c v ≡ (((ran.ran).place, (ran.ran).first) ∷ (ran.ran).middle) ++ (ran.place, ran.step) ∷ [] = (ran.ran).steps in
     changed c v (ran.place, ran.step) (subst (λ (l : List (ℕ × Step)). Contains l (ran.place, ran.step)) (sym parts)

@@ -44,6 +44,7 @@ pub mod AloneRuns
 pub mod AloneSettings
 pub mod AloneCompacts
 pub mod AloneLaw
+pub mod Onward
 pub mod Law
 pub mod Worked
 pub mod WorkedTogether

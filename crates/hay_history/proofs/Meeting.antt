@@ -27,7 +27,7 @@ use Rattle.hay_legal.specs.Blocks.{MetClosed, MetFrozen, MetOpen, MetThawed, tag
 use Rattle.hay_history.specs.Steps.{Did, IsThawed, Leads, Standing, Step}
 use Rattle.hay_history.specs.Steps.Did.{Ends, Entered, Flushes, Pends, Poises, Sticks, Swaps}
 use Rattle.hay_history.specs.Histories.{Course, History, IsLater, IsMoment, OneStep, OneTry, SeesRefusal, closing_then, own, refusal_then, standing, volume_then}
-use Rattle.hay_history.specs.Commands.{CameInLanes, CommandDid, CompactDid, CompactFailed, CompactRefused, DelDid, FlushDid, GetDid, HomeIsClosed, HomeRefuses, ItemDid, PutDid, PutRefused, RanTo, ShowDid, UrlDid}
+use Rattle.hay_history.specs.Commands.{CameInLanes, CommandDid, CompactDid, CompactFailed, CompactRefused, DelDid, FlushDid, GetDid, HomeIsClosed, HomeRefuses, ItemDid, PutDid, PutRefused, RanAs, ShowDid, UrlDid}
 use Rattle.hay_history.proofs.Trying.{one_own}
 use Rattle.hay_history.proofs.Lists.{each_in, first_or_rest, in_rest, is_first, none_in, one_in, pair_by}
 use Rattle.hay_history.proofs.Lines.{answered, course_of, one_leads, own_leads}
@@ -209,7 +209,7 @@ module _ {settings : Settings} {k : Known} {items : List LaneItem} {history : Hi
   one_thawed v did below one thaws =
       (one.place, since_one v did one, thaws (standing (course_of h item) v one.place) (standing (course_of h item) v (one.place + 1)) (one_leads h item v did below among one))
 
-  last_thawed : (v j : ℕ) (did : Did) → v < settings.volumes → (to : RanTo (course_of h item) v j did)
+  last_thawed : (v j : ℕ) (did : Did) → v < settings.volumes → (to : RanAs (course_of h item) v j did)
       → ((a b : Standing) → Leads settings v (tag_of item) did a b → IsThawed a) → SawThawed (course_of h item) v
   last_thawed v j did below to thaws =
       let at : ℕ × Step = (to.place, to.step) in

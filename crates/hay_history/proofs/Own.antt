@@ -24,7 +24,7 @@ use Rattle.hay_legal.proofs.Subject.Effects.{each_append}
 use Rattle.hay_history.specs.Steps.{Did, Step}
 use Rattle.hay_history.specs.Steps.Did.{Begins, Ends, Entered, Examines, Flushes, Freezes, Fuses, Pends, Poises, Sticks, Swaps, Tries}
 use Rattle.hay_history.specs.Histories.{Course, NoSteps, OneStep, OneTry, OnlyOn, SeesHome, SeesOpen, changes, changes_it, closing_then, own, refusal_then, volume_then}
-use Rattle.hay_history.specs.Commands.{CommandDid, CompactDid, CompactFailed, CompactRefused, CompactWanting, DelDid, FlushDid, GetDid, ItemDid, LeftPending, LookFroze, LookWanting, OnlyLooks, PutDid, Ran, RanTo, ShowDid, UrlDid, stood_then}
+use Rattle.hay_history.specs.Commands.{CommandDid, CompactDid, CompactFailed, CompactRefused, CompactWanting, DelDid, FlushDid, GetDid, ItemDid, LeftPending, LookFroze, LookWanting, OnlyLooks, PutDid, Ran, RanAs, ShowDid, UrlDid, stood_then}
 use Rattle.hay_history.proofs.Placing.{machine_there}
 use Rattle.hay_history.proofs.Lists.{each_in, first_or_rest, none_in, one_in, pair_kept}
 use Rattle.hay_history.proofs.Trying.{tried_or_changed}
@@ -163,7 +163,7 @@ module _ (c : Course) (item : Item) (reply : Reply) where
             (subst (λ (l : List (ℕ × Step)). Contains l at) ran.steps change)
       ])
 
-  pub may_run_to : (u m j : ℕ) (did : Did) → IsCompact c.settings item u m j → (to : RanTo c u j did) → Does u did → AllMay
+  pub may_run_to : (u m j : ℕ) (did : Did) → IsCompact c.settings item u m j → (to : RanAs c u j did) → Does u did → AllMay
   may_run_to u m j did is to does = may_run u m j ((to.place, to.step) ∷ []) is to.ran (subst (λ (d : Did). Does u d) (sym to.is) does, tt)
 
 -- BY COMMAND AND REPLY
@@ -516,7 +516,7 @@ module _ (c : Course) (v j : ℕ) (r : Reply) where
         ]
       ]
 
-  ran_to_in_run : (did : Did) (to : RanTo c v j did) → did ≢ Begins j → ((n : ℕ) → RanBefore c v j n → InRun c v j r n did) → EndsBy c v j (to.ran).until r → AllInRun
+  ran_to_in_run : (did : Did) (to : RanAs c v j did) → did ≢ Begins j → ((n : ℕ) → RanBefore c v j n → InRun c v j r n did) → EndsBy c v j (to.ran).until r → AllInRun
   ran_to_in_run did to other by ends =
       ran_in_run ((to.place, to.step) ∷ []) to.ran ((λ is. other (sym to.is ∙ is)), tt) (subst (λ (d : Did). RanBefore c v j to.place → InRun c v j r to.place d) (sym to.is) (by to.place), tt) ends
 

@@ -29,7 +29,7 @@ use Rattle.hay_legal.specs.declared.turn.Item.{Item}
 use Rattle.hay_legal.specs.declared.turn.Item.TheVariants as asks
 use Rattle.hay_legal.specs.declared.turn.LaneItem.{LaneItem}
 use Rattle.hay_legal.specs.Known.{CameUp, EachPair, NoneFalls, all_tries, arm_count, disk_count, fault_count, fuse_count, machine_of, now, replica_at, replica_on, replicas_of, slot_of, stands, volume_at}
-use Rattle.hay_legal.specs.Plain.{ArmRises, GetShows, as_closed, first_machine, lacks, order_from, put_entry, start_of}
+use Rattle.hay_legal.specs.Plain.{ArmRises, GetShows, as_closed, first_machine, wants_room, order_from, put_entry, start_of}
 use Rattle.hay_legal.specs.Blocks.{IsOn, tag_of}
 use Rattle.hay_legal.specs.Subject.{IsOf}
 use Rattle.hay_history.specs.Steps.{Did, Follows, FollowsRows, RowDid, RowsStanding, Standing, Step}
@@ -133,7 +133,7 @@ PutWanting c pair bytes =
 
 abbrev pub PutDid : Course → Pair → List ℕ → Reply → Type 0
 PutDid c pair bytes (Stored v p d cookie) = PutStored c pair bytes v p d cookie
-PutDid c pair bytes (Full refused) = PutRefused c pair (length bytes) refused × (list_any lacks refused ≡ true)
+PutDid c pair bytes (Full refused) = PutRefused c pair (length bytes) refused × (list_any wants_room refused ≡ true)
 PutDid c pair bytes (ReadOnly by) = PutRefused c pair (length bytes) (map as_closed by)
 PutDid c pair bytes ReadOnlyDir =
     NoSteps c × NoRows c × ((d : ℕ) × SeesHome c pair d None) × ((v : ℕ) × SeesTaker c pair (length bytes) v)
@@ -343,7 +343,7 @@ pub record Ran (c : Course) (v j : ℕ) (last : List (ℕ × Step)) : Type 0 whe
   pub none : (replica_at (volume_then c v (until + 1)) j).run ≡ None
 
 -- its own last step did this
-pub record RanTo (c : Course) (v j : ℕ) (did : Did) : Type 0 where
+pub record RanAs (c : Course) (v j : ℕ) (did : Did) : Type 0 where
   pub place : ℕ
   pub step : Step
   pub is : step.did ≡ did
@@ -370,8 +370,8 @@ pub record BeginFailed (c : Course) (v j f : ℕ) : Type 0 where
 abbrev pub CompactFailed : Course → ℕ → ℕ → ℕ → ℕ → Type 0
 CompactFailed c v m j f =
     BeginFailed c v j f
-    ⊎ ((ends : RanTo c v j (Ends j)) × RoseIn c v ends.place j f × IsLast c v ends.place)
-    ⊎ ((poises : RanTo c v j (Poises m j)) × RoseIn c v poises.place j f × IsLast c v poises.place)
+    ⊎ ((ends : RanAs c v j (Ends j)) × RoseIn c v ends.place j f × IsLast c v ends.place)
+    ⊎ ((poises : RanAs c v j (Poises m j)) × RoseIn c v poises.place j f × IsLast c v poises.place)
     ⊎ RanUntil c v j f
 
 -- the volume was frozen by this machine in its course
@@ -388,8 +388,8 @@ IsTightAlone c v j from to end cells =
 abbrev pub CompactWanting : Course → ℕ → ℕ → Type 0
 CompactWanting c v j =
     DidNothing c
-    ⊎ RanTo c v j (Ends j)
-    ⊎ ((end : ℕ) × (cells : ℕ) × (swaps : RanTo c v j (Swaps j end cells true)) × IsTightAlone c v j (swaps.ran).place swaps.place end cells)
+    ⊎ RanAs c v j (Ends j)
+    ⊎ ((end : ℕ) × (cells : ℕ) × (swaps : RanAs c v j (Swaps j end cells true)) × IsTightAlone c v j (swaps.ran).place swaps.place end cells)
     ⊎ ((f : ℕ) × RanUntil c v j f)
     ⊎ ((m : ℕ) × RanFrozen c v j m)
 
@@ -418,7 +418,7 @@ CompactDid c v m None NoMem = DidNothing c
 CompactDid c v m None _ = ⊥
 CompactDid c v m (Some j) (Compacted v' m' g) =
     IsOn v m v' m'
-    × ((end : ℕ) × (cells : ℕ) × (swaps : RanTo c v j (Swaps j end cells false))
+    × ((end : ℕ) × (cells : ℕ) × (swaps : RanAs c v j (Swaps j end cells false))
     × (g ≡ (replica_at (volume_then c v swaps.place) j).generation + 1)
     × IsTightAlone c v j (swaps.ran).place swaps.place end cells)
 CompactDid c v m (Some j) (ReadOnly by) = CompactRefused c v j by

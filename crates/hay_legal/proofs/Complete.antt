@@ -39,6 +39,7 @@ use Rattle.hay_legal.specs.Subject.{known_behind, HasPhoto, NothingFailed, Blame
 use Rattle.hay_legal.proofs.Subject.Shown.{legal_split, at-now, last_look, spared_look, bytes_in, cookie_in}
 use Rattle.hay_legal.proofs.Subject.Effects.{plain_effect}
 use Rattle.hay_legal.proofs.Subject.Standing.{Standing, shown_stands}
+use Rattle.hay_legal.proofs.Rising.{same_falls}
 use Rattle.hay_legal.proofs.Steps.{none_falls}
 
 -- COUNTS OVER TURNS
@@ -64,8 +65,8 @@ abbrev Rise : Known → Known → Type 0
 Rise k t = NoneFalls k.faults t.faults × NoneFalls k.arms t.arms
 
 restart_counts : (settings : Settings) (k : Known) (r : Reply) (notes : List Note) (t : Known) → LegalRestart settings k r notes t → Rise k t
-restart_counts settings k (reply.Restarted d) notes t h = ((h.opened).faults, (h.opened).arms)
-restart_counts settings k reply.NoMem notes t h = ((h.leaves).faults, (h.leaves).arms)
+restart_counts settings k (reply.Restarted d) notes t h = ((h.opened).faults, same_falls k.arms t.arms (h.opened).arms)
+restart_counts settings k reply.NoMem notes t h = ((h.leaves).faults, same_falls k.arms t.arms (h.leaves).arms)
 restart_counts settings k _ notes t h = absurd h
 
 turn_counts : (settings : Settings) (k : Known) (turn : Turn) → LegalTurn settings k turn → Rise k (known_after turn)

@@ -175,7 +175,7 @@ row_8 = record {
           (
             record { home = record { home = refl; «open» = refl; rows = refl }; stood = refl; position = refl; ended = []; cause = λ j e. cc; leaves = same_counts row_8_4 row_8_5 refl refl },
             (
-              record { kept = [] ∷ []; row = false; opened = record { volumes = (record { may = refl; replicas = (record { base = refl; stands = inl (record { end = refl; cells = refl; bare = refl; generation = refl }); loose = refl; idle = refl; settled = refl }, tt); log = refl; frozen = refl; pending = refl }, tt); rows = refl; directory = refl; drained = refl; fuses = refl; faults = none_falls row_8_5.faults; arms = none_falls row_8_5.arms }; told = refl; rows = refl },
+              record { kept = [] ∷ []; row = false; opened = record { volumes = (record { may = refl; replicas = (record { base = refl; stands = inl (record { end = refl; cells = refl; bare = refl; generation = refl }); loose = refl; idle = refl; settled = refl }, tt); log = refl; frozen = refl; pending = refl }, tt); rows = refl; directory = refl; drained = refl; fuses = refl; faults = none_falls row_8_5.faults; arms = refl }; told = refl; rows = refl },
               (
                 record { seen = record { home = refl; front = refl; rows = refl }; replica = 0; there = refl; stands = refl; passed = inl (lit≤ tt); leaves = same_counts row_8_6 row_8_6 refl refl },
                 (
@@ -229,7 +229,7 @@ row_10 = record {
         (
           (refl, same_counts row_10_4 row_10_4 refl refl),
           (
-            record { kept = (true ∷ []) ∷ []; row = false; opened = record { volumes = (record { may = (refl, (0, 0, refl, refl, record { below = λ j h. absurd (no_less j h); nothing = λ j h e. cc; above = λ j h l e. absurd (one_only j h l) })); replicas = (record { base = ap (photo_alone (codes "b")) (sym cookie_of-zero); stands = inl (record { end = refl; cells = refl; bare = refl; generation = refl }); loose = refl; idle = refl; settled = refl }, tt); log = refl; frozen = refl; pending = refl }, tt); rows = refl; directory = refl; drained = refl; fuses = refl; faults = none_falls row_10_4.faults; arms = none_falls row_10_4.arms }; told = refl; rows = refl },
+            record { kept = (true ∷ []) ∷ []; row = false; opened = record { volumes = (record { may = (refl, (0, 0, refl, refl, record { below = λ j h. absurd (no_less j h); nothing = λ j h e. cc; above = λ j h l e. absurd (one_only j h l) })); replicas = (record { base = ap (photo_alone (codes "b")) (sym cookie_of-zero); stands = inl (record { end = refl; cells = refl; bare = refl; generation = refl }); loose = refl; idle = refl; settled = refl }, tt); log = refl; frozen = refl; pending = refl }, tt); rows = refl; directory = refl; drained = refl; fuses = refl; faults = none_falls row_10_4.faults; arms = refl }; told = refl; rows = refl },
             (record { seen = record { home = refl; front = refl; rows = refl }; replica = 0; there = refl; stands = refl; passed = inl (lit≤ tt); leaves = same_counts row_10_5 row_10_5 refl refl }, refl),
           ),
         ),
@@ -273,7 +273,7 @@ row_10_later = record {
         (
           record { taker = refl; directory = λ e. refl; replica = 0; there = refl; rose = record { count = refl; rose = inl (lit< tt) }; leaves = more_faults row_10_later_3 (put_frozen one row_10_later_3 (at_line 4) (pair 2) (codes "c") 0 0 true) (0 ∷ 1 ∷ []) (lit≤ tt, (lit≤ tt, tt)) refl },
           (
-            record { kept = (false ∷ []) ∷ []; row = false; opened = record { volumes = (record { may = (refl, (0, 0, refl, refl, record { below = λ j h. absurd (no_less j h); nothing = λ j h e. cc; above = λ j h l e. absurd (one_only j h l) })); replicas = (record { base = refl; stands = inl (record { end = refl; cells = refl; bare = refl; generation = refl }); loose = refl; idle = refl; settled = refl }, tt); log = refl; frozen = refl; pending = refl }, tt); rows = refl; directory = refl; drained = refl; fuses = refl; faults = none_falls row_10_later_4.faults; arms = none_falls row_10_later_4.arms }; told = refl; rows = refl },
+            record { kept = (false ∷ []) ∷ []; row = false; opened = record { volumes = (record { may = (refl, (0, 0, refl, refl, record { below = λ j h. absurd (no_less j h); nothing = λ j h e. cc; above = λ j h l e. absurd (one_only j h l) })); replicas = (record { base = refl; stands = inl (record { end = refl; cells = refl; bare = refl; generation = refl }); loose = refl; idle = refl; settled = refl }, tt); log = refl; frozen = refl; pending = refl }, tt); rows = refl; directory = refl; drained = refl; fuses = refl; faults = none_falls row_10_later_4.faults; arms = refl }; told = refl; rows = refl },
             (record { seen = record { home = refl; front = refl; rows = refl }; replica = 0; there = refl; stands = refl; passed = inl (lit≤ tt); leaves = same_counts row_10_later_5 row_10_later_5 refl refl }, refl),
           ),
         ),
@@ -326,7 +326,7 @@ row_12 = record {
         (
           record { seen = record { home = refl; front = refl; rows = refl }; replica = 0; there = refl; stands = refl; passed = inl (lit≤ tt); leaves = same_counts row_12_4 row_12_4 refl refl },
           (
-            record { kept = (true ∷ false ∷ []) ∷ []; row = false; opened = record { volumes = (record { may = (refl, (1, 1, refl, refl, record { below = λ j h. true_below_one j h; nothing = λ j h e. cc; above = λ j h l e. absurd (two_only j h l) })); replicas = (record { base = ap (photo_alone (codes "b")) (sym cookie_of-zero); stands = inl (record { end = refl; cells = refl; bare = refl; generation = refl }); loose = refl; idle = refl; settled = refl }, (record { base = refl; stands = inl (record { end = refl; cells = refl; bare = refl; generation = refl }); loose = refl; idle = refl; settled = refl }, tt)); log = refl; frozen = refl; pending = refl }, tt); rows = refl; directory = refl; drained = refl; fuses = refl; faults = none_falls row_12_4.faults; arms = none_falls row_12_4.arms }; told = refl; rows = refl },
+            record { kept = (true ∷ false ∷ []) ∷ []; row = false; opened = record { volumes = (record { may = (refl, (1, 1, refl, refl, record { below = λ j h. true_below_one j h; nothing = λ j h e. cc; above = λ j h l e. absurd (two_only j h l) })); replicas = (record { base = ap (photo_alone (codes "b")) (sym cookie_of-zero); stands = inl (record { end = refl; cells = refl; bare = refl; generation = refl }); loose = refl; idle = refl; settled = refl }, (record { base = refl; stands = inl (record { end = refl; cells = refl; bare = refl; generation = refl }); loose = refl; idle = refl; settled = refl }, tt)); log = refl; frozen = refl; pending = refl }, tt); rows = refl; directory = refl; drained = refl; fuses = refl; faults = none_falls row_12_4.faults; arms = refl }; told = refl; rows = refl },
             (
               record { seen = record { home = refl; front = refl; rows = refl }; replica = 0; there = refl; stands = refl; passed = inl (lit≤ tt); leaves = same_counts row_12_5 row_12_5 refl refl },
               (
@@ -467,7 +467,7 @@ row_9 = record {
               (
                 record { seen = record { home = refl; front = refl; rows = refl }; replica = 0; there = refl; stands = refl; passed = inl (lit≤ tt); leaves = same_counts row_9_6 row_9_6 refl refl },
                 (
-                  record { kept = [] ∷ []; row = false; opened = record { volumes = (record { may = refl; replicas = (record { base = refl; stands = inl (record { end = refl; cells = refl; bare = refl; generation = refl }); loose = refl; idle = refl; settled = refl }, tt); log = refl; frozen = refl; pending = refl }, tt); rows = refl; directory = refl; drained = refl; fuses = refl; faults = none_falls row_9_6.faults; arms = none_falls row_9_6.arms }; told = refl; rows = refl },
+                  record { kept = [] ∷ []; row = false; opened = record { volumes = (record { may = refl; replicas = (record { base = refl; stands = inl (record { end = refl; cells = refl; bare = refl; generation = refl }); loose = refl; idle = refl; settled = refl }, tt); log = refl; frozen = refl; pending = refl }, tt); rows = refl; directory = refl; drained = refl; fuses = refl; faults = none_falls row_9_6.faults; arms = refl }; told = refl; rows = refl },
                   (record { seen = record { home = refl; front = refl; rows = refl }; replica = 0; there = refl; stands = refl; passed = inl (lit≤ tt); leaves = same_counts row_9_7 row_9_7 refl refl }, refl),
                 ),
               ),
@@ -533,7 +533,7 @@ row_11_at_0 = record {
             (
               (refl, same_counts row_11_at_0_6 row_11_at_0_6 refl refl),
               (
-                record { kept = [] ∷ []; row = false; opened = record { volumes = (record { may = refl; replicas = (record { base = refl; stands = inl (record { end = refl; cells = refl; bare = refl; generation = refl }); loose = refl; idle = refl; settled = refl }, tt); log = refl; frozen = refl; pending = refl }, tt); rows = refl; directory = refl; drained = refl; fuses = refl; faults = none_falls row_11_at_0_6.faults; arms = none_falls row_11_at_0_6.arms }; told = refl; rows = refl },
+                record { kept = [] ∷ []; row = false; opened = record { volumes = (record { may = refl; replicas = (record { base = refl; stands = inl (record { end = refl; cells = refl; bare = refl; generation = refl }); loose = refl; idle = refl; settled = refl }, tt); log = refl; frozen = refl; pending = refl }, tt); rows = refl; directory = refl; drained = refl; fuses = refl; faults = none_falls row_11_at_0_6.faults; arms = refl }; told = refl; rows = refl },
                 (
                   record { seen = record { home = refl; front = refl; rows = refl }; replica = 0; there = refl; stands = refl; passed = inl (lit≤ tt); leaves = same_counts row_11_at_0_7 row_11_at_0_7 refl refl },
                   (((refl, refl), refl, (refl, lit< tt), refl, (120, 1, (refl, refl), same_counts row_11_at_0_7 row_11_at_0_8 refl refl)), refl),
@@ -601,7 +601,7 @@ row_11_at_1 = record {
             (
               (refl, same_counts row_11_at_1_6 row_11_at_1_6 refl refl),
               (
-                record { kept = [] ∷ []; row = false; opened = record { volumes = (record { may = refl; replicas = (record { base = refl; stands = inr (record { poised = refl; end = lit≤ tt; no_longer = lit≤ tt; cells = lit≤ tt; no_more = lit≤ tt; bare = refl; generation = refl }); loose = refl; idle = refl; settled = refl }, tt); log = refl; frozen = refl; pending = refl }, tt); rows = refl; directory = refl; drained = refl; fuses = refl; faults = none_falls row_11_at_1_6.faults; arms = none_falls row_11_at_1_6.arms }; told = refl; rows = refl },
+                record { kept = [] ∷ []; row = false; opened = record { volumes = (record { may = refl; replicas = (record { base = refl; stands = inr (record { poised = refl; end = lit≤ tt; no_longer = lit≤ tt; cells = lit≤ tt; no_more = lit≤ tt; bare = refl; generation = refl }); loose = refl; idle = refl; settled = refl }, tt); log = refl; frozen = refl; pending = refl }, tt); rows = refl; directory = refl; drained = refl; fuses = refl; faults = none_falls row_11_at_1_6.faults; arms = refl }; told = refl; rows = refl },
                 (
                   record { seen = record { home = refl; front = refl; rows = refl }; replica = 0; there = refl; stands = refl; passed = inl (lit≤ tt); leaves = same_counts row_11_at_1_7 row_11_at_1_7 refl refl },
                   (((refl, refl), refl, (refl, lit< tt), refl, (120, 1, (refl, refl), same_counts row_11_at_1_7 row_11_at_1_8 refl refl)), refl),
@@ -676,7 +676,7 @@ row_22_at_0 = record {
       (
         (record { volume = 0; missing = refl; taker = refl }, refl, same_counts row_22_at_0_3 row_22_at_0_3 refl refl),
         (
-          record { kept = [] ∷ []; row = false; opened = record { volumes = (record { may = refl; replicas = (record { base = refl; stands = inl (record { end = refl; cells = refl; bare = refl; generation = refl }); loose = refl; idle = refl; settled = refl }, tt); log = refl; frozen = refl; pending = refl }, tt); rows = refl; directory = refl; drained = refl; fuses = refl; faults = none_falls row_22_at_0_3.faults; arms = none_falls row_22_at_0_3.arms }; told = refl; rows = refl },
+          record { kept = [] ∷ []; row = false; opened = record { volumes = (record { may = refl; replicas = (record { base = refl; stands = inl (record { end = refl; cells = refl; bare = refl; generation = refl }); loose = refl; idle = refl; settled = refl }, tt); log = refl; frozen = refl; pending = refl }, tt); rows = refl; directory = refl; drained = refl; fuses = refl; faults = none_falls row_22_at_0_3.faults; arms = refl }; told = refl; rows = refl },
           (((refl, refl), same_counts row_22_at_0_4 row_22_at_0_4 refl refl), refl),
         ),
       ),
@@ -716,7 +716,7 @@ row_22_at_3 = record {
       (
         (record { volume = 0; missing = refl; taker = refl }, refl, same_counts row_22_at_3_3 row_22_at_3_3 refl refl),
         (
-          record { kept = [] ∷ []; row = true; opened = record { volumes = (record { may = refl; replicas = (record { base = refl; stands = inl (record { end = refl; cells = refl; bare = refl; generation = refl }); loose = refl; idle = refl; settled = refl }, tt); log = refl; frozen = refl; pending = refl }, tt); rows = refl; directory = refl; drained = refl; fuses = refl; faults = none_falls row_22_at_3_3.faults; arms = none_falls row_22_at_3_3.arms }; told = refl; rows = refl },
+          record { kept = [] ∷ []; row = true; opened = record { volumes = (record { may = refl; replicas = (record { base = refl; stands = inl (record { end = refl; cells = refl; bare = refl; generation = refl }); loose = refl; idle = refl; settled = refl }, tt); log = refl; frozen = refl; pending = refl }, tt); rows = refl; directory = refl; drained = refl; fuses = refl; faults = none_falls row_22_at_3_3.faults; arms = refl }; told = refl; rows = refl },
           (record { seen = record { home = refl; front = refl; rows = refl }; replica = 0; there = refl; stands = refl; passed = inl (lit≤ tt); leaves = same_counts row_22_at_3_4 row_22_at_3_4 refl refl }, refl),
         ),
       ),

@@ -88,7 +88,7 @@ module _ (replica : ℕ → ℕ → Contents → Found → Type 0) (settings : S
           drained = refl;
           fuses = refl;
           faults = none_falls k.faults;
-          arms = none_falls k.arms;
+          arms = refl;
         };
         found = record {
           replicas = λ v j below within.

@@ -70,7 +70,7 @@ new_reopens settings k new = record {
   drained = subst (λ (l : List Bool). l ≡ map undrained l) (sym new.drained) (undrained_same settings.machines);
   fuses = refl;
   faults = none_falls k.faults;
-  arms = none_falls k.arms;
+  arms = refl;
 }
 
 -- the next opening finds it again

@@ -3,19 +3,23 @@ use Rattle.std.proofs.Common.{◌≡◌, ◌⊎◌, inl, inr, ℕ, ◌-◌, ◌^
 use Rattle.std.specs.List.{list_any}
 use Rattle.hay_needle.specs.declared.needle.Pair.{Pair}
 use Rattle.hay_needle.specs.declared.needle.Cookie.{Cookie}
+use Rattle.hay_needle.specs.declared.needle.Photo.{Photo}
 use Rattle.hay_needle.specs.declared.settings.Settings.{Settings}
+use Rattle.hay_needle.specs.Tables.{Table}
 use Rattle.hay_reply.specs.declared.Note.{Note}
 use Rattle.hay_reply.specs.declared.Passed.{Passed}
-use Rattle.hay_reply.specs.declared.Reply.TheVariants.{Failed, NoMem, Unreadable}
+use Rattle.hay_reply.specs.declared.Reply.{Reply}
+use Rattle.hay_reply.specs.declared.Reply.TheVariants.{Failed, NoMem, Restarted, Unreadable}
 use Rattle.hay_core.specs.declared.entry.CoreTag.{CoreTag}
 use Rattle.hay_legal.specs.declared.known.HomeRow.{HomeRow}
 use Rattle.hay_legal.specs.declared.known.Known.{Known}
 use Rattle.hay_legal.specs.declared.turn.Turn.{Turn}
 use Rattle.hay_legal.specs.declared.turn.Turn.TheVariants.{Restart}
-use Rattle.hay_legal.specs.Known.{Leaves, closed, disk_count, fault_count, home_of, volume_at}
+use Rattle.hay_legal.specs.Known.{Leaves, closed, disk_count, fault_count, home_of, slot_of, volume_at}
 use Rattle.hay_legal.specs.Plain.{IsIdle, LegalDel, LegalFinish, LegalCompact, LegalShow, has_pair, replica_of}
 use Rattle.hay_legal.specs.Stands.{Contents, Found, Outside, StandsOn}
-use Rattle.hay_legal.specs.Statuses.{Ending, IsFront, Interrupted, RestartRefused, TellsFailure, WantsLast}
+use Rattle.hay_legal.specs.Restarts.{LegalRestart}
+use Rattle.hay_legal.specs.Statuses.{Ending, IsFront, IsVoidStill, Interrupted, RestartRefused, TellsFailure, WantsLast}
 use Rattle.hay_legal.specs.Statuses.Ending.{ReadAll}
 use Rattle.hay_legal.specs.Subject.{NothingFailed}
 use Rattle.hay_legal.proofs.Complete.{unreadable_blames}
@@ -89,11 +93,29 @@ restart_without_memory_ends_well line pick notes after before wants = elim (want
   | inr is ↦ cc
 ]
 
-module _ (replica : ℕ → ℕ → Contents → Found → Type 0) (rows : Contents → List HomeRow → Type 0) (void : Contents → Type 0) (settings : Settings) (k : Known) (script : List ℕ) (taken : Outside) (turn : Turn) (turns : List Turn) (t : Known) (written : List ℕ) (given : Outside) where
+module _ (replica : ℕ → ℕ → Contents → Found → Type 0) (rows : Contents → List HomeRow → Type 0) (void : Contents → Type 0) (settings : Settings) (k : Known) (script read : List ℕ) (taken : Outside) (turn : Turn) (turns : List Turn) (t : Known) (written : List ℕ) (given : Outside) where
   -- Behind a turn the disks given back hold what was acknowledged, but for a restart that is the next item and was refused.
-  pub acknowledged_is_held : Interrupted replica rows void settings k script taken (turn ∷ turns) t written given
-      → StandsOn replica rows settings t given ⊎ RestartRefused replica rows void settings k script taken (turn ∷ turns) t written given IsFront
+  pub acknowledged_is_held : Interrupted replica rows void settings k script read taken (turn ∷ turns) t written given
+      → StandsOn replica rows settings t given ⊎ RestartRefused replica rows void settings k script read taken (turn ∷ turns) t written given IsFront
   acknowledged_is_held (inl stood) = inl stood.stands
   acknowledged_is_held (inr (inl never)) = let clash = never.none in absurd cc
   acknowledged_is_held (inr (inr (inl first))) = let clash = first.none in absurd cc
   acknowledged_is_held (inr (inr (inr again))) = inr again
+
+-- A VOID DISK AT A FIRST OPENING THAT WAS REFUSED
+
+-- a void disk that was formatted in part has no photo that an opening would find
+pub stranger_in_a_void_disk : (replica : ℕ → ℕ → Contents → Found → Type 0) (rows : Contents → List HomeRow → Type 0) (void : Contents → Type 0) (settings : Settings) (taken : Outside) (image : ℕ → Contents) (v j : ℕ) (contents : Contents) (found : Found) (first : Pair × Photo) (others : Table)
+    → v < settings.volumes → j < settings.replicas → IsVoidStill replica rows void settings taken image (slot_of settings v j) contents
+    → replica v j (image (slot_of settings v j)) found → found.table ≡ first ∷ others → ⊥
+stranger_in_a_void_disk replica rows void settings taken image v j contents found first others below within still finds is =
+    let none : found.table ≡ [] = ap (λ (f : Found). f.table) (still.nothing.replicas v j below within refl found finds) in
+    let clash = sym none ∙ is in absurd cc
+
+-- ARMS
+
+-- no opening uses an arm
+pub restart_uses_an_arm : (settings : Settings) (k : Known) (reply : Reply) (notes : List Note) (t : Known) → LegalRestart settings k reply notes t → t.arms ≡ k.arms
+restart_uses_an_arm settings k (Restarted d) notes t h = (h.opened).arms
+restart_uses_an_arm settings k NoMem notes t h = (h.leaves).arms
+restart_uses_an_arm settings k _ notes t h = absurd h

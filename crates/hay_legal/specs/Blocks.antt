@@ -38,7 +38,7 @@ use Rattle.hay_legal.specs.declared.turn.LaneItem.{LaneItem}
 use Rattle.hay_legal.specs.declared.turn.LogNote.{LogNote}
 use Rattle.hay_legal.specs.declared.turn.RowNote.{RowNote}
 use Rattle.hay_legal.specs.Known.{volume_at, replica_at, machine_of, slot_of, replica_on, home_at, home_of, all_tries, at_front, now, closed, fault_count, arm_count, CameUp, NoneFalls, EachPair, replicas_of, volumes_of, all_lanes}
-use Rattle.hay_legal.specs.Plain.{GetShows, IsFrozenBy, IsOpen, as_closed, first_machine, lacks, order_from, put_entry, start_of}
+use Rattle.hay_legal.specs.Plain.{GetShows, IsFrozenBy, IsOpen, as_closed, first_machine, wants_room, order_from, put_entry, start_of}
 
 -- WHAT A REPLY TELLS
 
@@ -419,7 +419,7 @@ abbrev pub PutIsLegal : Settings → Known → List LaneItem → Known → CoreT
 PutIsLegal settings k items t tag pair bytes (Stored v p d c) =
     HomeAt t pair d (Some v) × (c ≡ cookie_of settings.secret pair.key) × MayHaveTaken settings k items t (length bytes) v
 PutIsLegal settings k items t tag pair bytes (Full refused) =
-    RefusesPut settings k items t pair bytes refused × (list_any lacks refused ≡ true)
+    RefusesPut settings k items t pair bytes refused × (list_any wants_room refused ≡ true)
 PutIsLegal settings k items t tag pair bytes (ReadOnly by) = RefusesPut settings k items t pair bytes (map as_closed by)
 PutIsLegal settings k items t tag pair bytes ReadOnlyDir =
     ((v : ℕ) × MayGetRow settings k items t pair (length bytes) v) × (t.directory.frozen ≡ true)

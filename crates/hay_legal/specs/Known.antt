@@ -185,6 +185,15 @@ pub record Leaves (k expected t : Known) : Type 0 where
   pub faults : NoneFalls k.faults t.faults
   pub arms : NoneFalls k.arms t.arms
 
+-- Disks are opened: from k comes t, which is the same, but that counts of disks' faults may have risen.
+pub record Rises (k t : Known) : Type 0 where
+  pub volumes : t.volumes ≡ k.volumes
+  pub directory : t.directory ≡ k.directory
+  pub drained : t.drained ≡ k.drained
+  pub fuses : t.fuses ≡ k.fuses
+  pub faults : NoneFalls k.faults t.faults
+  pub arms : t.arms ≡ k.arms
+
 -- A STORE ON VOID DISKS, AS FORMATTED
 
 abbrev pub fresh_volume : Settings → VolumeKnown

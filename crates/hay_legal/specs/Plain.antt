@@ -92,9 +92,9 @@ abbrev pub RefusedBy : Settings → Known → Pair → List ℕ → List Refused
 RefusedBy settings k pair bytes refused =
     map (refusal_of settings k (length bytes)) (tries_of settings k pair) ≡ map Some refused
 
-abbrev pub lacks : Refused → Bool
-lacks (NoRoom v m end need) = true
-lacks (Closed v m) = false
+abbrev pub wants_room : Refused → Bool
+wants_room (NoRoom v m end need) = true
+wants_room (Closed v m) = false
 
 abbrev pub as_closed : ClosedBy → Refused
 as_closed closed = Closed closed.volume closed.machine
@@ -150,7 +150,7 @@ PutNoMem settings k tag pair bytes t =
 abbrev pub LegalPut : Settings → Known → CoreTag → Pair → List ℕ → Reply → Known → Type 0
 LegalPut settings k tag pair bytes (Stored v p d c) t = IsStored settings k tag pair bytes v p d c t
 LegalPut settings k tag pair bytes (Full refused) t =
-    RefusedBy settings k pair bytes refused × (list_any lacks refused ≡ true) × Leaves k k t
+    RefusedBy settings k pair bytes refused × (list_any wants_room refused ≡ true) × Leaves k k t
 LegalPut settings k tag pair bytes (ReadOnly closed) t = RefusedBy settings k pair bytes (map as_closed closed) × Leaves k k t
 LegalPut settings k tag pair bytes ReadOnlyDir t =
     NeedsRow settings k pair bytes × (k.directory.frozen ≡ true) × Leaves k k t

@@ -17,7 +17,7 @@ use Rattle.hay_legal.specs.declared.known.ReplicaKnown.{ReplicaKnown}
 use Rattle.hay_legal.specs.declared.known.VolumeKnown.{VolumeKnown}
 use Rattle.hay_legal.specs.declared.known.DirKnown.{DirKnown}
 use Rattle.hay_legal.specs.declared.known.Known.{Known}
-use Rattle.hay_legal.specs.Known.{Leaves, replica_at, machine_of, replica_on, now, NoneFalls}
+use Rattle.hay_legal.specs.Known.{Rises, replica_at, machine_of, replica_on, now, NoneFalls}
 use Rattle.hay_legal.specs.Plain.{has_pair}
 
 -- WHICH REPLICAS KEEP A PENDING CHANGE
@@ -62,11 +62,13 @@ with_entries table (entry ∷ entries) = with_entries (apply_entry table entry) 
 -- the room and the cells of kept puts
 abbrev pub added_end : List Entry → ℕ
 added_end (Put pair cookie bytes ∷ entries) = needle_total (length bytes)
-added_end _ = 0
+added_end (Del pair ∷ entries) = 0
+added_end [] = 0
 
 abbrev pub added_cells : List Entry → ℕ
 added_cells (Put pair cookie bytes ∷ entries) = 1
-added_cells _ = 0
+added_cells (Del pair ∷ entries) = 0
+added_cells [] = 0
 
 -- A replica that was stuck may have fewer cells without a record.
 abbrev pub BareIs : Bool → ℕ → ℕ → Type 0
@@ -136,7 +138,7 @@ pub record Reopens (settings : Settings) (k : Known) (kept : List (List Bool)) (
   pub drained : t.drained ≡ map undrained k.drained
   pub fuses : t.fuses ≡ k.fuses
   pub faults : NoneFalls k.faults t.faults
-  pub arms : NoneFalls k.arms t.arms
+  pub arms : t.arms ≡ k.arms
 
 -- THE NOTES
 
@@ -177,7 +179,7 @@ pub record IsRestarted (settings : Settings) (k : Known) (d : ℕ) (notes : List
 
 -- Want of memory ends the run, and tells nothing of what was kept: what was known, pending changes with it, is known still.
 pub record IsNotRestarted (k : Known) (notes : List Note) (t : Known) : Type 0 where
-  pub leaves : Leaves k k t
+  pub leaves : Rises k t
   pub told : notes ≡ []
 
 abbrev pub LegalRestart : Settings → Known → Reply → List Note → Known → Type 0

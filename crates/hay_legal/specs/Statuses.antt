@@ -17,10 +17,10 @@ use Rattle.hay_legal.specs.declared.turn.Turn.{Turn}
 use Rattle.hay_legal.specs.declared.turn.Turn.TheVariants.{Restart}
 use Rattle.hay_legal.specs.Items.{Asked, items_of, items_before, item_of_turn}
 use Rattle.hay_legal.specs.Items.Asked.{Alone}
-use Rattle.hay_legal.specs.Known.{CameUp, Leaves, arm_count, disk_count, fault_count, fuse_count}
+use Rattle.hay_legal.specs.Known.{CameUp, Rises, arm_count, disk_count, empty_replica, fault_count, fuse_count, slot_of}
 use Rattle.hay_legal.specs.Legal.{Legal}
 use Rattle.hay_legal.specs.Restarts.{directory_with}
-use Rattle.hay_legal.specs.Stands.{Contents, Found, HasOutcome, IsFound, Outside, StandsOn}
+use Rattle.hay_legal.specs.Stands.{Contents, Found, HasOutcome, IsFound, Outside, StandsOn, found_of}
 use Rattle.hay_legal.specs.Transcript.{transcript_text}
 
 -- front stands at the front of all
@@ -64,36 +64,44 @@ pub record HoldsNew (replica : ℕ → ℕ → Contents → Found → Type 0) (r
 
 -- WHAT A REFUSED OPENING LEAVES
 
+-- If an opening finds anything in this slot, it is a new store's: no rows, and a replica without needles.
+pub record FindsNothing (replica : ℕ → ℕ → Contents → Found → Type 0) (rows : Contents → List HomeRow → Type 0) (settings : Settings) (slot : ℕ) (contents : Contents) : Type 0 where
+  pub directory : slot ≡ 0 → (homes : List HomeRow) → rows contents homes → homes ≡ []
+  pub replicas : (v j : ℕ) → v < settings.volumes → j < settings.replicas → slot ≡ slot_of settings v j →
+      (found : Found) → replica v j contents found → found ≡ found_of empty_replica
+
 -- What stands for a slot's disk behind a first opening that was refused: what a stop may leave of it ..
 abbrev pub IsImageOf : (ℕ → Contents) → ℕ → Contents → Type 0
 IsImageOf image slot contents = (file : ℕ) → contents file ≡ image slot file
 
--- .. a void disk, where it was void and may be formatted in part ..
-abbrev pub IsVoidStill : (Contents → Type 0) → Outside → ℕ → Contents → Type 0
-IsVoidStill void taken slot contents = void (contents_of taken slot) × void contents
+-- .. a void disk, where it was void and may be formatted in part, so that nothing is found in it ..
+pub record IsVoidStill (replica : ℕ → ℕ → Contents → Found → Type 0) (rows : Contents → List HomeRow → Type 0) (void : Contents → Type 0) (settings : Settings) (taken : Outside) (image : ℕ → Contents) (slot : ℕ) (contents : Contents) : Type 0 where
+  pub was : void (contents_of taken slot)
+  pub stands_for : void contents
+  pub nothing : FindsNothing replica rows settings slot (image slot)
 
 -- .. or what reads give of it, where it is as it was taken.
 abbrev pub IsAsTaken : Outside → Outside → ℕ → Contents → Type 0
 IsAsTaken taken given slot contents = (given.files slot ≡ taken.files slot) × ((file : ℕ) → contents file ≡ contents_of taken slot file)
 
-abbrev pub StandsIn : (Contents → Type 0) → Outside → Outside → (ℕ → Contents) → ℕ → Contents → Type 0
-StandsIn void taken given image slot contents =
-    IsImageOf image slot contents ⊎ IsVoidStill void taken slot contents ⊎ IsAsTaken taken given slot contents
+abbrev pub StandsIn : (ℕ → ℕ → Contents → Found → Type 0) → (Contents → List HomeRow → Type 0) → (Contents → Type 0) → Settings → Outside → Outside → (ℕ → Contents) → ℕ → Contents → Type 0
+StandsIn replica rows void settings taken given image slot contents =
+    IsImageOf image slot contents ⊎ IsVoidStill replica rows void settings taken image slot contents ⊎ IsAsTaken taken given slot contents
 
 -- The first opening of the disks that hold k was refused, or not begun: in every image of those given back the next one finds
--- what k is. No fuse was set, and no count fell.
+-- what k is. No fuse was set, no arm was used, and no count fell.
 pub record IsUnopened (replica : ℕ → ℕ → Contents → Found → Type 0) (rows : Contents → List HomeRow → Type 0) (void : Contents → Type 0) (settings : Settings) (k : Known) (taken given : Outside) : Type 0 where
   pub images : (image : ℕ → Contents) → ((slot : ℕ) → slot < disk_count settings → MayLeave (given.files slot) (image slot)) →
-      (contents : ℕ → Contents) × ((slot : ℕ) → slot < disk_count settings → StandsIn void taken given image slot (contents slot))
+      (contents : ℕ → Contents) × ((slot : ℕ) → slot < disk_count settings → StandsIn replica rows void settings taken given image slot (contents slot))
       × HasOutcome replica rows settings k contents
   pub faults : (slot : ℕ) → slot < disk_count settings → fault_count k slot ≤ given.faults slot
   pub fuses : (slot : ℕ) → slot < disk_count settings → fuse_count k slot ≡ given.fuses slot
-  pub arms : (lane : ℕ) → lane < 8 → arm_count k lane ≤ given.arms lane
+  pub arms : (lane : ℕ) → lane < 8 → arm_count k lane ≡ given.arms lane
 
 -- A restart from t was refused: the disks given back hold what t is, but for counts that may have risen.
 pub record IsNotReopened (replica : ℕ → ℕ → Contents → Found → Type 0) (rows : Contents → List HomeRow → Type 0) (settings : Settings) (t : Known) (given : Outside) : Type 0 where
   pub left : Known
-  pub leaves : Leaves t t left
+  pub leaves : Rises t left
   pub stands : StandsOn replica rows settings left given
 
 -- HOW A REFUSED OPENING IS TOLD
@@ -147,7 +155,7 @@ WantsLast ending turns =
     (before : List Turn) (line pick : ℕ) (notes : List Note) (after : Known) (behind : List Turn)
     → turns ≡ before ++ Restart line pick NoMem notes after ∷ behind → (behind ≡ []) × EndsWanting ending
 
-module _ (replica : ℕ → ℕ → Contents → Found → Type 0) (rows : Contents → List HomeRow → Type 0) (void : Contents → Type 0) (settings : Settings) (k : Known) (script : List ℕ) (taken : Outside) (turns : List Turn) (t : Known) (written : List ℕ) (given : Outside) where
+module _ (replica : ℕ → ℕ → Contents → Found → Type 0) (rows : Contents → List HomeRow → Type 0) (void : Contents → Type 0) (settings : Settings) (k : Known) (script read : List ℕ) (taken : Outside) (turns : List Turn) (t : Known) (written : List ℕ) (given : Outside) where
   -- The turns are these items, and their text is all that was written.
   pub record AnsweredAll (items : List Asked) : Type 0 where
     pub asked : asked_of turns ≡ items
@@ -164,7 +172,8 @@ module _ (replica : ℕ → ℕ → Contents → Found → Type 0) (rows : Conte
 
   -- The opening of a restart was refused, as is told.
   pub record RestartRefused (Much : List ℕ → List ℕ → Type 0) : Type 0 where
-    pub next : RestartsNext (asked_of turns) (items_of script)
+    pub next : RestartsNext (asked_of turns) (items_of read)
+    pub whole_lines : RestartsNext (asked_of turns) (items_of script)
     pub note : Note
     pub tells : TellsFailure settings t given note
     pub wrote : WroteBehind Much settings turns (note_line note) written
@@ -176,9 +185,11 @@ module _ (replica : ℕ → ℕ → Contents → Found → Type 0) (rows : Conte
     pub wrote : IsFront written (transcript_text settings [])
     pub left : IsUnopened replica rows void settings k taken given
 
-  -- The store was open to the end. All was written of all turns but the last, and a front of the last.
+  -- The store was open to the end. All was written of all turns but the last, and a front of the last. No line was answered of
+  -- which only a part was read.
   pub record StoodOpen : Type 0 where
-    pub asked : IsFront (asked_of turns) (items_of script)
+    pub asked : IsFront (asked_of turns) (items_of read)
+    pub whole_lines : IsFront (asked_of turns) (items_of script)
     pub before : List Turn
     pub last : List Turn
     pub parts : turns ≡ before ++ last
@@ -191,19 +202,19 @@ module _ (replica : ℕ → ℕ → Contents → Found → Type 0) (rows : Conte
   Interrupted = StoodOpen ⊎ NeverOpened ⊎ FirstRefused IsFront ⊎ RestartRefused IsFront
 
   abbrev pub Ends : Ending → Type 0
-  Ends ReadAll = AnsweredAll (items_of script)
-  Ends InputFault = AnsweredAll (items_before script)
-  Ends TooLong = AnsweredAll (items_before script)
+  Ends ReadAll = AnsweredAll (items_of read)
+  Ends InputFault = AnsweredAll (items_before read)
+  Ends TooLong = AnsweredAll (items_before read)
   Ends NotOpened = FirstRefused Whole ⊎ RestartRefused Whole
   Ends OutputFault = Interrupted
   Ends NoMemory = Interrupted
 
--- A whole run of a script, whose bytes are those that were taken: from the disks and arms that hold k to those given back.
-pub record RunsTo (replica : ℕ → ℕ → Contents → Found → Type 0) (rows : Contents → List HomeRow → Type 0) (void : Contents → Type 0) (settings : Settings) (k : Known) (ending : Ending) (script : List ℕ) (taken : Outside) (written : List ℕ) (given : Outside) : Type 0 where
+-- A whole run of a script, of which these bytes were read: from the disks and arms that hold k to those given back.
+pub record RunsTo (replica : ℕ → ℕ → Contents → Found → Type 0) (rows : Contents → List HomeRow → Type 0) (void : Contents → Type 0) (settings : Settings) (k : Known) (ending : Ending) (script read : List ℕ) (taken : Outside) (written : List ℕ) (given : Outside) : Type 0 where
   pub opened : Known
-  pub opening : Leaves k k opened
+  pub opening : Rises k opened
   pub turns : List Turn
   pub t : Known
   pub legal : Legal settings opened turns t
   pub wanting : WantsLast ending turns
-  pub ends : Ends replica rows void settings k script taken turns t written given ending
+  pub ends : Ends replica rows void settings k script read taken turns t written given ending

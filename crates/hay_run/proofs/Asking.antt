@@ -11,11 +11,11 @@ use Rattle.hay_legal.specs.declared.turn.Item.TheVariants as item
 use Rattle.hay_script.specs.Script.{line_of, lines_of, seen_byte}
 use Rattle.hay_legal.specs.Items.{Asked, OpenBlock, InBlock, empty_block, added, inside, outside, lanes_open, at_end, items_from, whole_items_from}
 use Rattle.hay_legal.specs.Items.Asked.{Alone, Block}
-use Rattle.hay_run.specs.Stream.{IsReadToEnd, Held, rest_of, Accounts, IsTooLong, TookAll}
+use Rattle.hay_run.specs.Stream.{IsReadToEnd, TookAtMost, Held, rest_of, Accounts, IsTooLong, TookAll}
 use Rattle.hay_run.specs.Lines.{NoFeed, fed_text, TookFed, TookLine, TookFeds, TookToEnd, TookLines, TookSome}
 use Rattle.hay_run.specs.Items.{SaysNext, block_behind, Asks, TookItems, TookOpen, AsksAll}
 use Rattle.hay_disk.specs.Streams.{Took}
-use Rattle.hay_run.proofs.Taking.{took_nothing, took_more, took_fed_more, took_last_more, took_end, feeds_append, feeds_end, seen-inner, long_before}
+use Rattle.hay_run.proofs.Taking.{took_nothing, took_more, took_fed_more, took_last_more, took_end, feeds_append, feeds_end, seen-inner, accounts_more, long_before}
 
 abbrev by_line : ℕ → Option OpenBlock → List ℕ → List Asked × Option OpenBlock
 by_line number held text = added number held (line_of (lanes_open held) text)
@@ -144,6 +144,10 @@ fed_line before after text ended (inl w) unmet = w.0
 fed_line before after text ended (inr w) unmet = absurd (false≢true (sym unmet ∙ w.1))
 
 -- LINES OUTSIDE OF A BLOCK
+
+pub outside-none : (number : ℕ) (said : Line) → (said ≡ line.Skip) ⊎ ((lanes : ℕ) × (said ≡ line.Lanes lanes)) → (outside number said).0 ≡ []
+outside-none number said (inl e) = rw e refl
+outside-none number said (inr (lanes, e)) = rw e refl
 
 pub outside-bad : (number : ℕ) (said : Line) → (said ≡ line.Bad) ⊎ (said ≡ line.End) ⊎ ((lane : ℕ) × (command : Command) × (said ≡ line.InLane lane command)) → (outside number said).0 ≡ Alone number item.Bad ∷ []
 outside-bad number said (inl e) = rw e refl
@@ -395,6 +399,14 @@ pub long_script : (limit : ℕ) (script : List ℕ) (mid after : Option (List �
     → (rest : List ℕ) × (after ≡ Some rest) × (length script ≡ limit + 1 + length rest)
 long_script limit script mid after first held h long at_first =
     let more = long_before limit (Some script) mid after first held h long in (more.0, more.1, omega (arith, more.2, at_first))
+
+pub taken_nothing : (limit : ℕ) (left : Option (List ℕ)) → TookAtMost limit left left
+taken_nothing limit left script told = (script, told, omega arith)
+
+pub taken_most : (limit : ℕ) (left mid after : Option (List ℕ)) (first held held' : Held) → Accounts left first mid held → Accounts mid held after held' → first.taken ≡ 0 → held'.taken ≤ limit → TookAtMost limit left after
+taken_most limit left mid after first held held' h k at_first small script told =
+    let all = accounts_more left mid after first held held' h k in
+    let made : Accounts (Some script) first after held' = rw told at all in (made.0, made.1, omega (arith, made.2, at_first, small))
 
 last_of_none : (a b : List ℕ) → a ++ b ≡ [] → b ≡ []
 last_of_none [] b e = e

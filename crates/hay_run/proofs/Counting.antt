@@ -1,7 +1,7 @@
 -- Counts that never fall.
-use Rattle.std.proofs.Common.{◌≡◌, inl, inr, ℕ, zero, suc, ◌<◌, ◌≤◌, Bool, true, List, [], ◌∷◌, length, Some, refl, sym, subst, arith}
+use Rattle.std.proofs.Common.{◌≡◌, inl, inr, ℕ, zero, suc, ◌<◌, ◌≤◌, Bool, true, List, [], ◌∷◌, length, map, Some, refl, sym, ap, subst, ◌∙◌, arith}
 use Rattle.std.specs.Prelude.{slice_get, slice_index}
-use Rattle.hay_disk.specs.Counts.{Rose}
+use Rattle.hay_disk.specs.Counts.{Rose, StaysSure}
 use Rattle.hay_legal.specs.Known.{NoneFalls}
 use Rattle.hay_cluster.specs.Causes.{StaySure}
 
@@ -34,22 +34,28 @@ rose_more a b c h (inr most) = inr most
 
 -- arms that stay sure
 
-pub sure_more : {A : Type 0} (is_sure : A → Bool) (a b c : List A) → StaySure is_sure a b → StaySure is_sure b c → StaySure is_sure a c
-sure_more is_sure [] [] [] h k = tt
-sure_more is_sure (x ∷ a) (y ∷ b) (z ∷ c) h k = (λ is. k.0 (h.0 is), sure_more is_sure a b c h.1 k.1)
-sure_more is_sure [] [] (z ∷ c) h k = absurd k
-sure_more is_sure [] (y ∷ b) c h k = absurd h
-sure_more is_sure (x ∷ a) [] c h k = absurd h
-sure_more is_sure (x ∷ a) (y ∷ b) [] h k = absurd k
+pub sure_more : {A : Type 0} (is_sure : A → Bool) (faults : A → ℕ) (a b c : List A) → StaySure is_sure faults a b → StaySure is_sure faults b c → StaySure is_sure faults a c
+sure_more is_sure faults [] [] [] h k = tt
+sure_more is_sure faults (x ∷ a) (y ∷ b) (z ∷ c) h k = (λ is. let first = h.0 is in let next = k.0 first.0 in (next.0, next.1 ∙ first.1), sure_more is_sure faults a b c h.1 k.1)
+sure_more is_sure faults [] [] (z ∷ c) h k = absurd k
+sure_more is_sure faults [] (y ∷ b) c h k = absurd h
+sure_more is_sure faults (x ∷ a) [] c h k = absurd h
+sure_more is_sure faults (x ∷ a) (y ∷ b) [] h k = absurd k
 
 -- the arm of a lane
-pub sure_at : {A : Type 0} (is_sure : A → Bool) (a b : List A) (lane : ℕ) (old : A) → StaySure is_sure a b → slice_get a lane ≡ Some old
-    → (new : A) × (slice_get b lane ≡ Some new) × (is_sure old ≡ true → is_sure new ≡ true)
-sure_at is_sure [] [] lane old h there = absurd cc
-sure_at {A} is_sure (x ∷ a) (y ∷ b) zero old h there = let same : x ≡ old = cc in (y, refl, subst (λ (z : A). is_sure z ≡ true → is_sure y ≡ true) same h.0)
-sure_at is_sure (x ∷ a) (y ∷ b) (suc lane) old h there = sure_at is_sure a b lane old h.1 there
-sure_at is_sure [] (y ∷ b) lane old h there = absurd h
-sure_at is_sure (x ∷ a) [] lane old h there = absurd h
+pub sure_at : {A : Type 0} (is_sure : A → Bool) (faults : A → ℕ) (a b : List A) (lane : ℕ) (old : A) → StaySure is_sure faults a b → slice_get a lane ≡ Some old
+    → (new : A) × (slice_get b lane ≡ Some new) × StaysSure (is_sure old) (is_sure new) (faults old) (faults new)
+sure_at is_sure faults [] [] lane old h there = absurd cc
+sure_at {A} is_sure faults (x ∷ a) (y ∷ b) zero old h there =
+    let same : x ≡ old = cc in (y, refl, subst (λ (z : A). StaysSure (is_sure z) (is_sure y) (faults z) (faults y)) same h.0)
+sure_at is_sure faults (x ∷ a) (y ∷ b) (suc lane) old h there = sure_at is_sure faults a b lane old h.1 there
+sure_at is_sure faults [] (y ∷ b) lane old h there = absurd h
+sure_at is_sure faults (x ∷ a) [] lane old h there = absurd h
+
+pub count_at : {A : Type 0} (faults : A → ℕ) (arms : List A) (lane : ℕ) (arm : A) → slice_get arms lane ≡ Some arm → slice_index (map faults arms) lane ≡ faults arm
+count_at faults [] lane arm there = absurd cc
+count_at faults (x ∷ arms) zero arm there = let same : x ≡ arm = cc in ap faults same
+count_at faults (x ∷ arms) (suc lane) arm there = count_at faults arms lane arm there
 
 pub arm_there : {A : Type 0} (arms : List A) (lane : ℕ) → lane < length arms → (arm : A) × (slice_get arms lane ≡ Some arm)
 arm_there [] lane below = absurd (omega (arith, below))

@@ -1,4 +1,6 @@
 pub mod Asking
+pub mod Caused
+pub mod Causing
 pub mod Commanding
 pub mod Counting
 pub mod Giving

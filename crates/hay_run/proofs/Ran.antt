@@ -1,5 +1,5 @@
 -- From what was served to a whole run.
-use Rattle.std.proofs.Common.{◌≡◌, ◌⊎◌, inl, inr, ℕ, ◌+◌, ◌<◌, ◌≤◌, false, List, [], ◌∷◌, ◌++◌, map, length, take, drop, Option, Some, None, refl, sym, ap, subst, ◌∙◌, append_assoc, length-append, arith, lit≤}
+use Rattle.std.proofs.Common.{◌≡◌, ◌≢◌, ◌⊎◌, inl, inr, ℕ, ◌+◌, ◌<◌, ◌≤◌, false, List, [], ◌∷◌, ◌++◌, map, length, take, drop, Option, Some, None, refl, sym, ap, subst, ◌∙◌, append_assoc, length-append, arith, lit≤}
 use Rattle.std.specs.Prelude.{flat_map}
 use Rattle.std.specs.List.{AllByRecursion}
 use Rattle.std.proofs.lemmas.Grind.{flat_map-append}
@@ -17,7 +17,7 @@ use Rattle.hay_legal.specs.declared.turn.Turn.{Turn}
 use Rattle.hay_legal.specs.declared.turn.Turn.TheVariants.{Restart}
 use Rattle.hay_legal.specs.Items.{Asked, items_of, item_of_turn}
 use Rattle.hay_legal.specs.Items.Asked.{Alone}
-use Rattle.hay_legal.specs.Known.{CameUp, Leaves, disk_count, fault_count}
+use Rattle.hay_legal.specs.Known.{CameUp, Rises, disk_count, fault_count}
 use Rattle.hay_legal.specs.Legal.{Legal}
 use Rattle.hay_legal.specs.Stands.{Outside, StandsOn}
 use Rattle.hay_legal.specs.Statuses as statuses
@@ -35,7 +35,7 @@ use Rattle.hay_run.specs.Stream.{Held, rest_of}
 use Rattle.hay_run.specs.Lines.{TookPart, TookOver, TookSome}
 use Rattle.hay_run.specs.Items.{TookItems, TookOpen}
 use Rattle.hay_run.specs.Turns.{Writing, Standing, Answers, GoesOn, Refused, TurnedPart, RestartRefused, Broke, HoldsNone, StopsTurn}
-use Rattle.hay_run.specs.Runs.{RanTo}
+use Rattle.hay_run.specs.Runs.{RanTo, ReadFront}
 use Rattle.hay_run.proofs.Asking.{took_items_more}
 use Rattle.hay_run.proofs.Reading.{ReadsFront, rest_none, breaks_off, over_part, front_some, front_read}
 use Rattle.hay_run.proofs.Turning.{legal_more}
@@ -106,22 +106,23 @@ last_none turns each = λ before line pick notes after behind is. absurd (none_w
 -- A RUN THAT STOPPED WHILE IT WROTE
 
 pub record RanPart (settings : Settings) (k : Known) (script : List ℕ) (left : Option (List ℕ)) (taken given : Outside) (held : List ℕ) (written : Option (List ℕ)) : Type 0 where
-  pub reads : (read : List ℕ) × (rest : List ℕ) × (script ≡ read ++ rest) × (left ≡ Some rest)
+  pub read : List ℕ
+  pub bytes : ReadFront script read left
   pub text : List ℕ
   pub wrote : written ≡ Some (held ++ text)
   pub opened : Known
-  pub opening : Leaves k k opened
+  pub opening : Rises k opened
   pub turns : List Turn
   pub t : Known
   pub legal : Legal settings opened turns t
   pub last : LastWants turns
-  pub ends : statuses.Interrupted (IsReplica settings) (OpensRows settings) IsVoid settings k reads.0 taken turns t text given
+  pub ends : statuses.Interrupted (IsReplica settings) (OpensRows settings) IsVoid settings k script read taken turns t text given
 
 pub ran_output : (settings : Settings) (k : Known) (script : List ℕ) (left : Option (List ℕ)) (taken given : Outside) (held : List ℕ) (written : Option (List ℕ))
     → RanPart settings k script left taken given held written → RanTo settings k OutputFault script left taken given held written
 ran_output settings k script left taken given held written part = record {
-  read = part.reads.0;
-  bytes = (part.reads.1, part.reads.2, part.reads.3);
+  read = part.read;
+  bytes = part.bytes;
   text = part.text;
   wrote = part.wrote;
   runs = record {
@@ -138,8 +139,8 @@ ran_output settings k script left taken given held written part = record {
 pub ran_memory : (settings : Settings) (k : Known) (script : List ℕ) (left : Option (List ℕ)) (taken given : Outside) (held : List ℕ) (written : Option (List ℕ))
     → RanPart settings k script left taken given held written → RanTo settings k NoMemory script left taken given held written
 ran_memory settings k script left taken given held written part = record {
-  read = part.reads.0;
-  bytes = (part.reads.1, part.reads.2, part.reads.3);
+  read = part.read;
+  bytes = part.bytes;
   text = part.text;
   wrote = part.wrote;
   runs = record {
@@ -163,7 +164,7 @@ tells_failure settings known t given slot count stands within came =
 
 module _ {D P A : Type 0} (Tells : Type 0) (Begins Left : Standing D P A) (settings : Settings) (taken given : Outside) (store store' : Open D P A) (k start : Known)
     (tells : Tells)
-    (opening : Leaves k k start)
+    (opening : Rises k start)
     (store_is : store.settings ≡ settings) (store'_is : store'.settings ≡ settings)
     (begins : Begins store start)
     (weaken : (between : Open D P A) → between.settings ≡ settings → (known : Known) → Begins between known → Left between known)
@@ -258,8 +259,10 @@ module _ {D P A : Type 0} (Tells : Type 0) (Begins Left : Standing D P A) (setti
     ran_same some same same_text =
         let reads = front_some script asked number rest left holding took some in
         let P : List Asked → Type 0 = λ all. IsFront all (items_of reads.read) in
+        let W : List Asked → Type 0 = λ all. IsFront all (items_of script) in
         record {
-          reads = (reads.read, reads.rest, reads.script_is, reads.left_is);
+          read = reads.read;
+          bytes = (reads.rest, reads.script_is, reads.left_is);
           text = transcript_text settings answers.turns;
           wrote = same_text ∙ mid_text;
           opened = start;
@@ -270,6 +273,7 @@ module _ {D P A : Type 0} (Tells : Type 0) (Begins Left : Standing D P A) (setti
           last = last_none answers.turns answers.each;
           ends = inl (record {
             asked = subst P (sym answers.items) reads.front;
+            whole_lines = subst W (sym answers.items) reads.whole;
             before = answers.turns;
             last = [];
             parts = sym (append-nil answers.turns);
@@ -286,12 +290,16 @@ module _ {D P A : Type 0} (Tells : Type 0) (Begins Left : Standing D P A) (setti
         let all = took_items_more 1 number p.next (Some script) rest (rest_of left holding) asked p.asked p.ended took p.took in
         let reads = front_read script (asked ++ p.asked) p.next left holding p.ended all in
         let wrote = part_text (flat_map turn_text last.turns) last.wrote in
-        let few : length last.turns ≤ 1 = omega (arith, p.one, ap length last.items, length-map last.turns item_of_turn) in
+        let one : length last.turns ≤ 1 = omega (arith, p.one, ap length last.items, length-map last.turns item_of_turn) in
         let P : Settings → Type 0 = λ s. Legal s answers.t last.turns last.t in
+        let items = map-append item_of_turn answers.turns last.turns
+        ∙ ap (λ (items : List Asked). items ++ map item_of_turn last.turns) answers.items ∙ ap (λ (items : List Asked). asked ++ items) last.items in
         let Q : List Asked → Type 0 = λ asks. IsFront asks (items_of reads.read) in
+        let W : List Asked → Type 0 = λ asks. IsFront asks (items_of script) in
         let R : List ℕ → Type 0 = λ l. IsFront (transcript_text settings answers.turns ++ take wrote.0 (flat_map turn_text last.turns)) l in
         record {
-          reads = (reads.read, reads.rest, reads.script_is, reads.left_is);
+          read = reads.read;
+          bytes = (reads.rest, reads.script_is, reads.left_is);
           text = transcript_text settings answers.turns ++ take wrote.0 (flat_map turn_text last.turns);
           wrote = wrote.1;
           opened = start;
@@ -299,14 +307,14 @@ module _ {D P A : Type 0} (Tells : Type 0) (Begins Left : Standing D P A) (setti
           turns = answers.turns ++ last.turns;
           t = last.t;
           legal = legal_more settings start answers.turns answers.t last.turns last.t mid_legal (subst P store'_is last.legal);
-          last = last_more answers.turns last.turns answers.each few;
+          last = last_more answers.turns last.turns answers.each one;
           ends = inl (record {
-            asked = subst Q (sym (map-append item_of_turn answers.turns last.turns
-                ∙ ap (λ (items : List Asked). items ++ map item_of_turn last.turns) answers.items ∙ ap (λ (items : List Asked). asked ++ items) last.items)) reads.front;
+            asked = subst Q (sym items) reads.front;
+            whole_lines = subst W (sym items) reads.whole;
             before = answers.turns;
             last = last.turns;
             parts = refl;
-            one = few;
+            one = one;
             wrote = (take wrote.0 (flat_map turn_text last.turns), refl);
             no_more = subst R (sym (transcript_more settings answers.turns last.turns))
                 (front_behind (transcript_text settings answers.turns) (take wrote.0 (flat_map turn_text last.turns)) (flat_map turn_text last.turns) (front_take wrote.0 (flat_map turn_text last.turns)));
@@ -335,8 +343,10 @@ module _ {D P A : Type 0} (Tells : Type 0) (Begins Left : Standing D P A) (setti
         let line = note_line (OpenFailed f.slot f.count) in
         let wrote = part_text line f.wrote in
         let P : List Asked → Type 0 = λ all. IsFront (all ++ Alone number (item.Command (asks.Restart r.pick)) ∷ []) (items_of reads.read) in
+        let W : List Asked → Type 0 = λ all. IsFront (all ++ Alone number (item.Command (asks.Restart r.pick)) ∷ []) (items_of script) in
         record {
-          reads = (reads.read, reads.rest, reads.script_is, reads.left_is);
+          read = reads.read;
+          bytes = (reads.rest, reads.script_is, reads.left_is);
           text = transcript_text settings answers.turns ++ take wrote.0 line;
           wrote = wrote.1;
           opened = start;
@@ -347,6 +357,7 @@ module _ {D P A : Type 0} (Tells : Type 0) (Begins Left : Standing D P A) (setti
           last = last_none answers.turns answers.each;
           ends = inr (inr (inr (record {
             next = (number, r.pick, subst P (sym answers.items) reads.front);
+            whole_lines = (number, r.pick, subst W (sym answers.items) reads.whole);
             note = OpenFailed f.slot f.count;
             tells = refused_tells WrotePart f;
             wrote = (take wrote.0 line, front_take wrote.0 line, refl);
@@ -364,6 +375,7 @@ module _ {D P A : Type 0} (Tells : Type 0) (Begins Left : Standing D P A) (setti
         let reads = restart_reads Wrote r in
         let line = note_line (OpenFailed f.slot f.count) in
         let P : List Asked → Type 0 = λ all. IsFront (all ++ Alone number (item.Command (asks.Restart r.pick)) ∷ []) (items_of reads.read) in
+        let W : List Asked → Type 0 = λ all. IsFront (all ++ Alone number (item.Command (asks.Restart r.pick)) ∷ []) (items_of script) in
         let R : Option (List ℕ) → Type 0 = λ before. Wrote before line written' in
         record {
           read = reads.read;
@@ -379,6 +391,7 @@ module _ {D P A : Type 0} (Tells : Type 0) (Begins Left : Standing D P A) (setti
             wanting = wants_none NotOpened answers.turns answers.each;
             ends = inr (record {
               next = (number, r.pick, subst P (sym answers.items) reads.front);
+              whole_lines = (number, r.pick, subst W (sym answers.items) reads.whole);
               note = OpenFailed f.slot f.count;
               tells = refused_tells Wrote f;
               wrote = (line, refl, refl);

@@ -113,13 +113,14 @@ breaks_off script asked number mid after took broke =
 
 -- A FRONT OF A SCRIPT
 
--- these bytes of a script were read, and what was answered are the first of their items
+-- these bytes of a script were read, and what was answered are the first of their items, and of the script's
 pub record ReadsFront (script : List ℕ) (asked : List Asked) (left : Option (List ℕ)) : Type 0 where
   pub read : List ℕ
   pub rest : List ℕ
   pub left_is : left ≡ Some rest
   pub script_is : script ≡ read ++ rest
   pub front : IsFront asked (items_of read)
+  pub whole : IsFront asked (items_of script)
 
 items_front : (texts : List (List ℕ)) (asked : List Asked) (bytes more : List ℕ) → whole_items_from 1 None texts ≡ asked → block_behind 1 None texts ≡ None
     → lines_of (bytes ++ more) ≡ texts ++ lines_of more → IsFront asked (items_of (bytes ++ more))
@@ -144,6 +145,7 @@ front_some script asked number mid left held took some =
       script_is = all.all_is ∙ ap (λ (l : List ℕ). all.bytes ++ l) (last.2 ∙ ap (λ (l : List ℕ). piece ++ l) behind.2 ∙ sym (append_assoc piece held.bytes behind.0))
           ∙ sym (append_assoc all.bytes (piece ++ held.bytes) behind.0);
       front = items_front took.texts asked all.bytes (piece ++ held.bytes) whole.0 whole.1 (all.lines (piece ++ held.bytes));
+      whole = subst (λ (bytes : List ℕ). IsFront asked (items_of bytes)) (sym all.all_is) (items_front took.texts asked all.bytes all.rest whole.0 whole.1 (all.lines all.rest));
     }
 
 last_of_none : (a b : List ℕ) → [] ≡ a ++ b → b ≡ []
@@ -161,6 +163,7 @@ front_fed script asked texts left held feeds whole behind_is =
       left_is = behind.1;
       script_is = all.all_is ∙ ap (λ (l : List ℕ). all.bytes ++ l) behind.2 ∙ sym (append_assoc all.bytes held.bytes behind.0);
       front = items_front texts asked all.bytes held.bytes whole behind_is (all.lines held.bytes);
+      whole = subst (λ (bytes : List ℕ). IsFront asked (items_of bytes)) (sym all.all_is) (items_front texts asked all.bytes all.rest whole behind_is (all.lines all.rest));
     }
 
 pub front_read : (script : List ℕ) (asked : List Asked) (number : ℕ) (left : Option (List ℕ)) (held : Held) (ended : Bool)
@@ -179,6 +182,7 @@ front_read script asked number left held true took =
       left_is = behind.1 ∙ ap (λ (l : List ℕ). Some l) none;
       script_is = sym (append-nil script);
       front = ([], sym all ∙ sym (append-nil asked));
+      whole = ([], sym all ∙ sym (append-nil asked));
     }
 
 -- WHERE A SCRIPT IS TOO LONG

@@ -22,7 +22,7 @@ use Rattle.hay_cluster.specs.declared.fault.ClusterFault.{ClusterFault}
 use Rattle.hay_cluster.specs.declared.fault.ClusterFault.TheVariants as refusal
 use Rattle.hay_directory.specs.Rows.{OpensRows}
 use Rattle.hay_logical.specs.Fits.{IsReplica}
-use Rattle.hay_cluster.specs.Outside.{CountsOn, IsDamagedDisk, IsFirstDamage, IsKept, IsNotWhole, IsUndamaged, IsVoid, outside_of}
+use Rattle.hay_cluster.specs.Outside.{CountsOn, IsDamagedDisk, IsFirstDamage, IsKept, IsNotWhole, IsUndamaged, IsUndamagedBelow, IsVoid, outside_of}
 use Rattle.hay_cluster.specs.Store.{Open, contents_in}
 use Rattle.hay_cluster.proofs.OpeningDamage.{slot_found}
 use Rattle.hay_run.specs.declared.stops.Stop.{Stop}
@@ -32,7 +32,7 @@ use Rattle.hay_run.specs.Runs.{HasOpened, IsFirstRefusal, IsLaterRefusal, IsTake
 use Rattle.hay_run.specs.Turns.{Standing, counts_of, RefusedFor, Halts}
 use Rattle.hay_run.proofs.Counting.{rose_more}
 use Rattle.hay_run.proofs.Restarting.{rose_came_up}
-use Rattle.hay_run.proofs.Turning.{leaves_same}
+use Rattle.hay_run.proofs.Turning.{rises_same}
 use Rattle.hay_run.proofs.Ran.{LastWants, RanPart, last_none, ran_output, ran_memory, front_take, wants_none}
 
 pub on_ok_both : {T E : Type 0} (P Q : Type 0) (r : Result T E) → OnOk r P → OnOk r Q → OnOk r (P × Q)
@@ -50,7 +50,7 @@ untouched settings taken k is = record {
   );
   faults = λ slot within. let same = is.faults slot within in omega (arith, same);
   fuses = is.fuses;
-  arms = λ lane within. let same = is.arms lane within in omega (arith, same);
+  arms = is.arms;
 }
 
 -- what an opening finds is not damaged
@@ -62,12 +62,15 @@ not_damaged settings some taken k is (suc n) file at damaged =
     let P : ℕ → Type 0 = λ slot. IsReplica settings there.0 there.1 (contents_of taken slot) found in
     damaged.not_whole.replica there.0 there.1 there.2 there.3 (sym there.4) found (subst P there.4 (is.found.replicas there.0 there.1 there.2 there.3))
 
--- the same of a disk with the same contents
-damaged_as : (settings : Settings) (slot file at : ℕ) (a b : ℕ → Contents) → a slot ≡ b slot → IsDamagedDisk settings a slot file at → IsDamagedDisk settings b slot file at
-damaged_as settings slot file at a b same d = record {
+-- the same of disks with the same contents
+damaged_as : (settings : Settings) (slot file at : ℕ) (a b : ℕ → Contents) → a slot ≡ b slot → ((lower : ℕ) → lower < slot → a lower ≡ b lower) → IsDamagedDisk settings a slot file at → IsDamagedDisk settings b slot file at
+damaged_as settings slot file at a b same below_same d = record {
   within = d.within;
   not_whole = subst (λ (c : Contents). IsNotWhole settings slot c) same d.not_whole;
   place = subst (λ (c : Contents). IsFirstDamage settings slot file at c) same d.place;
+  lowest = λ lower file' at' below some there.
+      let is = below_same lower below in
+      d.lowest lower file' at' below (subst (λ (c : Contents). IsVoid c → ⊥) (sym is) some) (subst (λ (c : Contents). IsFirstDamage settings lower file' at' c) (sym is) there);
 }
 
 no_last : LastWants []
@@ -75,7 +78,7 @@ no_last = last_none [] tt
 
 -- what a refused opening has left of the disks of a store
 abbrev pub AreKept : Settings → (ℕ → HeldDisk) → (ℕ → HeldDisk) → Type 0
-AreKept settings disks disks' = (slot : ℕ) → slot < disk_count settings → IsKept (disks slot) (disks' slot)
+AreKept settings disks disks' = (slot : ℕ) → slot < disk_count settings → IsKept settings slot (disks slot) (disks' slot)
 
 -- The shelf as it was and as it is behind an opening that was refused: k was held.
 module _ (settings : Settings) (shelf shelf' : ℕ) (disks disks' : ℕ → HeldDisk) (arms arms' : ℕ → HeldArm) (k : Known) (taken : IsTaken settings (outside_of shelf disks arms) k)
@@ -83,9 +86,9 @@ module _ (settings : Settings) (shelf shelf' : ℕ) (disks disks' : ℕ → Held
     (counts : (slot : ℕ) → slot < disk_count settings → CountsOn (disks slot) (disks' slot).fault_count (disks' slot).fuse_count)
     (back : (lane : ℕ) → lane < 8 → IsArmBack (arms lane) (arms' lane))
     (some : 1 ≤ settings.replicas) where
-  stands_in : (slot : ℕ) (image : ℕ → (ℕ → List ℕ)) → MayLeave (disks' slot).files (image slot) → IsKept (disks slot) (disks' slot)
-      → statuses.StandsIn IsVoid (outside_of shelf disks arms) (outside_of shelf' disks' arms') image slot (contents_of (outside_of shelf disks arms) slot)
-  stands_in slot image may (inl void) = inr (inl (void, void))
+  stands_in : (slot : ℕ) (image : ℕ → (ℕ → List ℕ)) → MayLeave (disks' slot).files (image slot) → IsKept settings slot (disks slot) (disks' slot)
+      → statuses.StandsIn (IsReplica settings) (OpensRows settings) IsVoid settings (outside_of shelf disks arms) (outside_of shelf' disks' arms') image slot (contents_of (outside_of shelf disks arms) slot)
+  stands_in slot image may (inl void) = inr (inl (record { was = void.void; stands_for = void.void; nothing = void.nothing (image slot) may }))
   stands_in slot image may (inr (inl same)) = inr (inr (same, λ file. refl))
   stands_in slot image may (inr (inr all)) = inl (λ file. sym (all (image slot) may file))
 
@@ -98,13 +101,13 @@ module _ (settings : Settings) (shelf shelf' : ℕ) (disks disks' : ℕ → Held
     );
     faults = λ slot within. let same = taken.faults slot within in let rise = (counts slot within).faults_rise in omega (arith, same, rise);
     fuses = λ slot within. taken.fuses slot within ∙ sym (counts slot within).fuses_are;
-    arms = λ lane within. let same = taken.arms lane within in let stays = (back lane within).fault_count in omega (arith, same, stays);
+    arms = λ lane within. taken.arms lane within ∙ sym (back lane within).fault_count;
   }
 
   tells_of : (Tells : Type 0) → Tells → (note : Note) → IsFirstRefusal Tells settings (outside_of shelf disks arms) (outside_of shelf' disks' arms') note
       → statuses.TellsFirst settings k (outside_of shelf disks arms) (outside_of shelf' disks' arms') note
   tells_of Tells tells note (inl (count, is, rose, told)) = inr (count, is, rose_came_up shelf shelf' count rose told)
-  tells_of Tells tells note (inr (inl (slot, count, is, within, rose, told))) =
+  tells_of Tells tells note (inr (inl (slot, (count, is, within, rose, told), lowest))) =
       inl (
         slot,
         count,
@@ -119,11 +122,12 @@ module _ (settings : Settings) (shelf shelf' : ℕ) (disks disks' : ℕ → Held
     noted : (note : Note) → statuses.TellsFirst settings k (outside_of shelf disks arms) (outside_of shelf' disks' arms') note → WrotePart (Some (held ++ header_line settings)) (note_line note) written'
         → RanPart settings k script (Some script) (outside_of shelf disks arms) (outside_of shelf' disks' arms') held written'
     noted note tells wrote = record {
-      reads = ([], script, refl, refl);
+      read = [];
+      bytes = (script, refl, refl);
       text = header_line settings ++ take wrote.0 (note_line note);
       wrote = wrote.1 ∙ ap (λ (l : List ℕ). Some l) (append_assoc held (header_line settings) (take wrote.0 (note_line note)));
       opened = k;
-      opening = leaves_same k;
+      opening = rises_same k;
       turns = [];
       t = k;
       legal = refl;
@@ -144,11 +148,12 @@ module _ (settings : Settings) (shelf shelf' : ℕ) (disks disks' : ℕ → Held
     -- nothing was written behind the header
     header_alone : written' ≡ Some (held ++ header_line settings) → RanPart settings k script (Some script) (outside_of shelf disks arms) (outside_of shelf' disks' arms') held written'
     header_alone same = record {
-      reads = ([], script, refl, refl);
+      read = [];
+      bytes = (script, refl, refl);
       text = header_line settings;
       wrote = same;
       opened = k;
-      opening = leaves_same k;
+      opening = rises_same k;
       turns = [];
       t = k;
       legal = refl;
@@ -166,7 +171,7 @@ module _ (settings : Settings) (shelf shelf' : ℕ) (disks disks' : ℕ → Held
           ∙ ap (λ (l : List ℕ). held ++ (l ++ note_line note)) (sym (append-nil (header_line settings))));
       runs = record {
         opened = k;
-        opening = leaves_same k;
+        opening = rises_same k;
         turns = [];
         t = k;
         legal = refl;
@@ -217,11 +222,12 @@ pub ran_header : (settings : Settings) (taken : Outside) (k : Known) → IsTaken
     → (script held : List ℕ) (written' : Option (List ℕ)) → WrotePart (Some held) (header_line settings) written'
     → RanPart settings k script (Some script) taken taken held written'
 ran_header settings taken k is script held written' wrote = record {
-  reads = ([], script, refl, refl);
+  read = [];
+  bytes = (script, refl, refl);
   text = take wrote.0 (header_line settings);
   wrote = wrote.1;
   opened = k;
-  opening = leaves_same k;
+  opening = rises_same k;
   turns = [];
   t = k;
   legal = refl;
@@ -243,15 +249,16 @@ module _ (Tells : Type 0) (settings : Settings) (taken given : Outside) where
   pub cause_of : (fault : ClusterFault)
       → ((count : ℕ) → fault ≡ refusal.Shelf count → Rose taken.shelf given.shelf × (count ≡ given.shelf))
       → ((slot count : ℕ) → fault ≡ refusal.Failed slot count → (slot < disk_count settings) × Rose (taken.faults slot) (given.faults slot) × (count ≡ given.faults slot))
+      → (Tells → (slot count : ℕ) → fault ≡ refusal.Failed slot count → IsUndamagedBelow settings slot (contents_of taken))
       → (Tells → (slot file at : ℕ) → fault ≡ refusal.Damaged slot file at → IsDamagedDisk settings (contents_of taken) slot file at × IsDamagedDisk settings (contents_of given) slot file at)
       → (note : Note) → note_of fault ≡ Some note → IsFirstRefusal Tells settings taken given note
-  cause_of (refusal.Shelf count) of_shelf of_disk of_damage note is =
+  cause_of (refusal.Shelf count) of_shelf of_disk of_lower of_damage note is =
       let same : note ≡ told.OpenShelf count = cc in let rose = of_shelf count refl in inl (count, same, rose.0, rose.1)
-  cause_of (refusal.Failed slot count) of_shelf of_disk of_damage note is =
-      let same : note ≡ told.OpenFailed slot count = cc in let rose = of_disk slot count refl in inr (inl (slot, count, same, rose.0, rose.1, rose.2))
-  cause_of (refusal.Damaged slot file at) of_shelf of_disk of_damage note is =
+  cause_of (refusal.Failed slot count) of_shelf of_disk of_lower of_damage note is =
+      let same : note ≡ told.OpenFailed slot count = cc in let rose = of_disk slot count refl in inr (inl (slot, (count, same, rose.0, rose.1, rose.2), λ tells. of_lower tells slot count refl))
+  cause_of (refusal.Damaged slot file at) of_shelf of_disk of_lower of_damage note is =
       let same : note ≡ told.OpenDamaged slot file at = cc in inr (inr (slot, file, at, same, λ tells. of_damage tells slot file at refl))
-  cause_of refusal.NoMemory of_shelf of_disk of_damage note is = cc
+  cause_of refusal.NoMemory of_shelf of_disk of_lower of_damage note is = cc
 
   -- as the refusal of a restart says
   module _ {D P A : Type 0} (Begins : Standing D P A) (files : D → Files) (faults : D → ℕ) (store store' : Open D P A)
@@ -266,11 +273,13 @@ module _ (Tells : Type 0) (settings : Settings) (taken given : Outside) where
         let within : slot < disk_count settings = subst (λ (s : Settings). slot < disk_count s) same below in
         inl (
           slot,
-          count,
-          is,
-          within,
-          subst (λ n. Rose (taken.faults slot) n) (sym (back slot within)) (rose_more (taken.faults slot) (slice_index (counts_of faults store) slot) (slice_index (counts_of faults store') slot) (later slot within) rose),
-          count_is ∙ sym (back slot within),
+          (
+            count,
+            is,
+            within,
+            subst (λ n. Rose (taken.faults slot) n) (sym (back slot within)) (rose_more (taken.faults slot) (slice_index (counts_of faults store) slot) (slice_index (counts_of faults store') slot) (later slot within) rose),
+            count_is ∙ sym (back slot within),
+          ),
         )
     cause_later note (inr (slot, file, at, is, why)) =
         inr (
@@ -282,7 +291,8 @@ module _ (Tells : Type 0) (settings : Settings) (taken given : Outside) where
               let damaged : IsDamagedDisk settings (contents_in files store') slot file at = subst (λ (s : Settings). IsDamagedDisk s (contents_in files store') slot file at) same (why tells).1 in (
                 λ k held. let s = stands tells k held in (why tells).0 s.0 s.1,
                 sound tells,
-                damaged_as settings slot file at (contents_in files store') (contents_of given) (sym (contents tells slot damaged.within)) damaged,
+                damaged_as settings slot file at (contents_in files store') (contents_of given) (sym (contents tells slot damaged.within))
+                    (λ lower below. sym (contents tells lower (let within = damaged.within in omega (arith, below, within)))) damaged,
               ),
         )
 
@@ -344,11 +354,12 @@ pub ran_nothing : (settings : Settings) (taken : Outside) (k : Known) → IsTake
 ran_nothing settings taken k is_taken script held written same ending is =
     ran_by settings k script (Some script) taken taken held written ending NoMemory is
     (ran_memory settings k script (Some script) taken taken held written (record {
-      reads = ([], script, refl, refl);
+      read = [];
+      bytes = (script, refl, refl);
       text = [];
       wrote = same ∙ ap (λ (l : List ℕ). Some l) (sym (append-nil held));
       opened = k;
-      opening = leaves_same k;
+      opening = rises_same k;
       turns = [];
       t = k;
       legal = refl;
@@ -398,3 +409,7 @@ none_opened stop.TooLong (inr (inr is)) none (inl opened) = cc
 
 pub not_read : (left : Option (List ℕ)) → WasRead left left → ⊥
 not_read left read = read.2 read.1
+
+-- what holds of an ending holds of the one with its status
+pub by_status : (P : Ending → Type 0) (one other : Ending) → status_of one ≡ status_of other → P one → P other
+by_status P one other same h = subst P (same_ending one other same) h

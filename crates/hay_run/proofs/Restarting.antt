@@ -16,7 +16,7 @@ use Rattle.hay_legal.specs.Items.Asked.{Alone}
 use Rattle.hay_needle.specs.declared.settings.Settings.{Settings}
 use Rattle.hay_legal.specs.declared.turn.Turn.{Turn}
 use Rattle.hay_legal.specs.declared.turn.Turn.TheVariants.{Restart}
-use Rattle.hay_legal.specs.Known.{CameUp, Leaves, disk_count, fault_count}
+use Rattle.hay_legal.specs.Known.{CameUp, Rises, disk_count, fault_count}
 use Rattle.hay_legal.specs.Restarts.{IsRestarted}
 use Rattle.hay_cluster.specs.declared.fault.ClusterFault.{ClusterFault}
 use Rattle.hay_cluster.specs.declared.fault.ClusterFault.TheVariants as refusal
@@ -60,7 +60,7 @@ restarted Left Is is_one Writes k t number pick rows count notes slice written w
 
 -- what was known, but for counts that may have risen
 abbrev pub LeavesKnown : {D P A : Type 0} → Standing D P A → Known → Open D P A → Type 0
-LeavesKnown Left k store = (t : Known) × Leaves k k t × Left store t
+LeavesKnown Left k store = (t : Known) × Rises k t × Left store t
 
 -- a count that rose to what is told came up to it
 pub rose_came_up : (before after count : ℕ) → Rose before after → count ≡ after → CameUp before count after

@@ -1,6 +1,7 @@
 -- From the stop of a turn to that of all turns.
-use Rattle.std.proofs.Common.{◌≡◌, ◌⊎◌, inl, inr, ℕ, ◌<◌, List, [], ◌++◌, Option, None, Some, ap, subst, ◌∙◌, append_assoc}
-use Rattle.std.specs.Prelude.{slice_index, Result, Err, IsErrOf}
+use Rattle.std.proofs.Common.{◌≡◌, ◌⊎◌, inl, inr, ℕ, ◌<◌, List, [], ◌++◌, Option, None, Some, refl, ap, subst, ◌∙◌, append_assoc}
+use Rattle.std.specs.Prelude.{slice_index, Result, Err, IsErrOf, OnErr}
+use Rattle.std.proofs.lemmas.Result.{IfErr-at_err}
 use Rattle.hay_disk.specs.Disk.{Files}
 use Rattle.hay_disk.specs.Streams.{Wrote}
 use Rattle.hay_needle.specs.declared.settings.Settings.{Settings}
@@ -83,3 +84,29 @@ halts_more Tells Stands files faults asked written written' written'' store mid 
         next.1 ∙ ap (λ (bytes : List ℕ). Some (bytes ++ note_line h.note)) (append_assoc held first.0 next.0),
       );
 }
+
+-- a stop for another reason than a long script
+pub other_stop : {T P : Type 0} (r : Result T Stop) (why : Stop) → r ≡ Err why → (why ≡ stop.TooLong → ⊥)
+    → (IsErrOf r stop.Input ⊎ IsErrOf r stop.NoMemory ⊎ IsErrOf r stop.Output ⊎ IsErrOf r stop.Store → P) → P
+other_stop r stop.Input is other h = h (inl is)
+other_stop r stop.NoMemory is other h = h (inr (inl is))
+other_stop r stop.Output is other h = h (inr (inr (inl is)))
+other_stop r stop.Store is other h = h (inr (inr (inr is)))
+other_stop r stop.TooLong is other h = absurd (other refl)
+
+-- one of four stops, of a call that reads and stopped so
+four_stops : {U : Type 0} (w : Result U Stop) → IsErrOf w stop.Input ⊎ IsErrOf w stop.NoMemory ⊎ IsErrOf w stop.Output ⊎ IsErrOf w stop.Store → w ≡ Err stop.TooLong → ⊥
+four_stops w (inl e) is = cc
+four_stops w (inr (inl e)) is = cc
+four_stops w (inr (inr (inl e))) is = cc
+four_stops w (inr (inr (inr e))) is = cc
+
+read_by : {T : Type 0} (r : Result T Stop) → (r ≡ Err stop.TooLong → ⊥) → (r ≡ Err stop.Input) ⊎ (r ≡ Err stop.NoMemory) ⊎ (r ≡ Err stop.TooLong) → IsErrOf r stop.Input ⊎ IsErrOf r stop.NoMemory
+read_by r other (inl e) = inl e
+read_by r other (inr (inl e)) = inr e
+read_by r other (inr (inr e)) = absurd (other e)
+
+pub read_stop : {T U : Type 0} (r : Result T Stop) (w : Result U Stop) (why : Stop) → r ≡ Err why → w ≡ Err why → OnErr r ((r ≡ Err stop.Input) ⊎ (r ≡ Err stop.NoMemory) ⊎ (r ≡ Err stop.TooLong))
+    → IsErrOf w stop.Input ⊎ IsErrOf w stop.NoMemory ⊎ IsErrOf w stop.Output ⊎ IsErrOf w stop.Store → IsErrOf r stop.Input ⊎ IsErrOf r stop.NoMemory
+read_stop r w why is same kinds four =
+    read_by r (λ e. four_stops w four cc) (IfErr-at_err (λ (x : Stop). (r ≡ Err stop.Input) ⊎ (r ≡ Err stop.NoMemory) ⊎ (r ≡ Err stop.TooLong)) is kinds)

@@ -10,7 +10,7 @@ use Rattle.hay_run.specs.Stopping.{RefusedAsked, BrokeAsked}
 use Rattle.hay_run.specs.Turns.{Writing, Standing, RestartRefused, Broke}
 
 -- a line asks for one thing at most
-outside-one : (number : ℕ) (said : Line) → length (outside number said).0 ≤ 1
+pub outside-one : (number : ℕ) (said : Line) → length (outside number said).0 ≤ 1
 outside-one number line.Skip = lit≤ tt
 outside-one number (line.Plain command) = lit≤ tt
 outside-one number (line.Lanes lanes) = lit≤ tt

@@ -1,6 +1,6 @@
 -- One piece of a script after another, up to a whole line.
-use Rattle.std.proofs.Common.{◌≡◌, ◌≢◌, inl, inr, ◌==◌, ◌&&◌, ℕ, zero, suc, ◌+◌, ◌<◌, ◌≤◌, Bool, true, false, if◌then◌else◌, List, [], ◌∷◌, ◌++◌, length, Option, Some, None, refl, sym, ap, subst, ◌∙◌, append_assoc, length-append, arith, fold, filter}
-use Rattle.std.specs.Prelude.{slice_index_or, slice_set}
+use Rattle.std.proofs.Common.{◌≡◌, ◌≢◌, ◌⊎◌, inl, inr, ◌==◌, ◌&&◌, ℕ, zero, suc, ◌+◌, ◌<◌, ◌≤◌, Bool, true, false, if◌then◌else◌, List, [], ◌∷◌, ◌++◌, length, Option, Some, None, refl, sym, ap, subst, ◌∙◌, append_assoc, length-append, arith, fold, filter}
+use Rattle.std.specs.Prelude.{slice_index_or, slice_set, Result, Err, IsErrOf}
 use Rattle.std.specs.List.{onto_first, slice_split}
 use Rattle.std.proofs.lemmas.List.{append-nil}
 use Rattle.std.proofs.lemmas.List.Sums.{fold-append}
@@ -13,6 +13,11 @@ use Rattle.hay_run.specs.declared.lines.LineRead.{LineRead}
 use Rattle.hay_run.specs.declared.lines.LineRead.TheVariants.{Line, End}
 use Rattle.hay_run.specs.declared.lines.LineStart.{LineStart}
 use Rattle.hay_run.specs.declared.lines.LineStart.TheVariants.{Blank, BlankReturn, Comment, Words}
+use Rattle.hay_run.specs.declared.stops.ReadFault.{ReadFault}
+use Rattle.hay_run.specs.declared.stops.ReadFault.TheVariants as reading
+use Rattle.hay_run.specs.declared.stops.Stop.{Stop}
+use Rattle.hay_run.specs.declared.stops.Stop.TheVariants as stop
+use Rattle.hay_run.specs.Stops.{stop_of}
 use Rattle.hay_run.specs.Stream.{Held, Accounts, IsTooLong, TookAll}
 use Rattle.hay_run.specs.Lines.{NoFeed, fed_text, TookFed, TookLast, TookLine, ReadsLine, TookFeds, TookToEnd, start_behind, long_fed, long_last}
 
@@ -300,3 +305,16 @@ feeds_end [] [] before mid after h k = took_all before mid after [] h k
 feeds_end [] (text ∷ more) before mid after h (inl w) = inl (record { free = w.0.free; some = w.0.some; all = took_all_of before mid after text h w.0.all }, w.1)
 feeds_end [] (text ∷ more) before mid after h (inr w) = inr (w.0, first_of before mid w.0 text h w.1, w.2)
 feeds_end (first ∷ texts) more before mid after h k = inr (h.0, h.1, feeds_end texts more h.0 mid after h.2 k)
+
+-- THE SAME STOP
+
+-- one of two stops, of another call that stopped so
+pub either_stop : {T U : Type 0} (r : Result T Stop) (w : Result U Stop) (why : Stop) → r ≡ Err why → w ≡ Err why → IsErrOf w stop.Input ⊎ IsErrOf w stop.NoMemory → IsErrOf r stop.Input ⊎ IsErrOf r stop.NoMemory
+either_stop r w why is same (inl e) = inl cc
+either_stop r w why is same (inr e) = inr cc
+
+-- a reader's fault that is one of them
+pub failed_stop : {U : Type 0} (w : Result U Stop) (fault : ReadFault) (why : Stop) → why ≡ stop_of fault → w ≡ Err why → IsErrOf w stop.Input ⊎ IsErrOf w stop.NoMemory → fault ≡ reading.Failed
+failed_stop w reading.Failed why of is h = refl
+failed_stop w reading.TooLong why of is (inl e) = cc
+failed_stop w reading.TooLong why of is (inr e) = cc

@@ -25,7 +25,7 @@ use Rattle.hay_legal.specs.declared.turn.Turn.{Turn}
 use Rattle.hay_legal.specs.declared.turn.Turn.TheVariants.{Plain, Lanes, Restart}
 use Rattle.hay_legal.specs.Items.{Asked, InBlock, item_of_turn, line_asked}
 use Rattle.hay_legal.specs.Items.Asked.{Alone, Block}
-use Rattle.hay_legal.specs.Known.{Leaves}
+use Rattle.hay_legal.specs.Known.{Leaves, Rises}
 use Rattle.hay_legal.specs.Legal.{Legal, known_after, IsUnbuiltLine}
 use Rattle.hay_legal.specs.Plain.{LegalCommand}
 use Rattle.hay_legal.specs.Restarts.{LegalRestart}
@@ -55,8 +55,11 @@ wrote_more (Some old) (Some new) after a b h k =
 
 -- nothing changes
 
-pub leaves_same : (k : Known) → Leaves k k k
+leaves_same : (k : Known) → Leaves k k k
 leaves_same k = record { volumes = refl; directory = refl; drained = refl; fuses = refl; faults = NoneFalls-same k.faults; arms = NoneFalls-same k.arms }
+
+pub rises_same : (k : Known) → Rises k k
+rises_same k = record { volumes = refl; directory = refl; drained = refl; fuses = refl; faults = NoneFalls-same k.faults; arms = refl }
 
 -- a block that is not built yet
 

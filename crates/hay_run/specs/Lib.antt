@@ -1,3 +1,4 @@
+pub mod Causing
 pub mod Items
 pub mod Lines
 pub mod Runs

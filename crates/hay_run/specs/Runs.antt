@@ -1,6 +1,6 @@
 -- What a run does.
-use Rattle.std.specs.Prelude.{◌≡◌, ◌⊎◌, ◌<◌, ℕ, true, List, ◌∷◌, ◌++◌, [], length, Option, Some, option_map, Result, Ok, Err}
-use Rattle.hay_disk.specs.Counts.{Rose}
+use Rattle.std.specs.Prelude.{◌≡◌, ◌⊎◌, ◌<◌, ℕ, List, ◌∷◌, ◌++◌, [], length, Option, Some, option_map, Result, Ok, Err}
+use Rattle.hay_disk.specs.Counts.{Rose, StaysSure}
 use Rattle.hay_disk.specs.Shelf.{HeldArm, HeldDisk}
 use Rattle.hay_needle.specs.declared.settings.Settings.{Settings}
 use Rattle.hay_reply.specs.declared.Note.{Note}
@@ -13,7 +13,7 @@ use Rattle.hay_legal.specs.Statuses.{Ending, HoldsNew, RunsTo, contents_of}
 use Rattle.hay_legal.specs.Statuses.Ending.{ReadAll, OutputFault, InputFault, NoMemory, NotOpened, TooLong}
 use Rattle.hay_directory.specs.Rows.{OpensRows}
 use Rattle.hay_logical.specs.Fits.{IsReplica}
-use Rattle.hay_cluster.specs.Outside.{CountsOn, IsDamagedDisk, IsKept, IsUndamaged, IsVoid}
+use Rattle.hay_cluster.specs.Outside.{CountsOn, IsDamagedDisk, IsKept, IsUndamaged, IsUndamagedBelow, IsVoid}
 use Rattle.hay_run.specs.declared.stops.Stop.{Stop}
 use Rattle.hay_run.specs.declared.stops.Stop.TheVariants as stop
 
@@ -21,15 +21,19 @@ use Rattle.hay_run.specs.declared.stops.Stop.TheVariants as stop
 abbrev pub IsTaken : Settings → Outside → Known → Type 0
 IsTaken settings taken k = HoldsNew (IsReplica settings) (OpensRows settings) settings taken k
 
+-- a front of a script was read
+abbrev pub ReadFront : List ℕ → List ℕ → Option (List ℕ) → Type 0
+ReadFront script read left = (rest : List ℕ) × (script ≡ read ++ rest) × (left ≡ Some rest)
+
 -- These bytes of a script were read: all of it, all that a script may have, behind which one byte more came, or its front.
 abbrev pub ReadBytes : Ending → List ℕ → List ℕ → Option (List ℕ) → Type 0
 ReadBytes ReadAll script read left = (script ≡ read) × (left ≡ Some [])
 ReadBytes TooLong script read left =
     (length read ≡ 1073741824) × ((byte : ℕ) × (rest : List ℕ) × (script ≡ read ++ byte ∷ rest) × (left ≡ Some rest))
-ReadBytes OutputFault script read left = (rest : List ℕ) × (script ≡ read ++ rest) × (left ≡ Some rest)
-ReadBytes InputFault script read left = (rest : List ℕ) × (script ≡ read ++ rest) × (left ≡ Some rest)
-ReadBytes NoMemory script read left = (rest : List ℕ) × (script ≡ read ++ rest) × (left ≡ Some rest)
-ReadBytes NotOpened script read left = (rest : List ℕ) × (script ≡ read ++ rest) × (left ≡ Some rest)
+ReadBytes OutputFault script read left = ReadFront script read left
+ReadBytes InputFault script read left = ReadFront script read left
+ReadBytes NoMemory script read left = ReadFront script read left
+ReadBytes NotOpened script read left = ReadFront script read left
 
 -- A run of a script over disks that hold k, which ends so: what was read, what was written behind what the sink held, and what
 -- the disks that were given back hold.
@@ -38,7 +42,7 @@ pub record RanTo (settings : Settings) (k : Known) (ending : Ending) (script : L
   pub bytes : ReadBytes ending script read left
   pub text : List ℕ
   pub wrote : written ≡ Some (held ++ text)
-  pub runs : RunsTo (IsReplica settings) (OpensRows settings) IsVoid settings k ending read taken text given
+  pub runs : RunsTo (IsReplica settings) (OpensRows settings) IsVoid settings k ending script read taken text given
 
 -- a source that tells has still what it had
 abbrev pub IsUnread : Option (List ℕ) → Option (List ℕ) → Type 0
@@ -48,18 +52,19 @@ IsUnread before after = (script : List ℕ) × (before ≡ Some script) × (afte
 abbrev pub WasRead : Option (List ℕ) → Option (List ℕ) → Type 0
 WasRead before after = (script : List ℕ) × (before ≡ Some script) × (after ≡ Some script → ⊥)
 
--- the disk in a slot failed, and its count rose to the one that is told
-abbrev pub TellsDisk : Settings → Outside → Outside → Note → Type 0
-TellsDisk settings taken given note =
-    (slot : ℕ) × (count : ℕ) × (note ≡ OpenFailed slot count) × (slot < disk_count settings)
+-- the disk in this slot failed, and its count rose to the one that is told
+abbrev pub TellsDisk : Settings → Outside → Outside → Note → ℕ → Type 0
+TellsDisk settings taken given note slot =
+    (count : ℕ) × (note ≡ OpenFailed slot count) × (slot < disk_count settings)
     × Rose (taken.faults slot) (given.faults slot) × (count ≡ given.faults slot)
 
--- Why the first opening was refused, as it is told: the shelf failed, and its count rose to the one that is told; a disk failed;
--- or the disk in a slot is damaged at the place that is told, as it was taken and as it was given back.
+-- Why the first opening was refused, as it is told: the shelf failed, and its count rose to the one that is told; a disk failed,
+-- and none in a lower slot is damaged; or the disk in a slot is damaged at the place that is told, as it was taken and as it was
+-- given back.
 abbrev pub IsFirstRefusal : Type 0 → Settings → Outside → Outside → Note → Type 0
 IsFirstRefusal Tells settings taken given note =
     ((count : ℕ) × (note ≡ OpenShelf count) × Rose taken.shelf given.shelf × (count ≡ given.shelf))
-    ⊎ TellsDisk settings taken given note
+    ⊎ ((slot : ℕ) × TellsDisk settings taken given note slot × (Tells → IsUndamagedBelow settings slot (contents_of taken)))
     ⊎ ((slot : ℕ) × (file : ℕ) × (at : ℕ) × (note ≡ OpenDamaged slot file at)
     × (Tells → IsDamagedDisk settings (contents_of taken) slot file at × IsDamagedDisk settings (contents_of given) slot file at))
 
@@ -67,7 +72,7 @@ IsFirstRefusal Tells settings taken given note =
 -- nothing that was read of them was damaged, and the disk in a slot is damaged at the place that is told, as it was given back.
 abbrev pub IsLaterRefusal : Type 0 → Settings → Outside → Outside → Note → Type 0
 IsLaterRefusal Tells settings taken given note =
-    TellsDisk settings taken given note
+    ((slot : ℕ) × TellsDisk settings taken given note slot)
     ⊎ ((slot : ℕ) × (file : ℕ) × (at : ℕ) × (note ≡ OpenDamaged slot file at)
     × (Tells → ((k : Known) → IsTaken settings taken k → ⊥) × IsUndamaged settings (contents_of taken) × IsDamagedDisk settings (contents_of given) slot file at))
 
@@ -78,7 +83,7 @@ pub record RefusedFirst (Tells : Type 0) (settings : Settings) (disks disks' : �
   pub why : IsFirstRefusal Tells settings taken given note
   pub told : (held : List ℕ) → before ≡ Some held → after ≡ Some (held ++ note_line note)
   pub unread : left' ≡ left
-  pub kept : Tells → (slot : ℕ) → slot < disk_count settings → IsKept (disks slot) (disks' slot)
+  pub kept : Tells → (slot : ℕ) → slot < disk_count settings → IsKept settings slot (disks slot) (disks' slot)
   pub counts : (slot : ℕ) → slot < disk_count settings → CountsOn (disks slot) (disks' slot).fault_count (disks' slot).fuse_count
 
 -- A run whose store was not opened again at a restart: why, as the last line that was written tells. The line that asked for it
@@ -108,6 +113,6 @@ HasOpened (Err stop.NoMemory) = ⊥
 HasOpened (Err stop.Store) = ⊥
 HasOpened (Err stop.TooLong) = Unit {0}
 
--- an arm that is sure stays so
+-- an arm that is sure stays so, and its count stays
 abbrev pub IsSureStill : HeldArm → HeldArm → Type 0
-IsSureStill old new = old.is_sure ≡ true → new.is_sure ≡ true
+IsSureStill old new = StaysSure old.is_sure new.is_sure old.fault_count new.fault_count

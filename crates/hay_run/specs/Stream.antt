@@ -1,5 +1,5 @@
 -- A script as it comes in.
-use Rattle.std.specs.Prelude.{◌≡◌, ℕ, ◌+◌, ◌-◌, Bool, List, [], ◌++◌, length, Option, Some, None, option_map, if◌then◌else◌}
+use Rattle.std.specs.Prelude.{◌≡◌, ℕ, ◌+◌, ◌-◌, ◌≤◌, Bool, List, [], ◌++◌, length, Option, Some, None, option_map, if◌then◌else◌}
 use Rattle.hay_disk.specs.Streams.{Took}
 
 -- Bytes that were taken and not given out yet, how many were taken in all, and whether the end was met.
@@ -39,3 +39,8 @@ TookOne before after = (piece : List ℕ) × (length piece ≡ 1) × Took before
 abbrev pub IsReadToEnd : Option (List ℕ) → Option (List ℕ) → Type 0
 IsReadToEnd None after = Unit {0}
 IsReadToEnd (Some all) after = after ≡ Some []
+
+-- at most so many bytes were taken, where it told before
+abbrev pub TookAtMost : ℕ → Option (List ℕ) → Option (List ℕ) → Type 0
+TookAtMost limit before after =
+    (script : List ℕ) → before ≡ Some script → (rest : List ℕ) × (after ≡ Some rest) × (length script ≤ limit + length rest)

@@ -15,7 +15,7 @@ use Rattle.hay_legal.specs.declared.turn.Turn.{Turn}
 use Rattle.hay_legal.specs.declared.turn.Turn.TheVariants.{Restart}
 use Rattle.hay_legal.specs.Items.{Asked, item_of_turn}
 use Rattle.hay_legal.specs.Items.Asked.{Alone}
-use Rattle.hay_legal.specs.Known.{CameUp, Leaves, disk_count, fault_count}
+use Rattle.hay_legal.specs.Known.{CameUp, Rises, disk_count, fault_count}
 use Rattle.hay_legal.specs.Legal.{Legal}
 use Rattle.hay_legal.specs.Transcript.{turn_text}
 use Rattle.hay_cluster.specs.Outside.{IsDamagedDisk}
@@ -93,7 +93,7 @@ pub record TurnedPart {D P A : Type 0} (Tells : Type 0) (Stands Left : Standing 
 -- have risen, and how the opening was refused was written.
 pub record Refused {D P A : Type 0} (Writes : Writing) (Left : Standing D P A) (k : Known) (written : Option (List ℕ)) (store : Open D P A) (written' : Option (List ℕ)) : Type 0 where
   pub t : Known
-  pub leaves : Leaves k k t
+  pub leaves : Rises k t
   pub left : Left store t
   pub slot : ℕ
   pub count : ℕ

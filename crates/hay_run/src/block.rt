@@ -163,8 +163,9 @@ fn read_lines<S: Source>(
     ensures read { IfOk result (λ read. TookItems number (Some block) (rest_of (S.left source.old) script.old) (Block read.0.lines ∷ []) read.1 (rest_of (S.left source.new) script.new) script.new.ended) }
     ensures few { IfOk result (λ read. read.1 + budget SCRIPT script.new ≤ number + budget SCRIPT script.old) }
     ensures accounts { OnOk result (Accounts (S.left source.old) script.old (S.left source.new) script.new) }
+    ensures stopped_accounts { (IsErrOf result Stop.Input ⊎ IsErrOf result Stop.NoMemory) → Accounts (S.left source.old) script.old (S.left source.new) script.new }
     ensures left { OnOk result (budget SCRIPT script.new ≤ budget SCRIPT script.old) }
-    ensures limit { OnOk result (script.new.taken ≤ SCRIPT) }
+    ensures limit { script.new.taken ≤ SCRIPT }
     ensures none_held { (IsErrOf result Stop.Input ⊎ IsErrOf result Stop.TooLong) → script.new.bytes ≡ [] }
     ensures input { IsErrOf result Stop.Input → TookOpen TookPart number (Some block) (rest_of (S.left source.old) script.old) (rest_of (S.left source.new) script.new) }
     ensures over { IsErrOf result Stop.TooLong → TookOpen TookOver number (Some block) (rest_of (S.left source.old) script.old) (rest_of (S.left source.new) script.new) }
@@ -204,8 +205,9 @@ pub fn read_block<S: Source>(
     ensures empty { script.old.ended ≡ true → IfOk result (λ read. (read.0.lines ≡ []) × (read.1 ≡ number) × (source.new ≡ source.old) × (script.new ≡ script.old)) }
     ensures few { IfOk result (λ read. read.1 + budget SCRIPT script.new ≤ number + budget SCRIPT script.old) }
     ensures accounts { OnOk result (Accounts (S.left source.old) script.old (S.left source.new) script.new) }
+    ensures stopped_accounts { (IsErrOf result Stop.Input ⊎ IsErrOf result Stop.NoMemory) → Accounts (S.left source.old) script.old (S.left source.new) script.new }
     ensures left { OnOk result (budget SCRIPT script.new ≤ budget SCRIPT script.old) }
-    ensures limit { script.old.taken ≤ SCRIPT → OnOk result (script.new.taken ≤ SCRIPT) }
+    ensures limit { script.old.taken ≤ SCRIPT → script.new.taken ≤ SCRIPT }
     ensures none_held { (IsErrOf result Stop.Input ⊎ IsErrOf result Stop.TooLong) → script.new.bytes ≡ [] }
     ensures input { IsErrOf result Stop.Input → TookOpen TookPart number (Some (empty_block lanes)) (rest_of (S.left source.old) script.old) (rest_of (S.left source.new) script.new) }
     ensures over { IsErrOf result Stop.TooLong → TookOpen TookOver number (Some (empty_block lanes)) (rest_of (S.left source.old) script.old) (rest_of (S.left source.new) script.new) }

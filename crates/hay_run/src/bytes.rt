@@ -63,8 +63,10 @@ impl ScriptBytes {
         ensures ended { OnOk result (self.new.bytes ≡ [] → self.new.ended ≡ true) }
         ensures open { OnOk result (self.new.bytes ≢ [] → self.new.ended ≡ false) }
         ensures accounts { OnOk result (Accounts (S.left source.old) self.old (S.left source.new) self.new) }
+        ensures stopped_accounts { IsErrOf result ReadFault.Failed → Accounts (S.left source.old) self.old (S.left source.new) self.new }
         ensures left { OnOk result (budget SCRIPT self.new ≤ budget SCRIPT self.old) }
         ensures less { OnOk result (self.new.bytes ≡ [] → budget SCRIPT self.new < budget SCRIPT self.old) }
+        ensures limit { self.new.taken ≤ SCRIPT }
         ensures none_held { OnErr result (self.new.bytes ≡ []) }
         ensures failed { IsErrOf result ReadFault.Failed → Took (rest_of (S.left source.old) self.old) [] (rest_of (S.left source.new) self.new) }
         ensures over { IsErrOf result ReadFault.TooLong → TookOne (rest_of (S.left source.old) self.old) (rest_of (S.left source.new) self.new) }
@@ -111,8 +113,10 @@ impl ScriptBytes {
         ensures ended { OnOk result (self.new.bytes ≡ [] → self.new.ended ≡ true) }
         ensures open { OnOk result (self.new.bytes ≢ [] → self.new.ended ≡ false) }
         ensures accounts { OnOk result (Accounts (S.left source.old) self.old (S.left source.new) self.new) }
+        ensures stopped_accounts { IsErrOf result ReadFault.Failed → Accounts (S.left source.old) self.old (S.left source.new) self.new }
         ensures left { OnOk result (budget SCRIPT self.new ≤ budget SCRIPT self.old) }
         ensures less { OnOk result (self.new.bytes ≡ [] → budget SCRIPT self.new < budget SCRIPT self.old) }
+        ensures limit { self.new.taken ≤ SCRIPT }
         ensures none_held { OnErr result (self.new.bytes ≡ []) }
         ensures failed { IsErrOf result ReadFault.Failed → Took (rest_of (S.left source.old) self.old) [] (rest_of (S.left source.new) self.new) }
         ensures over { IsErrOf result ReadFault.TooLong → TookOne (rest_of (S.left source.old) self.old) (rest_of (S.left source.new) self.new) }
@@ -153,8 +157,9 @@ impl ScriptBytes {
         ensures end { IfOk result (λ next. IfNone next (TookAll (rest_of (S.left source.old) self.old) [] (rest_of (S.left source.new) self.new))) }
         ensures ended { IfOk result (λ next. IfNone next (self.new.ended ≡ true)) }
         ensures accounts { OnOk result (Accounts (S.left source.old) self.old (S.left source.new) self.new) }
+        ensures stopped_accounts { IsErrOf result ReadFault.Failed → Accounts (S.left source.old) self.old (S.left source.new) self.new }
         ensures left { OnOk result (budget SCRIPT self.new < budget SCRIPT self.old) }
-        ensures limit { OnOk result (self.new.taken ≤ SCRIPT) }
+        ensures limit { self.new.taken ≤ SCRIPT }
         ensures none_held { OnErr result (self.new.bytes ≡ []) }
         ensures failed { IsErrOf result ReadFault.Failed → Took (rest_of (S.left source.old) self.old) [] (rest_of (S.left source.new) self.new) }
         ensures over { IsErrOf result ReadFault.TooLong → TookOne (rest_of (S.left source.old) self.old) (rest_of (S.left source.new) self.new) }

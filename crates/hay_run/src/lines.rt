@@ -142,8 +142,9 @@ fn next_line<S: Source>(
     requires { bytes.old.ended ≡ false }
     ensures line { IfOk result (λ read. ReadsLine read line.new.items (rest_of (S.left source.old) bytes.old) (rest_of (S.left source.new) bytes.new) bytes.new.ended) }
     ensures accounts { OnOk result (Accounts (S.left source.old) bytes.old (S.left source.new) bytes.new) }
+    ensures stopped_accounts { (IsErrOf result Stop.Input ⊎ IsErrOf result Stop.NoMemory) → Accounts (S.left source.old) bytes.old (S.left source.new) bytes.new }
     ensures left { OnOk result (budget SCRIPT bytes.new < budget SCRIPT bytes.old) }
-    ensures limit { OnOk result (bytes.new.taken ≤ SCRIPT) }
+    ensures limit { bytes.new.taken ≤ SCRIPT }
     ensures none_held { (IsErrOf result Stop.Input ⊎ IsErrOf result Stop.TooLong) → bytes.new.bytes ≡ [] }
     ensures failed { IsErrOf result Stop.Input → TookPart (rest_of (S.left source.old) bytes.old) (rest_of (S.left source.new) bytes.new) }
     ensures memory { IsErrOf result Stop.NoMemory → TookPart (rest_of (S.left source.old) bytes.old) (rest_of (S.left source.new) bytes.new) }
@@ -214,8 +215,9 @@ impl ScriptLines {
         ensures said { IfOk result (λ next. SaysNext lanes next (rest_of (S.left source.old) self.old) (rest_of (S.left source.new) self.new) self.new.ended) }
         ensures within { IfOk result (λ next. IfSome next IsWithinLine) }
         ensures accounts { OnOk result (Accounts (S.left source.old) self.old (S.left source.new) self.new) }
+        ensures stopped_accounts { (IsErrOf result Stop.Input ⊎ IsErrOf result Stop.NoMemory) → Accounts (S.left source.old) self.old (S.left source.new) self.new }
         ensures left { OnOk result (budget SCRIPT self.new < budget SCRIPT self.old) }
-        ensures limit { OnOk result (self.new.taken ≤ SCRIPT) }
+        ensures limit { self.new.taken ≤ SCRIPT }
         ensures none_held { (IsErrOf result Stop.Input ⊎ IsErrOf result Stop.TooLong) → self.new.bytes ≡ [] }
         ensures failed { IsErrOf result Stop.Input → TookPart (rest_of (S.left source.old) self.old) (rest_of (S.left source.new) self.new) }
         ensures memory { IsErrOf result Stop.NoMemory → TookSome (rest_of (S.left source.old) self.old) (rest_of (S.left source.new) self.new) }

@@ -10,7 +10,8 @@ ghost use Rattle.hay_legal.specs.Statuses.{Ending, status_of};
 ghost use Rattle.hay_cluster.specs.Outside.{IsUndamaged, outside_of, read_of};
 ghost use Rattle.hay_cluster.specs.Store.{IsBuilt};
 ghost use Rattle.hay_run.specs.declared.stops.Stop.{Stop};
-ghost use Rattle.hay_run.specs.Stream.{IsReadToEnd};
+ghost use Rattle.hay_run.specs.Causing.{CausedRun, ending_in};
+ghost use Rattle.hay_run.specs.Stream.{IsReadToEnd, TookAtMost};
 ghost use Rattle.hay_run.specs.Stops.{ending_of};
 ghost use Rattle.hay_run.specs.Runs.{HasOpened, IsNotOpened, IsNotOpenedBehind, IsSureStill, IsTaken, RanTo, WasRead};
 ghost use Rattle.hay_run.specs.Turns.{Appends};
@@ -48,10 +49,14 @@ fn answer_script<H: Shelf, S: Source, K: Sink>(
         S.left source.old ≡ Some script → K.written sink.old ≡ Some (held ++ texts.header_line settings) →
         RanTo settings k (ending_of stop) script (S.left source.new) (outside_of (H.fault_count shelf.old) (H.disks shelf.old) (H.arms shelf.old))
         (outside_of (H.fault_count shelf.new) (H.disks shelf.new) (H.arms shelf.new)) held (K.written sink.new) }
+    ensures caused { (script held : List ℕ) → S.left source.old ≡ Some script → K.written sink.old ≡ Some (held ++ texts.header_line settings) →
+        CausedRun H.Disk.Tells settings (ending_in result) script (S.left source.new) (outside_of (H.fault_count shelf.old) (H.disks shelf.old) (H.arms shelf.old))
+        (outside_of (H.fault_count shelf.new) (H.disks shelf.new) (H.arms shelf.new)) held (K.written sink.new) }
     ensures ended { OnOk result (IsReadToEnd (S.left source.old) (S.left source.new)) }
     ensures short { OnOk result ((script : List ℕ) → S.left source.old ≡ Some script → length script ≤ SCRIPT) }
     ensures long { IsErrOf result Stop.TooLong → (script : List ℕ) → S.left source.old ≡ Some script →
         (rest : List ℕ) × (S.left source.new ≡ Some rest) × (length script ≡ SCRIPT + 1 + length rest) }
+    ensures taken { (IsErrOf result Stop.TooLong → ⊥) → TookAtMost SCRIPT (S.left source.old) (S.left source.new) }
     ensures source { IsErrOf result Stop.Input → Rose (S.fault_count source.old) (S.fault_count source.new) }
     ensures source_count { S.fault_count source.old ≤ S.fault_count source.new }
     ensures sink { IsErrOf result Stop.Output → Rose (K.fault_count sink.old) (K.fault_count sink.new) }
@@ -103,10 +108,14 @@ fn run_script<H: Shelf, S: Source, K: Sink>(
         S.left source.old ≡ Some script → K.written sink.old ≡ Some held →
         RanTo settings k (ending_of stop) script (S.left source.new) (outside_of (H.fault_count shelf.old) (H.disks shelf.old) (H.arms shelf.old))
         (outside_of (H.fault_count shelf.new) (H.disks shelf.new) (H.arms shelf.new)) held (K.written sink.new) }
+    ensures caused { (script held : List ℕ) → S.left source.old ≡ Some script → K.written sink.old ≡ Some held →
+        CausedRun H.Disk.Tells settings (ending_in result) script (S.left source.new) (outside_of (H.fault_count shelf.old) (H.disks shelf.old) (H.arms shelf.old))
+        (outside_of (H.fault_count shelf.new) (H.disks shelf.new) (H.arms shelf.new)) held (K.written sink.new) }
     ensures ended { OnOk result (IsReadToEnd (S.left source.old) (S.left source.new)) }
     ensures short { OnOk result ((script : List ℕ) → S.left source.old ≡ Some script → length script ≤ SCRIPT) }
     ensures long { IsErrOf result Stop.TooLong → (script : List ℕ) → S.left source.old ≡ Some script →
         (rest : List ℕ) × (S.left source.new ≡ Some rest) × (length script ≡ SCRIPT + 1 + length rest) }
+    ensures taken { (IsErrOf result Stop.TooLong → ⊥) → TookAtMost SCRIPT (S.left source.old) (S.left source.new) }
     ensures source { IsErrOf result Stop.Input → Rose (S.fault_count source.old) (S.fault_count source.new) }
     ensures source_count { S.fault_count source.old ≤ S.fault_count source.new }
     ensures sink { IsErrOf result Stop.Output → Rose (K.fault_count sink.old) (K.fault_count sink.new) }
@@ -159,6 +168,11 @@ pub fn run<H: Shelf, S: Source, K: Sink>(
         S.left source.old ≡ Some script → K.written sink.old ≡ Some held → (ending : Ending) → result ≡ status_of ending →
         RanTo settings k ending script (S.left source.new) (outside_of (H.fault_count shelf.old) (H.disks shelf.old) (H.arms shelf.old))
         (outside_of (H.fault_count shelf.new) (H.disks shelf.new) (H.arms shelf.new)) held (K.written sink.new) }
+    // The same of the text and its causes, whatever the disks tell.
+    ensures caused { (settings : Settings) → SaysRun (map string_bytes words.now) settings → (script held : List ℕ) →
+        S.left source.old ≡ Some script → K.written sink.old ≡ Some held → (ending : Ending) → result ≡ status_of ending →
+        CausedRun H.Disk.Tells settings ending script (S.left source.new) (outside_of (H.fault_count shelf.old) (H.disks shelf.old) (H.arms shelf.old))
+        (outside_of (H.fault_count shelf.new) (H.disks shelf.new) (H.arms shelf.new)) held (K.written sink.new) }
 
     // When each status comes.
     ensures status { (result ≡ 2) ⊎ ((ending : Ending) × (result ≡ status_of ending)) }
@@ -178,6 +192,7 @@ pub fn run<H: Shelf, S: Source, K: Sink>(
     ensures long { result ≡ 7 → (script : List ℕ) → S.left source.old ≡ Some script →
         (rest : List ℕ) × (S.left source.new ≡ Some rest) × (length script ≡ SCRIPT + 1 + length rest) }
     ensures short { result ≡ 0 → (script : List ℕ) → S.left source.old ≡ Some script → length script ≤ SCRIPT }
+    ensures taken { (result ≡ 7 → ⊥) → TookAtMost SCRIPT (S.left source.old) (S.left source.new) }
 
     // What is given back at each status. Nothing is taken but what the settings name.
     ensures disks_back { (slot : ℕ) → (H.disks shelf.new slot).is_out ≡ false }

@@ -27,6 +27,7 @@ use Rattle.hay_legal.specs.declared.turn.LogNote.{LogNote}
 use Rattle.hay_legal.specs.declared.turn.RowNote.{RowNote}
 use Rattle.hay_legal.specs.declared.turn.Turn.{Turn}
 use Rattle.hay_legal.specs.declared.turn.Turn.TheVariants.{Plain, Lanes, Restart}
+use Rattle.hay_legal.proofs.Rising.{rises_leaves}
 use Rattle.hay_legal.specs.Known.{home_of, home_in, volume_at, empty_volume, empty_replica, tries_by, all_tries, refusal_of, fresh_unharmed, fresh_volume}
 use Rattle.hay_legal.specs.Plain.{IsStored, IsDeleted, LegalPlain}
 use Rattle.hay_reply.specs.declared.Note.{Note}
@@ -125,7 +126,7 @@ reopened_is_of settings k kept row t is h = record {
 pub restart_is_of : (settings : Settings) (k : Known) (r : Reply) (notes : List Note) (t : Known) → IsOf settings k → LegalRestart settings k r notes t → IsOf settings t
 restart_is_of settings k (reply.Restarted d) notes t is h = reopened_is_of settings k h.kept h.row t is h.opened
 restart_is_of settings k reply.NoMem notes t is h =
-    let same = calm_undisturbed settings k t (unchanged settings k t h.leaves) in is_of_grown settings k t is same.many (λ w. (same.each w).many) same.grow
+    let same = calm_undisturbed settings k t (unchanged settings k t (rises_leaves k t h.leaves)) in is_of_grown settings k t is same.many (λ w. (same.each w).many) same.grow
 restart_is_of settings k _ notes t is h = absurd h
 
 -- over turns outside blocks

@@ -50,7 +50,7 @@ returns-in_ok-append-in-Ok-clause-opened g c =
         up = e.«open»;
         first = e.first;
         reopened = e.reopened;
-        undamaged = e.undamaged;
+        undamaged = λ tells j r r' at at'. (e.undamaged tells j r at, e.undamaged_now tells j r r' at at');
       },
     )
 

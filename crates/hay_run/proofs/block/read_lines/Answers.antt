@@ -2,7 +2,7 @@ use Rattle.std.proofs.Common.{◌++◌, Some, [], ◌∷◌, refl, sym, ◌∙�
 use Rattle.std.proofs.lemmas.Result.{err_from_is_err_and}
 use Rattle.hay_run.specs.Stream.{rest_of}
 use Rattle.hay_run.specs.Items.{SaysNext}
-use Rattle.hay_run.proofs.Taking.{took_nothing, took_fed_more, accounts_same, accounts_more}
+use Rattle.hay_run.proofs.Taking.{took_nothing, took_fed_more, accounts_same, accounts_more, either_stop}
 use Rattle.hay_run.proofs.Asking.{asked_more, some_more, some_feeds, some_line, block_ended, block_closed, block_over, fed_line, length-push}
 use Rattle.hay_run.proofs.block.read_lines.Goals as goal
 
@@ -92,3 +92,16 @@ lines-preserved g c =
       less = omega (arith, inv.less, c.in_ok-said.ensures.left);
       count = omega (arith, inv.count, c.in_ok-said.ensures.count);
     }
+
+pub returns-in_err-said-clause-stopped_accounts : goal.returns-in_err-said-clause-stopped_accounts
+returns-in_err-said-clause-stopped_accounts g c = λ is.
+    let left = g.S.Source.left in
+    accounts_more (left c.args.source.now) (left c.lines.source) (left c.next_said.new.source) c.args.script.now c.lines.script c.next_said.new.self c.lines.invariant.accounts
+    (let p = err_from_is_err_and c.from_residual.result c.from_residual.ensures.1 in
+    c.next_said.ensures.stopped_accounts (either_stop c.next_said.result c.from_residual.result c.in_err-said.field-0.0 c.in_err-said.was (cc (p.1, p.2)) is))
+
+pub returns-in_err-closed-clause-stopped_accounts : goal.returns-in_err-closed-clause-stopped_accounts
+returns-in_err-closed-clause-stopped_accounts g c = λ is.
+    let left = g.S.Source.left in
+    accounts_more (left c.args.source.now) (left c.lines.source) (left c.next_said.new.source) c.args.script.now c.lines.script c.next_said.new.self c.lines.invariant.accounts
+    c.in_ok-said.ensures.accounts

@@ -1,7 +1,9 @@
-use Rattle.std.proofs.Common.{[], ◌∷◌, ◌++◌, sym, ◌∙◌, arith}
+use Rattle.std.proofs.Common.{[], ◌∷◌, ◌++◌, sym, ap, ◌∙◌, arith}
+use Rattle.std.specs.Prelude.{Err}
+use Rattle.std.proofs.lemmas.Result.{err_from_is_err_and}
 use Rattle.hay_disk.specs.Streams.{Took}
 use Rattle.hay_run.specs.Stream.{rest_of}
-use Rattle.hay_run.proofs.Taking.{took_more, NoFeed-push, Keeps-with, NoFeed-with, start_of-push, accounts_more, reads_fed, reads_last}
+use Rattle.hay_run.proofs.Taking.{took_more, NoFeed-push, Keeps-with, NoFeed-with, start_of-push, accounts_more, failed_stop, reads_fed, reads_last}
 use Rattle.hay_run.proofs.lines.next_line.Goals as goal
 
 pub returns-in_default-clause-line : goal.returns-in_default-clause-line
@@ -62,3 +64,16 @@ taking-preserved g c =
       less = omega (arith, inv.less, c.in_ok-byte.ensures.left);
       count = omega (arith, inv.count, c.in_ok-byte.ensures.count);
     }
+
+pub returns-in_err-byte-clause-stopped_accounts : goal.returns-in_err-byte-clause-stopped_accounts
+returns-in_err-byte-clause-stopped_accounts g c = λ is.
+    let left = g.S.Source.left in
+    accounts_more (left c.args.source.now) (left c.taking.source) (left c.next_byte.new.source) c.args.bytes.now c.taking.bytes c.next_byte.new.self c.taking.invariant.accounts
+    (let p = err_from_is_err_and c.from_residual.result c.from_residual.ensures.1 in
+    c.in_err-byte.ensures.stopped_accounts (ap (λ fault. Err fault) (failed_stop c.from_residual.result c.in_err-byte.field-0.0 p.0 p.2 p.1 is)))
+
+pub returns-in_err-long-clause-stopped_accounts : goal.returns-in_err-long-clause-stopped_accounts
+returns-in_err-long-clause-stopped_accounts g c = λ is.
+    let left = g.S.Source.left in
+    accounts_more (left c.args.source.now) (left c.taking.source) (left c.next_byte.new.source) c.args.bytes.now c.taking.bytes c.next_byte.new.self c.taking.invariant.accounts
+    c.in_ok-byte.ensures.accounts

@@ -1,5 +1,5 @@
 use Rattle.std.proofs.Common.{◌≡◌, ◌<◌, ◌++◌, Some, List, [], ℕ, length, map, refl, sym, ap, subst, ◌∙◌, arith, inl, inr}
-use Rattle.std.specs.Prelude.{Err, Option}
+use Rattle.std.specs.Prelude.{Err, Option, slice_index}
 use Rattle.std.proofs.lemmas.Result.{on_ok_weaker}
 use Rattle.hay_needle.specs.declared.settings.Settings.{Settings}
 use Rattle.hay_mount.specs.Mounts.{AreIn, AreOut, SameFrom}
@@ -18,7 +18,10 @@ use Rattle.hay_run.specs.declared.stops.Stop.TheVariants as stop
 use Rattle.hay_run.specs.Runs.{RanTo}
 use Rattle.hay_run.specs.Stops.{ending_of}
 use Rattle.hay_run.specs.Turns.{Serves, ServedUntil}
-use Rattle.hay_run.proofs.Counting.{NoneFalls-at, arm_there, sure_at}
+use Rattle.hay_legal.specs.Statuses.{Ending}
+use Rattle.hay_run.specs.Causing.{AllCaused, BeginsAt, CausedRun, CausedUntil, EndsAt, all_counts}
+use Rattle.hay_run.proofs.Caused.{all_caused, by_outcome, refused_caused, until_caused}
+use Rattle.hay_run.proofs.Counting.{NoneFalls-at, arm_there, count_at, sure_at}
 use Rattle.hay_run.proofs.Giving.{same_more}
 use Rattle.hay_run.proofs.Ran.{ran_all, ran_stopped}
 use Rattle.hay_run.proofs.Refusing.{cause_of, none_opened, not_read, on_ok_both, ran_unopened, refused_later}
@@ -148,16 +151,59 @@ returns-clause-sure_arms g c = λ lane within sure.
     let A = g.H.Arm.Arm in
     let arms = c.in-Ok.cluster.arms in
     let some = arm_there arms lane (subst (λ n. lane < n) (sym c.in-Ok.ensures.lanes) within) in
-    let later = sure_at A.is_sure arms c.serve-outcome.new.cluster.arms lane some.0 c.serve-outcome.ensures.sure_arms some.1 in
-    c.close.ensures.sure_arms lane later.0 later.1 ∙ later.2 (c.in-Ok.ensures.sure_arms lane some.0 some.1 ∙ sure)
+    let arms' = c.serve-outcome.new.cluster.arms in
+    let later = sure_at A.is_sure A.fault_count arms arms' lane some.0 c.serve-outcome.ensures.sure_arms some.1 in
+    let still = later.2 (c.in-Ok.ensures.sure_arms lane some.0 some.1 ∙ sure) in (
+      c.close.ensures.sure_arms lane later.0 later.1 ∙ still.0,
+      c.close.ensures.arm_counts lane within ∙ count_at A.fault_count arms' lane later.0 later.1 ∙ still.1
+          ∙ sym (count_at A.fault_count arms lane some.0 some.1) ∙ c.in-Ok.ensures.arm_counts lane within,
+    )
 
 pub returns-clause-sound : goal.returns-clause-sound
 returns-clause-sound g c = λ tells opened. c.in-Ok.ensures.sound tells
 
+-- what was written, and its causes
+pub returns-clause-caused : goal.returns-clause-caused
+returns-clause-caused g c = λ script held told told_sink.
+    let D = g.H.Disk.Disk in
+    let A = g.H.Arm.Arm in
+    let taken = outside_of (g.H.Shelf.fault_count c.args.shelf.now) (g.H.Shelf.disks c.args.shelf.now) (g.H.Shelf.arms c.args.shelf.now) in
+    let given = outside_of (g.H.Shelf.fault_count c.close.new.shelf) (g.H.Shelf.disks c.close.new.shelf) (g.H.Shelf.arms c.close.new.shelf) in
+    let old = all_counts D.fault_count A.fault_count c.in-Ok.cluster in
+    let new = all_counts D.fault_count A.fault_count c.serve-outcome.new.cluster in
+    let left = g.S.Source.left c.serve-outcome.new.source in
+    let written = g.K.Sink.written c.serve-outcome.new.sink in
+    let is_settings = c.serve-outcome.ensures.settings ∙ c.in-Ok.ensures.settings in
+    let begins : BeginsAt c.args.settings taken old = (λ slot within. (c.in-Ok.ensures.counts slot within).faults_rise, c.in-Ok.ensures.arm_counts) in
+    let ends : EndsAt c.args.settings new given = (subst (λ s. (slot : ℕ) → slot < disk_count s → given.faults slot ≡ slice_index new.disks slot) is_settings c.close.ensures.fault_counts, c.close.ensures.arm_counts) in
+    by_outcome (λ (e : Ending). CausedRun D.Tells c.args.settings e script left taken given held written) c.serve-outcome.result
+    (on_ok_weaker c.serve-outcome.result (λ both.
+    let all : AllCaused c.args.settings old new (Some script) (Some (held ++ header_line c.args.settings)) written = rw (c.in-Ok.ensures.settings, told, told_sink) at both.0 in
+    all_caused D.Tells c.args.settings script left taken given held written old new begins ends all (rw told at both.1))
+    (on_ok_both _ _ c.serve-outcome.result c.serve-outcome.ensures.caused c.serve-outcome.ensures.ended))
+    (λ why is.
+    let u : CausedUntil c.args.settings old new why (Some script) (Some (held ++ header_line c.args.settings)) left written = rw (c.in-Ok.ensures.settings, told, told_sink) at (c.serve-outcome.ensures.stop_caused why is) in
+    until_caused D.Tells c.args.settings script left taken given held written old new begins ends why
+    (λ e last left_is.
+    let long = c.serve-outcome.ensures.long (cc (is, e)) script told in
+    let same : long.0 ≡ last = (let n = long.1 in cc (n, left_is)) in omega (arith, long.2, ap length same)) u)
+
 -- the store was not opened
 
+pub returns-in-Err-clause-caused : goal.returns-in-Err-clause-caused
+returns-in-Err-clause-caused g c = λ script held told told_sink.
+    let shelf = g.H.Shelf.fault_count c.args.shelf.now in
+    let shelf' = g.H.Shelf.fault_count c.open.new.shelf in
+    let taken = outside_of shelf (g.H.Shelf.disks c.args.shelf.now) (g.H.Shelf.arms c.args.shelf.now) in
+    let given = outside_of shelf' (g.H.Shelf.disks c.open.new.shelf) (g.H.Shelf.arms c.open.new.shelf) in
+    refused_caused g.H.Disk.Disk.Tells c.args.settings script (g.S.Source.left c.args.source.now) taken given held (g.K.Sink.written c.write_refusal.new.sink) c.write_refusal.result c.in-Err.fault
+    (cause_of g.H.Disk.Disk.Tells c.args.settings taken given c.in-Err.fault c.in-Err.ensures.shelf c.in-Err.ensures.failed
+    (λ t slot count e. c.in-Err.ensures.failed_lowest t slot count (ap (λ f. Err f) e)) (λ t slot file at e. c.in-Err.ensures.damaged t slot file at (ap (λ f. Err f) e)))
+    (rw told_sink at c.write_refusal.ensures.told) (rw told_sink at c.write_refusal.ensures.part)
+    (λ none. let w = c.write_refusal.ensures.wanting none in (w.0, ap g.K.Sink.written w.1 ∙ told_sink)) c.write_refusal.ensures.stops told
+
 pub returns-in-Err-clause-sure_arms : goal.returns-in-Err-clause-sure_arms
-returns-in-Err-clause-sure_arms g c = λ lane within sure. (c.in-Err.ensures.back_arms lane within).is_sure ∙ sure
+returns-in-Err-clause-sure_arms g c = λ lane within sure. let back = c.in-Err.ensures.back_arms lane within in (back.is_sure ∙ sure, back.fault_count)
 
 pub returns-in-Err-clause-stopped : goal.returns-in-Err-clause-stopped
 returns-in-Err-clause-stopped g c = λ tells why is k taken_is script held told told_sink.
@@ -175,7 +221,7 @@ returns-in-Err-clause-stopped g c = λ tells why is k taken_is script held told 
     (ran_unopened c.args.settings shelf shelf' disks disks' arms arms' k taken_is (c.in-Err.ensures.kept tells) c.in-Err.ensures.back_counts c.in-Err.ensures.back_arms c.requires.built.some_replicas
     script held written' D.Tells tells c.in-Err.fault why
     (cause_of D.Tells c.args.settings (outside_of shelf disks arms) (outside_of shelf' disks' arms') c.in-Err.fault
-    c.in-Err.ensures.shelf c.in-Err.ensures.failed (λ t slot file at e. c.in-Err.ensures.damaged t slot file at (ap (λ f. Err f) e)))
+    c.in-Err.ensures.shelf c.in-Err.ensures.failed (λ t slot count e. c.in-Err.ensures.failed_lowest t slot count (ap (λ f. Err f) e)) (λ t slot file at e. c.in-Err.ensures.damaged t slot file at (ap (λ f. Err f) e)))
     (rw (told_sink, same) at c.write_refusal.ensures.told) (rw (told_sink, same) at c.write_refusal.ensures.part)
     (λ none. let w = c.write_refusal.ensures.wanting none in (sym same ∙ w.0, ap g.K.Sink.written w.1 ∙ told_sink)) (rw same at c.write_refusal.ensures.stops))
 
@@ -189,7 +235,7 @@ returns-in-Err-clause-store g c = λ is.
       note = note.0;
       why = cause_of D.Tells c.args.settings (outside_of shelf (g.H.Shelf.disks c.args.shelf.now) (g.H.Shelf.arms c.args.shelf.now))
           (outside_of shelf' (g.H.Shelf.disks c.open.new.shelf) (g.H.Shelf.arms c.open.new.shelf)) c.in-Err.fault
-          c.in-Err.ensures.shelf c.in-Err.ensures.failed (λ t slot file at e. c.in-Err.ensures.damaged t slot file at (ap (λ f. Err f) e)) note.0 note.1;
+          c.in-Err.ensures.shelf c.in-Err.ensures.failed (λ t slot count e. c.in-Err.ensures.failed_lowest t slot count (ap (λ f. Err f) e)) (λ t slot file at e. c.in-Err.ensures.damaged t slot file at (ap (λ f. Err f) e)) note.0 note.1;
       told = λ held told_sink. (let wrote : Wrote (Some held) (note_line note.0) (g.K.Sink.written c.write_refusal.new.sink) = rw told_sink at note.2 in wrote);
       unread = refl;
       kept = c.in-Err.ensures.kept;

@@ -4,14 +4,17 @@ use Rattle.hay_needle.specs.declared.settings.Settings.{Settings}
 use Rattle.hay_disk.specs.Shelf.{HeldDisk, HeldArm}
 use Rattle.hay_mount.specs.Mounts.{SameFrom}
 use Rattle.hay_legal.specs.Known.{disk_count}
-use Rattle.hay_legal.specs.Statuses.Ending.{ReadAll}
+use Rattle.hay_legal.specs.Statuses.Ending.{NoMemory, ReadAll}
 use Rattle.hay_cluster.specs.Outside.{IsUndamaged, outside_of, read_of}
 use Rattle.hay_run.specs.Runs.{IsTaken, RanTo, IsNotOpened}
 use Rattle.hay_run.specs.Stops.{ending_of}
 use Rattle.hay_run.specs.Words.{SaysRun}
+use Rattle.hay_legal.specs.Statuses.{Ending}
+use Rattle.hay_run.specs.Causing.{CausedRun}
+use Rattle.hay_run.proofs.Caused.{nothing_caused}
 use Rattle.hay_run.proofs.Commanding.{same_run}
 use Rattle.hay_run.proofs.Giving.{disks_in, arms_in, none_fell}
-use Rattle.hay_run.proofs.Refusing.{opened_by, ran_nothing, ran_by, store_by}
+use Rattle.hay_run.proofs.Refusing.{by_status, opened_by, ran_nothing, ran_by, store_by}
 use Rattle.hay_run.proofs.program.run.Goals as goal
 
 -- memory was wanting for the words
@@ -117,3 +120,34 @@ returns-in-Err-run_script-clause-sound g c = λ tells status settings says.
     same_run (map string_bytes c.args.words.now) c.in-Ok-Some.settings settings run says) in
     subst (λ (s : Settings). IsUndamaged s (λ slot. read_of (g.H.Shelf.disks c.args.shelf.now slot))) same
     (c.in-Err-run_script.ensures.sound tells (opened_by c.in-Err-run_script.stop c.status-in-Err-run_script.result c.status-in-Err-run_script.ensures status))
+
+-- what was written, and its causes
+
+pub returns-in-Err-clause-caused : goal.returns-in-Err-clause-caused
+returns-in-Err-clause-caused g c = λ settings says script held told told_sink ending is.
+    let outside = outside_of (g.H.Shelf.fault_count c.args.shelf.now) (g.H.Shelf.disks c.args.shelf.now) (g.H.Shelf.arms c.args.shelf.now) in
+    by_status (λ (e : Ending). CausedRun g.H.Disk.Disk.Tells settings e script (g.S.Source.left c.args.source.now) outside outside held (g.K.Sink.written c.args.sink.now)) NoMemory ending (sym c.status.ensures ∙ is)
+    (nothing_caused g.H.Disk.Disk.Tells settings script (g.S.Source.left c.args.source.now) outside outside held (g.K.Sink.written c.args.sink.now) told_sink told)
+
+pub returns-in-Ok-clause-caused : goal.returns-in-Ok-clause-caused
+returns-in-Ok-clause-caused g c = λ settings says script held told told_sink ending is.
+    let outside = outside_of (g.H.Shelf.fault_count c.args.shelf.now) (g.H.Shelf.disks c.args.shelf.now) (g.H.Shelf.arms c.args.shelf.now) in
+    let given = outside_of (g.H.Shelf.fault_count c.run_script.new.shelf) (g.H.Shelf.disks c.run_script.new.shelf) (g.H.Shelf.arms c.run_script.new.shelf) in
+    let same : c.in-Ok-Some.settings ≡ settings = (let run : SaysRun (map string_bytes c.args.words.now) c.in-Ok-Some.settings = rw c.in-Ok-Some.field-0-is at c.in-Ok-Some.ensures.run in
+    same_run (map string_bytes c.args.words.now) c.in-Ok-Some.settings settings run says) in
+    let P : Settings → Type 0 = λ s. CausedRun g.H.Disk.Disk.Tells s ending script (g.S.Source.left c.run_script.new.source) outside given held (g.K.Sink.written c.run_script.new.sink) in
+    subst P same
+    (by_status (λ (e : Ending). CausedRun g.H.Disk.Disk.Tells c.in-Ok-Some.settings e script (g.S.Source.left c.run_script.new.source) outside given held (g.K.Sink.written c.run_script.new.sink)) ReadAll ending is
+    (c.in-Ok.ensures.caused script held told told_sink))
+
+pub returns-in-Err-run_script-clause-caused : goal.returns-in-Err-run_script-clause-caused
+returns-in-Err-run_script-clause-caused g c = λ settings says script held told told_sink ending is.
+    let outside = outside_of (g.H.Shelf.fault_count c.args.shelf.now) (g.H.Shelf.disks c.args.shelf.now) (g.H.Shelf.arms c.args.shelf.now) in
+    let given = outside_of (g.H.Shelf.fault_count c.run_script.new.shelf) (g.H.Shelf.disks c.run_script.new.shelf) (g.H.Shelf.arms c.run_script.new.shelf) in
+    let same : c.in-Ok-Some.settings ≡ settings = (let run : SaysRun (map string_bytes c.args.words.now) c.in-Ok-Some.settings = rw c.in-Ok-Some.field-0-is at c.in-Ok-Some.ensures.run in
+    same_run (map string_bytes c.args.words.now) c.in-Ok-Some.settings settings run says) in
+    let P : Settings → Type 0 = λ s. CausedRun g.H.Disk.Disk.Tells s ending script (g.S.Source.left c.run_script.new.source) outside given held (g.K.Sink.written c.run_script.new.sink) in
+    subst P same
+    (by_status (λ (e : Ending). CausedRun g.H.Disk.Disk.Tells c.in-Ok-Some.settings e script (g.S.Source.left c.run_script.new.source) outside given held (g.K.Sink.written c.run_script.new.sink))
+    (ending_of c.in-Err-run_script.stop) ending (sym c.status-in-Err-run_script.ensures ∙ is)
+    (c.in-Err-run_script.ensures.caused script held told told_sink))

@@ -1,16 +1,20 @@
-use Rattle.std.proofs.Common.{◌++◌, map, [], Some, refl, sym, ap, ◌∙◌, arith, lit≤, false, ◌≡◌, ℕ}
+use Rattle.std.proofs.Common.{◌++◌, map, [], Some, refl, sym, ap, subst, ◌∙◌, arith, lit≤, false, ◌≡◌, ℕ}
 use Rattle.std.specs.Prelude.{Result, Err, IsErrOf}
 use Rattle.hay_run.specs.declared.stops.Stop.{Stop}
 use Rattle.std.proofs.lemmas.Result.{err_from_is_err_and}
 use Rattle.hay_cluster.specs.State.{Stands, Holds}
 use Rattle.hay_cluster.specs.Store.{disks_of}
 use Rattle.hay_run.specs.Stream.{rest_of, Accounts}
-use Rattle.hay_run.proofs.Asking.{took_first, took_items_more, asks_all, at_end_turn, read_to_end, short_script}
+use Rattle.hay_run.proofs.Asking.{took_first, took_items_more, asks_all, at_end_turn, read_to_end, short_script, taken_most}
 use Rattle.hay_cluster.proofs.Sure.{same_sure}
 use Rattle.hay_run.proofs.Counting.{NoneFalls-same, NoneFalls-more, sure_more}
 use Rattle.hay_run.proofs.Taking.{accounts_same, accounts_more}
+use Rattle.hay_disk.specs.Streams.{Wrote}
+use Rattle.hay_needle.specs.declared.settings.Settings.{Settings}
+use Rattle.hay_run.specs.Causing.{all_counts, Caused, TurnStops}
+use Rattle.hay_run.proofs.Causing.{caused_more, caused_nothing}
 use Rattle.hay_run.proofs.Turning.{answers_nothing, answers_more, appends_nothing, appends_more}
-use Rattle.hay_run.proofs.Serving.{stops_by, holds_none, memory_same, halts_more}
+use Rattle.hay_run.proofs.Serving.{stops_by, holds_none, memory_same, halts_more, other_stop}
 use Rattle.hay_run.proofs.serve.serve.Goals as goal
 
 pub turns-init : goal.turns-init
@@ -22,6 +26,9 @@ turns-init g c = record {
   asked = [];
   took = took_first 1 (g.S.Source.left c.args.source.now) c.new-script.result c.new-script.ensures.bytes;
   answers = λ tells k stands. answers_nothing (Stands g.D.Disk.files g.D.Piece.Piece.Tells g.D.Disk.fault_count g.D.Disk.fuse_count g.A.Arm.fault_count) k (g.K.Sink.written c.args.sink.now) c.args.cluster.now stands;
+  said = [];
+  read = took_first 1 (g.S.Source.left c.args.source.now) c.new-script.result c.new-script.ensures.bytes;
+  caused = caused_nothing c.args.cluster.now.settings (all_counts g.D.Disk.fault_count g.A.Arm.fault_count c.args.cluster.now) (g.K.Sink.written c.args.sink.now);
   first = c.new-script.result;
   at_first = c.new-script.ensures.taken;
   accounts = accounts_same (g.S.Source.left c.args.source.now) c.new-script.result;
@@ -29,7 +36,7 @@ turns-init g c = record {
   sink = omega arith;
   faults = NoneFalls-same (map g.D.Disk.fault_count (disks_of c.args.cluster.now));
   arm_faults = NoneFalls-same (map g.A.Arm.fault_count c.args.cluster.now.arms);
-  sure_arms = same_sure g.A.Arm.is_sure c.args.cluster.now.arms c.args.cluster.now.arms refl;
+  sure_arms = same_sure g.A.Arm.is_sure g.A.Arm.fault_count c.args.cluster.now.arms c.args.cluster.now.arms refl;
   appends = appends_nothing (g.K.Sink.written c.args.sink.now);
 }
 
@@ -112,6 +119,9 @@ turns-preserved g c =
     let left = g.S.Source.left in
     let turned = c.in_ok-number.ensures.turned in
     let unmet : c.turn.new.script.ended ≡ false = sym c.is_ended.ensures ∙ c.if-is_ended.false in
+    let caused = c.in_ok-number.ensures.caused in
+    let P : Settings → Type 0 = λ s. Caused Wrote s (all_counts g.D.Disk.fault_count g.A.Arm.fault_count c.turns.cluster) (all_counts g.D.Disk.fault_count g.A.Arm.fault_count c.turn.new.cluster)
+    caused.asked (g.K.Sink.written c.turns.sink) (g.K.Sink.written c.turn.new.sink) in
     record {
       unmet = unmet;
       few = omega (arith, inv.few, c.in_ok-number.ensures.few);
@@ -125,6 +135,12 @@ turns-preserved g c =
           answers_more (Stands g.D.Disk.files g.D.Piece.Piece.Tells g.D.Disk.fault_count g.D.Disk.fuse_count g.A.Arm.fault_count) k inv.asked turned.asked
           (g.K.Sink.written c.args.sink.now) (g.K.Sink.written c.turns.sink) (g.K.Sink.written c.turn.new.sink) c.turns.cluster c.turn.new.cluster c.in_ok-number.ensures.settings
           first (turned.answers tells first.t first.left);
+      said = inv.said ++ caused.asked;
+      read = took_items_more 1 c.turns.number c.in_ok-number.number (left c.args.source.now) (rest_of (left c.turns.source) c.turns.script) (rest_of (left c.turn.new.source) c.turn.new.script)
+          inv.said caused.asked false inv.read (rw unmet at caused.took);
+      caused = caused_more c.args.cluster.now.settings (all_counts g.D.Disk.fault_count g.A.Arm.fault_count c.args.cluster.now) (all_counts g.D.Disk.fault_count g.A.Arm.fault_count c.turns.cluster)
+          (all_counts g.D.Disk.fault_count g.A.Arm.fault_count c.turn.new.cluster) inv.said caused.asked (g.K.Sink.written c.args.sink.now) (g.K.Sink.written c.turns.sink) (g.K.Sink.written c.turn.new.sink)
+          inv.caused (subst P inv.same caused.caused);
       first = inv.first;
       at_first = inv.at_first;
       accounts = accounts_more (left c.args.source.now) (left c.turns.source) (left c.turn.new.source) inv.first c.turns.script c.turn.new.script inv.accounts c.in_ok-number.ensures.accounts;
@@ -134,7 +150,7 @@ turns-preserved g c =
           inv.faults c.in_ok-number.ensures.faults;
       arm_faults = NoneFalls-more (map g.A.Arm.fault_count c.args.cluster.now.arms) (map g.A.Arm.fault_count c.turns.cluster.arms) (map g.A.Arm.fault_count c.turn.new.cluster.arms)
           inv.arm_faults c.in_ok-number.ensures.arm_faults;
-      sure_arms = sure_more g.A.Arm.is_sure c.args.cluster.now.arms c.turns.cluster.arms c.turn.new.cluster.arms inv.sure_arms c.in_ok-number.ensures.sure_arms;
+      sure_arms = sure_more g.A.Arm.is_sure g.A.Arm.fault_count c.args.cluster.now.arms c.turns.cluster.arms c.turn.new.cluster.arms inv.sure_arms c.in_ok-number.ensures.sure_arms;
       appends = appends_more (g.K.Sink.written c.args.sink.now) (g.K.Sink.written c.turns.sink) (g.K.Sink.written c.turn.new.sink) inv.appends c.in_ok-number.ensures.appends;
     }
 
@@ -162,11 +178,11 @@ returns-then-is_ended-clause-arm_faults g c =
 
 pub returns-in_err-number-clause-sure_arms : goal.returns-in_err-number-clause-sure_arms
 returns-in_err-number-clause-sure_arms g c =
-    sure_more g.A.Arm.is_sure c.args.cluster.now.arms c.turns.cluster.arms c.turn.new.cluster.arms c.turns.invariant.sure_arms c.in_err-number.ensures.sure_arms
+    sure_more g.A.Arm.is_sure g.A.Arm.fault_count c.args.cluster.now.arms c.turns.cluster.arms c.turn.new.cluster.arms c.turns.invariant.sure_arms c.in_err-number.ensures.sure_arms
 
 pub returns-then-is_ended-clause-sure_arms : goal.returns-then-is_ended-clause-sure_arms
 returns-then-is_ended-clause-sure_arms g c =
-    sure_more g.A.Arm.is_sure c.args.cluster.now.arms c.turns.cluster.arms c.turn.new.cluster.arms c.turns.invariant.sure_arms c.in_ok-number.ensures.sure_arms
+    sure_more g.A.Arm.is_sure g.A.Arm.fault_count c.args.cluster.now.arms c.turns.cluster.arms c.turn.new.cluster.arms c.turns.invariant.sure_arms c.in_ok-number.ensures.sure_arms
 
 pub returns-in_err-number-clause-appends : goal.returns-in_err-number-clause-appends
 returns-in_err-number-clause-appends g c =
@@ -175,3 +191,62 @@ returns-in_err-number-clause-appends g c =
 pub returns-then-is_ended-clause-appends : goal.returns-then-is_ended-clause-appends
 returns-then-is_ended-clause-appends g c =
     appends_more (g.K.Sink.written c.args.sink.now) (g.K.Sink.written c.turns.sink) (g.K.Sink.written c.turn.new.sink) c.turns.invariant.appends c.in_ok-number.ensures.appends
+
+-- how much was taken
+
+pub returns-in_err-number-clause-taken : goal.returns-in_err-number-clause-taken
+returns-in_err-number-clause-taken g c = λ other.
+    let inv = c.turns.invariant in
+    let left = g.S.Source.left in
+    let p = err_from_is_err_and c.from_residual.result c.from_residual.ensures.1 in
+    other_stop c.turn.result c.in_err-number.field-0.0 c.in_err-number.was (λ e. other (cc (p.1, p.2, e)))
+    (λ why. taken_most 1073741824 (left c.args.source.now) (left c.turns.source) (left c.turn.new.source) inv.first c.turns.script c.turn.new.script inv.accounts
+    (c.turn.ensures.stopped_accounts why) inv.at_first c.turn.ensures.limit)
+
+pub returns-then-is_ended-clause-taken : goal.returns-then-is_ended-clause-taken
+returns-then-is_ended-clause-taken g c = λ other.
+    let inv = c.turns.invariant in
+    let left = g.S.Source.left in
+    taken_most 1073741824 (left c.args.source.now) (left c.turns.source) (left c.turn.new.source) inv.first c.turns.script c.turn.new.script inv.accounts
+    c.in_ok-number.ensures.accounts inv.at_first c.in_ok-number.ensures.limit
+
+-- what was written, and its causes
+
+pub returns-then-is_ended-clause-caused : goal.returns-then-is_ended-clause-caused
+returns-then-is_ended-clause-caused g c =
+    let inv = c.turns.invariant in
+    let left = g.S.Source.left in
+    let met = sym c.is_ended.ensures ∙ c.if-is_ended.true in
+    let caused = c.in_ok-number.ensures.caused in
+    let P : Settings → Type 0 = λ s. Caused Wrote s (all_counts g.D.Disk.fault_count g.A.Arm.fault_count c.turns.cluster) (all_counts g.D.Disk.fault_count g.A.Arm.fault_count c.turn.new.cluster)
+    caused.asked (g.K.Sink.written c.turns.sink) (g.K.Sink.written c.turn.new.sink) in
+    record {
+      asked = inv.said ++ caused.asked;
+      all = asks_all c.in_ok-number.number (left c.args.source.now) (rest_of (left c.turn.new.source) c.turn.new.script) (inv.said ++ caused.asked) c.turn.new.script.ended
+          (took_items_more 1 c.turns.number c.in_ok-number.number (left c.args.source.now) (rest_of (left c.turns.source) c.turns.script) (rest_of (left c.turn.new.source) c.turn.new.script)
+          inv.said caused.asked c.turn.new.script.ended inv.read caused.took) met;
+      caused = caused_more c.args.cluster.now.settings (all_counts g.D.Disk.fault_count g.A.Arm.fault_count c.args.cluster.now) (all_counts g.D.Disk.fault_count g.A.Arm.fault_count c.turns.cluster)
+          (all_counts g.D.Disk.fault_count g.A.Arm.fault_count c.turn.new.cluster) inv.said caused.asked (g.K.Sink.written c.args.sink.now) (g.K.Sink.written c.turns.sink) (g.K.Sink.written c.turn.new.sink)
+          inv.caused (subst P inv.same caused.caused);
+    }
+
+pub returns-in_err-number-clause-stop_caused : goal.returns-in_err-number-clause-stop_caused
+returns-in_err-number-clause-stop_caused g c = λ why is.
+    let inv = c.turns.invariant in
+    let left = g.S.Source.left in
+    let p = err_from_is_err_and c.from_residual.result c.from_residual.ensures.1 in
+    let same : IsErrOf c.turn.result why = cc (p.1, p.2, c.in_err-number.was) in
+    let P : Settings → Type 0 = λ s. TurnStops s (all_counts g.D.Disk.fault_count g.A.Arm.fault_count c.turns.cluster) (all_counts g.D.Disk.fault_count g.A.Arm.fault_count c.turn.new.cluster) why c.turns.number
+    (rest_of (left c.turns.source) c.turns.script) (g.K.Sink.written c.turns.sink) (rest_of (left c.turn.new.source) c.turn.new.script) (g.K.Sink.written c.turn.new.sink) in
+    record {
+      asked = inv.said;
+      number = c.turns.number;
+      rest = rest_of (left c.turns.source) c.turns.script;
+      took = inv.read;
+      mid = all_counts g.D.Disk.fault_count g.A.Arm.fault_count c.turns.cluster;
+      text = g.K.Sink.written c.turns.sink;
+      caused = inv.caused;
+      held = c.turn.new.script;
+      none = holds_none c.turn.result c.turn.new.script why same c.turn.ensures.none_held;
+      stops = subst P inv.same (c.turn.ensures.stop_caused why same);
+    }

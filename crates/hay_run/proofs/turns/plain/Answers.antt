@@ -1,9 +1,14 @@
+use Rattle.std.proofs.Common.{[], ◌∷◌}
 use Rattle.std.proofs.lemmas.Result.{on_ok_weaker, on_err_weaker}
 use Rattle.hay_disk.specs.Streams.{Wrote, WrotePart}
 use Rattle.hay_cluster.specs.State.{Stands, Holds}
 use Rattle.hay_cluster.proofs.Standing.{stands_holds}
 use Rattle.hay_run.specs.Turns.{AnyTurn, GoesOn}
+use Rattle.hay_run.specs.Causing.{all_counts}
+use Rattle.hay_run.proofs.Causing.{caused_reply, part_stops}
 use Rattle.hay_run.proofs.Turning.{answers_plain, plain_goes_on}
+use Rattle.hay_legal.specs.declared.turn.Item.TheVariants as item
+use Rattle.hay_legal.specs.Items.Asked.{Alone}
 use Rattle.hay_run.proofs.turns.plain.Goals as goal
 
 pub returns-clause-answers : goal.returns-clause-answers
@@ -27,3 +32,23 @@ returns-clause-part g c =
     (g.K.Sink.written c.args.sink.now) (g.K.Sink.written c.write_reply.new.sink) c.answer-reply.new.self
     answered.legal (stands_holds D.files g.D.Piece.Piece.Tells D.fault_count D.fuse_count A.fault_count c.answer-reply.new.self answered.known answered.stands) wrote)
     c.write_reply.ensures.part
+
+pub returns-clause-caused : goal.returns-clause-caused
+returns-clause-caused g c =
+    let D = g.D.Disk in
+    let A = g.A.Arm in
+    on_ok_weaker c.write_reply.result (λ wrote.
+    caused_reply Wrote c.args.cluster.now.settings (all_counts D.fault_count A.fault_count c.args.cluster.now) (all_counts D.fault_count A.fault_count c.answer-reply.new.self) c.args.number c.args.command.now c.answer-reply.result
+    (g.K.Sink.written c.args.sink.now) (g.K.Sink.written c.write_reply.new.sink) c.requires.goes_on (c.answer-reply.ensures.counts, c.answer-reply.ensures.arm_counts) c.answer-reply.ensures.causes wrote)
+    c.write_reply.ensures.wrote
+
+pub returns-clause-stop_caused : goal.returns-clause-stop_caused
+returns-clause-stop_caused g c = λ why is.
+    let D = g.D.Disk in
+    let A = g.A.Arm in
+    part_stops c.args.cluster.now.settings (all_counts D.fault_count A.fault_count c.args.cluster.now) (all_counts D.fault_count A.fault_count c.answer-reply.new.self) (Alone c.args.number (item.Command c.args.command.now) ∷ [])
+    (g.K.Sink.written c.args.sink.now) (g.K.Sink.written c.write_reply.new.sink) c.write_reply.result why is c.write_reply.ensures.stops
+    (on_err_weaker c.write_reply.result (λ wrote.
+    caused_reply WrotePart c.args.cluster.now.settings (all_counts D.fault_count A.fault_count c.args.cluster.now) (all_counts D.fault_count A.fault_count c.answer-reply.new.self) c.args.number c.args.command.now c.answer-reply.result
+    (g.K.Sink.written c.args.sink.now) (g.K.Sink.written c.write_reply.new.sink) c.requires.goes_on (c.answer-reply.ensures.counts, c.answer-reply.ensures.arm_counts) c.answer-reply.ensures.causes wrote)
+    c.write_reply.ensures.part)

@@ -1,5 +1,5 @@
 use Rattle.std.proofs.Common.{refl, ◌≡◌, inl, [], ◌∷◌, map}
-use Rattle.std.proofs.lemmas.Result.{on_ok_weaker}
+use Rattle.std.proofs.lemmas.Result.{on_ok_weaker, on_err_weaker}
 use Rattle.hay_disk.specs.Streams.{Wrote, WrotePart}
 use Rattle.hay_legal.specs.declared.turn.Item.TheVariants as item
 use Rattle.hay_legal.specs.Items.{outside}
@@ -9,9 +9,13 @@ use Rattle.hay_cluster.proofs.Standing.{stands_holds}
 use Rattle.hay_cluster.proofs.Sure.{same_sure}
 use Rattle.hay_run.specs.declared.stops.Stop.TheVariants as stop
 use Rattle.hay_cluster.specs.Store.{disks_of}
-use Rattle.hay_run.proofs.Asking.{outside-bad}
+use Rattle.hay_run.proofs.Asking.{outside-bad, outside-none}
 use Rattle.hay_run.proofs.Counting.{NoneFalls-same}
 use Rattle.hay_run.specs.Turns.{AnyTurn, GoesOn}
+use Rattle.hay_run.specs.Causing.{all_counts}
+use Rattle.hay_reply.specs.Replies.{numbered_line}
+use Rattle.hay_reply.specs.declared.Reply.TheVariants.{BadLine}
+use Rattle.hay_run.proofs.Causing.{caused_nothing, caused_one, part_stops, same_counts}
 use Rattle.hay_run.proofs.Turning.{answers_bad, on_either, plain_goes_on}
 use Rattle.hay_run.proofs.turns.respond.Goals as goal
 
@@ -54,7 +58,43 @@ pub returns-clause-arm_faults : goal.returns-clause-arm_faults
 returns-clause-arm_faults g c = NoneFalls-same (map g.A.Arm.fault_count c.args.cluster.now.arms)
 
 pub returns-in-Skip-clause-sure_arms : goal.returns-in-Skip-clause-sure_arms
-returns-in-Skip-clause-sure_arms g c = same_sure g.A.Arm.is_sure c.args.cluster.now.arms c.args.cluster.now.arms refl
+returns-in-Skip-clause-sure_arms g c = same_sure g.A.Arm.is_sure g.A.Arm.fault_count c.args.cluster.now.arms c.args.cluster.now.arms refl
 
 pub returns-clause-sure_arms : goal.returns-clause-sure_arms
-returns-clause-sure_arms g c = same_sure g.A.Arm.is_sure c.args.cluster.now.arms c.args.cluster.now.arms refl
+returns-clause-sure_arms g c = same_sure g.A.Arm.is_sure g.A.Arm.fault_count c.args.cluster.now.arms c.args.cluster.now.arms refl
+
+-- what was written, and its causes
+
+pub returns-in-Plain-Restart-clause-stop_caused : goal.returns-in-Plain-Restart-clause-stop_caused
+returns-in-Plain-Restart-clause-stop_caused g c = λ why is. rw (c.in-Plain-Restart.is, c.in-Plain-Restart.field-0-is) (c.restart.ensures.stop_caused why is)
+
+pub returns-clause-caused : goal.returns-clause-caused
+returns-clause-caused g c =
+    let D = g.D.Disk in
+    let A = g.A.Arm in
+    let says : (outside c.args.number c.args.said).0 ≡ Alone c.args.number item.Bad ∷ [] = outside-bad c.args.number c.args.said c.in-Bad.is in
+    rw says
+    (on_ok_weaker c.write_reply.result (λ wrote.
+    caused_one Wrote c.args.cluster.now.settings (all_counts D.fault_count A.fault_count c.args.cluster.now) (all_counts D.fault_count A.fault_count c.args.cluster.now) (Alone c.args.number item.Bad) (numbered_line c.args.number BadLine)
+    (g.K.Sink.written c.args.sink.now) (g.K.Sink.written c.write_reply.new.sink) (same_counts (all_counts D.fault_count A.fault_count c.args.cluster.now)) refl wrote)
+    c.write_reply.ensures.wrote)
+
+pub returns-clause-stop_caused : goal.returns-clause-stop_caused
+returns-clause-stop_caused g c = λ why is.
+    let D = g.D.Disk in
+    let A = g.A.Arm in
+    let says : (outside c.args.number c.args.said).0 ≡ Alone c.args.number item.Bad ∷ [] = outside-bad c.args.number c.args.said c.in-Bad.is in
+    rw says
+    (part_stops c.args.cluster.now.settings (all_counts D.fault_count A.fault_count c.args.cluster.now) (all_counts D.fault_count A.fault_count c.args.cluster.now) (Alone c.args.number item.Bad ∷ [])
+    (g.K.Sink.written c.args.sink.now) (g.K.Sink.written c.write_reply.new.sink) c.write_reply.result why is c.write_reply.ensures.stops
+    (on_err_weaker c.write_reply.result (λ wrote.
+    caused_one WrotePart c.args.cluster.now.settings (all_counts D.fault_count A.fault_count c.args.cluster.now) (all_counts D.fault_count A.fault_count c.args.cluster.now) (Alone c.args.number item.Bad) (numbered_line c.args.number BadLine)
+    (g.K.Sink.written c.args.sink.now) (g.K.Sink.written c.write_reply.new.sink) (same_counts (all_counts D.fault_count A.fault_count c.args.cluster.now)) refl wrote)
+    c.write_reply.ensures.part))
+
+pub returns-in-Skip-clause-caused : goal.returns-in-Skip-clause-caused
+returns-in-Skip-clause-caused g c =
+    let D = g.D.Disk in
+    let A = g.A.Arm in
+    let says : (outside c.args.number c.args.said).0 ≡ [] = outside-none c.args.number c.args.said c.in-Skip.is in
+    rw says (caused_nothing c.args.cluster.now.settings (all_counts D.fault_count A.fault_count c.args.cluster.now) (g.K.Sink.written c.args.sink.now))

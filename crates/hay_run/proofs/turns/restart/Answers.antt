@@ -1,13 +1,19 @@
-use Rattle.std.proofs.Common.{◌≡◌, inl, ap, map}
+use Rattle.std.proofs.Common.{◌≡◌, inl, [], ◌∷◌, refl, ap, map, subst}
 use Rattle.std.specs.Prelude.{Err}
-use Rattle.std.proofs.lemmas.Result.{on_ok_weaker}
+use Rattle.std.proofs.lemmas.Result.{on_ok_weaker, on_err_weaker}
 use Rattle.hay_disk.specs.Streams.{Wrote, WrotePart}
+use Rattle.hay_script.specs.declared.Command.TheVariants as asks
+use Rattle.hay_legal.specs.declared.turn.Item.TheVariants as item
+use Rattle.hay_legal.specs.Items.Asked.{Alone}
 use Rattle.hay_cluster.specs.State.{Stands, Holds}
 use Rattle.hay_cluster.proofs.Standing.{stands_holds}
 use Rattle.hay_cluster.proofs.Sure.{same_sure}
+use Rattle.hay_run.specs.declared.stops.Stop.{Stop}
 use Rattle.hay_run.specs.declared.stops.Stop.TheVariants as stop
 use Rattle.hay_run.proofs.Counting.{NoneFalls-kept}
 use Rattle.hay_run.specs.Turns.{AnyTurn, GoesOn}
+use Rattle.hay_run.specs.Causing.{all_counts, NoCountFalls, NotReopened, StopCaused}
+use Rattle.hay_run.proofs.Causing.{caused_restart, part_stops, refused_stops}
 use Rattle.hay_run.proofs.Turning.{on_either, restarted_goes_on}
 use Rattle.hay_run.proofs.Restarting.{restarted, holds_counts, stands_counts, not_store, broke, refused, halts}
 use Rattle.hay_run.proofs.turns.restart.Goals as goal
@@ -84,7 +90,45 @@ returns-in-Err-clause-arm_faults g c =
     NoneFalls-kept (map A.fault_count c.args.cluster.now.arms) (map A.fault_count c.restart.new.self.arms) (ap (map A.fault_count) c.in-Err.ensures.arms)
 
 pub returns-in-Ok-clause-sure_arms : goal.returns-in-Ok-clause-sure_arms
-returns-in-Ok-clause-sure_arms g c = same_sure g.A.Arm.is_sure c.args.cluster.now.arms c.restart.new.self.arms c.in-Ok.ensures.arms
+returns-in-Ok-clause-sure_arms g c = same_sure g.A.Arm.is_sure g.A.Arm.fault_count c.args.cluster.now.arms c.restart.new.self.arms c.in-Ok.ensures.arms
 
 pub returns-in-Err-clause-sure_arms : goal.returns-in-Err-clause-sure_arms
-returns-in-Err-clause-sure_arms g c = same_sure g.A.Arm.is_sure c.args.cluster.now.arms c.restart.new.self.arms c.in-Err.ensures.arms
+returns-in-Err-clause-sure_arms g c = same_sure g.A.Arm.is_sure g.A.Arm.fault_count c.args.cluster.now.arms c.restart.new.self.arms c.in-Err.ensures.arms
+
+-- what was written, and its causes
+
+pub returns-in-Ok-clause-caused : goal.returns-in-Ok-clause-caused
+returns-in-Ok-clause-caused g c =
+    let D = g.D.Disk in
+    let A = g.A.Arm in
+    let none : NoCountFalls (all_counts D.fault_count A.fault_count c.args.cluster.now) (all_counts D.fault_count A.fault_count c.restart.new.self) = (c.in-Ok.ensures.counts, NoneFalls-kept (map A.fault_count c.args.cluster.now.arms) (map A.fault_count c.restart.new.self.arms) (ap (map A.fault_count) c.in-Ok.ensures.arms)) in
+    on_ok_weaker c.write_restarted.result (λ wrote.
+    caused_restart Wrote c.args.cluster.now.settings (all_counts D.fault_count A.fault_count c.args.cluster.now) (all_counts D.fault_count A.fault_count c.restart.new.self) c.args.number c.args.pick c.rows.result c.as_slice.result.now
+    (g.K.Sink.written c.args.sink.now) (g.K.Sink.written c.write_restarted.new.sink) none wrote)
+    c.write_restarted.ensures.wrote
+
+pub returns-in-Ok-clause-stop_caused : goal.returns-in-Ok-clause-stop_caused
+returns-in-Ok-clause-stop_caused g c = λ why is.
+    let D = g.D.Disk in
+    let A = g.A.Arm in
+    let none : NoCountFalls (all_counts D.fault_count A.fault_count c.args.cluster.now) (all_counts D.fault_count A.fault_count c.restart.new.self) = (c.in-Ok.ensures.counts, NoneFalls-kept (map A.fault_count c.args.cluster.now.arms) (map A.fault_count c.restart.new.self.arms) (ap (map A.fault_count) c.in-Ok.ensures.arms)) in
+    part_stops c.args.cluster.now.settings (all_counts D.fault_count A.fault_count c.args.cluster.now) (all_counts D.fault_count A.fault_count c.restart.new.self) (Alone c.args.number (item.Command (asks.Restart c.args.pick)) ∷ [])
+    (g.K.Sink.written c.args.sink.now) (g.K.Sink.written c.write_restarted.new.sink) c.write_restarted.result why is c.write_restarted.ensures.stops
+    (on_err_weaker c.write_restarted.result (λ wrote.
+    caused_restart WrotePart c.args.cluster.now.settings (all_counts D.fault_count A.fault_count c.args.cluster.now) (all_counts D.fault_count A.fault_count c.restart.new.self) c.args.number c.args.pick c.rows.result c.as_slice.result.now
+    (g.K.Sink.written c.args.sink.now) (g.K.Sink.written c.write_restarted.new.sink) none wrote)
+    c.write_restarted.ensures.part)
+
+pub returns-in-Err-clause-stop_caused : goal.returns-in-Err-clause-stop_caused
+returns-in-Err-clause-stop_caused g c = λ why is.
+    let D = g.D.Disk in
+    let A = g.A.Arm in
+    let same : c.refuse.result ≡ why = cc in
+    let back : NotReopened (all_counts D.fault_count A.fault_count c.args.cluster.now) (all_counts D.fault_count A.fault_count c.restart.new.self) (Alone c.args.number (item.Command (asks.Restart c.args.pick)) ∷ []) =
+    record { restart = (c.args.number, c.args.pick, refl); disks = c.in-Err.ensures.counts; arms = ap (map A.fault_count) c.in-Err.ensures.arms } in
+    let P : Stop → Type 0 = λ w. StopCaused c.args.cluster.now.settings (all_counts D.fault_count A.fault_count c.args.cluster.now) (all_counts D.fault_count A.fault_count c.restart.new.self) w (Alone c.args.number (item.Command (asks.Restart c.args.pick)) ∷ [])
+    (g.K.Sink.written c.args.sink.now) (g.K.Sink.written c.refuse.new.sink) in
+    subst P same
+    (refused_stops c.args.cluster.now.settings (all_counts D.fault_count A.fault_count c.args.cluster.now) (all_counts D.fault_count A.fault_count c.restart.new.self) c.args.number c.args.pick
+    (g.K.Sink.written c.args.sink.now) (g.K.Sink.written c.refuse.new.sink) c.refuse.result back
+    c.in-Err.fault c.in-Err.ensures.cause c.refuse.ensures.wanting c.refuse.ensures.told c.refuse.ensures.part c.refuse.ensures.stops)

@@ -69,73 +69,73 @@ pub returns-in-Put-clause-sure : goal.returns-in-Put-clause-sure
 returns-in-Put-clause-sure g c = λ arm at sure. unblamed (c.args.self.now).settings _ _ c.put.result c.put.ensures.causes
 
 pub returns-in-Put-clause-sure_arms : goal.returns-in-Put-clause-sure_arms
-returns-in-Put-clause-sure_arms g c = same_sure g.A.Arm.is_sure (c.args.self.now).arms (c.put.new.self).arms c.put.ensures.arms
+returns-in-Put-clause-sure_arms g c = same_sure g.A.Arm.is_sure g.A.Arm.fault_count (c.args.self.now).arms (c.put.new.self).arms c.put.ensures.arms
 
 pub returns-in-Del-clause-sure : goal.returns-in-Del-clause-sure
 returns-in-Del-clause-sure g c = λ arm at sure. unblamed (c.args.self.now).settings _ _ c.delete.result c.delete.ensures.causes
 
 pub returns-in-Del-clause-sure_arms : goal.returns-in-Del-clause-sure_arms
-returns-in-Del-clause-sure_arms g c = same_sure g.A.Arm.is_sure (c.args.self.now).arms (c.delete.new.self).arms c.delete.ensures.arms
+returns-in-Del-clause-sure_arms g c = same_sure g.A.Arm.is_sure g.A.Arm.fault_count (c.args.self.now).arms (c.delete.new.self).arms c.delete.ensures.arms
 
 pub returns-in-Url-clause-sure : goal.returns-in-Url-clause-sure
 returns-in-Url-clause-sure g c = λ arm at sure. unblamed (c.args.self.now).settings _ _ c.url.result c.url.ensures.causes
 
 pub returns-in-Url-clause-sure_arms : goal.returns-in-Url-clause-sure_arms
-returns-in-Url-clause-sure_arms g c = same_sure g.A.Arm.is_sure (c.args.self.now).arms (c.url.new.self).arms c.url.ensures.arms
+returns-in-Url-clause-sure_arms g c = same_sure g.A.Arm.is_sure g.A.Arm.fault_count (c.args.self.now).arms (c.url.new.self).arms c.url.ensures.arms
 
 pub returns-in-Flush-clause-sure : goal.returns-in-Flush-clause-sure
 returns-in-Flush-clause-sure g c = λ arm at sure. unblamed (c.args.self.now).settings _ _ c.maintain.result c.maintain.ensures.causes
 
 pub returns-in-Flush-clause-sure_arms : goal.returns-in-Flush-clause-sure_arms
-returns-in-Flush-clause-sure_arms g c = same_sure g.A.Arm.is_sure (c.args.self.now).arms (c.maintain.new.self).arms c.maintain.ensures.arms
+returns-in-Flush-clause-sure_arms g c = same_sure g.A.Arm.is_sure g.A.Arm.fault_count (c.args.self.now).arms (c.maintain.new.self).arms c.maintain.ensures.arms
 
 pub returns-in-Drain-clause-sure : goal.returns-in-Drain-clause-sure
 returns-in-Drain-clause-sure g c = λ arm at sure. unblamed (c.args.self.now).settings _ _ c.drain.result c.drain.ensures.causes
 
 pub returns-in-Drain-clause-sure_arms : goal.returns-in-Drain-clause-sure_arms
-returns-in-Drain-clause-sure_arms g c = same_sure g.A.Arm.is_sure (c.args.self.now).arms (c.drain.new.self).arms c.drain.ensures.arms
+returns-in-Drain-clause-sure_arms g c = same_sure g.A.Arm.is_sure g.A.Arm.fault_count (c.args.self.now).arms (c.drain.new.self).arms c.drain.ensures.arms
 
 pub returns-in-Undrain-clause-sure : goal.returns-in-Undrain-clause-sure
 returns-in-Undrain-clause-sure g c = λ arm at sure. unblamed (c.args.self.now).settings _ _ c.undrain.result c.undrain.ensures.causes
 
 pub returns-in-Undrain-clause-sure_arms : goal.returns-in-Undrain-clause-sure_arms
-returns-in-Undrain-clause-sure_arms g c = same_sure g.A.Arm.is_sure (c.args.self.now).arms (c.undrain.new.self).arms c.undrain.ensures.arms
+returns-in-Undrain-clause-sure_arms g c = same_sure g.A.Arm.is_sure g.A.Arm.fault_count (c.args.self.now).arms (c.undrain.new.self).arms c.undrain.ensures.arms
 
 pub returns-in-Fuse-clause-sure : goal.returns-in-Fuse-clause-sure
 returns-in-Fuse-clause-sure g c = λ arm at sure. unblamed (c.args.self.now).settings _ _ c.fuse.result c.fuse.ensures.causes
 
 pub returns-in-Fuse-clause-sure_arms : goal.returns-in-Fuse-clause-sure_arms
-returns-in-Fuse-clause-sure_arms g c = same_sure g.A.Arm.is_sure (c.args.self.now).arms (c.fuse.new.self).arms c.fuse.ensures.arms
+returns-in-Fuse-clause-sure_arms g c = same_sure g.A.Arm.is_sure g.A.Arm.fault_count (c.args.self.now).arms (c.fuse.new.self).arms c.fuse.ensures.arms
 
 pub returns-in-FuseDir-clause-sure : goal.returns-in-FuseDir-clause-sure
 returns-in-FuseDir-clause-sure g c = λ arm at sure. unblamed (c.args.self.now).settings _ _ c.fuse_dir.result c.fuse_dir.ensures.causes
 
 pub returns-in-FuseDir-clause-sure_arms : goal.returns-in-FuseDir-clause-sure_arms
-returns-in-FuseDir-clause-sure_arms g c = same_sure g.A.Arm.is_sure (c.args.self.now).arms (c.fuse_dir.new.self).arms c.fuse_dir.ensures.arms
+returns-in-FuseDir-clause-sure_arms g c = same_sure g.A.Arm.is_sure g.A.Arm.fault_count (c.args.self.now).arms (c.fuse_dir.new.self).arms c.fuse_dir.ensures.arms
 
 pub returns-in-Compact-clause-sure : goal.returns-in-Compact-clause-sure
 returns-in-Compact-clause-sure g c = λ arm at sure. unblamed (c.args.self.now).settings _ _ c.maintain-in-Compact.result c.maintain-in-Compact.ensures.causes
 
 pub returns-in-Compact-clause-sure_arms : goal.returns-in-Compact-clause-sure_arms
-returns-in-Compact-clause-sure_arms g c = same_sure g.A.Arm.is_sure (c.args.self.now).arms (c.maintain-in-Compact.new.self).arms c.maintain-in-Compact.ensures.arms
+returns-in-Compact-clause-sure_arms g c = same_sure g.A.Arm.is_sure g.A.Arm.fault_count (c.args.self.now).arms (c.maintain-in-Compact.new.self).arms c.maintain-in-Compact.ensures.arms
 
 pub returns-in-Begin-clause-sure : goal.returns-in-Begin-clause-sure
 returns-in-Begin-clause-sure g c = λ arm at sure. unblamed (c.args.self.now).settings _ _ c.maintain-in-Begin.result c.maintain-in-Begin.ensures.causes
 
 pub returns-in-Begin-clause-sure_arms : goal.returns-in-Begin-clause-sure_arms
-returns-in-Begin-clause-sure_arms g c = same_sure g.A.Arm.is_sure (c.args.self.now).arms (c.maintain-in-Begin.new.self).arms c.maintain-in-Begin.ensures.arms
+returns-in-Begin-clause-sure_arms g c = same_sure g.A.Arm.is_sure g.A.Arm.fault_count (c.args.self.now).arms (c.maintain-in-Begin.new.self).arms c.maintain-in-Begin.ensures.arms
 
 pub returns-in-Step-clause-sure : goal.returns-in-Step-clause-sure
 returns-in-Step-clause-sure g c = λ arm at sure. unblamed (c.args.self.now).settings _ _ c.maintain-in-Step.result c.maintain-in-Step.ensures.causes
 
 pub returns-in-Step-clause-sure_arms : goal.returns-in-Step-clause-sure_arms
-returns-in-Step-clause-sure_arms g c = same_sure g.A.Arm.is_sure (c.args.self.now).arms (c.maintain-in-Step.new.self).arms c.maintain-in-Step.ensures.arms
+returns-in-Step-clause-sure_arms g c = same_sure g.A.Arm.is_sure g.A.Arm.fault_count (c.args.self.now).arms (c.maintain-in-Step.new.self).arms c.maintain-in-Step.ensures.arms
 
 pub returns-in-Finish-clause-sure : goal.returns-in-Finish-clause-sure
 returns-in-Finish-clause-sure g c = λ arm at sure. unblamed (c.args.self.now).settings _ _ c.maintain-in-Finish.result c.maintain-in-Finish.ensures.causes
 
 pub returns-in-Finish-clause-sure_arms : goal.returns-in-Finish-clause-sure_arms
-returns-in-Finish-clause-sure_arms g c = same_sure g.A.Arm.is_sure (c.args.self.now).arms (c.maintain-in-Finish.new.self).arms c.maintain-in-Finish.ensures.arms
+returns-in-Finish-clause-sure_arms g c = same_sure g.A.Arm.is_sure g.A.Arm.fault_count (c.args.self.now).arms (c.maintain-in-Finish.new.self).arms c.maintain-in-Finish.ensures.arms
 
 pub returns-in-Put-clause-causes : goal.returns-in-Put-clause-causes
 returns-in-Put-clause-causes g c = c.put.ensures.causes c.args.tag.lane

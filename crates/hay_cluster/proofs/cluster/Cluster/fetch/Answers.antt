@@ -158,7 +158,7 @@ returns-clause-sure g c = λ one at sure.
     let seat : At store.arms c.args.lane arm = subst (λ (xs : List (g.row.A.Denot)). At xs c.args.lane arm) c.as_mut_slice.ensures.value
     (at_read c.as_mut_slice.result.now c.args.lane c.index-as_mut_slice-lane.result (let long = ap length c.as_mut_slice.ensures.value in omega (arith, inside, long))) in
     let same : arm ≡ one = same_Some arm one (sym seat ∙ ap (λ (st : Open g.row.D.Denot g.row.D-Piece.Denot g.row.A.Denot). slice_get st.arms c.args.lane) c.self.view_is ∙ at) in
-    no_arm_passed c.show-read.result (c.show-read.ensures.sure (ap g.A.Arm.is_sure same ∙ sure)).1
+    no_arm_passed c.show-read.result (c.show-read.ensures.sure (ap g.A.Arm.is_sure same ∙ sure))
 
 pub returns-clause-sure_arms : goal.returns-clause-sure_arms
 returns-clause-sure_arms g c =
@@ -169,5 +169,5 @@ returns-clause-sure_arms g c =
     (at_read c.as_mut_slice.result.now c.args.lane c.index-as_mut_slice-lane.result (let long = ap length c.as_mut_slice.ensures.value in omega (arith, inside, long))) in
     let items = with_items_is c.self.inside.seats (slice_set c.as_mut_slice.result.now c.args.lane c.show-read.new.self) (length-set c.as_mut_slice.result.now c.args.lane c.show-read.new.self ∙ c.as_mut_slice.ensures.len)
     ∙ ap (λ (xs : List (g.row.A.Denot)). slice_set xs c.args.lane c.show-read.new.self) c.as_mut_slice.ensures.value in
-    rw items (used_sure g.A.Arm.is_sure (c.args.self.now).arms store.arms c.args.lane arm c.show-read.new.self (ap (λ (st : Open g.row.D.Denot g.row.D-Piece.Denot g.row.A.Denot). st.arms) c.self.view_is) seat
-    (λ sure. (c.show-read.ensures.sure sure).0))
+    rw items (used_sure g.A.Arm.is_sure g.A.Arm.fault_count (c.args.self.now).arms store.arms c.args.lane arm c.show-read.new.self (ap (λ (st : Open g.row.D.Denot g.row.D-Piece.Denot g.row.A.Denot). st.arms) c.self.view_is) seat
+    c.show-read.ensures.stays_sure)

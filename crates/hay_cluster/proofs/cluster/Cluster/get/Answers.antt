@@ -71,10 +71,10 @@ pub returns-then-volume-url-clause-arm_counts : goal.returns-then-volume-url-cla
 returns-then-volume-url-clause-arm_counts g c = none_falls (map g.A.Arm.fault_count (c.args.self.now).arms)
 
 pub returns-in_default-clause-sure_arms : goal.returns-in_default-clause-sure_arms
-returns-in_default-clause-sure_arms g c = same_sure g.A.Arm.is_sure (c.args.self.now).arms (c.args.self.now).arms refl
+returns-in_default-clause-sure_arms g c = same_sure g.A.Arm.is_sure g.A.Arm.fault_count (c.args.self.now).arms (c.args.self.now).arms refl
 
 pub returns-in_default-home-clause-sure_arms : goal.returns-in_default-home-clause-sure_arms
-returns-in_default-home-clause-sure_arms g c = same_sure g.A.Arm.is_sure (c.args.self.now).arms (c.args.self.now).arms refl
+returns-in_default-home-clause-sure_arms g c = same_sure g.A.Arm.is_sure g.A.Arm.fault_count (c.args.self.now).arms (c.args.self.now).arms refl
 
 pub returns-then-volume-url-clause-sure_arms : goal.returns-then-volume-url-clause-sure_arms
-returns-then-volume-url-clause-sure_arms g c = same_sure g.A.Arm.is_sure (c.args.self.now).arms (c.args.self.now).arms refl
+returns-then-volume-url-clause-sure_arms g c = same_sure g.A.Arm.is_sure g.A.Arm.fault_count (c.args.self.now).arms (c.args.self.now).arms refl

@@ -8,11 +8,12 @@ use Rattle.hay_legal.specs.Known.{disk_count}
 use Rattle.hay_cluster.specs.declared.fault.ClusterFault.TheVariants.{Shelf, Failed, Damaged, NoMemory}
 use Rattle.hay_cluster.specs.Store.{disks_of}
 use Rattle.hay_cluster.proofs.Lists.{one_fits}
-use Rattle.hay_cluster.proofs.OpeningDamage.{opened_sound, opening_damaged}
+use Rattle.hay_cluster.proofs.OpeningDamage.{opened_sound, opening_damaged, opening_failed}
 use Rattle.hay_cluster.proofs.OpeningFound.{found_new}
 use Rattle.hay_cluster.proofs.OpeningLists.{passed_on}
 use Rattle.hay_cluster.proofs.OpeningStore.{MovedParts, opens_up}
-use Rattle.hay_cluster.proofs.OpeningTaken.{IsTakingFault, back_arm, back_counts, back_failed, back_kept, back_shelf, is_taken, moved_arms, moved_counts, moved_sure, not_memory_damaged, one_fault, passed_back, taken_idle, taken_rests, taking_damaged, taking_failed, taking_shelf}
+use Rattle.hay_cluster.proofs.OpeningTaken.{IsTakingFault, back_arm, back_counts, back_failed, back_shelf, is_taken, moved_arms, moved_counts, moved_sure, not_memory_damaged, not_memory_failed, one_fault, passed_back, taken_idle, taken_rests, taking_damaged, taking_failed, taking_shelf}
+use Rattle.hay_cluster.proofs.OpeningVoid.{back_kept}
 use Rattle.hay_cluster.proofs.cluster.Cluster.open.Goals as goal
 
 pub empty_volumes-requires-after_bounds : goal.empty_volumes-requires-after_bounds
@@ -61,6 +62,12 @@ returns-in_err-volumes-clause-damaged g c =
     let memory : c.in_err-volumes.field-0.0 ≡ NoMemory = c.in_err-volumes.ensures.no_memory in
     λ tells slot file at is. absurd (not_memory_damaged p.0 slot file at (p.2 ∙ memory) (one_fault c.from_residual.result p.0 (Damaged slot file at) p.1 is))
 
+pub returns-in_err-volumes-clause-failed_lowest : goal.returns-in_err-volumes-clause-failed_lowest
+returns-in_err-volumes-clause-failed_lowest g c =
+    let p = err_from_is_err_and c.from_residual.result c.from_residual.ensures.1 in
+    let memory : c.in_err-volumes.field-0.0 ≡ NoMemory = c.in_err-volumes.ensures.no_memory in
+    λ tells slot faults is. absurd (not_memory_failed p.0 slot faults (p.2 ∙ memory) (one_fault c.from_residual.result p.0 (Failed slot faults) p.1 is))
+
 pub returns-in_err-disks-clause-kept : goal.returns-in_err-disks-clause-kept
 returns-in_err-disks-clause-kept g c =
     let p = err_from_is_err_and c.from_residual-in_err-disks.result c.from_residual-in_err-disks.ensures.1 in
@@ -104,6 +111,12 @@ returns-in_err-disks-clause-failed g c =
     let cause : IsTakingFault (g.H.Shelf.fault_count c.args.shelf.now) (g.H.Shelf.fault_count c.take_parts.new.shelf) c.in_err-disks.field-0.0 = c.in_err-disks.ensures.cause in
     passed_on c.from_residual-in_err-disks.result (λ fault. (slot faults : ℕ) → fault ≡ Failed slot faults → (slot < disk_count c.args.settings) × Rose (g.H.Shelf.disks c.args.shelf.now slot).fault_count (g.H.Shelf.disks c.take_parts.new.shelf slot).fault_count × (faults ≡ (g.H.Shelf.disks c.take_parts.new.shelf slot).fault_count)) c.in_err-disks.field-0.0 p.0 p.1 p.2 (λ slot faults is. absurd (taking_failed (g.H.Shelf.fault_count c.args.shelf.now) (g.H.Shelf.fault_count c.take_parts.new.shelf) c.in_err-disks.field-0.0 slot faults cause is))
 
+pub returns-in_err-disks-clause-failed_lowest : goal.returns-in_err-disks-clause-failed_lowest
+returns-in_err-disks-clause-failed_lowest g c =
+    let p = err_from_is_err_and c.from_residual-in_err-disks.result c.from_residual-in_err-disks.ensures.1 in
+    let cause : IsTakingFault (g.H.Shelf.fault_count c.args.shelf.now) (g.H.Shelf.fault_count c.take_parts.new.shelf) c.in_err-disks.field-0.0 = c.in_err-disks.ensures.cause in
+    λ tells slot faults is. absurd (taking_failed (g.H.Shelf.fault_count c.args.shelf.now) (g.H.Shelf.fault_count c.take_parts.new.shelf) c.in_err-disks.field-0.0 slot faults cause (sym p.2 ∙ one_fault c.from_residual-in_err-disks.result p.0 (Failed slot faults) p.1 is))
+
 pub returns-in_err-disks-clause-damaged : goal.returns-in_err-disks-clause-damaged
 returns-in_err-disks-clause-damaged g c =
     let p = err_from_is_err_and c.from_residual-in_err-disks.result c.from_residual-in_err-disks.ensures.1 in
@@ -124,7 +137,8 @@ returns-in-Ok-clause-opened g c =
 pub returns-in-Ok-clause-sound : goal.returns-in-Ok-clause-sound
 returns-in-Ok-clause-sound g c =
     let taken = is_taken g.D.Disk.Tells g.D.Disk.files g.D.Piece.Piece.Tells g.D.Disk.fault_count g.D.Disk.fuse_count g.A.Arm.fault_count g.D.Disk.drawn g.A.Arm.is_sure (g.H.Shelf.disks c.args.shelf.now) (g.H.Shelf.arms c.args.shelf.now) c.assemble-cluster.result c.in_ok-disks.disks.items c.in_ok-disks.seats.items c.assemble-cluster.ensures.shape c.assemble-cluster.ensures.fresh c.assemble-cluster.ensures.closed c.assemble-cluster.ensures.unsure c.assemble-cluster.ensures.disks c.assemble-cluster.ensures.arms c.in_ok-disks.ensures.disks c.in_ok-disks.ensures.arms in
-    λ tells. opened_sound g.D.Disk.Tells g.D.Disk.files g.D.Piece.Piece.Tells g.D.Disk.fault_count g.D.Disk.fuse_count g.A.Arm.fault_count tells g.D.Disk.drawn g.A.Arm.is_sure (g.H.Shelf.disks c.args.shelf.now) (g.H.Shelf.arms c.args.shelf.now) c.args.settings c.assemble-cluster.result c.open_parts.new.self c.in-Ok._notes c.assemble-cluster.ensures.settings (let one = c.requires.built.some_replicas in omega (arith, one)) taken c.in-Ok.ensures.opened
+    let moved : MovedParts g.D.Disk.Tells g.D.Disk.files g.D.Piece.Piece.Tells g.D.Disk.fault_count g.D.Disk.fuse_count g.A.Arm.fault_count c.assemble-cluster.result c.open_parts.new.self = record { settings = c.open_parts.ensures.settings; arms = c.open_parts.ensures.arms; directory = c.open_parts.ensures.directory; volumes = c.open_parts.ensures.volumes } in
+    λ tells. opened_sound g.D.Disk.Tells g.D.Disk.files g.D.Piece.Piece.Tells g.D.Disk.fault_count g.D.Disk.fuse_count g.A.Arm.fault_count tells g.D.Disk.drawn g.A.Arm.is_sure (g.H.Shelf.disks c.args.shelf.now) (g.H.Shelf.arms c.args.shelf.now) c.args.settings c.assemble-cluster.result c.open_parts.new.self c.in-Ok._notes c.assemble-cluster.ensures.settings taken moved c.in-Ok.ensures.opened
 
 pub returns-in-Ok-clause-up : goal.returns-in-Ok-clause-up
 returns-in-Ok-clause-up g c =
@@ -161,8 +175,7 @@ pub returns-in-Err-clause-kept : goal.returns-in-Err-clause-kept
 returns-in-Err-clause-kept g c =
     let taken = is_taken g.D.Disk.Tells g.D.Disk.files g.D.Piece.Piece.Tells g.D.Disk.fault_count g.D.Disk.fuse_count g.A.Arm.fault_count g.D.Disk.drawn g.A.Arm.is_sure (g.H.Shelf.disks c.args.shelf.now) (g.H.Shelf.arms c.args.shelf.now) c.assemble-cluster.result c.in_ok-disks.disks.items c.in_ok-disks.seats.items c.assemble-cluster.ensures.shape c.assemble-cluster.ensures.fresh c.assemble-cluster.ensures.closed c.assemble-cluster.ensures.unsure c.assemble-cluster.ensures.disks c.assemble-cluster.ensures.arms c.in_ok-disks.ensures.disks c.in_ok-disks.ensures.arms in
     let moved : MovedParts g.D.Disk.Tells g.D.Disk.files g.D.Piece.Piece.Tells g.D.Disk.fault_count g.D.Disk.fuse_count g.A.Arm.fault_count c.assemble-cluster.result c.open_parts.new.self = record { settings = c.open_parts.ensures.settings; arms = c.open_parts.ensures.arms; directory = c.open_parts.ensures.directory; volumes = c.open_parts.ensures.volumes } in
-    let many : disk_count c.assemble-cluster.result.settings ≡ disk_count c.args.settings = ap (λ (s : Settings). disk_count s) c.assemble-cluster.ensures.settings in
-    λ tells slot below. back_kept g.D.Disk.Tells g.D.Disk.files g.D.Piece.Piece.Tells g.D.Disk.fault_count g.D.Disk.fuse_count g.A.Arm.fault_count g.D.Disk.drawn g.A.Arm.is_sure (g.H.Shelf.disks c.args.shelf.now) (g.H.Shelf.arms c.args.shelf.now) tells c.assemble-cluster.result c.open_parts.new.self (g.H.Shelf.disks c.close.new.shelf) taken moved c.close.ensures.disks slot (let low : slot < disk_count c.assemble-cluster.result.settings = omega (arith, many, below) in low)
+    λ tells. back_kept g.D.Disk.Tells g.D.Disk.files g.D.Piece.Piece.Tells g.D.Disk.fault_count g.D.Disk.fuse_count g.A.Arm.fault_count g.D.Disk.drawn g.A.Arm.is_sure (g.H.Shelf.disks c.args.shelf.now) (g.H.Shelf.arms c.args.shelf.now) tells c.args.settings c.assemble-cluster.result c.open_parts.new.self (g.H.Shelf.disks c.close.new.shelf) c.assemble-cluster.ensures.settings taken moved c.close.ensures.disks
 
 pub returns-in-Err-clause-disks_back : goal.returns-in-Err-clause-disks_back
 returns-in-Err-clause-disks_back g c =
@@ -201,6 +214,14 @@ returns-in-Err-clause-failed g c =
     let f = back_failed g.D.Disk.Tells g.D.Disk.files g.D.Piece.Piece.Tells g.D.Disk.fault_count g.D.Disk.fuse_count g.A.Arm.fault_count g.D.Disk.drawn g.A.Arm.is_sure (g.H.Shelf.disks c.args.shelf.now) (g.H.Shelf.arms c.args.shelf.now) c.assemble-cluster.result c.open_parts.new.self (g.H.Shelf.disks c.close.new.shelf) c.in-Err.fault taken moved c.in-Err.ensures.refused faults_are slot faults is in
     let low = f.0 in
     ((let less : slot < disk_count c.args.settings = omega (arith, many, low) in less), f.1, f.2)
+
+pub returns-in-Err-clause-failed_lowest : goal.returns-in-Err-clause-failed_lowest
+returns-in-Err-clause-failed_lowest g c =
+    let taken = is_taken g.D.Disk.Tells g.D.Disk.files g.D.Piece.Piece.Tells g.D.Disk.fault_count g.D.Disk.fuse_count g.A.Arm.fault_count g.D.Disk.drawn g.A.Arm.is_sure (g.H.Shelf.disks c.args.shelf.now) (g.H.Shelf.arms c.args.shelf.now) c.assemble-cluster.result c.in_ok-disks.disks.items c.in_ok-disks.seats.items c.assemble-cluster.ensures.shape c.assemble-cluster.ensures.fresh c.assemble-cluster.ensures.closed c.assemble-cluster.ensures.unsure c.assemble-cluster.ensures.disks c.assemble-cluster.ensures.arms c.in_ok-disks.ensures.disks c.in_ok-disks.ensures.arms in
+    let moved : MovedParts g.D.Disk.Tells g.D.Disk.files g.D.Piece.Piece.Tells g.D.Disk.fault_count g.D.Disk.fuse_count g.A.Arm.fault_count c.assemble-cluster.result c.open_parts.new.self = record { settings = c.open_parts.ensures.settings; arms = c.open_parts.ensures.arms; directory = c.open_parts.ensures.directory; volumes = c.open_parts.ensures.volumes } in
+    λ tells slot faults is.
+    let told : c.in-Err.fault ≡ Failed slot faults = cc in
+    opening_failed g.D.Disk.Tells g.D.Disk.files g.D.Piece.Piece.Tells g.D.Disk.fault_count g.D.Disk.fuse_count g.A.Arm.fault_count tells g.D.Disk.drawn g.A.Arm.is_sure (g.H.Shelf.disks c.args.shelf.now) (g.H.Shelf.arms c.args.shelf.now) c.args.settings c.assemble-cluster.result c.open_parts.new.self c.in-Err.fault c.assemble-cluster.ensures.settings taken moved c.in-Err.ensures.refused slot faults told
 
 pub returns-in-Err-clause-damaged : goal.returns-in-Err-clause-damaged
 returns-in-Err-clause-damaged g c =

@@ -141,8 +141,12 @@ returns-in_err-notes-clause-refused g c =
     let refused : RefusesVolumes g.D.Disk.Tells g.D.Disk.files g.D.Disk.fault_count c.self.inside.settings items vs fault = subst (λ (l : List (Volume g.row.D.Denot g.row.D-Piece.Denot)). RefusesVolumes g.D.Disk.Tells g.D.Disk.files g.D.Disk.fault_count c.self.inside.settings l vs fault) c.as_mut_slice.ensures.value c.in_err-notes.ensures.refused in
     passed_on r.result (RefusesParts g.D.Disk.Tells g.D.Disk.files g.D.Disk.fault_count c.args.self.now.settings c.args.self.now.directory c.open_directory.new.directory c.args.self.now.volumes (take c.self.inside.volumes.len (vs ++ drop (length vs) items)))
     fault p.0 p.1 p.2
-    (inr (subst (λ (st : Open g.row.D.Denot g.row.D-Piece.Denot g.row.A.Denot). RefusesVolumes g.D.Disk.Tells g.D.Disk.files g.D.Disk.fault_count st.settings st.volumes (take c.self.inside.volumes.len (vs ++ drop (length vs) items)) fault) c.self.view_is
-    (subst (λ (l : List (Volume g.row.D.Denot g.row.D-Piece.Denot)). RefusesVolumes g.D.Disk.Tells g.D.Disk.files g.D.Disk.fault_count c.self.inside.settings items l fault) (sym whole) refused)))
+    (inr (
+      c.in_ok-row_notes.row_notes,
+      subst (λ (st : Open g.row.D.Denot g.row.D-Piece.Denot g.row.A.Denot). OpensDirectory g.D.Disk.Tells g.D.Disk.files st.directory c.open_directory.new.directory c.in_ok-row_notes.row_notes) c.self.view_is c.in_ok-row_notes.ensures.opened,
+      subst (λ (st : Open g.row.D.Denot g.row.D-Piece.Denot g.row.A.Denot). RefusesVolumes g.D.Disk.Tells g.D.Disk.files g.D.Disk.fault_count st.settings st.volumes (take c.self.inside.volumes.len (vs ++ drop (length vs) items)) fault) c.self.view_is
+          (subst (λ (l : List (Volume g.row.D.Denot g.row.D-Piece.Denot)). RefusesVolumes g.D.Disk.Tells g.D.Disk.files g.D.Disk.fault_count c.self.inside.settings items l fault) (sym whole) refused),
+    ))
 
 pub returns-clause-opened : goal.returns-clause-opened
 returns-clause-opened g c =

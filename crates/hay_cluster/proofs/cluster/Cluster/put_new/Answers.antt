@@ -5,7 +5,7 @@ use Rattle.hay_needle.specs.declared.settings.Settings.{Settings}
 use Rattle.hay_legal.specs.Known.{refusal_of, taker_of}
 use Rattle.hay_script.specs.declared.Command.TheVariants as command
 use Rattle.hay_reply.specs.declared.Reply.{Reply}
-use Rattle.hay_cluster.specs.Causes.{HasCause}
+use Rattle.hay_cluster.specs.Causes.{IsCaused}
 use Rattle.hay_cluster.specs.State.{Answered}
 use Rattle.hay_cluster.specs.Store.{disks_of}
 use Rattle.hay_cluster.proofs.Answering.{answered, cause_earlier, not_settled, refusal_same, taker_takes}
@@ -32,7 +32,7 @@ returns-in-Ok-clause-legal g c = λ tells k stands home taker.
 
 pub returns-in-Ok-clause-causes : goal.returns-in-Ok-clause-causes
 returns-in-Ok-clause-causes g c = λ lane.
-    subst (λ (s : Settings). HasCause s lane (record { disks = map g.D.Disk.fault_count (disks_of c.args.self.now); arms = map g.A.Arm.fault_count (c.args.self.now).arms }) (record { disks = map g.D.Disk.fault_count (disks_of c.put_at.new.self); arms = map g.A.Arm.fault_count (c.put_at.new.self).arms }) c.put_at.result) c.settle.ensures.settings
+    subst (λ (s : Settings). IsCaused s lane (record { disks = map g.D.Disk.fault_count (disks_of c.args.self.now); arms = map g.A.Arm.fault_count (c.args.self.now).arms }) (record { disks = map g.D.Disk.fault_count (disks_of c.put_at.new.self); arms = map g.A.Arm.fault_count (c.put_at.new.self).arms }) c.put_at.result) c.settle.ensures.settings
     (cause_earlier (c.settle.new.self).settings lane (record { disks = map g.D.Disk.fault_count (disks_of c.args.self.now); arms = map g.A.Arm.fault_count (c.args.self.now).arms }) (record { disks = map g.D.Disk.fault_count (disks_of c.settle.new.self); arms = map g.A.Arm.fault_count (c.settle.new.self).arms }) (record { disks = map g.D.Disk.fault_count (disks_of c.put_at.new.self); arms = map g.A.Arm.fault_count (c.put_at.new.self).arms }) c.put_at.result
     c.settle.ensures.counts (ap (λ xs. map g.A.Arm.fault_count xs) c.settle.ensures.arms) (c.put_at.ensures.causes lane))
 

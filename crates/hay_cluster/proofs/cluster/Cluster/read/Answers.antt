@@ -13,4 +13,4 @@ returns-clause-legal g c = λ tells k stands.
     (subst (λ start. LegalShow (c.args.self.now).settings k c.args.tag start c.args.pair c.args.cookie c.show.result shown.known) c.start_of-start.ensures.is shown.legal) shown.stands
 
 pub returns-in_default-clause-sure_arms : goal.returns-in_default-clause-sure_arms
-returns-in_default-clause-sure_arms g c = same_sure g.A.Arm.is_sure (c.args.self.now).arms (c.args.self.now).arms refl
+returns-in_default-clause-sure_arms g c = same_sure g.A.Arm.is_sure g.A.Arm.fault_count (c.args.self.now).arms (c.args.self.now).arms refl

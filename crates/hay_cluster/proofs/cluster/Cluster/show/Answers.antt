@@ -136,4 +136,4 @@ returns-in-Ok-passed_of-clause-sure g c = λ arm at sure.
     unreadable_told (c.args.self.now).settings c.args.volume c.fetch-front.result.0 c.rows-rows.result c.in-Ok-passed_of.causes c.in-Unreadable.causes is none
 
 pub returns-in_default-clause-sure_arms : goal.returns-in_default-clause-sure_arms
-returns-in_default-clause-sure_arms g c = same_sure g.A.Arm.is_sure (c.args.self.now).arms (c.args.self.now).arms refl
+returns-in_default-clause-sure_arms g c = same_sure g.A.Arm.is_sure g.A.Arm.fault_count (c.args.self.now).arms (c.args.self.now).arms refl

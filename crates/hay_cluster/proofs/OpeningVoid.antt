@@ -1,0 +1,104 @@
+-- What is given back of the disks of a store that was not opened.
+use Rattle.std.proofs.Common.{◌≡◌, ℕ, zero, suc, ◌+◌, ◌<◌, ◌⊎◌, inl, inr, Bool, List, [], ◌∷◌, length, Some, refl, sym, ap, subst, ◌∙◌, arith}
+use Rattle.std.proofs.lemmas.Option.{same_Some}
+use Rattle.std.specs.Prelude.{slice_get}
+use Rattle.hay_needle.specs.declared.settings.Settings.{Settings}
+use Rattle.hay_needle.specs.declared.settings.Super.{Super}
+use Rattle.hay_disk.specs.Disk.{Files, IsImage, MayLeave}
+use Rattle.hay_disk.specs.Shelf.{HeldArm, HeldDisk}
+use Rattle.hay_disk.proofs.Images.{solid_whole}
+use Rattle.hay_mount.specs.Mounts.{InOrder, IsGivenDisk, IsMountedDisk}
+use Rattle.hay_open.specs.Stored.{OpensAs, Stored, fresh_stored}
+use Rattle.hay_legal.specs.Known.{disk_count, empty_replica, slot_of}
+use Rattle.hay_legal.specs.Stands.{Contents, Found, found_of}
+use Rattle.hay_legal.specs.Statuses.{FindsNothing}
+use Rattle.hay_directory.specs.Rows.{OpensRows}
+use Rattle.hay_logical.specs.Fits.{IsReplica, found_as, super_of}
+use Rattle.hay_cluster.specs.Opening.{MovesVolume}
+use Rattle.hay_cluster.specs.Outside.{IsKept}
+use Rattle.hay_cluster.specs.Store.{IsShaped, Open, disks_of}
+use Rattle.hay_cluster.proofs.ClosingStore.{order_get, order_item, order_self}
+use Rattle.hay_cluster.proofs.Moves.{volume_of}
+use Rattle.hay_cluster.proofs.OpeningDamage.{superblock, zip_get}
+use Rattle.hay_cluster.proofs.OpeningStore.{MovedParts, shape_moved}
+use Rattle.hay_cluster.proofs.OpeningTaken.{IsTaken, KeepsBytes, disks_keep, in_volume, taken_disk}
+
+void_or : (l : List ℕ) → (l ≡ []) ⊎ (l ≡ [] → ⊥)
+void_or [] = inl refl
+void_or (byte ∷ bytes) = inr (λ is. absurd cc)
+
+-- a replica of which only what was just formatted is found is a new one
+stored_new : (settings : Settings) (v j : ℕ) (sup : Super) (contents : Contents) (found : Found) → sup ≡ super_of settings v j → ((s : Stored) → OpensAs sup contents s → s ≡ fresh_stored) → IsReplica settings v j contents found
+    → found ≡ found_of empty_replica
+unfolding IsReplica
+stored_new settings v j sup contents found same fresh is = is.is ∙ ap found_as (fresh is.stored (subst (λ (u : Super). OpensAs u contents is.stored) (sym same) is.opens))
+
+module _ {D : Type 0} (DiskTells : Type 0) (files : D → Files) (faults fuses : D → ℕ) where
+  one_kept : (drawn : D → ℕ → ℕ) → DiskTells → (settings : Settings) (slot : ℕ) (held held' : HeldDisk) (d d' : D) → IsMountedDisk DiskTells files drawn faults fuses held d → IsGivenDisk DiskTells files drawn faults fuses held' d' → KeepsBytes files d d'
+      → ((files d 0).now ≡ [] → (image : Contents) → MayLeave (files d') image → FindsNothing (IsReplica settings) (OpensRows settings) settings slot image) → IsKept settings slot held held'
+  one_kept drawn tells settings slot held held' d d' taken given keeps nothing = elim (void_or ((held.files 0).now)) [
+    | inl void ↦ inl (record {
+      void = void;
+      nothing = λ image may. nothing (taken.now tells 0 ∙ void) image (subst (λ (f : Files). MayLeave f image) (given.files_are tells) may);
+    })
+    | inr some ↦ inr (inr (λ image may n.
+        let k = keeps (λ none. some (sym (taken.now tells 0) ∙ none)) n in
+        solid_whole (files d' n) (image n) (k.1 (taken.solid tells n)) (subst (λ (f : Files). IsImage (f n) (image n)) (given.files_are tells) (may n)) ∙ k.0 ∙ taken.now tells n))
+  ]
+
+module _ {D P A : Type 0} (DiskTells : Type 0) (files : D → Files) (Tells : Type 0) (faults fuses : D → ℕ) (arm_faults : A → ℕ) where
+  replica_left : DiskTells → (old new : Open D P A) → IsShaped old → MovedParts DiskTells files Tells faults fuses arm_faults old new → (v j : ℕ) (d d' : D) → v < (old.settings).volumes → j < (old.settings).replicas
+      → slice_get (disks_of old) (slot_of old.settings v j) ≡ Some d → slice_get (disks_of new) (slot_of old.settings v j) ≡ Some d' → (files d 0).now ≡ []
+      → (image : Contents) → MayLeave (files d') image → (found : Found) → IsReplica old.settings v j image found → found ≡ found_of empty_replica
+  replica_left tells old new shape m v j d d' volume replica at at' void image may found is =
+      let shape' = shape_moved DiskTells files Tells faults fuses arm_faults old new shape m in
+      let x = order_item old.volumes v (let many = shape.many in let less : v < length old.volumes = omega (arith, volume, many) in less) in
+      let y = zip_get (MovesVolume DiskTells files Tells faults fuses) old.volumes new.volumes v x.0 x.1 m.volumes in
+      let of = volume_of old v x.0 shape x.1 in
+      let many : length (x.0).replicas ≡ (old.settings).replicas = of.all ∙ ap (λ (s : Settings). s.replicas) of.settings_are in
+      let count : length (y.0).replicas ≡ length (x.0).replicas = (y.2).counts.count in
+      let r = order_item (x.0).replicas j (let less : j < length (x.0).replicas = omega (arith, replica, many) in less) in
+      let r' = order_item (y.0).replicas j (let less : j < length (y.0).replicas = omega (arith, replica, many, count) in less) in
+      let there : slice_get (disks_of old) (slot_of old.settings v j) ≡ Some (r.0).disk = in_volume (λ n disk. slice_get (disks_of old) n ≡ Some disk) old v j x.0 r.0 shape x.1 r.1 (order_self (disks_of old)) in
+      let there' : slice_get (disks_of new) (slot_of old.settings v j) ≡ Some (r'.0).disk =
+      subst (λ (s : Settings). slice_get (disks_of new) (slot_of s v j) ≡ Some (r'.0).disk) m.settings
+      (in_volume (λ n disk. slice_get (disks_of new) n ≡ Some disk) new v j y.0 r'.0 shape' y.1 r'.1 (order_self (disks_of new))) in
+      let was : (r.0).disk ≡ d = same_Some (r.0).disk d (sym there ∙ at) in
+      let now : d' ≡ (r'.0).disk = same_Some d' (r'.0).disk (sym at' ∙ there') in
+      let keeps = (y.2).kept tells j r.0 r'.0 r.1 r'.1 in
+      stored_new old.settings v j (r.0).sup image found (superblock old.settings v j x.0 r.0 of r.1)
+      (λ s opens. keeps.nothing (ap (λ (e : D). (files e 0).now) was ∙ void) image (subst (λ (e : D). MayLeave (files e) image) now may) s opens) is
+
+  -- whatever a stop leaves of a disk that was void, an opening finds nothing in its slot
+  void_left : DiskTells → (old new : Open D P A) → IsShaped old → MovedParts DiskTells files Tells faults fuses arm_faults old new → (slot : ℕ) (d d' : D)
+      → slice_get (disks_of old) slot ≡ Some d → slice_get (disks_of new) slot ≡ Some d' → (files d 0).now ≡ []
+      → (image : Contents) → MayLeave (files d') image → FindsNothing (IsReplica old.settings) (OpensRows old.settings) old.settings slot image
+  void_left tells old new shape m zero d d' at at' void image may =
+      let was : (old.directory).disk ≡ d = cc in
+      let now : d' ≡ (new.directory).disk = cc in
+      record {
+        directory = λ zeroth homes opens. m.directory.nothing tells (ap (λ (e : D). (files e 0).now) was ∙ void) image homes (subst (λ (e : D). IsImage (files e 0) (image 0)) now (may 0))
+            (subst (λ (s : Settings). OpensRows s image homes) (sym shape.directory) opens);
+        replicas = λ v j volume replica place. absurd (omega (arith, place));
+      }
+  void_left tells old new shape m (suc n) d d' at at' void image may = record {
+    directory = λ zeroth. absurd (omega (arith, zeroth));
+    replicas = λ v j volume replica place found is.
+        replica_left tells old new shape m v j d d' volume replica (subst (λ slot. slice_get (disks_of old) slot ≡ Some d) place at) (subst (λ slot. slice_get (disks_of new) slot ≡ Some d') place at') void image may found is;
+  }
+
+  module _ (drawn : D → ℕ → ℕ) (sure : A → Bool) (disks : ℕ → HeldDisk) (arms : ℕ → HeldArm) where
+    kept_in : DiskTells → (old new : Open D P A) (after : ℕ → HeldDisk) → IsTaken DiskTells files Tells faults fuses arm_faults drawn sure disks arms old → MovedParts DiskTells files Tells faults fuses arm_faults old new
+        → InOrder (λ slot disk. IsGivenDisk DiskTells files drawn faults fuses (after slot) disk) 0 (disks_of new) → (slot : ℕ) → slot < disk_count old.settings → IsKept old.settings slot (disks slot) (after slot)
+    kept_in tells old new after t m given slot below =
+        let i = taken_disk DiskTells files Tells faults fuses arm_faults drawn sure disks arms old t slot below in
+        let k = zip_get (KeepsBytes files) (disks_of old) (disks_of new) slot i.0 i.1 (disks_keep DiskTells files Tells faults fuses arm_faults tells old new m) in
+        let place : slot ≡ 0 + slot = omega arith in
+        one_kept DiskTells files faults fuses drawn tells old.settings slot (disks slot) (after slot) i.0 k.0 i.2 (order_get (λ n disk. IsGivenDisk DiskTells files drawn faults fuses (after n) disk) 0 (disks_of new) slot slot k.0 place k.1 given) k.2
+        (void_left tells old new t.shape m slot i.0 k.0 i.1 k.1)
+
+    pub back_kept : DiskTells → (settings : Settings) (old new : Open D P A) (after : ℕ → HeldDisk) → old.settings ≡ settings → IsTaken DiskTells files Tells faults fuses arm_faults drawn sure disks arms old
+        → MovedParts DiskTells files Tells faults fuses arm_faults old new → InOrder (λ slot disk. IsGivenDisk DiskTells files drawn faults fuses (after slot) disk) 0 (disks_of new)
+        → (slot : ℕ) → slot < disk_count settings → IsKept settings slot (disks slot) (after slot)
+    back_kept tells settings old new after same t m given slot below =
+        subst (λ (s : Settings). IsKept s slot (disks slot) (after slot)) same (kept_in tells old new after t m given slot (subst (λ (s : Settings). slot < disk_count s) (sym same) below))
