@@ -2,7 +2,7 @@
 use Rattle.std.proofs.Common.{◌≡◌, ℕ, map, sym, subst}
 use Rattle.hay_logical.specs.Fits.{At}
 use Rattle.hay_logical.specs.Answers.{IsPutFault, IsDeleteFault}
-use Rattle.hay_logical.specs.Volumes.{IsOpen, Volume}
+use Rattle.hay_logical.specs.Volumes.{IsOpenVolume, Volume}
 use Rattle.hay_logical.specs.declared.fault.LogicalFault.{LogicalFault}
 use Rattle.hay_logical.specs.declared.fault.LogicalFault.TheVariants.{ReadOnly, Full, Gone, Failed, NoMemory}
 use Rattle.hay_cluster.specs.Causes.{IsPutCause, IsDeleteCause, IsReplicaCause}
@@ -13,13 +13,13 @@ use Rattle.hay_cluster.proofs.Moves.{Called, called_failed, up_kept, with_one}
 
 module _ {D P A : Type 0} where
   -- a volume of a store that is up is open
-  pub called_open : (old store : Open D P A) (v : ℕ) (volume : Volume D P) → store ≡ old → At store.volumes v volume → IsUp old → IsOpen volume
+  pub called_open : (old store : Open D P A) (v : ℕ) (volume : Volume D P) → store ≡ old → At store.volumes v volume → IsUp old → IsOpenVolume volume
   called_open old store v volume is at up =
       let here : IsUp store = subst (λ (st : Open D P A). IsUp st) (sym is) up in
-      AllByRecursion-at IsOpen store.volumes v volume at here.volumes
+      AllByRecursion-at IsOpenVolume store.volumes v volume at here.volumes
 
   -- and the store stays up where the volume stays open
-  pub called_up : (old store : Open D P A) (v : ℕ) (after : Volume D P) → store ≡ old → IsUp old → IsOpen after → IsUp (with_one store v after)
+  pub called_up : (old store : Open D P A) (v : ℕ) (after : Volume D P) → store ≡ old → IsUp old → IsOpenVolume after → IsUp (with_one store v after)
   called_up old store v after is up opened = up_kept store v after (subst (λ (st : Open D P A). IsUp st) (sym is) up) opened
 
 module _ {D P A : Type 0} (faults fuses : D → ℕ) where

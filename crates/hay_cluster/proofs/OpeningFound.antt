@@ -14,7 +14,7 @@ use Rattle.hay_legal.specs.declared.known.DirKnown.{DirKnown}
 use Rattle.hay_legal.specs.declared.known.HomeRow.{HomeRow}
 use Rattle.hay_legal.specs.declared.known.Known.{Known}
 use Rattle.hay_legal.specs.declared.known.VolumeKnown.{VolumeKnown}
-use Rattle.hay_legal.specs.Known.{NoneFalls, Rises, disk_count, empty_volume, replica_at, slot_of, volume_at}
+use Rattle.hay_legal.specs.Known.{NoneFalls, FaultsRose, disk_count, empty_volume, replica_at, slot_of, volume_at}
 use Rattle.hay_legal.specs.Restarts.{directory_with}
 use Rattle.hay_legal.specs.Stands.{Contents, found_of}
 use Rattle.hay_legal.specs.Statuses.{HoldsNew, IsNewVolume}
@@ -100,13 +100,13 @@ module _ {D P A : Type 0} (DiskTells : Type 0) (files : D → Files) (Tells : Ty
 
   -- the store stands for what is found, but for disks' counts that rose
   abbrev FindsNew : Known → Open D P A → Type 0
-  FindsNew k store = (t : Known) × Rises k t × Stands files Tells faults fuses arm_faults store t
+  FindsNew k store = (t : Known) × FaultsRose k t × Stands files Tells faults fuses arm_faults store t
 
   counted : (old new : Open D P A) → IsTaken DiskTells files Tells faults fuses arm_faults drawn sure disks arms old → MovedParts DiskTells files Tells faults fuses arm_faults old new → length (disks_of new) ≡ disk_count old.settings
   counted old new t m = disks_many new (shape_moved DiskTells files Tells faults fuses arm_faults old new t.shape m) ∙ ap (λ (s : Settings). disk_count s) m.settings
 
   leaves_new : (old new : Open D P A) (k : Known) → IsTaken DiskTells files Tells faults fuses arm_faults drawn sure disks arms old → MovedParts DiskTells files Tells faults fuses arm_faults old new
-      → HoldsNew (IsReplica old.settings) (OpensRows old.settings) old.settings (outside_of shelf disks arms) k → Rises k (record k { faults = map faults (disks_of new); arms = map arm_faults new.arms })
+      → HoldsNew (IsReplica old.settings) (OpensRows old.settings) old.settings (outside_of shelf disks arms) k → FaultsRose k (record k { faults = map faults (disks_of new); arms = map arm_faults new.arms })
   leaves_new old new k t m opened =
       let many = length-map (disks_of new) faults ∙ counted old new t m in
       let lanes = length-map new.arms arm_faults ∙ ap (λ (l : List A). length l) m.arms ∙ (t.shape).lanes in
@@ -168,6 +168,6 @@ module _ {D P A : Type 0} (DiskTells : Type 0) (files : D → Files) (Tells : Ty
   pub found_new : DiskTells → (settings : Settings) (old new : Open D P A) (k : Known) (notes : List Note) → old.settings ≡ settings → IsTaken DiskTells files Tells faults fuses arm_faults drawn sure disks arms old
       → MovedParts DiskTells files Tells faults fuses arm_faults old new → OpensParts DiskTells files Tells faults fuses old.directory new.directory old.volumes new.volumes notes
       → HoldsNew (IsReplica settings) (OpensRows settings) settings (outside_of shelf disks arms) k
-      → (t : Known) × Rises k t × Stands files Tells faults fuses arm_faults new t
+      → (t : Known) × FaultsRose k t × Stands files Tells faults fuses arm_faults new t
   found_new tells settings old new k notes is t m o =
       subst (λ (s : Settings). HoldsNew (IsReplica s) (OpensRows s) s (outside_of shelf disks arms) k → FindsNew k new) is (finds_new tells old new k notes t m o)

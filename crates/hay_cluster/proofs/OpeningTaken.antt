@@ -12,7 +12,7 @@ use Rattle.hay_legal.specs.Known.{NoneFalls, disk_count, slot_of}
 use Rattle.hay_directory.specs.State as directory
 use Rattle.hay_physical.specs.Copies.{Copy}
 use Rattle.hay_logical.specs.Fits.{At}
-use Rattle.hay_logical.specs.Stands.{IsIdle}
+use Rattle.hay_logical.specs.Stands.{IsIdleVolume}
 use Rattle.hay_logical.specs.Volumes.{IsClosed, Volume}
 use Rattle.hay_cluster.specs.declared.fault.ClusterFault.{ClusterFault}
 use Rattle.hay_cluster.specs.declared.fault.ClusterFault.TheVariants.{Shelf, Failed, Damaged, NoMemory}
@@ -131,7 +131,7 @@ module _ {D P A : Type 0} (DiskTells : Type 0) (files : D → Files) (Tells : Ty
     }
 
     idle_each : DiskTells → (n : ℕ) (vs : List (Volume D P)) → AllByRecursion IsClosed vs → InOrder (λ slot disk. IsMountedDisk DiskTells files drawn faults fuses (disks slot) disk) n (flat_map volume_disks vs)
-        → AllByRecursion (IsIdle files) vs
+        → AllByRecursion (IsIdleVolume files) vs
     idle_each tells n [] closed all = tt
     idle_each tells n (x ∷ vs) closed all =
         let front = InOrder-front (λ slot disk. IsMountedDisk DiskTells files drawn faults fuses (disks slot) disk) n (volume_disks x) (flat_map volume_disks vs) all in
@@ -142,7 +142,7 @@ module _ {D P A : Type 0} (DiskTells : Type 0) (files : D → Files) (Tells : Ty
           idle_each tells (n + length (volume_disks x)) vs closed.1 rest,
         )
 
-    pub taken_idle : DiskTells → (store : Open D P A) → IsTaken store → AllByRecursion (IsIdle files) store.volumes
+    pub taken_idle : DiskTells → (store : Open D P A) → IsTaken store → AllByRecursion (IsIdleVolume files) store.volumes
     taken_idle tells store t = idle_each tells 1 store.volumes t.closed (t.disks_are).1
 
     pub taken_disk : (store : Open D P A) → IsTaken store → (slot : ℕ) → slot < disk_count store.settings

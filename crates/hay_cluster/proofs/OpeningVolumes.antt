@@ -15,7 +15,7 @@ use Rattle.hay_legal.specs.Known.{NoneFalls}
 use Rattle.hay_legal.specs.Restarts.{ReopenedVolume, pending_notes}
 use Rattle.hay_logical.specs.Answers.{IsReopened}
 use Rattle.hay_logical.specs.Fits.{At}
-use Rattle.hay_logical.specs.Stands.{IsFirst, IsIdle, Stopped, Holds}
+use Rattle.hay_logical.specs.Stands.{IsFirst, IsIdleVolume, Stopped, Holds}
 use Rattle.hay_logical.specs.Steps.{KeepsDisk}
 use Rattle.hay_logical.specs.Stands as logical
 use Rattle.hay_logical.specs.Volumes.{Volume, IsSame, KeepsCounts}
@@ -42,7 +42,7 @@ module _ {D P : Type 0} (files : D → Files) where
 
 module _ {D P : Type 0} (DiskTells : Type 0) (files : D → Files) (Tells : Type 0) (faults fuses : D → ℕ) where
   -- a closed volume that is left as it was
-  pub moves_still : (volume : Volume D P) → (DiskTells → IsIdle files volume) → MovesVolume DiskTells files Tells faults fuses volume volume
+  pub moves_still : (volume : Volume D P) → (DiskTells → IsIdleVolume files volume) → MovesVolume DiskTells files Tells faults fuses volume volume
   moves_still volume idle = record {
     same = same_still volume;
     counts = record {
@@ -78,9 +78,9 @@ module _ {D P : Type 0} (DiskTells : Type 0) (files : D → Files) (Tells : Type
   })
 
   pub moved_at : (n : ℕ) (xs ys : List (Volume D P)) (all : List Note) (y z : Volume D P) → Gathered (OpensVolume DiskTells files Tells faults fuses) n xs ys all → At ys n y
-      → AllByRecursion (λ volume. DiskTells → IsIdle files volume) xs → MovesVolume DiskTells files Tells faults fuses y z → AllZip (MovesVolume DiskTells files Tells faults fuses) xs (slice_set ys n z)
+      → AllByRecursion (λ volume. DiskTells → IsIdleVolume files volume) xs → MovesVolume DiskTells files Tells faults fuses y z → AllZip (MovesVolume DiskTells files Tells faults fuses) xs (slice_set ys n z)
   moved_at n xs ys all y z g at idle moves =
-      gathered_break (OpensVolume DiskTells files Tells faults fuses) (MovesVolume DiskTells files Tells faults fuses) (λ volume. DiskTells → IsIdle files volume) n xs ys all y z (λ a b more r. r.moves) (λ a told. moves_still a told) idle g at moves
+      gathered_break (OpensVolume DiskTells files Tells faults fuses) (MovesVolume DiskTells files Tells faults fuses) (λ volume. DiskTells → IsIdleVolume files volume) n xs ys all y z (λ a b more r. r.moves) (λ a told. moves_still a told) idle g at moves
 
   -- COUNTS
 

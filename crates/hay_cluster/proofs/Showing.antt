@@ -16,7 +16,7 @@ use Rattle.hay_legal.specs.declared.known.VolumeKnown.{VolumeKnown}
 use Rattle.hay_legal.specs.Known.{Leaves, NoneFalls, arm_count, home_of, machine_of, now, replica_at, replica_on, replicas_of, volume_at}
 use Rattle.hay_legal.specs.Known as known
 use Rattle.hay_legal.specs.Plain as legal
-use Rattle.hay_legal.specs.Plain.{IsShown, IsUnreadable, LegalCommand, LegalGet, LeavesElsewhere, LegalGetAt, LegalShow, PassedBefore, disk_rose, order_from}
+use Rattle.hay_legal.specs.Plain.{IsShown, IsUnreadable, LegalCommand, LegalGet, LeavesElsewhere, LegalGetAt, LegalShow, PassedReplicas, disk_rose, order_from}
 use Rattle.hay_reply.specs.declared.Cause.{Cause}
 use Rattle.hay_reply.specs.declared.Cause.TheVariants.{Arm, Disk, Damage}
 use Rattle.hay_reply.specs.declared.Passed.{Passed}

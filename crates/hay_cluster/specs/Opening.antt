@@ -19,10 +19,10 @@ use Rattle.hay_physical.specs.Copies.{Copy, contents_of}
 use Rattle.hay_logical.specs.declared.fault.Unopened.{Unopened}
 use Rattle.hay_logical.specs.Answers.{IsReopened}
 use Rattle.hay_logical.specs.Fits.{At}
-use Rattle.hay_logical.specs.Stands.{IsFirst, IsIdle, Stopped}
+use Rattle.hay_logical.specs.Stands.{IsFirst, IsIdleVolume, Stopped}
 use Rattle.hay_logical.specs.Stands as logical
 use Rattle.hay_logical.specs.Steps.{IsRefusedAt, KeepsDisk}
-use Rattle.hay_logical.specs.Volumes.{Volume, HasSupers, IsClosed, IsOpen, IsSame, KeepsCounts}
+use Rattle.hay_logical.specs.Volumes.{Volume, HasSupers, IsClosed, IsOpenVolume, IsSame, KeepsCounts}
 use Rattle.hay_cluster.specs.declared.fault.ClusterFault.{ClusterFault}
 use Rattle.hay_cluster.specs.declared.fault.ClusterFault.TheVariants.{Shelf, Failed, Damaged, NoMemory}
 use Rattle.hay_cluster.specs.Faults.{not_opened}
@@ -69,7 +69,7 @@ EachStaysUndamaged {D} files old new = (j : ℕ) (r r' : Copy D) → At old.repl
 -- the volume was opened, with these notes
 pub record OpensVolume {D P : Type 0} (DiskTells : Type 0) (files : D → Files) (Tells : Type 0) (faults fuses : D → ℕ) (old new : Volume D P) (notes : List Note) : Type 0 where
   pub moves : MovesVolume DiskTells files Tells faults fuses old new
-  pub up : IsOpen new
+  pub up : IsOpenVolume new
   pub first : DiskTells → (k : VolumeKnown) → IsFirst files old k → (notes ≡ []) × logical.Stands files Tells new k
   pub reopened : DiskTells → (k : VolumeKnown) → Stopped files old k → IsReopened files Tells k notes new
   pub undamaged : DiskTells → EachStaysUndamaged files old new
@@ -103,7 +103,7 @@ pub record StopsVolume {D P : Type 0} (DiskTells : Type 0) (files : D → Files)
   pub count : length new.replicas ≡ length old.replicas
   pub counts : (j : ℕ) (r r' : Copy D) → At old.replicas j r → At new.replicas j r' → (faults r'.disk ≡ faults r.disk) × (fuses r'.disk ≡ fuses r.disk)
   pub closed : IsClosed new
-  pub idle : DiskTells → IsIdle files new
+  pub idle : DiskTells → IsIdleVolume files new
   pub stopped : DiskTells → (k : VolumeKnown) → logical.Stands files Tells old k → Stopped files new k
 
 -- a volume without disks, at which nothing was broken off

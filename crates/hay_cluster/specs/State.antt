@@ -10,7 +10,7 @@ use Rattle.hay_physical.specs.Copies.{Copy}
 use Rattle.hay_legal.specs.declared.known.DirKnown.{DirKnown}
 use Rattle.hay_legal.specs.declared.known.Known.{Known}
 use Rattle.hay_legal.specs.declared.known.VolumeKnown.{VolumeKnown}
-use Rattle.hay_legal.specs.Known.{Rises}
+use Rattle.hay_legal.specs.Known.{FaultsRose}
 use Rattle.hay_legal.specs.Plain.{LegalCommand}
 use Rattle.hay_legal.specs.Restarts.{kept_row}
 use Rattle.hay_legal.specs.Stands.{Contents, VolumeOutcome}
@@ -64,5 +64,5 @@ Holds files faults fuses arm_faults store k = HoldsFor files faults fuses arm_fa
 -- A restart that was refused leaves what was known, but for disks' counts that may have risen.
 pub record LeftAt {D P A : Type 0} (files : D → Files) (faults fuses : D → ℕ) (arm_faults : A → ℕ) (k : Known) (store : Open D P A) : Type 0 where
   pub known : Known
-  pub leaves : Rises k known
+  pub leaves : FaultsRose k known
   pub holds : Holds files faults fuses arm_faults store known

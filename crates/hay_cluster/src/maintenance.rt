@@ -5,7 +5,7 @@ ghost use Rattle.hay_legal.specs.declared.known.Known.{Known};
 ghost use Rattle.hay_legal.specs.declared.known.VolumeKnown.{VolumeKnown};
 ghost use Rattle.hay_legal.specs.Known.{NoneFalls};
 ghost use Rattle.hay_logical.specs.Stands as logical;
-ghost use Rattle.hay_logical.specs.Volumes.{IsOpen, IsSame, KeepsCounts};
+ghost use Rattle.hay_logical.specs.Volumes.{IsOpenVolume, IsSame, KeepsCounts};
 ghost use Rattle.hay_cluster.specs.Causes.{IsCaused, RefusesWork};
 ghost use Rattle.hay_cluster.specs.Maintenance.{IsDone, IsRefused, IsRefusedAs, IsReplicaFault, command_of, done_as};
 ghost use Rattle.hay_cluster.specs.State.{Answered, Stands};
@@ -74,13 +74,13 @@ pub(crate) fn maintain<D: Disk>(
     work: Maintenance,
 ) -> Result<u64, LogicalFault>
     requires within { replica < volume.old.settings.replicas }
-    requires open { IsOpen volume.old }
+    requires open { IsOpenVolume volume.old }
     ensures done { D.Tells → (k : VolumeKnown) → logical.Stands D.files D.Piece.Tells volume.old k →
         IfOk result (λ number. IsDone D.files D.Piece.Tells work k replica number volume.new) }
     ensures refused { D.Tells → (k : VolumeKnown) → logical.Stands D.files D.Piece.Tells volume.old k →
         IfErr result (IsRefused D.files D.Piece.Tells work k replica volume.old volume.new) }
     ensures causes { IfErr result (IsReplicaFault D.fault_count volume.old.settings volume.old.number volume.old.replicas volume.new.replicas) }
-    ensures open { IsOpen volume.new }
+    ensures open { IsOpenVolume volume.new }
     ensures counts { KeepsCounts D.fault_count D.fuse_count volume.old.replicas volume.new.replicas }
     ensures same { IsSame volume.old volume.new }
 {

@@ -5,14 +5,14 @@ ghost use Rattle.std.specs.Vec.{vec_capacity};
 ghost use Rattle.hay_disk.specs.Counts.{Rose};
 ghost use Rattle.hay_mount.specs.Mounts.{AreIn, AreOut, AreArmsIn, AreArmsOut, InOrder, IsArmBack, IsMountedArm, IsMountedDisk, IsPutBack, SameFrom};
 ghost use Rattle.hay_legal.specs.declared.known.Known.{Known};
-ghost use Rattle.hay_legal.specs.Known.{NoneFalls, Rises, disk_count};
+ghost use Rattle.hay_legal.specs.Known.{NoneFalls, FaultsRose, disk_count};
 ghost use Rattle.hay_legal.specs.Known as known;
 ghost use Rattle.hay_legal.specs.Restarts.{IsRestarted};
 ghost use Rattle.hay_legal.specs.Statuses.{HoldsNew};
 ghost use Rattle.hay_directory.specs.Rows.{OpensRows};
 ghost use Rattle.hay_directory.specs.State as directory;
 ghost use Rattle.hay_logical.specs.Fits.{IsReplica};
-ghost use Rattle.hay_logical.specs.Stands.{IsIdle};
+ghost use Rattle.hay_logical.specs.Stands.{IsIdleVolume};
 ghost use Rattle.hay_logical.specs.Volumes.{IsClosed, IsOfSettings};
 ghost use Rattle.hay_cluster.specs.Causes.{HasFaultCause};
 ghost use Rattle.hay_cluster.specs.Outside.{CountsOn, IsDamagedDisk, IsKept, IsUndamaged, IsUndamagedBelow, outside_of, read_of};
@@ -48,7 +48,7 @@ impl<D: Disk, A: Arm<D::Piece>> Cluster<D, A> {
         // The store stands for what the disks have, where they have it wholly, but for disks' counts that rose.
         ensures opened { D.Tells → (k : Known) →
             HoldsNew (IsReplica settings) (OpensRows settings) settings (outside_of (H.fault_count shelf.old) (H.disks shelf.old) (H.arms shelf.old)) k →
-            IfOk result (λ store. (t : Known) × Rises k t × Stands D.files D.Piece.Tells D.fault_count D.fuse_count A.fault_count store t) }
+            IfOk result (λ store. (t : Known) × FaultsRose k t × Stands D.files D.Piece.Tells D.fault_count D.fuse_count A.fault_count store t) }
         // Nothing that it read of a disk is damaged.
         ensures sound { D.Tells → OnOk result (IsUndamaged settings (λ slot. read_of (H.disks shelf.old slot))) }
         ensures settings { IfOk result (λ store. store.settings ≡ settings) }
@@ -144,7 +144,7 @@ impl<D: Disk, A: Arm<D::Piece>> Cluster<D, A> {
     fn open_parts(&mut self, alloc: Global) -> Result<Listed<Note>, ClusterFault>
         requires directory { IsResting D.Tells D.files self.old.directory }
         requires closed { AllByRecursion IsClosed self.old.volumes }
-        requires idle { D.Tells → AllByRecursion (IsIdle D.files) self.old.volumes }
+        requires idle { D.Tells → AllByRecursion (IsIdleVolume D.files) self.old.volumes }
         ensures opened { IfOk result (OpensParts D.Tells D.files D.Piece.Tells D.fault_count D.fuse_count self.old.directory self.new.directory self.old.volumes self.new.volumes) }
         ensures refused { IfErr result (RefusesParts D.Tells D.files D.fault_count self.old.settings self.old.directory self.new.directory self.old.volumes self.new.volumes) }
         ensures directory { MovesDirectory D.Tells D.files D.fault_count D.fuse_count self.old.directory self.new.directory }
@@ -226,7 +226,7 @@ fn open_volumes<D: Disk>(
     requires many { length volumes.old ≡ settings.now.volumes }
     requires numbers { InOrder (IsVolumeOf settings.now) 0 volumes.old }
     requires closed { AllByRecursion IsClosed volumes.old }
-    requires idle { D.Tells → AllByRecursion (IsIdle D.files) volumes.old }
+    requires idle { D.Tells → AllByRecursion (IsIdleVolume D.files) volumes.old }
     ensures opened { IfOk result (λ notes. Gathers (OpensVolume D.Tells D.files D.Piece.Tells D.fault_count D.fuse_count) volumes.old volumes.new notes.items) }
     ensures refused { IfErr result (RefusesVolumes D.Tells D.files D.fault_count settings.now volumes.old volumes.new) }
     ensures moves { AllZip (MovesVolume D.Tells D.files D.Piece.Tells D.fault_count D.fuse_count) volumes.old volumes.new }
@@ -250,7 +250,7 @@ fn open_volume<D: Disk>(
     requires within { number < settings.now.volumes }
     requires is { IsVolumeOf settings.now number volume.old }
     requires closed { IsClosed volume.old }
-    requires idle { D.Tells → IsIdle D.files volume.old }
+    requires idle { D.Tells → IsIdleVolume D.files volume.old }
     ensures opened { OnOk result ((more : List Note) × (notes.new.items ≡ notes.old.items ++ more)
         × OpensVolume D.Tells D.files D.Piece.Tells D.fault_count D.fuse_count volume.old volume.new more) }
     ensures refused { IfErr result (RefusesVolume D.Tells D.files D.fault_count settings.now number volume.old volume.new) }

@@ -4,7 +4,7 @@ ghost use Rattle.hay_script.specs.declared.Command.TheVariants as asks;
 ghost use Rattle.hay_legal.specs.declared.known.Known.{Known};
 ghost use Rattle.std.specs.Vec.{vec_capacity};
 ghost use Rattle.hay_map.specs.declared.place.Place.{Place};
-ghost use Rattle.hay_reader.specs.Shown.{Answers, HasCauses};
+ghost use Rattle.hay_reader.specs.Shown.{ReadAnswers, HasCauses};
 ghost use Rattle.hay_legal.specs.Known.{NoneFalls, home_of, volume_at};
 ghost use Rattle.hay_legal.specs.Plain.{start_of};
 ghost use Rattle.hay_cluster.specs.Causes.{BlamesNoArm, IsCaused, StaySure};
@@ -156,7 +156,7 @@ impl<D: Disk, A: Arm<D::Piece>> Cluster<D, A> {
         }
     }
 
-    // Reads the photo of a pair in a volume, from this replica on, with a lane's arm. Answers how many changes the volume
+    // Reads the photo of a pair in a volume, from this replica on, with a lane's arm. ReadAnswers how many changes the volume
     // had, and what was read.
     fn fetch(
         &mut self,
@@ -175,7 +175,7 @@ impl<D: Disk, A: Arm<D::Piece>> Cluster<D, A> {
         requires up { IsUp self.old }
         ensures read { D.Tells → (k : Known) → Stands D.files D.Piece.Tells D.fault_count D.fuse_count A.fault_count self.old k →
             (result.0 ≡ length (volume_at k volume).log)
-            × Answers start cookie (slice_index (map A.fault_count self.old.arms) lane) (slice_index (map A.fault_count self.new.arms) lane)
+            × ReadAnswers start cookie (slice_index (map A.fault_count self.old.arms) lane) (slice_index (map A.fault_count self.new.arms) lane)
             (outcomes_of self.old.settings (volume_at k volume) pair) photo.new.items result.1
             × Comes D.files D.Piece.Tells D.fault_count D.fuse_count A.fault_count k k self.new }
         ensures causes { (row : List (Place D.Piece)) × (length row ≡ self.old.settings.replicas)

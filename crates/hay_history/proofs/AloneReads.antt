@@ -23,7 +23,7 @@ use Rattle.hay_legal.specs.declared.known.Known.{Known}
 use Rattle.hay_legal.specs.declared.known.VolumeKnown.{VolumeKnown}
 use Rattle.hay_legal.specs.declared.turn.LaneItem.{LaneItem}
 use Rattle.hay_legal.specs.Known.{CameUp, Leaves, arm_count, fault_count, home_in, home_of, machine_of, now, replica_at, replica_on, slot_of, volume_at}
-use Rattle.hay_legal.specs.Plain.{HasCause, IsOpen, IsShown, IsUnreadable, LeavesElsewhere, LegalGetAt, LegalShow, LegalUrl, PassedBefore, change_volume, disk_rose, first_machine, frozen_by, order_from}
+use Rattle.hay_legal.specs.Plain.{HasCause, IsOpen, IsShown, IsUnreadable, LeavesElsewhere, LegalGetAt, LegalShow, LegalUrl, PassedReplicas, change_volume, disk_rose, first_machine, frozen_by, order_from}
 use Rattle.hay_legal.specs.Blocks.{tag_of}
 use Rattle.hay_history.specs.Steps.{Did, IsThawed, Leads, Standing, Step}
 use Rattle.hay_history.specs.Steps.Did.{Freezes, Tries}
@@ -131,7 +131,7 @@ module _ {settings : Settings} {k : Known} {history : History} {t : Known} (item
 
   passed_before : (v m start replica : ℕ) → v < settings.volumes → replica_on settings v m ≡ Some replica
       → PassedOver (course_of h item) v (take_while (λ j. not (machine_of settings v j == m)) (order_from settings start))
-      → PassedBefore settings k t (tag_of item) v start replica
+      → PassedReplicas settings k t (tag_of item) v start replica
   passed_before v m start replica below there over =
       let passed : List ℕ = take_while (λ i. not (i == replica)) (order_from settings start) in
       let given = subst (PassedOver (course_of h item) v) (passed_same v m start replica there) over in

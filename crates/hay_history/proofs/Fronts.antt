@@ -21,7 +21,7 @@ use Rattle.hay_legal.specs.declared.turn.Item.TheVariants as asks
 use Rattle.hay_legal.specs.declared.turn.LaneItem.{LaneItem}
 use Rattle.hay_legal.specs.Known.{EachPair, all_lanes, replica_on, volume_at, volumes_of}
 use Rattle.hay_legal.specs.Plain.{start_of}
-use Rattle.hay_legal.specs.Blocks.{Between, FrontsAreLegal, GoesOn, InOrder, Printed, lane_items, printed, row_print, tag_of, volume_print}
+use Rattle.hay_legal.specs.Blocks.{Between, FrontsAreLegal, FrontsGrow, InOrder, Printed, lane_items, printed, row_print, tag_of, volume_print}
 use Rattle.hay_legal.proofs.Subject.Effects.{each_append}
 use Rattle.hay_history.specs.Steps.{Did, Leads, Standing, Step}
 use Rattle.hay_history.specs.Steps.Did.{Entered}
@@ -228,7 +228,7 @@ module _ (show : LaneItem → List Printed) (low high : LaneItem → ℕ) where
           items shows.1 later.0)
 
   lane_goes_on : (start finish lane : ℕ) (items : List LaneItem) → Each (Shows start finish) items
-      → EachPair (λ a b. a.lane ≡ b.lane → high a ≤ low b) items → GoesOn start finish (flat_map show (lane_items items lane))
+      → EachPair (λ a b. a.lane ≡ b.lane → high a ≤ low b) items → FrontsGrow start finish (flat_map show (lane_items items lane))
   lane_goes_on start finish lane items shows later = (lane_in_order start finish lane items shows later, lane_between start finish lane items shows)
 
 -- THE LOGS

@@ -318,15 +318,15 @@ InOrder earlier later = InOrderBy later.entered
 abbrev pub Between : ℕ → ℕ → Printed → Type 0
 Between before after shown = (before ≤ shown.front) × (shown.front ≤ after)
 
-abbrev pub GoesOn : ℕ → ℕ → List Printed → Type 0
-GoesOn before after shown = EachPair InOrder shown × Each (Between before after) shown
+abbrev pub FrontsGrow : ℕ → ℕ → List Printed → Type 0
+FrontsGrow before after shown = EachPair InOrder shown × Each (Between before after) shown
 
 pub record FrontsAreLegal (settings : Settings) (k : Known) (items : List LaneItem) (t : Known) : Type 0 where
   pub volumes : Each (λ lane. Each
-      (λ v. GoesOn (length (volume_at k v).log) (length (volume_at t v).log) (flat_map (λ item. volume_print v item.reply) (lane_items items lane)))
+      (λ v. FrontsGrow (length (volume_at k v).log) (length (volume_at t v).log) (flat_map (λ item. volume_print v item.reply) (lane_items items lane)))
       (volumes_of settings)) all_lanes
   pub directory : Each
-      (λ lane. GoesOn (length k.directory.rows) (length t.directory.rows) (flat_map (λ item. row_print item.reply) (lane_items items lane)))
+      (λ lane. FrontsGrow (length k.directory.rows) (length t.directory.rows) (flat_map (λ item. row_print item.reply) (lane_items items lane)))
       all_lanes
 
 -- READS: a reply is what its printed fronts show
@@ -579,8 +579,8 @@ arm_prints reply = prints (told reply)
 abbrev pub Differ : ℕ → ℕ → Type 0
 Differ f g = (f ≢ g) ⊎ (g ≡ 2 ^ 64 - 1)
 
-abbrev pub Rises : ℕ → ℕ → Type 0
-Rises f g = (f < g) ⊎ (g ≡ 2 ^ 64 - 1)
+abbrev pub Climbs : ℕ → ℕ → Type 0
+Climbs f g = (f < g) ⊎ (g ≡ 2 ^ 64 - 1)
 
 -- counts of one disk are pairwise different; those of one arm rise
 abbrev pub CameUpEach : (ℕ → ℕ → Type 0) → ℕ → ℕ → List ℕ → Type 0
@@ -645,7 +645,7 @@ DiskIsLegal settings k items t to_arm v j =
 
 abbrev pub ArmIsLegal : Settings → Known → List LaneItem → Known → Laying → ℕ → Type 0
 ArmIsLegal settings k items t to_arm lane =
-    CameUpEach Rises (arm_count k lane) (arm_count t lane) (flat_map (λ item. arm_prints item.reply) (lane_items items lane))
+    CameUpEach Climbs (arm_count k lane) (arm_count t lane) (flat_map (λ item. arm_prints item.reply) (lane_items items lane))
     × RoseBy (sum_by (laid_to_arm settings to_arm) (lane_items items lane)) (arm_count k lane) (arm_count t lane)
 
 -- how many times a line failed on the Directory's disk

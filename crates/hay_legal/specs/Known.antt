@@ -186,7 +186,7 @@ pub record Leaves (k expected t : Known) : Type 0 where
   pub arms : NoneFalls k.arms t.arms
 
 -- Disks are opened: from k comes t, which is the same, but that counts of disks' faults may have risen.
-pub record Rises (k t : Known) : Type 0 where
+pub record FaultsRose (k t : Known) : Type 0 where
   pub volumes : t.volumes ≡ k.volumes
   pub directory : t.directory ≡ k.directory
   pub drained : t.drained ≡ k.drained

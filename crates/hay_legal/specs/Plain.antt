@@ -175,8 +175,8 @@ abbrev pub disk_rose : Settings → Known → Known → ℕ → ℕ → Bool
 disk_rose settings k t v j = has_risen (fault_count k (slot_of settings v j)) (fault_count t (slot_of settings v j))
 
 -- Each replica that was tried before this one failed on its disk or at the lane's arm.
-abbrev pub PassedBefore : Settings → Known → Known → CoreTag → ℕ → ℕ → ℕ → Type 0
-PassedBefore settings k t tag v start j =
+abbrev pub PassedReplicas : Settings → Known → Known → CoreTag → ℕ → ℕ → ℕ → Type 0
+PassedReplicas settings k t tag v start j =
     (arm_count k tag.lane + count_by (λ i. not (disk_rose settings k t v i)) (take_while (λ i. not (i == j)) (order_from settings start)) ≤ arm_count t tag.lane)
     ⊎ (arm_count t tag.lane ≡ 2 ^ 64 - 1)
 
@@ -186,7 +186,7 @@ pub record IsShown (settings : Settings) (k : Known) (tag : CoreTag) (start : �
   pub replica : ℕ
   pub there : replica_on settings v m ≡ Some replica
   pub stands : outcome_at (now (volume_at k v) (replica_at (volume_at k v) replica)) pair ≡ shown
-  pub passed : PassedBefore settings k t tag v start replica
+  pub passed : PassedReplicas settings k t tag v start replica
   pub leaves : Leaves k k t
 
 -- why a replica was passed over

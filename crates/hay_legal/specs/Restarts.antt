@@ -17,7 +17,7 @@ use Rattle.hay_legal.specs.declared.known.ReplicaKnown.{ReplicaKnown}
 use Rattle.hay_legal.specs.declared.known.VolumeKnown.{VolumeKnown}
 use Rattle.hay_legal.specs.declared.known.DirKnown.{DirKnown}
 use Rattle.hay_legal.specs.declared.known.Known.{Known}
-use Rattle.hay_legal.specs.Known.{Rises, replica_at, machine_of, replica_on, now, NoneFalls}
+use Rattle.hay_legal.specs.Known.{FaultsRose, replica_at, machine_of, replica_on, now, NoneFalls}
 use Rattle.hay_legal.specs.Plain.{has_pair}
 
 -- WHICH REPLICAS KEEP A PENDING CHANGE
@@ -179,7 +179,7 @@ pub record IsRestarted (settings : Settings) (k : Known) (d : ℕ) (notes : List
 
 -- Want of memory ends the run, and tells nothing of what was kept: what was known, pending changes with it, is known still.
 pub record IsNotRestarted (k : Known) (notes : List Note) (t : Known) : Type 0 where
-  pub leaves : Rises k t
+  pub leaves : FaultsRose k t
   pub told : notes ≡ []
 
 abbrev pub LegalRestart : Settings → Known → Reply → List Note → Known → Type 0

@@ -17,7 +17,7 @@ use Rattle.hay_legal.specs.declared.turn.Turn.{Turn}
 use Rattle.hay_legal.specs.declared.turn.Turn.TheVariants.{Restart}
 use Rattle.hay_legal.specs.Items.{Asked, items_of, items_before, item_of_turn}
 use Rattle.hay_legal.specs.Items.Asked.{Alone}
-use Rattle.hay_legal.specs.Known.{CameUp, Rises, arm_count, disk_count, empty_replica, fault_count, fuse_count, slot_of}
+use Rattle.hay_legal.specs.Known.{CameUp, FaultsRose, arm_count, disk_count, empty_replica, fault_count, fuse_count, slot_of}
 use Rattle.hay_legal.specs.Legal.{Legal}
 use Rattle.hay_legal.specs.Restarts.{directory_with}
 use Rattle.hay_legal.specs.Stands.{Contents, Found, HasOutcome, IsFound, Outside, StandsOn, found_of}
@@ -51,13 +51,13 @@ pub record IsNew (settings : Settings) (k : Known) : Type 0 where
   pub lanes : length k.arms ≡ 8
 
 -- what reads of the disks give
-abbrev pub contents_of : Outside → ℕ → Contents
-contents_of outside slot file = ((outside.files slot) file).now
+abbrev pub read_contents : Outside → ℕ → Contents
+read_contents outside slot file = ((outside.files slot) file).now
 
 -- These disks hold a new store, void ones as they are when they are formatted, and its counts are those of the disks and arms.
 pub record HoldsNew (replica : ℕ → ℕ → Contents → Found → Type 0) (rows : Contents → List HomeRow → Type 0) (settings : Settings) (taken : Outside) (k : Known) : Type 0 where
   pub new : IsNew settings k
-  pub found : IsFound replica rows settings (contents_of taken) k
+  pub found : IsFound replica rows settings (read_contents taken) k
   pub faults : (slot : ℕ) → slot < disk_count settings → fault_count k slot ≡ taken.faults slot
   pub fuses : (slot : ℕ) → slot < disk_count settings → fuse_count k slot ≡ taken.fuses slot
   pub arms : (lane : ℕ) → lane < 8 → arm_count k lane ≡ taken.arms lane
@@ -76,13 +76,13 @@ IsImageOf image slot contents = (file : ℕ) → contents file ≡ image slot fi
 
 -- .. a void disk, where it was void and may be formatted in part, so that nothing is found in it ..
 pub record IsVoidStill (replica : ℕ → ℕ → Contents → Found → Type 0) (rows : Contents → List HomeRow → Type 0) (void : Contents → Type 0) (settings : Settings) (taken : Outside) (image : ℕ → Contents) (slot : ℕ) (contents : Contents) : Type 0 where
-  pub was : void (contents_of taken slot)
+  pub was : void (read_contents taken slot)
   pub stands_for : void contents
   pub nothing : FindsNothing replica rows settings slot (image slot)
 
 -- .. or what reads give of it, where it is as it was taken.
 abbrev pub IsAsTaken : Outside → Outside → ℕ → Contents → Type 0
-IsAsTaken taken given slot contents = (given.files slot ≡ taken.files slot) × ((file : ℕ) → contents file ≡ contents_of taken slot file)
+IsAsTaken taken given slot contents = (given.files slot ≡ taken.files slot) × ((file : ℕ) → contents file ≡ read_contents taken slot file)
 
 abbrev pub StandsIn : (ℕ → ℕ → Contents → Found → Type 0) → (Contents → List HomeRow → Type 0) → (Contents → Type 0) → Settings → Outside → Outside → (ℕ → Contents) → ℕ → Contents → Type 0
 StandsIn replica rows void settings taken given image slot contents =
@@ -101,7 +101,7 @@ pub record IsUnopened (replica : ℕ → ℕ → Contents → Found → Type 0) 
 -- A restart from t was refused: the disks given back hold what t is, but for counts that may have risen.
 pub record IsNotReopened (replica : ℕ → ℕ → Contents → Found → Type 0) (rows : Contents → List HomeRow → Type 0) (settings : Settings) (t : Known) (given : Outside) : Type 0 where
   pub left : Known
-  pub leaves : Rises t left
+  pub leaves : FaultsRose t left
   pub stands : StandsOn replica rows settings left given
 
 -- HOW A REFUSED OPENING IS TOLD
@@ -117,8 +117,8 @@ TellsFirst settings k taken given note =
     TellsFailure settings k given note ⊎ ((faults : ℕ) × (note ≡ OpenShelf faults) × CameUp taken.shelf faults given.shelf)
 
 -- the whole of a line was written, or a front of it
-abbrev pub Whole : List ℕ → List ℕ → Type 0
-Whole written line = written ≡ line
+abbrev pub WholeText : List ℕ → List ℕ → Type 0
+WholeText written line = written ≡ line
 
 -- these bytes were written behind the text of the turns
 abbrev pub WroteBehind : (List ℕ → List ℕ → Type 0) → Settings → List Turn → List ℕ → List ℕ → Type 0
@@ -205,14 +205,14 @@ module _ (replica : ℕ → ℕ → Contents → Found → Type 0) (rows : Conte
   Ends ReadAll = AnsweredAll (items_of read)
   Ends InputFault = AnsweredAll (items_before read)
   Ends TooLong = AnsweredAll (items_before read)
-  Ends NotOpened = FirstRefused Whole ⊎ RestartRefused Whole
+  Ends NotOpened = FirstRefused WholeText ⊎ RestartRefused WholeText
   Ends OutputFault = Interrupted
   Ends NoMemory = Interrupted
 
 -- A whole run of a script, of which these bytes were read: from the disks and arms that hold k to those given back.
 pub record RunsTo (replica : ℕ → ℕ → Contents → Found → Type 0) (rows : Contents → List HomeRow → Type 0) (void : Contents → Type 0) (settings : Settings) (k : Known) (ending : Ending) (script read : List ℕ) (taken : Outside) (written : List ℕ) (given : Outside) : Type 0 where
   pub opened : Known
-  pub opening : Rises k opened
+  pub opening : FaultsRose k opened
   pub turns : List Turn
   pub t : Known
   pub legal : Legal settings opened turns t

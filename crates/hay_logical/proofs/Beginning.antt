@@ -6,7 +6,7 @@ use Rattle.hay_disk.specs.Disk.{Files}
 use Rattle.hay_open.specs.Stored.{Stored}
 use Rattle.hay_physical.specs.declared.fault.ReplicaFault.{ReplicaFault}
 use Rattle.hay_physical.specs.declared.fault.ReplicaFault.TheVariants as fault
-use Rattle.hay_physical.specs.Copies.{Copy, IsFrozen, IsOpen, IsUp, generation_of, goal_of, is_frozen, is_stuck, phase_goal}
+use Rattle.hay_physical.specs.Copies.{Copy, IsFrozen, IsOpenCopy, IsUp, generation_of, goal_of, is_frozen, is_stuck, phase_goal}
 use Rattle.hay_physical.specs.Faults as physical_faults
 use Rattle.hay_physical.specs.Replicas as physical
 use Rattle.hay_physical.specs.Runs.{HasRun, Run}
@@ -51,7 +51,7 @@ module _ {D : Type 0} (DiskTells : Type 0) (files : D → Files) (faults : D →
       rests busy worn (λ goal e. let wrong : Err fault.NoMemory ≡ Err (fault.Busy goal) = sym is ∙ e in cc) (λ e. let wrong : Err fault.NoMemory ≡ Err fault.Worn = sym is ∙ e in cc)
 
 module _ {D : Type 0} (DiskTells : Type 0) (files : D → Files) (faults : D → ℕ) (r x : Copy D) where
-  pub begins : (result : Result ℕ ReplicaFault) (up : IsUp r) → IsOpen x → is_frozen x ≡ is_frozen r → x.sup ≡ r.sup → is_stuck x ≡ is_stuck r
+  pub begins : (result : Result ℕ ReplicaFault) (up : IsUp r) → IsOpenCopy x → is_frozen x ≡ is_frozen r → x.sup ≡ r.sup → is_stuck x ≡ is_stuck r
       → (DiskTells → (s : Stored) → physical.Stands files r s → physical.Stands files x s) → KeepsDeletable DiskTells files r x
       → ((goal : ℕ) → IsUp r → goal_of r ≡ Some goal → (result ≡ Err (fault.Busy goal)) × (x ≡ r)) → (IsUp r → goal_of r ≡ None → 65535 ≤ generation_of r → (result ≡ Err fault.Worn) × (x ≡ r))
       → (result ≡ Err fault.Frozen → IsFrozen r) → ((goal : ℕ) → result ≡ Err (fault.Busy goal) → goal_of r ≡ Some goal) → (result ≡ Err fault.Worn → (goal_of r ≡ None) × (65535 ≤ generation_of r))

@@ -23,7 +23,7 @@ use Rattle.hay_physical.specs.declared.state.Phase.{Phase}
 use Rattle.hay_physical.specs.declared.state.Phase.TheVariants as phase
 use Rattle.hay_physical.specs.declared.fault.ReplicaFault.{ReplicaFault}
 use Rattle.hay_physical.specs.declared.fault.ReplicaFault.TheVariants as fault
-use Rattle.hay_physical.specs.Copies.{Copy, EndedAt, HasFrozen, IsFrozen, IsOpen, IsOpenPhase, IsUp, capacity_of, contents_of, end_of, goal_of, is_frozen, is_stuck, phase_frozen, phase_stuck}
+use Rattle.hay_physical.specs.Copies.{Copy, EndedAt, HasFrozen, IsFrozen, IsOpenCopy, IsOpenPhase, IsUp, capacity_of, contents_of, end_of, goal_of, is_frozen, is_stuck, phase_frozen, phase_stuck}
 use Rattle.hay_physical.specs.Replicas as physical
 use Rattle.hay_physical.proofs.Laws.{stands_hold}
 use Rattle.hay_physical.specs.Faults as physical_faults
@@ -38,10 +38,10 @@ phase_open : (b : Bool) (p : Phase) → HasFrozen b p → IsOpenPhase p
 phase_open b phase.Closed h = absurd h
 phase_open b (phase.Open opened) h = tt
 
-pub up_open : {D : Type 0} (r : Copy D) → IsUp r → IsOpen r
+pub up_open : {D : Type 0} (r : Copy D) → IsUp r → IsOpenCopy r
 up_open r h = phase_open false r.phase h
 
-pub frozen_open : {D : Type 0} (r : Copy D) → IsFrozen r → IsOpen r
+pub frozen_open : {D : Type 0} (r : Copy D) → IsFrozen r → IsOpenCopy r
 frozen_open r h = phase_open true r.phase h
 
 phase_not_both : (p : Phase) → HasFrozen false p → HasFrozen true p → ⊥
@@ -55,7 +55,7 @@ phase_up : (p : Phase) → IsOpenPhase p → phase_frozen p ≡ false → HasFro
 phase_up phase.Closed is thawed = absurd is
 phase_up (phase.Open opened) is thawed = thawed
 
-pub open_up : {D : Type 0} (r : Copy D) → IsOpen r → is_frozen r ≡ false → IsUp r
+pub open_up : {D : Type 0} (r : Copy D) → IsOpenCopy r → is_frozen r ≡ false → IsUp r
 open_up r is thawed = phase_up r.phase is thawed
 
 phase_thawed : (b : Bool) (p : Phase) → HasFrozen b p → phase_frozen p ≡ b
@@ -72,7 +72,7 @@ phase_froze : (p : Phase) → IsOpenPhase p → phase_frozen p ≡ true → HasF
 phase_froze phase.Closed is frozen = absurd is
 phase_froze (phase.Open opened) is frozen = frozen
 
-pub open_frozen : {D : Type 0} (r : Copy D) → IsOpen r → is_frozen r ≡ true → IsFrozen r
+pub open_frozen : {D : Type 0} (r : Copy D) → IsOpenCopy r → is_frozen r ≡ true → IsFrozen r
 open_frozen r is frozen = phase_froze r.phase is frozen
 
 -- COUNTS
@@ -247,7 +247,7 @@ went_on r r' (Err f) same going = tt
 phase_same_up : (p q : Phase) → IsOpenPhase q → phase_frozen q ≡ phase_frozen p → HasFrozen false p → HasFrozen false q
 phase_same_up p q is same up = phase_up q is (same ∙ phase_thawed false p up)
 
-pub still_up : {D : Type 0} (r r' : Copy D) → IsOpen r' → is_frozen r' ≡ is_frozen r → IsUp r → IsUp r'
+pub still_up : {D : Type 0} (r r' : Copy D) → IsOpenCopy r' → is_frozen r' ≡ is_frozen r → IsUp r → IsUp r'
 still_up r r' is same up = phase_same_up r.phase r'.phase is same up
 
 pub fault_is : {X : Type 0} (result : Result X ReplicaFault) (f h : ReplicaFault) → result ≡ Err f → result ≡ Err h → f ≡ h

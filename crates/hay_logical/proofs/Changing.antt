@@ -25,7 +25,7 @@ use Rattle.hay_map.specs.declared.place.Place.{Place}
 use Rattle.hay_map.specs.declared.place.Place.TheVariants as place
 use Rattle.hay_physical.specs.declared.fault.ReplicaFault.{ReplicaFault}
 use Rattle.hay_physical.specs.declared.fault.ReplicaFault.TheVariants as fault
-use Rattle.hay_physical.specs.Copies.{Copy, IsOpen, IsUp, goal_of, is_stuck}
+use Rattle.hay_physical.specs.Copies.{Copy, IsOpenCopy, IsUp, goal_of, is_stuck}
 use Rattle.hay_physical.specs.Replicas as physical
 use Rattle.hay_logical.specs.declared.fault.LogicalFault.TheVariants as logical
 use Rattle.hay_logical.specs.declared.replicas.Broken.{Broken}
@@ -123,7 +123,7 @@ ends_in {D} faults olds news n all count each = choose (EndedIn faults olds news
 
 -- what a delete that was broken off leaves: each replica is open, with its superblock and its index
 pub record Remains {D : Type 0} (r r' : Copy D) : Type 0 where
-  pub «open» : IsOpen r'
+  pub «open» : IsOpenCopy r'
   pub sup : r'.sup ≡ r.sup
   pub stuck : is_stuck r' ≡ is_stuck r
 

@@ -8,7 +8,7 @@ use Rattle.hay_map.specs.MapRows.{MapRows}
 use Rattle.hay_map.specs.Places.{place_in}
 use Rattle.hay_map.specs.Rows.{row_at}
 use Rattle.hay_physical.specs.declared.fault.ReplicaFault.TheVariants as fault
-use Rattle.hay_physical.specs.Copies.{Copy, IsOpen, IsUp, is_frozen}
+use Rattle.hay_physical.specs.Copies.{Copy, IsOpenCopy, IsUp, is_frozen}
 use Rattle.hay_physical.specs.Replicas as physical
 use Rattle.hay_logical.specs.declared.unsure.Unsure.{Unsure}
 use Rattle.hay_logical.specs.declared.runs.Unswapped.{Unswapped}
@@ -36,8 +36,8 @@ module _ {D P : Type 0} (DiskTells : Type 0) (files : D → Files) (Tells : Type
     | inr apart ↦ others r r' (ups j r e) (one.others j r r' apart e f).0
   ]
 
-  pub swaps_kept : (result : Result ℕ Unswapped) → SwapsAt DiskTells files faults Tells start rows rows' at one.before one.after result → (j : ℕ) (r r' : Copy D) → At items j r → At new j r' → IsOpen r' × (r'.sup ≡ r.sup)
-  swaps_kept result swaps = each_of (λ r r'. IsOpen r' × (r'.sup ≡ r.sup)) (swaps.«open», swaps.sup) (λ r r' up loses. (loses.«open» (up_open r up), loses.sup))
+  pub swaps_kept : (result : Result ℕ Unswapped) → SwapsAt DiskTells files faults Tells start rows rows' at one.before one.after result → (j : ℕ) (r r' : Copy D) → At items j r → At new j r' → IsOpenCopy r' × (r'.sup ≡ r.sup)
+  swaps_kept result swaps = each_of (λ r r'. IsOpenCopy r' × (r'.sup ≡ r.sup)) (swaps.«open», swaps.sup) (λ r r' up loses. (loses.«open» (up_open r up), loses.sup))
 
   pub swaps_thawed : IsUp one.after → (j : ℕ) (r r' : Copy D) → At items j r → At new j r' → is_frozen r' ≡ false
   swaps_thawed up = each_of (λ r r'. is_frozen r' ≡ false) (up_thawed one.after up) (λ r r' was loses. loses.frozen ∙ up_thawed r was)
@@ -80,7 +80,7 @@ called_with {D} {P} {DiskTells} {files} {Tells} {faults} {start} {items} {new} {
 
 module _ {D P : Type 0} {DiskTells : Type 0} {files : D → Files} {Tells : Type 0} {faults : D → ℕ} {start : Start} {items new : List (Copy D)} {rows rows' : MapRows P} {at : ℕ} {result : Result ℕ Unswapped}
     (call : SwapCall DiskTells files Tells faults start items new rows rows' at result) where
-  pub called_each : (j : ℕ) (r r' : Copy D) → At items j r → At new j r' → IsOpen r' × (r'.sup ≡ r.sup)
+  pub called_each : (j : ℕ) (r r' : Copy D) → At items j r → At new j r' → IsOpenCopy r' × (r'.sup ≡ r.sup)
   called_each = swaps_kept DiskTells files Tells faults start items new rows rows' at call.one call.ups result call.swaps
 
   pub called_shaped : (settings : Settings) (number : ℕ) (replicas : List (Copy D)) (front : ℕ) (frozen frozen' : Option ℕ) (unsure : Option Unsure) → replicas ≡ new → (frozen' ≡ None → IsUp call.one.after)
@@ -94,7 +94,7 @@ module _ {D P : Type 0} {DiskTells : Type 0} {files : D → Files} {Tells : Type
   called_deletable replicas is can =
       subst (λ rs. CanDelete DiskTells files rs rows') (sym is) (swaps_deletable DiskTells files Tells faults start items new rows rows' at call.one call.ups result call.swaps call.places can)
 
-  pub called_open : (volume : Volume D P) → volume.replicas ≡ new → length items ≡ volume.settings.replicas → volumes.IsOpen volume
+  pub called_open : (volume : Volume D P) → volume.replicas ≡ new → length items ≡ volume.settings.replicas → volumes.IsOpenCopy volume
   called_open volume is all = record {
     all = ap length is ∙ call.one.count ∙ all;
     each = λ j r' f.

@@ -19,7 +19,7 @@ use Rattle.hay_open.specs.Stored.{Stored, IsSealedCell, IsVoid, OpensAs, PlaceOf
 use Rattle.hay_physical.specs.declared.fault.ReplicaFault.{ReplicaFault}
 use Rattle.hay_physical.specs.declared.fault.ReplicaFault.TheVariants as fault
 use Rattle.hay_physical.specs.declared.state.Phase.TheVariants.{Closed}
-use Rattle.hay_physical.specs.Copies.{Copy, IsFrozen, IsOpen, IsUp, capacity_of, contents_of, end_of, generation_of, goal_of, is_frozen, is_stuck}
+use Rattle.hay_physical.specs.Copies.{Copy, IsFrozen, IsOpenCopy, IsUp, capacity_of, contents_of, end_of, generation_of, goal_of, is_frozen, is_stuck}
 use Rattle.hay_physical.specs.Replicas as physical
 use Rattle.hay_compact.specs.Copying.{end_of as cells_end_of}
 use Rattle.hay_physical.specs.Runs.{HasLastAt, HasRun, IsTight, RemovedBoth, Run, Swaps, longer, loosened}
@@ -55,7 +55,7 @@ KeepsDeletable DiskTells files r r' = DiskTells → (place : ℕ) → physical.M
 -- Nothing but a compaction of the replica ended, where one stood.
 pub record LosesRun {D : Type 0} (DiskTells : Type 0) (files : D → Files) (r r' : Copy D) : Type 0 where
   pub idle : goal_of r ≡ None → r' ≡ r
-  pub «open» : IsOpen r → IsOpen r'
+  pub «open» : IsOpenCopy r → IsOpenCopy r'
   pub up : IsUp r → IsUp r'
   pub froze : IsFrozen r → IsFrozen r'
   pub sup : r'.sup ≡ r.sup
@@ -89,7 +89,7 @@ pub record PutsAt {D P : Type 0} (DiskTells : Type 0) (files : D → Files) (Tel
 
 -- Where a put was broken off, the replicas below have the photo, that one perhaps, and those above are as they were.
 pub record PutBroken {D : Type 0} (DiskTells : Type 0) (files : D → Files) (pair : Pair) (cookie : Cookie) (bytes : List ℕ) (r r' : Copy D) : Type 0 where
-  pub «open» : IsOpen r'
+  pub «open» : IsOpenCopy r'
   pub sup : r'.sup ≡ r.sup
   pub stuck : is_stuck r' ≡ is_stuck r
   pub stands : DiskTells → (s : Stored) → physical.Stands files r s →
@@ -379,7 +379,7 @@ pub record Swapped {D P : Type 0} (files : D → Files) (Tells : Type 0) (rows' 
 
 -- The compaction ended with a swap of the files, or nothing of the replica's photos has changed.
 pub record SwapsAt {D P : Type 0} (DiskTells : Type 0) (files : D → Files) (faults : D → ℕ) (Tells : Type 0) (start : Start) (rows rows' : MapRows P) (at : ℕ) (r r' : Copy D) (result : Result ℕ Unswapped) : Type 0 where
-  pub «open» : IsOpen r'
+  pub «open» : IsOpenCopy r'
   pub sup : r'.sup ≡ r.sup
   pub up : OnOk result (IsUp r' × (is_stuck r' ≡ false) × (goal_of r' ≡ None) × WasAtRest start r)
   pub left : IfErr result (IsLeftBy faults start r r')

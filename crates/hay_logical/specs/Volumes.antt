@@ -57,9 +57,9 @@ HasAll volume = length volume.replicas ≡ volume.settings.replicas
 abbrev pub IsClosed : {D P : Type 0} → Volume D P → Type 0
 IsClosed {D} volume = (j : ℕ) (r : Copy D) → At volume.replicas j r → r.phase ≡ Closed
 
-pub record IsOpen {D P : Type 0} (volume : Volume D P) : Type 0 where
+pub record IsOpenVolume {D P : Type 0} (volume : Volume D P) : Type 0 where
   pub all : HasAll volume
-  pub each : (j : ℕ) (r : Copy D) → At volume.replicas j r → copies.IsOpen r
+  pub each : (j : ℕ) (r : Copy D) → At volume.replicas j r → copies.IsOpenVolume r
 
 -- no count of faults fell, and the fuses stayed
 pub record KeepsCounts {D : Type 0} (faults fuses : D → ℕ) (old new : List (Copy D)) : Type 0 where

@@ -14,8 +14,8 @@ ghost use Rattle.hay_physical.specs.Copies.{Copy, contents_of, goal_of};
 ghost use Rattle.hay_physical.specs.Copies as copies;
 ghost use Rattle.hay_logical.specs.Fits.{At, super_of};
 ghost use Rattle.hay_logical.specs.Steps.{IsRefusedAt, KeepsDisk, RoomFor};
-ghost use Rattle.hay_logical.specs.Volumes.{HasAll, IsClosed, IsOfSettings, IsOpen, IsSame, KeepsCounts};
-ghost use Rattle.hay_logical.specs.Stands.{Holds, IsFirst, IsIdle, Stands, Stopped};
+ghost use Rattle.hay_logical.specs.Volumes.{HasAll, IsClosed, IsOfSettings, IsOpenVolume, IsSame, KeepsCounts};
+ghost use Rattle.hay_logical.specs.Stands.{Holds, IsFirst, IsIdleVolume, Stands, Stopped};
 ghost use Rattle.hay_logical.specs.Answers.{BeginRefused, CompactRefused, DeleteRefused, FinishRefused, FlushRefused, IsBeginFault, IsBegun, IsCompactFault, IsCompacted, IsDeleteFault, IsDeleted, IsFinished, IsFlushFault, IsFlushed, IsPut, IsPutFault, IsReopened, IsRoomFault, IsRunFault, IsStepped, PutRefused, RemovesOld, StepRefused, room_answer};
 
 use crate::fault::{LogicalFault, Unopened};
@@ -129,14 +129,14 @@ impl<D: Disk> Logical<D> {
     pub fn open(&mut self, alloc: Global) -> Result<Listed<Note>, Unopened>
         requires all { HasAll self.old }
         requires closed { IsClosed self.old }
-        requires idle { D.Tells → IsIdle D.files self.old }
+        requires idle { D.Tells → IsIdleVolume D.files self.old }
 
         // The volume stands for what the disks had, or behind a stop for what that may have left.
         ensures first { D.Tells → (k : VolumeKnown) → IsFirst D.files self.old k →
             IfOk result (λ notes. (notes ≡ []) × Stands D.files D.Piece.Tells self.new k) }
         ensures reopened { D.Tells → (k : VolumeKnown) → Stopped D.files self.old k →
             IfOk result (λ notes. IsReopened D.files D.Piece.Tells k notes self.new) }
-        ensures open { OnOk result (IsOpen self.new) }
+        ensures open { OnOk result (IsOpenVolume self.new) }
         // Nothing of what was read of the disks is damaged.
         ensures undamaged { D.Tells → OnOk result ((j : ℕ) (r : Copy D) → At self.old.replicas j r →
             (file at : ℕ) → IsOpeningDamage r.sup (contents_of D.files r.disk) file at → ⊥) }
@@ -180,7 +180,7 @@ impl<D: Disk> Logical<D> {
     /// Whether the volume takes a photo of this size: `ReadOnly` where it is frozen, and then `Full` for the lowest
     /// replica that lacks room.
     pub fn room(&self, size: u32) -> Result<(), LogicalFault>
-        requires open { IsOpen self.now }
+        requires open { IsOpenVolume self.now }
         ensures known { D.Tells → (k : VolumeKnown) → Stands D.files D.Piece.Tells self.now k →
             result ≡ room_answer self.now.settings k.frozen (room_refusal_of self.now.settings self.now.number k size) }
         ensures frozen { (m : ℕ) → self.now.frozen ≡ Some m → result ≡ Err (LogicalFault.ReadOnly m) }
@@ -222,13 +222,13 @@ impl<D: Disk> Logical<D> {
         bytes: &[u8],
     ) -> Result<u64, LogicalFault>
         requires size { length bytes.now ≤ MAX_PHOTO }
-        requires open { IsOpen self.old }
+        requires open { IsOpenVolume self.old }
         ensures stored { D.Tells → (k : VolumeKnown) → Stands D.files D.Piece.Tells self.old k →
             IfOk result (λ position. IsPut D.files D.Piece.Tells k tag pair cookie bytes.now position self.new) }
         ensures refused { D.Tells → (k : VolumeKnown) → Stands D.files D.Piece.Tells self.old k →
             IfErr result (PutRefused D.files D.Piece.Tells k tag pair cookie bytes.now self.old self.new) }
         ensures causes { IfErr result (IsPutFault D.fault_count self.old.settings self.old.number self.old.replicas self.new.replicas) }
-        ensures open { IsOpen self.new }
+        ensures open { IsOpenVolume self.new }
         ensures counts { KeepsCounts D.fault_count D.fuse_count self.old.replicas self.new.replicas }
         ensures same { IsSame self.old self.new }
     {
@@ -267,13 +267,13 @@ impl<D: Disk> Logical<D> {
     /// the change. It takes no memory. `Failed` freezes the volume. A compaction whose disk fails as it follows ends, and
     /// that is no refusal.
     pub fn delete(&mut self, tag: CoreTag, pair: Pair) -> Result<u64, LogicalFault>
-        requires open { IsOpen self.old }
+        requires open { IsOpenVolume self.old }
         ensures deleted { D.Tells → (k : VolumeKnown) → Stands D.files D.Piece.Tells self.old k →
             IfOk result (λ position. IsDeleted D.files D.fault_count D.Piece.Tells k tag pair position self.old self.new) }
         ensures refused { D.Tells → (k : VolumeKnown) → Stands D.files D.Piece.Tells self.old k →
             IfErr result (DeleteRefused D.files D.Piece.Tells k tag pair self.old self.new) }
         ensures causes { IfErr result (IsDeleteFault D.fault_count self.old.settings self.old.number self.old.replicas self.new.replicas) }
-        ensures open { IsOpen self.new }
+        ensures open { IsOpenVolume self.new }
         ensures counts { KeepsCounts D.fault_count D.fuse_count self.old.replicas self.new.replicas }
         ensures same { IsSame self.old self.new }
     {
@@ -312,13 +312,13 @@ impl<D: Disk> Logical<D> {
     /// where the volume is frozen, or the replica's index, which `Failed` freezes.
     pub fn flush(&mut self, replica: u32) -> Result<u64, LogicalFault>
         requires within { replica < self.old.settings.replicas }
-        requires open { IsOpen self.old }
+        requires open { IsOpenVolume self.old }
         ensures flushed { D.Tells → (k : VolumeKnown) → Stands D.files D.Piece.Tells self.old k →
             IfOk result (λ number. IsFlushed D.files D.Piece.Tells k replica number self.new) }
         ensures refused { D.Tells → (k : VolumeKnown) → Stands D.files D.Piece.Tells self.old k →
             IfErr result (FlushRefused D.files D.Piece.Tells k replica self.old self.new) }
         ensures causes { IfErr result (IsFlushFault D.fault_count self.old.settings self.old.number self.old.replicas self.new.replicas) }
-        ensures open { IsOpen self.new }
+        ensures open { IsOpenVolume self.new }
         ensures counts { KeepsCounts D.fault_count D.fuse_count self.old.replicas self.new.replicas }
         ensures same { IsSame self.old self.new }
     {
@@ -336,13 +336,13 @@ impl<D: Disk> Logical<D> {
     /// `Worn` where the replica's generation is the last one. A refusal leaves what stood.
     pub fn begin(&mut self, alloc: Global, replica: u32) -> Result<u64, LogicalFault>
         requires within { replica < self.old.settings.replicas }
-        requires open { IsOpen self.old }
+        requires open { IsOpenVolume self.old }
         ensures begun { D.Tells → (k : VolumeKnown) → Stands D.files D.Piece.Tells self.old k →
             IfOk result (λ generation. IsBegun D.files D.Piece.Tells k replica generation self.new) }
         ensures refused { D.Tells → (k : VolumeKnown) → Stands D.files D.Piece.Tells self.old k →
             IfErr result (BeginRefused D.files D.Piece.Tells k replica self.old self.new) }
         ensures causes { IfErr result (IsBeginFault D.fault_count self.old.settings self.old.number self.old.replicas self.new.replicas) }
-        ensures open { IsOpen self.new }
+        ensures open { IsOpenVolume self.new }
         ensures counts { KeepsCounts D.fault_count D.fuse_count self.old.replicas self.new.replicas }
         ensures same { IsSame self.old self.new }
     {
@@ -360,13 +360,13 @@ impl<D: Disk> Logical<D> {
     /// `Idle` comes where none stands. `Failed` and `Damaged` end it, and `NoMemory` leaves it behind some of the cells.
     pub fn step(&mut self, replica: u32, cells: u32) -> Result<u64, LogicalFault>
         requires within { replica < self.old.settings.replicas }
-        requires open { IsOpen self.old }
+        requires open { IsOpenVolume self.old }
         ensures stepped { D.Tells → (k : VolumeKnown) → Stands D.files D.Piece.Tells self.old k →
             IfOk result (λ number. IsStepped D.files D.Piece.Tells k replica cells number self.new) }
         ensures refused { D.Tells → (k : VolumeKnown) → Stands D.files D.Piece.Tells self.old k →
             IfErr result (StepRefused D.files D.Piece.Tells k replica cells self.old self.new) }
         ensures causes { IfErr result (IsRunFault D.fault_count self.old.settings self.old.number self.old.replicas self.new.replicas) }
-        ensures open { IsOpen self.new }
+        ensures open { IsOpenVolume self.new }
         ensures counts { KeepsCounts D.fault_count D.fuse_count self.old.replicas self.new.replicas }
         ensures same { IsSame self.old self.new }
     {
@@ -395,7 +395,7 @@ impl<D: Disk> Logical<D> {
     /// behind the swap.
     pub fn finish(&mut self, replica: u32) -> Result<u64, LogicalFault>
         requires within { replica < self.old.settings.replicas }
-        requires open { IsOpen self.old }
+        requires open { IsOpenVolume self.old }
         ensures finished { D.Tells → (k : VolumeKnown) → Stands D.files D.Piece.Tells self.old k →
             IfOk result (λ generation. IsFinished D.files D.Piece.Tells k replica generation self.new) }
         ensures removed { D.Tells → (k : VolumeKnown) → Stands D.files D.Piece.Tells self.old k →
@@ -403,7 +403,7 @@ impl<D: Disk> Logical<D> {
         ensures refused { D.Tells → (k : VolumeKnown) → Stands D.files D.Piece.Tells self.old k →
             IfErr result (FinishRefused D.files D.Piece.Tells k replica self.old self.new) }
         ensures causes { IfErr result (IsRunFault D.fault_count self.old.settings self.old.number self.old.replicas self.new.replicas) }
-        ensures open { IsOpen self.new }
+        ensures open { IsOpenVolume self.new }
         ensures counts { KeepsCounts D.fault_count D.fuse_count self.old.replicas self.new.replicas }
         ensures same { IsSame self.old self.new }
     {
@@ -431,7 +431,7 @@ impl<D: Disk> Logical<D> {
     /// leaves what one of `begin` or `finish` does.
     pub fn compact(&mut self, alloc: Global, replica: u32) -> Result<u64, LogicalFault>
         requires within { replica < self.old.settings.replicas }
-        requires open { IsOpen self.old }
+        requires open { IsOpenVolume self.old }
         ensures compacted { D.Tells → (k : VolumeKnown) → Stands D.files D.Piece.Tells self.old k →
             IfOk result (λ generation. IsCompacted D.files D.Piece.Tells k replica generation self.new) }
         ensures removed { D.Tells → (k : VolumeKnown) → Stands D.files D.Piece.Tells self.old k →
@@ -439,7 +439,7 @@ impl<D: Disk> Logical<D> {
         ensures refused { D.Tells → (k : VolumeKnown) → Stands D.files D.Piece.Tells self.old k →
             IfErr result (CompactRefused D.files D.Piece.Tells k replica self.old self.new) }
         ensures causes { IfErr result (IsCompactFault D.fault_count self.old.settings self.old.number self.old.replicas self.new.replicas) }
-        ensures open { IsOpen self.new }
+        ensures open { IsOpenVolume self.new }
         ensures counts { KeepsCounts D.fault_count D.fuse_count self.old.replicas self.new.replicas }
         ensures same { IsSame self.old self.new }
     {
@@ -500,7 +500,7 @@ impl<D: Disk> Logical<D> {
     pub fn fuse(&mut self, replica: u32, calls: u32)
         requires { replica < length self.old.replicas }
         ensures stands { D.Tells → (k : VolumeKnown) → Stands D.files D.Piece.Tells self.old k → Stands D.files D.Piece.Tells self.new k }
-        ensures open { IsOpen self.old → IsOpen self.new }
+        ensures open { IsOpenVolume self.old → IsOpenVolume self.new }
         ensures fused { (r r' : Copy D) → At self.old.replicas replica r → At self.new.replicas replica r' →
             IsNext (D.fuse_count r.disk) (D.fuse_count r'.disk) × (D.fault_count r'.disk ≡ D.fault_count r.disk) }
         ensures others { (j : ℕ) → (j ≡ replica → ⊥) → (r r' : Copy D) → At self.old.replicas j r → At self.new.replicas j r' → r' ≡ r }
@@ -514,7 +514,7 @@ impl<D: Disk> Logical<D> {
     pub fn stop(&mut self, pick: u64)
         ensures stopped { D.Tells → (k : VolumeKnown) → Stands D.files D.Piece.Tells self.old k → Stopped D.files self.new k }
         ensures closed { IsClosed self.new }
-        ensures idle { D.Tells → IsIdle D.files self.new }
+        ensures idle { D.Tells → IsIdleVolume D.files self.new }
         ensures all { length self.new.replicas ≡ length self.old.replicas }
         ensures counts { (j : ℕ) (r r' : Copy D) → At self.old.replicas j r → At self.new.replicas j r' →
             (D.fault_count r'.disk ≡ D.fault_count r.disk) × (D.fuse_count r'.disk ≡ D.fuse_count r.disk) }

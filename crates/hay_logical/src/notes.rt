@@ -2,7 +2,7 @@
 ghost use Rattle.std.specs.Prelude.{◌≡◌, ◌≤◌, ◌<◌, ℕ, length, IfOk};
 ghost use Rattle.hay_legal.specs.Known.{machine_of};
 ghost use Rattle.hay_legal.specs.Restarts.{replica_notes};
-ghost use Rattle.hay_physical.specs.Copies.{Copy, IsOpen};
+ghost use Rattle.hay_physical.specs.Copies.{Copy, IsOpenCopy};
 ghost use Rattle.hay_logical.specs.Fits.{At};
 ghost use Rattle.hay_logical.specs.Volumes.{IsOfSettings};
 ghost use Rattle.hay_logical.specs.Notes.{KeptIn, NotesAre, is_live, keeps};
@@ -59,7 +59,7 @@ fn kept_in<D: Disk>(
     rows: &MapView<D::Piece>,
 ) -> ArrayVec<bool, 4>
     requires most { length replicas.now ≤ 4 }
-    requires open { (j : ℕ) (r : Copy D) → At replicas.now j r → IsOpen r }
+    requires open { (j : ℕ) (r : Copy D) → At replicas.now j r → IsOpenCopy r }
     requires width { rows.now.replicas ≡ length replicas.now }
     ensures { KeptIn change.now rows.now replicas.now result.items }
 {
@@ -113,7 +113,7 @@ pub(crate) fn notes_of<D: Disk>(
 ) -> Result<Listed<Note>, NoMemory>
     requires of { IsOfSettings settings.now number }
     requires most { length replicas.now ≤ 4 }
-    requires open { (j : ℕ) (r : Copy D) → At replicas.now j r → IsOpen r }
+    requires open { (j : ℕ) (r : Copy D) → At replicas.now j r → IsOpenCopy r }
     requires width { rows.now.replicas ≡ length replicas.now }
     ensures { IfOk result (NotesAre settings.now number unsure.now rows.now replicas.now) }
 {

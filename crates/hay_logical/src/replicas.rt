@@ -5,7 +5,7 @@ ghost use Rattle.hay_map.specs.Places.{place_in};
 ghost use Rattle.hay_map.specs.Rows.{row_at};
 ghost use Rattle.hay_map.specs.Sealed.{SealedNeedle};
 ghost use Rattle.hay_map.specs.declared.place.Place.TheVariants as place;
-ghost use Rattle.hay_physical.specs.Copies.{Copy, IsOpen, IsUp, end_of, is_frozen};
+ghost use Rattle.hay_physical.specs.Copies.{Copy, IsOpenCopy, IsUp, end_of, is_frozen};
 ghost use Rattle.hay_physical.specs.declared.state.Phase.TheVariants.{Closed};
 ghost use Rattle.hay_physical.specs.Replicas as physical;
 ghost use Rattle.hay_physical.specs.Runs.{HasRun, Run};
@@ -42,7 +42,7 @@ pub(crate) struct DiskFailed {
 /// Where the cells of each replica end.
 pub(crate) fn ends_of<D: Disk>(replicas: &[Replica<D>]) -> [u64; 4]
     requires most { length replicas.now ≤ 4 }
-    requires open { (j : ℕ) (r : Copy D) → At replicas.now j r → IsOpen r }
+    requires open { (j : ℕ) (r : Copy D) → At replicas.now j r → IsOpenCopy r }
     ensures { (j : ℕ) (r : Copy D) → At replicas.now j r → slice_index result j ≡ end_of r }
 {
     let mut ends = [0; 4];
@@ -55,7 +55,7 @@ pub(crate) fn ends_of<D: Disk>(replicas: &[Replica<D>]) -> [u64; 4]
 /// The lowest replica that lacks room for a photo of this size.
 pub(crate) fn room_in<D: Disk>(replicas: &[Replica<D>], size: u32) -> Result<(), Broken>
     requires most { length replicas.now ≤ 4 }
-    requires open { (j : ℕ) (r : Copy D) → At replicas.now j r → IsOpen r }
+    requires open { (j : ℕ) (r : Copy D) → At replicas.now j r → IsOpenCopy r }
     ensures fits { OnOk result ((j : ℕ) (r : Copy D) → At replicas.now j r → RoomFor size r) }
     ensures lacks { IfErr result (LacksRoom size replicas.now) }
 {

@@ -20,14 +20,17 @@ pub record IsSealed (Tells : Type 0) (pair : Pair) (photo : Photo) (needle : Sea
 -- what a place says of its pair
 abbrev pub PlaceMeans : {P : Type 0} → Type 0 → Pair → Place P → Outcome → Type 0
 PlaceMeans Tells pair (place.Live needle) (outcome.Photo photo) = IsSealed Tells pair photo needle
+PlaceMeans Tells pair (place.Live needle) outcome.Nothing = ⊥
 PlaceMeans Tells pair place.None outcome.Nothing = Unit {0}
+PlaceMeans Tells pair place.None (outcome.Photo photo) = ⊥
 PlaceMeans Tells pair place.Gone outcome.Nothing = Unit {0}
-PlaceMeans Tells pair _ _ = ⊥
+PlaceMeans Tells pair place.Gone (outcome.Photo photo) = ⊥
 
 -- the place once the photo was deleted
 abbrev pub gone_place : {P : Type 0} → Place P → Place P
 gone_place place.None = place.None
-gone_place _ = place.Gone
+gone_place (place.Live needle) = place.Gone
+gone_place place.Gone = place.Gone
 
 -- the place of a replica in a row
 abbrev pub place_in : {P : Type 0} → List (Place P) → ℕ → Place P

@@ -22,8 +22,8 @@ HasFrozen frozen Closed = ⊥
 HasFrozen frozen (Open opened) = opened.frozen ≡ frozen
 
 -- it is open
-abbrev pub IsOpen : {D : Type 0} → Copy D → Type 0
-IsOpen r = IsOpenPhase r.phase
+abbrev pub IsOpenCopy : {D : Type 0} → Copy D → Type 0
+IsOpenCopy r = IsOpenPhase r.phase
 
 -- it is open, and takes changes
 abbrev pub IsUp : {D : Type 0} → Copy D → Type 0

@@ -23,7 +23,7 @@ use Rattle.hay_compact.specs.Copying.{IsMaking, Stage}
 use Rattle.hay_physical.specs.Copies.{Copy, copier_goal}
 
 -- A closed replica, all of whose disk is solid, with no pieces given out.
-pub record IsIdle {D : Type 0} (files : D → Files) (r : Copy D) : Type 0 where
+pub record IsIdleCopy {D : Type 0} (files : D → Files) (r : Copy D) : Type 0 where
   pub closed : r.phase ≡ Closed
   pub solid : (n : ℕ) → IsSolid (files r.disk n)
   pub free : (n : ℕ) → IsFree (files r.disk n)

@@ -14,9 +14,9 @@ ghost use Rattle.hay_open.specs.Stored.{IsSealedCell, IsVoid, OpensAs, PlaceOf, 
 ghost use Rattle.hay_physical.specs.declared.state.Phase.TheVariants.{Closed};
 ghost use Rattle.hay_physical.specs.Runs.{HasLastAt, HasRun, Run, longer, loosened};
 ghost use Rattle.std.specs.Option.{option_map};
-ghost use Rattle.hay_physical.specs.Copies.{EndedAt, IsFrozen, IsOpen, IsUp, capacity_of, contents_of, end_of, generation_of, goal_of, is_frozen, is_stuck};
+ghost use Rattle.hay_physical.specs.Copies.{EndedAt, IsFrozen, IsOpenCopy, IsUp, capacity_of, contents_of, end_of, generation_of, goal_of, is_frozen, is_stuck};
 ghost use Rattle.hay_physical.specs.Faults.{IsDeleteFault, IsFlushFault, IsPutFault};
-ghost use Rattle.hay_physical.specs.Replicas.{HasLive, Holds, IsIdle, IsLike, MayDelete, Stands, all_recorded, with_cell, without_cell, MayDeletePlace};
+ghost use Rattle.hay_physical.specs.Replicas.{HasLive, Holds, IsIdleCopy, IsLike, MayDelete, Stands, all_recorded, with_cell, without_cell, MayDeletePlace};
 
 use crate::fault::ReplicaFault;
 use crate::state::{Copier, OpenFiles, Phase};
@@ -62,7 +62,7 @@ impl<D: Disk> Replica<D> {
     /// A refusal leaves the replica closed.
     pub fn open(&mut self, alloc: Global) -> Result<Vec<OpenCell<D::Piece>>, OpenFault>
         requires closed { self.old.phase ≡ Closed }
-        requires idle { D.Tells → IsIdle D.files self.old }
+        requires idle { D.Tells → IsIdleCopy D.files self.old }
 
         // A disk that is void or whole is opened as what it has, and the places are those of its photos.
         ensures opened { D.Tells → (s : Stored) → OpensAs self.old.sup (contents_of D.files self.old.disk) s → IfOk result (λ cells.
@@ -120,7 +120,7 @@ impl<D: Disk> Replica<D> {
 
     /// Whether the needle of a photo of this size and the end mark behind it fit into the volume file.
     pub fn room(&self, size: u32) -> Result<(), ReplicaFault>
-        requires open { IsOpen self.now }
+        requires open { IsOpenCopy self.now }
         ensures full { let need = needle_total size in capacity_of self.now < end_of self.now + need + 8
             → result ≡ Err (ReplicaFault.Full (end_of self.now) need (capacity_of self.now)) }
         ensures fits { OnErr result (capacity_of self.now < end_of self.now + needle_total size + 8) }
@@ -142,7 +142,7 @@ impl<D: Disk> Replica<D> {
         bytes: &[u8],
     ) -> Result<Sealed<D::Piece>, ReplicaFault>
         requires size { length bytes.now ≤ MAX_PHOTO }
-        requires open { IsOpen self.old }
+        requires open { IsOpenCopy self.old }
 
         ensures frozen { IsFrozen self.old → (result ≡ Err ReplicaFault.Frozen) × (self.new ≡ self.old) }
         ensures thawed { IsErrOf result ReplicaFault.Frozen → IsFrozen self.old }
@@ -168,7 +168,7 @@ impl<D: Disk> Replica<D> {
         ensures added { D.Tells → (s : Stored) → Stands D.files self.old s → IsErrOf result ReplicaFault.NoMemory → IsFrozen self.new →
             Holds D.files self.new (is_stuck self.old) (with_cell s pair cookie bytes.now) (with_cell s pair cookie bytes.now) }
         ensures froze { IfErr result (λ fault. (faults : ℕ) → fault ≡ ReplicaFault.Failed faults → IsFrozen self.new) }
-        ensures open { IsOpen self.new }
+        ensures open { IsOpenCopy self.new }
         ensures stuck { is_stuck self.new ≡ is_stuck self.old }
 
         // A compaction that stands has one more cell to examine. A freeze ends it.
@@ -193,7 +193,7 @@ impl<D: Disk> Replica<D> {
     /// Deletes the photo of a pair, whose last cell stands at this place, and repeats that in a compaction that stands: a
     /// failure there ends it, and is no refusal. It takes no memory. `Failed` freezes the replica.
     pub fn delete(&mut self, pair: Pair, at: u64) -> Result<(), ReplicaFault>
-        requires open { IsOpen self.old }
+        requires open { IsOpenCopy self.old }
         requires flag { D.Tells → IsUp self.old → MayDelete D.files self.old at }
 
         ensures frozen { IsFrozen self.old → (result ≡ Err ReplicaFault.Frozen) × (self.new ≡ self.old) }
@@ -209,7 +209,7 @@ impl<D: Disk> Replica<D> {
         ensures refused { D.Tells → (s : Stored) → Stands D.files self.old s → HasLive at s.cells →
             OnErr result (IsFrozen self.new × Holds D.files self.new (is_stuck self.old) s (without_cell s at)) }
         ensures froze { OnErr result (IsFrozen self.new) }
-        ensures open { IsOpen self.new }
+        ensures open { IsOpenCopy self.new }
         ensures stuck { is_stuck self.new ≡ is_stuck self.old }
 
         // A compaction that stands follows, or ends where the disk's count of faults rose. A freeze ends it.
@@ -239,7 +239,7 @@ impl<D: Disk> Replica<D> {
     /// Gives the cells without a record theirs, and answers how many these were. `Frozen` comes where the replica is
     /// frozen or its index. `Failed` freezes the index alone.
     pub fn flush(&mut self) -> Result<u64, ReplicaFault>
-        requires open { IsOpen self.old }
+        requires open { IsOpenCopy self.old }
 
         ensures frozen { IsFrozen self.old ⊎ (is_stuck self.old ≡ true) → (result ≡ Err ReplicaFault.Frozen) × (self.new ≡ self.old) }
         ensures thawed { IsErrOf result ReplicaFault.Frozen → IsFrozen self.old ⊎ (is_stuck self.old ≡ true) }
@@ -255,7 +255,7 @@ impl<D: Disk> Replica<D> {
         ensures refused { D.Tells → (s : Stored) → Stands D.files self.old s → OnErr result (Stands D.files self.new s) }
         ensures stuck { IfErr result (λ fault. (faults : ℕ) → fault ≡ ReplicaFault.Failed faults → is_stuck self.new ≡ true) }
         ensures stayed { IsErrOf result ReplicaFault.NoMemory → self.new.phase ≡ self.old.phase }
-        ensures open { IsOpen self.new }
+        ensures open { IsOpenCopy self.new }
         ensures same { is_frozen self.new ≡ is_frozen self.old }
 
         ensures run { D.Tells → (s : Stored) (run : Option Run) → Stands D.files self.old s → HasRun D.files self.old s run →
@@ -277,7 +277,7 @@ impl<D: Disk> Replica<D> {
 
     /// Takes no more changes. A compaction that stands ends.
     pub fn freeze(&mut self)
-        requires { IsOpen self.old }
+        requires { IsOpenCopy self.old }
         ensures frozen { IsFrozen self.new }
         ensures dropped { EndedAt (D.fault_count self.new.disk) self.new }
         ensures held { D.Tells → (s : Stored) → Stands D.files self.old s → Holds D.files self.new (is_stuck self.old) s s }
@@ -314,7 +314,7 @@ impl<D: Disk> Replica<D> {
 
     /// The generation of the files.
     pub fn generation(&self) -> u64
-        requires { IsOpen self.now }
+        requires { IsOpenCopy self.now }
         ensures is { result ≡ generation_of self.now }
         ensures known { D.Tells → (s : Stored) → Stands D.files self.now s → result ≡ s.generation }
     {
@@ -326,7 +326,7 @@ impl<D: Disk> Replica<D> {
 
     /// Where the cells end.
     pub fn end(&self) -> u64
-        requires { IsOpen self.now }
+        requires { IsOpenCopy self.now }
         ensures is { result ≡ end_of self.now }
         ensures known { D.Tells → (s : Stored) → Stands D.files self.now s → result ≡ s.end }
     {
@@ -348,7 +348,7 @@ impl<D: Disk> Replica<D> {
         ensures stands { D.Tells → (s : Stored) → Stands D.files self.old s → Stands D.files self.new s }
         ensures holds { D.Tells → (stuck : Bool) (s t : Stored) → Holds D.files self.old stuck s t → Holds D.files self.new stuck s t }
         ensures deletes { D.Tells → (place : ℕ) → MayDelete D.files self.old place → MayDelete D.files self.new place }
-        ensures idle { D.Tells → IsIdle D.files self.old → IsIdle D.files self.new }
+        ensures idle { D.Tells → IsIdleCopy D.files self.old → IsIdleCopy D.files self.new }
         ensures run { D.Tells → (s : Stored) (run : Option Run) → HasRun D.files self.old s run → HasRun D.files self.new s run }
         ensures same { self.new ≡ record self.old { disk = self.new.disk } }
         ensures files { D.Tells → D.files self.new.disk ≡ D.files self.old.disk }
@@ -361,7 +361,7 @@ impl<D: Disk> Replica<D> {
     /// Stops the disk and starts it again: the replica is closed then. `pick` chooses what the stop leaves.
     pub fn stop(&mut self, pick: u64)
         ensures closed { self.new.phase ≡ Closed }
-        ensures idle { D.Tells → IsIdle D.files self.new }
+        ensures idle { D.Tells → IsIdleCopy D.files self.new }
         ensures left { D.Tells → MayLeave (D.files self.old.disk) (contents_of D.files self.new.disk) }
         ensures stood { D.Tells → (s : Stored) → Stands D.files self.old s → Holds D.files self.new (is_stuck self.old) s s }
         ensures holds { D.Tells → (stuck : Bool) (s t : Stored) → Holds D.files self.old stuck s t → Holds D.files self.new stuck s t }

@@ -7,7 +7,7 @@ ghost use Rattle.hay_map.specs.Rows.{last_place};
 ghost use Rattle.hay_open.specs.Stored.{Stored, index_file, volume_file};
 ghost use Rattle.hay_compact.specs.Copying.{IsLatest};
 ghost use Rattle.hay_compact.specs.Finishing.{AreThePlaces};
-ghost use Rattle.hay_physical.specs.Copies.{IsFrozen, IsOpen, IsUp, faults_at_end, generation_of, goal_of, is_frozen, is_stuck};
+ghost use Rattle.hay_physical.specs.Copies.{IsFrozen, IsOpenCopy, IsUp, faults_at_end, generation_of, goal_of, is_frozen, is_stuck};
 ghost use Rattle.hay_physical.specs.Faults.{IsBeginFault, IsPeekFault, IsRunFault};
 ghost use Rattle.hay_physical.specs.Replicas.{Holds, MayDelete, MayDeletePlace, Stands};
 ghost use Rattle.hay_physical.specs.Runs.{EndsRun, HasNext, HasPair, HasRun, IsPeeked, IsTight, RemovedBoth, Run, Swaps, stepped};
@@ -24,7 +24,7 @@ impl<D: Disk> Replica<D> {
     /// Begins a compaction, and answers the generation that it makes. `Busy` comes exactly where one stands, and `Worn` where
     /// the generation is the last one. A refusal leaves none.
     pub fn begin(&mut self, alloc: Global) -> Result<u64, ReplicaFault>
-        requires open { IsOpen self.old }
+        requires open { IsOpenCopy self.old }
 
         ensures frozen { IsFrozen self.old → (result ≡ Err ReplicaFault.Frozen) × (self.new ≡ self.old) }
         ensures thawed { IsErrOf result ReplicaFault.Frozen → IsFrozen self.old }
@@ -42,7 +42,7 @@ impl<D: Disk> Replica<D> {
         ensures deletes { D.Tells → (place : ℕ) → MayDelete D.files self.old place → MayDelete D.files self.new place }
         ensures up { OnOk result (IsUp self.new) }
         ensures kept { OnErr result (self.new.phase ≡ self.old.phase) }
-        ensures open { IsOpen self.new }
+        ensures open { IsOpenCopy self.new }
         ensures same { is_frozen self.new ≡ is_frozen self.old }
         ensures stuck { is_stuck self.new ≡ is_stuck self.old }
 
@@ -74,7 +74,7 @@ impl<D: Disk> Replica<D> {
     /// The next cell that the compaction is to examine, or none at the end of the current volume file. `Ended` comes exactly
     /// where no compaction stands. `Failed` and `Damaged` end it.
     pub fn peek(&mut self) -> Result<Option<CellHead>, ReplicaFault>
-        requires open { IsOpen self.old }
+        requires open { IsOpenCopy self.old }
 
         ensures frozen { IsFrozen self.old → (result ≡ Err ReplicaFault.Frozen) × (self.new ≡ self.old) }
         ensures thawed { IsErrOf result ReplicaFault.Frozen → IsFrozen self.old }
@@ -97,7 +97,7 @@ impl<D: Disk> Replica<D> {
         ensures ends { IfErr result (EndsRun (D.fault_count self.new.disk) self.old self.new) }
         ensures stands { D.Tells → (s : Stored) → Stands D.files self.old s → Stands D.files self.new s }
         ensures deletes { D.Tells → (place : ℕ) → MayDelete D.files self.old place → MayDelete D.files self.new place }
-        ensures open { IsOpen self.new }
+        ensures open { IsOpenCopy self.new }
         ensures same { is_frozen self.new ≡ is_frozen self.old }
         ensures stuck { is_stuck self.new ≡ is_stuck self.old }
 
@@ -116,7 +116,7 @@ impl<D: Disk> Replica<D> {
     /// the last cell of its pair, or none where that cell is deleted. `NoMemory` leaves the compaction where it stood, and
     /// `Failed` ends it.
     pub fn copy(&mut self, cell: CellHead, latest: Option<u64>) -> Result<(), ReplicaFault>
-        requires open { IsOpen self.old }
+        requires open { IsOpenCopy self.old }
         requires peeked { IsUp self.old → IsPeeked self.old cell }
 
         ensures frozen { IsFrozen self.old → (result ≡ Err ReplicaFault.Frozen) × (self.new ≡ self.old) }
@@ -132,7 +132,7 @@ impl<D: Disk> Replica<D> {
         ensures ends { IfErr result (EndsRun (D.fault_count self.new.disk) self.old self.new) }
         ensures stands { D.Tells → (s : Stored) → Stands D.files self.old s → Stands D.files self.new s }
         ensures deletes { D.Tells → (place : ℕ) → MayDelete D.files self.old place → MayDelete D.files self.new place }
-        ensures open { IsOpen self.new }
+        ensures open { IsOpenCopy self.new }
         ensures same { is_frozen self.new ≡ is_frozen self.old }
         ensures stuck { is_stuck self.new ≡ is_stuck self.old }
 
@@ -152,7 +152,7 @@ impl<D: Disk> Replica<D> {
     ///
     /// Any refusal ends the compaction. `Failed` freezes the replica where the head may name either generation.
     pub fn finish(&mut self) -> Result<Vec<OpenCell<D::Piece>>, ReplicaFault>
-        requires open { IsOpen self.old }
+        requires open { IsOpenCopy self.old }
 
         ensures frozen { IsFrozen self.old → (result ≡ Err ReplicaFault.Frozen) × (self.new ≡ self.old) }
         ensures thawed { IsErrOf result ReplicaFault.Frozen → IsFrozen self.old }
@@ -181,7 +181,7 @@ impl<D: Disk> Replica<D> {
         ensures deletes { D.Tells → (place : ℕ) → MayDelete D.files self.old place → OnErr result (MayDelete D.files self.new place) }
         ensures goal { goal_of self.new ≡ None }
         ensures faults { (goal : ℕ) → IsUp self.old → goal_of self.old ≡ Some goal → faults_at_end self.new ≡ D.fault_count self.new.disk }
-        ensures open { IsOpen self.new }
+        ensures open { IsOpenCopy self.new }
 
         ensures causes { IfErr result (IsRunFault (D.fault_count self.old.disk) (D.fault_count self.new.disk)) }
         ensures counts { D.fault_count self.old.disk ≤ D.fault_count self.new.disk }
@@ -203,7 +203,7 @@ impl<D: Disk> Replica<D> {
         ensures holds { D.Tells → (stuck : Bool) (s t : Stored) → Holds D.files self.old stuck s t → Holds D.files self.new stuck s t }
         ensures deletes { D.Tells → (place : ℕ) → MayDelete D.files self.old place → MayDelete D.files self.new place }
         ensures up { IsUp self.old → IsUp self.new }
-        ensures open { IsOpen self.old → IsOpen self.new }
+        ensures open { IsOpenCopy self.old → IsOpenCopy self.new }
         ensures same { is_frozen self.new ≡ is_frozen self.old }
         ensures stuck { is_stuck self.new ≡ is_stuck self.old }
         ensures disk { self.new.disk ≡ self.old.disk }

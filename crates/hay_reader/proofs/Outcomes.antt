@@ -23,7 +23,7 @@ use Rattle.hay_map.specs.Sealed.{SealedNeedle}
 use Rattle.hay_map.specs.declared.place.Place.{Place}
 use Rattle.hay_map.specs.declared.place.Place.TheVariants as place
 use Rattle.hay_reader.specs.Causes.{ArmRises, ArmUse, EachPair, HasArmCause, IsArm, PassesRow, PassedBefore, tried_from}
-use Rattle.hay_reader.specs.Shown.{Answers, HasCauses, ReadsRow, Shows, ShowsPlace}
+use Rattle.hay_reader.specs.Shown.{ReadAnswers, HasCauses, ReadsRow, Shows, ShowsPlace}
 use Rattle.hay_reader.specs.Tried.{HasPhoto, PlaceGives}
 use Rattle.hay_reader.proofs.Passing.{all_weaken}
 use Rattle.hay_reader.specs.declared.seat.ReadReply.{ReadReply}
@@ -173,7 +173,7 @@ shows_outcome Tells arm start row cookie put j showing pair outcomes later means
 
 -- where each place of a row means an outcome, the reply is one of these outcomes
 pub answers_row : {P : Type 0} (Tells : Type 0) (arm : ArmUse) (start : ℕ) (row : List (Place P)) (cookie : Cookie) (put : List ℕ) (read : ReadReply) (pair : Pair) (outcomes : List Outcome) → arm.before ≤ arm.after
-    → AllZip (PlaceMeans Tells pair) row outcomes → ReadsRow Tells arm start row cookie put read → Answers start cookie arm.before arm.after outcomes put read
+    → AllZip (PlaceMeans Tells pair) row outcomes → ReadsRow Tells arm start row cookie put read → ReadAnswers start cookie arm.before arm.after outcomes put read
 answers_row Tells arm start row cookie put (reply.Photo j) pair outcomes later means reads =
     let shows = shows_outcome Tells arm start row cookie put j shown.Photo pair outcomes later means reads in
     subst (λ (what : Outcome). Shows start arm.before arm.after outcomes j what) shows.1 shows.2

@@ -43,13 +43,13 @@ pub record Shows (start before after : ℕ) (outcomes : List Outcome) (j : ℕ) 
   pub passed : PassedBefore start (length outcomes) j before after
 
 -- what a reply says of the outcomes that the replicas have; `bytes` are those that the photo has
-abbrev pub Answers : ℕ → Cookie → ℕ → ℕ → List Outcome → List ℕ → ReadReply → Type 0
-Answers start cookie before after outcomes bytes (reply.Photo j) =
+abbrev pub ReadAnswers : ℕ → Cookie → ℕ → ℕ → List Outcome → List ℕ → ReadReply → Type 0
+ReadAnswers start cookie before after outcomes bytes (reply.Photo j) =
     Shows start before after outcomes j (outcome.Photo (record { cookie = cookie; bytes = bytes }))
-Answers start cookie before after outcomes bytes (reply.Gone j) = Shows start before after outcomes j outcome.Nothing
-Answers start cookie before after outcomes bytes (reply.WrongCookie j) =
+ReadAnswers start cookie before after outcomes bytes (reply.Gone j) = Shows start before after outcomes j outcome.Nothing
+ReadAnswers start cookie before after outcomes bytes (reply.WrongCookie j) =
     (photo : Photo) × (photo.cookie ≢ cookie) × Shows start before after outcomes j (outcome.Photo photo)
-Answers start cookie before after outcomes bytes (reply.Unreadable causes) = AllByRecursion (λ passed. IsArm passed.cause) causes
+ReadAnswers start cookie before after outcomes bytes (reply.Unreadable causes) = AllByRecursion (λ passed. IsArm passed.cause) causes
 
 -- where all replicas were passed over, each has its cause
 abbrev pub HasCauses : {P : Type 0} → ℕ → List (Place P) → ℕ → ℕ → ReadReply → Type 0

@@ -17,7 +17,7 @@ use Rattle.hay_legal.specs.declared.turn.Turn.{Turn}
 use Rattle.hay_legal.specs.declared.turn.Turn.TheVariants.{Restart}
 use Rattle.hay_legal.specs.Items.{Asked, items_of, item_of_turn}
 use Rattle.hay_legal.specs.Items.Asked.{Alone}
-use Rattle.hay_legal.specs.Known.{CameUp, Rises, disk_count, fault_count}
+use Rattle.hay_legal.specs.Known.{CameUp, FaultsRose, disk_count, fault_count}
 use Rattle.hay_legal.specs.Legal.{Legal}
 use Rattle.hay_legal.specs.Stands.{Outside, StandsOn}
 use Rattle.hay_legal.specs.Statuses as statuses
@@ -34,7 +34,7 @@ use Rattle.hay_run.specs.Stops.{ending_of}
 use Rattle.hay_run.specs.Stream.{Held, rest_of}
 use Rattle.hay_run.specs.Lines.{TookPart, TookOver, TookSome}
 use Rattle.hay_run.specs.Items.{TookItems, TookOpen}
-use Rattle.hay_run.specs.Turns.{Writing, Standing, Answers, GoesOn, Refused, TurnedPart, RestartRefused, Broke, HoldsNone, StopsTurn}
+use Rattle.hay_run.specs.Turns.{Writing, Standing, AnswersTurns, IsGoingOn, Refused, TurnedPart, RefusesRestart, Broke, HoldsNone, StopsTurn}
 use Rattle.hay_run.specs.Runs.{RanTo, ReadFront}
 use Rattle.hay_run.proofs.Asking.{took_items_more}
 use Rattle.hay_run.proofs.Reading.{ReadsFront, rest_none, breaks_off, over_part, front_some, front_read}
@@ -68,7 +68,7 @@ front_shorter front more all is = (more ++ is.0, is.1 ∙ append_assoc front mor
 
 -- RESTARTS THAT WANTED MEMORY
 
-none_wanting : (turns before : List Turn) (line pick : ℕ) (notes : List Note) (after : Known) (behind : List Turn) → AllByRecursion GoesOn turns
+none_wanting : (turns before : List Turn) (line pick : ℕ) (notes : List Note) (after : Known) (behind : List Turn) → AllByRecursion IsGoingOn turns
     → turns ≡ before ++ Restart line pick NoMem notes after ∷ behind → ⊥
 none_wanting [] [] line pick notes after behind each is = cc
 none_wanting [] (first ∷ before) line pick notes after behind each is = cc
@@ -78,7 +78,7 @@ none_wanting (turn ∷ turns) (first ∷ before) line pick notes after behind ea
     let same : turns ≡ before ++ Restart line pick NoMem notes after ∷ behind = cc in none_wanting turns before line pick notes after behind each.1 same
 
 -- in turns that all go on there is none
-pub wants_none : (ending : Ending) (turns : List Turn) → AllByRecursion GoesOn turns → statuses.WantsLast ending turns
+pub wants_none : (ending : Ending) (turns : List Turn) → AllByRecursion IsGoingOn turns → statuses.WantsLast ending turns
 wants_none ending turns each = λ before line pick notes after behind is. absurd (none_wanting turns before line pick notes after behind each is)
 
 -- nothing stands behind one
@@ -90,7 +90,7 @@ no_turns [] none = refl
 no_turns (turn ∷ turns) none = absurd (omega (arith, none))
 
 -- one more turn, of any kind, may be one
-last_more : (turns more : List Turn) → AllByRecursion GoesOn turns → length more ≤ 1 → (before : List Turn) (line pick : ℕ) (notes : List Note) (after : Known) (behind : List Turn)
+last_more : (turns more : List Turn) → AllByRecursion IsGoingOn turns → length more ≤ 1 → (before : List Turn) (line pick : ℕ) (notes : List Note) (after : Known) (behind : List Turn)
     → turns ++ more ≡ before ++ Restart line pick NoMem notes after ∷ behind → behind ≡ []
 last_more [] more each few before line pick notes after behind is =
     no_turns behind (omega (arith, few, ap length is, length-append before (Restart line pick NoMem notes after ∷ behind)))
@@ -100,7 +100,7 @@ last_more (turn ∷ turns) more each few (first ∷ before) line pick notes afte
     let same : turns ++ more ≡ before ++ Restart line pick NoMem notes after ∷ behind = cc in
     last_more turns more each.1 few before line pick notes after behind same
 
-pub last_none : (turns : List Turn) → AllByRecursion GoesOn turns → LastWants turns
+pub last_none : (turns : List Turn) → AllByRecursion IsGoingOn turns → LastWants turns
 last_none turns each = λ before line pick notes after behind is. absurd (none_wanting turns before line pick notes after behind each is)
 
 -- A RUN THAT STOPPED WHILE IT WROTE
@@ -111,7 +111,7 @@ pub record RanPart (settings : Settings) (k : Known) (script : List ℕ) (left :
   pub text : List ℕ
   pub wrote : written ≡ Some (held ++ text)
   pub opened : Known
-  pub opening : Rises k opened
+  pub opening : FaultsRose k opened
   pub turns : List Turn
   pub t : Known
   pub legal : Legal settings opened turns t
@@ -164,13 +164,13 @@ tells_failure settings known t given slot count stands within came =
 
 module _ {D P A : Type 0} (Tells : Type 0) (Begins Left : Standing D P A) (settings : Settings) (taken given : Outside) (store store' : Open D P A) (k start : Known)
     (tells : Tells)
-    (opening : Rises k start)
+    (opening : FaultsRose k start)
     (store_is : store.settings ≡ settings) (store'_is : store'.settings ≡ settings)
     (begins : Begins store start)
     (weaken : (between : Open D P A) → between.settings ≡ settings → (known : Known) → Begins between known → Left between known)
     (closed : (known : Known) → Left store' known → StandsOn (IsReplica settings) (OpensRows settings) settings known given)
     (script held : List ℕ) (left written' : Option (List ℕ)) where
-  pub ran_all : (asked : List Asked) → asked ≡ items_of script → Answers GoesOn Wrote Begins start asked (Some (held ++ header_line settings)) store' written' → left ≡ Some []
+  pub ran_all : (asked : List Asked) → asked ≡ items_of script → AnswersTurns IsGoingOn Wrote Begins start asked (Some (held ++ header_line settings)) store' written' → left ≡ Some []
       → RanTo settings k ReadAll script left taken given held written'
   ran_all asked all answers over =
       let P : Settings → Type 0 = λ s. Legal s start answers.turns answers.t in
@@ -193,7 +193,7 @@ module _ {D P A : Type 0} (Tells : Type 0) (Begins Left : Standing D P A) (setti
   module _ (asked : List Asked) (number : ℕ) (rest : Option (List ℕ)) (mid : Open D P A) (text : Option (List ℕ)) (holding : Held)
       (took : TookItems 1 None (Some script) asked number rest false)
       (mid_is : mid.settings ≡ store.settings)
-      (answers : Answers GoesOn Wrote Begins start asked (Some (held ++ header_line settings)) mid text) where
+      (answers : AnswersTurns IsGoingOn Wrote Begins start asked (Some (held ++ header_line settings)) mid text) where
     mid_legal : Legal settings start answers.turns answers.t
     mid_legal = let P : Settings → Type 0 = λ s. Legal s start answers.turns answers.t in subst P (mid_is ∙ store_is) answers.legal
 
@@ -322,7 +322,7 @@ module _ {D P A : Type 0} (Tells : Type 0) (Begins Left : Standing D P A) (setti
           });
         }
 
-    restart_reads : (Writes : Writing) (r : RestartRefused Tells Writes Begins Left mid number rest text store' (rest_of left holding) written')
+    restart_reads : (Writes : Writing) (r : RefusesRestart Tells Writes Begins Left mid number rest text store' (rest_of left holding) written')
         → ReadsFront script (asked ++ Alone number (item.Command (asks.Restart r.pick)) ∷ []) left
     restart_reads Writes r =
         front_read script (asked ++ Alone number (item.Command (asks.Restart r.pick)) ∷ []) r.next left holding r.ended
@@ -336,7 +336,7 @@ module _ {D P A : Type 0} (Tells : Type 0) (Begins Left : Standing D P A) (setti
     refused_left : (Writes : Writing) (f : Refused Writes Left answers.t text store' written') → statuses.IsNotReopened (IsReplica settings) (OpensRows settings) settings answers.t given
     refused_left Writes f = record { left = f.t; leaves = f.leaves; stands = closed f.t f.left }
 
-    pub ran_refused : RestartRefused Tells WrotePart Begins Left mid number rest text store' (rest_of left holding) written' → RanPart settings k script left taken given held written'
+    pub ran_refused : RefusesRestart Tells WrotePart Begins Left mid number rest text store' (rest_of left holding) written' → RanPart settings k script left taken given held written'
     ran_refused r =
         let f = r.refused tells answers.t answers.left in
         let reads = restart_reads WrotePart r in
@@ -369,7 +369,7 @@ module _ {D P A : Type 0} (Tells : Type 0) (Begins Left : Standing D P A) (setti
     ran_broke (inl p) = ran_turn p
     ran_broke (inr r) = ran_refused r
 
-    pub ran_store : RestartRefused Tells Wrote Begins Left mid number rest text store' (rest_of left holding) written' → RanTo settings k NotOpened script left taken given held written'
+    pub ran_store : RefusesRestart Tells Wrote Begins Left mid number rest text store' (rest_of left holding) written' → RanTo settings k NotOpened script left taken given held written'
     ran_store r =
         let f = r.refused tells answers.t answers.left in
         let reads = restart_reads Wrote r in

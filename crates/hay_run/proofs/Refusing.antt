@@ -15,7 +15,7 @@ use Rattle.hay_legal.specs.declared.known.Known.{Known}
 use Rattle.hay_legal.specs.Known.{CameUp, disk_count, replica_at, volume_at}
 use Rattle.hay_legal.specs.Stands.{Contents, Outside, found_of}
 use Rattle.hay_legal.specs.Statuses as statuses
-use Rattle.hay_legal.specs.Statuses.{Ending, contents_of, status_of}
+use Rattle.hay_legal.specs.Statuses.{Ending, read_contents, status_of}
 use Rattle.hay_legal.specs.Statuses.Ending.{ReadAll, OutputFault, InputFault, NoMemory, NotOpened, TooLong}
 use Rattle.hay_legal.proofs.Reopening.{new_outcome}
 use Rattle.hay_cluster.specs.declared.fault.ClusterFault.{ClusterFault}
@@ -44,9 +44,9 @@ pub untouched : (settings : Settings) (taken : Outside) (k : Known) → IsTaken 
     → statuses.IsUnopened (IsReplica settings) (OpensRows settings) IsVoid settings k taken taken
 untouched settings taken k is = record {
   images = λ image may. (
-    contents_of taken,
+    read_contents taken,
     λ slot within. inr (inr (refl, λ file. refl)),
-    new_outcome (IsReplica settings) (OpensRows settings) settings k (contents_of taken) is.new is.found,
+    new_outcome (IsReplica settings) (OpensRows settings) settings k (read_contents taken) is.new is.found,
   );
   faults = λ slot within. let same = is.faults slot within in omega (arith, same);
   fuses = is.fuses;
@@ -54,12 +54,12 @@ untouched settings taken k is = record {
 }
 
 -- what an opening finds is not damaged
-pub not_damaged : (settings : Settings) → 1 ≤ settings.replicas → (taken : Outside) (k : Known) → IsTaken settings taken k → (slot file at : ℕ) → IsDamagedDisk settings (contents_of taken) slot file at → ⊥
+pub not_damaged : (settings : Settings) → 1 ≤ settings.replicas → (taken : Outside) (k : Known) → IsTaken settings taken k → (slot file at : ℕ) → IsDamagedDisk settings (read_contents taken) slot file at → ⊥
 not_damaged settings some taken k is zero file at damaged = damaged.not_whole.directory refl k.directory.rows is.found.directory
 not_damaged settings some taken k is (suc n) file at damaged =
     let there = slot_found settings n some damaged.within in
     let found = found_of (replica_at (volume_at k there.0) there.1) in
-    let P : ℕ → Type 0 = λ slot. IsReplica settings there.0 there.1 (contents_of taken slot) found in
+    let P : ℕ → Type 0 = λ slot. IsReplica settings there.0 there.1 (read_contents taken slot) found in
     damaged.not_whole.replica there.0 there.1 there.2 there.3 (sym there.4) found (subst P there.4 (is.found.replicas there.0 there.1 there.2 there.3))
 
 -- the same of disks with the same contents
@@ -87,7 +87,7 @@ module _ (settings : Settings) (shelf shelf' : ℕ) (disks disks' : ℕ → Held
     (back : (lane : ℕ) → lane < 8 → IsArmBack (arms lane) (arms' lane))
     (some : 1 ≤ settings.replicas) where
   stands_in : (slot : ℕ) (image : ℕ → (ℕ → List ℕ)) → MayLeave (disks' slot).files (image slot) → IsKept settings slot (disks slot) (disks' slot)
-      → statuses.StandsIn (IsReplica settings) (OpensRows settings) IsVoid settings (outside_of shelf disks arms) (outside_of shelf' disks' arms') image slot (contents_of (outside_of shelf disks arms) slot)
+      → statuses.StandsIn (IsReplica settings) (OpensRows settings) IsVoid settings (outside_of shelf disks arms) (outside_of shelf' disks' arms') image slot (read_contents (outside_of shelf disks arms) slot)
   stands_in slot image may (inl void) = inr (inl (record { was = void.void; stands_for = void.void; nothing = void.nothing (image slot) may }))
   stands_in slot image may (inr (inl same)) = inr (inr (same, λ file. refl))
   stands_in slot image may (inr (inr all)) = inl (λ file. sym (all (image slot) may file))
@@ -95,9 +95,9 @@ module _ (settings : Settings) (shelf shelf' : ℕ) (disks disks' : ℕ → Held
   unopened : statuses.IsUnopened (IsReplica settings) (OpensRows settings) IsVoid settings k (outside_of shelf disks arms) (outside_of shelf' disks' arms')
   unopened = record {
     images = λ image may. (
-      contents_of (outside_of shelf disks arms),
+      read_contents (outside_of shelf disks arms),
       λ slot within. stands_in slot image (may slot within) (kept slot within),
-      new_outcome (IsReplica settings) (OpensRows settings) settings k (contents_of (outside_of shelf disks arms)) taken.new taken.found,
+      new_outcome (IsReplica settings) (OpensRows settings) settings k (read_contents (outside_of shelf disks arms)) taken.new taken.found,
     );
     faults = λ slot within. let same = taken.faults slot within in let rise = (counts slot within).faults_rise in omega (arith, same, rise);
     fuses = λ slot within. taken.fuses slot within ∙ sym (counts slot within).fuses_are;
@@ -249,8 +249,8 @@ module _ (Tells : Type 0) (settings : Settings) (taken given : Outside) where
   pub cause_of : (fault : ClusterFault)
       → ((count : ℕ) → fault ≡ refusal.Shelf count → Rose taken.shelf given.shelf × (count ≡ given.shelf))
       → ((slot count : ℕ) → fault ≡ refusal.Failed slot count → (slot < disk_count settings) × Rose (taken.faults slot) (given.faults slot) × (count ≡ given.faults slot))
-      → (Tells → (slot count : ℕ) → fault ≡ refusal.Failed slot count → IsUndamagedBelow settings slot (contents_of taken))
-      → (Tells → (slot file at : ℕ) → fault ≡ refusal.Damaged slot file at → IsDamagedDisk settings (contents_of taken) slot file at × IsDamagedDisk settings (contents_of given) slot file at)
+      → (Tells → (slot count : ℕ) → fault ≡ refusal.Failed slot count → IsUndamagedBelow settings slot (read_contents taken))
+      → (Tells → (slot file at : ℕ) → fault ≡ refusal.Damaged slot file at → IsDamagedDisk settings (read_contents taken) slot file at × IsDamagedDisk settings (read_contents given) slot file at)
       → (note : Note) → note_of fault ≡ Some note → IsFirstRefusal Tells settings taken given note
   cause_of (refusal.Shelf count) of_shelf of_disk of_lower of_damage note is =
       let same : note ≡ told.OpenShelf count = cc in let rose = of_shelf count refl in inl (count, same, rose.0, rose.1)
@@ -265,9 +265,9 @@ module _ (Tells : Type 0) (settings : Settings) (taken given : Outside) where
       (same : store.settings ≡ settings)
       (later : (slot : ℕ) → slot < disk_count settings → taken.faults slot ≤ slice_index (counts_of faults store) slot)
       (back : (slot : ℕ) → slot < disk_count settings → given.faults slot ≡ slice_index (counts_of faults store') slot)
-      (contents : Tells → (slot : ℕ) → slot < disk_count settings → contents_of given slot ≡ contents_in files store' slot)
+      (contents : Tells → (slot : ℕ) → slot < disk_count settings → read_contents given slot ≡ contents_in files store' slot)
       (stands : Tells → (k : Known) → IsTaken settings taken k → (t : Known) × Begins store t)
-      (sound : Tells → IsUndamaged settings (contents_of taken)) where
+      (sound : Tells → IsUndamaged settings (read_contents taken)) where
     cause_later : (note : Note) → RefusedFor Tells Begins files faults store store' note → IsLaterRefusal Tells settings taken given note
     cause_later note (inl (slot, count, is, below, rose, count_is)) =
         let within : slot < disk_count settings = subst (λ (s : Settings). slot < disk_count s) same below in
@@ -291,7 +291,7 @@ module _ (Tells : Type 0) (settings : Settings) (taken given : Outside) where
               let damaged : IsDamagedDisk settings (contents_in files store') slot file at = subst (λ (s : Settings). IsDamagedDisk s (contents_in files store') slot file at) same (why tells).1 in (
                 λ k held. let s = stands tells k held in (why tells).0 s.0 s.1,
                 sound tells,
-                damaged_as settings slot file at (contents_in files store') (contents_of given) (sym (contents tells slot damaged.within))
+                damaged_as settings slot file at (contents_in files store') (read_contents given) (sym (contents tells slot damaged.within))
                     (λ lower below. sym (contents tells lower (let within = damaged.within in omega (arith, below, within)))) damaged,
               ),
         )

@@ -16,7 +16,7 @@ use Rattle.hay_legal.specs.Items.Asked.{Alone}
 use Rattle.hay_needle.specs.declared.settings.Settings.{Settings}
 use Rattle.hay_legal.specs.declared.turn.Turn.{Turn}
 use Rattle.hay_legal.specs.declared.turn.Turn.TheVariants.{Restart}
-use Rattle.hay_legal.specs.Known.{CameUp, Rises, disk_count, fault_count}
+use Rattle.hay_legal.specs.Known.{CameUp, FaultsRose, disk_count, fault_count}
 use Rattle.hay_legal.specs.Restarts.{IsRestarted}
 use Rattle.hay_cluster.specs.declared.fault.ClusterFault.{ClusterFault}
 use Rattle.hay_cluster.specs.declared.fault.ClusterFault.TheVariants as refusal
@@ -28,7 +28,7 @@ use Rattle.hay_run.specs.declared.stops.Stop.{Stop}
 use Rattle.hay_run.specs.declared.stops.Stop.TheVariants as stop
 use Rattle.hay_run.specs.Stops.{note_of}
 use Rattle.hay_run.specs.Stopping.{RefusedAsked, BrokeAsked}
-use Rattle.hay_run.specs.Turns.{Writing, Standing, Answers, AnyTurn, counts_of, Halts}
+use Rattle.hay_run.specs.Turns.{Writing, Standing, AnswersTurns, AnyTurn, counts_of, Halts}
 use Rattle.hay_run.proofs.Turning.{answers_restart}
 
 pub not_store : (why : Stop) → IsErrOf {T = Unit {0}} {E = Stop} (Err why) stop.Output ⊎ IsErrOf {T = Unit {0}} {E = Stop} (Err why) stop.NoMemory → why ≢ stop.Store
@@ -50,7 +50,7 @@ holds_counts files faults fuses arm_faults store k holds = holds.fault_counts
 pub restarted : {D P A : Type 0} (Left : Standing D P A) (Is : Turn → Type 0) → ((line pick d : ℕ) (notes : List Note) (after : Known) → Is (Restart line pick (Restarted d) notes after))
     → (Writes : Writing) (k t : Known) (number pick rows count : ℕ) (notes slice : List Note) (written written' : Option (List ℕ)) (store : Open D P A)
     → IsRestarted store.settings k count notes t → rows ≡ count → slice ≡ notes → Left store t → Writes written (numbered_line number (Restarted rows) ++ flat_map note_line slice) written'
-    → Answers Is Writes Left k (Alone number (item.Command (asks.Restart pick)) ∷ []) written store written'
+    → AnswersTurns Is Writes Left k (Alone number (item.Command (asks.Restart pick)) ∷ []) written store written'
 restarted Left Is is_one Writes k t number pick rows count notes slice written written' store is same_rows same_notes left wrote =
     let P : ℕ → Type 0 = λ d. IsRestarted store.settings k d notes t in
     let Q : List Note → Type 0 = λ told. Writes written (numbered_line number (Restarted rows) ++ flat_map note_line told) written' in
@@ -60,7 +60,7 @@ restarted Left Is is_one Writes k t number pick rows count notes slice written w
 
 -- what was known, but for counts that may have risen
 abbrev pub LeavesKnown : {D P A : Type 0} → Standing D P A → Known → Open D P A → Type 0
-LeavesKnown Left k store = (t : Known) × Rises k t × Left store t
+LeavesKnown Left k store = (t : Known) × FaultsRose k t × Left store t
 
 -- a count that rose to what is told came up to it
 pub rose_came_up : (before after count : ℕ) → Rose before after → count ≡ after → CameUp before count after

@@ -7,7 +7,7 @@ use Rattle.hay_cluster.specs.Store.{Open}
 use Rattle.hay_disk.specs.Streams.{WrotePart}
 use Rattle.hay_run.specs.Items.{TookItems}
 use Rattle.hay_run.specs.Stopping.{RefusedAsked, BrokeAsked}
-use Rattle.hay_run.specs.Turns.{Writing, Standing, RestartRefused, Broke}
+use Rattle.hay_run.specs.Turns.{Writing, Standing, RefusesRestart, Broke}
 
 -- a line asks for one thing at most
 pub outside-one : (number : ℕ) (said : Line) → length (outside number said).0 ≤ 1
@@ -22,7 +22,7 @@ module _ {D P A : Type 0} (Tells : Type 0) where
   pub refused_line : (Writes : Writing) (Begins Left : Standing D P A) (number : ℕ) (said : Line) (store store' : Open D P A) (written written' before after : Option (List ℕ)) (ended : Bool)
       → TookItems number None before (outside number said).0 (number + 1) after ended
       → RefusedAsked Tells Writes Begins Left number (outside number said).0 store written store' written'
-      → RestartRefused Tells Writes Begins Left store number before written store' after written'
+      → RefusesRestart Tells Writes Begins Left store number before written store' after written'
   refused_line Writes Begins Left number said store store' written written' before after ended took refused =
       let P : List Asked → Type 0 = λ asked. TookItems number None before asked (number + 1) after ended in
       record {

@@ -25,13 +25,13 @@ use Rattle.hay_legal.specs.declared.turn.Turn.{Turn}
 use Rattle.hay_legal.specs.declared.turn.Turn.TheVariants.{Plain, Lanes, Restart}
 use Rattle.hay_legal.specs.Items.{Asked, InBlock, item_of_turn, line_asked}
 use Rattle.hay_legal.specs.Items.Asked.{Alone, Block}
-use Rattle.hay_legal.specs.Known.{Leaves, Rises}
+use Rattle.hay_legal.specs.Known.{Leaves, FaultsRose}
 use Rattle.hay_legal.specs.Legal.{Legal, known_after, IsUnbuiltLine}
 use Rattle.hay_legal.specs.Plain.{LegalCommand}
 use Rattle.hay_legal.specs.Restarts.{LegalRestart}
 use Rattle.hay_legal.specs.Transcript.{turn_text, answered_line}
 use Rattle.hay_cluster.specs.Store.{Open}
-use Rattle.hay_run.specs.Turns.{Writing, Standing, Answers, Appends, GoesOn}
+use Rattle.hay_run.specs.Turns.{Writing, Standing, AnswersTurns, Appends, IsGoingOn}
 use Rattle.hay_run.specs.Unbuilt.{unbuilt_reply, unbuilt_text, unbuilt_line}
 use Rattle.hay_run.proofs.Counting.{NoneFalls-same}
 
@@ -58,7 +58,7 @@ wrote_more (Some old) (Some new) after a b h k =
 leaves_same : (k : Known) → Leaves k k k
 leaves_same k = record { volumes = refl; directory = refl; drained = refl; fuses = refl; faults = NoneFalls-same k.faults; arms = NoneFalls-same k.arms }
 
-pub rises_same : (k : Known) → Rises k k
+pub rises_same : (k : Known) → FaultsRose k k
 rises_same k = record { volumes = refl; directory = refl; drained = refl; fuses = refl; faults = NoneFalls-same k.faults; arms = refl }
 
 -- a block that is not built yet
@@ -101,13 +101,13 @@ pub each_more : (Is : Turn → Type 0) (turns more : List Turn) → AllByRecursi
 each_more Is [] more h k = k
 each_more Is (turn ∷ turns) more h k = (h.0, each_more Is turns more h.1 k)
 
-pub plain_goes_on : (line : ℕ) (item : Item) (reply : Reply) (after : Known) → GoesOn (Plain line item reply after)
+pub plain_goes_on : (line : ℕ) (item : Item) (reply : Reply) (after : Known) → IsGoingOn (Plain line item reply after)
 plain_goes_on line item reply after = λ line' pick notes after' is. cc
 
-pub block_goes_on : (items : List LaneItem) (logs : List LogNote) (rows : RowNote) (after : Known) → GoesOn (Lanes items logs rows after)
+pub block_goes_on : (items : List LaneItem) (logs : List LogNote) (rows : RowNote) (after : Known) → IsGoingOn (Lanes items logs rows after)
 block_goes_on items logs rows after = λ line pick notes after' is. cc
 
-pub restarted_goes_on : (line pick d : ℕ) (notes : List Note) (after : Known) → GoesOn (Restart line pick (Restarted d) notes after)
+pub restarted_goes_on : (line pick d : ℕ) (notes : List Note) (after : Known) → IsGoingOn (Restart line pick (Restarted d) notes after)
 restarted_goes_on line pick d notes after = λ line' pick' notes' after' is. cc
 
 -- WHAT A SINK HOLDS
@@ -132,7 +132,7 @@ part_appends before after text part = wrote_appends before after (take part.0 te
 
 module _ {D P A : Type 0} (Left : Standing D P A) where
   pub answers_nothing : (k : Known) (written : Option (List ℕ)) (store : Open D P A) → Left store k
-      → Answers GoesOn Wrote Left k [] written store written
+      → AnswersTurns IsGoingOn Wrote Left k [] written store written
   answers_nothing k written store left = record {
     turns = [];
     t = k;
@@ -145,7 +145,7 @@ module _ {D P A : Type 0} (Left : Standing D P A) where
 
   pub answers_bad : (Is : Turn → Type 0) → ((line : ℕ) (item : Item) (reply : Reply) (after : Known) → Is (Plain line item reply after)) → (Writes : Writing) (k : Known) (number : ℕ) (written written' : Option (List ℕ)) (store : Open D P A)
       → Left store k → Writes written (numbered_line number BadLine) written'
-      → Answers Is Writes Left k (Alone number item.Bad ∷ []) written store written'
+      → AnswersTurns Is Writes Left k (Alone number item.Bad ∷ []) written store written'
   answers_bad Is is Writes k number written written' store left wrote =
       let P : List ℕ → Type 0 = λ text. Writes written text written' in
       record {
@@ -160,7 +160,7 @@ module _ {D P A : Type 0} (Left : Standing D P A) where
 
   pub answers_plain : (Is : Turn → Type 0) → ((line : ℕ) (item : Item) (reply : Reply) (after : Known) → Is (Plain line item reply after)) → (Writes : Writing) (k t : Known) (number : ℕ) (command : Command) (reply : Reply) (written written' : Option (List ℕ)) (store : Open D P A)
       → LegalCommand store.settings k (record { lane = 0; line = number }) command reply t → Left store t → Writes written (numbered_line number reply) written'
-      → Answers Is Writes Left k (Alone number (item.Command command) ∷ []) written store written'
+      → AnswersTurns Is Writes Left k (Alone number (item.Command command) ∷ []) written store written'
   answers_plain Is is Writes k t number command reply written written' store legal left wrote =
       let P : List ℕ → Type 0 = λ text. Writes written text written' in
       record {
@@ -176,7 +176,7 @@ module _ {D P A : Type 0} (Left : Standing D P A) where
   pub answers_restart : (Is : Turn → Type 0) (Writes : Writing) (k t : Known) (number pick : ℕ) (reply : Reply) (notes : List Note) (written written' : Option (List ℕ)) (store : Open D P A)
       → Is (Restart number pick reply notes t)
       → LegalRestart store.settings k reply notes t → Left store t → Writes written (numbered_line number reply ++ flat_map note_line notes) written'
-      → Answers Is Writes Left k (Alone number (item.Command (asks.Restart pick)) ∷ []) written store written'
+      → AnswersTurns Is Writes Left k (Alone number (item.Command (asks.Restart pick)) ∷ []) written store written'
   answers_restart Is Writes k t number pick reply notes written written' store is legal left wrote =
       let P : List ℕ → Type 0 = λ text. Writes written text written' in
       record {
@@ -191,7 +191,7 @@ module _ {D P A : Type 0} (Left : Standing D P A) where
 
   pub answers_block : (Is : Turn → Type 0) → ((items : List LaneItem) (logs : List LogNote) (rows : RowNote) (after : Known) → Is (Lanes items logs rows after)) → (Writes : Writing) (k : Known) (lines : List InBlock) (written written' : Option (List ℕ)) (store : Open D P A)
       → Left store k → Writes written (flat_map unbuilt_text lines) written'
-      → Answers Is Writes Left k (Block lines ∷ []) written store written'
+      → AnswersTurns Is Writes Left k (Block lines ∷ []) written store written'
   answers_block Is is Writes k lines written written' store left wrote =
       let P : List ℕ → Type 0 = λ text. Writes written text written' in
       record {
@@ -208,15 +208,15 @@ module _ {D P A : Type 0} (Left : Standing D P A) where
 pub answers_more : {D P A : Type 0} (Stands : Standing D P A)
     → (k : Known) (asked more : List Asked) (written written' written'' : Option (List ℕ)) (store store' : Open D P A)
     → store'.settings ≡ store.settings
-    → (first : Answers GoesOn Wrote Stands k asked written store written') → Answers GoesOn Wrote Stands first.t more written' store' written''
-    → Answers GoesOn Wrote Stands k (asked ++ more) written store' written''
+    → (first : AnswersTurns IsGoingOn Wrote Stands k asked written store written') → AnswersTurns IsGoingOn Wrote Stands first.t more written' store' written''
+    → AnswersTurns IsGoingOn Wrote Stands k (asked ++ more) written store' written''
 answers_more Stands k asked more written written' written'' store store' same first next =
     let P : Settings → Type 0 = λ settings. Legal settings k first.turns first.t in
     let Q : List ℕ → Type 0 = λ text. Wrote written text written'' in
     record {
       turns = first.turns ++ next.turns;
       t = next.t;
-      each = each_more GoesOn first.turns next.turns first.each next.each;
+      each = each_more IsGoingOn first.turns next.turns first.each next.each;
       items = map-append item_of_turn first.turns next.turns ∙ ap (λ (items : List Asked). items ++ map item_of_turn next.turns) first.items ∙ ap (λ (items : List Asked). asked ++ items) next.items;
       legal = legal_more store'.settings k first.turns first.t next.turns next.t (subst P (sym same) first.legal) next.legal;
       left = next.left;

@@ -46,16 +46,16 @@ abbrev pub TookOver : Option (List ℕ) → Option (List ℕ) → Type 0
 TookOver before after = (mid : Option (List ℕ)) × TookPart before mid × TookOne mid after
 
 -- what is kept of a line with this text: the line, or, where it is too long, whether it says nothing
-abbrev pub IsKept : LineRead → List ℕ → List ℕ → Type 0
-IsKept Line kept text = (kept ≡ text) × (length text ≤ MAX_LINE)
-IsKept TooLong kept text = (MAX_LINE < length text) × (is_skipped (words_of text) ≡ false)
-IsKept Skipped kept text = (MAX_LINE < length text) × (is_skipped (words_of text) ≡ true)
-IsKept End kept text = ⊥
+abbrev pub KeepsText : LineRead → List ℕ → List ℕ → Type 0
+KeepsText Line kept text = (kept ≡ text) × (length text ≤ MAX_LINE)
+KeepsText TooLong kept text = (MAX_LINE < length text) × (is_skipped (words_of text) ≡ false)
+KeepsText Skipped kept text = (MAX_LINE < length text) × (is_skipped (words_of text) ≡ true)
+KeepsText End kept text = ⊥
 
 -- a line was taken, or the end was met
 abbrev pub ReadsLine : LineRead → List ℕ → Option (List ℕ) → Option (List ℕ) → Bool → Type 0
 ReadsLine End kept before after ended = TookAll before [] after × (ended ≡ true)
-ReadsLine read kept before after ended = (text : List ℕ) × TookLine before text after ended × IsKept read kept text
+ReadsLine read kept before after ended = (text : List ℕ) × TookLine before text after ended × KeepsText read kept text
 
 -- how a line begins that began so and has this byte next
 abbrev pub start_behind : LineStart → ℕ → LineStart

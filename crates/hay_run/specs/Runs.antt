@@ -9,7 +9,7 @@ use Rattle.hay_reply.specs.Replies.{header_line, note_line}
 use Rattle.hay_legal.specs.Stands.{Outside}
 use Rattle.hay_legal.specs.declared.known.Known.{Known}
 use Rattle.hay_legal.specs.Known.{disk_count}
-use Rattle.hay_legal.specs.Statuses.{Ending, HoldsNew, RunsTo, contents_of}
+use Rattle.hay_legal.specs.Statuses.{Ending, HoldsNew, RunsTo, read_contents}
 use Rattle.hay_legal.specs.Statuses.Ending.{ReadAll, OutputFault, InputFault, NoMemory, NotOpened, TooLong}
 use Rattle.hay_directory.specs.Rows.{OpensRows}
 use Rattle.hay_logical.specs.Fits.{IsReplica}
@@ -64,9 +64,9 @@ TellsDisk settings taken given note slot =
 abbrev pub IsFirstRefusal : Type 0 → Settings → Outside → Outside → Note → Type 0
 IsFirstRefusal Tells settings taken given note =
     ((count : ℕ) × (note ≡ OpenShelf count) × Rose taken.shelf given.shelf × (count ≡ given.shelf))
-    ⊎ ((slot : ℕ) × TellsDisk settings taken given note slot × (Tells → IsUndamagedBelow settings slot (contents_of taken)))
+    ⊎ ((slot : ℕ) × TellsDisk settings taken given note slot × (Tells → IsUndamagedBelow settings slot (read_contents taken)))
     ⊎ ((slot : ℕ) × (file : ℕ) × (at : ℕ) × (note ≡ OpenDamaged slot file at)
-    × (Tells → IsDamagedDisk settings (contents_of taken) slot file at × IsDamagedDisk settings (contents_of given) slot file at))
+    × (Tells → IsDamagedDisk settings (read_contents taken) slot file at × IsDamagedDisk settings (read_contents given) slot file at))
 
 -- Why the opening of a restart was refused, as it is told: a disk failed; or the disks that were taken were not whole, though
 -- nothing that was read of them was damaged, and the disk in a slot is damaged at the place that is told, as it was given back.
@@ -74,7 +74,7 @@ abbrev pub IsLaterRefusal : Type 0 → Settings → Outside → Outside → Note
 IsLaterRefusal Tells settings taken given note =
     ((slot : ℕ) × TellsDisk settings taken given note slot)
     ⊎ ((slot : ℕ) × (file : ℕ) × (at : ℕ) × (note ≡ OpenDamaged slot file at)
-    × (Tells → ((k : Known) → IsTaken settings taken k → ⊥) × IsUndamaged settings (contents_of taken) × IsDamagedDisk settings (contents_of given) slot file at))
+    × (Tells → ((k : Known) → IsTaken settings taken k → ⊥) × IsUndamaged settings (read_contents taken) × IsDamagedDisk settings (read_contents given) slot file at))
 
 -- A run whose store was never opened: why, as all that was written behind what was written before tells. Nothing of the script
 -- was read, and each disk that was not void is as it was taken, but for its count.

@@ -15,7 +15,7 @@ use Rattle.hay_legal.specs.declared.turn.Turn.{Turn}
 use Rattle.hay_legal.specs.declared.turn.Turn.TheVariants.{Restart}
 use Rattle.hay_legal.specs.Items.{Asked, item_of_turn}
 use Rattle.hay_legal.specs.Items.Asked.{Alone}
-use Rattle.hay_legal.specs.Known.{CameUp, Rises, disk_count, fault_count}
+use Rattle.hay_legal.specs.Known.{CameUp, FaultsRose, disk_count, fault_count}
 use Rattle.hay_legal.specs.Legal.{Legal}
 use Rattle.hay_legal.specs.Transcript.{turn_text}
 use Rattle.hay_cluster.specs.Outside.{IsDamagedDisk}
@@ -35,14 +35,14 @@ abbrev pub Standing : Type 0 → Type 0 → Type 0 → Type 1
 Standing D P A = Open D P A → Known → Type 0
 
 -- A turn that goes on: no restart that wanted memory.
-abbrev pub GoesOn : Turn → Type 0
-GoesOn turn = (line pick : ℕ) (notes : List Note) (after : Known) → turn ≡ Restart line pick NoMem notes after → ⊥
+abbrev pub IsGoingOn : Turn → Type 0
+IsGoingOn turn = (line pick : ℕ) (notes : List Note) (after : Known) → turn ≡ Restart line pick NoMem notes after → ⊥
 
 abbrev pub AnyTurn : Turn → Type 0
 AnyTurn turn = Unit {0}
 
 -- Turns of this kind, legal from k, answer these items, and the store is left at what the last one left. Their text was written.
-pub record Answers {D P A : Type 0} (Is : Turn → Type 0) (Writes : Writing) (Left : Standing D P A) (k : Known) (asked : List Asked) (written : Option (List ℕ)) (store : Open D P A) (written' : Option (List ℕ)) : Type 0 where
+pub record AnswersTurns {D P A : Type 0} (Is : Turn → Type 0) (Writes : Writing) (Left : Standing D P A) (k : Known) (asked : List Asked) (written : Option (List ℕ)) (store : Open D P A) (written' : Option (List ℕ)) : Type 0 where
   pub turns : List Turn
   pub t : Known
   pub each : AllByRecursion Is turns
@@ -55,11 +55,11 @@ pub record Answers {D P A : Type 0} (Is : Turn → Type 0) (Writes : Writing) (L
 -- a front of their text was written.
 abbrev pub AnswersAll : {D P A : Type 0} → Type 0 → Standing D P A → List Asked → Open D P A → Option (List ℕ) → Open D P A → Option (List ℕ) → Type 0
 AnswersAll Tells Stands asked store written store' written' =
-    Tells → (k : Known) → Stands store k → Answers GoesOn Wrote Stands k asked written store' written'
+    Tells → (k : Known) → Stands store k → AnswersTurns IsGoingOn Wrote Stands k asked written store' written'
 
 abbrev pub AnswersPart : {D P A : Type 0} → Type 0 → Standing D P A → Standing D P A → List Asked → Open D P A → Option (List ℕ) → Open D P A → Option (List ℕ) → Type 0
 AnswersPart Tells Stands Left asked store written store' written' =
-    Tells → (k : Known) → Stands store k → Answers AnyTurn WrotePart Left k asked written store' written'
+    Tells → (k : Known) → Stands store k → AnswersTurns AnyTurn WrotePart Left k asked written store' written'
 
 -- a sink that tells holds what it held, and perhaps more behind it
 abbrev pub Appends : Option (List ℕ) → Option (List ℕ) → Type 0
@@ -93,7 +93,7 @@ pub record TurnedPart {D P A : Type 0} (Tells : Type 0) (Stands Left : Standing 
 -- have risen, and how the opening was refused was written.
 pub record Refused {D P A : Type 0} (Writes : Writing) (Left : Standing D P A) (k : Known) (written : Option (List ℕ)) (store : Open D P A) (written' : Option (List ℕ)) : Type 0 where
   pub t : Known
-  pub leaves : Rises k t
+  pub leaves : FaultsRose k t
   pub left : Left store t
   pub slot : ℕ
   pub count : ℕ
@@ -101,7 +101,7 @@ pub record Refused {D P A : Type 0} (Writes : Writing) (Left : Standing D P A) (
   pub came : CameUp (fault_count k slot) count (fault_count t slot)
   pub wrote : Writes written (note_line (OpenFailed slot count)) written'
 
-pub record RestartRefused {D P A : Type 0} (Tells : Type 0) (Writes : Writing) (Stands Left : Standing D P A) (store : Open D P A) (number : ℕ) (before written : Option (List ℕ)) (store' : Open D P A) (after written' : Option (List ℕ)) : Type 0 where
+pub record RefusesRestart {D P A : Type 0} (Tells : Type 0) (Writes : Writing) (Stands Left : Standing D P A) (store : Open D P A) (number : ℕ) (before written : Option (List ℕ)) (store' : Open D P A) (after written' : Option (List ℕ)) : Type 0 where
   pub pick : ℕ
   pub next : ℕ
   pub ended : Bool
@@ -112,7 +112,7 @@ pub record RestartRefused {D P A : Type 0} (Tells : Type 0) (Writes : Writing) (
 abbrev pub Broke : {D P A : Type 0} → Type 0 → Standing D P A → Standing D P A → Open D P A → ℕ → Option (List ℕ) → Option (List ℕ) → Open D P A → Option (List ℕ) → Option (List ℕ) → Type 0
 Broke Tells Stands Left store number before written store' after written' =
     TurnedPart Tells Stands Left store number before written store' after written'
-    ⊎ RestartRefused Tells WrotePart Stands Left store number before written store' after written'
+    ⊎ RefusesRestart Tells WrotePart Stands Left store number before written store' after written'
 
 -- What a run that stops has done behind the last whole turn, from that turn's number, what is left of the script, what was
 -- written and the store.
@@ -126,7 +126,7 @@ StopsTurn Tells Stands Left stop.Output number rest written store after written'
 StopsTurn Tells Stands Left stop.NoMemory number rest written store after written' store' =
     (TookSome rest after × (store' ≡ store) × (written' ≡ written)) ⊎ Broke Tells Stands Left store number rest written store' after written'
 StopsTurn Tells Stands Left stop.Store number rest written store after written' store' =
-    RestartRefused Tells Wrote Stands Left store number rest written store' after written'
+    RefusesRestart Tells Wrote Stands Left store number rest written store' after written'
 
 -- where the script breaks off, nothing that was taken is held
 abbrev pub HoldsNone : Stop → Held → Type 0

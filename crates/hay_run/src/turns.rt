@@ -19,7 +19,7 @@ ghost use Rattle.hay_run.specs.Items.{TookOpen};
 ghost use Rattle.hay_run.specs.Lines.{TookPart, TookOver, TookSome};
 ghost use Rattle.hay_run.specs.Stream.{rest_of, budget, Accounts, IsTooLong};
 ghost use Rattle.hay_run.specs.Stops.{note_of};
-ghost use Rattle.hay_run.specs.Turns.{AnswersAll, AnswersPart, Appends, Turned, RestartRefused, Broke, Halts};
+ghost use Rattle.hay_run.specs.Turns.{AnswersAll, AnswersPart, Appends, Turned, RefusesRestart, Broke, Halts};
 ghost use Rattle.hay_run.specs.Stopping.{RefusedAsked, BrokeAsked};
 
 use crate::block::read_block;
@@ -179,7 +179,7 @@ pub fn turn<D: Disk, A: Arm<D::Piece>, S: Source, K: Sink>(
     ensures over { IsErrOf result Stop.TooLong → TookOpen TookOver number None (rest_of (S.left source.old) script.old) (rest_of (S.left source.new) script.new) × (cluster.new ≡ cluster.old) × (sink.new ≡ sink.old) }
     ensures output { IsErrOf result Stop.Output → Broke D.Tells (Stands D.files D.Piece.Tells D.fault_count D.fuse_count A.fault_count) (Holds D.files D.fault_count D.fuse_count A.fault_count) cluster.old number (rest_of (S.left source.old) script.old) (K.written sink.old) cluster.new (rest_of (S.left source.new) script.new) (K.written sink.new) }
     ensures memory { IsErrOf result Stop.NoMemory → (TookSome (rest_of (S.left source.old) script.old) (rest_of (S.left source.new) script.new) × (cluster.new ≡ cluster.old) × (sink.new ≡ sink.old)) ⊎ Broke D.Tells (Stands D.files D.Piece.Tells D.fault_count D.fuse_count A.fault_count) (Holds D.files D.fault_count D.fuse_count A.fault_count) cluster.old number (rest_of (S.left source.old) script.old) (K.written sink.old) cluster.new (rest_of (S.left source.new) script.new) (K.written sink.new) }
-    ensures store { IsErrOf result Stop.Store → RestartRefused D.Tells Wrote (Stands D.files D.Piece.Tells D.fault_count D.fuse_count A.fault_count) (Holds D.files D.fault_count D.fuse_count A.fault_count) cluster.old number (rest_of (S.left source.old) script.old) (K.written sink.old) cluster.new (rest_of (S.left source.new) script.new) (K.written sink.new) }
+    ensures store { IsErrOf result Stop.Store → RefusesRestart D.Tells Wrote (Stands D.files D.Piece.Tells D.fault_count D.fuse_count A.fault_count) (Holds D.files D.fault_count D.fuse_count A.fault_count) cluster.old number (rest_of (S.left source.old) script.old) (K.written sink.old) cluster.new (rest_of (S.left source.new) script.new) (K.written sink.new) }
 
     // What was written has its causes, whatever the disks tell.
     ensures caused { IfOk result (λ next. TurnCaused cluster.old.settings (all_counts D.fault_count A.fault_count cluster.old) (all_counts D.fault_count A.fault_count cluster.new) number (rest_of (S.left source.old) script.old) (K.written sink.old) next (rest_of (S.left source.new) script.new) script.new.ended (K.written sink.new)) }

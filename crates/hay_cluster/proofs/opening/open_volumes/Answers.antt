@@ -1,7 +1,7 @@
 use Rattle.std.proofs.Common.{◌+◌, ◌<◌, get_or, sym, subst, arith, rules}
 use Rattle.std.specs.Prelude.{slice_set}
 use Rattle.std.proofs.lemmas.Result.{err_from_is_err_and}
-use Rattle.hay_logical.specs.Stands.{IsIdle}
+use Rattle.hay_logical.specs.Stands.{IsIdleVolume}
 use Rattle.hay_logical.specs.Volumes.{IsClosed}
 use Rattle.hay_cluster.specs.Opening.{MovesVolume, OpensVolume, RefusesVolumes}
 use Rattle.hay_cluster.specs.Store.{IsVolumeOf}
@@ -43,7 +43,7 @@ returns-in_err-open_volume-clause-moves g c =
     let n = c.loop-number.number in
     let y = get_or c.loop-number.volumes n c.index-volumes-number.result in
     moved_at g.D.Disk.Tells g.D.Disk.files g.D.Piece.Piece.Tells g.D.Disk.fault_count g.D.Disk.fuse_count n c.args.volumes.now c.loop-number.volumes c.loop-number.notes.items y c.open_volume.new.volume
-    c.loop-number.invariant (at_read c.loop-number.volumes n c.index-volumes-number.result (omega arith)) (each_told g.D.Disk.Tells (IsIdle g.D.Disk.files) c.args.volumes.now c.requires.idle) c.open_volume.ensures.moves
+    c.loop-number.invariant (at_read c.loop-number.volumes n c.index-volumes-number.result (omega arith)) (each_told g.D.Disk.Tells (IsIdleVolume g.D.Disk.files) c.args.volumes.now c.requires.idle) c.open_volume.ensures.moves
 
 pub returns-clause-opened : goal.returns-clause-opened
 returns-clause-opened g c =
@@ -69,7 +69,7 @@ open_volume-requires-after_bounds g c = λ κs lives.
           within,
           (
             InOrder-get (IsVolumeOf c.args.settings.now) c.args.volumes.now n y was c.requires.numbers,
-            (AllByRecursion-at IsClosed c.args.volumes.now n y was c.requires.closed, λ tells. AllByRecursion-at (IsIdle g.D.Disk.files) c.args.volumes.now n y was (c.requires.idle tells)),
+            (AllByRecursion-at IsClosed c.args.volumes.now n y was c.requires.closed, λ tells. AllByRecursion-at (IsIdleVolume g.D.Disk.files) c.args.volumes.now n y was (c.requires.idle tells)),
           ),
         ),
       ),

@@ -3,7 +3,7 @@ use Rattle.std.proofs.lemmas.Result.{on_ok_weaker, on_err_weaker}
 use Rattle.hay_disk.specs.Streams.{Wrote, WrotePart}
 use Rattle.hay_cluster.specs.State.{Stands, Holds}
 use Rattle.hay_cluster.proofs.Standing.{stands_holds}
-use Rattle.hay_run.specs.Turns.{AnyTurn, GoesOn}
+use Rattle.hay_run.specs.Turns.{AnyTurn, IsGoingOn}
 use Rattle.hay_run.specs.Causing.{all_counts}
 use Rattle.hay_run.proofs.Causing.{caused_reply, part_stops}
 use Rattle.hay_run.proofs.Turning.{answers_plain, plain_goes_on}
@@ -17,7 +17,7 @@ returns-clause-answers g c =
     let A = g.A.Arm in
     on_ok_weaker c.write_reply.result (λ wrote tells k stands.
     let answered = c.answer-reply.ensures.legal tells k stands in
-    answers_plain (Stands D.files g.D.Piece.Piece.Tells D.fault_count D.fuse_count A.fault_count) GoesOn plain_goes_on Wrote k answered.known c.args.number c.args.command.now c.answer-reply.result
+    answers_plain (Stands D.files g.D.Piece.Piece.Tells D.fault_count D.fuse_count A.fault_count) IsGoingOn plain_goes_on Wrote k answered.known c.args.number c.args.command.now c.answer-reply.result
     (g.K.Sink.written c.args.sink.now) (g.K.Sink.written c.write_reply.new.sink) c.answer-reply.new.self
     answered.legal answered.stands wrote)
     c.write_reply.ensures.wrote

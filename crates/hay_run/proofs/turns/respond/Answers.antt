@@ -11,7 +11,7 @@ use Rattle.hay_run.specs.declared.stops.Stop.TheVariants as stop
 use Rattle.hay_cluster.specs.Store.{disks_of}
 use Rattle.hay_run.proofs.Asking.{outside-bad, outside-none}
 use Rattle.hay_run.proofs.Counting.{NoneFalls-same}
-use Rattle.hay_run.specs.Turns.{AnyTurn, GoesOn}
+use Rattle.hay_run.specs.Turns.{AnyTurn, IsGoingOn}
 use Rattle.hay_run.specs.Causing.{all_counts}
 use Rattle.hay_reply.specs.Replies.{numbered_line}
 use Rattle.hay_reply.specs.declared.Reply.TheVariants.{BadLine}
@@ -26,7 +26,7 @@ returns-clause-answers g c =
     let says : (outside c.args.number c.args.said).0 ≡ Alone c.args.number item.Bad ∷ [] = outside-bad c.args.number c.args.said c.in-Bad.is in
     rw says
     (on_ok_weaker c.write_reply.result (λ wrote tells k stands.
-    answers_bad (Stands D.files g.D.Piece.Piece.Tells D.fault_count D.fuse_count A.fault_count) GoesOn plain_goes_on Wrote k c.args.number
+    answers_bad (Stands D.files g.D.Piece.Piece.Tells D.fault_count D.fuse_count A.fault_count) IsGoingOn plain_goes_on Wrote k c.args.number
     (g.K.Sink.written c.args.sink.now) (g.K.Sink.written c.write_reply.new.sink) c.args.cluster.now stands wrote)
     c.write_reply.ensures.wrote)
 

@@ -11,7 +11,7 @@ use Rattle.hay_cluster.proofs.Sure.{same_sure}
 use Rattle.hay_run.specs.declared.stops.Stop.{Stop}
 use Rattle.hay_run.specs.declared.stops.Stop.TheVariants as stop
 use Rattle.hay_run.proofs.Counting.{NoneFalls-kept}
-use Rattle.hay_run.specs.Turns.{AnyTurn, GoesOn}
+use Rattle.hay_run.specs.Turns.{AnyTurn, IsGoingOn}
 use Rattle.hay_run.specs.Causing.{all_counts, NoCountFalls, NotReopened, StopCaused}
 use Rattle.hay_run.proofs.Causing.{caused_restart, part_stops, refused_stops}
 use Rattle.hay_run.proofs.Turning.{on_either, restarted_goes_on}
@@ -24,7 +24,7 @@ returns-in-Ok-clause-answers g c =
     let A = g.A.Arm in
     on_ok_weaker c.write_restarted.result (λ wrote tells k stands.
     let done = c.in-Ok.ensures.reopened tells k stands in
-    restarted (Stands D.files g.D.Piece.Piece.Tells D.fault_count D.fuse_count A.fault_count) GoesOn restarted_goes_on Wrote k done.0 c.args.number c.args.pick c.rows.result _ c.in-Ok.notes c.as_slice.result.now
+    restarted (Stands D.files g.D.Piece.Piece.Tells D.fault_count D.fuse_count A.fault_count) IsGoingOn restarted_goes_on Wrote k done.0 c.args.number c.args.pick c.rows.result _ c.in-Ok.notes c.as_slice.result.now
     (g.K.Sink.written c.args.sink.now) (g.K.Sink.written c.write_restarted.new.sink) c.restart.new.self
     done.1 c.rows.ensures.count c.as_slice.ensures done.2 wrote)
     c.write_restarted.ensures.wrote

@@ -15,7 +15,7 @@ use Rattle.hay_run.specs.Stream.{rest_of}
 use Rattle.hay_run.proofs.Asking.{items_none, items_alone, items_either, open_block, open_line, some_more, some_line}
 use Rattle.hay_run.proofs.Counting.{NoneFalls-same}
 use Rattle.hay_run.proofs.Taking.{accounts_more}
-use Rattle.hay_run.specs.Turns.{AnyTurn, GoesOn}
+use Rattle.hay_run.specs.Turns.{AnyTurn, IsGoingOn}
 use Rattle.hay_run.specs.Causing.{all_counts}
 use Rattle.hay_run.specs.Unbuilt.{unbuilt_text}
 use Rattle.hay_run.proofs.Causing.{block_stops, caused_nothing, caused_one, item_stops, reading_stops, same_counts}
@@ -100,7 +100,7 @@ returns-in-Lanes-clause-turned g c =
       asked = Block c.in_ok-block.block.lines ∷ [];
       took = items_either c.args.number c.in-Lanes.lanes c.in_ok-block.next c.in_ok-block.block.lines before mid after c.next_said.new.self.ended c.read_block.new.script.ended says
           c.in_ok-block.ensures.read (λ over. let e = c.in_ok-block.ensures.empty over in (e.0, e.1, rw (e.2, e.3) refl, rw e.3 refl));
-      answers = λ tells k stands. answers_block (Stands g.D.Disk.files g.D.Piece.Piece.Tells g.D.Disk.fault_count g.D.Disk.fuse_count g.A.Arm.fault_count) GoesOn block_goes_on Wrote k c.in_ok-block.block.lines
+      answers = λ tells k stands. answers_block (Stands g.D.Disk.files g.D.Piece.Piece.Tells g.D.Disk.fault_count g.D.Disk.fuse_count g.A.Arm.fault_count) IsGoingOn block_goes_on Wrote k c.in_ok-block.block.lines
           (g.K.Sink.written c.args.sink.now) (g.K.Sink.written c.write_block.new.sink) c.args.cluster.now stands c.in_ok-write_block.ensures.wrote;
     }
 

@@ -9,7 +9,7 @@ use Rattle.hay_legal.specs.Known.{NoneFalls, volume_at}
 use Rattle.hay_logical.specs.Fits.{At}
 use Rattle.hay_logical.specs.Volumes.{Volume}
 use Rattle.hay_logical.proofs.Lists.{at_read}
-use Rattle.hay_reader.specs.Shown.{Answers, HasCauses}
+use Rattle.hay_reader.specs.Shown.{ReadAnswers, HasCauses}
 use Rattle.hay_reader.proofs.Outcomes.{answers_row, has_causes}
 use Rattle.hay_cluster.specs.Reads.{outcomes_of}
 use Rattle.hay_cluster.specs.State.{Stands}
@@ -78,7 +78,7 @@ returns-clause-read g c = λ tells k stands.
     (λ j below. known.1 j (subst (λ (s : Settings). j < s.replicas) (sym same) below)) in
     rw items (
       known.0,
-      counts_at g.A.Arm.fault_count (λ before after. Answers c.args.start c.args.cookie before after (outcomes_of (c.args.self.now).settings (volume_at k c.args.volume) c.args.pair) c.show-read.new.out.items c.show-read.result)
+      counts_at g.A.Arm.fault_count (λ before after. ReadAnswers c.args.start c.args.cookie before after (outcomes_of (c.args.self.now).settings (volume_at k c.args.volume) c.args.pair) c.show-read.new.out.items c.show-read.result)
           (c.args.self.now).arms store.arms c.args.lane arm c.show-read.new.self (ap (λ (st : Open g.row.D.Denot g.row.D-Piece.Denot g.row.A.Denot). st.arms) c.self.view_is) seat
           (answers_row g.D.Piece.Piece.Tells (record { sure = g.A.Arm.is_sure arm; before = g.A.Arm.fault_count arm; after = g.A.Arm.fault_count c.show-read.new.self }) c.args.start c.look-front.result.row c.args.cookie c.show-read.new.out.items c.show-read.result c.args.pair _ c.show-read.ensures.later means c.show-read.ensures.reads),
       seat_comes g.D.Disk.files g.D.Piece.Piece.Tells g.D.Disk.fault_count g.D.Disk.fuse_count g.A.Arm.fault_count c.args.self.now store k c.args.lane arm c.show-read.new.self c.self.view_is stands seat c.show-read.ensures.later,

@@ -3,7 +3,7 @@ use Rattle.std.proofs.lemmas.List.{take_at}
 use Rattle.std.proofs.lemmas.Result.{err_from_is_err_and}
 use Rattle.std.specs.List.{AllByRecursion, AllZip}
 use Rattle.hay_reply.specs.declared.Note.{Note}
-use Rattle.hay_logical.specs.Stands.{IsIdle}
+use Rattle.hay_logical.specs.Stands.{IsIdleVolume}
 use Rattle.hay_logical.specs.Volumes.{Volume, IsClosed}
 use Rattle.hay_mount.specs.Mounts.{InOrder}
 use Rattle.hay_cluster.specs.Opening.{MovesVolume, Gathers, OpensDirectory, OpensVolume, RefusesParts, RefusesVolumes}
@@ -18,8 +18,8 @@ pub returns-in_err-row_notes-clause-volumes : goal.returns-in_err-row_notes-clau
 returns-in_err-row_notes-clause-volumes g c =
     let items = c.self.inside.volumes.items in
     subst (λ (st : Open g.row.D.Denot g.row.D-Piece.Denot g.row.A.Denot). AllZip (MovesVolume g.D.Disk.Tells g.D.Disk.files g.D.Piece.Piece.Tells g.D.Disk.fault_count g.D.Disk.fuse_count) st.volumes items) c.self.view_is
-    (AllZip-still (MovesVolume g.D.Disk.Tells g.D.Disk.files g.D.Piece.Piece.Tells g.D.Disk.fault_count g.D.Disk.fuse_count) (λ (v : Volume g.row.D.Denot g.row.D-Piece.Denot). g.D.Disk.Tells → IsIdle g.D.Disk.files v) items (λ v idle. moves_still g.D.Disk.Tells g.D.Disk.files g.D.Piece.Piece.Tells g.D.Disk.fault_count g.D.Disk.fuse_count v idle)
-    (each_told g.D.Disk.Tells (IsIdle g.D.Disk.files) items (λ tells. subst (λ (st : Open g.row.D.Denot g.row.D-Piece.Denot g.row.A.Denot). AllByRecursion (IsIdle g.D.Disk.files) st.volumes) (sym c.self.view_is) (c.requires.idle tells))))
+    (AllZip-still (MovesVolume g.D.Disk.Tells g.D.Disk.files g.D.Piece.Piece.Tells g.D.Disk.fault_count g.D.Disk.fuse_count) (λ (v : Volume g.row.D.Denot g.row.D-Piece.Denot). g.D.Disk.Tells → IsIdleVolume g.D.Disk.files v) items (λ v idle. moves_still g.D.Disk.Tells g.D.Disk.files g.D.Piece.Piece.Tells g.D.Disk.fault_count g.D.Disk.fuse_count v idle)
+    (each_told g.D.Disk.Tells (IsIdleVolume g.D.Disk.files) items (λ tells. subst (λ (st : Open g.row.D.Denot g.row.D-Piece.Denot g.row.A.Denot). AllByRecursion (IsIdleVolume g.D.Disk.files) st.volumes) (sym c.self.view_is) (c.requires.idle tells))))
 
 pub invariant_of-self-in_err-notes : goal.invariant_of-self-in_err-notes
 invariant_of-self-in_err-notes g c =
@@ -179,7 +179,7 @@ open_volumes-requires-after_bounds g c = λ κs lives.
             subst (λ (l : List (Volume g.row.D.Denot g.row.D-Piece.Denot)). InOrder (IsVolumeOf c.self.inside.settings) 0 l) (sym value) c.self.invariant.volumes,
             (
               subst (λ (l : List (Volume g.row.D.Denot g.row.D-Piece.Denot)). AllByRecursion IsClosed l) (sym value) closed,
-              (λ tells. subst (λ (l : List (Volume g.row.D.Denot g.row.D-Piece.Denot)). AllByRecursion (IsIdle g.D.Disk.files) l) (sym value) (subst (λ (st : Open g.row.D.Denot g.row.D-Piece.Denot g.row.A.Denot). AllByRecursion (IsIdle g.D.Disk.files) st.volumes) (sym c.self.view_is) (c.requires.idle tells))),
+              (λ tells. subst (λ (l : List (Volume g.row.D.Denot g.row.D-Piece.Denot)). AllByRecursion (IsIdleVolume g.D.Disk.files) l) (sym value) (subst (λ (st : Open g.row.D.Denot g.row.D-Piece.Denot g.row.A.Denot). AllByRecursion (IsIdleVolume g.D.Disk.files) st.volumes) (sym c.self.view_is) (c.requires.idle tells))),
             ),
           ),
         ),

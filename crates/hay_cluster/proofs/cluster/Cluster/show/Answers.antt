@@ -5,7 +5,7 @@ use Rattle.hay_needle.specs.declared.needle.Outcome.TheVariants as outcome
 use Rattle.hay_needle.specs.declared.settings.Settings.{Settings}
 use Rattle.hay_legal.specs.Known.{machine_of, volume_at}
 use Rattle.hay_reply.specs.declared.Passed.{Passed}
-use Rattle.hay_reader.specs.Shown.{Answers, HasCauses, Shows}
+use Rattle.hay_reader.specs.Shown.{ReadAnswers, HasCauses, Shows}
 use Rattle.hay_reader.specs.declared.causes.PassedReplica.{PassedReplica}
 use Rattle.hay_reader.specs.declared.seat.ReadReply.{ReadReply}
 use Rattle.hay_reader.specs.declared.seat.ReadReply.TheVariants as read
@@ -37,7 +37,7 @@ pub returns-in-Photo-clause-shown : goal.returns-in-Photo-clause-shown
 returns-in-Photo-clause-shown g c = λ tells k stands home.
     let same : c.self.inside.settings ≡ (c.args.self.now).settings = ap (λ (st : Open g.row.D.Denot g.row.D-Piece.Denot g.row.A.Denot). st.settings) c.self.view_is ∙ c.fetch-front.ensures.settings in
     let read = c.fetch-front.ensures.read tells k stands in
-    let shows = subst (λ (r : ReadReply). Answers c.args.start c.args.cookie (slice_index (map g.A.Arm.fault_count (c.args.self.now).arms) c.args.tag.lane) (slice_index (map g.A.Arm.fault_count (c.fetch-front.new.self).arms) c.args.tag.lane) (outcomes_of (c.args.self.now).settings (volume_at k c.args.volume) c.args.pair) c.fetch-front.new.photo.items r) c.in-Photo.is read.1 in
+    let shows = subst (λ (r : ReadReply). ReadAnswers c.args.start c.args.cookie (slice_index (map g.A.Arm.fault_count (c.args.self.now).arms) c.args.tag.lane) (slice_index (map g.A.Arm.fault_count (c.fetch-front.new.self).arms) c.args.tag.lane) (outcomes_of (c.args.self.now).settings (volume_at k c.args.volume) c.args.pair) c.fetch-front.new.photo.items r) c.in-Photo.is read.1 in
     let here = subst (λ (bytes : List ℕ). Shows c.args.start (slice_index (map g.A.Arm.fault_count (c.args.self.now).arms) c.args.tag.lane) (slice_index (map g.A.Arm.fault_count (c.fetch-front.new.self).arms) c.args.tag.lane) (outcomes_of (c.args.self.now).settings (volume_at k c.args.volume) c.args.pair) c.in-Photo.replica (outcome.Photo (record { cookie = c.args.cookie; bytes = bytes }))) (sym c.from_vec.ensures) shows in
     let legal = read_shown g.D.Disk.files g.D.Piece.Piece.Tells g.D.Disk.fault_count g.D.Disk.fuse_count g.A.Arm.fault_count c.args.self.now c.fetch-front.new.self (c.args.self.now).settings k c.args.tag c.args.start c.args.pair c.args.volume c.in-Photo.replica c.machine_of.result c.fetch-front.result.0 c.rows-rows.result (outcome.Photo (record { cookie = c.args.cookie; bytes = c.from_vec.result }))
     (subst (λ (s : Settings). IsBuilt s) same c.self.invariant.built) c.requires.volume home read.0 (c.rows-rows.ensures.known tells k stands)
@@ -48,7 +48,7 @@ pub returns-in-Gone-clause-shown : goal.returns-in-Gone-clause-shown
 returns-in-Gone-clause-shown g c = λ tells k stands home.
     let same : c.self.inside.settings ≡ (c.args.self.now).settings = ap (λ (st : Open g.row.D.Denot g.row.D-Piece.Denot g.row.A.Denot). st.settings) c.self.view_is ∙ c.fetch-front.ensures.settings in
     let read = c.fetch-front.ensures.read tells k stands in
-    let shows = subst (λ (r : ReadReply). Answers c.args.start c.args.cookie (slice_index (map g.A.Arm.fault_count (c.args.self.now).arms) c.args.tag.lane) (slice_index (map g.A.Arm.fault_count (c.fetch-front.new.self).arms) c.args.tag.lane) (outcomes_of (c.args.self.now).settings (volume_at k c.args.volume) c.args.pair) c.fetch-front.new.photo.items r) c.in-Gone.is read.1 in
+    let shows = subst (λ (r : ReadReply). ReadAnswers c.args.start c.args.cookie (slice_index (map g.A.Arm.fault_count (c.args.self.now).arms) c.args.tag.lane) (slice_index (map g.A.Arm.fault_count (c.fetch-front.new.self).arms) c.args.tag.lane) (outcomes_of (c.args.self.now).settings (volume_at k c.args.volume) c.args.pair) c.fetch-front.new.photo.items r) c.in-Gone.is read.1 in
     let legal = read_shown g.D.Disk.files g.D.Piece.Piece.Tells g.D.Disk.fault_count g.D.Disk.fuse_count g.A.Arm.fault_count c.args.self.now c.fetch-front.new.self (c.args.self.now).settings k c.args.tag c.args.start c.args.pair c.args.volume c.in-Gone.replica c.machine_of-in-Gone.result c.fetch-front.result.0 c.rows-rows.result outcome.Nothing
     (subst (λ (s : Settings). IsBuilt s) same c.self.invariant.built) c.requires.volume home read.0 (c.rows-rows.ensures.known tells k stands)
     (c.machine_of-in-Gone.ensures.is ∙ ap (λ (s : Settings). machine_of s c.args.volume c.in-Gone.replica) same) stands read.2 shows in
@@ -58,7 +58,7 @@ pub returns-in-WrongCookie-clause-shown : goal.returns-in-WrongCookie-clause-sho
 returns-in-WrongCookie-clause-shown g c = λ tells k stands home.
     let same : c.self.inside.settings ≡ (c.args.self.now).settings = ap (λ (st : Open g.row.D.Denot g.row.D-Piece.Denot g.row.A.Denot). st.settings) c.self.view_is ∙ c.fetch-front.ensures.settings in
     let read = c.fetch-front.ensures.read tells k stands in
-    let shows = subst (λ (r : ReadReply). Answers c.args.start c.args.cookie (slice_index (map g.A.Arm.fault_count (c.args.self.now).arms) c.args.tag.lane) (slice_index (map g.A.Arm.fault_count (c.fetch-front.new.self).arms) c.args.tag.lane) (outcomes_of (c.args.self.now).settings (volume_at k c.args.volume) c.args.pair) c.fetch-front.new.photo.items r) c.in-WrongCookie.is read.1 in
+    let shows = subst (λ (r : ReadReply). ReadAnswers c.args.start c.args.cookie (slice_index (map g.A.Arm.fault_count (c.args.self.now).arms) c.args.tag.lane) (slice_index (map g.A.Arm.fault_count (c.fetch-front.new.self).arms) c.args.tag.lane) (outcomes_of (c.args.self.now).settings (volume_at k c.args.volume) c.args.pair) c.fetch-front.new.photo.items r) c.in-WrongCookie.is read.1 in
     let legal = read_shown g.D.Disk.files g.D.Piece.Piece.Tells g.D.Disk.fault_count g.D.Disk.fuse_count g.A.Arm.fault_count c.args.self.now c.fetch-front.new.self (c.args.self.now).settings k c.args.tag c.args.start c.args.pair c.args.volume c.in-WrongCookie.replica c.machine_of-in-WrongCookie.result c.fetch-front.result.0 c.rows-rows.result (outcome.Photo shows.0)
     (subst (λ (s : Settings). IsBuilt s) same c.self.invariant.built) c.requires.volume home read.0 (c.rows-rows.ensures.known tells k stands)
     (c.machine_of-in-WrongCookie.ensures.is ∙ ap (λ (s : Settings). machine_of s c.args.volume c.in-WrongCookie.replica) same) stands read.2 shows.2 in
@@ -68,7 +68,7 @@ pub returns-in-Ok-passed_of-clause-shown : goal.returns-in-Ok-passed_of-clause-s
 returns-in-Ok-passed_of-clause-shown g c = λ tells k stands home.
     let same : c.self.inside.settings ≡ (c.args.self.now).settings = ap (λ (st : Open g.row.D.Denot g.row.D-Piece.Denot g.row.A.Denot). st.settings) c.self.view_is ∙ c.fetch-front.ensures.settings in
     let read = c.fetch-front.ensures.read tells k stands in
-    let shows = subst (λ (r : ReadReply). Answers c.args.start c.args.cookie (slice_index (map g.A.Arm.fault_count (c.args.self.now).arms) c.args.tag.lane) (slice_index (map g.A.Arm.fault_count (c.fetch-front.new.self).arms) c.args.tag.lane) (outcomes_of (c.args.self.now).settings (volume_at k c.args.volume) c.args.pair) c.fetch-front.new.photo.items r) c.in-Unreadable.is read.1 in
+    let shows = subst (λ (r : ReadReply). ReadAnswers c.args.start c.args.cookie (slice_index (map g.A.Arm.fault_count (c.args.self.now).arms) c.args.tag.lane) (slice_index (map g.A.Arm.fault_count (c.fetch-front.new.self).arms) c.args.tag.lane) (outcomes_of (c.args.self.now).settings (volume_at k c.args.volume) c.args.pair) c.fetch-front.new.photo.items r) c.in-Unreadable.is read.1 in
     let causes = c.fetch-front.ensures.causes in
     let passes = subst (λ (r : ReadReply). HasCauses c.args.start causes.0 (slice_index (map g.A.Arm.fault_count (c.args.self.now).arms) c.args.tag.lane) (slice_index (map g.A.Arm.fault_count (c.fetch-front.new.self).arms) c.args.tag.lane) r) c.in-Unreadable.is causes.2 in
     let is : c.in-Ok-passed_of.causes ≡ map (passed_at (c.args.self.now).settings c.args.volume) c.in-Unreadable.causes =
