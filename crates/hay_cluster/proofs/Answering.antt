@@ -16,16 +16,20 @@ use Rattle.hay_reply.specs.declared.Reply.{Reply}
 use Rattle.hay_reply.specs.declared.Reply.TheVariants as reply
 use Rattle.hay_core.specs.declared.entry.CoreTag.{CoreTag}
 use Rattle.hay_legal.specs.declared.known.Known.{Known}
-use Rattle.hay_legal.specs.Known.{CameUp, Leaves, NoneFalls, fault_count, home_of, refusal_of, slot_of, taker_of, tries_of}
+use Rattle.hay_legal.specs.Known.{CameUp, Leaves, NoneFalls, fault_count, home_of, refusal_of, replica_on, slot_of, taker_of, tries_of}
 use Rattle.hay_legal.specs.Plain.{LegalCommand, row_pending}
 use Rattle.hay_directory.specs.declared.fault.DirFault.{DirFault}
 use Rattle.hay_directory.specs.declared.fault.DirFault.TheVariants as settling
-use Rattle.hay_cluster.specs.Causes.{CauseCameUp, Counts, IsCaused, RoseAt, RoseIn}
+use Rattle.hay_cluster.specs.Causes.{CauseCameUp, Counts, IsCaused, RoseAt, RoseIn, SetsFuse, SetsFuseOn}
 use Rattle.hay_cluster.specs.Parts.{Comes}
 use Rattle.hay_cluster.specs.Puts.{settle_reply}
 use Rattle.hay_cluster.specs.State.{Answered, Stands}
 use Rattle.hay_cluster.specs.Store.{Open, disks_of}
 use Rattle.hay_cluster.proofs.Moves.{falls_at, none_falls}
+
+-- a fuse was set on the disk of the replica that is on this machine
+pub sets_on : (settings : Settings) (v m j : ℕ) (before after : List ℕ) → replica_on settings v m ≡ Some j → SetsFuse (slot_of settings v j) before after → SetsFuseOn settings v m before after
+sets_on settings v m j before after there sets = rw there sets
 
 -- no count falls where nothing changed
 pub same_falls : {X : Type 0} (count : X → ℕ) (xs ys : List X) → ys ≡ xs → NoneFalls (map count xs) (map count ys)
@@ -96,7 +100,8 @@ pub cause_earlier : (settings : Settings) (lane : ℕ) (before mid after : Count
 cause_earlier settings lane before mid after (reply.Failed v m f) falls arms cause = rose_at_earlier settings v m f before.disks mid.disks after.disks falls cause
 cause_earlier settings lane before mid after (reply.FailedDir f) falls arms cause =
     (rose_earlier (slice_index before.disks 0) (slice_index mid.disks 0) (slice_index after.disks 0) (falls_at before.disks mid.disks 0 falls) cause.0, cause.1)
-cause_earlier settings lane before mid after (reply.Unreadable v p d passed) falls arms cause = causes_earlier settings lane v before mid after passed falls arms cause
+cause_earlier settings lane before mid after (reply.Unreadable v p d passed) falls arms cause =
+    record { start = cause.start; order = cause.order; rises = cause.rises; each = causes_earlier settings lane v before mid after passed falls arms cause.each }
 cause_earlier settings lane before mid after _ falls arms cause = tt
 
 -- A PAIR THAT GOT NO HOME

@@ -21,7 +21,7 @@ use Rattle.hay_logical.specs.Volumes.{Volume, IsSame, KeepsCounts}
 use Rattle.hay_logical.specs.Volumes as volumes
 use Rattle.hay_logical.specs.Answers.{HasFailed}
 use Rattle.hay_logical.proofs.Methods.{sups_on}
-use Rattle.hay_cluster.specs.Causes.{RoseAt}
+use Rattle.hay_cluster.specs.Causes.{RoseAt, SetsFuse}
 use Rattle.hay_cluster.specs.Parts.{Comes, InVolume}
 use Rattle.hay_cluster.specs.State.{Stands, StandsFor}
 use Rattle.hay_cluster.specs.Store.{Open, IsShaped, IsUp, IsVolumeOf, disk_of, disks_of, volume_disks}
@@ -77,6 +77,9 @@ module _ {D : Type 0} where
 
 -- THE SHAPE
 
+abbrev pub with_directory : {D P A : Type 0} → Open D P A → directory.State D → Open D P A
+with_directory store after = record store { directory = after }
+
 abbrev pub with_one : {D P A : Type 0} → Open D P A → ℕ → Volume D P → Open D P A
 with_one store v volume = record store { volumes = slice_set store.volumes v volume }
 
@@ -120,8 +123,8 @@ module _ {D P A : Type 0} where
   fuses_same faults fuses store v before after at kept =
       ap (λ ns. fuses (store.directory).disk ∷ ns) (numbers-same fuses volume_disks store.volumes v before after at (copies_same fuses before.replicas after.replicas kept.count kept.stay))
 
-  pub up_kept : (store : Open D P A) (v : ℕ) (after : Volume D P) → IsUp store → volumes.IsOpen after → IsUp (with_one store v after)
-  up_kept store v after up opened = record { directory = up.directory; volumes = AllByRecursion-set volumes.IsOpen store.volumes v after opened up.volumes }
+  pub up_kept : (store : Open D P A) (v : ℕ) (after : Volume D P) → IsUp store → volumes.IsOpenVolume after → IsUp (with_one store v after)
+  up_kept store v after up opened = record { directory = up.directory; volumes = AllByRecursion-set volumes.IsOpenVolume store.volumes v after opened up.volumes }
 
 -- A VOLUME MOVED
 
@@ -211,6 +214,11 @@ module _ {D P A : Type 0} (faults fuses : D → ℕ) where
       subst (λ (st : Open D P A). NoneFalls (map faults (disks_of st)) (map faults (disks_of (with_one store v after)))) is
       (counts_later faults fuses store v before after called.at called.counts)
 
+  pub called_fuses : (old store : Open D P A) (v : ℕ) (before after : Volume D P) → store ≡ old → Called faults fuses store v before after
+      → map fuses (disks_of (with_one store v after)) ≡ map fuses (disks_of old)
+  called_fuses old store v before after is called =
+      fuses_same faults fuses store v before after called.at called.counts ∙ ap (λ (st : Open D P A). map fuses (disks_of st)) is
+
   -- a failure that a volume told of is one of the disk in the replica's slot
   pub called_failed : (old store : Open D P A) (v : ℕ) (before after : Volume D P) (m count : ℕ) → store ≡ old → IsShaped store → Called faults fuses store v before after
       → HasFailed faults before.settings before.number before.replicas after.replicas m count
@@ -299,6 +307,18 @@ module _ {D P A : Type 0} (files : D → Files) (Tells : Type 0) (faults fuses :
         },
       )
 
+module _ {D P A : Type 0} (fuses : D → ℕ) where
+  -- as many fuses were set as before, or one more
+  pub directory_fuses : (old store : Open D P A) (after : directory.State D) → store ≡ old → fuses after.disk ≡ fuses (store.directory).disk
+      → map fuses (disks_of (with_directory store after)) ≡ map fuses (disks_of old)
+  directory_fuses old store after is kept =
+      ap (λ n. n ∷ map fuses (flat_map volume_disks store.volumes)) kept ∙ ap (λ (st : Open D P A). map fuses (disks_of st)) is
+
+  pub directory_sets : (old store : Open D P A) (after : directory.State D) → store ≡ old → IsNext (fuses (store.directory).disk) (fuses after.disk)
+      → SetsFuse 0 (map fuses (disks_of old)) (map fuses (disks_of (with_directory store after)))
+  directory_sets old store after is next =
+      subst (λ (st : Open D P A). SetsFuse 0 (map fuses (disks_of st)) (map fuses (disks_of (with_directory store after)))) is (fuses after.disk, next, refl)
+
 -- A FUSE ON A REPLICA'S DISK
 
 pub has_item : {X : Type 0} (xs : List X) (i : ℕ) → i < length xs → (x : X) × (slice_get xs i ≡ Some x)
@@ -346,6 +366,24 @@ module _ {D P A : Type 0} (faults fuses : D → ℕ) where
       (let later : faults (store.directory).disk ≤ faults (store.directory).disk = omega arith in
       (later, numbers-later faults volume_disks store.volumes v before after at (fused_later faults fuses j before after f)))
 
+  pub fused_fuses : (old store : Open D P A) (v j : ℕ) (before after : Volume D P) → store ≡ old → IsShaped store → At store.volumes v before → j < (store.settings).replicas → Fused faults fuses j before after
+      → SetsFuse (slot_of old.settings v j) (map fuses (disks_of old)) (map fuses (disks_of (with_one store v after)))
+  fused_fuses old store v j before after is shape at within f =
+      let was = volume_of store v before shape at in
+      let many : length before.replicas ≡ (store.settings).replicas = was.all ∙ ap (λ (t : Settings). t.replicas) was.settings_are in
+      let old_one = has_item before.replicas j (omega (arith, many, within)) in
+      let new_one = has_item after.replicas j (omega (arith, many, within, f.count)) in
+      let n = fuses (new_one.0).disk in
+      let slot : slot_of store.settings v j ≡ suc (v * (store.settings).replicas + j) = omega arith in
+      let next : IsNext (slice_index (map fuses (disks_of store)) (slot_of store.settings v j)) n =
+      subst (λ m. IsNext m n) (sym (count_at fuses store v j before old_one.0 shape at old_one.1)) (f.fused old_one.0 new_one.0 old_one.1 new_one.1).0 in
+      let fuses_are : map fuses (disks_of (with_one store v after)) ≡ slice_set (map fuses (disks_of store)) (slot_of store.settings v j) n =
+      sym (ap (λ i. slice_set (map fuses (disks_of store)) i n) slot
+      ∙ ap (λ ns. fuses (store.directory).disk ∷ ns) (sym (numbers-set fuses volume_disks (store.settings).replicas store.volumes v j n before after (all_long store.settings 0 store.volumes shape.volumes) at within
+      (copies_set fuses before.replicas after.replicas j n f.count f.others
+      (λ r' at'. ap (λ (q : Copy D). fuses q.disk) (same_Some r' new_one.0 (sym at' ∙ new_one.1))))))) in
+      subst (λ (st : Open D P A). SetsFuse (slot_of st.settings v j) (map fuses (disks_of st)) (map fuses (disks_of (with_one store v after)))) is (n, next, fuses_are)
+
 module _ {D P A : Type 0} (files : D → Files) (Tells : Type 0) (faults fuses : D → ℕ) (arm_faults : A → ℕ) where
   pub volume_fused : (old store : Open D P A) (k : Known) (v j : ℕ) (before after : Volume D P) → store ≡ old → At store.volumes v before → j < (store.settings).replicas
       → Stands files Tells faults fuses arm_faults old k → Fused faults fuses j before after
@@ -355,20 +393,9 @@ module _ {D P A : Type 0} (files : D → Files) (Tells : Type 0) (faults fuses :
   volume_fused old store k v j before after is at within stands f moves =
       let s : StandsFor files Tells faults fuses arm_faults store k = subst (λ (st : Open D P A). StandsFor files Tells faults fuses arm_faults st k) (sym is) stands in
       let store' = with_one store v after in
-      let was = volume_of store v before s.shape at in
-      let many : length before.replicas ≡ (store.settings).replicas = was.all ∙ ap (λ (t : Settings). t.replicas) was.settings_are in
-      let old_one = has_item before.replicas j (omega (arith, many, within)) in
-      let new_one = has_item after.replicas j (omega (arith, many, within, f.count)) in
-      let n = fuses (new_one.0).disk in
-      let slot : slot_of store.settings v j ≡ suc (v * (store.settings).replicas + j) = omega arith in
-      let next : IsNext (fuse_count k (slot_of store.settings v j)) n =
-      subst (λ m. IsNext m n) (sym (ap (λ ns. slice_index ns (slot_of store.settings v j)) s.fuse_counts ∙ count_at fuses store v j before old_one.0 s.shape at old_one.1))
-      (f.fused old_one.0 new_one.0 old_one.1 new_one.1).0 in
-      let fuses_are : slice_set (map fuses (disks_of store)) (slot_of store.settings v j) n ≡ map fuses (disks_of store') =
-      ap (λ i. slice_set (map fuses (disks_of store)) i n) slot
-      ∙ ap (λ ns. fuses (store.directory).disk ∷ ns) (sym (numbers-set fuses volume_disks (store.settings).replicas store.volumes v j n before after (all_long store.settings 0 store.volumes (s.shape).volumes) at within
-      (copies_set fuses before.replicas after.replicas j n f.count f.others
-      (λ r' at'. ap (λ (q : Copy D). fuses q.disk) (same_Some r' new_one.0 (sym at' ∙ new_one.1)))))) in
+      let set = fused_fuses faults fuses store store v j before after refl s.shape at within f in
+      let n = set.0 in
+      let next : IsNext (fuse_count k (slot_of store.settings v j)) n = subst (λ m. IsNext m n) (sym (ap (λ ns. slice_index ns (slot_of store.settings v j)) s.fuse_counts)) set.1 in
       let found : (m : ℕ) × IsNext (fuse_count k (slot_of store.settings v j)) m × Comes files Tells faults fuses arm_faults k (with_fuses k (slot_of store.settings v j) m) store' = (
         n,
         next,
@@ -388,7 +415,7 @@ module _ {D P A : Type 0} (files : D → Files) (Tells : Type 0) (faults fuses :
             volumes = AllZip-set (logical.Stands files Tells) store.volumes k.volumes v after (volume_at k v)
                 (moves (volume_at k v) (AllZip-at (logical.Stands files Tells) store.volumes k.volumes v before empty_volume at s.volumes)) s.volumes;
             fault_counts = refl;
-            fuse_counts = ap (λ ns. slice_set ns (slot_of store.settings v j) n) s.fuse_counts ∙ fuses_are;
+            fuse_counts = ap (λ ns. slice_set ns (slot_of store.settings v j) n) s.fuse_counts ∙ sym set.2;
             arm_counts = s.arm_counts;
           };
         },

@@ -361,6 +361,22 @@ module _ {D P A : Type 0} (DiskTells : Type 0) (files : D → Files) (Tells : Ty
       (subst (λ (t : Settings). NamesDamage t slot file at (contents_in files new slot)) s.settings (named_behind tells mid new fault shape m refused slot file at is))
       (subst (λ (t : Settings). IsUndamagedBelow t slot (contents_in files new)) s.settings (lower_sound tells mid new fault slot shape m refused told).1)
 
+  pub restart_failed : DiskTells → (old mid new : Open D P A) (fault : ClusterFault) → IsShaped mid → StoppedParts DiskTells files Tells faults fuses arm_faults old mid → MovedParts DiskTells files Tells faults fuses arm_faults mid new
+      → RefusesParts DiskTells files faults mid.settings mid.directory new.directory mid.volumes new.volumes fault → (slot count : ℕ) → fault ≡ Failed slot count
+      → IsUndamagedBelow old.settings slot (contents_in files new)
+  restart_failed tells old mid new fault shape s m refused slot count is =
+      subst (λ (t : Settings). IsUndamagedBelow t slot (contents_in files new)) s.settings
+      (lower_sound tells mid new fault slot shape m refused (subst (λ f. TellsSlot f slot) (sym is) refl)).1
+
+  pub restart_sound : DiskTells → (old mid new : Open D P A) (notes : List Note) → IsShaped mid → StoppedParts DiskTells files Tells faults fuses arm_faults old mid → MovedParts DiskTells files Tells faults fuses arm_faults mid new
+      → OpensParts DiskTells files Tells faults fuses mid.directory new.directory mid.volumes new.volumes notes → IsUndamaged old.settings (contents_in files new)
+  restart_sound tells old mid new notes shape s m opened =
+      let stay : LowerStay mid new (disk_count mid.settings) = λ v j x y r r' low at at'.
+      let g = gathers_at (OpensVolume DiskTells files Tells faults fuses) mid.volumes new.volumes opened.of_volumes v x y opened.volumes at at' in (g.1).undamaged tells j r r' in
+      let all : disk_count mid.settings ≤ disk_count mid.settings = omega arith in
+      subst (λ (t : Settings). IsUndamaged t (contents_in files new)) s.settings
+      (behind_sound tells mid new opened.of_directory (disk_count mid.settings) shape m opened.directory all stay)
+
   -- WHAT A FIRST OPENING NAMES
 
   lower_taken : DiskTells → (drawn : D → ℕ → ℕ) (sure : A → Bool) (disks : ℕ → HeldDisk) (arms : ℕ → HeldArm) (old : Open D P A) → IsTaken DiskTells files Tells faults fuses arm_faults drawn sure disks arms old

@@ -130,7 +130,7 @@ module _ {D P : Type 0} (DiskTells : Type 0) (files : D → Files) (Tells : Type
         left_each tells settings (v + 1) xs ys ks built less order.1 all.1 stopped.1,
       )
 
-  pub opens_up : (xs ys : List (Volume D P)) (notes : List Note) → Gathers (OpensVolume DiskTells files Tells faults fuses) xs ys notes → AllByRecursion volumes.IsOpen ys
+  pub opens_up : (xs ys : List (Volume D P)) (notes : List Note) → Gathers (OpensVolume DiskTells files Tells faults fuses) xs ys notes → AllByRecursion volumes.IsOpenVolume ys
   opens_up [] [] notes g = tt
   opens_up [] (y ∷ ys) notes g = absurd g
   opens_up (x ∷ xs) [] notes g = absurd g
@@ -142,7 +142,7 @@ module _ {D P : Type 0} (DiskTells : Type 0) (files : D → Files) (Tells : Type
   stops_closed (x ∷ xs) [] all = absurd all
   stops_closed (x ∷ xs) (y ∷ ys) all = (all.0.closed, stops_closed xs ys all.1)
 
-  pub stops_idle : DiskTells → (xs ys : List (Volume D P)) → AllZip (StopsVolume DiskTells files Tells faults fuses) xs ys → AllByRecursion (logical.IsIdle files) ys
+  pub stops_idle : DiskTells → (xs ys : List (Volume D P)) → AllZip (StopsVolume DiskTells files Tells faults fuses) xs ys → AllByRecursion (logical.IsIdleVolume files) ys
   stops_idle tells [] [] all = tt
   stops_idle tells [] (y ∷ ys) all = absurd all
   stops_idle tells (x ∷ xs) [] all = absurd all

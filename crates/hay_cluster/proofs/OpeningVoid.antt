@@ -19,7 +19,7 @@ use Rattle.hay_cluster.specs.Outside.{IsKept}
 use Rattle.hay_cluster.specs.Store.{IsShaped, Open, disks_of}
 use Rattle.hay_cluster.proofs.ClosingStore.{order_get, order_item, order_self}
 use Rattle.hay_cluster.proofs.Moves.{volume_of}
-use Rattle.hay_cluster.proofs.OpeningDamage.{superblock, zip_get}
+use Rattle.hay_cluster.proofs.OpeningDamage.{slot_found, zip_get}
 use Rattle.hay_cluster.proofs.OpeningStore.{MovedParts, shape_moved}
 use Rattle.hay_cluster.proofs.OpeningTaken.{IsTaken, KeepsBytes, disks_keep, in_volume, taken_disk}
 
@@ -34,9 +34,9 @@ unfolding IsReplica
 stored_new settings v j sup contents found same fresh is = is.is ∙ ap found_as (fresh is.stored (subst (λ (u : Super). OpensAs u contents is.stored) (sym same) is.opens))
 
 module _ {D : Type 0} (DiskTells : Type 0) (files : D → Files) (faults fuses : D → ℕ) where
-  one_kept : (drawn : D → ℕ → ℕ) → DiskTells → (settings : Settings) (slot : ℕ) (held held' : HeldDisk) (d d' : D) → IsMountedDisk DiskTells files drawn faults fuses held d → IsGivenDisk DiskTells files drawn faults fuses held' d' → KeepsBytes files d d'
-      → ((files d 0).now ≡ [] → (image : Contents) → MayLeave (files d') image → FindsNothing (IsReplica settings) (OpensRows settings) settings slot image) → IsKept settings slot held held'
-  one_kept drawn tells settings slot held held' d d' taken given keeps nothing = elim (void_or ((held.files 0).now)) [
+  one_kept : (drawn : D → ℕ → ℕ) → DiskTells → (slot : ℕ) (held held' : HeldDisk) (d d' : D) → IsMountedDisk DiskTells files drawn faults fuses held d → IsGivenDisk DiskTells files drawn faults fuses held' d' → KeepsBytes files d d'
+      → ((files d 0).now ≡ [] → (image : Contents) → MayLeave (files d') image → (other : Settings) → FindsNothing (IsReplica other) (OpensRows other) other slot image) → IsKept slot held held'
+  one_kept drawn tells slot held held' d d' taken given keeps nothing = elim (void_or ((held.files 0).now)) [
     | inl void ↦ inl (record {
       void = void;
       nothing = λ image may. nothing (taken.now tells 0 ∙ void) image (subst (λ (f : Files). MayLeave f image) (given.files_are tells) may);
@@ -49,8 +49,8 @@ module _ {D : Type 0} (DiskTells : Type 0) (files : D → Files) (faults fuses :
 module _ {D P A : Type 0} (DiskTells : Type 0) (files : D → Files) (Tells : Type 0) (faults fuses : D → ℕ) (arm_faults : A → ℕ) where
   replica_left : DiskTells → (old new : Open D P A) → IsShaped old → MovedParts DiskTells files Tells faults fuses arm_faults old new → (v j : ℕ) (d d' : D) → v < (old.settings).volumes → j < (old.settings).replicas
       → slice_get (disks_of old) (slot_of old.settings v j) ≡ Some d → slice_get (disks_of new) (slot_of old.settings v j) ≡ Some d' → (files d 0).now ≡ []
-      → (image : Contents) → MayLeave (files d') image → (found : Found) → IsReplica old.settings v j image found → found ≡ found_of empty_replica
-  replica_left tells old new shape m v j d d' volume replica at at' void image may found is =
+      → (image : Contents) → MayLeave (files d') image → (sup : Super) (s : Stored) → OpensAs sup image s → s ≡ fresh_stored
+  replica_left tells old new shape m v j d d' volume replica at at' void image may sup s opens =
       let shape' = shape_moved DiskTells files Tells faults fuses arm_faults old new shape m in
       let x = order_item old.volumes v (let many = shape.many in let less : v < length old.volumes = omega (arith, volume, many) in less) in
       let y = zip_get (MovesVolume DiskTells files Tells faults fuses) old.volumes new.volumes v x.0 x.1 m.volumes in
@@ -66,39 +66,40 @@ module _ {D P A : Type 0} (DiskTells : Type 0) (files : D → Files) (Tells : Ty
       let was : (r.0).disk ≡ d = same_Some (r.0).disk d (sym there ∙ at) in
       let now : d' ≡ (r'.0).disk = same_Some d' (r'.0).disk (sym at' ∙ there') in
       let keeps = (y.2).kept tells j r.0 r'.0 r.1 r'.1 in
-      stored_new old.settings v j (r.0).sup image found (superblock old.settings v j x.0 r.0 of r.1)
-      (λ s opens. keeps.nothing (ap (λ (e : D). (files e 0).now) was ∙ void) image (subst (λ (e : D). MayLeave (files e) image) now may) s opens) is
+      keeps.nothing (ap (λ (e : D). (files e 0).now) was ∙ void) image (subst (λ (e : D). MayLeave (files e) image) now may) sup s opens
 
   -- whatever a stop leaves of a disk that was void, an opening finds nothing in its slot
-  void_left : DiskTells → (old new : Open D P A) → IsShaped old → MovedParts DiskTells files Tells faults fuses arm_faults old new → (slot : ℕ) (d d' : D)
+  void_left : DiskTells → (old new : Open D P A) → IsShaped old → MovedParts DiskTells files Tells faults fuses arm_faults old new → (slot : ℕ) (d d' : D) → slot < disk_count old.settings
       → slice_get (disks_of old) slot ≡ Some d → slice_get (disks_of new) slot ≡ Some d' → (files d 0).now ≡ []
-      → (image : Contents) → MayLeave (files d') image → FindsNothing (IsReplica old.settings) (OpensRows old.settings) old.settings slot image
-  void_left tells old new shape m zero d d' at at' void image may =
+      → (image : Contents) → MayLeave (files d') image → (other : Settings) → FindsNothing (IsReplica other) (OpensRows other) other slot image
+  void_left tells old new shape m zero d d' within at at' void image may other =
       let was : (old.directory).disk ≡ d = cc in
       let now : d' ≡ (new.directory).disk = cc in
       record {
-        directory = λ zeroth homes opens. m.directory.nothing tells (ap (λ (e : D). (files e 0).now) was ∙ void) image homes (subst (λ (e : D). IsImage (files e 0) (image 0)) now (may 0))
-            (subst (λ (s : Settings). OpensRows s image homes) (sym shape.directory) opens);
+        directory = λ zeroth homes opens. m.directory.nothing tells (ap (λ (e : D). (files e 0).now) was ∙ void) image homes other (subst (λ (e : D). IsImage (files e 0) (image 0)) now (may 0)) opens;
         replicas = λ v j volume replica place. absurd (omega (arith, place));
       }
-  void_left tells old new shape m (suc n) d d' at at' void image may = record {
-    directory = λ zeroth. absurd (omega (arith, zeroth));
-    replicas = λ v j volume replica place found is.
-        replica_left tells old new shape m v j d d' volume replica (subst (λ slot. slice_get (disks_of old) slot ≡ Some d) place at) (subst (λ slot. slice_get (disks_of new) slot ≡ Some d') place at') void image may found is;
-  }
+  void_left tells old new shape m (suc n) d d' within at at' void image may other =
+      let p = slot_found old.settings n (shape.built).some_replicas within in
+      record {
+        directory = λ zeroth. absurd (omega (arith, zeroth));
+        replicas = λ v j volume replica place found is.
+            stored_new other v j (super_of other v j) image found refl
+            (replica_left tells old new shape m p.0 p.1 d d' p.2 p.3 (subst (λ slot. slice_get (disks_of old) slot ≡ Some d) (sym p.4) at) (subst (λ slot. slice_get (disks_of new) slot ≡ Some d') (sym p.4) at') void image may (super_of other v j)) is;
+      }
 
   module _ (drawn : D → ℕ → ℕ) (sure : A → Bool) (disks : ℕ → HeldDisk) (arms : ℕ → HeldArm) where
     kept_in : DiskTells → (old new : Open D P A) (after : ℕ → HeldDisk) → IsTaken DiskTells files Tells faults fuses arm_faults drawn sure disks arms old → MovedParts DiskTells files Tells faults fuses arm_faults old new
-        → InOrder (λ slot disk. IsGivenDisk DiskTells files drawn faults fuses (after slot) disk) 0 (disks_of new) → (slot : ℕ) → slot < disk_count old.settings → IsKept old.settings slot (disks slot) (after slot)
+        → InOrder (λ slot disk. IsGivenDisk DiskTells files drawn faults fuses (after slot) disk) 0 (disks_of new) → (slot : ℕ) → slot < disk_count old.settings → IsKept slot (disks slot) (after slot)
     kept_in tells old new after t m given slot below =
         let i = taken_disk DiskTells files Tells faults fuses arm_faults drawn sure disks arms old t slot below in
         let k = zip_get (KeepsBytes files) (disks_of old) (disks_of new) slot i.0 i.1 (disks_keep DiskTells files Tells faults fuses arm_faults tells old new m) in
         let place : slot ≡ 0 + slot = omega arith in
-        one_kept DiskTells files faults fuses drawn tells old.settings slot (disks slot) (after slot) i.0 k.0 i.2 (order_get (λ n disk. IsGivenDisk DiskTells files drawn faults fuses (after n) disk) 0 (disks_of new) slot slot k.0 place k.1 given) k.2
-        (void_left tells old new t.shape m slot i.0 k.0 i.1 k.1)
+        one_kept DiskTells files faults fuses drawn tells slot (disks slot) (after slot) i.0 k.0 i.2 (order_get (λ n disk. IsGivenDisk DiskTells files drawn faults fuses (after n) disk) 0 (disks_of new) slot slot k.0 place k.1 given) k.2
+        (void_left tells old new t.shape m slot i.0 k.0 below i.1 k.1)
 
     pub back_kept : DiskTells → (settings : Settings) (old new : Open D P A) (after : ℕ → HeldDisk) → old.settings ≡ settings → IsTaken DiskTells files Tells faults fuses arm_faults drawn sure disks arms old
         → MovedParts DiskTells files Tells faults fuses arm_faults old new → InOrder (λ slot disk. IsGivenDisk DiskTells files drawn faults fuses (after slot) disk) 0 (disks_of new)
-        → (slot : ℕ) → slot < disk_count settings → IsKept settings slot (disks slot) (after slot)
+        → (slot : ℕ) → slot < disk_count settings → IsKept slot (disks slot) (after slot)
     back_kept tells settings old new after same t m given slot below =
-        subst (λ (s : Settings). IsKept s slot (disks slot) (after slot)) same (kept_in tells old new after t m given slot (subst (λ (s : Settings). slot < disk_count s) (sym same) below))
+        kept_in tells old new after t m given slot (subst (λ (s : Settings). slot < disk_count s) (sym same) below)

@@ -27,7 +27,7 @@ use Rattle.hay_url.specs.declared.Url.{Url}
 use Rattle.hay_reader.specs.Causes.{ArmRises, CameUp, EachPair, HasArmCause, IsArm, Passes}
 use Rattle.hay_reader.specs.Shown.{Shows}
 use Rattle.hay_reader.specs.declared.causes.PassedReplica.{PassedReplica}
-use Rattle.hay_cluster.specs.Causes.{CauseCameUp, Counts}
+use Rattle.hay_cluster.specs.Causes.{CauseCameUp, Counts, PassedOver}
 use Rattle.hay_cluster.specs.Reads.{ShowsIn, outcomes_of, passed_at}
 use Rattle.hay_cluster.specs.Parts.{Comes}
 use Rattle.hay_cluster.specs.State.{Stands}
@@ -168,19 +168,25 @@ rises_each : (settings : Settings) (v : ℕ) (over : List PassedReplica) → Eac
 rises_each settings v [] all = tt
 rises_each settings v (a ∷ over) all = (rises_all settings v a over all.0, rises_each settings v over all.1)
 
+-- the replicas that were passed over in the order of tries
+in_order : (settings : Settings) (start replicas before after : ℕ) (over : List PassedReplica) → replicas ≡ settings.replicas → Passes start replicas before after over → length over ≡ replicas
+    → map (λ p. p.replica) over ≡ order_from settings start
+in_order settings start replicas before after over long passes all =
+    passes.order ∙ ap (λ n. map (λ i. (start + i) % replicas) (range_with_len 0 n)) all ∙ ap (λ n. map (λ i. (start + i) % n) (range_with_len 0 n)) long
+
 pub is_unreadable : {P : Type 0} (settings : Settings) (k t : Known) (tag : CoreTag) (start : ℕ) (pair : Pair) (v p d before after : ℕ) (row : List (Place P)) (over : List PassedReplica) → length row ≡ settings.replicas
     → home_of k pair ≡ Some v → p ≡ length (volume_at k v).log → d ≡ length k.directory.rows → before ≡ arm_count k tag.lane → after ≡ arm_count t tag.lane → Leaves k k t
     → Passes start (length row) before after over → length over ≡ length row → AllByRecursion (λ q. IsArm q.cause) over → IsUnreadable settings k tag start pair v p d (map (passed_at settings v) over) t
 is_unreadable settings k t tag start pair v p d before after row over long home front rows old new leaves passes all arms = record {
   seen = record { home = home; front = front; rows = rows };
   each = passed_each settings k t tag v before after (order_from settings start) over old new
-      (passes.order ∙ ap (λ n. map (λ i. (start + i) % length row) (range_with_len 0 n)) all ∙ ap (λ n. map (λ i. (start + i) % n) (range_with_len 0 n)) long) passes.each arms;
+      (in_order settings start (length row) before after over long passes all) passes.each arms;
   arms = rises_each settings v over passes.rises;
   leaves = leaves;
 }
 
 -- an arm's failure is a cause only where its count rose
-pub causes_told : (settings : Settings) (lane v : ℕ) (before after : Counts) (over : List PassedReplica) → AllByRecursion (λ p. HasArmCause (slice_index before.arms lane) (slice_index after.arms lane) p.cause) over
+causes_told : (settings : Settings) (lane v : ℕ) (before after : Counts) (over : List PassedReplica) → AllByRecursion (λ p. HasArmCause (slice_index before.arms lane) (slice_index after.arms lane) p.cause) over
     → AllByRecursion (λ passed. CauseCameUp settings lane v before after passed.machine passed.cause) (map (passed_at settings v) over)
 causes_told settings lane v before after [] each = tt
 causes_told settings lane v before after (p ∷ over) each = (one p.cause each.0, causes_told settings lane v before after over each.1)
@@ -189,6 +195,19 @@ causes_told settings lane v before after (p ∷ over) each = (one p.cause each.0
     one (Arm f) came = came.0
     one (Disk f) came = absurd came
     one (Damage at) came = tt
+
+machines_told : (settings : Settings) (v : ℕ) (over : List PassedReplica) → map (λ passed. passed.machine) (map (passed_at settings v) over) ≡ map (machine_of settings v) (map (λ p. p.replica) over)
+machines_told settings v [] = refl
+machines_told settings v (p ∷ over) = ap (λ (ms : List ℕ). machine_of settings v p.replica ∷ ms) (machines_told settings v over)
+
+pub passed_over : (settings : Settings) (lane v start replicas : ℕ) (before after : Counts) (over : List PassedReplica) → replicas ≡ settings.replicas
+    → Passes start replicas (slice_index before.arms lane) (slice_index after.arms lane) over → length over ≡ replicas → PassedOver settings lane v before after (map (passed_at settings v) over)
+passed_over settings lane v start replicas before after over long passes all = record {
+  start = start;
+  order = machines_told settings v over ∙ ap (map (machine_of settings v)) (in_order settings start replicas (slice_index before.arms lane) (slice_index after.arms lane) over long passes all);
+  rises = rises_each settings v over passes.rises;
+  each = causes_told settings lane v before after over passes.each;
+}
 
 -- A READ OF THE STORE
 

@@ -15,7 +15,7 @@ use Rattle.hay_reader.specs.Shown.{NoArm}
 use Rattle.hay_reader.specs.declared.causes.PassedReplica.{PassedReplica}
 use Rattle.hay_reader.specs.declared.seat.ReadReply.{ReadReply}
 use Rattle.hay_reader.specs.declared.seat.ReadReply.TheVariants as read
-use Rattle.hay_cluster.specs.Causes.{BlamesNoArm, CauseCameUp, Counts, IsCaused, IsNoArm, StaySure}
+use Rattle.hay_cluster.specs.Causes.{BlamesNoArm, CauseCameUp, Counts, IsCaused, IsNoArm, PassedOver, StaySure}
 use Rattle.hay_cluster.specs.Reads.{PassesNoArm, passed_at}
 
 -- THE ARMS
@@ -74,7 +74,7 @@ unreadable_told settings v front rows told over is none = λ v' front' rows' cau
 pub unblamed : (settings : Settings) (before after : Counts) (said : Reply) → ((lane : ℕ) → IsCaused settings lane before after said) → BlamesNoArm said
 unblamed settings before after said causes = λ v front rows told is.
     let lane = length before.arms + length after.arms in
-    go v lane (get_or_past after.arms lane 0 (omega arith)) told (subst (λ (r : Reply). IsCaused settings lane before after r) is (causes lane))
+    go v lane (get_or_past after.arms lane 0 (omega arith)) told (PassedOver.each (subst (λ (r : Reply). IsCaused settings lane before after r) is (causes lane)))
   where
     one : (v lane m : ℕ) → slice_index after.arms lane ≡ 0 → (cause : Cause) → CauseCameUp settings lane v before after m cause → IsNoArm cause
     one v lane m none (Arm f) came = elim (came.0) [ inl rose ↦ (let low = came.1 in absurd (omega (arith, none, rose, low))) | inr end ↦ (let low = came.1 in absurd (omega (arith, none, end, low))) ]

@@ -1,14 +1,17 @@
 -- What an answer and a fault say of the counts of faults, from before the call to behind it.
-use Rattle.std.specs.Prelude.{◌≡◌, ◌<◌, ℕ, Bool, List, Some, slice_index}
+use Rattle.std.specs.Prelude.{◌≡◌, ◌<◌, ℕ, Bool, List, Option, Some, None, map, slice_index, slice_set}
 use Rattle.std.specs.List.{AllByRecursion, AllZip}
 use Rattle.hay_needle.specs.declared.settings.Settings.{Settings}
-use Rattle.hay_disk.specs.Counts.{Rose, StaysSure}
+use Rattle.hay_disk.specs.Counts.{IsNext, Rose, StaysSure}
+use Rattle.hay_script.specs.declared.Command.{Command}
+use Rattle.hay_script.specs.declared.Command.TheVariants as asks
 use Rattle.hay_reply.specs.declared.Cause.{Cause}
 use Rattle.hay_reply.specs.declared.Cause.TheVariants.{Arm, Disk, Damage}
 use Rattle.hay_reply.specs.declared.Passed.{Passed}
 use Rattle.hay_reply.specs.declared.Reply.{Reply}
 use Rattle.hay_reply.specs.declared.Reply.TheVariants as reply
-use Rattle.hay_legal.specs.Known.{CameUp, disk_count, replica_on, slot_of}
+use Rattle.hay_legal.specs.Known.{CameUp, EachPair, disk_count, machine_of, replica_on, slot_of}
+use Rattle.hay_legal.specs.Plain.{ArmRises, order_from}
 use Rattle.hay_logical.specs.declared.fault.LogicalFault.{LogicalFault}
 use Rattle.hay_logical.specs.declared.fault.LogicalFault.TheVariants as refusal
 use Rattle.hay_cluster.specs.declared.fault.ClusterFault.{ClusterFault}
@@ -36,12 +39,19 @@ CauseCameUp settings lane v before after m (Arm count) = CameUp (slice_index bef
 CauseCameUp settings lane v before after m (Disk count) = RoseAt settings v m before.disks after.disks count
 CauseCameUp settings lane v before after m (Damage at) = Unit {0}
 
+-- Every replica of a volume was passed over, each for its cause: they are named in the order in which they were tried, and of two
+-- failures of the arm the later one has the greater count.
+pub record PassedOver (settings : Settings) (lane v : ℕ) (before after : Counts) (causes : List Passed) : Type 0 where
+  pub start : ℕ
+  pub order : map (λ passed. passed.machine) causes ≡ map (machine_of settings v) (order_from settings start)
+  pub rises : EachPair (λ a b. ArmRises a.cause b.cause) causes
+  pub each : AllByRecursion (λ passed. CauseCameUp settings lane v before after passed.machine passed.cause) causes
+
 -- A reply tells of a failure only where the count that it prints rose.
 abbrev pub IsCaused : Settings → ℕ → Counts → Counts → Reply → Type 0
 IsCaused settings lane before after (reply.Failed v m count) = RoseAt settings v m before.disks after.disks count
 IsCaused settings lane before after (reply.FailedDir count) = RoseIn 0 before.disks after.disks count
-IsCaused settings lane before after (reply.Unreadable v front rows causes) =
-    AllByRecursion (λ passed. CauseCameUp settings lane v before after passed.machine passed.cause) causes
+IsCaused settings lane before after (reply.Unreadable v front rows causes) = PassedOver settings lane v before after causes
 IsCaused settings lane before after (reply.Stored v p d c) = Unit {0}
 IsCaused settings lane before after (reply.Deleted v p d) = Unit {0}
 IsCaused settings lane before after (reply.Photo v m p d bytes) = Unit {0}
@@ -79,6 +89,38 @@ HasFaultCause settings before after (fault.Failed slot count) =
     (slot < disk_count settings) × Rose (slice_index before slot) (slice_index after slot) × (count ≡ slice_index after slot)
 HasFaultCause settings before after (fault.Damaged slot file at) = Unit {0}
 HasFaultCause settings before after fault.NoMemory = Unit {0}
+
+-- HOW MANY FUSES WERE SET
+
+-- one fuse more was set on the disk in this slot, and none on another
+abbrev pub SetsFuse : ℕ → List ℕ → List ℕ → Type 0
+SetsFuse slot before after = (n : ℕ) × IsNext (slice_index before slot) n × (after ≡ slice_set before slot n)
+
+-- so was it on the disk of a volume's replica on this machine, where there is one
+abbrev pub SetsFuseOn : Settings → ℕ → ℕ → List ℕ → List ℕ → Type 0
+SetsFuseOn settings v m before after = sets (replica_on settings v m)
+  where
+    sets : Option ℕ → Type 0
+    sets (Some j) = SetsFuse (slot_of settings v j) before after
+    sets None = after ≡ before
+
+-- what a command leaves of how many fuses were set on each disk
+abbrev pub LeavesFuses : Settings → Command → List ℕ → List ℕ → Type 0
+LeavesFuses settings (asks.Fuse v m calls) before after = SetsFuseOn settings v m before after
+LeavesFuses settings (asks.FuseDir calls) before after = SetsFuse 0 before after
+LeavesFuses settings (asks.Put pair photo) before after = after ≡ before
+LeavesFuses settings (asks.Read pair cookie) before after = after ≡ before
+LeavesFuses settings (asks.Get url) before after = after ≡ before
+LeavesFuses settings (asks.Del pair) before after = after ≡ before
+LeavesFuses settings (asks.Url pair) before after = after ≡ before
+LeavesFuses settings (asks.Flush v m) before after = after ≡ before
+LeavesFuses settings (asks.Drain m) before after = after ≡ before
+LeavesFuses settings (asks.Undrain m) before after = after ≡ before
+LeavesFuses settings (asks.Compact v m) before after = after ≡ before
+LeavesFuses settings (asks.Begin v m) before after = after ≡ before
+LeavesFuses settings (asks.Step v m cells) before after = after ≡ before
+LeavesFuses settings (asks.Finish v m) before after = after ≡ before
+LeavesFuses settings (asks.Restart pick) before after = after ≡ before
 
 -- WHAT A VOLUME'S REFUSALS TELL
 

@@ -144,8 +144,8 @@ pub record MovesDirectory {D : Type 0} (DiskTells : Type 0) (files : D → Files
   pub later : faults old.disk ≤ faults new.disk
   pub fuses_stay : fuses new.disk ≡ fuses old.disk
   pub same : DiskTells → 0 < length (files old.disk 0).now → files new.disk ≡ files old.disk
-  pub nothing : DiskTells → (files old.disk 0).now ≡ [] → (image : ℕ → List ℕ) (rows : List HomeRow) → IsImage (files new.disk 0) (image 0) →
-      OpensRows old.settings image rows → rows ≡ []
+  pub nothing : DiskTells → (files old.disk 0).now ≡ [] → (image : ℕ → List ℕ) (rows : List HomeRow) (other : Settings) → IsImage (files new.disk 0) (image 0) →
+      OpensRows other image rows → rows ≡ []
   pub left : DiskTells → (known : DirKnown) → directory.Stopped files old known → directory.Stopped files new known
       ⊎ ((kept : Bool) × directory.Stands files new (directory_with (known.rows ++ kept_row known.pending kept)) (replicate (old.settings).machines false))
 

@@ -31,14 +31,14 @@ read_of held file = (held.files file).now
 abbrev pub IsVoid : Contents → Type 0
 IsVoid contents = contents 0 ≡ []
 
--- The disk was void, and whatever a stop leaves of it, an opening finds nothing in this slot.
-pub record WasVoid (settings : Settings) (slot : ℕ) (old new : HeldDisk) : Type 0 where
+-- The disk was void, and whatever a stop leaves of it, an opening by whatever settings finds nothing in this slot.
+pub record WasVoid (slot : ℕ) (old new : HeldDisk) : Type 0 where
   pub void : IsVoid (read_of old)
-  pub nothing : (image : Contents) → MayLeave new.files image → FindsNothing (IsReplica settings) (OpensRows settings) settings slot image
+  pub nothing : (image : Contents) → MayLeave new.files image → (other : Settings) → FindsNothing (IsReplica other) (OpensRows other) other slot image
 
 -- What a refused opening leaves of a slot's disk: it was void; it is as it was; or a stop leaves what reads gave of it.
-abbrev pub IsKept : Settings → ℕ → HeldDisk → HeldDisk → Type 0
-IsKept settings slot old new = WasVoid settings slot old new ⊎ (new.files ≡ old.files) ⊎ LeavesAsRead old.files new.files
+abbrev pub IsKept : ℕ → HeldDisk → HeldDisk → Type 0
+IsKept slot old new = WasVoid slot old new ⊎ (new.files ≡ old.files) ⊎ LeavesAsRead old.files new.files
 
 -- The counts of a slot's disk behind an opening: its fuses are those from before.
 pub record CountsOn (old : HeldDisk) (faults fuses : ℕ) : Type 0 where

@@ -56,7 +56,7 @@ pub record IsShaped {D P A : Type 0} (store : Open D P A) : Type 0 where
 -- A store whose restart was refused is down.
 pub record IsUp {D P A : Type 0} (store : Open D P A) : Type 0 where
   pub directory : directory.IsUp store.directory
-  pub volumes : AllByRecursion logical.IsOpen store.volumes
+  pub volumes : AllByRecursion logical.IsOpenVolume store.volumes
 
 -- what reads of the disk in a slot give, or nothing where the store has no such slot
 abbrev pub contents_in : {D P A : Type 0} → (D → Files) → Open D P A → ℕ → ℕ → List ℕ

@@ -4,7 +4,7 @@ ghost use Rattle.hay_script.specs.declared.Command.TheVariants as asks;
 ghost use Rattle.hay_core.specs.declared.entry.CoreTag.{CoreTag};
 ghost use Rattle.hay_legal.specs.declared.known.Known.{Known};
 ghost use Rattle.hay_legal.specs.Known.{NoneFalls};
-ghost use Rattle.hay_cluster.specs.Causes.{IsCaused, RefusesDelete};
+ghost use Rattle.hay_cluster.specs.Causes.{IsCaused, RefusesDelete, SetsFuse, SetsFuseOn};
 ghost use Rattle.hay_cluster.specs.Changes.{IsDeleteReply, IsReadOnly};
 ghost use Rattle.hay_cluster.specs.State.{Answered, Stands};
 ghost use Rattle.hay_cluster.specs.Store.{IsUp, disks_of};
@@ -32,6 +32,7 @@ impl<D: Disk, A: Arm<D::Piece>> Cluster<D, A> {
             (record { disks = map D.fault_count (disks_of self.old); arms = map A.fault_count self.old.arms })
             (record { disks = map D.fault_count (disks_of self.new); arms = map A.fault_count self.new.arms }) result }
         ensures counts { NoneFalls (map D.fault_count (disks_of self.old)) (map D.fault_count (disks_of self.new)) }
+        ensures fuses { map D.fuse_count (disks_of self.new) ≡ map D.fuse_count (disks_of self.old) }
         ensures arms { self.new.arms ≡ self.old.arms }
         ensures settings { self.new.settings ≡ self.old.settings }
         ensures up { IsUp self.new }
@@ -61,6 +62,7 @@ impl<D: Disk, A: Arm<D::Piece>> Cluster<D, A> {
             (record { disks = map D.fault_count (disks_of self.old); arms = map A.fault_count self.old.arms })
             (record { disks = map D.fault_count (disks_of self.new); arms = map A.fault_count self.new.arms }) result }
         ensures counts { NoneFalls (map D.fault_count (disks_of self.old)) (map D.fault_count (disks_of self.new)) }
+        ensures fuses { map D.fuse_count (disks_of self.new) ≡ map D.fuse_count (disks_of self.old) }
         ensures arms { self.new.arms ≡ self.old.arms }
         ensures settings { self.new.settings ≡ self.old.settings }
         ensures up { IsUp self.new }
@@ -90,6 +92,7 @@ impl<D: Disk, A: Arm<D::Piece>> Cluster<D, A> {
             (record { disks = map D.fault_count (disks_of self.old); arms = map A.fault_count self.old.arms })
             (record { disks = map D.fault_count (disks_of self.new); arms = map A.fault_count self.new.arms }) result }
         ensures counts { NoneFalls (map D.fault_count (disks_of self.old)) (map D.fault_count (disks_of self.new)) }
+        ensures fuses { map D.fuse_count (disks_of self.new) ≡ map D.fuse_count (disks_of self.old) }
         ensures arms { self.new.arms ≡ self.old.arms }
         ensures settings { self.new.settings ≡ self.old.settings }
         ensures up { IsUp self.new }
@@ -110,6 +113,7 @@ impl<D: Disk, A: Arm<D::Piece>> Cluster<D, A> {
             (record { disks = map D.fault_count (disks_of self.old); arms = map A.fault_count self.old.arms })
             (record { disks = map D.fault_count (disks_of self.new); arms = map A.fault_count self.new.arms }) result }
         ensures counts { NoneFalls (map D.fault_count (disks_of self.old)) (map D.fault_count (disks_of self.new)) }
+        ensures fuses { map D.fuse_count (disks_of self.new) ≡ map D.fuse_count (disks_of self.old) }
         ensures arms { self.new.arms ≡ self.old.arms }
         ensures settings { self.new.settings ≡ self.old.settings }
         ensures up { IsUp self.new }
@@ -130,6 +134,7 @@ impl<D: Disk, A: Arm<D::Piece>> Cluster<D, A> {
             (record { disks = map D.fault_count (disks_of self.old); arms = map A.fault_count self.old.arms })
             (record { disks = map D.fault_count (disks_of self.new); arms = map A.fault_count self.new.arms }) result }
         ensures counts { NoneFalls (map D.fault_count (disks_of self.old)) (map D.fault_count (disks_of self.new)) }
+        ensures fuses { SetsFuseOn self.old.settings volume machine (map D.fuse_count (disks_of self.old)) (map D.fuse_count (disks_of self.new)) }
         ensures arms { self.new.arms ≡ self.old.arms }
         ensures settings { self.new.settings ≡ self.old.settings }
         ensures up { IsUp self.new }
@@ -154,6 +159,7 @@ impl<D: Disk, A: Arm<D::Piece>> Cluster<D, A> {
             (record { disks = map D.fault_count (disks_of self.old); arms = map A.fault_count self.old.arms })
             (record { disks = map D.fault_count (disks_of self.new); arms = map A.fault_count self.new.arms }) result }
         ensures counts { NoneFalls (map D.fault_count (disks_of self.old)) (map D.fault_count (disks_of self.new)) }
+        ensures fuses { SetsFuse 0 (map D.fuse_count (disks_of self.old)) (map D.fuse_count (disks_of self.new)) }
         ensures arms { self.new.arms ≡ self.old.arms }
         ensures settings { self.new.settings ≡ self.old.settings }
         ensures up { IsUp self.new }

@@ -63,7 +63,7 @@ impl<D: Disk, A: Arm<D::Piece>> Cluster<D, A> {
         ensures arms_out { OnOk result (AreArmsOut 8 (H.arms shelf.new)) }
 
         // What a refusal leaves, and its cause.
-        ensures kept { D.Tells → OnErr result ((slot : ℕ) → slot < disk_count settings → IsKept settings slot (H.disks shelf.old slot) (H.disks shelf.new slot)) }
+        ensures kept { D.Tells → OnErr result ((slot : ℕ) → slot < disk_count settings → IsKept slot (H.disks shelf.old slot) (H.disks shelf.new slot)) }
         ensures disks_back { OnErr result (AreIn (disk_count settings) (H.disks shelf.new)) }
         ensures arms_back { OnErr result (AreArmsIn 8 (H.arms shelf.new)) }
         ensures back_counts { OnErr result ((slot : ℕ) → slot < disk_count settings →
@@ -107,6 +107,8 @@ impl<D: Disk, A: Arm<D::Piece>> Cluster<D, A> {
             × IsRestarted self.new.settings k self.new.directory.count notes t
             × Stands D.files D.Piece.Tells D.fault_count D.fuse_count A.fault_count self.new t) }
         ensures up { OnOk result (IsUp self.new) }
+        // Nothing that it read of a disk is damaged.
+        ensures sound { D.Tells → OnOk result (IsUndamaged self.old.settings (contents_in D.files self.new)) }
 
         // What a refusal leaves, and its cause.
         ensures left { D.Tells → (k : Known) →
@@ -118,6 +120,8 @@ impl<D: Disk, A: Arm<D::Piece>> Cluster<D, A> {
             (slot file at : ℕ) → result ≡ Err (ClusterFault.Damaged slot file at) → ⊥ }
         ensures damaged { D.Tells → (slot file at : ℕ) → result ≡ Err (ClusterFault.Damaged slot file at) →
             IsDamagedDisk self.old.settings (contents_in D.files self.new) slot file at }
+        ensures failed_lowest { D.Tells → (slot faults : ℕ) → result ≡ Err (ClusterFault.Failed slot faults) →
+            IsUndamagedBelow self.old.settings slot (contents_in D.files self.new) }
 
         ensures counts { NoneFalls (map D.fault_count (disks_of self.old)) (map D.fault_count (disks_of self.new)) }
         ensures fuses { map D.fuse_count (disks_of self.new) ≡ map D.fuse_count (disks_of self.old) }

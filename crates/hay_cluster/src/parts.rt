@@ -8,7 +8,7 @@ ghost use Rattle.hay_legal.specs.Known.{NoneFalls, fuse_count, slot_of, volume_a
 ghost use Rattle.hay_legal.specs.Plain.{row_pending, with_drain, with_fuses};
 ghost use Rattle.hay_logical.specs.Answers.{DeleteRefused, IsDeleted, IsPut, PutRefused};
 ghost use Rattle.hay_directory.specs.State as directory;
-ghost use Rattle.hay_cluster.specs.Causes.{IsPutCause, IsDeleteCause, IsReplicaCause, RoseIn};
+ghost use Rattle.hay_cluster.specs.Causes.{IsDeleteCause, IsPutCause, IsReplicaCause, RoseIn, SetsFuse};
 ghost use Rattle.hay_cluster.specs.Maintenance.{IsDone, IsRefused};
 ghost use Rattle.hay_cluster.specs.Parts.{Comes, InVolume};
 ghost use Rattle.hay_cluster.specs.State.{Stands};
@@ -43,6 +43,7 @@ impl<D: Disk, A: Arm<D::Piece>> Cluster<D, A> {
             × IfErr result (PutRefused D.files D.Piece.Tells (volume_at k volume) tag pair cookie bytes.now before after)) }
         ensures causes { IfErr result (IsPutCause self.old.settings volume (map D.fault_count (disks_of self.old)) (map D.fault_count (disks_of self.new))) }
         ensures counts { NoneFalls (map D.fault_count (disks_of self.old)) (map D.fault_count (disks_of self.new)) }
+        ensures fuses { map D.fuse_count (disks_of self.new) ≡ map D.fuse_count (disks_of self.old) }
         ensures arms { self.new.arms ≡ self.old.arms }
         ensures settings { self.new.settings ≡ self.old.settings }
         ensures up { IsUp self.new }
@@ -65,6 +66,7 @@ impl<D: Disk, A: Arm<D::Piece>> Cluster<D, A> {
             × IfErr result (DeleteRefused D.files D.Piece.Tells (volume_at k volume) tag pair before after)) }
         ensures causes { IfErr result (IsDeleteCause self.old.settings volume (map D.fault_count (disks_of self.old)) (map D.fault_count (disks_of self.new))) }
         ensures counts { NoneFalls (map D.fault_count (disks_of self.old)) (map D.fault_count (disks_of self.new)) }
+        ensures fuses { map D.fuse_count (disks_of self.new) ≡ map D.fuse_count (disks_of self.old) }
         ensures arms { self.new.arms ≡ self.old.arms }
         ensures settings { self.new.settings ≡ self.old.settings }
         ensures up { IsUp self.new }
@@ -89,6 +91,7 @@ impl<D: Disk, A: Arm<D::Piece>> Cluster<D, A> {
             × IfErr result (IsRefused D.files D.Piece.Tells work (volume_at k volume) replica before after)) }
         ensures causes { IfErr result (IsReplicaCause self.old.settings volume (map D.fault_count (disks_of self.old)) (map D.fault_count (disks_of self.new))) }
         ensures counts { NoneFalls (map D.fault_count (disks_of self.old)) (map D.fault_count (disks_of self.new)) }
+        ensures fuses { map D.fuse_count (disks_of self.new) ≡ map D.fuse_count (disks_of self.old) }
         ensures arms { self.new.arms ≡ self.old.arms }
         ensures settings { self.new.settings ≡ self.old.settings }
         ensures up { IsUp self.new }
@@ -110,6 +113,7 @@ impl<D: Disk, A: Arm<D::Piece>> Cluster<D, A> {
             (n : ℕ) × IsNext (fuse_count k (slot_of self.old.settings volume replica)) n
             × Comes D.files D.Piece.Tells D.fault_count D.fuse_count A.fault_count k (with_fuses k (slot_of self.old.settings volume replica) n) self.new }
         ensures counts { NoneFalls (map D.fault_count (disks_of self.old)) (map D.fault_count (disks_of self.new)) }
+        ensures fuses { SetsFuse (slot_of self.old.settings volume replica) (map D.fuse_count (disks_of self.old)) (map D.fuse_count (disks_of self.new)) }
         ensures arms { self.new.arms ≡ self.old.arms }
         ensures settings { self.new.settings ≡ self.old.settings }
         ensures up { IsUp self.new }
@@ -132,6 +136,7 @@ impl<D: Disk, A: Arm<D::Piece>> Cluster<D, A> {
         ensures frozen { D.Tells → (k : Known) → Stands D.files D.Piece.Tells D.fault_count D.fuse_count A.fault_count self.old k → IsErrOf result DirFault.Frozen → (k.directory.frozen ≡ true) × (self.new ≡ self.old) }
         ensures causes { (faults : ℕ) → result ≡ Err (DirFault.Failed faults) → RoseIn 0 (map D.fault_count (disks_of self.old)) (map D.fault_count (disks_of self.new)) faults }
         ensures counts { NoneFalls (map D.fault_count (disks_of self.old)) (map D.fault_count (disks_of self.new)) }
+        ensures fuses { map D.fuse_count (disks_of self.new) ≡ map D.fuse_count (disks_of self.old) }
         ensures arms { self.new.arms ≡ self.old.arms }
         ensures settings { self.new.settings ≡ self.old.settings }
         ensures up { IsUp self.new }
@@ -145,6 +150,7 @@ impl<D: Disk, A: Arm<D::Piece>> Cluster<D, A> {
         requires up { IsUp self.old }
         ensures set { D.Tells → (k : Known) → Stands D.files D.Piece.Tells D.fault_count D.fuse_count A.fault_count self.old k → Comes D.files D.Piece.Tells D.fault_count D.fuse_count A.fault_count k (with_drain k machine is_drained) self.new }
         ensures counts { NoneFalls (map D.fault_count (disks_of self.old)) (map D.fault_count (disks_of self.new)) }
+        ensures fuses { map D.fuse_count (disks_of self.new) ≡ map D.fuse_count (disks_of self.old) }
         ensures arms { self.new.arms ≡ self.old.arms }
         ensures settings { self.new.settings ≡ self.old.settings }
         ensures up { IsUp self.new }
@@ -162,6 +168,7 @@ impl<D: Disk, A: Arm<D::Piece>> Cluster<D, A> {
         ensures fused { D.Tells → (k : Known) → Stands D.files D.Piece.Tells D.fault_count D.fuse_count A.fault_count self.old k →
             (n : ℕ) × IsNext (fuse_count k 0) n × Comes D.files D.Piece.Tells D.fault_count D.fuse_count A.fault_count k (with_fuses k 0 n) self.new }
         ensures counts { NoneFalls (map D.fault_count (disks_of self.old)) (map D.fault_count (disks_of self.new)) }
+        ensures fuses { SetsFuse 0 (map D.fuse_count (disks_of self.old)) (map D.fuse_count (disks_of self.new)) }
         ensures arms { self.new.arms ≡ self.old.arms }
         ensures settings { self.new.settings ≡ self.old.settings }
         ensures up { IsUp self.new }

@@ -43,6 +43,7 @@ impl<D: Disk, A: Arm<D::Piece>> Cluster<D, A> {
             (record { disks = map D.fault_count (disks_of self.old); arms = map A.fault_count self.old.arms })
             (record { disks = map D.fault_count (disks_of self.new); arms = map A.fault_count self.new.arms }) result }
         ensures counts { NoneFalls (map D.fault_count (disks_of self.old)) (map D.fault_count (disks_of self.new)) }
+        ensures fuses { map D.fuse_count (disks_of self.new) ≡ map D.fuse_count (disks_of self.old) }
         ensures arms { self.new.arms ≡ self.old.arms }
         ensures settings { self.new.settings ≡ self.old.settings }
         ensures up { IsUp self.new }
@@ -97,6 +98,7 @@ impl<D: Disk, A: Arm<D::Piece>> Cluster<D, A> {
             (record { disks = map D.fault_count (disks_of self.old); arms = map A.fault_count self.old.arms })
             (record { disks = map D.fault_count (disks_of self.new); arms = map A.fault_count self.new.arms }) result }
         ensures counts { NoneFalls (map D.fault_count (disks_of self.old)) (map D.fault_count (disks_of self.new)) }
+        ensures fuses { map D.fuse_count (disks_of self.new) ≡ map D.fuse_count (disks_of self.old) }
         ensures arms { self.new.arms ≡ self.old.arms }
         ensures settings { self.new.settings ≡ self.old.settings }
         ensures up { IsUp self.new }
@@ -126,6 +128,7 @@ impl<D: Disk, A: Arm<D::Piece>> Cluster<D, A> {
             (record { disks = map D.fault_count (disks_of self.old); arms = map A.fault_count self.old.arms })
             (record { disks = map D.fault_count (disks_of self.new); arms = map A.fault_count self.new.arms }) result }
         ensures counts { NoneFalls (map D.fault_count (disks_of self.old)) (map D.fault_count (disks_of self.new)) }
+        ensures fuses { map D.fuse_count (disks_of self.new) ≡ map D.fuse_count (disks_of self.old) }
         ensures arms { self.new.arms ≡ self.old.arms }
         ensures settings { self.new.settings ≡ self.old.settings }
         ensures up { IsUp self.new }
@@ -155,6 +158,7 @@ impl<D: Disk, A: Arm<D::Piece>> Cluster<D, A> {
             (record { disks = map D.fault_count (disks_of self.old); arms = map A.fault_count self.old.arms })
             (record { disks = map D.fault_count (disks_of self.new); arms = map A.fault_count self.new.arms }) result }
         ensures counts { NoneFalls (map D.fault_count (disks_of self.old)) (map D.fault_count (disks_of self.new)) }
+        ensures fuses { map D.fuse_count (disks_of self.new) ≡ map D.fuse_count (disks_of self.old) }
         ensures arms { self.new.arms ≡ self.old.arms }
         ensures settings { self.new.settings ≡ self.old.settings }
         ensures up { IsUp self.new }
@@ -220,7 +224,7 @@ fn put_refusal(alloc: Global, volume: u32, fault: LogicalFault) -> Reply
     }
 }
 
-// What a put is answered that all its tries refuse: it is full where one at least wants_room room.
+// What a put is answered that all its tries refuse: it is full where one at least wants room.
 fn refuse(alloc: Global, refused: Listed<Refused>) -> Reply
     ensures { IsRefusal refused result }
 {
@@ -242,7 +246,7 @@ fn refuse_one(alloc: Global, refused: Refused) -> Reply
     }
 }
 
-// Whether one of these at least wants_room room.
+// Whether one of these at least wants room.
 fn has_lack(refused: &[Refused]) -> bool
     ensures { result ≡ list_any wants_room refused.now }
 {
@@ -251,7 +255,7 @@ fn has_lack(refused: &[Refused]) -> bool
         .any(|refusal| matches!(refusal, Refused::NoRoom { .. }))
 }
 
-// The machines by which volumes are closed, where none wants_room room.
+// The machines by which volumes are closed, where none wants room.
 fn closed_of(alloc: Global, refused: &[Refused]) -> Result<Listed<ClosedBy>, NoMemory>
     requires { list_any wants_room refused.now ≡ false }
     ensures { IfOk result (λ closed. map as_closed closed ≡ refused.now) }

@@ -48,6 +48,7 @@ impl<D: Disk, A: Arm<D::Piece>> Cluster<D, A> {
         ensures sure { (arm : A) → slice_get self.old.arms tag.lane ≡ Some arm → A.is_sure arm ≡ true → BlamesNoArm result }
         ensures sure_arms { StaySure A.is_sure A.fault_count self.old.arms self.new.arms }
         ensures counts { NoneFalls (map D.fault_count (disks_of self.old)) (map D.fault_count (disks_of self.new)) }
+        ensures fuses { map D.fuse_count (disks_of self.new) ≡ map D.fuse_count (disks_of self.old) }
         ensures arm_counts { NoneFalls (map A.fault_count self.old.arms) (map A.fault_count self.new.arms) }
         ensures settings { self.new.settings ≡ self.old.settings }
         ensures up { IsUp self.new }
@@ -71,6 +72,7 @@ impl<D: Disk, A: Arm<D::Piece>> Cluster<D, A> {
         ensures sure { (arm : A) → slice_get self.old.arms tag.lane ≡ Some arm → A.is_sure arm ≡ true → BlamesNoArm result }
         ensures sure_arms { StaySure A.is_sure A.fault_count self.old.arms self.new.arms }
         ensures counts { NoneFalls (map D.fault_count (disks_of self.old)) (map D.fault_count (disks_of self.new)) }
+        ensures fuses { map D.fuse_count (disks_of self.new) ≡ map D.fuse_count (disks_of self.old) }
         ensures arm_counts { NoneFalls (map A.fault_count self.old.arms) (map A.fault_count self.new.arms) }
         ensures settings { self.new.settings ≡ self.old.settings }
         ensures up { IsUp self.new }
@@ -113,6 +115,7 @@ impl<D: Disk, A: Arm<D::Piece>> Cluster<D, A> {
         ensures sure { (arm : A) → slice_get self.old.arms tag.lane ≡ Some arm → A.is_sure arm ≡ true → BlamesNoArm result }
         ensures sure_arms { StaySure A.is_sure A.fault_count self.old.arms self.new.arms }
         ensures counts { NoneFalls (map D.fault_count (disks_of self.old)) (map D.fault_count (disks_of self.new)) }
+        ensures fuses { map D.fuse_count (disks_of self.new) ≡ map D.fuse_count (disks_of self.old) }
         ensures arm_counts { NoneFalls (map A.fault_count self.old.arms) (map A.fault_count self.new.arms) }
         ensures settings { self.new.settings ≡ self.old.settings }
         ensures up { IsUp self.new }
@@ -156,7 +159,7 @@ impl<D: Disk, A: Arm<D::Piece>> Cluster<D, A> {
         }
     }
 
-    // Reads the photo of a pair in a volume, from this replica on, with a lane's arm. ReadAnswers how many changes the volume
+    // Reads the photo of a pair in a volume, from this replica on, with a lane's arm. Answers how many changes the volume
     // had, and what was read.
     fn fetch(
         &mut self,

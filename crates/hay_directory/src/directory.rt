@@ -1,5 +1,6 @@
 //! The Directory on its disk.
 ghost use Rattle.std.specs.Prelude.{◌≡◌, ◌≤◌, ◌<◌, ℕ, List, Bool, [], ◌∷◌, ◌++◌, None, Some, true, false, length, map, replicate, slice_index_or, slice_set, Err, IfOk, OnOk, OnErr, IfErr, IsErrOf};
+ghost use Rattle.hay_needle.specs.declared.settings.Settings.{Settings};
 ghost use Rattle.hay_disk.specs.Counts.{Rose, IsNext};
 ghost use Rattle.hay_disk.specs.Disk.{IsFree, IsImage, IsSolid, KeepsOthers, MayLeave};
 ghost use Rattle.hay_dirfile.specs.Journal.{IsDamagedJournal};
@@ -115,9 +116,9 @@ impl<D: Disk> Directory<D> {
         ensures undamaged { D.Tells → 0 < length (D.files self.old.disk 0).now →
             OnOk result ((at : ℕ) → IsDamagedJournal (journal_super self.old.settings) (D.files self.old.disk 0).now at → ⊥) }
         ensures undamaged_now { D.Tells → OnOk result ((at : ℕ) → IsDamagedJournal (journal_super self.old.settings) (D.files self.new.disk 0).now at → ⊥) }
-        // Whatever a stop leaves of a void disk has no rows, then or after a refusal.
+        // Whatever a stop leaves of a void disk has no rows, by whatever settings, then or after a refusal.
         ensures nothing { D.Tells → (D.files self.old.disk 0).now ≡ [] → (image : ℕ → List ℕ) (rows : List HomeRow) →
-            IsImage (D.files self.new.disk 0) (image 0) → OpensRows self.old.settings image rows → rows ≡ [] }
+            (other : Settings) → IsImage (D.files self.new.disk 0) (image 0) → OpensRows other image rows → rows ≡ [] }
         ensures whole { D.Tells → (rows : List HomeRow) (file at : ℕ) →
             OpensRows self.old.settings (λ n. (D.files self.old.disk n).now) rows →
             result ≡ Err (OpenFault.Damaged file at) → ⊥ }

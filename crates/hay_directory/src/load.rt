@@ -1,5 +1,6 @@
 //! Loading the rows of a journal.
 ghost use Rattle.std.specs.Prelude.{◌≡◌, ◌≤◌, ◌<◌, ℕ, List, [], length, map, Err, IfOk, OnOk};
+ghost use Rattle.hay_needle.specs.declared.settings.Settings.{Settings};
 ghost use Rattle.hay_disk.specs.Counts.{Rose};
 ghost use Rattle.hay_disk.specs.Disk.{IsFree, IsImage, IsSolid, KeepsOthers};
 ghost use Rattle.hay_dirfile.specs.Journal.{IsDamagedJournal};
@@ -45,7 +46,7 @@ pub fn load<D: Disk>(
     ensures undamaged { D.Tells → 0 < length (D.files disk.old 0).now → OnOk result ((at : ℕ) → IsDamagedJournal (journal_super settings.now) (D.files disk.old 0).now at → ⊥) }
     ensures undamaged_now { D.Tells → OnOk result ((at : ℕ) → IsDamagedJournal (journal_super settings.now) (D.files disk.new 0).now at → ⊥) }
     ensures nothing { D.Tells → (D.files disk.old 0).now ≡ [] → (image : List ℕ) (rows : List HomeRow) →
-        IsImage (D.files disk.new 0) image → HasRows settings.now image rows → rows ≡ [] }
+        (other : Settings) → IsImage (D.files disk.new 0) image → HasRows other image rows → rows ≡ [] }
     ensures whole { D.Tells → (rows : List HomeRow) (file at : ℕ) → HasRows settings.now (D.files disk.old 0).now rows →
         result ≡ Err (OpenFault.Damaged file at) → ⊥ }
     ensures same { D.Tells → 0 < length (D.files disk.old 0).now → D.files disk.new ≡ D.files disk.old }

@@ -93,10 +93,10 @@ restart_without_memory_ends_well line pick notes after before wants = elim (want
   | inr is ↦ cc
 ]
 
-module _ (replica : ℕ → ℕ → Contents → Found → Type 0) (rows : Contents → List HomeRow → Type 0) (void : Contents → Type 0) (settings : Settings) (k : Known) (script read : List ℕ) (taken : Outside) (turn : Turn) (turns : List Turn) (t : Known) (written : List ℕ) (given : Outside) where
+module _ (replica : Settings → ℕ → ℕ → Contents → Found → Type 0) (rows : Settings → Contents → List HomeRow → Type 0) (void : Contents → Type 0) (settings : Settings) (k : Known) (script read : List ℕ) (taken : Outside) (turn : Turn) (turns : List Turn) (t : Known) (written : List ℕ) (given : Outside) where
   -- Behind a turn the disks given back hold what was acknowledged, but for a restart that is the next item and was refused.
   pub acknowledged_is_held : Interrupted replica rows void settings k script read taken (turn ∷ turns) t written given
-      → StandsOn replica rows settings t given ⊎ RestartRefused replica rows void settings k script read taken (turn ∷ turns) t written given IsFront
+      → StandsOn (replica settings) (rows settings) settings t given ⊎ RestartRefused replica rows void settings k script read taken (turn ∷ turns) t written given IsFront
   acknowledged_is_held (inl stood) = inl stood.stands
   acknowledged_is_held (inr (inl never)) = let clash = never.none in absurd cc
   acknowledged_is_held (inr (inr (inl first))) = let clash = first.none in absurd cc
@@ -104,12 +104,12 @@ module _ (replica : ℕ → ℕ → Contents → Found → Type 0) (rows : Conte
 
 -- A VOID DISK AT A FIRST OPENING THAT WAS REFUSED
 
--- a void disk that was formatted in part has no photo that an opening would find
-pub stranger_in_a_void_disk : (replica : ℕ → ℕ → Contents → Found → Type 0) (rows : Contents → List HomeRow → Type 0) (void : Contents → Type 0) (settings : Settings) (taken : Outside) (image : ℕ → Contents) (v j : ℕ) (contents : Contents) (found : Found) (first : Pair × Photo) (others : Table)
-    → v < settings.volumes → j < settings.replicas → IsVoidStill replica rows void settings taken image (slot_of settings v j) contents
-    → replica v j (image (slot_of settings v j)) found → found.table ≡ first ∷ others → ⊥
-stranger_in_a_void_disk replica rows void settings taken image v j contents found first others below within still finds is =
-    let none : found.table ≡ [] = ap (λ (f : Found). f.table) (still.nothing.replicas v j below within refl found finds) in
+-- a void disk that was formatted in part has no photo that an opening would find, by whatever settings
+pub stranger_in_a_void_disk : (replica : Settings → ℕ → ℕ → Contents → Found → Type 0) (rows : Settings → Contents → List HomeRow → Type 0) (void : Contents → Type 0) (settings other : Settings) (taken : Outside) (image : ℕ → Contents) (v j : ℕ) (contents : Contents) (found : Found) (first : Pair × Photo) (others : Table)
+    → v < other.volumes → j < other.replicas → IsVoidStill replica rows void settings taken image (slot_of other v j) contents
+    → replica other v j (image (slot_of other v j)) found → found.table ≡ first ∷ others → ⊥
+stranger_in_a_void_disk replica rows void settings other taken image v j contents found first others below within still finds is =
+    let none : found.table ≡ [] = ap (λ (f : Found). f.table) ((still.nothing other).replicas v j below within refl found finds) in
     let clash = sym none ∙ is in absurd cc
 
 -- ARMS

@@ -318,7 +318,7 @@ opens_on DiskTells files Tells rows rows' j r r' same h = record {
 pub disk_same : {D : Type 0} (files : D → Files) (r : Copy D) → ((n : ℕ) → IsSolid (files r.disk n)) → KeepsDisk files r r
 disk_same files r solid = record {
   kept = λ some n. (refl, solid n);
-  nothing = λ void image leaves s opens. void_left r.sup (files r.disk) (files r.disk) image s refl void (solid 0) leaves opens;
+  nothing = λ void image leaves other s opens. void_left other (files r.disk) (files r.disk) image s refl void (solid 0) leaves opens;
 }
 
 -- each replica that takes changes was opened, and so its photos can be deleted

@@ -94,7 +94,7 @@ module _ {D P : Type 0} {DiskTells : Type 0} {files : D → Files} {Tells : Type
   called_deletable replicas is can =
       subst (λ rs. CanDelete DiskTells files rs rows') (sym is) (swaps_deletable DiskTells files Tells faults start items new rows rows' at call.one call.ups result call.swaps call.places can)
 
-  pub called_open : (volume : Volume D P) → volume.replicas ≡ new → length items ≡ volume.settings.replicas → volumes.IsOpenCopy volume
+  pub called_open : (volume : Volume D P) → volume.replicas ≡ new → length items ≡ volume.settings.replicas → volumes.IsOpenVolume volume
   called_open volume is all = record {
     all = ap length is ∙ call.one.count ∙ all;
     each = λ j r' f.

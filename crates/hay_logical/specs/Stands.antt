@@ -113,7 +113,7 @@ Stands files Tells volume k = StandsFor files Tells volume k
 -- CLOSED VOLUMES
 
 abbrev pub IsIdleVolume : {D P : Type 0} → (D → Files) → Volume D P → Type 0
-IsIdleVolume {D} files volume = (j : ℕ) (r : Copy D) → At volume.replicas j r → physical.IsIdleVolume files r
+IsIdleVolume {D} files volume = (j : ℕ) (r : Copy D) → At volume.replicas j r → physical.IsIdleCopy files r
 
 -- A volume that was stopped: its disks hold what is known, and what was broken off is kept in memory.
 pub record StoppedFor {D P : Type 0} (files : D → Files) (volume : Volume D P) (k : VolumeKnown) : Type 0 where

@@ -2,6 +2,7 @@
 use Rattle.std.specs.Prelude.{◌≡◌, ◌⊎◌, ◌≤◌, ◌<◌, ◌+◌, ℕ, ◌-◌, min, Bool, true, false, List, length, slice_set, Option, Some, None, option_map, Result, Err, IfOk, IfErr, OnOk, OnErr}
 use Rattle.hay_needle.specs.declared.needle.Cookie.{Cookie}
 use Rattle.hay_needle.specs.declared.needle.Pair.{Pair}
+use Rattle.hay_needle.specs.declared.settings.Super.{Super}
 use Rattle.hay_needle.specs.Sizes.{needle_total}
 use Rattle.hay_disk.specs.Counts.{IsNext, Rose}
 use Rattle.hay_disk.specs.Disk.{Files, IsSolid, MayLeave}
@@ -215,7 +216,7 @@ pub record FusesAt {D : Type 0} (DiskTells : Type 0) (files : D → Files) (faul
 pub record Stops {D : Type 0} (DiskTells : Type 0) (files : D → Files) (faults fuses : D → ℕ) (r r' : Copy D) : Type 0 where
   pub closed : r'.phase ≡ Closed
   pub sup : r'.sup ≡ r.sup
-  pub idle : DiskTells → physical.IsIdle files r'
+  pub idle : DiskTells → physical.IsIdleCopy files r'
   pub left : DiskTells → MayLeave (files r.disk) (contents_of files r'.disk)
   pub stood : DiskTells → (s : Stored) → physical.Stands files r s → physical.Holds files r' (is_stuck r) s s
   pub holds : DiskTells → (stuck : Bool) (s t : Stored) → physical.Holds files r stuck s t → physical.Holds files r' stuck s t
@@ -430,11 +431,11 @@ pub record LeftAt {D : Type 0} (DiskTells : Type 0) (files : D → Files) (r r' 
   pub holds : DiskTells → (stuck : Bool) (s t : Stored) → physical.Holds files r stuck s t → physical.Holds files r' stuck s t
 
 -- A disk that is not void keeps its bytes, and all of it stays on the disk. Whatever a stop leaves of one that is void, an
--- opening of it finds nothing.
+-- opening of it finds nothing, by whatever superblock.
 pub record KeepsDisk {D : Type 0} (files : D → Files) (r r' : Copy D) : Type 0 where
   pub kept : (IsVoid (contents_of files r.disk) → ⊥) → (n : ℕ) → ((files r'.disk n).now ≡ (files r.disk n).now) × IsSolid (files r'.disk n)
   pub nothing : IsVoid (contents_of files r.disk) → (image : ℕ → List ℕ) → MayLeave (files r'.disk) image →
-      (s : Stored) → OpensAs r.sup image s → s ≡ fresh_stored
+      (other : Super) (s : Stored) → OpensAs other image s → s ≡ fresh_stored
 
 -- why replica j was not opened
 abbrev pub IsOpenFault : {D : Type 0} → Type 0 → (D → Files) → (D → ℕ) → Copy D → Copy D → OpenFault → Type 0

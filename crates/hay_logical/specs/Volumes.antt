@@ -59,7 +59,7 @@ IsClosed {D} volume = (j : ℕ) (r : Copy D) → At volume.replicas j r → r.ph
 
 pub record IsOpenVolume {D P : Type 0} (volume : Volume D P) : Type 0 where
   pub all : HasAll volume
-  pub each : (j : ℕ) (r : Copy D) → At volume.replicas j r → copies.IsOpenVolume r
+  pub each : (j : ℕ) (r : Copy D) → At volume.replicas j r → copies.IsOpenCopy r
 
 -- no count of faults fell, and the fuses stayed
 pub record KeepsCounts {D : Type 0} (faults fuses : D → ℕ) (old new : List (Copy D)) : Type 0 where

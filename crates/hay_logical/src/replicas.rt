@@ -245,7 +245,7 @@ pub(crate) fn open_each<D: Disk>(
     requires width { rows.old.replicas ≡ length replicas.old }
     requires empty { (pair : Pair) → row_at rows.old pair ≡ replicate (length replicas.old) place.None }
     requires closed { (j : ℕ) (r : Copy D) → At replicas.old j r → r.phase ≡ Closed }
-    requires idle { D.Tells → (j : ℕ) (r : Copy D) → At replicas.old j r → physical.IsIdle D.files r }
+    requires idle { D.Tells → (j : ℕ) (r : Copy D) → At replicas.old j r → physical.IsIdleCopy D.files r }
     ensures counts { KeepsCounts D.fault_count D.fuse_count replicas.old replicas.new }
     ensures width { rows.new.replicas ≡ rows.old.replicas }
     ensures thawed { OnErr result ((j : ℕ) (r : Copy D) → At replicas.new j r → is_frozen r ≡ false) }
@@ -279,7 +279,7 @@ fn open_one<D: Disk>(
 ) -> Result<(), OpenFault>
     requires within { j < rows.old.replicas }
     requires closed { replica.old.phase ≡ Closed }
-    requires idle { D.Tells → physical.IsIdle D.files replica.old }
+    requires idle { D.Tells → physical.IsIdleCopy D.files replica.old }
     requires long { (pair : Pair) → length (row_at rows.old pair) ≡ rows.old.replicas }
     requires empty { (pair : Pair) → place_in (row_at rows.old pair) j ≡ place.None }
     ensures opened { OnOk result (OpensAt D.Tells D.files D.Piece.Tells rows.new j replica.old replica.new) }

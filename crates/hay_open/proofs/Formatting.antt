@@ -78,10 +78,10 @@ first_generation : (generation : ℕ) (superblock image : List ℕ) (old new : F
 first_generation generation superblock image old new void solid changes leaves head =
     omega (arith, head.closed.room, leaves.no_longer, changes.longest, solid.longest, ap length void)
 
-none_stored : (sup : Super) (image : ℕ → List ℕ) (s : Stored) (file : FileState) → s.generation ≡ 0 → IsVolume (super_bytes (volume_super sup 0)) file.now [] 64 → IsSolid file → IsImage file (image 1) → IsStored sup image s → s ≡ fresh_stored
-none_stored sup image s file first volume solid leaves stored =
+none_stored : (sup other : Super) (image : ℕ → List ℕ) (s : Stored) (file : FileState) → s.generation ≡ 0 → IsVolume (super_bytes (volume_super sup 0)) file.now [] 64 → IsSolid file → IsImage file (image 1) → IsStored other image s → s ≡ fresh_stored
+none_stored sup other image s file first volume solid leaves stored =
     let whole : image 1 ≡ file.now = solid_whole file (image 1) solid leaves in
-    let there : IsVolume (super_bytes (volume_super sup 0)) (image 1) s.cells s.end = subst (λ n. IsVolume (super_bytes (volume_super sup n)) (image (volume_file n)) s.cells s.end) first stored.volume in
+    let there : IsVolume (super_bytes (volume_super other 0)) (image 1) s.cells s.end = subst (λ n. IsVolume (super_bytes (volume_super other n)) (image (volume_file n)) s.cells s.end) first stored.volume in
     let here : IsVolume (super_bytes (volume_super sup 0)) (image 1) [] 64 = subst (λ (l : List ℕ). IsVolume (super_bytes (volume_super sup 0)) l [] 64) (sym whole) volume in
     let same = one_volume 64 s.end 64 (image 1) s.cells [] there.has there.closed here.has here.closed in
     let records : s.records ≡ 0 = omega (arith, stored.lags, ap length same.0) in
@@ -89,16 +89,16 @@ none_stored sup image s file first volume solid leaves stored =
     ap (λ (c : List Cell). with c s.end s.records s.generation) same.0 ∙ ap (λ e. with [] e s.records s.generation) same.1
     ∙ ap (λ r. with [] 64 r s.generation) records ∙ ap (λ n. with [] 64 0 n) first
 
--- once it is written, the volume file beside it has no cells
-pub fresh_left : (sup : Super) (files : Files) (image : ℕ → List ℕ) (s : Stored) (old : FileState) → old.now ≡ [] → IsSolid old → Changes 0 88 old (files 0) → IsVolume (super_bytes (volume_super sup 0)) (files 1).now [] 64 → IsSolid (files 1)
-    → MayLeave files image → OpensAs sup image s → s ≡ fresh_stored
+-- once it is written, the volume file beside it has no cells, by whatever superblock it is read
+pub fresh_left : (sup other : Super) (files : Files) (image : ℕ → List ℕ) (s : Stored) (old : FileState) → old.now ≡ [] → IsSolid old → Changes 0 88 old (files 0) → IsVolume (super_bytes (volume_super sup 0)) (files 1).now [] 64 → IsSolid (files 1)
+    → MayLeave files image → OpensAs other image s → s ≡ fresh_stored
 unfolding OpensAs
-fresh_left sup files image s old void solid changes volume rests leaves (inl none) = none.1
-fresh_left sup files image s old void solid changes volume rests leaves (inr stored) =
-    none_stored sup image s (files 1) (first_generation s.generation (super_bytes (head_super sup)) (image 0) old (files 0) void solid changes (leaves 0) stored.head) volume rests (leaves 1) stored
+fresh_left sup other files image s old void solid changes volume rests leaves (inl none) = none.1
+fresh_left sup other files image s old void solid changes volume rests leaves (inr stored) =
+    none_stored sup other image s (files 1) (first_generation s.generation (super_bytes (head_super other)) (image 0) old (files 0) void solid changes (leaves 0) stored.head) volume rests (leaves 1) stored
 
-pub new_left : (sup one : Super) (f0 f3 f4 f6 f7 : Files) (image : ℕ → List ℕ) (s : Stored) → f6 0 ≡ f0 0 → (f0 0).now ≡ [] → IsSolid (f0 0) → one ≡ volume_super sup 0 → IsVolume (super_bytes one) (f3 1).now [] 64 → Keeps (f3 1) (f4 1) → IsSolid (f4 1)
-    → f7 1 ≡ f4 1 → Changes 0 88 (f6 0) (f7 0) → MayLeave f7 image → OpensAs sup image s → s ≡ fresh_stored
-new_left sup one f0 f3 f4 f6 f7 image s head void solid same is keeps rests stays changes leaves opens =
+pub new_left : (sup one other : Super) (f0 f3 f4 f6 f7 : Files) (image : ℕ → List ℕ) (s : Stored) → f6 0 ≡ f0 0 → (f0 0).now ≡ [] → IsSolid (f0 0) → one ≡ volume_super sup 0 → IsVolume (super_bytes one) (f3 1).now [] 64 → Keeps (f3 1) (f4 1) → IsSolid (f4 1)
+    → f7 1 ≡ f4 1 → Changes 0 88 (f6 0) (f7 0) → MayLeave f7 image → OpensAs other image s → s ≡ fresh_stored
+new_left sup one other f0 f3 f4 f6 f7 image s head void solid same is keeps rests stays changes leaves opens =
     let there : IsVolume (super_bytes (volume_super sup 0)) (f7 1).now [] 64 = subst (λ (l : List ℕ). IsVolume (super_bytes (volume_super sup 0)) l [] 64) (sym keeps.now ∙ ap (λ (f : FileState). f.now) (sym stays)) (subst (λ (s : Super). IsVolume (super_bytes s) (f3 1).now [] 64) same is) in
-    fresh_left sup f7 image s (f6 0) (ap (λ (f : FileState). f.now) head ∙ void) (subst (λ (f : FileState). IsSolid f) (sym head) solid) changes there (subst (λ (f : FileState). IsSolid f) (sym stays) rests) leaves opens
+    fresh_left sup other f7 image s (f6 0) (ap (λ (f : FileState). f.now) head ∙ void) (subst (λ (f : FileState). IsSolid f) (sym head) solid) changes there (subst (λ (f : FileState). IsSolid f) (sym stays) rests) leaves opens

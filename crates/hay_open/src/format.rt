@@ -1,6 +1,7 @@
 //! Formatting a void disk.
 
 ghost use Rattle.std.specs.Prelude.{◌≡◌, ◌<◌, ℕ, List, [], false, IfOk, OnOk, Err, IsErrOf};
+ghost use Rattle.hay_needle.specs.declared.settings.Super.{Super};
 ghost use Rattle.hay_disk.specs.Counts.{IsCounted};
 ghost use Rattle.hay_disk.specs.Disk.{IsFree, IsSolid, MayLeave};
 ghost use Rattle.hay_open.specs.Damage.{IsReadingDamage};
@@ -33,7 +34,7 @@ pub(crate) fn format_disk<D: Disk>(
     ensures others { D.Tells → (n : ℕ) → 2 < n → D.files disk.new n ≡ D.files disk.old n }
     ensures void { D.Tells → IsErrOf result Refusal.NoMemory → D.files disk.new 0 ≡ D.files disk.old 0 }
     ensures nothing { D.Tells → IsVoid (λ n. (D.files disk.old n).now) → (image : ℕ → List ℕ) → MayLeave (D.files disk.new) image →
-        (s : Stored) → OpensAs sup.now image s → s ≡ fresh_stored }
+        (other : Super) (s : Stored) → OpensAs other image s → s ≡ fresh_stored }
     ensures whole { D.Tells → OnOk result ((file at : ℕ) → IsReadingDamage sup.now (λ n. (D.files disk.new n).now) file at → ⊥) }
     ensures undamaged { (file at : ℕ) → result ≡ Err (Refusal.Damaged file at) → ⊥ }
     ensures counted { IsCounted (D.fault_count disk.old) (D.fault_count disk.new) (IsErrOf result Refusal.Failed) }

@@ -10,6 +10,7 @@
 #![tactic(auto)]
 
 ghost use Rattle.std.specs.Prelude.{◌≡◌, ◌⊎◌, ◌≤◌, ◌<◌, ℕ, List, false, Err, IfOk, IfErr, OnOk, OnErr, IsErrOf};
+ghost use Rattle.hay_needle.specs.declared.settings.Super.{Super};
 ghost use Rattle.hay_needle.specs.declared.needle.Pair.{Pair};
 ghost use Rattle.hay_disk.specs.Counts.{Rose};
 ghost use Rattle.hay_disk.specs.Disk.{IsFree, IsSolid, MayLeave};
@@ -73,9 +74,9 @@ pub fn open_replica<D: Disk>(
     ensures others { D.Tells → IsVoid (λ n. (D.files disk.old n).now) → (n : ℕ) → 2 < n → D.files disk.new n ≡ D.files disk.old n }
     ensures void { D.Tells → IsVoid (λ n. (D.files disk.old n).now) → IsErrOf result OpenFault.NoMemory → D.files disk.new 0 ≡ D.files disk.old 0 }
 
-    // Whatever a stop leaves of a disk that was void, an opening of it finds nothing.
+    // Whatever a stop leaves of a disk that was void, an opening of it finds nothing, by whatever superblock.
     ensures nothing { D.Tells → IsVoid (λ n. (D.files disk.old n).now) → (image : ℕ → List ℕ) → MayLeave (D.files disk.new) image →
-        (s : Stored) → OpensAs sup.now image s → s ≡ fresh_stored }
+        (other : Super) (s : Stored) → OpensAs other image s → s ≡ fresh_stored }
 
     // Damage comes only where the disk is neither void nor whole, and is named at its place.
     ensures damaged { D.Tells → (file at : ℕ) → result ≡ Err (OpenFault.Damaged file at) → IsOpeningDamage sup.now (λ n. (D.files disk.old n).now) file at }

@@ -1,6 +1,7 @@
 //! A replica, closed or open.
 
 ghost use Rattle.std.specs.Prelude.{◌≡◌, ◌⊎◌, ◌≤◌, ◌<◌, ◌+◌, ℕ, List, Bool, true, false, length, Option, None, Err, IfOk, IfErr, OnOk, OnErr, IsErrOf};
+ghost use Rattle.hay_needle.specs.declared.settings.Super.{Super};
 ghost use Rattle.hay_needle.specs.Sizes.{needle_total};
 ghost use Rattle.hay_needle.specs.declared.needle.Cookie.{Cookie};
 ghost use Rattle.hay_needle.specs.declared.needle.Pair.{Pair};
@@ -85,9 +86,9 @@ impl<D: Disk> Replica<D> {
         ensures closed { OnErr result (self.new.phase ≡ Closed) }
         ensures kept { D.Tells → (IsVoid (contents_of D.files self.old.disk) → ⊥) →
             (n : ℕ) → ((D.files self.new.disk n).now ≡ (D.files self.old.disk n).now) × IsSolid (D.files self.new.disk n) }
-        // Whatever a stop leaves of a disk that was void, an opening of it finds nothing.
+        // Whatever a stop leaves of a disk that was void, an opening of it finds nothing, by whatever superblock.
         ensures nothing { D.Tells → IsVoid (contents_of D.files self.old.disk) → (image : ℕ → List ℕ) → MayLeave (D.files self.new.disk) image →
-            (s : Stored) → OpensAs self.old.sup image s → s ≡ fresh_stored }
+            (other : Super) (s : Stored) → OpensAs other image s → s ≡ fresh_stored }
         ensures left { D.Tells → (stuck : Bool) (s t : Stored) → Holds D.files self.old stuck s t → OnErr result (Holds D.files self.new stuck s t) }
         ensures damaged { D.Tells → (file at : ℕ) → result ≡ Err (OpenFault.Damaged file at) → IsOpeningDamage self.old.sup (contents_of D.files self.old.disk) file at }
         ensures only { D.Tells → (s : Stored) → OpensAs self.old.sup (contents_of D.files self.old.disk) s →

@@ -17,10 +17,11 @@ use Rattle.hay_legal.specs.Items.{Asked, InBlock}
 use Rattle.hay_legal.specs.Items.Asked.{Alone, Block}
 use Rattle.hay_cluster.specs.declared.fault.ClusterFault.{ClusterFault}
 use Rattle.hay_cluster.specs.declared.fault.ClusterFault.TheVariants as refusal
-use Rattle.hay_cluster.specs.Causes.{Counts, HasFaultCause, IsCaused}
+use Rattle.hay_cluster.specs.Outside.{IsDamagedDisk, IsUndamaged, IsUndamagedBelow}
+use Rattle.hay_cluster.specs.Causes.{BlamesNoArm, HasFaultCause, IsCaused, LeavesFuses}
 use Rattle.hay_run.specs.declared.stops.Stop.{Stop}
 use Rattle.hay_run.specs.declared.stops.Stop.TheVariants as stop
-use Rattle.hay_run.specs.Causing.{NoCountFalls, IsTextOf, AnswerTexts, Caused, IsNoteCaused, IsRestart, NotReopened, ToldRefusal, ToldWanting, StopCaused, TookLastItem, TurnStops}
+use Rattle.hay_run.specs.Causing.{IsLaterTally, IsTextOf, AnswerTexts, Caused, IsNoteCaused, IsRestart, NotReopened, ToldRefusal, ToldWanting, StopCaused, TookLastItem, TurnStops, HasSureArm, Tally}
 use Rattle.hay_run.specs.Items.{TookOpen}
 use Rattle.hay_run.specs.Lines.{TookPart, TookOver, TookSome}
 use Rattle.hay_run.specs.Stops.{note_of}
@@ -29,179 +30,187 @@ use Rattle.hay_run.specs.Unbuilt.{unbuilt_text}
 use Rattle.hay_run.proofs.Counting.{NoneFalls-same}
 use Rattle.hay_run.proofs.Turning.{wrote_nothing, wrote_more, wrote_part}
 
-pub same_counts : (counts : Counts) → NoCountFalls counts counts
-same_counts counts = (NoneFalls-same counts.disks, NoneFalls-same counts.arms)
+pub same_tally : (tally : Tally) → IsLaterTally tally tally
+same_tally tally = (NoneFalls-same tally.counts.disks, NoneFalls-same tally.counts.arms, λ lane sure. sure)
 
--- texts behind texts
-texts_more : (settings : Settings) (a b c : Counts) (asked more : List Asked) (text text' : List ℕ)
-    → AnswerTexts settings a b asked text → AnswerTexts settings b c more text' → AnswerTexts settings a c (asked ++ more) (text ++ text')
-texts_more settings a b c [] more text text' h k =
-    subst (λ (l : List ℕ). AnswerTexts settings a c more (l ++ text')) (sym h.0) (subst (λ (m : Counts). AnswerTexts settings m c more text') h.1 k)
-texts_more settings a b c (one ∷ asked) more text text' h k = (
-  h.0,
-  h.1,
-  h.2 ++ text',
-  ap (λ (l : List ℕ). l ++ text') h.3 ∙ append_assoc h.1 h.2 text',
-  h.4,
-  h.5,
-  texts_more settings h.0 b c asked more h.2 text' h.6 k,
-)
+module _ (Tells : Type 0) where
+  -- texts behind texts
+  texts_more : (settings : Settings) (a b c : Tally) (asked more : List Asked) (text text' : List ℕ)
+      → AnswerTexts Tells settings a b asked text → AnswerTexts Tells settings b c more text' → AnswerTexts Tells settings a c (asked ++ more) (text ++ text')
+  texts_more settings a b c [] more text text' h k =
+      subst (λ (l : List ℕ). AnswerTexts Tells settings a c more (l ++ text')) (sym h.0) (subst (λ (m : Tally). AnswerTexts Tells settings m c more text') h.1 k)
+  texts_more settings a b c (one ∷ asked) more text text' h k = (
+    h.0,
+    h.1,
+    h.2 ++ text',
+    ap (λ (l : List ℕ). l ++ text') h.3 ∙ append_assoc h.1 h.2 text',
+    h.4,
+    h.5,
+    texts_more settings h.0 b c asked more h.2 text' h.6 k,
+  )
 
-pub caused_more : (settings : Settings) (a b c : Counts) (asked more : List Asked) (written written' written'' : Option (List ℕ))
-    → Caused Wrote settings a b asked written written' → Caused Wrote settings b c more written' written'' → Caused Wrote settings a c (asked ++ more) written written''
-caused_more settings a b c asked more written written' written'' h k = record {
-  text = h.text ++ k.text;
-  answers = texts_more settings a b c asked more h.text k.text h.answers k.answers;
-  wrote = wrote_more written written' written'' h.text k.text h.wrote k.wrote;
-}
+  pub caused_more : (settings : Settings) (a b c : Tally) (asked more : List Asked) (written written' written'' : Option (List ℕ))
+      → Caused Tells Wrote settings a b asked written written' → Caused Tells Wrote settings b c more written' written'' → Caused Tells Wrote settings a c (asked ++ more) written written''
+  caused_more settings a b c asked more written written' written'' h k = record {
+    text = h.text ++ k.text;
+    answers = texts_more settings a b c asked more h.text k.text h.answers k.answers;
+    wrote = wrote_more written written' written'' h.text k.text h.wrote k.wrote;
+  }
 
--- nothing was asked for
-pub caused_nothing : (settings : Settings) (counts : Counts) (written : Option (List ℕ)) → Caused Wrote settings counts counts [] written written
-caused_nothing settings counts written = record { text = []; answers = (refl, refl); wrote = wrote_nothing written }
+  -- nothing was asked for
+  pub caused_nothing : (settings : Settings) (tally : Tally) (written : Option (List ℕ)) → Caused Tells Wrote settings tally tally [] written written
+  caused_nothing settings tally written = record { text = []; answers = (refl, refl); wrote = wrote_nothing written }
 
-part_nothing : (settings : Settings) (counts : Counts) (written : Option (List ℕ)) → Caused WrotePart settings counts counts [] written written
-part_nothing settings counts written = record { text = []; answers = (refl, refl); wrote = wrote_part written written [] (wrote_nothing written) }
+  part_nothing : (settings : Settings) (tally : Tally) (written : Option (List ℕ)) → Caused Tells WrotePart settings tally tally [] written written
+  part_nothing settings tally written = record { text = []; answers = (refl, refl); wrote = wrote_part written written [] (wrote_nothing written) }
 
--- one item was answered
-pub caused_one : (Writes : Writing) (settings : Settings) (before after : Counts) (asked : Asked) (text : List ℕ) (written written' : Option (List ℕ))
-    → NoCountFalls before after → IsTextOf settings before after asked text → Writes written text written' → Caused Writes settings before after (asked ∷ []) written written'
-caused_one Writes settings before after asked text written written' none is wrote = record {
-  text = text;
-  answers = (after, text, [], sym (append-nil text), none, is, (refl, refl));
-  wrote = wrote;
-}
+  -- one item was answered
+  pub caused_one : (Writes : Writing) (settings : Settings) (before after : Tally) (asked : Asked) (text : List ℕ) (written written' : Option (List ℕ))
+      → IsLaterTally before after → IsTextOf Tells settings before after asked text → Writes written text written' → Caused Tells Writes settings before after (asked ∷ []) written written'
+  caused_one Writes settings before after asked text written written' none is wrote = record {
+    text = text;
+    answers = (after, text, [], sym (append-nil text), none, is, (refl, refl));
+    wrote = wrote;
+  }
 
-pub caused_reply : (Writes : Writing) (settings : Settings) (before after : Counts) (number : ℕ) (command : Command) (reply : Reply) (written written' : Option (List ℕ))
-    → ((pick : ℕ) → command ≢ asks.Restart pick) → NoCountFalls before after → IsCaused settings 0 before after reply → Writes written (numbered_line number reply) written'
-    → Caused Writes settings before after (Alone number (item.Command command) ∷ []) written written'
-caused_reply Writes settings before after number command reply written written' other none cause wrote =
-    caused_one Writes settings before after (Alone number (item.Command command)) (numbered_line number reply) written written' none (inr (other, (reply, cause, refl))) wrote
+  pub caused_reply : (Writes : Writing) (settings : Settings) (before after : Tally) (number : ℕ) (command : Command) (reply : Reply) (written written' : Option (List ℕ))
+      → ((pick : ℕ) → command ≢ asks.Restart pick) → IsLaterTally before after → LeavesFuses settings command before.fuses after.fuses
+      → IsCaused settings 0 before.counts after.counts reply → (HasSureArm before 0 → BlamesNoArm reply) → Writes written (numbered_line number reply) written'
+      → Caused Tells Writes settings before after (Alone number (item.Command command) ∷ []) written written'
+  caused_reply Writes settings before after number command reply written written' other none fuses cause sure wrote =
+      caused_one Writes settings before after (Alone number (item.Command command)) (numbered_line number reply) written written' none (fuses, inr (other, (reply, cause, sure, refl))) wrote
 
-pub caused_restart : (Writes : Writing) (settings : Settings) (before after : Counts) (number pick rows : ℕ) (notes : List Note) (written written' : Option (List ℕ))
-    → NoCountFalls before after → Writes written (numbered_line number (Restarted rows) ++ flat_map note_line notes) written'
-    → Caused Writes settings before after (Alone number (item.Command (asks.Restart pick)) ∷ []) written written'
-caused_restart Writes settings before after number pick rows notes written written' none wrote =
-    caused_one Writes settings before after (Alone number (item.Command (asks.Restart pick))) (numbered_line number (Restarted rows) ++ flat_map note_line notes) written written' none
-    (inl (pick, rows, notes, refl, refl)) wrote
+  pub caused_restart : (Writes : Writing) (settings : Settings) (before after : Tally) (number pick rows : ℕ) (notes : List Note) (written written' : Option (List ℕ))
+      → IsLaterTally before after → after.fuses ≡ before.fuses → (Tells → IsUndamaged settings after.contents) → Writes written (numbered_line number (Restarted rows) ++ flat_map note_line notes) written'
+      → Caused Tells Writes settings before after (Alone number (item.Command (asks.Restart pick)) ∷ []) written written'
+  caused_restart Writes settings before after number pick rows notes written written' none fuses sound wrote =
+      caused_one Writes settings before after (Alone number (item.Command (asks.Restart pick))) (numbered_line number (Restarted rows) ++ flat_map note_line notes) written written' none
+      (fuses, inl (pick, rows, notes, refl, refl, sound)) wrote
 
--- HOW A LINE STOPS A RUN
+  -- HOW A LINE STOPS A RUN
 
-same_stop : {T : Type 0} (r : Result T Stop) (why other : Stop) → r ≡ Err why → r ≡ Err other → other ≡ why
-same_stop r why other is e = cc
+  same_stop : {T : Type 0} (r : Result T Stop) (why other : Stop) → r ≡ Err why → r ≡ Err other → other ≡ why
+  same_stop r why other is e = cc
 
-part_by : {T : Type 0} (settings : Settings) (before after : Counts) (asked : List Asked) (written written' : Option (List ℕ)) (r : Result T Stop) (why : Stop) → r ≡ Err why
-    → (r ≡ Err stop.Output) ⊎ (r ≡ Err stop.NoMemory) → Caused WrotePart settings before after asked written written' → StopCaused settings before after why asked written written'
-part_by settings before after asked written written' r why is (inl e) caused =
-    subst (λ (w : Stop). StopCaused settings before after w asked written written') (same_stop r why stop.Output is e) (inl caused)
-part_by settings before after asked written written' r why is (inr e) caused =
-    subst (λ (w : Stop). StopCaused settings before after w asked written written') (same_stop r why stop.NoMemory is e) (inl caused)
+  part_by : {T : Type 0} (settings : Settings) (before after : Tally) (asked : List Asked) (written written' : Option (List ℕ)) (r : Result T Stop) (why : Stop) → r ≡ Err why
+      → (r ≡ Err stop.Output) ⊎ (r ≡ Err stop.NoMemory) → Caused Tells WrotePart settings before after asked written written' → StopCaused Tells settings before after why asked written written'
+  part_by settings before after asked written written' r why is (inl e) caused =
+      subst (λ (w : Stop). StopCaused Tells settings before after w asked written written') (same_stop r why stop.Output is e) (inl caused)
+  part_by settings before after asked written written' r why is (inr e) caused =
+      subst (λ (w : Stop). StopCaused Tells settings before after w asked written written') (same_stop r why stop.NoMemory is e) (inl caused)
 
-pub part_stops : {T : Type 0} (settings : Settings) (before after : Counts) (asked : List Asked) (written written' : Option (List ℕ)) (r : Result T Stop) (why : Stop) → r ≡ Err why
-    → OnErr r ((r ≡ Err stop.Output) ⊎ (r ≡ Err stop.NoMemory)) → OnErr r (Caused WrotePart settings before after asked written written') → StopCaused settings before after why asked written written'
-part_stops settings before after asked written written' r why is kinds part =
-    part_by settings before after asked written written' r why is
-    (IfErr-at_err (λ (w : Stop). (r ≡ Err stop.Output) ⊎ (r ≡ Err stop.NoMemory)) is kinds)
-    (IfErr-at_err (λ (w : Stop). Caused WrotePart settings before after asked written written') is part)
+  pub part_stops : {T : Type 0} (settings : Settings) (before after : Tally) (asked : List Asked) (written written' : Option (List ℕ)) (r : Result T Stop) (why : Stop) → r ≡ Err why
+      → OnErr r ((r ≡ Err stop.Output) ⊎ (r ≡ Err stop.NoMemory)) → OnErr r (Caused Tells WrotePart settings before after asked written written') → StopCaused Tells settings before after why asked written written'
+  part_stops settings before after asked written written' r why is kinds part =
+      part_by settings before after asked written written' r why is
+      (IfErr-at_err (λ (w : Stop). (r ≡ Err stop.Output) ⊎ (r ≡ Err stop.NoMemory)) is kinds)
+      (IfErr-at_err (λ (w : Stop). Caused Tells WrotePart settings before after asked written written') is part)
 
--- a restart that was refused
-module _ (settings : Settings) (before after : Counts) (number pick : ℕ) (written written' : Option (List ℕ)) (why : Stop) (back : NotReopened before after (Alone number (item.Command (asks.Restart pick)) ∷ [])) where
-  abbrev RestartAsked : List Asked
-  RestartAsked = Alone number (item.Command (asks.Restart pick)) ∷ []
+  -- a restart that was refused
+  module _ (settings : Settings) (before after : Tally) (number pick : ℕ) (written written' : Option (List ℕ)) (why : Stop) (back : NotReopened before after (Alone number (item.Command (asks.Restart pick)) ∷ [])) where
+    abbrev RestartAsked : List Asked
+    RestartAsked = Alone number (item.Command (asks.Restart pick)) ∷ []
 
-  abbrev PartOf : Note → Type 0
-  PartOf note = (why ≡ stop.Store) ⊎ WrotePart written (note_line note) written'
+    abbrev PartOf : Note → Type 0
+    PartOf note = (why ≡ stop.Store) ⊎ WrotePart written (note_line note) written'
 
-  restart_number : (is : IsRestart RestartAsked) → is.0 ≡ number
-  restart_number (n, p, same) = cc
+    restart_number : (is : IsRestart RestartAsked) → is.0 ≡ number
+    restart_number (n, p, same) = cc
 
-  note_caused : (fault : ClusterFault) → HasFaultCause settings before.disks after.disks fault → (note : Note) → note_of fault ≡ Some note → IsNoteCaused settings before after note
-  note_caused (refusal.Shelf count) cause note is = absurd cause
-  note_caused (refusal.Failed slot count) cause note is =
-      let same : note ≡ OpenFailed slot count = cc in subst (λ (n : Note). IsNoteCaused settings before after n) (sym same) (cause.0, (cause.1, cause.2))
-  note_caused (refusal.Damaged slot file at) cause note is =
-      let same : note ≡ OpenDamaged slot file at = cc in subst (λ (n : Note). IsNoteCaused settings before after n) (sym same) tt
-  note_caused refusal.NoMemory cause note is = cc
+    abbrev LowestFor : ClusterFault → Type 0
+    LowestFor fault = Tells → (slot count : ℕ) → fault ≡ refusal.Failed slot count → IsUndamagedBelow settings slot after.contents
 
-  abbrev Told : Type 0
-  Told = Caused WrotePart settings before after RestartAsked written written' ⊎ ToldWanting before after RestartAsked written written' ⊎ ToldRefusal WrotePart settings before after RestartAsked written written'
+    abbrev PlaceFor : ClusterFault → Type 0
+    PlaceFor fault = Tells → (slot file at : ℕ) → fault ≡ refusal.Damaged slot file at → IsDamagedDisk settings after.contents slot file at
 
-  refusal_part : (note : Note) → why ≢ stop.Store → IsNoteCaused settings before after note → PartOf note → Told
-  refusal_part note other cause (inl is) = absurd (other is)
-  refusal_part note other cause (inr wrote) = inr (inr (back, (note, cause, wrote)))
+    note_caused : (fault : ClusterFault) → HasFaultCause settings before.counts.disks after.counts.disks fault → LowestFor fault → PlaceFor fault → (note : Note) → note_of fault ≡ Some note → IsNoteCaused Tells settings before after note
+    note_caused (refusal.Shelf count) cause lowest place note is = absurd cause
+    note_caused (refusal.Failed slot count) cause lowest place note is =
+        let same : note ≡ OpenFailed slot count = cc in subst (λ (n : Note). IsNoteCaused Tells settings before after n) (sym same) (cause.0, (cause.1, cause.2), λ tells. lowest tells slot count refl)
+    note_caused (refusal.Damaged slot file at) cause lowest place note is =
+        let same : note ≡ OpenDamaged slot file at = cc in subst (λ (n : Note). IsNoteCaused Tells settings before after n) (sym same) (λ tells. place tells slot file at refl)
+    note_caused refusal.NoMemory cause lowest place note is = cc
 
-  part_refused : (fault : ClusterFault) → HasFaultCause settings before.disks after.disks fault → why ≢ stop.Store
-      → (fault ≡ refusal.NoMemory → (why ≢ stop.Store) × WrotePart written (numbered_line number NoMem) written') → ((note : Note) → note_of fault ≡ Some note → PartOf note)
-      → Told
-  part_refused (refusal.Shelf count) cause other wanting part = absurd cause
-  part_refused (refusal.Failed slot count) cause other wanting part =
-      refusal_part (OpenFailed slot count) other (cause.0, (cause.1, cause.2)) (part (OpenFailed slot count) refl)
-  part_refused (refusal.Damaged slot file at) cause other wanting part = refusal_part (OpenDamaged slot file at) other tt (part (OpenDamaged slot file at) refl)
-  part_refused refusal.NoMemory cause other wanting part =
-      let same : back.restart.0 ≡ number = restart_number back.restart in
-      inr (inl (back, subst (λ (n : ℕ). WrotePart written (numbered_line n NoMem) written') (sym same) (wanting refl).1))
+    abbrev Told : Type 0
+    Told = Caused Tells WrotePart settings before after RestartAsked written written' ⊎ ToldWanting before after RestartAsked written written' ⊎ ToldRefusal Tells WrotePart settings before after RestartAsked written written'
 
-  pub refused_stops : (fault : ClusterFault) → HasFaultCause settings before.disks after.disks fault
-      → (fault ≡ refusal.NoMemory → (why ≢ stop.Store) × WrotePart written (numbered_line number NoMem) written')
-      → (why ≡ stop.Store → (note : Note) × (note_of fault ≡ Some note) × Wrote written (note_line note) written')
-      → ((note : Note) → note_of fault ≡ Some note → PartOf note)
-      → (why ≡ stop.Output) ⊎ (why ≡ stop.NoMemory) ⊎ (why ≡ stop.Store) → StopCaused settings before after why RestartAsked written written'
-  refused_stops fault cause wanting told part (inl e) =
-      subst (λ (w : Stop). StopCaused settings before after w RestartAsked written written') (sym e) (part_refused fault cause (λ is. cc) wanting part)
-  refused_stops fault cause wanting told part (inr (inl e)) =
-      subst (λ (w : Stop). StopCaused settings before after w RestartAsked written written') (sym e) (part_refused fault cause (λ is. cc) wanting part)
-  refused_stops fault cause wanting told part (inr (inr e)) =
-      let note = told e in
-      subst (λ (w : Stop). StopCaused settings before after w RestartAsked written written') (sym e) (back, (note.0, note_caused fault cause note.0 note.1, note.2))
+    refusal_part : (note : Note) → why ≢ stop.Store → IsNoteCaused Tells settings before after note → PartOf note → Told
+    refusal_part note other cause (inl is) = absurd (other is)
+    refusal_part note other cause (inr wrote) = inr (inr (back, (note, cause, wrote)))
 
--- HOW A TURN STOPS
+    part_refused : (fault : ClusterFault) → HasFaultCause settings before.counts.disks after.counts.disks fault → LowestFor fault → PlaceFor fault → why ≢ stop.Store
+        → (fault ≡ refusal.NoMemory → (why ≢ stop.Store) × WrotePart written (numbered_line number NoMem) written') → ((note : Note) → note_of fault ≡ Some note → PartOf note)
+        → Told
+    part_refused (refusal.Shelf count) cause lowest place other wanting part = absurd cause
+    part_refused (refusal.Failed slot count) cause lowest place other wanting part =
+        refusal_part (OpenFailed slot count) other (cause.0, (cause.1, cause.2), λ tells. lowest tells slot count refl) (part (OpenFailed slot count) refl)
+    part_refused (refusal.Damaged slot file at) cause lowest place other wanting part = refusal_part (OpenDamaged slot file at) other (λ tells. place tells slot file at refl) (part (OpenDamaged slot file at) refl)
+    part_refused refusal.NoMemory cause lowest place other wanting part =
+        let same : back.restart.0 ≡ number = restart_number back.restart in
+        inr (inl (back, subst (λ (n : ℕ). WrotePart written (numbered_line n NoMem) written') (sym same) (wanting refl).1))
 
--- nothing whole was read
-module _ {T : Type 0} (settings : Settings) (counts : Counts) (number : ℕ) (before after written : Option (List ℕ)) (r : Result T Stop) (why : Stop) (is : r ≡ Err why)
-    (input : IsErrOf r stop.Input → TookOpen TookPart number None before after) (memory : IsErrOf r stop.NoMemory → TookSome before after)
-    (over : IsErrOf r stop.TooLong → TookOpen TookOver number None before after) where
-  reading_by : (r ≡ Err stop.Input) ⊎ (r ≡ Err stop.NoMemory) ⊎ (r ≡ Err stop.TooLong) → TurnStops settings counts counts why number before written after written
-  reading_by (inl e) =
-      subst (λ (w : Stop). TurnStops settings counts counts w number before written after written) (same_stop r why stop.Input is e)
-      (record { asked = []; took = input e; caused = (refl, refl, refl) })
-  reading_by (inr (inl e)) =
-      subst (λ (w : Stop). TurnStops settings counts counts w number before written after written) (same_stop r why stop.NoMemory is e)
-      (record { asked = []; took = inr (refl, memory e); caused = inl (part_nothing settings counts written) })
-  reading_by (inr (inr e)) =
-      subst (λ (w : Stop). TurnStops settings counts counts w number before written after written) (same_stop r why stop.TooLong is e)
-      (record { asked = []; took = over e; caused = (refl, refl, refl) })
+    pub refused_stops : (fault : ClusterFault) → HasFaultCause settings before.counts.disks after.counts.disks fault → LowestFor fault → PlaceFor fault
+        → (fault ≡ refusal.NoMemory → (why ≢ stop.Store) × WrotePart written (numbered_line number NoMem) written')
+        → (why ≡ stop.Store → (note : Note) × (note_of fault ≡ Some note) × Wrote written (note_line note) written')
+        → ((note : Note) → note_of fault ≡ Some note → PartOf note)
+        → (why ≡ stop.Output) ⊎ (why ≡ stop.NoMemory) ⊎ (why ≡ stop.Store) → StopCaused Tells settings before after why RestartAsked written written'
+    refused_stops fault cause lowest place wanting told part (inl e) =
+        subst (λ (w : Stop). StopCaused Tells settings before after w RestartAsked written written') (sym e) (part_refused fault cause lowest place (λ is. cc) wanting part)
+    refused_stops fault cause lowest place wanting told part (inr (inl e)) =
+        subst (λ (w : Stop). StopCaused Tells settings before after w RestartAsked written written') (sym e) (part_refused fault cause lowest place (λ is. cc) wanting part)
+    refused_stops fault cause lowest place wanting told part (inr (inr e)) =
+        let note = told e in
+        subst (λ (w : Stop). StopCaused Tells settings before after w RestartAsked written written') (sym e) (back, (note.0, note_caused fault cause lowest place note.0 note.1, note.2))
 
-  pub reading_stops : OnErr r ((r ≡ Err stop.Input) ⊎ (r ≡ Err stop.NoMemory) ⊎ (r ≡ Err stop.TooLong)) → TurnStops settings counts counts why number before written after written
-  reading_stops kinds = reading_by (IfErr-at_err (λ (w : Stop). (r ≡ Err stop.Input) ⊎ (r ≡ Err stop.NoMemory) ⊎ (r ≡ Err stop.TooLong)) is kinds)
+  -- HOW A TURN STOPS
 
--- an item was read
-module _ {T : Type 0} (settings : Settings) (old new : Counts) (number : ℕ) (asked : List Asked) (before after written written' : Option (List ℕ)) (r : Result T Stop) (why : Stop) (is : r ≡ Err why)
-    (took : TookLastItem number asked before after) where
-  item_by : (r ≡ Err stop.Output) ⊎ (r ≡ Err stop.NoMemory) ⊎ (r ≡ Err stop.Store) → StopCaused settings old new why asked written written' → TurnStops settings old new why number before written after written'
-  item_by (inl e) caused =
-      subst (λ (w : Stop). StopCaused settings old new w asked written written' → TurnStops settings old new w number before written after written') (same_stop r why stop.Output is e)
-      (λ h. record { asked = asked; took = took; caused = h }) caused
-  item_by (inr (inl e)) caused =
-      subst (λ (w : Stop). StopCaused settings old new w asked written written' → TurnStops settings old new w number before written after written') (same_stop r why stop.NoMemory is e)
-      (λ h. record { asked = asked; took = inl took; caused = h }) caused
-  item_by (inr (inr e)) caused =
-      subst (λ (w : Stop). StopCaused settings old new w asked written written' → TurnStops settings old new w number before written after written') (same_stop r why stop.Store is e)
-      (λ h. record { asked = asked; took = took; caused = h }) caused
+  -- nothing whole was read
+  module _ {T : Type 0} (settings : Settings) (tally : Tally) (number : ℕ) (before after written : Option (List ℕ)) (r : Result T Stop) (why : Stop) (is : r ≡ Err why)
+      (input : IsErrOf r stop.Input → TookOpen TookPart number None before after) (memory : IsErrOf r stop.NoMemory → TookSome before after)
+      (over : IsErrOf r stop.TooLong → TookOpen TookOver number None before after) where
+    reading_by : (r ≡ Err stop.Input) ⊎ (r ≡ Err stop.NoMemory) ⊎ (r ≡ Err stop.TooLong) → TurnStops Tells settings tally tally why number before written after written
+    reading_by (inl e) =
+        subst (λ (w : Stop). TurnStops Tells settings tally tally w number before written after written) (same_stop r why stop.Input is e)
+        (record { asked = []; took = input e; caused = (refl, refl, refl) })
+    reading_by (inr (inl e)) =
+        subst (λ (w : Stop). TurnStops Tells settings tally tally w number before written after written) (same_stop r why stop.NoMemory is e)
+        (record { asked = []; took = inr (refl, memory e); caused = inl (part_nothing settings tally written) })
+    reading_by (inr (inr e)) =
+        subst (λ (w : Stop). TurnStops Tells settings tally tally w number before written after written) (same_stop r why stop.TooLong is e)
+        (record { asked = []; took = over e; caused = (refl, refl, refl) })
 
-  pub item_stops : OnErr r ((r ≡ Err stop.Output) ⊎ (r ≡ Err stop.NoMemory) ⊎ (r ≡ Err stop.Store)) → StopCaused settings old new why asked written written'
-      → TurnStops settings old new why number before written after written'
-  item_stops kinds caused = item_by (IfErr-at_err (λ (w : Stop). (r ≡ Err stop.Output) ⊎ (r ≡ Err stop.NoMemory) ⊎ (r ≡ Err stop.Store)) is kinds) caused
+    pub reading_stops : OnErr r ((r ≡ Err stop.Input) ⊎ (r ≡ Err stop.NoMemory) ⊎ (r ≡ Err stop.TooLong)) → TurnStops Tells settings tally tally why number before written after written
+    reading_stops kinds = reading_by (IfErr-at_err (λ (w : Stop). (r ≡ Err stop.Input) ⊎ (r ≡ Err stop.NoMemory) ⊎ (r ≡ Err stop.TooLong)) is kinds)
 
-three_kinds : (r : Result (Unit {0}) Stop) → (r ≡ Err stop.Output) ⊎ (r ≡ Err stop.NoMemory) → (r ≡ Err stop.Output) ⊎ (r ≡ Err stop.NoMemory) ⊎ (r ≡ Err stop.Store)
-three_kinds r (inl e) = inl e
-three_kinds r (inr e) = inr (inl e)
+  -- an item was read
+  module _ {T : Type 0} (settings : Settings) (old new : Tally) (number : ℕ) (asked : List Asked) (before after written written' : Option (List ℕ)) (r : Result T Stop) (why : Stop) (is : r ≡ Err why)
+      (took : TookLastItem number asked before after) where
+    item_by : (r ≡ Err stop.Output) ⊎ (r ≡ Err stop.NoMemory) ⊎ (r ≡ Err stop.Store) → StopCaused Tells settings old new why asked written written' → TurnStops Tells settings old new why number before written after written'
+    item_by (inl e) caused =
+        subst (λ (w : Stop). StopCaused Tells settings old new w asked written written' → TurnStops Tells settings old new w number before written after written') (same_stop r why stop.Output is e)
+        (λ h. record { asked = asked; took = took; caused = h }) caused
+    item_by (inr (inl e)) caused =
+        subst (λ (w : Stop). StopCaused Tells settings old new w asked written written' → TurnStops Tells settings old new w number before written after written') (same_stop r why stop.NoMemory is e)
+        (λ h. record { asked = asked; took = inl took; caused = h }) caused
+    item_by (inr (inr e)) caused =
+        subst (λ (w : Stop). StopCaused Tells settings old new w asked written written' → TurnStops Tells settings old new w number before written after written') (same_stop r why stop.Store is e)
+        (λ h. record { asked = asked; took = took; caused = h }) caused
 
--- a block was read, and its text was not written whole
-pub block_stops : (settings : Settings) (counts : Counts) (number : ℕ) (lines : List InBlock) (before after written written' : Option (List ℕ)) (r : Result (Unit {0}) Stop) (why : Stop) → r ≡ Err why
-    → OnErr r ((r ≡ Err stop.Output) ⊎ (r ≡ Err stop.NoMemory)) → TookLastItem number (Block lines ∷ []) before after → OnErr r (WrotePart written (flat_map unbuilt_text lines) written')
-    → TurnStops settings counts counts why number before written after written'
-block_stops settings counts number lines before after written written' r why is kinds took part =
-    let caused = on_err_weaker r (λ (wrote : WrotePart written (flat_map unbuilt_text lines) written').
-    caused_one WrotePart settings counts counts (Block lines) (flat_map unbuilt_text lines) written written' (same_counts counts) refl wrote) part in
-    let three = on_err_weaker r (λ (two : (r ≡ Err stop.Output) ⊎ (r ≡ Err stop.NoMemory)). three_kinds r two) kinds in
-    item_stops settings counts counts number (Block lines ∷ []) before after written written' r why is took three
-    (part_stops settings counts counts (Block lines ∷ []) written written' r why is kinds caused)
+    pub item_stops : OnErr r ((r ≡ Err stop.Output) ⊎ (r ≡ Err stop.NoMemory) ⊎ (r ≡ Err stop.Store)) → StopCaused Tells settings old new why asked written written'
+        → TurnStops Tells settings old new why number before written after written'
+    item_stops kinds caused = item_by (IfErr-at_err (λ (w : Stop). (r ≡ Err stop.Output) ⊎ (r ≡ Err stop.NoMemory) ⊎ (r ≡ Err stop.Store)) is kinds) caused
+
+  three_kinds : (r : Result (Unit {0}) Stop) → (r ≡ Err stop.Output) ⊎ (r ≡ Err stop.NoMemory) → (r ≡ Err stop.Output) ⊎ (r ≡ Err stop.NoMemory) ⊎ (r ≡ Err stop.Store)
+  three_kinds r (inl e) = inl e
+  three_kinds r (inr e) = inr (inl e)
+
+  -- a block was read, and its text was not written whole
+  pub block_stops : (settings : Settings) (tally : Tally) (number : ℕ) (lines : List InBlock) (before after written written' : Option (List ℕ)) (r : Result (Unit {0}) Stop) (why : Stop) → r ≡ Err why
+      → OnErr r ((r ≡ Err stop.Output) ⊎ (r ≡ Err stop.NoMemory)) → TookLastItem number (Block lines ∷ []) before after → OnErr r (WrotePart written (flat_map unbuilt_text lines) written')
+      → TurnStops Tells settings tally tally why number before written after written'
+  block_stops settings tally number lines before after written written' r why is kinds took part =
+      let caused = on_err_weaker r (λ (wrote : WrotePart written (flat_map unbuilt_text lines) written').
+      caused_one WrotePart settings tally tally (Block lines) (flat_map unbuilt_text lines) written written' (same_tally tally) (refl, refl) wrote) part in
+      let three = on_err_weaker r (λ (two : (r ≡ Err stop.Output) ⊎ (r ≡ Err stop.NoMemory)). three_kinds r two) kinds in
+      item_stops settings tally tally number (Block lines ∷ []) before after written written' r why is took three
+      (part_stops settings tally tally (Block lines ∷ []) written written' r why is kinds caused)

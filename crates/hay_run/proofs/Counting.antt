@@ -42,6 +42,25 @@ sure_more is_sure faults [] (y ∷ b) c h k = absurd h
 sure_more is_sure faults (x ∷ a) [] c h k = absurd h
 sure_more is_sure faults (x ∷ a) (y ∷ b) [] h k = absurd k
 
+-- which arms are sure
+pub StaySure-lanes : {A : Type 0} (is_sure : A → Bool) (faults : A → ℕ) (a b : List A) → StaySure is_sure faults a b
+    → (lane : ℕ) → slice_get (map is_sure a) lane ≡ Some true → slice_get (map is_sure b) lane ≡ Some true
+StaySure-lanes is_sure faults [] [] h lane is = absurd cc
+StaySure-lanes is_sure faults (x ∷ a) (y ∷ b) h zero is = let sure : is_sure x ≡ true = cc in ap (λ s. Some s) (h.0 sure).0
+StaySure-lanes is_sure faults (x ∷ a) (y ∷ b) h (suc lane) is = StaySure-lanes is_sure faults a b h.1 lane is
+StaySure-lanes is_sure faults [] (y ∷ b) h lane is = absurd h
+StaySure-lanes is_sure faults (x ∷ a) [] h lane is = absurd h
+
+pub arm_of : {A : Type 0} (is_sure : A → Bool) (arms : List A) (lane : ℕ) → slice_get (map is_sure arms) lane ≡ Some true → (arm : A) × (slice_get arms lane ≡ Some arm) × (is_sure arm ≡ true)
+arm_of is_sure [] lane is = absurd cc
+arm_of is_sure (x ∷ arms) zero is = (x, refl, cc)
+arm_of is_sure (x ∷ arms) (suc lane) is = arm_of is_sure arms lane is
+
+pub lane_of : {A : Type 0} (is_sure : A → Bool) (arms : List A) (lane : ℕ) (arm : A) → slice_get arms lane ≡ Some arm → is_sure arm ≡ true → slice_get (map is_sure arms) lane ≡ Some true
+lane_of is_sure [] lane arm there is = absurd cc
+lane_of is_sure (x ∷ arms) zero arm there is = let same : x ≡ arm = cc in ap (λ s. Some s) (ap is_sure same ∙ is)
+lane_of is_sure (x ∷ arms) (suc lane) arm there is = lane_of is_sure arms lane arm there is
+
 -- the arm of a lane
 pub sure_at : {A : Type 0} (is_sure : A → Bool) (faults : A → ℕ) (a b : List A) (lane : ℕ) (old : A) → StaySure is_sure faults a b → slice_get a lane ≡ Some old
     → (new : A) × (slice_get b lane ≡ Some new) × StaysSure (is_sure old) (is_sure new) (faults old) (faults new)

@@ -116,7 +116,7 @@ pub record RanPart (settings : Settings) (k : Known) (script : List ℕ) (left :
   pub t : Known
   pub legal : Legal settings opened turns t
   pub last : LastWants turns
-  pub ends : statuses.Interrupted (IsReplica settings) (OpensRows settings) IsVoid settings k script read taken turns t text given
+  pub ends : statuses.Interrupted IsReplica OpensRows IsVoid settings k script read taken turns t text given
 
 pub ran_output : (settings : Settings) (k : Known) (script : List ℕ) (left : Option (List ℕ)) (taken given : Outside) (held : List ℕ) (written : Option (List ℕ))
     → RanPart settings k script left taken given held written → RanTo settings k OutputFault script left taken given held written

@@ -41,7 +41,7 @@ on_ok_both P Q (Err e) p q = tt
 
 -- no disk was touched
 pub untouched : (settings : Settings) (taken : Outside) (k : Known) → IsTaken settings taken k
-    → statuses.IsUnopened (IsReplica settings) (OpensRows settings) IsVoid settings k taken taken
+    → statuses.IsUnopened IsReplica OpensRows IsVoid settings k taken taken
 untouched settings taken k is = record {
   images = λ image may. (
     read_contents taken,
@@ -62,15 +62,18 @@ not_damaged settings some taken k is (suc n) file at damaged =
     let P : ℕ → Type 0 = λ slot. IsReplica settings there.0 there.1 (read_contents taken slot) found in
     damaged.not_whole.replica there.0 there.1 there.2 there.3 (sym there.4) found (subst P there.4 (is.found.replicas there.0 there.1 there.2 there.3))
 
--- the same of disks with the same contents
+-- disks of the same contents
+undamaged_as : (settings : Settings) (slot : ℕ) (a b : ℕ → Contents) → ((lower : ℕ) → lower < slot → a lower ≡ b lower) → IsUndamagedBelow settings slot a → IsUndamagedBelow settings slot b
+undamaged_as settings slot a b below_same lowest lower file at below some there =
+    let is = below_same lower below in
+    lowest lower file at below (subst (λ (c : Contents). IsVoid c → ⊥) (sym is) some) (subst (λ (c : Contents). IsFirstDamage settings lower file at c) (sym is) there)
+
 damaged_as : (settings : Settings) (slot file at : ℕ) (a b : ℕ → Contents) → a slot ≡ b slot → ((lower : ℕ) → lower < slot → a lower ≡ b lower) → IsDamagedDisk settings a slot file at → IsDamagedDisk settings b slot file at
 damaged_as settings slot file at a b same below_same d = record {
   within = d.within;
   not_whole = subst (λ (c : Contents). IsNotWhole settings slot c) same d.not_whole;
   place = subst (λ (c : Contents). IsFirstDamage settings slot file at c) same d.place;
-  lowest = λ lower file' at' below some there.
-      let is = below_same lower below in
-      d.lowest lower file' at' below (subst (λ (c : Contents). IsVoid c → ⊥) (sym is) some) (subst (λ (c : Contents). IsFirstDamage settings lower file' at' c) (sym is) there);
+  lowest = undamaged_as settings slot a b below_same d.lowest;
 }
 
 no_last : LastWants []
@@ -78,7 +81,7 @@ no_last = last_none [] tt
 
 -- what a refused opening has left of the disks of a store
 abbrev pub AreKept : Settings → (ℕ → HeldDisk) → (ℕ → HeldDisk) → Type 0
-AreKept settings disks disks' = (slot : ℕ) → slot < disk_count settings → IsKept settings slot (disks slot) (disks' slot)
+AreKept settings disks disks' = (slot : ℕ) → slot < disk_count settings → IsKept slot (disks slot) (disks' slot)
 
 -- The shelf as it was and as it is behind an opening that was refused: k was held.
 module _ (settings : Settings) (shelf shelf' : ℕ) (disks disks' : ℕ → HeldDisk) (arms arms' : ℕ → HeldArm) (k : Known) (taken : IsTaken settings (outside_of shelf disks arms) k)
@@ -86,13 +89,13 @@ module _ (settings : Settings) (shelf shelf' : ℕ) (disks disks' : ℕ → Held
     (counts : (slot : ℕ) → slot < disk_count settings → CountsOn (disks slot) (disks' slot).fault_count (disks' slot).fuse_count)
     (back : (lane : ℕ) → lane < 8 → IsArmBack (arms lane) (arms' lane))
     (some : 1 ≤ settings.replicas) where
-  stands_in : (slot : ℕ) (image : ℕ → (ℕ → List ℕ)) → MayLeave (disks' slot).files (image slot) → IsKept settings slot (disks slot) (disks' slot)
-      → statuses.StandsIn (IsReplica settings) (OpensRows settings) IsVoid settings (outside_of shelf disks arms) (outside_of shelf' disks' arms') image slot (read_contents (outside_of shelf disks arms) slot)
+  stands_in : (slot : ℕ) (image : ℕ → (ℕ → List ℕ)) → MayLeave (disks' slot).files (image slot) → IsKept slot (disks slot) (disks' slot)
+      → statuses.StandsIn IsReplica OpensRows IsVoid settings (outside_of shelf disks arms) (outside_of shelf' disks' arms') image slot (read_contents (outside_of shelf disks arms) slot)
   stands_in slot image may (inl void) = inr (inl (record { was = void.void; stands_for = void.void; nothing = void.nothing (image slot) may }))
   stands_in slot image may (inr (inl same)) = inr (inr (same, λ file. refl))
   stands_in slot image may (inr (inr all)) = inl (λ file. sym (all (image slot) may file))
 
-  unopened : statuses.IsUnopened (IsReplica settings) (OpensRows settings) IsVoid settings k (outside_of shelf disks arms) (outside_of shelf' disks' arms')
+  unopened : statuses.IsUnopened IsReplica OpensRows IsVoid settings k (outside_of shelf disks arms) (outside_of shelf' disks' arms')
   unopened = record {
     images = λ image may. (
       read_contents (outside_of shelf disks arms),
@@ -269,7 +272,7 @@ module _ (Tells : Type 0) (settings : Settings) (taken given : Outside) where
       (stands : Tells → (k : Known) → IsTaken settings taken k → (t : Known) × Begins store t)
       (sound : Tells → IsUndamaged settings (read_contents taken)) where
     cause_later : (note : Note) → RefusedFor Tells Begins files faults store store' note → IsLaterRefusal Tells settings taken given note
-    cause_later note (inl (slot, count, is, below, rose, count_is)) =
+    cause_later note (inl (slot, count, is, below, rose, count_is, lowest)) =
         let within : slot < disk_count settings = subst (λ (s : Settings). slot < disk_count s) same below in
         inl (
           slot,
@@ -280,6 +283,8 @@ module _ (Tells : Type 0) (settings : Settings) (taken given : Outside) where
             subst (λ n. Rose (taken.faults slot) n) (sym (back slot within)) (rose_more (taken.faults slot) (slice_index (counts_of faults store) slot) (slice_index (counts_of faults store') slot) (later slot within) rose),
             count_is ∙ sym (back slot within),
           ),
+          λ tells. undamaged_as settings slot (contents_in files store') (read_contents given) (λ lower low. sym (contents tells lower (omega (arith, low, within))))
+              (subst (λ (s : Settings). IsUndamagedBelow s slot (contents_in files store')) same (lowest tells)),
         )
     cause_later note (inr (slot, file, at, is, why)) =
         inr (

@@ -21,7 +21,7 @@ use Rattle.hay_legal.specs.Restarts.{IsRestarted}
 use Rattle.hay_cluster.specs.declared.fault.ClusterFault.{ClusterFault}
 use Rattle.hay_cluster.specs.declared.fault.ClusterFault.TheVariants as refusal
 use Rattle.hay_cluster.specs.Causes.{HasFaultCause}
-use Rattle.hay_cluster.specs.Outside.{IsDamagedDisk}
+use Rattle.hay_cluster.specs.Outside.{IsDamagedDisk, IsUndamagedBelow}
 use Rattle.hay_cluster.specs.State.{Holds, Stands}
 use Rattle.hay_cluster.specs.Store.{Open, contents_in}
 use Rattle.hay_run.specs.declared.stops.Stop.{Stop}
@@ -120,6 +120,9 @@ module _ {D P A : Type 0} (Tells : Type 0) (Begins Left : Standing D P A) (files
   abbrev PlaceFor : ClusterFault → Type 0
   PlaceFor fault = Tells → (slot file at : ℕ) → fault ≡ refusal.Damaged slot file at → IsDamagedDisk store.settings (contents_in files store') slot file at
 
+  abbrev LowestFor : ClusterFault → Type 0
+  LowestFor fault = Tells → (slot count : ℕ) → fault ≡ refusal.Failed slot count → IsUndamagedBelow store.settings slot (contents_in files store')
+
   other_stop : {X : Type 0} → why ≢ stop.Store → (why ≡ stop.Store) ⊎ X → X
   other_stop not (inl is) = absurd (not is)
   other_stop not (inr x) = x
@@ -165,16 +168,16 @@ module _ {D P A : Type 0} (Tells : Type 0) (Begins Left : Standing D P A) (files
         subst (λ (bytes : List ℕ). written' ≡ Some (bytes ++ note_line note)) (sym (append-nil held)) behind),
   )
 
-  pub halts : (fault : ClusterFault) → CauseOf fault → DamagedFor fault → PlaceFor fault → (fault ≡ refusal.NoMemory → ⊥) → ToldFor fault → Halts Tells Begins files faults store store' written written'
-  halts (refusal.Shelf count) cause damaged place some told = absurd cause
-  halts (refusal.Failed slot count) cause damaged place some told = record {
+  pub halts : (fault : ClusterFault) → CauseOf fault → DamagedFor fault → PlaceFor fault → LowestFor fault → (fault ≡ refusal.NoMemory → ⊥) → ToldFor fault → Halts Tells Begins files faults store store' written written'
+  halts (refusal.Shelf count) cause damaged place lowest some told = absurd cause
+  halts (refusal.Failed slot count) cause damaged place lowest some told = record {
     note = OpenFailed slot count;
-    why = inl (slot, count, refl, cause.0, cause.1, cause.2);
+    why = inl (slot, count, refl, cause.0, cause.1, cause.2, λ tells. lowest tells slot count refl);
     told = told_behind (OpenFailed slot count) (told_failed slot count told);
   }
-  halts (refusal.Damaged slot file at) cause damaged place some told = record {
+  halts (refusal.Damaged slot file at) cause damaged place lowest some told = record {
     note = OpenDamaged slot file at;
     why = inr (slot, file, at, refl, λ tells. (λ k stands. damaged tells k stands slot file at refl, place tells slot file at refl));
     told = told_behind (OpenDamaged slot file at) (told_damaged slot file at told);
   }
-  halts refusal.NoMemory cause damaged place some told = absurd (some refl)
+  halts refusal.NoMemory cause damaged place lowest some told = absurd (some refl)

@@ -9,7 +9,7 @@ use Rattle.hay_legal.specs.Items.{Asked}
 use Rattle.hay_legal.specs.Known.{NoneFalls, disk_count}
 use Rattle.hay_reply.specs.declared.Note.{Note}
 use Rattle.hay_reply.specs.Replies.{note_line}
-use Rattle.hay_cluster.specs.Outside.{IsDamagedDisk}
+use Rattle.hay_cluster.specs.Outside.{IsDamagedDisk, IsUndamagedBelow}
 use Rattle.hay_cluster.specs.Store.{Open, contents_in}
 use Rattle.hay_run.specs.declared.stops.Stop.{Stop}
 use Rattle.hay_run.specs.declared.stops.Stop.TheVariants as stop
@@ -49,7 +49,7 @@ holds_none r held stop.Store is none = tt
 refused_more : {D P A : Type 0} (Tells : Type 0) (Stands : Standing D P A) (files : D → Files) (faults : D → ℕ) (asked : List Asked) (written written' : Option (List ℕ)) (store mid store' : Open D P A) (told : Note)
     → mid.settings ≡ store.settings → NoneFalls (counts_of faults store) (counts_of faults mid) → AnswersAll Tells Stands asked store written mid written'
     → RefusedFor Tells Stands files faults mid store' told → RefusedFor Tells Stands files faults store store' told
-refused_more Tells Stands files faults asked written written' store mid store' told same later answers (inl (slot, count, is, below, rose, count_is)) =
+refused_more Tells Stands files faults asked written written' store mid store' told same later answers (inl (slot, count, is, below, rose, count_is, lowest)) =
     inl (
       slot,
       count,
@@ -58,6 +58,7 @@ refused_more Tells Stands files faults asked written written' store mid store' t
       rose_more (slice_index (counts_of faults store) slot) (slice_index (counts_of faults mid) slot) (slice_index (counts_of faults store') slot)
           (NoneFalls-at (counts_of faults store) (counts_of faults mid) slot later) rose,
       count_is,
+      λ tells. subst (λ (settings : Settings). IsUndamagedBelow settings slot (contents_in files store')) same (lowest tells),
     )
 refused_more Tells Stands files faults asked written written' store mid store' told same later answers (inr (slot, file, at, is, damaged)) =
     inr (

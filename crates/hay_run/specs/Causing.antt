@@ -1,5 +1,7 @@
 -- What is written has its causes, whatever the disks tell.
-use Rattle.std.specs.Prelude.{◌≡◌, ◌≢◌, ◌⊎◌, ℕ, ◌<◌, ◌≤◌, slice_index, List, [], ◌∷◌, ◌++◌, length, Option, Some, None, Bool, false, map, flat_map, Result, Ok, Err}
+use Rattle.std.specs.Prelude.{◌≡◌, ◌≢◌, ◌⊎◌, ℕ, ◌<◌, ◌≤◌, slice_get, slice_index, List, [], ◌∷◌, ◌++◌, length, Option, Some, None, Bool, true, false, map, flat_map, Result, Ok, Err}
+use Rattle.hay_disk.specs.Disk.{Files}
+use Rattle.hay_disk.specs.Shelf.{HeldDisk}
 use Rattle.hay_disk.specs.Streams.{Wrote, WrotePart}
 use Rattle.hay_needle.specs.declared.settings.Settings.{Settings}
 use Rattle.hay_script.specs.declared.Command.{Command}
@@ -13,11 +15,12 @@ use Rattle.hay_legal.specs.declared.turn.Item.TheVariants as item
 use Rattle.hay_legal.specs.Items.{Asked, items_of, items_before}
 use Rattle.hay_legal.specs.Items.Asked.{Alone, Block}
 use Rattle.hay_legal.specs.Known.{NoneFalls, disk_count}
-use Rattle.hay_legal.specs.Stands.{Outside}
-use Rattle.hay_legal.specs.Statuses.{Ending, IsFront}
+use Rattle.hay_legal.specs.Stands.{Contents, Outside}
+use Rattle.hay_legal.specs.Statuses.{Ending, IsFront, read_contents}
 use Rattle.hay_legal.specs.Statuses.Ending.{ReadAll, OutputFault, InputFault, NoMemory, NotOpened, TooLong}
-use Rattle.hay_cluster.specs.Causes.{Counts, IsCaused, RoseIn}
-use Rattle.hay_cluster.specs.Store.{Open, disks_of}
+use Rattle.hay_cluster.specs.Causes.{BlamesNoArm, Counts, IsCaused, LeavesFuses, RoseIn}
+use Rattle.hay_cluster.specs.Outside.{IsDamagedDisk, IsKept, IsUndamaged, IsUndamagedBelow}
+use Rattle.hay_cluster.specs.Store.{Open, contents_in, disks_of}
 use Rattle.hay_run.specs.declared.stops.Stop.{Stop}
 use Rattle.hay_run.specs.declared.stops.Stop.TheVariants as stop
 use Rattle.hay_run.specs.Items.{TookItems, TookOpen, AsksAll}
@@ -28,43 +31,64 @@ use Rattle.hay_run.specs.Stream.{Held, rest_of}
 use Rattle.hay_run.specs.Turns.{Writing, HoldsNone}
 use Rattle.hay_run.specs.Unbuilt.{unbuilt_text}
 
--- the counts of a store's disks and arms
-abbrev pub all_counts : {D P A : Type 0} → (D → ℕ) → (A → ℕ) → Open D P A → Counts
-all_counts disk arm store = record { disks = map disk (disks_of store); arms = map arm store.arms }
+-- What is seen of a store: how many calls of each disk and fetches of each arm failed, how many fuses were set on each disk, which
+-- arms are sure, and what reads of the disk in each slot give.
+pub record Tally : Type 0 where
+  pub counts : Counts
+  pub fuses : List ℕ
+  pub sure : List Bool
+  pub contents : ℕ → Contents
 
-abbrev pub NoCountFalls : Counts → Counts → Type 0
-NoCountFalls before after = NoneFalls before.disks after.disks × NoneFalls before.arms after.arms
+abbrev pub tally_of : {D P A : Type 0} → (D → Files) → (D → ℕ) → (D → ℕ) → (A → ℕ) → (A → Bool) → Open D P A → Tally
+tally_of files faults fuses arm_faults sure store = record {
+  counts = record { disks = map faults (disks_of store); arms = map arm_faults store.arms };
+  fuses = map fuses (disks_of store);
+  sure = map sure store.arms;
+  contents = contents_in files store;
+}
+
+-- the arm of this lane is sure
+abbrev pub HasSureArm : Tally → ℕ → Type 0
+HasSureArm tally lane = slice_get tally.sure lane ≡ Some true
+
+-- no count of failures falls, and an arm that is sure stays so
+abbrev pub IsLaterTally : Tally → Tally → Type 0
+IsLaterTally before after =
+    NoneFalls before.counts.disks after.counts.disks × NoneFalls before.counts.arms after.counts.arms × ((lane : ℕ) → HasSureArm before lane → HasSureArm after lane)
 
 -- THE TEXT OF ITEMS
 
--- the text of a restart: its reply and the notes behind it
-abbrev pub IsRestartText : Command → ℕ → List ℕ → Type 0
-IsRestartText command number text =
+-- the text of a restart: its reply and the notes behind it; nothing that an opening reads of the disks is damaged then
+abbrev pub IsRestartText : Type 0 → Settings → Tally → Command → ℕ → List ℕ → Type 0
+IsRestartText Tells settings after command number text =
     (pick : ℕ) × (rows : ℕ) × (notes : List Note) × (command ≡ asks.Restart pick) × (text ≡ numbered_line number (Restarted rows) ++ flat_map note_line notes)
+    × (Tells → IsUndamaged settings after.contents)
 
--- the text of another command: a reply that tells of a failure only where the count that it prints rose
-abbrev pub IsReplyText : Settings → Counts → Counts → Command → ℕ → List ℕ → Type 0
+-- the text of another command: a reply that tells of a failure only where the count that it prints rose, and never of an arm that
+-- is sure
+abbrev pub IsReplyText : Settings → Tally → Tally → Command → ℕ → List ℕ → Type 0
 IsReplyText settings before after command number text =
-    ((pick : ℕ) → command ≢ asks.Restart pick) × ((reply : Reply) × IsCaused settings 0 before after reply × (text ≡ numbered_line number reply))
+    ((pick : ℕ) → command ≢ asks.Restart pick)
+    × ((reply : Reply) × IsCaused settings 0 before.counts after.counts reply × (HasSureArm before 0 → BlamesNoArm reply) × (text ≡ numbered_line number reply))
 
--- the text answers the item, while the counts went from these to those
-abbrev pub IsTextOf : Settings → Counts → Counts → Asked → List ℕ → Type 0
-IsTextOf settings before after (Alone number (item.Command command)) text =
-    IsRestartText command number text ⊎ IsReplyText settings before after command number text
-IsTextOf settings before after (Alone number item.Bad) text = text ≡ numbered_line number BadLine
-IsTextOf settings before after (Block lines) text = text ≡ flat_map unbuilt_text lines
+-- The text answers the item, while the counts went from these to those. A fuse is set by its command alone.
+abbrev pub IsTextOf : Type 0 → Settings → Tally → Tally → Asked → List ℕ → Type 0
+IsTextOf Tells settings before after (Alone number (item.Command command)) text =
+    LeavesFuses settings command before.fuses after.fuses × (IsRestartText Tells settings after command number text ⊎ IsReplyText settings before after command number text)
+IsTextOf Tells settings before after (Alone number item.Bad) text = (after ≡ before) × (text ≡ numbered_line number BadLine)
+IsTextOf Tells settings before after (Block lines) text = (after ≡ before) × (text ≡ flat_map unbuilt_text lines)
 
 -- one text after another answers the items
-abbrev pub AnswerTexts : Settings → Counts → Counts → List Asked → List ℕ → Type 0
-AnswerTexts settings before after [] text = (text ≡ []) × (after ≡ before)
-AnswerTexts settings before after (asked ∷ others) text =
-    (mid : Counts) × (first : List ℕ) × (rest : List ℕ) × (text ≡ first ++ rest) × NoCountFalls before mid
-    × IsTextOf settings before mid asked first × AnswerTexts settings mid after others rest
+abbrev pub AnswerTexts : Type 0 → Settings → Tally → Tally → List Asked → List ℕ → Type 0
+AnswerTexts Tells settings before after [] text = (text ≡ []) × (after ≡ before)
+AnswerTexts Tells settings before after (asked ∷ others) text =
+    (mid : Tally) × (first : List ℕ) × (rest : List ℕ) × (text ≡ first ++ rest) × IsLaterTally before mid
+    × IsTextOf Tells settings before mid asked first × AnswerTexts Tells settings mid after others rest
 
 -- such a text was written, or so much of it
-pub record Caused (Writes : Writing) (settings : Settings) (before after : Counts) (asked : List Asked) (written written' : Option (List ℕ)) : Type 0 where
+pub record Caused (Tells : Type 0) (Writes : Writing) (settings : Settings) (before after : Tally) (asked : List Asked) (written written' : Option (List ℕ)) : Type 0 where
   pub text : List ℕ
-  pub answers : AnswerTexts settings before after asked text
+  pub answers : AnswerTexts Tells settings before after asked text
   pub wrote : Writes written text written'
 
 -- HOW A TURN STOPS
@@ -72,43 +96,45 @@ pub record Caused (Writes : Writing) (settings : Settings) (before after : Count
 abbrev pub IsRestart : List Asked → Type 0
 IsRestart asked = (number : ℕ) × (pick : ℕ) × (asked ≡ Alone number (item.Command (asks.Restart pick)) ∷ [])
 
--- the disks were not opened again: no count fell, and no arm was used
-pub record NotReopened (before after : Counts) (asked : List Asked) : Type 0 where
+-- the disks were not opened again: no count fell, no arm was used and no fuse set
+pub record NotReopened (before after : Tally) (asked : List Asked) : Type 0 where
   pub restart : IsRestart asked
-  pub disks : NoneFalls before.disks after.disks
-  pub arms : after.arms ≡ before.arms
+  pub disks : NoneFalls before.counts.disks after.counts.disks
+  pub arms : after.counts.arms ≡ before.counts.arms
+  pub fuses : after.fuses ≡ before.fuses
 
--- a note tells why: the disk in a slot failed, and its count rose to the one that is told; or a disk is damaged
-abbrev pub IsNoteCaused : Settings → Counts → Counts → Note → Type 0
-IsNoteCaused settings before after (OpenFailed slot count) = (slot < disk_count settings) × RoseIn slot before.disks after.disks count
-IsNoteCaused settings before after (OpenDamaged slot file at) = Unit {0}
-IsNoteCaused settings before after (OpenShelf count) = ⊥
-IsNoteCaused settings before after (Kept v m line) = ⊥
-IsNoteCaused settings before after (Lost v m line) = ⊥
-IsNoteCaused settings before after (KeptDir line) = ⊥
-IsNoteCaused settings before after (LostDir line) = ⊥
-IsNoteCaused settings before after (Log v from lines) = ⊥
-IsNoteCaused settings before after (Rows from rows) = ⊥
+-- a note tells why: the disk in a slot failed, its count rose to the one that is told, and none in a lower slot is damaged; or the disk
+-- in a slot is damaged at the place that is told
+abbrev pub IsNoteCaused : Type 0 → Settings → Tally → Tally → Note → Type 0
+IsNoteCaused Tells settings before after (OpenFailed slot count) = (slot < disk_count settings) × RoseIn slot before.counts.disks after.counts.disks count × (Tells → IsUndamagedBelow settings slot after.contents)
+IsNoteCaused Tells settings before after (OpenDamaged slot file at) = Tells → IsDamagedDisk settings after.contents slot file at
+IsNoteCaused Tells settings before after (OpenShelf count) = ⊥
+IsNoteCaused Tells settings before after (Kept v m line) = ⊥
+IsNoteCaused Tells settings before after (Lost v m line) = ⊥
+IsNoteCaused Tells settings before after (KeptDir line) = ⊥
+IsNoteCaused Tells settings before after (LostDir line) = ⊥
+IsNoteCaused Tells settings before after (Log v from lines) = ⊥
+IsNoteCaused Tells settings before after (Rows from rows) = ⊥
 
 -- a restart was refused, and so much was written of the line of the note that tells why
-abbrev pub ToldRefusal : Writing → Settings → Counts → Counts → List Asked → Option (List ℕ) → Option (List ℕ) → Type 0
-ToldRefusal Writes settings before after asked written written' =
-    NotReopened before after asked × ((note : Note) × IsNoteCaused settings before after note × Writes written (note_line note) written')
+abbrev pub ToldRefusal : Type 0 → Writing → Settings → Tally → Tally → List Asked → Option (List ℕ) → Option (List ℕ) → Type 0
+ToldRefusal Tells Writes settings before after asked written written' =
+    NotReopened before after asked × ((note : Note) × IsNoteCaused Tells settings before after note × Writes written (note_line note) written')
 
 -- a restart wanted memory, and a front of its reply was written
-abbrev pub ToldWanting : Counts → Counts → List Asked → Option (List ℕ) → Option (List ℕ) → Type 0
+abbrev pub ToldWanting : Tally → Tally → List Asked → Option (List ℕ) → Option (List ℕ) → Type 0
 ToldWanting before after asked written written' =
     (not : NotReopened before after asked) × WrotePart written (numbered_line not.restart.0 NoMem) written'
 
 -- what a run that stops has written of the last item
-abbrev pub StopCaused : Settings → Counts → Counts → Stop → List Asked → Option (List ℕ) → Option (List ℕ) → Type 0
-StopCaused settings before after stop.Input asked written written' = (asked ≡ []) × (after ≡ before) × (written' ≡ written)
-StopCaused settings before after stop.TooLong asked written written' = (asked ≡ []) × (after ≡ before) × (written' ≡ written)
-StopCaused settings before after stop.Output asked written written' =
-    Caused WrotePart settings before after asked written written' ⊎ ToldWanting before after asked written written' ⊎ ToldRefusal WrotePart settings before after asked written written'
-StopCaused settings before after stop.NoMemory asked written written' =
-    Caused WrotePart settings before after asked written written' ⊎ ToldWanting before after asked written written' ⊎ ToldRefusal WrotePart settings before after asked written written'
-StopCaused settings before after stop.Store asked written written' = ToldRefusal Wrote settings before after asked written written'
+abbrev pub StopCaused : Type 0 → Settings → Tally → Tally → Stop → List Asked → Option (List ℕ) → Option (List ℕ) → Type 0
+StopCaused Tells settings before after stop.Input asked written written' = (asked ≡ []) × (after ≡ before) × (written' ≡ written)
+StopCaused Tells settings before after stop.TooLong asked written written' = (asked ≡ []) × (after ≡ before) × (written' ≡ written)
+StopCaused Tells settings before after stop.Output asked written written' =
+    Caused Tells WrotePart settings before after asked written written' ⊎ ToldWanting before after asked written written' ⊎ ToldRefusal Tells WrotePart settings before after asked written written'
+StopCaused Tells settings before after stop.NoMemory asked written written' =
+    Caused Tells WrotePart settings before after asked written written' ⊎ ToldWanting before after asked written written' ⊎ ToldRefusal Tells WrotePart settings before after asked written written'
+StopCaused Tells settings before after stop.Store asked written written' = ToldRefusal Tells Wrote settings before after asked written written'
 
 -- what it has read of it: the item, or lines that ask for nothing whole
 abbrev pub TookLastItem : ℕ → List Asked → Option (List ℕ) → Option (List ℕ) → Type 0
@@ -121,37 +147,37 @@ StopTook stop.Output number asked before after = TookLastItem number asked befor
 StopTook stop.NoMemory number asked before after = TookLastItem number asked before after ⊎ ((asked ≡ []) × TookSome before after)
 StopTook stop.Store number asked before after = TookLastItem number asked before after
 
-pub record TurnStops (settings : Settings) (old new : Counts) (why : Stop) (number : ℕ) (before written after written' : Option (List ℕ)) : Type 0 where
+pub record TurnStops (Tells : Type 0) (settings : Settings) (old new : Tally) (why : Stop) (number : ℕ) (before written after written' : Option (List ℕ)) : Type 0 where
   pub asked : List Asked
   pub took : StopTook why number asked before after
-  pub caused : StopCaused settings old new why asked written written'
+  pub caused : StopCaused Tells settings old new why asked written written'
 
 -- TURN AFTER TURN
 
 -- lines were taken, of which the first has this number, and what they ask for was answered
-pub record TurnCaused (settings : Settings) (old new : Counts) (number : ℕ) (before written : Option (List ℕ)) (next : ℕ) (after : Option (List ℕ)) (ended : Bool) (written' : Option (List ℕ)) : Type 0 where
+pub record TurnCaused (Tells : Type 0) (settings : Settings) (old new : Tally) (number : ℕ) (before written : Option (List ℕ)) (next : ℕ) (after : Option (List ℕ)) (ended : Bool) (written' : Option (List ℕ)) : Type 0 where
   pub asked : List Asked
   pub took : TookItems number None before asked next after ended
-  pub caused : Caused Wrote settings old new asked written written'
+  pub caused : Caused Tells Wrote settings old new asked written written'
 
 -- all that a script asks for was answered
-pub record AllCaused (settings : Settings) (old new : Counts) (script written written' : Option (List ℕ)) : Type 0 where
+pub record AllCaused (Tells : Type 0) (settings : Settings) (old new : Tally) (script written written' : Option (List ℕ)) : Type 0 where
   pub asked : List Asked
   pub all : AsksAll script asked
-  pub caused : Caused Wrote settings old new asked written written'
+  pub caused : Caused Tells Wrote settings old new asked written written'
 
 -- turn after turn was answered, and then the run stopped
-pub record CausedUntil (settings : Settings) (old new : Counts) (why : Stop) (script written script' written' : Option (List ℕ)) : Type 0 where
+pub record CausedUntil (Tells : Type 0) (settings : Settings) (old new : Tally) (why : Stop) (script written script' written' : Option (List ℕ)) : Type 0 where
   pub asked : List Asked
   pub number : ℕ
   pub rest : Option (List ℕ)
   pub took : TookItems 1 None script asked number rest false
-  pub mid : Counts
+  pub mid : Tally
   pub text : Option (List ℕ)
-  pub caused : Caused Wrote settings old mid asked written text
+  pub caused : Caused Tells Wrote settings old mid asked written text
   pub held : Held
   pub none : HoldsNone why held
-  pub stops : TurnStops settings mid new why number rest text (rest_of script' held) written'
+  pub stops : TurnStops Tells settings mid new why number rest text (rest_of script' held) written'
 
 -- A WHOLE RUN
 
@@ -166,46 +192,51 @@ AsksBy NotOpened script read whole last = IsRestart last × IsFront (whole ++ la
 
 -- what stands behind the texts of whole items: a front of the last one's text, or, where that is a restart which wanted memory or
 -- was refused, of the line that tells so; or this line; or nothing
-abbrev pub IsPartBehind : Settings → Counts → Counts → List Asked → List ℕ → Type 0
-IsPartBehind settings before after last part =
-    ((text : List ℕ) × AnswerTexts settings before after last text × IsFront part text)
+abbrev pub IsPartBehind : Type 0 → Settings → Tally → Tally → List Asked → List ℕ → Type 0
+IsPartBehind Tells settings before after last part =
+    ((text : List ℕ) × AnswerTexts Tells settings before after last text × IsFront part text)
     ⊎ ((not : NotReopened before after last) × IsFront part (numbered_line not.restart.0 NoMem))
-    ⊎ (NotReopened before after last × ((note : Note) × IsNoteCaused settings before after note × IsFront part (note_line note)))
+    ⊎ (NotReopened before after last × ((note : Note) × IsNoteCaused Tells settings before after note × IsFront part (note_line note)))
 
-abbrev pub StandsBehind : Ending → Settings → Counts → Counts → List Asked → List ℕ → Type 0
-StandsBehind ReadAll settings before after last part = (part ≡ []) × (after ≡ before)
-StandsBehind InputFault settings before after last part = (part ≡ []) × (after ≡ before)
-StandsBehind TooLong settings before after last part = (part ≡ []) × (after ≡ before)
-StandsBehind OutputFault settings before after last part = IsPartBehind settings before after last part
-StandsBehind NoMemory settings before after last part = IsPartBehind settings before after last part
-StandsBehind NotOpened settings before after last part =
-    NotReopened before after last × ((note : Note) × IsNoteCaused settings before after note × (part ≡ note_line note))
+abbrev pub StandsBehind : Type 0 → Ending → Settings → Tally → Tally → List Asked → List ℕ → Type 0
+StandsBehind Tells ReadAll settings before after last part = (part ≡ []) × (after ≡ before)
+StandsBehind Tells InputFault settings before after last part = (part ≡ []) × (after ≡ before)
+StandsBehind Tells TooLong settings before after last part = (part ≡ []) × (after ≡ before)
+StandsBehind Tells OutputFault settings before after last part = IsPartBehind Tells settings before after last part
+StandsBehind Tells NoMemory settings before after last part = IsPartBehind Tells settings before after last part
+StandsBehind Tells NotOpened settings before after last part =
+    NotReopened before after last × ((note : Note) × IsNoteCaused Tells settings before after note × (part ≡ note_line note))
 
--- a store that was opened on these disks and arms has these counts, and so has one that was closed
-abbrev pub BeginsAt : Settings → Outside → Counts → Type 0
-BeginsAt settings taken counts =
-    ((slot : ℕ) → slot < disk_count settings → taken.faults slot ≤ slice_index counts.disks slot)
-    × ((lane : ℕ) → lane < 8 → slice_index counts.arms lane ≡ taken.arms lane)
+-- A store that was opened on these disks and arms has this tally, and an arm that was sure is sure in it.
+pub record BeginsAt (settings : Settings) (taken : Outside) (sure : ℕ → Bool) (tally : Tally) : Type 0 where
+  pub faults : (slot : ℕ) → slot < disk_count settings → taken.faults slot ≤ slice_index tally.counts.disks slot
+  pub fuses : (slot : ℕ) → slot < disk_count settings → slice_index tally.fuses slot ≡ taken.fuses slot
+  pub arms : (lane : ℕ) → lane < 8 → slice_index tally.counts.arms lane ≡ taken.arms lane
+  pub stay_sure : (lane : ℕ) → lane < 8 → sure lane ≡ true → HasSureArm tally lane
 
-abbrev pub EndsAt : Settings → Counts → Outside → Type 0
-EndsAt settings counts given =
-    ((slot : ℕ) → slot < disk_count settings → given.faults slot ≡ slice_index counts.disks slot)
-    × ((lane : ℕ) → lane < 8 → given.arms lane ≡ slice_index counts.arms lane)
+-- So has one that was closed.
+pub record EndsAt (Tells : Type 0) (settings : Settings) (tally : Tally) (given : Outside) : Type 0 where
+  pub faults : (slot : ℕ) → slot < disk_count settings → given.faults slot ≡ slice_index tally.counts.disks slot
+  pub fuses : (slot : ℕ) → slot < disk_count settings → given.fuses slot ≡ slice_index tally.fuses slot
+  pub arms : (lane : ℕ) → lane < 8 → given.arms lane ≡ slice_index tally.counts.arms lane
+  pub contents : Tells → (slot : ℕ) → slot < disk_count settings → read_contents given slot ≡ tally.contents slot
 
--- A run that opened a store. Each text has its causes, from the counts as the store was opened to those as it was closed.
-pub record OpenedText (settings : Settings) (ending : Ending) (script read : List ℕ) (taken given : Outside) (text : List ℕ) : Type 0 where
+-- A run that opened a store, having read nothing that is damaged. Each text has its causes, from what is seen of the store as it was
+-- opened to that as it was closed.
+pub record OpenedText (Tells : Type 0) (settings : Settings) (ending : Ending) (script read : List ℕ) (taken given : Outside) (sure : ℕ → Bool) (text : List ℕ) : Type 0 where
   pub whole : List Asked
   pub last : List Asked
   pub asks : AsksBy ending script read whole last
-  pub old : Counts
-  pub mid : Counts
-  pub new : Counts
-  pub begins : BeginsAt settings taken old
-  pub ends : EndsAt settings new given
+  pub old : Tally
+  pub mid : Tally
+  pub new : Tally
+  pub sound : Tells → IsUndamaged settings (read_contents taken)
+  pub begins : BeginsAt settings taken sure old
+  pub ends : EndsAt Tells settings new given
   pub answered : List ℕ
-  pub answers : AnswerTexts settings old mid whole answered
+  pub answers : AnswerTexts Tells settings old mid whole answered
   pub part : List ℕ
-  pub behind : StandsBehind ending settings mid new last part
+  pub behind : StandsBehind Tells ending settings mid new last part
   pub text_is : text ≡ header_line settings ++ answered ++ part
 
 -- a front of the header was written, or of the header and the line that tells why the first opening was refused
@@ -213,23 +244,31 @@ abbrev pub IsUnopenedFront : Type 0 → Settings → Outside → Outside → Lis
 IsUnopenedFront Tells settings taken given text =
     IsFront text (header_line settings) ⊎ ((note : Note) × IsFirstRefusal Tells settings taken given note × IsFront text (header_line settings ++ note_line note))
 
--- a run that opened none: it read nothing, and wrote why behind the header, or a front of both
-abbrev pub UnopenedText : Type 0 → Settings → Outside → Outside → Ending → List ℕ → List ℕ → Type 0
-UnopenedText Tells settings taken given ReadAll read text = ⊥
-UnopenedText Tells settings taken given InputFault read text = ⊥
-UnopenedText Tells settings taken given TooLong read text = ⊥
-UnopenedText Tells settings taken given OutputFault read text = (read ≡ []) × IsUnopenedFront Tells settings taken given text
-UnopenedText Tells settings taken given NoMemory read text = (read ≡ []) × IsUnopenedFront Tells settings taken given text
-UnopenedText Tells settings taken given NotOpened read text =
-    (read ≡ []) × ((note : Note) × IsFirstRefusal Tells settings taken given note × (text ≡ header_line settings ++ note_line note))
+-- why is written behind the header, or a front of both
+abbrev pub ToldUnopened : Type 0 → Settings → Outside → Outside → Ending → List ℕ → Type 0
+ToldUnopened Tells settings taken given ReadAll text = ⊥
+ToldUnopened Tells settings taken given InputFault text = ⊥
+ToldUnopened Tells settings taken given TooLong text = ⊥
+ToldUnopened Tells settings taken given OutputFault text = IsUnopenedFront Tells settings taken given text
+ToldUnopened Tells settings taken given NoMemory text = IsUnopenedFront Tells settings taken given text
+ToldUnopened Tells settings taken given NotOpened text =
+    (note : Note) × IsFirstRefusal Tells settings taken given note × (text ≡ header_line settings ++ note_line note)
+
+-- A run that opened none. It read nothing, set no fuse and used no arm, and each disk that was not void is as it was taken.
+pub record UnopenedText (Tells : Type 0) (settings : Settings) (taken given : Outside) (disks disks' : ℕ → HeldDisk) (ending : Ending) (read text : List ℕ) : Type 0 where
+  pub unread : read ≡ []
+  pub kept : Tells → (slot : ℕ) → slot < disk_count settings → IsKept slot (disks slot) (disks' slot)
+  pub arms : (lane : ℕ) → lane < 8 → given.arms lane ≡ taken.arms lane
+  pub fuses : (slot : ℕ) → slot < disk_count settings → given.fuses slot ≡ taken.fuses slot
+  pub told : ToldUnopened Tells settings taken given ending text
 
 -- what a run read, and what it wrote behind what the sink held
-pub record CausedRun (Tells : Type 0) (settings : Settings) (ending : Ending) (script : List ℕ) (left : Option (List ℕ)) (taken given : Outside) (held : List ℕ) (written : Option (List ℕ)) : Type 0 where
+pub record CausedRun (Tells : Type 0) (settings : Settings) (ending : Ending) (script : List ℕ) (left : Option (List ℕ)) (taken given : Outside) (sure : ℕ → Bool) (disks disks' : ℕ → HeldDisk) (held : List ℕ) (written : Option (List ℕ)) : Type 0 where
   pub read : List ℕ
   pub bytes : ReadBytes ending script read left
   pub text : List ℕ
   pub wrote : written ≡ Some (held ++ text)
-  pub causes : OpenedText settings ending script read taken given text ⊎ UnopenedText Tells settings taken given ending read text
+  pub causes : OpenedText Tells settings ending script read taken given sure text ⊎ UnopenedText Tells settings taken given disks disks' ending read text
 
 -- how a run ends with this outcome
 abbrev pub ending_in : Result (Unit {0}) Stop → Ending

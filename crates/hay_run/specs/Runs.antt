@@ -42,7 +42,7 @@ pub record RanTo (settings : Settings) (k : Known) (ending : Ending) (script : L
   pub bytes : ReadBytes ending script read left
   pub text : List ℕ
   pub wrote : written ≡ Some (held ++ text)
-  pub runs : RunsTo (IsReplica settings) (OpensRows settings) IsVoid settings k ending script read taken text given
+  pub runs : RunsTo IsReplica OpensRows IsVoid settings k ending script read taken text given
 
 -- a source that tells has still what it had
 abbrev pub IsUnread : Option (List ℕ) → Option (List ℕ) → Type 0
@@ -68,11 +68,12 @@ IsFirstRefusal Tells settings taken given note =
     ⊎ ((slot : ℕ) × (file : ℕ) × (at : ℕ) × (note ≡ OpenDamaged slot file at)
     × (Tells → IsDamagedDisk settings (read_contents taken) slot file at × IsDamagedDisk settings (read_contents given) slot file at))
 
--- Why the opening of a restart was refused, as it is told: a disk failed; or the disks that were taken were not whole, though
--- nothing that was read of them was damaged, and the disk in a slot is damaged at the place that is told, as it was given back.
+-- Why the opening of a restart was refused, as it is told: a disk failed, and none in a lower slot was given back damaged; or the
+-- disks that were taken were not whole, though nothing that was read of them was damaged, and the disk in a slot is damaged at the
+-- place that is told, as it was given back.
 abbrev pub IsLaterRefusal : Type 0 → Settings → Outside → Outside → Note → Type 0
 IsLaterRefusal Tells settings taken given note =
-    ((slot : ℕ) × TellsDisk settings taken given note slot)
+    ((slot : ℕ) × TellsDisk settings taken given note slot × (Tells → IsUndamagedBelow settings slot (read_contents given)))
     ⊎ ((slot : ℕ) × (file : ℕ) × (at : ℕ) × (note ≡ OpenDamaged slot file at)
     × (Tells → ((k : Known) → IsTaken settings taken k → ⊥) × IsUndamaged settings (read_contents taken) × IsDamagedDisk settings (read_contents given) slot file at))
 
@@ -83,7 +84,7 @@ pub record RefusedFirst (Tells : Type 0) (settings : Settings) (disks disks' : �
   pub why : IsFirstRefusal Tells settings taken given note
   pub told : (held : List ℕ) → before ≡ Some held → after ≡ Some (held ++ note_line note)
   pub unread : left' ≡ left
-  pub kept : Tells → (slot : ℕ) → slot < disk_count settings → IsKept settings slot (disks slot) (disks' slot)
+  pub kept : Tells → (slot : ℕ) → slot < disk_count settings → IsKept slot (disks slot) (disks' slot)
   pub counts : (slot : ℕ) → slot < disk_count settings → CountsOn (disks slot) (disks' slot).fault_count (disks' slot).fuse_count
 
 -- A run whose store was not opened again at a restart: why, as the last line that was written tells. The line that asked for it

@@ -18,7 +18,7 @@ use Rattle.hay_legal.specs.Items.Asked.{Alone}
 use Rattle.hay_legal.specs.Known.{CameUp, FaultsRose, disk_count, fault_count}
 use Rattle.hay_legal.specs.Legal.{Legal}
 use Rattle.hay_legal.specs.Transcript.{turn_text}
-use Rattle.hay_cluster.specs.Outside.{IsDamagedDisk}
+use Rattle.hay_cluster.specs.Outside.{IsDamagedDisk, IsUndamagedBelow}
 use Rattle.hay_cluster.specs.Store.{Open, contents_in, disks_of}
 use Rattle.hay_run.specs.declared.stops.Stop.{Stop}
 use Rattle.hay_run.specs.declared.stops.Stop.TheVariants as stop
@@ -154,12 +154,13 @@ pub record ServedUntil {D P A : Type 0} (Tells : Type 0) (Stands Left : Standing
 abbrev pub counts_of : {D P A : Type 0} → (D → ℕ) → Open D P A → List ℕ
 counts_of faults store = map faults (disks_of store)
 
--- The disk in a slot failed, and its count rose to the one that is told; or the store stood at nothing, and the disk that it is
--- left with in the slot is damaged at the place that is told.
+-- The disk in a slot failed, its count rose to the one that is told, and the store is left with no damaged disk in a lower slot; or
+-- the store stood at nothing, and the disk that it is left with in the slot is damaged at the place that is told.
 abbrev pub RefusedFor : {D P A : Type 0} → Type 0 → Standing D P A → (D → Files) → (D → ℕ) → Open D P A → Open D P A → Note → Type 0
 RefusedFor Tells Stands files faults store store' note =
     ((slot : ℕ) × (count : ℕ) × (note ≡ OpenFailed slot count) × (slot < disk_count store.settings)
-    × Rose (slice_index (counts_of faults store) slot) (slice_index (counts_of faults store') slot) × (count ≡ slice_index (counts_of faults store') slot))
+    × Rose (slice_index (counts_of faults store) slot) (slice_index (counts_of faults store') slot) × (count ≡ slice_index (counts_of faults store') slot)
+    × (Tells → IsUndamagedBelow store.settings slot (contents_in files store')))
     ⊎ ((slot : ℕ) × (file : ℕ) × (at : ℕ) × (note ≡ OpenDamaged slot file at)
     × (Tells → ((k : Known) → Stands store k → ⊥) × IsDamagedDisk store.settings (contents_in files store') slot file at))
 

@@ -51,7 +51,7 @@ fn answer_script<H: Shelf, S: Source, K: Sink>(
         (outside_of (H.fault_count shelf.new) (H.disks shelf.new) (H.arms shelf.new)) held (K.written sink.new) }
     ensures caused { (script held : List ℕ) → S.left source.old ≡ Some script → K.written sink.old ≡ Some (held ++ texts.header_line settings) →
         CausedRun H.Disk.Tells settings (ending_in result) script (S.left source.new) (outside_of (H.fault_count shelf.old) (H.disks shelf.old) (H.arms shelf.old))
-        (outside_of (H.fault_count shelf.new) (H.disks shelf.new) (H.arms shelf.new)) held (K.written sink.new) }
+        (outside_of (H.fault_count shelf.new) (H.disks shelf.new) (H.arms shelf.new)) (λ lane. (H.arms shelf.old lane).is_sure) (H.disks shelf.old) (H.disks shelf.new) held (K.written sink.new) }
     ensures ended { OnOk result (IsReadToEnd (S.left source.old) (S.left source.new)) }
     ensures short { OnOk result ((script : List ℕ) → S.left source.old ≡ Some script → length script ≤ SCRIPT) }
     ensures long { IsErrOf result Stop.TooLong → (script : List ℕ) → S.left source.old ≡ Some script →
@@ -110,7 +110,7 @@ fn run_script<H: Shelf, S: Source, K: Sink>(
         (outside_of (H.fault_count shelf.new) (H.disks shelf.new) (H.arms shelf.new)) held (K.written sink.new) }
     ensures caused { (script held : List ℕ) → S.left source.old ≡ Some script → K.written sink.old ≡ Some held →
         CausedRun H.Disk.Tells settings (ending_in result) script (S.left source.new) (outside_of (H.fault_count shelf.old) (H.disks shelf.old) (H.arms shelf.old))
-        (outside_of (H.fault_count shelf.new) (H.disks shelf.new) (H.arms shelf.new)) held (K.written sink.new) }
+        (outside_of (H.fault_count shelf.new) (H.disks shelf.new) (H.arms shelf.new)) (λ lane. (H.arms shelf.old lane).is_sure) (H.disks shelf.old) (H.disks shelf.new) held (K.written sink.new) }
     ensures ended { OnOk result (IsReadToEnd (S.left source.old) (S.left source.new)) }
     ensures short { OnOk result ((script : List ℕ) → S.left source.old ≡ Some script → length script ≤ SCRIPT) }
     ensures long { IsErrOf result Stop.TooLong → (script : List ℕ) → S.left source.old ≡ Some script →
@@ -172,7 +172,7 @@ pub fn run<H: Shelf, S: Source, K: Sink>(
     ensures caused { (settings : Settings) → SaysRun (map string_bytes words.now) settings → (script held : List ℕ) →
         S.left source.old ≡ Some script → K.written sink.old ≡ Some held → (ending : Ending) → result ≡ status_of ending →
         CausedRun H.Disk.Tells settings ending script (S.left source.new) (outside_of (H.fault_count shelf.old) (H.disks shelf.old) (H.arms shelf.old))
-        (outside_of (H.fault_count shelf.new) (H.disks shelf.new) (H.arms shelf.new)) held (K.written sink.new) }
+        (outside_of (H.fault_count shelf.new) (H.disks shelf.new) (H.arms shelf.new)) (λ lane. (H.arms shelf.old lane).is_sure) (H.disks shelf.old) (H.disks shelf.new) held (K.written sink.new) }
 
     // When each status comes.
     ensures status { (result ≡ 2) ⊎ ((ending : Ending) × (result ≡ status_of ending)) }

@@ -6,7 +6,7 @@ ghost use Rattle.hay_cluster.specs.State.{Stands, Holds};
 ghost use Rattle.hay_cluster.specs.Causes.{StaySure};
 ghost use Rattle.hay_cluster.specs.Store.{IsUp, disks_of};
 ghost use Rattle.hay_run.specs.declared.stops.Stop.{Stop};
-ghost use Rattle.hay_run.specs.Causing.{all_counts, AllCaused, CausedUntil};
+ghost use Rattle.hay_run.specs.Causing.{tally_of, AllCaused, CausedUntil};
 ghost use Rattle.hay_run.specs.Stream.{IsReadToEnd, TookAtMost};
 ghost use Rattle.hay_run.specs.Turns.{Appends, Serves, ServedUntil, Halts};
 
@@ -28,8 +28,8 @@ pub fn serve<D: Disk, A: Arm<D::Piece>, S: Source, K: Sink>(
     requires up { IsUp cluster.old }
     ensures served { OnOk result (Serves D.Tells (Stands D.files D.Piece.Tells D.fault_count D.fuse_count A.fault_count) (S.left source.old) cluster.old (K.written sink.old) cluster.new (K.written sink.new)) }
     ensures stopped { (stop : Stop) → result ≡ Err stop → ServedUntil D.Tells (Stands D.files D.Piece.Tells D.fault_count D.fuse_count A.fault_count) (Holds D.files D.fault_count D.fuse_count A.fault_count) stop (S.left source.old) cluster.old (K.written sink.old) (S.left source.new) cluster.new (K.written sink.new) }
-    ensures caused { OnOk result (AllCaused cluster.old.settings (all_counts D.fault_count A.fault_count cluster.old) (all_counts D.fault_count A.fault_count cluster.new) (S.left source.old) (K.written sink.old) (K.written sink.new)) }
-    ensures stop_caused { (stop : Stop) → result ≡ Err stop → CausedUntil cluster.old.settings (all_counts D.fault_count A.fault_count cluster.old) (all_counts D.fault_count A.fault_count cluster.new) stop (S.left source.old) (K.written sink.old) (S.left source.new) (K.written sink.new) }
+    ensures caused { OnOk result (AllCaused D.Tells cluster.old.settings (tally_of D.files D.fault_count D.fuse_count A.fault_count A.is_sure cluster.old) (tally_of D.files D.fault_count D.fuse_count A.fault_count A.is_sure cluster.new) (S.left source.old) (K.written sink.old) (K.written sink.new)) }
+    ensures stop_caused { (stop : Stop) → result ≡ Err stop → CausedUntil D.Tells cluster.old.settings (tally_of D.files D.fault_count D.fuse_count A.fault_count A.is_sure cluster.old) (tally_of D.files D.fault_count D.fuse_count A.fault_count A.is_sure cluster.new) stop (S.left source.old) (K.written sink.old) (S.left source.new) (K.written sink.new) }
     ensures ended { OnOk result (IsReadToEnd (S.left source.old) (S.left source.new)) }
     ensures short { OnOk result ((script : List ℕ) → S.left source.old ≡ Some script → length script ≤ SCRIPT) }
     ensures long { IsErrOf result Stop.TooLong → (script : List ℕ) → S.left source.old ≡ Some script → (rest : List ℕ) × (S.left source.new ≡ Some rest) × (length script ≡ SCRIPT + 1 + length rest) }

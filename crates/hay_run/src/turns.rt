@@ -14,7 +14,7 @@ ghost use Rattle.hay_cluster.specs.State.{Stands, Holds};
 ghost use Rattle.hay_cluster.specs.Causes.{StaySure};
 ghost use Rattle.hay_cluster.specs.Store.{IsUp, disks_of};
 ghost use Rattle.hay_run.specs.declared.stops.Stop.{Stop};
-ghost use Rattle.hay_run.specs.Causing.{all_counts, Caused, StopCaused, TurnStops, TurnCaused};
+ghost use Rattle.hay_run.specs.Causing.{tally_of, Caused, StopCaused, TurnStops, TurnCaused};
 ghost use Rattle.hay_run.specs.Items.{TookOpen};
 ghost use Rattle.hay_run.specs.Lines.{TookPart, TookOver, TookSome};
 ghost use Rattle.hay_run.specs.Stream.{rest_of, budget, Accounts, IsTooLong};
@@ -47,8 +47,8 @@ fn plain<D: Disk, A: Arm<D::Piece>, K: Sink>(
     requires up { IsUp cluster.old }
     ensures answers { OnOk result (AnswersAll D.Tells (Stands D.files D.Piece.Tells D.fault_count D.fuse_count A.fault_count) (Alone number (item.Command command.now) ∷ []) cluster.old (K.written sink.old) cluster.new (K.written sink.new)) }
     ensures part { OnErr result (AnswersPart D.Tells (Stands D.files D.Piece.Tells D.fault_count D.fuse_count A.fault_count) (Holds D.files D.fault_count D.fuse_count A.fault_count) (Alone number (item.Command command.now) ∷ []) cluster.old (K.written sink.old) cluster.new (K.written sink.new)) }
-    ensures caused { OnOk result (Caused Wrote cluster.old.settings (all_counts D.fault_count A.fault_count cluster.old) (all_counts D.fault_count A.fault_count cluster.new) (Alone number (item.Command command.now) ∷ []) (K.written sink.old) (K.written sink.new)) }
-    ensures stop_caused { (stop : Stop) → result ≡ Err stop → StopCaused cluster.old.settings (all_counts D.fault_count A.fault_count cluster.old) (all_counts D.fault_count A.fault_count cluster.new) stop (Alone number (item.Command command.now) ∷ []) (K.written sink.old) (K.written sink.new) }
+    ensures caused { OnOk result (Caused D.Tells Wrote cluster.old.settings (tally_of D.files D.fault_count D.fuse_count A.fault_count A.is_sure cluster.old) (tally_of D.files D.fault_count D.fuse_count A.fault_count A.is_sure cluster.new) (Alone number (item.Command command.now) ∷ []) (K.written sink.old) (K.written sink.new)) }
+    ensures stop_caused { (stop : Stop) → result ≡ Err stop → StopCaused D.Tells cluster.old.settings (tally_of D.files D.fault_count D.fuse_count A.fault_count A.is_sure cluster.old) (tally_of D.files D.fault_count D.fuse_count A.fault_count A.is_sure cluster.new) stop (Alone number (item.Command command.now) ∷ []) (K.written sink.old) (K.written sink.new) }
     ensures stops { OnErr result ((result ≡ Err Stop.Output) ⊎ (result ≡ Err Stop.NoMemory)) }
     ensures cause { IsErrOf result Stop.Output → Rose (K.fault_count sink.old) (K.fault_count sink.new) }
     ensures count { K.fault_count sink.old ≤ K.fault_count sink.new }
@@ -99,8 +99,8 @@ fn restart<D: Disk, A: Arm<D::Piece>, K: Sink>(
     ensures broke { (IsErrOf result Stop.Output ⊎ IsErrOf result Stop.NoMemory) → BrokeAsked D.Tells (Stands D.files D.Piece.Tells D.fault_count D.fuse_count A.fault_count) (Holds D.files D.fault_count D.fuse_count A.fault_count) number (Alone number (item.Command (asks.Restart pick)) ∷ []) cluster.old (K.written sink.old) cluster.new (K.written sink.new) }
     ensures refused { IsErrOf result Stop.Store → RefusedAsked D.Tells Wrote (Stands D.files D.Piece.Tells D.fault_count D.fuse_count A.fault_count) (Holds D.files D.fault_count D.fuse_count A.fault_count) number (Alone number (item.Command (asks.Restart pick)) ∷ []) cluster.old (K.written sink.old) cluster.new (K.written sink.new) }
     ensures halted { IsErrOf result Stop.Store → Halts D.Tells (Stands D.files D.Piece.Tells D.fault_count D.fuse_count A.fault_count) D.files D.fault_count cluster.old cluster.new (K.written sink.old) (K.written sink.new) }
-    ensures caused { OnOk result (Caused Wrote cluster.old.settings (all_counts D.fault_count A.fault_count cluster.old) (all_counts D.fault_count A.fault_count cluster.new) (Alone number (item.Command (asks.Restart pick)) ∷ []) (K.written sink.old) (K.written sink.new)) }
-    ensures stop_caused { (stop : Stop) → result ≡ Err stop → StopCaused cluster.old.settings (all_counts D.fault_count A.fault_count cluster.old) (all_counts D.fault_count A.fault_count cluster.new) stop (Alone number (item.Command (asks.Restart pick)) ∷ []) (K.written sink.old) (K.written sink.new) }
+    ensures caused { OnOk result (Caused D.Tells Wrote cluster.old.settings (tally_of D.files D.fault_count D.fuse_count A.fault_count A.is_sure cluster.old) (tally_of D.files D.fault_count D.fuse_count A.fault_count A.is_sure cluster.new) (Alone number (item.Command (asks.Restart pick)) ∷ []) (K.written sink.old) (K.written sink.new)) }
+    ensures stop_caused { (stop : Stop) → result ≡ Err stop → StopCaused D.Tells cluster.old.settings (tally_of D.files D.fault_count D.fuse_count A.fault_count A.is_sure cluster.old) (tally_of D.files D.fault_count D.fuse_count A.fault_count A.is_sure cluster.new) stop (Alone number (item.Command (asks.Restart pick)) ∷ []) (K.written sink.old) (K.written sink.new) }
     ensures stops { OnErr result ((result ≡ Err Stop.Output) ⊎ (result ≡ Err Stop.NoMemory) ⊎ (result ≡ Err Stop.Store)) }
     ensures cause { IsErrOf result Stop.Output → Rose (K.fault_count sink.old) (K.fault_count sink.new) }
     ensures count { K.fault_count sink.old ≤ K.fault_count sink.new }
@@ -131,8 +131,8 @@ fn respond<D: Disk, A: Arm<D::Piece>, K: Sink>(
     ensures broke { (IsErrOf result Stop.Output ⊎ IsErrOf result Stop.NoMemory) → BrokeAsked D.Tells (Stands D.files D.Piece.Tells D.fault_count D.fuse_count A.fault_count) (Holds D.files D.fault_count D.fuse_count A.fault_count) number (outside number said).0 cluster.old (K.written sink.old) cluster.new (K.written sink.new) }
     ensures refused { IsErrOf result Stop.Store → RefusedAsked D.Tells Wrote (Stands D.files D.Piece.Tells D.fault_count D.fuse_count A.fault_count) (Holds D.files D.fault_count D.fuse_count A.fault_count) number (outside number said).0 cluster.old (K.written sink.old) cluster.new (K.written sink.new) }
     ensures halted { IsErrOf result Stop.Store → Halts D.Tells (Stands D.files D.Piece.Tells D.fault_count D.fuse_count A.fault_count) D.files D.fault_count cluster.old cluster.new (K.written sink.old) (K.written sink.new) }
-    ensures caused { OnOk result (Caused Wrote cluster.old.settings (all_counts D.fault_count A.fault_count cluster.old) (all_counts D.fault_count A.fault_count cluster.new) (outside number said).0 (K.written sink.old) (K.written sink.new)) }
-    ensures stop_caused { (stop : Stop) → result ≡ Err stop → StopCaused cluster.old.settings (all_counts D.fault_count A.fault_count cluster.old) (all_counts D.fault_count A.fault_count cluster.new) stop (outside number said).0 (K.written sink.old) (K.written sink.new) }
+    ensures caused { OnOk result (Caused D.Tells Wrote cluster.old.settings (tally_of D.files D.fault_count D.fuse_count A.fault_count A.is_sure cluster.old) (tally_of D.files D.fault_count D.fuse_count A.fault_count A.is_sure cluster.new) (outside number said).0 (K.written sink.old) (K.written sink.new)) }
+    ensures stop_caused { (stop : Stop) → result ≡ Err stop → StopCaused D.Tells cluster.old.settings (tally_of D.files D.fault_count D.fuse_count A.fault_count A.is_sure cluster.old) (tally_of D.files D.fault_count D.fuse_count A.fault_count A.is_sure cluster.new) stop (outside number said).0 (K.written sink.old) (K.written sink.new) }
     ensures stops { OnErr result ((result ≡ Err Stop.Output) ⊎ (result ≡ Err Stop.NoMemory) ⊎ (result ≡ Err Stop.Store)) }
     ensures cause { IsErrOf result Stop.Output → Rose (K.fault_count sink.old) (K.fault_count sink.new) }
     ensures count { K.fault_count sink.old ≤ K.fault_count sink.new }
@@ -182,8 +182,8 @@ pub fn turn<D: Disk, A: Arm<D::Piece>, S: Source, K: Sink>(
     ensures store { IsErrOf result Stop.Store → RefusesRestart D.Tells Wrote (Stands D.files D.Piece.Tells D.fault_count D.fuse_count A.fault_count) (Holds D.files D.fault_count D.fuse_count A.fault_count) cluster.old number (rest_of (S.left source.old) script.old) (K.written sink.old) cluster.new (rest_of (S.left source.new) script.new) (K.written sink.new) }
 
     // What was written has its causes, whatever the disks tell.
-    ensures caused { IfOk result (λ next. TurnCaused cluster.old.settings (all_counts D.fault_count A.fault_count cluster.old) (all_counts D.fault_count A.fault_count cluster.new) number (rest_of (S.left source.old) script.old) (K.written sink.old) next (rest_of (S.left source.new) script.new) script.new.ended (K.written sink.new)) }
-    ensures stop_caused { (stop : Stop) → result ≡ Err stop → TurnStops cluster.old.settings (all_counts D.fault_count A.fault_count cluster.old) (all_counts D.fault_count A.fault_count cluster.new) stop number (rest_of (S.left source.old) script.old) (K.written sink.old) (rest_of (S.left source.new) script.new) (K.written sink.new) }
+    ensures caused { IfOk result (λ next. TurnCaused D.Tells cluster.old.settings (tally_of D.files D.fault_count D.fuse_count A.fault_count A.is_sure cluster.old) (tally_of D.files D.fault_count D.fuse_count A.fault_count A.is_sure cluster.new) number (rest_of (S.left source.old) script.old) (K.written sink.old) next (rest_of (S.left source.new) script.new) script.new.ended (K.written sink.new)) }
+    ensures stop_caused { (stop : Stop) → result ≡ Err stop → TurnStops D.Tells cluster.old.settings (tally_of D.files D.fault_count D.fuse_count A.fault_count A.is_sure cluster.old) (tally_of D.files D.fault_count D.fuse_count A.fault_count A.is_sure cluster.new) stop number (rest_of (S.left source.old) script.old) (K.written sink.old) (rest_of (S.left source.new) script.new) (K.written sink.new) }
 
     // The causes of each stop.
     ensures long { IsErrOf result Stop.TooLong → IsTooLong SCRIPT (S.left source.old) script.old (S.left source.new) }

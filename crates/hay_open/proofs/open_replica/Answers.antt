@@ -83,16 +83,16 @@ returns-in-Err-read_disk-clause-only g c = λ tells s opens file at is.
 -- WHAT A STOP LEAVES OF A VOID DISK
 
 pub returns-in-Err-clause-nothing : goal.returns-in-Err-clause-nothing
-returns-in-Err-clause-nothing g c = λ tells void image leaves s opens.
-    void_left c.args.sup.now (g.D.Disk.files c.args.disk.now) (g.D.Disk.files c.size.new.self) image s (ap (λ (fs : Files). fs 0) (c.size.ensures.same tells)) void (c.requires.solid tells 0) leaves opens
+returns-in-Err-clause-nothing g c = λ tells void image leaves other s opens.
+    void_left other (g.D.Disk.files c.args.disk.now) (g.D.Disk.files c.size.new.self) image s (ap (λ (fs : Files). fs 0) (c.size.ensures.same tells)) void (c.requires.solid tells 0) leaves opens
 
 pub returns-in-Ok-format_disk-clause-nothing : goal.returns-in-Ok-format_disk-clause-nothing
-returns-in-Ok-format_disk-clause-nothing g c = λ tells void image leaves s opens.
-    c.format_disk.ensures.nothing tells (ap (λ (fs : Files). (fs 0).now) (c.size.ensures.same tells) ∙ void) image leaves s opens
+returns-in-Ok-format_disk-clause-nothing g c = λ tells void image leaves other s opens.
+    c.format_disk.ensures.nothing tells (ap (λ (fs : Files). (fs 0).now) (c.size.ensures.same tells) ∙ void) image leaves other s opens
 
 pub returns-in-Err-format_disk-clause-nothing : goal.returns-in-Err-format_disk-clause-nothing
-returns-in-Err-format_disk-clause-nothing g c = λ tells void image leaves s opens.
-    c.format_disk.ensures.nothing tells (ap (λ (fs : Files). (fs 0).now) (c.size.ensures.same tells) ∙ void) image leaves s opens
+returns-in-Err-format_disk-clause-nothing g c = λ tells void image leaves other s opens.
+    c.format_disk.ensures.nothing tells (ap (λ (fs : Files). (fs 0).now) (c.size.ensures.same tells) ∙ void) image leaves other s opens
 
 pub returns-in-Ok-format_disk-clause-undamaged_now : goal.returns-in-Ok-format_disk-clause-undamaged_now
 unfolding IsOpeningDamage

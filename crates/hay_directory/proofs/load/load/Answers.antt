@@ -45,17 +45,17 @@ returns-clause-undamaged_now g c = λ tells at damage.
     c.in_ok-journal.ensures.undamaged_now tells at (subst (λ (s : Super). IsDamagedJournal s (g.D.Disk.files c.open.new.disk 0).now at) (sym c.super_of-sup.ensures) damage)
 
 pub returns-in_err-journal-clause-nothing : goal.returns-in_err-journal-clause-nothing
-returns-in_err-journal-clause-nothing g c = λ tells void image rows is.
-    no_rows c.args.settings.now image rows (λ items journal. c.open.ensures.nothing tells void (super_bytes (journal_super c.args.settings.now)) image c.args.settings.now.volumes items is journal)
+returns-in_err-journal-clause-nothing g c = λ tells void image rows other is.
+    no_rows other image rows (λ items journal. c.open.ensures.nothing tells void (super_bytes (journal_super other)) image other.volumes items is journal)
 
 pub returns-in_default-clause-nothing : goal.returns-in_default-clause-nothing
-returns-in_default-clause-nothing g c = λ tells void image rows is.
-    no_rows c.args.settings.now image rows (λ items journal. c.open.ensures.nothing tells void (super_bytes (journal_super c.args.settings.now)) image c.args.settings.now.volumes items is journal)
+returns-in_default-clause-nothing g c = λ tells void image rows other is.
+    no_rows other image rows (λ items journal. c.open.ensures.nothing tells void (super_bytes (journal_super other)) image other.volumes items is journal)
 
 pub returns-in_default-notes_of-clause-nothing : goal.returns-in_default-notes_of-clause-nothing
-returns-in_default-notes_of-clause-nothing g c = λ tells void image rows is.
-    no_rows c.args.settings.now image rows (λ items journal. c.open.ensures.nothing tells void (super_bytes (journal_super c.args.settings.now)) image c.args.settings.now.volumes items is journal)
+returns-in_default-notes_of-clause-nothing g c = λ tells void image rows other is.
+    no_rows other image rows (λ items journal. c.open.ensures.nothing tells void (super_bytes (journal_super other)) image other.volumes items is journal)
 
 pub returns-clause-nothing : goal.returns-clause-nothing
-returns-clause-nothing g c = λ tells void image rows is.
-    no_rows c.args.settings.now image rows (λ items journal. c.open.ensures.nothing tells void (super_bytes (journal_super c.args.settings.now)) image c.args.settings.now.volumes items is journal)
+returns-clause-nothing g c = λ tells void image rows other is.
+    no_rows other image rows (λ items journal. c.open.ensures.nothing tells void (super_bytes (journal_super other)) image other.volumes items is journal)

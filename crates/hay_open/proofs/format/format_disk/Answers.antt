@@ -80,55 +80,55 @@ returns-clause-opened g c = λ tells.
     }
 
 pub returns-in_err-remove-clause-nothing : goal.returns-in_err-remove-clause-nothing
-returns-in_err-remove-clause-nothing g c = λ tells void image leaves s opens.
+returns-in_err-remove-clause-nothing g c = λ tells void image leaves other s opens.
     let v : c.volume_file-volume_number.result ≡ 1 = c.volume_file-volume_number.ensures (omega arith) in
     let x : c.index_file-index_number.result ≡ 2 = c.index_file-index_number.ensures (omega arith) in
     let f = g.D.Disk.files in
     let head : f c.remove.new.self 0 ≡ f c.args.disk.now 0 = c.remove.ensures.others tells 0 (λ is. omega arith) in
-    void_left c.args.sup.now (f c.args.disk.now) (f c.remove.new.self) image s head void (c.requires.solid tells 0) leaves opens
+    void_left other (f c.args.disk.now) (f c.remove.new.self) image s head void (c.requires.solid tells 0) leaves opens
 
 pub returns-in_err-remove-2-clause-nothing : goal.returns-in_err-remove-2-clause-nothing
-returns-in_err-remove-2-clause-nothing g c = λ tells void image leaves s opens.
+returns-in_err-remove-2-clause-nothing g c = λ tells void image leaves other s opens.
     let v : c.volume_file-volume_number.result ≡ 1 = c.volume_file-volume_number.ensures (omega arith) in
     let x : c.index_file-index_number.result ≡ 2 = c.index_file-index_number.ensures (omega arith) in
     let f = g.D.Disk.files in
     let head : f c.remove-2.new.self 0 ≡ f c.args.disk.now 0 = c.remove-2.ensures.others tells 0 (λ is. omega arith) ∙ c.remove.ensures.others tells 0 (λ is. omega arith) in
-    void_left c.args.sup.now (f c.args.disk.now) (f c.remove-2.new.self) image s head void (c.requires.solid tells 0) leaves opens
+    void_left other (f c.args.disk.now) (f c.remove-2.new.self) image s head void (c.requires.solid tells 0) leaves opens
 
 pub returns-in_err-volume-clause-nothing : goal.returns-in_err-volume-clause-nothing
-returns-in_err-volume-clause-nothing g c = λ tells void image leaves s opens.
+returns-in_err-volume-clause-nothing g c = λ tells void image leaves other s opens.
     let v : c.volume_file-volume_number.result ≡ 1 = c.volume_file-volume_number.ensures (omega arith) in
     let x : c.index_file-index_number.result ≡ 2 = c.index_file-index_number.ensures (omega arith) in
     let f = g.D.Disk.files in
     let head : f c.format.new.disk 0 ≡ f c.args.disk.now 0 = c.format.ensures.others tells 0 (λ is. omega arith) ∙ c.remove-2.ensures.others tells 0 (λ is. omega arith) ∙ c.remove.ensures.others tells 0 (λ is. omega arith) in
-    void_left c.args.sup.now (f c.args.disk.now) (f c.format.new.disk) image s head void (c.requires.solid tells 0) leaves opens
+    void_left other (f c.args.disk.now) (f c.format.new.disk) image s head void (c.requires.solid tells 0) leaves opens
 
 pub returns-in_err-sync-clause-nothing : goal.returns-in_err-sync-clause-nothing
-returns-in_err-sync-clause-nothing g c = λ tells void image leaves s opens.
+returns-in_err-sync-clause-nothing g c = λ tells void image leaves other s opens.
     let v : c.volume_file-volume_number.result ≡ 1 = c.volume_file-volume_number.ensures (omega arith) in
     let x : c.index_file-index_number.result ≡ 2 = c.index_file-index_number.ensures (omega arith) in
     let f = g.D.Disk.files in
     let head : f c.sync.new.self 0 ≡ f c.args.disk.now 0 = c.sync.ensures.others tells 0 (λ is. omega arith) ∙ c.format.ensures.others tells 0 (λ is. omega arith) ∙ c.remove-2.ensures.others tells 0 (λ is. omega arith) ∙ c.remove.ensures.others tells 0 (λ is. omega arith) in
-    void_left c.args.sup.now (f c.args.disk.now) (f c.sync.new.self) image s head void (c.requires.solid tells 0) leaves opens
+    void_left other (f c.args.disk.now) (f c.sync.new.self) image s head void (c.requires.solid tells 0) leaves opens
 
 pub returns-in_err-index-clause-nothing : goal.returns-in_err-index-clause-nothing
-returns-in_err-index-clause-nothing g c = λ tells void image leaves s opens.
+returns-in_err-index-clause-nothing g c = λ tells void image leaves other s opens.
     let v : c.volume_file-volume_number.result ≡ 1 = c.volume_file-volume_number.ensures (omega arith) in
     let x : c.index_file-index_number.result ≡ 2 = c.index_file-index_number.ensures (omega arith) in
     let f = g.D.Disk.files in
     let head : f c.format-2.new.disk 0 ≡ f c.args.disk.now 0 = c.format-2.ensures.others tells 0 (λ is. omega arith) ∙ c.sync.ensures.others tells 0 (λ is. omega arith) ∙ c.format.ensures.others tells 0 (λ is. omega arith) ∙ c.remove-2.ensures.others tells 0 (λ is. omega arith) ∙ c.remove.ensures.others tells 0 (λ is. omega arith) in
-    void_left c.args.sup.now (f c.args.disk.now) (f c.format-2.new.disk) image s head void (c.requires.solid tells 0) leaves opens
+    void_left other (f c.args.disk.now) (f c.format-2.new.disk) image s head void (c.requires.solid tells 0) leaves opens
 
 pub returns-in_err-sync-2-clause-nothing : goal.returns-in_err-sync-2-clause-nothing
-returns-in_err-sync-2-clause-nothing g c = λ tells void image leaves s opens.
+returns-in_err-sync-2-clause-nothing g c = λ tells void image leaves other s opens.
     let v : c.volume_file-volume_number.result ≡ 1 = c.volume_file-volume_number.ensures (omega arith) in
     let x : c.index_file-index_number.result ≡ 2 = c.index_file-index_number.ensures (omega arith) in
     let f = g.D.Disk.files in
     let head : f c.sync-2.new.self 0 ≡ f c.args.disk.now 0 = c.sync-2.ensures.others tells 0 (λ is. omega arith) ∙ c.format-2.ensures.others tells 0 (λ is. omega arith) ∙ c.sync.ensures.others tells 0 (λ is. omega arith) ∙ c.format.ensures.others tells 0 (λ is. omega arith) ∙ c.remove-2.ensures.others tells 0 (λ is. omega arith) ∙ c.remove.ensures.others tells 0 (λ is. omega arith) in
-    void_left c.args.sup.now (f c.args.disk.now) (f c.sync-2.new.self) image s head void (c.requires.solid tells 0) leaves opens
+    void_left other (f c.args.disk.now) (f c.sync-2.new.self) image s head void (c.requires.solid tells 0) leaves opens
 
 pub returns-in_err-head-clause-nothing : goal.returns-in_err-head-clause-nothing
-returns-in_err-head-clause-nothing g c = λ tells void image leaves s opens.
+returns-in_err-head-clause-nothing g c = λ tells void image leaves other s opens.
     let v : c.volume_file-volume_number.result ≡ 1 = c.volume_file-volume_number.ensures (omega arith) in
     let x : c.index_file-index_number.result ≡ 2 = c.index_file-index_number.ensures (omega arith) in
     let f = g.D.Disk.files in
@@ -140,18 +140,18 @@ returns-in_err-head-clause-nothing g c = λ tells void image leaves s opens.
     (subst (λ n. KeepsOthers n (f c.sync.new.self) (f c.format-2.new.disk)) x (c.format-2.ensures.others tells))
     (subst (λ n. KeepsOthers n (f c.format-2.new.disk) (f c.sync-2.new.self)) x (c.sync-2.ensures.others tells))
     (c.format-3.ensures.others tells) in
-    new_left c.args.sup.now c.volume_super.result (f c.args.disk.now) (f c.format.new.disk) (f c.sync.new.self) (f c.sync-2.new.self) (f c.format-3.new.disk) image s by.head void (c.requires.solid tells 0) c.volume_super.ensures.is
+    new_left c.args.sup.now c.volume_super.result other (f c.args.disk.now) (f c.format.new.disk) (f c.sync.new.self) (f c.sync-2.new.self) (f c.format-3.new.disk) image s by.head void (c.requires.solid tells 0) c.volume_super.ensures.is
     (subst (λ n. IsVolume (super_bytes c.volume_super.result) (f c.format.new.disk n).now [] 64) v (c.in_ok-volume.ensures.empty tells))
     (subst (λ n. Keeps (f c.format.new.disk n) (f c.sync.new.self n)) v (c.sync.ensures.keeps tells))
     (subst (λ n. IsSolid (f c.sync.new.self n)) v (c.in_ok-sync.ensures.solid tells)) by.volume_stays (c.format-3.ensures.changes tells) leaves opens
 
 pub returns-clause-nothing : goal.returns-clause-nothing
-returns-clause-nothing g c = λ tells void image leaves s opens.
+returns-clause-nothing g c = λ tells void image leaves other s opens.
     let v : c.volume_file-volume_number.result ≡ 1 = c.volume_file-volume_number.ensures (omega arith) in
     let x : c.index_file-index_number.result ≡ 2 = c.index_file-index_number.ensures (omega arith) in
     let f = g.D.Disk.files in
     let by = steps g c tells in
-    new_left c.args.sup.now c.volume_super.result (f c.args.disk.now) (f c.format.new.disk) (f c.sync.new.self) (f c.sync-2.new.self) (f c.format-3.new.disk) image s by.head void (c.requires.solid tells 0) c.volume_super.ensures.is
+    new_left c.args.sup.now c.volume_super.result other (f c.args.disk.now) (f c.format.new.disk) (f c.sync.new.self) (f c.sync-2.new.self) (f c.format-3.new.disk) image s by.head void (c.requires.solid tells 0) c.volume_super.ensures.is
     (subst (λ n. IsVolume (super_bytes c.volume_super.result) (f c.format.new.disk n).now [] 64) v (c.in_ok-volume.ensures.empty tells))
     (subst (λ n. Keeps (f c.format.new.disk n) (f c.sync.new.self n)) v (c.sync.ensures.keeps tells))
     (subst (λ n. IsSolid (f c.sync.new.self n)) v (c.in_ok-sync.ensures.solid tells)) by.volume_stays (c.format-3.ensures.changes tells) leaves opens

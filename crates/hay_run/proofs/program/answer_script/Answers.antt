@@ -1,8 +1,9 @@
 use Rattle.std.proofs.Common.{◌≡◌, ◌<◌, ◌++◌, Some, List, [], ℕ, length, map, refl, sym, ap, subst, ◌∙◌, arith, inl, inr}
-use Rattle.std.specs.Prelude.{Err, Option, slice_index}
+use Rattle.std.specs.Prelude.{Bool, true, Err, Option, slice_index}
 use Rattle.std.proofs.lemmas.Result.{on_ok_weaker}
 use Rattle.hay_needle.specs.declared.settings.Settings.{Settings}
 use Rattle.hay_mount.specs.Mounts.{AreIn, AreOut, SameFrom}
+use Rattle.hay_disk.specs.Shelf.{HeldDisk}
 use Rattle.hay_disk.specs.Streams.{Wrote}
 use Rattle.hay_reply.specs.Replies.{header_line, note_line}
 use Rattle.hay_legal.specs.declared.known.Known.{Known}
@@ -18,10 +19,10 @@ use Rattle.hay_run.specs.declared.stops.Stop.TheVariants as stop
 use Rattle.hay_run.specs.Runs.{RanTo}
 use Rattle.hay_run.specs.Stops.{ending_of}
 use Rattle.hay_run.specs.Turns.{Serves, ServedUntil}
-use Rattle.hay_legal.specs.Statuses.{Ending}
-use Rattle.hay_run.specs.Causing.{AllCaused, BeginsAt, CausedRun, CausedUntil, EndsAt, all_counts}
+use Rattle.hay_legal.specs.Statuses.{Ending, read_contents}
+use Rattle.hay_run.specs.Causing.{AllCaused, BeginsAt, CausedRun, CausedUntil, EndsAt, tally_of}
 use Rattle.hay_run.proofs.Caused.{all_caused, by_outcome, refused_caused, until_caused}
-use Rattle.hay_run.proofs.Counting.{NoneFalls-at, arm_there, count_at, sure_at}
+use Rattle.hay_run.proofs.Counting.{NoneFalls-at, arm_there, count_at, lane_of, sure_at}
 use Rattle.hay_run.proofs.Giving.{same_more}
 use Rattle.hay_run.proofs.Ran.{ran_all, ran_stopped}
 use Rattle.hay_run.proofs.Refusing.{cause_of, none_opened, not_read, on_ok_both, ran_unopened, refused_later}
@@ -167,23 +168,38 @@ pub returns-clause-caused : goal.returns-clause-caused
 returns-clause-caused g c = λ script held told told_sink.
     let D = g.H.Disk.Disk in
     let A = g.H.Arm.Arm in
+    let disks : ℕ → HeldDisk = g.H.Shelf.disks c.args.shelf.now in
+    let disks' : ℕ → HeldDisk = g.H.Shelf.disks c.close.new.shelf in
+    let sure : ℕ → Bool = (λ lane. (g.H.Shelf.arms c.args.shelf.now lane).is_sure) in
     let taken = outside_of (g.H.Shelf.fault_count c.args.shelf.now) (g.H.Shelf.disks c.args.shelf.now) (g.H.Shelf.arms c.args.shelf.now) in
     let given = outside_of (g.H.Shelf.fault_count c.close.new.shelf) (g.H.Shelf.disks c.close.new.shelf) (g.H.Shelf.arms c.close.new.shelf) in
-    let old = all_counts D.fault_count A.fault_count c.in-Ok.cluster in
-    let new = all_counts D.fault_count A.fault_count c.serve-outcome.new.cluster in
+    let old = tally_of D.files D.fault_count D.fuse_count A.fault_count A.is_sure c.in-Ok.cluster in
+    let new = tally_of D.files D.fault_count D.fuse_count A.fault_count A.is_sure c.serve-outcome.new.cluster in
     let left = g.S.Source.left c.serve-outcome.new.source in
     let written = g.K.Sink.written c.serve-outcome.new.sink in
     let is_settings = c.serve-outcome.ensures.settings ∙ c.in-Ok.ensures.settings in
-    let begins : BeginsAt c.args.settings taken old = (λ slot within. (c.in-Ok.ensures.counts slot within).faults_rise, c.in-Ok.ensures.arm_counts) in
-    let ends : EndsAt c.args.settings new given = (subst (λ s. (slot : ℕ) → slot < disk_count s → given.faults slot ≡ slice_index new.disks slot) is_settings c.close.ensures.fault_counts, c.close.ensures.arm_counts) in
-    by_outcome (λ (e : Ending). CausedRun D.Tells c.args.settings e script left taken given held written) c.serve-outcome.result
+    let begins : BeginsAt c.args.settings taken sure old = record {
+      faults = λ slot within. (c.in-Ok.ensures.counts slot within).faults_rise;
+      fuses = λ slot within. (c.in-Ok.ensures.counts slot within).fuses_are;
+      arms = c.in-Ok.ensures.arm_counts;
+      stay_sure = λ lane within is.
+          let arm = arm_there c.in-Ok.cluster.arms lane (subst (λ n. lane < n) (sym c.in-Ok.ensures.lanes) within) in
+          lane_of A.is_sure c.in-Ok.cluster.arms lane arm.0 arm.1 (c.in-Ok.ensures.sure_arms lane arm.0 arm.1 ∙ is);
+    } in
+    let ends : EndsAt g.H.Disk.Disk.Tells c.args.settings new given = record {
+      faults = subst (λ s. (slot : ℕ) → slot < disk_count s → given.faults slot ≡ slice_index new.counts.disks slot) is_settings c.close.ensures.fault_counts;
+      fuses = subst (λ s. (slot : ℕ) → slot < disk_count s → given.fuses slot ≡ slice_index new.fuses slot) is_settings c.close.ensures.fuse_counts;
+      arms = c.close.ensures.arm_counts;
+      contents = λ tells. subst (λ s. (slot : ℕ) → slot < disk_count s → read_contents given slot ≡ new.contents slot) is_settings (c.close.ensures.contents tells);
+    } in
+    by_outcome (λ (e : Ending). CausedRun D.Tells c.args.settings e script left taken given sure disks disks' held written) c.serve-outcome.result
     (on_ok_weaker c.serve-outcome.result (λ both.
-    let all : AllCaused c.args.settings old new (Some script) (Some (held ++ header_line c.args.settings)) written = rw (c.in-Ok.ensures.settings, told, told_sink) at both.0 in
-    all_caused D.Tells c.args.settings script left taken given held written old new begins ends all (rw told at both.1))
+    let all : AllCaused g.H.Disk.Disk.Tells c.args.settings old new (Some script) (Some (held ++ header_line c.args.settings)) written = rw (c.in-Ok.ensures.settings, told, told_sink) at both.0 in
+    all_caused D.Tells c.args.settings script left taken given sure disks disks' held written old new begins ends c.in-Ok.ensures.sound all (rw told at both.1))
     (on_ok_both _ _ c.serve-outcome.result c.serve-outcome.ensures.caused c.serve-outcome.ensures.ended))
     (λ why is.
-    let u : CausedUntil c.args.settings old new why (Some script) (Some (held ++ header_line c.args.settings)) left written = rw (c.in-Ok.ensures.settings, told, told_sink) at (c.serve-outcome.ensures.stop_caused why is) in
-    until_caused D.Tells c.args.settings script left taken given held written old new begins ends why
+    let u : CausedUntil g.H.Disk.Disk.Tells c.args.settings old new why (Some script) (Some (held ++ header_line c.args.settings)) left written = rw (c.in-Ok.ensures.settings, told, told_sink) at (c.serve-outcome.ensures.stop_caused why is) in
+    until_caused D.Tells c.args.settings script left taken given sure disks disks' held written old new begins ends c.in-Ok.ensures.sound why
     (λ e last left_is.
     let long = c.serve-outcome.ensures.long (cc (is, e)) script told in
     let same : long.0 ≡ last = (let n = long.1 in cc (n, left_is)) in omega (arith, long.2, ap length same)) u)
@@ -194,9 +210,12 @@ pub returns-in-Err-clause-caused : goal.returns-in-Err-clause-caused
 returns-in-Err-clause-caused g c = λ script held told told_sink.
     let shelf = g.H.Shelf.fault_count c.args.shelf.now in
     let shelf' = g.H.Shelf.fault_count c.open.new.shelf in
+    let disks : ℕ → HeldDisk = g.H.Shelf.disks c.args.shelf.now in
+    let disks' : ℕ → HeldDisk = g.H.Shelf.disks c.open.new.shelf in
+    let sure : ℕ → Bool = (λ lane. (g.H.Shelf.arms c.args.shelf.now lane).is_sure) in
     let taken = outside_of shelf (g.H.Shelf.disks c.args.shelf.now) (g.H.Shelf.arms c.args.shelf.now) in
     let given = outside_of shelf' (g.H.Shelf.disks c.open.new.shelf) (g.H.Shelf.arms c.open.new.shelf) in
-    refused_caused g.H.Disk.Disk.Tells c.args.settings script (g.S.Source.left c.args.source.now) taken given held (g.K.Sink.written c.write_refusal.new.sink) c.write_refusal.result c.in-Err.fault
+    refused_caused g.H.Disk.Disk.Tells c.args.settings script (g.S.Source.left c.args.source.now) taken given sure disks disks' held (g.K.Sink.written c.write_refusal.new.sink) c.in-Err.ensures.kept (λ lane within. (c.in-Err.ensures.back_arms lane within).fault_count) (λ slot within. (c.in-Err.ensures.back_counts slot within).fuses_are) c.write_refusal.result c.in-Err.fault
     (cause_of g.H.Disk.Disk.Tells c.args.settings taken given c.in-Err.fault c.in-Err.ensures.shelf c.in-Err.ensures.failed
     (λ t slot count e. c.in-Err.ensures.failed_lowest t slot count (ap (λ f. Err f) e)) (λ t slot file at e. c.in-Err.ensures.damaged t slot file at (ap (λ f. Err f) e)))
     (rw told_sink at c.write_refusal.ensures.told) (rw told_sink at c.write_refusal.ensures.part)

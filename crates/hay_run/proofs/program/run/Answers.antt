@@ -1,5 +1,5 @@
-use Rattle.std.specs.Prelude.{Option, Err}
-use Rattle.std.proofs.Common.{◌≡◌, List, ℕ, refl, map, string_bytes, sym, ap, subst, ◌∙◌, inl}
+use Rattle.std.specs.Prelude.{Bool, Option, Err}
+use Rattle.std.proofs.Common.{◌≡◌, List, ℕ, refl, map, string_bytes, sym, ap, subst, ◌∙◌, inl, inr}
 use Rattle.hay_needle.specs.declared.settings.Settings.{Settings}
 use Rattle.hay_disk.specs.Shelf.{HeldDisk, HeldArm}
 use Rattle.hay_mount.specs.Mounts.{SameFrom}
@@ -125,29 +125,38 @@ returns-in-Err-run_script-clause-sound g c = λ tells status settings says.
 
 pub returns-in-Err-clause-caused : goal.returns-in-Err-clause-caused
 returns-in-Err-clause-caused g c = λ settings says script held told told_sink ending is.
+    let disks : ℕ → HeldDisk = g.H.Shelf.disks c.args.shelf.now in
+    let disks' : ℕ → HeldDisk = g.H.Shelf.disks c.args.shelf.now in
+    let sure : ℕ → Bool = (λ lane. (g.H.Shelf.arms c.args.shelf.now lane).is_sure) in
     let outside = outside_of (g.H.Shelf.fault_count c.args.shelf.now) (g.H.Shelf.disks c.args.shelf.now) (g.H.Shelf.arms c.args.shelf.now) in
-    by_status (λ (e : Ending). CausedRun g.H.Disk.Disk.Tells settings e script (g.S.Source.left c.args.source.now) outside outside held (g.K.Sink.written c.args.sink.now)) NoMemory ending (sym c.status.ensures ∙ is)
-    (nothing_caused g.H.Disk.Disk.Tells settings script (g.S.Source.left c.args.source.now) outside outside held (g.K.Sink.written c.args.sink.now) told_sink told)
+    by_status (λ (e : Ending). CausedRun g.H.Disk.Disk.Tells settings e script (g.S.Source.left c.args.source.now) outside outside sure disks disks' held (g.K.Sink.written c.args.sink.now)) NoMemory ending (sym c.status.ensures ∙ is)
+    (nothing_caused g.H.Disk.Disk.Tells settings script (g.S.Source.left c.args.source.now) outside outside sure disks disks' held (g.K.Sink.written c.args.sink.now) (λ tells slot within. inr (inl refl)) (λ lane within. refl) (λ slot within. refl) told_sink told)
 
 pub returns-in-Ok-clause-caused : goal.returns-in-Ok-clause-caused
 returns-in-Ok-clause-caused g c = λ settings says script held told told_sink ending is.
+    let disks : ℕ → HeldDisk = g.H.Shelf.disks c.args.shelf.now in
+    let disks' : ℕ → HeldDisk = g.H.Shelf.disks c.run_script.new.shelf in
+    let sure : ℕ → Bool = (λ lane. (g.H.Shelf.arms c.args.shelf.now lane).is_sure) in
     let outside = outside_of (g.H.Shelf.fault_count c.args.shelf.now) (g.H.Shelf.disks c.args.shelf.now) (g.H.Shelf.arms c.args.shelf.now) in
     let given = outside_of (g.H.Shelf.fault_count c.run_script.new.shelf) (g.H.Shelf.disks c.run_script.new.shelf) (g.H.Shelf.arms c.run_script.new.shelf) in
     let same : c.in-Ok-Some.settings ≡ settings = (let run : SaysRun (map string_bytes c.args.words.now) c.in-Ok-Some.settings = rw c.in-Ok-Some.field-0-is at c.in-Ok-Some.ensures.run in
     same_run (map string_bytes c.args.words.now) c.in-Ok-Some.settings settings run says) in
-    let P : Settings → Type 0 = λ s. CausedRun g.H.Disk.Disk.Tells s ending script (g.S.Source.left c.run_script.new.source) outside given held (g.K.Sink.written c.run_script.new.sink) in
+    let P : Settings → Type 0 = λ s. CausedRun g.H.Disk.Disk.Tells s ending script (g.S.Source.left c.run_script.new.source) outside given sure disks disks' held (g.K.Sink.written c.run_script.new.sink) in
     subst P same
-    (by_status (λ (e : Ending). CausedRun g.H.Disk.Disk.Tells c.in-Ok-Some.settings e script (g.S.Source.left c.run_script.new.source) outside given held (g.K.Sink.written c.run_script.new.sink)) ReadAll ending is
+    (by_status (λ (e : Ending). CausedRun g.H.Disk.Disk.Tells c.in-Ok-Some.settings e script (g.S.Source.left c.run_script.new.source) outside given sure disks disks' held (g.K.Sink.written c.run_script.new.sink)) ReadAll ending is
     (c.in-Ok.ensures.caused script held told told_sink))
 
 pub returns-in-Err-run_script-clause-caused : goal.returns-in-Err-run_script-clause-caused
 returns-in-Err-run_script-clause-caused g c = λ settings says script held told told_sink ending is.
+    let disks : ℕ → HeldDisk = g.H.Shelf.disks c.args.shelf.now in
+    let disks' : ℕ → HeldDisk = g.H.Shelf.disks c.run_script.new.shelf in
+    let sure : ℕ → Bool = (λ lane. (g.H.Shelf.arms c.args.shelf.now lane).is_sure) in
     let outside = outside_of (g.H.Shelf.fault_count c.args.shelf.now) (g.H.Shelf.disks c.args.shelf.now) (g.H.Shelf.arms c.args.shelf.now) in
     let given = outside_of (g.H.Shelf.fault_count c.run_script.new.shelf) (g.H.Shelf.disks c.run_script.new.shelf) (g.H.Shelf.arms c.run_script.new.shelf) in
     let same : c.in-Ok-Some.settings ≡ settings = (let run : SaysRun (map string_bytes c.args.words.now) c.in-Ok-Some.settings = rw c.in-Ok-Some.field-0-is at c.in-Ok-Some.ensures.run in
     same_run (map string_bytes c.args.words.now) c.in-Ok-Some.settings settings run says) in
-    let P : Settings → Type 0 = λ s. CausedRun g.H.Disk.Disk.Tells s ending script (g.S.Source.left c.run_script.new.source) outside given held (g.K.Sink.written c.run_script.new.sink) in
+    let P : Settings → Type 0 = λ s. CausedRun g.H.Disk.Disk.Tells s ending script (g.S.Source.left c.run_script.new.source) outside given sure disks disks' held (g.K.Sink.written c.run_script.new.sink) in
     subst P same
-    (by_status (λ (e : Ending). CausedRun g.H.Disk.Disk.Tells c.in-Ok-Some.settings e script (g.S.Source.left c.run_script.new.source) outside given held (g.K.Sink.written c.run_script.new.sink))
+    (by_status (λ (e : Ending). CausedRun g.H.Disk.Disk.Tells c.in-Ok-Some.settings e script (g.S.Source.left c.run_script.new.source) outside given sure disks disks' held (g.K.Sink.written c.run_script.new.sink))
     (ending_of c.in-Err-run_script.stop) ending (sym c.status-in-Err-run_script.ensures ∙ is)
     (c.in-Err-run_script.ensures.caused script held told told_sink))

@@ -1,6 +1,7 @@
-use Rattle.std.proofs.Common.{◌≡◌, Some, List, ℕ, sym, subst}
-use Rattle.std.specs.Prelude.{Result, Err, Option}
+use Rattle.std.proofs.Common.{◌≡◌, Some, List, ℕ, refl, sym, subst, inl, inr}
+use Rattle.std.specs.Prelude.{Bool, Result, Err, Option}
 use Rattle.std.proofs.lemmas.Result.{err_from_is_err_and}
+use Rattle.hay_disk.specs.Shelf.{HeldDisk}
 use Rattle.hay_disk.specs.Streams.{Wrote, WrotePart}
 use Rattle.hay_reply.specs.Replies.{header_line}
 use Rattle.hay_cluster.specs.Outside.{outside_of}
@@ -42,13 +43,16 @@ returns-clause-appends g c =
 pub returns-in_err-write_header-clause-caused : goal.returns-in_err-write_header-clause-caused
 returns-in_err-write_header-clause-caused g c = λ script held told told_sink.
     let p = err_from_is_err_and c.from_residual.result c.from_residual.ensures.1 in
+    let disks : ℕ → HeldDisk = g.H.Shelf.disks c.args.shelf.now in
+    let disks' : ℕ → HeldDisk = g.H.Shelf.disks c.args.shelf.now in
+    let sure : ℕ → Bool = (λ lane. (g.H.Shelf.arms c.args.shelf.now lane).is_sure) in
     let outside = outside_of (g.H.Shelf.fault_count c.args.shelf.now) (g.H.Shelf.disks c.args.shelf.now) (g.H.Shelf.arms c.args.shelf.now) in
     let written' = g.K.Sink.written c.write_header.new.sink in
     let wrote : WrotePart (Some held) (header_line c.args.settings) written' = rw told_sink at c.in_err-write_header.ensures.part in
     let wrong : Result (Unit {0}) Stop = Err c.in_err-write_header.field-0.0 in
     let same : wrong ≡ c.from_residual.result = cc (p.1, p.2) in
-    let P : Result (Unit {0}) Stop → Type 0 = λ r. CausedRun g.H.Disk.Disk.Tells c.args.settings (ending_in r) script (g.S.Source.left c.args.source.now) outside outside held written' in
-    subst P same (header_caused g.H.Disk.Disk.Tells c.args.settings script (g.S.Source.left c.args.source.now) outside outside held written' wrong c.in_err-write_header.ensures.stops wrote told)
+    let P : Result (Unit {0}) Stop → Type 0 = λ r. CausedRun g.H.Disk.Disk.Tells c.args.settings (ending_in r) script (g.S.Source.left c.args.source.now) outside outside sure disks disks' held written' in
+    subst P same (header_caused g.H.Disk.Disk.Tells c.args.settings script (g.S.Source.left c.args.source.now) outside outside sure disks disks' held written' (λ tells slot within. inr (inl refl)) (λ lane within. refl) (λ slot within. refl) wrong c.in_err-write_header.ensures.stops wrote told)
 
 pub returns-clause-caused : goal.returns-clause-caused
 returns-clause-caused g c = λ script held told told_sink. c.answer_script.ensures.caused script held told (rw told_sink at c.in_ok-write_header.ensures.wrote)

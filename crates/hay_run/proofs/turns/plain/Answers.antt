@@ -4,7 +4,8 @@ use Rattle.hay_disk.specs.Streams.{Wrote, WrotePart}
 use Rattle.hay_cluster.specs.State.{Stands, Holds}
 use Rattle.hay_cluster.proofs.Standing.{stands_holds}
 use Rattle.hay_run.specs.Turns.{AnyTurn, IsGoingOn}
-use Rattle.hay_run.specs.Causing.{all_counts}
+use Rattle.hay_run.specs.Causing.{tally_of}
+use Rattle.hay_run.proofs.Counting.{StaySure-lanes, arm_of}
 use Rattle.hay_run.proofs.Causing.{caused_reply, part_stops}
 use Rattle.hay_run.proofs.Turning.{answers_plain, plain_goes_on}
 use Rattle.hay_legal.specs.declared.turn.Item.TheVariants as item
@@ -38,17 +39,19 @@ returns-clause-caused g c =
     let D = g.D.Disk in
     let A = g.A.Arm in
     on_ok_weaker c.write_reply.result (λ wrote.
-    caused_reply Wrote c.args.cluster.now.settings (all_counts D.fault_count A.fault_count c.args.cluster.now) (all_counts D.fault_count A.fault_count c.answer-reply.new.self) c.args.number c.args.command.now c.answer-reply.result
-    (g.K.Sink.written c.args.sink.now) (g.K.Sink.written c.write_reply.new.sink) c.requires.goes_on (c.answer-reply.ensures.counts, c.answer-reply.ensures.arm_counts) c.answer-reply.ensures.causes wrote)
+    caused_reply g.D.Disk.Tells Wrote c.args.cluster.now.settings (tally_of D.files D.fault_count D.fuse_count A.fault_count A.is_sure c.args.cluster.now) (tally_of D.files D.fault_count D.fuse_count A.fault_count A.is_sure c.answer-reply.new.self) c.args.number c.args.command.now c.answer-reply.result
+    (g.K.Sink.written c.args.sink.now) (g.K.Sink.written c.write_reply.new.sink) c.requires.goes_on (c.answer-reply.ensures.counts, c.answer-reply.ensures.arm_counts, StaySure-lanes A.is_sure A.fault_count c.args.cluster.now.arms c.answer-reply.new.self.arms c.answer-reply.ensures.sure_arms)
+    c.answer-reply.ensures.fuses c.answer-reply.ensures.causes (λ sure. let arm = arm_of A.is_sure c.args.cluster.now.arms 0 sure in c.answer-reply.ensures.sure arm.0 arm.1 arm.2) wrote)
     c.write_reply.ensures.wrote
 
 pub returns-clause-stop_caused : goal.returns-clause-stop_caused
 returns-clause-stop_caused g c = λ why is.
     let D = g.D.Disk in
     let A = g.A.Arm in
-    part_stops c.args.cluster.now.settings (all_counts D.fault_count A.fault_count c.args.cluster.now) (all_counts D.fault_count A.fault_count c.answer-reply.new.self) (Alone c.args.number (item.Command c.args.command.now) ∷ [])
+    part_stops g.D.Disk.Tells c.args.cluster.now.settings (tally_of D.files D.fault_count D.fuse_count A.fault_count A.is_sure c.args.cluster.now) (tally_of D.files D.fault_count D.fuse_count A.fault_count A.is_sure c.answer-reply.new.self) (Alone c.args.number (item.Command c.args.command.now) ∷ [])
     (g.K.Sink.written c.args.sink.now) (g.K.Sink.written c.write_reply.new.sink) c.write_reply.result why is c.write_reply.ensures.stops
     (on_err_weaker c.write_reply.result (λ wrote.
-    caused_reply WrotePart c.args.cluster.now.settings (all_counts D.fault_count A.fault_count c.args.cluster.now) (all_counts D.fault_count A.fault_count c.answer-reply.new.self) c.args.number c.args.command.now c.answer-reply.result
-    (g.K.Sink.written c.args.sink.now) (g.K.Sink.written c.write_reply.new.sink) c.requires.goes_on (c.answer-reply.ensures.counts, c.answer-reply.ensures.arm_counts) c.answer-reply.ensures.causes wrote)
+    caused_reply g.D.Disk.Tells WrotePart c.args.cluster.now.settings (tally_of D.files D.fault_count D.fuse_count A.fault_count A.is_sure c.args.cluster.now) (tally_of D.files D.fault_count D.fuse_count A.fault_count A.is_sure c.answer-reply.new.self) c.args.number c.args.command.now c.answer-reply.result
+    (g.K.Sink.written c.args.sink.now) (g.K.Sink.written c.write_reply.new.sink) c.requires.goes_on (c.answer-reply.ensures.counts, c.answer-reply.ensures.arm_counts, StaySure-lanes A.is_sure A.fault_count c.args.cluster.now.arms c.answer-reply.new.self.arms c.answer-reply.ensures.sure_arms)
+    c.answer-reply.ensures.fuses c.answer-reply.ensures.causes (λ sure. let arm = arm_of A.is_sure c.args.cluster.now.arms 0 sure in c.answer-reply.ensures.sure arm.0 arm.1 arm.2) wrote)
     c.write_reply.ensures.part)

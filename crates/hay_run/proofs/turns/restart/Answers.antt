@@ -1,5 +1,5 @@
-use Rattle.std.proofs.Common.{◌≡◌, inl, [], ◌∷◌, refl, ap, map, subst}
-use Rattle.std.specs.Prelude.{Err}
+use Rattle.std.proofs.Common.{◌≡◌, inl, [], ◌∷◌, true, Some, refl, sym, ap, map, subst}
+use Rattle.std.specs.Prelude.{Err, slice_get}
 use Rattle.std.proofs.lemmas.Result.{on_ok_weaker, on_err_weaker}
 use Rattle.hay_disk.specs.Streams.{Wrote, WrotePart}
 use Rattle.hay_script.specs.declared.Command.TheVariants as asks
@@ -12,7 +12,7 @@ use Rattle.hay_run.specs.declared.stops.Stop.{Stop}
 use Rattle.hay_run.specs.declared.stops.Stop.TheVariants as stop
 use Rattle.hay_run.proofs.Counting.{NoneFalls-kept}
 use Rattle.hay_run.specs.Turns.{AnyTurn, IsGoingOn}
-use Rattle.hay_run.specs.Causing.{all_counts, NoCountFalls, NotReopened, StopCaused}
+use Rattle.hay_run.specs.Causing.{tally_of, IsLaterTally, NotReopened, StopCaused}
 use Rattle.hay_run.proofs.Causing.{caused_restart, part_stops, refused_stops}
 use Rattle.hay_run.proofs.Turning.{on_either, restarted_goes_on}
 use Rattle.hay_run.proofs.Restarting.{restarted, holds_counts, stands_counts, not_store, broke, refused, halts}
@@ -77,6 +77,7 @@ returns-in-Err-clause-halted g c = λ stopped.
     (λ tells k stands. let at = c.in-Err.ensures.left tells k stands in (at.known, at.leaves, at.holds))
     c.in-Err.fault c.in-Err.ensures.cause (λ tells k stands slot file at e. c.in-Err.ensures.whole tells k stands slot file at (ap (λ f. Err f) e))
     (λ tells slot file at e. c.in-Err.ensures.damaged tells slot file at (ap (λ f. Err f) e))
+    (λ tells slot count e. c.in-Err.ensures.failed_lowest tells slot count (ap (λ f. Err f) e))
     (λ e. (c.refuse.ensures.wanting e).0 is_store) (c.refuse.ensures.told is_store)
 
 pub returns-in-Ok-clause-arm_faults : goal.returns-in-Ok-clause-arm_faults
@@ -101,22 +102,22 @@ pub returns-in-Ok-clause-caused : goal.returns-in-Ok-clause-caused
 returns-in-Ok-clause-caused g c =
     let D = g.D.Disk in
     let A = g.A.Arm in
-    let none : NoCountFalls (all_counts D.fault_count A.fault_count c.args.cluster.now) (all_counts D.fault_count A.fault_count c.restart.new.self) = (c.in-Ok.ensures.counts, NoneFalls-kept (map A.fault_count c.args.cluster.now.arms) (map A.fault_count c.restart.new.self.arms) (ap (map A.fault_count) c.in-Ok.ensures.arms)) in
+    let none : IsLaterTally (tally_of D.files D.fault_count D.fuse_count A.fault_count A.is_sure c.args.cluster.now) (tally_of D.files D.fault_count D.fuse_count A.fault_count A.is_sure c.restart.new.self) = (c.in-Ok.ensures.counts, NoneFalls-kept (map A.fault_count c.args.cluster.now.arms) (map A.fault_count c.restart.new.self.arms) (ap (map A.fault_count) c.in-Ok.ensures.arms), λ lane is. subst (λ arms. slice_get (map A.is_sure arms) lane ≡ Some true) (sym c.in-Ok.ensures.arms) is) in
     on_ok_weaker c.write_restarted.result (λ wrote.
-    caused_restart Wrote c.args.cluster.now.settings (all_counts D.fault_count A.fault_count c.args.cluster.now) (all_counts D.fault_count A.fault_count c.restart.new.self) c.args.number c.args.pick c.rows.result c.as_slice.result.now
-    (g.K.Sink.written c.args.sink.now) (g.K.Sink.written c.write_restarted.new.sink) none wrote)
+    caused_restart g.D.Disk.Tells Wrote c.args.cluster.now.settings (tally_of D.files D.fault_count D.fuse_count A.fault_count A.is_sure c.args.cluster.now) (tally_of D.files D.fault_count D.fuse_count A.fault_count A.is_sure c.restart.new.self) c.args.number c.args.pick c.rows.result c.as_slice.result.now
+    (g.K.Sink.written c.args.sink.now) (g.K.Sink.written c.write_restarted.new.sink) none c.in-Ok.ensures.fuses c.in-Ok.ensures.sound wrote)
     c.write_restarted.ensures.wrote
 
 pub returns-in-Ok-clause-stop_caused : goal.returns-in-Ok-clause-stop_caused
 returns-in-Ok-clause-stop_caused g c = λ why is.
     let D = g.D.Disk in
     let A = g.A.Arm in
-    let none : NoCountFalls (all_counts D.fault_count A.fault_count c.args.cluster.now) (all_counts D.fault_count A.fault_count c.restart.new.self) = (c.in-Ok.ensures.counts, NoneFalls-kept (map A.fault_count c.args.cluster.now.arms) (map A.fault_count c.restart.new.self.arms) (ap (map A.fault_count) c.in-Ok.ensures.arms)) in
-    part_stops c.args.cluster.now.settings (all_counts D.fault_count A.fault_count c.args.cluster.now) (all_counts D.fault_count A.fault_count c.restart.new.self) (Alone c.args.number (item.Command (asks.Restart c.args.pick)) ∷ [])
+    let none : IsLaterTally (tally_of D.files D.fault_count D.fuse_count A.fault_count A.is_sure c.args.cluster.now) (tally_of D.files D.fault_count D.fuse_count A.fault_count A.is_sure c.restart.new.self) = (c.in-Ok.ensures.counts, NoneFalls-kept (map A.fault_count c.args.cluster.now.arms) (map A.fault_count c.restart.new.self.arms) (ap (map A.fault_count) c.in-Ok.ensures.arms), λ lane is. subst (λ arms. slice_get (map A.is_sure arms) lane ≡ Some true) (sym c.in-Ok.ensures.arms) is) in
+    part_stops g.D.Disk.Tells c.args.cluster.now.settings (tally_of D.files D.fault_count D.fuse_count A.fault_count A.is_sure c.args.cluster.now) (tally_of D.files D.fault_count D.fuse_count A.fault_count A.is_sure c.restart.new.self) (Alone c.args.number (item.Command (asks.Restart c.args.pick)) ∷ [])
     (g.K.Sink.written c.args.sink.now) (g.K.Sink.written c.write_restarted.new.sink) c.write_restarted.result why is c.write_restarted.ensures.stops
     (on_err_weaker c.write_restarted.result (λ wrote.
-    caused_restart WrotePart c.args.cluster.now.settings (all_counts D.fault_count A.fault_count c.args.cluster.now) (all_counts D.fault_count A.fault_count c.restart.new.self) c.args.number c.args.pick c.rows.result c.as_slice.result.now
-    (g.K.Sink.written c.args.sink.now) (g.K.Sink.written c.write_restarted.new.sink) none wrote)
+    caused_restart g.D.Disk.Tells WrotePart c.args.cluster.now.settings (tally_of D.files D.fault_count D.fuse_count A.fault_count A.is_sure c.args.cluster.now) (tally_of D.files D.fault_count D.fuse_count A.fault_count A.is_sure c.restart.new.self) c.args.number c.args.pick c.rows.result c.as_slice.result.now
+    (g.K.Sink.written c.args.sink.now) (g.K.Sink.written c.write_restarted.new.sink) none c.in-Ok.ensures.fuses c.in-Ok.ensures.sound wrote)
     c.write_restarted.ensures.part)
 
 pub returns-in-Err-clause-stop_caused : goal.returns-in-Err-clause-stop_caused
@@ -124,11 +125,12 @@ returns-in-Err-clause-stop_caused g c = λ why is.
     let D = g.D.Disk in
     let A = g.A.Arm in
     let same : c.refuse.result ≡ why = cc in
-    let back : NotReopened (all_counts D.fault_count A.fault_count c.args.cluster.now) (all_counts D.fault_count A.fault_count c.restart.new.self) (Alone c.args.number (item.Command (asks.Restart c.args.pick)) ∷ []) =
-    record { restart = (c.args.number, c.args.pick, refl); disks = c.in-Err.ensures.counts; arms = ap (map A.fault_count) c.in-Err.ensures.arms } in
-    let P : Stop → Type 0 = λ w. StopCaused c.args.cluster.now.settings (all_counts D.fault_count A.fault_count c.args.cluster.now) (all_counts D.fault_count A.fault_count c.restart.new.self) w (Alone c.args.number (item.Command (asks.Restart c.args.pick)) ∷ [])
+    let back : NotReopened (tally_of D.files D.fault_count D.fuse_count A.fault_count A.is_sure c.args.cluster.now) (tally_of D.files D.fault_count D.fuse_count A.fault_count A.is_sure c.restart.new.self) (Alone c.args.number (item.Command (asks.Restart c.args.pick)) ∷ []) =
+    record { restart = (c.args.number, c.args.pick, refl); disks = c.in-Err.ensures.counts; arms = ap (map A.fault_count) c.in-Err.ensures.arms; fuses = c.in-Err.ensures.fuses } in
+    let P : Stop → Type 0 = λ w. StopCaused g.D.Disk.Tells c.args.cluster.now.settings (tally_of D.files D.fault_count D.fuse_count A.fault_count A.is_sure c.args.cluster.now) (tally_of D.files D.fault_count D.fuse_count A.fault_count A.is_sure c.restart.new.self) w (Alone c.args.number (item.Command (asks.Restart c.args.pick)) ∷ [])
     (g.K.Sink.written c.args.sink.now) (g.K.Sink.written c.refuse.new.sink) in
     subst P same
-    (refused_stops c.args.cluster.now.settings (all_counts D.fault_count A.fault_count c.args.cluster.now) (all_counts D.fault_count A.fault_count c.restart.new.self) c.args.number c.args.pick
+    (refused_stops g.D.Disk.Tells c.args.cluster.now.settings (tally_of D.files D.fault_count D.fuse_count A.fault_count A.is_sure c.args.cluster.now) (tally_of D.files D.fault_count D.fuse_count A.fault_count A.is_sure c.restart.new.self) c.args.number c.args.pick
     (g.K.Sink.written c.args.sink.now) (g.K.Sink.written c.refuse.new.sink) c.refuse.result back
-    c.in-Err.fault c.in-Err.ensures.cause c.refuse.ensures.wanting c.refuse.ensures.told c.refuse.ensures.part c.refuse.ensures.stops)
+    c.in-Err.fault c.in-Err.ensures.cause (λ tells slot count e. c.in-Err.ensures.failed_lowest tells slot count (ap (λ f. Err f) e)) (λ tells slot file at e. c.in-Err.ensures.damaged tells slot file at (ap (λ f. Err f) e))
+    c.refuse.ensures.wanting c.refuse.ensures.told c.refuse.ensures.part c.refuse.ensures.stops)

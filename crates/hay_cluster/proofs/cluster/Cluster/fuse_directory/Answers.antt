@@ -3,7 +3,7 @@ use Rattle.std.specs.List.{flat_map}
 use Rattle.hay_legal.specs.Known.{NoneFalls}
 use Rattle.hay_cluster.specs.Store.{Open, disks_of, volume_disks}
 use Rattle.hay_directory.specs.State.{State}
-use Rattle.hay_cluster.proofs.Moves.{directory_fused, none_falls}
+use Rattle.hay_cluster.proofs.Moves.{directory_fused, directory_sets, none_falls}
 use Rattle.hay_cluster.proofs.cluster.Cluster.fuse_directory.Goals as goal
 
 pub returns-clause-fused : goal.returns-clause-fused
@@ -19,3 +19,8 @@ returns-clause-counts g c =
     let later : g.D.Disk.fault_count c.self.inside.directory.disk ≤ g.D.Disk.fault_count c.fuse.new.self.disk = omega (arith, same) in
     subst (λ (st : Open g.row.D.Denot g.row.D-Piece.Denot g.row.A.Denot). NoneFalls (map g.D.Disk.fault_count (disks_of st)) (map g.D.Disk.fault_count (disks_of (let next : Open g.row.D.Denot g.row.D-Piece.Denot g.row.A.Denot = record store { directory = c.fuse.new.self } in next)))) c.self.view_is
     (later, none_falls (map g.D.Disk.fault_count (flat_map volume_disks store.volumes)))
+
+pub returns-clause-fuses : goal.returns-clause-fuses
+returns-clause-fuses g c =
+    let store : Open g.row.D.Denot g.row.D-Piece.Denot g.row.A.Denot = record { settings = c.self.inside.settings; directory = c.self.inside.directory; volumes = c.self.inside.volumes.items; arms = c.self.inside.seats.items } in
+    directory_sets g.D.Disk.fuse_count c.args.self.now store c.fuse.new.self c.self.view_is c.fuse.ensures.fuses

@@ -1,9 +1,9 @@
 use Rattle.std.proofs.Common.{◌≡◌, ℕ, refl}
 use Rattle.std.proofs.lemmas.Result.{IfErr-at_err, IfErr-weaker, IfOk-weaker}
-use Rattle.hay_cluster.specs.declared.fault.ClusterFault.TheVariants.{Damaged}
-use Rattle.hay_cluster.specs.Outside.{IsDamagedDisk}
+use Rattle.hay_cluster.specs.declared.fault.ClusterFault.TheVariants.{Damaged, Failed}
+use Rattle.hay_cluster.specs.Outside.{IsDamagedDisk, IsUndamagedBelow}
 use Rattle.hay_cluster.specs.Store.{contents_in}
-use Rattle.hay_cluster.proofs.OpeningDamage.{restart_damaged}
+use Rattle.hay_cluster.proofs.OpeningDamage.{restart_damaged, restart_failed, restart_sound}
 use Rattle.hay_cluster.proofs.OpeningStore.{MovedParts, StoppedParts, opens_up, restart_cause, restart_fuses, restart_later, restart_left, restart_opened, restart_whole, stops_closed, stops_idle}
 use Rattle.hay_cluster.proofs.cluster.Cluster.restart.Goals as goal
 
@@ -26,6 +26,13 @@ pub returns-clause-up : goal.returns-clause-up
 returns-clause-up g c =
     IfOk-weaker c.open_parts.result _ _
     (λ notes opens. record { directory = opens.directory.up; volumes = opens_up g.D.Disk.Tells g.D.Disk.files g.D.Piece.Piece.Tells g.D.Disk.fault_count g.D.Disk.fuse_count _ _ opens.of_volumes opens.volumes }) c.open_parts.ensures.opened
+
+pub returns-clause-sound : goal.returns-clause-sound
+returns-clause-sound g c = λ tells.
+    let stopped : StoppedParts g.D.Disk.Tells g.D.Disk.files g.D.Piece.Piece.Tells g.D.Disk.fault_count g.D.Disk.fuse_count g.A.Arm.fault_count c.args.self.now c.stop.new.self = record { settings = c.stop.ensures.settings; arms = c.stop.ensures.arms; directory = c.stop.ensures.directory; volumes = c.stop.ensures.volumes } in
+    let moved : MovedParts g.D.Disk.Tells g.D.Disk.files g.D.Piece.Piece.Tells g.D.Disk.fault_count g.D.Disk.fuse_count g.A.Arm.fault_count c.stop.new.self c.open_parts.new.self = record { settings = c.open_parts.ensures.settings; arms = c.open_parts.ensures.arms; directory = c.open_parts.ensures.directory; volumes = c.open_parts.ensures.volumes } in
+    IfOk-weaker c.open_parts.result _ _
+    (λ notes opens. restart_sound g.D.Disk.Tells g.D.Disk.files g.D.Piece.Piece.Tells g.D.Disk.fault_count g.D.Disk.fuse_count g.A.Arm.fault_count tells c.args.self.now c.stop.new.self c.open_parts.new.self notes c.stop.ensures.shape stopped moved opens) c.open_parts.ensures.opened
 
 pub returns-clause-left : goal.returns-clause-left
 returns-clause-left g c = λ tells k stands.
@@ -57,6 +64,15 @@ returns-clause-damaged g c = λ tells slot file at is.
     (IfErr-weaker c.open_parts.result _ _
     (λ fault refused. restart_damaged g.D.Disk.Tells g.D.Disk.files g.D.Piece.Piece.Tells g.D.Disk.fault_count g.D.Disk.fuse_count g.A.Arm.fault_count tells c.args.self.now c.stop.new.self c.open_parts.new.self fault c.stop.ensures.shape stopped moved refused) c.open_parts.ensures.refused)
     slot file at refl
+
+pub returns-clause-failed_lowest : goal.returns-clause-failed_lowest
+returns-clause-failed_lowest g c = λ tells slot faults is.
+    let stopped : StoppedParts g.D.Disk.Tells g.D.Disk.files g.D.Piece.Piece.Tells g.D.Disk.fault_count g.D.Disk.fuse_count g.A.Arm.fault_count c.args.self.now c.stop.new.self = record { settings = c.stop.ensures.settings; arms = c.stop.ensures.arms; directory = c.stop.ensures.directory; volumes = c.stop.ensures.volumes } in
+    let moved : MovedParts g.D.Disk.Tells g.D.Disk.files g.D.Piece.Piece.Tells g.D.Disk.fault_count g.D.Disk.fuse_count g.A.Arm.fault_count c.stop.new.self c.open_parts.new.self = record { settings = c.open_parts.ensures.settings; arms = c.open_parts.ensures.arms; directory = c.open_parts.ensures.directory; volumes = c.open_parts.ensures.volumes } in
+    IfErr-at_err (λ fault. (n f : ℕ) → fault ≡ Failed n f → IsUndamagedBelow (c.args.self.now).settings n (contents_in g.D.Disk.files c.open_parts.new.self)) is
+    (IfErr-weaker c.open_parts.result _ _
+    (λ fault refused. restart_failed g.D.Disk.Tells g.D.Disk.files g.D.Piece.Piece.Tells g.D.Disk.fault_count g.D.Disk.fuse_count g.A.Arm.fault_count tells c.args.self.now c.stop.new.self c.open_parts.new.self fault c.stop.ensures.shape stopped moved refused) c.open_parts.ensures.refused)
+    slot faults refl
 
 pub returns-clause-counts : goal.returns-clause-counts
 returns-clause-counts g c =

@@ -6,7 +6,7 @@ use Rattle.hay_directory.specs.State.{State}
 use Rattle.std.specs.Prelude.{slice_set}
 use Rattle.hay_legal.specs.Plain.{with_drain}
 use Rattle.hay_cluster.specs.Parts.{Comes}
-use Rattle.hay_cluster.proofs.Moves.{in_directory, none_falls}
+use Rattle.hay_cluster.proofs.Moves.{directory_fuses, in_directory, none_falls}
 use Rattle.hay_cluster.proofs.cluster.Cluster.set_drained.Goals as goal
 
 pub returns-then-is_drained-clause-set : goal.returns-then-is_drained-clause-set
@@ -44,3 +44,13 @@ returns-else-is_drained-clause-counts g c =
     let later : g.D.Disk.fault_count c.self.inside.directory.disk ≤ g.D.Disk.fault_count c.undrain.new.self.disk = omega (arith, same) in
     subst (λ (st : Open g.row.D.Denot g.row.D-Piece.Denot g.row.A.Denot). NoneFalls (map g.D.Disk.fault_count (disks_of st)) (map g.D.Disk.fault_count (disks_of (let next : Open g.row.D.Denot g.row.D-Piece.Denot g.row.A.Denot = record store { directory = c.undrain.new.self } in next)))) c.self.view_is
     (later, none_falls (map g.D.Disk.fault_count (flat_map volume_disks store.volumes)))
+
+pub returns-then-is_drained-clause-fuses : goal.returns-then-is_drained-clause-fuses
+returns-then-is_drained-clause-fuses g c =
+    let store : Open g.row.D.Denot g.row.D-Piece.Denot g.row.A.Denot = record { settings = c.self.inside.settings; directory = c.self.inside.directory; volumes = c.self.inside.volumes.items; arms = c.self.inside.seats.items } in
+    directory_fuses g.D.Disk.fuse_count c.args.self.now store c.drain.new.self c.self.view_is (ap (λ (d : State g.row.D.Denot). g.D.Disk.fuse_count d.disk) c.drain.ensures.only)
+
+pub returns-else-is_drained-clause-fuses : goal.returns-else-is_drained-clause-fuses
+returns-else-is_drained-clause-fuses g c =
+    let store : Open g.row.D.Denot g.row.D-Piece.Denot g.row.A.Denot = record { settings = c.self.inside.settings; directory = c.self.inside.directory; volumes = c.self.inside.volumes.items; arms = c.self.inside.seats.items } in
+    directory_fuses g.D.Disk.fuse_count c.args.self.now store c.undrain.new.self c.self.view_is (ap (λ (d : State g.row.D.Denot). g.D.Disk.fuse_count d.disk) c.undrain.ensures.only)

@@ -12,7 +12,7 @@ use Rattle.hay_directory.specs.State.{State, Stands as DirectoryStands, home_of,
 use Rattle.hay_directory.proofs.Standing.{stands_frozen, stands_home}
 use Rattle.hay_cluster.specs.Causes.{RoseIn}
 use Rattle.hay_cluster.specs.State.{Stands}
-use Rattle.hay_cluster.proofs.Moves.{directory_stood, in_directory, none_falls}
+use Rattle.hay_cluster.proofs.Moves.{directory_fuses, directory_stood, in_directory, none_falls}
 use Rattle.hay_cluster.proofs.cluster.Cluster.settle.Goals as goal
 
 pub returns-clause-settled : goal.returns-clause-settled
@@ -73,3 +73,8 @@ returns-clause-causes g c = λ faults is.
     let failed = c.settle.ensures.failed faults is in
     subst (λ (st : Open g.row.D.Denot g.row.D-Piece.Denot g.row.A.Denot). RoseIn 0 (map g.D.Disk.fault_count (disks_of st)) (map g.D.Disk.fault_count (disks_of (let next : Open g.row.D.Denot g.row.D-Piece.Denot g.row.A.Denot = record store { directory = c.settle.new.self } in next))) faults) c.self.view_is
     (failed.1, failed.0)
+
+pub returns-clause-fuses : goal.returns-clause-fuses
+returns-clause-fuses g c =
+    let store : Open g.row.D.Denot g.row.D-Piece.Denot g.row.A.Denot = record { settings = c.self.inside.settings; directory = c.self.inside.directory; volumes = c.self.inside.volumes.items; arms = c.self.inside.seats.items } in
+    directory_fuses g.D.Disk.fuse_count c.args.self.now store c.settle.new.self c.self.view_is c.settle.ensures.fuses

@@ -1,4 +1,4 @@
-use Rattle.std.proofs.Common.{◌≡◌, ℕ, List, map, refl, sym, ap, subst, inl, ◌∙◌, arith}
+use Rattle.std.proofs.Common.{◌≡◌, ℕ, List, length, map, refl, sym, ap, subst, inl, ◌∙◌, arith}
 use Rattle.std.specs.Prelude.{slice_index}
 use Rattle.std.specs.List.{AllByRecursion}
 use Rattle.hay_needle.specs.declared.needle.Outcome.TheVariants as outcome
@@ -9,12 +9,12 @@ use Rattle.hay_reader.specs.Shown.{ReadAnswers, HasCauses, Shows}
 use Rattle.hay_reader.specs.declared.causes.PassedReplica.{PassedReplica}
 use Rattle.hay_reader.specs.declared.seat.ReadReply.{ReadReply}
 use Rattle.hay_reader.specs.declared.seat.ReadReply.TheVariants as read
-use Rattle.hay_cluster.specs.Causes.{CauseCameUp, Counts}
+use Rattle.hay_cluster.specs.Causes.{Counts, PassedOver}
 use Rattle.hay_cluster.specs.Reads.{PassesNoArm, outcomes_of, passed_at}
 use Rattle.hay_cluster.specs.Store.{IsBuilt, Open, disks_of}
 use Rattle.hay_cluster.proofs.Answering.{same_falls, stays}
 use Rattle.hay_cluster.proofs.Moves.{none_falls}
-use Rattle.hay_cluster.proofs.Showing.{causes_told, read_shown, read_unreadable}
+use Rattle.hay_cluster.proofs.Showing.{passed_over, read_shown, read_unreadable}
 use Rattle.hay_cluster.proofs.Sure.{same_sure, unreadable_told}
 use Rattle.hay_cluster.proofs.cluster.Cluster.show.Goals as goal
 
@@ -91,8 +91,8 @@ returns-in-Ok-passed_of-clause-causes g c =
     ∙ ap (λ (s : Settings). map (passed_at s c.args.volume) c.in-Unreadable.causes) same in
     let before : Counts = record { disks = map g.D.Disk.fault_count (disks_of c.args.self.now); arms = map g.A.Arm.fault_count (c.args.self.now).arms } in
     let after : Counts = record { disks = map g.D.Disk.fault_count (disks_of c.fetch-front.new.self); arms = map g.A.Arm.fault_count (c.fetch-front.new.self).arms } in
-    subst (λ (all : List Passed). AllByRecursion (λ (passed : Passed). CauseCameUp (c.args.self.now).settings c.args.tag.lane c.args.volume before after passed.machine passed.cause) all) (sym is)
-    (causes_told (c.args.self.now).settings c.args.tag.lane c.args.volume before after c.in-Unreadable.causes passes.0.each)
+    subst (λ (all : List Passed). PassedOver (c.args.self.now).settings c.args.tag.lane c.args.volume before after all) (sym is)
+    (passed_over (c.args.self.now).settings c.args.tag.lane c.args.volume c.args.start (length causes.0) before after c.in-Unreadable.causes causes.1 passes.0 passes.1)
 
 pub passed_of-requires : goal.passed_of-requires
 passed_of-requires g c = c.self.invariant.built

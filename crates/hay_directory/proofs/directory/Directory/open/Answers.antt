@@ -73,8 +73,8 @@ returns-clause-undamaged_now g c = rw (← c.self.view_is) (λ tells. c.in_ok-lo
 
 pub returns-in_err-loaded-clause-nothing : goal.returns-in_err-loaded-clause-nothing
 unfolding OpensRows
-returns-in_err-loaded-clause-nothing g c = rw (← c.self.view_is) (λ tells void image rows is opens. c.load.ensures.nothing tells void (image 0) rows is opens)
+returns-in_err-loaded-clause-nothing g c = rw (← c.self.view_is) (λ tells void image rows other is opens. c.load.ensures.nothing tells void (image 0) rows other is opens)
 
 pub returns-clause-nothing : goal.returns-clause-nothing
 unfolding OpensRows
-returns-clause-nothing g c = rw (← c.self.view_is) (λ tells void image rows is opens. c.load.ensures.nothing tells void (image 0) rows is opens)
+returns-clause-nothing g c = rw (← c.self.view_is) (λ tells void image rows other is opens. c.load.ensures.nothing tells void (image 0) rows other is opens)

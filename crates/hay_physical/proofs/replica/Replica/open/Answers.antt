@@ -95,13 +95,13 @@ returns-clause-undamaged_now g c = λ tells file at damage.
     c.in_ok-head.ensures.undamaged_now tells file at (subst (λ (x : Copy _). IsOpeningDamage x.sup (λ n. (g.D.Disk.files c.open_replica.new.disk n).now) file at) (sym c.self.view_is) damage)
 
 pub returns-clause-nothing : goal.returns-clause-nothing
-returns-clause-nothing g c = λ tells void image leaves s opens.
+returns-clause-nothing g c = λ tells void image leaves other s opens.
     let files = g.D.Disk.files in
     let here : IsVoid (λ n. (files c.self.inside.disk n).now) = subst (λ (x : Copy _). IsVoid (λ n. (files x.disk n).now)) (sym c.self.view_is) void in
-    c.in_ok-head.ensures.nothing tells here image leaves s (subst (λ (x : Copy _). OpensAs x.sup image s) (sym c.self.view_is) opens)
+    c.in_ok-head.ensures.nothing tells here image leaves other s opens
 
 pub returns-in_err-head-clause-nothing : goal.returns-in_err-head-clause-nothing
-returns-in_err-head-clause-nothing g c = λ tells void image leaves s opens.
+returns-in_err-head-clause-nothing g c = λ tells void image leaves other s opens.
     let files = g.D.Disk.files in
     let here : IsVoid (λ n. (files c.self.inside.disk n).now) = subst (λ (x : Copy _). IsVoid (λ n. (files x.disk n).now)) (sym c.self.view_is) void in
-    c.in_err-head.ensures.nothing tells here image leaves s (subst (λ (x : Copy _). OpensAs x.sup image s) (sym c.self.view_is) opens)
+    c.in_err-head.ensures.nothing tells here image leaves other s opens
