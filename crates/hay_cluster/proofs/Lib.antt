@@ -24,4 +24,5 @@ pub mod Refusals
 pub mod Rooms
 pub mod Showing
 pub mod Standing
+pub mod Suiting
 pub mod Sure

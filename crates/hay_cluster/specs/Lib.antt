@@ -10,3 +10,4 @@ pub mod Puts
 pub mod Reads
 pub mod State
 pub mod Store
+pub mod Suiting

@@ -8,6 +8,7 @@ ghost use Rattle.hay_cluster.specs.Causes.{IsCaused, RefusesDelete, SetsFuse, Se
 ghost use Rattle.hay_cluster.specs.Changes.{IsDeleteReply, IsReadOnly};
 ghost use Rattle.hay_cluster.specs.State.{Answered, Stands};
 ghost use Rattle.hay_cluster.specs.Store.{IsUp, disks_of};
+ghost use Rattle.hay_cluster.specs.Suiting.{Suits};
 
 use crate::closed::replica_on;
 use crate::cluster::Cluster;
@@ -31,6 +32,7 @@ impl<D: Disk, A: Arm<D::Piece>> Cluster<D, A> {
         ensures causes { (lane : ℕ) → IsCaused self.old.settings lane
             (record { disks = map D.fault_count (disks_of self.old); arms = map A.fault_count self.old.arms })
             (record { disks = map D.fault_count (disks_of self.new); arms = map A.fault_count self.new.arms }) result }
+        ensures suits { Suits (asks.Del pair) result }
         ensures counts { NoneFalls (map D.fault_count (disks_of self.old)) (map D.fault_count (disks_of self.new)) }
         ensures fuses { map D.fuse_count (disks_of self.new) ≡ map D.fuse_count (disks_of self.old) }
         ensures arms { self.new.arms ≡ self.old.arms }
@@ -61,6 +63,7 @@ impl<D: Disk, A: Arm<D::Piece>> Cluster<D, A> {
         ensures causes { (lane : ℕ) → IsCaused self.old.settings lane
             (record { disks = map D.fault_count (disks_of self.old); arms = map A.fault_count self.old.arms })
             (record { disks = map D.fault_count (disks_of self.new); arms = map A.fault_count self.new.arms }) result }
+        ensures suits { Suits (asks.Url pair) result }
         ensures counts { NoneFalls (map D.fault_count (disks_of self.old)) (map D.fault_count (disks_of self.new)) }
         ensures fuses { map D.fuse_count (disks_of self.new) ≡ map D.fuse_count (disks_of self.old) }
         ensures arms { self.new.arms ≡ self.old.arms }
@@ -91,6 +94,7 @@ impl<D: Disk, A: Arm<D::Piece>> Cluster<D, A> {
         ensures causes { (lane : ℕ) → IsCaused self.old.settings lane
             (record { disks = map D.fault_count (disks_of self.old); arms = map A.fault_count self.old.arms })
             (record { disks = map D.fault_count (disks_of self.new); arms = map A.fault_count self.new.arms }) result }
+        ensures suits { Suits (asks.Drain machine) result }
         ensures counts { NoneFalls (map D.fault_count (disks_of self.old)) (map D.fault_count (disks_of self.new)) }
         ensures fuses { map D.fuse_count (disks_of self.new) ≡ map D.fuse_count (disks_of self.old) }
         ensures arms { self.new.arms ≡ self.old.arms }
@@ -112,6 +116,7 @@ impl<D: Disk, A: Arm<D::Piece>> Cluster<D, A> {
         ensures causes { (lane : ℕ) → IsCaused self.old.settings lane
             (record { disks = map D.fault_count (disks_of self.old); arms = map A.fault_count self.old.arms })
             (record { disks = map D.fault_count (disks_of self.new); arms = map A.fault_count self.new.arms }) result }
+        ensures suits { Suits (asks.Undrain machine) result }
         ensures counts { NoneFalls (map D.fault_count (disks_of self.old)) (map D.fault_count (disks_of self.new)) }
         ensures fuses { map D.fuse_count (disks_of self.new) ≡ map D.fuse_count (disks_of self.old) }
         ensures arms { self.new.arms ≡ self.old.arms }
@@ -133,6 +138,7 @@ impl<D: Disk, A: Arm<D::Piece>> Cluster<D, A> {
         ensures causes { (lane : ℕ) → IsCaused self.old.settings lane
             (record { disks = map D.fault_count (disks_of self.old); arms = map A.fault_count self.old.arms })
             (record { disks = map D.fault_count (disks_of self.new); arms = map A.fault_count self.new.arms }) result }
+        ensures suits { Suits (asks.Fuse volume machine calls) result }
         ensures counts { NoneFalls (map D.fault_count (disks_of self.old)) (map D.fault_count (disks_of self.new)) }
         ensures fuses { SetsFuseOn self.old.settings volume machine (map D.fuse_count (disks_of self.old)) (map D.fuse_count (disks_of self.new)) }
         ensures arms { self.new.arms ≡ self.old.arms }
@@ -158,6 +164,7 @@ impl<D: Disk, A: Arm<D::Piece>> Cluster<D, A> {
         ensures causes { (lane : ℕ) → IsCaused self.old.settings lane
             (record { disks = map D.fault_count (disks_of self.old); arms = map A.fault_count self.old.arms })
             (record { disks = map D.fault_count (disks_of self.new); arms = map A.fault_count self.new.arms }) result }
+        ensures suits { Suits (asks.FuseDir calls) result }
         ensures counts { NoneFalls (map D.fault_count (disks_of self.old)) (map D.fault_count (disks_of self.new)) }
         ensures fuses { SetsFuse 0 (map D.fuse_count (disks_of self.old)) (map D.fuse_count (disks_of self.new)) }
         ensures arms { self.new.arms ≡ self.old.arms }

@@ -10,6 +10,7 @@ ghost use Rattle.hay_cluster.specs.Causes.{IsCaused, RefusesWork};
 ghost use Rattle.hay_cluster.specs.Maintenance.{IsDone, IsRefused, IsRefusedAs, IsReplicaFault, command_of, done_as};
 ghost use Rattle.hay_cluster.specs.State.{Answered, Stands};
 ghost use Rattle.hay_cluster.specs.Store.{IsUp, disks_of};
+ghost use Rattle.hay_cluster.specs.Suiting.{Suits};
 
 use crate::changes::read_only;
 use crate::closed::replica_on;
@@ -50,6 +51,7 @@ impl<D: Disk, A: Arm<D::Piece>> Cluster<D, A> {
         ensures causes { (lane : ℕ) → IsCaused self.old.settings lane
             (record { disks = map D.fault_count (disks_of self.old); arms = map A.fault_count self.old.arms })
             (record { disks = map D.fault_count (disks_of self.new); arms = map A.fault_count self.new.arms }) result }
+        ensures suits { Suits (command_of work volume machine) result }
         ensures counts { NoneFalls (map D.fault_count (disks_of self.old)) (map D.fault_count (disks_of self.new)) }
         ensures fuses { map D.fuse_count (disks_of self.new) ≡ map D.fuse_count (disks_of self.old) }
         ensures arms { self.new.arms ≡ self.old.arms }

@@ -12,6 +12,7 @@ ghost use Rattle.hay_cluster.specs.Reads.{PassesNoArm, ShownAs, ShowsIn, outcome
 ghost use Rattle.hay_cluster.specs.Parts.{Comes};
 ghost use Rattle.hay_cluster.specs.State.{Answered, Stands};
 ghost use Rattle.hay_cluster.specs.Store.{IsBuilt, IsUp, disks_of};
+ghost use Rattle.hay_cluster.specs.Suiting.{Suits};
 
 use crate::closed::replica_on;
 use crate::cluster::Cluster;
@@ -45,6 +46,7 @@ impl<D: Disk, A: Arm<D::Piece>> Cluster<D, A> {
         ensures causes { IsCaused self.old.settings tag.lane
             (record { disks = map D.fault_count (disks_of self.old); arms = map A.fault_count self.old.arms })
             (record { disks = map D.fault_count (disks_of self.new); arms = map A.fault_count self.new.arms }) result }
+        ensures suits { Suits (asks.Read pair cookie) result }
         ensures sure { (arm : A) → slice_get self.old.arms tag.lane ≡ Some arm → A.is_sure arm ≡ true → BlamesNoArm result }
         ensures sure_arms { StaySure A.is_sure A.fault_count self.old.arms self.new.arms }
         ensures counts { NoneFalls (map D.fault_count (disks_of self.old)) (map D.fault_count (disks_of self.new)) }
@@ -69,6 +71,7 @@ impl<D: Disk, A: Arm<D::Piece>> Cluster<D, A> {
         ensures causes { IsCaused self.old.settings tag.lane
             (record { disks = map D.fault_count (disks_of self.old); arms = map A.fault_count self.old.arms })
             (record { disks = map D.fault_count (disks_of self.new); arms = map A.fault_count self.new.arms }) result }
+        ensures suits { Suits (asks.Get url.now) result }
         ensures sure { (arm : A) → slice_get self.old.arms tag.lane ≡ Some arm → A.is_sure arm ≡ true → BlamesNoArm result }
         ensures sure_arms { StaySure A.is_sure A.fault_count self.old.arms self.new.arms }
         ensures counts { NoneFalls (map D.fault_count (disks_of self.old)) (map D.fault_count (disks_of self.new)) }

@@ -21,6 +21,7 @@ use Rattle.hay_legal.specs.Statuses.Ending.{ReadAll, OutputFault, InputFault, No
 use Rattle.hay_cluster.specs.Causes.{BlamesNoArm, Counts, IsCaused, LeavesFuses, RoseIn}
 use Rattle.hay_cluster.specs.Outside.{IsDamagedDisk, IsKept, IsUndamaged, IsUndamagedBelow}
 use Rattle.hay_cluster.specs.Store.{Open, contents_in, disks_of}
+use Rattle.hay_cluster.specs.Suiting.{Suits}
 use Rattle.hay_run.specs.declared.stops.Stop.{Stop}
 use Rattle.hay_run.specs.declared.stops.Stop.TheVariants as stop
 use Rattle.hay_run.specs.Items.{TookItems, TookOpen, AsksAll}
@@ -64,12 +65,12 @@ IsRestartText Tells settings after command number text =
     (pick : ℕ) × (rows : ℕ) × (notes : List Note) × (command ≡ asks.Restart pick) × (text ≡ numbered_line number (Restarted rows) ++ flat_map note_line notes)
     × (Tells → IsUndamaged settings after.contents)
 
--- the text of another command: a reply that tells of a failure only where the count that it prints rose, and never of an arm that
--- is sure
+-- the text of another command: a reply of a kind that the command may be given, which tells of a failure only where the count that
+-- it prints rose, and never of an arm that is sure
 abbrev pub IsReplyText : Settings → Tally → Tally → Command → ℕ → List ℕ → Type 0
 IsReplyText settings before after command number text =
     ((pick : ℕ) → command ≢ asks.Restart pick)
-    × ((reply : Reply) × IsCaused settings 0 before.counts after.counts reply × (HasSureArm before 0 → BlamesNoArm reply) × (text ≡ numbered_line number reply))
+    × ((reply : Reply) × Suits command reply × IsCaused settings 0 before.counts after.counts reply × (HasSureArm before 0 → BlamesNoArm reply) × (text ≡ numbered_line number reply))
 
 -- The text answers the item, while the counts went from these to those. A fuse is set by its command alone.
 abbrev pub IsTextOf : Type 0 → Settings → Tally → Tally → Asked → List ℕ → Type 0
