@@ -1,0 +1,9 @@
+pub mod Locks
+pub mod Acts
+pub mod Sights
+pub mod Facts
+pub mod Replies
+pub mod Chains
+pub mod Law
+pub mod Rounds
+pub mod Runs
