@@ -165,9 +165,12 @@ pub front_held : {settings : Settings} {start : Start} {drained : List Bool} {a 
     → Follows settings v (start.volumes v) (replayed volume_lock (start.volumes v) held) → Held volume_lock (a.volumes v) (b.volumes v) held
     → p ≡ length (volume_stood start v held).log → (saw : SawFront settings start drained a b v p)
     × ((j : ℕ) → table_shown start v j (saw.sight).shown ≡ now (volume_stood start v held) (replica_at (volume_stood start v held) j))
-front_held {settings} {start} {drained} {a} {b} {v} held follows x front = (record {
-  sight = record { seen = held; own = []; shown = entries volume_lock held };
-  from = record { seen = x.from; shown = x.shown_from };
-  to = record { seen = x.to; shown = x.shown_to };
-  front = front ∙ front_behind settings v (start.volumes v) held follows;
-}, (λ j. sym (table_behind settings v (start.volumes v) held j follows)))
+front_held {settings} {start} {drained} {a} {b} {v} held follows x front = (
+  record {
+    sight = record { seen = held; own = []; shown = entries volume_lock held };
+    from = record { seen = x.from; shown = x.shown_from };
+    to = record { seen = x.to; shown = x.shown_to };
+    front = front ∙ front_behind settings v (start.volumes v) held follows;
+  },
+  (λ j. sym (table_behind settings v (start.volumes v) held j follows)),
+)
