@@ -1,6 +1,7 @@
 -- Cells that stand, and their records.
 use Rattle.std.proofs.Common.{◌≡◌, ℕ, zero, suc, ◌+◌, ◌≤◌, List, [], ◌∷◌, ◌++◌, length, map, take, drop, Some, refl, sym, ap, subst, ◌∙◌, arith, length-append, length-drop, length-take}
-use Rattle.std.specs.List.{slice_get}
+use Rattle.std.specs.List.{slice_get, sum_by}
+use Rattle.std.proofs.lemmas.List.Sums.{sum_by-cons}
 use Rattle.hay_needle.specs.declared.needle.Cell.{Cell}
 use Rattle.hay_needle.specs.declared.needle.CellHead.{CellHead}
 use Rattle.hay_needle.specs.declared.needle.Needle.{Needle}
@@ -29,6 +30,11 @@ behind_join at (r ∷ rows) more = behind_join (at + needle_total r.size) rows m
 pub behind_far : (at : ℕ) (rows : List Record) → at ≤ place_behind at rows
 behind_far at [] = omega arith
 behind_far at (r ∷ rows) = omega (arith, behind_far (at + needle_total r.size) rows)
+
+-- the end of records lies behind their start by the bytes of their needles
+pub behind_sum : (at : ℕ) (rows : List Record) → place_behind at rows ≡ at + sum_by (λ r. needle_total r.size) rows
+behind_sum at [] = omega arith
+behind_sum at (r ∷ rows) = omega (arith, behind_sum (at + needle_total r.size) rows, sum_by-cons (λ (x : Record). needle_total x.size) r rows)
 
 -- the record of this number lies between the first place and the end
 pub row_within : (at k : ℕ) (rows : List Record) (r : Record) → AreInRow at rows → slice_get rows k ≡ Some r → (at ≤ r.at) × (r.at + needle_total r.size ≤ place_behind at rows)
@@ -108,6 +114,11 @@ pub map_drop : (k : ℕ) (cells : List Cell) → drop k (map cell_record cells) 
 map_drop zero cells = refl
 map_drop (suc k) [] = refl
 map_drop (suc k) (cell ∷ cells) = map_drop k cells
+
+pub map_take : (k : ℕ) (cells : List Cell) → take k (map cell_record cells) ≡ map cell_record (take k cells)
+map_take zero cells = refl
+map_take (suc k) [] = refl
+map_take (suc k) (cell ∷ cells) = ap (λ (l : List Record). cell_record cell ∷ l) (map_take k cells)
 
 pub map_length : (cells : List Cell) → length (map cell_record cells) ≡ length cells
 map_length [] = refl

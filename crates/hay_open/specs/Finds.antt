@@ -1,5 +1,5 @@
 -- What an opening answers.
-use Rattle.std.specs.Prelude.{◌≡◌, ◌≤◌, ◌+◌, ◌++◌, ◌∷◌, [], ℕ, false, List, length, map, Some}
+use Rattle.std.specs.Prelude.{◌≡◌, ◌≤◌, ◌+◌, ◌++◌, ◌∷◌, [], ℕ, false, List, length, map, sum_by, Some}
 use Rattle.std.specs.List.{AllByRecursion, slice_get}
 use Rattle.hay_needle.specs.declared.needle.Cell.{Cell}
 use Rattle.hay_needle.specs.declared.settings.Super.{Super}
@@ -14,7 +14,7 @@ use Rattle.hay_map.specs.declared.place.Place.{Place}
 use Rattle.hay_map.specs.declared.place.Place.TheVariants as place
 use Rattle.hay_map.specs.declared.view.OpenCell.{OpenCell}
 use Rattle.hay_open.specs.declared.opened.Opened.{Opened}
-use Rattle.hay_open.specs.Damage.{FitsLasts, HasOrphans, IsRecorded}
+use Rattle.hay_open.specs.Damage.{HasOrphans, IsRecorded}
 use Rattle.hay_open.specs.Stored.{Stored, HeadRests, VolumeRests, IndexRests, cell_record, index_file, unrecorded, volume_file}
 
 -- The replica was opened as what its disk has, and changes can be made to each of its files.
@@ -36,7 +36,6 @@ pub record ReadsWhole {P : Type 0} (sup : Super) (contents : ℕ → List ℕ) (
   pub orphans : List Cell
   pub recorded : IsRecorded sup contents opened.head.generation records opened.index.end
   pub behind : HasOrphans (contents (volume_file opened.head.generation)) records orphans opened.volume.end
-  pub last : FitsLasts records orphans (contents (volume_file opened.head.generation))
   pub capacity : opened.volume.capacity ≡ sup.settings.capacity
   pub noted : opened.index.pending ≡ map cell_record orphans
   pub record_count : opened.records ≡ length records
@@ -49,6 +48,11 @@ pub record IsReady {P : Type 0} (files : Files) (opened : Opened P) : Type 0 whe
   pub head : IsGate head_magic (row_place (opened.head.generation + 1)) (files 0)
   pub volume : IsGate needle_magic opened.volume.end (files opened.volume.file)
   pub index : IsGate index_magic opened.index.end (files opened.index.file)
+
+-- how many bytes an opening reads of the volume file at most: its superblock, the head of a needle, the needles of these
+-- records, which are those that the index lacks, and a magic
+abbrev pub drawn_most : List Record → ℕ
+drawn_most noted = 64 + 36 + sum_by (λ r. needle_total r.size) noted + 8
 
 -- WHERE THE NEEDLES OF PLACES STAND
 

@@ -4,7 +4,7 @@ use Rattle.hay_needle.specs.declared.needle.Version.TheVariants.{One}
 use Rattle.hay_volume.specs.Cells.{StandsCell}
 use Rattle.hay_index.specs.Records.{place_behind}
 use Rattle.hay_open.specs.Listing.{ArePlaced, head_record}
-use Rattle.hay_open.proofs.CellRows.{heads_length, map_length}
+use Rattle.hay_open.proofs.CellRows.{heads_length}
 use Rattle.hay_open.proofs.Flagging.{rows_more}
 use Rattle.hay_open.proofs.Listings.{orphan_there, orphan_whole}
 use Rattle.hay_open.proofs.PieceLaws.{gives_none, gives_one, gives_more}
@@ -21,6 +21,7 @@ loop-head-init g c =
       pieces = λ tells. gives_none c.args.listing.now.volume (place_behind 64 c.args.listing.now.rows.items) c.args.listing.now.rows.items (g.D.Disk.files c.args.disk.now);
       placed = λ tells whole lists before. subst (λ n. ArePlaced g.D.Piece.Piece.Tells whole n c.args.cells.now.items) end before;
       of = λ tells before. before;
+      drawn = λ tells n. refl;
       faults = omega arith;
       fuses = refl;
     }
@@ -80,6 +81,7 @@ loop-head-preserved g c = record {
       let head = get_or c.as_slice-head-items.result.now c.loop-head.head-index none in
       let one = orphan_there given.0 (place_behind 64 listing.rows.items) listing.recorded c.loop-head.head-index file given.1 listing.rows.items c.as_slice-head-items.result.now listing.orphans.items none given.2 given.3 given.4 c.as_slice-head-items.ensures.value c.loop-head-test.true in
       rows_more listing.rows.items (listing.recorded + c.loop-head.head-index) (head_record head) c.loop-head.cells.items c.open_orphan.new.cells.items one.row (c.loop-head.invariant.of tells before) c.in_ok-open_orphan.ensures.at;
+  drawn = λ tells n. c.open_orphan.ensures.drawn tells n ∙ c.loop-head.invariant.drawn tells n;
   faults = omega (arith, c.open_orphan.ensures.counted.later, c.loop-head.invariant.faults);
   fuses = c.open_orphan.ensures.fuses ∙ c.loop-head.invariant.fuses;
 }
@@ -89,4 +91,4 @@ returns-clause-places g c = λ tells whole lists before.
     let listing = c.args.listing.now in
     let many : length whole ≤ listing.recorded + c.loop-head.head-index =
     omega (arith, c.loop-head-test.false, ap (λ (l : List CellHead). length l) (c.as_slice-head-items.ensures.value ∙ lists.heads), heads_length (drop listing.recorded whole), length-drop listing.recorded whole) in
-    all_placed g.D.Piece.Piece.Tells whole (listing.recorded + c.loop-head.head-index) c.loop-head.cells.items (omega (arith, map_length whole)) many (c.loop-head.invariant.placed tells whole lists before)
+    all_placed g.D.Piece.Piece.Tells whole (listing.recorded + c.loop-head.head-index) c.loop-head.cells.items many (c.loop-head.invariant.placed tells whole lists before)

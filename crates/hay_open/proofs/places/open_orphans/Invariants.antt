@@ -1,4 +1,4 @@
-use Rattle.std.proofs.Common.{◌≡◌, ◌+◌, ◌≤◌, List}
+use Rattle.std.proofs.Common.{◌≡◌, ℕ, ◌+◌, ◌≤◌, List}
 use Rattle.hay_needle.specs.declared.needle.Cell.{Cell}
 use Rattle.hay_index.specs.Records.{place_behind}
 use Rattle.hay_open.specs.Finds.{AreOfRows}
@@ -11,6 +11,7 @@ invariant-loop-head g l = record {
   placed : g.D.Disk.Tells → (whole : List Cell) → ListsCells (g.D.Disk.files l.fn.disk l.listing.volume).now l.listing whole → ArePlaced g.D.Piece.Piece.Tells whole l.listing.recorded l.fn.cells.items
       → ArePlaced g.D.Piece.Piece.Tells whole (l.listing.recorded + l.head-index) l.cells.items;
   of : g.D.Disk.Tells → AreOfRows l.listing.rows.items l.fn.cells.items → AreOfRows l.listing.rows.items l.cells.items;
+  drawn : g.D.Disk.Tells → (n : ℕ) → g.D.Disk.drawn l.disk n ≡ g.D.Disk.drawn l.fn.disk n;
   faults : g.D.Disk.fault_count l.fn.disk ≤ g.D.Disk.fault_count l.disk;
   fuses : g.D.Disk.fuse_count l.disk ≡ g.D.Disk.fuse_count l.fn.disk;
 }
