@@ -7,8 +7,8 @@ use Rattle.hay_index.specs.Records.{AreInRow, place_behind}
 use Rattle.hay_map.specs.declared.place.Place.{Place}
 use Rattle.hay_map.specs.declared.place.Place.TheVariants as place
 use Rattle.hay_map.specs.declared.view.OpenCell.{OpenCell}
-use Rattle.hay_open.specs.Finds.{AddsAt, AreOfRows, IsOfRow, MayFlagPlace, StandsAt}
-use Rattle.hay_open.specs.Listing.{RowFlagsFree, unseen_cell}
+use Rattle.hay_open.specs.Finds.{AddsAt, AreOfRows, IsOfRow, MayFlagPlace, StandsAt, unseen_cell}
+use Rattle.hay_open.specs.Listing.{RowFlagsFree}
 use Rattle.hay_open.proofs.CellRows.{row_within}
 
 flag_free : (rows : List Record) (i : ℕ) (r : Record) (file : FileState) → RowFlagsFree file rows → slice_get rows i ≡ Some r → file.sealed (r.at + 28) ≡ false

@@ -1,8 +1,8 @@
 -- The places of the last cells of pairs, one cell after another.
-use Rattle.std.proofs.Common.{◌≡◌, ℕ, ◌+◌, ◌≤◌, Bool, true, false, cond, List, [], ◌∷◌, ◌++◌, length, map, take, drop, Option, Some, None, refl, sym, ap, subst, ◌∙◌}
+use Rattle.std.proofs.Common.{◌≡◌, ℕ, ◌+◌, ◌≤◌, Bool, true, false, cond, List, [], ◌∷◌, ◌++◌, length, map, take, drop, Option, Some, None, refl, sym, ap, subst, ◌∙◌, append_assoc}
 use Rattle.std.specs.Option.{option_or}
-use Rattle.std.specs.List.{slice_get}
-use Rattle.std.proofs.lemmas.List.{take_all}
+use Rattle.std.specs.List.{AllZip, slice_get}
+use Rattle.std.proofs.lemmas.List.{append-nil, take_all}
 use Rattle.hay_needle.specs.declared.needle.Cell.{Cell}
 use Rattle.hay_needle.specs.declared.needle.CellHead.{CellHead}
 use Rattle.hay_needle.specs.declared.needle.Pair.{Pair}
@@ -17,8 +17,9 @@ use Rattle.hay_map.specs.declared.place.Place.TheVariants as place
 use Rattle.hay_map.specs.declared.view.OpenCell.{OpenCell}
 use Rattle.hay_map.specs.Rows.{last_place}
 use Rattle.hay_map.specs.Sealed.{SealedNeedle}
-use Rattle.hay_open.specs.Listing.{ArePlaced, unseen_cell}
-use Rattle.hay_open.specs.Stored.{IsSealedCell, PlaceOf, cell_record, last_cell}
+use Rattle.hay_open.specs.Listing.{ArePlaced}
+use Rattle.hay_open.specs.Finds.{IsOrphanOf, unseen_cell}
+use Rattle.hay_open.specs.Stored.{IsSealedCell, IsSeen, PlaceOf, cell_record, last_cell}
 use Rattle.hay_open.proofs.CellRows.{map_take, take_here}
 
 -- THE PIECE OF A CELL
@@ -104,6 +105,38 @@ recorded_placed {P} Tells whole k rows done of is pair =
     let same : done ≡ map unseen_cell (map cell_record first) = is ∙ ap (λ (l : List Record). map unseen_cell (take k l)) of ∙ ap (λ (l : List Record). map unseen_cell l) (map_take k whole) in
     subst (λ (l : List (OpenCell P)). PlaceOf {P = P} Tells (last_cell first pair) (last_place l pair place.None)) (sym same)
     (subst (λ (o : Option Cell). PlaceOf {P = P} Tells o (last_place (map unseen_cell (map cell_record first)) pair place.None)) (or_none (last_cell first pair)) (unseen_more {P = P} Tells first pair None place.None tt))
+
+-- CELLS THAT HAVE NO RECORD
+
+zip_push : {A B : Type 0} (R : A → B → Type 0) (xs : List A) (ys : List B) (x : A) (y : B) → AllZip R xs ys → R x y → AllZip R (xs ++ x ∷ []) (ys ++ y ∷ [])
+zip_push R [] [] x y all one = (one, tt)
+zip_push R [] (b ∷ ys) x y all one = absurd all
+zip_push R (a ∷ xs) [] x y all one = absurd all
+zip_push R (a ∷ xs) (b ∷ ys) x y all one = (all.0, zip_push R xs ys x y all.1 one)
+
+-- the places of the first k of them were added
+pub AddsOrphans : {P : Type 0} → Type 0 → List Cell → ℕ → List (OpenCell P) → List (OpenCell P) → Type 0
+AddsOrphans {P} Tells orphans k old new = (seen : List (OpenCell P)) × (new ≡ old ++ seen) × AllZip (IsOrphanOf Tells) (take k orphans) seen
+
+pub orphans_none : {P : Type 0} (Tells : Type 0) (orphans : List Cell) (cells : List (OpenCell P)) → AddsOrphans Tells orphans 0 cells cells
+unfolding AddsOrphans
+orphans_none Tells orphans cells = ([], sym (append-nil cells), tt)
+
+pub orphans_more : {P : Type 0} (Tells : Type 0) (orphans : List Cell) (k : ℕ) (cell : Cell) (own : Pair) (at : Place P) (old mid new : List (OpenCell P)) → slice_get orphans k ≡ Some cell → own ≡ cell.pair → IsSeen at → PlaceOf Tells (Some cell) at
+    → AddsOrphans Tells orphans k old mid → new ≡ mid ++ record { pair = own; place = at } ∷ [] → AddsOrphans Tells orphans (k + 1) old new
+unfolding AddsOrphans
+orphans_more {P} Tells orphans k cell own at old mid new there pair_is looked of (seen, is, all) grown =
+    let one : OpenCell P = record { pair = own; place = at } in (
+      seen ++ one ∷ [],
+      grown ∙ ap (λ (l : List (OpenCell P)). l ++ one ∷ []) is ∙ append_assoc old seen (one ∷ []),
+      subst (λ (l : List Cell). AllZip (IsOrphanOf Tells) l (seen ++ one ∷ [])) (sym (take_here k orphans cell there))
+          (zip_push (IsOrphanOf Tells) (take k orphans) seen cell one all (record { pair = pair_is; place = of; seen = looked })),
+    )
+
+pub orphans_all : {P : Type 0} (Tells : Type 0) (orphans : List Cell) (k : ℕ) (old new : List (OpenCell P)) → length orphans ≤ k → AddsOrphans Tells orphans k old new
+    → (seen : List (OpenCell P)) × (new ≡ old ++ seen) × AllZip (IsOrphanOf Tells) orphans seen
+unfolding AddsOrphans
+orphans_all Tells orphans k old new many (seen, is, all) = (seen, is, subst (λ (l : List Cell). AllZip (IsOrphanOf Tells) l seen) (take_all k orphans many) all)
 
 -- a disk without cells has no places
 pub void_places : {P : Type 0} (Tells : Type 0) (cells : List Cell) (done : List (OpenCell P)) → cells ≡ [] → done ≡ [] → (pair : Pair) → PlaceOf Tells (last_cell cells pair) (last_place done pair place.None)

@@ -36,9 +36,9 @@ rest_whole sup contents generation end file at records orphans short behind (inr
 
 -- ALL THAT IS READ
 
-pub reads_undamaged : {P : Type 0} (sup : Super) (contents : ℕ → List ℕ) (opened : Opened P) (file at : ℕ) → ((n : ℕ) → length (contents n) < 2 ^ 64) → ReadsWhole sup contents opened → (IsDamagedFront sup contents file at → ⊥) → IsReadingDamage sup contents file at → ⊥
-reads_undamaged sup contents opened file at short is no_front (inl front) = no_front front
-reads_undamaged sup contents opened file at short is no_front (inr (other, records, end, recorded, damage)) =
+pub reads_undamaged : {P : Type 0} (Tells : Type 0) (sup : Super) (contents : ℕ → List ℕ) (opened : Opened P) (file at : ℕ) → ((n : ℕ) → length (contents n) < 2 ^ 64) → ReadsWhole Tells sup contents opened → (IsDamagedFront sup contents file at → ⊥) → IsReadingDamage sup contents file at → ⊥
+reads_undamaged Tells sup contents opened file at short is no_front (inl front) = no_front front
+reads_undamaged Tells sup contents opened file at short is no_front (inr (other, records, end, recorded, damage)) =
     let g = opened.head.generation in
     let same : other ≡ g = one_generation (super_bytes (head_super sup)) (contents 0) other g recorded.head is.recorded.head in
     let index : IsIndex (super_bytes (index_super sup g)) (contents (index_file g)) records end = subst (λ n. IsIndex (super_bytes (index_super sup n)) (contents (index_file n)) records end) same recorded.index in
@@ -96,8 +96,8 @@ fresh_front sup contents end file at short fits head begins index (inr (other, a
     index_whole (index_super sup 0) (contents 2) [] end at (of_index sup fits) (short 2) index (subst (λ n. IsDamagedIndex (index_super sup n) (contents (index_file n)) at) one damage.2)
 
 -- nothing of it is damaged
-fresh_whole : {P : Type 0} (sup : Super) (files : Files) (opened : Opened P) → OpenedAs sup files opened fresh_stored → ReadsWhole sup (λ n. (files n).now) opened
-fresh_whole sup files opened o = record {
+fresh_whole : {P : Type 0} (Tells : Type 0) (sup : Super) (files : Files) (opened : Opened P) → OpenedAs sup files opened fresh_stored → opened.cells.items ≡ [] → ReadsWhole Tells sup (λ n. (files n).now) opened
+fresh_whole Tells sup files opened o none = record {
   records = [];
   orphans = [];
   recorded = record {
@@ -111,10 +111,11 @@ fresh_whole sup files opened o = record {
   noted = o.noted;
   record_count = o.records;
   orphan_count = omega (arith, o.orphans);
+  cells = ([], none, tt);
 }
 
-pub fresh_undamaged : {P : Type 0} (sup : Super) (files : Files) (opened : Opened P) (file at : ℕ) → ((n : ℕ) → length (files n).now < 2 ^ 64) → SuperFits (volume_super sup 0) → OpenedAs sup files opened fresh_stored
+pub fresh_undamaged : {P : Type 0} (Tells : Type 0) (sup : Super) (files : Files) (opened : Opened P) (file at : ℕ) → ((n : ℕ) → length (files n).now < 2 ^ 64) → SuperFits (volume_super sup 0) → OpenedAs sup files opened fresh_stored → opened.cells.items ≡ []
     → IsReadingDamage sup (λ n. (files n).now) file at → ⊥
-fresh_undamaged sup files opened file at short fits o damage =
-    reads_undamaged sup (λ n. (files n).now) opened file at short (fresh_whole sup files opened o)
+fresh_undamaged Tells sup files opened file at short fits o none damage =
+    reads_undamaged Tells sup (λ n. (files n).now) opened file at short (fresh_whole Tells sup files opened o none)
     (fresh_front sup (λ n. (files n).now) opened.index.end file at short fits o.head.is o.cells.is.begins o.index.is) damage

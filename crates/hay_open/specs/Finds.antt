@@ -1,6 +1,6 @@
 -- What an opening answers.
 use Rattle.std.specs.Prelude.{◌≡◌, ◌≤◌, ◌+◌, ◌++◌, ◌∷◌, [], ℕ, false, List, length, map, sum_by, Some}
-use Rattle.std.specs.List.{AllByRecursion, slice_get}
+use Rattle.std.specs.List.{AllByRecursion, AllZip, slice_get}
 use Rattle.hay_needle.specs.declared.needle.Cell.{Cell}
 use Rattle.hay_needle.specs.declared.settings.Super.{Super}
 use Rattle.hay_needle.specs.Needle.{needle_magic}
@@ -15,7 +15,7 @@ use Rattle.hay_map.specs.declared.place.Place.TheVariants as place
 use Rattle.hay_map.specs.declared.view.OpenCell.{OpenCell}
 use Rattle.hay_open.specs.declared.opened.Opened.{Opened}
 use Rattle.hay_open.specs.Damage.{HasOrphans, IsRecorded}
-use Rattle.hay_open.specs.Stored.{Stored, HeadRests, VolumeRests, IndexRests, cell_record, index_file, unrecorded, volume_file}
+use Rattle.hay_open.specs.Stored.{Stored, HeadRests, VolumeRests, IndexRests, IsSeen, PlaceOf, cell_record, index_file, unrecorded, volume_file}
 
 -- The replica was opened as what its disk has, and changes can be made to each of its files.
 pub record OpenedAs {P : Type 0} (sup : Super) (files : Files) (opened : Opened P) (s : Stored) : Type 0 where
@@ -30,8 +30,23 @@ pub record OpenedAs {P : Type 0} (sup : Super) (files : Files) (opened : Opened 
   pub records : opened.records ≡ s.records
   pub orphans : opened.orphans + s.records ≡ length s.cells
 
+-- the place of a recorded cell, which is not looked at
+abbrev pub unseen_cell : {P : Type 0} → Record → OpenCell P
+unseen_cell r = record { pair = r.pair; place = place.Unseen r.at r.size }
+
+-- The place of a cell that has no record, which was looked at.
+pub record IsOrphanOf {P : Type 0} (Tells : Type 0) (cell : Cell) (one : OpenCell P) : Type 0 where
+  pub pair : one.pair ≡ cell.pair
+  pub place : PlaceOf Tells (Some cell) one.place
+  pub seen : IsSeen one.place
+
+-- the places of recorded cells, in order, none of which was looked at, and behind them those of cells that have no record
+abbrev pub AreCellsOf : {P : Type 0} → Type 0 → List Record → List Cell → List (OpenCell P) → Type 0
+AreCellsOf {P} Tells records orphans cells =
+    (seen : List (OpenCell P)) × (cells ≡ map unseen_cell records ++ seen) × AllZip (IsOrphanOf Tells) orphans seen
+
 -- The replica was opened as what its disk has, and all that the opening reads is of the format.
-pub record ReadsWhole {P : Type 0} (sup : Super) (contents : ℕ → List ℕ) (opened : Opened P) : Type 0 where
+pub record ReadsWhole {P : Type 0} (Tells : Type 0) (sup : Super) (contents : ℕ → List ℕ) (opened : Opened P) : Type 0 where
   pub records : List Record
   pub orphans : List Cell
   pub recorded : IsRecorded sup contents opened.head.generation records opened.index.end
@@ -40,6 +55,7 @@ pub record ReadsWhole {P : Type 0} (sup : Super) (contents : ℕ → List ℕ) (
   pub noted : opened.index.pending ≡ map cell_record orphans
   pub record_count : opened.records ≡ length records
   pub orphan_count : opened.orphans ≡ length orphans
+  pub cells : AreCellsOf Tells records orphans opened.cells.items
 
 -- The files are those of the generation that was opened, and a row, a cell and a block may be appended to them.
 pub record IsReady {P : Type 0} (files : Files) (opened : Opened P) : Type 0 where

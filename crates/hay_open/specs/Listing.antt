@@ -73,10 +73,6 @@ pub record GivesPieces (volume : ℕ) (rows : List Record) (end : ℕ) (old new 
 
 -- PLACES
 
--- the place of a recorded cell, which is not looked at
-abbrev pub unseen_cell : {P : Type 0} → Record → OpenCell P
-unseen_cell r = record { pair = r.pair; place = place.Unseen r.at r.size }
-
 -- the places are those of the first k cells
 abbrev pub ArePlaced : {P : Type 0} → Type 0 → List Cell → ℕ → List (OpenCell P) → Type 0
 ArePlaced Tells whole k done = (pair : Pair) → PlaceOf Tells (last_cell (take k whole) pair) (last_place done pair place.None)

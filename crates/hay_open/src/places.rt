@@ -2,6 +2,8 @@
 
 ghost use Rattle.std.specs.Prelude.{◌≡◌, ◌⊎◌, ◌≤◌, ◌<◌, ◌+◌, ◌++◌, ◌∷◌, ℕ, [], List, length, map, take, drop, Some, Err, OnOk, IfOk, IfErr, IsErrOf, vec_len};
 ghost use Rattle.std.specs.Vec.{vec_capacity};
+ghost use Rattle.std.specs.List.{AllZip};
+ghost use Rattle.hay_map.specs.declared.view.OpenCell.{OpenCell};
 ghost use Rattle.hay_needle.specs.declared.needle.Cell.{Cell};
 ghost use Rattle.hay_needle.specs.declared.needle.Pair.{Pair};
 ghost use Rattle.hay_needle.specs.Sizes.{needle_total};
@@ -13,9 +15,9 @@ ghost use Rattle.hay_index.specs.Records.{AreInRow, place_behind};
 ghost use Rattle.hay_map.specs.declared.place.Place.{Place};
 ghost use Rattle.hay_map.specs.declared.place.Place.TheVariants as place;
 ghost use Rattle.hay_map.specs.Rows.{last_place};
-ghost use Rattle.hay_open.specs.Finds.{AddsAt, AreOfRows, StandsAt};
-ghost use Rattle.hay_open.specs.Listing.{ArePlaced, GivesPieces, HoldsRows, ListsCells, unseen_cell};
-ghost use Rattle.hay_open.specs.Stored.{PlaceOf, cell_record, last_cell};
+ghost use Rattle.hay_open.specs.Finds.{AddsAt, AreCellsOf, AreOfRows, IsOrphanOf, StandsAt, unseen_cell};
+ghost use Rattle.hay_open.specs.Listing.{ArePlaced, GivesPieces, HoldsRows, ListsCells};
+ghost use Rattle.hay_open.specs.Stored.{IsSeen, PlaceOf, cell_record, last_cell};
 
 use crate::fault::Refusal;
 use crate::listing::Listing;
@@ -36,6 +38,7 @@ fn place_of<D: Disk>(disk: &mut D, file: u32, head: CellHead) -> Result<Place<D:
     ensures place { D.Tells → (cell : Cell) → StandsCell head.at (D.files disk.old file).now cell → head ≡ cell_head cell
         → IfOk result (λ place. PlaceOf D.Piece.Tells (Some cell) place) }
     ensures at { IfOk result (StandsAt head.at) }
+    ensures seen { IfOk result IsSeen }
     ensures seals { D.Tells → Seals head.at (needle_total head.size) 28 (D.files disk.old file) (D.files disk.new file) }
     ensures others { D.Tells → KeepsOthers file (D.files disk.old) (D.files disk.new) }
     ensures undamaged { (number at : ℕ) → result ≡ Err (Refusal.Damaged number at) → ⊥ }
@@ -82,7 +85,7 @@ fn open_orphan<D: Disk>(
 ) -> Result<(), Refusal>
     requires stands { D.Tells → (cell : Cell) × StandsCell head.at (D.files disk.old file).now cell × (head ≡ cell_head cell) }
     requires solid { D.Tells → IsSolid (D.files disk.old file) }
-    ensures added { OnOk result ((place : Place D.Piece) × (cells.new.items ≡ cells.old.items ++ record { pair = head.pair; place = place } ∷ [])
+    ensures added { OnOk result ((place : Place D.Piece) × (cells.new.items ≡ cells.old.items ++ record { pair = head.pair; place = place } ∷ []) × IsSeen place
         × (D.Tells → (cell : Cell) → StandsCell head.at (D.files disk.old file).now cell → head ≡ cell_head cell → PlaceOf D.Piece.Tells (Some cell) place)) }
     ensures at { OnOk result (AddsAt head.at cells.old.items cells.new.items) }
     ensures seals { D.Tells → Seals head.at (needle_total head.size) 28 (D.files disk.old file) (D.files disk.new file) }
@@ -117,6 +120,8 @@ fn open_orphans<D: Disk>(
     ensures places { D.Tells → (whole : List Cell) → ListsCells (D.files disk.old listing.now.volume).now listing.now whole →
         ArePlaced D.Piece.Tells whole listing.now.recorded cells.old.items →
         OnOk result ((pair : Pair) → PlaceOf D.Piece.Tells (last_cell whole pair) (last_place cells.new.items pair place.None)) }
+    ensures seen { D.Tells → (orphans : List Cell) (from end : ℕ) → HasCells from (D.files disk.old listing.now.volume).now orphans end → listing.now.orphans.items ≡ map cell_head orphans →
+        OnOk result ((seen : List (OpenCell D.Piece)) × (cells.new.items ≡ cells.old.items ++ seen) × AllZip (IsOrphanOf D.Piece.Tells) orphans seen) }
     ensures rows { D.Tells → OnOk result (AreOfRows listing.now.rows.items cells.old.items → AreOfRows listing.now.rows.items cells.new.items) }
     ensures pieces { D.Tells → GivesPieces listing.now.volume listing.now.rows.items (place_behind 64 listing.now.rows.items) (D.files disk.old) (D.files disk.new) }
     ensures undamaged { D.Tells → (number at : ℕ) → result ≡ Err (Refusal.Damaged number at) → ⊥ }
@@ -141,6 +146,8 @@ pub(crate) fn open_cells<D: Disk>(
     requires solid { D.Tells → IsSolid (D.files disk.old listing.now.volume) }
     ensures places { D.Tells → (whole : List Cell) → ListsCells (D.files disk.old listing.now.volume).now listing.now whole →
         IfOk result (λ cells. (pair : Pair) → PlaceOf D.Piece.Tells (last_cell whole pair) (last_place cells.items pair place.None)) }
+    ensures seen { D.Tells → (orphans : List Cell) (from end : ℕ) → HasCells from (D.files disk.old listing.now.volume).now orphans end → listing.now.orphans.items ≡ map cell_head orphans →
+        IfOk result (λ cells. AreCellsOf D.Piece.Tells (take listing.now.recorded listing.now.rows.items) orphans cells.items) }
     ensures rows { D.Tells → IfOk result (λ cells. AreOfRows listing.now.rows.items cells.items) }
     ensures pieces { D.Tells → GivesPieces listing.now.volume listing.now.rows.items (place_behind 64 listing.now.rows.items) (D.files disk.old) (D.files disk.new) }
     ensures undamaged { D.Tells → (number at : ℕ) → result ≡ Err (Refusal.Damaged number at) → ⊥ }

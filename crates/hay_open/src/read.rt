@@ -33,7 +33,7 @@ pub(crate) fn read_disk<D: Disk>(
         IfOk result (λ opened. (pair : Pair) → PlaceOf D.Piece.Tells (last_cell s.cells pair) (last_place opened.cells.items pair place.None)) }
     ensures flags { D.Tells → IfOk result (MayFlagEach (D.files disk.new)) }
     ensures ready { D.Tells → IfOk result (λ opened. IsReady (D.files disk.new) opened) }
-    ensures whole { D.Tells → IfOk result (ReadsWhole sup.now (λ n. (D.files disk.old n).now)) }
+    ensures whole { D.Tells → IfOk result (ReadsWhole D.Piece.Tells sup.now (λ n. (D.files disk.old n).now)) }
     ensures front { D.Tells → OnOk result ((file at : ℕ) → IsDamagedFront sup.now (λ n. (D.files disk.old n).now) file at → ⊥) }
     ensures open { IfOk result (λ opened. opened.index.frozen ≡ false) }
     ensures kept { D.Tells → (n : ℕ) → (D.files disk.new n).now ≡ (D.files disk.old n).now }

@@ -1,6 +1,6 @@
 use Rattle.std.proofs.Common.{◌≡◌, ◌++◌, map, take}
 use Rattle.std.specs.Vec.{vec_capacity}
-use Rattle.hay_open.specs.Listing.{unseen_cell}
+use Rattle.hay_open.specs.Finds.{unseen_cell}
 use Rattle.hay_open.proofs.places.add_recorded.Given as goal
 
 abbrev pub invariant-loop-row : goal.invariant-loop-row

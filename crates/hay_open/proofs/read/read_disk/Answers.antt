@@ -1,4 +1,4 @@
-use Rattle.std.proofs.Common.{◌≡◌, ◌≤◌, ◌+◌, ◌∙◌, ℕ, List, length, drop, inl, inr, Err, ap, arith, sym, subst, length-drop}
+use Rattle.std.proofs.Common.{◌≡◌, ◌≤◌, ◌+◌, ◌∙◌, ℕ, List, length, map, take, drop, inl, inr, Err, ap, arith, sym, subst, length-drop}
 use Rattle.std.proofs.lemmas.Result.{err_from_is_err_and}
 use Rattle.hay_disk.specs.Disk.{Files}
 use Rattle.hay_disk.specs.Gate.{IsGate}
@@ -6,15 +6,18 @@ use Rattle.hay_needle.specs.Needle.{needle_magic}
 use Rattle.hay_needle.specs.declared.needle.CellHead.{CellHead}
 use Rattle.hay_volume.specs.declared.volume.VolumeFile.{VolumeFile}
 use Rattle.hay_index.specs.Records.{place_behind}
+use Rattle.hay_index.specs.declared.record.Record.{Record}
+use Rattle.hay_volume.specs.Cells.{HasCells}
+use Rattle.std.proofs.Math.Seq.{take-append_seam}
 use Rattle.std.specs.List.{AllByRecursion}
 use Rattle.hay_open.specs.Damage.{HasOrphans}
-use Rattle.hay_open.specs.Finds.{MayFlagPlace, drawn_most}
+use Rattle.hay_open.specs.Finds.{AreCellsOf, MayFlagPlace, drawn_most}
 use Rattle.hay_open.specs.Listing.{GivesPieces, HoldsRows, ListsCells}
-use Rattle.hay_open.specs.Stored.{HeadRests, volume_file, index_file}
+use Rattle.hay_open.specs.Stored.{HeadRests, cell_record, volume_file, index_file}
 use Rattle.hay_open.proofs.Opening.{listing_holds, rows_end, lists_cells, lists_stored, ready_head, ready_index, ready_volume, rests_index, rests_volume}
 use Rattle.hay_open.proofs.Flagging.{flag_each}
 use Rattle.hay_open.proofs.PieceLaws.{all_free}
-use Rattle.hay_open.proofs.Reading.{same_refusal}
+use Rattle.hay_open.proofs.Reading.{same_refusal, there}
 use Rattle.hay_open.proofs.CellRows.{heads_length}
 use Rattle.hay_open.proofs.read.read_disk.Goals as goal
 
@@ -115,6 +118,12 @@ returns-clause-whole g c = λ tells.
       noted = made.noted;
       record_count = made.recorded;
       orphan_count = omega (arith, c.len.ensures, listing.orphans.ok.0, ap (λ (l : List CellHead). length l) made.heads, heads_length made.orphans);
+      cells =
+          let contents : ℕ → List ℕ = λ n. (f c.args.disk.now n).now in
+          let first : take listing.recorded listing.rows.items ≡ made.records =
+          ap (λ n. take n listing.rows.items) made.recorded ∙ ap (λ (l : List Record). take (length made.records) l) made.rows ∙ take-append_seam made.records (map cell_record made.orphans) in
+          let has = there (λ l. HasCells (place_behind 64 made.records) l made.orphans listing.end) (f c.read_listing.new.disk) (f c.args.disk.now) (volume_file listing.head.generation) listing.volume (sym (c.read_listing.ensures.same tells)) (sym made.volume_number) made.behind.has in
+          subst (λ (l : List Record). AreCellsOf g.D.Piece.Piece.Tells l made.orphans c.in_ok-cells.cells.items) first (c.in_ok-cells.ensures.seen tells made.orphans (place_behind 64 made.records) listing.end has made.heads);
     }
 
 pub returns-clause-flags : goal.returns-clause-flags
