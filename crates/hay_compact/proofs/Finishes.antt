@@ -20,8 +20,7 @@ use Rattle.hay_index.proofs.IndexLaws.{index_gate}
 use Rattle.hay_open.specs.Stored.{FlagsFree, IndexRests, VolumeRests, cell_record, index_file, index_super, last_cell, recorded, volume_file, volume_super}
 use Rattle.hay_compact.specs.declared.finish.Finished.{Finished}
 use Rattle.hay_compact.specs.Copying.{AreOfVersionTwo, Making, Stage, stored_of}
-use Rattle.hay_compact.specs.Finishing.{AreThePlaces, CanSeal, IsFinished}
-use Rattle.hay_open.specs.Stored.{IsSeen}
+use Rattle.hay_compact.specs.Finishing.{AreThePlaces, CanSeal, IsFinished, IsSeen}
 use Rattle.hay_compact.proofs.CellLists.{records_row}
 use Rattle.hay_compact.proofs.StandingLaws.{place_kept}
 

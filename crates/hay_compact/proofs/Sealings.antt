@@ -28,8 +28,7 @@ use Rattle.hay_map.specs.Sealed.{SealedNeedle}
 use Rattle.hay_open.specs.Stored.{FlagsFree, IsSealedCell, PlaceOf, Stored, VolumeRests, cell_record, last_cell, volume_super}
 use Rattle.hay_compact.specs.Standing.{LastCells, place_in}
 use Rattle.hay_compact.specs.Copying.{cell_total, photo_place}
-use Rattle.hay_compact.specs.Finishing.{AreThePlaces, ArePlacesSoFar, CanSeal, IsDue, PlaceSoFar}
-use Rattle.hay_open.specs.Stored.{IsSeen}
+use Rattle.hay_compact.specs.Finishing.{AreThePlaces, ArePlacesSoFar, CanSeal, IsDue, IsSeen, PlaceSoFar}
 use Rattle.hay_compact.proofs.CellLists.{after_front, cells_end, last_stands, later_last, lacks_none, none_lacks, parts_last}
 use Rattle.hay_compact.proofs.Copyings.{some_next}
 use Rattle.hay_compact.proofs.Repeated.{photo_some}

@@ -11,7 +11,7 @@ use Rattle.hay_map.specs.declared.place.Place.{Place}
 use Rattle.hay_map.specs.declared.place.Place.TheVariants as place
 use Rattle.hay_map.specs.declared.view.OpenCell.{OpenCell}
 use Rattle.hay_map.specs.Rows.{last_place}
-use Rattle.hay_open.specs.Stored.{IndexRests, IsSealedCell, IsSeen, PlaceOf, Stored, VolumeRests, cell_record, index_file, last_cell, volume_file}
+use Rattle.hay_open.specs.Stored.{IndexRests, IsSealedCell, PlaceOf, Stored, VolumeRests, cell_record, index_file, last_cell, volume_file}
 use Rattle.hay_compact.specs.declared.finish.Finished.{Finished}
 use Rattle.hay_compact.specs.Copying.{Stage, photo_place, stored_of}
 use Rattle.hay_compact.specs.Standing.{LastCells, place_in}
@@ -19,6 +19,13 @@ use Rattle.hay_compact.specs.Standing.{LastCells, place_in}
 -- The place of each pair is that of its last cell. A pair that is not listed has no photo.
 abbrev pub AreThePlaces : {P : Type 0} → Type 0 → List Cell → List (OpenCell P) → Type 0
 AreThePlaces Tells cells places = (pair : Pair) → PlaceOf Tells (last_cell cells pair) (last_place places pair place.Gone)
+
+-- a place that was looked at
+abbrev pub IsSeen : {P : Type 0} → Place P → Type 0
+IsSeen (place.Live needle) = Unit {0}
+IsSeen place.Gone = Unit {0}
+IsSeen place.None = Unit {0}
+IsSeen (place.Unseen at size) = ⊥
 
 -- The new volume file has the cells and the index their records, all of it is on the disk, and changes can be made to both. Each place
 -- is known, and was looked at.

@@ -9,10 +9,10 @@ ghost use Rattle.hay_needle.specs.declared.needle.Cell.{Cell};
 ghost use Rattle.hay_needle.specs.declared.needle.Pair.{Pair};
 ghost use Rattle.hay_needle.specs.declared.settings.Super.{Super};
 ghost use Rattle.hay_index.specs.declared.record.Record.{Record};
-ghost use Rattle.hay_open.specs.Stored.{IsSeen, Stored, VolumeRests, cell_record};
+ghost use Rattle.hay_open.specs.Stored.{Stored, VolumeRests, cell_record};
 ghost use Rattle.hay_volume.specs.Cells.{IsVolume};
 ghost use Rattle.hay_compact.specs.Copying.{AreOfVersionTwo, IsMaking, KeepsOtherFiles, Making};
-ghost use Rattle.hay_compact.specs.Finishing.{ArePlacesSoFar, AreThePlaces, CanSeal, IsDue, IsFinished};
+ghost use Rattle.hay_compact.specs.Finishing.{ArePlacesSoFar, AreThePlaces, CanSeal, IsDue, IsFinished, IsSeen};
 
 use crate::compactor::Compactor;
 use crate::standing::Standing;

@@ -45,4 +45,3 @@ pub misfit_there : (f g : Files) (volume v index x number file at : ℕ) (r : Re
 misfit_there f g volume v index x number file at r same is also misfit =
     subst (λ (fs : Files). IsMisfitIn (λ n. (fs n).now) v x r number file at) same
     (subst (λ n. IsMisfitIn (λ k. (g k).now) v n r number file at) also (subst (λ n. IsMisfitIn (λ k. (g k).now) n index r number file at) is misfit))
-

@@ -18,8 +18,8 @@ use Rattle.hay_map.specs.declared.view.OpenCell.{OpenCell}
 use Rattle.hay_map.specs.Rows.{last_place}
 use Rattle.hay_map.specs.Sealed.{SealedNeedle}
 use Rattle.hay_open.specs.Listing.{ArePlaced}
-use Rattle.hay_open.specs.Finds.{IsOrphanOf, unseen_cell}
-use Rattle.hay_open.specs.Stored.{IsSealedCell, IsSeen, PlaceOf, cell_record, last_cell}
+use Rattle.hay_open.specs.Finds.{IsOrphanOf, StandsAt, unseen_cell}
+use Rattle.hay_open.specs.Stored.{IsSealedCell, PlaceOf, cell_record, last_cell}
 use Rattle.hay_open.proofs.CellRows.{map_take, take_here}
 
 -- THE PIECE OF A CELL
@@ -122,7 +122,7 @@ pub orphans_none : {P : Type 0} (Tells : Type 0) (orphans : List Cell) (cells : 
 unfolding AddsOrphans
 orphans_none Tells orphans cells = ([], sym (append-nil cells), tt)
 
-pub orphans_more : {P : Type 0} (Tells : Type 0) (orphans : List Cell) (k : ℕ) (cell : Cell) (own : Pair) (at : Place P) (old mid new : List (OpenCell P)) → slice_get orphans k ≡ Some cell → own ≡ cell.pair → IsSeen at → PlaceOf Tells (Some cell) at
+pub orphans_more : {P : Type 0} (Tells : Type 0) (orphans : List Cell) (k : ℕ) (cell : Cell) (own : Pair) (at : Place P) (old mid new : List (OpenCell P)) → slice_get orphans k ≡ Some cell → own ≡ cell.pair → StandsAt cell.at at → PlaceOf Tells (Some cell) at
     → AddsOrphans Tells orphans k old mid → new ≡ mid ++ record { pair = own; place = at } ∷ [] → AddsOrphans Tells orphans (k + 1) old new
 unfolding AddsOrphans
 orphans_more {P} Tells orphans k cell own at old mid new there pair_is looked of (seen, is, all) grown =
@@ -130,7 +130,7 @@ orphans_more {P} Tells orphans k cell own at old mid new there pair_is looked of
       seen ++ one ∷ [],
       grown ∙ ap (λ (l : List (OpenCell P)). l ++ one ∷ []) is ∙ append_assoc old seen (one ∷ []),
       subst (λ (l : List Cell). AllZip (IsOrphanOf Tells) l (seen ++ one ∷ [])) (sym (take_here k orphans cell there))
-          (zip_push (IsOrphanOf Tells) (take k orphans) seen cell one all (record { pair = pair_is; place = of; seen = looked })),
+          (zip_push (IsOrphanOf Tells) (take k orphans) seen cell one all (record { pair = pair_is; place = of; stands = looked })),
     )
 
 pub orphans_all : {P : Type 0} (Tells : Type 0) (orphans : List Cell) (k : ℕ) (old new : List (OpenCell P)) → length orphans ≤ k → AddsOrphans Tells orphans k old new

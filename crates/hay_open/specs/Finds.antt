@@ -15,7 +15,7 @@ use Rattle.hay_map.specs.declared.place.Place.TheVariants as place
 use Rattle.hay_map.specs.declared.view.OpenCell.{OpenCell}
 use Rattle.hay_open.specs.declared.opened.Opened.{Opened}
 use Rattle.hay_open.specs.Damage.{HasOrphans, IsRecorded}
-use Rattle.hay_open.specs.Stored.{Stored, HeadRests, VolumeRests, IndexRests, IsSeen, PlaceOf, cell_record, index_file, unrecorded, volume_file}
+use Rattle.hay_open.specs.Stored.{Stored, HeadRests, VolumeRests, IndexRests, PlaceOf, cell_record, index_file, unrecorded, volume_file}
 
 -- The replica was opened as what its disk has, and changes can be made to each of its files.
 pub record OpenedAs {P : Type 0} (sup : Super) (files : Files) (opened : Opened P) (s : Stored) : Type 0 where
@@ -34,11 +34,18 @@ pub record OpenedAs {P : Type 0} (sup : Super) (files : Files) (opened : Opened 
 abbrev pub unseen_cell : {P : Type 0} → Record → OpenCell P
 unseen_cell r = record { pair = r.pair; place = place.Unseen r.at r.size }
 
+-- a place that was looked at, and whose needle, if it has one, stands here
+abbrev pub StandsAt : {P : Type 0} → ℕ → Place P → Type 0
+StandsAt at (place.Live needle) = needle.at ≡ at
+StandsAt at place.Gone = Unit {0}
+StandsAt at place.None = Unit {0}
+StandsAt at (place.Unseen there size) = ⊥
+
 -- The place of a cell that has no record, which was looked at.
 pub record IsOrphanOf {P : Type 0} (Tells : Type 0) (cell : Cell) (one : OpenCell P) : Type 0 where
   pub pair : one.pair ≡ cell.pair
   pub place : PlaceOf Tells (Some cell) one.place
-  pub seen : IsSeen one.place
+  pub stands : StandsAt cell.at one.place
 
 -- the places of recorded cells, in order, none of which was looked at, and behind them those of cells that have no record
 abbrev pub AreCellsOf : {P : Type 0} → Type 0 → List Record → List Cell → List (OpenCell P) → Type 0
@@ -71,13 +78,6 @@ abbrev pub drawn_most : List Record → ℕ
 drawn_most noted = 64 + 36 + sum_by (λ r. needle_total r.size) noted + 8
 
 -- WHERE THE NEEDLES OF PLACES STAND
-
--- a place that was looked at, and whose needle, if it has one, stands here
-abbrev pub StandsAt : {P : Type 0} → ℕ → Place P → Type 0
-StandsAt at (place.Live needle) = needle.at ≡ at
-StandsAt at place.Gone = Unit {0}
-StandsAt at place.None = Unit {0}
-StandsAt at (place.Unseen there size) = ⊥
 
 -- the cells, and one more whose needle stands here
 abbrev pub AddsAt : {P : Type 0} → ℕ → List (OpenCell P) → List (OpenCell P) → Type 0

@@ -100,13 +100,6 @@ PlaceOf Tells None place.Gone = ⊤
 PlaceOf Tells None place.None = ⊤
 PlaceOf Tells None (place.Unseen at size) = ⊥
 
--- a place that was looked at
-abbrev pub IsSeen : {P : Type 0} → Place P → Type 0
-IsSeen (place.Live needle) = Unit {0}
-IsSeen place.Gone = Unit {0}
-IsSeen place.None = Unit {0}
-IsSeen (place.Unseen at size) = ⊥
-
 -- FILES TO WHICH CHANGES CAN BE MADE
 
 -- each cell's flags byte may be written

@@ -17,7 +17,7 @@ ghost use Rattle.hay_map.specs.declared.place.Place.TheVariants as place;
 ghost use Rattle.hay_map.specs.Rows.{last_place};
 ghost use Rattle.hay_open.specs.Finds.{AddsAt, AreCellsOf, AreOfRows, IsOrphanOf, StandsAt, unseen_cell};
 ghost use Rattle.hay_open.specs.Listing.{ArePlaced, GivesPieces, HoldsRows, ListsCells};
-ghost use Rattle.hay_open.specs.Stored.{IsSeen, PlaceOf, cell_record, last_cell};
+ghost use Rattle.hay_open.specs.Stored.{PlaceOf, cell_record, last_cell};
 
 use crate::fault::Refusal;
 use crate::listing::Listing;
@@ -38,7 +38,6 @@ fn place_of<D: Disk>(disk: &mut D, file: u32, head: CellHead) -> Result<Place<D:
     ensures place { D.Tells → (cell : Cell) → StandsCell head.at (D.files disk.old file).now cell → head ≡ cell_head cell
         → IfOk result (λ place. PlaceOf D.Piece.Tells (Some cell) place) }
     ensures at { IfOk result (StandsAt head.at) }
-    ensures seen { IfOk result IsSeen }
     ensures seals { D.Tells → Seals head.at (needle_total head.size) 28 (D.files disk.old file) (D.files disk.new file) }
     ensures others { D.Tells → KeepsOthers file (D.files disk.old) (D.files disk.new) }
     ensures undamaged { (number at : ℕ) → result ≡ Err (Refusal.Damaged number at) → ⊥ }
@@ -85,7 +84,7 @@ fn open_orphan<D: Disk>(
 ) -> Result<(), Refusal>
     requires stands { D.Tells → (cell : Cell) × StandsCell head.at (D.files disk.old file).now cell × (head ≡ cell_head cell) }
     requires solid { D.Tells → IsSolid (D.files disk.old file) }
-    ensures added { OnOk result ((place : Place D.Piece) × (cells.new.items ≡ cells.old.items ++ record { pair = head.pair; place = place } ∷ []) × IsSeen place
+    ensures added { OnOk result ((place : Place D.Piece) × (cells.new.items ≡ cells.old.items ++ record { pair = head.pair; place = place } ∷ []) × StandsAt head.at place
         × (D.Tells → (cell : Cell) → StandsCell head.at (D.files disk.old file).now cell → head ≡ cell_head cell → PlaceOf D.Piece.Tells (Some cell) place)) }
     ensures at { OnOk result (AddsAt head.at cells.old.items cells.new.items) }
     ensures seals { D.Tells → Seals head.at (needle_total head.size) 28 (D.files disk.old file) (D.files disk.new file) }

@@ -3,6 +3,7 @@ use Rattle.hay_needle.specs.declared.needle.CellHead.{CellHead}
 use Rattle.hay_needle.specs.declared.needle.Version.TheVariants.{One}
 use Rattle.hay_volume.specs.Cells.{StandsCell}
 use Rattle.hay_index.specs.Records.{place_behind}
+use Rattle.hay_open.specs.Finds.{StandsAt}
 use Rattle.hay_open.specs.Listing.{ArePlaced, head_record}
 use Rattle.hay_open.proofs.CellRows.{heads_length}
 use Rattle.hay_open.proofs.Flagging.{rows_more}
@@ -81,7 +82,8 @@ loop-head-preserved g c = record {
       let head = get_or c.as_slice-head-items.result.now c.loop-head.head-index none in
       let cell = orphan_at from end c.loop-head.head-index file orphans c.as_slice-head-items.result.now listing.orphans.items none has heads c.as_slice-head-items.ensures.value c.loop-head-test.true in
       let added = c.in_ok-open_orphan.ensures.added in
-      orphans_more g.D.Piece.Piece.Tells orphans c.loop-head.head-index cell.cell head.pair added.0 c.args.cells.now.items c.loop-head.cells.items c.open_orphan.new.cells.items cell.there (ap (λ (h : CellHead). h.pair) cell.is) added.2
+      orphans_more g.D.Piece.Piece.Tells orphans c.loop-head.head-index cell.cell head.pair added.0 c.args.cells.now.items c.loop-head.cells.items c.open_orphan.new.cells.items cell.there (ap (λ (h : CellHead). h.pair) cell.is)
+      (subst (λ n. StandsAt n added.0) (ap (λ (h : CellHead). h.at) cell.is) added.2)
       (added.3 tells cell.cell (subst (λ l. StandsCell head.at l cell.cell) (sym (c.loop-head.invariant.pieces tells).now) cell.stands) cell.is)
       (c.loop-head.invariant.seen tells orphans from end has heads) added.1;
   of = λ tells before.
