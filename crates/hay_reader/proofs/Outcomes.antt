@@ -1,5 +1,5 @@
 -- What a reply says where places mean outcomes.
-use Rattle.std.proofs.Common.{◌≡◌, ◌≢◌, ℕ, zero, suc, ◌+◌, ◌-◌, ◌%◌, ◌^◌, ◌<◌, ◌≤◌, ◌⊎◌, inl, inr, Bool, false, eqb, List, [], ◌∷◌, length, drop, get_or, refl, sym, ap, subst, ◌∙◌, arith}
+use Rattle.std.proofs.Common.{◌≡◌, ◌≢◌, ℕ, zero, suc, ◌+◌, ◌-◌, ◌%◌, ◌^◌, ◌<◌, ◌≤◌, ◌⊎◌, inl, inr, Bool, false, eqb, List, [], ◌∷◌, length, get_or, refl, sym, ap, subst, ◌∙◌, arith}
 use Rattle.std.specs.Prelude.{take_while, not, Ok, Err}
 use Rattle.std.specs.List.{AllByRecursion, AllZip, prefix_len}
 use Rattle.std.proofs.Math.Nat.{mod-lt}
@@ -18,7 +18,7 @@ use Rattle.hay_needle.specs.Needle.{BeginsWithNeedle}
 use Rattle.hay_needle.proofs.Needles.{one_needle}
 use Rattle.hay_reply.specs.declared.Cause.{Cause}
 use Rattle.hay_reply.specs.declared.Cause.TheVariants as cause
-use Rattle.hay_map.specs.Places.{IsSealed, PlaceMeans, place_in}
+use Rattle.hay_map.specs.Places.{IsSealed, place_in}
 use Rattle.hay_map.specs.Sealed.{SealedNeedle}
 use Rattle.hay_map.specs.declared.place.Place.{Place}
 use Rattle.hay_map.specs.declared.place.Place.TheVariants as place

@@ -1,5 +1,5 @@
 -- Replicas that are passed over, one after another.
-use Rattle.std.proofs.Common.{◌≡◌, ℕ, ◌+◌, ◌-◌, ◌%◌, ◌^◌, ◌<◌, ◌≤◌, ◌⊎◌, inl, inr, true, Bool, List, [], ◌∷◌, ◌++◌, length, take, drop, refl, sym, ap, ◌∙◌, subst, arith, zero-add}
+use Rattle.std.proofs.Common.{◌≡◌, ℕ, ◌+◌, ◌-◌, ◌%◌, ◌^◌, ◌<◌, ◌≤◌, ◌⊎◌, inl, inr, true, Bool, List, [], ◌∷◌, ◌++◌, length, take, sym, ap, ◌∙◌, subst, arith, zero-add}
 use Rattle.std.specs.Prelude.{Ok, Err}
 use Rattle.std.specs.List.{AllByRecursion}
 use Rattle.std.proofs.lemmas.List.{map-append, length-append, length-take, take-append-le, drop-append-le}
@@ -74,18 +74,22 @@ passes_later start replicas before mid new passed causes later most so_far = rec
   rises = so_far.rises;
 }
 
+-- the next replica comes behind those that come first
+pub first_more : (start replicas : ℕ) (causes : List PassedReplica) (over : PassedReplica) → ComeFirst start replicas causes → over.replica ≡ (start + length causes) % replicas → ComeFirst start replicas (causes ++ over ∷ [])
+first_more start replicas causes over first is =
+    map-append (λ (p : PassedReplica). p.replica) causes (over ∷ [])
+    ∙ ap (λ (xs : List ℕ). xs ++ over.replica ∷ []) first
+    ∙ ap (λ (j : ℕ). tried_from start replicas (length causes) ++ j ∷ []) is
+    ∙ sym (map-range_with_len_more (λ (i : ℕ). (start + i) % replicas) 0 (length causes) (length causes) (zero-add (length causes)))
+    ∙ ap (λ (tries : ℕ). tried_from start replicas tries) (sym (length-append causes (over ∷ [])))
+
 passes_more : (start replicas before mid new : ℕ) (passed causes : List PassedReplica) (over : PassedReplica) → Passes start replicas before mid passed causes → over.replica ≡ (start + length causes) % replicas → before ≤ mid → mid ≤ new
     → (new ≡ mid) ⊎ (new < 2 ^ 64) → FailsBy mid new over.cause → Passes start replicas before new passed (causes ++ over ∷ [])
 passes_more start replicas before mid new passed causes over so_far is earlier later most fails =
     let now : List PassedReplica = passed_now passed causes in
     record {
       begins = take-append-le (length passed) causes (over ∷ []) (no_shorter passed causes so_far.begins) ∙ so_far.begins;
-      order =
-          map-append (λ (p : PassedReplica). p.replica) causes (over ∷ [])
-          ∙ ap (λ (xs : List ℕ). xs ++ over.replica ∷ []) so_far.order
-          ∙ ap (λ (j : ℕ). tried_from start replicas (length causes) ++ j ∷ []) is
-          ∙ sym (map-range_with_len_more (λ (i : ℕ). (start + i) % replicas) 0 (length causes) (length causes) (zero-add (length causes)))
-          ∙ ap (λ (tries : ℕ). tried_from start replicas tries) (sym (length-append causes (over ∷ [])));
+      order = first_more start replicas causes over so_far.order is;
       each =
           subst (λ (ps : List PassedReplica). AllByRecursion (λ p. HasArmCause before new p.cause) ps) (sym (now_push passed causes over so_far.begins))
           (all_push (λ (p : PassedReplica). HasArmCause before new p.cause) now over (passes_later start replicas before mid new passed causes later most so_far).each (cause_now before mid new over.cause earlier most fails));
