@@ -70,6 +70,7 @@ impl VolumeFile {
         // On any disk what is read is a whole needle of this size, and where the disk tells, it stands there.
         ensures cell { IfOk result (λ head. (cell : Cell) × IsCellAt at out.new.items cell × (head ≡ cell_head cell)) }
         ensures size { IfOk result (λ head. head.size ≡ size) }
+        ensures most { OnOk result (size ≤ MAX_PHOTO) }
         ensures stands { D.Tells → OnOk result (HasBytesAt at out.new.items (D.files disk.old self.now.file).now) }
 
         ensures place { (k : ℕ) → result ≡ Err (CellFault.Damaged k) → k ≡ at }
