@@ -21,6 +21,7 @@ module _ {P : Type 0} where
   place_row rows i r (place.Live needle) there here = (i, r, there, here)
   place_row rows i r place.None there here = tt
   place_row rows i r place.Gone there here = tt
+  place_row rows i r (place.Unseen at size) there here = absurd here
 
   rows_last : (rows : List Record) (cells : List (OpenCell P)) (cell : OpenCell P) → AreOfRows rows cells → IsOfRow rows cell.place → AreOfRows rows (cells ++ cell ∷ [])
   rows_last rows [] cell all one = (one, tt)
@@ -37,6 +38,9 @@ module _ {P : Type 0} where
       (omega (arith, within.1, ends, here), subst (λ n. file.sealed (n + 28) ≡ false) (sym here) (flag_free rows i r file free there))
   flag_place rows file end place.None row ends free is = tt
   flag_place rows file end place.Gone row ends free is = tt
+  flag_place rows file end (place.Unseen at size) row ends free (i, r, there, here, long) =
+      let within = row_within 64 i rows r row there in
+      (rw (here, long) (omega (arith, within.1, ends)), subst (λ n. file.sealed (n + 28) ≡ false) (sym here) (flag_free rows i r file free there))
 
   -- each needle may be flagged
   pub flag_each : (rows : List Record) (file : FileState) (end : ℕ) (cells : List (OpenCell P)) → AreInRow 64 rows → place_behind 64 rows ≤ end → RowFlagsFree file rows → AreOfRows rows cells

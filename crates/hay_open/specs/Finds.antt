@@ -4,6 +4,7 @@ use Rattle.std.specs.List.{AllByRecursion, slice_get}
 use Rattle.hay_needle.specs.declared.needle.Cell.{Cell}
 use Rattle.hay_needle.specs.declared.settings.Super.{Super}
 use Rattle.hay_needle.specs.Needle.{needle_magic}
+use Rattle.hay_needle.specs.Sizes.{needle_total}
 use Rattle.hay_disk.specs.Disk.{Files, FileState}
 use Rattle.hay_disk.specs.Gate.{IsGate}
 use Rattle.hay_head.specs.Head.{head_magic, row_place}
@@ -51,11 +52,12 @@ pub record IsReady {P : Type 0} (files : Files) (opened : Opened P) : Type 0 whe
 
 -- WHERE THE NEEDLES OF PLACES STAND
 
--- a needle that a place has stands here
+-- a place that was looked at, and whose needle, if it has one, stands here
 abbrev pub StandsAt : {P : Type 0} → ℕ → Place P → Type 0
 StandsAt at (place.Live needle) = needle.at ≡ at
 StandsAt at place.Gone = Unit {0}
 StandsAt at place.None = Unit {0}
+StandsAt at (place.Unseen there size) = ⊥
 
 -- the cells, and one more whose needle stands here
 abbrev pub AddsAt : {P : Type 0} → ℕ → List (OpenCell P) → List (OpenCell P) → Type 0
@@ -66,15 +68,17 @@ abbrev pub IsOfRow : {P : Type 0} → List Record → Place P → Type 0
 IsOfRow rows (place.Live needle) = (i : ℕ) × (r : Record) × (slice_get rows i ≡ Some r) × (needle.at ≡ r.at)
 IsOfRow rows place.Gone = Unit {0}
 IsOfRow rows place.None = Unit {0}
+IsOfRow rows (place.Unseen at size) = (i : ℕ) × (r : Record) × (slice_get rows i ≡ Some r) × (at ≡ r.at) × (size ≡ r.size)
 
 abbrev pub AreOfRows : {P : Type 0} → List Record → List (OpenCell P) → Type 0
 AreOfRows rows cells = AllByRecursion (λ cell. IsOfRow rows cell.place) cells
 
--- the flags of a needle that a place has may be written
+-- the flags of a needle that a place has may be written, and one that was not looked at yet lies before the end
 abbrev pub MayFlagPlace : {P : Type 0} → FileState → ℕ → Place P → Type 0
 MayFlagPlace file end (place.Live needle) = (needle.at + 29 ≤ end) × (file.sealed (needle.at + 28) ≡ false)
 MayFlagPlace file end place.Gone = Unit {0}
 MayFlagPlace file end place.None = Unit {0}
+MayFlagPlace file end (place.Unseen at size) = (at + needle_total size ≤ end) × (file.sealed (at + 28) ≡ false)
 
 -- Each needle that was found lies before the end of the cells, and may be flagged.
 abbrev pub MayFlagEach : {P : Type 0} → Files → Opened P → Type 0
