@@ -1,14 +1,13 @@
 //! What no clause says: that a cell is seen, and when a look at it is refused.
-#![tactic(auto, using(hay_replica_tests::proofs::Opens::up_open))]
+#![tactic(auto, using(crate::proofs::Opens::up_open))]
 
-ghost use Rattle.std.specs.Prelude.{◌≡◌, IfOk};
+ghost use Rattle.std.specs.Prelude.{IfOk};
 ghost use Rattle.hay_memdisk.specs.MemDisk.{mem_files};
-ghost use Rattle.hay_disk.specs.Disk.{empty_file};
 ghost use Rattle.hay_physical.specs.Copies.{IsOpenCopy};
 ghost use Rattle.hay_physical.specs.Replicas.{MaySee};
 
 use hay_disk::{Disk, Shelf};
-use hay_filedisk::{FileDisk, FileShelf, System};
+use hay_filedisk::FileShelf;
 use hay_map::Place;
 use hay_memdisk::MemDisk;
 use hay_needle::{Cookie, FileKind, Pair, Settings, Super};
@@ -47,13 +46,9 @@ enum Sight {
 }
 
 // What a look of the first pair answered, and how many bytes it read.
-fn look<R: System + Send>(
-    replica: &mut Replica<FileDisk<R>>,
-    alloc: Global,
-    at: u64,
-    size: u32,
-) -> (Sight, usize)
-    requires { IsOpenCopy replica.old }
+fn look<D: Disk>(replica: &mut Replica<D>, alloc: Global, at: u64, size: u32) -> (Sight, usize)
+    requires open { IsOpenCopy replica.old }
+    requires silent { D.Tells → ⊥ }
     ensures { IsOpenCopy replica.new }
 {
     let mut out = Vec::new(alloc);
@@ -88,13 +83,9 @@ fn clear(files: &impl Files, alloc: Global, folder: &str) -> Result<(), Fail> {
 }
 
 // Whether a look of the first pair finds damage.
-fn is_damaged<R: System + Send>(
-    replica: &mut Replica<FileDisk<R>>,
-    alloc: Global,
-    at: u64,
-    size: u32,
-) -> bool
-    requires { IsOpenCopy replica.old }
+fn is_damaged<D: Disk>(replica: &mut Replica<D>, alloc: Global, at: u64, size: u32) -> bool
+    requires open { IsOpenCopy replica.old }
+    requires silent { D.Tells → ⊥ }
     ensures { IsOpenCopy replica.new }
 {
     let (sight, _) = look(replica, alloc, at, size);
@@ -102,8 +93,9 @@ fn is_damaged<R: System + Send>(
 }
 
 // Looks for another size, a larger photo than any, another pair, a longer needle, and where no needle stands.
-fn misfits<R: System + Send>(replica: &mut Replica<FileDisk<R>>, alloc: Global) -> [bool; 6]
-    requires { IsOpenCopy replica.old }
+fn misfits<D: Disk>(replica: &mut Replica<D>, alloc: Global) -> [bool; 6]
+    requires open { IsOpenCopy replica.old }
+    requires silent { D.Tells → ⊥ }
     ensures { IsOpenCopy replica.new }
 {
     let other_size = is_damaged(replica, alloc, 64, 2);
