@@ -9,3 +9,6 @@ pub mod Views
 pub mod RunViews
 pub mod Deleting
 pub mod Removing
+pub mod Sights
+pub mod Seeing
+pub mod Looks
