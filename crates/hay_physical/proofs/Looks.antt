@@ -1,18 +1,13 @@
 -- What a look at a cell has seen.
-use Rattle.std.proofs.Common.{◌≡◌, ◌&&◌, true≢false, nat_eq, Bool, true, false, ℕ, List, drop, sym, ◌∙◌, ap, refl, subst, ◌+◌, inl, inr, arith}
+use Rattle.std.proofs.Common.{◌≡◌, false, ℕ, List, sym, ◌∙◌, ap, refl, subst, ◌+◌, inl, inr, arith}
 use Rattle.std.specs.Prelude.{Result, Ok, Err, OnOk}
-use Rattle.std.proofs.lemmas.Bool.{eq-eqb}
 use Rattle.hay_needle.specs.declared.needle.Cell.{Cell}
 use Rattle.hay_needle.specs.declared.needle.CellHead.{CellHead}
-use Rattle.hay_needle.specs.declared.needle.Needle.{Needle}
-use Rattle.hay_needle.specs.declared.needle.Pair.{Pair}
-use Rattle.hay_needle.specs.Needle.{BeginsWithNeedle}
 use Rattle.hay_needle.specs.Sizes.{needle_total}
-use Rattle.hay_needle.proofs.Needles.{one_needle}
 use Rattle.hay_disk.specs.Disk.{Files, FileState, Seals}
 use Rattle.hay_disk.specs.Gate.{HasBytesAt}
 use Rattle.hay_volume.specs.Cells.{IsCellAt, StandsCell, cell_head}
-use Rattle.hay_volume.proofs.Readings.{cell_begins, same_cell}
+use Rattle.hay_volume.proofs.Readings.{same_cell}
 use Rattle.hay_map.specs.declared.place.Place.{Place}
 use Rattle.hay_map.specs.declared.place.Place.TheVariants as place
 use Rattle.hay_physical.specs.declared.fault.ReplicaFault.{ReplicaFault}
@@ -22,17 +17,6 @@ use Rattle.hay_physical.specs.Replicas.{IsSightOf, IsUnsealed, MayDelete, MayDel
 -- the bytes that were read are a cell, which stands where they stand
 pub stands_there : (at : ℕ) (out file : List ℕ) (cell : Cell) → IsCellAt at out cell → HasBytesAt at out file → StandsCell at file cell
 stands_there at out file cell is stand = record { needle = out; is = is; stand = stand }
-
--- a needle that stands there is this one
-pub seen_pair : (at : ℕ) (out file : List ℕ) (head : CellHead) (n : Needle) → (cell : Cell) × IsCellAt at out cell × (head ≡ cell_head cell) → HasBytesAt at out file → BeginsWithNeedle (drop at file) n → n.pair ≡ head.pair
-seen_pair at out file head n seen stand begins =
-    ap (λ (m : Needle). m.pair) (one_needle (drop at file) n _ begins (cell_begins at file seen.0 (stands_there at out file seen.0 seen.1 stand))) ∙ sym (ap (λ (h : CellHead). h.pair) seen.2)
-
--- pairs that a test told apart
-pub other_pair : (p q : Pair) (b : Bool) → b ≡ (nat_eq p.key q.key && nat_eq p.alt q.alt) → b ≡ false → p ≡ q → ⊥
-other_pair p q b is apart same =
-    let both : (nat_eq p.key q.key && nat_eq p.alt q.alt) ≡ true = rw (eq-eqb p.key q.key (ap (λ (x : Pair). x.key) same), eq-eqb p.alt q.alt (ap (λ (x : Pair). x.alt) same)) refl in
-    true≢false (sym both ∙ sym is ∙ apart)
 
 -- one refusal
 pub one_fault : {T : Type 0} (r : Result T ReplicaFault) (a b : ReplicaFault) → r ≡ Err a → r ≡ Err b → a ≡ b

@@ -21,27 +21,26 @@ use crate::replica::Replica;
 use crate::state::{OpenFiles, Phase};
 use hay_disk::{Disk, DiskFault};
 use hay_map::{Place, Sealed};
-use hay_needle::{CellHead, MAX_PHOTO, Pair, total_of};
+use hay_needle::{CellHead, MAX_PHOTO, total_of};
 use hay_volume::CellFault;
 
 impl OpenFiles {
-    // The head of the cell of a pair's photo of this size that stands at `at`. `out` then has its needle.
+    // The head of the cell of a photo of this size that stands at `at`. `out` then has its needle.
     fn look<D: Disk>(
         &self,
         disk: &mut D,
-        pair: Pair,
         at: u64,
         size: u32,
         out: &mut Vec<u8>,
     ) -> Result<CellHead, ReplicaFault>
         ensures cell { IfOk result (λ head. (cell : Cell) × IsCellAt at out.new.items cell × (head ≡ cell_head cell)) }
         ensures stands { D.Tells → OnOk result (HasBytesAt at out.new.items (D.files disk.old self.now.volume.file).now) }
-        ensures asked { IfOk result (λ head. (head.at ≡ at) × (head.pair ≡ pair) × (head.size ≡ size)) }
+        ensures asked { IfOk result (λ head. (head.at ≡ at) × (head.size ≡ size)) }
         ensures most { OnOk result (size ≤ MAX_PHOTO) }
 
         ensures place { (k : ℕ) → result ≡ Err (ReplicaFault.Damaged k) → k ≡ at }
         ensures damaged { D.Tells → (k : ℕ) → result ≡ Err (ReplicaFault.Damaged k) →
-            (n : Needle) → BeginsWithNeedle (drop at (D.files disk.old self.now.volume.file).now) n → n.pair ≡ pair → length n.photo.bytes ≡ size → ⊥ }
+            (n : Needle) → BeginsWithNeedle (drop at (D.files disk.old self.now.volume.file).now) n → length n.photo.bytes ≡ size → ⊥ }
 
         ensures same { D.Tells → D.files disk.new ≡ D.files disk.old }
         ensures drawn { D.Tells → (n : ℕ) → D.drawn disk.new n ≤ D.drawn disk.old n + needle_total size }
@@ -50,8 +49,7 @@ impl OpenFiles {
         ensures fuses { D.fuse_count disk.new ≡ D.fuse_count disk.old }
     {
         match self.volume.cell_within(disk, at, size, out) {
-            Ok(head) if head.pair == pair => Ok(head),
-            Ok(_) => Err(ReplicaFault::Damaged { at }),
+            Ok(head) => Ok(head),
             Err(CellFault::Damaged { at }) => Err(ReplicaFault::Damaged { at }),
             Err(CellFault::NoMemory) => Err(ReplicaFault::NoMemory),
             Err(CellFault::Failed) => Err(ReplicaFault::Failed {
@@ -94,24 +92,23 @@ impl OpenFiles {
         }
     }
 
-    // The place of a pair's photo of this size, by its needle at `at`, which `out` then has.
+    // The place of a photo of this size, by its needle at `at`, which `out` then has.
     pub(crate) fn cell<D: Disk>(
         &self,
         disk: &mut D,
-        pair: Pair,
         at: u64,
         size: u32,
         out: &mut Vec<u8>,
     ) -> Result<Place<D::Piece>, ReplicaFault>
         requires may { D.Tells → MayLook (D.files disk.old self.now.volume.file) self.now.volume.end at size }
 
-        ensures needle { IfOk result (λ place. (cell : Cell) × IsCellAt at out.new.items cell × (cell.pair ≡ pair) × (length cell.bytes ≡ size) × IsSightOf cell place) }
+        ensures needle { IfOk result (λ place. (cell : Cell) × IsCellAt at out.new.items cell × (length cell.bytes ≡ size) × IsSightOf cell place) }
         ensures stands { D.Tells → OnOk result (HasBytesAt at out.new.items (D.files disk.old self.now.volume.file).now) }
         ensures known { D.Tells → (cell : Cell) → StandsCell at (D.files disk.old self.now.volume.file).now cell →
             IfOk result (λ place. IsSeen place × PlaceOf D.Piece.Tells (Some cell) place) }
         ensures place { (k : ℕ) → result ≡ Err (ReplicaFault.Damaged k) → k ≡ at }
         ensures damaged { D.Tells → (k : ℕ) → result ≡ Err (ReplicaFault.Damaged k) →
-            (n : Needle) → BeginsWithNeedle (drop at (D.files disk.old self.now.volume.file).now) n → n.pair ≡ pair → length n.photo.bytes ≡ size → ⊥ }
+            (n : Needle) → BeginsWithNeedle (drop at (D.files disk.old self.now.volume.file).now) n → length n.photo.bytes ≡ size → ⊥ }
 
         ensures seals { D.Tells → Seals at (needle_total size) 28 (D.files disk.old self.now.volume.file) (D.files disk.new self.now.volume.file) }
         ensures others { D.Tells → KeepsOthers self.now.volume.file (D.files disk.old) (D.files disk.new) }
@@ -121,7 +118,7 @@ impl OpenFiles {
         ensures counts { D.fault_count disk.old ≤ D.fault_count disk.new }
         ensures fuses { D.fuse_count disk.new ≡ D.fuse_count disk.old }
     {
-        match self.look(disk, pair, at, size, out) {
+        match self.look(disk, at, size, out) {
             Ok(head) => self.place_of(disk, head),
             Err(fault) => Err(fault),
         }
@@ -129,14 +126,13 @@ impl OpenFiles {
 }
 
 impl<D: Disk> Replica<D> {
-    /// Sees what the place of a pair's photo of this size means, by its needle at `at`: it is live, or it was deleted. No byte
-    /// behind the needle is read, and `out` has it at `Ok`.
+    /// Sees what the place of a photo of this size means, by its needle at `at`: it is live, or it was deleted. No byte behind
+    /// the needle is read, and `out` has it at `Ok`.
     ///
-    /// `Damaged` comes exactly where no needle of this pair and size stands there. No refusal freezes the replica, and nothing
-    /// of it changes.
+    /// `Damaged` comes exactly where no needle of this size stands there. No refusal freezes the replica, and nothing of it
+    /// changes.
     pub fn cell(
         &mut self,
-        pair: Pair,
         at: u64,
         size: u32,
         out: &mut Vec<u8>,
@@ -144,14 +140,14 @@ impl<D: Disk> Replica<D> {
         requires open { IsOpenCopy self.old }
         requires see { D.Tells → MaySee D.files self.old at size }
 
-        // On any disk it is live or gone by a whole needle of the pair and size. Where the disk tells, that stands there.
-        ensures needle { IfOk result (λ place. (cell : Cell) × IsCellAt at out.new.items cell × (cell.pair ≡ pair) × (length cell.bytes ≡ size) × IsSightOf cell place
+        // On any disk it is live or gone by a whole needle of the size. Where the disk tells, that stands there.
+        ensures needle { IfOk result (λ place. (cell : Cell) × IsCellAt at out.new.items cell × (length cell.bytes ≡ size) × IsSightOf cell place
             × (D.Tells → StandsIn D.files self.old cell)) }
         // A cell that is known to stand there is seen as what it is, and is not damaged.
         ensures known { D.Tells → (cell : Cell) → StandsIn D.files self.old cell → cell.at ≡ at →
             IfOk result (λ place. IsSeen place × PlaceOf D.Piece.Tells (Some cell) place) }
         ensures damaged { D.Tells → (k : ℕ) → result ≡ Err (ReplicaFault.Damaged k) →
-            (cell : Cell) → StandsIn D.files self.old cell → cell.at ≡ at → cell.pair ≡ pair → length cell.bytes ≡ size → ⊥ }
+            (cell : Cell) → StandsIn D.files self.old cell → cell.at ≡ at → length cell.bytes ≡ size → ⊥ }
         ensures place { (k : ℕ) → result ≡ Err (ReplicaFault.Damaged k) → k ≡ at }
         ensures can_delete { D.Tells → IfOk result (λ place. MayDeletePlace D.files self.new place) }
 
@@ -171,7 +167,7 @@ impl<D: Disk> Replica<D> {
         ensures fuses { D.fuse_count self.new.disk ≡ D.fuse_count self.old.disk }
     {
         match &self.phase {
-            Phase::Open(files) => files.cell(&mut self.disk, pair, at, size, out),
+            Phase::Open(files) => files.cell(&mut self.disk, at, size, out),
             Phase::Closed => unreachable!(),
         }
     }

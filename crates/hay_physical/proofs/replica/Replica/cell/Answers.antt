@@ -48,7 +48,6 @@ returns-clause-needle g c =
       seen.1,
       seen.2,
       seen.3,
-      seen.4,
       λ tells.
           let here = stands_there c.args.at c.cell.new.out.items (files was.disk opened.volume.file).now seen.0 seen.1 (stands tells) in
           known_cell files c.args.self.now was.sup was.disk was.phase opened seen.0 c.self.view_is c.in-Open.is (subst (λ k. StandsCell k (files was.disk opened.volume.file).now seen.0) (sym seen.1.place) here),
@@ -63,12 +62,12 @@ returns-clause-known g c = λ tells cell stands there.
     c.cell.ensures.known tells cell (subst (λ k. StandsCell k (files was.disk c.in-Open.files.volume.file).now cell) there here)
 
 pub returns-clause-damaged : goal.returns-clause-damaged
-returns-clause-damaged g c = λ tells k is cell stands there paired sized.
+returns-clause-damaged g c = λ tells k is cell stands there sized.
     let files = g.D.Disk.files in
     let was = c.self.inside in
     let file = (files was.disk c.in-Open.files.volume.file).now in
     let here = subst (λ k. StandsCell k file cell) there (files_cell files c.args.self.now was.sup was.disk was.phase c.in-Open.files cell c.self.view_is c.in-Open.is stands) in
-    c.cell.ensures.damaged tells k is (needle_of_cell cell) (cell_begins c.args.at file cell here) paired sized
+    c.cell.ensures.damaged tells k is (needle_of_cell cell) (cell_begins c.args.at file cell here) sized
 
 pub returns-clause-can_delete : goal.returns-clause-can_delete
 returns-clause-can_delete g c = λ tells.
@@ -78,7 +77,7 @@ returns-clause-can_delete g c = λ tells.
     let look = files_look files c.args.self.now was.sup was.disk was.phase opened c.args.at c.args.size c.self.view_is c.in-Open.is (c.requires.see tells) in
     let flag = own_flag (files was.disk opened.volume.file) (files c.cell.new.disk opened.volume.file) opened.volume.end c.args.at c.args.size look (c.cell.ensures.seals tells) in
     let may = subst (λ (p : Phase). MayDelete files (record { sup = was.sup; disk = c.cell.new.disk; phase = p }) c.args.at) (sym c.in-Open.is) (open_deletes files was.sup c.cell.new.disk opened c.args.at flag) in
-    if_ok_so c.cell.result _ _ (λ place seen. sight_deletes files _ c.args.at seen.0 place seen.1.place may seen.4) c.cell.ensures.needle
+    if_ok_so c.cell.result _ _ (λ place seen. sight_deletes files _ c.args.at seen.0 place seen.1.place may seen.3) c.cell.ensures.needle
 
 pub returns-clause-deletes : goal.returns-clause-deletes
 returns-clause-deletes g c = λ tells place apart may.
@@ -111,7 +110,7 @@ returns-clause-stands g c = λ tells s stands has.
     (λ place seen stood.
     let here = stands_there c.args.at c.cell.new.out.items (files was.disk opened.volume.file).now seen.0 seen.1 stood in
     stand_looked was.sup (files was.disk) (files c.cell.new.disk) opened s c.args.at (needle_total c.args.size) f has look.within
-    (λ cell there. one_total c.args.at c.args.size (files was.disk opened.volume.file).now seen.0 cell here seen.3 there) (c.cell.ensures.seals tells) (c.cell.ensures.others tells))
+    (λ cell there. one_total c.args.at c.args.size (files was.disk opened.volume.file).now seen.0 cell here seen.2 there) (c.cell.ensures.seals tells) (c.cell.ensures.others tells))
     c.cell.ensures.needle (c.cell.ensures.stands tells))
     (on_err_so c.cell.result _ _ (λ same. subst (λ (x : Files). FilesStand was.sup x opened s) (sym same) f) (c.cell.ensures.kept tells)) in
     subst (λ (p : Phase). Stands files (record { sup = was.sup; disk = c.cell.new.disk; phase = p }) s) (sym c.in-Open.is)
