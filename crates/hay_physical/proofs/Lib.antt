@@ -12,3 +12,4 @@ pub mod Removing
 pub mod Sights
 pub mod Seeing
 pub mod Looks
+pub mod Apartness

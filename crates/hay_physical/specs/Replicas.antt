@@ -211,6 +211,20 @@ IsApart at size place = IsOutside at (needle_total size) (place + 28)
 abbrev pub IsUnsealed : ℕ → ℕ → ℕ → Type 0
 IsUnsealed at size place = IsApart at size place ⊎ (place ≡ at)
 
+-- The flags of the cell that a place has, if it has one, are none of the bytes of that needle.
+abbrev pub IsApartPlace : {P : Type 0} → ℕ → ℕ → Place P → Type 0
+IsApartPlace at size (place.Live needle) = IsApart at size needle.at
+IsApartPlace at size place.None = Unit {0}
+IsApartPlace at size place.Gone = Unit {0}
+IsApartPlace at size (place.Unseen other long) = IsApart at size other
+
+-- Where the first place was not looked at yet, its needle does not have the flags of the other's cell.
+abbrev pub ArePlacesApart : {P : Type 0} → Place P → Place P → Type 0
+ArePlacesApart (place.Live needle) other = Unit {0}
+ArePlacesApart place.None other = Unit {0}
+ArePlacesApart place.Gone other = Unit {0}
+ArePlacesApart (place.Unseen at size) other = IsApartPlace at size other
+
 -- The places of these sizes that could be seen still can be, and their cells stand as they stood.
 pub record KeepsSight {D : Type 0} (files : D → Files) (IsKept : ℕ → ℕ → Type 0) (r r' : Copy D) : Type 0 where
   pub may : (at size : ℕ) → IsKept at size → MaySee files r at size → MaySee files r' at size

@@ -104,6 +104,7 @@ impl OpenFiles {
         ensures flags { D.Tells → (place : ℕ) → MayFlag (D.files disk.old self.old.volume.file) self.old.volume.end place
             → MayFlag (D.files disk.new self.new.volume.file) self.new.volume.end place }
         ensures flag { D.Tells → IfOk result (λ needle. MayFlag (D.files disk.new self.new.volume.file) self.new.volume.end needle.at) }
+        ensures place { D.Tells → IfOk result (λ needle. needle.at ≡ self.old.volume.end) }
         ensures volume { (self.new.volume.file ≡ self.old.volume.file) × (self.old.volume.end ≤ self.new.volume.end) }
         ensures before { D.Tells → KeepsBefore self.old.volume.end (D.files disk.old self.old.volume.file) (D.files disk.new self.old.volume.file) }
         ensures copier { KeepsCopier self.old self.new }

@@ -18,7 +18,8 @@ ghost use Rattle.std.specs.List.{AllByRecursion};
 ghost use Rattle.std.specs.Option.{option_map};
 ghost use Rattle.hay_physical.specs.Copies.{EndedAt, IsFrozen, IsOpenCopy, IsUp, capacity_of, contents_of, end_of, generation_of, goal_of, is_frozen, is_stuck};
 ghost use Rattle.hay_physical.specs.Faults.{IsDeleteFault, IsFlushFault, IsPutFault};
-ghost use Rattle.hay_physical.specs.Replicas.{Anywhere, ApartFrom, HasLive, Holds, IsIdleCopy, IsLike, KeepsSight, MayDelete, MayDeletePlace, MaySeePlace, ShowsCell, Stands, all_recorded, with_cell, without_cell};
+ghost use Rattle.hay_needle.specs.Tables.{pair_eq};
+ghost use Rattle.hay_physical.specs.Replicas.{Anywhere, ApartFrom, ArePlacesApart, HasLive, Holds, IsApart, IsIdleCopy, IsLike, KeepsSight, MayDelete, MayDeletePlace, MaySee, MaySeePlace, ShowsCell, Stands, all_recorded, with_cell, without_cell};
 
 use crate::fault::ReplicaFault;
 use crate::state::{Copier, OpenFiles, Phase};
@@ -82,8 +83,11 @@ impl<D: Disk> Replica<D> {
         ensures alone { goal_of self.new ≡ None }
         // Whatever the disk had, each photo that was found can be deleted.
         ensures can_delete { D.Tells → IfOk result (λ cells. (pair : Pair) → MayDeletePlace D.files self.new (last_place cells.items pair place.None)) }
-        // Each that was not looked at can be seen, and so can each cell that stands.
+        // Each that was not looked at can be seen, and its needle is apart from the flags of others. Each cell that stands can be
+        // seen.
         ensures can_see { D.Tells → IfOk result (λ cells. (pair : Pair) → MaySeePlace D.files self.new (last_place cells.items pair place.None)) }
+        ensures apart { D.Tells → IfOk result (λ cells. (pair other : Pair) → pair_eq pair other ≡ false →
+            ArePlacesApart (last_place cells.items pair place.None) (last_place cells.items other place.None)) }
         ensures shows { D.Tells → OnOk result ((s : Stored) → Stands D.files self.new s → AllByRecursion (ShowsCell D.files self.new) s.cells) }
 
         // What a refusal leaves, and its cause.
@@ -164,6 +168,7 @@ impl<D: Disk> Replica<D> {
         ensures can_delete { D.Tells → IfOk result (λ needle. MayDelete D.files self.new needle.at) }
         ensures deletes { D.Tells → (place : ℕ) → MayDelete D.files self.old place → MayDelete D.files self.new place }
         ensures sees { D.Tells → KeepsSight D.files Anywhere self.old self.new }
+        ensures apart { D.Tells → IfOk result (λ needle. (at size : ℕ) → MaySee D.files self.old at size → IsApart at size needle.at) }
 
         // A refusal leaves the photos, or a frozen replica, on whose disk the photo stands or not.
         ensures refused { D.Tells → (s : Stored) → Stands D.files self.old s → OnErr result (Stands D.files self.new s

@@ -1,8 +1,9 @@
 use Rattle.std.proofs.Common.{◌≡◌, ap, refl, subst, Err, sym}
 use Rattle.std.proofs.lemmas.Result.{err_from_is_err_and}
 use Rattle.hay_open.specs.Damage.{IsOpeningDamage}
-use Rattle.hay_open.specs.Stored.{IsVoid, OpensAs}
+use Rattle.hay_open.specs.Stored.{IsVoid, OpensAs, fresh_stored}
 use Rattle.hay_physical.specs.Copies.{Copy}
+use Rattle.hay_physical.proofs.Apartness.{found_apart}
 use Rattle.hay_physical.proofs.Deleting.{found_deletes}
 use Rattle.hay_physical.proofs.Holding.{finds_now, finds_opens}
 use Rattle.hay_physical.proofs.Openings.{disk_finds, disk_opens, finds_kept, finds_not_void, on_any, opened_ready, opened_stands, same_fault}
@@ -115,3 +116,8 @@ returns-clause-can_see g c = λ tells pair.
 
 pub returns-clause-shows : goal.returns-clause-shows
 returns-clause-shows g c = λ tells s stands. stands_shows g.D.Disk.files _ s stands
+
+pub returns-clause-apart : goal.returns-clause-apart
+returns-clause-apart g c = λ tells.
+    let done = c.in_ok-head.ensures in
+    found_apart g.D.Piece.Piece.Tells c.self.inside.sup (λ n. (g.D.Disk.files c.self.inside.disk n).now) c.in_ok-head.field-0 (done.whole tells) (done.places tells fresh_stored)

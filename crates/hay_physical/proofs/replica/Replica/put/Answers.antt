@@ -13,6 +13,7 @@ use Rattle.hay_physical.proofs.RunViews.{files_ready, files_settled, run_still, 
 use Rattle.std.proofs.Common.{arith}
 use Rattle.hay_needle.specs.Sizes.{needle_total}
 use Rattle.hay_physical.specs.Replicas.{Anywhere}
+use Rattle.hay_physical.proofs.Apartness.{put_apart}
 use Rattle.hay_physical.proofs.Seeing.{sight_kept}
 use Rattle.hay_physical.proofs.Sights.{range_before}
 use Rattle.hay_physical.proofs.replica.Replica.put.Goals as goal
@@ -116,3 +117,8 @@ returns-clause-sees g c = λ tells.
     let opened = c.in-Open.files in
     sight_kept files Anywhere c.args.self.now was.sup was.disk c.put.new.disk was.phase opened c.put.new.self c.self.view_is c.in-Open.is c.put.ensures.volume.0 c.put.ensures.volume.1
     (λ at size kept within. range_before at (needle_total size) opened.volume.end (files was.disk opened.volume.file) (files c.put.new.disk opened.volume.file) within (omega arith) (c.put.ensures.before tells))
+
+pub returns-clause-apart : goal.returns-clause-apart
+returns-clause-apart g c = λ tells.
+    let was = c.self.inside in
+    if_ok_so c.put.result _ _ (λ needle last at size may. put_apart g.D.Disk.files c.args.self.now was.sup was.disk was.phase c.in-Open.files needle.at at size c.self.view_is c.in-Open.is last may) (c.put.ensures.place tells)
