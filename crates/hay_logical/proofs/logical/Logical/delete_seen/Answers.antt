@@ -18,7 +18,7 @@ use Rattle.hay_logical.proofs.Methods.{same_by, same_still, shaped_on}
 use Rattle.hay_logical.proofs.Standing.{volume_with}
 use Rattle.hay_logical.proofs.Changing.{delete_failed, delete_refused, delete_remains, deleted, deleted_same, not_held, not_some, some_none}
 use Rattle.hay_logical.proofs.Deletable.{delete_row, same_rows}
-use Rattle.hay_logical.proofs.logical.Logical.delete.Goals as goal
+use Rattle.hay_logical.proofs.logical.Logical.delete_seen.Goals as goal
 
 pub returns-in-Some-clause-refused : goal.returns-in-Some-clause-refused
 unfolding Stands
