@@ -122,3 +122,4 @@ latest_is {P = P} Tells cells pair p cell last at = by_place p (subst (λ (o : O
     by_place (place.Live needle) is = record { cell = cell; last = last; place = sym is.at }
     by_place place.Gone is = record { cell = cell; last = last; place = is }
     by_place place.None is = record { cell = cell; last = last; place = is }
+    by_place (place.Unseen there size) is = record { cell = cell; last = last; place = sym is.0 }

@@ -11,6 +11,7 @@ pub mod Finishing
 pub mod Holding
 pub mod Knowing
 pub mod Lists
+pub mod Looking
 pub mod Machines
 pub mod Methods
 pub mod Opened
