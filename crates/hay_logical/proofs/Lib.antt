@@ -3,7 +3,7 @@ pub mod Calls
 pub mod Changing
 pub mod Compacted
 pub mod Compacting
-pub mod Deletable
+pub mod Reaching
 pub mod Dropping
 pub mod Ends
 pub mod Examining
