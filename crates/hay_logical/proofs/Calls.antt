@@ -29,7 +29,7 @@ use Rattle.hay_physical.proofs.Laws.{stands_hold}
 use Rattle.hay_physical.specs.Faults as physical_faults
 use Rattle.hay_logical.specs.Fits.{At}
 use Rattle.hay_logical.specs.Volumes.{CanReach, KeepsCounts, ReachesPlaces}
-use Rattle.hay_logical.specs.Steps.{DeletesAt, FollowsAt, IsFlushFault, IsOpenFault, IsPutFault, KeepsDisk, KeepsReach, LeftAt, LosesRun, OpensAt, PutsAt, RoomFor}
+use Rattle.hay_logical.specs.Steps.{DeletesAt, FollowsAt, IsFlushFault, IsOpenFault, IsPutFault, KeepsDisk, KeepsReach, LeftAt, LosesRun, OpensAt, PutsAt, RoomFor, StaysBeside}
 use Rattle.hay_logical.proofs.Lists.{Went, at_below, at_same, at_set_other, at_set_same, at_there, length-slice_set}
 
 -- PHASES
@@ -145,6 +145,9 @@ delete_rose faults r r' (fault.Damaged at) up thawed cause = absurd cause
 
 pub deletes_on : {D P : Type 0} (DiskTells : Type 0) (files : D → Files) (r r' : Copy D) (p q : Place P) → q ≡ p → DeletesAt DiskTells files p r r' → DeletesAt DiskTells files q r r'
 deletes_on DiskTells files r r' p q e h = subst (λ x. DeletesAt DiskTells files x r r') (sym e) h
+
+pub beside_on : {D P : Type 0} (DiskTells : Type 0) (files : D → Files) (r r' : Copy D) (p q : Place P) → q ≡ p → StaysBeside DiskTells files p r r' → StaysBeside DiskTells files q r r'
+beside_on DiskTells files r r' p q e h = subst (λ x. StaysBeside DiskTells files x r r') (sym e) h
 
 -- ROOM
 

@@ -190,8 +190,8 @@ fn delete_in_order<D: Disk>(
     ensures broken { IfErr result (DeleteLeaves D.Tells D.files D.fault_count row.now replicas.old replicas.new) }
 {
     for (j, replica) in replicas.iter_mut().enumerate() {
-        match row.place(j) {
-            Place::Live(needle) => match replica.delete(pair, needle.at()) {
+        if let Place::Live(needle) = row.place(j) {
+            match replica.delete(pair, needle.at()) {
                 Ok(()) => {}
                 Err(_) => {
                     return Err(DiskFailed {
@@ -199,8 +199,7 @@ fn delete_in_order<D: Disk>(
                         faults: replica.faults(),
                     });
                 }
-            },
-            Place::None | Place::Gone | Place::Unseen { .. } => {}
+            }
         }
     }
     Ok(())
