@@ -19,6 +19,7 @@ pub mod Putting
 pub mod Refusing
 pub mod Reopening
 pub mod Rooms
+pub mod Sighting
 pub mod Standing
 pub mod Stepping
 pub mod SwapShapes

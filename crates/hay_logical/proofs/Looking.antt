@@ -7,10 +7,11 @@ use Rattle.hay_needle.specs.declared.needle.Cell.{Cell}
 use Rattle.hay_needle.specs.declared.needle.Outcome.{Outcome}
 use Rattle.hay_needle.specs.declared.needle.Pair.{Pair}
 use Rattle.hay_needle.specs.Needle.{needle_of_cell}
-use Rattle.hay_needle.specs.Tables.{needle_outcome, pair_eq}
+use Rattle.hay_needle.specs.declared.needle.Outcome.TheVariants as outcome
+use Rattle.hay_needle.specs.Tables.{needle_outcome, outcome_at, pair_eq, table_of}
 use Rattle.hay_needle.proofs.TableLaws.{pair_apart, pair_refl, pair_same}
 use Rattle.hay_disk.specs.Disk.{Files}
-use Rattle.hay_volume.specs.Cells.{HasPlace}
+use Rattle.hay_volume.specs.Cells.{HasPlace, needles_of}
 use Rattle.hay_map.specs.MapRows.{MapRows}
 use Rattle.hay_map.specs.Places.{PlaceMeans, place_in}
 use Rattle.hay_map.specs.Rows.{row_at}
@@ -29,7 +30,7 @@ use Rattle.hay_physical.proofs.Seeing.{last_shows}
 use Rattle.hay_logical.specs.Fits.{IsUnseen, PhotoAt, PlaceStands}
 use Rattle.hay_logical.specs.Steps.{PlacesAre, SetsPlaceAt, SightsAt}
 use Rattle.hay_logical.specs.Volumes.{DeletesPlaces, ReachesPlaces, SeesPlaces}
-use Rattle.hay_logical.proofs.Tables.{last_pair, last_placed, seen_means}
+use Rattle.hay_logical.proofs.Tables.{at_cells, cell_outcome, last_pair, last_placed, place_means, seen_means}
 
 module _ {D : Type 0} (DiskTells : Type 0) (files : D → Files) where
   -- A needle of this size at `at` was seen, and nothing else of the replica changed.
@@ -87,6 +88,12 @@ module _ {D P : Type 0} (DiskTells : Type 0) (files : D → Files) (Tells : Type
         own = last_pair s.cells pair cell e;
         is = told cell e;
       }
+
+  -- the places of a replica that stands
+  pub stored_stands : (r : Copy D) (s : Stored) (pair : Pair) (p : Place P) → physical.Stands files r s → PhotoAt Tells (last_cell s.cells pair) p → PlaceStands files Tells r pair p (outcome_at (table_of (needles_of s.cells)) pair)
+  stored_stands r s pair p stands at =
+      photo_stands r s pair p (outcome_at (table_of (needles_of s.cells)) pair) stands at (λ seen. place_means Tells s.cells pair p seen at)
+      (λ cell last. sym (at_cells s.cells pair ∙ ap (λ (o : Option Cell). cell_outcome o outcome.Nothing) last))
 
   -- The place has become this one, which may be as it was.
   pub record Becomes (at size : ℕ) (pair : Pair) (p : Place P) (r r' : Copy D) : Type 0 where

@@ -2,6 +2,8 @@ use Rattle.std.proofs.Common.{◌≡◌, ◌≤◌, ◌<◌, ◌+◌, ℕ, lengt
 use Rattle.std.specs.Vec.{with_items}
 use Rattle.std.proofs.lemmas.List.{with_items_is}
 use Rattle.hay_map.specs.Places.{place_in}
+use Rattle.hay_map.specs.Rows.{row_at}
+use Rattle.hay_compact.specs.Finishing.{IsSeen}
 use Rattle.hay_physical.specs.Copies.{Copy, IsUp, is_frozen}
 use Rattle.hay_physical.specs.Copies as copies
 use Rattle.hay_physical.specs.Replicas as physical
@@ -10,39 +12,36 @@ use Rattle.hay_logical.specs.declared.unsure.Change.TheVariants as change
 use Rattle.hay_logical.specs.Answers.{DeleteRefused, HasFailed, IsDeleted}
 use Rattle.hay_logical.specs.Fits.{At}
 use Rattle.hay_logical.specs.Stands.{Stands, StandsFor}
-use Rattle.hay_logical.specs.Steps.{DeleteLeaves, DeletesAt}
-use Rattle.hay_logical.specs.Volumes.{CanDelete, IsShaped, KeepsCounts}
+use Rattle.hay_logical.specs.Steps.{DeleteLeaves, DeletesAt, KeepsReach}
+use Rattle.hay_logical.specs.Volumes.{CanReach, IsShaped, KeepsCounts}
 use Rattle.hay_logical.proofs.Calls.{open_up, up_open, up_thawed}
 use Rattle.hay_logical.proofs.Lists.{at_below, at_there}
 use Rattle.hay_logical.proofs.Methods.{same_by, same_still, shaped_on}
 use Rattle.hay_logical.proofs.Standing.{volume_with}
-use Rattle.hay_logical.proofs.Changing.{delete_failed, delete_refused, delete_remains, deleted, deleted_same, not_held, not_some, some_none}
-use Rattle.hay_logical.proofs.Deletable.{delete_row, same_rows}
+use Rattle.hay_logical.proofs.Changing.{delete_failed, delete_refused, delete_remains, deleted, deleted_same, not_held, some_none}
+use Rattle.hay_logical.proofs.Reaching.{delete_row, failed_row}
 use Rattle.hay_logical.proofs.logical.Logical.delete_seen.Goals as goal
 
-pub returns-in-Some-clause-refused : goal.returns-in-Some-clause-refused
-unfolding Stands
-returns-in-Some-clause-refused g c = λ tells k stands. (stands.frozen ∙ ap (λ v. v.frozen) (sym c.self.view_is) ∙ c.in-Some.is, refl)
 
 pub returns-then-not-has_live-clause-refused : goal.returns-then-not-has_live-clause-refused
 unfolding Stands
 returns-then-not-has_live-clause-refused g c = λ tells k stands.
     let given = subst (λ v. StandsFor g.D.Disk.files g.D.Piece.Piece.Tells v k) (sym c.self.view_is) stands in (
-      given.frozen ∙ not_some c.self.inside.frozen c.in_default.not-Some,
+      given.frozen ∙ ap (λ v. v.frozen) c.self.view_is ∙ c.requires.thawed,
       not_held c.self.inside.settings c.self.inside.number g.D.Disk.Tells g.D.Disk.files g.D.Piece.Piece.Tells g.D.Disk.fault_count g.D.Disk.fuse_count c.self.inside.replicas.items c.self.inside.rows c.self.inside.front c.self.inside.frozen c.self.inside.unsure k c.args.pair c.row-row.result given
-          c.row-row.ensures.row (c.row-row.ensures.long ∙ (c.self.invariant.0).width) (c.has_live.ensures.none c.if-not-has_live.true),
+          c.row-row.ensures.row (c.row-row.ensures.long ∙ (c.self.invariant.0).width) (λ j h. subst (λ v. IsSeen (place_in (row_at v.rows c.args.pair) j)) (sym c.self.view_is) (c.requires.seen j (subst (λ v. j < v.settings.replicas) c.self.view_is h))) (c.has_live.ensures.none c.if-not-has_live.true),
       given.front,
-      refl,
+      stands,
     )
 
-pub returns-in_default-checked_add-clause-refused : goal.returns-in_default-checked_add-clause-refused
+pub returns-in-None-clause-refused : goal.returns-in-None-clause-refused
 unfolding Stands
-returns-in_default-checked_add-clause-refused g c = λ tells k stands. (stands.frozen ∙ ap (λ v. v.frozen) (sym c.self.view_is) ∙ not_some c.self.inside.frozen c.in_default.not-Some, refl)
+returns-in-None-clause-refused g c = λ tells k stands. (stands.frozen ∙ c.requires.thawed, stands)
 
 pub delete_each-requires-after_bounds : goal.delete_each-requires-after_bounds
 delete_each-requires-after_bounds g c = λ κs lives.
     let now = c.as_mut_slice.ensures.value in
-    let thawed = not_some c.self.inside.frozen c.in_default.not-Some in
+    let thawed = ap (λ v. v.frozen) c.self.view_is ∙ c.requires.thawed in
     let up : (j : ℕ) (r : Copy g.row.D.Denot) → At c.self.inside.replicas.items j r → IsUp r =
     λ j r e. open_up r (c.requires.«open».each j r (subst (λ v. At v.replicas j r) c.self.view_is e)) ((c.self.invariant.0).thawed thawed j r e) in
     let all : length c.self.inside.replicas.items ≡ c.self.inside.settings.replicas = ap (λ v. length v.replicas) c.self.view_is ∙ c.requires.«open».all ∙ ap (λ v. v.settings.replicas) (sym c.self.view_is) in
@@ -58,7 +57,7 @@ delete_each-requires-after_bounds g c = λ κs lives.
             λ j r e. up j r (subst (λ xs. At xs j r) now e),
             λ tells j r e needle is.
                 let there = subst (λ xs. At xs j r) now e in
-                subst (physical.MayDeletePlace g.D.Disk.files r) (ap (λ l. place_in l j) (sym c.row-row.ensures.row) ∙ is) (c.self.invariant.2 tells j r there (up j r there) c.args.pair),
+                subst (physical.MayDeletePlace g.D.Disk.files r) (ap (λ l. place_in l j) (sym c.row-row.ensures.row) ∙ is) ((c.self.invariant.2 tells j r there).deletes (up j r there) c.args.pair),
           ),
         ),
       ),
@@ -68,7 +67,7 @@ pub invariant_of-self : goal.invariant_of-self
 invariant_of-self g c =
     let now = c.as_mut_slice.ensures.value in
     let kept = with_items_is c.self.inside.replicas c.delete_each.new.replicas (c.delete_each.auto.replicas ∙ c.as_mut_slice.ensures.len) in
-    let thawed = not_some c.self.inside.frozen c.in_default.not-Some in
+    let thawed = ap (λ v. v.frozen) c.self.view_is ∙ c.requires.thawed in
     let up : (j : ℕ) (r : Copy g.row.D.Denot) → At c.self.inside.replicas.items j r → IsUp r =
     λ j r e. open_up r (c.requires.«open».each j r (subst (λ v. At v.replicas j r) c.self.view_is e)) ((c.self.invariant.0).thawed thawed j r e) in
     let each : (j : ℕ) (r r' : Copy g.row.D.Denot) → At c.self.inside.replicas.items j r → At c.delete_each.new.replicas j r' → DeletesAt g.D.Disk.Tells g.D.Disk.files (place_in c.row-row.result j) r r' =
@@ -79,9 +78,10 @@ invariant_of-self g c =
           (shaped_on c.self.inside.settings c.self.inside.number c.self.inside.replicas.items c.delete_each.new.replicas c.self.inside.rows c.del.new.self c.self.inside.front c.in-Some-checked_add.position c.self.inside.frozen c.self.inside.frozen c.self.inside.unsure c.self.inside.unsure
           c.self.invariant.0 (c.delete_each.ensures.counts.count ∙ ap length now) (λ j r r' e f. (step j r r' e f).1) c.del.ensures.replicas (λ none j r r' e f. up_thawed r' (step j r r' e f).0)),
       c.self.invariant.1,
-      subst (λ rs. CanDelete g.D.Disk.Tells g.D.Disk.files rs c.del.new.self) (sym kept)
+      subst (λ rs. CanReach g.D.Disk.Tells g.D.Disk.files rs c.del.new.self) (sym kept)
           (delete_row g.D.Disk.Tells g.D.Disk.files c.self.inside.replicas.items c.delete_each.new.replicas c.self.inside.rows c.del.new.self c.self.invariant.2 (c.delete_each.ensures.counts.count ∙ ap length now)
-          (λ j r r' e f u. up j r e) (λ j r r' e f. c.delete_each.ensures.deletable j r r' (subst (λ xs. At xs j r) (sym now) e) f) c.args.pair c.del.ensures.rows),
+          (λ j r r' e f. (λ u. up j r e, λ u. up_open r (up j r e))) c.args.pair c.del.ensures.rows
+          (λ j r r' e f tells. subst (λ l. KeepsReach g.D.Disk.files (λ at size. physical.IsApartPlace at size (place_in l j)) r r') c.row-row.ensures.row (c.delete_each.ensures.reach j r r' (subst (λ xs. At xs j r) (sym now) e) f tells))),
     )
 
 pub returns-in-Ok-clause-deleted : goal.returns-in-Ok-clause-deleted
@@ -89,7 +89,7 @@ unfolding Stands
 returns-in-Ok-clause-deleted g c = λ tells k stands.
     let now = c.as_mut_slice.ensures.value in
     let kept = with_items_is c.self.inside.replicas c.delete_each.new.replicas (c.delete_each.auto.replicas ∙ c.as_mut_slice.ensures.len) in
-    let thawed = not_some c.self.inside.frozen c.in_default.not-Some in
+    let thawed = ap (λ v. v.frozen) c.self.view_is ∙ c.requires.thawed in
     let up : (j : ℕ) (r : Copy g.row.D.Denot) → At c.self.inside.replicas.items j r → IsUp r =
     λ j r e. open_up r (c.requires.«open».each j r (subst (λ v. At v.replicas j r) c.self.view_is e)) ((c.self.invariant.0).thawed thawed j r e) in
     let each : (j : ℕ) (r r' : Copy g.row.D.Denot) → At c.self.inside.replicas.items j r → At c.delete_each.new.replicas j r' → DeletesAt g.D.Disk.Tells g.D.Disk.files (place_in c.row-row.result j) r r' =
@@ -99,14 +99,14 @@ returns-in-Ok-clause-deleted g c = λ tells k stands.
     (subst (λ rs. IsDeleted g.D.Disk.files g.D.Disk.fault_count g.D.Piece.Piece.Tells k c.args.tag c.args.pair c.in-Some-checked_add.position (volume_with c.self.inside.settings c.self.inside.number c.self.inside.replicas.items c.self.inside.rows c.self.inside.front c.self.inside.frozen c.self.inside.unsure) (volume_with c.self.inside.settings c.self.inside.number rs c.del.new.self c.in-Some-checked_add.position c.self.inside.frozen c.self.inside.unsure)) (sym kept)
     (deleted c.self.inside.settings c.self.inside.number g.D.Disk.Tells g.D.Disk.files g.D.Piece.Piece.Tells g.D.Disk.fault_count g.D.Disk.fuse_count tells c.self.inside.replicas.items c.delete_each.new.replicas c.self.inside.rows c.del.new.self c.self.inside.front c.in-Some-checked_add.position c.self.inside.frozen c.self.inside.unsure k c.args.tag c.args.pair c.row-row.result
     (subst (λ v. StandsFor g.D.Disk.files g.D.Piece.Piece.Tells v k) (sym c.self.view_is) stands) thawed (c.delete_each.ensures.counts.count ∙ ap length now) next
-    c.row-row.ensures.row (c.row-row.ensures.long ∙ (c.self.invariant.0).width) (c.has_live.ensures.some c.if-not-has_live.false) c.del.ensures.rows up each
+    c.row-row.ensures.row (c.row-row.ensures.long ∙ (c.self.invariant.0).width) (λ j h. subst (λ v. IsSeen (place_in (row_at v.rows c.args.pair) j)) (sym c.self.view_is) (c.requires.seen j (subst (λ v. j < v.settings.replicas) c.self.view_is h))) (c.has_live.ensures.some c.if-not-has_live.false) c.del.ensures.rows up each
     (λ j r r' e f. c.in-Ok.ensures.follow j r r' (subst (λ xs. At xs j r) (sym now) e) f)))
 
 pub returns-in-Ok-clause-open : goal.returns-in-Ok-clause-open
 returns-in-Ok-clause-open g c =
     let now = c.as_mut_slice.ensures.value in
     let kept = with_items_is c.self.inside.replicas c.delete_each.new.replicas (c.delete_each.auto.replicas ∙ c.as_mut_slice.ensures.len) in
-    let thawed = not_some c.self.inside.frozen c.in_default.not-Some in
+    let thawed = ap (λ v. v.frozen) c.self.view_is ∙ c.requires.thawed in
     let up : (j : ℕ) (r : Copy g.row.D.Denot) → At c.self.inside.replicas.items j r → IsUp r =
     λ j r e. open_up r (c.requires.«open».each j r (subst (λ v. At v.replicas j r) c.self.view_is e)) ((c.self.invariant.0).thawed thawed j r e) in
     let all : length c.self.inside.replicas.items ≡ c.self.inside.settings.replicas = ap (λ v. length v.replicas) c.self.view_is ∙ c.requires.«open».all ∙ ap (λ v. v.settings.replicas) (sym c.self.view_is) in
@@ -139,7 +139,7 @@ pub invariant_of-self-in-Err : goal.invariant_of-self-in-Err
 invariant_of-self-in-Err g c =
     let now = c.as_mut_slice.ensures.value in
     let kept = with_items_is c.self.inside.replicas c.delete_each.new.replicas (c.delete_each.auto.replicas ∙ c.as_mut_slice.ensures.len) in
-    let thawed = not_some c.self.inside.frozen c.in_default.not-Some in
+    let thawed = ap (λ v. v.frozen) c.self.view_is ∙ c.requires.thawed in
     let up : (j : ℕ) (r : Copy g.row.D.Denot) → At c.self.inside.replicas.items j r → IsUp r =
     λ j r e. open_up r (c.requires.«open».each j r (subst (λ v. At v.replicas j r) c.self.view_is e)) ((c.self.invariant.0).thawed thawed j r e) in
     let left : DeleteLeaves g.D.Disk.Tells g.D.Disk.files g.D.Disk.fault_count c.row-row.result c.self.inside.replicas.items c.delete_each.new.replicas c.in-Err.failed =
@@ -149,9 +149,12 @@ invariant_of-self-in-Err g c =
           (shaped_on c.self.inside.settings c.self.inside.number c.self.inside.replicas.items c.delete_each.new.replicas c.self.inside.rows c.self.inside.rows c.self.inside.front c.self.inside.front c.self.inside.frozen (Some c.machine_of-machine.result) c.self.inside.unsure (Some (record { tag = c.args.tag; change = change.Delete c.args.pair }))
           c.self.invariant.0 (c.delete_each.ensures.counts.count ∙ ap length now) (λ j r r' e f. (remains j r r' e f).sup) refl (λ none j r r' e f. some_none none)),
       c.self.invariant.1,
-      subst (λ rs. CanDelete g.D.Disk.Tells g.D.Disk.files rs c.self.inside.rows) (sym kept)
-          (same_rows g.D.Disk.Tells g.D.Disk.files c.self.inside.replicas.items c.delete_each.new.replicas c.self.inside.rows c.self.inside.rows c.self.invariant.2 (c.delete_each.ensures.counts.count ∙ ap length now)
-          (λ j r r' e f u. up j r e) (λ j r r' e f. c.delete_each.ensures.deletable j r r' (subst (λ xs. At xs j r) (sym now) e) f) (λ pair. refl)),
+      subst (λ rs. CanReach g.D.Disk.Tells g.D.Disk.files rs c.self.inside.rows) (sym kept)
+          (failed_row g.D.Disk.Tells g.D.Disk.files c.self.inside.replicas.items c.delete_each.new.replicas c.self.inside.rows c.self.inside.rows c.self.invariant.2 (c.delete_each.ensures.counts.count ∙ ap length now)
+          (λ j r r' e f. (λ u. up j r e, λ u. up_open r (up j r e))) c.args.pair (λ pair. refl)
+          (λ j r r' e f tells. subst (λ l. KeepsReach g.D.Disk.files (λ at size. physical.IsApartPlace at size (place_in l j)) r r') c.row-row.ensures.row (c.delete_each.ensures.reach j r r' (subst (λ xs. At xs j r) (sym now) e) f tells))
+          (λ j r e at size here. let below = at_below c.self.inside.replicas.items j r e in let all : length c.self.inside.replicas.items ≡ c.self.inside.settings.replicas = ap (λ v. length v.replicas) c.self.view_is ∙ c.requires.«open».all ∙ ap (λ v. v.settings.replicas) (sym c.self.view_is) in
+          let within : j < c.self.inside.settings.replicas = omega (arith, below, all) in let never : ⊥ = subst IsSeen here ((λ j h. subst (λ v. IsSeen (place_in (row_at v.rows c.args.pair) j)) (sym c.self.view_is) (c.requires.seen j (subst (λ v. j < v.settings.replicas) c.self.view_is h))) j within) in never)),
     )
 
 pub returns-clause-refused : goal.returns-clause-refused
@@ -159,17 +162,18 @@ unfolding Stands
 returns-clause-refused g c = λ tells k stands.
     let now = c.as_mut_slice.ensures.value in
     let kept = with_items_is c.self.inside.replicas c.delete_each.new.replicas (c.delete_each.auto.replicas ∙ c.as_mut_slice.ensures.len) in
-    let thawed = not_some c.self.inside.frozen c.in_default.not-Some in
+    let thawed = ap (λ v. v.frozen) c.self.view_is ∙ c.requires.thawed in
     let up : (j : ℕ) (r : Copy g.row.D.Denot) → At c.self.inside.replicas.items j r → IsUp r =
     λ j r e. open_up r (c.requires.«open».each j r (subst (λ v. At v.replicas j r) c.self.view_is e)) ((c.self.invariant.0).thawed thawed j r e) in
     let left : DeleteLeaves g.D.Disk.Tells g.D.Disk.files g.D.Disk.fault_count c.row-row.result c.self.inside.replicas.items c.delete_each.new.replicas c.in-Err.failed =
     subst (λ xs. DeleteLeaves g.D.Disk.Tells g.D.Disk.files g.D.Disk.fault_count c.row-row.result xs c.delete_each.new.replicas c.in-Err.failed) now c.in-Err.ensures.broken in
-    subst (λ rs. DeleteRefused g.D.Disk.files g.D.Piece.Piece.Tells k c.args.tag c.args.pair (volume_with c.self.inside.settings c.self.inside.number c.self.inside.replicas.items c.self.inside.rows c.self.inside.front c.self.inside.frozen c.self.inside.unsure)
+    subst (λ rs. DeleteRefused g.D.Disk.files g.D.Piece.Piece.Tells k c.args.tag c.args.pair
     (volume_with c.self.inside.settings c.self.inside.number rs c.self.inside.rows c.self.inside.front (Some c.machine_of-machine.result) (Some (record { tag = c.args.tag; change = change.Delete c.args.pair })))
     (fault.Failed c.machine_of-machine.result c.in-Err.failed.faults)) (sym kept)
     (delete_refused c.self.inside.settings c.self.inside.number g.D.Disk.Tells g.D.Disk.files g.D.Piece.Piece.Tells g.D.Disk.fault_count g.D.Disk.fuse_count tells c.self.inside.replicas.items c.delete_each.new.replicas c.self.inside.rows c.self.inside.front c.self.inside.frozen c.self.inside.unsure k c.args.tag c.args.pair c.row-row.result c.in-Err.failed
     c.machine_of-machine.result (subst (λ v. StandsFor g.D.Disk.files g.D.Piece.Piece.Tells v k) (sym c.self.view_is) stands) thawed (c.delete_each.ensures.counts.count ∙ ap length now) c.row-row.ensures.row
-    (c.row-row.ensures.long ∙ (c.self.invariant.0).width) (c.has_live.ensures.some c.if-not-has_live.false) c.machine_of-machine.ensures left c.in-Err.ensures.runs)
+    (c.row-row.ensures.long ∙ (c.self.invariant.0).width) (λ j h. subst (λ v. IsSeen (place_in (row_at v.rows c.args.pair) j)) (sym c.self.view_is) (c.requires.seen j (subst (λ v. j < v.settings.replicas) c.self.view_is h))) (c.has_live.ensures.some c.if-not-has_live.false) c.machine_of-machine.ensures left c.in-Err.ensures.runs
+    c.self.invariant.2 (λ j r e. up_open r (up j r e)) (λ j r r' e f. c.delete_each.ensures.reach j r r' (subst (λ xs. At xs j r) (sym now) e) f))
 
 pub returns-clause-causes : goal.returns-clause-causes
 returns-clause-causes g c =
@@ -186,7 +190,7 @@ pub returns-clause-open : goal.returns-clause-open
 returns-clause-open g c =
     let now = c.as_mut_slice.ensures.value in
     let kept = with_items_is c.self.inside.replicas c.delete_each.new.replicas (c.delete_each.auto.replicas ∙ c.as_mut_slice.ensures.len) in
-    let thawed = not_some c.self.inside.frozen c.in_default.not-Some in
+    let thawed = ap (λ v. v.frozen) c.self.view_is ∙ c.requires.thawed in
     let up : (j : ℕ) (r : Copy g.row.D.Denot) → At c.self.inside.replicas.items j r → IsUp r =
     λ j r e. open_up r (c.requires.«open».each j r (subst (λ v. At v.replicas j r) c.self.view_is e)) ((c.self.invariant.0).thawed thawed j r e) in
     let left : DeleteLeaves g.D.Disk.Tells g.D.Disk.files g.D.Disk.fault_count c.row-row.result c.self.inside.replicas.items c.delete_each.new.replicas c.in-Err.failed =
@@ -207,20 +211,17 @@ returns-clause-counts g c =
     subst (λ rs. KeepsCounts g.D.Disk.fault_count g.D.Disk.fuse_count c.args.self.now.replicas rs) (sym kept)
     (subst (λ xs. KeepsCounts g.D.Disk.fault_count g.D.Disk.fuse_count xs c.delete_each.new.replicas) (now ∙ ap (λ v. v.replicas) c.self.view_is) c.delete_each.ensures.counts)
 
-pub returns-in-Some-clause-same : goal.returns-in-Some-clause-same
-returns-in-Some-clause-same g c = same_still _
-
 pub returns-then-not-has_live-clause-same : goal.returns-then-not-has_live-clause-same
 returns-then-not-has_live-clause-same g c = same_still _
 
-pub returns-in_default-checked_add-clause-same : goal.returns-in_default-checked_add-clause-same
-returns-in_default-checked_add-clause-same g c = same_still _
+pub returns-in-None-clause-same : goal.returns-in-None-clause-same
+returns-in-None-clause-same g c = same_still _
 
 pub returns-in-Ok-clause-same : goal.returns-in-Ok-clause-same
 returns-in-Ok-clause-same g c =
     let now = c.as_mut_slice.ensures.value in
     let kept = with_items_is c.self.inside.replicas c.delete_each.new.replicas (c.delete_each.auto.replicas ∙ c.as_mut_slice.ensures.len) in
-    let thawed = not_some c.self.inside.frozen c.in_default.not-Some in
+    let thawed = ap (λ v. v.frozen) c.self.view_is ∙ c.requires.thawed in
     let up : (j : ℕ) (r : Copy g.row.D.Denot) → At c.self.inside.replicas.items j r → IsUp r =
     λ j r e. open_up r (c.requires.«open».each j r (subst (λ v. At v.replicas j r) c.self.view_is e)) ((c.self.invariant.0).thawed thawed j r e) in
     same_by _ _ _ _ c.self.view_is refl refl kept
@@ -230,7 +231,7 @@ pub returns-clause-same : goal.returns-clause-same
 returns-clause-same g c =
     let now = c.as_mut_slice.ensures.value in
     let kept = with_items_is c.self.inside.replicas c.delete_each.new.replicas (c.delete_each.auto.replicas ∙ c.as_mut_slice.ensures.len) in
-    let thawed = not_some c.self.inside.frozen c.in_default.not-Some in
+    let thawed = ap (λ v. v.frozen) c.self.view_is ∙ c.requires.thawed in
     let up : (j : ℕ) (r : Copy g.row.D.Denot) → At c.self.inside.replicas.items j r → IsUp r =
     λ j r e. open_up r (c.requires.«open».each j r (subst (λ v. At v.replicas j r) c.self.view_is e)) ((c.self.invariant.0).thawed thawed j r e) in
     let left : DeleteLeaves g.D.Disk.Tells g.D.Disk.files g.D.Disk.fault_count c.row-row.result c.self.inside.replicas.items c.delete_each.new.replicas c.in-Err.failed =
