@@ -34,9 +34,9 @@ returns-then-not-has_live-clause-refused g c = λ tells k stands.
       stands,
     )
 
-pub returns-in-None-clause-refused : goal.returns-in-None-clause-refused
+pub returns-in_default-clause-refused : goal.returns-in_default-clause-refused
 unfolding Stands
-returns-in-None-clause-refused g c = λ tells k stands. (stands.frozen ∙ c.requires.thawed, stands)
+returns-in_default-clause-refused g c = λ tells k stands. (stands.frozen ∙ c.requires.thawed, stands)
 
 pub delete_each-requires-after_bounds : goal.delete_each-requires-after_bounds
 delete_each-requires-after_bounds g c = λ κs lives.
@@ -74,8 +74,8 @@ invariant_of-self g c =
     λ j r r' e f. c.in-Ok.ensures.deleted j r r' (subst (λ xs. At xs j r) (sym now) e) f in
     let step : (j : ℕ) (r r' : Copy g.row.D.Denot) → At c.self.inside.replicas.items j r → At c.delete_each.new.replicas j r' → IsUp r' × (r'.sup ≡ r.sup) × (copies.is_stuck r' ≡ copies.is_stuck r) =
     λ j r r' e f. deleted_same g.D.Disk.Tells g.D.Disk.files (place_in c.row-row.result j) r r' (each j r r' e f) (up j r e) in (
-      subst (λ rs. IsShaped (volume_with c.self.inside.settings c.self.inside.number rs c.del.new.self c.in-Some-checked_add.position c.self.inside.frozen c.self.inside.unsure)) (sym kept)
-          (shaped_on c.self.inside.settings c.self.inside.number c.self.inside.replicas.items c.delete_each.new.replicas c.self.inside.rows c.del.new.self c.self.inside.front c.in-Some-checked_add.position c.self.inside.frozen c.self.inside.frozen c.self.inside.unsure c.self.inside.unsure
+      subst (λ rs. IsShaped (volume_with c.self.inside.settings c.self.inside.number rs c.del.new.self c.in-Some.position c.self.inside.frozen c.self.inside.unsure)) (sym kept)
+          (shaped_on c.self.inside.settings c.self.inside.number c.self.inside.replicas.items c.delete_each.new.replicas c.self.inside.rows c.del.new.self c.self.inside.front c.in-Some.position c.self.inside.frozen c.self.inside.frozen c.self.inside.unsure c.self.inside.unsure
           c.self.invariant.0 (c.delete_each.ensures.counts.count ∙ ap length now) (λ j r r' e f. (step j r r' e f).1) c.del.ensures.replicas (λ none j r r' e f. up_thawed r' (step j r r' e f).0)),
       c.self.invariant.1,
       subst (λ rs. CanReach g.D.Disk.Tells g.D.Disk.files rs c.del.new.self) (sym kept)
@@ -94,10 +94,10 @@ returns-in-Ok-clause-deleted g c = λ tells k stands.
     λ j r e. open_up r (c.requires.«open».each j r (subst (λ v. At v.replicas j r) c.self.view_is e)) ((c.self.invariant.0).thawed thawed j r e) in
     let each : (j : ℕ) (r r' : Copy g.row.D.Denot) → At c.self.inside.replicas.items j r → At c.delete_each.new.replicas j r' → DeletesAt g.D.Disk.Tells g.D.Disk.files (place_in c.row-row.result j) r r' =
     λ j r r' e f. c.in-Ok.ensures.deleted j r r' (subst (λ xs. At xs j r) (sym now) e) f in
-    let next : c.in-Some-checked_add.position ≡ c.self.inside.front + 1 = (let h = c.in-Some-checked_add.ensures in omega (arith, h)) in
-    subst (λ v. IsDeleted g.D.Disk.files g.D.Disk.fault_count g.D.Piece.Piece.Tells k c.args.tag c.args.pair c.in-Some-checked_add.position v (volume_with c.self.inside.settings c.self.inside.number ((with_items c.self.inside.replicas c.delete_each.new.replicas).items) c.del.new.self c.in-Some-checked_add.position c.self.inside.frozen c.self.inside.unsure)) c.self.view_is
-    (subst (λ rs. IsDeleted g.D.Disk.files g.D.Disk.fault_count g.D.Piece.Piece.Tells k c.args.tag c.args.pair c.in-Some-checked_add.position (volume_with c.self.inside.settings c.self.inside.number c.self.inside.replicas.items c.self.inside.rows c.self.inside.front c.self.inside.frozen c.self.inside.unsure) (volume_with c.self.inside.settings c.self.inside.number rs c.del.new.self c.in-Some-checked_add.position c.self.inside.frozen c.self.inside.unsure)) (sym kept)
-    (deleted c.self.inside.settings c.self.inside.number g.D.Disk.Tells g.D.Disk.files g.D.Piece.Piece.Tells g.D.Disk.fault_count g.D.Disk.fuse_count tells c.self.inside.replicas.items c.delete_each.new.replicas c.self.inside.rows c.del.new.self c.self.inside.front c.in-Some-checked_add.position c.self.inside.frozen c.self.inside.unsure k c.args.tag c.args.pair c.row-row.result
+    let next : c.in-Some.position ≡ c.self.inside.front + 1 = (let h = c.in-Some.ensures in omega (arith, h)) in
+    subst (λ v. IsDeleted g.D.Disk.files g.D.Disk.fault_count g.D.Piece.Piece.Tells k c.args.tag c.args.pair c.in-Some.position v (volume_with c.self.inside.settings c.self.inside.number ((with_items c.self.inside.replicas c.delete_each.new.replicas).items) c.del.new.self c.in-Some.position c.self.inside.frozen c.self.inside.unsure)) c.self.view_is
+    (subst (λ rs. IsDeleted g.D.Disk.files g.D.Disk.fault_count g.D.Piece.Piece.Tells k c.args.tag c.args.pair c.in-Some.position (volume_with c.self.inside.settings c.self.inside.number c.self.inside.replicas.items c.self.inside.rows c.self.inside.front c.self.inside.frozen c.self.inside.unsure) (volume_with c.self.inside.settings c.self.inside.number rs c.del.new.self c.in-Some.position c.self.inside.frozen c.self.inside.unsure)) (sym kept)
+    (deleted c.self.inside.settings c.self.inside.number g.D.Disk.Tells g.D.Disk.files g.D.Piece.Piece.Tells g.D.Disk.fault_count g.D.Disk.fuse_count tells c.self.inside.replicas.items c.delete_each.new.replicas c.self.inside.rows c.del.new.self c.self.inside.front c.in-Some.position c.self.inside.frozen c.self.inside.unsure k c.args.tag c.args.pair c.row-row.result
     (subst (λ v. StandsFor g.D.Disk.files g.D.Piece.Piece.Tells v k) (sym c.self.view_is) stands) thawed (c.delete_each.ensures.counts.count ∙ ap length now) next
     c.row-row.ensures.row (c.row-row.ensures.long ∙ (c.self.invariant.0).width) (λ j h. subst (λ v. IsSeen (place_in (row_at v.rows c.args.pair) j)) (sym c.self.view_is) (c.requires.seen j (subst (λ v. j < v.settings.replicas) c.self.view_is h))) (c.has_live.ensures.some c.if-not-has_live.false) c.del.ensures.rows up each
     (λ j r r' e f. c.in-Ok.ensures.follow j r r' (subst (λ xs. At xs j r) (sym now) e) f)))
@@ -154,7 +154,7 @@ invariant_of-self-in-Err g c =
           (λ j r r' e f. (λ u. up j r e, λ u. up_open r (up j r e))) c.args.pair (λ pair. refl)
           (λ j r r' e f tells. subst (λ l. KeepsReach g.D.Disk.files (λ at size. physical.IsApartPlace at size (place_in l j)) r r') c.row-row.ensures.row (c.delete_each.ensures.reach j r r' (subst (λ xs. At xs j r) (sym now) e) f tells))
           (λ j r e at size here. let below = at_below c.self.inside.replicas.items j r e in let all : length c.self.inside.replicas.items ≡ c.self.inside.settings.replicas = ap (λ v. length v.replicas) c.self.view_is ∙ c.requires.«open».all ∙ ap (λ v. v.settings.replicas) (sym c.self.view_is) in
-          let within : j < c.self.inside.settings.replicas = omega (arith, below, all) in let never : ⊥ = subst IsSeen here ((λ j h. subst (λ v. IsSeen (place_in (row_at v.rows c.args.pair) j)) (sym c.self.view_is) (c.requires.seen j (subst (λ v. j < v.settings.replicas) c.self.view_is h))) j within) in never)),
+          let within : j < c.self.inside.settings.replicas = omega (arith, below, all) in let never : ⊥ = subst IsSeen here (subst (λ v. IsSeen (place_in (row_at v.rows c.args.pair) j)) (sym c.self.view_is) (c.requires.seen j (subst (λ v. j < v.settings.replicas) c.self.view_is within))) in never)),
     )
 
 pub returns-clause-refused : goal.returns-clause-refused
@@ -214,8 +214,8 @@ returns-clause-counts g c =
 pub returns-then-not-has_live-clause-same : goal.returns-then-not-has_live-clause-same
 returns-then-not-has_live-clause-same g c = same_still _
 
-pub returns-in-None-clause-same : goal.returns-in-None-clause-same
-returns-in-None-clause-same g c = same_still _
+pub returns-in_default-clause-same : goal.returns-in_default-clause-same
+returns-in_default-clause-same g c = same_still _
 
 pub returns-in-Ok-clause-same : goal.returns-in-Ok-clause-same
 returns-in-Ok-clause-same g c =
