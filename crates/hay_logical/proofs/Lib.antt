@@ -26,3 +26,4 @@ pub mod SwapShapes
 pub mod SwapSizes
 pub mod Swapping
 pub mod Tables
+pub mod Through

@@ -1,80 +1,74 @@
-use Rattle.std.proofs.Common.{rules, ◌≡◌, ◌≢◌, ◌⊎◌, ◌≤◌, ◌<◌, ◌+◌, ◌++◌, ◌∷◌, [], ℕ, List, Option, Some, None, true, false, length, map, option_map, Ok, Err, IfOk, IfErr, IfSome, IfNone, OnOk, OnErr, ◌-◌, ◌*◌, ◌/◌, ◌%◌, Bool, nat_eq, nat_lt, slice_index_or, slice_set, bit_and, bit_or, Fits, w8, w32, w64, Bor, MutBor}
-use Rattle.hay_disk.specs.Counts.{IsNext, Rose}
-use Rattle.hay_disk.specs.Disk.{MayLeave}
-use Rattle.hay_legal.specs.declared.known.VolumeKnown.{VolumeKnown}
-use Rattle.hay_legal.specs.Known.{machine_of, now, replica_at, room_refusal_of}
-use Rattle.hay_needle.specs.Tables.{outcome_at}
-use Rattle.hay_map.specs.Places.{PlaceMeans, place_in}
-use Rattle.hay_map.specs.Rows.{row_at}
-use Rattle.hay_open.specs.Damage.{IsOpeningDamage}
-use Rattle.hay_open.specs.declared.fault.OpenFault.TheVariants as open_fault
-use Rattle.hay_physical.specs.declared.state.Phase.TheVariants.{Closed}
-use Rattle.hay_physical.specs.Copies.{Copy, contents_of, goal_of}
-use Rattle.hay_physical.specs.Copies as copies
-use Rattle.hay_compact.specs.Finishing.{IsSeen}
-use Rattle.hay_logical.specs.Fits.{At, PlaceStands, super_of}
-use Rattle.hay_logical.specs.Steps.{IsRefusedAt, KeepsDisk, RoomFor, SetsPlaceAt}
-use Rattle.hay_logical.specs.Volumes.{HasAll, IsClosed, IsOfSettings, IsOpenVolume, IsSame, KeepsCounts}
-use Rattle.hay_logical.specs.Stands.{Holds, IsFirst, IsIdleVolume, Stands, Stopped}
-use Rattle.hay_logical.specs.Answers.{BeginRefused, CompactRefused, DeleteRefused, FinishRefused, FlushRefused, IsBeginFault, IsBegun, IsCompactFault, IsCompacted, IsDeleteFault, IsDeleted, IsFinished, IsFlushFault, IsFlushed, IsPut, IsPutFault, IsReopened, IsRoomFault, IsRunFault, IsSightFault, IsStepped, PutRefused, RemovesOld, StepRefused, room_answer}
+use Rattle.std.proofs.Common.{rules, ◌≡◌, ◌<◌, ◌≤◌, ℕ, Err, refl, sym, ap, subst, ◌∙◌, arith}
+use Rattle.std.specs.Prelude.{IfErr}
+use Rattle.std.proofs.lemmas.Result.{err_from_is_err_and}
+use Rattle.hay_logical.specs.declared.fault.LogicalFault.{LogicalFault}
+use Rattle.hay_logical.specs.Answers.{IsSightFault}
+use Rattle.hay_logical.specs.Volumes.{IsOpenVolume}
+use Rattle.hay_logical.proofs.Through.{Kept, cause_later, kept_more, kept_none, seen_more}
 use Rattle.hay_logical.proofs.logical.Logical.see_each.Goals as goal
 
--- src/logical.rt:332:9
 pub loop-replica-init : goal.loop-replica-init
-loop-replica-init g c = ?
+loop-replica-init g c = record {
+  kept = kept_none g.D.Disk.Tells g.D.Disk.files g.D.Piece.Piece.Tells g.D.Disk.fault_count g.D.Disk.fuse_count c.args.self.now c.requires.«open»;
+  seen = λ j h. let wrong : ⊥ = omega (arith, h) in absurd wrong;
+}
 
--- src/logical.rt:333:13
 pub see-requires-after_bounds : goal.see-requires-after_bounds
-see-requires-after_bounds g c κs within = ?
+see-requires-after_bounds g c κs within =
+    let below : c.loop-replica.replica < c.loop-replica.self.settings.replicas =
+    subst (λ s. c.loop-replica.replica < s.replicas) (ap (λ v. v.settings) c.self.view_is ∙ sym c.loop-replica.invariant.kept.same.settings) c.loop-replica-test.true in
+    (search rules, (search rules, (below, c.loop-replica.invariant.kept.«open»)))
 
--- src/logical.rt:333:13
 pub returns-in_err-see-clause-stands : goal.returns-in_err-see-clause-stands
-returns-in_err-see-clause-stands g c = ?
+returns-in_err-see-clause-stands g c = λ tells k stands. c.see.ensures.stands tells k (c.loop-replica.invariant.kept.stands tells k stands)
 
--- src/logical.rt:333:13
 pub returns-in_err-see-clause-undamaged : goal.returns-in_err-see-clause-undamaged
-returns-in_err-see-clause-undamaged g c = ?
+returns-in_err-see-clause-undamaged g c = λ tells k stands m at is.
+    let fault = err_from_is_err_and c.from_residual.result c.from_residual.ensures.1 in
+    c.see.ensures.undamaged tells k (c.loop-replica.invariant.kept.stands tells k stands) m at (c.in_err-see.was ∙ ap (λ (f : LogicalFault). Err f) (sym fault.2 ∙ (let same = sym fault.1 ∙ is in cc)))
 
--- src/logical.rt:333:13
 pub returns-in_err-see-clause-causes : goal.returns-in_err-see-clause-causes
-returns-in_err-see-clause-causes g c = ?
+returns-in_err-see-clause-causes g c =
+    let fault = err_from_is_err_and c.from_residual.result c.from_residual.ensures.1 in
+    let cause = cause_later g.D.Disk.Tells g.D.Disk.files g.D.Piece.Piece.Tells g.D.Disk.fault_count g.D.Disk.fuse_count c.args.self.now c.loop-replica.self c.see.new.self c.loop-replica.invariant.kept c.in_err-see.field-0.0 c.in_err-see.ensures.causes in
+    subst (λ r. IfErr r (IsSightFault g.D.Disk.fault_count c.args.self.now.settings c.args.self.now.number c.args.self.now.replicas c.see.new.self.replicas)) (sym fault.1)
+    (subst (λ (f : LogicalFault). IsSightFault g.D.Disk.fault_count c.args.self.now.settings c.args.self.now.number c.args.self.now.replicas c.see.new.self.replicas f) (sym fault.2) cause)
 
--- src/logical.rt:333:13
 pub returns-in_err-see-clause-counts : goal.returns-in_err-see-clause-counts
-returns-in_err-see-clause-counts g c = ?
+returns-in_err-see-clause-counts g c =
+    (kept_more g.D.Disk.Tells g.D.Disk.files g.D.Piece.Piece.Tells g.D.Disk.fault_count g.D.Disk.fuse_count c.args.self.now c.loop-replica.self c.see.new.self c.loop-replica.invariant.kept c.see.ensures.stands c.see.ensures.«open» c.see.ensures.counts c.see.ensures.same c.see.ensures.still).counts
 
--- src/logical.rt:333:13
 pub returns-in_err-see-clause-same : goal.returns-in_err-see-clause-same
-returns-in_err-see-clause-same g c = ?
+returns-in_err-see-clause-same g c =
+    (kept_more g.D.Disk.Tells g.D.Disk.files g.D.Piece.Piece.Tells g.D.Disk.fault_count g.D.Disk.fuse_count c.args.self.now c.loop-replica.self c.see.new.self c.loop-replica.invariant.kept c.see.ensures.stands c.see.ensures.«open» c.see.ensures.counts c.see.ensures.same c.see.ensures.still).same
 
--- src/logical.rt:333:13
 pub returns-in_err-see-clause-still : goal.returns-in_err-see-clause-still
-returns-in_err-see-clause-still g c = ?
+returns-in_err-see-clause-still g c =
+    (kept_more g.D.Disk.Tells g.D.Disk.files g.D.Piece.Piece.Tells g.D.Disk.fault_count g.D.Disk.fuse_count c.args.self.now c.loop-replica.self c.see.new.self c.loop-replica.invariant.kept c.see.ensures.stands c.see.ensures.«open» c.see.ensures.counts c.see.ensures.same c.see.ensures.still).still
 
--- src/logical.rt:332:9
 pub loop-replica-preserved : goal.loop-replica-preserved
-loop-replica-preserved g c = ?
+loop-replica-preserved g c = record {
+  kept = kept_more g.D.Disk.Tells g.D.Disk.files g.D.Piece.Piece.Tells g.D.Disk.fault_count g.D.Disk.fuse_count c.args.self.now c.loop-replica.self c.see.new.self c.loop-replica.invariant.kept c.see.ensures.stands c.see.ensures.«open» c.see.ensures.counts c.see.ensures.same c.see.ensures.still;
+  seen = seen_more c.args.pair c.loop-replica.replica c.loop-replica.self.rows c.see.new.self.rows _ c.in_ok-see.ensures.row c.in_ok-see.ensures.answered.1 c.in_ok-see.ensures.seen c.loop-replica.invariant.seen;
+}
 
--- src/logical.rt:320:5
 pub returns-clause-stands : goal.returns-clause-stands
-returns-clause-stands g c = ?
+returns-clause-stands g c = c.loop-replica.invariant.kept.stands
 
--- src/logical.rt:320:5
 pub returns-clause-seen : goal.returns-clause-seen
-returns-clause-seen g c = ?
+returns-clause-seen g c = λ j h.
+    let below : j < c.self.inside.settings.replicas = subst (λ s. j < s.replicas) (c.loop-replica.invariant.kept.same.settings ∙ sym (ap (λ v. v.settings) c.self.view_is)) h in
+    let over = c.loop-replica-test.false in
+    c.loop-replica.invariant.seen j (omega (arith, below, over))
 
--- src/logical.rt:320:5
 pub returns-clause-open : goal.returns-clause-open
-returns-clause-open g c = ?
+returns-clause-open g c = c.loop-replica.invariant.kept.«open»
 
--- src/logical.rt:320:5
 pub returns-clause-counts : goal.returns-clause-counts
-returns-clause-counts g c = ?
+returns-clause-counts g c = c.loop-replica.invariant.kept.counts
 
--- src/logical.rt:320:5
 pub returns-clause-same : goal.returns-clause-same
-returns-clause-same g c = ?
+returns-clause-same g c = c.loop-replica.invariant.kept.same
 
--- src/logical.rt:320:5
 pub returns-clause-still : goal.returns-clause-still
-returns-clause-still g c = ?
+returns-clause-still g c = c.loop-replica.invariant.kept.still
