@@ -257,20 +257,20 @@ module _ {D P : Type 0} (DiskTells : Type 0) (files : D → Files) (Tells : Type
         ];
         apart = λ q o differ. elim (cases_Bool (pair_eq pair q)) [
           | inl same ↦ elim (cases_Bool (pair_eq pair o)) [
-              | inl other ↦ let never : ⊥ = both q o same other differ in absurd never
-              | inr beyond ↦
-                  subst (λ x. physical.ArePlacesApart x (place_in (row_at rows' o) j)) (sym (own_place q same))
-                  (subst (λ x. physical.ArePlacesApart p x) (sym (other_place o beyond)) (becomes.to (place_in (row_at rows o) j) (beside reach up o beyond)))
-            ]
+            | inl other ↦ let never : ⊥ = both q o same other differ in absurd never
+            | inr beyond ↦
+                subst (λ x. physical.ArePlacesApart x (place_in (row_at rows' o) j)) (sym (own_place q same))
+                (subst (λ x. physical.ArePlacesApart p x) (sym (other_place o beyond)) (becomes.to (place_in (row_at rows o) j) (beside reach up o beyond)))
+          ]
           | inr apart ↦ elim (cases_Bool (pair_eq pair o)) [
-              | inl other ↦
-                  let before = subst (λ x. physical.ArePlacesApart (place_in (row_at rows q) j) x) was ((reach.sees up).apart q pair (turned q apart)) in
-                  subst (λ x. physical.ArePlacesApart x (place_in (row_at rows' o) j)) (sym (other_place q apart))
-                  (subst (λ x. physical.ArePlacesApart (place_in (row_at rows q) j) x) (sym (own_place o other)) (apart_to becomes (place_in (row_at rows q) j) before))
-              | inr beyond ↦
-                  subst (λ x. physical.ArePlacesApart x (place_in (row_at rows' o) j)) (sym (other_place q apart))
-                  (subst (λ x. physical.ArePlacesApart (place_in (row_at rows q) j) x) (sym (other_place o beyond)) ((reach.sees up).apart q o differ))
-            ]
+            | inl other ↦
+                let before = subst (λ x. physical.ArePlacesApart (place_in (row_at rows q) j) x) was ((reach.sees up).apart q pair (turned q apart)) in
+                subst (λ x. physical.ArePlacesApart x (place_in (row_at rows' o) j)) (sym (other_place q apart))
+                (subst (λ x. physical.ArePlacesApart (place_in (row_at rows q) j) x) (sym (own_place o other)) (apart_to becomes (place_in (row_at rows q) j) before))
+            | inr beyond ↦
+                subst (λ x. physical.ArePlacesApart x (place_in (row_at rows' o) j)) (sym (other_place q apart))
+                (subst (λ x. physical.ArePlacesApart (place_in (row_at rows q) j) x) (sym (other_place o beyond)) ((reach.sees up).apart q o differ))
+          ]
         ];
       };
     }

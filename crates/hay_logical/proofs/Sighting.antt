@@ -105,17 +105,17 @@ module _ {D P : Type 0} (DiskTells : Type 0) (files : D → Files) (Tells : Type
           let old = old_at j r' f in
           by_replica (λ n x y. ReplicaStands files Tells (volume_with settings number new rows' front None unsure) k n y)
           (
-            let was = stands.by.each at one.before one.was in
-            let both = sights.stands tells was.stored was.stands was.places in
-            record {
-              stored = was.stored;
-              fits = was.fits;
-              stands = both.0;
-              stuck = was.stuck ∙ sym (ap (λ (x : Copy D). is_stuck x) sights.copy);
-              run = sights.run tells was.stored (option_map copier_run (replica_at k at).run) was.stands was.places was.run;
-              settled = was.settled;
-              places = both.1;
-            }
+          let was = stands.by.each at one.before one.was in
+          let both = sights.stands tells was.stored was.stands was.places in
+          record {
+            stored = was.stored;
+            fits = was.fits;
+            stands = both.0;
+            stuck = was.stuck ∙ sym (ap (λ (x : Copy D). is_stuck x) sights.copy);
+            run = sights.run tells was.stored (option_map copier_run (replica_at k at).run) was.stands was.places was.run;
+            settled = was.settled;
+            places = both.1;
+          }
           )
           (λ n x apart e.
           let was = stands.by.each n x e in

@@ -300,6 +300,33 @@ impl<D: Disk> Logical<D> {
         ensures same { IsSame self.old self.new }
         ensures still { (self.new.frozen ≡ self.old.frozen) × (self.new.front ≡ self.old.front) × (self.new.unsure ≡ self.old.unsure) }
     {
+        match self.see_in(replica, pair, out) {
+            Ok(()) => Ok(Looked {
+                front: self.front,
+                row: self.rows.row(pair),
+            }),
+            Err(fault) => Err(fault),
+        }
+    }
+
+    // Sees the place of a pair's photo on a replica, where it was not looked at yet.
+    fn see_in(&mut self, replica: u32, pair: Pair, out: &mut Vec<u8>) -> Result<(), LogicalFault>
+        requires within { replica < self.old.settings.replicas }
+        requires open { IsOpenVolume self.old }
+        ensures stands { D.Tells → (k : VolumeKnown) → Stands D.files D.Piece.Tells self.old k → Stands D.files D.Piece.Tells self.new k }
+        ensures known { D.Tells → (k : VolumeKnown) → Stands D.files D.Piece.Tells self.old k →
+            OnOk result ((self.new.front ≡ length k.log) × PlaceMeans D.Piece.Tells pair (place_in (row_at self.new.rows pair) replica) (outcome_at (now k (replica_at k replica)) pair)) }
+        ensures undamaged { D.Tells → (k : VolumeKnown) → Stands D.files D.Piece.Tells self.old k →
+            (m at : ℕ) → result ≡ Err (LogicalFault.Damaged m at) → ⊥ }
+        ensures seen { OnOk result (IsSeen (place_in (row_at self.new.rows pair) replica)) }
+        ensures row { OnOk result (SetsPlaceAt pair replica (place_in (row_at self.new.rows pair) replica) self.old.rows self.new.rows) }
+        ensures kept { OnErr result ((other : Pair) → row_at self.new.rows other ≡ row_at self.old.rows other) }
+        ensures causes { IfErr result (IsSightFault D.fault_count self.old.settings self.old.number self.old.replicas self.new.replicas) }
+        ensures open { IsOpenVolume self.new }
+        ensures counts { KeepsCounts D.fault_count D.fuse_count self.old.replicas self.new.replicas }
+        ensures same { IsSame self.old self.new }
+        ensures still { (self.new.frozen ≡ self.old.frozen) × (self.new.front ≡ self.old.front) × (self.new.unsure ≡ self.old.unsure) }
+    {
         let machine = machine_of(&self.settings, self.number, replica);
         match see_at(
             self.replicas.as_mut_slice(),
@@ -308,10 +335,7 @@ impl<D: Disk> Logical<D> {
             pair,
             out,
         ) {
-            Ok(()) => Ok(Looked {
-                front: self.front,
-                row: self.rows.row(pair),
-            }),
+            Ok(()) => Ok(()),
             Err(fault) => Err(answer_at(machine, fault)),
         }
     }
@@ -330,7 +354,7 @@ impl<D: Disk> Logical<D> {
         ensures still { (self.new.frozen ≡ self.old.frozen) × (self.new.front ≡ self.old.front) × (self.new.unsure ≡ self.old.unsure) }
     {
         for replica in 0..self.settings.replicas {
-            self.see(replica, pair, out)?;
+            self.see_in(replica, pair, out)?;
         }
         Ok(())
     }

@@ -22,7 +22,6 @@ use Rattle.hay_logical.proofs.Changing.{delete_failed, delete_refused, delete_re
 use Rattle.hay_logical.proofs.Reaching.{delete_row, failed_row}
 use Rattle.hay_logical.proofs.logical.Logical.delete_seen.Goals as goal
 
-
 pub returns-then-not-has_live-clause-refused : goal.returns-then-not-has_live-clause-refused
 unfolding Stands
 returns-then-not-has_live-clause-refused g c = λ tells k stands.

@@ -21,8 +21,8 @@ use Rattle.hay_logical.proofs.Lists.{at_below, at_there}
 use Rattle.hay_logical.proofs.Methods.{one_after, one_count, one_each, same_by, shaped_on}
 use Rattle.hay_logical.proofs.Sighting.{damaged_answer, known_seen, reach_seen, saw, seen_whole, sight_cause}
 use Rattle.hay_logical.proofs.Standing.{volume_with}
-use Rattle.hay_logical.proofs.logical.Logical.see.Goals as goal
-use Rattle.hay_logical.proofs.logical.Logical.see.Goals.{in-Ok, in-Err}
+use Rattle.hay_logical.proofs.logical.Logical.see_in.Goals as goal
+use Rattle.hay_logical.proofs.logical.Logical.see_in.Goals.{in-Ok, in-Err}
 
 pub machine_of-machine-requires-clause-within : goal.machine_of-machine-requires-clause-within
 machine_of-machine-requires-clause-within g c =
@@ -52,9 +52,6 @@ see_at-requires-after_bounds g c = λ κs lives.
         ),
       ),
     )
-
-pub row-requires-after_bounds : goal.row-requires-after_bounds
-row-requires-after_bounds g c = λ κs within. (search rules, search rules)
 
 pub invariant_of-self : goal.invariant_of-self
 invariant_of-self g c =
@@ -97,9 +94,8 @@ returns-clause-known g c = λ tells k stands.
       | in-Ok w ↦
           let seen : IsSeen (place_in (row_at c.see_at.new.rows c.args.pair) c.args.replica) = subst (λ x. OnOk x (IsSeen (place_in (row_at c.see_at.new.rows c.args.pair) c.args.replica))) w.in-Ok.is sights.seen in
           let is : StandsFor g.D.Disk.files g.D.Piece.Piece.Tells (volume_with c.self.inside.settings c.self.inside.number c.self.inside.replicas.items c.self.inside.rows c.self.inside.front c.self.inside.frozen c.self.inside.unsure) k = (subst (λ v. StandsFor g.D.Disk.files g.D.Piece.Piece.Tells v k) (sym c.self.view_is) stands) in
-          subst (λ r. IfOk r (λ looked. (looked.front ≡ length k.log) × PlaceMeans g.D.Piece.Piece.Tells c.args.pair (place_in looked.row c.args.replica) (outcome_at (legal.now k (replica_at k c.args.replica)) c.args.pair))) (sym w.result-is)
-          (is.front, subst (λ l. PlaceMeans g.D.Piece.Piece.Tells c.args.pair (place_in l c.args.replica) (outcome_at (legal.now k (replica_at k c.args.replica)) c.args.pair)) (sym w.row.ensures.row)
-          (known_seen g.D.Disk.Tells g.D.Disk.files g.D.Piece.Piece.Tells g.D.Disk.fault_count c.self.inside.replicas.items c.see_at.new.replicas c.self.inside.rows c.see_at.new.rows c.args.replica c.args.pair c.see_at.result one sights c.see_at.ensures.row tells c.self.invariant.2 c.self.inside.settings c.self.inside.number c.self.inside.front c.self.inside.frozen c.self.inside.unsure g.D.Disk.fuse_count k is seen))
+          subst (λ r. OnOk r ((c.self.inside.front ≡ length k.log) × PlaceMeans g.D.Piece.Piece.Tells c.args.pair (place_in (row_at c.see_at.new.rows c.args.pair) c.args.replica) (outcome_at (legal.now k (replica_at k c.args.replica)) c.args.pair))) (sym w.result-is)
+          (is.front, (known_seen g.D.Disk.Tells g.D.Disk.files g.D.Piece.Piece.Tells g.D.Disk.fault_count c.self.inside.replicas.items c.see_at.new.replicas c.self.inside.rows c.see_at.new.rows c.args.replica c.args.pair c.see_at.result one sights c.see_at.ensures.row tells c.self.invariant.2 c.self.inside.settings c.self.inside.number c.self.inside.front c.self.inside.frozen c.self.inside.unsure g.D.Disk.fuse_count k is seen))
       | in-Err w ↦ rw w.result-is tt
     ]
 
@@ -129,7 +125,7 @@ returns-clause-seen g c =
     elim c.match-see_at.branch [
       | in-Ok w ↦
           let seen : IsSeen (place_in (row_at c.see_at.new.rows c.args.pair) c.args.replica) = subst (λ x. OnOk x (IsSeen (place_in (row_at c.see_at.new.rows c.args.pair) c.args.replica))) w.in-Ok.is sights.seen in
-          subst (λ r. IfOk r (λ looked. IsSeen (place_in looked.row c.args.replica))) (sym w.result-is) (subst (λ l. IsSeen (place_in l c.args.replica)) (sym w.row.ensures.row) seen)
+          subst (λ r. OnOk r (IsSeen (place_in (row_at c.see_at.new.rows c.args.pair) c.args.replica))) (sym w.result-is) seen
       | in-Err w ↦ rw w.result-is tt
     ]
 
@@ -138,15 +134,8 @@ returns-clause-row g c = elim c.match-see_at.branch [
   | in-Ok w ↦
       let set : SetsPlaceAt c.args.pair c.args.replica (place_in (row_at c.see_at.new.rows c.args.pair) c.args.replica) c.self.inside.rows c.see_at.new.rows =
       subst (λ x. OnOk x (SetsPlaceAt c.args.pair c.args.replica (place_in (row_at c.see_at.new.rows c.args.pair) c.args.replica) c.self.inside.rows c.see_at.new.rows)) w.in-Ok.is c.see_at.ensures.row.set in
-      subst (λ r. IfOk r (λ looked. SetsPlaceAt c.args.pair c.args.replica (place_in looked.row c.args.replica) c.args.self.now.rows c.see_at.new.rows)) (sym w.result-is)
-      (subst (λ l. SetsPlaceAt c.args.pair c.args.replica (place_in l c.args.replica) c.args.self.now.rows c.see_at.new.rows) (sym w.row.ensures.row)
-      (subst (λ v. SetsPlaceAt c.args.pair c.args.replica (place_in (row_at c.see_at.new.rows c.args.pair) c.args.replica) v.rows c.see_at.new.rows) c.self.view_is set))
-  | in-Err w ↦ rw w.result-is tt
-]
-
-pub returns-clause-answered : goal.returns-clause-answered
-returns-clause-answered g c = elim c.match-see_at.branch [
-  | in-Ok w ↦ rw w.result-is (refl, w.row.ensures.row)
+      subst (λ r. OnOk r (SetsPlaceAt c.args.pair c.args.replica (place_in (row_at c.see_at.new.rows c.args.pair) c.args.replica) c.args.self.now.rows c.see_at.new.rows)) (sym w.result-is)
+      (subst (λ v. SetsPlaceAt c.args.pair c.args.replica (place_in (row_at c.see_at.new.rows c.args.pair) c.args.replica) v.rows c.see_at.new.rows) c.self.view_is set)
   | in-Err w ↦ rw w.result-is tt
 ]
 
