@@ -18,7 +18,7 @@ pub see_in-requires-after_bounds : goal.see_in-requires-after_bounds
 see_in-requires-after_bounds g c κs within =
     let below : c.loop-replica.replica < c.loop-replica.self.settings.replicas =
     subst (λ s. c.loop-replica.replica < s.replicas) (ap (λ v. v.settings) c.self.view_is ∙ sym c.loop-replica.invariant.kept.same.settings) c.loop-replica-test.true in
-    (search rules, (search rules, (below, c.loop-replica.invariant.kept.«open»)))
+    (search rules, (below, c.loop-replica.invariant.kept.«open»))
 
 pub returns-in_err-see_in-clause-stands : goal.returns-in_err-see_in-clause-stands
 returns-in_err-see_in-clause-stands g c = λ tells k stands. c.see_in.ensures.stands tells k (c.loop-replica.invariant.kept.stands tells k stands)
