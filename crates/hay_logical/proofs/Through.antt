@@ -1,5 +1,5 @@
 -- A volume through several looks.
-use Rattle.std.proofs.Common.{◌≡◌, ◌≢◌, inl, inr, ℕ, ◌+◌, ◌<◌, ◌≤◌, true, cond, List, length, refl, sym, ap, subst, ◌∙◌, arith}
+use Rattle.std.proofs.Common.{◌≡◌, ◌≢◌, inl, inr, ℕ, ◌+◌, ◌<◌, ◌≤◌, true, cond, List, length, None, refl, sym, ap, subst, ◌∙◌, arith}
 use Rattle.std.specs.Prelude.{slice_set}
 use Rattle.std.proofs.lemmas.Bool.{cases_eq, cond-true}
 use Rattle.std.proofs.lemmas.List.{get_or-set_other}
@@ -8,6 +8,7 @@ use Rattle.hay_needle.specs.declared.settings.Settings.{Settings}
 use Rattle.hay_needle.specs.Tables.{pair_eq}
 use Rattle.hay_needle.proofs.TableLaws.{pair_refl}
 use Rattle.hay_disk.specs.Disk.{Files}
+use Rattle.hay_core.specs.declared.entry.CoreTag.{CoreTag}
 use Rattle.hay_legal.specs.declared.known.VolumeKnown.{VolumeKnown}
 use Rattle.hay_legal.specs.Known.{machine_of}
 use Rattle.hay_map.specs.MapRows.{MapRows}
@@ -19,7 +20,7 @@ use Rattle.hay_compact.specs.Finishing.{IsSeen}
 use Rattle.hay_physical.specs.Copies.{Copy}
 use Rattle.hay_logical.specs.declared.fault.LogicalFault.{LogicalFault}
 use Rattle.hay_logical.specs.declared.fault.LogicalFault.TheVariants.{Busy, Damaged, Failed, Full, Gone, Idle, NoMemory, ReadOnly, Worn}
-use Rattle.hay_logical.specs.Answers.{IsSightFault}
+use Rattle.hay_logical.specs.Answers.{DeleteRefused, HasFailed, IsDeleteFault, IsDeleted, IsSightFault}
 use Rattle.hay_logical.specs.Fits.{At}
 use Rattle.hay_logical.specs.Stands.{Stands}
 use Rattle.hay_logical.specs.Steps.{SetsPlaceAt}
@@ -113,3 +114,75 @@ seen_more {P} pair n rows rows' row sets is here before j within = elim (cases_e
       ap (λ l. place_in l j) (sets pair ∙ cond-true (pair_eq pair pair) (slice_set (row_at rows pair) n (place_in row n)) (row_at rows pair) (pair_refl pair)) ∙ get_or-set_other (row_at rows pair) n j (place_in row n) place.None apart in
       subst IsSeen (sym there) (before j less)
 ]
+
+-- A DELETE BEHIND THEM
+
+-- a look is refused as a delete is
+pub sight_deletes : {D : Type 0} (faults : D → ℕ) (settings : Settings) (number : ℕ) (a c : List (Copy D)) (f : LogicalFault) → IsSightFault faults settings number a c f → IsDeleteFault faults settings number a c f
+sight_deletes faults settings number a c (Failed machine printed) cause = cause
+sight_deletes faults settings number a c (Damaged m at) cause = cause
+sight_deletes faults settings number a c NoMemory cause = tt
+sight_deletes faults settings number a c (ReadOnly m) cause = absurd cause
+sight_deletes faults settings number a c (Gone front) cause = absurd cause
+sight_deletes faults settings number a c (Full m end need capacity) cause = absurd cause
+sight_deletes faults settings number a c (Busy m generation) cause = absurd cause
+sight_deletes faults settings number a c (Worn m) cause = absurd cause
+sight_deletes faults settings number a c Idle cause = absurd cause
+
+module _ {D P : Type 0} (files : D → Files) (Tells : Type 0) (faults fuses : D → ℕ) where
+  pub look_refused : (k : VolumeKnown) (tag : CoreTag) (pair : Pair) (settings : Settings) (number : ℕ) (a c : List (Copy D)) (new : Volume D P) (f : LogicalFault) → IsSightFault faults settings number a c f → k.frozen ≡ None → Stands files Tells new k
+      → ((m at : ℕ) → f ≡ Damaged m at → ⊥) → DeleteRefused files Tells k tag pair new f
+  look_refused k tag pair settings number a c new (Failed machine printed) cause thawed stands whole = (thawed, inl stands)
+  look_refused k tag pair settings number a c new (Damaged m at) cause thawed stands whole = whole m at refl
+  look_refused k tag pair settings number a c new NoMemory cause thawed stands whole = (thawed, stands)
+  look_refused k tag pair settings number a c new (ReadOnly m) cause thawed stands whole = absurd cause
+  look_refused k tag pair settings number a c new (Gone front) cause thawed stands whole = absurd cause
+  look_refused k tag pair settings number a c new (Full m end need capacity) cause thawed stands whole = absurd cause
+  look_refused k tag pair settings number a c new (Busy m generation) cause thawed stands whole = absurd cause
+  look_refused k tag pair settings number a c new (Worn m) cause thawed stands whole = absurd cause
+  look_refused k tag pair settings number a c new Idle cause thawed stands whole = absurd cause
+
+  module _ (a b c : Volume D P) (counts : KeepsCounts faults fuses a.replicas b.replicas) (same : IsSame a b) where
+    mid : (j : ℕ) (r : Copy D) → At a.replicas j r → (x : Copy D) × At b.replicas j x
+    mid j r e = (let h = at_below a.replicas j r e in let n = counts.count in at_there b.replicas j (let less : j < length b.replicas = omega (arith, h, n) in less))
+
+    pub deleted_later : (k : VolumeKnown) (tag : CoreTag) (pair : Pair) (p : ℕ) → IsDeleted files faults Tells k tag pair p b c → IsDeleted files faults Tells k tag pair p a c
+    deleted_later k tag pair p is = record {
+      thawed = is.thawed;
+      stood = is.stood;
+      position = is.position;
+      ended = is.ended;
+      count = is.count ∙ ap (λ (s : Settings). s.replicas) same.settings;
+      cause = λ j r r' gone e f. let x = mid j r e in rose_later (faults r.disk) (faults (x.0).disk) (faults r'.disk) (counts.rises j r x.0 e x.1) (is.cause j x.0 r' gone x.1 f);
+      stands = is.stands;
+    }
+
+    failed_later : (m n : ℕ) → HasFailed faults b.settings b.number b.replicas c.replicas m n → HasFailed faults a.settings a.number a.replicas c.replicas m n
+    failed_later m n cause =
+        let old = at_there a.replicas cause.replica (let h = at_below b.replicas cause.replica cause.before cause.was in let n = counts.count in let less : cause.replica < length a.replicas = omega (arith, h, n) in less) in
+        record {
+          replica = cause.replica;
+          within = subst (λ (s : Settings). cause.replica < s.replicas) same.settings cause.within;
+          before = old.0;
+          after = cause.after;
+          was = old.1;
+          is = cause.is;
+          machine = cause.machine ∙ ap (λ (s : Settings). machine_of s b.number cause.replica) same.settings ∙ ap (λ n. machine_of a.settings n cause.replica) same.number;
+          rose = rose_later (faults (old.0).disk) (faults (cause.before).disk) (faults (cause.after).disk) (counts.rises cause.replica old.0 cause.before old.1 cause.was) cause.rose;
+          printed = cause.printed;
+        }
+
+    pub delete_later : (f : LogicalFault) → IsDeleteFault faults b.settings b.number b.replicas c.replicas f → IsDeleteFault faults a.settings a.number a.replicas c.replicas f
+    delete_later (Failed machine printed) cause = failed_later machine printed cause
+    delete_later (Damaged m at) cause = (
+      cause.0,
+      subst (λ (s : Settings). cause.0 < s.replicas) same.settings cause.1,
+      cause.2 ∙ ap (λ (s : Settings). machine_of s b.number cause.0) same.settings ∙ ap (λ n. machine_of a.settings n cause.0) same.number,
+    )
+    delete_later NoMemory cause = tt
+    delete_later (ReadOnly m) cause = tt
+    delete_later (Gone front) cause = tt
+    delete_later (Full m end need capacity) cause = absurd cause
+    delete_later (Busy m generation) cause = absurd cause
+    delete_later (Worn m) cause = absurd cause
+    delete_later Idle cause = absurd cause

@@ -1,0 +1,46 @@
+use Rattle.std.proofs.Common.{◌≡◌, None, Err, refl, sym, ap, subst, ◌∙◌}
+use Rattle.std.specs.Prelude.{IfErr}
+use Rattle.std.proofs.lemmas.Result.{err_from_is_err_and}
+use Rattle.hay_legal.specs.declared.known.VolumeKnown.{VolumeKnown}
+use Rattle.hay_physical.proofs.Views.{if_err_so, if_ok_so}
+use Rattle.hay_logical.specs.declared.fault.LogicalFault.{LogicalFault}
+use Rattle.hay_logical.specs.Answers.{DeleteRefused}
+use Rattle.hay_logical.specs.Stands.{Stands, StandsFor}
+use Rattle.hay_logical.proofs.Changing.{not_some}
+use Rattle.hay_logical.proofs.Through.{counts_through, delete_later, deleted_later, look_refused, same_through}
+use Rattle.hay_logical.proofs.logical.Logical.delete.Goals as goal
+
+pub returns-in-Some-clause-refused : goal.returns-in-Some-clause-refused
+unfolding Stands
+returns-in-Some-clause-refused g c = λ tells k stands. (stands.frozen ∙ ap (λ v. v.frozen) (sym c.self.view_is) ∙ c.in-Some.is, stands)
+
+pub returns-in_err-see_each-clause-refused : goal.returns-in_err-see_each-clause-refused
+unfolding Stands
+returns-in_err-see_each-clause-refused g c = λ tells k stands.
+    let fault = err_from_is_err_and c.from_residual.result c.from_residual.ensures.1 in
+    let thawed : k.frozen ≡ None = stands.frozen ∙ ap (λ v. v.frozen) (sym c.self.view_is) ∙ not_some c.self.inside.frozen c.in_default.not-Some in
+    subst (λ r. IfErr r (DeleteRefused g.D.Disk.files g.D.Piece.Piece.Tells k c.args.tag c.args.pair c.see_each.new.self)) (sym fault.1)
+    (subst (λ (f : LogicalFault). DeleteRefused g.D.Disk.files g.D.Piece.Piece.Tells k c.args.tag c.args.pair c.see_each.new.self f) (sym fault.2)
+    (look_refused g.D.Disk.files g.D.Piece.Piece.Tells g.D.Disk.fault_count g.D.Disk.fuse_count k c.args.tag c.args.pair c.args.self.now.settings c.args.self.now.number c.args.self.now.replicas c.see_each.new.self.replicas c.see_each.new.self c.in_err-see_each.field-0.0
+    c.in_err-see_each.ensures.causes thawed (c.see_each.ensures.stands tells k stands) (λ m at e. c.see_each.ensures.undamaged tells k stands m at (c.in_err-see_each.was ∙ ap (λ (f : LogicalFault). Err f) e))))
+
+pub returns-clause-deleted : goal.returns-clause-deleted
+returns-clause-deleted g c = λ tells k stands.
+    if_ok_so c.delete_seen.result _ _
+    (λ p is. deleted_later g.D.Disk.files g.D.Piece.Piece.Tells g.D.Disk.fault_count g.D.Disk.fuse_count c.args.self.now c.see_each.new.self c.delete_seen.new.self c.see_each.ensures.counts c.see_each.ensures.same k c.args.tag c.args.pair p is)
+    (c.delete_seen.ensures.deleted tells k (c.see_each.ensures.stands tells k stands))
+
+pub returns-clause-refused : goal.returns-clause-refused
+returns-clause-refused g c = λ tells k stands. c.delete_seen.ensures.refused tells k (c.see_each.ensures.stands tells k stands)
+
+pub returns-clause-causes : goal.returns-clause-causes
+returns-clause-causes g c =
+    if_err_so c.delete_seen.result _ _
+    (λ f is. delete_later g.D.Disk.files g.D.Piece.Piece.Tells g.D.Disk.fault_count g.D.Disk.fuse_count c.args.self.now c.see_each.new.self c.delete_seen.new.self c.see_each.ensures.counts c.see_each.ensures.same f is)
+    c.delete_seen.ensures.causes
+
+pub returns-clause-counts : goal.returns-clause-counts
+returns-clause-counts g c = counts_through g.D.Disk.fault_count g.D.Disk.fuse_count c.args.self.now.replicas c.see_each.new.self.replicas c.delete_seen.new.self.replicas c.see_each.ensures.counts c.delete_seen.ensures.counts
+
+pub returns-clause-same : goal.returns-clause-same
+returns-clause-same g c = same_through c.args.self.now c.see_each.new.self c.delete_seen.new.self c.see_each.ensures.counts.count c.see_each.ensures.same c.delete_seen.ensures.same
