@@ -1,4 +1,7 @@
 -- The end of a compaction.
+use Rattle.hay_needle.specs.declared.needle.Pair.{Pair}
+use Rattle.hay_map.specs.Rows.{last_place}
+use Rattle.hay_map.specs.declared.place.Place.TheVariants as place
 use Rattle.std.proofs.Common.{◌≡◌, ◌≢◌, ◌+◌, ℕ, false, List, [], ◌∷◌, ◌++◌, length, sym, ap, ◌∙◌, subst, arith}
 use Rattle.std.specs.Prelude.{map}
 use Rattle.std.proofs.lemmas.List.{length-map, take_all}
@@ -17,7 +20,7 @@ use Rattle.hay_index.proofs.IndexLaws.{index_gate}
 use Rattle.hay_open.specs.Stored.{FlagsFree, IndexRests, VolumeRests, cell_record, index_file, index_super, last_cell, recorded, volume_file, volume_super}
 use Rattle.hay_compact.specs.declared.finish.Finished.{Finished}
 use Rattle.hay_compact.specs.Copying.{AreOfVersionTwo, Making, Stage, stored_of}
-use Rattle.hay_compact.specs.Finishing.{AreThePlaces, CanSeal, IsFinished}
+use Rattle.hay_compact.specs.Finishing.{AreThePlaces, CanSeal, IsFinished, IsSeen}
 use Rattle.hay_compact.proofs.CellLists.{records_row}
 use Rattle.hay_compact.proofs.StandingLaws.{place_kept}
 
@@ -60,8 +63,8 @@ pub finished_of : {P : Type 0} (Tells : Type 0) (sup : Super) (f0 f1 f2 f4 : Fil
     → ((k : ℕ) → (f0 s.index.file).sealed k ≡ false → (f1 s.index.file).sealed k ≡ false)
     → Keeps (f1 finished.index.file) (f2 finished.index.file) → IsSolid (f2 finished.index.file) → f4 s.index.file ≡ f2 s.index.file
     → VolumeRests sup (f4 s.volume.file) (stored_of s fresh) → AreThePlaces Tells fresh finished.places.items
-    → IsFinished Tells sup f4 finished s fresh
-finished_of {P = P} Tells sup f0 f1 f2 f4 s fresh finished h thawed volume index added free keeps solid stays rests places = record {
+    → ((pair : Pair) → IsSeen (last_place finished.places.items pair place.Gone)) → IsFinished Tells sup f4 finished s fresh
+finished_of {P = P} Tells sup f0 f1 f2 f4 s fresh finished h thawed volume index added free keeps solid stays rests places seen = record {
   volume_is = volume
       ∙ ap (λ k. let v : VolumeFile = record { file = k; end = s.volume.end; capacity = s.capacity } in v) h.names_volume
       ∙ ap (λ k. let v : VolumeFile = record { file = volume_file s.generation; end = s.volume.end; capacity = k } in v) h.capacity_is;
@@ -77,6 +80,7 @@ finished_of {P = P} Tells sup f0 f1 f2 f4 s fresh finished h thawed volume index
         gate = index_gate sb (map cell_record fresh) finished.index.end (f2 finished.index.file) has solid (λ k low. all_open k);
       })));
   places = places;
+  seen = seen;
 }
   where
     file : finished.index.file ≡ s.index.file

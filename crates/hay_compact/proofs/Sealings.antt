@@ -28,7 +28,7 @@ use Rattle.hay_map.specs.Sealed.{SealedNeedle}
 use Rattle.hay_open.specs.Stored.{FlagsFree, IsSealedCell, PlaceOf, Stored, VolumeRests, cell_record, last_cell, volume_super}
 use Rattle.hay_compact.specs.Standing.{LastCells, place_in}
 use Rattle.hay_compact.specs.Copying.{cell_total, photo_place}
-use Rattle.hay_compact.specs.Finishing.{AreThePlaces, ArePlacesSoFar, CanSeal, IsDue, PlaceSoFar}
+use Rattle.hay_compact.specs.Finishing.{AreThePlaces, ArePlacesSoFar, CanSeal, IsDue, IsSeen, PlaceSoFar}
 use Rattle.hay_compact.proofs.CellLists.{after_front, cells_end, last_stands, later_last, lacks_none, none_lacks, parts_last}
 use Rattle.hay_compact.proofs.Copyings.{some_next}
 use Rattle.hay_compact.proofs.Repeated.{photo_some}
@@ -177,6 +177,8 @@ less_to_see Tells cell behind pair (Some l) place.None later is = absurd is
 less_to_see Tells cell behind pair None place.Gone later is = tt
 less_to_see Tells cell behind pair None place.None later is = absurd is
 less_to_see Tells cell behind pair None (place.Live needle) later is = absurd is
+less_to_see Tells cell behind pair (Some l) (place.Unseen at size) later is = absurd is
+less_to_see Tells cell behind pair None (place.Unseen at size) later is = absurd is
 
 pub last_place-push : {P : Type 0} (places : List (OpenCell P)) (one : OpenCell P) (pair : Pair) (before : Place P) → last_place (places ++ one ∷ []) pair before ≡ cond (pair_eq one.pair pair) one.place (last_place places pair before)
 last_place-push [] one pair before = refl
@@ -269,6 +271,19 @@ all_places {P = P} Tells cells places so_far = λ pair. at_last pair (last_cell 
     at_last pair None place.Gone is = tt
     at_last pair None place.None is = absurd is
     at_last pair None (place.Live needle) is = absurd is
+    at_last pair (Some cell) (place.Unseen at size) is = absurd is
+    at_last pair None (place.Unseen at size) is = absurd is
+
+-- and each was looked at
+pub all_seen : {P : Type 0} (Tells : Type 0) (cells : List Cell) (places : List (OpenCell P)) → ArePlacesSoFar Tells cells [] places → (pair : Pair) → IsSeen (last_place places pair place.Gone)
+all_seen {P = P} Tells cells places so_far = λ pair. at_last pair (last_cell cells pair) (last_place places pair place.Gone) (so_far pair)
+  where
+    at_last : (pair : Pair) (o : Option Cell) (x : Place P) → PlaceSoFar Tells [] pair o x → IsSeen x
+    at_last pair o (place.Live needle) is = tt
+    at_last pair o place.Gone is = tt
+    at_last pair o place.None is = tt
+    at_last pair (Some cell) (place.Unseen at size) is = absurd is
+    at_last pair None (place.Unseen at size) is = absurd is
 
 -- ONE RECORD AFTER ANOTHER
 
@@ -333,6 +348,7 @@ place_after_swap {P = P} Tells was last places pair before is seen known =
     no_cell (Some cell) place.None fits void = absurd fits
     no_cell (Some cell) place.Gone fits void = absurd cc
     no_cell (Some cell) (place.Live needle) fits void = absurd cc
+    no_cell (Some cell) (place.Unseen at size) fits void = absurd cc
 
     gone_stands : (o : Option Cell) → photo_place o ≡ None → PlaceOf {P = P} Tells o place.Gone
     gone_stands None none = tt
@@ -346,3 +362,4 @@ place_after_swap {P = P} Tells was last places pair before is seen known =
     stands o place.None none void = subst (λ (c : Option Cell). PlaceOf {P = P} Tells c place.None) (sym (void refl)) tt
     stands o place.Gone none void = gone_stands o none
     stands o (place.Live needle) none void = gone_stands o none
+    stands o (place.Unseen at size) none void = gone_stands o none

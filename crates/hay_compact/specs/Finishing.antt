@@ -20,14 +20,22 @@ use Rattle.hay_compact.specs.Standing.{LastCells, place_in}
 abbrev pub AreThePlaces : {P : Type 0} → Type 0 → List Cell → List (OpenCell P) → Type 0
 AreThePlaces Tells cells places = (pair : Pair) → PlaceOf Tells (last_cell cells pair) (last_place places pair place.Gone)
 
+-- a place that was looked at
+abbrev pub IsSeen : {P : Type 0} → Place P → Type 0
+IsSeen (place.Live needle) = Unit {0}
+IsSeen place.Gone = Unit {0}
+IsSeen place.None = Unit {0}
+IsSeen (place.Unseen at size) = ⊥
+
 -- The new volume file has the cells and the index their records, all of it is on the disk, and changes can be made to both. Each place
--- is known.
+-- is known, and was looked at.
 pub record IsFinished {P : Type 0} (Tells : Type 0) (sup : Super) (files : Files) (finished : Finished P) (stage : Stage) (fresh : List Cell) : Type 0 where
   pub volume_is : finished.volume ≡ record { file = volume_file stage.generation; end = stage.volume.end; capacity = sup.settings.capacity }
   pub index_is : finished.index ≡ record { file = index_file stage.generation; end = finished.index.end; pending = []; frozen = false }
   pub volume_rests : VolumeRests sup (files (volume_file stage.generation)) (stored_of stage fresh)
   pub index_rests : IndexRests sup (files (index_file stage.generation)) (stored_of stage fresh) finished.index.end
   pub places : AreThePlaces Tells fresh finished.places.items
+  pub seen : (pair : Pair) → IsSeen (last_place finished.places.items pair place.Gone)
 
 -- WHILE NEEDLES ARE SEALED
 
@@ -39,6 +47,8 @@ PlaceSoFar Tells rest pair (Some cell) place.None = ⊥
 PlaceSoFar Tells rest pair None place.Gone = ⊤
 PlaceSoFar Tells rest pair None place.None = ⊥
 PlaceSoFar Tells rest pair None (place.Live needle) = ⊥
+PlaceSoFar Tells rest pair (Some cell) (place.Unseen at size) = ⊥
+PlaceSoFar Tells rest pair None (place.Unseen at size) = ⊥
 
 abbrev pub ArePlacesSoFar : {P : Type 0} → Type 0 → List Cell → List Cell → List (OpenCell P) → Type 0
 ArePlacesSoFar Tells cells rest places = (pair : Pair) → PlaceSoFar Tells rest pair (last_cell cells pair) (last_place places pair place.Gone)

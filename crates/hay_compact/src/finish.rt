@@ -3,13 +3,16 @@
 ghost use Rattle.std.specs.Prelude.{◌≡◌, ◌≤◌, List, ℕ, All, map, drop, false, IfOk, OnOk, IsErrOf};
 ghost use Rattle.hay_disk.specs.Counts.{IsCounted};
 ghost use Rattle.hay_disk.specs.Disk.{KeepsOthers};
+ghost use Rattle.hay_map.specs.declared.place.Place.TheVariants as place;
+ghost use Rattle.hay_map.specs.Rows.{last_place};
 ghost use Rattle.hay_needle.specs.declared.needle.Cell.{Cell};
+ghost use Rattle.hay_needle.specs.declared.needle.Pair.{Pair};
 ghost use Rattle.hay_needle.specs.declared.settings.Super.{Super};
 ghost use Rattle.hay_index.specs.declared.record.Record.{Record};
 ghost use Rattle.hay_open.specs.Stored.{Stored, VolumeRests, cell_record};
 ghost use Rattle.hay_volume.specs.Cells.{IsVolume};
 ghost use Rattle.hay_compact.specs.Copying.{AreOfVersionTwo, IsMaking, KeepsOtherFiles, Making};
-ghost use Rattle.hay_compact.specs.Finishing.{ArePlacesSoFar, AreThePlaces, CanSeal, IsDue, IsFinished};
+ghost use Rattle.hay_compact.specs.Finishing.{ArePlacesSoFar, AreThePlaces, CanSeal, IsDue, IsFinished, IsSeen};
 
 use crate::compactor::Compactor;
 use crate::standing::Standing;
@@ -88,6 +91,8 @@ fn seal_all<D: Disk>(
     requires ready { D.Tells → (sup : Super) × (s : Stored) × CanSeal sup (D.files disk.old file) standing.now s × (records.now ≡ map cell_record s.cells) }
     ensures places { D.Tells → IfOk result (λ places. (sup : Super) (s : Stored) → CanSeal sup (D.files disk.old file) standing.now s → records.now ≡ map cell_record s.cells
         → AreThePlaces D.Piece.Tells s.cells places.items) }
+    ensures seen { D.Tells → IfOk result (λ places. (sup : Super) (s : Stored) → CanSeal sup (D.files disk.old file) standing.now s → records.now ≡ map cell_record s.cells
+        → (pair : Pair) → IsSeen (last_place places.items pair place.Gone)) }
     ensures rests { D.Tells → (sup : Super) (s : Stored) → VolumeRests sup (D.files disk.old file) s → records.now ≡ map cell_record s.cells → VolumeRests sup (D.files disk.new file) s }
     ensures others { D.Tells → KeepsOthers file (D.files disk.old) (D.files disk.new) }
     ensures drawn { D.Tells → (n : ℕ) → D.drawn disk.new n ≡ D.drawn disk.old n }

@@ -110,6 +110,20 @@ fn a_removed_file_stays_away(rt: HostRuntime) -> Result<(), Fail> {
 }
 
 #[test]
+fn reads_are_counted_until_the_power_cycle(rt: HostRuntime) -> Result<(), Fail> {
+    let mut disk = written(rt.alloc())?;
+    let mut out = [0; 5];
+    disk.read_into(1, 0, &mut out)?;
+    disk.read_into(1, 9, &mut out)?;
+    disk.read_into(2, 0, &mut out)?;
+    assert_eq!(rt; disk.drawn(1), 8);
+    assert_eq!(rt; disk.drawn(2), 0);
+    disk.power_cycle(1);
+    assert_eq!(rt; disk.drawn(1), 0);
+    Ok(())
+}
+
+#[test]
 fn a_sync_keeps_what_was_written_since_the_last(rt: HostRuntime) -> Result<(), Fail> {
     let alloc = rt.alloc();
     let mut disk = MemDisk::new(alloc);

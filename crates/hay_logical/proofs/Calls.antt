@@ -28,8 +28,8 @@ use Rattle.hay_physical.specs.Replicas as physical
 use Rattle.hay_physical.proofs.Laws.{stands_hold}
 use Rattle.hay_physical.specs.Faults as physical_faults
 use Rattle.hay_logical.specs.Fits.{At}
-use Rattle.hay_logical.specs.Volumes.{CanDelete, KeepsCounts}
-use Rattle.hay_logical.specs.Steps.{DeletesAt, FollowsAt, IsFlushFault, IsOpenFault, IsPutFault, KeepsDisk, LeftAt, LosesRun, OpensAt, PutsAt, RoomFor}
+use Rattle.hay_logical.specs.Volumes.{CanReach, KeepsCounts, ReachesPlaces}
+use Rattle.hay_logical.specs.Steps.{DeletesAt, FollowsAt, IsFlushFault, IsOpenFault, IsPutFault, KeepsDisk, KeepsReach, LeftAt, LosesRun, OpensAt, PutsAt, RoomFor, StaysBeside}
 use Rattle.hay_logical.proofs.Lists.{Went, at_below, at_same, at_set_other, at_set_same, at_there, length-slice_set}
 
 -- PHASES
@@ -146,6 +146,9 @@ delete_rose faults r r' (fault.Damaged at) up thawed cause = absurd cause
 pub deletes_on : {D P : Type 0} (DiskTells : Type 0) (files : D → Files) (r r' : Copy D) (p q : Place P) → q ≡ p → DeletesAt DiskTells files p r r' → DeletesAt DiskTells files q r r'
 deletes_on DiskTells files r r' p q e h = subst (λ x. DeletesAt DiskTells files x r r') (sym e) h
 
+pub beside_on : {D P : Type 0} (DiskTells : Type 0) (files : D → Files) (r r' : Copy D) (p q : Place P) → q ≡ p → StaysBeside DiskTells files p r r' → StaysBeside DiskTells files q r r'
+beside_on DiskTells files r r' p q e h = subst (λ x. StaysBeside DiskTells files x r r') (sym e) h
+
 -- ROOM
 
 pub room_fits : {D X : Type 0} (size : ℕ) (r : Copy D) (result : Result X ReplicaFault)
@@ -256,6 +259,40 @@ fault_is result f h e g = let both : Err f ≡ Err h = sym e ∙ g in cc
 pub not_both_ways : {X : Type 0} (result : Result X ReplicaFault) (f : ReplicaFault) {x : X} → result ≡ Ok x → result ≡ Err f → ⊥
 not_both_ways result f {x = x} e g = let both : Ok x ≡ Err f = sym e ∙ g in cc
 
+-- nothing changed
+pub reach_still : {D : Type 0} (files : D → Files) (r : Copy D) {IsKept : ℕ → ℕ → Type 0} → KeepsReach files IsKept r r
+reach_still files r = record { deletes = λ place may. may; sees = record { may = λ at size kept may. may; shows = λ cell kept shows. shows } }
+
+-- a change, and one that keeps all that can be seen
+pub reach_behind : {D : Type 0} (files : D → Files) {IsKept : ℕ → ℕ → Type 0} (r x y : Copy D) → KeepsReach files IsKept r x → KeepsReach files physical.Anywhere x y → KeepsReach files IsKept r y
+reach_behind files r x y a b = record {
+  deletes = λ place may. b.deletes place (a.deletes place may);
+  sees = record { may = λ at size kept may. b.sees.may at size tt (a.sees.may at size kept may); shows = λ cell kept shows. b.sees.shows cell tt (a.sees.shows cell kept shows) };
+}
+
+pub reach_through : {D : Type 0} (files : D → Files) (r x y : Copy D) → KeepsReach files physical.Anywhere r x → KeepsReach files physical.Anywhere x y → KeepsReach files physical.Anywhere r y
+reach_through files r x y a b = reach_behind files r x y a b
+
+-- a closed replica has no places
+pub reaches_closed : {D P : Type 0} (files : D → Files) (rows : MapRows P) (j : ℕ) (r : Copy D) → r.phase ≡ phase.Closed → ReachesPlaces files rows j r
+reaches_closed files rows j r closed = record {
+  deletes = λ up pair. let never : ⊥ = subst (HasFrozen false) closed up in absurd never;
+  sees = λ is. let never : ⊥ = subst IsOpenPhase closed is in absurd never;
+}
+
+-- the same places
+pub reaches_same : {D P : Type 0} (files : D → Files) (rows rows' : MapRows P) (j : ℕ) (r : Copy D) → ((pair : Pair) → place_in (row_at rows' pair) j ≡ place_in (row_at rows pair) j)
+    → ReachesPlaces files rows j r → ReachesPlaces files rows' j r
+reaches_same files rows rows' j r same reach = record {
+  deletes = λ up pair. subst (physical.MayDeletePlace files r) (sym (same pair)) (reach.deletes up pair);
+  sees = λ is. record {
+    may = λ pair. subst (physical.MaySeePlace files r) (sym (same pair)) ((reach.sees is).may pair);
+    apart = λ pair other differ.
+        subst (λ p. physical.ArePlacesApart p (place_in (row_at rows' other) j)) (sym (same pair))
+        (subst (λ p. physical.ArePlacesApart (place_in (row_at rows pair) j) p) (sym (same other)) ((reach.sees is).apart pair other differ));
+  };
+}
+
 pub loses_none : {D : Type 0} (DiskTells : Type 0) (files : D → Files) (r : Copy D) → LosesRun DiskTells files r r
 loses_none DiskTells files r = record {
   idle = λ e. refl;
@@ -268,7 +305,7 @@ loses_none DiskTells files r = record {
   stuck = refl;
   stands = λ tells s h. h;
   holds = λ tells b s t h. h;
-  deletable = λ tells place may. may;
+  reach = λ tells. reach_still files r;
 }
 
 pub ended_or : {D : Type 0} (r r' : Copy D) (count : ℕ) {Q : Type 0} → (goal_of r' ≡ goal_of r) ⊎ (EndedAt count r' × Q) → (goal_of r' ≡ goal_of r) ⊎ ((goal_of r' ≡ None) × Q)
@@ -279,11 +316,13 @@ pub stays_where : {D P : Type 0} (DiskTells : Type 0) (files : D → Files) (p :
 stays_where DiskTells files (place.Live needle) r never = absurd (never needle refl)
 stays_where DiskTells files place.Gone r never = loses_none DiskTells files r
 stays_where DiskTells files place.None r never = loses_none DiskTells files r
+stays_where DiskTells files (place.Unseen at size) r never = loses_none DiskTells files r
 
 pub follows_where : {D P : Type 0} (DiskTells : Type 0) (files : D → Files) (faults : D → ℕ) (pair : Pair) (p : Place P) (r : Copy D) → ((needle : SealedNeedle) → p ≡ place.Live needle → ⊥) → FollowsAt DiskTells files faults pair p r r
 follows_where DiskTells files faults pair (place.Live needle) r never = absurd (never needle refl)
 follows_where DiskTells files faults pair place.Gone r never = refl
 follows_where DiskTells files faults pair place.None r never = refl
+follows_where DiskTells files faults pair (place.Unseen at size) r never = refl
 
 pub follows_on : {D P : Type 0} (DiskTells : Type 0) (files : D → Files) (faults : D → ℕ) (pair : Pair) (r r' : Copy D) (p q : Place P) → q ≡ p → FollowsAt DiskTells files faults pair p r r' → FollowsAt DiskTells files faults pair q r r'
 follows_on DiskTells files faults pair r r' p q e h = subst (λ x. FollowsAt DiskTells files faults pair x r r') (sym e) h
@@ -311,7 +350,7 @@ opens_on DiskTells files Tells rows rows' j r r' same h = record {
   reopened = λ tells stuck s t holds.
       let p = h.reopened tells stuck s t holds in
       (p.0, p.1, p.2, λ pair. subst (PlaceOf Tells (last_cell (p.0).cells pair)) (sym (same pair)) (p.3 pair));
-  deletable = λ tells pair. subst (physical.MayDeletePlace files r') (sym (same pair)) (h.deletable tells pair);
+  reach = λ tells. reaches_same files rows rows' j r' same (h.reach tells);
 }
 
 -- a disk that was not called, and is solid
@@ -321,15 +360,15 @@ disk_same files r solid = record {
   nothing = λ void image leaves other s opens. void_left other (files r.disk) (files r.disk) image s refl void (solid 0) leaves opens;
 }
 
--- each replica that takes changes was opened, and so its photos can be deleted
-pub deletable_from : {D P : Type 0} (DiskTells : Type 0) (files : D → Files) (rows : MapRows P) (R : ℕ → Copy D → Copy D → Type 0) (n : ℕ) (old new : List (Copy D)) → Went R n old new
-    → ((i : ℕ) (r r' : Copy D) → R i r r' → DiskTells → IsUp r' → (pair : Pair) → physical.MayDeletePlace files r' (place_in (row_at rows pair) i))
-    → ((j : ℕ) (r : Copy D) → At old j r → r.phase ≡ phase.Closed) → CanDelete DiskTells files new rows
-deletable_from DiskTells files rows R n old new w opened closed = λ tells j r' f up pair.
+-- each replica that is open was opened, and so its places are in reach
+pub reach_from : {D P : Type 0} (DiskTells : Type 0) (files : D → Files) (rows : MapRows P) (R : ℕ → Copy D → Copy D → Type 0) (n : ℕ) (old new : List (Copy D)) → Went R n old new
+    → ((i : ℕ) (r r' : Copy D) → R i r r' → DiskTells → ReachesPlaces files rows i r')
+    → ((j : ℕ) (r : Copy D) → At old j r → r.phase ≡ phase.Closed) → CanReach DiskTells files new rows
+reach_from DiskTells files rows R n old new w opened closed = λ tells j r' f.
     let there = at_there old j (let h = at_below new j r' f in let c = w.count in let less : j < length old = omega (arith, h, c) in less) in
     elim (cases_lt j n) [
-      | inl less ↦ opened j there.0 r' (w.done j there.0 r' less there.1 f) tells up pair
+      | inl less ↦ opened j there.0 r' (w.done j there.0 r' less there.1 f) tells
       | inr most ↦
           let is : r'.phase ≡ phase.Closed = ap (λ r. r.phase) (w.rest j there.0 r' most there.1 f) ∙ closed j there.0 there.1 in
-          let never : ⊥ = subst (HasFrozen false) is up in absurd never
+          reaches_closed files rows j r' is
     ]

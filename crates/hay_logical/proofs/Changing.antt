@@ -9,6 +9,7 @@ use Rattle.hay_needle.specs.declared.needle.Outcome.TheVariants as outcome
 use Rattle.hay_needle.specs.declared.needle.Pair.{Pair}
 use Rattle.hay_needle.specs.declared.settings.Settings.{Settings}
 use Rattle.hay_needle.specs.Tables.{outcome_at, pair_eq}
+use Rattle.hay_needle.proofs.TableLaws.{pair_same}
 use Rattle.hay_disk.specs.Counts.{Rose}
 use Rattle.hay_disk.specs.Disk.{Files}
 use Rattle.hay_core.specs.declared.entry.CoreTag.{CoreTag}
@@ -23,6 +24,7 @@ use Rattle.hay_map.specs.Places.{PlaceMeans, gone_place, place_in}
 use Rattle.hay_map.specs.Rows.{row_at}
 use Rattle.hay_map.specs.declared.place.Place.{Place}
 use Rattle.hay_map.specs.declared.place.Place.TheVariants as place
+use Rattle.hay_compact.specs.Finishing.{IsSeen}
 use Rattle.hay_physical.specs.declared.fault.ReplicaFault.{ReplicaFault}
 use Rattle.hay_physical.specs.declared.fault.ReplicaFault.TheVariants as fault
 use Rattle.hay_physical.specs.Copies.{Copy, IsOpenCopy, IsUp, goal_of, is_stuck}
@@ -38,12 +40,13 @@ use Rattle.hay_logical.specs.Fits.{At, RunsAs, copier_run}
 use Rattle.hay_logical.specs.Notes.{is_live}
 use Rattle.hay_logical.specs.Refusals.{answer_at}
 use Rattle.hay_logical.specs.Stands.{ReplicaStands, Stands, StandsFor}
-use Rattle.hay_logical.specs.Steps.{AllIdle, CallsOne, DeleteLeaves, DeletesAt, FlushesAt, FollowsAt, PutLeaves}
-use Rattle.hay_logical.specs.Volumes.{Volume}
+use Rattle.hay_logical.specs.Steps.{AllIdle, CallsOne, DeleteLeaves, DeletesAt, FlushesAt, FollowsAt, PutLeaves, StaysBeside}
+use Rattle.hay_logical.specs.Volumes.{CanReach, Volume}
 use Rattle.hay_logical.proofs.Calls.{up_open, frozen_open}
 use Rattle.hay_logical.proofs.Holding.{RunEnd, delete_part, stands_broken, stands_changed, stands_delete}
 use Rattle.hay_logical.proofs.Knowing.{changed_here, changed_other, fits_flushed, fits_other, fits_stuck}
 use Rattle.hay_logical.proofs.Lists.{at_below, at_same, at_there, length-slice_set}
+use Rattle.hay_logical.proofs.Looking.{stands_on, stands_seen}
 use Rattle.hay_logical.proofs.Methods.{one_after, one_count, other_same, shown}
 use Rattle.hay_logical.proofs.Reopening.{Chosen, choose}
 use Rattle.hay_logical.proofs.Standing.{takes, volume_with}
@@ -64,6 +67,8 @@ place_stands Tells pair place.Gone (outcome.Photo photo) h = absurd h
 place_stands Tells pair place.Gone outcome.Nothing h = refl
 place_stands Tells pair place.None (outcome.Photo photo) h = absurd h
 place_stands Tells pair place.None outcome.Nothing h = refl
+place_stands Tells pair (place.Unseen at size) (outcome.Photo photo) h = absurd h
+place_stands Tells pair (place.Unseen at size) outcome.Nothing h = absurd h
 
 none_any : {X : Type 0} (f : X → Bool) (xs : List X) (d : X) → ((j : ℕ) → j < length xs → f (slice_index_or xs j d) ≡ false) → list_any f xs ≡ false
 none_any f [] d h = refl
@@ -87,11 +92,13 @@ deletes_sup : {D P : Type 0} (DiskTells : Type 0) (files : D → Files) (p : Pla
 deletes_sup DiskTells files (place.Live needle) r r' h = (h.1, h.2)
 deletes_sup DiskTells files place.Gone r r' h = (h.sup, h.stuck)
 deletes_sup DiskTells files place.None r r' h = (h.sup, h.stuck)
+deletes_sup DiskTells files (place.Unseen at size) r r' h = (h.sup, h.stuck)
 
 deletes_up : {D P : Type 0} (DiskTells : Type 0) (files : D → Files) (p : Place P) (r r' : Copy D) → DeletesAt DiskTells files p r r' → IsUp r → IsUp r'
 deletes_up {D = D} DiskTells files (place.Live needle) r r' h up = h.0
 deletes_up {D = D} DiskTells files place.Gone r r' h up = h.up up
 deletes_up {D = D} DiskTells files place.None r r' h up = h.up up
+deletes_up {D = D} DiskTells files (place.Unseen at size) r r' h up = h.up up
 
 pub deleted_same : {D P : Type 0} (DiskTells : Type 0) (files : D → Files) (p : Place P) (r r' : Copy D) → DeletesAt DiskTells files p r r' → IsUp r → IsUp r' × (r'.sup ≡ r.sup) × (is_stuck r' ≡ is_stuck r)
 deleted_same DiskTells files p r r' h up =
@@ -104,6 +111,7 @@ goal_follows : {D P : Type 0} (DiskTells : Type 0) (files : D → Files) (faults
 goal_follows DiskTells files faults pair (place.Live needle) r r' h = h.goal
 goal_follows DiskTells files faults pair place.Gone r r' h = inl (ap (λ x. goal_of x) h)
 goal_follows DiskTells files faults pair place.None r r' h = inl (ap (λ x. goal_of x) h)
+goal_follows DiskTells files faults pair (place.Unseen at size) r r' h = inl (ap (λ x. goal_of x) h)
 
 abbrev EndedIn : {D : Type 0} → (D → ℕ) → List (Copy D) → List (Copy D) → ℕ → Bool → Type 0
 EndedIn {D} faults olds news j b = (r r' : Copy D) → At olds j r → At news j r' → RunEnd faults r r' b
@@ -129,48 +137,51 @@ pub record Remains {D : Type 0} (r r' : Copy D) : Type 0 where
 
 module _ {D P : Type 0} (settings : Settings) (number : ℕ) (DiskTells : Type 0) (files : D → Files) (Tells : Type 0) (faults fuses : D → ℕ) where
   pub held_by : (items : List (Copy D)) (rows : MapRows P) (front : ℕ) (frozen : Option ℕ) (unsure : Option Unsure) (k : VolumeKnown) (pair : Pair) (row : List (Place P))
-      → StandsFor files Tells (volume_with settings number items rows front frozen unsure) k → row ≡ row_at rows pair
+      → StandsFor files Tells (volume_with settings number items rows front frozen unsure) k → row ≡ row_at rows pair → ((j : ℕ) → j < settings.replicas → IsSeen (place_in (row_at rows pair) j))
       → (j : ℕ) → j < settings.replicas → has_pair k pair (replica_at k j) ≡ is_live (place_in row j)
-  held_by items rows front frozen unsure k pair row stands is j h =
+  held_by items rows front frozen unsure k pair row stands is seen j h =
+      let all : length items ≡ settings.replicas = stands.all in
+      let there = at_there items j (let less : j < length items = omega (arith, h, all) in less) in
       place_stands Tells pair (place_in row j) (outcome_at (now k (replica_at k j)) pair)
       (subst (λ l. PlaceMeans Tells pair (place_in l j) (outcome_at (now k (replica_at k j)) pair)) (sym is)
-      (shown settings number DiskTells files Tells faults fuses items rows front frozen unsure k stands pair j h))
+      (stands_seen DiskTells files Tells there.0 pair (place_in (row_at rows pair) j) (outcome_at (now k (replica_at k j)) pair) (seen j h)
+      (shown settings number DiskTells files Tells faults fuses items rows front frozen unsure k stands pair j there.0 there.1)))
 
   pub not_held : (items : List (Copy D)) (rows : MapRows P) (front : ℕ) (frozen : Option ℕ) (unsure : Option Unsure) (k : VolumeKnown) (pair : Pair) (row : List (Place P))
-      → StandsFor files Tells (volume_with settings number items rows front frozen unsure) k → row ≡ row_at rows pair → length row ≡ settings.replicas
+      → StandsFor files Tells (volume_with settings number items rows front frozen unsure) k → row ≡ row_at rows pair → length row ≡ settings.replicas → ((j : ℕ) → j < settings.replicas → IsSeen (place_in (row_at rows pair) j))
       → ((j : ℕ) → j < length row → is_live (place_in row j) ≡ false) → is_held k pair ≡ false
-  not_held items rows front frozen unsure k pair row stands is long none =
+  not_held items rows front frozen unsure k pair row stands is long seen none =
       let many : length k.replicas ≡ settings.replicas = stands.many in
       none_any (has_pair k pair) k.replicas empty_replica (λ j h.
       let within : j < settings.replicas = omega (arith, h, many) in
       let less : j < length row = omega (arith, within, long) in
-      held_by items rows front frozen unsure k pair row stands is j within ∙ none j less)
+      held_by items rows front frozen unsure k pair row stands is seen j within ∙ none j less)
 
   pub is_held_at : (items : List (Copy D)) (rows : MapRows P) (front : ℕ) (frozen : Option ℕ) (unsure : Option Unsure) (k : VolumeKnown) (pair : Pair) (row : List (Place P))
-      → StandsFor files Tells (volume_with settings number items rows front frozen unsure) k → row ≡ row_at rows pair → length row ≡ settings.replicas
+      → StandsFor files Tells (volume_with settings number items rows front frozen unsure) k → row ≡ row_at rows pair → length row ≡ settings.replicas → ((j : ℕ) → j < settings.replicas → IsSeen (place_in (row_at rows pair) j))
       → (some : (j : ℕ) × (j < length row) × (is_live (place_in row j) ≡ true)) → is_held k pair ≡ true
-  is_held_at items rows front frozen unsure k pair row stands is long some =
+  is_held_at items rows front frozen unsure k pair row stands is long seen some =
       let many : length k.replicas ≡ settings.replicas = stands.many in
       let less = some.1 in
       let within : some.0 < settings.replicas = omega (arith, less, long) in
       let known : some.0 < length k.replicas = omega (arith, within, many) in
-      some_any (has_pair k pair) k.replicas some.0 empty_replica known (held_by items rows front frozen unsure k pair row stands is some.0 within ∙ some.2)
+      some_any (has_pair k pair) k.replicas some.0 empty_replica known (held_by items rows front frozen unsure k pair row stands is seen some.0 within ∙ some.2)
 
   pub deleted : DiskTells → (items new : List (Copy D)) (rows rows' : MapRows P) (front front' : ℕ) (frozen : Option ℕ) (unsure : Option Unsure) (k : VolumeKnown) (tag : CoreTag) (pair : Pair) (row : List (Place P))
       → StandsFor files Tells (volume_with settings number items rows front frozen unsure) k → frozen ≡ None → length new ≡ length items → front' ≡ front + 1
-      → row ≡ row_at rows pair → length row ≡ settings.replicas → (some : (j : ℕ) × (j < length row) × (is_live (place_in row j) ≡ true))
+      → row ≡ row_at rows pair → length row ≡ settings.replicas → ((j : ℕ) → j < settings.replicas → IsSeen (place_in (row_at rows pair) j)) → (some : (j : ℕ) × (j < length row) × (is_live (place_in row j) ≡ true))
       → ((other : Pair) → row_at rows' other ≡ cond (pair_eq pair other) (map gone_place (row_at rows other)) (row_at rows other))
       → ((j : ℕ) (r : Copy D) → At items j r → IsUp r)
       → ((j : ℕ) (r r' : Copy D) → At items j r → At new j r' → DeletesAt DiskTells files (place_in row j) r r')
       → ((j : ℕ) (r r' : Copy D) → At items j r → At new j r' → FollowsAt DiskTells files faults pair (place_in row j) r r')
       → IsDeleted files faults Tells k tag pair front' (volume_with settings number items rows front frozen unsure) (volume_with settings number new rows' front' frozen unsure)
   unfolding Stands
-  deleted tells items new rows rows' front front' (Some m) unsure k tag pair row stands thawed count next is long some changed up each follow = some_none thawed
-  deleted tells items new rows rows' front front' None unsure k tag pair row stands thawed count next is long some changed up each follow =
+  deleted tells items new rows rows' front front' (Some m) unsure k tag pair row stands thawed count next is long seen some changed up each follow = some_none thawed
+  deleted tells items new rows rows' front front' None unsure k tag pair row stands thawed count next is long seen some changed up each follow =
       let ended = ends_in faults items new settings.replicas stands.all count (λ j r r' e f. goal_follows DiskTells files faults pair (place_in row j) r r' (follow j r r' e f)) in
       record {
         thawed = stands.frozen;
-        stood = is_held_at items rows front None unsure k pair row stands is long some;
+        stood = is_held_at items rows front None unsure k pair row stands is long seen some;
         position = let e = stands.front in omega (arith, e, next);
         ended = ended.items;
         count = ended.count;
@@ -183,27 +194,41 @@ module _ {D P : Type 0} (settings : Settings) (number : ℕ) (DiskTells : Type 0
             let low = at_below items j r e in
             let all = stands.all in
             let there = at_there ended.items j (let n = ended.count in let less : j < length ended.items = omega (arith, low, n, all) in less) in
-            (there.0, there.1, ended.each j there.0 there.1 r r' e f));
+            (there.0, there.1, ended.each j there.0 there.1 r r' e f))
+            (λ j r e. seen j (let low = at_below items j r e in let all = stands.all in let less : j < settings.replicas = omega (arith, low, all) in less));
       }
 
   pub delete_refused : DiskTells → (items new : List (Copy D)) (rows : MapRows P) (front : ℕ) (frozen : Option ℕ) (unsure : Option Unsure) (k : VolumeKnown) (tag : CoreTag) (pair : Pair) (row : List (Place P)) (failed : DiskFailed) (m : ℕ)
       → StandsFor files Tells (volume_with settings number items rows front frozen unsure) k → frozen ≡ None → length new ≡ length items → row ≡ row_at rows pair
-      → length row ≡ settings.replicas → (some : (j : ℕ) × (j < length row) × (is_live (place_in row j) ≡ true)) → m ≡ machine_of settings number failed.at → DeleteLeaves DiskTells files faults row items new failed → AllIdle new
-      → DeleteRefused files Tells k tag pair (volume_with settings number items rows front frozen unsure)
-      (volume_with settings number new rows front (Some m) (Some (record { tag = tag; change = change.Delete pair }))) (logical.Failed m failed.faults)
+      → length row ≡ settings.replicas → ((j : ℕ) → j < settings.replicas → IsSeen (place_in (row_at rows pair) j)) → (some : (j : ℕ) × (j < length row) × (is_live (place_in row j) ≡ true)) → m ≡ machine_of settings number failed.at → DeleteLeaves DiskTells files faults row items new failed → AllIdle new
+      → CanReach DiskTells files items rows → ((j : ℕ) (r : Copy D) → At items j r → IsOpenCopy r) → ((j : ℕ) (r r' : Copy D) → At items j r → At new j r' → StaysBeside DiskTells files (place_in row j) r r')
+      → DeleteRefused files Tells k tag pair (volume_with settings number new rows front (Some m) (Some (record { tag = tag; change = change.Delete pair }))) (logical.Failed m failed.faults)
   unfolding Stands
-  delete_refused tells items new rows front (Some n) unsure k tag pair row failed m stands thawed count is long some machine left idle = some_none thawed
-  delete_refused tells items new rows front None unsure k tag pair row failed m stands thawed count is long some machine left idle =
+  delete_refused tells items new rows front (Some n) unsure k tag pair row failed m stands thawed count is long seen some machine left idle can ups beside = some_none thawed
+  delete_refused tells items new rows front None unsure k tag pair row failed m stands thawed count is long seen some machine left idle can ups beside =
       let left' : DeleteLeaves DiskTells files faults (row_at rows pair) items new failed = subst (λ l. DeleteLeaves DiskTells files faults l items new failed) is left in
       let below = at_below items failed.at left.before left.was in
-      let all : length items ≡ settings.replicas = stands.all in (
+      let all : length items ≡ settings.replicas = stands.all in
+      let looked : (j : ℕ) (r : Copy D) → At items j r → IsSeen (place_in (row_at rows pair) j) = λ j r e. seen j (let low = at_below items j r e in let less : j < settings.replicas = omega (arith, low, all) in less) in (
         stands.frozen,
-        is_held_at items rows front None unsure k pair row stands is long some,
-        stands_broken DiskTells files Tells settings number items new rows rows front unsure k tag (Del pair) (change.Delete pair) m failed.at true stands count
-            ((let less : failed.at < settings.replicas = omega (arith, below, all) in less), ap (λ n. Some n) machine) refl (λ q. refl)
-            (delete_part DiskTells files Tells settings number tells faults items new rows front unsure k pair failed left'
-            (λ j r r' less e f. (deletes_sup DiskTells files (place_in row j) r r' (left.below j r r' less e f)).1)) idle,
+        inr (
+          is_held_at items rows front None unsure k pair row stands is long seen some,
+          stands_broken DiskTells files Tells settings number items new rows rows front unsure k tag (Del pair) (change.Delete pair) m failed.at true stands count
+              ((let less : failed.at < settings.replicas = omega (arith, below, all) in less), ap (λ n. Some n) machine) refl (λ q. refl)
+              (delete_part DiskTells files Tells settings number tells faults items new rows front unsure k pair failed left'
+              (λ j r r' less e f. (deletes_sup DiskTells files (place_in row j) r r' (left.below j r r' less e f)).1) looked) idle
+              (λ j r r' e f q what. stands_on DiskTells files Tells (λ at size. physical.IsApartPlace at size (place_in row j)) r r' q (place_in (row_at rows q) j) what (beside j r r' e f tells).sees
+              (λ at size here. subst (λ l. physical.IsApartPlace at size (place_in l j)) (sym is) (apart_of j r e (looked j r e) q at size here))),
+        ),
       )
+    where
+      apart_of : (j : ℕ) (r : Copy D) → At items j r → IsSeen (place_in (row_at rows pair) j) → (q : Pair) (at size : ℕ) → place_in (row_at rows q) j ≡ place.Unseen at size → physical.IsApartPlace at size (place_in (row_at rows pair) j)
+      apart_of j r e own q at size here = elim (cases_Bool (pair_eq q pair)) [
+        | inl same ↦
+            let is_own : place_in (row_at rows pair) j ≡ place.Unseen at size = ap (λ (x : Pair). place_in (row_at rows x) j) (sym (pair_same q pair same)) ∙ here in
+            let never : ⊥ = subst IsSeen is_own own in absurd never
+        | inr differ ↦ subst (λ x. physical.ArePlacesApart x (place_in (row_at rows pair) j)) here (((can tells j r e).sees (ups j r e)).apart q pair differ)
+      ]
 
   pub delete_failed : (items new : List (Copy D)) (row : List (Place P)) (failed : DiskFailed) (m : ℕ) → length items ≡ settings.replicas
       → m ≡ machine_of settings number failed.at → DeleteLeaves DiskTells files faults row items new failed → HasFailed faults settings number items new m failed.faults

@@ -24,6 +24,8 @@ photo_at Tells (Some cell) place.None of = absurd of
 photo_at Tells None (place.Live needle) of = absurd of
 photo_at Tells None place.Gone of = tt
 photo_at Tells None place.None of = tt
+photo_at Tells (Some cell) (place.Unseen at size) of = of
+photo_at Tells None (place.Unseen at size) of = absurd of
 
 -- RUNS
 

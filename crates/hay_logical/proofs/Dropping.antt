@@ -15,8 +15,9 @@ use Rattle.hay_logical.specs.declared.replicas.Broken.{Broken}
 use Rattle.hay_logical.specs.declared.replicas.DiskFailed.{DiskFailed}
 use Rattle.hay_logical.specs.Fits.{At}
 use Rattle.hay_logical.specs.Refusals.{IsUntouched}
-use Rattle.hay_logical.specs.Steps.{AllIdle, DeleteLeaves, DeletesAt, EndsRuns, IsPutFault, KeepsDeletable, LosesRun, PutLeaves, StillRuns}
+use Rattle.hay_logical.specs.Steps.{AllIdle, DeleteLeaves, DeletesAt, EndsRuns, IsPutFault, KeepsReach, LosesRun, PutLeaves, StillRuns}
 use Rattle.hay_logical.specs.Volumes.{KeepsCounts}
+use Rattle.hay_logical.proofs.Calls.{reach_behind, reach_through}
 use Rattle.hay_logical.proofs.Lists.{at_below, at_there}
 
 pub not_untouched : {D : Type 0} (replicas : List (Copy D)) (broken : Broken)
@@ -36,7 +37,7 @@ module _ {D : Type 0} (DiskTells : Type 0) (files : D → Files) where
     stuck = b.stuck ∙ a.stuck;
     stands = λ tells s h. b.stands tells s (a.stands tells s h);
     holds = λ tells c s t h. b.holds tells c s t (a.holds tells c s t h);
-    deletable = λ tells place may. b.deletable tells place (a.deletable tells place may);
+    reach = λ tells. reach_through files r x y (a.reach tells) (b.reach tells);
   }
 
   abbrev pub LoseRuns : List (Copy D) → List (Copy D) → Type 0
@@ -68,9 +69,9 @@ module _ {D : Type 0} (DiskTells : Type 0) (files : D → Files) where
       stay = λ j r r' e f. let b = between j r' f in ap fuses (b.2.disk) ∙ k.stay j r b.0 e b.1;
     }
 
-    pub deletable_on : ((j : ℕ) (r r' : Copy D) → At old j r → At middle j r' → KeepsDeletable DiskTells files r r')
-        → (j : ℕ) (r r' : Copy D) → At old j r → At new j r' → KeepsDeletable DiskTells files r r'
-    deletable_on keeps j r r' e f tells place may = let b = between j r' f in b.2.deletable tells place (keeps j r b.0 e b.1 tells place may)
+    pub reach_on : (IsKept : ℕ → ℕ → ℕ → Type 0) → ((j : ℕ) (r r' : Copy D) → At old j r → At middle j r' → DiskTells → KeepsReach files (IsKept j) r r')
+        → (j : ℕ) (r r' : Copy D) → At old j r → At new j r' → DiskTells → KeepsReach files (IsKept j) r r'
+    reach_on IsKept keeps j r r' e f tells = let b = between j r' f in reach_behind files r b.0 r' (keeps j r b.0 e b.1 tells) (b.2.reach tells)
 
     -- A PUT
 
@@ -122,6 +123,7 @@ module _ {D : Type 0} (DiskTells : Type 0) (files : D → Files) where
     deletes_after (place.Live needle) r x y loses d = (loses.up d.0, loses.sup ∙ d.1, loses.stuck ∙ d.2, λ tells s h live. loses.stands tells _ (d.3 tells s h live))
     deletes_after place.Gone r x y loses d = loses_after r x y d loses
     deletes_after place.None r x y loses d = loses_after r x y d loses
+    deletes_after (place.Unseen at size) r x y loses d = loses_after r x y d loses
 
     pub delete_leaves_on : {P : Type 0} (row : List (Place P)) (failed : DiskFailed)
         → DeleteLeaves DiskTells files faults row old middle failed → DeleteLeaves DiskTells files faults row old new failed

@@ -15,7 +15,7 @@ use Rattle.hay_physical.specs.Faults as physical_faults
 use Rattle.hay_physical.specs.Runs.{EndsRun, HasRun, Run}
 use Rattle.hay_logical.specs.Fits.{PhotoAt}
 use Rattle.hay_logical.specs.Steps.{GoesOn, IsStepFault, StepLeaves, latest_of, stepped_by}
-use Rattle.hay_logical.proofs.Calls.{not_both}
+use Rattle.hay_logical.proofs.Calls.{not_both, reach_still, reach_through}
 
 -- COUNTS
 
@@ -33,7 +33,7 @@ step_more n m run = let e : run.left - n - m ≡ run.left - (n + m) = omega arit
 
 module _ {D : Type 0} (DiskTells : Type 0) (files : D → Files) where
   pub goes_none : (r : Copy D) → IsUp r → GoesOn DiskTells files r r
-  goes_none r up = record { up = up; sup = refl; stuck = refl; stands = λ tells s h. h; deletable = λ tells place may. may }
+  goes_none r up = record { up = up; sup = refl; stuck = refl; stands = λ tells s h. h; reach = λ tells. reach_still files r }
 
   pub goes_after : (r x y : Copy D) → GoesOn DiskTells files r x → GoesOn DiskTells files x y → GoesOn DiskTells files r y
   goes_after r x y a b = record {
@@ -41,7 +41,7 @@ module _ {D : Type 0} (DiskTells : Type 0) (files : D → Files) where
     sup = b.sup ∙ a.sup;
     stuck = b.stuck ∙ a.stuck;
     stands = λ tells s h. b.stands tells s (a.stands tells s h);
-    deletable = λ tells place may. b.deletable tells place (a.deletable tells place may);
+    reach = λ tells. reach_through files r x y (a.reach tells) (b.reach tells);
   }
 
 module _ {D : Type 0} (faults : D → ℕ) where
@@ -122,3 +122,4 @@ latest_is {P = P} Tells cells pair p cell last at = by_place p (subst (λ (o : O
     by_place (place.Live needle) is = record { cell = cell; last = last; place = sym is.at }
     by_place place.Gone is = record { cell = cell; last = last; place = is }
     by_place place.None is = record { cell = cell; last = last; place = is }
+    by_place (place.Unseen there size) is = record { cell = cell; last = last; place = sym is.0 }

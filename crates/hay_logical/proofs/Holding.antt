@@ -34,11 +34,12 @@ use Rattle.hay_physical.specs.Copies.{Copy, goal_of, is_stuck}
 use Rattle.hay_physical.specs.Runs.{HasRun, Run, loosened}
 use Rattle.hay_physical.specs.Replicas as physical
 use Rattle.hay_physical.proofs.Laws.{goal_none, sealed_live, stands_hold}
+use Rattle.hay_compact.specs.Finishing.{IsSeen}
 use Rattle.hay_logical.specs.declared.replicas.Broken.{Broken}
 use Rattle.hay_logical.specs.declared.replicas.DiskFailed.{DiskFailed}
 use Rattle.hay_logical.specs.declared.unsure.Change.{Change}
 use Rattle.hay_logical.specs.declared.unsure.Unsure.{Unsure}
-use Rattle.hay_logical.specs.Fits.{At, Fits, HoldsPart, HoldsSwap, Makes, Part, PhotoAt, RunsAs, copier_run, part_of}
+use Rattle.hay_logical.specs.Fits.{At, Fits, HoldsPart, HoldsSwap, Makes, Part, PhotoAt, PlaceStands, RunsAs, copier_run, part_of}
 use Rattle.hay_logical.specs.Fits.Part.{Kept, Unsure as Perhaps, Lost}
 use Rattle.hay_logical.specs.Stands.{HoldsFor, HoldsPending, IsBrokenAt, IsChange, IsPending, ReplicaHolds, ReplicaStands, StandsBy, StandsFor, TakesChanges}
 use Rattle.hay_logical.specs.Stands as stands
@@ -47,6 +48,7 @@ use Rattle.hay_logical.proofs.Compacting.{ended_by, ended_poised, ended_stuck, k
 use Rattle.hay_logical.proofs.Knowing.{deleted_replica, fits_delete, fits_frozen, frozen_base, frozen_replica, frozen_stuck}
 use Rattle.hay_logical.proofs.Lists.{at_below, at_same, at_there}
 use Rattle.hay_logical.proofs.Standing.{none_pending, pending_unsure, takes, volume_with}
+use Rattle.hay_logical.proofs.Looking.{stored_stands}
 use Rattle.hay_logical.proofs.Tables.{last_other, last_own, makes_delete, makes_nothing, makes_put, place_means}
 
 -- PARTS
@@ -212,40 +214,42 @@ module _ {D P : Type 0} (DiskTells : Type 0) (files : D → Files) (Tells : Type
           run = λ run has. subst (λ n. HasRun files r' (physical.without_cell s n) (option_map loosened run) ⊎ (goal_of r' ≡ None)) moved (runs run has);
         }
 
-    delete_by : DiskTells → (p : Place P) (o : Option Cell) → place_in (row_at rows pair) j ≡ p → last_cell s.cells pair ≡ o → PhotoAt Tells o p → physical.Stands files r s
+    delete_by : DiskTells → (p : Place P) (o : Option Cell) → IsSeen p → place_in (row_at rows pair) j ≡ p → last_cell s.cells pair ≡ o → PhotoAt Tells o p → physical.Stands files r s
         → DeletesAt DiskTells files p r r' → FollowsAt DiskTells files faults pair p r r' → DeletedIn files Tells pair s rows' j r r'
-    delete_by tells (place.Live needle) (Some d) is last of stands step follow =
+    delete_by tells (place.Live needle) (Some d) seen is last of stands step follow =
         flags needle d is last of stands (step.3 tells s stands (sealed_live Tells s.cells pair d needle last of))
         (λ run has. follow.run tells s run stands has (record { cell = d; last = last; place = sym of.at; alive = of.alive }))
-    delete_by tells (place.Live needle) None is last of stands step follow = absurd of
-    delete_by tells place.Gone o is last of stands step follow =
+    delete_by tells (place.Unseen at size) o seen is last of stands step follow = absurd seen
+    delete_by tells (place.Live needle) None seen is last of stands step follow = absurd of
+    delete_by tells place.Gone o seen is last of stands step follow =
         stays place.Gone is (subst (λ (x : Option Cell). PhotoAt {P = P} Tells x place.Gone) (sym last) of)
-        (no_photo P Tells pair _ (inl (place_means Tells s.cells pair place.Gone (subst (λ (x : Option Cell). PhotoAt {P = P} Tells x place.Gone) (sym last) of)))) (step.stands tells s stands) follow
-    delete_by tells place.None o is last of stands step follow =
+        (no_photo P Tells pair _ (inl (place_means Tells s.cells pair place.Gone tt (subst (λ (x : Option Cell). PhotoAt {P = P} Tells x place.Gone) (sym last) of)))) (step.stands tells s stands) follow
+    delete_by tells place.None o seen is last of stands step follow =
         stays place.None is (subst (λ (x : Option Cell). PhotoAt {P = P} Tells x place.None) (sym last) of)
-        (no_photo P Tells pair _ (inr (place_means Tells s.cells pair place.None (subst (λ (x : Option Cell). PhotoAt {P = P} Tells x place.None) (sym last) of)))) (step.stands tells s stands) follow
+        (no_photo P Tells pair _ (inr (place_means Tells s.cells pair place.None tt (subst (λ (x : Option Cell). PhotoAt {P = P} Tells x place.None) (sym last) of)))) (step.stands tells s stands) follow
 
-    pub delete_replica : DiskTells → physical.Stands files r s → DeletesAt DiskTells files (place_in (row_at rows pair) j) r r' → FollowsAt DiskTells files faults pair (place_in (row_at rows pair) j) r r' → DeletedIn files Tells pair s rows' j r r'
-    delete_replica tells stands step follow = delete_by tells (place_in (row_at rows pair) j) (last_cell s.cells pair) refl refl (places pair) stands step follow
+    pub delete_replica : DiskTells → IsSeen (place_in (row_at rows pair) j) → physical.Stands files r s → DeletesAt DiskTells files (place_in (row_at rows pair) j) r r' → FollowsAt DiskTells files faults pair (place_in (row_at rows pair) j) r r' → DeletedIn files Tells pair s rows' j r r'
+    delete_replica tells seen stands step follow = delete_by tells (place_in (row_at rows pair) j) (last_cell s.cells pair) seen refl refl (places pair) stands step follow
 
   -- what a delete of a pair makes of a replica
-  made_by : DiskTells → (pair : Pair) (s : Stored) (r r' : Copy D) (p : Place P) (o : Option Cell) → last_cell s.cells pair ≡ o → PhotoAt Tells o p → physical.Stands files r s
+  made_by : DiskTells → (pair : Pair) (s : Stored) (r r' : Copy D) (p : Place P) (o : Option Cell) → IsSeen p → last_cell s.cells pair ≡ o → PhotoAt Tells o p → physical.Stands files r s
       → DeletesAt DiskTells files p r r' → (t : Stored) × Makes (Del pair) s t × physical.Stands files r' t
-  made_by tells pair s r r' (place.Live needle) (Some d) last of stands step =
+  made_by tells pair s r r' (place.Unseen at size) o seen last of stands step = absurd seen
+  made_by tells pair s r r' (place.Live needle) (Some d) seen last of stands step =
       let cells = stands_cells files r s stands in (
         physical.without_cell s d.at,
         makes_delete 64 cells.0 s pair d cells.1 last,
         subst (λ n. physical.Stands files r' (physical.without_cell s n)) (of.at) (step.3 tells s stands (sealed_live Tells s.cells pair d needle last of)),
       )
-  made_by tells pair s r r' (place.Live needle) None last of stands step = absurd of
-  made_by tells pair s r r' place.Gone o last of stands step = (
+  made_by tells pair s r r' (place.Live needle) None seen last of stands step = absurd of
+  made_by tells pair s r r' place.Gone o seen last of stands step = (
     s,
-    makes_nothing s pair (no_photo P Tells pair _ (inl (place_means Tells s.cells pair place.Gone (subst (λ (x : Option Cell). PhotoAt {P = P} Tells x place.Gone) (sym last) of)))),
+    makes_nothing s pair (no_photo P Tells pair _ (inl (place_means Tells s.cells pair place.Gone tt (subst (λ (x : Option Cell). PhotoAt {P = P} Tells x place.Gone) (sym last) of)))),
     step.stands tells s stands,
   )
-  made_by tells pair s r r' place.None o last of stands step = (
+  made_by tells pair s r r' place.None o seen last of stands step = (
     s,
-    makes_nothing s pair (no_photo P Tells pair _ (inr (place_means Tells s.cells pair place.None (subst (λ (x : Option Cell). PhotoAt {P = P} Tells x place.None) (sym last) of)))),
+    makes_nothing s pair (no_photo P Tells pair _ (inr (place_means Tells s.cells pair place.None tt (subst (λ (x : Option Cell). PhotoAt {P = P} Tells x place.None) (sym last) of)))),
     step.stands tells s stands,
   )
 
@@ -257,8 +261,9 @@ module _ {D P : Type 0} (DiskTells : Type 0) (files : D → Files) (Tells : Type
         → ((j : ℕ) (r r' : Copy D) → At replicas j r → At replicas' j r' → is_stuck r' ≡ is_stuck r)
         → (faults : D → ℕ) → ((j : ℕ) (r r' : Copy D) → At replicas j r → At replicas' j r' → FollowsAt DiskTells files faults pair (place_in (row_at rows pair) j) r r')
         → (ended : List Bool) → ((j : ℕ) (r r' : Copy D) → At replicas j r → At replicas' j r' → (b : Bool) × At ended j b × RunEnd faults r r' b)
+        → ((j : ℕ) (r : Copy D) → At replicas j r → IsSeen (place_in (row_at rows pair) j))
         → StandsFor files Tells (volume_with settings number replicas' rows' front' None unsure) (with_del ended tag pair k)
-    stands_delete tells replicas replicas' rows rows' front front' unsure k tag pair stands count next changed each stuck faults follow ended ends =
+    stands_delete tells replicas replicas' rows rows' front front' unsure k tag pair stands count next changed each stuck faults follow ended ends seen =
         let taking = takes DiskTells files Tells settings number replicas rows front None unsure k stands refl in
         record {
           all = count ∙ stands.all;
@@ -272,7 +277,7 @@ module _ {D P : Type 0} (DiskTells : Type 0) (files : D → Files) (Tells : Type
                 let below : j < length replicas = (let h = at_below replicas' j r' f in omega (arith, h, count)) in
                 let old = at_there replicas j below in
                 let was = taking.each j old.0 old.1 in
-                let d = delete_replica faults pair was.stored rows rows' j old.0 r' changed was.places tells was.stands (each j old.0 r' old.1 f) (follow j old.0 r' old.1 f) in
+                let d = delete_replica faults pair was.stored rows rows' j old.0 r' changed was.places tells (seen j old.0 old.1) was.stands (each j old.0 r' old.1 f) (follow j old.0 r' old.1 f) in
                 let b = ends j old.0 r' old.1 f in
                 let known : j < length k.replicas = (let m = stands.many in let a = stands.all in omega (arith, below, m, a)) in
                 let now_is = deleted_replica k ended tag pair j b.0 b.1 known in
@@ -297,8 +302,9 @@ module _ {D P : Type 0} (DiskTells : Type 0) (files : D → Files) (Tells : Type
         → ((j : ℕ) (r r' : Copy D) → At replicas j r → At replicas' j r' → (was : ReplicaStands files Tells (volume_with settings number replicas rows front None unsure) k j r)
         → HoldsPart files r' (replica_at k j).stuck entry was.stored (part_of at j))
         → AllIdle replicas'
+        → ((j : ℕ) (r r' : Copy D) → At replicas j r → At replicas' j r' → (q : Pair) (what : Outcome) → PlaceStands files Tells r q (place_in (row_at rows q) j) what → PlaceStands files Tells r' q (place_in (row_at rows q) j) what)
         → StandsFor files Tells (volume_with settings number replicas' rows' front (Some m) (Some (record { tag = tag; change = asked }))) (frozen_with m tag entry failed k)
-    stands_broken replicas replicas' rows rows' front unsure k tag entry asked m at failed given count broken changes same each idle =
+    stands_broken replicas replicas' rows rows' front unsure k tag entry asked m at failed given count broken changes same each idle sight =
         let taking = takes DiskTells files Tells settings number replicas rows front None unsure k given refl in
         let m_is = given.many in
         let a_is = given.all in
@@ -309,14 +315,16 @@ module _ {D P : Type 0} (DiskTells : Type 0) (files : D → Files) (Tells : Type
           frozen = refl;
           unsure = (refl, changes);
           by = record {
-            places = λ q j within.
-                let below : j < length replicas = omega (arith, within, a_is) in
-                let known : j < length k.replicas = omega (arith, within, m_is) in
+            places = λ q j r' f.
+                let below : j < length replicas = (let h = at_below replicas' j r' f in omega (arith, h, count)) in
+                let known : j < length k.replicas = omega (arith, below, m_is, a_is) in
                 let old = at_there replicas j below in
                 let was = taking.each j old.0 old.1 in
-                subst (λ (l : List (Place P)). PlaceMeans Tells q (place_in l j) (outcome_at (now (frozen_with m tag entry failed k) (replica_at (frozen_with m tag entry failed k) j)) q)) (sym (same q))
-                (subst (λ (t : Table). PlaceMeans Tells q (place_in (row_at rows q) j) (outcome_at t q)) (was.fits.table ∙ sym (frozen_base k m tag entry failed j known))
-                (place_means Tells was.stored.cells q (place_in (row_at rows q) j) (was.places q)));
+                let what = outcome_at (now (frozen_with m tag entry failed k) (replica_at (frozen_with m tag entry failed k) j)) q in
+                subst (λ (l : List (Place P)). PlaceStands files Tells r' q (place_in l j) what) (sym (same q))
+                (sight j old.0 r' old.1 f q what
+                (subst (λ (t : Table). PlaceStands files Tells old.0 q (place_in (row_at rows q) j) (outcome_at t q)) (was.fits.table ∙ sym (frozen_base k m tag entry failed j known))
+                (stored_stands DiskTells files Tells old.0 was.stored q (place_in (row_at rows q) j) was.stands (was.places q))));
             idle = λ j r' f.
                 let known : j < length k.replicas = (let h = at_below replicas' j r' f in omega (arith, h, count, m_is, a_is)) in
                 (ap (λ (x : ReplicaKnown). x.run) (frozen_replica k m tag entry failed j known), idle j r' f);
@@ -381,14 +389,15 @@ module _ {D P : Type 0} (DiskTells : Type 0) (files : D → Files) (Tells : Type
     pub delete_part : DiskTells → (faults : D → ℕ) (replicas replicas' : List (Copy D)) (rows : MapRows P) (front : ℕ) (unsure : Option Unsure) (k : VolumeKnown) (pair : Pair) (failed : DiskFailed)
         → DeleteLeaves DiskTells files faults (row_at rows pair) replicas replicas' failed
         → ((j : ℕ) (r r' : Copy D) → j < failed.at → At replicas j r → At replicas' j r' → is_stuck r' ≡ is_stuck r)
+        → ((j : ℕ) (r : Copy D) → At replicas j r → IsSeen (place_in (row_at rows pair) j))
         → (j : ℕ) (r r' : Copy D) → At replicas j r → At replicas' j r'
         → (was : ReplicaStands files Tells (volume_with settings number replicas rows front None unsure) k j r)
         → HoldsPart files r' (replica_at k j).stuck (Del pair) was.stored (part_of failed.at j)
-    delete_part tells faults replicas replicas' rows front unsure k pair failed left stuck j r r' e f was =
+    delete_part tells faults replicas replicas' rows front unsure k pair failed left stuck seen j r r' e f was =
         elim (cases_lt j failed.at) [
           | inl less ↦
               subst (HoldsPart files r' (replica_at k j).stuck (Del pair) was.stored) (sym (part_kept failed.at j less))
-              (let made = made_by tells pair was.stored r r' (place_in (row_at rows pair) j) (last_cell was.stored.cells pair) refl (was.places pair) was.stands (left.below j r r' less e f) in
+              (let made = made_by tells pair was.stored r r' (place_in (row_at rows pair) j) (last_cell was.stored.cells pair) (seen j r e) refl (was.places pair) was.stands (left.below j r r' less e f) in
               (made.0, made.1, hold_stuck files r' made.0 (replica_at k j).stuck made.2 (was.stuck ∙ sym (stuck j r r' less e f))))
           | inr most ↦ elim (cases_lt failed.at j) [
             | inl later ↦

@@ -3,7 +3,7 @@ pub mod Calls
 pub mod Changing
 pub mod Compacted
 pub mod Compacting
-pub mod Deletable
+pub mod Reaching
 pub mod Dropping
 pub mod Ends
 pub mod Examining
@@ -11,6 +11,7 @@ pub mod Finishing
 pub mod Holding
 pub mod Knowing
 pub mod Lists
+pub mod Looking
 pub mod Machines
 pub mod Methods
 pub mod Opened
@@ -18,9 +19,11 @@ pub mod Putting
 pub mod Refusing
 pub mod Reopening
 pub mod Rooms
+pub mod Sighting
 pub mod Standing
 pub mod Stepping
 pub mod SwapShapes
 pub mod SwapSizes
 pub mod Swapping
 pub mod Tables
+pub mod Through

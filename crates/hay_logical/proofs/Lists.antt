@@ -150,6 +150,14 @@ went_every R Q n old new w more same i x y e f = elim (cases_lt i n) [
   | inr most ↦ subst (λ z. Q x z) (sym (w.rest i x y most e f)) (same x)
 ]
 
+-- the same of each place
+pub went_each : {X : Type 0} (R Q : ℕ → X → X → Type 0) (n : ℕ) (old new : List X) → Went R n old new → ((i : ℕ) (x y : X) → R i x y → Q i x y) → ((i : ℕ) (x : X) → Q i x x)
+    → (i : ℕ) (x y : X) → At old i x → At new i y → Q i x y
+went_each R Q n old new w more same i x y e f = elim (cases_lt i n) [
+  | inl less ↦ more i x y (w.done i x y less e f)
+  | inr most ↦ subst (λ z. Q i x z) (sym (w.rest i x y most e f)) (same i x)
+]
+
 -- one item was called
 pub one_same : {X : Type 0} (old : List X) (at : ℕ) (x y a b : X) → At old at x → At old at a → At (slice_set old at y) at b → (a ≡ x) × (b ≡ y)
 one_same old at x y a b was e f = (at_same old at a x e was, at_same (slice_set old at y) at b y f (at_set_same old at y (at_below old at x was)))

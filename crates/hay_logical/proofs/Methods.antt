@@ -9,21 +9,21 @@ use Rattle.hay_disk.specs.Disk.{Files}
 use Rattle.hay_legal.specs.declared.known.VolumeKnown.{VolumeKnown}
 use Rattle.hay_legal.specs.Known.{now, replica_at}
 use Rattle.hay_map.specs.MapRows.{MapRows}
-use Rattle.hay_map.specs.Places.{PlaceMeans, place_in}
+use Rattle.hay_map.specs.Places.{place_in}
 use Rattle.hay_map.specs.Rows.{row_at}
 use Rattle.hay_open.specs.Stored.{Stored}
 use Rattle.hay_physical.specs.Copies.{Copy, goal_of, is_frozen, is_stuck}
 use Rattle.hay_physical.specs.Runs.{HasRun, Run}
 use Rattle.hay_physical.specs.Replicas as physical
 use Rattle.hay_logical.specs.declared.unsure.Unsure.{Unsure}
-use Rattle.hay_logical.specs.Fits.{At, copier_run, super_of}
+use Rattle.hay_logical.specs.Fits.{At, PlaceStands, copier_run, super_of}
 use Rattle.hay_logical.specs.Stands.{StandsFor, StoppedFor}
 use Rattle.hay_logical.specs.Steps.{CallsOne, Stops}
 use Rattle.hay_logical.specs.Volumes.{HasSupers, IsSame, IsShaped, Volume}
 use Rattle.hay_logical.proofs.Holding.{held, held_on, stands_changed}
 use Rattle.hay_logical.proofs.Lists.{at_below, at_first, at_same, at_set_other, at_set_same, at_there, length-slice_set, one_same}
 use Rattle.hay_logical.proofs.Standing.{volume_with}
-use Rattle.hay_logical.proofs.Tables.{place_means}
+use Rattle.hay_logical.proofs.Looking.{stands_on, stored_stands}
 
 -- a call that changes nothing of what stands or is held
 pub record Quiet {D : Type 0} (files : D → Files) (r r' : Copy D) : Type 0 where
@@ -32,6 +32,7 @@ pub record Quiet {D : Type 0} (files : D → Files) (r r' : Copy D) : Type 0 whe
   pub run : (s : Stored) (run : Option Run) → HasRun files r s run → HasRun files r' s run
   pub stands : (s : Stored) → physical.Stands files r s → physical.Stands files r' s
   pub holds : (b : Bool) (a t : Stored) → physical.Holds files r b a t → physical.Holds files r' b a t
+  pub sees : physical.KeepsSight files physical.Anywhere r r'
 
 module _ {D P : Type 0} (settings : Settings) (number : ℕ) where
   -- the shape stays
@@ -62,17 +63,15 @@ module _ {D P : Type 0} (settings : Settings) (number : ℕ) where
       unsure = stands.unsure;
     }
 
-    -- what the places mean
+    -- what the places stand for
     pub shown : (items : List (Copy D)) (rows : MapRows P) (front : ℕ) (frozen : Option ℕ) (unsure : Option Unsure) (k : VolumeKnown)
-        → StandsFor files Tells (volume_with settings number items rows front frozen unsure) k → (pair : Pair) (j : ℕ) → j < settings.replicas
-        → PlaceMeans Tells pair (place_in (row_at rows pair) j) (outcome_at (now k (replica_at k j)) pair)
-    shown items rows front None unsure k stands pair j h =
-        let all = stands.all in
-        let there = at_there items j (let less : j < length items = omega (arith, h, all) in less) in
-        let was = stands.by.each j there.0 there.1 in
-        subst (λ (t : Table). PlaceMeans Tells pair (place_in (row_at rows pair) j) (outcome_at t pair)) was.fits.table
-        (place_means Tells was.stored.cells pair (place_in (row_at rows pair) j) (was.places pair))
-    shown items rows front (Some m) unsure k stands pair j h = stands.by.places pair j h
+        → StandsFor files Tells (volume_with settings number items rows front frozen unsure) k → (pair : Pair) (j : ℕ) (r : Copy D) → At items j r
+        → PlaceStands files Tells r pair (place_in (row_at rows pair) j) (outcome_at (now k (replica_at k j)) pair)
+    shown items rows front None unsure k stands pair j r e =
+        let was = stands.by.each j r e in
+        subst (λ (t : Table). PlaceStands files Tells r pair (place_in (row_at rows pair) j) (outcome_at t pair)) was.fits.table
+        (stored_stands DiskTells files Tells r was.stored pair (place_in (row_at rows pair) j) was.stands (was.places pair))
+    shown items rows front (Some m) unsure k stands pair j r e = stands.by.places pair j r e
 
     pub quiet : (items new : List (Copy D)) (rows : MapRows P) (front : ℕ) (frozen : Option ℕ) (unsure : Option Unsure) (k : VolumeKnown)
         → StandsFor files Tells (volume_with settings number items rows front frozen unsure) k → length new ≡ length items
@@ -95,7 +94,9 @@ module _ {D P : Type 0} (settings : Settings) (number : ℕ) where
       frozen = stands.frozen;
       unsure = stands.unsure;
       by = record {
-        places = stands.by.places;
+        places = λ pair j r' f.
+            let old = at_there items j (let h = at_below new j r' f in let less : j < length items = omega (arith, h, count) in less) in
+            stands_on DiskTells files Tells physical.Anywhere old.0 r' pair (place_in (row_at rows pair) j) (outcome_at (now k (replica_at k j)) pair) (each j old.0 r' old.1 f).sees (λ at size e. tt) (stands.by.places pair j old.0 old.1);
         idle = λ j r' f.
             let old = at_there items j (let h = at_below new j r' f in let less : j < length items = omega (arith, h, count) in less) in
             let was = stands.by.idle j old.0 old.1 in

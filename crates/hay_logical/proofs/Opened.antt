@@ -119,6 +119,8 @@ live_is Tells pair place.None (outcome.Photo photo) is = absurd is
 live_is Tells pair place.None outcome.Nothing is = refl
 live_is Tells pair place.Gone (outcome.Photo photo) is = absurd is
 live_is Tells pair place.Gone outcome.Nothing is = refl
+live_is Tells pair (place.Unseen at size) (outcome.Photo photo) is = absurd is
+live_is Tells pair (place.Unseen at size) outcome.Nothing is = absurd is
 
 module _ {P : Type 0} (Tells : Type 0) (k : VolumeKnown) (at j : ℕ) (found : Stored) (settled : (replica_at k j).poised ≡ false) (known : j < length k.replicas)
     (rows : MapRows P) (end : ℕ) (ends : end ≡ found.end) (places : (pair : Pair) → PhotoAt Tells (last_cell found.cells pair) (place_in (row_at rows pair) j)) where

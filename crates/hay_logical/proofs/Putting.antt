@@ -237,6 +237,7 @@ module _ {D P : Type 0} (settings : Settings) (number : ℕ) (DiskTells : Type 0
         frozen_by m failed at_is =
             stands_broken DiskTells files Tells settings number items new rows rows' front unsure k tag (Put pair cookie bytes) (change.Put ends) m broken.at failed stands count at_is (ends_known m failed) same
             (put_part DiskTells files Tells settings number tells faults items new rows front unsure k pair cookie bytes broken left) idle
+            (λ j r r' e f q what. stands_on DiskTells files Tells physical.Anywhere r r' q (place_in (row_at rows q) j) what (reach j r r' e f tells).sees (λ at size is. tt))
 
         no_memory : (refusal.machine ≡ machine_of settings number 0) × (refusal.fault ≡ logical.NoMemory)
             → PutRefused files Tells k tag pair cookie bytes (volume_with settings number items rows front None unsure)

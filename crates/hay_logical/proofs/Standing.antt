@@ -55,6 +55,7 @@ place_put : {P : Type 0} (Tells : Type 0) (end : ℕ) (pair : Pair) (cookie : Co
 place_put Tells end pair cookie bytes (place.Live needle) is = is
 place_put Tells end pair cookie bytes place.None is = absurd is
 place_put Tells end pair cookie bytes place.Gone is = absurd is
+place_put Tells end pair cookie bytes (place.Unseen at size) is = absurd is
 
 module _ {D P : Type 0} (DiskTells : Type 0) (files : D → Files) (Tells : Type 0) (settings : Settings) (number : ℕ) where
   pub takes : (replicas : List (Copy D)) (rows : MapRows P) (front : ℕ) (frozen : Option ℕ) (unsure : Option Unsure) (k : VolumeKnown)

@@ -21,6 +21,7 @@ use Rattle.hay_map.specs.declared.place.Place.{Place}
 use Rattle.hay_map.specs.declared.place.Place.TheVariants as place
 use Rattle.hay_open.specs.Stored.{IsSealedCell, Stored, last_cell}
 use Rattle.hay_physical.specs.Replicas.{with_cell, without_cell}
+use Rattle.hay_compact.specs.Finishing.{IsSeen}
 use Rattle.hay_logical.specs.Fits.{Makes, PhotoAt}
 
 -- THE LAST CELL AND THE TABLE
@@ -84,18 +85,24 @@ none_means : (P : Type 0) (Tells : Type 0) (pair : Pair) (cell : Cell) → cell.
 none_means P Tells pair cell deleted =
     subst (λ (b : Bool). PlaceMeans {P = P} Tells pair place.None (cond b outcome.Nothing (outcome.Photo (record { cookie = cell.cookie; bytes = cell.bytes })))) (sym deleted) tt
 
-means_by : {P : Type 0} (Tells : Type 0) (pair : Pair) (o : Option Cell) (p : Place P) → ((c : Cell) → o ≡ Some c → c.pair ≡ pair) → PhotoAt Tells o p → PlaceMeans Tells pair p (cell_outcome o outcome.Nothing)
-means_by {P} Tells pair (Some cell) (place.Live needle) same is = sealed_means P Tells pair cell needle (same cell refl) is
-means_by {P} Tells pair (Some cell) place.Gone same is = gone_means P Tells pair cell is
-means_by {P} Tells pair (Some cell) place.None same is = none_means P Tells pair cell is
-means_by Tells pair None place.None same is = tt
-means_by Tells pair None place.Gone same is = tt
-means_by Tells pair None (place.Live needle) same is = absurd is
+-- a place that was seen
+pub seen_means : {P : Type 0} (Tells : Type 0) (pair : Pair) (cell : Cell) (p : Place P) → cell.pair ≡ pair → IsSeen p → PhotoAt Tells (Some cell) p → PlaceMeans Tells pair p (needle_outcome (needle_of_cell cell))
+seen_means {P} Tells pair cell (place.Live needle) same seen is = sealed_means P Tells pair cell needle same is
+seen_means {P} Tells pair cell place.Gone same seen is = gone_means P Tells pair cell is
+seen_means {P} Tells pair cell place.None same seen is = none_means P Tells pair cell is
+seen_means Tells pair cell (place.Unseen at size) same seen is = absurd seen
 
-pub place_means : {P : Type 0} (Tells : Type 0) (cells : List Cell) (pair : Pair) (p : Place P) → PhotoAt Tells (last_cell cells pair) p
+means_by : {P : Type 0} (Tells : Type 0) (pair : Pair) (o : Option Cell) (p : Place P) → ((c : Cell) → o ≡ Some c → c.pair ≡ pair) → IsSeen p → PhotoAt Tells o p → PlaceMeans Tells pair p (cell_outcome o outcome.Nothing)
+means_by Tells pair (Some cell) p same seen is = seen_means Tells pair cell p (same cell refl) seen is
+means_by Tells pair None place.None same seen is = tt
+means_by Tells pair None place.Gone same seen is = tt
+means_by Tells pair None (place.Live needle) same seen is = absurd is
+means_by Tells pair None (place.Unseen at size) same seen is = absurd is
+
+pub place_means : {P : Type 0} (Tells : Type 0) (cells : List Cell) (pair : Pair) (p : Place P) → IsSeen p → PhotoAt Tells (last_cell cells pair) p
     → PlaceMeans Tells pair p (outcome_at (table_of (needles_of cells)) pair)
-place_means Tells cells pair p is =
-    subst (PlaceMeans Tells pair p) (sym (at_cells cells pair)) (means_by Tells pair (last_cell cells pair) p (λ c e. last_pair cells pair c e) is)
+place_means Tells cells pair p seen is =
+    subst (PlaceMeans Tells pair p) (sym (at_cells cells pair)) (means_by Tells pair (last_cell cells pair) p (λ c e. last_pair cells pair c e) seen is)
 
 -- PUTS
 

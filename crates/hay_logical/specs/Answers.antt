@@ -73,7 +73,18 @@ IsDeleteFault faults settings v old new (Full m end need capacity) = ⊥
 IsDeleteFault faults settings v old new (Busy m generation) = ⊥
 IsDeleteFault faults settings v old new (Worn m) = ⊥
 IsDeleteFault faults settings v old new Idle = ⊥
-IsDeleteFault faults settings v old new (Damaged m at) = ⊥
+IsDeleteFault faults settings v old new (Damaged m at) = (j : ℕ) × (j < settings.replicas) × (m ≡ machine_of settings v j)
+
+abbrev pub IsSightFault : {D : Type 0} → (D → ℕ) → Settings → ℕ → List (Copy D) → List (Copy D) → LogicalFault → Type 0
+IsSightFault faults settings v old new (Failed machine printed) = HasFailed faults settings v old new machine printed
+IsSightFault faults settings v old new (Damaged m at) = (j : ℕ) × (j < settings.replicas) × (m ≡ machine_of settings v j)
+IsSightFault faults settings v old new NoMemory = Unit {0}
+IsSightFault faults settings v old new (ReadOnly m) = ⊥
+IsSightFault faults settings v old new (Gone front) = ⊥
+IsSightFault faults settings v old new (Full m end need capacity) = ⊥
+IsSightFault faults settings v old new (Busy m generation) = ⊥
+IsSightFault faults settings v old new (Worn m) = ⊥
+IsSightFault faults settings v old new Idle = ⊥
 
 abbrev pub IsFlushFault : {D : Type 0} → (D → ℕ) → Settings → ℕ → List (Copy D) → List (Copy D) → LogicalFault → Type 0
 IsFlushFault faults settings v old new (Failed machine printed) = HasFailed faults settings v old new machine printed
@@ -171,17 +182,18 @@ pub record IsDeleted {D P : Type 0} (files : D → Files) (faults : D → ℕ) (
   pub cause : (j : ℕ) (r r' : Copy D) → slice_get ended j ≡ Some true → At old.replicas j r → At new.replicas j r' → Rose (faults r.disk) (faults r'.disk)
   pub stands : Stands files Tells new (with_del ended tag pair k)
 
-abbrev pub DeleteRefused : {D P : Type 0} → (D → Files) → Type 0 → VolumeKnown → CoreTag → Pair → Volume D P → Volume D P → LogicalFault → Type 0
-DeleteRefused files Tells k tag pair old new (ReadOnly m) = (k.frozen ≡ Some m) × (new ≡ old)
-DeleteRefused files Tells k tag pair old new (Gone front) = (k.frozen ≡ None) × (is_held k pair ≡ false) × (front ≡ length k.log) × (new ≡ old)
-DeleteRefused files Tells k tag pair old new (Failed m faults) =
-    (k.frozen ≡ None) × (is_held k pair ≡ true) × Stands files Tells new (frozen_with m tag (entry.Del pair) true k)
-DeleteRefused files Tells k tag pair old new NoMemory = (k.frozen ≡ None) × (new ≡ old)
-DeleteRefused files Tells k tag pair old new (Full m end need capacity) = ⊥
-DeleteRefused files Tells k tag pair old new (Busy m generation) = ⊥
-DeleteRefused files Tells k tag pair old new (Worn m) = ⊥
-DeleteRefused files Tells k tag pair old new Idle = ⊥
-DeleteRefused files Tells k tag pair old new (Damaged m at) = ⊥
+-- A failed look changes nothing, and a failed change freezes the volume.
+abbrev pub DeleteRefused : {D P : Type 0} → (D → Files) → Type 0 → VolumeKnown → CoreTag → Pair → Volume D P → LogicalFault → Type 0
+DeleteRefused files Tells k tag pair new (ReadOnly m) = (k.frozen ≡ Some m) × Stands files Tells new k
+DeleteRefused files Tells k tag pair new (Gone front) = (k.frozen ≡ None) × (is_held k pair ≡ false) × (front ≡ length k.log) × Stands files Tells new k
+DeleteRefused files Tells k tag pair new (Failed m faults) =
+    (k.frozen ≡ None) × (Stands files Tells new k ⊎ ((is_held k pair ≡ true) × Stands files Tells new (frozen_with m tag (entry.Del pair) true k)))
+DeleteRefused files Tells k tag pair new NoMemory = (k.frozen ≡ None) × Stands files Tells new k
+DeleteRefused files Tells k tag pair new (Full m end need capacity) = ⊥
+DeleteRefused files Tells k tag pair new (Busy m generation) = ⊥
+DeleteRefused files Tells k tag pair new (Worn m) = ⊥
+DeleteRefused files Tells k tag pair new Idle = ⊥
+DeleteRefused files Tells k tag pair new (Damaged m at) = ⊥
 
 -- FLUSHES
 

@@ -3,7 +3,10 @@ use Rattle.std.specs.Prelude.{◌≡◌, ℕ, ◌+◌, ◌-◌, nat_lt, Bool, fa
 use Rattle.hay_needle.specs.declared.settings.Settings.{Settings}
 use Rattle.hay_needle.specs.declared.settings.Super.{Super}
 use Rattle.hay_needle.specs.declared.settings.FileKind.TheVariants as kind
-use Rattle.hay_needle.specs.Tables.{table_of}
+use Rattle.hay_needle.specs.declared.needle.Outcome.{Outcome}
+use Rattle.hay_needle.specs.declared.needle.Pair.{Pair}
+use Rattle.hay_needle.specs.Needle.{needle_of_cell}
+use Rattle.hay_needle.specs.Tables.{needle_outcome, table_of}
 use Rattle.hay_disk.specs.Disk.{Files}
 use Rattle.hay_volume.specs.Cells.{needles_of}
 use Rattle.hay_core.specs.declared.entry.Entry.{Entry}
@@ -15,6 +18,7 @@ use Rattle.hay_legal.specs.Known.{now}
 use Rattle.hay_legal.specs.Restarts.{added_cells, added_end}
 use Rattle.hay_legal.specs.Stands.{Contents, Found}
 use Rattle.hay_needle.specs.declared.needle.Cell.{Cell}
+use Rattle.hay_map.specs.Places.{PlaceMeans}
 use Rattle.hay_map.specs.declared.place.Place.{Place}
 use Rattle.hay_map.specs.declared.place.Place.TheVariants as place
 use Rattle.hay_open.specs.Stored.{IsSealedCell, Stored, OpensAs}
@@ -68,9 +72,27 @@ abbrev pub PhotoAt : {P : Type 0} → Type 0 → Option Cell → Place P → Typ
 PhotoAt Tells (Some cell) (place.Live needle) = IsSealedCell Tells cell needle
 PhotoAt Tells (Some cell) place.None = cell.deleted ≡ true
 PhotoAt Tells (Some cell) place.Gone = cell.deleted ≡ true
+PhotoAt Tells (Some cell) (place.Unseen at size) = (at ≡ cell.at) × (size ≡ length cell.bytes)
 PhotoAt Tells None (place.Live needle) = ⊥
 PhotoAt Tells None place.None = Unit {0}
 PhotoAt Tells None place.Gone = Unit {0}
+PhotoAt Tells None (place.Unseen at size) = ⊥
+
+-- A cell of the pair stands on the replica, where the place has it, and is seen as this.
+pub record IsUnseen {D : Type 0} (files : D → Files) (r : Copy D) (pair : Pair) (at size : ℕ) (what : Outcome) : Type 0 where
+  pub cell : Cell
+  pub shows : physical.ShowsCell files r cell
+  pub place : at ≡ cell.at
+  pub long : size ≡ length cell.bytes
+  pub own : cell.pair ≡ pair
+  pub is : needle_outcome (needle_of_cell cell) ≡ what
+
+-- What the place of a pair on a replica stands for. One that was not looked at yet stands for what its cell is seen as.
+abbrev pub PlaceStands : {D P : Type 0} → (D → Files) → Type 0 → Copy D → Pair → Place P → Outcome → Type 0
+PlaceStands {P = P} files Tells r pair (place.Live needle) what = PlaceMeans {P = P} Tells pair (place.Live needle) what
+PlaceStands {P = P} files Tells r pair place.None what = PlaceMeans {P = P} Tells pair place.None what
+PlaceStands {P = P} files Tells r pair place.Gone what = PlaceMeans {P = P} Tells pair place.Gone what
+PlaceStands files Tells r pair (place.Unseen at size) what = IsUnseen files r pair at size what
 
 -- a change makes t of s
 pub record Makes (entry : Entry) (s t : Stored) : Type 0 where

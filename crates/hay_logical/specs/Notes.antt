@@ -14,10 +14,12 @@ use Rattle.hay_logical.specs.declared.unsure.Change.TheVariants as change
 use Rattle.hay_logical.specs.declared.unsure.Unsure.{Unsure}
 use Rattle.hay_logical.specs.Fits.{At}
 
+-- whether a place was seen as that of a photo
 abbrev pub is_live : {P : Type 0} → Place P → Bool
 is_live (place.Live needle) = true
 is_live place.None = false
 is_live place.Gone = false
+is_live (place.Unseen at size) = false
 
 -- a replica has a put if its cells end elsewhere now, and a delete if no photo of the pair is there
 abbrev pub keeps : {P : Type 0} → Change → MapRows P → ℕ → ℕ → Bool

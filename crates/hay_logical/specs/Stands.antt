@@ -11,7 +11,7 @@ use Rattle.hay_legal.specs.declared.known.VolumeKnown.{VolumeKnown}
 use Rattle.hay_legal.specs.Known.{now, replica_at, machine_of}
 use Rattle.hay_legal.specs.Statuses.{IsNewVolume}
 use Rattle.hay_legal.specs.Stands.{found_of}
-use Rattle.hay_map.specs.Places.{PlaceMeans, place_in}
+use Rattle.hay_map.specs.Places.{place_in}
 use Rattle.hay_map.specs.Rows.{row_at}
 use Rattle.hay_open.specs.Stored.{Stored, last_cell}
 use Rattle.hay_physical.specs.Copies.{Copy, contents_of, goal_of, is_stuck}
@@ -19,7 +19,7 @@ use Rattle.hay_physical.specs.Replicas as physical
 use Rattle.hay_logical.specs.declared.unsure.Change.{Change}
 use Rattle.hay_logical.specs.declared.unsure.Change.TheVariants as change
 use Rattle.hay_logical.specs.declared.unsure.Unsure.{Unsure}
-use Rattle.hay_logical.specs.Fits.{At, Fits, HoldsPart, HoldsSwap, IsReplica, PhotoAt, RunsAs, part_of}
+use Rattle.hay_logical.specs.Fits.{At, Fits, HoldsPart, HoldsSwap, IsReplica, PhotoAt, PlaceStands, RunsAs, part_of}
 use Rattle.hay_logical.specs.Volumes.{HasAll, Volume}
 
 -- A CHANGE THAT WAS BROKEN OFF
@@ -87,10 +87,10 @@ pub record TakesChanges {D P : Type 0} (files : D → Files) (Tells : Type 0) (v
   pub pending : k.pending ≡ None
   pub each : (j : ℕ) (r : Copy D) → At volume.replicas j r → ReplicaStands files Tells volume k j r
 
--- Of a frozen volume the places mean what stood before the change that was broken off. No compaction stands.
+-- Of a frozen volume the places stand for what stood before the change that was broken off. No compaction stands.
 pub record IsFrozen {D P : Type 0} (files : D → Files) (Tells : Type 0) (volume : Volume D P) (k : VolumeKnown) : Type 0 where
-  pub places : (pair : Pair) (j : ℕ) → j < volume.settings.replicas →
-      PlaceMeans Tells pair (place_in (row_at volume.rows pair) j) (outcome_at (now k (replica_at k j)) pair)
+  pub places : (pair : Pair) (j : ℕ) (r : Copy D) → At volume.replicas j r →
+      PlaceStands files Tells r pair (place_in (row_at volume.rows pair) j) (outcome_at (now k (replica_at k j)) pair)
   pub idle : (j : ℕ) (r : Copy D) → At volume.replicas j r → ((replica_at k j).run ≡ None) × (goal_of r ≡ None)
   pub holds : HoldsFor files volume k
 

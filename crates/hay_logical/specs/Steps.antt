@@ -1,9 +1,11 @@
 -- What the calls of one replica do, as far as a volume goes by it.
-use Rattle.std.specs.Prelude.{◌≡◌, ◌⊎◌, ◌≤◌, ◌<◌, ◌+◌, ℕ, ◌-◌, min, Bool, true, false, List, length, slice_set, Option, Some, None, option_map, Result, Err, IfOk, IfErr, OnOk, OnErr}
+use Rattle.std.specs.Prelude.{◌≡◌, ◌⊎◌, ◌≤◌, ◌<◌, ◌+◌, ℕ, ◌-◌, min, Bool, true, false, List, length, slice_set, Option, Some, None, option_map, if◌then◌else◌, Result, Err, IfOk, IfErr, OnOk, OnErr}
 use Rattle.hay_needle.specs.declared.needle.Cookie.{Cookie}
 use Rattle.hay_needle.specs.declared.needle.Pair.{Pair}
 use Rattle.hay_needle.specs.declared.settings.Super.{Super}
+use Rattle.hay_needle.specs.declared.needle.Outcome.{Outcome}
 use Rattle.hay_needle.specs.Sizes.{needle_total}
+use Rattle.hay_needle.specs.Tables.{pair_eq}
 use Rattle.hay_disk.specs.Counts.{IsNext, Rose}
 use Rattle.hay_disk.specs.Disk.{Files, IsSolid, MayLeave}
 use Rattle.hay_volume.specs.Cells.{live_cell}
@@ -21,7 +23,9 @@ use Rattle.hay_physical.specs.declared.fault.ReplicaFault.{ReplicaFault}
 use Rattle.hay_physical.specs.declared.fault.ReplicaFault.TheVariants as fault
 use Rattle.hay_physical.specs.declared.state.Phase.TheVariants.{Closed}
 use Rattle.hay_physical.specs.Copies.{Copy, IsFrozen, IsOpenCopy, IsUp, capacity_of, contents_of, end_of, generation_of, goal_of, is_frozen, is_stuck}
+use Rattle.hay_physical.specs.Faults.{IsSightFault}
 use Rattle.hay_physical.specs.Replicas as physical
+use Rattle.hay_compact.specs.Finishing.{IsSeen}
 use Rattle.hay_compact.specs.Copying.{end_of as cells_end_of}
 use Rattle.hay_physical.specs.Runs.{HasLastAt, HasRun, IsTight, RemovedBoth, Run, Swaps, longer, loosened}
 use Rattle.hay_logical.specs.declared.fault.Unopened.{Unopened}
@@ -29,8 +33,9 @@ use Rattle.hay_logical.specs.declared.replicas.Broken.{Broken}
 use Rattle.hay_logical.specs.declared.replicas.DiskFailed.{DiskFailed}
 use Rattle.hay_logical.specs.declared.runs.Unswapped.{Unswapped}
 use Rattle.hay_logical.specs.declared.runs.Unswapped.TheVariants.{Refused, Unsure, Unplaced}
-use Rattle.hay_logical.specs.Fits.{At, PhotoAt}
+use Rattle.hay_logical.specs.Fits.{At, PhotoAt, PlaceStands}
 use Rattle.hay_logical.specs.Refusals.{IsUntouched}
+use Rattle.hay_logical.specs.Volumes.{ReachesPlaces}
 
 -- ROOM
 
@@ -45,11 +50,19 @@ pub record LacksRoom {D : Type 0} (size : ℕ) (replicas : List (Copy D)) (broke
   pub full : capacity_of replica < end_of replica + needle_total size + 8
   pub cause : broken.fault ≡ fault.Full (end_of replica) (needle_total size) (capacity_of replica)
 
--- DELETABLE PHOTOS
+-- PHOTOS IN REACH
 
--- what could be deleted can still be
-abbrev pub KeepsDeletable : {D : Type 0} → Type 0 → (D → Files) → Copy D → Copy D → Type 0
-KeepsDeletable DiskTells files r r' = DiskTells → (place : ℕ) → physical.MayDelete files r place → physical.MayDelete files r' place
+-- What could be deleted can still be, and what could be seen can still be seen, where the places are of this kind.
+pub record KeepsReach {D : Type 0} (files : D → Files) (IsKept : ℕ → ℕ → Type 0) (r r' : Copy D) : Type 0 where
+  pub deletes : (place : ℕ) → physical.MayDelete files r place → physical.MayDelete files r' place
+  pub sees : physical.KeepsSight files IsKept r r'
+
+abbrev pub StaysInReach : {D : Type 0} → Type 0 → (D → Files) → Copy D → Copy D → Type 0
+StaysInReach DiskTells files r r' = DiskTells → KeepsReach files physical.Anywhere r r'
+
+-- a change at this place wrote no more than the flags of its cell
+abbrev pub StaysBeside : {D P : Type 0} → Type 0 → (D → Files) → Place P → Copy D → Copy D → Type 0
+StaysBeside DiskTells files p r r' = DiskTells → KeepsReach files (λ at size. physical.IsApartPlace at size p) r r'
 
 -- ENDS OF COMPACTIONS
 
@@ -65,7 +78,7 @@ pub record LosesRun {D : Type 0} (DiskTells : Type 0) (files : D → Files) (r r
   pub stuck : is_stuck r' ≡ is_stuck r
   pub stands : DiskTells → (s : Stored) → physical.Stands files r s → physical.Stands files r' s
   pub holds : DiskTells → (stuck : Bool) (s t : Stored) → physical.Holds files r stuck s t → physical.Holds files r' stuck s t
-  pub deletable : KeepsDeletable DiskTells files r r'
+  pub reach : StaysInReach DiskTells files r r'
 
 -- no compaction stands
 abbrev pub AllIdle : {D : Type 0} → List (Copy D) → Type 0
@@ -77,6 +90,7 @@ abbrev pub IsPlaceOf : {P : Type 0} → Type 0 → ℕ → Pair → Cookie → L
 IsPlaceOf Tells end pair cookie bytes (place.Live needle) = IsSealedCell Tells (live_cell end pair cookie bytes) needle
 IsPlaceOf Tells end pair cookie bytes place.None = ⊥
 IsPlaceOf Tells end pair cookie bytes place.Gone = ⊥
+IsPlaceOf Tells end pair cookie bytes (place.Unseen at size) = ⊥
 
 pub record PutsAt {D P : Type 0} (DiskTells : Type 0) (files : D → Files) (Tells : Type 0) (pair : Pair) (cookie : Cookie) (bytes : List ℕ) (r r' : Copy D) (p : Place P) : Type 0 where
   pub up : IsUp r'
@@ -87,6 +101,7 @@ pub record PutsAt {D P : Type 0} (DiskTells : Type 0) (files : D → Files) (Tel
   pub run : DiskTells → (s : Stored) (run : Option Run) → physical.Stands files r s → HasRun files r s run →
       HasRun files r' (physical.with_cell s pair cookie bytes) (option_map longer run)
   pub deletable : DiskTells → physical.MayDeletePlace files r' p
+  pub apart : DiskTells → (at size : ℕ) → physical.MaySee files r at size → physical.IsApartPlace at size p
 
 -- Where a put was broken off, the replicas below have the photo, that one perhaps, and those above are as they were.
 pub record PutBroken {D : Type 0} (DiskTells : Type 0) (files : D → Files) (pair : Pair) (cookie : Cookie) (bytes : List ℕ) (r r' : Copy D) : Type 0 where
@@ -129,6 +144,38 @@ pub record StillRuns {D : Type 0} (DiskTells : Type 0) (files : D → Files) (ol
 abbrev pub EndsRuns : {D : Type 0} → Type 0 → (D → Files) → List (Copy D) → List (Copy D) → Broken → Type 0
 EndsRuns DiskTells files old new broken = StillRuns DiskTells files old new broken ⊎ (AllIdle new × (IsUntouched new broken → ⊥))
 
+-- SIGHTS
+
+-- the places of a replica are those of these photos
+abbrev pub PlacesAre : {P : Type 0} → Type 0 → MapRows P → ℕ → Stored → Type 0
+PlacesAre Tells rows at s = (pair : Pair) → PhotoAt Tells (last_cell s.cells pair) (place_in (row_at rows pair) at)
+
+-- A look at the place of a pair: one that was not seen yet is seen, as what it stands for, or a refusal has left it.
+pub record SightsAt {D P : Type 0} (DiskTells : Type 0) (files : D → Files) (faults : D → ℕ) (Tells : Type 0) (pair : Pair) (rows rows' : MapRows P) (at : ℕ) (r r' : Copy D) (result : Result Unit ReplicaFault) : Type 0 where
+  pub copy : r' ≡ record r { disk = r'.disk }
+  pub seen : OnOk result (IsSeen (place_in (row_at rows' pair) at))
+  pub stands : DiskTells → (s : Stored) → physical.Stands files r s → PlacesAre Tells rows at s → physical.Stands files r' s × PlacesAre Tells rows' at s
+  pub run : DiskTells → (s : Stored) (run : Option Run) → physical.Stands files r s → PlacesAre Tells rows at s → HasRun files r s run → HasRun files r' s run
+  pub holds : DiskTells → (stuck : Bool) (s t : Stored) → physical.Holds files r stuck s t → physical.Holds files r' stuck s t
+  pub means : DiskTells → ReachesPlaces files rows at r → (what : Pair → Outcome) →
+      ((other : Pair) → PlaceStands files Tells r other (place_in (row_at rows other) at) (what other)) →
+      (other : Pair) → PlaceStands files Tells r' other (place_in (row_at rows' other) at) (what other)
+  pub undamaged : DiskTells → (what : Outcome) → PlaceStands files Tells r pair (place_in (row_at rows pair) at) what →
+      (k : ℕ) → result ≡ Err (fault.Damaged k) → ⊥
+  pub reach : DiskTells → ReachesPlaces files rows at r → ReachesPlaces files rows' at r'
+  pub cause : IfErr result (IsSightFault (faults r.disk) (faults r'.disk))
+
+-- The row of a pair has this place on a replica, and every other row stays.
+abbrev pub SetsPlaceAt : {P : Type 0} → Pair → ℕ → Place P → MapRows P → MapRows P → Type 0
+SetsPlaceAt pair at p rows rows' =
+    (other : Pair) → row_at rows' other ≡ (if pair_eq pair other then slice_set (row_at rows other) at p else row_at rows other)
+
+-- A refusal has left each row.
+pub record SeesRow {P : Type 0} (pair : Pair) (at : ℕ) (rows rows' : MapRows P) (result : Result Unit ReplicaFault) : Type 0 where
+  pub width : rows'.replicas ≡ rows.replicas
+  pub set : OnOk result (SetsPlaceAt pair at (place_in (row_at rows' pair) at) rows rows')
+  pub kept : OnErr result ((other : Pair) → row_at rows' other ≡ row_at rows other)
+
 -- DELETES
 
 abbrev pub DeletesAt : {D P : Type 0} → Type 0 → (D → Files) → Place P → Copy D → Copy D → Type 0
@@ -137,6 +184,7 @@ DeletesAt DiskTells files (place.Live needle) r r' =
     × (DiskTells → (s : Stored) → physical.Stands files r s → physical.HasLive needle.at s.cells → physical.Stands files r' (physical.without_cell s needle.at))
 DeletesAt DiskTells files place.None r r' = LosesRun DiskTells files r r'
 DeletesAt DiskTells files place.Gone r r' = LosesRun DiskTells files r r'
+DeletesAt DiskTells files (place.Unseen at size) r r' = LosesRun DiskTells files r r'
 
 -- A compaction that stands follows a delete, or it ended where the disk's count of faults rose.
 pub record RunFollows {D : Type 0} (DiskTells : Type 0) (files : D → Files) (faults : D → ℕ) (pair : Pair) (at : ℕ) (r r' : Copy D) : Type 0 where
@@ -148,6 +196,7 @@ abbrev pub FollowsAt : {D P : Type 0} → Type 0 → (D → Files) → (D → �
 FollowsAt DiskTells files faults pair (place.Live needle) r r' = RunFollows DiskTells files faults pair needle.at r r'
 FollowsAt DiskTells files faults pair place.None r r' = r' ≡ r
 FollowsAt DiskTells files faults pair place.Gone r r' = r' ≡ r
+FollowsAt DiskTells files faults pair (place.Unseen at size) r r' = r' ≡ r
 
 pub record DeleteLeaves {D P : Type 0} (DiskTells : Type 0) (files : D → Files) (faults : D → ℕ) (row : List (Place P)) (old new : List (Copy D)) (failed : DiskFailed) : Type 0 where
   pub before : Copy D
@@ -191,7 +240,7 @@ pub record FlushesAt {D : Type 0} (DiskTells : Type 0) (files : D → Files) (fa
   pub run_stays : DiskTells → (s : Stored) (run : Option Run) → physical.Stands files r s → HasRun files r s run → OnErr result (HasRun files r' s run)
   pub cause : IfErr result (IsFlushFault faults r r')
   pub not_stuck : (result ≡ Err fault.Frozen → ⊥) → is_stuck r ≡ false
-  pub deletable : KeepsDeletable DiskTells files r r'
+  pub reach : StaysInReach DiskTells files r r'
 
 -- one replica was called, and the others are as they were
 pub record CallsOne {D : Type 0} (at : ℕ) (old new : List (Copy D)) : Type 0 where
@@ -207,7 +256,7 @@ pub record FusesAt {D : Type 0} (DiskTells : Type 0) (files : D → Files) (faul
   pub stands : DiskTells → (s : Stored) → physical.Stands files r s → physical.Stands files r' s
   pub holds : DiskTells → (stuck : Bool) (s t : Stored) → physical.Holds files r stuck s t → physical.Holds files r' stuck s t
   pub run : DiskTells → (s : Stored) (run : Option Run) → HasRun files r s run → HasRun files r' s run
-  pub deletable : KeepsDeletable DiskTells files r r'
+  pub reach : StaysInReach DiskTells files r r'
   pub same_faults : faults r'.disk ≡ faults r.disk
   pub next : IsNext (fuses r.disk) (fuses r'.disk)
 
@@ -231,17 +280,14 @@ pub record GoesOn {D : Type 0} (DiskTells : Type 0) (files : D → Files) (r r' 
   pub sup : r'.sup ≡ r.sup
   pub stuck : is_stuck r' ≡ is_stuck r
   pub stands : DiskTells → (s : Stored) → physical.Stands files r s → physical.Stands files r' s
-  pub deletable : KeepsDeletable DiskTells files r r'
+  pub reach : StaysInReach DiskTells files r r'
 
--- the places of a replica are those of these photos
-abbrev pub PlacesAre : {P : Type 0} → Type 0 → MapRows P → ℕ → Stored → Type 0
-PlacesAre Tells rows at s = (pair : Pair) → PhotoAt Tells (last_cell s.cells pair) (place_in (row_at rows pair) at)
-
--- the latest place of a pair, as a compaction asks for it
+-- the latest place of a pair, deleted or not, as a compaction asks for it
 abbrev pub latest_of : {P : Type 0} → Place P → Option ℕ
 latest_of (place.Live needle) = Some needle.at
 latest_of place.None = None
 latest_of place.Gone = None
+latest_of (place.Unseen at size) = Some at
 
 abbrev pub stepped_by : ℕ → Run → Run
 stepped_by n run = record run { left = run.left - n }
@@ -390,8 +436,7 @@ pub record SwapsAt {D P : Type 0} (DiskTells : Type 0) (files : D → Files) (fa
       OnOk result (RemovedBoth (files r'.disk) (volume_file s.generation) (index_file s.generation) (faults r.disk) (faults r'.disk))
   pub refused : DiskTells → (s : Stored) (run : Run) → physical.Stands files r s → StartsRun files start r s run → PlacesAre Tells rows at s →
       IfErr result (HoldsUnswapped files r r' s run)
-  pub deletable : DiskTells → ((pair : Pair) → physical.MayDeletePlace files r (place_in (row_at rows pair) at)) → IsUp r' →
-      (pair : Pair) → physical.MayDeletePlace files r' (place_in (row_at rows' pair) at)
+  pub reach : DiskTells → ReachesPlaces files rows at r → ReachesPlaces files rows' at r'
 
 -- the places of the other replicas stay, and of all where none were published
 pub record KeepsPlaces {P : Type 0} (rows rows' : MapRows P) (at : ℕ) (result : Result ℕ Unswapped) : Type 0 where
@@ -423,7 +468,7 @@ pub record OpensAt {D P : Type 0} (DiskTells : Type 0) (files : D → Files) (Te
   pub reopened : DiskTells → (stuck : Bool) (s t : Stored) → physical.Holds files r stuck s t → (found : Stored)
       × (physical.IsLike stuck s found ⊎ physical.IsLike stuck t found) × physical.Stands files r' found
       × ((pair : Pair) → PlaceOf Tells (last_cell found.cells pair) (place_in (row_at rows pair) j))
-  pub deletable : DiskTells → (pair : Pair) → physical.MayDeletePlace files r' (place_in (row_at rows pair) j)
+  pub reach : DiskTells → ReachesPlaces files rows j r'
 
 -- what an opening that was refused has left of a replica
 pub record LeftAt {D : Type 0} (DiskTells : Type 0) (files : D → Files) (r r' : Copy D) : Type 0 where

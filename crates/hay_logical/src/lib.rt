@@ -18,6 +18,7 @@ mod notes;
 mod refusals;
 mod replicas;
 mod runs;
+mod sights;
 mod unsure;
 
 pub use fault::{LogicalFault, Unopened};

@@ -12,11 +12,12 @@ ghost use Rattle.hay_open.specs.declared.fault.OpenFault.TheVariants as open_fau
 ghost use Rattle.hay_physical.specs.declared.state.Phase.TheVariants.{Closed};
 ghost use Rattle.hay_physical.specs.Copies.{Copy, contents_of, goal_of};
 ghost use Rattle.hay_physical.specs.Copies as copies;
-ghost use Rattle.hay_logical.specs.Fits.{At, super_of};
-ghost use Rattle.hay_logical.specs.Steps.{IsRefusedAt, KeepsDisk, RoomFor};
+ghost use Rattle.hay_compact.specs.Finishing.{IsSeen};
+ghost use Rattle.hay_logical.specs.Fits.{At, PlaceStands, super_of};
+ghost use Rattle.hay_logical.specs.Steps.{IsRefusedAt, KeepsDisk, RoomFor, SetsPlaceAt};
 ghost use Rattle.hay_logical.specs.Volumes.{HasAll, IsClosed, IsOfSettings, IsOpenVolume, IsSame, KeepsCounts};
 ghost use Rattle.hay_logical.specs.Stands.{Holds, IsFirst, IsIdleVolume, Stands, Stopped};
-ghost use Rattle.hay_logical.specs.Answers.{BeginRefused, CompactRefused, DeleteRefused, FinishRefused, FlushRefused, IsBeginFault, IsBegun, IsCompactFault, IsCompacted, IsDeleteFault, IsDeleted, IsFinished, IsFlushFault, IsFlushed, IsPut, IsPutFault, IsReopened, IsRoomFault, IsRunFault, IsStepped, PutRefused, RemovesOld, StepRefused, room_answer};
+ghost use Rattle.hay_logical.specs.Answers.{BeginRefused, CompactRefused, DeleteRefused, FinishRefused, FlushRefused, IsBeginFault, IsBegun, IsCompactFault, IsCompacted, IsDeleteFault, IsDeleted, IsFinished, IsFlushFault, IsFlushed, IsPut, IsPutFault, IsReopened, IsRoomFault, IsRunFault, IsSightFault, IsStepped, PutRefused, RemovesOld, StepRefused, room_answer};
 
 use crate::fault::{LogicalFault, Unopened};
 use crate::notes::{machine_of, notes_of};
@@ -25,6 +26,7 @@ use crate::replicas::{
     delete_each, ends_of, flush_at, fuse_at, open_each, put_each, room_in, stop_each,
 };
 use crate::runs::{begin_at, compact_at, finish_at, step_at};
+use crate::sights::see_at;
 use crate::unsure::{Change, Unsure};
 use hay_base::{Listed, NoMemory};
 use hay_core::CoreTag;
@@ -60,7 +62,7 @@ pub struct Logical<D: Disk> {
 impl<D: Disk> Model for Logical<D> {
     ghost use Rattle.std.specs.Prelude.{◌≤◌};
     ghost use Rattle.std.specs.Vec.{vec_capacity};
-    ghost use Rattle.hay_logical.specs.Volumes.{CanDelete, IsShaped, Volume};
+    ghost use Rattle.hay_logical.specs.Volumes.{CanReach, IsShaped, Volume};
 
     ghost Value = { Volume D D.Piece };
 
@@ -82,7 +84,7 @@ impl<D: Disk> Model for Logical<D> {
       front = v.front;
       frozen = v.frozen;
       unsure = v.unsure;
-    }) × (4 ≤ vec_capacity v.replicas) × CanDelete D.Tells D.files v.replicas.items v.rows };
+    }) × (4 ≤ vec_capacity v.replicas) × CanReach D.Tells D.files v.replicas.items v.rows };
 }
 
 impl<D: Disk> Logical<D> {
@@ -203,7 +205,7 @@ impl<D: Disk> Logical<D> {
         ensures row { result.row ≡ row_at self.now.rows pair }
         ensures long { length result.row ≡ self.now.settings.replicas }
         ensures known { D.Tells → (k : VolumeKnown) → Stands D.files D.Piece.Tells self.now k → (result.front ≡ length k.log)
-            × ((j : ℕ) → j < self.now.settings.replicas → PlaceMeans D.Piece.Tells pair (place_in result.row j) (outcome_at (now k (replica_at k j)) pair)) }
+            × ((j : ℕ) (r : Copy D) → At self.now.replicas j r → PlaceStands D.files D.Piece.Tells r pair (place_in result.row j) (outcome_at (now k (replica_at k j)) pair)) }
     {
         Looked {
             front: self.front,
@@ -263,15 +265,116 @@ impl<D: Disk> Logical<D> {
         }
     }
 
+    /// Sees the place of a pair's photo on a replica, where it was not looked at yet: one read of its needle, which `out` then
+    /// has, and of no other byte. Answers the places with that one seen, which needs no look a second time. A place that was
+    /// seen is answered as it is.
+    ///
+    /// A refusal leaves each place, and none freezes the volume, which may be frozen. `Damaged` comes where no needle of that
+    /// size stands there.
+    pub fn see(
+        &mut self,
+        replica: u32,
+        pair: Pair,
+        out: &mut Vec<u8>,
+    ) -> Result<Looked<D::Piece>, LogicalFault>
+        requires within { replica < self.old.settings.replicas }
+        requires open { IsOpenVolume self.old }
+
+        // What the volume stands for stays, and the place means the photo that the pair has on the replica.
+        ensures stands { D.Tells → (k : VolumeKnown) → Stands D.files D.Piece.Tells self.old k → Stands D.files D.Piece.Tells self.new k }
+        ensures known { D.Tells → (k : VolumeKnown) → Stands D.files D.Piece.Tells self.old k →
+            IfOk result (λ looked. (looked.front ≡ length k.log)
+            × PlaceMeans D.Piece.Tells pair (place_in looked.row replica) (outcome_at (now k (replica_at k replica)) pair)) }
+        ensures undamaged { D.Tells → (k : VolumeKnown) → Stands D.files D.Piece.Tells self.old k →
+            (m at : ℕ) → result ≡ Err (LogicalFault.Damaged m at) → ⊥ }
+
+        // On any disk the place is one that was seen, and every other place stays.
+        ensures seen { IfOk result (λ looked. IsSeen (place_in looked.row replica)) }
+        ensures row { IfOk result (λ looked. SetsPlaceAt pair replica (place_in looked.row replica) self.old.rows self.new.rows) }
+        ensures answered { IfOk result (λ looked. (looked.front ≡ self.new.front) × (looked.row ≡ row_at self.new.rows pair)) }
+        ensures kept { OnErr result ((other : Pair) → row_at self.new.rows other ≡ row_at self.old.rows other) }
+
+        ensures causes { IfErr result (IsSightFault D.fault_count self.old.settings self.old.number self.old.replicas self.new.replicas) }
+        ensures open { IsOpenVolume self.new }
+        ensures counts { KeepsCounts D.fault_count D.fuse_count self.old.replicas self.new.replicas }
+        ensures same { IsSame self.old self.new }
+        ensures still { (self.new.frozen ≡ self.old.frozen) × (self.new.front ≡ self.old.front) × (self.new.unsure ≡ self.old.unsure) }
+    {
+        match self.see_in(replica, pair, out) {
+            Ok(()) => Ok(Looked {
+                front: self.front,
+                row: self.rows.row(pair),
+            }),
+            Err(fault) => Err(fault),
+        }
+    }
+
+    // Sees the place of a pair's photo on a replica, where it was not looked at yet.
+    fn see_in(&mut self, replica: u32, pair: Pair, out: &mut Vec<u8>) -> Result<(), LogicalFault>
+        requires within { replica < self.old.settings.replicas }
+        requires open { IsOpenVolume self.old }
+        ensures stands { D.Tells → (k : VolumeKnown) → Stands D.files D.Piece.Tells self.old k → Stands D.files D.Piece.Tells self.new k }
+        ensures known { D.Tells → (k : VolumeKnown) → Stands D.files D.Piece.Tells self.old k →
+            OnOk result ((self.new.front ≡ length k.log) × PlaceMeans D.Piece.Tells pair (place_in (row_at self.new.rows pair) replica) (outcome_at (now k (replica_at k replica)) pair)) }
+        ensures undamaged { D.Tells → (k : VolumeKnown) → Stands D.files D.Piece.Tells self.old k →
+            (m at : ℕ) → result ≡ Err (LogicalFault.Damaged m at) → ⊥ }
+        ensures seen { OnOk result (IsSeen (place_in (row_at self.new.rows pair) replica)) }
+        ensures row { OnOk result (SetsPlaceAt pair replica (place_in (row_at self.new.rows pair) replica) self.old.rows self.new.rows) }
+        ensures kept { OnErr result ((other : Pair) → row_at self.new.rows other ≡ row_at self.old.rows other) }
+        ensures causes { IfErr result (IsSightFault D.fault_count self.old.settings self.old.number self.old.replicas self.new.replicas) }
+        ensures open { IsOpenVolume self.new }
+        ensures counts { KeepsCounts D.fault_count D.fuse_count self.old.replicas self.new.replicas }
+        ensures same { IsSame self.old self.new }
+        ensures still { (self.new.frozen ≡ self.old.frozen) × (self.new.front ≡ self.old.front) × (self.new.unsure ≡ self.old.unsure) }
+    {
+        let machine = machine_of(&self.settings, self.number, replica);
+        match see_at(
+            self.replicas.as_mut_slice(),
+            replica as usize,
+            &mut self.rows,
+            pair,
+            out,
+        ) {
+            Ok(()) => Ok(()),
+            Err(fault) => Err(answer_at(machine, fault)),
+        }
+    }
+
+    // Sees each place of a pair's photo that was not looked at yet.
+    fn see_each(&mut self, pair: Pair, out: &mut Vec<u8>) -> Result<(), LogicalFault>
+        requires open { IsOpenVolume self.old }
+        ensures stands { D.Tells → (k : VolumeKnown) → Stands D.files D.Piece.Tells self.old k → Stands D.files D.Piece.Tells self.new k }
+        ensures undamaged { D.Tells → (k : VolumeKnown) → Stands D.files D.Piece.Tells self.old k →
+            (m at : ℕ) → result ≡ Err (LogicalFault.Damaged m at) → ⊥ }
+        ensures seen { OnOk result ((j : ℕ) → j < self.new.settings.replicas → IsSeen (place_in (row_at self.new.rows pair) j)) }
+        ensures causes { IfErr result (IsSightFault D.fault_count self.old.settings self.old.number self.old.replicas self.new.replicas) }
+        ensures open { IsOpenVolume self.new }
+        ensures counts { KeepsCounts D.fault_count D.fuse_count self.old.replicas self.new.replicas }
+        ensures same { IsSame self.old self.new }
+        ensures still { (self.new.frozen ≡ self.old.frozen) × (self.new.front ≡ self.old.front) × (self.new.unsure ≡ self.old.unsure) }
+    {
+        for replica in 0..self.settings.replicas {
+            self.see_in(replica, pair, out)?;
+        }
+        Ok(())
+    }
+
     /// Deletes a pair's photo from each replica that has it, in order, and then from the rows, and answers the position of
-    /// the change. It takes no memory. `Failed` freezes the volume. A compaction whose disk fails as it follows ends, and
-    /// that is no refusal.
-    pub fn delete(&mut self, tag: CoreTag, pair: Pair) -> Result<u64, LogicalFault>
+    /// the change. It first sees each place of the pair that was not looked at yet, as `see` does, and `out` has a needle
+    /// then: what refuses that leaves the volume as it stood, and so do `ReadOnly` and `Gone`. Behind that it takes no memory,
+    /// and `Failed` freezes the volume. A compaction whose disk fails as it follows ends, and that is no refusal.
+    pub fn delete(
+        &mut self,
+        tag: CoreTag,
+        pair: Pair,
+        out: &mut Vec<u8>,
+    ) -> Result<u64, LogicalFault>
         requires open { IsOpenVolume self.old }
         ensures deleted { D.Tells → (k : VolumeKnown) → Stands D.files D.Piece.Tells self.old k →
             IfOk result (λ position. IsDeleted D.files D.fault_count D.Piece.Tells k tag pair position self.old self.new) }
         ensures refused { D.Tells → (k : VolumeKnown) → Stands D.files D.Piece.Tells self.old k →
-            IfErr result (DeleteRefused D.files D.Piece.Tells k tag pair self.old self.new) }
+            IfErr result (DeleteRefused D.files D.Piece.Tells k tag pair self.new) }
+        ensures frozen { (m : ℕ) → self.old.frozen ≡ Some m → (result ≡ Err (LogicalFault.ReadOnly m)) × (self.new ≡ self.old) }
         ensures causes { IfErr result (IsDeleteFault D.fault_count self.old.settings self.old.number self.old.replicas self.new.replicas) }
         ensures open { IsOpenVolume self.new }
         ensures counts { KeepsCounts D.fault_count D.fuse_count self.old.replicas self.new.replicas }
@@ -280,6 +383,25 @@ impl<D: Disk> Logical<D> {
         if let Some(machine) = self.frozen {
             return Err(LogicalFault::ReadOnly { machine });
         }
+        self.see_each(pair, out)?;
+        self.delete_seen(tag, pair)
+    }
+
+    // Deletes a pair's photo, of which each place was seen.
+    fn delete_seen(&mut self, tag: CoreTag, pair: Pair) -> Result<u64, LogicalFault>
+        requires open { IsOpenVolume self.old }
+        requires seen { (j : ℕ) → j < self.old.settings.replicas → IsSeen (place_in (row_at self.old.rows pair) j) }
+        requires thawed { self.old.frozen ≡ None }
+        ensures deleted { D.Tells → (k : VolumeKnown) → Stands D.files D.Piece.Tells self.old k →
+            IfOk result (λ position. IsDeleted D.files D.fault_count D.Piece.Tells k tag pair position self.old self.new) }
+        ensures refused { D.Tells → (k : VolumeKnown) → Stands D.files D.Piece.Tells self.old k →
+            IfErr result (DeleteRefused D.files D.Piece.Tells k tag pair self.new) }
+        ensures causes { IfErr result (IsDeleteFault D.fault_count self.old.settings self.old.number self.old.replicas self.new.replicas) }
+        ensures undamaged { (m at : ℕ) → result ≡ Err (LogicalFault.Damaged m at) → ⊥ }
+        ensures open { IsOpenVolume self.new }
+        ensures counts { KeepsCounts D.fault_count D.fuse_count self.old.replicas self.new.replicas }
+        ensures same { IsSame self.old self.new }
+    {
         let row = self.rows.row(pair);
         if !has_live(&row) {
             return Err(LogicalFault::Gone { front: self.front });

@@ -32,8 +32,7 @@ fn is_live<P: Piece>(place: &Place<P>) -> bool
 {
     match place {
         Place::Live(_) => true,
-        Place::None => false,
-        Place::Gone => false,
+        Place::None | Place::Gone | Place::Unseen { .. } => false,
     }
 }
 

@@ -65,8 +65,9 @@ pub(crate) fn has_live<P: Piece>(row: &Row<P>) -> bool
     ensures none { result ≡ false → (j : ℕ) → j < length row.now → is_live (place_in row.now j) ≡ false }
 {
     for j in 0..row.len() {
-        if let Place::Live(_) = row.place(j) {
-            return true;
+        match row.place(j) {
+            Place::Live(_) => return true,
+            Place::None | Place::Gone | Place::Unseen { .. } => {}
         }
     }
     false

@@ -11,8 +11,8 @@ ghost use Rattle.hay_physical.specs.Replicas as physical;
 ghost use Rattle.hay_physical.specs.Runs.{HasRun, Run};
 ghost use Rattle.hay_open.specs.Stored.{Stored};
 ghost use Rattle.hay_logical.specs.Fits.{At};
-ghost use Rattle.hay_logical.specs.Volumes.{CanDelete, KeepsCounts};
-ghost use Rattle.hay_logical.specs.Steps.{AllIdle, CallsOne, DeleteLeaves, DeletesAt, EndsRuns, FlushesAt, FollowsAt, FusesAt, IsOpenFault, IsRefusedAt, KeepsDeletable, KeepsDisk, LacksRoom, LeftAt, OpensAt, PutLeaves, PutsAt, RoomFor, Stops};
+ghost use Rattle.hay_logical.specs.Volumes.{CanReach, KeepsCounts, ReachesPlaces};
+ghost use Rattle.hay_logical.specs.Steps.{AllIdle, CallsOne, DeleteLeaves, DeletesAt, EndsRuns, FlushesAt, FollowsAt, FusesAt, IsOpenFault, IsRefusedAt, KeepsDisk, LacksRoom, LeftAt, OpensAt, PutLeaves, PutsAt, RoomFor, StaysBeside, StaysInReach, Stops};
 
 use crate::fault::Unopened;
 use crate::refusals::is_untouched;
@@ -90,7 +90,7 @@ pub(crate) fn put_each<D: Disk>(
     ensures places { IfOk result (λ row. length row ≡ length replicas.old) }
     ensures put { IfOk result (λ row. (j : ℕ) (r r' : Copy D) → At replicas.old j r → At replicas.new j r' →
         PutsAt D.Tells D.files D.Piece.Tells pair cookie bytes.now r r' (place_in row j)) }
-    ensures deletable { (j : ℕ) (r r' : Copy D) → At replicas.old j r → At replicas.new j r' → KeepsDeletable D.Tells D.files r r' }
+    ensures reach { (j : ℕ) (r r' : Copy D) → At replicas.old j r → At replicas.new j r' → StaysInReach D.Tells D.files r r' }
     ensures broken { IfErr result (PutLeaves D.Tells D.files D.fault_count pair cookie bytes.now replicas.old replicas.new) }
     ensures runs { IfErr result (EndsRuns D.Tells D.files replicas.old replicas.new) }
 {
@@ -121,7 +121,7 @@ fn put_in_order<D: Disk>(
     ensures places { IfOk result (λ row. length row ≡ length replicas.old) }
     ensures put { IfOk result (λ row. (j : ℕ) (r r' : Copy D) → At replicas.old j r → At replicas.new j r' →
         PutsAt D.Tells D.files D.Piece.Tells pair cookie bytes.now r r' (place_in row j)) }
-    ensures deletable { (j : ℕ) (r r' : Copy D) → At replicas.old j r → At replicas.new j r' → KeepsDeletable D.Tells D.files r r' }
+    ensures reach { (j : ℕ) (r r' : Copy D) → At replicas.old j r → At replicas.new j r' → StaysInReach D.Tells D.files r r' }
     ensures broken { IfErr result (PutLeaves D.Tells D.files D.fault_count pair cookie bytes.now replicas.old replicas.new) }
     ensures others { IfErr result (λ broken. (j : ℕ) (r r' : Copy D) → broken.at < j → At replicas.old j r → At replicas.new j r' → r' ≡ r) }
     ensures run { IfErr result (λ broken. (r r' : Copy D) → At replicas.old broken.at r → At replicas.new broken.at r' → IsUp r' → D.Tells → (s : Stored) (run : Option Run) →
@@ -158,7 +158,7 @@ pub(crate) fn delete_each<D: Disk>(
         DeletesAt D.Tells D.files (place_in row.now j) r r') }
     ensures follow { OnOk result ((j : ℕ) (r r' : Copy D) → At replicas.old j r → At replicas.new j r' →
         FollowsAt D.Tells D.files D.fault_count pair (place_in row.now j) r r') }
-    ensures deletable { (j : ℕ) (r r' : Copy D) → At replicas.old j r → At replicas.new j r' → KeepsDeletable D.Tells D.files r r' }
+    ensures reach { (j : ℕ) (r r' : Copy D) → At replicas.old j r → At replicas.new j r' → StaysBeside D.Tells D.files (place_in row.now j) r r' }
     ensures broken { IfErr result (DeleteLeaves D.Tells D.files D.fault_count row.now replicas.old replicas.new) }
     ensures runs { OnErr result (AllIdle replicas.new) }
 {
@@ -186,7 +186,7 @@ fn delete_in_order<D: Disk>(
         DeletesAt D.Tells D.files (place_in row.now j) r r') }
     ensures follow { OnOk result ((j : ℕ) (r r' : Copy D) → At replicas.old j r → At replicas.new j r' →
         FollowsAt D.Tells D.files D.fault_count pair (place_in row.now j) r r') }
-    ensures deletable { (j : ℕ) (r r' : Copy D) → At replicas.old j r → At replicas.new j r' → KeepsDeletable D.Tells D.files r r' }
+    ensures reach { (j : ℕ) (r r' : Copy D) → At replicas.old j r → At replicas.new j r' → StaysBeside D.Tells D.files (place_in row.now j) r r' }
     ensures broken { IfErr result (DeleteLeaves D.Tells D.files D.fault_count row.now replicas.old replicas.new) }
 {
     for (j, replica) in replicas.iter_mut().enumerate() {
@@ -253,7 +253,7 @@ pub(crate) fn open_each<D: Disk>(
         OpensAt D.Tells D.files D.Piece.Tells rows.new j r r') }
     ensures left { (j : ℕ) (r r' : Copy D) → At replicas.old j r → At replicas.new j r' → LeftAt D.Tells D.files r r' }
     ensures kept { D.Tells → (j : ℕ) (r r' : Copy D) → At replicas.old j r → At replicas.new j r' → KeepsDisk D.files r r' }
-    ensures deletable { CanDelete D.Tells D.files replicas.new rows.new }
+    ensures reach { CanReach D.Tells D.files replicas.new rows.new }
     ensures refused { IfErr result (IsRefusedAt D.Tells D.files D.fault_count replicas.old replicas.new) }
 {
     for (j, replica) in replicas.iter_mut().enumerate() {
@@ -286,7 +286,7 @@ fn open_one<D: Disk>(
     ensures left { LeftAt D.Tells D.files replica.old replica.new }
     ensures thawed { is_frozen replica.new ≡ false }
     ensures kept { D.Tells → KeepsDisk D.files replica.old replica.new }
-    ensures deletable { D.Tells → IsUp replica.new → (pair : Pair) → physical.MayDeletePlace D.files replica.new (place_in (row_at rows.new pair) j) }
+    ensures reach { D.Tells → ReachesPlaces D.files rows.new j replica.new }
     ensures refused { IfErr result (IsOpenFault D.Tells D.files D.fault_count replica.old replica.new) }
     ensures others { (pair : Pair) (i : ℕ) → (i ≡ j → ⊥) → place_in (row_at rows.new pair) i ≡ place_in (row_at rows.old pair) i }
     ensures long { (pair : Pair) → length (row_at rows.new pair) ≡ rows.new.replicas }

@@ -264,13 +264,14 @@ fn examine<D: Disk>(
     }
 }
 
-// The place of a replica's photo in a row, if it has one.
+// The place of the last cell of a replica's photo in a row, if the photo was not seen as deleted.
 fn latest_in<P: Piece>(row: &Row<P>, at: usize) -> Option<u64>
     requires { at < length row.now }
     ensures { result ≡ latest_of (place_in row.now at) }
 {
     match row.place(at) {
         Place::Live(needle) => Some(needle.at()),
+        Place::Unseen { at, .. } => Some(*at),
         Place::Gone => None,
         Place::None => None,
     }

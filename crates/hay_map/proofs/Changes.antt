@@ -175,6 +175,13 @@ load_gives {P} replica cells old mid new keeps gives = record {
   known = λ other h. gives.known other (keeps.known other h);
 }
 
+pub see_changes : {P : Type 0} (pair : Pair) (replica : ℕ) (place : Place P) (old mid new : MapRows P) → KeepsRows old mid → SetsPlace pair replica place mid new → ChangesRows (op.Seen pair replica place) old new
+see_changes {P} pair replica place old mid new keeps sets = record {
+  replicas = sets.replicas ∙ keeps.replicas;
+  rows = λ other. sets.rows other ∙ ap (λ (xs : List (Place P)). cond (pair_eq pair other) (set xs replica place) xs) (keeps.rows other);
+  known = λ other h. sets.known other ∙ keeps.known other h;
+}
+
 pub swap_changes : {P : Type 0} (replica : ℕ) (cells : List (OpenCell P)) (old mid left new : MapRows P) → KeepsRows old mid → LeavesReplica replica mid left → GivesReplica replica cells left new
     → replica < mid.replicas → ((other : Pair) → length (row_at mid other) ≡ mid.replicas) → ChangesRows (op.Swap replica cells) old new
 swap_changes {P} replica cells old mid left new keeps leaves gives h long = record {

@@ -17,7 +17,7 @@ pub record IsSealed (Tells : Type 0) (pair : Pair) (photo : Photo) (needle : Sea
   pub version : Version
   pub is : NeedleBytes needle.bytes (record { version = version; pair = pair; photo = photo; deleted = false })
 
--- what a place says of its pair
+-- what a place says of its pair; one that was not looked at yet says nothing
 abbrev pub PlaceMeans : {P : Type 0} → Type 0 → Pair → Place P → Outcome → Type 0
 PlaceMeans Tells pair (place.Live needle) (outcome.Photo photo) = IsSealed Tells pair photo needle
 PlaceMeans Tells pair (place.Live needle) outcome.Nothing = ⊥
@@ -25,12 +25,15 @@ PlaceMeans Tells pair place.None outcome.Nothing = Unit {0}
 PlaceMeans Tells pair place.None (outcome.Photo photo) = ⊥
 PlaceMeans Tells pair place.Gone outcome.Nothing = Unit {0}
 PlaceMeans Tells pair place.Gone (outcome.Photo photo) = ⊥
+PlaceMeans Tells pair (place.Unseen at size) outcome.Nothing = ⊥
+PlaceMeans Tells pair (place.Unseen at size) (outcome.Photo photo) = ⊥
 
 -- the place once the photo was deleted
 abbrev pub gone_place : {P : Type 0} → Place P → Place P
 gone_place place.None = place.None
 gone_place (place.Live needle) = place.Gone
 gone_place place.Gone = place.Gone
+gone_place (place.Unseen at size) = place.Gone
 
 -- the place of a replica in a row
 abbrev pub place_in : {P : Type 0} → List (Place P) → ℕ → Place P

@@ -42,6 +42,7 @@ last_place (cell ∷ cells) pair before = last_place cells pair (if pair_eq cell
 abbrev pub changed_row : {P : Type 0} → MapOp P → Pair → List (Place P) → List (Place P)
 changed_row (op.Put pair row) other before = if pair_eq pair other then row else before
 changed_row (op.Del pair) other before = if pair_eq pair other then map gone_place before else before
+changed_row (op.Seen pair replica place) other before = if pair_eq pair other then slice_set before replica place else before
 changed_row (op.Swap replica cells) other before =
     slice_set before replica (last_place cells other (gone_place (place_in before replica)))
 
@@ -55,6 +56,7 @@ pub record ChangesRows {P : Type 0} (change : MapOp P) (old new : MapRows P) : T
 abbrev pub FitsRows : {P : Type 0} → ℕ → MapOp P → Type 0
 FitsRows replicas (op.Put pair row) = length row ≡ replicas
 FitsRows replicas (op.Del pair) = Unit {0}
+FitsRows replicas (op.Seen pair replica place) = replica < replicas
 FitsRows replicas (op.Swap replica cells) = replica < replicas
 
 -- each cell's pair has a row
@@ -91,4 +93,5 @@ pub record GivesReplica {P : Type 0} (replica : ℕ) (cells : List (OpenCell P))
 abbrev pub NeedsNoMemory : {P : Type 0} → MapOp P → MapRows P → Type 0
 NeedsNoMemory (op.Put pair row) rows = (has_row rows pair ≡ true) ⊎ HasRoom rows
 NeedsNoMemory (op.Del pair) rows = Unit {0}
+NeedsNoMemory (op.Seen pair replica place) rows = (has_row rows pair ≡ true) ⊎ HasRoom rows
 NeedsNoMemory (op.Swap replica cells) rows = AllKnown rows cells

@@ -1,6 +1,6 @@
 //! Where the photos of a logical volume stand: by pair a row of places, one for each replica.
 //!
-//! A place has the piece by which its photo is fetched, with one look-up and no memory. What a map means is plain: the row of each
+//! A live place has the piece by which its photo is fetched, with one look-up and no memory. What a map means is plain: the row of each
 //! pair. It stands on hay_base, hay_needle and hay_disk.
 #![tactic(auto)]
 

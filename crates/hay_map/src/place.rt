@@ -86,6 +86,8 @@ impl<P: Piece> Sealed<P> {
 pub enum Place<P: Piece> {
     /// It never had one.
     None,
+    /// A recorded needle of a photo of so many bytes stands here. Whether it was deleted was not looked at yet.
+    Unseen { at: u64, size: u32 },
     Live(Sealed<P>),
     /// It was deleted.
     Gone,
@@ -98,6 +100,10 @@ impl<P: Piece> Place<P> {
     {
         match self {
             Place::None => Place::None,
+            Place::Unseen { at, size } => Place::Unseen {
+                at: *at,
+                size: *size,
+            },
             Place::Live(needle) => Place::Live(needle.dup()),
             Place::Gone => Place::Gone,
         }
@@ -107,8 +113,11 @@ impl<P: Piece> Place<P> {
     pub fn leave(&mut self)
         ensures { self.new ≡ gone_place self.old }
     {
-        if let Place::Live(_) = self {
-            *self = Place::Gone;
+        match self {
+            Place::None => (),
+            Place::Unseen { .. } => *self = Place::Gone,
+            Place::Live(_) => *self = Place::Gone,
+            Place::Gone => (),
         }
     }
 }

@@ -36,6 +36,12 @@ pub enum MapOp<P: Piece> {
     Del {
         pair: Pair,
     },
+    /// The pair has this place on a replica.
+    Seen {
+        pair: Pair,
+        replica: u32,
+        place: Place<P>,
+    },
     /// A replica has the places of these cells, and of every other pair no photo.
     Swap {
         replica: u32,
@@ -129,6 +135,19 @@ impl<P: Piece> MapView<P> {
         }
     }
 
+    /// Gives a pair this place on a replica. `NoMemory` leaves each row as it was.
+    pub fn see(&mut self, pair: Pair, replica: u32, place: Place<P>) -> Result<(), NoMemory>
+        requires { replica < self.old.replicas }
+        ensures ok { OnOk result (ChangesRows (map_op.Seen pair replica place) self.old self.new) }
+        ensures known { OnOk result (has_row self.new pair ≡ true) }
+        ensures err { OnErr result (KeepsRows self.old self.new) }
+        ensures memory { NeedsNoMemory (map_op.Seen pair replica place) self.old → IsOk result }
+    {
+        self.add(pair)?;
+        self.set_place(pair, replica as usize, place);
+        Ok(())
+    }
+
     /// Gives a replica the places of the cells that were opened. `NoMemory` leaves each row as it was.
     pub fn load(&mut self, replica: u32, cells: &[OpenCell<P>]) -> Result<(), NoMemory>
         requires { replica < self.old.replicas }
@@ -169,6 +188,11 @@ impl<P: Piece> MapView<P> {
                 self.del(pair);
                 Ok(())
             }
+            MapOp::Seen {
+                pair,
+                replica,
+                place,
+            } => self.see(pair, replica, place),
             MapOp::Swap { replica, cells } => self.swap(replica, cells.as_slice()),
         }
     }

@@ -67,6 +67,14 @@ impl MemDisk {
         self.disk.bytes(file)
     }
 
+    /// How many bytes reads of a file gave since the last power cycle, or the greatest number of 64 bits where they are
+    /// more.
+    pub fn drawn(&self, file: u32) -> u64
+        ensures { result ≡ mem_drawn self.now file }
+    {
+        self.disk.drawn(file)
+    }
+
     /// Puts these bytes in place of a whole file, on the disk, and forgets the pieces given out of it, which stay as
     /// they are. `NoMemory` changes nothing. It is no call of the list, nor of a fuse.
     pub fn set_bytes(&mut self, file: u32, bytes: &[u8]) -> Result<(), NoMemory>

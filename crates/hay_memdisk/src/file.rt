@@ -56,6 +56,13 @@ impl MemFile {
         &self.bytes
     }
 
+    /// How many bytes reads gave since the last power cycle.
+    pub(crate) fn drawn(&self) -> u64
+        ensures { result ≡ drawn_of self.now }
+    {
+        self.drawn
+    }
+
     /// Puts these bytes in place of the whole file, on the disk, and forgets the pieces given out.
     pub(crate) fn set_bytes(&mut self, alloc: Global, bytes: &[u8]) -> Result<(), AllocError>
         ensures now { OnOk result ((state_of self.new).now ≡ bytes.now) }

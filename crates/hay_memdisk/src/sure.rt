@@ -46,6 +46,17 @@ impl SureDisk {
         }
     }
 
+    /// How many bytes reads of a file gave since the last power cycle, or the greatest number of 64 bits where they are
+    /// more.
+    pub fn drawn(&self, file: u32) -> u64
+        ensures { result ≡ sure_drawn self.now file }
+    {
+        match self.files.get(&file) {
+            Some(found) => found.drawn(),
+            None => 0,
+        }
+    }
+
     // Makes room for a file that is not there yet.
     fn open(&mut self, file: u32) -> Result<(), AllocError>
         ensures has { OnOk result (sure_has self.new file ≡ true) }

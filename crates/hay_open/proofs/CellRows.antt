@@ -1,14 +1,14 @@
 -- Cells that stand, and their records.
 use Rattle.std.proofs.Common.{◌≡◌, ℕ, zero, suc, ◌+◌, ◌≤◌, List, [], ◌∷◌, ◌++◌, length, map, take, drop, Some, refl, sym, ap, subst, ◌∙◌, arith, length-append, length-drop, length-take}
-use Rattle.std.specs.List.{slice_get}
+use Rattle.std.specs.List.{slice_get, sum_by}
+use Rattle.std.proofs.lemmas.List.Sums.{sum_by-cons}
 use Rattle.hay_needle.specs.declared.needle.Cell.{Cell}
 use Rattle.hay_needle.specs.declared.needle.CellHead.{CellHead}
 use Rattle.hay_needle.specs.declared.needle.Needle.{Needle}
-use Rattle.hay_needle.specs.Needle.{HeadBytes, head_of_cell, head_of_needle, needle_of_cell}
+use Rattle.hay_needle.specs.Needle.{head_of_needle, needle_of_cell}
 use Rattle.hay_needle.specs.Sizes.{needle_total}
-use Rattle.hay_needle.proofs.Needles.{head_first, length-needle, one_head}
+use Rattle.hay_needle.proofs.Needles.{head_first, length-needle}
 use Rattle.hay_volume.specs.Cells.{AreCellsAt, HasCells, StandsCell, cell_head}
-use Rattle.hay_volume.proofs.ReadLaws.{read_head_is}
 use Rattle.hay_volume.proofs.Readings.{cell_begins, cells_first}
 use Rattle.hay_index.specs.declared.record.Record.{Record}
 use Rattle.hay_index.specs.Records.{AreInRow, place_behind}
@@ -29,6 +29,11 @@ behind_join at (r ∷ rows) more = behind_join (at + needle_total r.size) rows m
 pub behind_far : (at : ℕ) (rows : List Record) → at ≤ place_behind at rows
 behind_far at [] = omega arith
 behind_far at (r ∷ rows) = omega (arith, behind_far (at + needle_total r.size) rows)
+
+-- the end of records lies behind their start by the bytes of their needles
+pub behind_sum : (at : ℕ) (rows : List Record) → place_behind at rows ≡ at + sum_by (λ r. needle_total r.size) rows
+behind_sum at [] = omega arith
+behind_sum at (r ∷ rows) = omega (arith, behind_sum (at + needle_total r.size) rows, sum_by-cons (λ (x : Record). needle_total x.size) r rows)
 
 -- the record of this number lies between the first place and the end
 pub row_within : (at k : ℕ) (rows : List Record) (r : Record) → AreInRow at rows → slice_get rows k ≡ Some r → (at ≤ r.at) × (r.at + needle_total r.size ≤ place_behind at rows)
@@ -78,13 +83,6 @@ cell_numbered at end zero file (first ∷ cells) cell has there =
 cell_numbered at end (suc k) file (first ∷ cells) cell has there =
     cell_numbered (at + needle_total (length first.bytes)) end k file cells cell (cells_first at end file first cells has).1 there
 
--- a head that fits a record is that of the cell that stands there
-pub record_cell : (head : CellHead) (row : Record) (file : List ℕ) (cell : Cell) → head_record head ≡ row → HeadBytes (take 36 (drop row.at file)) (head_of_cell head) → StandsCell row.at file cell → head ≡ cell_head cell
-record_cell head row file cell fits stands here =
-    let n : Needle = needle_of_cell cell in
-    let same = one_head (take 36 (drop row.at file)) (head_of_cell head) (head_of_needle n) stands (head_first (drop row.at file) n (cell_begins row.at file cell here)) in
-    read_head_is head cell.at n (ap (λ (r : Record). r.at) fits ∙ sym here.is.place) same
-
 -- the head of a cell fits its record
 pub cell_fits : (file : List ℕ) (row : Record) (cell : Cell) → row ≡ cell_record cell → StandsCell cell.at file cell → FitsNeedle row file
 cell_fits file row cell is here =
@@ -109,6 +107,11 @@ map_drop zero cells = refl
 map_drop (suc k) [] = refl
 map_drop (suc k) (cell ∷ cells) = map_drop k cells
 
+pub map_take : (k : ℕ) (cells : List Cell) → take k (map cell_record cells) ≡ map cell_record (take k cells)
+map_take zero cells = refl
+map_take (suc k) [] = refl
+map_take (suc k) (cell ∷ cells) = ap (λ (l : List Record). cell_record cell ∷ l) (map_take k cells)
+
 pub map_length : (cells : List Cell) → length (map cell_record cells) ≡ length cells
 map_length [] = refl
 map_length (cell ∷ cells) = ap (λ n. suc n) (map_length cells)
@@ -125,13 +128,6 @@ split_at zero (y ∷ xs) x there = let same : y ≡ x = cc in ap (λ z. z ∷ xs
 split_at (suc k) (y ∷ xs) x there =
     let next : suc k + 1 ≡ suc (k + 1) = omega arith in
     ap (λ l. y ∷ l) (split_at k xs x there) ∙ ap (λ n. y ∷ take k xs ++ x ∷ drop n (y ∷ xs)) (sym next)
-
-pub drop_here : {A : Type 0} (k : ℕ) (xs : List A) (x : A) → slice_get xs k ≡ Some x → drop k xs ≡ x ∷ drop (k + 1) xs
-drop_here k [] x there = absurd cc
-drop_here zero (y ∷ xs) x there = let same : y ≡ x = cc in ap (λ z. z ∷ xs) same
-drop_here (suc k) (y ∷ xs) x there =
-    let next : suc k + 1 ≡ suc (k + 1) = omega arith in
-    drop_here k xs x there ∙ ap (λ n. x ∷ drop n (y ∷ xs)) (sym next)
 
 pub take_here : {A : Type 0} (k : ℕ) (xs : List A) (x : A) → slice_get xs k ≡ Some x → take (k + 1) xs ≡ take k xs ++ x ∷ []
 take_here k [] x there = absurd cc

@@ -1,6 +1,5 @@
 pub mod HeadReads
 pub mod Walks
-pub mod LastRows
 pub mod Formatting
 pub mod Reading
 pub mod CellRows

@@ -20,13 +20,6 @@ use Rattle.hay_open.specs.Listing.{head_record}
 use Rattle.hay_open.specs.Stored.{Stored, IsStored, cell_record, head_super, index_file, index_super, recorded, volume_file}
 use Rattle.hay_open.proofs.CellRows.{cell_fits, cell_numbered, cell_there, cells_behind, get_behind, head_there, row_there}
 
--- an element of the first ones
-pub part_there : {A : Type 0} (rows slice : List A) (n i : ℕ) (d : A) → slice ≡ rows → i < length (take n slice) → (slice_get rows i ≡ Some (get_or (take n slice) i d)) × (i < n)
-part_there rows slice n i d same below =
-    let within : i < n = omega (arith, length-take n slice) in
-    let inside : i < length rows = omega (arith, length-take n slice, ap length same) in
-    (slice_get-get_or rows i d inside ∙ ap (λ x. Some x) (sym (get_or-take n slice i d within ∙ ap (λ l. get_or l i d) same)), within)
-
 part_get : {A : Type 0} (n i : ℕ) (xs : List A) (x : A) → slice_get (take n xs) i ≡ Some x → slice_get xs i ≡ Some x
 part_get n i xs x there =
     let within = slice_get_within (take n xs) i x there in
@@ -116,6 +109,19 @@ pub record IsCellOf (volume : List ℕ) (whole : List Cell) (k : ℕ) (head : Ce
   pub there : slice_get whole k ≡ Some cell
   pub is : head ≡ cell_head cell
   pub stands : StandsCell head.at volume cell
+
+pub orphan_at : (from end j : ℕ) (file : List ℕ) (orphans : List Cell) (heads items : List CellHead) (d : CellHead) → HasCells from file orphans end → items ≡ map cell_head orphans → heads ≡ items → j < length heads
+    → IsCellOf file orphans j (get_or heads j d)
+orphan_at from end j file orphans heads items d has are same below =
+    let head = get_or heads j d in
+    let there : slice_get (map cell_head orphans) j ≡ Some head = ap (λ (l : List CellHead). slice_get l j) (sym (same ∙ are)) ∙ slice_get-get_or heads j d below in
+    let at = head_there j orphans head there in
+    record {
+      cell = at.0;
+      there = at.1;
+      is = at.2;
+      stands = subst (λ n. StandsCell n file at.0) (ap (λ (h : CellHead). h.at) (sym at.2)) (cell_numbered from end j file orphans at.0 has at.1);
+    }
 
 pub orphan_whole : (end recorded j : ℕ) (file : List ℕ) (whole : List Cell) (heads items : List CellHead) (d : CellHead) → HasCells 64 file whole end → items ≡ map cell_head (drop recorded whole) → heads ≡ items → j < length heads
     → IsCellOf file whole (recorded + j) (get_or heads j d)

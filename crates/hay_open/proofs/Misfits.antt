@@ -1,5 +1,5 @@
 -- Records that do not fit their needles.
-use Rattle.std.proofs.Common.{◌≡◌, inl, inr, ℕ, true, not, List, take, drop, Some, sym, ap, subst, ◌∙◌}
+use Rattle.std.proofs.Common.{◌≡◌, inl, inr, ℕ, true, not, List, take, drop, Some, ap, subst, ◌∙◌}
 use Rattle.std.specs.List.{slice_get}
 use Rattle.std.proofs.lemmas.Bool.{true≢false}
 use Rattle.std.proofs.lemmas.Option.{slice_get_within}
@@ -12,8 +12,7 @@ use Rattle.hay_disk.specs.Disk.{Files}
 use Rattle.hay_needle.specs.Needle.{Head}
 use Rattle.hay_needle.proofs.Needles.{one_head}
 use Rattle.hay_index.specs.declared.record.Record.{Record}
-use Rattle.hay_index.specs.Records.{IsIndex}
-use Rattle.hay_open.specs.Damage.{FitsNeedle, HasOtherNeedle, IsMisfit, IsRecordAt, IsRecorded, LacksNeedle}
+use Rattle.hay_open.specs.Damage.{FitsNeedle, HasOtherNeedle, IsMisfit, IsRecorded, LacksNeedle}
 use Rattle.hay_open.specs.Listing.{IsMisfitIn}
 use Rattle.hay_open.specs.Stored.{index_file, index_super, volume_file}
 
@@ -46,14 +45,3 @@ pub misfit_there : (f g : Files) (volume v index x number file at : ℕ) (r : Re
 misfit_there f g volume v index x number file at r same is also misfit =
     subst (λ (fs : Files). IsMisfitIn (λ n. (fs n).now) v x r number file at) same
     (subst (λ n. IsMisfitIn (λ k. (g k).now) v n r number file at) also (subst (λ n. IsMisfitIn (λ k. (g k).now) n index r number file at) is misfit))
-
--- the same where the bytes are the same
-pub misfit_same : (old new : ℕ → List ℕ) (volume index number file at : ℕ) (r : Record) → new volume ≡ old volume → new index ≡ old index → IsMisfitIn new volume index r number file at → IsMisfitIn old volume index r number file at
-misfit_same old new volume index number file at r same also (inl lacks) = inl (lacks.0, lacks.1, subst (λ (l : List ℕ). LacksNeedle r l) same lacks.2)
-misfit_same old new volume index number file at r same also (inr other) =
-    inr (
-      other.0,
-      subst (λ (l : List ℕ). HasOtherNeedle r l) same other.1,
-      λ superblock records end is below.
-          subst (λ (l : List ℕ). IsRecordAt superblock l number at) also (other.2 superblock records end (subst (λ (l : List ℕ). IsIndex superblock l records end) (sym also) is) below),
-    )

@@ -1,7 +1,6 @@
 -- A disk that was listed, and its pieces given out.
-use Rattle.std.proofs.Common.{◌≡◌, ℕ, zero, suc, ◌+◌, ◌<◌, ◌≤◌, ◌^◌, false, List, [], ◌∷◌, ◌++◌, length, map, take, drop, Some, refl, sym, ap, subst, ◌∙◌, arith, take-append-drop}
+use Rattle.std.proofs.Common.{◌≡◌, ℕ, ◌+◌, ◌<◌, ◌≤◌, ◌^◌, false, List, [], ◌∷◌, ◌++◌, length, map, take, drop, refl, sym, ap, subst, ◌∙◌, arith, take-append-drop}
 use Rattle.std.proofs.lemmas.List.{length-take-le, drop_at}
-use Rattle.std.specs.List.{slice_get}
 use Rattle.hay_needle.specs.declared.needle.Cell.{Cell}
 use Rattle.hay_needle.specs.declared.settings.Super.{Super}
 use Rattle.hay_needle.specs.Super.{super_bytes}
@@ -18,13 +17,11 @@ use Rattle.hay_volume.specs.Cells.{HasCells, IsVolume, cell_head}
 use Rattle.hay_volume.proofs.Readings.{one_reading as one_volume}
 use Rattle.hay_open.specs.declared.listing.Listing.{Listing}
 use Rattle.hay_open.specs.declared.opened.Opened.{Opened}
-use Rattle.hay_open.specs.Damage.{FitsLasts, FitsWhereLast, IsMisfitAmong, LacksPair}
 use Rattle.hay_open.specs.Finds.{IsReady, OpenedAs}
-use Rattle.hay_open.specs.Listing.{GivesPieces, HoldsRows, IsListing, IsMisfitIn, ListsCells, RowFlagsFree}
+use Rattle.hay_open.specs.Listing.{GivesPieces, HoldsRows, IsListing, ListsCells, RowFlagsFree}
 use Rattle.hay_open.specs.Stored.{Stored, FlagsFree, HeadRests, IndexRests, IsStored, VolumeRests, cell_record, head_super, index_file, index_super, recorded, unrecorded, volume_file, volume_super}
 use Rattle.hay_open.proofs.CellRows.{behind_join, has_end, has_row, map_drop, map_length, row_join}
-use Rattle.hay_open.proofs.Listings.{stored_behind, stored_fits, stored_same}
-use Rattle.hay_open.proofs.Misfits.{fits_is_no_misfit, misfit_is, misfit_there}
+use Rattle.hay_open.proofs.Listings.{stored_behind, stored_same}
 use Rattle.hay_open.proofs.PieceLaws.{all_free}
 
 -- THE ROWS OF A LISTING
@@ -42,10 +39,8 @@ rows_end sup contents listing is =
 pub listing_holds : (sup : Super) (contents : ℕ → List ℕ) (listing : Listing) → IsListing sup contents listing → HoldsRows (contents listing.volume) listing
 listing_holds sup contents listing is =
     let end = rows_end sup contents listing is in
-    let closed = is.behind.closed in
     subst (λ n. HoldsRows (contents n) listing) (sym is.volume_number) (record {
       row = rows_in_row sup contents listing is;
-      inside = omega (arith, end, closed.room);
       from = place_behind 64 is.records;
       orphans = is.orphans;
       has = subst (λ n. HasCells (place_behind 64 is.records) (contents (volume_file listing.head.generation)) is.orphans n) (sym end) is.behind.has;
@@ -164,56 +159,7 @@ rests_index sup old new listing s is stored lists fits solid free gives =
     subst (λ (f : FileState). IndexRests sup f s listing.index.end) (sym whole)
     (record { is = index; solid = subst (λ n. IsSolid (old n)) number solid; gate = index_gate (super_bytes (index_super sup s.generation)) (recorded s) listing.index.end (old x) index (subst (λ n. IsSolid (old n)) number solid) (λ k from. subst (λ n. (old n).sealed k ≡ false) number (free k)) })
 
--- A RECORD THAT DOES NOT FIT
-
-pub get_front : {A : Type 0} (n : ℕ) (xs ys : List A) → n < length xs → slice_get xs n ≡ slice_get (xs ++ ys) n
-get_front n [] ys below = absurd (omega arith)
-get_front zero (x ∷ xs) ys below = refl
-get_front (suc n) (x ∷ xs) ys below = get_front n xs ys (omega arith)
-
-pub record_front : (sup : Super) (contents : ℕ → List ℕ) (listing : Listing) (number : ℕ) (r : Record) → (is : IsListing sup contents listing) → number < listing.recorded → slice_get listing.rows.items number ≡ Some r → slice_get is.records number ≡ Some r
-record_front sup contents listing number r is below there =
-    get_front number is.records (map cell_record is.orphans) (omega (arith, is.recorded)) ∙ ap (λ (l : List Record). slice_get l number) (sym is.rows) ∙ there
-
--- a row of the listing that fits its needle
-fits_there : (sup : Super) (f g : Files) (listing : Listing) (k : ℕ) (is : IsListing sup (λ n. (f n).now) listing) → g ≡ f → FitsWhereLast listing.rows.items (g listing.volume).now k
-    → FitsWhereLast (is.records ++ map cell_record is.orphans) (f (volume_file listing.head.generation)).now k
-fits_there sup f g listing k is same fits =
-    let rows = is.records ++ map cell_record is.orphans in
-    subst (λ n. FitsWhereLast rows (f n).now k) is.volume_number
-    (subst (λ (fs : Files). FitsWhereLast rows (fs listing.volume).now k) same (subst (λ (l : List Record). FitsWhereLast l (g listing.volume).now k) is.rows fits))
-
-pub lasts_fit : (sup : Super) (f g : Files) (listing : Listing) (is : IsListing sup (λ n. (f n).now) listing) → g ≡ f → ((k : ℕ) → k < listing.recorded → FitsWhereLast listing.rows.items (g listing.volume).now k)
-    → FitsLasts is.records is.orphans (f (volume_file listing.head.generation)).now
-lasts_fit sup f g listing is same fits = λ k below. fits_there sup f g listing k is same (fits k (omega (arith, is.recorded)))
-
-pub misfit_among : (sup : Super) (f g : Files) (listing : Listing) (file at number : ℕ) (r : Record) (is : IsListing sup (λ n. (f n).now) listing) → g ≡ f → number < listing.recorded → slice_get listing.rows.items number ≡ Some r
-    → IsMisfitIn (λ n. (g n).now) listing.volume listing.index.file r number file at → LacksPair r.pair (drop (number + 1) listing.rows.items) → ((k : ℕ) → k < number → FitsWhereLast listing.rows.items (g listing.volume).now k)
-    → IsMisfitAmong sup (λ n. (f n).now) listing.head.generation is.records is.orphans file at
-misfit_among sup f g listing file at number r is same below there misfit lacks before =
-    let generation = listing.head.generation in
-    let row = record_front sup (λ n. (f n).now) listing number r is below there in
-    let here = misfit_there f g listing.volume (volume_file generation) listing.index.file (index_file generation) number file at r same is.volume_number is.index_number misfit in
-    let rows = is.records ++ map cell_record is.orphans in
-    record {
-      number = number;
-      recorded = omega (arith, is.recorded);
-      misfit = misfit_is sup (λ n. (f n).now) generation is.records listing.index.end number file at r is.is row here;
-      last = λ other found.
-          let e : Some r ≡ Some other = sym row ∙ found in
-          let one : r ≡ other = cc in
-          subst (λ (x : Record). LacksPair x.pair (drop (number + 1) rows)) one (subst (λ (l : List Record). LacksPair r.pair (drop (number + 1) l)) is.rows lacks);
-      before = λ k under. fits_there sup f g listing k is same (before k under);
-    }
-
-pub no_misfit : (sup : Super) (f g : Files) (listing : Listing) (s : Stored) (file at number : ℕ) (r : Record) → ((n : ℕ) → length (f n).now < 2 ^ 64) → IsListing sup (λ n. (f n).now) listing → IsStored sup (λ n. (f n).now) s → g ≡ f → number < listing.recorded
-    → slice_get listing.rows.items number ≡ Some r → IsMisfitIn (λ n. (g n).now) listing.volume listing.index.file r number file at → ⊥
-no_misfit sup f g listing s file at number r fits is stored same below there misfit =
-    let generation = listing.head.generation in
-    let contents : ℕ → List ℕ = λ n. (f n).now in
-    let records = stored_same sup contents generation listing.index.end is.records s fits is.is stored in
-    let here = misfit_there f g listing.volume (volume_file generation) listing.index.file (index_file generation) number file at r same is.volume_number is.index_number misfit in
-    fits_is_no_misfit contents (volume_file generation) (index_file generation) number file at r (stored_fits sup contents generation number is.records r s stored records (record_front sup contents listing number r is below there)) here
+-- READY FOR CHANGES
 
 -- what was opened is ready for changes
 pub opened_ready : {P : Type 0} (sup : Super) (files : Files) (opened : Opened P) (s : Stored) → OpenedAs sup files opened s → IsReady files opened

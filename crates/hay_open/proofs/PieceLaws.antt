@@ -1,9 +1,8 @@
 -- Pieces that were given out of a volume file, one needle after another.
-use Rattle.std.proofs.Common.{◌≡◌, inl, inr, ℕ, ◌+◌, ◌≤◌, false, List, [], ◌∷◌, ◌++◌, take, drop, Some, refl, sym, ap, subst, ◌∙◌, arith}
+use Rattle.std.proofs.Common.{◌≡◌, inl, inr, ℕ, ◌+◌, ◌≤◌, false, List, [], ◌∷◌, ◌++◌, take, drop, Some, refl, sym, subst, ◌∙◌, arith}
 use Rattle.std.specs.List.{slice_get}
-use Rattle.std.proofs.lemmas.Bool.{cases_eq}
 use Rattle.hay_needle.specs.Sizes.{needle_total}
-use Rattle.hay_disk.specs.Disk.{Files, FileState, IsSolid, KeepsOthers, Seals}
+use Rattle.hay_disk.specs.Disk.{Files, FileState, KeepsOthers, Seals}
 use Rattle.hay_disk.proofs.Steps.{others_others, solid_seals}
 use Rattle.hay_index.specs.declared.record.Record.{Record}
 use Rattle.hay_index.specs.Records.{AreInRow, place_behind}
@@ -68,22 +67,6 @@ gives_more volume end rows a b c first second = record {
   flags = λ free. second.flags (first.flags free);
   free = λ free. second.free (first.free free);
 }
-
--- the bytes stay
-pub gives_now : (volume end n : ℕ) (rows : List Record) (old new : Files) → GivesPieces volume rows end old new → (new n).now ≡ (old n).now
-gives_now volume end n rows old new gives =
-    elim (cases_eq n volume) [
-      | inl same ↦ ap (λ k. (new k).now) same ∙ gives.now ∙ ap (λ k. (old k).now) (sym same)
-      | inr apart ↦ ap (λ (f : FileState). f.now) (gives.others n apart)
-    ]
-
--- so does what is solid
-pub gives_solid : (volume end n : ℕ) (rows : List Record) (old new : Files) → GivesPieces volume rows end old new → ((n : ℕ) → IsSolid (old n)) → IsSolid (new n)
-gives_solid volume end n rows old new gives solid =
-    elim (cases_eq n volume) [
-      | inl same ↦ subst (λ k. IsSolid (new k)) (sym same) (gives.solid (solid volume))
-      | inr apart ↦ subst (λ (f : FileState). IsSolid f) (sym (gives.others n apart)) (solid n)
-    ]
 
 -- nothing sealed at all
 pub all_free : (rows : List Record) (file : FileState) → ((k : ℕ) → file.sealed k ≡ false) → RowFlagsFree file rows

@@ -1,5 +1,5 @@
 -- Where all that an opening reads is of the format, none of it is damaged.
-use Rattle.std.proofs.Common.{◌≡◌, ◌⊎◌, inl, inr, ℕ, ◌<◌, ◌^◌, List, [], length, map, take, refl, sym, ap, subst, ◌∙◌, Some, Err, arith}
+use Rattle.std.proofs.Common.{◌≡◌, inl, inr, ℕ, ◌<◌, ◌^◌, List, [], length, take, refl, sym, ap, subst, ◌∙◌, Some, Err, arith}
 use Rattle.std.proofs.lemmas.List.{take-take}
 use Rattle.std.specs.List.{slice_get}
 use Rattle.hay_needle.specs.declared.needle.Cell.{Cell}
@@ -12,17 +12,15 @@ use Rattle.hay_head.specs.Rows.{IsSuperFaultAt}
 use Rattle.hay_head.proofs.HeadLaws.{one_generation, undamaged as head_undamaged}
 use Rattle.hay_head.proofs.RowLaws.{front_is as head_front}
 use Rattle.hay_index.specs.declared.record.Record.{Record}
-use Rattle.hay_index.specs.Records.{IsDamagedIndex, IsIndex, place_behind}
+use Rattle.hay_index.specs.Records.{IsDamagedIndex, IsIndex}
 use Rattle.hay_index.proofs.Readings.{front_is as index_front, one_reading as one_index, undamaged as index_undamaged}
 use Rattle.hay_volume.specs.declared.volume.VolumeFile.{VolumeFile}
-use Rattle.hay_volume.proofs.Readings.{one_reading as one_volume}
 use Rattle.hay_open.specs.declared.opened.Opened.{Opened}
-use Rattle.hay_open.specs.Damage.{FitsLasts, FitsNeedle, HasOrphans, IsDamagedFront, IsDamagedRest, IsMisfit, IsMisfitAmong, IsReadingDamage, scan_start}
+use Rattle.hay_open.specs.Damage.{FitsNeedle, HasOrphans, IsDamagedFront, IsDamagedRest, IsMisfit, IsReadingDamage, scan_start}
 use Rattle.hay_open.specs.Finds.{OpenedAs, ReadsWhole}
-use Rattle.hay_open.specs.Stored.{cell_record, fresh_stored, head_super, index_file, index_super, volume_file, volume_super}
+use Rattle.hay_open.specs.Stored.{fresh_stored, head_super, index_file, index_super, volume_file, volume_super}
 use Rattle.hay_open.proofs.Listings.{scan_whole}
 use Rattle.hay_open.proofs.Misfits.{fits_lacks, fits_other}
-use Rattle.hay_open.proofs.Opening.{get_front}
 
 -- RECORDS AND THEIR NEEDLES
 
@@ -36,36 +34,17 @@ rest_whole : (sup : Super) (contents : ℕ → List ℕ) (generation end file at
 rest_whole sup contents generation end file at records orphans short behind (inl last) = no_misfit sup contents generation last.0 file at records (λ r there. behind.fits last.0 r last.1 there) last.2
 rest_whole sup contents generation end file at records orphans short behind (inr scan) = scan_whole (scan_start records) end at (contents (volume_file generation)) records orphans short refl behind.has behind.closed scan.2
 
-among_whole : (sup : Super) (contents : ℕ → List ℕ) (generation file at : ℕ) (records : List Record) (orphans : List Cell) → FitsLasts records orphans (contents (volume_file generation)) → IsMisfitAmong sup contents generation records orphans file at → ⊥
-among_whole sup contents generation file at records orphans lasts among =
-    no_misfit sup contents generation among.number file at records
-    (λ r there. lasts among.number among.recorded r (sym (get_front among.number records (map cell_record orphans) among.recorded) ∙ there) (among.last r there)) among.misfit
-
 -- ALL THAT IS READ
 
-IsDamagedBehind : Super → (ℕ → List ℕ) → ℕ → ℕ → ℕ → List Record → Type 0
-IsDamagedBehind sup contents file at generation records =
-    IsDamagedRest sup contents generation records file at
-    ⊎ ((orphans : List Cell) × (end : ℕ) × HasOrphans (contents (volume_file generation)) records orphans end × IsMisfitAmong sup contents generation records orphans file at)
-
-behind_whole : (sup : Super) (contents : ℕ → List ℕ) (file at generation end : ℕ) (records : List Record) (orphans : List Cell) → length (contents (volume_file generation)) < 2 ^ 64 → HasOrphans (contents (volume_file generation)) records orphans end
-    → FitsLasts records orphans (contents (volume_file generation)) → IsDamagedBehind sup contents file at generation records → ⊥
-unfolding IsDamagedBehind
-behind_whole sup contents file at generation end records orphans short behind lasts (inl rest) = rest_whole sup contents generation end file at records orphans short behind rest
-behind_whole sup contents file at generation end records orphans short behind lasts (inr (others, other, found, among)) =
-    let one = one_volume (place_behind 64 records) other end (contents (volume_file generation)) others orphans found.has found.closed behind.has behind.closed in
-    among_whole sup contents generation file at records orphans lasts (subst (λ (cells : List Cell). IsMisfitAmong sup contents generation records cells file at) one.0 among)
-
-pub reads_undamaged : {P : Type 0} (sup : Super) (contents : ℕ → List ℕ) (opened : Opened P) (file at : ℕ) → ((n : ℕ) → length (contents n) < 2 ^ 64) → ReadsWhole sup contents opened → (IsDamagedFront sup contents file at → ⊥) → IsReadingDamage sup contents file at → ⊥
-unfolding IsDamagedBehind
-reads_undamaged sup contents opened file at short is no_front (inl front) = no_front front
-reads_undamaged sup contents opened file at short is no_front (inr (other, records, end, recorded, damage)) =
+pub reads_undamaged : {P : Type 0} (Tells : Type 0) (sup : Super) (contents : ℕ → List ℕ) (opened : Opened P) (file at : ℕ) → ((n : ℕ) → length (contents n) < 2 ^ 64) → ReadsWhole Tells sup contents opened → (IsDamagedFront sup contents file at → ⊥) → IsReadingDamage sup contents file at → ⊥
+reads_undamaged Tells sup contents opened file at short is no_front (inl front) = no_front front
+reads_undamaged Tells sup contents opened file at short is no_front (inr (other, records, end, recorded, damage)) =
     let g = opened.head.generation in
     let same : other ≡ g = one_generation (super_bytes (head_super sup)) (contents 0) other g recorded.head is.recorded.head in
     let index : IsIndex (super_bytes (index_super sup g)) (contents (index_file g)) records end = subst (λ n. IsIndex (super_bytes (index_super sup n)) (contents (index_file n)) records end) same recorded.index in
     let rows : records ≡ is.records = (one_index (super_bytes (index_super sup g)) (contents (index_file g)) records is.records end opened.index.end (short (index_file g)) index is.recorded.index).0 in
-    behind_whole sup contents file at g opened.volume.end is.records is.orphans (short (volume_file g)) is.behind is.last
-    (subst (λ (l : List Record). IsDamagedBehind sup contents file at g l) rows (subst (λ n. IsDamagedBehind sup contents file at n records) same damage))
+    rest_whole sup contents g opened.volume.end file at is.records is.orphans (short (volume_file g)) is.behind
+    (subst (λ (l : List Record). IsDamagedRest sup contents g l file at) rows (subst (λ n. IsDamagedRest sup contents n records file at) same damage))
 
 -- A DISK THAT WAS JUST FORMATTED
 
@@ -117,8 +96,8 @@ fresh_front sup contents end file at short fits head begins index (inr (other, a
     index_whole (index_super sup 0) (contents 2) [] end at (of_index sup fits) (short 2) index (subst (λ n. IsDamagedIndex (index_super sup n) (contents (index_file n)) at) one damage.2)
 
 -- nothing of it is damaged
-fresh_whole : {P : Type 0} (sup : Super) (files : Files) (opened : Opened P) → OpenedAs sup files opened fresh_stored → ReadsWhole sup (λ n. (files n).now) opened
-fresh_whole sup files opened o = record {
+fresh_whole : {P : Type 0} (Tells : Type 0) (sup : Super) (files : Files) (opened : Opened P) → OpenedAs sup files opened fresh_stored → opened.cells.items ≡ [] → ReadsWhole Tells sup (λ n. (files n).now) opened
+fresh_whole Tells sup files opened o none = record {
   records = [];
   orphans = [];
   recorded = record {
@@ -128,15 +107,15 @@ fresh_whole sup files opened o = record {
   };
   behind = subst (λ n. HasOrphans (files (volume_file n)).now [] [] opened.volume.end) (sym o.generation)
       (subst (λ n. HasOrphans (files 1).now [] [] n) (sym (ap (λ (v : VolumeFile). v.end) o.volume)) (record { fits = λ number r last there. absurd (omega (arith, last)); has = o.cells.is.has; closed = o.cells.is.closed }));
-  last = λ number within. absurd (omega (arith, within));
   capacity = ap (λ (v : VolumeFile). v.capacity) o.volume;
   noted = o.noted;
   record_count = o.records;
   orphan_count = omega (arith, o.orphans);
+  cells = ([], none, tt);
 }
 
-pub fresh_undamaged : {P : Type 0} (sup : Super) (files : Files) (opened : Opened P) (file at : ℕ) → ((n : ℕ) → length (files n).now < 2 ^ 64) → SuperFits (volume_super sup 0) → OpenedAs sup files opened fresh_stored
+pub fresh_undamaged : {P : Type 0} (Tells : Type 0) (sup : Super) (files : Files) (opened : Opened P) (file at : ℕ) → ((n : ℕ) → length (files n).now < 2 ^ 64) → SuperFits (volume_super sup 0) → OpenedAs sup files opened fresh_stored → opened.cells.items ≡ []
     → IsReadingDamage sup (λ n. (files n).now) file at → ⊥
-fresh_undamaged sup files opened file at short fits o damage =
-    reads_undamaged sup (λ n. (files n).now) opened file at short (fresh_whole sup files opened o)
+fresh_undamaged Tells sup files opened file at short fits o none damage =
+    reads_undamaged Tells sup (λ n. (files n).now) opened file at short (fresh_whole Tells sup files opened o none)
     (fresh_front sup (λ n. (files n).now) opened.index.end file at short fits o.head.is o.cells.is.begins o.index.is) damage

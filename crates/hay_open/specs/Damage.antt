@@ -1,9 +1,8 @@
 -- What an opening reads, and where it finds damage: at the first place, in the order in which it reads, where what stands is
 -- not of the format.
-use Rattle.std.specs.Prelude.{◌≡◌, ◌⊎◌, ◌<◌, ◌+◌, ◌-◌, ◌*◌, ◌^◌, min, ℕ, List, [], ◌∷◌, ◌++◌, length, map, take, drop, Some, ⊤}
+use Rattle.std.specs.Prelude.{◌≡◌, ◌⊎◌, ◌<◌, ◌+◌, ◌-◌, ◌*◌, ◌^◌, min, ℕ, List, length, take, drop, Some}
 use Rattle.std.specs.List.{slice_get}
 use Rattle.hay_needle.specs.declared.needle.Cell.{Cell}
-use Rattle.hay_needle.specs.declared.needle.Pair.{Pair}
 use Rattle.hay_needle.specs.declared.settings.Super.{Super}
 use Rattle.hay_needle.specs.Needle.{Head, HeadBytes, needle_magic}
 use Rattle.hay_needle.specs.Super.{super_bytes}
@@ -15,7 +14,7 @@ use Rattle.hay_volume.specs.Cells as volume
 use Rattle.hay_index.specs.declared.record.Record.{Record}
 use Rattle.hay_index.specs.Records.{BeginsWithBlock, HasRecords, IsIndex, place_behind}
 use Rattle.hay_index.specs.Records as index
-use Rattle.hay_open.specs.Stored.{IsVoid, cell_record, head_super, index_file, index_super, volume_file, volume_super}
+use Rattle.hay_open.specs.Stored.{IsVoid, head_super, index_file, index_super, volume_file, volume_super}
 
 -- RECORDS AND THEIR NEEDLES
 
@@ -76,19 +75,6 @@ pub record HasOrphans (volume : List ℕ) (records : List Record) (orphans : Lis
   pub has : HasCells (place_behind 64 records) volume orphans end
   pub closed : IsClosed needle_magic end volume
 
--- none of these records has the pair
-abbrev pub LacksPair : Pair → List Record → Type 0
-LacksPair pair [] = ⊤
-LacksPair pair (r ∷ records) = (r.pair ≡ pair → ⊥) × LacksPair pair records
-
--- if the record of this number is the last of its pair, it fits its needle
-abbrev pub FitsWhereLast : List Record → List ℕ → ℕ → Type 0
-FitsWhereLast rows volume number = (r : Record) → slice_get rows number ≡ Some r → LacksPair r.pair (drop (number + 1) rows) → FitsNeedle r volume
-
--- The recorded needles that are looked at fit: each that is the last of its pair, among the cells without records too.
-abbrev pub FitsLasts : List Record → List Cell → List ℕ → Type 0
-FitsLasts records orphans volume = (number : ℕ) → number < length records → FitsWhereLast (records ++ map cell_record orphans) volume number
-
 -- THE FIRST DAMAGE
 
 -- Up to the index: of the head file, of the superblock of the volume file, or of the index file.
@@ -107,23 +93,12 @@ IsDamagedRest sup contents generation records file at =
     ⊎ (LastFits records (contents (volume_file generation))
     × (file ≡ volume_file generation) × volume.IsDamagedCell (scan_start records) (contents (volume_file generation)) at)
 
--- Behind these: a record that is the last of its pair, among the cells without records too, does not fit its needle, and the
--- ones before it do.
-pub record IsMisfitAmong (sup : Super) (contents : ℕ → List ℕ) (generation : ℕ) (records : List Record) (orphans : List Cell) (file at : ℕ) : Type 0 where
-  pub number : ℕ
-  pub recorded : number < length records
-  pub misfit : IsMisfit sup contents generation records number file at
-  pub last : (r : Record) → slice_get records number ≡ Some r → LacksPair r.pair (drop (number + 1) (records ++ map cell_record orphans))
-  pub before : (k : ℕ) → k < number → FitsWhereLast (records ++ map cell_record orphans) (contents (volume_file generation)) k
-
 -- What is read first of all that is damaged.
 abbrev pub IsReadingDamage : Super → (ℕ → List ℕ) → ℕ → ℕ → Type 0
 IsReadingDamage sup contents file at =
     IsDamagedFront sup contents file at
     ⊎ ((generation : ℕ) × (records : List Record) × (index_end : ℕ) × IsRecorded sup contents generation records index_end
-    × (IsDamagedRest sup contents generation records file at
-    ⊎ ((orphans : List Cell) × (end : ℕ) × HasOrphans (contents (volume_file generation)) records orphans end
-    × IsMisfitAmong sup contents generation records orphans file at)))
+    × IsDamagedRest sup contents generation records file at)
 
 -- The first damage of a disk that is not void.
 unfoldable pub IsOpeningDamage : Super → (ℕ → List ℕ) → ℕ → ℕ → Type 0

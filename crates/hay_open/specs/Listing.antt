@@ -1,13 +1,9 @@
 -- What an opening keeps of what it has read, and what giving out pieces does.
-use Rattle.std.specs.Prelude.{◌≡◌, ◌⊎◌, ◌≤◌, ◌<◌, ◌+◌, ℕ, false, List, [], ◌∷◌, ◌++◌, length, map, take, drop, Option, Some, None, if◌then◌else◌, ⊤}
-use Rattle.std.specs.Option.{option_or}
-use Rattle.std.specs.Map.{lookup}
-use Rattle.std.specs.BTreeMap.{is_at}
+use Rattle.std.specs.Prelude.{◌≡◌, ◌⊎◌, ◌≤◌, ◌<◌, ◌+◌, ℕ, false, List, [], ◌∷◌, ◌++◌, length, map, take, drop, ⊤}
 use Rattle.hay_needle.specs.declared.needle.Cell.{Cell}
 use Rattle.hay_needle.specs.declared.needle.CellHead.{CellHead}
 use Rattle.hay_needle.specs.declared.needle.Pair.{Pair}
 use Rattle.hay_needle.specs.declared.settings.Super.{Super}
-use Rattle.hay_needle.specs.Tables.{pair_cmp, pair_eq}
 use Rattle.hay_disk.specs.Disk.{Files, FileState, IsSolid, KeepsOthers}
 use Rattle.hay_volume.specs.Cells.{HasCells, cell_head}
 use Rattle.hay_index.specs.declared.record.Record.{Record}
@@ -16,7 +12,7 @@ use Rattle.hay_map.specs.declared.place.Place.TheVariants as place
 use Rattle.hay_map.specs.declared.view.OpenCell.{OpenCell}
 use Rattle.hay_map.specs.Rows.{last_place}
 use Rattle.hay_open.specs.declared.listing.Listing.{Listing}
-use Rattle.hay_open.specs.Damage.{HasOrphans, HasOtherNeedle, IsRecordAt, IsRecorded, LacksNeedle, LacksPair}
+use Rattle.hay_open.specs.Damage.{HasOrphans, HasOtherNeedle, IsRecordAt, IsRecorded, LacksNeedle}
 use Rattle.hay_open.specs.Stored.{PlaceOf, cell_record, index_file, last_cell, volume_file}
 
 -- the record of a cell whose head was read
@@ -42,27 +38,14 @@ pub record ListsCells (volume : List ℕ) (listing : Listing) (cells : List Cell
   pub rows : listing.rows.items ≡ map cell_record cells
   pub heads : listing.orphans.items ≡ map cell_head (drop listing.recorded cells)
 
--- The rows of the listing lie in the volume file, in the row of places, and those behind the recorded ones are of cells that
--- stand there.
+-- The rows of the listing are in the row of places, and those behind the recorded ones are of cells that stand there.
 pub record HoldsRows (volume : List ℕ) (listing : Listing) : Type 0 where
   pub row : AreInRow 64 listing.rows.items
-  pub inside : place_behind 64 listing.rows.items ≤ length volume
   pub from : ℕ
   pub orphans : List Cell
   pub has : HasCells from volume orphans (place_behind 64 listing.rows.items)
   pub heads : listing.orphans.items ≡ map cell_head orphans
   pub behind : drop listing.recorded listing.rows.items ≡ map cell_record orphans
-
--- LAST CELLS
-
--- the number of the last record of a pair, where the first of these has the number `from`
-abbrev pub last_number : ℕ → List Record → Pair → Option ℕ
-last_number from [] pair = None
-last_number from (r ∷ rows) pair = option_or (last_number (from + 1) rows pair) (if pair_eq r.pair pair then Some from else None)
-
--- the number that is kept of a pair
-abbrev pub number_at : List (Pair × ℕ) → Pair → Option ℕ
-number_at numbers pair = lookup (is_at (pair_cmp pair)) numbers
 
 -- RECORDS THAT DO NOT FIT
 
@@ -90,6 +73,6 @@ pub record GivesPieces (volume : ℕ) (rows : List Record) (end : ℕ) (old new 
 
 -- PLACES
 
--- The places are right of each pair that none of the cells from a number on has.
-pub record ArePlaced {P : Type 0} (Tells : Type 0) (whole : List Cell) (k : ℕ) (done : List (OpenCell P)) : Type 0 where
-  pub right : (pair : Pair) → LacksPair pair (drop k (map cell_record whole)) → PlaceOf Tells (last_cell (take k whole) pair) (last_place done pair place.None)
+-- the places are those of the first k cells
+abbrev pub ArePlaced : {P : Type 0} → Type 0 → List Cell → ℕ → List (OpenCell P) → Type 0
+ArePlaced Tells whole k done = (pair : Pair) → PlaceOf Tells (last_cell (take k whole) pair) (last_place done pair place.None)

@@ -89,14 +89,16 @@ pub record IsSealedCell (Tells : Type 0) (cell : Cell) (needle : SealedNeedle) :
   pub at : needle.at ≡ cell.at
   pub sealed : IsSealed Tells cell.pair (record { cookie = cell.cookie; bytes = cell.bytes }) needle
 
--- the place of a pair whose last cell this is
+-- the place of a pair whose last cell this is; one that was not looked at yet may be of a deleted cell too
 abbrev pub PlaceOf : {P : Type 0} → Type 0 → Option Cell → Place P → Type 0
 PlaceOf Tells (Some cell) (place.Live needle) = IsSealedCell Tells cell needle
 PlaceOf Tells (Some cell) place.Gone = cell.deleted ≡ true
 PlaceOf Tells (Some cell) place.None = ⊥
+PlaceOf Tells (Some cell) (place.Unseen at size) = (at ≡ cell.at) × (size ≡ length cell.bytes)
 PlaceOf Tells None (place.Live needle) = ⊥
 PlaceOf Tells None place.Gone = ⊤
 PlaceOf Tells None place.None = ⊤
+PlaceOf Tells None (place.Unseen at size) = ⊥
 
 -- FILES TO WHICH CHANGES CAN BE MADE
 

@@ -36,6 +36,7 @@ pub(crate) fn format_disk<D: Disk>(
     ensures nothing { D.Tells → IsVoid (λ n. (D.files disk.old n).now) → (image : ℕ → List ℕ) → MayLeave (D.files disk.new) image →
         (other : Super) (s : Stored) → OpensAs other image s → s ≡ fresh_stored }
     ensures whole { D.Tells → OnOk result ((file at : ℕ) → IsReadingDamage sup.now (λ n. (D.files disk.new n).now) file at → ⊥) }
+    ensures drawn { D.Tells → OnOk result ((n : ℕ) → D.drawn disk.new n ≡ D.drawn disk.old n) }
     ensures undamaged { (file at : ℕ) → result ≡ Err (Refusal.Damaged file at) → ⊥ }
     ensures counted { IsCounted (D.fault_count disk.old) (D.fault_count disk.new) (IsErrOf result Refusal.Failed) }
     ensures fuses { D.fuse_count disk.new ≡ D.fuse_count disk.old }

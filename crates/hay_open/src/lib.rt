@@ -1,15 +1,15 @@
 //! Opening a replica's disk: formatting a void one, and else reading its head, the superblock of its volume file and its
-//! index, scanning the cells that no record names, and looking at the heads of the recorded cells that are the last of
-//! their pair. It stands on `hay_head`, `hay_volume`, `hay_index` and `hay_map`.
+//! index, looking at the head of the last recorded needle, and scanning the cells behind it, which no record names. It
+//! stands on `hay_head`, `hay_volume`, `hay_index` and `hay_map`.
 //!
-//! Over a disk that is whole it answers what a scan of the whole volume file would: the last cell of each pair, with the
-//! piece by which its photo is fetched. Needles that it need not read are not read: over a disk that is not whole it names
-//! damage exactly where something that it does read is not of the format, at the first such place in the order in which it
-//! reads: the head file; the superblock of the volume file; the index; the head of the last recorded needle; the cells
-//! behind that needle; then the heads of the recorded cells that are the last of their pair, upwards.
+//! Over a disk that is whole it answers the last cell of each pair: of one that has no record whether it was deleted, or
+//! the piece by which its photo is fetched; of one that has a record where it stands, deleted or not. Needles that it need
+//! not read are not read: over a disk that is not whole it names damage exactly where something that it does read is not
+//! of the format, at the first such place in the order in which it reads: the head file; the superblock of the volume
+//! file; the index; the head of the last recorded needle; the cells behind that needle.
 #![tactic(auto)]
 
-ghost use Rattle.std.specs.Prelude.{◌≡◌, ◌⊎◌, ◌≤◌, ◌<◌, ℕ, List, false, Err, IfOk, IfErr, OnOk, OnErr, IsErrOf};
+ghost use Rattle.std.specs.Prelude.{◌≡◌, ◌⊎◌, ◌≤◌, ◌<◌, ◌+◌, ℕ, List, false, Err, IfOk, IfErr, OnOk, OnErr, IsErrOf};
 ghost use Rattle.hay_needle.specs.declared.settings.Super.{Super};
 ghost use Rattle.hay_needle.specs.declared.needle.Pair.{Pair};
 ghost use Rattle.hay_disk.specs.Counts.{Rose};
@@ -17,13 +17,12 @@ ghost use Rattle.hay_disk.specs.Disk.{IsFree, IsSolid, MayLeave};
 ghost use Rattle.hay_map.specs.declared.place.Place.TheVariants as place;
 ghost use Rattle.hay_map.specs.Rows.{last_place};
 ghost use Rattle.hay_open.specs.Damage.{IsOpeningDamage};
-ghost use Rattle.hay_open.specs.Finds.{IsReady, MayFlagEach, OpenedAs, ReadsWhole};
+ghost use Rattle.hay_open.specs.Finds.{IsReady, MayFlagEach, OpenedAs, ReadsWhole, drawn_most};
 ghost use Rattle.hay_open.specs.Stored.{Stored, IsVoid, OpensAs, PlaceOf, fresh_stored, last_cell};
 
 mod fault;
 mod files;
 mod format;
-mod lasts;
 mod listing;
 mod opened;
 mod places;
@@ -55,9 +54,13 @@ pub fn open_replica<D: Disk>(
     ensures places { D.Tells → (s : Stored) → OpensAs sup.now (λ n. (D.files disk.old n).now) s →
         IfOk result (λ opened. (pair : Pair) → PlaceOf D.Piece.Tells (last_cell s.cells pair) (last_place opened.cells.items pair place.None)) }
 
+    // No more is read of the volume file than its superblock, the head of the last recorded needle, the cells that have no
+    // record, which are noted in the index, and the magic behind them.
+    ensures drawn { D.Tells → IfOk result (λ opened. D.drawn disk.new opened.volume.file ≤ D.drawn disk.old opened.volume.file + drawn_most opened.index.pending) }
+
     // What is opened was void, or all that the opening reads of it is of the format.
     ensures whole { D.Tells → IfOk result (λ opened.
-        IsVoid (λ n. (D.files disk.old n).now) ⊎ ReadsWhole sup.now (λ n. (D.files disk.old n).now) opened) }
+        IsVoid (λ n. (D.files disk.old n).now) ⊎ ReadsWhole D.Piece.Tells sup.now (λ n. (D.files disk.old n).now) opened) }
     ensures undamaged { D.Tells → OnOk result ((file at : ℕ) → IsOpeningDamage sup.now (λ n. (D.files disk.old n).now) file at → ⊥) }
     ensures undamaged_now { D.Tells → OnOk result ((file at : ℕ) → IsOpeningDamage sup.now (λ n. (D.files disk.new n).now) file at → ⊥) }
 

@@ -2,6 +2,7 @@
 
 ghost use Rattle.std.specs.Prelude.{◌≡◌, ◌⊎◌, ◌≤◌, ◌+◌, ◌++◌, ℕ, [], false, List, length, map, take, slice_get, Some, Err, OnOk, IfOk, IfErr, IsErrOf};
 ghost use Rattle.hay_disk.specs.Counts.{IsCounted};
+ghost use Rattle.hay_disk.specs.Disk.{KeepsOthers};
 ghost use Rattle.hay_disk.specs.Gate.{IsClosed};
 ghost use Rattle.hay_needle.specs.Needle.{needle_magic};
 ghost use Rattle.hay_needle.specs.declared.needle.Cell.{Cell};
@@ -15,6 +16,7 @@ ghost use Rattle.hay_volume.specs.Cells.{HasCells, cell_head};
 ghost use Rattle.hay_volume.specs.Cells as volume_specs;
 ghost use Rattle.hay_open.specs.Damage.{FitsNeedle, HasOrphans, IsDamagedFront, IsDamagedRest, IsMisfit, IsRecorded, LastFits};
 ghost use Rattle.hay_open.specs.Damage as damage;
+ghost use Rattle.hay_open.specs.Finds.{drawn_most};
 ghost use Rattle.hay_open.specs.Listing.{IsListing, IsMisfitIn, ListsCells, head_record};
 ghost use Rattle.hay_open.specs.Stored.{Stored, IsStored};
 ghost use Rattle.hay_open.specs.Stored as stored;
@@ -62,6 +64,7 @@ fn read_head_file<D: Disk>(disk: &mut D, sup: &Super) -> Result<Head, Refusal>
     ensures only { D.Tells → (generation : ℕ) → IsHead (super_bytes (stored.head_super sup.now)) (D.files disk.old 0).now generation
         → (file at : ℕ) → result ≡ Err (Refusal.Damaged file at) → ⊥ }
     ensures same { D.Tells → D.files disk.new ≡ D.files disk.old }
+    ensures drawn_others { D.Tells → KeepsOthers 0 (D.drawn disk.old) (D.drawn disk.new) }
     ensures counted { IsCounted (D.fault_count disk.old) (D.fault_count disk.new) (IsErrOf result Refusal.Failed) }
     ensures fuses { D.fuse_count disk.new ≡ D.fuse_count disk.old }
 {
@@ -83,6 +86,7 @@ fn check_front<D: Disk>(disk: &mut D, file: u32, sup: &Super) -> Result<(), Refu
     ensures undamaged { D.Tells → OnOk result ((at : ℕ) → IsSuperFaultAt sup.now (D.files disk.old file).now at → ⊥) }
     ensures only { D.Tells → take 64 (D.files disk.old file).now ≡ super_bytes sup.now → (number at : ℕ) → result ≡ Err (Refusal.Damaged number at) → ⊥ }
     ensures same { D.Tells → D.files disk.new ≡ D.files disk.old }
+    ensures drawn { D.Tells → D.drawn disk.new file ≤ D.drawn disk.old file + 64 }
     ensures counted { IsCounted (D.fault_count disk.old) (D.fault_count disk.new) (IsErrOf result Refusal.Failed) }
     ensures fuses { D.fuse_count disk.new ≡ D.fuse_count disk.old }
 {
@@ -107,6 +111,7 @@ fn read_index<D: Disk>(
     ensures only { D.Tells → (records : List Record) (end : ℕ) → IsIndex (super_bytes sup.now) (D.files disk.old file).now records end
         → (number at : ℕ) → result ≡ Err (Refusal.Damaged number at) → ⊥ }
     ensures same { D.Tells → D.files disk.new ≡ D.files disk.old }
+    ensures drawn_others { D.Tells → KeepsOthers file (D.drawn disk.old) (D.drawn disk.new) }
     ensures counted { IsCounted (D.fault_count disk.old) (D.fault_count disk.new) (IsErrOf result Refusal.Failed) }
     ensures fuses { D.fuse_count disk.new ≡ D.fuse_count disk.old }
 {
@@ -129,6 +134,7 @@ fn read_recorded<D: Disk>(alloc: Global, disk: &mut D, sup: &Super) -> Result<Re
     ensures only { D.Tells → (generation : ℕ) (records : List Record) (end : ℕ) → IsRecorded sup.now (λ n. (D.files disk.old n).now) generation records end
         → (file at : ℕ) → result ≡ Err (Refusal.Damaged file at) → ⊥ }
     ensures same { D.Tells → D.files disk.new ≡ D.files disk.old }
+    ensures drawn { D.Tells → IfOk result (λ read. D.drawn disk.new (stored.volume_file read.head.generation) ≤ D.drawn disk.old (stored.volume_file read.head.generation) + 64) }
     ensures counted { IsCounted (D.fault_count disk.old) (D.fault_count disk.new) (IsErrOf result Refusal.Failed) }
     ensures fuses { D.fuse_count disk.new ≡ D.fuse_count disk.old }
 {
@@ -164,6 +170,7 @@ fn check_last<D: Disk>(
         (number : ℕ) × (r : Record) × (number + 1 ≡ length records.now) × (slice_get records.now number ≡ Some r)
         × IsMisfitIn (λ n. (D.files disk.old n).now) volume index r number file at }
     ensures same { D.Tells → D.files disk.new ≡ D.files disk.old }
+    ensures drawn { D.Tells → OnOk result (D.drawn disk.new volume ≤ D.drawn disk.old volume + 36) }
     ensures counted { IsCounted (D.fault_count disk.old) (D.fault_count disk.new) (IsErrOf result Refusal.Failed) }
     ensures fuses { D.fuse_count disk.new ≡ D.fuse_count disk.old }
 {
@@ -198,6 +205,7 @@ fn scan<D: Disk>(
     ensures mark { D.Tells → IfOk result (λ scan. IsClosed needle_magic scan.1 (D.files disk.old file).now) }
     ensures damaged { D.Tells → (number k : ℕ) → result ≡ Err (Refusal.Damaged number k) → (number ≡ file) × volume_specs.IsDamagedCell at (D.files disk.old file).now k }
     ensures same { D.Tells → D.files disk.new ≡ D.files disk.old }
+    ensures drawn { D.Tells → IfOk result (λ scan. D.drawn disk.new file + at ≤ D.drawn disk.old file + scan.1 + 8) }
     ensures counted { IsCounted (D.fault_count disk.old) (D.fault_count disk.new) (IsErrOf result Refusal.Failed) }
     ensures fuses { D.fuse_count disk.new ≡ D.fuse_count disk.old }
 {
@@ -248,6 +256,7 @@ pub(crate) fn read_listing<D: Disk>(
     ensures undamaged { D.Tells → OnOk result ((file at : ℕ) → IsDamagedFront sup.now (λ n. (D.files disk.old n).now) file at → ⊥) }
     ensures only { D.Tells → (s : Stored) → IsStored sup.now (λ n. (D.files disk.old n).now) s → (file at : ℕ) → result ≡ Err (Refusal.Damaged file at) → ⊥ }
     ensures same { D.Tells → D.files disk.new ≡ D.files disk.old }
+    ensures drawn { D.Tells → IfOk result (λ listing. D.drawn disk.new listing.volume ≤ D.drawn disk.old listing.volume + drawn_most listing.index.pending) }
     ensures counted { IsCounted (D.fault_count disk.old) (D.fault_count disk.new) (IsErrOf result Refusal.Failed) }
     ensures fuses { D.fuse_count disk.new ≡ D.fuse_count disk.old }
 {

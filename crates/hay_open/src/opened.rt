@@ -6,7 +6,7 @@ use hay_index::IndexFile;
 use hay_map::OpenCell;
 use hay_volume::VolumeFile;
 
-/// An opened disk. `cells` has the place of the last cell of each pair, and perhaps earlier ones before it.
+/// An opened disk. `cells` has the place of each cell, in order: that of a cell which has a record was not looked at.
 #[derive(Drop)]
 pub struct Opened<P: Piece> {
     pub head: Head,

@@ -1,6 +1,9 @@
 //! The places of the cells that were listed.
 
-ghost use Rattle.std.specs.Prelude.{◌≡◌, ◌⊎◌, ◌≤◌, ◌<◌, ◌+◌, ◌++◌, ◌∷◌, ℕ, [], List, length, map, take, drop, Some, Err, OnOk, IfOk, IfErr, IsErrOf, slice_get};
+ghost use Rattle.std.specs.Prelude.{◌≡◌, ◌⊎◌, ◌≤◌, ◌<◌, ◌+◌, ◌++◌, ◌∷◌, ℕ, [], List, length, map, take, drop, Some, Err, OnOk, IfOk, IfErr, IsErrOf, vec_len};
+ghost use Rattle.std.specs.Vec.{vec_capacity};
+ghost use Rattle.std.specs.List.{AllZip};
+ghost use Rattle.hay_map.specs.declared.view.OpenCell.{OpenCell};
 ghost use Rattle.hay_needle.specs.declared.needle.Cell.{Cell};
 ghost use Rattle.hay_needle.specs.declared.needle.Pair.{Pair};
 ghost use Rattle.hay_needle.specs.Sizes.{needle_total};
@@ -12,16 +15,13 @@ ghost use Rattle.hay_index.specs.Records.{AreInRow, place_behind};
 ghost use Rattle.hay_map.specs.declared.place.Place.{Place};
 ghost use Rattle.hay_map.specs.declared.place.Place.TheVariants as place;
 ghost use Rattle.hay_map.specs.Rows.{last_place};
-ghost use Rattle.hay_open.specs.Damage.{FitsNeedle, FitsWhereLast, LacksPair};
-ghost use Rattle.hay_open.specs.Finds.{AddsAt, AreOfRows, StandsAt};
-ghost use Rattle.hay_open.specs.Listing.{ArePlaced, GivesPieces, HoldsRows, IsMisfitIn, ListsCells, head_record, last_number, number_at};
+ghost use Rattle.hay_open.specs.Finds.{AddsAt, AreCellsOf, AreOfRows, IsOrphanOf, StandsAt, unseen_cell};
+ghost use Rattle.hay_open.specs.Listing.{ArePlaced, GivesPieces, HoldsRows, ListsCells};
 ghost use Rattle.hay_open.specs.Stored.{PlaceOf, cell_record, last_cell};
 
 use crate::fault::Refusal;
-use crate::lasts::Lasts;
 use crate::listing::Listing;
-use crate::record::fitting_head;
-use hay_disk::Disk;
+use hay_disk::{Disk, Piece};
 use hay_index::Record;
 use hay_map::{OpenCell, Place, Sealed};
 use hay_needle::{CellHead, MAX_PHOTO, total_of};
@@ -41,6 +41,7 @@ fn place_of<D: Disk>(disk: &mut D, file: u32, head: CellHead) -> Result<Place<D:
     ensures seals { D.Tells → Seals head.at (needle_total head.size) 28 (D.files disk.old file) (D.files disk.new file) }
     ensures others { D.Tells → KeepsOthers file (D.files disk.old) (D.files disk.new) }
     ensures undamaged { (number at : ℕ) → result ≡ Err (Refusal.Damaged number at) → ⊥ }
+    ensures drawn { D.Tells → (n : ℕ) → D.drawn disk.new n ≡ D.drawn disk.old n }
     ensures counted { IsCounted (D.fault_count disk.old) (D.fault_count disk.new) (IsErrOf result Refusal.Failed) }
     ensures fuses { D.fuse_count disk.new ≡ D.fuse_count disk.old }
 {
@@ -51,76 +52,27 @@ fn place_of<D: Disk>(disk: &mut D, file: u32, head: CellHead) -> Result<Place<D:
     Ok(Place::Live(Sealed::new(head.at, head.size, piece)))
 }
 
-// Adds the place of a recorded cell, whose head is read.
-fn open_record<D: Disk>(
-    disk: &mut D,
-    listing: &Listing,
-    row: Record,
-    number: usize,
-    cells: &mut Vec<OpenCell<D::Piece>>,
-) -> Result<(), Refusal>
-    requires inside { D.Tells → row.at + needle_total row.size ≤ length (D.files disk.old listing.now.volume).now }
-    requires solid { D.Tells → IsSolid (D.files disk.old listing.now.volume) }
-    ensures added { OnOk result ((place : Place D.Piece) × (cells.new.items ≡ cells.old.items ++ record { pair = row.pair; place = place } ∷ [])
-        × (D.Tells → (cell : Cell) → StandsCell row.at (D.files disk.old listing.now.volume).now cell → row ≡ cell_record cell → PlaceOf D.Piece.Tells (Some cell) place)) }
-    ensures at { OnOk result (AddsAt row.at cells.old.items cells.new.items) }
-    ensures fits { D.Tells → OnOk result (FitsNeedle row (D.files disk.old listing.now.volume).now) }
-    ensures seals { D.Tells → Seals row.at (needle_total row.size) 28 (D.files disk.old listing.now.volume) (D.files disk.new listing.now.volume) }
-    ensures others { D.Tells → KeepsOthers listing.now.volume (D.files disk.old) (D.files disk.new) }
-    ensures damaged { D.Tells → (file at : ℕ) → result ≡ Err (Refusal.Damaged file at) → IsMisfitIn (λ n. (D.files disk.old n).now) listing.now.volume listing.now.index.file row number file at }
-    ensures counted { IsCounted (D.fault_count disk.old) (D.fault_count disk.new) (IsErrOf result Refusal.Failed) }
-    ensures fuses { D.fuse_count disk.new ≡ D.fuse_count disk.old }
+// A recorded cell, which is not looked at.
+fn unseen<P: Piece>(row: &Record) -> OpenCell<P>
+    ensures { result ≡ unseen_cell row.now }
 {
-    let head = fitting_head(
-        disk,
-        listing.volume,
-        listing.index.file,
-        &row,
-        number as u64,
-    )?;
-    let place = place_of(disk, listing.volume, head)?;
-    cells.push(OpenCell {
+    OpenCell {
         pair: row.pair,
-        place,
-    })?;
-    Ok(())
+        place: Place::Unseen {
+            at: row.at,
+            size: row.size,
+        },
+    }
 }
 
-// Adds the places of the recorded cells that are the last of their pair, upwards.
-fn open_recorded<D: Disk>(
-    disk: &mut D,
-    listing: &Listing,
-    lasts: &Lasts,
-    cells: &mut Vec<OpenCell<D::Piece>>,
-) -> Result<(), Refusal>
-    requires within { listing.now.recorded ≤ length listing.now.rows.items }
-    requires lasts { (pair : Pair) → number_at lasts.now pair ≡ last_number 0 listing.now.rows.items pair }
-    requires row { D.Tells → AreInRow 64 listing.now.rows.items }
-    requires inside { D.Tells → place_behind 64 listing.now.rows.items ≤ length (D.files disk.old listing.now.volume).now }
-    requires solid { D.Tells → IsSolid (D.files disk.old listing.now.volume) }
-    ensures places { D.Tells → cells.old.items ≡ [] → (whole : List Cell) → ListsCells (D.files disk.old listing.now.volume).now listing.now whole →
-        OnOk result (ArePlaced D.Piece.Tells whole listing.now.recorded cells.new.items) }
-    ensures rows { OnOk result (AreOfRows listing.now.rows.items cells.old.items → AreOfRows listing.now.rows.items cells.new.items) }
-    ensures pieces { D.Tells → GivesPieces listing.now.volume listing.now.rows.items (place_behind 64 listing.now.rows.items) (D.files disk.old) (D.files disk.new) }
-    ensures damaged { D.Tells → (file at : ℕ) → result ≡ Err (Refusal.Damaged file at) →
-        (number : ℕ) × (r : Record) × (number < listing.now.recorded) × (slice_get listing.now.rows.items number ≡ Some r)
-        × IsMisfitIn (λ n. (D.files disk.old n).now) listing.now.volume listing.now.index.file r number file at
-        × LacksPair r.pair (drop (number + 1) listing.now.rows.items)
-        × ((k : ℕ) → k < number → FitsWhereLast listing.now.rows.items (D.files disk.old listing.now.volume).now k) }
-    ensures fits { D.Tells → OnOk result ((k : ℕ) → k < listing.now.recorded → FitsWhereLast listing.now.rows.items (D.files disk.old listing.now.volume).now k) }
-    ensures counted { IsCounted (D.fault_count disk.old) (D.fault_count disk.new) (IsErrOf result Refusal.Failed) }
-    ensures fuses { D.fuse_count disk.new ≡ D.fuse_count disk.old }
+// Adds recorded cells, in order, for which there is room.
+fn add_recorded<P: Piece>(rows: &[Record], cells: &mut Vec<OpenCell<P>>)
+    requires room { vec_len cells.old + length rows.now ≤ vec_capacity cells.old }
+    ensures { cells.new.items ≡ cells.old.items ++ map unseen_cell rows.now }
 {
-    for (number, row) in listing.rows.as_slice()[..listing.recorded]
-        .iter()
-        .enumerate()
-    {
-        if !lasts.is_last(row.pair, number) {
-            continue;
-        }
-        open_record(disk, listing, *row, number, cells)?;
+    for row in rows {
+        cells.push_reserved(unseen(row));
     }
-    Ok(())
 }
 
 // Adds the place of a cell that has no record.
@@ -132,12 +84,13 @@ fn open_orphan<D: Disk>(
 ) -> Result<(), Refusal>
     requires stands { D.Tells → (cell : Cell) × StandsCell head.at (D.files disk.old file).now cell × (head ≡ cell_head cell) }
     requires solid { D.Tells → IsSolid (D.files disk.old file) }
-    ensures added { OnOk result ((place : Place D.Piece) × (cells.new.items ≡ cells.old.items ++ record { pair = head.pair; place = place } ∷ [])
+    ensures added { OnOk result ((place : Place D.Piece) × (cells.new.items ≡ cells.old.items ++ record { pair = head.pair; place = place } ∷ []) × StandsAt head.at place
         × (D.Tells → (cell : Cell) → StandsCell head.at (D.files disk.old file).now cell → head ≡ cell_head cell → PlaceOf D.Piece.Tells (Some cell) place)) }
     ensures at { OnOk result (AddsAt head.at cells.old.items cells.new.items) }
     ensures seals { D.Tells → Seals head.at (needle_total head.size) 28 (D.files disk.old file) (D.files disk.new file) }
     ensures others { D.Tells → KeepsOthers file (D.files disk.old) (D.files disk.new) }
     ensures undamaged { D.Tells → (number at : ℕ) → result ≡ Err (Refusal.Damaged number at) → ⊥ }
+    ensures drawn { D.Tells → (n : ℕ) → D.drawn disk.new n ≡ D.drawn disk.old n }
     ensures counted { IsCounted (D.fault_count disk.old) (D.fault_count disk.new) (IsErrOf result Refusal.Failed) }
     ensures fuses { D.fuse_count disk.new ≡ D.fuse_count disk.old }
 {
@@ -166,9 +119,12 @@ fn open_orphans<D: Disk>(
     ensures places { D.Tells → (whole : List Cell) → ListsCells (D.files disk.old listing.now.volume).now listing.now whole →
         ArePlaced D.Piece.Tells whole listing.now.recorded cells.old.items →
         OnOk result ((pair : Pair) → PlaceOf D.Piece.Tells (last_cell whole pair) (last_place cells.new.items pair place.None)) }
+    ensures seen { D.Tells → (orphans : List Cell) (from end : ℕ) → HasCells from (D.files disk.old listing.now.volume).now orphans end → listing.now.orphans.items ≡ map cell_head orphans →
+        OnOk result ((seen : List (OpenCell D.Piece)) × (cells.new.items ≡ cells.old.items ++ seen) × AllZip (IsOrphanOf D.Piece.Tells) orphans seen) }
     ensures rows { D.Tells → OnOk result (AreOfRows listing.now.rows.items cells.old.items → AreOfRows listing.now.rows.items cells.new.items) }
     ensures pieces { D.Tells → GivesPieces listing.now.volume listing.now.rows.items (place_behind 64 listing.now.rows.items) (D.files disk.old) (D.files disk.new) }
     ensures undamaged { D.Tells → (number at : ℕ) → result ≡ Err (Refusal.Damaged number at) → ⊥ }
+    ensures drawn { D.Tells → (n : ℕ) → D.drawn disk.new n ≡ D.drawn disk.old n }
     ensures counted { IsCounted (D.fault_count disk.old) (D.fault_count disk.new) (IsErrOf result Refusal.Failed) }
     ensures fuses { D.fuse_count disk.new ≡ D.fuse_count disk.old }
 {
@@ -189,20 +145,17 @@ pub(crate) fn open_cells<D: Disk>(
     requires solid { D.Tells → IsSolid (D.files disk.old listing.now.volume) }
     ensures places { D.Tells → (whole : List Cell) → ListsCells (D.files disk.old listing.now.volume).now listing.now whole →
         IfOk result (λ cells. (pair : Pair) → PlaceOf D.Piece.Tells (last_cell whole pair) (last_place cells.items pair place.None)) }
+    ensures seen { D.Tells → (orphans : List Cell) (from end : ℕ) → HasCells from (D.files disk.old listing.now.volume).now orphans end → listing.now.orphans.items ≡ map cell_head orphans →
+        IfOk result (λ cells. AreCellsOf D.Piece.Tells (take listing.now.recorded listing.now.rows.items) orphans cells.items) }
     ensures rows { D.Tells → IfOk result (λ cells. AreOfRows listing.now.rows.items cells.items) }
     ensures pieces { D.Tells → GivesPieces listing.now.volume listing.now.rows.items (place_behind 64 listing.now.rows.items) (D.files disk.old) (D.files disk.new) }
-    ensures damaged { D.Tells → (file at : ℕ) → result ≡ Err (Refusal.Damaged file at) →
-        (number : ℕ) × (r : Record) × (number < listing.now.recorded) × (slice_get listing.now.rows.items number ≡ Some r)
-        × IsMisfitIn (λ n. (D.files disk.old n).now) listing.now.volume listing.now.index.file r number file at
-        × LacksPair r.pair (drop (number + 1) listing.now.rows.items)
-        × ((k : ℕ) → k < number → FitsWhereLast listing.now.rows.items (D.files disk.old listing.now.volume).now k) }
-    ensures fits { D.Tells → OnOk result ((k : ℕ) → k < listing.now.recorded → FitsWhereLast listing.now.rows.items (D.files disk.old listing.now.volume).now k) }
+    ensures undamaged { D.Tells → (number at : ℕ) → result ≡ Err (Refusal.Damaged number at) → ⊥ }
+    ensures drawn { D.Tells → (n : ℕ) → D.drawn disk.new n ≡ D.drawn disk.old n }
     ensures counted { IsCounted (D.fault_count disk.old) (D.fault_count disk.new) (IsErrOf result Refusal.Failed) }
     ensures fuses { D.fuse_count disk.new ≡ D.fuse_count disk.old }
 {
-    let lasts = Lasts::of(alloc, listing.rows.as_slice())?;
-    let mut cells = Vec::new(alloc);
-    open_recorded(disk, listing, &lasts, &mut cells)?;
+    let mut cells = Vec::with_capacity(alloc, listing.rows.len())?;
+    add_recorded(&listing.rows.as_slice()[..listing.recorded], &mut cells);
     open_orphans(disk, listing, &mut cells)?;
     Ok(cells)
 }

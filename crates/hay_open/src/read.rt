@@ -1,13 +1,13 @@
 //! Opening a disk that is not void.
 
-ghost use Rattle.std.specs.Prelude.{◌≡◌, ◌⊎◌, ℕ, false, Err, IfOk, OnOk, IsErrOf};
+ghost use Rattle.std.specs.Prelude.{◌≡◌, ◌⊎◌, ◌≤◌, ◌+◌, ℕ, false, Err, IfOk, OnOk, IsErrOf};
 ghost use Rattle.hay_needle.specs.declared.needle.Pair.{Pair};
 ghost use Rattle.hay_disk.specs.Counts.{IsCounted};
 ghost use Rattle.hay_disk.specs.Disk.{IsFree, IsSolid};
 ghost use Rattle.hay_map.specs.declared.place.Place.TheVariants as place;
 ghost use Rattle.hay_map.specs.Rows.{last_place};
 ghost use Rattle.hay_open.specs.Damage.{IsDamagedFront, IsReadingDamage};
-ghost use Rattle.hay_open.specs.Finds.{IsReady, MayFlagEach, OpenedAs, ReadsWhole};
+ghost use Rattle.hay_open.specs.Finds.{IsReady, MayFlagEach, OpenedAs, ReadsWhole, drawn_most};
 ghost use Rattle.hay_open.specs.Stored.{Stored, IsStored, PlaceOf, last_cell};
 
 use crate::fault::Refusal;
@@ -19,7 +19,7 @@ use hay_needle::Super;
 use hay_volume::VolumeFile;
 use std::alloc::Global;
 
-// Reads what the files of a disk list, and gives out the pieces of its photos.
+// Reads what the files of a disk list, and gives out the pieces of the photos that have no record.
 pub(crate) fn read_disk<D: Disk>(
     alloc: Global,
     disk: &mut D,
@@ -33,13 +33,14 @@ pub(crate) fn read_disk<D: Disk>(
         IfOk result (λ opened. (pair : Pair) → PlaceOf D.Piece.Tells (last_cell s.cells pair) (last_place opened.cells.items pair place.None)) }
     ensures flags { D.Tells → IfOk result (MayFlagEach (D.files disk.new)) }
     ensures ready { D.Tells → IfOk result (λ opened. IsReady (D.files disk.new) opened) }
-    ensures whole { D.Tells → IfOk result (ReadsWhole sup.now (λ n. (D.files disk.old n).now)) }
+    ensures whole { D.Tells → IfOk result (ReadsWhole D.Piece.Tells sup.now (λ n. (D.files disk.old n).now)) }
     ensures front { D.Tells → OnOk result ((file at : ℕ) → IsDamagedFront sup.now (λ n. (D.files disk.old n).now) file at → ⊥) }
     ensures open { IfOk result (λ opened. opened.index.frozen ≡ false) }
     ensures kept { D.Tells → (n : ℕ) → (D.files disk.new n).now ≡ (D.files disk.old n).now }
     ensures solid { D.Tells → (n : ℕ) → IsSolid (D.files disk.new n) }
     ensures damaged { D.Tells → (file at : ℕ) → result ≡ Err (Refusal.Damaged file at) → IsReadingDamage sup.now (λ n. (D.files disk.old n).now) file at }
     ensures only { D.Tells → (s : Stored) → IsStored sup.now (λ n. (D.files disk.old n).now) s → (file at : ℕ) → result ≡ Err (Refusal.Damaged file at) → ⊥ }
+    ensures drawn { D.Tells → IfOk result (λ opened. D.drawn disk.new opened.volume.file ≤ D.drawn disk.old opened.volume.file + drawn_most opened.index.pending) }
     ensures counted { IsCounted (D.fault_count disk.old) (D.fault_count disk.new) (IsErrOf result Refusal.Failed) }
     ensures fuses { D.fuse_count disk.new ≡ D.fuse_count disk.old }
 {

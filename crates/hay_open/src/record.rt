@@ -1,6 +1,6 @@
 //! Records and the needles that they name.
 
-ghost use Rattle.std.specs.Prelude.{◌≡◌, ◌≤◌, ◌<◌, ℕ, List, length, take, drop, Err, IsErr, IsErrOf, IfOk, IfSome, IfNone};
+ghost use Rattle.std.specs.Prelude.{◌≡◌, ◌≤◌, ◌<◌, ◌+◌, ℕ, List, length, take, drop, Err, IsErr, IsErrOf, IfOk, OnOk, IfSome, IfNone};
 ghost use Rattle.hay_needle.specs.Needle.{Head, HeadBytes, head_of_cell};
 ghost use Rattle.hay_disk.specs.Counts.{IsCounted};
 ghost use Rattle.hay_index.specs.declared.record.Record.{Record};
@@ -25,6 +25,7 @@ fn head_at<D: Disk>(disk: &mut D, file: u32, at: u64) -> Result<Option<CellHead>
     ensures size { IfOk result (λ seen. IfSome seen (λ head. head.size ≤ MAX_PHOTO)) }
     ensures stands { D.Tells → IfOk result (λ seen. IfSome seen (λ head. HeadBytes (take 36 (drop at (D.files disk.old file).now)) (head_of_cell head))) }
     ensures none { D.Tells → IfOk result (λ seen. IfNone seen ((head : Head) → HeadBytes (take 36 (drop at (D.files disk.old file).now)) head → ⊥)) }
+    ensures drawn { D.Tells → D.drawn disk.new file ≤ D.drawn disk.old file + 36 }
     ensures same { D.Tells → D.files disk.new ≡ D.files disk.old }
     ensures counted { IsCounted (D.fault_count disk.old) (D.fault_count disk.new) (IsErr result) }
     ensures fuses { D.fuse_count disk.new ≡ D.fuse_count disk.old }
@@ -83,6 +84,7 @@ pub(crate) fn fitting_head<D: Disk>(
     ensures size { IfOk result (λ head. head.size ≤ MAX_PHOTO) }
     ensures stands { D.Tells → IfOk result (λ head. HeadBytes (take 36 (drop row.now.at (D.files disk.old volume).now)) (head_of_cell head)) }
     ensures damaged { D.Tells → (file at : ℕ) → result ≡ Err (Refusal.Damaged file at) → IsMisfitIn (λ n. (D.files disk.old n).now) volume index row.now number file at }
+    ensures drawn { D.Tells → OnOk result (D.drawn disk.new volume ≤ D.drawn disk.old volume + 36) }
     ensures same { D.Tells → D.files disk.new ≡ D.files disk.old }
     ensures counted { IsCounted (D.fault_count disk.old) (D.fault_count disk.new) (IsErrOf result Refusal.Failed) }
     ensures fuses { D.fuse_count disk.new ≡ D.fuse_count disk.old }

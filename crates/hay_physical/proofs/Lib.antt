@@ -9,3 +9,7 @@ pub mod Views
 pub mod RunViews
 pub mod Deleting
 pub mod Removing
+pub mod Sights
+pub mod Seeing
+pub mod Looks
+pub mod Apartness

@@ -157,6 +157,7 @@ pub place_deletes : {D P : Type 0} (files : D → Files) (sup : Super) (disk : D
 place_deletes files sup disk opened (place.Live needle) flag = open_deletes files sup disk opened needle.at flag
 place_deletes files sup disk opened place.None flag = tt
 place_deletes files sup disk opened place.Gone flag = tt
+place_deletes files sup disk opened (place.Unseen at size) flag = open_deletes files sup disk opened at flag
 
 pub ended_flag : (files : Files) (opened next : OpenFiles) (at : ℕ) → KeepsFiles opened next → MayFlag (files opened.volume.file) opened.volume.end at → MayFlag (files next.volume.file) next.volume.end at
 ended_flag files opened next at keeps flag = subst (λ (o : OpenFiles). MayFlag (files o.volume.file) o.volume.end at) (sym keeps) flag

@@ -121,7 +121,14 @@ flag_place Tells sup files opened t pair (Some cell) (place.Live needle) rests e
     let ends = rests.is.has.ends in
     let there : MayFlag (files opened.volume.file) opened.volume.end cell.at = record { within = omega (arith, range.1); free = flag_free (files opened.volume.file) cell.at t.cells rests.flags has } in
     subst (λ k. MayFlag (files opened.volume.file) opened.volume.end k) (sym fits.at) there
+flag_place Tells sup files opened t pair (Some cell) (place.Unseen at size) rests end is fits =
+    let has = last_place_of t.cells pair cell is in
+    let range = placed 64 cell.at rests.is.has.needles t.cells rests.is.has.are has in
+    let ends = rests.is.has.ends in
+    let there : MayFlag (files opened.volume.file) opened.volume.end cell.at = record { within = omega (arith, range.1); free = flag_free (files opened.volume.file) cell.at t.cells rests.flags has } in
+    subst (λ k. MayFlag (files opened.volume.file) opened.volume.end k) (sym fits.0) there
 flag_place Tells sup files opened t pair None (place.Live needle) rests end is fits = absurd fits
+flag_place Tells sup files opened t pair None (place.Unseen at size) rests end is fits = absurd fits
 flag_place Tells sup files opened t pair last place.None rests end is fits = tt
 flag_place Tells sup files opened t pair last place.Gone rests end is fits = tt
 

@@ -37,6 +37,17 @@ IsDeleteFault before after Worn = ⊥
 IsDeleteFault before after (Damaged at) = ⊥
 IsDeleteFault before after NoMemory = ⊥
 
+-- a look at a cell changes nothing
+abbrev pub IsSightFault : ℕ → ℕ → ReplicaFault → Type 0
+IsSightFault before after (Failed faults) = Rose before after × (faults ≡ after)
+IsSightFault before after Frozen = ⊥
+IsSightFault before after (Full end need capacity) = ⊥
+IsSightFault before after (Busy generation) = ⊥
+IsSightFault before after (Ended faults) = ⊥
+IsSightFault before after Worn = ⊥
+IsSightFault before after (Damaged at) = ⊤
+IsSightFault before after NoMemory = ⊤
+
 -- what begins a compaction
 abbrev pub IsBeginFault : ℕ → ℕ → ReplicaFault → Type 0
 IsBeginFault before after (Failed faults) = Rose before after × (faults ≡ after)

@@ -1,13 +1,13 @@
 -- When a replica stands for what its disk has, and what a change that failed may have left.
-use Rattle.std.specs.Prelude.{◌≡◌, ◌⊎◌, ◌≤◌, ℕ, ◌+◌, Bool, true, false, List, [], ◌∷◌, ◌++◌, length, map, take, Some, None, ⊤}
+use Rattle.std.specs.Prelude.{◌≡◌, ◌⊎◌, ◌≤◌, ◌<◌, ℕ, ◌+◌, Bool, true, false, List, [], ◌∷◌, ◌++◌, length, map, take, Some, None, ⊤}
 use Rattle.hay_needle.specs.declared.needle.Cell.{Cell}
 use Rattle.hay_needle.specs.declared.needle.Cookie.{Cookie}
 use Rattle.hay_needle.specs.declared.needle.Pair.{Pair}
 use Rattle.hay_needle.specs.declared.settings.Super.{Super}
 use Rattle.hay_needle.specs.Sizes.{needle_total}
 use Rattle.hay_needle.specs.Super.{super_bytes}
-use Rattle.hay_disk.specs.Disk.{Files, FileState, IsFree, IsImage, IsSolid, MayLeave}
-use Rattle.hay_volume.specs.Cells.{live_cell, with_flag}
+use Rattle.hay_disk.specs.Disk.{Files, FileState, IsFree, IsImage, IsOutside, IsSolid, IsSolidIn, MayLeave}
+use Rattle.hay_volume.specs.Cells.{StandsCell, live_cell, with_flag}
 use Rattle.hay_index.specs.Records.{IsIndex, index_magic}
 use Rattle.hay_needle.specs.Needle.{needle_magic}
 use Rattle.hay_disk.specs.Gate.{IsGate}
@@ -134,6 +134,7 @@ abbrev pub MayFlagPlace : {P : Type 0} → Files → OpenFiles → Place P → T
 MayFlagPlace files opened (place.Live needle) = MayFlag (files opened.volume.file) opened.volume.end needle.at
 MayFlagPlace files opened place.None = Unit {0}
 MayFlagPlace files opened place.Gone = Unit {0}
+MayFlagPlace files opened (place.Unseen at size) = MayFlag (files opened.volume.file) opened.volume.end at
 
 -- A cell of so many bytes ends at `end`, and nothing of it is loose or sealed.
 pub record IsLastCell (file : FileState) (end at total : ℕ) : Type 0 where
@@ -154,6 +155,7 @@ abbrev pub MayDeletePlace : {D P : Type 0} → (D → Files) → Copy D → Plac
 MayDeletePlace files r (place.Live needle) = MayDelete files r needle.at
 MayDeletePlace files r place.None = Unit {0}
 MayDeletePlace files r place.Gone = Unit {0}
+MayDeletePlace files r (place.Unseen at size) = MayDelete files r at
 
 abbrev pub with_cell : Stored → Pair → Cookie → List ℕ → Stored
 with_cell s pair cookie bytes = record s { cells = s.cells ++ live_cell s.end pair cookie bytes ∷ []; end = s.end + needle_total (length bytes) }
@@ -163,3 +165,92 @@ without_cell s at = record s { cells = with_flag at true s.cells }
 
 abbrev pub all_recorded : Stored → Stored
 all_recorded s = record s { records = length s.cells }
+
+-- WHAT CAN BE SEEN
+
+-- The needle of a photo of this size ends before `end`, is on the disk, and its flags can be written.
+pub record MayLook (file : FileState) (end at size : ℕ) : Type 0 where
+  pub within : at + needle_total size ≤ end
+  pub inside : at + needle_total size ≤ length file.now
+  pub solid : IsSolidIn at (needle_total size) file
+  pub free : file.sealed (at + 28) ≡ false
+
+abbrev pub PhaseMaySee : Files → Phase → ℕ → ℕ → Type 0
+PhaseMaySee files Closed at size = ⊥
+PhaseMaySee files (Open opened) at size = MayLook (files opened.volume.file) opened.volume.end at size
+
+-- What a place of this size means can be seen by its needle.
+unfoldable pub MaySee : {D : Type 0} → (D → Files) → Copy D → ℕ → ℕ → Type 0
+MaySee files r at size = PhaseMaySee (files r.disk) r.phase at size
+
+-- the same of a place that was not seen yet
+abbrev pub MaySeePlace : {D P : Type 0} → (D → Files) → Copy D → Place P → Type 0
+MaySeePlace files r (place.Unseen at size) = MaySee files r at size
+MaySeePlace files r (place.Live needle) = Unit {0}
+MaySeePlace files r place.None = Unit {0}
+MaySeePlace files r place.Gone = Unit {0}
+
+abbrev pub PhaseHasCell : Files → Phase → Cell → Type 0
+PhaseHasCell files Closed cell = ⊥
+PhaseHasCell files (Open opened) cell = StandsCell cell.at (files opened.volume.file).now cell
+
+-- the cell stands in the current volume file
+unfoldable pub StandsIn : {D : Type 0} → (D → Files) → Copy D → Cell → Type 0
+StandsIn files r cell = PhaseHasCell (files r.disk) r.phase cell
+
+-- The cell stands there, and can be seen.
+pub record ShowsCell {D : Type 0} (files : D → Files) (r : Copy D) (cell : Cell) : Type 0 where
+  pub may : MaySee files r cell.at (length cell.bytes)
+  pub stands : StandsIn files r cell
+
+-- the needle of this size at `at` does not have the flags of a cell at `place`
+abbrev pub IsApart : ℕ → ℕ → ℕ → Type 0
+IsApart at size place = IsOutside at (needle_total size) (place + 28)
+
+-- the flags of a cell at `place` are none of the sealed bytes of that needle
+abbrev pub IsUnsealed : ℕ → ℕ → ℕ → Type 0
+IsUnsealed at size place = IsApart at size place ⊎ (place ≡ at)
+
+-- The flags of the cell that a place has, if it has one, are none of the bytes of that needle.
+abbrev pub IsApartPlace : {P : Type 0} → ℕ → ℕ → Place P → Type 0
+IsApartPlace at size (place.Live needle) = IsApart at size needle.at
+IsApartPlace at size place.None = Unit {0}
+IsApartPlace at size place.Gone = Unit {0}
+IsApartPlace at size (place.Unseen other long) = IsApart at size other
+
+-- Where the first place was not looked at yet, its needle does not have the flags of the other's cell.
+abbrev pub ArePlacesApart : {P : Type 0} → Place P → Place P → Type 0
+ArePlacesApart (place.Live needle) other = Unit {0}
+ArePlacesApart place.None other = Unit {0}
+ArePlacesApart place.Gone other = Unit {0}
+ArePlacesApart (place.Unseen at size) other = IsApartPlace at size other
+
+-- The places of these sizes that could be seen still can be, and their cells stand as they stood.
+pub record KeepsSight {D : Type 0} (files : D → Files) (IsKept : ℕ → ℕ → Type 0) (r r' : Copy D) : Type 0 where
+  pub may : (at size : ℕ) → IsKept at size → MaySee files r at size → MaySee files r' at size
+  pub shows : (cell : Cell) → IsKept cell.at (length cell.bytes) → ShowsCell files r cell → ShowsCell files r' cell
+
+-- all places, and those whose needles do not have the flags of a cell at `place`
+abbrev pub Anywhere : ℕ → ℕ → Type 0
+Anywhere at size = Unit {0}
+
+abbrev pub ApartFrom : ℕ → ℕ → ℕ → Type 0
+ApartFrom place at size = IsApart at size place
+
+-- those whose flags are none of the sealed bytes of a needle of this size at `at`
+abbrev pub UnsealedBy : ℕ → ℕ → ℕ → ℕ → Type 0
+UnsealedBy at size place long = IsUnsealed at size place
+
+-- Before `end` the bytes stay, what was solid is solid, and what was not sealed is not.
+pub record KeepsBefore (end : ℕ) (old new : FileState) : Type 0 where
+  pub now : take end new.now ≡ take end old.now
+  pub grows : length old.now ≤ length new.now
+  pub solid : (k : ℕ) → k < end → old.loose k ≡ false → new.loose k ≡ false
+  pub free : (k : ℕ) → k < end → old.sealed k ≡ false → new.sealed k ≡ false
+
+-- On any disk: a place was seen by the needle of this cell.
+abbrev pub IsSightOf : {P : Type 0} → Cell → Place P → Type 0
+IsSightOf cell (place.Live needle) = (cell.deleted ≡ false) × (needle.at ≡ cell.at) × (needle.size ≡ length cell.bytes)
+IsSightOf cell place.Gone = cell.deleted ≡ true
+IsSightOf cell place.None = ⊥
+IsSightOf cell (place.Unseen at size) = ⊥

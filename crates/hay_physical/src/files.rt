@@ -8,10 +8,10 @@ ghost use Rattle.hay_needle.specs.declared.settings.Super.{Super};
 ghost use Rattle.hay_volume.specs.Cells.{live_cell};
 ghost use Rattle.hay_open.specs.Stored.{IsSealedCell, Stored};
 ghost use Rattle.hay_physical.specs.Faults.{IsDeleteFault, IsFlushFault, IsPutFault};
-ghost use Rattle.hay_physical.specs.Replicas.{FilesReady, FilesStand, HasLive, IsLastCell, MayFind, MayFlag, all_recorded, with_cell, without_cell};
+ghost use Rattle.hay_physical.specs.Replicas.{FilesReady, FilesStand, HasLive, IsLastCell, KeepsBefore, MayFind, MayFlag, all_recorded, with_cell, without_cell};
 ghost use Rattle.hay_physical.specs.Runs.{KeepsCopier};
 ghost use Rattle.hay_physical.specs.declared.state.Copier.TheVariants.{Ended};
-ghost use Rattle.hay_disk.specs.Disk.{KeepsOthers};
+ghost use Rattle.hay_disk.specs.Disk.{Changes, KeepsOthers, Seals};
 
 use crate::fault::ReplicaFault;
 use crate::state::{Copier, OpenFiles};
@@ -23,7 +23,7 @@ use hay_volume::VolumeFault;
 use std::alloc::Global;
 
 // The place of the flags in a needle.
-const FLAGS_AT: usize = 28;
+pub(crate) const FLAGS_AT: usize = 28;
 
 impl OpenFiles {
     // Takes no more changes. A compaction ends.
@@ -104,6 +104,9 @@ impl OpenFiles {
         ensures flags { D.Tells → (place : ℕ) → MayFlag (D.files disk.old self.old.volume.file) self.old.volume.end place
             → MayFlag (D.files disk.new self.new.volume.file) self.new.volume.end place }
         ensures flag { D.Tells → IfOk result (λ needle. MayFlag (D.files disk.new self.new.volume.file) self.new.volume.end needle.at) }
+        ensures place { D.Tells → IfOk result (λ needle. needle.at ≡ self.old.volume.end) }
+        ensures volume { (self.new.volume.file ≡ self.old.volume.file) × (self.old.volume.end ≤ self.new.volume.end) }
+        ensures before { D.Tells → KeepsBefore self.old.volume.end (D.files disk.old self.old.volume.file) (D.files disk.new self.old.volume.file) }
         ensures copier { KeepsCopier self.old self.new }
         ensures others { D.Tells → KeepsOthers self.old.volume.file (D.files disk.old) (D.files disk.new) }
 
@@ -151,7 +154,8 @@ impl OpenFiles {
         ensures flags { D.Tells → (place : ℕ) → MayFlag (D.files disk.old self.old.volume.file) self.old.volume.end place
             → MayFlag (D.files disk.new self.new.volume.file) self.new.volume.end place }
         ensures last { D.Tells → IfOk result (λ at. IsLastCell (D.files disk.new self.new.volume.file) self.new.volume.end at (needle_total (length bytes.now))) }
-        ensures volume { self.new.volume.file ≡ self.old.volume.file }
+        ensures volume { (self.new.volume.file ≡ self.old.volume.file) × (self.old.volume.end ≤ self.new.volume.end) }
+        ensures before { D.Tells → KeepsBefore self.old.volume.end (D.files disk.old self.old.volume.file) (D.files disk.new self.old.volume.file) }
         ensures copier { self.old.frozen ≡ false → KeepsCopier self.old self.new }
         ensures others { D.Tells → KeepsOthers self.old.volume.file (D.files disk.old) (D.files disk.new) }
 
@@ -199,6 +203,7 @@ impl OpenFiles {
         ensures ready { D.Tells → OnOk result (FilesReady (D.files disk.new) self.new) }
         ensures flags { D.Tells → (place : ℕ) → MayFlag (D.files disk.old self.old.volume.file) at place → MayFlag (D.files disk.new self.old.volume.file) at place }
         ensures flag { D.Tells → IfOk result (λ needle. (needle.at ≡ at) × MayFlag (D.files disk.new self.old.volume.file) self.old.volume.end at) }
+        ensures seals { D.Tells → Seals at (needle_total size) 28 (D.files disk.old self.old.volume.file) (D.files disk.new self.old.volume.file) }
         ensures never_frozen { IsErrOf result ReplicaFault.Frozen → ⊥ }
         ensures never_full { (end need capacity : ℕ) → result ≡ Err (ReplicaFault.Full end need capacity) → ⊥ }
         ensures others { D.Tells → KeepsOthers self.old.volume.file (D.files disk.old) (D.files disk.new) }
@@ -236,6 +241,7 @@ impl OpenFiles {
         ensures flags { D.Tells → (place : ℕ) → MayFlag (D.files disk.old self.old.volume.file) self.old.volume.end place
             → MayFlag (D.files disk.new self.new.volume.file) self.new.volume.end place }
         ensures volume { self.new.volume ≡ self.old.volume }
+        ensures changes { D.Tells → self.old.frozen ≡ false → Changes (at + 28) 1 (D.files disk.old self.old.volume.file) (D.files disk.new self.old.volume.file) }
         ensures copier { KeepsCopier self.old self.new }
         ensures others { D.Tells → KeepsOthers self.old.volume.file (D.files disk.old) (D.files disk.new) }
 
@@ -272,6 +278,7 @@ impl OpenFiles {
         ensures flags { D.Tells → (place : ℕ) → MayFlag (D.files disk.old self.old.volume.file) self.old.volume.end place
             → MayFlag (D.files disk.new self.new.volume.file) self.new.volume.end place }
         ensures copier { (self.new.copier ≡ self.old.copier) × (self.new.head ≡ self.old.head) × (self.new.volume ≡ self.old.volume) }
+        ensures cells { D.Tells → D.files disk.new self.old.volume.file ≡ D.files disk.old self.old.volume.file }
         ensures others { D.Tells → KeepsOthers self.old.index.file (D.files disk.old) (D.files disk.new) }
 
         ensures causes { IfErr result (IsFlushFault (D.fault_count disk.old) (D.fault_count disk.new)) }

@@ -10,6 +10,9 @@
 //! deletes go on meanwhile, and the copier follows them. At its end the head names the new files in one step: whatever a
 //! stop leaves has the old files or the new ones, with the same photos. A fault before that ends the compaction alone.
 //!
+//! What a recorded place means, a photo or a deleted one, is seen by its needle when it is asked for. That changes nothing, and
+//! what can be seen stays so through each change of the replica, also one that fails, until a compaction takes its file away.
+//!
 //! It stands on `hay_open` and `hay_compact`, and by them on the files of a disk, and on `hay_map` for the needles that it
 //! gives out.
 #![tactic(auto)]
@@ -19,6 +22,7 @@ mod files;
 mod replica;
 mod running;
 mod runs;
+mod sight;
 mod state;
 mod swap;
 

@@ -14,10 +14,12 @@ ghost use Rattle.hay_open.specs.Damage.{IsOpeningDamage};
 ghost use Rattle.hay_open.specs.Stored.{IsSealedCell, IsVoid, OpensAs, PlaceOf, Stored, fresh_stored, last_cell};
 ghost use Rattle.hay_physical.specs.declared.state.Phase.TheVariants.{Closed};
 ghost use Rattle.hay_physical.specs.Runs.{HasLastAt, HasRun, Run, longer, loosened};
+ghost use Rattle.std.specs.List.{AllByRecursion};
 ghost use Rattle.std.specs.Option.{option_map};
 ghost use Rattle.hay_physical.specs.Copies.{EndedAt, IsFrozen, IsOpenCopy, IsUp, capacity_of, contents_of, end_of, generation_of, goal_of, is_frozen, is_stuck};
 ghost use Rattle.hay_physical.specs.Faults.{IsDeleteFault, IsFlushFault, IsPutFault};
-ghost use Rattle.hay_physical.specs.Replicas.{HasLive, Holds, IsIdleCopy, IsLike, MayDelete, Stands, all_recorded, with_cell, without_cell, MayDeletePlace};
+ghost use Rattle.hay_needle.specs.Tables.{pair_eq};
+ghost use Rattle.hay_physical.specs.Replicas.{Anywhere, ApartFrom, ArePlacesApart, HasLive, Holds, IsApart, IsIdleCopy, IsLike, KeepsSight, MayDelete, MayDeletePlace, MaySee, MaySeePlace, ShowsCell, Stands, all_recorded, with_cell, without_cell};
 
 use crate::fault::ReplicaFault;
 use crate::state::{Copier, OpenFiles, Phase};
@@ -81,6 +83,12 @@ impl<D: Disk> Replica<D> {
         ensures alone { goal_of self.new ≡ None }
         // Whatever the disk had, each photo that was found can be deleted.
         ensures can_delete { D.Tells → IfOk result (λ cells. (pair : Pair) → MayDeletePlace D.files self.new (last_place cells.items pair place.None)) }
+        // Each that was not looked at can be seen, and its needle is apart from the flags of others. Each cell that stands can be
+        // seen.
+        ensures can_see { D.Tells → IfOk result (λ cells. (pair : Pair) → MaySeePlace D.files self.new (last_place cells.items pair place.None)) }
+        ensures apart { D.Tells → IfOk result (λ cells. (pair other : Pair) → pair_eq pair other ≡ false →
+            ArePlacesApart (last_place cells.items pair place.None) (last_place cells.items other place.None)) }
+        ensures shows { D.Tells → OnOk result ((s : Stored) → Stands D.files self.new s → AllByRecursion (ShowsCell D.files self.new) s.cells) }
 
         // What a refusal leaves, and its cause.
         ensures closed { OnErr result (self.new.phase ≡ Closed) }
@@ -159,6 +167,8 @@ impl<D: Disk> Replica<D> {
 
         ensures can_delete { D.Tells → IfOk result (λ needle. MayDelete D.files self.new needle.at) }
         ensures deletes { D.Tells → (place : ℕ) → MayDelete D.files self.old place → MayDelete D.files self.new place }
+        ensures sees { D.Tells → KeepsSight D.files Anywhere self.old self.new }
+        ensures apart { D.Tells → IfOk result (λ needle. (at size : ℕ) → MaySee D.files self.old at size → IsApart at size needle.at) }
 
         // A refusal leaves the photos, or a frozen replica, on whose disk the photo stands or not.
         ensures refused { D.Tells → (s : Stored) → Stands D.files self.old s → OnErr result (Stands D.files self.new s
@@ -205,6 +215,8 @@ impl<D: Disk> Replica<D> {
         ensures up { OnOk result (IsUp self.new) }
 
         ensures deletes { D.Tells → (place : ℕ) → MayDelete D.files self.old place → MayDelete D.files self.new place }
+        // A cell whose needle does not have this flag is seen as before, also where the delete failed.
+        ensures sees { D.Tells → KeepsSight D.files (ApartFrom at) self.old self.new }
 
         // A refusal leaves a frozen replica, on whose disk the photo is deleted or not.
         ensures refused { D.Tells → (s : Stored) → Stands D.files self.old s → HasLive at s.cells →
@@ -251,6 +263,7 @@ impl<D: Disk> Replica<D> {
         ensures up { OnOk result (IsUp self.new) }
 
         ensures deletes { D.Tells → (place : ℕ) → MayDelete D.files self.old place → MayDelete D.files self.new place }
+        ensures sees { D.Tells → KeepsSight D.files Anywhere self.old self.new }
 
         // A refusal leaves the photos and the records.
         ensures refused { D.Tells → (s : Stored) → Stands D.files self.old s → OnErr result (Stands D.files self.new s) }
@@ -283,6 +296,7 @@ impl<D: Disk> Replica<D> {
         ensures dropped { EndedAt (D.fault_count self.new.disk) self.new }
         ensures held { D.Tells → (s : Stored) → Stands D.files self.old s → Holds D.files self.new (is_stuck self.old) s s }
         ensures holds { D.Tells → (stuck : Bool) (s t : Stored) → Holds D.files self.old stuck s t → Holds D.files self.new stuck s t }
+        ensures sees { D.Tells → KeepsSight D.files Anywhere self.old self.new }
         ensures stuck { is_stuck self.new ≡ is_stuck self.old }
         ensures disk { self.new.disk ≡ self.old.disk }
         ensures sup { self.new.sup ≡ self.old.sup }
@@ -349,6 +363,7 @@ impl<D: Disk> Replica<D> {
         ensures stands { D.Tells → (s : Stored) → Stands D.files self.old s → Stands D.files self.new s }
         ensures holds { D.Tells → (stuck : Bool) (s t : Stored) → Holds D.files self.old stuck s t → Holds D.files self.new stuck s t }
         ensures deletes { D.Tells → (place : ℕ) → MayDelete D.files self.old place → MayDelete D.files self.new place }
+        ensures sees { D.Tells → KeepsSight D.files Anywhere self.old self.new }
         ensures idle { D.Tells → IsIdleCopy D.files self.old → IsIdleCopy D.files self.new }
         ensures run { D.Tells → (s : Stored) (run : Option Run) → HasRun D.files self.old s run → HasRun D.files self.new s run }
         ensures same { self.new ≡ record self.old { disk = self.new.disk } }

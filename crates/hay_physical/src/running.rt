@@ -1,15 +1,16 @@
 //! A compaction of a replica.
 
 ghost use Rattle.std.specs.Prelude.{◌≡◌, ◌⊎◌, ◌≤◌, ◌+◌, ℕ, Bool, true, false, length, Option, Some, None, Err, IfOk, IfErr, IfSome, IfNone, OnOk, OnErr, IsErrOf};
+ghost use Rattle.std.specs.List.{AllByRecursion};
 ghost use Rattle.hay_needle.specs.declared.needle.Pair.{Pair};
 ghost use Rattle.hay_map.specs.declared.place.Place.TheVariants as place;
 ghost use Rattle.hay_map.specs.Rows.{last_place};
 ghost use Rattle.hay_open.specs.Stored.{Stored, index_file, volume_file};
 ghost use Rattle.hay_compact.specs.Copying.{IsLatest};
-ghost use Rattle.hay_compact.specs.Finishing.{AreThePlaces};
+ghost use Rattle.hay_compact.specs.Finishing.{AreThePlaces, IsSeen};
 ghost use Rattle.hay_physical.specs.Copies.{IsFrozen, IsOpenCopy, IsUp, faults_at_end, generation_of, goal_of, is_frozen, is_stuck};
 ghost use Rattle.hay_physical.specs.Faults.{IsBeginFault, IsPeekFault, IsRunFault};
-ghost use Rattle.hay_physical.specs.Replicas.{Holds, MayDelete, MayDeletePlace, Stands};
+ghost use Rattle.hay_physical.specs.Replicas.{Anywhere, Holds, KeepsSight, MayDelete, MayDeletePlace, ShowsCell, Stands};
 ghost use Rattle.hay_physical.specs.Runs.{EndsRun, HasNext, HasPair, HasRun, IsPeeked, IsTight, RemovedBoth, Run, Swaps, stepped};
 
 use crate::fault::ReplicaFault;
@@ -40,6 +41,7 @@ impl<D: Disk> Replica<D> {
         ensures goal { IfOk result (λ goal. (goal ≡ generation_of self.old + 1) × (goal_of self.old ≡ None) × (goal_of self.new ≡ Some goal)) }
         ensures stands { D.Tells → (s : Stored) → Stands D.files self.old s → Stands D.files self.new s }
         ensures deletes { D.Tells → (place : ℕ) → MayDelete D.files self.old place → MayDelete D.files self.new place }
+        ensures sees { D.Tells → KeepsSight D.files Anywhere self.old self.new }
         ensures up { OnOk result (IsUp self.new) }
         ensures kept { OnErr result (self.new.phase ≡ self.old.phase) }
         ensures open { IsOpenCopy self.new }
@@ -97,6 +99,7 @@ impl<D: Disk> Replica<D> {
         ensures ends { IfErr result (EndsRun (D.fault_count self.new.disk) self.old self.new) }
         ensures stands { D.Tells → (s : Stored) → Stands D.files self.old s → Stands D.files self.new s }
         ensures deletes { D.Tells → (place : ℕ) → MayDelete D.files self.old place → MayDelete D.files self.new place }
+        ensures sees { D.Tells → KeepsSight D.files Anywhere self.old self.new }
         ensures open { IsOpenCopy self.new }
         ensures same { is_frozen self.new ≡ is_frozen self.old }
         ensures stuck { is_stuck self.new ≡ is_stuck self.old }
@@ -132,6 +135,7 @@ impl<D: Disk> Replica<D> {
         ensures ends { IfErr result (EndsRun (D.fault_count self.new.disk) self.old self.new) }
         ensures stands { D.Tells → (s : Stored) → Stands D.files self.old s → Stands D.files self.new s }
         ensures deletes { D.Tells → (place : ℕ) → MayDelete D.files self.old place → MayDelete D.files self.new place }
+        ensures sees { D.Tells → KeepsSight D.files Anywhere self.old self.new }
         ensures open { IsOpenCopy self.new }
         ensures same { is_frozen self.new ≡ is_frozen self.old }
         ensures stuck { is_stuck self.new ≡ is_stuck self.old }
@@ -166,6 +170,9 @@ impl<D: Disk> Replica<D> {
         ensures up { OnOk result (IsUp self.new) }
         ensures going { OnOk result (is_stuck self.new ≡ false) }
         ensures can_delete { D.Tells → IfOk result (λ places. (pair : Pair) → MayDeletePlace D.files self.new (last_place places.items pair place.Gone)) }
+        // Each place is one that was looked at, and each cell of the new file can be seen.
+        ensures seen { D.Tells → IfOk result (λ places. (pair : Pair) → IsSeen (last_place places.items pair place.Gone)) }
+        ensures shows { D.Tells → OnOk result ((s : Stored) → Stands D.files self.new s → AllByRecursion (ShowsCell D.files self.new) s.cells) }
 
         // The files of the old generation are gone, but for one whose removal failed.
         ensures removed { D.Tells → OnOk result (RemovedBoth (D.files self.new.disk) (volume_file (generation_of self.old)) (index_file (generation_of self.old))
@@ -179,6 +186,7 @@ impl<D: Disk> Replica<D> {
         ensures froze { IsUp self.old → IsFrozen self.new → result ≡ Err (ReplicaFault.Failed (D.fault_count self.new.disk)) }
         ensures still { OnErr result ((is_stuck self.new ≡ is_stuck self.old) × (generation_of self.new ≡ generation_of self.old)) }
         ensures deletes { D.Tells → (place : ℕ) → MayDelete D.files self.old place → OnErr result (MayDelete D.files self.new place) }
+        ensures sees { D.Tells → OnErr result (KeepsSight D.files Anywhere self.old self.new) }
         ensures goal { goal_of self.new ≡ None }
         ensures faults { (goal : ℕ) → IsUp self.old → goal_of self.old ≡ Some goal → faults_at_end self.new ≡ D.fault_count self.new.disk }
         ensures open { IsOpenCopy self.new }
@@ -202,6 +210,7 @@ impl<D: Disk> Replica<D> {
         ensures stands { D.Tells → (s : Stored) → Stands D.files self.old s → Stands D.files self.new s }
         ensures holds { D.Tells → (stuck : Bool) (s t : Stored) → Holds D.files self.old stuck s t → Holds D.files self.new stuck s t }
         ensures deletes { D.Tells → (place : ℕ) → MayDelete D.files self.old place → MayDelete D.files self.new place }
+        ensures sees { D.Tells → KeepsSight D.files Anywhere self.old self.new }
         ensures up { IsUp self.old → IsUp self.new }
         ensures open { IsOpenCopy self.old → IsOpenCopy self.new }
         ensures same { is_frozen self.new ≡ is_frozen self.old }

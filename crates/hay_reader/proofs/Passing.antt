@@ -1,8 +1,9 @@
 -- Replicas that are passed over, one after another.
-use Rattle.std.proofs.Common.{◌≡◌, ℕ, ◌+◌, ◌-◌, ◌%◌, ◌^◌, ◌<◌, ◌≤◌, ◌⊎◌, inl, inr, true, Bool, List, [], ◌∷◌, ◌++◌, length, refl, sym, ap, ◌∙◌, arith, zero-add}
+use Rattle.std.proofs.Common.{◌≡◌, ℕ, ◌+◌, ◌-◌, ◌%◌, ◌^◌, ◌<◌, ◌≤◌, ◌⊎◌, inl, inr, true, Bool, List, [], ◌∷◌, ◌++◌, length, take, sym, ap, ◌∙◌, subst, arith, zero-add}
 use Rattle.std.specs.Prelude.{Ok, Err}
 use Rattle.std.specs.List.{AllByRecursion}
-use Rattle.std.proofs.lemmas.List.{map-append, length-append}
+use Rattle.std.proofs.lemmas.List.{map-append, length-append, length-take, take-append-le, drop-append-le}
+use Rattle.std.proofs.Math.Seq.{take-length, drop-length}
 use Rattle.std.proofs.lemmas.List.FromFn.{map-range_with_len_more}
 use Rattle.hay_needle.specs.declared.needle.Cookie.{Cookie}
 use Rattle.hay_reply.specs.declared.Cause.{Cause}
@@ -10,7 +11,7 @@ use Rattle.hay_reply.specs.declared.Cause.TheVariants as cause
 use Rattle.hay_map.specs.Places.{place_in}
 use Rattle.hay_map.specs.declared.place.Place.{Place}
 use Rattle.hay_map.specs.declared.place.Place.TheVariants as place
-use Rattle.hay_reader.specs.Causes.{ArmRises, ArmUse, EachPair, HasArmCause, IsDamage, Passes, PassesRow, tried_from}
+use Rattle.hay_reader.specs.Causes.{ArmRises, ArmUse, ComeFirst, EachPair, HasArmCause, IsDamage, Passes, PassesRow, passed_now, tried_from}
 use Rattle.hay_reader.specs.Shown.{HasBytes, NoArm, ReadsRow, ShowsPlace, reply_at}
 use Rattle.hay_reader.specs.Tried.{FailsBy, PlaceGives, PutsOut}
 use Rattle.hay_reader.specs.declared.trial.Shown.{Shown}
@@ -57,27 +58,46 @@ rises_now before mid new (cause.Damage at) why has fails = tt
 
 -- PASSED REPLICAS
 
-passes_later : (start replicas before mid new : ℕ) (causes : List PassedReplica) → mid ≤ new → (new ≡ mid) ⊎ (new < 2 ^ 64) → Passes start replicas before mid causes → Passes start replicas before new causes
-passes_later start replicas before mid new causes later most passed = record {
-  order = passed.order;
-  each = all_weaken (λ (p : PassedReplica). HasArmCause before mid p.cause) (λ (p : PassedReplica). HasArmCause before new p.cause) (λ p has. cause_later before mid new p.cause later most has) causes passed.each;
-  rises = passed.rises;
+-- a list that begins with these is no shorter
+pub no_shorter : {X : Type 0} (front xs : List X) → take (length front) xs ≡ front → length front ≤ length xs
+no_shorter front xs begins = omega (arith, ap length begins, length-take (length front) xs)
+
+-- what comes behind these stays behind them
+now_push : (passed causes : List PassedReplica) (over : PassedReplica) → take (length passed) causes ≡ passed → passed_now passed (causes ++ over ∷ []) ≡ passed_now passed causes ++ over ∷ []
+now_push passed causes over begins = drop-append-le (length passed) causes (over ∷ []) (no_shorter passed causes begins)
+
+passes_later : (start replicas before mid new : ℕ) (passed causes : List PassedReplica) → mid ≤ new → (new ≡ mid) ⊎ (new < 2 ^ 64) → Passes start replicas before mid passed causes → Passes start replicas before new passed causes
+passes_later start replicas before mid new passed causes later most so_far = record {
+  begins = so_far.begins;
+  order = so_far.order;
+  each = all_weaken (λ (p : PassedReplica). HasArmCause before mid p.cause) (λ (p : PassedReplica). HasArmCause before new p.cause) (λ p has. cause_later before mid new p.cause later most has) (passed_now passed causes) so_far.each;
+  rises = so_far.rises;
 }
 
-passes_more : (start replicas before mid new : ℕ) (causes : List PassedReplica) (passed : PassedReplica) → Passes start replicas before mid causes → passed.replica ≡ (start + length causes) % replicas → before ≤ mid → mid ≤ new
-    → (new ≡ mid) ⊎ (new < 2 ^ 64) → FailsBy mid new passed.cause → Passes start replicas before new (causes ++ passed ∷ [])
-passes_more start replicas before mid new causes passed so_far is earlier later most fails = record {
-  order =
-      map-append (λ (p : PassedReplica). p.replica) causes (passed ∷ [])
-      ∙ ap (λ (xs : List ℕ). xs ++ passed.replica ∷ []) so_far.order
-      ∙ ap (λ (j : ℕ). tried_from start replicas (length causes) ++ j ∷ []) is
-      ∙ sym (map-range_with_len_more (λ (i : ℕ). (start + i) % replicas) 0 (length causes) (length causes) (zero-add (length causes)))
-      ∙ ap (λ (tries : ℕ). tried_from start replicas tries) (sym (length-append causes (passed ∷ [])));
-  each = all_push (λ (p : PassedReplica). HasArmCause before new p.cause) causes passed (passes_later start replicas before mid new causes later most so_far).each (cause_now before mid new passed.cause earlier most fails);
-  rises =
-      each_push (λ a b. ArmRises a.cause b.cause) causes passed so_far.rises
-      (all_weaken (λ (p : PassedReplica). HasArmCause before mid p.cause) (λ (p : PassedReplica). ArmRises p.cause passed.cause) (λ p has. rises_now before mid new p.cause passed.cause has fails) causes so_far.each);
-}
+-- the next replica comes behind those that come first
+pub first_more : (start replicas : ℕ) (causes : List PassedReplica) (over : PassedReplica) → ComeFirst start replicas causes → over.replica ≡ (start + length causes) % replicas → ComeFirst start replicas (causes ++ over ∷ [])
+first_more start replicas causes over first is =
+    map-append (λ (p : PassedReplica). p.replica) causes (over ∷ [])
+    ∙ ap (λ (xs : List ℕ). xs ++ over.replica ∷ []) first
+    ∙ ap (λ (j : ℕ). tried_from start replicas (length causes) ++ j ∷ []) is
+    ∙ sym (map-range_with_len_more (λ (i : ℕ). (start + i) % replicas) 0 (length causes) (length causes) (zero-add (length causes)))
+    ∙ ap (λ (tries : ℕ). tried_from start replicas tries) (sym (length-append causes (over ∷ [])))
+
+passes_more : (start replicas before mid new : ℕ) (passed causes : List PassedReplica) (over : PassedReplica) → Passes start replicas before mid passed causes → over.replica ≡ (start + length causes) % replicas → before ≤ mid → mid ≤ new
+    → (new ≡ mid) ⊎ (new < 2 ^ 64) → FailsBy mid new over.cause → Passes start replicas before new passed (causes ++ over ∷ [])
+passes_more start replicas before mid new passed causes over so_far is earlier later most fails =
+    let now : List PassedReplica = passed_now passed causes in
+    record {
+      begins = take-append-le (length passed) causes (over ∷ []) (no_shorter passed causes so_far.begins) ∙ so_far.begins;
+      order = first_more start replicas causes over so_far.order is;
+      each =
+          subst (λ (ps : List PassedReplica). AllByRecursion (λ p. HasArmCause before new p.cause) ps) (sym (now_push passed causes over so_far.begins))
+          (all_push (λ (p : PassedReplica). HasArmCause before new p.cause) now over (passes_later start replicas before mid new passed causes later most so_far).each (cause_now before mid new over.cause earlier most fails));
+      rises =
+          subst (λ (ps : List PassedReplica). EachPair (λ a b. ArmRises a.cause b.cause) ps) (sym (now_push passed causes over so_far.begins))
+          (each_push (λ a b. ArmRises a.cause b.cause) now over so_far.rises
+          (all_weaken (λ (p : PassedReplica). HasArmCause before mid p.cause) (λ (p : PassedReplica). ArmRises p.cause over.cause) (λ p has. rises_now before mid new p.cause over.cause has fails) now so_far.each));
+    }
 
 -- the replica of the next try
 pub next_replica : (start step tries long replicas : ℕ) → tries ≡ step → long ≡ replicas → (start + step) % long ≡ (start + tries) % replicas
@@ -93,57 +113,71 @@ gives_passed Tells sure still cookie put (place.Live needle) (cause.Disk f) stay
 gives_passed Tells sure still cookie put (place.Live needle) (cause.Damage at) stays gives = gives
 gives_passed Tells sure still cookie put place.None why stays gives = gives
 gives_passed Tells sure still cookie put place.Gone why stays gives = gives
+gives_passed Tells sure still cookie put (place.Unseen at size) why stays gives = gives
 
 gives_shown : {P : Type 0} (Tells : Type 0) (sure still : Bool) (cookie : Cookie) (put : List ℕ) (there : Place P) (what : Shown) → PlaceGives Tells still cookie put there (Ok what) → PlaceGives Tells sure cookie put there (Ok what)
 gives_shown Tells sure still cookie put (place.Live needle) what gives = gives
 gives_shown Tells sure still cookie put place.None what gives = gives
 gives_shown Tells sure still cookie put place.Gone what gives = gives
+gives_shown Tells sure still cookie put (place.Unseen at size) what gives = gives
 
 abbrev pub arm_use : Bool → ℕ → ℕ → ArmUse
 arm_use sure before after = record { sure = sure; before = before; after = after }
 
-pub places_none : {P : Type 0} (Tells : Type 0) (sure : Bool) (before start : ℕ) (row : List (Place P)) (cookie : Cookie) → PassesRow Tells (arm_use sure before before) start row cookie []
-places_none Tells sure before start row cookie = record { passed = record { order = refl; each = tt; rises = tt }; places = tt }
+-- none was passed over yet in this call
+pub places_none : {P : Type 0} (Tells : Type 0) (sure : Bool) (before start : ℕ) (row : List (Place P)) (cookie : Cookie) (passed : List PassedReplica) → ComeFirst start (length row) passed
+    → PassesRow Tells (arm_use sure before before) start row cookie passed passed
+places_none Tells sure before start row cookie passed first = record {
+  passes = record {
+    begins = take-length passed;
+    order = first;
+    each = subst (λ (ps : List PassedReplica). AllByRecursion (λ p. HasArmCause before before p.cause) ps) (sym (drop-length passed)) tt;
+    rises = subst (λ (ps : List PassedReplica). EachPair (λ a b. ArmRises a.cause b.cause) ps) (sym (drop-length passed)) tt;
+  };
+  places = subst (λ (ps : List PassedReplica). AllByRecursion (λ p. PlaceGives Tells sure cookie [] (place_in row p.replica) (Err p.cause)) ps) (sym (drop-length passed)) tt;
+}
 
 -- one more replica was passed over
-pub places_more : {P : Type 0} (Tells : Type 0) (sure still : Bool) (before mid new start : ℕ) (row : List (Place P)) (cookie : Cookie) (put : List ℕ) (causes : List PassedReplica) (passed : PassedReplica)
-    → PassesRow Tells (arm_use sure before mid) start row cookie causes → passed.replica ≡ (start + length causes) % length row → before ≤ mid → mid ≤ new → (new ≡ mid) ⊎ (new < 2 ^ 64) → FailsBy mid new passed.cause
-    → (sure ≡ true → still ≡ true) → PlaceGives Tells still cookie put (place_in row passed.replica) (Err passed.cause) → PassesRow Tells (arm_use sure before new) start row cookie (causes ++ passed ∷ [])
-places_more Tells sure still before mid new start row cookie put causes passed so_far is earlier later most fails stays gives = record {
-  passed = passes_more start (length row) before mid new causes passed so_far.passed is earlier later most fails;
+pub places_more : {P : Type 0} (Tells : Type 0) (sure still : Bool) (before mid new start : ℕ) (row : List (Place P)) (cookie : Cookie) (put : List ℕ) (passed causes : List PassedReplica) (over : PassedReplica)
+    → PassesRow Tells (arm_use sure before mid) start row cookie passed causes → over.replica ≡ (start + length causes) % length row → before ≤ mid → mid ≤ new → (new ≡ mid) ⊎ (new < 2 ^ 64) → FailsBy mid new over.cause
+    → (sure ≡ true → still ≡ true) → PlaceGives Tells still cookie put (place_in row over.replica) (Err over.cause) → PassesRow Tells (arm_use sure before new) start row cookie passed (causes ++ over ∷ [])
+places_more Tells sure still before mid new start row cookie put passed causes over so_far is earlier later most fails stays gives = record {
+  passes = passes_more start (length row) before mid new passed causes over so_far.passes is earlier later most fails;
   places =
-      all_push (λ (p : PassedReplica). PlaceGives Tells sure cookie [] (place_in row p.replica) (Err p.cause)) causes passed so_far.places
-      (gives_passed Tells sure still cookie put (place_in row passed.replica) passed.cause stays gives);
+      subst (λ (ps : List PassedReplica). AllByRecursion (λ p. PlaceGives Tells sure cookie [] (place_in row p.replica) (Err p.cause)) ps) (sym (now_push passed causes over so_far.passes.begins))
+      (all_push (λ (p : PassedReplica). PlaceGives Tells sure cookie [] (place_in row p.replica) (Err p.cause)) (passed_now passed causes) over so_far.places
+      (gives_passed Tells sure still cookie put (place_in row over.replica) over.cause stays gives));
 }
 
 -- the next replica showed what its place gives
-pub shows_place : {P : Type 0} (Tells : Type 0) (sure still : Bool) (before mid new start : ℕ) (row : List (Place P)) (cookie : Cookie) (put : List ℕ) (causes : List PassedReplica) (j : ℕ) (what : Shown)
-    → PassesRow Tells (arm_use sure before mid) start row cookie causes → length causes < length row → j ≡ (start + length causes) % length row → mid ≤ new → (new ≡ mid) ⊎ (new < 2 ^ 64)
-    → PlaceGives Tells still cookie put (place_in row j) (Ok what) → ReadsRow Tells (arm_use sure before new) start row cookie put (reply_at j what)
-shows_place Tells sure still before mid new start row cookie put causes j what so_far fewer next later most gives =
-    reads_at Tells (arm_use sure before new) start row cookie put j what (record {
-      causes = causes;
-      passed = record { passed = passes_later start (length row) before mid new causes later most so_far.passed; places = so_far.places };
+pub shows_place : {P : Type 0} (Tells : Type 0) (sure still : Bool) (before mid new start : ℕ) (row : List (Place P)) (cookie : Cookie) (put : List ℕ) (passed causes : List PassedReplica) (j : ℕ) (what : Shown)
+    → PassesRow Tells (arm_use sure before mid) start row cookie passed causes → length causes < length row → j ≡ (start + length causes) % length row → mid ≤ new → (new ≡ mid) ⊎ (new < 2 ^ 64)
+    → PlaceGives Tells still cookie put (place_in row j) (Ok what) → ReadsRow Tells (arm_use sure before new) start row cookie passed put (reply_at j causes what)
+shows_place {P} Tells sure still before mid new start row cookie put passed causes j what so_far fewer next later most gives =
+    reads_at what (record {
+      before = record { passes = passes_later start (length row) before mid new passed causes later most so_far.passes; places = so_far.places };
       fewer = fewer;
       next = next;
       gives = gives_shown Tells sure still cookie put (place_in row j) what gives;
     })
   where
-    reads_at : {P : Type 0} (Tells : Type 0) (arm : ArmUse) (start : ℕ) (row : List (Place P)) (cookie : Cookie) (put : List ℕ) (j : ℕ) (what : Shown) → ShowsPlace Tells arm start row cookie put j what
-        → ReadsRow Tells arm start row cookie put (reply_at j what)
-    reads_at Tells arm start row cookie put j shown.Photo shows = shows
-    reads_at Tells arm start row cookie put j shown.Gone shows = shows
-    reads_at Tells arm start row cookie put j shown.WrongCookie shows = shows
+    reads_at : (what : Shown) → ShowsPlace Tells (arm_use sure before new) start row cookie passed causes put j what → ReadsRow Tells (arm_use sure before new) start row cookie passed put (reply_at j causes what)
+    reads_at shown.Photo shows = (causes, shows)
+    reads_at shown.Gone shows = (causes, shows)
+    reads_at shown.WrongCookie shows = (causes, shows)
+    reads_at shown.Unseen shows = shows
 
-pub has_bytes : (j : ℕ) (bytes : List ℕ) (what : Shown) → PutsOut bytes (Ok what) → HasBytes bytes (reply_at j what)
-has_bytes j bytes shown.Photo puts = puts
-has_bytes j bytes shown.Gone puts = puts
-has_bytes j bytes shown.WrongCookie puts = puts
+pub has_bytes : (j : ℕ) (causes : List PassedReplica) (bytes : List ℕ) (what : Shown) → PutsOut bytes (Ok what) → HasBytes bytes (reply_at j causes what)
+has_bytes j causes bytes shown.Photo puts = puts
+has_bytes j causes bytes shown.Gone puts = puts
+has_bytes j causes bytes shown.WrongCookie puts = puts
+has_bytes j causes bytes shown.Unseen puts = puts
 
-pub shows_no_arm : (j : ℕ) (what : Shown) → NoArm (reply_at j what)
-shows_no_arm j shown.Photo = tt
-shows_no_arm j shown.Gone = tt
-shows_no_arm j shown.WrongCookie = tt
+pub shows_no_arm : (j : ℕ) (passed causes : List PassedReplica) (what : Shown) → AllByRecursion (λ p. IsDamage p.cause) (passed_now passed causes) → NoArm passed (reply_at j causes what)
+shows_no_arm j passed causes shown.Photo none = tt
+shows_no_arm j passed causes shown.Gone none = tt
+shows_no_arm j passed causes shown.WrongCookie none = tt
+shows_no_arm j passed causes shown.Unseen none = none
 
 passed_damaged : {P : Type 0} (Tells : Type 0) (sure : Bool) (cookie : Cookie) (there : Place P) (why : Cause) → sure ≡ true → PlaceGives Tells sure cookie [] there (Err why) → IsDamage why
 passed_damaged Tells sure cookie (place.Live needle) (cause.Arm f) was gives = absurd (gives was)
@@ -151,10 +185,11 @@ passed_damaged Tells sure cookie (place.Live needle) (cause.Disk f) was gives = 
 passed_damaged Tells sure cookie (place.Live needle) (cause.Damage at) was gives = tt
 passed_damaged Tells sure cookie place.None why was gives = absurd cc
 passed_damaged Tells sure cookie place.Gone why was gives = absurd cc
+passed_damaged Tells sure cookie (place.Unseen at size) why was gives = absurd cc
 
 -- where the arm is sure, each replica that was passed over is damaged
-pub passes_damaged : {P : Type 0} (Tells : Type 0) (sure : Bool) (before after start : ℕ) (row : List (Place P)) (cookie : Cookie) (causes : List PassedReplica) → sure ≡ true → PassesRow Tells (arm_use sure before after) start row cookie causes
-    → AllByRecursion (λ p. IsDamage p.cause) causes
-passes_damaged Tells sure before after start row cookie causes was passed =
+pub passes_damaged : {P : Type 0} (Tells : Type 0) (sure : Bool) (before after start : ℕ) (row : List (Place P)) (cookie : Cookie) (passed causes : List PassedReplica) → sure ≡ true
+    → PassesRow Tells (arm_use sure before after) start row cookie passed causes → AllByRecursion (λ p. IsDamage p.cause) (passed_now passed causes)
+passes_damaged Tells sure before after start row cookie passed causes was passes =
     all_weaken (λ (p : PassedReplica). PlaceGives Tells sure cookie [] (place_in row p.replica) (Err p.cause)) (λ (p : PassedReplica). IsDamage p.cause)
-    (λ p gives. passed_damaged Tells sure cookie (place_in row p.replica) p.cause was gives) causes passed.places
+    (λ p gives. passed_damaged Tells sure cookie (place_in row p.replica) p.cause was gives) (passed_now passed causes) passes.places

@@ -52,6 +52,7 @@ reads_seen : (bytes seen : List ℕ) (cookie : Cookie) (put : List ℕ) (r : Res
 reads_seen bytes seen cookie put (Ok shown.Photo) but reads = seen_photo seen bytes _ (but_back bytes seen 28 but) reads
 reads_seen bytes seen cookie put (Ok shown.WrongCookie) but reads = (reads.0, reads.1, seen_photo seen bytes reads.0 (but_back bytes seen 28 but) reads.2)
 reads_seen bytes seen cookie put (Ok shown.Gone) but reads = reads
+reads_seen bytes seen cookie put (Ok shown.Unseen) but reads = reads
 reads_seen bytes seen cookie put (Err why) but reads = λ needle begins.
     let there = seen_photo bytes seen needle.photo but (needle, begins, refl) in
     reads there.0 there.1
@@ -66,6 +67,7 @@ pub needle_gives : (Tells : Type 0) (sure : Bool) (cookie : Cookie) (put seen : 
 needle_gives Tells sure cookie put seen needle at (Ok shown.Photo) is damage reads whole = (tt, whole)
 needle_gives Tells sure cookie put seen needle at (Ok shown.WrongCookie) is damage reads whole = (tt, whole)
 needle_gives Tells sure cookie put seen needle at (Ok shown.Gone) is damage reads whole = absurd reads
+needle_gives Tells sure cookie put seen needle at (Ok shown.Unseen) is damage reads whole = absurd reads
 needle_gives Tells sure cookie put seen needle at (Err (cause.Arm f)) is damage reads whole = absurd damage
 needle_gives Tells sure cookie put seen needle at (Err (cause.Disk f)) is damage reads whole = absurd damage
 needle_gives Tells sure cookie put seen needle at (Err (cause.Damage there)) is damage reads whole = (damage ∙ is, whole)

@@ -1,5 +1,5 @@
 -- Why replicas were passed over.
-use Rattle.std.specs.Prelude.{◌≡◌, ◌⊎◌, ℕ, ◌+◌, ◌-◌, ◌%◌, ◌^◌, ◌<◌, ◌≤◌, ◌==◌, not, Bool, Err, List, [], ◌∷◌, length, map, take_while}
+use Rattle.std.specs.Prelude.{◌≡◌, ◌⊎◌, ℕ, ◌+◌, ◌-◌, ◌%◌, ◌^◌, ◌<◌, ◌≤◌, ◌==◌, not, Bool, Err, List, [], ◌∷◌, length, map, take, drop, take_while}
 use Rattle.std.specs.List.{AllByRecursion, range_with_len}
 use Rattle.hay_needle.specs.declared.needle.Cookie.{Cookie}
 use Rattle.hay_reply.specs.declared.Cause.{Cause}
@@ -45,11 +45,20 @@ IsDamage (cause.Damage at) = Unit {0}
 IsDamage (cause.Arm f) = ⊥
 IsDamage (cause.Disk f) = ⊥
 
--- The first replicas that were tried, from `start` on, were passed over, each with its cause.
-pub record Passes (start replicas before after : ℕ) (causes : List PassedReplica) : Type 0 where
-  pub order : map (λ passed. passed.replica) causes ≡ tried_from start replicas (length causes)
-  pub each : AllByRecursion (λ passed. HasArmCause before after passed.cause) causes
-  pub rises : EachPair (λ a b. ArmRises a.cause b.cause) causes
+-- These are the replicas that come first, from `start` on.
+abbrev pub ComeFirst : ℕ → ℕ → List PassedReplica → Type 0
+ComeFirst start replicas passed = map (λ over. over.replica) passed ≡ tried_from start replicas (length passed)
+
+-- of all causes those of this call, where these replicas were passed over before it
+abbrev pub passed_now : List PassedReplica → List PassedReplica → List PassedReplica
+passed_now passed causes = drop (length passed) causes
+
+-- The replicas that come first were passed over, some of them before this call, and each of the others with its cause in this call.
+pub record Passes (start replicas before after : ℕ) (passed causes : List PassedReplica) : Type 0 where
+  pub begins : take (length passed) causes ≡ passed
+  pub order : ComeFirst start replicas causes
+  pub each : AllByRecursion (λ over. HasArmCause before after over.cause) (passed_now passed causes)
+  pub rises : EachPair (λ a b. ArmRises a.cause b.cause) (passed_now passed causes)
 
 -- An arm before and after a call.
 pub record ArmUse : Type 0 where
@@ -57,12 +66,16 @@ pub record ArmUse : Type 0 where
   pub before : ℕ
   pub after : ℕ
 
--- The first replicas of a row were passed over, and each cause is what the try of the place gives.
-pub record PassesRow {P : Type 0} (Tells : Type 0) (arm : ArmUse) (start : ℕ) (row : List (Place P)) (cookie : Cookie) (causes : List PassedReplica) : Type 0 where
-  pub passed : Passes start (length row) arm.before arm.after causes
-  pub places : AllByRecursion (λ passed. PlaceGives Tells arm.sure cookie [] (place_in row passed.replica) (Err passed.cause)) causes
+-- The replicas that come first in a row were passed over, and each cause of this call is what the try of the place gives.
+pub record PassesRow {P : Type 0} (Tells : Type 0) (arm : ArmUse) (start : ℕ) (row : List (Place P)) (cookie : Cookie) (passed causes : List PassedReplica) : Type 0 where
+  pub passes : Passes start (length row) arm.before arm.after passed causes
+  pub places : AllByRecursion (λ over. PlaceGives Tells arm.sure cookie [] (place_in row over.replica) (Err over.cause)) (passed_now passed causes)
 
--- The arm's count rose for each replica that was tried before this one.
-abbrev pub PassedBefore : ℕ → ℕ → ℕ → ℕ → ℕ → Type 0
-PassedBefore start replicas j before after =
-    (before + length (take_while (λ i. not (i == j)) (tried_from start replicas replicas)) ≤ after) ⊎ (after ≡ 2 ^ 64 - 1)
+-- the replicas that this call may try, in its order
+abbrev pub left_from : ℕ → ℕ → List PassedReplica → List ℕ
+left_from start replicas passed = drop (length passed) (tried_from start replicas replicas)
+
+-- The arm's count rose for each replica that this call tried before this one.
+abbrev pub PassedBefore : ℕ → ℕ → List PassedReplica → ℕ → ℕ → ℕ → Type 0
+PassedBefore start replicas passed j before after =
+    (before + length (take_while (λ i. not (i == j)) (left_from start replicas passed)) ≤ after) ⊎ (after ≡ 2 ^ 64 - 1)

@@ -27,6 +27,7 @@ abbrev pub ShowsPhoto : Cookie → List ℕ → List ℕ → Shown → Type 0
 ShowsPhoto cookie put bytes shown.Photo = HasPhoto bytes (record { cookie = cookie; bytes = put })
 ShowsPhoto cookie put bytes shown.WrongCookie = (photo : Photo) × (photo.cookie ≢ cookie) × HasPhoto bytes photo
 ShowsPhoto cookie put bytes shown.Gone = ⊥
+ShowsPhoto cookie put bytes shown.Unseen = ⊥
 
 -- what reading bytes gives
 abbrev pub ReadsBytes : Cookie → List ℕ → List ℕ → Result Shown Cause → Type 0
@@ -38,6 +39,7 @@ abbrev pub IsRead : Shown → Type 0
 IsRead shown.Photo = Unit {0}
 IsRead shown.WrongCookie = Unit {0}
 IsRead shown.Gone = ⊥
+IsRead shown.Unseen = ⊥
 
 -- what the try of a needle gives: it tells its photo, or is passed over for an arm that may fail or for its damage
 abbrev pub NeedleGives : Type 0 → Bool → Cookie → List ℕ → SealedNeedle → Result Shown Cause → Type 0
@@ -46,11 +48,12 @@ NeedleGives Tells sure cookie put needle (Err (cause.Arm f)) = sure ≢ true
 NeedleGives Tells sure cookie put needle (Err (cause.Disk f)) = ⊥
 NeedleGives Tells sure cookie put needle (Err (cause.Damage at)) = (at ≡ needle.at) × (Tells → HasNone needle.bytes)
 
--- what the try of a place gives: one without a needle says that the photo is gone
+-- what the try of a place gives: one without a needle says that the photo is gone, and one that was not looked at yet says so
 abbrev pub PlaceGives : {P : Type 0} → Type 0 → Bool → Cookie → List ℕ → Place P → Result Shown Cause → Type 0
 PlaceGives Tells sure cookie put (place.Live needle) r = NeedleGives Tells sure cookie put needle r
 PlaceGives Tells sure cookie put place.None r = r ≡ Ok shown.Gone
 PlaceGives Tells sure cookie put place.Gone r = r ≡ Ok shown.Gone
+PlaceGives Tells sure cookie put (place.Unseen at size) r = r ≡ Ok shown.Unseen
 
 -- an arm's failure is its count, which rose in this call
 abbrev pub FailsBy : ℕ → ℕ → Cause → Type 0
@@ -69,4 +72,5 @@ abbrev pub PutsOut : List ℕ → Result Shown Cause → Type 0
 PutsOut bytes (Ok shown.Photo) = length bytes ≤ MAX_PHOTO
 PutsOut bytes (Ok shown.Gone) = bytes ≡ []
 PutsOut bytes (Ok shown.WrongCookie) = bytes ≡ []
+PutsOut bytes (Ok shown.Unseen) = bytes ≡ []
 PutsOut bytes (Err why) = bytes ≡ []

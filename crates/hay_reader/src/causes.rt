@@ -45,11 +45,18 @@ impl Causes {
         }
     }
 
-    pub(crate) fn push(&mut self, passed: PassedReplica)
+    /// Adds a replica that was passed over.
+    pub fn push(&mut self, passed: PassedReplica)
         requires { length self.old < 4 }
         ensures { self.new ≡ self.old ++ passed ∷ [] }
     {
         self.passed.push(passed);
+    }
+
+    pub(crate) fn len(&self) -> usize
+        ensures { result ≡ length self.now }
+    {
+        self.passed.len()
     }
 
     pub fn as_slice(&self) -> &[PassedReplica]

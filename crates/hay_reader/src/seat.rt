@@ -3,6 +3,7 @@ ghost use Rattle.std.specs.Prelude.{◌≡◌, ◌<◌, ◌≤◌, ◌^◌, ◌�
 ghost use Rattle.std.specs.Vec.{vec_capacity};
 ghost use Rattle.hay_disk.specs.Counts.{StaysSure};
 ghost use Rattle.hay_reader.specs.Tried.{PlaceGives, FailsBy, PutsOut};
+ghost use Rattle.hay_reader.specs.Causes.{ComeFirst};
 ghost use Rattle.hay_reader.specs.Shown.{reply_at, ReadsRow, NoArm, HasBytes};
 
 use crate::trial::{Shown, try_place};
@@ -22,6 +23,8 @@ pub enum ReadReply {
     Photo { replica: u32 },
     Gone { replica: u32 },
     WrongCookie { replica: u32 },
+    /// The replica's place was not looked at yet, and those before it were passed over.
+    Unseen { replica: u32, causes: Causes },
     /// Every replica was passed over.
     Unreadable { causes: Causes },
 }
@@ -88,21 +91,48 @@ impl<A> LaneSeat<A> {
         requires start { start < length row.now }
         requires empty { out.old.items ≡ [] }
         requires room { MAX_PHOTO ≤ vec_capacity out.old }
-
-        // What is shown is what stands at the replica's place. A replica is passed over only where its fetch failed in this call, or
-        // where no needle begins there.
-        ensures reads { ReadsRow P.Tells (record { sure = A.is_sure self.old; before = A.fault_count self.old; after = A.fault_count self.new }) start row.now cookie out.new.items result }
-        ensures sure { A.is_sure self.old ≡ true → NoArm result }
+        ensures reads { ReadsRow P.Tells (record { sure = A.is_sure self.old; before = A.fault_count self.old; after = A.fault_count self.new }) start row.now cookie [] out.new.items result }
+        ensures sure { A.is_sure self.old ≡ true → NoArm [] result }
         ensures stays_sure { StaysSure (A.is_sure self.old) (A.is_sure self.new) (A.fault_count self.old) (A.fault_count self.new) }
         ensures later { A.fault_count self.old ≤ A.fault_count self.new }
         ensures bytes { HasBytes out.new.items result }
         ensures room { vec_capacity out.old ≤ vec_capacity out.new }
     {
-        let mut causes = Causes::new();
-        for step in 0..row.len() {
+        self.show_more(row, cookie, start, Causes::new(), out)
+    }
+
+    /// Goes on with a read, where `passed` are the replicas that come first from `start` on and were passed over: it leaves them
+    /// out, and tries the others in turn. It takes no memory, as `out` has room for the largest photo.
+    pub fn show_more<P: Piece>(
+        &mut self,
+        row: &Row<P>,
+        cookie: Cookie,
+        start: usize,
+        passed: Causes,
+        out: &mut Vec<u8>,
+    ) -> ReadReply
+    where
+        A: Arm<P>,
+        requires start { start < length row.now }
+        requires first { ComeFirst start (length row.now) passed }
+        requires fewer { length passed ≤ length row.now }
+        requires empty { out.old.items ≡ [] }
+        requires room { MAX_PHOTO ≤ vec_capacity out.old }
+
+        // What is shown is what stands at the replica's place. A replica is passed over in this call only where its fetch failed in
+        // this call, or where no needle begins there.
+        ensures reads { ReadsRow P.Tells (record { sure = A.is_sure self.old; before = A.fault_count self.old; after = A.fault_count self.new }) start row.now cookie passed out.new.items result }
+        ensures sure { A.is_sure self.old ≡ true → NoArm passed result }
+        ensures stays_sure { StaysSure (A.is_sure self.old) (A.is_sure self.new) (A.fault_count self.old) (A.fault_count self.new) }
+        ensures later { A.fault_count self.old ≤ A.fault_count self.new }
+        ensures bytes { HasBytes out.new.items result }
+        ensures room { vec_capacity out.old ≤ vec_capacity out.new }
+    {
+        let mut causes = passed;
+        for step in causes.len()..row.len() {
             let replica = (start + step) % row.len();
             match self.try_replica(row.place(replica), cookie, out) {
-                Ok(shown) => return reply_of(shown, replica as u32),
+                Ok(shown) => return reply_of(shown, replica as u32, causes),
                 Err(cause) => causes.push(PassedReplica {
                     replica: replica as u32,
                     cause,
@@ -134,12 +164,13 @@ impl<A> LaneSeat<A> {
     }
 }
 
-fn reply_of(shown: Shown, replica: u32) -> ReadReply
-    ensures { result ≡ reply_at replica shown }
+fn reply_of(shown: Shown, replica: u32, causes: Causes) -> ReadReply
+    ensures { result ≡ reply_at replica causes shown }
 {
     match shown {
         Shown::Photo => ReadReply::Photo { replica },
         Shown::Gone => ReadReply::Gone { replica },
         Shown::WrongCookie => ReadReply::WrongCookie { replica },
+        Shown::Unseen => ReadReply::Unseen { replica, causes },
     }
 }

@@ -15,6 +15,8 @@ pub enum Shown {
     Photo,
     Gone,
     WrongCookie,
+    /// Its place was not looked at yet.
+    Unseen,
 }
 
 /// Tries the replica of this place. The buffer has room for the longest needle.
@@ -39,6 +41,7 @@ pub fn try_place<P: Piece, A: Arm<P>>(
 {
     match place {
         Place::Live(needle) => try_needle(arm, buffer, needle, cookie, out),
+        Place::Unseen { .. } => Ok(Shown::Unseen),
         Place::None | Place::Gone => Ok(Shown::Gone),
     }
 }

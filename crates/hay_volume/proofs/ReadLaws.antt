@@ -155,3 +155,20 @@ none_here at head front file later n place same seen none begins =
 -- a fault that was passed on
 pub same_fault : {T : Type 0} (r : Result T CellFault) (passed fault : CellFault) (at here : ℕ) → r ≡ Err passed → passed ≡ fault → r ≡ Err (Damaged at) → here ≡ at → fault ≡ Damaged here
 same_fault r passed fault at here is from damaged place = cc
+
+-- bytes that begin with a needle of a photo of this size, and are no more, are a cell's
+pub sized_cell : (at size total : ℕ) (bytes : List ℕ) (head : CellHead) (n : Needle) → total ≡ needle_total size → length bytes ≤ total → BeginsWithNeedle bytes n
+    → head.at ≡ at → head_of_cell head ≡ head_of_needle n → head.size ≡ size → (cell : Cell) × IsCellAt at bytes cell × (head ≡ cell_head cell)
+sized_cell at size total bytes head n totals short begins place same sized =
+    let long : length n.photo.bytes ≡ size = sym (ap (λ (h : Head). h.size) same) ∙ sized in
+    cell_of at head bytes n place (needle_alone bytes n (omega (arith, ap needle_total long)) begins) same
+
+-- no bytes are the first none
+pub nothing_yet : (k : ℕ) (bytes file : List ℕ) → k ≡ 0 → bytes ≡ [] → bytes ≡ take k file
+nothing_yet k bytes file none empty = rw (none, empty) refl
+
+-- and they begin with one where one stands
+pub sized_begins : (at size total : ℕ) (bytes file : List ℕ) (n : Needle) → total ≡ needle_total size → bytes ≡ take total (drop at file) → length n.photo.bytes ≡ size
+    → BeginsWithNeedle (drop at file) n → BeginsWithNeedle bytes n
+sized_begins at size total bytes file n totals is sized begins =
+    subst (λ (l : List ℕ). BeginsWithNeedle l n) (sym is) (needle_in_front total (drop at file) n (omega (arith, ap needle_total sized)) begins)

@@ -1,6 +1,6 @@
 //! Reading needles from a volume file.
 
-ghost use Rattle.std.specs.Prelude.{◌≡◌, ◌⊎◌, ◌≤◌, ◌<◌, ◌+◌, ◌-◌, ◌^◌, ℕ, min, length, take, drop, vec_len, vec_capacity, Err, IsErr, IsErrOf, IfOk, OnOk};
+ghost use Rattle.std.specs.Prelude.{◌≡◌, ◌⊎◌, ◌≤◌, ◌<◌, ◌+◌, ◌-◌, ◌^◌, ℕ, min, length, take, drop, vec_len, vec_capacity, Err, IsErr, IsErrOf, IfOk, IfSome, IfNone, OnOk};
 ghost use Rattle.hay_disk.specs.Counts.{IsCounted};
 ghost use Rattle.hay_disk.specs.Disk.{KeepsOthers};
 ghost use Rattle.hay_disk.specs.Gate.{HasBytesAt};
@@ -13,7 +13,7 @@ ghost use Rattle.hay_volume.specs.Cells.{IsCellAt, cell_head};
 use crate::fault::CellFault;
 use crate::volume::VolumeFile;
 use hay_disk::{Disk, DiskFault, Failed};
-use hay_needle::{CellHead, HEAD_LEN, MAX_NEEDLE, read_head, read_needle, total_of};
+use hay_needle::{CellHead, HEAD_LEN, MAX_NEEDLE, MAX_PHOTO, read_head, read_needle, total_of};
 
 impl VolumeFile {
     /// Reads the cell that stands at `at`. `out` then has its whole needle, and nothing else.
@@ -55,6 +55,72 @@ impl VolumeFile {
         read_rest(disk, self.file, head, out)?;
         Ok(head)
     }
+
+    /// Reads the cell of a photo of `size` bytes that stands at `at`, by one read of its needle's bytes and no others. `out`
+    /// then has this needle, and nothing else.
+    ///
+    /// `Damaged` comes exactly where no needle of a photo of this size stands there. `NoMemory` leaves `out` as it was.
+    pub fn cell_within<D: Disk>(
+        &self,
+        disk: &mut D,
+        at: u64,
+        size: u32,
+        out: &mut Vec<u8>,
+    ) -> Result<CellHead, CellFault>
+        // On any disk what is read is a whole needle of this size, and where the disk tells, it stands there.
+        ensures cell { IfOk result (λ head. (cell : Cell) × IsCellAt at out.new.items cell × (head ≡ cell_head cell)) }
+        ensures size { IfOk result (λ head. head.size ≡ size) }
+        ensures most { OnOk result (size ≤ MAX_PHOTO) }
+        ensures stands { D.Tells → OnOk result (HasBytesAt at out.new.items (D.files disk.old self.now.file).now) }
+
+        ensures place { (k : ℕ) → result ≡ Err (CellFault.Damaged k) → k ≡ at }
+        ensures damaged { D.Tells → IsErrOf result (CellFault.Damaged at)
+            → (n : Needle) → BeginsWithNeedle (drop at (D.files disk.old self.now.file).now) n → length n.photo.bytes ≡ size → ⊥ }
+
+        ensures no_memory { IsErrOf result CellFault.NoMemory → out.new.items ≡ out.old.items }
+        // Room that was reserved is enough.
+        ensures full { IsErrOf result CellFault.NoMemory → vec_capacity out.old < vec_len out.old + needle_total size }
+
+        ensures same { D.Tells → D.files disk.new ≡ D.files disk.old }
+        ensures drawn { D.Tells → D.drawn disk.new self.now.file ≤ D.drawn disk.old self.now.file + needle_total size }
+        ensures drawn_others { D.Tells → KeepsOthers self.now.file (D.drawn disk.old) (D.drawn disk.new) }
+        ensures counted { IsCounted (D.fault_count disk.old) (D.fault_count disk.new) (IsErrOf result CellFault.Failed) }
+        ensures fuses { D.fuse_count disk.new ≡ D.fuse_count disk.old }
+    {
+        if size > MAX_PHOTO {
+            return Err(CellFault::Damaged { at });
+        }
+        let total = total_of(size) as usize;
+        out.try_reserve(total)?;
+        out.clear();
+        read_up_to(disk, self.file, at, total, out)?;
+        match sized_head(at, size, out.as_slice()) {
+            Some(head) => Ok(head),
+            None => Err(CellFault::Damaged { at }),
+        }
+    }
+}
+
+// The head of the needle of a photo of `size` bytes with which the bytes, which stand at `at`, begin.
+fn sized_head(at: u64, size: u32, bytes: &[u8]) -> Option<CellHead>
+    ensures cell { IfSome result (λ head. (n : Needle) × BeginsWithNeedle bytes.now n × (head.at ≡ at) × (head_of_cell head ≡ head_of_needle n)) }
+    ensures size { IfSome result (λ head. head.size ≡ size) }
+    ensures none { IfNone result ((n : Needle) → BeginsWithNeedle bytes.now n → length n.photo.bytes ≡ size → ⊥) }
+{
+    let Ok(view) = read_needle(bytes) else {
+        return None;
+    };
+    if view.bytes.len() != size as usize {
+        return None;
+    }
+    Some(CellHead {
+        at,
+        version: view.version,
+        pair: view.pair,
+        cookie: view.cookie,
+        size,
+        deleted: view.deleted,
+    })
 }
 
 // Reads a needle on behind its head, which `bytes` has.

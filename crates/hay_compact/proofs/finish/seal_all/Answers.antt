@@ -3,7 +3,7 @@ use Rattle.std.proofs.lemmas.Result.{err_from_is_err_and}
 use Rattle.hay_needle.specs.declared.needle.Cell.{Cell}
 use Rattle.hay_disk.specs.declared.disk.DiskFault.{DiskFault}
 use Rattle.hay_compact.specs.Finishing.{ArePlacesSoFar}
-use Rattle.hay_compact.proofs.Sealings.{all_places, can_seal_still, due_at, no_places, one_less, rose_later, seen_all}
+use Rattle.hay_compact.proofs.Sealings.{all_places, all_seen, can_seal_still, due_at, no_places, one_less, rose_later, seen_all}
 use Rattle.hay_compact.proofs.finish.seal_all.Goals as goal
 
 pub loop-row-init : goal.loop-row-init
@@ -58,5 +58,11 @@ loop-row-preserved g c = record {
 pub returns-clause-places : goal.returns-clause-places
 returns-clause-places g c = λ tells sup s can same pair.
     all_places g.D.Piece.Piece.Tells s.cells c.loop-row.places.items
+    (subst (λ (l : List Cell). ArePlacesSoFar g.D.Piece.Piece.Tells s.cells l c.loop-row.places.items) (seen_all s c.args.records.now c.loop-row.row-index same c.loop-row-test.false)
+    (c.loop-row.invariant.places tells sup s can same)) pair
+
+pub returns-clause-seen : goal.returns-clause-seen
+returns-clause-seen g c = λ tells sup s can same pair.
+    all_seen g.D.Piece.Piece.Tells s.cells c.loop-row.places.items
     (subst (λ (l : List Cell). ArePlacesSoFar g.D.Piece.Piece.Tells s.cells l c.loop-row.places.items) (seen_all s c.args.records.now c.loop-row.row-index same c.loop-row-test.false)
     (c.loop-row.invariant.places tells sup s can same)) pair

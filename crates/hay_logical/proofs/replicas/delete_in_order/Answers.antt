@@ -6,9 +6,9 @@ use Rattle.hay_physical.specs.Copies.{Copy, goal_of, is_stuck}
 use Rattle.hay_physical.specs.Runs.{HasLastAt, HasRun, loosened}
 use Rattle.hay_physical.specs.Replicas as physical
 use Rattle.hay_logical.specs.Fits.{At}
-use Rattle.hay_logical.specs.Steps.{DeletesAt, FollowsAt, KeepsDeletable, LosesRun}
-use Rattle.hay_logical.proofs.Calls.{Counted, counted_same, delete_rose, deletes_on, ended_or, follows_on, follows_where, loses_none, stays_where, up_open, went_counts}
-use Rattle.hay_logical.proofs.Lists.{Went, at_read, broken_above, broken_below, broken_is, broken_was, went_all, went_every, went_next, went_step}
+use Rattle.hay_logical.specs.Steps.{DeletesAt, FollowsAt, LosesRun, StaysBeside}
+use Rattle.hay_logical.proofs.Calls.{Counted, beside_on, counted_same, delete_rose, deletes_on, ended_or, follows_on, follows_where, loses_none, reach_still, stays_where, up_open, went_counts}
+use Rattle.hay_logical.proofs.Lists.{Went, at_read, broken_above, broken_below, broken_is, broken_was, went_all, went_each, went_next, went_step}
 use Rattle.hay_logical.proofs.replicas.delete_in_order.Goals as goal
 use Rattle.hay_logical.proofs.replicas.delete_in_order.Goals.{in-Live+in-Ok, in_default}
 
@@ -72,7 +72,7 @@ loop-j-preserved g c =
     let here : Copy g.row.D.Denot = slice_index_or c.loop-j.replicas c.loop-j.j c.index-replicas-j.result in
     let there : At c.loop-j.replicas c.loop-j.j here = at_read c.loop-j.replicas c.loop-j.j c.index-replicas-j.result within in
     let R : ℕ → Copy g.row.D.Denot → Copy g.row.D.Denot → Type 0 =
-    λ i r r'. DeletesAt g.D.Disk.Tells g.D.Disk.files (place_in c.args.row.now i) r r' × Counted g.D.Disk.fault_count g.D.Disk.fuse_count r r' × KeepsDeletable g.D.Disk.Tells g.D.Disk.files r r'
+    λ i r r'. DeletesAt g.D.Disk.Tells g.D.Disk.files (place_in c.args.row.now i) r r' × Counted g.D.Disk.fault_count g.D.Disk.fuse_count r r' × StaysBeside g.D.Disk.Tells g.D.Disk.files (place_in c.args.row.now i) r r'
     × FollowsAt g.D.Disk.Tells g.D.Disk.files g.D.Disk.fault_count c.args.pair (place_in c.args.row.now i) r r' in
     elim c.match-place.branch [
       | in-Live+in-Ok w ↦ record {
@@ -87,7 +87,10 @@ loop-j-preserved g c =
                     (w.in-Ok.ensures.deleted tells s stands (subst (λ n. physical.HasLive n s.cells) (sym w.at.ensures) live)),
               ),
               (w.delete.ensures.counts, w.delete.ensures.fuses),
-              w.delete.ensures.deletes,
+              beside_on g.D.Disk.Tells g.D.Disk.files here w.delete.new.self (place.Live w.in-Live.needle) (place_in c.args.row.now c.loop-j.j) (sym c.place.ensures ∙ w.in-Live.is) (λ tells. record {
+                deletes = w.delete.ensures.deletes tells;
+                sees = subst (λ n. physical.KeepsSight g.D.Disk.files (physical.ApartFrom n) here w.delete.new.self) w.at.ensures (w.delete.ensures.sees tells);
+              }),
               follows_on g.D.Disk.Tells g.D.Disk.files g.D.Disk.fault_count c.args.pair here w.delete.new.self (place.Live w.in-Live.needle) (place_in c.args.row.now c.loop-j.j) (sym c.place.ensures ∙ w.in-Live.is) (record {
                 run = λ tells s run stands has last.
                     subst (λ n. HasRun g.D.Disk.files w.delete.new.self (physical.without_cell s n) (option_map loosened run) ⊎ (goal_of w.delete.new.self ≡ None)) w.at.ensures
@@ -101,7 +104,7 @@ loop-j-preserved g c =
             (went_step R R c.loop-j.j c.args.replicas.now c.loop-j.replicas here here c.loop-j.invariant.went there (λ i r r' h p. p) (
               stays_where g.D.Disk.Tells g.D.Disk.files (place_in c.args.row.now c.loop-j.j) here (λ needle e. w.in_default.not-Live needle (c.place.ensures ∙ e)),
               counted_same g.D.Disk.fault_count g.D.Disk.fuse_count here here refl,
-              λ tells place may. may,
+              λ tells. reach_still g.D.Disk.files here,
               follows_where g.D.Disk.Tells g.D.Disk.files g.D.Disk.fault_count c.args.pair (place_in c.args.row.now c.loop-j.j) here (λ needle e. w.in_default.not-Live needle (c.place.ensures ∙ e)),
             ));
       }
@@ -116,16 +119,19 @@ returns-clause-deleted g c = λ j r r' e f. (went_all _ _ c.args.replicas.now _ 
 pub returns-clause-follow : goal.returns-clause-follow
 returns-clause-follow g c = λ j r r' e f. (went_all _ _ c.args.replicas.now _ c.loop-j.invariant.went (let all : length c.args.replicas.now ≤ c.loop-j.j = omega arith in all) j r r' e f).3
 
-pub returns-clause-deletable : goal.returns-clause-deletable
-returns-clause-deletable g c = λ j r r' e f.
-    went_every _ (KeepsDeletable g.D.Disk.Tells g.D.Disk.files) _ c.args.replicas.now _ c.loop-j.invariant.went (λ i r r' p. p.2) (λ x tells place may. may) j r r' e f
+pub returns-clause-reach : goal.returns-clause-reach
+returns-clause-reach g c = λ j r r' e f. (went_all _ _ c.args.replicas.now _ c.loop-j.invariant.went (let all : length c.args.replicas.now ≤ c.loop-j.j = omega arith in all) j r r' e f).2
 
-pub returns-in-Err-clause-deletable : goal.returns-in-Err-clause-deletable
-returns-in-Err-clause-deletable g c = λ j r r' e f.
+pub returns-in-Err-clause-reach : goal.returns-in-Err-clause-reach
+returns-in-Err-clause-reach g c = λ j r r' e f.
     let within : c.loop-j.j < length c.loop-j.replicas = omega arith in
     let here : Copy g.row.D.Denot = slice_index_or c.loop-j.replicas c.loop-j.j c.index-replicas-j.result in
     let there : At c.loop-j.replicas c.loop-j.j here = at_read c.loop-j.replicas c.loop-j.j c.index-replicas-j.result within in
-    let K : ℕ → Copy g.row.D.Denot → Copy g.row.D.Denot → Type 0 = λ i x y. KeepsDeletable g.D.Disk.Tells g.D.Disk.files x y in
-    went_every K (KeepsDeletable g.D.Disk.Tells g.D.Disk.files) (c.loop-j.j + 1) c.args.replicas.now _
-    (went_step _ K c.loop-j.j c.args.replicas.now c.loop-j.replicas here c.delete.new.self c.loop-j.invariant.went there (λ i x y h p. p.2) c.delete.ensures.deletes)
-    (λ i x y p. p) (λ x tells place may. may) j r r' e f
+    let K : ℕ → Copy g.row.D.Denot → Copy g.row.D.Denot → Type 0 = λ i x y. StaysBeside g.D.Disk.Tells g.D.Disk.files (place_in c.args.row.now i) x y in
+    went_each K K (c.loop-j.j + 1) c.args.replicas.now _
+    (went_step _ K c.loop-j.j c.args.replicas.now c.loop-j.replicas here c.delete.new.self c.loop-j.invariant.went there (λ i x y h p. p.2)
+    (beside_on g.D.Disk.Tells g.D.Disk.files here c.delete.new.self (place.Live c.in-Live.needle) (place_in c.args.row.now c.loop-j.j) (sym c.place.ensures ∙ c.in-Live.is) (λ tells. record {
+      deletes = c.delete.ensures.deletes tells;
+      sees = subst (λ n. physical.KeepsSight g.D.Disk.files (physical.ApartFrom n) here c.delete.new.self) c.at.ensures (c.delete.ensures.sees tells);
+    })))
+    (λ i x y p. p) (λ i x tells. reach_still g.D.Disk.files x) j r r' e f

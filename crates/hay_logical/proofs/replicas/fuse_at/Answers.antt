@@ -22,7 +22,7 @@ returns-clause-fuses g c = λ r r' e f.
       stands = c.fuse.ensures.stands;
       holds = c.fuse.ensures.holds;
       run = c.fuse.ensures.run;
-      deletable = c.fuse.ensures.deletes;
+      reach = λ tells. record { deletes = c.fuse.ensures.deletes tells; sees = c.fuse.ensures.sees tells };
       same_faults = c.fuse.ensures.faults;
       next = c.fuse.ensures.fuses;
     } in

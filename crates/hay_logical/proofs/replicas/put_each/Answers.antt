@@ -1,8 +1,9 @@
+use Rattle.hay_physical.specs.Replicas as physical
 use Rattle.std.proofs.Common.{inl, inr, sym, subst}
 use Rattle.hay_logical.specs.Steps.{EndsRuns, PutLeaves}
 use Rattle.hay_logical.specs.Volumes.{KeepsCounts}
 use Rattle.hay_logical.specs.Fits.{At}
-use Rattle.hay_logical.proofs.Dropping.{counts_on, deletable_on, not_untouched, put_leaves_on, untouched_back}
+use Rattle.hay_logical.proofs.Dropping.{counts_on, reach_on, not_untouched, put_leaves_on, untouched_back}
 use Rattle.hay_logical.proofs.Lists.{at_below}
 use Rattle.hay_logical.proofs.replicas.put_each.Goals as goal
 use Rattle.hay_logical.proofs.replicas.put_each.Goals.{then-not-is_untouched, else-not-is_untouched}
@@ -21,12 +22,12 @@ returns-after-not-is_untouched-clause-counts g c = elim c.if-not-is_untouched.br
   | else-not-is_untouched w ↦ subst (λ rs. KeepsCounts g.D.Disk.fault_count g.D.Disk.fuse_count c.args.replicas.now rs) (sym w.replicas-is) c.put_in_order.ensures.counts
 ]
 
-pub returns-after-not-is_untouched-clause-deletable : goal.returns-after-not-is_untouched-clause-deletable
-returns-after-not-is_untouched-clause-deletable g c = λ j r r' e f. elim c.if-not-is_untouched.branch [
+pub returns-after-not-is_untouched-clause-reach : goal.returns-after-not-is_untouched-clause-reach
+returns-after-not-is_untouched-clause-reach g c = λ j r r' e f. elim c.if-not-is_untouched.branch [
   | then-not-is_untouched w ↦
-      deletable_on g.D.Disk.Tells g.D.Disk.files g.D.Disk.fault_count c.args.replicas.now c.put_in_order.new.replicas w.drop_runs.new.replicas w.drop_runs.ensures.count w.drop_runs.ensures.each
-      c.put_in_order.ensures.deletable j r r' e (subst (λ rs. At rs j r') w.replicas-is f)
-  | else-not-is_untouched w ↦ c.put_in_order.ensures.deletable j r r' e (subst (λ rs. At rs j r') w.replicas-is f)
+      reach_on g.D.Disk.Tells g.D.Disk.files g.D.Disk.fault_count c.args.replicas.now c.put_in_order.new.replicas w.drop_runs.new.replicas w.drop_runs.ensures.count w.drop_runs.ensures.each
+      (λ i. physical.Anywhere) c.put_in_order.ensures.reach j r r' e (subst (λ rs. At rs j r') w.replicas-is f)
+  | else-not-is_untouched w ↦ c.put_in_order.ensures.reach j r r' e (subst (λ rs. At rs j r') w.replicas-is f)
 ]
 
 pub returns-after-not-is_untouched-clause-broken : goal.returns-after-not-is_untouched-clause-broken

@@ -7,8 +7,8 @@ use Rattle.hay_physical.specs.Copies.{Copy, IsUp}
 use Rattle.hay_physical.specs.Replicas as physical
 use Rattle.hay_physical.specs.Runs.{HasRun, Run}
 use Rattle.hay_logical.specs.Fits.{At}
-use Rattle.hay_logical.specs.Steps.{KeepsDeletable, LosesRun}
-use Rattle.hay_logical.proofs.Calls.{Counted, loses_none, place_before, place_last, put_cause, puts_on, up_open, went_counts}
+use Rattle.hay_logical.specs.Steps.{StaysInReach, LosesRun}
+use Rattle.hay_logical.proofs.Calls.{Counted, loses_none, place_before, place_last, put_cause, puts_on, reach_still, up_open, went_counts}
 use Rattle.hay_logical.proofs.Lists.{at_read, at_same, broken_above, broken_below, broken_is, broken_was, went_all, went_every, went_next, went_start, went_step}
 use Rattle.hay_logical.proofs.replicas.put_in_order.Goals as goal
 
@@ -71,10 +71,10 @@ loop-j-preserved g c =
       went = went_step _ _ c.loop-j.j c.args.replicas.now c.loop-j.replicas here c.put.new.self c.loop-j.invariant.went there
           (λ i r r' h p. (puts_on g.D.Disk.Tells g.D.Disk.files g.D.Piece.Piece.Tells c.args.pair c.args.cookie c.args.bytes.now r r' (place_in c.loop-j.row i) (place_in c.push.new.self i) (same i h) p.0, p.1, p.2, p.3)) (
             puts_on g.D.Disk.Tells g.D.Disk.files g.D.Piece.Piece.Tells c.args.pair c.args.cookie c.args.bytes.now here c.put.new.self (place.Live c.in-Ok.needle) (place_in c.push.new.self c.loop-j.j) last
-                (record { up = c.in-Ok.ensures.up; sup = c.put.ensures.sup; stuck = c.put.ensures.stuck; stands = λ tells s stands. c.in-Ok.ensures.stored tells s stands; run = c.in-Ok.ensures.run; deletable = c.in-Ok.ensures.can_delete }),
+                (record { up = c.in-Ok.ensures.up; sup = c.put.ensures.sup; stuck = c.put.ensures.stuck; stands = λ tells s stands. c.in-Ok.ensures.stored tells s stands; run = c.in-Ok.ensures.run; deletable = c.in-Ok.ensures.can_delete; apart = c.in-Ok.ensures.apart }),
             c.put.ensures.counts,
             c.put.ensures.fuses,
-            c.put.ensures.deletes,
+            λ tells. record { deletes = c.put.ensures.deletes tells; sees = c.put.ensures.sees tells },
           );
       places = ap length c.push.ensures ∙ length-append c.loop-j.row (place.Live c.in-Ok.needle ∷ []) ∙ ap (λ n. n + 1) places;
     }
@@ -89,19 +89,19 @@ returns-clause-places g c = c.loop-j.invariant.places ∙ (let e : c.loop-j.j �
 pub returns-clause-put : goal.returns-clause-put
 returns-clause-put g c = λ j r r' e f. (went_all _ _ c.args.replicas.now _ c.loop-j.invariant.went (let all : length c.args.replicas.now ≤ c.loop-j.j = omega arith in all) j r r' e f).0
 
-pub returns-clause-deletable : goal.returns-clause-deletable
-returns-clause-deletable g c = λ j r r' e f.
-    went_every _ (KeepsDeletable g.D.Disk.Tells g.D.Disk.files) _ c.args.replicas.now _ c.loop-j.invariant.went (λ i r r' p. p.3) (λ x tells place may. may) j r r' e f
+pub returns-clause-reach : goal.returns-clause-reach
+returns-clause-reach g c = λ j r r' e f.
+    went_every _ (StaysInReach g.D.Disk.Tells g.D.Disk.files) _ c.args.replicas.now _ c.loop-j.invariant.went (λ i r r' p. p.3) (λ x tells. reach_still g.D.Disk.files x) j r r' e f
 
-pub returns-in-Err-clause-deletable : goal.returns-in-Err-clause-deletable
-returns-in-Err-clause-deletable g c = λ j r r' e f.
+pub returns-in-Err-clause-reach : goal.returns-in-Err-clause-reach
+returns-in-Err-clause-reach g c = λ j r r' e f.
     let within : c.loop-j.j < length c.loop-j.replicas = omega arith in
     let here : Copy g.row.D.Denot = slice_index_or c.loop-j.replicas c.loop-j.j c.index-replicas-j.result in
     let there : At c.loop-j.replicas c.loop-j.j here = at_read c.loop-j.replicas c.loop-j.j c.index-replicas-j.result within in
-    let K : ℕ → Copy g.row.D.Denot → Copy g.row.D.Denot → Type 0 = λ i x y. KeepsDeletable g.D.Disk.Tells g.D.Disk.files x y in
-    went_every K (KeepsDeletable g.D.Disk.Tells g.D.Disk.files) (c.loop-j.j + 1) c.args.replicas.now _
-    (went_step _ K c.loop-j.j c.args.replicas.now c.loop-j.replicas here c.put.new.self c.loop-j.invariant.went there (λ i x y h p. p.3) c.put.ensures.deletes)
-    (λ i x y p. p) (λ x tells place may. may) j r r' e f
+    let K : ℕ → Copy g.row.D.Denot → Copy g.row.D.Denot → Type 0 = λ i x y. StaysInReach g.D.Disk.Tells g.D.Disk.files x y in
+    went_every K (StaysInReach g.D.Disk.Tells g.D.Disk.files) (c.loop-j.j + 1) c.args.replicas.now _
+    (went_step _ K c.loop-j.j c.args.replicas.now c.loop-j.replicas here c.put.new.self c.loop-j.invariant.went there (λ i x y h p. p.3) (λ tells. record { deletes = c.put.ensures.deletes tells; sees = c.put.ensures.sees tells }))
+    (λ i x y p. p) (λ x tells. reach_still g.D.Disk.files x) j r r' e f
 
 pub returns-in-Err-clause-others : goal.returns-in-Err-clause-others
 returns-in-Err-clause-others g c = λ i r r' h e f.

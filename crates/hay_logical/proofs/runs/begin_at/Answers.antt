@@ -21,7 +21,7 @@ returns-clause-begins g c = λ r r' e f.
     let same = one_same c.args.replicas.now c.args.at here c.begin.new.self r r' there e f in
     let b = c.begin.ensures in
     let began : BeginsAt g.D.Disk.Tells g.D.Disk.files g.D.Disk.fault_count here c.begin.new.self c.begin.result =
-    begins g.D.Disk.Tells g.D.Disk.files g.D.Disk.fault_count here c.begin.new.self c.begin.result (c.requires.up c.args.at here there) b.«open» b.same b.sup b.stuck b.stands b.deletes b.busy b.worn b.thawed b.idle b.most b.last b.begun b.goal b.kept b.causes in
+    begins g.D.Disk.Tells g.D.Disk.files g.D.Disk.fault_count here c.begin.new.self c.begin.result (c.requires.up c.args.at here there) b.«open» b.same b.sup b.stuck b.stands (λ tells. record { deletes = b.deletes tells; sees = b.sees tells }) b.busy b.worn b.thawed b.idle b.most b.last b.begun b.goal b.kept b.causes in
     subst (λ x. BeginsAt g.D.Disk.Tells g.D.Disk.files g.D.Disk.fault_count x r' c.begin.result) (sym same.0)
     (subst (λ x. BeginsAt g.D.Disk.Tells g.D.Disk.files g.D.Disk.fault_count here x c.begin.result) (sym same.1) began)
 

@@ -24,7 +24,7 @@ loop-replica-preserved g c =
         stuck = e.stuck;
         stands = e.stands;
         holds = e.holds;
-        deletable = e.deletes;
+        reach = λ tells. record { deletes = e.deletes tells; sees = e.sees tells };
       },
       e.goal,
     )

@@ -20,7 +20,7 @@ peeked g c = record {
   sup = c.peek.ensures.sup;
   stuck = c.peek.ensures.stuck;
   stands = c.peek.ensures.stands;
-  deletable = c.peek.ensures.deletes;
+  reach = λ tells. record { deletes = c.peek.ensures.deletes tells; sees = c.peek.ensures.sees tells };
 }
 
 copied : (g : given.Over) (c : goal.After-copy g) → GoesOn g.D.Disk.Tells g.D.Disk.files c.peek.new.self c.copy.new.self
@@ -29,7 +29,7 @@ copied g c = record {
   sup = c.copy.ensures.sup;
   stuck = c.copy.ensures.stuck;
   stands = c.copy.ensures.stands;
-  deletable = c.copy.ensures.deletes;
+  reach = λ tells. record { deletes = c.copy.ensures.deletes tells; sees = c.copy.ensures.sees tells };
 }
 
 pub returns-in-Ok-None-clause-examines : goal.returns-in-Ok-None-clause-examines

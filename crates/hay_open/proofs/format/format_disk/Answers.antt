@@ -159,5 +159,5 @@ returns-clause-nothing g c = λ tells void image leaves other s opens.
 pub returns-clause-whole : goal.returns-clause-whole
 returns-clause-whole g c = λ tells file at.
     let short = (g.met.D.Disk g.world.𝓛 g.world.𝓜 g.world.𝓡 ((λ s x. x), (λ x. x), (λ x. x), λ x. x)).fits in
-    fresh_undamaged c.args.sup.now (g.D.Disk.files c.format-3.new.disk) _ file at (λ n. short c.format-3.new.disk n tells)
-    (subst (λ (s : Super). SuperFits s) c.volume_super.ensures.is c.volume_super.ensures.fits) (returns-clause-opened g c tells)
+    fresh_undamaged g.D.Piece.Piece.Tells c.args.sup.now (g.D.Disk.files c.format-3.new.disk) _ file at (λ n. short c.format-3.new.disk n tells)
+    (subst (λ (s : Super). SuperFits s) c.volume_super.ensures.is c.volume_super.ensures.fits) (returns-clause-opened g c tells) c.new.ensures.items

@@ -1,16 +1,18 @@
-use Rattle.std.proofs.Common.{◌≡◌, ◌+◌, ◌++◌, ◌∙◌, List, [], length, arith, map, inl, inr, Err, Some, ap, sym, subst}
-use Rattle.std.specs.List.{slice_get}
+use Rattle.std.proofs.Common.{◌≡◌, ◌≤◌, ◌+◌, ◌++◌, ◌∙◌, List, [], length, arith, map, inl, inr, Err, Some, ap, sym, subst}
+use Rattle.std.specs.List.{slice_get, sum_by}
 use Rattle.std.proofs.lemmas.Result.{err_from_is_err_and}
 use Rattle.hay_disk.specs.Gate.{IsClosed}
 use Rattle.hay_needle.specs.Needle.{needle_magic}
+use Rattle.hay_needle.specs.Sizes.{needle_total}
 use Rattle.hay_needle.specs.declared.needle.CellHead.{CellHead}
 use Rattle.hay_index.specs.declared.index.IndexFile.{IndexFile}
 use Rattle.hay_index.specs.declared.record.Record.{Record}
 use Rattle.hay_volume.specs.Cells.{HasCells, IsDamagedCell}
 use Rattle.hay_open.specs.Damage.{IsRecorded, LastFits, scan_start}
+use Rattle.hay_open.specs.Finds.{drawn_most}
 use Rattle.hay_open.specs.Listing.{head_record}
 use Rattle.hay_open.specs.Stored.{cell_record, volume_file}
-use Rattle.hay_open.proofs.CellRows.{map_heads}
+use Rattle.hay_open.proofs.CellRows.{behind_sum, has_end, map_heads}
 use Rattle.hay_open.proofs.Listings.{orphans_found, scan_whole, stored_behind, stored_fits, stored_recorded, stored_same}
 use Rattle.hay_open.proofs.Misfits.{fits_is_no_misfit, misfit_is, misfit_there}
 use Rattle.hay_open.proofs.Reading.{same_refusal, there}
@@ -125,3 +127,22 @@ returns-clause-listing g c = λ tells.
 
 pub returns-clause-undamaged : goal.returns-clause-undamaged
 returns-clause-undamaged g c = λ tells file at. c.in_ok-head.ensures.undamaged tells file at
+
+pub returns-clause-drawn : goal.returns-clause-drawn
+returns-clause-drawn g c = λ tells.
+    let r = c.in_ok-head.field-0 in
+    let read = c.in_ok-head.ensures.is tells in
+    let drawn = g.D.Disk.drawn in
+    let number = c.volume_file-volume.ensures read.head.most in
+    let front : drawn c.read_recorded.new.disk c.volume_file-volume.result ≤ drawn c.args.disk.now c.volume_file-volume.result + 64 =
+    subst (λ n. drawn c.read_recorded.new.disk n ≤ drawn c.args.disk.now n + 64) (sym number) (c.in_ok-head.ensures.drawn tells) in
+    let scan = c.in_ok-orphans.ensures.cells tells in
+    let noted = c.in_ok-note_orphans.ensures.noted in
+    let none : r.index.pending ≡ [] = ap (λ (i : IndexFile). i.pending) c.in_ok-head.ensures.index in
+    let rows_of : map head_record c.as_slice-3.result.now ≡ map cell_record scan.0 = ap (λ (l : List CellHead). map head_record l) (c.as_slice-3.ensures.value ∙ scan.2) ∙ map_heads scan.0 in
+    let pending : c.note_orphans.new.index.pending ≡ map cell_record scan.0 = ap (λ (i : IndexFile). i.pending) noted ∙ ap (λ (l : List Record). l ++ map head_record c.as_slice-3.result.now) none ∙ rows_of in
+    let end : c.in_ok-orphans.end ≡ c.scan_start.result + sum_by (λ (x : Record). needle_total x.size) (map cell_record scan.0) =
+    sym (has_end c.scan_start.result c.in_ok-orphans.end _ scan.0 scan.1) ∙ behind_sum c.scan_start.result (map cell_record scan.0) in
+    let last = c.in_ok-check_last.ensures.drawn tells in
+    let more = c.in_ok-orphans.ensures.drawn tells in
+    subst (λ (l : List Record). drawn c.scan.new.disk c.volume_file-volume.result ≤ drawn c.args.disk.now c.volume_file-volume.result + drawn_most l) (sym pending) (omega (arith, front, last, more, end))

@@ -3,12 +3,13 @@ use Rattle.hay_needle.specs.declared.needle.CellHead.{CellHead}
 use Rattle.hay_needle.specs.declared.needle.Version.TheVariants.{One}
 use Rattle.hay_volume.specs.Cells.{StandsCell}
 use Rattle.hay_index.specs.Records.{place_behind}
+use Rattle.hay_open.specs.Finds.{StandsAt}
 use Rattle.hay_open.specs.Listing.{ArePlaced, head_record}
-use Rattle.hay_open.proofs.CellRows.{heads_length, map_length}
+use Rattle.hay_open.proofs.CellRows.{heads_length}
 use Rattle.hay_open.proofs.Flagging.{rows_more}
-use Rattle.hay_open.proofs.Listings.{orphan_there, orphan_whole}
+use Rattle.hay_open.proofs.Listings.{orphan_at, orphan_there, orphan_whole}
 use Rattle.hay_open.proofs.PieceLaws.{gives_none, gives_one, gives_more}
-use Rattle.hay_open.proofs.PlaceLaws.{all_placed, place_step}
+use Rattle.hay_open.proofs.PlaceLaws.{all_placed, orphans_all, orphans_more, orphans_none, place_step}
 use Rattle.hay_open.proofs.places.open_orphans.Goals as goal
 
 none : CellHead
@@ -20,7 +21,9 @@ loop-head-init g c =
     record {
       pieces = λ tells. gives_none c.args.listing.now.volume (place_behind 64 c.args.listing.now.rows.items) c.args.listing.now.rows.items (g.D.Disk.files c.args.disk.now);
       placed = λ tells whole lists before. subst (λ n. ArePlaced g.D.Piece.Piece.Tells whole n c.args.cells.now.items) end before;
+      seen = λ tells orphans from end has heads. orphans_none g.D.Piece.Piece.Tells orphans c.args.cells.now.items;
       of = λ tells before. before;
+      drawn = λ tells n. refl;
       faults = omega arith;
       fuses = refl;
     }
@@ -72,7 +75,17 @@ loop-head-preserved g c = record {
       subst (λ n. ArePlaced g.D.Piece.Piece.Tells whole n c.open_orphan.new.cells.items) next
       (place_step g.D.Piece.Piece.Tells whole (listing.recorded + c.loop-head.head-index) cell.cell head.pair c.loop-head.cells.items c.open_orphan.new.cells.items added.0 cell.there (ap (λ (h : CellHead). h.pair) cell.is)
       (c.loop-head.invariant.placed tells whole lists before) added.1
-      (added.2 tells cell.cell (subst (λ l. StandsCell head.at l cell.cell) (sym (c.loop-head.invariant.pieces tells).now) cell.stands) cell.is));
+      (added.3 tells cell.cell (subst (λ l. StandsCell head.at l cell.cell) (sym (c.loop-head.invariant.pieces tells).now) cell.stands) cell.is));
+  seen = λ tells orphans from end has heads.
+      let listing = c.args.listing.now in
+      let file = (g.D.Disk.files c.args.disk.now listing.volume).now in
+      let head = get_or c.as_slice-head-items.result.now c.loop-head.head-index none in
+      let cell = orphan_at from end c.loop-head.head-index file orphans c.as_slice-head-items.result.now listing.orphans.items none has heads c.as_slice-head-items.ensures.value c.loop-head-test.true in
+      let added = c.in_ok-open_orphan.ensures.added in
+      orphans_more g.D.Piece.Piece.Tells orphans c.loop-head.head-index cell.cell head.pair added.0 c.args.cells.now.items c.loop-head.cells.items c.open_orphan.new.cells.items cell.there (ap (λ (h : CellHead). h.pair) cell.is)
+      (subst (λ n. StandsAt n added.0) (ap (λ (h : CellHead). h.at) cell.is) added.2)
+      (added.3 tells cell.cell (subst (λ l. StandsCell head.at l cell.cell) (sym (c.loop-head.invariant.pieces tells).now) cell.stands) cell.is)
+      (c.loop-head.invariant.seen tells orphans from end has heads) added.1;
   of = λ tells before.
       let listing = c.args.listing.now in
       let given = c.requires.orphans tells in
@@ -80,6 +93,7 @@ loop-head-preserved g c = record {
       let head = get_or c.as_slice-head-items.result.now c.loop-head.head-index none in
       let one = orphan_there given.0 (place_behind 64 listing.rows.items) listing.recorded c.loop-head.head-index file given.1 listing.rows.items c.as_slice-head-items.result.now listing.orphans.items none given.2 given.3 given.4 c.as_slice-head-items.ensures.value c.loop-head-test.true in
       rows_more listing.rows.items (listing.recorded + c.loop-head.head-index) (head_record head) c.loop-head.cells.items c.open_orphan.new.cells.items one.row (c.loop-head.invariant.of tells before) c.in_ok-open_orphan.ensures.at;
+  drawn = λ tells n. c.open_orphan.ensures.drawn tells n ∙ c.loop-head.invariant.drawn tells n;
   faults = omega (arith, c.open_orphan.ensures.counted.later, c.loop-head.invariant.faults);
   fuses = c.open_orphan.ensures.fuses ∙ c.loop-head.invariant.fuses;
 }
@@ -89,4 +103,9 @@ returns-clause-places g c = λ tells whole lists before.
     let listing = c.args.listing.now in
     let many : length whole ≤ listing.recorded + c.loop-head.head-index =
     omega (arith, c.loop-head-test.false, ap (λ (l : List CellHead). length l) (c.as_slice-head-items.ensures.value ∙ lists.heads), heads_length (drop listing.recorded whole), length-drop listing.recorded whole) in
-    all_placed g.D.Piece.Piece.Tells whole (listing.recorded + c.loop-head.head-index) c.loop-head.cells.items (omega (arith, map_length whole)) many (c.loop-head.invariant.placed tells whole lists before)
+    all_placed g.D.Piece.Piece.Tells whole (listing.recorded + c.loop-head.head-index) c.loop-head.cells.items many (c.loop-head.invariant.placed tells whole lists before)
+
+pub returns-clause-seen : goal.returns-clause-seen
+returns-clause-seen g c = λ tells orphans from end has heads.
+    let many : length orphans ≤ c.loop-head.head-index = omega (arith, c.loop-head-test.false, ap (λ (l : List CellHead). length l) (c.as_slice-head-items.ensures.value ∙ heads), heads_length orphans) in
+    orphans_all g.D.Piece.Piece.Tells orphans c.loop-head.head-index c.args.cells.now.items c.loop-head.cells.items many (c.loop-head.invariant.seen tells orphans from end has heads)

@@ -1,4 +1,4 @@
-use Rattle.std.proofs.Common.{◌≡◌, ◌∙◌, ℕ, List, length, drop, inl, inr, Err, ap, arith, sym, subst, length-drop}
+use Rattle.std.proofs.Common.{◌≡◌, ◌≤◌, ◌+◌, ◌∙◌, ℕ, List, length, map, take, drop, inl, inr, Err, ap, arith, sym, subst, length-drop}
 use Rattle.std.proofs.lemmas.Result.{err_from_is_err_and}
 use Rattle.hay_disk.specs.Disk.{Files}
 use Rattle.hay_disk.specs.Gate.{IsGate}
@@ -6,15 +6,18 @@ use Rattle.hay_needle.specs.Needle.{needle_magic}
 use Rattle.hay_needle.specs.declared.needle.CellHead.{CellHead}
 use Rattle.hay_volume.specs.declared.volume.VolumeFile.{VolumeFile}
 use Rattle.hay_index.specs.Records.{place_behind}
+use Rattle.hay_index.specs.declared.record.Record.{Record}
+use Rattle.hay_volume.specs.Cells.{HasCells}
+use Rattle.std.proofs.Math.Seq.{take-append_seam}
 use Rattle.std.specs.List.{AllByRecursion}
 use Rattle.hay_open.specs.Damage.{HasOrphans}
-use Rattle.hay_open.specs.Finds.{MayFlagPlace}
+use Rattle.hay_open.specs.Finds.{AreCellsOf, MayFlagPlace, drawn_most}
 use Rattle.hay_open.specs.Listing.{GivesPieces, HoldsRows, ListsCells}
-use Rattle.hay_open.specs.Stored.{HeadRests, volume_file, index_file}
-use Rattle.hay_open.proofs.Opening.{listing_holds, rows_end, lists_cells, lists_stored, lasts_fit, misfit_among, no_misfit, ready_head, ready_index, ready_volume, rests_index, rests_volume}
+use Rattle.hay_open.specs.Stored.{HeadRests, cell_record, volume_file, index_file}
+use Rattle.hay_open.proofs.Opening.{listing_holds, rows_end, lists_cells, lists_stored, ready_head, ready_index, ready_volume, rests_index, rests_volume}
 use Rattle.hay_open.proofs.Flagging.{flag_each}
 use Rattle.hay_open.proofs.PieceLaws.{all_free}
-use Rattle.hay_open.proofs.Reading.{same_refusal}
+use Rattle.hay_open.proofs.Reading.{same_refusal, there}
 use Rattle.hay_open.proofs.CellRows.{heads_length}
 use Rattle.hay_open.proofs.read.read_disk.Goals as goal
 
@@ -23,7 +26,7 @@ returns-in_err-listing-clause-damaged g c = λ tells file at is.
     let fault = err_from_is_err_and c.from_residual.result c.from_residual.ensures.1 in
     elim (c.in_err-listing.ensures.damaged tells file at (ap (λ x. Err x) (same_refusal c.from_residual.result fault.0 c.in_err-listing.field-0.0 file at fault.1 fault.2 is))) [
       | inl front ↦ inl front
-      | inr rest ↦ inr (rest.0, rest.1, rest.2, rest.3, inl rest.4)
+      | inr rest ↦ inr rest
     ]
 
 pub returns-in_err-listing-clause-only : goal.returns-in_err-listing-clause-only
@@ -38,32 +41,13 @@ open_cells-requires-clause-holds g c κs within = λ tells.
 
 pub returns-in_err-cells-clause-damaged : goal.returns-in_err-cells-clause-damaged
 returns-in_err-cells-clause-damaged g c = λ tells file at is.
-    let listing = c.in_ok-listing.listing in
-    let f = g.D.Disk.files in
-    let made = c.in_ok-listing.ensures.listing tells in
     let fault = err_from_is_err_and c.from_residual-in_err-cells.result c.from_residual-in_err-cells.ensures.1 in
-    let found = c.in_err-cells.ensures.damaged tells file at (ap (λ x. Err x) (same_refusal c.from_residual-in_err-cells.result fault.0 c.in_err-cells.field-0.0 file at fault.1 fault.2 is)) in
-    inr (
-      listing.head.generation,
-      made.records,
-      listing.index.end,
-      made.is,
-      inr (
-        made.orphans,
-        listing.end,
-        made.behind,
-        misfit_among c.args.sup.now (f c.args.disk.now) (f c.read_listing.new.disk) listing file at found.0 found.1 made (c.read_listing.ensures.same tells) found.2 found.3 found.4 found.5 found.6,
-      ),
-    )
+    absurd (c.in_err-cells.ensures.undamaged tells file at (ap (λ x. Err x) (same_refusal c.from_residual-in_err-cells.result fault.0 c.in_err-cells.field-0.0 file at fault.1 fault.2 is)))
 
 pub returns-in_err-cells-clause-only : goal.returns-in_err-cells-clause-only
 returns-in_err-cells-clause-only g c = λ tells s stored file at is.
-    let listing = c.in_ok-listing.listing in
-    let f = g.D.Disk.files in
-    let fits = (g.met.D.Disk g.world.𝓛 g.world.𝓜 g.world.𝓡 ((λ s x. x), (λ x. x), (λ x. x), λ x. x)).fits in
     let fault = err_from_is_err_and c.from_residual-in_err-cells.result c.from_residual-in_err-cells.ensures.1 in
-    let found = c.in_err-cells.ensures.damaged tells file at (ap (λ x. Err x) (same_refusal c.from_residual-in_err-cells.result fault.0 c.in_err-cells.field-0.0 file at fault.1 fault.2 is)) in
-    no_misfit c.args.sup.now (f c.args.disk.now) (f c.read_listing.new.disk) listing s file at found.0 found.1 (λ n. fits c.args.disk.now n tells) (c.in_ok-listing.ensures.listing tells) stored (c.read_listing.ensures.same tells) found.2 found.3 found.4
+    c.in_err-cells.ensures.undamaged tells file at (ap (λ x. Err x) (same_refusal c.from_residual-in_err-cells.result fault.0 c.in_err-cells.field-0.0 file at fault.1 fault.2 is))
 
 pub returns-clause-places : goal.returns-clause-places
 returns-clause-places g c = λ tells s stored.
@@ -130,11 +114,16 @@ returns-clause-whole g c = λ tells.
       orphans = made.orphans;
       recorded = made.is;
       behind = subst (λ (v : VolumeFile). HasOrphans volume made.records made.orphans v.end) (sym c.adopt.ensures) made.behind;
-      last = lasts_fit c.args.sup.now (f c.args.disk.now) (f c.read_listing.new.disk) listing made (c.read_listing.ensures.same tells) (c.in_ok-cells.ensures.fits tells);
       capacity = ap (λ (v : VolumeFile). v.capacity) c.adopt.ensures;
       noted = made.noted;
       record_count = made.recorded;
       orphan_count = omega (arith, c.len.ensures, listing.orphans.ok.0, ap (λ (l : List CellHead). length l) made.heads, heads_length made.orphans);
+      cells =
+          let contents : ℕ → List ℕ = λ n. (f c.args.disk.now n).now in
+          let first : take listing.recorded listing.rows.items ≡ made.records =
+          ap (λ n. take n listing.rows.items) made.recorded ∙ ap (λ (l : List Record). take (length made.records) l) made.rows ∙ take-append_seam made.records (map cell_record made.orphans) in
+          let has = there (λ l. HasCells (place_behind 64 made.records) l made.orphans listing.end) (f c.read_listing.new.disk) (f c.args.disk.now) (volume_file listing.head.generation) listing.volume (sym (c.read_listing.ensures.same tells)) (sym made.volume_number) made.behind.has in
+          subst (λ (l : List Record). AreCellsOf g.D.Piece.Piece.Tells l made.orphans c.in_ok-cells.cells.items) first (c.in_ok-cells.ensures.seen tells made.orphans (place_behind 64 made.records) listing.end has made.heads);
     }
 
 pub returns-clause-flags : goal.returns-clause-flags
@@ -148,3 +137,10 @@ returns-clause-flags g c = λ tells.
     let flags = gives.flags (all_free listing.rows.items (f c.args.disk.now listing.volume) (c.requires.free tells listing.volume)) in
     subst (λ (v : VolumeFile). AllByRecursion (λ cell. MayFlagPlace (f c.open_cells.new.disk v.file) v.end cell.place) c.in_ok-cells.cells.items) (sym c.adopt.ensures)
     (flag_each listing.rows.items (f c.open_cells.new.disk listing.volume) listing.end c.in_ok-cells.cells.items holds.row (omega (arith, rows_end c.args.sup.now contents listing made)) flags (c.in_ok-cells.ensures.rows tells))
+
+pub returns-clause-drawn : goal.returns-clause-drawn
+returns-clause-drawn g c = λ tells.
+    let listing = c.in_ok-listing.listing in
+    let read = c.in_ok-listing.ensures.drawn tells in
+    subst (λ (v : VolumeFile). g.D.Disk.drawn c.open_cells.new.disk v.file ≤ g.D.Disk.drawn c.args.disk.now v.file + drawn_most listing.index.pending) (sym c.adopt.ensures)
+    (omega (arith, read, c.open_cells.ensures.drawn tells listing.volume))

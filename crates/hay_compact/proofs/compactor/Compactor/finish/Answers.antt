@@ -62,7 +62,7 @@ returns-clause-finished g c = λ tells sup fresh making.
     h c.self.invariant.thawed
     (c.adopt.ensures ∙ ap (λ k. let v : VolumeFile = record { file = k; end = c.end.result; capacity = s.capacity } in v) file ∙ ap (λ k. let v : VolumeFile = record { file = s.volume.file; end = k; capacity = s.capacity } in v) c.end.ensures)
     c.in_ok-flush_loose.ensures.moved (c.in_ok-flush_loose.ensures.added tells) (c.flush_loose.ensures.changes tells).free
-    (c.sync.ensures.keeps tells) (c.in_ok-sync.ensures.solid tells) last rests (c.in_ok-places.ensures.places tells sup (stored_of s fresh) can noted))
+    (c.sync.ensures.keeps tells) (c.in_ok-sync.ensures.solid tells) last rests (c.in_ok-places.ensures.places tells sup (stored_of s fresh) can noted) (c.in_ok-places.ensures.seen tells sup (stored_of s fresh) can noted))
 
 pub returns-clause-anew : goal.returns-clause-anew
 returns-clause-anew g c = λ tells superblock cells end is.

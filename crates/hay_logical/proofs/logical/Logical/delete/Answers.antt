@@ -1,239 +1,46 @@
-use Rattle.std.proofs.Common.{◌≡◌, ◌≤◌, ◌<◌, ◌+◌, ℕ, length, Some, refl, sym, ap, subst, ◌∙◌, arith, rules}
-use Rattle.std.specs.Vec.{with_items}
-use Rattle.std.proofs.lemmas.List.{with_items_is}
-use Rattle.hay_map.specs.Places.{place_in}
-use Rattle.hay_physical.specs.Copies.{Copy, IsUp, is_frozen}
-use Rattle.hay_physical.specs.Copies as copies
-use Rattle.hay_physical.specs.Replicas as physical
-use Rattle.hay_logical.specs.declared.fault.LogicalFault.TheVariants as fault
-use Rattle.hay_logical.specs.declared.unsure.Change.TheVariants as change
-use Rattle.hay_logical.specs.Answers.{DeleteRefused, HasFailed, IsDeleted}
-use Rattle.hay_logical.specs.Fits.{At}
+use Rattle.std.proofs.Common.{◌≡◌, None, Err, refl, sym, ap, subst, ◌∙◌}
+use Rattle.std.specs.Prelude.{IfErr}
+use Rattle.std.proofs.lemmas.Result.{err_from_is_err_and}
+use Rattle.hay_legal.specs.declared.known.VolumeKnown.{VolumeKnown}
+use Rattle.hay_physical.proofs.Views.{if_err_so, if_ok_so}
+use Rattle.hay_logical.specs.declared.fault.LogicalFault.{LogicalFault}
+use Rattle.hay_logical.specs.Answers.{DeleteRefused}
 use Rattle.hay_logical.specs.Stands.{Stands, StandsFor}
-use Rattle.hay_logical.specs.Steps.{DeleteLeaves, DeletesAt}
-use Rattle.hay_logical.specs.Volumes.{CanDelete, IsShaped, KeepsCounts}
-use Rattle.hay_logical.proofs.Calls.{open_up, up_open, up_thawed}
-use Rattle.hay_logical.proofs.Lists.{at_below, at_there}
-use Rattle.hay_logical.proofs.Methods.{same_by, same_still, shaped_on}
-use Rattle.hay_logical.proofs.Standing.{volume_with}
-use Rattle.hay_logical.proofs.Changing.{delete_failed, delete_refused, delete_remains, deleted, deleted_same, not_held, not_some, some_none}
-use Rattle.hay_logical.proofs.Deletable.{delete_row, same_rows}
+use Rattle.hay_logical.proofs.Changing.{not_some}
+use Rattle.hay_logical.proofs.Through.{counts_through, delete_later, deleted_later, look_refused, same_through}
 use Rattle.hay_logical.proofs.logical.Logical.delete.Goals as goal
 
 pub returns-in-Some-clause-refused : goal.returns-in-Some-clause-refused
 unfolding Stands
-returns-in-Some-clause-refused g c = λ tells k stands. (stands.frozen ∙ ap (λ v. v.frozen) (sym c.self.view_is) ∙ c.in-Some.is, refl)
+returns-in-Some-clause-refused g c = λ tells k stands. (stands.frozen ∙ ap (λ v. v.frozen) (sym c.self.view_is) ∙ c.in-Some.is, stands)
 
-pub returns-then-not-has_live-clause-refused : goal.returns-then-not-has_live-clause-refused
+pub returns-in_err-see_each-clause-refused : goal.returns-in_err-see_each-clause-refused
 unfolding Stands
-returns-then-not-has_live-clause-refused g c = λ tells k stands.
-    let given = subst (λ v. StandsFor g.D.Disk.files g.D.Piece.Piece.Tells v k) (sym c.self.view_is) stands in (
-      given.frozen ∙ not_some c.self.inside.frozen c.in_default.not-Some,
-      not_held c.self.inside.settings c.self.inside.number g.D.Disk.Tells g.D.Disk.files g.D.Piece.Piece.Tells g.D.Disk.fault_count g.D.Disk.fuse_count c.self.inside.replicas.items c.self.inside.rows c.self.inside.front c.self.inside.frozen c.self.inside.unsure k c.args.pair c.row-row.result given
-          c.row-row.ensures.row (c.row-row.ensures.long ∙ (c.self.invariant.0).width) (c.has_live.ensures.none c.if-not-has_live.true),
-      given.front,
-      refl,
-    )
+returns-in_err-see_each-clause-refused g c = λ tells k stands.
+    let fault = err_from_is_err_and c.from_residual.result c.from_residual.ensures.1 in
+    let thawed : k.frozen ≡ None = stands.frozen ∙ ap (λ v. v.frozen) (sym c.self.view_is) ∙ not_some c.self.inside.frozen c.in_default.not-Some in
+    subst (λ r. IfErr r (DeleteRefused g.D.Disk.files g.D.Piece.Piece.Tells k c.args.tag c.args.pair c.see_each.new.self)) (sym fault.1)
+    (subst (λ (f : LogicalFault). DeleteRefused g.D.Disk.files g.D.Piece.Piece.Tells k c.args.tag c.args.pair c.see_each.new.self f) (sym fault.2)
+    (look_refused g.D.Disk.files g.D.Piece.Piece.Tells g.D.Disk.fault_count g.D.Disk.fuse_count k c.args.tag c.args.pair c.args.self.now.settings c.args.self.now.number c.args.self.now.replicas c.see_each.new.self.replicas c.see_each.new.self c.in_err-see_each.field-0.0
+    c.in_err-see_each.ensures.causes thawed (c.see_each.ensures.stands tells k stands) (λ m at e. c.see_each.ensures.undamaged tells k stands m at (c.in_err-see_each.was ∙ ap (λ (f : LogicalFault). Err f) e))))
 
-pub returns-in_default-checked_add-clause-refused : goal.returns-in_default-checked_add-clause-refused
-unfolding Stands
-returns-in_default-checked_add-clause-refused g c = λ tells k stands. (stands.frozen ∙ ap (λ v. v.frozen) (sym c.self.view_is) ∙ not_some c.self.inside.frozen c.in_default.not-Some, refl)
-
-pub delete_each-requires-after_bounds : goal.delete_each-requires-after_bounds
-delete_each-requires-after_bounds g c = λ κs lives.
-    let now = c.as_mut_slice.ensures.value in
-    let thawed = not_some c.self.inside.frozen c.in_default.not-Some in
-    let up : (j : ℕ) (r : Copy g.row.D.Denot) → At c.self.inside.replicas.items j r → IsUp r =
-    λ j r e. open_up r (c.requires.«open».each j r (subst (λ v. At v.replicas j r) c.self.view_is e)) ((c.self.invariant.0).thawed thawed j r e) in
-    let all : length c.self.inside.replicas.items ≡ c.self.inside.settings.replicas = ap (λ v. length v.replicas) c.self.view_is ∙ c.requires.«open».all ∙ ap (λ v. v.settings.replicas) (sym c.self.view_is) in
-    let most = (c.self.invariant.0).settings.most in
-    let few = (c.self.invariant.0).count in
-    let long = ap length now in (
-      search rules,
-      (
-        (let n : length c.as_mut_slice.result.now ≤ 4 = omega (arith, most, few, long) in n),
-        (
-          c.row-row.ensures.long ∙ (c.self.invariant.0).width ∙ sym all ∙ sym long,
-          (
-            λ j r e. up j r (subst (λ xs. At xs j r) now e),
-            λ tells j r e needle is.
-                let there = subst (λ xs. At xs j r) now e in
-                subst (physical.MayDeletePlace g.D.Disk.files r) (ap (λ l. place_in l j) (sym c.row-row.ensures.row) ∙ is) (c.self.invariant.2 tells j r there (up j r there) c.args.pair),
-          ),
-        ),
-      ),
-    )
-
-pub invariant_of-self : goal.invariant_of-self
-invariant_of-self g c =
-    let now = c.as_mut_slice.ensures.value in
-    let kept = with_items_is c.self.inside.replicas c.delete_each.new.replicas (c.delete_each.auto.replicas ∙ c.as_mut_slice.ensures.len) in
-    let thawed = not_some c.self.inside.frozen c.in_default.not-Some in
-    let up : (j : ℕ) (r : Copy g.row.D.Denot) → At c.self.inside.replicas.items j r → IsUp r =
-    λ j r e. open_up r (c.requires.«open».each j r (subst (λ v. At v.replicas j r) c.self.view_is e)) ((c.self.invariant.0).thawed thawed j r e) in
-    let each : (j : ℕ) (r r' : Copy g.row.D.Denot) → At c.self.inside.replicas.items j r → At c.delete_each.new.replicas j r' → DeletesAt g.D.Disk.Tells g.D.Disk.files (place_in c.row-row.result j) r r' =
-    λ j r r' e f. c.in-Ok.ensures.deleted j r r' (subst (λ xs. At xs j r) (sym now) e) f in
-    let step : (j : ℕ) (r r' : Copy g.row.D.Denot) → At c.self.inside.replicas.items j r → At c.delete_each.new.replicas j r' → IsUp r' × (r'.sup ≡ r.sup) × (copies.is_stuck r' ≡ copies.is_stuck r) =
-    λ j r r' e f. deleted_same g.D.Disk.Tells g.D.Disk.files (place_in c.row-row.result j) r r' (each j r r' e f) (up j r e) in (
-      subst (λ rs. IsShaped (volume_with c.self.inside.settings c.self.inside.number rs c.del.new.self c.in-Some-checked_add.position c.self.inside.frozen c.self.inside.unsure)) (sym kept)
-          (shaped_on c.self.inside.settings c.self.inside.number c.self.inside.replicas.items c.delete_each.new.replicas c.self.inside.rows c.del.new.self c.self.inside.front c.in-Some-checked_add.position c.self.inside.frozen c.self.inside.frozen c.self.inside.unsure c.self.inside.unsure
-          c.self.invariant.0 (c.delete_each.ensures.counts.count ∙ ap length now) (λ j r r' e f. (step j r r' e f).1) c.del.ensures.replicas (λ none j r r' e f. up_thawed r' (step j r r' e f).0)),
-      c.self.invariant.1,
-      subst (λ rs. CanDelete g.D.Disk.Tells g.D.Disk.files rs c.del.new.self) (sym kept)
-          (delete_row g.D.Disk.Tells g.D.Disk.files c.self.inside.replicas.items c.delete_each.new.replicas c.self.inside.rows c.del.new.self c.self.invariant.2 (c.delete_each.ensures.counts.count ∙ ap length now)
-          (λ j r r' e f u. up j r e) (λ j r r' e f. c.delete_each.ensures.deletable j r r' (subst (λ xs. At xs j r) (sym now) e) f) c.args.pair c.del.ensures.rows),
-    )
-
-pub returns-in-Ok-clause-deleted : goal.returns-in-Ok-clause-deleted
-unfolding Stands
-returns-in-Ok-clause-deleted g c = λ tells k stands.
-    let now = c.as_mut_slice.ensures.value in
-    let kept = with_items_is c.self.inside.replicas c.delete_each.new.replicas (c.delete_each.auto.replicas ∙ c.as_mut_slice.ensures.len) in
-    let thawed = not_some c.self.inside.frozen c.in_default.not-Some in
-    let up : (j : ℕ) (r : Copy g.row.D.Denot) → At c.self.inside.replicas.items j r → IsUp r =
-    λ j r e. open_up r (c.requires.«open».each j r (subst (λ v. At v.replicas j r) c.self.view_is e)) ((c.self.invariant.0).thawed thawed j r e) in
-    let each : (j : ℕ) (r r' : Copy g.row.D.Denot) → At c.self.inside.replicas.items j r → At c.delete_each.new.replicas j r' → DeletesAt g.D.Disk.Tells g.D.Disk.files (place_in c.row-row.result j) r r' =
-    λ j r r' e f. c.in-Ok.ensures.deleted j r r' (subst (λ xs. At xs j r) (sym now) e) f in
-    let next : c.in-Some-checked_add.position ≡ c.self.inside.front + 1 = (let h = c.in-Some-checked_add.ensures in omega (arith, h)) in
-    subst (λ v. IsDeleted g.D.Disk.files g.D.Disk.fault_count g.D.Piece.Piece.Tells k c.args.tag c.args.pair c.in-Some-checked_add.position v (volume_with c.self.inside.settings c.self.inside.number ((with_items c.self.inside.replicas c.delete_each.new.replicas).items) c.del.new.self c.in-Some-checked_add.position c.self.inside.frozen c.self.inside.unsure)) c.self.view_is
-    (subst (λ rs. IsDeleted g.D.Disk.files g.D.Disk.fault_count g.D.Piece.Piece.Tells k c.args.tag c.args.pair c.in-Some-checked_add.position (volume_with c.self.inside.settings c.self.inside.number c.self.inside.replicas.items c.self.inside.rows c.self.inside.front c.self.inside.frozen c.self.inside.unsure) (volume_with c.self.inside.settings c.self.inside.number rs c.del.new.self c.in-Some-checked_add.position c.self.inside.frozen c.self.inside.unsure)) (sym kept)
-    (deleted c.self.inside.settings c.self.inside.number g.D.Disk.Tells g.D.Disk.files g.D.Piece.Piece.Tells g.D.Disk.fault_count g.D.Disk.fuse_count tells c.self.inside.replicas.items c.delete_each.new.replicas c.self.inside.rows c.del.new.self c.self.inside.front c.in-Some-checked_add.position c.self.inside.frozen c.self.inside.unsure k c.args.tag c.args.pair c.row-row.result
-    (subst (λ v. StandsFor g.D.Disk.files g.D.Piece.Piece.Tells v k) (sym c.self.view_is) stands) thawed (c.delete_each.ensures.counts.count ∙ ap length now) next
-    c.row-row.ensures.row (c.row-row.ensures.long ∙ (c.self.invariant.0).width) (c.has_live.ensures.some c.if-not-has_live.false) c.del.ensures.rows up each
-    (λ j r r' e f. c.in-Ok.ensures.follow j r r' (subst (λ xs. At xs j r) (sym now) e) f)))
-
-pub returns-in-Ok-clause-open : goal.returns-in-Ok-clause-open
-returns-in-Ok-clause-open g c =
-    let now = c.as_mut_slice.ensures.value in
-    let kept = with_items_is c.self.inside.replicas c.delete_each.new.replicas (c.delete_each.auto.replicas ∙ c.as_mut_slice.ensures.len) in
-    let thawed = not_some c.self.inside.frozen c.in_default.not-Some in
-    let up : (j : ℕ) (r : Copy g.row.D.Denot) → At c.self.inside.replicas.items j r → IsUp r =
-    λ j r e. open_up r (c.requires.«open».each j r (subst (λ v. At v.replicas j r) c.self.view_is e)) ((c.self.invariant.0).thawed thawed j r e) in
-    let all : length c.self.inside.replicas.items ≡ c.self.inside.settings.replicas = ap (λ v. length v.replicas) c.self.view_is ∙ c.requires.«open».all ∙ ap (λ v. v.settings.replicas) (sym c.self.view_is) in
-    let each : (j : ℕ) (r r' : Copy g.row.D.Denot) → At c.self.inside.replicas.items j r → At c.delete_each.new.replicas j r' → DeletesAt g.D.Disk.Tells g.D.Disk.files (place_in c.row-row.result j) r r' =
-    λ j r r' e f. c.in-Ok.ensures.deleted j r r' (subst (λ xs. At xs j r) (sym now) e) f in
-    record {
-      all = ap length kept ∙ (c.delete_each.ensures.counts.count ∙ ap length now) ∙ ap (λ v. length v.replicas) c.self.view_is ∙ c.requires.«open».all ∙ ap (λ v. v.settings.replicas) (sym c.self.view_is);
-      each = λ j r' f.
-          let there = subst (λ xs. At xs j r') kept f in
-          let old = at_there c.self.inside.replicas.items j (subst (λ n. j < n) (c.delete_each.ensures.counts.count ∙ ap length now) (at_below c.delete_each.new.replicas j r' there)) in
-          up_open r' (deleted_same g.D.Disk.Tells g.D.Disk.files (place_in c.row-row.result j) old.0 r' (each j old.0 r' old.1 there) (up j old.0 old.1)).0;
-    }
-
-pub returns-in-Ok-clause-counts : goal.returns-in-Ok-clause-counts
-returns-in-Ok-clause-counts g c =
-    let now = c.as_mut_slice.ensures.value in
-    let kept = with_items_is c.self.inside.replicas c.delete_each.new.replicas (c.delete_each.auto.replicas ∙ c.as_mut_slice.ensures.len) in
-    subst (λ rs. KeepsCounts g.D.Disk.fault_count g.D.Disk.fuse_count c.args.self.now.replicas rs) (sym kept)
-    (subst (λ xs. KeepsCounts g.D.Disk.fault_count g.D.Disk.fuse_count xs c.delete_each.new.replicas) (now ∙ ap (λ v. v.replicas) c.self.view_is) c.delete_each.ensures.counts)
-
-pub machine_of-machine-requires-clause-within : goal.machine_of-machine-requires-clause-within
-machine_of-machine-requires-clause-within g c =
-    let below = at_below c.as_mut_slice.result.now c.in-Err.failed.at c.in-Err.ensures.broken.before c.in-Err.ensures.broken.was in
-    let most = (c.self.invariant.0).settings.most in
-    let few = (c.self.invariant.0).count in
-    let long = ap length c.as_mut_slice.ensures.value in
-    omega (arith, below, most, few, long)
-
-pub invariant_of-self-in-Err : goal.invariant_of-self-in-Err
-invariant_of-self-in-Err g c =
-    let now = c.as_mut_slice.ensures.value in
-    let kept = with_items_is c.self.inside.replicas c.delete_each.new.replicas (c.delete_each.auto.replicas ∙ c.as_mut_slice.ensures.len) in
-    let thawed = not_some c.self.inside.frozen c.in_default.not-Some in
-    let up : (j : ℕ) (r : Copy g.row.D.Denot) → At c.self.inside.replicas.items j r → IsUp r =
-    λ j r e. open_up r (c.requires.«open».each j r (subst (λ v. At v.replicas j r) c.self.view_is e)) ((c.self.invariant.0).thawed thawed j r e) in
-    let left : DeleteLeaves g.D.Disk.Tells g.D.Disk.files g.D.Disk.fault_count c.row-row.result c.self.inside.replicas.items c.delete_each.new.replicas c.in-Err.failed =
-    subst (λ xs. DeleteLeaves g.D.Disk.Tells g.D.Disk.files g.D.Disk.fault_count c.row-row.result xs c.delete_each.new.replicas c.in-Err.failed) now c.in-Err.ensures.broken in
-    let remains = delete_remains g.D.Disk.Tells g.D.Disk.files g.D.Disk.fault_count c.self.inside.replicas.items c.delete_each.new.replicas c.row-row.result c.in-Err.failed left up in (
-      subst (λ rs. IsShaped (volume_with c.self.inside.settings c.self.inside.number rs c.self.inside.rows c.self.inside.front (Some c.machine_of-machine.result) (Some (record { tag = c.args.tag; change = change.Delete c.args.pair })))) (sym kept)
-          (shaped_on c.self.inside.settings c.self.inside.number c.self.inside.replicas.items c.delete_each.new.replicas c.self.inside.rows c.self.inside.rows c.self.inside.front c.self.inside.front c.self.inside.frozen (Some c.machine_of-machine.result) c.self.inside.unsure (Some (record { tag = c.args.tag; change = change.Delete c.args.pair }))
-          c.self.invariant.0 (c.delete_each.ensures.counts.count ∙ ap length now) (λ j r r' e f. (remains j r r' e f).sup) refl (λ none j r r' e f. some_none none)),
-      c.self.invariant.1,
-      subst (λ rs. CanDelete g.D.Disk.Tells g.D.Disk.files rs c.self.inside.rows) (sym kept)
-          (same_rows g.D.Disk.Tells g.D.Disk.files c.self.inside.replicas.items c.delete_each.new.replicas c.self.inside.rows c.self.inside.rows c.self.invariant.2 (c.delete_each.ensures.counts.count ∙ ap length now)
-          (λ j r r' e f u. up j r e) (λ j r r' e f. c.delete_each.ensures.deletable j r r' (subst (λ xs. At xs j r) (sym now) e) f) (λ pair. refl)),
-    )
+pub returns-clause-deleted : goal.returns-clause-deleted
+returns-clause-deleted g c = λ tells k stands.
+    if_ok_so c.delete_seen.result _ _
+    (λ p is. deleted_later g.D.Disk.files g.D.Piece.Piece.Tells g.D.Disk.fault_count g.D.Disk.fuse_count c.args.self.now c.see_each.new.self c.delete_seen.new.self c.see_each.ensures.counts c.see_each.ensures.same k c.args.tag c.args.pair p is)
+    (c.delete_seen.ensures.deleted tells k (c.see_each.ensures.stands tells k stands))
 
 pub returns-clause-refused : goal.returns-clause-refused
-unfolding Stands
-returns-clause-refused g c = λ tells k stands.
-    let now = c.as_mut_slice.ensures.value in
-    let kept = with_items_is c.self.inside.replicas c.delete_each.new.replicas (c.delete_each.auto.replicas ∙ c.as_mut_slice.ensures.len) in
-    let thawed = not_some c.self.inside.frozen c.in_default.not-Some in
-    let up : (j : ℕ) (r : Copy g.row.D.Denot) → At c.self.inside.replicas.items j r → IsUp r =
-    λ j r e. open_up r (c.requires.«open».each j r (subst (λ v. At v.replicas j r) c.self.view_is e)) ((c.self.invariant.0).thawed thawed j r e) in
-    let left : DeleteLeaves g.D.Disk.Tells g.D.Disk.files g.D.Disk.fault_count c.row-row.result c.self.inside.replicas.items c.delete_each.new.replicas c.in-Err.failed =
-    subst (λ xs. DeleteLeaves g.D.Disk.Tells g.D.Disk.files g.D.Disk.fault_count c.row-row.result xs c.delete_each.new.replicas c.in-Err.failed) now c.in-Err.ensures.broken in
-    subst (λ rs. DeleteRefused g.D.Disk.files g.D.Piece.Piece.Tells k c.args.tag c.args.pair (volume_with c.self.inside.settings c.self.inside.number c.self.inside.replicas.items c.self.inside.rows c.self.inside.front c.self.inside.frozen c.self.inside.unsure)
-    (volume_with c.self.inside.settings c.self.inside.number rs c.self.inside.rows c.self.inside.front (Some c.machine_of-machine.result) (Some (record { tag = c.args.tag; change = change.Delete c.args.pair })))
-    (fault.Failed c.machine_of-machine.result c.in-Err.failed.faults)) (sym kept)
-    (delete_refused c.self.inside.settings c.self.inside.number g.D.Disk.Tells g.D.Disk.files g.D.Piece.Piece.Tells g.D.Disk.fault_count g.D.Disk.fuse_count tells c.self.inside.replicas.items c.delete_each.new.replicas c.self.inside.rows c.self.inside.front c.self.inside.frozen c.self.inside.unsure k c.args.tag c.args.pair c.row-row.result c.in-Err.failed
-    c.machine_of-machine.result (subst (λ v. StandsFor g.D.Disk.files g.D.Piece.Piece.Tells v k) (sym c.self.view_is) stands) thawed (c.delete_each.ensures.counts.count ∙ ap length now) c.row-row.ensures.row
-    (c.row-row.ensures.long ∙ (c.self.invariant.0).width) (c.has_live.ensures.some c.if-not-has_live.false) c.machine_of-machine.ensures left c.in-Err.ensures.runs)
+returns-clause-refused g c = λ tells k stands. c.delete_seen.ensures.refused tells k (c.see_each.ensures.stands tells k stands)
 
 pub returns-clause-causes : goal.returns-clause-causes
 returns-clause-causes g c =
-    let now = c.as_mut_slice.ensures.value in
-    let kept = with_items_is c.self.inside.replicas c.delete_each.new.replicas (c.delete_each.auto.replicas ∙ c.as_mut_slice.ensures.len) in
-    let all : length c.self.inside.replicas.items ≡ c.self.inside.settings.replicas = ap (λ v. length v.replicas) c.self.view_is ∙ c.requires.«open».all ∙ ap (λ v. v.settings.replicas) (sym c.self.view_is) in
-    let left : DeleteLeaves g.D.Disk.Tells g.D.Disk.files g.D.Disk.fault_count c.row-row.result c.self.inside.replicas.items c.delete_each.new.replicas c.in-Err.failed =
-    subst (λ xs. DeleteLeaves g.D.Disk.Tells g.D.Disk.files g.D.Disk.fault_count c.row-row.result xs c.delete_each.new.replicas c.in-Err.failed) now c.in-Err.ensures.broken in
-    subst (λ v. HasFailed g.D.Disk.fault_count v.settings v.number v.replicas (with_items c.self.inside.replicas c.delete_each.new.replicas).items c.machine_of-machine.result c.in-Err.failed.faults) c.self.view_is
-    (subst (λ rs. HasFailed g.D.Disk.fault_count c.self.inside.settings c.self.inside.number c.self.inside.replicas.items rs c.machine_of-machine.result c.in-Err.failed.faults) (sym kept)
-    (delete_failed c.self.inside.settings c.self.inside.number g.D.Disk.Tells g.D.Disk.files g.D.Piece.Piece.Tells g.D.Disk.fault_count g.D.Disk.fuse_count c.self.inside.replicas.items c.delete_each.new.replicas c.row-row.result c.in-Err.failed c.machine_of-machine.result all c.machine_of-machine.ensures left))
-
-pub returns-clause-open : goal.returns-clause-open
-returns-clause-open g c =
-    let now = c.as_mut_slice.ensures.value in
-    let kept = with_items_is c.self.inside.replicas c.delete_each.new.replicas (c.delete_each.auto.replicas ∙ c.as_mut_slice.ensures.len) in
-    let thawed = not_some c.self.inside.frozen c.in_default.not-Some in
-    let up : (j : ℕ) (r : Copy g.row.D.Denot) → At c.self.inside.replicas.items j r → IsUp r =
-    λ j r e. open_up r (c.requires.«open».each j r (subst (λ v. At v.replicas j r) c.self.view_is e)) ((c.self.invariant.0).thawed thawed j r e) in
-    let left : DeleteLeaves g.D.Disk.Tells g.D.Disk.files g.D.Disk.fault_count c.row-row.result c.self.inside.replicas.items c.delete_each.new.replicas c.in-Err.failed =
-    subst (λ xs. DeleteLeaves g.D.Disk.Tells g.D.Disk.files g.D.Disk.fault_count c.row-row.result xs c.delete_each.new.replicas c.in-Err.failed) now c.in-Err.ensures.broken in
-    let remains = delete_remains g.D.Disk.Tells g.D.Disk.files g.D.Disk.fault_count c.self.inside.replicas.items c.delete_each.new.replicas c.row-row.result c.in-Err.failed left up in
-    record {
-      all = ap length kept ∙ (c.delete_each.ensures.counts.count ∙ ap length now) ∙ ap (λ v. length v.replicas) c.self.view_is ∙ c.requires.«open».all ∙ ap (λ v. v.settings.replicas) (sym c.self.view_is);
-      each = λ j r' f.
-          let there = subst (λ xs. At xs j r') kept f in
-          let old = at_there c.self.inside.replicas.items j (subst (λ n. j < n) (c.delete_each.ensures.counts.count ∙ ap length now) (at_below c.delete_each.new.replicas j r' there)) in
-          (remains j old.0 r' old.1 there).«open»;
-    }
+    if_err_so c.delete_seen.result _ _
+    (λ f is. delete_later g.D.Disk.files g.D.Piece.Piece.Tells g.D.Disk.fault_count g.D.Disk.fuse_count c.args.self.now c.see_each.new.self c.delete_seen.new.self c.see_each.ensures.counts c.see_each.ensures.same f is)
+    c.delete_seen.ensures.causes
 
 pub returns-clause-counts : goal.returns-clause-counts
-returns-clause-counts g c =
-    let now = c.as_mut_slice.ensures.value in
-    let kept = with_items_is c.self.inside.replicas c.delete_each.new.replicas (c.delete_each.auto.replicas ∙ c.as_mut_slice.ensures.len) in
-    subst (λ rs. KeepsCounts g.D.Disk.fault_count g.D.Disk.fuse_count c.args.self.now.replicas rs) (sym kept)
-    (subst (λ xs. KeepsCounts g.D.Disk.fault_count g.D.Disk.fuse_count xs c.delete_each.new.replicas) (now ∙ ap (λ v. v.replicas) c.self.view_is) c.delete_each.ensures.counts)
-
-pub returns-in-Some-clause-same : goal.returns-in-Some-clause-same
-returns-in-Some-clause-same g c = same_still _
-
-pub returns-then-not-has_live-clause-same : goal.returns-then-not-has_live-clause-same
-returns-then-not-has_live-clause-same g c = same_still _
-
-pub returns-in_default-checked_add-clause-same : goal.returns-in_default-checked_add-clause-same
-returns-in_default-checked_add-clause-same g c = same_still _
-
-pub returns-in-Ok-clause-same : goal.returns-in-Ok-clause-same
-returns-in-Ok-clause-same g c =
-    let now = c.as_mut_slice.ensures.value in
-    let kept = with_items_is c.self.inside.replicas c.delete_each.new.replicas (c.delete_each.auto.replicas ∙ c.as_mut_slice.ensures.len) in
-    let thawed = not_some c.self.inside.frozen c.in_default.not-Some in
-    let up : (j : ℕ) (r : Copy g.row.D.Denot) → At c.self.inside.replicas.items j r → IsUp r =
-    λ j r e. open_up r (c.requires.«open».each j r (subst (λ v. At v.replicas j r) c.self.view_is e)) ((c.self.invariant.0).thawed thawed j r e) in
-    same_by _ _ _ _ c.self.view_is refl refl kept
-    (λ j r r' e f. (deleted_same g.D.Disk.Tells g.D.Disk.files (place_in c.row-row.result j) r r' (c.in-Ok.ensures.deleted j r r' (subst (λ xs. At xs j r) (sym now) e) f) (up j r e)).1)
+returns-clause-counts g c = counts_through g.D.Disk.fault_count g.D.Disk.fuse_count c.args.self.now.replicas c.see_each.new.self.replicas c.delete_seen.new.self.replicas c.see_each.ensures.counts c.delete_seen.ensures.counts
 
 pub returns-clause-same : goal.returns-clause-same
-returns-clause-same g c =
-    let now = c.as_mut_slice.ensures.value in
-    let kept = with_items_is c.self.inside.replicas c.delete_each.new.replicas (c.delete_each.auto.replicas ∙ c.as_mut_slice.ensures.len) in
-    let thawed = not_some c.self.inside.frozen c.in_default.not-Some in
-    let up : (j : ℕ) (r : Copy g.row.D.Denot) → At c.self.inside.replicas.items j r → IsUp r =
-    λ j r e. open_up r (c.requires.«open».each j r (subst (λ v. At v.replicas j r) c.self.view_is e)) ((c.self.invariant.0).thawed thawed j r e) in
-    let left : DeleteLeaves g.D.Disk.Tells g.D.Disk.files g.D.Disk.fault_count c.row-row.result c.self.inside.replicas.items c.delete_each.new.replicas c.in-Err.failed =
-    subst (λ xs. DeleteLeaves g.D.Disk.Tells g.D.Disk.files g.D.Disk.fault_count c.row-row.result xs c.delete_each.new.replicas c.in-Err.failed) now c.in-Err.ensures.broken in
-    same_by _ _ _ _ c.self.view_is refl refl kept
-    (λ j r r' e f. (delete_remains g.D.Disk.Tells g.D.Disk.files g.D.Disk.fault_count c.self.inside.replicas.items c.delete_each.new.replicas c.row-row.result c.in-Err.failed left up j r r' e f).sup)
+returns-clause-same g c = same_through c.args.self.now c.see_each.new.self c.delete_seen.new.self c.see_each.ensures.counts.count c.see_each.ensures.same c.delete_seen.ensures.same

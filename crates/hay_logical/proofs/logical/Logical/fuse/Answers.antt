@@ -3,11 +3,12 @@ use Rattle.std.proofs.lemmas.List.{with_items_is}
 use Rattle.hay_physical.specs.Copies.{Copy, phase_frozen, phase_goal, phase_stuck}
 use Rattle.hay_logical.specs.Fits.{At}
 use Rattle.hay_logical.specs.Stands.{Stands, StandsFor}
-use Rattle.hay_logical.specs.Steps.{KeepsDeletable}
+use Rattle.hay_logical.specs.Steps.{StaysInReach}
+use Rattle.hay_logical.proofs.Calls.{reach_still}
 use Rattle.hay_logical.proofs.Lists.{at_below, at_there}
 use Rattle.hay_logical.proofs.Methods.{Quiet, one_after, other_same, one_count, one_each, quiet, same_by, shaped_on}
-use Rattle.hay_logical.specs.Volumes.{CanDelete, IsShaped}
-use Rattle.hay_logical.proofs.Deletable.{same_rows}
+use Rattle.hay_logical.specs.Volumes.{CanReach, IsShaped}
+use Rattle.hay_logical.proofs.Reaching.{same_rows}
 use Rattle.hay_physical.specs.Copies as copies
 use Rattle.hay_logical.proofs.Standing.{volume_with}
 use Rattle.hay_logical.proofs.logical.Logical.fuse.Goals as goal
@@ -45,12 +46,12 @@ invariant_of-self g c =
           (λ j r r' e f. (each j r r' (subst (λ xs. At xs j r) (sym now) e) f).0) refl
           (λ none j r r' e f. ap phase_frozen (each j r r' (subst (λ xs. At xs j r) (sym now) e) f).1 ∙ (c.self.invariant.0).thawed none j r e)),
       c.self.invariant.1,
-      subst (λ rs. CanDelete g.D.Disk.Tells g.D.Disk.files rs c.self.inside.rows) (sym kept)
+      subst (λ rs. CanReach g.D.Disk.Tells g.D.Disk.files rs c.self.inside.rows) (sym kept)
           (same_rows g.D.Disk.Tells g.D.Disk.files c.self.inside.replicas.items c.fuse_at.new.replicas c.self.inside.rows c.self.inside.rows c.self.invariant.2
           (one_count c.args.replica c.as_mut_slice.result.now c.fuse_at.new.replicas one ∙ ap length now)
           (λ j r r' e f up. subst (copies.HasFrozen false) ((each j r r' (subst (λ xs. At xs j r) (sym now) e) f).1) up)
-          (λ j r r' e f. one_each (KeepsDeletable g.D.Disk.Tells g.D.Disk.files) c.args.replica c.as_mut_slice.result.now c.fuse_at.new.replicas one
-          step.deletable (λ x tells place may. may) j r r' (subst (λ xs. At xs j r) (sym now) e) f)
+          (λ j r r' e f. one_each (StaysInReach g.D.Disk.Tells g.D.Disk.files) c.args.replica c.as_mut_slice.result.now c.fuse_at.new.replicas one
+          step.reach (λ x tells. reach_still g.D.Disk.files x) j r r' (subst (λ xs. At xs j r) (sym now) e) f)
           (λ pair. refl)),
     )
 

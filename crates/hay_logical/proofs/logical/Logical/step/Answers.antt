@@ -8,15 +8,15 @@ use Rattle.hay_logical.specs.Answers as answers
 use Rattle.hay_logical.specs.Fits.{At}
 use Rattle.hay_logical.specs.Refusals.{answer_at}
 use Rattle.hay_logical.specs.Stands.{Stands, StandsFor}
-use Rattle.hay_logical.specs.Steps.{CallsOne, KeepsDeletable, StepsAt}
-use Rattle.hay_logical.specs.Volumes.{CanDelete, IsShaped, KeepsCounts}
-use Rattle.hay_logical.proofs.Calls.{open_up, up_open, up_thawed}
+use Rattle.hay_logical.specs.Steps.{CallsOne, StaysInReach, StepsAt}
+use Rattle.hay_logical.specs.Volumes.{CanReach, IsShaped, KeepsCounts}
+use Rattle.hay_logical.proofs.Calls.{open_up, reach_still, up_open, up_thawed}
 use Rattle.hay_logical.proofs.Lists.{at_below, at_there}
 use Rattle.hay_logical.proofs.Methods.{one_after, one_count, one_each, same_by, same_still, shaped_on}
 use Rattle.hay_logical.proofs.Standing.{volume_with}
 use Rattle.hay_logical.proofs.Changing.{not_some}
 use Rattle.hay_logical.proofs.Stepping.{none_there, stands_there, step_fault, step_refused, stepped_on}
-use Rattle.hay_logical.proofs.Deletable.{same_rows}
+use Rattle.hay_logical.proofs.Reaching.{same_rows}
 use Rattle.hay_logical.proofs.logical.Logical.step.Goals as goal
 use Rattle.hay_logical.proofs.logical.Logical.step.Goals.{in-Ok, in-Err}
 
@@ -76,16 +76,16 @@ invariant_of-self g c =
     λ j r e. open_up r (c.requires.«open».each j r (subst (λ v. At v.replicas j r) c.self.view_is e)) ((c.self.invariant.0).thawed thawed j r e) in
     let step : StepsAt g.D.Disk.Tells g.D.Disk.files g.D.Disk.fault_count g.D.Piece.Piece.Tells c.self.inside.rows c.args.replica c.args.cells one.before one.after c.step_at.result =
     c.step_at.ensures.steps one.before one.after (subst (λ xs. At xs c.args.replica one.before) (sym now) one.was) (one_after c.args.replica c.self.inside.replicas.items c.step_at.new.replicas one) in
-    let each : (j : ℕ) (r r' : Copy g.row.D.Denot) → At c.self.inside.replicas.items j r → At c.step_at.new.replicas j r' → (IsUp r → IsUp r') × (r'.sup ≡ r.sup) × KeepsDeletable g.D.Disk.Tells g.D.Disk.files r r' =
-    one_each (λ (x y : Copy g.row.D.Denot). (IsUp x → IsUp y) × (y.sup ≡ x.sup) × KeepsDeletable g.D.Disk.Tells g.D.Disk.files x y) c.args.replica c.self.inside.replicas.items c.step_at.new.replicas one
-    (λ u. step.on.up, step.on.sup, step.on.deletable) (λ x. (λ u. u, refl, λ tells place may. may)) in (
+    let each : (j : ℕ) (r r' : Copy g.row.D.Denot) → At c.self.inside.replicas.items j r → At c.step_at.new.replicas j r' → (IsUp r → IsUp r') × (r'.sup ≡ r.sup) × StaysInReach g.D.Disk.Tells g.D.Disk.files r r' =
+    one_each (λ (x y : Copy g.row.D.Denot). (IsUp x → IsUp y) × (y.sup ≡ x.sup) × StaysInReach g.D.Disk.Tells g.D.Disk.files x y) c.args.replica c.self.inside.replicas.items c.step_at.new.replicas one
+    (λ u. step.on.up, step.on.sup, step.on.reach) (λ x. (λ u. u, refl, λ tells. reach_still g.D.Disk.files x)) in (
       subst (λ rs. IsShaped (volume_with c.self.inside.settings c.self.inside.number rs c.self.inside.rows c.self.inside.front c.self.inside.frozen c.self.inside.unsure)) (sym kept)
           (shaped_on c.self.inside.settings c.self.inside.number c.self.inside.replicas.items c.step_at.new.replicas c.self.inside.rows c.self.inside.rows c.self.inside.front c.self.inside.front c.self.inside.frozen c.self.inside.frozen c.self.inside.unsure c.self.inside.unsure
           c.self.invariant.0 count (λ j r r' e f. (each j r r' e f).1) refl (λ none j r r' e f. up_thawed r' ((each j r r' e f).0 (up j r e)))),
       c.self.invariant.1,
-      subst (λ rs. CanDelete g.D.Disk.Tells g.D.Disk.files rs c.self.inside.rows) (sym kept)
+      subst (λ rs. CanReach g.D.Disk.Tells g.D.Disk.files rs c.self.inside.rows) (sym kept)
           (same_rows g.D.Disk.Tells g.D.Disk.files c.self.inside.replicas.items c.step_at.new.replicas c.self.inside.rows c.self.inside.rows c.self.invariant.2 count
-          (λ j r r' e f u. up j r e) (λ j r r' e f. (each j r r' e f).2) (λ pair. refl)),
+          (λ j r r' e f. (λ u. up j r e, λ u. up_open r (up j r e))) (λ j r r' e f. (each j r r' e f).2) (λ pair. refl)),
     )
 
 pub returns-clause-stepped : goal.returns-clause-stepped
@@ -165,9 +165,9 @@ returns-clause-open g c =
     λ j r e. open_up r (c.requires.«open».each j r (subst (λ v. At v.replicas j r) c.self.view_is e)) ((c.self.invariant.0).thawed thawed j r e) in
     let step : StepsAt g.D.Disk.Tells g.D.Disk.files g.D.Disk.fault_count g.D.Piece.Piece.Tells c.self.inside.rows c.args.replica c.args.cells one.before one.after c.step_at.result =
     c.step_at.ensures.steps one.before one.after (subst (λ xs. At xs c.args.replica one.before) (sym now) one.was) (one_after c.args.replica c.self.inside.replicas.items c.step_at.new.replicas one) in
-    let each : (j : ℕ) (r r' : Copy g.row.D.Denot) → At c.self.inside.replicas.items j r → At c.step_at.new.replicas j r' → (IsUp r → IsUp r') × (r'.sup ≡ r.sup) × KeepsDeletable g.D.Disk.Tells g.D.Disk.files r r' =
-    one_each (λ (x y : Copy g.row.D.Denot). (IsUp x → IsUp y) × (y.sup ≡ x.sup) × KeepsDeletable g.D.Disk.Tells g.D.Disk.files x y) c.args.replica c.self.inside.replicas.items c.step_at.new.replicas one
-    (λ u. step.on.up, step.on.sup, step.on.deletable) (λ x. (λ u. u, refl, λ tells place may. may)) in
+    let each : (j : ℕ) (r r' : Copy g.row.D.Denot) → At c.self.inside.replicas.items j r → At c.step_at.new.replicas j r' → (IsUp r → IsUp r') × (r'.sup ≡ r.sup) × StaysInReach g.D.Disk.Tells g.D.Disk.files r r' =
+    one_each (λ (x y : Copy g.row.D.Denot). (IsUp x → IsUp y) × (y.sup ≡ x.sup) × StaysInReach g.D.Disk.Tells g.D.Disk.files x y) c.args.replica c.self.inside.replicas.items c.step_at.new.replicas one
+    (λ u. step.on.up, step.on.sup, step.on.reach) (λ x. (λ u. u, refl, λ tells. reach_still g.D.Disk.files x)) in
     record {
       all = ap length kept ∙ count ∙ ap (λ v. length v.replicas) c.self.view_is ∙ c.requires.«open».all ∙ ap (λ v. v.settings.replicas) (sym c.self.view_is);
       each = λ j r' f.

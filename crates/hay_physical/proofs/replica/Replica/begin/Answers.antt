@@ -1,6 +1,8 @@
 use Rattle.std.proofs.Common.{arith, ◌∙◌, ◌+◌, ap}
 use Rattle.hay_physical.proofs.Views.{files_stand, if_ok_both}
 use Rattle.hay_physical.proofs.RunViews.{beside_deletes, beside_stands, open_run}
+use Rattle.hay_physical.specs.Replicas.{Anywhere}
+use Rattle.hay_physical.proofs.Seeing.{beside_sight}
 use Rattle.hay_physical.proofs.replica.Replica.begin.Goals as goal
 
 pub returns-clause-last : goal.returns-clause-last
@@ -31,3 +33,9 @@ returns-clause-deletes g c = λ tells at may.
     let was = c.self.inside in
     beside_deletes g.D.Disk.files c.args.self.now was.sup was.disk c.begin.new.disk was.phase c.in-Open.files c.begin.new.self at c.self.view_is c.in-Open.is
     (λ stuck. let same = c.begin.ensures.frozen stuck in (same.1, same.2)) (c.self.invariant.0 tells) c.begin.ensures.keeps (c.begin.ensures.others tells) may
+
+pub returns-clause-sees : goal.returns-clause-sees
+returns-clause-sees g c = λ tells.
+    let was = c.self.inside in
+    beside_sight g.D.Disk.files Anywhere c.args.self.now was.sup was.disk c.begin.new.disk was.phase c.in-Open.files c.begin.new.self c.self.view_is c.in-Open.is
+    (λ stuck. let same = c.begin.ensures.frozen stuck in (same.1, same.2)) (c.self.invariant.0 tells) c.begin.ensures.keeps (c.begin.ensures.others tells)

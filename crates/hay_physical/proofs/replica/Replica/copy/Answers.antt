@@ -1,6 +1,8 @@
 use Rattle.hay_physical.proofs.Views.{if_err_so, on_ok_one}
 use Rattle.hay_physical.proofs.RunViews.{beside_deletes, beside_stands, ends_run, files_run, files_peek, open_run}
 use Rattle.hay_physical.specs.Runs.{stepped}
+use Rattle.hay_physical.specs.Replicas.{Anywhere}
+use Rattle.hay_physical.proofs.Seeing.{beside_sight}
 use Rattle.hay_physical.proofs.replica.Replica.copy.Goals as goal
 
 pub returns-clause-run : goal.returns-clause-run
@@ -34,3 +36,9 @@ pub returns-clause-ends : goal.returns-clause-ends
 returns-clause-ends g c =
     let was = c.self.inside in
     if_err_so c.copy.result _ _ (λ why ends. ends_run why (g.D.Disk.fault_count c.copy.new.disk) c.args.self.now was.sup was.disk c.copy.new.disk was.phase c.in-Open.files c.copy.new.self c.self.view_is c.in-Open.is ends) c.copy.ensures.err
+
+pub returns-clause-sees : goal.returns-clause-sees
+returns-clause-sees g c = λ tells.
+    let was = c.self.inside in
+    beside_sight g.D.Disk.files Anywhere c.args.self.now was.sup was.disk c.copy.new.disk was.phase c.in-Open.files c.copy.new.self c.self.view_is c.in-Open.is
+    (λ stuck. let same = c.copy.ensures.frozen stuck in (same.1, same.2)) (c.self.invariant.0 tells) c.copy.ensures.keeps (c.copy.ensures.others tells)

@@ -5,6 +5,14 @@ use Rattle.hay_physical.proofs.RunLaws.{copier_ready_volume, flag_beside, stand_
 use Rattle.hay_physical.proofs.Laws.{last_live}
 use Rattle.hay_physical.proofs.RunViews.{delete_run, files_ready, files_settled}
 use Rattle.hay_physical.proofs.Views.{files_flag, files_going, files_stand, files_stuck, files_up, open_deletes, open_stands}
+use Rattle.std.proofs.Common.{◌≡◌, arith, refl, inl, inr}
+use Rattle.std.proofs.lemmas.Bool.{cases_Bool}
+use Rattle.hay_needle.specs.Sizes.{needle_total}
+use Rattle.hay_volume.specs.declared.volume.VolumeFile.{VolumeFile}
+use Rattle.hay_physical.specs.declared.state.Phase.TheVariants.{Open}
+use Rattle.hay_physical.specs.Replicas.{ApartFrom}
+use Rattle.hay_physical.proofs.Seeing.{sight_kept, sight_same, sight_sight}
+use Rattle.hay_physical.proofs.Sights.{range_apart}
 use Rattle.hay_physical.proofs.replica.Replica.delete.Goals as goal
 
 pub delete-requires-clause-flag : goal.delete-requires-clause-flag
@@ -65,3 +73,33 @@ returns-in-Err-clause-refused g c = λ tells s stands live.
     let stuck = files_stuck c.args.self.now was.sup was.disk was.phase opened c.self.view_is c.in-Open.is in
     let unsure = c.in-Err.ensures.refused tells was.sup s going stand live in
     (unsure.0, subst (λ (b : Bool). MayFind was.sup (files c.delete.new.disk) b s (without_cell s c.args.at)) stuck unsure.1)
+
+pub returns-in-Ok-clause-sees : goal.returns-in-Ok-clause-sees
+returns-in-Ok-clause-sees g c = λ tells.
+    let files = g.D.Disk.files in
+    let was = c.self.inside in
+    let opened = c.in-Open.files in
+    let going = c.delete.ensures.copier.thawed c.in-Ok.ensures.open in
+    let ready = c.delete.ensures.ready tells c.in-Ok.ensures.open in
+    let number = ready.volume_number in
+    let volume : c.delete.new.self.volume ≡ opened.volume = c.delete.ensures.volume in
+    let apart : files c.repeat_delete.new.disk c.delete.new.self.volume.file ≡ files c.delete.new.disk c.delete.new.self.volume.file =
+    c.repeat_delete.ensures.others tells c.delete.new.self.volume.file (λ e. omega arith) (λ e. omega arith) in
+    sight_sight files (ApartFrom c.args.at) c.args.self.now (record { sup = was.sup; disk = c.delete.new.disk; phase = Open c.delete.new.self }) (record { sup = was.sup; disk = c.repeat_delete.new.disk; phase = Open c.repeat_delete.new.self })
+    (sight_kept files (ApartFrom c.args.at) c.args.self.now was.sup was.disk c.delete.new.disk was.phase opened c.delete.new.self c.self.view_is c.in-Open.is (ap (λ (v : VolumeFile). v.file) volume) (omega (arith, ap (λ (v : VolumeFile). v.end) volume))
+    (λ at size kept within. range_apart at (needle_total size) c.args.at (files was.disk opened.volume.file) (files c.delete.new.disk opened.volume.file) kept (c.delete.ensures.changes tells going)))
+    (sight_same files (ApartFrom c.args.at) (record { sup = was.sup; disk = c.delete.new.disk; phase = Open c.delete.new.self }) was.sup c.delete.new.disk c.repeat_delete.new.disk (Open c.delete.new.self) c.delete.new.self c.repeat_delete.new.self refl refl
+    (ap (λ (o : OpenFiles). o.volume) c.repeat_delete.ensures.keeps) apart)
+
+pub returns-in-Err-clause-sees : goal.returns-in-Err-clause-sees
+returns-in-Err-clause-sees g c = λ tells.
+    let files = g.D.Disk.files in
+    let was = c.self.inside in
+    let opened = c.in-Open.files in
+    let volume : c.delete.new.self.volume ≡ opened.volume = c.delete.ensures.volume in
+    elim (cases_Bool opened.frozen) [
+      | inl stuck ↦ sight_same files (ApartFrom c.args.at) c.args.self.now was.sup was.disk c.delete.new.disk was.phase opened c.delete.new.self c.self.view_is c.in-Open.is volume (ap (λ d. files d opened.volume.file) (c.delete.ensures.frozen stuck).2)
+      | inr going ↦
+          sight_kept files (ApartFrom c.args.at) c.args.self.now was.sup was.disk c.delete.new.disk was.phase opened c.delete.new.self c.self.view_is c.in-Open.is (ap (λ (v : VolumeFile). v.file) volume) (omega (arith, ap (λ (v : VolumeFile). v.end) volume))
+          (λ at size kept within. range_apart at (needle_total size) c.args.at (files was.disk opened.volume.file) (files c.delete.new.disk opened.volume.file) kept (c.delete.ensures.changes tells going))
+    ]

@@ -12,6 +12,9 @@ use Rattle.hay_physical.proofs.Openings.{on_any}
 use Rattle.hay_physical.proofs.Standing.{on_err}
 use Rattle.hay_physical.proofs.Views.{files_flag, files_going, files_stand, files_stuck, if_ok, if_ok_so, on_err_so, on_ok_one, open_deletes, open_stands}
 use Rattle.hay_physical.proofs.RunViews.{files_ready, files_run, place_deletes}
+use Rattle.hay_physical.specs.Replicas.{Anywhere}
+use Rattle.hay_physical.proofs.Looks.{always_ok}
+use Rattle.hay_physical.proofs.Seeing.{sight_same, stands_shows}
 use Rattle.hay_physical.proofs.replica.Replica.finish.Goals as goal
 
 pub returns-clause-swapped : goal.returns-clause-swapped
@@ -90,3 +93,21 @@ returns-clause-removed g c = λ tells.
           (subst (λ n. RemovedBoth files opened.volume.file n (count was.disk) after) ready.index_number both)))
           (c.finish.ensures.removed tells)
     ])
+
+pub returns-clause-sees : goal.returns-clause-sees
+returns-clause-sees g c = λ tells.
+    let files = g.D.Disk.files in
+    let was = c.self.inside in
+    let opened = c.in-Open.files in
+    elim (cases_Bool opened.frozen) [
+      | inl frozen ↦
+          let same = c.finish.ensures.frozen frozen in
+          on_any c.finish.result _ (sight_same files Anywhere c.args.self.now was.sup was.disk c.finish.new.disk was.phase opened c.finish.new.self c.self.view_is c.in-Open.is (ap (λ (o : OpenFiles). o.volume) same.1) (ap (λ d. files d opened.volume.file) same.2))
+      | inr going ↦
+          on_err c.finish.result _ _ _
+          (λ same file. sight_same files Anywhere c.args.self.now was.sup was.disk c.finish.new.disk was.phase opened c.finish.new.self c.self.view_is c.in-Open.is (ap (λ (o : OpenFiles). o.volume) same) file)
+          c.finish.ensures.same (c.finish.ensures.volume tells going)
+    ]
+
+pub returns-clause-shows : goal.returns-clause-shows
+returns-clause-shows g c = λ tells. always_ok c.finish.result _ (λ s stands. stands_shows g.D.Disk.files _ s stands)

@@ -3,6 +3,8 @@ use Rattle.hay_physical.specs.Replicas.{all_recorded}
 use Rattle.hay_physical.proofs.RunLaws.{copier_ready_index, next_besides_index, run_kept, settled_still}
 use Rattle.hay_physical.proofs.RunViews.{files_ready, files_settled, run_still}
 use Rattle.hay_physical.proofs.Views.{files_flag, files_going, files_stand, if_ok_so, if_ok_unit, on_err_so, open_deletes, open_stands}
+use Rattle.hay_physical.specs.Replicas.{Anywhere}
+use Rattle.hay_physical.proofs.Seeing.{sight_same}
 use Rattle.hay_physical.proofs.replica.Replica.flush.Goals as goal
 
 pub returns-clause-flushed : goal.returns-clause-flushed
@@ -62,3 +64,8 @@ returns-clause-run_stays g c = λ tells s run stands has.
     (λ stays. run_still run files c.args.self.now was.sup was.disk c.flush.new.disk was.phase opened c.flush.new.self s s c.self.view_is c.in-Open.is c.flush.ensures.copier.0
     (λ x r. run_kept was.sup (files was.disk) (files c.flush.new.disk) opened c.flush.new.self s s.records x r c.flush.ensures.copier.0 c.flush.ensures.copier.2 stays (next_besides_index was.sup (files was.disk) (files was.disk) (files c.flush.new.disk) opened s f (c.flush.ensures.others tells))) has)
     (c.flush.ensures.refused tells was.sup s f)
+
+pub returns-clause-sees : goal.returns-clause-sees
+returns-clause-sees g c = λ tells.
+    let was = c.self.inside in
+    sight_same g.D.Disk.files Anywhere c.args.self.now was.sup was.disk c.flush.new.disk was.phase c.in-Open.files c.flush.new.self c.self.view_is c.in-Open.is c.flush.ensures.copier.2 (c.flush.ensures.cells tells)

@@ -1,13 +1,15 @@
 use Rattle.std.proofs.Common.{◌≡◌, ap, refl, subst, Err, sym}
 use Rattle.std.proofs.lemmas.Result.{err_from_is_err_and}
 use Rattle.hay_open.specs.Damage.{IsOpeningDamage}
-use Rattle.hay_open.specs.Stored.{IsVoid, OpensAs}
+use Rattle.hay_open.specs.Stored.{IsVoid, OpensAs, fresh_stored}
 use Rattle.hay_physical.specs.Copies.{Copy}
+use Rattle.hay_physical.proofs.Apartness.{found_apart}
 use Rattle.hay_physical.proofs.Deleting.{found_deletes}
 use Rattle.hay_physical.proofs.Holding.{finds_now, finds_opens}
 use Rattle.hay_physical.proofs.Openings.{disk_finds, disk_opens, finds_kept, finds_not_void, on_any, opened_ready, opened_stands, same_fault}
 use Rattle.hay_physical.proofs.Views.{open_stands}
 use Rattle.hay_physical.proofs.RunLaws.{not_ended, settled_none}
+use Rattle.hay_physical.proofs.Seeing.{found_sees, stands_shows}
 use Rattle.hay_physical.proofs.replica.Replica.open.Goals as goal
 
 pub returns-in_err-head-clause-left : goal.returns-in_err-head-clause-left
@@ -105,3 +107,17 @@ returns-in_err-head-clause-nothing g c = λ tells void image leaves other s open
     let files = g.D.Disk.files in
     let here : IsVoid (λ n. (files c.self.inside.disk n).now) = subst (λ (x : Copy _). IsVoid (λ n. (files x.disk n).now)) (sym c.self.view_is) void in
     c.in_err-head.ensures.nothing tells here image leaves other s opens
+
+pub returns-clause-can_see : goal.returns-clause-can_see
+returns-clause-can_see g c = λ tells pair.
+    let done = c.in_ok-head.ensures in
+    let ready = done.ready tells in
+    found_sees g.D.Disk.files c.self.inside.sup c.open_replica.new.disk _ c.in_ok-head.field-0.cells.items (done.solid tells c.in_ok-head.field-0.volume.file) ready.volume (done.flags tells) pair
+
+pub returns-clause-shows : goal.returns-clause-shows
+returns-clause-shows g c = λ tells s stands. stands_shows g.D.Disk.files _ s stands
+
+pub returns-clause-apart : goal.returns-clause-apart
+returns-clause-apart g c = λ tells.
+    let done = c.in_ok-head.ensures in
+    found_apart g.D.Piece.Piece.Tells c.self.inside.sup (λ n. (g.D.Disk.files c.self.inside.disk n).now) c.in_ok-head.field-0 (done.whole tells) (done.places tells fresh_stored)

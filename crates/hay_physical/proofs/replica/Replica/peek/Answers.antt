@@ -2,6 +2,8 @@ use Rattle.std.proofs.Common.{ap}
 use Rattle.hay_disk.specs.Disk.{Files}
 use Rattle.hay_physical.proofs.Views.{if_err_so, if_ok_some, on_ok_one}
 use Rattle.hay_physical.proofs.RunViews.{beside_deletes, beside_stands, ends_run, files_run, open_next, open_run, peek_pair}
+use Rattle.hay_physical.specs.Replicas.{Anywhere}
+use Rattle.hay_physical.proofs.Seeing.{beside_sight}
 use Rattle.hay_physical.proofs.replica.Replica.peek.Goals as goal
 
 pub returns-clause-next : goal.returns-clause-next
@@ -54,3 +56,9 @@ pub returns-clause-ends : goal.returns-clause-ends
 returns-clause-ends g c =
     let was = c.self.inside in
     if_err_so c.peek.result _ _ (λ why ends. ends_run why (g.D.Disk.fault_count c.peek.new.disk) c.args.self.now was.sup was.disk c.peek.new.disk was.phase c.in-Open.files c.peek.new.self c.self.view_is c.in-Open.is ends) c.peek.ensures.err
+
+pub returns-clause-sees : goal.returns-clause-sees
+returns-clause-sees g c = λ tells.
+    let was = c.self.inside in
+    beside_sight g.D.Disk.files Anywhere c.args.self.now was.sup was.disk c.peek.new.disk was.phase c.in-Open.files c.peek.new.self c.self.view_is c.in-Open.is
+    (λ stuck. let same = c.peek.ensures.frozen stuck in (same.1, same.2)) (c.self.invariant.0 tells) c.peek.ensures.keeps (λ other first second. ap (λ (f : Files). f other) (c.peek.ensures.files tells))

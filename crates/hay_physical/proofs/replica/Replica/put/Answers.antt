@@ -10,6 +10,12 @@ use Rattle.hay_physical.specs.Runs.{longer}
 use Rattle.hay_physical.proofs.Standing.{on_err}
 use Rattle.hay_physical.proofs.RunLaws.{copier_ready_volume, next_besides_volume, run_kept, run_put, settled_kept}
 use Rattle.hay_physical.proofs.RunViews.{files_ready, files_settled, run_still, run_through}
+use Rattle.std.proofs.Common.{arith}
+use Rattle.hay_needle.specs.Sizes.{needle_total}
+use Rattle.hay_physical.specs.Replicas.{Anywhere}
+use Rattle.hay_physical.proofs.Apartness.{put_apart}
+use Rattle.hay_physical.proofs.Seeing.{sight_kept}
+use Rattle.hay_physical.proofs.Sights.{range_before}
 use Rattle.hay_physical.proofs.replica.Replica.put.Goals as goal
 
 pub returns-clause-stored : goal.returns-clause-stored
@@ -103,3 +109,16 @@ returns-clause-added g c = λ tells s stands none froze.
     let going = files_going files c.args.self.now was.sup was.disk was.phase opened s c.self.view_is c.in-Open.is stands in
     let stuck = files_stuck c.args.self.now was.sup was.disk was.phase opened c.self.view_is c.in-Open.is in
     subst (λ (b : Bool). MayFind was.sup (files c.put.new.disk) b t t) stuck (c.put.ensures.added tells was.sup s going stand none froze)
+
+pub returns-clause-sees : goal.returns-clause-sees
+returns-clause-sees g c = λ tells.
+    let files = g.D.Disk.files in
+    let was = c.self.inside in
+    let opened = c.in-Open.files in
+    sight_kept files Anywhere c.args.self.now was.sup was.disk c.put.new.disk was.phase opened c.put.new.self c.self.view_is c.in-Open.is c.put.ensures.volume.0 c.put.ensures.volume.1
+    (λ at size kept within. range_before at (needle_total size) opened.volume.end (files was.disk opened.volume.file) (files c.put.new.disk opened.volume.file) within (omega arith) (c.put.ensures.before tells))
+
+pub returns-clause-apart : goal.returns-clause-apart
+returns-clause-apart g c = λ tells.
+    let was = c.self.inside in
+    if_ok_so c.put.result _ _ (λ needle last at size may. put_apart g.D.Disk.files c.args.self.now was.sup was.disk was.phase c.in-Open.files needle.at at size c.self.view_is c.in-Open.is last may) (c.put.ensures.place tells)

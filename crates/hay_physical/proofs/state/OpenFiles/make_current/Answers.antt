@@ -9,6 +9,10 @@ use Rattle.hay_physical.proofs.Views.{by_result, if_ok, if_ok_unit, on_ok_both, 
 use Rattle.hay_physical.proofs.Standing.{on_err}
 use Rattle.hay_physical.proofs.SwapLaws.{made_kept, old_apart, old_index_apart, swap_finds, swap_flags, swap_ready, swap_stands, unfrozen_ready, unfrozen_stands}
 use Rattle.hay_physical.proofs.Removing.{removed_since}
+use Rattle.hay_compact.specs.Finishing.{IsSeen}
+use Rattle.hay_map.specs.Rows.{last_place}
+use Rattle.hay_map.specs.declared.place.Place.TheVariants as place
+use Rattle.hay_physical.proofs.Views.{if_ok_so}
 use Rattle.hay_physical.proofs.state.OpenFiles.make_current.Goals as goal
 
 pub swap-requires-clause-gate : goal.swap-requires-clause-gate
@@ -85,3 +89,9 @@ returns-in-Ok-clause-removed g c = λ tells.
     (removed_since (g.D.Disk.files c.swap.new.disk) c.args.self.now.volume.file c.args.self.now.index.file (g.D.Disk.fault_count c.args.disk.now) (g.D.Disk.fault_count c.finish.new.disk) (g.D.Disk.fault_count c.swap.new.disk)
     c.finish.ensures.counted.later)
     (c.swap.ensures.removed tells)
+
+pub returns-in-Ok-clause-seen : goal.returns-in-Ok-clause-seen
+returns-in-Ok-clause-seen g c = λ tells.
+    let m = c.requires.making tells in
+    let fin = c.in-Ok.ensures.finished tells m.sup m.fresh m.making in
+    if_ok_so c.swap.result _ _ (λ places is pair. subst (λ x. IsSeen (last_place x.items pair place.Gone)) (sym is.0) (fin.seen pair)) c.swap.ensures.swapped

@@ -1,0 +1,69 @@
+use Rattle.std.proofs.Common.{rules, ◌≡◌, length, Ok, Err, refl, sym, ap, subst, ◌∙◌}
+use Rattle.std.specs.Prelude.{IfErr, IfOk, OnErr, OnOk}
+use Rattle.hay_needle.specs.declared.needle.Pair.{Pair}
+use Rattle.hay_needle.specs.Tables.{outcome_at}
+use Rattle.hay_legal.specs.Known as legal
+use Rattle.hay_legal.specs.Known.{replica_at}
+use Rattle.hay_map.specs.Places.{PlaceMeans, place_in}
+use Rattle.hay_map.specs.Rows.{row_at}
+use Rattle.hay_compact.specs.Finishing.{IsSeen}
+use Rattle.hay_logical.specs.Answers.{IsSightFault}
+use Rattle.hay_logical.specs.Steps.{SetsPlaceAt}
+use Rattle.hay_logical.proofs.logical.Logical.see.Goals as goal
+use Rattle.hay_logical.proofs.logical.Logical.see.Goals.{in-Ok, in-Err}
+
+pub returns-clause-undamaged : goal.returns-clause-undamaged
+returns-clause-undamaged g c = λ tells k stands m at e. elim c.match-see_in.branch [
+  | in-Ok w ↦ let wrong = sym w.result-is ∙ e in cc
+  | in-Err w ↦ c.see_in.ensures.undamaged tells k stands m at (let was = w.in-Err.is in let is = w.result-is in cc)
+]
+
+pub returns-clause-seen : goal.returns-clause-seen
+returns-clause-seen g c = elim c.match-see_in.branch [
+  | in-Ok w ↦
+      let seen = subst (λ x. OnOk x (IsSeen (place_in (row_at c.see_in.new.self.rows c.args.pair) c.args.replica))) w.in-Ok.is c.see_in.ensures.seen in
+      subst (λ r. IfOk r (λ looked. IsSeen (place_in looked.row c.args.replica))) (sym w.result-is) (subst (λ l. IsSeen (place_in l c.args.replica)) (sym (w.row.ensures.row ∙ ap (λ v. row_at v.rows c.args.pair) c.self.view_is)) seen)
+  | in-Err w ↦ rw w.result-is tt
+]
+
+pub returns-clause-kept : goal.returns-clause-kept
+returns-clause-kept g c = elim c.match-see_in.branch [
+  | in-Ok w ↦ rw w.result-is tt
+  | in-Err w ↦
+      let kept = subst (λ x. OnErr x ((other : Pair) → row_at c.see_in.new.self.rows other ≡ row_at c.args.self.now.rows other)) w.in-Err.is c.see_in.ensures.kept in
+      subst (λ r. OnErr r ((other : Pair) → row_at c.see_in.new.self.rows other ≡ row_at c.args.self.now.rows other)) (sym w.result-is) kept
+]
+
+pub returns-clause-causes : goal.returns-clause-causes
+returns-clause-causes g c = elim c.match-see_in.branch [
+  | in-Ok w ↦ rw w.result-is tt
+  | in-Err w ↦
+      let cause = subst (λ x. IfErr x (IsSightFault g.D.Disk.fault_count c.args.self.now.settings c.args.self.now.number c.args.self.now.replicas c.see_in.new.self.replicas)) w.in-Err.is c.see_in.ensures.causes in
+      subst (λ r. IfErr r (IsSightFault g.D.Disk.fault_count c.args.self.now.settings c.args.self.now.number c.args.self.now.replicas c.see_in.new.self.replicas)) (sym w.result-is) cause
+]
+
+pub returns-clause-known : goal.returns-clause-known
+returns-clause-known g c = λ tells k stands. elim c.match-see_in.branch [
+  | in-Ok w ↦
+      let known = subst (λ x. OnOk x ((c.see_in.new.self.front ≡ length k.log) × PlaceMeans g.D.Piece.Piece.Tells c.args.pair (place_in (row_at c.see_in.new.self.rows c.args.pair) c.args.replica) (outcome_at (legal.now k (replica_at k c.args.replica)) c.args.pair))) w.in-Ok.is (c.see_in.ensures.known tells k stands) in
+      subst (λ r. IfOk r (λ looked. (looked.front ≡ length k.log) × PlaceMeans g.D.Piece.Piece.Tells c.args.pair (place_in looked.row c.args.replica) (outcome_at (legal.now k (replica_at k c.args.replica)) c.args.pair))) (sym w.result-is)
+      (ap (λ v. v.front) c.self.view_is ∙ known.0, subst (λ l. PlaceMeans g.D.Piece.Piece.Tells c.args.pair (place_in l c.args.replica) (outcome_at (legal.now k (replica_at k c.args.replica)) c.args.pair)) (sym (w.row.ensures.row ∙ ap (λ v. row_at v.rows c.args.pair) c.self.view_is)) known.1)
+  | in-Err w ↦ rw w.result-is tt
+]
+
+pub returns-clause-row : goal.returns-clause-row
+returns-clause-row g c = elim c.match-see_in.branch [
+  | in-Ok w ↦
+      let set = subst (λ x. OnOk x (SetsPlaceAt c.args.pair c.args.replica (place_in (row_at c.see_in.new.self.rows c.args.pair) c.args.replica) c.args.self.now.rows c.see_in.new.self.rows)) w.in-Ok.is c.see_in.ensures.row in
+      subst (λ r. IfOk r (λ looked. SetsPlaceAt c.args.pair c.args.replica (place_in looked.row c.args.replica) c.args.self.now.rows c.see_in.new.self.rows)) (sym w.result-is)
+      (subst (λ l. SetsPlaceAt c.args.pair c.args.replica (place_in l c.args.replica) c.args.self.now.rows c.see_in.new.self.rows) (sym (w.row.ensures.row ∙ ap (λ v. row_at v.rows c.args.pair) c.self.view_is)) set)
+  | in-Err w ↦ rw w.result-is tt
+]
+
+pub returns-clause-answered : goal.returns-clause-answered
+returns-clause-answered g c = elim c.match-see_in.branch [
+  | in-Ok w ↦
+      subst (λ r. IfOk r (λ looked. (looked.front ≡ c.see_in.new.self.front) × (looked.row ≡ row_at c.see_in.new.self.rows c.args.pair))) (sym w.result-is)
+      (ap (λ v. v.front) c.self.view_is, w.row.ensures.row ∙ ap (λ v. row_at v.rows c.args.pair) c.self.view_is)
+  | in-Err w ↦ rw w.result-is tt
+]

@@ -1,0 +1,75 @@
+use Rattle.std.proofs.Common.{rules, ◌≡◌, ◌<◌, ◌≤◌, ℕ, Err, refl, sym, ap, subst, ◌∙◌, arith}
+use Rattle.std.specs.Prelude.{IfErr}
+use Rattle.std.proofs.lemmas.Result.{err_from_is_err_and}
+use Rattle.hay_map.specs.Rows.{row_at}
+use Rattle.hay_logical.specs.declared.fault.LogicalFault.{LogicalFault}
+use Rattle.hay_logical.specs.Answers.{IsSightFault}
+use Rattle.hay_logical.specs.Volumes.{IsOpenVolume}
+use Rattle.hay_logical.proofs.Through.{Kept, cause_later, kept_more, kept_none, seen_more}
+use Rattle.hay_logical.proofs.logical.Logical.see_each.Goals as goal
+
+pub loop-replica-init : goal.loop-replica-init
+loop-replica-init g c = record {
+  kept = kept_none g.D.Disk.Tells g.D.Disk.files g.D.Piece.Piece.Tells g.D.Disk.fault_count g.D.Disk.fuse_count c.args.self.now c.requires.«open»;
+  seen = λ j h. let wrong : ⊥ = omega (arith, h) in absurd wrong;
+}
+
+pub see_in-requires-after_bounds : goal.see_in-requires-after_bounds
+see_in-requires-after_bounds g c κs within =
+    let below : c.loop-replica.replica < c.loop-replica.self.settings.replicas =
+    subst (λ s. c.loop-replica.replica < s.replicas) (ap (λ v. v.settings) c.self.view_is ∙ sym c.loop-replica.invariant.kept.same.settings) c.loop-replica-test.true in
+    (search rules, (below, c.loop-replica.invariant.kept.«open»))
+
+pub returns-in_err-see_in-clause-stands : goal.returns-in_err-see_in-clause-stands
+returns-in_err-see_in-clause-stands g c = λ tells k stands. c.see_in.ensures.stands tells k (c.loop-replica.invariant.kept.stands tells k stands)
+
+pub returns-in_err-see_in-clause-undamaged : goal.returns-in_err-see_in-clause-undamaged
+returns-in_err-see_in-clause-undamaged g c = λ tells k stands m at is.
+    let fault = err_from_is_err_and c.from_residual.result c.from_residual.ensures.1 in
+    c.see_in.ensures.undamaged tells k (c.loop-replica.invariant.kept.stands tells k stands) m at (c.in_err-see_in.was ∙ ap (λ (f : LogicalFault). Err f) (sym fault.2 ∙ (let same = sym fault.1 ∙ is in cc)))
+
+pub returns-in_err-see_in-clause-causes : goal.returns-in_err-see_in-clause-causes
+returns-in_err-see_in-clause-causes g c =
+    let fault = err_from_is_err_and c.from_residual.result c.from_residual.ensures.1 in
+    let cause = cause_later g.D.Disk.Tells g.D.Disk.files g.D.Piece.Piece.Tells g.D.Disk.fault_count g.D.Disk.fuse_count c.args.self.now c.loop-replica.self c.see_in.new.self c.loop-replica.invariant.kept c.in_err-see_in.field-0.0 c.in_err-see_in.ensures.causes in
+    subst (λ r. IfErr r (IsSightFault g.D.Disk.fault_count c.args.self.now.settings c.args.self.now.number c.args.self.now.replicas c.see_in.new.self.replicas)) (sym fault.1)
+    (subst (λ (f : LogicalFault). IsSightFault g.D.Disk.fault_count c.args.self.now.settings c.args.self.now.number c.args.self.now.replicas c.see_in.new.self.replicas f) (sym fault.2) cause)
+
+pub returns-in_err-see_in-clause-counts : goal.returns-in_err-see_in-clause-counts
+returns-in_err-see_in-clause-counts g c =
+    (kept_more g.D.Disk.Tells g.D.Disk.files g.D.Piece.Piece.Tells g.D.Disk.fault_count g.D.Disk.fuse_count c.args.self.now c.loop-replica.self c.see_in.new.self c.loop-replica.invariant.kept c.see_in.ensures.stands c.see_in.ensures.«open» c.see_in.ensures.counts c.see_in.ensures.same c.see_in.ensures.still).counts
+
+pub returns-in_err-see_in-clause-same : goal.returns-in_err-see_in-clause-same
+returns-in_err-see_in-clause-same g c =
+    (kept_more g.D.Disk.Tells g.D.Disk.files g.D.Piece.Piece.Tells g.D.Disk.fault_count g.D.Disk.fuse_count c.args.self.now c.loop-replica.self c.see_in.new.self c.loop-replica.invariant.kept c.see_in.ensures.stands c.see_in.ensures.«open» c.see_in.ensures.counts c.see_in.ensures.same c.see_in.ensures.still).same
+
+pub returns-in_err-see_in-clause-still : goal.returns-in_err-see_in-clause-still
+returns-in_err-see_in-clause-still g c =
+    (kept_more g.D.Disk.Tells g.D.Disk.files g.D.Piece.Piece.Tells g.D.Disk.fault_count g.D.Disk.fuse_count c.args.self.now c.loop-replica.self c.see_in.new.self c.loop-replica.invariant.kept c.see_in.ensures.stands c.see_in.ensures.«open» c.see_in.ensures.counts c.see_in.ensures.same c.see_in.ensures.still).still
+
+pub loop-replica-preserved : goal.loop-replica-preserved
+loop-replica-preserved g c = record {
+  kept = kept_more g.D.Disk.Tells g.D.Disk.files g.D.Piece.Piece.Tells g.D.Disk.fault_count g.D.Disk.fuse_count c.args.self.now c.loop-replica.self c.see_in.new.self c.loop-replica.invariant.kept c.see_in.ensures.stands c.see_in.ensures.«open» c.see_in.ensures.counts c.see_in.ensures.same c.see_in.ensures.still;
+  seen = seen_more c.args.pair c.loop-replica.replica c.loop-replica.self.rows c.see_in.new.self.rows (row_at c.see_in.new.self.rows c.args.pair) c.in_ok-see_in.ensures.row refl c.in_ok-see_in.ensures.seen c.loop-replica.invariant.seen;
+}
+
+pub returns-clause-stands : goal.returns-clause-stands
+returns-clause-stands g c = c.loop-replica.invariant.kept.stands
+
+pub returns-clause-seen : goal.returns-clause-seen
+returns-clause-seen g c = λ j h.
+    let below : j < c.self.inside.settings.replicas = subst (λ s. j < s.replicas) (c.loop-replica.invariant.kept.same.settings ∙ sym (ap (λ v. v.settings) c.self.view_is)) h in
+    let over = c.loop-replica-test.false in
+    c.loop-replica.invariant.seen j (omega (arith, below, over))
+
+pub returns-clause-open : goal.returns-clause-open
+returns-clause-open g c = c.loop-replica.invariant.kept.«open»
+
+pub returns-clause-counts : goal.returns-clause-counts
+returns-clause-counts g c = c.loop-replica.invariant.kept.counts
+
+pub returns-clause-same : goal.returns-clause-same
+returns-clause-same g c = c.loop-replica.invariant.kept.same
+
+pub returns-clause-still : goal.returns-clause-still
+returns-clause-still g c = c.loop-replica.invariant.kept.still

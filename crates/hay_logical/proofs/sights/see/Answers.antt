@@ -1,0 +1,65 @@
+use Rattle.std.proofs.Common.{◌≡◌, ◌<◌, length, Err, inl, inr, refl, sym, ap, subst, ◌∙◌, arith}
+use Rattle.hay_map.specs.Places.{place_in}
+use Rattle.hay_map.specs.Rows.{row_at}
+use Rattle.hay_map.specs.declared.place.Place.TheVariants as place
+use Rattle.hay_compact.specs.Finishing.{IsSeen}
+use Rattle.hay_physical.specs.declared.fault.ReplicaFault.{ReplicaFault}
+use Rattle.hay_logical.proofs.Looking.{Looked, becomes_same, becomes_seen, same_places, same_sets, set_places, sets_this, sight_seen, sights_looked, sights_none}
+use Rattle.hay_logical.proofs.sights.see.Goals as goal
+
+pub returns-in-Ok-see-clause-sights : goal.returns-in-Ok-see-clause-sights
+returns-in-Ok-see-clause-sights g c =
+    let T = g.D.Disk.Tells in
+    let files = g.D.Disk.files in
+    let seen = c.in-Ok.ensures in
+    let was : place_in (row_at c.args.rows.now c.args.pair) c.args.at ≡ place.Unseen c.in-Unseen.place c.in-Unseen.size = sym (c.place.ensures ∙ ap (λ l. place_in l c.args.at) c.row-row.ensures.row) ∙ c.in-Unseen.is in
+    let long : c.args.at < length (row_at c.args.rows.now c.args.pair) = let w = c.requires.within in let l = c.row-row.ensures.long in subst (λ x. c.args.at < length x) c.row-row.ensures.row (omega (arith, w, l)) in
+    sights_looked T files g.D.Disk.fault_count g.D.Piece.Piece.Tells c.args.pair c.args.rows.now c.see.new.self c.args.at c.args.replica.now c.cell.new.self c.in-Unseen.place c.in-Unseen.size c.in-Ok.seen _
+    (record { same = c.cell.ensures.same; stands = c.cell.ensures.stands; run = c.cell.ensures.run; deletes = c.cell.ensures.deletes; sees = c.cell.ensures.sees }) was
+    (set_places c.args.pair c.args.at c.args.rows.now c.see.new.self c.in-Ok.seen c.in-Ok-see.ensures.ok.rows long)
+    (λ tells. becomes_seen T files g.D.Piece.Piece.Tells c.in-Unseen.place c.in-Unseen.size c.args.pair c.in-Ok.seen c.args.replica.now c.cell.new.self seen.needle.0 seen.needle.3 seen.needle.1.place
+    (λ cell stands here. (seen.known tells cell stands here).1) (seen.can_delete tells))
+    c.requires.«open» c.cell.ensures.holds (sight_seen T files g.D.Piece.Piece.Tells seen.needle.0 c.in-Ok.seen seen.needle.3) (λ tells k e cell stands here size. cc) tt
+
+pub returns-in-Ok-see-clause-row : goal.returns-in-Ok-see-clause-row
+returns-in-Ok-see-clause-row g c =
+    let long : c.args.at < length (row_at c.args.rows.now c.args.pair) = let w = c.requires.within in let l = c.row-row.ensures.long in subst (λ x. c.args.at < length x) c.row-row.ensures.row (omega (arith, w, l)) in
+    record {
+      width = c.in-Ok-see.ensures.ok.replicas;
+      set = sets_this c.args.pair c.args.at c.args.rows.now c.see.new.self c.in-Ok.seen c.in-Ok-see.ensures.ok.rows long;
+      kept = tt;
+    }
+
+pub returns-in-Ok-clause-sights : goal.returns-in-Ok-clause-sights
+returns-in-Ok-clause-sights g c =
+    let T = g.D.Disk.Tells in
+    let files = g.D.Disk.files in
+    let was : place_in (row_at c.args.rows.now c.args.pair) c.args.at ≡ place.Unseen c.in-Unseen.place c.in-Unseen.size = sym (c.place.ensures ∙ ap (λ l. place_in l c.args.at) c.row-row.ensures.row) ∙ c.in-Unseen.is in
+    let looked : Looked T files c.in-Unseen.place c.in-Unseen.size c.args.replica.now c.cell.new.self = record { same = c.cell.ensures.same; stands = c.cell.ensures.stands; run = c.cell.ensures.run; deletes = c.cell.ensures.deletes; sees = c.cell.ensures.sees } in
+    sights_looked T files g.D.Disk.fault_count g.D.Piece.Piece.Tells c.args.pair c.args.rows.now c.see.new.self c.args.at c.args.replica.now c.cell.new.self c.in-Unseen.place c.in-Unseen.size (place.Unseen c.in-Unseen.place c.in-Unseen.size) _
+    looked was (same_places c.args.pair c.args.at c.args.rows.now c.see.new.self (place.Unseen c.in-Unseen.place c.in-Unseen.size) was c.in-Err-see.ensures.err.rows)
+    (λ tells. becomes_same T files g.D.Piece.Piece.Tells tells c.in-Unseen.place c.in-Unseen.size c.args.pair c.args.replica.now c.cell.new.self looked)
+    c.requires.«open» c.cell.ensures.holds tt (λ tells k e cell stands here size. cc) tt
+
+pub returns-in-None-clause-sights : goal.returns-in-None-clause-sights
+returns-in-None-clause-sights g c =
+    let seen : IsSeen c.place.result.now = elim c.in-None.is [
+      | inl none ↦ subst IsSeen (sym none) tt
+      | inr others ↦ elim others [ inl live ↦ subst IsSeen (sym live.1) tt | inr gone ↦ subst IsSeen (sym gone) tt ]
+    ] in
+    sights_none g.D.Disk.Tells g.D.Disk.files g.D.Disk.fault_count g.D.Piece.Piece.Tells c.args.pair c.args.rows.now c.args.rows.now c.args.at c.args.replica.now c.args.replica.now refl refl
+    (subst IsSeen (c.place.ensures ∙ ap (λ l. place_in l c.args.at) c.row-row.ensures.row) seen)
+
+pub returns-in-None-clause-row : goal.returns-in-None-clause-row
+returns-in-None-clause-row g c = record { width = refl; set = same_sets c.args.pair c.args.at c.args.rows.now c.args.rows.now (λ q. refl); kept = tt }
+
+pub returns-clause-sights : goal.returns-clause-sights
+returns-clause-sights g c =
+    let T = g.D.Disk.Tells in
+    let files = g.D.Disk.files in
+    let was : place_in (row_at c.args.rows.now c.args.pair) c.args.at ≡ place.Unseen c.in-Unseen.place c.in-Unseen.size = sym (c.place.ensures ∙ ap (λ l. place_in l c.args.at) c.row-row.ensures.row) ∙ c.in-Unseen.is in
+    let looked : Looked T files c.in-Unseen.place c.in-Unseen.size c.args.replica.now c.cell.new.self = record { same = c.cell.ensures.same; stands = c.cell.ensures.stands; run = c.cell.ensures.run; deletes = c.cell.ensures.deletes; sees = c.cell.ensures.sees } in
+    sights_looked T files g.D.Disk.fault_count g.D.Piece.Piece.Tells c.args.pair c.args.rows.now c.args.rows.now c.args.at c.args.replica.now c.cell.new.self c.in-Unseen.place c.in-Unseen.size (place.Unseen c.in-Unseen.place c.in-Unseen.size) _
+    looked was (same_places c.args.pair c.args.at c.args.rows.now c.args.rows.now (place.Unseen c.in-Unseen.place c.in-Unseen.size) was (λ q. refl))
+    (λ tells. becomes_same T files g.D.Piece.Piece.Tells tells c.in-Unseen.place c.in-Unseen.size c.args.pair c.args.replica.now c.cell.new.self looked)
+    c.requires.«open» c.cell.ensures.holds tt (λ tells k e. c.in-Err.ensures.damaged tells k (ap (λ (f : ReplicaFault). Err f) (let same : c.in-Err.fault ≡ ReplicaFault.Damaged k = cc in same))) c.in-Err.ensures.causes

@@ -1,0 +1,38 @@
+use Rattle.std.proofs.Common.{rules, ◌≡◌, ◌<◌, length, refl, sym, subst, arith}
+use Rattle.std.specs.Prelude.{slice_index_or}
+use Rattle.hay_physical.specs.Copies.{Copy}
+use Rattle.hay_logical.specs.Fits.{At}
+use Rattle.hay_logical.specs.Steps.{SightsAt}
+use Rattle.hay_logical.proofs.Calls.{one_counts}
+use Rattle.hay_logical.proofs.Lists.{at_read, one_same}
+use Rattle.hay_logical.proofs.sights.see_at.Goals as goal
+
+pub see-requires-after_bounds : goal.see-requires-after_bounds
+see-requires-after_bounds g c = λ κs lives.
+    let here : Copy g.row.D.Denot = slice_index_or c.args.replicas.now c.args.at c.index-replicas-at.result in
+    let there : At c.args.replicas.now c.args.at here = at_read c.args.replicas.now c.args.at c.index-replicas-at.result c.requires.within in
+    let within = c.requires.within in
+    let width = c.requires.width in (
+      search rules,
+      (c.requires.«open» c.args.at here there, (let less : c.args.at < c.args.rows.now.replicas = omega (arith, within, width) in less, λ tells. c.requires.may tells here there)),
+    )
+
+pub returns-clause-one : goal.returns-clause-one
+returns-clause-one g c =
+    let here : Copy g.row.D.Denot = slice_index_or c.args.replicas.now c.args.at c.index-replicas-at.result in
+    let there : At c.args.replicas.now c.args.at here = at_read c.args.replicas.now c.args.at c.index-replicas-at.result c.requires.within in
+    record { before = here; after = c.see.new.replica; was = there; is = refl }
+
+pub returns-clause-sights : goal.returns-clause-sights
+returns-clause-sights g c = λ r r' e f.
+    let here : Copy g.row.D.Denot = slice_index_or c.args.replicas.now c.args.at c.index-replicas-at.result in
+    let there : At c.args.replicas.now c.args.at here = at_read c.args.replicas.now c.args.at c.index-replicas-at.result c.requires.within in
+    let same = one_same c.args.replicas.now c.args.at here c.see.new.replica r r' there e f in
+    subst (λ x. SightsAt g.D.Disk.Tells g.D.Disk.files g.D.Disk.fault_count g.D.Piece.Piece.Tells c.args.pair c.args.rows.now c.see.new.rows c.args.at x r' c.see.result) (sym same.0)
+    (subst (λ x. SightsAt g.D.Disk.Tells g.D.Disk.files g.D.Disk.fault_count g.D.Piece.Piece.Tells c.args.pair c.args.rows.now c.see.new.rows c.args.at here x c.see.result) (sym same.1) c.see.ensures.sights)
+
+pub returns-clause-counts : goal.returns-clause-counts
+returns-clause-counts g c =
+    let here : Copy g.row.D.Denot = slice_index_or c.args.replicas.now c.args.at c.index-replicas-at.result in
+    let there : At c.args.replicas.now c.args.at here = at_read c.args.replicas.now c.args.at c.index-replicas-at.result c.requires.within in
+    one_counts g.D.Disk.fault_count g.D.Disk.fuse_count c.args.at c.args.replicas.now here c.see.new.replica there (c.see.ensures.counts, c.see.ensures.fuses)
