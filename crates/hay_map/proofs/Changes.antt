@@ -1,13 +1,13 @@
 -- Changes of the rows, one after another.
 use Rattle.std.proofs.Common.{◌≡◌, ℕ, zero, suc, ◌+◌, ◌<◌, inl, inr, Bool, true, false, cond, List, [], ◌∷◌, ◌++◌, length, take, drop, map, replicate, set, get_or, refl, sym, ap, ◌∙◌, arith}
-use Rattle.std.proofs.lemmas.List.{set-set, set-get_or, get_or-set_same}
+use Rattle.std.proofs.lemmas.List.{set-set, set-get_or}
 use Rattle.std.proofs.lemmas.Bool.{cases_Bool, cond-true, cond-false}
 use Rattle.hay_needle.specs.declared.needle.Pair.{Pair}
 use Rattle.hay_needle.specs.Tables.{pair_eq}
 use Rattle.hay_needle.proofs.TableLaws.{pair_same}
 use Rattle.hay_map.specs.MapRows.{MapRows}
 use Rattle.hay_map.specs.Places.{gone_place, place_in}
-use Rattle.hay_map.specs.Rows.{row_at, has_row, last_place, AllKnown, KeepsRows, ChangesRows, SetsPlace, SetsRow, LeavesReplica, GivesReplica}
+use Rattle.hay_map.specs.Rows.{row_at, has_row, last_place, AllKnown, KeepsRows, ChangesRows, SetsPlace, SetsRow, GivesReplica}
 use Rattle.hay_map.specs.declared.place.Place.{Place}
 use Rattle.hay_map.specs.declared.place.Place.TheVariants as place
 use Rattle.hay_map.specs.declared.view.OpenCell.{OpenCell}
@@ -180,20 +180,4 @@ see_changes {P} pair replica place old mid new keeps sets = record {
   replicas = sets.replicas ∙ keeps.replicas;
   rows = λ other. sets.rows other ∙ ap (λ (xs : List (Place P)). cond (pair_eq pair other) (set xs replica place) xs) (keeps.rows other);
   known = λ other h. sets.known other ∙ keeps.known other h;
-}
-
-pub swap_changes : {P : Type 0} (replica : ℕ) (cells : List (OpenCell P)) (old mid left new : MapRows P) → KeepsRows old mid → LeavesReplica replica mid left → GivesReplica replica cells left new
-    → replica < mid.replicas → ((other : Pair) → length (row_at mid other) ≡ mid.replicas) → ChangesRows (op.Swap replica cells) old new
-swap_changes {P} replica cells old mid left new keeps leaves gives h long = record {
-  replicas = gives.replicas ∙ leaves.replicas ∙ keeps.replicas;
-  rows = λ other.
-      let row : List (Place P) = row_at mid other in
-      let gone : Place P = gone_place (place_in row replica) in
-      let inside : replica < length row = omega (arith, long other) in
-      gives.rows other
-      ∙ ap (λ (xs : List (Place P)). set xs replica (last_place cells other (place_in xs replica))) (leaves.rows other)
-      ∙ set-set row replica gone (last_place cells other (place_in (set row replica gone) replica))
-      ∙ ap (λ (y : Place P). set row replica (last_place cells other y)) (get_or-set_same row replica gone place.None inside)
-      ∙ ap (λ (xs : List (Place P)). set xs replica (last_place cells other (gone_place (place_in xs replica)))) (keeps.rows other);
-  known = λ other h. gives.known other (leaves.known other ∙ keeps.known other h);
 }

@@ -1,4 +1,5 @@
 pub mod Changes
 pub mod Leaving
 pub mod Lists
+pub mod Moving
 pub mod RowLaws

@@ -1,5 +1,5 @@
 -- What the place of a pair's photo means.
-use Rattle.std.specs.Prelude.{◌≡◌, ℕ, List, length, false, slice_index_or}
+use Rattle.std.specs.Prelude.{◌≡◌, ℕ, List, length, Bool, true, false, slice_index_or}
 use Rattle.hay_needle.specs.declared.needle.Outcome.{Outcome}
 use Rattle.hay_needle.specs.declared.needle.Outcome.TheVariants as outcome
 use Rattle.hay_needle.specs.declared.needle.Pair.{Pair}
@@ -34,6 +34,20 @@ gone_place place.None = place.None
 gone_place (place.Live needle) = place.Gone
 gone_place place.Gone = place.Gone
 gone_place (place.Unseen at size) = place.Gone
+
+-- whether the replica ever had a photo
+abbrev pub has_stood : {P : Type 0} → Place P → Bool
+has_stood place.None = false
+has_stood (place.Live needle) = true
+has_stood place.Gone = true
+has_stood (place.Unseen at size) = true
+
+-- the place of a photo that moved here; where there never was one, none is
+abbrev pub moved_place : {P : Type 0} → Place P → Place P → Place P
+moved_place place.None there = place.None
+moved_place (place.Live needle) there = there
+moved_place place.Gone there = there
+moved_place (place.Unseen at size) there = there
 
 -- the place of a replica in a row
 abbrev pub place_in : {P : Type 0} → List (Place P) → ℕ → Place P

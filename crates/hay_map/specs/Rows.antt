@@ -3,7 +3,7 @@ use Rattle.std.specs.Prelude.{◌≡◌, ℕ, ◌<◌, ◌≤◌, ◌⊎◌, Boo
 use Rattle.hay_needle.specs.declared.needle.Pair.{Pair}
 use Rattle.hay_needle.specs.Tables.{pair_eq}
 use Rattle.hay_map.specs.MapRows.{MapRows, offset_of}
-use Rattle.hay_map.specs.Places.{gone_place, place_in}
+use Rattle.hay_map.specs.Places.{gone_place, moved_place, place_in}
 use Rattle.hay_map.specs.declared.place.Place.{Place}
 use Rattle.hay_map.specs.declared.place.Place.TheVariants as place
 use Rattle.hay_map.specs.declared.view.OpenCell.{OpenCell}
@@ -38,13 +38,18 @@ abbrev pub last_place : {P : Type 0} → List (OpenCell P) → Pair → Place P 
 last_place [] pair before = before
 last_place (cell ∷ cells) pair before = last_place cells pair (if pair_eq cell.pair pair then cell.place else before)
 
+-- the place to which the last of these cells that has the pair moved it
+abbrev pub swapped_place : {P : Type 0} → List (OpenCell P) → Pair → Place P → Place P
+swapped_place [] pair before = before
+swapped_place (cell ∷ cells) pair before = swapped_place cells pair (if pair_eq cell.pair pair then moved_place before cell.place else before)
+
 -- what a change makes of a pair's row
 abbrev pub changed_row : {P : Type 0} → MapOp P → Pair → List (Place P) → List (Place P)
 changed_row (op.Put pair row) other before = if pair_eq pair other then row else before
 changed_row (op.Del pair) other before = if pair_eq pair other then map gone_place before else before
 changed_row (op.Seen pair replica place) other before = if pair_eq pair other then slice_set before replica place else before
 changed_row (op.Swap replica cells) other before =
-    slice_set before replica (last_place cells other (gone_place (place_in before replica)))
+    slice_set before replica (swapped_place cells other (gone_place (place_in before replica)))
 
 -- Each row is changed.
 pub record ChangesRows {P : Type 0} (change : MapOp P) (old new : MapRows P) : Type 0 where
@@ -89,9 +94,22 @@ pub record GivesReplica {P : Type 0} (replica : ℕ) (cells : List (OpenCell P))
   pub rows : (other : Pair) → row_at new other ≡ slice_set (row_at old other) replica (last_place cells other (place_in (row_at old other) replica))
   pub known : (other : Pair) → has_row old other ≡ true → has_row new other ≡ true
 
+-- The place of a pair moved, and nothing else changed.
+pub record MovesPlace {P : Type 0} (pair : Pair) (replica : ℕ) (place : Place P) (old new : MapRows P) : Type 0 where
+  pub replicas : new.replicas ≡ old.replicas
+  pub rows : (other : Pair) → row_at new other ≡
+      (if pair_eq pair other then slice_set (row_at old other) replica (moved_place (place_in (row_at old other) replica) place) else row_at old other)
+  pub known : (other : Pair) → has_row new other ≡ has_row old other
+
+-- The photos of a replica moved to these cells, one after another.
+pub record MovesReplica {P : Type 0} (replica : ℕ) (cells : List (OpenCell P)) (old new : MapRows P) : Type 0 where
+  pub replicas : new.replicas ≡ old.replicas
+  pub rows : (other : Pair) → row_at new other ≡ slice_set (row_at old other) replica (swapped_place cells other (place_in (row_at old other) replica))
+  pub known : (other : Pair) → has_row new other ≡ has_row old other
+
 -- a change for which no memory is wanted
 abbrev pub NeedsNoMemory : {P : Type 0} → MapOp P → MapRows P → Type 0
 NeedsNoMemory (op.Put pair row) rows = (has_row rows pair ≡ true) ⊎ HasRoom rows
 NeedsNoMemory (op.Del pair) rows = Unit {0}
 NeedsNoMemory (op.Seen pair replica place) rows = (has_row rows pair ≡ true) ⊎ HasRoom rows
-NeedsNoMemory (op.Swap replica cells) rows = AllKnown rows cells
+NeedsNoMemory (op.Swap replica cells) rows = Unit {0}

@@ -2,9 +2,9 @@
 ghost use Rattle.std.specs.Prelude.{◌≡◌, ◌≤◌, ◌<◌, ◌⊎◌, true, length, map, replicate, slice_set, if◌then◌else◌, IsOk, OnOk, OnErr};
 ghost use Rattle.hay_needle.specs.declared.needle.Pair.{Pair};
 ghost use Rattle.hay_needle.specs.Tables.{pair_eq};
-ghost use Rattle.hay_map.specs.Places.{gone_place, place_in};
+ghost use Rattle.hay_map.specs.Places.{gone_place, has_stood, place_in};
 ghost use Rattle.hay_map.specs.MapRows.{offset_of};
-ghost use Rattle.hay_map.specs.Rows.{row_at, has_row, last_place, KeepsRows, ChangesRows, FitsRows, HasRoom, NeedsNoMemory, AllKnown, SetsPlace, SetsRow, LeavesReplica, GivesReplica};
+ghost use Rattle.hay_map.specs.Rows.{row_at, has_row, last_place, KeepsRows, ChangesRows, FitsRows, HasRoom, NeedsNoMemory, AllKnown, SetsPlace, SetsRow, LeavesReplica, GivesReplica, MovesPlace, MovesReplica};
 ghost use Rattle.hay_map.specs.declared.place.Place.TheVariants as place_is;
 ghost use Rattle.hay_map.specs.declared.view.MapOp.TheVariants as map_op;
 
@@ -42,7 +42,7 @@ pub enum MapOp<P: Piece> {
         replica: u32,
         place: Place<P>,
     },
-    /// A replica has the places of these cells, and of every other pair no photo.
+    /// A replica has the places of these cells, and of every other pair no photo. A pair without a place there gets none.
     Swap {
         replica: u32,
         cells: Listed<OpenCell<P>>,
@@ -161,18 +161,14 @@ impl<P: Piece> MapView<P> {
         Ok(())
     }
 
-    /// Gives a replica the places of these cells, and no photo of any other pair. `NoMemory` leaves each row as it was.
-    pub fn swap(&mut self, replica: u32, cells: &[OpenCell<P>]) -> Result<(), NoMemory>
+    /// Gives a replica the places of these cells, and no photo of any other pair. A pair that had no place there gets none. It
+    /// takes no memory.
+    pub fn swap(&mut self, replica: u32, cells: &[OpenCell<P>])
         requires { replica < self.old.replicas }
-        ensures ok { OnOk result (ChangesRows (map_op.Swap replica cells.now) self.old self.new) }
-        ensures known { OnOk result (AllKnown self.new cells.now) }
-        ensures err { OnErr result (KeepsRows self.old self.new) }
-        ensures memory { AllKnown self.old cells.now → IsOk result }
+        ensures { ChangesRows (map_op.Swap replica cells.now) self.old self.new }
     {
-        self.add_all(cells)?;
         self.leave_replica(replica as usize);
-        self.set_all(replica as usize, cells);
-        Ok(())
+        self.move_all(replica as usize, cells);
     }
 
     /// Changes the rows. `NoMemory` leaves each row as it was.
@@ -193,7 +189,10 @@ impl<P: Piece> MapView<P> {
                 replica,
                 place,
             } => self.see(pair, replica, place),
-            MapOp::Swap { replica, cells } => self.swap(replica, cells.as_slice()),
+            MapOp::Swap { replica, cells } => {
+                self.swap(replica, cells.as_slice());
+                Ok(())
+            }
         }
     }
 
@@ -259,6 +258,38 @@ impl<P: Piece> MapView<P> {
     {
         for cell in cells {
             self.set_place(cell.pair, replica, cell.place.dup());
+        }
+    }
+
+    // Whether a pair has a place on a replica.
+    fn has_place(&self, pair: Pair, replica: usize) -> bool
+        requires { replica < self.now.replicas }
+        ensures { result ≡ has_stood (place_in (row_at self.now pair) replica) }
+    {
+        match self.row(pair).place(replica) {
+            Place::None => false,
+            Place::Unseen { .. } => true,
+            Place::Live(_) => true,
+            Place::Gone => true,
+        }
+    }
+
+    fn move_place(&mut self, pair: Pair, replica: usize, place: Place<P>)
+        requires { replica < self.old.replicas }
+        ensures { MovesPlace pair replica place self.old self.new }
+    {
+        if self.has_place(pair, replica) {
+            self.set_place(pair, replica, place);
+        }
+    }
+
+    fn move_all(&mut self, replica: usize, cells: &[OpenCell<P>])
+        requires replica { replica < self.old.replicas }
+        requires long { (other : Pair) → length (row_at self.old other) ≡ self.old.replicas }
+        ensures { MovesReplica replica cells.now self.old self.new }
+    {
+        for cell in cells {
+            self.move_place(cell.pair, replica, cell.place.dup());
         }
     }
 
