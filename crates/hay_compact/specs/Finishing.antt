@@ -1,5 +1,5 @@
 -- What the end of a compaction gives.
-use Rattle.std.specs.Prelude.{◌≡◌, ◌⊎◌, true, false, List, [], ◌∷◌, ◌++◌, Option, Some, None, ⊤}
+use Rattle.std.specs.Prelude.{◌≡◌, ◌⊎◌, true, false, List, [], ◌∷◌, ◌++◌, All, Option, Some, None, ⊤}
 use Rattle.hay_needle.specs.declared.needle.Cell.{Cell}
 use Rattle.hay_needle.specs.declared.needle.Pair.{Pair}
 use Rattle.hay_needle.specs.declared.settings.Super.{Super}
@@ -7,6 +7,7 @@ use Rattle.hay_needle.specs.Tables.{lacks}
 use Rattle.hay_disk.specs.Disk.{Files, FileState}
 use Rattle.hay_volume.specs.Cells.{needles_of}
 use Rattle.hay_index.specs.declared.record.Record.{Record}
+use Rattle.hay_map.specs.Places.{has_stood}
 use Rattle.hay_map.specs.declared.place.Place.{Place}
 use Rattle.hay_map.specs.declared.place.Place.TheVariants as place
 use Rattle.hay_map.specs.declared.view.OpenCell.{OpenCell}
@@ -19,6 +20,10 @@ use Rattle.hay_compact.specs.Standing.{LastCells, place_in}
 -- The place of each pair is that of its last cell. A pair that is not listed has no photo.
 abbrev pub AreThePlaces : {P : Type 0} → Type 0 → List Cell → List (OpenCell P) → Type 0
 AreThePlaces Tells cells places = (pair : Pair) → PlaceOf Tells (last_cell cells pair) (last_place places pair place.Gone)
+
+-- each of these cells has a photo's place
+abbrev pub ArePhotos : {P : Type 0} → List (OpenCell P) → Type 0
+ArePhotos cells = All (λ cell. has_stood cell.place ≡ true) cells
 
 -- a place that was looked at
 abbrev pub IsSeen : {P : Type 0} → Place P → Type 0

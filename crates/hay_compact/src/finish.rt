@@ -12,7 +12,7 @@ ghost use Rattle.hay_index.specs.declared.record.Record.{Record};
 ghost use Rattle.hay_open.specs.Stored.{Stored, VolumeRests, cell_record};
 ghost use Rattle.hay_volume.specs.Cells.{IsVolume};
 ghost use Rattle.hay_compact.specs.Copying.{AreOfVersionTwo, IsMaking, KeepsOtherFiles, Making};
-ghost use Rattle.hay_compact.specs.Finishing.{ArePlacesSoFar, AreThePlaces, CanSeal, IsDue, IsFinished, IsSeen};
+ghost use Rattle.hay_compact.specs.Finishing.{ArePhotos, ArePlacesSoFar, AreThePlaces, CanSeal, IsDue, IsFinished, IsSeen};
 
 use crate::compactor::Compactor;
 use crate::standing::Standing;
@@ -45,6 +45,7 @@ impl Compactor {
             Making sup (D.files disk.old) self fresh →
             IsFinished D.Piece.Tells sup (D.files disk.new) finished self fresh) }
         ensures thawed { IfOk result (λ finished. finished.index.frozen ≡ false) }
+        ensures photos { IfOk result (λ finished. ArePhotos finished.places.items) }
         // Each cell of the new volume file is of version 2.
         ensures anew { D.Tells → IfOk result (λ finished. (superblock : List ℕ) (cells : List Cell) (end : ℕ) →
             IsVolume superblock (D.files disk.new finished.volume.file).now cells end → AreOfVersionTwo cells) }
@@ -93,6 +94,7 @@ fn seal_all<D: Disk>(
         → AreThePlaces D.Piece.Tells s.cells places.items) }
     ensures seen { D.Tells → IfOk result (λ places. (sup : Super) (s : Stored) → CanSeal sup (D.files disk.old file) standing.now s → records.now ≡ map cell_record s.cells
         → (pair : Pair) → IsSeen (last_place places.items pair place.Gone)) }
+    ensures photos { IfOk result (λ places. ArePhotos places.items) }
     ensures rests { D.Tells → (sup : Super) (s : Stored) → VolumeRests sup (D.files disk.old file) s → records.now ≡ map cell_record s.cells → VolumeRests sup (D.files disk.new file) s }
     ensures others { D.Tells → KeepsOthers file (D.files disk.old) (D.files disk.new) }
     ensures drawn { D.Tells → (n : ℕ) → D.drawn disk.new n ≡ D.drawn disk.old n }
@@ -118,6 +120,7 @@ fn seal_next<D: Disk>(
     requires ready { D.Tells → (sup : Super) × (s : Stored) × (rest : List Cell) × CanSeal sup (D.files disk.old file) standing.now s × IsDue s row rest }
     ensures places { D.Tells → OnOk result ((sup : Super) (s : Stored) (rest : List Cell) → CanSeal sup (D.files disk.old file) standing.now s → IsDue s row rest
         → ArePlacesSoFar D.Piece.Tells s.cells rest places.old.items → ArePlacesSoFar D.Piece.Tells s.cells (drop 1 rest) places.new.items) }
+    ensures photos { ArePhotos places.old.items → ArePhotos places.new.items }
     ensures rests { D.Tells → (sup : Super) (s : Stored) (rest : List Cell) → VolumeRests sup (D.files disk.old file) s → IsDue s row rest → VolumeRests sup (D.files disk.new file) s }
     ensures others { D.Tells → KeepsOthers file (D.files disk.old) (D.files disk.new) }
     ensures drawn { D.Tells → (n : ℕ) → D.drawn disk.new n ≡ D.drawn disk.old n }

@@ -7,7 +7,7 @@ ghost use Rattle.hay_map.specs.declared.place.Place.TheVariants as place;
 ghost use Rattle.hay_map.specs.Rows.{last_place};
 ghost use Rattle.hay_open.specs.Stored.{Stored, index_file, volume_file};
 ghost use Rattle.hay_compact.specs.Copying.{IsLatest};
-ghost use Rattle.hay_compact.specs.Finishing.{AreThePlaces, IsSeen};
+ghost use Rattle.hay_compact.specs.Finishing.{ArePhotos, AreThePlaces, IsSeen};
 ghost use Rattle.hay_physical.specs.Copies.{IsFrozen, IsOpenCopy, IsUp, faults_at_end, generation_of, goal_of, is_frozen, is_stuck};
 ghost use Rattle.hay_physical.specs.Faults.{IsBeginFault, IsPeekFault, IsRunFault};
 ghost use Rattle.hay_physical.specs.Replicas.{Anywhere, Holds, KeepsSight, MayDelete, MayDeletePlace, ShowsCell, Stands};
@@ -170,6 +170,7 @@ impl<D: Disk> Replica<D> {
         ensures up { OnOk result (IsUp self.new) }
         ensures going { OnOk result (is_stuck self.new ≡ false) }
         ensures can_delete { D.Tells → IfOk result (λ places. (pair : Pair) → MayDeletePlace D.files self.new (last_place places.items pair place.Gone)) }
+        ensures photos { IfOk result (λ places. ArePhotos places.items) }
         // Each place is one that was looked at, and each cell of the new file can be seen.
         ensures seen { D.Tells → IfOk result (λ places. (pair : Pair) → IsSeen (last_place places.items pair place.Gone)) }
         ensures shows { D.Tells → OnOk result ((s : Stored) → Stands D.files self.new s → AllByRecursion (ShowsCell D.files self.new) s.cells) }

@@ -7,7 +7,7 @@ ghost use Rattle.hay_map.specs.declared.place.Place.TheVariants as place;
 ghost use Rattle.hay_map.specs.Rows.{last_place};
 ghost use Rattle.hay_open.specs.Stored.{Stored};
 ghost use Rattle.hay_compact.specs.Copying.{IsLatest, KeepsOtherFiles, Stage};
-ghost use Rattle.hay_compact.specs.Finishing.{AreThePlaces, IsSeen};
+ghost use Rattle.hay_compact.specs.Finishing.{ArePhotos, AreThePlaces, IsSeen};
 ghost use Rattle.hay_physical.specs.Copies.{copier_faults, copier_goal};
 ghost use Rattle.hay_physical.specs.Faults.{IsBeginFault, IsPeekFault, IsRunFault};
 ghost use Rattle.hay_physical.specs.Replicas.{FilesReady, FilesStand, IsCopierReady, IsSettled, MayFind, MayFlagPlace};
@@ -257,6 +257,7 @@ impl OpenFiles {
 
         ensures ready { D.Tells → self.new.frozen ≡ false → FilesReady (D.files disk.new) self.new }
         ensures flags { D.Tells → IfOk result (λ places. (pair : Pair) → MayFlagPlace (D.files disk.new) self.new (last_place places.items pair place.Gone)) }
+        ensures photos { IfOk result (λ places. ArePhotos places.items) }
         ensures seen { D.Tells → IfOk result (λ places. (pair : Pair) → IsSeen (last_place places.items pair place.Gone)) }
         ensures volume { D.Tells → self.old.frozen ≡ false → OnErr result (D.files disk.new self.old.volume.file ≡ D.files disk.old self.old.volume.file) }
 

@@ -11,7 +11,7 @@ ghost use Rattle.hay_map.specs.declared.place.Place.TheVariants as place;
 ghost use Rattle.hay_map.specs.Rows.{last_place};
 ghost use Rattle.hay_open.specs.Stored.{Stored};
 ghost use Rattle.hay_compact.specs.Copying.{IsMaking, Making, stored_of};
-ghost use Rattle.hay_compact.specs.Finishing.{AreThePlaces, IsSeen};
+ghost use Rattle.hay_compact.specs.Finishing.{ArePhotos, AreThePlaces, IsSeen};
 ghost use Rattle.hay_physical.specs.Faults.{IsRunFault};
 ghost use Rattle.hay_physical.specs.Replicas.{FilesReady, FilesStand, MayFind, MayFlagPlace};
 ghost use Rattle.hay_physical.specs.Runs.{KeepsBut, MaySwitch, RemovedBoth, Switches};
@@ -42,6 +42,7 @@ impl OpenFiles {
         ensures moved { OnOk result (self.new.head.generation ≡ self.old.head.generation + 1) }
         ensures flags { D.Tells → IfOk result (λ places. (pair : Pair) → MayFlagPlace (D.files disk.new) self.new (last_place places.items pair place.Gone)) }
         ensures seen { D.Tells → IfOk result (λ places. (pair : Pair) → IsSeen (last_place places.items pair place.Gone)) }
+        ensures photos { IfOk result (λ places. ArePhotos places.items) }
         ensures ready { D.Tells → self.new.frozen ≡ false → FilesReady (D.files disk.new) self.new }
         ensures copier { self.new.copier ≡ self.old.copier }
         ensures removed { D.Tells → OnOk result (RemovedBoth (D.files disk.new) self.old.volume.file self.old.index.file (D.fault_count disk.old) (D.fault_count disk.new)) }

@@ -1,4 +1,4 @@
-use Rattle.std.proofs.Common.{◌≡◌, ◌∙◌, List, drop, refl, ap, arith, subst, Err}
+use Rattle.std.proofs.Common.{◌≡◌, ◌∙◌, List, length, drop, refl, ap, arith, subst, Err}
 use Rattle.std.proofs.lemmas.Result.{err_from_is_err_and}
 use Rattle.hay_needle.specs.declared.needle.Cell.{Cell}
 use Rattle.hay_disk.specs.declared.disk.DiskFault.{DiskFault}
@@ -13,6 +13,7 @@ loop-row-init g c = record {
   others = λ tells other apart. refl;
   drawn = λ tells n. refl;
   faults = omega arith;
+  photos = λ k d h. absurd (omega (arith, h, ap (λ l. length l) c.new-places.ensures.items));
   fuses = refl;
 }
 
@@ -52,6 +53,7 @@ loop-row-preserved g c = record {
   others = λ tells other apart. c.seal_next.ensures.others tells other apart ∙ c.loop-row.invariant.others tells other apart;
   drawn = λ tells n. c.seal_next.ensures.drawn tells n ∙ c.loop-row.invariant.drawn tells n;
   faults = omega (arith, c.seal_next.ensures.counted.later, c.loop-row.invariant.faults);
+  photos = c.seal_next.ensures.photos c.loop-row.invariant.photos;
   fuses = c.seal_next.ensures.fuses ∙ c.loop-row.invariant.fuses;
 }
 

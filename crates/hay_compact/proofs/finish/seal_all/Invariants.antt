@@ -3,7 +3,7 @@ use Rattle.std.specs.Prelude.{map}
 use Rattle.hay_needle.specs.declared.settings.Super.{Super}
 use Rattle.hay_disk.specs.Disk.{KeepsOthers}
 use Rattle.hay_open.specs.Stored.{Stored, VolumeRests, cell_record}
-use Rattle.hay_compact.specs.Finishing.{ArePlacesSoFar, CanSeal}
+use Rattle.hay_compact.specs.Finishing.{ArePhotos, ArePlacesSoFar, CanSeal}
 use Rattle.hay_compact.proofs.finish.seal_all.Given as goal
 
 abbrev pub invariant-loop-row : goal.invariant-loop-row
@@ -14,5 +14,6 @@ invariant-loop-row g l = record {
   others : g.D.Disk.Tells → KeepsOthers l.file (g.D.Disk.files l.fn.disk) (g.D.Disk.files l.disk);
   drawn : g.D.Disk.Tells → (n : ℕ) → g.D.Disk.drawn l.disk n ≡ g.D.Disk.drawn l.fn.disk n;
   faults : g.D.Disk.fault_count l.fn.disk ≤ g.D.Disk.fault_count l.disk;
+  photos : ArePhotos l.places.items;
   fuses : g.D.Disk.fuse_count l.disk ≡ g.D.Disk.fuse_count l.fn.disk;
 }

@@ -1,5 +1,9 @@
-use Rattle.std.proofs.Common.{◌∙◌, ap, arith, refl, sym}
+use Rattle.std.proofs.Common.{◌≡◌, ◌∙◌, List, true, ap, arith, refl, subst, sym}
+use Rattle.std.proofs.lemmas.List.Elements.{All-push}
+use Rattle.hay_map.specs.Places.{has_stood}
 use Rattle.hay_map.specs.Sealed.{SealedNeedle}
+use Rattle.hay_map.specs.declared.view.OpenCell.{OpenCell}
+use Rattle.hay_compact.specs.Finishing.{ArePhotos}
 use Rattle.hay_compact.proofs.Copied.{is_next, not_next}
 use Rattle.hay_compact.proofs.Sealings.{places_pass, places_sealed, rests_sealed, due_inside}
 use Rattle.hay_compact.proofs.finish.seal_next.Goals as goal
@@ -32,3 +36,8 @@ returns-clause-places g c = λ tells sup s rest can due so_far.
     (sym c.place.ensures.place ∙ is_next c.place.result c.args.row.at c.ne.result c.ne.ensures c.if-ne.false)
     c.total_of-total.ensures (ap (λ (n : SealedNeedle). n.at) c.new.ensures) (ap (λ (n : SealedNeedle). n.size) c.new.ensures) (ap (λ (n : SealedNeedle). n.bytes) c.new.ensures ∙ bytes.1)
     c.in_ok-push.ensures.items so_far
+
+pub returns-clause-photos : goal.returns-clause-photos
+returns-clause-photos g c = λ all.
+    subst (λ (cells : List (OpenCell _)). ArePhotos cells) (sym c.in_ok-push.ensures.items)
+    (All-push (λ (cell : OpenCell _). has_stood cell.place ≡ true) c.args.places.now.items _ all refl)
