@@ -16,7 +16,7 @@ use Rattle.hay_physical.specs.Runs as runs
 use Rattle.hay_physical.specs.Runs.{HasRun, RemovedBoth}
 use Rattle.hay_physical.proofs.Laws.{goal_none, stands_generation}
 use Rattle.hay_logical.specs.declared.runs.Unswapped.{Unswapped}
-use Rattle.hay_logical.specs.declared.runs.Unswapped.TheVariants.{Refused, Unsure as Perhaps, Unplaced}
+use Rattle.hay_logical.specs.declared.runs.Unswapped.TheVariants.{Refused, Unsure as Perhaps}
 use Rattle.hay_logical.specs.declared.unsure.Unsure.{Unsure}
 use Rattle.hay_logical.specs.Answers.{CompactRefused, FinishRefused, HasFailed, IsAtRest, IsCompacted, IsFinished, IsRunning, MayFinish, RemovesOld}
 use Rattle.hay_logical.specs.Answers as answers
@@ -93,23 +93,11 @@ module _ {D P : Type 0} (settings : Settings) (number : ℕ) (DiskTells : Type 0
   finish_refused (Refused fault.NoMemory) standing few swaps places =
       let run = running standing in
       let h = swaps.refused tells was.stored (copier_run run.0) was.stands (has_run run) was.places in
-      (stands.frozen, may_finish standing few, inl (stands_dropped settings number DiskTells files Tells items new rows rows' front unsure k stands one.count tells at one swaps.left.0 swaps.left.1 h.0 h.1 places.same))
+      (stands.frozen, may_finish standing few, stands_dropped settings number DiskTells files Tells items new rows rows' front unsure k stands one.count tells at one swaps.left.0 swaps.left.1 h.0 h.1 places.same)
   finish_refused (Perhaps n) standing few swaps places =
       let run = running standing in
       let h = swaps.refused tells was.stored (copier_run run.0) was.stands (has_run run) was.places in
       (stands.frozen, refl, run, inr (stands_poised settings number DiskTells files Tells items new rows rows' front unsure k stands one.count tells at one (machine_of settings number at) h.0 swaps.left.0 h.1 h.2 places.same))
-  finish_refused Unplaced standing few swaps places =
-      let run = running standing in
-      let h = swaps.refused tells was.stored (copier_run run.0) was.stands (has_run run) was.places in (
-        stands.frozen,
-        may_finish standing few,
-        inr (
-          h.stored.end,
-          length h.stored.cells,
-          loose_sizes k at was.stored h.stored (copier_run run.0) was.fits h.to,
-          stands_unplaced settings number DiskTells files Tells items new rows rows' front unsure k stands one.count tells at one (machine_of settings number 0) (copier_run run.0) swaps.left.0 h places.same,
-        ),
-      )
 
   -- the files of the old generation
   pub removes_old : (start : Start) (generation : ℕ) → SwapsAt DiskTells files faults Tells start rows rows' at one.before one.after (Ok generation)
@@ -188,23 +176,11 @@ module _ {D P : Type 0} (settings : Settings) (number : ℕ) (DiskTells : Type 0
   compact_refused (Refused fault.NoMemory) up swaps places =
       let idle = swaps.left.2 in
       let h = swaps.refused tells was.stored fresh was.stands (goal_none files one.before was.stored idle.0, refl) was.places in
-      (stands.frozen, rest idle, inl (stands_dropped settings number DiskTells files Tells items new rows rows' front unsure k stands one.count tells at one swaps.left.0 swaps.left.1 h.0 h.1 places.same))
+      (stands.frozen, rest idle, stands_dropped settings number DiskTells files Tells items new rows rows' front unsure k stands one.count tells at one swaps.left.0 swaps.left.1 h.0 h.1 places.same)
   compact_refused (Perhaps n) up swaps places =
       let idle = swaps.left.2 in
       let h = swaps.refused tells was.stored fresh was.stands (goal_none files one.before was.stored idle.0, refl) was.places in
       (stands.frozen, refl, rest idle, inr (stands_poised settings number DiskTells files Tells items new rows rows' front unsure k stands one.count tells at one (machine_of settings number at) h.0 swaps.left.0 h.1 h.2 places.same))
-  compact_refused Unplaced up swaps places =
-      let idle = swaps.left.2 in
-      let h = swaps.refused tells was.stored fresh was.stands (goal_none files one.before was.stored idle.0, refl) was.places in (
-        stands.frozen,
-        rest idle,
-        inr (
-          h.stored.end,
-          length h.stored.cells,
-          tight_sizes k at was.stored h.stored fresh refl was.fits h.to,
-          stands_unplaced settings number DiskTells files Tells items new rows rows' front unsure k stands one.count tells at one (machine_of settings number 0) fresh swaps.left.0 h places.same,
-        ),
-      )
 
 -- CAUSES
 
@@ -235,7 +211,6 @@ module _ {D P : Type 0} (settings : Settings) (number : ℕ) (DiskTells : Type 0
   finish_fault (Refused (fault.Damaged place)) swaps = tt
   finish_fault (Refused fault.NoMemory) swaps = tt
   finish_fault (Perhaps n) swaps = failed_at n swaps.left.3 swaps.left.4
-  finish_fault Unplaced swaps = tt
 
   pub compact_fault : (u : Unswapped) → SwapsAt DiskTells files faults Tells Fresh rows rows' at one.before one.after (Err u) → answers.IsCompactFault faults settings number items new (unfinished_by settings number at u).fault
   compact_fault (Refused (fault.Failed n)) swaps = failed_at n swaps.left.3 swaps.left.4
@@ -247,4 +222,3 @@ module _ {D P : Type 0} (settings : Settings) (number : ℕ) (DiskTells : Type 0
   compact_fault (Refused (fault.Damaged place)) swaps = tt
   compact_fault (Refused fault.NoMemory) swaps = tt
   compact_fault (Perhaps n) swaps = failed_at n swaps.left.3 swaps.left.4
-  compact_fault Unplaced swaps = tt

@@ -7,7 +7,7 @@ use Rattle.hay_map.specs.MapRows.{MapRows}
 use Rattle.hay_physical.specs.declared.fault.ReplicaFault.TheVariants as fault
 use Rattle.hay_physical.specs.Copies.{Copy, IsFrozen, IsUp, goal_of, is_frozen}
 use Rattle.hay_logical.specs.declared.runs.Unswapped.{Unswapped}
-use Rattle.hay_logical.specs.declared.runs.Unswapped.TheVariants.{Refused, Unsure, Unplaced}
+use Rattle.hay_logical.specs.declared.runs.Unswapped.TheVariants.{Refused, Unsure}
 use Rattle.hay_logical.specs.Fits.{At}
 use Rattle.hay_logical.specs.Steps.{AllIdle, LosesRun, Start, SwapsAt, SwapsOne}
 use Rattle.hay_logical.proofs.Calls.{frozen_is, not_both, open_frozen, up_thawed}
@@ -26,7 +26,6 @@ module _ {D P : Type 0} (DiskTells : Type 0) (files : D → Files) (faults : D �
   idle_frozen r y (Err (Refused (fault.Full end need capacity))) up frozen swaps = absurd swaps.left
   idle_frozen r y (Err (Refused (fault.Ended n))) up frozen swaps = absurd swaps.left
   idle_frozen r y (Err (Unsure n)) up frozen swaps = (swaps.left).1
-  idle_frozen r y (Err Unplaced) up frozen swaps = (swaps.left).1
 
   module _ (old new : List (Copy D)) (r y : Copy D) (result : Result ℕ Unswapped) (was : At old at r) (up : IsUp r) (swaps : SwapsAt DiskTells files faults Tells start rows rows' at r y result)
       (count : length new ≡ length (slice_set old at y))

@@ -249,30 +249,6 @@ module _ {D P : Type 0} (settings : Settings) (number : ℕ) (DiskTells : Type 0
               frozen_other tells (change_at (frozen_by m k) at poised) j r r' refl was (one.others j r r' apart e f).0 known
         ])
 
-    -- a swap behind which no memory was left
-    pub stands_unplaced : (m : ℕ) (run : runs.Run) → IsFrozen one.after → (made : Unpublished files one.after was_there.stored run) → ((pair : Pair) → row_at rows' pair ≡ row_at rows pair)
-        → StandsFor files Tells (volume_with settings number new rows' front (Some m) unsure) (frozen_by m (change_at k at (swapped made.stored.end (length made.stored.cells))))
-    stands_unplaced m run frozen made same =
-        let change : ReplicaKnown → ReplicaKnown = swapped made.stored.end (length made.stored.cells) in
-        let long : length (change_at k at change).replicas ≡ length k.replicas = length-slice_set k.replicas at _ in
-        let low = low_at in
-        stands_frozen (frozen_by m (change_at k at change)) m refl refl refl (length-map (change_at k at change).replicas without_run ∙ long) same (one.idle frozen) (λ j r r' e f was. elim (cases_eq j at) [
-          | inl here ↦
-              let after_is : r' ≡ one.after = at_same new at r' one.after (subst (λ n. At new n r') here f) one.is in
-              let x : ReplicaKnown = change (replica_at k at) in
-              let known : replica_at (frozen_by m (change_at k at change)) at ≡ without_run x =
-              replica_mapped without_run (change_at k at change).replicas at (let l : at < length (change_at k at change).replicas = omega (arith, long, low) in l) ∙ ap without_run (changed_here k at change low) in
-              subst (λ n. Frozen (frozen_by m (change_at k at change)) n r') (sym here)
-              (frozen_as (frozen_by m (change_at k at change)) at r' (without_run x) made.stored known refl refl
-              (fits_same k (frozen_by m (change_at k at change)) x (without_run x) made.stored refl refl refl refl refl refl (fits_swapped k at was_there.stored made.stored run was_there.fits made.to))
-              (swap_settled files r' false made.stored (replica_at k at).poised was_there.settled (subst (λ (y : Copy D). physical.Holds files y false made.stored made.stored) (sym after_is) made.holds)))
-          | inr apart ↦
-              let less : j < length k.replicas = (let h = at_below items j r e in let all = stands.all in let many = stands.many in omega (arith, h, all, many)) in
-              let known : replica_at (frozen_by m (change_at k at change)) j ≡ without_run (replica_at k j) =
-              replica_mapped without_run (change_at k at change).replicas j (let l : j < length (change_at k at change).replicas = omega (arith, long, less) in l) ∙ ap without_run (changed_other k j at change apart) in
-              frozen_other tells (frozen_by m (change_at k at change)) j r r' refl was (one.others j r r' apart e f).0 known
-        ])
-
     -- nothing has changed
     pub stands_same : ((j : ℕ) (r r' : Copy D) → At items j r → At new j r' → r' ≡ r) → ((pair : Pair) → row_at rows' pair ≡ row_at rows pair) → StandsFor files Tells (volume_with settings number new rows' front None unsure) k
     stands_same each same = stands_each k refl stands.frozen refl refl (λ j r r' e f was.

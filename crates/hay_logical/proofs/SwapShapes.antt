@@ -12,7 +12,7 @@ use Rattle.hay_physical.specs.Copies.{Copy, IsOpenCopy, IsUp, is_frozen}
 use Rattle.hay_physical.specs.Replicas as physical
 use Rattle.hay_logical.specs.declared.unsure.Unsure.{Unsure}
 use Rattle.hay_logical.specs.declared.runs.Unswapped.{Unswapped}
-use Rattle.hay_logical.specs.declared.runs.Unswapped.TheVariants.{Refused, Unsure as Perhaps, Unplaced}
+use Rattle.hay_logical.specs.declared.runs.Unswapped.TheVariants.{Refused, Unsure as Perhaps}
 use Rattle.hay_logical.specs.Fits.{At}
 use Rattle.hay_logical.specs.Refusals.{unfinished_by}
 use Rattle.hay_logical.specs.Steps.{KeepsPlaces, LosesRun, Start, SwapsAt, SwapsOne}
@@ -52,7 +52,6 @@ module _ {D P : Type 0} (DiskTells : Type 0) (files : D → Files) (Tells : Type
   swaps_up settings number (Refused (fault.Full end need capacity)) swaps none = absurd swaps.left
   swaps_up settings number (Refused (fault.Ended n)) swaps none = absurd swaps.left
   swaps_up settings number (Perhaps n) swaps none = absurd cc
-  swaps_up settings number Unplaced swaps none = absurd cc
 
   pub swaps_deletable : (result : Result ℕ Unswapped) → SwapsAt DiskTells files faults Tells start rows rows' at one.before one.after result → KeepsPlaces rows rows' at result → CanDelete DiskTells files items rows → CanDelete DiskTells files new rows'
   swaps_deletable result swaps places can tells j r' f up pair = elim (cases_eq j at) [

@@ -26,7 +26,7 @@ use Rattle.hay_physical.specs.Replicas as physical
 use Rattle.hay_physical.specs.Runs.{Run}
 use Rattle.hay_physical.proofs.Removing.{removed_since}
 use Rattle.hay_logical.specs.declared.runs.Unswapped.{Unswapped}
-use Rattle.hay_logical.specs.declared.runs.Unswapped.TheVariants.{Refused, Unsure, Unplaced}
+use Rattle.hay_logical.specs.declared.runs.Unswapped.TheVariants.{Refused, Unsure}
 use Rattle.hay_logical.specs.Fits.{PhotoAt}
 use Rattle.hay_logical.specs.Steps.{GoesOn, HoldsUnswapped, IsLeftBy, IsStepFault, KeepsPlaces, PlacesAre, Start, StartsRun, StepLeaves, SwapsAt, SwapsTo, WasAtRest}
 use Rattle.hay_logical.specs.Steps.Start.{Examined, Fresh, Going}
@@ -168,7 +168,6 @@ module _ {D : Type 0} (files : D → Files) (faults : D → ℕ) where
   left_later r x y (Refused (fault.Full end need capacity)) a b later rest low left = left
   left_later r x y (Refused (fault.Ended n)) a b later rest low left = left
   left_later r x y (Unsure n) a b later rest low left = (left.0, left.1, rest, rose_later (faults r.disk) (faults x.disk) (faults y.disk) low left.3, left.4)
-  left_later r x y Unplaced a b later rest low left = (left.0, left.1, rest)
 
   pub to_later : (s t : Stored) (run next : Run) → next.tight ≡ run.tight → SwapsTo s t next → SwapsTo s t run
   to_later s t run next same to = record { swaps = to.swaps; tight = λ e. to.tight (same ∙ e); ends = to.ends }
@@ -183,7 +182,6 @@ module _ {D : Type 0} (files : D → Files) (faults : D → ℕ) where
   holds_later r x y s run next (Refused (fault.Full end need capacity)) same stuck h = (h.0, h.1 ∙ stuck)
   holds_later r x y s run next (Refused (fault.Ended n)) same stuck h = (h.0, h.1 ∙ stuck)
   holds_later r x y s run next (Unsure n) same stuck h = (h.0, h.1, subst (λ b. physical.Holds files y b s h.0) stuck h.2)
-  holds_later r x y s run next Unplaced same stuck h = record { stored = h.stored; to = to_later s h.stored run next same h.to; loose = h.loose; holds = h.holds }
 
 -- the rows stay
 pub keeps_rows : {P : Type 0} (rows rows' : MapRows P) (at : ℕ) (result : Result ℕ Unswapped) → rows'.replicas ≡ rows.replicas → ((pair : Pair) → row_at rows' pair ≡ row_at rows pair) → KeepsPlaces rows rows' at result

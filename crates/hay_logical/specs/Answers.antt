@@ -303,11 +303,6 @@ abbrev pub StandsFailed : {D P : Type 0} → (D → Files) → Type 0 → ℕ �
 StandsFailed files Tells m k replica new =
     Stands files Tells new (change_at k replica without_run) ⊎ Stands files Tells new (poised_at m k replica)
 
--- Where no memory was left to give the photos their new places, the volume is frozen by the first replica's machine.
-abbrev pub StandsUnplaced : {D P : Type 0} → (D → Files) → Type 0 → (VolumeKnown → ℕ → ℕ → ℕ → Type 0) → ℕ → VolumeKnown → ℕ → Volume D P → Type 0
-StandsUnplaced files Tells sizes first k replica new =
-    Stands files Tells new (change_at k replica without_run) ⊎ StandsSwapped files Tells sizes (frozen_by first) k replica new
-
 -- The files of a replica's old generation are gone, but for one whose removal failed.
 abbrev pub RemovesOld : {D P : Type 0} → (D → Files) → (D → ℕ) → VolumeKnown → ℕ → Volume D P → Volume D P → Type 0
 RemovesOld {D} files faults k j old new = (r r' : Copy D) → At old.replicas j r → At new.replicas j r' →
@@ -325,7 +320,7 @@ FinishRefused files Tells k replica old new Idle = (k.frozen ≡ None) × ((repl
 FinishRefused files Tells k replica old new (Failed m faults) =
     (k.frozen ≡ None) × (m ≡ machine_of old.settings old.number replica) × IsRunning k replica × StandsFailed files Tells m k replica new
 FinishRefused files Tells k replica old new NoMemory =
-    (k.frozen ≡ None) × MayFinish k replica × StandsUnplaced files Tells IsLoose (machine_of old.settings old.number 0) k replica new
+    (k.frozen ≡ None) × MayFinish k replica × Stands files Tells new (change_at k replica without_run)
 FinishRefused files Tells k replica old new (Full m end need capacity) = ⊥
 FinishRefused files Tells k replica old new (Gone front) = ⊥
 FinishRefused files Tells k replica old new (Busy m generation) = ⊥
@@ -349,7 +344,7 @@ CompactRefused files Tells k replica old new (Worn m) =
 CompactRefused files Tells k replica old new (Failed m faults) =
     (k.frozen ≡ None) × (m ≡ machine_of old.settings old.number replica) × IsAtRest k replica × StandsFailed files Tells m k replica new
 CompactRefused files Tells k replica old new NoMemory =
-    (k.frozen ≡ None) × IsAtRest k replica × StandsUnplaced files Tells IsTight (machine_of old.settings old.number 0) k replica new
+    (k.frozen ≡ None) × IsAtRest k replica × Stands files Tells new (change_at k replica without_run)
 CompactRefused files Tells k replica old new (Full m end need capacity) = ⊥
 CompactRefused files Tells k replica old new (Gone front) = ⊥
 CompactRefused files Tells k replica old new Idle = ⊥

@@ -11,7 +11,7 @@ use Rattle.hay_logical.specs.declared.refusals.Refusal.{Refusal}
 use Rattle.hay_logical.specs.declared.refusals.Unfinished.{Unfinished}
 use Rattle.hay_logical.specs.declared.replicas.Broken.{Broken}
 use Rattle.hay_logical.specs.declared.runs.Unswapped.{Unswapped}
-use Rattle.hay_logical.specs.declared.runs.Unswapped.TheVariants.{Refused, Unsure, Unplaced}
+use Rattle.hay_logical.specs.declared.runs.Unswapped.TheVariants.{Refused, Unsure}
 use Rattle.hay_logical.specs.Fits.{At}
 
 -- memory was wanting on the first replica, which takes changes still
@@ -64,4 +64,3 @@ abbrev pub unfinished_by : Settings → ℕ → ℕ → Unswapped → Unfinished
 unfinished_by settings v replica (Refused fault) = record { frozen = None; fault = answer_at (machine_of settings v replica) fault }
 unfinished_by settings v replica (Unsure printed) =
     record { frozen = Some (machine_of settings v replica); fault = Failed (machine_of settings v replica) printed }
-unfinished_by settings v replica Unplaced = record { frozen = Some (machine_of settings v 0); fault = NoMemory }

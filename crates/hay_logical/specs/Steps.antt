@@ -32,7 +32,7 @@ use Rattle.hay_logical.specs.declared.fault.Unopened.{Unopened}
 use Rattle.hay_logical.specs.declared.replicas.Broken.{Broken}
 use Rattle.hay_logical.specs.declared.replicas.DiskFailed.{DiskFailed}
 use Rattle.hay_logical.specs.declared.runs.Unswapped.{Unswapped}
-use Rattle.hay_logical.specs.declared.runs.Unswapped.TheVariants.{Refused, Unsure, Unplaced}
+use Rattle.hay_logical.specs.declared.runs.Unswapped.TheVariants.{Refused, Unsure}
 use Rattle.hay_logical.specs.Fits.{At, PhotoAt, PlaceStands}
 use Rattle.hay_logical.specs.Refusals.{IsUntouched}
 use Rattle.hay_logical.specs.Volumes.{ReachesPlaces}
@@ -390,19 +390,12 @@ IsLeftBy faults start r r' (Refused (fault.Full end need capacity)) = ⊥
 IsLeftBy faults start r r' (Refused (fault.Ended printed)) = ⊥
 IsLeftBy faults start r r' (Unsure printed) =
     IsFrozen r' × (goal_of r' ≡ None) × WasAtRest start r × Rose (faults r.disk) (faults r'.disk) × (printed ≡ faults r'.disk)
-IsLeftBy faults start r r' Unplaced = IsFrozen r' × (goal_of r' ≡ None) × WasAtRest start r
 
 -- A swap was made, and these are the cells behind it.
 pub record SwapsTo (s t : Stored) (run : Run) : Type 0 where
   pub swaps : Swaps s t
   pub tight : IsTight run s t
   pub ends : t.end ≡ cells_end_of t.cells
-
-pub record Unpublished {D : Type 0} (files : D → Files) (r' : Copy D) (s : Stored) (run : Run) : Type 0 where
-  pub stored : Stored
-  pub to : SwapsTo s stored run
-  pub loose : is_stuck r' ≡ false
-  pub holds : physical.Holds files r' false stored stored
 
 abbrev pub HoldsUnswapped : {D : Type 0} → (D → Files) → Copy D → Copy D → Stored → Run → Unswapped → Type 0
 HoldsUnswapped files r r' s run (Refused (fault.Failed printed)) = physical.Stands files r' s × (is_stuck r' ≡ is_stuck r)
@@ -414,7 +407,6 @@ HoldsUnswapped files r r' s run (Refused fault.Worn) = s.generation ≡ 65535
 HoldsUnswapped files r r' s run (Refused (fault.Damaged at)) = ⊥
 HoldsUnswapped files r r' s run (Refused fault.NoMemory) = physical.Stands files r' s × (is_stuck r' ≡ is_stuck r)
 HoldsUnswapped files r r' s run (Unsure printed) = (t : Stored) × Swaps s t × physical.Holds files r' (is_stuck r) s t
-HoldsUnswapped files r r' s run Unplaced = Unpublished files r' s run
 
 -- A replica whose current files are those of its compaction.
 pub record Swapped {D P : Type 0} (files : D → Files) (Tells : Type 0) (rows' : MapRows P) (at : ℕ) (r' : Copy D) (s : Stored) (run : Run) (generation : ℕ) : Type 0 where

@@ -145,9 +145,5 @@ pub(crate) fn unfinished_by(
             frozen: Some(machine),
             fault: LogicalFault::Failed { machine, faults },
         },
-        Unswapped::Unplaced => Unfinished {
-            frozen: Some(machine_of(settings, number, 0)),
-            fault: LogicalFault::NoMemory,
-        },
     }
 }

@@ -7,7 +7,6 @@ ghost use Rattle.hay_logical.specs.Steps.Start.{Examined, Fresh, Going};
 ghost use Rattle.hay_logical.specs.Steps.{AllIdle, BeginsAt, CallsOne, ExaminesAt, KeepsPlaces, LosesRun, StepsAt, SwapsAt, SwapsOne, latest_of};
 ghost use Rattle.hay_logical.specs.Volumes.{KeepsCounts};
 
-use hay_base::NoMemory;
 use hay_disk::{Disk, Piece};
 use hay_map::{MapView, Place, Row};
 use hay_physical::{Replica, ReplicaFault};
@@ -20,8 +19,6 @@ pub(crate) enum Unswapped {
     Refused(ReplicaFault),
     /// The disk failed, and its count of faults rose to this: the head may name either generation.
     Unsure { faults: u64 },
-    /// The files were swapped, and memory was wanting for the places.
-    Unplaced,
 }
 
 /// Lets go of the compaction of each replica.
@@ -173,8 +170,7 @@ fn finish<D: Disk>(
     }
 }
 
-// Swaps the files of a replica whose cells are all examined, and gives its photos their new places. Where memory is
-// wanting for these, the replica takes no more changes.
+// Swaps the files of a replica whose cells are all examined, and gives its photos their new places.
 fn swap<D: Disk>(
     replica: &mut Replica<D>,
     at: u32,
@@ -189,13 +185,10 @@ fn swap<D: Disk>(
     ensures fuses { D.fuse_count replica.new.disk ≡ D.fuse_count replica.old.disk }
 {
     match replica.finish() {
-        Ok(places) => match rows.swap(at, places.as_slice()) {
-            Ok(()) => Ok(replica.generation()),
-            Err(NoMemory) => {
-                replica.freeze();
-                Err(Unswapped::Unplaced)
-            }
-        },
+        Ok(places) => {
+            rows.swap(at, places.as_slice());
+            Ok(replica.generation())
+        }
         Err(fault) => Err(why_unswapped(replica, fault)),
     }
 }

@@ -16,8 +16,8 @@ use Rattle.hay_logical.proofs.Deletable.{place_kept}
 use Rattle.hay_logical.proofs.Swapping.{deletable_swapped, keeps_rows, places_swapped, refused_holds, refused_left, unsure_left}
 use Rattle.hay_logical.proofs.runs.swap.Goals as goal
 
-pub returns-in-Ok-swap-clause-swaps : goal.returns-in-Ok-swap-clause-swaps
-returns-in-Ok-swap-clause-swaps g c =
+pub returns-in-Ok-clause-swaps : goal.returns-in-Ok-clause-swaps
+returns-in-Ok-clause-swaps g c =
     let x : Copy g.row.D.Denot = c.finish.new.self in
     let changed : (pair : Pair) → row_at c.swap.new.self pair ≡ slice_set (row_at c.args.rows.now pair) c.args.at (last_place c.in-Ok.places.items pair (gone_place (place_in (row_at c.args.rows.now pair) c.args.at))) =
     λ pair. c.in-Ok-swap.ensures.ok.rows pair ∙ ap (λ l. slice_set (row_at c.args.rows.now pair) c.args.at (last_place l pair (gone_place (place_in (row_at c.args.rows.now pair) c.args.at)))) c.as_slice.ensures.value in
@@ -42,38 +42,12 @@ returns-in-Ok-swap-clause-swaps g c =
       deletable = λ tells may up. deletable_swapped g.D.Piece.Piece.Tells c.args.rows.now c.swap.new.self c.args.at c.in-Ok.places.items changed g.D.Disk.files x (c.in-Ok.ensures.can_delete tells);
     }
 
-pub returns-in-Ok-swap-clause-places : goal.returns-in-Ok-swap-clause-places
-returns-in-Ok-swap-clause-places g c = record {
+pub returns-in-Ok-clause-places : goal.returns-in-Ok-clause-places
+returns-in-Ok-clause-places g c = record {
   width = c.in-Ok-swap.ensures.ok.replicas;
   others = λ pair i apart. loaded_other (row_at c.args.rows.now pair) (row_at c.swap.new.self pair) i c.args.at _ (c.in-Ok-swap.ensures.ok.rows pair) apart;
   same = tt;
 }
-
-pub returns-in-Ok-clause-swaps : goal.returns-in-Ok-clause-swaps
-returns-in-Ok-clause-swaps g c =
-    let x : Copy g.row.D.Denot = c.finish.new.self in
-    let y : Copy g.row.D.Denot = c.freeze.new.self in
-    record {
-      «open» = frozen_open y c.freeze.ensures.frozen;
-      sup = c.freeze.ensures.sup ∙ c.finish.ensures.sup;
-      up = tt;
-      left = (c.freeze.ensures.frozen, c.freeze.ensures.dropped.0, tt);
-      swapped = λ tells s run stands start places. tt;
-      removed = λ tells s stands. tt;
-      refused = λ tells s run stands start places.
-          let made = c.in-Ok.ensures.swapped tells s run stands start.0 start.1 in
-          let loose : is_stuck x ≡ false = c.in-Ok.ensures.going in
-          record {
-            stored = made.0;
-            to = record { swaps = made.1; tight = made.2; ends = stands_cells_end g.D.Disk.files x made.0 made.3 };
-            loose = c.freeze.ensures.stuck ∙ loose;
-            holds = subst (λ b. physical.Holds g.D.Disk.files y b made.0 made.0) loose (c.freeze.ensures.held tells made.0 made.3);
-          };
-      deletable = λ tells may up. absurd (not_both y up c.freeze.ensures.frozen);
-    }
-
-pub returns-in-Ok-clause-places : goal.returns-in-Ok-clause-places
-returns-in-Ok-clause-places g c = keeps_rows c.args.rows.now c.swap.new.self c.args.at _ c.in-Err-swap.ensures.err.replicas c.in-Err-swap.ensures.err.rows
 
 pub returns-clause-swaps : goal.returns-clause-swaps
 returns-clause-swaps g c =
