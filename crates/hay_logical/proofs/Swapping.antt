@@ -1,6 +1,6 @@
 -- How a compaction of a replica ends.
 use Rattle.std.proofs.Common.{◌≡◌, ◌≢◌, inl, inr, ℕ, zero, suc, ◌≤◌, Bool, true, false, cond, List, [], ◌∷◌, length, Option, Some, None, refl, sym, ap, subst, ◌∙◌, arith}
-use Rattle.std.specs.Prelude.{slice_set, Result, Ok, Err, IfErr}
+use Rattle.std.specs.Prelude.{slice_set, Result, Ok, Err, IfErr, OnErr}
 use Rattle.std.proofs.lemmas.Bool.{cases_lt}
 use Rattle.hay_needle.specs.declared.needle.Cell.{Cell}
 use Rattle.hay_needle.specs.declared.needle.Outcome.{Outcome}
@@ -12,12 +12,13 @@ use Rattle.hay_disk.specs.Disk.{Files}
 use Rattle.hay_volume.specs.Cells.{needles_of}
 use Rattle.hay_map.specs.MapRows.{MapRows}
 use Rattle.hay_map.specs.Places.{gone_place, place_in}
-use Rattle.hay_map.specs.Rows.{last_place, row_at}
+use Rattle.hay_map.specs.Rows.{last_place, row_at, swapped_place}
 use Rattle.hay_map.specs.declared.place.Place.{Place}
 use Rattle.hay_map.specs.declared.place.Place.TheVariants as place
 use Rattle.hay_map.specs.declared.view.OpenCell.{OpenCell}
+use Rattle.hay_map.proofs.Moving.{swapped_last, swapped_none}
 use Rattle.hay_open.specs.Stored.{Stored, index_file, last_cell, volume_file}
-use Rattle.hay_compact.specs.Finishing.{AreThePlaces}
+use Rattle.hay_compact.specs.Finishing.{ArePhotos, AreThePlaces, IsSeen}
 use Rattle.hay_physical.specs.declared.fault.ReplicaFault.{ReplicaFault}
 use Rattle.hay_physical.specs.declared.fault.ReplicaFault.TheVariants as fault
 use Rattle.hay_physical.specs.Copies.{Copy, IsFrozen, IsUp, goal_of, is_stuck}
@@ -28,14 +29,15 @@ use Rattle.hay_physical.proofs.Removing.{removed_since}
 use Rattle.hay_logical.specs.declared.runs.Unswapped.{Unswapped}
 use Rattle.hay_logical.specs.declared.runs.Unswapped.TheVariants.{Refused, Unsure}
 use Rattle.hay_logical.specs.Fits.{PhotoAt}
-use Rattle.hay_logical.specs.Steps.{GoesOn, HoldsUnswapped, IsLeftBy, IsStepFault, KeepsPlaces, PlacesAre, Start, StartsRun, StepLeaves, SwapsAt, SwapsTo, WasAtRest}
+use Rattle.hay_logical.specs.Steps.{GoesOn, HoldsUnswapped, IsLeftBy, IsStepFault, KeepsPlaces, PlacesAre, Start, StartsRun, StaysInReach, StepLeaves, SwapsAt, SwapsTo, WasAtRest}
 use Rattle.hay_logical.specs.Steps.Start.{Examined, Fresh, Going}
-use Rattle.hay_logical.proofs.Calls.{loaded, not_both}
+use Rattle.hay_logical.specs.Volumes.{ReachesPlaces}
+use Rattle.hay_logical.proofs.Calls.{loaded, not_both, reach_through, up_open}
 use Rattle.hay_logical.proofs.Compacting.{photo_at}
-use Rattle.hay_logical.proofs.Deletable.{place_kept}
 use Rattle.hay_logical.proofs.Examining.{rose_later}
 use Rattle.hay_logical.proofs.Holding.{no_photo}
 use Rattle.hay_logical.proofs.Lists.{length-slice_set}
+use Rattle.hay_logical.proofs.Reaching.{reaches_on}
 use Rattle.hay_logical.proofs.Tables.{at_cells, cell_outcome, place_means}
 
 -- THE PLACES BEHIND A SWAP
@@ -45,26 +47,6 @@ beyond [] j h = refl
 beyond (p ∷ row) zero h = absurd (omega (arith, h))
 beyond (p ∷ row) (suc j) h = beyond row j (let less : length row ≤ j = omega (arith, h) in less)
 
--- a pair that is not listed has no photo, whichever place without one it had
-last_gone : {P : Type 0} (Q : Place P → Type 0) → (Q place.Gone → Q place.None) → (cells : List (OpenCell P)) (pair : Pair) (p : Place P)
-    → Q (last_place cells pair place.Gone) → Q (last_place cells pair (gone_place p))
-last_gone Q none cells pair (place.Live needle) h = h
-last_gone Q none cells pair place.Gone h = h
-last_gone {P = P} Q none cells pair place.None h = by_cells cells h
-  where
-    by_first : (b : Bool) (q : Place P) (rest : List (OpenCell P)) → (Q (last_place rest pair place.Gone) → Q (last_place rest pair place.None))
-        → Q (last_place rest pair (cond b q place.Gone)) → Q (last_place rest pair (cond b q place.None))
-    by_first true q rest again k = k
-    by_first false q rest again k = again k
-
-    by_cells : (rest : List (OpenCell P)) → Q (last_place rest pair place.Gone) → Q (last_place rest pair place.None)
-    by_cells [] k = none k
-    by_cells (cell ∷ rest) k = by_first (pair_eq cell.pair pair) cell.place rest (by_cells rest) k
-
-gone_none : (P Tells : Type 0) (o : Option Cell) → PhotoAt {P = P} Tells o place.Gone → PhotoAt {P = P} Tells o place.None
-gone_none P Tells None h = tt
-gone_none P Tells (Some cell) h = h
-
 deleted_is : (d : Bool) (o : Outcome) → o ≢ outcome.Nothing → cond d outcome.Nothing o ≡ outcome.Nothing → d ≡ true
 deleted_is true o not e = refl
 deleted_is false o not e = absurd (not e)
@@ -73,15 +55,32 @@ nothing_at : (P Tells : Type 0) (o : Option Cell) → cell_outcome o outcome.Not
 nothing_at P Tells None e = tt
 nothing_at P Tells (Some cell) e = deleted_is cell.deleted (outcome.Photo (record { cookie = cell.cookie; bytes = cell.bytes })) (λ w. cc) e
 
-module _ {P : Type 0} (Tells : Type 0) (rows rows' : MapRows P) (at : ℕ) (cells : List (OpenCell P))
-    (changed : (pair : Pair) → row_at rows' pair ≡ slice_set (row_at rows pair) at (last_place cells pair (gone_place (place_in (row_at rows pair) at)))) where
-  -- the place of a pair, or none where there is no room for one
-  pub new_place : (pair : Pair) (Q : Place P → Type 0) → Q (last_place cells pair (gone_place (place_in (row_at rows pair) at)))
-      → (place_in (row_at rows pair) at ≡ place.None → Q place.None) → Q (place_in (row_at rows' pair) at)
+seen_may : {D P : Type 0} (files : D → Files) (r : Copy D) (p : Place P) → IsSeen p → physical.MaySeePlace files r p
+seen_may files r (place.Live needle) seen = tt
+seen_may files r place.Gone seen = tt
+seen_may files r place.None seen = tt
+seen_may files r (place.Unseen at size) seen = absurd seen
+
+seen_apart : {P : Type 0} (p other : Place P) → IsSeen p → physical.ArePlacesApart p other
+seen_apart (place.Live needle) other seen = tt
+seen_apart place.Gone other seen = tt
+seen_apart place.None other seen = tt
+seen_apart (place.Unseen at size) other seen = absurd seen
+
+module _ {P : Type 0} (Tells : Type 0) (rows rows' : MapRows P) (at : ℕ) (cells : List (OpenCell P)) (photos : ArePhotos cells)
+    (changed : (pair : Pair) → row_at rows' pair ≡ slice_set (row_at rows pair) at (swapped_place cells pair (gone_place (place_in (row_at rows pair) at)))) where
+  -- a pair that had a place has that of its last cell, and any other one has none
+  swapped_is : (pair : Pair) (Q : Place P → Type 0) (p : Place P) → Q (last_place cells pair place.Gone) → (p ≡ place.None → Q place.None) → Q (swapped_place cells pair (gone_place p))
+  swapped_is pair Q (place.Live needle) here none = subst Q (sym (swapped_last cells pair place.Gone refl photos)) here
+  swapped_is pair Q place.Gone here none = subst Q (sym (swapped_last cells pair place.Gone refl photos)) here
+  swapped_is pair Q place.None here none = subst Q (sym (swapped_none cells pair)) (none refl)
+  swapped_is pair Q (place.Unseen there size) here none = subst Q (sym (swapped_last cells pair place.Gone refl photos)) here
+
+  new_place : (pair : Pair) (Q : Place P → Type 0) → Q (last_place cells pair place.Gone) → (place_in (row_at rows pair) at ≡ place.None → Q place.None) → Q (place_in (row_at rows' pair) at)
   new_place pair Q here none =
-      let p : Place P = last_place cells pair (gone_place (place_in (row_at rows pair) at)) in
+      let p : Place P = swapped_place cells pair (gone_place (place_in (row_at rows pair) at)) in
       elim (cases_lt at (length (row_at rows pair))) [
-        | inl less ↦ subst Q (sym (loaded (row_at rows pair) (row_at rows' pair) at p (changed pair) less)) here
+        | inl less ↦ subst Q (sym (loaded (row_at rows pair) (row_at rows' pair) at p (changed pair) less)) (swapped_is pair Q (place_in (row_at rows pair) at) here none)
         | inr most ↦
             let long : length (row_at rows' pair) ≡ length (row_at rows pair) = ap (λ l. length l) (changed pair) ∙ length-slice_set (row_at rows pair) at p in
             subst Q (sym (beyond (row_at rows' pair) at (let e : length (row_at rows' pair) ≤ at = omega (arith, most, long) in e))) (none (beyond (row_at rows pair) at most))
@@ -89,17 +88,22 @@ module _ {P : Type 0} (Tells : Type 0) (rows rows' : MapRows P) (at : ℕ) (cell
 
   pub places_swapped : (s t : Stored) → table_of (needles_of t.cells) ≡ table_of (needles_of s.cells) → PlacesAre Tells rows at s → AreThePlaces Tells t.cells cells → PlacesAre Tells rows' at t
   places_swapped s t table were are pair =
-      new_place pair (PhotoAt Tells (last_cell t.cells pair))
-      (last_gone (PhotoAt Tells (last_cell t.cells pair)) (gone_none P Tells (last_cell t.cells pair)) cells pair (place_in (row_at rows pair) at) (photo_at Tells (last_cell t.cells pair) (last_place cells pair place.Gone) (are pair)))
+      new_place pair (PhotoAt Tells (last_cell t.cells pair)) (photo_at Tells (last_cell t.cells pair) (last_place cells pair place.Gone) (are pair))
       (λ e.
       let nothing : outcome_at (table_of (needles_of s.cells)) pair ≡ outcome.Nothing =
-      no_photo P Tells pair _ (inr (place_means Tells s.cells pair place.None (subst (λ (p : Place P). PhotoAt Tells (last_cell s.cells pair) p) e (were pair)))) in
+      no_photo P Tells pair _ (inr (place_means Tells s.cells pair place.None tt (subst (λ (p : Place P). PhotoAt Tells (last_cell s.cells pair) p) e (were pair)))) in
       nothing_at P Tells (last_cell t.cells pair) (sym (at_cells t.cells pair) ∙ ap (λ (x : Table). outcome_at x pair) table ∙ nothing))
 
-  pub deletable_swapped : {D : Type 0} (files : D → Files) (r : Copy D) → ((pair : Pair) → physical.MayDeletePlace files r (last_place cells pair place.Gone))
-      → (pair : Pair) → physical.MayDeletePlace files r (place_in (row_at rows' pair) at)
-  deletable_swapped files r may pair =
-      new_place pair (physical.MayDeletePlace files r) (last_gone (physical.MayDeletePlace files r) (λ h. tt) cells pair (place_in (row_at rows pair) at) (may pair)) (λ e. tt)
+  -- each place is one that was looked at
+  pub reach_swapped : {D : Type 0} (files : D → Files) (r : Copy D) → ((pair : Pair) → physical.MayDeletePlace files r (last_place cells pair place.Gone)) → ((pair : Pair) → IsSeen (last_place cells pair place.Gone))
+      → ReachesPlaces files rows' at r
+  reach_swapped files r may seen = record {
+    deletes = λ up pair. new_place pair (physical.MayDeletePlace files r) (may pair) (λ e. tt);
+    sees = λ is. record {
+      may = λ pair. seen_may files r (place_in (row_at rows' pair) at) (new_place pair IsSeen (seen pair) (λ e. tt));
+      apart = λ pair other differ. seen_apart (place_in (row_at rows' pair) at) (place_in (row_at rows' other) at) (new_place pair IsSeen (seen pair) (λ e. tt));
+    };
+  }
 
 -- WHY NO SWAP WAS MADE
 
@@ -188,12 +192,17 @@ pub keeps_rows : {P : Type 0} (rows rows' : MapRows P) (at : ℕ) (result : Resu
 keeps_rows rows rows' at (Ok n) width same = record { width = width; others = λ pair i apart. ap (λ l. place_in l i) (same pair); same = tt }
 keeps_rows rows rows' at (Err u) width same = record { width = width; others = λ pair i apart. ap (λ l. place_in l i) (same pair); same = same }
 
+-- a refusal behind what went before
+pub stays_later : {D : Type 0} (DiskTells : Type 0) (files : D → Files) (r x y : Copy D) (result : Result ℕ Unswapped) → StaysInReach DiskTells files r x → OnErr result (StaysInReach DiskTells files x y) → OnErr result (StaysInReach DiskTells files r y)
+stays_later DiskTells files r x y (Ok n) before behind = tt
+stays_later DiskTells files r x y (Err u) before behind = λ tells. reach_through files r x y (before tells) (behind tells)
+
 -- A swap behind what went before. `meets` says what it finds then.
 module _ {D P : Type 0} (DiskTells : Type 0) (files : D → Files) (faults : D → ℕ) (Tells : Type 0) (rows rows' : MapRows P) (at : ℕ) (r x y : Copy D) where
-  pub swaps_later : (result : Result ℕ Unswapped) (a b : Start) → (b ≡ Fresh → ⊥) → GoesOn DiskTells files r x → WasAtRest a r → faults r.disk ≤ faults x.disk
+  pub swaps_later : (result : Result ℕ Unswapped) (a b : Start) → (b ≡ Fresh → ⊥) → IsUp r → GoesOn DiskTells files r x → WasAtRest a r → faults r.disk ≤ faults x.disk
       → (DiskTells → (s : Stored) (run : Run) → physical.Stands files r s → StartsRun files a r s run → PlacesAre Tells rows at s → (next : Run) × (next.tight ≡ run.tight) × StartsRun files b x s next)
       → SwapsAt DiskTells files faults Tells b rows rows' at x y result → SwapsAt DiskTells files faults Tells a rows rows' at r y result
-  swaps_later (Ok generation) a b later on rest low meets swaps = record {
+  swaps_later (Ok generation) a b later up on rest low meets swaps = record {
     «open» = swaps.«open»;
     sup = swaps.sup ∙ on.sup;
     up = ((swaps.up).0, (swaps.up).1, (swaps.up).2, rest);
@@ -204,9 +213,9 @@ module _ {D P : Type 0} (DiskTells : Type 0) (files : D → Files) (faults : D �
         record { stored = made.stored; to = to_later files faults s made.stored run next.0 next.1 made.to; stands = made.stands; places = made.places; generation_is = made.generation_is };
     removed = λ tells s stands. removed_since (files y.disk) (volume_file s.generation) (index_file s.generation) (faults r.disk) (faults x.disk) (faults y.disk) low (swaps.removed tells s (on.stands tells s stands));
     refused = λ tells s run stands start places. tt;
-    deletable = λ tells may up. swaps.deletable tells (λ pair. place_kept DiskTells files r x on.deletable tells (place_in (row_at rows pair) at) (may pair)) up;
+    reach = λ tells reach. swaps.reach tells (reaches_on files rows rows at r x (λ u. up) (λ u. up_open r up) (on.reach tells) (λ pair. refl) reach);
   }
-  swaps_later (Err u) a b later on rest low meets swaps = record {
+  swaps_later (Err u) a b later up on rest low meets swaps = record {
     «open» = swaps.«open»;
     sup = swaps.sup ∙ on.sup;
     up = tt;
@@ -216,5 +225,5 @@ module _ {D P : Type 0} (DiskTells : Type 0) (files : D → Files) (faults : D �
     refused = λ tells s run stands start places.
         let next = meets tells s run stands start places in
         holds_later files faults r x y s run next.0 u next.1 on.stuck (swaps.refused tells s next.0 (on.stands tells s stands) next.2 places);
-    deletable = λ tells may up. swaps.deletable tells (λ pair. place_kept DiskTells files r x on.deletable tells (place_in (row_at rows pair) at) (may pair)) up;
+    reach = λ tells reach. swaps.reach tells (reaches_on files rows rows at r x (λ u. up) (λ u. up_open r up) (on.reach tells) (λ pair. refl) reach);
   }

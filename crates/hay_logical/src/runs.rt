@@ -1,10 +1,10 @@
 //! Compactions of replicas.
-ghost use Rattle.std.specs.Prelude.{◌≡◌, ◌≤◌, ◌<◌, ℕ, true, false, length, None};
+ghost use Rattle.std.specs.Prelude.{◌≡◌, ◌≤◌, ◌<◌, ℕ, true, false, length, None, OnErr};
 ghost use Rattle.hay_map.specs.Places.{place_in};
 ghost use Rattle.hay_physical.specs.Copies.{Copy, IsUp, goal_of, is_frozen};
 ghost use Rattle.hay_logical.specs.Fits.{At};
 ghost use Rattle.hay_logical.specs.Steps.Start.{Examined, Fresh, Going};
-ghost use Rattle.hay_logical.specs.Steps.{AllIdle, BeginsAt, CallsOne, ExaminesAt, KeepsPlaces, LosesRun, StepsAt, SwapsAt, SwapsOne, latest_of};
+ghost use Rattle.hay_logical.specs.Steps.{AllIdle, BeginsAt, CallsOne, ExaminesAt, KeepsPlaces, LosesRun, StaysInReach, StepsAt, SwapsAt, SwapsOne, latest_of};
 ghost use Rattle.hay_logical.specs.Volumes.{KeepsCounts};
 
 use hay_disk::{Disk, Piece};
@@ -82,6 +82,7 @@ pub(crate) fn finish_at<D: Disk>(
     ensures one { SwapsOne D.Tells D.files at replicas.old replicas.new }
     ensures swaps { (r r' : Copy D) → At replicas.old at r → At replicas.new at r' →
         SwapsAt D.Tells D.files D.fault_count D.Piece.Tells Going rows.old rows.new at r r' result }
+    ensures stays { (r r' : Copy D) → At replicas.old at r → At replicas.new at r' → OnErr result (StaysInReach D.Tells D.files r r') }
     ensures places { KeepsPlaces rows.old rows.new at result }
     ensures counts { KeepsCounts D.fault_count D.fuse_count replicas.old replicas.new }
 {
@@ -104,6 +105,7 @@ pub(crate) fn compact_at<D: Disk>(
     ensures one { SwapsOne D.Tells D.files at replicas.old replicas.new }
     ensures swaps { (r r' : Copy D) → At replicas.old at r → At replicas.new at r' →
         SwapsAt D.Tells D.files D.fault_count D.Piece.Tells Fresh rows.old rows.new at r r' result }
+    ensures stays { (r r' : Copy D) → At replicas.old at r → At replicas.new at r' → OnErr result (StaysInReach D.Tells D.files r r') }
     ensures places { KeepsPlaces rows.old rows.new at result }
     ensures counts { KeepsCounts D.fault_count D.fuse_count replicas.old replicas.new }
 {
@@ -135,6 +137,7 @@ fn compact<D: Disk>(
     requires up { IsUp replica.old }
     requires within { at < rows.old.replicas }
     ensures swaps { SwapsAt D.Tells D.files D.fault_count D.Piece.Tells Fresh rows.old rows.new at replica.old replica.new result }
+    ensures stays { OnErr result (StaysInReach D.Tells D.files replica.old replica.new) }
     ensures places { KeepsPlaces rows.old rows.new at result }
     ensures counts { D.fault_count replica.old.disk ≤ D.fault_count replica.new.disk }
     ensures fuses { D.fuse_count replica.new.disk ≡ D.fuse_count replica.old.disk }
@@ -155,6 +158,7 @@ fn finish<D: Disk>(
     requires within { at < rows.old.replicas }
     requires standing { goal_of replica.old ≡ None → ⊥ }
     ensures swaps { SwapsAt D.Tells D.files D.fault_count D.Piece.Tells Going rows.old rows.new at replica.old replica.new result }
+    ensures stays { OnErr result (StaysInReach D.Tells D.files replica.old replica.new) }
     ensures places { KeepsPlaces rows.old rows.new at result }
     ensures counts { D.fault_count replica.old.disk ≤ D.fault_count replica.new.disk }
     ensures fuses { D.fuse_count replica.new.disk ≡ D.fuse_count replica.old.disk }
@@ -180,6 +184,7 @@ fn swap<D: Disk>(
     requires within { at < rows.old.replicas }
     requires standing { goal_of replica.old ≡ None → ⊥ }
     ensures swaps { SwapsAt D.Tells D.files D.fault_count D.Piece.Tells Examined rows.old rows.new at replica.old replica.new result }
+    ensures stays { OnErr result (StaysInReach D.Tells D.files replica.old replica.new) }
     ensures places { KeepsPlaces rows.old rows.new at result }
     ensures counts { D.fault_count replica.old.disk ≤ D.fault_count replica.new.disk }
     ensures fuses { D.fuse_count replica.new.disk ≡ D.fuse_count replica.old.disk }

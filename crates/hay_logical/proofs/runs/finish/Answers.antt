@@ -1,15 +1,15 @@
 use Rattle.std.proofs.Common.{◌≡◌, ◌-◌, refl, ◌∙◌, arith}
-use Rattle.hay_map.specs.Places.{place_in}
-use Rattle.hay_map.specs.Rows.{row_at}
 use Rattle.hay_physical.specs.Copies.{Copy, IsUp}
 use Rattle.hay_physical.proofs.Laws.{run_within, stands_cells_end}
-use Rattle.hay_logical.specs.Steps.{GoesOn, stepped_by}
+use Rattle.hay_logical.specs.Steps.{GoesOn, StaysInReach, stepped_by}
 use Rattle.hay_logical.specs.Steps.Start.{Examined, Fresh, Going}
-use Rattle.hay_logical.proofs.Calls.{up_open}
-use Rattle.hay_logical.proofs.Deletable.{place_kept}
+use Rattle.hay_logical.proofs.Calls.{reach_through, up_open}
+use Rattle.hay_logical.proofs.Reaching.{reaches_on}
 use Rattle.hay_logical.proofs.SwapSizes.{cells_within}
-use Rattle.hay_logical.proofs.Swapping.{keeps_rows, step_holds, step_left, swaps_later}
+use Rattle.hay_logical.proofs.Swapping.{keeps_rows, stays_later, step_holds, step_left, swaps_later}
+use Rattle.hay_logical.proofs.runs.finish.Given as given
 use Rattle.hay_logical.proofs.runs.finish.Goals as goal
+use Rattle.hay_logical.proofs.runs.finish.Goals.{After-drop_run}
 
 pub returns-in-Ok-clause-swaps : goal.returns-in-Ok-clause-swaps
 returns-in-Ok-clause-swaps g c =
@@ -17,7 +17,7 @@ returns-in-Ok-clause-swaps g c =
     let x : Copy g.row.D.Denot = c.step.new.replica in
     let y : Copy g.row.D.Denot = c.swap.new.replica in
     swaps_later g.D.Disk.Tells g.D.Disk.files g.D.Disk.fault_count g.D.Piece.Piece.Tells c.args.rows.now c.swap.new.rows c.args.at r x y c.swap.result Going Examined (λ e. let wrong : Examined ≡ Fresh = e in cc)
-    c.in-Ok.ensures.steps.on tt c.step.ensures.counts
+    c.requires.up c.in-Ok.ensures.steps.on tt c.step.ensures.counts
     (λ tells s run stands has places.
     let done = c.in-Ok.ensures.steps.stepped tells s run stands has places in
     let number = done.0 in
@@ -28,6 +28,18 @@ returns-in-Ok-clause-swaps g c =
     let none : run.left - c.in-Ok.field-0 ≡ 0 = omega (arith, number, end, cells, within, left) in
     (stepped_by c.in-Ok.field-0 run, refl, (done.1, none)))
     c.swap.ensures.swaps
+
+pub returns-in-Ok-clause-stays : goal.returns-in-Ok-clause-stays
+returns-in-Ok-clause-stays g c = stays_later g.D.Disk.Tells g.D.Disk.files c.args.replica.now c.step.new.replica c.swap.new.replica c.swap.result (c.in-Ok.ensures.steps.on).reach c.swap.ensures.stays
+
+-- a refusal has left what could be reached
+dropped : (g : given.Over) (c : After-drop_run g) → StaysInReach g.D.Disk.Tells g.D.Disk.files c.args.replica.now c.drop_run.new.self
+dropped g c = λ tells.
+    reach_through g.D.Disk.files c.args.replica.now c.step.new.replica c.drop_run.new.self ((c.in-Err.ensures.steps.on).reach tells)
+    (record { deletes = c.drop_run.ensures.deletes tells; sees = c.drop_run.ensures.sees tells })
+
+pub returns-in-Err-clause-stays : goal.returns-in-Err-clause-stays
+returns-in-Err-clause-stays g c = dropped g (goal.at.returns-in-Err-clause-stays g c).After-drop_run
 
 pub returns-in-Err-clause-swaps : goal.returns-in-Err-clause-swaps
 returns-in-Err-clause-swaps g c =
@@ -46,9 +58,8 @@ returns-in-Err-clause-swaps g c =
       refused = λ tells s run stands start places.
           step_holds g.D.Disk.files g.D.Disk.fault_count r x y s run c.end-most.result c.in-Err.fault c.in-Err.ensures.steps.cause (c.in-Err.ensures.steps.refused tells s run stands start places)
           (c.drop_run.ensures.stands tells s (on.stands tells s stands)) (c.drop_run.ensures.stuck ∙ on.stuck);
-      deletable = λ tells may u pair.
-          place_kept g.D.Disk.Tells g.D.Disk.files x y c.drop_run.ensures.deletes tells (place_in (row_at c.args.rows.now pair) c.args.at)
-          (place_kept g.D.Disk.Tells g.D.Disk.files r x on.deletable tells (place_in (row_at c.args.rows.now pair) c.args.at) (may pair));
+      reach = λ tells reach.
+          reaches_on g.D.Disk.files c.args.rows.now c.args.rows.now c.args.at r y (λ u. c.requires.up) (λ u. up_open r c.requires.up) (dropped g (goal.at.returns-in-Err-clause-swaps g c).After-drop_run tells) (λ pair. refl) reach;
     }
 
 pub returns-in-Err-clause-places : goal.returns-in-Err-clause-places

@@ -1,26 +1,29 @@
-use Rattle.std.proofs.Common.{◌≡◌, inl, inr, Err, false, sym, ap, subst, ◌∙◌}
+use Rattle.std.proofs.Common.{◌≡◌, inl, inr, Err, false, refl, sym, ap, subst, ◌∙◌}
 use Rattle.std.proofs.lemmas.Bool.{cases_Bool}
 use Rattle.std.specs.Prelude.{slice_set}
 use Rattle.hay_needle.specs.declared.needle.Pair.{Pair}
 use Rattle.hay_map.specs.Places.{gone_place, place_in}
-use Rattle.hay_map.specs.Rows.{last_place, row_at}
+use Rattle.hay_map.specs.Rows.{row_at, swapped_place}
 use Rattle.hay_open.specs.Stored.{index_file, volume_file}
-use Rattle.hay_physical.specs.Copies.{Copy, is_frozen, is_stuck}
-use Rattle.hay_physical.specs.Replicas as physical
+use Rattle.hay_physical.specs.Copies.{Copy, is_frozen}
 use Rattle.hay_physical.specs.Runs.{RemovedBoth}
 use Rattle.hay_physical.proofs.Laws.{stands_cells_end, stands_generation, stands_up}
-use Rattle.hay_logical.specs.Steps.{HoldsUnswapped, IsLeftBy}
+use Rattle.hay_logical.specs.Steps.{HoldsUnswapped, IsLeftBy, StaysInReach}
 use Rattle.hay_logical.specs.Steps.Start.{Examined}
-use Rattle.hay_logical.proofs.Calls.{frozen_open, loaded_other, not_both, open_frozen, open_up}
-use Rattle.hay_logical.proofs.Deletable.{place_kept}
-use Rattle.hay_logical.proofs.Swapping.{deletable_swapped, keeps_rows, places_swapped, refused_holds, refused_left, unsure_left}
+use Rattle.hay_logical.specs.Volumes.{ReachesPlaces}
+use Rattle.hay_logical.proofs.Calls.{loaded_other, not_both, open_frozen, open_up, up_open}
+use Rattle.hay_logical.proofs.Reaching.{reaches_on}
+use Rattle.hay_logical.proofs.Swapping.{places_swapped, reach_swapped, refused_holds, refused_left, unsure_left}
+use Rattle.hay_logical.proofs.runs.swap.Given as given
 use Rattle.hay_logical.proofs.runs.swap.Goals as goal
+use Rattle.hay_logical.proofs.runs.swap.Goals.{In-Err}
 
 pub returns-in-Ok-clause-swaps : goal.returns-in-Ok-clause-swaps
 returns-in-Ok-clause-swaps g c =
     let x : Copy g.row.D.Denot = c.finish.new.self in
-    let changed : (pair : Pair) → row_at c.swap.new.self pair ≡ slice_set (row_at c.args.rows.now pair) c.args.at (last_place c.in-Ok.places.items pair (gone_place (place_in (row_at c.args.rows.now pair) c.args.at))) =
-    λ pair. c.in-Ok-swap.ensures.ok.rows pair ∙ ap (λ l. slice_set (row_at c.args.rows.now pair) c.args.at (last_place l pair (gone_place (place_in (row_at c.args.rows.now pair) c.args.at)))) c.as_slice.ensures.value in
+    let photos = c.in-Ok.ensures.photos in
+    let changed : (pair : Pair) → row_at c.swap.new.self pair ≡ slice_set (row_at c.args.rows.now pair) c.args.at (swapped_place c.in-Ok.places.items pair (gone_place (place_in (row_at c.args.rows.now pair) c.args.at))) =
+    subst (λ l. (pair : Pair) → row_at c.swap.new.self pair ≡ slice_set (row_at c.args.rows.now pair) c.args.at (swapped_place l pair (gone_place (place_in (row_at c.args.rows.now pair) c.args.at)))) c.as_slice.ensures.value c.swap.ensures.rows in
     record {
       «open» = c.finish.ensures.«open»;
       sup = c.finish.ensures.sup;
@@ -32,27 +35,36 @@ returns-in-Ok-clause-swaps g c =
             stored = made.0;
             to = record { swaps = made.1; tight = made.2; ends = stands_cells_end g.D.Disk.files x made.0 made.3 };
             stands = made.3;
-            places = places_swapped g.D.Piece.Piece.Tells c.args.rows.now c.swap.new.self c.args.at c.in-Ok.places.items changed s made.0 made.1.table places made.4;
+            places = places_swapped g.D.Piece.Piece.Tells c.args.rows.now c.swap.new.self c.args.at c.in-Ok.places.items photos changed s made.0 made.1.table places made.4;
             generation_is = c.generation.ensures.is ∙ stands_generation g.D.Disk.files x made.0 made.3;
           };
       removed = λ tells s stands.
           subst (λ n. RemovedBoth (g.D.Disk.files x.disk) (volume_file n) (index_file n) (g.D.Disk.fault_count (c.args.replica.now).disk) (g.D.Disk.fault_count x.disk))
           (stands_generation g.D.Disk.files c.args.replica.now s stands) (c.in-Ok.ensures.removed tells);
       refused = λ tells s run stands start places. tt;
-      deletable = λ tells may up. deletable_swapped g.D.Piece.Piece.Tells c.args.rows.now c.swap.new.self c.args.at c.in-Ok.places.items changed g.D.Disk.files x (c.in-Ok.ensures.can_delete tells);
+      reach = λ tells reach. reach_swapped g.D.Piece.Piece.Tells c.args.rows.now c.swap.new.self c.args.at c.in-Ok.places.items photos changed g.D.Disk.files x (c.in-Ok.ensures.can_delete tells) (c.in-Ok.ensures.seen tells);
     }
 
 pub returns-in-Ok-clause-places : goal.returns-in-Ok-clause-places
 returns-in-Ok-clause-places g c = record {
-  width = c.in-Ok-swap.ensures.ok.replicas;
-  others = λ pair i apart. loaded_other (row_at c.args.rows.now pair) (row_at c.swap.new.self pair) i c.args.at _ (c.in-Ok-swap.ensures.ok.rows pair) apart;
+  width = c.swap.ensures.replicas;
+  others = λ pair i apart. loaded_other (row_at c.args.rows.now pair) (row_at c.swap.new.self pair) i c.args.at _ (c.swap.ensures.rows pair) apart;
   same = tt;
 }
 
-pub returns-clause-swaps : goal.returns-clause-swaps
-returns-clause-swaps g c =
+-- a refusal has left what could be reached
+kept : (g : given.Over) (c : In-Err g) → StaysInReach g.D.Disk.Tells g.D.Disk.files c.args.replica.now c.finish.new.self
+kept g c = λ tells. record { deletes = λ place may. c.in-Err.ensures.deletes tells place may; sees = c.in-Err.ensures.sees tells }
+
+pub returns-in-Err-clause-stays : goal.returns-in-Err-clause-stays
+returns-in-Err-clause-stays g c = kept g (goal.at.returns-in-Err-clause-stays g c).In-Err
+
+pub returns-in-Err-clause-swaps : goal.returns-in-Err-clause-swaps
+returns-in-Err-clause-swaps g c =
     let r : Copy g.row.D.Denot = c.args.replica.now in
     let x : Copy g.row.D.Denot = c.finish.new.self in
+    let stays : g.D.Disk.Tells → ReachesPlaces g.D.Disk.files c.args.rows.now c.args.at r → ReachesPlaces g.D.Disk.files c.args.rows.now c.args.at x =
+    λ tells reach. reaches_on g.D.Disk.files c.args.rows.now c.args.rows.now c.args.at r x (λ u. c.requires.up) (λ u. up_open r c.requires.up) (kept g (goal.at.returns-in-Err-clause-swaps g c).In-Err tells) (λ pair. refl) reach in
     elim (cases_Bool (is_frozen x)) [
       | inl froze ↦
           let frozen = open_frozen x c.finish.ensures.«open» froze in
@@ -71,7 +83,7 @@ returns-clause-swaps g c =
                   | inl stays ↦ absurd (not_both x (stands_up g.D.Disk.files x s stays) frozen)
                   | inr made ↦ (made.1.0, made.1.1, made.1.3)
                 ]);
-            deletable = λ tells may up. absurd (not_both x up frozen);
+            reach = stays;
           }
       | inr thawed ↦
           let up = open_up x c.finish.ensures.«open» thawed in
@@ -88,6 +100,6 @@ returns-clause-swaps g c =
             refused = λ tells s run stands start places.
                 subst (λ u. HoldsUnswapped g.D.Disk.files r x s run u) (sym is)
                 (refused_holds g.D.Disk.files g.D.Disk.fault_count r x s run c.in-Err.fault c.in-Err.ensures.causes (c.in-Err.ensures.kept tells s stands up) c.in-Err.ensures.still.0);
-            deletable = λ tells may up pair. place_kept g.D.Disk.Tells g.D.Disk.files r x (λ t place h. c.in-Err.ensures.deletes t place h) tells (place_in (row_at c.args.rows.now pair) c.args.at) (may pair);
+            reach = stays;
           }
     ]
