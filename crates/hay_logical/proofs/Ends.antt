@@ -1,6 +1,6 @@
 -- A replica whose compaction ended among the others.
 use Rattle.std.proofs.Common.{◌≡◌, inl, inr, ℕ, ◌<◌, true, false, List, length, None, sym, subst, ◌∙◌, arith}
-use Rattle.std.specs.Prelude.{slice_set, Result, Ok, Err}
+use Rattle.std.specs.Prelude.{slice_set, Result, Ok, Err, OnErr}
 use Rattle.std.proofs.lemmas.Bool.{cases_Bool}
 use Rattle.hay_disk.specs.Disk.{Files}
 use Rattle.hay_map.specs.MapRows.{MapRows}
@@ -9,7 +9,7 @@ use Rattle.hay_physical.specs.Copies.{Copy, IsFrozen, IsUp, goal_of, is_frozen}
 use Rattle.hay_logical.specs.declared.runs.Unswapped.{Unswapped}
 use Rattle.hay_logical.specs.declared.runs.Unswapped.TheVariants.{Refused, Unsure}
 use Rattle.hay_logical.specs.Fits.{At}
-use Rattle.hay_logical.specs.Steps.{AllIdle, LosesRun, Start, SwapsAt, SwapsOne}
+use Rattle.hay_logical.specs.Steps.{AllIdle, LosesRun, Start, StaysInReach, SwapsAt, SwapsOne}
 use Rattle.hay_logical.proofs.Calls.{frozen_is, not_both, open_frozen, up_thawed}
 use Rattle.hay_logical.proofs.Lists.{at_below, at_same, at_set_other, at_set_same, at_there, length-slice_set}
 
@@ -63,7 +63,11 @@ module _ {D P : Type 0} (DiskTells : Type 0) (files : D → Files) (faults : D �
       idle = λ frozen. idle y here (frozen_is y frozen);
     }
 
+    called_there : (Q : Copy D → Copy D → Type 0) → Q r y → (a b : Copy D) → At old at a → At new at b → Q a b
+    called_there Q is a b e f = subst (λ (x : Copy D). Q x b) (at_same old at r a was e) (subst (λ (x : Copy D). Q r x) (sym (stays b f)) is)
+
     pub swaps_there : (a b : Copy D) → At old at a → At new at b → SwapsAt DiskTells files faults Tells start rows rows' at a b result
-    swaps_there a b e f =
-        subst (λ (x : Copy D). SwapsAt DiskTells files faults Tells start rows rows' at x b result) (at_same old at r a was e)
-        (subst (λ (x : Copy D). SwapsAt DiskTells files faults Tells start rows rows' at r x result) (sym (stays b f)) swaps)
+    swaps_there = called_there (λ a b. SwapsAt DiskTells files faults Tells start rows rows' at a b result) swaps
+
+    pub stays_there : OnErr result (StaysInReach DiskTells files r y) → (a b : Copy D) → At old at a → At new at b → OnErr result (StaysInReach DiskTells files a b)
+    stays_there = called_there (λ a b. OnErr result (StaysInReach DiskTells files a b))

@@ -5,7 +5,7 @@ use Rattle.hay_logical.specs.Fits.{At}
 use Rattle.hay_logical.specs.Steps.Start.{Going}
 use Rattle.hay_logical.proofs.Calls.{one_counts}
 use Rattle.hay_logical.proofs.Dropping.{counts_on}
-use Rattle.hay_logical.proofs.Ends.{swaps_one, swaps_there}
+use Rattle.hay_logical.proofs.Ends.{stays_there, swaps_one, swaps_there}
 use Rattle.hay_logical.proofs.Lists.{at_read}
 use Rattle.hay_logical.proofs.runs.finish_at.Goals as goal
 
@@ -31,6 +31,13 @@ returns-clause-swaps g c = λ r r' e f.
     let there : At c.args.replicas.now c.args.at here = at_read c.args.replicas.now c.args.at c.index-replicas-at.result c.requires.within in
     swaps_there g.D.Disk.Tells g.D.Disk.files g.D.Disk.fault_count g.D.Piece.Piece.Tells Going c.args.rows.now c.finish-result.new.rows c.args.at c.args.replicas.now c.drop_behind.new.replicas here c.finish-result.new.replica c.finish-result.result there
     (c.requires.up c.args.at here there) c.finish-result.ensures.swaps c.drop_behind.ensures.count c.drop_behind.ensures.each c.drop_behind.ensures.still c.drop_behind.ensures.idle r r' e f
+
+pub returns-clause-stays : goal.returns-clause-stays
+returns-clause-stays g c = λ r r' e f.
+    let here : Copy g.row.D.Denot = slice_index_or c.args.replicas.now c.args.at c.index-replicas-at.result in
+    let there : At c.args.replicas.now c.args.at here = at_read c.args.replicas.now c.args.at c.index-replicas-at.result c.requires.within in
+    stays_there g.D.Disk.Tells g.D.Disk.files g.D.Disk.fault_count g.D.Piece.Piece.Tells Going c.args.rows.now c.finish-result.new.rows c.args.at c.args.replicas.now c.drop_behind.new.replicas here c.finish-result.new.replica c.finish-result.result there
+    (c.requires.up c.args.at here there) c.finish-result.ensures.swaps c.drop_behind.ensures.count c.drop_behind.ensures.each c.drop_behind.ensures.still c.drop_behind.ensures.idle c.finish-result.ensures.stays r r' e f
 
 pub returns-clause-counts : goal.returns-clause-counts
 returns-clause-counts g c =
