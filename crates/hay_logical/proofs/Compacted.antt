@@ -23,10 +23,10 @@ use Rattle.hay_logical.specs.Answers as answers
 use Rattle.hay_logical.specs.Fits.{At, RunsAs, copier_run}
 use Rattle.hay_logical.specs.Refusals.{unfinished_by}
 use Rattle.hay_logical.specs.Stands.{ReplicaStands, Stands, StandsFor}
-use Rattle.hay_logical.specs.Steps.{KeepsPlaces, Start, SwapsAt, SwapsOne}
+use Rattle.hay_logical.specs.Steps.{KeepsPlaces, Start, StaysInReach, SwapsAt, SwapsOne}
 use Rattle.hay_logical.specs.Steps.Start.{Fresh, Going}
 use Rattle.hay_logical.proofs.Compacting.{known_goal, known_none}
-use Rattle.hay_logical.proofs.Finishing.{loose_sizes, stands_dropped, stands_poised, stands_same, stands_swap, stands_unplaced, tight_sizes, was_there}
+use Rattle.hay_logical.proofs.Finishing.{loose_sizes, stands_dropped, stands_poised, stands_same, stands_swap, tight_sizes, was_there}
 use Rattle.hay_logical.proofs.Lists.{at_below, at_same}
 use Rattle.hay_logical.proofs.Standing.{volume_with}
 use Rattle.hay_logical.proofs.Stepping.{is_run, some_run}
@@ -75,29 +75,30 @@ module _ {D P : Type 0} (settings : Settings) (number : ℕ) (DiskTells : Type 0
         );
       }
 
-  pub finish_refused : (u : Unswapped) → (goal_of one.before ≡ None → ⊥) → ((goal : ℕ) → goal_of one.before ≡ Some goal → goal ≤ 65535) → SwapsAt DiskTells files faults Tells Going rows rows' at one.before one.after (Err u) → KeepsPlaces rows rows' at (Err u)
+  pub finish_refused : (u : Unswapped) → (goal_of one.before ≡ None → ⊥) → ((goal : ℕ) → goal_of one.before ≡ Some goal → goal ≤ 65535) → SwapsAt DiskTells files faults Tells Going rows rows' at one.before one.after (Err u) → StaysInReach DiskTells files one.before one.after
+      → KeepsPlaces rows rows' at (Err u)
       → FinishRefused files Tells k at (volume_with settings number items rows front None unsure) (volume_with settings number new rows' front (unfinished_by settings number at u).frozen unsure) (unfinished_by settings number at u).fault
   unfolding Stands was has_run
-  finish_refused (Refused (fault.Failed n)) standing few swaps places =
+  finish_refused (Refused (fault.Failed n)) standing few swaps stays places =
       let run = running standing in
       let h = swaps.refused tells was.stored (copier_run run.0) was.stands (has_run run) was.places in
       (stands.frozen, refl, run, inl (stands_dropped settings number DiskTells files Tells items new rows rows' front unsure k stands one.count tells at one swaps.left.0 swaps.left.1 h.0 h.1 places.same))
-  finish_refused (Refused fault.Frozen) standing few swaps places = absurd swaps.left
-  finish_refused (Refused (fault.Full end need capacity)) standing few swaps places = absurd swaps.left
-  finish_refused (Refused (fault.Busy goal)) standing few swaps places = let wrong : Going ≡ Fresh = swaps.left.0 in absurd cc
-  finish_refused (Refused (fault.Ended n)) standing few swaps places = absurd swaps.left
-  finish_refused (Refused fault.Worn) standing few swaps places = let wrong : Going ≡ Fresh = swaps.left.0 in absurd cc
-  finish_refused (Refused (fault.Damaged place)) standing few swaps places =
+  finish_refused (Refused fault.Frozen) standing few swaps stays places = absurd swaps.left
+  finish_refused (Refused (fault.Full end need capacity)) standing few swaps stays places = absurd swaps.left
+  finish_refused (Refused (fault.Busy goal)) standing few swaps stays places = let wrong : Going ≡ Fresh = swaps.left.0 in absurd cc
+  finish_refused (Refused (fault.Ended n)) standing few swaps stays places = absurd swaps.left
+  finish_refused (Refused fault.Worn) standing few swaps stays places = let wrong : Going ≡ Fresh = swaps.left.0 in absurd cc
+  finish_refused (Refused (fault.Damaged place)) standing few swaps stays places =
       let run = running standing in
       absurd (swaps.refused tells was.stored (copier_run run.0) was.stands (has_run run) was.places)
-  finish_refused (Refused fault.NoMemory) standing few swaps places =
+  finish_refused (Refused fault.NoMemory) standing few swaps stays places =
       let run = running standing in
       let h = swaps.refused tells was.stored (copier_run run.0) was.stands (has_run run) was.places in
       (stands.frozen, may_finish standing few, stands_dropped settings number DiskTells files Tells items new rows rows' front unsure k stands one.count tells at one swaps.left.0 swaps.left.1 h.0 h.1 places.same)
-  finish_refused (Perhaps n) standing few swaps places =
+  finish_refused (Perhaps n) standing few swaps stays places =
       let run = running standing in
       let h = swaps.refused tells was.stored (copier_run run.0) was.stands (has_run run) was.places in
-      (stands.frozen, refl, run, inr (stands_poised settings number DiskTells files Tells items new rows rows' front unsure k stands one.count tells at one (machine_of settings number at) h.0 swaps.left.0 h.1 h.2 places.same))
+      (stands.frozen, refl, run, inr (stands_poised settings number DiskTells files Tells items new rows rows' front unsure k stands one.count tells at one (machine_of settings number at) h.0 swaps.left.0 stays h.1 h.2 places.same))
 
   -- the files of the old generation
   pub removes_old : (start : Start) (generation : ℕ) → SwapsAt DiskTells files faults Tells start rows rows' at one.before one.after (Ok generation)
@@ -145,24 +146,25 @@ module _ {D P : Type 0} (settings : Settings) (number : ℕ) (DiskTells : Type 0
     | inr apart ↦ (one.others j r r' apart e f).1 up
   ]
 
-  pub compact_refused : (u : Unswapped) → IsUp one.before → SwapsAt DiskTells files faults Tells Fresh rows rows' at one.before one.after (Err u) → KeepsPlaces rows rows' at (Err u)
+  pub compact_refused : (u : Unswapped) → IsUp one.before → SwapsAt DiskTells files faults Tells Fresh rows rows' at one.before one.after (Err u) → StaysInReach DiskTells files one.before one.after
+      → KeepsPlaces rows rows' at (Err u)
       → CompactRefused files Tells k at (volume_with settings number items rows front None unsure) (volume_with settings number new rows' front (unfinished_by settings number at u).frozen unsure) (unfinished_by settings number at u).fault
   unfolding Stands was fresh
-  compact_refused (Refused (fault.Failed n)) up swaps places =
+  compact_refused (Refused (fault.Failed n)) up swaps stays places =
       let idle = swaps.left.2 in
       let h = swaps.refused tells was.stored fresh was.stands (goal_none files one.before was.stored idle.0, refl) was.places in
       (stands.frozen, refl, rest idle, inl (stands_dropped settings number DiskTells files Tells items new rows rows' front unsure k stands one.count tells at one swaps.left.0 swaps.left.1 h.0 h.1 places.same))
-  compact_refused (Refused fault.Frozen) up swaps places = absurd swaps.left
-  compact_refused (Refused (fault.Full end need capacity)) up swaps places = absurd swaps.left
-  compact_refused (Refused (fault.Busy goal)) up swaps places = (
+  compact_refused (Refused fault.Frozen) up swaps stays places = absurd swaps.left
+  compact_refused (Refused (fault.Full end need capacity)) up swaps stays places = absurd swaps.left
+  compact_refused (Refused (fault.Busy goal)) up swaps stays places = (
     stands.frozen,
     refl,
     some_run (replica_at k at).run goal (sym (known_goal files one.before was.stored (replica_at k at).run was.run) ∙ swaps.left.1),
     stands_same settings number DiskTells files Tells items new rows rows' front unsure k stands one.count tells at one
         (λ j r r' e f. all_same swaps.left.2 j r r' e f (subst (λ (x : Copy D). IsUp x) (sym swaps.left.2) up)) places.same,
   )
-  compact_refused (Refused (fault.Ended n)) up swaps places = absurd swaps.left
-  compact_refused (Refused fault.Worn) up swaps places =
+  compact_refused (Refused (fault.Ended n)) up swaps stays places = absurd swaps.left
+  compact_refused (Refused fault.Worn) up swaps stays places =
       let h = swaps.refused tells was.stored fresh was.stands (goal_none files one.before was.stored swaps.left.1, refl) was.places in (
         stands.frozen,
         refl,
@@ -171,16 +173,16 @@ module _ {D P : Type 0} (settings : Settings) (number : ℕ) (DiskTells : Type 0
         stands_same settings number DiskTells files Tells items new rows rows' front unsure k stands one.count tells at one
             (λ j r r' e f. all_same swaps.left.3 j r r' e f (subst (λ (x : Copy D). IsUp x) (sym swaps.left.3) up)) places.same,
       )
-  compact_refused (Refused (fault.Damaged place)) up swaps places =
+  compact_refused (Refused (fault.Damaged place)) up swaps stays places =
       absurd (swaps.refused tells was.stored fresh was.stands (goal_none files one.before was.stored swaps.left.2.0, refl) was.places)
-  compact_refused (Refused fault.NoMemory) up swaps places =
+  compact_refused (Refused fault.NoMemory) up swaps stays places =
       let idle = swaps.left.2 in
       let h = swaps.refused tells was.stored fresh was.stands (goal_none files one.before was.stored idle.0, refl) was.places in
       (stands.frozen, rest idle, stands_dropped settings number DiskTells files Tells items new rows rows' front unsure k stands one.count tells at one swaps.left.0 swaps.left.1 h.0 h.1 places.same)
-  compact_refused (Perhaps n) up swaps places =
+  compact_refused (Perhaps n) up swaps stays places =
       let idle = swaps.left.2 in
       let h = swaps.refused tells was.stored fresh was.stands (goal_none files one.before was.stored idle.0, refl) was.places in
-      (stands.frozen, refl, rest idle, inr (stands_poised settings number DiskTells files Tells items new rows rows' front unsure k stands one.count tells at one (machine_of settings number at) h.0 swaps.left.0 h.1 h.2 places.same))
+      (stands.frozen, refl, rest idle, inr (stands_poised settings number DiskTells files Tells items new rows rows' front unsure k stands one.count tells at one (machine_of settings number at) h.0 swaps.left.0 stays h.1 h.2 places.same))
 
 -- CAUSES
 

@@ -16,7 +16,7 @@ use Rattle.hay_legal.specs.declared.known.VolumeKnown.{VolumeKnown}
 use Rattle.hay_legal.specs.Known.{now, replica_at}
 use Rattle.hay_legal.specs.Plain.{frozen_by, poised, swapped, without_run}
 use Rattle.hay_map.specs.MapRows.{MapRows}
-use Rattle.hay_map.specs.Places.{PlaceMeans, place_in}
+use Rattle.hay_map.specs.Places.{place_in}
 use Rattle.hay_map.specs.Rows.{row_at}
 use Rattle.hay_open.specs.Stored.{Stored, last_cell}
 use Rattle.hay_physical.specs.Copies.{Copy, IsFrozen, IsUp, goal_of, is_stuck}
@@ -24,16 +24,16 @@ use Rattle.hay_physical.specs.Replicas as physical
 use Rattle.hay_physical.specs.Runs as runs
 use Rattle.hay_logical.specs.declared.unsure.Unsure.{Unsure}
 use Rattle.hay_logical.specs.Answers.{IsLoose, IsTight, change_at}
-use Rattle.hay_logical.specs.Fits.{At, Fits, HoldsSwap, PhotoAt, RunsAs}
+use Rattle.hay_logical.specs.Fits.{At, Fits, HoldsSwap, PhotoAt, PlaceStands, RunsAs}
 use Rattle.hay_logical.specs.Stands.{ReplicaStands, StandsFor}
-use Rattle.hay_logical.specs.Steps.{AllIdle, LosesRun, PlacesAre, Swapped, SwapsOne, SwapsTo, Unpublished}
+use Rattle.hay_logical.specs.Steps.{AllIdle, LosesRun, PlacesAre, StaysInReach, Swapped, SwapsOne, SwapsTo}
 use Rattle.hay_logical.proofs.Compacting.{no_run}
 use Rattle.hay_logical.proofs.Holding.{broken_none, hold_stuck, pending_none, swap_settled}
 use Rattle.hay_logical.proofs.Knowing.{changed_here, changed_other, fits_same, replica_mapped}
 use Rattle.hay_logical.proofs.Lists.{at_below, at_same, at_there, length-slice_set}
+use Rattle.hay_logical.proofs.Looking.{stands_on, stored_stands}
 use Rattle.hay_logical.proofs.Standing.{none_pending, pending_unsure, takes, volume_with}
 use Rattle.hay_logical.proofs.SwapSizes.{photos_end, photos_fewer, tight_count, tight_end}
-use Rattle.hay_logical.proofs.Tables.{place_means}
 
 -- SIZES
 
@@ -89,15 +89,19 @@ module _ {D P : Type 0} (settings : Settings) (number : ℕ) (DiskTells : Type 0
         };
       }
 
+  -- what a frozen volume's replica holds, and what can still be seen of it
+  abbrev Frozen : VolumeKnown → ℕ → Copy D → Copy D → Type 0
+  Frozen t j r r' =
+      ((replica_at t j).base ≡ (replica_at k j).base) × ((replica_at t j).run ≡ None) × physical.KeepsSight files physical.Anywhere r r'
+      × ((s : Stored) × Fits t (replica_at t j) s × HoldsSwap files r' (replica_at t j).stuck s (replica_at t j).poised)
+
   -- the volume is frozen, and the rows are as they were
   pub stands_frozen : (t : VolumeKnown) (m : ℕ) → t.log ≡ k.log → t.frozen ≡ Some m → t.pending ≡ k.pending → length t.replicas ≡ length k.replicas
       → ((q : Pair) → row_at rows' q ≡ row_at rows q) → AllIdle new
-      → ((j : ℕ) (r r' : Copy D) → At items j r → At new j r' → (was : ReplicaStands files Tells (volume_with settings number items rows front None unsure) k j r)
-      → ((replica_at t j).base ≡ (replica_at k j).base) × ((replica_at t j).run ≡ None) × ((s : Stored) × Fits t (replica_at t j) s × HoldsSwap files r' (replica_at t j).stuck s (replica_at t j).poised))
+      → ((j : ℕ) (r r' : Copy D) → At items j r → At new j r' → ReplicaStands files Tells (volume_with settings number items rows front None unsure) k j r → Frozen t j r r')
       → StandsFor files Tells (volume_with settings number new rows' front (Some m) unsure) t
   stands_frozen t m log frozen pending many same idle each =
       let taking = takes DiskTells files Tells settings number items rows front None unsure k stands refl in
-      let a_is = stands.all in
       let none = pending ∙ taking.pending in
       record {
         all = count ∙ stands.all;
@@ -106,16 +110,18 @@ module _ {D P : Type 0} (settings : Settings) (number : ℕ) (DiskTells : Type 0
         frozen = frozen;
         unsure = none_pending unsure t t.pending (pending_unsure unsure k k.pending stands.unsure taking.pending) none;
         by = record {
-          places = λ q j within.
-              let below : j < length items = omega (arith, within, a_is) in
+          places = λ q j r' f.
+              let below : j < length items = (let h = at_below new j r' f in omega (arith, h, count)) in
               let old = at_there items j below in
-              let next = at_there new j (let less : j < length new = omega (arith, below, count) in less) in
               let was = taking.each j old.0 old.1 in
-              let e = each j old.0 next.0 old.1 next.1 was in
+              let e = each j old.0 r' old.1 f was in
               let table : table_of (needles_of was.stored.cells) ≡ now t (replica_at t j) =
               was.fits.table ∙ ap (λ (l : List Logged). after (entries_of l) (length l) (replica_at k j).base) (sym log) ∙ ap (λ (b : Table). after (entries_of t.log) (length t.log) b) (sym e.0) in
-              subst (λ l. PlaceMeans Tells q (place_in l j) (outcome_at (now t (replica_at t j)) q)) (sym (same q))
-              (subst (λ (x : Table). PlaceMeans Tells q (place_in (row_at rows q) j) (outcome_at x q)) table (place_means Tells was.stored.cells q (place_in (row_at rows q) j) (was.places q)));
+              let what = outcome_at (now t (replica_at t j)) q in
+              subst (λ l. PlaceStands files Tells r' q (place_in l j) what) (sym (same q))
+              (stands_on DiskTells files Tells physical.Anywhere old.0 r' q (place_in (row_at rows q) j) what e.2 (λ at size here. tt)
+              (subst (λ (x : Table). PlaceStands files Tells old.0 q (place_in (row_at rows q) j) (outcome_at x q)) table
+              (stored_stands DiskTells files Tells old.0 was.stored q (place_in (row_at rows q) j) was.stands (was.places q))));
           idle = λ j r' f.
               let below : j < length items = (let h = at_below new j r' f in omega (arith, h, count)) in
               let old = at_there items j below in
@@ -130,30 +136,27 @@ module _ {D P : Type 0} (settings : Settings) (number : ℕ) (DiskTells : Type 0
                 let old = at_there items j below in
                 let e = each j old.0 r' old.1 f (taking.each j old.0 old.1) in
                 record {
-                  stored = e.2.0;
-                  fits = e.2.1;
-                  holds = pending_none files r' (replica_at t j).stuck (replica_at t j).poised e.2.0 t.pending 0 j none e.2.2;
+                  stored = e.3.0;
+                  fits = e.3.1;
+                  holds = pending_none files r' (replica_at t j).stuck (replica_at t j).poised e.3.0 t.pending 0 j none e.3.2;
                 };
           };
         };
       }
 
-  -- what a frozen volume's replica holds
-  abbrev Frozen : VolumeKnown → ℕ → Copy D → Type 0
-  Frozen t j r' =
-      ((replica_at t j).base ≡ (replica_at k j).base) × ((replica_at t j).run ≡ None) × ((s : Stored) × Fits t (replica_at t j) s × HoldsSwap files r' (replica_at t j).stuck s (replica_at t j).poised)
-
-  frozen_as : (t : VolumeKnown) (j : ℕ) (r' : Copy D) (x : ReplicaKnown) (s : Stored) → replica_at t j ≡ x → x.base ≡ (replica_at k j).base → x.run ≡ None → Fits t x s → HoldsSwap files r' x.stuck s x.poised → Frozen t j r'
-  frozen_as t j r' x s is base run fits holds = (
+  frozen_as : (t : VolumeKnown) (j : ℕ) (r r' : Copy D) (x : ReplicaKnown) (s : Stored) → replica_at t j ≡ x → x.base ≡ (replica_at k j).base → x.run ≡ None → physical.KeepsSight files physical.Anywhere r r' → Fits t x s
+      → HoldsSwap files r' x.stuck s x.poised → Frozen t j r r'
+  frozen_as t j r r' x s is base run sees fits holds = (
     ap (λ (y : ReplicaKnown). y.base) is ∙ base,
     ap (λ (y : ReplicaKnown). y.run) is ∙ run,
+    sees,
     (s, subst (λ (y : ReplicaKnown). Fits t y s) (sym is) fits, subst (λ (y : ReplicaKnown). HoldsSwap files r' y.stuck s y.poised) (sym is) holds),
   )
 
   frozen_other : DiskTells → (t : VolumeKnown) (j : ℕ) (r r' : Copy D) → t.log ≡ k.log → ReplicaStands files Tells (volume_with settings number items rows front None unsure) k j r → LosesRun DiskTells files r r'
-      → replica_at t j ≡ without_run (replica_at k j) → Frozen t j r'
+      → replica_at t j ≡ without_run (replica_at k j) → Frozen t j r r'
   frozen_other tells t j r r' log was loses is =
-      frozen_as t j r' (without_run (replica_at k j)) was.stored is refl refl (fits_same k t (replica_at k j) (without_run (replica_at k j)) was.stored log refl refl refl refl refl was.fits)
+      frozen_as t j r r' (without_run (replica_at k j)) was.stored is refl refl (loses.reach tells).sees (fits_same k t (replica_at k j) (without_run (replica_at k j)) was.stored log refl refl refl refl refl was.fits)
       (swap_settled files r' (replica_at k j).stuck was.stored (replica_at k j).poised was.settled (loses.holds tells (replica_at k j).stuck was.stored was.stored (hold_stuck files r was.stored (replica_at k j).stuck was.stands was.stuck)))
 
   module _ (tells : DiskTells) (at : ℕ) (one : SwapsOne DiskTells files at items new) where
@@ -227,9 +230,9 @@ module _ {D P : Type 0} (settings : Settings) (number : ℕ) (DiskTells : Type 0
         (λ pair i apart. ap (λ l. place_in l i) (same pair))
 
     -- a head switch of which no one knows whether it was made
-    pub stands_poised : (m : ℕ) (t : Stored) → IsFrozen one.after → runs.Swaps was_there.stored t → physical.Holds files one.after (is_stuck one.before) was_there.stored t → ((pair : Pair) → row_at rows' pair ≡ row_at rows pair)
+    pub stands_poised : (m : ℕ) (t : Stored) → IsFrozen one.after → StaysInReach DiskTells files one.before one.after → runs.Swaps was_there.stored t → physical.Holds files one.after (is_stuck one.before) was_there.stored t → ((pair : Pair) → row_at rows' pair ≡ row_at rows pair)
         → StandsFor files Tells (volume_with settings number new rows' front (Some m) unsure) (change_at (frozen_by m k) at poised)
-    stands_poised m t frozen swaps holds same =
+    stands_poised m t frozen stays swaps holds same =
         let long : length (frozen_by m k).replicas ≡ length k.replicas = length-map k.replicas without_run in
         let low = low_at in
         let less : at < length (frozen_by m k).replicas = omega (arith, long, low) in
@@ -238,8 +241,11 @@ module _ {D P : Type 0} (settings : Settings) (number : ℕ) (DiskTells : Type 0
               let after_is : r' ≡ one.after = at_same new at r' one.after (subst (λ n. At new n r') here f) one.is in
               let known : replica_at (change_at (frozen_by m k) at poised) at ≡ poised (without_run (replica_at k at)) =
               changed_here (frozen_by m k) at poised less ∙ ap poised (replica_mapped without_run k.replicas at low) in
-              subst (λ n. Frozen (change_at (frozen_by m k) at poised) n r') (sym here)
-              (frozen_as (change_at (frozen_by m k) at poised) at r' (poised (without_run (replica_at k at))) was_there.stored known refl refl
+              let before_is : r ≡ one.before = at_same items at r one.before (subst (λ n. At items n r) here e) one.was in
+              let sees : physical.KeepsSight files physical.Anywhere r r' =
+              subst (λ (x : Copy D). physical.KeepsSight files physical.Anywhere x r') (sym before_is) (subst (λ (x : Copy D). physical.KeepsSight files physical.Anywhere one.before x) (sym after_is) (stays tells).sees) in
+              subst (λ n. Frozen (change_at (frozen_by m k) at poised) n r r') (sym here)
+              (frozen_as (change_at (frozen_by m k) at poised) at r r' (poised (without_run (replica_at k at))) was_there.stored known refl refl sees
               (fits_same k (change_at (frozen_by m k) at poised) (replica_at k at) (poised (without_run (replica_at k at))) was_there.stored refl refl refl refl refl refl was_there.fits)
               (t, swaps, subst (λ (x : Copy D). physical.Holds files x (replica_at k at).stuck was_there.stored t) (sym after_is) (subst (λ b. physical.Holds files one.after b was_there.stored t) (sym was_there.stuck) holds)))
           | inr apart ↦

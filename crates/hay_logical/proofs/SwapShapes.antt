@@ -1,27 +1,24 @@
 -- The shape of a volume behind the end of a compaction.
 use Rattle.std.proofs.Common.{◌≡◌, inl, inr, ℕ, ◌<◌, false, List, length, Option, None, sym, ap, subst, ◌∙◌, arith}
-use Rattle.std.specs.Prelude.{Err, Result}
+use Rattle.std.specs.Prelude.{Err, OnErr, Result}
 use Rattle.std.proofs.lemmas.Bool.{cases_eq}
 use Rattle.hay_needle.specs.declared.settings.Settings.{Settings}
 use Rattle.hay_disk.specs.Disk.{Files}
 use Rattle.hay_map.specs.MapRows.{MapRows}
-use Rattle.hay_map.specs.Places.{place_in}
-use Rattle.hay_map.specs.Rows.{row_at}
 use Rattle.hay_physical.specs.declared.fault.ReplicaFault.TheVariants as fault
 use Rattle.hay_physical.specs.Copies.{Copy, IsOpenCopy, IsUp, is_frozen}
-use Rattle.hay_physical.specs.Replicas as physical
 use Rattle.hay_logical.specs.declared.unsure.Unsure.{Unsure}
 use Rattle.hay_logical.specs.declared.runs.Unswapped.{Unswapped}
 use Rattle.hay_logical.specs.declared.runs.Unswapped.TheVariants.{Refused, Unsure as Perhaps}
 use Rattle.hay_logical.specs.Fits.{At}
 use Rattle.hay_logical.specs.Refusals.{unfinished_by}
-use Rattle.hay_logical.specs.Steps.{KeepsPlaces, LosesRun, Start, SwapsAt, SwapsOne}
-use Rattle.hay_logical.specs.Volumes.{CanDelete, IsShaped, Volume}
+use Rattle.hay_logical.specs.Steps.{KeepsPlaces, LosesRun, Start, StaysInReach, SwapsAt, SwapsOne}
+use Rattle.hay_logical.specs.Volumes.{CanReach, IsShaped, ReachesPlaces, Volume}
 use Rattle.hay_logical.specs.Volumes as volumes
 use Rattle.hay_logical.proofs.Calls.{up_open, up_thawed}
-use Rattle.hay_logical.proofs.Deletable.{place_kept}
 use Rattle.hay_logical.proofs.Lists.{at_below, at_same, at_there}
 use Rattle.hay_logical.proofs.Methods.{shaped_on}
+use Rattle.hay_logical.proofs.Reaching.{reaches_on}
 use Rattle.hay_logical.proofs.Standing.{volume_with}
 
 module _ {D P : Type 0} (DiskTells : Type 0) (files : D → Files) (Tells : Type 0) (faults : D → ℕ) (start : Start) (items new : List (Copy D)) (rows rows' : MapRows P) (at : ℕ) (one : SwapsOne DiskTells files at items new)
@@ -53,17 +50,15 @@ module _ {D P : Type 0} (DiskTells : Type 0) (files : D → Files) (Tells : Type
   swaps_up settings number (Refused (fault.Ended n)) swaps none = absurd swaps.left
   swaps_up settings number (Perhaps n) swaps none = absurd cc
 
-  pub swaps_deletable : (result : Result ℕ Unswapped) → SwapsAt DiskTells files faults Tells start rows rows' at one.before one.after result → KeepsPlaces rows rows' at result → CanDelete DiskTells files items rows → CanDelete DiskTells files new rows'
-  swaps_deletable result swaps places can tells j r' f up pair = elim (cases_eq j at) [
+  pub swaps_reach : (result : Result ℕ Unswapped) → SwapsAt DiskTells files faults Tells start rows rows' at one.before one.after result → KeepsPlaces rows rows' at result → CanReach DiskTells files items rows → CanReach DiskTells files new rows'
+  swaps_reach result swaps places can tells j r' f = elim (cases_eq j at) [
     | inl same ↦
         let r'_is : r' ≡ one.after = at_same new at r' one.after (subst (λ n. At new n r') same f) one.is in
-        subst (λ n. physical.MayDeletePlace files r' (place_in (row_at rows' pair) n)) (sym same)
-        (subst (λ (x : Copy D). physical.MayDeletePlace files x (place_in (row_at rows' pair) at)) (sym r'_is)
-        (swaps.deletable tells (can tells at one.before one.was (ups at one.before one.was)) (subst (λ (x : Copy D). IsUp x) r'_is up) pair))
+        subst (λ n. ReachesPlaces files rows' n r') (sym same) (subst (λ (x : Copy D). ReachesPlaces files rows' at x) (sym r'_is) (swaps.reach tells (can tells at one.before one.was)))
     | inr apart ↦
         let old = at_there items j (let h = at_below new j r' f in let count = one.count in let less : j < length items = omega (arith, h, count) in less) in
-        subst (λ p. physical.MayDeletePlace files r' p) (sym (places.others pair j apart))
-        (place_kept DiskTells files old.0 r' ((one.others j old.0 r' apart old.1 f).0).deletable tells (place_in (row_at rows pair) j) (can tells j old.0 old.1 (ups j old.0 old.1) pair))
+        let up : IsUp old.0 = ups j old.0 old.1 in
+        reaches_on files rows rows' j old.0 r' (λ u. up) (λ u. up_open old.0 up) ((one.others j old.0 r' apart old.1 f).0.reach tells) (λ pair. places.others pair j apart) (can tells j old.0 old.1)
   ]
 
 -- a volume's call that ended a compaction
@@ -71,6 +66,7 @@ pub record SwapCall {D P : Type 0} (DiskTells : Type 0) (files : D → Files) (T
   pub one : SwapsOne DiskTells files at items new
   pub ups : (j : ℕ) (r : Copy D) → At items j r → IsUp r
   pub swaps : SwapsAt DiskTells files faults Tells start rows rows' at one.before one.after result
+  pub stays : OnErr result (StaysInReach DiskTells files one.before one.after)
   pub places : KeepsPlaces rows rows' at result
 
 pub called_with : {D P : Type 0} {DiskTells : Type 0} {files : D → Files} {Tells : Type 0} {faults : D → ℕ} {start : Start} {items new : List (Copy D)} {rows rows' : MapRows P} {at : ℕ} {result result' : Result ℕ Unswapped}
@@ -89,9 +85,9 @@ module _ {D P : Type 0} {DiskTells : Type 0} {files : D → Files} {Tells : Type
       (shaped_on settings number items new rows rows' front front frozen frozen' unsure unsure shape call.one.count (λ j r r' e f. (called_each j r r' e f).1) call.places.width
       (λ none. swaps_thawed DiskTells files Tells faults start items new rows rows' at call.one call.ups (up none)))
 
-  pub called_deletable : (replicas : List (Copy D)) → replicas ≡ new → CanDelete DiskTells files items rows → CanDelete DiskTells files replicas rows'
-  called_deletable replicas is can =
-      subst (λ rs. CanDelete DiskTells files rs rows') (sym is) (swaps_deletable DiskTells files Tells faults start items new rows rows' at call.one call.ups result call.swaps call.places can)
+  pub called_reach : (replicas : List (Copy D)) → replicas ≡ new → CanReach DiskTells files items rows → CanReach DiskTells files replicas rows'
+  called_reach replicas is can =
+      subst (λ rs. CanReach DiskTells files rs rows') (sym is) (swaps_reach DiskTells files Tells faults start items new rows rows' at call.one call.ups result call.swaps call.places can)
 
   pub called_open : (volume : Volume D P) → volume.replicas ≡ new → length items ≡ volume.settings.replicas → volumes.IsOpenVolume volume
   called_open volume is all = record {

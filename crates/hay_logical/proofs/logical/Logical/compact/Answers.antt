@@ -14,7 +14,7 @@ use Rattle.hay_logical.proofs.Changing.{not_some}
 use Rattle.hay_logical.proofs.Compacted.{compact_fault, compact_refused, compacted, removes_old}
 use Rattle.hay_logical.proofs.Methods.{same_by}
 use Rattle.hay_logical.proofs.Standing.{volume_with}
-use Rattle.hay_logical.proofs.SwapShapes.{SwapCall, called_deletable, called_each, called_open, called_shaped, called_up, called_with}
+use Rattle.hay_logical.proofs.SwapShapes.{SwapCall, called_each, called_open, called_reach, called_shaped, called_up, called_with}
 use Rattle.hay_logical.proofs.logical.Logical.compact.Given as given
 use Rattle.hay_logical.proofs.logical.Logical.compact.Goals as goal
 use Rattle.hay_logical.proofs.logical.Logical.compact.Goals.{After-compact_at}
@@ -57,6 +57,7 @@ called g c =
       one = one;
       ups = λ j r e. open_up r (c.requires.«open».each j r (subst (λ v. At v.replicas j r) c.self.view_is e)) ((c.self.invariant.0).thawed thawed j r e);
       swaps = c.compact_at.ensures.swaps one.before one.after (subst (λ xs. At xs c.args.replica one.before) (sym now) one.was) one.is;
+      stays = c.compact_at.ensures.stays one.before one.after (subst (λ xs. At xs c.args.replica one.before) (sym now) one.was) one.is;
       places = c.compact_at.ensures.places;
     }
 
@@ -72,7 +73,7 @@ invariant_of-self g c =
     let call = called_with c.in-Ok.is (called g after) in (
       called_shaped call c.self.inside.settings c.self.inside.number _ c.self.inside.front c.self.inside.frozen c.self.inside.frozen c.self.inside.unsure (kept g after) (λ none. call.swaps.up.0) c.self.invariant.0,
       c.self.invariant.1,
-      called_deletable call _ (kept g after) c.self.invariant.2,
+      called_reach call _ (kept g after) c.self.invariant.2,
     )
 
 pub invariant_of-self-in-Err : goal.invariant_of-self-in-Err
@@ -81,7 +82,7 @@ invariant_of-self-in-Err g c =
     let call = called_with c.in-Err.is (called g after) in (
       called_shaped call c.self.inside.settings c.self.inside.number _ c.self.inside.front c.self.inside.frozen c.unfinished_by-unfinished.result.frozen c.self.inside.unsure (kept g after) (λ none. called_up c.self.inside.settings c.self.inside.number c.in-Err.unswapped call (ap (λ x. x.frozen) (sym c.unfinished_by-unfinished.ensures) ∙ none)) c.self.invariant.0,
       c.self.invariant.1,
-      called_deletable call _ (kept g after) c.self.invariant.2,
+      called_reach call _ (kept g after) c.self.invariant.2,
     )
 
 pub returns-in-Ok-clause-compacted : goal.returns-in-Ok-clause-compacted
@@ -124,7 +125,7 @@ returns-in-Err-clause-refused g c = λ tells k stands.
     (subst (λ u. CompactRefused g.D.Disk.files g.D.Piece.Piece.Tells k c.args.replica (volume_with c.self.inside.settings c.self.inside.number c.self.inside.replicas.items c.self.inside.rows c.self.inside.front c.self.inside.frozen c.self.inside.unsure) (volume_with c.self.inside.settings c.self.inside.number c.compact_at.new.replicas c.compact_at.new.rows c.self.inside.front u.frozen c.self.inside.unsure) u.fault) (sym c.unfinished_by-unfinished.ensures)
     (subst (λ o. CompactRefused g.D.Disk.files g.D.Piece.Piece.Tells k c.args.replica (volume_with c.self.inside.settings c.self.inside.number c.self.inside.replicas.items c.self.inside.rows c.self.inside.front o c.self.inside.unsure) (volume_with c.self.inside.settings c.self.inside.number c.compact_at.new.replicas c.compact_at.new.rows c.self.inside.front (unfinished_by c.self.inside.settings c.self.inside.number c.args.replica c.in-Err.unswapped).frozen c.self.inside.unsure) (unfinished_by c.self.inside.settings c.self.inside.number c.args.replica c.in-Err.unswapped).fault) (sym thawed)
     (compact_refused c.self.inside.settings c.self.inside.number g.D.Disk.Tells g.D.Disk.files g.D.Piece.Piece.Tells g.D.Disk.fault_count c.self.inside.replicas.items c.compact_at.new.replicas c.self.inside.rows c.compact_at.new.rows c.self.inside.front c.self.inside.unsure k
-    (subst (λ o. StandsFor g.D.Disk.files g.D.Piece.Piece.Tells (volume_with c.self.inside.settings c.self.inside.number c.self.inside.replicas.items c.self.inside.rows c.self.inside.front o c.self.inside.unsure) k) thawed (subst (λ v. StandsFor g.D.Disk.files g.D.Piece.Piece.Tells v k) (sym c.self.view_is) stands)) tells c.args.replica call.one c.in-Err.unswapped (call.ups c.args.replica call.one.before call.one.was) call.swaps call.places))))
+    (subst (λ o. StandsFor g.D.Disk.files g.D.Piece.Piece.Tells (volume_with c.self.inside.settings c.self.inside.number c.self.inside.replicas.items c.self.inside.rows c.self.inside.front o c.self.inside.unsure) k) thawed (subst (λ v. StandsFor g.D.Disk.files g.D.Piece.Piece.Tells v k) (sym c.self.view_is) stands)) tells c.args.replica call.one c.in-Err.unswapped (call.ups c.args.replica call.one.before call.one.was) call.swaps call.stays call.places))))
 
 pub returns-in-Err-clause-causes : goal.returns-in-Err-clause-causes
 returns-in-Err-clause-causes g c =
