@@ -6,7 +6,7 @@ use Rattle.hay_needle.specs.declared.needle.Cell.{Cell}
 use Rattle.hay_needle.specs.declared.needle.Outcome.{Outcome}
 use Rattle.hay_needle.specs.declared.needle.Outcome.TheVariants as outcome
 use Rattle.hay_needle.specs.declared.needle.Pair.{Pair}
-use Rattle.hay_needle.specs.Tables.{Table, outcome_at, pair_eq, table_of}
+use Rattle.hay_needle.specs.Tables.{Table, outcome_at, table_of}
 use Rattle.hay_disk.specs.Counts.{Rose}
 use Rattle.hay_disk.specs.Disk.{Files}
 use Rattle.hay_volume.specs.Cells.{needles_of}
