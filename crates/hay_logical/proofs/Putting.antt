@@ -39,12 +39,13 @@ use Rattle.hay_logical.specs.Answers as answers
 use Rattle.hay_logical.specs.Fits.{At, PhotoAt, RunsAs, copier_run}
 use Rattle.hay_logical.specs.Refusals.{IsRefusal, IsUntouched, RefusalBy}
 use Rattle.hay_logical.specs.Stands.{IsBrokenAt, IsChange, Stands, StandsFor}
-use Rattle.hay_logical.specs.Steps.{AllIdle, IsPutFault, PutLeaves, PutsAt, StillRuns}
+use Rattle.hay_logical.specs.Steps.{AllIdle, IsPutFault, PutLeaves, PutsAt, StaysInReach, StillRuns}
 use Rattle.hay_logical.specs.Volumes.{Volume}
 use Rattle.hay_logical.proofs.Calls.{frozen_is, open_up, up_thawed}
 use Rattle.hay_logical.proofs.Changing.{some_none}
 use Rattle.hay_logical.proofs.Holding.{put_part, stands_broken, stands_changed}
 use Rattle.hay_logical.proofs.Knowing.{frozen_end}
+use Rattle.hay_logical.proofs.Looking.{stands_on}
 use Rattle.hay_logical.proofs.Lists.{at_below, at_same, at_there}
 use Rattle.hay_logical.proofs.Standing.{stands_put, takes, volume_with}
 
@@ -220,6 +221,7 @@ module _ {D P : Type 0} (settings : Settings) (number : ℕ) (DiskTells : Type 0
       module _ (tells : DiskTells) (rows rows' : MapRows P) (front : ℕ) (unsure : Option Unsure) (k : VolumeKnown) (tag : CoreTag) (ends : List ℕ)
           (stands : StandsFor files Tells (volume_with settings number items rows front None unsure) k) (count : length new ≡ length items)
           (same : (q : Pair) → row_at rows' q ≡ row_at rows q) (room : HasRoom settings number k (length bytes))
+          (reach : (j : ℕ) (r r' : Copy D) → At items j r → At new j r' → StaysInReach DiskTells files r r')
           (end_is : (j : ℕ) (r : Copy D) → At items j r → slice_index ends j ≡ end_of r) where
         ends_known : (m : ℕ) (failed : Bool) → IsChange (change.Put ends) (frozen_with m tag (Put pair cookie bytes) failed k) (Put pair cookie bytes)
         ends_known m failed = λ j h.
@@ -271,9 +273,10 @@ module _ {D P : Type 0} (settings : Settings) (number : ℕ) (DiskTells : Type 0
       pub put_refused : DiskTells → (rows rows' : MapRows P) (front : ℕ) (frozen : Option ℕ) (unsure : Option Unsure) (k : VolumeKnown) (tag : CoreTag) (ends : List ℕ) → frozen ≡ None
           → StandsFor files Tells (volume_with settings number items rows front frozen unsure) k → length new ≡ length items
           → ((q : Pair) → row_at rows' q ≡ row_at rows q) → HasRoom settings number k (length bytes)
+          → ((j : ℕ) (r r' : Copy D) → At items j r → At new j r' → StaysInReach DiskTells files r r')
           → ((j : ℕ) (r : Copy D) → At items j r → slice_index ends j ≡ end_of r)
           → PutRefused files Tells k tag pair cookie bytes (volume_with settings number items rows front frozen unsure)
           (volume_with settings number new rows' front (Some refusal.machine) (Some (record { tag = tag; change = change.Put ends }))) refusal.fault
-      put_refused tells rows rows' front (Some m) unsure k tag ends thawed stands count same room end_is = some_none thawed
-      put_refused tells rows rows' front None unsure k tag ends thawed stands count same room end_is =
-          by_fault tells rows rows' front unsure k tag ends stands count same room end_is broken.fault answered
+      put_refused tells rows rows' front (Some m) unsure k tag ends thawed stands count same room reach end_is = some_none thawed
+      put_refused tells rows rows' front None unsure k tag ends thawed stands count same room reach end_is =
+          by_fault tells rows rows' front unsure k tag ends stands count same room reach end_is broken.fault answered

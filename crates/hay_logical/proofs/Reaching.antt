@@ -10,6 +10,7 @@ use Rattle.hay_map.specs.Places.{gone_place, place_in}
 use Rattle.hay_map.specs.Rows.{row_at}
 use Rattle.hay_map.specs.declared.place.Place.{Place}
 use Rattle.hay_map.specs.declared.place.Place.TheVariants as place
+use Rattle.hay_compact.specs.Finishing.{IsSeen}
 use Rattle.hay_physical.specs.declared.state.Phase.TheVariants as phase
 use Rattle.hay_physical.specs.Copies.{Copy, IsOpenCopy, IsUp}
 use Rattle.hay_physical.specs.Replicas as physical
@@ -72,6 +73,19 @@ apart_gone (place.Unseen at size) (place.Live needle) = tt
 apart_gone (place.Unseen at size) place.Gone = tt
 apart_gone (place.Unseen at size) place.None = tt
 apart_gone (place.Unseen at size) (place.Unseen there long) = tt
+
+-- a place that was seen
+pub seen_sees : {D P : Type 0} (files : D → Files) (r : Copy D) (p : Place P) → IsSeen p → physical.MaySeePlace files r p
+seen_sees files r (place.Live needle) seen = tt
+seen_sees files r place.Gone seen = tt
+seen_sees files r place.None seen = tt
+seen_sees files r (place.Unseen at size) seen = absurd seen
+
+pub seen_apart : {P : Type 0} (p : Place P) → IsSeen p → (other : Place P) → physical.ArePlacesApart p other
+seen_apart (place.Live needle) seen other = tt
+seen_apart place.Gone seen other = tt
+seen_apart place.None seen other = tt
+seen_apart (place.Unseen at size) seen other = absurd seen
 
 -- The place of one pair on a replica was changed.
 module _ {D P : Type 0} (files : D → Files) (rows rows' : MapRows P) (j : ℕ) (r r' : Copy D) (pair : Pair) (p : Place P) (IsKept : ℕ → ℕ → Type 0)

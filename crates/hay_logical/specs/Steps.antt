@@ -100,6 +100,7 @@ pub record PutsAt {D P : Type 0} (DiskTells : Type 0) (files : D → Files) (Tel
       physical.Stands files r' (physical.with_cell s pair cookie bytes) × IsPlaceOf Tells s.end pair cookie bytes p
   pub run : DiskTells → (s : Stored) (run : Option Run) → physical.Stands files r s → HasRun files r s run →
       HasRun files r' (physical.with_cell s pair cookie bytes) (option_map longer run)
+  pub seen : IsSeen p
   pub deletable : DiskTells → physical.MayDeletePlace files r' p
   pub apart : DiskTells → (at size : ℕ) → physical.MaySee files r at size → physical.IsApartPlace at size p
 
@@ -430,7 +431,7 @@ pub record SwapsAt {D P : Type 0} (DiskTells : Type 0) (files : D → Files) (fa
       IfErr result (HoldsUnswapped files r r' s run)
   pub reach : DiskTells → ReachesPlaces files rows at r → ReachesPlaces files rows' at r'
 
--- the places of the other replicas stay, and of all where none were published
+-- the places of the other replicas stay, and of all behind a refusal
 pub record KeepsPlaces {P : Type 0} (rows rows' : MapRows P) (at : ℕ) (result : Result ℕ Unswapped) : Type 0 where
   pub width : rows'.replicas ≡ rows.replicas
   pub others : (pair : Pair) (i : ℕ) → (i ≡ at → ⊥) → place_in (row_at rows' pair) i ≡ place_in (row_at rows pair) i

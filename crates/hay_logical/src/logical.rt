@@ -6,7 +6,8 @@ ghost use Rattle.hay_legal.specs.declared.known.VolumeKnown.{VolumeKnown};
 ghost use Rattle.hay_legal.specs.Known.{machine_of, now, replica_at, room_refusal_of};
 ghost use Rattle.hay_needle.specs.Tables.{outcome_at};
 ghost use Rattle.hay_map.specs.Places.{PlaceMeans, place_in};
-ghost use Rattle.hay_map.specs.Rows.{row_at};
+ghost use Rattle.hay_map.specs.Rows.{ChangesRows, HasRoom, row_at};
+ghost use Rattle.hay_map.specs.declared.view.MapOp.TheVariants as map_op;
 ghost use Rattle.hay_open.specs.Damage.{IsOpeningDamage};
 ghost use Rattle.hay_open.specs.declared.fault.OpenFault.TheVariants as open_fault;
 ghost use Rattle.hay_physical.specs.declared.state.Phase.TheVariants.{Closed};
@@ -244,9 +245,7 @@ impl<D: Disk> Logical<D> {
         let ends = ends_of(self.replicas.as_slice());
         match put_each(self.replicas.as_mut_slice(), alloc, pair, cookie, bytes) {
             Ok(row) => {
-                if self.rows.put(pair, &row).is_err() {
-                    unreachable!();
-                }
+                give_row::<D>(&mut self.rows, pair, row);
                 self.front = position;
                 Ok(position)
             }
@@ -653,5 +652,16 @@ impl<D: Disk> Logical<D> {
     {
         let replica = self.replicas.pop()?;
         Some(replica.into_disk())
+    }
+}
+
+// Gives a pair a row, for which there is room.
+fn give_row<D: Disk>(rows: &mut MapView<D::Piece>, pair: Pair, row: Row<D::Piece>)
+    requires room { HasRoom rows.old }
+    requires long { length row ≡ rows.old.replicas }
+    ensures { ChangesRows (map_op.Put pair row) rows.old rows.new }
+{
+    if rows.put(pair, &row).is_err() {
+        unreachable!();
     }
 }

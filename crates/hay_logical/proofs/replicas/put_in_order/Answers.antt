@@ -71,7 +71,7 @@ loop-j-preserved g c =
       went = went_step _ _ c.loop-j.j c.args.replicas.now c.loop-j.replicas here c.put.new.self c.loop-j.invariant.went there
           (λ i r r' h p. (puts_on g.D.Disk.Tells g.D.Disk.files g.D.Piece.Piece.Tells c.args.pair c.args.cookie c.args.bytes.now r r' (place_in c.loop-j.row i) (place_in c.push.new.self i) (same i h) p.0, p.1, p.2, p.3)) (
             puts_on g.D.Disk.Tells g.D.Disk.files g.D.Piece.Piece.Tells c.args.pair c.args.cookie c.args.bytes.now here c.put.new.self (place.Live c.in-Ok.needle) (place_in c.push.new.self c.loop-j.j) last
-                (record { up = c.in-Ok.ensures.up; sup = c.put.ensures.sup; stuck = c.put.ensures.stuck; stands = λ tells s stands. c.in-Ok.ensures.stored tells s stands; run = c.in-Ok.ensures.run; deletable = c.in-Ok.ensures.can_delete; apart = c.in-Ok.ensures.apart }),
+                (record { up = c.in-Ok.ensures.up; sup = c.put.ensures.sup; stuck = c.put.ensures.stuck; stands = λ tells s stands. c.in-Ok.ensures.stored tells s stands; run = c.in-Ok.ensures.run; seen = tt; deletable = c.in-Ok.ensures.can_delete; apart = c.in-Ok.ensures.apart }),
             c.put.ensures.counts,
             c.put.ensures.fuses,
             λ tells. record { deletes = c.put.ensures.deletes tells; sees = c.put.ensures.sees tells },

@@ -1,7 +1,8 @@
 use Rattle.std.proofs.Common.{◌<◌, ◌≤◌, ◌∷◌, [], inl, inr, length, length-append, sym, ap, subst, ◌∙◌, arith}
-use Rattle.hay_physical.specs.Copies.{Copy, IsUp, is_frozen}
+use Rattle.hay_physical.specs.Copies.{Copy, is_frozen}
 use Rattle.hay_logical.specs.Fits.{At}
 use Rattle.hay_logical.specs.Volumes.{Volume}
+use Rattle.hay_logical.proofs.Calls.{reaches_closed}
 use Rattle.hay_logical.proofs.Lists.{at_either}
 use Rattle.hay_logical.proofs.Opened.{same_super}
 use Rattle.hay_logical.proofs.logical.Logical.add.Goals as goal
@@ -29,8 +30,8 @@ invariant_of-self g c =
         ];
       },
       subst (λ n. 4 ≤ n) (sym c.push_reserved.ensures.capacity) c.self.invariant.1,
-      λ tells j r f up pair. elim (at_either olds c.new.result j r (subst (λ xs. At xs j r) c.push_reserved.ensures.items f)) [
-        | inl h ↦ c.self.invariant.2 tells j r h up pair
-        | inr h ↦ absurd (subst (λ (x : Copy g.row.D.Denot). IsUp x) (h.1 ∙ c.new.ensures) up)
+      λ tells j r f. elim (at_either olds c.new.result j r (subst (λ xs. At xs j r) c.push_reserved.ensures.items f)) [
+        | inl h ↦ c.self.invariant.2 tells j r h
+        | inr h ↦ reaches_closed g.D.Disk.files c.self.inside.rows j r (ap (λ (x : Copy g.row.D.Denot). x.phase) (h.1 ∙ c.new.ensures))
       ],
     )

@@ -26,8 +26,8 @@ returns-clause-stands g c = λ tells k stands.
     c.self.inside.replicas.items c.fuse_at.new.replicas c.self.inside.rows c.self.inside.front c.self.inside.frozen c.self.inside.unsure k
     (subst (λ v. StandsFor g.D.Disk.files g.D.Piece.Piece.Tells v k) (sym c.self.view_is) stands) (one_count c.args.replica c.as_mut_slice.result.now c.fuse_at.new.replicas one ∙ ap length now)
     (λ j r r' e f. one_each (Quiet g.D.Disk.files) c.args.replica c.as_mut_slice.result.now c.fuse_at.new.replicas one
-    (record { stuck = ap (λ r. phase_stuck r.phase) step.same; goal = ap (λ r. phase_goal r.phase) step.same; run = step.run tells; stands = step.stands tells; holds = step.holds tells })
-    (λ x. record { stuck = refl; goal = refl; run = λ s run h. h; stands = λ s h. h; holds = λ b a t h. h }) j r r'
+    (record { stuck = ap (λ r. phase_stuck r.phase) step.same; goal = ap (λ r. phase_goal r.phase) step.same; run = step.run tells; stands = step.stands tells; holds = step.holds tells; sees = (step.reach tells).sees })
+    (λ x. record { stuck = refl; goal = refl; run = λ s run h. h; stands = λ s h. h; holds = λ b a t h. h; sees = (reach_still g.D.Disk.files x).sees }) j r r'
     (subst (λ xs. At xs j r) (sym now) e) f))
 
 pub invariant_of-self : goal.invariant_of-self
@@ -49,7 +49,7 @@ invariant_of-self g c =
       subst (λ rs. CanReach g.D.Disk.Tells g.D.Disk.files rs c.self.inside.rows) (sym kept)
           (same_rows g.D.Disk.Tells g.D.Disk.files c.self.inside.replicas.items c.fuse_at.new.replicas c.self.inside.rows c.self.inside.rows c.self.invariant.2
           (one_count c.args.replica c.as_mut_slice.result.now c.fuse_at.new.replicas one ∙ ap length now)
-          (λ j r r' e f up. subst (copies.HasFrozen false) ((each j r r' (subst (λ xs. At xs j r) (sym now) e) f).1) up)
+          (λ j r r' e f. let same = (each j r r' (subst (λ xs. At xs j r) (sym now) e) f).1 in (λ up. subst (copies.HasFrozen false) same up, λ is. subst copies.IsOpenPhase same is))
           (λ j r r' e f. one_each (StaysInReach g.D.Disk.Tells g.D.Disk.files) c.args.replica c.as_mut_slice.result.now c.fuse_at.new.replicas one
           step.reach (λ x tells. reach_still g.D.Disk.files x) j r r' (subst (λ xs. At xs j r) (sym now) e) f)
           (λ pair. refl)),

@@ -13,5 +13,5 @@ invariant_of-result g c = (
     thawed = λ e j r f. absurd (no_item j r (subst (λ xs. At xs j r) c.in-Ok.ensures.items f));
   },
   c.in-Ok.ensures.capacity,
-  λ tells j r f up pair. absurd (no_item j r (subst (λ xs. At xs j r) c.in-Ok.ensures.items f)),
+  λ tells j r f. absurd (no_item j r (subst (λ xs. At xs j r) c.in-Ok.ensures.items f)),
 )

@@ -6,15 +6,15 @@ use Rattle.std.specs.Vec.{with_items}
 use Rattle.std.proofs.lemmas.List.{with_items_is}
 use Rattle.hay_map.specs.Places.{place_in}
 use Rattle.hay_map.specs.Rows.{row_at}
-use Rattle.hay_physical.specs.Copies.{Copy, IsUp}
+use Rattle.hay_physical.specs.Copies.{Copy, IsOpenCopy, IsUp}
 use Rattle.hay_logical.specs.declared.unsure.Change.TheVariants as change
 use Rattle.hay_logical.specs.Answers.{DeleteRefused, HasRoom, FlushRefused, HasFailed, IsDeleted, IsFlushed, IsPut, PutRefused}
 use Rattle.hay_logical.specs.Answers as answers
 use Rattle.hay_logical.specs.Fits.{At}
 use Rattle.hay_logical.specs.Stands.{Stands, StandsFor}
-use Rattle.hay_logical.specs.Steps.{AllIdle, EndsRuns, KeepsDeletable, PutLeaves, PutsAt}
-use Rattle.hay_logical.specs.Volumes.{CanDelete, IsShaped, KeepsCounts}
-use Rattle.hay_logical.proofs.Calls.{counted_same, keeps_counts, open_up, up_open, up_thawed}
+use Rattle.hay_logical.specs.Steps.{AllIdle, EndsRuns, PutLeaves, PutsAt, StaysInReach}
+use Rattle.hay_logical.specs.Volumes.{CanReach, IsShaped, KeepsCounts}
+use Rattle.hay_logical.proofs.Calls.{counted_same, keeps_counts, open_up, reach_still, up_open, up_thawed}
 use Rattle.hay_logical.proofs.Dropping.{all_idle, not_untouched, still_runs}
 use Rattle.hay_logical.proofs.Lists.{at_below, at_same, at_there}
 use Rattle.hay_logical.proofs.Methods.{same_by, same_still, shaped_on}
@@ -22,7 +22,7 @@ use Rattle.hay_logical.proofs.Standing.{volume_with}
 use Rattle.hay_needle.specs.declared.needle.Pair.{Pair}
 use Rattle.hay_logical.specs.Refusals.{IsUntouched}
 use Rattle.hay_logical.proofs.Changing.{put_remains, some_none}
-use Rattle.hay_logical.proofs.Deletable.{put_row, same_rows}
+use Rattle.hay_logical.proofs.Reaching.{put_row, same_rows, seen_apart, seen_sees}
 use Rattle.hay_logical.proofs.Putting.{all_thawed, done, is_err_of, never_err, ok_of, put_cause_of, put_refused, room_cause, room_ok, room_refused, rows_kept, untouched}
 use Rattle.hay_logical.proofs.Refusing.{refuses_put}
 use Rattle.hay_logical.proofs.logical.Logical.put.Goals as goal
@@ -79,8 +79,8 @@ invariant_of-self g c = (
       c.self.invariant.0 refl (λ j r r' e f. ap (λ x. x.sup) (at_same c.self.inside.replicas.items j r' r f e)) c.reserve.ensures.rows.replicas (λ none j r r' e f. (c.self.invariant.0).thawed none j r' f),
   c.self.invariant.1,
   same_rows g.D.Disk.Tells g.D.Disk.files c.self.inside.replicas.items c.self.inside.replicas.items c.self.inside.rows c.reserve.new.self c.self.invariant.2 refl
-      (λ j r r' e f u. subst (λ (x : Copy g.row.D.Denot). IsUp x) (at_same c.self.inside.replicas.items j r' r f e) u)
-      (λ j r r' e f. subst (λ x. KeepsDeletable g.D.Disk.Tells g.D.Disk.files r x) (at_same c.self.inside.replicas.items j r r' e f) (λ tells place may. may)) c.reserve.ensures.rows.rows,
+      (λ j r r' e f. let same = at_same c.self.inside.replicas.items j r' r f e in (λ u. subst (λ (x : Copy g.row.D.Denot). IsUp x) same u, λ u. subst (λ (x : Copy g.row.D.Denot). IsOpenCopy x) same u))
+      (λ j r r' e f. subst (λ x. StaysInReach g.D.Disk.Tells g.D.Disk.files r x) (at_same c.self.inside.replicas.items j r r' e f) (λ tells. reach_still g.D.Disk.files r)) c.reserve.ensures.rows.rows,
 )
 
 pub returns-then-is_err-clause-refused : goal.returns-then-is_err-clause-refused
@@ -103,17 +103,12 @@ returns-then-is_err-clause-counts g c =
     subst (λ xs. KeepsCounts g.D.Disk.fault_count g.D.Disk.fuse_count xs c.self.inside.replicas.items) (ap (λ v. v.replicas) c.self.view_is)
     (keeps_counts g.D.Disk.fault_count g.D.Disk.fuse_count c.self.inside.replicas.items c.self.inside.replicas.items refl (λ j r r' e f. counted_same g.D.Disk.fault_count g.D.Disk.fuse_count r r' (at_same c.self.inside.replicas.items j r' r f e)))
 
-pub put-requires-after_bounds : goal.put-requires-after_bounds
-put-requires-after_bounds g c κs within =
+pub give_row-requires-after_bounds : goal.give_row-requires-after_bounds
+give_row-requires-after_bounds g c κs within =
     let long : length c.in-Ok.row ≡ c.reserve.new.self.replicas =
     c.in-Ok.ensures.places ∙ ap length c.as_mut_slice.ensures.value ∙ ap (λ v. length v.replicas) c.self.view_is ∙ c.requires.«open».all ∙ ap (λ v. v.settings.replicas) (sym c.self.view_is)
     ∙ sym (c.self.invariant.0).width ∙ sym c.reserve.ensures.rows.replicas in
-    (search rules, (search rules, long))
-
-pub unreachable-unreachable : goal.unreachable-unreachable
-unreachable-unreachable g c =
-    let room = ok_of c.reserve.result _ c.reserve.ensures.room (sym c.is_err.ensures.value ∙ c.if-is_err.false) in
-    never_err c.put.result (c.put.ensures.memory (inr room)) (sym c.is_err-in-Ok.ensures.value ∙ c.if-is_err-2.true)
+    (search (rules, c.requires-raw), (search rules, (ok_of c.reserve.result _ c.reserve.ensures.room (sym c.is_err.ensures.value ∙ c.if-is_err.false), long)))
 
 pub invariant_of-self-in-Ok : goal.invariant_of-self-in-Ok
 invariant_of-self-in-Ok g c =
@@ -124,16 +119,17 @@ invariant_of-self-in-Ok g c =
     λ j r e. open_up r (c.requires.«open».each j r (subst (λ v. At v.replicas j r) c.self.view_is e)) ((c.self.invariant.0).thawed thawed j r e) in
     let each : (j : ℕ) (r r' : Copy g.row.D.Denot) → At c.self.inside.replicas.items j r → At c.put_each.new.replicas j r' → PutsAt g.D.Disk.Tells g.D.Disk.files g.D.Piece.Piece.Tells c.args.pair c.args.cookie c.args.bytes.now r r' (place_in c.in-Ok.row j) =
     λ j r r' e f. c.in-Ok.ensures.put j r r' (subst (λ xs. At xs j r) (sym now) e) f in
-    let changes = ok_of c.put.result _ c.put.ensures.ok (sym c.is_err-in-Ok.ensures.value ∙ c.if-is_err-2.false) in
-    let changed : (other : Pair) → row_at c.put.new.self other ≡ cond (pair_eq c.args.pair other) c.in-Ok.row (row_at c.self.inside.rows other) =
+    let changes = c.give_row.ensures in
+    let changed : (other : Pair) → row_at c.give_row.new.rows other ≡ cond (pair_eq c.args.pair other) c.in-Ok.row (row_at c.self.inside.rows other) =
     λ other. changes.rows other ∙ ap (λ l. cond (pair_eq c.args.pair other) c.in-Ok.row l) (c.reserve.ensures.rows.rows other) in (
-      subst (λ rs. IsShaped (volume_with c.self.inside.settings c.self.inside.number rs c.put.new.self c.in-Some.position c.self.inside.frozen c.self.inside.unsure)) (sym kept)
-          (shaped_on c.self.inside.settings c.self.inside.number c.self.inside.replicas.items c.put_each.new.replicas c.self.inside.rows c.put.new.self c.self.inside.front c.in-Some.position c.self.inside.frozen c.self.inside.frozen c.self.inside.unsure c.self.inside.unsure
+      subst (λ rs. IsShaped (volume_with c.self.inside.settings c.self.inside.number rs c.give_row.new.rows c.in-Some.position c.self.inside.frozen c.self.inside.unsure)) (sym kept)
+          (shaped_on c.self.inside.settings c.self.inside.number c.self.inside.replicas.items c.put_each.new.replicas c.self.inside.rows c.give_row.new.rows c.self.inside.front c.in-Some.position c.self.inside.frozen c.self.inside.frozen c.self.inside.unsure c.self.inside.unsure
           c.self.invariant.0 (c.put_each.ensures.counts.count ∙ ap length now) (λ j r r' e f. (each j r r' e f).sup) (changes.replicas ∙ c.reserve.ensures.rows.replicas) (λ none j r r' e f. up_thawed r' (each j r r' e f).up)),
       c.self.invariant.1,
-      subst (λ rs. CanDelete g.D.Disk.Tells g.D.Disk.files rs c.put.new.self) (sym kept)
-          (put_row g.D.Disk.Tells g.D.Disk.files c.self.inside.replicas.items c.put_each.new.replicas c.self.inside.rows c.put.new.self c.self.invariant.2 (c.put_each.ensures.counts.count ∙ ap length now)
-          (λ j r r' e f u. up j r e) (λ j r r' e f. c.put_each.ensures.deletable j r r' (subst (λ xs. At xs j r) (sym now) e) f) c.args.pair c.in-Ok.row changed (λ j r r' e f. (each j r r' e f).deletable)),
+      subst (λ rs. CanReach g.D.Disk.Tells g.D.Disk.files rs c.give_row.new.rows) (sym kept)
+          (put_row g.D.Disk.Tells g.D.Disk.files c.self.inside.replicas.items c.put_each.new.replicas c.self.inside.rows c.give_row.new.rows c.self.invariant.2 (c.put_each.ensures.counts.count ∙ ap length now)
+          (λ j r r' e f. (λ u. up j r e, λ u. up_open r (up j r e))) c.args.pair c.in-Ok.row changed (λ j r r' e f. c.put_each.ensures.reach j r r' (subst (λ xs. At xs j r) (sym now) e) f)
+          (λ j r r' e f tells. let put = each j r r' e f in (put.deletable tells, seen_sees g.D.Disk.files r' (place_in c.in-Ok.row j) put.seen, seen_apart (place_in c.in-Ok.row j) put.seen, put.apart tells))),
     )
 
 pub is_untouched-requires-after_bounds : goal.is_untouched-requires-after_bounds
@@ -160,8 +156,8 @@ invariant_of-self-then-is_untouched g c =
           c.self.invariant.0 (c.put_each.ensures.counts.count ∙ ap length now) (λ j r r' e f. (remains j r r' e f).sup) c.reserve.ensures.rows.replicas
           (λ none j r r' e f. all_thawed g.D.Disk.Tells g.D.Disk.files g.D.Disk.fault_count c.args.pair c.args.cookie c.args.bytes.now c.self.inside.replicas.items c.put_each.new.replicas c.in-Err.broken left un up j r r' e f)),
       c.self.invariant.1,
-      subst (λ rs. CanDelete g.D.Disk.Tells g.D.Disk.files rs c.reserve.new.self) (sym kept)
-          (same_rows g.D.Disk.Tells g.D.Disk.files c.self.inside.replicas.items c.put_each.new.replicas c.self.inside.rows c.reserve.new.self c.self.invariant.2 (c.put_each.ensures.counts.count ∙ ap length now) (λ j r r' e f u. up j r e) (λ j r r' e f. c.put_each.ensures.deletable j r r' (subst (λ xs. At xs j r) (sym now) e) f) c.reserve.ensures.rows.rows),
+      subst (λ rs. CanReach g.D.Disk.Tells g.D.Disk.files rs c.reserve.new.self) (sym kept)
+          (same_rows g.D.Disk.Tells g.D.Disk.files c.self.inside.replicas.items c.put_each.new.replicas c.self.inside.rows c.reserve.new.self c.self.invariant.2 (c.put_each.ensures.counts.count ∙ ap length now) (λ j r r' e f. (λ u. up j r e, λ u. up_open r (up j r e))) (λ j r r' e f. c.put_each.ensures.reach j r r' (subst (λ xs. At xs j r) (sym now) e) f) c.reserve.ensures.rows.rows),
     )
 
 pub returns-then-is_untouched-clause-refused : goal.returns-then-is_untouched-clause-refused
@@ -235,28 +231,28 @@ invariant_of-self-in-Err g c =
           (shaped_on c.self.inside.settings c.self.inside.number c.self.inside.replicas.items c.put_each.new.replicas c.self.inside.rows c.reserve.new.self c.self.inside.front c.self.inside.front c.self.inside.frozen (Some c.put_refusal-refusal.result.machine) c.self.inside.unsure (Some (record { tag = c.args.tag; change = change.Put c.ends_of-ends.result }))
           c.self.invariant.0 (c.put_each.ensures.counts.count ∙ ap length now) (λ j r r' e f. (remains j r r' e f).sup) c.reserve.ensures.rows.replicas (λ none j r r' e f. some_none none)),
       c.self.invariant.1,
-      subst (λ rs. CanDelete g.D.Disk.Tells g.D.Disk.files rs c.reserve.new.self) (sym kept)
-          (same_rows g.D.Disk.Tells g.D.Disk.files c.self.inside.replicas.items c.put_each.new.replicas c.self.inside.rows c.reserve.new.self c.self.invariant.2 (c.put_each.ensures.counts.count ∙ ap length now) (λ j r r' e f u. up j r e) (λ j r r' e f. c.put_each.ensures.deletable j r r' (subst (λ xs. At xs j r) (sym now) e) f) c.reserve.ensures.rows.rows),
+      subst (λ rs. CanReach g.D.Disk.Tells g.D.Disk.files rs c.reserve.new.self) (sym kept)
+          (same_rows g.D.Disk.Tells g.D.Disk.files c.self.inside.replicas.items c.put_each.new.replicas c.self.inside.rows c.reserve.new.self c.self.invariant.2 (c.put_each.ensures.counts.count ∙ ap length now) (λ j r r' e f. (λ u. up j r e, λ u. up_open r (up j r e))) (λ j r r' e f. c.put_each.ensures.reach j r r' (subst (λ xs. At xs j r) (sym now) e) f) c.reserve.ensures.rows.rows),
     )
 
-pub returns-else-is_err-2-clause-stored : goal.returns-else-is_err-2-clause-stored
+pub returns-in-Ok-clause-stored : goal.returns-in-Ok-clause-stored
 unfolding Stands
-returns-else-is_err-2-clause-stored g c = λ tells k stands.
+returns-in-Ok-clause-stored g c = λ tells k stands.
     let now = c.as_mut_slice.ensures.value in
     let kept = with_items_is c.self.inside.replicas c.put_each.new.replicas (c.put_each.auto.replicas ∙ c.as_mut_slice.ensures.len) in
     let thawed : c.self.inside.frozen ≡ None = ap (λ v. v.frozen) c.self.view_is ∙ c.in_ok-room.ensures.fits.0 in
     let each : (j : ℕ) (r r' : Copy g.row.D.Denot) → At c.self.inside.replicas.items j r → At c.put_each.new.replicas j r' → PutsAt g.D.Disk.Tells g.D.Disk.files g.D.Piece.Piece.Tells c.args.pair c.args.cookie c.args.bytes.now r r' (place_in c.in-Ok.row j) =
     λ j r r' e f. c.in-Ok.ensures.put j r r' (subst (λ xs. At xs j r) (sym now) e) f in
-    let changes = ok_of c.put.result _ c.put.ensures.ok (sym c.is_err-in-Ok.ensures.value ∙ c.if-is_err-2.false) in
-    let changed : (other : Pair) → row_at c.put.new.self other ≡ cond (pair_eq c.args.pair other) c.in-Ok.row (row_at c.self.inside.rows other) =
+    let changes = c.give_row.ensures in
+    let changed : (other : Pair) → row_at c.give_row.new.rows other ≡ cond (pair_eq c.args.pair other) c.in-Ok.row (row_at c.self.inside.rows other) =
     λ other. changes.rows other ∙ ap (λ l. cond (pair_eq c.args.pair other) c.in-Ok.row l) (c.reserve.ensures.rows.rows other) in
     let next : c.in-Some.position ≡ c.self.inside.front + 1 = (let h = c.in-Some.ensures in omega (arith, h)) in
-    subst (λ rs. IsPut g.D.Disk.files g.D.Piece.Piece.Tells k c.args.tag c.args.pair c.args.cookie c.args.bytes.now c.in-Some.position (volume_with c.self.inside.settings c.self.inside.number rs c.put.new.self c.in-Some.position c.self.inside.frozen c.self.inside.unsure)) (sym kept)
-    (done c.self.inside.settings c.self.inside.number g.D.Disk.Tells g.D.Disk.files g.D.Piece.Piece.Tells g.D.Disk.fault_count c.args.pair c.args.cookie c.args.bytes.now tells c.self.inside.replicas.items c.put_each.new.replicas c.self.inside.rows c.put.new.self c.self.inside.front c.in-Some.position c.self.inside.frozen c.self.inside.unsure k c.args.tag c.in-Ok.row
+    subst (λ rs. IsPut g.D.Disk.files g.D.Piece.Piece.Tells k c.args.tag c.args.pair c.args.cookie c.args.bytes.now c.in-Some.position (volume_with c.self.inside.settings c.self.inside.number rs c.give_row.new.rows c.in-Some.position c.self.inside.frozen c.self.inside.unsure)) (sym kept)
+    (done c.self.inside.settings c.self.inside.number g.D.Disk.Tells g.D.Disk.files g.D.Piece.Piece.Tells g.D.Disk.fault_count c.args.pair c.args.cookie c.args.bytes.now tells c.self.inside.replicas.items c.put_each.new.replicas c.self.inside.rows c.give_row.new.rows c.self.inside.front c.in-Some.position c.self.inside.frozen c.self.inside.unsure k c.args.tag c.in-Ok.row
     (subst (λ v. StandsFor g.D.Disk.files g.D.Piece.Piece.Tells v k) (sym c.self.view_is) stands) thawed (subst (λ v. HasRoom v.settings v.number k (length c.args.bytes.now)) (sym c.self.view_is) (room_ok c.args.self.now.settings k.frozen (room_refusal_of c.args.self.now.settings c.args.self.now.number k (length c.args.bytes.now)) c.in_ok-room.field-0 (sym c.in_ok-room.was ∙ c.room.ensures.known tells k stands))) (c.put_each.ensures.counts.count ∙ ap length now) next changed each)
 
-pub returns-else-is_err-2-clause-open : goal.returns-else-is_err-2-clause-open
-returns-else-is_err-2-clause-open g c =
+pub returns-in-Ok-clause-open : goal.returns-in-Ok-clause-open
+returns-in-Ok-clause-open g c =
     let now = c.as_mut_slice.ensures.value in
     let kept = with_items_is c.self.inside.replicas c.put_each.new.replicas (c.put_each.auto.replicas ∙ c.as_mut_slice.ensures.len) in
     let each : (j : ℕ) (r r' : Copy g.row.D.Denot) → At c.self.inside.replicas.items j r → At c.put_each.new.replicas j r' → PutsAt g.D.Disk.Tells g.D.Disk.files g.D.Piece.Piece.Tells c.args.pair c.args.cookie c.args.bytes.now r r' (place_in c.in-Ok.row j) =
@@ -269,8 +265,8 @@ returns-else-is_err-2-clause-open g c =
           up_open r' (each j old.0 r' old.1 there).up;
     }
 
-pub returns-else-is_err-2-clause-counts : goal.returns-else-is_err-2-clause-counts
-returns-else-is_err-2-clause-counts g c =
+pub returns-in-Ok-clause-counts : goal.returns-in-Ok-clause-counts
+returns-in-Ok-clause-counts g c =
     let now = c.as_mut_slice.ensures.value in
     let kept = with_items_is c.self.inside.replicas c.put_each.new.replicas (c.put_each.auto.replicas ∙ c.as_mut_slice.ensures.len) in
     subst (λ rs. KeepsCounts g.D.Disk.fault_count g.D.Disk.fuse_count c.args.self.now.replicas rs) (sym kept)
@@ -291,7 +287,7 @@ returns-else-is_untouched-clause-refused g c = λ tells k stands.
     (subst (λ rs. PutRefused g.D.Disk.files g.D.Piece.Piece.Tells k c.args.tag c.args.pair c.args.cookie c.args.bytes.now (volume_with c.self.inside.settings c.self.inside.number c.self.inside.replicas.items c.self.inside.rows c.self.inside.front c.self.inside.frozen c.self.inside.unsure) (volume_with c.self.inside.settings c.self.inside.number rs c.reserve.new.self c.self.inside.front (Some c.put_refusal-refusal.result.machine) (Some (record { tag = c.args.tag; change = change.Put c.ends_of-ends.result }))) c.put_refusal-refusal.result.fault) (sym kept)
     (put_refused c.self.inside.settings c.self.inside.number g.D.Disk.Tells g.D.Disk.files g.D.Piece.Piece.Tells g.D.Disk.fault_count c.args.pair c.args.cookie c.args.bytes.now c.self.inside.replicas.items c.put_each.new.replicas c.in-Err.broken c.put_refusal-refusal.result left c.put_refusal-refusal.ensures idle
     tells c.self.inside.rows c.reserve.new.self c.self.inside.front c.self.inside.frozen c.self.inside.unsure k c.args.tag c.ends_of-ends.result thawed (subst (λ v. StandsFor g.D.Disk.files g.D.Piece.Piece.Tells v k) (sym c.self.view_is) stands) (c.put_each.ensures.counts.count ∙ ap length now) c.reserve.ensures.rows.rows (subst (λ v. HasRoom v.settings v.number k (length c.args.bytes.now)) (sym c.self.view_is) (room_ok c.args.self.now.settings k.frozen (room_refusal_of c.args.self.now.settings c.args.self.now.number k (length c.args.bytes.now)) c.in_ok-room.field-0 (sym c.in_ok-room.was ∙ c.room.ensures.known tells k stands)))
-    (λ j r e. c.ends_of-ends.ensures j r (subst (λ xs. At xs j r) (sym c.as_slice.ensures.value) e))))
+    (λ j r r' e f. c.put_each.ensures.reach j r r' (subst (λ xs. At xs j r) (sym now) e) f) (λ j r e. c.ends_of-ends.ensures j r (subst (λ xs. At xs j r) (sym c.as_slice.ensures.value) e))))
 
 pub returns-else-is_untouched-clause-causes : goal.returns-else-is_untouched-clause-causes
 returns-else-is_untouched-clause-causes g c =
@@ -338,8 +334,8 @@ returns-in_default-clause-same g c = same_still _
 pub returns-then-is_err-clause-same : goal.returns-then-is_err-clause-same
 returns-then-is_err-clause-same g c = same_by _ _ _ c.self.inside.replicas.items c.self.view_is refl refl refl (λ j r r' e f. ap (λ x. x.sup) (at_same c.self.inside.replicas.items j r' r f e))
 
-pub returns-else-is_err-2-clause-same : goal.returns-else-is_err-2-clause-same
-returns-else-is_err-2-clause-same g c =
+pub returns-in-Ok-clause-same : goal.returns-in-Ok-clause-same
+returns-in-Ok-clause-same g c =
     let now = c.as_mut_slice.ensures.value in
     let kept = with_items_is c.self.inside.replicas c.put_each.new.replicas (c.put_each.auto.replicas ∙ c.as_mut_slice.ensures.len) in
     same_by _ _ _ _ c.self.view_is refl refl kept (λ j r r' e f. (c.in-Ok.ensures.put j r r' (subst (λ xs. At xs j r) (sym now) e) f).sup)

@@ -1,7 +1,7 @@
 use Rattle.std.proofs.Common.{[], ◌∷◌, refl, sym, ap, subst, ◌∙◌, arith}
 use Rattle.hay_logical.specs.Fits.{At}
 use Rattle.hay_logical.proofs.Lists.{at_first, at_same}
-use Rattle.hay_logical.proofs.Deletable.{shorter}
+use Rattle.hay_logical.proofs.Reaching.{shorter}
 use Rattle.hay_logical.proofs.Methods.{same_by, shaped_shorter}
 use Rattle.hay_logical.proofs.logical.Logical.take.Goals as goal
 
