@@ -6,6 +6,7 @@ use Rattle.std.proofs.lemmas.List.{get_or-set_same, get_or-set_other}
 use Rattle.hay_needle.specs.declared.needle.Cookie.{Cookie}
 use Rattle.hay_needle.specs.declared.needle.Pair.{Pair}
 use Rattle.hay_needle.specs.Sizes.{needle_total}
+use Rattle.hay_needle.specs.Tables.{pair_eq}
 use Rattle.hay_disk.specs.Disk.{Files, IsSolid}
 use Rattle.hay_disk.specs.Counts.{Rose}
 use Rattle.hay_map.specs.MapRows.{MapRows}
@@ -18,7 +19,7 @@ use Rattle.hay_open.specs.Damage.{IsOpeningDamage}
 use Rattle.hay_open.specs.declared.fault.OpenFault.{OpenFault}
 use Rattle.hay_open.specs.declared.fault.OpenFault.TheVariants as open_fault
 use Rattle.hay_open.proofs.Formatting.{void_left}
-use Rattle.hay_open.specs.Stored.{OpensAs, PlaceOf, Stored, last_cell}
+use Rattle.hay_open.specs.Stored.{OpensAs, Stored, last_cell}
 use Rattle.hay_physical.specs.declared.state.Phase.{Phase}
 use Rattle.hay_physical.specs.declared.state.Phase.TheVariants as phase
 use Rattle.hay_physical.specs.declared.fault.ReplicaFault.{ReplicaFault}
@@ -27,7 +28,7 @@ use Rattle.hay_physical.specs.Copies.{Copy, EndedAt, HasFrozen, IsFrozen, IsOpen
 use Rattle.hay_physical.specs.Replicas as physical
 use Rattle.hay_physical.proofs.Laws.{stands_hold}
 use Rattle.hay_physical.specs.Faults as physical_faults
-use Rattle.hay_logical.specs.Fits.{At}
+use Rattle.hay_logical.specs.Fits.{At, PhotoAt}
 use Rattle.hay_logical.specs.Volumes.{CanReach, KeepsCounts, ReachesPlaces}
 use Rattle.hay_logical.specs.Steps.{DeletesAt, FollowsAt, IsFlushFault, IsOpenFault, IsPutFault, KeepsDisk, KeepsReach, LeftAt, LosesRun, OpensAt, PutsAt, RoomFor, StaysBeside}
 use Rattle.hay_logical.proofs.Lists.{Went, at_below, at_same, at_set_other, at_set_same, at_there, length-slice_set}
@@ -346,10 +347,10 @@ opens_on DiskTells files Tells rows rows' j r r' same h = record {
   undamaged_now = h.undamaged_now;
   opened = λ tells s opens.
       let p = h.opened tells s opens in
-      (p.0, λ pair. subst (PlaceOf Tells (last_cell s.cells pair)) (sym (same pair)) (p.1 pair));
+      (p.0, λ pair. subst (PhotoAt Tells (last_cell s.cells pair)) (sym (same pair)) (p.1 pair));
   reopened = λ tells stuck s t holds.
       let p = h.reopened tells stuck s t holds in
-      (p.0, p.1, p.2, λ pair. subst (PlaceOf Tells (last_cell (p.0).cells pair)) (sym (same pair)) (p.3 pair));
+      (p.0, p.1, p.2, λ pair. subst (PhotoAt Tells (last_cell (p.0).cells pair)) (sym (same pair)) (p.3 pair));
   reach = λ tells. reaches_same files rows rows' j r' same (h.reach tells);
 }
 
@@ -372,3 +373,21 @@ reach_from DiskTells files rows R n old new w opened closed = λ tells j r' f.
           let is : r'.phase ≡ phase.Closed = ap (λ r. r.phase) (w.rest j there.0 r' most there.1 f) ∙ closed j there.0 there.1 in
           reaches_closed files rows j r' is
     ]
+
+-- the places of a replica that was opened, as they were loaded
+pub reaches_loaded : {D P : Type 0} (files : D → Files) (rows : MapRows P) (j : ℕ) (r : Copy D) (loads : Pair → Place P) → ((pair : Pair) → place_in (row_at rows pair) j ≡ loads pair)
+    → ((pair : Pair) → physical.MayDeletePlace files r (loads pair)) → ((pair : Pair) → physical.MaySeePlace files r (loads pair))
+    → ((pair other : Pair) → pair_eq pair other ≡ false → physical.ArePlacesApart (loads pair) (loads other)) → ReachesPlaces files rows j r
+reaches_loaded files rows j r loads there deletes sees apart = record {
+  deletes = λ up pair. subst (physical.MayDeletePlace files r) (sym (there pair)) (deletes pair);
+  sees = λ is. record {
+    may = λ pair. subst (physical.MaySeePlace files r) (sym (there pair)) (sees pair);
+    apart = λ pair other differ.
+        subst (λ p. physical.ArePlacesApart p (place_in (row_at rows other) j)) (sym (there pair))
+        (subst (λ p. physical.ArePlacesApart (loads pair) p) (sym (there other)) (apart pair other differ));
+  };
+}
+
+-- it has no places
+pub reaches_none : {D P : Type 0} (files : D → Files) (rows : MapRows P) (j : ℕ) (r : Copy D) → ((pair : Pair) → place_in (row_at rows pair) j ≡ place.None) → ReachesPlaces files rows j r
+reaches_none files rows j r none = reaches_loaded files rows j r (λ pair. place.None) none (λ pair. tt) (λ pair. tt) (λ pair other differ. tt)

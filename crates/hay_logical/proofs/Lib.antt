@@ -27,3 +27,4 @@ pub mod SwapSizes
 pub mod Swapping
 pub mod Tables
 pub mod Through
+pub mod Looks

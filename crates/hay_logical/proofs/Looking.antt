@@ -28,8 +28,9 @@ use Rattle.hay_physical.specs.Replicas as physical
 use Rattle.hay_physical.specs.Runs.{HasRun, Run}
 use Rattle.hay_physical.proofs.Seeing.{last_shows}
 use Rattle.hay_logical.specs.Fits.{IsUnseen, PhotoAt, PlaceStands}
-use Rattle.hay_logical.specs.Steps.{PlacesAre, SetsPlaceAt, SightsAt}
+use Rattle.hay_logical.specs.Steps.{KeepsBytes, LooksAt, PlacesAre, SetsPlaceAt, SightsAt}
 use Rattle.hay_logical.specs.Volumes.{DeletesPlaces, ReachesPlaces, SeesPlaces}
+use Rattle.hay_logical.proofs.Calls.{reaches_same}
 use Rattle.hay_logical.proofs.Tables.{at_cells, cell_outcome, last_pair, last_placed, place_means, seen_means}
 
 module _ {D : Type 0} (DiskTells : Type 0) (files : D → Files) where
@@ -312,6 +313,20 @@ module _ {P : Type 0} (pair : Pair) (j : ℕ) (rows rows' : MapRows P) where
 
 -- A CALL
 
+pub bytes_same : (old : Files) → KeepsBytes old old
+bytes_same old = record { now = λ n. refl; solid = λ n solid. solid; leaves = λ image leaves. leaves }
+
+-- a replica that was not looked at, whose places stay
+pub looks_still : {D P : Type 0} (DiskTells : Type 0) (files : D → Files) (Tells : Type 0) (rows rows' : MapRows P) (j : ℕ) (r : Copy D) → ((q : Pair) → place_in (row_at rows' q) j ≡ place_in (row_at rows q) j)
+    → LooksAt DiskTells files Tells rows rows' j r r
+looks_still DiskTells files Tells rows rows' j r same = record {
+  copy = refl;
+  stands = λ tells s stands places. (stands, λ q. subst (λ p. PhotoAt Tells (last_cell s.cells q) p) (sym (same q)) (places q));
+  holds = λ tells stuck s t holds. holds;
+  keeps = λ tells. bytes_same (files r.disk);
+  reach = λ tells reach. reaches_same files rows rows' j r same reach;
+}
+
 module _ {D P : Type 0} (DiskTells : Type 0) (files : D → Files) (faults : D → ℕ) (Tells : Type 0) (pair : Pair) (rows rows' : MapRows P) (j : ℕ) (r r' : Copy D) where
   -- a place that was seen is not looked at
   pub sights_none : rows' ≡ rows → r' ≡ r → IsSeen (place_in (row_at rows pair) j) → SightsAt DiskTells files faults Tells pair rows rows' j r r' (Ok tt)
@@ -323,6 +338,7 @@ module _ {D P : Type 0} (DiskTells : Type 0) (files : D → Files) (faults : D �
         stands = λ tells s stands places. (stands, places);
         run = λ tells s run stands places has. has;
         holds = λ tells stuck s t holds. holds;
+        keeps = λ tells. bytes_same (files r.disk);
         means = λ tells reach what were q. were q;
         undamaged = λ tells what stands k e. cc;
         reach = λ tells reach. reach;
@@ -332,10 +348,11 @@ module _ {D P : Type 0} (DiskTells : Type 0) (files : D → Files) (faults : D �
   -- a needle was looked at
   pub sights_looked : (at size : ℕ) (p : Place P) (result : Result Unit ReplicaFault) → Looked DiskTells files at size r r' → place_in (row_at rows pair) j ≡ place.Unseen at size
       → ((q : Pair) → place_in (row_at rows' q) j ≡ cond (pair_eq pair q) p (place_in (row_at rows q) j)) → (DiskTells → Becomes DiskTells files Tells at size pair p r r')
-      → IsOpenCopy r → (DiskTells → (stuck : Bool) (s t : Stored) → physical.Holds files r stuck s t → physical.Holds files r' stuck s t) → OnOk result (IsSeen p)
+      → IsOpenCopy r → (DiskTells → (stuck : Bool) (s t : Stored) → physical.Holds files r stuck s t → physical.Holds files r' stuck s t)
+      → (DiskTells → KeepsBytes (files r.disk) (files r'.disk)) → OnOk result (IsSeen p)
       → (DiskTells → (k : ℕ) → result ≡ Err (fault.Damaged k) → (cell : Cell) → physical.StandsIn files r cell → cell.at ≡ at → length cell.bytes ≡ size → ⊥)
       → IfErr result (IsSightFault (faults r.disk) (faults r'.disk)) → SightsAt DiskTells files faults Tells pair rows rows' j r r' result
-  sights_looked at size p result looked was changed becomes up holds seen undamaged cause = record {
+  sights_looked at size p result looked was changed becomes up holds keeps seen undamaged cause = record {
     copy = looked.same;
     seen = seen_on result seen;
     stands = λ tells s stands places. (
@@ -344,6 +361,7 @@ module _ {D P : Type 0} (DiskTells : Type 0) (files : D → Files) (faults : D �
     );
     run = λ tells s run stands places has. looked.run tells s run stands (has_place DiskTells files Tells at size j pair p rows rows' r r' looked was changed s places) has;
     holds = holds;
+    keeps = keeps;
     means = λ tells reach what were. means_on DiskTells files Tells at size j pair p rows rows' r r' looked was changed tells up (becomes tells) reach what were;
     undamaged = λ tells what stands k e.
         let is = subst (λ x. PlaceStands files Tells r pair x what) was stands in

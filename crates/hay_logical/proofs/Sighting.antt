@@ -6,9 +6,10 @@ use Rattle.std.proofs.lemmas.List.{get_or-set_other}
 use Rattle.hay_needle.specs.declared.needle.Outcome.{Outcome}
 use Rattle.hay_needle.specs.declared.needle.Pair.{Pair}
 use Rattle.hay_needle.specs.declared.settings.Settings.{Settings}
-use Rattle.hay_needle.specs.Tables.{outcome_at, pair_eq}
+use Rattle.hay_needle.specs.Tables.{outcome_at, pair_eq, table_of}
 use Rattle.hay_disk.specs.Counts.{Rose}
 use Rattle.hay_disk.specs.Disk.{Files}
+use Rattle.hay_volume.specs.Cells.{needles_of}
 use Rattle.hay_legal.specs.declared.known.VolumeKnown.{VolumeKnown}
 use Rattle.hay_legal.specs.Known.{machine_of, now, replica_at}
 use Rattle.hay_map.specs.MapRows.{MapRows}
@@ -29,12 +30,12 @@ use Rattle.hay_logical.specs.Answers.{IsSightFault}
 use Rattle.hay_logical.specs.Fits.{At, PhotoAt, PlaceStands, copier_run}
 use Rattle.hay_logical.specs.Refusals.{answer_at}
 use Rattle.hay_logical.specs.Stands.{ReplicaStands, StandsFor}
-use Rattle.hay_logical.specs.Steps.{CallsOne, SeesRow, SightsAt}
+use Rattle.hay_logical.specs.Steps.{CallsOne, LooksAt, PlacesAre, SeesRow, SightsAt}
 use Rattle.hay_logical.specs.Volumes.{CanReach, ReachesPlaces}
 use Rattle.hay_logical.proofs.Calls.{reaches_same}
 use Rattle.hay_logical.proofs.Holding.{held_on}
 use Rattle.hay_logical.proofs.Lists.{at_below, at_same, at_there}
-use Rattle.hay_logical.proofs.Looking.{stands_seen}
+use Rattle.hay_logical.proofs.Looking.{looks_still, stands_seen, stored_stands}
 use Rattle.hay_logical.proofs.Methods.{one_after, one_count, other_same, shown}
 use Rattle.hay_logical.proofs.Standing.{volume_with}
 
@@ -81,6 +82,22 @@ module _ {D P : Type 0} (DiskTells : Type 0) (files : D → Files) (Tells : Type
         subst (λ n. Q n r r') (sym same) (subst (λ x. Q at x r') (sym r_is) (subst (λ x. Q at one.before x) (sym r'_is) here))
     | inr apart ↦ subst (λ x. Q j r x) (sym (other_same at items new one j apart r r' e f)) (others j r apart e)
   ]
+
+  -- a look changes nothing that a replica stands for
+  pub looks_one : (j : ℕ) (r r' : Copy D) → At items j r → At new j r' → LooksAt DiskTells files Tells rows rows' j r r'
+  looks_one =
+      by_replica (λ n x y. LooksAt DiskTells files Tells rows rows' n x y) (record { copy = sights.copy; stands = sights.stands; holds = sights.holds; keeps = sights.keeps; reach = sights.reach })
+      (λ n x apart e. looks_still DiskTells files Tells rows rows' n x (other_places pair at rows rows' result row n apart))
+
+  -- of a replica that stands, the place was seen, unless for another cause than damage
+  pub place_seen : DiskTells → (s : Stored) → physical.Stands files one.before s → PlacesAre Tells rows at s → ((f : ReplicaFault) → result ≡ Err f → (k : ℕ) × (f ≡ fault.Damaged k)) → IsSeen (place_in (row_at rows' pair) at)
+  place_seen tells s stands places only = by_answer result refl
+    where
+      by_answer : (x : Result Unit ReplicaFault) → result ≡ x → IsSeen (place_in (row_at rows' pair) at)
+      by_answer (Ok value) e = subst (λ x. OnOk x (IsSeen (place_in (row_at rows' pair) at))) e sights.seen
+      by_answer (Err f) e =
+          let damaged = only f e in
+          absurd (sights.undamaged tells (outcome_at (table_of (needles_of s.cells)) pair) (stored_stands DiskTells files Tells one.before s pair (place_in (row_at rows pair) at) stands (places pair)) damaged.0 (e ∙ ap (λ x. Err x) damaged.1))
 
   old_at : (j : ℕ) (r' : Copy D) → At new j r' → (r : Copy D) × At items j r
   old_at j r' f = at_there items j (let h = at_below new j r' f in let count = one_count at items new one in let less : j < length items = omega (arith, h, count) in less)

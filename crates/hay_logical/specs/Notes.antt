@@ -8,6 +8,7 @@ use Rattle.hay_map.specs.Places.{place_in}
 use Rattle.hay_map.specs.Rows.{row_at}
 use Rattle.hay_map.specs.declared.place.Place.{Place}
 use Rattle.hay_map.specs.declared.place.Place.TheVariants as place
+use Rattle.hay_compact.specs.Finishing.{IsSeen}
 use Rattle.hay_physical.specs.Copies.{Copy, end_of}
 use Rattle.hay_logical.specs.declared.unsure.Change.{Change}
 use Rattle.hay_logical.specs.declared.unsure.Change.TheVariants as change
@@ -21,10 +22,26 @@ is_live place.None = false
 is_live place.Gone = false
 is_live (place.Unseen at size) = false
 
+-- whether a place is that of a photo, for all that was seen
+abbrev pub may_be_live : {P : Type 0} → Place P → Bool
+may_be_live (place.Live needle) = true
+may_be_live place.None = false
+may_be_live place.Gone = false
+may_be_live (place.Unseen at size) = true
+
 -- a replica has a put if its cells end elsewhere now, and a delete if no photo of the pair is there
 abbrev pub keeps : {P : Type 0} → Change → MapRows P → ℕ → ℕ → Bool
 keeps (change.Put ends) rows j end = not (end == slice_index ends j)
-keeps (change.Delete pair) rows j end = not (is_live (place_in (row_at rows pair) j))
+keeps (change.Delete pair) rows j end = not (may_be_live (place_in (row_at rows pair) j))
+
+-- the place that tells whether a replica has the change was seen
+abbrev pub SeesChange : {P : Type 0} → Change → MapRows P → ℕ → Type 0
+SeesChange (change.Put ends) rows j = Unit {0}
+SeesChange (change.Delete pair) rows j = IsSeen (place_in (row_at rows pair) j)
+
+abbrev pub SeesUnsure : {P : Type 0} → Option Unsure → MapRows P → ℕ → Type 0
+SeesUnsure None rows j = Unit {0}
+SeesUnsure (Some unsure) rows j = SeesChange unsure.change rows j
 
 pub record KeptIn {D P : Type 0} (change : Change) (rows : MapRows P) (replicas : List (Copy D)) (kept : List Bool) : Type 0 where
   pub count : length kept ≡ length replicas

@@ -18,7 +18,7 @@ use Rattle.hay_map.specs.declared.place.Place.TheVariants as place
 use Rattle.hay_open.specs.declared.fault.OpenFault.{OpenFault}
 use Rattle.hay_open.specs.declared.fault.OpenFault.TheVariants as open_fault
 use Rattle.hay_open.specs.Damage.{IsOpeningDamage}
-use Rattle.hay_open.specs.Stored.{Stored, IsSealedCell, IsVoid, OpensAs, PlaceOf, fresh_stored, index_file, last_cell, volume_file}
+use Rattle.hay_open.specs.Stored.{Stored, IsSealedCell, IsVoid, OpensAs, fresh_stored, index_file, last_cell, volume_file}
 use Rattle.hay_physical.specs.declared.fault.ReplicaFault.{ReplicaFault}
 use Rattle.hay_physical.specs.declared.fault.ReplicaFault.TheVariants as fault
 use Rattle.hay_physical.specs.declared.state.Phase.TheVariants.{Closed}
@@ -151,6 +151,12 @@ EndsRuns DiskTells files old new broken = StillRuns DiskTells files old new brok
 abbrev pub PlacesAre : {P : Type 0} → Type 0 → MapRows P → ℕ → Stored → Type 0
 PlacesAre Tells rows at s = (pair : Pair) → PhotoAt Tells (last_cell s.cells pair) (place_in (row_at rows pair) at)
 
+-- The bytes of each file stay, what is solid stays so, and what a stop may leave then, it might have left before.
+pub record KeepsBytes (old new : Files) : Type 0 where
+  pub now : (n : ℕ) → (new n).now ≡ (old n).now
+  pub solid : (n : ℕ) → IsSolid (old n) → IsSolid (new n)
+  pub leaves : (image : ℕ → List ℕ) → MayLeave new image → MayLeave old image
+
 -- A look at the place of a pair: one that was not seen yet is seen, as what it stands for, or a refusal has left it.
 pub record SightsAt {D P : Type 0} (DiskTells : Type 0) (files : D → Files) (faults : D → ℕ) (Tells : Type 0) (pair : Pair) (rows rows' : MapRows P) (at : ℕ) (r r' : Copy D) (result : Result Unit ReplicaFault) : Type 0 where
   pub copy : r' ≡ record r { disk = r'.disk }
@@ -158,6 +164,7 @@ pub record SightsAt {D P : Type 0} (DiskTells : Type 0) (files : D → Files) (f
   pub stands : DiskTells → (s : Stored) → physical.Stands files r s → PlacesAre Tells rows at s → physical.Stands files r' s × PlacesAre Tells rows' at s
   pub run : DiskTells → (s : Stored) (run : Option Run) → physical.Stands files r s → PlacesAre Tells rows at s → HasRun files r s run → HasRun files r' s run
   pub holds : DiskTells → (stuck : Bool) (s t : Stored) → physical.Holds files r stuck s t → physical.Holds files r' stuck s t
+  pub keeps : DiskTells → KeepsBytes (files r.disk) (files r'.disk)
   pub means : DiskTells → ReachesPlaces files rows at r → (what : Pair → Outcome) →
       ((other : Pair) → PlaceStands files Tells r other (place_in (row_at rows other) at) (what other)) →
       (other : Pair) → PlaceStands files Tells r' other (place_in (row_at rows' other) at) (what other)
@@ -456,11 +463,9 @@ pub record OpensAt {D P : Type 0} (DiskTells : Type 0) (files : D → Files) (Te
   pub alone : goal_of r' ≡ None
   pub undamaged : DiskTells → (file at : ℕ) → IsOpeningDamage r.sup (contents_of files r.disk) file at → ⊥
   pub undamaged_now : DiskTells → (file at : ℕ) → IsOpeningDamage r.sup (contents_of files r'.disk) file at → ⊥
-  pub opened : DiskTells → (s : Stored) → OpensAs r.sup (contents_of files r.disk) s → physical.Stands files r' s
-      × ((pair : Pair) → PlaceOf Tells (last_cell s.cells pair) (place_in (row_at rows pair) j))
+  pub opened : DiskTells → (s : Stored) → OpensAs r.sup (contents_of files r.disk) s → physical.Stands files r' s × PlacesAre Tells rows j s
   pub reopened : DiskTells → (stuck : Bool) (s t : Stored) → physical.Holds files r stuck s t → (found : Stored)
-      × (physical.IsLike stuck s found ⊎ physical.IsLike stuck t found) × physical.Stands files r' found
-      × ((pair : Pair) → PlaceOf Tells (last_cell found.cells pair) (place_in (row_at rows pair) j))
+      × (physical.IsLike stuck s found ⊎ physical.IsLike stuck t found) × physical.Stands files r' found × PlacesAre Tells rows j found
   pub reach : DiskTells → ReachesPlaces files rows j r'
 
 -- what an opening that was refused has left of a replica
@@ -494,3 +499,27 @@ pub record IsRefusedAt {D : Type 0} (DiskTells : Type 0) (files : D → Files) (
   pub earlier : DiskTells → (i : ℕ) (r r' : Copy D) → i < refusal.replica → At old i r → At new i r' →
       ((file at : ℕ) → IsOpeningDamage r.sup (contents_of files r.disk) file at → ⊥)
       × ((file at : ℕ) → IsOpeningDamage r.sup (contents_of files r'.disk) file at → ⊥)
+
+-- LOOKS OF AN OPENING
+
+-- Looks at places of a replica have changed nothing that it stands for.
+pub record LooksAt {D P : Type 0} (DiskTells : Type 0) (files : D → Files) (Tells : Type 0) (rows rows' : MapRows P) (j : ℕ) (r r' : Copy D) : Type 0 where
+  pub copy : r' ≡ record r { disk = r'.disk }
+  pub stands : DiskTells → (s : Stored) → physical.Stands files r s → PlacesAre Tells rows j s → physical.Stands files r' s × PlacesAre Tells rows' j s
+  pub holds : DiskTells → (stuck : Bool) (s t : Stored) → physical.Holds files r stuck s t → physical.Holds files r' stuck s t
+  pub keeps : DiskTells → KeepsBytes (files r.disk) (files r'.disk)
+  pub reach : DiskTells → ReachesPlaces files rows j r → ReachesPlaces files rows' j r'
+
+-- A needle that is damaged ends no opening.
+abbrev pub IsLookFault : ℕ → ℕ → OpenFault → Type 0
+IsLookFault before after (open_fault.Failed printed) = Rose before after × (printed ≡ after)
+IsLookFault before after (open_fault.Damaged file at) = ⊥
+IsLookFault before after open_fault.NoMemory = Unit {0}
+
+-- a look at this replica ended the opening
+pub record IsUnseenAt {D : Type 0} (faults : D → ℕ) (old new : List (Copy D)) (refusal : Unopened) : Type 0 where
+  pub before : Copy D
+  pub after : Copy D
+  pub was : At old refusal.replica before
+  pub is : At new refusal.replica after
+  pub cause : IsLookFault (faults before.disk) (faults after.disk) refusal.fault

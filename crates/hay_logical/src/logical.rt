@@ -23,11 +23,9 @@ ghost use Rattle.hay_logical.specs.Answers.{BeginRefused, CompactRefused, Delete
 use crate::fault::{LogicalFault, Unopened};
 use crate::notes::{machine_of, notes_of};
 use crate::refusals::{answer_at, has_live, is_untouched, put_refusal, unfinished_by};
-use crate::replicas::{
-    delete_each, ends_of, flush_at, fuse_at, open_each, put_each, room_in, stop_each,
-};
+use crate::replicas::{delete_each, ends_of, flush_at, fuse_at, put_each, room_in, stop_each};
 use crate::runs::{begin_at, compact_at, finish_at, step_at};
-use crate::sights::see_at;
+use crate::sights::{open_all, see_at};
 use crate::unsure::{Change, Unsure};
 use hay_base::{Listed, NoMemory};
 use hay_core::CoreTag;
@@ -157,7 +155,12 @@ impl<D: Disk> Logical<D> {
         ensures same { IsSame self.old self.new }
     {
         self.rows = MapView::new(alloc, self.settings.replicas);
-        match open_each(self.replicas.as_mut_slice(), &mut self.rows, alloc) {
+        match open_all(
+            self.replicas.as_mut_slice(),
+            &mut self.rows,
+            alloc,
+            &self.unsure,
+        ) {
             Ok(()) => {}
             Err(refusal) => return Err(refusal),
         }

@@ -5,7 +5,7 @@ ghost use Rattle.hay_legal.specs.Restarts.{replica_notes};
 ghost use Rattle.hay_physical.specs.Copies.{Copy, IsOpenCopy};
 ghost use Rattle.hay_logical.specs.Fits.{At};
 ghost use Rattle.hay_logical.specs.Volumes.{IsOfSettings};
-ghost use Rattle.hay_logical.specs.Notes.{KeptIn, NotesAre, is_live, keeps};
+ghost use Rattle.hay_logical.specs.Notes.{KeptIn, NotesAre, keeps, may_be_live};
 
 use crate::unsure::{Change, Unsure};
 use arrayvec::ArrayVec;
@@ -26,13 +26,13 @@ pub(crate) fn machine_of(settings: &Settings, number: u32, replica: u32) -> u32
     (number + replica) % settings.machines
 }
 
-// Whether a place is that of a photo.
-fn is_live<P: Piece>(place: &Place<P>) -> bool
-    ensures { result ≡ is_live place.now }
+// Whether a place is that of a photo, for all that was seen.
+fn may_be_live<P: Piece>(place: &Place<P>) -> bool
+    ensures { result ≡ may_be_live place.now }
 {
     match place {
-        Place::Live(_) => true,
-        Place::None | Place::Gone | Place::Unseen { .. } => false,
+        Place::Live(_) | Place::Unseen { .. } => true,
+        Place::None | Place::Gone => false,
     }
 }
 
@@ -46,7 +46,7 @@ fn is_kept<P: Piece>(change: &Change, rows: &MapView<P>, replica: usize, end: u6
         Change::Put { ends } => end != ends[replica],
         Change::Delete { pair } => {
             let row = rows.row(*pair);
-            !is_live(row.place(replica))
+            !may_be_live(row.place(replica))
         }
     }
 }

@@ -1,17 +1,28 @@
 //! Looks at places that were not seen yet.
-ghost use Rattle.std.specs.Prelude.{◌≡◌, ◌≤◌, ◌<◌, ℕ, length};
+ghost use Rattle.std.specs.Prelude.{◌≡◌, ◌≤◌, ◌<◌, ℕ, Bool, false, length, replicate, IfErr, MatchOption, OnOk, OnErr};
 ghost use Rattle.hay_map.specs.Places.{place_in};
 ghost use Rattle.hay_map.specs.Rows.{row_at};
-ghost use Rattle.hay_physical.specs.Copies.{Copy, IsOpenCopy};
+ghost use Rattle.hay_map.specs.declared.place.Place.TheVariants as place;
+ghost use Rattle.hay_open.specs.Stored.{Stored};
+ghost use Rattle.hay_compact.specs.Finishing.{IsSeen};
+ghost use Rattle.hay_physical.specs.declared.state.Phase.TheVariants.{Closed};
+ghost use Rattle.hay_physical.specs.Copies.{Copy, IsOpenCopy, is_frozen};
+ghost use Rattle.hay_physical.specs.Faults.{IsSightFault};
 ghost use Rattle.hay_physical.specs.Replicas as physical;
 ghost use Rattle.hay_logical.specs.Fits.{At};
-ghost use Rattle.hay_logical.specs.Steps.{CallsOne, SeesRow, SightsAt};
-ghost use Rattle.hay_logical.specs.Volumes.{KeepsCounts};
+ghost use Rattle.hay_logical.specs.Notes.{SeesUnsure};
+ghost use Rattle.hay_logical.specs.Steps.{CallsOne, IsLookFault, IsRefusedAt, IsUnseenAt, KeepsDisk, LeftAt, LooksAt, OpensAt, PlacesAre, SeesRow, SightsAt};
+ghost use Rattle.hay_logical.specs.Volumes.{CanReach, KeepsCounts};
 
+use crate::fault::Unopened;
+use crate::replicas::open_each;
+use crate::unsure::{Change, Unsure};
 use hay_disk::Disk;
 use hay_map::{MapView, Place};
 use hay_needle::Pair;
+use hay_open::OpenFault;
 use hay_physical::{Replica, ReplicaFault};
+use std::alloc::Global;
 
 /// Sees the place of a pair on one replica, where it was not looked at yet, and gives it to the rows.
 pub(crate) fn see_at<D: Disk>(
@@ -61,5 +72,114 @@ fn see<D: Disk>(
             },
             Err(fault) => Err(fault),
         },
+    }
+}
+
+// Sees the place of a pair on each replica that was opened. One whose needle is damaged stays unseen.
+fn see_each<D: Disk>(
+    replicas: &mut [Replica<D>],
+    rows: &mut MapView<D::Piece>,
+    pair: Pair,
+    out: &mut Vec<u8>,
+) -> Result<(), Unopened>
+    requires most { length replicas.old ≤ 4 }
+    requires width { rows.old.replicas ≡ length replicas.old }
+    requires open { (j : ℕ) (r : Copy D) → At replicas.old j r → IsOpenCopy r }
+    requires reach { CanReach D.Tells D.files replicas.old rows.old }
+    ensures looks { (j : ℕ) (r r' : Copy D) → At replicas.old j r → At replicas.new j r' → LooksAt D.Tells D.files D.Piece.Tells rows.old rows.new j r r' }
+    ensures seen { D.Tells → OnOk result ((j : ℕ) (r : Copy D) (s : Stored) → At replicas.old j r →
+        physical.Stands D.files r s → PlacesAre D.Piece.Tells rows.old j s → IsSeen (place_in (row_at rows.new pair) j)) }
+    ensures refused { IfErr result (IsUnseenAt D.fault_count replicas.old replicas.new) }
+    ensures width { rows.new.replicas ≡ rows.old.replicas }
+    ensures counts { KeepsCounts D.fault_count D.fuse_count replicas.old replicas.new }
+{
+    for at in 0..replicas.len() {
+        if let Err(fault) = see_at(replicas, at, rows, pair, out) {
+            if let Some(fault) = ending_fault(fault) {
+                return Err(Unopened {
+                    replica: at as u32,
+                    fault,
+                });
+            }
+        }
+    }
+    Ok(())
+}
+
+// Why a look ends an opening, if it does: a needle that is damaged does not.
+fn ending_fault(fault: ReplicaFault) -> Option<OpenFault>
+    requires { (before : ℕ) × (after : ℕ) × IsSightFault before after fault }
+    ensures { (before after : ℕ) → IsSightFault before after fault → MatchOption result ((k : ℕ) × (fault ≡ ReplicaFault.Damaged k)) (IsLookFault before after) }
+{
+    match fault {
+        ReplicaFault::Failed { faults } => Some(OpenFault::Failed { faults }),
+        ReplicaFault::NoMemory => Some(OpenFault::NoMemory),
+        ReplicaFault::Damaged { .. } => None,
+        ReplicaFault::Frozen
+        | ReplicaFault::Full { .. }
+        | ReplicaFault::Busy { .. }
+        | ReplicaFault::Ended { .. }
+        | ReplicaFault::Worn => unreachable!(),
+    }
+}
+
+// Sees, on each replica, the place of a photo whose delete was broken off. One whose needle is damaged stays unseen.
+fn see_broken_off<D: Disk>(
+    replicas: &mut [Replica<D>],
+    rows: &mut MapView<D::Piece>,
+    unsure: &Option<Unsure>,
+    out: &mut Vec<u8>,
+) -> Result<(), Unopened>
+    requires most { length replicas.old ≤ 4 }
+    requires width { rows.old.replicas ≡ length replicas.old }
+    requires open { (j : ℕ) (r : Copy D) → At replicas.old j r → IsOpenCopy r }
+    requires reach { CanReach D.Tells D.files replicas.old rows.old }
+    ensures looks { (j : ℕ) (r r' : Copy D) → At replicas.old j r → At replicas.new j r' → LooksAt D.Tells D.files D.Piece.Tells rows.old rows.new j r r' }
+    ensures seen { D.Tells → OnOk result ((j : ℕ) (r : Copy D) (s : Stored) → At replicas.old j r →
+        physical.Stands D.files r s → PlacesAre D.Piece.Tells rows.old j s → SeesUnsure unsure.now rows.new j) }
+    ensures refused { IfErr result (IsUnseenAt D.fault_count replicas.old replicas.new) }
+    ensures width { rows.new.replicas ≡ rows.old.replicas }
+    ensures counts { KeepsCounts D.fault_count D.fuse_count replicas.old replicas.new }
+{
+    match unsure {
+        None => Ok(()),
+        Some(unsure) => match unsure.change {
+            Change::Put { .. } => Ok(()),
+            Change::Delete { pair } => see_each(replicas, rows, pair, out),
+        },
+    }
+}
+
+/// Opens each replica in order, and then sees on each the place of a photo whose delete was broken off.
+pub(crate) fn open_all<D: Disk>(
+    replicas: &mut [Replica<D>],
+    rows: &mut MapView<D::Piece>,
+    alloc: Global,
+    unsure: &Option<Unsure>,
+) -> Result<(), Unopened>
+    requires most { length replicas.old ≤ 4 }
+    requires width { rows.old.replicas ≡ length replicas.old }
+    requires empty { (pair : Pair) → row_at rows.old pair ≡ replicate (length replicas.old) place.None }
+    requires closed { (j : ℕ) (r : Copy D) → At replicas.old j r → r.phase ≡ Closed }
+    requires idle { D.Tells → (j : ℕ) (r : Copy D) → At replicas.old j r → physical.IsIdleCopy D.files r }
+    ensures counts { KeepsCounts D.fault_count D.fuse_count replicas.old replicas.new }
+    ensures width { rows.new.replicas ≡ rows.old.replicas }
+    ensures thawed { OnErr result ((j : ℕ) (r : Copy D) → At replicas.new j r → is_frozen r ≡ false) }
+    ensures opened { OnOk result ((j : ℕ) (r r' : Copy D) → At replicas.old j r → At replicas.new j r' →
+        OpensAt D.Tells D.files D.Piece.Tells rows.new j r r') }
+    // Behind a stop the place that tells of the change was seen.
+    ensures seen { D.Tells → OnOk result ((j : ℕ) (r : Copy D) → At replicas.old j r → (stuck : Bool) (s t : Stored) →
+        physical.Holds D.files r stuck s t → SeesUnsure unsure.now rows.new j) }
+    ensures left { (j : ℕ) (r r' : Copy D) → At replicas.old j r → At replicas.new j r' → LeftAt D.Tells D.files r r' }
+    ensures kept { D.Tells → (j : ℕ) (r r' : Copy D) → At replicas.old j r → At replicas.new j r' → KeepsDisk D.files r r' }
+    ensures reach { CanReach D.Tells D.files replicas.new rows.new }
+    ensures refused { IfErr result (IsRefusedAt D.Tells D.files D.fault_count replicas.old replicas.new) }
+{
+    match open_each(replicas, rows, alloc) {
+        Ok(()) => {
+            let mut out = Vec::new(alloc);
+            see_broken_off(replicas, rows, unsure, &mut out)
+        }
+        Err(refusal) => Err(refusal),
     }
 }

@@ -11,7 +11,7 @@ use Rattle.hay_needle.specs.Needle.{needle_magic}
 use Rattle.hay_needle.specs.Sizes.{needle_total}
 use Rattle.hay_needle.specs.Super.{super_bytes}
 use Rattle.hay_needle.specs.Tables.{pair_eq}
-use Rattle.hay_disk.specs.Disk.{Files, FileState, IsImage, IsSolid, KeepsOthers, Seals}
+use Rattle.hay_disk.specs.Disk.{Files, FileState, IsImage, IsSolid, KeepsOthers, MayLeave, Seals}
 use Rattle.hay_disk.specs.Gate.{IsGate}
 use Rattle.hay_disk.proofs.Images.{image_seals}
 use Rattle.hay_disk.proofs.Logs.{gate_seals}
@@ -233,12 +233,21 @@ ready_looked old new opened at n r within seals others =
       index = λ live. subst (λ (x : FileState). IsGate index_magic opened.index.end x) (sym index) (r.index live);
     }
 
+-- what a stop may leave then, it might have left before
+pub leaves_looked : (old new : Files) (file at n : ℕ) → Seals at n 28 (old file) (new file) → KeepsOthers file old new → (image : ℕ → List ℕ) → MayLeave new image → MayLeave old image
+leaves_looked old new file at n seals others image leaves k = elim (cases_eq k file) [
+  | inl same ↦ subst (λ j. IsImage (old j) (image j)) (sym same) (image_seals at n 28 (old file) (new file) (image file) seals (leaves file))
+  | inr apart ↦ subst (λ (x : FileState). IsImage x (image k)) (others k apart) (leaves k)
+]
+
 -- and an opening finds what it would have found
 pub finds_looked : (sup : Super) (old new : Files) (file : ℕ) (stuck : Bool) (s t : Stored) (at n : ℕ) → Seals at n 28 (old file) (new file) → KeepsOthers file old new → MayFind sup old stuck s t → MayFind sup new stuck s t
 unfolding MayFind
-finds_looked sup old new file stuck s t at n seals others finds = λ image leaves.
-    finds image (λ k.
-    elim (cases_eq k file) [
-      | inl same ↦ subst (λ j. IsImage (old j) (image j)) (sym same) (image_seals at n 28 (old file) (new file) (image file) seals (leaves file))
-      | inr apart ↦ subst (λ (x : FileState). IsImage x (image k)) (others k apart) (leaves k)
-    ])
+finds_looked sup old new file stuck s t at n seals others finds = λ image leaves. finds image (leaves_looked old new file at n seals others image leaves)
+
+-- a file that was solid is solid
+pub solid_looked : (old new : Files) (file at n : ℕ) → Seals at n 28 (old file) (new file) → KeepsOthers file old new → (k : ℕ) → IsSolid (old k) → IsSolid (new k)
+solid_looked old new file at n seals others k solid = elim (cases_eq k file) [
+  | inl same ↦ subst (λ j. IsSolid (new j)) (sym same) (solid_seals at n 28 (old file) (new file) (subst (λ j. IsSolid (old j)) same solid) seals)
+  | inr apart ↦ subst IsSolid (sym (others k apart)) solid
+]

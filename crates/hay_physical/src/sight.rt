@@ -1,11 +1,11 @@
 //! What the place of a photo means, seen by its needle.
 
-ghost use Rattle.std.specs.Prelude.{◌≡◌, ◌≤◌, ◌+◌, ℕ, Bool, false, drop, length, Option, Err, IfOk, IfErr, OnOk, OnErr};
+ghost use Rattle.std.specs.Prelude.{◌≡◌, ◌≤◌, ◌+◌, ℕ, List, Bool, false, drop, length, Option, Err, IfOk, IfErr, OnOk, OnErr};
 ghost use Rattle.hay_needle.specs.Needle.{BeginsWithNeedle};
 ghost use Rattle.hay_needle.specs.Sizes.{needle_total};
 ghost use Rattle.hay_needle.specs.declared.needle.Cell.{Cell};
 ghost use Rattle.hay_needle.specs.declared.needle.Needle.{Needle};
-ghost use Rattle.hay_disk.specs.Disk.{KeepsOthers, Seals};
+ghost use Rattle.hay_disk.specs.Disk.{IsSolid, KeepsOthers, MayLeave, Seals};
 ghost use Rattle.hay_disk.specs.Gate.{HasBytesAt};
 ghost use Rattle.hay_volume.specs.Cells.{HasPlace, IsCellAt, StandsCell, cell_head};
 ghost use Rattle.hay_compact.specs.Finishing.{IsSeen};
@@ -155,6 +155,8 @@ impl<D: Disk> Replica<D> {
         ensures same { self.new ≡ record self.old { disk = self.new.disk } }
         ensures now { D.Tells → (n : ℕ) → (D.files self.new.disk n).now ≡ (D.files self.old.disk n).now }
         ensures kept { D.Tells → OnErr result (D.files self.new.disk ≡ D.files self.old.disk) }
+        ensures solid { D.Tells → (n : ℕ) → IsSolid (D.files self.old.disk n) → IsSolid (D.files self.new.disk n) }
+        ensures leaves { D.Tells → (image : ℕ → List ℕ) → MayLeave (D.files self.new.disk) image → MayLeave (D.files self.old.disk) image }
         ensures stands { D.Tells → (s : Stored) → Stands D.files self.old s → HasPlace at s.cells → Stands D.files self.new s }
         ensures run { D.Tells → (s : Stored) (run : Option Run) → Stands D.files self.old s → HasPlace at s.cells → HasRun D.files self.old s run → HasRun D.files self.new s run }
         ensures holds { D.Tells → (stuck : Bool) (s t : Stored) → Holds D.files self.old stuck s t → Holds D.files self.new stuck s t }

@@ -4,12 +4,11 @@ use Rattle.std.proofs.lemmas.Bool.{cases_lt}
 use Rattle.std.proofs.lemmas.List.{length-replicate}
 use Rattle.hay_map.specs.Places.{place_in}
 use Rattle.hay_map.specs.Rows.{row_at}
-use Rattle.hay_needle.specs.declared.needle.Pair.{Pair}
-use Rattle.hay_physical.specs.Copies.{Copy, IsUp, is_frozen, phase_frozen}
-use Rattle.hay_physical.specs.Replicas as physical
+use Rattle.hay_physical.specs.Copies.{Copy, is_frozen, phase_frozen}
 use Rattle.hay_logical.specs.Fits.{At}
 use Rattle.hay_logical.specs.Steps.{KeepsDisk, LeftAt}
-use Rattle.hay_logical.proofs.Calls.{Counted, deletable_from, disk_same, left_same, none_in, opens_on, up_thawed, went_counts}
+use Rattle.hay_logical.specs.Volumes.{ReachesPlaces}
+use Rattle.hay_logical.proofs.Calls.{Counted, disk_same, left_same, none_in, opens_on, reach_from, reaches_same, up_thawed, went_counts}
 use Rattle.hay_logical.proofs.Lists.{Went, at_below, at_read, at_same, at_there, broken_above, broken_below, broken_is, broken_was, length-slice_set, went_all, went_every, went_next, went_start, went_step}
 use Rattle.hay_logical.proofs.replicas.open_each.Goals as goal
 
@@ -117,22 +116,20 @@ returns-clause-left g c = λ j r r' e f. (went_all _ _ c.args.replicas.now _ c.l
 pub returns-clause-kept : goal.returns-clause-kept
 returns-clause-kept g c = λ tells j r r' e f. (went_all _ _ c.args.replicas.now _ c.loop-j.invariant.went (let all : length c.args.replicas.now ≤ c.loop-j.j = omega arith in all) j r r' e f).3 tells
 
-pub returns-in-Err-clause-deletable : goal.returns-in-Err-clause-deletable
-returns-in-Err-clause-deletable g c =
+pub returns-in-Err-clause-reach : goal.returns-in-Err-clause-reach
+returns-in-Err-clause-reach g c =
     let within : c.loop-j.j < length c.loop-j.replicas = omega arith in
     let here : Copy g.row.D.Denot = slice_index_or c.loop-j.replicas c.loop-j.j c.index-replicas-j.result in
     let there : At c.loop-j.replicas c.loop-j.j here = at_read c.loop-j.replicas c.loop-j.j c.index-replicas-j.result within in
-    let Deletable : ℕ → Copy g.row.D.Denot → Copy g.row.D.Denot → Type 0 = λ i x y.
-    g.D.Disk.Tells → IsUp y → (pair : Pair) → physical.MayDeletePlace g.D.Disk.files y (place_in (row_at c.open_one.new.rows pair) i) in
-    let went : Went Deletable (c.loop-j.j + 1) c.args.replicas.now (slice_set c.loop-j.replicas c.loop-j.j c.open_one.new.replica) =
-    went_step _ Deletable c.loop-j.j c.args.replicas.now c.loop-j.replicas here c.open_one.new.replica c.loop-j.invariant.went there
-    (λ i x y h p tells up pair. subst (physical.MayDeletePlace g.D.Disk.files y) (sym (c.open_one.ensures.others pair i (λ e. absurd (omega (arith, h, e))))) (p.0.deletable tells pair))
-    c.open_one.ensures.deletable in
-    deletable_from g.D.Disk.Tells g.D.Disk.files c.open_one.new.rows Deletable (c.loop-j.j + 1) c.args.replicas.now _ went (λ i x y d. d) c.requires.closed
+    let Reach : ℕ → Copy g.row.D.Denot → Copy g.row.D.Denot → Type 0 = λ i x y. g.D.Disk.Tells → ReachesPlaces g.D.Disk.files c.open_one.new.rows i y in
+    let went : Went Reach (c.loop-j.j + 1) c.args.replicas.now (slice_set c.loop-j.replicas c.loop-j.j c.open_one.new.replica) =
+    went_step _ Reach c.loop-j.j c.args.replicas.now c.loop-j.replicas here c.open_one.new.replica c.loop-j.invariant.went there
+    (λ i x y h p tells. reaches_same g.D.Disk.files c.loop-j.rows c.open_one.new.rows i y (λ pair. c.open_one.ensures.others pair i (λ e. absurd (omega (arith, h, e)))) (p.0.reach tells))
+    c.open_one.ensures.reach in
+    reach_from g.D.Disk.Tells g.D.Disk.files c.open_one.new.rows Reach (c.loop-j.j + 1) c.args.replicas.now _ went (λ i x y d. d) c.requires.closed
 
-pub returns-clause-deletable : goal.returns-clause-deletable
-returns-clause-deletable g c =
-    deletable_from g.D.Disk.Tells g.D.Disk.files c.loop-j.rows _ c.loop-j.j c.args.replicas.now _ c.loop-j.invariant.went (λ i x y p tells up pair. p.0.deletable tells pair) c.requires.closed
+pub returns-clause-reach : goal.returns-clause-reach
+returns-clause-reach g c = reach_from g.D.Disk.Tells g.D.Disk.files c.loop-j.rows _ c.loop-j.j c.args.replicas.now _ c.loop-j.invariant.went (λ i x y p tells. p.0.reach tells) c.requires.closed
 
 pub returns-in-Err-clause-thawed : goal.returns-in-Err-clause-thawed
 returns-in-Err-clause-thawed g c = λ i r f.

@@ -5,14 +5,14 @@ use Rattle.hay_map.specs.Rows.{last_place, row_at}
 use Rattle.hay_map.specs.declared.place.Place.TheVariants as place
 use Rattle.hay_open.specs.Stored.{PlaceOf, last_cell}
 use Rattle.hay_physical.specs.Copies.{phase_frozen}
-use Rattle.hay_physical.specs.Replicas as physical
-use Rattle.hay_logical.proofs.Calls.{loaded, loaded_other, open_cause, opened_holds, up_thawed}
+use Rattle.hay_logical.proofs.Calls.{loaded, loaded_other, open_cause, opened_holds, reaches_loaded, reaches_none, up_thawed}
+use Rattle.hay_logical.proofs.Compacting.{photo_at}
 use Rattle.hay_logical.proofs.Lists.{length-slice_set}
 use Rattle.hay_logical.proofs.replicas.open_one.Goals as goal
 
 pub returns-in-Ok-load-clause-opened : goal.returns-in-Ok-load-clause-opened
 returns-in-Ok-load-clause-opened g c =
-    let place : (pair : Pair) → place_in (row_at c.load.new.self pair) c.args.j ≡ last_place c.in-Ok.cells.items pair place.None = λ pair.
+    let there : (pair : Pair) → place_in (row_at c.load.new.self pair) c.args.j ≡ last_place c.in-Ok.cells.items pair place.None = λ pair.
     loaded (row_at c.args.rows.now pair) (row_at c.load.new.self pair) c.args.j _ (c.in-Ok-load.ensures.ok.rows pair)
     (let long = c.requires.long pair in let h = c.requires.within in let less : c.args.j < length (row_at c.args.rows.now pair) = omega (arith, long, h) in less)
     ∙ ap (λ l. last_place l pair (place_in (row_at c.args.rows.now pair) c.args.j)) c.as_slice.ensures.value
@@ -26,11 +26,11 @@ returns-in-Ok-load-clause-opened g c =
       undamaged_now = c.in-Ok.ensures.undamaged_now;
       opened = λ tells s opens.
           let p = c.in-Ok.ensures.opened tells s opens in
-          (p.0, λ pair. subst (PlaceOf g.D.Piece.Piece.Tells (last_cell s.cells pair)) (sym (place pair)) (p.1 pair));
+          (p.0, λ pair. photo_at g.D.Piece.Piece.Tells (last_cell s.cells pair) (place_in (row_at c.load.new.self pair) c.args.j) (subst (PlaceOf g.D.Piece.Piece.Tells (last_cell s.cells pair)) (sym (there pair)) (p.1 pair)));
       reopened = λ tells stuck s t holds.
           let p = c.in-Ok.ensures.reopened tells stuck s t holds in
-          (p.0, p.1, p.2, λ pair. subst (PlaceOf g.D.Piece.Piece.Tells (last_cell (p.0).cells pair)) (sym (place pair)) (p.3 pair));
-      deletable = λ tells pair. subst (physical.MayDeletePlace g.D.Disk.files c.open.new.self) (sym (place pair)) (c.in-Ok.ensures.can_delete tells pair);
+          (p.0, p.1, p.2, λ pair. photo_at g.D.Piece.Piece.Tells (last_cell (p.0).cells pair) (place_in (row_at c.load.new.self pair) c.args.j) (subst (PlaceOf g.D.Piece.Piece.Tells (last_cell (p.0).cells pair)) (sym (there pair)) (p.3 pair)));
+      reach = λ tells. reaches_loaded g.D.Disk.files c.load.new.self c.args.j c.open.new.self (λ pair. last_place c.in-Ok.cells.items pair place.None) there (c.in-Ok.ensures.can_delete tells) (c.in-Ok.ensures.can_see tells) (c.in-Ok.ensures.apart tells);
     }
 
 pub returns-in-Ok-load-clause-left : goal.returns-in-Ok-load-clause-left
@@ -69,21 +69,21 @@ returns-clause-refused g c =
     (λ tells s opens file at e. c.in-Err.ensures.only tells s opens file at (ap Err e))
     (λ tells stuck s t holds file at e. c.in-Err.ensures.whole tells stuck s t holds file at (ap Err e))
 
-pub returns-in-Ok-load-clause-deletable : goal.returns-in-Ok-load-clause-deletable
-returns-in-Ok-load-clause-deletable g c = λ tells up pair.
-    let place : place_in (row_at c.load.new.self pair) c.args.j ≡ last_place c.in-Ok.cells.items pair place.None =
+pub returns-in-Ok-load-clause-reach : goal.returns-in-Ok-load-clause-reach
+returns-in-Ok-load-clause-reach g c = λ tells.
+    let there : (pair : Pair) → place_in (row_at c.load.new.self pair) c.args.j ≡ last_place c.in-Ok.cells.items pair place.None = λ pair.
     loaded (row_at c.args.rows.now pair) (row_at c.load.new.self pair) c.args.j _ (c.in-Ok-load.ensures.ok.rows pair)
     (let long = c.requires.long pair in let h = c.requires.within in let less : c.args.j < length (row_at c.args.rows.now pair) = omega (arith, long, h) in less)
     ∙ ap (λ l. last_place l pair (place_in (row_at c.args.rows.now pair) c.args.j)) c.as_slice.ensures.value
     ∙ ap (λ p. last_place c.in-Ok.cells.items pair p) (c.requires.empty pair) in
-    subst (physical.MayDeletePlace g.D.Disk.files c.open.new.self) (sym place) (c.in-Ok.ensures.can_delete tells pair)
+    reaches_loaded g.D.Disk.files c.load.new.self c.args.j c.open.new.self (λ pair. last_place c.in-Ok.cells.items pair place.None) there (c.in-Ok.ensures.can_delete tells) (c.in-Ok.ensures.can_see tells) (c.in-Ok.ensures.apart tells)
 
-pub returns-in-Ok-clause-deletable : goal.returns-in-Ok-clause-deletable
-returns-in-Ok-clause-deletable g c = λ tells up pair.
-    subst (physical.MayDeletePlace g.D.Disk.files c.open.new.self) (sym (ap (λ l. place_in l c.args.j) (c.in-Err-load.ensures.err.rows pair) ∙ c.requires.empty pair)) tt
+pub returns-in-Ok-clause-reach : goal.returns-in-Ok-clause-reach
+returns-in-Ok-clause-reach g c = λ tells.
+    reaches_none g.D.Disk.files c.load.new.self c.args.j c.open.new.self (λ pair. ap (λ l. place_in l c.args.j) (c.in-Err-load.ensures.err.rows pair) ∙ c.requires.empty pair)
 
-pub returns-clause-deletable : goal.returns-clause-deletable
-returns-clause-deletable g c = λ tells up pair. subst (physical.MayDeletePlace g.D.Disk.files c.open.new.self) (sym (c.requires.empty pair)) tt
+pub returns-clause-reach : goal.returns-clause-reach
+returns-clause-reach g c = λ tells. reaches_none g.D.Disk.files c.args.rows.now c.args.j c.open.new.self c.requires.empty
 
 pub returns-in-Ok-load-clause-thawed : goal.returns-in-Ok-load-clause-thawed
 returns-in-Ok-load-clause-thawed g c = up_thawed c.open.new.self c.in-Ok.ensures.up

@@ -19,7 +19,7 @@ returns-in-Ok-see-clause-sights g c =
     (set_places c.args.pair c.args.at c.args.rows.now c.see.new.self c.in-Ok.seen c.in-Ok-see.ensures.ok.rows long)
     (λ tells. becomes_seen T files g.D.Piece.Piece.Tells c.in-Unseen.place c.in-Unseen.size c.args.pair c.in-Ok.seen c.args.replica.now c.cell.new.self seen.needle.0 seen.needle.3 seen.needle.1.place
     (λ cell stands here. (seen.known tells cell stands here).1) (seen.can_delete tells))
-    c.requires.«open» c.cell.ensures.holds (sight_seen T files g.D.Piece.Piece.Tells seen.needle.0 c.in-Ok.seen seen.needle.3) (λ tells k e cell stands here size. cc) tt
+    c.requires.«open» c.cell.ensures.holds (λ tells. record { now = c.cell.ensures.now tells; solid = c.cell.ensures.solid tells; leaves = c.cell.ensures.leaves tells }) (sight_seen T files g.D.Piece.Piece.Tells seen.needle.0 c.in-Ok.seen seen.needle.3) (λ tells k e cell stands here size. cc) tt
 
 pub returns-in-Ok-see-clause-row : goal.returns-in-Ok-see-clause-row
 returns-in-Ok-see-clause-row g c =
@@ -39,7 +39,7 @@ returns-in-Ok-clause-sights g c =
     sights_looked T files g.D.Disk.fault_count g.D.Piece.Piece.Tells c.args.pair c.args.rows.now c.see.new.self c.args.at c.args.replica.now c.cell.new.self c.in-Unseen.place c.in-Unseen.size (place.Unseen c.in-Unseen.place c.in-Unseen.size) _
     looked was (same_places c.args.pair c.args.at c.args.rows.now c.see.new.self (place.Unseen c.in-Unseen.place c.in-Unseen.size) was c.in-Err-see.ensures.err.rows)
     (λ tells. becomes_same T files g.D.Piece.Piece.Tells tells c.in-Unseen.place c.in-Unseen.size c.args.pair c.args.replica.now c.cell.new.self looked)
-    c.requires.«open» c.cell.ensures.holds tt (λ tells k e cell stands here size. cc) tt
+    c.requires.«open» c.cell.ensures.holds (λ tells. record { now = c.cell.ensures.now tells; solid = c.cell.ensures.solid tells; leaves = c.cell.ensures.leaves tells }) tt (λ tells k e cell stands here size. cc) tt
 
 pub returns-in-None-clause-sights : goal.returns-in-None-clause-sights
 returns-in-None-clause-sights g c =
@@ -62,4 +62,4 @@ returns-clause-sights g c =
     sights_looked T files g.D.Disk.fault_count g.D.Piece.Piece.Tells c.args.pair c.args.rows.now c.args.rows.now c.args.at c.args.replica.now c.cell.new.self c.in-Unseen.place c.in-Unseen.size (place.Unseen c.in-Unseen.place c.in-Unseen.size) _
     looked was (same_places c.args.pair c.args.at c.args.rows.now c.args.rows.now (place.Unseen c.in-Unseen.place c.in-Unseen.size) was (λ q. refl))
     (λ tells. becomes_same T files g.D.Piece.Piece.Tells tells c.in-Unseen.place c.in-Unseen.size c.args.pair c.args.replica.now c.cell.new.self looked)
-    c.requires.«open» c.cell.ensures.holds tt (λ tells k e. c.in-Err.ensures.damaged tells k (ap (λ (f : ReplicaFault). Err f) (let same : c.in-Err.fault ≡ ReplicaFault.Damaged k = cc in same))) c.in-Err.ensures.causes
+    c.requires.«open» c.cell.ensures.holds (λ tells. record { now = c.cell.ensures.now tells; solid = c.cell.ensures.solid tells; leaves = c.cell.ensures.leaves tells }) tt (λ tells k e. c.in-Err.ensures.damaged tells k (ap (λ (f : ReplicaFault). Err f) (let same : c.in-Err.fault ≡ ReplicaFault.Damaged k = cc in same))) c.in-Err.ensures.causes

@@ -1,7 +1,7 @@
 use Rattle.std.proofs.Common.{refl, sym, subst, arith}
 use Rattle.hay_needle.specs.Needle.{needle_of_cell}
 use Rattle.hay_needle.specs.Sizes.{needle_total}
-use Rattle.hay_disk.specs.Disk.{Files}
+use Rattle.hay_disk.specs.Disk.{Files, IsSolid, MayLeave}
 use Rattle.hay_volume.specs.Cells.{StandsCell}
 use Rattle.hay_volume.proofs.Readings.{cell_begins}
 use Rattle.hay_physical.specs.declared.state.Phase.{Phase}
@@ -11,7 +11,7 @@ use Rattle.hay_physical.specs.Runs.{HasRun}
 use Rattle.hay_physical.proofs.Looks.{other_flag, own_flag, sight_deletes, stands_there, told}
 use Rattle.hay_physical.proofs.RunLaws.{copier_ready_volume, next_besides_volume, run_kept}
 use Rattle.hay_physical.proofs.RunViews.{files_ready, files_settled, run_still}
-use Rattle.hay_physical.proofs.Seeing.{files_cell, files_look, finds_looked, known_cell, one_total, ready_looked, sight_kept, stand_looked}
+use Rattle.hay_physical.proofs.Seeing.{files_cell, files_look, finds_looked, known_cell, leaves_looked, one_total, ready_looked, sight_kept, solid_looked, stand_looked}
 use Rattle.hay_physical.proofs.Sights.{range_sealed}
 use Rattle.hay_physical.proofs.Views.{by_result, files_flag, files_going, files_stand, if_ok, if_ok_so, on_err_so, open_deletes, open_stands}
 use Rattle.hay_physical.proofs.replica.Replica.cell.Goals as goal
@@ -133,3 +133,15 @@ returns-clause-holds g c = λ tells stuck s t holds.
     let was = c.self.inside in
     finds_looked was.sup (files was.disk) (files c.cell.new.disk) c.in-Open.files.volume.file stuck s t c.args.at (needle_total c.args.size) (c.cell.ensures.seals tells) (c.cell.ensures.others tells)
     (subst (λ (x : Copy _). Holds files x stuck s t) (sym c.self.view_is) holds)
+
+pub returns-clause-solid : goal.returns-clause-solid
+returns-clause-solid g c = λ tells n solid.
+    let files = g.D.Disk.files in
+    solid_looked (files c.self.inside.disk) (files c.cell.new.disk) c.in-Open.files.volume.file c.args.at (needle_total c.args.size) (c.cell.ensures.seals tells) (c.cell.ensures.others tells) n
+    (subst (λ (x : Copy _). IsSolid (files x.disk n)) (sym c.self.view_is) solid)
+
+pub returns-clause-leaves : goal.returns-clause-leaves
+returns-clause-leaves g c = λ tells image leaves.
+    let files = g.D.Disk.files in
+    subst (λ (x : Copy _). MayLeave (files x.disk) image) c.self.view_is
+    (leaves_looked (files c.self.inside.disk) (files c.cell.new.disk) c.in-Open.files.volume.file c.args.at (needle_total c.args.size) (c.cell.ensures.seals tells) (c.cell.ensures.others tells) image leaves)

@@ -1,0 +1,236 @@
+-- The replicas of an opening behind the looks at a place of each.
+use Rattle.std.proofs.Common.{◌≡◌, inl, inr, ℕ, ◌+◌, ◌<◌, ◌≤◌, false, List, length, Err, refl, sym, ap, subst, ◌∙◌, arith}
+use Rattle.std.proofs.Math.Path.{fun_ext}
+use Rattle.std.specs.Prelude.{Bool, IfErr, Ok, OnErr, OnOk, Result}
+use Rattle.std.proofs.lemmas.Bool.{cases_eq}
+use Rattle.hay_needle.specs.declared.needle.Pair.{Pair}
+use Rattle.hay_disk.specs.Disk.{Files}
+use Rattle.hay_map.specs.MapRows.{MapRows}
+use Rattle.hay_map.specs.Places.{place_in}
+use Rattle.hay_map.specs.Rows.{row_at}
+use Rattle.hay_open.specs.Damage.{IsOpeningDamage}
+use Rattle.hay_open.specs.Stored.{Stored}
+use Rattle.hay_compact.specs.Finishing.{IsSeen}
+use Rattle.hay_physical.specs.declared.fault.ReplicaFault.{ReplicaFault}
+use Rattle.hay_physical.specs.declared.fault.ReplicaFault.TheVariants as fault
+use Rattle.hay_physical.specs.declared.state.Phase.{Phase}
+use Rattle.hay_physical.specs.Copies.{Copy, HasFrozen, IsOpenCopy, IsOpenPhase, goal_of, is_frozen, is_stuck}
+use Rattle.hay_physical.specs.Replicas as physical
+use Rattle.hay_open.specs.declared.fault.OpenFault.{OpenFault}
+use Rattle.hay_open.specs.declared.fault.OpenFault.TheVariants as open_fault
+use Rattle.hay_logical.specs.Fits.{At}
+use Rattle.hay_logical.specs.declared.fault.Unopened.{Unopened}
+use Rattle.hay_logical.specs.Steps.{CallsOne, IsLookFault, IsOpenFault, IsRefusedAt, IsUnseenAt, KeepsBytes, KeepsDisk, LeftAt, LooksAt, OpensAt, PlacesAre, SeesRow, SightsAt}
+use Rattle.hay_logical.specs.Volumes.{CanReach, KeepsCounts}
+use Rattle.hay_logical.proofs.Calls.{counted_same, keeps_counts, up_open, up_thawed}
+use Rattle.hay_logical.proofs.Examining.{rose_later}
+use Rattle.hay_logical.proofs.Lists.{at_below, at_same, at_there}
+use Rattle.hay_logical.proofs.Looking.{looks_still}
+use Rattle.hay_logical.proofs.Methods.{one_after}
+use Rattle.hay_logical.proofs.Sighting.{looks_one, other_places, place_seen}
+use Rattle.hay_logical.proofs.Through.{counts_through}
+
+pub bytes_more : (a b c : Files) → KeepsBytes a b → KeepsBytes b c → KeepsBytes a c
+bytes_more a b c first second = record {
+  now = λ n. second.now n ∙ first.now n;
+  solid = λ n solid. second.solid n (first.solid n solid);
+  leaves = λ image leaves. first.leaves image (second.leaves image leaves);
+}
+
+module _ {D P : Type 0} (DiskTells : Type 0) (files : D → Files) (Tells : Type 0) where
+  pub looks_more : (a b c : MapRows P) (j : ℕ) (r x y : Copy D) → LooksAt DiskTells files Tells a b j r x → LooksAt DiskTells files Tells b c j x y → LooksAt DiskTells files Tells a c j r y
+  looks_more a b c j r x y first second = record {
+    copy = second.copy ∙ ap (λ (z : Copy D). record z { disk = y.disk }) first.copy;
+    stands = λ tells s stands places. let mid = first.stands tells s stands places in second.stands tells s mid.0 mid.1;
+    holds = λ tells stuck s t holds. second.holds tells stuck s t (first.holds tells stuck s t holds);
+    keeps = λ tells. bytes_more (files r.disk) (files x.disk) (files y.disk) (first.keeps tells) (second.keeps tells);
+    reach = λ tells reach. second.reach tells (first.reach tells reach);
+  }
+
+  module _ (faults fuses : D → ℕ) where
+    -- each replica was looked at, or not
+    pub record Looks (old new : List (Copy D)) (rows rows' : MapRows P) : Type 0 where
+      pub each : (j : ℕ) (r r' : Copy D) → At old j r → At new j r' → LooksAt DiskTells files Tells rows rows' j r r'
+      pub width : rows'.replicas ≡ rows.replicas
+      pub counts : KeepsCounts faults fuses old new
+
+    pub looks_none : (items : List (Copy D)) (rows : MapRows P) → Looks items items rows rows
+    looks_none items rows = record {
+      each = λ j r r' e f. subst (λ x. LooksAt DiskTells files Tells rows rows j r x) (sym (at_same items j r' r f e)) (looks_still DiskTells files Tells rows rows j r (λ q. refl));
+      width = refl;
+      counts = keeps_counts faults fuses items items refl (λ j r r' e f. counted_same faults fuses r r' (at_same items j r' r f e));
+    }
+
+    module _ (old items : List (Copy D)) (before rows : MapRows P) (looks : Looks old items before rows) where
+      mid : (j : ℕ) (r : Copy D) → At old j r → (x : Copy D) × At items j x
+      mid j r e = at_there items j (let h = at_below old j r e in let n = looks.counts.count in let less : j < length items = omega (arith, h, n) in less)
+
+      old_at : (j : ℕ) (x : Copy D) → At items j x → (r : Copy D) × At old j r
+      old_at j x f = at_there old j (let h = at_below items j x f in let n = looks.counts.count in let less : j < length old = omega (arith, h, n) in less)
+
+      pub still_open : ((j : ℕ) (r : Copy D) → At old j r → IsOpenCopy r) → (j : ℕ) (x : Copy D) → At items j x → IsOpenCopy x
+      still_open up j x f =
+          let o = old_at j x f in
+          subst (λ (p : Phase). IsOpenPhase p) (sym (ap (λ (z : Copy D). z.phase) (looks.each j o.0 x o.1 f).copy)) (up j o.0 o.1)
+
+      pub still_reached : CanReach DiskTells files old before → CanReach DiskTells files items rows
+      still_reached can = λ tells j x f. let o = old_at j x f in (looks.each j o.0 x o.1 f).reach tells (can tells j o.0 o.1)
+
+      module _ (new : List (Copy D)) (rows' : MapRows P) (at : ℕ) (pair : Pair) (result : Result Unit ReplicaFault) (one : CallsOne at items new)
+          (sights : SightsAt DiskTells files faults Tells pair rows rows' at one.before one.after result) (row : SeesRow pair at rows rows' result) (counts : KeepsCounts faults fuses items new) where
+        -- one more was looked at
+        pub looks_on : Looks old new before rows'
+        looks_on = record {
+          each = λ j r r' e f.
+              let x = mid j r e in
+              looks_more before rows rows' j r x.0 r' (looks.each j r x.0 e x.1) (looks_one DiskTells files Tells faults items new rows rows' at pair result one sights row j x.0 r' x.1 f);
+          width = row.width ∙ looks.width;
+          counts = counts_through faults fuses old items new looks.counts counts;
+        }
+
+        pub seen_on : DiskTells → ((f : ReplicaFault) → result ≡ Err f → (k : ℕ) × (f ≡ fault.Damaged k))
+            → ((j : ℕ) (r : Copy D) (s : Stored) → j < at → At old j r → physical.Stands files r s → PlacesAre Tells before j s → IsSeen (place_in (row_at rows pair) j))
+            → (j : ℕ) (r : Copy D) (s : Stored) → j < at + 1 → At old j r → physical.Stands files r s → PlacesAre Tells before j s → IsSeen (place_in (row_at rows' pair) j)
+        seen_on tells only seen j r s within e stands places = elim (cases_eq j at) [
+          | inl same ↦
+              let x = mid j r e in
+              let now = (looks.each j r x.0 e x.1).stands tells s stands places in
+              let is : x.0 ≡ one.before = at_same items at x.0 one.before (subst (λ n. At items n x.0) same x.1) one.was in
+              subst (λ n. IsSeen (place_in (row_at rows' pair) n)) (sym same)
+              (place_seen DiskTells files Tells faults items new rows rows' at pair result one sights row tells s (subst (λ (z : Copy D). physical.Stands files z s) is now.0) (subst (λ n. PlacesAre Tells rows n s) same now.1) only)
+          | inr apart ↦
+              let less : j < at = omega (arith, within, apart) in
+              subst IsSeen (sym (other_places pair at rows rows' result row j apart pair)) (seen j r s less e stands places)
+        ]
+
+        -- the look that ended an opening
+        pub unseen : (cause : OpenFault) → IsLookFault (faults (one.before).disk) (faults (one.after).disk) cause → IsUnseenAt faults old new (record { replica = at; fault = cause })
+        unseen cause is =
+            let o = old_at at one.before one.was in
+            record {
+              before = o.0;
+              after = one.after;
+              was = o.1;
+              is = one_after at items new one;
+              cause = cause_later cause is;
+            }
+          where
+            cause_later : (f : OpenFault) → IsLookFault (faults (one.before).disk) (faults (one.after).disk) f → IsLookFault (faults (old_at at one.before one.was).0.disk) (faults (one.after).disk) f
+            cause_later (open_fault.Failed printed) h =
+                let o = old_at at one.before one.was in
+                (rose_later (faults (o.0).disk) (faults (one.before).disk) (faults (one.after).disk) (looks.counts.rises at o.0 one.before o.1 one.was) h.0, h.1)
+            cause_later (open_fault.Damaged file place) h = h
+            cause_later open_fault.NoMemory h = tt
+
+-- BEHIND AN OPENING
+
+pub on_ok_now : {T E P : Type 0} (r : Result T E) → P → OnOk r P
+on_ok_now (Ok value) p = p
+on_ok_now (Err error) p = tt
+
+pub on_err_now : {T E P : Type 0} (r : Result T E) → P → OnErr r P
+on_err_now (Ok value) p = tt
+on_err_now (Err error) p = p
+
+pub on_ok_then : {T E P Q : Type 0} (r : Result T E) → (P → Q) → OnOk r P → OnOk r Q
+on_ok_then (Ok value) makes p = makes p
+on_ok_then (Err error) makes p = tt
+
+pub if_err_then : {T E : Type 0} {P Q : E → Type 0} (r : Result T E) → ((error : E) → P error → Q error) → IfErr r P → IfErr r Q
+if_err_then (Ok value) makes p = tt
+if_err_then (Err error) makes p = makes error p
+
+pub disk_looked : {D : Type 0} (files : D → Files) (r x y : Copy D) → KeepsDisk files r x → KeepsBytes (files x.disk) (files y.disk) → KeepsDisk files r y
+disk_looked files r x y was keeps = record {
+  kept = λ some n. (keeps.now n ∙ (was.kept some n).0, keeps.solid n (was.kept some n).1);
+  nothing = λ void image leaves other s opens. was.nothing void image (keeps.leaves image leaves) other s opens;
+}
+
+module _ {D P : Type 0} (DiskTells : Type 0) (files : D → Files) (Tells : Type 0) where
+  pub opens_looked : (rows rows' : MapRows P) (j : ℕ) (r x y : Copy D) → OpensAt DiskTells files Tells rows j r x → LooksAt DiskTells files Tells rows rows' j x y → OpensAt DiskTells files Tells rows' j r y
+  opens_looked rows rows' j r x y opens looks = record {
+    up = subst (λ (p : Phase). HasFrozen false p) (sym (ap (λ (z : Copy D). z.phase) looks.copy)) opens.up;
+    sup = ap (λ (z : Copy D). z.sup) looks.copy ∙ opens.sup;
+    loose = ap (λ (z : Copy D). is_stuck z) looks.copy ∙ opens.loose;
+    alone = ap (λ (z : Copy D). goal_of z) looks.copy ∙ opens.alone;
+    undamaged = opens.undamaged;
+    undamaged_now = λ tells file at. subst (λ (contents : ℕ → List ℕ). IsOpeningDamage r.sup contents file at → ⊥) (sym (fun_ext (λ n. (looks.keeps tells).now n))) (opens.undamaged_now tells file at);
+    opened = λ tells s finds. let was = opens.opened tells s finds in looks.stands tells s was.0 was.1;
+    reopened = λ tells stuck s t holds.
+        let was = opens.reopened tells stuck s t holds in
+        let now = looks.stands tells was.0 was.2 was.3 in
+        (was.0, was.1, now.0, now.1);
+    reach = λ tells. looks.reach tells (opens.reach tells);
+  }
+
+  pub left_looked : (rows rows' : MapRows P) (j : ℕ) (r x y : Copy D) → LeftAt DiskTells files r x → LooksAt DiskTells files Tells rows rows' j x y → LeftAt DiskTells files r y
+  left_looked rows rows' j r x y left looks = record {
+    sup = ap (λ (z : Copy D). z.sup) looks.copy ∙ left.sup;
+    holds = λ tells stuck s t holds. looks.holds tells stuck s t (left.holds tells stuck s t holds);
+  }
+
+  module _ (faults fuses : D → ℕ) (olds mids news : List (Copy D)) (rows rows' : MapRows P) (counts : KeepsCounts faults fuses olds mids) (looked : KeepsCounts faults fuses mids news)
+      (looks : (j : ℕ) (x y : Copy D) → At mids j x → At news j y → LooksAt DiskTells files Tells rows rows' j x y) where
+    mid_of : (j : ℕ) (r : Copy D) → At olds j r → (x : Copy D) × At mids j x
+    mid_of j r e = at_there mids j (let h = at_below olds j r e in let n = counts.count in let less : j < length mids = omega (arith, h, n) in less)
+
+    mid_at : (j : ℕ) (y : Copy D) → At news j y → (x : Copy D) × At mids j x
+    mid_at j y f = at_there mids j (let h = at_below news j y f in let n = looked.count in let less : j < length mids = omega (arith, h, n) in less)
+
+    old_of : (j : ℕ) (x : Copy D) → At mids j x → (r : Copy D) × At olds j r
+    old_of j x f = at_there olds j (let h = at_below mids j x f in let n = counts.count in let less : j < length olds = omega (arith, h, n) in less)
+
+    -- what holds of each replica
+    through : (Q R : ℕ → Copy D → Copy D → Type 0) → ((j : ℕ) (r x y : Copy D) → Q j r x → LooksAt DiskTells files Tells rows rows' j x y → R j r y)
+        → ((j : ℕ) (r x : Copy D) → At olds j r → At mids j x → Q j r x) → (j : ℕ) (r y : Copy D) → At olds j r → At news j y → R j r y
+    through Q R makes each j r y e f = let x = mid_of j r e in makes j r x.0 y (each j r x.0 e x.1) (looks j x.0 y x.1 f)
+
+    pub left_all : ((j : ℕ) (r x : Copy D) → At olds j r → At mids j x → LeftAt DiskTells files r x) → (j : ℕ) (r y : Copy D) → At olds j r → At news j y → LeftAt DiskTells files r y
+    left_all = through (λ j r x. LeftAt DiskTells files r x) (λ j r y. LeftAt DiskTells files r y) (left_looked rows rows')
+
+    pub kept_all : DiskTells → ((j : ℕ) (r x : Copy D) → At olds j r → At mids j x → KeepsDisk files r x) → (j : ℕ) (r y : Copy D) → At olds j r → At news j y → KeepsDisk files r y
+    kept_all tells = through (λ j r x. KeepsDisk files r x) (λ j r y. KeepsDisk files r y) (λ j r x y was l. disk_looked files r x y was (l.keeps tells))
+
+    pub reached_all : CanReach DiskTells files mids rows → CanReach DiskTells files news rows'
+    reached_all can = λ tells j y f. let x = mid_at j y f in (looks j x.0 y x.1 f).reach tells (can tells j x.0 x.1)
+
+    module _ (opened : (j : ℕ) (r x : Copy D) → At olds j r → At mids j x → OpensAt DiskTells files Tells rows j r x) where
+      pub opened_all : (j : ℕ) (r y : Copy D) → At olds j r → At news j y → OpensAt DiskTells files Tells rows' j r y
+      opened_all = through (λ j r x. OpensAt DiskTells files Tells rows j r x) (λ j r y. OpensAt DiskTells files Tells rows' j r y) (opens_looked rows rows') opened
+
+      pub thawed_all : (j : ℕ) (y : Copy D) → At news j y → is_frozen y ≡ false
+      thawed_all j y f =
+          let x = mid_at j y f in
+          let r = old_of j x.0 x.1 in
+          up_thawed y (opened_all j r.0 y r.1 f).up
+
+      -- what is found of a replica has its places there
+      pub found_all : DiskTells → {Q : ℕ → Type 0} → ((j : ℕ) (x : Copy D) (s : Stored) → At mids j x → physical.Stands files x s → PlacesAre Tells rows j s → Q j)
+          → (j : ℕ) (r : Copy D) → At olds j r → (stuck : Bool) (s t : Stored) → physical.Holds files r stuck s t → Q j
+      found_all tells seen j r e stuck s t holds =
+          let x = mid_of j r e in
+          let found = (opened j r x.0 e x.1).reopened tells stuck s t holds in
+          seen j x.0 found.0 x.1 found.2 found.3
+
+      pub refused_all : (refusal : Unopened) → IsUnseenAt faults mids news refusal → IsRefusedAt DiskTells files faults olds news refusal
+      refused_all refusal look =
+          let r = old_of refusal.replica look.before look.was in
+          record {
+            before = r.0;
+            after = look.after;
+            was = r.1;
+            is = look.is;
+            cause = by_fault r.0 look.before look.after refusal.fault (counts.rises refusal.replica r.0 look.before r.1 look.was) look.cause;
+            earlier = λ tells i a b less e f. let o = opened_all i a b e f in (o.undamaged tells, o.undamaged_now tells);
+          }
+        where
+          by_fault : (r x y : Copy D) (f : OpenFault) → faults r.disk ≤ faults x.disk → IsLookFault (faults x.disk) (faults y.disk) f → IsOpenFault DiskTells files faults r y f
+          by_fault r x y (open_fault.Failed printed) low h = (rose_later (faults r.disk) (faults x.disk) (faults y.disk) low h.0, h.1)
+          by_fault r x y (open_fault.Damaged file at) low h = absurd h
+          by_fault r x y open_fault.NoMemory low h = tt
+
+pub opened_open : {D P : Type 0} (DiskTells : Type 0) (files : D → Files) (Tells : Type 0) (olds mids : List (Copy D)) (rows : MapRows P) → length mids ≡ length olds
+    → ((j : ℕ) (r x : Copy D) → At olds j r → At mids j x → OpensAt DiskTells files Tells rows j r x) → (j : ℕ) (x : Copy D) → At mids j x → IsOpenCopy x
+opened_open DiskTells files Tells olds mids rows count opened j x f =
+    let r = at_there olds j (let h = at_below mids j x f in let less : j < length olds = omega (arith, h, count) in less) in
+    up_open x (opened j r.0 x r.1 f).up
