@@ -1,6 +1,6 @@
 -- Arms that are sure stay so, and no reply blames them.
-use Rattle.std.proofs.Common.{◌≡◌, ℕ, zero, suc, ◌+◌, Bool, List, [], ◌∷◌, length, map, Some, refl, sym, subst, ◌∙◌, inl, inr, arith}
-use Rattle.std.proofs.lemmas.List.{get_or_past}
+use Rattle.std.proofs.Common.{◌≡◌, ℕ, zero, suc, ◌+◌, true, Bool, List, [], ◌∷◌, ◌++◌, length, take, map, Some, refl, sym, ap, subst, ◌∙◌, inl, inr, arith}
+use Rattle.std.proofs.lemmas.List.{get_or_past, take-append-drop}
 use Rattle.std.specs.Prelude.{slice_get, slice_index, slice_set}
 use Rattle.std.specs.List.{AllByRecursion}
 use Rattle.hay_disk.specs.Counts.{StaysSure}
@@ -10,13 +10,13 @@ use Rattle.hay_reply.specs.declared.Cause.TheVariants.{Arm, Disk, Damage}
 use Rattle.hay_reply.specs.declared.Passed.{Passed}
 use Rattle.hay_reply.specs.declared.Reply.{Reply}
 use Rattle.hay_reply.specs.declared.Reply.TheVariants as reply
-use Rattle.hay_reader.specs.Causes.{IsDamage}
+use Rattle.hay_reader.specs.Causes.{IsDamage, passed_now}
 use Rattle.hay_reader.specs.Shown.{NoArm}
 use Rattle.hay_reader.specs.declared.causes.PassedReplica.{PassedReplica}
 use Rattle.hay_reader.specs.declared.seat.ReadReply.{ReadReply}
 use Rattle.hay_reader.specs.declared.seat.ReadReply.TheVariants as read
 use Rattle.hay_cluster.specs.Causes.{BlamesNoArm, CauseCameUp, Counts, IsCaused, IsNoArm, PassedOver, StaySure}
-use Rattle.hay_cluster.specs.Reads.{PassesNoArm, passed_at}
+use Rattle.hay_cluster.specs.Reads.{PassesNoArm, ReadNoArm, passed_at}
 
 -- THE ARMS
 
@@ -41,22 +41,51 @@ module _ {A : Type 0} (is_sure : A → Bool) (faults : A → ℕ) where
   pub used_sure : (old xs : List A) (i : ℕ) (x x' : A) → xs ≡ old → slice_get xs i ≡ Some x → Stays x x' → StaySure is_sure faults old (slice_set xs i x')
   used_sure old xs i x x' same at stays = subst (λ (ys : List A). StaySure is_sure faults ys (slice_set xs i x')) same (set_sure xs i x x' at stays)
 
+  -- what holds of an arm holds of the one that it became
+  pub sure_on : (xs ys : List A) (i : ℕ) (x : A) → StaySure is_sure faults xs ys → slice_get xs i ≡ Some x → is_sure x ≡ true → (y : A) × (slice_get ys i ≡ Some y) × (is_sure y ≡ true)
+  sure_on [] ys i x stay at sure = absurd cc
+  sure_on (z ∷ xs) [] i x stay at sure = absurd stay
+  sure_on (z ∷ xs) (y ∷ ys) zero x stay at sure = let same : z ≡ x = cc in (y, refl, (stay.0 (ap is_sure same ∙ sure)).0)
+  sure_on (z ∷ xs) (y ∷ ys) (suc i) x stay at sure = sure_on xs ys i x stay.1 at sure
+
+  pub sure_trans : (xs ys zs : List A) → StaySure is_sure faults xs ys → StaySure is_sure faults ys zs → StaySure is_sure faults xs zs
+  sure_trans [] [] [] first second = tt
+  sure_trans [] [] (z ∷ zs) first second = absurd second
+  sure_trans [] (y ∷ ys) zs first second = absurd first
+  sure_trans (x ∷ xs) [] zs first second = absurd first
+  sure_trans (x ∷ xs) (y ∷ ys) [] first second = absurd second
+  sure_trans (x ∷ xs) (y ∷ ys) (z ∷ zs) first second = (λ sure. go sure, sure_trans xs ys zs first.1 second.1)
+    where
+      go : is_sure x ≡ true → (is_sure z ≡ true) × (faults z ≡ faults x)
+      go sure = let one = first.0 sure in let two = second.0 one.0 in (two.0, two.1 ∙ one.1)
+
 -- WHAT A READ TELLS
 
-pub no_arm_passed : (r : ReadReply) → NoArm r → PassesNoArm r
-no_arm_passed (read.Photo j) none = tt
-no_arm_passed (read.Gone j) none = tt
-no_arm_passed (read.WrongCookie j) none = tt
-no_arm_passed (read.Unreadable causes) none = go causes none
+no_arm : (over : List PassedReplica) → AllByRecursion (λ p. IsDamage p.cause) over → PassesNoArm over
+no_arm [] all = tt
+no_arm (p ∷ over) all = (one p.cause all.0, no_arm over all.1)
   where
     one : (cause : Cause) → IsDamage cause → IsNoArm cause
     one (Arm f) damage = absurd damage
     one (Disk f) damage = tt
     one (Damage at) damage = tt
 
-    go : (over : List PassedReplica) → AllByRecursion (λ p. IsDamage p.cause) over → AllByRecursion (λ p. IsNoArm p.cause) over
-    go [] all = tt
-    go (p ∷ over) all = (one p.cause all.0, go over all.1)
+pub read_no_arm : (passed : List PassedReplica) (r : ReadReply) → NoArm passed r → ReadNoArm passed r
+read_no_arm passed (read.Photo j) none = tt
+read_no_arm passed (read.Gone j) none = tt
+read_no_arm passed (read.WrongCookie j) none = tt
+read_no_arm passed (read.Unseen j causes) none = no_arm (passed_now passed causes) none
+read_no_arm passed (read.Unreadable causes) none = no_arm (passed_now passed causes) none
+
+no_arm_append : (xs ys : List PassedReplica) → PassesNoArm xs → PassesNoArm ys → PassesNoArm (xs ++ ys)
+no_arm_append [] ys first rest = rest
+no_arm_append (p ∷ xs) ys first rest = (first.0, no_arm_append xs ys first.1 rest)
+
+-- neither those that were passed over before, nor the others
+pub no_arm_on : (passed causes : List PassedReplica) → take (length passed) causes ≡ passed → PassesNoArm passed → PassesNoArm (passed_now passed causes) → PassesNoArm causes
+no_arm_on passed causes begins first rest =
+    subst (λ (ps : List PassedReplica). PassesNoArm ps) (take-append-drop (length passed) causes)
+    (subst (λ (ps : List PassedReplica). PassesNoArm (ps ++ passed_now passed causes)) (sym begins) (no_arm_append passed (passed_now passed causes) first rest))
 
 told_each : (settings : Settings) (v : ℕ) (over : List PassedReplica) → AllByRecursion (λ p. IsNoArm p.cause) over → AllByRecursion (λ passed. IsNoArm passed.cause) (map (passed_at settings v) over)
 told_each settings v [] all = tt

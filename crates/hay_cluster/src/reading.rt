@@ -1,14 +1,14 @@
 //! Reads, and gets by URL.
-ghost use Rattle.std.specs.Prelude.{◌≡◌, ◌≤◌, ◌<◌, ℕ, true, List, [], Some, length, map, slice_get, slice_index, IfOk};
+ghost use Rattle.std.specs.Prelude.{◌≡◌, ◌⊎◌, ◌≤◌, ◌<◌, ◌+◌, ◌%◌, ◌^◌, ℕ, true, List, [], Some, Err, length, map, slice_get, slice_index, IfOk, IfErr, OnOk};
 ghost use Rattle.hay_script.specs.declared.Command.TheVariants as asks;
 ghost use Rattle.hay_legal.specs.declared.known.Known.{Known};
 ghost use Rattle.std.specs.Vec.{vec_capacity};
-ghost use Rattle.hay_map.specs.declared.place.Place.{Place};
-ghost use Rattle.hay_reader.specs.Shown.{ReadAnswers, HasCauses};
-ghost use Rattle.hay_legal.specs.Known.{NoneFalls, home_of, volume_at};
+ghost use Rattle.hay_reader.specs.Causes.{ComeFirst, passed_now};
+ghost use Rattle.hay_reader.specs.Shown.{HasBytes};
+ghost use Rattle.hay_legal.specs.Known.{NoneFalls, home_of, slot_of, volume_at};
 ghost use Rattle.hay_legal.specs.Plain.{start_of};
 ghost use Rattle.hay_cluster.specs.Causes.{BlamesNoArm, IsCaused, StaySure};
-ghost use Rattle.hay_cluster.specs.Reads.{PassesNoArm, ShownAs, ShowsIn, outcomes_of, passed_at};
+ghost use Rattle.hay_cluster.specs.Reads.{CannotSee, FoundNoArm, FoundPasses, FoundSays, IsFoundAs, IsSeenAt, IsSightCause, IsSightFault, IsWhole, PassesFrom, PassesNoArm, ReadNoArm, ReadPasses, ReadSays, ShownAs, ShowsIn, StopsUnseen, counts_of, outcomes_of, passed_at};
 ghost use Rattle.hay_cluster.specs.Parts.{Comes};
 ghost use Rattle.hay_cluster.specs.State.{Answered, Stands};
 ghost use Rattle.hay_cluster.specs.Store.{IsBuilt, IsUp, disks_of};
@@ -20,12 +20,31 @@ use hay_base::{Listed, NoMemory};
 use hay_core::CoreTag;
 use hay_directory::machine_of;
 use hay_disk::{Arm, Disk};
-use hay_logical::Looked;
+use hay_logical::{LogicalFault, Looked};
 use hay_needle::{Bytes, Cookie, MAX_PHOTO, Pair, Settings};
-use hay_reader::{PassedReplica, ReadReply};
-use hay_reply::{Passed, Reply};
+use hay_reader::{Causes, PassedReplica, ReadReply};
+use hay_reply::{Cause, Passed, Reply};
 use hay_url::Url;
 use std::alloc::Global;
+
+/// What a read found, once each place that it came to was seen. A replica is named by its number in the volume.
+#[derive(Drop)]
+pub enum Found {
+    Photo {
+        replica: u32,
+    },
+    Gone {
+        replica: u32,
+    },
+    WrongCookie {
+        replica: u32,
+    },
+    /// Every replica was passed over.
+    Unreadable {
+        causes: Causes,
+    },
+    NoMemory,
+}
 
 impl<D: Disk, A: Arm<D::Piece>> Cluster<D, A> {
     /// The replica from which a line reads first.
@@ -127,28 +146,29 @@ impl<D: Disk, A: Arm<D::Piece>> Cluster<D, A> {
             return Reply::NoMem;
         };
         let rows = self.rows();
-        let (front, read) = self.fetch(tag.lane, volume, pair, cookie, start, &mut photo);
-        match read {
-            ReadReply::Photo { replica } => Reply::Photo {
+        let (front, found) =
+            self.fetch(alloc, tag.lane, volume, pair, cookie, start, &mut photo);
+        match found {
+            Found::Photo { replica } => Reply::Photo {
                 volume,
                 machine: machine_of(&self.settings, volume, replica),
                 front,
                 rows,
                 photo: Bytes::from_vec(photo),
             },
-            ReadReply::Gone { replica } => Reply::Gone {
+            Found::Gone { replica } => Reply::Gone {
                 volume,
                 machine: machine_of(&self.settings, volume, replica),
                 front,
                 rows,
             },
-            ReadReply::WrongCookie { replica } => Reply::WrongCookie {
+            Found::WrongCookie { replica } => Reply::WrongCookie {
                 volume,
                 machine: machine_of(&self.settings, volume, replica),
                 front,
                 rows,
             },
-            ReadReply::Unreadable { causes } => {
+            Found::Unreadable { causes } => {
                 match passed_of(alloc, &self.settings, volume, causes.as_slice()) {
                     Ok(causes) => Reply::Unreadable {
                         volume,
@@ -159,12 +179,57 @@ impl<D: Disk, A: Arm<D::Piece>> Cluster<D, A> {
                     Err(NoMemory) => Reply::NoMem,
                 }
             }
+            Found::NoMemory => Reply::NoMem,
         }
     }
 
-    // Reads the photo of a pair in a volume, from this replica on, with a lane's arm. Answers how many changes the volume
-    // had, and what was read.
+    // Reads the photo of a pair in a volume, from this replica on, with a lane's arm. A place that was not looked at yet is seen
+    // where the read comes to it. Answers how many changes the volume had, and what was found.
     fn fetch(
+        &mut self,
+        alloc: Global,
+        lane: u32,
+        volume: u32,
+        pair: Pair,
+        cookie: Cookie,
+        start: u32,
+        photo: &mut Vec<u8>,
+    ) -> (u64, Found)
+        requires lane { lane < 8 }
+        requires volume { volume < self.old.settings.volumes }
+        requires start { start < self.old.settings.replicas }
+        requires empty { photo.old.items ≡ [] }
+        requires room { MAX_PHOTO ≤ vec_capacity photo.old }
+        requires up { IsUp self.old }
+        ensures says { D.Tells → (k : Known) → Stands D.files D.Piece.Tells D.fault_count D.fuse_count A.fault_count self.old k →
+            (result.0 ≡ length (volume_at k volume).log)
+            × FoundSays cookie (outcomes_of self.old.settings (volume_at k volume) pair) photo.new.items result.1
+            × Comes D.files D.Piece.Tells D.fault_count D.fuse_count A.fault_count k k self.new }
+        ensures passes { FoundPasses (IsWhole D.Tells D.files D.Piece.Tells D.fault_count D.fuse_count A.fault_count self.old) self.old.settings lane volume start
+            (counts_of D.fault_count A.fault_count self.old) (counts_of D.fault_count A.fault_count self.new) result.1 }
+        ensures sure { (arm : A) → slice_get self.old.arms lane ≡ Some arm → A.is_sure arm ≡ true → FoundNoArm result.1 }
+        ensures sure_arms { StaySure A.is_sure A.fault_count self.old.arms self.new.arms }
+        ensures counts { NoneFalls (map D.fault_count (disks_of self.old)) (map D.fault_count (disks_of self.new)) }
+        ensures fuses { map D.fuse_count (disks_of self.new) ≡ map D.fuse_count (disks_of self.old) }
+        ensures arm_counts { NoneFalls (map A.fault_count self.old.arms) (map A.fault_count self.new.arms) }
+        ensures settings { self.new.settings ≡ self.old.settings }
+        ensures up { IsUp self.new }
+    {
+        let (front, mut read) = self.read_first(lane, volume, pair, cookie, start, photo);
+        for _ in 0..self.settings.replicas {
+            let ReadReply::Unseen { replica, causes } = read else {
+                break;
+            };
+            let Ok(passed) = self.see_or_pass(alloc, volume, pair, replica, causes) else {
+                return (front, Found::NoMemory);
+            };
+            read = self.read_more(lane, volume, pair, cookie, start, passed, photo);
+        }
+        (front, found_of(read))
+    }
+
+    // Begins a read. Answers how many changes the volume had, and what was read until a place that was not looked at yet.
+    fn read_first(
         &mut self,
         lane: u32,
         volume: u32,
@@ -179,14 +244,15 @@ impl<D: Disk, A: Arm<D::Piece>> Cluster<D, A> {
         requires empty { photo.old.items ≡ [] }
         requires room { MAX_PHOTO ≤ vec_capacity photo.old }
         requires up { IsUp self.old }
-        ensures read { D.Tells → (k : Known) → Stands D.files D.Piece.Tells D.fault_count D.fuse_count A.fault_count self.old k →
+        ensures says { D.Tells → (k : Known) → Stands D.files D.Piece.Tells D.fault_count D.fuse_count A.fault_count self.old k →
             (result.0 ≡ length (volume_at k volume).log)
-            × ReadAnswers start cookie (slice_index (map A.fault_count self.old.arms) lane) (slice_index (map A.fault_count self.new.arms) lane)
-            (outcomes_of self.old.settings (volume_at k volume) pair) photo.new.items result.1
+            × ReadSays cookie (outcomes_of self.old.settings (volume_at k volume) pair) photo.new.items result.1
             × Comes D.files D.Piece.Tells D.fault_count D.fuse_count A.fault_count k k self.new }
-        ensures causes { (row : List (Place D.Piece)) × (length row ≡ self.old.settings.replicas)
-            × HasCauses start row (slice_index (map A.fault_count self.old.arms) lane) (slice_index (map A.fault_count self.new.arms) lane) result.1 }
-        ensures sure { (arm : A) → slice_get self.old.arms lane ≡ Some arm → A.is_sure arm ≡ true → PassesNoArm result.1 }
+        ensures passes { ReadPasses (IsWhole D.Tells D.files D.Piece.Tells D.fault_count D.fuse_count A.fault_count self.old) self.old.settings lane volume start
+            (counts_of D.fault_count A.fault_count self.old) (counts_of D.fault_count A.fault_count self.new) [] result.1 }
+        ensures sure { (arm : A) → slice_get self.old.arms lane ≡ Some arm → A.is_sure arm ≡ true → ReadNoArm [] result.1 }
+        ensures bytes { HasBytes photo.new.items result.1 }
+        ensures room { vec_capacity photo.old ≤ vec_capacity photo.new }
         ensures sure_arms { StaySure A.is_sure A.fault_count self.old.arms self.new.arms }
         ensures disks { disks_of self.new ≡ disks_of self.old }
         ensures arm_counts { NoneFalls (map A.fault_count self.old.arms) (map A.fault_count self.new.arms) }
@@ -201,6 +267,151 @@ impl<D: Disk, A: Arm<D::Piece>> Cluster<D, A> {
             photo,
         );
         (front, read)
+    }
+
+    // Goes on with a read behind the replicas that were passed over.
+    fn read_more(
+        &mut self,
+        lane: u32,
+        volume: u32,
+        pair: Pair,
+        cookie: Cookie,
+        start: u32,
+        passed: Causes,
+        photo: &mut Vec<u8>,
+    ) -> ReadReply
+        requires lane { lane < 8 }
+        requires volume { volume < self.old.settings.volumes }
+        requires start { start < self.old.settings.replicas }
+        requires first { ComeFirst start self.old.settings.replicas passed }
+        requires fewer { length passed ≤ self.old.settings.replicas }
+        requires empty { photo.old.items ≡ [] }
+        requires room { MAX_PHOTO ≤ vec_capacity photo.old }
+        requires up { IsUp self.old }
+        ensures says { D.Tells → (k : Known) → Stands D.files D.Piece.Tells D.fault_count D.fuse_count A.fault_count self.old k →
+            ReadSays cookie (outcomes_of self.old.settings (volume_at k volume) pair) photo.new.items result
+            × Comes D.files D.Piece.Tells D.fault_count D.fuse_count A.fault_count k k self.new }
+        ensures passes { ReadPasses (IsWhole D.Tells D.files D.Piece.Tells D.fault_count D.fuse_count A.fault_count self.old) self.old.settings lane volume start
+            (counts_of D.fault_count A.fault_count self.old) (counts_of D.fault_count A.fault_count self.new) passed result }
+        ensures stops { StopsUnseen self.old volume pair result }
+        ensures sure { (arm : A) → slice_get self.old.arms lane ≡ Some arm → A.is_sure arm ≡ true → ReadNoArm passed result }
+        ensures most { (slice_index (map A.fault_count self.new.arms) lane ≡ slice_index (map A.fault_count self.old.arms) lane)
+            ⊎ (slice_index (map A.fault_count self.new.arms) lane < 2 ^ 64) }
+        ensures bytes { HasBytes photo.new.items result }
+        ensures room { vec_capacity photo.old ≤ vec_capacity photo.new }
+        ensures sure_arms { StaySure A.is_sure A.fault_count self.old.arms self.new.arms }
+        ensures disks { disks_of self.new ≡ disks_of self.old }
+        ensures arm_counts { NoneFalls (map A.fault_count self.old.arms) (map A.fault_count self.new.arms) }
+        ensures settings { self.new.settings ≡ self.old.settings }
+        ensures up { IsUp self.new }
+    {
+        let Looked { front: _, row } = self.volumes.as_slice()[volume as usize].look(pair);
+        self.seats.as_mut_slice()[lane as usize].show_more(
+            &row,
+            cookie,
+            start as usize,
+            passed,
+            photo,
+        )
+    }
+
+    // Sees the place of a pair on the replica at which a read stopped, or passes the replica over.
+    fn see_or_pass(
+        &mut self,
+        alloc: Global,
+        volume: u32,
+        pair: Pair,
+        replica: u32,
+        causes: Causes,
+    ) -> Result<Causes, NoMemory>
+        requires volume { volume < self.old.settings.volumes }
+        requires replica { replica < self.old.settings.replicas }
+        requires few { length causes < 4 }
+        requires up { IsUp self.old }
+        ensures stands { D.Tells → (k : Known) → Stands D.files D.Piece.Tells D.fault_count D.fuse_count A.fault_count self.old k →
+            Comes D.files D.Piece.Tells D.fault_count D.fuse_count A.fault_count k k self.new }
+        ensures passes { (lane start : ℕ) → ComeFirst start self.old.settings.replicas causes → replica ≡ (start + length causes) % self.old.settings.replicas →
+            IfOk result (PassesFrom (IsWhole D.Tells D.files D.Piece.Tells D.fault_count D.fuse_count A.fault_count self.old) self.old.settings lane volume start
+            (counts_of D.fault_count A.fault_count self.old) (counts_of D.fault_count A.fault_count self.new) causes) }
+        ensures on { IfOk result (λ passed. (length passed ≡ length causes + 1) ⊎ ((length passed ≡ length causes) × IsSeenAt self.new volume pair replica)) }
+        ensures no_arm { IfOk result (λ passed. PassesNoArm (passed_now causes passed)) }
+        ensures others { (j : ℕ) → j < self.old.settings.replicas → (j ≡ replica → ⊥) →
+            slice_index (map D.fault_count (disks_of self.new)) (slot_of self.old.settings volume j) ≡ slice_index (map D.fault_count (disks_of self.old)) (slot_of self.old.settings volume j) }
+        ensures counts { NoneFalls (map D.fault_count (disks_of self.old)) (map D.fault_count (disks_of self.new)) }
+        ensures fuses { map D.fuse_count (disks_of self.new) ≡ map D.fuse_count (disks_of self.old) }
+        ensures arms { self.new.arms ≡ self.old.arms }
+        ensures settings { self.new.settings ≡ self.old.settings }
+        ensures up { IsUp self.new }
+    {
+        let mut passed = causes;
+        let mut needle = Vec::new(alloc);
+        if let Err(fault) = self.see_in(volume, replica, pair, &mut needle) {
+            let cause = cause_of(fault)?;
+            passed.push(PassedReplica { replica, cause });
+        }
+        Ok(passed)
+    }
+
+    // Sees the place of a pair on a replica of a volume.
+    fn see_in(
+        &mut self,
+        volume: u32,
+        replica: u32,
+        pair: Pair,
+        out: &mut Vec<u8>,
+    ) -> Result<(), LogicalFault>
+        requires volume { volume < self.old.settings.volumes }
+        requires replica { replica < self.old.settings.replicas }
+        requires up { IsUp self.old }
+        ensures stands { D.Tells → (k : Known) → Stands D.files D.Piece.Tells D.fault_count D.fuse_count A.fault_count self.old k →
+            Comes D.files D.Piece.Tells D.fault_count D.fuse_count A.fault_count k k self.new }
+        ensures undamaged { IsWhole D.Tells D.files D.Piece.Tells D.fault_count D.fuse_count A.fault_count self.old → (m at : ℕ) → result ≡ Err (LogicalFault.Damaged m at) → ⊥ }
+        ensures seen { OnOk result (IsSeenAt self.new volume pair replica) }
+        ensures causes { IfErr result (IsSightFault (slot_of self.old.settings volume replica) (map D.fault_count (disks_of self.old)) (map D.fault_count (disks_of self.new))) }
+        ensures others { (j : ℕ) → j < self.old.settings.replicas → (j ≡ replica → ⊥) →
+            slice_index (map D.fault_count (disks_of self.new)) (slot_of self.old.settings volume j) ≡ slice_index (map D.fault_count (disks_of self.old)) (slot_of self.old.settings volume j) }
+        ensures counts { NoneFalls (map D.fault_count (disks_of self.old)) (map D.fault_count (disks_of self.new)) }
+        ensures fuses { map D.fuse_count (disks_of self.new) ≡ map D.fuse_count (disks_of self.old) }
+        ensures arms { self.new.arms ≡ self.old.arms }
+        ensures settings { self.new.settings ≡ self.old.settings }
+        ensures up { IsUp self.new }
+    {
+        match self.volumes.as_mut_slice()[volume as usize].see(replica, pair, out) {
+            Ok(_) => Ok(()),
+            Err(fault) => Err(fault),
+        }
+    }
+}
+
+// What was found by a read that did not stop at a place.
+fn found_of(read: ReadReply) -> Found
+    requires { (replica : ℕ) (causes : List PassedReplica) → read ≡ ReadReply.Unseen replica causes → ⊥ }
+    ensures { IsFoundAs read result }
+{
+    match read {
+        ReadReply::Photo { replica } => Found::Photo { replica },
+        ReadReply::Gone { replica } => Found::Gone { replica },
+        ReadReply::WrongCookie { replica } => Found::WrongCookie { replica },
+        ReadReply::Unreadable { causes } => Found::Unreadable { causes },
+        ReadReply::Unseen { .. } => unreachable!(),
+    }
+}
+
+// Why a replica is passed over whose place could not be seen.
+fn cause_of(fault: LogicalFault) -> Result<Cause, NoMemory>
+    requires { CannotSee fault }
+    ensures { IfOk result (IsSightCause fault) }
+{
+    match fault {
+        LogicalFault::Failed { machine: _, faults } => Ok(Cause::Disk { faults }),
+        LogicalFault::Damaged { machine: _, at } => Ok(Cause::Damage { at }),
+        LogicalFault::NoMemory => Err(NoMemory),
+        LogicalFault::ReadOnly { .. }
+        | LogicalFault::Full { .. }
+        | LogicalFault::Gone { .. }
+        | LogicalFault::Busy { .. }
+        | LogicalFault::Worn { .. }
+        | LogicalFault::Idle => unreachable!(),
     }
 }
 

@@ -1,25 +1,26 @@
-use Rattle.std.proofs.Common.{◌≡◌, ◌<◌, List, length, map, sym, ap, subst, ◌∙◌, arith}
+use Rattle.std.proofs.Common.{◌≡◌, ◌<◌, ◌≤◌, ◌⊎◌, ◌^◌, List, [], length, map, sym, ap, subst, ◌∙◌, arith}
 use Rattle.std.specs.Prelude.{slice_get, slice_index_or, slice_set}
 use Rattle.std.proofs.lemmas.Option.{same_Some}
 use Rattle.std.proofs.lemmas.List.{with_items_is}
 use borrow.Author.Rules.{scaled_Fits}
 use Rattle.hay_needle.specs.declared.settings.Settings.{Settings}
-use Rattle.hay_map.specs.Places.{PlaceMeans}
 use Rattle.hay_legal.specs.Known.{NoneFalls, volume_at}
 use Rattle.hay_logical.specs.Fits.{At}
 use Rattle.hay_logical.specs.Volumes.{Volume}
 use Rattle.hay_logical.proofs.Lists.{at_read}
-use Rattle.hay_reader.specs.Shown.{ReadAnswers, HasCauses}
-use Rattle.hay_reader.proofs.Outcomes.{answers_row, has_causes}
-use Rattle.hay_cluster.specs.Reads.{outcomes_of}
+use Rattle.hay_reader.specs.Causes.{ComeFirst}
+use Rattle.hay_reader.specs.Shown.{ReadsRow}
+use Rattle.hay_reader.proofs.Outcomes.{answers_row}
+use Rattle.hay_cluster.specs.Causes.{Counts}
+use Rattle.hay_cluster.specs.Reads.{IsWhole, counts_of, outcomes_of}
 use Rattle.hay_cluster.specs.State.{Stands}
 use Rattle.hay_cluster.specs.Store.{IsUp, Open, disks_of}
 use Rattle.hay_cluster.proofs.Rooms.{begin_room, item_room, looked_room, places_room, row_room}
 use Rattle.hay_cluster.proofs.Lists.{length-set}
 use Rattle.hay_cluster.proofs.Moves.{volume_of, volume_stood}
-use Rattle.hay_cluster.proofs.Showing.{counts_at, later_set, row_means, seat_comes}
-use Rattle.hay_cluster.proofs.Sure.{no_arm_passed, used_sure}
-use Rattle.hay_cluster.proofs.cluster.Cluster.fetch.Goals as goal
+use Rattle.hay_cluster.proofs.Showing.{answers_say, counts_at, later_set, row_may_mean, row_read, row_stops, seat_comes}
+use Rattle.hay_cluster.proofs.Sure.{read_no_arm, used_sure}
+use Rattle.hay_cluster.proofs.cluster.Cluster.read_first.Goals as goal
 
 pub offset_bounds-as_slice-volume : goal.offset_bounds-as_slice-volume
 offset_bounds-as_slice-volume g c =
@@ -55,8 +56,8 @@ show-read-requires-after_bounds g c = λ κs lives.
     let start : c.args.start < length c.look-front.result.row = let row = c.look-front.ensures.long ∙ ap (λ (s : Settings). s.replicas) same in omega (arith, c.requires.start, row) in
     (row_room _ _ (begin_room _ _ _ room), (start, (c.requires.empty, c.requires.room)))
 
-pub returns-clause-read : goal.returns-clause-read
-returns-clause-read g c = λ tells k stands.
+pub returns-clause-says : goal.returns-clause-says
+returns-clause-says g c = λ tells k stands.
     let store : Open g.row.D.Denot g.row.D-Piece.Denot g.row.A.Denot = record { settings = c.self.inside.settings; directory = c.self.inside.directory; volumes = c.self.inside.volumes.items; arms = c.self.inside.seats.items } in
     let within : c.args.volume < length c.self.inside.volumes.items = let same = ap (λ (st : Open g.row.D.Denot g.row.D-Piece.Denot g.row.A.Denot). (st.settings).volumes) c.self.view_is in omega (arith, c.requires.volume, c.self.invariant.many, same) in
     let volume = c.index-as_slice-volume.result in
@@ -73,19 +74,16 @@ returns-clause-read g c = λ tells k stands.
     ∙ ap (λ (xs : List (g.row.A.Denot)). slice_set xs c.args.lane c.show-read.new.self) c.as_mut_slice.ensures.value in
     let here = subst (λ (st : Open g.row.D.Denot g.row.D-Piece.Denot g.row.A.Denot). Stands g.D.Disk.files g.D.Piece.Piece.Tells g.D.Disk.fault_count g.D.Disk.fuse_count g.A.Arm.fault_count st k) (sym c.self.view_is) stands in
     let known = c.look-front.ensures.known tells (volume_at k c.args.volume) (volume_stood g.D.Disk.files g.D.Piece.Piece.Tells g.D.Disk.fault_count g.D.Disk.fuse_count g.A.Arm.fault_count store k c.args.volume volume here at) in
-    let means = row_means (PlaceMeans g.D.Piece.Piece.Tells c.args.pair) c.look-front.result.row (c.args.self.now).settings (volume_at k c.args.volume) c.args.pair
-    (c.look-front.ensures.long ∙ ap (λ (s : Settings). s.replicas) same)
-    (λ j below. known.1 j (subst (λ (s : Settings). j < s.replicas) (sym same) below)) in
-    rw items (
-      known.0,
-      counts_at g.A.Arm.fault_count (λ before after. ReadAnswers c.args.start c.args.cookie before after (outcomes_of (c.args.self.now).settings (volume_at k c.args.volume) c.args.pair) c.show-read.new.out.items c.show-read.result)
-          (c.args.self.now).arms store.arms c.args.lane arm c.show-read.new.self (ap (λ (st : Open g.row.D.Denot g.row.D-Piece.Denot g.row.A.Denot). st.arms) c.self.view_is) seat
-          (answers_row g.D.Piece.Piece.Tells (record { sure = g.A.Arm.is_sure arm; before = g.A.Arm.fault_count arm; after = g.A.Arm.fault_count c.show-read.new.self }) c.args.start c.look-front.result.row c.args.cookie c.show-read.new.out.items c.show-read.result c.args.pair _ c.show-read.ensures.later means c.show-read.ensures.reads),
-      seat_comes g.D.Disk.files g.D.Piece.Piece.Tells g.D.Disk.fault_count g.D.Disk.fuse_count g.A.Arm.fault_count c.args.self.now store k c.args.lane arm c.show-read.new.self c.self.view_is stands seat c.show-read.ensures.later,
-    )
+    let long = c.look-front.ensures.long ∙ ap (λ (s : Settings). s.replicas) same in
+    let all = was.all ∙ ap (λ (s : Settings). s.replicas) same in
+    let means = row_may_mean g.D.Disk.files g.D.Piece.Piece.Tells volume.replicas c.look-front.result.row (c.args.self.now).settings (volume_at k c.args.volume) c.args.pair long all known.1 in
+    let says = answers_say c.args.start (g.A.Arm.fault_count arm) (g.A.Arm.fault_count c.show-read.new.self) c.args.cookie [] (outcomes_of (c.args.self.now).settings (volume_at k c.args.volume) c.args.pair) c.show-read.new.out.items c.show-read.result
+    (answers_row g.D.Piece.Piece.Tells (record { sure = g.A.Arm.is_sure arm; before = g.A.Arm.fault_count arm; after = g.A.Arm.fault_count c.show-read.new.self }) c.args.start c.look-front.result.row c.args.cookie [] c.show-read.new.out.items c.show-read.result c.args.pair _ c.show-read.ensures.later means c.show-read.ensures.reads) in
+    let comes = seat_comes g.D.Disk.files g.D.Piece.Piece.Tells g.D.Disk.fault_count g.D.Disk.fuse_count g.A.Arm.fault_count c.args.self.now store k c.args.lane arm c.show-read.new.self c.self.view_is stands seat c.show-read.ensures.later in
+    rw items (known.0, (says, comes))
 
-pub returns-clause-causes : goal.returns-clause-causes
-returns-clause-causes g c =
+pub returns-clause-passes : goal.returns-clause-passes
+returns-clause-passes g c =
     let store : Open g.row.D.Denot g.row.D-Piece.Denot g.row.A.Denot = record { settings = c.self.inside.settings; directory = c.self.inside.directory; volumes = c.self.inside.volumes.items; arms = c.self.inside.seats.items } in
     let within : c.args.volume < length c.self.inside.volumes.items = let same = ap (λ (st : Open g.row.D.Denot g.row.D-Piece.Denot g.row.A.Denot). (st.settings).volumes) c.self.view_is in omega (arith, c.requires.volume, c.self.invariant.many, same) in
     let volume = c.index-as_slice-volume.result in
@@ -100,13 +98,19 @@ returns-clause-causes g c =
     (at_read c.as_mut_slice.result.now c.args.lane c.index-as_mut_slice-lane.result (let long = ap length c.as_mut_slice.ensures.value in omega (arith, inside, long))) in
     let items = with_items_is c.self.inside.seats (slice_set c.as_mut_slice.result.now c.args.lane c.show-read.new.self) (length-set c.as_mut_slice.result.now c.args.lane c.show-read.new.self ∙ c.as_mut_slice.ensures.len)
     ∙ ap (λ (xs : List (g.row.A.Denot)). slice_set xs c.args.lane c.show-read.new.self) c.as_mut_slice.ensures.value in
-    rw items (
-      c.look-front.result.row,
-      c.look-front.ensures.long ∙ ap (λ (s : Settings). s.replicas) same,
-      counts_at g.A.Arm.fault_count (λ before after. HasCauses c.args.start c.look-front.result.row before after c.show-read.result)
-          (c.args.self.now).arms store.arms c.args.lane arm c.show-read.new.self (ap (λ (st : Open g.row.D.Denot g.row.D-Piece.Denot g.row.A.Denot). st.arms) c.self.view_is) seat
-          (has_causes g.D.Piece.Piece.Tells (record { sure = g.A.Arm.is_sure arm; before = g.A.Arm.fault_count arm; after = g.A.Arm.fault_count c.show-read.new.self }) c.args.start c.look-front.result.row c.args.cookie c.show-read.new.out.items c.show-read.result c.show-read.ensures.reads),
-    )
+    let long = c.look-front.ensures.long ∙ ap (λ (s : Settings). s.replicas) same in
+    let reads = counts_at g.A.Arm.fault_count (λ before after. ReadsRow g.D.Piece.Piece.Tells (record { sure = g.A.Arm.is_sure arm; before = before; after = after }) c.args.start c.look-front.result.row c.args.cookie [] c.show-read.new.out.items c.show-read.result)
+    (c.args.self.now).arms store.arms c.args.lane arm c.show-read.new.self (ap (λ (st : Open g.row.D.Denot g.row.D-Piece.Denot g.row.A.Denot). st.arms) c.self.view_is) seat c.show-read.ensures.reads in
+    let after : Counts = record { disks = map g.D.Disk.fault_count (disks_of store); arms = map g.A.Arm.fault_count (slice_set store.arms c.args.lane c.show-read.new.self) } in
+    rw items
+    (row_read (IsWhole g.D.Disk.Tells g.D.Disk.files g.D.Piece.Piece.Tells g.D.Disk.fault_count g.D.Disk.fuse_count g.A.Arm.fault_count c.args.self.now) g.D.Piece.Piece.Tells (g.A.Arm.is_sure arm) (c.args.self.now).settings c.args.lane c.args.volume c.args.start (counts_of g.D.Disk.fault_count g.A.Arm.fault_count c.args.self.now) after
+    c.look-front.result.row c.args.pair c.args.cookie long
+    (λ whole.
+    let here = subst (λ (st : Open g.row.D.Denot g.row.D-Piece.Denot g.row.A.Denot). Stands g.D.Disk.files g.D.Piece.Piece.Tells g.D.Disk.fault_count g.D.Disk.fuse_count g.A.Arm.fault_count st whole.1) (sym c.self.view_is) whole.2 in
+    let known = c.look-front.ensures.known whole.0 (volume_at whole.1 c.args.volume) (volume_stood g.D.Disk.files g.D.Piece.Piece.Tells g.D.Disk.fault_count g.D.Disk.fuse_count g.A.Arm.fault_count store whole.1 c.args.volume volume here at) in (
+      outcomes_of (c.args.self.now).settings (volume_at whole.1 c.args.volume) c.args.pair,
+      row_may_mean g.D.Disk.files g.D.Piece.Piece.Tells volume.replicas c.look-front.result.row (c.args.self.now).settings (volume_at whole.1 c.args.volume) c.args.pair long (was.all ∙ ap (λ (s : Settings). s.replicas) same) known.1,
+    )) [] c.show-read.new.out.items c.show-read.result reads)
 
 pub returns-clause-arm_counts : goal.returns-clause-arm_counts
 returns-clause-arm_counts g c =
@@ -158,7 +162,7 @@ returns-clause-sure g c = λ one at sure.
     let seat : At store.arms c.args.lane arm = subst (λ (xs : List (g.row.A.Denot)). At xs c.args.lane arm) c.as_mut_slice.ensures.value
     (at_read c.as_mut_slice.result.now c.args.lane c.index-as_mut_slice-lane.result (let long = ap length c.as_mut_slice.ensures.value in omega (arith, inside, long))) in
     let same : arm ≡ one = same_Some arm one (sym seat ∙ ap (λ (st : Open g.row.D.Denot g.row.D-Piece.Denot g.row.A.Denot). slice_get st.arms c.args.lane) c.self.view_is ∙ at) in
-    no_arm_passed c.show-read.result (c.show-read.ensures.sure (ap g.A.Arm.is_sure same ∙ sure))
+    read_no_arm [] c.show-read.result (c.show-read.ensures.sure (ap g.A.Arm.is_sure same ∙ sure))
 
 pub returns-clause-sure_arms : goal.returns-clause-sure_arms
 returns-clause-sure_arms g c =

@@ -1,0 +1,172 @@
+use Rattle.std.proofs.Common.{◌≡◌, ◌<◌, List, ap, sym, length, subst, ◌∙◌, arith}
+use Rattle.std.specs.Prelude.{Err, slice_index_or, slice_set}
+use Rattle.std.proofs.lemmas.List.{with_items_is}
+use borrow.Author.Rules.{scaled_Fits}
+use Rattle.hay_map.specs.declared.place.Place.{Place}
+use Rattle.hay_map.specs.Places.{place_in}
+use Rattle.hay_map.specs.Rows.{row_at}
+use Rattle.hay_compact.specs.Finishing.{IsSeen}
+use Rattle.hay_logical.specs.declared.fault.LogicalFault.{LogicalFault}
+use Rattle.hay_logical.specs.Fits.{At}
+use Rattle.hay_logical.specs.Volumes.{Volume}
+use Rattle.hay_logical.proofs.Lists.{at_read}
+use Rattle.hay_needle.specs.declared.settings.Settings.{Settings}
+use Rattle.hay_legal.specs.Known.{volume_at}
+use Rattle.hay_cluster.specs.State.{Stands}
+use Rattle.hay_cluster.specs.Store.{Open}
+use Rattle.hay_cluster.proofs.Calls.{called_open, called_up}
+use Rattle.hay_cluster.proofs.Rooms.{begin_room, item_room, looked_room, places_room, row_room}
+use Rattle.hay_cluster.proofs.Lists.{length-set}
+use Rattle.hay_cluster.proofs.Moves.{Called, called_fuses, called_later, called_shape, volume_of, volume_stood}
+use Rattle.hay_cluster.proofs.Showing.{seen_in, sight_comes, sight_fault, sight_others}
+use Rattle.hay_cluster.proofs.cluster.Cluster.see_in.Goals as goal
+use Rattle.hay_cluster.proofs.cluster.Cluster.see_in.Goals.{in-Ok, in-Err}
+
+pub offset_bounds-as_mut_slice-volume : goal.offset_bounds-as_mut_slice-volume
+offset_bounds-as_mut_slice-volume g c =
+    let within : c.args.volume < length c.self.inside.volumes.items = let same = ap (λ (st : Open g.row.D.Denot g.row.D-Piece.Denot g.row.A.Denot). (st.settings).volumes) c.self.view_is in omega (arith, c.requires.volume, c.self.invariant.many, same) in
+    let long = ap length c.as_mut_slice.ensures.value in
+    scaled_Fits c.args.volume (length c.as_mut_slice.result.now) _ (omega (arith, within, long)) c.as_mut_slice.type_inv.1
+
+pub see-requires-after_bounds : goal.see-requires-after_bounds
+see-requires-after_bounds g c = λ κs lives.
+    let store : Open g.row.D.Denot g.row.D-Piece.Denot g.row.A.Denot = record { settings = c.self.inside.settings; directory = c.self.inside.directory; volumes = c.self.inside.volumes.items; arms = c.self.inside.seats.items } in
+    let within : c.args.volume < length c.self.inside.volumes.items = let same = ap (λ (st : Open g.row.D.Denot g.row.D-Piece.Denot g.row.A.Denot). (st.settings).volumes) c.self.view_is in omega (arith, c.requires.volume, c.self.invariant.many, same) in
+    let volume : Volume g.row.D.Denot g.row.D-Piece.Denot = slice_index_or c.as_mut_slice.result.now c.args.volume c.index-as_mut_slice-volume.result in
+    let at : At store.volumes c.args.volume volume = subst (λ (vs : List (Volume g.row.D.Denot g.row.D-Piece.Denot)). At vs c.args.volume volume) c.as_mut_slice.ensures.value
+    (at_read c.as_mut_slice.result.now c.args.volume c.index-as_mut_slice-volume.result (let long = ap length c.as_mut_slice.ensures.value in omega (arith, within, long))) in
+    let long = ap length c.as_mut_slice.ensures.value in
+    let room = item_room (length c.as_mut_slice.result.now) _ (let some : 0 < length c.as_mut_slice.result.now = omega (arith, within, long) in some) c.as_mut_slice.type_inv.1 in
+    let was = volume_of store c.args.volume volume c.self.invariant at in
+    let same = was.settings_are ∙ ap (λ (st : Open g.row.D.Denot g.row.D-Piece.Denot g.row.A.Denot). st.settings) c.self.view_is in
+    (room, (looked_room _ _ (omega arith) (begin_room _ _ _ room), (subst (λ (t : Settings). c.args.replica < t.replicas) (sym same) c.requires.replica, called_open c.args.self.now store c.args.volume volume c.self.view_is at c.requires.up)))
+
+pub array_drop-see-requires : goal.array_drop-see-requires
+array_drop-see-requires g c =
+    let within : c.args.volume < length c.self.inside.volumes.items = let same = ap (λ (st : Open g.row.D.Denot g.row.D-Piece.Denot g.row.A.Denot). (st.settings).volumes) c.self.view_is in omega (arith, c.requires.volume, c.self.invariant.many, same) in
+    let long = ap length c.as_mut_slice.ensures.value in
+    let room = item_room (length c.as_mut_slice.result.now) _ (let some : 0 < length c.as_mut_slice.result.now = omega (arith, within, long) in some) c.as_mut_slice.type_inv.1 in
+    places_room _ _ _ _ _ (row_room _ _ (begin_room _ _ _ room))
+
+pub invariant_of-self : goal.invariant_of-self
+invariant_of-self g c =
+    let store : Open g.row.D.Denot g.row.D-Piece.Denot g.row.A.Denot = record { settings = c.self.inside.settings; directory = c.self.inside.directory; volumes = c.self.inside.volumes.items; arms = c.self.inside.seats.items } in
+    let within : c.args.volume < length c.self.inside.volumes.items = let same = ap (λ (st : Open g.row.D.Denot g.row.D-Piece.Denot g.row.A.Denot). (st.settings).volumes) c.self.view_is in omega (arith, c.requires.volume, c.self.invariant.many, same) in
+    let volume : Volume g.row.D.Denot g.row.D-Piece.Denot = slice_index_or c.as_mut_slice.result.now c.args.volume c.index-as_mut_slice-volume.result in
+    let at : At store.volumes c.args.volume volume = subst (λ (vs : List (Volume g.row.D.Denot g.row.D-Piece.Denot)). At vs c.args.volume volume) c.as_mut_slice.ensures.value
+    (at_read c.as_mut_slice.result.now c.args.volume c.index-as_mut_slice-volume.result (let long = ap length c.as_mut_slice.ensures.value in omega (arith, within, long))) in
+    let items = with_items_is c.self.inside.volumes (slice_set c.as_mut_slice.result.now c.args.volume c.see.new.self) (length-set c.as_mut_slice.result.now c.args.volume c.see.new.self ∙ c.as_mut_slice.ensures.len)
+    ∙ ap (λ (vs : List (Volume g.row.D.Denot g.row.D-Piece.Denot)). slice_set vs c.args.volume c.see.new.self) c.as_mut_slice.ensures.value in
+    let called : Called g.D.Disk.fault_count g.D.Disk.fuse_count store c.args.volume volume c.see.new.self = record { at = at; same = c.see.ensures.same; counts = c.see.ensures.counts } in
+    rw items (called_shape g.D.Disk.fault_count g.D.Disk.fuse_count store c.args.volume volume c.see.new.self c.self.invariant called)
+
+pub returns-clause-stands : goal.returns-clause-stands
+returns-clause-stands g c = λ tells k stands.
+    let store : Open g.row.D.Denot g.row.D-Piece.Denot g.row.A.Denot = record { settings = c.self.inside.settings; directory = c.self.inside.directory; volumes = c.self.inside.volumes.items; arms = c.self.inside.seats.items } in
+    let within : c.args.volume < length c.self.inside.volumes.items = let same = ap (λ (st : Open g.row.D.Denot g.row.D-Piece.Denot g.row.A.Denot). (st.settings).volumes) c.self.view_is in omega (arith, c.requires.volume, c.self.invariant.many, same) in
+    let volume : Volume g.row.D.Denot g.row.D-Piece.Denot = slice_index_or c.as_mut_slice.result.now c.args.volume c.index-as_mut_slice-volume.result in
+    let at : At store.volumes c.args.volume volume = subst (λ (vs : List (Volume g.row.D.Denot g.row.D-Piece.Denot)). At vs c.args.volume volume) c.as_mut_slice.ensures.value
+    (at_read c.as_mut_slice.result.now c.args.volume c.index-as_mut_slice-volume.result (let long = ap length c.as_mut_slice.ensures.value in omega (arith, within, long))) in
+    let items = with_items_is c.self.inside.volumes (slice_set c.as_mut_slice.result.now c.args.volume c.see.new.self) (length-set c.as_mut_slice.result.now c.args.volume c.see.new.self ∙ c.as_mut_slice.ensures.len)
+    ∙ ap (λ (vs : List (Volume g.row.D.Denot g.row.D-Piece.Denot)). slice_set vs c.args.volume c.see.new.self) c.as_mut_slice.ensures.value in
+    let called : Called g.D.Disk.fault_count g.D.Disk.fuse_count store c.args.volume volume c.see.new.self = record { at = at; same = c.see.ensures.same; counts = c.see.ensures.counts } in
+    rw items
+    (sight_comes g.D.Disk.files g.D.Piece.Piece.Tells g.D.Disk.fault_count g.D.Disk.fuse_count g.A.Arm.fault_count c.args.self.now store k c.args.volume volume c.see.new.self c.self.view_is called c.requires.volume stands
+    (λ known stood. c.see.ensures.stands tells known stood))
+
+pub returns-clause-undamaged : goal.returns-clause-undamaged
+returns-clause-undamaged g c = λ whole m at e.
+    let store : Open g.row.D.Denot g.row.D-Piece.Denot g.row.A.Denot = record { settings = c.self.inside.settings; directory = c.self.inside.directory; volumes = c.self.inside.volumes.items; arms = c.self.inside.seats.items } in
+    let within : c.args.volume < length c.self.inside.volumes.items = let same = ap (λ (st : Open g.row.D.Denot g.row.D-Piece.Denot g.row.A.Denot). (st.settings).volumes) c.self.view_is in omega (arith, c.requires.volume, c.self.invariant.many, same) in
+    let volume : Volume g.row.D.Denot g.row.D-Piece.Denot = slice_index_or c.as_mut_slice.result.now c.args.volume c.index-as_mut_slice-volume.result in
+    let there : At store.volumes c.args.volume volume = subst (λ (vs : List (Volume g.row.D.Denot g.row.D-Piece.Denot)). At vs c.args.volume volume) c.as_mut_slice.ensures.value
+    (at_read c.as_mut_slice.result.now c.args.volume c.index-as_mut_slice-volume.result (let long = ap length c.as_mut_slice.ensures.value in omega (arith, within, long))) in
+    let items = with_items_is c.self.inside.volumes (slice_set c.as_mut_slice.result.now c.args.volume c.see.new.self) (length-set c.as_mut_slice.result.now c.args.volume c.see.new.self ∙ c.as_mut_slice.ensures.len)
+    ∙ ap (λ (vs : List (Volume g.row.D.Denot g.row.D-Piece.Denot)). slice_set vs c.args.volume c.see.new.self) c.as_mut_slice.ensures.value in
+    let called : Called g.D.Disk.fault_count g.D.Disk.fuse_count store c.args.volume volume c.see.new.self = record { at = there; same = c.see.ensures.same; counts = c.see.ensures.counts } in
+    let here = subst (λ (st : Open g.row.D.Denot g.row.D-Piece.Denot g.row.A.Denot). Stands g.D.Disk.files g.D.Piece.Piece.Tells g.D.Disk.fault_count g.D.Disk.fuse_count g.A.Arm.fault_count st whole.1) (sym c.self.view_is) whole.2 in
+    let stood = volume_stood g.D.Disk.files g.D.Piece.Piece.Tells g.D.Disk.fault_count g.D.Disk.fuse_count g.A.Arm.fault_count store whole.1 c.args.volume volume here there in
+    elim c.match-see.branch [
+      | in-Ok w ↦ let wrong = sym w.result-is ∙ e in cc
+      | in-Err w ↦ c.see.ensures.undamaged whole.0 (volume_at whole.1 c.args.volume) stood m at (let was = w.in-Err.is in let is = w.result-is in cc)
+    ]
+
+pub returns-clause-seen : goal.returns-clause-seen
+returns-clause-seen g c =
+    let store : Open g.row.D.Denot g.row.D-Piece.Denot g.row.A.Denot = record { settings = c.self.inside.settings; directory = c.self.inside.directory; volumes = c.self.inside.volumes.items; arms = c.self.inside.seats.items } in
+    let within : c.args.volume < length c.self.inside.volumes.items = let same = ap (λ (st : Open g.row.D.Denot g.row.D-Piece.Denot g.row.A.Denot). (st.settings).volumes) c.self.view_is in omega (arith, c.requires.volume, c.self.invariant.many, same) in
+    let volume : Volume g.row.D.Denot g.row.D-Piece.Denot = slice_index_or c.as_mut_slice.result.now c.args.volume c.index-as_mut_slice-volume.result in
+    let at : At store.volumes c.args.volume volume = subst (λ (vs : List (Volume g.row.D.Denot g.row.D-Piece.Denot)). At vs c.args.volume volume) c.as_mut_slice.ensures.value
+    (at_read c.as_mut_slice.result.now c.args.volume c.index-as_mut_slice-volume.result (let long = ap length c.as_mut_slice.ensures.value in omega (arith, within, long))) in
+    let items = with_items_is c.self.inside.volumes (slice_set c.as_mut_slice.result.now c.args.volume c.see.new.self) (length-set c.as_mut_slice.result.now c.args.volume c.see.new.self ∙ c.as_mut_slice.ensures.len)
+    ∙ ap (λ (vs : List (Volume g.row.D.Denot g.row.D-Piece.Denot)). slice_set vs c.args.volume c.see.new.self) c.as_mut_slice.ensures.value in
+    let called : Called g.D.Disk.fault_count g.D.Disk.fuse_count store c.args.volume volume c.see.new.self = record { at = at; same = c.see.ensures.same; counts = c.see.ensures.counts } in
+    elim c.match-see.branch [
+      | in-Ok w ↦
+          let seen : IsSeen (place_in (row_at c.see.new.self.rows c.args.pair) c.args.replica) = subst (λ (l : List (Place g.row.D-Piece.Denot)). IsSeen (place_in l c.args.replica)) w.in-Ok.ensures.answered.1 w.in-Ok.ensures.seen in
+          rw w.result-is (rw items (seen_in store c.args.volume volume c.see.new.self c.args.pair c.args.replica at seen))
+      | in-Err w ↦ rw w.result-is tt
+    ]
+
+pub returns-clause-causes : goal.returns-clause-causes
+returns-clause-causes g c =
+    let store : Open g.row.D.Denot g.row.D-Piece.Denot g.row.A.Denot = record { settings = c.self.inside.settings; directory = c.self.inside.directory; volumes = c.self.inside.volumes.items; arms = c.self.inside.seats.items } in
+    let within : c.args.volume < length c.self.inside.volumes.items = let same = ap (λ (st : Open g.row.D.Denot g.row.D-Piece.Denot g.row.A.Denot). (st.settings).volumes) c.self.view_is in omega (arith, c.requires.volume, c.self.invariant.many, same) in
+    let volume : Volume g.row.D.Denot g.row.D-Piece.Denot = slice_index_or c.as_mut_slice.result.now c.args.volume c.index-as_mut_slice-volume.result in
+    let at : At store.volumes c.args.volume volume = subst (λ (vs : List (Volume g.row.D.Denot g.row.D-Piece.Denot)). At vs c.args.volume volume) c.as_mut_slice.ensures.value
+    (at_read c.as_mut_slice.result.now c.args.volume c.index-as_mut_slice-volume.result (let long = ap length c.as_mut_slice.ensures.value in omega (arith, within, long))) in
+    let items = with_items_is c.self.inside.volumes (slice_set c.as_mut_slice.result.now c.args.volume c.see.new.self) (length-set c.as_mut_slice.result.now c.args.volume c.see.new.self ∙ c.as_mut_slice.ensures.len)
+    ∙ ap (λ (vs : List (Volume g.row.D.Denot g.row.D-Piece.Denot)). slice_set vs c.args.volume c.see.new.self) c.as_mut_slice.ensures.value in
+    let called : Called g.D.Disk.fault_count g.D.Disk.fuse_count store c.args.volume volume c.see.new.self = record { at = at; same = c.see.ensures.same; counts = c.see.ensures.counts } in
+    elim c.match-see.branch [
+      | in-Ok w ↦ rw w.result-is tt
+      | in-Err w ↦
+          rw w.result-is
+          (rw items
+          (sight_fault g.D.Disk.fault_count g.D.Disk.fuse_count c.args.self.now store c.args.volume c.args.replica volume c.see.new.self c.self.view_is c.self.invariant called c.requires.replica w.in-Err.fault w.in-Err.ensures.causes
+          (λ m count e. c.see.ensures.machine m count (w.in-Err.is ∙ ap (λ (f : LogicalFault). Err f) e))))
+    ]
+
+pub returns-clause-others : goal.returns-clause-others
+returns-clause-others g c =
+    let store : Open g.row.D.Denot g.row.D-Piece.Denot g.row.A.Denot = record { settings = c.self.inside.settings; directory = c.self.inside.directory; volumes = c.self.inside.volumes.items; arms = c.self.inside.seats.items } in
+    let within : c.args.volume < length c.self.inside.volumes.items = let same = ap (λ (st : Open g.row.D.Denot g.row.D-Piece.Denot g.row.A.Denot). (st.settings).volumes) c.self.view_is in omega (arith, c.requires.volume, c.self.invariant.many, same) in
+    let volume : Volume g.row.D.Denot g.row.D-Piece.Denot = slice_index_or c.as_mut_slice.result.now c.args.volume c.index-as_mut_slice-volume.result in
+    let at : At store.volumes c.args.volume volume = subst (λ (vs : List (Volume g.row.D.Denot g.row.D-Piece.Denot)). At vs c.args.volume volume) c.as_mut_slice.ensures.value
+    (at_read c.as_mut_slice.result.now c.args.volume c.index-as_mut_slice-volume.result (let long = ap length c.as_mut_slice.ensures.value in omega (arith, within, long))) in
+    let items = with_items_is c.self.inside.volumes (slice_set c.as_mut_slice.result.now c.args.volume c.see.new.self) (length-set c.as_mut_slice.result.now c.args.volume c.see.new.self ∙ c.as_mut_slice.ensures.len)
+    ∙ ap (λ (vs : List (Volume g.row.D.Denot g.row.D-Piece.Denot)). slice_set vs c.args.volume c.see.new.self) c.as_mut_slice.ensures.value in
+    let called : Called g.D.Disk.fault_count g.D.Disk.fuse_count store c.args.volume volume c.see.new.self = record { at = at; same = c.see.ensures.same; counts = c.see.ensures.counts } in
+    rw items
+    (sight_others g.D.Disk.fault_count g.D.Disk.fuse_count c.args.self.now store c.args.volume c.args.replica volume c.see.new.self c.self.view_is c.self.invariant called c.requires.replica c.see.ensures.others)
+
+pub returns-clause-counts : goal.returns-clause-counts
+returns-clause-counts g c =
+    let store : Open g.row.D.Denot g.row.D-Piece.Denot g.row.A.Denot = record { settings = c.self.inside.settings; directory = c.self.inside.directory; volumes = c.self.inside.volumes.items; arms = c.self.inside.seats.items } in
+    let within : c.args.volume < length c.self.inside.volumes.items = let same = ap (λ (st : Open g.row.D.Denot g.row.D-Piece.Denot g.row.A.Denot). (st.settings).volumes) c.self.view_is in omega (arith, c.requires.volume, c.self.invariant.many, same) in
+    let volume : Volume g.row.D.Denot g.row.D-Piece.Denot = slice_index_or c.as_mut_slice.result.now c.args.volume c.index-as_mut_slice-volume.result in
+    let at : At store.volumes c.args.volume volume = subst (λ (vs : List (Volume g.row.D.Denot g.row.D-Piece.Denot)). At vs c.args.volume volume) c.as_mut_slice.ensures.value
+    (at_read c.as_mut_slice.result.now c.args.volume c.index-as_mut_slice-volume.result (let long = ap length c.as_mut_slice.ensures.value in omega (arith, within, long))) in
+    let items = with_items_is c.self.inside.volumes (slice_set c.as_mut_slice.result.now c.args.volume c.see.new.self) (length-set c.as_mut_slice.result.now c.args.volume c.see.new.self ∙ c.as_mut_slice.ensures.len)
+    ∙ ap (λ (vs : List (Volume g.row.D.Denot g.row.D-Piece.Denot)). slice_set vs c.args.volume c.see.new.self) c.as_mut_slice.ensures.value in
+    let called : Called g.D.Disk.fault_count g.D.Disk.fuse_count store c.args.volume volume c.see.new.self = record { at = at; same = c.see.ensures.same; counts = c.see.ensures.counts } in
+    rw items (called_later g.D.Disk.fault_count g.D.Disk.fuse_count c.args.self.now store c.args.volume volume c.see.new.self c.self.view_is called)
+
+pub returns-clause-up : goal.returns-clause-up
+returns-clause-up g c =
+    let store : Open g.row.D.Denot g.row.D-Piece.Denot g.row.A.Denot = record { settings = c.self.inside.settings; directory = c.self.inside.directory; volumes = c.self.inside.volumes.items; arms = c.self.inside.seats.items } in
+    let items = with_items_is c.self.inside.volumes (slice_set c.as_mut_slice.result.now c.args.volume c.see.new.self) (length-set c.as_mut_slice.result.now c.args.volume c.see.new.self ∙ c.as_mut_slice.ensures.len)
+    ∙ ap (λ (vs : List (Volume g.row.D.Denot g.row.D-Piece.Denot)). slice_set vs c.args.volume c.see.new.self) c.as_mut_slice.ensures.value in
+    rw items (called_up c.args.self.now store c.args.volume c.see.new.self c.self.view_is c.requires.up c.see.ensures.«open»)
+
+pub returns-clause-fuses : goal.returns-clause-fuses
+returns-clause-fuses g c =
+    let store : Open g.row.D.Denot g.row.D-Piece.Denot g.row.A.Denot = record { settings = c.self.inside.settings; directory = c.self.inside.directory; volumes = c.self.inside.volumes.items; arms = c.self.inside.seats.items } in
+    let within : c.args.volume < length c.self.inside.volumes.items = let same = ap (λ (st : Open g.row.D.Denot g.row.D-Piece.Denot g.row.A.Denot). (st.settings).volumes) c.self.view_is in omega (arith, c.requires.volume, c.self.invariant.many, same) in
+    let volume : Volume g.row.D.Denot g.row.D-Piece.Denot = slice_index_or c.as_mut_slice.result.now c.args.volume c.index-as_mut_slice-volume.result in
+    let at : At store.volumes c.args.volume volume = subst (λ (vs : List (Volume g.row.D.Denot g.row.D-Piece.Denot)). At vs c.args.volume volume) c.as_mut_slice.ensures.value
+    (at_read c.as_mut_slice.result.now c.args.volume c.index-as_mut_slice-volume.result (let long = ap length c.as_mut_slice.ensures.value in omega (arith, within, long))) in
+    let items = with_items_is c.self.inside.volumes (slice_set c.as_mut_slice.result.now c.args.volume c.see.new.self) (length-set c.as_mut_slice.result.now c.args.volume c.see.new.self ∙ c.as_mut_slice.ensures.len)
+    ∙ ap (λ (vs : List (Volume g.row.D.Denot g.row.D-Piece.Denot)). slice_set vs c.args.volume c.see.new.self) c.as_mut_slice.ensures.value in
+    let called : Called g.D.Disk.fault_count g.D.Disk.fuse_count store c.args.volume volume c.see.new.self = record { at = at; same = c.see.ensures.same; counts = c.see.ensures.counts } in
+    rw items (called_fuses g.D.Disk.fault_count g.D.Disk.fuse_count c.args.self.now store c.args.volume volume c.see.new.self c.self.view_is called)
