@@ -1,6 +1,6 @@
 -- Reads are legal.
 use Rattle.std.proofs.Common.{◌≡◌, ◌≢◌, ℕ, zero, suc, ◌+◌, ◌-◌, ◌%◌, ◌^◌, ◌<◌, ◌≤◌, ◌⊎◌, not, true, false, Bool, cond, List, [], ◌∷◌, ◌++◌, length, take, drop, map, Option, Some, refl, sym, ap, subst, ◌∙◌, inl, inr, arith}
-use Rattle.std.specs.Prelude.{◌==◌, Err, slice_get, slice_index, slice_set, take_while}
+use Rattle.std.specs.Prelude.{◌==◌, Err, slice_get, slice_index, slice_index_or, slice_set, take_while}
 use Rattle.std.specs.List.{AllByRecursion, AllZip, count_by, prefix_len, range_with_len}
 use Rattle.std.proofs.Math.Nat.{mod-lt}
 use Rattle.std.proofs.Math.Seq.{drop-append_seam, drop-length, take-append_seam, take-length}
@@ -26,7 +26,7 @@ use Rattle.hay_compact.specs.Finishing.{IsSeen}
 use Rattle.hay_physical.specs.Copies.{Copy}
 use Rattle.hay_legal.specs.declared.known.Known.{Known}
 use Rattle.hay_legal.specs.declared.known.VolumeKnown.{VolumeKnown}
-use Rattle.hay_legal.specs.Known.{Leaves, NoneFalls, arm_count, fault_count, has_risen, home_of, machine_of, now, replica_at, replica_on, slot_of, volume_at}
+use Rattle.hay_legal.specs.Known.{NoneFalls, arm_count, empty_volume, fault_count, has_risen, home_of, machine_of, now, replica_at, replica_on, slot_of, volume_at}
 use Rattle.hay_legal.specs.Known as known
 use Rattle.hay_legal.specs.Plain as legal
 use Rattle.hay_legal.specs.Plain.{IsShown, IsUnreadable, LegalCommand, LegalGet, LeavesElsewhere, LegalGetAt, LegalShow, order_from}
@@ -54,14 +54,16 @@ use Rattle.hay_reader.specs.declared.trial.Shown.TheVariants as shown
 use Rattle.hay_reader.proofs.Outcomes.{passed_for_arm, stops_unseen}
 use Rattle.hay_reader.proofs.Passing.{all_weaken, first_more, no_shorter}
 use Rattle.hay_cluster.specs.Causes.{CauseCameUp, Counts, IsNoArm, PassedOver, RoseIn}
-use Rattle.hay_cluster.specs.Reads.{CannotSee, IsPassedFor, IsSeenAt, IsSightCause, IsSightFault, IsWhole, PassesFrom, PassesTo, ReadPasses, ReadSays, ShowsIn, StopsUnseen, counts_of, outcomes_of, passed_at}
+use Rattle.hay_cluster.specs.Reads.{CannotSee, FoundNoArm, FoundPasses, FoundSays, IsFoundAs, IsPassedFor, IsSeenAt, IsSightCause, IsSightFault, IsWhole, PassesFrom, PassesNoArm, PassesTo, ReadNoArm, ReadPasses, ReadSays, ShowsIn, StopsUnseen, counts_of, outcomes_of, passed_at}
+use Rattle.hay_cluster.specs.declared.reading.Found.{Found}
 use Rattle.hay_cluster.specs.Parts.{Comes}
 use Rattle.hay_cluster.specs.State.{Stands}
 use Rattle.hay_cluster.specs.Store.{IsBuilt, IsShaped, Open, disks_of}
 use Rattle.hay_cluster.proofs.Changing.{comes_still}
 use Rattle.hay_cluster.proofs.Lists.{length-set, slice_get-set}
 use Rattle.hay_cluster.proofs.Machines.{replica_found, same_machine}
-use Rattle.hay_cluster.proofs.Moves.{Called, called_failed, called_shape, count_at, falls_at, has_item, none_falls, volume_comes, volume_of, volume_stood, with_one}
+use Rattle.hay_cluster.proofs.Sure.{no_arm_on}
+use Rattle.hay_cluster.proofs.Moves.{Called, called_failed, called_shape, count_at, falls_at, falls_trans, has_item, none_falls, volume_comes, volume_of, volume_stood, with_one}
 
 range_get : (f : ℕ → Outcome) (n at i : ℕ) (x : Outcome) → slice_get (map f (range_with_len at n)) i ≡ Some x → (i < n) × (f (at + i) ≡ x)
 range_get f zero at i x is = absurd cc
@@ -719,6 +721,60 @@ stops_further W settings lane v start before after store pair replica causes pas
           | inr (inr greater) ↦ omega (arith, greater)
         ]
     ]
+
+-- what is known stands over two calls that changed nothing of it
+pub comes_on : {D P A : Type 0} (files : D → Files) (Tells : Type 0) (faults fuses : D → ℕ) (arm_faults : A → ℕ) (mid new : Open D P A) (k : Known) → (first : Comes files Tells faults fuses arm_faults k k mid)
+    → Comes files Tells faults fuses arm_faults first.known first.known new → Comes files Tells faults fuses arm_faults k k new
+comes_on files Tells faults fuses arm_faults mid new k first then = record {
+  known = then.known;
+  leaves = record {
+    volumes = (then.leaves).volumes ∙ (first.leaves).volumes;
+    directory = (then.leaves).directory ∙ (first.leaves).directory;
+    drained = (then.leaves).drained ∙ (first.leaves).drained;
+    fuses = (then.leaves).fuses ∙ (first.leaves).fuses;
+    faults = falls_trans k.faults (first.known).faults (then.known).faults (first.leaves).faults (then.leaves).faults;
+    arms = falls_trans k.arms (first.known).arms (then.known).arms (first.leaves).arms (then.leaves).arms;
+  };
+  stands = then.stands;
+}
+
+-- the outcomes of replicas go by the volumes alone
+pub says_on : (settings settings' : Settings) (k t : Known) (v : ℕ) (pair : Pair) (cookie : Cookie) (bytes : List ℕ) (r : ReadReply) → settings' ≡ settings → t.volumes ≡ k.volumes → ReadSays cookie (outcomes_of settings' (volume_at t v) pair) bytes r
+    → ReadSays cookie (outcomes_of settings (volume_at k v) pair) bytes r
+says_on settings settings' k t v pair cookie bytes r same volumes says =
+    subst (λ (s : Settings). ReadSays cookie (outcomes_of s (volume_at k v) pair) bytes r) same
+    (subst (λ (vs : List VolumeKnown). ReadSays cookie (outcomes_of settings' (slice_index_or vs v empty_volume) pair) bytes r) volumes says)
+
+-- no replica was passed over for the arm, neither before nor now
+pub no_arm_round : (W : Type 0) (settings : Settings) (lane v start : ℕ) (before after : Counts) (passed : List PassedReplica) (r : ReadReply) → ReadPasses W settings lane v start before after passed r → PassesNoArm passed → ReadNoArm passed r → ReadNoArm [] r
+no_arm_round W settings lane v start before after passed (read.Photo j) passes first none = tt
+no_arm_round W settings lane v start before after passed (read.Gone j) passes first none = tt
+no_arm_round W settings lane v start before after passed (read.WrongCookie j) passes first none = tt
+no_arm_round W settings lane v start before after passed (read.Unseen j causes) passes first none = no_arm_on passed causes passes.passes.begins first none
+no_arm_round W settings lane v start before after passed (read.Unreadable causes) passes first none = no_arm_on passed causes passes.0.begins first none
+
+-- WHAT WAS READ IS WHAT WAS FOUND
+
+pub found_says : (cookie : Cookie) (outcomes : List Outcome) (bytes : List ℕ) (r : ReadReply) (f : Found) → IsFoundAs r f → ReadSays cookie outcomes bytes r → FoundSays cookie outcomes bytes f
+found_says cookie outcomes bytes (read.Photo j) f is h = subst (λ (x : Found). FoundSays cookie outcomes bytes x) (sym is) h
+found_says cookie outcomes bytes (read.Gone j) f is h = subst (λ (x : Found). FoundSays cookie outcomes bytes x) (sym is) h
+found_says cookie outcomes bytes (read.WrongCookie j) f is h = subst (λ (x : Found). FoundSays cookie outcomes bytes x) (sym is) h
+found_says cookie outcomes bytes (read.Unreadable causes) f is h = subst (λ (x : Found). FoundSays cookie outcomes bytes x) (sym is) tt
+found_says cookie outcomes bytes (read.Unseen j causes) f is h = absurd is
+
+pub found_passes : (W : Type 0) (settings : Settings) (lane v start : ℕ) (before after : Counts) (r : ReadReply) (f : Found) → IsFoundAs r f → ReadPasses W settings lane v start before after [] r → FoundPasses W settings lane v start before after f
+found_passes W settings lane v start before after (read.Photo j) f is h = subst (λ (x : Found). FoundPasses W settings lane v start before after x) (sym is) h
+found_passes W settings lane v start before after (read.Gone j) f is h = subst (λ (x : Found). FoundPasses W settings lane v start before after x) (sym is) h
+found_passes W settings lane v start before after (read.WrongCookie j) f is h = subst (λ (x : Found). FoundPasses W settings lane v start before after x) (sym is) h
+found_passes W settings lane v start before after (read.Unreadable causes) f is h = subst (λ (x : Found). FoundPasses W settings lane v start before after x) (sym is) h
+found_passes W settings lane v start before after (read.Unseen j causes) f is h = absurd is
+
+pub found_no_arm : (r : ReadReply) (f : Found) → IsFoundAs r f → ReadNoArm [] r → FoundNoArm f
+found_no_arm (read.Photo j) f is h = subst (λ (x : Found). FoundNoArm x) (sym is) tt
+found_no_arm (read.Gone j) f is h = subst (λ (x : Found). FoundNoArm x) (sym is) tt
+found_no_arm (read.WrongCookie j) f is h = subst (λ (x : Found). FoundNoArm x) (sym is) tt
+found_no_arm (read.Unreadable causes) f is h = subst (λ (x : Found). FoundNoArm x) (sym is) h
+found_no_arm (read.Unseen j causes) f is h = absurd is
 
 -- what is legal to show to a reader of a URL is legal for its command
 pub get_command : (settings : Settings) (k t : Known) (tag : CoreTag) (url : Url) (start v : ℕ) (answer : Reply) → replica_on settings url.volume url.machine ≡ Some start → home_of k url.pair ≡ Some v → v ≡ url.volume

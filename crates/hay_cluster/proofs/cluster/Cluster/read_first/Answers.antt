@@ -80,7 +80,7 @@ returns-clause-says g c = λ tells k stands.
     let says = answers_say c.args.start (g.A.Arm.fault_count arm) (g.A.Arm.fault_count c.show-read.new.self) c.args.cookie [] (outcomes_of (c.args.self.now).settings (volume_at k c.args.volume) c.args.pair) c.show-read.new.out.items c.show-read.result
     (answers_row g.D.Piece.Piece.Tells (record { sure = g.A.Arm.is_sure arm; before = g.A.Arm.fault_count arm; after = g.A.Arm.fault_count c.show-read.new.self }) c.args.start c.look-front.result.row c.args.cookie [] c.show-read.new.out.items c.show-read.result c.args.pair _ c.show-read.ensures.later means c.show-read.ensures.reads) in
     let comes = seat_comes g.D.Disk.files g.D.Piece.Piece.Tells g.D.Disk.fault_count g.D.Disk.fuse_count g.A.Arm.fault_count c.args.self.now store k c.args.lane arm c.show-read.new.self c.self.view_is stands seat c.show-read.ensures.later in
-    rw items (known.0, (says, comes))
+    rw items (known.0, says, comes)
 
 pub returns-clause-passes : goal.returns-clause-passes
 returns-clause-passes g c =

@@ -1,0 +1,145 @@
+use Rattle.std.proofs.Common.{◌≡◌, ◌+◌, ◌%◌, ◌<◌, ◌≤◌, ℕ, List, [], length, map, Some, refl, sym, ap, subst, ◌∙◌, arith}
+use Rattle.std.specs.Prelude.{slice_index}
+use Rattle.hay_needle.specs.declared.settings.Settings.{Settings}
+use Rattle.hay_legal.specs.Known.{NoneFalls, slot_of, volume_at}
+use Rattle.hay_reader.specs.Causes.{ComeFirst}
+use Rattle.hay_reader.specs.declared.causes.PassedReplica.{PassedReplica}
+use Rattle.hay_reader.specs.declared.seat.ReadReply.{ReadReply}
+use Rattle.hay_reader.specs.declared.seat.ReadReply.TheVariants as read
+use Rattle.hay_cluster.specs.Causes.{StaySure}
+use Rattle.hay_cluster.specs.Reads.{IsWhole, PassesFrom, PassesNoArm, PassesTo, ReadNoArm, ReadPasses, counts_of, outcomes_of}
+use Rattle.hay_cluster.specs.Store.{Open, disks_of}
+use Rattle.hay_cluster.proofs.Answering.{same_falls}
+use Rattle.hay_cluster.proofs.Moves.{falls_trans}
+use Rattle.hay_cluster.proofs.Showing.{arm_goes_on, comes_on, found_no_arm, found_passes, found_says, no_arm_round, passes_on, read_on, says_on, sight_goes_on, stops_further}
+use Rattle.hay_cluster.proofs.Sure.{no_arm_on, sure_on, sure_trans}
+use Rattle.hay_cluster.proofs.cluster.Cluster.fetch.Goals as goal
+use Rattle.hay_cluster.proofs.cluster.Cluster.fetch.Goals.{else-loop-test, then-loop-test+in_default}
+
+pub loop-init : goal.loop-init
+loop-init g c = record {
+  says = λ tells k stands. let says = c.read_first-front.ensures.says tells k stands in (says.1, says.2);
+  passes = c.read_first-front.ensures.passes;
+  sure = c.read_first-front.ensures.sure;
+  tries = λ j causes is. omega arith;
+  bytes = c.read_first-front.ensures.bytes;
+  room = omega (arith, c.requires.room, c.read_first-front.ensures.room);
+  sure_arms = c.read_first-front.ensures.sure_arms;
+  counts = same_falls g.D.Disk.fault_count (disks_of c.args.self.now) (disks_of c.read_first-front.new.self) c.read_first-front.ensures.disks;
+  fuses = ap (λ (ds : List g.row.D.Denot). map g.D.Disk.fuse_count ds) c.read_first-front.ensures.disks;
+  arm_counts = c.read_first-front.ensures.arm_counts;
+  settings = c.read_first-front.ensures.settings;
+  up = c.read_first-front.ensures.up;
+}
+
+pub returns-in_default-see_or_pass-clause-says : goal.returns-in_default-see_or_pass-clause-says
+returns-in_default-see_or_pass-clause-says g c = λ tells k stands.
+    let came = (c.loop.invariant.says tells k stands).1 in
+    ((c.read_first-front.ensures.says tells k stands).0, tt, comes_on g.D.Disk.files g.D.Piece.Piece.Tells g.D.Disk.fault_count g.D.Disk.fuse_count g.A.Arm.fault_count c.loop.self c.see_or_pass.new.self k came (c.see_or_pass.ensures.stands tells came.known came.stands))
+
+pub returns-in_default-see_or_pass-clause-counts : goal.returns-in_default-see_or_pass-clause-counts
+returns-in_default-see_or_pass-clause-counts g c =
+    falls_trans (map g.D.Disk.fault_count (disks_of c.args.self.now)) (map g.D.Disk.fault_count (disks_of c.loop.self)) (map g.D.Disk.fault_count (disks_of c.see_or_pass.new.self)) c.loop.invariant.counts c.see_or_pass.ensures.counts
+
+pub read_more-read-requires-clause-first : goal.read_more-read-requires-clause-first
+read_more-read-requires-clause-first g c = λ κs lives.
+    let inv = c.loop.invariant in
+    let stop : PassesTo (IsWhole g.D.Disk.Tells g.D.Disk.files g.D.Piece.Piece.Tells g.D.Disk.fault_count g.D.Disk.fuse_count g.A.Arm.fault_count c.args.self.now) (c.args.self.now).settings c.args.lane c.args.volume c.args.start (counts_of g.D.Disk.fault_count g.A.Arm.fault_count c.args.self.now) (counts_of g.D.Disk.fault_count g.A.Arm.fault_count c.loop.self) [] c.in-Unseen.causes c.in-Unseen.replica =
+    subst (λ (r : ReadReply). ReadPasses (IsWhole g.D.Disk.Tells g.D.Disk.files g.D.Piece.Piece.Tells g.D.Disk.fault_count g.D.Disk.fuse_count g.A.Arm.fault_count c.args.self.now) (c.args.self.now).settings c.args.lane c.args.volume c.args.start (counts_of g.D.Disk.fault_count g.A.Arm.fault_count c.args.self.now) (counts_of g.D.Disk.fault_count g.A.Arm.fault_count c.loop.self) [] r) c.in-Unseen.is inv.passes in
+    let order : ComeFirst c.args.start (c.loop.self.settings).replicas c.in-Unseen.causes = subst (λ (s : Settings). ComeFirst c.args.start s.replicas c.in-Unseen.causes) (sym inv.settings) stop.passes.order in
+    let next : c.in-Unseen.replica ≡ (c.args.start + length c.in-Unseen.causes) % (c.loop.self.settings).replicas = stop.next ∙ ap (λ (s : Settings). (c.args.start + length c.in-Unseen.causes) % s.replicas) (sym inv.settings) in
+    let sight = c.in-Ok.ensures.passes c.args.lane c.args.start order next in
+    subst (λ (s : Settings). ComeFirst c.args.start s.replicas c.in-Ok.passed) (sym c.see_or_pass.ensures.settings) sight.order
+
+pub read_more-read-requires-clause-fewer : goal.read_more-read-requires-clause-fewer
+read_more-read-requires-clause-fewer g c = λ κs lives.
+    let inv = c.loop.invariant in
+    let stop : PassesTo (IsWhole g.D.Disk.Tells g.D.Disk.files g.D.Piece.Piece.Tells g.D.Disk.fault_count g.D.Disk.fuse_count g.A.Arm.fault_count c.args.self.now) (c.args.self.now).settings c.args.lane c.args.volume c.args.start (counts_of g.D.Disk.fault_count g.A.Arm.fault_count c.args.self.now) (counts_of g.D.Disk.fault_count g.A.Arm.fault_count c.loop.self) [] c.in-Unseen.causes c.in-Unseen.replica =
+    subst (λ (r : ReadReply). ReadPasses (IsWhole g.D.Disk.Tells g.D.Disk.files g.D.Piece.Piece.Tells g.D.Disk.fault_count g.D.Disk.fuse_count g.A.Arm.fault_count c.args.self.now) (c.args.self.now).settings c.args.lane c.args.volume c.args.start (counts_of g.D.Disk.fault_count g.A.Arm.fault_count c.args.self.now) (counts_of g.D.Disk.fault_count g.A.Arm.fault_count c.loop.self) [] r) c.in-Unseen.is inv.passes in
+    let order : ComeFirst c.args.start (c.loop.self.settings).replicas c.in-Unseen.causes = subst (λ (s : Settings). ComeFirst c.args.start s.replicas c.in-Unseen.causes) (sym inv.settings) stop.passes.order in
+    let next : c.in-Unseen.replica ≡ (c.args.start + length c.in-Unseen.causes) % (c.loop.self.settings).replicas = stop.next ∙ ap (λ (s : Settings). (c.args.start + length c.in-Unseen.causes) % s.replicas) (sym inv.settings) in
+    let fewer = stop.fewer in
+    let same = ap (λ (s : Settings). s.replicas) (c.see_or_pass.ensures.settings ∙ inv.settings) in
+    elim c.in-Ok.ensures.on [ inl one ↦ omega (arith, one, fewer, same) | inr seen ↦ let long = seen.0 in omega (arith, long, fewer, same) ]
+
+pub loop-preserved : goal.loop-preserved
+loop-preserved g c =
+    let inv = c.loop.invariant in
+    let stop : PassesTo (IsWhole g.D.Disk.Tells g.D.Disk.files g.D.Piece.Piece.Tells g.D.Disk.fault_count g.D.Disk.fuse_count g.A.Arm.fault_count c.args.self.now) (c.args.self.now).settings c.args.lane c.args.volume c.args.start (counts_of g.D.Disk.fault_count g.A.Arm.fault_count c.args.self.now) (counts_of g.D.Disk.fault_count g.A.Arm.fault_count c.loop.self) [] c.in-Unseen.causes c.in-Unseen.replica =
+    subst (λ (r : ReadReply). ReadPasses (IsWhole g.D.Disk.Tells g.D.Disk.files g.D.Piece.Piece.Tells g.D.Disk.fault_count g.D.Disk.fuse_count g.A.Arm.fault_count c.args.self.now) (c.args.self.now).settings c.args.lane c.args.volume c.args.start (counts_of g.D.Disk.fault_count g.A.Arm.fault_count c.args.self.now) (counts_of g.D.Disk.fault_count g.A.Arm.fault_count c.loop.self) [] r) c.in-Unseen.is inv.passes in
+    let order : ComeFirst c.args.start (c.loop.self.settings).replicas c.in-Unseen.causes = subst (λ (s : Settings). ComeFirst c.args.start s.replicas c.in-Unseen.causes) (sym inv.settings) stop.passes.order in
+    let next : c.in-Unseen.replica ≡ (c.args.start + length c.in-Unseen.causes) % (c.loop.self.settings).replicas = stop.next ∙ ap (λ (s : Settings). (c.args.start + length c.in-Unseen.causes) % s.replicas) (sym inv.settings) in
+    let sight = c.in-Ok.ensures.passes c.args.lane c.args.start order next in
+    let here = subst (λ (s : Settings). PassesFrom (IsWhole g.D.Disk.Tells g.D.Disk.files g.D.Piece.Piece.Tells g.D.Disk.fault_count g.D.Disk.fuse_count g.A.Arm.fault_count c.loop.self) s c.args.lane c.args.volume c.args.start (counts_of g.D.Disk.fault_count g.A.Arm.fault_count c.loop.self) (counts_of g.D.Disk.fault_count g.A.Arm.fault_count c.see_or_pass.new.self) c.in-Unseen.causes c.in-Ok.passed) inv.settings sight in
+    let fewer = stop.fewer in
+    let same : (c.see_or_pass.new.self).settings ≡ (c.args.self.now).settings = c.see_or_pass.ensures.settings ∙ inv.settings in
+    let passed = passes_on (IsWhole g.D.Disk.Tells g.D.Disk.files g.D.Piece.Piece.Tells g.D.Disk.fault_count g.D.Disk.fuse_count g.A.Arm.fault_count c.args.self.now) (IsWhole g.D.Disk.Tells g.D.Disk.files g.D.Piece.Piece.Tells g.D.Disk.fault_count g.D.Disk.fuse_count g.A.Arm.fault_count c.loop.self) (c.args.self.now).settings c.args.lane c.args.volume c.args.start (counts_of g.D.Disk.fault_count g.A.Arm.fault_count c.args.self.now) (counts_of g.D.Disk.fault_count g.A.Arm.fault_count c.loop.self) (counts_of g.D.Disk.fault_count g.A.Arm.fault_count c.see_or_pass.new.self) [] c.in-Unseen.causes c.in-Ok.passed
+    (λ w. let came = (inv.says w.0 w.1 w.2).1 in (w.0, came.known, came.stands))
+    (sight_goes_on (c.args.self.now).settings c.args.lane c.args.volume c.args.start (counts_of g.D.Disk.fault_count g.A.Arm.fault_count c.args.self.now) (counts_of g.D.Disk.fault_count g.A.Arm.fault_count c.loop.self) (counts_of g.D.Disk.fault_count g.A.Arm.fault_count c.see_or_pass.new.self) c.in-Unseen.causes c.in-Unseen.replica inv.arm_counts
+    (ap (λ (xs : List g.row.A.Denot). map g.A.Arm.fault_count xs) c.see_or_pass.ensures.arms) inv.counts stop.passes.order fewer stop.next
+    (subst (λ (s : Settings). (j : ℕ) → j < s.replicas → (j ≡ c.in-Unseen.replica → ⊥)
+    → slice_index (map g.D.Disk.fault_count (disks_of c.see_or_pass.new.self)) (slot_of s c.args.volume j) ≡ slice_index (map g.D.Disk.fault_count (disks_of c.loop.self)) (slot_of s c.args.volume j)) inv.settings c.see_or_pass.ensures.others))
+    stop.passes here in
+    let reads = subst (λ (s : Settings). ReadPasses (IsWhole g.D.Disk.Tells g.D.Disk.files g.D.Piece.Piece.Tells g.D.Disk.fault_count g.D.Disk.fuse_count g.A.Arm.fault_count c.see_or_pass.new.self) s c.args.lane c.args.volume c.args.start (counts_of g.D.Disk.fault_count g.A.Arm.fault_count c.see_or_pass.new.self) (counts_of g.D.Disk.fault_count g.A.Arm.fault_count c.read_more-read.new.self) c.in-Ok.passed c.read_more-read.result) same c.read_more-read.ensures.passes in
+    let falls = falls_trans (map g.D.Disk.fault_count (disks_of c.args.self.now)) (map g.D.Disk.fault_count (disks_of c.loop.self)) (map g.D.Disk.fault_count (disks_of c.see_or_pass.new.self)) inv.counts c.see_or_pass.ensures.counts in
+    let arms : NoneFalls (map g.A.Arm.fault_count (c.args.self.now).arms) (map g.A.Arm.fault_count (c.see_or_pass.new.self).arms) =
+    subst (λ (xs : List g.row.A.Denot). NoneFalls (map g.A.Arm.fault_count (c.args.self.now).arms) (map g.A.Arm.fault_count xs)) (sym c.see_or_pass.ensures.arms) inv.arm_counts in
+    let sure_arms : StaySure g.A.Arm.is_sure g.A.Arm.fault_count (c.args.self.now).arms (c.see_or_pass.new.self).arms =
+    subst (λ (xs : List g.row.A.Denot). StaySure g.A.Arm.is_sure g.A.Arm.fault_count (c.args.self.now).arms xs) (sym c.see_or_pass.ensures.arms) inv.sure_arms in
+    record {
+      says = λ tells k stands.
+          let first = (inv.says tells k stands).1 in
+          let came = comes_on g.D.Disk.files g.D.Piece.Piece.Tells g.D.Disk.fault_count g.D.Disk.fuse_count g.A.Arm.fault_count c.loop.self c.see_or_pass.new.self k first (c.see_or_pass.ensures.stands tells first.known first.stands) in
+          let says = c.read_more-read.ensures.says tells came.known came.stands in
+          (says_on (c.args.self.now).settings (c.see_or_pass.new.self).settings k came.known c.args.volume c.args.pair c.args.cookie _ c.read_more-read.result same (came.leaves).volumes says.0, comes_on g.D.Disk.files g.D.Piece.Piece.Tells g.D.Disk.fault_count g.D.Disk.fuse_count g.A.Arm.fault_count c.see_or_pass.new.self c.read_more-read.new.self k came says.1);
+      passes = read_on (IsWhole g.D.Disk.Tells g.D.Disk.files g.D.Piece.Piece.Tells g.D.Disk.fault_count g.D.Disk.fuse_count g.A.Arm.fault_count c.args.self.now) (IsWhole g.D.Disk.Tells g.D.Disk.files g.D.Piece.Piece.Tells g.D.Disk.fault_count g.D.Disk.fuse_count g.A.Arm.fault_count c.see_or_pass.new.self) (c.args.self.now).settings c.args.lane c.args.volume c.args.start (counts_of g.D.Disk.fault_count g.A.Arm.fault_count c.args.self.now) (counts_of g.D.Disk.fault_count g.A.Arm.fault_count c.see_or_pass.new.self) (counts_of g.D.Disk.fault_count g.A.Arm.fault_count c.read_more-read.new.self) [] c.in-Ok.passed c.read_more-read.result
+          (λ w.
+          let first = (inv.says w.0 w.1 w.2).1 in
+          let came = c.see_or_pass.ensures.stands w.0 first.known first.stands in
+          (w.0, came.known, came.stands))
+          (arm_goes_on (c.args.self.now).settings c.args.lane c.args.volume (counts_of g.D.Disk.fault_count g.A.Arm.fault_count c.args.self.now) (counts_of g.D.Disk.fault_count g.A.Arm.fault_count c.see_or_pass.new.self) (counts_of g.D.Disk.fault_count g.A.Arm.fault_count c.read_more-read.new.self) c.in-Ok.passed arms c.read_more-read.ensures.arm_counts falls c.read_more-read.ensures.most
+          (ap (λ (ds : List g.row.D.Denot). map g.D.Disk.fault_count ds) c.read_more-read.ensures.disks))
+          passed reads;
+      sure = λ arm at sure.
+          let kept = sure_on g.A.Arm.is_sure g.A.Arm.fault_count (c.args.self.now).arms (c.see_or_pass.new.self).arms c.args.lane arm sure_arms at sure in
+          let before : PassesNoArm c.in-Unseen.causes = subst (λ (r : ReadReply). ReadNoArm [] r) c.in-Unseen.is (inv.sure arm at sure) in
+          no_arm_round (IsWhole g.D.Disk.Tells g.D.Disk.files g.D.Piece.Piece.Tells g.D.Disk.fault_count g.D.Disk.fuse_count g.A.Arm.fault_count c.see_or_pass.new.self) (c.args.self.now).settings c.args.lane c.args.volume c.args.start (counts_of g.D.Disk.fault_count g.A.Arm.fault_count c.see_or_pass.new.self) (counts_of g.D.Disk.fault_count g.A.Arm.fault_count c.read_more-read.new.self) c.in-Ok.passed c.read_more-read.result reads
+          (no_arm_on c.in-Unseen.causes c.in-Ok.passed here.begins before c.in-Ok.ensures.no_arm) (c.read_more-read.ensures.sure kept.0 kept.1 kept.2);
+      tries = λ j more is.
+          let longer = stops_further (IsWhole g.D.Disk.Tells g.D.Disk.files g.D.Piece.Piece.Tells g.D.Disk.fault_count g.D.Disk.fuse_count g.A.Arm.fault_count c.see_or_pass.new.self) (c.args.self.now).settings c.args.lane c.args.volume c.args.start (counts_of g.D.Disk.fault_count g.A.Arm.fault_count c.see_or_pass.new.self) (counts_of g.D.Disk.fault_count g.A.Arm.fault_count c.read_more-read.new.self) c.see_or_pass.new.self c.args.pair c.in-Unseen.replica c.in-Unseen.causes c.in-Ok.passed c.read_more-read.result j more stop.next c.in-Ok.ensures.on reads c.read_more-read.ensures.stops is in
+          let so_far = inv.tries c.in-Unseen.replica c.in-Unseen.causes c.in-Unseen.is in
+          omega (arith, longer, so_far);
+      bytes = c.read_more-read.ensures.bytes;
+      room = omega (arith, inv.room, c.read_more-read.ensures.room);
+      sure_arms = sure_trans g.A.Arm.is_sure g.A.Arm.fault_count (c.args.self.now).arms (c.see_or_pass.new.self).arms (c.read_more-read.new.self).arms sure_arms c.read_more-read.ensures.sure_arms;
+      counts = subst (λ (ds : List g.row.D.Denot). NoneFalls (map g.D.Disk.fault_count (disks_of c.args.self.now)) (map g.D.Disk.fault_count ds)) (sym c.read_more-read.ensures.disks) falls;
+      fuses = ap (λ (ds : List g.row.D.Denot). map g.D.Disk.fuse_count ds) c.read_more-read.ensures.disks ∙ c.see_or_pass.ensures.fuses ∙ inv.fuses;
+      arm_counts = falls_trans (map g.A.Arm.fault_count (c.args.self.now).arms) (map g.A.Arm.fault_count (c.see_or_pass.new.self).arms) (map g.A.Arm.fault_count (c.read_more-read.new.self).arms) arms c.read_more-read.ensures.arm_counts;
+      settings = c.read_more-read.ensures.settings ∙ same;
+      up = c.read_more-read.ensures.up;
+    }
+
+pub found_of-requires : goal.found_of-requires
+found_of-requires g c = λ replica causes is. elim c.loop-test.branch [
+  | else-loop-test w ↦
+      let inv = c.loop.invariant in
+      let stop : PassesTo (IsWhole g.D.Disk.Tells g.D.Disk.files g.D.Piece.Piece.Tells g.D.Disk.fault_count g.D.Disk.fuse_count g.A.Arm.fault_count c.args.self.now) (c.args.self.now).settings c.args.lane c.args.volume c.args.start (counts_of g.D.Disk.fault_count g.A.Arm.fault_count c.args.self.now) (counts_of g.D.Disk.fault_count g.A.Arm.fault_count c.loop.self) [] causes replica =
+      subst (λ (r : ReadReply). ReadPasses (IsWhole g.D.Disk.Tells g.D.Disk.files g.D.Piece.Piece.Tells g.D.Disk.fault_count g.D.Disk.fuse_count g.A.Arm.fault_count c.args.self.now) (c.args.self.now).settings c.args.lane c.args.volume c.args.start (counts_of g.D.Disk.fault_count g.A.Arm.fault_count c.args.self.now) (counts_of g.D.Disk.fault_count g.A.Arm.fault_count c.loop.self) [] r) is inv.passes in
+      let fewer = stop.fewer in
+      let so_far = inv.tries replica causes is in
+      let same = ap (λ (st : Open g.row.D.Denot g.row.D-Piece.Denot g.row.A.Denot). (st.settings).replicas) c.self.view_is ∙ ap (λ (s : Settings). s.replicas) c.read_first-front.ensures.settings in
+      let ended = w.loop-test.false in
+      omega (arith, fewer, so_far, same, ended)
+  | then-loop-test+in_default w ↦ let h = w.in_default in ?
+]
+
+pub returns-clause-says : goal.returns-clause-says
+returns-clause-says g c = λ tells k stands.
+    let says = c.loop.invariant.says tells k stands in
+    ((c.read_first-front.ensures.says tells k stands).0, found_says c.args.cookie (outcomes_of (c.args.self.now).settings (volume_at k c.args.volume) c.args.pair) _ c.loop.read c.found_of.result c.found_of.ensures says.0, says.1)
+
+pub returns-clause-passes : goal.returns-clause-passes
+returns-clause-passes g c = found_passes (IsWhole g.D.Disk.Tells g.D.Disk.files g.D.Piece.Piece.Tells g.D.Disk.fault_count g.D.Disk.fuse_count g.A.Arm.fault_count c.args.self.now) (c.args.self.now).settings c.args.lane c.args.volume c.args.start (counts_of g.D.Disk.fault_count g.A.Arm.fault_count c.args.self.now) (counts_of g.D.Disk.fault_count g.A.Arm.fault_count c.loop.self) c.loop.read c.found_of.result c.found_of.ensures c.loop.invariant.passes
+
+pub returns-clause-sure : goal.returns-clause-sure
+returns-clause-sure g c = λ arm at sure. found_no_arm c.loop.read c.found_of.result c.found_of.ensures (c.loop.invariant.sure arm at sure)
