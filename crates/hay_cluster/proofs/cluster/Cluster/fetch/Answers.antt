@@ -1,4 +1,4 @@
-use Rattle.std.proofs.Common.{◌≡◌, ◌+◌, ◌%◌, ◌<◌, ◌≤◌, ℕ, List, [], length, map, Some, refl, sym, ap, subst, ◌∙◌, arith}
+use Rattle.std.proofs.Common.{◌≡◌, ◌+◌, ◌%◌, ◌<◌, ◌≤◌, ℕ, List, [], length, map, Some, refl, sym, ap, subst, ◌∙◌, inl, inr, arith}
 use Rattle.std.specs.Prelude.{slice_index}
 use Rattle.hay_needle.specs.declared.settings.Settings.{Settings}
 use Rattle.hay_legal.specs.Known.{NoneFalls, slot_of, volume_at}
@@ -130,7 +130,7 @@ found_of-requires g c = λ replica causes is. elim c.loop-test.branch [
       let same = ap (λ (st : Open g.row.D.Denot g.row.D-Piece.Denot g.row.A.Denot). (st.settings).replicas) c.self.view_is ∙ ap (λ (s : Settings). s.replicas) c.read_first-front.ensures.settings in
       let ended = w.loop-test.false in
       omega (arith, fewer, so_far, same, ended)
-  | then-loop-test+in_default w ↦ let h = w.in_default in ?
+  | then-loop-test+in_default w ↦ w.in_default.not-Unseen replica causes is
 ]
 
 pub returns-clause-says : goal.returns-clause-says
