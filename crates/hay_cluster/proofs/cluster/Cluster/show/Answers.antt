@@ -1,17 +1,15 @@
-use Rattle.std.proofs.Common.{◌≡◌, ℕ, List, length, map, refl, sym, ap, subst, inl, ◌∙◌, arith}
-use Rattle.std.specs.Prelude.{slice_index}
+use Rattle.std.proofs.Common.{◌≡◌, ℕ, List, Some, length, map, refl, sym, ap, subst, inl, ◌∙◌, arith}
+use Rattle.std.specs.Prelude.{slice_get}
 use Rattle.hay_needle.specs.declared.needle.Outcome.TheVariants as outcome
 use Rattle.hay_needle.specs.declared.settings.Settings.{Settings}
 use Rattle.hay_legal.specs.Known.{machine_of, volume_at}
 use Rattle.hay_reply.specs.declared.Passed.{Passed}
-use Rattle.hay_reader.specs.Shown.{ReadAnswers, HasCauses, Shows}
 use Rattle.hay_reader.specs.declared.causes.PassedReplica.{PassedReplica}
-use Rattle.hay_reader.specs.declared.seat.ReadReply.{ReadReply}
-use Rattle.hay_reader.specs.declared.seat.ReadReply.TheVariants as read
+use Rattle.hay_cluster.specs.declared.reading.Found.{Found}
 use Rattle.hay_cluster.specs.Causes.{Counts, PassedOver}
-use Rattle.hay_cluster.specs.Reads.{PassesNoArm, outcomes_of, passed_at}
+use Rattle.hay_cluster.specs.Reads.{FoundNoArm, FoundPasses, FoundSays, IsWhole, PassesNoArm, counts_of, outcomes_of, passed_at}
 use Rattle.hay_cluster.specs.Store.{IsBuilt, Open, disks_of}
-use Rattle.hay_cluster.proofs.Answering.{same_falls, stays}
+use Rattle.hay_cluster.proofs.Answering.{stays}
 use Rattle.hay_cluster.proofs.Moves.{none_falls}
 use Rattle.hay_cluster.proofs.Showing.{passed_over, read_shown, read_unreadable}
 use Rattle.hay_cluster.proofs.Sure.{same_sure, unreadable_told}
@@ -35,95 +33,85 @@ fetch-front-requires-clause-room g c = omega (arith, c.in-Ok.ensures.exact)
 pub returns-in-Photo-clause-shown : goal.returns-in-Photo-clause-shown
 returns-in-Photo-clause-shown g c = λ tells k stands home.
     let same : c.self.inside.settings ≡ (c.args.self.now).settings = ap (λ (st : Open g.row.D.Denot g.row.D-Piece.Denot g.row.A.Denot). st.settings) c.self.view_is ∙ c.fetch-front.ensures.settings in
-    let read = c.fetch-front.ensures.read tells k stands in
-    let shows = subst (λ (r : ReadReply). ReadAnswers c.args.start c.args.cookie (slice_index (map g.A.Arm.fault_count (c.args.self.now).arms) c.args.tag.lane) (slice_index (map g.A.Arm.fault_count (c.fetch-front.new.self).arms) c.args.tag.lane) (outcomes_of (c.args.self.now).settings (volume_at k c.args.volume) c.args.pair) c.fetch-front.new.photo.items r) c.in-Photo.is read.1 in
-    let here = subst (λ (bytes : List ℕ). Shows c.args.start (slice_index (map g.A.Arm.fault_count (c.args.self.now).arms) c.args.tag.lane) (slice_index (map g.A.Arm.fault_count (c.fetch-front.new.self).arms) c.args.tag.lane) (outcomes_of (c.args.self.now).settings (volume_at k c.args.volume) c.args.pair) c.in-Photo.replica (outcome.Photo (record { cookie = c.args.cookie; bytes = bytes }))) (sym c.from_vec.ensures) shows in
-    let legal = read_shown g.D.Disk.files g.D.Piece.Piece.Tells g.D.Disk.fault_count g.D.Disk.fuse_count g.A.Arm.fault_count c.args.self.now c.fetch-front.new.self (c.args.self.now).settings k c.args.tag c.args.start c.args.pair c.args.volume c.in-Photo.replica c.machine_of.result c.fetch-front.result.0 c.rows-rows.result (outcome.Photo (record { cookie = c.args.cookie; bytes = c.from_vec.result }))
+    let read = c.fetch-front.ensures.says tells k stands in
+    let says = subst (λ (f : Found). FoundSays c.args.cookie (outcomes_of (c.args.self.now).settings (volume_at k c.args.volume) c.args.pair) c.fetch-front.new.photo.items f) c.in-Photo.is read.1 in
+    let passes = subst (λ (f : Found). FoundPasses (IsWhole g.D.Disk.Tells g.D.Disk.files g.D.Piece.Piece.Tells g.D.Disk.fault_count g.D.Disk.fuse_count g.A.Arm.fault_count c.args.self.now) (c.args.self.now).settings c.args.tag.lane c.args.volume c.args.start (counts_of g.D.Disk.fault_count g.A.Arm.fault_count c.args.self.now) (counts_of g.D.Disk.fault_count g.A.Arm.fault_count c.fetch-front.new.self) f) c.in-Photo.is c.fetch-front.ensures.passes in
+    let here = subst (λ (bytes : List ℕ). slice_get (outcomes_of (c.args.self.now).settings (volume_at k c.args.volume) c.args.pair) c.in-Photo.replica ≡ Some (outcome.Photo (record { cookie = c.args.cookie; bytes = bytes }))) (sym c.from_vec.ensures) says in
+    let legal = read_shown g.D.Disk.Tells g.D.Disk.files g.D.Piece.Piece.Tells g.D.Disk.fault_count g.D.Disk.fuse_count g.A.Arm.fault_count c.args.self.now c.fetch-front.new.self (c.args.self.now).settings k c.args.tag c.args.start c.args.pair c.args.volume c.in-Photo.replica c.machine_of.result c.fetch-front.result.0 c.rows-rows.result (outcome.Photo (record { cookie = c.args.cookie; bytes = c.from_vec.result })) passes.0
     (subst (λ (s : Settings). IsBuilt s) same c.self.invariant.built) c.requires.volume home read.0 (c.rows-rows.ensures.known tells k stands)
-    (c.machine_of.ensures.is ∙ ap (λ (s : Settings). machine_of s c.args.volume c.in-Photo.replica) same) stands read.2 here in
+    (c.machine_of.ensures.is ∙ ap (λ (s : Settings). machine_of s c.args.volume c.in-Photo.replica) same) (tells, k, stands) stands read.2 here passes.1 in
     record { known = (read.2).known; legal = legal; stands = (read.2).stands }
 
 pub returns-in-Gone-clause-shown : goal.returns-in-Gone-clause-shown
 returns-in-Gone-clause-shown g c = λ tells k stands home.
     let same : c.self.inside.settings ≡ (c.args.self.now).settings = ap (λ (st : Open g.row.D.Denot g.row.D-Piece.Denot g.row.A.Denot). st.settings) c.self.view_is ∙ c.fetch-front.ensures.settings in
-    let read = c.fetch-front.ensures.read tells k stands in
-    let shows = subst (λ (r : ReadReply). ReadAnswers c.args.start c.args.cookie (slice_index (map g.A.Arm.fault_count (c.args.self.now).arms) c.args.tag.lane) (slice_index (map g.A.Arm.fault_count (c.fetch-front.new.self).arms) c.args.tag.lane) (outcomes_of (c.args.self.now).settings (volume_at k c.args.volume) c.args.pair) c.fetch-front.new.photo.items r) c.in-Gone.is read.1 in
-    let legal = read_shown g.D.Disk.files g.D.Piece.Piece.Tells g.D.Disk.fault_count g.D.Disk.fuse_count g.A.Arm.fault_count c.args.self.now c.fetch-front.new.self (c.args.self.now).settings k c.args.tag c.args.start c.args.pair c.args.volume c.in-Gone.replica c.machine_of-in-Gone.result c.fetch-front.result.0 c.rows-rows.result outcome.Nothing
+    let read = c.fetch-front.ensures.says tells k stands in
+    let says = subst (λ (f : Found). FoundSays c.args.cookie (outcomes_of (c.args.self.now).settings (volume_at k c.args.volume) c.args.pair) c.fetch-front.new.photo.items f) c.in-Gone.is read.1 in
+    let passes = subst (λ (f : Found). FoundPasses (IsWhole g.D.Disk.Tells g.D.Disk.files g.D.Piece.Piece.Tells g.D.Disk.fault_count g.D.Disk.fuse_count g.A.Arm.fault_count c.args.self.now) (c.args.self.now).settings c.args.tag.lane c.args.volume c.args.start (counts_of g.D.Disk.fault_count g.A.Arm.fault_count c.args.self.now) (counts_of g.D.Disk.fault_count g.A.Arm.fault_count c.fetch-front.new.self) f) c.in-Gone.is c.fetch-front.ensures.passes in
+    let legal = read_shown g.D.Disk.Tells g.D.Disk.files g.D.Piece.Piece.Tells g.D.Disk.fault_count g.D.Disk.fuse_count g.A.Arm.fault_count c.args.self.now c.fetch-front.new.self (c.args.self.now).settings k c.args.tag c.args.start c.args.pair c.args.volume c.in-Gone.replica c.machine_of-in-Gone.result c.fetch-front.result.0 c.rows-rows.result outcome.Nothing passes.0
     (subst (λ (s : Settings). IsBuilt s) same c.self.invariant.built) c.requires.volume home read.0 (c.rows-rows.ensures.known tells k stands)
-    (c.machine_of-in-Gone.ensures.is ∙ ap (λ (s : Settings). machine_of s c.args.volume c.in-Gone.replica) same) stands read.2 shows in
+    (c.machine_of-in-Gone.ensures.is ∙ ap (λ (s : Settings). machine_of s c.args.volume c.in-Gone.replica) same) (tells, k, stands) stands read.2 says passes.1 in
     record { known = (read.2).known; legal = legal; stands = (read.2).stands }
 
 pub returns-in-WrongCookie-clause-shown : goal.returns-in-WrongCookie-clause-shown
 returns-in-WrongCookie-clause-shown g c = λ tells k stands home.
     let same : c.self.inside.settings ≡ (c.args.self.now).settings = ap (λ (st : Open g.row.D.Denot g.row.D-Piece.Denot g.row.A.Denot). st.settings) c.self.view_is ∙ c.fetch-front.ensures.settings in
-    let read = c.fetch-front.ensures.read tells k stands in
-    let shows = subst (λ (r : ReadReply). ReadAnswers c.args.start c.args.cookie (slice_index (map g.A.Arm.fault_count (c.args.self.now).arms) c.args.tag.lane) (slice_index (map g.A.Arm.fault_count (c.fetch-front.new.self).arms) c.args.tag.lane) (outcomes_of (c.args.self.now).settings (volume_at k c.args.volume) c.args.pair) c.fetch-front.new.photo.items r) c.in-WrongCookie.is read.1 in
-    let legal = read_shown g.D.Disk.files g.D.Piece.Piece.Tells g.D.Disk.fault_count g.D.Disk.fuse_count g.A.Arm.fault_count c.args.self.now c.fetch-front.new.self (c.args.self.now).settings k c.args.tag c.args.start c.args.pair c.args.volume c.in-WrongCookie.replica c.machine_of-in-WrongCookie.result c.fetch-front.result.0 c.rows-rows.result (outcome.Photo shows.0)
+    let read = c.fetch-front.ensures.says tells k stands in
+    let says = subst (λ (f : Found). FoundSays c.args.cookie (outcomes_of (c.args.self.now).settings (volume_at k c.args.volume) c.args.pair) c.fetch-front.new.photo.items f) c.in-WrongCookie.is read.1 in
+    let passes = subst (λ (f : Found). FoundPasses (IsWhole g.D.Disk.Tells g.D.Disk.files g.D.Piece.Piece.Tells g.D.Disk.fault_count g.D.Disk.fuse_count g.A.Arm.fault_count c.args.self.now) (c.args.self.now).settings c.args.tag.lane c.args.volume c.args.start (counts_of g.D.Disk.fault_count g.A.Arm.fault_count c.args.self.now) (counts_of g.D.Disk.fault_count g.A.Arm.fault_count c.fetch-front.new.self) f) c.in-WrongCookie.is c.fetch-front.ensures.passes in
+    let legal = read_shown g.D.Disk.Tells g.D.Disk.files g.D.Piece.Piece.Tells g.D.Disk.fault_count g.D.Disk.fuse_count g.A.Arm.fault_count c.args.self.now c.fetch-front.new.self (c.args.self.now).settings k c.args.tag c.args.start c.args.pair c.args.volume c.in-WrongCookie.replica c.machine_of-in-WrongCookie.result c.fetch-front.result.0 c.rows-rows.result (outcome.Photo says.0) passes.0
     (subst (λ (s : Settings). IsBuilt s) same c.self.invariant.built) c.requires.volume home read.0 (c.rows-rows.ensures.known tells k stands)
-    (c.machine_of-in-WrongCookie.ensures.is ∙ ap (λ (s : Settings). machine_of s c.args.volume c.in-WrongCookie.replica) same) stands read.2 shows.2 in
-    record { known = (read.2).known; legal = (shows.0.cookie, shows.0.bytes, shows.1, legal); stands = (read.2).stands }
+    (c.machine_of-in-WrongCookie.ensures.is ∙ ap (λ (s : Settings). machine_of s c.args.volume c.in-WrongCookie.replica) same) (tells, k, stands) stands read.2 says.2 passes.1 in
+    record { known = (read.2).known; legal = (says.0.cookie, says.0.bytes, says.1, legal); stands = (read.2).stands }
 
 pub returns-in-Ok-passed_of-clause-shown : goal.returns-in-Ok-passed_of-clause-shown
 returns-in-Ok-passed_of-clause-shown g c = λ tells k stands home.
     let same : c.self.inside.settings ≡ (c.args.self.now).settings = ap (λ (st : Open g.row.D.Denot g.row.D-Piece.Denot g.row.A.Denot). st.settings) c.self.view_is ∙ c.fetch-front.ensures.settings in
-    let read = c.fetch-front.ensures.read tells k stands in
-    let shows = subst (λ (r : ReadReply). ReadAnswers c.args.start c.args.cookie (slice_index (map g.A.Arm.fault_count (c.args.self.now).arms) c.args.tag.lane) (slice_index (map g.A.Arm.fault_count (c.fetch-front.new.self).arms) c.args.tag.lane) (outcomes_of (c.args.self.now).settings (volume_at k c.args.volume) c.args.pair) c.fetch-front.new.photo.items r) c.in-Unreadable.is read.1 in
-    let causes = c.fetch-front.ensures.causes in
-    let passes = subst (λ (r : ReadReply). HasCauses c.args.start causes.0 (slice_index (map g.A.Arm.fault_count (c.args.self.now).arms) c.args.tag.lane) (slice_index (map g.A.Arm.fault_count (c.fetch-front.new.self).arms) c.args.tag.lane) r) c.in-Unreadable.is causes.2 in
+    let read = c.fetch-front.ensures.says tells k stands in
+    let passes = subst (λ (f : Found). FoundPasses (IsWhole g.D.Disk.Tells g.D.Disk.files g.D.Piece.Piece.Tells g.D.Disk.fault_count g.D.Disk.fuse_count g.A.Arm.fault_count c.args.self.now) (c.args.self.now).settings c.args.tag.lane c.args.volume c.args.start (counts_of g.D.Disk.fault_count g.A.Arm.fault_count c.args.self.now) (counts_of g.D.Disk.fault_count g.A.Arm.fault_count c.fetch-front.new.self) f) c.in-Unreadable.is c.fetch-front.ensures.passes in
     let is : c.in-Ok-passed_of.causes ≡ map (passed_at (c.args.self.now).settings c.args.volume) c.in-Unreadable.causes =
     c.in-Ok-passed_of.ensures ∙ ap (λ (over : List PassedReplica). map (passed_at c.self.inside.settings c.args.volume) over) c.as_slice.ensures.is
     ∙ ap (λ (s : Settings). map (passed_at s c.args.volume) c.in-Unreadable.causes) same in
     record {
       known = (read.2).known;
-      legal = read_unreadable g.D.Disk.files g.D.Piece.Piece.Tells g.D.Disk.fault_count g.D.Disk.fuse_count g.A.Arm.fault_count c.args.self.now c.fetch-front.new.self (c.args.self.now).settings k c.args.tag c.args.start c.args.pair c.args.volume c.fetch-front.result.0 c.rows-rows.result causes.0 c.in-Unreadable.causes c.in-Ok-passed_of.causes causes.1
-          home read.0 (c.rows-rows.ensures.known tells k stands) is stands read.2 passes.0 passes.1 shows;
+      legal = read_unreadable g.D.Disk.Tells g.D.Disk.files g.D.Piece.Piece.Tells g.D.Disk.fault_count g.D.Disk.fuse_count g.A.Arm.fault_count c.args.self.now c.fetch-front.new.self (c.args.self.now).settings k c.args.tag c.args.start c.args.pair c.args.volume c.fetch-front.result.0 c.rows-rows.result c.in-Unreadable.causes c.in-Ok-passed_of.causes
+          home read.0 (c.rows-rows.ensures.known tells k stands) is (tells, k, stands) stands read.2 passes.0 passes.1;
       stands = (read.2).stands;
     }
 
 pub returns-in-Ok-passed_of-clause-causes : goal.returns-in-Ok-passed_of-clause-causes
 returns-in-Ok-passed_of-clause-causes g c =
     let same : c.self.inside.settings ≡ (c.args.self.now).settings = ap (λ (st : Open g.row.D.Denot g.row.D-Piece.Denot g.row.A.Denot). st.settings) c.self.view_is ∙ c.fetch-front.ensures.settings in
-    let causes = c.fetch-front.ensures.causes in
-    let passes = subst (λ (r : ReadReply). HasCauses c.args.start causes.0 (slice_index (map g.A.Arm.fault_count (c.args.self.now).arms) c.args.tag.lane) (slice_index (map g.A.Arm.fault_count (c.fetch-front.new.self).arms) c.args.tag.lane) r) c.in-Unreadable.is causes.2 in
+    let passes = subst (λ (f : Found). FoundPasses (IsWhole g.D.Disk.Tells g.D.Disk.files g.D.Piece.Piece.Tells g.D.Disk.fault_count g.D.Disk.fuse_count g.A.Arm.fault_count c.args.self.now) (c.args.self.now).settings c.args.tag.lane c.args.volume c.args.start (counts_of g.D.Disk.fault_count g.A.Arm.fault_count c.args.self.now) (counts_of g.D.Disk.fault_count g.A.Arm.fault_count c.fetch-front.new.self) f) c.in-Unreadable.is c.fetch-front.ensures.passes in
     let is : c.in-Ok-passed_of.causes ≡ map (passed_at (c.args.self.now).settings c.args.volume) c.in-Unreadable.causes =
     c.in-Ok-passed_of.ensures ∙ ap (λ (over : List PassedReplica). map (passed_at c.self.inside.settings c.args.volume) over) c.as_slice.ensures.is
     ∙ ap (λ (s : Settings). map (passed_at s c.args.volume) c.in-Unreadable.causes) same in
     let before : Counts = record { disks = map g.D.Disk.fault_count (disks_of c.args.self.now); arms = map g.A.Arm.fault_count (c.args.self.now).arms } in
     let after : Counts = record { disks = map g.D.Disk.fault_count (disks_of c.fetch-front.new.self); arms = map g.A.Arm.fault_count (c.fetch-front.new.self).arms } in
     subst (λ (all : List Passed). PassedOver (c.args.self.now).settings c.args.tag.lane c.args.volume before after all) (sym is)
-    (passed_over (c.args.self.now).settings c.args.tag.lane c.args.volume c.args.start (length causes.0) before after c.in-Unreadable.causes causes.1 passes.0 passes.1)
+    (passed_over (IsWhole g.D.Disk.Tells g.D.Disk.files g.D.Piece.Piece.Tells g.D.Disk.fault_count g.D.Disk.fuse_count g.A.Arm.fault_count c.args.self.now) (c.args.self.now).settings c.args.tag.lane c.args.volume c.args.start before after c.in-Unreadable.causes (subst (λ (s : Settings). IsBuilt s) same c.self.invariant.built) c.requires.volume passes.0 passes.1)
 
 pub passed_of-requires : goal.passed_of-requires
 passed_of-requires g c = c.self.invariant.built
 
-pub returns-clause-shown : goal.returns-clause-shown
-returns-clause-shown g c = λ tells k stands home.
-    let read = c.fetch-front.ensures.read tells k stands in
+pub returns-in-Unreadable-clause-shown : goal.returns-in-Unreadable-clause-shown
+returns-in-Unreadable-clause-shown g c = λ tells k stands home.
+    let read = c.fetch-front.ensures.says tells k stands in
     record { known = (read.2).known; legal = inl (read.2).leaves; stands = (read.2).stands }
 
-pub returns-in-Photo-clause-counts : goal.returns-in-Photo-clause-counts
-returns-in-Photo-clause-counts g c = same_falls g.D.Disk.fault_count (disks_of c.args.self.now) (disks_of c.fetch-front.new.self) c.fetch-front.ensures.disks
+pub returns-clause-shown : goal.returns-clause-shown
+returns-clause-shown g c = λ tells k stands home.
+    let read = c.fetch-front.ensures.says tells k stands in
+    record { known = (read.2).known; legal = inl (read.2).leaves; stands = (read.2).stands }
 
 pub machine_of-requires : goal.machine_of-requires
 machine_of-requires g c = (c.self.invariant.built).some_machines
 
-pub returns-in-Gone-clause-counts : goal.returns-in-Gone-clause-counts
-returns-in-Gone-clause-counts g c = same_falls g.D.Disk.fault_count (disks_of c.args.self.now) (disks_of c.fetch-front.new.self) c.fetch-front.ensures.disks
-
 pub machine_of-requires-in-Gone : goal.machine_of-requires-in-Gone
 machine_of-requires-in-Gone g c = (c.self.invariant.built).some_machines
 
-pub returns-in-WrongCookie-clause-counts : goal.returns-in-WrongCookie-clause-counts
-returns-in-WrongCookie-clause-counts g c = same_falls g.D.Disk.fault_count (disks_of c.args.self.now) (disks_of c.fetch-front.new.self) c.fetch-front.ensures.disks
-
 pub machine_of-requires-in-WrongCookie : goal.machine_of-requires-in-WrongCookie
 machine_of-requires-in-WrongCookie g c = (c.self.invariant.built).some_machines
-
-pub returns-in-Ok-passed_of-clause-counts : goal.returns-in-Ok-passed_of-clause-counts
-returns-in-Ok-passed_of-clause-counts g c = same_falls g.D.Disk.fault_count (disks_of c.args.self.now) (disks_of c.fetch-front.new.self) c.fetch-front.ensures.disks
-
-pub returns-clause-counts : goal.returns-clause-counts
-returns-clause-counts g c = same_falls g.D.Disk.fault_count (disks_of c.args.self.now) (disks_of c.fetch-front.new.self) c.fetch-front.ensures.disks
 
 pub returns-in-Ok-passed_of-clause-sure : goal.returns-in-Ok-passed_of-clause-sure
 returns-in-Ok-passed_of-clause-sure g c = λ arm at sure.
@@ -131,7 +119,7 @@ returns-in-Ok-passed_of-clause-sure g c = λ arm at sure.
     let is : c.in-Ok-passed_of.causes ≡ map (passed_at (c.args.self.now).settings c.args.volume) c.in-Unreadable.causes =
     c.in-Ok-passed_of.ensures ∙ ap (λ (over : List PassedReplica). map (passed_at c.self.inside.settings c.args.volume) over) c.as_slice.ensures.is
     ∙ ap (λ (s : Settings). map (passed_at s c.args.volume) c.in-Unreadable.causes) same in
-    let none : PassesNoArm (read.Unreadable c.in-Unreadable.causes) = subst (λ (r : ReadReply). PassesNoArm r) c.in-Unreadable.is (c.fetch-front.ensures.sure arm at sure) in
+    let none : PassesNoArm c.in-Unreadable.causes = subst (λ (f : Found). FoundNoArm f) c.in-Unreadable.is (c.fetch-front.ensures.sure arm at sure) in
     unreadable_told (c.args.self.now).settings c.args.volume c.fetch-front.result.0 c.rows-rows.result c.in-Ok-passed_of.causes c.in-Unreadable.causes is none
 
 pub returns-in_default-clause-sure_arms : goal.returns-in_default-clause-sure_arms
