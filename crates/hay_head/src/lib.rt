@@ -8,10 +8,12 @@
 //! damaged. Beside it stand two calls that read a superblock and one row of any such file of rows.
 #![tactic(auto)]
 
+mod blocks;
 mod fault;
 mod head;
 mod rows;
 
+pub use blocks::{BLOCK_LEN, BlockReader};
 pub use fault::HeadFault;
 pub use head::Head;
 pub use rows::{Slot, read_front, read_slot};

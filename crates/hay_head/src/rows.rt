@@ -63,16 +63,26 @@ pub fn read_slot<D: Disk>(
     ensures fuses { D.fuse_count disk.new ≡ D.fuse_count disk.old }
 {
     let got = disk.read_into(file, at, out)?;
+    Ok(slot_in(out, got, magic))
+}
+
+// What the first `got` bytes show, where a row of as many bytes as there are or the end mark is due.
+pub(crate) fn slot_in(bytes: &[u8], got: usize, magic: u64) -> Slot
+    requires { 8 ≤ length bytes.now }
+    ensures row { result ≡ Slot.Row → (length bytes.now ≤ got) × (take 8 bytes.now ≡ magic_bytes magic) }
+    ensures mark { result ≡ Slot.Mark → (8 ≤ got) × (take 8 bytes.now ≢ magic_bytes magic) }
+    ensures broken { result ≡ Slot.Broken → (got < 8) ⊎ ((take 8 bytes.now ≡ magic_bytes magic) × (8 ≤ got) × (got < length bytes.now)) }
+{
     if got < 8 {
-        return Ok(Slot::Broken);
+        return Slot::Broken;
     }
-    if !has_number(out, 0, magic) {
-        return Ok(Slot::Mark);
+    if !has_number(bytes, 0, magic) {
+        return Slot::Mark;
     }
-    if got < out.len() {
-        return Ok(Slot::Broken);
+    if got < bytes.len() {
+        return Slot::Broken;
     }
-    Ok(Slot::Row)
+    Slot::Row
 }
 
 // Whether the eight bytes from `at` on are this number, the highest first.
