@@ -81,12 +81,7 @@ impl BlockReader {
     }
 
     // Reads from `at` on, as many bytes as `out` has room for, or fewer where the file ends, and answers how many.
-    fn read_into<D: Disk>(
-        &mut self,
-        disk: &mut D,
-        at: u64,
-        out: &mut [u8],
-    ) -> Result<usize, Failed>
+    fn read_into<D: Disk>(&mut self, disk: &mut D, at: u64, out: &mut [u8]) -> Result<usize, Failed>
         requires fits { length out.old ≤ BLOCK_LEN }
         requires reaches { Reaches self.old at }
         requires block { D.Tells → HasBlockOf (D.files disk.old self.old.file).now self.old }
