@@ -4,7 +4,7 @@ ghost use Rattle.std.specs.Prelude.{◌≡◌};
 ghost use Rattle.hay_dirfile.specs.Faults.{open_fault};
 
 use hay_disk::{DiskFault, Failed};
-use std::alloc::{AllocError, AllocFailed};
+use std::alloc::AllocFailed;
 
 /// Why a disk is not opened. It is to move to the crate that opens whole disks.
 #[derive(Clone, Copy, Debug, PartialEq, Eq)]
@@ -58,17 +58,6 @@ impl From<DiskFault> for RowsFault {
             DiskFault::Failed => RowsFault::Failed,
             DiskFault::NoMemory => RowsFault::NoMemory,
         }
-    }
-}
-
-impl From<AllocError> for RowsFault {
-    ghost use Rattle.std.specs.Prelude.{◌≡◌};
-    ghost use Rattle.hay_dirfile.specs.declared.fault.RowsFault.{RowsFault};
-
-    ghost from_gives = { λ _ fault. fault ≡ RowsFault.NoMemory };
-
-    fn from(_error: AllocError) -> RowsFault {
-        RowsFault::NoMemory
     }
 }
 

@@ -87,7 +87,7 @@ pub(crate) fn read_rows<D: Disk>(
     let volumes = sup.settings.volumes;
     let mut rows = Vec::new(alloc);
     let mut end = SUPER_LEN as u64;
-    let mut reader = BlockReader::new(alloc, FILE, end)?;
+    let mut reader = BlockReader::new(FILE, end);
     'rows: loop {
         match read_row(&mut reader, disk, end, volumes)? {
             Due::Row(row) => rows.push(row)?,

@@ -9,7 +9,7 @@ pub record IsBlock (start len : ℕ) (room file : List ℕ) : Type 0 where
 
 -- a reader's block is of this file
 abbrev pub HasBlockOf : List ℕ → BlockReader → Type 0
-HasBlockOf file reader = IsBlock reader.start reader.len reader.room.items file
+HasBlockOf file reader = IsBlock reader.start reader.len reader.room file
 
 -- where a reader's block ends
 abbrev pub block_end : BlockReader → ℕ

@@ -1,6 +1,6 @@
 //! Reading a file in blocks.
 
-ghost use Rattle.std.specs.Prelude.{◌≡◌, ◌⊎◌, ◌≤◌, ◌<◌, ◌+◌, ◌-◌, ◌++◌, min, ℕ, List, length, take, drop, vec_len, Ok, IsErr, IfOk, OnOk};
+ghost use Rattle.std.specs.Prelude.{◌≡◌, ◌⊎◌, ◌≤◌, ◌<◌, ◌+◌, ◌-◌, ◌++◌, min, ℕ, List, length, take, drop, Ok, IsErr, IfOk, OnOk};
 ghost use Rattle.hay_disk.specs.Counts.{IsCounted};
 ghost use Rattle.hay_disk.specs.Disk.{KeepsOthers};
 ghost use Rattle.hay_disk.specs.Gate.{IsClosed, HasBytesAt, magic_bytes};
@@ -9,42 +9,38 @@ ghost use Rattle.hay_head.specs.declared.blocks.TheConstants.{BLOCK_LEN};
 
 use crate::rows::{Slot, slot_in};
 use hay_disk::{Disk, Failed};
-use std::alloc::{AllocError, Global};
 
 /// The number of bytes that are read at once.
-pub const BLOCK_LEN: usize = 65_536;
+pub const BLOCK_LEN: usize = 32_768;
 
 /// Reads a file in blocks, from one place to later ones. Each byte is read from the disk once.
 #[derive(Drop)]
 pub struct BlockReader {
-    pub file: u32,
+    file: u32,
     /// Where the block begins in the file.
-    pub start: u64,
+    start: u64,
     /// The number of bytes of the block, which are the first ones of the room.
-    pub len: usize,
-    pub room: Vec<u8>,
-    ghost whole: { vec_len room ≡ BLOCK_LEN },
+    len: usize,
+    room: [u8; BLOCK_LEN],
     ghost within: { len ≤ BLOCK_LEN },
 }
 
 impl BlockReader {
     ghost use Rattle.hay_head.specs.Blocks.{HasBlockOf, Reaches, block_end};
 
-    /// Takes the room for a block. The first one begins at `start`.
-    pub fn new(alloc: Global, file: u32, start: u64) -> Result<BlockReader, AllocError>
-        ensures file { IfOk result (λ reader. reader.file ≡ file) }
-        ensures reaches { IfOk result (λ reader. Reaches reader start) }
-        ensures end { IfOk result (λ reader. block_end reader ≡ start) }
-        ensures block { (bytes : List ℕ) → IfOk result (λ reader. HasBlockOf bytes reader) }
+    /// A reader whose first block begins at `start`.
+    pub fn new(file: u32, start: u64) -> BlockReader
+        ensures file { result.file ≡ file }
+        ensures reaches { Reaches result start }
+        ensures end { block_end result ≡ start }
+        ensures block { (bytes : List ℕ) → HasBlockOf bytes result }
     {
-        let mut room = Vec::new(alloc);
-        room.resize(BLOCK_LEN, 0)?;
-        Ok(BlockReader {
+        BlockReader {
             file,
             start,
             len: 0,
-            room,
-        })
+            room: [0; BLOCK_LEN],
+        }
     }
 
     /// Reads what stands at `at`, where a row with this magic or the end mark is due. A row is as long as `out`, which
@@ -130,7 +126,7 @@ impl BlockReader {
         ensures file { self.new.file ≡ self.old.file }
         ensures start { self.new.start ≡ at }
         ensures end { block_end self.new ≡ block_end self.old }
-        ensures keeps { take self.new.len self.new.room.items ≡ take self.new.len (drop (at - self.old.start) self.old.room.items) }
+        ensures keeps { take self.new.len self.new.room ≡ take self.new.len (drop (at - self.old.start) self.old.room) }
     {
         let place = self.place_of(at);
         self.room.copy_within(place..self.len, 0);
@@ -153,7 +149,7 @@ impl BlockReader {
         ensures fuses { D.fuse_count disk.new ≡ D.fuse_count disk.old }
     {
         let end = self.start.saturating_add(self.len as u64);
-        let got = read_behind(disk, self.file, end, self.len, self.room.as_mut_slice())?;
+        let got = read_behind(disk, self.file, end, self.len, &mut self.room)?;
         self.len += got;
         Ok(())
     }
@@ -162,7 +158,7 @@ impl BlockReader {
     fn copy_into(&self, at: u64, out: &mut [u8]) -> usize
         requires { Reaches self.now at }
         ensures count { result ≡ min (length out.old) (block_end self.now - at) }
-        ensures bytes { out.new ≡ take result (drop (at - self.now.start) self.now.room.items) ++ drop result out.old }
+        ensures bytes { out.new ≡ take result (drop (at - self.now.start) self.now.room) ++ drop result out.old }
     {
         let place = self.place_of(at);
         let count = out.len().min(self.len - place);

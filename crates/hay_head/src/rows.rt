@@ -42,30 +42,6 @@ pub fn read_front<D: Disk>(disk: &mut D, file: u32, sup: &Super) -> Result<Optio
     }
 }
 
-/// Reads what stands at `at`, where a row with this magic or the end mark is due. A row is as long as `out`, which then
-/// has it.
-pub fn read_slot<D: Disk>(
-    disk: &mut D,
-    file: u32,
-    at: u64,
-    magic: u64,
-    out: &mut [u8],
-) -> Result<Slot, Failed>
-    requires { 8 ≤ length out.old }
-    ensures row { D.Tells → result ≡ Ok Slot.Row → HasBytesAt at out.new (D.files disk.old file).now }
-    ensures magic { result ≡ Ok Slot.Row → take 8 out.new ≡ magic_bytes magic }
-    ensures mark { D.Tells → result ≡ Ok Slot.Mark → IsClosed magic at (D.files disk.old file).now }
-    ensures broken { D.Tells → result ≡ Ok Slot.Broken → IsCutAt magic (length out.old) at (D.files disk.old file).now }
-    ensures same { D.Tells → D.files disk.new ≡ D.files disk.old }
-    ensures drawn { D.Tells → D.drawn disk.new file ≤ D.drawn disk.old file + length out.old }
-    ensures drawn_others { D.Tells → KeepsOthers file (D.drawn disk.old) (D.drawn disk.new) }
-    ensures counted { IsCounted (D.fault_count disk.old) (D.fault_count disk.new) (IsErr result) }
-    ensures fuses { D.fuse_count disk.new ≡ D.fuse_count disk.old }
-{
-    let got = disk.read_into(file, at, out)?;
-    Ok(slot_in(out, got, magic))
-}
-
 // What the first `got` bytes show, where a row of as many bytes as there are or the end mark is due.
 pub(crate) fn slot_in(bytes: &[u8], got: usize, magic: u64) -> Slot
     requires { 8 ≤ length bytes.now }

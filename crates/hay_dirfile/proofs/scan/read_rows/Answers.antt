@@ -20,10 +20,10 @@ rows-init g c = record {
   same = λ tells. c.read_front.ensures.same tells;
   lead = λ tells. lead_first (super_bytes c.args.sup.now) c.args.sup.now.settings.volumes (g.D.Disk.files c.args.disk.now 0).now c.new-rows.result.items c.new-rows.ensures.items (length-super c.args.sup.now)
       (none_is c.in_ok-at.field-0 _ c.in_default.is (c.in_ok-at.ensures.stands tells));
-  file = c.in_ok-reader.ensures.file;
-  reaches = c.in_ok-reader.ensures.reaches;
-  block = λ tells. c.in_ok-reader.ensures.block (g.D.Disk.files c.args.disk.now 0).now;
-  drawn = λ tells. omega (arith, c.read_front.ensures.drawn tells, c.in_ok-reader.ensures.end);
+  file = c.new-reader.ensures.file;
+  reaches = c.new-reader.ensures.reaches;
+  block = λ tells. c.new-reader.ensures.block (g.D.Disk.files c.args.disk.now 0).now;
+  drawn = λ tells. omega (arith, c.read_front.ensures.drawn tells, c.new-reader.ensures.end);
   drawn_others = λ tells. c.read_front.ensures.drawn_others tells;
   faults = c.read_front.ensures.counted.later;
   fuses = c.read_front.ensures.fuses;
