@@ -1,12 +1,12 @@
 //! A journal and its end.
 
-ghost use Rattle.std.specs.Prelude.{◌≡◌, ◌⊎◌, ◌≤◌, ◌<◌, ◌+◌, ◌-◌, ◌^◌, List, [], ◌∷◌, ◌++◌, ℕ, false, min, length, Ok, Err, IfOk, IfErr, OnOk, OnErr, IsErr, IsErrOf};
+ghost use Rattle.std.specs.Prelude.{◌≡◌, ◌⊎◌, ◌≤◌, ◌<◌, ◌+◌, ◌-◌, List, [], ◌∷◌, ◌++◌, ℕ, length, Ok, Err, IfOk, IfErr, OnOk, OnErr, IsErrOf};
 ghost use Rattle.hay_disk.specs.Counts.{IsCounted, Rose};
-ghost use Rattle.hay_disk.specs.Disk.{IsImage, IsSolid, IsSolidIn, IsFree, IsFreeIn, Changes, KeepsOthers, overwrite};
-ghost use Rattle.hay_disk.specs.Gate.{IsClosed, IsGate, end_mark};
+ghost use Rattle.hay_disk.specs.Disk.{IsImage, IsSolid, IsSolidIn, IsFree, IsFreeIn, Changes, KeepsOthers};
+ghost use Rattle.hay_disk.specs.Gate.{IsGate, end_mark};
 ghost use Rattle.hay_needle.specs.Super.{SuperFits, super_bytes};
 ghost use Rattle.hay_head.specs.declared.blocks.TheConstants.{BLOCK_LEN};
-ghost use Rattle.hay_dirfile.specs.Journal.{journal_magic, journal_end, IsRowOf, IsJournal, IsDamagedJournal};
+ghost use Rattle.hay_dirfile.specs.Journal.{journal_magic, journal_end, IsJournal, IsDamagedJournal};
 ghost use Rattle.hay_dirfile.specs.declared.row.DirRow.{DirRow};
 
 use crate::fault::{OpenFault, RowsFault, open_fault};

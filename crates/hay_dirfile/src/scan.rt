@@ -1,6 +1,6 @@
 //! Reading the rows of a journal.
 
-ghost use Rattle.std.specs.Prelude.{◌≡◌, ◌⊎◌, ◌≤◌, ◌<◌, ◌+◌, ℕ, List, length, Ok, Err, IfOk, IfErr, OnOk, IsErr, IsErrOf};
+ghost use Rattle.std.specs.Prelude.{◌≡◌, ◌⊎◌, ◌≤◌, ◌<◌, ◌+◌, ℕ, List, Ok, Err, IfOk, IfErr, OnOk, IsErr, IsErrOf};
 ghost use Rattle.hay_disk.specs.Counts.{IsCounted};
 ghost use Rattle.hay_disk.specs.Disk.{KeepsOthers};
 ghost use Rattle.hay_disk.specs.Gate.{IsClosed, HasBytesAt};

@@ -1,6 +1,6 @@
 //! Reading a file in blocks.
 
-ghost use Rattle.std.specs.Prelude.{◌≡◌, ◌⊎◌, ◌≤◌, ◌<◌, ◌+◌, ◌-◌, ◌++◌, min, ℕ, List, length, take, drop, Ok, IsErr, IfOk, OnOk};
+ghost use Rattle.std.specs.Prelude.{◌≡◌, ◌≤◌, ◌<◌, ◌+◌, ◌-◌, ◌++◌, min, ℕ, List, length, take, drop, Ok, IsErr, IfOk, OnOk};
 ghost use Rattle.hay_disk.specs.Counts.{IsCounted};
 ghost use Rattle.hay_disk.specs.Disk.{KeepsOthers};
 ghost use Rattle.hay_disk.specs.Gate.{IsClosed, HasBytesAt, magic_bytes};
@@ -13,7 +13,8 @@ use hay_disk::{Disk, Failed};
 /// The number of bytes that are read at once.
 pub const BLOCK_LEN: usize = 32_768;
 
-/// Reads a file in blocks, from one place to later ones. Each byte is read from the disk once.
+/// Reads a file in blocks, from one place to later ones. Each byte is read from the disk once. It takes no memory: the
+/// room for a block is in the reader.
 #[derive(Drop)]
 pub struct BlockReader {
     file: u32,

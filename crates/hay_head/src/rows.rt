@@ -1,12 +1,12 @@
 //! Reading the parts of a file of rows.
 
-ghost use Rattle.std.specs.Prelude.{◌≡◌, ◌≢◌, ◌⊎◌, ◌≤◌, ◌<◌, ◌+◌, ℕ, length, take, drop, Ok, IsErr, IfOk, IfSome, IfNone, IsNone};
+ghost use Rattle.std.specs.Prelude.{◌≡◌, ◌≢◌, ◌⊎◌, ◌≤◌, ◌<◌, ◌+◌, ℕ, length, take, drop, IsErr, IfOk, IfSome, IfNone, IsNone};
 ghost use Rattle.std.specs.Bool.{OnTrue, OnFalse};
 ghost use Rattle.hay_disk.specs.Counts.{IsCounted};
 ghost use Rattle.hay_disk.specs.Disk.{KeepsOthers};
-ghost use Rattle.hay_disk.specs.Gate.{IsClosed, HasBytesAt, magic_bytes};
+ghost use Rattle.hay_disk.specs.Gate.{magic_bytes};
 ghost use Rattle.hay_needle.specs.Super.{super_bytes};
-ghost use Rattle.hay_head.specs.Rows.{IsSuperFaultAt, IsCutAt};
+ghost use Rattle.hay_head.specs.Rows.{IsSuperFaultAt};
 
 use hay_disk::{Disk, Failed};
 use hay_needle::{SUPER_LEN, Super, read_super, u64_at};
