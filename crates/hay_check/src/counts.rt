@@ -1,7 +1,8 @@
 //! Counting cells.
 
-ghost use Rattle.std.specs.Prelude.{◌≡◌, List, map, IfOk};
+ghost use Rattle.std.specs.Prelude.{◌≡◌, List, map, count_by, IfOk};
 ghost use Rattle.hay_needle.specs.declared.needle.Cell.{Cell};
+ghost use Rattle.hay_needle.specs.declared.needle.CellHead.{CellHead};
 ghost use Rattle.hay_volume.specs.Cells.{cell_head};
 ghost use Rattle.hay_check.specs.Verdicts as verdicts;
 
@@ -27,10 +28,13 @@ pub(crate) fn live_count(alloc: Global, heads: &[CellHead]) -> Result<usize, NoM
 
 /// How many cells are of version 1.
 pub(crate) fn old_count(heads: &[CellHead]) -> usize
-    ensures { (cells : List Cell) → heads.now ≡ map cell_head cells → result ≡ verdicts.old_count cells }
+    ensures { result ≡ count_by (λ (head : CellHead). verdicts.is_old head.version) heads.now }
 {
-    heads
-        .iter()
-        .filter(|head| head.version == Version::One)
-        .count()
+    let mut old = 0;
+    for head in heads {
+        if head.version == Version::One {
+            old += 1;
+        }
+    }
+    old
 }

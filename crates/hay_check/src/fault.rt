@@ -4,8 +4,8 @@ ghost use Rattle.std.specs.Prelude.{◌≡◌};
 ghost use Rattle.hay_check.specs.Faults.{answer};
 
 use crate::verdict::{CheckFault, Verdict};
+use hay_base::NoMemory;
 use hay_disk::{Disk, DiskFault, Failed};
-use std::alloc::{AllocError, AllocFailed};
 
 /// What ends a check before all was read.
 #[derive(Clone, Copy, Debug, PartialEq, Eq)]
@@ -55,24 +55,13 @@ impl From<DiskFault> for Refusal {
     }
 }
 
-impl From<AllocError> for Refusal {
+impl From<NoMemory> for Refusal {
     ghost use Rattle.std.specs.Prelude.{◌≡◌};
     ghost use Rattle.hay_check.specs.declared.fault.Refusal.{Refusal};
 
     ghost from_gives = { λ _ gives. gives ≡ Refusal.NoMemory };
 
-    fn from(_error: AllocError) -> Refusal {
-        Refusal::NoMemory
-    }
-}
-
-impl<T: Drop> From<AllocFailed<T>> for Refusal {
-    ghost use Rattle.std.specs.Prelude.{◌≡◌};
-    ghost use Rattle.hay_check.specs.declared.fault.Refusal.{Refusal};
-
-    ghost from_gives = { λ _ gives. gives ≡ Refusal.NoMemory };
-
-    fn from(_error: AllocFailed<T>) -> Refusal {
+    fn from(_error: NoMemory) -> Refusal {
         Refusal::NoMemory
     }
 }

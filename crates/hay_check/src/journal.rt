@@ -32,8 +32,14 @@ fn read_row<D: Disk>(disk: &mut D, at: u64, volumes: u32) -> Result<Slot, Failed
 {
     let mut bytes = [0; ROW_LEN];
     match read_slot(disk, FILE, at, ROW_MAGIC, &mut bytes)? {
-        Slot::Row if u32_at(&bytes, 20) >= volumes => Ok(Slot::Broken),
-        slot => Ok(slot),
+        Slot::Row => {
+            if u32_at(&bytes, 20) >= volumes {
+                return Ok(Slot::Broken);
+            }
+            Ok(Slot::Row)
+        }
+        Slot::Mark => Ok(Slot::Mark),
+        Slot::Broken => Ok(Slot::Broken),
     }
 }
 

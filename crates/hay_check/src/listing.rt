@@ -17,10 +17,10 @@ use hay_needle::{CellHead, SUPER_LEN, Super, read_super};
 use std::alloc::Global;
 
 // Whether a record is that of a cell.
-fn is_record_of(record: &Record, head: &CellHead) -> bool
-    ensures { IsTrue result ↔ (record.now ≡ head_record head.now) }
+fn is_row_of(row: &Record, head: &CellHead) -> bool
+    ensures { IsTrue result ↔ (row.now ≡ head_record head.now) }
 {
-    *record
+    *row
         == Record {
             pair: head.pair,
             at: head.at,
@@ -36,9 +36,9 @@ fn compare_block(block: &[Record], heads: &[CellHead], first: u64) -> Result<(),
     ensures never { IsErrOf result IndexFault.Failed → ⊥ }
 {
     let mut at = first;
-    for (i, record) in block.iter().enumerate() {
+    for (i, row) in block.iter().enumerate() {
         match heads.get(i) {
-            Some(head) if is_record_of(record, head) => (),
+            Some(head) if is_row_of(row, head) => (),
             _ => return Err(IndexFault::Damaged { at }),
         }
         at += RECORD_LEN as u64;
