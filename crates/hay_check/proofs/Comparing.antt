@@ -1,5 +1,5 @@
 -- Records beside the cells that they are to name.
-use Rattle.std.proofs.Common.{◌≡◌, ◌≢◌, ◌⊎◌, inl, inr, ℕ, ◌+◌, ◌-◌, ◌*◌, ◌<◌, ◌≤◌, Bool, true, false, List, [], ◌∷◌, ◌++◌, length, get_or, take, drop, map, Option, Some, None, refl, sym, ap, subst, ◌∙◌, arith, append_assoc, length-append, take-append-drop}
+use Rattle.std.proofs.Common.{◌≡◌, ◌≢◌, ◌⊎◌, inl, inr, ℕ, ◌+◌, ◌-◌, ◌*◌, ◌<◌, ◌≤◌, Bool, true, false, List, [], ◌∷◌, ◌++◌, length, get_or, take, drop, map, Option, Some, None, refl, sym, ap, subst, ◌∙◌, arith, append_assoc, length-append, length-drop, take-append-drop}
 use Rattle.std.specs.Prelude.{IsTrue, ◌↔◌, is_some, nat_lt, option_map}
 use Rattle.std.specs.List.{slice_get}
 use Rattle.std.proofs.lemmas.Bool.{cases_lt, lt-ltb, ltb-true}
@@ -68,10 +68,16 @@ fit_all rows block i past within same =
 -- the cells from a number on
 pub rows_behind : (n count : ℕ) (heads piece : List CellHead) → piece ≡ take n (drop count heads) → length heads ≤ count + n → map head_record piece ≡ drop count (map head_record heads)
 rows_behind n count heads piece is long =
-    ap (λ (l : List CellHead). map head_record l) (is ∙ take_all n (drop count heads) (omega (arith, long))) ∙ sym (drop-map head_record count heads)
+    ap (λ (l : List CellHead). map head_record l) (is ∙ take_all n (drop count heads) (omega (arith, long, length-drop count heads))) ∙ sym (drop-map head_record count heads)
 
-pub no_records_yet : (superblock file : List ℕ) (rows : List Record) (end : ℕ) → HasRecords superblock file [] end → HasRecords superblock file (take 0 rows) end
-no_records_yet superblock file rows end has = has
+pub misfit_behind : (n count first k : ℕ) (heads piece : List CellHead) (block items : List Record) → piece ≡ take n (drop count heads) → length heads ≤ count + n → items ≡ block → HasMisfit (map head_record piece) items first k
+    → HasMisfit (drop count (map head_record heads)) block first k
+misfit_behind n count first k heads piece block items is long same misfit =
+    subst (λ (rows : List Record). HasMisfit rows block first k) (rows_behind n count heads piece is long) (subst (λ (l : List Record). HasMisfit (map head_record piece) l first k) same misfit)
+
+pub fit_behind : (n count : ℕ) (heads piece : List CellHead) (block items rest : List Record) → piece ≡ take n (drop count heads) → length heads ≤ count + n → items ≡ block → map head_record piece ≡ items ++ rest
+    → drop count (map head_record heads) ≡ block ++ rest
+fit_behind n count heads piece block items rest is long same are = sym (rows_behind n count heads piece is long) ∙ are ∙ ap (λ (l : List Record). l ++ rest) same
 
 -- one block more
 pub block_fits : (superblock file : List ℕ) (rows block rest : List Record) (count end further : ℕ) → count ≤ length rows → HasRecords superblock file (take count rows) end → BeginsWithBlock (drop end file) block → drop count rows ≡ block ++ rest
