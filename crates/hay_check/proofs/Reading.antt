@@ -39,8 +39,10 @@ volume_damage sup vsup f g generation file number at head same numbered vsup_is 
     )
 
 -- a row of a journal
-pub row_stands : (volumes volume at : ℕ) (bytes file : List ℕ) → IsBytes bytes → length bytes ≡ 24 → take 8 bytes ≡ magic_bytes journal_magic → volume ≡ number_at 4 20 bytes → volume < volumes → HasBytesAt at bytes file
-    → (row : DirRow) × IsRowOf volumes row × HasBytesAt at (journal_row row) file
-row_stands volumes volume at bytes file fits long magic is below stand =
+pub row_found : (volumes volume : ℕ) (bytes : List ℕ) → IsBytes bytes → length bytes ≡ 24 → take 8 bytes ≡ magic_bytes journal_magic → volume ≡ number_at 4 20 bytes → volume < volumes → (row : DirRow) × IsRowOf volumes row × (bytes ≡ journal_row row)
+row_found volumes volume bytes fits long magic is below =
     let read = row_read volumes (number_at 8 8 bytes) (number_at 4 16 bytes) volume bytes fits long magic refl refl is below in
-    (record { pair = record { key = number_at 8 8 bytes; alt = number_at 4 16 bytes }; volume = volume }, read.0, subst (λ (l : List ℕ). HasBytesAt at l file) read.1 stand)
+    (record { pair = record { key = number_at 8 8 bytes; alt = number_at 4 16 bytes }; volume = volume }, read.0, read.1)
+
+pub row_stands : (volumes at : ℕ) (bytes file : List ℕ) → (row : DirRow) × IsRowOf volumes row × (bytes ≡ journal_row row) → HasBytesAt at bytes file → (row : DirRow) × IsRowOf volumes row × HasBytesAt at (journal_row row) file
+row_stands volumes at bytes file found stand = (found.0, found.1, subst (λ (l : List ℕ). HasBytesAt at l file) found.2 stand)

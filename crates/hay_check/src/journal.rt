@@ -1,8 +1,9 @@
 //! Checking the journal of the Directory's disk.
 
-ghost use Rattle.std.specs.Prelude.{◌≡◌, ◌⊎◌, ◌≤◌, ◌<◌, ◌+◌, ℕ, List, length, Ok, Err, IfOk, IsErr, IsErrOf};
+ghost use Rattle.std.specs.Prelude.{◌≡◌, ◌⊎◌, ◌≤◌, ◌<◌, ◌+◌, ℕ, List, length, take, Ok, Err, IfOk, IsErr, IsErrOf};
 ghost use Rattle.hay_disk.specs.Counts.{IsCounted};
-ghost use Rattle.hay_disk.specs.Gate.{HasBytesAt, IsClosed};
+ghost use Rattle.std.specs.Bool.{OnFalse, OnTrue};
+ghost use Rattle.hay_disk.specs.Gate.{HasBytesAt, IsClosed, magic_bytes};
 ghost use Rattle.hay_needle.specs.Super.{super_bytes};
 ghost use Rattle.hay_dirfile.specs.Journal.{IsBrokenRow, IsDamagedJournal, IsJournal, IsRowOf, journal_magic, journal_row};
 ghost use Rattle.hay_dirfile.specs.declared.row.DirRow.{DirRow};
@@ -21,6 +22,19 @@ const ROW_MAGIC: u64 = 0x484f_4d45_524f_5731;
 // The number of bytes of a row, of which the last four are its volume.
 const ROW_LEN: usize = 24;
 
+// Whether the bytes, which begin with the magic, are a row of one of so many volumes.
+fn is_row(bytes: &[u8], volumes: u32) -> bool
+    requires long { length bytes.now ≡ 24 }
+    requires magic { take 8 bytes.now ≡ magic_bytes journal_magic }
+    ensures row { OnTrue result ((row : DirRow) × IsRowOf volumes row × (bytes.now ≡ journal_row row)) }
+    ensures none { OnFalse result ((row : DirRow) → IsRowOf volumes row → bytes.now ≡ journal_row row → ⊥) }
+{
+    if u32_at(bytes, 20) >= volumes {
+        return false;
+    }
+    true
+}
+
 // What stands where a row of one of so many volumes, or the end mark, is due.
 fn read_row<D: Disk>(disk: &mut D, at: u64, volumes: u32) -> Result<Slot, Failed>
     ensures row { D.Tells → result ≡ Ok Slot.Row → (row : DirRow) × IsRowOf volumes row × HasBytesAt at (journal_row row) (D.files disk.old FILE).now }
@@ -33,10 +47,11 @@ fn read_row<D: Disk>(disk: &mut D, at: u64, volumes: u32) -> Result<Slot, Failed
     let mut bytes = [0; ROW_LEN];
     match read_slot(disk, FILE, at, ROW_MAGIC, &mut bytes)? {
         Slot::Row => {
-            if u32_at(&bytes, 20) >= volumes {
-                return Ok(Slot::Broken);
+            if is_row(&bytes, volumes) {
+                Ok(Slot::Row)
+            } else {
+                Ok(Slot::Broken)
             }
-            Ok(Slot::Row)
         }
         Slot::Mark => Ok(Slot::Mark),
         Slot::Broken => Ok(Slot::Broken),
@@ -55,12 +70,12 @@ pub(crate) fn count_rows<D: Disk>(disk: &mut D, sup: &Super) -> Result<u64, Refu
         return Err(Refusal::Damaged { file: FILE, at });
     }
     let volumes = sup.settings.volumes;
-    let mut count = 0;
-    let mut end = SUPER_LEN as u64;
+    let first = SUPER_LEN as u64;
+    let mut end = first;
     'rows: loop {
         match read_row(disk, end, volumes)? {
-            Slot::Row => count += 1,
-            Slot::Mark => return Ok(count),
+            Slot::Row => (),
+            Slot::Mark => return Ok((end - first) / ROW_LEN as u64),
             Slot::Broken => return Err(Refusal::Damaged { file: FILE, at: end }),
         }
         let Some(next) = end.checked_add(ROW_LEN as u64) else {

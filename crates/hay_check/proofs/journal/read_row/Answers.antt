@@ -1,20 +1,18 @@
-use Rattle.std.proofs.Common.{ap, arith, refl, Ok}
-use Rattle.hay_needle.specs.Fields.{number_at}
-use Rattle.hay_dirfile.proofs.JournalLaws.{cut_row, no_volume, other_bytes, row_read}
+use Rattle.std.proofs.Common.{ap, Ok}
+use Rattle.hay_dirfile.proofs.JournalLaws.{cut_row, other_bytes}
+use Rattle.hay_index.proofs.ReadLaws.{on_false, on_true}
 use Rattle.hay_check.proofs.Reading.{row_stands}
 use Rattle.hay_check.proofs.journal.read_row.Goals as goal
 
-pub returns-then-u32_at-volumes-clause-broken : goal.returns-then-u32_at-volumes-clause-broken
-returns-then-u32_at-volumes-clause-broken g c = λ tells is.
+pub returns-then-is_row-clause-row : goal.returns-then-is_row-clause-row
+returns-then-is_row-clause-row g c = λ tells is.
+    row_stands c.args.volumes c.args.at c.read_slot.new.out (g.D.Disk.files c.args.disk.now 0).now (on_true c.is_row.result _ c.if-is_row.true c.is_row.ensures.row) (c.in_ok-read_slot.ensures.row tells (ap (λ x. Ok x) c.in-Row.is))
+
+pub returns-else-is_row-clause-broken : goal.returns-else-is_row-clause-broken
+returns-else-is_row-clause-broken g c = λ tells is.
     let slot = ap (λ x. Ok x) c.in-Row.is in
     other_bytes c.args.volumes c.args.at c.read_slot.new.out (g.D.Disk.files c.args.disk.now 0).now c.read_slot.auto.out (c.in_ok-read_slot.ensures.magic slot) (c.in_ok-read_slot.ensures.row tells slot)
-    (λ row of same. no_volume c.args.volumes c.u32_at.result c.read_slot.new.out row c.ranges.volumes.fits c.u32_at.ensures c.if-u32_at-volumes.true of same)
-
-pub returns-else-u32_at-volumes-clause-row : goal.returns-else-u32_at-volumes-clause-row
-returns-else-u32_at-volumes-clause-row g c = λ tells is.
-    let slot = ap (λ x. Ok x) c.in-Row.is in
-    row_stands c.args.volumes c.u32_at.result c.args.at c.read_slot.new.out (g.D.Disk.files c.args.disk.now 0).now (λ i. omega (arith, c.type_inv.bytes i)) c.read_slot.auto.out (c.in_ok-read_slot.ensures.magic slot) c.u32_at.ensures c.if-u32_at-volumes.false
-    (c.in_ok-read_slot.ensures.row tells slot)
+    (on_false c.is_row.result _ c.if-is_row.false c.is_row.ensures.none)
 
 pub returns-in-Broken-clause-broken : goal.returns-in-Broken-clause-broken
 returns-in-Broken-clause-broken g c = λ tells is.
