@@ -86,8 +86,7 @@ block_fits superblock file rows block rest count end further within has begins a
     let front = take count rows in
     let whole : rows ≡ (front ++ block) ++ rest = sym (take-append-drop count rows) ∙ ap (λ (l : List Record). front ++ l) are ∙ sym (append_assoc front block rest) in
     let long : length (front ++ block) ≡ count + length block = length-append front block ∙ ap (λ n. n + length block) (length-take-le count rows within) in
-    let next : take (count + length block) rows ≡ front ++ block = ap (λ (l : List Record). take (count + length block) l) whole ∙ take_at (front ++ block) rest (count + length block) long in
-    (
+    let next : take (count + length block) rows ≡ front ++ block = ap (λ (l : List Record). take (count + length block) l) whole ∙ take_at (front ++ block) rest (count + length block) long in (
       one_more_block superblock file front block (take (count + length block) rows) end further has begins next is,
       omega (arith, ap length whole, length-append (front ++ block) rest, long),
     )

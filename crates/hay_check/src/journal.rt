@@ -76,10 +76,16 @@ pub(crate) fn count_rows<D: Disk>(disk: &mut D, sup: &Super) -> Result<u64, Refu
         match read_row(disk, end, volumes)? {
             Slot::Row => (),
             Slot::Mark => return Ok((end - first) / ROW_LEN as u64),
-            Slot::Broken => return Err(Refusal::Damaged { file: FILE, at: end }),
+            Slot::Broken => return Err(Refusal::Damaged {
+                file: FILE,
+                at: end,
+            }),
         }
         let Some(next) = end.checked_add(ROW_LEN as u64) else {
-            return Err(Refusal::Damaged { file: FILE, at: end });
+            return Err(Refusal::Damaged {
+                file: FILE,
+                at: end,
+            });
         };
         end = next;
     }

@@ -20,12 +20,11 @@ use std::alloc::Global;
 fn is_row_of(row: &Record, head: &CellHead) -> bool
     ensures { IsTrue result ↔ (row.now ≡ head_record head.now) }
 {
-    *row
-        == Record {
-            pair: head.pair,
-            at: head.at,
-            size: head.size,
-        }
+    *row == Record {
+        pair: head.pair,
+        at: head.at,
+        size: head.size,
+    }
 }
 
 // Compares the records of a block, the first of which stands at `first` in the file, with these cells.

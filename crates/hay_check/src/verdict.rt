@@ -6,7 +6,9 @@ pub enum Verdict {
     /// Its first file is empty.
     Void,
     /// The Directory's disk: a journal of so many rows.
-    Rows { rows: u64 },
+    Rows {
+        rows: u64,
+    },
     /// The disk of a replica: its current generation, how many cells its volume file has, how many pairs have a photo,
     /// how many cells have a record in the index, where the cells end, and how many of them are of version 1.
     Whole {
@@ -18,7 +20,10 @@ pub enum Verdict {
         old: u64,
     },
     /// The first place that is not of the format.
-    Damaged { file: u32, at: u64 },
+    Damaged {
+        file: u32,
+        at: u64,
+    },
 }
 
 /// Why a disk was not checked.

@@ -49,11 +49,7 @@ fn read_generation<D: Disk>(disk: &mut D, sup: &Super) -> Result<u64, Refusal>
 }
 
 // The cells of a volume file behind its superblock, and where they end.
-fn scan<D: Disk>(
-    alloc: Global,
-    disk: &mut D,
-    file: u32,
-) -> Result<(Vec<CellHead>, u64), Refusal>
+fn scan<D: Disk>(alloc: Global, disk: &mut D, file: u32) -> Result<(Vec<CellHead>, u64), Refusal>
     ensures cells { D.Tells → IfOk result (λ scan. (cells : List Cell) × HasCells 64 (D.files disk.old file).now cells scan.1 × (scan.0.items ≡ map cell_head cells)) }
     ensures mark { D.Tells → IfOk result (λ scan. IsClosed needle_magic scan.1 (D.files disk.old file).now) }
     ensures damaged { D.Tells → (number at : ℕ) → result ≡ Err (Refusal.Damaged number at) → (number ≡ file) × IsDamagedCell 64 (D.files disk.old file).now at }

@@ -12,9 +12,9 @@ pub rows-init : goal.rows-init
 rows-init g c = record {
   same = λ tells. c.read_front.ensures.same tells;
   lead = λ tells. (
-      [],
-      refl,
-      lead_first (super_bytes c.args.sup.now) c.args.sup.now.settings.volumes (g.D.Disk.files c.args.disk.now 0).now [] refl (length-super c.args.sup.now) (none_is c.in_ok-at.field-0 _ c.in_default.is (c.in_ok-at.ensures.stands tells)),
+    [],
+    refl,
+    lead_first (super_bytes c.args.sup.now) c.args.sup.now.settings.volumes (g.D.Disk.files c.args.disk.now 0).now [] refl (length-super c.args.sup.now) (none_is c.in_ok-at.field-0 _ c.in_default.is (c.in_ok-at.ensures.stands tells)),
   );
   far = omega arith;
   faults = c.read_front.ensures.counted.later;
