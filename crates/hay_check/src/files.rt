@@ -37,8 +37,8 @@ pub(crate) fn head_super(sup: &Super) -> Super
     }
 }
 
-// The numbers behind a reference fit their types, once each was read.
-fn read_numbers(sup: &Super)
+/// The numbers behind a reference fit their types, once each was read.
+pub(crate) fn read_numbers(sup: &Super)
     ensures { SuperFits sup.now }
 {
     let _machines = sup.settings.machines;

@@ -10,6 +10,7 @@
 
 ghost use Rattle.std.specs.Prelude.{◌≡◌, ◌⊎◌, ◌≤◌, ◌<◌, ◌+◌, ℕ, Ok, IfOk, IfErr};
 ghost use Rattle.hay_disk.specs.Counts.{Rose};
+ghost use Rattle.hay_check.specs.declared.verdict.Verdict.{Verdict};
 ghost use Rattle.hay_check.specs.Verdicts.{CheckOf, JournalCheckOf, OpensWhole};
 
 mod block;
@@ -23,7 +24,7 @@ mod verdict;
 mod volume;
 
 use crate::fault::Refusal;
-use crate::files::HEAD_FILE;
+use crate::files::{HEAD_FILE, read_numbers};
 use crate::journal::count_rows;
 use crate::replica::check_disk;
 use hay_disk::{Disk, Failed};
@@ -37,8 +38,9 @@ pub fn check_replica<D: Disk>(
     disk: &mut D,
     sup: &Super,
 ) -> Result<Verdict, CheckFault>
-    // The verdict is the one of what the disk has.
+    // The verdict is that of what the disk has, which has no other.
     ensures verdict { D.Tells → IfOk result (CheckOf sup.now (λ n. (D.files disk.old n).now)) }
+    ensures only { D.Tells → (v : Verdict) → CheckOf sup.now (λ n. (D.files disk.old n).now) v → IfOk result (λ told. told ≡ v) }
 
     // A disk that is whole is opened as what it has.
     ensures opens { D.Tells → (generation cells live records end old : ℕ) → result ≡ Ok (Verdict.Whole generation cells live records end old) →
@@ -49,6 +51,7 @@ pub fn check_replica<D: Disk>(
     ensures counts { D.fault_count disk.old ≤ D.fault_count disk.new }
     ensures fuses { D.fuse_count disk.new ≡ D.fuse_count disk.old }
 {
+    read_numbers(sup);
     match disk.size(HEAD_FILE) {
         Ok(0) => Ok(Verdict::Void),
         Ok(_) => match check_disk(alloc, disk, sup) {
@@ -61,14 +64,16 @@ pub fn check_replica<D: Disk>(
 
 /// Checks the disk of the Directory.
 pub fn check_journal<D: Disk>(disk: &mut D, sup: &Super) -> Result<Verdict, CheckFault>
-    // The verdict is the one of what the disk has.
+    // The verdict is that of what the disk has, which has no other.
     ensures verdict { D.Tells → IfOk result (JournalCheckOf sup.now (λ n. (D.files disk.old n).now)) }
+    ensures only { D.Tells → (v : Verdict) → JournalCheckOf sup.now (λ n. (D.files disk.old n).now) v → IfOk result (λ told. told ≡ v) }
 
     ensures same { D.Tells → D.files disk.new ≡ D.files disk.old }
     ensures failed { IfErr result (λ fault. (faults : ℕ) → fault ≡ CheckFault.Failed faults → Rose (D.fault_count disk.old) (D.fault_count disk.new) × (faults ≡ D.fault_count disk.new)) }
     ensures counts { D.fault_count disk.old ≤ D.fault_count disk.new }
     ensures fuses { D.fuse_count disk.new ≡ D.fuse_count disk.old }
 {
+    read_numbers(sup);
     match disk.size(HEAD_FILE) {
         Ok(0) => Ok(Verdict::Void),
         Ok(_) => match count_rows(disk, sup) {
