@@ -1,11 +1,11 @@
 -- The verdict of what was read.
-use Rattle.std.proofs.Common.{◌≡◌, ◌⊎◌, inl, inr, ℕ, ◌+◌, ◌≤◌, zero, suc, List, [], ◌∷◌, length, map, take, refl, sym, ap, subst, ◌∙◌, arith, Result, Ok, Err}
+use Rattle.std.proofs.Common.{◌≡◌, ◌⊎◌, inl, inr, ℕ, ◌+◌, ◌≤◌, ◌<◌, ◌^◌, zero, suc, List, [], ◌∷◌, length, map, take, refl, sym, ap, subst, ◌∙◌, arith, Result, Ok, Err}
 use Rattle.std.specs.Prelude.{IfOk}
 use Rattle.hay_needle.specs.declared.needle.Cell.{Cell}
 use Rattle.hay_needle.specs.declared.needle.CellHead.{CellHead}
 use Rattle.hay_needle.specs.declared.settings.Super.{Super}
 use Rattle.hay_needle.specs.Sizes.{needle_total}
-use Rattle.hay_needle.specs.Super.{super_bytes}
+use Rattle.hay_needle.specs.Super.{SuperFits, super_bytes}
 use Rattle.hay_disk.specs.Disk.{Files}
 use Rattle.hay_dirfile.specs.declared.row.DirRow.{DirRow}
 use Rattle.hay_dirfile.specs.Journal.{IsDamagedJournal, IsJournal}
@@ -27,7 +27,7 @@ use Rattle.hay_check.specs.Damage.{HoldsCells, IsDamagedFront, IsFirstDamage}
 use Rattle.hay_check.specs.Faults.{answer}
 use Rattle.hay_check.specs.Listing.{IsDamagedListing, ListsFirst}
 use Rattle.hay_check.specs.Verdicts.{CheckOf, JournalCheckOf, OpensWhole, live_count, old_count, whole_of}
-use Rattle.hay_check.proofs.Counting.{old_heads}
+use Rattle.hay_check.proofs.Openings.{opening_whole}
 
 -- what ended a check, where its damage is that of the disk
 pub answered : (P : Verdict → Type 0) (r : Refusal) (faults : ℕ) (result : Result Verdict CheckFault) → result ≡ answer r faults → ((file at : ℕ) → r ≡ refusal.Damaged file at → P (verdict.Damaged file at)) → IfOk result P
@@ -128,8 +128,10 @@ unfolding CheckOf
 check_damage sup f g file at same some damage = inr (inr (file, at, some, subst (λ (fs : Files). IsFirstDamage sup (λ n. (fs n).now) file at) same damage, refl))
 
 -- a whole disk opens as what it has
-pub check_opens : (sup : Super) (contents : ℕ → List ℕ) (v : Verdict) (generation cells live records end old : ℕ) → v ≡ verdict.Whole generation cells live records end old → CheckOf sup contents v → OpensWhole sup contents v
+pub check_opens : (sup : Super) (contents : ℕ → List ℕ) (v : Verdict) (generation cells live records end old : ℕ) → SuperFits sup → ((n : ℕ) → length (contents n) < 2 ^ 64) → v ≡ verdict.Whole generation cells live records end old → CheckOf sup contents v
+    → OpensWhole sup contents v
 unfolding CheckOf
-check_opens sup contents v generation cells live records end old is (inl void) = let wrong = sym is ∙ void.1 in absurd cc
-check_opens sup contents v generation cells live records end old is (inr (inl whole)) = record { stored = whole.0; opens = stored_opens sup contents whole.0 whole.1; numbers = whole.2 }
-check_opens sup contents v generation cells live records end old is (inr (inr damage)) = let wrong = sym is ∙ damage.4 in absurd cc
+check_opens sup contents v generation cells live records end old fits short is (inl void) = let wrong = sym is ∙ void.1 in absurd cc
+check_opens sup contents v generation cells live records end old fits short is (inr (inl whole)) =
+    record { stored = whole.0; opens = stored_opens sup contents whole.0 whole.1; numbers = whole.2; undamaged = λ file at. opening_whole sup contents whole.0 file at fits short whole.1 }
+check_opens sup contents v generation cells live records end old fits short is (inr (inr damage)) = let wrong = sym is ∙ damage.4 in absurd cc

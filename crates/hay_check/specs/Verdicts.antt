@@ -9,6 +9,7 @@ use Rattle.hay_needle.specs.Tables.{table_of}
 use Rattle.hay_dirfile.specs.declared.row.DirRow.{DirRow}
 use Rattle.hay_dirfile.specs.Journal.{IsDamagedJournal, IsJournal}
 use Rattle.hay_volume.specs.Cells.{needles_of}
+use Rattle.hay_open.specs.Damage.{IsOpeningDamage}
 use Rattle.hay_open.specs.Stored.{IsStored, IsVoid, OpensAs, Stored}
 use Rattle.hay_check.specs.declared.verdict.Verdict.{Verdict}
 use Rattle.hay_check.specs.declared.verdict.Verdict.TheVariants as verdict
@@ -46,8 +47,9 @@ JournalCheckOf sup contents v =
     ⊎ ((rows : List DirRow) × IsJournal (super_bytes sup) sup.settings.volumes (contents 0) rows × (v ≡ verdict.Rows (length rows)))
     ⊎ ((at : ℕ) × (IsVoid contents → ⊥) × IsDamagedJournal sup (contents 0) at × (v ≡ verdict.Damaged 0 at))
 
--- What an opening finds on a whole disk has the numbers of the verdict.
+-- What an opening finds on a whole disk has the numbers of the verdict, and nothing that it reads is damaged.
 pub record OpensWhole (sup : Super) (contents : ℕ → List ℕ) (v : Verdict) : Type 0 where
   pub stored : Stored
   pub opens : OpensAs sup contents stored
   pub numbers : v ≡ whole_of stored
+  pub undamaged : (file at : ℕ) → IsOpeningDamage sup contents file at → ⊥

@@ -8,7 +8,7 @@
 //! Of the Directory's disk the journal is read, and its rows are counted.
 #![tactic(auto)]
 
-ghost use Rattle.std.specs.Prelude.{◌≡◌, ◌⊎◌, ◌≤◌, ◌<◌, ◌+◌, ℕ, Ok, IfOk, IfErr};
+ghost use Rattle.std.specs.Prelude.{◌≡◌, ◌⊎◌, ◌≤◌, ◌<◌, ◌+◌, ℕ, Ok, IfOk, IfErr, IsErrOf};
 ghost use Rattle.hay_disk.specs.Counts.{Rose};
 ghost use Rattle.hay_check.specs.declared.verdict.Verdict.{Verdict};
 ghost use Rattle.hay_check.specs.Verdicts.{CheckOf, JournalCheckOf, OpensWhole};
@@ -42,7 +42,7 @@ pub fn check_replica<D: Disk>(
     ensures verdict { D.Tells → IfOk result (CheckOf sup.now (λ n. (D.files disk.old n).now)) }
     ensures only { D.Tells → (v : Verdict) → CheckOf sup.now (λ n. (D.files disk.old n).now) v → IfOk result (λ told. told ≡ v) }
 
-    // A disk that is whole is opened as what it has.
+    // A disk that is whole is opened as what it has, and without damage.
     ensures opens { D.Tells → (generation cells live records end old : ℕ) → result ≡ Ok (Verdict.Whole generation cells live records end old) →
         OpensWhole sup.now (λ n. (D.files disk.old n).now) (Verdict.Whole generation cells live records end old) }
 
@@ -62,12 +62,13 @@ pub fn check_replica<D: Disk>(
     }
 }
 
-/// Checks the disk of the Directory.
+/// Checks the disk of the Directory. It takes no memory.
 pub fn check_journal<D: Disk>(disk: &mut D, sup: &Super) -> Result<Verdict, CheckFault>
     // The verdict is that of what the disk has, which has no other.
     ensures verdict { D.Tells → IfOk result (JournalCheckOf sup.now (λ n. (D.files disk.old n).now)) }
     ensures only { D.Tells → (v : Verdict) → JournalCheckOf sup.now (λ n. (D.files disk.old n).now) v → IfOk result (λ told. told ≡ v) }
 
+    ensures memory { IsErrOf result CheckFault.NoMemory → ⊥ }
     ensures same { D.Tells → D.files disk.new ≡ D.files disk.old }
     ensures failed { IfErr result (λ fault. (faults : ℕ) → fault ≡ CheckFault.Failed faults → Rose (D.fault_count disk.old) (D.fault_count disk.new) × (faults ≡ D.fault_count disk.new)) }
     ensures counts { D.fault_count disk.old ≤ D.fault_count disk.new }

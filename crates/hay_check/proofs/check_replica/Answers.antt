@@ -18,7 +18,8 @@ pub returns-in-Ok-check_disk-clause-opens : goal.returns-in-Ok-check_disk-clause
 returns-in-Ok-check_disk-clause-opens g c = λ tells generation cells live records end old is.
     let same : c.in-Ok-check_disk.verdict ≡ Whole generation cells live records end old = cc in
     subst (λ (v : Verdict). OpensWhole c.args.sup.now (λ n. (g.D.Disk.files c.args.disk.now n).now) v) same
-    (check_opens c.args.sup.now (λ n. (g.D.Disk.files c.args.disk.now n).now) c.in-Ok-check_disk.verdict generation cells live records end old same
+    (check_opens c.args.sup.now (λ n. (g.D.Disk.files c.args.disk.now n).now) c.in-Ok-check_disk.verdict generation cells live records end old c.read_numbers.ensures
+    (λ n. (g.met.D.Disk g.world.𝓛 g.world.𝓜 g.world.𝓡 ((λ s x. x), (λ x. x), (λ x. x), λ x. x)).fits c.args.disk.now n tells) same
     (check_whole c.args.sup.now (g.D.Disk.files c.args.disk.now) (g.D.Disk.files c.size.new.self) c.in-Ok-check_disk.verdict (c.size.ensures.same tells) (c.in-Ok-check_disk.ensures.whole tells)))
 
 pub returns-in-Err-check_disk-clause-verdict : goal.returns-in-Err-check_disk-clause-verdict
