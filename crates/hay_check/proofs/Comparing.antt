@@ -1,18 +1,17 @@
 -- Records beside the cells that they are to name.
-use Rattle.std.proofs.Common.{◌≡◌, ◌≢◌, ◌⊎◌, inl, inr, ℕ, ◌+◌, ◌-◌, ◌*◌, ◌<◌, ◌≤◌, Bool, true, false, List, [], ◌∷◌, ◌++◌, length, get_or, take, drop, map, Option, Some, None, refl, sym, ap, subst, ◌∙◌, arith, append_assoc, length-append, length-drop, take-append-drop}
+use Rattle.std.proofs.Common.{◌≡◌, ◌≢◌, ◌⊎◌, inl, inr, ℕ, ◌+◌, ◌*◌, ◌<◌, ◌≤◌, Bool, true, false, List, [], ◌∷◌, ◌++◌, length, get_or, take, drop, map, Option, Some, None, sym, ap, subst, ◌∙◌, arith, append_assoc, length-append, length-drop, take-append-drop}
 use Rattle.std.specs.Prelude.{IsTrue, ◌↔◌, is_some, nat_lt, option_map}
 use Rattle.std.specs.List.{slice_get}
 use Rattle.std.proofs.lemmas.Bool.{cases_lt, lt-ltb, ltb-true}
 use Rattle.std.proofs.lemmas.List.{length-map, length-take-le, take_all, take_at, drop-map}
 use Rattle.std.proofs.lemmas.Option.{same_Some, slice_get-get_or, slice_get-map, slice_get_past}
 use Rattle.hay_needle.specs.declared.needle.CellHead.{CellHead}
-use Rattle.hay_disk.specs.Gate.{IsClosed}
 use Rattle.hay_index.specs.declared.record.Record.{Record}
-use Rattle.hay_index.specs.Records.{BeginsWithBlock, HasRecords, IsBrokenAt, index_magic}
+use Rattle.hay_index.specs.Records.{BeginsWithBlock, HasRecords, IsBrokenAt}
 use Rattle.hay_index.proofs.ReadLaws.{one_more_block}
 use Rattle.hay_open.specs.Listing.{head_record}
 use Rattle.hay_open.proofs.CellRows.{get_behind, split_at, take_here}
-use Rattle.hay_check.specs.Listing.{HasMisfit, IsBrokenBehind, IsMisfitAt, ListsFirst}
+use Rattle.hay_check.specs.Listing.{HasMisfit, IsBrokenBehind, IsMisfitAt}
 
 -- ONE RECORD
 

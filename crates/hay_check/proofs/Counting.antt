@@ -1,5 +1,5 @@
 -- Counting the cells of a volume file.
-use Rattle.std.proofs.Common.{◌≡◌, ℕ, ◌+◌, ◌<◌, Bool, true, false, not, cond, List, [], ◌∷◌, ◌++◌, length, get_or, take, BTreeSet, btree_set_len, refl, sym, ap, subst, ◌∙◌, arith, Option, Some, None}
+use Rattle.std.proofs.Common.{◌≡◌, ℕ, ◌+◌, ◌<◌, Bool, true, false, not, cond, List, [], ◌∷◌, length, get_or, take, BTreeSet, btree_set_len, refl, sym, ap, subst, ◌∙◌, arith, Option, Some, None}
 use Rattle.std.specs.Prelude.{map, is_some, count_by}
 use Rattle.std.specs.List.{slice_get}
 use Rattle.std.specs.BTreeSet.{IsEmpty, Updates, contains}

@@ -1,5 +1,5 @@
 -- The verdict of what was read.
-use Rattle.std.proofs.Common.{◌≡◌, ◌⊎◌, inl, inr, ℕ, ◌+◌, ◌≤◌, ◌<◌, ◌^◌, zero, suc, List, [], ◌∷◌, length, map, take, refl, sym, ap, subst, ◌∙◌, arith, Result, Ok, Err}
+use Rattle.std.proofs.Common.{◌≡◌, inl, inr, ℕ, ◌+◌, ◌≤◌, ◌<◌, ◌^◌, zero, suc, List, [], ◌∷◌, length, map, take, refl, sym, ap, subst, ◌∙◌, arith, Result}
 use Rattle.std.specs.Prelude.{IfOk}
 use Rattle.hay_needle.specs.declared.needle.Cell.{Cell}
 use Rattle.hay_needle.specs.declared.needle.CellHead.{CellHead}
@@ -13,11 +13,11 @@ use Rattle.hay_volume.specs.Cells.{cell_head}
 use Rattle.hay_index.specs.declared.record.Record.{Record}
 use Rattle.hay_index.specs.Records.{AreInRow}
 use Rattle.hay_open.specs.Listing.{head_record}
-use Rattle.hay_open.specs.Stored.{IsStored, IsVoid, OpensAs, Stored, cell_record, index_file, index_super}
+use Rattle.hay_open.specs.Stored.{IsStored, IsVoid, Stored, cell_record, index_file, index_super}
 use Rattle.hay_open.proofs.CellRows.{has_row, heads_length, map_heads, map_length}
 use Rattle.hay_open.proofs.Faults.{void_is}
 use Rattle.hay_open.proofs.Reading.{there}
-use Rattle.hay_open.proofs.Standing.{stored_not_void, stored_opens}
+use Rattle.hay_open.proofs.Standing.{stored_opens}
 use Rattle.hay_check.specs.declared.fault.Refusal.{Refusal}
 use Rattle.hay_check.specs.declared.fault.Refusal.TheVariants as refusal
 use Rattle.hay_check.specs.declared.verdict.CheckFault.{CheckFault}

@@ -1,5 +1,5 @@
 -- The superblocks, the head and the cells of a disk have one reading: they are damaged at one place, or not at all.
-use Rattle.std.proofs.Common.{◌≡◌, inl, inr, ℕ, ◌+◌, ◌≤◌, ◌<◌, ◌^◌, List, [], ◌∷◌, length, take, drop, false, true, refl, sym, ap, subst, ◌∙◌, arith, Some, Err, length-take, length-drop}
+use Rattle.std.proofs.Common.{◌≡◌, inl, inr, ℕ, ◌+◌, ◌≤◌, List, [], ◌∷◌, length, take, drop, sym, ap, subst, ◌∙◌, arith, Err, length-take, length-drop}
 use Rattle.std.proofs.lemmas.List.{take-take}
 use Rattle.std.proofs.lemmas.Option.{same_Some}
 use Rattle.hay_needle.specs.declared.needle.Cell.{Cell}

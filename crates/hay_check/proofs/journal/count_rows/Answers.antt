@@ -1,10 +1,10 @@
-use Rattle.std.proofs.Common.{◌≡◌, ◌∙◌, ◌+◌, ◌++◌, ◌∷◌, ◌<◌, ◌^◌, [], inl, inr, List, ap, arith, refl, subst, Ok}
+use Rattle.std.proofs.Common.{◌≡◌, ◌∙◌, ◌+◌, ◌++◌, ◌∷◌, ◌<◌, ◌^◌, [], inr, List, ap, arith, refl, subst, Ok}
 use Rattle.hay_needle.specs.Super.{super_bytes}
 use Rattle.hay_needle.proofs.Supers.{length-super}
 use Rattle.hay_disk.specs.Gate.{HasBytesAt, IsClosed}
 use Rattle.hay_head.proofs.HeadLaws.{none_is}
 use Rattle.hay_dirfile.specs.declared.row.DirRow.{DirRow}
-use Rattle.hay_dirfile.specs.Journal.{IsBrokenRow, IsDamagedJournal, journal_end, journal_magic, journal_row}
+use Rattle.hay_dirfile.specs.Journal.{IsBrokenRow, IsDamagedJournal, journal_magic, journal_row}
 use Rattle.hay_dirfile.proofs.JournalLaws.{journal_found, lead_first, lead_next, next_count, row_within}
 use Rattle.hay_check.proofs.journal.count_rows.Goals as goal
 

@@ -1,4 +1,4 @@
-use Rattle.std.proofs.Common.{◌≡◌, arith, map, refl, sym}
+use Rattle.std.proofs.Common.{◌≡◌, arith, map}
 use Rattle.hay_open.specs.Listing.{head_record}
 use Rattle.hay_check.proofs.Comparing.{fit_all, fit_more, misfit_here, no_row, other_row, row_here}
 use Rattle.hay_check.proofs.listing.compare_block.Goals as goal

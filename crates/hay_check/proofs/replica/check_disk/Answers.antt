@@ -4,7 +4,7 @@ use Rattle.std.proofs.lemmas.Result.{err_from_is_err_and}
 use Rattle.hay_needle.specs.declared.needle.CellHead.{CellHead}
 use Rattle.hay_check.specs.Verdicts.{is_old}
 use Rattle.hay_check.proofs.Counting.{old_heads}
-use Rattle.hay_check.proofs.Deciding.{Holds, cells_held, front_first, rest_first, whole_numbers, whole_stored}
+use Rattle.hay_check.proofs.Deciding.{cells_held, front_first, rest_first, whole_numbers, whole_stored}
 use Rattle.hay_check.proofs.Reading.{same_refusal}
 use Rattle.hay_check.proofs.replica.check_disk.Goals as goal
 
