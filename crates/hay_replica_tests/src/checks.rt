@@ -1,4 +1,8 @@
 //! What a check tells of disks that the store wrote, and of the same with a byte changed or a file cut.
+#![tactic(auto, using(crate::proofs::Opens::up_open))]
+
+ghost use Rattle.std.specs.Prelude.{IfOk};
+ghost use Rattle.hay_physical.specs.Copies.{IsOpenCopy};
 
 use hay_check::{Verdict, check_journal, check_replica};
 use hay_disk::{Disk, Shelf};
@@ -67,6 +71,7 @@ fn clear(files: &impl Files, alloc: Global, folder: &str) -> Result<(), Fail> {
 // The disk with three photos, of one, nine and one bytes, of which the first two have records.
 fn stored<D: Disk>(alloc: Global, disk: D) -> Result<Replica<D>, Fail>
     requires silent { D.Tells → ⊥ }
+    ensures { IfOk result IsOpenCopy }
 {
     let mut replica = Replica::new(disk, SUP);
     replica.open(alloc)?;
