@@ -145,3 +145,30 @@ returns-in-Del-clause-causes g c = c.delete.ensures.causes c.args.tag.lane
 
 pub returns-in-Url-clause-causes : goal.returns-in-Url-clause-causes
 returns-in-Url-clause-causes g c = c.url.ensures.causes c.args.tag.lane
+
+pub returns-in-Drain-clause-suits : goal.returns-in-Drain-clause-suits
+returns-in-Drain-clause-suits g c = c.drain.ensures.suits c.args.tag.line
+
+pub returns-in-Undrain-clause-suits : goal.returns-in-Undrain-clause-suits
+returns-in-Undrain-clause-suits g c = c.undrain.ensures.suits c.args.tag.line
+
+pub returns-in-Fuse-clause-suits : goal.returns-in-Fuse-clause-suits
+returns-in-Fuse-clause-suits g c = c.fuse.ensures.suits c.args.tag.line
+
+pub returns-in-FuseDir-clause-suits : goal.returns-in-FuseDir-clause-suits
+returns-in-FuseDir-clause-suits g c = c.fuse_dir.ensures.suits c.args.tag.line
+
+pub returns-in-Flush-clause-suits : goal.returns-in-Flush-clause-suits
+returns-in-Flush-clause-suits g c = c.maintain.ensures.suits c.args.tag.line
+
+pub returns-in-Begin-clause-suits : goal.returns-in-Begin-clause-suits
+returns-in-Begin-clause-suits g c = c.maintain-in-Begin.ensures.suits c.args.tag.line
+
+pub returns-in-Step-clause-suits : goal.returns-in-Step-clause-suits
+returns-in-Step-clause-suits g c = c.maintain-in-Step.ensures.suits c.args.tag.line
+
+pub returns-in-Finish-clause-suits : goal.returns-in-Finish-clause-suits
+returns-in-Finish-clause-suits g c = c.maintain-in-Finish.ensures.suits c.args.tag.line
+
+pub returns-in-Compact-clause-suits : goal.returns-in-Compact-clause-suits
+returns-in-Compact-clause-suits g c = c.maintain-in-Compact.ensures.suits c.args.tag.line
