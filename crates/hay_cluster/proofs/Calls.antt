@@ -4,7 +4,7 @@ use Rattle.hay_logical.specs.Fits.{At}
 use Rattle.hay_logical.specs.Answers.{IsPutFault, IsDeleteFault}
 use Rattle.hay_logical.specs.Volumes.{IsOpenVolume, Volume}
 use Rattle.hay_logical.specs.declared.fault.LogicalFault.{LogicalFault}
-use Rattle.hay_logical.specs.declared.fault.LogicalFault.TheVariants.{ReadOnly, Full, Gone, Failed, NoMemory}
+use Rattle.hay_logical.specs.declared.fault.LogicalFault.TheVariants.{ReadOnly, Full, Gone, Damaged, Failed, NoMemory}
 use Rattle.hay_cluster.specs.Causes.{IsPutCause, IsDeleteCause, IsReplicaCause}
 use Rattle.hay_cluster.specs.Maintenance.{IsReplicaFault}
 use Rattle.hay_cluster.specs.Store.{Open, IsShaped, IsUp, disks_of}
@@ -38,6 +38,7 @@ module _ {D P A : Type 0} (faults fuses : D → ℕ) where
   delete_cause old store v before after (ReadOnly m) is shape called h = (tt, tt)
   delete_cause old store v before after (Gone front) is shape called h = (tt, tt)
   delete_cause old store v before after (Failed m count) is shape called h = (tt, called_failed faults fuses old store v before after m count is shape called h)
+  delete_cause old store v before after (Damaged m at) is shape called h = (tt, tt)
   delete_cause old store v before after NoMemory is shape called h = (tt, tt)
   delete_cause old store v before after _ is shape called h = absurd h
 

@@ -145,7 +145,7 @@ RefusesDelete (refusal.Full m end need capacity) = ⊥
 RefusesDelete (refusal.Busy m generation) = ⊥
 RefusesDelete (refusal.Worn m) = ⊥
 RefusesDelete refusal.Idle = ⊥
-RefusesDelete (refusal.Damaged m at) = ⊥
+RefusesDelete (refusal.Damaged m at) = Unit {0}
 
 abbrev pub RefusesWork : LogicalFault → Type 0
 RefusesWork (refusal.Full m end need capacity) = ⊥

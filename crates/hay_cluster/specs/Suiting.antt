@@ -42,6 +42,7 @@ SuitsDel (Absent v p d) = Unit {0}
 SuitsDel (Unknown d) = Unit {0}
 SuitsDel (ReadOnly tries) = Unit {0}
 SuitsDel (Failed v m count) = Unit {0}
+SuitsDel (Damaged v m at) = Unit {0}
 SuitsDel NoMem = Unit {0}
 SuitsDel _ = ⊥
 
