@@ -34,6 +34,7 @@ use Rattle.hay_map.specs.declared.place.Place.{Place}
 use Rattle.hay_map.specs.declared.place.Place.TheVariants as place
 use Rattle.hay_open.specs.declared.fault.OpenFault.TheVariants as open_fault
 use Rattle.hay_open.specs.Stored.{OpensAs, Stored, last_cell}
+use Rattle.hay_compact.specs.Finishing.{IsSeen}
 use Rattle.hay_physical.specs.Copies.{Copy, contents_of, end_of, goal_of, is_stuck}
 use Rattle.hay_physical.specs.Replicas as physical
 use Rattle.hay_physical.proofs.Laws.{stands_cells_end, stands_end}
@@ -44,11 +45,11 @@ use Rattle.hay_logical.specs.declared.unsure.Unsure.{Unsure}
 use Rattle.hay_logical.specs.Answers.{IsReopened}
 use Rattle.hay_logical.specs.Fits.{At, Fits, HoldsPart, HoldsSwap, IsReplica, Part, PhotoAt, found_as, part_of, super_of}
 use Rattle.hay_logical.specs.Fits.Part.{Kept, Unsure as Perhaps, Lost}
-use Rattle.hay_logical.specs.Notes.{NotesAre, is_live, keeps}
+use Rattle.hay_logical.specs.Notes.{NotesAre, SeesChange, SeesUnsure, keeps, may_be_live}
 use Rattle.hay_logical.specs.Stands.{HoldsFor, HoldsPending, IsChange, IsFirst, IsPending, ReplicaStands, Stands, StandsFor}
 use Rattle.hay_logical.specs.Steps.{IsRefusedAt, OpensAt}
 use Rattle.hay_logical.specs.Volumes.{IsOfSettings}
-use Rattle.hay_logical.proofs.Compacting.{no_run, photo_at}
+use Rattle.hay_logical.proofs.Compacting.{no_run}
 use Rattle.hay_logical.proofs.Lists.{at_below, at_map, at_or, at_same, at_there}
 use Rattle.hay_logical.proofs.Reopening.{Choice, Chosen, KeptRule, ReplicaOutcome, RuleBy, choose, kept_list, known_of, opened_as, reopened_volume, replica_outcome}
 use Rattle.hay_logical.proofs.Standing.{volume_with}
@@ -112,15 +113,15 @@ end_is k old entries found settled r = elim (r.stands) [
   | inr w ↦ absurd (true≢false (sym w.poised ∙ settled))
 ]
 
-live_is : {P : Type 0} (Tells : Type 0) (pair : Pair) (p : Place P) (o : Outcome) → PlaceMeans Tells pair p o → is_live p ≡ has_photo o
-live_is Tells pair (place.Live needle) (outcome.Photo photo) is = refl
-live_is Tells pair (place.Live needle) outcome.Nothing is = absurd is
-live_is Tells pair place.None (outcome.Photo photo) is = absurd is
-live_is Tells pair place.None outcome.Nothing is = refl
-live_is Tells pair place.Gone (outcome.Photo photo) is = absurd is
-live_is Tells pair place.Gone outcome.Nothing is = refl
-live_is Tells pair (place.Unseen at size) (outcome.Photo photo) is = absurd is
-live_is Tells pair (place.Unseen at size) outcome.Nothing is = absurd is
+live_is : {P : Type 0} (Tells : Type 0) (pair : Pair) (p : Place P) (o : Outcome) → IsSeen p → PlaceMeans Tells pair p o → may_be_live p ≡ has_photo o
+live_is Tells pair (place.Live needle) (outcome.Photo photo) seen is = refl
+live_is Tells pair (place.Live needle) outcome.Nothing seen is = absurd is
+live_is Tells pair place.None (outcome.Photo photo) seen is = absurd is
+live_is Tells pair place.None outcome.Nothing seen is = refl
+live_is Tells pair place.Gone (outcome.Photo photo) seen is = absurd is
+live_is Tells pair place.Gone outcome.Nothing seen is = refl
+live_is Tells pair (place.Unseen at size) (outcome.Photo photo) seen is = absurd seen
+live_is Tells pair (place.Unseen at size) outcome.Nothing seen is = absurd seen
 
 module _ {P : Type 0} (Tells : Type 0) (k : VolumeKnown) (at j : ℕ) (found : Stored) (settled : (replica_at k j).poised ≡ false) (known : j < length k.replicas)
     (rows : MapRows P) (end : ℕ) (ends : end ≡ found.end) (places : (pair : Pair) → PhotoAt Tells (last_cell found.cells pair) (place_in (row_at rows pair) j)) where
@@ -137,37 +138,53 @@ module _ {P : Type 0} (Tells : Type 0) (k : VolumeKnown) (at j : ℕ) (found : S
       let same : end ≡ before = omega (arith, stays, was, ends) in
       ap not (eq-eqb end before same)
 
-  live_by : (pair : Pair) → is_live (place_in (row_at rows pair) j) ≡ has_photo (outcome_at (table_of (needles_of found.cells)) pair)
-  live_by pair = live_is Tells pair (place_in (row_at rows pair) j) (outcome_at (table_of (needles_of found.cells)) pair) (place_means Tells found.cells pair (place_in (row_at rows pair) j) (places pair))
+  live_by : (pair : Pair) → IsSeen (place_in (row_at rows pair) j) → may_be_live (place_in (row_at rows pair) j) ≡ has_photo (outcome_at (table_of (needles_of found.cells)) pair)
+  live_by pair seen =
+      live_is Tells pair (place_in (row_at rows pair) j) (outcome_at (table_of (needles_of found.cells)) pair) seen (place_means Tells found.cells pair (place_in (row_at rows pair) j) seen (places pair))
 
-  delete_keeps : (pair : Pair) (b : Bool) (pending : Pending) → pending.entry ≡ Del pair → KeptRule k (Del pair) at j b
-      → ReopenedReplica k (replica_at k j) (kept_entry (Some pending) b) (known_of found) → not (is_live (place_in (row_at rows pair) j)) ≡ b
-  delete_keeps pair true pending is rule r =
+  delete_keeps : (pair : Pair) (b : Bool) (pending : Pending) → IsSeen (place_in (row_at rows pair) j) → pending.entry ≡ Del pair → KeptRule k (Del pair) at j b
+      → ReopenedReplica k (replica_at k j) (kept_entry (Some pending) b) (known_of found) → not (may_be_live (place_in (row_at rows pair) j)) ≡ b
+  delete_keeps pair true pending seen is rule r =
       let made : table_of (needles_of found.cells) ≡ without_pair (now k (replica_at k j)) pair =
       (subst (λ (e : Entry). ReopenedReplica k (replica_at k j) (e ∷ []) (known_of found)) is r).base in
       let nothing : outcome_at (table_of (needles_of found.cells)) pair ≡ outcome.Nothing =
       ap (λ (t : Table). outcome_at t pair) made ∙ at-without_pair (now k (replica_at k j)) pair pair
       ∙ cond-true (pair_eq pair pair) outcome.Nothing (outcome_at (now k (replica_at k j)) pair) (pair_refl pair) in
-      ap not (live_by pair ∙ ap has_photo nothing)
-  delete_keeps pair false pending is rule r =
+      ap not (live_by pair seen ∙ ap has_photo nothing)
+  delete_keeps pair false pending seen is rule r =
       let stays : table_of (needles_of found.cells) ≡ now k (replica_at k j) = r.base in
       elim (cases_Bool (not (has_photo (outcome_at (now k (replica_at k j)) pair)))) [
         | inl t ↦ absurd (true≢false (sym (rule.nothing t)))
-        | inr f ↦ ap not (live_by pair ∙ ap (λ (t : Table). has_photo (outcome_at t pair)) stays) ∙ f
+        | inr f ↦ ap not (live_by pair seen ∙ ap (λ (t : Table). has_photo (outcome_at t pair)) stays) ∙ f
       ]
 
-  keeps_by : (asked : Change) (entry : Entry) (b : Bool) (pending : Pending) → pending.entry ≡ entry → IsChange asked k entry → KeptRule k entry at j b
+  keeps_by : (asked : Change) (entry : Entry) (b : Bool) (pending : Pending) → SeesChange asked rows j → pending.entry ≡ entry → IsChange asked k entry → KeptRule k entry at j b
       → ReopenedReplica k (replica_at k j) (kept_entry (Some pending) b) (known_of found) → keeps asked rows j end ≡ b
-  keeps_by (change.Put ends) (Put pair cookie bytes) b pending is asked rule r = put_keeps (slice_index ends j) pair cookie bytes b pending is (asked j known) r
-  keeps_by (change.Put ends) (Del pair) b pending is asked rule r = absurd asked
-  keeps_by (change.Delete other) (Put pair cookie bytes) b pending is asked rule r = absurd asked
-  keeps_by (change.Delete other) (Del pair) b pending is asked rule r =
-      ap (λ (q : Pair). not (is_live (place_in (row_at rows q) j))) asked ∙ delete_keeps pair b pending is rule r
+  keeps_by (change.Put ends) (Put pair cookie bytes) b pending seen is asked rule r = put_keeps (slice_index ends j) pair cookie bytes b pending is (asked j known) r
+  keeps_by (change.Put ends) (Del pair) b pending seen is asked rule r = absurd asked
+  keeps_by (change.Delete other) (Put pair cookie bytes) b pending seen is asked rule r = absurd asked
+  keeps_by (change.Delete other) (Del pair) b pending seen is asked rule r =
+      ap (λ (q : Pair). not (may_be_live (place_in (row_at rows q) j))) asked ∙ delete_keeps pair b pending (subst (λ (q : Pair). IsSeen (place_in (row_at rows q) j)) asked seen) is rule r
 
 -- a replica is settled where a change is pending
 settled_by : {D : Type 0} (files : D → Files) (r : Copy D) (stuck poised : Bool) (s : Stored) (p : Option Pending) (at j : ℕ) (pending : Pending) → p ≡ Some pending → HoldsPending files r stuck poised s p at j → poised ≡ false
 settled_by files r stuck poised s None at j pending e h = absurd cc
 settled_by files r stuck poised s (Some other) at j pending e h = h.0
+
+-- what a disk holds where a change is pending
+some_part : {D : Type 0} (files : D → Files) (r : Copy D) (stuck : Bool) (entry : Entry) (s : Stored) (part : Part) → HoldsPart files r stuck entry s part → (a : Stored) × (t : Stored) × physical.Holds files r stuck a t
+some_part files r stuck entry s Kept h = (h.0, h.0, h.2)
+some_part files r stuck entry s Perhaps h = (s, h.0, h.2)
+some_part files r stuck entry s Lost h = (s, s, h)
+
+some_swap : {D : Type 0} (files : D → Files) (r : Copy D) (stuck : Bool) (s : Stored) (poised : Bool) → HoldsSwap files r stuck s poised → (a : Stored) × (t : Stored) × physical.Holds files r stuck a t
+some_swap files r stuck s false h = (s, s, h)
+some_swap files r stuck s true h = (s, h.0, h.2)
+
+some_pending : {D : Type 0} (files : D → Files) (r : Copy D) (stuck poised : Bool) (s : Stored) (p : Option Pending) (at j : ℕ) → HoldsPending files r stuck poised s p at j
+    → (a : Stored) × (t : Stored) × physical.Holds files r stuck a t
+some_pending files r stuck poised s None at j h = some_swap files r stuck s poised h
+some_pending files r stuck poised s (Some pending) at j h = some_part files r stuck pending.entry s (part_of at j) h.1
 
 -- what was found of a replica that is open now
 pub record FoundIn {D P : Type 0} (files : D → Files) (Tells : Type 0) (rows : MapRows P) (j : ℕ) (r : Copy D) (found : Stored) : Type 0 where
@@ -225,12 +242,13 @@ module _ {D P : Type 0} (DiskTells : Type 0) (files : D → Files) (Tells : Type
         stuck = rest.0 ∙ sym o.loose;
         run = no_run files r' found.stored (replica_at k j).run rest.1 o.alone;
         settled = rest.2;
-        places = λ pair. photo_at Tells (last_cell found.stored.cells pair) (place_in (row_at rows pair) j) (stood.1 pair);
+        places = stood.1;
       })
 
   -- behind a stop
   module _ (tells : DiskTells) (of : IsOfSettings settings number) (before : MapRows P) (front : ℕ) (frozen : Option ℕ) (unsure : Option Unsure) (k : VolumeKnown)
-      (holds : HoldsFor files (volume_with settings number olds before front frozen unsure) k) (pends : IsPending unsure k k.pending) where
+      (holds : HoldsFor files (volume_with settings number olds before front frozen unsure) k) (pends : IsPending unsure k k.pending)
+      (seen : (j : ℕ) (r : Copy D) → At olds j r → (stuck : Bool) (s t : Stored) → physical.Holds files r stuck s t → SeesUnsure unsure rows j) where
     chosen_at : (j : ℕ) → j < settings.replicas → (c : Choice) × ChosenIn files Tells news rows k holds.broken_at j c
     chosen_at j low =
         let old = at_there olds j (let a = holds.all in let less : j < length olds = omega (arith, low, a) in less) in
@@ -238,7 +256,7 @@ module _ {D P : Type 0} (DiskTells : Type 0) (files : D → Files) (Tells : Type
         let o = each j old.0 new.0 old.1 new.1 in
         let h = holds.each j old.0 old.1 in
         let found = replica_outcome files old.0 (λ (s : Stored). FoundIn files Tells rows j new.0 s)
-        (λ b a t is. let f = o.reopened tells b a t is in (f.0, f.1, record { stands = f.2; places = λ pair. photo_at Tells (last_cell (f.0).cells pair) (place_in (row_at rows pair) j) (f.3 pair) }))
+        (λ b a t is. let f = o.reopened tells b a t is in (f.0, f.1, record { stands = f.2; places = f.3 }))
         (λ s is. stands_cells_end files new.0 s is.stands)
         k holds.broken_at j h in (
           found.0,
@@ -253,6 +271,13 @@ module _ {D P : Type 0} (DiskTells : Type 0) (files : D → Files) (Tells : Type
           },
         )
 
+    seen_at : (j : ℕ) → j < length news → SeesUnsure unsure rows j
+    seen_at j low =
+        let old = at_there olds j (let less : j < length olds = omega (arith, low, count) in less) in
+        let h = holds.each j old.0 old.1 in
+        let some = some_pending files old.0 (replica_at k j).stuck (replica_at k j).poised h.stored k.pending holds.broken_at j h.holds in
+        seen j old.0 old.1 (replica_at k j).stuck some.0 some.1 some.2
+
     pub reopened : (notes : List Note) → NotesAre settings number unsure rows news notes → IsReopened files Tells k notes (volume_with settings number news rows 0 None None)
     unfolding Stands
     reopened notes are =
@@ -263,7 +288,7 @@ module _ {D P : Type 0} (DiskTells : Type 0) (files : D → Files) (Tells : Type
           opened = opened_as both.items;
           reopened = reopened_volume settings number of k holds.broken_at holds.many holds.broken chosen;
           stands = stands_opened (opened_as both.items) (count ∙ holds.all) (length-map both.items (λ (x : Choice). known_of x.found) ∙ both.count) refl refl refl (λ j r' f. opened_at both j r' f);
-          told = told_by both notes unsure k.pending pends refl are;
+          told = told_by both notes unsure k.pending seen_at pends refl are;
         }
       where
         choice_at : (both : Chosen (ChosenIn files Tells news rows k holds.broken_at) settings.replicas) (j : ℕ) → j < length news → (c : Choice) × At both.items j c
@@ -288,12 +313,12 @@ module _ {D P : Type 0} (DiskTells : Type 0) (files : D → Files) (Tells : Type
               places = (is.found).places;
             }
 
-        told_by : (both : Chosen (ChosenIn files Tells news rows k holds.broken_at) settings.replicas) (notes : List Note) (u : Option Unsure) (p : Option Pending) → IsPending u k p → k.pending ≡ p
+        told_by : (both : Chosen (ChosenIn files Tells news rows k holds.broken_at) settings.replicas) (notes : List Note) (u : Option Unsure) (p : Option Pending) → ((j : ℕ) → j < length news → SeesUnsure u rows j) → IsPending u k p → k.pending ≡ p
             → NotesAre settings number u rows news notes → notes ≡ pending_notes settings number p (kept_list p both.items)
-        told_by both notes None None is e are = are
-        told_by both notes None (Some pending) is e are = absurd is
-        told_by both notes (Some u) None is e are = absurd is
-        told_by both notes (Some u) (Some pending) is e are =
+        told_by both notes None None see is e are = are
+        told_by both notes None (Some pending) see is e are = absurd is
+        told_by both notes (Some u) None see is e are = absurd is
+        told_by both notes (Some u) (Some pending) see is e are =
             are.2 ∙ ap (λ tag. replica_notes settings number tag.line 0 are.0) is.0
             ∙ ap (λ (l : List Bool). replica_notes settings number (pending.tag).line 0 l)
             (lists_same are.0 (map (λ (x : Choice). x.kept) both.items) ((are.1).count ∙ count ∙ holds.all ∙ sym both.count ∙ sym (length-map both.items (λ (x : Choice). x.kept))) (λ j h.
@@ -306,27 +331,13 @@ module _ {D P : Type 0} (DiskTells : Type 0) (files : D → Files) (Tells : Type
             let rule : KeptRule k pending.entry at_of j (c.0).kept = subst (λ (q : Option Pending). RuleBy k q at_of j (c.0).kept) e (b.outcome).rule in
             (are.1).each j b.replica b.there
             ∙ ap Some (keeps_by Tells k at_of j (c.0).found (b.settled pending e) known rows (end_of b.replica) (stands_end files b.replica (c.0).found (b.found).stands) (b.found).places
-            u.change pending.entry (c.0).kept pending refl is.1 rule outcome)
+            u.change pending.entry (c.0).kept pending (see j low) refl is.1 rule outcome)
             ∙ sym (at_map (λ (x : Choice). x.kept) both.items j c.0 c.1)))
           where
             at_of : ℕ
             at_of = holds.broken_at
 
 -- WHAT A REFUSAL SAYS
-
-some_part : {D : Type 0} (files : D → Files) (r : Copy D) (stuck : Bool) (entry : Entry) (s : Stored) (part : Part) → HoldsPart files r stuck entry s part → (a : Stored) × (t : Stored) × physical.Holds files r stuck a t
-some_part files r stuck entry s Kept h = (h.0, h.0, h.2)
-some_part files r stuck entry s Perhaps h = (s, h.0, h.2)
-some_part files r stuck entry s Lost h = (s, s, h)
-
-some_swap : {D : Type 0} (files : D → Files) (r : Copy D) (stuck : Bool) (s : Stored) (poised : Bool) → HoldsSwap files r stuck s poised → (a : Stored) × (t : Stored) × physical.Holds files r stuck a t
-some_swap files r stuck s false h = (s, s, h)
-some_swap files r stuck s true h = (s, h.0, h.2)
-
-some_pending : {D : Type 0} (files : D → Files) (r : Copy D) (stuck poised : Bool) (s : Stored) (p : Option Pending) (at j : ℕ) → HoldsPending files r stuck poised s p at j
-    → (a : Stored) × (t : Stored) × physical.Holds files r stuck a t
-some_pending files r stuck poised s None at j h = some_swap files r stuck s poised h
-some_pending files r stuck poised s (Some pending) at j h = some_part files r stuck pending.entry s (part_of at j) h.1
 
 -- a disk that holds what is known is not damaged
 pub not_damaged : {D P : Type 0} (DiskTells : Type 0) (files : D → Files) (faults : D → ℕ) (settings : Settings) (number : ℕ) (olds news : List (Copy D)) (before : MapRows P) (front : ℕ)
