@@ -1,5 +1,5 @@
 -- What a look at a place makes of a replica and of the rows.
-use Rattle.std.proofs.Common.{◌≡◌, ◌⊎◌, inl, inr, ℕ, ◌<◌, Bool, true, false, cond, List, length, Option, Some, None, Ok, Err, refl, sym, ap, subst, ◌∙◌}
+use Rattle.std.proofs.Common.{◌≡◌, inl, inr, ℕ, ◌<◌, Bool, true, false, cond, length, Option, Some, None, Ok, Err, refl, sym, ap, subst, ◌∙◌}
 use Rattle.std.specs.Prelude.{slice_set, Result, IfErr, OnOk}
 use Rattle.std.proofs.lemmas.List.{get_or-set_same, set-get_or}
 use Rattle.std.proofs.lemmas.Bool.{cases_Bool, cond-true, cond-false}
@@ -29,7 +29,7 @@ use Rattle.hay_physical.specs.Runs.{HasRun, Run}
 use Rattle.hay_physical.proofs.Seeing.{last_shows}
 use Rattle.hay_logical.specs.Fits.{IsUnseen, PhotoAt, PlaceStands}
 use Rattle.hay_logical.specs.Steps.{KeepsBytes, LooksAt, PlacesAre, SetsPlaceAt, SightsAt}
-use Rattle.hay_logical.specs.Volumes.{DeletesPlaces, ReachesPlaces, SeesPlaces}
+use Rattle.hay_logical.specs.Volumes.{ReachesPlaces}
 use Rattle.hay_logical.proofs.Calls.{reaches_same}
 use Rattle.hay_logical.proofs.Tables.{at_cells, cell_outcome, last_pair, last_placed, place_means, seen_means}
 

@@ -1,5 +1,5 @@
 //! Looks at places that were not seen yet.
-ghost use Rattle.std.specs.Prelude.{◌≡◌, ◌≤◌, ◌<◌, ℕ, Bool, false, length, replicate, IfErr, MatchOption, OnOk, OnErr};
+ghost use Rattle.std.specs.Prelude.{◌≡◌, ◌≤◌, ◌<◌, ℕ, Bool, false, length, replicate, None, IfErr, MatchOption, OnOk, OnErr};
 ghost use Rattle.hay_map.specs.Places.{place_in};
 ghost use Rattle.hay_map.specs.Rows.{row_at};
 ghost use Rattle.hay_map.specs.declared.place.Place.TheVariants as place;
@@ -75,8 +75,8 @@ fn see<D: Disk>(
     }
 }
 
-// Sees the place of a pair on each replica that was opened. One whose needle is damaged stays unseen.
-fn see_each<D: Disk>(
+// Sees the place of a pair on each replica. One whose needle is damaged stays unseen.
+fn see_undamaged<D: Disk>(
     replicas: &mut [Replica<D>],
     rows: &mut MapView<D::Piece>,
     pair: Pair,
@@ -109,7 +109,8 @@ fn see_each<D: Disk>(
 // Why a look ends an opening, if it does: a needle that is damaged does not.
 fn ending_fault(fault: ReplicaFault) -> Option<OpenFault>
     requires { (before : ℕ) × (after : ℕ) × IsSightFault before after fault }
-    ensures { (before after : ℕ) → IsSightFault before after fault → MatchOption result ((k : ℕ) × (fault ≡ ReplicaFault.Damaged k)) (IsLookFault before after) }
+    ensures cause { (before after : ℕ) → IsSightFault before after fault → MatchOption result ((at : ℕ) × (fault ≡ ReplicaFault.Damaged at)) (IsLookFault before after) }
+    ensures damaged { (at : ℕ) → fault ≡ ReplicaFault.Damaged at → result ≡ None }
 {
     match fault {
         ReplicaFault::Failed { faults } => Some(OpenFault::Failed { faults }),
@@ -145,7 +146,7 @@ fn see_broken_off<D: Disk>(
         None => Ok(()),
         Some(unsure) => match unsure.change {
             Change::Put { .. } => Ok(()),
-            Change::Delete { pair } => see_each(replicas, rows, pair, out),
+            Change::Delete { pair } => see_undamaged(replicas, rows, pair, out),
         },
     }
 }

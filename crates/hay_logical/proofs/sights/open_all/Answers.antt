@@ -1,4 +1,4 @@
-use Rattle.std.proofs.Common.{rules, ◌≡◌, ◌≤◌, ℕ, length, sym, ◌∙◌, arith}
+use Rattle.std.proofs.Common.{rules, ◌≤◌, length, sym, ◌∙◌, arith}
 use Rattle.hay_logical.proofs.Looks.{found_all, if_err_then, kept_all, left_all, on_err_now, on_ok_now, on_ok_then, opened_all, opened_open, reached_all, refused_all, thawed_all}
 use Rattle.hay_logical.proofs.Through.{counts_through}
 use Rattle.hay_logical.proofs.sights.open_all.Goals as goal

@@ -19,49 +19,48 @@ pub open_all-requires-after_bounds : goal.open_all-requires-after_bounds
 open_all-requires-after_bounds g c = λ κs within. (
   search rules,
   (
-    let now = c.as_mut_slice.ensures.value in
-    let here = c.self.inside in
-    let olds = c.self.inside.replicas.items in
-    let all : length olds ≡ here.settings.replicas = subst (λ (v : Volume g.row.D.Denot g.row.D-Piece.Denot). length v.replicas ≡ v.settings.replicas) (sym c.self.view_is) c.requires.all in
-    let shape = c.self.invariant.0 in
-    let long = ap length now in
-    let few = (shape.settings).most in
-    let wide : here.settings.replicas ≡ length c.as_mut_slice.result.now = sym all ∙ sym long in
-    let most : length c.as_mut_slice.result.now ≤ 4 = omega (arith, wide, few) in (
-      most,
-      (
-        c.new.ensures.replicas ∙ wide,
+      let now = c.as_mut_slice.ensures.value in
+      let here = c.self.inside in
+      let olds = c.self.inside.replicas.items in
+      let all : length olds ≡ here.settings.replicas = subst (λ (v : Volume g.row.D.Denot g.row.D-Piece.Denot). length v.replicas ≡ v.settings.replicas) (sym c.self.view_is) c.requires.all in
+      let shape = c.self.invariant.0 in
+      let long = ap length now in
+      let few = (shape.settings).most in
+      let wide : here.settings.replicas ≡ length c.as_mut_slice.result.now = sym all ∙ sym long in
+      let most : length c.as_mut_slice.result.now ≤ 4 = omega (arith, wide, few) in (
+        most,
         (
-          (λ pair. c.new.ensures.rows pair ∙ ap (λ n. replicate n place.None) wide),
+          c.new.ensures.replicas ∙ wide,
           (
-            (λ j r e. c.requires.closed j r (subst (λ (v : Volume g.row.D.Denot g.row.D-Piece.Denot). At v.replicas j r) c.self.view_is (subst (λ xs. At xs j r) now e))),
-            (λ tells j r e. c.requires.idle tells j r (subst (λ (v : Volume g.row.D.Denot g.row.D-Piece.Denot). At v.replicas j r) c.self.view_is (subst (λ xs. At xs j r) now e))),
+            (λ pair. c.new.ensures.rows pair ∙ ap (λ n. replicate n place.None) wide),
+            (
+              (λ j r e. c.requires.closed j r (subst (λ (v : Volume g.row.D.Denot g.row.D-Piece.Denot). At v.replicas j r) c.self.view_is (subst (λ xs. At xs j r) now e))),
+              (λ tells j r e. c.requires.idle tells j r (subst (λ (v : Volume g.row.D.Denot g.row.D-Piece.Denot). At v.replicas j r) c.self.view_is (subst (λ xs. At xs j r) now e))),
+            ),
           ),
         ),
+      )
       ),
-    )
-  ),
 )
 
 pub notes_of-requires-after_bounds : goal.notes_of-requires-after_bounds
 notes_of-requires-after_bounds g c = λ κs within. (
   omega arith,
   (
-    let now = c.as_mut_slice.ensures.value in
-    let kept = with_items_is c.self.inside.replicas c.open_all.new.replicas (c.open_all.auto.replicas ∙ c.as_mut_slice.ensures.len) in
-    let here = c.self.inside in
-    let olds = c.self.inside.replicas.items in
-    let news = c.open_all.new.replicas in
-    let count = c.open_all.ensures.counts.count ∙ ap length now in
-    let opened : (j : ℕ) (r r' : Copy g.row.D.Denot) → At olds j r → At news j r' → OpensAt g.D.Disk.Tells g.D.Disk.files g.D.Piece.Piece.Tells c.open_all.new.rows j r r' =
-    λ j r r' e f. c.in-Ok.ensures.opened j r r' (subst (λ xs. At xs j r) (sym now) e) f in
-    let all : length olds ≡ here.settings.replicas = subst (λ (v : Volume g.row.D.Denot g.row.D-Piece.Denot). length v.replicas ≡ v.settings.replicas) (sym c.self.view_is) c.requires.all in
-    let shape = c.self.invariant.0 in
-    let slice = c.as_slice.ensures.value ∙ kept in
-    let long = ap length slice in
-    let few = (shape.settings).most in
-    let most : length c.as_slice.result.now ≤ 4 = omega (arith, long, count, all, few) in
-      (
+      let now = c.as_mut_slice.ensures.value in
+      let kept = with_items_is c.self.inside.replicas c.open_all.new.replicas (c.open_all.auto.replicas ∙ c.as_mut_slice.ensures.len) in
+      let here = c.self.inside in
+      let olds = c.self.inside.replicas.items in
+      let news = c.open_all.new.replicas in
+      let count = c.open_all.ensures.counts.count ∙ ap length now in
+      let opened : (j : ℕ) (r r' : Copy g.row.D.Denot) → At olds j r → At news j r' → OpensAt g.D.Disk.Tells g.D.Disk.files g.D.Piece.Piece.Tells c.open_all.new.rows j r r' =
+      λ j r r' e f. c.in-Ok.ensures.opened j r r' (subst (λ xs. At xs j r) (sym now) e) f in
+      let all : length olds ≡ here.settings.replicas = subst (λ (v : Volume g.row.D.Denot g.row.D-Piece.Denot). length v.replicas ≡ v.settings.replicas) (sym c.self.view_is) c.requires.all in
+      let shape = c.self.invariant.0 in
+      let slice = c.as_slice.ensures.value ∙ kept in
+      let long = ap length slice in
+      let few = (shape.settings).most in
+      let most : length c.as_slice.result.now ≤ 4 = omega (arith, long, count, all, few) in (
         shape.settings,
         (
           most,
@@ -74,7 +73,7 @@ notes_of-requires-after_bounds g c = λ κs within. (
           ),
         ),
       )
-  ),
+      ),
 )
 
 pub invariant_of-self : goal.invariant_of-self

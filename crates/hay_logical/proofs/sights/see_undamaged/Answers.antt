@@ -1,15 +1,13 @@
 use Rattle.std.proofs.Common.{rules, ◌≡◌, ◌≤◌, ◌<◌, ℕ, length, Err, sym, subst, ◌∙◌, arith}
 use Rattle.std.specs.Prelude.{IfErr, MatchOption}
-use Rattle.hay_map.specs.Places.{place_in}
-use Rattle.hay_map.specs.Rows.{row_at}
 use Rattle.hay_physical.specs.declared.fault.ReplicaFault.{ReplicaFault}
 use Rattle.hay_physical.specs.Faults.{IsSightFault}
 use Rattle.hay_logical.specs.Steps.{IsLookFault}
 use Rattle.hay_logical.proofs.Looks.{looks_none, looks_on, seen_on, still_open, still_reached, unseen}
 use Rattle.hay_logical.proofs.Lists.{at_below}
 use Rattle.hay_logical.proofs.Methods.{one_after}
-use Rattle.hay_logical.proofs.sights.see_each.Goals as goal
-use Rattle.hay_logical.proofs.sights.see_each.Goals.{in-Err+in_default-ending_fault, in_default}
+use Rattle.hay_logical.proofs.sights.see_undamaged.Goals as goal
+use Rattle.hay_logical.proofs.sights.see_undamaged.Goals.{in-Err+in_default-ending_fault, in_default}
 
 pub loop-at-init : goal.loop-at-init
 loop-at-init g c = record {
@@ -71,7 +69,7 @@ returns-in-Some-clause-refused g c =
     let one = c.see_at.ensures.one in
     let sights = c.see_at.ensures.sights one.before one.after one.was (one_after c.loop-at.at c.loop-at.replicas c.see_at.new.replicas one) in
     let cause : IsSightFault (faults one.before.disk) (faults one.after.disk) c.in-Err.fault = subst (λ x. IfErr x (IsSightFault (faults one.before.disk) (faults one.after.disk))) c.in-Err.is sights.cause in
-    let is = subst (λ x. MatchOption x ((k : ℕ) × (c.in-Err.fault ≡ ReplicaFault.Damaged k)) (IsLookFault (faults one.before.disk) (faults one.after.disk))) c.in-Some.is (c.ending_fault.ensures (faults one.before.disk) (faults one.after.disk) cause) in
+    let is = subst (λ x. MatchOption x ((k : ℕ) × (c.in-Err.fault ≡ ReplicaFault.Damaged k)) (IsLookFault (faults one.before.disk) (faults one.after.disk))) c.in-Some.is (c.ending_fault.ensures.cause (faults one.before.disk) (faults one.after.disk) cause) in
     unseen T files g.D.Piece.Piece.Tells faults g.D.Disk.fuse_count c.args.replicas.now c.loop-at.replicas c.args.rows.now c.loop-at.rows c.loop-at.invariant.looks c.see_at.new.replicas c.see_at.new.rows c.loop-at.at c.args.pair c.see_at.result one sights c.see_at.ensures.row c.see_at.ensures.counts c.in-Some.fault is
 
 pub loop-at-preserved : goal.loop-at-preserved
@@ -85,7 +83,7 @@ loop-at-preserved g c =
     (λ f e. elim c.match-see_at.branch [
       | in-Err+in_default-ending_fault w ↦
           let cause : IsSightFault (faults one.before.disk) (faults one.after.disk) w.in-Err.fault = subst (λ x. IfErr x (IsSightFault (faults one.before.disk) (faults one.after.disk))) w.in-Err.is sights.cause in
-          let damaged = w.in_default-ending_fault.ensures (faults one.before.disk) (faults one.after.disk) cause in
+          let damaged = w.in_default-ending_fault.ensures.cause (faults one.before.disk) (faults one.after.disk) cause in
           let same : f ≡ w.in-Err.fault = let both = sym e ∙ w.in-Err.is in cc in
           (damaged.0, same ∙ damaged.1)
       | in_default w ↦ absurd (w.in_default.not-Err f e)

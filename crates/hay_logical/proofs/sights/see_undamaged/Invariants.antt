@@ -8,7 +8,7 @@ use Rattle.hay_physical.specs.Replicas as physical
 use Rattle.hay_logical.specs.Fits.{At}
 use Rattle.hay_logical.specs.Steps.{PlacesAre}
 use Rattle.hay_logical.proofs.Looks.{Looks}
-use Rattle.hay_logical.proofs.sights.see_each.Given as goal
+use Rattle.hay_logical.proofs.sights.see_undamaged.Given as goal
 
 abbrev pub invariant-loop-at : goal.invariant-loop-at
 invariant-loop-at g l = record {
