@@ -21,7 +21,7 @@ use Rattle.hay_physical.specs.declared.fault.ReplicaFault.TheVariants as fault
 use Rattle.hay_physical.specs.Copies.{Copy, goal_of, is_stuck}
 use Rattle.hay_physical.specs.Faults as physical_faults
 use Rattle.hay_physical.specs.Replicas as physical
-use Rattle.hay_logical.specs.declared.fault.LogicalFault.TheVariants.{Damaged}
+use Rattle.hay_logical.specs.declared.fault.LogicalFault.TheVariants.{Damaged, Failed}
 use Rattle.hay_logical.specs.declared.unsure.Unsure.{Unsure}
 use Rattle.hay_logical.specs.Answers.{IsSightFault}
 use Rattle.hay_logical.specs.Fits.{At, PhotoAt, PlaceStands, copier_run}
@@ -55,6 +55,17 @@ damaged_answer machine (fault.Ended n) m at e = absurd cc
 damaged_answer machine fault.Worn m at e = absurd cc
 damaged_answer machine (fault.Damaged there) m at e = let same : there ≡ at = cc in ap (λ n. fault.Damaged n) same
 damaged_answer machine fault.NoMemory m at e = absurd cc
+
+-- and what failed is told by the replica's machine
+pub failed_machine : (machine : ℕ) (f : ReplicaFault) (m count : ℕ) → answer_at machine f ≡ Failed m count → m ≡ machine
+failed_machine machine (fault.Failed n) m count e = cc
+failed_machine machine fault.Frozen m count e = absurd cc
+failed_machine machine (fault.Full end need capacity) m count e = absurd cc
+failed_machine machine (fault.Busy generation) m count e = absurd cc
+failed_machine machine (fault.Ended n) m count e = cc
+failed_machine machine fault.Worn m count e = absurd cc
+failed_machine machine (fault.Damaged there) m count e = absurd cc
+failed_machine machine fault.NoMemory m count e = absurd cc
 
 pub sight_cause : {D : Type 0} (faults : D → ℕ) (settings : Settings) (number : ℕ) (items new : List (Copy D)) (at machine : ℕ) (f : ReplicaFault) → at < settings.replicas → machine ≡ machine_of settings number at → (one : CallsOne at items new)
     → physical_faults.IsSightFault (faults (one.before).disk) (faults (one.after).disk) f → IsSightFault faults settings number items new (answer_at machine f)

@@ -296,7 +296,10 @@ impl<D: Disk> Logical<D> {
         ensures answered { IfOk result (λ looked. (looked.front ≡ self.new.front) × (looked.row ≡ row_at self.new.rows pair)) }
         ensures kept { OnErr result ((other : Pair) → row_at self.new.rows other ≡ row_at self.old.rows other) }
 
+        // The disk that failed is the replica's, and every other replica stays.
         ensures causes { IfErr result (IsSightFault D.fault_count self.old.settings self.old.number self.old.replicas self.new.replicas) }
+        ensures machine { (m count : ℕ) → result ≡ Err (LogicalFault.Failed m count) → m ≡ machine_of self.old.settings self.old.number replica }
+        ensures others { (j : ℕ) → (j ≡ replica → ⊥) → (r r' : Copy D) → At self.old.replicas j r → At self.new.replicas j r' → r' ≡ r }
         ensures open { IsOpenVolume self.new }
         ensures counts { KeepsCounts D.fault_count D.fuse_count self.old.replicas self.new.replicas }
         ensures same { IsSame self.old self.new }
@@ -324,6 +327,8 @@ impl<D: Disk> Logical<D> {
         ensures row { OnOk result (SetsPlaceAt pair replica (place_in (row_at self.new.rows pair) replica) self.old.rows self.new.rows) }
         ensures kept { OnErr result ((other : Pair) → row_at self.new.rows other ≡ row_at self.old.rows other) }
         ensures causes { IfErr result (IsSightFault D.fault_count self.old.settings self.old.number self.old.replicas self.new.replicas) }
+        ensures machine { (m count : ℕ) → result ≡ Err (LogicalFault.Failed m count) → m ≡ machine_of self.old.settings self.old.number replica }
+        ensures others { (j : ℕ) → (j ≡ replica → ⊥) → (r r' : Copy D) → At self.old.replicas j r → At self.new.replicas j r' → r' ≡ r }
         ensures open { IsOpenVolume self.new }
         ensures counts { KeepsCounts D.fault_count D.fuse_count self.old.replicas self.new.replicas }
         ensures same { IsSame self.old self.new }

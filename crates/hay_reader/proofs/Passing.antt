@@ -56,6 +56,12 @@ rises_now before mid new (cause.Arm g) (cause.Damage at) has fails = tt
 rises_now before mid new (cause.Disk g) why has fails = tt
 rises_now before mid new (cause.Damage at) why has fails = tt
 
+-- a count that stays, or is one of 64 bits
+pub most_on : (before mid new : ℕ) → (mid ≡ before) ⊎ (mid < 2 ^ 64) → (new ≡ mid) ⊎ (new < 2 ^ 64) → (new ≡ before) ⊎ (new < 2 ^ 64)
+most_on before mid new first (inr below) = inr below
+most_on before mid new (inl same) (inl still) = inl (still ∙ same)
+most_on before mid new (inr below) (inl still) = inr (omega (arith, below, still))
+
 -- PASSED REPLICAS
 
 -- a list that begins with these is no shorter

@@ -95,6 +95,7 @@ impl<A> LaneSeat<A> {
         ensures sure { A.is_sure self.old ≡ true → NoArm [] result }
         ensures stays_sure { StaysSure (A.is_sure self.old) (A.is_sure self.new) (A.fault_count self.old) (A.fault_count self.new) }
         ensures later { A.fault_count self.old ≤ A.fault_count self.new }
+        ensures most { (A.fault_count self.new ≡ A.fault_count self.old) ⊎ (A.fault_count self.new < 2 ^ 64) }
         ensures bytes { HasBytes out.new.items result }
         ensures room { vec_capacity out.old ≤ vec_capacity out.new }
     {
@@ -125,6 +126,7 @@ impl<A> LaneSeat<A> {
         ensures sure { A.is_sure self.old ≡ true → NoArm passed result }
         ensures stays_sure { StaysSure (A.is_sure self.old) (A.is_sure self.new) (A.fault_count self.old) (A.fault_count self.new) }
         ensures later { A.fault_count self.old ≤ A.fault_count self.new }
+        ensures most { (A.fault_count self.new ≡ A.fault_count self.old) ⊎ (A.fault_count self.new < 2 ^ 64) }
         ensures bytes { HasBytes out.new.items result }
         ensures room { vec_capacity out.old ≤ vec_capacity out.new }
     {

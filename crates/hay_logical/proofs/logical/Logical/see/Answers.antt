@@ -67,3 +67,9 @@ returns-clause-answered g c = elim c.match-see_in.branch [
       (ap (λ v. v.front) c.self.view_is, w.row.ensures.row ∙ ap (λ v. row_at v.rows c.args.pair) c.self.view_is)
   | in-Err w ↦ rw w.result-is tt
 ]
+
+pub returns-clause-machine : goal.returns-clause-machine
+returns-clause-machine g c = λ m count e. elim c.match-see_in.branch [
+  | in-Ok w ↦ let wrong = sym w.result-is ∙ e in cc
+  | in-Err w ↦ c.see_in.ensures.machine m count (let was = w.in-Err.is in let is = w.result-is in cc)
+]

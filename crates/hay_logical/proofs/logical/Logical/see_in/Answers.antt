@@ -18,8 +18,8 @@ use Rattle.hay_logical.specs.Stands.{Stands, StandsFor}
 use Rattle.hay_logical.specs.Steps.{CallsOne, SetsPlaceAt, SightsAt}
 use Rattle.hay_logical.specs.Volumes.{CanReach, IsShaped, KeepsCounts}
 use Rattle.hay_logical.proofs.Lists.{at_below, at_there}
-use Rattle.hay_logical.proofs.Methods.{one_after, one_count, one_each, same_by, shaped_on}
-use Rattle.hay_logical.proofs.Sighting.{damaged_answer, known_seen, reach_seen, saw, seen_whole, sight_cause}
+use Rattle.hay_logical.proofs.Methods.{one_after, one_count, one_each, other_same, same_by, shaped_on}
+use Rattle.hay_logical.proofs.Sighting.{damaged_answer, failed_machine, known_seen, reach_seen, saw, seen_whole, sight_cause}
 use Rattle.hay_logical.proofs.Standing.{volume_with}
 use Rattle.hay_logical.proofs.logical.Logical.see_in.Goals as goal
 use Rattle.hay_logical.proofs.logical.Logical.see_in.Goals.{in-Ok, in-Err}
@@ -204,3 +204,18 @@ returns-clause-same g c =
     c.see_at.ensures.sights one.before one.after (subst (λ xs. At xs c.args.replica one.before) (sym now) one.was) (one_after c.args.replica c.self.inside.replicas.items c.see_at.new.replicas one) in
     same_by _ _ _ _ c.self.view_is refl refl kept
     (one_each (λ (x y : Copy g.row.D.Denot). y.sup ≡ x.sup) c.args.replica c.self.inside.replicas.items c.see_at.new.replicas one (ap (λ (x : Copy g.row.D.Denot). x.sup) sights.copy) (λ x. refl))
+
+pub returns-clause-machine : goal.returns-clause-machine
+returns-clause-machine g c = λ m count e. elim c.match-see_at.branch [
+  | in-Ok w ↦ let wrong = sym w.result-is ∙ e in cc
+  | in-Err w ↦
+      failed_machine c.machine_of-machine.result w.in-Err.fault m count (sym w.answer_at.ensures ∙ (let same = sym w.result-is ∙ e in cc))
+      ∙ c.machine_of-machine.ensures ∙ ap (λ v. legal.machine_of v.settings v.number c.args.replica) c.self.view_is
+]
+
+pub returns-clause-others : goal.returns-clause-others
+returns-clause-others g c = λ j apart r r' e f.
+    let now = c.as_mut_slice.ensures.value in
+    let kept = with_items_is c.self.inside.replicas c.see_at.new.replicas (c.see_at.auto.replicas ∙ c.as_mut_slice.ensures.len) in
+    let one : CallsOne c.args.replica c.self.inside.replicas.items c.see_at.new.replicas = subst (λ xs. CallsOne c.args.replica xs c.see_at.new.replicas) now c.see_at.ensures.one in
+    other_same c.args.replica c.self.inside.replicas.items c.see_at.new.replicas one j apart r r' (subst (λ v. At v.replicas j r) (sym c.self.view_is) e) (subst (λ xs. At xs j r') kept f)

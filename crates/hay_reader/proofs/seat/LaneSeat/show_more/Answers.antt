@@ -1,8 +1,11 @@
 use Rattle.std.proofs.Common.{ℕ, ◌+◌, ◌%◌, ◌<◌, length, ap, ◌∙◌, arith}
 use Rattle.std.proofs.lemmas.List.{length-append}
 use Rattle.hay_reader.specs.declared.causes.PassedReplica.{PassedReplica}
-use Rattle.hay_reader.proofs.Passing.{has_bytes, next_replica, passes_damaged, places_more, shows_no_arm, shows_place}
+use Rattle.hay_reader.proofs.Passing.{has_bytes, most_on, next_replica, passes_damaged, places_more, shows_no_arm, shows_place}
 use Rattle.hay_reader.proofs.seat.LaneSeat.show_more.Goals as goal
+
+pub returns-in-Ok-clause-most : goal.returns-in-Ok-clause-most
+returns-in-Ok-clause-most g c = most_on _ _ _ c.loop-step.invariant.most c.try_replica.ensures.most
 
 pub returns-in-Ok-clause-reads : goal.returns-in-Ok-clause-reads
 returns-in-Ok-clause-reads g c =
@@ -36,6 +39,7 @@ loop-step-preserved g c =
       long = length-append c.loop-step.causes _ ∙ ap (λ (tries : ℕ). tries + 1) c.loop-step.invariant.long;
       within = omega (arith, c.len-step-end.ensures.is);
       later = omega (arith, c.loop-step.invariant.later, c.try_replica.ensures.later);
+      most = most_on _ _ _ c.loop-step.invariant.most c.try_replica.ensures.most;
       stays_sure = λ was.
           let before = c.loop-step.invariant.stays_sure was in
           let now = c.try_replica.ensures.stays_sure before.0 in

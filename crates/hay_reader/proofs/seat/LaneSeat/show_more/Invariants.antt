@@ -1,4 +1,4 @@
-use Rattle.std.proofs.Common.{◌≡◌, ◌≤◌, [], length}
+use Rattle.std.proofs.Common.{◌≡◌, ◌^◌, ◌<◌, ◌≤◌, ◌⊎◌, [], length}
 use Rattle.std.specs.Vec.{vec_capacity}
 use Rattle.hay_disk.specs.Counts.{StaysSure}
 use Rattle.hay_reader.specs.Causes.{PassesRow}
@@ -11,6 +11,7 @@ invariant-loop-step g l = record {
   long : length l.causes ≡ l.step;
   within : l.step ≤ length l.row;
   later : g.A.Arm.fault_count l.initial.self ≤ g.A.Arm.fault_count l.self;
+  most : (g.A.Arm.fault_count l.self ≡ g.A.Arm.fault_count l.initial.self) ⊎ (g.A.Arm.fault_count l.self < 2 ^ 64);
   stays_sure : StaysSure (g.A.Arm.is_sure l.initial.self) (g.A.Arm.is_sure l.self) (g.A.Arm.fault_count l.initial.self) (g.A.Arm.fault_count l.self);
   empty : l.out.items ≡ [];
   room : vec_capacity l.initial.out ≤ vec_capacity l.out;
