@@ -45,7 +45,7 @@ use Rattle.hay_logical.specs.declared.unsure.Unsure.{Unsure}
 use Rattle.hay_logical.specs.Answers.{IsReopened}
 use Rattle.hay_logical.specs.Fits.{At, Fits, HoldsPart, HoldsSwap, IsReplica, Part, PhotoAt, found_as, part_of, super_of}
 use Rattle.hay_logical.specs.Fits.Part.{Kept, Unsure as Perhaps, Lost}
-use Rattle.hay_logical.specs.Notes.{NotesAre, SeesChange, SeesUnsure, keeps, may_be_live}
+use Rattle.hay_logical.specs.Notes.{NotesAre, NotesTell, SeesChange, SeesUnsure, keeps, may_be_live}
 use Rattle.hay_logical.specs.Stands.{HoldsFor, HoldsPending, IsChange, IsFirst, IsPending, ReplicaStands, Stands, StandsFor}
 use Rattle.hay_logical.specs.Steps.{IsRefusedAt, OpensAt}
 use Rattle.hay_logical.specs.Volumes.{IsOfSettings}
@@ -379,3 +379,8 @@ notes_on settings v unsure rows a b notes e are = subst (λ replicas. NotesAre s
 pub reopened_on : {D P : Type 0} (files : D → Files) (Tells : Type 0) (k : VolumeKnown) (settings : Settings) (v : ℕ) (rows : MapRows P) (a b : List (Copy D)) (notes : List Note) → b ≡ a
     → IsReopened files Tells k notes (volume_with settings v a rows 0 None None) → IsReopened files Tells k notes (volume_with settings v b rows 0 None None)
 reopened_on files Tells k settings v rows a b notes e is = subst (λ replicas. IsReopened files Tells k notes (volume_with settings v replicas rows 0 None None)) (sym e) is
+
+pub notes_tell : {D P : Type 0} (settings : Settings) (v : ℕ) (unsure : Option Unsure) (rows : MapRows P) (replicas : List (Copy D)) (notes : List Note) → length replicas ≡ settings.replicas
+    → NotesAre settings v unsure rows replicas notes → NotesTell settings v unsure notes
+notes_tell settings v None rows replicas notes all are = are
+notes_tell settings v (Some unsure) rows replicas notes all are = (are.0, are.1.count ∙ all, are.2)

@@ -52,3 +52,9 @@ abbrev pub NotesAre : {D P : Type 0} → Settings → ℕ → Option Unsure → 
 NotesAre settings v None rows replicas notes = notes ≡ []
 NotesAre settings v (Some unsure) rows replicas notes =
     (kept : List Bool) × KeptIn unsure.change rows replicas kept × (notes ≡ replica_notes settings v (unsure.tag).line 0 kept)
+
+-- whatever the disks have: no notes where no change was broken off, and else one for each replica in order, of the change's line
+abbrev pub NotesTell : Settings → ℕ → Option Unsure → List Note → Type 0
+NotesTell settings v None notes = notes ≡ []
+NotesTell settings v (Some unsure) notes =
+    (kept : List Bool) × (length kept ≡ settings.replicas) × (notes ≡ replica_notes settings v (unsure.tag).line 0 kept)

@@ -15,6 +15,7 @@ ghost use Rattle.hay_physical.specs.Copies.{Copy, contents_of, goal_of};
 ghost use Rattle.hay_physical.specs.Copies as copies;
 ghost use Rattle.hay_compact.specs.Finishing.{IsSeen};
 ghost use Rattle.hay_logical.specs.Fits.{At, PlaceStands, super_of};
+ghost use Rattle.hay_logical.specs.Notes.{NotesTell};
 ghost use Rattle.hay_logical.specs.Steps.{IsRefusedAt, KeepsDisk, RoomFor, SetsPlaceAt};
 ghost use Rattle.hay_logical.specs.Volumes.{HasAll, IsClosed, IsOfSettings, IsOpenVolume, IsSame, KeepsCounts};
 ghost use Rattle.hay_logical.specs.Stands.{Holds, IsFirst, IsIdleVolume, Stands, Stopped};
@@ -137,6 +138,7 @@ impl<D: Disk> Logical<D> {
             IfOk result (λ notes. (notes ≡ []) × Stands D.files D.Piece.Tells self.new k) }
         ensures reopened { D.Tells → (k : VolumeKnown) → Stopped D.files self.old k →
             IfOk result (λ notes. IsReopened D.files D.Piece.Tells k notes self.new) }
+        ensures told { IfOk result (NotesTell self.old.settings self.old.number self.old.unsure) }
         ensures open { OnOk result (IsOpenVolume self.new) }
         // Nothing of what was read of the disks is damaged.
         ensures undamaged { D.Tells → OnOk result ((j : ℕ) (r : Copy D) → At self.old.replicas j r →

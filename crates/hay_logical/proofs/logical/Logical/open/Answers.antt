@@ -4,6 +4,7 @@ use Rattle.hay_map.specs.declared.place.Place.TheVariants as place
 use Rattle.hay_open.specs.declared.fault.OpenFault.TheVariants as open_fault
 use Rattle.hay_physical.specs.Copies.{Copy}
 use Rattle.hay_logical.specs.Fits.{At}
+use Rattle.hay_logical.specs.Notes.{NotesTell}
 use Rattle.hay_logical.specs.Stands.{Holds, HoldsFor, IsFirst, Stands, StandsFor, Stopped, StoppedFor}
 use Rattle.hay_logical.specs.Steps.{IsRefusedAt, OpensAt}
 use Rattle.hay_logical.specs.Volumes.{CanReach, IsShaped, KeepsCounts, Volume}
@@ -11,7 +12,7 @@ use Rattle.hay_logical.proofs.Calls.{up_open, up_thawed}
 use Rattle.hay_logical.proofs.Holding.{held_on}
 use Rattle.hay_logical.proofs.Lists.{at_below, at_there}
 use Rattle.hay_logical.proofs.Methods.{same_by, shaped_on}
-use Rattle.hay_logical.proofs.Opened.{err_same, first_stands, no_damage, no_notes, not_damaged, notes_on, reopened, reopened_on}
+use Rattle.hay_logical.proofs.Opened.{err_same, first_stands, no_damage, no_notes, not_damaged, notes_on, notes_tell, reopened, reopened_on}
 use Rattle.hay_logical.proofs.Standing.{volume_with}
 use Rattle.hay_logical.proofs.logical.Logical.open.Goals as goal
 
@@ -277,6 +278,16 @@ returns-clause-reopened g c = λ tells k stopped.
     reopened_on g.D.Disk.files g.D.Piece.Piece.Tells k here.settings here.number c.open_all.new.rows news _ _ kept
     (reopened g.D.Disk.Tells g.D.Disk.files g.D.Piece.Piece.Tells here.settings here.number olds news c.open_all.new.rows count opened tells (c.self.invariant.0).settings here.rows here.front here.frozen here.unsure k
     was.holds was.unsure (λ j r e. c.in-Ok.ensures.seen tells j r (subst (λ xs. At xs j r) (sym now) e)) _ (notes_on here.settings here.number here.unsure c.open_all.new.rows c.as_slice.result.now news _ slice c.in-Ok-notes_of.ensures))
+
+pub returns-clause-told : goal.returns-clause-told
+returns-clause-told g c =
+    let now = c.as_mut_slice.ensures.value in
+    let kept = with_items_is c.self.inside.replicas c.open_all.new.replicas (c.open_all.auto.replicas ∙ c.as_mut_slice.ensures.len) in
+    let here = c.self.inside in
+    let count = c.open_all.ensures.counts.count ∙ ap length now in
+    let all : length here.replicas.items ≡ here.settings.replicas = subst (λ (v : Volume g.row.D.Denot g.row.D-Piece.Denot). length v.replicas ≡ v.settings.replicas) (sym c.self.view_is) c.requires.all in
+    subst (λ (v : Volume g.row.D.Denot g.row.D-Piece.Denot). NotesTell v.settings v.number v.unsure c.in-Ok-notes_of.notes) c.self.view_is
+    (notes_tell here.settings here.number here.unsure c.open_all.new.rows c.as_slice.result.now _ (ap length (c.as_slice.ensures.value ∙ kept) ∙ count ∙ all) c.in-Ok-notes_of.ensures)
 
 pub returns-clause-open : goal.returns-clause-open
 returns-clause-open g c =
