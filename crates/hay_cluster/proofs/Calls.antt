@@ -52,10 +52,11 @@ module _ {D P A : Type 0} (faults fuses : D → ℕ) where
   pub delete_cause : (old store : Open D P A) (v : ℕ) (before after : Volume D P) (fault : LogicalFault) → store ≡ old → IsShaped store → Called faults fuses store v before after
       → IsDeleteFault faults before.settings before.number before.replicas after.replicas fault
       → IsDeleteCause old.settings v (map faults (disks_of old)) (map faults (disks_of (with_one store v after))) fault
-  delete_cause old store v before after (ReadOnly m) is shape called h = (tt, tt)
-  delete_cause old store v before after (Gone front) is shape called h = (tt, tt)
-  delete_cause old store v before after (Failed m count) is shape called h = (tt, called_failed faults fuses old store v before after m count is shape called h)
-  delete_cause old store v before after NoMemory is shape called h = (tt, tt)
+  delete_cause old store v before after (ReadOnly m) is shape called h = (tt, tt, tt)
+  delete_cause old store v before after (Gone front) is shape called h = (tt, tt, tt)
+  delete_cause old store v before after (Failed m count) is shape called h = (tt, called_failed faults fuses old store v before after m count is shape called h, tt)
+  delete_cause old store v before after (Damaged m at) is shape called h = (tt, tt, machine_on old store v before m is shape called.at h)
+  delete_cause old store v before after NoMemory is shape called h = (tt, tt, tt)
   delete_cause old store v before after _ is shape called h = absurd h
 
   module _ (old store : Open D P A) (v replica : ℕ) (before after : Volume D P) (is : store ≡ old) (shape : IsShaped store) (called : Called faults fuses store v before after) where

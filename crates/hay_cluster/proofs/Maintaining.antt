@@ -9,9 +9,9 @@ use Rattle.hay_core.specs.declared.entry.CoreTag.{CoreTag}
 use Rattle.hay_legal.specs.declared.known.Known.{Known}
 use Rattle.hay_legal.specs.declared.known.VolumeKnown.{VolumeKnown}
 use Rattle.hay_legal.specs.Known.{Leaves, empty_volume, machine_of, replica_on, volume_at, with_volume}
-use Rattle.hay_legal.specs.Plain.{IsAtRest, IsOpen, LegalCommand, MayFinish, OnReplica, LegalBegin, LegalCompact, LegalFinish, LegalFlush, LegalStep, RoseTo, SwapFailed, SwapNoMem, Swaps, as_it_is, change_volume, first_machine, frozen_by, poised, stepped, swapped, with_bare, with_run, with_stuck, without_run}
+use Rattle.hay_legal.specs.Plain.{IsAtRest, IsLoose, IsOpen, IsTight, LegalCommand, MayFinish, OnReplica, LegalBegin, LegalCompact, LegalFinish, LegalFlush, LegalStep, RoseTo, SwapFailed, SwapNoMem, Swaps, as_it_is, change_volume, frozen_by, poised, stepped, swapped, with_bare, with_run, with_stuck, without_run}
 use Rattle.hay_logical.specs.Answers as answers
-use Rattle.hay_logical.specs.Answers.{BeginRefused, CompactRefused, FinishRefused, FlushRefused, StandsFailed, StandsSwapped, StandsUnplaced, StepRefused, change_at, poised_at}
+use Rattle.hay_logical.specs.Answers.{BeginRefused, CompactRefused, FinishRefused, FlushRefused, StandsFailed, StandsSwapped, StepRefused, change_at, poised_at}
 use Rattle.hay_logical.specs.declared.fault.LogicalFault.{LogicalFault}
 use Rattle.hay_logical.specs.declared.fault.LogicalFault.TheVariants.{Busy, Failed, Idle, NoMemory, ReadOnly, Worn}
 use Rattle.hay_logical.specs.Stands as logical
@@ -64,9 +64,6 @@ module _ {D P A : Type 0} (files : D → Files) (Tells : Type 0) (faults fuses :
     machine_is =
         ap (λ (s : Settings). machine_of s before.number j) (asked.was).settings_are ∙ ap (λ n. machine_of old.settings n j) (asked.was).number ∙ replica_machine old.settings v m j asked.there
 
-    first_is : machine_of before.settings before.number 0 ≡ first_machine old.settings v
-    first_is = ap (λ (s : Settings). machine_of s before.number 0) (asked.was).settings_are ∙ ap (λ n. machine_of old.settings n 0) (asked.was).number
-
     known_within : v < length k.volumes
     known_within = subst (λ n. v < n) (sym (volumes_long old k asked.stands)) asked.within
 
@@ -106,14 +103,12 @@ module _ {D P A : Type 0} (files : D → Files) (Tells : Type 0) (faults fuses :
         let twice = changed_twice k v (frozen_by m (volume_at k v)) (λ volume. change_at volume j poised) known_within in
         record { known = came.known; is = inr (subst (λ (e : Known). Leaves k e came.known) (sym twice) came.leaves); stands = came.stands }
 
-    unplaced : (Ready : Known → ℕ → ℕ → Type 0) (Sizes : VolumeKnown → ℕ → ℕ → ℕ → Type 0) → IsOpen k v → Ready k v j → StandsUnplaced files Tells Sizes (machine_of before.settings before.number 0) (volume_at k v) j after
-        → Reached files Tells faults fuses arm_faults new (λ t. SwapNoMem old.settings Ready (λ known u i end cells. Sizes (volume_at known u) i end cells) k v j t)
-    unplaced Ready Sizes thawed ready (inl stands) =
+    -- memory was wanting to swap, and the run is gone
+    gave_up : (Ready : Known → ℕ → ℕ → Type 0) (Sizes : Known → ℕ → ℕ → ℕ → ℕ → Type 0) → IsOpen k v → Ready k v j → logical.Stands files Tells after (change_at (volume_at k v) j without_run)
+        → Reached files Tells faults fuses arm_faults new (λ t. SwapNoMem old.settings Ready Sizes k v j t)
+    gave_up Ready Sizes thawed ready stands =
         let came = asked.comes (change_at (volume_at k v) j without_run) stands in
         record { known = came.known; is = inr (thawed, ready, inl came.leaves); stands = came.stands }
-    unplaced Ready Sizes thawed ready (inr swapped_so) =
-        let reached = swaps Sizes (frozen_by (first_machine old.settings v)) (subst (λ n. StandsSwapped files Tells Sizes (frozen_by n) (volume_at k v) j after) first_is swapped_so) in
-        record { known = reached.known; is = inr (thawed, ready, inr reached.is); stands = reached.stands }
 
     -- an answer that is legal for the replica
     told_by : (tag : CoreTag) (work : Maintenance) (r answer : Reply) (t : Known) → answer ≡ r → LegalCommand old.settings k tag (command_of work v m) r t → Stands files Tells faults fuses arm_faults new t
@@ -236,7 +231,7 @@ module _ {D P A : Type 0} (files : D → Files) (Tells : Type 0) (faults fuses :
         told_by tag Finish (reply.Failed v m' f) answer reached.known told
         (found_here (LegalFinish old.settings k v m) _ reached.known ((refl, here), refused.0, refused.2, risen reached.known m' f here reached.stands cause.1, reached.is)) reached.stands
     not_finished tag NoMemory answer cause refused told =
-        let reached = unplaced MayFinish answers.IsLoose refused.0 refused.1 refused.2 in
+        let reached = gave_up MayFinish IsLoose refused.0 refused.1 refused.2 in
         told_by tag Finish reply.NoMem answer reached.known told (found_here (LegalFinish old.settings k v m) _ reached.known reached.is) reached.stands
     not_finished tag _ answer cause refused told = absurd refused
 
@@ -259,7 +254,7 @@ module _ {D P A : Type 0} (files : D → Files) (Tells : Type 0) (faults fuses :
         told_by tag Compact (reply.Failed v m' f) answer reached.known told
         (found_here (LegalCompact old.settings k v m) _ reached.known ((refl, here), refused.0, refused.2, risen reached.known m' f here reached.stands cause.1, reached.is)) reached.stands
     not_compacted tag NoMemory answer cause refused told =
-        let reached = unplaced IsAtRest answers.IsTight refused.0 refused.1 refused.2 in
+        let reached = gave_up IsAtRest IsTight refused.0 refused.1 refused.2 in
         told_by tag Compact reply.NoMem answer reached.known told (found_here (LegalCompact old.settings k v m) _ reached.known reached.is) reached.stands
     not_compacted tag _ answer cause refused told = absurd refused
 

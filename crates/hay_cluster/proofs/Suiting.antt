@@ -101,14 +101,15 @@ settle_suits settings pair (settling.Failed count) = inr (inr (inr (inr (inr (in
 
 pub closed_suits_del : (settings : Settings) (v by : ℕ) (said : Reply) → v < settings.volumes → IsReadOnly v by said → SuitsDel settings said
 closed_suits_del settings v by said volume (inl is) = inr (inr (inr (inl (record { volume = v; machine = by }, volume, is))))
-closed_suits_del settings v by said volume (inr is) = inr (inr (inr (inr (inr is))))
+closed_suits_del settings v by said volume (inr is) = inr (inr (inr (inr (inr (inr is)))))
 
 pub del_refusal_suits : (settings : Settings) (v rows : ℕ) (before after : List ℕ) (fault : LogicalFault) (said : Reply) → v < settings.volumes → IsDeleteCause settings v before after fault → IsDeleteReply v rows fault said
     → SuitsDel settings said
 del_refusal_suits settings v rows before after (refusal.Gone front) said volume cause told = inr (inl (v, front, rows, volume, told))
 del_refusal_suits settings v rows before after (refusal.Failed m count) said volume cause told = let rose = cause.1 in inr (inr (inr (inr (inl (v, m, count, (rose.replica, rose.there), told)))))
 del_refusal_suits settings v rows before after (refusal.ReadOnly m) said volume cause told = closed_suits_del settings v m said volume told
-del_refusal_suits settings v rows before after refusal.NoMemory said volume cause told = inr (inr (inr (inr (inr told))))
+del_refusal_suits settings v rows before after (refusal.Damaged m at) said volume cause told = inr (inr (inr (inr (inr (inl (v, m, at, cause.2, told))))))
+del_refusal_suits settings v rows before after refusal.NoMemory said volume cause told = inr (inr (inr (inr (inr (inr told)))))
 del_refusal_suits settings v rows before after _ said volume cause told = absurd told
 
 -- WORK ON ONE REPLICA

@@ -145,7 +145,7 @@ RefusesDelete (refusal.Full m end need capacity) = ⊥
 RefusesDelete (refusal.Busy m generation) = ⊥
 RefusesDelete (refusal.Worn m) = ⊥
 RefusesDelete refusal.Idle = ⊥
-RefusesDelete (refusal.Damaged m at) = ⊥
+RefusesDelete (refusal.Damaged m at) = Unit {0}
 
 abbrev pub RefusesWork : LogicalFault → Type 0
 RefusesWork (refusal.Full m end need capacity) = ⊥
@@ -223,23 +223,23 @@ RoseWhereFailed settings v before after refusal.Idle = Unit {0}
 RoseWhereFailed settings v before after (refusal.Damaged m at) = Unit {0}
 RoseWhereFailed settings v before after refusal.NoMemory = Unit {0}
 
--- a replica that lacks room is on the machine that is told
-abbrev pub LacksThere : Settings → ℕ → LogicalFault → Type 0
-LacksThere settings v (refusal.Full m end need capacity) = IsOn settings v m
-LacksThere settings v (refusal.Failed m count) = Unit {0}
-LacksThere settings v (refusal.ReadOnly m) = Unit {0}
-LacksThere settings v (refusal.Gone front) = Unit {0}
-LacksThere settings v (refusal.Busy m generation) = Unit {0}
-LacksThere settings v (refusal.Worn m) = Unit {0}
-LacksThere settings v refusal.Idle = Unit {0}
-LacksThere settings v (refusal.Damaged m at) = Unit {0}
-LacksThere settings v refusal.NoMemory = Unit {0}
+-- a replica that lacks room, or whose needle is damaged, is on the machine that is told
+abbrev pub IsThere : Settings → ℕ → LogicalFault → Type 0
+IsThere settings v (refusal.Full m end need capacity) = IsOn settings v m
+IsThere settings v (refusal.Failed m count) = Unit {0}
+IsThere settings v (refusal.ReadOnly m) = Unit {0}
+IsThere settings v (refusal.Gone front) = Unit {0}
+IsThere settings v (refusal.Busy m generation) = Unit {0}
+IsThere settings v (refusal.Worn m) = Unit {0}
+IsThere settings v refusal.Idle = Unit {0}
+IsThere settings v (refusal.Damaged m at) = IsOn settings v m
+IsThere settings v refusal.NoMemory = Unit {0}
 
 abbrev pub IsPutCause : Settings → ℕ → List ℕ → List ℕ → LogicalFault → Type 0
-IsPutCause settings v before after fault = RefusesPut fault × RoseWhereFailed settings v before after fault × LacksThere settings v fault
+IsPutCause settings v before after fault = RefusesPut fault × RoseWhereFailed settings v before after fault × IsThere settings v fault
 
 abbrev pub IsDeleteCause : Settings → ℕ → List ℕ → List ℕ → LogicalFault → Type 0
-IsDeleteCause settings v before after fault = RefusesDelete fault × RoseWhereFailed settings v before after fault
+IsDeleteCause settings v before after fault = RefusesDelete fault × RoseWhereFailed settings v before after fault × IsThere settings v fault
 
 abbrev pub IsReplicaCause : Settings → Maintenance → ℕ → ℕ → List ℕ → List ℕ → LogicalFault → Type 0
 IsReplicaCause settings work v replica before after fault =

@@ -86,6 +86,7 @@ SuitsDel settings said =
     ⊎ ((d : ℕ) × (said ≡ Unknown d))
     ⊎ ((by : ClosedBy) × (by.volume < settings.volumes) × (said ≡ ReadOnly (by ∷ [])))
     ⊎ ((v : ℕ) × (m : ℕ) × (count : ℕ) × IsOn settings v m × (said ≡ Failed v m count))
+    ⊎ ((v : ℕ) × (m : ℕ) × (at : ℕ) × IsOn settings v m × (said ≡ Damaged v m at))
     ⊎ (said ≡ NoMem)
 
 -- the URL by which this line would read the pair in a volume

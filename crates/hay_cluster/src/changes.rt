@@ -47,7 +47,8 @@ impl<D: Disk, A: Arm<D::Piece>> Cluster<D, A> {
         if let Some(machine) = self.closed_by(volume) {
             return read_only(alloc, volume, machine);
         }
-        match self.delete_in(tag, pair, volume) {
+        let mut needle = Vec::new(alloc);
+        match self.delete_in(tag, pair, volume, &mut needle) {
             Ok(position) => Reply::Deleted {
                 volume,
                 position,
@@ -212,11 +213,15 @@ fn delete_refusal(alloc: Global, volume: u32, rows: u64, fault: LogicalFault) ->
             faults,
         },
         LogicalFault::ReadOnly { machine } => read_only(alloc, volume, machine),
+        LogicalFault::Damaged { machine, at } => Reply::Damaged {
+            volume,
+            machine,
+            at,
+        },
         LogicalFault::NoMemory => Reply::NoMem,
         LogicalFault::Full { .. }
         | LogicalFault::Busy { .. }
         | LogicalFault::Worn { .. }
-        | LogicalFault::Idle
-        | LogicalFault::Damaged { .. } => unreachable!(),
+        | LogicalFault::Idle => unreachable!(),
     }
 }

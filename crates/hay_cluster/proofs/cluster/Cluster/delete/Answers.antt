@@ -16,13 +16,13 @@ returns-in-Ok-clause-legal g c = λ tells k stands.
     deleted g.D.Disk.files g.D.Piece.Piece.Tells g.D.Disk.fault_count g.D.Disk.fuse_count g.A.Arm.fault_count c.args.self.now c.delete_in.new.self k c.args.tag c.args.pair c.in-Some.volume c.in-Ok.position c.rows-in-Ok.result moved.before moved.after c.delete_in.ensures.settings stands home thawed moved.at moved.now done came
     (c.rows-in-Ok.ensures.known tells came.known came.stands)
 
-pub returns-in-Err-clause-legal : goal.returns-in-Err-clause-legal
-returns-in-Err-clause-legal g c = λ tells k stands.
+pub returns-clause-legal : goal.returns-clause-legal
+returns-clause-legal g c = λ tells k stands.
     let home : home_of k c.args.pair ≡ Some c.in-Some.volume = sym (c.home.ensures.known tells k stands) ∙ c.in-Some.is in
     let thawed : closed (c.args.self.now).settings k c.in-Some.volume ≡ None = sym (c.closed_by.ensures.known tells k stands) ∙ c.in_default-closed_by.is in
     let moved = c.delete_in.ensures.moves tells k stands in
-    not_deleted g.D.Disk.files g.D.Piece.Piece.Tells g.D.Disk.fault_count g.D.Disk.fuse_count g.A.Arm.fault_count c.args.self.now c.delete_in.new.self k c.args.tag c.args.pair c.in-Some.volume c.rows-in-Err.result c.in-Err.fault c.delete_refusal.result moved.before moved.after c.delete_in.ensures.settings
-    (c.in-Some.ensures).within stands home thawed moved.stood (c.rows-in-Err.ensures.known tells)
+    not_deleted g.D.Disk.files g.D.Piece.Piece.Tells g.D.Disk.fault_count g.D.Disk.fuse_count g.A.Arm.fault_count c.args.self.now c.delete_in.new.self k c.args.tag c.args.pair c.in-Some.volume c.rows-in-Err.result c.in-Err.fault c.delete_refusal.result moved.after c.delete_in.ensures.settings
+    (c.in-Some.ensures).within stands home thawed (c.rows-in-Err.ensures.known tells)
     (IfErr-at_err _ c.in-Err.is c.delete_in.ensures.causes) (IfErr-at_err _ c.in-Err.is moved.does.1) moved.comes c.delete_refusal.ensures.is
 
 pub returns-in_default-clause-suits : goal.returns-in_default-clause-suits
