@@ -1,5 +1,5 @@
 -- Deletes are legal.
-use Rattle.std.proofs.Common.{◌≡◌, ℕ, ◌<◌, true, List, [], ◌∷◌, length, map, Some, None, refl, sym, ap, subst, ◌∙◌, inl, inr, arith}
+use Rattle.std.proofs.Common.{◌≡◌, ℕ, ◌<◌, ◌⊎◌, true, List, [], ◌∷◌, length, map, Some, None, refl, sym, ap, subst, ◌∙◌, inl, inr, arith}
 use Rattle.std.specs.Prelude.{◌==◌, ◌<◌, find, nat_lt, slice_index}
 use Rattle.std.specs.List.{range_with_len}
 use Rattle.std.proofs.lemmas.Bool.{cases_Bool, cond-true, cond-false, eqb-true}
@@ -18,7 +18,7 @@ use Rattle.hay_physical.specs.Copies.{Copy}
 use Rattle.hay_legal.specs.declared.known.Known.{Known}
 use Rattle.hay_legal.specs.declared.known.VolumeKnown.{VolumeKnown}
 use Rattle.hay_legal.specs.Known.{Leaves, closed, drained_of, has_risen, home_of, machine_of, replica_on, slot_of, volume_at, with_volume}
-use Rattle.hay_legal.specs.Plain.{disk_rose, frozen_with, with_del}
+use Rattle.hay_legal.specs.Plain.{HasPair, change_volume, disk_rose, frozen_with, with_del}
 use Rattle.hay_logical.specs.Answers.{DeleteRefused, IsDeleted}
 use Rattle.hay_logical.specs.declared.fault.LogicalFault.{LogicalFault}
 use Rattle.hay_logical.specs.declared.fault.LogicalFault.TheVariants.{ReadOnly, Gone, Failed, NoMemory}
@@ -111,16 +111,16 @@ module _ {D P A : Type 0} (files : D → Files) (Tells : Type 0) (faults fuses :
       (answered files Tells faults fuses arm_faults store store.settings k k tag (command.Del pair) reply.NoMem refl (inl (stays k)) stands)
 
   -- a delete that a volume did not make
-  pub not_deleted : (old new : Open D P A) (k : Known) (tag : CoreTag) (pair : Pair) (v d : ℕ) (fault : LogicalFault) (answer : Reply) (before after : Volume D P) → new.settings ≡ old.settings
-      → v < (old.settings).volumes → Stands files Tells faults fuses arm_faults old k → home_of k pair ≡ Some v → closed old.settings k v ≡ None → logical.Stands files Tells before (volume_at k v)
+  pub not_deleted : (old new : Open D P A) (k : Known) (tag : CoreTag) (pair : Pair) (v d : ℕ) (fault : LogicalFault) (answer : Reply) (after : Volume D P) → new.settings ≡ old.settings
+      → v < (old.settings).volumes → Stands files Tells faults fuses arm_faults old k → home_of k pair ≡ Some v → closed old.settings k v ≡ None
       → ((known : Known) → Stands files Tells faults fuses arm_faults new known → d ≡ length known.directory.rows)
-      → IsDeleteCause old.settings v (map faults (disks_of old)) (map faults (disks_of new)) fault → DeleteRefused files Tells (volume_at k v) tag pair before after fault
+      → IsDeleteCause old.settings v (map faults (disks_of old)) (map faults (disks_of new)) fault → DeleteRefused files Tells (volume_at k v) tag pair after fault
       → ((known : VolumeKnown) → logical.Stands files Tells after known → Comes files Tells faults fuses arm_faults k (with_volume k v known) new)
       → IsDeleteReply v d fault answer → Answered files Tells faults fuses arm_faults k tag (command.Del pair) answer new
-  not_deleted old new k tag pair v d (ReadOnly m) answer before after same within stands home opened stood rows cause refused comes told =
+  not_deleted old new k tag pair v d (ReadOnly m) answer after same within stands home opened rows cause refused comes told =
       let e : None ≡ Some m = sym (open-thawed (volume_at k v).frozen (drained_of old.settings k v) opened) ∙ refused.0 in absurd cc
-  not_deleted old new k tag pair v d (Gone front) answer before after same within stands home opened stood rows cause refused comes told =
-      let came = comes_still old new k v stands within (comes (volume_at k v) (subst (λ (w : Volume D P). logical.Stands files Tells w (volume_at k v)) (sym refused.3) stood)) in
+  not_deleted old new k tag pair v d (Gone front) answer after same within stands home opened rows cause refused comes told =
+      let came = comes_still old new k v stands within (comes (volume_at k v) refused.3) in
       subst (λ (r : Reply). Answered files Tells faults fuses arm_faults k tag (command.Del pair) r new) (sym told)
       (answered files Tells faults fuses arm_faults new old.settings k came.known tag (command.Del pair) (reply.Absent v front d) same
       (record {
@@ -129,14 +129,26 @@ module _ {D P A : Type 0} (files : D → Files) (Tells : Type 0) (faults fuses :
         front = refused.2;
         leaves = came.leaves;
       }) came.stands)
-  not_deleted old new k tag pair v d (Failed m f) answer before after same within stands home opened stood rows cause refused comes told =
-      let came = comes (frozen_with m tag (entry.Del pair) true (volume_at k v)) refused.2 in
-      let rose = rose_to files Tells faults fuses arm_faults old new old.settings k came.known v m f stands came.stands cause.1 in
+  not_deleted old new k tag pair v d (Failed m f) answer after same within stands home opened rows cause refused comes told =
       subst (λ (r : Reply). Answered files Tells faults fuses arm_faults k tag (command.Del pair) r new) (sym told)
-      (answered files Tells faults fuses arm_faults new old.settings k came.known tag (command.Del pair) (reply.Failed v m f) same
-      (record { home = home; «open» = opened; replica = rose.0; there = rose.1; rose = rose.2; leaves = inr (refused.1, came.leaves) }) came.stands)
-  not_deleted old new k tag pair v d NoMemory answer before after same within stands home opened stood rows cause refused comes told =
-      let came = comes_still old new k v stands within (comes (volume_at k v) (subst (λ (w : Volume D P). logical.Stands files Tells w (volume_at k v)) (sym refused.1) stood)) in
+      (elim refused.1 [
+        | inl still ↦
+            let came = comes_still old new k v stands within (comes (volume_at k v) still) in
+            failed came.known came.stands (inl came.leaves)
+        | inr froze ↦
+            let came = comes (frozen_with m tag (entry.Del pair) true (volume_at k v)) froze.1 in
+            failed came.known came.stands (inr (froze.0, came.leaves))
+      ])
+    where
+      failed : (t : Known) → Stands files Tells faults fuses arm_faults new t
+          → Leaves k k t ⊎ (HasPair k v pair × Leaves k (change_volume k v (frozen_with m tag (entry.Del pair) true)) t)
+          → Answered files Tells faults fuses arm_faults k tag (command.Del pair) (reply.Failed v m f) new
+      failed t now leaves =
+          let rose = rose_to files Tells faults fuses arm_faults old new old.settings k t v m f stands now cause.1 in
+          answered files Tells faults fuses arm_faults new old.settings k t tag (command.Del pair) (reply.Failed v m f) same
+          (record { home = home; «open» = opened; replica = rose.0; there = rose.1; rose = rose.2; leaves = leaves }) now
+  not_deleted old new k tag pair v d NoMemory answer after same within stands home opened rows cause refused comes told =
+      let came = comes_still old new k v stands within (comes (volume_at k v) refused.1) in
       subst (λ (r : Reply). Answered files Tells faults fuses arm_faults k tag (command.Del pair) r new) (sym told)
       (answered files Tells faults fuses arm_faults new old.settings k came.known tag (command.Del pair) reply.NoMem same (inl came.leaves) came.stands)
-  not_deleted old new k tag pair v d _ answer before after same within stands home opened stood rows cause refused comes told = absurd refused
+  not_deleted old new k tag pair v d _ answer after same within stands home opened rows cause refused comes told = absurd refused

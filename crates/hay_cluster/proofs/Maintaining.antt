@@ -9,9 +9,9 @@ use Rattle.hay_core.specs.declared.entry.CoreTag.{CoreTag}
 use Rattle.hay_legal.specs.declared.known.Known.{Known}
 use Rattle.hay_legal.specs.declared.known.VolumeKnown.{VolumeKnown}
 use Rattle.hay_legal.specs.Known.{Leaves, empty_volume, machine_of, replica_on, volume_at, with_volume}
-use Rattle.hay_legal.specs.Plain.{IsAtRest, IsOpen, LegalCommand, MayFinish, OnReplica, LegalBegin, LegalCompact, LegalFinish, LegalFlush, LegalStep, RoseTo, SwapFailed, SwapNoMem, Swaps, as_it_is, change_volume, first_machine, frozen_by, poised, stepped, swapped, with_bare, with_run, with_stuck, without_run}
+use Rattle.hay_legal.specs.Plain.{IsAtRest, IsLoose, IsOpen, IsTight, LegalCommand, MayFinish, OnReplica, LegalBegin, LegalCompact, LegalFinish, LegalFlush, LegalStep, RoseTo, SwapFailed, SwapNoMem, Swaps, as_it_is, change_volume, frozen_by, poised, stepped, swapped, with_bare, with_run, with_stuck, without_run}
 use Rattle.hay_logical.specs.Answers as answers
-use Rattle.hay_logical.specs.Answers.{BeginRefused, CompactRefused, FinishRefused, FlushRefused, StandsFailed, StandsSwapped, StandsUnplaced, StepRefused, change_at, poised_at}
+use Rattle.hay_logical.specs.Answers.{BeginRefused, CompactRefused, FinishRefused, FlushRefused, StandsFailed, StandsSwapped, StepRefused, change_at, poised_at}
 use Rattle.hay_logical.specs.declared.fault.LogicalFault.{LogicalFault}
 use Rattle.hay_logical.specs.declared.fault.LogicalFault.TheVariants.{Busy, Failed, Idle, NoMemory, ReadOnly, Worn}
 use Rattle.hay_logical.specs.Stands as logical
@@ -64,9 +64,6 @@ module _ {D P A : Type 0} (files : D → Files) (Tells : Type 0) (faults fuses :
     machine_is =
         ap (λ (s : Settings). machine_of s before.number j) (asked.was).settings_are ∙ ap (λ n. machine_of old.settings n j) (asked.was).number ∙ replica_machine old.settings v m j asked.there
 
-    first_is : machine_of before.settings before.number 0 ≡ first_machine old.settings v
-    first_is = ap (λ (s : Settings). machine_of s before.number 0) (asked.was).settings_are ∙ ap (λ n. machine_of old.settings n 0) (asked.was).number
-
     known_within : v < length k.volumes
     known_within = subst (λ n. v < n) (sym (volumes_long old k asked.stands)) asked.within
 
@@ -106,14 +103,12 @@ module _ {D P A : Type 0} (files : D → Files) (Tells : Type 0) (faults fuses :
         let twice = changed_twice k v (frozen_by m (volume_at k v)) (λ volume. change_at volume j poised) known_within in
         record { known = came.known; is = inr (subst (λ (e : Known). Leaves k e came.known) (sym twice) came.leaves); stands = came.stands }
 
-    unplaced : (Ready : Known → ℕ → ℕ → Type 0) (Sizes : VolumeKnown → ℕ → ℕ → ℕ → Type 0) → IsOpen k v → Ready k v j → StandsUnplaced files Tells Sizes (machine_of before.settings before.number 0) (volume_at k v) j after
-        → Reached files Tells faults fuses arm_faults new (λ t. SwapNoMem old.settings Ready (λ known u i end cells. Sizes (volume_at known u) i end cells) k v j t)
-    unplaced Ready Sizes thawed ready (inl stands) =
+    -- memory was wanting to swap, and the run is gone
+    gave_up : (Ready : Known → ℕ → ℕ → Type 0) (Sizes : Known → ℕ → ℕ → ℕ → ℕ → Type 0) → IsOpen k v → Ready k v j → logical.Stands files Tells after (change_at (volume_at k v) j without_run)
+        → Reached files Tells faults fuses arm_faults new (λ t. SwapNoMem old.settings Ready Sizes k v j t)
+    gave_up Ready Sizes thawed ready stands =
         let came = asked.comes (change_at (volume_at k v) j without_run) stands in
         record { known = came.known; is = inr (thawed, ready, inl came.leaves); stands = came.stands }
-    unplaced Ready Sizes thawed ready (inr swapped_so) =
-        let reached = swaps Sizes (frozen_by (first_machine old.settings v)) (subst (λ n. StandsSwapped files Tells Sizes (frozen_by n) (volume_at k v) j after) first_is swapped_so) in
-        record { known = reached.known; is = inr (thawed, ready, inr reached.is); stands = reached.stands }
 
     -- an answer that is legal for the replica
     told_by : (tag : CoreTag) (work : Maintenance) (r answer : Reply) (t : Known) → answer ≡ r → LegalCommand old.settings k tag (command_of work v m) r t → Stands files Tells faults fuses arm_faults new t
@@ -162,7 +157,7 @@ module _ {D P A : Type 0} (files : D → Files) (Tells : Type 0) (faults fuses :
 
     -- WORK THAT WAS REFUSED
 
-    not_flushed : (tag : CoreTag) (fault : LogicalFault) (answer : Reply) → IsReplicaCause old.settings v (map faults (disks_of old)) (map faults (disks_of new)) fault
+    not_flushed : (tag : CoreTag) (fault : LogicalFault) (answer : Reply) → IsReplicaCause old.settings Flush v j (map faults (disks_of old)) (map faults (disks_of new)) fault
         → FlushRefused files Tells (volume_at k v) j before after fault → IsRefusedAs v m fault answer → Answered files Tells faults fuses arm_faults k tag (command.Flush v m) answer new
     not_flushed tag (ReadOnly m') answer cause refused told =
         let came = untouched refused.1 in
@@ -178,7 +173,7 @@ module _ {D P A : Type 0} (files : D → Files) (Tells : Type 0) (faults fuses :
         told_by tag Flush reply.NoMem answer came.known told (found_here (LegalFlush old.settings k v m) _ came.known came.leaves) came.stands
     not_flushed tag _ answer cause refused told = absurd refused
 
-    not_begun : (tag : CoreTag) (fault : LogicalFault) (answer : Reply) → IsReplicaCause old.settings v (map faults (disks_of old)) (map faults (disks_of new)) fault
+    not_begun : (tag : CoreTag) (fault : LogicalFault) (answer : Reply) → IsReplicaCause old.settings Begin v j (map faults (disks_of old)) (map faults (disks_of new)) fault
         → BeginRefused files Tells (volume_at k v) j before after fault → IsRefusedAs v m fault answer → Answered files Tells faults fuses arm_faults k tag (command.Begin v m) answer new
     not_begun tag (ReadOnly m') answer cause refused told =
         let came = untouched refused.1 in
@@ -201,7 +196,7 @@ module _ {D P A : Type 0} (files : D → Files) (Tells : Type 0) (faults fuses :
         told_by tag Begin reply.NoMem answer came.known told (found_here (LegalBegin old.settings k v m) _ came.known came.leaves) came.stands
     not_begun tag _ answer cause refused told = absurd refused
 
-    not_stepped : (tag : CoreTag) (cells : ℕ) (fault : LogicalFault) (answer : Reply) → IsReplicaCause old.settings v (map faults (disks_of old)) (map faults (disks_of new)) fault
+    not_stepped : (tag : CoreTag) (cells : ℕ) (fault : LogicalFault) (answer : Reply) → IsReplicaCause old.settings (Step cells) v j (map faults (disks_of old)) (map faults (disks_of new)) fault
         → StepRefused files Tells (volume_at k v) j cells before after fault → IsRefusedAs v m fault answer → Answered files Tells faults fuses arm_faults k tag (command.Step v m cells) answer new
     not_stepped tag cells (ReadOnly m') answer cause refused told =
         let came = untouched refused.1 in
@@ -221,7 +216,7 @@ module _ {D P A : Type 0} (files : D → Files) (Tells : Type 0) (faults fuses :
         (found_here (λ i. LegalStep old.settings k v m i cells) _ came.known (inr (thawed, run, n, stood, few, came.leaves))) came.stands
     not_stepped tag cells _ answer cause refused told = absurd refused
 
-    not_finished : (tag : CoreTag) (fault : LogicalFault) (answer : Reply) → IsReplicaCause old.settings v (map faults (disks_of old)) (map faults (disks_of new)) fault
+    not_finished : (tag : CoreTag) (fault : LogicalFault) (answer : Reply) → IsReplicaCause old.settings Finish v j (map faults (disks_of old)) (map faults (disks_of new)) fault
         → FinishRefused files Tells (volume_at k v) j before after fault → IsRefusedAs v m fault answer → Answered files Tells faults fuses arm_faults k tag (command.Finish v m) answer new
     not_finished tag (ReadOnly m') answer cause refused told =
         let came = untouched refused.1 in
@@ -236,11 +231,11 @@ module _ {D P A : Type 0} (files : D → Files) (Tells : Type 0) (faults fuses :
         told_by tag Finish (reply.Failed v m' f) answer reached.known told
         (found_here (LegalFinish old.settings k v m) _ reached.known ((refl, here), refused.0, refused.2, risen reached.known m' f here reached.stands cause.1, reached.is)) reached.stands
     not_finished tag NoMemory answer cause refused told =
-        let reached = unplaced MayFinish answers.IsLoose refused.0 refused.1 refused.2 in
+        let reached = gave_up MayFinish IsLoose refused.0 refused.1 refused.2 in
         told_by tag Finish reply.NoMem answer reached.known told (found_here (LegalFinish old.settings k v m) _ reached.known reached.is) reached.stands
     not_finished tag _ answer cause refused told = absurd refused
 
-    not_compacted : (tag : CoreTag) (fault : LogicalFault) (answer : Reply) → IsReplicaCause old.settings v (map faults (disks_of old)) (map faults (disks_of new)) fault
+    not_compacted : (tag : CoreTag) (fault : LogicalFault) (answer : Reply) → IsReplicaCause old.settings Compact v j (map faults (disks_of old)) (map faults (disks_of new)) fault
         → CompactRefused files Tells (volume_at k v) j before after fault → IsRefusedAs v m fault answer → Answered files Tells faults fuses arm_faults k tag (command.Compact v m) answer new
     not_compacted tag (ReadOnly m') answer cause refused told =
         let came = untouched refused.1 in
@@ -259,11 +254,11 @@ module _ {D P A : Type 0} (files : D → Files) (Tells : Type 0) (faults fuses :
         told_by tag Compact (reply.Failed v m' f) answer reached.known told
         (found_here (LegalCompact old.settings k v m) _ reached.known ((refl, here), refused.0, refused.2, risen reached.known m' f here reached.stands cause.1, reached.is)) reached.stands
     not_compacted tag NoMemory answer cause refused told =
-        let reached = unplaced IsAtRest answers.IsTight refused.0 refused.1 refused.2 in
+        let reached = gave_up IsAtRest IsTight refused.0 refused.1 refused.2 in
         told_by tag Compact reply.NoMem answer reached.known told (found_here (LegalCompact old.settings k v m) _ reached.known reached.is) reached.stands
     not_compacted tag _ answer cause refused told = absurd refused
 
-    pub not_maintained : (tag : CoreTag) (work : Maintenance) (fault : LogicalFault) (answer : Reply) → IsReplicaCause old.settings v (map faults (disks_of old)) (map faults (disks_of new)) fault
+    pub not_maintained : (tag : CoreTag) (work : Maintenance) (fault : LogicalFault) (answer : Reply) → IsReplicaCause old.settings work v j (map faults (disks_of old)) (map faults (disks_of new)) fault
         → IsRefused files Tells work (volume_at k v) j before after fault → IsRefusedAs v m fault answer → Answered files Tells faults fuses arm_faults k tag (command_of work v m) answer new
     not_maintained tag Flush fault answer cause refused told = not_flushed tag fault answer cause refused told
     not_maintained tag Begin fault answer cause refused told = not_begun tag fault answer cause refused told

@@ -54,11 +54,12 @@ use Rattle.hay_reader.specs.declared.trial.Shown.TheVariants as shown
 use Rattle.hay_reader.proofs.Outcomes.{passed_for_arm, stops_unseen}
 use Rattle.hay_reader.proofs.Passing.{all_weaken, first_more, no_shorter}
 use Rattle.hay_cluster.specs.Causes.{CauseCameUp, Counts, IsNoArm, PassedOver, RoseIn}
-use Rattle.hay_cluster.specs.Reads.{CannotSee, FoundNoArm, FoundPasses, FoundSays, IsFoundAs, IsPassedFor, IsSeenAt, IsSightCause, IsSightFault, IsWhole, PassesFrom, PassesNoArm, PassesTo, ReadNoArm, ReadPasses, ReadSays, ShowsIn, StopsUnseen, counts_of, outcomes_of, passed_at}
+use Rattle.hay_cluster.specs.Reads.{CannotSee, FoundNoArm, FoundPasses, FoundSays, IsFoundAs, IsPassedFor, IsSeenAt, IsSightCause, IsSightFault, IsWhole, PassesFrom, PassesNoArm, PassesTo, ReadNoArm, ReadPasses, ReadSays, StopsUnseen, counts_of, outcomes_of, passed_at}
 use Rattle.hay_cluster.specs.declared.reading.Found.{Found}
 use Rattle.hay_cluster.specs.Parts.{Comes}
 use Rattle.hay_cluster.specs.State.{Stands}
 use Rattle.hay_cluster.specs.Store.{IsBuilt, IsShaped, Open, disks_of}
+use Rattle.hay_cluster.specs.Suiting.{ShowsFrom}
 use Rattle.hay_cluster.proofs.Changing.{comes_still}
 use Rattle.hay_cluster.proofs.Lists.{length-set, slice_get-set}
 use Rattle.hay_cluster.proofs.Machines.{replica_found, same_machine}
@@ -509,15 +510,27 @@ causes_told W settings lane v before after (p ∷ over) built volume within each
     one j (Disk f) below came = record { replica = j; there = replica_found settings v j volume below built.no_more_replicas; rose = came.0; told = came.1 }
     one j (Damage at) below came = tt
 
+-- they are named in the order in which they were tried
+pub passed_in_order : (W : Type 0) (settings : Settings) (lane v start : ℕ) (before after : Counts) (over : List PassedReplica) → PassesFrom W settings lane v start before after [] over → length over ≡ settings.replicas
+    → map (λ passed. passed.machine) (map (passed_at settings v) over) ≡ map (machine_of settings v) (order_from settings start)
+passed_in_order W settings lane v start before after over passes all = machines_told settings v over ∙ ap (map (machine_of settings v)) (in_order settings start over passes.order all)
+
 pub passed_over : (W : Type 0) (settings : Settings) (lane v start : ℕ) (before after : Counts) (over : List PassedReplica) → IsBuilt settings → v < settings.volumes
-    → PassesFrom W settings lane v start before after [] over → length over ≡ settings.replicas → PassedOver settings lane v before after (map (passed_at settings v) over)
-passed_over W settings lane v start before after over built volume passes all = record {
-  start = start;
-  order = machines_told settings v over ∙ ap (map (machine_of settings v)) (in_order settings start over passes.order all);
+    → PassesFrom W settings lane v start before after [] over → PassedOver settings lane v before after (map (passed_at settings v) over)
+passed_over W settings lane v start before after over built volume passes = record {
   rises = rises_each settings v over passes.rises;
   each = causes_told W settings lane v before after over built volume
       (all_tried (λ j. j < settings.replicas) (λ i. (start + i) % settings.replicas) (length over) 0 (λ i low high. let some = built.some_replicas in mod-lt (start + i) (omega (arith, some))) over passes.order) passes.each;
 }
+
+-- the replica that showed the photo is one of the volume's
+pub to_below : (W : Type 0) (settings : Settings) (lane v start : ℕ) (before after : Counts) (passed causes : List PassedReplica) (j : ℕ) → PassesTo W settings lane v start before after passed causes j → j < settings.replicas
+to_below W settings lane v start before after passed causes j to =
+    let fewer = to.fewer in
+    let some : 0 < settings.replicas = omega (arith, fewer) in
+    let low = mod-lt (start + length causes) some in
+    let next = to.next in
+    omega (arith, next, low)
 
 module _ {D P A : Type 0} (DiskTells : Type 0) (files : D → Files) (Tells : Type 0) (faults fuses : D → ℕ) (arm_faults : A → ℕ) where
   counts_known : (store : Open D P A) (k : Known) → Stands files Tells faults fuses arm_faults store k → counts_of faults arm_faults store ≡ known_counts k
@@ -778,9 +791,9 @@ found_no_arm (read.Unseen j causes) f is h = absurd is
 
 -- what is legal to show to a reader of a URL is legal for its command
 pub get_command : (settings : Settings) (k t : Known) (tag : CoreTag) (url : Url) (start v : ℕ) (answer : Reply) → replica_on settings url.volume url.machine ≡ Some start → home_of k url.pair ≡ Some v → v ≡ url.volume
-    → LegalShow settings k tag start url.pair url.cookie answer t → ShowsIn v answer → LegalCommand settings k tag (command.Get url) answer t
+    → LegalShow settings k tag start url.pair url.cookie answer t → ShowsFrom settings start v answer ⊎ (answer ≡ reply.NoMem) → LegalCommand settings k tag (command.Get url) answer t
 get_command settings k t tag url start v answer there home same legal shows =
-    go answer legal shows
+    go shows
   where
     elsewhere : LeavesElsewhere k url t
     elsewhere w is other = absurd (other (let one : v ≡ w = (let both : ◌≡◌ {A = Option ℕ} (Some v) (Some w) = sym home ∙ is in cc) in sym one ∙ same))
@@ -788,10 +801,12 @@ get_command settings k t tag url start v answer there home same legal shows =
     at : (r : Reply) → LegalGetAt settings k tag url (Some start) r t → LegalGet settings k tag url r t
     at r h = subst (λ (o : Option ℕ). LegalGetAt settings k tag url o r t) (sym there) h
 
-    go : (r : Reply) → LegalShow settings k tag start url.pair url.cookie r t → ShowsIn v r → LegalCommand settings k tag (command.Get url) r t
-    go (reply.Photo w m p d bytes) h is = at (reply.Photo w m p d bytes) (h, is ∙ same, elsewhere)
-    go (reply.Gone w m p d) h is = at (reply.Gone w m p d) (h, is ∙ same, elsewhere)
-    go (reply.WrongCookie w m p d) h is = at (reply.WrongCookie w m p d) (h, is ∙ same, elsewhere)
-    go (reply.Unreadable w p d causes) h is = at (reply.Unreadable w p d causes) (h, is ∙ same, elsewhere)
-    go reply.NoMem h is = at reply.NoMem (h, tt, elsewhere)
-    go _ h is = absurd is
+    so : (r : Reply) → answer ≡ r → (LegalShow settings k tag start url.pair url.cookie r t → LegalGetAt settings k tag url (Some start) r t) → LegalCommand settings k tag (command.Get url) answer t
+    so r is gets = subst (λ (a : Reply). LegalCommand settings k tag (command.Get url) a t) (sym is) (at r (gets (subst (λ (a : Reply). LegalShow settings k tag start url.pair url.cookie a t) is legal)))
+
+    go : ShowsFrom settings start v answer ⊎ (answer ≡ reply.NoMem) → LegalCommand settings k tag (command.Get url) answer t
+    go (inl (inl (m, p, d, bytes, on, is))) = so (reply.Photo v m p d bytes) is (λ h. (h, same, elsewhere))
+    go (inl (inr (inl (m, p, d, on, is)))) = so (reply.Gone v m p d) is (λ h. (h, same, elsewhere))
+    go (inl (inr (inr (inl (m, p, d, on, is))))) = so (reply.WrongCookie v m p d) is (λ h. (h, same, elsewhere))
+    go (inl (inr (inr (inr (p, d, causes, order, is))))) = so (reply.Unreadable v p d causes) is (λ h. (h, same, elsewhere))
+    go (inr is) = so reply.NoMem is (λ h. (h, tt, elsewhere))

@@ -1,7 +1,7 @@
 -- How deletes are answered.
 use Rattle.std.specs.Prelude.{◌≡◌, ◌⊎◌, ℕ, [], ◌∷◌}
 use Rattle.hay_reply.specs.declared.Reply.{Reply}
-use Rattle.hay_reply.specs.declared.Reply.TheVariants.{Absent, Failed, ReadOnly, NoMem}
+use Rattle.hay_reply.specs.declared.Reply.TheVariants.{Absent, Damaged, Failed, ReadOnly, NoMem}
 use Rattle.hay_logical.specs.declared.fault.LogicalFault.{LogicalFault}
 use Rattle.hay_logical.specs.declared.fault.LogicalFault.TheVariants as refusal
 
@@ -19,4 +19,4 @@ IsDeleteReply v rows (refusal.Full m end need capacity) reply = ⊥
 IsDeleteReply v rows (refusal.Busy m generation) reply = ⊥
 IsDeleteReply v rows (refusal.Worn m) reply = ⊥
 IsDeleteReply v rows refusal.Idle reply = ⊥
-IsDeleteReply v rows (refusal.Damaged m at) reply = ⊥
+IsDeleteReply v rows (refusal.Damaged m at) reply = reply ≡ Damaged v m at

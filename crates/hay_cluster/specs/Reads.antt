@@ -15,7 +15,6 @@ use Rattle.hay_reply.specs.declared.Cause.{Cause}
 use Rattle.hay_reply.specs.declared.Cause.TheVariants.{Arm, Disk, Damage}
 use Rattle.hay_reply.specs.declared.Passed.{Passed}
 use Rattle.hay_reply.specs.declared.Reply.{Reply}
-use Rattle.hay_reply.specs.declared.Reply.TheVariants.{Photo, Gone, WrongCookie, Unreadable, NoMem}
 use Rattle.hay_core.specs.declared.entry.CoreTag.{CoreTag}
 use Rattle.hay_legal.specs.declared.known.Known.{Known}
 use Rattle.hay_legal.specs.declared.known.VolumeKnown.{VolumeKnown}
@@ -45,15 +44,6 @@ pub record ShownAs {D P A : Type 0} (files : D → Files) (Tells : Type 0) (faul
   pub known : Known
   pub legal : LegalShow settings k tag start pair cookie reply known
   pub stands : Stands files Tells faults fuses arm_faults store known
-
--- a reply that shows, shows this volume
-abbrev pub ShowsIn : ℕ → Reply → Type 0
-ShowsIn volume (Photo v m p d bytes) = v ≡ volume
-ShowsIn volume (Gone v m p d) = v ≡ volume
-ShowsIn volume (WrongCookie v m p d) = v ≡ volume
-ShowsIn volume (Unreadable v p d causes) = v ≡ volume
-ShowsIn volume NoMem = Unit {0}
-ShowsIn volume _ = ⊥
 
 -- PASSED REPLICAS
 

@@ -51,19 +51,21 @@ impl<D: Disk, A: Arm<D::Piece>> Cluster<D, A> {
         self.volumes.as_mut_slice()[volume as usize].put(alloc, tag, pair, cookie, bytes)
     }
 
-    /// Deletes a pair's photo from a volume, and answers the position of the change there.
+    /// Deletes a pair's photo from a volume, and answers the position of the change there. What it has to look at first is read
+    /// into `out`.
     pub(crate) fn delete_in(
         &mut self,
         tag: CoreTag,
         pair: Pair,
         volume: u32,
+        out: &mut Vec<u8>,
     ) -> Result<u64, LogicalFault>
         requires volume { volume < self.old.settings.volumes }
         requires up { IsUp self.old }
         ensures moves { D.Tells → (k : Known) → Stands D.files D.Piece.Tells D.fault_count D.fuse_count A.fault_count self.old k →
             InVolume D.files D.Piece.Tells D.fault_count D.fuse_count A.fault_count k volume self.old self.new (λ before after.
             IfOk result (λ position. IsDeleted D.files D.fault_count D.Piece.Tells (volume_at k volume) tag pair position before after)
-            × IfErr result (DeleteRefused D.files D.Piece.Tells (volume_at k volume) tag pair before after)) }
+            × IfErr result (DeleteRefused D.files D.Piece.Tells (volume_at k volume) tag pair after)) }
         ensures causes { IfErr result (IsDeleteCause self.old.settings volume (map D.fault_count (disks_of self.old)) (map D.fault_count (disks_of self.new))) }
         ensures counts { NoneFalls (map D.fault_count (disks_of self.old)) (map D.fault_count (disks_of self.new)) }
         ensures fuses { map D.fuse_count (disks_of self.new) ≡ map D.fuse_count (disks_of self.old) }
@@ -71,7 +73,7 @@ impl<D: Disk, A: Arm<D::Piece>> Cluster<D, A> {
         ensures settings { self.new.settings ≡ self.old.settings }
         ensures up { IsUp self.new }
     {
-        self.volumes.as_mut_slice()[volume as usize].delete(tag, pair)
+        self.volumes.as_mut_slice()[volume as usize].delete(tag, pair, out)
     }
 
     /// Does maintenance work on a replica of a volume, and answers its number.
@@ -89,7 +91,7 @@ impl<D: Disk, A: Arm<D::Piece>> Cluster<D, A> {
             InVolume D.files D.Piece.Tells D.fault_count D.fuse_count A.fault_count k volume self.old self.new (λ before after.
             IfOk result (λ number. IsDone D.files D.Piece.Tells work (volume_at k volume) replica number after)
             × IfErr result (IsRefused D.files D.Piece.Tells work (volume_at k volume) replica before after)) }
-        ensures causes { IfErr result (IsReplicaCause self.old.settings volume (map D.fault_count (disks_of self.old)) (map D.fault_count (disks_of self.new))) }
+        ensures causes { IfErr result (IsReplicaCause self.old.settings work volume replica (map D.fault_count (disks_of self.old)) (map D.fault_count (disks_of self.new))) }
         ensures counts { NoneFalls (map D.fault_count (disks_of self.old)) (map D.fault_count (disks_of self.new)) }
         ensures fuses { map D.fuse_count (disks_of self.new) ≡ map D.fuse_count (disks_of self.old) }
         ensures arms { self.new.arms ≡ self.old.arms }

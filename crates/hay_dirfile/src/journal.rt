@@ -1,11 +1,12 @@
 //! A journal and its end.
 
-ghost use Rattle.std.specs.Prelude.{◌≡◌, ◌⊎◌, ◌≤◌, ◌<◌, ◌+◌, ◌-◌, ◌^◌, List, [], ◌∷◌, ◌++◌, ℕ, false, min, length, Ok, Err, IfOk, IfErr, OnOk, OnErr, IsErr, IsErrOf};
+ghost use Rattle.std.specs.Prelude.{◌≡◌, ◌⊎◌, ◌≤◌, ◌<◌, ◌+◌, ◌-◌, List, [], ◌∷◌, ◌++◌, ℕ, length, Ok, Err, IfOk, IfErr, OnOk, OnErr, IsErrOf};
 ghost use Rattle.hay_disk.specs.Counts.{IsCounted, Rose};
-ghost use Rattle.hay_disk.specs.Disk.{IsImage, IsSolid, IsSolidIn, IsFree, IsFreeIn, Changes, KeepsOthers, overwrite};
-ghost use Rattle.hay_disk.specs.Gate.{IsClosed, IsGate, end_mark};
+ghost use Rattle.hay_disk.specs.Disk.{IsImage, IsSolid, IsSolidIn, IsFree, IsFreeIn, Changes, KeepsOthers};
+ghost use Rattle.hay_disk.specs.Gate.{IsGate, end_mark};
 ghost use Rattle.hay_needle.specs.Super.{SuperFits, super_bytes};
-ghost use Rattle.hay_dirfile.specs.Journal.{journal_magic, journal_end, IsRowOf, IsJournal, IsDamagedJournal};
+ghost use Rattle.hay_head.specs.declared.blocks.TheConstants.{BLOCK_LEN};
+ghost use Rattle.hay_dirfile.specs.Journal.{journal_magic, journal_end, IsJournal, IsDamagedJournal};
 ghost use Rattle.hay_dirfile.specs.declared.row.DirRow.{DirRow};
 
 use crate::fault::{OpenFault, RowsFault, open_fault};
@@ -67,7 +68,7 @@ impl Journal {
         ensures no_memory { D.Tells → IsErrOf result OpenFault.NoMemory → D.files disk.new ≡ D.files disk.old }
         ensures changes { D.Tells → Changes 0 72 (D.files disk.old 0) (D.files disk.new 0) }
         ensures others { D.Tells → KeepsOthers 0 (D.files disk.old) (D.files disk.new) }
-        ensures drawn { D.Tells → IfOk result (λ opened. D.drawn disk.new 0 ≤ D.drawn disk.old 0 + opened.0.end + 24) }
+        ensures drawn { D.Tells → IfOk result (λ opened. D.drawn disk.new 0 ≤ D.drawn disk.old 0 + opened.0.end + BLOCK_LEN) }
         ensures drawn_others { D.Tells → KeepsOthers 0 (D.drawn disk.old) (D.drawn disk.new) }
         ensures fuses { D.fuse_count disk.new ≡ D.fuse_count disk.old }
     {
@@ -138,7 +139,7 @@ fn open_rows<D: Disk>(
     ensures no_memory { D.Tells → IsErrOf result RowsFault.NoMemory → D.files disk.new ≡ D.files disk.old }
     ensures changes { D.Tells → Changes 0 72 (D.files disk.old 0) (D.files disk.new 0) }
     ensures others { D.Tells → KeepsOthers 0 (D.files disk.old) (D.files disk.new) }
-    ensures drawn { D.Tells → IfOk result (λ scan. D.drawn disk.new 0 ≤ D.drawn disk.old 0 + scan.1 + 24) }
+    ensures drawn { D.Tells → IfOk result (λ scan. D.drawn disk.new 0 ≤ D.drawn disk.old 0 + scan.1 + BLOCK_LEN) }
     ensures drawn_others { D.Tells → KeepsOthers 0 (D.drawn disk.old) (D.drawn disk.new) }
     ensures counted { IsCounted (D.fault_count disk.old) (D.fault_count disk.new) (IsErrOf result RowsFault.Failed) }
     ensures fuses { D.fuse_count disk.new ≡ D.fuse_count disk.old }

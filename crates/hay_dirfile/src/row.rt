@@ -1,6 +1,6 @@
 //! A row of the journal, and its bytes.
 
-ghost use Rattle.std.specs.Prelude.{◌≡◌, ◌++◌, ◌<◌, ◌≤◌, ◌^◌, ◌+◌, ℕ, length, take, IfSome, IfNone};
+ghost use Rattle.std.specs.Prelude.{◌≡◌, ◌++◌, ◌<◌, ◌+◌, ℕ, length, take, IfSome, IfNone};
 ghost use Rattle.hay_disk.specs.Gate.{magic_bytes, end_mark};
 ghost use Rattle.hay_dirfile.specs.Journal.{journal_magic, journal_row, row_fields, IsRowOf};
 ghost use Rattle.hay_dirfile.specs.declared.row.DirRow.{DirRow};

@@ -1,17 +1,19 @@
 //! Reading the rows of a journal.
 
-ghost use Rattle.std.specs.Prelude.{◌≡◌, ◌⊎◌, ◌≤◌, ◌<◌, ◌+◌, ℕ, List, length, Ok, Err, IfOk, IfErr, OnOk, IsErr, IsErrOf};
+ghost use Rattle.std.specs.Prelude.{◌≡◌, ◌⊎◌, ◌≤◌, ◌<◌, ◌+◌, ℕ, List, Ok, Err, IfOk, IfErr, OnOk, IsErr, IsErrOf};
 ghost use Rattle.hay_disk.specs.Counts.{IsCounted};
 ghost use Rattle.hay_disk.specs.Disk.{KeepsOthers};
 ghost use Rattle.hay_disk.specs.Gate.{IsClosed, HasBytesAt};
 ghost use Rattle.hay_needle.specs.Super.{super_bytes};
+ghost use Rattle.hay_head.specs.Blocks.{HasBlockOf, Reaches, block_end};
+ghost use Rattle.hay_head.specs.declared.blocks.TheConstants.{BLOCK_LEN};
 ghost use Rattle.hay_dirfile.specs.Journal.{journal_magic, journal_row, journal_end, IsRowOf, IsJournal, IsBrokenRow, IsDamagedJournal};
 ghost use Rattle.hay_dirfile.specs.declared.row.DirRow.{DirRow};
 
 use crate::fault::RowsFault;
 use crate::row::{DirRow, ROW_LEN, ROW_MAGIC, row_in};
 use hay_disk::{Disk, Failed};
-use hay_head::{Slot, read_front, read_slot};
+use hay_head::{BlockReader, Slot, read_front};
 use hay_needle::{SUPER_LEN, Super};
 use std::alloc::Global;
 
@@ -26,18 +28,30 @@ enum Due {
 }
 
 // Reads where a row or the end mark is due.
-fn read_row<D: Disk>(disk: &mut D, at: u64, volumes: u32) -> Result<Due, Failed>
+fn read_row<D: Disk>(
+    reader: &mut BlockReader,
+    disk: &mut D,
+    at: u64,
+    volumes: u32,
+) -> Result<Due, Failed>
+    requires file { reader.old.file ≡ 0 }
+    requires reaches { Reaches reader.old at }
+    requires block { D.Tells → HasBlockOf (D.files disk.old 0).now reader.old }
     ensures row { D.Tells → (row : DirRow) → result ≡ Ok (Due.Row row) → IsRowOf volumes row × HasBytesAt at (journal_row row) (D.files disk.old 0).now }
     ensures mark { D.Tells → result ≡ Ok Due.Mark → IsClosed journal_magic at (D.files disk.old 0).now }
     ensures broken { D.Tells → result ≡ Ok Due.Broken → IsBrokenRow volumes at (D.files disk.old 0).now }
+    ensures file { reader.new.file ≡ 0 }
+    ensures reaches { Reaches reader.new at }
+    ensures next { (row : DirRow) → result ≡ Ok (Due.Row row) → Reaches reader.new (at + 24) }
+    ensures block { D.Tells → HasBlockOf (D.files disk.old 0).now reader.new }
     ensures same { D.Tells → D.files disk.new ≡ D.files disk.old }
-    ensures drawn { D.Tells → D.drawn disk.new 0 ≤ D.drawn disk.old 0 + 24 }
+    ensures drawn { D.Tells → D.drawn disk.new 0 + block_end reader.old ≤ D.drawn disk.old 0 + block_end reader.new }
     ensures drawn_others { D.Tells → KeepsOthers 0 (D.drawn disk.old) (D.drawn disk.new) }
     ensures counted { IsCounted (D.fault_count disk.old) (D.fault_count disk.new) (IsErr result) }
     ensures fuses { D.fuse_count disk.new ≡ D.fuse_count disk.old }
 {
     let mut bytes = [0; ROW_LEN];
-    match read_slot(disk, FILE, at, ROW_MAGIC, &mut bytes)? {
+    match reader.read_slot(disk, at, ROW_MAGIC, &mut bytes)? {
         Slot::Row => match row_in(&bytes, volumes) {
             Some(row) => Ok(Due::Row(row)),
             None => Ok(Due::Broken),
@@ -62,7 +76,7 @@ pub(crate) fn read_rows<D: Disk>(
     ensures exact { D.Tells → (rows : List DirRow) → IsJournal (super_bytes sup.now) sup.now.settings.volumes (D.files disk.old 0).now rows →
         IfOk result (λ scan. scan.0.items ≡ rows) }
     ensures same { D.Tells → D.files disk.new ≡ D.files disk.old }
-    ensures drawn { D.Tells → IfOk result (λ scan. D.drawn disk.new 0 ≤ D.drawn disk.old 0 + scan.1 + 24) }
+    ensures drawn { D.Tells → IfOk result (λ scan. D.drawn disk.new 0 ≤ D.drawn disk.old 0 + scan.1 + BLOCK_LEN) }
     ensures drawn_others { D.Tells → KeepsOthers 0 (D.drawn disk.old) (D.drawn disk.new) }
     ensures counted { IsCounted (D.fault_count disk.old) (D.fault_count disk.new) (IsErrOf result RowsFault.Failed) }
     ensures fuses { D.fuse_count disk.new ≡ D.fuse_count disk.old }
@@ -73,8 +87,9 @@ pub(crate) fn read_rows<D: Disk>(
     let volumes = sup.settings.volumes;
     let mut rows = Vec::new(alloc);
     let mut end = SUPER_LEN as u64;
+    let mut reader = BlockReader::new(FILE, end);
     'rows: loop {
-        match read_row(disk, end, volumes)? {
+        match read_row(&mut reader, disk, end, volumes)? {
             Due::Row(row) => rows.push(row)?,
             Due::Mark => return Ok((rows, end)),
             Due::Broken => return Err(RowsFault::Damaged { at: end }),

@@ -1,3 +1,4 @@
 pub mod RowLaws
 pub mod SlotLaws
 pub mod HeadLaws
+pub mod BlockLaws

@@ -1,15 +1,18 @@
 //! A head file and its current generation.
 
-ghost use Rattle.std.specs.Prelude.{◌≡◌, ◌⊎◌, ◌≤◌, ◌<◌, ◌+◌, ◌*◌, List, [], ◌++◌, ℕ, false, length, Ok, Err, IfOk, IfErr, OnOk, OnErr, IsErr, IsErrOf};
+ghost use Rattle.std.specs.Prelude.{◌≡◌, ◌⊎◌, ◌≤◌, ◌<◌, ◌+◌, ◌*◌, List, ◌++◌, ℕ, Ok, Err, IfOk, IfErr, OnOk, OnErr, IsErr, IsErrOf};
 ghost use Rattle.std.specs.Int.{bytes_high_first};
 ghost use Rattle.hay_disk.specs.Counts.{IsCounted};
 ghost use Rattle.hay_disk.specs.Disk.{IsImage, IsSolid, IsSolidIn, IsFree, IsFreeIn, Changes, KeepsOthers, overwrite};
 ghost use Rattle.hay_disk.specs.Gate.{IsClosed, IsGate, HasBytesAt, end_mark};
 ghost use Rattle.hay_needle.specs.Super.{super_bytes};
+ghost use Rattle.hay_head.specs.Blocks.{HasBlockOf, Reaches, block_end};
+ghost use Rattle.hay_head.specs.declared.blocks.TheConstants.{BLOCK_LEN};
 ghost use Rattle.hay_head.specs.Head.{head_magic, head_row, row_place, IsHead, IsBrokenRow, IsDamagedHead};
 
+use crate::blocks::BlockReader;
 use crate::fault::HeadFault;
-use crate::rows::{Slot, has_number, read_front, read_slot};
+use crate::rows::{Slot, has_number, read_front};
 use hay_disk::{Disk, DiskFault, Failed, gate_append};
 use hay_needle::{SUPER_LEN, Super, write_super};
 
@@ -75,7 +78,7 @@ impl Head {
             IfOk result (λ head. IsGate head_magic (row_place (head.generation + 1)) (D.files disk.new 0)) }
 
         ensures same { D.Tells → D.files disk.new ≡ D.files disk.old }
-        ensures drawn { D.Tells → IfOk result (λ head. D.drawn disk.new 0 ≤ D.drawn disk.old 0 + row_place (head.generation + 2)) }
+        ensures drawn { D.Tells → IfOk result (λ head. D.drawn disk.new 0 ≤ D.drawn disk.old 0 + row_place (head.generation + 1) + BLOCK_LEN) }
         ensures drawn_others { D.Tells → KeepsOthers 0 (D.drawn disk.old) (D.drawn disk.new) }
         ensures counted { IsCounted (D.fault_count disk.old) (D.fault_count disk.new) (IsErrOf result HeadFault.Failed) }
         ensures fuses { D.fuse_count disk.new ≡ D.fuse_count disk.old }
@@ -84,8 +87,9 @@ impl Head {
             return Err(HeadFault::Damaged { at });
         }
         let mut rows = 0;
+        let mut reader = BlockReader::new(FILE, SUPER_LEN as u64);
         'rows: loop {
-            match read_row(disk, rows)? {
+            match read_row(&mut reader, disk, rows)? {
                 Slot::Row => rows += 1,
                 Slot::Mark => {
                     return Ok(Head {
@@ -179,21 +183,28 @@ fn first_row() -> [u8; 24]
 }
 
 // Whether the row of generation `next` stands where it is due, or the end mark behind at least one row.
-fn read_row<D: Disk>(disk: &mut D, next: u64) -> Result<Slot, Failed>
-    requires { next ≤ 65536 }
+fn read_row<D: Disk>(reader: &mut BlockReader, disk: &mut D, next: u64) -> Result<Slot, Failed>
+    requires most { next ≤ 65536 }
+    requires file { reader.old.file ≡ 0 }
+    requires reaches { Reaches reader.old (row_place next) }
+    requires block { D.Tells → HasBlockOf (D.files disk.old 0).now reader.old }
     ensures row { D.Tells → result ≡ Ok Slot.Row → HasBytesAt (row_place next) (head_row next) (D.files disk.old 0).now }
     ensures most { result ≡ Ok Slot.Row → next ≤ 65535 }
     ensures mark { D.Tells → result ≡ Ok Slot.Mark → IsClosed head_magic (row_place next) (D.files disk.old 0).now }
     ensures some { result ≡ Ok Slot.Mark → 0 < next }
     ensures broken { D.Tells → result ≡ Ok Slot.Broken → IsBrokenRow next (D.files disk.old 0).now }
+    ensures file { reader.new.file ≡ 0 }
+    ensures reaches { Reaches reader.new (row_place next) }
+    ensures next { result ≡ Ok Slot.Row → Reaches reader.new (row_place (next + 1)) }
+    ensures block { D.Tells → HasBlockOf (D.files disk.old 0).now reader.new }
     ensures same { D.Tells → D.files disk.new ≡ D.files disk.old }
-    ensures drawn { D.Tells → D.drawn disk.new 0 ≤ D.drawn disk.old 0 + 16 }
+    ensures drawn { D.Tells → D.drawn disk.new 0 + block_end reader.old ≤ D.drawn disk.old 0 + block_end reader.new }
     ensures drawn_others { D.Tells → KeepsOthers 0 (D.drawn disk.old) (D.drawn disk.new) }
     ensures counted { IsCounted (D.fault_count disk.old) (D.fault_count disk.new) (IsErr result) }
     ensures fuses { D.fuse_count disk.new ≡ D.fuse_count disk.old }
 {
     let mut bytes = [0; ROW_LEN];
-    match read_slot(disk, FILE, place_of(next), ROW_MAGIC, &mut bytes)? {
+    match reader.read_slot(disk, place_of(next), ROW_MAGIC, &mut bytes)? {
         Slot::Row if next <= LAST_GENERATION && has_number(&bytes, 8, next) => Ok(Slot::Row),
         Slot::Mark if next > 0 => Ok(Slot::Mark),
         _ => Ok(Slot::Broken),

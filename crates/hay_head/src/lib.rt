@@ -5,13 +5,16 @@
 //!
 //! A switch adds the row of the next generation, and whatever a stop leaves names the old generation or the new one.
 //! Reading answers by the bytes: the generation exactly where the file is such a head, and else the first place that is
-//! damaged. Beside it stand two calls that read a superblock and one row of any such file of rows.
+//! damaged. Beside it stand a call that reads the superblock of any such file of rows, and a reader of its rows, which
+//! takes the file in blocks.
 #![tactic(auto)]
 
+mod blocks;
 mod fault;
 mod head;
 mod rows;
 
+pub use blocks::{BLOCK_LEN, BlockReader};
 pub use fault::HeadFault;
 pub use head::Head;
-pub use rows::{Slot, read_front, read_slot};
+pub use rows::{Slot, read_front};

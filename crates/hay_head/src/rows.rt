@@ -1,12 +1,12 @@
 //! Reading the parts of a file of rows.
 
-ghost use Rattle.std.specs.Prelude.{◌≡◌, ◌≢◌, ◌⊎◌, ◌≤◌, ◌<◌, ◌+◌, ℕ, length, take, drop, Ok, IsErr, IfOk, IfSome, IfNone, IsNone};
+ghost use Rattle.std.specs.Prelude.{◌≡◌, ◌≢◌, ◌⊎◌, ◌≤◌, ◌<◌, ◌+◌, ℕ, length, take, drop, IsErr, IfOk, IfSome, IfNone, IsNone};
 ghost use Rattle.std.specs.Bool.{OnTrue, OnFalse};
 ghost use Rattle.hay_disk.specs.Counts.{IsCounted};
 ghost use Rattle.hay_disk.specs.Disk.{KeepsOthers};
-ghost use Rattle.hay_disk.specs.Gate.{IsClosed, HasBytesAt, magic_bytes};
+ghost use Rattle.hay_disk.specs.Gate.{magic_bytes};
 ghost use Rattle.hay_needle.specs.Super.{super_bytes};
-ghost use Rattle.hay_head.specs.Rows.{IsSuperFaultAt, IsCutAt};
+ghost use Rattle.hay_head.specs.Rows.{IsSuperFaultAt};
 
 use hay_disk::{Disk, Failed};
 use hay_needle::{SUPER_LEN, Super, read_super, u64_at};
@@ -42,37 +42,23 @@ pub fn read_front<D: Disk>(disk: &mut D, file: u32, sup: &Super) -> Result<Optio
     }
 }
 
-/// Reads what stands at `at`, where a row with this magic or the end mark is due. A row is as long as `out`, which then
-/// has it.
-pub fn read_slot<D: Disk>(
-    disk: &mut D,
-    file: u32,
-    at: u64,
-    magic: u64,
-    out: &mut [u8],
-) -> Result<Slot, Failed>
-    requires { 8 ≤ length out.old }
-    ensures row { D.Tells → result ≡ Ok Slot.Row → HasBytesAt at out.new (D.files disk.old file).now }
-    ensures magic { result ≡ Ok Slot.Row → take 8 out.new ≡ magic_bytes magic }
-    ensures mark { D.Tells → result ≡ Ok Slot.Mark → IsClosed magic at (D.files disk.old file).now }
-    ensures broken { D.Tells → result ≡ Ok Slot.Broken → IsCutAt magic (length out.old) at (D.files disk.old file).now }
-    ensures same { D.Tells → D.files disk.new ≡ D.files disk.old }
-    ensures drawn { D.Tells → D.drawn disk.new file ≤ D.drawn disk.old file + length out.old }
-    ensures drawn_others { D.Tells → KeepsOthers file (D.drawn disk.old) (D.drawn disk.new) }
-    ensures counted { IsCounted (D.fault_count disk.old) (D.fault_count disk.new) (IsErr result) }
-    ensures fuses { D.fuse_count disk.new ≡ D.fuse_count disk.old }
+// What the first `got` bytes show, where a row of as many bytes as there are or the end mark is due.
+pub(crate) fn slot_in(bytes: &[u8], got: usize, magic: u64) -> Slot
+    requires { 8 ≤ length bytes.now }
+    ensures row { result ≡ Slot.Row → (length bytes.now ≤ got) × (take 8 bytes.now ≡ magic_bytes magic) }
+    ensures mark { result ≡ Slot.Mark → (8 ≤ got) × (take 8 bytes.now ≢ magic_bytes magic) }
+    ensures broken { result ≡ Slot.Broken → (got < 8) ⊎ ((take 8 bytes.now ≡ magic_bytes magic) × (8 ≤ got) × (got < length bytes.now)) }
 {
-    let got = disk.read_into(file, at, out)?;
     if got < 8 {
-        return Ok(Slot::Broken);
+        return Slot::Broken;
     }
-    if !has_number(out, 0, magic) {
-        return Ok(Slot::Mark);
+    if !has_number(bytes, 0, magic) {
+        return Slot::Mark;
     }
-    if got < out.len() {
-        return Ok(Slot::Broken);
+    if got < bytes.len() {
+        return Slot::Broken;
     }
-    Ok(Slot::Row)
+    Slot::Row
 }
 
 // Whether the eight bytes from `at` on are this number, the highest first.

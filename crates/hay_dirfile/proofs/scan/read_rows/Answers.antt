@@ -1,7 +1,8 @@
-use Rattle.std.proofs.Common.{◌≡◌, inl, inr, ◌<◌, ◌+◌, ◌^◌, ◌∙◌, ap, subst, arith, Ok}
+use Rattle.std.proofs.Common.{◌≡◌, inl, inr, ◌<◌, ◌+◌, ◌^◌, ◌∙◌, sym, ap, subst, arith, Ok}
 use Rattle.hay_needle.specs.Super.{super_bytes}
 use Rattle.hay_needle.proofs.Supers.{length-super}
 use Rattle.hay_disk.specs.Gate.{IsClosed, HasBytesAt}
+use Rattle.hay_head.specs.Blocks.{HasBlockOf, Reaches}
 use Rattle.hay_head.proofs.RowLaws.{front_is}
 use Rattle.hay_head.proofs.HeadLaws.{none_is, some_is_none}
 use Rattle.hay_dirfile.specs.Journal.{journal_magic, journal_row, journal_end, IsBrokenRow, IsDamagedJournal}
@@ -19,7 +20,10 @@ rows-init g c = record {
   same = λ tells. c.read_front.ensures.same tells;
   lead = λ tells. lead_first (super_bytes c.args.sup.now) c.args.sup.now.settings.volumes (g.D.Disk.files c.args.disk.now 0).now c.new-rows.result.items c.new-rows.ensures.items (length-super c.args.sup.now)
       (none_is c.in_ok-at.field-0 _ c.in_default.is (c.in_ok-at.ensures.stands tells));
-  drawn = λ tells. c.read_front.ensures.drawn tells;
+  file = c.new-reader.ensures.file;
+  reaches = c.new-reader.ensures.reaches;
+  block = λ tells. c.new-reader.ensures.block (g.D.Disk.files c.args.disk.now 0).now;
+  drawn = λ tells. omega (arith, c.read_front.ensures.drawn tells, c.new-reader.ensures.end);
   drawn_others = λ tells. c.read_front.ensures.drawn_others tells;
   faults = c.read_front.ensures.counted.later;
   fuses = c.read_front.ensures.fuses;
@@ -83,6 +87,9 @@ rows-preserved g c =
           let row = c.in_ok-row.ensures.row tells c.in-Row.row (ap (λ x. Ok x) c.in-Row.is) in
           lead_next (super_bytes c.args.sup.now) c.args.sup.now.settings.volumes (g.D.Disk.files c.args.disk.now 0).now c.rows.rows.items c.push.new.self.items c.in-Row.row c.rows.end c.in_ok-push-in-Row.ensures.items c.rows.invariant.end (c.rows.invariant.lead tells) row.0
           (subst (λ files. HasBytesAt c.rows.end (journal_row c.in-Row.row) (files 0).now) (c.rows.invariant.same tells) row.1);
+      file = c.read_row.ensures.file;
+      reaches = subst (λ k. Reaches c.read_row.new.reader k) (sym next) (c.in_ok-row.ensures.next c.in-Row.row (ap (λ x. Ok x) c.in-Row.is));
+      block = λ tells. subst (λ files. HasBlockOf (files 0).now c.read_row.new.reader) (c.rows.invariant.same tells) (c.read_row.ensures.block tells);
       drawn = λ tells. omega (arith, c.read_row.ensures.drawn tells, c.rows.invariant.drawn tells);
       drawn_others = λ tells other ne. c.read_row.ensures.drawn_others tells other ne ∙ c.rows.invariant.drawn_others tells other ne;
       faults = omega (arith, c.read_row.ensures.counted.later);

@@ -1,6 +1,7 @@
 use Rattle.std.proofs.Common.{◌≡◌, ◌+◌, ◌-◌, ◌≤◌, ◌^◌}
 use Rattle.hay_disk.specs.Disk.{KeepsOthers}
 use Rattle.hay_needle.specs.Super.{super_bytes}
+use Rattle.hay_head.specs.Blocks.{HasBlockOf, Reaches, block_end}
 use Rattle.hay_dirfile.specs.Journal.{LeadsTo, journal_end}
 use Rattle.hay_dirfile.proofs.scan.read_rows.Given as goal
 
@@ -9,7 +10,10 @@ invariant-rows g l = record {
   end : l.end ≡ journal_end l.rows.items;
   same : g.D.Disk.Tells → g.D.Disk.files l.disk ≡ g.D.Disk.files l.fn.disk;
   lead : g.D.Disk.Tells → LeadsTo (super_bytes l.sup) l.sup.settings.volumes (g.D.Disk.files l.fn.disk 0).now l.rows.items;
-  drawn : g.D.Disk.Tells → g.D.Disk.drawn l.disk 0 ≤ g.D.Disk.drawn l.fn.disk 0 + l.end;
+  file : l.reader.file ≡ 0;
+  reaches : Reaches l.reader l.end;
+  block : g.D.Disk.Tells → HasBlockOf (g.D.Disk.files l.fn.disk 0).now l.reader;
+  drawn : g.D.Disk.Tells → g.D.Disk.drawn l.disk 0 ≤ g.D.Disk.drawn l.fn.disk 0 + block_end l.reader;
   drawn_others : g.D.Disk.Tells → KeepsOthers 0 (g.D.Disk.drawn l.fn.disk) (g.D.Disk.drawn l.disk);
   faults : g.D.Disk.fault_count l.fn.disk ≤ g.D.Disk.fault_count l.disk;
   fuses : g.D.Disk.fuse_count l.disk ≡ g.D.Disk.fuse_count l.fn.disk;

@@ -3,6 +3,7 @@ use Rattle.std.specs.List.{range_with_len}
 use Rattle.hay_needle.specs.Super.{super_bytes}
 use Rattle.hay_needle.proofs.Supers.{length-super}
 use Rattle.hay_disk.specs.Gate.{IsClosed, HasBytesAt}
+use Rattle.hay_head.specs.Blocks.{HasBlockOf}
 use Rattle.hay_head.specs.Head.{head_magic, head_row, row_place, IsBrokenRow}
 use Rattle.hay_head.proofs.RowLaws.{front_is}
 use Rattle.hay_head.proofs.HeadLaws.{lead_first, lead_next, head_found, no_broken_row, one_generation, none_is, some_is_none, undamaged}
@@ -18,7 +19,10 @@ rows-init g c = record {
   most = omega arith;
   same = λ tells. c.read_front.ensures.same tells;
   lead = λ tells. lead_first (super_bytes c.args.sup.now) (g.D.Disk.files c.args.disk.now 0).now (length-super c.args.sup.now) (none_is c.in_ok-at.field-0 _ c.in_default.is (c.in_ok-at.ensures.stands tells));
-  drawn = λ tells. c.read_front.ensures.drawn tells;
+  file = c.new-reader.ensures.file;
+  reaches = c.new-reader.ensures.reaches;
+  block = λ tells. c.new-reader.ensures.block (g.D.Disk.files c.args.disk.now 0).now;
+  drawn = λ tells. omega (arith, c.read_front.ensures.drawn tells, c.new-reader.ensures.end);
   drawn_others = λ tells. c.read_front.ensures.drawn_others tells;
   faults = c.read_front.ensures.counted.later;
   fuses = c.read_front.ensures.fuses;
@@ -32,6 +36,9 @@ rows-preserved g c =
       same = λ tells. c.read_row.ensures.same tells ∙ c.rows.invariant.same tells;
       lead = λ tells. lead_next (super_bytes c.args.sup.now) (g.D.Disk.files c.args.disk.now 0).now c.rows.rows (c.rows.invariant.lead tells)
           (subst (λ files. HasBytesAt (row_place c.rows.rows) (head_row c.rows.rows) (files 0).now) (c.rows.invariant.same tells) (c.in_ok-read_row.ensures.row tells row));
+      file = c.read_row.ensures.file;
+      reaches = c.in_ok-read_row.ensures.next row;
+      block = λ tells. subst (λ files. HasBlockOf (files 0).now c.read_row.new.reader) (c.rows.invariant.same tells) (c.read_row.ensures.block tells);
       drawn = λ tells. omega (arith, c.read_row.ensures.drawn tells, c.rows.invariant.drawn tells);
       drawn_others = λ tells other ne. c.read_row.ensures.drawn_others tells other ne ∙ c.rows.invariant.drawn_others tells other ne;
       faults = omega (arith, c.read_row.ensures.counted.later);

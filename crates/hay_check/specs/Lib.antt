@@ -1,0 +1,4 @@
+pub mod Listing
+pub mod Damage
+pub mod Verdicts
+pub mod Faults

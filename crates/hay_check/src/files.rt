@@ -1,0 +1,75 @@
+//! The files of a replica's disk, and what stands at the front of each.
+
+ghost use Rattle.std.specs.Prelude.{◌≡◌, ◌≤◌, ◌+◌, ◌*◌};
+ghost use Rattle.hay_needle.specs.Super.{SuperFits};
+ghost use Rattle.hay_open.specs.Stored as stored;
+
+use hay_needle::{FileKind, Super};
+
+/// The head file.
+pub(crate) const HEAD_FILE: u32 = 0;
+
+// The greatest generation that a head file has.
+const LAST_GENERATION: u64 = 65_535;
+
+/// The volume file of a generation.
+pub(crate) fn volume_file(generation: u64) -> u32
+    ensures { generation ≤ 65535 → result ≡ stored.volume_file generation }
+{
+    2 * generation.min(LAST_GENERATION) as u32 + 1
+}
+
+/// The index file of a generation.
+pub(crate) fn index_file(generation: u64) -> u32
+    ensures { generation ≤ 65535 → result ≡ stored.index_file generation }
+{
+    2 * generation.min(LAST_GENERATION) as u32 + 2
+}
+
+/// The superblock of the head file.
+pub(crate) fn head_super(sup: &Super) -> Super
+    ensures { result ≡ stored.head_super sup.now }
+{
+    Super {
+        kind: FileKind::Head,
+        generation: 0,
+        ..*sup
+    }
+}
+
+/// The numbers behind a reference fit their types, once each was read.
+pub(crate) fn read_numbers(sup: &Super)
+    ensures { SuperFits sup.now }
+{
+    let _machines = sup.settings.machines;
+    let _volumes = sup.settings.volumes;
+    let _replicas = sup.settings.replicas;
+    let _capacity = sup.settings.capacity;
+    let _volume = sup.volume;
+    let _replica = sup.replica;
+    let _generation = sup.generation;
+}
+
+/// The superblock of the volume file of a generation.
+pub(crate) fn volume_super(sup: &Super, generation: u64) -> Super
+    ensures is { result ≡ stored.volume_super sup.now generation }
+    ensures fits { SuperFits result }
+{
+    read_numbers(sup);
+    Super {
+        kind: FileKind::Volume,
+        generation,
+        ..*sup
+    }
+}
+
+/// The superblock of the index file of a generation.
+pub(crate) fn index_super(sup: &Super, generation: u64) -> Super
+    ensures { result ≡ stored.index_super sup.now generation }
+{
+    Super {
+        kind: FileKind::Index,
+        generation,
+        ..*sup
+    }
+}
