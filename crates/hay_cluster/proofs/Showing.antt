@@ -1,5 +1,5 @@
 -- Reads are legal.
-use Rattle.std.proofs.Common.{◌≡◌, ◌≢◌, ℕ, zero, suc, ◌+◌, ◌-◌, ◌%◌, ◌^◌, ◌<◌, ◌≤◌, ◌⊎◌, not, true, false, Bool, cond, List, [], ◌∷◌, ◌++◌, length, take, drop, map, Option, Some, refl, sym, ap, subst, ◌∙◌, inl, inr, arith}
+use Rattle.std.proofs.Common.{◌≡◌, ℕ, zero, suc, ◌+◌, ◌-◌, ◌%◌, ◌^◌, ◌<◌, ◌≤◌, ◌⊎◌, not, true, false, Bool, cond, List, [], ◌∷◌, ◌++◌, length, take, drop, map, Option, Some, refl, sym, ap, subst, ◌∙◌, inl, inr, arith}
 use Rattle.std.specs.Prelude.{◌==◌, Err, slice_get, slice_index, slice_index_or, slice_set, take_while}
 use Rattle.std.specs.List.{AllByRecursion, AllZip, count_by, prefix_len, range_with_len}
 use Rattle.std.proofs.Math.Nat.{mod-lt}
@@ -54,7 +54,7 @@ use Rattle.hay_reader.specs.declared.trial.Shown.TheVariants as shown
 use Rattle.hay_reader.proofs.Outcomes.{passed_for_arm, stops_unseen}
 use Rattle.hay_reader.proofs.Passing.{all_weaken, first_more, no_shorter}
 use Rattle.hay_cluster.specs.Causes.{CauseCameUp, Counts, IsNoArm, PassedOver, RoseIn}
-use Rattle.hay_cluster.specs.Reads.{CannotSee, FoundNoArm, FoundPasses, FoundSays, IsFoundAs, IsPassedFor, IsSeenAt, IsSightCause, IsSightFault, IsWhole, PassesFrom, PassesNoArm, PassesTo, ReadNoArm, ReadPasses, ReadSays, StopsUnseen, counts_of, outcomes_of, passed_at}
+use Rattle.hay_cluster.specs.Reads.{FoundNoArm, FoundPasses, FoundSays, IsFoundAs, IsPassedFor, IsSeenAt, IsSightCause, IsSightFault, IsWhole, PassesFrom, PassesNoArm, PassesTo, ReadNoArm, ReadPasses, ReadSays, StopsUnseen, counts_of, outcomes_of, passed_at}
 use Rattle.hay_cluster.specs.declared.reading.Found.{Found}
 use Rattle.hay_cluster.specs.Parts.{Comes}
 use Rattle.hay_cluster.specs.State.{Stands}
@@ -306,9 +306,9 @@ module _ (W : Type 0) (whole : W) (settings : Settings) (v arm' : ℕ) (disks di
       let others : AllByRecursion (IsOver f) rest = all_both (λ p. ArmRises (Arm f) p.cause) (IsOver arm) (IsOver f) (λ p up came. since_arm arm f (slot_of settings v p.replica) p.cause up came) rest rises each in
       elim has.0.0 [
         | inl up ↦ elim (reach f has.0.1 others) [
-            | inl far ↦ inl (let one = count_more (λ i. not (rose_in settings v disks disks' i)) j (map (λ p. p.replica) rest) in omega (arith, one, far, up))
-            | inr top ↦ inr top
-          ]
+          | inl far ↦ inl (let one = count_more (λ i. not (rose_in settings v disks disks' i)) j (map (λ p. p.replica) rest) in omega (arith, one, far, up))
+          | inr top ↦ inr top
+        ]
         | inr top ↦ inr (omega (arith, has.0.1, has.1, top))
       ]
   reach_one arm j (Disk f) rest has rises each reach later =
@@ -654,17 +654,6 @@ sight_passed W slot arm arm' disks disks' (refusal.Busy m generation) cause h is
 sight_passed W slot arm arm' disks disks' (refusal.Worn m) cause h is whole = absurd h
 sight_passed W slot arm arm' disks disks' refusal.Idle cause h is whole = absurd h
 
-pub can_not_see : (slot : ℕ) (disks disks' : List ℕ) (fault : LogicalFault) → IsSightFault slot disks disks' fault → CannotSee fault
-can_not_see slot disks disks' (refusal.Failed m count) h = tt
-can_not_see slot disks disks' (refusal.Damaged m at) h = tt
-can_not_see slot disks disks' refusal.NoMemory h = tt
-can_not_see slot disks disks' (refusal.ReadOnly m) h = absurd h
-can_not_see slot disks disks' (refusal.Full m end need capacity) h = absurd h
-can_not_see slot disks disks' (refusal.Gone front) h = absurd h
-can_not_see slot disks disks' (refusal.Busy m generation) h = absurd h
-can_not_see slot disks disks' (refusal.Worn m) h = absurd h
-can_not_see slot disks disks' refusal.Idle h = absurd h
-
 -- no replica more, and one more
 pub passes_none : (W : Type 0) (settings : Settings) (lane v start : ℕ) (before after : Counts) (causes : List PassedReplica) → ComeFirst start settings.replicas causes → PassesFrom W settings lane v start before after causes causes
 passes_none W settings lane v start before after causes order = record {
@@ -729,10 +718,10 @@ stops_further W settings lane v start before after store pair replica causes pas
     elim on [
       | inl one ↦ omega (arith, one, longer)
       | inr seen ↦ elim (cases_order (length more) (length causes)) [
-          | inl same ↦ absurd (unseen (subst (λ i. IsSeenAt store v pair i) (next ∙ ap (λ n. (start + n) % settings.replicas) (sym same) ∙ sym to.next) seen.1))
-          | inr (inl less) ↦ absurd (omega (arith, longer, less, seen.0))
-          | inr (inr greater) ↦ omega (arith, greater)
-        ]
+        | inl same ↦ absurd (unseen (subst (λ i. IsSeenAt store v pair i) (next ∙ ap (λ n. (start + n) % settings.replicas) (sym same) ∙ sym to.next) seen.1))
+        | inr (inl less) ↦ absurd (omega (arith, longer, less, seen.0))
+        | inr (inr greater) ↦ omega (arith, greater)
+      ]
     ]
 
 -- what is known stands over two calls that changed nothing of it

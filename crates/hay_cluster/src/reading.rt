@@ -32,19 +32,11 @@ use std::alloc::Global;
 /// What a read found, once each place that it came to was seen. A replica is named by its number in the volume.
 #[derive(Drop)]
 pub enum Found {
-    Photo {
-        replica: u32,
-    },
-    Gone {
-        replica: u32,
-    },
-    WrongCookie {
-        replica: u32,
-    },
+    Photo { replica: u32 },
+    Gone { replica: u32 },
+    WrongCookie { replica: u32 },
     /// Every replica was passed over.
-    Unreadable {
-        causes: Causes,
-    },
+    Unreadable { causes: Causes },
     NoMemory,
 }
 
@@ -151,8 +143,7 @@ impl<D: Disk, A: Arm<D::Piece>> Cluster<D, A> {
             return Reply::NoMem;
         };
         let rows = self.rows();
-        let (front, found) =
-            self.fetch(alloc, tag.lane, volume, pair, cookie, start, &mut photo);
+        let (front, found) = self.fetch(alloc, tag.lane, volume, pair, cookie, start, &mut photo);
         match found {
             Found::Photo { replica } => Reply::Photo {
                 volume,

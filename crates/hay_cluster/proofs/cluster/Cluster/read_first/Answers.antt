@@ -1,4 +1,4 @@
-use Rattle.std.proofs.Common.{◌≡◌, ◌<◌, ◌≤◌, ◌⊎◌, ◌^◌, List, [], length, map, sym, ap, subst, ◌∙◌, arith}
+use Rattle.std.proofs.Common.{◌≡◌, ◌<◌, List, [], length, map, sym, ap, subst, ◌∙◌, arith}
 use Rattle.std.specs.Prelude.{slice_get, slice_index_or, slice_set}
 use Rattle.std.proofs.lemmas.Option.{same_Some}
 use Rattle.std.proofs.lemmas.List.{with_items_is}
@@ -8,7 +8,6 @@ use Rattle.hay_legal.specs.Known.{NoneFalls, volume_at}
 use Rattle.hay_logical.specs.Fits.{At}
 use Rattle.hay_logical.specs.Volumes.{Volume}
 use Rattle.hay_logical.proofs.Lists.{at_read}
-use Rattle.hay_reader.specs.Causes.{ComeFirst}
 use Rattle.hay_reader.specs.Shown.{ReadsRow}
 use Rattle.hay_reader.proofs.Outcomes.{answers_row}
 use Rattle.hay_cluster.specs.Causes.{Counts}
@@ -18,7 +17,7 @@ use Rattle.hay_cluster.specs.Store.{IsUp, Open, disks_of}
 use Rattle.hay_cluster.proofs.Rooms.{begin_room, item_room, looked_room, places_room, row_room}
 use Rattle.hay_cluster.proofs.Lists.{length-set}
 use Rattle.hay_cluster.proofs.Moves.{volume_of, volume_stood}
-use Rattle.hay_cluster.proofs.Showing.{answers_say, counts_at, later_set, row_may_mean, row_read, row_stops, seat_comes}
+use Rattle.hay_cluster.proofs.Showing.{answers_say, counts_at, later_set, row_may_mean, row_read, seat_comes}
 use Rattle.hay_cluster.proofs.Sure.{read_no_arm, used_sure}
 use Rattle.hay_cluster.proofs.cluster.Cluster.read_first.Goals as goal
 

@@ -1,4 +1,4 @@
-use Rattle.std.proofs.Common.{◌≡◌, ◌<◌, ◌≤◌, ◌⊎◌, ◌^◌, List, [], length, map, sym, ap, subst, ◌∙◌, arith}
+use Rattle.std.proofs.Common.{◌≡◌, ◌<◌, ◌≤◌, ◌⊎◌, ◌^◌, List, length, map, sym, ap, subst, ◌∙◌, arith}
 use Rattle.std.specs.Prelude.{slice_get, slice_index_or, slice_set}
 use Rattle.std.proofs.lemmas.Option.{same_Some}
 use Rattle.std.proofs.lemmas.List.{with_items_is}
@@ -14,7 +14,7 @@ use Rattle.hay_reader.proofs.Outcomes.{answers_row}
 use Rattle.hay_cluster.specs.Causes.{Counts}
 use Rattle.hay_cluster.specs.Reads.{IsWhole, counts_of, outcomes_of}
 use Rattle.hay_cluster.specs.State.{Stands}
-use Rattle.hay_cluster.specs.Store.{IsUp, Open, disks_of}
+use Rattle.hay_cluster.specs.Store.{Open, disks_of}
 use Rattle.hay_cluster.proofs.Rooms.{begin_room, item_room, looked_room, places_room, row_room}
 use Rattle.hay_cluster.proofs.Lists.{length-set}
 use Rattle.hay_cluster.proofs.Moves.{volume_of, volume_stood}

@@ -1,4 +1,4 @@
-use Rattle.std.proofs.Common.{◌≡◌, ◌<◌, List, ap, sym, length, subst, ◌∙◌, arith}
+use Rattle.std.proofs.Common.{◌<◌, List, ap, sym, length, subst, ◌∙◌, arith}
 use Rattle.std.specs.Prelude.{Err, slice_index_or, slice_set}
 use Rattle.std.proofs.lemmas.List.{with_items_is}
 use borrow.Author.Rules.{scaled_Fits}

@@ -1,10 +1,9 @@
-use Rattle.std.proofs.Common.{◌≡◌, ◌<◌, Err, List, [], ◌∷◌, ◌++◌, map, sym, ap, ◌∙◌, subst}
+use Rattle.std.proofs.Common.{Err, ap, ◌∙◌}
 use Rattle.hay_legal.specs.Known.{slot_of}
 use Rattle.hay_logical.specs.declared.fault.LogicalFault.{LogicalFault}
 use Rattle.hay_reader.specs.declared.causes.PassedReplica.{PassedReplica}
 use Rattle.hay_cluster.specs.Reads.{IsWhole, counts_of}
-use Rattle.hay_cluster.specs.Store.{disks_of}
-use Rattle.hay_cluster.proofs.Showing.{can_not_see, passes_none, passes_one, sight_passed}
+use Rattle.hay_cluster.proofs.Showing.{passes_none, passes_one, sight_passed}
 use Rattle.hay_cluster.proofs.cluster.Cluster.see_or_pass.Goals as goal
 use Rattle.hay_cluster.proofs.cluster.Cluster.see_or_pass.Goals.{in-Err+in_ok-cause, in_default}
 
