@@ -34,7 +34,7 @@ returns-in-Some-closed_by-clause-suits g c = closed_suits_del (c.args.self.now).
 pub returns-in-Ok-clause-suits : goal.returns-in-Ok-clause-suits
 returns-in-Ok-clause-suits g c = inl (c.in-Some.volume, c.in-Ok.position, c.rows-in-Ok.result, (c.in-Some.ensures).within, refl)
 
-pub returns-in-Err-clause-suits : goal.returns-in-Err-clause-suits
-returns-in-Err-clause-suits g c =
+pub returns-clause-suits : goal.returns-clause-suits
+returns-clause-suits g c =
     del_refusal_suits (c.args.self.now).settings c.in-Some.volume c.rows-in-Err.result _ _ c.in-Err.fault c.delete_refusal.result (c.in-Some.ensures).within
     (IfErr-at_err _ c.in-Err.is c.delete_in.ensures.causes) c.delete_refusal.ensures.is
