@@ -209,7 +209,8 @@ fn each_damage_is_told_at_its_place(rt: HostRuntime) -> Result<(), Fail> {
     Ok(())
 }
 
-/// The whole transcript of a run over the store of `put 0 1 61; flush 0 0` with another byte in its photo.
+/// The whole transcript of a run over the store of `put 0 1 61; flush 0 0` with another byte in its photo: it is neither shown nor
+/// deleted, since its needle is not what the record says.
 #[test]
 fn a_damaged_photo_is_not_shown(rt: HostRuntime) -> Result<(), Fail> {
     let alloc = rt.alloc();
@@ -231,7 +232,7 @@ fn a_damaged_photo_is_not_shown(rt: HostRuntime) -> Result<(), Fail> {
     assert_eq!(rt; status, 0);
     assert_eq!(rt;
         written.as_slice(),
-        b"haystack 1 1 1 67108864\n1 unreadable 0 0 1 0:damage:64\n2 deleted 0 1 1\n".as_slice()
+        b"haystack 1 1 1 67108864\n1 unreadable 0 0 1 0:damage:64\n2 damaged 0:0 64\n".as_slice()
     );
     Ok(())
 }

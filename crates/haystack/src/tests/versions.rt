@@ -157,13 +157,11 @@ fn an_old_needle_is_deleted_in_its_place(rt: HostRuntime) -> Result<(), Fail> {
     Ok(())
 }
 
-/// Bytes of `hello`'s needle with one changed, and whether what is then wrong stands in its head. What an opening by records reads
-/// of it is the head alone.
+/// Bytes of `hello`'s needle with one changed.
 struct Wrong {
     needle: &'static [u8; 56],
     at: usize,
     byte: u8,
-    head: bool,
 }
 
 const WRONG: [Wrong; 13] = [
@@ -172,83 +170,70 @@ const WRONG: [Wrong; 13] = [
         needle: OLD_HELLO,
         at: 33,
         byte: 0x10,
-        head: true,
     },
     Wrong {
         needle: HELLO,
         at: 32,
         byte: 0x01,
-        head: true,
     },
     // Versions 3 and 256.
     Wrong {
         needle: OLD_HELLO,
         at: 29,
         byte: 2,
-        head: true,
     },
     Wrong {
         needle: HELLO,
         at: 29,
         byte: 2,
-        head: true,
     },
     Wrong {
         needle: HELLO,
         at: 29,
         byte: 0xff,
-        head: true,
     },
     // Bytes that are zero in both versions.
     Wrong {
         needle: OLD_HELLO,
         at: 30,
         byte: 1,
-        head: true,
     },
     Wrong {
         needle: HELLO,
         at: 30,
         byte: 1,
-        head: true,
     },
     Wrong {
         needle: OLD_HELLO,
         at: 31,
         byte: 1,
-        head: true,
     },
     Wrong {
         needle: HELLO,
         at: 31,
         byte: 1,
-        head: true,
     },
     // The checksum of the other version.
     Wrong {
         needle: OLD_HELLO,
         at: 29,
         byte: 1,
-        head: false,
     },
     Wrong {
         needle: HELLO,
         at: 29,
         byte: 0,
-        head: false,
     },
     // Another cookie than version 2's checksum is of, and another photo than version 1's.
     Wrong {
         needle: HELLO,
         at: 8,
         byte: 0x91,
-        head: false,
     },
     Wrong {
         needle: OLD_HELLO,
         at: 36,
         byte: b'j',
-        head: false,
     },
 ];
 
@@ -265,26 +250,18 @@ fn try_unrecorded(rt: &impl Abort, alloc: Global, needle: &[u8; 56]) -> Result<(
     Ok(())
 }
 
-/// A recorded needle's head is read at the opening, and the rest of it when it is fetched: then the photo is not shown, the other
-/// one is, and a compaction stops at the needle and leaves the old file.
-fn try_recorded(rt: &impl Abort, alloc: Global, needle: &[u8; 56], head: bool) -> Result<(), Fail> {
+/// A recorded needle that is not the last one is not read at the opening, but when it is needed: then the photo is not shown, the
+/// other one is, and a compaction stops at the needle and leaves the old file.
+fn try_recorded(rt: &impl Abort, alloc: Global, needle: &[u8; 56]) -> Result<(), Fail> {
     let volume = volume_of(alloc, &[needle, LETTER])?;
     let script =
         b"read 0 1 903df1a0ade0b876\nread 0 2 903df1a0ade0b876\ncompact 0 0\nread 0 2 903df1a0ade0b876\n";
     let ran = run_on(alloc, 2, volume.as_slice(), RECORDS, script)?;
-    if head {
-        assert_eq!(rt;
-            ran.written.as_slice(),
-            b"haystack 1 1 1 67108864\nopen damaged 1 1 64\n".as_slice()
-        );
-        assert_eq!(rt; ran.status, 6);
-    } else {
-        assert_eq!(rt;
-            ran.written.as_slice(),
-            b"haystack 1 1 1 67108864\n1 unreadable 0 0 2 0:damage:64\n2 photo 0 0 0 2 61\n3 damaged 0:0 64\n4 photo 0 0 0 2 61\n".as_slice()
-        );
-        assert_eq!(rt; ran.status, 0);
-    }
+    assert_eq!(rt;
+        ran.written.as_slice(),
+        b"haystack 1 1 1 67108864\n1 unreadable 0 0 2 0:damage:64\n2 photo 0 0 0 2 61\n3 damaged 0:0 64\n4 photo 0 0 0 2 61\n".as_slice()
+    );
+    assert_eq!(rt; ran.status, 0);
     assert_eq!(rt; ran.file(1)?, volume.as_slice());
     Ok(())
 }
@@ -297,7 +274,7 @@ fn a_needle_of_no_version_is_damage_at_its_place(rt: HostRuntime) -> Result<(), 
         let byte = needle.get_mut(wrong.at).ok_or("no such byte")?;
         *byte = wrong.byte;
         try_unrecorded(&rt, alloc, &needle)?;
-        try_recorded(&rt, alloc, &needle, wrong.head)?;
+        try_recorded(&rt, alloc, &needle)?;
     }
     Ok(())
 }
