@@ -101,7 +101,7 @@ cause_earlier settings lane before mid after (reply.Failed v m f) falls arms cau
 cause_earlier settings lane before mid after (reply.FailedDir f) falls arms cause =
     (rose_earlier (slice_index before.disks 0) (slice_index mid.disks 0) (slice_index after.disks 0) (falls_at before.disks mid.disks 0 falls) cause.0, cause.1)
 cause_earlier settings lane before mid after (reply.Unreadable v p d passed) falls arms cause =
-    record { start = cause.start; order = cause.order; rises = cause.rises; each = causes_earlier settings lane v before mid after passed falls arms cause.each }
+    record { rises = cause.rises; each = causes_earlier settings lane v before mid after passed falls arms cause.each }
 cause_earlier settings lane before mid after _ falls arms cause = tt
 
 -- A PAIR THAT GOT NO HOME

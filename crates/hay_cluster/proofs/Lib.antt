@@ -4,6 +4,7 @@ pub mod Changing
 pub mod ClosingSlots
 pub mod ClosingStore
 pub mod Finds
+pub mod Fitting
 pub mod Homes
 pub mod Lists
 pub mod Machines

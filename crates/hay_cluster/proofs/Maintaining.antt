@@ -162,7 +162,7 @@ module _ {D P A : Type 0} (files : D → Files) (Tells : Type 0) (faults fuses :
 
     -- WORK THAT WAS REFUSED
 
-    not_flushed : (tag : CoreTag) (fault : LogicalFault) (answer : Reply) → IsReplicaCause old.settings v (map faults (disks_of old)) (map faults (disks_of new)) fault
+    not_flushed : (tag : CoreTag) (fault : LogicalFault) (answer : Reply) → IsReplicaCause old.settings Flush v j (map faults (disks_of old)) (map faults (disks_of new)) fault
         → FlushRefused files Tells (volume_at k v) j before after fault → IsRefusedAs v m fault answer → Answered files Tells faults fuses arm_faults k tag (command.Flush v m) answer new
     not_flushed tag (ReadOnly m') answer cause refused told =
         let came = untouched refused.1 in
@@ -178,7 +178,7 @@ module _ {D P A : Type 0} (files : D → Files) (Tells : Type 0) (faults fuses :
         told_by tag Flush reply.NoMem answer came.known told (found_here (LegalFlush old.settings k v m) _ came.known came.leaves) came.stands
     not_flushed tag _ answer cause refused told = absurd refused
 
-    not_begun : (tag : CoreTag) (fault : LogicalFault) (answer : Reply) → IsReplicaCause old.settings v (map faults (disks_of old)) (map faults (disks_of new)) fault
+    not_begun : (tag : CoreTag) (fault : LogicalFault) (answer : Reply) → IsReplicaCause old.settings Begin v j (map faults (disks_of old)) (map faults (disks_of new)) fault
         → BeginRefused files Tells (volume_at k v) j before after fault → IsRefusedAs v m fault answer → Answered files Tells faults fuses arm_faults k tag (command.Begin v m) answer new
     not_begun tag (ReadOnly m') answer cause refused told =
         let came = untouched refused.1 in
@@ -201,7 +201,7 @@ module _ {D P A : Type 0} (files : D → Files) (Tells : Type 0) (faults fuses :
         told_by tag Begin reply.NoMem answer came.known told (found_here (LegalBegin old.settings k v m) _ came.known came.leaves) came.stands
     not_begun tag _ answer cause refused told = absurd refused
 
-    not_stepped : (tag : CoreTag) (cells : ℕ) (fault : LogicalFault) (answer : Reply) → IsReplicaCause old.settings v (map faults (disks_of old)) (map faults (disks_of new)) fault
+    not_stepped : (tag : CoreTag) (cells : ℕ) (fault : LogicalFault) (answer : Reply) → IsReplicaCause old.settings (Step cells) v j (map faults (disks_of old)) (map faults (disks_of new)) fault
         → StepRefused files Tells (volume_at k v) j cells before after fault → IsRefusedAs v m fault answer → Answered files Tells faults fuses arm_faults k tag (command.Step v m cells) answer new
     not_stepped tag cells (ReadOnly m') answer cause refused told =
         let came = untouched refused.1 in
@@ -221,7 +221,7 @@ module _ {D P A : Type 0} (files : D → Files) (Tells : Type 0) (faults fuses :
         (found_here (λ i. LegalStep old.settings k v m i cells) _ came.known (inr (thawed, run, n, stood, few, came.leaves))) came.stands
     not_stepped tag cells _ answer cause refused told = absurd refused
 
-    not_finished : (tag : CoreTag) (fault : LogicalFault) (answer : Reply) → IsReplicaCause old.settings v (map faults (disks_of old)) (map faults (disks_of new)) fault
+    not_finished : (tag : CoreTag) (fault : LogicalFault) (answer : Reply) → IsReplicaCause old.settings Finish v j (map faults (disks_of old)) (map faults (disks_of new)) fault
         → FinishRefused files Tells (volume_at k v) j before after fault → IsRefusedAs v m fault answer → Answered files Tells faults fuses arm_faults k tag (command.Finish v m) answer new
     not_finished tag (ReadOnly m') answer cause refused told =
         let came = untouched refused.1 in
@@ -240,7 +240,7 @@ module _ {D P A : Type 0} (files : D → Files) (Tells : Type 0) (faults fuses :
         told_by tag Finish reply.NoMem answer reached.known told (found_here (LegalFinish old.settings k v m) _ reached.known reached.is) reached.stands
     not_finished tag _ answer cause refused told = absurd refused
 
-    not_compacted : (tag : CoreTag) (fault : LogicalFault) (answer : Reply) → IsReplicaCause old.settings v (map faults (disks_of old)) (map faults (disks_of new)) fault
+    not_compacted : (tag : CoreTag) (fault : LogicalFault) (answer : Reply) → IsReplicaCause old.settings Compact v j (map faults (disks_of old)) (map faults (disks_of new)) fault
         → CompactRefused files Tells (volume_at k v) j before after fault → IsRefusedAs v m fault answer → Answered files Tells faults fuses arm_faults k tag (command.Compact v m) answer new
     not_compacted tag (ReadOnly m') answer cause refused told =
         let came = untouched refused.1 in
@@ -263,7 +263,7 @@ module _ {D P A : Type 0} (files : D → Files) (Tells : Type 0) (faults fuses :
         told_by tag Compact reply.NoMem answer reached.known told (found_here (LegalCompact old.settings k v m) _ reached.known reached.is) reached.stands
     not_compacted tag _ answer cause refused told = absurd refused
 
-    pub not_maintained : (tag : CoreTag) (work : Maintenance) (fault : LogicalFault) (answer : Reply) → IsReplicaCause old.settings v (map faults (disks_of old)) (map faults (disks_of new)) fault
+    pub not_maintained : (tag : CoreTag) (work : Maintenance) (fault : LogicalFault) (answer : Reply) → IsReplicaCause old.settings work v j (map faults (disks_of old)) (map faults (disks_of new)) fault
         → IsRefused files Tells work (volume_at k v) j before after fault → IsRefusedAs v m fault answer → Answered files Tells faults fuses arm_faults k tag (command_of work v m) answer new
     not_maintained tag Flush fault answer cause refused told = not_flushed tag fault answer cause refused told
     not_maintained tag Begin fault answer cause refused told = not_begun tag fault answer cause refused told

@@ -1,8 +1,10 @@
 -- Reads are legal.
-use Rattle.std.proofs.Common.{◌≡◌, ℕ, zero, suc, ◌+◌, ◌%◌, ◌<◌, ◌≤◌, not, List, [], ◌∷◌, length, map, Option, Some, refl, sym, ap, subst, ◌∙◌, inl, inr, arith}
+use Rattle.std.proofs.Common.{◌≡◌, ◌⊎◌, ℕ, zero, suc, ◌+◌, ◌%◌, ◌<◌, ◌≤◌, not, List, [], ◌∷◌, length, map, Option, Some, refl, sym, ap, subst, ◌∙◌, inl, inr, arith}
 use Rattle.std.specs.Prelude.{◌==◌, slice_get, slice_index, slice_set, take_while}
 use Rattle.std.specs.List.{AllByRecursion, AllZip, range_with_len}
 use Rattle.std.proofs.lemmas.List.Sums.{count_by-le-length}
+use Rattle.std.proofs.lemmas.Nat.{mod_below}
+use Rattle.hay_needle.specs.declared.needle.Cookie.{Cookie}
 use Rattle.hay_needle.specs.declared.needle.Outcome.{Outcome}
 use Rattle.hay_needle.specs.declared.needle.Pair.{Pair}
 use Rattle.hay_needle.specs.declared.settings.Settings.{Settings}
@@ -24,14 +26,19 @@ use Rattle.hay_reply.specs.declared.Reply.{Reply}
 use Rattle.hay_reply.specs.declared.Reply.TheVariants as reply
 use Rattle.hay_script.specs.declared.Command.TheVariants as command
 use Rattle.hay_url.specs.declared.Url.{Url}
-use Rattle.hay_reader.specs.Causes.{ArmRises, CameUp, EachPair, HasArmCause, IsArm, Passes}
-use Rattle.hay_reader.specs.Shown.{Shows}
+use Rattle.hay_reader.specs.Causes.{ArmRises, ArmUse, CameUp, EachPair, HasArmCause, IsArm, Passes}
+use Rattle.hay_reader.specs.Shown.{ReadsRow, Shows, ShowsPlace}
+use Rattle.hay_reader.specs.declared.seat.ReadReply.{ReadReply}
+use Rattle.hay_reader.specs.declared.seat.ReadReply.TheVariants as read
+use Rattle.hay_reader.specs.declared.trial.Shown.{Shown}
+use Rattle.hay_reader.specs.declared.trial.Shown.TheVariants as shown
 use Rattle.hay_reader.specs.declared.causes.PassedReplica.{PassedReplica}
 use Rattle.hay_cluster.specs.Causes.{CauseCameUp, Counts, PassedOver}
-use Rattle.hay_cluster.specs.Reads.{ShowsIn, outcomes_of, passed_at}
+use Rattle.hay_cluster.specs.Reads.{IsShownBelow, outcomes_of, passed_at}
 use Rattle.hay_cluster.specs.Parts.{Comes}
 use Rattle.hay_cluster.specs.State.{Stands}
 use Rattle.hay_cluster.specs.Store.{IsBuilt, Open}
+use Rattle.hay_cluster.specs.Suiting.{ShowsFrom}
 use Rattle.hay_cluster.proofs.Lists.{length-set, slice_get-set}
 use Rattle.hay_cluster.proofs.Machines.{replica_found}
 use Rattle.hay_cluster.proofs.Moves.{none_falls}
@@ -200,14 +207,33 @@ machines_told : (settings : Settings) (v : ℕ) (over : List PassedReplica) → 
 machines_told settings v [] = refl
 machines_told settings v (p ∷ over) = ap (λ (ms : List ℕ). machine_of settings v p.replica ∷ ms) (machines_told settings v over)
 
-pub passed_over : (settings : Settings) (lane v start replicas : ℕ) (before after : Counts) (over : List PassedReplica) → replicas ≡ settings.replicas
-    → Passes start replicas (slice_index before.arms lane) (slice_index after.arms lane) over → length over ≡ replicas → PassedOver settings lane v before after (map (passed_at settings v) over)
-passed_over settings lane v start replicas before after over long passes all = record {
-  start = start;
-  order = machines_told settings v over ∙ ap (map (machine_of settings v)) (in_order settings start replicas (slice_index before.arms lane) (slice_index after.arms lane) over long passes all);
+-- they are named in the order in which they were tried
+pub passed_in_order : (settings : Settings) (v start replicas before after : ℕ) (over : List PassedReplica) → replicas ≡ settings.replicas → Passes start replicas before after over → length over ≡ replicas
+    → map (λ passed. passed.machine) (map (passed_at settings v) over) ≡ map (machine_of settings v) (order_from settings start)
+passed_in_order settings v start replicas before after over long passes all =
+    machines_told settings v over ∙ ap (map (machine_of settings v)) (in_order settings start replicas before after over long passes all)
+
+pub passed_over : (settings : Settings) (lane v start replicas : ℕ) (before after : Counts) (over : List PassedReplica)
+    → Passes start replicas (slice_index before.arms lane) (slice_index after.arms lane) over → PassedOver settings lane v before after (map (passed_at settings v) over)
+passed_over settings lane v start replicas before after over passes = record {
   rises = rises_each settings v over passes.rises;
   each = causes_told settings lane v before after over passes.each;
 }
+
+-- the replica that showed the photo is one of the row's
+below : {P : Type 0} {Tells : Type 0} (arm : ArmUse) (start : ℕ) (row : List (Place P)) (cookie : Cookie) (put : List ℕ) (j : ℕ) (what : Shown) → ShowsPlace Tells arm start row cookie put j what → j < length row
+below arm start row cookie put j what shows =
+    let fewer = shows.fewer in
+    let next = shows.next in
+    let some : 0 < length row = omega (arith, fewer) in
+    let low = mod_below (start + length shows.causes) (length row) some in
+    omega (arith, next, low)
+
+pub shown_below : {P : Type 0} (Tells : Type 0) (arm : ArmUse) (start : ℕ) (row : List (Place P)) (cookie : Cookie) (put : List ℕ) (said : ReadReply) → ReadsRow Tells arm start row cookie put said → IsShownBelow (length row) said
+shown_below Tells arm start row cookie put (read.Photo j) reads = below arm start row cookie put j shown.Photo reads
+shown_below Tells arm start row cookie put (read.Gone j) reads = below arm start row cookie put j shown.Gone reads
+shown_below Tells arm start row cookie put (read.WrongCookie j) reads = below arm start row cookie put j shown.WrongCookie reads
+shown_below Tells arm start row cookie put (read.Unreadable causes) reads = tt
 
 -- A READ OF THE STORE
 
@@ -237,9 +263,9 @@ module _ {D P A : Type 0} (files : D → Files) (Tells : Type 0) (faults fuses :
 
 -- what is legal to show to a reader of a URL is legal for its command
 pub get_command : (settings : Settings) (k t : Known) (tag : CoreTag) (url : Url) (start v : ℕ) (answer : Reply) → replica_on settings url.volume url.machine ≡ Some start → home_of k url.pair ≡ Some v → v ≡ url.volume
-    → LegalShow settings k tag start url.pair url.cookie answer t → ShowsIn v answer → LegalCommand settings k tag (command.Get url) answer t
+    → LegalShow settings k tag start url.pair url.cookie answer t → ShowsFrom settings start v answer ⊎ (answer ≡ reply.NoMem) → LegalCommand settings k tag (command.Get url) answer t
 get_command settings k t tag url start v answer there home same legal shows =
-    go answer legal shows
+    go shows
   where
     elsewhere : LeavesElsewhere k url t
     elsewhere w is other = absurd (other (let one : v ≡ w = (let both : ◌≡◌ {A = Option ℕ} (Some v) (Some w) = sym home ∙ is in cc) in sym one ∙ same))
@@ -247,10 +273,12 @@ get_command settings k t tag url start v answer there home same legal shows =
     at : (r : Reply) → LegalGetAt settings k tag url (Some start) r t → LegalGet settings k tag url r t
     at r h = subst (λ (o : Option ℕ). LegalGetAt settings k tag url o r t) (sym there) h
 
-    go : (r : Reply) → LegalShow settings k tag start url.pair url.cookie r t → ShowsIn v r → LegalCommand settings k tag (command.Get url) r t
-    go (reply.Photo w m p d bytes) h is = at (reply.Photo w m p d bytes) (h, is ∙ same, elsewhere)
-    go (reply.Gone w m p d) h is = at (reply.Gone w m p d) (h, is ∙ same, elsewhere)
-    go (reply.WrongCookie w m p d) h is = at (reply.WrongCookie w m p d) (h, is ∙ same, elsewhere)
-    go (reply.Unreadable w p d causes) h is = at (reply.Unreadable w p d causes) (h, is ∙ same, elsewhere)
-    go reply.NoMem h is = at reply.NoMem (h, tt, elsewhere)
-    go _ h is = absurd is
+    so : (r : Reply) → answer ≡ r → (LegalShow settings k tag start url.pair url.cookie r t → LegalGetAt settings k tag url (Some start) r t) → LegalCommand settings k tag (command.Get url) answer t
+    so r is gets = subst (λ (a : Reply). LegalCommand settings k tag (command.Get url) a t) (sym is) (at r (gets (subst (λ (a : Reply). LegalShow settings k tag start url.pair url.cookie a t) is legal)))
+
+    go : ShowsFrom settings start v answer ⊎ (answer ≡ reply.NoMem) → LegalCommand settings k tag (command.Get url) answer t
+    go (inl (inl (m, p, d, bytes, on, is))) = so (reply.Photo v m p d bytes) is (λ h. (h, same, elsewhere))
+    go (inl (inr (inl (m, p, d, on, is)))) = so (reply.Gone v m p d) is (λ h. (h, same, elsewhere))
+    go (inl (inr (inr (inl (m, p, d, on, is))))) = so (reply.WrongCookie v m p d) is (λ h. (h, same, elsewhere))
+    go (inl (inr (inr (inr (p, d, causes, order, is))))) = so (reply.Unreadable v p d causes) is (λ h. (h, same, elsewhere))
+    go (inr is) = so reply.NoMem is (λ h. (h, tt, elsewhere))

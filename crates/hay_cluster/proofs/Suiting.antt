@@ -1,32 +1,212 @@
--- Refusals of work are of a kind that its command may be given.
-use Rattle.std.proofs.Common.{inl, inr, ℕ, refl, sym, subst}
+-- Replies are those that their commands may be given.
+use Rattle.std.proofs.Common.{◌≡◌, ◌⊎◌, ℕ, suc, ◌+◌, ◌<◌, inl, inr, List, [], ◌∷◌, ◌++◌, map, Option, Some, None, refl, sym, ap, subst, ◌∙◌, arith}
+use Rattle.std.specs.Prelude.{IfSome}
+use Rattle.std.specs.List.{AllZip, list_any, range_with_len}
+use Rattle.hay_needle.specs.declared.needle.Pair.{Pair}
+use Rattle.hay_needle.specs.declared.settings.Settings.{Settings}
+use Rattle.hay_reply.specs.declared.Refused.{Refused}
+use Rattle.hay_reply.specs.declared.Refused.TheVariants.{NoRoom, Closed}
 use Rattle.hay_reply.specs.declared.Reply.{Reply}
+use Rattle.hay_reply.specs.declared.Reply.TheVariants as reply
+use Rattle.hay_legal.specs.Known.{all_tries, machine_of, replica_on, try_at}
+use Rattle.hay_legal.specs.Plain.{wants_room}
+use Rattle.hay_directory.specs.declared.fault.DirFault.{DirFault}
+use Rattle.hay_directory.specs.declared.fault.DirFault.TheVariants as settling
+use Rattle.hay_logical.specs.Answers.{IsRoomFault}
 use Rattle.hay_logical.specs.declared.fault.LogicalFault.{LogicalFault}
 use Rattle.hay_logical.specs.declared.fault.LogicalFault.TheVariants as refusal
 use Rattle.hay_cluster.specs.declared.maintenance.Maintenance.{Maintenance}
 use Rattle.hay_cluster.specs.declared.maintenance.Maintenance.TheVariants.{Flush, Begin, Step, Finish, Compact}
-use Rattle.hay_cluster.specs.Changes.{IsReadOnly}
-use Rattle.hay_cluster.specs.Maintenance.{IsRefusedAs, command_of}
-use Rattle.hay_cluster.specs.Suiting.{RefusesWorkOn, Suits}
+use Rattle.hay_cluster.specs.Causes.{IsDeleteCause, IsPutCause, RefusesBegin, RefusesCompact, RefusesFlush, RefusesOn, RefusesRun, RefusesWork}
+use Rattle.hay_cluster.specs.Changes.{IsDeleteReply, IsReadOnly}
+use Rattle.hay_cluster.specs.Lacks.{lack_of}
+use Rattle.hay_cluster.specs.Maintenance.{IsRefusedAs, command_of, done_as}
+use Rattle.hay_cluster.specs.Puts.{IsPutReply, IsRefusal, settle_reply}
+use Rattle.hay_cluster.specs.Store.{IsBuilt}
+use Rattle.hay_cluster.specs.Suiting.{AtReplica, IsOn, IsReadOnlyAt, IsRefusedBy, Refuses, Suits, SuitsBegin, SuitsCompact, SuitsDel, SuitsFlush, SuitsPut, SuitsRun}
+use Rattle.hay_cluster.proofs.Finds.{range-snoc}
+use Rattle.hay_cluster.proofs.Lists.{AllZip-append, map-append}
+use Rattle.hay_cluster.proofs.Machines.{replica_found}
 
-pub undone_suits : (v m : ℕ) (work : Maintenance) (said : Reply) → RefusesWorkOn v m said → Suits (command_of work v m) said
-undone_suits v m Flush said is = inr is
-undone_suits v m Begin said is = inr is
-undone_suits v m (Step cells) said is = inr is
-undone_suits v m Finish said is = inr is
-undone_suits v m Compact said is = inr is
+-- WHERE REPLICAS ARE
 
-closed_refuses : (v m by : ℕ) (said : Reply) → IsReadOnly v by said → RefusesWorkOn v m said
-closed_refuses v m by said (inl is) = subst (λ (r : Reply). RefusesWorkOn v m r) (sym is) refl
-closed_refuses v m by said (inr is) = subst (λ (r : Reply). RefusesWorkOn v m r) (sym is) tt
+pub on_machine : (settings : Settings) (v j m : ℕ) → IsBuilt settings → v < settings.volumes → j < settings.replicas → m ≡ machine_of settings v j → IsOn settings v m
+on_machine settings v j m built volume within is = (j, ap (replica_on settings v) is ∙ replica_found settings v j volume within built.no_more_replicas)
 
-pub fault_refuses : (v m : ℕ) (fault : LogicalFault) (said : Reply) → IsRefusedAs v m fault said → RefusesWorkOn v m said
-fault_refuses v m (refusal.ReadOnly by) said is = closed_refuses v m by said is
-fault_refuses v m (refusal.Failed by count) said is = subst (λ (r : Reply). RefusesWorkOn v m r) (sym is) refl
-fault_refuses v m (refusal.Busy by generation) said is = subst (λ (r : Reply). RefusesWorkOn v m r) (sym is) refl
-fault_refuses v m (refusal.Worn by) said is = subst (λ (r : Reply). RefusesWorkOn v m r) (sym is) refl
-fault_refuses v m refusal.Idle said is = subst (λ (r : Reply). RefusesWorkOn v m r) (sym is) (refl, refl)
-fault_refuses v m (refusal.Damaged by at) said is = subst (λ (r : Reply). RefusesWorkOn v m r) (sym is) refl
-fault_refuses v m refusal.NoMemory said is = subst (λ (r : Reply). RefusesWorkOn v m r) (sym is) tt
-fault_refuses v m (refusal.Full by end need capacity) said is = absurd is
-fault_refuses v m (refusal.Gone front) said is = absurd is
+-- what is answered of a replica that there is, and of one that there is not
+pub at_replica : (o : Option ℕ) (suits : ℕ → Reply → Type 0) (replica : ℕ) (said : Reply) → o ≡ Some replica → suits replica said → AtReplica o suits said
+at_replica o suits replica said there is = subst (λ (p : Option ℕ). AtReplica p suits said) (sym there) (inl is)
+
+pub at_none : (o : Option ℕ) (suits : ℕ → Reply → Type 0) → o ≡ None → AtReplica o suits reply.Nowhere
+at_none o suits none = subst (λ (p : Option ℕ). AtReplica p suits reply.Nowhere) (sym none) (inl refl)
+
+pub at_no_memory : (o : Option ℕ) (suits : ℕ → Reply → Type 0) (replica : ℕ) (said : Reply) → o ≡ Some replica → said ≡ reply.NoMem → AtReplica o suits said
+at_no_memory o suits replica said there is = subst (λ (p : Option ℕ). AtReplica p suits said) (sym there) (inr is)
+
+-- PUTS
+
+-- a volume that lacks room
+pub lack_refuses : (settings : Settings) (v : ℕ) (fault : LogicalFault) → IsBuilt settings → v < settings.volumes → IsRoomFault settings v fault → IfSome (lack_of v fault) (Refuses settings v)
+lack_refuses settings v (refusal.Full m end need capacity) built volume is = (refl, on_machine settings v is.0 m built volume is.1 is.2)
+lack_refuses settings v (refusal.ReadOnly m) built volume is = tt
+lack_refuses settings v (refusal.Gone front) built volume is = absurd is
+lack_refuses settings v (refusal.Failed m count) built volume is = absurd is
+lack_refuses settings v (refusal.Busy m generation) built volume is = absurd is
+lack_refuses settings v (refusal.Worn m) built volume is = absurd is
+lack_refuses settings v refusal.Idle built volume is = absurd is
+lack_refuses settings v (refusal.Damaged m at) built volume is = absurd is
+lack_refuses settings v refusal.NoMemory built volume is = absurd is
+
+-- one volume more was tried
+pub one_more_refuses : (settings : Settings) (pair : Pair) (turn v : ℕ) (refused : List Refused) (more : Refused) → v ≡ try_at settings pair turn → Refuses settings v more
+    → AllZip (Refuses settings) (map (try_at settings pair) (range_with_len 0 turn)) refused → AllZip (Refuses settings) (map (try_at settings pair) (range_with_len 0 (turn + 1))) (refused ++ more ∷ [])
+one_more_refuses settings pair turn v refused more is refuses others =
+    let next : turn + 1 ≡ suc turn = omega arith in
+    let last : 0 + turn ≡ turn = omega arith in
+    let t = try_at settings pair in
+    let tries : map t (range_with_len 0 (turn + 1)) ≡ map t (range_with_len 0 turn) ++ v ∷ [] =
+    ap (λ n. map t (range_with_len 0 n)) next ∙ ap (map t) (range-snoc 0 turn) ∙ map-append t (range_with_len 0 turn) ((0 + turn) ∷ [])
+    ∙ ap (λ n. map t (range_with_len 0 turn) ++ t n ∷ []) last ∙ ap (λ u. map t (range_with_len 0 turn) ++ u ∷ []) (sym is) in
+    subst (λ vs. AllZip (Refuses settings) vs (refused ++ more ∷ [])) (sym tries)
+    (AllZip-append (Refuses settings) (map t (range_with_len 0 turn)) (v ∷ []) refused (more ∷ []) others (refuses, tt))
+
+pub all_refuse : (settings : Settings) (pair : Pair) (refused : List Refused) → AllZip (Refuses settings) (all_tries settings pair) refused → IsRefusedBy settings pair refused
+all_refuse settings pair refused each = (all_tries settings pair, inl refl, each)
+
+pub one_refuses : (settings : Settings) (pair : Pair) (v : ℕ) (one : Refused) → v < settings.volumes → Refuses settings v one → IsRefusedBy settings pair (one ∷ [])
+one_refuses settings pair v one volume refuses = (v ∷ [], inr (v, volume, refl), (refuses, tt))
+
+pub refusal_suits : (settings : Settings) (pair : Pair) (refused : List Refused) (said : Reply) → IsRefusedBy settings pair refused → IsRefusal refused said → SuitsPut settings pair said
+refusal_suits settings pair refused (reply.Full tries) by told =
+    inr (inl (tries, subst (λ (rs : List Refused). IsRefusedBy settings pair rs) (sym told.0) by, ap (λ rs. list_any wants_room rs) told.0 ∙ told.1, refl))
+refusal_suits settings pair refused (reply.ReadOnly closed) by told = inr (inr (inl (closed, subst (λ (rs : List Refused). IsRefusedBy settings pair rs) (sym told) by, refl)))
+refusal_suits settings pair refused reply.NoMem by told = inr (inr (inr (inr (inr (inr refl)))))
+refusal_suits settings pair refused _ by told = absurd told
+
+pub put_refusal_suits : (settings : Settings) (pair : Pair) (v : ℕ) (before after : List ℕ) (fault : LogicalFault) (said : Reply) → v < settings.volumes → IsPutCause settings v before after fault → IsPutReply v fault said
+    → SuitsPut settings pair said
+put_refusal_suits settings pair v before after (refusal.ReadOnly m) said volume cause told = refusal_suits settings pair (Closed v m ∷ []) said (one_refuses settings pair v (Closed v m) volume refl) told
+put_refusal_suits settings pair v before after (refusal.Full m end need capacity) said volume cause told =
+    refusal_suits settings pair (NoRoom v m end need ∷ []) said (one_refuses settings pair v (NoRoom v m end need) volume (refl, cause.2)) told
+put_refusal_suits settings pair v before after (refusal.Failed m count) said volume cause told = let rose = cause.1 in inr (inr (inr (inr (inl (v, m, count, (rose.replica, rose.there), told)))))
+put_refusal_suits settings pair v before after refusal.NoMemory said volume cause told = inr (inr (inr (inr (inr (inr told)))))
+put_refusal_suits settings pair v before after _ said volume cause told = absurd told
+
+pub settle_suits : (settings : Settings) (pair : Pair) (fault : DirFault) → SuitsPut settings pair (settle_reply fault)
+settle_suits settings pair settling.Frozen = inr (inr (inr (inl refl)))
+settle_suits settings pair settling.NoMemory = inr (inr (inr (inr (inr (inr refl)))))
+settle_suits settings pair (settling.Failed count) = inr (inr (inr (inr (inr (inl (count, refl))))))
+
+-- DELETES
+
+pub closed_suits_del : (settings : Settings) (v by : ℕ) (said : Reply) → v < settings.volumes → IsReadOnly v by said → SuitsDel settings said
+closed_suits_del settings v by said volume (inl is) = inr (inr (inr (inl (record { volume = v; machine = by }, volume, is))))
+closed_suits_del settings v by said volume (inr is) = inr (inr (inr (inr (inr is))))
+
+pub del_refusal_suits : (settings : Settings) (v rows : ℕ) (before after : List ℕ) (fault : LogicalFault) (said : Reply) → v < settings.volumes → IsDeleteCause settings v before after fault → IsDeleteReply v rows fault said
+    → SuitsDel settings said
+del_refusal_suits settings v rows before after (refusal.Gone front) said volume cause told = inr (inl (v, front, rows, volume, told))
+del_refusal_suits settings v rows before after (refusal.Failed m count) said volume cause told = let rose = cause.1 in inr (inr (inr (inr (inl (v, m, count, (rose.replica, rose.there), told)))))
+del_refusal_suits settings v rows before after (refusal.ReadOnly m) said volume cause told = closed_suits_del settings v m said volume told
+del_refusal_suits settings v rows before after refusal.NoMemory said volume cause told = inr (inr (inr (inr (inr told))))
+del_refusal_suits settings v rows before after _ said volume cause told = absurd told
+
+-- WORK ON ONE REPLICA
+
+-- no work is refused for want of room, or of a photo
+pub work_refuses : (work : Maintenance) (here : ℕ) (fault : LogicalFault) → RefusesOn work here fault → RefusesWork fault
+work_refuses Flush here (refusal.Full m end need capacity) is = absurd is
+work_refuses Flush here (refusal.Gone front) is = absurd is
+work_refuses Flush here _ is = tt
+work_refuses Begin here (refusal.Full m end need capacity) is = absurd is
+work_refuses Begin here (refusal.Gone front) is = absurd is
+work_refuses Begin here _ is = tt
+work_refuses (Step cells) here (refusal.Full m end need capacity) is = absurd is
+work_refuses (Step cells) here (refusal.Gone front) is = absurd is
+work_refuses (Step cells) here _ is = tt
+work_refuses Finish here (refusal.Full m end need capacity) is = absurd is
+work_refuses Finish here (refusal.Gone front) is = absurd is
+work_refuses Finish here _ is = tt
+work_refuses Compact here (refusal.Full m end need capacity) is = absurd is
+work_refuses Compact here (refusal.Gone front) is = absurd is
+work_refuses Compact here _ is = tt
+
+-- A volume's refusal, as it is told: want of memory, or what suits the work.
+module _ (v m : ℕ) where
+  -- how work is refused on this replica, apart from want of memory
+  abbrev SuitsWork : Maintenance → Reply → Type 0
+  SuitsWork Flush said = SuitsFlush v m said
+  SuitsWork Begin said = SuitsBegin v m said
+  SuitsWork (Step cells) said = SuitsRun (reply.Stepped v m) v m said
+  SuitsWork Finish said = SuitsRun (reply.Compacted v m) v m said
+  SuitsWork Compact said = SuitsCompact v m said
+
+  read_only : (by : ℕ) (said : Reply) → IsReadOnly v by said → IsReadOnlyAt v said ⊎ (said ≡ reply.NoMem)
+  read_only by said (inl is) = inl (by, is)
+  read_only by said (inr is) = inr is
+
+  flush_refused : (fault : LogicalFault) (said : Reply) → RefusesFlush m fault → IsRefusedAs v m fault said → SuitsFlush v m said ⊎ (said ≡ reply.NoMem)
+  flush_refused (refusal.ReadOnly by) said is told = elim (read_only by said told) [ inl h ↦ inl (inr (inl h)) | inr h ↦ inr h ]
+  flush_refused (refusal.Failed by count) said is told = inl (inr (inr (count, told ∙ ap (λ n. reply.Failed v n count) is)))
+  flush_refused refusal.NoMemory said is told = inr told
+  flush_refused _ said is told = absurd is
+
+  begin_refused : (fault : LogicalFault) (said : Reply) → RefusesBegin m fault → IsRefusedAs v m fault said → SuitsBegin v m said ⊎ (said ≡ reply.NoMem)
+  begin_refused (refusal.ReadOnly by) said is told = elim (read_only by said told) [ inl h ↦ inl (inr (inl h)) | inr h ↦ inr h ]
+  begin_refused (refusal.Busy by generation) said is told = inl (inr (inr (inl (generation, told ∙ ap (λ n. reply.Busy v n generation) is))))
+  begin_refused (refusal.Worn by) said is told = inl (inr (inr (inr (inl (told ∙ ap (λ n. reply.Worn v n) is)))))
+  begin_refused (refusal.Failed by count) said is told = inl (inr (inr (inr (inr (count, told ∙ ap (λ n. reply.Failed v n count) is)))))
+  begin_refused refusal.NoMemory said is told = inr told
+  begin_refused _ said is told = absurd is
+
+  run_refused : (did : ℕ → Reply) (fault : LogicalFault) (said : Reply) → RefusesRun m fault → IsRefusedAs v m fault said → SuitsRun did v m said ⊎ (said ≡ reply.NoMem)
+  run_refused did (refusal.ReadOnly by) said is told = elim (read_only by said told) [ inl h ↦ inl (inr (inl h)) | inr h ↦ inr h ]
+  run_refused did refusal.Idle said is told = inl (inr (inr (inl told)))
+  run_refused did (refusal.Failed by count) said is told = inl (inr (inr (inr (inl (count, told ∙ ap (λ n. reply.Failed v n count) is)))))
+  run_refused did (refusal.Damaged by at) said is told = inl (inr (inr (inr (inr (at, told ∙ ap (λ n. reply.Damaged v n at) is)))))
+  run_refused did refusal.NoMemory said is told = inr told
+  run_refused did _ said is told = absurd is
+
+  compact_refused : (fault : LogicalFault) (said : Reply) → RefusesCompact m fault → IsRefusedAs v m fault said → SuitsCompact v m said ⊎ (said ≡ reply.NoMem)
+  compact_refused (refusal.ReadOnly by) said is told = elim (read_only by said told) [ inl h ↦ inl (inr (inl h)) | inr h ↦ inr h ]
+  compact_refused (refusal.Busy by generation) said is told = inl (inr (inr (inl (generation, told ∙ ap (λ n. reply.Busy v n generation) is))))
+  compact_refused (refusal.Worn by) said is told = inl (inr (inr (inr (inl (told ∙ ap (λ n. reply.Worn v n) is)))))
+  compact_refused (refusal.Failed by count) said is told = inl (inr (inr (inr (inr (inl (count, told ∙ ap (λ n. reply.Failed v n count) is))))))
+  compact_refused (refusal.Damaged by at) said is told = inl (inr (inr (inr (inr (inr (at, told ∙ ap (λ n. reply.Damaged v n at) is))))))
+  compact_refused refusal.NoMemory said is told = inr told
+  compact_refused _ said is told = absurd is
+
+  pub undone_suits : (work : Maintenance) (fault : LogicalFault) (said : Reply) → RefusesOn work m fault → IsRefusedAs v m fault said → SuitsWork work said ⊎ (said ≡ reply.NoMem)
+  undone_suits Flush fault said is told = flush_refused fault said is told
+  undone_suits Begin fault said is told = begin_refused fault said is told
+  undone_suits (Step cells) fault said is told = run_refused (reply.Stepped v m) fault said is told
+  undone_suits Finish fault said is told = run_refused (reply.Compacted v m) fault said is told
+  undone_suits Compact fault said is told = compact_refused fault said is told
+
+  pub done_suits : (work : Maintenance) (n : ℕ) (said : Reply) → said ≡ done_as v m work n → SuitsWork work said
+  done_suits Flush n said is = inl (n, is)
+  done_suits Begin n said is = inl (n, is)
+  done_suits (Step cells) n said is = inl (n, is)
+  done_suits Finish n said is = inl (n, is)
+  done_suits Compact n said is = inl (n, is)
+
+  pub work_suits : (settings : Settings) (line replica : ℕ) (work : Maintenance) (said : Reply) → replica_on settings v m ≡ Some replica → SuitsWork work said → Suits settings line (command_of work v m) said
+  work_suits settings line replica Flush said there is = at_replica (replica_on settings v m) (λ j. SuitsFlush v m) replica said there is
+  work_suits settings line replica Begin said there is = at_replica (replica_on settings v m) (λ j. SuitsBegin v m) replica said there is
+  work_suits settings line replica (Step cells) said there is = at_replica (replica_on settings v m) (λ j. SuitsRun (reply.Stepped v m) v m) replica said there is
+  work_suits settings line replica Finish said there is = at_replica (replica_on settings v m) (λ j. SuitsRun (reply.Compacted v m) v m) replica said there is
+  work_suits settings line replica Compact said there is = at_replica (replica_on settings v m) (λ j. SuitsCompact v m) replica said there is
+
+  pub memory_suits : (settings : Settings) (line replica : ℕ) (work : Maintenance) (said : Reply) → replica_on settings v m ≡ Some replica → said ≡ reply.NoMem → Suits settings line (command_of work v m) said
+  memory_suits settings line replica Flush said there is = at_no_memory (replica_on settings v m) (λ j. SuitsFlush v m) replica said there is
+  memory_suits settings line replica Begin said there is = at_no_memory (replica_on settings v m) (λ j. SuitsBegin v m) replica said there is
+  memory_suits settings line replica (Step cells) said there is = at_no_memory (replica_on settings v m) (λ j. SuitsRun (reply.Stepped v m) v m) replica said there is
+  memory_suits settings line replica Finish said there is = at_no_memory (replica_on settings v m) (λ j. SuitsRun (reply.Compacted v m) v m) replica said there is
+  memory_suits settings line replica Compact said there is = at_no_memory (replica_on settings v m) (λ j. SuitsCompact v m) replica said there is
+
+  pub nowhere_suits : (settings : Settings) (line : ℕ) (work : Maintenance) → replica_on settings v m ≡ None → Suits settings line (command_of work v m) reply.Nowhere
+  nowhere_suits settings line Flush none = at_none (replica_on settings v m) (λ j. SuitsFlush v m) none
+  nowhere_suits settings line Begin none = at_none (replica_on settings v m) (λ j. SuitsBegin v m) none
+  nowhere_suits settings line (Step cells) none = at_none (replica_on settings v m) (λ j. SuitsRun (reply.Stepped v m) v m) none
+  nowhere_suits settings line Finish none = at_none (replica_on settings v m) (λ j. SuitsRun (reply.Compacted v m) v m) none
+  nowhere_suits settings line Compact none = at_none (replica_on settings v m) (λ j. SuitsCompact v m) none

@@ -1,5 +1,5 @@
 -- What an answer and a fault say of the counts of faults, from before the call to behind it.
-use Rattle.std.specs.Prelude.{◌≡◌, ◌<◌, ℕ, Bool, List, Option, Some, None, map, slice_index, slice_set}
+use Rattle.std.specs.Prelude.{◌≡◌, ◌<◌, ℕ, Bool, List, Option, Some, None, slice_index, slice_set}
 use Rattle.std.specs.List.{AllByRecursion, AllZip}
 use Rattle.hay_needle.specs.declared.settings.Settings.{Settings}
 use Rattle.hay_disk.specs.Counts.{IsNext, Rose, StaysSure}
@@ -11,11 +11,14 @@ use Rattle.hay_reply.specs.declared.Passed.{Passed}
 use Rattle.hay_reply.specs.declared.Reply.{Reply}
 use Rattle.hay_reply.specs.declared.Reply.TheVariants as reply
 use Rattle.hay_legal.specs.Known.{CameUp, EachPair, disk_count, machine_of, replica_on, slot_of}
-use Rattle.hay_legal.specs.Plain.{ArmRises, order_from}
+use Rattle.hay_legal.specs.Plain.{ArmRises}
 use Rattle.hay_logical.specs.declared.fault.LogicalFault.{LogicalFault}
 use Rattle.hay_logical.specs.declared.fault.LogicalFault.TheVariants as refusal
 use Rattle.hay_cluster.specs.declared.fault.ClusterFault.{ClusterFault}
 use Rattle.hay_cluster.specs.declared.fault.ClusterFault.TheVariants as fault
+use Rattle.hay_cluster.specs.declared.maintenance.Maintenance.{Maintenance}
+use Rattle.hay_cluster.specs.declared.maintenance.Maintenance.TheVariants.{Flush, Begin, Step, Finish, Compact}
+use Rattle.hay_cluster.specs.Suiting.{IsOn}
 
 -- The counts of the disks' faults by slot, and those of the arms' by lane.
 pub record Counts : Type 0 where
@@ -39,11 +42,8 @@ CauseCameUp settings lane v before after m (Arm count) = CameUp (slice_index bef
 CauseCameUp settings lane v before after m (Disk count) = RoseAt settings v m before.disks after.disks count
 CauseCameUp settings lane v before after m (Damage at) = Unit {0}
 
--- Every replica of a volume was passed over, each for its cause: they are named in the order in which they were tried, and of two
--- failures of the arm the later one has the greater count.
+-- Each replica that was passed over was so for its cause, and of two failures of the arm the later one has the greater count.
 pub record PassedOver (settings : Settings) (lane v : ℕ) (before after : Counts) (causes : List Passed) : Type 0 where
-  pub start : ℕ
-  pub order : map (λ passed. passed.machine) causes ≡ map (machine_of settings v) (order_from settings start)
   pub rises : EachPair (λ a b. ArmRises a.cause b.cause) causes
   pub each : AllByRecursion (λ passed. CauseCameUp settings lane v before after passed.machine passed.cause) causes
 
@@ -158,6 +158,59 @@ RefusesWork refusal.Idle = Unit {0}
 RefusesWork (refusal.Damaged m at) = Unit {0}
 RefusesWork refusal.NoMemory = Unit {0}
 
+-- each kind of work has refusals of its own, and what the replica refuses names its machine
+abbrev pub RefusesFlush : ℕ → LogicalFault → Type 0
+RefusesFlush here (refusal.Failed m count) = m ≡ here
+RefusesFlush here (refusal.ReadOnly m) = Unit {0}
+RefusesFlush here refusal.NoMemory = Unit {0}
+RefusesFlush here (refusal.Full m end need capacity) = ⊥
+RefusesFlush here (refusal.Gone front) = ⊥
+RefusesFlush here (refusal.Busy m generation) = ⊥
+RefusesFlush here (refusal.Worn m) = ⊥
+RefusesFlush here refusal.Idle = ⊥
+RefusesFlush here (refusal.Damaged m at) = ⊥
+
+abbrev pub RefusesBegin : ℕ → LogicalFault → Type 0
+RefusesBegin here (refusal.Failed m count) = m ≡ here
+RefusesBegin here (refusal.ReadOnly m) = Unit {0}
+RefusesBegin here (refusal.Busy m generation) = m ≡ here
+RefusesBegin here (refusal.Worn m) = m ≡ here
+RefusesBegin here refusal.NoMemory = Unit {0}
+RefusesBegin here (refusal.Full m end need capacity) = ⊥
+RefusesBegin here (refusal.Gone front) = ⊥
+RefusesBegin here refusal.Idle = ⊥
+RefusesBegin here (refusal.Damaged m at) = ⊥
+
+-- a step and a finish
+abbrev pub RefusesRun : ℕ → LogicalFault → Type 0
+RefusesRun here (refusal.Failed m count) = m ≡ here
+RefusesRun here (refusal.ReadOnly m) = Unit {0}
+RefusesRun here refusal.Idle = Unit {0}
+RefusesRun here (refusal.Damaged m at) = m ≡ here
+RefusesRun here refusal.NoMemory = Unit {0}
+RefusesRun here (refusal.Full m end need capacity) = ⊥
+RefusesRun here (refusal.Gone front) = ⊥
+RefusesRun here (refusal.Busy m generation) = ⊥
+RefusesRun here (refusal.Worn m) = ⊥
+
+abbrev pub RefusesCompact : ℕ → LogicalFault → Type 0
+RefusesCompact here (refusal.Failed m count) = m ≡ here
+RefusesCompact here (refusal.ReadOnly m) = Unit {0}
+RefusesCompact here (refusal.Busy m generation) = m ≡ here
+RefusesCompact here (refusal.Worn m) = m ≡ here
+RefusesCompact here (refusal.Damaged m at) = m ≡ here
+RefusesCompact here refusal.NoMemory = Unit {0}
+RefusesCompact here (refusal.Full m end need capacity) = ⊥
+RefusesCompact here (refusal.Gone front) = ⊥
+RefusesCompact here refusal.Idle = ⊥
+
+abbrev pub RefusesOn : Maintenance → ℕ → LogicalFault → Type 0
+RefusesOn Flush here fault = RefusesFlush here fault
+RefusesOn Begin here fault = RefusesBegin here fault
+RefusesOn (Step cells) here fault = RefusesRun here fault
+RefusesOn Finish here fault = RefusesRun here fault
+RefusesOn Compact here fault = RefusesCompact here fault
+
 -- a failure is told only where the count that it prints rose
 abbrev pub RoseWhereFailed : Settings → ℕ → List ℕ → List ℕ → LogicalFault → Type 0
 RoseWhereFailed settings v before after (refusal.Failed m count) = RoseAt settings v m before after count
@@ -170,14 +223,27 @@ RoseWhereFailed settings v before after refusal.Idle = Unit {0}
 RoseWhereFailed settings v before after (refusal.Damaged m at) = Unit {0}
 RoseWhereFailed settings v before after refusal.NoMemory = Unit {0}
 
+-- a replica that lacks room is on the machine that is told
+abbrev pub LacksThere : Settings → ℕ → LogicalFault → Type 0
+LacksThere settings v (refusal.Full m end need capacity) = IsOn settings v m
+LacksThere settings v (refusal.Failed m count) = Unit {0}
+LacksThere settings v (refusal.ReadOnly m) = Unit {0}
+LacksThere settings v (refusal.Gone front) = Unit {0}
+LacksThere settings v (refusal.Busy m generation) = Unit {0}
+LacksThere settings v (refusal.Worn m) = Unit {0}
+LacksThere settings v refusal.Idle = Unit {0}
+LacksThere settings v (refusal.Damaged m at) = Unit {0}
+LacksThere settings v refusal.NoMemory = Unit {0}
+
 abbrev pub IsPutCause : Settings → ℕ → List ℕ → List ℕ → LogicalFault → Type 0
-IsPutCause settings v before after fault = RefusesPut fault × RoseWhereFailed settings v before after fault
+IsPutCause settings v before after fault = RefusesPut fault × RoseWhereFailed settings v before after fault × LacksThere settings v fault
 
 abbrev pub IsDeleteCause : Settings → ℕ → List ℕ → List ℕ → LogicalFault → Type 0
 IsDeleteCause settings v before after fault = RefusesDelete fault × RoseWhereFailed settings v before after fault
 
-abbrev pub IsReplicaCause : Settings → ℕ → List ℕ → List ℕ → LogicalFault → Type 0
-IsReplicaCause settings v before after fault = RefusesWork fault × RoseWhereFailed settings v before after fault
+abbrev pub IsReplicaCause : Settings → Maintenance → ℕ → ℕ → List ℕ → List ℕ → LogicalFault → Type 0
+IsReplicaCause settings work v replica before after fault =
+    RefusesOn work (machine_of settings v replica) fault × RoseWhereFailed settings v before after fault
 
 -- ARMS THAT ARE SURE
 

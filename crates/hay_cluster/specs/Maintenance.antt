@@ -8,7 +8,7 @@ use Rattle.hay_reply.specs.declared.Reply.{Reply}
 use Rattle.hay_reply.specs.declared.Reply.TheVariants as reply
 use Rattle.hay_legal.specs.declared.known.VolumeKnown.{VolumeKnown}
 use Rattle.hay_physical.specs.Copies.{Copy}
-use Rattle.hay_logical.specs.Answers.{BeginRefused, CompactRefused, FinishRefused, FlushRefused, HasFailed, IsBegun, IsCompacted, IsFinished, IsFlushed, IsStepped, StepRefused}
+use Rattle.hay_logical.specs.Answers.{BeginRefused, CompactRefused, FinishRefused, FlushRefused, IsBeginFault, IsBegun, IsCompactFault, IsCompacted, IsFinished, IsFlushFault, IsFlushed, IsRunFault, IsStepped, StepRefused}
 use Rattle.hay_logical.specs.declared.fault.LogicalFault.{LogicalFault}
 use Rattle.hay_logical.specs.declared.fault.LogicalFault.TheVariants.{Busy, Damaged, Failed, Full, Gone, Idle, NoMemory, ReadOnly, Worn}
 use Rattle.hay_logical.specs.Volumes.{Volume}
@@ -40,17 +40,13 @@ IsRefused files Tells (Step cells) k j old new fault = StepRefused files Tells k
 IsRefused files Tells Finish k j old new fault = FinishRefused files Tells k j old new fault
 IsRefused files Tells Compact k j old new fault = CompactRefused files Tells k j old new fault
 
--- A failure has its cause, and no refusal is one of a photo.
-abbrev pub IsReplicaFault : {D : Type 0} → (D → ℕ) → Settings → ℕ → List (Copy D) → List (Copy D) → LogicalFault → Type 0
-IsReplicaFault faults settings v old new (Failed m printed) = HasFailed faults settings v old new m printed
-IsReplicaFault faults settings v old new (Full m end need capacity) = ⊥
-IsReplicaFault faults settings v old new (Gone front) = ⊥
-IsReplicaFault faults settings v old new (ReadOnly m) = Unit {0}
-IsReplicaFault faults settings v old new (Busy m generation) = Unit {0}
-IsReplicaFault faults settings v old new (Worn m) = Unit {0}
-IsReplicaFault faults settings v old new Idle = Unit {0}
-IsReplicaFault faults settings v old new (Damaged m at) = Unit {0}
-IsReplicaFault faults settings v old new NoMemory = Unit {0}
+-- which refusals each has, and of which replica's machine they tell; a failure has its cause
+abbrev pub IsReplicaFault : {D : Type 0} → (D → ℕ) → Settings → Maintenance → ℕ → ℕ → List (Copy D) → List (Copy D) → LogicalFault → Type 0
+IsReplicaFault faults settings Flush v j old new fault = IsFlushFault faults settings v j old new fault
+IsReplicaFault faults settings Begin v j old new fault = IsBeginFault faults settings v j old new fault
+IsReplicaFault faults settings (Step cells) v j old new fault = IsRunFault faults settings v j old new fault
+IsReplicaFault faults settings Finish v j old new fault = IsRunFault faults settings v j old new fault
+IsReplicaFault faults settings Compact v j old new fault = IsCompactFault faults settings v j old new fault
 
 -- how it is answered on volume v and machine m, done with this number
 abbrev pub done_as : ℕ → ℕ → Maintenance → ℕ → Reply

@@ -1,5 +1,5 @@
 -- What a read of the store shows.
-use Rattle.std.specs.Prelude.{◌≡◌, ℕ, List, map}
+use Rattle.std.specs.Prelude.{◌≡◌, ℕ, ◌<◌, List, map}
 use Rattle.std.specs.List.{AllByRecursion, range_with_len}
 use Rattle.hay_needle.specs.declared.needle.Cookie.{Cookie}
 use Rattle.hay_needle.specs.declared.needle.Outcome.{Outcome}
@@ -9,7 +9,6 @@ use Rattle.hay_needle.specs.Tables.{outcome_at}
 use Rattle.hay_disk.specs.Disk.{Files}
 use Rattle.hay_reply.specs.declared.Passed.{Passed}
 use Rattle.hay_reply.specs.declared.Reply.{Reply}
-use Rattle.hay_reply.specs.declared.Reply.TheVariants.{Photo, Gone, WrongCookie, Unreadable, NoMem}
 use Rattle.hay_core.specs.declared.entry.CoreTag.{CoreTag}
 use Rattle.hay_legal.specs.declared.known.Known.{Known}
 use Rattle.hay_legal.specs.declared.known.VolumeKnown.{VolumeKnown}
@@ -32,14 +31,12 @@ pub record ShownAs {D P A : Type 0} (files : D → Files) (Tells : Type 0) (faul
   pub legal : LegalShow settings k tag start pair cookie reply known
   pub stands : Stands files Tells faults fuses arm_faults store known
 
--- a reply that shows, shows this volume
-abbrev pub ShowsIn : ℕ → Reply → Type 0
-ShowsIn volume (Photo v m p d bytes) = v ≡ volume
-ShowsIn volume (Gone v m p d) = v ≡ volume
-ShowsIn volume (WrongCookie v m p d) = v ≡ volume
-ShowsIn volume (Unreadable v p d causes) = v ≡ volume
-ShowsIn volume NoMem = Unit {0}
-ShowsIn volume _ = ⊥
+-- the replica that showed it is one of so many
+abbrev pub IsShownBelow : ℕ → ReadReply → Type 0
+IsShownBelow n (read.Photo j) = j < n
+IsShownBelow n (read.Gone j) = j < n
+IsShownBelow n (read.WrongCookie j) = j < n
+IsShownBelow n (read.Unreadable causes) = Unit {0}
 
 -- no replica was passed over for the arm
 abbrev pub PassesNoArm : ReadReply → Type 0

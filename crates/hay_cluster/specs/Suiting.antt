@@ -1,118 +1,157 @@
--- Which kinds of reply a command may be given, over whatever disks, and what of the command they name again.
-use Rattle.std.specs.Prelude.{◌≡◌, ◌≢◌, ◌⊎◌, ℕ, List, [], ◌∷◌}
+-- What a reply may be to each command, over whatever disks: what of it the command, its line's number and the settings fix.
+use Rattle.std.specs.Prelude.{◌≡◌, ◌≢◌, ◌⊎◌, ℕ, ◌<◌, ◌≤◌, ◌%◌, true, List, [], ◌∷◌, map, Option, Some, None}
+use Rattle.std.specs.List.{AllZip, list_any}
 use Rattle.hay_needle.specs.declared.needle.Pair.{Pair}
+use Rattle.hay_needle.specs.declared.settings.Settings.{Settings}
 use Rattle.hay_url.specs.declared.Url.{Url as UrlParts}
+use Rattle.hay_url.specs.Url.{cookie_of}
 use Rattle.hay_script.specs.declared.Command.{Command}
 use Rattle.hay_script.specs.declared.Command.TheVariants as asks
+use Rattle.hay_reply.specs.declared.Refused.{Refused}
+use Rattle.hay_reply.specs.declared.Refused.TheVariants.{NoRoom, Closed}
 use Rattle.hay_reply.specs.declared.ClosedBy.{ClosedBy}
+use Rattle.hay_reply.specs.declared.Passed.{Passed}
 use Rattle.hay_reply.specs.declared.Reply.{Reply}
 use Rattle.hay_reply.specs.declared.Reply.TheVariants.{Stored, Deleted, Photo, Gone, Absent, WrongCookie, Unknown, Moved, Url, Full, ReadOnly, ReadOnlyDir, Failed, FailedDir, Unreadable, Damaged, Flushed, Begun, Stepped, Compacted, Busy, Idle, Worn, Drained, Undrained, Fused, FusedDir, Nowhere, NoMem}
-use Rattle.hay_legal.specs.Plain.{GetShows, Names}
+use Rattle.hay_legal.specs.Known.{all_tries, machine_of, replica_on}
+use Rattle.hay_legal.specs.Plain.{as_closed, order_from, wants_room}
 
--- PHOTOS
+-- the volume has a replica on this machine
+abbrev pub IsOn : Settings → ℕ → ℕ → Type 0
+IsOn settings v m = (replica : ℕ) × (replica_on settings v m ≡ Some replica)
 
-abbrev pub SuitsPut : Reply → Type 0
-SuitsPut (Stored v p d c) = Unit {0}
-SuitsPut (Full tries) = Unit {0}
-SuitsPut (ReadOnly tries) = Unit {0}
-SuitsPut ReadOnlyDir = Unit {0}
-SuitsPut (Failed v m count) = Unit {0}
-SuitsPut (FailedDir count) = Unit {0}
-SuitsPut NoMem = Unit {0}
-SuitsPut _ = ⊥
+-- the replica from which a line reads first
+abbrev pub start_at : Settings → ℕ → ℕ
+start_at settings line = line % settings.replicas
 
-abbrev pub SuitsRead : Reply → Type 0
-SuitsRead (Photo v m p d bytes) = Unit {0}
-SuitsRead (Gone v m p d) = Unit {0}
-SuitsRead (WrongCookie v m p d) = Unit {0}
-SuitsRead (Unreadable v p d causes) = Unit {0}
-SuitsRead (Unknown d) = Unit {0}
-SuitsRead NoMem = Unit {0}
-SuitsRead _ = ⊥
+-- a command that names a replica: nowhere exactly where there is none, and otherwise what it may be answered there
+abbrev pub AtReplica : Option ℕ → (ℕ → Reply → Type 0) → Reply → Type 0
+AtReplica (Some replica) suits said = suits replica said ⊎ (said ≡ NoMem)
+AtReplica None suits said = (said ≡ Nowhere) ⊎ (said ≡ NoMem)
+
+-- PUTS
+
+-- the volumes that a put may try: those of its pair in order, or its home alone
+abbrev pub MayTry : Settings → Pair → List ℕ → Type 0
+MayTry settings pair tries = (tries ≡ all_tries settings pair) ⊎ ((v : ℕ) × (v < settings.volumes) × (tries ≡ v ∷ []))
+
+-- how one of them refuses: a replica lacks room, or a machine closes the volume
+abbrev pub Refuses : Settings → ℕ → Refused → Type 0
+Refuses settings v (NoRoom v' m end need) = (v' ≡ v) × IsOn settings v m
+Refuses settings v (Closed v' m) = v' ≡ v
+
+abbrev pub IsRefusedBy : Settings → Pair → List Refused → Type 0
+IsRefusedBy settings pair refused = (tries : List ℕ) × MayTry settings pair tries × AllZip (Refuses settings) tries refused
+
+abbrev pub SuitsPut : Settings → Pair → Reply → Type 0
+SuitsPut settings pair said =
+    ((v : ℕ) × (p : ℕ) × (d : ℕ) × (v < settings.volumes) × (said ≡ Stored v p d (cookie_of settings.secret pair.key)))
+    ⊎ ((refused : List Refused) × IsRefusedBy settings pair refused × (list_any wants_room refused ≡ true) × (said ≡ Full refused))
+    ⊎ ((closed : List ClosedBy) × IsRefusedBy settings pair (map as_closed closed) × (said ≡ ReadOnly closed))
+    ⊎ (said ≡ ReadOnlyDir)
+    ⊎ ((v : ℕ) × (m : ℕ) × (count : ℕ) × IsOn settings v m × (said ≡ Failed v m count))
+    ⊎ ((count : ℕ) × (said ≡ FailedDir count))
+    ⊎ (said ≡ NoMem)
+
+-- READS
+
+-- what is shown of a volume to a reader that starts at this replica; where every replica was passed over, they are named in the order
+-- in which they were tried
+abbrev pub ShowsFrom : Settings → ℕ → ℕ → Reply → Type 0
+ShowsFrom settings start v said =
+    ((m : ℕ) × (p : ℕ) × (d : ℕ) × (bytes : List ℕ) × IsOn settings v m × (said ≡ Photo v m p d bytes))
+    ⊎ ((m : ℕ) × (p : ℕ) × (d : ℕ) × IsOn settings v m × (said ≡ Gone v m p d))
+    ⊎ ((m : ℕ) × (p : ℕ) × (d : ℕ) × IsOn settings v m × (said ≡ WrongCookie v m p d))
+    ⊎ ((p : ℕ) × (d : ℕ) × (causes : List Passed) × (map (λ passed. passed.machine) causes ≡ map (machine_of settings v) (order_from settings start)) × (said ≡ Unreadable v p d causes))
+
+abbrev pub SuitsRead : Settings → ℕ → Reply → Type 0
+SuitsRead settings start said =
+    ((d : ℕ) × (said ≡ Unknown d))
+    ⊎ ((v : ℕ) × (v < settings.volumes) × ShowsFrom settings start v said)
+    ⊎ (said ≡ NoMem)
 
 -- a get shows the URL's volume, or names another
-abbrev pub SuitsGet : UrlParts → Reply → Type 0
-SuitsGet url (Moved v d) = v ≢ url.volume
-SuitsGet url Nowhere = Unit {0}
-SuitsGet url said = GetShows url said
+abbrev pub SuitsGet : Settings → UrlParts → ℕ → Reply → Type 0
+SuitsGet settings url start said =
+    ((d : ℕ) × (said ≡ Unknown d))
+    ⊎ ((v : ℕ) × (d : ℕ) × (v < settings.volumes) × (v ≢ url.volume) × (said ≡ Moved v d))
+    ⊎ ShowsFrom settings start url.volume said
 
-abbrev pub SuitsDel : Reply → Type 0
-SuitsDel (Deleted v p d) = Unit {0}
-SuitsDel (Absent v p d) = Unit {0}
-SuitsDel (Unknown d) = Unit {0}
-SuitsDel (ReadOnly tries) = Unit {0}
-SuitsDel (Failed v m count) = Unit {0}
-SuitsDel NoMem = Unit {0}
-SuitsDel _ = ⊥
+-- DELETES AND URLS
 
-abbrev pub SuitsUrl : Pair → Reply → Type 0
-SuitsUrl pair (Url d url) = url.pair ≡ pair
-SuitsUrl pair (Unknown d) = Unit {0}
-SuitsUrl pair NoMem = Unit {0}
-SuitsUrl pair _ = ⊥
+abbrev pub SuitsDel : Settings → Reply → Type 0
+SuitsDel settings said =
+    ((v : ℕ) × (p : ℕ) × (d : ℕ) × (v < settings.volumes) × (said ≡ Deleted v p d))
+    ⊎ ((v : ℕ) × (p : ℕ) × (d : ℕ) × (v < settings.volumes) × (said ≡ Absent v p d))
+    ⊎ ((d : ℕ) × (said ≡ Unknown d))
+    ⊎ ((by : ClosedBy) × (by.volume < settings.volumes) × (said ≡ ReadOnly (by ∷ [])))
+    ⊎ ((v : ℕ) × (m : ℕ) × (count : ℕ) × IsOn settings v m × (said ≡ Failed v m count))
+    ⊎ (said ≡ NoMem)
+
+-- the URL by which this line would read the pair in a volume
+abbrev pub url_in : Settings → ℕ → Pair → ℕ → UrlParts
+url_in settings start pair v = record {
+  machine = machine_of settings v start;
+  volume = v;
+  pair = pair;
+  cookie = cookie_of settings.secret pair.key;
+}
+
+abbrev pub SuitsUrl : Settings → ℕ → Pair → Reply → Type 0
+SuitsUrl settings start pair said =
+    ((v : ℕ) × (d : ℕ) × (v < settings.volumes) × (said ≡ Url d (url_in settings start pair v)))
+    ⊎ ((d : ℕ) × (said ≡ Unknown d))
+    ⊎ (said ≡ NoMem)
 
 -- WORK ON THE REPLICA OF VOLUME v ON MACHINE m
 
--- this volume, and no other, is closed
-abbrev pub IsOneClosed : ℕ → List ClosedBy → Type 0
-IsOneClosed v (by ∷ []) = by.volume ≡ v
-IsOneClosed v _ = ⊥
+-- it was done, with some number
+abbrev pub Does : (ℕ → Reply) → Reply → Type 0
+Does did said = (n : ℕ) × (said ≡ did n)
 
--- why it was not done
-abbrev pub RefusesWorkOn : ℕ → ℕ → Reply → Type 0
-RefusesWorkOn v m (ReadOnly tries) = IsOneClosed v tries
-RefusesWorkOn v m (Failed v' m' count) = v' ≡ v
-RefusesWorkOn v m (Busy v' m' g) = v' ≡ v
-RefusesWorkOn v m (Worn v' m') = v' ≡ v
-RefusesWorkOn v m (Idle v' m') = Names v m v' m'
-RefusesWorkOn v m (Damaged v' m' at) = v' ≡ v
-RefusesWorkOn v m Nowhere = Unit {0}
-RefusesWorkOn v m NoMem = Unit {0}
-RefusesWorkOn v m _ = ⊥
+-- the volume is frozen by a machine, or the replica's index
+abbrev pub IsReadOnlyAt : ℕ → Reply → Type 0
+IsReadOnlyAt v said = (by : ℕ) × (said ≡ ReadOnly (record { volume = v; machine = by } ∷ []))
 
--- it was done, with some number, or refused
-abbrev pub SuitsWork : (ℕ → Reply) → ℕ → ℕ → Reply → Type 0
-SuitsWork did v m said = ((n : ℕ) × (said ≡ did n)) ⊎ RefusesWorkOn v m said
+abbrev pub SuitsFlush : ℕ → ℕ → Reply → Type 0
+SuitsFlush v m said = Does (Flushed v m) said ⊎ IsReadOnlyAt v said ⊎ Does (Failed v m) said
+
+abbrev pub SuitsBegin : ℕ → ℕ → Reply → Type 0
+SuitsBegin v m said = Does (Begun v m) said ⊎ IsReadOnlyAt v said ⊎ Does (Busy v m) said ⊎ (said ≡ Worn v m) ⊎ Does (Failed v m) said
+
+-- a step and a finish
+abbrev pub SuitsRun : (ℕ → Reply) → ℕ → ℕ → Reply → Type 0
+SuitsRun did v m said = Does did said ⊎ IsReadOnlyAt v said ⊎ (said ≡ Idle v m) ⊎ Does (Failed v m) said ⊎ Does (Damaged v m) said
+
+abbrev pub SuitsCompact : ℕ → ℕ → Reply → Type 0
+SuitsCompact v m said =
+    Does (Compacted v m) said ⊎ IsReadOnlyAt v said ⊎ Does (Busy v m) said ⊎ (said ≡ Worn v m) ⊎ Does (Failed v m) said ⊎ Does (Damaged v m) said
 
 -- DRAINS AND FUSES
 
-abbrev pub SuitsDrain : ℕ → Reply → Type 0
-SuitsDrain m (Drained m') = m' ≡ m
-SuitsDrain m Nowhere = Unit {0}
-SuitsDrain m NoMem = Unit {0}
-SuitsDrain m _ = ⊥
-
-abbrev pub SuitsUndrain : ℕ → Reply → Type 0
-SuitsUndrain m (Undrained m') = m' ≡ m
-SuitsUndrain m Nowhere = Unit {0}
-SuitsUndrain m NoMem = Unit {0}
-SuitsUndrain m _ = ⊥
-
-abbrev pub SuitsFuse : ℕ → ℕ → ℕ → Reply → Type 0
-SuitsFuse v m n (Fused v' m' n') = Names v m v' m' × (n' ≡ n)
-SuitsFuse v m n Nowhere = Unit {0}
-SuitsFuse v m n NoMem = Unit {0}
-SuitsFuse v m n _ = ⊥
+-- it was done where there is this machine, and is nowhere exactly where there is none
+abbrev pub SuitsMachine : Settings → ℕ → Reply → Reply → Type 0
+SuitsMachine settings m done said = ((m < settings.machines) × (said ≡ done)) ⊎ ((settings.machines ≤ m) × (said ≡ Nowhere)) ⊎ (said ≡ NoMem)
 
 abbrev pub SuitsFuseDir : ℕ → Reply → Type 0
-SuitsFuseDir n (FusedDir n') = n' ≡ n
-SuitsFuseDir n NoMem = Unit {0}
-SuitsFuseDir n _ = ⊥
+SuitsFuseDir calls said = (said ≡ FusedDir calls) ⊎ (said ≡ NoMem)
 
--- A reply is of a kind that its command may be given. A restart is not answered by one.
-abbrev pub Suits : Command → Reply → Type 0
-Suits (asks.Put pair photo) said = SuitsPut said
-Suits (asks.Read pair cookie) said = SuitsRead said
-Suits (asks.Get url) said = SuitsGet url said
-Suits (asks.Del pair) said = SuitsDel said
-Suits (asks.Url pair) said = SuitsUrl pair said
-Suits (asks.Flush v m) said = SuitsWork (Flushed v m) v m said
-Suits (asks.Drain m) said = SuitsDrain m said
-Suits (asks.Undrain m) said = SuitsUndrain m said
-Suits (asks.Fuse v m n) said = SuitsFuse v m n said
-Suits (asks.FuseDir n) said = SuitsFuseDir n said
-Suits (asks.Compact v m) said = SuitsWork (Compacted v m) v m said
-Suits (asks.Begin v m) said = SuitsWork (Begun v m) v m said
-Suits (asks.Step v m cells) said = SuitsWork (Stepped v m) v m said
-Suits (asks.Finish v m) said = SuitsWork (Compacted v m) v m said
-Suits (asks.Restart pick) said = ⊥
+-- EVERY COMMAND
+
+-- A reply is one that the command of this line may be given. A restart is not answered by one.
+abbrev pub Suits : Settings → ℕ → Command → Reply → Type 0
+Suits settings line (asks.Put pair photo) said = SuitsPut settings pair said
+Suits settings line (asks.Read pair cookie) said = SuitsRead settings (start_at settings line) said
+Suits settings line (asks.Get url) said = AtReplica (replica_on settings url.volume url.machine) (SuitsGet settings url) said
+Suits settings line (asks.Del pair) said = SuitsDel settings said
+Suits settings line (asks.Url pair) said = SuitsUrl settings (start_at settings line) pair said
+Suits settings line (asks.Flush v m) said = AtReplica (replica_on settings v m) (λ replica. SuitsFlush v m) said
+Suits settings line (asks.Compact v m) said = AtReplica (replica_on settings v m) (λ replica. SuitsCompact v m) said
+Suits settings line (asks.Begin v m) said = AtReplica (replica_on settings v m) (λ replica. SuitsBegin v m) said
+Suits settings line (asks.Step v m cells) said = AtReplica (replica_on settings v m) (λ replica. SuitsRun (Stepped v m) v m) said
+Suits settings line (asks.Finish v m) said = AtReplica (replica_on settings v m) (λ replica. SuitsRun (Compacted v m) v m) said
+Suits settings line (asks.Drain m) said = SuitsMachine settings m (Drained m) said
+Suits settings line (asks.Undrain m) said = SuitsMachine settings m (Undrained m) said
+Suits settings line (asks.Fuse v m calls) said = AtReplica (replica_on settings v m) (λ replica said. said ≡ Fused v m calls) said
+Suits settings line (asks.FuseDir calls) said = SuitsFuseDir calls said
+Suits settings line (asks.Restart pick) said = ⊥

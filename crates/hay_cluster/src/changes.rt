@@ -2,6 +2,7 @@
 ghost use Rattle.std.specs.Prelude.{◌≡◌, ℕ, map};
 ghost use Rattle.hay_script.specs.declared.Command.TheVariants as asks;
 ghost use Rattle.hay_core.specs.declared.entry.CoreTag.{CoreTag};
+ghost use Rattle.hay_reply.specs.Fits.{FitsReply};
 ghost use Rattle.hay_legal.specs.declared.known.Known.{Known};
 ghost use Rattle.hay_legal.specs.Known.{NoneFalls};
 ghost use Rattle.hay_cluster.specs.Causes.{IsCaused, RefusesDelete, SetsFuse, SetsFuseOn};
@@ -32,7 +33,8 @@ impl<D: Disk, A: Arm<D::Piece>> Cluster<D, A> {
         ensures causes { (lane : ℕ) → IsCaused self.old.settings lane
             (record { disks = map D.fault_count (disks_of self.old); arms = map A.fault_count self.old.arms })
             (record { disks = map D.fault_count (disks_of self.new); arms = map A.fault_count self.new.arms }) result }
-        ensures suits { Suits (asks.Del pair) result }
+        ensures suits { Suits self.old.settings tag.line (asks.Del pair) result }
+        ensures fits { FitsReply result }
         ensures counts { NoneFalls (map D.fault_count (disks_of self.old)) (map D.fault_count (disks_of self.new)) }
         ensures fuses { map D.fuse_count (disks_of self.new) ≡ map D.fuse_count (disks_of self.old) }
         ensures arms { self.new.arms ≡ self.old.arms }
@@ -63,7 +65,8 @@ impl<D: Disk, A: Arm<D::Piece>> Cluster<D, A> {
         ensures causes { (lane : ℕ) → IsCaused self.old.settings lane
             (record { disks = map D.fault_count (disks_of self.old); arms = map A.fault_count self.old.arms })
             (record { disks = map D.fault_count (disks_of self.new); arms = map A.fault_count self.new.arms }) result }
-        ensures suits { Suits (asks.Url pair) result }
+        ensures suits { Suits self.old.settings tag.line (asks.Url pair) result }
+        ensures fits { FitsReply result }
         ensures counts { NoneFalls (map D.fault_count (disks_of self.old)) (map D.fault_count (disks_of self.new)) }
         ensures fuses { map D.fuse_count (disks_of self.new) ≡ map D.fuse_count (disks_of self.old) }
         ensures arms { self.new.arms ≡ self.old.arms }
@@ -94,7 +97,8 @@ impl<D: Disk, A: Arm<D::Piece>> Cluster<D, A> {
         ensures causes { (lane : ℕ) → IsCaused self.old.settings lane
             (record { disks = map D.fault_count (disks_of self.old); arms = map A.fault_count self.old.arms })
             (record { disks = map D.fault_count (disks_of self.new); arms = map A.fault_count self.new.arms }) result }
-        ensures suits { Suits (asks.Drain machine) result }
+        ensures suits { (line : ℕ) → Suits self.old.settings line (asks.Drain machine) result }
+        ensures fits { FitsReply result }
         ensures counts { NoneFalls (map D.fault_count (disks_of self.old)) (map D.fault_count (disks_of self.new)) }
         ensures fuses { map D.fuse_count (disks_of self.new) ≡ map D.fuse_count (disks_of self.old) }
         ensures arms { self.new.arms ≡ self.old.arms }
@@ -116,7 +120,8 @@ impl<D: Disk, A: Arm<D::Piece>> Cluster<D, A> {
         ensures causes { (lane : ℕ) → IsCaused self.old.settings lane
             (record { disks = map D.fault_count (disks_of self.old); arms = map A.fault_count self.old.arms })
             (record { disks = map D.fault_count (disks_of self.new); arms = map A.fault_count self.new.arms }) result }
-        ensures suits { Suits (asks.Undrain machine) result }
+        ensures suits { (line : ℕ) → Suits self.old.settings line (asks.Undrain machine) result }
+        ensures fits { FitsReply result }
         ensures counts { NoneFalls (map D.fault_count (disks_of self.old)) (map D.fault_count (disks_of self.new)) }
         ensures fuses { map D.fuse_count (disks_of self.new) ≡ map D.fuse_count (disks_of self.old) }
         ensures arms { self.new.arms ≡ self.old.arms }
@@ -138,7 +143,8 @@ impl<D: Disk, A: Arm<D::Piece>> Cluster<D, A> {
         ensures causes { (lane : ℕ) → IsCaused self.old.settings lane
             (record { disks = map D.fault_count (disks_of self.old); arms = map A.fault_count self.old.arms })
             (record { disks = map D.fault_count (disks_of self.new); arms = map A.fault_count self.new.arms }) result }
-        ensures suits { Suits (asks.Fuse volume machine calls) result }
+        ensures suits { (line : ℕ) → Suits self.old.settings line (asks.Fuse volume machine calls) result }
+        ensures fits { FitsReply result }
         ensures counts { NoneFalls (map D.fault_count (disks_of self.old)) (map D.fault_count (disks_of self.new)) }
         ensures fuses { SetsFuseOn self.old.settings volume machine (map D.fuse_count (disks_of self.old)) (map D.fuse_count (disks_of self.new)) }
         ensures arms { self.new.arms ≡ self.old.arms }
@@ -164,7 +170,8 @@ impl<D: Disk, A: Arm<D::Piece>> Cluster<D, A> {
         ensures causes { (lane : ℕ) → IsCaused self.old.settings lane
             (record { disks = map D.fault_count (disks_of self.old); arms = map A.fault_count self.old.arms })
             (record { disks = map D.fault_count (disks_of self.new); arms = map A.fault_count self.new.arms }) result }
-        ensures suits { Suits (asks.FuseDir calls) result }
+        ensures suits { (line : ℕ) → Suits self.old.settings line (asks.FuseDir calls) result }
+        ensures fits { FitsReply result }
         ensures counts { NoneFalls (map D.fault_count (disks_of self.old)) (map D.fault_count (disks_of self.new)) }
         ensures fuses { SetsFuse 0 (map D.fuse_count (disks_of self.old)) (map D.fuse_count (disks_of self.new)) }
         ensures arms { self.new.arms ≡ self.old.arms }
@@ -178,7 +185,8 @@ impl<D: Disk, A: Arm<D::Piece>> Cluster<D, A> {
 
 // The refusal of a change of a volume that is closed by this machine.
 pub(crate) fn read_only(alloc: Global, volume: u32, machine: u32) -> Reply
-    ensures { IsReadOnly volume machine result }
+    ensures is { IsReadOnly volume machine result }
+    ensures fits { FitsReply result }
 {
     match Listed::one(alloc, ClosedBy { volume, machine }) {
         Ok(tries) => Reply::ReadOnly { tries },
@@ -189,7 +197,8 @@ pub(crate) fn read_only(alloc: Global, volume: u32, machine: u32) -> Reply
 // What a delete is answered that a volume did not make.
 fn delete_refusal(alloc: Global, volume: u32, rows: u64, fault: LogicalFault) -> Reply
     requires { RefusesDelete fault }
-    ensures { IsDeleteReply volume rows fault result }
+    ensures is { IsDeleteReply volume rows fault result }
+    ensures fits { FitsReply result }
 {
     match fault {
         LogicalFault::Gone { front } => Reply::Absent {

@@ -2,10 +2,12 @@
 ghost use Rattle.std.specs.Prelude.{◌≡◌, ◌<◌, ℕ, None, Some, map, find, slice_index_or, false, IfSome, is_some};
 ghost use Rattle.hay_legal.specs.declared.known.Known.{Known};
 ghost use Rattle.hay_legal.specs.Known as known;
+ghost use Rattle.hay_reply.specs.Fits.{FitsRefused};
 ghost use Rattle.hay_directory.specs.State as directory;
 ghost use Rattle.hay_cluster.specs.Lacks as lacks;
 ghost use Rattle.hay_cluster.specs.State.{Stands};
 ghost use Rattle.hay_cluster.specs.Store.{IsBuilt, IsUp};
+ghost use Rattle.hay_cluster.specs.Suiting.{Refuses};
 
 use crate::cluster::Cluster;
 use hay_directory::machine_of;
@@ -74,6 +76,8 @@ impl<D: Disk, A: Arm<D::Piece>> Cluster<D, A> {
         requires volume { volume < self.now.settings.volumes }
         requires up { IsUp self.now }
         ensures known { D.Tells → (k : Known) → Stands D.files D.Piece.Tells D.fault_count D.fuse_count A.fault_count self.now k → result ≡ known.refusal_of self.now.settings k size volume }
+        ensures refuses { IfSome result (Refuses self.now.settings volume) }
+        ensures fits { IfSome result FitsRefused }
     {
         if let Some(machine) = self.closed_by(volume) {
             return Some(Refused::Closed { volume, machine });
@@ -87,7 +91,8 @@ impl<D: Disk, A: Arm<D::Piece>> Cluster<D, A> {
 
 // What a volume without room is refused for.
 fn lack_of(volume: u32, fault: LogicalFault) -> Option<Refused>
-    ensures { result ≡ lacks.lack_of volume fault }
+    ensures is { result ≡ lacks.lack_of volume fault }
+    ensures fits { IfSome result FitsRefused }
 {
     match fault {
         LogicalFault::Full {

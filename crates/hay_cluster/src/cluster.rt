@@ -3,6 +3,7 @@ ghost use Rattle.std.specs.Prelude.{◌≡◌, ◌≢◌, ◌<◌, ℕ, true, le
 ghost use Rattle.hay_legal.specs.declared.known.Known.{Known};
 ghost use Rattle.hay_legal.specs.Known.{NoneFalls};
 ghost use Rattle.hay_script.specs.Script.{IsWithin};
+ghost use Rattle.hay_reply.specs.Fits.{FitsReply};
 ghost use Rattle.hay_cluster.specs.Causes.{BlamesNoArm, IsCaused, LeavesFuses, StaySure};
 ghost use Rattle.hay_cluster.specs.State.{Answered, Stands};
 ghost use Rattle.hay_cluster.specs.Store.{IsUp, disks_of};
@@ -64,8 +65,9 @@ impl<D: Disk, A: Arm<D::Piece>> Cluster<D, A> {
         ensures causes { IsCaused self.old.settings tag.lane
             (record { disks = map D.fault_count (disks_of self.old); arms = map A.fault_count self.old.arms })
             (record { disks = map D.fault_count (disks_of self.new); arms = map A.fault_count self.new.arms }) result }
-        // A reply is of a kind that its command may be given.
-        ensures suits { Suits command.now result }
+        // A reply is one that its command may be given.
+        ensures suits { Suits self.old.settings tag.line command.now result }
+        ensures fits { FitsReply result }
         // A sure arm stays so, and is not told of.
         ensures sure { (arm : A) → slice_get self.old.arms tag.lane ≡ Some arm → A.is_sure arm ≡ true → BlamesNoArm result }
         ensures sure_arms { StaySure A.is_sure A.fault_count self.old.arms self.new.arms }

@@ -1,6 +1,7 @@
 //! Flushes and compactions: work on one replica of a volume, which changes no photo.
 ghost use Rattle.std.specs.Prelude.{◌≡◌, ◌<◌, ℕ, map, IfOk, IfErr};
 ghost use Rattle.hay_core.specs.declared.entry.CoreTag.{CoreTag};
+ghost use Rattle.hay_reply.specs.Fits.{FitsReply};
 ghost use Rattle.hay_legal.specs.declared.known.Known.{Known};
 ghost use Rattle.hay_legal.specs.declared.known.VolumeKnown.{VolumeKnown};
 ghost use Rattle.hay_legal.specs.Known.{NoneFalls};
@@ -51,7 +52,8 @@ impl<D: Disk, A: Arm<D::Piece>> Cluster<D, A> {
         ensures causes { (lane : ℕ) → IsCaused self.old.settings lane
             (record { disks = map D.fault_count (disks_of self.old); arms = map A.fault_count self.old.arms })
             (record { disks = map D.fault_count (disks_of self.new); arms = map A.fault_count self.new.arms }) result }
-        ensures suits { Suits (command_of work volume machine) result }
+        ensures suits { (line : ℕ) → Suits self.old.settings line (command_of work volume machine) result }
+        ensures fits { FitsReply result }
         ensures counts { NoneFalls (map D.fault_count (disks_of self.old)) (map D.fault_count (disks_of self.new)) }
         ensures fuses { map D.fuse_count (disks_of self.new) ≡ map D.fuse_count (disks_of self.old) }
         ensures arms { self.new.arms ≡ self.old.arms }
@@ -82,7 +84,7 @@ pub(crate) fn maintain<D: Disk>(
         IfOk result (λ number. IsDone D.files D.Piece.Tells work k replica number volume.new) }
     ensures refused { D.Tells → (k : VolumeKnown) → logical.Stands D.files D.Piece.Tells volume.old k →
         IfErr result (IsRefused D.files D.Piece.Tells work k replica volume.old volume.new) }
-    ensures causes { IfErr result (IsReplicaFault D.fault_count volume.old.settings volume.old.number volume.old.replicas volume.new.replicas) }
+    ensures causes { IfErr result (IsReplicaFault D.fault_count volume.old.settings work volume.old.number replica volume.old.replicas volume.new.replicas) }
     ensures open { IsOpenVolume volume.new }
     ensures counts { KeepsCounts D.fault_count D.fuse_count volume.old.replicas volume.new.replicas }
     ensures same { IsSame volume.old volume.new }
@@ -98,7 +100,8 @@ pub(crate) fn maintain<D: Disk>(
 
 // What work is answered that was done.
 fn done(volume: u32, machine: u32, work: Maintenance, number: u64) -> Reply
-    ensures { result ≡ done_as volume machine work number }
+    ensures is { result ≡ done_as volume machine work number }
+    ensures fits { FitsReply result }
 {
     match work {
         Maintenance::Flush => Reply::Flushed {
@@ -127,7 +130,8 @@ fn done(volume: u32, machine: u32, work: Maintenance, number: u64) -> Reply
 // What work is answered that a volume did not do.
 fn refused(alloc: Global, volume: u32, machine: u32, fault: LogicalFault) -> Reply
     requires { RefusesWork fault }
-    ensures { IsRefusedAs volume machine fault result }
+    ensures is { IsRefusedAs volume machine fault result }
+    ensures fits { FitsReply result }
 {
     match fault {
         LogicalFault::ReadOnly { machine } => read_only(alloc, volume, machine),

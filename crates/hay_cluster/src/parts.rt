@@ -89,7 +89,7 @@ impl<D: Disk, A: Arm<D::Piece>> Cluster<D, A> {
             InVolume D.files D.Piece.Tells D.fault_count D.fuse_count A.fault_count k volume self.old self.new (λ before after.
             IfOk result (λ number. IsDone D.files D.Piece.Tells work (volume_at k volume) replica number after)
             × IfErr result (IsRefused D.files D.Piece.Tells work (volume_at k volume) replica before after)) }
-        ensures causes { IfErr result (IsReplicaCause self.old.settings volume (map D.fault_count (disks_of self.old)) (map D.fault_count (disks_of self.new))) }
+        ensures causes { IfErr result (IsReplicaCause self.old.settings work volume replica (map D.fault_count (disks_of self.old)) (map D.fault_count (disks_of self.new))) }
         ensures counts { NoneFalls (map D.fault_count (disks_of self.old)) (map D.fault_count (disks_of self.new)) }
         ensures fuses { map D.fuse_count (disks_of self.new) ≡ map D.fuse_count (disks_of self.old) }
         ensures arms { self.new.arms ≡ self.old.arms }

@@ -1,17 +1,18 @@
 //! Puts.
-ghost use Rattle.std.specs.Prelude.{◌≡◌, ◌≤◌, ◌<◌, ℕ, [], ◌∷◌, false, Ok, None, Some, length, map, IfOk};
-ghost use Rattle.std.specs.List.{list_any};
+ghost use Rattle.std.specs.Prelude.{◌≡◌, ◌≤◌, ◌<◌, ℕ, List, [], ◌∷◌, false, Ok, None, Some, length, map, IfOk};
+ghost use Rattle.std.specs.List.{AllByRecursion, AllZip, list_any};
 ghost use Rattle.hay_legal.specs.declared.known.Known.{Known};
-ghost use Rattle.hay_legal.specs.Known.{NoneFalls, home_of, refusal_of, taker_of};
+ghost use Rattle.hay_legal.specs.Known.{NoneFalls, all_tries, home_of, refusal_of, taker_of};
 ghost use Rattle.hay_legal.specs.Plain.{wants_room, as_closed};
 ghost use Rattle.hay_script.specs.declared.Command.TheVariants as asks;
+ghost use Rattle.hay_reply.specs.Fits.{FitsRefused, FitsReply};
 ghost use Rattle.hay_directory.specs.State as directory;
 ghost use Rattle.hay_cluster.specs.Causes.{IsCaused, RefusesPut};
 ghost use Rattle.hay_cluster.specs.Puts as puts;
 ghost use Rattle.hay_cluster.specs.Puts.{IsPutReply, IsRefusal, IsTried, StoredAs};
 ghost use Rattle.hay_cluster.specs.State.{Answered, Stands};
 ghost use Rattle.hay_cluster.specs.Store.{IsUp, disks_of};
-ghost use Rattle.hay_cluster.specs.Suiting.{Suits};
+ghost use Rattle.hay_cluster.specs.Suiting.{Refuses, Suits};
 
 use crate::cluster::Cluster;
 use hay_base::{Listed, NoMemory};
@@ -43,7 +44,8 @@ impl<D: Disk, A: Arm<D::Piece>> Cluster<D, A> {
         ensures causes { (lane : ℕ) → IsCaused self.old.settings lane
             (record { disks = map D.fault_count (disks_of self.old); arms = map A.fault_count self.old.arms })
             (record { disks = map D.fault_count (disks_of self.new); arms = map A.fault_count self.new.arms }) result }
-        ensures suits { Suits (asks.Put pair bytes.now) result }
+        ensures suits { Suits self.old.settings tag.line (asks.Put pair bytes.now) result }
+        ensures fits { FitsReply result }
         ensures counts { NoneFalls (map D.fault_count (disks_of self.old)) (map D.fault_count (disks_of self.new)) }
         ensures fuses { map D.fuse_count (disks_of self.new) ≡ map D.fuse_count (disks_of self.old) }
         ensures arms { self.new.arms ≡ self.old.arms }
@@ -68,6 +70,8 @@ impl<D: Disk, A: Arm<D::Piece>> Cluster<D, A> {
         requires up { IsUp self.now }
         ensures known { D.Tells → (k : Known) → Stands D.files D.Piece.Tells D.fault_count D.fuse_count A.fault_count self.now k → IfOk result (IsTried self.now.settings k pair size) }
         ensures within { (volume : ℕ) → result ≡ Ok (Tried.Taker volume) → volume < self.now.settings.volumes }
+        ensures refused { (refused : List Refused) → result ≡ Ok (Tried.Nobody refused) → AllZip (Refuses self.now.settings) (all_tries self.now.settings pair) refused }
+        ensures fits { (refused : List Refused) → result ≡ Ok (Tried.Nobody refused) → AllByRecursion FitsRefused refused }
     {
         let mut refused = Listed::new(alloc);
         for turn in 0..self.settings.volumes {
@@ -92,6 +96,8 @@ impl<D: Disk, A: Arm<D::Piece>> Cluster<D, A> {
         requires size { length bytes.now ≤ MAX_PHOTO }
         requires homeless { directory.home_of self.old.directory pair ≡ None }
         requires within { (volume : ℕ) → tried ≡ Tried.Taker volume → volume < self.old.settings.volumes }
+        requires refused { (refused : List Refused) → tried ≡ Tried.Nobody refused → AllZip (Refuses self.old.settings) (all_tries self.old.settings pair) refused }
+        requires fits { (refused : List Refused) → tried ≡ Tried.Nobody refused → AllByRecursion FitsRefused refused }
         requires up { IsUp self.old }
         ensures legal { D.Tells → (k : Known) → Stands D.files D.Piece.Tells D.fault_count D.fuse_count A.fault_count self.old k → home_of k pair ≡ None →
             IsTried self.old.settings k pair (length bytes.now) tried →
@@ -99,7 +105,8 @@ impl<D: Disk, A: Arm<D::Piece>> Cluster<D, A> {
         ensures causes { (lane : ℕ) → IsCaused self.old.settings lane
             (record { disks = map D.fault_count (disks_of self.old); arms = map A.fault_count self.old.arms })
             (record { disks = map D.fault_count (disks_of self.new); arms = map A.fault_count self.new.arms }) result }
-        ensures suits { Suits (asks.Put pair bytes.now) result }
+        ensures suits { Suits self.old.settings tag.line (asks.Put pair bytes.now) result }
+        ensures fits { FitsReply result }
         ensures counts { NoneFalls (map D.fault_count (disks_of self.old)) (map D.fault_count (disks_of self.new)) }
         ensures fuses { map D.fuse_count (disks_of self.new) ≡ map D.fuse_count (disks_of self.old) }
         ensures arms { self.new.arms ≡ self.old.arms }
@@ -130,7 +137,8 @@ impl<D: Disk, A: Arm<D::Piece>> Cluster<D, A> {
         ensures causes { (lane : ℕ) → IsCaused self.old.settings lane
             (record { disks = map D.fault_count (disks_of self.old); arms = map A.fault_count self.old.arms })
             (record { disks = map D.fault_count (disks_of self.new); arms = map A.fault_count self.new.arms }) result }
-        ensures suits { Suits (asks.Put pair bytes.now) result }
+        ensures suits { Suits self.old.settings tag.line (asks.Put pair bytes.now) result }
+        ensures fits { FitsReply result }
         ensures counts { NoneFalls (map D.fault_count (disks_of self.old)) (map D.fault_count (disks_of self.new)) }
         ensures fuses { map D.fuse_count (disks_of self.new) ≡ map D.fuse_count (disks_of self.old) }
         ensures arms { self.new.arms ≡ self.old.arms }
@@ -161,7 +169,8 @@ impl<D: Disk, A: Arm<D::Piece>> Cluster<D, A> {
         ensures causes { (lane : ℕ) → IsCaused self.old.settings lane
             (record { disks = map D.fault_count (disks_of self.old); arms = map A.fault_count self.old.arms })
             (record { disks = map D.fault_count (disks_of self.new); arms = map A.fault_count self.new.arms }) result }
-        ensures suits { Suits (asks.Put pair bytes.now) result }
+        ensures suits { Suits self.old.settings tag.line (asks.Put pair bytes.now) result }
+        ensures fits { FitsReply result }
         ensures counts { NoneFalls (map D.fault_count (disks_of self.old)) (map D.fault_count (disks_of self.new)) }
         ensures fuses { map D.fuse_count (disks_of self.new) ≡ map D.fuse_count (disks_of self.old) }
         ensures arms { self.new.arms ≡ self.old.arms }
@@ -183,7 +192,8 @@ impl<D: Disk, A: Arm<D::Piece>> Cluster<D, A> {
 
 // What a put is answered whose pair got no home.
 fn settle_refusal(fault: DirFault) -> Reply
-    ensures { result ≡ puts.settle_reply fault }
+    ensures is { result ≡ puts.settle_reply fault }
+    ensures fits { FitsReply result }
 {
     match fault {
         DirFault::Frozen => Reply::ReadOnlyDir,
@@ -195,7 +205,8 @@ fn settle_refusal(fault: DirFault) -> Reply
 // What a put is answered that a volume did not store.
 fn put_refusal(alloc: Global, volume: u32, fault: LogicalFault) -> Reply
     requires { RefusesPut fault }
-    ensures { IsPutReply volume fault result }
+    ensures is { IsPutReply volume fault result }
+    ensures fits { FitsReply result }
 {
     match fault {
         LogicalFault::Failed { machine, faults } => Reply::Failed {
@@ -231,7 +242,9 @@ fn put_refusal(alloc: Global, volume: u32, fault: LogicalFault) -> Reply
 
 // What a put is answered that all its tries refuse: it is full where one at least wants room.
 fn refuse(alloc: Global, refused: Listed<Refused>) -> Reply
-    ensures { IsRefusal refused result }
+    requires fits { AllByRecursion FitsRefused refused }
+    ensures is { IsRefusal refused result }
+    ensures fits { FitsReply result }
 {
     if has_lack(refused.as_slice()) {
         return Reply::Full { tries: refused };
@@ -243,7 +256,9 @@ fn refuse(alloc: Global, refused: Listed<Refused>) -> Reply
 }
 
 fn refuse_one(alloc: Global, refused: Refused) -> Reply
-    ensures { IsRefusal (refused ∷ []) result }
+    requires fits { FitsRefused refused }
+    ensures is { IsRefusal (refused ∷ []) result }
+    ensures fits { FitsReply result }
 {
     match Listed::one(alloc, refused) {
         Ok(all) => refuse(alloc, all),

@@ -1,18 +1,20 @@
 //! Reads, and gets by URL.
-ghost use Rattle.std.specs.Prelude.{◌≡◌, ◌≤◌, ◌<◌, ℕ, true, List, [], Some, length, map, slice_get, slice_index, IfOk};
+ghost use Rattle.std.specs.Prelude.{◌≡◌, ◌⊎◌, ◌≤◌, ◌<◌, ℕ, true, List, [], Some, length, map, slice_get, slice_index, IfOk};
+ghost use Rattle.std.specs.List.{AllByRecursion};
 ghost use Rattle.hay_script.specs.declared.Command.TheVariants as asks;
 ghost use Rattle.hay_legal.specs.declared.known.Known.{Known};
 ghost use Rattle.std.specs.Vec.{vec_capacity};
 ghost use Rattle.hay_map.specs.declared.place.Place.{Place};
+ghost use Rattle.hay_reply.specs.Fits.{FitsPassed, FitsReply, IsLarge};
 ghost use Rattle.hay_reader.specs.Shown.{ReadAnswers, HasCauses};
 ghost use Rattle.hay_legal.specs.Known.{NoneFalls, home_of, volume_at};
 ghost use Rattle.hay_legal.specs.Plain.{start_of};
 ghost use Rattle.hay_cluster.specs.Causes.{BlamesNoArm, IsCaused, StaySure};
-ghost use Rattle.hay_cluster.specs.Reads.{PassesNoArm, ShownAs, ShowsIn, outcomes_of, passed_at};
+ghost use Rattle.hay_cluster.specs.Reads.{IsShownBelow, PassesNoArm, ShownAs, outcomes_of, passed_at};
 ghost use Rattle.hay_cluster.specs.Parts.{Comes};
 ghost use Rattle.hay_cluster.specs.State.{Answered, Stands};
 ghost use Rattle.hay_cluster.specs.Store.{IsBuilt, IsUp, disks_of};
-ghost use Rattle.hay_cluster.specs.Suiting.{Suits};
+ghost use Rattle.hay_cluster.specs.Suiting.{ShowsFrom, Suits};
 
 use crate::closed::replica_on;
 use crate::cluster::Cluster;
@@ -46,7 +48,8 @@ impl<D: Disk, A: Arm<D::Piece>> Cluster<D, A> {
         ensures causes { IsCaused self.old.settings tag.lane
             (record { disks = map D.fault_count (disks_of self.old); arms = map A.fault_count self.old.arms })
             (record { disks = map D.fault_count (disks_of self.new); arms = map A.fault_count self.new.arms }) result }
-        ensures suits { Suits (asks.Read pair cookie) result }
+        ensures suits { Suits self.old.settings tag.line (asks.Read pair cookie) result }
+        ensures fits { FitsReply result }
         ensures sure { (arm : A) → slice_get self.old.arms tag.lane ≡ Some arm → A.is_sure arm ≡ true → BlamesNoArm result }
         ensures sure_arms { StaySure A.is_sure A.fault_count self.old.arms self.new.arms }
         ensures counts { NoneFalls (map D.fault_count (disks_of self.old)) (map D.fault_count (disks_of self.new)) }
@@ -71,7 +74,8 @@ impl<D: Disk, A: Arm<D::Piece>> Cluster<D, A> {
         ensures causes { IsCaused self.old.settings tag.lane
             (record { disks = map D.fault_count (disks_of self.old); arms = map A.fault_count self.old.arms })
             (record { disks = map D.fault_count (disks_of self.new); arms = map A.fault_count self.new.arms }) result }
-        ensures suits { Suits (asks.Get url.now) result }
+        ensures suits { Suits self.old.settings tag.line (asks.Get url.now) result }
+        ensures fits { FitsReply result }
         ensures sure { (arm : A) → slice_get self.old.arms tag.lane ≡ Some arm → A.is_sure arm ≡ true → BlamesNoArm result }
         ensures sure_arms { StaySure A.is_sure A.fault_count self.old.arms self.new.arms }
         ensures counts { NoneFalls (map D.fault_count (disks_of self.old)) (map D.fault_count (disks_of self.new)) }
@@ -111,7 +115,8 @@ impl<D: Disk, A: Arm<D::Piece>> Cluster<D, A> {
         requires up { IsUp self.old }
         ensures shown { D.Tells → (k : Known) → Stands D.files D.Piece.Tells D.fault_count D.fuse_count A.fault_count self.old k → home_of k pair ≡ Some volume →
             ShownAs D.files D.Piece.Tells D.fault_count D.fuse_count A.fault_count self.old.settings k tag start pair cookie result self.new }
-        ensures here { ShowsIn volume result }
+        ensures here { ShowsFrom self.old.settings start volume result ⊎ (result ≡ Reply.NoMem) }
+        ensures fits { FitsReply result }
         ensures causes { IsCaused self.old.settings tag.lane
             (record { disks = map D.fault_count (disks_of self.old); arms = map A.fault_count self.old.arms })
             (record { disks = map D.fault_count (disks_of self.new); arms = map A.fault_count self.new.arms }) result }
@@ -134,7 +139,7 @@ impl<D: Disk, A: Arm<D::Piece>> Cluster<D, A> {
                 machine: machine_of(&self.settings, volume, replica),
                 front,
                 rows,
-                photo: Bytes::from_vec(photo),
+                photo: bytes_of(photo),
             },
             ReadReply::Gone { replica } => Reply::Gone {
                 volume,
@@ -186,6 +191,7 @@ impl<D: Disk, A: Arm<D::Piece>> Cluster<D, A> {
             × Comes D.files D.Piece.Tells D.fault_count D.fuse_count A.fault_count k k self.new }
         ensures causes { (row : List (Place D.Piece)) × (length row ≡ self.old.settings.replicas)
             × HasCauses start row (slice_index (map A.fault_count self.old.arms) lane) (slice_index (map A.fault_count self.new.arms) lane) result.1 }
+        ensures below { IsShownBelow self.old.settings.replicas result.1 }
         ensures sure { (arm : A) → slice_get self.old.arms lane ≡ Some arm → A.is_sure arm ≡ true → PassesNoArm result.1 }
         ensures sure_arms { StaySure A.is_sure A.fault_count self.old.arms self.new.arms }
         ensures disks { disks_of self.new ≡ disks_of self.old }
@@ -204,6 +210,15 @@ impl<D: Disk, A: Arm<D::Piece>> Cluster<D, A> {
     }
 }
 
+// The bytes of a photo that was read.
+fn bytes_of(photo: Vec<u8>) -> Bytes
+    ensures is { result ≡ photo.items }
+    ensures bytes { (i : ℕ) → slice_index result i < 256 }
+    ensures long { IsLarge (length result) }
+{
+    Bytes::from_vec(photo)
+}
+
 // The machines of the replicas of a volume that were passed over.
 fn passed_of(
     alloc: Global,
@@ -212,14 +227,24 @@ fn passed_of(
     causes: &[PassedReplica],
 ) -> Result<Listed<Passed>, NoMemory>
     requires { IsBuilt settings.now }
-    ensures { IfOk result (λ passed. passed ≡ map (passed_at settings.now volume) causes.now) }
+    ensures is { IfOk result (λ passed. passed ≡ map (passed_at settings.now volume) causes.now) }
+    ensures fits { IfOk result (λ passed. AllByRecursion FitsPassed passed) }
 {
     let mut passed = Listed::new(alloc);
     for over in causes {
-        passed.push(Passed {
-            machine: machine_of(settings, volume, over.replica),
-            cause: over.cause,
-        })?;
+        passed.push(passed_replica(settings, volume, *over))?;
     }
     Ok(passed)
+}
+
+// A replica of a volume that was passed over, by its machine.
+fn passed_replica(settings: &Settings, volume: u32, over: PassedReplica) -> Passed
+    requires { IsBuilt settings.now }
+    ensures is { result ≡ passed_at settings.now volume over }
+    ensures fits { FitsPassed result }
+{
+    Passed {
+        machine: machine_of(settings, volume, over.replica),
+        cause: over.cause,
+    }
 }

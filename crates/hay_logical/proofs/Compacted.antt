@@ -225,26 +225,26 @@ module _ {D P : Type 0} (settings : Settings) (number : ℕ) (DiskTells : Type 0
         printed = is;
       }
 
-  pub finish_fault : (u : Unswapped) → SwapsAt DiskTells files faults Tells Going rows rows' at one.before one.after (Err u) → answers.IsRunFault faults settings number items new (unfinished_by settings number at u).fault
-  finish_fault (Refused (fault.Failed n)) swaps = failed_at n swaps.left.3 swaps.left.4
+  pub finish_fault : (u : Unswapped) → SwapsAt DiskTells files faults Tells Going rows rows' at one.before one.after (Err u) → answers.IsRunFault faults settings number at items new (unfinished_by settings number at u).fault
+  finish_fault (Refused (fault.Failed n)) swaps = (refl, failed_at n swaps.left.3 swaps.left.4)
   finish_fault (Refused fault.Frozen) swaps = absurd swaps.left
   finish_fault (Refused (fault.Full end need capacity)) swaps = absurd swaps.left
   finish_fault (Refused (fault.Busy goal)) swaps = let wrong : Going ≡ Fresh = swaps.left.0 in absurd cc
   finish_fault (Refused (fault.Ended n)) swaps = absurd swaps.left
   finish_fault (Refused fault.Worn) swaps = let wrong : Going ≡ Fresh = swaps.left.0 in absurd cc
-  finish_fault (Refused (fault.Damaged place)) swaps = tt
+  finish_fault (Refused (fault.Damaged place)) swaps = refl
   finish_fault (Refused fault.NoMemory) swaps = tt
-  finish_fault (Perhaps n) swaps = failed_at n swaps.left.3 swaps.left.4
+  finish_fault (Perhaps n) swaps = (refl, failed_at n swaps.left.3 swaps.left.4)
   finish_fault Unplaced swaps = tt
 
-  pub compact_fault : (u : Unswapped) → SwapsAt DiskTells files faults Tells Fresh rows rows' at one.before one.after (Err u) → answers.IsCompactFault faults settings number items new (unfinished_by settings number at u).fault
-  compact_fault (Refused (fault.Failed n)) swaps = failed_at n swaps.left.3 swaps.left.4
+  pub compact_fault : (u : Unswapped) → SwapsAt DiskTells files faults Tells Fresh rows rows' at one.before one.after (Err u) → answers.IsCompactFault faults settings number at items new (unfinished_by settings number at u).fault
+  compact_fault (Refused (fault.Failed n)) swaps = (refl, failed_at n swaps.left.3 swaps.left.4)
   compact_fault (Refused fault.Frozen) swaps = absurd swaps.left
   compact_fault (Refused (fault.Full end need capacity)) swaps = absurd swaps.left
-  compact_fault (Refused (fault.Busy goal)) swaps = tt
+  compact_fault (Refused (fault.Busy goal)) swaps = refl
   compact_fault (Refused (fault.Ended n)) swaps = absurd swaps.left
-  compact_fault (Refused fault.Worn) swaps = tt
-  compact_fault (Refused (fault.Damaged place)) swaps = tt
+  compact_fault (Refused fault.Worn) swaps = refl
+  compact_fault (Refused (fault.Damaged place)) swaps = refl
   compact_fault (Refused fault.NoMemory) swaps = tt
-  compact_fault (Perhaps n) swaps = failed_at n swaps.left.3 swaps.left.4
+  compact_fault (Perhaps n) swaps = (refl, failed_at n swaps.left.3 swaps.left.4)
   compact_fault Unplaced swaps = tt

@@ -86,9 +86,9 @@ module _ {D P : Type 0} (files : D → Files) (Tells : Type 0) (k : VolumeKnown)
   pub room_refused : (f : LogicalFault) → Err f ≡ room_answer old.settings k.frozen (room_refusal_of old.settings old.number k (length bytes)) → PutRefused files Tells k tag pair cookie bytes old old f
   room_refused f e = refused_by k.frozen (find (λ at. lacks_room old.settings (length bytes) at.1) (enumerate_from 0 k.replicas)) f refl refl e
 
-pub room_cause : {D : Type 0} (faults : D → ℕ) (settings : Settings) (v : ℕ) (old new : List (Copy D)) (f : LogicalFault) → IsRoomFault f → answers.IsPutFault faults settings v old new f
+pub room_cause : {D : Type 0} (faults : D → ℕ) (settings : Settings) (v : ℕ) (old new : List (Copy D)) (f : LogicalFault) → IsRoomFault settings v f → answers.IsPutFault faults settings v old new f
 room_cause faults settings v old new (logical.ReadOnly m) is = tt
-room_cause faults settings v old new (logical.Full m end need capacity) is = tt
+room_cause faults settings v old new (logical.Full m end need capacity) is = is
 room_cause faults settings v old new (logical.Gone front) is = absurd is
 room_cause faults settings v old new (logical.Failed m printed) is = absurd is
 room_cause faults settings v old new logical.NoMemory is = absurd is

@@ -41,22 +41,26 @@ pub record HasFailed {D : Type 0} (faults : D → ℕ) (settings : Settings) (v 
   pub rose : Rose (faults before.disk) (faults after.disk)
   pub printed : count ≡ faults after.disk
 
--- Each call has refusals of its own, and a failure has its cause.
-abbrev pub IsRoomFault : LogicalFault → Type 0
-IsRoomFault (ReadOnly m) = Unit {0}
-IsRoomFault (Full machine end need capacity) = Unit {0}
-IsRoomFault (Failed m faults) = ⊥
-IsRoomFault (Gone front) = ⊥
-IsRoomFault (Busy m generation) = ⊥
-IsRoomFault (Worn m) = ⊥
-IsRoomFault Idle = ⊥
-IsRoomFault (Damaged m at) = ⊥
-IsRoomFault NoMemory = ⊥
+-- the machine is that of one of the volume's replicas
+abbrev pub IsMachineOf : Settings → ℕ → ℕ → Type 0
+IsMachineOf settings v m = (replica : ℕ) × (replica < settings.replicas) × (m ≡ machine_of settings v replica)
+
+-- Each call has refusals of its own, a failure has its cause, and what one replica refuses names its machine.
+abbrev pub IsRoomFault : Settings → ℕ → LogicalFault → Type 0
+IsRoomFault settings v (ReadOnly m) = Unit {0}
+IsRoomFault settings v (Full machine end need capacity) = IsMachineOf settings v machine
+IsRoomFault settings v (Failed m faults) = ⊥
+IsRoomFault settings v (Gone front) = ⊥
+IsRoomFault settings v (Busy m generation) = ⊥
+IsRoomFault settings v (Worn m) = ⊥
+IsRoomFault settings v Idle = ⊥
+IsRoomFault settings v (Damaged m at) = ⊥
+IsRoomFault settings v NoMemory = ⊥
 
 abbrev pub IsPutFault : {D : Type 0} → (D → ℕ) → Settings → ℕ → List (Copy D) → List (Copy D) → LogicalFault → Type 0
 IsPutFault faults settings v old new (Failed machine printed) = HasFailed faults settings v old new machine printed
 IsPutFault faults settings v old new (ReadOnly m) = Unit {0}
-IsPutFault faults settings v old new (Full machine end need capacity) = Unit {0}
+IsPutFault faults settings v old new (Full machine end need capacity) = IsMachineOf settings v machine
 IsPutFault faults settings v old new NoMemory = Unit {0}
 IsPutFault faults settings v old new (Gone front) = ⊥
 IsPutFault faults settings v old new (Busy m generation) = ⊥
@@ -75,49 +79,53 @@ IsDeleteFault faults settings v old new (Worn m) = ⊥
 IsDeleteFault faults settings v old new Idle = ⊥
 IsDeleteFault faults settings v old new (Damaged m at) = ⊥
 
-abbrev pub IsFlushFault : {D : Type 0} → (D → ℕ) → Settings → ℕ → List (Copy D) → List (Copy D) → LogicalFault → Type 0
-IsFlushFault faults settings v old new (Failed machine printed) = HasFailed faults settings v old new machine printed
-IsFlushFault faults settings v old new (ReadOnly m) = Unit {0}
-IsFlushFault faults settings v old new NoMemory = Unit {0}
-IsFlushFault faults settings v old new (Full m end need capacity) = ⊥
-IsFlushFault faults settings v old new (Gone front) = ⊥
-IsFlushFault faults settings v old new (Busy m generation) = ⊥
-IsFlushFault faults settings v old new (Worn m) = ⊥
-IsFlushFault faults settings v old new Idle = ⊥
-IsFlushFault faults settings v old new (Damaged m at) = ⊥
+abbrev pub IsFlushFault : {D : Type 0} → (D → ℕ) → Settings → ℕ → ℕ → List (Copy D) → List (Copy D) → LogicalFault → Type 0
+IsFlushFault faults settings v replica old new (Failed machine printed) =
+    (machine ≡ machine_of settings v replica) × HasFailed faults settings v old new machine printed
+IsFlushFault faults settings v replica old new (ReadOnly m) = Unit {0}
+IsFlushFault faults settings v replica old new NoMemory = Unit {0}
+IsFlushFault faults settings v replica old new (Full m end need capacity) = ⊥
+IsFlushFault faults settings v replica old new (Gone front) = ⊥
+IsFlushFault faults settings v replica old new (Busy m generation) = ⊥
+IsFlushFault faults settings v replica old new (Worn m) = ⊥
+IsFlushFault faults settings v replica old new Idle = ⊥
+IsFlushFault faults settings v replica old new (Damaged m at) = ⊥
 
-abbrev pub IsBeginFault : {D : Type 0} → (D → ℕ) → Settings → ℕ → List (Copy D) → List (Copy D) → LogicalFault → Type 0
-IsBeginFault faults settings v old new (Failed machine printed) = HasFailed faults settings v old new machine printed
-IsBeginFault faults settings v old new (ReadOnly m) = Unit {0}
-IsBeginFault faults settings v old new (Busy m generation) = Unit {0}
-IsBeginFault faults settings v old new (Worn m) = Unit {0}
-IsBeginFault faults settings v old new NoMemory = Unit {0}
-IsBeginFault faults settings v old new (Full m end need capacity) = ⊥
-IsBeginFault faults settings v old new (Gone front) = ⊥
-IsBeginFault faults settings v old new Idle = ⊥
-IsBeginFault faults settings v old new (Damaged m at) = ⊥
+abbrev pub IsBeginFault : {D : Type 0} → (D → ℕ) → Settings → ℕ → ℕ → List (Copy D) → List (Copy D) → LogicalFault → Type 0
+IsBeginFault faults settings v replica old new (Failed machine printed) =
+    (machine ≡ machine_of settings v replica) × HasFailed faults settings v old new machine printed
+IsBeginFault faults settings v replica old new (ReadOnly m) = Unit {0}
+IsBeginFault faults settings v replica old new (Busy m generation) = m ≡ machine_of settings v replica
+IsBeginFault faults settings v replica old new (Worn m) = m ≡ machine_of settings v replica
+IsBeginFault faults settings v replica old new NoMemory = Unit {0}
+IsBeginFault faults settings v replica old new (Full m end need capacity) = ⊥
+IsBeginFault faults settings v replica old new (Gone front) = ⊥
+IsBeginFault faults settings v replica old new Idle = ⊥
+IsBeginFault faults settings v replica old new (Damaged m at) = ⊥
 
-abbrev pub IsRunFault : {D : Type 0} → (D → ℕ) → Settings → ℕ → List (Copy D) → List (Copy D) → LogicalFault → Type 0
-IsRunFault faults settings v old new (Failed machine printed) = HasFailed faults settings v old new machine printed
-IsRunFault faults settings v old new (ReadOnly m) = Unit {0}
-IsRunFault faults settings v old new Idle = Unit {0}
-IsRunFault faults settings v old new (Damaged m at) = Unit {0}
-IsRunFault faults settings v old new NoMemory = Unit {0}
-IsRunFault faults settings v old new (Full m end need capacity) = ⊥
-IsRunFault faults settings v old new (Gone front) = ⊥
-IsRunFault faults settings v old new (Busy m generation) = ⊥
-IsRunFault faults settings v old new (Worn m) = ⊥
+abbrev pub IsRunFault : {D : Type 0} → (D → ℕ) → Settings → ℕ → ℕ → List (Copy D) → List (Copy D) → LogicalFault → Type 0
+IsRunFault faults settings v replica old new (Failed machine printed) =
+    (machine ≡ machine_of settings v replica) × HasFailed faults settings v old new machine printed
+IsRunFault faults settings v replica old new (ReadOnly m) = Unit {0}
+IsRunFault faults settings v replica old new Idle = Unit {0}
+IsRunFault faults settings v replica old new (Damaged m at) = m ≡ machine_of settings v replica
+IsRunFault faults settings v replica old new NoMemory = Unit {0}
+IsRunFault faults settings v replica old new (Full m end need capacity) = ⊥
+IsRunFault faults settings v replica old new (Gone front) = ⊥
+IsRunFault faults settings v replica old new (Busy m generation) = ⊥
+IsRunFault faults settings v replica old new (Worn m) = ⊥
 
-abbrev pub IsCompactFault : {D : Type 0} → (D → ℕ) → Settings → ℕ → List (Copy D) → List (Copy D) → LogicalFault → Type 0
-IsCompactFault faults settings v old new (Failed machine printed) = HasFailed faults settings v old new machine printed
-IsCompactFault faults settings v old new (ReadOnly m) = Unit {0}
-IsCompactFault faults settings v old new (Busy m generation) = Unit {0}
-IsCompactFault faults settings v old new (Worn m) = Unit {0}
-IsCompactFault faults settings v old new (Damaged m at) = Unit {0}
-IsCompactFault faults settings v old new NoMemory = Unit {0}
-IsCompactFault faults settings v old new (Full m end need capacity) = ⊥
-IsCompactFault faults settings v old new (Gone front) = ⊥
-IsCompactFault faults settings v old new Idle = ⊥
+abbrev pub IsCompactFault : {D : Type 0} → (D → ℕ) → Settings → ℕ → ℕ → List (Copy D) → List (Copy D) → LogicalFault → Type 0
+IsCompactFault faults settings v replica old new (Failed machine printed) =
+    (machine ≡ machine_of settings v replica) × HasFailed faults settings v old new machine printed
+IsCompactFault faults settings v replica old new (ReadOnly m) = Unit {0}
+IsCompactFault faults settings v replica old new (Busy m generation) = m ≡ machine_of settings v replica
+IsCompactFault faults settings v replica old new (Worn m) = m ≡ machine_of settings v replica
+IsCompactFault faults settings v replica old new (Damaged m at) = m ≡ machine_of settings v replica
+IsCompactFault faults settings v replica old new NoMemory = Unit {0}
+IsCompactFault faults settings v replica old new (Full m end need capacity) = ⊥
+IsCompactFault faults settings v replica old new (Gone front) = ⊥
+IsCompactFault faults settings v replica old new Idle = ⊥
 
 -- WHETHER A VOLUME TAKES A PHOTO
 

@@ -185,7 +185,7 @@ impl<D: Disk> Logical<D> {
             result ≡ room_answer self.now.settings k.frozen (room_refusal_of self.now.settings self.now.number k size) }
         ensures frozen { (m : ℕ) → self.now.frozen ≡ Some m → result ≡ Err (LogicalFault.ReadOnly m) }
         ensures fits { OnOk result ((self.now.frozen ≡ None) × ((j : ℕ) (r : Copy D) → At self.now.replicas j r → RoomFor size r)) }
-        ensures causes { IfErr result IsRoomFault }
+        ensures causes { IfErr result (IsRoomFault self.now.settings self.now.number) }
     {
         if let Some(machine) = self.frozen {
             return Err(LogicalFault::ReadOnly { machine });
@@ -317,7 +317,7 @@ impl<D: Disk> Logical<D> {
             IfOk result (λ number. IsFlushed D.files D.Piece.Tells k replica number self.new) }
         ensures refused { D.Tells → (k : VolumeKnown) → Stands D.files D.Piece.Tells self.old k →
             IfErr result (FlushRefused D.files D.Piece.Tells k replica self.old self.new) }
-        ensures causes { IfErr result (IsFlushFault D.fault_count self.old.settings self.old.number self.old.replicas self.new.replicas) }
+        ensures causes { IfErr result (IsFlushFault D.fault_count self.old.settings self.old.number replica self.old.replicas self.new.replicas) }
         ensures open { IsOpenVolume self.new }
         ensures counts { KeepsCounts D.fault_count D.fuse_count self.old.replicas self.new.replicas }
         ensures same { IsSame self.old self.new }
@@ -341,7 +341,7 @@ impl<D: Disk> Logical<D> {
             IfOk result (λ generation. IsBegun D.files D.Piece.Tells k replica generation self.new) }
         ensures refused { D.Tells → (k : VolumeKnown) → Stands D.files D.Piece.Tells self.old k →
             IfErr result (BeginRefused D.files D.Piece.Tells k replica self.old self.new) }
-        ensures causes { IfErr result (IsBeginFault D.fault_count self.old.settings self.old.number self.old.replicas self.new.replicas) }
+        ensures causes { IfErr result (IsBeginFault D.fault_count self.old.settings self.old.number replica self.old.replicas self.new.replicas) }
         ensures open { IsOpenVolume self.new }
         ensures counts { KeepsCounts D.fault_count D.fuse_count self.old.replicas self.new.replicas }
         ensures same { IsSame self.old self.new }
@@ -365,7 +365,7 @@ impl<D: Disk> Logical<D> {
             IfOk result (λ number. IsStepped D.files D.Piece.Tells k replica cells number self.new) }
         ensures refused { D.Tells → (k : VolumeKnown) → Stands D.files D.Piece.Tells self.old k →
             IfErr result (StepRefused D.files D.Piece.Tells k replica cells self.old self.new) }
-        ensures causes { IfErr result (IsRunFault D.fault_count self.old.settings self.old.number self.old.replicas self.new.replicas) }
+        ensures causes { IfErr result (IsRunFault D.fault_count self.old.settings self.old.number replica self.old.replicas self.new.replicas) }
         ensures open { IsOpenVolume self.new }
         ensures counts { KeepsCounts D.fault_count D.fuse_count self.old.replicas self.new.replicas }
         ensures same { IsSame self.old self.new }
@@ -402,7 +402,7 @@ impl<D: Disk> Logical<D> {
             OnOk result (RemovesOld D.files D.fault_count k replica self.old self.new) }
         ensures refused { D.Tells → (k : VolumeKnown) → Stands D.files D.Piece.Tells self.old k →
             IfErr result (FinishRefused D.files D.Piece.Tells k replica self.old self.new) }
-        ensures causes { IfErr result (IsRunFault D.fault_count self.old.settings self.old.number self.old.replicas self.new.replicas) }
+        ensures causes { IfErr result (IsRunFault D.fault_count self.old.settings self.old.number replica self.old.replicas self.new.replicas) }
         ensures open { IsOpenVolume self.new }
         ensures counts { KeepsCounts D.fault_count D.fuse_count self.old.replicas self.new.replicas }
         ensures same { IsSame self.old self.new }
@@ -438,7 +438,7 @@ impl<D: Disk> Logical<D> {
             OnOk result (RemovesOld D.files D.fault_count k replica self.old self.new) }
         ensures refused { D.Tells → (k : VolumeKnown) → Stands D.files D.Piece.Tells self.old k →
             IfErr result (CompactRefused D.files D.Piece.Tells k replica self.old self.new) }
-        ensures causes { IfErr result (IsCompactFault D.fault_count self.old.settings self.old.number self.old.replicas self.new.replicas) }
+        ensures causes { IfErr result (IsCompactFault D.fault_count self.old.settings self.old.number replica self.old.replicas self.new.replicas) }
         ensures open { IsOpenVolume self.new }
         ensures counts { KeepsCounts D.fault_count D.fuse_count self.old.replicas self.new.replicas }
         ensures same { IsSame self.old self.new }

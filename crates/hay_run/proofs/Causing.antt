@@ -11,6 +11,7 @@ use Rattle.hay_reply.specs.declared.Note.{Note}
 use Rattle.hay_reply.specs.declared.Note.TheVariants.{OpenFailed, OpenDamaged}
 use Rattle.hay_reply.specs.declared.Reply.{Reply}
 use Rattle.hay_reply.specs.declared.Reply.TheVariants.{NoMem, Restarted}
+use Rattle.hay_reply.specs.Fits.{FitsReply}
 use Rattle.hay_reply.specs.Replies.{note_line, numbered_line}
 use Rattle.hay_legal.specs.declared.turn.Item.TheVariants as item
 use Rattle.hay_legal.specs.Items.{Asked, InBlock}
@@ -76,10 +77,10 @@ module _ (Tells : Type 0) where
 
   pub caused_reply : (Writes : Writing) (settings : Settings) (before after : Tally) (number : ℕ) (command : Command) (reply : Reply) (written written' : Option (List ℕ))
       → ((pick : ℕ) → command ≢ asks.Restart pick) → IsLaterTally before after → LeavesFuses settings command before.fuses after.fuses
-      → Suits command reply → IsCaused settings 0 before.counts after.counts reply → (HasSureArm before 0 → BlamesNoArm reply) → Writes written (numbered_line number reply) written'
+      → FitsReply reply → Suits settings number command reply → IsCaused settings 0 before.counts after.counts reply → (HasSureArm before 0 → BlamesNoArm reply) → Writes written (numbered_line number reply) written'
       → Caused Tells Writes settings before after (Alone number (item.Command command) ∷ []) written written'
-  caused_reply Writes settings before after number command reply written written' other none fuses suits cause sure wrote =
-      caused_one Writes settings before after (Alone number (item.Command command)) (numbered_line number reply) written written' none (fuses, inr (other, (reply, suits, cause, sure, refl))) wrote
+  caused_reply Writes settings before after number command reply written written' other none fuses fits suits cause sure wrote =
+      caused_one Writes settings before after (Alone number (item.Command command)) (numbered_line number reply) written written' none (fuses, inr (other, (reply, fits, suits, cause, sure, refl))) wrote
 
   pub caused_restart : (Writes : Writing) (settings : Settings) (before after : Tally) (number pick rows : ℕ) (notes : List Note) (written written' : Option (List ℕ))
       → IsLaterTally before after → after.fuses ≡ before.fuses → (Tells → IsUndamaged settings after.contents) → Writes written (numbered_line number (Restarted rows) ++ flat_map note_line notes) written'

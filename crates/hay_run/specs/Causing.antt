@@ -10,6 +10,7 @@ use Rattle.hay_reply.specs.declared.Note.{Note}
 use Rattle.hay_reply.specs.declared.Note.TheVariants.{Kept, Lost, KeptDir, LostDir, Log, Rows, OpenShelf, OpenFailed, OpenDamaged}
 use Rattle.hay_reply.specs.declared.Reply.{Reply}
 use Rattle.hay_reply.specs.declared.Reply.TheVariants.{BadLine, NoMem, Restarted}
+use Rattle.hay_reply.specs.Fits.{FitsReply}
 use Rattle.hay_reply.specs.Replies.{header_line, note_line, numbered_line}
 use Rattle.hay_legal.specs.declared.turn.Item.TheVariants as item
 use Rattle.hay_legal.specs.Items.{Asked, items_of, items_before}
@@ -65,12 +66,12 @@ IsRestartText Tells settings after command number text =
     (pick : ℕ) × (rows : ℕ) × (notes : List Note) × (command ≡ asks.Restart pick) × (text ≡ numbered_line number (Restarted rows) ++ flat_map note_line notes)
     × (Tells → IsUndamaged settings after.contents)
 
--- the text of another command: a reply of a kind that the command may be given, which tells of a failure only where the count that
--- it prints rose, and never of an arm that is sure
+-- the text of another command: a reply with numbers of their types, which the command of this line may be given, which tells of a
+-- failure only where the count that it prints rose, and never of an arm that is sure
 abbrev pub IsReplyText : Settings → Tally → Tally → Command → ℕ → List ℕ → Type 0
 IsReplyText settings before after command number text =
     ((pick : ℕ) → command ≢ asks.Restart pick)
-    × ((reply : Reply) × Suits command reply × IsCaused settings 0 before.counts after.counts reply × (HasSureArm before 0 → BlamesNoArm reply) × (text ≡ numbered_line number reply))
+    × ((reply : Reply) × FitsReply reply × Suits settings number command reply × IsCaused settings 0 before.counts after.counts reply × (HasSureArm before 0 → BlamesNoArm reply) × (text ≡ numbered_line number reply))
 
 -- The text answers the item, while the counts went from these to those. A fuse is set by its command alone.
 abbrev pub IsTextOf : Type 0 → Settings → Tally → Tally → Asked → List ℕ → Type 0

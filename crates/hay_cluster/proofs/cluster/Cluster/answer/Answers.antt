@@ -1,3 +1,6 @@
+use Rattle.std.proofs.Common.{sym, subst}
+use Rattle.hay_script.specs.declared.Command.{Command}
+use Rattle.hay_cluster.specs.Suiting.{Suits}
 use Rattle.hay_cluster.proofs.Answering.{same_falls}
 use Rattle.hay_cluster.proofs.Sure.{same_sure, unblamed}
 use Rattle.hay_cluster.proofs.cluster.Cluster.answer.Goals as goal
@@ -145,3 +148,30 @@ returns-in-Del-clause-causes g c = c.delete.ensures.causes c.args.tag.lane
 
 pub returns-in-Url-clause-causes : goal.returns-in-Url-clause-causes
 returns-in-Url-clause-causes g c = c.url.ensures.causes c.args.tag.lane
+
+pub returns-in-Drain-clause-suits : goal.returns-in-Drain-clause-suits
+returns-in-Drain-clause-suits g c = subst (λ (asked : Command). Suits (c.args.self.now).settings c.args.tag.line asked c.drain.result) (sym c.in-Drain.is) (c.drain.ensures.suits c.args.tag.line)
+
+pub returns-in-Undrain-clause-suits : goal.returns-in-Undrain-clause-suits
+returns-in-Undrain-clause-suits g c = subst (λ (asked : Command). Suits (c.args.self.now).settings c.args.tag.line asked c.undrain.result) (sym c.in-Undrain.is) (c.undrain.ensures.suits c.args.tag.line)
+
+pub returns-in-Fuse-clause-suits : goal.returns-in-Fuse-clause-suits
+returns-in-Fuse-clause-suits g c = subst (λ (asked : Command). Suits (c.args.self.now).settings c.args.tag.line asked c.fuse.result) (sym c.in-Fuse.is) (c.fuse.ensures.suits c.args.tag.line)
+
+pub returns-in-FuseDir-clause-suits : goal.returns-in-FuseDir-clause-suits
+returns-in-FuseDir-clause-suits g c = subst (λ (asked : Command). Suits (c.args.self.now).settings c.args.tag.line asked c.fuse_dir.result) (sym c.in-FuseDir.is) (c.fuse_dir.ensures.suits c.args.tag.line)
+
+pub returns-in-Flush-clause-suits : goal.returns-in-Flush-clause-suits
+returns-in-Flush-clause-suits g c = subst (λ (asked : Command). Suits (c.args.self.now).settings c.args.tag.line asked c.maintain.result) (sym c.in-Flush.is) (c.maintain.ensures.suits c.args.tag.line)
+
+pub returns-in-Begin-clause-suits : goal.returns-in-Begin-clause-suits
+returns-in-Begin-clause-suits g c = subst (λ (asked : Command). Suits (c.args.self.now).settings c.args.tag.line asked c.maintain-in-Begin.result) (sym c.in-Begin.is) (c.maintain-in-Begin.ensures.suits c.args.tag.line)
+
+pub returns-in-Step-clause-suits : goal.returns-in-Step-clause-suits
+returns-in-Step-clause-suits g c = subst (λ (asked : Command). Suits (c.args.self.now).settings c.args.tag.line asked c.maintain-in-Step.result) (sym c.in-Step.is) (c.maintain-in-Step.ensures.suits c.args.tag.line)
+
+pub returns-in-Finish-clause-suits : goal.returns-in-Finish-clause-suits
+returns-in-Finish-clause-suits g c = subst (λ (asked : Command). Suits (c.args.self.now).settings c.args.tag.line asked c.maintain-in-Finish.result) (sym c.in-Finish.is) (c.maintain-in-Finish.ensures.suits c.args.tag.line)
+
+pub returns-in-Compact-clause-suits : goal.returns-in-Compact-clause-suits
+returns-in-Compact-clause-suits g c = subst (λ (asked : Command). Suits (c.args.self.now).settings c.args.tag.line asked c.maintain-in-Compact.result) (sym c.in-Compact.is) (c.maintain-in-Compact.ensures.suits c.args.tag.line)

@@ -1,8 +1,9 @@
-use Rattle.std.proofs.Common.{◌≡◌, None, Some, sym, ◌∙◌}
+use Rattle.std.proofs.Common.{◌≡◌, None, Some, sym, ◌∙◌, inl, inr, refl}
 use Rattle.std.proofs.lemmas.Result.{IfErr-at_err, IfOk-at_ok}
 use Rattle.hay_legal.specs.Known.{closed, home_of, volume_at}
 use Rattle.hay_legal.specs.Plain.{with_del}
 use Rattle.hay_cluster.proofs.Changing.{deleted, not_deleted}
+use Rattle.hay_cluster.proofs.Suiting.{closed_suits_del, del_refusal_suits}
 use Rattle.hay_cluster.proofs.cluster.Cluster.delete.Goals as goal
 
 pub returns-in-Ok-clause-legal : goal.returns-in-Ok-clause-legal
@@ -22,4 +23,18 @@ returns-in-Err-clause-legal g c = λ tells k stands.
     let moved = c.delete_in.ensures.moves tells k stands in
     not_deleted g.D.Disk.files g.D.Piece.Piece.Tells g.D.Disk.fault_count g.D.Disk.fuse_count g.A.Arm.fault_count c.args.self.now c.delete_in.new.self k c.args.tag c.args.pair c.in-Some.volume c.rows-in-Err.result c.in-Err.fault c.delete_refusal.result moved.before moved.after c.delete_in.ensures.settings
     (c.in-Some.ensures).within stands home thawed moved.stood (c.rows-in-Err.ensures.known tells)
-    (IfErr-at_err _ c.in-Err.is c.delete_in.ensures.causes) (IfErr-at_err _ c.in-Err.is moved.does.1) moved.comes c.delete_refusal.ensures
+    (IfErr-at_err _ c.in-Err.is c.delete_in.ensures.causes) (IfErr-at_err _ c.in-Err.is moved.does.1) moved.comes c.delete_refusal.ensures.is
+
+pub returns-in_default-clause-suits : goal.returns-in_default-clause-suits
+returns-in_default-clause-suits g c = inr (inr (inl (c.rows.result, refl)))
+
+pub returns-in-Some-closed_by-clause-suits : goal.returns-in-Some-closed_by-clause-suits
+returns-in-Some-closed_by-clause-suits g c = closed_suits_del (c.args.self.now).settings c.in-Some.volume c.in-Some-closed_by.machine c.read_only.result (c.in-Some.ensures).within c.read_only.ensures.is
+
+pub returns-in-Ok-clause-suits : goal.returns-in-Ok-clause-suits
+returns-in-Ok-clause-suits g c = inl (c.in-Some.volume, c.in-Ok.position, c.rows-in-Ok.result, (c.in-Some.ensures).within, refl)
+
+pub returns-in-Err-clause-suits : goal.returns-in-Err-clause-suits
+returns-in-Err-clause-suits g c =
+    del_refusal_suits (c.args.self.now).settings c.in-Some.volume c.rows-in-Err.result _ _ c.in-Err.fault c.delete_refusal.result (c.in-Some.ensures).within
+    (IfErr-at_err _ c.in-Err.is c.delete_in.ensures.causes) c.delete_refusal.ensures.is

@@ -11,13 +11,13 @@ use Rattle.hay_logical.specs.Volumes.{Volume}
 use Rattle.hay_logical.proofs.Lists.{at_read}
 use Rattle.hay_reader.specs.Shown.{ReadAnswers, HasCauses}
 use Rattle.hay_reader.proofs.Outcomes.{answers_row, has_causes}
-use Rattle.hay_cluster.specs.Reads.{outcomes_of}
+use Rattle.hay_cluster.specs.Reads.{outcomes_of, IsShownBelow}
 use Rattle.hay_cluster.specs.State.{Stands}
 use Rattle.hay_cluster.specs.Store.{IsUp, Open, disks_of}
 use Rattle.hay_cluster.proofs.Rooms.{begin_room, item_room, looked_room, places_room, row_room}
 use Rattle.hay_cluster.proofs.Lists.{length-set}
 use Rattle.hay_cluster.proofs.Moves.{volume_of, volume_stood}
-use Rattle.hay_cluster.proofs.Showing.{counts_at, later_set, row_means, seat_comes}
+use Rattle.hay_cluster.proofs.Showing.{counts_at, later_set, row_means, seat_comes, shown_below}
 use Rattle.hay_cluster.proofs.Sure.{no_arm_passed, used_sure}
 use Rattle.hay_cluster.proofs.cluster.Cluster.fetch.Goals as goal
 
@@ -171,3 +171,17 @@ returns-clause-sure_arms g c =
     ∙ ap (λ (xs : List (g.row.A.Denot)). slice_set xs c.args.lane c.show-read.new.self) c.as_mut_slice.ensures.value in
     rw items (used_sure g.A.Arm.is_sure g.A.Arm.fault_count (c.args.self.now).arms store.arms c.args.lane arm c.show-read.new.self (ap (λ (st : Open g.row.D.Denot g.row.D-Piece.Denot g.row.A.Denot). st.arms) c.self.view_is) seat
     c.show-read.ensures.stays_sure)
+
+pub returns-clause-below : goal.returns-clause-below
+returns-clause-below g c =
+    let store : Open g.row.D.Denot g.row.D-Piece.Denot g.row.A.Denot = record { settings = c.self.inside.settings; directory = c.self.inside.directory; volumes = c.self.inside.volumes.items; arms = c.self.inside.seats.items } in
+    let within : c.args.volume < length c.self.inside.volumes.items = let same = ap (λ (st : Open g.row.D.Denot g.row.D-Piece.Denot g.row.A.Denot). (st.settings).volumes) c.self.view_is in omega (arith, c.requires.volume, c.self.invariant.many, same) in
+    let volume = c.index-as_slice-volume.result in
+    let at : At store.volumes c.args.volume volume = subst (λ (w : Volume g.row.D.Denot g.row.D-Piece.Denot). At store.volumes c.args.volume w) (sym c.index-as_slice-volume.is)
+    (subst (λ (vs : List (Volume g.row.D.Denot g.row.D-Piece.Denot)). At vs c.args.volume (slice_index_or c.as_slice.result.now c.args.volume volume)) c.as_slice.ensures.value
+    (at_read c.as_slice.result.now c.args.volume volume (let long = ap length c.as_slice.ensures.value in omega (arith, within, long)))) in
+    let arm : g.row.A.Denot = slice_index_or c.as_mut_slice.result.now c.args.lane c.index-as_mut_slice-lane.result in
+    let was = volume_of store c.args.volume volume c.self.invariant at in
+    let same = was.settings_are ∙ ap (λ (st : Open g.row.D.Denot g.row.D-Piece.Denot g.row.A.Denot). st.settings) c.self.view_is in
+    subst (λ n. IsShownBelow n c.show-read.result) (c.look-front.ensures.long ∙ ap (λ (s : Settings). s.replicas) same)
+    (shown_below g.D.Piece.Piece.Tells (record { sure = g.A.Arm.is_sure arm; before = g.A.Arm.fault_count arm; after = g.A.Arm.fault_count c.show-read.new.self }) c.args.start c.look-front.result.row c.args.cookie c.show-read.new.out.items c.show-read.result c.show-read.ensures.reads)

@@ -1,4 +1,4 @@
-use Rattle.std.proofs.Common.{◌≡◌, ◌<◌, ℕ, Option, Some, None, map, refl, sym, ap, subst, ◌∙◌}
+use Rattle.std.proofs.Common.{◌≡◌, ◌<◌, ℕ, Option, Some, None, map, refl, sym, ap, subst, ◌∙◌, inl, inr}
 use Rattle.hay_needle.specs.declared.settings.Settings.{Settings}
 use Rattle.hay_reply.specs.declared.Reply.TheVariants as reply
 use Rattle.hay_legal.specs.Known.{home_of, replica_on}
@@ -8,6 +8,8 @@ use Rattle.hay_cluster.proofs.Answering.{answered, stays}
 use Rattle.hay_cluster.proofs.Moves.{none_falls}
 use Rattle.hay_cluster.proofs.Showing.{get_command}
 use Rattle.hay_cluster.proofs.Sure.{same_sure}
+use Rattle.hay_cluster.specs.Suiting.{ShowsFrom, SuitsGet}
+use Rattle.hay_cluster.proofs.Suiting.{at_no_memory, at_none, at_replica}
 use Rattle.hay_cluster.proofs.cluster.Cluster.get.Goals as goal
 
 pub returns-in_default-clause-legal : goal.returns-in_default-clause-legal
@@ -78,3 +80,32 @@ returns-in_default-home-clause-sure_arms g c = same_sure g.A.Arm.is_sure g.A.Arm
 
 pub returns-then-volume-url-clause-sure_arms : goal.returns-then-volume-url-clause-sure_arms
 returns-then-volume-url-clause-sure_arms g c = same_sure g.A.Arm.is_sure g.A.Arm.fault_count (c.args.self.now).arms (c.args.self.now).arms refl
+
+pub returns-in_default-clause-suits : goal.returns-in_default-clause-suits
+returns-in_default-clause-suits g c =
+    let same = ap (λ (st : Open g.row.D.Denot g.row.D-Piece.Denot g.row.A.Denot). st.settings) c.self.view_is in
+    at_none (replica_on (c.args.self.now).settings (c.args.url.now).volume (c.args.url.now).machine) (SuitsGet (c.args.self.now).settings c.args.url.now)
+    (ap (λ (s : Settings). replica_on s (c.args.url.now).volume (c.args.url.now).machine) (sym same) ∙ sym c.replica_on.ensures.is ∙ c.in_default.is)
+
+pub returns-in_default-home-clause-suits : goal.returns-in_default-home-clause-suits
+returns-in_default-home-clause-suits g c =
+    let same = ap (λ (st : Open g.row.D.Denot g.row.D-Piece.Denot g.row.A.Denot). st.settings) c.self.view_is in
+    let there : replica_on (c.args.self.now).settings (c.args.url.now).volume (c.args.url.now).machine ≡ Some c.in-Some.start = ap (λ (s : Settings). replica_on s (c.args.url.now).volume (c.args.url.now).machine) (sym same) ∙ sym c.replica_on.ensures.is ∙ c.in-Some.is in
+    at_replica _ (SuitsGet (c.args.self.now).settings c.args.url.now) c.in-Some.start (reply.Unknown c.rows.result) there (inl (c.rows.result, refl))
+
+pub returns-then-volume-url-clause-suits : goal.returns-then-volume-url-clause-suits
+returns-then-volume-url-clause-suits g c =
+    let same = ap (λ (st : Open g.row.D.Denot g.row.D-Piece.Denot g.row.A.Denot). st.settings) c.self.view_is in
+    let there : replica_on (c.args.self.now).settings (c.args.url.now).volume (c.args.url.now).machine ≡ Some c.in-Some.start = ap (λ (s : Settings). replica_on s (c.args.url.now).volume (c.args.url.now).machine) (sym same) ∙ sym c.replica_on.ensures.is ∙ c.in-Some.is in
+    at_replica _ (SuitsGet (c.args.self.now).settings c.args.url.now) c.in-Some.start (reply.Moved c.in-Some-home.volume c.rows-then-volume-url.result) there
+    (inr (inl (c.in-Some-home.volume, c.rows-then-volume-url.result, (c.in-Some-home.ensures).within, c.if-volume-url.true, refl)))
+
+pub returns-clause-suits : goal.returns-clause-suits
+returns-clause-suits g c =
+    let same = ap (λ (st : Open g.row.D.Denot g.row.D-Piece.Denot g.row.A.Denot). st.settings) c.self.view_is in
+    let there : replica_on (c.args.self.now).settings (c.args.url.now).volume (c.args.url.now).machine ≡ Some c.in-Some.start = ap (λ (s : Settings). replica_on s (c.args.url.now).volume (c.args.url.now).machine) (sym same) ∙ sym c.replica_on.ensures.is ∙ c.in-Some.is in
+    elim c.show.ensures.here [
+      | inl shows ↦ at_replica _ (SuitsGet (c.args.self.now).settings c.args.url.now) c.in-Some.start c.show.result there
+          (inr (inr (subst (λ v. ShowsFrom (c.args.self.now).settings c.in-Some.start v c.show.result) c.if-volume-url.false shows)))
+      | inr none ↦ at_no_memory _ (SuitsGet (c.args.self.now).settings c.args.url.now) c.in-Some.start c.show.result there none
+    ]

@@ -1,14 +1,15 @@
-use Rattle.std.proofs.Common.{◌≡◌, ◌<◌, None, Some, sym, ap, subst, ◌∙◌}
+use Rattle.std.proofs.Common.{◌≡◌, ◌<◌, None, Some, sym, ap, subst, ◌∙◌, inl, inr}
 use Rattle.std.proofs.lemmas.Result.{IfErr-at_err, IfOk-at_ok}
 use Rattle.hay_needle.specs.declared.settings.Settings.{Settings}
 use Rattle.hay_reply.specs.declared.Reply.{Reply}
-use Rattle.hay_reply.specs.declared.Reply.TheVariants.{Nowhere}
 use Rattle.hay_legal.specs.Known.{replica_on}
 use Rattle.hay_cluster.specs.Maintenance.{command_of}
 use Rattle.hay_cluster.specs.State.{Answered}
 use Rattle.hay_cluster.specs.Store.{Open}
 use Rattle.hay_cluster.proofs.Maintaining.{maintained, not_maintained, nowhere}
-use Rattle.hay_cluster.proofs.Suiting.{fault_refuses, undone_suits}
+use Rattle.hay_cluster.proofs.Suiting.{done_suits, memory_suits, nowhere_suits, undone_suits, work_refuses, work_suits}
+use Rattle.hay_cluster.specs.Causes.{RefusesOn}
+use Rattle.hay_cluster.proofs.Changing.{replica_machine}
 use Rattle.hay_cluster.proofs.cluster.Cluster.maintain.Goals as goal
 
 pub returns-in_default-clause-legal : goal.returns-in_default-clause-legal
@@ -25,7 +26,7 @@ returns-in-Ok-clause-legal g c = λ tells k tag stands.
     ap (λ (s : Settings). replica_on s c.args.volume c.args.machine) (sym same) ∙ sym c.replica_on.ensures.is ∙ c.in-Some.is in
     let within : c.args.volume < (c.args.self.now).settings.volumes = subst (λ (s : Settings). c.args.volume < s.volumes) same (c.in-Some.ensures).within.1 in
     let moved = c.maintain_in.ensures.moves tells k stands in
-    subst (λ (r : Reply). Answered g.D.Disk.files g.D.Piece.Piece.Tells g.D.Disk.fault_count g.D.Disk.fuse_count g.A.Arm.fault_count k tag (command_of c.args.work c.args.volume c.args.machine) r c.maintain_in.new.self) (sym c.done.ensures)
+    subst (λ (r : Reply). Answered g.D.Disk.files g.D.Piece.Piece.Tells g.D.Disk.fault_count g.D.Disk.fuse_count g.A.Arm.fault_count k tag (command_of c.args.work c.args.volume c.args.machine) r c.maintain_in.new.self) (sym c.done.ensures.is)
     (maintained g.D.Disk.files g.D.Piece.Piece.Tells g.D.Disk.fault_count g.D.Disk.fuse_count g.A.Arm.fault_count c.args.self.now c.maintain_in.new.self k c.args.volume c.args.machine c.in-Some.replica moved.before moved.after
     (record { same = c.maintain_in.ensures.settings; within = within; there = there; stands = stands; was = moved.was; stood = moved.stood; comes = moved.comes })
     tag c.args.work c.in-Ok.number (IfOk-at_ok _ c.in-Ok.is moved.does.0))
@@ -39,10 +40,32 @@ returns-in-Err-clause-legal g c = λ tells k tag stands.
     let moved = c.maintain_in.ensures.moves tells k stands in
     not_maintained g.D.Disk.files g.D.Piece.Piece.Tells g.D.Disk.fault_count g.D.Disk.fuse_count g.A.Arm.fault_count c.args.self.now c.maintain_in.new.self k c.args.volume c.args.machine c.in-Some.replica moved.before moved.after
     (record { same = c.maintain_in.ensures.settings; within = within; there = there; stands = stands; was = moved.was; stood = moved.stood; comes = moved.comes })
-    tag c.args.work c.in-Err.fault c.refused.result (IfErr-at_err _ c.in-Err.is c.maintain_in.ensures.causes) (IfErr-at_err _ c.in-Err.is moved.does.1) c.refused.ensures
+    tag c.args.work c.in-Err.fault c.refused.result (IfErr-at_err _ c.in-Err.is c.maintain_in.ensures.causes) (IfErr-at_err _ c.in-Err.is moved.does.1) c.refused.ensures.is
+
+pub refused-requires : goal.refused-requires
+refused-requires g c = work_refuses c.args.work _ c.in-Err.fault (IfErr-at_err _ c.in-Err.is c.maintain_in.ensures.causes).0
 
 pub returns-in_default-clause-suits : goal.returns-in_default-clause-suits
-returns-in_default-clause-suits g c = undone_suits c.args.volume c.args.machine c.args.work Nowhere tt
+returns-in_default-clause-suits g c = λ line.
+    let same = ap (λ (st : Open g.row.D.Denot g.row.D-Piece.Denot g.row.A.Denot). st.settings) c.self.view_is in
+    nowhere_suits c.args.volume c.args.machine (c.args.self.now).settings line c.args.work
+    (ap (λ (s : Settings). replica_on s c.args.volume c.args.machine) (sym same) ∙ sym c.replica_on.ensures.is ∙ c.in_default.is)
+
+pub returns-in-Ok-clause-suits : goal.returns-in-Ok-clause-suits
+returns-in-Ok-clause-suits g c = λ line.
+    let same = ap (λ (st : Open g.row.D.Denot g.row.D-Piece.Denot g.row.A.Denot). st.settings) c.self.view_is in
+    let there : replica_on (c.args.self.now).settings c.args.volume c.args.machine ≡ Some c.in-Some.replica =
+    ap (λ (s : Settings). replica_on s c.args.volume c.args.machine) (sym same) ∙ sym c.replica_on.ensures.is ∙ c.in-Some.is in
+    work_suits c.args.volume c.args.machine (c.args.self.now).settings line c.in-Some.replica c.args.work c.done.result there (done_suits c.args.volume c.args.machine c.args.work c.in-Ok.number c.done.result c.done.ensures.is)
 
 pub returns-in-Err-clause-suits : goal.returns-in-Err-clause-suits
-returns-in-Err-clause-suits g c = undone_suits c.args.volume c.args.machine c.args.work c.refused.result (fault_refuses c.args.volume c.args.machine c.in-Err.fault c.refused.result c.refused.ensures)
+returns-in-Err-clause-suits g c = λ line.
+    let same = ap (λ (st : Open g.row.D.Denot g.row.D-Piece.Denot g.row.A.Denot). st.settings) c.self.view_is in
+    let there : replica_on (c.args.self.now).settings c.args.volume c.args.machine ≡ Some c.in-Some.replica =
+    ap (λ (s : Settings). replica_on s c.args.volume c.args.machine) (sym same) ∙ sym c.replica_on.ensures.is ∙ c.in-Some.is in
+    let cause = IfErr-at_err _ c.in-Err.is c.maintain_in.ensures.causes in
+    let refuses = subst (λ m. RefusesOn c.args.work m c.in-Err.fault) (replica_machine (c.args.self.now).settings c.args.volume c.args.machine c.in-Some.replica there) cause.0 in
+    elim (undone_suits c.args.volume c.args.machine c.args.work c.in-Err.fault c.refused.result refuses c.refused.ensures.is) [
+      | inl suits ↦ work_suits c.args.volume c.args.machine (c.args.self.now).settings line c.in-Some.replica c.args.work c.refused.result there suits
+      | inr none ↦ memory_suits c.args.volume c.args.machine (c.args.self.now).settings line c.in-Some.replica c.args.work c.refused.result there none
+    ]

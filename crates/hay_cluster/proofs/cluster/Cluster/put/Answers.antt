@@ -1,8 +1,9 @@
-use Rattle.std.proofs.Common.{map, sym, ◌∙◌, refl, inl}
+use Rattle.std.proofs.Common.{map, sym, ◌∙◌, refl, inl, ◌∷◌, [], ap, inr, Ok}
 use Rattle.hay_cluster.specs.Store.{disks_of}
 use Rattle.hay_cluster.proofs.Answering.{answered, stays}
 use Rattle.hay_cluster.proofs.Moves.{none_falls}
 use Rattle.hay_cluster.proofs.Puts.{home_refused}
+use Rattle.hay_cluster.proofs.Suiting.{one_refuses, refusal_suits}
 use Rattle.hay_cluster.proofs.cluster.Cluster.put.Goals as goal
 
 pub returns-in-Err-clause-legal : goal.returns-in-Err-clause-legal
@@ -16,7 +17,19 @@ returns-in-Some-refusal-clause-legal g c = λ tells k stands.
     let home = sym (c.home.ensures.known tells k stands) ∙ c.in-Some.is in
     answered g.D.Disk.files g.D.Piece.Piece.Tells g.D.Disk.fault_count g.D.Disk.fuse_count g.A.Arm.fault_count c.args.self.now (c.args.self.now).settings k k c.args.tag _ c.refuse_one.result refl
     (home_refused (c.args.self.now).settings k k c.args.tag c.args.pair c.args.bytes.now c.in-Some.volume c.in-Some-refusal.refused c.refuse_one.result home
-    (sym (c.refusal.ensures.known tells k stands) ∙ c.in-Some-refusal.is) c.refuse_one.ensures (stays k)) stands
+    (sym (c.refusal.ensures.known tells k stands) ∙ c.in-Some-refusal.is) c.refuse_one.ensures.is (stays k)) stands
 
 pub returns-in-Some-refusal-clause-counts : goal.returns-in-Some-refusal-clause-counts
 returns-in-Some-refusal-clause-counts g c = none_falls (map g.D.Disk.fault_count (disks_of c.args.self.now))
+
+pub put_tried-requires-clause-refused : goal.put_tried-requires-clause-refused
+put_tried-requires-clause-refused g c = λ κs lives refused is. c.find_taker.ensures.refused refused (c.in-Ok.is ∙ ap Ok is)
+
+pub returns-in-Err-clause-suits : goal.returns-in-Err-clause-suits
+returns-in-Err-clause-suits g c = inr (inr (inr (inr (inr (inr refl)))))
+
+pub returns-in-Some-refusal-clause-suits : goal.returns-in-Some-refusal-clause-suits
+returns-in-Some-refusal-clause-suits g c =
+    let settings = (c.args.self.now).settings in
+    refusal_suits settings c.args.pair (c.in-Some-refusal.refused ∷ []) c.refuse_one.result
+    (one_refuses settings c.args.pair c.in-Some.volume c.in-Some-refusal.refused (c.in-Some.ensures).within (c.in-Some-refusal.ensures).refuses) c.refuse_one.ensures.is

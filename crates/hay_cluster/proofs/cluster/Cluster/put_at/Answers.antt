@@ -1,10 +1,12 @@
-use Rattle.std.proofs.Common.{map, ap, ◌∙◌}
+use Rattle.std.proofs.Common.{map, ap, ◌∙◌, inl}
 use Rattle.std.proofs.lemmas.Result.{IfErr-at_err, IfOk-at_ok}
 use Rattle.hay_url.specs.Url.{cookie_of}
 use Rattle.hay_cluster.specs.Store.{Open, disks_of}
 use Rattle.hay_legal.specs.Known.{volume_at}
 use Rattle.hay_legal.specs.Plain.{with_put}
 use Rattle.hay_cluster.proofs.Puts.{put_caused, put_done, put_refused}
+use Rattle.hay_reply.specs.declared.Reply.TheVariants.{Stored}
+use Rattle.hay_cluster.proofs.Suiting.{put_refusal_suits}
 use Rattle.hay_cluster.proofs.cluster.Cluster.put_at.Goals as goal
 
 pub returns-in-Err-clause-stored : goal.returns-in-Err-clause-stored
@@ -12,10 +14,10 @@ returns-in-Err-clause-stored g c = λ tells k stands takes.
     let moved = c.put_in.ensures.moves tells k stands in
     let own = c.cookie_of-cookie.ensures ∙ ap (λ (st : Open g.row.D.Denot g.row.D-Piece.Denot g.row.A.Denot). cookie_of (st.settings).secret c.args.pair.key) c.self.view_is in
     put_refused g.D.Disk.files g.D.Piece.Piece.Tells g.D.Disk.fault_count g.D.Disk.fuse_count g.A.Arm.fault_count c.args.self.now c.put_in.new.self k c.args.tag c.args.pair c.args.bytes.now c.args.volume c.cookie_of-cookie.result c.in-Err.fault c.put_refusal.result moved.before moved.after
-    own c.requires.volume stands takes moved.was (IfErr-at_err _ c.in-Err.is c.put_in.ensures.causes) (IfErr-at_err _ c.in-Err.is moved.does.1) moved.comes c.put_refusal.ensures
+    own c.requires.volume stands takes moved.was (IfErr-at_err _ c.in-Err.is c.put_in.ensures.causes) (IfErr-at_err _ c.in-Err.is moved.does.1) moved.comes c.put_refusal.ensures.is
 
 pub returns-in-Err-clause-causes : goal.returns-in-Err-clause-causes
-returns-in-Err-clause-causes g c = λ lane. put_caused (c.args.self.now).settings lane c.args.volume (record { disks = map g.D.Disk.fault_count (disks_of c.args.self.now); arms = map g.A.Arm.fault_count (c.args.self.now).arms }) (record { disks = map g.D.Disk.fault_count (disks_of c.put_in.new.self); arms = map g.A.Arm.fault_count (c.put_in.new.self).arms }) c.in-Err.fault c.put_refusal.result (IfErr-at_err _ c.in-Err.is c.put_in.ensures.causes) c.put_refusal.ensures
+returns-in-Err-clause-causes g c = λ lane. put_caused (c.args.self.now).settings lane c.args.volume (record { disks = map g.D.Disk.fault_count (disks_of c.args.self.now); arms = map g.A.Arm.fault_count (c.args.self.now).arms }) (record { disks = map g.D.Disk.fault_count (disks_of c.put_in.new.self); arms = map g.A.Arm.fault_count (c.put_in.new.self).arms }) c.in-Err.fault c.put_refusal.result (IfErr-at_err _ c.in-Err.is c.put_in.ensures.causes) c.put_refusal.ensures.is
 
 pub returns-in-Ok-clause-stored : goal.returns-in-Ok-clause-stored
 returns-in-Ok-clause-stored g c = λ tells k stands takes.
@@ -25,3 +27,12 @@ returns-in-Ok-clause-stored g c = λ tells k stands takes.
     let own = c.cookie_of-cookie.ensures ∙ ap (λ (st : Open g.row.D.Denot g.row.D-Piece.Denot g.row.A.Denot). cookie_of (st.settings).secret c.args.pair.key) c.self.view_is in
     put_done g.D.Disk.files g.D.Piece.Piece.Tells g.D.Disk.fault_count g.D.Disk.fuse_count g.A.Arm.fault_count c.put_in.new.self (c.args.self.now).settings k c.args.tag c.args.pair c.args.bytes.now c.args.volume c.in-Ok.position c.rows.result c.cookie_of-cookie.result moved.after own done came
     (c.rows.ensures.known tells came.known came.stands)
+
+pub returns-in-Ok-clause-suits : goal.returns-in-Ok-clause-suits
+returns-in-Ok-clause-suits g c =
+    let own = c.cookie_of-cookie.ensures ∙ ap (λ (st : Open g.row.D.Denot g.row.D-Piece.Denot g.row.A.Denot). cookie_of (st.settings).secret c.args.pair.key) c.self.view_is in
+    inl (c.args.volume, c.in-Ok.position, c.rows.result, c.requires.volume, ap (λ cookie. Stored c.args.volume c.in-Ok.position c.rows.result cookie) own)
+
+pub returns-in-Err-clause-suits : goal.returns-in-Err-clause-suits
+returns-in-Err-clause-suits g c =
+    put_refusal_suits (c.args.self.now).settings c.args.pair c.args.volume _ _ c.in-Err.fault c.put_refusal.result c.requires.volume (IfErr-at_err _ c.in-Err.is c.put_in.ensures.causes) c.put_refusal.ensures.is

@@ -11,6 +11,8 @@ use Rattle.hay_cluster.specs.Store.{disks_of}
 use Rattle.hay_cluster.proofs.Answering.{answered, cause_earlier, not_settled, refusal_same, taker_takes}
 use Rattle.hay_cluster.proofs.Moves.{falls_trans}
 use Rattle.hay_cluster.proofs.Puts.{put_legal}
+use Rattle.hay_cluster.specs.Suiting.{SuitsPut}
+use Rattle.hay_cluster.proofs.Suiting.{settle_suits}
 use Rattle.hay_cluster.proofs.cluster.Cluster.put_new.Goals as goal
 
 ok_not_err : {T E : Type 0} (x : T) (y : E) → Ok x ≡ Err y → ⊥
@@ -42,6 +44,12 @@ returns-in-Ok-clause-counts g c =
 
 pub returns-in-Err-clause-legal : goal.returns-in-Err-clause-legal
 returns-in-Err-clause-legal g c = λ tells k stands home taker.
-    subst (λ (r : Reply). Answered g.D.Disk.files g.D.Piece.Piece.Tells g.D.Disk.fault_count g.D.Disk.fuse_count g.A.Arm.fault_count k c.args.tag (command.Put c.args.pair c.args.bytes.now) r c.settle.new.self) (sym c.settle_refusal.ensures)
+    subst (λ (r : Reply). Answered g.D.Disk.files g.D.Piece.Piece.Tells g.D.Disk.fault_count g.D.Disk.fuse_count g.A.Arm.fault_count k c.args.tag (command.Put c.args.pair c.args.bytes.now) r c.settle.new.self) (sym c.settle_refusal.ensures.is)
     (not_settled g.D.Disk.files g.D.Piece.Piece.Tells g.D.Disk.fault_count g.D.Disk.fuse_count g.A.Arm.fault_count c.args.self.now c.settle.new.self (c.args.self.now).settings k c.args.tag c.args.pair c.args.bytes.now c.args.volume c.in-Err.fault c.settle.result c.in-Err.is refl c.settle.ensures.settings stands home taker
     (c.settle.ensures.no_memory tells k stands) (λ f. c.settle.ensures.pending tells k f stands) (c.settle.ensures.thawed tells k stands) (c.settle.ensures.frozen tells k stands) c.settle.ensures.causes)
+
+pub returns-in-Ok-clause-suits : goal.returns-in-Ok-clause-suits
+returns-in-Ok-clause-suits g c = subst (λ (s : Settings). SuitsPut s c.args.pair c.put_at.result) c.settle.ensures.settings c.put_at.ensures.suits
+
+pub returns-in-Err-clause-suits : goal.returns-in-Err-clause-suits
+returns-in-Err-clause-suits g c = subst (λ (r : Reply). SuitsPut (c.args.self.now).settings c.args.pair r) (sym c.settle_refusal.ensures.is) (settle_suits (c.args.self.now).settings c.args.pair c.in-Err.fault)

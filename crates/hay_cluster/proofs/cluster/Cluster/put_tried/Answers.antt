@@ -7,6 +7,7 @@ use Rattle.hay_cluster.proofs.Answering.{answered, stays}
 use Rattle.hay_cluster.specs.Store.{disks_of}
 use Rattle.hay_cluster.proofs.Moves.{none_falls}
 use Rattle.hay_cluster.proofs.Puts.{all_refused}
+use Rattle.hay_cluster.proofs.Suiting.{all_refuse, refusal_suits}
 use Rattle.hay_cluster.proofs.cluster.Cluster.put_tried.Goals as goal
 
 pub returns-in-Taker-clause-legal : goal.returns-in-Taker-clause-legal
@@ -21,7 +22,12 @@ returns-in-Nobody-clause-legal g c = λ tells k stands home tried.
     let all = subst (λ (t : Tried). IsTried (c.args.self.now).settings k c.args.pair size t) c.in-Nobody.is tried in
     answered g.D.Disk.files g.D.Piece.Piece.Tells g.D.Disk.fault_count g.D.Disk.fuse_count g.A.Arm.fault_count c.args.self.now (c.args.self.now).settings k k c.args.tag _ c.refuse.result refl
     (all_refused (c.args.self.now).settings k k c.args.tag c.args.pair c.args.bytes.now c.in-Nobody.refused c.refuse.result
-    (ap (λ o. map (refusal_of (c.args.self.now).settings k size) (tries_by (c.args.self.now).settings c.args.pair o)) home ∙ all) c.refuse.ensures (stays k)) stands
+    (ap (λ o. map (refusal_of (c.args.self.now).settings k size) (tries_by (c.args.self.now).settings c.args.pair o)) home ∙ all) c.refuse.ensures.is (stays k)) stands
 
 pub returns-in-Nobody-clause-counts : goal.returns-in-Nobody-clause-counts
 returns-in-Nobody-clause-counts g c = none_falls (map g.D.Disk.fault_count (disks_of c.args.self.now))
+
+pub returns-in-Nobody-clause-suits : goal.returns-in-Nobody-clause-suits
+returns-in-Nobody-clause-suits g c =
+    let settings = (c.args.self.now).settings in
+    refusal_suits settings c.args.pair c.in-Nobody.refused c.refuse.result (all_refuse settings c.args.pair c.in-Nobody.refused (c.requires.refused c.in-Nobody.refused c.in-Nobody.is)) c.refuse.ensures.is

@@ -1,8 +1,9 @@
-use Rattle.std.proofs.Common.{◌≡◌, Some, refl, sym, subst, ◌∙◌}
+use Rattle.std.proofs.Common.{◌≡◌, Some, refl, sym, subst, ◌∙◌, inl, inr}
 use Rattle.hay_legal.specs.Known.{home_of}
 use Rattle.hay_legal.specs.Plain.{LegalShow}
 use Rattle.hay_cluster.proofs.Answering.{answered}
 use Rattle.hay_cluster.proofs.Sure.{same_sure}
+use Rattle.hay_cluster.specs.Suiting.{ShowsFrom}
 use Rattle.hay_cluster.proofs.cluster.Cluster.read.Goals as goal
 
 pub returns-clause-legal : goal.returns-clause-legal
@@ -14,3 +15,13 @@ returns-clause-legal g c = λ tells k stands.
 
 pub returns-in_default-clause-sure_arms : goal.returns-in_default-clause-sure_arms
 returns-in_default-clause-sure_arms g c = same_sure g.A.Arm.is_sure g.A.Arm.fault_count (c.args.self.now).arms (c.args.self.now).arms refl
+
+pub returns-in_default-clause-suits : goal.returns-in_default-clause-suits
+returns-in_default-clause-suits g c = inl (c.rows.result, refl)
+
+pub returns-clause-suits : goal.returns-clause-suits
+returns-clause-suits g c =
+    elim c.show.ensures.here [
+      | inl shows ↦ inr (inl (c.in-Some.volume, (c.in-Some.ensures).within, subst (λ start. ShowsFrom (c.args.self.now).settings start c.in-Some.volume c.show.result) c.start_of-start.ensures.is shows))
+      | inr none ↦ inr (inr none)
+    ]

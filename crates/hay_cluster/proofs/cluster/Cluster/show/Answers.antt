@@ -1,4 +1,4 @@
-use Rattle.std.proofs.Common.{◌≡◌, ℕ, List, length, map, refl, sym, ap, subst, inl, ◌∙◌, arith}
+use Rattle.std.proofs.Common.{◌≡◌, ℕ, List, length, map, refl, sym, ap, subst, inl, ◌∙◌, arith, inr}
 use Rattle.std.specs.Prelude.{slice_index}
 use Rattle.hay_needle.specs.declared.needle.Outcome.TheVariants as outcome
 use Rattle.hay_needle.specs.declared.settings.Settings.{Settings}
@@ -9,12 +9,13 @@ use Rattle.hay_reader.specs.declared.causes.PassedReplica.{PassedReplica}
 use Rattle.hay_reader.specs.declared.seat.ReadReply.{ReadReply}
 use Rattle.hay_reader.specs.declared.seat.ReadReply.TheVariants as read
 use Rattle.hay_cluster.specs.Causes.{Counts, PassedOver}
-use Rattle.hay_cluster.specs.Reads.{PassesNoArm, outcomes_of, passed_at}
+use Rattle.hay_cluster.specs.Reads.{PassesNoArm, outcomes_of, passed_at, IsShownBelow}
 use Rattle.hay_cluster.specs.Store.{IsBuilt, Open, disks_of}
 use Rattle.hay_cluster.proofs.Answering.{same_falls, stays}
 use Rattle.hay_cluster.proofs.Moves.{none_falls}
-use Rattle.hay_cluster.proofs.Showing.{passed_over, read_shown, read_unreadable}
+use Rattle.hay_cluster.proofs.Showing.{passed_over, read_shown, read_unreadable, passed_in_order}
 use Rattle.hay_cluster.proofs.Sure.{same_sure, unreadable_told}
+use Rattle.hay_cluster.proofs.Suiting.{on_machine}
 use Rattle.hay_cluster.proofs.cluster.Cluster.show.Goals as goal
 
 pub returns-in_default-clause-shown : goal.returns-in_default-clause-shown
@@ -37,8 +38,8 @@ returns-in-Photo-clause-shown g c = λ tells k stands home.
     let same : c.self.inside.settings ≡ (c.args.self.now).settings = ap (λ (st : Open g.row.D.Denot g.row.D-Piece.Denot g.row.A.Denot). st.settings) c.self.view_is ∙ c.fetch-front.ensures.settings in
     let read = c.fetch-front.ensures.read tells k stands in
     let shows = subst (λ (r : ReadReply). ReadAnswers c.args.start c.args.cookie (slice_index (map g.A.Arm.fault_count (c.args.self.now).arms) c.args.tag.lane) (slice_index (map g.A.Arm.fault_count (c.fetch-front.new.self).arms) c.args.tag.lane) (outcomes_of (c.args.self.now).settings (volume_at k c.args.volume) c.args.pair) c.fetch-front.new.photo.items r) c.in-Photo.is read.1 in
-    let here = subst (λ (bytes : List ℕ). Shows c.args.start (slice_index (map g.A.Arm.fault_count (c.args.self.now).arms) c.args.tag.lane) (slice_index (map g.A.Arm.fault_count (c.fetch-front.new.self).arms) c.args.tag.lane) (outcomes_of (c.args.self.now).settings (volume_at k c.args.volume) c.args.pair) c.in-Photo.replica (outcome.Photo (record { cookie = c.args.cookie; bytes = bytes }))) (sym c.from_vec.ensures) shows in
-    let legal = read_shown g.D.Disk.files g.D.Piece.Piece.Tells g.D.Disk.fault_count g.D.Disk.fuse_count g.A.Arm.fault_count c.args.self.now c.fetch-front.new.self (c.args.self.now).settings k c.args.tag c.args.start c.args.pair c.args.volume c.in-Photo.replica c.machine_of.result c.fetch-front.result.0 c.rows-rows.result (outcome.Photo (record { cookie = c.args.cookie; bytes = c.from_vec.result }))
+    let here = subst (λ (bytes : List ℕ). Shows c.args.start (slice_index (map g.A.Arm.fault_count (c.args.self.now).arms) c.args.tag.lane) (slice_index (map g.A.Arm.fault_count (c.fetch-front.new.self).arms) c.args.tag.lane) (outcomes_of (c.args.self.now).settings (volume_at k c.args.volume) c.args.pair) c.in-Photo.replica (outcome.Photo (record { cookie = c.args.cookie; bytes = bytes }))) (sym c.bytes_of.ensures.is) shows in
+    let legal = read_shown g.D.Disk.files g.D.Piece.Piece.Tells g.D.Disk.fault_count g.D.Disk.fuse_count g.A.Arm.fault_count c.args.self.now c.fetch-front.new.self (c.args.self.now).settings k c.args.tag c.args.start c.args.pair c.args.volume c.in-Photo.replica c.machine_of.result c.fetch-front.result.0 c.rows-rows.result (outcome.Photo (record { cookie = c.args.cookie; bytes = c.bytes_of.result }))
     (subst (λ (s : Settings). IsBuilt s) same c.self.invariant.built) c.requires.volume home read.0 (c.rows-rows.ensures.known tells k stands)
     (c.machine_of.ensures.is ∙ ap (λ (s : Settings). machine_of s c.args.volume c.in-Photo.replica) same) stands read.2 here in
     record { known = (read.2).known; legal = legal; stands = (read.2).stands }
@@ -71,7 +72,7 @@ returns-in-Ok-passed_of-clause-shown g c = λ tells k stands home.
     let causes = c.fetch-front.ensures.causes in
     let passes = subst (λ (r : ReadReply). HasCauses c.args.start causes.0 (slice_index (map g.A.Arm.fault_count (c.args.self.now).arms) c.args.tag.lane) (slice_index (map g.A.Arm.fault_count (c.fetch-front.new.self).arms) c.args.tag.lane) r) c.in-Unreadable.is causes.2 in
     let is : c.in-Ok-passed_of.causes ≡ map (passed_at (c.args.self.now).settings c.args.volume) c.in-Unreadable.causes =
-    c.in-Ok-passed_of.ensures ∙ ap (λ (over : List PassedReplica). map (passed_at c.self.inside.settings c.args.volume) over) c.as_slice.ensures.is
+    c.in-Ok-passed_of.ensures.is ∙ ap (λ (over : List PassedReplica). map (passed_at c.self.inside.settings c.args.volume) over) c.as_slice.ensures.is
     ∙ ap (λ (s : Settings). map (passed_at s c.args.volume) c.in-Unreadable.causes) same in
     record {
       known = (read.2).known;
@@ -86,12 +87,12 @@ returns-in-Ok-passed_of-clause-causes g c =
     let causes = c.fetch-front.ensures.causes in
     let passes = subst (λ (r : ReadReply). HasCauses c.args.start causes.0 (slice_index (map g.A.Arm.fault_count (c.args.self.now).arms) c.args.tag.lane) (slice_index (map g.A.Arm.fault_count (c.fetch-front.new.self).arms) c.args.tag.lane) r) c.in-Unreadable.is causes.2 in
     let is : c.in-Ok-passed_of.causes ≡ map (passed_at (c.args.self.now).settings c.args.volume) c.in-Unreadable.causes =
-    c.in-Ok-passed_of.ensures ∙ ap (λ (over : List PassedReplica). map (passed_at c.self.inside.settings c.args.volume) over) c.as_slice.ensures.is
+    c.in-Ok-passed_of.ensures.is ∙ ap (λ (over : List PassedReplica). map (passed_at c.self.inside.settings c.args.volume) over) c.as_slice.ensures.is
     ∙ ap (λ (s : Settings). map (passed_at s c.args.volume) c.in-Unreadable.causes) same in
     let before : Counts = record { disks = map g.D.Disk.fault_count (disks_of c.args.self.now); arms = map g.A.Arm.fault_count (c.args.self.now).arms } in
     let after : Counts = record { disks = map g.D.Disk.fault_count (disks_of c.fetch-front.new.self); arms = map g.A.Arm.fault_count (c.fetch-front.new.self).arms } in
     subst (λ (all : List Passed). PassedOver (c.args.self.now).settings c.args.tag.lane c.args.volume before after all) (sym is)
-    (passed_over (c.args.self.now).settings c.args.tag.lane c.args.volume c.args.start (length causes.0) before after c.in-Unreadable.causes causes.1 passes.0 passes.1)
+    (passed_over (c.args.self.now).settings c.args.tag.lane c.args.volume c.args.start (length causes.0) before after c.in-Unreadable.causes passes.0)
 
 pub passed_of-requires : goal.passed_of-requires
 passed_of-requires g c = c.self.invariant.built
@@ -129,10 +130,51 @@ pub returns-in-Ok-passed_of-clause-sure : goal.returns-in-Ok-passed_of-clause-su
 returns-in-Ok-passed_of-clause-sure g c = λ arm at sure.
     let same : c.self.inside.settings ≡ (c.args.self.now).settings = ap (λ (st : Open g.row.D.Denot g.row.D-Piece.Denot g.row.A.Denot). st.settings) c.self.view_is ∙ c.fetch-front.ensures.settings in
     let is : c.in-Ok-passed_of.causes ≡ map (passed_at (c.args.self.now).settings c.args.volume) c.in-Unreadable.causes =
-    c.in-Ok-passed_of.ensures ∙ ap (λ (over : List PassedReplica). map (passed_at c.self.inside.settings c.args.volume) over) c.as_slice.ensures.is
+    c.in-Ok-passed_of.ensures.is ∙ ap (λ (over : List PassedReplica). map (passed_at c.self.inside.settings c.args.volume) over) c.as_slice.ensures.is
     ∙ ap (λ (s : Settings). map (passed_at s c.args.volume) c.in-Unreadable.causes) same in
     let none : PassesNoArm (read.Unreadable c.in-Unreadable.causes) = subst (λ (r : ReadReply). PassesNoArm r) c.in-Unreadable.is (c.fetch-front.ensures.sure arm at sure) in
     unreadable_told (c.args.self.now).settings c.args.volume c.fetch-front.result.0 c.rows-rows.result c.in-Ok-passed_of.causes c.in-Unreadable.causes is none
 
 pub returns-in_default-clause-sure_arms : goal.returns-in_default-clause-sure_arms
 returns-in_default-clause-sure_arms g c = same_sure g.A.Arm.is_sure g.A.Arm.fault_count (c.args.self.now).arms (c.args.self.now).arms refl
+
+pub returns-in_default-clause-here : goal.returns-in_default-clause-here
+returns-in_default-clause-here g c = inr refl
+
+pub returns-in-Photo-clause-here : goal.returns-in-Photo-clause-here
+returns-in-Photo-clause-here g c =
+    let same : c.self.inside.settings ≡ (c.args.self.now).settings = ap (λ (st : Open g.row.D.Denot g.row.D-Piece.Denot g.row.A.Denot). st.settings) c.self.view_is ∙ c.fetch-front.ensures.settings in
+    let below = subst (λ (r : ReadReply). IsShownBelow (c.args.self.now).settings.replicas r) c.in-Photo.is c.fetch-front.ensures.below in
+    let on = on_machine (c.args.self.now).settings c.args.volume c.in-Photo.replica c.machine_of.result (subst (λ (s : Settings). IsBuilt s) same c.self.invariant.built) c.requires.volume below
+    (c.machine_of.ensures.is ∙ ap (λ (s : Settings). machine_of s c.args.volume c.in-Photo.replica) same) in
+    inl (inl (c.machine_of.result, c.fetch-front.result.0, c.rows-rows.result, c.bytes_of.result, on, refl))
+
+pub returns-in-Gone-clause-here : goal.returns-in-Gone-clause-here
+returns-in-Gone-clause-here g c =
+    let same : c.self.inside.settings ≡ (c.args.self.now).settings = ap (λ (st : Open g.row.D.Denot g.row.D-Piece.Denot g.row.A.Denot). st.settings) c.self.view_is ∙ c.fetch-front.ensures.settings in
+    let below = subst (λ (r : ReadReply). IsShownBelow (c.args.self.now).settings.replicas r) c.in-Gone.is c.fetch-front.ensures.below in
+    let on = on_machine (c.args.self.now).settings c.args.volume c.in-Gone.replica c.machine_of-in-Gone.result (subst (λ (s : Settings). IsBuilt s) same c.self.invariant.built) c.requires.volume below
+    (c.machine_of-in-Gone.ensures.is ∙ ap (λ (s : Settings). machine_of s c.args.volume c.in-Gone.replica) same) in
+    inl (inr (inl (c.machine_of-in-Gone.result, c.fetch-front.result.0, c.rows-rows.result, on, refl)))
+
+pub returns-in-WrongCookie-clause-here : goal.returns-in-WrongCookie-clause-here
+returns-in-WrongCookie-clause-here g c =
+    let same : c.self.inside.settings ≡ (c.args.self.now).settings = ap (λ (st : Open g.row.D.Denot g.row.D-Piece.Denot g.row.A.Denot). st.settings) c.self.view_is ∙ c.fetch-front.ensures.settings in
+    let below = subst (λ (r : ReadReply). IsShownBelow (c.args.self.now).settings.replicas r) c.in-WrongCookie.is c.fetch-front.ensures.below in
+    let on = on_machine (c.args.self.now).settings c.args.volume c.in-WrongCookie.replica c.machine_of-in-WrongCookie.result (subst (λ (s : Settings). IsBuilt s) same c.self.invariant.built) c.requires.volume below
+    (c.machine_of-in-WrongCookie.ensures.is ∙ ap (λ (s : Settings). machine_of s c.args.volume c.in-WrongCookie.replica) same) in
+    inl (inr (inr (inl (c.machine_of-in-WrongCookie.result, c.fetch-front.result.0, c.rows-rows.result, on, refl))))
+
+pub returns-in-Ok-passed_of-clause-here : goal.returns-in-Ok-passed_of-clause-here
+returns-in-Ok-passed_of-clause-here g c =
+    let same : c.self.inside.settings ≡ (c.args.self.now).settings = ap (λ (st : Open g.row.D.Denot g.row.D-Piece.Denot g.row.A.Denot). st.settings) c.self.view_is ∙ c.fetch-front.ensures.settings in
+    let causes = c.fetch-front.ensures.causes in
+    let passes = subst (λ (r : ReadReply). HasCauses c.args.start causes.0 (slice_index (map g.A.Arm.fault_count (c.args.self.now).arms) c.args.tag.lane) (slice_index (map g.A.Arm.fault_count (c.fetch-front.new.self).arms) c.args.tag.lane) r) c.in-Unreadable.is causes.2 in
+    let is : c.in-Ok-passed_of.causes ≡ map (passed_at (c.args.self.now).settings c.args.volume) c.in-Unreadable.causes =
+    c.in-Ok-passed_of.ensures.is ∙ ap (λ (over : List PassedReplica). map (passed_at c.self.inside.settings c.args.volume) over) c.as_slice.ensures.is
+    ∙ ap (λ (s : Settings). map (passed_at s c.args.volume) c.in-Unreadable.causes) same in
+    let order = passed_in_order (c.args.self.now).settings c.args.volume c.args.start (length causes.0) _ _ c.in-Unreadable.causes causes.1 passes.0 passes.1 in
+    inl (inr (inr (inr (c.fetch-front.result.0, c.rows-rows.result, c.in-Ok-passed_of.causes, ap (λ (all : List Passed). map (λ passed. passed.machine) all) is ∙ order, refl))))
+
+pub returns-clause-here : goal.returns-clause-here
+returns-clause-here g c = inr refl

@@ -1,10 +1,11 @@
-use Rattle.std.proofs.Common.{◌≡◌, Some, refl, sym, ap, ◌∙◌}
+use Rattle.std.proofs.Common.{◌≡◌, Some, refl, sym, ap, ◌∙◌, inl, inr}
 use Rattle.hay_needle.specs.declared.settings.Settings.{Settings}
 use Rattle.hay_url.specs.Url.{cookie_of}
 use Rattle.hay_reply.specs.declared.Reply.TheVariants as reply
 use Rattle.hay_legal.specs.Known.{home_of, machine_of}
 use Rattle.hay_cluster.specs.Store.{Open}
 use Rattle.hay_cluster.proofs.Answering.{answered, stays}
+use Rattle.hay_needle.specs.declared.needle.Cookie.{Cookie}
 use Rattle.hay_cluster.proofs.cluster.Cluster.url.Goals as goal
 
 pub returns-clause-legal : goal.returns-clause-legal
@@ -20,3 +21,19 @@ returns-clause-legal g c = λ tells k stands.
       rows = c.rows-rows.ensures.known tells k stands;
       leaves = stays k;
     }) stands
+
+pub returns-in_default-clause-suits : goal.returns-in_default-clause-suits
+returns-in_default-clause-suits g c = inr (inl (c.rows-rows.result, refl))
+
+pub returns-clause-suits : goal.returns-clause-suits
+returns-clause-suits g c =
+    let same = ap (λ (st : Open g.row.D.Denot g.row.D-Piece.Denot g.row.A.Denot). st.settings) c.self.view_is in
+    let cookie = c.cookie_of.ensures ∙ ap (λ (s : Settings). cookie_of s.secret c.args.pair.key) same in
+    let machine = c.machine_of.ensures.is ∙ ap (λ (s : Settings). machine_of s c.in-Some.volume c.start_of-start.result) same ∙ ap (λ j. machine_of (c.args.self.now).settings c.in-Some.volume j) c.start_of-start.ensures.is in
+    inl (
+      c.in-Some.volume,
+      c.rows-rows.result,
+      (c.in-Some.ensures).within,
+      ap (λ (k : Cookie). reply.Url c.rows-rows.result (record { machine = c.machine_of.result; volume = c.in-Some.volume; pair = c.args.pair; cookie = k })) cookie
+          ∙ ap (λ m. reply.Url c.rows-rows.result (record { machine = m; volume = c.in-Some.volume; pair = c.args.pair; cookie = cookie_of (c.args.self.now).settings.secret c.args.pair.key })) machine,
+    )

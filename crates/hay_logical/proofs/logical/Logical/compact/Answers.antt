@@ -130,9 +130,9 @@ pub returns-in-Err-clause-causes : goal.returns-in-Err-clause-causes
 returns-in-Err-clause-causes g c =
     let after = (goal.at.returns-in-Err-clause-causes g c).After-compact_at in
     let call = called_with c.in-Err.is (called g after) in
-    subst (λ v. answers.IsCompactFault g.D.Disk.fault_count v.settings v.number v.replicas ((with_items c.self.inside.replicas c.compact_at.new.replicas).items) c.unfinished_by-unfinished.result.fault) c.self.view_is
-    (subst (λ rs. answers.IsCompactFault g.D.Disk.fault_count c.self.inside.settings c.self.inside.number c.self.inside.replicas.items rs c.unfinished_by-unfinished.result.fault) (sym (kept g after))
-    (subst (λ u. answers.IsCompactFault g.D.Disk.fault_count c.self.inside.settings c.self.inside.number c.self.inside.replicas.items c.compact_at.new.replicas u.fault) (sym c.unfinished_by-unfinished.ensures)
+    subst (λ v. answers.IsCompactFault g.D.Disk.fault_count v.settings v.number c.args.replica v.replicas ((with_items c.self.inside.replicas c.compact_at.new.replicas).items) c.unfinished_by-unfinished.result.fault) c.self.view_is
+    (subst (λ rs. answers.IsCompactFault g.D.Disk.fault_count c.self.inside.settings c.self.inside.number c.args.replica c.self.inside.replicas.items rs c.unfinished_by-unfinished.result.fault) (sym (kept g after))
+    (subst (λ u. answers.IsCompactFault g.D.Disk.fault_count c.self.inside.settings c.self.inside.number c.args.replica c.self.inside.replicas.items c.compact_at.new.replicas u.fault) (sym c.unfinished_by-unfinished.ensures)
     (compact_fault c.self.inside.settings c.self.inside.number g.D.Disk.Tells g.D.Disk.files g.D.Piece.Piece.Tells g.D.Disk.fault_count c.self.inside.replicas.items c.compact_at.new.replicas c.self.inside.rows c.compact_at.new.rows c.args.replica call.one (all g after) c.in-Err.unswapped call.swaps)))
 
 pub returns-in-Err-clause-open : goal.returns-in-Err-clause-open

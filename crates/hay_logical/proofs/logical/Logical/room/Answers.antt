@@ -1,11 +1,11 @@
-use Rattle.std.proofs.Common.{◌≡◌, Some, None, Ok, Err, length, sym, ap, subst, ◌∙◌, arith}
+use Rattle.std.proofs.Common.{◌≡◌, ◌<◌, Some, None, Ok, Err, length, sym, ap, subst, ◌∙◌, arith}
 use Rattle.hay_needle.specs.Sizes.{needle_total}
 use Rattle.hay_legal.specs.Known.{machine_of, room_refusal_of}
 use Rattle.hay_reply.specs.declared.Refused.TheVariants.{NoRoom}
 use Rattle.hay_physical.specs.Copies.{capacity_of, end_of}
 use Rattle.hay_logical.specs.declared.fault.LogicalFault.TheVariants.{Full}
 use Rattle.hay_logical.specs.declared.fault.LogicalFault.{LogicalFault}
-use Rattle.hay_logical.specs.Answers.{IsRoomFault, room_answer}
+use Rattle.hay_logical.specs.Answers.{IsMachineOf, IsRoomFault, room_answer}
 use Rattle.hay_logical.specs.Fits.{At}
 use Rattle.hay_logical.specs.Refusals.{answer_at}
 use Rattle.hay_logical.specs.Stands.{Stands, StandsFor}
@@ -97,4 +97,12 @@ returns-clause-frozen g c = λ m e.
     absurd cc
 
 pub returns-clause-causes : goal.returns-clause-causes
-returns-clause-causes g c = let l = c.in-Err.ensures.lacks in subst IsRoomFault (sym (c.answer_at.ensures ∙ ap (answer_at c.machine_of-machine.result) l.cause)) tt
+returns-clause-causes g c =
+    let l = c.in-Err.ensures.lacks in
+    let below = at_below c.as_slice.result.now c.in-Err.lacking.at l.replica l.there in
+    let long = ap length c.as_slice.ensures.value in
+    let few = (c.self.invariant.0).count in
+    let within : c.in-Err.lacking.at < c.self.inside.settings.replicas = omega (arith, below, long, few) in
+    subst (λ (f : LogicalFault). IsRoomFault c.args.self.now.settings c.args.self.now.number f) (sym (c.answer_at.ensures ∙ ap (answer_at c.machine_of-machine.result) l.cause))
+    (subst (λ (v : Volume g.row.D.Denot g.row.D-Piece.Denot). IsMachineOf v.settings v.number c.machine_of-machine.result) c.self.view_is
+    (c.in-Err.lacking.at, within, c.machine_of-machine.ensures))

@@ -147,10 +147,10 @@ returns-clause-causes g c =
           let step : StepsAt g.D.Disk.Tells g.D.Disk.files g.D.Disk.fault_count g.D.Piece.Piece.Tells c.self.inside.rows c.args.replica c.args.cells one.before one.after (Err w.in-Err.fault) =
           subst (λ x. StepsAt g.D.Disk.Tells g.D.Disk.files g.D.Disk.fault_count g.D.Piece.Piece.Tells c.self.inside.rows c.args.replica c.args.cells one.before one.after x) w.in-Err.is
           (c.step_at.ensures.steps one.before one.after (subst (λ xs. At xs c.args.replica one.before) (sym now) one.was) (one_after c.args.replica c.self.inside.replicas.items c.step_at.new.replicas one)) in
-          subst (λ r. IfErr r (answers.IsRunFault g.D.Disk.fault_count c.args.self.now.settings c.args.self.now.number c.args.self.now.replicas (with_items c.self.inside.replicas c.step_at.new.replicas).items)) (sym w.result-is)
-          (subst (λ v. answers.IsRunFault g.D.Disk.fault_count v.settings v.number v.replicas (with_items c.self.inside.replicas c.step_at.new.replicas).items w.answer_at.result) c.self.view_is
-          (subst (λ rs. answers.IsRunFault g.D.Disk.fault_count c.self.inside.settings c.self.inside.number c.self.inside.replicas.items rs w.answer_at.result) (sym kept)
-          (subst (λ f. answers.IsRunFault g.D.Disk.fault_count c.self.inside.settings c.self.inside.number c.self.inside.replicas.items c.step_at.new.replicas f) (sym w.answer_at.ensures)
+          subst (λ r. IfErr r (answers.IsRunFault g.D.Disk.fault_count c.args.self.now.settings c.args.self.now.number c.args.replica c.args.self.now.replicas (with_items c.self.inside.replicas c.step_at.new.replicas).items)) (sym w.result-is)
+          (subst (λ v. answers.IsRunFault g.D.Disk.fault_count v.settings v.number c.args.replica v.replicas (with_items c.self.inside.replicas c.step_at.new.replicas).items w.answer_at.result) c.self.view_is
+          (subst (λ rs. answers.IsRunFault g.D.Disk.fault_count c.self.inside.settings c.self.inside.number c.args.replica c.self.inside.replicas.items rs w.answer_at.result) (sym kept)
+          (subst (λ f. answers.IsRunFault g.D.Disk.fault_count c.self.inside.settings c.self.inside.number c.args.replica c.self.inside.replicas.items c.step_at.new.replicas f) (sym w.answer_at.ensures)
           (step_fault c.self.inside.settings c.self.inside.number g.D.Disk.Tells g.D.Disk.files g.D.Disk.fault_count g.D.Piece.Piece.Tells c.self.inside.rows c.args.cells c.self.inside.replicas.items c.step_at.new.replicas c.args.replica c.machine_of-machine.result w.in-Err.fault one all c.machine_of-machine.ensures step))))
     ]
 

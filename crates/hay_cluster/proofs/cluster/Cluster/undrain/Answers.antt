@@ -1,0 +1,14 @@
+use Rattle.std.proofs.Common.{◌<◌, ◌≤◌, ap, inl, inr, refl, subst}
+use Rattle.hay_needle.specs.declared.settings.Settings.{Settings}
+use Rattle.hay_cluster.specs.Store.{Open}
+use Rattle.hay_cluster.proofs.cluster.Cluster.undrain.Goals as goal
+
+pub returns-then-machine-self-clause-suits : goal.returns-then-machine-self-clause-suits
+returns-then-machine-self-clause-suits g c = λ line.
+    let same = ap (λ (st : Open g.row.D.Denot g.row.D-Piece.Denot g.row.A.Denot). st.settings) c.self.view_is in
+    inr (inl (subst (λ (s : Settings). s.machines ≤ c.args.machine) same c.if-machine-self.true, refl))
+
+pub returns-clause-suits : goal.returns-clause-suits
+returns-clause-suits g c = λ line.
+    let same = ap (λ (st : Open g.row.D.Denot g.row.D-Piece.Denot g.row.A.Denot). st.settings) c.self.view_is in
+    inl (subst (λ (s : Settings). c.args.machine < s.machines) same c.if-machine-self.false, refl)
