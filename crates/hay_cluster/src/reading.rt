@@ -420,15 +420,6 @@ fn bytes_of(photo: Vec<u8>) -> Bytes
     Bytes::from_vec(photo)
 }
 
-// The bytes of a photo that was read.
-fn bytes_of(photo: Vec<u8>) -> Bytes
-    ensures is { result ≡ photo.items }
-    ensures bytes { (i : ℕ) → slice_index result i < 256 }
-    ensures long { IsLarge (length result) }
-{
-    Bytes::from_vec(photo)
-}
-
 // The machines of the replicas of a volume that were passed over.
 fn passed_of(
     alloc: Global,
