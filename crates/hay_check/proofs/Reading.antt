@@ -2,13 +2,7 @@
 use Rattle.std.proofs.Common.{◌≡◌, inr, ℕ, ◌≤◌, ◌<◌, List, length, take, refl, subst, ◌∙◌, Err, Result}
 use Rattle.hay_needle.specs.declared.settings.Super.{Super}
 use Rattle.hay_needle.specs.Super.{super_bytes}
-use Rattle.hay_needle.specs.Fields.{number_at}
-use Rattle.hay_needle.proofs.FieldLemmas.{IsBytes}
 use Rattle.hay_disk.specs.Disk.{Files}
-use Rattle.hay_disk.specs.Gate.{HasBytesAt, magic_bytes}
-use Rattle.hay_dirfile.specs.declared.row.DirRow.{DirRow}
-use Rattle.hay_dirfile.specs.Journal.{IsRowOf, journal_magic, journal_row}
-use Rattle.hay_dirfile.proofs.JournalLaws.{row_read}
 use Rattle.hay_head.specs.Head.{IsHead}
 use Rattle.hay_volume.specs.Cells.{IsDamagedCell}
 use Rattle.hay_open.specs.Stored.{head_super, volume_file, volume_super}
@@ -37,12 +31,3 @@ volume_damage sup vsup f g generation file number at head same numbered vsup_is 
       damage.0 ∙ is,
       there (λ l. IsDamagedVolume (volume_super sup generation) l at) f g number (volume_file generation) same is (subst (λ (s : Super). IsDamagedVolume s (g number).now at) vsup_is damage.1),
     )
-
--- a row of a journal
-pub row_found : (volumes volume : ℕ) (bytes : List ℕ) → IsBytes bytes → length bytes ≡ 24 → take 8 bytes ≡ magic_bytes journal_magic → volume ≡ number_at 4 20 bytes → volume < volumes → (row : DirRow) × IsRowOf volumes row × (bytes ≡ journal_row row)
-row_found volumes volume bytes fits long magic is below =
-    let read = row_read volumes (number_at 8 8 bytes) (number_at 4 16 bytes) volume bytes fits long magic refl refl is below in
-    (record { pair = record { key = number_at 8 8 bytes; alt = number_at 4 16 bytes }; volume = volume }, read.0, read.1)
-
-pub row_stands : (volumes at : ℕ) (bytes file : List ℕ) → (row : DirRow) × IsRowOf volumes row × (bytes ≡ journal_row row) → HasBytesAt at bytes file → (row : DirRow) × IsRowOf volumes row × HasBytesAt at (journal_row row) file
-row_stands volumes at bytes file found stand = (found.0, found.1, subst (λ (l : List ℕ). HasBytesAt at l file) found.2 stand)

@@ -13,10 +13,8 @@ ghost use Rattle.hay_disk.specs.Counts.{Rose};
 ghost use Rattle.hay_check.specs.declared.verdict.Verdict.{Verdict};
 ghost use Rattle.hay_check.specs.Verdicts.{CheckOf, JournalCheckOf, OpensWhole};
 
-mod block;
 mod counts;
 mod fault;
-mod files;
 mod journal;
 mod listing;
 mod replica;
@@ -24,11 +22,11 @@ mod verdict;
 mod volume;
 
 use crate::fault::Refusal;
-use crate::files::{HEAD_FILE, read_numbers};
 use crate::journal::count_rows;
 use crate::replica::check_disk;
 use hay_disk::{Disk, Failed};
 use hay_needle::Super;
+use hay_open::{HEAD_FILE, read_numbers};
 use std::alloc::Global;
 pub use verdict::{CheckFault, Verdict};
 

@@ -2,17 +2,15 @@
 
 ghost use Rattle.std.specs.Prelude.{◌≡◌, ◌⊎◌, ◌≤◌, ◌<◌, ◌+◌, ◌*◌, ◌++◌, ◌^◌, ◌↔◌, ℕ, List, length, map, take, drop, Err, OnOk, IfOk, IsErrOf, IsTrue};
 ghost use Rattle.hay_disk.specs.Counts.{IsCounted};
-ghost use Rattle.hay_disk.specs.declared.disk.DiskFault.{DiskFault};
 ghost use Rattle.hay_needle.specs.Super.{super_bytes};
 ghost use Rattle.hay_index.specs.declared.record.Record.{Record};
 ghost use Rattle.hay_index.specs.declared.fault.IndexFault.{IndexFault};
 ghost use Rattle.hay_open.specs.Listing.{head_record};
 ghost use Rattle.hay_check.specs.Listing.{HasMisfit, IsBrokenBehind, IsDamagedListing, ListsFirst};
 
-use crate::block::{FRONT_LEN, RECORD_LEN, begins_block, read_block};
 use crate::fault::Refusal;
-use hay_disk::{Disk, DiskFault};
-use hay_index::{IndexFault, Record};
+use hay_disk::Disk;
+use hay_index::{FRONT_LEN, IndexFault, RECORD_LEN, Record, begins_block, read_block, whole_file};
 use hay_needle::{CellHead, SUPER_LEN, Super, read_super};
 use std::alloc::Global;
 
@@ -83,21 +81,6 @@ fn compare_bytes(
         return Err(IndexFault::Damaged { at: fault.place() });
     }
     compare_blocks(alloc, bytes, heads)
-}
-
-// All bytes of a file.
-fn whole_file<D: Disk>(alloc: Global, disk: &mut D, file: u32) -> Result<Vec<u8>, DiskFault>
-    ensures read { D.Tells → IfOk result (λ bytes. bytes.items ≡ (D.files disk.old file).now) }
-    ensures same { D.Tells → D.files disk.new ≡ D.files disk.old }
-    ensures counted { IsCounted (D.fault_count disk.old) (D.fault_count disk.new) (IsErrOf result DiskFault.Failed) }
-    ensures fuses { D.fuse_count disk.new ≡ D.fuse_count disk.old }
-{
-    let size = disk.size(file)?;
-    let mut bytes = Vec::new(alloc);
-    bytes.resize(size as usize, 0)?;
-    let got = disk.read_into(file, 0, bytes.as_mut_slice())?;
-    bytes.truncate(got);
-    Ok(bytes)
 }
 
 /// Compares an index file with these cells, and answers how many of them have a record.

@@ -8,12 +8,12 @@ ghost use Rattle.hay_check.specs.Verdicts.{whole_of};
 
 use crate::counts::{live_count, old_count};
 use crate::fault::Refusal;
-use crate::files::{index_file, index_super};
 use crate::listing::check_index;
 use crate::verdict::Verdict;
 use crate::volume::{Cells, read_cells};
 use hay_disk::Disk;
 use hay_needle::Super;
+use hay_open::{index_file, index_super};
 use std::alloc::Global;
 
 /// Reads all files of a disk that its head names. `Ok` is that of a whole disk.

@@ -13,10 +13,10 @@ ghost use Rattle.hay_open.specs.Stored as stored;
 ghost use Rattle.hay_check.specs.Damage.{HoldsCells, IsDamagedFront, IsDamagedVolume};
 
 use crate::fault::Refusal;
-use crate::files::{HEAD_FILE, head_super, volume_file, volume_super};
 use hay_disk::Disk;
 use hay_head::{Head, HeadFault, read_front};
 use hay_needle::{CellHead, SUPER_LEN, Super};
+use hay_open::{HEAD_FILE, head_super, volume_file, volume_super};
 use hay_volume::{CellFault, VolumeFile};
 use std::alloc::Global;
 

@@ -11,7 +11,7 @@ ghost use Rattle.hay_dirfile.specs.declared.row.DirRow.{DirRow};
 
 use crate::fault::{OpenFault, RowsFault, open_fault};
 use crate::row::{DirRow, ROW_LEN, ROW_MAGIC, row_body};
-use crate::scan::{FILE, read_rows};
+use crate::scan::{JOURNAL_FILE, read_rows};
 use hay_disk::{Disk, DiskFault, gate_append};
 use hay_needle::{SUPER_LEN, Super, write_super};
 use std::alloc::Global;
@@ -109,7 +109,7 @@ impl Journal {
         ensures counted { IsCounted (D.fault_count disk.old) (D.fault_count disk.new) (IsErrOf result DiskFault.Failed) }
         ensures fuses { D.fuse_count disk.new ≡ D.fuse_count disk.old }
     {
-        gate_append(disk, FILE, self.end, ROW_MAGIC, &row_body(row))?;
+        gate_append(disk, JOURNAL_FILE, self.end, ROW_MAGIC, &row_body(row))?;
         self.end = self.end.saturating_add(ROW_LEN as u64);
         Ok(())
     }
@@ -144,7 +144,7 @@ fn open_rows<D: Disk>(
     ensures counted { IsCounted (D.fault_count disk.old) (D.fault_count disk.new) (IsErrOf result RowsFault.Failed) }
     ensures fuses { D.fuse_count disk.new ≡ D.fuse_count disk.old }
 {
-    if disk.size(FILE)? > 0 {
+    if disk.size(JOURNAL_FILE)? > 0 {
         return read_rows(alloc, disk, sup);
     }
     format(disk, sup)?;
@@ -165,8 +165,8 @@ fn format<D: Disk>(disk: &mut D, sup: &Super) -> Result<(), DiskFault>
     ensures fuses { D.fuse_count disk.new ≡ D.fuse_count disk.old }
 {
     read_numbers(sup);
-    disk.write(FILE, 0, &empty_file(sup))?;
-    disk.sync(FILE)?;
+    disk.write(JOURNAL_FILE, 0, &empty_file(sup))?;
+    disk.sync(JOURNAL_FILE)?;
     Ok(())
 }
 

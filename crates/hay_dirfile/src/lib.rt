@@ -15,4 +15,5 @@ mod scan;
 
 pub use fault::OpenFault;
 pub use journal::Journal;
-pub use row::DirRow;
+pub use row::{DirRow, ROW_LEN};
+pub use scan::{Due, JOURNAL_FILE, read_row};

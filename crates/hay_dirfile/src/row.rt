@@ -12,7 +12,7 @@ use hay_needle::{Pair, u32_at, u64_at};
 pub(crate) const ROW_MAGIC: u64 = 0x484f_4d45_524f_5731;
 
 /// The number of bytes of a row.
-pub(crate) const ROW_LEN: usize = 24;
+pub const ROW_LEN: usize = 24;
 
 /// The photos of this pair are kept in this volume.
 #[derive(Clone, Copy, Debug, PartialEq, Eq)]

@@ -18,17 +18,19 @@ use hay_needle::{SUPER_LEN, Super};
 use std::alloc::Global;
 
 /// The number of the journal on its disk.
-pub(crate) const FILE: u32 = 0;
+pub const JOURNAL_FILE: u32 = 0;
 
-// What stands where a row or the end mark is due.
-enum Due {
+/// What stands where a row or the end mark is due.
+pub enum Due {
     Row(DirRow),
     Mark,
     Broken,
 }
 
-// Reads where a row or the end mark is due.
-fn read_row<D: Disk>(
+/// Reads where a row or the end mark of a journal of so many volumes is due. The next one may be read behind a row.
+///
+/// `Failed` leaves a reader that may read there again.
+pub fn read_row<D: Disk>(
     reader: &mut BlockReader,
     disk: &mut D,
     at: u64,
@@ -81,13 +83,13 @@ pub(crate) fn read_rows<D: Disk>(
     ensures counted { IsCounted (D.fault_count disk.old) (D.fault_count disk.new) (IsErrOf result RowsFault.Failed) }
     ensures fuses { D.fuse_count disk.new ≡ D.fuse_count disk.old }
 {
-    if let Some(at) = read_front(disk, FILE, sup)? {
+    if let Some(at) = read_front(disk, JOURNAL_FILE, sup)? {
         return Err(RowsFault::Damaged { at });
     }
     let volumes = sup.settings.volumes;
     let mut rows = Vec::new(alloc);
     let mut end = SUPER_LEN as u64;
-    let mut reader = BlockReader::new(FILE, end);
+    let mut reader = BlockReader::new(JOURNAL_FILE, end);
     'rows: loop {
         match read_row(&mut reader, disk, end, volumes)? {
             Due::Row(row) => rows.push(row)?,

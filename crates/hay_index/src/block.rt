@@ -14,7 +14,7 @@ use std::alloc::{AllocError, Global};
 pub(crate) const INDEX_MAGIC: u64 = 0x494e_4445_5842_4c4b;
 
 /// The number of bytes before a block's records: the magic and their number.
-pub(crate) const FRONT_LEN: usize = 16;
+pub const FRONT_LEN: usize = 16;
 
 // Adds the block of these records from behind its magic on, and the end mark.
 fn push_rest(out: &mut Vec<u8>, records: &[Record]) -> Result<(), AllocError>
@@ -69,8 +69,8 @@ fn records_of(alloc: Global, bytes: &[u8], count: usize) -> Result<Option<Vec<Re
     Ok(Some(records))
 }
 
-// The records of the block whose magic stands at the front of the bytes, if a block stands there.
-pub(crate) fn read_block(alloc: Global, bytes: &[u8]) -> Result<Option<Vec<Record>>, AllocError>
+/// The records of the block whose magic stands at the front of the bytes, if a block stands there.
+pub fn read_block(alloc: Global, bytes: &[u8]) -> Result<Option<Vec<Record>>, AllocError>
     requires { take 8 bytes.now ≡ magic_bytes index_magic }
     ensures found { IfOk result (λ found. IfSome found (λ records. BeginsWithBlock bytes.now records.items)) }
     ensures none { IfOk result (λ found. IfNone found ((records : List Record) → BeginsWithBlock bytes.now records → ⊥)) }

@@ -16,10 +16,12 @@ mod pending;
 mod reading;
 mod record;
 
+pub use block::{FRONT_LEN, read_block};
 pub use fault::IndexFault;
 pub use index::IndexFile;
 pub use pending::Pending;
-pub use record::Record;
+pub use reading::{begins_block, whole_file};
+pub use record::{RECORD_LEN, Record};
 
 #[cfg(test)]
 mod tests;

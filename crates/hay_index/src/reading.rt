@@ -60,8 +60,8 @@ impl IndexFile {
     }
 }
 
-// All bytes of a file.
-fn whole_file<D: Disk>(alloc: Global, disk: &mut D, file: u32) -> Result<Vec<u8>, DiskFault>
+/// All bytes of a file, read at once.
+pub fn whole_file<D: Disk>(alloc: Global, disk: &mut D, file: u32) -> Result<Vec<u8>, DiskFault>
     ensures read { D.Tells → IfOk result (λ bytes. bytes.items ≡ (D.files disk.old file).now) }
     ensures same { D.Tells → D.files disk.new ≡ D.files disk.old }
     ensures drawn { D.Tells → D.drawn disk.new file ≤ D.drawn disk.old file + length (D.files disk.old file).now }
@@ -117,8 +117,8 @@ fn read_blocks(alloc: Global, bytes: &[u8]) -> Result<(Vec<Record>, u64), IndexF
     }
 }
 
-// Whether a block's magic stands at `at`.
-fn begins_block(bytes: &[u8], at: usize) -> Result<bool, IndexFault>
+/// Whether a block's magic stands at `at`. `Damaged` comes where the bytes end before the eight of a magic.
+pub fn begins_block(bytes: &[u8], at: usize) -> Result<bool, IndexFault>
     requires { at ≤ length bytes.now }
     ensures mark { IfOk result (λ begins. OnFalse begins (IsClosed index_magic at bytes.now)) }
     ensures magic { IfOk result (λ begins. OnTrue begins (take 8 (drop at bytes.now) ≡ magic_bytes index_magic)) }

@@ -8,7 +8,7 @@ use byteorder::{BigEndian, ByteOrder};
 use hay_needle::{Pair, u32_at, u64_at};
 
 /// The number of bytes of a record.
-pub(crate) const RECORD_LEN: usize = 32;
+pub const RECORD_LEN: usize = 32;
 
 /// A needle's pair, its place in the volume file, and the number of its photo's bytes.
 #[derive(Clone, Copy, Debug, PartialEq, Eq)]

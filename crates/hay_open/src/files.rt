@@ -7,27 +7,27 @@ ghost use Rattle.hay_open.specs.Stored as stored;
 use hay_needle::{FileKind, Super};
 
 /// The head file.
-pub(crate) const HEAD_FILE: u32 = 0;
+pub const HEAD_FILE: u32 = 0;
 
 // The greatest generation that a head file has.
 const LAST_GENERATION: u64 = 65_535;
 
 /// The volume file of a generation.
-pub(crate) fn volume_file(generation: u64) -> u32
+pub fn volume_file(generation: u64) -> u32
     ensures { generation ≤ 65535 → result ≡ stored.volume_file generation }
 {
     2 * generation.min(LAST_GENERATION) as u32 + 1
 }
 
 /// The index file of a generation.
-pub(crate) fn index_file(generation: u64) -> u32
+pub fn index_file(generation: u64) -> u32
     ensures { generation ≤ 65535 → result ≡ stored.index_file generation }
 {
     2 * generation.min(LAST_GENERATION) as u32 + 2
 }
 
 /// The superblock of the head file.
-pub(crate) fn head_super(sup: &Super) -> Super
+pub fn head_super(sup: &Super) -> Super
     ensures { result ≡ stored.head_super sup.now }
 {
     Super {
@@ -37,8 +37,8 @@ pub(crate) fn head_super(sup: &Super) -> Super
     }
 }
 
-// The numbers behind a reference fit their types, once each was read.
-fn read_numbers(sup: &Super)
+/// The numbers behind a reference fit their types, once each was read.
+pub fn read_numbers(sup: &Super)
     ensures { SuperFits sup.now }
 {
     let _machines = sup.settings.machines;
@@ -51,7 +51,7 @@ fn read_numbers(sup: &Super)
 }
 
 /// The superblock of the volume file of a generation.
-pub(crate) fn volume_super(sup: &Super, generation: u64) -> Super
+pub fn volume_super(sup: &Super, generation: u64) -> Super
     ensures is { result ≡ stored.volume_super sup.now generation }
     ensures fits { SuperFits result }
 {
@@ -64,7 +64,7 @@ pub(crate) fn volume_super(sup: &Super, generation: u64) -> Super
 }
 
 /// The superblock of the index file of a generation.
-pub(crate) fn index_super(sup: &Super, generation: u64) -> Super
+pub fn index_super(sup: &Super, generation: u64) -> Super
     ensures { result ≡ stored.index_super sup.now generation }
 {
     Super {

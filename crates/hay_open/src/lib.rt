@@ -30,10 +30,12 @@ mod read;
 mod record;
 
 use crate::fault::Refusal;
-use crate::files::HEAD_FILE;
 use crate::format::format_disk;
 use crate::read::read_disk;
 pub use fault::OpenFault;
+pub use files::{
+    HEAD_FILE, head_super, index_file, index_super, read_numbers, volume_file, volume_super,
+};
 use hay_disk::{Disk, Failed};
 use hay_needle::Super;
 pub use opened::Opened;
