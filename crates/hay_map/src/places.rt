@@ -1,11 +1,23 @@
 //! Vectors of places.
-ghost use Rattle.std.specs.Prelude.{◌≡◌, ◌≤◌, ◌<◌, ◌+◌, ◌%◌, ◌==◌, ◌++◌, ℕ, length, replicate, vec_len, slice_set, if◌then◌else◌};
+ghost use Rattle.std.specs.Prelude.{◌≡◌, ◌≤◌, ◌<◌, ◌+◌, ◌%◌, ◌==◌, ◌++◌, ℕ, length, replicate, vec_len, slice_set, IfOk, if◌then◌else◌};
 ghost use Rattle.std.specs.Vec.{vec_capacity};
 ghost use Rattle.hay_map.specs.Places.{gone_place, place_in};
 ghost use Rattle.hay_map.specs.declared.place.Place.TheVariants as place_is;
 
 use crate::Place;
 use hay_disk::Piece;
+use std::alloc::{AllocError, Global};
+
+// The same places once more.
+pub fn dup_each<P: Piece>(alloc: Global, places: &[Place<P>]) -> Result<Vec<Place<P>>, AllocError>
+    ensures { IfOk result (λ copy. copy.items ≡ places.now) }
+{
+    let mut copy = Vec::with_capacity(alloc, places.len())?;
+    for place in places {
+        copy.push_reserved(place.dup());
+    }
+    Ok(copy)
+}
 
 // Adds so many places without photos, for which there is room.
 pub fn push_none<P: Piece>(places: &mut Vec<Place<P>>, count: usize)

@@ -1,5 +1,5 @@
 //! The rows of a logical volume by pair.
-ghost use Rattle.std.specs.Prelude.{◌≡◌, ◌≤◌, ◌<◌, ◌⊎◌, true, length, map, replicate, slice_set, if◌then◌else◌, IsOk, OnOk, OnErr};
+ghost use Rattle.std.specs.Prelude.{◌≡◌, ◌≤◌, ◌<◌, ◌⊎◌, true, length, map, replicate, slice_set, if◌then◌else◌, IfOk, IsOk, OnOk, OnErr};
 ghost use Rattle.hay_needle.specs.declared.needle.Pair.{Pair};
 ghost use Rattle.hay_needle.specs.Tables.{pair_eq};
 ghost use Rattle.hay_map.specs.Places.{gone_place, has_stood, place_in};
@@ -8,7 +8,7 @@ ghost use Rattle.hay_map.specs.Rows.{row_at, has_row, last_place, KeepsRows, Cha
 ghost use Rattle.hay_map.specs.declared.place.Place.TheVariants as place_is;
 ghost use Rattle.hay_map.specs.declared.view.MapOp.TheVariants as map_op;
 
-use crate::places::{leave_each, push_none, set_at};
+use crate::places::{dup_each, leave_each, push_none, set_at};
 use crate::{Place, Row};
 use hay_base::{Listed, NoMemory};
 use hay_disk::Piece;
@@ -87,6 +87,19 @@ impl<P: Piece> MapView<P> {
             offsets: HashMap::new(alloc),
             places: Vec::new(alloc),
         }
+    }
+
+    /// The same rows once more.
+    pub fn copy(&self, alloc: Global) -> Result<MapView<P>, NoMemory>
+        ensures replicas { IfOk result (λ copy. copy.replicas ≡ self.now.replicas) }
+        ensures rows { IfOk result (λ copy. (pair : Pair) → row_at copy pair ≡ row_at self.now pair) }
+    {
+        Ok(MapView {
+            replicas: self.replicas,
+            blank: self.blank.dup(),
+            offsets: self.offsets.clone()?,
+            places: dup_each(alloc, self.places.as_slice())?,
+        })
     }
 
     /// The row of a pair: one look-up. It takes no memory.
