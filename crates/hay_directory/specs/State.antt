@@ -11,6 +11,8 @@ use Rattle.hay_legal.specs.declared.known.HomeRow.{HomeRow}
 use Rattle.hay_legal.specs.declared.known.PendingRow.{PendingRow}
 use Rattle.hay_legal.specs.Known.{home_in}
 use Rattle.hay_legal.specs.Restarts.{kept_row}
+use Rattle.hay_directory.specs.declared.fault.DirFault.{DirFault}
+use Rattle.hay_directory.specs.declared.fault.DirFault.TheVariants as refusal
 use Rattle.hay_directory.specs.declared.mode.Mode.{Mode}
 use Rattle.hay_directory.specs.declared.mode.Mode.TheVariants.{Closed, Open, Frozen}
 use Rattle.hay_directory.specs.declared.mode.Unsure.{Unsure}
@@ -57,6 +59,12 @@ IsFrozen directory = is_frozen directory.mode ≡ true
 -- closed, with no row to tell of
 abbrev pub IsFresh : {D : Type 0} → State D → Type 0
 IsFresh directory = directory.mode ≡ Closed None
+
+-- what a row leaves that is refused: where it failed, the directory is frozen and the row is pending
+abbrev pub LeavesMode : Unsure → Mode → Mode → DirFault → Type 0
+LeavesMode row old new refusal.Frozen = new ≡ old
+LeavesMode row old new refusal.NoMemory = new ≡ old
+LeavesMode row old new (refusal.Failed faults) = new ≡ Frozen row
 
 -- the home of a pair, by what is kept in memory
 abbrev pub home_of : {D : Type 0} → State D → Pair → Option ℕ

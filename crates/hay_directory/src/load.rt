@@ -5,6 +5,8 @@ ghost use Rattle.hay_disk.specs.Counts.{Rose};
 ghost use Rattle.hay_disk.specs.Disk.{IsFree, IsImage, IsSolid, KeepsOthers};
 ghost use Rattle.hay_dirfile.specs.Journal.{IsDamagedJournal};
 ghost use Rattle.hay_legal.specs.declared.known.HomeRow.{HomeRow};
+ghost use Rattle.std.specs.List.{AllByRecursion};
+ghost use Rattle.hay_reply.specs.Fits.{FitsNote};
 ghost use Rattle.hay_directory.specs.Notes.{notes_by};
 ghost use Rattle.hay_directory.specs.Rows.{HasRows, journal_super};
 ghost use Rattle.hay_directory.specs.State.{FindsRows};
@@ -39,6 +41,7 @@ pub fn load<D: Disk>(
     requires free { D.Tells → IsFree (D.files disk.old 0) }
     ensures found { D.Tells → IfOk result (λ loaded. FindsRows settings.now (D.files disk.old 0) (D.files disk.new 0) loaded.journal.end loaded.homes loaded.count) }
     ensures notes { IfOk result (λ loaded. loaded.notes ≡ notes_by unsure loaded.homes) }
+    ensures fits { IfOk result (λ loaded. AllByRecursion FitsNote loaded.notes) }
     ensures failed { (faults : ℕ) → result ≡ Err (OpenFault.Failed faults) →
         (faults ≡ D.fault_count disk.new) × Rose (D.fault_count disk.old) (D.fault_count disk.new) }
     ensures damaged { D.Tells → (file at : ℕ) → result ≡ Err (OpenFault.Damaged file at) →

@@ -26,5 +26,6 @@ pub mod SwapShapes
 pub mod SwapSizes
 pub mod Swapping
 pub mod Tables
+pub mod Telling
 pub mod Through
 pub mod Looks

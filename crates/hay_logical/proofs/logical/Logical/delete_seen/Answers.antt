@@ -1,4 +1,4 @@
-use Rattle.std.proofs.Common.{◌≡◌, ◌≤◌, ◌<◌, ◌+◌, ℕ, length, Some, refl, sym, ap, subst, ◌∙◌, arith, rules}
+use Rattle.std.proofs.Common.{◌≡◌, ◌≤◌, ◌<◌, ◌+◌, ℕ, length, Some, refl, sym, ap, subst, ◌∙◌, arith, rules, inr}
 use Rattle.std.specs.Vec.{with_items}
 use Rattle.std.proofs.lemmas.List.{with_items_is}
 use Rattle.hay_map.specs.Places.{place_in}
@@ -20,6 +20,7 @@ use Rattle.hay_logical.proofs.Methods.{same_by, same_still, shaped_on}
 use Rattle.hay_logical.proofs.Standing.{volume_with}
 use Rattle.hay_logical.proofs.Changing.{delete_failed, delete_refused, delete_remains, deleted, deleted_same, not_held, some_none}
 use Rattle.hay_logical.proofs.Reaching.{delete_row, failed_row}
+use Rattle.hay_logical.specs.declared.unsure.Change.{Change}
 use Rattle.hay_logical.proofs.logical.Logical.delete_seen.Goals as goal
 
 pub returns-then-not-has_live-clause-refused : goal.returns-then-not-has_live-clause-refused
@@ -237,3 +238,9 @@ returns-clause-same g c =
     subst (λ xs. DeleteLeaves g.D.Disk.Tells g.D.Disk.files g.D.Disk.fault_count c.row-row.result xs c.delete_each.new.replicas c.in-Err.failed) now c.in-Err.ensures.broken in
     same_by _ _ _ _ c.self.view_is refl refl kept
     (λ j r r' e f. (delete_remains g.D.Disk.Tells g.D.Disk.files g.D.Disk.fault_count c.self.inside.replicas.items c.delete_each.new.replicas c.row-row.result c.in-Err.failed left up j r r' e f).sup)
+
+pub returns-in-Ok-clause-deleted_unsure : goal.returns-in-Ok-clause-deleted_unsure
+returns-in-Ok-clause-deleted_unsure g c = ap (λ v. v.unsure) c.self.view_is
+
+pub returns-clause-refused_unsure : goal.returns-clause-refused_unsure
+returns-clause-refused_unsure g c = inr (change.Delete c.args.pair, refl)

@@ -257,7 +257,7 @@ returns-clause-first g c = λ tells k first.
     λ j r r' e f. c.in-Ok.ensures.opened j r r' (subst (λ xs. At xs j r) (sym now) e) f in
     let all : length olds ≡ here.settings.replicas = subst (λ (v : Volume g.row.D.Denot g.row.D-Piece.Denot). length v.replicas ≡ v.settings.replicas) (sym c.self.view_is) c.requires.all in
     let was : IsFirst g.D.Disk.files (volume_with here.settings here.number olds here.rows here.front here.frozen here.unsure) k = subst (λ v. IsFirst g.D.Disk.files v k) (sym c.self.view_is) first in (
-      no_notes here.settings here.number here.unsure c.open_all.new.rows c.as_slice.result.now _ was.unsure c.in-Ok-notes_of.ensures,
+      no_notes here.settings here.number here.unsure c.open_all.new.rows c.as_slice.result.now _ was.unsure c.in-Ok-notes_of.ensures.are,
       subst (λ rs. StandsFor g.D.Disk.files g.D.Piece.Piece.Tells (volume_with here.settings here.number rs c.open_all.new.rows 0 None None) k) (sym kept)
           (first_stands g.D.Disk.Tells g.D.Disk.files g.D.Piece.Piece.Tells here.settings here.number olds news c.open_all.new.rows count opened tells here.rows here.front here.frozen here.unsure k all (c.self.invariant.0).sups was),
     )
@@ -277,7 +277,7 @@ returns-clause-reopened g c = λ tells k stopped.
     let was : StoppedFor g.D.Disk.files (volume_with here.settings here.number olds here.rows here.front here.frozen here.unsure) k = subst (λ v. StoppedFor g.D.Disk.files v k) (sym c.self.view_is) stopped in
     reopened_on g.D.Disk.files g.D.Piece.Piece.Tells k here.settings here.number c.open_all.new.rows news _ _ kept
     (reopened g.D.Disk.Tells g.D.Disk.files g.D.Piece.Piece.Tells here.settings here.number olds news c.open_all.new.rows count opened tells (c.self.invariant.0).settings here.rows here.front here.frozen here.unsure k
-    was.holds was.unsure (λ j r e. c.in-Ok.ensures.seen tells j r (subst (λ xs. At xs j r) (sym now) e)) _ (notes_on here.settings here.number here.unsure c.open_all.new.rows c.as_slice.result.now news _ slice c.in-Ok-notes_of.ensures))
+    was.holds was.unsure (λ j r e. c.in-Ok.ensures.seen tells j r (subst (λ xs. At xs j r) (sym now) e)) _ (notes_on here.settings here.number here.unsure c.open_all.new.rows c.as_slice.result.now news _ slice c.in-Ok-notes_of.ensures.are))
 
 pub returns-clause-told : goal.returns-clause-told
 returns-clause-told g c =
@@ -287,7 +287,7 @@ returns-clause-told g c =
     let count = c.open_all.ensures.counts.count ∙ ap length now in
     let all : length here.replicas.items ≡ here.settings.replicas = subst (λ (v : Volume g.row.D.Denot g.row.D-Piece.Denot). length v.replicas ≡ v.settings.replicas) (sym c.self.view_is) c.requires.all in
     subst (λ (v : Volume g.row.D.Denot g.row.D-Piece.Denot). NotesTell v.settings v.number v.unsure c.in-Ok-notes_of.notes) c.self.view_is
-    (notes_tell here.settings here.number here.unsure c.open_all.new.rows c.as_slice.result.now _ (ap length (c.as_slice.ensures.value ∙ kept) ∙ count ∙ all) c.in-Ok-notes_of.ensures)
+    (notes_tell here.settings here.number here.unsure c.open_all.new.rows c.as_slice.result.now _ (ap length (c.as_slice.ensures.value ∙ kept) ∙ count ∙ all) c.in-Ok-notes_of.ensures.are)
 
 pub returns-clause-open : goal.returns-clause-open
 returns-clause-open g c =

@@ -25,6 +25,8 @@ use Rattle.hay_logical.proofs.Changing.{put_remains, some_none}
 use Rattle.hay_logical.proofs.Reaching.{put_row, same_rows, seen_apart, seen_sees}
 use Rattle.hay_logical.proofs.Putting.{all_thawed, done, is_err_of, never_err, ok_of, put_cause_of, put_refused, room_cause, room_ok, room_refused, rows_kept, untouched}
 use Rattle.hay_logical.proofs.Refusing.{refuses_put}
+use Rattle.hay_logical.proofs.Telling.{put_broken, room_leaves}
+use Rattle.hay_logical.specs.Notes.{PutLeavesUnsure}
 use Rattle.hay_logical.proofs.logical.Logical.put.Goals as goal
 
 pub put_each-requires-after_bounds : goal.put_each-requires-after_bounds
@@ -363,3 +365,21 @@ returns-else-is_untouched-clause-same g c =
     subst (λ xs. PutLeaves g.D.Disk.Tells g.D.Disk.files g.D.Disk.fault_count c.args.pair c.args.cookie c.args.bytes.now xs c.put_each.new.replicas c.in-Err.broken) now c.in-Err.ensures.broken in
     same_by _ _ _ _ c.self.view_is refl refl kept
     (λ j r r' e f. (put_remains g.D.Disk.Tells g.D.Disk.files g.D.Disk.fault_count c.args.pair c.args.cookie c.args.bytes.now c.self.inside.replicas.items c.put_each.new.replicas c.in-Err.broken left up j r r' e f).sup)
+
+pub returns-in_err-room-clause-refused_unsure : goal.returns-in_err-room-clause-refused_unsure
+returns-in_err-room-clause-refused_unsure g c =
+    subst (λ r. IfErr r (PutLeavesUnsure c.args.tag c.args.self.now.unsure c.args.self.now.unsure)) (sym (is_err_of c.from_residual.result c.in_err-room.field-0.0 c.from_residual.ensures.1))
+    (room_leaves c.args.self.now.settings c.args.self.now.number c.args.tag c.args.self.now.unsure c.in_err-room.field-0.0 c.in_err-room.ensures.causes)
+
+pub returns-in_default-clause-refused_unsure : goal.returns-in_default-clause-refused_unsure
+returns-in_default-clause-refused_unsure g c = inl refl
+
+pub returns-then-is_err-clause-refused_unsure : goal.returns-then-is_err-clause-refused_unsure
+returns-then-is_err-clause-refused_unsure g c = inl (ap (λ v. v.unsure) c.self.view_is)
+
+pub returns-then-is_untouched-clause-refused_unsure : goal.returns-then-is_untouched-clause-refused_unsure
+returns-then-is_untouched-clause-refused_unsure g c = inl (ap (λ v. v.unsure) c.self.view_is)
+
+pub returns-else-is_untouched-clause-refused_unsure : goal.returns-else-is_untouched-clause-refused_unsure
+returns-else-is_untouched-clause-refused_unsure g c =
+    put_broken c.self.inside.settings c.self.inside.number c.in-Err.broken.at c.args.tag (change.Put c.ends_of-ends.result) c.args.self.now.unsure c.in-Err.broken.fault c.put_refusal-refusal.result c.put_refusal-refusal.ensures
