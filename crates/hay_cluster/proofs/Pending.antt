@@ -47,7 +47,7 @@ map-kept f (y ∷ xs) (suc i) x x' at is = ap (λ zs. f y ∷ zs) (map-kept f xs
 
 -- A CALL OF ONE VOLUME
 
-pending_with : List (Option ℕ) → Option ℕ → PendingLines
+abbrev pending_with : List (Option ℕ) → Option ℕ → PendingLines
 pending_with changes row = record { changes = changes; row = row }
 
 module _ {D P A : Type 0} where
@@ -190,15 +190,15 @@ module _ {D P : Type 0} (DiskTells : Type 0) (files : D → Files) (Tells : Type
   fits_each (y ∷ ys) (z ∷ zs) notes opens =
       subst (λ (l : List Note). AllByRecursion FitsNote l) (sym opens.parts) (all_append FitsNote opens.front opens.behind opens.first.fits (fits_each ys zs opens.behind opens.rest))
 
-  settled_each : (n : ℕ) (ys zs : List (Volume D P)) (notes : List Note) → length zs ≡ n → Gathers Opens ys zs notes → map pending_change zs ≡ replicate n None
-  settled_each zero [] [] notes many opens = refl
-  settled_each (suc n) [] [] notes many opens = absurd (omega (arith, many))
-  settled_each n [] (z ∷ zs) notes many opens = absurd opens
-  settled_each n (y ∷ ys) [] notes many opens = absurd opens
-  settled_each zero (y ∷ ys) (z ∷ zs) notes many opens = absurd (omega (arith, many))
-  settled_each (suc n) (y ∷ ys) (z ∷ zs) notes many opens =
+  settled_each : (ys zs : List (Volume D P)) (n : ℕ) (notes : List Note) → length zs ≡ n → Gathers Opens ys zs notes → map pending_change zs ≡ replicate n None
+  settled_each [] [] zero notes many opens = refl
+  settled_each [] [] (suc n) notes many opens = absurd (omega (arith, many))
+  settled_each [] (z ∷ zs) n notes many opens = absurd opens
+  settled_each (y ∷ ys) [] n notes many opens = absurd opens
+  settled_each (y ∷ ys) (z ∷ zs) zero notes many opens = absurd (omega (arith, many))
+  settled_each (y ∷ ys) (z ∷ zs) (suc n) notes many opens =
       ap (λ line. line ∷ map pending_change zs) (ap line_of_change opens.first.settled)
-      ∙ ap (λ lines. None ∷ lines) (settled_each n ys zs opens.behind (omega (arith, many)) opens.rest)
+      ∙ ap (λ lines. None ∷ lines) (settled_each ys zs n opens.behind (omega (arith, many)) opens.rest)
 
 module _ {D P A : Type 0} (DiskTells : Type 0) (files : D → Files) (Tells : Type 0) (faults fuses : D → ℕ) (arm_faults : A → ℕ) where
   abbrev OpensAll : Open D P A → Open D P A → List Note → Type 0
@@ -226,5 +226,5 @@ module _ {D P A : Type 0} (DiskTells : Type 0) (files : D → Files) (Tells : Ty
   pub opened_settled : (settings : Settings) (old new : Open D P A) (notes : List Note) → new.settings ≡ settings → IsShaped new → OpensAll old new notes → pending_of new ≡ none_pending settings
   opened_settled settings old new notes same shape opens =
       ap (λ changes. pending_with changes (pending_row new.directory))
-      (settled_each DiskTells files Tells faults fuses (settings.volumes) old.volumes new.volumes opens.of_volumes (shape.many ∙ ap (λ (s : Settings). s.volumes) same) opens.volumes)
+      (settled_each DiskTells files Tells faults fuses old.volumes new.volumes settings.volumes opens.of_volumes (shape.many ∙ ap (λ (s : Settings). s.volumes) same) opens.volumes)
       ∙ ap (λ (mode : Mode). pending_with (replicate settings.volumes None) (line_of_row (unsure_of mode))) opens.directory.serves

@@ -17,7 +17,7 @@ use Rattle.hay_directory.specs.declared.mode.Mode.{Mode}
 use Rattle.hay_directory.specs.declared.mode.Mode.TheVariants.{Closed, Open, Frozen}
 use Rattle.hay_directory.specs.declared.mode.Unsure.{Unsure}
 use Rattle.hay_directory.specs.Homes.{home_among}
-use Rattle.hay_directory.specs.Rows.{dir_row, HasJournal, HasRows, OpensRows}
+use Rattle.hay_directory.specs.Rows.{dir_row, HasJournal, FileHasRows, OpensRows}
 
 -- A directory, with its disk. The drains are by machine.
 pub record State (D : Type 0) : Type 0 where
@@ -143,8 +143,8 @@ Stopped files directory known = StoppedFor files directory known
 -- The file has these rows now, a row may be added, and what is kept in memory is right.
 pub record FindsRows (settings : Settings) (old new : FileState) (end : ℕ) (homes : List ((ℕ × ℕ) × ℕ)) (count : ℕ) : Type 0 where
   pub rows : List HomeRow
-  pub found : HasRows settings old.now rows
-  pub only : (more : List HomeRow) → HasRows settings old.now more → rows ≡ more
+  pub found : FileHasRows settings old.now rows
+  pub only : (more : List HomeRow) → FileHasRows settings old.now more → rows ≡ more
   pub settled : IsSettled settings new end rows
   pub homes_are : (pair : Pair) → home_among homes pair ≡ home_in rows pair
   pub count_is : count ≡ length rows
