@@ -8,6 +8,7 @@ pub mod Dropping
 pub mod Ends
 pub mod Examining
 pub mod Finishing
+pub mod Freezing
 pub mod Holding
 pub mod Knowing
 pub mod Lists

@@ -88,7 +88,7 @@ module _ {D P : Type 0} (files : D → Files) (Tells : Type 0) (k : VolumeKnown)
   room_refused f e = refused_by k.frozen (find (λ at. lacks_room old.settings (length bytes) at.1) (enumerate_from 0 k.replicas)) f refl refl e
 
 pub room_cause : {D : Type 0} (faults : D → ℕ) (settings : Settings) (v : ℕ) (old new : List (Copy D)) (f : LogicalFault) → IsRoomFault settings v f → answers.IsPutFault faults settings v old new f
-room_cause faults settings v old new (logical.ReadOnly m) is = tt
+room_cause faults settings v old new (logical.ReadOnly m) is = is
 room_cause faults settings v old new (logical.Full m end need capacity) is = is
 room_cause faults settings v old new (logical.Gone front) is = absurd is
 room_cause faults settings v old new (logical.Failed m printed) is = absurd is

@@ -19,7 +19,7 @@ ghost use Rattle.hay_compact.specs.Finishing.{IsSeen};
 ghost use Rattle.hay_logical.specs.Fits.{At, PlaceStands, super_of};
 ghost use Rattle.hay_logical.specs.Notes.{DeleteLeavesUnsure, NotesTell, PutLeavesUnsure};
 ghost use Rattle.hay_logical.specs.Steps.{IsRefusedAt, KeepsDisk, RoomFor, SetsPlaceAt};
-ghost use Rattle.hay_logical.specs.Volumes.{HasAll, IsClosed, IsOfSettings, IsOpenVolume, IsSame, KeepsCounts};
+ghost use Rattle.hay_logical.specs.Volumes.{HasAll, IsClosed, IsMachineOf, IsOfSettings, IsOpenVolume, IsSame, KeepsCounts};
 ghost use Rattle.hay_logical.specs.Stands.{Holds, IsFirst, IsIdleVolume, Stands, Stopped};
 ghost use Rattle.hay_logical.specs.Answers.{BeginRefused, CompactRefused, DeleteRefused, FinishRefused, FlushRefused, IsBeginFault, IsBegun, IsCompactFault, IsCompacted, IsDeleteFault, IsDeleted, IsFinished, IsFlushFault, IsFlushed, IsPut, IsPutFault, IsReopened, IsRoomFault, IsRunFault, IsSightFault, IsStepped, PutRefused, RemovesOld, StepRefused, room_answer};
 
@@ -621,6 +621,7 @@ impl<D: Disk> Logical<D> {
     /// The machine by which the volume is frozen.
     pub fn frozen(&self) -> Option<u32>
         ensures is { result ≡ self.now.frozen }
+        ensures on { IfSome result (IsMachineOf self.now.settings self.now.number) }
         ensures known { D.Tells → (k : VolumeKnown) → Stands D.files D.Piece.Tells self.now k → result ≡ k.frozen }
     {
         self.frozen

@@ -31,7 +31,7 @@ pub returns-in_default-clause-suits : goal.returns-in_default-clause-suits
 returns-in_default-clause-suits g c = inr (inr (inl (c.rows.result, refl)))
 
 pub returns-in-Some-closed_by-clause-suits : goal.returns-in-Some-closed_by-clause-suits
-returns-in-Some-closed_by-clause-suits g c = closed_suits_del (c.args.self.now).settings c.in-Some.volume c.in-Some-closed_by.machine c.read_only.result (c.in-Some.ensures).within c.read_only.ensures.is
+returns-in-Some-closed_by-clause-suits g c = closed_suits_del (c.args.self.now).settings c.in-Some.volume c.in-Some-closed_by.machine c.read_only.result (c.in-Some-closed_by.ensures).on c.read_only.ensures.is
 
 pub returns-in-Ok-clause-suits : goal.returns-in-Ok-clause-suits
 returns-in-Ok-clause-suits g c = inl (c.in-Some.volume, c.in-Ok.position, c.rows-in-Ok.result, (c.in-Some.ensures).within, refl)

@@ -73,7 +73,7 @@ returns-clause-causes g c =
     ∙ ap (λ (vs : List (Volume g.row.D.Denot g.row.D-Piece.Denot)). slice_set vs c.args.volume c.maintain.new.volume) c.as_mut_slice.ensures.value in
     let called : Called g.D.Disk.fault_count g.D.Disk.fuse_count store c.args.volume volume c.maintain.new.volume = record { at = at; same = c.maintain.ensures.same; counts = c.maintain.ensures.counts } in
     rw items
-    (IfErr-weaker c.maintain.result _ _ (replica_cause g.D.Disk.fault_count g.D.Disk.fuse_count c.args.self.now store c.args.volume c.args.replica volume c.maintain.new.volume c.self.view_is c.self.invariant called c.args.work) c.maintain.ensures.causes)
+    (IfErr-weaker c.maintain.result _ _ (replica_cause g.D.Disk.fault_count g.D.Disk.fuse_count c.args.self.now store c.args.volume c.args.replica volume c.maintain.new.volume c.self.view_is c.self.invariant called c.requires.replica c.args.work) c.maintain.ensures.causes)
 
 pub returns-clause-counts : goal.returns-clause-counts
 returns-clause-counts g c =

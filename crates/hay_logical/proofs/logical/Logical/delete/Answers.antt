@@ -1,4 +1,4 @@
-use Rattle.std.proofs.Common.{◌≡◌, None, Err, refl, sym, ap, subst, ◌∙◌, Option}
+use Rattle.std.proofs.Common.{◌≡◌, None, Err, refl, sym, ap, subst, ◌∙◌, Option, ◌<◌}
 use Rattle.std.specs.Prelude.{IfErr}
 use Rattle.std.proofs.lemmas.Result.{err_from_is_err_and, on_ok_weaker}
 use Rattle.hay_legal.specs.declared.known.VolumeKnown.{VolumeKnown}
@@ -11,6 +11,7 @@ use Rattle.hay_logical.proofs.Through.{counts_through, delete_later, deleted_lat
 use Rattle.hay_logical.proofs.Telling.{delete_before}
 use Rattle.hay_logical.specs.Notes.{DeleteLeavesUnsure}
 use Rattle.hay_logical.specs.declared.unsure.Unsure.{Unsure}
+use Rattle.hay_logical.specs.Volumes.{IsMachineOf, Volume}
 use Rattle.hay_logical.proofs.logical.Logical.delete.Goals as goal
 
 pub returns-in-Some-clause-refused : goal.returns-in-Some-clause-refused
@@ -60,3 +61,7 @@ returns-clause-deleted_unsure g c = on_ok_weaker c.delete_seen.result (λ same. 
 pub returns-clause-refused_unsure : goal.returns-clause-refused_unsure
 returns-clause-refused_unsure g c =
     subst (λ (u : Option Unsure). IfErr c.delete_seen.result (DeleteLeavesUnsure c.args.tag u c.delete_seen.new.self.unsure)) c.see_each.ensures.still.2 c.delete_seen.ensures.refused_unsure
+
+pub returns-in-Some-clause-causes : goal.returns-in-Some-clause-causes
+returns-in-Some-clause-causes g c =
+    subst (λ (v : Volume g.row.D.Denot g.row.D-Piece.Denot). IsMachineOf v.settings v.number c.in-Some.machine) c.self.view_is ((c.self.invariant.0).frozen_by c.in-Some.machine c.in-Some.is)

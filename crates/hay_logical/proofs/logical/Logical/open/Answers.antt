@@ -14,6 +14,7 @@ use Rattle.hay_logical.proofs.Lists.{at_below, at_there}
 use Rattle.hay_logical.proofs.Methods.{same_by, shaped_on}
 use Rattle.hay_logical.proofs.Opened.{err_same, first_stands, no_damage, no_notes, not_damaged, notes_on, notes_tell, reopened, reopened_on}
 use Rattle.hay_logical.proofs.Standing.{volume_with}
+use Rattle.hay_logical.proofs.Freezing.{never_frozen}
 use Rattle.hay_logical.proofs.logical.Logical.open.Goals as goal
 
 pub open_all-requires-after_bounds : goal.open_all-requires-after_bounds
@@ -87,7 +88,7 @@ invariant_of-self g c =
     let count = c.open_all.ensures.counts.count ∙ ap length now in
     let shape = c.self.invariant.0 in (
       subst (λ rs. IsShaped (volume_with here.settings here.number rs c.open_all.new.rows here.front here.frozen here.unsure)) (sym kept)
-          (shaped_on here.settings here.number olds news here.rows c.open_all.new.rows here.front here.front here.frozen here.frozen here.unsure here.unsure shape count
+          (shaped_on here.settings here.number olds news here.rows c.open_all.new.rows here.front here.front here.frozen here.frozen here.unsure here.unsure shape shape.frozen_by count
           (λ j r r' e f. (c.open_all.ensures.left j r r' (subst (λ xs. At xs j r) (sym now) e) f).sup)
           (c.open_all.ensures.width ∙ c.new.ensures.replicas ∙ sym shape.width)
           (λ none j r r' e f. c.in-Err.ensures.thawed j r' f)),
@@ -159,7 +160,7 @@ invariant_of-self-in_default g c =
     λ j r r' e f. c.in-Ok.ensures.opened j r r' (subst (λ xs. At xs j r) (sym now) e) f in
     let shape = c.self.invariant.0 in (
       subst (λ rs. IsShaped (volume_with here.settings here.number rs c.open_all.new.rows here.front here.frozen here.unsure)) (sym kept)
-          (shaped_on here.settings here.number olds news here.rows c.open_all.new.rows here.front here.front here.frozen here.frozen here.unsure here.unsure shape count
+          (shaped_on here.settings here.number olds news here.rows c.open_all.new.rows here.front here.front here.frozen here.frozen here.unsure here.unsure shape shape.frozen_by count
           (λ j r r' e f. (c.open_all.ensures.left j r r' (subst (λ xs. At xs j r) (sym now) e) f).sup)
           (c.open_all.ensures.width ∙ c.new.ensures.replicas ∙ sym shape.width)
           (λ none j r r' e f. up_thawed r' (opened j r r' e f).up)),
@@ -236,7 +237,7 @@ invariant_of-self-2 g c =
     λ j r r' e f. c.in-Ok.ensures.opened j r r' (subst (λ xs. At xs j r) (sym now) e) f in
     let shape = c.self.invariant.0 in (
       subst (λ rs. IsShaped (volume_with here.settings here.number rs c.open_all.new.rows 0 None None)) (sym kept)
-          (shaped_on here.settings here.number olds news here.rows c.open_all.new.rows here.front 0 here.frozen None here.unsure None shape count
+          (shaped_on here.settings here.number olds news here.rows c.open_all.new.rows here.front 0 here.frozen None here.unsure None shape (never_frozen here.settings here.number) count
           (λ j r r' e f. (c.open_all.ensures.left j r r' (subst (λ xs. At xs j r) (sym now) e) f).sup)
           (c.open_all.ensures.width ∙ c.new.ensures.replicas ∙ sym shape.width)
           (λ none j r r' e f. up_thawed r' (opened j r r' e f).up)),
