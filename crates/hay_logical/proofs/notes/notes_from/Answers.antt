@@ -8,7 +8,7 @@ use Rattle.hay_logical.proofs.Telling.{notes_fit}
 use Rattle.hay_logical.proofs.notes.notes_from.Goals as goal
 
 pub returns-clause-fits : goal.returns-clause-fits
-returns-clause-fits g c =
+returns-clause-fits c =
     let items = c.loop-j.notes.items in
     let ended : length c.args.kept.now ≤ c.loop-j.j = omega arith in
     let rest : drop c.loop-j.j c.args.kept.now ≡ [] = drop_all c.loop-j.j c.args.kept.now ended in
