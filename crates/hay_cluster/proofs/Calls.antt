@@ -43,7 +43,7 @@ module _ {D P A : Type 0} (faults fuses : D → ℕ) where
   pub put_cause : (old store : Open D P A) (v : ℕ) (before after : Volume D P) (fault : LogicalFault) → store ≡ old → IsShaped store → Called faults fuses store v before after
       → IsPutFault faults before.settings before.number before.replicas after.replicas fault
       → IsPutCause old.settings v (map faults (disks_of old)) (map faults (disks_of (with_one store v after))) fault
-  put_cause old store v before after (ReadOnly m) is shape called h = (tt, tt, tt)
+  put_cause old store v before after (ReadOnly m) is shape called h = (tt, tt, machine_on old store v before m is shape called.at h)
   put_cause old store v before after (Full m end need capacity) is shape called h = (tt, tt, machine_on old store v before m is shape called.at h)
   put_cause old store v before after (Failed m count) is shape called h = (tt, called_failed faults fuses old store v before after m count is shape called h, tt)
   put_cause old store v before after NoMemory is shape called h = (tt, tt, tt)
@@ -52,52 +52,59 @@ module _ {D P A : Type 0} (faults fuses : D → ℕ) where
   pub delete_cause : (old store : Open D P A) (v : ℕ) (before after : Volume D P) (fault : LogicalFault) → store ≡ old → IsShaped store → Called faults fuses store v before after
       → IsDeleteFault faults before.settings before.number before.replicas after.replicas fault
       → IsDeleteCause old.settings v (map faults (disks_of old)) (map faults (disks_of (with_one store v after))) fault
-  delete_cause old store v before after (ReadOnly m) is shape called h = (tt, tt, tt)
+  delete_cause old store v before after (ReadOnly m) is shape called h = (tt, tt, machine_on old store v before m is shape called.at h)
   delete_cause old store v before after (Gone front) is shape called h = (tt, tt, tt)
   delete_cause old store v before after (Failed m count) is shape called h = (tt, called_failed faults fuses old store v before after m count is shape called h, tt)
   delete_cause old store v before after (Damaged m at) is shape called h = (tt, tt, machine_on old store v before m is shape called.at h)
   delete_cause old store v before after NoMemory is shape called h = (tt, tt, tt)
   delete_cause old store v before after _ is shape called h = absurd h
 
-  module _ (old store : Open D P A) (v replica : ℕ) (before after : Volume D P) (is : store ≡ old) (shape : IsShaped store) (called : Called faults fuses store v before after) where
+  module _ (old store : Open D P A) (v replica : ℕ) (before after : Volume D P) (is : store ≡ old) (shape : IsShaped store) (called : Called faults fuses store v before after) (within : replica < (old.settings).replicas) where
     -- the machine of the replica, by the store's settings
     here : (m : ℕ) → m ≡ machine_of before.settings before.number replica → m ≡ machine_of old.settings v replica
     here m machine =
         let was = volume_of store v before shape called.at in
         machine ∙ ap (λ (s : Settings). machine_of s before.number replica) was.settings_are ∙ ap (λ n. machine_of store.settings n replica) was.number ∙ ap (λ (st : Open D P A). machine_of st.settings v replica) is
 
+    -- the volume has one there
+    there : (m : ℕ) → m ≡ machine_of before.settings before.number replica → IsOn old.settings v m
+    there m machine =
+        let was = volume_of store v before shape called.at in
+        let same = was.settings_are ∙ ap (λ (st : Open D P A). st.settings) is in
+        machine_on old store v before m is shape called.at (replica, subst (λ (s : Settings). replica < s.replicas) (sym same) within, machine)
+
     abbrev Causes : Maintenance → LogicalFault → Type 0
     Causes work fault = IsReplicaCause old.settings work v replica (map faults (disks_of old)) (map faults (disks_of (with_one store v after))) fault
 
     flush_cause : (fault : LogicalFault) → IsFlushFault faults before.settings before.number replica before.replicas after.replicas fault → Causes Flush fault
-    flush_cause (Failed m count) h = (here m h.0, called_failed faults fuses old store v before after m count is shape called h.1)
-    flush_cause (ReadOnly m) h = (tt, tt)
-    flush_cause NoMemory h = (tt, tt)
+    flush_cause (Failed m count) h = (here m h.0, called_failed faults fuses old store v before after m count is shape called h.1, tt)
+    flush_cause (ReadOnly m) h = (tt, tt, machine_on old store v before m is shape called.at h)
+    flush_cause NoMemory h = (tt, tt, tt)
     flush_cause _ h = absurd h
 
     begin_cause : (fault : LogicalFault) → IsBeginFault faults before.settings before.number replica before.replicas after.replicas fault → Causes Begin fault
-    begin_cause (Failed m count) h = (here m h.0, called_failed faults fuses old store v before after m count is shape called h.1)
-    begin_cause (ReadOnly m) h = (tt, tt)
-    begin_cause (Busy m generation) h = (here m h, tt)
-    begin_cause (Worn m) h = (here m h, tt)
-    begin_cause NoMemory h = (tt, tt)
+    begin_cause (Failed m count) h = (here m h.0, called_failed faults fuses old store v before after m count is shape called h.1, tt)
+    begin_cause (ReadOnly m) h = (tt, tt, machine_on old store v before m is shape called.at h)
+    begin_cause (Busy m generation) h = (here m h, tt, tt)
+    begin_cause (Worn m) h = (here m h, tt, tt)
+    begin_cause NoMemory h = (tt, tt, tt)
     begin_cause _ h = absurd h
 
     run_cause : (fault : LogicalFault) → IsRunFault faults before.settings before.number replica before.replicas after.replicas fault → Causes Finish fault
-    run_cause (Failed m count) h = (here m h.0, called_failed faults fuses old store v before after m count is shape called h.1)
-    run_cause (ReadOnly m) h = (tt, tt)
-    run_cause Idle h = (tt, tt)
-    run_cause (Damaged m at) h = (here m h, tt)
-    run_cause NoMemory h = (tt, tt)
+    run_cause (Failed m count) h = (here m h.0, called_failed faults fuses old store v before after m count is shape called h.1, tt)
+    run_cause (ReadOnly m) h = (tt, tt, machine_on old store v before m is shape called.at h)
+    run_cause Idle h = (tt, tt, tt)
+    run_cause (Damaged m at) h = (here m h, tt, there m h)
+    run_cause NoMemory h = (tt, tt, tt)
     run_cause _ h = absurd h
 
     compact_cause : (fault : LogicalFault) → IsCompactFault faults before.settings before.number replica before.replicas after.replicas fault → Causes Compact fault
-    compact_cause (Failed m count) h = (here m h.0, called_failed faults fuses old store v before after m count is shape called h.1)
-    compact_cause (ReadOnly m) h = (tt, tt)
-    compact_cause (Busy m generation) h = (here m h, tt)
-    compact_cause (Worn m) h = (here m h, tt)
-    compact_cause (Damaged m at) h = (here m h, tt)
-    compact_cause NoMemory h = (tt, tt)
+    compact_cause (Failed m count) h = (here m h.0, called_failed faults fuses old store v before after m count is shape called h.1, tt)
+    compact_cause (ReadOnly m) h = (tt, tt, machine_on old store v before m is shape called.at h)
+    compact_cause (Busy m generation) h = (here m h, tt, tt)
+    compact_cause (Worn m) h = (here m h, tt, tt)
+    compact_cause (Damaged m at) h = (here m h, tt, there m h)
+    compact_cause NoMemory h = (tt, tt, tt)
     compact_cause _ h = absurd h
 
     pub replica_cause : (work : Maintenance) (fault : LogicalFault) → IsReplicaFault faults before.settings work before.number replica before.replicas after.replicas fault → Causes work fault

@@ -20,6 +20,7 @@ pub mod OpeningStore
 pub mod OpeningTaken
 pub mod OpeningVoid
 pub mod OpeningVolumes
+pub mod Pending
 pub mod Puts
 pub mod Refusals
 pub mod Rooms

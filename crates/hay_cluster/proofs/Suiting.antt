@@ -1,14 +1,15 @@
 -- Replies are those that their commands may be given.
-use Rattle.std.proofs.Common.{◌≡◌, ◌⊎◌, ℕ, suc, ◌+◌, ◌<◌, inl, inr, List, [], ◌∷◌, ◌++◌, map, Option, Some, None, refl, sym, ap, subst, ◌∙◌, arith}
-use Rattle.std.specs.Prelude.{IfSome}
+use Rattle.std.proofs.Common.{◌≡◌, ◌⊎◌, ℕ, suc, ◌+◌, ◌<◌, inl, inr, List, [], ◌∷◌, ◌++◌, map, Option, Some, None, refl, sym, ap, subst, ◌∙◌, arith, Bool}
+use Rattle.std.specs.Prelude.{IfSome, find}
 use Rattle.std.specs.List.{AllZip, list_any, range_with_len}
+use Rattle.std.proofs.lemmas.Option.{IfSome_then}
 use Rattle.hay_needle.specs.declared.needle.Pair.{Pair}
 use Rattle.hay_needle.specs.declared.settings.Settings.{Settings}
 use Rattle.hay_reply.specs.declared.Refused.{Refused}
 use Rattle.hay_reply.specs.declared.Refused.TheVariants.{NoRoom, Closed}
 use Rattle.hay_reply.specs.declared.Reply.{Reply}
 use Rattle.hay_reply.specs.declared.Reply.TheVariants as reply
-use Rattle.hay_legal.specs.Known.{all_tries, machine_of, replica_on, try_at}
+use Rattle.hay_legal.specs.Known.{all_tries, machine_of, replica_on, replicas_of, try_at}
 use Rattle.hay_legal.specs.Plain.{wants_room}
 use Rattle.hay_directory.specs.declared.fault.DirFault.{DirFault}
 use Rattle.hay_directory.specs.declared.fault.DirFault.TheVariants as settling
@@ -17,14 +18,14 @@ use Rattle.hay_logical.specs.declared.fault.LogicalFault.{LogicalFault}
 use Rattle.hay_logical.specs.declared.fault.LogicalFault.TheVariants as refusal
 use Rattle.hay_cluster.specs.declared.maintenance.Maintenance.{Maintenance}
 use Rattle.hay_cluster.specs.declared.maintenance.Maintenance.TheVariants.{Flush, Begin, Step, Finish, Compact}
-use Rattle.hay_cluster.specs.Causes.{IsDeleteCause, IsPutCause, RefusesBegin, RefusesCompact, RefusesFlush, RefusesOn, RefusesRun, RefusesWork}
+use Rattle.hay_cluster.specs.Causes.{IsDeleteCause, IsPutCause, RefusesBegin, RefusesCompact, RefusesFlush, RefusesOn, RefusesRun, RefusesWork, IsThere}
 use Rattle.hay_cluster.specs.Changes.{IsDeleteReply, IsReadOnly}
 use Rattle.hay_cluster.specs.Lacks.{lack_of}
 use Rattle.hay_cluster.specs.Maintenance.{IsRefusedAs, command_of, done_as}
 use Rattle.hay_cluster.specs.Puts.{IsPutReply, IsRefusal, settle_reply}
 use Rattle.hay_cluster.specs.Store.{IsBuilt}
 use Rattle.hay_cluster.specs.Suiting.{AtReplica, IsOn, IsReadOnlyAt, IsRefusedBy, Refuses, Suits, SuitsBegin, SuitsCompact, SuitsDel, SuitsFlush, SuitsPut, SuitsRun}
-use Rattle.hay_cluster.proofs.Finds.{range-snoc}
+use Rattle.hay_cluster.proofs.Finds.{range-snoc, map_found}
 use Rattle.hay_cluster.proofs.Lists.{AllZip-append, map-append}
 use Rattle.hay_cluster.proofs.Machines.{replica_found}
 
@@ -32,6 +33,12 @@ use Rattle.hay_cluster.proofs.Machines.{replica_found}
 
 pub on_machine : (settings : Settings) (v j m : ℕ) → IsBuilt settings → v < settings.volumes → j < settings.replicas → m ≡ machine_of settings v j → IsOn settings v m
 on_machine settings v j m built volume within is = (j, ap (replica_on settings v) is ∙ replica_found settings v j volume within built.no_more_replicas)
+
+-- the first of the replicas' machines that passes a test
+pub drained_on : (settings : Settings) (v : ℕ) (test : ℕ → Bool) → IsBuilt settings → v < settings.volumes → IfSome (find test (map (machine_of settings v) (replicas_of settings))) (IsOn settings v)
+drained_on settings v test built volume =
+    IfSome_then (find test (map (machine_of settings v) (replicas_of settings))) (map_found test (machine_of settings v) settings.replicas 0 settings.replicas (omega arith))
+    (λ m is. on_machine settings v is.0 m built volume is.1 is.2)
 
 -- what is answered of a replica that there is, and of one that there is not
 pub at_replica : (o : Option ℕ) (suits : ℕ → Reply → Type 0) (replica : ℕ) (said : Reply) → o ≡ Some replica → suits replica said → AtReplica o suits said
@@ -85,7 +92,7 @@ refusal_suits settings pair refused _ by told = absurd told
 
 pub put_refusal_suits : (settings : Settings) (pair : Pair) (v : ℕ) (before after : List ℕ) (fault : LogicalFault) (said : Reply) → v < settings.volumes → IsPutCause settings v before after fault → IsPutReply v fault said
     → SuitsPut settings pair said
-put_refusal_suits settings pair v before after (refusal.ReadOnly m) said volume cause told = refusal_suits settings pair (Closed v m ∷ []) said (one_refuses settings pair v (Closed v m) volume refl) told
+put_refusal_suits settings pair v before after (refusal.ReadOnly m) said volume cause told = refusal_suits settings pair (Closed v m ∷ []) said (one_refuses settings pair v (Closed v m) volume (refl, cause.2)) told
 put_refusal_suits settings pair v before after (refusal.Full m end need capacity) said volume cause told =
     refusal_suits settings pair (NoRoom v m end need ∷ []) said (one_refuses settings pair v (NoRoom v m end need) volume (refl, cause.2)) told
 put_refusal_suits settings pair v before after (refusal.Failed m count) said volume cause told = let rose = cause.1 in inr (inr (inr (inr (inl (v, m, count, (rose.replica, rose.there), told)))))
@@ -99,15 +106,15 @@ settle_suits settings pair (settling.Failed count) = inr (inr (inr (inr (inr (in
 
 -- DELETES
 
-pub closed_suits_del : (settings : Settings) (v by : ℕ) (said : Reply) → v < settings.volumes → IsReadOnly v by said → SuitsDel settings said
-closed_suits_del settings v by said volume (inl is) = inr (inr (inr (inl (record { volume = v; machine = by }, volume, is))))
-closed_suits_del settings v by said volume (inr is) = inr (inr (inr (inr (inr (inr is)))))
+pub closed_suits_del : (settings : Settings) (v by : ℕ) (said : Reply) → IsOn settings v by → IsReadOnly v by said → SuitsDel settings said
+closed_suits_del settings v by said on (inl is) = inr (inr (inr (inl (record { volume = v; machine = by }, on, is))))
+closed_suits_del settings v by said on (inr is) = inr (inr (inr (inr (inr (inr is)))))
 
 pub del_refusal_suits : (settings : Settings) (v rows : ℕ) (before after : List ℕ) (fault : LogicalFault) (said : Reply) → v < settings.volumes → IsDeleteCause settings v before after fault → IsDeleteReply v rows fault said
     → SuitsDel settings said
 del_refusal_suits settings v rows before after (refusal.Gone front) said volume cause told = inr (inl (v, front, rows, volume, told))
 del_refusal_suits settings v rows before after (refusal.Failed m count) said volume cause told = let rose = cause.1 in inr (inr (inr (inr (inl (v, m, count, (rose.replica, rose.there), told)))))
-del_refusal_suits settings v rows before after (refusal.ReadOnly m) said volume cause told = closed_suits_del settings v m said volume told
+del_refusal_suits settings v rows before after (refusal.ReadOnly m) said volume cause told = closed_suits_del settings v m said cause.2 told
 del_refusal_suits settings v rows before after (refusal.Damaged m at) said volume cause told = inr (inr (inr (inr (inr (inl (v, m, at, cause.2, told))))))
 del_refusal_suits settings v rows before after refusal.NoMemory said volume cause told = inr (inr (inr (inr (inr (inr told)))))
 del_refusal_suits settings v rows before after _ said volume cause told = absurd told
@@ -133,56 +140,56 @@ work_refuses Compact here (refusal.Gone front) is = absurd is
 work_refuses Compact here _ is = tt
 
 -- A volume's refusal, as it is told: want of memory, or what suits the work.
-module _ (v m : ℕ) where
+module _ (settings : Settings) (v m : ℕ) where
   -- how work is refused on this replica, apart from want of memory
   abbrev SuitsWork : Maintenance → Reply → Type 0
-  SuitsWork Flush said = SuitsFlush v m said
-  SuitsWork Begin said = SuitsBegin v m said
-  SuitsWork (Step cells) said = SuitsRun (reply.Stepped v m) v m said
-  SuitsWork Finish said = SuitsRun (reply.Compacted v m) v m said
-  SuitsWork Compact said = SuitsCompact v m said
+  SuitsWork Flush said = SuitsFlush settings v m said
+  SuitsWork Begin said = SuitsBegin settings v m said
+  SuitsWork (Step cells) said = SuitsRun settings (reply.Stepped v m) v m said
+  SuitsWork Finish said = SuitsRun settings (reply.Compacted v m) v m said
+  SuitsWork Compact said = SuitsCompact settings v m said
 
-  read_only : (by : ℕ) (said : Reply) → IsReadOnly v by said → IsReadOnlyAt v said ⊎ (said ≡ reply.NoMem)
-  read_only by said (inl is) = inl (by, is)
-  read_only by said (inr is) = inr is
+  read_only : (by : ℕ) (said : Reply) → IsOn settings v by → IsReadOnly v by said → IsReadOnlyAt settings v said ⊎ (said ≡ reply.NoMem)
+  read_only by said on (inl is) = inl (by, on, is)
+  read_only by said on (inr is) = inr is
 
-  flush_refused : (fault : LogicalFault) (said : Reply) → RefusesFlush m fault → IsRefusedAs v m fault said → SuitsFlush v m said ⊎ (said ≡ reply.NoMem)
-  flush_refused (refusal.ReadOnly by) said is told = elim (read_only by said told) [ inl h ↦ inl (inr (inl h)) | inr h ↦ inr h ]
-  flush_refused (refusal.Failed by count) said is told = inl (inr (inr (count, told ∙ ap (λ n. reply.Failed v n count) is)))
-  flush_refused refusal.NoMemory said is told = inr told
-  flush_refused _ said is told = absurd is
+  flush_refused : (fault : LogicalFault) (said : Reply) → RefusesFlush m fault → IsThere settings v fault → IsRefusedAs v m fault said → SuitsFlush settings v m said ⊎ (said ≡ reply.NoMem)
+  flush_refused (refusal.ReadOnly by) said is there told = elim (read_only by said there told) [ inl h ↦ inl (inr (inl h)) | inr h ↦ inr h ]
+  flush_refused (refusal.Failed by count) said is there told = inl (inr (inr (count, told ∙ ap (λ n. reply.Failed v n count) is)))
+  flush_refused refusal.NoMemory said is there told = inr told
+  flush_refused _ said is there told = absurd is
 
-  begin_refused : (fault : LogicalFault) (said : Reply) → RefusesBegin m fault → IsRefusedAs v m fault said → SuitsBegin v m said ⊎ (said ≡ reply.NoMem)
-  begin_refused (refusal.ReadOnly by) said is told = elim (read_only by said told) [ inl h ↦ inl (inr (inl h)) | inr h ↦ inr h ]
-  begin_refused (refusal.Busy by generation) said is told = inl (inr (inr (inl (generation, told ∙ ap (λ n. reply.Busy v n generation) is))))
-  begin_refused (refusal.Worn by) said is told = inl (inr (inr (inr (inl (told ∙ ap (λ n. reply.Worn v n) is)))))
-  begin_refused (refusal.Failed by count) said is told = inl (inr (inr (inr (inr (count, told ∙ ap (λ n. reply.Failed v n count) is)))))
-  begin_refused refusal.NoMemory said is told = inr told
-  begin_refused _ said is told = absurd is
+  begin_refused : (fault : LogicalFault) (said : Reply) → RefusesBegin m fault → IsThere settings v fault → IsRefusedAs v m fault said → SuitsBegin settings v m said ⊎ (said ≡ reply.NoMem)
+  begin_refused (refusal.ReadOnly by) said is there told = elim (read_only by said there told) [ inl h ↦ inl (inr (inl h)) | inr h ↦ inr h ]
+  begin_refused (refusal.Busy by generation) said is there told = inl (inr (inr (inl (generation, told ∙ ap (λ n. reply.Busy v n generation) is))))
+  begin_refused (refusal.Worn by) said is there told = inl (inr (inr (inr (inl (told ∙ ap (λ n. reply.Worn v n) is)))))
+  begin_refused (refusal.Failed by count) said is there told = inl (inr (inr (inr (inr (count, told ∙ ap (λ n. reply.Failed v n count) is)))))
+  begin_refused refusal.NoMemory said is there told = inr told
+  begin_refused _ said is there told = absurd is
 
-  run_refused : (did : ℕ → Reply) (fault : LogicalFault) (said : Reply) → RefusesRun m fault → IsRefusedAs v m fault said → SuitsRun did v m said ⊎ (said ≡ reply.NoMem)
-  run_refused did (refusal.ReadOnly by) said is told = elim (read_only by said told) [ inl h ↦ inl (inr (inl h)) | inr h ↦ inr h ]
-  run_refused did refusal.Idle said is told = inl (inr (inr (inl told)))
-  run_refused did (refusal.Failed by count) said is told = inl (inr (inr (inr (inl (count, told ∙ ap (λ n. reply.Failed v n count) is)))))
-  run_refused did (refusal.Damaged by at) said is told = inl (inr (inr (inr (inr (at, told ∙ ap (λ n. reply.Damaged v n at) is)))))
-  run_refused did refusal.NoMemory said is told = inr told
-  run_refused did _ said is told = absurd is
+  run_refused : (did : ℕ → Reply) (fault : LogicalFault) (said : Reply) → RefusesRun m fault → IsThere settings v fault → IsRefusedAs v m fault said → SuitsRun settings did v m said ⊎ (said ≡ reply.NoMem)
+  run_refused did (refusal.ReadOnly by) said is there told = elim (read_only by said there told) [ inl h ↦ inl (inr (inl h)) | inr h ↦ inr h ]
+  run_refused did refusal.Idle said is there told = inl (inr (inr (inl told)))
+  run_refused did (refusal.Failed by count) said is there told = inl (inr (inr (inr (inl (count, told ∙ ap (λ n. reply.Failed v n count) is)))))
+  run_refused did (refusal.Damaged by at) said is there told = inl (inr (inr (inr (inr (at, told ∙ ap (λ n. reply.Damaged v n at) is)))))
+  run_refused did refusal.NoMemory said is there told = inr told
+  run_refused did _ said is there told = absurd is
 
-  compact_refused : (fault : LogicalFault) (said : Reply) → RefusesCompact m fault → IsRefusedAs v m fault said → SuitsCompact v m said ⊎ (said ≡ reply.NoMem)
-  compact_refused (refusal.ReadOnly by) said is told = elim (read_only by said told) [ inl h ↦ inl (inr (inl h)) | inr h ↦ inr h ]
-  compact_refused (refusal.Busy by generation) said is told = inl (inr (inr (inl (generation, told ∙ ap (λ n. reply.Busy v n generation) is))))
-  compact_refused (refusal.Worn by) said is told = inl (inr (inr (inr (inl (told ∙ ap (λ n. reply.Worn v n) is)))))
-  compact_refused (refusal.Failed by count) said is told = inl (inr (inr (inr (inr (inl (count, told ∙ ap (λ n. reply.Failed v n count) is))))))
-  compact_refused (refusal.Damaged by at) said is told = inl (inr (inr (inr (inr (inr (at, told ∙ ap (λ n. reply.Damaged v n at) is))))))
-  compact_refused refusal.NoMemory said is told = inr told
-  compact_refused _ said is told = absurd is
+  compact_refused : (fault : LogicalFault) (said : Reply) → RefusesCompact m fault → IsThere settings v fault → IsRefusedAs v m fault said → SuitsCompact settings v m said ⊎ (said ≡ reply.NoMem)
+  compact_refused (refusal.ReadOnly by) said is there told = elim (read_only by said there told) [ inl h ↦ inl (inr (inl h)) | inr h ↦ inr h ]
+  compact_refused (refusal.Busy by generation) said is there told = inl (inr (inr (inl (generation, told ∙ ap (λ n. reply.Busy v n generation) is))))
+  compact_refused (refusal.Worn by) said is there told = inl (inr (inr (inr (inl (told ∙ ap (λ n. reply.Worn v n) is)))))
+  compact_refused (refusal.Failed by count) said is there told = inl (inr (inr (inr (inr (inl (count, told ∙ ap (λ n. reply.Failed v n count) is))))))
+  compact_refused (refusal.Damaged by at) said is there told = inl (inr (inr (inr (inr (inr (at, told ∙ ap (λ n. reply.Damaged v n at) is))))))
+  compact_refused refusal.NoMemory said is there told = inr told
+  compact_refused _ said is there told = absurd is
 
-  pub undone_suits : (work : Maintenance) (fault : LogicalFault) (said : Reply) → RefusesOn work m fault → IsRefusedAs v m fault said → SuitsWork work said ⊎ (said ≡ reply.NoMem)
-  undone_suits Flush fault said is told = flush_refused fault said is told
-  undone_suits Begin fault said is told = begin_refused fault said is told
-  undone_suits (Step cells) fault said is told = run_refused (reply.Stepped v m) fault said is told
-  undone_suits Finish fault said is told = run_refused (reply.Compacted v m) fault said is told
-  undone_suits Compact fault said is told = compact_refused fault said is told
+  pub undone_suits : (work : Maintenance) (fault : LogicalFault) (said : Reply) → RefusesOn work m fault → IsThere settings v fault → IsRefusedAs v m fault said → SuitsWork work said ⊎ (said ≡ reply.NoMem)
+  undone_suits Flush fault said is there told = flush_refused fault said is there told
+  undone_suits Begin fault said is there told = begin_refused fault said is there told
+  undone_suits (Step cells) fault said is there told = run_refused (reply.Stepped v m) fault said is there told
+  undone_suits Finish fault said is there told = run_refused (reply.Compacted v m) fault said is there told
+  undone_suits Compact fault said is there told = compact_refused fault said is there told
 
   pub done_suits : (work : Maintenance) (n : ℕ) (said : Reply) → said ≡ done_as v m work n → SuitsWork work said
   done_suits Flush n said is = inl (n, is)
@@ -191,23 +198,23 @@ module _ (v m : ℕ) where
   done_suits Finish n said is = inl (n, is)
   done_suits Compact n said is = inl (n, is)
 
-  pub work_suits : (settings : Settings) (line replica : ℕ) (work : Maintenance) (said : Reply) → replica_on settings v m ≡ Some replica → SuitsWork work said → Suits settings line (command_of work v m) said
-  work_suits settings line replica Flush said there is = at_replica (replica_on settings v m) (λ j. SuitsFlush v m) replica said there is
-  work_suits settings line replica Begin said there is = at_replica (replica_on settings v m) (λ j. SuitsBegin v m) replica said there is
-  work_suits settings line replica (Step cells) said there is = at_replica (replica_on settings v m) (λ j. SuitsRun (reply.Stepped v m) v m) replica said there is
-  work_suits settings line replica Finish said there is = at_replica (replica_on settings v m) (λ j. SuitsRun (reply.Compacted v m) v m) replica said there is
-  work_suits settings line replica Compact said there is = at_replica (replica_on settings v m) (λ j. SuitsCompact v m) replica said there is
+  pub work_suits : (line replica : ℕ) (work : Maintenance) (said : Reply) → replica_on settings v m ≡ Some replica → SuitsWork work said → Suits settings line (command_of work v m) said
+  work_suits line replica Flush said there is = at_replica (replica_on settings v m) (λ j. SuitsFlush settings v m) replica said there is
+  work_suits line replica Begin said there is = at_replica (replica_on settings v m) (λ j. SuitsBegin settings v m) replica said there is
+  work_suits line replica (Step cells) said there is = at_replica (replica_on settings v m) (λ j. SuitsRun settings (reply.Stepped v m) v m) replica said there is
+  work_suits line replica Finish said there is = at_replica (replica_on settings v m) (λ j. SuitsRun settings (reply.Compacted v m) v m) replica said there is
+  work_suits line replica Compact said there is = at_replica (replica_on settings v m) (λ j. SuitsCompact settings v m) replica said there is
 
-  pub memory_suits : (settings : Settings) (line replica : ℕ) (work : Maintenance) (said : Reply) → replica_on settings v m ≡ Some replica → said ≡ reply.NoMem → Suits settings line (command_of work v m) said
-  memory_suits settings line replica Flush said there is = at_no_memory (replica_on settings v m) (λ j. SuitsFlush v m) replica said there is
-  memory_suits settings line replica Begin said there is = at_no_memory (replica_on settings v m) (λ j. SuitsBegin v m) replica said there is
-  memory_suits settings line replica (Step cells) said there is = at_no_memory (replica_on settings v m) (λ j. SuitsRun (reply.Stepped v m) v m) replica said there is
-  memory_suits settings line replica Finish said there is = at_no_memory (replica_on settings v m) (λ j. SuitsRun (reply.Compacted v m) v m) replica said there is
-  memory_suits settings line replica Compact said there is = at_no_memory (replica_on settings v m) (λ j. SuitsCompact v m) replica said there is
+  pub memory_suits : (line replica : ℕ) (work : Maintenance) (said : Reply) → replica_on settings v m ≡ Some replica → said ≡ reply.NoMem → Suits settings line (command_of work v m) said
+  memory_suits line replica Flush said there is = at_no_memory (replica_on settings v m) (λ j. SuitsFlush settings v m) replica said there is
+  memory_suits line replica Begin said there is = at_no_memory (replica_on settings v m) (λ j. SuitsBegin settings v m) replica said there is
+  memory_suits line replica (Step cells) said there is = at_no_memory (replica_on settings v m) (λ j. SuitsRun settings (reply.Stepped v m) v m) replica said there is
+  memory_suits line replica Finish said there is = at_no_memory (replica_on settings v m) (λ j. SuitsRun settings (reply.Compacted v m) v m) replica said there is
+  memory_suits line replica Compact said there is = at_no_memory (replica_on settings v m) (λ j. SuitsCompact settings v m) replica said there is
 
-  pub nowhere_suits : (settings : Settings) (line : ℕ) (work : Maintenance) → replica_on settings v m ≡ None → Suits settings line (command_of work v m) reply.Nowhere
-  nowhere_suits settings line Flush none = at_none (replica_on settings v m) (λ j. SuitsFlush v m) none
-  nowhere_suits settings line Begin none = at_none (replica_on settings v m) (λ j. SuitsBegin v m) none
-  nowhere_suits settings line (Step cells) none = at_none (replica_on settings v m) (λ j. SuitsRun (reply.Stepped v m) v m) none
-  nowhere_suits settings line Finish none = at_none (replica_on settings v m) (λ j. SuitsRun (reply.Compacted v m) v m) none
-  nowhere_suits settings line Compact none = at_none (replica_on settings v m) (λ j. SuitsCompact v m) none
+  pub nowhere_suits : (line : ℕ) (work : Maintenance) → replica_on settings v m ≡ None → Suits settings line (command_of work v m) reply.Nowhere
+  nowhere_suits line Flush none = at_none (replica_on settings v m) (λ j. SuitsFlush settings v m) none
+  nowhere_suits line Begin none = at_none (replica_on settings v m) (λ j. SuitsBegin settings v m) none
+  nowhere_suits line (Step cells) none = at_none (replica_on settings v m) (λ j. SuitsRun settings (reply.Stepped v m) v m) none
+  nowhere_suits line Finish none = at_none (replica_on settings v m) (λ j. SuitsRun settings (reply.Compacted v m) v m) none
+  nowhere_suits line Compact none = at_none (replica_on settings v m) (λ j. SuitsCompact settings v m) none

@@ -223,11 +223,11 @@ RoseWhereFailed settings v before after refusal.Idle = Unit {0}
 RoseWhereFailed settings v before after (refusal.Damaged m at) = Unit {0}
 RoseWhereFailed settings v before after refusal.NoMemory = Unit {0}
 
--- a replica that lacks room, or whose needle is damaged, is on the machine that is told
+-- a replica that lacks room, or whose needle is damaged, is on the machine that is told, and so is one of a frozen volume
 abbrev pub IsThere : Settings → ℕ → LogicalFault → Type 0
 IsThere settings v (refusal.Full m end need capacity) = IsOn settings v m
 IsThere settings v (refusal.Failed m count) = Unit {0}
-IsThere settings v (refusal.ReadOnly m) = Unit {0}
+IsThere settings v (refusal.ReadOnly m) = IsOn settings v m
 IsThere settings v (refusal.Gone front) = Unit {0}
 IsThere settings v (refusal.Busy m generation) = Unit {0}
 IsThere settings v (refusal.Worn m) = Unit {0}
@@ -243,7 +243,7 @@ IsDeleteCause settings v before after fault = RefusesDelete fault × RoseWhereFa
 
 abbrev pub IsReplicaCause : Settings → Maintenance → ℕ → ℕ → List ℕ → List ℕ → LogicalFault → Type 0
 IsReplicaCause settings work v replica before after fault =
-    RefusesOn work (machine_of settings v replica) fault × RoseWhereFailed settings v before after fault
+    RefusesOn work (machine_of settings v replica) fault × RoseWhereFailed settings v before after fault × IsThere settings v fault
 
 -- ARMS THAT ARE SURE
 

@@ -6,6 +6,7 @@ pub mod Maintenance
 pub mod Opening
 pub mod Outside
 pub mod Parts
+pub mod Pending
 pub mod Puts
 pub mod Reads
 pub mod State

@@ -1,8 +1,9 @@
 -- What the stops and openings of a store do to its parts.
 use Rattle.std.specs.Prelude.{◌≡◌, ◌⊎◌, ◌≤◌, ◌<◌, ◌++◌, ℕ, Bool, false, List, [], ◌∷◌, None, length, replicate}
-use Rattle.std.specs.List.{AllZip}
+use Rattle.std.specs.List.{AllByRecursion, AllZip}
 use Rattle.hay_needle.specs.declared.settings.Settings.{Settings}
 use Rattle.hay_reply.specs.declared.Note.{Note}
+use Rattle.hay_reply.specs.Fits.{FitsNote}
 use Rattle.hay_disk.specs.Counts.{Rose}
 use Rattle.hay_disk.specs.Disk.{Files, IsFree, IsImage, IsSolid}
 use Rattle.hay_open.specs.Damage.{IsOpeningDamage}
@@ -12,6 +13,8 @@ use Rattle.hay_legal.specs.declared.known.HomeRow.{HomeRow}
 use Rattle.hay_legal.specs.declared.known.VolumeKnown.{VolumeKnown}
 use Rattle.hay_legal.specs.Known.{slot_of}
 use Rattle.hay_legal.specs.Restarts.{ReopenedVolumes, directory_with, kept_row, row_notes, volume_notes}
+use Rattle.hay_directory.specs.declared.mode.Mode.TheVariants as mode
+use Rattle.hay_directory.specs.Notes as noting
 use Rattle.hay_directory.specs.Rows.{OpensRows, journal_super}
 use Rattle.hay_directory.specs.State.{State}
 use Rattle.hay_directory.specs.State as directory
@@ -19,6 +22,7 @@ use Rattle.hay_physical.specs.Copies.{Copy, contents_of}
 use Rattle.hay_logical.specs.declared.fault.Unopened.{Unopened}
 use Rattle.hay_logical.specs.Answers.{IsReopened}
 use Rattle.hay_logical.specs.Fits.{At}
+use Rattle.hay_logical.specs.Notes.{NotesTell}
 use Rattle.hay_logical.specs.Stands.{IsFirst, IsIdleVolume, Stopped}
 use Rattle.hay_logical.specs.Stands as logical
 use Rattle.hay_logical.specs.Steps.{IsRefusedAt, KeepsDisk}
@@ -73,6 +77,9 @@ pub record OpensVolume {D P : Type 0} (DiskTells : Type 0) (files : D → Files)
   pub first : DiskTells → (k : VolumeKnown) → IsFirst files old k → (notes ≡ []) × logical.Stands files Tells new k
   pub reopened : DiskTells → (k : VolumeKnown) → Stopped files old k → IsReopened files Tells k notes new
   pub undamaged : DiskTells → EachStaysUndamaged files old new
+  pub told : NotesTell old.settings old.number old.unsure notes
+  pub fits : AllByRecursion FitsNote notes
+  pub settled : new.unsure ≡ None
 
 -- Volume v was not opened, by one of its disks.
 pub record IsRefusedBy {D P : Type 0} (DiskTells : Type 0) (files : D → Files) (faults : D → ℕ) (settings : Settings) (v : ℕ) (old new : Volume D P) (fault : ClusterFault) : Type 0 where
@@ -102,6 +109,7 @@ pub record StopsVolume {D P : Type 0} (DiskTells : Type 0) (files : D → Files)
   pub same : IsSame old new
   pub count : length new.replicas ≡ length old.replicas
   pub counts : (j : ℕ) (r r' : Copy D) → At old.replicas j r → At new.replicas j r' → (faults r'.disk ≡ faults r.disk) × (fuses r'.disk ≡ fuses r.disk)
+  pub unsure : new.unsure ≡ old.unsure
   pub closed : IsClosed new
   pub idle : DiskTells → IsIdleVolume files new
   pub stopped : DiskTells → (k : VolumeKnown) → logical.Stands files Tells old k → Stopped files new k
@@ -137,6 +145,7 @@ pub record StopsDirectory {D : Type 0} (DiskTells : Type 0) (files : D → Files
   pub rests : IsResting DiskTells files new
   pub stopped : DiskTells → (known : DirKnown) (drained : List Bool) → directory.Stands files old known drained → directory.Stopped files new known
   pub long : length old.drained ≡ (old.settings).machines
+  pub unsure : directory.unsure_of new.mode ≡ directory.unsure_of old.mode
 
 -- what any opening does to the Directory, refused or not
 pub record MovesDirectory {D : Type 0} (DiskTells : Type 0) (files : D → Files) (faults fuses : D → ℕ) (old new : State D) : Type 0 where
@@ -158,6 +167,9 @@ pub record OpensDirectory {D : Type 0} (DiskTells : Type 0) (files : D → Files
       × directory.Stands files new (directory_with (known.rows ++ kept_row known.pending kept)) (replicate (old.settings).machines false)
   pub undamaged : DiskTells → 0 < length (files old.disk 0).now → (at : ℕ) → IsDamagedJournal (journal_super old.settings) (files old.disk 0).now at → ⊥
   pub undamaged_now : DiskTells → (at : ℕ) → IsDamagedJournal (journal_super old.settings) (files new.disk 0).now at → ⊥
+  pub told : noting.NotesTell (directory.unsure_of old.mode) notes
+  pub fits : AllByRecursion FitsNote notes
+  pub serves : new.mode ≡ mode.Open
 
 -- why the Directory was not opened
 abbrev pub RefusesDirectory : {D : Type 0} → Type 0 → (D → Files) → (D → ℕ) → State D → State D → ClusterFault → Type 0

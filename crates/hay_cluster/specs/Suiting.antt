@@ -38,7 +38,7 @@ MayTry settings pair tries = (tries ≡ all_tries settings pair) ⊎ ((v : ℕ) 
 -- how one of them refuses: a replica lacks room, or a machine closes the volume
 abbrev pub Refuses : Settings → ℕ → Refused → Type 0
 Refuses settings v (NoRoom v' m end need) = (v' ≡ v) × IsOn settings v m
-Refuses settings v (Closed v' m) = v' ≡ v
+Refuses settings v (Closed v' m) = (v' ≡ v) × IsOn settings v m
 
 abbrev pub IsRefusedBy : Settings → Pair → List Refused → Type 0
 IsRefusedBy settings pair refused = (tries : List ℕ) × MayTry settings pair tries × AllZip (Refuses settings) tries refused
@@ -84,7 +84,7 @@ SuitsDel settings said =
     ((v : ℕ) × (p : ℕ) × (d : ℕ) × (v < settings.volumes) × (said ≡ Deleted v p d))
     ⊎ ((v : ℕ) × (p : ℕ) × (d : ℕ) × (v < settings.volumes) × (said ≡ Absent v p d))
     ⊎ ((d : ℕ) × (said ≡ Unknown d))
-    ⊎ ((by : ClosedBy) × (by.volume < settings.volumes) × (said ≡ ReadOnly (by ∷ [])))
+    ⊎ ((by : ClosedBy) × IsOn settings by.volume by.machine × (said ≡ ReadOnly (by ∷ [])))
     ⊎ ((v : ℕ) × (m : ℕ) × (count : ℕ) × IsOn settings v m × (said ≡ Failed v m count))
     ⊎ ((v : ℕ) × (m : ℕ) × (at : ℕ) × IsOn settings v m × (said ≡ Damaged v m at))
     ⊎ (said ≡ NoMem)
@@ -111,22 +111,22 @@ abbrev pub Does : (ℕ → Reply) → Reply → Type 0
 Does did said = (n : ℕ) × (said ≡ did n)
 
 -- the volume is frozen by a machine, or the replica's index
-abbrev pub IsReadOnlyAt : ℕ → Reply → Type 0
-IsReadOnlyAt v said = (by : ℕ) × (said ≡ ReadOnly (record { volume = v; machine = by } ∷ []))
+abbrev pub IsReadOnlyAt : Settings → ℕ → Reply → Type 0
+IsReadOnlyAt settings v said = (by : ℕ) × IsOn settings v by × (said ≡ ReadOnly (record { volume = v; machine = by } ∷ []))
 
-abbrev pub SuitsFlush : ℕ → ℕ → Reply → Type 0
-SuitsFlush v m said = Does (Flushed v m) said ⊎ IsReadOnlyAt v said ⊎ Does (Failed v m) said
+abbrev pub SuitsFlush : Settings → ℕ → ℕ → Reply → Type 0
+SuitsFlush settings v m said = Does (Flushed v m) said ⊎ IsReadOnlyAt settings v said ⊎ Does (Failed v m) said
 
-abbrev pub SuitsBegin : ℕ → ℕ → Reply → Type 0
-SuitsBegin v m said = Does (Begun v m) said ⊎ IsReadOnlyAt v said ⊎ Does (Busy v m) said ⊎ (said ≡ Worn v m) ⊎ Does (Failed v m) said
+abbrev pub SuitsBegin : Settings → ℕ → ℕ → Reply → Type 0
+SuitsBegin settings v m said = Does (Begun v m) said ⊎ IsReadOnlyAt settings v said ⊎ Does (Busy v m) said ⊎ (said ≡ Worn v m) ⊎ Does (Failed v m) said
 
 -- a step and a finish
-abbrev pub SuitsRun : (ℕ → Reply) → ℕ → ℕ → Reply → Type 0
-SuitsRun did v m said = Does did said ⊎ IsReadOnlyAt v said ⊎ (said ≡ Idle v m) ⊎ Does (Failed v m) said ⊎ Does (Damaged v m) said
+abbrev pub SuitsRun : Settings → (ℕ → Reply) → ℕ → ℕ → Reply → Type 0
+SuitsRun settings did v m said = Does did said ⊎ IsReadOnlyAt settings v said ⊎ (said ≡ Idle v m) ⊎ Does (Failed v m) said ⊎ Does (Damaged v m) said
 
-abbrev pub SuitsCompact : ℕ → ℕ → Reply → Type 0
-SuitsCompact v m said =
-    Does (Compacted v m) said ⊎ IsReadOnlyAt v said ⊎ Does (Busy v m) said ⊎ (said ≡ Worn v m) ⊎ Does (Failed v m) said ⊎ Does (Damaged v m) said
+abbrev pub SuitsCompact : Settings → ℕ → ℕ → Reply → Type 0
+SuitsCompact settings v m said =
+    Does (Compacted v m) said ⊎ IsReadOnlyAt settings v said ⊎ Does (Busy v m) said ⊎ (said ≡ Worn v m) ⊎ Does (Failed v m) said ⊎ Does (Damaged v m) said
 
 -- DRAINS AND FUSES
 
@@ -146,11 +146,11 @@ Suits settings line (asks.Read pair cookie) said = SuitsRead settings (start_at 
 Suits settings line (asks.Get url) said = AtReplica (replica_on settings url.volume url.machine) (SuitsGet settings url) said
 Suits settings line (asks.Del pair) said = SuitsDel settings said
 Suits settings line (asks.Url pair) said = SuitsUrl settings (start_at settings line) pair said
-Suits settings line (asks.Flush v m) said = AtReplica (replica_on settings v m) (λ replica. SuitsFlush v m) said
-Suits settings line (asks.Compact v m) said = AtReplica (replica_on settings v m) (λ replica. SuitsCompact v m) said
-Suits settings line (asks.Begin v m) said = AtReplica (replica_on settings v m) (λ replica. SuitsBegin v m) said
-Suits settings line (asks.Step v m cells) said = AtReplica (replica_on settings v m) (λ replica. SuitsRun (Stepped v m) v m) said
-Suits settings line (asks.Finish v m) said = AtReplica (replica_on settings v m) (λ replica. SuitsRun (Compacted v m) v m) said
+Suits settings line (asks.Flush v m) said = AtReplica (replica_on settings v m) (λ replica. SuitsFlush settings v m) said
+Suits settings line (asks.Compact v m) said = AtReplica (replica_on settings v m) (λ replica. SuitsCompact settings v m) said
+Suits settings line (asks.Begin v m) said = AtReplica (replica_on settings v m) (λ replica. SuitsBegin settings v m) said
+Suits settings line (asks.Step v m cells) said = AtReplica (replica_on settings v m) (λ replica. SuitsRun settings (Stepped v m) v m) said
+Suits settings line (asks.Finish v m) said = AtReplica (replica_on settings v m) (λ replica. SuitsRun settings (Compacted v m) v m) said
 Suits settings line (asks.Drain m) said = SuitsMachine settings m (Drained m) said
 Suits settings line (asks.Undrain m) said = SuitsMachine settings m (Undrained m) said
 Suits settings line (asks.Fuse v m calls) said = AtReplica (replica_on settings v m) (λ replica said. said ≡ Fused v m calls) said

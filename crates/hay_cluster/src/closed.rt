@@ -7,7 +7,7 @@ ghost use Rattle.hay_directory.specs.State as directory;
 ghost use Rattle.hay_cluster.specs.Lacks as lacks;
 ghost use Rattle.hay_cluster.specs.State.{Stands};
 ghost use Rattle.hay_cluster.specs.Store.{IsBuilt, IsUp};
-ghost use Rattle.hay_cluster.specs.Suiting.{Refuses};
+ghost use Rattle.hay_cluster.specs.Suiting.{IsOn, Refuses};
 
 use crate::cluster::Cluster;
 use hay_directory::machine_of;
@@ -64,6 +64,7 @@ impl<D: Disk, A: Arm<D::Piece>> Cluster<D, A> {
     pub(crate) fn closed_by(&self, volume: u32) -> Option<u32>
         requires volume { volume < self.now.settings.volumes }
         ensures known { D.Tells → (k : Known) → Stands D.files D.Piece.Tells D.fault_count D.fuse_count A.fault_count self.now k → result ≡ known.closed self.now.settings k volume }
+        ensures on { IfSome result (IsOn self.now.settings volume) }
     {
         match self.volumes.as_slice()[volume as usize].frozen() {
             Some(machine) => Some(machine),

@@ -9,6 +9,7 @@ ghost use Rattle.hay_logical.specs.Stands as logical;
 ghost use Rattle.hay_logical.specs.Volumes.{IsOpenVolume, IsSame, KeepsCounts};
 ghost use Rattle.hay_cluster.specs.Causes.{IsCaused, RefusesWork};
 ghost use Rattle.hay_cluster.specs.Maintenance.{IsDone, IsRefused, IsRefusedAs, IsReplicaFault, command_of, done_as};
+ghost use Rattle.hay_cluster.specs.Pending.{pending_of};
 ghost use Rattle.hay_cluster.specs.State.{Answered, Stands};
 ghost use Rattle.hay_cluster.specs.Store.{IsUp, disks_of};
 ghost use Rattle.hay_cluster.specs.Suiting.{Suits};
@@ -57,6 +58,7 @@ impl<D: Disk, A: Arm<D::Piece>> Cluster<D, A> {
         ensures counts { NoneFalls (map D.fault_count (disks_of self.old)) (map D.fault_count (disks_of self.new)) }
         ensures fuses { map D.fuse_count (disks_of self.new) ≡ map D.fuse_count (disks_of self.old) }
         ensures arms { self.new.arms ≡ self.old.arms }
+        ensures pending { pending_of self.new ≡ pending_of self.old }
         ensures settings { self.new.settings ≡ self.old.settings }
         ensures up { IsUp self.new }
     {
@@ -85,6 +87,7 @@ pub(crate) fn maintain<D: Disk>(
     ensures refused { D.Tells → (k : VolumeKnown) → logical.Stands D.files D.Piece.Tells volume.old k →
         IfErr result (IsRefused D.files D.Piece.Tells work k replica volume.old volume.new) }
     ensures causes { IfErr result (IsReplicaFault D.fault_count volume.old.settings work volume.old.number replica volume.old.replicas volume.new.replicas) }
+    ensures unsure { volume.new.unsure ≡ volume.old.unsure }
     ensures open { IsOpenVolume volume.new }
     ensures counts { KeepsCounts D.fault_count D.fuse_count volume.old.replicas volume.new.replicas }
     ensures same { IsSame volume.old volume.new }

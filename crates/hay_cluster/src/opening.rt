@@ -4,6 +4,7 @@ ghost use Rattle.std.specs.List.{AllByRecursion, AllZip};
 ghost use Rattle.std.specs.Vec.{vec_capacity};
 ghost use Rattle.hay_disk.specs.Counts.{Rose};
 ghost use Rattle.hay_mount.specs.Mounts.{AreIn, AreOut, AreArmsIn, AreArmsOut, InOrder, IsArmBack, IsMountedArm, IsMountedDisk, IsPutBack, SameFrom};
+ghost use Rattle.hay_reply.specs.Fits.{FitsNote};
 ghost use Rattle.hay_legal.specs.declared.known.Known.{Known};
 ghost use Rattle.hay_legal.specs.Known.{NoneFalls, FaultsRose, disk_count};
 ghost use Rattle.hay_legal.specs.Known as known;
@@ -17,6 +18,7 @@ ghost use Rattle.hay_logical.specs.Volumes.{IsClosed, IsOfSettings};
 ghost use Rattle.hay_cluster.specs.Causes.{HasFaultCause};
 ghost use Rattle.hay_cluster.specs.Outside.{CountsOn, IsDamagedDisk, IsKept, IsUndamaged, IsUndamagedBelow, outside_of, read_of};
 ghost use Rattle.hay_cluster.specs.Opening.{FillsVolume, Gathers, IsResting, IsEmptyVolume, MovesDirectory, MovesVolume, OpensDirectory, OpensParts, OpensVolume, RefusesDirectory, RefusesParts, RefusesVolume, RefusesVolumes, StopsDirectory, StopsVolume};
+ghost use Rattle.hay_cluster.specs.Pending.{TellsPending, none_pending, pending_of};
 ghost use Rattle.hay_cluster.specs.State.{LeftAt, Stands};
 ghost use Rattle.hay_cluster.specs.Store.{IsBuilt, IsShaped, IsUp, IsVolumeOf, contents_in, disks_of, volume_disks};
 
@@ -53,6 +55,7 @@ impl<D: Disk, A: Arm<D::Piece>> Cluster<D, A> {
         ensures sound { D.Tells → OnOk result (IsUndamaged settings (λ slot. read_of (H.disks shelf.old slot))) }
         ensures settings { IfOk result (λ store. store.settings ≡ settings) }
         ensures up { IfOk result IsUp }
+        ensures settled { IfOk result (λ store. pending_of store ≡ none_pending settings) }
         ensures counts { IfOk result (λ store. (slot : ℕ) → slot < disk_count settings →
             CountsOn (H.disks shelf.old slot) (slice_index (map D.fault_count (disks_of store)) slot) (slice_index (map D.fuse_count (disks_of store)) slot)) }
         ensures arm_counts { IfOk result (λ store. (lane : ℕ) → lane < 8 →
@@ -106,6 +109,10 @@ impl<D: Disk, A: Arm<D::Piece>> Cluster<D, A> {
             Stands D.files D.Piece.Tells D.fault_count D.fuse_count A.fault_count self.old k → IfOk result (λ notes. (t : Known)
             × IsRestarted self.new.settings k self.new.directory.count notes t
             × Stands D.files D.Piece.Tells D.fault_count D.fuse_count A.fault_count self.new t) }
+        // Whatever the disks tell, the notes are of what was pending, and nothing is then.
+        ensures told { IfOk result (TellsPending self.old.settings (pending_of self.old)) }
+        ensures fits { IfOk result (AllByRecursion FitsNote) }
+        ensures settled { OnOk result (pending_of self.new ≡ none_pending self.old.settings) }
         ensures up { OnOk result (IsUp self.new) }
         // Nothing that it read of a disk is damaged.
         ensures sound { D.Tells → OnOk result (IsUndamaged self.old.settings (contents_in D.files self.new)) }

@@ -8,6 +8,7 @@ ghost use Rattle.hay_script.specs.declared.Command.TheVariants as asks;
 ghost use Rattle.hay_reply.specs.Fits.{FitsRefused, FitsReply};
 ghost use Rattle.hay_directory.specs.State as directory;
 ghost use Rattle.hay_cluster.specs.Causes.{IsCaused, RefusesPut};
+ghost use Rattle.hay_cluster.specs.Pending.{LeavesPut, pending_of};
 ghost use Rattle.hay_cluster.specs.Puts as puts;
 ghost use Rattle.hay_cluster.specs.Puts.{IsPutReply, IsRefusal, IsTried, StoredAs};
 ghost use Rattle.hay_cluster.specs.State.{Answered, Stands};
@@ -49,6 +50,7 @@ impl<D: Disk, A: Arm<D::Piece>> Cluster<D, A> {
         ensures counts { NoneFalls (map D.fault_count (disks_of self.old)) (map D.fault_count (disks_of self.new)) }
         ensures fuses { map D.fuse_count (disks_of self.new) ≡ map D.fuse_count (disks_of self.old) }
         ensures arms { self.new.arms ≡ self.old.arms }
+        ensures pending { LeavesPut self.old.settings tag.line result (pending_of self.old) (pending_of self.new) }
         ensures settings { self.new.settings ≡ self.old.settings }
         ensures up { IsUp self.new }
     {
@@ -110,6 +112,7 @@ impl<D: Disk, A: Arm<D::Piece>> Cluster<D, A> {
         ensures counts { NoneFalls (map D.fault_count (disks_of self.old)) (map D.fault_count (disks_of self.new)) }
         ensures fuses { map D.fuse_count (disks_of self.new) ≡ map D.fuse_count (disks_of self.old) }
         ensures arms { self.new.arms ≡ self.old.arms }
+        ensures pending { LeavesPut self.old.settings tag.line result (pending_of self.old) (pending_of self.new) }
         ensures settings { self.new.settings ≡ self.old.settings }
         ensures up { IsUp self.new }
     {
@@ -142,6 +145,7 @@ impl<D: Disk, A: Arm<D::Piece>> Cluster<D, A> {
         ensures counts { NoneFalls (map D.fault_count (disks_of self.old)) (map D.fault_count (disks_of self.new)) }
         ensures fuses { map D.fuse_count (disks_of self.new) ≡ map D.fuse_count (disks_of self.old) }
         ensures arms { self.new.arms ≡ self.old.arms }
+        ensures pending { LeavesPut self.old.settings tag.line result (pending_of self.old) (pending_of self.new) }
         ensures settings { self.new.settings ≡ self.old.settings }
         ensures up { IsUp self.new }
     {
@@ -174,6 +178,7 @@ impl<D: Disk, A: Arm<D::Piece>> Cluster<D, A> {
         ensures counts { NoneFalls (map D.fault_count (disks_of self.old)) (map D.fault_count (disks_of self.new)) }
         ensures fuses { map D.fuse_count (disks_of self.new) ≡ map D.fuse_count (disks_of self.old) }
         ensures arms { self.new.arms ≡ self.old.arms }
+        ensures pending { LeavesPut self.old.settings tag.line result (pending_of self.old) (pending_of self.new) }
         ensures settings { self.new.settings ≡ self.old.settings }
         ensures up { IsUp self.new }
     {

@@ -12,6 +12,7 @@ ghost use Rattle.hay_legal.specs.Plain.{start_of};
 ghost use Rattle.hay_cluster.specs.Causes.{BlamesNoArm, IsCaused, StaySure};
 ghost use Rattle.hay_cluster.specs.Reads.{CannotSee, FoundNoArm, FoundPasses, FoundSays, IsFoundAs, IsSeenAt, IsSightCause, IsSightFault, IsWhole, PassesFrom, PassesNoArm, ReadNoArm, ReadPasses, ReadSays, ShownAs, StopsUnseen, counts_of, outcomes_of, passed_at};
 ghost use Rattle.hay_cluster.specs.Parts.{Comes};
+ghost use Rattle.hay_cluster.specs.Pending.{pending_of};
 ghost use Rattle.hay_cluster.specs.State.{Answered, Stands};
 ghost use Rattle.hay_cluster.specs.Store.{IsBuilt, IsUp, disks_of};
 ghost use Rattle.hay_cluster.specs.Suiting.{ShowsFrom, Suits};
@@ -66,6 +67,7 @@ impl<D: Disk, A: Arm<D::Piece>> Cluster<D, A> {
         ensures counts { NoneFalls (map D.fault_count (disks_of self.old)) (map D.fault_count (disks_of self.new)) }
         ensures fuses { map D.fuse_count (disks_of self.new) ≡ map D.fuse_count (disks_of self.old) }
         ensures arm_counts { NoneFalls (map A.fault_count self.old.arms) (map A.fault_count self.new.arms) }
+        ensures pending { pending_of self.new ≡ pending_of self.old }
         ensures settings { self.new.settings ≡ self.old.settings }
         ensures up { IsUp self.new }
     {
@@ -92,6 +94,7 @@ impl<D: Disk, A: Arm<D::Piece>> Cluster<D, A> {
         ensures counts { NoneFalls (map D.fault_count (disks_of self.old)) (map D.fault_count (disks_of self.new)) }
         ensures fuses { map D.fuse_count (disks_of self.new) ≡ map D.fuse_count (disks_of self.old) }
         ensures arm_counts { NoneFalls (map A.fault_count self.old.arms) (map A.fault_count self.new.arms) }
+        ensures pending { pending_of self.new ≡ pending_of self.old }
         ensures settings { self.new.settings ≡ self.old.settings }
         ensures up { IsUp self.new }
     {
@@ -136,6 +139,7 @@ impl<D: Disk, A: Arm<D::Piece>> Cluster<D, A> {
         ensures counts { NoneFalls (map D.fault_count (disks_of self.old)) (map D.fault_count (disks_of self.new)) }
         ensures fuses { map D.fuse_count (disks_of self.new) ≡ map D.fuse_count (disks_of self.old) }
         ensures arm_counts { NoneFalls (map A.fault_count self.old.arms) (map A.fault_count self.new.arms) }
+        ensures pending { pending_of self.new ≡ pending_of self.old }
         ensures settings { self.new.settings ≡ self.old.settings }
         ensures up { IsUp self.new }
     {
@@ -208,6 +212,7 @@ impl<D: Disk, A: Arm<D::Piece>> Cluster<D, A> {
         ensures counts { NoneFalls (map D.fault_count (disks_of self.old)) (map D.fault_count (disks_of self.new)) }
         ensures fuses { map D.fuse_count (disks_of self.new) ≡ map D.fuse_count (disks_of self.old) }
         ensures arm_counts { NoneFalls (map A.fault_count self.old.arms) (map A.fault_count self.new.arms) }
+        ensures pending { pending_of self.new ≡ pending_of self.old }
         ensures settings { self.new.settings ≡ self.old.settings }
         ensures up { IsUp self.new }
     {
@@ -252,6 +257,7 @@ impl<D: Disk, A: Arm<D::Piece>> Cluster<D, A> {
         ensures sure_arms { StaySure A.is_sure A.fault_count self.old.arms self.new.arms }
         ensures disks { disks_of self.new ≡ disks_of self.old }
         ensures arm_counts { NoneFalls (map A.fault_count self.old.arms) (map A.fault_count self.new.arms) }
+        ensures pending { pending_of self.new ≡ pending_of self.old }
         ensures settings { self.new.settings ≡ self.old.settings }
         ensures up { IsUp self.new }
     {
@@ -298,6 +304,7 @@ impl<D: Disk, A: Arm<D::Piece>> Cluster<D, A> {
         ensures sure_arms { StaySure A.is_sure A.fault_count self.old.arms self.new.arms }
         ensures disks { disks_of self.new ≡ disks_of self.old }
         ensures arm_counts { NoneFalls (map A.fault_count self.old.arms) (map A.fault_count self.new.arms) }
+        ensures pending { pending_of self.new ≡ pending_of self.old }
         ensures settings { self.new.settings ≡ self.old.settings }
         ensures up { IsUp self.new }
     {
@@ -336,6 +343,7 @@ impl<D: Disk, A: Arm<D::Piece>> Cluster<D, A> {
         ensures counts { NoneFalls (map D.fault_count (disks_of self.old)) (map D.fault_count (disks_of self.new)) }
         ensures fuses { map D.fuse_count (disks_of self.new) ≡ map D.fuse_count (disks_of self.old) }
         ensures arms { self.new.arms ≡ self.old.arms }
+        ensures pending { pending_of self.new ≡ pending_of self.old }
         ensures settings { self.new.settings ≡ self.old.settings }
         ensures up { IsUp self.new }
     {
@@ -369,6 +377,7 @@ impl<D: Disk, A: Arm<D::Piece>> Cluster<D, A> {
         ensures counts { NoneFalls (map D.fault_count (disks_of self.old)) (map D.fault_count (disks_of self.new)) }
         ensures fuses { map D.fuse_count (disks_of self.new) ≡ map D.fuse_count (disks_of self.old) }
         ensures arms { self.new.arms ≡ self.old.arms }
+        ensures pending { pending_of self.new ≡ pending_of self.old }
         ensures settings { self.new.settings ≡ self.old.settings }
         ensures up { IsUp self.new }
     {

@@ -16,7 +16,7 @@ use Rattle.hay_legal.specs.declared.known.PendingRow.{PendingRow}
 use Rattle.hay_legal.specs.Known.{home_in}
 use Rattle.hay_legal.specs.Restarts.{kept_row}
 use Rattle.hay_directory.specs.Homes.{home_among}
-use Rattle.hay_directory.specs.Rows.{dir_row, home_row, journal_super, HasJournal, HasRows, OpensRows}
+use Rattle.hay_directory.specs.Rows.{dir_row, home_row, journal_super, HasJournal, FileHasRows, OpensRows}
 use Rattle.hay_directory.specs.State.{FindsRows, HoldsRows, IsSettled, IsUnsure}
 
 -- THE SAME ROWS
@@ -40,7 +40,7 @@ not_both : (settings : Settings) (file : List ℕ) (rows : List HomeRow) → fil
 not_both settings file rows void is = omega (arith, not_void settings file rows is, ap length void)
 
 -- one file has one list of rows
-one_list : (settings : Settings) (file : List ℕ) (rows more : List HomeRow) → settings.volumes ≤ 2 ^ 32 → HasRows settings file rows → HasRows settings file more → rows ≡ more
+one_list : (settings : Settings) (file : List ℕ) (rows more : List HomeRow) → settings.volumes ≤ 2 ^ 32 → FileHasRows settings file rows → FileHasRows settings file more → rows ≡ more
 one_list settings file rows more most (inl void) (inl also) = void.1 ∙ sym also.1
 one_list settings file rows more most (inl void) (inr is) = absurd (not_both settings file more void.0 is)
 one_list settings file rows more most (inr is) (inl void) = absurd (not_both settings file rows void.0 is)
@@ -62,7 +62,7 @@ unfolding OpensRows
 opens_void settings contents void = inl (void, refl)
 
 -- where no journal has a row, nothing has
-pub no_rows : (settings : Settings) (file : List ℕ) (rows : List HomeRow) → ((items : List DirRow) → IsJournal (super_bytes (journal_super settings)) settings.volumes file items → items ≡ []) → HasRows settings file rows → rows ≡ []
+pub no_rows : (settings : Settings) (file : List ℕ) (rows : List HomeRow) → ((items : List DirRow) → IsJournal (super_bytes (journal_super settings)) settings.volumes file items → items ≡ []) → FileHasRows settings file rows → rows ≡ []
 no_rows settings file rows none (inl void) = void.1
 no_rows settings file rows none (inr is) = sym (home_rows rows) ∙ ap (λ (l : List DirRow). map home_row l) (none (map dir_row rows) is)
 
@@ -117,12 +117,12 @@ next_count settings file end count more rows row was fits counts is =
 
 -- WHAT AN OPENING FINDS
 
-file_rows : (settings : Settings) (file new : List ℕ) (items : List DirRow) → HasJournal settings new (map home_row items) → (file ≡ [] → items ≡ []) → (0 < length file → new ≡ file) → HasRows settings file (map home_row items)
+file_rows : (settings : Settings) (file new : List ℕ) (items : List DirRow) → HasJournal settings new (map home_row items) → (file ≡ [] → items ≡ []) → (0 < length file → new ≡ file) → FileHasRows settings file (map home_row items)
 file_rows settings [] new items is void keeps = inl (refl, ap (λ (l : List DirRow). map home_row l) (void refl))
 file_rows settings (byte ∷ file) new items is void keeps = inr (subst (λ (l : List ℕ). HasJournal settings l (map home_row items)) (keeps (omega arith)) is)
 
 only_rows : (settings : Settings) (file : List ℕ) (items : List DirRow) (more : List HomeRow) → (file ≡ [] → items ≡ []) → ((rows : List DirRow) → IsJournal (super_bytes (journal_super settings)) settings.volumes file rows → items ≡ rows)
-    → HasRows settings file more → map home_row items ≡ more
+    → FileHasRows settings file more → map home_row items ≡ more
 only_rows settings file items more void exact (inl none) = ap (λ (l : List DirRow). map home_row l) (void none.0) ∙ sym none.1
 only_rows settings file items more void exact (inr is) = ap (λ (l : List DirRow). map home_row l) (exact (map dir_row more) is) ∙ home_rows more
 
@@ -142,6 +142,6 @@ found_rows settings sup old new end count homes items sups is ends solid gate vo
     }
 
 -- what has rows is not damaged
-pub undamaged : (settings : Settings) (sup : Super) (file : List ℕ) (rows : List HomeRow) → sup ≡ journal_super settings → HasRows settings file rows → 0 < length file → ((items : List DirRow) → IsJournal (super_bytes sup) sup.settings.volumes file items → ⊥) → ⊥
+pub undamaged : (settings : Settings) (sup : Super) (file : List ℕ) (rows : List HomeRow) → sup ≡ journal_super settings → FileHasRows settings file rows → 0 < length file → ((items : List DirRow) → IsJournal (super_bytes sup) sup.settings.volumes file items → ⊥) → ⊥
 undamaged settings sup file rows sups (inl none) some only = omega (arith, ap length none.0)
 undamaged settings sup file rows sups (inr is) some only = only (map dir_row rows) (subst (λ (s : Super). IsJournal (super_bytes s) s.settings.volumes file (map dir_row rows)) (sym sups) is)

@@ -24,9 +24,9 @@ abbrev pub HasJournal : Settings → List ℕ → List HomeRow → Type 0
 HasJournal settings file rows = IsJournal (super_bytes (journal_super settings)) settings.volumes file (map dir_row rows)
 
 -- A journal has its rows, and a void one has none.
-abbrev pub HasRows : Settings → List ℕ → List HomeRow → Type 0
-HasRows settings file rows = ((file ≡ []) × (rows ≡ [])) ⊎ HasJournal settings file rows
+abbrev pub FileHasRows : Settings → List ℕ → List HomeRow → Type 0
+FileHasRows settings file rows = ((file ≡ []) × (rows ≡ [])) ⊎ HasJournal settings file rows
 
 -- File 0 of a disk is its journal. A disk whose file 0 is empty is void.
 unfoldable pub OpensRows : Settings → (ℕ → List ℕ) → List HomeRow → Type 0
-OpensRows settings contents rows = HasRows settings (contents 0) rows
+OpensRows settings contents rows = FileHasRows settings (contents 0) rows

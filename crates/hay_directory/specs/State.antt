@@ -11,11 +11,13 @@ use Rattle.hay_legal.specs.declared.known.HomeRow.{HomeRow}
 use Rattle.hay_legal.specs.declared.known.PendingRow.{PendingRow}
 use Rattle.hay_legal.specs.Known.{home_in}
 use Rattle.hay_legal.specs.Restarts.{kept_row}
+use Rattle.hay_directory.specs.declared.fault.DirFault.{DirFault}
+use Rattle.hay_directory.specs.declared.fault.DirFault.TheVariants as refusal
 use Rattle.hay_directory.specs.declared.mode.Mode.{Mode}
 use Rattle.hay_directory.specs.declared.mode.Mode.TheVariants.{Closed, Open, Frozen}
 use Rattle.hay_directory.specs.declared.mode.Unsure.{Unsure}
 use Rattle.hay_directory.specs.Homes.{home_among}
-use Rattle.hay_directory.specs.Rows.{dir_row, HasJournal, HasRows, OpensRows}
+use Rattle.hay_directory.specs.Rows.{dir_row, HasJournal, FileHasRows, OpensRows}
 
 -- A directory, with its disk. The drains are by machine.
 pub record State (D : Type 0) : Type 0 where
@@ -57,6 +59,12 @@ IsFrozen directory = is_frozen directory.mode ≡ true
 -- closed, with no row to tell of
 abbrev pub IsFresh : {D : Type 0} → State D → Type 0
 IsFresh directory = directory.mode ≡ Closed None
+
+-- what a row leaves that is refused: where it failed, the directory is frozen and the row is pending
+abbrev pub LeavesMode : Unsure → Mode → Mode → DirFault → Type 0
+LeavesMode row old new refusal.Frozen = new ≡ old
+LeavesMode row old new refusal.NoMemory = new ≡ old
+LeavesMode row old new (refusal.Failed faults) = new ≡ Frozen row
 
 -- the home of a pair, by what is kept in memory
 abbrev pub home_of : {D : Type 0} → State D → Pair → Option ℕ
@@ -135,8 +143,8 @@ Stopped files directory known = StoppedFor files directory known
 -- The file has these rows now, a row may be added, and what is kept in memory is right.
 pub record FindsRows (settings : Settings) (old new : FileState) (end : ℕ) (homes : List ((ℕ × ℕ) × ℕ)) (count : ℕ) : Type 0 where
   pub rows : List HomeRow
-  pub found : HasRows settings old.now rows
-  pub only : (more : List HomeRow) → HasRows settings old.now more → rows ≡ more
+  pub found : FileHasRows settings old.now rows
+  pub only : (more : List HomeRow) → FileHasRows settings old.now more → rows ≡ more
   pub settled : IsSettled settings new end rows
   pub homes_are : (pair : Pair) → home_among homes pair ≡ home_in rows pair
   pub count_is : count ≡ length rows

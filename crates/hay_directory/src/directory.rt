@@ -3,13 +3,16 @@ ghost use Rattle.std.specs.Prelude.{◌≡◌, ◌≤◌, ◌<◌, ℕ, List, Bo
 ghost use Rattle.hay_needle.specs.declared.settings.Settings.{Settings};
 ghost use Rattle.hay_disk.specs.Counts.{Rose, IsNext};
 ghost use Rattle.hay_disk.specs.Disk.{IsFree, IsImage, IsSolid, KeepsOthers, MayLeave};
+ghost use Rattle.std.specs.List.{AllByRecursion};
 ghost use Rattle.hay_dirfile.specs.Journal.{IsDamagedJournal};
+ghost use Rattle.hay_reply.specs.Fits.{FitsNote};
 ghost use Rattle.hay_legal.specs.declared.known.DirKnown.{DirKnown};
 ghost use Rattle.hay_legal.specs.declared.known.HomeRow.{HomeRow};
 ghost use Rattle.hay_legal.specs.Known.{home_in};
 ghost use Rattle.hay_legal.specs.Restarts.{directory_with, kept_row, row_notes};
+ghost use Rattle.hay_directory.specs.Notes.{NotesTell};
 ghost use Rattle.hay_directory.specs.Rows.{OpensRows, dir_row, journal_super};
-ghost use Rattle.hay_directory.specs.State.{Holds, IsClosed, IsFresh, IsFrozen, IsUp, Stands, Stopped, home_of, is_frozen, unsure_of};
+ghost use Rattle.hay_directory.specs.State.{Holds, IsClosed, IsFresh, IsFrozen, IsUp, LeavesMode, Stands, Stopped, home_of, is_frozen, unsure_of};
 
 use crate::fault::DirFault;
 use crate::homes::Homes;
@@ -104,6 +107,10 @@ impl<D: Disk> Directory<D> {
             × (notes ≡ row_notes known.pending kept)
             × Stands D.files self.new (directory_with (known.rows ++ kept_row known.pending kept)) (replicate self.old.settings.machines false)) }
         ensures up { OnOk result (IsUp self.new) }
+        // Whatever the disk has, it tells of the row that was pending, and none is then.
+        ensures told { IfOk result (NotesTell (unsure_of self.old.mode)) }
+        ensures fits { IfOk result (AllByRecursion FitsNote) }
+        ensures serves { OnOk result (self.new.mode ≡ Mode.Open) }
 
         // What a refusal leaves, and its cause.
         ensures closed { OnErr result (IsClosed self.new × (self.new.mode ≡ self.old.mode)) }
@@ -190,6 +197,10 @@ impl<D: Disk> Directory<D> {
               pending = Some (record { tag = tag; row = record { pair = pair; volume = volume } });
             }) drained }
 
+        // Whatever the disk has, the row is pending only where it failed.
+        ensures mode { OnOk result (self.new.mode ≡ self.old.mode) }
+        ensures refused_mode { IfErr result (LeavesMode (record { tag = tag; row = record { pair = pair; volume = volume } }) self.old.mode self.new.mode) }
+
         // A frozen directory refuses, and nothing else is refused so.
         ensures frozen { IsFrozen self.old → IsErrOf result DirFault.Frozen }
         ensures only_frozen { IsErrOf result DirFault.Frozen → IsFrozen self.old × (self.new ≡ self.old) }
@@ -222,6 +233,8 @@ impl<D: Disk> Directory<D> {
               frozen = true;
               pending = Some (record { tag = tag; row = record { pair = row.pair; volume = row.volume } });
             }) drained }
+        ensures mode { OnOk result (self.new.mode ≡ self.old.mode) }
+        ensures refused_mode { IfErr result (LeavesMode (record { tag = tag; row = row }) self.old.mode self.new.mode) }
         ensures not_frozen { IsErrOf result DirFault.Frozen → ⊥ }
         ensures failed { (faults : ℕ) → result ≡ Err (DirFault.Failed faults) →
             (faults ≡ D.fault_count self.new.disk) × Rose (D.fault_count self.old.disk) (D.fault_count self.new.disk) }

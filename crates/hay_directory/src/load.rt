@@ -5,8 +5,10 @@ ghost use Rattle.hay_disk.specs.Counts.{Rose};
 ghost use Rattle.hay_disk.specs.Disk.{IsFree, IsImage, IsSolid, KeepsOthers};
 ghost use Rattle.hay_dirfile.specs.Journal.{IsDamagedJournal};
 ghost use Rattle.hay_legal.specs.declared.known.HomeRow.{HomeRow};
+ghost use Rattle.std.specs.List.{AllByRecursion};
+ghost use Rattle.hay_reply.specs.Fits.{FitsNote};
 ghost use Rattle.hay_directory.specs.Notes.{notes_by};
-ghost use Rattle.hay_directory.specs.Rows.{HasRows, journal_super};
+ghost use Rattle.hay_directory.specs.Rows.{FileHasRows, journal_super};
 ghost use Rattle.hay_directory.specs.State.{FindsRows};
 
 use crate::homes::Homes;
@@ -39,6 +41,7 @@ pub fn load<D: Disk>(
     requires free { D.Tells → IsFree (D.files disk.old 0) }
     ensures found { D.Tells → IfOk result (λ loaded. FindsRows settings.now (D.files disk.old 0) (D.files disk.new 0) loaded.journal.end loaded.homes loaded.count) }
     ensures notes { IfOk result (λ loaded. loaded.notes ≡ notes_by unsure loaded.homes) }
+    ensures fits { IfOk result (λ loaded. AllByRecursion FitsNote loaded.notes) }
     ensures failed { (faults : ℕ) → result ≡ Err (OpenFault.Failed faults) →
         (faults ≡ D.fault_count disk.new) × Rose (D.fault_count disk.old) (D.fault_count disk.new) }
     ensures damaged { D.Tells → (file at : ℕ) → result ≡ Err (OpenFault.Damaged file at) →
@@ -46,8 +49,8 @@ pub fn load<D: Disk>(
     ensures undamaged { D.Tells → 0 < length (D.files disk.old 0).now → OnOk result ((at : ℕ) → IsDamagedJournal (journal_super settings.now) (D.files disk.old 0).now at → ⊥) }
     ensures undamaged_now { D.Tells → OnOk result ((at : ℕ) → IsDamagedJournal (journal_super settings.now) (D.files disk.new 0).now at → ⊥) }
     ensures nothing { D.Tells → (D.files disk.old 0).now ≡ [] → (image : List ℕ) (rows : List HomeRow) →
-        (other : Settings) → IsImage (D.files disk.new 0) image → HasRows other image rows → rows ≡ [] }
-    ensures whole { D.Tells → (rows : List HomeRow) (file at : ℕ) → HasRows settings.now (D.files disk.old 0).now rows →
+        (other : Settings) → IsImage (D.files disk.new 0) image → FileHasRows other image rows → rows ≡ [] }
+    ensures whole { D.Tells → (rows : List HomeRow) (file at : ℕ) → FileHasRows settings.now (D.files disk.old 0).now rows →
         result ≡ Err (OpenFault.Damaged file at) → ⊥ }
     ensures same { D.Tells → 0 < length (D.files disk.old 0).now → D.files disk.new ≡ D.files disk.old }
     ensures others { D.Tells → KeepsOthers 0 (D.files disk.old) (D.files disk.new) }

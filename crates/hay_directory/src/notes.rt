@@ -1,5 +1,7 @@
 //! What an opening tells.
 ghost use Rattle.std.specs.Prelude.{◌≡◌, IfOk};
+ghost use Rattle.std.specs.List.{AllByRecursion};
+ghost use Rattle.hay_reply.specs.Fits.{FitsNote};
 ghost use Rattle.hay_directory.specs.Notes.{notes_by};
 
 use crate::homes::Homes;
@@ -14,7 +16,8 @@ pub fn notes_of(
     unsure: Option<Unsure>,
     homes: &Homes,
 ) -> Result<Listed<Note>, NoMemory>
-    ensures { IfOk result (λ notes. notes ≡ notes_by unsure homes.now) }
+    ensures are { IfOk result (λ notes. notes ≡ notes_by unsure homes.now) }
+    ensures fits { IfOk result (AllByRecursion FitsNote) }
 {
     let Some(Unsure { tag, row }) = unsure else {
         return Ok(Listed::new(alloc));

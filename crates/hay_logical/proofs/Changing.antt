@@ -433,7 +433,7 @@ module _ {D : Type 0} (settings : Settings) (number : ℕ) (DiskTells : Type 0) 
   pub flush_cause : (items new : List (Copy D)) (at m : ℕ) (f : ReplicaFault) (one : CallsOne at items new) → length items ≡ settings.replicas → m ≡ machine_of settings number at
       → FlushesAt DiskTells files faults one.before one.after (Err f) → answers.IsFlushFault faults settings number at items new (answer_at m f)
   flush_cause items new at m (fault.Failed printed) one all machine step = (machine, one_failed faults settings number items new at m printed one all machine step.cause.0 step.cause.1)
-  flush_cause items new at m fault.Frozen one all machine step = tt
+  flush_cause items new at m fault.Frozen one all machine step = (let below = at_below items at one.before one.was in (at, omega (arith, below, all), machine))
   flush_cause items new at m (fault.Full end need capacity) one all machine step = absurd step.cause
   flush_cause items new at m (fault.Busy generation) one all machine step = absurd step.cause
   flush_cause items new at m (fault.Ended count) one all machine step = absurd step.cause

@@ -41,7 +41,7 @@ use Rattle.hay_logical.specs.declared.unsure.Change.{Change}
 use Rattle.hay_logical.specs.declared.unsure.Unsure.{Unsure}
 use Rattle.hay_logical.specs.Fits.{At, Fits, HoldsPart, HoldsSwap, Makes, Part, PhotoAt, PlaceStands, RunsAs, copier_run, part_of}
 use Rattle.hay_logical.specs.Fits.Part.{Kept, Unsure as Perhaps, Lost}
-use Rattle.hay_logical.specs.Stands.{HoldsFor, HoldsPending, IsBrokenAt, IsChange, IsPending, ReplicaHolds, ReplicaStands, StandsBy, StandsFor, TakesChanges}
+use Rattle.hay_logical.specs.Stands.{HoldsFor, HoldsPending, BreaksOffAt, IsChange, IsPending, ReplicaHolds, ReplicaStands, StandsBy, StandsFor, TakesChanges}
 use Rattle.hay_logical.specs.Stands as stands
 use Rattle.hay_logical.specs.Steps.{AllIdle, DeleteLeaves, DeletesAt, FollowsAt, PutBroken, PutLeaves}
 use Rattle.hay_logical.proofs.Compacting.{ended_by, ended_poised, ended_stuck, known_none, length-ended, loose_run, loosely, no_run}
@@ -297,7 +297,7 @@ module _ {D P : Type 0} (DiskTells : Type 0) (files : D → Files) (Tells : Type
     -- A change was broken off, and the rows are as they were.
     pub stands_broken : (replicas replicas' : List (Copy D)) (rows rows' : MapRows P) (front : ℕ) (unsure : Option Unsure) (k : VolumeKnown) (tag : CoreTag) (entry : Entry) (asked : Change) (m at : ℕ) (failed : Bool)
         → (given : StandsFor files Tells (volume_with settings number replicas rows front None unsure) k) → length replicas' ≡ length replicas
-        → IsBrokenAt settings number (Some m) at failed entry → IsChange asked (frozen_with m tag entry failed k) entry
+        → BreaksOffAt settings number (Some m) at failed entry → IsChange asked (frozen_with m tag entry failed k) entry
         → ((q : Pair) → row_at rows' q ≡ row_at rows q)
         → ((j : ℕ) (r r' : Copy D) → At replicas j r → At replicas' j r' → (was : ReplicaStands files Tells (volume_with settings number replicas rows front None unsure) k j r)
         → HoldsPart files r' (replica_at k j).stuck entry was.stored (part_of at j))

@@ -8,6 +8,7 @@ pub mod Dropping
 pub mod Ends
 pub mod Examining
 pub mod Finishing
+pub mod Freezing
 pub mod Holding
 pub mod Knowing
 pub mod Lists
@@ -26,5 +27,6 @@ pub mod SwapShapes
 pub mod SwapSizes
 pub mod Swapping
 pub mod Tables
+pub mod Telling
 pub mod Through
 pub mod Looks

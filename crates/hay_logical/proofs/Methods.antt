@@ -19,7 +19,7 @@ use Rattle.hay_logical.specs.declared.unsure.Unsure.{Unsure}
 use Rattle.hay_logical.specs.Fits.{At, PlaceStands, copier_run, super_of}
 use Rattle.hay_logical.specs.Stands.{StandsFor, StoppedFor}
 use Rattle.hay_logical.specs.Steps.{CallsOne, Stops}
-use Rattle.hay_logical.specs.Volumes.{HasSupers, IsSame, IsShaped, Volume}
+use Rattle.hay_logical.specs.Volumes.{HasSupers, IsFrozenBy, IsSame, IsShaped, Volume}
 use Rattle.hay_logical.proofs.Holding.{held, held_on, stands_changed}
 use Rattle.hay_logical.proofs.Lists.{at_below, at_first, at_same, at_set_other, at_set_same, at_there, length-slice_set, one_same}
 use Rattle.hay_logical.proofs.Standing.{volume_with}
@@ -37,11 +37,11 @@ pub record Quiet {D : Type 0} (files : D → Files) (r r' : Copy D) : Type 0 whe
 module _ {D P : Type 0} (settings : Settings) (number : ℕ) where
   -- the shape stays
   pub shaped_on : (items new : List (Copy D)) (rows rows' : MapRows P) (front front' : ℕ) (frozen frozen' : Option ℕ) (unsure unsure' : Option Unsure)
-      → IsShaped (volume_with settings number items rows front frozen unsure) → length new ≡ length items
+      → IsShaped (volume_with settings number items rows front frozen unsure) → IsFrozenBy settings number frozen' → length new ≡ length items
       → ((j : ℕ) (r r' : Copy D) → At items j r → At new j r' → r'.sup ≡ r.sup) → rows'.replicas ≡ rows.replicas
       → (frozen' ≡ None → (j : ℕ) (r r' : Copy D) → At items j r → At new j r' → is_frozen r' ≡ false)
       → IsShaped (volume_with settings number new rows' front' frozen' unsure')
-  shaped_on items new rows rows' front front' frozen frozen' unsure unsure' shape count sups width thawed =
+  shaped_on items new rows rows' front front' frozen frozen' unsure unsure' shape by count sups width thawed =
       let old : (j : ℕ) (r' : Copy D) → At new j r' → (r : Copy D) × At items j r =
       λ j r' f. (let h = at_below new j r' f in at_there items j (let less : j < length items = omega (arith, h, count) in less)) in
       record {
@@ -50,6 +50,7 @@ module _ {D P : Type 0} (settings : Settings) (number : ℕ) where
         sups = λ j r' f. let o = old j r' f in sups j o.0 r' o.1 f ∙ shape.sups j o.0 o.1;
         width = width ∙ shape.width;
         thawed = λ e j r' f. let o = old j r' f in thawed e j o.0 r' o.1 f;
+        frozen_by = by;
       }
 
   module _ (DiskTells : Type 0) (files : D → Files) (Tells : Type 0) (faults fuses : D → ℕ) where
@@ -156,4 +157,5 @@ shaped_shorter {D} settings number items rest last rows front frozen unsure is s
       sups = λ j r e. shape.sups j r (there j r e);
       width = shape.width;
       thawed = λ none j r e. shape.thawed none j r (there j r e);
+      frozen_by = shape.frozen_by;
     }

@@ -38,7 +38,7 @@ use Rattle.hay_logical.specs.Answers.{HasRoom, IsPut, IsRoomFault, PutRefused, r
 use Rattle.hay_logical.specs.Answers as answers
 use Rattle.hay_logical.specs.Fits.{At, PhotoAt, RunsAs, copier_run}
 use Rattle.hay_logical.specs.Refusals.{IsRefusal, IsUntouched, RefusalBy}
-use Rattle.hay_logical.specs.Stands.{IsBrokenAt, IsChange, Stands, StandsFor}
+use Rattle.hay_logical.specs.Stands.{BreaksOffAt, IsChange, Stands, StandsFor}
 use Rattle.hay_logical.specs.Steps.{AllIdle, IsPutFault, PutLeaves, PutsAt, StaysInReach, StillRuns}
 use Rattle.hay_logical.specs.Volumes.{Volume}
 use Rattle.hay_logical.proofs.Calls.{frozen_is, open_up, up_thawed}
@@ -88,7 +88,7 @@ module _ {D P : Type 0} (files : D → Files) (Tells : Type 0) (k : VolumeKnown)
   room_refused f e = refused_by k.frozen (find (λ at. lacks_room old.settings (length bytes) at.1) (enumerate_from 0 k.replicas)) f refl refl e
 
 pub room_cause : {D : Type 0} (faults : D → ℕ) (settings : Settings) (v : ℕ) (old new : List (Copy D)) (f : LogicalFault) → IsRoomFault settings v f → answers.IsPutFault faults settings v old new f
-room_cause faults settings v old new (logical.ReadOnly m) is = tt
+room_cause faults settings v old new (logical.ReadOnly m) is = is
 room_cause faults settings v old new (logical.Full m end need capacity) is = is
 room_cause faults settings v old new (logical.Gone front) is = absurd is
 room_cause faults settings v old new (logical.Failed m printed) is = absurd is
@@ -234,7 +234,7 @@ module _ {D P : Type 0} (settings : Settings) (number : ℕ) (DiskTells : Type 0
             let was = taking.each j there.0 there.1 in
             end_is j there.0 there.1 ∙ stands_end files there.0 was.stored was.stands ∙ sym was.fits.end ∙ sym (frozen_end k m tag (Put pair cookie bytes) failed j known)
 
-        frozen_by : (m : ℕ) (failed : Bool) → IsBrokenAt settings number (Some m) broken.at failed (Put pair cookie bytes)
+        frozen_by : (m : ℕ) (failed : Bool) → BreaksOffAt settings number (Some m) broken.at failed (Put pair cookie bytes)
             → StandsFor files Tells (volume_with settings number new rows' front (Some m) (Some (record { tag = tag; change = change.Put ends }))) (frozen_with m tag (Put pair cookie bytes) failed k)
         frozen_by m failed at_is =
             stands_broken DiskTells files Tells settings number items new rows rows' front unsure k tag (Put pair cookie bytes) (change.Put ends) m broken.at failed stands count at_is (ends_known m failed) same

@@ -17,7 +17,7 @@ use Rattle.hay_physical.specs.Copies.{Copy, generation_of, goal_of}
 use Rattle.hay_physical.specs.Runs as runs
 use Rattle.hay_physical.proofs.Laws.{stands_generation}
 use Rattle.hay_logical.specs.declared.unsure.Unsure.{Unsure}
-use Rattle.hay_logical.specs.Answers.{BeginRefused, IsAtRest, IsBegun, IsRunning, IsStepped, StepRefused, change_at}
+use Rattle.hay_logical.specs.Answers.{BeginRefused, MayBegin, IsBegun, IsRunning, IsStepped, StepRefused, change_at}
 use Rattle.hay_logical.specs.Answers as answers
 use Rattle.hay_logical.specs.Fits.{At, Fits, RunsAs, copier_run}
 use Rattle.hay_logical.specs.Refusals.{answer_at}
@@ -120,7 +120,7 @@ module _ {D P : Type 0} (settings : Settings) (number : ℕ) (DiskTells : Type 0
         })
         (other_changed settings number DiskTells files Tells faults items new rows front unsure k at without_run)
 
-    rest_known : goal_of one.before ≡ None → generation_of one.before < 65535 → IsAtRest k at
+    rest_known : goal_of one.before ≡ None → generation_of one.before < 65535 → MayBegin k at
     rest_known none less =
         let w = was_at in
         let same = stands_generation files one.before w.stored w.stands in
@@ -221,7 +221,7 @@ module _ {D : Type 0} (settings : Settings) (number : ℕ) (DiskTells : Type 0) 
   pub begin_fault : (items new : List (Copy D)) (at m : ℕ) (f : ReplicaFault) (one : CallsOne at items new) → length items ≡ settings.replicas → m ≡ machine_of settings number at
       → BeginsAt DiskTells files faults one.before one.after (Err f) → answers.IsBeginFault faults settings number at items new (answer_at m f)
   begin_fault items new at m (fault.Failed printed) one all machine step = (machine, one_failed faults settings number items new at m printed one all machine step.cause.0 step.cause.1)
-  begin_fault items new at m fault.Frozen one all machine step = tt
+  begin_fault items new at m fault.Frozen one all machine step = (let below = at_below items at one.before one.was in (at, omega (arith, below, all), machine))
   begin_fault items new at m (fault.Full end need capacity) one all machine step = absurd step.cause
   begin_fault items new at m (fault.Busy goal) one all machine step = machine
   begin_fault items new at m (fault.Ended n) one all machine step = absurd step.cause
@@ -232,7 +232,7 @@ module _ {D : Type 0} (settings : Settings) (number : ℕ) (DiskTells : Type 0) 
   pub step_fault : {P : Type 0} (Tells : Type 0) (rows : MapRows P) (cells : ℕ) (items new : List (Copy D)) (at m : ℕ) (f : ReplicaFault) (one : CallsOne at items new) → length items ≡ settings.replicas → m ≡ machine_of settings number at
       → StepsAt DiskTells files faults Tells rows at cells one.before one.after (Err f) → answers.IsRunFault faults settings number at items new (answer_at m f)
   step_fault Tells rows cells items new at m (fault.Failed printed) one all machine step = (machine, one_failed faults settings number items new at m printed one all machine step.cause.0 step.cause.1)
-  step_fault Tells rows cells items new at m fault.Frozen one all machine step = tt
+  step_fault Tells rows cells items new at m fault.Frozen one all machine step = (let below = at_below items at one.before one.was in (at, omega (arith, below, all), machine))
   step_fault Tells rows cells items new at m (fault.Full end need capacity) one all machine step = absurd step.cause
   step_fault Tells rows cells items new at m (fault.Busy goal) one all machine step = absurd step.cause
   step_fault Tells rows cells items new at m (fault.Ended n) one all machine step = absurd step.cause

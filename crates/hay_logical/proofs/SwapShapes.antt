@@ -13,7 +13,7 @@ use Rattle.hay_logical.specs.declared.runs.Unswapped.TheVariants.{Refused, Unsur
 use Rattle.hay_logical.specs.Fits.{At}
 use Rattle.hay_logical.specs.Refusals.{unfinished_by}
 use Rattle.hay_logical.specs.Steps.{KeepsPlaces, LosesRun, Start, StaysInReach, SwapsAt, SwapsOne}
-use Rattle.hay_logical.specs.Volumes.{CanReach, IsShaped, ReachesPlaces, Volume}
+use Rattle.hay_logical.specs.Volumes.{CanReach, IsFrozenBy, IsShaped, ReachesPlaces, Volume}
 use Rattle.hay_logical.specs.Volumes as volumes
 use Rattle.hay_logical.proofs.Calls.{up_open, up_thawed}
 use Rattle.hay_logical.proofs.Lists.{at_below, at_same, at_there}
@@ -78,11 +78,11 @@ module _ {D P : Type 0} {DiskTells : Type 0} {files : D → Files} {Tells : Type
   pub called_each : (j : ℕ) (r r' : Copy D) → At items j r → At new j r' → IsOpenCopy r' × (r'.sup ≡ r.sup)
   called_each = swaps_kept DiskTells files Tells faults start items new rows rows' at call.one call.ups result call.swaps
 
-  pub called_shaped : (settings : Settings) (number : ℕ) (replicas : List (Copy D)) (front : ℕ) (frozen frozen' : Option ℕ) (unsure : Option Unsure) → replicas ≡ new → (frozen' ≡ None → IsUp call.one.after)
+  pub called_shaped : (settings : Settings) (number : ℕ) (replicas : List (Copy D)) (front : ℕ) (frozen frozen' : Option ℕ) (unsure : Option Unsure) → replicas ≡ new → (frozen' ≡ None → IsUp call.one.after) → IsFrozenBy settings number frozen'
       → IsShaped (volume_with settings number items rows front frozen unsure) → IsShaped (volume_with settings number replicas rows' front frozen' unsure)
-  called_shaped settings number replicas front frozen frozen' unsure is up shape =
+  called_shaped settings number replicas front frozen frozen' unsure is up by shape =
       subst (λ rs. IsShaped (volume_with settings number rs rows' front frozen' unsure)) (sym is)
-      (shaped_on settings number items new rows rows' front front frozen frozen' unsure unsure shape call.one.count (λ j r r' e f. (called_each j r r' e f).1) call.places.width
+      (shaped_on settings number items new rows rows' front front frozen frozen' unsure unsure shape by call.one.count (λ j r r' e f. (called_each j r r' e f).1) call.places.width
       (λ none. swaps_thawed DiskTells files Tells faults start items new rows rows' at call.one call.ups (up none)))
 
   pub called_reach : (replicas : List (Copy D)) → replicas ≡ new → CanReach DiskTells files items rows → CanReach DiskTells files replicas rows'

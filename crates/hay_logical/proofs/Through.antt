@@ -180,7 +180,11 @@ module _ {D P : Type 0} (files : D → Files) (Tells : Type 0) (faults fuses : D
       cause.2 ∙ ap (λ (s : Settings). machine_of s b.number cause.0) same.settings ∙ ap (λ n. machine_of a.settings n cause.0) same.number,
     )
     delete_later NoMemory cause = tt
-    delete_later (ReadOnly m) cause = tt
+    delete_later (ReadOnly m) cause = (
+      cause.0,
+      subst (λ (s : Settings). cause.0 < s.replicas) same.settings cause.1,
+      cause.2 ∙ ap (λ (s : Settings). machine_of s b.number cause.0) same.settings ∙ ap (λ n. machine_of a.settings n cause.0) same.number,
+    )
     delete_later (Gone front) cause = tt
     delete_later (Full m end need capacity) cause = absurd cause
     delete_later (Busy m generation) cause = absurd cause

@@ -24,7 +24,7 @@ use Rattle.hay_physical.specs.Runs.{RemovedBoth}
 use Rattle.hay_logical.specs.declared.fault.LogicalFault.{LogicalFault}
 use Rattle.hay_logical.specs.declared.fault.LogicalFault.TheVariants.{Busy, Damaged, Failed, Full, Gone, Idle, NoMemory, ReadOnly, Worn}
 use Rattle.hay_logical.specs.Fits.{At}
-use Rattle.hay_logical.specs.Volumes.{Volume}
+use Rattle.hay_logical.specs.Volumes.{IsMachineOf, Volume}
 use Rattle.hay_logical.specs.Stands.{Stands}
 
 -- CAUSES
@@ -41,13 +41,10 @@ pub record HasFailed {D : Type 0} (faults : D → ℕ) (settings : Settings) (v 
   pub rose : Rose (faults before.disk) (faults after.disk)
   pub printed : count ≡ faults after.disk
 
--- the machine is that of one of the volume's replicas
-abbrev pub IsMachineOf : Settings → ℕ → ℕ → Type 0
-IsMachineOf settings v m = (replica : ℕ) × (replica < settings.replicas) × (m ≡ machine_of settings v replica)
-
--- Each call has refusals of its own, a failure has its cause, and what one replica refuses names its machine.
+-- Each call has refusals of its own, a failure has its cause, what one replica refuses names its machine, and what the volume refuses
+-- a machine of one.
 abbrev pub IsRoomFault : Settings → ℕ → LogicalFault → Type 0
-IsRoomFault settings v (ReadOnly m) = Unit {0}
+IsRoomFault settings v (ReadOnly m) = IsMachineOf settings v m
 IsRoomFault settings v (Full machine end need capacity) = IsMachineOf settings v machine
 IsRoomFault settings v (Failed m faults) = ⊥
 IsRoomFault settings v (Gone front) = ⊥
@@ -59,7 +56,7 @@ IsRoomFault settings v NoMemory = ⊥
 
 abbrev pub IsPutFault : {D : Type 0} → (D → ℕ) → Settings → ℕ → List (Copy D) → List (Copy D) → LogicalFault → Type 0
 IsPutFault faults settings v old new (Failed machine printed) = HasFailed faults settings v old new machine printed
-IsPutFault faults settings v old new (ReadOnly m) = Unit {0}
+IsPutFault faults settings v old new (ReadOnly m) = IsMachineOf settings v m
 IsPutFault faults settings v old new (Full machine end need capacity) = IsMachineOf settings v machine
 IsPutFault faults settings v old new NoMemory = Unit {0}
 IsPutFault faults settings v old new (Gone front) = ⊥
@@ -70,7 +67,7 @@ IsPutFault faults settings v old new (Damaged m at) = ⊥
 
 abbrev pub IsDeleteFault : {D : Type 0} → (D → ℕ) → Settings → ℕ → List (Copy D) → List (Copy D) → LogicalFault → Type 0
 IsDeleteFault faults settings v old new (Failed machine printed) = HasFailed faults settings v old new machine printed
-IsDeleteFault faults settings v old new (ReadOnly m) = Unit {0}
+IsDeleteFault faults settings v old new (ReadOnly m) = IsMachineOf settings v m
 IsDeleteFault faults settings v old new (Gone front) = Unit {0}
 IsDeleteFault faults settings v old new NoMemory = Unit {0}
 IsDeleteFault faults settings v old new (Full m end need capacity) = ⊥
@@ -93,7 +90,7 @@ IsSightFault faults settings v old new Idle = ⊥
 abbrev pub IsFlushFault : {D : Type 0} → (D → ℕ) → Settings → ℕ → ℕ → List (Copy D) → List (Copy D) → LogicalFault → Type 0
 IsFlushFault faults settings v replica old new (Failed machine printed) =
     (machine ≡ machine_of settings v replica) × HasFailed faults settings v old new machine printed
-IsFlushFault faults settings v replica old new (ReadOnly m) = Unit {0}
+IsFlushFault faults settings v replica old new (ReadOnly m) = IsMachineOf settings v m
 IsFlushFault faults settings v replica old new NoMemory = Unit {0}
 IsFlushFault faults settings v replica old new (Full m end need capacity) = ⊥
 IsFlushFault faults settings v replica old new (Gone front) = ⊥
@@ -105,7 +102,7 @@ IsFlushFault faults settings v replica old new (Damaged m at) = ⊥
 abbrev pub IsBeginFault : {D : Type 0} → (D → ℕ) → Settings → ℕ → ℕ → List (Copy D) → List (Copy D) → LogicalFault → Type 0
 IsBeginFault faults settings v replica old new (Failed machine printed) =
     (machine ≡ machine_of settings v replica) × HasFailed faults settings v old new machine printed
-IsBeginFault faults settings v replica old new (ReadOnly m) = Unit {0}
+IsBeginFault faults settings v replica old new (ReadOnly m) = IsMachineOf settings v m
 IsBeginFault faults settings v replica old new (Busy m generation) = m ≡ machine_of settings v replica
 IsBeginFault faults settings v replica old new (Worn m) = m ≡ machine_of settings v replica
 IsBeginFault faults settings v replica old new NoMemory = Unit {0}
@@ -117,7 +114,7 @@ IsBeginFault faults settings v replica old new (Damaged m at) = ⊥
 abbrev pub IsRunFault : {D : Type 0} → (D → ℕ) → Settings → ℕ → ℕ → List (Copy D) → List (Copy D) → LogicalFault → Type 0
 IsRunFault faults settings v replica old new (Failed machine printed) =
     (machine ≡ machine_of settings v replica) × HasFailed faults settings v old new machine printed
-IsRunFault faults settings v replica old new (ReadOnly m) = Unit {0}
+IsRunFault faults settings v replica old new (ReadOnly m) = IsMachineOf settings v m
 IsRunFault faults settings v replica old new Idle = Unit {0}
 IsRunFault faults settings v replica old new (Damaged m at) = m ≡ machine_of settings v replica
 IsRunFault faults settings v replica old new NoMemory = Unit {0}
@@ -129,7 +126,7 @@ IsRunFault faults settings v replica old new (Worn m) = ⊥
 abbrev pub IsCompactFault : {D : Type 0} → (D → ℕ) → Settings → ℕ → ℕ → List (Copy D) → List (Copy D) → LogicalFault → Type 0
 IsCompactFault faults settings v replica old new (Failed machine printed) =
     (machine ≡ machine_of settings v replica) × HasFailed faults settings v old new machine printed
-IsCompactFault faults settings v replica old new (ReadOnly m) = Unit {0}
+IsCompactFault faults settings v replica old new (ReadOnly m) = IsMachineOf settings v m
 IsCompactFault faults settings v replica old new (Busy m generation) = m ≡ machine_of settings v replica
 IsCompactFault faults settings v replica old new (Worn m) = m ≡ machine_of settings v replica
 IsCompactFault faults settings v replica old new (Damaged m at) = m ≡ machine_of settings v replica
@@ -231,8 +228,8 @@ FlushRefused files Tells k replica old new (Damaged m at) = ⊥
 -- COMPACTIONS
 
 -- none stands at a replica, and its generation is not the last one
-abbrev pub IsAtRest : VolumeKnown → ℕ → Type 0
-IsAtRest k j = ((replica_at k j).run ≡ None) × ((replica_at k j).generation < 65535)
+abbrev pub MayBegin : VolumeKnown → ℕ → Type 0
+MayBegin k j = ((replica_at k j).run ≡ None) × ((replica_at k j).generation < 65535)
 
 -- one stands there
 abbrev pub IsRunning : VolumeKnown → ℕ → Type 0
@@ -244,7 +241,7 @@ MayFinish k j = IsRunning k j × ((replica_at k j).generation < 65535)
 
 pub record IsBegun {D P : Type 0} (files : D → Files) (Tells : Type 0) (k : VolumeKnown) (replica generation : ℕ) (new : Volume D P) : Type 0 where
   pub thawed : k.frozen ≡ None
-  pub rest : IsAtRest k replica
+  pub rest : MayBegin k replica
   pub next : generation ≡ (replica_at k replica).generation + 1
   pub stands : Stands files Tells new (change_at k replica (with_run (record { goal = generation; left = (replica_at k replica).cells })))
 
@@ -257,8 +254,8 @@ BeginRefused files Tells k replica old new (Worn m) =
     (k.frozen ≡ None) × (m ≡ machine_of old.settings old.number replica)
     × ((replica_at k replica).run ≡ None) × ((replica_at k replica).generation ≡ 65535) × (new ≡ old)
 BeginRefused files Tells k replica old new (Failed m faults) =
-    (k.frozen ≡ None) × (m ≡ machine_of old.settings old.number replica) × IsAtRest k replica × Stands files Tells new k
-BeginRefused files Tells k replica old new NoMemory = (k.frozen ≡ None) × IsAtRest k replica × Stands files Tells new k
+    (k.frozen ≡ None) × (m ≡ machine_of old.settings old.number replica) × MayBegin k replica × Stands files Tells new k
+BeginRefused files Tells k replica old new NoMemory = (k.frozen ≡ None) × MayBegin k replica × Stands files Tells new k
 BeginRefused files Tells k replica old new (Full m end need capacity) = ⊥
 BeginRefused files Tells k replica old new (Gone front) = ⊥
 BeginRefused files Tells k replica old new Idle = ⊥
@@ -337,7 +334,7 @@ FinishRefused files Tells k replica old new (Damaged m at) = ⊥
 
 pub record IsCompacted {D P : Type 0} (files : D → Files) (Tells : Type 0) (k : VolumeKnown) (replica generation : ℕ) (new : Volume D P) : Type 0 where
   pub thawed : k.frozen ≡ None
-  pub rest : IsAtRest k replica
+  pub rest : MayBegin k replica
   pub next : generation ≡ (replica_at k replica).generation + 1
   pub swaps : StandsSwapped files Tells IsTight as_it_is k replica new
 
@@ -350,9 +347,9 @@ CompactRefused files Tells k replica old new (Worn m) =
     (k.frozen ≡ None) × (m ≡ machine_of old.settings old.number replica)
     × ((replica_at k replica).run ≡ None) × ((replica_at k replica).generation ≡ 65535) × Stands files Tells new k
 CompactRefused files Tells k replica old new (Failed m faults) =
-    (k.frozen ≡ None) × (m ≡ machine_of old.settings old.number replica) × IsAtRest k replica × StandsFailed files Tells m k replica new
+    (k.frozen ≡ None) × (m ≡ machine_of old.settings old.number replica) × MayBegin k replica × StandsFailed files Tells m k replica new
 CompactRefused files Tells k replica old new NoMemory =
-    (k.frozen ≡ None) × IsAtRest k replica × Stands files Tells new (change_at k replica without_run)
+    (k.frozen ≡ None) × MayBegin k replica × Stands files Tells new (change_at k replica without_run)
 CompactRefused files Tells k replica old new (Full m end need capacity) = ⊥
 CompactRefused files Tells k replica old new (Gone front) = ⊥
 CompactRefused files Tells k replica old new Idle = ⊥

@@ -39,14 +39,14 @@ IsPending (Some unsure) k None = ⊥
 
 -- Where it failed, its volume is frozen by the machine of the replica that broke it off. For want of memory only a put
 -- is broken off.
-abbrev pub IsBrokenAt : Settings → ℕ → Option ℕ → ℕ → Bool → Entry → Type 0
-IsBrokenAt settings v frozen broken_at true entry = (broken_at < settings.replicas) × (frozen ≡ Some (machine_of settings v broken_at))
-IsBrokenAt settings v frozen broken_at false (Put pair cookie bytes) = Unit {0}
-IsBrokenAt settings v frozen broken_at false (Del pair) = ⊥
+abbrev pub BreaksOffAt : Settings → ℕ → Option ℕ → ℕ → Bool → Entry → Type 0
+BreaksOffAt settings v frozen broken_at true entry = (broken_at < settings.replicas) × (frozen ≡ Some (machine_of settings v broken_at))
+BreaksOffAt settings v frozen broken_at false (Put pair cookie bytes) = Unit {0}
+BreaksOffAt settings v frozen broken_at false (Del pair) = ⊥
 
 abbrev pub IsBroken : Settings → ℕ → Option ℕ → ℕ → Option Pending → Type 0
 IsBroken settings v frozen broken_at None = Unit {0}
-IsBroken settings v frozen broken_at (Some pending) = IsBrokenAt settings v frozen broken_at pending.failed pending.entry
+IsBroken settings v frozen broken_at (Some pending) = BreaksOffAt settings v frozen broken_at pending.failed pending.entry
 
 -- WHAT THE DISKS HOLD
 

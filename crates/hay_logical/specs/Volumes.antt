@@ -1,9 +1,10 @@
 -- A logical volume as contracts see it.
-use Rattle.std.specs.Prelude.{◌≡◌, ℕ, ◌<◌, ◌≤◌, false, List, length, Option, None}
+use Rattle.std.specs.Prelude.{◌≡◌, ℕ, ◌<◌, ◌≤◌, false, List, length, Option, None, Some}
 use Rattle.hay_needle.specs.declared.settings.Settings.{Settings}
 use Rattle.hay_needle.specs.declared.needle.Pair.{Pair}
 use Rattle.hay_needle.specs.Tables.{pair_eq}
 use Rattle.hay_disk.specs.Disk.{Files}
+use Rattle.hay_legal.specs.Known.{machine_of}
 use Rattle.hay_map.specs.MapRows.{MapRows}
 use Rattle.hay_map.specs.Places.{place_in}
 use Rattle.hay_map.specs.Rows.{row_at}
@@ -33,6 +34,14 @@ pub record IsOfSettings (settings : Settings) (v : ℕ) : Type 0 where
   pub volumes : settings.volumes ≤ 64
   pub within : v < settings.volumes
 
+-- a machine that has a replica of volume v
+abbrev pub IsMachineOf : Settings → ℕ → ℕ → Type 0
+IsMachineOf settings v m = (replica : ℕ) × (replica < settings.replicas) × (m ≡ machine_of settings v replica)
+
+-- where a volume is frozen, it is so by such a machine
+abbrev pub IsFrozenBy : Settings → ℕ → Option ℕ → Type 0
+IsFrozenBy settings v frozen = (m : ℕ) → frozen ≡ Some m → IsMachineOf settings v m
+
 -- each replica has the superblock of its place
 abbrev pub HasSupers : {D P : Type 0} → Volume D P → Type 0
 HasSupers {D} volume = (j : ℕ) (r : Copy D) → At volume.replicas j r → r.sup ≡ super_of volume.settings volume.number j
@@ -44,6 +53,7 @@ pub record IsShaped {D P : Type 0} (volume : Volume D P) : Type 0 where
   pub sups : HasSupers volume
   pub width : volume.rows.replicas ≡ volume.settings.replicas
   pub thawed : volume.frozen ≡ None → (j : ℕ) (r : Copy D) → At volume.replicas j r → is_frozen r ≡ false
+  pub frozen_by : IsFrozenBy volume.settings volume.number volume.frozen
 
 -- Each photo that the rows have of a replica can be deleted there.
 abbrev pub DeletesPlaces : {D P : Type 0} → (D → Files) → MapRows P → ℕ → Copy D → Type 0

@@ -1,10 +1,12 @@
 //! A logical volume.
 ghost use Rattle.std.specs.Prelude.{◌≡◌, ◌≢◌, ◌⊎◌, ◌≤◌, ◌<◌, ◌+◌, ◌++◌, ◌∷◌, [], ℕ, List, Option, Some, None, true, false, length, map, option_map, Ok, Err, IfOk, IfErr, IfSome, IfNone, OnOk, OnErr};
+ghost use Rattle.std.specs.List.{AllByRecursion};
 ghost use Rattle.hay_disk.specs.Counts.{IsNext, Rose};
 ghost use Rattle.hay_disk.specs.Disk.{MayLeave};
 ghost use Rattle.hay_legal.specs.declared.known.VolumeKnown.{VolumeKnown};
 ghost use Rattle.hay_legal.specs.Known.{machine_of, now, replica_at, room_refusal_of};
 ghost use Rattle.hay_needle.specs.Tables.{outcome_at};
+ghost use Rattle.hay_reply.specs.Fits.{FitsNote};
 ghost use Rattle.hay_map.specs.Places.{PlaceMeans, place_in};
 ghost use Rattle.hay_map.specs.Rows.{ChangesRows, HasRoom, row_at};
 ghost use Rattle.hay_map.specs.declared.view.MapOp.TheVariants as map_op;
@@ -15,9 +17,9 @@ ghost use Rattle.hay_physical.specs.Copies.{Copy, contents_of, goal_of};
 ghost use Rattle.hay_physical.specs.Copies as copies;
 ghost use Rattle.hay_compact.specs.Finishing.{IsSeen};
 ghost use Rattle.hay_logical.specs.Fits.{At, PlaceStands, super_of};
-ghost use Rattle.hay_logical.specs.Notes.{NotesTell};
+ghost use Rattle.hay_logical.specs.Notes.{DeleteLeavesUnsure, NotesTell, PutLeavesUnsure};
 ghost use Rattle.hay_logical.specs.Steps.{IsRefusedAt, KeepsDisk, RoomFor, SetsPlaceAt};
-ghost use Rattle.hay_logical.specs.Volumes.{HasAll, IsClosed, IsOfSettings, IsOpenVolume, IsSame, KeepsCounts};
+ghost use Rattle.hay_logical.specs.Volumes.{HasAll, IsClosed, IsMachineOf, IsOfSettings, IsOpenVolume, IsSame, KeepsCounts};
 ghost use Rattle.hay_logical.specs.Stands.{Holds, IsFirst, IsIdleVolume, Stands, Stopped};
 ghost use Rattle.hay_logical.specs.Answers.{BeginRefused, CompactRefused, DeleteRefused, FinishRefused, FlushRefused, IsBeginFault, IsBegun, IsCompactFault, IsCompacted, IsDeleteFault, IsDeleted, IsFinished, IsFlushFault, IsFlushed, IsPut, IsPutFault, IsReopened, IsRoomFault, IsRunFault, IsSightFault, IsStepped, PutRefused, RemovesOld, StepRefused, room_answer};
 
@@ -139,6 +141,8 @@ impl<D: Disk> Logical<D> {
         ensures reopened { D.Tells → (k : VolumeKnown) → Stopped D.files self.old k →
             IfOk result (λ notes. IsReopened D.files D.Piece.Tells k notes self.new) }
         ensures told { IfOk result (NotesTell self.old.settings self.old.number self.old.unsure) }
+        ensures fits { IfOk result (AllByRecursion FitsNote) }
+        ensures settled { OnOk result (self.new.unsure ≡ None) }
         ensures open { OnOk result (IsOpenVolume self.new) }
         // Nothing of what was read of the disks is damaged.
         ensures undamaged { D.Tells → OnOk result ((j : ℕ) (r : Copy D) → At self.old.replicas j r →
@@ -236,6 +240,8 @@ impl<D: Disk> Logical<D> {
         ensures refused { D.Tells → (k : VolumeKnown) → Stands D.files D.Piece.Tells self.old k →
             IfErr result (PutRefused D.files D.Piece.Tells k tag pair cookie bytes.now self.old self.new) }
         ensures causes { IfErr result (IsPutFault D.fault_count self.old.settings self.old.number self.old.replicas self.new.replicas) }
+        ensures stored_unsure { OnOk result (self.new.unsure ≡ self.old.unsure) }
+        ensures refused_unsure { IfErr result (PutLeavesUnsure tag self.old.unsure self.new.unsure) }
         ensures open { IsOpenVolume self.new }
         ensures counts { KeepsCounts D.fault_count D.fuse_count self.old.replicas self.new.replicas }
         ensures same { IsSame self.old self.new }
@@ -385,6 +391,8 @@ impl<D: Disk> Logical<D> {
             IfErr result (DeleteRefused D.files D.Piece.Tells k tag pair self.new) }
         ensures frozen { (m : ℕ) → self.old.frozen ≡ Some m → (result ≡ Err (LogicalFault.ReadOnly m)) × (self.new ≡ self.old) }
         ensures causes { IfErr result (IsDeleteFault D.fault_count self.old.settings self.old.number self.old.replicas self.new.replicas) }
+        ensures deleted_unsure { OnOk result (self.new.unsure ≡ self.old.unsure) }
+        ensures refused_unsure { IfErr result (DeleteLeavesUnsure tag self.old.unsure self.new.unsure) }
         ensures open { IsOpenVolume self.new }
         ensures counts { KeepsCounts D.fault_count D.fuse_count self.old.replicas self.new.replicas }
         ensures same { IsSame self.old self.new }
@@ -406,6 +414,8 @@ impl<D: Disk> Logical<D> {
         ensures refused { D.Tells → (k : VolumeKnown) → Stands D.files D.Piece.Tells self.old k →
             IfErr result (DeleteRefused D.files D.Piece.Tells k tag pair self.new) }
         ensures causes { IfErr result (IsDeleteFault D.fault_count self.old.settings self.old.number self.old.replicas self.new.replicas) }
+        ensures deleted_unsure { OnOk result (self.new.unsure ≡ self.old.unsure) }
+        ensures refused_unsure { IfErr result (DeleteLeavesUnsure tag self.old.unsure self.new.unsure) }
         ensures undamaged { (m at : ℕ) → result ≡ Err (LogicalFault.Damaged m at) → ⊥ }
         ensures open { IsOpenVolume self.new }
         ensures counts { KeepsCounts D.fault_count D.fuse_count self.old.replicas self.new.replicas }
@@ -449,6 +459,7 @@ impl<D: Disk> Logical<D> {
         ensures refused { D.Tells → (k : VolumeKnown) → Stands D.files D.Piece.Tells self.old k →
             IfErr result (FlushRefused D.files D.Piece.Tells k replica self.old self.new) }
         ensures causes { IfErr result (IsFlushFault D.fault_count self.old.settings self.old.number replica self.old.replicas self.new.replicas) }
+        ensures unsure { self.new.unsure ≡ self.old.unsure }
         ensures open { IsOpenVolume self.new }
         ensures counts { KeepsCounts D.fault_count D.fuse_count self.old.replicas self.new.replicas }
         ensures same { IsSame self.old self.new }
@@ -473,6 +484,7 @@ impl<D: Disk> Logical<D> {
         ensures refused { D.Tells → (k : VolumeKnown) → Stands D.files D.Piece.Tells self.old k →
             IfErr result (BeginRefused D.files D.Piece.Tells k replica self.old self.new) }
         ensures causes { IfErr result (IsBeginFault D.fault_count self.old.settings self.old.number replica self.old.replicas self.new.replicas) }
+        ensures unsure { self.new.unsure ≡ self.old.unsure }
         ensures open { IsOpenVolume self.new }
         ensures counts { KeepsCounts D.fault_count D.fuse_count self.old.replicas self.new.replicas }
         ensures same { IsSame self.old self.new }
@@ -497,6 +509,7 @@ impl<D: Disk> Logical<D> {
         ensures refused { D.Tells → (k : VolumeKnown) → Stands D.files D.Piece.Tells self.old k →
             IfErr result (StepRefused D.files D.Piece.Tells k replica cells self.old self.new) }
         ensures causes { IfErr result (IsRunFault D.fault_count self.old.settings self.old.number replica self.old.replicas self.new.replicas) }
+        ensures unsure { self.new.unsure ≡ self.old.unsure }
         ensures open { IsOpenVolume self.new }
         ensures counts { KeepsCounts D.fault_count D.fuse_count self.old.replicas self.new.replicas }
         ensures same { IsSame self.old self.new }
@@ -534,6 +547,7 @@ impl<D: Disk> Logical<D> {
         ensures refused { D.Tells → (k : VolumeKnown) → Stands D.files D.Piece.Tells self.old k →
             IfErr result (FinishRefused D.files D.Piece.Tells k replica self.old self.new) }
         ensures causes { IfErr result (IsRunFault D.fault_count self.old.settings self.old.number replica self.old.replicas self.new.replicas) }
+        ensures unsure { self.new.unsure ≡ self.old.unsure }
         ensures open { IsOpenVolume self.new }
         ensures counts { KeepsCounts D.fault_count D.fuse_count self.old.replicas self.new.replicas }
         ensures same { IsSame self.old self.new }
@@ -570,6 +584,7 @@ impl<D: Disk> Logical<D> {
         ensures refused { D.Tells → (k : VolumeKnown) → Stands D.files D.Piece.Tells self.old k →
             IfErr result (CompactRefused D.files D.Piece.Tells k replica self.old self.new) }
         ensures causes { IfErr result (IsCompactFault D.fault_count self.old.settings self.old.number replica self.old.replicas self.new.replicas) }
+        ensures unsure { self.new.unsure ≡ self.old.unsure }
         ensures open { IsOpenVolume self.new }
         ensures counts { KeepsCounts D.fault_count D.fuse_count self.old.replicas self.new.replicas }
         ensures same { IsSame self.old self.new }
@@ -606,6 +621,7 @@ impl<D: Disk> Logical<D> {
     /// The machine by which the volume is frozen.
     pub fn frozen(&self) -> Option<u32>
         ensures is { result ≡ self.now.frozen }
+        ensures on { IfSome result (IsMachineOf self.now.settings self.now.number) }
         ensures known { D.Tells → (k : VolumeKnown) → Stands D.files D.Piece.Tells self.now k → result ≡ k.frozen }
     {
         self.frozen
@@ -636,6 +652,7 @@ impl<D: Disk> Logical<D> {
             IsNext (D.fuse_count r.disk) (D.fuse_count r'.disk) × (D.fault_count r'.disk ≡ D.fault_count r.disk) }
         ensures others { (j : ℕ) → (j ≡ replica → ⊥) → (r r' : Copy D) → At self.old.replicas j r → At self.new.replicas j r' → r' ≡ r }
         ensures count { length self.new.replicas ≡ length self.old.replicas }
+        ensures unsure { self.new.unsure ≡ self.old.unsure }
         ensures same { IsSame self.old self.new }
     {
         fuse_at(self.replicas.as_mut_slice(), replica as usize, calls);
@@ -649,6 +666,7 @@ impl<D: Disk> Logical<D> {
         ensures all { length self.new.replicas ≡ length self.old.replicas }
         ensures counts { (j : ℕ) (r r' : Copy D) → At self.old.replicas j r → At self.new.replicas j r' →
             (D.fault_count r'.disk ≡ D.fault_count r.disk) × (D.fuse_count r'.disk ≡ D.fuse_count r.disk) }
+        ensures unsure { self.new.unsure ≡ self.old.unsure }
         ensures same { IsSame self.old self.new }
     {
         stop_each(self.replicas.as_mut_slice(), pick);

@@ -1,5 +1,7 @@
 //! What an opening tells of a change that was broken off before the stop.
 ghost use Rattle.std.specs.Prelude.{◌≡◌, ◌≤◌, ◌<◌, ℕ, length, IfOk};
+ghost use Rattle.std.specs.List.{AllByRecursion};
+ghost use Rattle.hay_reply.specs.Fits.{FitsNote};
 ghost use Rattle.hay_legal.specs.Known.{machine_of};
 ghost use Rattle.hay_legal.specs.Restarts.{replica_notes};
 ghost use Rattle.hay_physical.specs.Copies.{Copy, IsOpenCopy};
@@ -79,7 +81,8 @@ fn notes_from(
 ) -> Result<Listed<Note>, NoMemory>
     requires of { IsOfSettings settings.now number }
     requires most { length kept.now ≤ 4 }
-    ensures { IfOk result (λ notes. notes ≡ replica_notes settings.now number line 0 kept.now) }
+    ensures are { IfOk result (λ notes. notes ≡ replica_notes settings.now number line 0 kept.now) }
+    ensures fits { IfOk result (AllByRecursion FitsNote) }
 {
     let mut notes = Vec::new(alloc);
     for (j, is) in kept.iter().enumerate() {
@@ -114,7 +117,8 @@ pub(crate) fn notes_of<D: Disk>(
     requires most { length replicas.now ≤ 4 }
     requires open { (j : ℕ) (r : Copy D) → At replicas.now j r → IsOpenCopy r }
     requires width { rows.now.replicas ≡ length replicas.now }
-    ensures { IfOk result (NotesAre settings.now number unsure.now rows.now replicas.now) }
+    ensures are { IfOk result (NotesAre settings.now number unsure.now rows.now replicas.now) }
+    ensures fits { IfOk result (AllByRecursion FitsNote) }
 {
     match unsure {
         None => Ok(Listed::new(alloc)),

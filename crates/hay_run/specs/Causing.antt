@@ -1,5 +1,6 @@
 -- What is written has its causes, whatever the disks tell.
 use Rattle.std.specs.Prelude.{◌≡◌, ◌≢◌, ◌⊎◌, ℕ, ◌<◌, ◌≤◌, slice_get, slice_index, List, [], ◌∷◌, ◌++◌, length, Option, Some, None, Bool, true, false, map, flat_map, Result, Ok, Err}
+use Rattle.std.specs.List.{AllByRecursion}
 use Rattle.hay_disk.specs.Disk.{Files}
 use Rattle.hay_disk.specs.Shelf.{HeldDisk}
 use Rattle.hay_disk.specs.Streams.{Wrote, WrotePart}
@@ -10,7 +11,7 @@ use Rattle.hay_reply.specs.declared.Note.{Note}
 use Rattle.hay_reply.specs.declared.Note.TheVariants.{Kept, Lost, KeptDir, LostDir, Log, Rows, OpenShelf, OpenFailed, OpenDamaged}
 use Rattle.hay_reply.specs.declared.Reply.{Reply}
 use Rattle.hay_reply.specs.declared.Reply.TheVariants.{BadLine, NoMem, Restarted}
-use Rattle.hay_reply.specs.Fits.{FitsReply}
+use Rattle.hay_reply.specs.Fits.{FitsNote, FitsReply}
 use Rattle.hay_reply.specs.Replies.{header_line, note_line, numbered_line}
 use Rattle.hay_legal.specs.declared.turn.Item.TheVariants as item
 use Rattle.hay_legal.specs.Items.{Asked, items_of, items_before}
@@ -21,6 +22,7 @@ use Rattle.hay_legal.specs.Statuses.{Ending, IsFront, read_contents}
 use Rattle.hay_legal.specs.Statuses.Ending.{ReadAll, OutputFault, InputFault, NoMemory, NotOpened, TooLong}
 use Rattle.hay_cluster.specs.Causes.{BlamesNoArm, Counts, IsCaused, LeavesFuses, RoseIn}
 use Rattle.hay_cluster.specs.Outside.{IsDamagedDisk, IsKept, IsUndamaged, IsUndamagedBelow}
+use Rattle.hay_cluster.specs.Pending.{LeavesPending, PendingLines, TellsPending, none_pending, pending_of}
 use Rattle.hay_cluster.specs.Store.{Open, contents_in, disks_of}
 use Rattle.hay_cluster.specs.Suiting.{Suits}
 use Rattle.hay_run.specs.declared.stops.Stop.{Stop}
@@ -34,11 +36,12 @@ use Rattle.hay_run.specs.Turns.{Writing, HoldsNone}
 use Rattle.hay_run.specs.Unbuilt.{unbuilt_text}
 
 -- What is seen of a store: how many calls of each disk and fetches of each arm failed, how many fuses were set on each disk, which
--- arms are sure, and what reads of the disk in each slot give.
+-- arms are sure, which lines left a change or a row pending, and what reads of the disk in each slot give.
 pub record Tally : Type 0 where
   pub counts : Counts
   pub fuses : List ℕ
   pub sure : List Bool
+  pub pending : PendingLines
   pub contents : ℕ → Contents
 
 abbrev pub tally_of : {D P A : Type 0} → (D → Files) → (D → ℕ) → (D → ℕ) → (A → ℕ) → (A → Bool) → Open D P A → Tally
@@ -46,6 +49,7 @@ tally_of files faults fuses arm_faults sure store = record {
   counts = record { disks = map faults (disks_of store); arms = map arm_faults store.arms };
   fuses = map fuses (disks_of store);
   sure = map sure store.arms;
+  pending = pending_of store;
   contents = contents_in files store;
 }
 
@@ -60,23 +64,25 @@ IsLaterTally before after =
 
 -- THE TEXT OF ITEMS
 
--- the text of a restart: its reply and the notes behind it; nothing that an opening reads of the disks is damaged then
-abbrev pub IsRestartText : Type 0 → Settings → Tally → Command → ℕ → List ℕ → Type 0
-IsRestartText Tells settings after command number text =
-    (pick : ℕ) × (rows : ℕ) × (notes : List Note) × (command ≡ asks.Restart pick) × (text ≡ numbered_line number (Restarted rows) ++ flat_map note_line notes)
-    × (Tells → IsUndamaged settings after.contents)
+-- the text of a restart: its reply and the notes behind it, which tell of all that was pending, with numbers of their types; nothing
+-- is pending then, and nothing that an opening reads of the disks is damaged
+abbrev pub IsRestartText : Type 0 → Settings → Tally → Tally → Command → ℕ → List ℕ → Type 0
+IsRestartText Tells settings before after command number text =
+    (pick : ℕ) × (rows : ℕ) × (notes : List Note) × (command ≡ asks.Restart pick) × FitsReply (Restarted rows) × TellsPending settings before.pending notes × AllByRecursion FitsNote notes
+    × (after.pending ≡ none_pending settings) × (text ≡ numbered_line number (Restarted rows) ++ flat_map note_line notes) × (Tells → IsUndamaged settings after.contents)
 
 -- the text of another command: a reply with numbers of their types, which the command of this line may be given, which tells of a
--- failure only where the count that it prints rose, and never of an arm that is sure
+-- failure only where the count that it prints rose, and never of an arm that is sure, and by which it is known what it left pending
 abbrev pub IsReplyText : Settings → Tally → Tally → Command → ℕ → List ℕ → Type 0
 IsReplyText settings before after command number text =
     ((pick : ℕ) → command ≢ asks.Restart pick)
-    × ((reply : Reply) × FitsReply reply × Suits settings number command reply × IsCaused settings 0 before.counts after.counts reply × (HasSureArm before 0 → BlamesNoArm reply) × (text ≡ numbered_line number reply))
+    × ((reply : Reply) × FitsReply reply × Suits settings number command reply × IsCaused settings 0 before.counts after.counts reply × (HasSureArm before 0 → BlamesNoArm reply)
+    × LeavesPending settings number command reply before.pending after.pending × (text ≡ numbered_line number reply))
 
 -- The text answers the item, while the counts went from these to those. A fuse is set by its command alone.
 abbrev pub IsTextOf : Type 0 → Settings → Tally → Tally → Asked → List ℕ → Type 0
 IsTextOf Tells settings before after (Alone number (item.Command command)) text =
-    LeavesFuses settings command before.fuses after.fuses × (IsRestartText Tells settings after command number text ⊎ IsReplyText settings before after command number text)
+    LeavesFuses settings command before.fuses after.fuses × (IsRestartText Tells settings before after command number text ⊎ IsReplyText settings before after command number text)
 IsTextOf Tells settings before after (Alone number item.Bad) text = (after ≡ before) × (text ≡ numbered_line number BadLine)
 IsTextOf Tells settings before after (Block lines) text = (after ≡ before) × (text ≡ flat_map unbuilt_text lines)
 
@@ -209,12 +215,13 @@ StandsBehind Tells NoMemory settings before after last part = IsPartBehind Tells
 StandsBehind Tells NotOpened settings before after last part =
     NotReopened before after last × ((note : Note) × IsNoteCaused Tells settings before after note × (part ≡ note_line note))
 
--- A store that was opened on these disks and arms has this tally, and an arm that was sure is sure in it.
+-- A store that was opened on these disks and arms has this tally, and an arm that was sure is sure in it. Nothing is pending.
 pub record BeginsAt (settings : Settings) (taken : Outside) (sure : ℕ → Bool) (tally : Tally) : Type 0 where
   pub faults : (slot : ℕ) → slot < disk_count settings → taken.faults slot ≤ slice_index tally.counts.disks slot
   pub fuses : (slot : ℕ) → slot < disk_count settings → slice_index tally.fuses slot ≡ taken.fuses slot
   pub arms : (lane : ℕ) → lane < 8 → slice_index tally.counts.arms lane ≡ taken.arms lane
   pub stay_sure : (lane : ℕ) → lane < 8 → sure lane ≡ true → HasSureArm tally lane
+  pub pending : tally.pending ≡ none_pending settings
 
 -- So has one that was closed.
 pub record EndsAt (Tells : Type 0) (settings : Settings) (tally : Tally) (given : Outside) : Type 0 where

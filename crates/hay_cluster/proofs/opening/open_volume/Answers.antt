@@ -51,6 +51,9 @@ returns-in_ok-append-in-Ok-clause-opened g c =
         first = e.first;
         reopened = e.reopened;
         undamaged = λ tells j r r' at at'. (e.undamaged tells j r at, e.undamaged_now tells j r r' at at');
+        told = e.told;
+        fits = e.fits;
+        settled = e.settled;
       },
     )
 

@@ -10,7 +10,7 @@ loop-volume-preserved g c =
     gathered_more (λ (old new : Volume g.row.D.Denot g.row.D-Piece.Denot) (none : List ℕ). StopsVolume g.D.Disk.Tells g.D.Disk.files g.D.Piece.Piece.Tells g.D.Disk.fault_count g.D.Disk.fuse_count old new)
     c.loop-volume.volume-index c.args.volumes.now c.loop-volume.volumes [] (get_or c.loop-volume.volumes c.loop-volume.volume-index c.volume-item.result) c.stop.new.self [] c.loop-volume.invariant
     (at_read c.loop-volume.volumes c.loop-volume.volume-index c.volume-item.result (omega arith))
-    (record { same = stops.same; count = stops.all; counts = stops.counts; closed = stops.closed; idle = stops.idle; stopped = stops.stopped })
+    (record { same = stops.same; count = stops.all; counts = stops.counts; unsure = stops.unsure; closed = stops.closed; idle = stops.idle; stopped = stops.stopped })
 
 pub returns : goal.returns
 returns g c =

@@ -14,7 +14,7 @@ told : {D P E : Type 0} (settings : Settings) (number : ℕ) (unsure : Unsure) (
 told settings number unsure rows replicas kept slice (Ok notes) same is e = (kept, is, e ∙ ap (λ xs. replica_notes settings number (unsure.tag).line 0 xs) same)
 told settings number unsure rows replicas kept slice (Err error) same is e = tt
 
-pub returns-in-Some : goal.returns-in-Some
-returns-in-Some g c =
+pub returns-in-Some-clause-are : goal.returns-in-Some-clause-are
+returns-in-Some-clause-are g c =
     subst (λ u. IfOk c.notes_from.result (NotesAre c.args.settings.now c.args.number u c.args.rows.now c.args.replicas.now)) (sym c.in-Some.is)
-    (told c.args.settings.now c.args.number c.in-Some.unsure c.args.rows.now c.args.replicas.now c.kept_in-kept.result.items c.as_slice.result.now c.notes_from.result c.as_slice.ensures.value c.kept_in-kept.ensures c.notes_from.ensures)
+    (told c.args.settings.now c.args.number c.in-Some.unsure c.args.rows.now c.args.replicas.now c.kept_in-kept.result.items c.as_slice.result.now c.notes_from.result c.as_slice.ensures.value c.kept_in-kept.ensures c.notes_from.ensures.are)

@@ -3,6 +3,7 @@ use Rattle.hay_script.specs.declared.Command.{Command}
 use Rattle.hay_cluster.specs.Suiting.{Suits}
 use Rattle.hay_cluster.proofs.Answering.{same_falls}
 use Rattle.hay_cluster.proofs.Sure.{same_sure, unblamed}
+use Rattle.hay_cluster.specs.Pending.{LeavesPending, pending_of}
 use Rattle.hay_cluster.proofs.cluster.Cluster.answer.Goals as goal
 
 pub returns-in-Drain-clause-causes : goal.returns-in-Drain-clause-causes
@@ -175,3 +176,45 @@ returns-in-Finish-clause-suits g c = subst (λ (asked : Command). Suits (c.args.
 
 pub returns-in-Compact-clause-suits : goal.returns-in-Compact-clause-suits
 returns-in-Compact-clause-suits g c = subst (λ (asked : Command). Suits (c.args.self.now).settings c.args.tag.line asked c.maintain-in-Compact.result) (sym c.in-Compact.is) (c.maintain-in-Compact.ensures.suits c.args.tag.line)
+
+pub returns-in-Put-clause-pending : goal.returns-in-Put-clause-pending
+returns-in-Put-clause-pending g c = subst (λ (asked : Command). LeavesPending (c.args.self.now).settings c.args.tag.line asked c.put.result (pending_of c.args.self.now) (pending_of c.put.new.self)) (sym c.in-Put.is) c.put.ensures.pending
+
+pub returns-in-Del-clause-pending : goal.returns-in-Del-clause-pending
+returns-in-Del-clause-pending g c = subst (λ (asked : Command). LeavesPending (c.args.self.now).settings c.args.tag.line asked c.delete.result (pending_of c.args.self.now) (pending_of c.delete.new.self)) (sym c.in-Del.is) c.delete.ensures.pending
+
+pub returns-in-Read-clause-pending : goal.returns-in-Read-clause-pending
+returns-in-Read-clause-pending g c = subst (λ (asked : Command). LeavesPending (c.args.self.now).settings c.args.tag.line asked c.read.result (pending_of c.args.self.now) (pending_of c.read.new.self)) (sym c.in-Read.is) c.read.ensures.pending
+
+pub returns-in-Get-clause-pending : goal.returns-in-Get-clause-pending
+returns-in-Get-clause-pending g c = subst (λ (asked : Command). LeavesPending (c.args.self.now).settings c.args.tag.line asked c.get.result (pending_of c.args.self.now) (pending_of c.get.new.self)) (sym c.in-Get.is) c.get.ensures.pending
+
+pub returns-in-Url-clause-pending : goal.returns-in-Url-clause-pending
+returns-in-Url-clause-pending g c = subst (λ (asked : Command). LeavesPending (c.args.self.now).settings c.args.tag.line asked c.url.result (pending_of c.args.self.now) (pending_of c.url.new.self)) (sym c.in-Url.is) c.url.ensures.pending
+
+pub returns-in-Flush-clause-pending : goal.returns-in-Flush-clause-pending
+returns-in-Flush-clause-pending g c = subst (λ (asked : Command). LeavesPending (c.args.self.now).settings c.args.tag.line asked c.maintain.result (pending_of c.args.self.now) (pending_of c.maintain.new.self)) (sym c.in-Flush.is) c.maintain.ensures.pending
+
+pub returns-in-Begin-clause-pending : goal.returns-in-Begin-clause-pending
+returns-in-Begin-clause-pending g c = subst (λ (asked : Command). LeavesPending (c.args.self.now).settings c.args.tag.line asked c.maintain-in-Begin.result (pending_of c.args.self.now) (pending_of c.maintain-in-Begin.new.self)) (sym c.in-Begin.is) c.maintain-in-Begin.ensures.pending
+
+pub returns-in-Step-clause-pending : goal.returns-in-Step-clause-pending
+returns-in-Step-clause-pending g c = subst (λ (asked : Command). LeavesPending (c.args.self.now).settings c.args.tag.line asked c.maintain-in-Step.result (pending_of c.args.self.now) (pending_of c.maintain-in-Step.new.self)) (sym c.in-Step.is) c.maintain-in-Step.ensures.pending
+
+pub returns-in-Finish-clause-pending : goal.returns-in-Finish-clause-pending
+returns-in-Finish-clause-pending g c = subst (λ (asked : Command). LeavesPending (c.args.self.now).settings c.args.tag.line asked c.maintain-in-Finish.result (pending_of c.args.self.now) (pending_of c.maintain-in-Finish.new.self)) (sym c.in-Finish.is) c.maintain-in-Finish.ensures.pending
+
+pub returns-in-Compact-clause-pending : goal.returns-in-Compact-clause-pending
+returns-in-Compact-clause-pending g c = subst (λ (asked : Command). LeavesPending (c.args.self.now).settings c.args.tag.line asked c.maintain-in-Compact.result (pending_of c.args.self.now) (pending_of c.maintain-in-Compact.new.self)) (sym c.in-Compact.is) c.maintain-in-Compact.ensures.pending
+
+pub returns-in-Drain-clause-pending : goal.returns-in-Drain-clause-pending
+returns-in-Drain-clause-pending g c = subst (λ (asked : Command). LeavesPending (c.args.self.now).settings c.args.tag.line asked c.drain.result (pending_of c.args.self.now) (pending_of c.drain.new.self)) (sym c.in-Drain.is) c.drain.ensures.pending
+
+pub returns-in-Undrain-clause-pending : goal.returns-in-Undrain-clause-pending
+returns-in-Undrain-clause-pending g c = subst (λ (asked : Command). LeavesPending (c.args.self.now).settings c.args.tag.line asked c.undrain.result (pending_of c.args.self.now) (pending_of c.undrain.new.self)) (sym c.in-Undrain.is) c.undrain.ensures.pending
+
+pub returns-in-Fuse-clause-pending : goal.returns-in-Fuse-clause-pending
+returns-in-Fuse-clause-pending g c = subst (λ (asked : Command). LeavesPending (c.args.self.now).settings c.args.tag.line asked c.fuse.result (pending_of c.args.self.now) (pending_of c.fuse.new.self)) (sym c.in-Fuse.is) c.fuse.ensures.pending
+
+pub returns-in-FuseDir-clause-pending : goal.returns-in-FuseDir-clause-pending
+returns-in-FuseDir-clause-pending g c = subst (λ (asked : Command). LeavesPending (c.args.self.now).settings c.args.tag.line asked c.fuse_dir.result (pending_of c.args.self.now) (pending_of c.fuse_dir.new.self)) (sym c.in-FuseDir.is) c.fuse_dir.ensures.pending

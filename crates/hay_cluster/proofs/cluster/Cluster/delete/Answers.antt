@@ -4,6 +4,8 @@ use Rattle.hay_legal.specs.Known.{closed, home_of, volume_at}
 use Rattle.hay_legal.specs.Plain.{with_del}
 use Rattle.hay_cluster.proofs.Changing.{deleted, not_deleted}
 use Rattle.hay_cluster.proofs.Suiting.{closed_suits_del, del_refusal_suits}
+use Rattle.hay_cluster.proofs.Pending.{delete_pending}
+use Rattle.hay_cluster.specs.Pending.{pending_of}
 use Rattle.hay_cluster.proofs.cluster.Cluster.delete.Goals as goal
 
 pub returns-in-Ok-clause-legal : goal.returns-in-Ok-clause-legal
@@ -29,7 +31,7 @@ pub returns-in_default-clause-suits : goal.returns-in_default-clause-suits
 returns-in_default-clause-suits g c = inr (inr (inl (c.rows.result, refl)))
 
 pub returns-in-Some-closed_by-clause-suits : goal.returns-in-Some-closed_by-clause-suits
-returns-in-Some-closed_by-clause-suits g c = closed_suits_del (c.args.self.now).settings c.in-Some.volume c.in-Some-closed_by.machine c.read_only.result (c.in-Some.ensures).within c.read_only.ensures.is
+returns-in-Some-closed_by-clause-suits g c = closed_suits_del (c.args.self.now).settings c.in-Some.volume c.in-Some-closed_by.machine c.read_only.result (c.in-Some-closed_by.ensures).on c.read_only.ensures.is
 
 pub returns-in-Ok-clause-suits : goal.returns-in-Ok-clause-suits
 returns-in-Ok-clause-suits g c = inl (c.in-Some.volume, c.in-Ok.position, c.rows-in-Ok.result, (c.in-Some.ensures).within, refl)
@@ -38,3 +40,17 @@ pub returns-clause-suits : goal.returns-clause-suits
 returns-clause-suits g c =
     del_refusal_suits (c.args.self.now).settings c.in-Some.volume c.rows-in-Err.result _ _ c.in-Err.fault c.delete_refusal.result (c.in-Some.ensures).within
     (IfErr-at_err _ c.in-Err.is c.delete_in.ensures.causes) c.delete_refusal.ensures.is
+
+pub returns-in_default-clause-pending : goal.returns-in_default-clause-pending
+returns-in_default-clause-pending g c = inr refl
+
+pub returns-in-Some-closed_by-clause-pending : goal.returns-in-Some-closed_by-clause-pending
+returns-in-Some-closed_by-clause-pending g c = inr refl
+
+pub returns-in-Ok-clause-pending : goal.returns-in-Ok-clause-pending
+returns-in-Ok-clause-pending g c = inr c.in-Ok.ensures.done_pending
+
+pub returns-clause-pending : goal.returns-clause-pending
+returns-clause-pending g c =
+    delete_pending c.args.tag.line c.in-Some.volume c.rows-in-Err.result (pending_of c.args.self.now) (pending_of c.delete_in.new.self) c.in-Err.fault c.delete_refusal.result c.delete_refusal.ensures.is
+    (IfErr-at_err _ c.in-Err.is c.delete_in.ensures.refused_pending)

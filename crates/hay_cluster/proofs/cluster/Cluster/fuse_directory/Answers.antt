@@ -4,6 +4,7 @@ use Rattle.hay_legal.specs.Known.{NoneFalls}
 use Rattle.hay_cluster.specs.Store.{Open, disks_of, volume_disks}
 use Rattle.hay_directory.specs.State.{State}
 use Rattle.hay_cluster.proofs.Moves.{directory_fused, directory_sets, none_falls}
+use Rattle.hay_cluster.proofs.Pending.{directory_kept}
 use Rattle.hay_cluster.proofs.cluster.Cluster.fuse_directory.Goals as goal
 
 pub returns-clause-fused : goal.returns-clause-fused
@@ -24,3 +25,8 @@ pub returns-clause-fuses : goal.returns-clause-fuses
 returns-clause-fuses g c =
     let store : Open g.row.D.Denot g.row.D-Piece.Denot g.row.A.Denot = record { settings = c.self.inside.settings; directory = c.self.inside.directory; volumes = c.self.inside.volumes.items; arms = c.self.inside.seats.items } in
     directory_sets g.D.Disk.fuse_count c.args.self.now store c.fuse.new.self c.self.view_is c.fuse.ensures.fuses
+
+pub returns-clause-pending : goal.returns-clause-pending
+returns-clause-pending g c =
+    let store : Open g.row.D.Denot g.row.D-Piece.Denot g.row.A.Denot = record { settings = c.self.inside.settings; directory = c.self.inside.directory; volumes = c.self.inside.volumes.items; arms = c.self.inside.seats.items } in
+    directory_kept c.args.self.now store c.fuse.new.self c.self.view_is (ap (λ (d : State g.row.D.Denot). d.mode) c.fuse.ensures.only)

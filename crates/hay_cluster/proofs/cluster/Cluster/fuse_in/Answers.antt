@@ -11,6 +11,7 @@ use Rattle.hay_cluster.proofs.Calls.{called_open, called_up}
 use Rattle.hay_cluster.proofs.Rooms.{item_room}
 use Rattle.hay_cluster.proofs.Lists.{length-set}
 use Rattle.hay_cluster.proofs.Moves.{fused_counts, fused_fuses, shape_kept, volume_fused, volume_of}
+use Rattle.hay_cluster.proofs.Pending.{called_kept}
 use Rattle.hay_cluster.proofs.cluster.Cluster.fuse_in.Goals as goal
 
 pub offset_bounds-as_mut_slice-volume : goal.offset_bounds-as_mut_slice-volume
@@ -98,3 +99,14 @@ returns-clause-fuses g c =
     rw items
     (fused_fuses g.D.Disk.fault_count g.D.Disk.fuse_count c.args.self.now store c.args.volume c.args.replica volume c.fuse.new.self c.self.view_is c.self.invariant at replica
     (record { same = c.fuse.ensures.same; count = c.fuse.ensures.count; fused = c.fuse.ensures.fused; others = c.fuse.ensures.others }))
+
+pub returns-clause-pending : goal.returns-clause-pending
+returns-clause-pending g c =
+    let store : Open g.row.D.Denot g.row.D-Piece.Denot g.row.A.Denot = record { settings = c.self.inside.settings; directory = c.self.inside.directory; volumes = c.self.inside.volumes.items; arms = c.self.inside.seats.items } in
+    let within : c.args.volume < length c.self.inside.volumes.items = let same = ap (λ (st : Open g.row.D.Denot g.row.D-Piece.Denot g.row.A.Denot). (st.settings).volumes) c.self.view_is in omega (arith, c.requires.volume, c.self.invariant.many, same) in
+    let volume : Volume g.row.D.Denot g.row.D-Piece.Denot = slice_index_or c.as_mut_slice.result.now c.args.volume c.index-as_mut_slice-volume.result in
+    let at : At store.volumes c.args.volume volume = subst (λ (vs : List (Volume g.row.D.Denot g.row.D-Piece.Denot)). At vs c.args.volume volume) c.as_mut_slice.ensures.value
+    (at_read c.as_mut_slice.result.now c.args.volume c.index-as_mut_slice-volume.result (let long = ap length c.as_mut_slice.ensures.value in omega (arith, within, long))) in
+    let items = with_items_is c.self.inside.volumes (slice_set c.as_mut_slice.result.now c.args.volume c.fuse.new.self) (length-set c.as_mut_slice.result.now c.args.volume c.fuse.new.self ∙ c.as_mut_slice.ensures.len)
+    ∙ ap (λ (vs : List (Volume g.row.D.Denot g.row.D-Piece.Denot)). slice_set vs c.args.volume c.fuse.new.self) c.as_mut_slice.ensures.value in
+    rw items (called_kept c.args.self.now store c.args.volume volume c.fuse.new.self c.self.view_is at c.fuse.ensures.unsure)

@@ -48,7 +48,7 @@ refused-requires g c = work_refuses c.args.work _ c.in-Err.fault (IfErr-at_err _
 pub returns-in_default-clause-suits : goal.returns-in_default-clause-suits
 returns-in_default-clause-suits g c = λ line.
     let same = ap (λ (st : Open g.row.D.Denot g.row.D-Piece.Denot g.row.A.Denot). st.settings) c.self.view_is in
-    nowhere_suits c.args.volume c.args.machine (c.args.self.now).settings line c.args.work
+    nowhere_suits (c.args.self.now).settings c.args.volume c.args.machine line c.args.work
     (ap (λ (s : Settings). replica_on s c.args.volume c.args.machine) (sym same) ∙ sym c.replica_on.ensures.is ∙ c.in_default.is)
 
 pub returns-in-Ok-clause-suits : goal.returns-in-Ok-clause-suits
@@ -56,7 +56,7 @@ returns-in-Ok-clause-suits g c = λ line.
     let same = ap (λ (st : Open g.row.D.Denot g.row.D-Piece.Denot g.row.A.Denot). st.settings) c.self.view_is in
     let there : replica_on (c.args.self.now).settings c.args.volume c.args.machine ≡ Some c.in-Some.replica =
     ap (λ (s : Settings). replica_on s c.args.volume c.args.machine) (sym same) ∙ sym c.replica_on.ensures.is ∙ c.in-Some.is in
-    work_suits c.args.volume c.args.machine (c.args.self.now).settings line c.in-Some.replica c.args.work c.done.result there (done_suits c.args.volume c.args.machine c.args.work c.in-Ok.number c.done.result c.done.ensures.is)
+    work_suits (c.args.self.now).settings c.args.volume c.args.machine line c.in-Some.replica c.args.work c.done.result there (done_suits (c.args.self.now).settings c.args.volume c.args.machine c.args.work c.in-Ok.number c.done.result c.done.ensures.is)
 
 pub returns-in-Err-clause-suits : goal.returns-in-Err-clause-suits
 returns-in-Err-clause-suits g c = λ line.
@@ -65,7 +65,7 @@ returns-in-Err-clause-suits g c = λ line.
     ap (λ (s : Settings). replica_on s c.args.volume c.args.machine) (sym same) ∙ sym c.replica_on.ensures.is ∙ c.in-Some.is in
     let cause = IfErr-at_err _ c.in-Err.is c.maintain_in.ensures.causes in
     let refuses = subst (λ m. RefusesOn c.args.work m c.in-Err.fault) (replica_machine (c.args.self.now).settings c.args.volume c.args.machine c.in-Some.replica there) cause.0 in
-    elim (undone_suits c.args.volume c.args.machine c.args.work c.in-Err.fault c.refused.result refuses c.refused.ensures.is) [
-      | inl suits ↦ work_suits c.args.volume c.args.machine (c.args.self.now).settings line c.in-Some.replica c.args.work c.refused.result there suits
-      | inr none ↦ memory_suits c.args.volume c.args.machine (c.args.self.now).settings line c.in-Some.replica c.args.work c.refused.result there none
+    elim (undone_suits (c.args.self.now).settings c.args.volume c.args.machine c.args.work c.in-Err.fault c.refused.result refuses cause.2 c.refused.ensures.is) [
+      | inl suits ↦ work_suits (c.args.self.now).settings c.args.volume c.args.machine line c.in-Some.replica c.args.work c.refused.result there suits
+      | inr none ↦ memory_suits (c.args.self.now).settings c.args.volume c.args.machine line c.in-Some.replica c.args.work c.refused.result there none
     ]

@@ -14,6 +14,7 @@ use Rattle.hay_cluster.proofs.OpeningLists.{passed_on}
 use Rattle.hay_cluster.proofs.OpeningStore.{MovedParts, opens_up}
 use Rattle.hay_cluster.proofs.OpeningTaken.{IsTakingFault, back_arm, back_counts, back_failed, back_shelf, is_taken, moved_arms, moved_counts, moved_sure, not_memory_damaged, not_memory_failed, one_fault, passed_back, taken_idle, taken_rests, taking_damaged, taking_failed, taking_shelf}
 use Rattle.hay_cluster.proofs.OpeningVoid.{back_kept}
+use Rattle.hay_cluster.proofs.Pending.{opened_settled}
 use Rattle.hay_cluster.proofs.cluster.Cluster.open.Goals as goal
 
 pub empty_volumes-requires-after_bounds : goal.empty_volumes-requires-after_bounds
@@ -246,3 +247,8 @@ returns-in-Err-clause-other_lanes g c =
 pub returns-in-Err-clause-counted : goal.returns-in-Err-clause-counted
 returns-in-Err-clause-counted g c =
     omega (arith, c.close.ensures.counted, c.take_parts.ensures.counted)
+
+pub returns-in-Ok-clause-settled : goal.returns-in-Ok-clause-settled
+returns-in-Ok-clause-settled g c =
+    opened_settled g.D.Disk.Tells g.D.Disk.files g.D.Piece.Piece.Tells g.D.Disk.fault_count g.D.Disk.fuse_count g.A.Arm.fault_count c.args.settings c.assemble-cluster.result c.open_parts.new.self c.in-Ok._notes
+    (c.open_parts.ensures.settings ∙ c.assemble-cluster.ensures.settings) c.open_parts.ensures.shape c.in-Ok.ensures.opened

@@ -4,6 +4,7 @@ use Rattle.hay_cluster.proofs.Answering.{answered, stays}
 use Rattle.hay_cluster.proofs.Moves.{none_falls}
 use Rattle.hay_cluster.proofs.Puts.{home_refused}
 use Rattle.hay_cluster.proofs.Suiting.{one_refuses, refusal_suits}
+use Rattle.hay_cluster.proofs.Pending.{refusal_no_failure}
 use Rattle.hay_cluster.proofs.cluster.Cluster.put.Goals as goal
 
 pub returns-in-Err-clause-legal : goal.returns-in-Err-clause-legal
@@ -33,3 +34,9 @@ returns-in-Some-refusal-clause-suits g c =
     let settings = (c.args.self.now).settings in
     refusal_suits settings c.args.pair (c.in-Some-refusal.refused ∷ []) c.refuse_one.result
     (one_refuses settings c.args.pair c.in-Some.volume c.in-Some-refusal.refused (c.in-Some.ensures).within (c.in-Some-refusal.ensures).refuses) c.refuse_one.ensures.is
+
+pub returns-in-Err-clause-pending : goal.returns-in-Err-clause-pending
+returns-in-Err-clause-pending g c = inr (inr (inr ((λ v m n is. cc, λ n is. cc), refl)))
+
+pub returns-in-Some-refusal-clause-pending : goal.returns-in-Some-refusal-clause-pending
+returns-in-Some-refusal-clause-pending g c = inr (inr (inr (refusal_no_failure _ c.refuse_one.result c.refuse_one.ensures.is, refl)))

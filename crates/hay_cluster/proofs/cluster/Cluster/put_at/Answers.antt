@@ -1,4 +1,4 @@
-use Rattle.std.proofs.Common.{map, ap, ◌∙◌, inl}
+use Rattle.std.proofs.Common.{map, ap, ◌∙◌, inl, inr}
 use Rattle.std.proofs.lemmas.Result.{IfErr-at_err, IfOk-at_ok}
 use Rattle.hay_url.specs.Url.{cookie_of}
 use Rattle.hay_cluster.specs.Store.{Open, disks_of}
@@ -7,6 +7,8 @@ use Rattle.hay_legal.specs.Plain.{with_put}
 use Rattle.hay_cluster.proofs.Puts.{put_caused, put_done, put_refused}
 use Rattle.hay_reply.specs.declared.Reply.TheVariants.{Stored}
 use Rattle.hay_cluster.proofs.Suiting.{put_refusal_suits}
+use Rattle.hay_cluster.proofs.Pending.{put_pending}
+use Rattle.hay_cluster.specs.Pending.{pending_of}
 use Rattle.hay_cluster.proofs.cluster.Cluster.put_at.Goals as goal
 
 pub returns-in-Err-clause-stored : goal.returns-in-Err-clause-stored
@@ -36,3 +38,11 @@ returns-in-Ok-clause-suits g c =
 pub returns-in-Err-clause-suits : goal.returns-in-Err-clause-suits
 returns-in-Err-clause-suits g c =
     put_refusal_suits (c.args.self.now).settings c.args.pair c.args.volume _ _ c.in-Err.fault c.put_refusal.result c.requires.volume (IfErr-at_err _ c.in-Err.is c.put_in.ensures.causes) c.put_refusal.ensures.is
+
+pub returns-in-Ok-clause-pending : goal.returns-in-Ok-clause-pending
+returns-in-Ok-clause-pending g c = inr (inr (inr ((λ v m n is. cc, λ n is. cc), c.in-Ok.ensures.done_pending)))
+
+pub returns-in-Err-clause-pending : goal.returns-in-Err-clause-pending
+returns-in-Err-clause-pending g c =
+    put_pending (c.args.self.now).settings c.args.tag.line c.args.volume (pending_of c.args.self.now) (pending_of c.put_in.new.self) c.in-Err.fault c.put_refusal.result c.requires.volume c.put_refusal.ensures.is
+    (IfErr-at_err _ c.in-Err.is c.put_in.ensures.refused_pending)

@@ -13,6 +13,9 @@ use Rattle.hay_cluster.proofs.Moves.{falls_trans}
 use Rattle.hay_cluster.proofs.Puts.{put_legal}
 use Rattle.hay_cluster.specs.Suiting.{SuitsPut}
 use Rattle.hay_cluster.proofs.Suiting.{settle_suits}
+use Rattle.hay_cluster.proofs.Pending.{settle_pending}
+use Rattle.hay_cluster.specs.Pending.{LeavesPut, PendingLines, pending_of}
+use Rattle.std.proofs.lemmas.Result.{IfErr-at_err}
 use Rattle.hay_cluster.proofs.cluster.Cluster.put_new.Goals as goal
 
 ok_not_err : {T E : Type 0} (x : T) (y : E) → Ok x ≡ Err y → ⊥
@@ -53,3 +56,13 @@ returns-in-Ok-clause-suits g c = subst (λ (s : Settings). SuitsPut s c.args.pai
 
 pub returns-in-Err-clause-suits : goal.returns-in-Err-clause-suits
 returns-in-Err-clause-suits g c = subst (λ (r : Reply). SuitsPut (c.args.self.now).settings c.args.pair r) (sym c.settle_refusal.ensures.is) (settle_suits (c.args.self.now).settings c.args.pair c.in-Err.fault)
+
+pub returns-in-Ok-clause-pending : goal.returns-in-Ok-clause-pending
+returns-in-Ok-clause-pending g c =
+    subst (λ (s : Settings). LeavesPut s c.args.tag.line c.put_at.result (pending_of c.args.self.now) (pending_of c.put_at.new.self)) c.settle.ensures.settings
+    (subst (λ (p : PendingLines). LeavesPut (c.settle.new.self).settings c.args.tag.line c.put_at.result p (pending_of c.put_at.new.self)) c.in-Ok.ensures.settled_pending c.put_at.ensures.pending)
+
+pub returns-in-Err-clause-pending : goal.returns-in-Err-clause-pending
+returns-in-Err-clause-pending g c =
+    settle_pending (c.args.self.now).settings c.args.tag.line (pending_of c.args.self.now) (pending_of c.settle.new.self) c.in-Err.fault c.settle_refusal.result c.settle_refusal.ensures.is
+    (IfErr-at_err _ c.in-Err.is c.settle.ensures.refused_pending)

@@ -1,4 +1,4 @@
-use Rattle.std.proofs.Common.{length, map, ap, subst, ◌∙◌, refl}
+use Rattle.std.proofs.Common.{length, map, ap, subst, ◌∙◌, refl, inr}
 use Rattle.std.specs.Prelude.{find, is_none}
 use Rattle.hay_legal.specs.Known.{refusal_of, tries_by}
 use Rattle.hay_cluster.specs.declared.put.Tried.{Tried}
@@ -8,6 +8,7 @@ use Rattle.hay_cluster.specs.Store.{disks_of}
 use Rattle.hay_cluster.proofs.Moves.{none_falls}
 use Rattle.hay_cluster.proofs.Puts.{all_refused}
 use Rattle.hay_cluster.proofs.Suiting.{all_refuse, refusal_suits}
+use Rattle.hay_cluster.proofs.Pending.{refusal_no_failure}
 use Rattle.hay_cluster.proofs.cluster.Cluster.put_tried.Goals as goal
 
 pub returns-in-Taker-clause-legal : goal.returns-in-Taker-clause-legal
@@ -31,3 +32,6 @@ pub returns-in-Nobody-clause-suits : goal.returns-in-Nobody-clause-suits
 returns-in-Nobody-clause-suits g c =
     let settings = (c.args.self.now).settings in
     refusal_suits settings c.args.pair c.in-Nobody.refused c.refuse.result (all_refuse settings c.args.pair c.in-Nobody.refused (c.requires.refused c.in-Nobody.refused c.in-Nobody.is)) c.refuse.ensures.is
+
+pub returns-in-Nobody-clause-pending : goal.returns-in-Nobody-clause-pending
+returns-in-Nobody-clause-pending g c = inr (inr (inr (refusal_no_failure _ c.refuse.result c.refuse.ensures.is, refl)))

@@ -19,6 +19,7 @@ use Rattle.hay_cluster.proofs.Lists.{length-set}
 use Rattle.hay_cluster.proofs.Moves.{volume_of, volume_stood}
 use Rattle.hay_cluster.proofs.Showing.{answers_say, counts_at, later_set, row_may_mean, row_read, seat_comes}
 use Rattle.hay_cluster.proofs.Sure.{read_no_arm, used_sure}
+use Rattle.hay_cluster.specs.Pending.{pending_of}
 use Rattle.hay_cluster.proofs.cluster.Cluster.read_first.Goals as goal
 
 pub offset_bounds-as_slice-volume : goal.offset_bounds-as_slice-volume
@@ -174,3 +175,6 @@ returns-clause-sure_arms g c =
     ∙ ap (λ (xs : List (g.row.A.Denot)). slice_set xs c.args.lane c.show-read.new.self) c.as_mut_slice.ensures.value in
     rw items (used_sure g.A.Arm.is_sure g.A.Arm.fault_count (c.args.self.now).arms store.arms c.args.lane arm c.show-read.new.self (ap (λ (st : Open g.row.D.Denot g.row.D-Piece.Denot g.row.A.Denot). st.arms) c.self.view_is) seat
     c.show-read.ensures.stays_sure)
+
+pub returns-clause-pending : goal.returns-clause-pending
+returns-clause-pending g c = ap (λ (st : Open g.row.D.Denot g.row.D-Piece.Denot g.row.A.Denot). pending_of st) c.self.view_is

@@ -20,6 +20,7 @@ use Rattle.hay_cluster.proofs.Lists.{length-set}
 use Rattle.hay_cluster.proofs.Moves.{volume_of, volume_stood}
 use Rattle.hay_cluster.proofs.Showing.{answers_say, counts_at, later_set, row_may_mean, row_read, row_stops, seat_comes}
 use Rattle.hay_cluster.proofs.Sure.{read_no_arm, used_sure}
+use Rattle.hay_cluster.specs.Pending.{pending_of}
 use Rattle.hay_cluster.proofs.cluster.Cluster.read_more.Goals as goal
 
 pub offset_bounds-as_slice-volume : goal.offset_bounds-as_slice-volume
@@ -191,3 +192,6 @@ returns-clause-most g c =
     ∙ ap (λ (xs : List (g.row.A.Denot)). slice_set xs c.args.lane c.show_more.new.self) c.as_mut_slice.ensures.value in
     rw items
     (counts_at g.A.Arm.fault_count (λ before after. (after ≡ before) ⊎ (after < 2 ^ 64)) (c.args.self.now).arms store.arms c.args.lane arm c.show_more.new.self (ap (λ (st : Open g.row.D.Denot g.row.D-Piece.Denot g.row.A.Denot). st.arms) c.self.view_is) seat c.show_more.ensures.most)
+
+pub returns-clause-pending : goal.returns-clause-pending
+returns-clause-pending g c = ap (λ (st : Open g.row.D.Denot g.row.D-Piece.Denot g.row.A.Denot). pending_of st) c.self.view_is

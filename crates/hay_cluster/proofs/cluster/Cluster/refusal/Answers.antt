@@ -1,4 +1,4 @@
-use Rattle.std.proofs.Common.{◌≡◌, ◌<◌, List, Option, None, length, sym, ap, subst, ◌∙◌, arith}
+use Rattle.std.proofs.Common.{◌≡◌, ◌<◌, List, Option, None, length, sym, ap, subst, ◌∙◌, arith, refl}
 use Rattle.std.specs.Prelude.{IfSome, slice_index_or}
 use Rattle.std.proofs.lemmas.Result.{IfErr-at_err}
 use Rattle.hay_needle.specs.declared.settings.Settings.{Settings}
@@ -94,3 +94,6 @@ returns-in-Err g c = record {
       (subst (λ n. IsRoomFault (c.args.self.now).settings n c.in-Err.fault) was.number cause));
   fits = c.lack_of.ensures.fits;
 }
+
+pub returns-in-Some-clause-refuses : goal.returns-in-Some-clause-refuses
+returns-in-Some-clause-refuses g c = (refl, (c.in-Some.ensures).on)

@@ -1,5 +1,5 @@
 use Rattle.std.proofs.Common.{◌≡◌, ◌++◌, ◌∷◌, [], None, Bool, List, map, sym, ap, subst, ◌∙◌, inl, inr}
-use Rattle.std.proofs.lemmas.Result.{on_ok_weaker}
+use Rattle.std.proofs.lemmas.Result.{on_ok_weaker, IfErr-weaker}
 use Rattle.std.proofs.lemmas.Bool.{cases_Bool}
 use Rattle.std.specs.List.{flat_map}
 use Rattle.hay_legal.specs.declared.known.DirKnown.{DirKnown}
@@ -13,6 +13,7 @@ use Rattle.hay_directory.proofs.Standing.{stands_frozen, stands_home}
 use Rattle.hay_cluster.specs.Causes.{RoseIn}
 use Rattle.hay_cluster.specs.State.{Stands}
 use Rattle.hay_cluster.proofs.Moves.{directory_fuses, directory_stood, in_directory, none_falls}
+use Rattle.hay_cluster.proofs.Pending.{directory_kept, row_left}
 use Rattle.hay_cluster.proofs.cluster.Cluster.settle.Goals as goal
 
 pub returns-clause-settled : goal.returns-clause-settled
@@ -78,3 +79,13 @@ pub returns-clause-fuses : goal.returns-clause-fuses
 returns-clause-fuses g c =
     let store : Open g.row.D.Denot g.row.D-Piece.Denot g.row.A.Denot = record { settings = c.self.inside.settings; directory = c.self.inside.directory; volumes = c.self.inside.volumes.items; arms = c.self.inside.seats.items } in
     directory_fuses g.D.Disk.fuse_count c.args.self.now store c.settle.new.self c.self.view_is c.settle.ensures.fuses
+
+pub returns-clause-settled_pending : goal.returns-clause-settled_pending
+returns-clause-settled_pending g c =
+    let store : Open g.row.D.Denot g.row.D-Piece.Denot g.row.A.Denot = record { settings = c.self.inside.settings; directory = c.self.inside.directory; volumes = c.self.inside.volumes.items; arms = c.self.inside.seats.items } in
+    on_ok_weaker c.settle.result (directory_kept c.args.self.now store c.settle.new.self c.self.view_is) c.settle.ensures.mode
+
+pub returns-clause-refused_pending : goal.returns-clause-refused_pending
+returns-clause-refused_pending g c =
+    let store : Open g.row.D.Denot g.row.D-Piece.Denot g.row.A.Denot = record { settings = c.self.inside.settings; directory = c.self.inside.directory; volumes = c.self.inside.volumes.items; arms = c.self.inside.seats.items } in
+    IfErr-weaker c.settle.result _ _ (λ fault left. row_left c.args.self.now store c.settle.new.self _ fault c.self.view_is left) c.settle.ensures.refused_mode

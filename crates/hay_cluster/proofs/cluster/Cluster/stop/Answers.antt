@@ -1,6 +1,7 @@
-use Rattle.std.proofs.Common.{◌≡◌, ◌++◌, List, length, take, drop, refl, sym, subst, arith, ◌<◌}
+use Rattle.std.proofs.Common.{◌≡◌, ◌++◌, List, length, take, drop, refl, sym, subst, arith, ◌<◌, ap}
 use Rattle.std.proofs.lemmas.List.{take_at}
 use Rattle.std.specs.List.{AllZip}
+use Rattle.hay_directory.specs.State.{unsure_of}
 use Rattle.hay_logical.specs.Volumes.{Volume}
 use Rattle.hay_cluster.specs.Opening.{StopsDirectory, StopsVolume}
 use Rattle.hay_cluster.specs.Store.{IsShaped, Open}
@@ -17,7 +18,7 @@ invariant_of-self g c =
     let old : Open g.row.D.Denot g.row.D-Piece.Denot g.row.A.Denot = record { settings = c.self.inside.settings; directory = c.self.inside.directory; volumes = items; arms = c.self.inside.seats.items } in
     let new : Open g.row.D.Denot g.row.D-Piece.Denot g.row.A.Denot = record { settings = c.self.inside.settings; directory = c.stop.new.self; volumes = vs; arms = c.self.inside.seats.items } in
     let zipped : AllZip (StopsVolume g.D.Disk.Tells g.D.Disk.files g.D.Piece.Piece.Tells g.D.Disk.fault_count g.D.Disk.fuse_count) items vs = subst (λ (l : List (Volume g.row.D.Denot g.row.D-Piece.Denot)). AllZip (StopsVolume g.D.Disk.Tells g.D.Disk.files g.D.Piece.Piece.Tells g.D.Disk.fault_count g.D.Disk.fuse_count) l vs) c.as_mut_slice.ensures.value c.stop_volumes.ensures in
-    let parts : StoppedParts g.D.Disk.Tells g.D.Disk.files g.D.Piece.Piece.Tells g.D.Disk.fault_count g.D.Disk.fuse_count g.A.Arm.fault_count old new = record { settings = refl; arms = refl; directory = record { settings = c.stop.ensures.settings; same_faults = c.stop.ensures.faults; same_fuses = c.stop.ensures.fuses; rests = record { closed = c.stop.ensures.closed.0; solid = λ tells. c.stop.ensures.solid tells 0; free = λ tells. c.stop.ensures.free tells 0 }; stopped = c.stop.ensures.stopped; long = c.stop.ensures.long }; volumes = zipped } in
+    let parts : StoppedParts g.D.Disk.Tells g.D.Disk.files g.D.Piece.Piece.Tells g.D.Disk.fault_count g.D.Disk.fuse_count g.A.Arm.fault_count old new = record { settings = refl; arms = refl; directory = record { settings = c.stop.ensures.settings; same_faults = c.stop.ensures.faults; same_fuses = c.stop.ensures.fuses; rests = record { closed = c.stop.ensures.closed.0; solid = λ tells. c.stop.ensures.solid tells 0; free = λ tells. c.stop.ensures.free tells 0 }; stopped = c.stop.ensures.stopped; long = c.stop.ensures.long; unsure = ap unsure_of c.stop.ensures.closed.1 }; volumes = zipped } in
     subst (λ (l : List (Volume g.row.D.Denot g.row.D-Piece.Denot)). let store : Open g.row.D.Denot g.row.D-Piece.Denot g.row.A.Denot = record { settings = c.self.inside.settings; directory = c.stop.new.self; volumes = l; arms = c.self.inside.seats.items } in IsShaped store) (sym whole)
     (shape_stopped g.D.Disk.Tells g.D.Disk.files g.D.Piece.Piece.Tells g.D.Disk.fault_count g.D.Disk.fuse_count g.A.Arm.fault_count old new c.self.invariant parts)
 
@@ -30,14 +31,14 @@ returns-clause-shape g c =
     let old : Open g.row.D.Denot g.row.D-Piece.Denot g.row.A.Denot = record { settings = c.self.inside.settings; directory = c.self.inside.directory; volumes = items; arms = c.self.inside.seats.items } in
     let new : Open g.row.D.Denot g.row.D-Piece.Denot g.row.A.Denot = record { settings = c.self.inside.settings; directory = c.stop.new.self; volumes = vs; arms = c.self.inside.seats.items } in
     let zipped : AllZip (StopsVolume g.D.Disk.Tells g.D.Disk.files g.D.Piece.Piece.Tells g.D.Disk.fault_count g.D.Disk.fuse_count) items vs = subst (λ (l : List (Volume g.row.D.Denot g.row.D-Piece.Denot)). AllZip (StopsVolume g.D.Disk.Tells g.D.Disk.files g.D.Piece.Piece.Tells g.D.Disk.fault_count g.D.Disk.fuse_count) l vs) c.as_mut_slice.ensures.value c.stop_volumes.ensures in
-    let parts : StoppedParts g.D.Disk.Tells g.D.Disk.files g.D.Piece.Piece.Tells g.D.Disk.fault_count g.D.Disk.fuse_count g.A.Arm.fault_count old new = record { settings = refl; arms = refl; directory = record { settings = c.stop.ensures.settings; same_faults = c.stop.ensures.faults; same_fuses = c.stop.ensures.fuses; rests = record { closed = c.stop.ensures.closed.0; solid = λ tells. c.stop.ensures.solid tells 0; free = λ tells. c.stop.ensures.free tells 0 }; stopped = c.stop.ensures.stopped; long = c.stop.ensures.long }; volumes = zipped } in
+    let parts : StoppedParts g.D.Disk.Tells g.D.Disk.files g.D.Piece.Piece.Tells g.D.Disk.fault_count g.D.Disk.fuse_count g.A.Arm.fault_count old new = record { settings = refl; arms = refl; directory = record { settings = c.stop.ensures.settings; same_faults = c.stop.ensures.faults; same_fuses = c.stop.ensures.fuses; rests = record { closed = c.stop.ensures.closed.0; solid = λ tells. c.stop.ensures.solid tells 0; free = λ tells. c.stop.ensures.free tells 0 }; stopped = c.stop.ensures.stopped; long = c.stop.ensures.long; unsure = ap unsure_of c.stop.ensures.closed.1 }; volumes = zipped } in
     subst (λ (l : List (Volume g.row.D.Denot g.row.D-Piece.Denot)). let store : Open g.row.D.Denot g.row.D-Piece.Denot g.row.A.Denot = record { settings = c.self.inside.settings; directory = c.stop.new.self; volumes = l; arms = c.self.inside.seats.items } in IsShaped store) (sym whole)
     (shape_stopped g.D.Disk.Tells g.D.Disk.files g.D.Piece.Piece.Tells g.D.Disk.fault_count g.D.Disk.fuse_count g.A.Arm.fault_count old new c.self.invariant parts)
 
 pub returns-clause-directory : goal.returns-clause-directory
 returns-clause-directory g c =
     subst (λ (st : Open g.row.D.Denot g.row.D-Piece.Denot g.row.A.Denot). StopsDirectory g.D.Disk.Tells g.D.Disk.files g.D.Disk.fault_count g.D.Disk.fuse_count st.directory c.stop.new.self) c.self.view_is
-    (record { settings = c.stop.ensures.settings; same_faults = c.stop.ensures.faults; same_fuses = c.stop.ensures.fuses; rests = record { closed = c.stop.ensures.closed.0; solid = λ tells. c.stop.ensures.solid tells 0; free = λ tells. c.stop.ensures.free tells 0 }; stopped = c.stop.ensures.stopped; long = c.stop.ensures.long })
+    (record { settings = c.stop.ensures.settings; same_faults = c.stop.ensures.faults; same_fuses = c.stop.ensures.fuses; rests = record { closed = c.stop.ensures.closed.0; solid = λ tells. c.stop.ensures.solid tells 0; free = λ tells. c.stop.ensures.free tells 0 }; stopped = c.stop.ensures.stopped; long = c.stop.ensures.long; unsure = ap unsure_of c.stop.ensures.closed.1 })
 
 pub returns-clause-volumes : goal.returns-clause-volumes
 returns-clause-volumes g c =

@@ -1,6 +1,6 @@
-use Rattle.std.proofs.Common.{◌≡◌, None, Err, refl, sym, ap, subst, ◌∙◌}
+use Rattle.std.proofs.Common.{◌≡◌, None, Err, refl, sym, ap, subst, ◌∙◌, Option, ◌<◌}
 use Rattle.std.specs.Prelude.{IfErr}
-use Rattle.std.proofs.lemmas.Result.{err_from_is_err_and}
+use Rattle.std.proofs.lemmas.Result.{err_from_is_err_and, on_ok_weaker}
 use Rattle.hay_legal.specs.declared.known.VolumeKnown.{VolumeKnown}
 use Rattle.hay_physical.proofs.Views.{if_err_so, if_ok_so}
 use Rattle.hay_logical.specs.declared.fault.LogicalFault.{LogicalFault}
@@ -8,6 +8,10 @@ use Rattle.hay_logical.specs.Answers.{DeleteRefused}
 use Rattle.hay_logical.specs.Stands.{Stands, StandsFor}
 use Rattle.hay_logical.proofs.Changing.{not_some}
 use Rattle.hay_logical.proofs.Through.{counts_through, delete_later, deleted_later, look_refused, same_through}
+use Rattle.hay_logical.proofs.Telling.{delete_before}
+use Rattle.hay_logical.specs.Notes.{DeleteLeavesUnsure}
+use Rattle.hay_logical.specs.declared.unsure.Unsure.{Unsure}
+use Rattle.hay_logical.specs.Volumes.{IsMachineOf, Volume}
 use Rattle.hay_logical.proofs.logical.Logical.delete.Goals as goal
 
 pub returns-in-Some-clause-refused : goal.returns-in-Some-clause-refused
@@ -44,3 +48,20 @@ returns-clause-counts g c = counts_through g.D.Disk.fault_count g.D.Disk.fuse_co
 
 pub returns-clause-same : goal.returns-clause-same
 returns-clause-same g c = same_through c.args.self.now c.see_each.new.self c.delete_seen.new.self c.see_each.ensures.counts.count c.see_each.ensures.same c.delete_seen.ensures.same
+
+pub returns-in_err-see_each-clause-refused_unsure : goal.returns-in_err-see_each-clause-refused_unsure
+returns-in_err-see_each-clause-refused_unsure g c =
+    let fault = err_from_is_err_and c.from_residual.result c.from_residual.ensures.1 in
+    subst (λ r. IfErr r (DeleteLeavesUnsure c.args.tag c.args.self.now.unsure c.see_each.new.self.unsure)) (sym fault.1)
+    (delete_before c.args.tag c.args.self.now.unsure c.see_each.new.self.unsure fault.0 c.see_each.ensures.still.2)
+
+pub returns-clause-deleted_unsure : goal.returns-clause-deleted_unsure
+returns-clause-deleted_unsure g c = on_ok_weaker c.delete_seen.result (λ same. same ∙ c.see_each.ensures.still.2) c.delete_seen.ensures.deleted_unsure
+
+pub returns-clause-refused_unsure : goal.returns-clause-refused_unsure
+returns-clause-refused_unsure g c =
+    subst (λ (u : Option Unsure). IfErr c.delete_seen.result (DeleteLeavesUnsure c.args.tag u c.delete_seen.new.self.unsure)) c.see_each.ensures.still.2 c.delete_seen.ensures.refused_unsure
+
+pub returns-in-Some-clause-causes : goal.returns-in-Some-clause-causes
+returns-in-Some-clause-causes g c =
+    subst (λ (v : Volume g.row.D.Denot g.row.D-Piece.Denot). IsMachineOf v.settings v.number c.in-Some.machine) c.self.view_is ((c.self.invariant.0).frozen_by c.in-Some.machine c.in-Some.is)

@@ -1,4 +1,4 @@
-use Rattle.std.proofs.Common.{◌≡◌, ◌≤◌, ◌<◌, ◌+◌, ℕ, length, Some, refl, sym, ap, subst, ◌∙◌, arith, rules}
+use Rattle.std.proofs.Common.{◌≡◌, ◌≤◌, ◌<◌, ◌+◌, ℕ, length, Some, refl, sym, ap, subst, ◌∙◌, arith, rules, inr}
 use Rattle.std.specs.Vec.{with_items}
 use Rattle.std.proofs.lemmas.List.{with_items_is}
 use Rattle.hay_map.specs.Places.{place_in}
@@ -20,6 +20,8 @@ use Rattle.hay_logical.proofs.Methods.{same_by, same_still, shaped_on}
 use Rattle.hay_logical.proofs.Standing.{volume_with}
 use Rattle.hay_logical.proofs.Changing.{delete_failed, delete_refused, delete_remains, deleted, deleted_same, not_held, some_none}
 use Rattle.hay_logical.proofs.Reaching.{delete_row, failed_row}
+use Rattle.hay_logical.specs.declared.unsure.Change.{Change}
+use Rattle.hay_logical.proofs.Freezing.{frozen_machine}
 use Rattle.hay_logical.proofs.logical.Logical.delete_seen.Goals as goal
 
 pub returns-then-not-has_live-clause-refused : goal.returns-then-not-has_live-clause-refused
@@ -75,7 +77,7 @@ invariant_of-self g c =
     λ j r r' e f. deleted_same g.D.Disk.Tells g.D.Disk.files (place_in c.row-row.result j) r r' (each j r r' e f) (up j r e) in (
       subst (λ rs. IsShaped (volume_with c.self.inside.settings c.self.inside.number rs c.del.new.self c.in-Some.position c.self.inside.frozen c.self.inside.unsure)) (sym kept)
           (shaped_on c.self.inside.settings c.self.inside.number c.self.inside.replicas.items c.delete_each.new.replicas c.self.inside.rows c.del.new.self c.self.inside.front c.in-Some.position c.self.inside.frozen c.self.inside.frozen c.self.inside.unsure c.self.inside.unsure
-          c.self.invariant.0 (c.delete_each.ensures.counts.count ∙ ap length now) (λ j r r' e f. (step j r r' e f).1) c.del.ensures.replicas (λ none j r r' e f. up_thawed r' (step j r r' e f).0)),
+          c.self.invariant.0 (c.self.invariant.0).frozen_by (c.delete_each.ensures.counts.count ∙ ap length now) (λ j r r' e f. (step j r r' e f).1) c.del.ensures.replicas (λ none j r r' e f. up_thawed r' (step j r r' e f).0)),
       c.self.invariant.1,
       subst (λ rs. CanReach g.D.Disk.Tells g.D.Disk.files rs c.del.new.self) (sym kept)
           (delete_row g.D.Disk.Tells g.D.Disk.files c.self.inside.replicas.items c.delete_each.new.replicas c.self.inside.rows c.del.new.self c.self.invariant.2 (c.delete_each.ensures.counts.count ∙ ap length now)
@@ -143,10 +145,14 @@ invariant_of-self-in-Err g c =
     λ j r e. open_up r (c.requires.«open».each j r (subst (λ v. At v.replicas j r) c.self.view_is e)) ((c.self.invariant.0).thawed thawed j r e) in
     let left : DeleteLeaves g.D.Disk.Tells g.D.Disk.files g.D.Disk.fault_count c.row-row.result c.self.inside.replicas.items c.delete_each.new.replicas c.in-Err.failed =
     subst (λ xs. DeleteLeaves g.D.Disk.Tells g.D.Disk.files g.D.Disk.fault_count c.row-row.result xs c.delete_each.new.replicas c.in-Err.failed) now c.in-Err.ensures.broken in
+    let below = at_below c.as_mut_slice.result.now c.in-Err.failed.at c.in-Err.ensures.broken.before c.in-Err.ensures.broken.was in
+    let few = (c.self.invariant.0).count in
+    let long = ap length now in
+    let within : c.in-Err.failed.at < c.self.inside.settings.replicas = omega (arith, below, few, long) in
     let remains = delete_remains g.D.Disk.Tells g.D.Disk.files g.D.Disk.fault_count c.self.inside.replicas.items c.delete_each.new.replicas c.row-row.result c.in-Err.failed left up in (
       subst (λ rs. IsShaped (volume_with c.self.inside.settings c.self.inside.number rs c.self.inside.rows c.self.inside.front (Some c.machine_of-machine.result) (Some (record { tag = c.args.tag; change = change.Delete c.args.pair })))) (sym kept)
           (shaped_on c.self.inside.settings c.self.inside.number c.self.inside.replicas.items c.delete_each.new.replicas c.self.inside.rows c.self.inside.rows c.self.inside.front c.self.inside.front c.self.inside.frozen (Some c.machine_of-machine.result) c.self.inside.unsure (Some (record { tag = c.args.tag; change = change.Delete c.args.pair }))
-          c.self.invariant.0 (c.delete_each.ensures.counts.count ∙ ap length now) (λ j r r' e f. (remains j r r' e f).sup) refl (λ none j r r' e f. some_none none)),
+          c.self.invariant.0 (frozen_machine c.self.inside.settings c.self.inside.number c.in-Err.failed.at c.machine_of-machine.result within c.machine_of-machine.ensures) (c.delete_each.ensures.counts.count ∙ ap length now) (λ j r r' e f. (remains j r r' e f).sup) refl (λ none j r r' e f. some_none none)),
       c.self.invariant.1,
       subst (λ rs. CanReach g.D.Disk.Tells g.D.Disk.files rs c.self.inside.rows) (sym kept)
           (failed_row g.D.Disk.Tells g.D.Disk.files c.self.inside.replicas.items c.delete_each.new.replicas c.self.inside.rows c.self.inside.rows c.self.invariant.2 (c.delete_each.ensures.counts.count ∙ ap length now)
@@ -237,3 +243,9 @@ returns-clause-same g c =
     subst (λ xs. DeleteLeaves g.D.Disk.Tells g.D.Disk.files g.D.Disk.fault_count c.row-row.result xs c.delete_each.new.replicas c.in-Err.failed) now c.in-Err.ensures.broken in
     same_by _ _ _ _ c.self.view_is refl refl kept
     (λ j r r' e f. (delete_remains g.D.Disk.Tells g.D.Disk.files g.D.Disk.fault_count c.self.inside.replicas.items c.delete_each.new.replicas c.row-row.result c.in-Err.failed left up j r r' e f).sup)
+
+pub returns-in-Ok-clause-deleted_unsure : goal.returns-in-Ok-clause-deleted_unsure
+returns-in-Ok-clause-deleted_unsure g c = ap (λ v. v.unsure) c.self.view_is
+
+pub returns-clause-refused_unsure : goal.returns-clause-refused_unsure
+returns-clause-refused_unsure g c = inr (change.Delete c.args.pair, refl)

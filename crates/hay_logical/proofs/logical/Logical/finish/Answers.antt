@@ -17,6 +17,8 @@ use Rattle.hay_logical.proofs.Methods.{same_by}
 use Rattle.hay_logical.proofs.Standing.{volume_with}
 use Rattle.hay_logical.proofs.Stepping.{none_there, stands_there}
 use Rattle.hay_logical.proofs.SwapShapes.{SwapCall, called_each, called_open, called_reach, called_shaped, called_up, called_with}
+use Rattle.hay_logical.proofs.Freezing.{frozen_unfinished}
+use Rattle.hay_logical.specs.Volumes.{IsMachineOf, Volume}
 use Rattle.hay_logical.proofs.logical.Logical.finish.Given as given
 use Rattle.hay_logical.proofs.logical.Logical.finish.Goals as goal
 use Rattle.hay_logical.proofs.logical.Logical.finish.Goals.{After-finish_at}
@@ -84,7 +86,7 @@ pub invariant_of-self : goal.invariant_of-self
 invariant_of-self g c =
     let after = (goal.at.invariant_of-self g c).After-finish_at in
     let call = called_with c.in-Ok.is (called g after) in (
-      called_shaped call c.self.inside.settings c.self.inside.number _ c.self.inside.front c.self.inside.frozen c.self.inside.frozen c.self.inside.unsure (kept g after) (λ none. call.swaps.up.0) c.self.invariant.0,
+      called_shaped call c.self.inside.settings c.self.inside.number _ c.self.inside.front c.self.inside.frozen c.self.inside.frozen c.self.inside.unsure (kept g after) (λ none. call.swaps.up.0) (c.self.invariant.0).frozen_by c.self.invariant.0,
       c.self.invariant.1,
       called_reach call _ (kept g after) c.self.invariant.2,
     )
@@ -93,7 +95,8 @@ pub invariant_of-self-in-Err : goal.invariant_of-self-in-Err
 invariant_of-self-in-Err g c =
     let after = (goal.at.invariant_of-self-in-Err g c).After-finish_at in
     let call = called_with c.in-Err.is (called g after) in (
-      called_shaped call c.self.inside.settings c.self.inside.number _ c.self.inside.front c.self.inside.frozen c.unfinished_by-unfinished.result.frozen c.self.inside.unsure (kept g after) (λ none. called_up c.self.inside.settings c.self.inside.number c.in-Err.unswapped call (ap (λ x. x.frozen) (sym c.unfinished_by-unfinished.ensures) ∙ none)) c.self.invariant.0,
+      called_shaped call c.self.inside.settings c.self.inside.number _ c.self.inside.front c.self.inside.frozen c.unfinished_by-unfinished.result.frozen c.self.inside.unsure (kept g after) (λ none. called_up c.self.inside.settings c.self.inside.number c.in-Err.unswapped call (ap (λ x. x.frozen) (sym c.unfinished_by-unfinished.ensures) ∙ none))
+          (frozen_unfinished c.self.inside.settings c.self.inside.number c.args.replica c.in-Err.unswapped c.unfinished_by-unfinished.result (subst (λ v. c.args.replica < v.settings.replicas) (sym c.self.view_is) c.requires.within) c.unfinished_by-unfinished.ensures) c.self.invariant.0,
       c.self.invariant.1,
       called_reach call _ (kept g after) c.self.invariant.2,
     )
@@ -164,3 +167,7 @@ pub returns-in-Err-clause-same : goal.returns-in-Err-clause-same
 returns-in-Err-clause-same g c =
     let after = (goal.at.returns-in-Err-clause-same g c).After-finish_at in
     same_by _ _ _ _ c.self.view_is refl refl (kept g after) (λ j r r' e f. (called_each (called g after) j r r' e f).1)
+
+pub returns-in-Some-clause-causes : goal.returns-in-Some-clause-causes
+returns-in-Some-clause-causes g c =
+    subst (λ (v : Volume g.row.D.Denot g.row.D-Piece.Denot). IsMachineOf v.settings v.number c.in-Some.machine) c.self.view_is ((c.self.invariant.0).frozen_by c.in-Some.machine c.in-Some.is)

@@ -42,7 +42,7 @@ invariant_of-self g c =
     (ap (λ r. r.sup) step.same, ap (λ r. r.phase) step.same) (λ x. (refl, refl)) in (
       subst (λ rs. IsShaped (volume_with c.self.inside.settings c.self.inside.number rs c.self.inside.rows c.self.inside.front c.self.inside.frozen c.self.inside.unsure)) (sym kept)
           (shaped_on c.self.inside.settings c.self.inside.number c.self.inside.replicas.items c.fuse_at.new.replicas c.self.inside.rows c.self.inside.rows c.self.inside.front c.self.inside.front c.self.inside.frozen c.self.inside.frozen c.self.inside.unsure c.self.inside.unsure
-          c.self.invariant.0 (one_count c.args.replica c.as_mut_slice.result.now c.fuse_at.new.replicas one ∙ ap length now)
+          c.self.invariant.0 (c.self.invariant.0).frozen_by (one_count c.args.replica c.as_mut_slice.result.now c.fuse_at.new.replicas one ∙ ap length now)
           (λ j r r' e f. (each j r r' (subst (λ xs. At xs j r) (sym now) e) f).0) refl
           (λ none j r r' e f. ap phase_frozen (each j r r' (subst (λ xs. At xs j r) (sym now) e) f).1 ∙ (c.self.invariant.0).thawed none j r e)),
       c.self.invariant.1,

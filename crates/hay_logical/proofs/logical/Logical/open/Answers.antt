@@ -14,6 +14,7 @@ use Rattle.hay_logical.proofs.Lists.{at_below, at_there}
 use Rattle.hay_logical.proofs.Methods.{same_by, shaped_on}
 use Rattle.hay_logical.proofs.Opened.{err_same, first_stands, no_damage, no_notes, not_damaged, notes_on, notes_tell, reopened, reopened_on}
 use Rattle.hay_logical.proofs.Standing.{volume_with}
+use Rattle.hay_logical.proofs.Freezing.{never_frozen}
 use Rattle.hay_logical.proofs.logical.Logical.open.Goals as goal
 
 pub open_all-requires-after_bounds : goal.open_all-requires-after_bounds
@@ -87,7 +88,7 @@ invariant_of-self g c =
     let count = c.open_all.ensures.counts.count ∙ ap length now in
     let shape = c.self.invariant.0 in (
       subst (λ rs. IsShaped (volume_with here.settings here.number rs c.open_all.new.rows here.front here.frozen here.unsure)) (sym kept)
-          (shaped_on here.settings here.number olds news here.rows c.open_all.new.rows here.front here.front here.frozen here.frozen here.unsure here.unsure shape count
+          (shaped_on here.settings here.number olds news here.rows c.open_all.new.rows here.front here.front here.frozen here.frozen here.unsure here.unsure shape shape.frozen_by count
           (λ j r r' e f. (c.open_all.ensures.left j r r' (subst (λ xs. At xs j r) (sym now) e) f).sup)
           (c.open_all.ensures.width ∙ c.new.ensures.replicas ∙ sym shape.width)
           (λ none j r r' e f. c.in-Err.ensures.thawed j r' f)),
@@ -159,7 +160,7 @@ invariant_of-self-in_default g c =
     λ j r r' e f. c.in-Ok.ensures.opened j r r' (subst (λ xs. At xs j r) (sym now) e) f in
     let shape = c.self.invariant.0 in (
       subst (λ rs. IsShaped (volume_with here.settings here.number rs c.open_all.new.rows here.front here.frozen here.unsure)) (sym kept)
-          (shaped_on here.settings here.number olds news here.rows c.open_all.new.rows here.front here.front here.frozen here.frozen here.unsure here.unsure shape count
+          (shaped_on here.settings here.number olds news here.rows c.open_all.new.rows here.front here.front here.frozen here.frozen here.unsure here.unsure shape shape.frozen_by count
           (λ j r r' e f. (c.open_all.ensures.left j r r' (subst (λ xs. At xs j r) (sym now) e) f).sup)
           (c.open_all.ensures.width ∙ c.new.ensures.replicas ∙ sym shape.width)
           (λ none j r r' e f. up_thawed r' (opened j r r' e f).up)),
@@ -236,7 +237,7 @@ invariant_of-self-2 g c =
     λ j r r' e f. c.in-Ok.ensures.opened j r r' (subst (λ xs. At xs j r) (sym now) e) f in
     let shape = c.self.invariant.0 in (
       subst (λ rs. IsShaped (volume_with here.settings here.number rs c.open_all.new.rows 0 None None)) (sym kept)
-          (shaped_on here.settings here.number olds news here.rows c.open_all.new.rows here.front 0 here.frozen None here.unsure None shape count
+          (shaped_on here.settings here.number olds news here.rows c.open_all.new.rows here.front 0 here.frozen None here.unsure None shape (never_frozen here.settings here.number) count
           (λ j r r' e f. (c.open_all.ensures.left j r r' (subst (λ xs. At xs j r) (sym now) e) f).sup)
           (c.open_all.ensures.width ∙ c.new.ensures.replicas ∙ sym shape.width)
           (λ none j r r' e f. up_thawed r' (opened j r r' e f).up)),
@@ -257,7 +258,7 @@ returns-clause-first g c = λ tells k first.
     λ j r r' e f. c.in-Ok.ensures.opened j r r' (subst (λ xs. At xs j r) (sym now) e) f in
     let all : length olds ≡ here.settings.replicas = subst (λ (v : Volume g.row.D.Denot g.row.D-Piece.Denot). length v.replicas ≡ v.settings.replicas) (sym c.self.view_is) c.requires.all in
     let was : IsFirst g.D.Disk.files (volume_with here.settings here.number olds here.rows here.front here.frozen here.unsure) k = subst (λ v. IsFirst g.D.Disk.files v k) (sym c.self.view_is) first in (
-      no_notes here.settings here.number here.unsure c.open_all.new.rows c.as_slice.result.now _ was.unsure c.in-Ok-notes_of.ensures,
+      no_notes here.settings here.number here.unsure c.open_all.new.rows c.as_slice.result.now _ was.unsure c.in-Ok-notes_of.ensures.are,
       subst (λ rs. StandsFor g.D.Disk.files g.D.Piece.Piece.Tells (volume_with here.settings here.number rs c.open_all.new.rows 0 None None) k) (sym kept)
           (first_stands g.D.Disk.Tells g.D.Disk.files g.D.Piece.Piece.Tells here.settings here.number olds news c.open_all.new.rows count opened tells here.rows here.front here.frozen here.unsure k all (c.self.invariant.0).sups was),
     )
@@ -277,7 +278,7 @@ returns-clause-reopened g c = λ tells k stopped.
     let was : StoppedFor g.D.Disk.files (volume_with here.settings here.number olds here.rows here.front here.frozen here.unsure) k = subst (λ v. StoppedFor g.D.Disk.files v k) (sym c.self.view_is) stopped in
     reopened_on g.D.Disk.files g.D.Piece.Piece.Tells k here.settings here.number c.open_all.new.rows news _ _ kept
     (reopened g.D.Disk.Tells g.D.Disk.files g.D.Piece.Piece.Tells here.settings here.number olds news c.open_all.new.rows count opened tells (c.self.invariant.0).settings here.rows here.front here.frozen here.unsure k
-    was.holds was.unsure (λ j r e. c.in-Ok.ensures.seen tells j r (subst (λ xs. At xs j r) (sym now) e)) _ (notes_on here.settings here.number here.unsure c.open_all.new.rows c.as_slice.result.now news _ slice c.in-Ok-notes_of.ensures))
+    was.holds was.unsure (λ j r e. c.in-Ok.ensures.seen tells j r (subst (λ xs. At xs j r) (sym now) e)) _ (notes_on here.settings here.number here.unsure c.open_all.new.rows c.as_slice.result.now news _ slice c.in-Ok-notes_of.ensures.are))
 
 pub returns-clause-told : goal.returns-clause-told
 returns-clause-told g c =
@@ -287,7 +288,7 @@ returns-clause-told g c =
     let count = c.open_all.ensures.counts.count ∙ ap length now in
     let all : length here.replicas.items ≡ here.settings.replicas = subst (λ (v : Volume g.row.D.Denot g.row.D-Piece.Denot). length v.replicas ≡ v.settings.replicas) (sym c.self.view_is) c.requires.all in
     subst (λ (v : Volume g.row.D.Denot g.row.D-Piece.Denot). NotesTell v.settings v.number v.unsure c.in-Ok-notes_of.notes) c.self.view_is
-    (notes_tell here.settings here.number here.unsure c.open_all.new.rows c.as_slice.result.now _ (ap length (c.as_slice.ensures.value ∙ kept) ∙ count ∙ all) c.in-Ok-notes_of.ensures)
+    (notes_tell here.settings here.number here.unsure c.open_all.new.rows c.as_slice.result.now _ (ap length (c.as_slice.ensures.value ∙ kept) ∙ count ∙ all) c.in-Ok-notes_of.ensures.are)
 
 pub returns-clause-open : goal.returns-clause-open
 returns-clause-open g c =

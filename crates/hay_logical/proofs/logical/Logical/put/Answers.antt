@@ -25,6 +25,9 @@ use Rattle.hay_logical.proofs.Changing.{put_remains, some_none}
 use Rattle.hay_logical.proofs.Reaching.{put_row, same_rows, seen_apart, seen_sees}
 use Rattle.hay_logical.proofs.Putting.{all_thawed, done, is_err_of, never_err, ok_of, put_cause_of, put_refused, room_cause, room_ok, room_refused, rows_kept, untouched}
 use Rattle.hay_logical.proofs.Refusing.{refuses_put}
+use Rattle.hay_logical.proofs.Telling.{put_broken, room_leaves}
+use Rattle.hay_logical.specs.Notes.{PutLeavesUnsure}
+use Rattle.hay_logical.proofs.Freezing.{frozen_refusal}
 use Rattle.hay_logical.proofs.logical.Logical.put.Goals as goal
 
 pub put_each-requires-after_bounds : goal.put_each-requires-after_bounds
@@ -76,7 +79,7 @@ returns-in_default-clause-refused g c = λ tells k stands. ((room_ok c.args.self
 pub invariant_of-self : goal.invariant_of-self
 invariant_of-self g c = (
   shaped_on c.self.inside.settings c.self.inside.number c.self.inside.replicas.items c.self.inside.replicas.items c.self.inside.rows c.reserve.new.self c.self.inside.front c.self.inside.front c.self.inside.frozen c.self.inside.frozen c.self.inside.unsure c.self.inside.unsure
-      c.self.invariant.0 refl (λ j r r' e f. ap (λ x. x.sup) (at_same c.self.inside.replicas.items j r' r f e)) c.reserve.ensures.rows.replicas (λ none j r r' e f. (c.self.invariant.0).thawed none j r' f),
+      c.self.invariant.0 (c.self.invariant.0).frozen_by refl (λ j r r' e f. ap (λ x. x.sup) (at_same c.self.inside.replicas.items j r' r f e)) c.reserve.ensures.rows.replicas (λ none j r r' e f. (c.self.invariant.0).thawed none j r' f),
   c.self.invariant.1,
   same_rows g.D.Disk.Tells g.D.Disk.files c.self.inside.replicas.items c.self.inside.replicas.items c.self.inside.rows c.reserve.new.self c.self.invariant.2 refl
       (λ j r r' e f. let same = at_same c.self.inside.replicas.items j r' r f e in (λ u. subst (λ (x : Copy g.row.D.Denot). IsUp x) same u, λ u. subst (λ (x : Copy g.row.D.Denot). IsOpenCopy x) same u))
@@ -124,7 +127,7 @@ invariant_of-self-in-Ok g c =
     λ other. changes.rows other ∙ ap (λ l. cond (pair_eq c.args.pair other) c.in-Ok.row l) (c.reserve.ensures.rows.rows other) in (
       subst (λ rs. IsShaped (volume_with c.self.inside.settings c.self.inside.number rs c.give_row.new.rows c.in-Some.position c.self.inside.frozen c.self.inside.unsure)) (sym kept)
           (shaped_on c.self.inside.settings c.self.inside.number c.self.inside.replicas.items c.put_each.new.replicas c.self.inside.rows c.give_row.new.rows c.self.inside.front c.in-Some.position c.self.inside.frozen c.self.inside.frozen c.self.inside.unsure c.self.inside.unsure
-          c.self.invariant.0 (c.put_each.ensures.counts.count ∙ ap length now) (λ j r r' e f. (each j r r' e f).sup) (changes.replicas ∙ c.reserve.ensures.rows.replicas) (λ none j r r' e f. up_thawed r' (each j r r' e f).up)),
+          c.self.invariant.0 (c.self.invariant.0).frozen_by (c.put_each.ensures.counts.count ∙ ap length now) (λ j r r' e f. (each j r r' e f).sup) (changes.replicas ∙ c.reserve.ensures.rows.replicas) (λ none j r r' e f. up_thawed r' (each j r r' e f).up)),
       c.self.invariant.1,
       subst (λ rs. CanReach g.D.Disk.Tells g.D.Disk.files rs c.give_row.new.rows) (sym kept)
           (put_row g.D.Disk.Tells g.D.Disk.files c.self.inside.replicas.items c.put_each.new.replicas c.self.inside.rows c.give_row.new.rows c.self.invariant.2 (c.put_each.ensures.counts.count ∙ ap length now)
@@ -153,7 +156,7 @@ invariant_of-self-then-is_untouched g c =
     let remains = put_remains g.D.Disk.Tells g.D.Disk.files g.D.Disk.fault_count c.args.pair c.args.cookie c.args.bytes.now c.self.inside.replicas.items c.put_each.new.replicas c.in-Err.broken left up in (
       subst (λ rs. IsShaped (volume_with c.self.inside.settings c.self.inside.number rs c.reserve.new.self c.self.inside.front c.self.inside.frozen c.self.inside.unsure)) (sym kept)
           (shaped_on c.self.inside.settings c.self.inside.number c.self.inside.replicas.items c.put_each.new.replicas c.self.inside.rows c.reserve.new.self c.self.inside.front c.self.inside.front c.self.inside.frozen c.self.inside.frozen c.self.inside.unsure c.self.inside.unsure
-          c.self.invariant.0 (c.put_each.ensures.counts.count ∙ ap length now) (λ j r r' e f. (remains j r r' e f).sup) c.reserve.ensures.rows.replicas
+          c.self.invariant.0 (c.self.invariant.0).frozen_by (c.put_each.ensures.counts.count ∙ ap length now) (λ j r r' e f. (remains j r r' e f).sup) c.reserve.ensures.rows.replicas
           (λ none j r r' e f. all_thawed g.D.Disk.Tells g.D.Disk.files g.D.Disk.fault_count c.args.pair c.args.cookie c.args.bytes.now c.self.inside.replicas.items c.put_each.new.replicas c.in-Err.broken left un up j r r' e f)),
       c.self.invariant.1,
       subst (λ rs. CanReach g.D.Disk.Tells g.D.Disk.files rs c.reserve.new.self) (sym kept)
@@ -226,10 +229,14 @@ invariant_of-self-in-Err g c =
     λ j r e. open_up r (c.requires.«open».each j r (subst (λ v. At v.replicas j r) c.self.view_is e)) ((c.self.invariant.0).thawed thawed j r e) in
     let left : PutLeaves g.D.Disk.Tells g.D.Disk.files g.D.Disk.fault_count c.args.pair c.args.cookie c.args.bytes.now c.self.inside.replicas.items c.put_each.new.replicas c.in-Err.broken =
     subst (λ xs. PutLeaves g.D.Disk.Tells g.D.Disk.files g.D.Disk.fault_count c.args.pair c.args.cookie c.args.bytes.now xs c.put_each.new.replicas c.in-Err.broken) now c.in-Err.ensures.broken in
+    let below = at_below c.as_mut_slice.result.now c.in-Err.broken.at c.in-Err.ensures.broken.before c.in-Err.ensures.broken.was in
+    let few = (c.self.invariant.0).count in
+    let long = ap length now in
+    let within : c.in-Err.broken.at < c.self.inside.settings.replicas = omega (arith, below, few, long) in
     let remains = put_remains g.D.Disk.Tells g.D.Disk.files g.D.Disk.fault_count c.args.pair c.args.cookie c.args.bytes.now c.self.inside.replicas.items c.put_each.new.replicas c.in-Err.broken left up in (
       subst (λ rs. IsShaped (volume_with c.self.inside.settings c.self.inside.number rs c.reserve.new.self c.self.inside.front (Some c.put_refusal-refusal.result.machine) (Some (record { tag = c.args.tag; change = change.Put c.ends_of-ends.result })))) (sym kept)
           (shaped_on c.self.inside.settings c.self.inside.number c.self.inside.replicas.items c.put_each.new.replicas c.self.inside.rows c.reserve.new.self c.self.inside.front c.self.inside.front c.self.inside.frozen (Some c.put_refusal-refusal.result.machine) c.self.inside.unsure (Some (record { tag = c.args.tag; change = change.Put c.ends_of-ends.result }))
-          c.self.invariant.0 (c.put_each.ensures.counts.count ∙ ap length now) (λ j r r' e f. (remains j r r' e f).sup) c.reserve.ensures.rows.replicas (λ none j r r' e f. some_none none)),
+          c.self.invariant.0 (frozen_refusal c.self.inside.settings c.self.inside.number c.in-Err.broken.at c.in-Err.broken.fault c.put_refusal-refusal.result ((c.self.invariant.0).settings).some within c.put_refusal-refusal.ensures) (c.put_each.ensures.counts.count ∙ ap length now) (λ j r r' e f. (remains j r r' e f).sup) c.reserve.ensures.rows.replicas (λ none j r r' e f. some_none none)),
       c.self.invariant.1,
       subst (λ rs. CanReach g.D.Disk.Tells g.D.Disk.files rs c.reserve.new.self) (sym kept)
           (same_rows g.D.Disk.Tells g.D.Disk.files c.self.inside.replicas.items c.put_each.new.replicas c.self.inside.rows c.reserve.new.self c.self.invariant.2 (c.put_each.ensures.counts.count ∙ ap length now) (λ j r r' e f. (λ u. up j r e, λ u. up_open r (up j r e))) (λ j r r' e f. c.put_each.ensures.reach j r r' (subst (λ xs. At xs j r) (sym now) e) f) c.reserve.ensures.rows.rows),
@@ -363,3 +370,21 @@ returns-else-is_untouched-clause-same g c =
     subst (λ xs. PutLeaves g.D.Disk.Tells g.D.Disk.files g.D.Disk.fault_count c.args.pair c.args.cookie c.args.bytes.now xs c.put_each.new.replicas c.in-Err.broken) now c.in-Err.ensures.broken in
     same_by _ _ _ _ c.self.view_is refl refl kept
     (λ j r r' e f. (put_remains g.D.Disk.Tells g.D.Disk.files g.D.Disk.fault_count c.args.pair c.args.cookie c.args.bytes.now c.self.inside.replicas.items c.put_each.new.replicas c.in-Err.broken left up j r r' e f).sup)
+
+pub returns-in_err-room-clause-refused_unsure : goal.returns-in_err-room-clause-refused_unsure
+returns-in_err-room-clause-refused_unsure g c =
+    subst (λ r. IfErr r (PutLeavesUnsure c.args.tag c.args.self.now.unsure c.args.self.now.unsure)) (sym (is_err_of c.from_residual.result c.in_err-room.field-0.0 c.from_residual.ensures.1))
+    (room_leaves c.args.self.now.settings c.args.self.now.number c.args.tag c.args.self.now.unsure c.in_err-room.field-0.0 c.in_err-room.ensures.causes)
+
+pub returns-in_default-clause-refused_unsure : goal.returns-in_default-clause-refused_unsure
+returns-in_default-clause-refused_unsure g c = inl refl
+
+pub returns-then-is_err-clause-refused_unsure : goal.returns-then-is_err-clause-refused_unsure
+returns-then-is_err-clause-refused_unsure g c = inl (ap (λ v. v.unsure) c.self.view_is)
+
+pub returns-then-is_untouched-clause-refused_unsure : goal.returns-then-is_untouched-clause-refused_unsure
+returns-then-is_untouched-clause-refused_unsure g c = inl (ap (λ v. v.unsure) c.self.view_is)
+
+pub returns-else-is_untouched-clause-refused_unsure : goal.returns-else-is_untouched-clause-refused_unsure
+returns-else-is_untouched-clause-refused_unsure g c =
+    put_broken c.self.inside.settings c.self.inside.number c.in-Err.broken.at c.args.tag (change.Put c.ends_of-ends.result) c.args.self.now.unsure c.in-Err.broken.fault c.put_refusal-refusal.result c.put_refusal-refusal.ensures

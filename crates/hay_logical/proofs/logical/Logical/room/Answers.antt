@@ -5,12 +5,12 @@ use Rattle.hay_reply.specs.declared.Refused.TheVariants.{NoRoom}
 use Rattle.hay_physical.specs.Copies.{capacity_of, end_of}
 use Rattle.hay_logical.specs.declared.fault.LogicalFault.TheVariants.{Full}
 use Rattle.hay_logical.specs.declared.fault.LogicalFault.{LogicalFault}
-use Rattle.hay_logical.specs.Answers.{IsMachineOf, IsRoomFault, room_answer}
+use Rattle.hay_logical.specs.Answers.{IsRoomFault, room_answer}
 use Rattle.hay_logical.specs.Fits.{At}
 use Rattle.hay_logical.specs.Refusals.{answer_at}
 use Rattle.hay_logical.specs.Stands.{Stands, StandsFor}
 use Rattle.hay_logical.specs.Steps.{LacksRoom}
-use Rattle.hay_logical.specs.Volumes.{Volume}
+use Rattle.hay_logical.specs.Volumes.{Volume, IsMachineOf}
 use Rattle.hay_logical.proofs.Lists.{at_below}
 use Rattle.hay_logical.proofs.Rooms.{known_capacity, room_by, room_none, room_some}
 use Rattle.hay_logical.proofs.Standing.{volume_with}
@@ -106,3 +106,7 @@ returns-clause-causes g c =
     subst (λ (f : LogicalFault). IsRoomFault c.args.self.now.settings c.args.self.now.number f) (sym (c.answer_at.ensures ∙ ap (answer_at c.machine_of-machine.result) l.cause))
     (subst (λ (v : Volume g.row.D.Denot g.row.D-Piece.Denot). IsMachineOf v.settings v.number c.machine_of-machine.result) c.self.view_is
     (c.in-Err.lacking.at, within, c.machine_of-machine.ensures))
+
+pub returns-in-Some-clause-causes : goal.returns-in-Some-clause-causes
+returns-in-Some-clause-causes g c =
+    subst (λ (v : Volume g.row.D.Denot g.row.D-Piece.Denot). IsMachineOf v.settings v.number c.in-Some.machine) c.self.view_is ((c.self.invariant.0).frozen_by c.in-Some.machine c.in-Some.is)

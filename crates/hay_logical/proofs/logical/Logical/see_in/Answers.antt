@@ -66,7 +66,7 @@ invariant_of-self g c =
     (ap (λ (x : Copy g.row.D.Denot). x.sup) sights.copy, ap (λ (x : Copy g.row.D.Denot). is_frozen x) sights.copy) (λ x. (refl, refl)) in (
       subst (λ rs. IsShaped (volume_with c.self.inside.settings c.self.inside.number rs c.see_at.new.rows c.self.inside.front c.self.inside.frozen c.self.inside.unsure)) (sym kept)
           (shaped_on c.self.inside.settings c.self.inside.number c.self.inside.replicas.items c.see_at.new.replicas c.self.inside.rows c.see_at.new.rows c.self.inside.front c.self.inside.front c.self.inside.frozen c.self.inside.frozen c.self.inside.unsure c.self.inside.unsure
-          c.self.invariant.0 count (λ j r r' e f. (each j r r' e f).0) c.see_at.ensures.row.width (λ none j r r' e f. (each j r r' e f).1 ∙ (c.self.invariant.0).thawed none j r e)),
+          c.self.invariant.0 (c.self.invariant.0).frozen_by count (λ j r r' e f. (each j r r' e f).0) c.see_at.ensures.row.width (λ none j r r' e f. (each j r r' e f).1 ∙ (c.self.invariant.0).thawed none j r e)),
       c.self.invariant.1,
       subst (λ rs. CanReach g.D.Disk.Tells g.D.Disk.files rs c.see_at.new.rows) (sym kept) (reach_seen g.D.Disk.Tells g.D.Disk.files g.D.Piece.Piece.Tells g.D.Disk.fault_count c.self.inside.replicas.items c.see_at.new.replicas c.self.inside.rows c.see_at.new.rows c.args.replica c.args.pair c.see_at.result one sights c.see_at.ensures.row c.self.invariant.2),
     )
