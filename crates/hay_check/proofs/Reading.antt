@@ -1,5 +1,5 @@
 -- What was read of the files of a disk.
-use Rattle.std.proofs.Common.{◌≡◌, inr, ℕ, ◌≤◌, ◌<◌, List, length, take, refl, subst, ◌∙◌, Err, Result}
+use Rattle.std.proofs.Common.{◌≡◌, inr, ℕ, ◌≤◌, take, subst, ◌∙◌, Err, Result}
 use Rattle.hay_needle.specs.declared.settings.Super.{Super}
 use Rattle.hay_needle.specs.Super.{super_bytes}
 use Rattle.hay_disk.specs.Disk.{Files}

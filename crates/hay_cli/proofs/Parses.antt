@@ -25,9 +25,8 @@ use Rattle.clap.specs.declared.error.kind.ErrorKind.TheVariants.{OutOfMemory}
 use Rattle.clap.specs.declared.parser.matches.ArgMatches.{ArgMatches}
 use Rattle.clap.specs.Simple.{App, entered, is_simple, matches_of}
 use Rattle.hay_cli.specs.Commands.{Text, Given, is_named, is_flag, has_option, value_of, run_names}
-use Rattle.hay_cli.specs.Reading.{options_from, option_met, value_met, options_of, run_of, settings_of}
-use Rattle.hay_cli.specs.declared.Mode.TheVariants.{Run}
-use Rattle.std.specs.Prelude.{option_and_then, option_map}
+use Rattle.hay_cli.specs.Reading.{options_from, option_met, value_met, options_of, store_of, settings_of}
+use Rattle.std.specs.Prelude.{option_and_then}
 use Rattle.hay_cli.specs.Parsed.{raw, options_app, is_dashes, has_dashes, GivesOptions}
 use Rattle.hay_cli.proofs.Walks.{Texts, Comes, rule, built_is, filled_rules, shape_at, row_for, rest_fault, walk_at, reads, stands, value_rows}
 
@@ -205,13 +204,13 @@ more_names mode xs i name lt is = ap (λ (rs : List Rule). record { top = record
         let sum : suc i + 1 ≡ suc (i + 1) = omega arith in
         rw sum (ap (λ (rs : List Rule). raw x.now ∷ rs) (go xs i next is))
 
--- what a parse of the options of a run says
-pub run_said : (names words : List Text) (m : ArgMatches) → names ≡ run_names → GivesOptions names words m
-    → run_of (drop 1 words) ≡ option_map Run (settings_of (first_value (found_of m)))
-run_said names words m names_are says =
-    ap (λ (o : Option (List Given)). option_and_then (λ had. option_map Run (settings_of (value_of had))) o)
+-- what a parse of the options of a store says
+pub store_said : (names words : List Text) (m : ArgMatches) → names ≡ run_names → GivesOptions names words m
+    → store_of (drop 1 words) ≡ settings_of (first_value (found_of m))
+store_said names words m names_are says =
+    ap (λ (o : Option (List Given)). option_and_then (λ had. settings_of (value_of had)) o)
     (ap (λ (ns : List Text). options_of ns (drop 1 words)) (sym names_are) ∙ says.are)
-    ∙ ap (λ (f : Text → Option Text). option_map Run (settings_of f)) (λ i id. sym (says.values id) i)
+    ∙ ap (λ (f : Text → Option Text). settings_of f) (λ i id. sym (says.values id) i)
 
 -- the test of strings is that of their texts
 pub dashes-map : {Z : Type 0} (ws : List (String Z)) → list_any (λ w. is_dashes (string_bytes w)) ws ≡ has_dashes (map string_bytes ws)

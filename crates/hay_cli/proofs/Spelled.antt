@@ -8,11 +8,11 @@ use Rattle.std.proofs.lemmas.Bool.Decides.{Decides-eqb, nat_tests}
 use Rattle.clap.specs.Lexer.{long_of, name_and_value, has_byte}
 use Rattle.clap.proofs.CutLemmas.{Lacks}
 use Rattle.clap.proofs.LexerLemmas.{name_and_value-at, name_and_value-without}
-use Rattle.hay_cli.specs.Commands.{AreSettings, number_or, secret_or, folder_passes, Text, Given, is_flag, is_named, has_option, AreOptions, run_names, value_of, number_in, Says}
-use Rattle.hay_cli.specs.Reading.{settings_by, value_met, option_met, options_from, options_of, settings_of, run_of, drill_of, mode_of}
+use Rattle.hay_cli.specs.Commands.{AreSettings, IsRun, number_or, secret_or, folder_passes, Text, Given, is_flag, is_named, has_option, AreOptions, run_names, value_of, number_in, Says}
+use Rattle.hay_cli.specs.Reading.{settings_by, value_met, option_met, options_from, options_of, settings_of, store_of, drill_of, mode_of}
 use Rattle.hay_needle.specs.declared.settings.Settings.{Settings}
 use Rattle.hay_cli.specs.declared.Mode.{Mode}
-use Rattle.hay_cli.specs.declared.Mode.TheVariants.{Run, Drill}
+use Rattle.hay_cli.specs.declared.Mode.TheVariants.{Run, Check, Drill}
 use Rattle.hay_cli.proofs.Folders.{some≢none, same_all}
 
 -- ---- one option in its word
@@ -253,16 +253,26 @@ settings_read value settings h =
     let order : nat_le settings.replicas settings.machines ≡ true = let le = h.no_more in grind (arith, nat_tests) in
     rw (h.folder, h.machines, h.volumes, h.replicas, h.capacity, h.secret, order) refl
 
-run_spelled : (words : List Text) (mode : Mode) → run_of words ≡ Some mode → Says (codes "run" ∷ words) mode
-run_spelled words mode is = go (options_of run_names words) refl is
+store_spelled : (words : List Text) (settings : Settings) → store_of words ≡ Some settings → IsRun words settings
+store_spelled words settings is = go (options_of run_names words) refl is
   where
-    by_settings : (had : List Given) → options_of run_names words ≡ Some had → (o : Option Settings) → settings_of (value_of had) ≡ o → option_map Run o ≡ Some mode → Says (codes "run" ∷ words) mode
-    by_settings had e None f is = absurd (some≢none is)
-    by_settings had e (Some s) f is = subst (λ m. Says (codes "run" ∷ words) m) (value_is is) (refl, (had, options_spelled run_names words had e, settings_are (value_of had) s f))
-
-    go : (o : Option (List Given)) → options_of run_names words ≡ o → option_and_then (λ had. option_map Run (settings_of (value_of had))) o ≡ Some mode → Says (codes "run" ∷ words) mode
+    go : (o : Option (List Given)) → options_of run_names words ≡ o → option_and_then (λ had. settings_of (value_of had)) o ≡ Some settings → IsRun words settings
     go None e is = absurd (some≢none is)
-    go (Some had) e is = by_settings had e (settings_of (value_of had)) refl is
+    go (Some had) e is = (had, options_spelled run_names words had e, settings_are (value_of had) settings is)
+
+run_spelled : (words : List Text) (mode : Mode) → option_map Run (store_of words) ≡ Some mode → Says (codes "run" ∷ words) mode
+run_spelled words mode is = go (store_of words) refl is
+  where
+    go : (o : Option Settings) → store_of words ≡ o → option_map Run o ≡ Some mode → Says (codes "run" ∷ words) mode
+    go None e is = absurd (some≢none is)
+    go (Some settings) e is = subst (λ m. Says (codes "run" ∷ words) m) (value_is is) (refl, store_spelled words settings e)
+
+check_spelled : (words : List Text) (mode : Mode) → option_map Check (store_of words) ≡ Some mode → Says (codes "check" ∷ words) mode
+check_spelled words mode is = go (store_of words) refl is
+  where
+    go : (o : Option Settings) → store_of words ≡ o → option_map Check o ≡ Some mode → Says (codes "check" ∷ words) mode
+    go None e is = absurd (some≢none is)
+    go (Some settings) e is = subst (λ m. Says (codes "check" ∷ words) m) (value_is is) (refl, store_spelled words settings e)
 
 drill_spelled : (words : List Text) (mode : Mode) → drill_of words ≡ Some mode → Says (codes "drill" ∷ words) mode
 drill_spelled [] mode is = absurd (some≢none is)
@@ -278,17 +288,20 @@ drill_spelled (a ∷ b ∷ []) mode is = go (number_in 1 1000 a) refl (number_in
 
 pub mode_spelled : (words : List Text) (mode : Mode) → mode_of words ≡ Some mode → Says words mode
 mode_spelled [] mode is = absurd (some≢none is)
-mode_spelled (word ∷ words) mode is = go (bytes_eq word (codes "run")) refl (bytes_eq word (codes "drill")) refl is
+mode_spelled (word ∷ words) mode is = go (bytes_eq word (codes "run")) refl (bytes_eq word (codes "check")) refl (bytes_eq word (codes "drill")) refl is
   where
-    go : (b : Bool) → bytes_eq word (codes "run") ≡ b → (d : Bool) → bytes_eq word (codes "drill") ≡ d
-        → cond b (run_of words) (cond d (drill_of words) None) ≡ Some mode → Says (word ∷ words) mode
-    go true e d f is = subst (λ w. Says (w ∷ words) mode) (sym ((bytes_eq-Decides word (codes "run")).0 e)) (run_spelled words mode is)
-    go false e true f is = subst (λ w. Says (w ∷ words) mode) (sym ((bytes_eq-Decides word (codes "drill")).0 f)) (drill_spelled words mode is)
-    go false e false f is = absurd (some≢none is)
+    go : (b : Bool) → bytes_eq word (codes "run") ≡ b → (c : Bool) → bytes_eq word (codes "check") ≡ c → (d : Bool) → bytes_eq word (codes "drill") ≡ d
+        → cond b (option_map Run (store_of words)) (cond c (option_map Check (store_of words)) (cond d (drill_of words) None)) ≡ Some mode → Says (word ∷ words) mode
+    go true e c f d g is = subst (λ w. Says (w ∷ words) mode) (sym ((bytes_eq-Decides word (codes "run")).0 e)) (run_spelled words mode is)
+    go false e true f d g is = subst (λ w. Says (w ∷ words) mode) (sym ((bytes_eq-Decides word (codes "check")).0 f)) (check_spelled words mode is)
+    go false e false f true g is = subst (λ w. Says (w ∷ words) mode) (sym ((bytes_eq-Decides word (codes "drill")).0 g)) (drill_spelled words mode is)
+    go false e false f false g is = absurd (some≢none is)
 
 pub mode_read : (words : List Text) (mode : Mode) → Says words mode → mode_of words ≡ Some mode
 mode_read [] mode h = absurd h
 mode_read (word ∷ words) (Run settings) h =
+    rw (h.0, options_read run_names run_plain h.1.0 [] words h.1.1, settings_read (value_of h.1.0) settings h.1.2) refl
+mode_read (word ∷ words) (Check settings) h =
     rw (h.0, options_read run_names run_plain h.1.0 [] words h.1.1, settings_read (value_of h.1.0) settings h.1.2) refl
 mode_read (word ∷ words) (Drill count first) h =
     let d = h.1 in

@@ -8,7 +8,7 @@ use Rattle.std.specs.Result.{result_ok}
 use Rattle.hex.specs.Hex.{decode_of}
 use Rattle.hay_needle.specs.declared.settings.Settings.{Settings}
 use Rattle.hay_cli.specs.declared.Mode.{Mode}
-use Rattle.hay_cli.specs.declared.Mode.TheVariants.{Run, Drill}
+use Rattle.hay_cli.specs.declared.Mode.TheVariants.{Run, Check, Drill}
 
 -- WORDS
 
@@ -78,11 +78,11 @@ folder_passes (Some path) = nat_lt 0 (length path)
 
 -- MODES
 
--- the options of a run
+-- the options of a run and of a check
 abbrev pub run_names : List Text
 run_names = codes "machines" ∷ codes "volumes" ∷ codes "replicas" ∷ codes "capacity" ∷ codes "secret" ∷ codes "folder" ∷ []
 
--- the values of a run, which are within their limits
+-- the values of these options, which are within their limits
 pub record AreSettings (value : Text → Option Text) (settings : Settings) : Type 0 where
   pub machines : number_or 1 1 16 (value (codes "machines")) ≡ Some settings.machines
   pub volumes : number_or 1 1 64 (value (codes "volumes")) ≡ Some settings.volumes
@@ -92,7 +92,7 @@ pub record AreSettings (value : Text → Option Text) (settings : Settings) : Ty
   pub secret : secret_or (value (codes "secret")) ≡ Some settings.secret
   pub folder : folder_passes (value (codes "folder")) ≡ true
 
--- the words behind `run` are options with these settings
+-- the words behind `run` or `check` are options with these settings
 abbrev pub IsRun : List Text → Settings → Type 0
 IsRun words settings = (given : List Given) × AreOptions run_names [] given words × AreSettings (value_of given) settings
 
@@ -108,4 +108,5 @@ pub record IsDrill (words : List Text) (count first : ℕ) : Type 0 where
 abbrev pub Says : List Text → Mode → Type 0
 Says [] mode = ⊥
 Says (word ∷ words) (Run settings) = (word ≡ codes "run") × IsRun words settings
+Says (word ∷ words) (Check settings) = (word ≡ codes "check") × IsRun words settings
 Says (word ∷ words) (Drill count first) = (word ≡ codes "drill") × IsDrill words count first

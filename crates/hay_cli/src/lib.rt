@@ -18,7 +18,7 @@ ghost use Rattle.hay_cli.specs.Reading as reading;
 use drill::read_drill;
 pub use folder::folder_of;
 use hay_needle::Settings;
-use run::read_run;
+use run::read_store;
 use std::alloc::{AllocError, Global};
 
 /// What the words ask for.
@@ -26,6 +26,8 @@ use std::alloc::{AllocError, Global};
 pub enum Mode {
     /// Runs a script on a store with these settings.
     Run(Settings),
+    /// Checks a store with these settings.
+    Check(Settings),
     /// Runs a script of its own over `count` photos, 1 to 1,000, from the key `first` upwards.
     Drill { count: u32, first: u64 },
 }
@@ -50,7 +52,8 @@ impl From<AllocError> for CliFault {
 
 /// What the words behind the program's name ask for.
 ///
-/// The first word is `run` or `drill`. Options follow `run`, each at most once, as `--name VALUE` or `--name=VALUE`:
+/// The first word is `run`, `check` or `drill`. Options follow `run` and `check`, each at most once, as `--name VALUE` or
+/// `--name=VALUE`:
 ///
 /// | option | value | if left out |
 /// |---|---|---|
@@ -81,7 +84,8 @@ fn mode_of_words(alloc: Global, words: &[String]) -> Result<Mode, CliFault>
         return Err(CliFault::Usage);
     };
     match mode.as_str() {
-        "run" => read_run(alloc, words),
+        "run" => Ok(Mode::Run(read_store(alloc, "run", words)?)),
+        "check" => Ok(Mode::Check(read_store(alloc, "check", words)?)),
         "drill" => read_drill(alloc, words),
         _ => Err(CliFault::Usage),
     }

@@ -1,12 +1,12 @@
-//! The mode that runs a script.
+//! The modes that take a store by its options.
 ghost use Rattle.std.specs.Prelude.{◌≡◌, map, drop, Some, None, IfOk, IsErrOf, string_bytes};
 ghost use Rattle.clap.specs.Words.{found_of, first_value};
 ghost use Rattle.hay_cli.specs.Commands as commands;
 ghost use Rattle.hay_cli.specs.Reading as reading;
 
+use crate::CliFault;
 use crate::options::parse_options;
 use crate::values::{is_folder, number_value, secret_value, small_value};
-use crate::{CliFault, Mode};
 use clap::ArgMatches;
 use hay_needle::Settings;
 use std::alloc::Global;
@@ -44,13 +44,14 @@ fn read_settings(matches: &ArgMatches<'_>) -> Option<Settings>
     })
 }
 
-pub fn read_run(alloc: Global, words: &[String]) -> Result<Mode, CliFault>
-    ensures said { IfOk result (λ mode. reading.run_of (drop 1 (map string_bytes words.now)) ≡ Some mode) }
-    ensures usage { IsErrOf result CliFault.Usage → reading.run_of (drop 1 (map string_bytes words.now)) ≡ None }
+/// The settings that the options behind the word of a mode give.
+pub fn read_store(alloc: Global, mode: &str, words: &[String]) -> Result<Settings, CliFault>
+    ensures said { IfOk result (λ settings. reading.store_of (drop 1 (map string_bytes words.now)) ≡ Some settings) }
+    ensures usage { IsErrOf result CliFault.Usage → reading.store_of (drop 1 (map string_bytes words.now)) ≡ None }
 {
-    let matches = parse_options(alloc, "run", RUN_NAMES.as_slice(), words)?;
+    let matches = parse_options(alloc, mode, RUN_NAMES.as_slice(), words)?;
     match read_settings(&matches) {
-        Some(settings) => Ok(Mode::Run(settings)),
+        Some(settings) => Ok(settings),
         None => Err(CliFault::Usage),
     }
 }

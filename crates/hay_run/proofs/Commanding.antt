@@ -3,11 +3,12 @@ use Rattle.std.proofs.Common.{◌≡◌, ℕ, ◌≤◌, List, [], ◌∷◌, Op
 use Rattle.std.specs.Prelude.{codes}
 use Rattle.std.proofs.lemmas.Grind.{common_steps}
 use Rattle.hay_needle.specs.declared.settings.Settings.{Settings}
-use Rattle.hay_cli.specs.declared.Mode.TheVariants.{Run}
-use Rattle.hay_cli.specs.Commands.{Text, number_in, number_or, value_of}
+use Rattle.hay_cli.specs.declared.Mode.{Mode}
+use Rattle.hay_cli.specs.declared.Mode.TheVariants.{Run, Check, Drill}
+use Rattle.hay_cli.specs.Commands.{IsRun, Says, Text, number_in, number_or, value_of}
 use Rattle.hay_cli.proofs.Spelled.{mode_read}
 use Rattle.hay_cluster.specs.Store.{IsBuilt}
-use Rattle.hay_run.specs.Words.{SaysRun}
+use Rattle.hay_run.specs.Words.{HasBuilt, SaysCheck, SaysRun}
 
 -- a number that is read is within its bounds
 number_within : (low high n : ℕ) (text : Text) → number_in low high text ≡ Some n → (low ≤ n) × (n ≤ high)
@@ -17,15 +18,14 @@ within : (usual low high n : ℕ) (text : Option Text) → low ≤ usual → usu
 within usual low high n None small large is = let same : usual ≡ n = cc in (omega (arith, small, same), omega (arith, large, same))
 within usual low high n (Some text) small large is = number_within low high n text is
 
--- the settings of a run are within the limits
-pub run_built : (words : List Text) (settings : Settings) → SaysRun words settings → IsBuilt settings
-run_built [] settings says = absurd says
-run_built (word ∷ words) settings says =
-    let values = says.1.2 in
-    let machines = within 1 1 16 settings.machines (value_of says.1.0 (codes "machines")) (lit≤ tt) (lit≤ tt) values.machines in
-    let volumes = within 1 1 64 settings.volumes (value_of says.1.0 (codes "volumes")) (lit≤ tt) (lit≤ tt) values.volumes in
-    let replicas = within 1 1 4 settings.replicas (value_of says.1.0 (codes "replicas")) (lit≤ tt) (lit≤ tt) values.replicas in
-    let capacity = within 67108864 4096 1073741824 settings.capacity (value_of says.1.0 (codes "capacity")) (lit≤ tt) (lit≤ tt) values.capacity in
+-- the settings of options are within the limits
+built : (words : List Text) (settings : Settings) → IsRun words settings → IsBuilt settings
+built words settings says =
+    let values = says.2 in
+    let machines = within 1 1 16 settings.machines (value_of says.0 (codes "machines")) (lit≤ tt) (lit≤ tt) values.machines in
+    let volumes = within 1 1 64 settings.volumes (value_of says.0 (codes "volumes")) (lit≤ tt) (lit≤ tt) values.volumes in
+    let replicas = within 1 1 4 settings.replicas (value_of says.0 (codes "replicas")) (lit≤ tt) (lit≤ tt) values.replicas in
+    let capacity = within 67108864 4096 1073741824 settings.capacity (value_of says.0 (codes "capacity")) (lit≤ tt) (lit≤ tt) values.capacity in
     record {
       some_machines = machines.0;
       few_machines = machines.1;
@@ -38,9 +38,28 @@ run_built (word ∷ words) settings says =
       high = capacity.1;
     }
 
+pub mode_built : (words : List Text) (mode : Mode) → Says words mode → HasBuilt mode
+mode_built [] mode says = absurd says
+mode_built (word ∷ words) (Run settings) says = built words settings says.1
+mode_built (word ∷ words) (Check settings) says = built words settings says.1
+mode_built (word ∷ words) (Drill count first) says = tt
+
 -- the words of a run name one store
 pub same_run : (words : List Text) (settings other : Settings) → SaysRun words settings → SaysRun words other → settings ≡ other
 same_run words settings other says says' =
     let a = mode_read words (Run settings) says in
     let b = mode_read words (Run other) says' in
     let same : Some (Run settings) ≡ Some (Run other) = sym a ∙ b in cc
+
+pub same_check : (words : List Text) (settings other : Settings) → SaysCheck words settings → SaysCheck words other → settings ≡ other
+same_check words settings other says says' =
+    let a = mode_read words (Check settings) says in
+    let b = mode_read words (Check other) says' in
+    let same : Some (Check settings) ≡ Some (Check other) = sym a ∙ b in cc
+
+-- no words are both
+pub not_both : (words : List Text) (settings other : Settings) → SaysRun words settings → SaysCheck words other → ⊥
+not_both words settings other run check =
+    let a = mode_read words (Run settings) run in
+    let b = mode_read words (Check other) check in
+    let same : Some (Run settings) ≡ Some (Check other) = sym a ∙ b in cc

@@ -1,6 +1,7 @@
 pub mod Asking
 pub mod Caused
 pub mod Causing
+pub mod Checking
 pub mod Commanding
 pub mod Counting
 pub mod Giving

@@ -1,4 +1,5 @@
 pub mod Causing
+pub mod Checking
 pub mod Items
 pub mod Lines
 pub mod Runs

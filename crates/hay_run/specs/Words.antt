@@ -1,9 +1,25 @@
--- Which words are a run.
-use Rattle.std.specs.Prelude.{ℕ, List}
+-- Which words are a run or a check.
+use Rattle.std.specs.Prelude.{◌⊎◌, ℕ, List}
 use Rattle.hay_needle.specs.declared.settings.Settings.{Settings}
-use Rattle.hay_cli.specs.declared.Mode.TheVariants.{Run}
+use Rattle.hay_cli.specs.declared.Mode.{Mode}
+use Rattle.hay_cli.specs.declared.Mode.TheVariants.{Run, Check, Drill}
 use Rattle.hay_cli.specs.Commands.{Says}
+use Rattle.hay_cluster.specs.Store.{IsBuilt}
 
 -- the words are a run with these settings
 abbrev pub SaysRun : List (List ℕ) → Settings → Type 0
 SaysRun words settings = Says words (Run settings)
+
+-- the words are a check with these settings
+abbrev pub SaysCheck : List (List ℕ) → Settings → Type 0
+SaysCheck words settings = Says words (Check settings)
+
+-- the words are a run or a check
+abbrev pub IsCommand : List (List ℕ) → Type 0
+IsCommand words = (settings : Settings) × (SaysRun words settings ⊎ SaysCheck words settings)
+
+-- the settings of a mode are within the limits
+abbrev pub HasBuilt : Mode → Type 0
+HasBuilt (Run settings) = IsBuilt settings
+HasBuilt (Check settings) = IsBuilt settings
+HasBuilt (Drill count first) = Unit {0}

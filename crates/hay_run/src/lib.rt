@@ -6,10 +6,14 @@
 //! status 0 the bytes read are the whole script, and the bytes written are the transcript of turns that answer each of its
 //! items in order, each turn legal from the state that the one before it left; the disks given back hold the state behind
 //! the last turn. Each other status comes for its own cause alone, and the disks and arms are given back at each of them.
+//!
+//! Where the words ask for a check it stands on `hay_check` in place of `hay_cluster`: a line is written for each disk, and no
+//! byte of a disk is changed.
 #![tactic(auto)]
 
 mod block;
 mod bytes;
+mod check;
 mod lines;
 mod program;
 mod serve;

@@ -15,14 +15,17 @@ ghost use Rattle.hay_run.specs.Stream.{IsReadToEnd, TookAtMost};
 ghost use Rattle.hay_run.specs.Stops.{ending_of};
 ghost use Rattle.hay_run.specs.Runs.{HasOpened, IsNotOpened, IsNotOpenedBehind, IsSureStill, IsTaken, RanTo, WasRead};
 ghost use Rattle.hay_run.specs.Turns.{Appends};
-ghost use Rattle.hay_run.specs.Words.{SaysRun};
+ghost use Rattle.hay_run.specs.Checking.{ChecksTo, IsUnchanged};
+ghost use Rattle.hay_run.specs.Words.{IsCommand, SaysCheck, SaysRun};
 
 use crate::bytes::SCRIPT;
+use crate::check::check_store;
 use crate::serve::serve;
 use crate::stops::Stop;
-use crate::words::read_settings;
+use crate::words::read_mode;
 use crate::writing::{write_header, write_refusal};
 use hay_base::NoMemory;
+use hay_cli::Mode;
 use hay_cluster::Cluster;
 use hay_disk::{Shelf, Sink, Source};
 use hay_needle::Settings;
@@ -141,18 +144,20 @@ fn run_script<H: Shelf, S: Source, K: Sink>(
     answer_script(alloc, settings, source, sink, shelf)
 }
 
-/// Runs a script on the disks of a shelf, from slot 0 upwards, and answers with the status of the run. The words are `run`
-/// and its options. The transcript goes to the sink, and the disks and arms are given back whatever the status is.
+/// Runs a script on the disks of a shelf, from slot 0 upwards, or checks these disks, and answers with the status of the run.
+/// The words are `run` or `check` and the options. The transcript of the script, or a line for each disk, goes to the sink, and
+/// the disks and arms are given back whatever the status is. A check reads nothing of the source, and changes no byte of a disk.
 ///
 /// | status | comes |
 /// |---|---|
-/// | 0 | the script was read to its end, and all of it was answered |
-/// | 2 | the words are no run, and nothing was touched |
+/// | 0 | the script was read to its end, and all of it was answered; or all disks were checked, and none is damaged |
+/// | 2 | the words are no run and no check, and nothing was touched |
 /// | 3 | the sink failed |
 /// | 4 | the source failed |
 /// | 5 | memory was wanting outside of a reply, or to a restart |
-/// | 6 | the store was not opened, at first or at a restart, as the last line of the transcript tells |
+/// | 6 | the store was not opened, at first or at a restart, or a disk was not checked, as the last line tells |
 /// | 7 | the script is longer than a script may be |
+/// | 8 | all disks were checked, and one is damaged |
 pub fn run<H: Shelf, S: Source, K: Sink>(
     alloc: Global,
     words: &[String],
@@ -174,12 +179,21 @@ pub fn run<H: Shelf, S: Source, K: Sink>(
         CausedRun H.Disk.Tells settings ending script (S.left source.new) (outside_of (H.fault_count shelf.old) (H.disks shelf.old) (H.arms shelf.old))
         (outside_of (H.fault_count shelf.new) (H.disks shelf.new) (H.arms shelf.new)) (λ lane. (H.arms shelf.old lane).is_sure) (H.disks shelf.old) (H.disks shelf.new) held (K.written sink.new) }
 
+    // A check: what was written of the disks, and what is left of them, at each status but 2.
+    ensures checked { (settings : Settings) → SaysCheck (map string_bytes words.now) settings →
+        ChecksTo H.Disk.Tells settings result (outside_of (H.fault_count shelf.old) (H.disks shelf.old) (H.arms shelf.old))
+        (outside_of (H.fault_count shelf.new) (H.disks shelf.new) (H.arms shelf.new)) (K.written sink.old) (K.written sink.new) }
+    ensures unchanged { (settings : Settings) → SaysCheck (map string_bytes words.now) settings →
+        (slot : ℕ) → IsUnchanged H.Disk.Tells (H.disks shelf.old slot) (H.disks shelf.new slot) }
+    ensures unused { (settings : Settings) → SaysCheck (map string_bytes words.now) settings →
+        (source.new ≡ source.old) × (H.arms shelf.new ≡ H.arms shelf.old) × SameFrom (disk_count settings) (H.disks shelf.old) (H.disks shelf.new) }
+
     // When each status comes.
-    ensures status { (result ≡ 2) ⊎ ((ending : Ending) × (result ≡ status_of ending)) }
-    ensures usage { result ≡ 2 → (settings : Settings) → SaysRun (map string_bytes words.now) settings → ⊥ }
-    ensures command { ((settings : Settings) → SaysRun (map string_bytes words.now) settings → ⊥) → (result ≡ 2) ⊎ (result ≡ 5) }
-    ensures untouched { (result ≡ 2) ⊎ ((settings : Settings) → SaysRun (map string_bytes words.now) settings → ⊥) → (source.new ≡ source.old) × (sink.new ≡ sink.old) × (shelf.new ≡ shelf.old) }
-    ensures ended { result ≡ 0 → IsReadToEnd (S.left source.old) (S.left source.new) }
+    ensures status { (result ≡ 2) ⊎ ((ending : Ending) × (result ≡ status_of ending)) ⊎ ((result ≡ 8) × ((settings : Settings) × SaysCheck (map string_bytes words.now) settings)) }
+    ensures usage { result ≡ 2 → IsCommand (map string_bytes words.now) → ⊥ }
+    ensures command { (IsCommand (map string_bytes words.now) → ⊥) → (result ≡ 2) ⊎ (result ≡ 5) }
+    ensures untouched { (result ≡ 2) ⊎ (IsCommand (map string_bytes words.now) → ⊥) → (source.new ≡ source.old) × (sink.new ≡ sink.old) × (shelf.new ≡ shelf.old) }
+    ensures ended { result ≡ 0 → (settings : Settings) → SaysRun (map string_bytes words.now) settings → IsReadToEnd (S.left source.old) (S.left source.new) }
     ensures sink { IsCounted (K.fault_count sink.old) (K.fault_count sink.new) (result ≡ 3) }
     ensures source { IsCounted (S.fault_count source.old) (S.fault_count source.new) (result ≡ 4) }
     ensures store { result ≡ 6 → (settings : Settings) → SaysRun (map string_bytes words.now) settings →
@@ -191,7 +205,7 @@ pub fn run<H: Shelf, S: Source, K: Sink>(
         IsUndamaged settings (λ slot. read_of (H.disks shelf.old slot)) }
     ensures long { result ≡ 7 → (script : List ℕ) → S.left source.old ≡ Some script →
         (rest : List ℕ) × (S.left source.new ≡ Some rest) × (length script ≡ SCRIPT + 1 + length rest) }
-    ensures short { result ≡ 0 → (script : List ℕ) → S.left source.old ≡ Some script → length script ≤ SCRIPT }
+    ensures short { result ≡ 0 → (settings : Settings) → SaysRun (map string_bytes words.now) settings → (script : List ℕ) → S.left source.old ≡ Some script → length script ≤ SCRIPT }
     ensures taken { (result ≡ 7 → ⊥) → TookAtMost SCRIPT (S.left source.old) (S.left source.new) }
 
     // What is given back at each status. Nothing is taken but what the settings name.
@@ -206,9 +220,10 @@ pub fn run<H: Shelf, S: Source, K: Sink>(
     ensures other_lanes { SameFrom 8 (H.arms shelf.old) (H.arms shelf.new) }
     ensures shelf { H.fault_count shelf.old ≤ H.fault_count shelf.new }
 {
-    let settings = match read_settings(alloc, words) {
-        Ok(Some(settings)) => settings,
-        Ok(None) => return 2,
+    let settings = match read_mode(alloc, words) {
+        Ok(Some(Mode::Run(settings))) => settings,
+        Ok(Some(Mode::Check(settings))) => return check_store(alloc, settings, sink, shelf),
+        Ok(Some(Mode::Drill { .. }) | None) => return 2,
         Err(NoMemory) => return Stop::NoMemory.status(),
     };
     match run_script(alloc, settings, source, sink, shelf) {

@@ -18,7 +18,7 @@ use hay_reply::{Note, Reply, header_line, note_text, numbered_line};
 use std::alloc::Global;
 
 /// Writes a text.
-fn write_text<K: Sink>(sink: &mut K, text: &[u8]) -> Result<(), Stop>
+pub fn write_text<K: Sink>(sink: &mut K, text: &[u8]) -> Result<(), Stop>
     ensures wrote { OnOk result (Wrote (K.written sink.old) text.now (K.written sink.new)) }
     ensures part { OnErr result (WrotePart (K.written sink.old) text.now (K.written sink.new)) }
     ensures stops { OnErr result (result ≡ Err Stop.Output) }

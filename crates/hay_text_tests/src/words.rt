@@ -106,6 +106,24 @@ fn drills_and_secrets(rt: HostRuntime) -> Result<(), Fail> {
     Ok(())
 }
 
+/// A check has the options of a run.
+#[test]
+fn checks(rt: HostRuntime) -> Result<(), Fail> {
+    let alloc = rt.alloc();
+    assert_eq!(rt;
+        mode_of(alloc, "check")?,
+        Ok(Mode::Check(settings(1, 1, 1, 67_108_864)))
+    );
+    assert_eq!(rt;
+        mode_of(
+            alloc,
+            "check|--machines|3|--volumes=3|--replicas|2|--capacity=8192|--folder|check"
+        )?,
+        Ok(Mode::Check(settings(3, 3, 2, 8_192)))
+    );
+    Ok(())
+}
+
 #[test]
 fn usage(rt: HostRuntime) -> Result<(), Fail> {
     let alloc = rt.alloc();
@@ -145,6 +163,13 @@ fn usage(rt: HostRuntime) -> Result<(), Fail> {
         "run|help",
         "run|",
         "run|-é",
+        "run|check",
+        "Check",
+        "check|run",
+        "check|--volumes|0",
+        "check|--replicas|2",
+        "check|--folder=",
+        "check|--slot|1",
         "drill",
         "drill|0|0",
         "drill|1001|0",
@@ -167,5 +192,6 @@ fn folders(rt: HostRuntime) -> Result<(), Fail> {
     assert!(rt; has_folder(alloc, "run|--folder=a=b|--machines|2", Some("a=b"))?);
     assert!(rt; has_folder(alloc, "run|--machines|2", None)?);
     assert!(rt; has_folder(alloc, "run", None)?);
+    assert!(rt; has_folder(alloc, "check|--volumes|2|--folder|store", Some("store"))?);
     Ok(())
 }

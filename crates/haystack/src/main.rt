@@ -1,5 +1,6 @@
 //! The program `haystack`: runs the script on standard input over disks in memory, or over files in the folder that
-//! `--folder` names, and writes the transcript to standard output. Everything that matters stands in `hay_run`.
+//! `--folder` names, and writes the transcript to standard output; or checks these disks, and writes what each is.
+//! Everything that matters stands in `hay_run`.
 #![tactic(auto)]
 
 #[cfg(test)]
@@ -38,6 +39,7 @@ fn message_of(status: u8) -> Option<&'static str> {
         5 => Some("haystack: no memory"),
         6 => Some("haystack: store not opened"),
         7 => Some("haystack: script too long"),
+        8 => Some("haystack: damage found"),
         _ => None,
     }
 }

@@ -5,6 +5,7 @@ ghost use Rattle.hay_memdisk.specs.MemShelf.{mem_arms, mem_disks};
 
 mod calls;
 mod cases;
+mod check;
 mod compactions;
 mod damage;
 mod devices;

@@ -11,14 +11,14 @@ type Damage = Option<(u32, usize)>;
 
 /// A file of the store of `put 0 1 61; flush 0 0`.
 #[derive(Clone, Copy)]
-enum StoreFile {
+pub(super) enum StoreFile {
     Journal,
     Head,
     Volume,
     Index,
 }
 
-const STORE_FILES: [StoreFile; 4] = [
+pub(super) const STORE_FILES: [StoreFile; 4] = [
     StoreFile::Journal,
     StoreFile::Head,
     StoreFile::Volume,
@@ -26,14 +26,14 @@ const STORE_FILES: [StoreFile; 4] = [
 ];
 
 impl StoreFile {
-    fn slot(self) -> u32 {
+    pub(super) fn slot(self) -> u32 {
         match self {
             StoreFile::Journal => 0,
             _ => 1,
         }
     }
 
-    fn number(self) -> u32 {
+    pub(super) fn number(self) -> u32 {
         match self {
             StoreFile::Journal | StoreFile::Head => 0,
             StoreFile::Volume => 1,
@@ -41,7 +41,7 @@ impl StoreFile {
         }
     }
 
-    fn len(self) -> usize {
+    pub(super) fn len(self) -> usize {
         match self {
             StoreFile::Journal => 96,
             StoreFile::Head => 88,
@@ -81,7 +81,7 @@ impl StoreFile {
 }
 
 /// Where the field of a superblock begins that has this byte.
-fn field_of(at: usize) -> usize {
+pub(super) fn field_of(at: usize) -> usize {
     if (8..40).contains(&at) {
         at / 4 * 4
     } else {
@@ -125,9 +125,10 @@ fn index_flipped(at: usize) -> Damage {
     }
 }
 
-/// What a run over the store without a script writes, and its status, with these bytes in place of a file.
-fn opened(
+/// What these words over the store without a script write, and their status, with these bytes in place of a file.
+pub(super) fn over_damaged(
     alloc: Global,
+    words: &[&str],
     store: &MemShelf,
     file: StoreFile,
     bytes: &[u8],
@@ -139,7 +140,7 @@ fn opened(
     };
     copy_disk(store, 0, journal, bytes, alloc, &mut shelf)?;
     copy_disk(store, 1, replica, bytes, alloc, &mut shelf)?;
-    run_over(alloc, &["run"], b"", &mut shelf)
+    run_over(alloc, words, b"", &mut shelf)
 }
 
 /// Tries the store with these bytes in place of a file.
@@ -151,7 +152,7 @@ fn try_bytes(
     bytes: &[u8],
     damage: Damage,
 ) -> Result<(), Fail> {
-    let (status, written) = opened(alloc, store, file, bytes)?;
+    let (status, written) = over_damaged(alloc, &["run"], store, file, bytes)?;
     let (due, line) = match damage {
         Some((number, at)) => {
             let slot = file.slot();

@@ -8,11 +8,14 @@ use Rattle.hay_legal.specs.Statuses.Ending.{NoMemory, ReadAll}
 use Rattle.hay_cluster.specs.Outside.{IsUndamaged, outside_of, read_of}
 use Rattle.hay_run.specs.Runs.{IsTaken, RanTo, IsNotOpened}
 use Rattle.hay_run.specs.Stops.{ending_of}
-use Rattle.hay_run.specs.Words.{SaysRun}
+use Rattle.hay_run.specs.Checking.{ChecksTo}
+use Rattle.hay_run.specs.Words.{SaysCheck, SaysRun}
 use Rattle.hay_legal.specs.Statuses.{Ending}
 use Rattle.hay_run.specs.Causing.{CausedRun}
 use Rattle.hay_run.proofs.Caused.{nothing_caused}
-use Rattle.hay_run.proofs.Commanding.{same_run}
+use Rattle.hay_legal.specs.Stands.{Outside}
+use Rattle.hay_run.proofs.Checking.{check_nothing, check_statuses}
+use Rattle.hay_run.proofs.Commanding.{same_check, same_run}
 use Rattle.hay_run.proofs.Giving.{disks_in, arms_in, none_fell}
 use Rattle.hay_run.proofs.Refusing.{by_status, opened_by, ran_nothing, ran_by, store_by}
 use Rattle.hay_run.proofs.program.run.Goals as goal
@@ -31,15 +34,15 @@ pub returns-in-Ok-clause-ran : goal.returns-in-Ok-clause-ran
 returns-in-Ok-clause-ran g c = λ tells settings k says taken script held told told_sink ending is.
     let given = outside_of (g.H.Shelf.fault_count c.run_script.new.shelf) (g.H.Shelf.disks c.run_script.new.shelf) (g.H.Shelf.arms c.run_script.new.shelf) in
     let outside = outside_of (g.H.Shelf.fault_count c.args.shelf.now) (g.H.Shelf.disks c.args.shelf.now) (g.H.Shelf.arms c.args.shelf.now) in
-    let same : c.in-Ok-Some.settings ≡ settings = (let run : SaysRun (map string_bytes c.args.words.now) c.in-Ok-Some.settings = rw c.in-Ok-Some.field-0-is at c.in-Ok-Some.ensures.run in
-    same_run (map string_bytes c.args.words.now) c.in-Ok-Some.settings settings run says) in
+    let same : c.in-Ok-Some-Run.settings ≡ settings = (let run : SaysRun (map string_bytes c.args.words.now) c.in-Ok-Some-Run.settings = rw (c.in-Ok-Some-Run.field-0-is, c.in-Ok-Some-Run.field-0-0-is) at c.in-Ok-Some-Run.ensures.says in
+    same_run (map string_bytes c.args.words.now) c.in-Ok-Some-Run.settings settings run says) in
     let P : Settings → Type 0 = λ s. RanTo s k ending script (g.S.Source.left c.run_script.new.source) outside given held (g.K.Sink.written c.run_script.new.sink) in
     let Q : Settings → Type 0 = λ s. IsTaken s outside k in
-    subst P same (ran_by c.in-Ok-Some.settings k script (g.S.Source.left c.run_script.new.source) outside given held (g.K.Sink.written c.run_script.new.sink) ending ReadAll is
+    subst P same (ran_by c.in-Ok-Some-Run.settings k script (g.S.Source.left c.run_script.new.source) outside given held (g.K.Sink.written c.run_script.new.sink) ending ReadAll is
     (c.in-Ok.ensures.ran tells k (subst Q (sym same) taken) script held told told_sink))
 
 pub returns-in-Ok-clause-disks_back : goal.returns-in-Ok-clause-disks_back
-returns-in-Ok-clause-disks_back g c = disks_in (disk_count c.in-Ok-Some.settings) (g.H.Shelf.disks c.args.shelf.now) (g.H.Shelf.disks c.run_script.new.shelf)
+returns-in-Ok-clause-disks_back g c = disks_in (disk_count c.in-Ok-Some-Run.settings) (g.H.Shelf.disks c.args.shelf.now) (g.H.Shelf.disks c.run_script.new.shelf)
     c.requires.disks_in c.in-Ok.ensures.disks_back c.in-Ok.ensures.other_slots
 
 pub returns-in-Ok-clause-arms_back : goal.returns-in-Ok-clause-arms_back
@@ -47,7 +50,7 @@ returns-in-Ok-clause-arms_back g c = arms_in 8 (g.H.Shelf.arms c.args.shelf.now)
     c.requires.arms_in c.in-Ok.ensures.arms_back c.in-Ok.ensures.other_lanes
 
 pub returns-in-Ok-clause-faults : goal.returns-in-Ok-clause-faults
-returns-in-Ok-clause-faults g c = none_fell (λ (d : HeldDisk). d.fault_count) (disk_count c.in-Ok-Some.settings) (g.H.Shelf.disks c.args.shelf.now) (g.H.Shelf.disks c.run_script.new.shelf)
+returns-in-Ok-clause-faults g c = none_fell (λ (d : HeldDisk). d.fault_count) (disk_count c.in-Ok-Some-Run.settings) (g.H.Shelf.disks c.args.shelf.now) (g.H.Shelf.disks c.run_script.new.shelf)
     c.in-Ok.ensures.faults c.in-Ok.ensures.other_slots
 
 pub returns-in-Ok-clause-arm_faults : goal.returns-in-Ok-clause-arm_faults
@@ -56,8 +59,8 @@ returns-in-Ok-clause-arm_faults g c = none_fell (λ (a : HeldArm). a.fault_count
 
 pub returns-in-Ok-clause-other_slots : goal.returns-in-Ok-clause-other_slots
 returns-in-Ok-clause-other_slots g c = λ settings says.
-    let same : c.in-Ok-Some.settings ≡ settings = (let run : SaysRun (map string_bytes c.args.words.now) c.in-Ok-Some.settings = rw c.in-Ok-Some.field-0-is at c.in-Ok-Some.ensures.run in
-    same_run (map string_bytes c.args.words.now) c.in-Ok-Some.settings settings run says) in
+    let same : c.in-Ok-Some-Run.settings ≡ settings = (let run : SaysRun (map string_bytes c.args.words.now) c.in-Ok-Some-Run.settings = rw (c.in-Ok-Some-Run.field-0-is, c.in-Ok-Some-Run.field-0-0-is) at c.in-Ok-Some-Run.ensures.says in
+    same_run (map string_bytes c.args.words.now) c.in-Ok-Some-Run.settings settings run says) in
     let P : Settings → Type 0 = λ s. SameFrom (disk_count s) (g.H.Shelf.disks c.args.shelf.now) (g.H.Shelf.disks c.run_script.new.shelf) in
     subst P same c.in-Ok.ensures.other_slots
 
@@ -67,16 +70,16 @@ pub returns-in-Err-run_script-clause-ran : goal.returns-in-Err-run_script-clause
 returns-in-Err-run_script-clause-ran g c = λ tells settings k says taken script held told told_sink ending is.
     let given = outside_of (g.H.Shelf.fault_count c.run_script.new.shelf) (g.H.Shelf.disks c.run_script.new.shelf) (g.H.Shelf.arms c.run_script.new.shelf) in
     let outside = outside_of (g.H.Shelf.fault_count c.args.shelf.now) (g.H.Shelf.disks c.args.shelf.now) (g.H.Shelf.arms c.args.shelf.now) in
-    let same : c.in-Ok-Some.settings ≡ settings = (let run : SaysRun (map string_bytes c.args.words.now) c.in-Ok-Some.settings = rw c.in-Ok-Some.field-0-is at c.in-Ok-Some.ensures.run in
-    same_run (map string_bytes c.args.words.now) c.in-Ok-Some.settings settings run says) in
+    let same : c.in-Ok-Some-Run.settings ≡ settings = (let run : SaysRun (map string_bytes c.args.words.now) c.in-Ok-Some-Run.settings = rw (c.in-Ok-Some-Run.field-0-is, c.in-Ok-Some-Run.field-0-0-is) at c.in-Ok-Some-Run.ensures.says in
+    same_run (map string_bytes c.args.words.now) c.in-Ok-Some-Run.settings settings run says) in
     let P : Settings → Type 0 = λ s. RanTo s k ending script (g.S.Source.left c.run_script.new.source) outside given held (g.K.Sink.written c.run_script.new.sink) in
     let Q : Settings → Type 0 = λ s. IsTaken s outside k in
-    subst P same (ran_by c.in-Ok-Some.settings k script (g.S.Source.left c.run_script.new.source) outside given held (g.K.Sink.written c.run_script.new.sink) ending (ending_of c.in-Err-run_script.stop)
+    subst P same (ran_by c.in-Ok-Some-Run.settings k script (g.S.Source.left c.run_script.new.source) outside given held (g.K.Sink.written c.run_script.new.sink) ending (ending_of c.in-Err-run_script.stop)
     (sym c.status-in-Err-run_script.ensures ∙ is)
     (c.in-Err-run_script.ensures.stopped tells c.in-Err-run_script.stop refl k (subst Q (sym same) taken) script held told told_sink))
 
 pub returns-in-Err-run_script-clause-disks_back : goal.returns-in-Err-run_script-clause-disks_back
-returns-in-Err-run_script-clause-disks_back g c = disks_in (disk_count c.in-Ok-Some.settings) (g.H.Shelf.disks c.args.shelf.now) (g.H.Shelf.disks c.run_script.new.shelf)
+returns-in-Err-run_script-clause-disks_back g c = disks_in (disk_count c.in-Ok-Some-Run.settings) (g.H.Shelf.disks c.args.shelf.now) (g.H.Shelf.disks c.run_script.new.shelf)
     c.requires.disks_in c.in-Err-run_script.ensures.disks_back c.in-Err-run_script.ensures.other_slots
 
 pub returns-in-Err-run_script-clause-arms_back : goal.returns-in-Err-run_script-clause-arms_back
@@ -84,7 +87,7 @@ returns-in-Err-run_script-clause-arms_back g c = arms_in 8 (g.H.Shelf.arms c.arg
     c.requires.arms_in c.in-Err-run_script.ensures.arms_back c.in-Err-run_script.ensures.other_lanes
 
 pub returns-in-Err-run_script-clause-faults : goal.returns-in-Err-run_script-clause-faults
-returns-in-Err-run_script-clause-faults g c = none_fell (λ (d : HeldDisk). d.fault_count) (disk_count c.in-Ok-Some.settings) (g.H.Shelf.disks c.args.shelf.now) (g.H.Shelf.disks c.run_script.new.shelf)
+returns-in-Err-run_script-clause-faults g c = none_fell (λ (d : HeldDisk). d.fault_count) (disk_count c.in-Ok-Some-Run.settings) (g.H.Shelf.disks c.args.shelf.now) (g.H.Shelf.disks c.run_script.new.shelf)
     c.in-Err-run_script.ensures.faults c.in-Err-run_script.ensures.other_slots
 
 pub returns-in-Err-run_script-clause-arm_faults : goal.returns-in-Err-run_script-clause-arm_faults
@@ -93,15 +96,15 @@ returns-in-Err-run_script-clause-arm_faults g c = none_fell (λ (a : HeldArm). a
 
 pub returns-in-Err-run_script-clause-other_slots : goal.returns-in-Err-run_script-clause-other_slots
 returns-in-Err-run_script-clause-other_slots g c = λ settings says.
-    let same : c.in-Ok-Some.settings ≡ settings = (let run : SaysRun (map string_bytes c.args.words.now) c.in-Ok-Some.settings = rw c.in-Ok-Some.field-0-is at c.in-Ok-Some.ensures.run in
-    same_run (map string_bytes c.args.words.now) c.in-Ok-Some.settings settings run says) in
+    let same : c.in-Ok-Some-Run.settings ≡ settings = (let run : SaysRun (map string_bytes c.args.words.now) c.in-Ok-Some-Run.settings = rw (c.in-Ok-Some-Run.field-0-is, c.in-Ok-Some-Run.field-0-0-is) at c.in-Ok-Some-Run.ensures.says in
+    same_run (map string_bytes c.args.words.now) c.in-Ok-Some-Run.settings settings run says) in
     let P : Settings → Type 0 = λ s. SameFrom (disk_count s) (g.H.Shelf.disks c.args.shelf.now) (g.H.Shelf.disks c.run_script.new.shelf) in
     subst P same c.in-Err-run_script.ensures.other_slots
 
 pub returns-in-Err-run_script-clause-store : goal.returns-in-Err-run_script-clause-store
 returns-in-Err-run_script-clause-store g c = λ six settings says.
-    let same : c.in-Ok-Some.settings ≡ settings = (let run : SaysRun (map string_bytes c.args.words.now) c.in-Ok-Some.settings = rw c.in-Ok-Some.field-0-is at c.in-Ok-Some.ensures.run in
-    same_run (map string_bytes c.args.words.now) c.in-Ok-Some.settings settings run says) in
+    let same : c.in-Ok-Some-Run.settings ≡ settings = (let run : SaysRun (map string_bytes c.args.words.now) c.in-Ok-Some-Run.settings = rw (c.in-Ok-Some-Run.field-0-is, c.in-Ok-Some-Run.field-0-0-is) at c.in-Ok-Some-Run.ensures.says in
+    same_run (map string_bytes c.args.words.now) c.in-Ok-Some-Run.settings settings run says) in
     let taken = outside_of (g.H.Shelf.fault_count c.args.shelf.now) (g.H.Shelf.disks c.args.shelf.now) (g.H.Shelf.arms c.args.shelf.now) in
     let given = outside_of (g.H.Shelf.fault_count c.run_script.new.shelf) (g.H.Shelf.disks c.run_script.new.shelf) (g.H.Shelf.arms c.run_script.new.shelf) in
     let P : Settings → Type 0 = λ s. IsNotOpened g.H.Disk.Disk.Tells s (g.H.Shelf.disks c.args.shelf.now) (g.H.Shelf.disks c.run_script.new.shelf)
@@ -110,14 +113,14 @@ returns-in-Err-run_script-clause-store g c = λ six settings says.
 
 pub returns-in-Ok-clause-sound : goal.returns-in-Ok-clause-sound
 returns-in-Ok-clause-sound g c = λ tells status settings says.
-    let same : c.in-Ok-Some.settings ≡ settings = (let run : SaysRun (map string_bytes c.args.words.now) c.in-Ok-Some.settings = rw c.in-Ok-Some.field-0-is at c.in-Ok-Some.ensures.run in
-    same_run (map string_bytes c.args.words.now) c.in-Ok-Some.settings settings run says) in
+    let same : c.in-Ok-Some-Run.settings ≡ settings = (let run : SaysRun (map string_bytes c.args.words.now) c.in-Ok-Some-Run.settings = rw (c.in-Ok-Some-Run.field-0-is, c.in-Ok-Some-Run.field-0-0-is) at c.in-Ok-Some-Run.ensures.says in
+    same_run (map string_bytes c.args.words.now) c.in-Ok-Some-Run.settings settings run says) in
     subst (λ (s : Settings). IsUndamaged s (λ slot. read_of (g.H.Shelf.disks c.args.shelf.now slot))) same (c.in-Ok.ensures.sound tells (inl tt))
 
 pub returns-in-Err-run_script-clause-sound : goal.returns-in-Err-run_script-clause-sound
 returns-in-Err-run_script-clause-sound g c = λ tells status settings says.
-    let same : c.in-Ok-Some.settings ≡ settings = (let run : SaysRun (map string_bytes c.args.words.now) c.in-Ok-Some.settings = rw c.in-Ok-Some.field-0-is at c.in-Ok-Some.ensures.run in
-    same_run (map string_bytes c.args.words.now) c.in-Ok-Some.settings settings run says) in
+    let same : c.in-Ok-Some-Run.settings ≡ settings = (let run : SaysRun (map string_bytes c.args.words.now) c.in-Ok-Some-Run.settings = rw (c.in-Ok-Some-Run.field-0-is, c.in-Ok-Some-Run.field-0-0-is) at c.in-Ok-Some-Run.ensures.says in
+    same_run (map string_bytes c.args.words.now) c.in-Ok-Some-Run.settings settings run says) in
     subst (λ (s : Settings). IsUndamaged s (λ slot. read_of (g.H.Shelf.disks c.args.shelf.now slot))) same
     (c.in-Err-run_script.ensures.sound tells (opened_by c.in-Err-run_script.stop c.status-in-Err-run_script.result c.status-in-Err-run_script.ensures status))
 
@@ -139,11 +142,11 @@ returns-in-Ok-clause-caused g c = λ settings says script held told told_sink en
     let sure : ℕ → Bool = (λ lane. (g.H.Shelf.arms c.args.shelf.now lane).is_sure) in
     let outside = outside_of (g.H.Shelf.fault_count c.args.shelf.now) (g.H.Shelf.disks c.args.shelf.now) (g.H.Shelf.arms c.args.shelf.now) in
     let given = outside_of (g.H.Shelf.fault_count c.run_script.new.shelf) (g.H.Shelf.disks c.run_script.new.shelf) (g.H.Shelf.arms c.run_script.new.shelf) in
-    let same : c.in-Ok-Some.settings ≡ settings = (let run : SaysRun (map string_bytes c.args.words.now) c.in-Ok-Some.settings = rw c.in-Ok-Some.field-0-is at c.in-Ok-Some.ensures.run in
-    same_run (map string_bytes c.args.words.now) c.in-Ok-Some.settings settings run says) in
+    let same : c.in-Ok-Some-Run.settings ≡ settings = (let run : SaysRun (map string_bytes c.args.words.now) c.in-Ok-Some-Run.settings = rw (c.in-Ok-Some-Run.field-0-is, c.in-Ok-Some-Run.field-0-0-is) at c.in-Ok-Some-Run.ensures.says in
+    same_run (map string_bytes c.args.words.now) c.in-Ok-Some-Run.settings settings run says) in
     let P : Settings → Type 0 = λ s. CausedRun g.H.Disk.Disk.Tells s ending script (g.S.Source.left c.run_script.new.source) outside given sure disks disks' held (g.K.Sink.written c.run_script.new.sink) in
     subst P same
-    (by_status (λ (e : Ending). CausedRun g.H.Disk.Disk.Tells c.in-Ok-Some.settings e script (g.S.Source.left c.run_script.new.source) outside given sure disks disks' held (g.K.Sink.written c.run_script.new.sink)) ReadAll ending is
+    (by_status (λ (e : Ending). CausedRun g.H.Disk.Disk.Tells c.in-Ok-Some-Run.settings e script (g.S.Source.left c.run_script.new.source) outside given sure disks disks' held (g.K.Sink.written c.run_script.new.sink)) ReadAll ending is
     (c.in-Ok.ensures.caused script held told told_sink))
 
 pub returns-in-Err-run_script-clause-caused : goal.returns-in-Err-run_script-clause-caused
@@ -153,10 +156,44 @@ returns-in-Err-run_script-clause-caused g c = λ settings says script held told 
     let sure : ℕ → Bool = (λ lane. (g.H.Shelf.arms c.args.shelf.now lane).is_sure) in
     let outside = outside_of (g.H.Shelf.fault_count c.args.shelf.now) (g.H.Shelf.disks c.args.shelf.now) (g.H.Shelf.arms c.args.shelf.now) in
     let given = outside_of (g.H.Shelf.fault_count c.run_script.new.shelf) (g.H.Shelf.disks c.run_script.new.shelf) (g.H.Shelf.arms c.run_script.new.shelf) in
-    let same : c.in-Ok-Some.settings ≡ settings = (let run : SaysRun (map string_bytes c.args.words.now) c.in-Ok-Some.settings = rw c.in-Ok-Some.field-0-is at c.in-Ok-Some.ensures.run in
-    same_run (map string_bytes c.args.words.now) c.in-Ok-Some.settings settings run says) in
+    let same : c.in-Ok-Some-Run.settings ≡ settings = (let run : SaysRun (map string_bytes c.args.words.now) c.in-Ok-Some-Run.settings = rw (c.in-Ok-Some-Run.field-0-is, c.in-Ok-Some-Run.field-0-0-is) at c.in-Ok-Some-Run.ensures.says in
+    same_run (map string_bytes c.args.words.now) c.in-Ok-Some-Run.settings settings run says) in
     let P : Settings → Type 0 = λ s. CausedRun g.H.Disk.Disk.Tells s ending script (g.S.Source.left c.run_script.new.source) outside given sure disks disks' held (g.K.Sink.written c.run_script.new.sink) in
     subst P same
-    (by_status (λ (e : Ending). CausedRun g.H.Disk.Disk.Tells c.in-Ok-Some.settings e script (g.S.Source.left c.run_script.new.source) outside given sure disks disks' held (g.K.Sink.written c.run_script.new.sink))
+    (by_status (λ (e : Ending). CausedRun g.H.Disk.Disk.Tells c.in-Ok-Some-Run.settings e script (g.S.Source.left c.run_script.new.source) outside given sure disks disks' held (g.K.Sink.written c.run_script.new.sink))
     (ending_of c.in-Err-run_script.stop) ending (sym c.status-in-Err-run_script.ensures ∙ is)
     (c.in-Err-run_script.ensures.caused script held told told_sink))
+
+-- a check
+
+pub returns-in-Ok-Some-Check-clause-checked : goal.returns-in-Ok-Some-Check-clause-checked
+returns-in-Ok-Some-Check-clause-checked g c = λ settings says.
+    let taken : Outside = outside_of (g.H.Shelf.fault_count c.args.shelf.now) (g.H.Shelf.disks c.args.shelf.now) (g.H.Shelf.arms c.args.shelf.now) in
+    let given : Outside = outside_of (g.H.Shelf.fault_count c.check_store.new.shelf) (g.H.Shelf.disks c.check_store.new.shelf) (g.H.Shelf.arms c.check_store.new.shelf) in
+    let words = map string_bytes c.args.words.now in
+    let check : SaysCheck words c.in-Ok-Some-Check.settings = rw (c.in-Ok-Some-Check.field-0-is, c.in-Ok-Some-Check.field-0-0-is) at c.in-Ok-Some-Check.ensures.says in
+    let P : Settings → Type 0 = λ s. ChecksTo g.H.Disk.Disk.Tells s c.check_store.result taken given (g.K.Sink.written c.args.sink.now) (g.K.Sink.written c.check_store.new.sink) in
+    subst P (same_check words c.in-Ok-Some-Check.settings settings check says) c.check_store.ensures.checked
+
+pub returns-in-Ok-Some-Check-clause-unused : goal.returns-in-Ok-Some-Check-clause-unused
+returns-in-Ok-Some-Check-clause-unused g c = λ settings says.
+    let words = map string_bytes c.args.words.now in
+    let check : SaysCheck words c.in-Ok-Some-Check.settings = rw (c.in-Ok-Some-Check.field-0-is, c.in-Ok-Some-Check.field-0-0-is) at c.in-Ok-Some-Check.ensures.says in
+    let P : Settings → Type 0 = λ s. SameFrom (disk_count s) (g.H.Shelf.disks c.args.shelf.now) (g.H.Shelf.disks c.check_store.new.shelf) in
+    (refl, c.check_store.ensures.lanes, subst P (same_check words c.in-Ok-Some-Check.settings settings check says) c.check_store.ensures.other_slots)
+
+pub returns-in-Ok-Some-Check-clause-status : goal.returns-in-Ok-Some-Check-clause-status
+returns-in-Ok-Some-Check-clause-status g c =
+    let taken : Outside = outside_of (g.H.Shelf.fault_count c.args.shelf.now) (g.H.Shelf.disks c.args.shelf.now) (g.H.Shelf.arms c.args.shelf.now) in
+    let given : Outside = outside_of (g.H.Shelf.fault_count c.check_store.new.shelf) (g.H.Shelf.disks c.check_store.new.shelf) (g.H.Shelf.arms c.check_store.new.shelf) in
+    let words = map string_bytes c.args.words.now in
+    let check : SaysCheck words c.in-Ok-Some-Check.settings = rw (c.in-Ok-Some-Check.field-0-is, c.in-Ok-Some-Check.field-0-0-is) at c.in-Ok-Some-Check.ensures.says in
+    check_statuses g.H.Disk.Disk.Tells c.in-Ok-Some-Check.settings c.check_store.result taken given (g.K.Sink.written c.args.sink.now) (g.K.Sink.written c.check_store.new.sink) c.check_store.ensures.checked
+    (c.in-Ok-Some-Check.settings, check)
+
+-- memory was wanting for the words
+
+pub returns-in-Err-clause-checked : goal.returns-in-Err-clause-checked
+returns-in-Err-clause-checked g c = λ settings says.
+    check_nothing g.H.Disk.Disk.Tells settings c.status.result (outside_of (g.H.Shelf.fault_count c.args.shelf.now) (g.H.Shelf.disks c.args.shelf.now) (g.H.Shelf.arms c.args.shelf.now))
+    (g.K.Sink.written c.args.sink.now) c.status.ensures
