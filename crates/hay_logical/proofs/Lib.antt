@@ -28,3 +28,4 @@ pub mod Swapping
 pub mod Tables
 pub mod Through
 pub mod Looks
+pub mod Drawing

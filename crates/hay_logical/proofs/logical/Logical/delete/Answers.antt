@@ -1,11 +1,10 @@
-use Rattle.std.proofs.Common.{◌≡◌, None, Err, refl, sym, ap, subst, ◌∙◌}
+use Rattle.std.proofs.Common.{◌≡◌, None, Err, sym, ap, subst, ◌∙◌}
 use Rattle.std.specs.Prelude.{IfErr}
 use Rattle.std.proofs.lemmas.Result.{err_from_is_err_and}
-use Rattle.hay_legal.specs.declared.known.VolumeKnown.{VolumeKnown}
 use Rattle.hay_physical.proofs.Views.{if_err_so, if_ok_so}
 use Rattle.hay_logical.specs.declared.fault.LogicalFault.{LogicalFault}
 use Rattle.hay_logical.specs.Answers.{DeleteRefused}
-use Rattle.hay_logical.specs.Stands.{Stands, StandsFor}
+use Rattle.hay_logical.specs.Stands.{Stands}
 use Rattle.hay_logical.proofs.Changing.{not_some}
 use Rattle.hay_logical.proofs.Through.{counts_through, delete_later, deleted_later, look_refused, same_through}
 use Rattle.hay_logical.proofs.logical.Logical.delete.Goals as goal
