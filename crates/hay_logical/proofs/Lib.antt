@@ -30,3 +30,4 @@ pub mod Tables
 pub mod Telling
 pub mod Through
 pub mod Looks
+pub mod Drawing

@@ -3,7 +3,7 @@ use Rattle.std.proofs.Common.{◌≡◌, inl, inr, ℕ, ◌<◌, true, false, co
 use Rattle.std.proofs.lemmas.Bool.{cases_Bool, cond-true, cond-false}
 use Rattle.hay_needle.specs.declared.needle.Pair.{Pair}
 use Rattle.hay_needle.specs.Tables.{pair_eq}
-use Rattle.hay_needle.proofs.TableLaws.{pair_apart, pair_refl, pair_same}
+use Rattle.hay_needle.proofs.TableLaws.{pair_apart, pair_same}
 use Rattle.hay_disk.specs.Disk.{Files}
 use Rattle.hay_map.specs.MapRows.{MapRows}
 use Rattle.hay_map.specs.Places.{gone_place, place_in}

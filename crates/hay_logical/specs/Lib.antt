@@ -5,3 +5,4 @@ pub mod Answers
 pub mod Steps
 pub mod Notes
 pub mod Refusals
+pub mod Draws

@@ -16,6 +16,7 @@ ghost use Rattle.hay_physical.specs.declared.state.Phase.TheVariants.{Closed};
 ghost use Rattle.hay_physical.specs.Copies.{Copy, contents_of, goal_of};
 ghost use Rattle.hay_physical.specs.Copies as copies;
 ghost use Rattle.hay_compact.specs.Finishing.{IsSeen};
+ghost use Rattle.hay_logical.specs.Draws.{DrewAt, HasDrawnNothing, looked_pair};
 ghost use Rattle.hay_logical.specs.Fits.{At, PlaceStands, super_of};
 ghost use Rattle.hay_logical.specs.Notes.{DeleteLeavesUnsure, NotesTell, PutLeavesUnsure};
 ghost use Rattle.hay_logical.specs.Steps.{IsRefusedAt, KeepsDisk, RoomFor, SetsPlaceAt};
@@ -149,6 +150,10 @@ impl<D: Disk> Logical<D> {
             (file at : ℕ) → IsOpeningDamage r.sup (contents_of D.files r.disk) file at → ⊥) }
         ensures undamaged_now { D.Tells → OnOk result ((j : ℕ) (r r' : Copy D) → At self.old.replicas j r → At self.new.replicas j r' →
             (file at : ℕ) → IsOpeningDamage r.sup (contents_of D.files r'.disk) file at → ⊥) }
+        // Of each volume file little more was read than the needles that have no record, and the needle of the pair whose delete
+        // was broken off.
+        ensures drew { D.Tells → OnOk result ((j : ℕ) (r r' : Copy D) → At self.old.replicas j r → At self.new.replicas j r' →
+            DrewAt D.files D.drawn (looked_pair self.old.unsure) r r') }
 
         // What a refusal leaves, and its cause.
         ensures left { D.Tells → (k : VolumeKnown) → Stopped D.files self.old k → OnErr result (Holds D.files self.new k) }
@@ -666,6 +671,7 @@ impl<D: Disk> Logical<D> {
         ensures all { length self.new.replicas ≡ length self.old.replicas }
         ensures counts { (j : ℕ) (r r' : Copy D) → At self.old.replicas j r → At self.new.replicas j r' →
             (D.fault_count r'.disk ≡ D.fault_count r.disk) × (D.fuse_count r'.disk ≡ D.fuse_count r.disk) }
+        ensures drawn { D.Tells → (j : ℕ) (r : Copy D) → At self.new.replicas j r → HasDrawnNothing D.drawn r }
         ensures unsure { self.new.unsure ≡ self.old.unsure }
         ensures same { IsSame self.old self.new }
     {

@@ -10,6 +10,7 @@ ghost use Rattle.hay_physical.specs.declared.state.Phase.TheVariants.{Closed};
 ghost use Rattle.hay_physical.specs.Replicas as physical;
 ghost use Rattle.hay_physical.specs.Runs.{HasRun, Run};
 ghost use Rattle.hay_open.specs.Stored.{Stored};
+ghost use Rattle.hay_logical.specs.Draws.{DrewRecordedAt, HasDrawnNothing};
 ghost use Rattle.hay_logical.specs.Fits.{At};
 ghost use Rattle.hay_logical.specs.Volumes.{CanReach, KeepsCounts, ReachesPlaces};
 ghost use Rattle.hay_logical.specs.Steps.{AllIdle, CallsOne, DeleteLeaves, DeletesAt, EndsRuns, FlushesAt, FollowsAt, FusesAt, IsOpenFault, IsRefusedAt, KeepsDisk, LacksRoom, LeftAt, OpensAt, PutLeaves, PutsAt, RoomFor, StaysBeside, StaysInReach, Stops};
@@ -209,6 +210,7 @@ fn delete_in_order<D: Disk>(
 pub(crate) fn stop_each<D: Disk>(replicas: &mut [Replica<D>], pick: u64)
     ensures count { length replicas.new ≡ length replicas.old }
     ensures stopped { (j : ℕ) (r r' : Copy D) → At replicas.old j r → At replicas.new j r' → Stops D.Tells D.files D.fault_count D.fuse_count r r' }
+    ensures drawn { D.Tells → (j : ℕ) (r r' : Copy D) → At replicas.old j r → At replicas.new j r' → HasDrawnNothing D.drawn r' }
 {
     for replica in replicas.iter_mut() {
         replica.stop(pick);
@@ -251,6 +253,8 @@ pub(crate) fn open_each<D: Disk>(
     ensures thawed { OnErr result ((j : ℕ) (r : Copy D) → At replicas.new j r → is_frozen r ≡ false) }
     ensures opened { OnOk result ((j : ℕ) (r r' : Copy D) → At replicas.old j r → At replicas.new j r' →
         OpensAt D.Tells D.files D.Piece.Tells rows.new j r r') }
+    ensures drew { D.Tells → OnOk result ((j : ℕ) (r r' : Copy D) → At replicas.old j r → At replicas.new j r' →
+        DrewRecordedAt D.files D.drawn rows.new j r r') }
     ensures left { (j : ℕ) (r r' : Copy D) → At replicas.old j r → At replicas.new j r' → LeftAt D.Tells D.files r r' }
     ensures kept { D.Tells → (j : ℕ) (r r' : Copy D) → At replicas.old j r → At replicas.new j r' → KeepsDisk D.files r r' }
     ensures reach { CanReach D.Tells D.files replicas.new rows.new }
@@ -283,6 +287,7 @@ fn open_one<D: Disk>(
     requires long { (pair : Pair) → length (row_at rows.old pair) ≡ rows.old.replicas }
     requires empty { (pair : Pair) → place_in (row_at rows.old pair) j ≡ place.None }
     ensures opened { OnOk result (OpensAt D.Tells D.files D.Piece.Tells rows.new j replica.old replica.new) }
+    ensures drew { D.Tells → OnOk result (DrewRecordedAt D.files D.drawn rows.new j replica.old replica.new) }
     ensures left { LeftAt D.Tells D.files replica.old replica.new }
     ensures thawed { is_frozen replica.new ≡ false }
     ensures kept { D.Tells → KeepsDisk D.files replica.old replica.new }

@@ -9,6 +9,7 @@ ghost use Rattle.hay_physical.specs.declared.state.Phase.TheVariants.{Closed};
 ghost use Rattle.hay_physical.specs.Copies.{Copy, IsOpenCopy, is_frozen};
 ghost use Rattle.hay_physical.specs.Faults.{IsSightFault};
 ghost use Rattle.hay_physical.specs.Replicas as physical;
+ghost use Rattle.hay_logical.specs.Draws.{DrawsAtMost, DrewAt, look_total, looked_pair, looked_total};
 ghost use Rattle.hay_logical.specs.Fits.{At};
 ghost use Rattle.hay_logical.specs.Notes.{SeesUnsure};
 ghost use Rattle.hay_logical.specs.Steps.{CallsOne, IsLookFault, IsRefusedAt, IsUnseenAt, KeepsDisk, LeftAt, LooksAt, OpensAt, PlacesAre, SeesRow, SightsAt};
@@ -40,6 +41,8 @@ pub(crate) fn see_at<D: Disk>(
     ensures one { CallsOne at replicas.old replicas.new }
     ensures sights { (r r' : Copy D) → At replicas.old at r → At replicas.new at r' →
         SightsAt D.Tells D.files D.fault_count D.Piece.Tells pair rows.old rows.new at r r' result }
+    ensures drawn { D.Tells → (r r' : Copy D) → At replicas.old at r → At replicas.new at r' →
+        DrawsAtMost D.drawn (look_total (place_in (row_at rows.old pair) at)) r r' }
     ensures row { SeesRow pair at rows.old rows.new result }
     ensures counts { KeepsCounts D.fault_count D.fuse_count replicas.old replicas.new }
 {
@@ -58,6 +61,7 @@ fn see<D: Disk>(
     requires within { at < rows.old.replicas }
     requires may { D.Tells → physical.MaySeePlace D.files replica.old (place_in (row_at rows.old pair) at) }
     ensures sights { SightsAt D.Tells D.files D.fault_count D.Piece.Tells pair rows.old rows.new at replica.old replica.new result }
+    ensures drawn { D.Tells → DrawsAtMost D.drawn (look_total (place_in (row_at rows.old pair) at)) replica.old replica.new }
     ensures row { SeesRow pair at rows.old rows.new result }
     ensures counts { D.fault_count replica.old.disk ≤ D.fault_count replica.new.disk }
     ensures fuses { D.fuse_count replica.new.disk ≡ D.fuse_count replica.old.disk }
@@ -89,6 +93,8 @@ fn see_undamaged<D: Disk>(
     ensures looks { (j : ℕ) (r r' : Copy D) → At replicas.old j r → At replicas.new j r' → LooksAt D.Tells D.files D.Piece.Tells rows.old rows.new j r r' }
     ensures seen { D.Tells → OnOk result ((j : ℕ) (r : Copy D) (s : Stored) → At replicas.old j r →
         physical.Stands D.files r s → PlacesAre D.Piece.Tells rows.old j s → IsSeen (place_in (row_at rows.new pair) j)) }
+    ensures drawn { D.Tells → (j : ℕ) (r r' : Copy D) → At replicas.old j r → At replicas.new j r' →
+        DrawsAtMost D.drawn (look_total (place_in (row_at rows.old pair) j)) r r' }
     ensures refused { IfErr result (IsUnseenAt D.fault_count replicas.old replicas.new) }
     ensures width { rows.new.replicas ≡ rows.old.replicas }
     ensures counts { KeepsCounts D.fault_count D.fuse_count replicas.old replicas.new }
@@ -138,6 +144,8 @@ fn see_broken_off<D: Disk>(
     ensures looks { (j : ℕ) (r r' : Copy D) → At replicas.old j r → At replicas.new j r' → LooksAt D.Tells D.files D.Piece.Tells rows.old rows.new j r r' }
     ensures seen { D.Tells → OnOk result ((j : ℕ) (r : Copy D) (s : Stored) → At replicas.old j r →
         physical.Stands D.files r s → PlacesAre D.Piece.Tells rows.old j s → SeesUnsure unsure.now rows.new j) }
+    ensures drawn { D.Tells → (j : ℕ) (r r' : Copy D) → At replicas.old j r → At replicas.new j r' →
+        DrawsAtMost D.drawn (looked_total (looked_pair unsure.now) rows.old j) r r' }
     ensures refused { IfErr result (IsUnseenAt D.fault_count replicas.old replicas.new) }
     ensures width { rows.new.replicas ≡ rows.old.replicas }
     ensures counts { KeepsCounts D.fault_count D.fuse_count replicas.old replicas.new }
@@ -168,6 +176,9 @@ pub(crate) fn open_all<D: Disk>(
     ensures thawed { OnErr result ((j : ℕ) (r : Copy D) → At replicas.new j r → is_frozen r ≡ false) }
     ensures opened { OnOk result ((j : ℕ) (r r' : Copy D) → At replicas.old j r → At replicas.new j r' →
         OpensAt D.Tells D.files D.Piece.Tells rows.new j r r') }
+    // Little of each volume file was read.
+    ensures drew { D.Tells → OnOk result ((j : ℕ) (r r' : Copy D) → At replicas.old j r → At replicas.new j r' →
+        DrewAt D.files D.drawn (looked_pair unsure.now) r r') }
     // Behind a stop the place that tells of the change was seen.
     ensures seen { D.Tells → OnOk result ((j : ℕ) (r : Copy D) → At replicas.old j r → (stuck : Bool) (s t : Stored) →
         physical.Holds D.files r stuck s t → SeesUnsure unsure.now rows.new j) }

@@ -13,3 +13,4 @@ pub mod Sights
 pub mod Seeing
 pub mod Looks
 pub mod Apartness
+pub mod Drawing

@@ -1,5 +1,5 @@
 -- What a look at a cell has seen.
-use Rattle.std.proofs.Common.{◌≡◌, false, ℕ, List, sym, ◌∙◌, ap, refl, subst, ◌+◌, inl, inr, arith}
+use Rattle.std.proofs.Common.{◌≡◌, ℕ, List, sym, ◌∙◌, ap, refl, subst, ◌+◌, inl, inr, arith}
 use Rattle.std.specs.Prelude.{Result, Ok, Err, OnOk}
 use Rattle.hay_needle.specs.declared.needle.Cell.{Cell}
 use Rattle.hay_needle.specs.declared.needle.CellHead.{CellHead}

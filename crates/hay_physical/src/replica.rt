@@ -17,6 +17,7 @@ ghost use Rattle.hay_physical.specs.Runs.{HasLastAt, HasRun, Run, longer, loosen
 ghost use Rattle.std.specs.List.{AllByRecursion};
 ghost use Rattle.std.specs.Option.{option_map};
 ghost use Rattle.hay_physical.specs.Copies.{EndedAt, IsFrozen, IsOpenCopy, IsUp, capacity_of, contents_of, end_of, generation_of, goal_of, is_frozen, is_stuck};
+ghost use Rattle.hay_physical.specs.Draws.{DrewRecorded};
 ghost use Rattle.hay_physical.specs.Faults.{IsDeleteFault, IsFlushFault, IsPutFault};
 ghost use Rattle.hay_needle.specs.Tables.{pair_eq};
 ghost use Rattle.hay_physical.specs.Replicas.{Anywhere, ApartFrom, ArePlacesApart, HasLive, Holds, IsApart, IsIdleCopy, IsLike, KeepsSight, MayDelete, MayDeletePlace, MaySee, MaySeePlace, ShowsCell, Stands, all_recorded, with_cell, without_cell};
@@ -78,6 +79,9 @@ impl<D: Disk> Replica<D> {
         // Nothing of what was read is damaged.
         ensures undamaged { D.Tells → OnOk result ((file at : ℕ) → IsOpeningDamage self.old.sup (contents_of D.files self.old.disk) file at → ⊥) }
         ensures undamaged_now { D.Tells → OnOk result ((file at : ℕ) → IsOpeningDamage self.old.sup (contents_of D.files self.new.disk) file at → ⊥) }
+        // Little of the volume file was read: hardly more than the needles that have no record.
+        ensures drawn { D.Tells → IfOk result (λ cells.
+            DrewRecorded self.old.sup (contents_of D.files self.new.disk) (D.drawn self.old.disk) (D.drawn self.new.disk) cells.items) }
         ensures up { OnOk result (IsUp self.new) }
         ensures stuck { OnOk result (is_stuck self.new ≡ false) }
         ensures alone { goal_of self.new ≡ None }
@@ -381,6 +385,7 @@ impl<D: Disk> Replica<D> {
         ensures left { D.Tells → MayLeave (D.files self.old.disk) (contents_of D.files self.new.disk) }
         ensures stood { D.Tells → (s : Stored) → Stands D.files self.old s → Holds D.files self.new (is_stuck self.old) s s }
         ensures holds { D.Tells → (stuck : Bool) (s t : Stored) → Holds D.files self.old stuck s t → Holds D.files self.new stuck s t }
+        ensures drawn { D.Tells → (n : ℕ) → D.drawn self.new.disk n ≡ 0 }
         ensures faults { D.fault_count self.new.disk ≡ D.fault_count self.old.disk }
         ensures fuses { D.fuse_count self.new.disk ≡ D.fuse_count self.old.disk }
         ensures sup { self.new.sup ≡ self.old.sup }

@@ -8,6 +8,7 @@ use Rattle.hay_logical.specs.Fits.{At}
 use Rattle.hay_logical.specs.Steps.{KeepsDisk, LeftAt}
 use Rattle.hay_logical.specs.Volumes.{ReachesPlaces}
 use Rattle.hay_logical.proofs.Calls.{Counted, disk_same, left_same, none_in, opens_on, reach_from, reaches_same, up_thawed, went_counts}
+use Rattle.hay_logical.proofs.Drawing.{drew_on}
 use Rattle.hay_logical.proofs.Lists.{Went, at_below, at_read, at_same, at_there, broken_above, broken_below, broken_is, broken_was, length-slice_set, went_all, went_every, went_next, went_start, went_step}
 use Rattle.hay_logical.proofs.replicas.open_each.Goals as goal
 
@@ -96,8 +97,9 @@ loop-j-preserved g c =
             p.1,
             p.2,
             p.3,
+            λ tells. drew_on g.D.Disk.files g.D.Disk.drawn c.loop-j.rows c.open_one.new.rows i r r' (λ pair. c.open_one.ensures.others pair i (λ e. absurd (omega (arith, h, e)))) (p.4 tells),
           ))
-          (c.in-Ok.ensures.opened, (c.open_one.ensures.counts, c.open_one.ensures.fuses), c.open_one.ensures.left, c.open_one.ensures.kept);
+          (c.in-Ok.ensures.opened, (c.open_one.ensures.counts, c.open_one.ensures.fuses), c.open_one.ensures.left, c.open_one.ensures.kept, c.in-Ok.ensures.drew);
       width = c.open_one.ensures.width ∙ c.loop-j.invariant.width;
       long = c.open_one.ensures.long;
       empty = λ pair i h. c.open_one.ensures.others pair i (λ e. absurd (omega (arith, h, e))) ∙ c.loop-j.invariant.empty pair i (let less : c.loop-j.j ≤ i = omega (arith, h) in less);
@@ -149,3 +151,6 @@ returns-in-Err-clause-thawed g c = λ i r f.
             ap (λ (x : Copy g.row.D.Denot). is_frozen x) (at_same _ c.loop-j.j r c.open_one.new.replica (subst (λ k. At (slice_set c.loop-j.replicas c.loop-j.j c.open_one.new.replica) k r) same f) is) ∙ c.open_one.ensures.thawed
       ]
     ]
+
+pub returns-clause-drew : goal.returns-clause-drew
+returns-clause-drew g c = λ tells j r r' e f. (went_all _ _ c.args.replicas.now _ c.loop-j.invariant.went (let all : length c.args.replicas.now ≤ c.loop-j.j = omega arith in all) j r r' e f).4 tells

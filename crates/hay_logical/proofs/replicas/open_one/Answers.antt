@@ -102,3 +102,13 @@ returns-in-Ok-clause-kept g c = λ tells. record { kept = c.open.ensures.kept te
 
 pub returns-clause-kept : goal.returns-clause-kept
 returns-clause-kept g c = λ tells. record { kept = c.open.ensures.kept tells; nothing = c.open.ensures.nothing tells }
+
+pub returns-in-Ok-load-clause-drew : goal.returns-in-Ok-load-clause-drew
+returns-in-Ok-load-clause-drew g c = λ tells.
+    let there : (pair : Pair) → place_in (row_at c.load.new.self pair) c.args.j ≡ last_place c.in-Ok.cells.items pair place.None = λ pair.
+    loaded (row_at c.args.rows.now pair) (row_at c.load.new.self pair) c.args.j _ (c.in-Ok-load.ensures.ok.rows pair)
+    (let long = c.requires.long pair in let h = c.requires.within in let less : c.args.j < length (row_at c.args.rows.now pair) = omega (arith, long, h) in less)
+    ∙ ap (λ l. last_place l pair (place_in (row_at c.args.rows.now pair) c.args.j)) c.as_slice.ensures.value
+    ∙ ap (λ p. last_place c.in-Ok.cells.items pair p) (c.requires.empty pair) in
+    let did = c.in-Ok.ensures.drawn tells in
+    record { drew = did.drew; unseen = λ pair at size is. did.unseen pair at size (sym (there pair) ∙ is) }

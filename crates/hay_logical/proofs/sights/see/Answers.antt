@@ -4,6 +4,7 @@ use Rattle.hay_map.specs.Rows.{row_at}
 use Rattle.hay_map.specs.declared.place.Place.TheVariants as place
 use Rattle.hay_compact.specs.Finishing.{IsSeen}
 use Rattle.hay_physical.specs.declared.fault.ReplicaFault.{ReplicaFault}
+use Rattle.hay_logical.specs.Draws.{DrawsAtMost, look_total}
 use Rattle.hay_logical.proofs.Looking.{Looked, becomes_same, becomes_seen, same_places, same_sets, set_places, sets_this, sight_seen, sights_looked, sights_none}
 use Rattle.hay_logical.proofs.sights.see.Goals as goal
 
@@ -63,3 +64,21 @@ returns-clause-sights g c =
     looked was (same_places c.args.pair c.args.at c.args.rows.now c.args.rows.now (place.Unseen c.in-Unseen.place c.in-Unseen.size) was (λ q. refl))
     (λ tells. becomes_same T files g.D.Piece.Piece.Tells tells c.in-Unseen.place c.in-Unseen.size c.args.pair c.args.replica.now c.cell.new.self looked)
     c.requires.«open» c.cell.ensures.holds (λ tells. record { now = c.cell.ensures.now tells; solid = c.cell.ensures.solid tells; leaves = c.cell.ensures.leaves tells }) tt (λ tells k e. c.in-Err.ensures.damaged tells k (ap (λ (f : ReplicaFault). Err f) (let same : c.in-Err.fault ≡ ReplicaFault.Damaged k = cc in same))) c.in-Err.ensures.causes
+
+pub returns-in-Ok-see-clause-drawn : goal.returns-in-Ok-see-clause-drawn
+returns-in-Ok-see-clause-drawn g c = λ tells.
+    let was : place_in (row_at c.args.rows.now c.args.pair) c.args.at ≡ place.Unseen c.in-Unseen.place c.in-Unseen.size = sym (c.place.ensures ∙ ap (λ l. place_in l c.args.at) c.row-row.ensures.row) ∙ c.in-Unseen.is in
+    subst (λ p. DrawsAtMost g.D.Disk.drawn (look_total p) c.args.replica.now c.cell.new.self) (sym was) (c.cell.ensures.drawn tells)
+
+pub returns-in-Ok-clause-drawn : goal.returns-in-Ok-clause-drawn
+returns-in-Ok-clause-drawn g c = λ tells.
+    let was : place_in (row_at c.args.rows.now c.args.pair) c.args.at ≡ place.Unseen c.in-Unseen.place c.in-Unseen.size = sym (c.place.ensures ∙ ap (λ l. place_in l c.args.at) c.row-row.ensures.row) ∙ c.in-Unseen.is in
+    subst (λ p. DrawsAtMost g.D.Disk.drawn (look_total p) c.args.replica.now c.cell.new.self) (sym was) (c.cell.ensures.drawn tells)
+
+pub returns-clause-drawn : goal.returns-clause-drawn
+returns-clause-drawn g c = λ tells.
+    let was : place_in (row_at c.args.rows.now c.args.pair) c.args.at ≡ place.Unseen c.in-Unseen.place c.in-Unseen.size = sym (c.place.ensures ∙ ap (λ l. place_in l c.args.at) c.row-row.ensures.row) ∙ c.in-Unseen.is in
+    subst (λ p. DrawsAtMost g.D.Disk.drawn (look_total p) c.args.replica.now c.cell.new.self) (sym was) (c.cell.ensures.drawn tells)
+
+pub returns-in-None-clause-drawn : goal.returns-in-None-clause-drawn
+returns-in-None-clause-drawn g c = λ tells n. omega arith

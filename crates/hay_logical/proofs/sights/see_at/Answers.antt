@@ -1,6 +1,9 @@
-use Rattle.std.proofs.Common.{rules, ◌<◌, refl, sym, subst, arith}
+use Rattle.std.proofs.Common.{rules, ◌<◌, ℕ, refl, sym, subst, arith}
 use Rattle.std.specs.Prelude.{slice_index_or}
 use Rattle.hay_physical.specs.Copies.{Copy}
+use Rattle.hay_map.specs.Places.{place_in}
+use Rattle.hay_map.specs.Rows.{row_at}
+use Rattle.hay_logical.specs.Draws.{DrawsAtMost, look_total}
 use Rattle.hay_logical.specs.Fits.{At}
 use Rattle.hay_logical.specs.Steps.{SightsAt}
 use Rattle.hay_logical.proofs.Calls.{one_counts}
@@ -36,3 +39,11 @@ returns-clause-counts g c =
     let here : Copy g.row.D.Denot = slice_index_or c.args.replicas.now c.args.at c.index-replicas-at.result in
     let there : At c.args.replicas.now c.args.at here = at_read c.args.replicas.now c.args.at c.index-replicas-at.result c.requires.within in
     one_counts g.D.Disk.fault_count g.D.Disk.fuse_count c.args.at c.args.replicas.now here c.see.new.replica there (c.see.ensures.counts, c.see.ensures.fuses)
+
+pub returns-clause-drawn : goal.returns-clause-drawn
+returns-clause-drawn g c = λ tells r r' e f.
+    let here : Copy g.row.D.Denot = slice_index_or c.args.replicas.now c.args.at c.index-replicas-at.result in
+    let there : At c.args.replicas.now c.args.at here = at_read c.args.replicas.now c.args.at c.index-replicas-at.result c.requires.within in
+    let same = one_same c.args.replicas.now c.args.at here c.see.new.replica r r' there e f in
+    let most : ℕ = look_total (place_in (row_at c.args.rows.now c.args.pair) c.args.at) in
+    subst (λ x. DrawsAtMost g.D.Disk.drawn most x r') (sym same.0) (subst (λ x. DrawsAtMost g.D.Disk.drawn most here x) (sym same.1) (c.see.ensures.drawn tells))

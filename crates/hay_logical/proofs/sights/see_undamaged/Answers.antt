@@ -1,10 +1,11 @@
-use Rattle.std.proofs.Common.{rules, ◌≡◌, ◌≤◌, ◌<◌, ℕ, length, Err, sym, subst, ◌∙◌, arith}
+use Rattle.std.proofs.Common.{rules, ◌≡◌, ◌≤◌, ◌<◌, ℕ, length, Err, refl, sym, subst, ◌∙◌, ◌+◌, arith}
 use Rattle.std.specs.Prelude.{IfErr, MatchOption}
 use Rattle.hay_physical.specs.declared.fault.ReplicaFault.{ReplicaFault}
 use Rattle.hay_physical.specs.Faults.{IsSightFault}
 use Rattle.hay_logical.specs.Steps.{IsLookFault}
+use Rattle.hay_logical.proofs.Drawing.{draws_each, draws_one}
 use Rattle.hay_logical.proofs.Looks.{looks_none, looks_on, seen_on, still_open, still_reached, unseen}
-use Rattle.hay_logical.proofs.Lists.{at_below}
+use Rattle.hay_logical.proofs.Lists.{at_below, went_start}
 use Rattle.hay_logical.proofs.Methods.{one_after}
 use Rattle.hay_logical.proofs.sights.see_undamaged.Goals as goal
 use Rattle.hay_logical.proofs.sights.see_undamaged.Goals.{in-Err+in_default-ending_fault, in_default}
@@ -12,6 +13,7 @@ use Rattle.hay_logical.proofs.sights.see_undamaged.Goals.{in-Err+in_default-endi
 pub loop-at-init : goal.loop-at-init
 loop-at-init g c = record {
   looks = looks_none g.D.Disk.Tells g.D.Disk.files g.D.Piece.Piece.Tells g.D.Disk.fault_count g.D.Disk.fuse_count c.args.replicas.now c.args.rows.now;
+  drawn = λ tells. record { went = went_start _ c.args.replicas.now; places = λ j later. refl };
   seen = λ tells j r s h. absurd (omega (arith, h));
 }
 
@@ -90,6 +92,9 @@ loop-at-preserved g c =
     ]) in
     record {
       looks = looks_on T files g.D.Piece.Piece.Tells faults g.D.Disk.fuse_count c.args.replicas.now c.loop-at.replicas c.args.rows.now c.loop-at.rows c.loop-at.invariant.looks c.see_at.new.replicas c.see_at.new.rows c.loop-at.at c.args.pair c.see_at.result one sights c.see_at.ensures.row c.see_at.ensures.counts;
+      drawn = λ tells.
+          draws_one g.D.Disk.drawn c.args.pair c.args.rows.now c.loop-at.at c.args.replicas.now c.loop-at.replicas c.see_at.new.replicas c.loop-at.rows c.see_at.new.rows c.see_at.result (c.loop-at.invariant.drawn tells) one c.see_at.ensures.row
+          (c.see_at.ensures.drawn tells one.before one.after one.was (one_after c.loop-at.at c.loop-at.replicas c.see_at.new.replicas one));
       seen = λ tells. seen_on T files g.D.Piece.Piece.Tells faults g.D.Disk.fuse_count c.args.replicas.now c.loop-at.replicas c.args.rows.now c.loop-at.rows c.loop-at.invariant.looks c.see_at.new.replicas c.see_at.new.rows c.loop-at.at c.args.pair c.see_at.result one sights c.see_at.ensures.row c.see_at.ensures.counts tells only (c.loop-at.invariant.seen tells);
     }
 
@@ -105,3 +110,14 @@ returns-clause-width g c = c.loop-at.invariant.looks.width
 
 pub returns-clause-counts : goal.returns-clause-counts
 returns-clause-counts g c = c.loop-at.invariant.looks.counts
+
+pub returns-in-Some-clause-drawn : goal.returns-in-Some-clause-drawn
+returns-in-Some-clause-drawn g c = λ tells.
+    let one = c.see_at.ensures.one in
+    draws_each g.D.Disk.drawn c.args.pair c.args.rows.now (c.loop-at.at + 1) c.args.replicas.now c.see_at.new.replicas c.see_at.new.rows
+    (draws_one g.D.Disk.drawn c.args.pair c.args.rows.now c.loop-at.at c.args.replicas.now c.loop-at.replicas c.see_at.new.replicas c.loop-at.rows c.see_at.new.rows c.see_at.result (c.loop-at.invariant.drawn tells) one c.see_at.ensures.row
+    (c.see_at.ensures.drawn tells one.before one.after one.was (one_after c.loop-at.at c.loop-at.replicas c.see_at.new.replicas one)))
+
+pub returns-clause-drawn : goal.returns-clause-drawn
+returns-clause-drawn g c = λ tells.
+    draws_each g.D.Disk.drawn c.args.pair c.args.rows.now c.loop-at.at c.args.replicas.now c.loop-at.replicas c.loop-at.rows (c.loop-at.invariant.drawn tells)

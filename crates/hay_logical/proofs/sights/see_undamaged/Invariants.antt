@@ -7,12 +7,14 @@ use Rattle.hay_physical.specs.Copies.{Copy}
 use Rattle.hay_physical.specs.Replicas as physical
 use Rattle.hay_logical.specs.Fits.{At}
 use Rattle.hay_logical.specs.Steps.{PlacesAre}
+use Rattle.hay_logical.proofs.Drawing.{DrawsLooks}
 use Rattle.hay_logical.proofs.Looks.{Looks}
 use Rattle.hay_logical.proofs.sights.see_undamaged.Given as goal
 
 abbrev pub invariant-loop-at : goal.invariant-loop-at
 invariant-loop-at g l = record {
   looks : Looks g.D.Disk.Tells g.D.Disk.files g.D.Piece.Piece.Tells g.D.Disk.fault_count g.D.Disk.fuse_count l.fn.replicas l.replicas l.fn.rows l.rows;
+  drawn : g.D.Disk.Tells → DrawsLooks g.D.Disk.drawn l.pair l.fn.rows l.at l.fn.replicas l.replicas l.rows;
   seen : g.D.Disk.Tells → (j : ℕ) (r : Copy g.row.D.Denot) (s : Stored) → j < l.at → At l.fn.replicas j r →
       physical.Stands g.D.Disk.files r s → PlacesAre g.D.Piece.Piece.Tells l.fn.rows j s → IsSeen (place_in (row_at l.rows l.pair) j);
 }

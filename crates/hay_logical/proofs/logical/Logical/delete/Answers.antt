@@ -5,7 +5,7 @@ use Rattle.hay_legal.specs.declared.known.VolumeKnown.{VolumeKnown}
 use Rattle.hay_physical.proofs.Views.{if_err_so, if_ok_so}
 use Rattle.hay_logical.specs.declared.fault.LogicalFault.{LogicalFault}
 use Rattle.hay_logical.specs.Answers.{DeleteRefused}
-use Rattle.hay_logical.specs.Stands.{Stands, StandsFor}
+use Rattle.hay_logical.specs.Stands.{Stands}
 use Rattle.hay_logical.proofs.Changing.{not_some}
 use Rattle.hay_logical.proofs.Through.{counts_through, delete_later, deleted_later, look_refused, same_through}
 use Rattle.hay_logical.proofs.Telling.{delete_before}

@@ -3,6 +3,7 @@ use Rattle.std.proofs.lemmas.List.{with_items_is}
 use Rattle.hay_map.specs.declared.place.Place.TheVariants as place
 use Rattle.hay_open.specs.declared.fault.OpenFault.TheVariants as open_fault
 use Rattle.hay_physical.specs.Copies.{Copy}
+use Rattle.hay_logical.specs.Draws.{DrewAt, looked_pair}
 use Rattle.hay_logical.specs.Fits.{At}
 use Rattle.hay_logical.specs.Notes.{NotesTell}
 use Rattle.hay_logical.specs.Stands.{Holds, HoldsFor, IsFirst, Stands, StandsFor, Stopped, StoppedFor}
@@ -347,3 +348,11 @@ returns-clause-undamaged_now g c = λ tells j r r' there here file at.
     let kept = with_items_is c.self.inside.replicas c.open_all.new.replicas (c.open_all.auto.replicas ∙ c.as_mut_slice.ensures.len) in
     let e : At c.self.inside.replicas.items j r = subst (λ (v : Volume g.row.D.Denot g.row.D-Piece.Denot). At v.replicas j r) (sym c.self.view_is) there in
     (c.in-Ok.ensures.opened j r r' (subst (λ xs. At xs j r) (sym now) e) (subst (λ xs. At xs j r') kept here)).undamaged_now tells file at
+
+pub returns-clause-drew : goal.returns-clause-drew
+returns-clause-drew g c = λ tells j r r' there here.
+    let now = c.as_mut_slice.ensures.value in
+    let kept = with_items_is c.self.inside.replicas c.open_all.new.replicas (c.open_all.auto.replicas ∙ c.as_mut_slice.ensures.len) in
+    let e : At c.self.inside.replicas.items j r = subst (λ (v : Volume g.row.D.Denot g.row.D-Piece.Denot). At v.replicas j r) (sym c.self.view_is) there in
+    subst (λ (v : Volume g.row.D.Denot g.row.D-Piece.Denot). DrewAt g.D.Disk.files g.D.Disk.drawn (looked_pair v.unsure) r r') c.self.view_is
+    (c.in-Ok.ensures.drew tells j r r' (subst (λ xs. At xs j r) (sym now) e) (subst (λ xs. At xs j r') kept here))

@@ -1,4 +1,4 @@
-use Rattle.std.proofs.Common.{◌≡◌, ◌≤◌, ◌<◌, ◌+◌, ℕ, cond, inl, inr, length, Some, None, refl, sym, ap, subst, ◌∙◌, arith, rules}
+use Rattle.std.proofs.Common.{◌≡◌, ◌≤◌, ◌<◌, ◌+◌, ℕ, cond, inl, length, Some, None, refl, sym, ap, subst, ◌∙◌, arith, rules}
 use Rattle.std.specs.Prelude.{IfErr}
 use Rattle.hay_legal.specs.Known.{room_refusal_of}
 use Rattle.hay_needle.specs.Tables.{pair_eq}
@@ -23,7 +23,7 @@ use Rattle.hay_needle.specs.declared.needle.Pair.{Pair}
 use Rattle.hay_logical.specs.Refusals.{IsUntouched}
 use Rattle.hay_logical.proofs.Changing.{put_remains, some_none}
 use Rattle.hay_logical.proofs.Reaching.{put_row, same_rows, seen_apart, seen_sees}
-use Rattle.hay_logical.proofs.Putting.{all_thawed, done, is_err_of, never_err, ok_of, put_cause_of, put_refused, room_cause, room_ok, room_refused, rows_kept, untouched}
+use Rattle.hay_logical.proofs.Putting.{all_thawed, done, is_err_of, ok_of, put_cause_of, put_refused, room_cause, room_ok, room_refused, rows_kept, untouched}
 use Rattle.hay_logical.proofs.Refusing.{refuses_put}
 use Rattle.hay_logical.proofs.Telling.{put_broken, room_leaves}
 use Rattle.hay_logical.specs.Notes.{PutLeavesUnsure}

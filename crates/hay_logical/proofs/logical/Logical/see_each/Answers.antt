@@ -1,11 +1,10 @@
-use Rattle.std.proofs.Common.{rules, ◌≡◌, ◌<◌, ◌≤◌, ℕ, Err, refl, sym, ap, subst, ◌∙◌, arith}
+use Rattle.std.proofs.Common.{rules, ◌<◌, Err, refl, sym, ap, subst, ◌∙◌, arith}
 use Rattle.std.specs.Prelude.{IfErr}
 use Rattle.std.proofs.lemmas.Result.{err_from_is_err_and}
 use Rattle.hay_map.specs.Rows.{row_at}
 use Rattle.hay_logical.specs.declared.fault.LogicalFault.{LogicalFault}
 use Rattle.hay_logical.specs.Answers.{IsSightFault}
-use Rattle.hay_logical.specs.Volumes.{IsOpenVolume}
-use Rattle.hay_logical.proofs.Through.{Kept, cause_later, kept_more, kept_none, seen_more}
+use Rattle.hay_logical.proofs.Through.{cause_later, kept_more, kept_none, seen_more}
 use Rattle.hay_logical.proofs.logical.Logical.see_each.Goals as goal
 
 pub loop-replica-init : goal.loop-replica-init

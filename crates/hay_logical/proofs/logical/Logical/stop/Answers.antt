@@ -69,3 +69,13 @@ returns-clause-same g c =
     let now = c.as_mut_slice.ensures.value in
     let kept = with_items_is c.self.inside.replicas c.stop_each.new.replicas (c.stop_each.auto.replicas ∙ c.as_mut_slice.ensures.len) in
     same_by _ _ _ _ c.self.view_is refl refl kept (λ j r r' e f. (c.stop_each.ensures.stopped j r r' (subst (λ xs. At xs j r) (sym now) e) f).sup)
+
+pub returns-clause-drawn : goal.returns-clause-drawn
+returns-clause-drawn g c = λ tells j r' f.
+    let kept = with_items_is c.self.inside.replicas c.stop_each.new.replicas (c.stop_each.auto.replicas ∙ c.as_mut_slice.ensures.len) in
+    let there : At c.stop_each.new.replicas j r' = subst (λ xs. At xs j r') kept f in
+    let old = at_there c.as_mut_slice.result.now j (subst (λ n. j < n) c.stop_each.ensures.count (at_below c.stop_each.new.replicas j r' there)) in
+    c.stop_each.ensures.drawn tells j old.0 r' old.1 there
+
+pub returns-clause-unsure : goal.returns-clause-unsure
+returns-clause-unsure g c = ap (λ v. v.unsure) c.self.view_is

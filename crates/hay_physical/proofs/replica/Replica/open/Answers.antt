@@ -1,10 +1,12 @@
 use Rattle.std.proofs.Common.{◌≡◌, ap, refl, subst, Err, sym}
 use Rattle.std.proofs.lemmas.Result.{err_from_is_err_and}
 use Rattle.hay_open.specs.Damage.{IsOpeningDamage}
-use Rattle.hay_open.specs.Stored.{IsVoid, OpensAs, fresh_stored}
+use Rattle.hay_open.specs.Stored.{IsVoid, fresh_stored}
 use Rattle.hay_physical.specs.Copies.{Copy}
 use Rattle.hay_physical.proofs.Apartness.{found_apart}
+use Rattle.hay_physical.specs.Draws.{DrewRecorded}
 use Rattle.hay_physical.proofs.Deleting.{found_deletes}
+use Rattle.hay_physical.proofs.Drawing.{opening_draws}
 use Rattle.hay_physical.proofs.Holding.{finds_now, finds_opens}
 use Rattle.hay_physical.proofs.Openings.{disk_finds, disk_opens, finds_kept, finds_not_void, on_any, opened_ready, opened_stands, same_fault}
 use Rattle.hay_physical.proofs.Views.{open_stands}
@@ -121,3 +123,12 @@ pub returns-clause-apart : goal.returns-clause-apart
 returns-clause-apart g c = λ tells.
     let done = c.in_ok-head.ensures in
     found_apart g.D.Piece.Piece.Tells c.self.inside.sup (λ n. (g.D.Disk.files c.self.inside.disk n).now) c.in_ok-head.field-0 (done.whole tells) (done.places tells fresh_stored)
+
+pub returns-clause-drawn : goal.returns-clause-drawn
+returns-clause-drawn g c = λ tells.
+    let files = g.D.Disk.files in
+    let drawn = g.D.Disk.drawn in
+    let done = c.in_ok-head.ensures in
+    subst (λ (x : Copy _). DrewRecorded x.sup (λ n. (files c.open_replica.new.disk n).now) (drawn x.disk) (drawn c.open_replica.new.disk) c.in_ok-head.field-0.cells.items) c.self.view_is
+    (opening_draws g.D.Piece.Piece.Tells c.self.inside.sup (files c.self.inside.disk) (files c.open_replica.new.disk) c.in_ok-head.field-0 (drawn c.self.inside.disk) (drawn c.open_replica.new.disk)
+    (done.ready tells).volume_number (done.drawn tells) (done.whole tells) (done.opened tells fresh_stored) (done.places tells fresh_stored) (done.kept tells))
