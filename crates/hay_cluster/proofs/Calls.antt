@@ -3,8 +3,8 @@ use Rattle.std.proofs.Common.{◌≡◌, ℕ, ◌<◌, map, sym, ap, subst, ◌�
 use Rattle.hay_logical.specs.Fits.{At}
 use Rattle.hay_needle.specs.declared.settings.Settings.{Settings}
 use Rattle.hay_legal.specs.Known.{machine_of}
-use Rattle.hay_logical.specs.Answers.{IsBeginFault, IsCompactFault, IsDeleteFault, IsFlushFault, IsMachineOf, IsPutFault, IsRunFault}
-use Rattle.hay_logical.specs.Volumes.{IsOpenVolume, Volume}
+use Rattle.hay_logical.specs.Answers.{IsBeginFault, IsCompactFault, IsDeleteFault, IsFlushFault, IsPutFault, IsRunFault}
+use Rattle.hay_logical.specs.Volumes.{IsMachineOf, IsOpenVolume, Volume}
 use Rattle.hay_logical.specs.declared.fault.LogicalFault.{LogicalFault}
 use Rattle.hay_logical.specs.declared.fault.LogicalFault.TheVariants.{Busy, Damaged, Failed, Full, Gone, Idle, NoMemory, ReadOnly, Worn}
 use Rattle.hay_logical.proofs.Lists.{at_below}
