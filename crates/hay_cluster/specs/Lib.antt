@@ -11,3 +11,4 @@ pub mod Reads
 pub mod State
 pub mod Store
 pub mod Suiting
+pub mod Draws
