@@ -1,6 +1,7 @@
 -- What the disks and arms that a store gives back hold.
 use Rattle.std.proofs.Common.{◌≡◌, ℕ, zero, suc, ◌+◌, ◌*◌, ◌<◌, ◌≤◌, Bool, false, List, [], ◌∷◌, length, map, Option, Some, refl, sym, ap, subst, ◌∙◌, arith}
 use Rattle.std.proofs.Math.Nat.{mul-le-mul_left}
+use Rattle.std.proofs.Math.Path.{fun_ext}
 use Rattle.std.proofs.lemmas.Option.{slice_get_within}
 use Rattle.std.specs.Prelude.{slice_get, slice_index}
 use Rattle.std.specs.List.{AllByRecursion, AllZip, flat_map}
@@ -17,6 +18,7 @@ use Rattle.hay_legal.proofs.Joining.{joined}
 use Rattle.hay_directory.specs.Rows.{OpensRows}
 use Rattle.hay_logical.specs.Fits.{IsReplica}
 use Rattle.hay_logical.specs.Volumes.{Volume}
+use Rattle.hay_cluster.specs.Draws.{drawn_in}
 use Rattle.hay_cluster.specs.Outside.{outside_of, read_of}
 use Rattle.hay_cluster.specs.State.{Holds, VolumeHolds}
 use Rattle.hay_cluster.specs.Store.{IsShaped, IsVolumeOf, Open, contents_in, disks_of, volume_disks}
@@ -137,6 +139,12 @@ module _ {D P A : Type 0} (Tells : Type 0) (files : D → Files) (drawn : D → 
       let i = in_slot store g slot below in
       let reads : Files → Contents = λ f n. (f n).now in
       ap reads ((i.2).files_are tells) ∙ sym (contents_at files store slot i.0 i.1)
+
+  pub given_drawn : Tells → (store : Open D P A) → GivesBack store → (slot : ℕ) → slot < disk_count store.settings → (disks slot).drawn ≡ drawn_in drawn store slot
+  given_drawn tells store g slot below =
+      let i = in_slot store g slot below in
+      let reads : Option D → ℕ → ℕ = λ o n. option_map_or (λ d. drawn d n) o 0 in
+      fun_ext (λ n. (i.2).drawn_is tells n) ∙ sym (ap reads i.1)
 
   volume_found : Tells → (store : Open D P A) → GivesBack store → (k : Known) → AllZip (VolumeHolds files) store.volumes k.volumes → (image : ℕ → Contents)
       → ((slot : ℕ) → slot < disk_count store.settings → MayLeave (disks slot).files (image slot))

@@ -12,6 +12,7 @@ pub mod Maintaining
 pub mod Moves
 pub mod OpeningDamage
 pub mod OpeningDirectory
+pub mod OpeningDraws
 pub mod OpeningFill
 pub mod OpeningFound
 pub mod OpeningLists

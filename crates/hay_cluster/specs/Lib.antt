@@ -12,3 +12,4 @@ pub mod Reads
 pub mod State
 pub mod Store
 pub mod Suiting
+pub mod Draws

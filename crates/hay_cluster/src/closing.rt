@@ -6,6 +6,7 @@ ghost use Rattle.hay_legal.specs.Known.{disk_count};
 ghost use Rattle.hay_legal.specs.Stands.{StandsOn};
 ghost use Rattle.hay_directory.specs.Rows.{OpensRows};
 ghost use Rattle.hay_logical.specs.Fits.{IsReplica};
+ghost use Rattle.hay_cluster.specs.Draws.{drawn_in};
 ghost use Rattle.hay_cluster.specs.Outside.{outside_of, read_of};
 ghost use Rattle.hay_cluster.specs.State.{Holds};
 ghost use Rattle.hay_cluster.specs.Store.{contents_in, disks_of, volume_disks};
@@ -30,6 +31,7 @@ impl<D: Disk, A: Arm<D::Piece>> Cluster<D, A> {
         ensures arm_counts { (lane : ℕ) → lane < 8 → (H.arms shelf.new lane).fault_count ≡ slice_index (map A.fault_count self.arms) lane }
         ensures sure_arms { (lane : ℕ) (arm : A) → slice_get self.arms lane ≡ Some arm → (H.arms shelf.new lane).is_sure ≡ A.is_sure arm }
         ensures contents { D.Tells → (slot : ℕ) → slot < disk_count self.settings → read_of (H.disks shelf.new slot) ≡ contents_in D.files self slot }
+        ensures drawn { D.Tells → (slot : ℕ) → slot < disk_count self.settings → (H.disks shelf.new slot).drawn ≡ drawn_in D.drawn self slot }
         ensures disks_back { AreIn (disk_count self.settings) (H.disks shelf.new) }
         ensures arms_back { AreArmsIn 8 (H.arms shelf.new) }
         ensures other_slots { SameFrom (disk_count self.settings) (H.disks shelf.old) (H.disks shelf.new) }

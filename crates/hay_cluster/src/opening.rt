@@ -16,6 +16,7 @@ ghost use Rattle.hay_logical.specs.Fits.{IsReplica};
 ghost use Rattle.hay_logical.specs.Stands.{IsIdleVolume};
 ghost use Rattle.hay_logical.specs.Volumes.{IsClosed, IsOfSettings};
 ghost use Rattle.hay_cluster.specs.Causes.{HasFaultCause};
+ghost use Rattle.hay_cluster.specs.Draws.{DrawsVolume, EachDrewLittle, FlushedDrewLittle, StopsDrawing, drawn_in, looked_in, no_look, none_drawn};
 ghost use Rattle.hay_cluster.specs.Outside.{CountsOn, IsDamagedDisk, IsKept, IsUndamaged, IsUndamagedBelow, outside_of, read_of};
 ghost use Rattle.hay_cluster.specs.Opening.{FillsVolume, Gathers, IsResting, IsEmptyVolume, MovesDirectory, MovesVolume, OpensDirectory, OpensParts, OpensVolume, RefusesDirectory, RefusesParts, RefusesVolume, RefusesVolumes, StopsDirectory, StopsVolume};
 ghost use Rattle.hay_cluster.specs.Pending.{TellsPending, none_pending, pending_of};
@@ -53,6 +54,13 @@ impl<D: Disk, A: Arm<D::Piece>> Cluster<D, A> {
             IfOk result (λ store. (t : Known) × FaultsRose k t × Stands D.files D.Piece.Tells D.fault_count D.fuse_count A.fault_count store t) }
         // Nothing that it read of a disk is damaged.
         ensures sound { D.Tells → OnOk result (IsUndamaged settings (λ slot. read_of (H.disks shelf.old slot))) }
+        // Of each volume file it read little more than the needles that have no record: of one whose needles all have theirs,
+        // the superblock, the head of the last needle and the end mark.
+        ensures drew { D.Tells → IfOk result (λ store.
+            EachDrewLittle settings (contents_in D.files store) no_look (λ slot. (H.disks shelf.old slot).drawn) (drawn_in D.drawn store)) }
+        ensures flushed { D.Tells → (k : Known) →
+            HoldsNew (IsReplica settings) (OpensRows settings) settings (outside_of (H.fault_count shelf.old) (H.disks shelf.old) (H.arms shelf.old)) k →
+            IfOk result (λ store. FlushedDrewLittle settings k (λ slot. (H.disks shelf.old slot).drawn) (drawn_in D.drawn store)) }
         ensures settings { IfOk result (λ store. store.settings ≡ settings) }
         ensures up { IfOk result IsUp }
         ensures settled { IfOk result (λ store. pending_of store ≡ none_pending settings) }
@@ -116,6 +124,9 @@ impl<D: Disk, A: Arm<D::Piece>> Cluster<D, A> {
         ensures up { OnOk result (IsUp self.new) }
         // Nothing that it read of a disk is damaged.
         ensures sound { D.Tells → OnOk result (IsUndamaged self.old.settings (contents_in D.files self.new)) }
+        // Of each volume file it read little more than the needles that have no record, and the needle of a photo whose delete
+        // was broken off.
+        ensures drew { D.Tells → OnOk result (EachDrewLittle self.old.settings (contents_in D.files self.new) (looked_in self.old) none_drawn (drawn_in D.drawn self.new)) }
 
         // What a refusal leaves, and its cause.
         ensures left { D.Tells → (k : Known) →
@@ -143,6 +154,7 @@ impl<D: Disk, A: Arm<D::Piece>> Cluster<D, A> {
     fn stop(&mut self, pick: u64)
         ensures directory { StopsDirectory D.Tells D.files D.fault_count D.fuse_count self.old.directory self.new.directory }
         ensures volumes { AllZip (StopsVolume D.Tells D.files D.Piece.Tells D.fault_count D.fuse_count) self.old.volumes self.new.volumes }
+        ensures drawn { D.Tells → AllZip (StopsDrawing D.drawn) self.old.volumes self.new.volumes }
         ensures arms { self.new.arms ≡ self.old.arms }
         ensures settings { self.new.settings ≡ self.old.settings }
         ensures shape { IsShaped self.new }
@@ -157,6 +169,7 @@ impl<D: Disk, A: Arm<D::Piece>> Cluster<D, A> {
         requires closed { AllByRecursion IsClosed self.old.volumes }
         requires idle { D.Tells → AllByRecursion (IsIdleVolume D.files) self.old.volumes }
         ensures opened { IfOk result (OpensParts D.Tells D.files D.Piece.Tells D.fault_count D.fuse_count self.old.directory self.new.directory self.old.volumes self.new.volumes) }
+        ensures drew { D.Tells → OnOk result (AllZip (DrawsVolume D.files D.drawn) self.old.volumes self.new.volumes) }
         ensures refused { IfErr result (RefusesParts D.Tells D.files D.fault_count self.old.settings self.old.directory self.new.directory self.old.volumes self.new.volumes) }
         ensures directory { MovesDirectory D.Tells D.files D.fault_count D.fuse_count self.old.directory self.new.directory }
         ensures volumes { AllZip (MovesVolume D.Tells D.files D.Piece.Tells D.fault_count D.fuse_count) self.old.volumes self.new.volumes }
@@ -239,6 +252,7 @@ fn open_volumes<D: Disk>(
     requires closed { AllByRecursion IsClosed volumes.old }
     requires idle { D.Tells → AllByRecursion (IsIdleVolume D.files) volumes.old }
     ensures opened { IfOk result (λ notes. Gathers (OpensVolume D.Tells D.files D.Piece.Tells D.fault_count D.fuse_count) volumes.old volumes.new notes.items) }
+    ensures drew { D.Tells → OnOk result (AllZip (DrawsVolume D.files D.drawn) volumes.old volumes.new) }
     ensures refused { IfErr result (RefusesVolumes D.Tells D.files D.fault_count settings.now volumes.old volumes.new) }
     ensures moves { AllZip (MovesVolume D.Tells D.files D.Piece.Tells D.fault_count D.fuse_count) volumes.old volumes.new }
 {
@@ -264,6 +278,7 @@ fn open_volume<D: Disk>(
     requires idle { D.Tells → IsIdleVolume D.files volume.old }
     ensures opened { OnOk result ((more : List Note) × (notes.new.items ≡ notes.old.items ++ more)
         × OpensVolume D.Tells D.files D.Piece.Tells D.fault_count D.fuse_count volume.old volume.new more) }
+    ensures drew { D.Tells → OnOk result (DrawsVolume D.files D.drawn volume.old volume.new) }
     ensures refused { IfErr result (RefusesVolume D.Tells D.files D.fault_count settings.now number volume.old volume.new) }
     ensures moves { MovesVolume D.Tells D.files D.Piece.Tells D.fault_count D.fuse_count volume.old volume.new }
 {
@@ -280,7 +295,8 @@ fn open_volume<D: Disk>(
 
 // Stops each volume.
 fn stop_volumes<D: Disk>(volumes: &mut [Logical<D>], pick: u64)
-    ensures { AllZip (StopsVolume D.Tells D.files D.Piece.Tells D.fault_count D.fuse_count) volumes.old volumes.new }
+    ensures stops { AllZip (StopsVolume D.Tells D.files D.Piece.Tells D.fault_count D.fuse_count) volumes.old volumes.new }
+    ensures drawn { D.Tells → AllZip (StopsDrawing D.drawn) volumes.old volumes.new }
 {
     for volume in volumes.iter_mut() {
         volume.stop(pick);

@@ -63,3 +63,6 @@ slot_of-requires-clause-replica g c =
     let low = slice_get_within c.args.volume.now.replicas c.in-Err.field-0.replica of.before of.was in
     let all : length c.args.volume.now.replicas ≡ c.args.settings.now.replicas = c.requires.is.all ∙ ap (λ (s : Settings). s.replicas) c.requires.is.settings_are in
     omega (arith, low, all)
+
+pub returns-in_ok-append-in-Ok-clause-drew : goal.returns-in_ok-append-in-Ok-clause-drew
+returns-in_ok-append-in-Ok-clause-drew g c = c.in-Ok.ensures.drew

@@ -6,7 +6,7 @@ use Rattle.hay_legal.specs.Known.{disk_count}
 use Rattle.hay_cluster.specs.Store.{Open}
 use Rattle.hay_logical.specs.Volumes.{Volume}
 use Rattle.hay_cluster.proofs.Lists.{one_fits}
-use Rattle.hay_cluster.proofs.ClosingStore.{given_arms, given_arms_in, given_contents, given_faults, given_fuses, given_in, given_sure, gives_back, stands_on, volumes_long}
+use Rattle.hay_cluster.proofs.ClosingStore.{given_arms, given_arms_in, given_contents, given_drawn, given_faults, given_fuses, given_in, given_sure, gives_back, stands_on, volumes_long}
 use Rattle.hay_cluster.proofs.cluster.Cluster.close.Goals as goal
 
 pub give_volumes-requires-after_bounds : goal.give_volumes-requires-after_bounds
@@ -166,3 +166,15 @@ returns-clause-other_lanes g c = λ n high.
 
 pub returns-clause-counted : goal.returns-clause-counted
 returns-clause-counted g c = c.give_seats.ensures.counted ∙ c.give_disk.ensures.counted ∙ c.give_volumes.ensures.counted
+
+pub returns-clause-drawn : goal.returns-clause-drawn
+returns-clause-drawn g c =
+    let disks = g.H.Shelf.disks c.give_seats.new.shelf in
+    let arms = g.H.Shelf.arms c.give_seats.new.shelf in
+    let mid = g.H.Shelf.disks c.give_disk.new.self in
+    let low = g.H.Shelf.disks c.give_volumes.new.shelf in
+    let inside : Open g.row.D.Denot g.row.D-Piece.Denot g.row.A.Denot = record { settings = c.self.inside.settings; directory = c.self.inside.directory; volumes = c.self.inside.volumes.items; arms = c.self.inside.seats.items } in
+    let first : IsGivenDisk g.D.Disk.Tells g.D.Disk.files g.D.Disk.drawn g.D.Disk.fault_count g.D.Disk.fuse_count (mid 0) c.self.inside.directory.disk = subst (λ (d : g.row.D.Denot). IsGivenDisk g.D.Disk.Tells g.D.Disk.files g.D.Disk.drawn g.D.Disk.fault_count g.D.Disk.fuse_count (mid 0) d) c.into_disk.ensures
+    (record { drawn_is = c.give_disk.ensures.drawn; files_are = c.give_disk.ensures.files; fault_count = c.give_disk.ensures.faults; fuse_count = c.give_disk.ensures.fuses; back = c.give_disk.ensures.back }) in
+    let gives = gives_back g.D.Disk.Tells g.D.Disk.files g.D.Disk.drawn g.D.Disk.fault_count g.D.Disk.fuse_count g.A.Arm.fault_count g.A.Arm.is_sure disks arms low mid inside c.args.self c.self.view_is c.self.invariant c.give_volumes.ensures.given c.give_disk.ensures.others first c.give_seats.ensures.slots c.give_seats.ensures.given in
+    λ tells. given_drawn g.D.Disk.Tells g.D.Disk.files g.D.Disk.drawn g.D.Disk.fault_count g.D.Disk.fuse_count g.A.Arm.fault_count g.A.Arm.is_sure disks arms tells c.args.self gives

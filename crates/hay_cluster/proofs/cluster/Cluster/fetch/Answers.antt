@@ -4,7 +4,6 @@ use Rattle.hay_needle.specs.declared.settings.Settings.{Settings}
 use Rattle.hay_legal.specs.Known.{NoneFalls, slot_of, volume_at}
 use Rattle.hay_reader.specs.Causes.{ComeFirst}
 use Rattle.hay_reader.specs.declared.seat.ReadReply.{ReadReply}
-use Rattle.hay_reader.specs.declared.seat.ReadReply.TheVariants as read
 use Rattle.hay_cluster.specs.Causes.{StaySure}
 use Rattle.hay_cluster.specs.Reads.{IsWhole, PassesFrom, PassesNoArm, PassesTo, ReadNoArm, ReadPasses, counts_of, outcomes_of}
 use Rattle.hay_cluster.specs.Store.{Open, disks_of}

@@ -9,6 +9,7 @@ use Rattle.hay_cluster.specs.declared.fault.ClusterFault.TheVariants.{Shelf, Fai
 use Rattle.hay_cluster.specs.Store.{disks_of}
 use Rattle.hay_cluster.proofs.Lists.{one_fits}
 use Rattle.hay_cluster.proofs.OpeningDamage.{opened_sound, opening_damaged, opening_failed}
+use Rattle.hay_cluster.proofs.OpeningDraws.{flushed_drew, opening_drew}
 use Rattle.hay_cluster.proofs.OpeningFound.{found_new}
 use Rattle.hay_cluster.proofs.OpeningLists.{passed_on}
 use Rattle.hay_cluster.proofs.OpeningStore.{MovedParts, opens_up}
@@ -252,3 +253,16 @@ pub returns-in-Ok-clause-settled : goal.returns-in-Ok-clause-settled
 returns-in-Ok-clause-settled g c =
     opened_settled g.D.Disk.Tells g.D.Disk.files g.D.Piece.Piece.Tells g.D.Disk.fault_count g.D.Disk.fuse_count g.A.Arm.fault_count c.args.settings c.assemble-cluster.result c.open_parts.new.self c.in-Ok._notes
     (c.open_parts.ensures.settings ∙ c.assemble-cluster.ensures.settings) c.open_parts.ensures.shape c.in-Ok.ensures.opened
+
+pub returns-in-Ok-clause-drew : goal.returns-in-Ok-clause-drew
+returns-in-Ok-clause-drew g c = λ tells.
+    let taken = is_taken g.D.Disk.Tells g.D.Disk.files g.D.Piece.Piece.Tells g.D.Disk.fault_count g.D.Disk.fuse_count g.A.Arm.fault_count g.D.Disk.drawn g.A.Arm.is_sure (g.H.Shelf.disks c.args.shelf.now) (g.H.Shelf.arms c.args.shelf.now) c.assemble-cluster.result c.in_ok-disks.disks.items c.in_ok-disks.seats.items c.assemble-cluster.ensures.shape c.assemble-cluster.ensures.fresh c.assemble-cluster.ensures.closed c.assemble-cluster.ensures.unsure c.assemble-cluster.ensures.disks c.assemble-cluster.ensures.arms c.in_ok-disks.ensures.disks c.in_ok-disks.ensures.arms in
+    opening_drew g.D.Disk.files g.D.Disk.drawn g.D.Disk.Tells g.D.Piece.Piece.Tells g.D.Disk.fault_count g.D.Disk.fuse_count g.A.Arm.fault_count g.A.Arm.is_sure (g.H.Shelf.disks c.args.shelf.now) (g.H.Shelf.arms c.args.shelf.now) tells c.args.settings c.assemble-cluster.result c.open_parts.new.self
+    c.assemble-cluster.ensures.settings taken c.open_parts.ensures.shape c.open_parts.ensures.settings (c.in-Ok.ensures.drew tells)
+
+pub returns-in-Ok-clause-flushed : goal.returns-in-Ok-clause-flushed
+returns-in-Ok-clause-flushed g c = λ tells k finds.
+    let found = returns-in-Ok-clause-opened g c tells k finds in
+    let short = (g.met.D.Disk g.world.𝓛 g.world.𝓜 g.world.𝓡 ((λ s x. x), (λ x. x), (λ x. x), λ x. x)).fits in
+    flushed_drew g.D.Disk.files g.D.Disk.drawn g.D.Piece.Piece.Tells (λ disk n. short disk n tells) g.D.Disk.fault_count g.D.Disk.fuse_count g.A.Arm.fault_count c.args.settings (λ slot. (g.H.Shelf.disks c.args.shelf.now slot).drawn) c.open_parts.new.self k found.0
+    (c.open_parts.ensures.settings ∙ c.assemble-cluster.ensures.settings) finds.new found.1 found.2 (returns-in-Ok-clause-drew g c tells)

@@ -6,6 +6,7 @@ use Rattle.hay_reply.specs.declared.Note.{Note}
 use Rattle.hay_logical.specs.Stands.{IsIdleVolume}
 use Rattle.hay_logical.specs.Volumes.{Volume, IsClosed}
 use Rattle.hay_mount.specs.Mounts.{InOrder}
+use Rattle.hay_cluster.specs.Draws.{DrawsVolume}
 use Rattle.hay_cluster.specs.Opening.{MovesVolume, Gathers, OpensDirectory, OpensVolume, RefusesParts, RefusesVolumes}
 use Rattle.hay_cluster.specs.Store.{IsShaped, Open, IsVolumeOf}
 use Rattle.hay_cluster.proofs.Lists.{one_fits}
@@ -185,3 +186,14 @@ open_volumes-requires-after_bounds g c = λ κs lives.
         ),
       ),
     )
+
+pub returns-clause-drew : goal.returns-clause-drew
+returns-clause-drew g c = λ tells.
+    let R = λ (old new : Volume g.row.D.Denot g.row.D-Piece.Denot). DrawsVolume g.D.Disk.files g.D.Disk.drawn old new in
+    let items = c.self.inside.volumes.items in
+    let vs = c.open_volumes.new.volumes in
+    let long : length vs ≡ length items = (let same = c.open_volumes.auto.volumes in omega (arith, same, c.as_mut_slice.ensures.len, c.self.inside.volumes.ok.0)) in
+    let whole : take c.self.inside.volumes.len (vs ++ drop (length vs) items) ≡ vs = take_at vs (drop (length vs) items) c.self.inside.volumes.len (let here : length vs ≡ c.self.inside.volumes.len = omega (arith, long, c.self.inside.volumes.ok.0) in here) in
+    let zipped : AllZip R items vs = subst (λ (l : List (Volume g.row.D.Denot g.row.D-Piece.Denot)). AllZip R l vs) c.as_mut_slice.ensures.value (c.in_ok-notes.ensures.drew tells) in
+    subst (λ (st : Open g.row.D.Denot g.row.D-Piece.Denot g.row.A.Denot). AllZip R st.volumes (take c.self.inside.volumes.len (vs ++ drop (length vs) items))) c.self.view_is
+    (subst (λ (l : List (Volume g.row.D.Denot g.row.D-Piece.Denot)). AllZip R items l) (sym whole) zipped)

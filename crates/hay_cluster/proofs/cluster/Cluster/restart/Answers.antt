@@ -1,9 +1,10 @@
 use Rattle.std.proofs.Common.{◌≡◌, ℕ, refl, ◌∙◌}
-use Rattle.std.proofs.lemmas.Result.{IfErr-at_err, IfErr-weaker, IfOk-weaker}
+use Rattle.std.proofs.lemmas.Result.{IfErr-at_err, IfErr-weaker, IfOk-weaker, on_ok_weaker}
 use Rattle.hay_cluster.specs.declared.fault.ClusterFault.TheVariants.{Damaged, Failed}
 use Rattle.hay_cluster.specs.Outside.{IsDamagedDisk, IsUndamagedBelow}
 use Rattle.hay_cluster.specs.Store.{contents_in}
 use Rattle.hay_cluster.proofs.OpeningDamage.{restart_damaged, restart_failed, restart_sound}
+use Rattle.hay_cluster.proofs.OpeningDraws.{restart_drew}
 use Rattle.hay_cluster.proofs.OpeningStore.{MovedParts, StoppedParts, opens_up, restart_cause, restart_fuses, restart_later, restart_left, restart_opened, restart_whole, stops_closed, stops_idle}
 use Rattle.hay_cluster.proofs.Pending.{restart_tells, opened_fit, opened_settled}
 use Rattle.hay_cluster.proofs.cluster.Cluster.restart.Goals as goal
@@ -103,3 +104,8 @@ returns-clause-settled g c =
     IfOk-weaker c.open_parts.result _ _
     (λ notes opens. opened_settled g.D.Disk.Tells g.D.Disk.files g.D.Piece.Piece.Tells g.D.Disk.fault_count g.D.Disk.fuse_count g.A.Arm.fault_count (c.args.self.now).settings c.stop.new.self c.open_parts.new.self notes
     (c.open_parts.ensures.settings ∙ c.stop.ensures.settings) c.open_parts.ensures.shape opens) c.open_parts.ensures.opened
+
+pub returns-clause-drew : goal.returns-clause-drew
+returns-clause-drew g c = λ tells.
+    on_ok_weaker c.open_parts.result
+    (λ all. restart_drew g.D.Disk.files g.D.Disk.drawn c.args.self.now c.stop.new.self c.open_parts.new.self c.stop.ensures.shape c.open_parts.ensures.shape c.stop.ensures.settings c.open_parts.ensures.settings (c.stop.ensures.drawn tells) all) (c.open_parts.ensures.drew tells)
