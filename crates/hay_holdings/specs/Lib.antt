@@ -1,0 +1,4 @@
+pub mod Holdings
+pub mod Volumes
+pub mod Rows
+pub mod Sights
