@@ -1,0 +1,5 @@
+pub mod Lists
+pub mod Calls
+pub mod Going
+pub mod Finding
+pub mod Puts

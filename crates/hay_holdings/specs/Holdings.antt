@@ -11,9 +11,9 @@ abbrev pub doings_in : {E : Type 0} → List E → Option E → List (Doing E)
 doings_in held None = []
 doings_in held (Some act) = record { held = held; act = act } ∷ []
 
-module _ {S E X T : Type 0} (lock : Lock S E X T) where
+module _ {S E X T : Type 0} (lock : Lock S E X T) (tag : CoreTag) where
   -- A holding for the line found these acts and made this one, if it made one. Behind it the seats know all of that.
-  pub record Holding (tag : CoreTag) (a b : LockSight E X) (held : List E) (made : Option E) : Type 0 where
+  pub record Holding (held : List E) (made : Option E) (a b : LockSight E X) : Type 0 where
     pub from : IsPrefix a.seen held
     pub shown_from : IsPrefix a.shown (entries lock held)
     pub seen : b.seen ≡ held ++ acts_in made
@@ -23,10 +23,10 @@ module _ {S E X T : Type 0} (lock : Lock S E X T) where
     pub seats : Each (λ act. lock.seat act ≡ tag.lane) (acts_in made)
 
   -- One holding, of which this is so.
-  pub record Called (tag : CoreTag) (IsSo : List E → Option E → Type 0) (a b : LockSight E X) : Type 0 where
+  pub record Called (IsSo : List E → Option E → Type 0) (a b : LockSight E X) : Type 0 where
     pub held : List E
     pub made : Option E
-    pub holding : Holding tag a b held made
+    pub holding : Holding held made a b
     pub is : IsSo held made
 
 -- A look at the view without the lock, which may show more than the one before.

@@ -1,5 +1,5 @@
--- What one call at the Directory found and did, by its answer. A call looks at the view, or holds the lock once.
-use Rattle.std.specs.Prelude.{◌≡◌, ◌⊎◌, ℕ, ◌+◌, Bool, true, false, List, [], ◌∷◌, ◌++◌, length, Option, Some, None}
+-- What one call at the Directory found and did, by its answer, between two sights. A call looks at the view, or holds the lock once.
+use Rattle.std.specs.Prelude.{◌≡◌, ◌⊎◌, ℕ, ◌+◌, Bool, true, List, [], ◌∷◌, ◌++◌, length, Option, Some, None}
 use Rattle.hay_needle.specs.declared.needle.Pair.{Pair}
 use Rattle.hay_disk.specs.Counts.{Rose}
 use Rattle.hay_core.specs.declared.entry.CoreTag.{CoreTag}
@@ -14,6 +14,7 @@ use Rattle.hay_meeting.specs.Locks.{LockSight}
 use Rattle.hay_meeting.specs.Sights.{rows_stood}
 use Rattle.hay_holdings.specs.Holdings.{Called, Looked}
 
+-- it made one act, which did this
 abbrev pub MadeRow : RowDid → Option DirAct → Type 0
 MadeRow did None = ⊥
 MadeRow did (Some act) = row_did_of act.did ≡ did
@@ -23,15 +24,9 @@ abbrev pub MadeNoRow : Option DirAct → Type 0
 MadeNoRow None = Unit {0}
 MadeNoRow (Some act) = row_did_of act.did ≡ TriesRow
 
-module _ (start : Start) (tag : CoreTag) (a b : LockSight DirAct HomeRow) where
-  abbrev pub RowCall : (List DirAct → Option DirAct → Type 0) → Type 0
-  RowCall IsSo = Called row_lock tag IsSo a b
-
+module _ (start : Start) where
   abbrev pub rows_found : List DirAct → List HomeRow
   rows_found held = ((rows_stood start held).directory).rows
-
-  abbrev pub IsOpenDir : List DirAct → Type 0
-  IsOpenDir held = ((rows_stood start held).directory).frozen ≡ false
 
   -- in the act a call of the disk failed, and its count rose to f
   abbrev pub FailedRow : ℕ → List DirAct → Option DirAct → Type 0
@@ -40,38 +35,40 @@ module _ (start : Start) (tag : CoreTag) (a b : LockSight DirAct HomeRow) where
       Rose (rows_stood start held).faults (rows_stood start (held ++ act ∷ [])).faults × (f ≡ (rows_stood start (held ++ act ∷ [])).faults)
 
   -- A look at the view: how many rows it shows, and the home of the pair among them.
-  pub record HomeShown (pair : Pair) (d : ℕ) (home : Option ℕ) : Type 0 where
+  pub record HomeShown (pair : Pair) (d : ℕ) (home : Option ℕ) (a b : LockSight DirAct HomeRow) : Type 0 where
     pub looked : Looked a b
     pub front : d ≡ length (rows_shown start b.shown)
     pub is : home_in (rows_shown start b.shown) pair ≡ home
 
-  -- the pair had a home by then, at so many rows
-  abbrev pub MetHome : Pair → ℕ → ℕ → Type 0
-  MetHome pair v d = RowCall (λ held made. (made ≡ None) × (home_in (rows_found held) pair ≡ Some v) × (d ≡ length (rows_found held)))
+  module _ (tag : CoreTag) where
+    abbrev pub RowCall : (List DirAct → Option DirAct → Type 0) → LockSight DirAct HomeRow → LockSight DirAct HomeRow → Type 0
+    RowCall IsSo a b = Called row_lock tag IsSo a b
 
-  -- it added the row of its pair, which had none; there are so many rows then
-  abbrev pub RowAdded : Pair → ℕ → ℕ → Type 0
-  RowAdded pair v d = RowCall (λ held made.
-      MadeRow (AddsRow (record { pair = pair; volume = v })) made × IsOpenDir held × (home_in (rows_found held) pair ≡ None)
-      × (d ≡ length (rows_found (held)) + 1))
+    -- the pair had a home by then, at so many rows
+    abbrev pub MetHome : Pair → ℕ → ℕ → LockSight DirAct HomeRow → LockSight DirAct HomeRow → Type 0
+    MetHome pair v d = RowCall (λ held made. (made ≡ None) × (home_in (rows_found held) pair ≡ Some v) × (d ≡ length (rows_found held)))
 
-  abbrev pub MetFrozenDir : Pair → Type 0
-  MetFrozenDir pair = RowCall (λ held made.
-      (made ≡ None) × (((rows_stood start held).directory).frozen ≡ true) × (home_in (rows_found held) pair ≡ None))
+    -- it added the row of its pair, which had none; there are so many rows then
+    abbrev pub RowAdded : Pair → ℕ → ℕ → LockSight DirAct HomeRow → LockSight DirAct HomeRow → Type 0
+    RowAdded pair v d = RowCall (λ held made.
+        MadeRow (AddsRow (record { pair = pair; volume = v })) made × (home_in (rows_found held) pair ≡ None) × (d ≡ length (rows_found held) + 1))
 
-  abbrev pub RowFailed : Pair → ℕ → ℕ → Type 0
-  RowFailed pair v f = RowCall (λ held made. MadeRow (PendsRow (record { pair = pair; volume = v })) made × FailedRow f held made)
+    abbrev pub MetFrozenDir : LockSight DirAct HomeRow → LockSight DirAct HomeRow → Type 0
+    MetFrozenDir = RowCall (λ held made. (made ≡ None) × (((rows_stood start held).directory).frozen ≡ true))
 
-  -- for want of memory nothing was changed, or the Directory is frozen with the row pending
-  abbrev pub RowWanted : Pair → ℕ → Type 0
-  RowWanted pair v = RowCall (λ held made. MadeNoRow made ⊎ MadeRow (PendsRow (record { pair = pair; volume = v })) made)
+    abbrev pub RowFailed : Pair → ℕ → ℕ → LockSight DirAct HomeRow → LockSight DirAct HomeRow → Type 0
+    RowFailed pair v f = RowCall (λ held made. MadeRow (PendsRow (record { pair = pair; volume = v })) made × FailedRow f held made)
 
-  abbrev pub Drained : ℕ → Bool → Type 0
-  Drained m is = RowCall (λ held made. MadeRow (Drains m is) made)
+    -- for want of memory nothing was changed, or the Directory is frozen with the row pending
+    abbrev pub RowWanted : Pair → ℕ → LockSight DirAct HomeRow → LockSight DirAct HomeRow → Type 0
+    RowWanted pair v = RowCall (λ held made. MadeNoRow made ⊎ MadeRow (PendsRow (record { pair = pair; volume = v })) made)
 
-  abbrev pub FusedDir : Type 0
-  FusedDir = RowCall (λ held made. MadeRow FusesRow made)
+    abbrev pub Drained : ℕ → Bool → LockSight DirAct HomeRow → LockSight DirAct HomeRow → Type 0
+    Drained m is = RowCall (λ held made. MadeRow (Drains m is) made)
 
-  -- how many rows there are
-  abbrev pub RowsCounted : ℕ → Type 0
-  RowsCounted d = RowCall (λ held made. (made ≡ None) × (d ≡ length (rows_found held)))
+    abbrev pub FusedDir : LockSight DirAct HomeRow → LockSight DirAct HomeRow → Type 0
+    FusedDir = RowCall (λ held made. MadeRow FusesRow made)
+
+    -- a call that changed nothing, as for want of memory
+    abbrev pub NoRowDone : LockSight DirAct HomeRow → LockSight DirAct HomeRow → Type 0
+    NoRowDone = RowCall (λ held made. MadeNoRow made)
