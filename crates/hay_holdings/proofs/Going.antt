@@ -1,6 +1,7 @@
 -- One call of a line as a step, and steps one after the other.
 use Rattle.std.proofs.Common.{◌≡◌, ◌≢◌, inl, inr, ℕ, ◌≤◌, Bool, true, false, cond, List, [], ◌∷◌, ◌++◌, refl, sym, ap, subst, ◌∙◌, arith, append-nil, Option, Some, None}
 use Rattle.std.specs.Prelude.{◌==◌}
+use Rattle.std.specs.List.{AllByRecursion as Each}
 use Rattle.std.proofs.lemmas.Bool.{eq-eqb, ne_eqb}
 use mathlib.Core.Logic.{dite}
 use native.Mathlib.Decide.{ℕ_discrete}
@@ -46,6 +47,9 @@ changed_other v ds u differs = ap changed (on_other v ds u differs)
 
 pub changed_nowhere : (v : ℕ) (ds : List (Doing VolumeAct)) → changed ds ≡ [] → (u : ℕ) → changed (on_volume v ds u) ≡ []
 changed_nowhere v ds none u = elim (u == v) as (λ (b : Bool). changed (cond b ds []) ≡ []) [ true ↦ none | false ↦ refl ]
+
+pub on_each : (v : ℕ) (P : Doing VolumeAct → Type 0) (ds : List (Doing VolumeAct)) → Each P ds → Each P (on_volume v ds v)
+on_each v P ds each = subst (Each P) (sym (on_here v ds)) each
 
 -- the only doing there is the last one
 pub last_here : (v : ℕ) (doing : Doing VolumeAct) → IsLastDoing (on_volume v (doing ∷ []) v) doing

@@ -3,3 +3,8 @@ pub mod Calls
 pub mod Going
 pub mod Finding
 pub mod Puts
+pub mod Dels
+pub mod Nothings
+pub mod Works
+pub mod Compacts
+pub mod Reads

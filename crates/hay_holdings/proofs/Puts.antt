@@ -155,7 +155,7 @@ module _ {settings : Settings} {start : Start} {drained : List Bool} {tag : Core
   module _ {pair : Pair} {size v : ℕ} {a m b : Sight} (has : HasTaker settings start drained tag pair size v a m) where
     pub adds_row : {d : ℕ} → AtDirectory (RowAdded start tag pair v d) m b → Settled settings start drained tag pair size d v a b
     adds_row {d} x =
-        let acts = acted_on_rows (λ held none. none.0) x in
+        let acts = acted_on_rows x (λ held none. none.0) in
         let doing : Doing DirAct = acts.doing in
         let row : HomeRow = record { pair = pair; volume = v } in
         let is : row_did_of (doing.act).did ≡ AddsRow row = (acts.is).0 in
@@ -226,13 +226,13 @@ module _ {settings : Settings} {start : Start} {drained : List Bool} {tag : Core
         }
 
     -- the row is pending
-    row_pends : {item : LaneItem} (doing : Doing DirAct) → IsLaterSight m b → row_did_of (doing.act).did ≡ PendsRow (record { pair = pair; volume = v })
+    abbrev row_pends : {item : LaneItem} (doing : Doing DirAct) → IsLaterSight m b → row_did_of (doing.act).did ≡ PendsRow (record { pair = pair; volume = v })
         → RowPendsHere settings start drained item a b (only_rows (doing ∷ [])) pair (length bytes)
     row_pends doing later is = record { v = v; doing = one_row_doing doing is refl; taker = taker_at later }
 
     pub put_failed_dir : {f : ℕ} → AtDirectory (RowFailed start tag pair v f) m b → IsAnswered settings start drained tag (command.Put pair bytes) (FailedDir f) a b
     put_failed_dir x =
-        let acts = acted_on_rows (λ held none. none.0) x in record {
+        let acts = acted_on_rows x (λ held none. none.0) in record {
           doings = only_rows (acts.doing ∷ []);
           work = work_of (went_more has.idle acts.went);
           did = record {
@@ -299,7 +299,7 @@ module _ {settings : Settings} {start : Start} {drained : List Bool} {tag : Core
     pub put_stored : {cookie : Cookie} {p : ℕ} → drained_in settings drained v ≡ None → cookie ≡ cookie_of settings.secret pair.key
         → AtVolume v (PutStored settings start v tag pair cookie bytes p) m b → IsAnswered settings start drained tag (command.Put pair bytes) (Stored v p d cookie) a b
     put_stored {cookie} {p} open_machines own x =
-        let acts = acted_at (λ held none. none.0) x in
+        let acts = acted_at x (λ held none. none.0) in
         let doing : Doing VolumeAct = acts.doing in
         let later : IsLaterSight m b = went_later acts.went in record {
           doings = doings_at v (doing ∷ []) settled.rows;
@@ -320,7 +320,7 @@ module _ {settings : Settings} {start : Start} {drained : List Bool} {tag : Core
         → AtVolume v (PutFailed settings start v tag pair (cookie_of settings.secret pair.key) bytes machine f) m b
         → IsAnswered settings start drained tag (command.Put pair bytes) (Failed v machine f) a b
     put_failed {machine} {f} open_machines x =
-        let acts = acted_at (λ held none. none.0) x in
+        let acts = acted_at x (λ held none. none.0) in
         let doing : Doing VolumeAct = acts.doing in
         let failed = (acts.is).2 in
         let later : IsLaterSight m b = went_later acts.went in record {

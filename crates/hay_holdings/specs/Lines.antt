@@ -1,8 +1,11 @@
 -- How far a line has come between two sights of its lane.
-use Rattle.std.specs.Prelude.{◌≡◌, ◌⊎◌, ℕ, ◌+◌, ◌-◌, ◌^◌, ◌<◌, ◌≤◌, Bool, true, false, List, [], ◌∷◌, ◌++◌, length, count_by, Contains, Option, Some, None}
+use Rattle.std.specs.Prelude.{◌≡◌, ◌⊎◌, ℕ, ◌+◌, ◌-◌, ◌^◌, ◌<◌, ◌≤◌, Bool, true, List, [], ◌∷◌, count_by, Contains, Some, None}
 use Rattle.std.specs.List.{AllZip, AllByRecursion as Each}
 use Rattle.hay_needle.specs.declared.needle.Pair.{Pair}
+use Rattle.hay_needle.specs.declared.needle.Cookie.{Cookie}
+use Rattle.hay_needle.specs.declared.needle.Outcome.{Outcome}
 use Rattle.hay_needle.specs.declared.settings.Settings.{Settings}
+use Rattle.hay_needle.specs.Tables.{outcome_at}
 use Rattle.hay_script.specs.declared.Command.{Command}
 use Rattle.hay_reply.specs.declared.Refused.{Refused}
 use Rattle.hay_reply.specs.declared.Cause.{Cause}
@@ -21,10 +24,10 @@ use Rattle.hay_history.specs.Steps.RowDid.{AddsRow}
 use Rattle.hay_meeting.specs.declared.act.DirAct.{DirAct}
 use Rattle.hay_meeting.specs.declared.act.VolumeAct.{VolumeAct}
 use Rattle.hay_meeting.specs.Acts.{Start, did_of}
-use Rattle.hay_meeting.specs.Facts.{FoundRefusal, FoundTaker, OneRowDoing, SawHome, changed, changed_rows, drained_in, volume_stood}
-use Rattle.hay_meeting.specs.Locks.{Doing, LockSight, past}
-use Rattle.hay_meeting.specs.Replies.{AnsweredHere}
-use Rattle.hay_meeting.specs.Sights.{Sight}
+use Rattle.hay_meeting.specs.Facts.{FoundRefusal, FoundTaker, OneRowDoing, SawHome, changed, changed_rows, drained_in, front_shown, table_shown, volume_stood}
+use Rattle.hay_meeting.specs.Locks.{Doing, IsLaterAt, LockSight, past}
+use Rattle.hay_meeting.specs.Replies.{AnsweredHere, ShowDidHere}
+use Rattle.hay_meeting.specs.Sights.{Doings, Sight}
 use Rattle.hay_holdings.specs.Sights.{Idle, Went, doings_at, only_rows}
 use Rattle.hay_holdings.specs.Volumes.{Call, HasRunOf, RoseTo}
 
@@ -36,6 +39,13 @@ line_of tag item reply = record { line = tag.line; lane = tag.lane; item = item;
 -- the line of this command was answered so between the sights
 abbrev pub IsAnswered : Settings → Start → List Bool → CoreTag → Command → Reply → Sight → Sight → Type 0
 IsAnswered settings start drained tag command reply a b = AnsweredHere settings start drained (line_of tag (asks.Command command) reply) a b
+
+-- It changed nothing, though it may have acted.
+pub record Unchanged (tag : CoreTag) (a b : Sight) : Type 0 where
+  pub doings : Doings
+  pub went : Went tag a b doings
+  pub volumes : (v : ℕ) → changed (doings.volumes v) ≡ []
+  pub rows : changed_rows doings.rows ≡ []
 
 -- A HOLDING THAT FOUND THE VOLUME CLOSED
 
@@ -84,26 +94,46 @@ module _ (settings : Settings) (start : Start) (drained : List Bool) (tag : Core
 
   -- READS
 
+  -- a call of the disk of replica j failed in one of these doings
+  abbrev pub LookFailed : ℕ → List (Doing VolumeAct) → ℕ → ℕ → Type 0
+  LookFailed v doings j f = (doing : Doing VolumeAct) × Contains doings doing × RoseTo settings start v j f doing
+
   -- a replica was passed over, since a fetch failed or a call of its disk did
-  abbrev pub PassedFor : ℕ → List (Doing VolumeAct) → ℕ → Cause → Sight → Sight → Type 0
-  PassedFor v doings j (Arm f) a b = CameUp a.arm f b.arm
-  PassedFor v doings j (Disk f) a b = (doing : Doing VolumeAct) × Contains doings doing × RoseTo settings start v j f doing
-  PassedFor v doings j (Damage at) a b = ⊥
+  abbrev pub PassedFor : ℕ → List (Doing VolumeAct) → Sight → Sight → ℕ → Cause → Type 0
+  PassedFor v doings a b j (Arm f) = CameUp a.arm f b.arm
+  PassedFor v doings a b j (Disk f) = LookFailed v doings j f
+  PassedFor v doings a b j (Damage at) = ⊥
 
-  abbrev pub is_arm : Cause → Bool
-  is_arm (Arm f) = true
-  is_arm (Disk f) = false
-  is_arm (Damage at) = false
-
-  -- It saw this home of its pair, looked at places of it alone, and passed these replicas over, for these causes.
-  pub record Passed (pair : Pair) (d v : ℕ) (replicas : List ℕ) (causes : List Cause) (a b : Sight) : Type 0 where
+  -- It saw this home of its pair, looked at places of it alone, and passed these replicas over, for these causes. Those that were not
+  -- passed over for their disk were for the arm.
+  pub record PassedOver (pair : Pair) (d v : ℕ) (replicas : List ℕ) (causes : List Cause) (a b : Sight) : Type 0 where
     pub home : SawHome settings start drained a b pair d (Some v)
     pub doings : List (Doing VolumeAct)
     pub went : Went tag a b (doings_at v doings [])
     pub tries : Each (λ doing. did_of (doing.act).did ≡ Tries) doings
-    pub each : AllZip (λ j cause. PassedFor v doings j cause a b) replicas causes
+    pub each : AllZip (PassedFor v doings a b) replicas causes
     pub rises : EachPair ArmRises causes
-    pub arm : (a.arm + count_by is_arm causes ≤ b.arm) ⊎ (b.arm ≡ 2 ^ 64 - 1)
+    pub to_arm : ℕ → Bool
+    pub arm : (a.arm + count_by to_arm replicas ≤ b.arm) ⊎ (b.arm ≡ 2 ^ 64 - 1)
+    pub disks : (j : ℕ) → (to_arm j ≡ true) ⊎ ((f : ℕ) × LookFailed v doings j f)
+
+  -- its last look at the volume's view showed this front, and there this at the pair by replica
+  pub record Shows (pair : Pair) (v p : ℕ) (what : ℕ → Outcome) (a b : Sight) : Type 0 where
+    pub sight : LockSight VolumeAct Entry
+    pub from : IsLaterAt (a.volumes v) sight
+    pub to : IsLaterAt sight (b.volumes v)
+    pub front : p ≡ front_shown start v sight.shown
+    pub is : (j : ℕ) → j < settings.replicas → what j ≡ outcome_at (table_shown start v j sight.shown) pair
+
+  pub record Looking (pair : Pair) (d v p : ℕ) (what : ℕ → Outcome) (replicas : List ℕ) (causes : List Cause) (a b : Sight) : Type 0 where
+    pub passed : PassedOver pair d v replicas causes a b
+    pub shows : Shows pair v p what a b
+
+  -- the reader that starts at this replica is answered so
+  pub record ShowsAs (first : ℕ) (pair : Pair) (cookie : Cookie) (reply : Reply) (a b : Sight) : Type 0 where
+    pub doings : Doings
+    pub went : Went tag a b doings
+    pub did : (item : LaneItem) → ShowDidHere settings start drained item a b doings first pair cookie reply
 
   -- COMPACTIONS
 
