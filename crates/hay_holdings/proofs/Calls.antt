@@ -1,11 +1,10 @@
 -- What one call at a lock tells: of a holding, and of a look at the view.
-use Rattle.std.proofs.Common.{◌≡◌, inl, inr, ℕ, Bool, true, false, cond, List, [], ◌∷◌, ◌++◌, length, refl, sym, ap, subst, ◌∙◌, append-nil, Option, Some, None}
+use Rattle.std.proofs.Common.{◌≡◌, Bool, true, cond, List, [], ◌∷◌, ◌++◌, refl, sym, ap, subst, ◌∙◌, append-nil, Option, Some, None}
 use Rattle.std.specs.List.{AllByRecursion as Each}
 use mathlib.Core.List.{IsPrefix}
 use Rattle.hay_core.specs.declared.entry.CoreTag.{CoreTag}
 use Rattle.hay_history.specs.Steps.{Did, RowDid}
 use Rattle.hay_history.specs.Steps.Did.{Tries}
-use Rattle.hay_history.specs.Steps.RowDid.{TriesRow}
 use Rattle.hay_history.specs.Histories.{changes_it, changes_rows}
 use Rattle.hay_turn.specs.Slots.{acts_in}
 use Rattle.hay_turn.proofs.Prefixes.{prefix_self, prefix_trans}
@@ -22,7 +21,7 @@ use Rattle.hay_holdings.specs.Volumes.{MadeNothing}
 
 -- ONE HOLDING
 
-module _ {S E X T : Type 0} (lock : Lock S E X T) {tag : CoreTag} where
+module _ {S E X T : Type 0} (lock : Lock S E X T) (tag : CoreTag) where
   -- one holding that acted
   pub record Acted (IsSo : List E → Option E → Type 0) (a b : LockSight E X) : Type 0 where
     pub held : List E
@@ -30,12 +29,13 @@ module _ {S E X T : Type 0} (lock : Lock S E X T) {tag : CoreTag} where
     pub holding : Holding lock tag held (Some act) a b
     pub is : IsSo held (Some act)
 
+module _ {S E X T : Type 0} (lock : Lock S E X T) {tag : CoreTag} where
   acted_by : {IsSo : List E → Option E → Type 0} {a b : LockSight E X} (held : List E) (made : Option E) → (IsSo held None → ⊥)
-      → Holding lock tag held made a b → IsSo held made → Acted IsSo a b
+      → Holding lock tag held made a b → IsSo held made → Acted lock tag IsSo a b
   acted_by held None some x is = absurd (some is)
   acted_by held (Some act) some x is = record { held = held; act = act; holding = x; is = is }
 
-  pub acted : {IsSo : List E → Option E → Type 0} {a b : LockSight E X} → ((held : List E) → IsSo held None → ⊥) → Called lock tag IsSo a b → Acted IsSo a b
+  pub acted : {IsSo : List E → Option E → Type 0} {a b : LockSight E X} → ((held : List E) → IsSo held None → ⊥) → Called lock tag IsSo a b → Acted lock tag IsSo a b
   acted some x = acted_by x.held x.made (some x.held) x.holding x.is
 
   module _ {held : List E} {made : Option E} {a b : LockSight E X} (x : Holding lock tag held made a b) where

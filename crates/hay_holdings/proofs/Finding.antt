@@ -1,5 +1,5 @@
 -- What one call of a line found or did, in the terms of the line's facts.
-use Rattle.std.proofs.Common.{◌≡◌, ℕ, ◌<◌, Bool, true, List, [], ◌∷◌, refl, sym, ap, subst, ◌∙◌, Contains, Option, Some, None}
+use Rattle.std.proofs.Common.{◌≡◌, ℕ, ◌<◌, Bool, true, List, [], ◌∷◌, sym, ap, subst, ◌∙◌, Contains, Option, Some, None}
 use Rattle.hay_needle.specs.declared.needle.Pair.{Pair}
 use Rattle.hay_needle.specs.declared.settings.Settings.{Settings}
 use Rattle.hay_core.specs.declared.entry.CoreTag.{CoreTag}
@@ -89,9 +89,10 @@ module _ {settings : Settings} {start : Start} {drained : List Bool} {tag : Core
       → (x : AtVolume v (λ a b. Called volume_lock tag IsSo a b) a b) → IsThen (x.is).held → Found settings start drained a b v IsThen
   found_at below x is = record { below = below; held = (x.is).held; between = holding_held volume_lock (x.is).holding; is = is }
 
-  -- in the view of the Directory
-  abbrev pub home_seen : {pair : Pair} {d : ℕ} {home : Option ℕ} → AtDirectory (HomeShown start pair d home) a b → SawHome settings start drained a b pair d home
-  home_seen x = record { sight = b.directory; from = looked_later (x.is).looked; to = same_at b.directory; front = (x.is).front; is = (x.is).is }
+-- in the view of the Directory
+abbrev pub home_seen : {settings : Settings} {start : Start} {drained : List Bool} {a b : Sight} {pair : Pair} {d : ℕ} {home : Option ℕ} → AtDirectory (HomeShown start pair d home) a b
+    → SawHome settings start drained a b pair d home
+home_seen {b = b} x = record { sight = b.directory; from = looked_later (x.is).looked; to = same_at b.directory; front = (x.is).front; is = (x.is).is }
 
 -- where it is not frozen and no machine of it is drained
 module _ (settings : Settings) (start : Start) (drained : List Bool) (v : ℕ) (held : List VolumeAct) (open_machines : drained_in settings drained v ≡ None) where

@@ -1,5 +1,5 @@
 -- One call of a line as a step, and steps one after the other.
-use Rattle.std.proofs.Common.{◌≡◌, ◌≢◌, inl, inr, ℕ, ◌≤◌, Bool, true, false, cond, List, [], ◌∷◌, ◌++◌, refl, sym, ap, subst, ◌∙◌, arith, append-nil, Option, Some, None}
+use Rattle.std.proofs.Common.{◌≡◌, ◌≢◌, ℕ, Bool, true, false, cond, List, [], ◌∷◌, ◌++◌, refl, sym, ap, subst, ◌∙◌, arith, append-nil, Option, None}
 use Rattle.std.specs.Prelude.{◌==◌}
 use Rattle.std.specs.List.{AllByRecursion as Each}
 use Rattle.std.proofs.lemmas.Bool.{eq-eqb, ne_eqb}
@@ -21,7 +21,6 @@ use Rattle.hay_meeting.proofs.Phases.{and_then, only_saw, worked_more}
 use Rattle.hay_holdings.specs.Holdings.{Called, Looked, doings_in}
 use Rattle.hay_holdings.specs.Lines.{line_of}
 use Rattle.hay_holdings.specs.Sights.{AtArm, AtDirectory, AtVolume, Idle, Went, doings_at, no_doings, on_volume, only_rows}
-use Rattle.hay_holdings.specs.Volumes.{Call}
 use Rattle.hay_holdings.proofs.Calls.{holding_worked, looked_worked}
 
 -- DOINGS ON ONE VOLUME
@@ -33,7 +32,7 @@ pub on_other : (v : ℕ) (ds : List (Doing VolumeAct)) (u : ℕ) → u ≢ v →
 on_other v ds u differs = ap (λ (b : Bool). cond b ds []) (ne_eqb u v differs)
 
 pub on_none : (v u : ℕ) → on_volume v [] u ≡ []
-on_none v u = elim (u == v) as (λ (b : Bool). cond b [] [] ≡ []) [ true ↦ refl | false ↦ refl ]
+on_none v u = elim (u == v) as (λ (b : Bool). cond {A = List (Doing VolumeAct)} b [] [] ≡ []) [ true ↦ refl | false ↦ refl ]
 
 pub on_both : (v : ℕ) (ds es : List (Doing VolumeAct)) (u : ℕ) → on_volume v ds u ++ on_volume v es u ≡ on_volume v (ds ++ es) u
 on_both v ds es u = elim (u == v) as (λ (b : Bool). cond b ds [] ++ cond b es [] ≡ cond b (ds ++ es) []) [ true ↦ refl | false ↦ refl ]
@@ -83,14 +82,14 @@ pub went_idle : {tag : CoreTag} {a m b : Sight} {d : Doings} → Went tag a m d 
 went_idle {d = d} x y = went_same d (λ v. append-nil (d.volumes v)) (append-nil d.rows) (went_more x y)
 
 -- first rows, and then on a volume
-pub went_rows_at : {tag : CoreTag} {a m b : Sight} {rows : List (Doing DirAct)} {v : ℕ} {ds : List (Doing VolumeAct)}
+pub went_rows_at : {tag : CoreTag} {a m b : Sight} {rows : List (Doing DirAct)} (v : ℕ) (ds : List (Doing VolumeAct))
     → Went tag a m (only_rows rows) → Went tag m b (doings_at v ds []) → Went tag a b (doings_at v ds rows)
-went_rows_at {rows = rows} {v = v} {ds = ds} x y = went_same (doings_at v ds rows) (λ u. refl) (append-nil rows) (went_more x y)
+went_rows_at {rows = rows} v ds x y = went_same (doings_at v ds rows) (λ u. refl) (append-nil rows) (went_more x y)
 
 -- twice on a volume
-pub went_at_both : {tag : CoreTag} {a m b : Sight} {v : ℕ} {ds es : List (Doing VolumeAct)}
+pub went_at_both : {tag : CoreTag} {a m b : Sight} (v : ℕ) (ds es : List (Doing VolumeAct))
     → Went tag a m (doings_at v ds []) → Went tag m b (doings_at v es []) → Went tag a b (doings_at v (ds ++ es) [])
-went_at_both {v = v} {ds = ds} {es = es} x y = went_same (doings_at v (ds ++ es) []) (λ u. on_both v ds es u) refl (went_more x y)
+went_at_both v ds es x y = went_same (doings_at v (ds ++ es) []) (λ u. on_both v ds es u) refl (went_more x y)
 
 same_worked : {S E X T : Type 0} (lock : Lock S E X T) {tag : CoreTag} {a b : LockSight E X} → b ≡ a → Worked lock tag a b []
 same_worked lock {tag} {a} same = subst (λ z. Worked lock tag a z []) (sym same) (only_saw lock (same_at a) refl)
@@ -118,17 +117,17 @@ pub call_went : {tag : CoreTag} {v : ℕ} {IsSo : List VolumeAct → Option Volu
 call_went x = volume_went (doings_in (x.is).held (x.is).made) x (holding_worked volume_lock (x.is).held (x.is).made (x.is).holding)
 
 -- one that made no act
-pub idle_none : {tag : CoreTag} {a b : Sight} {v : ℕ} → Went tag a b (doings_at v [] []) → Idle tag a b
-idle_none {v = v} x = went_same no_doings (on_none v) refl x
+pub idle_none : {tag : CoreTag} {a b : Sight} (v : ℕ) → Went tag a b (doings_at v [] []) → Idle tag a b
+idle_none v x = went_same no_doings (on_none v) refl x
 
 pub quiet_went : {tag : CoreTag} {v : ℕ} {IsSo : List VolumeAct → Option VolumeAct → Type 0} {s t : Sight}
     (x : AtVolume v (λ a b. Called volume_lock tag IsSo a b) s t) → (x.is).made ≡ None → Idle tag s t
-quiet_went {tag} {v} {IsSo} {s} {t} x none = idle_none (subst (λ made. Went tag s t (doings_at v (doings_in (x.is).held made) [])) none (call_went x))
+quiet_went {tag} {v} {IsSo} {s} {t} x none = idle_none v (subst (λ made. Went tag s t (doings_at v (doings_in (x.is).held made) [])) none (call_went x))
 
 -- a look
 pub look_went : {tag : CoreTag} {v : ℕ} {Is : LockSight VolumeAct Entry → LockSight VolumeAct Entry → Type 0} {s t : Sight}
     (x : AtVolume v Is s t) → Looked (s.volumes v) (t.volumes v) → Idle tag s t
-look_went x looked = idle_none (volume_went [] x (looked_worked looked volume_lock))
+look_went {v = v} x looked = idle_none v (volume_went [] x (looked_worked looked volume_lock))
 
 -- A CALL AT THE DIRECTORY, AND AT THE ARM
 

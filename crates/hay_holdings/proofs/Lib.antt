@@ -2,9 +2,9 @@ pub mod Lists
 pub mod Calls
 pub mod Going
 pub mod Finding
-pub mod Puts
-pub mod Dels
-pub mod Nothings
-pub mod Works
-pub mod Compacts
-pub mod Reads
+pub mod Unchanged
+pub mod PutAnswers
+pub mod DelAnswers
+pub mod ReadAnswers
+pub mod WorkAnswers
+pub mod CompactAnswers

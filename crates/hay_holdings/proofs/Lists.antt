@@ -1,5 +1,5 @@
 -- Lists in parts: what comes before an item, and lists side by side.
-use Rattle.std.proofs.Common.{◌≡◌, ◌⊎◌, inl, inr, ℕ, zero, suc, ◌+◌, ◌<◌, ◌≤◌, Bool, true, false, cond, List, [], ◌∷◌, ◌++◌, length, refl, sym, ap, subst, ◌∙◌, arith, count_by, Contains, take, take_while}
+use Rattle.std.proofs.Common.{◌≡◌, ◌⊎◌, inl, inr, ℕ, ◌+◌, ◌≤◌, Bool, true, false, cond, List, [], ◌∷◌, ◌++◌, length, refl, sym, ap, subst, ◌∙◌, arith, count_by, Contains, take, take_while}
 use Rattle.std.specs.List.{AllZip, AllByRecursion as Each}
 use Rattle.std.proofs.lemmas.List.Elements.{Contains-append_right}
 use Rattle.std.proofs.lemmas.List.Sums.{sum_by-cons, take_while-cons}
@@ -41,11 +41,14 @@ prefix_by_length xs ys zs p q le =
 
 -- HOW MANY PASS A TEST
 
-count_cons : {X : Type 0} (q : X → Bool) (x : X) (xs : List X) → count_by q (x ∷ xs) ≡ cond (q x) 1 0 + count_by q xs
-count_cons q x xs = sum_by-cons (λ y. cond (q y) 1 0) x xs
+abbrev one_if : Bool → ℕ
+one_if b = cond b 1 0
 
-one_at_most : (b : Bool) → cond b 1 0 ≤ 1
-one_at_most b = elim b as (λ (b : Bool). cond b 1 0 ≤ 1) [ true ↦ omega arith | false ↦ omega arith ]
+count_cons : {X : Type 0} (q : X → Bool) (x : X) (xs : List X) → count_by q (x ∷ xs) ≡ one_if (q x) + count_by q xs
+count_cons q x xs = sum_by-cons (λ y. one_if (q y)) x xs
+
+one_at_most : (b : Bool) → one_if b ≤ 1
+one_at_most b = elim b as (λ (b : Bool). one_if b ≤ 1) [ true ↦ omega arith | false ↦ omega arith ]
 
 -- of one item more, one more at most; none more where it fails
 pub count_more : {X : Type 0} (q : X → Bool) (xs : List X) (x : X) → count_by q (xs ++ x ∷ []) ≤ count_by q xs + 1
@@ -56,7 +59,7 @@ count_more q (y ∷ xs) x =
     let rest = count_more q xs x in omega (arith, e, more, rest)
 
 pub count_same : {X : Type 0} (q : X → Bool) (xs : List X) (x : X) → q x ≡ false → count_by q (xs ++ x ∷ []) ≤ count_by q xs
-count_same q [] x fails = let e = count_cons q x [] in let none : cond (q x) 1 0 ≡ 0 = ap (λ (b : Bool). cond b 1 0) fails in omega (arith, e, none)
+count_same q [] x fails = let e = count_cons q x [] in let none : one_if (q x) ≡ 0 = ap one_if fails in omega (arith, e, none)
 count_same q (y ∷ xs) x fails =
     let e = count_cons q y xs in
     let more = count_cons q y (xs ++ x ∷ []) in
@@ -70,8 +73,8 @@ count_fewer q r weaker (x ∷ xs) =
     let f = count_cons r x xs in
     let rest = count_fewer q r weaker xs in
     elim (weaker x) [
-      | inl same ↦ let at : cond (q x) 1 0 ≡ cond (r x) 1 0 = ap (λ (b : Bool). cond b 1 0) same in omega (arith, e, f, rest, at)
-      | inr fails ↦ let none : cond (q x) 1 0 ≡ 0 = ap (λ (b : Bool). cond b 1 0) fails in omega (arith, e, f, rest, none)
+      | inl same ↦ let at : one_if (q x) ≡ one_if (r x) = ap one_if same in omega (arith, e, f, rest, at)
+      | inr fails ↦ let none : one_if (q x) ≡ 0 = ap one_if fails in omega (arith, e, f, rest, none)
     ]
 
 -- of what is taken before an item that fails another test

@@ -1,6 +1,5 @@
 -- The answers of lines that changed nothing: for want of memory, nowhere, and to a line that is no command.
-use Rattle.std.proofs.Common.{◌≡◌, ◌≢◌, inl, inr, ℕ, ◌<◌, ◌≤◌, Bool, List, [], ◌∷◌, ◌++◌, refl, sym, ap, subst, ◌∙◌, Option, Some, None}
-use Rattle.std.proofs.lemmas.List.Elements.{filter-append}
+use Rattle.std.proofs.Common.{◌≡◌, ◌≢◌, inl, inr, ℕ, ◌≤◌, Bool, List, [], ◌++◌, refl, sym, ap, subst, ◌∙◌, Option, Some, None}
 use Rattle.hay_needle.specs.declared.settings.Settings.{Settings}
 use Rattle.hay_url.specs.declared.Url.{Url as UrlParts}
 use Rattle.hay_script.specs.declared.Command.{Command}
@@ -10,18 +9,17 @@ use Rattle.hay_core.specs.declared.entry.CoreTag.{CoreTag}
 use Rattle.hay_legal.specs.declared.turn.Item.TheVariants as asks
 use Rattle.hay_legal.specs.declared.turn.LaneItem.{LaneItem}
 use Rattle.hay_legal.specs.Known.{replica_on}
-use Rattle.hay_meeting.specs.declared.act.DirAct.{DirAct}
 use Rattle.hay_meeting.specs.declared.act.VolumeAct.{VolumeAct}
-use Rattle.hay_meeting.specs.Acts.{Start, row_lock, volume_lock}
+use Rattle.hay_meeting.specs.Acts.{Start}
 use Rattle.hay_meeting.specs.Facts.{NothingDone, changed, changed_rows}
 use Rattle.hay_meeting.specs.Locks.{Doing}
 use Rattle.hay_meeting.specs.Replies.{AnsweredHere, BeginDidHere, CommandDidHere, CompactDidHere, FinishDidHere, FlushDidHere, FuseDidHere, GetDidHere, StepDidHere}
-use Rattle.hay_meeting.specs.Sights.{Doings, Sight}
+use Rattle.hay_meeting.specs.Sights.{Sight}
 use Rattle.hay_meeting.proofs.Phases.{and_then, changed_both, changed_rows_both}
 use Rattle.hay_holdings.specs.Holdings.{doings_in}
 use Rattle.hay_holdings.specs.Lines.{IsAnswered, Unchanged, line_of}
 use Rattle.hay_holdings.specs.Rows.{NoRowDone}
-use Rattle.hay_holdings.specs.Sights.{AtDirectory, AtVolume, Idle, Went, doings_at, no_doings, only_rows}
+use Rattle.hay_holdings.specs.Sights.{AtDirectory, AtVolume, Idle, doings_at, no_doings, only_rows}
 use Rattle.hay_holdings.specs.Volumes.{NothingDone as NothingDoneThere}
 use Rattle.hay_holdings.proofs.Calls.{no_row_changed, nothing_changed}
 use Rattle.hay_holdings.proofs.Going.{call_went, changed_nowhere, row_call_went, went_more, work_of}
@@ -31,13 +29,13 @@ use Rattle.hay_holdings.proofs.Going.{call_went, changed_nowhere, row_call_went,
 pub idle_unchanged : {tag : CoreTag} {a b : Sight} → Idle tag a b → Unchanged tag a b
 idle_unchanged idle = record { doings = no_doings; went = idle; volumes = λ v. refl; rows = refl }
 
-pub call_unchanged : {settings : Settings} {start : Start} {v : ℕ} {tag : CoreTag} {a b : Sight} → AtVolume v (NothingDoneThere settings start v tag) a b → Unchanged tag a b
-call_unchanged {v = v} x =
+pub call_unchanged : (settings : Settings) (start : Start) {v : ℕ} {tag : CoreTag} {a b : Sight} → AtVolume v (NothingDoneThere settings start v tag) a b → Unchanged tag a b
+call_unchanged settings start {v = v} x =
     let ds : List (Doing VolumeAct) = doings_in (x.is).held (x.is).made in
     record { doings = doings_at v ds []; went = call_went x; volumes = changed_nowhere v ds (nothing_changed (x.is).held (x.is).made (x.is).is); rows = refl }
 
-pub row_call_unchanged : {start : Start} {tag : CoreTag} {a b : Sight} → AtDirectory (NoRowDone start tag) a b → Unchanged tag a b
-row_call_unchanged x = record {
+pub row_call_unchanged : (start : Start) {tag : CoreTag} {a b : Sight} → AtDirectory (NoRowDone start tag) a b → Unchanged tag a b
+row_call_unchanged start x = record {
   doings = only_rows (doings_in (x.is).held (x.is).made);
   went = row_call_went x;
   volumes = λ v. refl;
@@ -52,7 +50,7 @@ unchanged_more x y = record {
   rows = changed_rows_both (x.doings).rows (y.doings).rows ∙ (ap (λ ds. ds ++ changed_rows (y.doings).rows) x.rows ∙ y.rows);
 }
 
-module _ {settings : Settings} {start : Start} {drained : List Bool} {tag : CoreTag} {a b : Sight} (un : Unchanged tag a b) where
+module _ (settings : Settings) (start : Start) (drained : List Bool) {tag : CoreTag} {a b : Sight} (un : Unchanged tag a b) where
   nothing : NothingDone settings start drained a b un.doings
   nothing = (un.volumes, un.rows)
 

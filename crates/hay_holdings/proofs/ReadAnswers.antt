@@ -29,9 +29,9 @@ use Rattle.hay_history.specs.Histories.{changes_it}
 use Rattle.hay_history.proofs.Lists.{each_both, each_from, each_weaker, is_first, pair_append, zip_weaker}
 use Rattle.hay_meeting.specs.declared.act.VolumeAct.{VolumeAct}
 use Rattle.hay_meeting.specs.Acts.{Start, did_of}
-use Rattle.hay_meeting.specs.Facts.{NothingOn, changed, changed_rows}
+use Rattle.hay_meeting.specs.Facts.{NothingOn, RoseAt, changed, changed_rows}
 use Rattle.hay_meeting.specs.Locks.{Doing}
-use Rattle.hay_meeting.specs.Replies.{GetDidHere, LookFailedHere, LookFrozeHere, OnlyLooksHere, PassedForHere, PassedOverHere, ShowedHere}
+use Rattle.hay_meeting.specs.Replies.{GetDidHere, LookFailedHere, LookFrozeHere, PassedForHere, PassedOverHere, ShowedHere}
 use Rattle.hay_meeting.specs.Sights.{Doings, IsLaterSight, Sight}
 use Rattle.hay_meeting.proofs.Chaining.{later_at, same_at, same_sight}
 use Rattle.hay_meeting.proofs.Phases.{saw_home_wider}
@@ -39,7 +39,7 @@ use Rattle.hay_meeting.proofs.Picking.{pair_unmap}
 use Rattle.hay_holdings.specs.Holdings.{doings_in}
 use Rattle.hay_holdings.specs.Lines.{IsAnswered, LookFailed, Looking, PassedFor, PassedOver, Shows, ShowsAs, Unchanged, line_of}
 use Rattle.hay_holdings.specs.Rows.{HomeShown}
-use Rattle.hay_holdings.specs.Sights.{AtArm, AtDirectory, AtVolume, Idle, Went, doings_at, no_doings}
+use Rattle.hay_holdings.specs.Sights.{AtArm, AtDirectory, AtVolume, Idle, Went, doings_at, no_doings, on_volume}
 use Rattle.hay_holdings.specs.Volumes.{MadeNothing, MadeOne, NothingDone, ShownAt, SightFailed, SightWanted}
 use Rattle.hay_holdings.proofs.Calls.{only_tries}
 use Rattle.hay_holdings.proofs.Finding.{acted_at, home_seen, rose_at}
@@ -61,8 +61,8 @@ disk_behind f (Arm g) = tt
 disk_behind f (Disk g) = tt
 disk_behind f (Damage at) = tt
 
-module _ {settings : Settings} {start : Start} {drained : List Bool} {tag : CoreTag} where
-  module _ {pair : Pair} {d v : ℕ} where
+module _ (settings : Settings) (start : Start) (drained : List Bool) (tag : CoreTag) where
+  module _ (pair : Pair) (d v : ℕ) where
     abbrev Over : List ℕ → List Cause → Sight → Sight → Type 0
     Over js causes a b = PassedOver settings start drained tag pair d v js causes a b
 
@@ -88,11 +88,11 @@ module _ {settings : Settings} {start : Start} {drained : List Bool} {tag : Core
     -- IT GOES ON, and passes over none
 
     -- why a replica was passed over, with more doings and a later arm
-    passed_for : {a m b : Sight} (ds es : List (Doing VolumeAct)) (j : ℕ) (cause : Cause) → m.arm ≤ b.arm → PassedFor settings start drained tag v ds a m j cause
+    passed_for : (a m b : Sight) (ds es : List (Doing VolumeAct)) (j : ℕ) (cause : Cause) → m.arm ≤ b.arm → PassedFor settings start drained tag v ds a m j cause
         → PassedFor settings start drained tag v (ds ++ es) a b j cause
-    passed_for ds es j (Arm f) later has = let l = has.1 in (has.0, omega (arith, l, later))
-    passed_for ds es j (Disk f) later has = (has.0, Contains-append_left ds es has.0 has.1, has.2)
-    passed_for ds es j (Damage at) later has = has
+    passed_for a m b ds es j (Arm f) later has = let l = has.1 in (has.0, omega (arith, l, later))
+    passed_for a m b ds es j (Disk f) later has = (has.0, Contains-append_left ds es has.0 has.1, has.2)
+    passed_for a m b ds es j (Damage at) later has = has
 
     module _ {js : List ℕ} {causes : List Cause} {a m b : Sight} (over : Over js causes a m) where
       abbrev goes_on : (es : List (Doing VolumeAct)) → Went tag m b (doings_at v es []) → Each (λ doing. did_of (doing.act).did ≡ Tries) es
@@ -101,10 +101,10 @@ module _ {settings : Settings} {start : Start} {drained : List Bool} {tag : Core
           let later = went.arm in record {
             home = saw_home_wider (same_sight a) (went_later went) over.home;
             doings = over.doings ++ es;
-            went = went_at_both over.went went;
+            went = went_at_both v over.doings es over.went went;
             tries = each_append (λ doing. did_of (doing.act).did ≡ Tries) over.doings es over.tries tries;
             each = zip_weaker (PassedFor settings start drained tag v over.doings a m) (PassedFor settings start drained tag v (over.doings ++ es) a b) js causes
-                (λ j cause among has. passed_for over.doings es j cause later has) over.each;
+                (λ j cause among has. passed_for a m b over.doings es j cause later has) over.each;
             rises = over.rises;
             to_arm = over.to_arm;
             arm = elim over.arm [
@@ -112,7 +112,7 @@ module _ {settings : Settings} {start : Start} {drained : List Bool} {tag : Core
               | inr end ↦ inr (elim most [ inl same ↦ same ∙ end | inr less ↦ omega (arith, end, less, later) ])
             ];
             disks = λ j. elim (over.disks j) [
-              | inl yes ↦ inl yes
+              | inl fetched ↦ inl fetched
               | inr failed ↦ inr (failed.0, ((failed.1).0, Contains-append_left over.doings es (failed.1).0 (failed.1).1, (failed.1).2))
             ];
           }
@@ -124,21 +124,21 @@ module _ {settings : Settings} {start : Start} {drained : List Bool} {tag : Core
       pub read_sees : AtVolume v (NothingDone settings start v tag) m b → Over js causes a b
       read_sees x = goes_on (doings_in (x.is).held (x.is).made) (call_went x) (only_tries (x.is).held (x.is).made (x.is).is) (inl x.arm)
 
-      -- one more replica was passed over
-      with_one : {j : ℕ} {cause : Cause} (to_arm : ℕ → Bool) → PassedFor settings start drained tag v over.doings a m j cause → Each (λ c. ArmRises c cause) causes
-          → (a.arm + count_by to_arm (js ++ j ∷ []) ≤ m.arm) ⊎ (m.arm ≡ 2 ^ 64 - 1) → ((i : ℕ) → (to_arm i ≡ true) ⊎ ((f : ℕ) × LookFailed settings start drained tag v over.doings i f))
-          → Over (js ++ j ∷ []) (causes ++ cause ∷ []) a m
-      with_one {j} {cause} to_arm has rises arm disks = record {
-        home = over.home;
-        doings = over.doings;
-        went = over.went;
-        tries = over.tries;
-        each = zip_more (PassedFor settings start drained tag v over.doings a m) js (j ∷ []) causes (cause ∷ []) over.each (has, tt);
-        rises = pair_append ArmRises causes (cause ∷ []) over.rises (tt, tt) (each_weaker (λ c. ArmRises c cause) (λ c. ArmRises c cause × Unit {0}) (λ c r. (r, tt)) causes rises);
-        to_arm = to_arm;
-        arm = arm;
-        disks = disks;
-      }
+    -- one more replica was passed over
+    with_one : {js : List ℕ} {causes : List Cause} {a m : Sight} (over : Over js causes a m) (j : ℕ) (cause : Cause) (to_arm : ℕ → Bool) → PassedFor settings start drained tag v over.doings a m j cause → Each (λ c. ArmRises c cause) causes
+        → (a.arm + count_by to_arm (js ++ j ∷ []) ≤ m.arm) ⊎ (m.arm ≡ 2 ^ 64 - 1) → ((i : ℕ) → (to_arm i ≡ true) ⊎ ((f : ℕ) × LookFailed settings start drained tag v over.doings i f))
+        → Over (js ++ j ∷ []) (causes ++ cause ∷ []) a m
+    with_one {js} {causes} {a} {m} over j cause to_arm has rises arm disks = record {
+      home = over.home;
+      doings = over.doings;
+      went = over.went;
+      tries = over.tries;
+      each = zip_more (PassedFor settings start drained tag v over.doings a m) js (j ∷ []) causes (cause ∷ []) over.each (has, tt);
+      rises = pair_append ArmRises causes (cause ∷ []) over.rises (tt, tt) (each_weaker (λ c. ArmRises c cause) (λ c. ArmRises c cause × Unit {0}) (λ c r. (r, tt)) causes rises);
+      to_arm = to_arm;
+      arm = arm;
+      disks = disks;
+    }
 
     -- a place could not be seen, since a call of its disk failed
     disk_failed : {js : List ℕ} {causes : List Cause} {a b : Sight} {j f : ℕ} (over : Over js causes a b) → LookFailed settings start drained tag v over.doings j f
@@ -147,12 +147,12 @@ module _ {settings : Settings} {start : Start} {drained : List Bool} {tag : Core
         let to_arm : ℕ → Bool = λ i. cond (i == j) false (over.to_arm i) in
         let fewer = count_fewer to_arm over.to_arm (λ i. elim (i == j) as (λ (e : Bool). (cond e false (over.to_arm i) ≡ over.to_arm i) ⊎ (cond e false (over.to_arm i) ≡ false)) [ true ↦ inr refl | false ↦ inl refl ]) js in
         let last = count_same to_arm js j (ap (λ (e : Bool). cond e false (over.to_arm j)) (eq-eqb j j refl)) in
-        with_one over to_arm failed (each_from (λ c. ArmRises c (Disk f)) causes (λ c among. disk_behind f c))
+        with_one over j (Disk f) to_arm failed (each_from (λ c. ArmRises c (Disk f)) causes (λ c among. disk_behind f c))
         (elim over.arm [ inl le ↦ inl (omega (arith, le, fewer, last)) | inr end ↦ inr end ])
         (λ i. dite (ℕ_discrete i j)
         (λ same. inr (f, subst (λ (n : ℕ). LookFailed settings start drained tag v over.doings n f) (sym same) failed))
         (λ differs. elim (over.disks i) [
-          | inl yes ↦ inl (ap (λ (e : Bool). cond e false (over.to_arm i)) (ne_eqb i j differs) ∙ yes)
+          | inl fetched ↦ inl (ap (λ (e : Bool). cond e false (over.to_arm i)) (ne_eqb i j differs) ∙ fetched)
           | inr other ↦ inr other
         ]))
 
@@ -175,14 +175,14 @@ module _ {settings : Settings} {start : Start} {drained : List Bool} {tag : Core
     came_behind (j ∷ js) (Disk g ∷ causes) ds a m f came each = (tt, came_behind js causes ds a m f came each.1)
     came_behind (j ∷ js) (Damage at ∷ causes) ds a m f came each = absurd each.0
 
-    pub fetch_fails : {js : List ℕ} {causes : List Cause} {a m b : Sight} {j f : ℕ} → Over js causes a m → AtArm m b → CameUp m.arm f b.arm → b.arm < 2 ^ 64
+    pub fetch_fails : {js : List ℕ} {causes : List Cause} {a m b : Sight} (j : ℕ) {f : ℕ} → Over js causes a m → AtArm m b → CameUp m.arm f b.arm → b.arm < 2 ^ 64
         → Over (js ++ j ∷ []) (causes ++ Arm f ∷ []) a b
-    fetch_fails {js} {causes} {a} {m} {b} {j} {f} over x came low =
+    fetch_fails {js} {causes} {a} {m} {b} j {f} over x came low =
         let begun : a.arm ≤ m.arm = (over.went).arm in
         let up : f ≤ b.arm = came.1 in
         let count = count_more over.to_arm js j in
         let more : Over js causes a b = goes_on over [] (none_at (arm_went x)) tt (inr low) in
-        with_one more over.to_arm
+        with_one more j (Arm f) over.to_arm
         (elim came.0 [ inl less ↦ inl (omega (arith, begun, less)) | inr end ↦ inr end ], up)
         (came_behind js causes over.doings a m f came.0 over.each)
         (elim over.arm [
@@ -209,7 +209,7 @@ module _ {settings : Settings} {start : Start} {drained : List Bool} {tag : Core
           most = inr (omega (arith, up, low));
         } in
         let rest_at : AtArm t b = record { volumes = x.volumes; directory = x.directory; arm = up; most = inr low } in
-        let first : Over (js ++ j ∷ []) (causes ++ Arm f ∷ []) a t = fetch_fails over first_at ((came.0).0, omega arith) (omega (arith, up, low)) in
+        let first : Over (js ++ j ∷ []) (causes ++ Arm f ∷ []) a t = fetch_fails j over first_at ((came.0).0, omega arith) (omega (arith, up, low)) in
         let all : Over ((js ++ j ∷ []) ++ js') ((causes ++ Arm f ∷ []) ++ map Arm fs) a b =
         fetches_fail js' fs (omega (arith, many)) (each_both (λ g. (f < g) ⊎ (g ≡ 2 ^ 64 - 1)) (λ g. CameUp m.arm g b.arm) (λ g. CameUp f g b.arm) (λ g up came. (up, came.1)) fs rises.0 came.1)
         rises.1 rest_at low first in
@@ -221,6 +221,9 @@ module _ {settings : Settings} {start : Start} {drained : List Bool} {tag : Core
     abbrev Look : ℕ → (ℕ → Outcome) → List ℕ → List Cause → Sight → Sight → Type 0
     Look p what js causes a b = Looking settings start drained tag pair d v p what js causes a b
 
+    shows_wider : {p : ℕ} {what : ℕ → Outcome} {a m b : Sight} → Shows settings start drained tag pair v p what a m → IsLaterSight m b → Shows settings start drained tag pair v p what a b
+    shows_wider {m = m} {b = b} x later = record { sight = x.sight; from = x.from; to = later_at x.sight (m.volumes v) (b.volumes v) x.to (later.volumes v); front = x.front; is = x.is }
+
     module _ {js : List ℕ} {causes : List Cause} {p : ℕ} {what : ℕ → Outcome} {a m b : Sight} where
       pub read_looks : Over js causes a m → AtVolume v (ShownAt settings start v pair p what) m b → Look p what js causes a b
       read_looks over x =
@@ -228,9 +231,6 @@ module _ {settings : Settings} {start : Start} {drained : List Bool} {tag : Core
             passed = passed;
             shows = record { sight = b.volumes v; from = (went_later passed.went).volumes v; to = same_at (b.volumes v); front = (x.is).front; is = (x.is).is };
           }
-
-      shows_wider : Shows settings start drained tag pair v p what a m → IsLaterSight m b → Shows settings start drained tag pair v p what a b
-      shows_wider x later = record { sight = x.sight; from = x.from; to = later_at x.sight (m.volumes v) (b.volumes v) x.to (later.volumes v); front = x.front; is = x.is }
 
       -- fetches that succeeded, or failed
       pub look_goes_on : Look p what js causes a m → Idle tag m b → (b.arm ≡ m.arm) ⊎ (b.arm < 2 ^ 64) → Look p what js causes a b
@@ -249,10 +249,11 @@ module _ {settings : Settings} {start : Start} {drained : List Bool} {tag : Core
       abbrev here : Doings
       here = doings_at v over.doings []
 
-      look_failed : {item : LaneItem} {j f : ℕ} → LookFailed settings start drained tag v over.doings j f → LookFailedHere settings start drained item a b here v j f
+      look_failed : {j f : ℕ} → LookFailed settings start drained tag v over.doings j f → (doing : Doing VolumeAct) × Contains (on_volume v over.doings v) doing × RoseAt settings start drained a b v doing j f
       look_failed failed = (failed.0, subst (λ ds. Contains ds failed.0) (sym (on_here v over.doings)) failed.1, rose_at failed.2)
 
-      only_looks : {item : LaneItem} → OnlyLooksHere settings start drained item a b here v
+      only_looks : (changed_rows [] ≡ []) × ((u : ℕ) → u ≢ v → changed (on_volume v over.doings u) ≡ [])
+          × Each (λ doing. did_of (doing.act).did ≡ Tries) (on_volume v over.doings v)
       only_looks = (refl, changed_other v over.doings, on_each v (λ doing. did_of (doing.act).did ≡ Tries) over.doings over.tries)
 
       -- memory was wanting
@@ -265,27 +266,27 @@ module _ {settings : Settings} {start : Start} {drained : List Bool} {tag : Core
             to_arm = over.to_arm;
             arm = elim over.arm [ inl le ↦ inl (omega (arith, le, count)) | inr end ↦ inr end ];
             disks = each_from (λ j. (over.to_arm j ≡ true) ⊎ ((f : ℕ) × LookFailedHere settings start drained item a b here v j f)) (take_while test (js ++ j ∷ later))
-                (λ j among. elim (over.disks j) [ inl yes ↦ inl yes | inr failed ↦ inr (failed.0, look_failed failed.1) ]);
+                (λ j among. elim (over.disks j) [ inl fetched ↦ inl fetched | inr failed ↦ inr (failed.0, look_failed failed.1) ]);
           }
 
       -- each replica was passed over
-      passed_for_here : {item : LaneItem} (j : ℕ) (cause : Cause) → PassedFor settings start drained tag v over.doings a b j cause → PassedForHere settings start drained item a b here v j cause
-      passed_for_here j (Arm f) has = has
-      passed_for_here j (Disk f) has = look_failed has
-      passed_for_here j (Damage at) has = has
+      passed_for_here : (item : LaneItem) (j : ℕ) (cause : Cause) → PassedFor settings start drained tag v over.doings a b j cause → PassedForHere settings start drained item a b here v j cause
+      passed_for_here item j (Arm f) has = has
+      passed_for_here item j (Disk f) has = look_failed has
+      passed_for_here item j (Damage at) has = has
 
-      all_passed : {item : LaneItem} (replicas : List ℕ) (passed : List Passed) → map (λ (p : Passed). p.machine) passed ≡ map (machine_of settings v) replicas
+      all_passed : (item : LaneItem) (replicas : List ℕ) (passed : List Passed) → map (λ (p : Passed). p.machine) passed ≡ map (machine_of settings v) replicas
           → AllZip (PassedFor settings start drained tag v over.doings a b) replicas (map (λ (p : Passed). p.cause) passed)
           → AllZip (λ j passed. (passed.machine ≡ machine_of settings v j) × PassedForHere settings start drained item a b here v j passed.cause) replicas passed
-      all_passed [] [] machines each = tt
-      all_passed [] (p ∷ passed) machines each = absurd each
-      all_passed (j ∷ replicas) [] machines each = absurd each
-      all_passed (j ∷ replicas) (p ∷ passed) machines each =
-          let parts = cons_parts machines in ((parts.0, passed_for_here j p.cause each.0), all_passed replicas passed parts.1 each.1)
+      all_passed item [] [] machines each = tt
+      all_passed item [] (p ∷ passed) machines each = absurd each
+      all_passed item (j ∷ replicas) [] machines each = absurd each
+      all_passed item (j ∷ replicas) (p ∷ passed) machines each =
+          let parts = cons_parts machines in ((parts.0, passed_for_here item j p.cause each.0), all_passed item replicas passed parts.1 each.1)
 
     module _ {js : List ℕ} {causes : List Cause} {p : ℕ} {what : ℕ → Outcome} {a b : Sight} (look : Look p what js causes a b) (below : v < settings.volumes) where
       -- a replica showed this
-      module _ {first j : ℕ} {later : List ℕ} (within : j < settings.replicas) (there : replica_on settings v (machine_of settings v j) ≡ Some j)
+      module _ {first j : ℕ} (later : List ℕ) (within : j < settings.replicas) (there : replica_on settings v (machine_of settings v j) ≡ Some j)
           (order : order_from settings first ≡ js ++ j ∷ later) where
         showed : {item : LaneItem} {shown : Outcome} → what j ≡ shown → ShowedHere settings start drained item a b (here look.passed) first pair v (machine_of settings v j) p d shown
         showed {item} is =
@@ -324,7 +325,7 @@ module _ {settings : Settings} {start : Start} {drained : List Bool} {tag : Core
         below = below;
         front = record { sight = (look.shows).sight; from = (look.shows).from; to = (look.shows).to; front = (look.shows).front };
         each = subst (λ (replicas : List ℕ). AllZip (λ j passed. (passed.machine ≡ machine_of settings v j) × PassedForHere settings start drained item a b (here look.passed) v j passed.cause) replicas passed) (sym order)
-            (all_passed look.passed js passed machines (look.passed).each);
+            (all_passed look.passed item js passed machines (look.passed).each);
         arms = pair_unmap (λ (p : Passed). p.cause) ArmRises passed (look.passed).rises;
         looks = only_looks look.passed;
       };
@@ -344,7 +345,7 @@ module _ {settings : Settings} {start : Start} {drained : List Bool} {tag : Core
       last_looks held (Some act) (inr froze) = (inr froze, tt)
 
       went_all : Went tag a b (doings_at v all_doings [])
-      went_all = went_at_both over.went (call_went x)
+      went_all = went_at_both v over.doings (doings_in (x.is).held (x.is).made) over.went (call_went x)
 
       abbrev look_froze : {item : LaneItem} → LookFrozeHere settings start drained item a b (doings_at v all_doings []) pair
       look_froze = record {
@@ -386,7 +387,7 @@ module _ {settings : Settings} {start : Start} {drained : List Bool} {tag : Core
 
   -- A GET
 
-  module _ {url : UrlParts} {first : ℕ} (there : replica_on settings url.volume url.machine ≡ Some first) {a b : Sight} where
+  module _ (url : UrlParts) {first : ℕ} (there : replica_on settings url.volume url.machine ≡ Some first) (a b : Sight) where
     abbrev AsGet : Reply → Type 0
     AsGet reply = ShowsAs settings start drained tag first url.pair url.cookie reply a b
 

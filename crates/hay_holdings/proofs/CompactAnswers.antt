@@ -1,10 +1,11 @@
 -- The answer of a whole compaction, from its calls.
-use Rattle.std.proofs.Common.{◌≡◌, ◌≢◌, ◌⊎◌, inl, inr, ℕ, zero, suc, ◌+◌, ◌<◌, ◌≤◌, Bool, true, List, [], ◌∷◌, ◌++◌, length, map, refl, sym, ap, subst, ◌∙◌, arith, append-nil, append_assoc, length-append, Option, Some, None}
+use Rattle.std.proofs.Common.{◌≡◌, inl, inr, ℕ, zero, suc, ◌<◌, ◌≤◌, Bool, true, false, List, [], ◌∷◌, ◌++◌, length, map, refl, sym, ap, subst, ◌∙◌, arith, append-nil, length-append, Option, Some, None}
 use Rattle.std.specs.Prelude.{slice_index_or, slice_set}
 use Rattle.std.specs.List.{AllByRecursion as Each}
 use Rattle.std.proofs.lemmas.Option.{none-some}
 use mathlib.Core.List.{IsPrefix}
 use Rattle.hay_needle.specs.declared.settings.Settings.{Settings}
+use Rattle.hay_needle.specs.Tables.{live_end}
 use Rattle.hay_script.specs.declared.Command.TheVariants as command
 use Rattle.hay_reply.specs.declared.ClosedBy.{ClosedBy}
 use Rattle.hay_reply.specs.declared.Reply.{Reply}
@@ -13,13 +14,13 @@ use Rattle.hay_core.specs.declared.entry.CoreTag.{CoreTag}
 use Rattle.hay_legal.specs.declared.known.ReplicaKnown.{ReplicaKnown}
 use Rattle.hay_legal.specs.declared.known.Run.{Run}
 use Rattle.hay_legal.specs.declared.known.VolumeKnown.{VolumeKnown}
+use Rattle.hay_legal.specs.declared.turn.Item.{Item}
 use Rattle.hay_legal.specs.declared.turn.Item.TheVariants as asks
-use Rattle.hay_legal.specs.declared.turn.LaneItem.{LaneItem}
-use Rattle.hay_legal.specs.Known.{empty_replica, replica_at, replica_on}
+use Rattle.hay_legal.specs.Known.{empty_replica, now, replica_at, replica_on}
 use Rattle.hay_legal.specs.Plain.{frozen_by, poised, swapped, without_run}
 use Rattle.hay_legal.proofs.Subject.Effects.{each_append}
 use Rattle.hay_history.specs.Steps.{Did, Standing, change_at}
-use Rattle.hay_history.specs.Steps.Did.{Begins, Ends, Examines, Poises, Swaps}
+use Rattle.hay_history.specs.Steps.Did.{Ends, Examines, Poises, Swaps}
 use Rattle.hay_history.proofs.Changes.{changed_at, rested_at}
 use Rattle.hay_history.specs.Histories.{begun_in, changes_it}
 use Rattle.hay_history.proofs.Lists.{each_both, each_kept, each_weaker}
@@ -28,9 +29,9 @@ use Rattle.hay_meeting.specs.declared.act.VolumeAct.{VolumeAct}
 use Rattle.hay_meeting.specs.declared.act.VolumeDid.{VolumeDid}
 use Rattle.hay_meeting.specs.declared.act.VolumeDid.TheVariants as act
 use Rattle.hay_meeting.specs.Acts.{Start, begun_of, did_of, examined, examined_by, known_by, nobody, volume_lock}
-use Rattle.hay_meeting.specs.Facts.{IsLastDoing, changed, volume_stood}
+use Rattle.hay_meeting.specs.Facts.{IsLastDoing, RoseAt, changed, volume_stood}
 use Rattle.hay_meeting.specs.Locks.{Doing, Held, IsDoing, Worked, entries, past}
-use Rattle.hay_meeting.specs.Replies.{CompactDidHere, FailedLast, IsTightHere, RanAsHere, RanFrozenHere, RanHere, RanUntilHere}
+use Rattle.hay_meeting.specs.Replies.{CompactDidHere, RanAsHere, RanFrozenHere, RanHere, RanUntilHere}
 use Rattle.hay_meeting.specs.Sights.{Doings, Sight}
 use Rattle.hay_meeting.proofs.Chaining.{same_at}
 use Rattle.hay_meeting.proofs.Phases.{changed_both, doing_wider, last_behind}
@@ -38,14 +39,14 @@ use Rattle.hay_meeting.proofs.Replays.{entries_prefix, left_append, prefix_lengt
 use Rattle.hay_meeting.proofs.Standings.{begun_append}
 use Rattle.hay_holdings.specs.Holdings.{doings_in}
 use Rattle.hay_holdings.specs.Lines.{Compacting, IsAnswered, line_of}
-use Rattle.hay_holdings.specs.Sights.{AtVolume, Went, doings_at, no_doings}
+use Rattle.hay_holdings.specs.Sights.{AtVolume, Went, doings_at, no_doings, on_volume}
 use Rattle.hay_holdings.specs.Volumes as calls
 use Rattle.hay_holdings.specs.Volumes.{EndedAt, HasRunOf, RoseTo}
 use Rattle.hay_holdings.proofs.Calls.{holding_held, nothing_changed, one_changed}
 use Rattle.hay_holdings.proofs.Finding.{acted_at, rose_at}
 use Rattle.hay_holdings.proofs.Going.{call_went, changed_here, changed_other, on_here, quiet_went, went_at_both, went_idle, work_of}
 use Rattle.hay_holdings.proofs.Lists.{prefix_by_length}
-use Rattle.hay_holdings.proofs.Works.{busy_at, frozen_at, not_begun, run_at, worn_at}
+use Rattle.hay_holdings.proofs.WorkAnswers.{busy_at, frozen_at, not_begun, run_at, worn_at}
 
 -- WHAT AN ACT LEAVES OF A RUN
 
@@ -121,7 +122,7 @@ module _ (settings : Settings) (start : Start) (v j : ℕ) where
 
 -- IN ITS COURSE
 
-module _ {settings : Settings} {start : Start} {drained : List Bool} {tag : CoreTag} {v j : ℕ} where
+module _ (settings : Settings) (start : Start) (drained : List Bool) (tag : CoreTag) (v j : ℕ) where
   abbrev On : Sight → Sight → Type 0
   On a b = Compacting settings start drained tag v j a b
 
@@ -139,18 +140,18 @@ module _ {settings : Settings} {start : Start} {drained : List Bool} {tag : Core
         stand = tt;
       }
 
-  module _ {a m b : Sight} (c : On a m) where
+  module _ {a m : Sight} (c : On a m) where
     -- a doing more that changed something
     steps_more : {did : Did} (doing : Doing VolumeAct) → did_of (doing.act).did ≡ did → changes_it did ≡ true → changed (c.doings ++ doing ∷ []) ≡ c.first ∷ (c.middle ++ doing ∷ [])
     steps_more doing is changes =
         changed_both c.doings (doing ∷ []) ∙ (ap (λ ds. ds ++ changed (doing ∷ [])) c.steps ∙ ap (λ ds. c.first ∷ (c.middle ++ ds)) (one_changed doing is changes))
 
-    pub compact_steps : {n : ℕ} {AsMany : ℕ → Type 0} → AtVolume v (calls.Stepped settings start v tag j tag n AsMany) m b → On a b
-    compact_steps {n} x =
+    pub compact_steps : {b : Sight} {n : ℕ} (AsMany : ℕ → Type 0) → AtVolume v (calls.Stepped settings start v tag j tag n AsMany) m b → On a b
+    compact_steps {b} {n} AsMany x =
         let acts = acted_at x (λ held none. none.0) in
         let doing : Doing VolumeAct = acts.doing in record {
           doings = c.doings ++ doing ∷ [];
-          went = went_at_both c.went acts.went;
+          went = went_at_both v c.doings (acts.doing ∷ []) c.went acts.went;
           first = c.first;
           begins = c.begins;
           middle = c.middle ++ doing ∷ [];
@@ -161,11 +162,11 @@ module _ {settings : Settings} {start : Start} {drained : List Bool} {tag : Core
         }
 
     -- a call that changed nothing
-    pub compact_waits : AtVolume v (calls.NothingDone settings start v tag) m b → On a b
+    pub compact_waits : {b : Sight} → AtVolume v (calls.NothingDone settings start v tag) m b → On a b
     compact_waits x =
         let ds : List (Doing VolumeAct) = doings_in (x.is).held (x.is).made in record {
           doings = c.doings ++ ds;
-          went = went_at_both c.went (call_went x);
+          went = went_at_both v c.doings ds c.went (call_went x);
           first = c.first;
           begins = c.begins;
           middle = c.middle;
@@ -185,14 +186,14 @@ module _ {settings : Settings} {start : Start} {drained : List Bool} {tag : Core
 
     -- ITS END by a doing of its own
 
-    module _ (below : v < settings.volumes) {did : Did} (doing : Doing VolumeAct) (is : did_of (doing.act).did ≡ did) (changes : changes_it did ≡ true) (ends : EndsRun did j)
+    module _ (b : Sight) (below : v < settings.volumes) {did : Did} (doing : Doing VolumeAct) (is : did_of (doing.act).did ≡ did) (changes : changes_it did ≡ true) (ends : EndsRun did j)
         (has : HasRunOf settings start v j tag doing.held) (between : IsDoing volume_lock (m.volumes v) (b.volumes v) doing) where
       is_behind : (d : Doing VolumeAct) → IsDoing volume_lock (a.volumes v) (m.volumes v) d → length d.held < length doing.held
       is_behind d lies =
           let l = prefix_length (past d) doing.held (prefix_trans (past d) (m.volumes v).seen doing.held lies.to between.from) in
           omega (arith, l, length-append d.held (d.act ∷ []))
 
-      abbrev ran_own : {item : LaneItem} → RanHere settings start drained item a b (doings_at v (c.doings ++ doing ∷ []) []) v j (doing ∷ [])
+      abbrev ran_own : {item : Item} {said : Reply} → RanHere settings start drained (line_of tag item said) a b (doings_at v (c.doings ++ doing ∷ []) []) v j (doing ∷ [])
       ran_own = record {
         below = below;
         rows = refl;
@@ -212,23 +213,25 @@ module _ {settings : Settings} {start : Start} {drained : List Bool} {tag : Core
         inside = each_weaker (IsDoing volume_lock (a.volumes v) (m.volumes v)) (λ d. length d.held < length doing.held) is_behind c.middle lie.1;
       }
 
-      abbrev ran_as : {item : LaneItem} → RanAsHere settings start drained item a b (doings_at v (c.doings ++ doing ∷ []) []) v j did
+      abbrev ran_as : {item : Item} {said : Reply} → RanAsHere settings start drained (line_of tag item said) a b (doings_at v (c.doings ++ doing ∷ []) []) v j did
       ran_as = record { doing = doing; is = is; ran = ran_own; last = refl }
 
-      failed_there : {item : LaneItem} {f : ℕ} → RoseTo settings start v j f doing → FailedLast settings start drained item a b (doings_at v (c.doings ++ doing ∷ []) []) v j f doing
+      failed_there : {f : ℕ} → RoseTo settings start v j f doing → RoseAt settings start drained a b v doing j f × IsLastDoing (on_volume v (c.doings ++ doing ∷ []) v) doing
       failed_there rose = (
         rose_at rose,
         subst (λ ds. IsLastDoing ds doing) (sym (on_here v (c.doings ++ doing ∷ []))) (last_behind volume_lock (doing ∷ []) doing worked_there between (omega arith, tt)),
       )
 
       -- the sizes of a swap, where no entry came in its course
-      tight_there : {item : LaneItem} {doings : Doings} {end cells : ℕ} → calls.IsTightSince settings start v j end cells doing.held
-          → IsTightHere settings start drained item a b doings v j (c.first).held doing.held end cells
+      tight_there : {end cells : ℕ} → calls.IsTightSince settings start v j end cells doing.held
+          → (volume_stood start v doing.held).log ≡ (volume_stood start v (c.first).held).log
+          → (end ≡ live_end (now (volume_stood start v doing.held) (replica_at (volume_stood start v doing.held) j)))
+          × (cells ≡ length (now (volume_stood start v doing.held) (replica_at (volume_stood start v doing.held) j)))
       tight_there tight = tight c.first (prefix_trans (past c.first) (m.volumes v).seen doing.held (lie.0).to between.from) c.begins
 
     -- ITS END by an act of another line
 
-    module _ (below : v < settings.volumes) {held : List VolumeAct} (found : Held volume_lock (m.volumes v) (b.volumes v) held) (ended : EndedAt settings start v j tag held) where
+    module _ (b : Sight) (below : v < settings.volumes) {held : List VolumeAct} (found : Held volume_lock (m.volumes v) (b.volumes v) held) (ended : EndedAt settings start v j tag held) where
       abbrev until : Doing VolumeAct
       until = ended.until
 
@@ -253,7 +256,7 @@ module _ {settings : Settings} {start : Start} {drained : List Bool} {tag : Core
         shown_to = prefix_trans (entries volume_lock (past until)) (entries volume_lock held) (b.volumes v).shown (entries_prefix volume_lock (past until) held ended.within) found.shown_to;
       }
 
-      abbrev ran_others : {item : LaneItem} → RanHere settings start drained item a b (doings_at v c.doings []) v j []
+      abbrev ran_others : {item : Item} {said : Reply} → RanHere settings start drained (line_of tag item said) a b (doings_at v c.doings []) v j []
       ran_others = record {
         below = below;
         rows = refl;
@@ -271,10 +274,10 @@ module _ {settings : Settings} {start : Start} {drained : List Bool} {tag : Core
 
   -- THE ANSWERS
 
-  module _ {m : ℕ} (there : replica_on settings v m ≡ Some j) (below : v < settings.volumes) where
-    compacted_as : {a b : Sight} (r : Reply) (doings : Doings) → CompactDidHere settings start drained (line_of tag (asks.Command (command.Compact v m)) r) a b doings v m (Some j) r
+  module _ (m : ℕ) (there : replica_on settings v m ≡ Some j) (below : v < settings.volumes) where
+    compacted_as : (a b : Sight) (r : Reply) (doings : Doings) → CompactDidHere settings start drained (line_of tag (asks.Command (command.Compact v m)) r) a b doings v m (Some j) r
         → CompactDidHere settings start drained (line_of tag (asks.Command (command.Compact v m)) r) a b doings v m (replica_on settings v m) r
-    compacted_as {a} {b} r doings did = subst (λ o. CompactDidHere settings start drained (line_of tag (asks.Command (command.Compact v m)) r) a b doings v m o r) (sym there) did
+    compacted_as a b r doings did = subst (λ o. CompactDidHere settings start drained (line_of tag (asks.Command (command.Compact v m)) r) a b doings v m o r) (sym there) did
 
     abbrev by_machine : ℕ → List ClosedBy
     by_machine machine = record { volume = v; machine = machine } ∷ []
@@ -286,21 +289,21 @@ module _ {settings : Settings} {start : Start} {drained : List Bool} {tag : Core
       compact_frozen {machine} x = record {
         doings = no_doings;
         work = work_of (quiet_went x ((x.is).is).0);
-        did = compacted_as (reply.ReadOnly (by_machine machine)) no_doings (inl ((refl, frozen_at below x), ((λ u. refl), refl)));
+        did = compacted_as a b (reply.ReadOnly (by_machine machine)) no_doings (inl ((refl, frozen_at settings start drained tag a b below x), ((λ u. refl), refl)));
       }
 
       pub compact_busy : {g : ℕ} → AtVolume v (calls.MetBusy settings start v tag j g) a b → IsAnswered settings start drained tag (command.Compact v m) (reply.Busy v m g) a b
       compact_busy {g} x = record {
         doings = no_doings;
         work = work_of (quiet_went x ((x.is).is).0);
-        did = compacted_as (reply.Busy v m g) no_doings ((refl, refl), ((λ u. refl), refl), busy_at below x);
+        did = compacted_as a b (reply.Busy v m g) no_doings ((refl, refl), ((λ u. refl), refl), busy_at settings start drained tag a b below x);
       }
 
       pub compact_worn : AtVolume v (calls.MetWorn settings start v tag j) a b → IsAnswered settings start drained tag (command.Compact v m) (reply.Worn v m) a b
       compact_worn x = record {
         doings = no_doings;
         work = work_of (quiet_went x ((x.is).is).0);
-        did = compacted_as (reply.Worn v m) no_doings ((refl, refl), ((λ u. refl), refl), worn_at below x);
+        did = compacted_as a b (reply.Worn v m) no_doings ((refl, refl), ((λ u. refl), refl), worn_at settings start drained tag a b below x);
       }
 
       pub compact_not_begun : {f : ℕ} → AtVolume v (calls.BeginFailed settings start v tag j f) a b → IsAnswered settings start drained tag (command.Compact v m) (reply.Failed v m f) a b
@@ -309,7 +312,7 @@ module _ {settings : Settings} {start : Start} {drained : List Bool} {tag : Core
           let ds : List (Doing VolumeAct) = acts.doing ∷ [] in record {
             doings = doings_at v ds [];
             work = work_of acts.went;
-            did = compacted_as (reply.Failed v m f) (doings_at v ds []) ((refl, refl), inl (not_begun below x));
+            did = compacted_as a b (reply.Failed v m f) (doings_at v ds []) ((refl, refl), inl (not_begun settings start drained tag a b below x));
           }
 
     module _ {a k b : Sight} (c : On a k) where
@@ -320,15 +323,15 @@ module _ {settings : Settings} {start : Start} {drained : List Bool} {tag : Core
           let doing : Doing VolumeAct = acts.doing in
           let ds : List (Doing VolumeAct) = c.doings ++ doing ∷ [] in record {
             doings = doings_at v ds [];
-            work = work_of (went_at_both c.went acts.went);
-            did = compacted_as (reply.Compacted v m g) (doings_at v ds []) (
+            work = work_of (went_at_both v c.doings (acts.doing ∷ []) c.went acts.went);
+            did = compacted_as a b (reply.Compacted v m g) (doings_at v ds []) (
               (refl, refl),
               (
                 end,
                 cells,
-                ran_as c below doing (acts.is).0 refl refl (acts.is).1 acts.between,
+                ran_as c b below doing (acts.is).0 refl refl (acts.is).1 acts.between,
                 (acts.is).2,
-                tight_there c below doing (acts.is).0 refl refl (acts.is).1 acts.between (acts.is).3,
+                tight_there c b below doing (acts.is).0 refl refl (acts.is).1 acts.between (acts.is).3,
               ),
             );
           }
@@ -340,12 +343,12 @@ module _ {settings : Settings} {start : Start} {drained : List Bool} {tag : Core
           let doing : Doing VolumeAct = acts.doing in
           let ds : List (Doing VolumeAct) = c.doings ++ doing ∷ [] in record {
             doings = doings_at v ds [];
-            work = work_of (went_at_both c.went acts.went);
-            did = compacted_as reply.NoMem (doings_at v ds []) (inr (inr (inl (
+            work = work_of (went_at_both v c.doings (acts.doing ∷ []) c.went acts.went);
+            did = compacted_as a b reply.NoMem (doings_at v ds []) (inr (inr (inl (
               end,
               cells,
-              ran_as c below doing (acts.is).0 refl refl (acts.is).1 acts.between,
-              tight_there c below doing (acts.is).0 refl refl (acts.is).1 acts.between (acts.is).3,
+              ran_as c b below doing (acts.is).0 refl refl (acts.is).1 acts.between,
+              tight_there c b below doing (acts.is).0 refl refl (acts.is).1 acts.between (acts.is).3,
             ))));
           }
 
@@ -354,8 +357,8 @@ module _ {settings : Settings} {start : Start} {drained : List Bool} {tag : Core
           let acts = acted_at x (λ held none. none.0) in
           let ds : List (Doing VolumeAct) = c.doings ++ acts.doing ∷ [] in record {
             doings = doings_at v ds [];
-            work = work_of (went_at_both c.went acts.went);
-            did = compacted_as reply.NoMem (doings_at v ds []) (inr (inl (ran_as c below acts.doing (acts.is).0 refl refl (acts.is).1 acts.between)));
+            work = work_of (went_at_both v c.doings (acts.doing ∷ []) c.went acts.went);
+            did = compacted_as a b reply.NoMem (doings_at v ds []) (inr (inl (ran_as c b below acts.doing (acts.is).0 refl refl (acts.is).1 acts.between)));
           }
 
       pub compact_failed : {f : ℕ} → AtVolume v (calls.RunFailed settings start v tag j tag f) k b → IsAnswered settings start drained tag (command.Compact v m) (reply.Failed v m f) a b
@@ -364,12 +367,12 @@ module _ {settings : Settings} {start : Start} {drained : List Bool} {tag : Core
           let doing : Doing VolumeAct = acts.doing in
           let ds : List (Doing VolumeAct) = c.doings ++ doing ∷ [] in record {
             doings = doings_at v ds [];
-            work = work_of (went_at_both c.went acts.went);
-            did = compacted_as (reply.Failed v m f) (doings_at v ds []) (
+            work = work_of (went_at_both v c.doings (acts.doing ∷ []) c.went acts.went);
+            did = compacted_as a b (reply.Failed v m f) (doings_at v ds []) (
               (refl, refl),
               inr (inl (
-                ran_as c below doing (acts.is).0 refl refl (acts.is).1 acts.between,
-                failed_there c below doing (acts.is).0 refl refl (acts.is).1 acts.between (acts.is).2,
+                ran_as c b below doing (acts.is).0 refl refl (acts.is).1 acts.between,
+                failed_there c b below doing (acts.is).0 refl refl (acts.is).1 acts.between (acts.is).2,
               )),
             );
           }
@@ -380,21 +383,21 @@ module _ {settings : Settings} {start : Start} {drained : List Bool} {tag : Core
           let doing : Doing VolumeAct = acts.doing in
           let ds : List (Doing VolumeAct) = c.doings ++ doing ∷ [] in record {
             doings = doings_at v ds [];
-            work = work_of (went_at_both c.went acts.went);
-            did = compacted_as (reply.Failed v m f) (doings_at v ds []) (
+            work = work_of (went_at_both v c.doings (acts.doing ∷ []) c.went acts.went);
+            did = compacted_as a b (reply.Failed v m f) (doings_at v ds []) (
               (refl, refl),
               inr (inr (inl (
-                ran_as c below doing (acts.is).0 refl refl (acts.is).1 acts.between,
-                failed_there c below doing (acts.is).0 refl refl (acts.is).1 acts.between (acts.is).2,
+                ran_as c b below doing (acts.is).0 refl refl (acts.is).1 acts.between,
+                failed_there c b below doing (acts.is).0 refl refl (acts.is).1 acts.between (acts.is).2,
               ))),
             );
           }
 
       -- a delete of another line had ended it
       module _ {f : ℕ} (x : AtVolume v (calls.RunDeleted settings start v tag j tag f) k b) where
-        until_here : {item : LaneItem} → RanUntilHere settings start drained item a b (doings_at v c.doings []) v j f
+        until_here : {item : Item} {said : Reply} → RanUntilHere settings start drained (line_of tag item said) a b (doings_at v c.doings []) v j f
         until_here = record {
-          ran = ran_others c below (holding_held volume_lock (x.is).holding) (((x.is).is).1).0;
+          ran = ran_others c b below (holding_held volume_lock (x.is).holding) (((x.is).is).1).0;
           thawed = (((x.is).is).1).1;
           rose = rose_at (((x.is).is).1).2;
         }
@@ -406,20 +409,20 @@ module _ {settings : Settings} {start : Start} {drained : List Bool} {tag : Core
         compact_deleted = record {
           doings = doings_at v c.doings [];
           work = work_of went_until;
-          did = compacted_as (reply.Failed v m f) (doings_at v c.doings []) ((refl, refl), inr (inr (inr until_here)));
+          did = compacted_as a b (reply.Failed v m f) (doings_at v c.doings []) ((refl, refl), inr (inr (inr until_here)));
         }
 
         pub compact_deleted_wanted : IsAnswered settings start drained tag (command.Compact v m) reply.NoMem a b
         compact_deleted_wanted = record {
           doings = doings_at v c.doings [];
           work = work_of went_until;
-          did = compacted_as reply.NoMem (doings_at v c.doings []) (inr (inr (inr (inl (f, until_here)))));
+          did = compacted_as a b reply.NoMem (doings_at v c.doings []) (inr (inr (inr (inl (f, until_here)))));
         }
 
       -- the volume had been frozen in its course
       module _ {machine : ℕ} (x : AtVolume v (calls.RunFrozen settings start v tag j tag machine) k b) where
-        frozen_here : {item : LaneItem} → RanFrozenHere settings start drained item a b (doings_at v c.doings []) v j machine
-        frozen_here = (ran_others c below (holding_held volume_lock (x.is).holding) (((x.is).is).1).0, (((x.is).is).1).1)
+        frozen_here : {item : Item} {said : Reply} → RanFrozenHere settings start drained (line_of tag item said) a b (doings_at v c.doings []) v j machine
+        frozen_here = (ran_others c b below (holding_held volume_lock (x.is).holding) (((x.is).is).1).0, (((x.is).is).1).1)
 
         went_frozen : Went tag a b (doings_at v c.doings [])
         went_frozen = went_idle c.went (quiet_went x ((x.is).is).0)
@@ -428,12 +431,12 @@ module _ {settings : Settings} {start : Start} {drained : List Bool} {tag : Core
         compact_met_frozen = record {
           doings = doings_at v c.doings [];
           work = work_of went_frozen;
-          did = compacted_as (reply.ReadOnly (by_machine machine)) (doings_at v c.doings []) (inr (refl, frozen_here));
+          did = compacted_as a b (reply.ReadOnly (by_machine machine)) (doings_at v c.doings []) (inr (refl, frozen_here));
         }
 
         pub compact_frozen_wanted : IsAnswered settings start drained tag (command.Compact v m) reply.NoMem a b
         compact_frozen_wanted = record {
           doings = doings_at v c.doings [];
           work = work_of went_frozen;
-          did = compacted_as reply.NoMem (doings_at v c.doings []) (inr (inr (inr (inr (machine, frozen_here)))));
+          did = compacted_as a b reply.NoMem (doings_at v c.doings []) (inr (inr (inr (inr (machine, frozen_here)))));
         }

@@ -1,5 +1,5 @@
 -- The answers of flushes, of compactions step by step, of fuses and of drains, from their calls.
-use Rattle.std.proofs.Common.{◌≡◌, ◌≢◌, inl, inr, ℕ, ◌+◌, ◌<◌, ◌≤◌, Bool, true, false, List, [], ◌∷◌, refl, sym, ap, subst, ◌∙◌, min, Option, Some, None}
+use Rattle.std.proofs.Common.{◌≡◌, inl, inr, ℕ, ◌<◌, ◌≤◌, Bool, true, false, List, [], ◌∷◌, refl, sym, subst, min, Some, None}
 use Rattle.hay_needle.specs.declared.settings.Settings.{Settings}
 use Rattle.hay_script.specs.declared.Command.TheVariants as command
 use Rattle.hay_reply.specs.declared.ClosedBy.{ClosedBy}
@@ -11,17 +11,16 @@ use Rattle.hay_legal.specs.declared.turn.Item.TheVariants as asks
 use Rattle.hay_legal.specs.declared.turn.LaneItem.{LaneItem}
 use Rattle.hay_legal.specs.Known.{replica_at, replica_on}
 use Rattle.hay_history.specs.Steps.{Did}
-use Rattle.hay_history.specs.Steps.Did.{Begins, Ends, Examines, Flushes, Fuses, Poises, Sticks, Swaps}
 use Rattle.hay_history.specs.Histories.{changes_it}
 use Rattle.hay_meeting.specs.declared.act.VolumeAct.{VolumeAct}
 use Rattle.hay_meeting.specs.Acts.{Start, did_of}
-use Rattle.hay_meeting.specs.Facts.{Found, HasRunAt, volume_stood}
+use Rattle.hay_meeting.specs.Facts.{Found, HasRunAt, IsLastDoing, RoseAt, volume_stood}
 use Rattle.hay_meeting.specs.Locks.{Doing}
-use Rattle.hay_meeting.specs.Replies.{BeginDidHere, BeginFailedHere, FailedLast, FinishDidHere, FlushDidHere, FuseDidHere, HasRunOfLaneAt, OnlyDidHere, StepDidHere, WentOnHere}
+use Rattle.hay_meeting.specs.Replies.{BeginDidHere, BeginFailedHere, FinishDidHere, FlushDidHere, FuseDidHere, OnlyDidHere, StepDidHere, WentOnHere}
 use Rattle.hay_meeting.specs.Sights.{Doings, Sight}
 use Rattle.hay_holdings.specs.Lines.{IsAnswered, line_of}
 use Rattle.hay_holdings.specs.Rows.{Drained, FusedDir}
-use Rattle.hay_holdings.specs.Sights.{AtDirectory, AtVolume, Idle, doings_at, no_doings, only_rows}
+use Rattle.hay_holdings.specs.Sights.{AtDirectory, AtVolume, doings_at, no_doings, on_volume, only_rows}
 use Rattle.hay_holdings.specs.Volumes as calls
 use Rattle.hay_holdings.specs.Volumes.{HasRunOf, RoseTo}
 use Rattle.hay_holdings.proofs.Finding.{acted_at, acted_on_rows, found_at, one_doing, one_row_doing, one_try, rose_at}
@@ -31,7 +30,7 @@ abbrev pub run_at : {settings : Settings} {start : Start} {drained : List Bool} 
     → HasRunAt settings start drained a b v j held who
 run_at has = record { run = has.run; stands = has.stands; begun = has.begun }
 
-module _ {settings : Settings} {start : Start} {drained : List Bool} {tag : CoreTag} {a b : Sight} where
+module _ (settings : Settings) (start : Start) (drained : List Bool) (tag : CoreTag) (a b : Sight) where
   -- DRAINS, AND A FUSE OF THE DIRECTORY
 
   pub drains : {m : ℕ} → m < settings.machines → AtDirectory (Drained start tag m true) a b → IsAnswered settings start drained tag (command.Drain m) (reply.Drained m) a b
@@ -84,13 +83,13 @@ module _ {settings : Settings} {start : Start} {drained : List Bool} {tag : Core
 
   -- ONE ACT ON ONE REPLICA
 
-  module _ {v m j : ℕ} (there : replica_on settings v m ≡ Some j) (below : v < settings.volumes) where
+  module _ (v m j : ℕ) (there : replica_on settings v m ≡ Some j) (below : v < settings.volumes) where
     -- it acted on the volume alone, and did this
     abbrev only_did : {item : LaneItem} {did : Did} (doing : Doing VolumeAct) → did_of (doing.act).did ≡ did → changes_it did ≡ true
         → OnlyDidHere settings start drained item a b (doings_at v (doing ∷ []) []) v did
     only_did doing is changes = record { below = below; rows = refl; elsewhere = changed_other v (doing ∷ []); doing = one_doing v doing is changes }
 
-    failed_last : {item : LaneItem} {f : ℕ} (doing : Doing VolumeAct) → RoseTo settings start v j f doing → FailedLast settings start drained item a b (doings_at v (doing ∷ []) []) v j f doing
+    failed_last : {f : ℕ} (doing : Doing VolumeAct) → RoseTo settings start v j f doing → RoseAt settings start drained a b v doing j f × IsLastDoing (on_volume v (doing ∷ []) v) doing
     failed_last doing rose = (rose_at rose, last_here v doing)
 
     pub fuses : {n : ℕ} → AtVolume v (calls.Fused settings start v tag j) a b → IsAnswered settings start drained tag (command.Fuse v m n) (reply.Fused v m n) a b
@@ -215,15 +214,16 @@ module _ {settings : Settings} {start : Start} {drained : List Bool} {tag : Core
     went_on {who = who} doing is changes own has = record { only = only_did doing is changes; own = (who, own, run_at has) }
 
     -- none stood as it was held
-    idle_at : {item : LaneItem} {doings : Doings} → item.lane ≡ tag.lane → AtVolume v (calls.MetIdle settings start v tag j) a b
-        → Found settings start drained a b v (λ acts. ((volume_stood start v acts).frozen ≡ None) × (HasRunOfLaneAt settings start drained item a b doings v j acts → ⊥))
-    idle_at {item} own x =
+    idle_at : AtVolume v (calls.MetIdle settings start v tag j) a b
+        → Found settings start drained a b v (λ acts. ((volume_stood start v acts).frozen ≡ None)
+        × (((who : CoreTag) × (who.lane ≡ tag.lane) × HasRunAt settings start drained a b v j acts who) → ⊥))
+    idle_at x =
         found_at below x (
           ((x.is).is).1,
-          (λ run. ((x.is).is).2 run.0 (run.1 ∙ own) (record { run = (run.2).run; stands = (run.2).stands; begun = (run.2).begun })),
+          (λ run. ((x.is).is).2 run.0 run.1 (record { run = (run.2).run; stands = (run.2).stands; begun = (run.2).begun })),
         )
 
-    module _ {cells : ℕ} where
+    module _ (cells : ℕ) where
       stepped_as : (r : Reply) (doings : Doings) → StepDidHere settings start drained (line_of tag (asks.Command (command.Step v m cells)) r) a b doings v m cells (Some j) r
           → StepDidHere settings start drained (line_of tag (asks.Command (command.Step v m cells)) r) a b doings v m cells (replica_on settings v m) r
       stepped_as r doings did = subst (λ o. StepDidHere settings start drained (line_of tag (asks.Command (command.Step v m cells)) r) a b doings v m cells o r) (sym there) did
@@ -261,7 +261,7 @@ module _ {settings : Settings} {start : Start} {drained : List Bool} {tag : Core
       step_idle x = record {
         doings = no_doings;
         work = work_of (quiet_went x ((x.is).is).0);
-        did = stepped_as (reply.Idle v m) no_doings ((refl, refl), idle_at refl x, ((λ u. refl), refl));
+        did = stepped_as (reply.Idle v m) no_doings ((refl, refl), idle_at x, ((λ u. refl), refl));
       }
 
       pub step_failed : {who : CoreTag} {f : ℕ} → who.lane ≡ tag.lane → AtVolume v (calls.RunFailed settings start v tag j who f) a b
@@ -290,7 +290,7 @@ module _ {settings : Settings} {start : Start} {drained : List Bool} {tag : Core
     finish_idle x = record {
       doings = no_doings;
       work = work_of (quiet_went x ((x.is).is).0);
-      did = finished_as (reply.Idle v m) no_doings ((refl, refl), idle_at refl x, ((λ u. refl), refl));
+      did = finished_as (reply.Idle v m) no_doings ((refl, refl), idle_at x, ((λ u. refl), refl));
     }
 
     module _ {who : CoreTag} (own : who.lane ≡ tag.lane) where

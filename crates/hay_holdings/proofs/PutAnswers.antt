@@ -1,5 +1,5 @@
 -- The answer of a put, from its calls.
-use Rattle.std.proofs.Common.{◌≡◌, ◌≢◌, ◌⊎◌, inl, inr, ℕ, ◌+◌, ◌<◌, ◌≤◌, Bool, true, false, cond, List, [], ◌∷◌, ◌++◌, length, map, refl, sym, ap, subst, ◌∙◌, arith, length-append, Contains, Option, Some, None}
+use Rattle.std.proofs.Common.{◌≡◌, ◌⊎◌, inl, inr, ℕ, ◌<◌, Bool, true, false, List, [], ◌∷◌, ◌++◌, length, map, refl, sym, ap, subst, ◌∙◌, arith, length-append, Contains, Option, Some, None}
 use Rattle.std.specs.Prelude.{◌==◌, ◌||◌, not, take_while}
 use Rattle.std.specs.List.{AllZip, AllByRecursion as Each, list_any}
 use Rattle.std.proofs.lemmas.Bool.{eq-eqb}
@@ -11,10 +11,9 @@ use Rattle.hay_script.specs.declared.Command.TheVariants as command
 use Rattle.hay_reply.specs.declared.Refused.{Refused}
 use Rattle.hay_reply.specs.declared.Refused.TheVariants.{Closed}
 use Rattle.hay_reply.specs.declared.ClosedBy.{ClosedBy}
-use Rattle.hay_reply.specs.declared.Reply.{Reply}
 use Rattle.hay_reply.specs.declared.Reply.TheVariants.{Failed, FailedDir, Full, NoMem, ReadOnly, ReadOnlyDir, Stored}
 use Rattle.hay_core.specs.declared.entry.CoreTag.{CoreTag}
-use Rattle.hay_core.specs.declared.entry.Entry.TheVariants as entry
+use Rattle.hay_core.specs.declared.entry.Entry.{Entry}
 use Rattle.hay_legal.specs.declared.known.DirKnown.{DirKnown}
 use Rattle.hay_legal.specs.declared.known.HomeRow.{HomeRow}
 use Rattle.hay_legal.specs.declared.turn.LaneItem.{LaneItem}
@@ -29,19 +28,19 @@ use Rattle.hay_meeting.specs.declared.act.DirAct.{DirAct}
 use Rattle.hay_meeting.specs.declared.act.VolumeAct.{VolumeAct}
 use Rattle.hay_meeting.specs.declared.act.DirDid.{DirDid}
 use Rattle.hay_meeting.specs.declared.act.DirDid.TheVariants as act_row
-use Rattle.hay_meeting.specs.Acts.{Start, directory_by, row_did_of, row_lock, volume_lock}
-use Rattle.hay_meeting.specs.Facts.{Found, FoundRefusal, FoundRows, FoundTaker, RoseAt, SawHome, drained_in, volume_stood}
+use Rattle.hay_meeting.specs.Acts.{Start, directory_by, row_did_of, row_lock}
+use Rattle.hay_meeting.specs.Facts.{FoundRefusal, FoundRows, FoundTaker, SawHome, drained_in, volume_stood}
 use Rattle.hay_meeting.specs.Locks.{Doing, LockSight, past}
 use Rattle.hay_meeting.specs.Replies.{MayAddRowHere, PutRefusedHere, PutWantingHere, RowPendsHere}
 use Rattle.hay_meeting.specs.Sights.{IsLaterSight, Sight, rows_stood}
 use Rattle.hay_meeting.proofs.Chaining.{same_sight}
 use Rattle.hay_meeting.proofs.Phases.{doing_left, found_rows_wider, found_taker_wider, found_wider, home_held, saw_home_wider}
 use Rattle.hay_meeting.proofs.Replays.{left_append}
-use Rattle.hay_holdings.specs.Holdings.{Called, doings_in}
+use Rattle.hay_holdings.specs.Holdings.{doings_in}
 use Rattle.hay_holdings.specs.Lines.{HasTaker, IsAnswered, Refuses, Settled, Tried}
 use Rattle.hay_holdings.specs.Rows.{HomeShown, MadeNoRow, MadeRow, MetFrozenDir, MetHome, RowAdded, RowFailed, RowWanted, rows_found}
 use Rattle.hay_holdings.specs.Sights.{AtDirectory, AtVolume, Idle, Went, doings_at, no_doings, only_rows}
-use Rattle.hay_holdings.specs.Volumes.{IsThawed, MadeNothing, MadeOne, MetFrozen, MetThawed, PutFailed, PutStored, PutWanted, RoomFits, RoomLacks, RoseTo, Takes}
+use Rattle.hay_holdings.specs.Volumes.{MadeNothing, MadeOne, MetFrozen, MetThawed, PutFailed, PutStored, PutWanted, RoomFits, RoomLacks, Takes}
 use Rattle.hay_holdings.proofs.Calls.{holding_held, no_row_changed, nothing_changed}
 use Rattle.hay_holdings.proofs.Finding.{acted_at, acted_on_rows, found_at, home_seen, one_doing, one_row_doing, rose_at, takes_it}
 use Rattle.hay_holdings.proofs.Going.{call_went, changed_nowhere, changed_other, last_here, quiet_row_went, quiet_went, row_call_went, row_look_went, went_idle, went_later, went_more, went_rows_at, work_of}
@@ -63,10 +62,10 @@ rows_added start held act row is =
 
 -- A TRY THAT REFUSES
 
-module _ {settings : Settings} {start : Start} {drained : List Bool} {v : ℕ} {tag : CoreTag} {a b : LockSight VolumeAct Entry} where
+module _ (settings : Settings) (start : Start) (drained : List Bool) (v : ℕ) (tag : CoreTag) {a b : LockSight VolumeAct Entry} where
   -- for want of room, where no machine of it is drained
-  pub lacking_refuses : {size : ℕ} {refused : Refused} → drained_in settings drained v ≡ None → RoomLacks settings start v tag size refused a b → Refuses settings start drained v tag size refused a b
-  lacking_refuses {size} open_machines x =
+  pub lacking_refuses : (size : ℕ) {refused : Refused} → drained_in settings drained v ≡ None → RoomLacks settings start v tag size refused a b → Refuses settings start drained v tag size refused a b
+  lacking_refuses size open_machines x =
       let room : ℕ → Option Refused = λ s. room_refusal_of settings v (volume_stood start v x.held) s in record {
         held = x.held;
         made = x.made;
@@ -74,12 +73,12 @@ module _ {settings : Settings} {start : Start} {drained : List Bool} {v : ℕ} {
         is = (
           (x.is).0,
           ap (λ frozen. refusal_by v (closed_by frozen (drained_in settings drained v)) (room size)) (x.is).1
-          ∙ (ap (λ z. refusal_by v z (room size)) open_machines ∙ (x.is).2),
+              ∙ (ap (λ z. refusal_by v z (room size)) open_machines ∙ (x.is).2),
         );
       }
 
-  pub frozen_refuses : {size m : ℕ} → MetFrozen settings start v tag m a b → Refuses settings start drained v tag size (Closed v m) a b
-  frozen_refuses {size} {m} x = record {
+  pub frozen_refuses : (size : ℕ) {m : ℕ} → MetFrozen settings start v tag m a b → Refuses settings start drained v tag size (Closed v m) a b
+  frozen_refuses size {m} x = record {
     held = x.held;
     made = x.made;
     holding = x.holding;
@@ -87,8 +86,8 @@ module _ {settings : Settings} {start : Start} {drained : List Bool} {v : ℕ} {
   }
 
   -- since a machine of it is drained
-  pub drained_refuses : {size m : ℕ} → drained_in settings drained v ≡ Some m → MetThawed settings start v tag a b → Refuses settings start drained v tag size (Closed v m) a b
-  drained_refuses {size} {m} machine x =
+  pub drained_refuses : (size : ℕ) {m : ℕ} → drained_in settings drained v ≡ Some m → MetThawed settings start v tag a b → Refuses settings start drained v tag size (Closed v m) a b
+  drained_refuses size {m} machine x =
       let room : Option Refused = room_refusal_of settings v (volume_stood start v x.held) size in record {
         held = x.held;
         made = x.made;
@@ -99,7 +98,7 @@ module _ {settings : Settings} {start : Start} {drained : List Bool} {v : ℕ} {
         );
       }
 
-module _ {settings : Settings} {start : Start} {drained : List Bool} {tag : CoreTag} where
+module _ (settings : Settings) (start : Start) (drained : List Bool) (tag : CoreTag) where
   -- TRIES
 
   module _ {a b : Sight} where
@@ -128,10 +127,10 @@ module _ {settings : Settings} {start : Start} {drained : List Bool} {tag : Core
         }
 
     -- the next one takes the photo
-    pub try_takes : {v : ℕ} {tries later : List ℕ} {refused : List Refused} → v < settings.volumes → drained_in settings drained v ≡ None
+    pub try_takes : {v : ℕ} {tries : List ℕ} (later : List ℕ) {refused : List Refused} → v < settings.volumes → drained_in settings drained v ≡ None
         → all_tries settings pair ≡ tries ++ v ∷ later → Tried settings start drained tag pair size tries refused a m
         → AtVolume v (RoomFits settings start v tag size) m b → HasTaker settings start drained tag pair size v a b
-    try_takes {v} {tries} {later} {refused} below open_machines parts tried x =
+    try_takes {v} {tries} later {refused} below open_machines parts tried x =
         let idle : Idle tag m b = quiet_went x ((x.is).is).0 in
         let behind : IsLaterSight m b = went_later idle in
         let held : List VolumeAct = (x.is).held in
@@ -188,7 +187,7 @@ module _ {settings : Settings} {start : Start} {drained : List Bool} {tag : Core
 
   -- WHERE NOBODY TAKES THE PHOTO
 
-  module _ {pair : Pair} {bytes : List ℕ} {refused : List Refused} {a b : Sight} (tried : Tried settings start drained tag pair (length bytes) (all_tries settings pair) refused a b) where
+  module _ {pair : Pair} (bytes : List ℕ) {refused : List Refused} {a b : Sight} (tried : Tried settings start drained tag pair (length bytes) (all_tries settings pair) refused a b) where
     all_refuse : {item : LaneItem} {refused' : List Refused} → refused ≡ refused' → PutRefusedHere settings start drained item a b no_doings pair (length bytes) refused'
     all_refuse {item} same = record {
       row = inl refl;
@@ -204,7 +203,7 @@ module _ {settings : Settings} {start : Start} {drained : List Bool} {tag : Core
 
   -- WHERE THE ROW CANNOT BE ADDED
 
-  module _ {pair : Pair} {bytes : List ℕ} {v : ℕ} {a m b : Sight} (has : HasTaker settings start drained tag pair (length bytes) v a m) where
+  module _ {pair : Pair} (bytes : List ℕ) {v : ℕ} {a m b : Sight} (has : HasTaker settings start drained tag pair (length bytes) v a m) where
     taker_at : IsLaterSight m b → FoundTaker settings start drained a b pair (length bytes) v
     taker_at later = found_taker_wider (same_sight a) later has.taker
 
@@ -260,7 +259,7 @@ module _ {settings : Settings} {start : Start} {drained : List Bool} {tag : Core
 
   -- AT THE HOME
 
-  module _ {pair : Pair} {bytes : List ℕ} {d v : ℕ} {a m b : Sight} (settled : Settled settings start drained tag pair (length bytes) d v a m) (below : v < settings.volumes) where
+  module _ {pair : Pair} (bytes : List ℕ) {d v : ℕ} {a m b : Sight} (settled : Settled settings start drained tag pair (length bytes) d v a m) (below : v < settings.volumes) where
     home_at : IsLaterSight m b → SawHome settings start drained a b pair d (Some v)
     home_at later = saw_home_wider (same_sight a) later settled.home
 
@@ -303,7 +302,7 @@ module _ {settings : Settings} {start : Start} {drained : List Bool} {tag : Core
         let doing : Doing VolumeAct = acts.doing in
         let later : IsLaterSight m b = went_later acts.went in record {
           doings = doings_at v (doing ∷ []) settled.rows;
-          work = work_of (went_rows_at settled.went acts.went);
+          work = work_of (went_rows_at v (doing ∷ []) settled.went acts.went);
           did = record {
             row = row_at later;
             home = home_at later;
@@ -325,7 +324,7 @@ module _ {settings : Settings} {start : Start} {drained : List Bool} {tag : Core
         let failed = (acts.is).2 in
         let later : IsLaterSight m b = went_later acts.went in record {
           doings = doings_at v (doing ∷ []) settled.rows;
-          work = work_of (went_rows_at settled.went acts.went);
+          work = work_of (went_rows_at v (doing ∷ []) settled.went acts.went);
           did = record {
             row = row_at later;
             d = d;
@@ -343,7 +342,7 @@ module _ {settings : Settings} {start : Start} {drained : List Bool} {tag : Core
     put_wanted open_machines x =
         let went : Went tag m b (doings_at v (doings_in (x.is).held (x.is).made) []) = call_went x in record {
           doings = doings_at v (doings_in (x.is).held (x.is).made) settled.rows;
-          work = work_of (went_rows_at settled.went went);
+          work = work_of (went_rows_at v (doings_in (x.is).held (x.is).made) settled.went went);
           did = wanting (x.is).held (x.is).made (went_later went) (x.is).is;
         }
       where
@@ -354,15 +353,18 @@ module _ {settings : Settings} {start : Start} {drained : List Bool} {tag : Core
         wanting held None later (inr pends) = absurd pends.0
         wanting held (Some act) later (inr pends) =
             let doing : Doing VolumeAct = record { held = held; act = act } in
-            inr (row_at later, inr (record {
-              d = d;
-              v = v;
-              home = home_at later;
-              below = below;
-              elsewhere = changed_other v (doing ∷ []);
-              doing = one_doing v doing pends.0 refl;
-              takes = takes_it settings start drained v held open_machines (length bytes) pends.1;
-            }))
+            inr (
+              row_at later,
+              inr (record {
+                d = d;
+                v = v;
+                home = home_at later;
+                below = below;
+                elsewhere = changed_other v (doing ∷ []);
+                doing = one_doing v doing pends.0 refl;
+                takes = takes_it settings start drained v held open_machines (length bytes) pends.1;
+              }),
+            )
 
     -- memory was wanting behind the row
     pub put_settled_wanted : Idle tag m b → IsAnswered settings start drained tag (command.Put pair bytes) NoMem a b
