@@ -6,8 +6,6 @@ use Rattle.std.proofs.lemmas.Bool.{eq-eqb, ne_eqb}
 use mathlib.Core.Logic.{dite}
 use native.Mathlib.Decide.{ℕ_discrete}
 use Rattle.hay_core.specs.declared.entry.CoreTag.{CoreTag}
-use Rattle.hay_core.specs.declared.entry.Entry.{Entry}
-use Rattle.hay_legal.specs.declared.known.HomeRow.{HomeRow}
 use Rattle.hay_legal.specs.declared.turn.Item.{Item}
 use Rattle.hay_reply.specs.declared.Reply.{Reply}
 use Rattle.hay_meeting.specs.declared.act.DirAct.{DirAct}
@@ -22,6 +20,8 @@ use Rattle.hay_holdings.specs.Holdings.{Called, Looked, doings_in}
 use Rattle.hay_holdings.specs.Lines.{line_of}
 use Rattle.hay_holdings.specs.Sights.{AtArm, AtDirectory, AtVolume, Idle, Went, doings_at, no_doings, on_volume, only_rows}
 use Rattle.hay_holdings.proofs.Calls.{holding_worked, looked_worked}
+use Rattle.hay_holdings.specs.Volumes.{VolumeCall}
+use Rattle.hay_holdings.specs.Rows.{DirectoryCall}
 
 -- DOINGS ON ONE VOLUME
 
@@ -100,7 +100,7 @@ idle_same tag a = record { volumes = λ v. same_worked volume_lock refl; directo
 
 -- A CALL AT A VOLUME
 
-pub volume_went : {tag : CoreTag} {v : ℕ} {Is : LockSight VolumeAct Entry → LockSight VolumeAct Entry → Type 0} {s t : Sight} (ds : List (Doing VolumeAct))
+pub volume_went : {tag : CoreTag} {v : ℕ} {Is : VolumeCall} {s t : Sight} (ds : List (Doing VolumeAct))
     → AtVolume v Is s t → Worked volume_lock tag (s.volumes v) (t.volumes v) ds → Went tag s t (doings_at v ds [])
 volume_went {tag} {v} {Is} {s} {t} ds x here = record {
   volumes = λ u. dite (ℕ_discrete u v)
@@ -125,13 +125,13 @@ pub quiet_went : {tag : CoreTag} {v : ℕ} {IsSo : List VolumeAct → Option Vol
 quiet_went {tag} {v} {IsSo} {s} {t} x none = idle_none v (subst (λ made. Went tag s t (doings_at v (doings_in (x.is).held made) [])) none (call_went x))
 
 -- a look
-pub look_went : {tag : CoreTag} {v : ℕ} {Is : LockSight VolumeAct Entry → LockSight VolumeAct Entry → Type 0} {s t : Sight}
+pub look_went : {tag : CoreTag} {v : ℕ} {Is : VolumeCall} {s t : Sight}
     (x : AtVolume v Is s t) → Looked (s.volumes v) (t.volumes v) → Idle tag s t
 look_went {v = v} x looked = idle_none v (volume_went [] x (looked_worked looked volume_lock))
 
 -- A CALL AT THE DIRECTORY, AND AT THE ARM
 
-pub directory_went : {tag : CoreTag} {Is : LockSight DirAct HomeRow → LockSight DirAct HomeRow → Type 0} {s t : Sight} (ds : List (Doing DirAct))
+pub directory_went : {tag : CoreTag} {Is : DirectoryCall} {s t : Sight} (ds : List (Doing DirAct))
     → AtDirectory Is s t → Worked row_lock tag s.directory t.directory ds → Went tag s t (only_rows ds)
 directory_went ds x here = record {
   volumes = λ u. same_worked volume_lock (x.volumes u);
@@ -147,7 +147,7 @@ pub quiet_row_went : {tag : CoreTag} {IsSo : List DirAct → Option DirAct → T
     (x : AtDirectory (λ a b. Called row_lock tag IsSo a b) s t) → (x.is).made ≡ None → Idle tag s t
 quiet_row_went {tag} {IsSo} {s} {t} x none = subst (λ made. Went tag s t (only_rows (doings_in (x.is).held made))) none (row_call_went x)
 
-pub row_look_went : {tag : CoreTag} {Is : LockSight DirAct HomeRow → LockSight DirAct HomeRow → Type 0} {s t : Sight}
+pub row_look_went : {tag : CoreTag} {Is : DirectoryCall} {s t : Sight}
     (x : AtDirectory Is s t) → Looked s.directory t.directory → Idle tag s t
 row_look_went x looked = directory_went [] x (looked_worked looked row_lock)
 

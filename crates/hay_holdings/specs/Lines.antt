@@ -29,7 +29,7 @@ use Rattle.hay_meeting.specs.Locks.{Doing, IsLaterAt, LockSight, past}
 use Rattle.hay_meeting.specs.Replies.{AnsweredHere, ShowDidHere}
 use Rattle.hay_meeting.specs.Sights.{Doings, Sight}
 use Rattle.hay_holdings.specs.Sights.{Idle, Went, doings_at, only_rows}
-use Rattle.hay_holdings.specs.Volumes.{Call, HasRunOf, RoseTo}
+use Rattle.hay_holdings.specs.Volumes.{VolumeCall, Call, HasRunOf, RoseTo}
 
 -- THE ANSWER
 
@@ -51,11 +51,11 @@ pub record Unchanged (tag : CoreTag) (a b : Sight) : Type 0 where
 
 module _ (settings : Settings) (start : Start) (drained : List Bool) (v : ℕ) (tag : CoreTag) where
   -- it is closed to changes by this machine: a freeze goes before a drain
-  abbrev pub Closes : ℕ → LockSight VolumeAct Entry → LockSight VolumeAct Entry → Type 0
+  abbrev pub Closes : ℕ → VolumeCall
   Closes m = Call settings start v tag (λ held made. (made ≡ None) × (closed_by (volume_stood start v held).frozen (drained_in settings drained v) ≡ Some m))
 
   -- it does not take a photo of this size
-  abbrev pub Refuses : ℕ → Refused → LockSight VolumeAct Entry → LockSight VolumeAct Entry → Type 0
+  abbrev pub Refuses : ℕ → Refused → VolumeCall
   Refuses size refused = Call settings start v tag (λ held made.
       (made ≡ None)
       × (refusal_by v (closed_by (volume_stood start v held).frozen (drained_in settings drained v)) (room_refusal_of settings v (volume_stood start v held) size)

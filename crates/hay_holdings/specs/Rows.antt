@@ -14,6 +14,10 @@ use Rattle.hay_meeting.specs.Locks.{LockSight}
 use Rattle.hay_meeting.specs.Sights.{rows_stood}
 use Rattle.hay_holdings.specs.Holdings.{Called, Looked}
 
+-- what a call at the Directory is, from what its lane knew of it to what it knows then
+abbrev pub DirectoryCall : Type 1
+DirectoryCall = LockSight DirAct HomeRow → LockSight DirAct HomeRow → Type 0
+
 -- it made one act, which did this
 abbrev pub MadeRow : RowDid → Option DirAct → Type 0
 MadeRow did None = ⊥
@@ -41,34 +45,34 @@ module _ (start : Start) where
     pub is : home_in (rows_shown start b.shown) pair ≡ home
 
   module _ (tag : CoreTag) where
-    abbrev pub RowCall : (List DirAct → Option DirAct → Type 0) → LockSight DirAct HomeRow → LockSight DirAct HomeRow → Type 0
+    abbrev pub RowCall : (List DirAct → Option DirAct → Type 0) → DirectoryCall
     RowCall IsSo a b = Called row_lock tag IsSo a b
 
     -- the pair had a home by then, at so many rows
-    abbrev pub MetHome : Pair → ℕ → ℕ → LockSight DirAct HomeRow → LockSight DirAct HomeRow → Type 0
+    abbrev pub MetHome : Pair → ℕ → ℕ → DirectoryCall
     MetHome pair v d = RowCall (λ held made. (made ≡ None) × (home_in (rows_found held) pair ≡ Some v) × (d ≡ length (rows_found held)))
 
     -- it added the row of its pair, which had none; there are so many rows then
-    abbrev pub RowAdded : Pair → ℕ → ℕ → LockSight DirAct HomeRow → LockSight DirAct HomeRow → Type 0
+    abbrev pub RowAdded : Pair → ℕ → ℕ → DirectoryCall
     RowAdded pair v d = RowCall (λ held made.
         MadeRow (AddsRow (record { pair = pair; volume = v })) made × (home_in (rows_found held) pair ≡ None) × (d ≡ length (rows_found held) + 1))
 
-    abbrev pub MetFrozenDir : LockSight DirAct HomeRow → LockSight DirAct HomeRow → Type 0
+    abbrev pub MetFrozenDir : DirectoryCall
     MetFrozenDir = RowCall (λ held made. (made ≡ None) × (((rows_stood start held).directory).frozen ≡ true))
 
-    abbrev pub RowFailed : Pair → ℕ → ℕ → LockSight DirAct HomeRow → LockSight DirAct HomeRow → Type 0
+    abbrev pub RowFailed : Pair → ℕ → ℕ → DirectoryCall
     RowFailed pair v f = RowCall (λ held made. MadeRow (PendsRow (record { pair = pair; volume = v })) made × FailedRow f held made)
 
     -- for want of memory nothing was changed, or the Directory is frozen with the row pending
-    abbrev pub RowWanted : Pair → ℕ → LockSight DirAct HomeRow → LockSight DirAct HomeRow → Type 0
+    abbrev pub RowWanted : Pair → ℕ → DirectoryCall
     RowWanted pair v = RowCall (λ held made. MadeNoRow made ⊎ MadeRow (PendsRow (record { pair = pair; volume = v })) made)
 
-    abbrev pub Drained : ℕ → Bool → LockSight DirAct HomeRow → LockSight DirAct HomeRow → Type 0
+    abbrev pub Drained : ℕ → Bool → DirectoryCall
     Drained m is = RowCall (λ held made. MadeRow (Drains m is) made)
 
-    abbrev pub FusedDir : LockSight DirAct HomeRow → LockSight DirAct HomeRow → Type 0
+    abbrev pub FusedDir : DirectoryCall
     FusedDir = RowCall (λ held made. MadeRow FusesRow made)
 
     -- a call that changed nothing, as for want of memory
-    abbrev pub NoRowDone : LockSight DirAct HomeRow → LockSight DirAct HomeRow → Type 0
+    abbrev pub NoRowDone : DirectoryCall
     NoRowDone = RowCall (λ held made. MadeNoRow made)

@@ -1,23 +1,23 @@
 -- One call of a line, as a step from what its lane knew of all locks to what it knows then, and what a line made of several.
 use Rattle.std.specs.Prelude.{◌≡◌, ◌≢◌, ◌⊎◌, ℕ, ◌^◌, ◌<◌, ◌≤◌, ◌==◌, cond, List, []}
 use Rattle.hay_core.specs.declared.entry.CoreTag.{CoreTag}
-use Rattle.hay_core.specs.declared.entry.Entry.{Entry}
-use Rattle.hay_legal.specs.declared.known.HomeRow.{HomeRow}
 use Rattle.hay_meeting.specs.declared.act.DirAct.{DirAct}
 use Rattle.hay_meeting.specs.declared.act.VolumeAct.{VolumeAct}
 use Rattle.hay_meeting.specs.Acts.{row_lock, volume_lock}
-use Rattle.hay_meeting.specs.Locks.{Doing, LockSight, Worked}
+use Rattle.hay_meeting.specs.Locks.{Doing, Worked}
 use Rattle.hay_meeting.specs.Sights.{Doings, Sight}
+use Rattle.hay_holdings.specs.Volumes.{VolumeCall}
+use Rattle.hay_holdings.specs.Rows.{DirectoryCall}
 
 -- a call at this volume
-pub record AtVolume (v : ℕ) (Is : LockSight VolumeAct Entry → LockSight VolumeAct Entry → Type 0) (s t : Sight) : Type 0 where
+pub record AtVolume (v : ℕ) (Is : VolumeCall) (s t : Sight) : Type 0 where
   pub is : Is (s.volumes v) (t.volumes v)
   pub others : (u : ℕ) → u ≢ v → t.volumes u ≡ s.volumes u
   pub directory : t.directory ≡ s.directory
   pub arm : t.arm ≡ s.arm
 
 -- a call at the Directory
-pub record AtDirectory (Is : LockSight DirAct HomeRow → LockSight DirAct HomeRow → Type 0) (s t : Sight) : Type 0 where
+pub record AtDirectory (Is : DirectoryCall) (s t : Sight) : Type 0 where
   pub is : Is s.directory t.directory
   pub volumes : (v : ℕ) → t.volumes v ≡ s.volumes v
   pub arm : t.arm ≡ s.arm

@@ -26,6 +26,10 @@ use Rattle.hay_meeting.specs.Sights.{stood}
 use Rattle.hay_turn.specs.Slots.{acts_in}
 use Rattle.hay_holdings.specs.Holdings.{Called, Looked}
 
+-- what a call at a volume is, from what its lane knew of it to what it knows then
+abbrev pub VolumeCall : Type 1
+VolumeCall = LockSight VolumeAct Entry → LockSight VolumeAct Entry → Type 0
+
 -- it made one act, which did this
 abbrev pub MadeOne : Did → Option VolumeAct → Type 0
 MadeOne did None = ⊥
@@ -96,69 +100,69 @@ module _ (settings : Settings) (start : Start) (v : ℕ) where
 
   module _ (tag : CoreTag) where
     -- One holding of the volume, of which this is so.
-    abbrev pub Call : (List VolumeAct → Option VolumeAct → Type 0) → LockSight VolumeAct Entry → LockSight VolumeAct Entry → Type 0
+    abbrev pub Call : (List VolumeAct → Option VolumeAct → Type 0) → VolumeCall
     Call IsSo a b = Called volume_lock tag IsSo a b
 
     -- a call that changed nothing: a place was seen, or memory was wanting
-    abbrev pub NothingDone : LockSight VolumeAct Entry → LockSight VolumeAct Entry → Type 0
+    abbrev pub NothingDone : VolumeCall
     NothingDone = Call (λ held made. MadeNothing made)
 
     -- WHETHER IT TAKES A CHANGE
 
-    abbrev pub MetThawed : LockSight VolumeAct Entry → LockSight VolumeAct Entry → Type 0
+    abbrev pub MetThawed : VolumeCall
     MetThawed = Call (λ held made. (made ≡ None) × IsThawed held)
 
     -- it is frozen by this machine
-    abbrev pub MetFrozen : ℕ → LockSight VolumeAct Entry → LockSight VolumeAct Entry → Type 0
+    abbrev pub MetFrozen : ℕ → VolumeCall
     MetFrozen m = Call (λ held made. (made ≡ None) × ((volume_stood start v held).frozen ≡ Some m))
 
-    abbrev pub RoomFits : ℕ → LockSight VolumeAct Entry → LockSight VolumeAct Entry → Type 0
+    abbrev pub RoomFits : ℕ → VolumeCall
     RoomFits size = Call (λ held made. (made ≡ None) × Takes size held)
 
-    abbrev pub RoomLacks : ℕ → Refused → LockSight VolumeAct Entry → LockSight VolumeAct Entry → Type 0
+    abbrev pub RoomLacks : ℕ → Refused → VolumeCall
     RoomLacks size refused = Call (λ held made.
         (made ≡ None) × IsThawed held × (room_refusal_of settings v (volume_stood start v held) size ≡ Some refused))
 
     -- PUTS
 
-    abbrev pub PutStored : Pair → Cookie → List ℕ → ℕ → LockSight VolumeAct Entry → LockSight VolumeAct Entry → Type 0
+    abbrev pub PutStored : Pair → Cookie → List ℕ → ℕ → VolumeCall
     PutStored pair cookie bytes p = Call (λ held made.
         MadeOne (Entered (entry.Put pair cookie bytes)) made × Takes (length bytes) held × (p ≡ length (volume_stood start v held).log + 1))
 
-    abbrev pub PutFailed : Pair → Cookie → List ℕ → ℕ → ℕ → LockSight VolumeAct Entry → LockSight VolumeAct Entry → Type 0
+    abbrev pub PutFailed : Pair → Cookie → List ℕ → ℕ → ℕ → VolumeCall
     PutFailed pair cookie bytes m f = Call (λ held made.
         MadeOne (Pends m (entry.Put pair cookie bytes) true) made × Takes (length bytes) held × FailedOn m f held made)
 
-    abbrev pub PutWanted : Pair → Cookie → List ℕ → LockSight VolumeAct Entry → LockSight VolumeAct Entry → Type 0
+    abbrev pub PutWanted : Pair → Cookie → List ℕ → VolumeCall
     PutWanted pair cookie bytes = Call (λ held made.
         MadeNothing made ⊎ (MadeOne (Pends (first_machine settings v) (entry.Put pair cookie bytes) false) made × Takes (length bytes) held))
 
     -- READS of places that had not been looked at
 
-    abbrev pub SightFailed : ℕ → ℕ → LockSight VolumeAct Entry → LockSight VolumeAct Entry → Type 0
+    abbrev pub SightFailed : ℕ → ℕ → VolumeCall
     SightFailed j f = Call (λ held made. MadeOne Tries made × FailedAct j f held made)
 
     -- for want of memory it may have frozen the volume
-    abbrev pub SightWanted : LockSight VolumeAct Entry → LockSight VolumeAct Entry → Type 0
+    abbrev pub SightWanted : VolumeCall
     SightWanted = Call (λ held made. MadeNothing made ⊎ MadeOne (Freezes (first_machine settings v)) made)
 
     -- DELETES
 
-    abbrev pub Deleted : Pair → ℕ → LockSight VolumeAct Entry → LockSight VolumeAct Entry → Type 0
+    abbrev pub Deleted : Pair → ℕ → VolumeCall
     Deleted pair p = Call (λ held made.
         MadeOne (Entered (entry.Del pair)) made × IsThawed held × (stood_there pair held ≡ true) × (p ≡ length (volume_stood start v held).log + 1))
 
-    abbrev pub MetAbsent : Pair → ℕ → LockSight VolumeAct Entry → LockSight VolumeAct Entry → Type 0
+    abbrev pub MetAbsent : Pair → ℕ → VolumeCall
     MetAbsent pair p = Call (λ held made.
         MadeNothing made × IsThawed held × (stood_there pair held ≡ false) × (p ≡ length (volume_stood start v held).log))
 
     -- a look failed, or the delete of a photo that stood
-    abbrev pub DeleteFailed : Pair → ℕ → ℕ → LockSight VolumeAct Entry → LockSight VolumeAct Entry → Type 0
+    abbrev pub DeleteFailed : Pair → ℕ → ℕ → VolumeCall
     DeleteFailed pair m f = Call (λ held made.
         IsThawed held × FailedOn m f held made
         × (MadeOne Tries made ⊎ (MadeOne (Pends m (entry.Del pair) true) made × (stood_there pair held ≡ true))))
 
-    abbrev pub DeleteWanted : Pair → LockSight VolumeAct Entry → LockSight VolumeAct Entry → Type 0
+    abbrev pub DeleteWanted : Pair → VolumeCall
     DeleteWanted pair = Call (λ held made.
         MadeNothing made
         ⊎ (IsThawed held × MadeOne (Freezes (first_machine settings v)) made)
@@ -166,67 +170,67 @@ module _ (settings : Settings) (start : Start) (v : ℕ) where
 
     -- FLUSHES
 
-    abbrev pub Flushed : ℕ → ℕ → LockSight VolumeAct Entry → LockSight VolumeAct Entry → Type 0
+    abbrev pub Flushed : ℕ → ℕ → VolumeCall
     Flushed j n = Call (λ held made. MadeOne (Flushes j) made × (n ≡ (replica_stood held j).bare))
 
-    abbrev pub MetStuck : ℕ → LockSight VolumeAct Entry → LockSight VolumeAct Entry → Type 0
+    abbrev pub MetStuck : ℕ → VolumeCall
     MetStuck j = Call (λ held made. (made ≡ None) × IsThawed held × ((replica_stood held j).stuck ≡ true))
 
-    abbrev pub FlushFailed : ℕ → ℕ → LockSight VolumeAct Entry → LockSight VolumeAct Entry → Type 0
+    abbrev pub FlushFailed : ℕ → ℕ → VolumeCall
     FlushFailed j f = Call (λ held made. MadeOne (Sticks j) made × FailedAct j f held made)
 
     -- COMPACTIONS
 
     -- it began one, which stands
-    abbrev pub Begun : ℕ → ℕ → LockSight VolumeAct Entry → LockSight VolumeAct Entry → Type 0
+    abbrev pub Begun : ℕ → ℕ → VolumeCall
     Begun j g = Call (λ held made. MadeOne (Begins j) made × HasRunOf j tag (held ++ acts_in made) × (g ≡ (replica_stood held j).generation + 1))
 
-    abbrev pub MetBusy : ℕ → ℕ → LockSight VolumeAct Entry → LockSight VolumeAct Entry → Type 0
+    abbrev pub MetBusy : ℕ → ℕ → VolumeCall
     MetBusy j g = Call (λ held made. (made ≡ None) × IsThawed held × ((run : Run) × ((replica_stood held j).run ≡ Some run) × (run.goal ≡ g)))
 
-    abbrev pub MetWorn : ℕ → LockSight VolumeAct Entry → LockSight VolumeAct Entry → Type 0
+    abbrev pub MetWorn : ℕ → VolumeCall
     MetWorn j = Call (λ held made. (made ≡ None) × IsThawed held × ((replica_stood held j).run ≡ None) × ((replica_stood held j).generation ≡ 65535))
 
-    abbrev pub BeginFailed : ℕ → ℕ → LockSight VolumeAct Entry → LockSight VolumeAct Entry → Type 0
+    abbrev pub BeginFailed : ℕ → ℕ → VolumeCall
     BeginFailed j f = Call (λ held made.
         MadeOne Tries made × IsThawed held × ((replica_stood held j).run ≡ None) × ((replica_stood held j).generation < 65535) × FailedAct j f held made)
 
     -- none stood that a line of this lane had begun
-    abbrev pub MetIdle : ℕ → LockSight VolumeAct Entry → LockSight VolumeAct Entry → Type 0
+    abbrev pub MetIdle : ℕ → VolumeCall
     MetIdle j = Call (λ held made. (made ≡ None) × IsThawed held × ((who : CoreTag) → who.lane ≡ tag.lane → HasRunOf j who held → ⊥))
 
     -- it examined so many cells of the compaction that the line `who` began
-    abbrev pub Stepped : ℕ → CoreTag → ℕ → (ℕ → Type 0) → LockSight VolumeAct Entry → LockSight VolumeAct Entry → Type 0
+    abbrev pub Stepped : ℕ → CoreTag → ℕ → (ℕ → Type 0) → VolumeCall
     Stepped j who n AsMany = Call (λ held made. MadeOne (Examines j n) made × ((has : HasRunOf j who held) × AsMany (has.run).left))
 
     -- a call of the replica's disk failed, and the compaction ended
-    abbrev pub RunFailed : ℕ → CoreTag → ℕ → LockSight VolumeAct Entry → LockSight VolumeAct Entry → Type 0
+    abbrev pub RunFailed : ℕ → CoreTag → ℕ → VolumeCall
     RunFailed j who f = Call (λ held made. MadeOne (Ends j) made × HasRunOf j who held × FailedAct j f held made)
 
     -- it ended for want of memory
-    abbrev pub RunWanted : ℕ → CoreTag → LockSight VolumeAct Entry → LockSight VolumeAct Entry → Type 0
+    abbrev pub RunWanted : ℕ → CoreTag → VolumeCall
     RunWanted j who = Call (λ held made. MadeOne (Ends j) made × HasRunOf j who held)
 
     -- its files are the current ones; for want of memory the volume may be frozen then
-    abbrev pub Swapped : ℕ → CoreTag → ℕ → ℕ → ℕ → Bool → LockSight VolumeAct Entry → LockSight VolumeAct Entry → Type 0
+    abbrev pub Swapped : ℕ → CoreTag → ℕ → ℕ → ℕ → Bool → VolumeCall
     Swapped j who g end cells frozen = Call (λ held made.
         MadeOne (Swaps j end cells frozen) made × HasRunOf j who held × (g ≡ (replica_stood held j).generation + 1) × IsTightSince j end cells held)
 
     -- the switch of the head failed, and the volume is frozen by this machine
-    abbrev pub SwapFailed : ℕ → CoreTag → ℕ → ℕ → LockSight VolumeAct Entry → LockSight VolumeAct Entry → Type 0
+    abbrev pub SwapFailed : ℕ → CoreTag → ℕ → ℕ → VolumeCall
     SwapFailed j who m f = Call (λ held made. MadeOne (Poises m j) made × HasRunOf j who held × FailedAct j f held made)
 
     -- a delete of another line had ended it, since the replica's disk failed, with this count
-    abbrev pub RunDeleted : ℕ → CoreTag → ℕ → LockSight VolumeAct Entry → LockSight VolumeAct Entry → Type 0
+    abbrev pub RunDeleted : ℕ → CoreTag → ℕ → VolumeCall
     RunDeleted j who f = Call (λ held made.
         (made ≡ None) × ((ended : EndedAt j who held) × IsThawed (past ended.until) × RoseTo j f ended.until))
 
     -- this machine had frozen the volume in its course
-    abbrev pub RunFrozen : ℕ → CoreTag → ℕ → LockSight VolumeAct Entry → LockSight VolumeAct Entry → Type 0
+    abbrev pub RunFrozen : ℕ → CoreTag → ℕ → VolumeCall
     RunFrozen j who m = Call (λ held made.
         (made ≡ None) × ((ended : EndedAt j who held) × ((volume_stood start v (past ended.until)).frozen ≡ Some m)))
 
     -- FUSES
 
-    abbrev pub Fused : ℕ → LockSight VolumeAct Entry → LockSight VolumeAct Entry → Type 0
+    abbrev pub Fused : ℕ → VolumeCall
     Fused j = Call (λ held made. MadeOne (Fuses j) made)
