@@ -8,3 +8,5 @@ pub mod DelAnswers
 pub mod ReadAnswers
 pub mod WorkAnswers
 pub mod CompactAnswers
+pub mod Ending
+pub mod Worked
