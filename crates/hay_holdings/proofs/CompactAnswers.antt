@@ -39,7 +39,7 @@ use Rattle.hay_meeting.proofs.Replays.{entries_prefix, left_append, prefix_lengt
 use Rattle.hay_meeting.proofs.Standings.{begun_append}
 use Rattle.hay_holdings.specs.Holdings.{doings_in}
 use Rattle.hay_holdings.specs.Lines.{Compacting, IsAnswered, line_of}
-use Rattle.hay_holdings.specs.Sights.{AtVolume, Went, doings_at, no_doings, on_volume}
+use Rattle.hay_holdings.specs.Sights.{AtVolume, Idle, Went, doings_at, no_doings, on_volume}
 use Rattle.hay_holdings.specs.Volumes as calls
 use Rattle.hay_holdings.specs.Volumes.{EndedAt, HasRunOf, RoseTo}
 use Rattle.hay_holdings.proofs.Calls.{holding_held, nothing_changed, one_changed}
@@ -161,7 +161,20 @@ module _ (settings : Settings) (start : Start) (drained : List Bool) (tag : Core
           stand = each_append (λ d. HasRunOf settings start v j tag (past d)) c.middle (doing ∷ []) c.stand (runs_on settings start v j doing ((acts.is).1).0 (acts.is).0, tt);
         }
 
-    -- a call that changed nothing
+    -- it goes on without an act, or with one that changed nothing
+    pub compact_on : {b : Sight} → Idle tag m b → On a b
+    compact_on idle = record {
+      doings = c.doings;
+      went = went_idle c.went idle;
+      first = c.first;
+      begins = c.begins;
+      middle = c.middle;
+      examines = c.examines;
+      steps = c.steps;
+      stood = c.stood;
+      stand = c.stand;
+    }
+
     pub compact_waits : {b : Sight} → AtVolume v (calls.NothingDone settings start v tag) m b → On a b
     compact_waits x =
         let ds : List (Doing VolumeAct) = doings_in (x.is).held (x.is).made in record {

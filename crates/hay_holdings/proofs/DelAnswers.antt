@@ -22,13 +22,12 @@ use Rattle.hay_meeting.specs.Sights.{IsLaterSight, Sight}
 use Rattle.hay_meeting.proofs.Chaining.{same_sight}
 use Rattle.hay_meeting.proofs.Phases.{found_wider, saw_home_wider}
 use Rattle.hay_holdings.specs.Holdings.{Holding, doings_in}
-use Rattle.hay_holdings.specs.Lines.{Closes, IsAnswered}
-use Rattle.hay_holdings.specs.Rows.{HomeShown}
-use Rattle.hay_holdings.specs.Sights.{AtDirectory, AtVolume, Idle, Went, doings_at, no_doings, on_volume}
+use Rattle.hay_holdings.specs.Lines.{Closes, IsAnswered, Sees}
+use Rattle.hay_holdings.specs.Sights.{AtVolume, Idle, Went, doings_at, no_doings, on_volume}
 use Rattle.hay_holdings.specs.Volumes.{DeleteFailed, DeleteWanted, Deleted as DeletedThere, FailedOn, IsThawed, MadeNothing, MadeOne, MetAbsent, MetFrozen, MetThawed, stood_there}
 use Rattle.hay_holdings.proofs.Calls.{holding_held, nothing_changed}
-use Rattle.hay_holdings.proofs.Finding.{acted_at, found_at, home_seen, is_open, one_doing, one_try, rose_at}
-use Rattle.hay_holdings.proofs.Going.{call_went, changed_nowhere, changed_other, last_here, on_each, quiet_went, row_look_went, went_idle, went_later, went_more, work_of}
+use Rattle.hay_holdings.proofs.Finding.{acted_at, found_at, is_open, one_doing, one_try, rose_at}
+use Rattle.hay_holdings.proofs.Going.{call_went, changed_nowhere, changed_other, last_here, on_each, quiet_went, went_idle, went_later, went_more, work_of}
 
 -- A HOLDING THAT FOUND THE VOLUME CLOSED
 
@@ -50,27 +49,17 @@ module _ (settings : Settings) (start : Start) (drained : List Bool) (v : ℕ) (
   }
 
 module _ (settings : Settings) (start : Start) (drained : List Bool) (tag : CoreTag) where
-  module _ {pair : Pair} {d : ℕ} {a b : Sight} (homeless : AtDirectory (HomeShown start pair d None) a b) where
+  module _ {pair : Pair} {d : ℕ} {a b : Sight} (homeless : Sees settings start drained tag pair d None a b) where
     pub del_unknown : IsAnswered settings start drained tag (command.Del pair) (Unknown d) a b
-    del_unknown = record { doings = no_doings; work = work_of (row_look_went homeless (homeless.is).looked); did = (home_seen homeless, ((λ u. refl), refl)) }
+    del_unknown = record { doings = no_doings; work = work_of homeless.idle; did = (homeless.saw, ((λ u. refl), refl)) }
 
     pub url_unknown : IsAnswered settings start drained tag (command.Url pair) (Unknown d) a b
-    url_unknown = record { doings = no_doings; work = work_of (row_look_went homeless (homeless.is).looked); did = (home_seen homeless, ((λ u. refl), refl)) }
+    url_unknown = record { doings = no_doings; work = work_of homeless.idle; did = (homeless.saw, ((λ u. refl), refl)) }
 
   pub url_told : {pair : Pair} {d : ℕ} {url : UrlParts} {a b : Sight} → url.pair ≡ pair → url.cookie ≡ cookie_of settings.secret pair.key
-      → url.machine ≡ machine_of settings url.volume (start_of settings tag) → AtDirectory (HomeShown start pair d (Some url.volume)) a b
+      → url.machine ≡ machine_of settings url.volume (start_of settings tag) → Sees settings start drained tag pair d (Some url.volume) a b
       → IsAnswered settings start drained tag (command.Url pair) (Url d url) a b
-  url_told own cookie machine x = record {
-    doings = no_doings;
-    work = work_of (row_look_went x (x.is).looked);
-    did = (home_seen x, own, cookie, machine, ((λ u. refl), refl));
-  }
-
-  pub url_none : {pair : Pair} {a b : Sight} → Idle tag a b → IsAnswered settings start drained tag (command.Url pair) NoMem a b
-  url_none idle = record { doings = no_doings; work = work_of idle; did = ((λ u. refl), refl) }
-
-  pub del_none : {pair : Pair} {a b : Sight} → Idle tag a b → IsAnswered settings start drained tag (command.Del pair) NoMem a b
-  del_none idle = record { doings = no_doings; work = work_of idle; did = (refl, inl (λ u. refl)) }
+  url_told own cookie machine x = record { doings = no_doings; work = work_of x.idle; did = (x.saw, own, cookie, machine, ((λ u. refl), refl)) }
 
   -- a call failed in the doing, which found the volume open to changes
   module _ (pair : Pair) (v machine f : ℕ) (a b : Sight) (open_machines : drained_in settings drained v ≡ None) (doing : Doing VolumeAct) where
@@ -93,12 +82,9 @@ module _ (settings : Settings) (start : Start) (drained : List Bool) (tag : Core
 
   -- AT THE HOME
 
-  module _ {pair : Pair} {d v : ℕ} {a m : Sight} (home : AtDirectory (HomeShown start pair d (Some v)) a m) (below : v < settings.volumes) where
-    looked : Idle tag a m
-    looked = row_look_went home (home.is).looked
-
+  module _ {pair : Pair} {d v : ℕ} {a m : Sight} (home : Sees settings start drained tag pair d (Some v) a m) (below : v < settings.volumes) where
     home_at : {b : Sight} → IsLaterSight m b → SawHome settings start drained a b pair d (Some v)
-    home_at later = saw_home_wider (same_sight a) later (home_seen home)
+    home_at later = saw_home_wider (same_sight a) later home.saw
 
     pub del_closed : {b : Sight} {machine : ℕ} → AtVolume v (Closes settings start drained v tag machine) m b
         → IsAnswered settings start drained tag (command.Del pair) (ReadOnly (record { volume = v; machine = machine } ∷ [])) a b
@@ -106,8 +92,8 @@ module _ (settings : Settings) (start : Start) (drained : List Bool) (tag : Core
         let idle : Idle tag m b = quiet_went x ((x.is).is).0 in
         let found : Found settings start drained m b v (λ acts. closed_by (volume_stood start v acts).frozen (drained_in settings drained v) ≡ Some machine) = found_at below x ((x.is).is).1 in record {
           doings = no_doings;
-          work = work_of (went_idle looked idle);
-          did = (((d, home_at (went_later idle)), found_wider (went_later looked) (same_sight b) found), ((λ u. refl), refl));
+          work = work_of (went_idle home.idle idle);
+          did = (((d, home_at (went_later idle)), found_wider (went_later home.idle) (same_sight b) found), ((λ u. refl), refl));
         }
 
     pub del_done : {b : Sight} {p : ℕ} → drained_in settings drained v ≡ None → AtVolume v (DeletedThere settings start v tag pair p) m b
@@ -116,7 +102,7 @@ module _ (settings : Settings) (start : Start) (drained : List Bool) (tag : Core
         let acts = acted_at x (λ held none. none.0) in
         let doing : Doing VolumeAct = acts.doing in record {
           doings = doings_at v (doing ∷ []) [];
-          work = work_of (went_more looked acts.went);
+          work = work_of (went_more home.idle acts.went);
           did = record {
             home = home_at (went_later acts.went);
             below = below;
@@ -139,10 +125,10 @@ module _ (settings : Settings) (start : Start) (drained : List Bool) (tag : Core
         × (stood_there settings start v pair acts ≡ false) × (p ≡ length (volume_stood start v acts).log)) =
         found_at below x (is_open settings start drained v (x.is).held open_machines is.1, is.2, is.3) in record {
           doings = doings_at v ds [];
-          work = work_of (went_more looked went);
+          work = work_of (went_more home.idle went);
           did = record {
             home = home_at (went_later went);
-            found = found_wider (went_later looked) (same_sight b) found;
+            found = found_wider (went_later home.idle) (same_sight b) found;
             none = (changed_nowhere v ds (nothing_changed (x.is).held (x.is).made is.0), refl);
           };
         }
@@ -153,7 +139,7 @@ module _ (settings : Settings) (start : Start) (drained : List Bool) (tag : Core
         let acts = acted_at x (λ held none. (none.1).2) in
         let doing : Doing VolumeAct = acts.doing in record {
           doings = doings_at v (doing ∷ []) [];
-          work = work_of (went_more looked acts.went);
+          work = work_of (went_more home.idle acts.went);
           did = record {
             d = d;
             home = home_at (went_later acts.went);
@@ -169,7 +155,7 @@ module _ (settings : Settings) (start : Start) (drained : List Bool) (tag : Core
         let ds : List (Doing VolumeAct) = doings_in (x.is).held (x.is).made in
         let went : Went tag m b (doings_at v ds []) = call_went x in record {
           doings = doings_at v ds [];
-          work = work_of (went_more looked went);
+          work = work_of (went_more home.idle went);
           did = wanting (x.is).held (x.is).made (x.is).holding (went_later went) (x.is).is;
         }
       where
@@ -192,7 +178,7 @@ module _ (settings : Settings) (start : Start) (drained : List Bool) (tag : Core
                   elsewhere = changed_other v (doing ∷ []);
                   steps = on_each v (λ doing. (did_of (doing.act).did ≡ Tries) ⊎ (did_of (doing.act).did ≡ Freezes (first_machine settings v))) (doing ∷ []) (inr froze.1, tt);
                 },
-                found_wider (went_later looked) (same_sight b) found,
+                found_wider (went_later home.idle) (same_sight b) found,
               )),
             )
         wanting held None holding later (inr (inr pends)) = absurd pends.1

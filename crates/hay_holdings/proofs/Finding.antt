@@ -14,13 +14,15 @@ use Rattle.hay_meeting.specs.Acts.{Start, did_of, row_did_of, row_lock, volume_l
 use Rattle.hay_meeting.specs.Facts.{Found, OneDoing, OneRowDoing, OneTryAt, RoseAt, SawHome, drained_in, volume_stood}
 use Rattle.hay_meeting.specs.Locks.{Doing, IsDoing}
 use Rattle.hay_meeting.specs.Sights.{Sight}
-use Rattle.hay_meeting.proofs.Chaining.{same_at}
+use Rattle.hay_meeting.proofs.Chaining.{same_at, same_sight}
+use Rattle.hay_meeting.proofs.Phases.{saw_home_wider}
 use Rattle.hay_holdings.specs.Holdings.{Called}
 use Rattle.hay_holdings.specs.Rows.{HomeShown}
-use Rattle.hay_holdings.specs.Sights.{AtDirectory, AtVolume, Went, doings_at, on_volume, only_rows}
+use Rattle.hay_holdings.specs.Lines.{Sees}
+use Rattle.hay_holdings.specs.Sights.{AtDirectory, AtVolume, Idle, Went, doings_at, on_volume, only_rows}
 use Rattle.hay_holdings.specs.Volumes.{IsThawed, RoseTo, Takes}
 use Rattle.hay_holdings.proofs.Calls.{acted, holding_doing, holding_held, holding_worked, looked_later, nothing_changed, one_changed, one_row_changed}
-use Rattle.hay_holdings.proofs.Going.{changed_here, directory_went, on_here, volume_went}
+use Rattle.hay_holdings.proofs.Going.{changed_here, directory_went, on_here, row_look_went, volume_went, went_idle, went_later}
 
 -- A HOLDING THAT ACTED
 
@@ -93,6 +95,14 @@ module _ {settings : Settings} {start : Start} {drained : List Bool} {tag : Core
 abbrev pub home_seen : {settings : Settings} {start : Start} {drained : List Bool} {a b : Sight} {pair : Pair} {d : ℕ} {home : Option ℕ} → AtDirectory (HomeShown start pair d home) a b
     → SawHome settings start drained a b pair d home
 home_seen {b = b} x = record { sight = b.directory; from = looked_later (x.is).looked; to = same_at b.directory; front = (x.is).front; is = (x.is).is }
+
+module _ (settings : Settings) (start : Start) (drained : List Bool) (tag : CoreTag) {pair : Pair} {d : ℕ} {home : Option ℕ} where
+  -- a line begins with such a look
+  pub sees : {a b : Sight} → AtDirectory (HomeShown start pair d home) a b → Sees settings start drained tag pair d home a b
+  sees x = record { idle = row_look_went x (x.is).looked; saw = home_seen x }
+
+  pub sees_on : {a m b : Sight} → Sees settings start drained tag pair d home a m → Idle tag m b → Sees settings start drained tag pair d home a b
+  sees_on {a} x idle = record { idle = went_idle x.idle idle; saw = saw_home_wider (same_sight a) (went_later idle) x.saw }
 
 -- where it is not frozen and no machine of it is drained
 module _ (settings : Settings) (start : Start) (drained : List Bool) (v : ℕ) (held : List VolumeAct) (open_machines : drained_in settings drained v ≡ None) where

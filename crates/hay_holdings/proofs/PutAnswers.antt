@@ -23,7 +23,7 @@ use Rattle.hay_legal.proofs.Subject.Effects.{home_added}
 use Rattle.hay_history.specs.Steps.{RowsStanding}
 use Rattle.hay_history.specs.Steps.Did.{Pends}
 use Rattle.hay_history.specs.Steps.RowDid.{AddsRow, PendsRow}
-use Rattle.hay_history.proofs.Lists.{each_weaker, zip_weaker}
+use Rattle.hay_history.proofs.Lists.{zip_weaker}
 use Rattle.hay_meeting.specs.declared.act.DirAct.{DirAct}
 use Rattle.hay_meeting.specs.declared.act.VolumeAct.{VolumeAct}
 use Rattle.hay_meeting.specs.declared.act.DirDid.{DirDid}
@@ -37,13 +37,13 @@ use Rattle.hay_meeting.proofs.Chaining.{same_sight}
 use Rattle.hay_meeting.proofs.Phases.{doing_left, found_rows_wider, found_taker_wider, found_wider, home_held, saw_home_wider}
 use Rattle.hay_meeting.proofs.Replays.{left_append}
 use Rattle.hay_holdings.specs.Holdings.{doings_in}
-use Rattle.hay_holdings.specs.Lines.{HasTaker, IsAnswered, Refuses, Settled, Tried}
-use Rattle.hay_holdings.specs.Rows.{HomeShown, MadeNoRow, MadeRow, MetFrozenDir, MetHome, RowAdded, RowFailed, RowWanted, rows_found}
+use Rattle.hay_holdings.specs.Lines.{HasTaker, IsAnswered, Refuses, Sees, Settled, Tried}
+use Rattle.hay_holdings.specs.Rows.{MadeNoRow, MadeRow, MetFrozenDir, MetHome, RowAdded, RowFailed, RowWanted, rows_found}
 use Rattle.hay_holdings.specs.Sights.{AtDirectory, AtVolume, Idle, Went, doings_at, no_doings, only_rows}
 use Rattle.hay_holdings.specs.Volumes.{MadeNothing, MadeOne, MetFrozen, MetThawed, PutFailed, PutStored, PutWanted, RoomFits, RoomLacks, Takes}
 use Rattle.hay_holdings.proofs.Calls.{holding_held, no_row_changed, nothing_changed}
-use Rattle.hay_holdings.proofs.Finding.{acted_at, acted_on_rows, found_at, home_seen, one_doing, one_row_doing, rose_at, takes_it}
-use Rattle.hay_holdings.proofs.Going.{call_went, changed_nowhere, changed_other, last_here, quiet_row_went, quiet_went, row_call_went, row_look_went, went_idle, went_later, went_more, went_rows_at, work_of}
+use Rattle.hay_holdings.proofs.Finding.{acted_at, acted_on_rows, found_at, one_doing, one_row_doing, rose_at, takes_it}
+use Rattle.hay_holdings.proofs.Going.{call_went, changed_nowhere, changed_other, last_here, quiet_row_went, quiet_went, row_call_went, went_idle, went_later, went_more, went_rows_at, work_of}
 use Rattle.hay_holdings.proofs.Lists.{each_taken, in_middle, zip_each, zip_more}
 
 -- WHAT STANDS BEHIND A ROW THAT WAS ADDED
@@ -101,29 +101,54 @@ module _ (settings : Settings) (start : Start) (drained : List Bool) (v : ℕ) (
 module _ (settings : Settings) (start : Start) (drained : List Bool) (tag : CoreTag) where
   -- TRIES
 
-  module _ {a b : Sight} where
-    -- the line begins with a look at the Directory's view
-    pub sees_home : {pair : Pair} {size d v : ℕ} → AtDirectory (HomeShown start pair d (Some v)) a b → Settled settings start drained tag pair size d v a b
-    sees_home x = record { rows = []; went = row_look_went x (x.is).looked; row = inl refl; home = home_seen x }
+  module _ {pair : Pair} {size d : ℕ} {a b : Sight} where
+    -- a settled pair has its home
+    pub settles : {v : ℕ} → Sees settings start drained tag pair d (Some v) a b → Settled settings start drained tag pair size d v a b
+    settles x = record { rows = []; went = x.idle; row = inl refl; home = x.saw }
 
-    pub sees_none : {pair : Pair} {size d : ℕ} → AtDirectory (HomeShown start pair d None) a b → Tried settings start drained tag pair size [] [] a b
-    sees_none {d = d} x = record { idle = row_look_went x (x.is).looked; d = d; home = home_seen x; each = tt }
+    -- another one has tries
+    pub tries : Sees settings start drained tag pair d None a b → Tried settings start drained tag pair size [] [] a b
+    tries x = record { idle = x.idle; d = d; home = x.saw; each = tt }
 
   module _ {pair : Pair} {size : ℕ} {a m b : Sight} where
+    -- it goes on without an act
+    pub tried_on : {tries : List ℕ} {refused : List Refused} → Tried settings start drained tag pair size tries refused a m → Idle tag m b → Tried settings start drained tag pair size tries refused a b
+    tried_on {tries} {refused} tried idle =
+        let later : IsLaterSight m b = went_later idle in record {
+          idle = went_idle tried.idle idle;
+          d = tried.d;
+          home = saw_home_wider (same_sight a) later tried.home;
+          each = zip_weaker (FoundRefusal settings start drained a m size) (FoundRefusal settings start drained a b size) tries refused (λ u r among f. found_wider (same_sight a) later f) tried.each;
+        }
+
+    pub taker_on : {v : ℕ} → HasTaker settings start drained tag pair size v a m → Idle tag m b → HasTaker settings start drained tag pair size v a b
+    taker_on has idle =
+        let later : IsLaterSight m b = went_later idle in
+        record { idle = went_idle has.idle idle; d = has.d; home = saw_home_wider (same_sight a) later has.home; taker = found_taker_wider (same_sight a) later has.taker }
+
+    pub settled_on : {d v : ℕ} → Settled settings start drained tag pair size d v a m → Idle tag m b → Settled settings start drained tag pair size d v a b
+    settled_on settled idle =
+        let later : IsLaterSight m b = went_later idle in record {
+          rows = settled.rows;
+          went = went_idle settled.went idle;
+          row = elim settled.row [
+            | inl none ↦ inl none
+            | inr new ↦ inr (record { row = new.row; doing = new.doing; own_pair = new.own_pair; taker = found_taker_wider (same_sight a) later new.taker })
+          ];
+          home = saw_home_wider (same_sight a) later settled.home;
+        }
+
     -- one more try refuses
     pub try_refuses : {v : ℕ} {refusal : Refused} {tries : List ℕ} {refused : List Refused} → v < settings.volumes
         → Tried settings start drained tag pair size tries refused a m → AtVolume v (Refuses settings start drained v tag size refusal) m b
         → Tried settings start drained tag pair size (tries ++ v ∷ []) (refused ++ refusal ∷ []) a b
     try_refuses {v} {refusal} {tries} {refused} below tried x =
-        let idle : Idle tag m b = quiet_went x ((x.is).is).0 in
-        let later : IsLaterSight m b = went_later idle in
+        let more : Tried settings start drained tag pair size tries refused a b = tried_on tried (quiet_went x ((x.is).is).0) in
         let found : FoundRefusal settings start drained m b size v refusal = found_at below x ((x.is).is).1 in record {
-          idle = went_idle tried.idle idle;
-          d = tried.d;
-          home = saw_home_wider (same_sight a) later tried.home;
-          each = zip_more (FoundRefusal settings start drained a b size) tries (v ∷ []) refused (refusal ∷ [])
-              (zip_weaker (FoundRefusal settings start drained a m size) (FoundRefusal settings start drained a b size) tries refused (λ u r among f. found_wider (same_sight a) later f) tried.each)
-              (found_wider (went_later tried.idle) (same_sight b) found, tt);
+          idle = more.idle;
+          d = more.d;
+          home = more.home;
+          each = zip_more (FoundRefusal settings start drained a b size) tries (v ∷ []) refused (refusal ∷ []) more.each (found_wider (went_later tried.idle) (same_sight b) found, tt);
         }
 
     -- the next one takes the photo
@@ -131,21 +156,16 @@ module _ (settings : Settings) (start : Start) (drained : List Bool) (tag : Core
         → all_tries settings pair ≡ tries ++ v ∷ later → Tried settings start drained tag pair size tries refused a m
         → AtVolume v (RoomFits settings start v tag size) m b → HasTaker settings start drained tag pair size v a b
     try_takes {v} {tries} later {refused} below open_machines parts tried x =
-        let idle : Idle tag m b = quiet_went x ((x.is).is).0 in
-        let behind : IsLaterSight m b = went_later idle in
-        let held : List VolumeAct = (x.is).held in
-        let Before : ℕ → Type 0 = λ u. (r : Refused) × FoundRefusal settings start drained a b size u r in
-        let earlier : Each Before tries =
-        each_weaker (λ u. (r : Refused) × FoundRefusal settings start drained a m size u r) Before (λ u f. (f.0, found_wider (same_sight a) behind f.1)) tries
-        (zip_each (FoundRefusal settings start drained a m size) tries refused tried.each) in record {
-          idle = went_idle tried.idle idle;
-          d = tried.d;
-          home = saw_home_wider (same_sight a) behind tried.home;
+        let more : Tried settings start drained tag pair size tries refused a b = tried_on tried (quiet_went x ((x.is).is).0) in
+        let Before : ℕ → Type 0 = λ u. (r : Refused) × FoundRefusal settings start drained a b size u r in record {
+          idle = more.idle;
+          d = more.d;
+          home = more.home;
           taker = record {
             tried = subst (λ z. Contains z v) (sym parts) (in_middle tries v later);
-            takes = found_wider (went_later tried.idle) (same_sight b) (found_at below x (takes_it settings start drained v held open_machines size ((x.is).is).1));
+            takes = found_wider (went_later tried.idle) (same_sight b) (found_at below x (takes_it settings start drained v (x.is).held open_machines size ((x.is).is).1));
             before = subst (λ z. Each Before (take_while (λ u. not (u == v)) z)) (sym parts)
-                (each_taken Before (λ u. not (u == v)) tries v later (ap not (eq-eqb v v refl)) earlier);
+                (each_taken Before (λ u. not (u == v)) tries v later (ap not (eq-eqb v v refl)) (zip_each (FoundRefusal settings start drained a b size) tries refused more.each));
           };
         }
 
@@ -267,7 +287,7 @@ module _ (settings : Settings) (start : Start) (drained : List Bool) (tag : Core
         → MayAddRowHere settings start drained item a b (record { volumes = volumes; rows = settled.rows }) pair (length bytes)
     row_at later = elim settled.row [
       | inl none ↦ inl none
-      | inr added ↦ inr (record { row = added.row; doing = added.doing; own_pair = added.own_pair; taker = found_taker_wider (same_sight a) later added.taker })
+      | inr new ↦ inr (record { row = new.row; doing = new.doing; own_pair = new.own_pair; taker = found_taker_wider (same_sight a) later new.taker })
     ]
 
     home_refuses : {item : LaneItem} {refusal : Refused} → AtVolume v (Refuses settings start drained v tag (length bytes) refusal) m b
@@ -373,8 +393,3 @@ module _ (settings : Settings) (start : Start) (drained : List Bool) (tag : Core
       work = work_of (went_idle settled.went idle);
       did = inr (row_at (went_later idle), inl (λ u. refl));
     }
-
-  -- MEMORY WAS WANTING before anything was changed
-
-  pub put_none : {pair : Pair} {bytes : List ℕ} {a b : Sight} → Idle tag a b → IsAnswered settings start drained tag (command.Put pair bytes) NoMem a b
-  put_none idle = record { doings = no_doings; work = work_of idle; did = inr (inl refl, inl (λ u. refl)) }

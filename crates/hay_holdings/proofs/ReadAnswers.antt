@@ -37,13 +37,12 @@ use Rattle.hay_meeting.proofs.Chaining.{later_at, same_at, same_sight}
 use Rattle.hay_meeting.proofs.Phases.{saw_home_wider}
 use Rattle.hay_meeting.proofs.Picking.{pair_unmap}
 use Rattle.hay_holdings.specs.Holdings.{doings_in}
-use Rattle.hay_holdings.specs.Lines.{IsAnswered, LookFailed, Looking, PassedFor, PassedOver, Shows, ShowsAs, Unchanged, line_of}
-use Rattle.hay_holdings.specs.Rows.{HomeShown}
-use Rattle.hay_holdings.specs.Sights.{AtArm, AtDirectory, AtVolume, Idle, Went, doings_at, no_doings, on_volume}
+use Rattle.hay_holdings.specs.Lines.{IsAnswered, Sees, LookFailed, Looking, PassedFor, PassedOver, Shows, ShowsAs, Unchanged, line_of}
+use Rattle.hay_holdings.specs.Sights.{AtArm, AtVolume, Idle, Went, doings_at, no_doings, on_volume}
 use Rattle.hay_holdings.specs.Volumes.{MadeNothing, MadeOne, NothingDone, ShownAt, SightFailed, SightWanted}
 use Rattle.hay_holdings.proofs.Calls.{only_tries}
-use Rattle.hay_holdings.proofs.Finding.{acted_at, home_seen, rose_at}
-use Rattle.hay_holdings.proofs.Going.{arm_went, call_went, changed_nowhere, changed_other, look_went, on_each, on_here, on_none, row_look_went, went_at_both, went_later, went_same, work_of}
+use Rattle.hay_holdings.proofs.Finding.{acted_at, rose_at}
+use Rattle.hay_holdings.proofs.Going.{arm_went, call_went, changed_nowhere, changed_other, look_went, on_each, on_here, on_none, went_at_both, went_later, went_same, work_of}
 use Rattle.hay_holdings.proofs.Lists.{count_fewer, count_more, count_same, count_taken, zip_more}
 
 -- the parts of equal lists
@@ -69,21 +68,18 @@ module _ (settings : Settings) (start : Start) (drained : List Bool) (tag : Core
     none_at : {a b : Sight} → Idle tag a b → Went tag a b (doings_at v [] [])
     none_at idle = went_same (doings_at v [] []) (λ u. sym (on_none v u)) refl idle
 
-    -- IT BEGINS with a look at the Directory's view
-
-    pub reads_home : {a b : Sight} → AtDirectory (HomeShown start pair d (Some v)) a b → Over [] [] a b
-    reads_home {a} {b} x =
-        let idle : Idle tag a b = row_look_went x (x.is).looked in record {
-          home = home_seen x;
-          doings = [];
-          went = none_at idle;
-          tries = tt;
-          each = tt;
-          rises = tt;
-          to_arm = λ j. true;
-          arm = inl (let e = idle.arm in omega (arith, e));
-          disks = λ j. inl refl;
-        }
+    pub reads : {a b : Sight} → Sees settings start drained tag pair d (Some v) a b → Over [] [] a b
+    reads x = record {
+      home = x.saw;
+      doings = [];
+      went = none_at x.idle;
+      tries = tt;
+      each = tt;
+      rises = tt;
+      to_arm = λ j. true;
+      arm = inl (let e = (x.idle).arm in omega (arith, e));
+      disks = λ j. inl refl;
+    }
 
     -- IT GOES ON, and passes over none
 
@@ -375,9 +371,9 @@ module _ (settings : Settings) (start : Start) (drained : List Bool) (tag : Core
 
   -- IT SAW NO HOME
 
-  pub shows_unknown : {pair : Pair} {d first : ℕ} {cookie : Cookie} {a b : Sight} → AtDirectory (HomeShown start pair d None) a b
+  pub shows_unknown : {pair : Pair} {d first : ℕ} {cookie : Cookie} {a b : Sight} → Sees settings start drained tag pair d None a b
       → ShowsAs settings start drained tag first pair cookie (Unknown d) a b
-  shows_unknown x = record { doings = no_doings; went = row_look_went x (x.is).looked; did = λ item. (home_seen x, ((λ u. refl), refl)) }
+  shows_unknown x = record { doings = no_doings; went = x.idle; did = λ item. (x.saw, ((λ u. refl), refl)) }
 
   -- A READ
 
@@ -420,9 +416,9 @@ module _ (settings : Settings) (start : Start) (drained : List Bool) (tag : Core
     pub get_unknown : {d : ℕ} → AsGet (Unknown d) → Got (Unknown d)
     get_unknown {d} x = got_as (Unknown d) x (x.did (asked (Unknown d)), tt)
 
-    pub get_moved : {v d : ℕ} → v ≢ url.volume → AtDirectory (HomeShown start url.pair d (Some v)) a b → Got (Moved v d)
+    pub get_moved : {v d : ℕ} → v ≢ url.volume → Sees settings start drained tag url.pair d (Some v) a b → Got (Moved v d)
     get_moved {v} {d} differs x = record {
       doings = no_doings;
-      work = work_of (row_look_went x (x.is).looked);
-      did = subst (λ o. GetDidHere settings start drained (asked (Moved v d)) a b no_doings url o (Moved v d)) (sym there) (home_seen x, differs, ((λ u. refl), refl));
+      work = work_of x.idle;
+      did = subst (λ o. GetDidHere settings start drained (asked (Moved v d)) a b no_doings url o (Moved v d)) (sym there) (x.saw, differs, ((λ u. refl), refl));
     }

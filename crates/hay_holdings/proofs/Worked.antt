@@ -29,7 +29,8 @@ use Rattle.hay_holdings.specs.Sights.{AtDirectory, AtVolume}
 use Rattle.hay_holdings.specs.Volumes.{Begun, PutStored, RoomFits, RunDeleted, Stepped}
 use Rattle.hay_holdings.proofs.CompactAnswers.{compact_begins, compact_deleted, compact_steps}
 use Rattle.hay_holdings.proofs.Ending.{ends_now}
-use Rattle.hay_holdings.proofs.PutAnswers.{adds_row, put_stored, sees_none, try_takes}
+use Rattle.hay_holdings.proofs.Finding.{sees}
+use Rattle.hay_holdings.proofs.PutAnswers.{adds_row, put_stored, tries, try_takes}
 
 -- WHAT STANDS
 
@@ -140,7 +141,7 @@ put_answered : IsAnswered one start (false ∷ []) (tag 0 2) (command.Put (pair 
 put_answered =
     put_stored one start (false ∷ []) (tag 0 2) (codes "b")
     (adds_row one start (false ∷ []) (tag 0 2)
-    (try_takes one start (false ∷ []) (tag 0 2) [] (lit< tt) refl refl (sees_none one start (false ∷ []) (tag 0 2) no_home) (at_volume nothing fits))
+    (try_takes one start (false ∷ []) (tag 0 2) [] (lit< tt) refl refl (tries one start (false ∷ []) (tag 0 2) (sees one start (false ∷ []) (tag 0 2) no_home)) (at_volume nothing fits))
     added)
     (lit< tt) refl (sym cookie_of-zero) (at_volume with_row stored)
 

@@ -1,5 +1,5 @@
 -- How far a line has come between two sights of its lane.
-use Rattle.std.specs.Prelude.{◌≡◌, ◌⊎◌, ℕ, ◌+◌, ◌-◌, ◌^◌, ◌<◌, ◌≤◌, Bool, true, List, [], ◌∷◌, count_by, Contains, Some, None}
+use Rattle.std.specs.Prelude.{◌≡◌, ◌⊎◌, ℕ, ◌+◌, ◌-◌, ◌^◌, ◌<◌, ◌≤◌, Bool, true, List, [], ◌∷◌, count_by, Contains, Option, Some, None}
 use Rattle.std.specs.List.{AllZip, AllByRecursion as Each}
 use Rattle.hay_needle.specs.declared.needle.Pair.{Pair}
 use Rattle.hay_needle.specs.declared.needle.Cookie.{Cookie}
@@ -62,6 +62,11 @@ module _ (settings : Settings) (start : Start) (drained : List Bool) (v : ℕ) (
       ≡ Some refused))
 
 module _ (settings : Settings) (start : Start) (drained : List Bool) (tag : CoreTag) where
+  -- it looked at the rows, where the pair had this home, and made no act
+  pub record Sees (pair : Pair) (d : ℕ) (home : Option ℕ) (a b : Sight) : Type 0 where
+    pub idle : Idle tag a b
+    pub saw : SawHome settings start drained a b pair d home
+
   -- PUTS
 
   -- it saw the pair without a home, and each of these refuse a photo of this size
