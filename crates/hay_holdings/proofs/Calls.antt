@@ -1,11 +1,12 @@
 -- What one call at a lock tells: of a holding, and of a look at the view.
-use Rattle.std.proofs.Common.{◌≡◌, Bool, true, cond, List, [], ◌∷◌, ◌++◌, refl, sym, ap, subst, ◌∙◌, append-nil, Option, Some, None}
+use Rattle.std.proofs.Common.{◌≡◌, ℕ, Bool, true, cond, List, [], ◌∷◌, ◌++◌, refl, sym, ap, subst, ◌∙◌, append-nil, Option, Some, None}
 use Rattle.std.specs.List.{AllByRecursion as Each}
 use mathlib.Core.List.{IsPrefix}
 use Rattle.hay_core.specs.declared.entry.CoreTag.{CoreTag}
 use Rattle.hay_history.specs.Steps.{Did, RowDid}
 use Rattle.hay_history.specs.Steps.Did.{Tries}
 use Rattle.hay_history.specs.Histories.{changes_it, changes_rows}
+use Rattle.hay_turn.specs.Seats.{Holds, SeatState, after_free}
 use Rattle.hay_turn.specs.Slots.{acts_in}
 use Rattle.hay_turn.proofs.Prefixes.{prefix_self, prefix_trans}
 use Rattle.hay_meeting.specs.declared.act.DirAct.{DirAct}
@@ -15,7 +16,7 @@ use Rattle.hay_meeting.specs.Facts.{changed, changed_rows}
 use Rattle.hay_meeting.specs.Locks.{Doing, Held, IsDoing, IsLaterAt, Lock, LockSight, Worked, entries}
 use Rattle.hay_meeting.proofs.Phases.{only_saw}
 use Rattle.hay_meeting.proofs.Replays.{entries_prefix}
-use Rattle.hay_holdings.specs.Holdings.{Called, Holding, Looked, doings_in}
+use Rattle.hay_holdings.specs.Holdings.{Called, Holding, Looked, doings_in, sight_of}
 use Rattle.hay_holdings.specs.Rows.{MadeNoRow}
 use Rattle.hay_holdings.specs.Volumes.{MadeNothing}
 
@@ -71,6 +72,20 @@ module _ {S E X T : Type 0} (lock : Lock S E X T) {tag : CoreTag} where
     each = (holding_doing x, tt);
     tags = x.tags;
     seats = x.seats;
+  }
+
+  -- a seat held the turn and freed it, and then its lane was shown all that had been entered
+  pub held_by_seat : {B Y : Type 0} {by : E → ℕ} {stands : B → List E → Y → Type 0} {old new : SeatState B E} {value : Y} {shown : List X} (made : Option E) → Holds by stands old new value
+      → IsPrefix shown (entries lock new.seen) → Each (λ act. lock.tag act ≡ tag) (acts_in made) → Each (λ act. lock.seat act ≡ tag.lane) (acts_in made)
+      → Holding lock tag new.seen made (sight_of old shown) (sight_of (after_free new (acts_in made)) (entries lock (new.seen ++ acts_in made)))
+  held_by_seat {B} made holds shown_from tags seats = record {
+    from = holds.seen;
+    shown_from = shown_from;
+    seen = refl;
+    own = ap (λ (seat : SeatState B E). seat.own ++ acts_in made) holds.same;
+    shown = refl;
+    tags = tags;
+    seats = seats;
   }
 
 -- A LOOK

@@ -1,11 +1,15 @@
--- Two worked lines on one volume, from their calls: a put adds the row of its pair while a compaction stands, and the compaction of another
--- lane finds that a delete ended it, since a call of the disk failed.
+-- Worked lines on one volume, from their calls: a put adds the row of its pair while a compaction stands, the compaction of another lane finds
+-- that a delete ended it, since a call of the disk failed, and a third lane reads a photo, and then cannot fetch it.
 use Rattle.std.specs.Prelude.{◌≡◌, ◌≢◌, ℕ, zero, suc, ◌<◌, false, [], ◌∷◌, codes, refl, Some, None}
-use Rattle.std.proofs.Common.{sym, lit<, inl, true}
+use Rattle.std.proofs.Common.{sym, lit<, lit≤, inl, inr, true}
+use Rattle.hay_needle.specs.declared.needle.Outcome.{Outcome}
+use Rattle.hay_needle.specs.declared.needle.Outcome.TheVariants as outcome
+use Rattle.hay_needle.specs.Tables.{outcome_at}
 use Rattle.hay_url.proofs.Cookies.{cookie_of-zero}
 use Rattle.hay_core.specs.declared.entry.Entry.{Entry}
 use Rattle.hay_core.specs.declared.entry.Entry.TheVariants as entry
 use Rattle.hay_script.specs.declared.Command.TheVariants as command
+use Rattle.hay_reply.specs.declared.Cause.TheVariants.{Arm}
 use Rattle.hay_reply.specs.declared.Reply.TheVariants as reply
 use Rattle.hay_legal.specs.declared.known.DirKnown.{DirKnown}
 use Rattle.hay_legal.specs.declared.known.HomeRow.{HomeRow}
@@ -13,24 +17,26 @@ use Rattle.hay_legal.specs.declared.known.Known.{Known}
 use Rattle.hay_legal.specs.declared.known.ReplicaKnown.{ReplicaKnown}
 use Rattle.hay_legal.specs.Known.{empty_replica, empty_volume, fresh_unharmed}
 use Rattle.hay_legal.proofs.Steps.{one, own, pair}
-use Rattle.hay_history.proofs.Worked.{tag}
+use Rattle.hay_history.proofs.Worked.{of_first, tag}
 use Rattle.hay_meeting.specs.declared.act.DirAct.{DirAct}
 use Rattle.hay_meeting.specs.declared.act.DirDid.TheVariants as did_row
 use Rattle.hay_meeting.specs.declared.act.VolumeAct.{VolumeAct}
 use Rattle.hay_meeting.specs.declared.act.VolumeDid.{VolumeDid}
 use Rattle.hay_meeting.specs.declared.act.VolumeDid.TheVariants as did
 use Rattle.hay_meeting.specs.Acts.{Start}
+use Rattle.hay_meeting.specs.Facts.{table_shown}
 use Rattle.hay_meeting.specs.Locks.{LockSight}
 use Rattle.hay_meeting.specs.Sights.{Sight}
 use Rattle.hay_meeting.proofs.Opening.{opened_at}
-use Rattle.hay_holdings.specs.Lines.{IsAnswered}
+use Rattle.hay_holdings.specs.Lines.{IsAnswered, Looking}
 use Rattle.hay_holdings.specs.Rows.{HomeShown, RowAdded}
-use Rattle.hay_holdings.specs.Sights.{AtDirectory, AtVolume}
-use Rattle.hay_holdings.specs.Volumes.{Begun, PutStored, RoomFits, RunDeleted, Stepped}
+use Rattle.hay_holdings.specs.Sights.{AtArm, AtDirectory, AtVolume}
+use Rattle.hay_holdings.specs.Volumes.{Begun, PutStored, RoomFits, RunDeleted, ShownAt, Stepped}
 use Rattle.hay_holdings.proofs.CompactAnswers.{compact_begins, compact_deleted, compact_steps}
 use Rattle.hay_holdings.proofs.Ending.{ends_now}
 use Rattle.hay_holdings.proofs.Finding.{sees}
 use Rattle.hay_holdings.proofs.PutAnswers.{adds_row, put_stored, tries, try_takes}
+use Rattle.hay_holdings.proofs.ReadAnswers.{look_fetches_fail, read_answered, read_looks, reads, shows_photo, shows_unreadable}
 
 -- WHAT STANDS
 
@@ -192,3 +198,41 @@ compact_answered =
     compact_deleted one start (false ∷ []) (tag 2 4) 0 0 0 refl (lit< tt)
     (compact_steps one start (false ∷ []) (tag 2 4) 0 0 (compact_begins one start (false ∷ []) (tag 2 4) 0 0 (at_volume nothing begin_call)) (λ left. 1 < left) (at_volume nothing step_call))
     (at_volume nothing end_call)
+
+-- READS
+
+abbrev photo_a : ℕ → Outcome
+photo_a j = outcome.Photo (record { cookie = own; bytes = codes "a" })
+
+abbrev at_start : Sight
+at_start = sight nothing nothing
+
+has_home : AtDirectory (HomeShown start (pair 1) 1 (Some 0)) at_start at_start
+has_home = record { is = record { looked = record { seen = refl; own = refl; shown = ([], refl) }; front = refl; is = refl }; volumes = λ v. refl; arm = refl }
+
+look_call : ShownAt one start 0 (pair 1) 0 photo_a nothing nothing
+look_call = record { looked = record { seen = refl; own = refl; shown = ([], refl) }; front = refl; is = of_first (λ j. photo_a j ≡ outcome_at (table_shown start 0 j []) (pair 1)) refl }
+
+-- the lane has looked
+looking : Looking one start (false ∷ []) (tag 3 5) (pair 1) 1 0 0 photo_a [] [] at_start at_start
+looking =
+    read_looks one start (false ∷ []) (tag 3 5) (pair 1) 1 0
+    (reads one start (false ∷ []) (tag 3 5) (pair 1) 1 0 (sees one start (false ∷ []) (tag 3 5) has_home)) (at_volume nothing look_call)
+
+read_answered_so : IsAnswered one start (false ∷ []) (tag 3 5) (command.Read (pair 1) own) (reply.Photo 0 0 0 1 (codes "a")) at_start at_start
+read_answered_so =
+    read_answered one start (false ∷ []) (tag 3 5) (shows_photo one start (false ∷ []) (tag 3 5) (pair 1) 1 0 looking (lit< tt) {first = 0} {j = 0} [] (lit< tt) refl refl refl)
+
+-- a fetch at its arm failed
+abbrev arm_failed : Sight
+arm_failed = record at_start { arm = 1 }
+
+fetch : AtArm at_start arm_failed
+fetch = record { volumes = λ v. refl; directory = refl; arm = lit≤ tt; most = inr (lit< tt) }
+
+unreadable_so : IsAnswered one start (false ∷ []) (tag 3 5) (command.Read (pair 1) own) (reply.Unreadable 0 0 1 (record { machine = 0; cause = Arm 1 } ∷ [])) at_start arm_failed
+unreadable_so =
+    read_answered one start (false ∷ []) (tag 3 5)
+    (shows_unreadable one start (false ∷ []) (tag 3 5) (pair 1) 1 0 {first = 0}
+    (look_fetches_fail one start (false ∷ []) (tag 3 5) (pair 1) 1 0 (0 ∷ []) (1 ∷ []) refl ((inl (lit< tt), lit≤ tt), tt) (tt, tt) fetch (lit< tt) looking)
+    (lit< tt) refl refl)

@@ -3,8 +3,13 @@ use Rattle.std.specs.Prelude.{◌≡◌, List, [], ◌∷◌, ◌++◌, Option, 
 use Rattle.std.specs.List.{AllByRecursion as Each}
 use mathlib.Core.List.{IsPrefix}
 use Rattle.hay_core.specs.declared.entry.CoreTag.{CoreTag}
+use Rattle.hay_turn.specs.Seats.{SeatState}
 use Rattle.hay_turn.specs.Slots.{acts_in}
 use Rattle.hay_meeting.specs.Locks.{Doing, Lock, LockSight, entries}
+
+-- what a lane's seat at the turn has seen and made, and what its seat of the view has been shown
+abbrev pub sight_of : {B E X : Type 0} → SeatState B E → List X → LockSight E X
+sight_of seat shown = record { seen = seat.seen; own = seat.own; shown = shown }
 
 -- the doing of a holding that found these acts, if it acted
 abbrev pub doings_in : {E : Type 0} → List E → Option E → List (Doing E)
