@@ -175,7 +175,7 @@ module _ (settings : Settings) (start : Start) (drained : List Bool) (tag : Core
       stand = c.stand;
     }
 
-    pub compact_waits : {b : Sight} → AtVolume v (calls.NothingDone settings start v tag) m b → On a b
+    pub compact_waits : {b : Sight} → AtVolume v (calls.ChangedNothing settings start v tag) m b → On a b
     compact_waits x =
         let ds : List (Doing VolumeAct) = doings_in (x.is).held (x.is).made in record {
           doings = c.doings ++ ds;

@@ -39,7 +39,7 @@ use Rattle.hay_meeting.proofs.Picking.{pair_unmap}
 use Rattle.hay_holdings.specs.Holdings.{doings_in}
 use Rattle.hay_holdings.specs.Lines.{IsAnswered, Sees, LookFailed, Looking, PassedFor, PassedOver, Shows, ShowsAs, Unchanged, line_of}
 use Rattle.hay_holdings.specs.Sights.{AtArm, AtVolume, Idle, Went, doings_at, no_doings, on_volume}
-use Rattle.hay_holdings.specs.Volumes.{MadeNothing, MadeOne, NothingDone, ShownAt, SightFailed, SightWanted}
+use Rattle.hay_holdings.specs.Volumes.{MadeNothing, MadeOne, ChangedNothing, ShownAt, SightFailed, SightWanted}
 use Rattle.hay_holdings.proofs.Calls.{only_tries}
 use Rattle.hay_holdings.proofs.Finding.{acted_at, rose_at}
 use Rattle.hay_holdings.proofs.Going.{arm_went, call_went, changed_nowhere, changed_other, look_went, on_each, on_here, on_none, went_at_both, went_later, went_same, work_of}
@@ -117,7 +117,7 @@ module _ (settings : Settings) (start : Start) (drained : List Bool) (tag : Core
       read_goes_on idle most = goes_on [] (none_at idle) tt most
 
       -- a place was seen under the lock
-      pub read_sees : AtVolume v (NothingDone settings start v tag) m b → Over js causes a b
+      pub read_sees : AtVolume v (ChangedNothing settings start v tag) m b → Over js causes a b
       read_sees x = goes_on (doings_in (x.is).held (x.is).made) (call_went x) (only_tries (x.is).held (x.is).made (x.is).is) (inl x.arm)
 
     -- one more replica was passed over

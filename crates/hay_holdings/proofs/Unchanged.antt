@@ -18,9 +18,9 @@ use Rattle.hay_meeting.specs.Sights.{Sight}
 use Rattle.hay_meeting.proofs.Phases.{and_then, changed_both, changed_rows_both}
 use Rattle.hay_holdings.specs.Holdings.{doings_in}
 use Rattle.hay_holdings.specs.Lines.{IsAnswered, Unchanged, line_of}
-use Rattle.hay_holdings.specs.Rows.{NoRowDone}
+use Rattle.hay_holdings.specs.Rows.{ChangedNoRow}
 use Rattle.hay_holdings.specs.Sights.{AtDirectory, AtVolume, Idle, doings_at, no_doings, only_rows}
-use Rattle.hay_holdings.specs.Volumes.{NothingDone as NothingDoneThere}
+use Rattle.hay_holdings.specs.Volumes.{ChangedNothing}
 use Rattle.hay_holdings.proofs.Calls.{no_row_changed, nothing_changed}
 use Rattle.hay_holdings.proofs.Going.{call_went, changed_nowhere, row_call_went, went_more, work_of}
 
@@ -29,12 +29,12 @@ use Rattle.hay_holdings.proofs.Going.{call_went, changed_nowhere, row_call_went,
 pub idle_unchanged : {tag : CoreTag} {a b : Sight} → Idle tag a b → Unchanged tag a b
 idle_unchanged idle = record { doings = no_doings; went = idle; volumes = λ v. refl; rows = refl }
 
-pub call_unchanged : (settings : Settings) (start : Start) {v : ℕ} {tag : CoreTag} {a b : Sight} → AtVolume v (NothingDoneThere settings start v tag) a b → Unchanged tag a b
+pub call_unchanged : (settings : Settings) (start : Start) {v : ℕ} {tag : CoreTag} {a b : Sight} → AtVolume v (ChangedNothing settings start v tag) a b → Unchanged tag a b
 call_unchanged settings start {v = v} x =
     let ds : List (Doing VolumeAct) = doings_in (x.is).held (x.is).made in
     record { doings = doings_at v ds []; went = call_went x; volumes = changed_nowhere v ds (nothing_changed (x.is).held (x.is).made (x.is).is); rows = refl }
 
-pub row_call_unchanged : (start : Start) {tag : CoreTag} {a b : Sight} → AtDirectory (NoRowDone start tag) a b → Unchanged tag a b
+pub row_call_unchanged : (start : Start) {tag : CoreTag} {a b : Sight} → AtDirectory (ChangedNoRow start tag) a b → Unchanged tag a b
 row_call_unchanged start x = record {
   doings = only_rows (doings_in (x.is).held (x.is).made);
   went = row_call_went x;

@@ -74,5 +74,5 @@ module _ (start : Start) where
     FusedDir = RowCall (λ held made. MadeRow FusesRow made)
 
     -- a call that changed nothing, as for want of memory
-    abbrev pub NoRowDone : DirectoryCall
-    NoRowDone = RowCall (λ held made. MadeNoRow made)
+    abbrev pub ChangedNoRow : DirectoryCall
+    ChangedNoRow = RowCall (λ held made. MadeNoRow made)

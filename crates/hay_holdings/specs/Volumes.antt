@@ -104,8 +104,8 @@ module _ (settings : Settings) (start : Start) (v : ℕ) where
     Call IsSo a b = Called volume_lock tag IsSo a b
 
     -- a call that changed nothing: a place was seen, or memory was wanting
-    abbrev pub NothingDone : VolumeCall
-    NothingDone = Call (λ held made. MadeNothing made)
+    abbrev pub ChangedNothing : VolumeCall
+    ChangedNothing = Call (λ held made. MadeNothing made)
 
     -- WHETHER IT TAKES A CHANGE
 
