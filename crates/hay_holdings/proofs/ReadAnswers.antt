@@ -37,7 +37,7 @@ use Rattle.hay_meeting.proofs.Chaining.{later_at, same_at, same_sight}
 use Rattle.hay_meeting.proofs.Phases.{saw_home_wider}
 use Rattle.hay_meeting.proofs.Picking.{pair_unmap}
 use Rattle.hay_holdings.specs.Holdings.{doings_in}
-use Rattle.hay_holdings.specs.Lines.{IsAnswered, Sees, LookFailed, Looking, PassedFor, PassedOver, Shows, ShowsAs, Unchanged, line_of}
+use Rattle.hay_holdings.specs.Lines.{ArmFailed, IsAnswered, Sees, LookFailed, Looking, PassedFor, PassedOver, Shows, ShowsAs, Unchanged, line_of}
 use Rattle.hay_holdings.specs.Sights.{AtArm, AtVolume, Idle, Went, doings_at, no_doings, on_volume}
 use Rattle.hay_holdings.specs.Volumes.{MadeNothing, MadeOne, ChangedNothing, ShownAt, SightFailed, SightWanted}
 use Rattle.hay_holdings.proofs.Calls.{only_tries}
@@ -187,30 +187,38 @@ module _ (settings : Settings) (start : Start) (drained : List Bool) (tag : Core
         ])
         more.disks
 
+    -- a failure behind another one
+    failed_behind : (m b f : ℕ) (cause : Cause) → ArmRises (Arm f) cause → ArmFailed m b cause → ArmFailed f b cause
+    failed_behind m b f (Arm g) up failed = (up, failed.1)
+    failed_behind m b f (Disk g) up failed = failed
+    failed_behind m b f (Damage at) up failed = failed
+
     -- several fetches failed, of which the counts rise
-    pub fetches_fail : {js : List ℕ} {causes : List Cause} {a m b : Sight} (js' fs : List ℕ) → length js' ≡ length fs → Each (λ f. CameUp m.arm f b.arm) fs
-        → EachPair (λ f g. (f < g) ⊎ (g ≡ 2 ^ 64 - 1)) fs → AtArm m b → b.arm < 2 ^ 64 → Over js causes a m → Over (js ++ js') (causes ++ map Arm fs) a b
-    fetches_fail {js} {causes} {a} {m} {b} [] [] many came rises x low over =
+    pub fetches_fail : {js : List ℕ} {causes : List Cause} {a m b : Sight} (js' : List ℕ) (causes' : List Cause) → length js' ≡ length causes' → Each (ArmFailed m.arm b.arm) causes'
+        → EachPair ArmRises causes' → AtArm m b → b.arm < 2 ^ 64 → Over js causes a m → Over (js ++ js') (causes ++ causes') a b
+    fetches_fail {js} {causes} {a} {m} {b} [] [] many failed rises x low over =
         subst (λ z. Over z (causes ++ []) a b) (sym (append-nil js)) (subst (λ z. Over js z a b) (sym (append-nil causes)) (read_goes_on over (arm_went x) (inr low)))
-    fetches_fail [] (f ∷ fs) many came rises x low over = absurd (omega (arith, many))
-    fetches_fail (j ∷ js') [] many came rises x low over = absurd (omega (arith, many))
-    fetches_fail {js} {causes} {a} {m} {b} (j ∷ js') (f ∷ fs) many came rises x low over =
+    fetches_fail [] (c ∷ causes') many failed rises x low over = absurd (omega (arith, many))
+    fetches_fail (j ∷ js') [] many failed rises x low over = absurd (omega (arith, many))
+    fetches_fail (j ∷ js') (Disk f ∷ causes') many failed rises x low over = absurd failed.0
+    fetches_fail (j ∷ js') (Damage at ∷ causes') many failed rises x low over = absurd failed.0
+    fetches_fail {js} {causes} {a} {m} {b} (j ∷ js') (Arm f ∷ causes') many failed rises x low over =
         let t : Sight = record m { arm = f } in
-        let up : f ≤ b.arm = (came.0).1 in
+        let up : f ≤ b.arm = (failed.0).1 in
         let later = x.arm in
         let first_at : AtArm m t = record {
           volumes = λ v. refl;
           directory = refl;
-          arm = elim (came.0).0 [ inl less ↦ omega (arith, less) | inr end ↦ omega (arith, end, later, low) ];
+          arm = elim (failed.0).0 [ inl less ↦ omega (arith, less) | inr end ↦ omega (arith, end, later, low) ];
           most = inr (omega (arith, up, low));
         } in
         let rest_at : AtArm t b = record { volumes = x.volumes; directory = x.directory; arm = up; most = inr low } in
-        let first : Over (js ++ j ∷ []) (causes ++ Arm f ∷ []) a t = fetch_fails j over first_at ((came.0).0, omega arith) (omega (arith, up, low)) in
-        let all : Over ((js ++ j ∷ []) ++ js') ((causes ++ Arm f ∷ []) ++ map Arm fs) a b =
-        fetches_fail js' fs (omega (arith, many)) (each_both (λ g. (f < g) ⊎ (g ≡ 2 ^ 64 - 1)) (λ g. CameUp m.arm g b.arm) (λ g. CameUp f g b.arm) (λ g up came. (up, came.1)) fs rises.0 came.1)
+        let first : Over (js ++ j ∷ []) (causes ++ Arm f ∷ []) a t = fetch_fails j over first_at ((failed.0).0, omega arith) (omega (arith, up, low)) in
+        let all : Over ((js ++ j ∷ []) ++ js') ((causes ++ Arm f ∷ []) ++ causes') a b =
+        fetches_fail js' causes' (omega (arith, many)) (each_both (ArmRises (Arm f)) (ArmFailed m.arm b.arm) (ArmFailed f b.arm) (failed_behind m.arm b.arm f) causes' rises.0 failed.1)
         rises.1 rest_at low first in
-        subst (λ z. Over z (causes ++ map Arm (f ∷ fs)) a b) (append_assoc js (j ∷ []) js')
-        (subst (λ z. Over ((js ++ j ∷ []) ++ js') z a b) (append_assoc causes (Arm f ∷ []) (map Arm fs)) all)
+        subst (λ z. Over z (causes ++ Arm f ∷ causes') a b) (append_assoc js (j ∷ []) js')
+        (subst (λ z. Over ((js ++ j ∷ []) ++ js') z a b) (append_assoc causes (Arm f ∷ []) causes') all)
 
     -- ITS LAST LOOK at the volume's view
 
@@ -228,14 +236,17 @@ module _ (settings : Settings) (start : Start) (drained : List Bool) (tag : Core
             shows = record { sight = b.volumes v; from = (went_later passed.went).volumes v; to = same_at (b.volumes v); front = (x.is).front; is = (x.is).is };
           }
 
-      -- fetches that succeeded, or failed
+      -- it goes on, as by fetches that succeeded, or by such that failed
       pub look_goes_on : Look p what js causes a m → Idle tag m b → (b.arm ≡ m.arm) ⊎ (b.arm < 2 ^ 64) → Look p what js causes a b
       look_goes_on look idle most = record { passed = read_goes_on look.passed idle most; shows = shows_wider look.shows (went_later idle) }
 
-      pub look_fetches_fail : (js' fs : List ℕ) → length js' ≡ length fs → Each (λ f. CameUp m.arm f b.arm) fs → EachPair (λ f g. (f < g) ⊎ (g ≡ 2 ^ 64 - 1)) fs → AtArm m b
-          → b.arm < 2 ^ 64 → Look p what js causes a m → Look p what (js ++ js') (causes ++ map Arm fs) a b
-      look_fetches_fail js' fs many came rises x low look = record {
-        passed = fetches_fail js' fs many came rises x low look.passed;
+      pub look_fetches : Look p what js causes a m → AtArm m b → Look p what js causes a b
+      look_fetches look x = look_goes_on look (arm_went x) x.most
+
+      pub look_fetches_fail : (js' : List ℕ) (causes' : List Cause) → length js' ≡ length causes' → Each (ArmFailed m.arm b.arm) causes' → EachPair ArmRises causes' → AtArm m b
+          → b.arm < 2 ^ 64 → Look p what js causes a m → Look p what (js ++ js') (causes ++ causes') a b
+      look_fetches_fail js' causes' many failed rises x low look = record {
+        passed = fetches_fail js' causes' many failed rises x low look.passed;
         shows = shows_wider look.shows (went_later (arm_went {tag = tag} x));
       }
 

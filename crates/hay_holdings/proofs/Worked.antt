@@ -234,5 +234,5 @@ unreadable_so : IsAnswered one start (false ∷ []) (tag 3 5) (command.Read (pai
 unreadable_so =
     read_answered one start (false ∷ []) (tag 3 5)
     (shows_unreadable one start (false ∷ []) (tag 3 5) (pair 1) 1 0 {first = 0}
-    (look_fetches_fail one start (false ∷ []) (tag 3 5) (pair 1) 1 0 (0 ∷ []) (1 ∷ []) refl ((inl (lit< tt), lit≤ tt), tt) (tt, tt) fetch (lit< tt) looking)
+    (look_fetches_fail one start (false ∷ []) (tag 3 5) (pair 1) 1 0 (0 ∷ []) (Arm 1 ∷ []) refl ((inl (lit< tt), lit≤ tt), tt) (tt, tt) fetch (lit< tt) looking)
     (lit< tt) refl refl)

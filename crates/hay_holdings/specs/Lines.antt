@@ -47,6 +47,12 @@ pub record Unchanged (tag : CoreTag) (a b : Sight) : Type 0 where
   pub volumes : (v : ℕ) → changed (doings.volumes v) ≡ []
   pub rows : changed_rows doings.rows ≡ []
 
+-- a fetch failed, between two counts of the lane's arm
+abbrev pub ArmFailed : ℕ → ℕ → Cause → Type 0
+ArmFailed before after (Arm f) = CameUp before f after
+ArmFailed before after (Disk f) = ⊥
+ArmFailed before after (Damage at) = ⊥
+
 -- A HOLDING THAT FOUND THE VOLUME CLOSED
 
 module _ (settings : Settings) (start : Start) (drained : List Bool) (v : ℕ) (tag : CoreTag) where
