@@ -1,0 +1,12 @@
+pub mod Lists
+pub mod Calls
+pub mod Going
+pub mod Finding
+pub mod Unchanged
+pub mod PutAnswers
+pub mod DelAnswers
+pub mod ReadAnswers
+pub mod WorkAnswers
+pub mod CompactAnswers
+pub mod Ending
+pub mod Worked

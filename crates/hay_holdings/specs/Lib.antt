@@ -1,0 +1,5 @@
+pub mod Holdings
+pub mod Volumes
+pub mod Rows
+pub mod Sights
+pub mod Lines
