@@ -174,7 +174,7 @@ def contents(folder):
 
 
 def run(program, words, **more):
-    done = subprocess.run([program, *words], capture_output=True, timeout=120, check=False, **more)
+    done = subprocess.run([program, *words], capture_output=True, timeout=600, check=False, **more)
     return done.returncode, done.stdout.decode("ascii").splitlines(), done.stderr.decode("ascii")
 
 
