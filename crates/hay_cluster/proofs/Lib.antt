@@ -5,6 +5,7 @@ pub mod ClosingSlots
 pub mod ClosingStore
 pub mod Finds
 pub mod Fitting
+pub mod GivenDraws
 pub mod Homes
 pub mod Lists
 pub mod Machines
