@@ -5,12 +5,14 @@ use Rattle.hay_disk.specs.Shelf.{HeldDisk, HeldArm}
 use Rattle.hay_mount.specs.Mounts.{SameFrom}
 use Rattle.hay_legal.specs.Known.{disk_count}
 use Rattle.hay_legal.specs.Statuses.Ending.{NoMemory, ReadAll}
+use Rattle.hay_cluster.specs.Draws.{EachDrewLittle, FlushedDrewLittle, no_look}
 use Rattle.hay_cluster.specs.Outside.{IsUndamaged, outside_of, read_of}
 use Rattle.hay_run.specs.Runs.{IsTaken, RanTo, IsNotOpened}
 use Rattle.hay_run.specs.Stops.{ending_of}
 use Rattle.hay_run.specs.Words.{SaysRun}
 use Rattle.hay_legal.specs.Statuses.{Ending}
 use Rattle.hay_run.specs.Causing.{CausedRun}
+use Rattle.hay_run.specs.Draws.{drawn_of}
 use Rattle.hay_run.proofs.Caused.{nothing_caused}
 use Rattle.hay_run.proofs.Commanding.{same_run}
 use Rattle.hay_run.proofs.Giving.{disks_in, arms_in, none_fell}
@@ -160,3 +162,20 @@ returns-in-Err-run_script-clause-caused g c = λ settings says script held told 
     (by_status (λ (e : Ending). CausedRun g.H.Disk.Disk.Tells c.in-Ok-Some.settings e script (g.S.Source.left c.run_script.new.source) outside given sure disks disks' held (g.K.Sink.written c.run_script.new.sink))
     (ending_of c.in-Err-run_script.stop) ending (sym c.status-in-Err-run_script.ensures ∙ is)
     (c.in-Err-run_script.ensures.caused script held told told_sink))
+
+-- what was read, where nothing was asked
+
+pub returns-in-Ok-clause-drew : goal.returns-in-Ok-clause-drew
+returns-in-Ok-clause-drew g c = λ tells zero settings says nothing.
+    let same : c.in-Ok-Some.settings ≡ settings = (let run : SaysRun (map string_bytes c.args.words.now) c.in-Ok-Some.settings = rw c.in-Ok-Some.field-0-is at c.in-Ok-Some.ensures.run in
+    same_run (map string_bytes c.args.words.now) c.in-Ok-Some.settings settings run says) in
+    subst (λ (s : Settings). EachDrewLittle s (λ slot. read_of (g.H.Shelf.disks c.run_script.new.shelf slot)) no_look (drawn_of (g.H.Shelf.disks c.args.shelf.now)) (drawn_of (g.H.Shelf.disks c.run_script.new.shelf))) same
+    (c.in-Ok.ensures.drew tells nothing)
+
+pub returns-in-Ok-clause-flushed : goal.returns-in-Ok-clause-flushed
+returns-in-Ok-clause-flushed g c = λ tells zero settings k says taken nothing.
+    let outside = outside_of (g.H.Shelf.fault_count c.args.shelf.now) (g.H.Shelf.disks c.args.shelf.now) (g.H.Shelf.arms c.args.shelf.now) in
+    let same : c.in-Ok-Some.settings ≡ settings = (let run : SaysRun (map string_bytes c.args.words.now) c.in-Ok-Some.settings = rw c.in-Ok-Some.field-0-is at c.in-Ok-Some.ensures.run in
+    same_run (map string_bytes c.args.words.now) c.in-Ok-Some.settings settings run says) in
+    subst (λ (s : Settings). FlushedDrewLittle s k (drawn_of (g.H.Shelf.disks c.args.shelf.now)) (drawn_of (g.H.Shelf.disks c.run_script.new.shelf))) same
+    (c.in-Ok.ensures.flushed tells k (subst (λ (s : Settings). IsTaken s outside k) (sym same) taken) nothing)
