@@ -14,3 +14,4 @@ pub mod Stopping
 pub mod Taking
 pub mod Turning
 pub mod Unread
+pub mod Drawing

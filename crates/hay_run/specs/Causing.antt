@@ -21,6 +21,7 @@ use Rattle.hay_legal.specs.Stands.{Contents, Outside}
 use Rattle.hay_legal.specs.Statuses.{Ending, IsFront, read_contents}
 use Rattle.hay_legal.specs.Statuses.Ending.{ReadAll, OutputFault, InputFault, NoMemory, NotOpened, TooLong}
 use Rattle.hay_cluster.specs.Causes.{BlamesNoArm, Counts, IsCaused, LeavesFuses, RoseIn}
+use Rattle.hay_cluster.specs.Draws.{drawn_in}
 use Rattle.hay_cluster.specs.Outside.{IsDamagedDisk, IsKept, IsUndamaged, IsUndamagedBelow}
 use Rattle.hay_cluster.specs.Pending.{LeavesPending, PendingLines, TellsPending, none_pending, pending_of}
 use Rattle.hay_cluster.specs.Store.{Open, contents_in, disks_of}
@@ -36,21 +37,24 @@ use Rattle.hay_run.specs.Turns.{Writing, HoldsNone}
 use Rattle.hay_run.specs.Unbuilt.{unbuilt_text}
 
 -- What is seen of a store: how many calls of each disk and fetches of each arm failed, how many fuses were set on each disk, which
--- arms are sure, which lines left a change or a row pending, and what reads of the disk in each slot give.
+-- arms are sure, which lines left a change or a row pending, what reads of the disk in each slot give, and how many bytes were read of
+-- each of its files.
 pub record Tally : Type 0 where
   pub counts : Counts
   pub fuses : List ℕ
   pub sure : List Bool
   pub pending : PendingLines
   pub contents : ℕ → Contents
+  pub drawn : ℕ → ℕ → ℕ
 
-abbrev pub tally_of : {D P A : Type 0} → (D → Files) → (D → ℕ) → (D → ℕ) → (A → ℕ) → (A → Bool) → Open D P A → Tally
-tally_of files faults fuses arm_faults sure store = record {
+abbrev pub tally_of : {D P A : Type 0} → (D → Files) → (D → ℕ → ℕ) → (D → ℕ) → (D → ℕ) → (A → ℕ) → (A → Bool) → Open D P A → Tally
+tally_of files drawn faults fuses arm_faults sure store = record {
   counts = record { disks = map faults (disks_of store); arms = map arm_faults store.arms };
   fuses = map fuses (disks_of store);
   sure = map sure store.arms;
   pending = pending_of store;
   contents = contents_in files store;
+  drawn = drawn_in drawn store;
 }
 
 -- the arm of this lane is sure

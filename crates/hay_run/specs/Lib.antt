@@ -9,3 +9,4 @@ pub mod Stream
 pub mod Turns
 pub mod Unbuilt
 pub mod Words
+pub mod Draws

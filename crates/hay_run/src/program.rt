@@ -7,10 +7,12 @@ ghost use Rattle.hay_legal.specs.declared.known.Known.{Known};
 ghost use Rattle.hay_needle.specs.declared.settings.Settings.{Settings};
 ghost use Rattle.hay_legal.specs.Known.{disk_count};
 ghost use Rattle.hay_legal.specs.Statuses.{Ending, status_of};
+ghost use Rattle.hay_cluster.specs.Draws.{EachDrewLittle, FlushedDrewLittle, no_look};
 ghost use Rattle.hay_cluster.specs.Outside.{IsUndamaged, outside_of, read_of};
 ghost use Rattle.hay_cluster.specs.Store.{IsBuilt};
 ghost use Rattle.hay_run.specs.declared.stops.Stop.{Stop};
 ghost use Rattle.hay_run.specs.Causing.{CausedRun, ending_in};
+ghost use Rattle.hay_run.specs.Draws.{AsksNothing, drawn_of};
 ghost use Rattle.hay_run.specs.Stream.{IsReadToEnd, TookAtMost};
 ghost use Rattle.hay_run.specs.Stops.{ending_of};
 ghost use Rattle.hay_run.specs.Runs.{HasOpened, IsNotOpened, IsNotOpenedBehind, IsSureStill, IsTaken, RanTo, WasRead};
@@ -77,6 +79,11 @@ fn answer_script<H: Shelf, S: Source, K: Sink>(
     ensures other_slots { SameFrom (disk_count settings) (H.disks shelf.old) (H.disks shelf.new) }
     ensures other_lanes { SameFrom 8 (H.arms shelf.old) (H.arms shelf.new) }
     ensures sound { H.Disk.Tells → HasOpened result ⊎ WasRead (S.left source.old) (S.left source.new) → IsUndamaged settings (λ slot. read_of (H.disks shelf.old slot)) }
+    ensures drew { H.Disk.Tells → OnOk result (AsksNothing (S.left source.old) →
+        EachDrewLittle settings (λ slot. read_of (H.disks shelf.new slot)) no_look (drawn_of (H.disks shelf.old)) (drawn_of (H.disks shelf.new))) }
+    ensures flushed { H.Disk.Tells → OnOk result ((k : Known) →
+        IsTaken settings (outside_of (H.fault_count shelf.old) (H.disks shelf.old) (H.arms shelf.old)) k → AsksNothing (S.left source.old) →
+        FlushedDrewLittle settings k (drawn_of (H.disks shelf.old)) (drawn_of (H.disks shelf.new))) }
     ensures sure_arms { (lane : ℕ) → lane < 8 → IsSureStill (H.arms shelf.old lane) (H.arms shelf.new lane) }
     ensures appends { Appends (K.written sink.old) (K.written sink.new) }
     ensures shelf { H.fault_count shelf.old ≤ H.fault_count shelf.new }
@@ -136,6 +143,11 @@ fn run_script<H: Shelf, S: Source, K: Sink>(
     ensures other_slots { SameFrom (disk_count settings) (H.disks shelf.old) (H.disks shelf.new) }
     ensures other_lanes { SameFrom 8 (H.arms shelf.old) (H.arms shelf.new) }
     ensures sound { H.Disk.Tells → HasOpened result ⊎ WasRead (S.left source.old) (S.left source.new) → IsUndamaged settings (λ slot. read_of (H.disks shelf.old slot)) }
+    ensures drew { H.Disk.Tells → OnOk result (AsksNothing (S.left source.old) →
+        EachDrewLittle settings (λ slot. read_of (H.disks shelf.new slot)) no_look (drawn_of (H.disks shelf.old)) (drawn_of (H.disks shelf.new))) }
+    ensures flushed { H.Disk.Tells → OnOk result ((k : Known) →
+        IsTaken settings (outside_of (H.fault_count shelf.old) (H.disks shelf.old) (H.arms shelf.old)) k → AsksNothing (S.left source.old) →
+        FlushedDrewLittle settings k (drawn_of (H.disks shelf.old)) (drawn_of (H.disks shelf.new))) }
     ensures sure_arms { (lane : ℕ) → lane < 8 → IsSureStill (H.arms shelf.old lane) (H.arms shelf.new lane) }
     ensures appends { Appends (K.written sink.old) (K.written sink.new) }
     ensures shelf { H.fault_count shelf.old ≤ H.fault_count shelf.new }
@@ -203,6 +215,13 @@ pub fn run<H: Shelf, S: Source, K: Sink>(
     // Behind an opening that succeeded, nothing of what was read of the disks is damaged.
     ensures sound { H.Disk.Tells → (result ≡ 0) ⊎ (result ≡ 4) ⊎ (result ≡ 7) ⊎ WasRead (S.left source.old) (S.left source.new) → (settings : Settings) → SaysRun (map string_bytes words.now) settings →
         IsUndamaged settings (λ slot. read_of (H.disks shelf.old slot)) }
+    // A run that is asked for nothing reads of each volume file little more than the needles that have no record: of one whose
+    // needles all have theirs, the superblock, the head of the last needle and the end mark.
+    ensures drew { H.Disk.Tells → result ≡ 0 → (settings : Settings) → SaysRun (map string_bytes words.now) settings → AsksNothing (S.left source.old) →
+        EachDrewLittle settings (λ slot. read_of (H.disks shelf.new slot)) no_look (drawn_of (H.disks shelf.old)) (drawn_of (H.disks shelf.new)) }
+    ensures flushed { H.Disk.Tells → result ≡ 0 → (settings : Settings) (k : Known) → SaysRun (map string_bytes words.now) settings →
+        IsTaken settings (outside_of (H.fault_count shelf.old) (H.disks shelf.old) (H.arms shelf.old)) k → AsksNothing (S.left source.old) →
+        FlushedDrewLittle settings k (drawn_of (H.disks shelf.old)) (drawn_of (H.disks shelf.new)) }
     ensures long { result ≡ 7 → (script : List ℕ) → S.left source.old ≡ Some script →
         (rest : List ℕ) × (S.left source.new ≡ Some rest) × (length script ≡ SCRIPT + 1 + length rest) }
     ensures short { result ≡ 0 → (settings : Settings) → SaysRun (map string_bytes words.now) settings → (script : List ℕ) → S.left source.old ≡ Some script → length script ≤ SCRIPT }

@@ -11,18 +11,22 @@ use Rattle.hay_legal.specs.Known.{disk_count}
 use Rattle.hay_legal.specs.Stands.{StandsOn}
 use Rattle.hay_directory.specs.Rows.{OpensRows}
 use Rattle.hay_logical.specs.Fits.{IsReplica}
-use Rattle.hay_cluster.specs.Outside.{outside_of}
+use Rattle.hay_cluster.specs.Draws.{EachDrewLittle, FlushedDrewLittle, no_look}
+use Rattle.hay_cluster.specs.Outside.{outside_of, read_of}
 use Rattle.hay_cluster.specs.State.{Stands, Holds}
 use Rattle.hay_cluster.specs.Store.{disks_of}
+use Rattle.hay_cluster.proofs.GivenDraws.{given_drew, given_flushed}
 use Rattle.hay_cluster.proofs.Standing.{stands_holds}
 use Rattle.hay_run.specs.declared.stops.Stop.TheVariants as stop
 use Rattle.hay_run.specs.Runs.{RanTo}
 use Rattle.hay_run.specs.Stops.{ending_of}
 use Rattle.hay_run.specs.Turns.{Serves, ServedUntil}
 use Rattle.hay_legal.specs.Statuses.{Ending, read_contents}
-use Rattle.hay_run.specs.Causing.{AllCaused, BeginsAt, CausedRun, CausedUntil, EndsAt, tally_of}
+use Rattle.hay_run.specs.Causing.{AllCaused, BeginsAt, CausedRun, CausedUntil, EndsAt, Tally, tally_of}
+use Rattle.hay_run.specs.Draws.{drawn_of}
 use Rattle.hay_run.proofs.Caused.{all_caused, by_outcome, refused_caused, until_caused}
 use Rattle.hay_run.proofs.Counting.{NoneFalls-at, arm_there, count_at, lane_of, sure_at}
+use Rattle.hay_run.proofs.Drawing.{nothing_asked}
 use Rattle.hay_run.proofs.Giving.{same_more}
 use Rattle.hay_run.proofs.Ran.{ran_all, ran_stopped}
 use Rattle.hay_run.proofs.Refusing.{cause_of, none_opened, not_read, on_ok_both, ran_unopened, refused_later}
@@ -173,8 +177,8 @@ returns-clause-caused g c = λ script held told told_sink.
     let sure : ℕ → Bool = (λ lane. (g.H.Shelf.arms c.args.shelf.now lane).is_sure) in
     let taken = outside_of (g.H.Shelf.fault_count c.args.shelf.now) (g.H.Shelf.disks c.args.shelf.now) (g.H.Shelf.arms c.args.shelf.now) in
     let given = outside_of (g.H.Shelf.fault_count c.close.new.shelf) (g.H.Shelf.disks c.close.new.shelf) (g.H.Shelf.arms c.close.new.shelf) in
-    let old = tally_of D.files D.fault_count D.fuse_count A.fault_count A.is_sure c.in-Ok.cluster in
-    let new = tally_of D.files D.fault_count D.fuse_count A.fault_count A.is_sure c.serve-outcome.new.cluster in
+    let old = tally_of D.files D.drawn D.fault_count D.fuse_count A.fault_count A.is_sure c.in-Ok.cluster in
+    let new = tally_of D.files D.drawn D.fault_count D.fuse_count A.fault_count A.is_sure c.serve-outcome.new.cluster in
     let left = g.S.Source.left c.serve-outcome.new.source in
     let written = g.K.Sink.written c.serve-outcome.new.sink in
     let is_settings = c.serve-outcome.ensures.settings ∙ c.in-Ok.ensures.settings in
@@ -268,3 +272,37 @@ returns-in-Err-clause-sound g c = λ tells opened.
 
 pub returns-clause-appends : goal.returns-clause-appends
 returns-clause-appends g c = c.serve-outcome.ensures.appends
+
+-- what was read, where nothing was asked
+
+pub returns-clause-drew : goal.returns-clause-drew
+returns-clause-drew g c = λ tells.
+    let D = g.H.Disk.Disk in
+    let A = g.H.Arm.Arm in
+    let old = tally_of D.files D.drawn D.fault_count D.fuse_count A.fault_count A.is_sure c.in-Ok.cluster in
+    let new = tally_of D.files D.drawn D.fault_count D.fuse_count A.fault_count A.is_sure c.serve-outcome.new.cluster in
+    let given = g.H.Shelf.disks c.close.new.shelf in
+    let before = drawn_of (g.H.Shelf.disks c.args.shelf.now) in
+    let is_settings = c.serve-outcome.ensures.settings ∙ c.in-Ok.ensures.settings in
+    on_ok_weaker c.serve-outcome.result (λ all nothing.
+    let same : new ≡ old = nothing_asked D.Tells c.in-Ok.cluster.settings old new (g.S.Source.left c.args.source.now) (g.K.Sink.written c.args.sink.now) (g.K.Sink.written c.serve-outcome.new.sink) all nothing in
+    given_drew c.args.settings new.contents before new.drawn given
+    (subst (λ s. (slot : ℕ) → slot < disk_count s → read_of (given slot) ≡ new.contents slot) is_settings (c.close.ensures.contents tells))
+    (subst (λ s. (slot : ℕ) → slot < disk_count s → (given slot).drawn ≡ new.drawn slot) is_settings (c.close.ensures.drawn tells))
+    (subst (λ (t : Tally). EachDrewLittle c.args.settings t.contents no_look before t.drawn) (sym same) (c.in-Ok.ensures.drew tells))) c.serve-outcome.ensures.caused
+
+pub returns-clause-flushed : goal.returns-clause-flushed
+returns-clause-flushed g c = λ tells.
+    let D = g.H.Disk.Disk in
+    let A = g.H.Arm.Arm in
+    let old = tally_of D.files D.drawn D.fault_count D.fuse_count A.fault_count A.is_sure c.in-Ok.cluster in
+    let new = tally_of D.files D.drawn D.fault_count D.fuse_count A.fault_count A.is_sure c.serve-outcome.new.cluster in
+    let given = g.H.Shelf.disks c.close.new.shelf in
+    let before = drawn_of (g.H.Shelf.disks c.args.shelf.now) in
+    let is_settings = c.serve-outcome.ensures.settings ∙ c.in-Ok.ensures.settings in
+    on_ok_weaker c.serve-outcome.result (λ all k taken nothing.
+    let same : new ≡ old = nothing_asked D.Tells c.in-Ok.cluster.settings old new (g.S.Source.left c.args.source.now) (g.K.Sink.written c.args.sink.now) (g.K.Sink.written c.serve-outcome.new.sink) all nothing in
+    given_flushed c.args.settings new.contents before new.drawn given
+    (subst (λ s. (slot : ℕ) → slot < disk_count s → read_of (given slot) ≡ new.contents slot) is_settings (c.close.ensures.contents tells))
+    (subst (λ s. (slot : ℕ) → slot < disk_count s → (given slot).drawn ≡ new.drawn slot) is_settings (c.close.ensures.drawn tells))
+    k (subst (λ (t : Tally). FlushedDrewLittle c.args.settings k before t.drawn) (sym same) (c.in-Ok.ensures.flushed tells k taken))) c.serve-outcome.ensures.caused

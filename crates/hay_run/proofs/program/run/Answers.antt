@@ -5,6 +5,7 @@ use Rattle.hay_disk.specs.Shelf.{HeldDisk, HeldArm}
 use Rattle.hay_mount.specs.Mounts.{SameFrom}
 use Rattle.hay_legal.specs.Known.{disk_count}
 use Rattle.hay_legal.specs.Statuses.Ending.{NoMemory, ReadAll}
+use Rattle.hay_cluster.specs.Draws.{EachDrewLittle, FlushedDrewLittle, no_look}
 use Rattle.hay_cluster.specs.Outside.{IsUndamaged, outside_of, read_of}
 use Rattle.hay_run.specs.Runs.{IsTaken, RanTo, IsNotOpened}
 use Rattle.hay_run.specs.Stops.{ending_of}
@@ -12,6 +13,7 @@ use Rattle.hay_run.specs.Checking.{ChecksTo}
 use Rattle.hay_run.specs.Words.{SaysCheck, SaysRun}
 use Rattle.hay_legal.specs.Statuses.{Ending}
 use Rattle.hay_run.specs.Causing.{CausedRun}
+use Rattle.hay_run.specs.Draws.{drawn_of}
 use Rattle.hay_run.proofs.Caused.{nothing_caused}
 use Rattle.hay_legal.specs.Stands.{Outside}
 use Rattle.hay_run.proofs.Checking.{check_nothing, check_statuses}
@@ -197,3 +199,20 @@ pub returns-in-Err-clause-checked : goal.returns-in-Err-clause-checked
 returns-in-Err-clause-checked g c = λ settings says.
     check_nothing g.H.Disk.Disk.Tells settings c.status.result (outside_of (g.H.Shelf.fault_count c.args.shelf.now) (g.H.Shelf.disks c.args.shelf.now) (g.H.Shelf.arms c.args.shelf.now))
     (g.K.Sink.written c.args.sink.now) c.status.ensures
+
+-- what was read, where nothing was asked
+
+pub returns-in-Ok-clause-drew : goal.returns-in-Ok-clause-drew
+returns-in-Ok-clause-drew g c = λ tells zero settings says nothing.
+    let same : c.in-Ok-Some-Run.settings ≡ settings = (let run : SaysRun (map string_bytes c.args.words.now) c.in-Ok-Some-Run.settings = rw (c.in-Ok-Some-Run.field-0-is, c.in-Ok-Some-Run.field-0-0-is) at c.in-Ok-Some-Run.ensures.says in
+    same_run (map string_bytes c.args.words.now) c.in-Ok-Some-Run.settings settings run says) in
+    subst (λ (s : Settings). EachDrewLittle s (λ slot. read_of (g.H.Shelf.disks c.run_script.new.shelf slot)) no_look (drawn_of (g.H.Shelf.disks c.args.shelf.now)) (drawn_of (g.H.Shelf.disks c.run_script.new.shelf))) same
+    (c.in-Ok.ensures.drew tells nothing)
+
+pub returns-in-Ok-clause-flushed : goal.returns-in-Ok-clause-flushed
+returns-in-Ok-clause-flushed g c = λ tells zero settings k says taken nothing.
+    let outside = outside_of (g.H.Shelf.fault_count c.args.shelf.now) (g.H.Shelf.disks c.args.shelf.now) (g.H.Shelf.arms c.args.shelf.now) in
+    let same : c.in-Ok-Some-Run.settings ≡ settings = (let run : SaysRun (map string_bytes c.args.words.now) c.in-Ok-Some-Run.settings = rw (c.in-Ok-Some-Run.field-0-is, c.in-Ok-Some-Run.field-0-0-is) at c.in-Ok-Some-Run.ensures.says in
+    same_run (map string_bytes c.args.words.now) c.in-Ok-Some-Run.settings settings run says) in
+    subst (λ (s : Settings). FlushedDrewLittle s k (drawn_of (g.H.Shelf.disks c.args.shelf.now)) (drawn_of (g.H.Shelf.disks c.run_script.new.shelf))) same
+    (c.in-Ok.ensures.flushed tells k (subst (λ (s : Settings). IsTaken s outside k) (sym same) taken) nothing)

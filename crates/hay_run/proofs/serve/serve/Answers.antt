@@ -28,7 +28,7 @@ turns-init g c = record {
   answers = λ tells k stands. answers_nothing (Stands g.D.Disk.files g.D.Piece.Piece.Tells g.D.Disk.fault_count g.D.Disk.fuse_count g.A.Arm.fault_count) k (g.K.Sink.written c.args.sink.now) c.args.cluster.now stands;
   said = [];
   read = took_first 1 (g.S.Source.left c.args.source.now) c.new-script.result c.new-script.ensures.bytes;
-  caused = caused_nothing g.D.Disk.Tells c.args.cluster.now.settings (tally_of g.D.Disk.files g.D.Disk.fault_count g.D.Disk.fuse_count g.A.Arm.fault_count g.A.Arm.is_sure c.args.cluster.now) (g.K.Sink.written c.args.sink.now);
+  caused = caused_nothing g.D.Disk.Tells c.args.cluster.now.settings (tally_of g.D.Disk.files g.D.Disk.drawn g.D.Disk.fault_count g.D.Disk.fuse_count g.A.Arm.fault_count g.A.Arm.is_sure c.args.cluster.now) (g.K.Sink.written c.args.sink.now);
   first = c.new-script.result;
   at_first = c.new-script.ensures.taken;
   accounts = accounts_same (g.S.Source.left c.args.source.now) c.new-script.result;
@@ -120,7 +120,7 @@ turns-preserved g c =
     let turned = c.in_ok-number.ensures.turned in
     let unmet : c.turn.new.script.ended ≡ false = sym c.is_ended.ensures ∙ c.if-is_ended.false in
     let caused = c.in_ok-number.ensures.caused in
-    let P : Settings → Type 0 = λ s. Caused g.D.Disk.Tells Wrote s (tally_of g.D.Disk.files g.D.Disk.fault_count g.D.Disk.fuse_count g.A.Arm.fault_count g.A.Arm.is_sure c.turns.cluster) (tally_of g.D.Disk.files g.D.Disk.fault_count g.D.Disk.fuse_count g.A.Arm.fault_count g.A.Arm.is_sure c.turn.new.cluster)
+    let P : Settings → Type 0 = λ s. Caused g.D.Disk.Tells Wrote s (tally_of g.D.Disk.files g.D.Disk.drawn g.D.Disk.fault_count g.D.Disk.fuse_count g.A.Arm.fault_count g.A.Arm.is_sure c.turns.cluster) (tally_of g.D.Disk.files g.D.Disk.drawn g.D.Disk.fault_count g.D.Disk.fuse_count g.A.Arm.fault_count g.A.Arm.is_sure c.turn.new.cluster)
     caused.asked (g.K.Sink.written c.turns.sink) (g.K.Sink.written c.turn.new.sink) in
     record {
       unmet = unmet;
@@ -138,8 +138,8 @@ turns-preserved g c =
       said = inv.said ++ caused.asked;
       read = took_items_more 1 c.turns.number c.in_ok-number.number (left c.args.source.now) (rest_of (left c.turns.source) c.turns.script) (rest_of (left c.turn.new.source) c.turn.new.script)
           inv.said caused.asked false inv.read (rw unmet at caused.took);
-      caused = caused_more g.D.Disk.Tells c.args.cluster.now.settings (tally_of g.D.Disk.files g.D.Disk.fault_count g.D.Disk.fuse_count g.A.Arm.fault_count g.A.Arm.is_sure c.args.cluster.now) (tally_of g.D.Disk.files g.D.Disk.fault_count g.D.Disk.fuse_count g.A.Arm.fault_count g.A.Arm.is_sure c.turns.cluster)
-          (tally_of g.D.Disk.files g.D.Disk.fault_count g.D.Disk.fuse_count g.A.Arm.fault_count g.A.Arm.is_sure c.turn.new.cluster) inv.said caused.asked (g.K.Sink.written c.args.sink.now) (g.K.Sink.written c.turns.sink) (g.K.Sink.written c.turn.new.sink)
+      caused = caused_more g.D.Disk.Tells c.args.cluster.now.settings (tally_of g.D.Disk.files g.D.Disk.drawn g.D.Disk.fault_count g.D.Disk.fuse_count g.A.Arm.fault_count g.A.Arm.is_sure c.args.cluster.now) (tally_of g.D.Disk.files g.D.Disk.drawn g.D.Disk.fault_count g.D.Disk.fuse_count g.A.Arm.fault_count g.A.Arm.is_sure c.turns.cluster)
+          (tally_of g.D.Disk.files g.D.Disk.drawn g.D.Disk.fault_count g.D.Disk.fuse_count g.A.Arm.fault_count g.A.Arm.is_sure c.turn.new.cluster) inv.said caused.asked (g.K.Sink.written c.args.sink.now) (g.K.Sink.written c.turns.sink) (g.K.Sink.written c.turn.new.sink)
           inv.caused (subst P inv.same caused.caused);
       first = inv.first;
       at_first = inv.at_first;
@@ -218,15 +218,15 @@ returns-then-is_ended-clause-caused g c =
     let left = g.S.Source.left in
     let met = sym c.is_ended.ensures ∙ c.if-is_ended.true in
     let caused = c.in_ok-number.ensures.caused in
-    let P : Settings → Type 0 = λ s. Caused g.D.Disk.Tells Wrote s (tally_of g.D.Disk.files g.D.Disk.fault_count g.D.Disk.fuse_count g.A.Arm.fault_count g.A.Arm.is_sure c.turns.cluster) (tally_of g.D.Disk.files g.D.Disk.fault_count g.D.Disk.fuse_count g.A.Arm.fault_count g.A.Arm.is_sure c.turn.new.cluster)
+    let P : Settings → Type 0 = λ s. Caused g.D.Disk.Tells Wrote s (tally_of g.D.Disk.files g.D.Disk.drawn g.D.Disk.fault_count g.D.Disk.fuse_count g.A.Arm.fault_count g.A.Arm.is_sure c.turns.cluster) (tally_of g.D.Disk.files g.D.Disk.drawn g.D.Disk.fault_count g.D.Disk.fuse_count g.A.Arm.fault_count g.A.Arm.is_sure c.turn.new.cluster)
     caused.asked (g.K.Sink.written c.turns.sink) (g.K.Sink.written c.turn.new.sink) in
     record {
       asked = inv.said ++ caused.asked;
       all = asks_all c.in_ok-number.number (left c.args.source.now) (rest_of (left c.turn.new.source) c.turn.new.script) (inv.said ++ caused.asked) c.turn.new.script.ended
           (took_items_more 1 c.turns.number c.in_ok-number.number (left c.args.source.now) (rest_of (left c.turns.source) c.turns.script) (rest_of (left c.turn.new.source) c.turn.new.script)
           inv.said caused.asked c.turn.new.script.ended inv.read caused.took) met;
-      caused = caused_more g.D.Disk.Tells c.args.cluster.now.settings (tally_of g.D.Disk.files g.D.Disk.fault_count g.D.Disk.fuse_count g.A.Arm.fault_count g.A.Arm.is_sure c.args.cluster.now) (tally_of g.D.Disk.files g.D.Disk.fault_count g.D.Disk.fuse_count g.A.Arm.fault_count g.A.Arm.is_sure c.turns.cluster)
-          (tally_of g.D.Disk.files g.D.Disk.fault_count g.D.Disk.fuse_count g.A.Arm.fault_count g.A.Arm.is_sure c.turn.new.cluster) inv.said caused.asked (g.K.Sink.written c.args.sink.now) (g.K.Sink.written c.turns.sink) (g.K.Sink.written c.turn.new.sink)
+      caused = caused_more g.D.Disk.Tells c.args.cluster.now.settings (tally_of g.D.Disk.files g.D.Disk.drawn g.D.Disk.fault_count g.D.Disk.fuse_count g.A.Arm.fault_count g.A.Arm.is_sure c.args.cluster.now) (tally_of g.D.Disk.files g.D.Disk.drawn g.D.Disk.fault_count g.D.Disk.fuse_count g.A.Arm.fault_count g.A.Arm.is_sure c.turns.cluster)
+          (tally_of g.D.Disk.files g.D.Disk.drawn g.D.Disk.fault_count g.D.Disk.fuse_count g.A.Arm.fault_count g.A.Arm.is_sure c.turn.new.cluster) inv.said caused.asked (g.K.Sink.written c.args.sink.now) (g.K.Sink.written c.turns.sink) (g.K.Sink.written c.turn.new.sink)
           inv.caused (subst P inv.same caused.caused);
     }
 
@@ -236,14 +236,14 @@ returns-in_err-number-clause-stop_caused g c = λ why is.
     let left = g.S.Source.left in
     let p = err_from_is_err_and c.from_residual.result c.from_residual.ensures.1 in
     let same : IsErrOf c.turn.result why = cc (p.1, p.2, c.in_err-number.was) in
-    let P : Settings → Type 0 = λ s. TurnStops g.D.Disk.Tells s (tally_of g.D.Disk.files g.D.Disk.fault_count g.D.Disk.fuse_count g.A.Arm.fault_count g.A.Arm.is_sure c.turns.cluster) (tally_of g.D.Disk.files g.D.Disk.fault_count g.D.Disk.fuse_count g.A.Arm.fault_count g.A.Arm.is_sure c.turn.new.cluster) why c.turns.number
+    let P : Settings → Type 0 = λ s. TurnStops g.D.Disk.Tells s (tally_of g.D.Disk.files g.D.Disk.drawn g.D.Disk.fault_count g.D.Disk.fuse_count g.A.Arm.fault_count g.A.Arm.is_sure c.turns.cluster) (tally_of g.D.Disk.files g.D.Disk.drawn g.D.Disk.fault_count g.D.Disk.fuse_count g.A.Arm.fault_count g.A.Arm.is_sure c.turn.new.cluster) why c.turns.number
     (rest_of (left c.turns.source) c.turns.script) (g.K.Sink.written c.turns.sink) (rest_of (left c.turn.new.source) c.turn.new.script) (g.K.Sink.written c.turn.new.sink) in
     record {
       asked = inv.said;
       number = c.turns.number;
       rest = rest_of (left c.turns.source) c.turns.script;
       took = inv.read;
-      mid = tally_of g.D.Disk.files g.D.Disk.fault_count g.D.Disk.fuse_count g.A.Arm.fault_count g.A.Arm.is_sure c.turns.cluster;
+      mid = tally_of g.D.Disk.files g.D.Disk.drawn g.D.Disk.fault_count g.D.Disk.fuse_count g.A.Arm.fault_count g.A.Arm.is_sure c.turns.cluster;
       text = g.K.Sink.written c.turns.sink;
       caused = inv.caused;
       held = c.turn.new.script;

@@ -270,7 +270,7 @@ returns-in_err-said-clause-stop_caused g c = λ why is.
     let before = rest_of (left c.args.source.now) c.args.script.now in
     let mid = rest_of (left c.next_said.new.source) c.next_said.new.self in
     let p = err_from_is_err_and c.from_residual.result c.from_residual.ensures.1 in
-    reading_stops g.D.Disk.Tells c.args.cluster.now.settings (tally_of D.files D.fault_count D.fuse_count A.fault_count A.is_sure c.args.cluster.now) c.args.number before mid (g.K.Sink.written c.args.sink.now) c.next_said.result why (cc (p.1, p.2, c.in_err-said.was))
+    reading_stops g.D.Disk.Tells c.args.cluster.now.settings (tally_of D.files D.drawn D.fault_count D.fuse_count A.fault_count A.is_sure c.args.cluster.now) c.args.number before mid (g.K.Sink.written c.args.sink.now) c.next_said.result why (cc (p.1, p.2, c.in_err-said.was))
     (λ e. open_line TookPart c.args.number before mid (c.next_said.ensures.failed e)) c.next_said.ensures.memory
     (λ e. open_line TookOver c.args.number before mid (c.next_said.ensures.over e)) c.next_said.ensures.stops
 
@@ -282,7 +282,7 @@ returns-in_default-clause-caused g c =
       asked = [];
       took = items_none c.args.number (rest_of (g.S.Source.left c.args.source.now) c.args.script.now) (rest_of (g.S.Source.left c.next_said.new.source) c.next_said.new.self) c.next_said.new.self.ended
           (rw c.in_default.is at c.in_ok-said.ensures.said);
-      caused = caused_nothing g.D.Disk.Tells c.args.cluster.now.settings (tally_of D.files D.fault_count D.fuse_count A.fault_count A.is_sure c.args.cluster.now) (g.K.Sink.written c.args.sink.now);
+      caused = caused_nothing g.D.Disk.Tells c.args.cluster.now.settings (tally_of D.files D.drawn D.fault_count D.fuse_count A.fault_count A.is_sure c.args.cluster.now) (g.K.Sink.written c.args.sink.now);
     }
 
 pub returns-in_err-block-clause-stop_caused : goal.returns-in_err-block-clause-stop_caused
@@ -295,7 +295,7 @@ returns-in_err-block-clause-stop_caused g c = λ why is.
     let after = rest_of (left c.read_block.new.source) c.read_block.new.script in
     let says : SaysNext None (Some (line.Lanes c.in-Lanes.lanes)) before mid c.next_said.new.self.ended = rw c.in-Lanes.is at (rw c.in-Some.is at c.in_ok-said.ensures.said) in
     let p = err_from_is_err_and c.from_residual-in_err-block.result c.from_residual-in_err-block.ensures.1 in
-    reading_stops g.D.Disk.Tells c.args.cluster.now.settings (tally_of D.files D.fault_count D.fuse_count A.fault_count A.is_sure c.args.cluster.now) c.args.number before after (g.K.Sink.written c.args.sink.now) c.read_block.result why (cc (p.1, p.2, c.in_err-block.was))
+    reading_stops g.D.Disk.Tells c.args.cluster.now.settings (tally_of D.files D.drawn D.fault_count D.fuse_count A.fault_count A.is_sure c.args.cluster.now) c.args.number before after (g.K.Sink.written c.args.sink.now) c.read_block.result why (cc (p.1, p.2, c.in_err-block.was))
     (λ e. open_block TookPart c.args.number c.in-Lanes.lanes before mid after c.next_said.new.self.ended says c.in_err-block.ensures.«open» (c.read_block.ensures.input e))
     (λ e. some_more before mid after (some_line before mid says.0 c.next_said.new.self.ended says.1) (c.read_block.ensures.memory e))
     (λ e. open_block TookOver c.args.number c.in-Lanes.lanes before mid after c.next_said.new.self.ended says c.in_err-block.ensures.«open» (c.read_block.ensures.over e)) c.read_block.ensures.stops
@@ -313,8 +313,8 @@ returns-in-Lanes-clause-caused g c =
       asked = Block c.in_ok-block.block.lines ∷ [];
       took = items_either c.args.number c.in-Lanes.lanes c.in_ok-block.next c.in_ok-block.block.lines before mid after c.next_said.new.self.ended c.read_block.new.script.ended says
           c.in_ok-block.ensures.read (λ over. let e = c.in_ok-block.ensures.empty over in (e.0, e.1, rw (e.2, e.3) refl, rw e.3 refl));
-      caused = caused_one g.D.Disk.Tells Wrote c.args.cluster.now.settings (tally_of D.files D.fault_count D.fuse_count A.fault_count A.is_sure c.args.cluster.now) (tally_of D.files D.fault_count D.fuse_count A.fault_count A.is_sure c.args.cluster.now) (Block c.in_ok-block.block.lines) (flat_map unbuilt_text c.in_ok-block.block.lines)
-          (g.K.Sink.written c.args.sink.now) (g.K.Sink.written c.write_block.new.sink) (same_tally (tally_of D.files D.fault_count D.fuse_count A.fault_count A.is_sure c.args.cluster.now)) (refl, refl) c.in_ok-write_block.ensures.wrote;
+      caused = caused_one g.D.Disk.Tells Wrote c.args.cluster.now.settings (tally_of D.files D.drawn D.fault_count D.fuse_count A.fault_count A.is_sure c.args.cluster.now) (tally_of D.files D.drawn D.fault_count D.fuse_count A.fault_count A.is_sure c.args.cluster.now) (Block c.in_ok-block.block.lines) (flat_map unbuilt_text c.in_ok-block.block.lines)
+          (g.K.Sink.written c.args.sink.now) (g.K.Sink.written c.write_block.new.sink) (same_tally (tally_of D.files D.drawn D.fault_count D.fuse_count A.fault_count A.is_sure c.args.cluster.now)) (refl, refl) c.in_ok-write_block.ensures.wrote;
     }
 
 pub returns-in_err-write_block-clause-stop_caused : goal.returns-in_err-write_block-clause-stop_caused
@@ -327,7 +327,7 @@ returns-in_err-write_block-clause-stop_caused g c = λ why is.
     let after = rest_of (left c.read_block.new.source) c.read_block.new.script in
     let says : SaysNext None (Some (line.Lanes c.in-Lanes.lanes)) before mid c.next_said.new.self.ended = rw c.in-Lanes.is at (rw c.in-Some.is at c.in_ok-said.ensures.said) in
     let p = err_from_is_err_and c.from_residual-in_err-write_block.result c.from_residual-in_err-write_block.ensures.1 in
-    block_stops g.D.Disk.Tells c.args.cluster.now.settings (tally_of D.files D.fault_count D.fuse_count A.fault_count A.is_sure c.args.cluster.now) c.args.number c.in_ok-block.block.lines before after (g.K.Sink.written c.args.sink.now) (g.K.Sink.written c.write_block.new.sink)
+    block_stops g.D.Disk.Tells c.args.cluster.now.settings (tally_of D.files D.drawn D.fault_count D.fuse_count A.fault_count A.is_sure c.args.cluster.now) c.args.number c.in_ok-block.block.lines before after (g.K.Sink.written c.args.sink.now) (g.K.Sink.written c.write_block.new.sink)
     c.write_block.result why (cc (p.1, p.2, c.in_err-write_block.was)) c.write_block.ensures.stops (
       lit≤ tt,
       (
@@ -348,7 +348,7 @@ returns-in_err-respond-clause-stop_caused g c = λ why is.
     let after = rest_of (left c.next_said.new.source) c.next_said.new.self in
     let p = err_from_is_err_and c.from_residual-in_err-respond.result c.from_residual-in_err-respond.ensures.1 in
     let same : c.respond.result ≡ Err why = cc (p.1, p.2, c.in_err-respond.was) in
-    item_stops g.D.Disk.Tells c.args.cluster.now.settings (tally_of D.files D.fault_count D.fuse_count A.fault_count A.is_sure c.args.cluster.now) (tally_of D.files D.fault_count D.fuse_count A.fault_count A.is_sure c.respond.new.cluster) c.args.number (outside c.args.number c.in-Some.said).0 before after (g.K.Sink.written c.args.sink.now) (g.K.Sink.written c.respond.new.sink)
+    item_stops g.D.Disk.Tells c.args.cluster.now.settings (tally_of D.files D.drawn D.fault_count D.fuse_count A.fault_count A.is_sure c.args.cluster.now) (tally_of D.files D.drawn D.fault_count D.fuse_count A.fault_count A.is_sure c.respond.new.cluster) c.args.number (outside c.args.number c.in-Some.said).0 before after (g.K.Sink.written c.args.sink.now) (g.K.Sink.written c.respond.new.sink)
     c.respond.result why same (
       outside-one c.args.number c.in-Some.said,
       (
