@@ -1,5 +1,8 @@
 //! Checks of stores: what is told of each disk, at which status, and that nothing is changed.
 
+ghost use Rattle.std.specs.Prelude.{◌≡◌, ℕ, false};
+ghost use Rattle.hay_memdisk.specs.MemShelf.{mem_arms, mem_disks};
+
 use super::damage::{STORE_FILES, StoreFile, field_of, over_damaged};
 use super::{copy_disk, run_over, words_of};
 use hay_memdisk::{MemDisk, MemShelf, MemSink, MemSource};
@@ -97,6 +100,26 @@ fn bytes_of(alloc: Global, shelf: &MemShelf) -> Result<Vec<u8>, Fail> {
     Ok(all)
 }
 
+/// Checks the shelf with these words: the status and what is written.
+fn try_check(
+    rt: &impl Abort,
+    alloc: Global,
+    shelf: &mut MemShelf,
+    words: &[&str],
+    wanted: u8,
+    told: &str,
+) -> Result<(), Fail>
+    requires disks { (slot : ℕ) → (mem_disks shelf.old slot).is_out ≡ false }
+    requires arms { (lane : ℕ) → (mem_arms shelf.old lane).is_out ≡ false }
+    ensures disks { (slot : ℕ) → (mem_disks shelf.new slot).is_out ≡ false }
+    ensures arms { (lane : ℕ) → (mem_arms shelf.new lane).is_out ≡ false }
+{
+    let (status, written) = run_over(alloc, words, b"put 0 9 61\n", shelf)?;
+    assert_eq!(rt; written.as_slice(), told.as_bytes());
+    assert_eq!(rt; status, wanted);
+    Ok(())
+}
+
 #[test]
 fn stores_are_told_and_left(rt: HostRuntime) -> Result<(), Fail> {
     let alloc = rt.alloc();
@@ -105,11 +128,22 @@ fn stores_are_told_and_left(rt: HostRuntime) -> Result<(), Fail> {
         let (status, _) = run_over(alloc, case.words, case.script, &mut shelf)?;
         assert_eq!(rt; status, 0);
         let before = bytes_of(alloc, &shelf)?;
-        for _ in 0..2 {
-            let (status, written) = run_over(alloc, case.check, b"put 0 9 61\n", &mut shelf)?;
-            assert_eq!(rt; written.as_slice(), case.written.as_bytes());
-            assert_eq!(rt; status, case.status);
-        }
+        try_check(
+            &rt,
+            alloc,
+            &mut shelf,
+            case.check,
+            case.status,
+            case.written,
+        )?;
+        try_check(
+            &rt,
+            alloc,
+            &mut shelf,
+            case.check,
+            case.status,
+            case.written,
+        )?;
         assert!(rt; bytes_of(alloc, &shelf)?.starts_with(before.as_slice()));
     }
     Ok(())
@@ -120,14 +154,9 @@ fn stores_are_told_and_left(rt: HostRuntime) -> Result<(), Fail> {
 fn an_empty_shelf_stays_empty(rt: HostRuntime) -> Result<(), Fail> {
     let alloc = rt.alloc();
     let mut shelf = MemShelf::new(alloc);
-    for _ in 0..2 {
-        let (status, written) = run_over(alloc, CHECK, b"", &mut shelf)?;
-        assert_eq!(rt; status, 0);
-        assert_eq!(rt;
-            written.as_slice(),
-            b"haystack 1 1 1 67108864\ncheck 0 void\ncheck 1 void\n".as_slice()
-        );
-    }
+    let told = "haystack 1 1 1 67108864\ncheck 0 void\ncheck 1 void\n";
+    try_check(&rt, alloc, &mut shelf, CHECK, 0, told)?;
+    try_check(&rt, alloc, &mut shelf, CHECK, 0, told)?;
     assert!(rt; bytes_of(alloc, &shelf)?.iter().all(|byte| *byte == 0));
     Ok(())
 }
@@ -219,7 +248,7 @@ fn worked_damage_is_told(rt: HostRuntime) -> Result<(), Fail> {
         let _ = run_over(alloc, RUN, script, &mut store)?;
         let mut bytes = Vec::new(alloc);
         if let Some(disk) = store.disk(1) {
-            let (front, rest) = disk.bytes(file).split_at(cut);
+            let (front, rest) = disk.bytes(file).split_at_checked(cut).ok_or("short")?;
             bytes.extend_from_slice(front)?;
             bytes.extend_from_slice(patch)?;
             if !patch.is_empty() {
