@@ -5,12 +5,10 @@ ghost use Rattle.hay_memdisk.specs.MemShelf.{mem_arms, mem_disks};
 
 mod calls;
 mod cases;
-mod check;
 mod compactions;
 mod damage;
 mod devices;
 mod faults;
-mod openings;
 mod versions;
 
 use cases::CASES;
