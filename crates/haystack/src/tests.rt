@@ -5,10 +5,12 @@ ghost use Rattle.hay_memdisk.specs.MemShelf.{mem_arms, mem_disks};
 
 mod calls;
 mod cases;
+mod check;
 mod compactions;
 mod damage;
 mod devices;
 mod faults;
+mod openings;
 mod versions;
 
 use cases::CASES;
