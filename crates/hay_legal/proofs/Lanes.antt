@@ -99,7 +99,7 @@ block = record {
   };
   fronts = record {
     volumes = ((((tt, tt), ((lit≤ tt, lit≤ tt), tt)), tt), ((((tt, tt), ((lit≤ tt, lit≤ tt), tt)), tt), ((((tt, tt), ((lit≤ tt, lit≤ tt), tt)), tt), (((tt, tt), tt), (((tt, tt), tt), (((tt, tt), tt), (((tt, tt), tt), (((tt, tt), tt), tt))))))));
-    directory = (((tt, tt), ((lit≤ tt, lit≤ tt), tt)), (((tt, tt), ((lit≤ tt, lit≤ tt), tt)), (((tt, tt), ((lit≤ tt, lit≤ tt), tt)), ((tt, tt), ((tt, tt), ((tt, tt), ((tt, tt), ((tt, tt), tt))))))));
+    directory = ((((lit≤ tt, tt), (tt, tt)), ((lit≤ tt, lit≤ tt), ((lit≤ tt, lit≤ tt), tt))), (((tt, tt), ((lit≤ tt, lit≤ tt), tt)), (((tt, tt), ((lit≤ tt, lit≤ tt), tt)), ((tt, tt), ((tt, tt), ((tt, tt), ((tt, tt), ((tt, tt), tt))))))));
   };
   lines = (
     (refl, sym cookie_of-zero, (refl, ((64, (lit≤ tt, lit≤ tt), lit≤ tt), tt))),
@@ -126,11 +126,16 @@ block = record {
       replicas = (
         record {
           base = refl;
-          generations = record { inside_range = tt; once = tt; all = refl; last = λ less. omega (arith, less) };
+          generations = record { inside_range = tt; once = tt; all = refl; last = λ less. omega (arith, less); rising = (tt, (tt, (tt, (tt, (tt, (tt, (tt, (tt, tt)))))))) };
           sizes = inl (refl, refl, refl);
           bare = ((λ e. lit≤ tt), inl (refl, refl));
           run = inl (refl, refl);
           stuck = inl (refl, refl);
+          index = record {
+            before = ((λ e loose. absurd loose), ((λ e loose. absurd loose), ((λ e loose. absurd loose), tt)));
+            between = (((λ e met loose. absurd loose), ((λ e met loose. absurd loose), tt)), (((λ e met loose. absurd loose), tt), (tt, tt)));
+            behind = ((λ e sticks. absurd sticks), ((λ e sticks. absurd sticks), ((λ e sticks. absurd sticks), tt)));
+          };
           poised = refl;
         },
         tt,
@@ -210,7 +215,7 @@ freezing_block = record {
   };
   fronts = record {
     volumes = (((tt, tt), tt), (((tt, tt), tt), (((tt, tt), tt), (((tt, tt), tt), (((tt, tt), tt), (((tt, tt), tt), (((tt, tt), tt), (((tt, tt), tt), tt))))))));
-    directory = ((tt, tt), ((tt, tt), ((tt, tt), ((tt, tt), ((tt, tt), ((tt, tt), ((tt, tt), ((tt, tt), tt))))))));
+    directory = (((tt, tt), ((lit≤ tt, lit≤ tt), tt)), ((tt, tt), ((tt, tt), ((tt, tt), ((tt, tt), ((tt, tt), ((tt, tt), ((tt, tt), tt))))))));
   };
   lines = (
     ((1, lit≤ tt, lit≤ tt, refl), (0, refl), (refl, ((64, (lit≤ tt, lit≤ tt), lit≤ tt), tt)), (refl, ap left_pending (sym cookie_of-zero))),
@@ -242,11 +247,16 @@ freezing_block = record {
       replicas = (
         record {
           base = refl;
-          generations = record { inside_range = tt; once = tt; all = refl; last = λ less. omega (arith, less) };
+          generations = record { inside_range = tt; once = tt; all = refl; last = λ less. omega (arith, less); rising = (tt, (tt, (tt, (tt, (tt, (tt, (tt, (tt, tt)))))))) };
           sizes = inl (refl, refl, refl);
           bare = ((λ e. lit≤ tt), inl (refl, refl));
           run = inl (refl, refl);
           stuck = inl (refl, refl);
+          index = record {
+            before = ((λ e loose. absurd loose), ((λ e loose. absurd loose), ((λ e loose. absurd loose), tt)));
+            between = (((λ e met loose. absurd loose), ((λ e met loose. absurd loose), tt)), (((λ e met loose. absurd loose), tt), (tt, tt)));
+            behind = ((λ e sticks. absurd sticks), ((λ e sticks. absurd sticks), ((λ e sticks. absurd sticks), tt)));
+          };
           poised = refl;
         },
         tt,

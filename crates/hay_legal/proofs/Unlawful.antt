@@ -105,12 +105,20 @@ module _ (replica : Settings → ℕ → ℕ → Contents → Found → Type 0) 
 -- A VOID DISK AT A FIRST OPENING THAT WAS REFUSED
 
 -- a void disk that was formatted in part has no photo that an opening would find, by whatever settings
-pub stranger_in_a_void_disk : (replica : Settings → ℕ → ℕ → Contents → Found → Type 0) (rows : Settings → Contents → List HomeRow → Type 0) (void : Contents → Type 0) (settings other : Settings) (taken : Outside) (image : ℕ → Contents) (v j : ℕ) (contents : Contents) (found : Found) (first : Pair × Photo) (others : Table)
-    → v < other.volumes → j < other.replicas → IsVoidStill replica rows void settings taken image (slot_of other v j) contents
+pub stranger_in_a_void_disk : (replica : Settings → ℕ → ℕ → Contents → Found → Type 0) (rows : Settings → Contents → List HomeRow → Type 0) (void : Contents → Type 0) (settings other : Settings) (taken given : Outside) (image : ℕ → Contents) (v j : ℕ) (contents : Contents) (found : Found) (first : Pair × Photo) (others : Table)
+    → v < other.volumes → j < other.replicas → IsVoidStill replica rows void settings taken given image (slot_of other v j) contents
     → replica other v j (image (slot_of other v j)) found → found.table ≡ first ∷ others → ⊥
-stranger_in_a_void_disk replica rows void settings other taken image v j contents found first others below within still finds is =
+stranger_in_a_void_disk replica rows void settings other taken given image v j contents found first others below within still finds is =
     let none : found.table ≡ [] = ap (λ (f : Found). f.table) ((still.nothing other).replicas v j below within refl found finds) in
     let clash = sym none ∙ is in absurd cc
+
+-- a void disk of which no call failed was left as it was, or formatted
+pub void_disk_changed_without_fault : (replica : Settings → ℕ → ℕ → Contents → Found → Type 0) (rows : Settings → Contents → List HomeRow → Type 0) (void : Contents → Type 0) (settings : Settings) (taken given : Outside) (image : ℕ → Contents) (slot : ℕ) (contents : Contents)
+    → given.faults slot ≡ taken.faults slot → taken.faults slot < 2 ^ 64 - 1 → IsVoidStill replica rows void settings taken given image slot contents → ⊥
+void_disk_changed_without_fault replica rows void settings taken given image slot contents same low still = elim still.rose [
+  | inl rose ↦ omega (arith, rose, same)
+  | inr end ↦ omega (arith, end, same, low)
+]
 
 -- ARMS
 

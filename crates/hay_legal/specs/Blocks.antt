@@ -1,5 +1,5 @@
 -- Which blocks of lanes are legal: what their replies show of the log, the rows and the counts, whatever the order was.
-use Rattle.std.specs.Prelude.{◌≡◌, ◌≢◌, ℕ, ◌+◌, ◌-◌, ◌^◌, ◌<◌, ◌≤◌, ◌==◌, ◌&&◌, ◌||◌, ◌⊎◌, not, Bool, true, false, cond, List, [], ◌∷◌, length, map, drop, take, filter, filter_map, flat_map, sum_by, count_by, take_while, slice_get, unwrap_or, Contains, Option, Some, None, option_map, if◌then◌else◌}
+use Rattle.std.specs.Prelude.{◌≡◌, ◌≢◌, ℕ, ◌+◌, ◌-◌, ◌^◌, ◌<◌, ◌≤◌, ◌==◌, ◌&&◌, ◌||◌, ◌⊎◌, not, Bool, true, false, cond, List, [], ◌∷◌, ◌++◌, length, map, drop, take, filter, filter_map, flat_map, sum_by, count_by, take_while, slice_get, unwrap_or, Contains, Option, Some, None, option_map, if◌then◌else◌}
 use Rattle.std.specs.List.{AllZip, AllByRecursion as Each, list_any, enumerate_from}
 use Rattle.hay_needle.specs.declared.needle.Pair.{Pair}
 use Rattle.hay_needle.specs.declared.needle.Cookie.{Cookie}
@@ -38,7 +38,7 @@ use Rattle.hay_legal.specs.declared.turn.LaneItem.{LaneItem}
 use Rattle.hay_legal.specs.declared.turn.LogNote.{LogNote}
 use Rattle.hay_legal.specs.declared.turn.RowNote.{RowNote}
 use Rattle.hay_legal.specs.Known.{volume_at, replica_at, machine_of, slot_of, replica_on, home_at, home_of, all_tries, at_front, now, closed, fault_count, arm_count, CameUp, NoneFalls, EachPair, replicas_of, volumes_of, all_lanes}
-use Rattle.hay_legal.specs.Plain.{GetShows, IsFrozenBy, IsOpen, as_closed, first_machine, wants_room, order_from, put_entry, start_of}
+use Rattle.hay_legal.specs.Plain.{GetShows, IsFrozenBy, IsOn, IsOpen, as_closed, first_machine, wants_room, order_from, put_entry, start_of}
 
 -- WHAT A REPLY TELLS
 
@@ -246,14 +246,21 @@ pub record MayGetRow (settings : Settings) (k : Known) (items : List LaneItem) (
   pub takes : MayHaveTaken settings k items t size v
   pub before : Each (λ u. (refused : Refused) × MayRefuse settings k items t size u refused) (take_while (λ u. not (u == v)) (all_tries settings pair))
 
--- a reply to a put that may have added its row
-abbrev pub MayHaveAdded : Reply → Type 0
-MayHaveAdded (Stored v p d c) = Unit {0}
-MayHaveAdded (Full refused) = Unit {0}
-MayHaveAdded (ReadOnly by) = Unit {0}
-MayHaveAdded (Failed v m f) = Unit {0}
-MayHaveAdded NoMem = Unit {0}
-MayHaveAdded _ = ⊥
+-- the pair's home refused the photo, and no other try is named
+abbrev pub HomeRefuses : Settings → Known → List LaneItem → Known → Pair → List ℕ → List Refused → Type 0
+HomeRefuses settings k items t pair bytes (refused ∷ []) =
+    (v : ℕ) × HomeInBlock k t pair v × MayRefuse settings k items t (length bytes) v refused
+HomeRefuses settings k items t pair bytes _ = ⊥
+
+-- A reply to a put that may have added its row. Where the photo was refused, the home that the row gave the pair refused it:
+-- a put that each try refused adds none.
+abbrev pub MayHaveAdded : Settings → Known → List LaneItem → Known → Pair → List ℕ → Reply → Type 0
+MayHaveAdded settings k items t pair bytes (Stored v p d c) = Unit {0}
+MayHaveAdded settings k items t pair bytes (Full refused) = HomeRefuses settings k items t pair bytes refused
+MayHaveAdded settings k items t pair bytes (ReadOnly by) = HomeRefuses settings k items t pair bytes (map as_closed by)
+MayHaveAdded settings k items t pair bytes (Failed v m f) = Unit {0}
+MayHaveAdded settings k items t pair bytes NoMem = Unit {0}
+MayHaveAdded settings k items t pair bytes _ = ⊥
 
 pub record IsNewRow (settings : Settings) (k : Known) (items : List LaneItem) (t : Known) (named : LineVolume) (row : HomeRow) : Type 0 where
   pub volume : named.volume ≡ row.volume
@@ -262,7 +269,7 @@ pub record IsNewRow (settings : Settings) (k : Known) (items : List LaneItem) (t
   pub line : item.line ≡ named.line
   pub bytes : List ℕ
   pub put : item.item ≡ asks.Command (command.Put row.pair bytes)
-  pub reply : MayHaveAdded item.reply
+  pub reply : MayHaveAdded settings k items t row.pair bytes item.reply
   pub «open» : k.directory.frozen ≡ false
   pub gets : MayGetRow settings k items t row.pair (length bytes) row.volume
 
@@ -272,9 +279,9 @@ pub record RowsAreLegal (settings : Settings) (k : Known) (items : List LaneItem
   pub each : AllZip (IsNewRow settings k items t) rows.rows (new_rows k t)
   pub distinct : EachPair (λ a b. a.pair ≢ b.pair) (new_rows k t)
 
--- FRONTS: what a lane prints of a volume or of the Directory never goes back
+-- FRONTS: what a lane prints of a volume or of the Directory never goes back, nor before what the lane itself changed
 
--- a printed front, and whether it is the position of an entry
+-- a printed front, and whether it is the position of a line's own entry or row
 pub record Printed : Type 0 where
   pub front : ℕ
   pub entered : Bool
@@ -305,6 +312,17 @@ row_print reply = prints (told reply)
     prints (ShownRows d) = printed d false ∷ []
     prints _ = []
 
+-- the position of the row that a line added, if it added one
+abbrev pub row_added : RowNote → LaneItem → List Printed
+row_added rows item = filter_map place (enumerate_from (rows.from + 1) rows.rows)
+  where
+    place : ℕ × LineVolume → Option Printed
+    place at = cond ((at.1).line == item.line) (Some (printed at.0 true)) None
+
+-- what a line tells of the Directory: the row that it added comes before what it prints
+abbrev pub row_fronts : RowNote → LaneItem → List Printed
+row_fronts rows item = row_added rows item ++ row_print item.reply
+
 abbrev pub lane_items : List LaneItem → ℕ → List LaneItem
 lane_items items lane = filter (λ item. item.lane == lane) items
 
@@ -321,12 +339,12 @@ Between before after shown = (before ≤ shown.front) × (shown.front ≤ after)
 abbrev pub FrontsGrow : ℕ → ℕ → List Printed → Type 0
 FrontsGrow before after shown = EachPair InOrder shown × Each (Between before after) shown
 
-pub record FrontsAreLegal (settings : Settings) (k : Known) (items : List LaneItem) (t : Known) : Type 0 where
+pub record FrontsAreLegal (settings : Settings) (k : Known) (items : List LaneItem) (rows : RowNote) (t : Known) : Type 0 where
   pub volumes : Each (λ lane. Each
       (λ v. FrontsGrow (length (volume_at k v).log) (length (volume_at t v).log) (flat_map (λ item. volume_print v item.reply) (lane_items items lane)))
       (volumes_of settings)) all_lanes
   pub directory : Each
-      (λ lane. FrontsGrow (length k.directory.rows) (length t.directory.rows) (flat_map (λ item. row_print item.reply) (lane_items items lane)))
+      (λ lane. FrontsGrow (length k.directory.rows) (length t.directory.rows) (flat_map (row_fronts rows) (lane_items items lane)))
       all_lanes
 
 -- READS: a reply is what its printed fronts show
@@ -396,11 +414,6 @@ abbrev pub TriesRefuse : Settings → Known → List LaneItem → Known → Pair
 TriesRefuse settings k items t pair bytes refused =
     (home_of k pair ≡ None) × AllZip (MayRefuse settings k items t (length bytes)) (all_tries settings pair) refused
 
-abbrev pub HomeRefuses : Settings → Known → List LaneItem → Known → Pair → List ℕ → List Refused → Type 0
-HomeRefuses settings k items t pair bytes (refused ∷ []) =
-    (v : ℕ) × HomeInBlock k t pair v × MayRefuse settings k items t (length bytes) v refused
-HomeRefuses settings k items t pair bytes _ = ⊥
-
 abbrev pub RefusesPut : Settings → Known → List LaneItem → Known → Pair → List ℕ → List Refused → Type 0
 RefusesPut settings k items t pair bytes refused =
     TriesRefuse settings k items t pair bytes refused ⊎ HomeRefuses settings k items t pair bytes refused
@@ -432,9 +445,6 @@ PutIsLegal settings k items t tag pair bytes NoMem = Unit {0}
 PutIsLegal settings k items t tag pair bytes _ = ⊥
 
 -- FLUSHES AND COMPACTIONS
-
-abbrev pub IsOn : ℕ → ℕ → ℕ → ℕ → Type 0
-IsOn v m v' m' = (v' ≡ v) × (m' ≡ m)
 
 -- a flush of the replica on m that failed
 abbrev pub SticksBy : ℕ → ℕ → LaneItem → Type 0
@@ -683,6 +693,16 @@ flushed_on v m item = flushed (told item.reply)
     flushed (Recorded v' m' n) = cond ((v' == v) && (m' == m)) (n ∷ []) []
     flushed _ = []
 
+-- what a reply tells of the generation of the replica on m: one that it made, the one before that which another line makes, or the last one
+abbrev pub generation_print : ℕ → ℕ → LaneItem → List Printed
+generation_print v m item = prints item.reply
+  where
+    prints : Reply → List Printed
+    prints (Compacted v' m' g) = cond ((v' == v) && (m' == m)) (printed g true ∷ []) []
+    prints (Busy v' m' g) = cond ((v' == v) && (m' == m)) (printed (g - 1) false ∷ []) []
+    prints (Worn v' m') = cond ((v' == v) && (m' == m)) (printed 65535 false ∷ []) []
+    prints _ = []
+
 abbrev pub is_failed : Reply → Bool
 is_failed reply = failed (told reply)
   where
@@ -702,13 +722,15 @@ abbrev pub froze_at_compact : ℕ → ℕ → (Reply → Bool) → Option LaneIt
 froze_at_compact v m says None = false
 froze_at_compact v m says (Some item) = is_compacted v m item && says item.reply
 
--- the printed generations are all that were made, but for the swap behind which want of memory froze the volume
+-- The printed generations are all that were made, but for the swap behind which want of memory froze the volume. What a lane
+-- prints of them rises.
 pub record GenerationsAreLegal (settings : Settings) (items : List LaneItem) (v j : ℕ) (froze : Option LaneItem) (old new : ReplicaKnown) : Type 0 where
   pub inside_range : Each (λ g. (old.generation < g) × (g ≤ new.generation)) (flat_map (made_on v (machine_of settings v j)) items)
   pub once : EachPair (λ g h. g ≢ h) (flat_map (made_on v (machine_of settings v j)) items)
   pub all : new.generation
       ≡ old.generation + length (flat_map (made_on v (machine_of settings v j)) items) + cond (froze_at_compact v (machine_of settings v j) is_wanting froze) 1 0
   pub last : (old.generation < new.generation) → (new.generation ≤ 65535)
+  pub rising : Each (λ lane. EachPair InOrder (flat_map (generation_print v (machine_of settings v j)) (lane_items items lane))) all_lanes
 
 -- how far a replica grew, where it was not swapped and where it was
 abbrev pub Grew : Known → ℕ → List Logged → ReplicaKnown → ReplicaKnown → Type 0
@@ -752,6 +774,54 @@ StuckIsLegal items v m old new =
     ⊎ ((new.stuck ≡ true) × (item : LaneItem) × Contains items item × SticksBy v m item)
     ⊎ ((new.stuck ≡ false) × (old.generation < new.generation))
 
+-- a line stands before another
+abbrev pub StandsBefore : List LaneItem → LaneItem → LaneItem → Type 0
+StandsBefore items a b = (i : ℕ) × (n : ℕ) × (i < n) × (slice_get items i ≡ Some a) × (slice_get items n ≡ Some b)
+
+-- a line may have come before another: in one lane it stands before it
+abbrev pub MayPrecede : List LaneItem → LaneItem → LaneItem → Type 0
+MayPrecede items a b = a.lane ≡ b.lane → StandsBefore items a b
+
+-- a line swapped the replica on m, and may have done so where it is said
+abbrev pub SwappedWhere : List LaneItem → ℕ → ℕ → (LaneItem → Type 0) → Type 0
+SwappedWhere items v m Where = (swap : LaneItem) × Contains items swap × (made_on v m swap ≢ []) × Where swap
+
+-- a flush of the replica on m that left its index stuck, or was refused on its machine: it met the index stuck or the volume frozen
+abbrev pub MetStuck : ℕ → ℕ → LaneItem → Type 0
+MetStuck v m item = SticksBy v m item ⊎ Met item.item item.reply
+  where
+    MetAs : Command → Reply → Type 0
+    MetAs (command.Flush v' m') (ReadOnly (by ∷ [])) = IsOn v m v' m' × IsOn v m by.volume by.machine
+    MetAs _ _ = ⊥
+
+    Met : Item → Reply → Type 0
+    Met (asks.Command command) reply = MetAs command reply
+    Met asks.Bad reply = ⊥
+
+-- a flush of the replica on m that met its index loose
+abbrev pub MetLoose : ℕ → ℕ → LaneItem → Type 0
+MetLoose v m item = Met item.item item.reply
+  where
+    MetAs : Command → Reply → Type 0
+    MetAs (command.Flush v' m') (Flushed v'' m'' n) = IsOn v m v' m'
+    MetAs (command.Flush v' m') (Failed v'' m'' f) = IsOn v m v' m'
+    MetAs _ _ = ⊥
+
+    Met : Item → Reply → Type 0
+    Met (asks.Command command) reply = MetAs command reply
+    Met asks.Bad reply = ⊥
+
+-- A stuck index is loose only behind a swap of its replica: be it one that was stuck before the block, one that a line of a lane
+-- met so before another, or one that a line left so. The last swap may be the one behind which want of memory froze the volume.
+pub record IndexIsLegal (items : List LaneItem) (v m : ℕ) (froze : Option LaneItem) (old new : ReplicaKnown) : Type 0 where
+  pub before : Each (λ b. old.stuck ≡ true → MetLoose v m b → SwappedWhere items v m (λ swap. MayPrecede items swap b)) items
+  pub between : EachPair
+      (λ a b. a.lane ≡ b.lane → MetStuck v m a → MetLoose v m b → SwappedWhere items v m (λ swap. MayPrecede items a swap × MayPrecede items swap b))
+      items
+  pub behind : Each
+      (λ a. new.stuck ≡ false → SticksBy v m a → SwappedWhere items v m (λ swap. MayPrecede items a swap) ⊎ (froze_at_compact v m is_wanting froze ≡ true))
+      items
+
 pub record ReplicaIsLegal (settings : Settings) (k : Known) (items : List LaneItem) (t : Known) (v : ℕ) (froze : Option LaneItem) (j : ℕ) (old new : ReplicaKnown) : Type 0 where
   pub base : new.base ≡ old.base
   pub generations : GenerationsAreLegal settings items v j froze old new
@@ -759,6 +829,7 @@ pub record ReplicaIsLegal (settings : Settings) (k : Known) (items : List LaneIt
   pub bare : BareIsLegal (flat_map (flushed_on v (machine_of settings v j)) items) (new_entries k t v) old new
   pub run : RunIsLegal settings k items t v j (new_entries k t v) old new
   pub stuck : StuckIsLegal items v (machine_of settings v j) old new
+  pub index : IndexIsLegal items v (machine_of settings v j) froze old new
   pub poised : new.poised ≡ (old.poised || froze_at_compact v (machine_of settings v j) is_failed froze)
 
 -- WHAT IS LEFT OF EACH VOLUME
@@ -812,18 +883,24 @@ FreezeIsLegal settings k items t v None =
     ((volume_at t v).frozen ≡ (volume_at k v).frozen) × ((volume_at t v).pending ≡ (volume_at k v).pending)
 FreezeIsLegal settings k items t v (Some item) = WasFrozen settings k items t v item
 
--- a line that met the volume v closed to what it asked for
-abbrev pub MetClosed : ℕ → LaneItem → Type 0
-MetClosed v item = Met item.item item.reply
+-- A line that met the volume v frozen in the block: refused by a machine that had not closed the volume before, or, as a flush or
+-- a compact, on a volume that was not frozen before, and no flush as one whose index was stuck.
+abbrev pub MetFreeze : Settings → Known → List LaneItem → ℕ → LaneItem → Type 0
+MetFreeze settings k items v item = Met item.item item.reply
   where
-    Names : List ClosedBy → Type 0
-    Names tries = (by : ClosedBy) × Contains tries by × (by.volume ≡ v)
+    Refuses : List Refused → Type 0
+    Refuses refused = (m : ℕ) × Contains refused (Closed v m) × (closed settings k v ≢ Some m)
+
+    Freezes : List ClosedBy → Type 0
+    Freezes tries = IsOpen k v × ((by : ClosedBy) × Contains tries by × (by.volume ≡ v))
 
     MetAs : Command → Reply → Type 0
-    MetAs (command.Put pair bytes) (Full refused) = (m : ℕ) × Contains refused (Closed v m)
-    MetAs (command.Put pair bytes) (ReadOnly tries) = Names tries
-    MetAs (command.Del pair) (ReadOnly tries) = Names tries
-    MetAs (command.Compact u m) (ReadOnly tries) = Names tries
+    MetAs (command.Put pair bytes) (Full refused) = Refuses refused
+    MetAs (command.Put pair bytes) (ReadOnly tries) = Refuses (map as_closed tries)
+    MetAs (command.Del pair) (ReadOnly tries) = Refuses (map as_closed tries)
+    MetAs (command.Compact u m) (ReadOnly tries) = Freezes tries
+    MetAs (command.Flush u m) (ReadOnly tries) =
+        Freezes tries × ((j : ℕ) → replica_on settings u m ≡ Some j → MayBeStuck k items u m j tries → ⊥)
     MetAs _ _ = ⊥
 
     Met : Item → Reply → Type 0
@@ -843,13 +920,25 @@ MetOpen v (Busy v' m g) = v' ≡ v
 MetOpen v (Worn v' m) = v' ≡ v
 MetOpen v _ = ⊥
 
+-- a flush of the volume v that no freeze refused, so that its index was stuck
+abbrev pub RefusedAsStuck : Known → ℕ → LaneItem → Type 0
+RefusedAsStuck t v item = Met item.item item.reply
+  where
+    MetAs : Command → Reply → Type 0
+    MetAs (command.Flush u m) (ReadOnly (by ∷ [])) = (by.volume ≡ v) × ((volume_at t v).frozen ≢ Some by.machine)
+    MetAs _ _ = ⊥
+
+    Met : Item → Reply → Type 0
+    Met (asks.Command command) reply = MetAs command reply
+    Met asks.Bad reply = ⊥
+
 -- a line that froze the volume in the block, or that met it frozen then
-abbrev pub MetFrozen : Settings → Known → ℕ → Option LaneItem → LaneItem → Type 0
-MetFrozen settings k v froze item = (froze ≡ Some item) ⊎ ((closed settings k v ≡ None) × MetClosed v item)
+abbrev pub MetFrozen : Settings → Known → List LaneItem → ℕ → Option LaneItem → LaneItem → Type 0
+MetFrozen settings k items v froze item = (froze ≡ Some item) ⊎ MetFreeze settings k items v item
 
 -- a line that froze the volume, or that met it open
-abbrev pub MetThawed : ℕ → Option LaneItem → LaneItem → Type 0
-MetThawed v froze item = (froze ≡ Some item) ⊎ MetOpen v item.reply
+abbrev pub MetThawed : Known → ℕ → Option LaneItem → LaneItem → Type 0
+MetThawed t v froze item = (froze ≡ Some item) ⊎ MetOpen v item.reply ⊎ RefusedAsStuck t v item
 
 -- A freeze, the change that it left pending, and the replica that it left poised or that was swapped before it, are one line's.
 -- A lane that met the freeze meets it from then on.
@@ -857,7 +946,7 @@ pub record VolumeIsLegal (settings : Settings) (k : Known) (items : List LaneIte
   pub many : length (volume_at t v).replicas ≡ length (volume_at k v).replicas
   pub froze : Option LaneItem
   pub freeze : FreezeIsLegal settings k items t v froze
-  pub lanes : EachPair (λ a b. a.lane ≡ b.lane → MetFrozen settings k v froze a → MetThawed v froze b → ⊥) items
+  pub lanes : EachPair (λ a b. a.lane ≡ b.lane → MetFrozen settings k items v froze a → MetThawed t v froze b → ⊥) items
   pub replicas : Each
       (λ j. ReplicaIsLegal settings k items t v froze j (replica_at (volume_at k v) j) (replica_at (volume_at t v) j))
       (replicas_of settings)
@@ -870,8 +959,16 @@ MayHaveFrozen (FailedDir f) = Unit {0}
 MayHaveFrozen NoMem = Unit {0}
 MayHaveFrozen _ = ⊥
 
--- A line froze the Directory, with the row of its pair pending.
-pub record RowsWereFrozen (settings : Settings) (k : Known) (items : List LaneItem) (t : Known) : Type 0 where
+-- a line that froze the Directory, as this one did, or that met it frozen
+abbrev pub MetRowsFrozen : LaneItem → LaneItem → Type 0
+MetRowsFrozen froze item = (froze ≡ item) ⊎ (item.reply ≡ ReadOnlyDir)
+
+-- a line that froze the Directory, or that added a row to it
+abbrev pub MetRowsOpen : RowNote → LaneItem → LaneItem → Type 0
+MetRowsOpen rows froze item = (froze ≡ item) ⊎ (row_added rows item ≢ [])
+
+-- A line froze the Directory, with the row of its pair pending. A lane that met the freeze adds no row from then on.
+pub record RowsWereFrozen (settings : Settings) (k : Known) (items : List LaneItem) (rows : RowNote) (t : Known) : Type 0 where
   pub «open» : k.directory.frozen ≡ false
   pub item : LaneItem
   pub among : Contains items item
@@ -882,10 +979,11 @@ pub record RowsWereFrozen (settings : Settings) (k : Known) (items : List LaneIt
   pub volume : ℕ
   pub gets : MayGetRow settings k items t pair (length bytes) volume
   pub pending : RowIsPending t (tag_of item) pair volume
+  pub lanes : EachPair (λ a b. a.lane ≡ b.lane → MetRowsFrozen item a → MetRowsOpen rows item b → ⊥) items
 
-abbrev pub DirectoryIsLegal : Settings → Known → List LaneItem → Known → Type 0
-DirectoryIsLegal settings k items t =
-    ((t.directory.frozen ≡ k.directory.frozen) × (t.directory.pending ≡ k.directory.pending)) ⊎ RowsWereFrozen settings k items t
+abbrev pub DirectoryIsLegal : Settings → Known → List LaneItem → RowNote → Known → Type 0
+DirectoryIsLegal settings k items rows t =
+    ((t.directory.frozen ≡ k.directory.frozen) × (t.directory.pending ≡ k.directory.pending)) ⊎ RowsWereFrozen settings k items rows t
 
 -- THE BLOCK
 
@@ -894,11 +992,11 @@ pub record LegalBlock (settings : Settings) (k : Known) (items : List LaneItem) 
   pub entered : Each (IsEntered settings k t) items
   pub log : Each (LogIsLegal settings k items t) (volumes_of settings)
   pub homes : RowsAreLegal settings k items rows t
-  pub fronts : FrontsAreLegal settings k items t
+  pub fronts : FrontsAreLegal settings k items rows t
   pub lines : Each (LineIsLegal settings k items t) items
   pub counts : CountsAreLegal settings k items t
   pub volumes : Each (VolumeIsLegal settings k items t) (volumes_of settings)
-  pub directory : DirectoryIsLegal settings k items t
+  pub directory : DirectoryIsLegal settings k items rows t
   pub drained : t.drained ≡ k.drained
   pub fuses : t.fuses ≡ k.fuses
   pub many : length t.volumes ≡ length k.volumes

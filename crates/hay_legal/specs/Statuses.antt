@@ -1,6 +1,7 @@
 -- What a run has written, and what it leaves, at each status.
 use Rattle.std.specs.Prelude.{◌≡◌, ℕ, ◌<◌, ◌≤◌, ◌⊎◌, false, List, [], ◌∷◌, ◌++◌, length, map, replicate, None}
 use Rattle.std.specs.List.{AllByRecursion}
+use Rattle.hay_disk.specs.Counts.{Rose}
 use Rattle.hay_disk.specs.Disk.{MayLeave}
 use Rattle.hay_needle.specs.declared.settings.Settings.{Settings}
 use Rattle.hay_script.specs.declared.Command.TheVariants as command
@@ -74,9 +75,11 @@ pub record FindsNothing (replica : ℕ → ℕ → Contents → Found → Type 0
 abbrev pub IsImageOf : (ℕ → Contents) → ℕ → Contents → Type 0
 IsImageOf image slot contents = (file : ℕ) → contents file ≡ image slot file
 
--- .. a void disk, where it was void and may be formatted in part, so that an opening by whatever settings finds nothing in it ..
-pub record IsVoidStill (replica : Settings → ℕ → ℕ → Contents → Found → Type 0) (rows : Settings → Contents → List HomeRow → Type 0) (void : Contents → Type 0) (settings : Settings) (taken : Outside) (image : ℕ → Contents) (slot : ℕ) (contents : Contents) : Type 0 where
+-- .. a void disk, where it was void, one of its calls failed, and it may be formatted in part, so that an opening by whatever
+-- settings finds nothing in it ..
+pub record IsVoidStill (replica : Settings → ℕ → ℕ → Contents → Found → Type 0) (rows : Settings → Contents → List HomeRow → Type 0) (void : Contents → Type 0) (settings : Settings) (taken given : Outside) (image : ℕ → Contents) (slot : ℕ) (contents : Contents) : Type 0 where
   pub was : void (read_contents taken slot)
+  pub rose : Rose (taken.faults slot) (given.faults slot)
   pub stands_for : void contents
   pub nothing : (other : Settings) → FindsNothing (replica other) (rows other) other slot (image slot)
 
@@ -86,10 +89,11 @@ IsAsTaken taken given slot contents = (given.files slot ≡ taken.files slot) ×
 
 abbrev pub StandsIn : (Settings → ℕ → ℕ → Contents → Found → Type 0) → (Settings → Contents → List HomeRow → Type 0) → (Contents → Type 0) → Settings → Outside → Outside → (ℕ → Contents) → ℕ → Contents → Type 0
 StandsIn replica rows void settings taken given image slot contents =
-    IsImageOf image slot contents ⊎ IsVoidStill replica rows void settings taken image slot contents ⊎ IsAsTaken taken given slot contents
+    IsImageOf image slot contents ⊎ IsVoidStill replica rows void settings taken given image slot contents ⊎ IsAsTaken taken given slot contents
 
--- The first opening of the disks that hold k was refused, or not begun: in every image of those given back the next one finds
--- what k is. No fuse was set, no arm was used, and no count fell.
+-- The first opening of the disks that hold k was refused, or not begun. In every image of those given back what stands for each
+-- disk is what k is: where it is the image, the next opening finds it, and where the disk is void still, a new store's disk or
+-- damage. No fuse was set, no arm was used, and no count fell.
 pub record IsUnopened (replica : Settings → ℕ → ℕ → Contents → Found → Type 0) (rows : Settings → Contents → List HomeRow → Type 0) (void : Contents → Type 0) (settings : Settings) (k : Known) (taken given : Outside) : Type 0 where
   pub images : (image : ℕ → Contents) → ((slot : ℕ) → slot < disk_count settings → MayLeave (given.files slot) (image slot)) →
       (contents : ℕ → Contents) × ((slot : ℕ) → slot < disk_count settings → StandsIn replica rows void settings taken given image slot (contents slot))
