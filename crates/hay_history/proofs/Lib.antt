@@ -8,6 +8,7 @@ pub mod OwnRuns
 pub mod Volumes
 pub mod Rows
 pub mod Takers
+pub mod OwnRows
 pub mod Homes
 pub mod Fronts
 pub mod ReadLines
@@ -23,6 +24,7 @@ pub mod Sizes
 pub mod Printed
 pub mod Generations
 pub mod Flags
+pub mod Indexes
 pub mod Runs
 pub mod Replicas
 pub mod Entering

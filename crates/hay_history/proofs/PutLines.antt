@@ -12,7 +12,7 @@ use Rattle.hay_legal.specs.declared.known.VolumeKnown.{VolumeKnown}
 use Rattle.hay_legal.specs.declared.turn.LaneItem.{LaneItem}
 use Rattle.hay_legal.specs.Known.{all_tries}
 use Rattle.hay_legal.specs.Plain.{as_closed, put_entry}
-use Rattle.hay_legal.specs.Blocks.{HomeRefuses as legal_home, IsLeftPending, MayRefuse, PutIsLegal, RefusesPut, tag_of}
+use Rattle.hay_legal.specs.Blocks.{HomeRefuses as legal_home, IsLeftPending, MayHaveAdded, MayRefuse, PutIsLegal, RefusesPut, tag_of}
 use Rattle.hay_legal.proofs.Subject.Effects.{each_try}
 use Rattle.hay_history.specs.Steps.Did.{Pends}
 use Rattle.hay_history.specs.Histories.{History, OneStep, SeesRefusal}
@@ -20,7 +20,7 @@ use Rattle.hay_history.specs.Commands.{CameInLanes, HomeRefuses, PutDid, PutRefu
 use Rattle.hay_history.proofs.Lists.{zip_weaker}
 use Rattle.hay_history.proofs.Lines.{course_of, one_leads}
 use Rattle.hay_history.proofs.Volumes.{frozen_keeps, refused_then, takes_then}
-use Rattle.hay_history.proofs.Rows.{home_below, home_then, no_home_before, rows_frozen_then}
+use Rattle.hay_history.proofs.Rows.{MayAnswerAdded, home_below, home_then, no_home_before, rows_frozen_then}
 use Rattle.hay_history.proofs.Takers.{gets_row, row_left}
 use Rattle.hay_history.proofs.ReadLines.{home_in_block}
 
@@ -30,7 +30,7 @@ module _ {settings : Settings} {k : Known} {items : List LaneItem} {history : Hi
   may_refuse : (size v : ℕ) (refused : Refused) → v < settings.volumes → SeesRefusal (course_of h item) size v refused → MayRefuse settings k items t size v refused
   may_refuse size v refused below sees = refused_then h v sees.moment size refused below sees.is
 
-  home_refuses : (pair : Pair) (bytes : List ℕ) (refused : List Refused) → HomeRefuses (course_of h item) pair (length bytes) refused
+  pub home_refuses : (pair : Pair) (bytes : List ℕ) (refused : List Refused) → HomeRefuses (course_of h item) pair (length bytes) refused
       → legal_home settings k items t pair bytes refused
   home_refuses pair bytes [] did = absurd did
   home_refuses pair bytes (refused ∷ []) did = (
@@ -39,6 +39,16 @@ module _ {settings : Settings} {k : Known} {items : List LaneItem} {history : Hi
     may_refuse (length bytes) did.1 refused (home_below h item pair did.0 did.1 did.2) did.3,
   )
   home_refuses pair bytes (refused ∷ more ∷ rest) did = absurd did
+
+  -- what a line that added its row was answered
+  pub answers_added : (pair : Pair) (bytes : List ℕ) (r : Reply) → MayAnswerAdded (course_of h item) pair (length bytes) r
+      → MayHaveAdded settings k items t pair bytes r
+  answers_added pair bytes (reply.Stored v p d cookie) may = tt
+  answers_added pair bytes (reply.Full refused) may = home_refuses pair bytes refused may
+  answers_added pair bytes (reply.ReadOnly by) may = home_refuses pair bytes (map as_closed by) may
+  answers_added pair bytes (reply.Failed v m f) may = tt
+  answers_added pair bytes reply.NoMem may = tt
+  answers_added pair bytes _ may = absurd may
 
   refuses_put : (pair : Pair) (bytes : List ℕ) (refused : List Refused) → PutRefused (course_of h item) pair (length bytes) refused
       → RefusesPut settings k items t pair bytes refused

@@ -29,8 +29,8 @@ use Rattle.hay_legal.specs.declared.turn.Item.{Item}
 use Rattle.hay_legal.specs.declared.turn.Item.TheVariants as asks
 use Rattle.hay_legal.specs.declared.turn.LaneItem.{LaneItem}
 use Rattle.hay_legal.specs.Known.{CameUp, EachPair, NoneFalls, all_tries, arm_count, disk_count, fault_count, fuse_count, machine_of, now, replica_at, replica_on, replicas_of, slot_of, stands, volume_at}
-use Rattle.hay_legal.specs.Plain.{ArmRises, GetShows, as_closed, first_machine, wants_room, order_from, put_entry, start_of}
-use Rattle.hay_legal.specs.Blocks.{IsOn, tag_of}
+use Rattle.hay_legal.specs.Plain.{ArmRises, GetShows, IsOn, as_closed, first_machine, wants_room, order_from, put_entry, start_of}
+use Rattle.hay_legal.specs.Blocks.{tag_of}
 use Rattle.hay_legal.specs.Subject.{IsOf}
 use Rattle.hay_history.specs.Steps.{Did, Follows, FollowsRows, RowDid, RowsStanding, Standing, Step}
 use Rattle.hay_history.specs.Steps.Did.{Begins, Ends, Entered, Examines, Flushes, Freezes, Fuses, Pends, Poises, Sticks, Swaps, Tries}

@@ -28,8 +28,8 @@ use Rattle.hay_legal.specs.declared.turn.Item.{Item}
 use Rattle.hay_legal.specs.declared.turn.Item.TheVariants as asks
 use Rattle.hay_legal.specs.declared.turn.LaneItem.{LaneItem}
 use Rattle.hay_legal.specs.Known.{CameUp, EachPair, all_tries, machine_of, now, replica_at, replica_on}
-use Rattle.hay_legal.specs.Plain.{ArmRises, GetShows, as_closed, first_machine, order_from, put_entry, start_of, wants_room}
-use Rattle.hay_legal.specs.Blocks.{IsOn, tag_of}
+use Rattle.hay_legal.specs.Plain.{ArmRises, GetShows, IsOn, as_closed, first_machine, order_from, put_entry, start_of, wants_room}
+use Rattle.hay_legal.specs.Blocks.{tag_of}
 use Rattle.hay_history.specs.Steps.{Did, RowDid}
 use Rattle.hay_history.specs.Steps.Did.{Begins, Ends, Entered, Examines, Flushes, Freezes, Fuses, Pends, Poises, Sticks, Swaps, Tries}
 use Rattle.hay_history.specs.Steps.RowDid.{AddsRow, Drains, FusesRow, PendsRow}
