@@ -16,13 +16,13 @@ use Rattle.hay_legal.specs.declared.turn.Item.TheVariants as asks
 use Rattle.hay_legal.specs.declared.turn.LaneItem.{LaneItem}
 use Rattle.hay_legal.specs.Known.{machine_of, replica_at, replica_on, volume_at}
 use Rattle.hay_legal.specs.Plain.{IsFrozenBy, IsOpen, run_grown, with_stuck}
-use Rattle.hay_legal.specs.Blocks.{CompactIsLegal, FlushIsLegal, IsLeftStuck, MayBeBusy, MayBeStuck, MayFlush, MetOpen, RunsBeside, SticksBy}
+use Rattle.hay_legal.specs.Blocks.{CompactIsLegal, FlushIsLegal, IsLeftStuck, MayBeBusy, MayFlush, MetOpen, RunsBeside}
 use Rattle.std.proofs.lemmas.Option.{slice_get_cases}
 use Rattle.hay_history.specs.Steps.{Did, Leads, Standing, Step}
 use Rattle.hay_history.specs.Steps.Did.{Begins, Flushes, Sticks, Tries}
 use Rattle.hay_history.proofs.Trying.{tried_or_changed}
 use Rattle.hay_history.specs.Histories.{Course, History, IsMoment, OneStep, behind, changes, first_of, own, volume_then}
-use Rattle.hay_history.specs.Commands.{CameInLanes, CompactDid, CompactRefused, FlushDid, IsFrozen, IsStuck}
+use Rattle.hay_history.specs.Commands.{CameInLanes, CompactDid, CompactRefused, FlushDid, IsFrozen}
 use Rattle.hay_history.proofs.Histories.{along, behind_past, behind_step, leads_at}
 use Rattle.hay_history.proofs.Lines.{answered, course_of, one_leads, owner, stops}
 use Rattle.hay_history.proofs.OwnRuns.{ran_stood}

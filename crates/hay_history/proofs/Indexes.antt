@@ -1,12 +1,10 @@
 -- A stuck index is loose only behind a swap of its replica, which is that of a line that may stand there.
 use Rattle.std.proofs.Common.{◌≡◌, ◌≢◌, ◌⊎◌, inl, inr, ℕ, zero, suc, ◌<◌, ◌≤◌, ◌+◌, ◌-◌, ◌==◌, ◌&&◌, Bool, true, false, cond, List, [], ◌∷◌, length, slice_get, Contains, Option, Some, None, refl, sym, ap, subst, ◌∙◌, arith, eq-eqb}
-use Rattle.std.specs.List.{AllByRecursion as Each}
 use Rattle.std.proofs.lemmas.Bool.{cases_Bool, cases_eq, cases_lt}
 use Rattle.std.proofs.lemmas.Option.{none-some}
 use Rattle.hay_core.proofs.SideLaws.{slice_all}
 use Rattle.hay_needle.specs.declared.settings.Settings.{Settings}
 use Rattle.hay_script.specs.declared.Command.TheVariants as command
-use Rattle.hay_reply.specs.declared.ClosedBy.{ClosedBy}
 use Rattle.hay_reply.specs.declared.Reply.{Reply}
 use Rattle.hay_reply.specs.declared.Reply.TheVariants as reply
 use Rattle.hay_legal.specs.declared.known.Known.{Known}
@@ -25,7 +23,6 @@ use Rattle.hay_history.specs.Commands.{CameInLanes, FlushDid, ItemDid}
 use Rattle.hay_history.proofs.Changes.{leads_becomes}
 use Rattle.hay_history.proofs.Changes.Becomes.{Goes, Grows, IsFlushed, IsPoised, IsStuck, IsSwapped, Rests, Starts, Stays}
 use Rattle.hay_history.proofs.CompactLines.{at_or_past, stuck_behind}
-use Rattle.hay_history.proofs.Doings.{StepBy}
 use Rattle.hay_history.proofs.Freezing.{frozen_is, of_line}
 use Rattle.hay_history.proofs.Fronts.{one_within}
 use Rattle.hay_history.proofs.Histories.{behind_past, behind_step, leads_at}

@@ -29,7 +29,7 @@ use Rattle.hay_history.specs.Steps.Did.{Ends, Entered, Flushes, Pends, Poises, S
 use Rattle.hay_history.specs.Histories.{Course, History, IsLater, IsMoment, OneStep, OneTry, SeesFrozen, SeesRefusal, closing_then, own, refusal_then, standing, volume_then}
 use Rattle.hay_history.specs.Commands.{CameInLanes, CommandDid, CompactDid, CompactFailed, CompactRefused, DelDid, FlushDid, GetDid, HomeIsClosed, HomeRefuses, IsFrozen, IsStuck, ItemDid, PutDid, PutRefused, RanAs, ShowDid, UrlDid}
 use Rattle.hay_history.proofs.Trying.{one_own}
-use Rattle.hay_history.proofs.Lists.{each_in, first_or_rest, in_rest, is_first, none_in, one_in, pair_by}
+use Rattle.hay_history.proofs.Lists.{each_in, first_or_rest, none_in, one_in, pair_by}
 use Rattle.hay_history.proofs.Lines.{answered, course_of, one_leads, own_leads}
 use Rattle.hay_history.proofs.Placing.{on_machine}
 use Rattle.hay_history.proofs.Laying.{last_step}

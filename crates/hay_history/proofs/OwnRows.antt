@@ -1,5 +1,5 @@
 -- The rows that a line added stand between what its lane printed before and behind it, and no lane that met the Directory frozen adds one.
-use Rattle.std.proofs.Common.{◌≡◌, ◌≢◌, ◌⊎◌, inl, inr, ℕ, zero, suc, ◌<◌, ◌≤◌, ◌+◌, ◌==◌, Bool, true, false, cond, List, [], ◌∷◌, ◌++◌, length, slice_get, Contains, Option, Some, None, refl, sym, ap, subst, ◌∙◌, arith}
+use Rattle.std.proofs.Common.{◌≡◌, ◌≢◌, inl, inr, ℕ, suc, ◌<◌, ◌≤◌, ◌+◌, ◌==◌, Bool, true, false, cond, List, [], ◌∷◌, length, slice_get, Contains, Option, Some, None, refl, sym, ap, subst, ◌∙◌, arith}
 use Rattle.std.specs.List.{AllByRecursion as Each, cons_option, filter_map}
 use Rattle.std.proofs.lemmas.Bool.{cases_lt, eqb-true, true≢false}
 use Rattle.std.proofs.lemmas.List.{length_push}
@@ -23,13 +23,13 @@ use Rattle.hay_legal.specs.Blocks.{InOrder, MetRowsFrozen, MetRowsOpen, Printed,
 use Rattle.hay_legal.proofs.Subject.Effects.{home_stays}
 use Rattle.hay_history.specs.Steps.{FollowsRows, LeadsRows, RowDid, RowsStanding, RowStep}
 use Rattle.hay_history.specs.Steps.RowDid.{AddsRow, Drains, FusesRow, PendsRow, TriesRow}
-use Rattle.hay_history.specs.Histories.{Course, History, IsLater, OneRowStep, SeesHome, first_rows, own_rows, row_line, row_note, row_steps_of, rows_behind, rows_standing}
+use Rattle.hay_history.specs.Histories.{Course, History, IsLater, SeesHome, first_rows, own_rows, row_line, row_note, row_steps_of, rows_behind, rows_standing}
 use Rattle.hay_history.specs.Commands.{CameInLanes, CompactDid, FlushDid, GetDid, ItemDid, PutDid, RowPends}
 use Rattle.hay_history.proofs.Histories.{along_rows, leads_rows_at, rows_behind_step}
 use Rattle.hay_history.proofs.Lists.{each_in, pair_by}
 use Rattle.hay_history.proofs.Trying.{one_own_row}
 use Rattle.hay_history.proofs.Lines.{answered, at_own_row, course_of, own_leads_rows, same_line}
-use Rattle.hay_history.proofs.Rows.{MayAnswerAdded, RowsLine, StaysFrozen, adds_line, lengthens_to, rows_grow, rows_moment, stays_frozen_step, stays_frozen_trans}
+use Rattle.hay_history.proofs.Rows.{MayAnswerAdded, StaysFrozen, adds_line, lengthens_to, rows_grow, rows_moment, stays_frozen_step, stays_frozen_trans}
 
 -- THE POSITIONS OF ROWS
 
