@@ -38,17 +38,17 @@ use Rattle.hay_history.proofs.Rows.{rows_at_last, rows_grow, rows_moment}
 -- WHAT A REPLY PRINTS
 
 -- the length of a volume's log at a moment of the line, or one more than it was before the line's own entry
-abbrev Prints : Course → ℕ → Printed → Type 0
+abbrev pub Prints : Course → ℕ → Printed → Type 0
 Prints c v shown =
     ((moment : ℕ) × IsMoment c v moment × (shown ≡ printed (length (volume_then c v moment).log) false))
     ⊎ ((change : Entry) × (one : OneStep c v (Entered change)) × (shown ≡ printed (length (volume_then c v one.place).log + 1) true))
 
 -- the number of rows at a moment of the line
-abbrev PrintsRows : Course → Printed → Type 0
+abbrev pub PrintsRows : Course → Printed → Type 0
 PrintsRows c shown =
     (moment : ℕ) × IsRowMoment c moment × (shown ≡ printed (length ((rows_standing c moment).directory).rows) false)
 
-abbrev AllPrints : Course → ℕ → Reply → Type 0
+abbrev pub AllPrints : Course → ℕ → Reply → Type 0
 AllPrints c v reply = Each (Prints c v) (volume_print v reply) × Each (PrintsRows c) (row_print reply)
 
 print_of : (c : Course) (v v' : ℕ) (shown : Printed) → Prints c v' shown → Each (Prints c v) (cond (v' == v) (shown ∷ []) [])
@@ -130,7 +130,7 @@ command_prints c v (command.Flush u m) reply h = flush_prints c v u m (replica_o
 command_prints c v (command.Compact u m) reply h = compact_prints c v u m (replica_on c.settings u m) reply h
 command_prints c v _ reply h = absurd h
 
-item_prints : (c : Course) (v : ℕ) (item : Item) (reply : Reply) → ItemDid c item reply → AllPrints c v reply
+pub item_prints : (c : Course) (v : ℕ) (item : Item) (reply : Reply) → ItemDid c item reply → AllPrints c v reply
 item_prints c v (asks.Command asked) reply h = command_prints c v asked reply h
 item_prints c v asks.Bad reply h = subst (λ (r : Reply). AllPrints c v r) (sym h.0) (tt, tt)
 

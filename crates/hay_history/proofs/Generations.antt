@@ -162,7 +162,7 @@ generation_once v m line lane it (reply.Busy v' m' g) = one_front ((v' == v) && 
 generation_once v m line lane it (reply.Worn v' m') = one_front ((v' == v) && (m' == m)) (printed 65535 false)
 generation_once v m line lane it _ = tt
 
-both_true : (a b : Bool) → (a && b) ≡ true → (a ≡ true) × (b ≡ true)
+pub both_true : (a b : Bool) → (a && b) ≡ true → (a ≡ true) × (b ≡ true)
 both_true true b e = (refl, e)
 both_true false b e = let clash : false ≡ true = e in absurd cc
 

@@ -1,9 +1,11 @@
 -- A stuck index is loose only behind a swap of its replica, which is that of a line that may stand there.
-use Rattle.std.proofs.Common.{◌≡◌, ◌≢◌, ◌⊎◌, inl, inr, ℕ, zero, suc, ◌<◌, ◌≤◌, ◌+◌, ◌-◌, ◌==◌, ◌&&◌, Bool, true, false, cond, List, [], ◌∷◌, length, slice_get, Contains, Option, Some, None, refl, sym, ap, subst, ◌∙◌, arith, eq-eqb}
-use Rattle.std.proofs.lemmas.Bool.{cases_Bool, cases_eq, cases_lt}
+use Rattle.std.proofs.Common.{◌≡◌, ◌≢◌, ◌⊎◌, inl, inr, ℕ, zero, suc, ◌<◌, ◌≤◌, ◌+◌, ◌-◌, ◌==◌, ◌&&◌, Bool, true, false, cond, List, [], ◌∷◌, length, slice_get, sum_by, Contains, Option, Some, None, refl, sym, ap, subst, ◌∙◌, arith, eq-eqb, eqb-true, ne_eqb}
+use Rattle.std.proofs.lemmas.Bool.{cases_Bool, cases_eq, cases_lt, cond_both}
+use Rattle.std.proofs.lemmas.List.Sums.{sum_by-cons}
 use Rattle.std.proofs.lemmas.Option.{none-some}
 use Rattle.hay_core.proofs.SideLaws.{slice_all}
 use Rattle.hay_needle.specs.declared.settings.Settings.{Settings}
+use Rattle.hay_core.specs.declared.entry.CoreTag.{CoreTag}
 use Rattle.hay_script.specs.declared.Command.TheVariants as command
 use Rattle.hay_reply.specs.declared.Reply.{Reply}
 use Rattle.hay_reply.specs.declared.Reply.TheVariants as reply
@@ -14,25 +16,28 @@ use Rattle.hay_legal.specs.declared.turn.Item.{Item}
 use Rattle.hay_legal.specs.declared.turn.Item.TheVariants as asks
 use Rattle.hay_legal.specs.declared.turn.LaneItem.{LaneItem}
 use Rattle.hay_legal.specs.Known.{EachPair, machine_of, replica_at, replica_on, volume_at}
-use Rattle.hay_legal.specs.Plain.{IsOn}
-use Rattle.hay_legal.specs.Blocks.{IndexIsLegal, MayPrecede, MetLoose, MetStuck, StandsBefore, SticksBy, SwappedWhere, froze_at_compact, is_wanting, made_on}
+use Rattle.hay_legal.specs.Plain.{IsOn, with_stuck}
+use Rattle.hay_legal.specs.Blocks.{IndexIsLegal, MayPrecede, MetLoose, MetStuck, StandsBefore, SticksBy, SwappedWhere, froze_at_compact, is_wanting, made_on, sticks_on}
 use Rattle.hay_history.specs.Steps.{Did, Leads, Standing, Step}
 use Rattle.hay_history.specs.Steps.Did.{Flushes, Sticks}
-use Rattle.hay_history.specs.Histories.{History, IsLater, behind, first_of}
+use Rattle.hay_history.specs.Histories.{History, IsLater, behind, first_of, own, steps_of}
 use Rattle.hay_history.specs.Commands.{CameInLanes, FlushDid, ItemDid}
-use Rattle.hay_history.proofs.Changes.{leads_becomes}
+use Rattle.hay_history.proofs.Changes.{leads_becomes, leads_extends}
 use Rattle.hay_history.proofs.Changes.Becomes.{Goes, Grows, IsFlushed, IsPoised, IsStuck, IsSwapped, Rests, Starts, Stays}
 use Rattle.hay_history.proofs.CompactLines.{at_or_past, stuck_behind}
 use Rattle.hay_history.proofs.Freezing.{frozen_is, of_line}
 use Rattle.hay_history.proofs.Fronts.{one_within}
+use Rattle.hay_history.proofs.Generations.{both_true}
 use Rattle.hay_history.proofs.Histories.{behind_past, behind_step, leads_at}
 use Rattle.hay_history.proofs.Lines.{answered, course_of, one_leads, stops}
-use Rattle.hay_history.proofs.Lists.{each_from, first_or_rest, none_in, pair_by}
+use Rattle.hay_history.proofs.Lists.{each_from, first_or_rest, in_rest, is_first, none_in, pair_by}
 use Rattle.hay_history.proofs.Own.{MayDo, line_of}
 use Rattle.hay_history.proofs.Placing.{machine_there}
-use Rattle.hay_history.proofs.ReplicaSteps.{hidden_at}
+use Rattle.hay_history.proofs.Printed.{weigh_of_lines}
+use Rattle.hay_history.proofs.ReplicaSteps.{change_same, hidden_at}
+use Rattle.hay_history.proofs.Trying.{one_own}
 use Rattle.hay_history.proofs.Volumes.{frozen_stays, replica_there, volume_at_moment}
-use Rattle.hay_history.proofs.Weights.{weigh}
+use Rattle.hay_history.proofs.Weights.{along_weighed, weigh, weight_at}
 
 -- THE ORDER OF LINES
 
@@ -94,6 +99,94 @@ stuck_made : (v m line lane : ℕ) (it : Item) (r : Reply) → MetStuck v m (lin
 stuck_made v m line lane it r (inl sticks) = sticks_made v m line lane it r sticks
 stuck_made v m line lane (asks.Command (command.Flush u w)) (reply.ReadOnly (by ∷ [])) (inr met) = refl
 stuck_made v m line lane it r (inr met) = absurd met
+
+-- HOW OFTEN AN INDEX GETS STUCK
+
+abbrev bit : Bool → ℕ
+bit b = cond b 1 0
+
+bit_within : (b : Bool) → bit b ≤ 1
+bit_within true = omega arith
+bit_within false = omega arith
+
+abbrev sticks_at : ℕ → Standing → Did → ℕ
+sticks_at j a (Did.Sticks i) = cond (i == j) 1 0
+sticks_at j a _ = 0
+
+-- a step that leaves the index stuck, or swaps the replica, or keeps both as they are
+index_kept : (settings : Settings) (v j : ℕ) (tag : CoreTag) (did : Did) (a b : Standing) → Leads settings v tag did a b
+    → bit (replica_at a.volume j).stuck + (replica_at a.volume j).generation ≤ (replica_at b.volume j).generation + bit (replica_at b.volume j).stuck
+index_kept settings v j tag did a b h =
+    elim (leads_becomes settings v tag did a b h j) [
+      | Stays e ↦ same (ap stuck_of e) (ap number_of e)
+      | Grows pair cookie bytes is e ↦ same (ap stuck_of e) (ap number_of e)
+      | Rests e ↦ same (ap stuck_of e) (ap number_of e)
+      | IsFlushed is e ↦ same (ap stuck_of e) (ap number_of e)
+      | IsStuck is e ↦
+          let one : bit (replica_at b.volume j).stuck ≡ 1 = ap (λ (r : ReplicaKnown). bit r.stuck) e in
+          let number = ap number_of e in
+          omega (arith, one, number, most)
+      | Starts is none less e ↦ same (ap stuck_of e) (ap number_of e)
+      | Goes n run is stands left e ↦ same (ap stuck_of e) (ap number_of e)
+      | IsSwapped end cells freezes is stands sizes e ↦
+          let number : (replica_at b.volume j).generation ≡ (replica_at a.volume j).generation + 1 = ap number_of e in
+          omega (arith, number, most)
+      | IsPoised m is e ↦ same (ap stuck_of e) (ap number_of e)
+    ]
+  where
+    stuck_of : ReplicaKnown → Bool
+    stuck_of r = r.stuck
+
+    number_of : ReplicaKnown → ℕ
+    number_of r = r.generation
+
+    most : bit (replica_at a.volume j).stuck ≤ 1
+    most = bit_within (replica_at a.volume j).stuck
+
+    same : (replica_at b.volume j).stuck ≡ (replica_at a.volume j).stuck → (replica_at b.volume j).generation ≡ (replica_at a.volume j).generation
+        → bit (replica_at a.volume j).stuck + (replica_at a.volume j).generation ≤ (replica_at b.volume j).generation + bit (replica_at b.volume j).stuck
+    same stuck number = let bits = ap bit stuck in omega (arith, bits, number)
+
+-- over steps in which the index of replica j got stuck so many times
+abbrev StuckOften : ℕ → ℕ → Standing → ℕ → Standing → Type 0
+StuckOften many j a n b = length (a.volume).replicas ≡ many
+    → (length (b.volume).replicas ≡ many)
+    × (n + bit (replica_at a.volume j).stuck + (replica_at a.volume j).generation ≤ (replica_at b.volume j).generation + bit (replica_at b.volume j).stuck)
+
+often_step : (settings : Settings) (v j : ℕ) (tag : CoreTag) (did : Did) (a b : Standing) → j < length (a.volume).replicas → Leads settings v tag did a b
+    → sticks_at j a did + bit (replica_at a.volume j).stuck + (replica_at a.volume j).generation ≤ (replica_at b.volume j).generation + bit (replica_at b.volume j).stuck
+often_step settings v j tag (Did.Sticks i) a b within h = elim (cases_eq i j) [
+  | inl same ↦
+      let is : replica_at b.volume j ≡ with_stuck (replica_at a.volume j) =
+      ap (λ (x : VolumeKnown). replica_at x j) h.3 ∙ change_same a.volume i j with_stuck same within in
+      let before : bit (replica_at a.volume j).stuck ≡ 0 =
+      ap bit (subst (λ (n : ℕ). (replica_at a.volume n).stuck ≡ false) same h.2) in
+      let after : bit (replica_at b.volume j).stuck ≡ 1 = ap (λ (r : ReplicaKnown). bit r.stuck) is in
+      let number : (replica_at b.volume j).generation ≡ (replica_at a.volume j).generation = ap (λ (r : ReplicaKnown). r.generation) is in
+      let one = bit_within (i == j) in
+      omega (arith, before, after, number, one)
+  | inr other ↦
+      let none : bit (i == j) ≡ 0 = ap bit (ne_eqb i j other) in
+      let kept = index_kept settings v j tag (Did.Sticks i) a b h in
+      omega (arith, none, kept)
+]
+often_step settings v j tag did a b within h = let kept = index_kept settings v j tag did a b h in omega (arith, kept)
+
+-- SUMS
+
+part_of_sum : {X : Type 0} (f : X → ℕ) (xs : List X) (x : X) → Contains xs x → f x ≤ sum_by f xs
+part_of_sum f [] x at = absurd (none_in x at)
+part_of_sum f (y ∷ ys) x at = elim (first_or_rest y ys x at) [
+  | inl is ↦ let same = ap f is in omega (arith, same, sum_by-cons f y ys)
+  | inr rest ↦ let later = part_of_sum f ys x rest in omega (arith, later, sum_by-cons f y ys)
+]
+
+sum_within : {X : Type 0} (f g : X → ℕ) (xs : List X) → ((x : X) → Contains xs x → f x ≤ g x) → sum_by f xs ≤ sum_by g xs
+sum_within f g [] each = omega arith
+sum_within f g (x ∷ xs) each =
+    let here = each x (is_first x xs) in
+    let rest = sum_within f g xs (λ y at. each y (in_rest x xs y at)) in
+    omega (arith, here, rest, sum_by-cons f x xs, sum_by-cons g x xs)
 
 module _ {settings : Settings} {k : Known} {items : List LaneItem} {history : History} {t : Known} (h : CameInLanes settings k items history t)
     (v j : ℕ) (below : v < settings.volumes) (within : j < settings.replicas) (narrow : settings.replicas ≤ settings.machines) where
@@ -396,6 +489,44 @@ module _ {settings : Settings} {k : Known} {items : List LaneItem} {history : Hi
         | inr some ↦ let least = some.1 in inr (hidden_one (froze_at_compact v on is_wanting froze) (omega (arith, least, hidden)))
       ]
 
+  -- each line that left the index stuck has a step that did
+  own_sticks : (item : LaneItem) → Contains items item → (it : Item) (r : Reply) → ItemDid (course_of h item) it r
+      → sticks_on v on (line_of item.line item.lane it r) ≤ sum_by (weight_at (sticks_at j) (first_of settings k v) (history.volumes v)) (own (course_of h item) v)
+  own_sticks item among (asks.Command (command.Flush u m)) (reply.Failed v' m' f) did =
+      cond_both ((u == v) && (m == on)) 1 0
+      (λ n. n ≤ sum_by (weight_at (sticks_at j) (first_of settings k v) (history.volumes v)) (own (course_of h item) v))
+      (λ named.
+      let both = both_true (u == v) (m == on) named in
+      let step = ((flush_there item u m (reply.Failed v' m' f) (eqb-true u v both.0, eqb-true m on both.1) did).1).step in
+      let mine = one_own (course_of h item) v (Sticks j) step in
+      let part = part_of_sum (weight_at (sticks_at j) (first_of settings k v) (history.volumes v)) (own (course_of h item) v) (step.place, step.step) mine in
+      let weight : sticks_at j (behind (first_of settings k v) (history.volumes v) step.place) (step.step).did ≡ 1 =
+      ap (sticks_at j (behind (first_of settings k v) (history.volumes v) step.place)) step.is ∙ ap bit (eq-eqb j j refl) in
+      omega (arith, part, weight))
+      (λ other. omega arith)
+  own_sticks item among it r did = omega arith
+
+  sticks_once : sum_by (sticks_on v on) items + bit (replica_at (volume_at k v) j).stuck + (replica_at (volume_at k v) j).generation
+      ≤ (replica_at (volume_at t v) j).generation + bit (replica_at (volume_at t v) j).stuck
+  sticks_once =
+      let first : Standing = first_of settings k v in
+      let steps : List Step = history.volumes v in
+      let lines = sum_within (sticks_on v on) (λ item. sum_by (weight_at (sticks_at j) first steps) (steps_of steps item.line)) items
+      (λ item among. own_sticks item among item.item item.reply (answered h item among).did) in
+      let all = weigh_of_lines h (sticks_at j) v below in
+      let often = (along_weighed settings v (sticks_at j) (StuckOften settings.replicas j) first steps
+      (λ a many. (many, omega arith))
+      (λ a b c n m x y many. let x' = x many in let y' = y x'.0 in (y'.0, omega (arith, x'.1, y'.1)))
+      (λ i s a at leads falls many. (
+        (leads_extends settings v s.tag s.did a s.after leads).many ∙ many,
+        often_step settings v j s.tag s.did a s.after (subst (λ (n : ℕ). j < n) (sym many) within) leads,
+      ))
+      (h.follows v below) ((h.store).replicas v below)).1 in
+      let last = ap (λ (x : VolumeKnown). replica_at x j) (h.volumes v below).volume in
+      let number = ap (λ (r : ReplicaKnown). r.generation) last in
+      let stuck = ap (λ (r : ReplicaKnown). bit r.stuck) last in
+      omega (arith, lines, all, often, number, stuck)
+
   pub index_legal : (froze : Option LaneItem)
       → weigh (hidden_at j) (first_of settings k v) (history.volumes v) ≡ cond (froze_at_compact v on is_wanting froze) 1 0
       → IndexIsLegal items v on froze (replica_at (volume_at k v) j) (replica_at (volume_at t v) j)
@@ -405,4 +536,5 @@ module _ {settings : Settings} {k : Known} {items : List LaneItem} {history : Hi
         (λ a b. a.lane ≡ b.lane → MetStuck v on a → MetLoose v on b → SwappedWhere items v on (λ swap. MayPrecede items a swap × MayPrecede items swap b)) items
         (λ a b in_a in_b later same stuck loose. met_between a b in_a in_b (later same) stuck loose) h.«order»;
     behind = each_from _ items (met_behind froze hidden);
+    once = sticks_once;
   }

@@ -14,6 +14,7 @@ pub mod Fronts
 pub mod ReadLines
 pub mod PutLines
 pub mod Meeting
+pub mod Settled
 pub mod CompactLines
 pub mod Answers
 pub mod Weights

@@ -366,16 +366,22 @@ module _ {settings : Settings} {k : Known} {items : List LaneItem} {history : Hi
 abbrev pub FrostSeen : {settings : Settings} {k : Known} {items : List LaneItem} {history : History} {t : Known} → CameInLanes settings k items history t → ℕ → Option LaneItem → Type 0
 FrostSeen h v froze = (item : LaneItem) → froze ≡ Some item → SawFrozen (course_of h item) v × SawThawed (course_of h item) v
 
+-- a line that froze the volume, or met it frozen, saw it so
+pub frozen_seen : {settings : Settings} {k : Known} {items : List LaneItem} {history : History} {t : Known} (h : CameInLanes settings k items history t)
+    (v : ℕ) → v < settings.volumes → (froze : Option LaneItem) → FrostSeen h v froze → (a : LaneItem) → Contains items a
+    → MetFrozen settings k items v froze a → SawFrozen (course_of h a) v
+frozen_seen h v below froze seen a in_a met = elim met [
+  | inl is ↦ (seen a is).0
+  | inr freeze ↦ met_freeze h a a.line a.lane v a.item a.reply below (answered h a in_a).did freeze
+]
+
 pub lanes_meet : {settings : Settings} {k : Known} {items : List LaneItem} {history : History} {t : Known} (h : CameInLanes settings k items history t)
     (v : ℕ) → v < settings.volumes → (froze : Option LaneItem) → FrostSeen h v froze
     → EachPair (λ a b. a.lane ≡ b.lane → MetFrozen settings k items v froze a → MetThawed t v froze b → ⊥) items
 lanes_meet {settings} {k} {items} {history} {t} h v below froze seen =
     pair_by (λ a b. a.lane ≡ b.lane → IsLater (h.to a.line) (h.from b.line)) (λ a b. a.lane ≡ b.lane → MetFrozen settings k items v froze a → MetThawed t v froze b → ⊥) items
     (λ a b in_a in_b later same met thawed.
-    let first : SawFrozen (course_of h a) v = elim met [
-      | inl is ↦ (seen a is).0
-      | inr freeze ↦ met_freeze h a a.line a.lane v a.item a.reply below (answered h a in_a).did freeze
-    ] in
+    let first : SawFrozen (course_of h a) v = frozen_seen h v below froze seen a in_a met in
     let then : SawThawed (course_of h b) v = elim thawed [
       | inl is ↦ (seen b is).1
       | inr opened ↦ elim opened [

@@ -173,7 +173,7 @@ module _ {settings : Settings} {k : Known} {items : List LaneItem} {history : Hi
   -- THE DIRECTORY FROZEN
 
   -- the line saw the Directory frozen by then, or thawed from then on
-  abbrev SawRowsFrozen : Type 0
+  abbrev pub SawRowsFrozen : Type 0
   SawRowsFrozen = (n : ℕ) × (n ≤ (h.to item.line).rows) × (((rows_moment k history n).directory).frozen ≡ true)
 
   abbrev SawRowsThawed : Type 0
@@ -221,18 +221,24 @@ module _ {settings : Settings} {k : Known} {items : List LaneItem} {history : Hi
       by [] some each = absurd (some refl)
       by (p ∷ ps) some each = each.0
 
+-- a line that froze the Directory, or met it frozen, saw it so
+pub rows_frozen_seen : {settings : Settings} {k : Known} {items : List LaneItem} {history : History} {t : Known} (h : CameInLanes settings k items history t)
+    (froze : LaneItem) (pair : Pair) (size : ℕ) → RowPends (course_of h froze) pair size → (a : LaneItem) (in_a : Contains items a) → MetRowsFrozen froze a
+    → SawRowsFrozen h a in_a
+rows_frozen_seen h froze pair size pends a in_a met = elim met [
+  | inl is ↦ (froze_rows h a in_a pair size (subst (λ (x : LaneItem). RowPends (course_of h x) pair size) is pends)).0
+  | inr refused ↦ refused_rows h a in_a a.item (subst (λ (r : Reply). ItemDid (course_of h a) a.item r) refused (answered h a in_a).did)
+]
+
 -- a lane that met the Directory frozen adds no row from then on
 pub lanes_meet_rows : {settings : Settings} {k : Known} {items : List LaneItem} {history : History} {t : Known} (h : CameInLanes settings k items history t)
-    (froze : LaneItem) → Contains items froze → (pair : Pair) (size : ℕ) → RowPends (course_of h froze) pair size
+    (froze : LaneItem) (pair : Pair) (size : ℕ) → RowPends (course_of h froze) pair size
     → EachPair (λ a b. a.lane ≡ b.lane → MetRowsFrozen froze a → MetRowsOpen (row_note k history) froze b → ⊥) items
-lanes_meet_rows {settings} {k} {items} {history} {t} h froze among pair size pends =
+lanes_meet_rows {settings} {k} {items} {history} {t} h froze pair size pends =
     pair_by (λ a b. a.lane ≡ b.lane → IsLater (h.to a.line) (h.from b.line))
     (λ a b. a.lane ≡ b.lane → MetRowsFrozen froze a → MetRowsOpen (row_note k history) froze b → ⊥) items
     (λ a b in_a in_b later same met opened.
-    let first : SawRowsFrozen h a in_a = elim met [
-      | inl is ↦ (froze_rows h a in_a pair size (subst (λ (x : LaneItem). RowPends (course_of h x) pair size) is pends)).0
-      | inr refused ↦ refused_rows h a in_a a.item (subst (λ (r : Reply). ItemDid (course_of h a) a.item r) refused (answered h a in_a).did)
-    ] in
+    let first : SawRowsFrozen h a in_a = rows_frozen_seen h froze pair size pends a in_a met in
     let then : SawRowsThawed h b in_b = elim opened [
       | inl is ↦ (froze_rows h b in_b pair size (subst (λ (x : LaneItem). RowPends (course_of h x) pair size) is pends)).1
       | inr some ↦ added_rows h b in_b some

@@ -123,6 +123,7 @@ block = record {
       froze = None;
       freeze = (refl, refl);
       lanes = (((λ e met opened. omega (arith, e)), ((λ e met opened. omega (arith, e)), tt)), (((λ e met opened. omega (arith, e)), tt), (tt, tt)));
+      settled = (((λ e met. absurd (omega (arith, e))), ((λ e met. absurd (omega (arith, e))), tt)), (((λ e met. absurd (omega (arith, e))), tt), (tt, tt)));
       replicas = (
         record {
           base = refl;
@@ -135,6 +136,7 @@ block = record {
             before = ((λ e loose. absurd loose), ((λ e loose. absurd loose), ((λ e loose. absurd loose), tt)));
             between = (((λ e met loose. absurd loose), ((λ e met loose. absurd loose), tt)), (((λ e met loose. absurd loose), tt), (tt, tt)));
             behind = ((λ e sticks. absurd sticks), ((λ e sticks. absurd sticks), ((λ e sticks. absurd sticks), tt)));
+            once = lit≤ tt;
           };
           poised = refl;
         },
@@ -244,6 +246,7 @@ freezing_block = record {
         pending = refl;
       };
       lanes = (((λ e met opened. omega (arith, e)), ((λ e met opened. omega (arith, e)), tt)), (((λ e met opened. omega (arith, e)), tt), (tt, tt)));
+      settled = (((λ e met. absurd (omega (arith, e))), ((λ e met. absurd (omega (arith, e))), tt)), (((λ e met. absurd (omega (arith, e))), tt), (tt, tt)));
       replicas = (
         record {
           base = refl;
@@ -256,6 +259,7 @@ freezing_block = record {
             before = ((λ e loose. absurd loose), ((λ e loose. absurd loose), ((λ e loose. absurd loose), tt)));
             between = (((λ e met loose. absurd loose), ((λ e met loose. absurd loose), tt)), (((λ e met loose. absurd loose), tt), (tt, tt)));
             behind = ((λ e sticks. absurd sticks), ((λ e sticks. absurd sticks), ((λ e sticks. absurd sticks), tt)));
+            once = lit≤ tt;
           };
           poised = refl;
         },

@@ -29,7 +29,7 @@ use Rattle.hay_legal.specs.declared.turn.LaneItem.{LaneItem}
 use Rattle.hay_legal.specs.declared.turn.LogNote.{LogNote}
 use Rattle.hay_legal.specs.declared.turn.RowNote.{RowNote}
 use Rattle.hay_legal.specs.Known.{CameUp, EachPair, all_tries, closed, closed_by, drained_of, fault_count, home_of, machine_of, replica_at, replica_on, replicas_of, slot_of, volume_at}
-use Rattle.hay_legal.specs.Blocks.{CompactIsLegal, DeletesOn, DiskIsLegal, FlushIsLegal, FreezeIsLegal, Freezes, HomeInBlock, InOrder, IsNewRow, LegalBlock, LineIsLegal, MayHaveAdded, MayHaveFrozen, MayPrecede, MayRefuse, Printed, ReplicaIsLegal, RefusesPut, StandsBefore, SticksBy, SwappedWhere, VolumeIsLegal, WasFrozen, WasSwapped, disk_prints, froze_at_compact, generation_print, highest_end, is_compacted, is_failed, made_on, new_rows, pending_behind, printed, row_faults, row_failed}
+use Rattle.hay_legal.specs.Blocks.{CompactIsLegal, DeletesOn, DiskIsLegal, FlushIsLegal, FreezeIsLegal, Freezes, HomeInBlock, InOrder, IsAt, IsNewRow, LegalBlock, LineIsLegal, MayHaveAdded, MayHaveFrozen, MayPrecede, MayRefuse, Printed, ReplicaIsLegal, RefusesPut, StandsBefore, SticksBy, SwappedWhere, VolumeIsLegal, WasFrozen, WasSwapped, disk_prints, froze_at_compact, generation_print, highest_end, is_compacted, is_failed, made_on, new_rows, pending_behind, printed, row_faults, row_failed, sticks_on}
 use Rattle.hay_legal.proofs.Subject.Entries.{each_in_range}
 
 -- LISTS
@@ -549,6 +549,24 @@ module _ {settings : Settings} {k : Known} {logs : List LogNote} {t : Known} whe
     ]
   ]
 
+  -- a lane reads of a volume at an earlier front than its last one, behind a put that froze it
+  read_behind_its_freeze : (v m m' f p d : ℕ) (pair pair' : Pair) (bytes : List ℕ) (cookie : Cookie) (rows : RowNote) → v < settings.volumes
+      → (volume_at k v).frozen ≡ None → p < length (volume_at t v).log
+      → LegalBlock settings k (answered 0 2 (command.Put pair bytes) (reply.Failed v m f) ∷ answered 0 3 (command.Read pair' cookie) (reply.Gone v m' p d) ∷ [])
+      logs rows t → ⊥
+  read_behind_its_freeze v m m' f p d pair pair' bytes cookie rows below before less b =
+      let both : List LaneItem = answered 0 2 (command.Put pair bytes) (reply.Failed v m f) ∷ answered 0 3 (command.Read pair' cookie) (reply.Gone v m' p d) ∷ [] in
+      let by = froze_by b v m below before (b.lines.0).3.0 in
+      elim (one_of_two _ _ by.0 (by.2).among) [
+        | inl first ↦
+            let at = (volume b v below).settled.0.0 refl (inl (by.1 ∙ ap (λ (x : LaneItem). Some x) (sym first))) in
+            let shown = subst (λ (xs : List Printed). Each (IsAt (length (volume_at t v).log)) xs)
+            (ap (λ (x : Bool). cond x (printed p false ∷ []) []) (eq-eqb v v refl)) at in
+            let last : p ≡ length (volume_at t v).log = shown.0 in
+            omega (arith, last, less)
+        | inr second ↦ subst (λ (x : LaneItem). Freezes settings k both t v (by.2).machine (by.2).change x) (sym second) (by.2).freezes
+      ]
+
   -- a put that each of two tries refused adds the row of its pair
   row_of_a_put_that_all_refused : (v : ℕ) (pair : Pair) (bytes : List ℕ) (one two : Refused) (rest : List Refused)
       → LegalBlock settings k (answered 0 2 (command.Put pair bytes) (reply.Full (one ∷ two ∷ rest)) ∷ []) logs (record { from = 0; rows = row_of 2 v ∷ [] }) t → ⊥
@@ -615,6 +633,25 @@ module _ (settings : Settings) (k : Known) (logs : List LogNote) (rows : RowNote
       late (suc zero, zero, less, at, then) = omega (arith, less)
       late (suc zero, suc (suc n), less, at, then) = none-some _ then
       late (suc (suc i), n, less, at, then) = none-some _ at
+
+  -- two lanes leave an index stuck that no line swapped
+  stuck_twice : (v' m' v'' m'' f f' : ℕ) → (replica_at (volume_at t v) j).generation ≡ (replica_at (volume_at k v) j).generation
+      → LegalBlock settings k (answered 0 2 (command.Flush v on) (reply.Failed v' m' f) ∷ answered 1 3 (command.Flush v on) (reply.Failed v'' m'' f') ∷ []) logs rows t → ⊥
+  stuck_twice v' m' v'' m'' f f' same b =
+      let bit : Bool → ℕ = λ x. cond x 1 0 in
+      let count : ℕ = 1 in
+      let one : bit ((v == v) && (on == on)) ≡ count = ap (λ (x : Bool). bit (x && (on == on))) (eq-eqb v v refl) ∙ ap bit (eq-eqb on on refl) in
+      let first : LaneItem = answered 0 2 (command.Flush v on) (reply.Failed v' m' f) in
+      let second : LaneItem = answered 1 3 (command.Flush v on) (reply.Failed v'' m'' f') in
+      let least = ((replica b v j below within).index).once in
+      let total = sum_by-cons (sticks_on v on) first (second ∷ []) in
+      let rest = sum_by-cons (sticks_on v on) second [] in
+      let most : cond (replica_at (volume_at t v) j).stuck 1 0 ≤ 1 = at_most_one (replica_at (volume_at t v) j).stuck in
+      omega (arith, least, total, rest, one, same, most)
+    where
+      at_most_one : (x : Bool) → cond x 1 0 ≤ 1
+      at_most_one true = omega arith
+      at_most_one false = omega arith
 
   -- the generations that a lane makes fall
   generations_fall : (g g' : ℕ) → g' ≤ g

@@ -336,6 +336,9 @@ InOrder earlier later = InOrderBy later.entered
 abbrev pub Between : ℕ → ℕ → Printed → Type 0
 Between before after shown = (before ≤ shown.front) × (shown.front ≤ after)
 
+abbrev pub IsAt : ℕ → Printed → Type 0
+IsAt front shown = shown.front ≡ front
+
 abbrev pub FrontsGrow : ℕ → ℕ → List Printed → Type 0
 FrontsGrow before after shown = EachPair InOrder shown × Each (Between before after) shown
 
@@ -811,8 +814,21 @@ MetLoose v m item = Met item.item item.reply
     Met (asks.Command command) reply = MetAs command reply
     Met asks.Bad reply = ⊥
 
+-- how many times a line left the index of the replica on m stuck
+abbrev pub sticks_on : ℕ → ℕ → LaneItem → ℕ
+sticks_on v m item = sticks item.item item.reply
+  where
+    sticks_as : Command → Reply → ℕ
+    sticks_as (command.Flush v' m') (Failed v'' m'' f) = cond ((v' == v) && (m' == m)) 1 0
+    sticks_as _ _ = 0
+
+    sticks : Item → Reply → ℕ
+    sticks (asks.Command command) reply = sticks_as command reply
+    sticks asks.Bad reply = 0
+
 -- A stuck index is loose only behind a swap of its replica: be it one that was stuck before the block, one that a line of a lane
 -- met so before another, or one that a line left so. The last swap may be the one behind which want of memory froze the volume.
+-- No index gets stuck twice without a swap.
 pub record IndexIsLegal (items : List LaneItem) (v m : ℕ) (froze : Option LaneItem) (old new : ReplicaKnown) : Type 0 where
   pub before : Each (λ b. old.stuck ≡ true → MetLoose v m b → SwappedWhere items v m (λ swap. MayPrecede items swap b)) items
   pub between : EachPair
@@ -821,6 +837,7 @@ pub record IndexIsLegal (items : List LaneItem) (v m : ℕ) (froze : Option Lane
   pub behind : Each
       (λ a. new.stuck ≡ false → SticksBy v m a → SwappedWhere items v m (λ swap. MayPrecede items a swap) ⊎ (froze_at_compact v m is_wanting froze ≡ true))
       items
+  pub once : sum_by (sticks_on v m) items + cond old.stuck 1 0 + old.generation ≤ new.generation + cond new.stuck 1 0
 
 pub record ReplicaIsLegal (settings : Settings) (k : Known) (items : List LaneItem) (t : Known) (v : ℕ) (froze : Option LaneItem) (j : ℕ) (old new : ReplicaKnown) : Type 0 where
   pub base : new.base ≡ old.base
@@ -941,12 +958,13 @@ abbrev pub MetThawed : Known → ℕ → Option LaneItem → LaneItem → Type 0
 MetThawed t v froze item = (froze ≡ Some item) ⊎ MetOpen v item.reply ⊎ RefusedAsStuck t v item
 
 -- A freeze, the change that it left pending, and the replica that it left poised or that was swapped before it, are one line's.
--- A lane that met the freeze meets it from then on.
+-- A lane that met the freeze meets it from then on, and reads at the last front.
 pub record VolumeIsLegal (settings : Settings) (k : Known) (items : List LaneItem) (t : Known) (v : ℕ) : Type 0 where
   pub many : length (volume_at t v).replicas ≡ length (volume_at k v).replicas
   pub froze : Option LaneItem
   pub freeze : FreezeIsLegal settings k items t v froze
   pub lanes : EachPair (λ a b. a.lane ≡ b.lane → MetFrozen settings k items v froze a → MetThawed t v froze b → ⊥) items
+  pub settled : EachPair (λ a b. a.lane ≡ b.lane → MetFrozen settings k items v froze a → Each (IsAt (length (volume_at t v).log)) (volume_print v b.reply)) items
   pub replicas : Each
       (λ j. ReplicaIsLegal settings k items t v froze j (replica_at (volume_at k v) j) (replica_at (volume_at t v) j))
       (replicas_of settings)
@@ -967,7 +985,8 @@ MetRowsFrozen froze item = (froze ≡ item) ⊎ (item.reply ≡ ReadOnlyDir)
 abbrev pub MetRowsOpen : RowNote → LaneItem → LaneItem → Type 0
 MetRowsOpen rows froze item = (froze ≡ item) ⊎ (row_added rows item ≢ [])
 
--- A line froze the Directory, with the row of its pair pending. A lane that met the freeze adds no row from then on.
+-- A line froze the Directory, with the row of its pair pending. A lane that met the freeze adds no row from then on, and
+-- sees the last front.
 pub record RowsWereFrozen (settings : Settings) (k : Known) (items : List LaneItem) (rows : RowNote) (t : Known) : Type 0 where
   pub «open» : k.directory.frozen ≡ false
   pub item : LaneItem
@@ -980,6 +999,7 @@ pub record RowsWereFrozen (settings : Settings) (k : Known) (items : List LaneIt
   pub gets : MayGetRow settings k items t pair (length bytes) volume
   pub pending : RowIsPending t (tag_of item) pair volume
   pub lanes : EachPair (λ a b. a.lane ≡ b.lane → MetRowsFrozen item a → MetRowsOpen rows item b → ⊥) items
+  pub settled : EachPair (λ a b. a.lane ≡ b.lane → MetRowsFrozen item a → Each (IsAt (length t.directory.rows)) (row_print b.reply)) items
 
 abbrev pub DirectoryIsLegal : Settings → Known → List LaneItem → RowNote → Known → Type 0
 DirectoryIsLegal settings k items rows t =
