@@ -13,6 +13,7 @@ pub mod Homes
 pub mod Fronts
 pub mod ReadLines
 pub mod PutLines
+pub mod HomesSeen
 pub mod Meeting
 pub mod Settled
 pub mod CompactLines

@@ -23,7 +23,7 @@ use Rattle.hay_legal.specs.Known.{EachPair, all_tries, closed, closed_by, draine
 use Rattle.hay_needle.specs.Sizes.{needle_total}
 use Rattle.hay_legal.specs.declared.known.ReplicaKnown.{ReplicaKnown}
 use Rattle.hay_legal.specs.Plain.{as_closed, put_entry, start_of}
-use Rattle.hay_legal.specs.Blocks.{MayBeStuck, MetFreeze, MetFrozen, MetOpen, MetThawed, RefusedAsStuck, SticksBy, tag_of}
+use Rattle.hay_legal.specs.Blocks.{MayBeStuck, MetFreeze, MetFrozen, MetOpen, MetThawed, RefusedAsStuck, SticksBy, tag_of, volume_named}
 use Rattle.hay_history.specs.Steps.{Did, IsThawed, Leads, Standing, Step}
 use Rattle.hay_history.specs.Steps.Did.{Ends, Entered, Flushes, Pends, Poises, Sticks, Swaps}
 use Rattle.hay_history.specs.Histories.{Course, History, IsLater, IsMoment, OneStep, OneTry, SeesFrozen, SeesRefusal, closing_then, own, refusal_then, standing, volume_then}
@@ -59,17 +59,13 @@ frozen_of : (frozen drained : Option ℕ) (m : ℕ) → closed_by frozen drained
 frozen_of None drained m e none = absurd (none-some m (sym none ∙ e))
 frozen_of (Some by) drained m e none = e
 
-abbrev volume_named : Refused → ℕ
-volume_named (Closed v m) = v
-volume_named (NoRoom v m end need) = v
-
 abbrev machine_named : Refused → ℕ
 machine_named (Closed v m) = m
 machine_named (NoRoom v m end need) = m
 
 module _ (c : Course) where
   -- a refusal is of the volume that it names: as closed, or for room where the volume was open
-  refused_closed : (size u v m n : ℕ) → refusal_then c u n size ≡ Some (Closed v m) → (u ≡ v) × (closing_then c u n ≡ Some m)
+  pub refused_closed : (size u v m n : ℕ) → refusal_then c u n size ≡ Some (Closed v m) → (u ≡ v) × (closing_then c u n ≡ Some m)
   refused_closed size u v m n e = by (closing_then c u n) refl e
     where
       by : (closing : Option ℕ) → closing_then c u n ≡ closing → refusal_by u closing (room_refusal_of c.settings u (volume_then c u n) size) ≡ Some (Closed v m)
@@ -83,7 +79,7 @@ module _ (c : Course) where
           let clash : NoRoom u (machine_of c.settings u (lack.0).0) ((lack.0).1).end (needle_total size) ≡ Closed v m = lack.2 in
           absurd cc
 
-  refused_room : (size u v m end need n : ℕ) → refusal_then c u n size ≡ Some (NoRoom v m end need) → (u ≡ v) × (closing_then c u n ≡ None)
+  pub refused_room : (size u v m end need n : ℕ) → refusal_then c u n size ≡ Some (NoRoom v m end need) → (u ≡ v) × (closing_then c u n ≡ None)
   refused_room size u v m end need n e = by (closing_then c u n) refl e
     where
       by : (closing : Option ℕ) → closing_then c u n ≡ closing → refusal_by u closing (room_refusal_of c.settings u (volume_then c u n) size) ≡ Some (NoRoom v m end need)

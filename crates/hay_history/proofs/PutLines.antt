@@ -12,11 +12,11 @@ use Rattle.hay_legal.specs.declared.known.VolumeKnown.{VolumeKnown}
 use Rattle.hay_legal.specs.declared.turn.LaneItem.{LaneItem}
 use Rattle.hay_legal.specs.Known.{all_tries}
 use Rattle.hay_legal.specs.Plain.{as_closed, put_entry}
-use Rattle.hay_legal.specs.Blocks.{HomeRefuses as legal_home, IsLeftPending, MayHaveAdded, MayRefuse, PutIsLegal, RefusesPut, tag_of}
+use Rattle.hay_legal.specs.Blocks.{HomeRefuses as legal_home, IsLeftPending, MayHaveAdded, MayRefuse, PutIsLegal, RefusesPut, TriesRefuse, tag_of}
 use Rattle.hay_legal.proofs.Subject.Effects.{each_try}
 use Rattle.hay_history.specs.Steps.Did.{Pends}
 use Rattle.hay_history.specs.Histories.{History, OneStep, SeesRefusal}
-use Rattle.hay_history.specs.Commands.{CameInLanes, HomeRefuses, PutDid, PutRefused}
+use Rattle.hay_history.specs.Commands.{CameInLanes, HomeRefuses, PutDid, PutRefused, SeesRefusals}
 use Rattle.hay_history.proofs.Lists.{zip_weaker}
 use Rattle.hay_history.proofs.Lines.{course_of, one_leads}
 use Rattle.hay_history.proofs.Volumes.{frozen_keeps, refused_then, takes_then}
@@ -50,14 +50,18 @@ module _ {settings : Settings} {k : Known} {items : List LaneItem} {history : Hi
   answers_added pair bytes reply.NoMem may = tt
   answers_added pair bytes _ may = absurd may
 
+  pub tries_refuse : (pair : Pair) (bytes : List ℕ) (refused : List Refused) → SeesRefusals (course_of h item) pair (length bytes) refused
+      → TriesRefuse settings k items t pair bytes refused
+  tries_refuse pair bytes refused tries = (
+    no_home_before h item pair tries.0.0 tries.0.1,
+    zip_weaker _ _ (all_tries settings pair) refused (λ v r at sees. may_refuse (length bytes) v r (each_try settings pair v at) sees) tries.1,
+  )
+
   refuses_put : (pair : Pair) (bytes : List ℕ) (refused : List Refused) → PutRefused (course_of h item) pair (length bytes) refused
       → RefusesPut settings k items t pair bytes refused
   refuses_put pair bytes refused did =
       elim (did.because) [
-        | inl tries ↦ inl (
-          no_home_before h item pair tries.0.0.0 tries.0.0.1,
-          zip_weaker _ _ (all_tries settings pair) refused (λ v r at sees. may_refuse (length bytes) v r (each_try settings pair v at) sees) tries.0.1,
-        )
+        | inl tries ↦ inl (tries_refuse pair bytes refused tries.0)
         | inr home ↦ inr (home_refuses pair bytes refused home)
       ]
 

@@ -101,6 +101,7 @@ block = record {
     volumes = ((((tt, tt), ((lit≤ tt, lit≤ tt), tt)), tt), ((((tt, tt), ((lit≤ tt, lit≤ tt), tt)), tt), ((((tt, tt), ((lit≤ tt, lit≤ tt), tt)), tt), (((tt, tt), tt), (((tt, tt), tt), (((tt, tt), tt), (((tt, tt), tt), (((tt, tt), tt), tt))))))));
     directory = ((((lit≤ tt, tt), (tt, tt)), ((lit≤ tt, lit≤ tt), ((lit≤ tt, lit≤ tt), tt))), (((tt, tt), ((lit≤ tt, lit≤ tt), tt)), (((tt, tt), ((lit≤ tt, lit≤ tt), tt)), ((tt, tt), ((tt, tt), ((tt, tt), ((tt, tt), ((tt, tt), tt))))))));
   };
+  pairs = (((λ e. absurd (omega (arith, e))), ((λ e. absurd (omega (arith, e))), tt)), (((λ e. absurd (omega (arith, e))), tt), (tt, tt)));
   lines = (
     (refl, sym cookie_of-zero, (refl, ((64, (lit≤ tt, lit≤ tt), lit≤ tt), tt))),
     (
@@ -219,6 +220,7 @@ freezing_block = record {
     volumes = (((tt, tt), tt), (((tt, tt), tt), (((tt, tt), tt), (((tt, tt), tt), (((tt, tt), tt), (((tt, tt), tt), (((tt, tt), tt), (((tt, tt), tt), tt))))))));
     directory = (((tt, tt), ((lit≤ tt, lit≤ tt), tt)), ((tt, tt), ((tt, tt), ((tt, tt), ((tt, tt), ((tt, tt), ((tt, tt), ((tt, tt), tt))))))));
   };
+  pairs = (((λ e. absurd (omega (arith, e))), ((λ e. absurd (omega (arith, e))), tt)), (((λ e. absurd (omega (arith, e))), tt), (tt, tt)));
   lines = (
     ((1, lit≤ tt, lit≤ tt, refl), (0, refl), (refl, ((64, (lit≤ tt, lit≤ tt), lit≤ tt), tt)), (refl, ap left_pending (sym cookie_of-zero))),
     (inr (0, (1, lit≤ tt, lit≤ tt, refl), (refl, inr refl)), (inl (refl, refl), tt)),

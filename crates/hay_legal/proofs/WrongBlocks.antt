@@ -549,6 +549,25 @@ module _ {settings : Settings} {k : Known} {logs : List LogNote} {t : Known} whe
     ]
   ]
 
+  -- a lane reads that a pair has no home, behind a delete of it that its home refused
+  home_is_forgotten : (v m d : ℕ) (pair : Pair) (cookie : Cookie) (rows : RowNote)
+      → LegalBlock settings k
+      (answered 0 2 (command.Del pair) (reply.ReadOnly (record { volume = v; machine = m } ∷ [])) ∷ answered 0 3 (command.Read pair cookie) (reply.Unknown d) ∷ [])
+      logs rows t → ⊥
+  home_is_forgotten v m d pair cookie rows b = none-some v (sym (b.lines.1).0 ∙ ((b.pairs.0.0 refl).kept pair v (refl, refl)).0)
+
+  -- a put finds no home of its pair, behind a line of its lane that saw the home
+  home_is_missed : (v m p d : ℕ) (pair : Pair) (bytes : List ℕ) (cookie : Cookie) (rows : RowNote)
+      → LegalBlock settings k (answered 0 2 (command.Read pair cookie) (reply.Gone v m p d) ∷ answered 0 3 (command.Put pair bytes) reply.ReadOnlyDir ∷ [])
+      logs rows t → ⊥
+  home_is_missed v m p d pair bytes cookie rows b = none-some v (sym ((b.pairs.0.0 refl).missing pair refl).0 ∙ (b.lines.0).home)
+
+  -- a put finds no home of its pair, behind one of its lane that failed at the home
+  home_is_missed_behind_failure : (v m f : ℕ) (pair : Pair) (bytes bytes' : List ℕ) (rows : RowNote)
+      → LegalBlock settings k (answered 0 2 (command.Put pair bytes) (reply.Failed v m f) ∷ answered 0 3 (command.Put pair bytes') reply.ReadOnlyDir ∷ [])
+      logs rows t → ⊥
+  home_is_missed_behind_failure v m f pair bytes bytes' rows b = (b.pairs.0.0 refl).apart pair v (refl, refl) refl
+
   -- a lane reads of a volume at an earlier front than its last one, behind a put that froze it
   read_behind_its_freeze : (v m m' f p d : ℕ) (pair pair' : Pair) (bytes : List ℕ) (cookie : Cookie) (rows : RowNote) → v < settings.volumes
       → (volume_at k v).frozen ≡ None → p < length (volume_at t v).log

@@ -447,6 +447,54 @@ PutIsLegal settings k items t tag pair bytes (FailedDir f) =
 PutIsLegal settings k items t tag pair bytes NoMem = Unit {0}
 PutIsLegal settings k items t tag pair bytes _ = ⊥
 
+-- WHAT A LANE KNOWS OF A PAIR'S HOME
+
+abbrev pub volume_named : Refused → ℕ
+volume_named (NoRoom v m end need) = v
+volume_named (Closed v m) = v
+
+-- a put or a delete of the pair that met its home, and prints no front of it
+abbrev pub MetHome : Settings → Known → List LaneItem → Known → LaneItem → Pair → ℕ → Type 0
+MetHome settings k items t item pair v = Met item.item item.reply
+  where
+    Refuses : List ℕ → List Refused → Type 0
+    Refuses bytes (refused ∷ []) = (volume_named refused ≡ v) × (TriesRefuse settings k items t pair bytes (refused ∷ []) → ⊥)
+    Refuses bytes _ = ⊥
+
+    MetAs : Command → Reply → Type 0
+    MetAs (command.Put pair' bytes) (Full refused) = (pair' ≡ pair) × Refuses bytes refused
+    MetAs (command.Put pair' bytes) (ReadOnly by) = (pair' ≡ pair) × Refuses bytes (map as_closed by)
+    MetAs (command.Put pair' bytes) (Failed v' m f) = (pair' ≡ pair) × (v' ≡ v)
+    MetAs (command.Del pair') (ReadOnly (by ∷ [])) = (pair' ≡ pair) × (by.volume ≡ v)
+    MetAs (command.Del pair') (Failed v' m f) = (pair' ≡ pair) × (v' ≡ v)
+    MetAs _ _ = ⊥
+
+    Met : Item → Reply → Type 0
+    Met (asks.Command command) reply = MetAs command reply
+    Met asks.Bad reply = ⊥
+
+-- a put of the pair that met no home of it, and prints no front
+abbrev pub MetNoHome : Settings → Known → List LaneItem → Known → LaneItem → Pair → Type 0
+MetNoHome settings k items t item pair = Met item.item item.reply
+  where
+    MetAs : Command → Reply → Type 0
+    MetAs (command.Put pair' bytes) (Full refused) = (pair' ≡ pair) × (HomeRefuses settings k items t pair bytes refused → ⊥)
+    MetAs (command.Put pair' bytes) (ReadOnly by) = (pair' ≡ pair) × (HomeRefuses settings k items t pair bytes (map as_closed by) → ⊥)
+    MetAs (command.Put pair' bytes) ReadOnlyDir = pair' ≡ pair
+    MetAs (command.Put pair' bytes) (FailedDir f) = pair' ≡ pair
+    MetAs _ _ = ⊥
+
+    Met : Item → Reply → Type 0
+    Met (asks.Command command) reply = MetAs command reply
+    Met asks.Bad reply = ⊥
+
+-- Two lines of a lane, in their order. A home that the first met stands at what the second prints, and none that the second
+-- missed stands at what the first prints.
+pub record HomesAgree (settings : Settings) (k : Known) (items : List LaneItem) (t : Known) (a b : LaneItem) : Type 0 where
+  pub kept : (pair : Pair) (v : ℕ) → MetHome settings k items t a pair v → Each (λ shown. HomeAt t pair shown.front (Some v)) (row_print b.reply)
+  pub missing : (pair : Pair) → MetNoHome settings k items t b pair → Each (λ shown. HomeAt t pair shown.front None) (row_print a.reply)
+  pub apart : (pair : Pair) (v : ℕ) → MetHome settings k items t a pair v → MetNoHome settings k items t b pair → ⊥
+
 -- FLUSHES AND COMPACTIONS
 
 -- a flush of the replica on m that failed
@@ -1013,6 +1061,7 @@ pub record LegalBlock (settings : Settings) (k : Known) (items : List LaneItem) 
   pub log : Each (LogIsLegal settings k items t) (volumes_of settings)
   pub homes : RowsAreLegal settings k items rows t
   pub fronts : FrontsAreLegal settings k items rows t
+  pub pairs : EachPair (λ a b. a.lane ≡ b.lane → HomesAgree settings k items t a b) items
   pub lines : Each (LineIsLegal settings k items t) items
   pub counts : CountsAreLegal settings k items t
   pub volumes : Each (VolumeIsLegal settings k items t) (volumes_of settings)

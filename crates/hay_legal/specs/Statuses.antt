@@ -91,9 +91,8 @@ abbrev pub StandsIn : (Settings → ℕ → ℕ → Contents → Found → Type 
 StandsIn replica rows void settings taken given image slot contents =
     IsImageOf image slot contents ⊎ IsVoidStill replica rows void settings taken given image slot contents ⊎ IsAsTaken taken given slot contents
 
--- The first opening of the disks that hold k was refused, or not begun. In every image of those given back what stands for each
--- disk is what k is: where it is the image, the next opening finds it, and where the disk is void still, a new store's disk or
--- damage. No fuse was set, no arm was used, and no count fell.
+-- The first opening of the disks that hold k was refused, or not begun. In every image of those given back the next one finds what
+-- k is, but in a disk that is void still a new store's disk, or damage. No fuse was set, no arm was used, and no count fell.
 pub record IsUnopened (replica : Settings → ℕ → ℕ → Contents → Found → Type 0) (rows : Settings → Contents → List HomeRow → Type 0) (void : Contents → Type 0) (settings : Settings) (k : Known) (taken given : Outside) : Type 0 where
   pub images : (image : ℕ → Contents) → ((slot : ℕ) → slot < disk_count settings → MayLeave (given.files slot) (image slot)) →
       (contents : ℕ → Contents) × ((slot : ℕ) → slot < disk_count settings → StandsIn replica rows void settings taken given image slot (contents slot))
