@@ -17,7 +17,7 @@ use Rattle.hay_legal.specs.declared.turn.Item.{Item}
 use Rattle.hay_legal.specs.declared.turn.Item.TheVariants as asks
 use Rattle.hay_legal.specs.declared.turn.LaneItem.{LaneItem}
 use Rattle.hay_legal.specs.Known.{EachPair, all_lanes, machine_of, replica_at, replica_on, volume_at}
-use Rattle.hay_legal.specs.Plain.{IsOn}
+use Rattle.hay_legal.specs.Plain.{Names}
 use Rattle.hay_legal.specs.Blocks.{GenerationsAreLegal, InOrder, Printed, froze_at_compact, generation_print, is_wanting, lane_items, made_on, printed, tag_of}
 use Rattle.hay_history.specs.Steps.{Did, Standing, Step}
 use Rattle.hay_history.proofs.Trying.{changed}
@@ -280,7 +280,7 @@ module _ {settings : Settings} {k : Known} {items : List LaneItem} {history : Hi
       (omega (arith, low, is), omega (arith, high, is))
 
   -- a compact of the replica that a reply names
-  of_replica : (P : ℕ → ℕ → Type 0) (u m v' m' i : ℕ) → replica_on settings u m ≡ Some i → IsOn u m v' m' → ((v' == v) && (m' == machine_of settings v j)) ≡ true → P u i → P v j
+  of_replica : (P : ℕ → ℕ → Type 0) (u m v' m' i : ℕ) → replica_on settings u m ≡ Some i → Names u m v' m' → ((v' == v) && (m' == machine_of settings v j)) ≡ true → P u i → P v j
   of_replica P u m v' m' i there on named holds =
       let both = both_true (v' == v) (m' == machine_of settings v j) named in
       let volume : u ≡ v = sym on.0 ∙ eqb-true v' v both.0 in

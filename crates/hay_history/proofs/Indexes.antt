@@ -16,7 +16,7 @@ use Rattle.hay_legal.specs.declared.turn.Item.{Item}
 use Rattle.hay_legal.specs.declared.turn.Item.TheVariants as asks
 use Rattle.hay_legal.specs.declared.turn.LaneItem.{LaneItem}
 use Rattle.hay_legal.specs.Known.{EachPair, machine_of, replica_at, replica_on, volume_at}
-use Rattle.hay_legal.specs.Plain.{IsOn, with_stuck}
+use Rattle.hay_legal.specs.Plain.{Names, with_stuck}
 use Rattle.hay_legal.specs.Blocks.{IndexIsLegal, MayPrecede, MetLoose, MetStuck, StandsBefore, SticksBy, SwappedWhere, froze_at_compact, is_wanting, made_on, sticks_on}
 use Rattle.hay_history.specs.Steps.{Did, Leads, Standing, Step}
 use Rattle.hay_history.specs.Steps.Did.{Flushes, Sticks}
@@ -358,7 +358,7 @@ module _ {settings : Settings} {k : Known} {items : List LaneItem} {history : Hi
     until : moment ≤ (h.to item.line).volumes v
     stuck : (stuck_at moment ≡ true) ⊎ ((by : ℕ) × (frozen_at moment ≡ Some by))
 
-  flush_there : (item : LaneItem) (u m : ℕ) (r : Reply) → IsOn v on u m → FlushDid (course_of h item) u m (replica_on settings u m) r
+  flush_there : (item : LaneItem) (u m : ℕ) (r : Reply) → Names v on u m → FlushDid (course_of h item) u m (replica_on settings u m) r
       → FlushDid (course_of h item) v on (Some j) r
   flush_there item u m r is did =
       subst (λ (o : Option ℕ). FlushDid (course_of h item) v on o r) (replica_there settings v j narrow below within)

@@ -38,7 +38,7 @@ use Rattle.hay_legal.specs.declared.turn.LaneItem.{LaneItem}
 use Rattle.hay_legal.specs.declared.turn.LogNote.{LogNote}
 use Rattle.hay_legal.specs.declared.turn.RowNote.{RowNote}
 use Rattle.hay_legal.specs.Known.{volume_at, replica_at, machine_of, slot_of, replica_on, home_at, home_of, all_tries, at_front, now, closed, fault_count, arm_count, CameUp, NoneFalls, EachPair, replicas_of, volumes_of, all_lanes}
-use Rattle.hay_legal.specs.Plain.{GetShows, IsFrozenBy, IsOn, IsOpen, as_closed, first_machine, wants_room, order_from, put_entry, start_of}
+use Rattle.hay_legal.specs.Plain.{GetShows, IsFrozenBy, Names, IsOpen, as_closed, first_machine, wants_room, order_from, put_entry, start_of}
 
 -- WHAT A REPLY TELLS
 
@@ -502,7 +502,7 @@ abbrev pub SticksBy : ℕ → ℕ → LaneItem → Type 0
 SticksBy v m item = Sticks item.item item.reply
   where
     SticksAs : Command → Reply → Type 0
-    SticksAs (command.Flush v' m') (Failed v'' m'' f) = IsOn v m v' m'
+    SticksAs (command.Flush v' m') (Failed v'' m'' f) = Names v m v' m'
     SticksAs _ _ = ⊥
 
     Sticks : Item → Reply → Type 0
@@ -523,7 +523,7 @@ IsLeftStuck k t v j = ((replica_at (volume_at t v) j).stuck ≡ true) ⊎ WasSwa
 
 abbrev pub MayBeStuck : Known → List LaneItem → ℕ → ℕ → ℕ → List ClosedBy → Type 0
 MayBeStuck k items v m j (by ∷ []) =
-    IsOn v m by.volume by.machine × IsOpen k v
+    Names v m by.volume by.machine × IsOpen k v
     × (((replica_at (volume_at k v) j).stuck ≡ true) ⊎ ((item : LaneItem) × Contains items item × SticksBy v m item))
 MayBeStuck k items v m j _ = ⊥
 
@@ -532,9 +532,9 @@ abbrev pub FlushIsLegal : Settings → Known → List LaneItem → Known → ℕ
 FlushIsLegal settings k items t v m None Nowhere = Unit {0}
 FlushIsLegal settings k items t v m None NoMem = Unit {0}
 FlushIsLegal settings k items t v m None _ = ⊥
-FlushIsLegal settings k items t v m (Some j) (Flushed v' m' n) = IsOn v m v' m' × MayFlush k t v j
+FlushIsLegal settings k items t v m (Some j) (Flushed v' m' n) = Names v m v' m' × MayFlush k t v j
 FlushIsLegal settings k items t v m (Some j) (ReadOnly by) = IsFrozenBy t v by ⊎ MayBeStuck k items v m j by
-FlushIsLegal settings k items t v m (Some j) (Failed v' m' f) = IsOn v m v' m' × MayFlush k t v j × IsLeftStuck k t v j
+FlushIsLegal settings k items t v m (Some j) (Failed v' m' f) = Names v m v' m' × MayFlush k t v j × IsLeftStuck k t v j
 FlushIsLegal settings k items t v m (Some j) NoMem = Unit {0}
 FlushIsLegal settings k items t v m (Some j) _ = ⊥
 
@@ -559,12 +559,12 @@ abbrev pub CompactIsLegal : Settings → Known → List LaneItem → Known → �
 CompactIsLegal settings k items t lane v m None Nowhere = Unit {0}
 CompactIsLegal settings k items t lane v m None NoMem = Unit {0}
 CompactIsLegal settings k items t lane v m None _ = ⊥
-CompactIsLegal settings k items t lane v m (Some j) (Compacted v' m' g) = IsOn v m v' m' × IsOpen k v
+CompactIsLegal settings k items t lane v m (Some j) (Compacted v' m' g) = Names v m v' m' × IsOpen k v
 CompactIsLegal settings k items t lane v m (Some j) (ReadOnly by) = IsFrozenBy t v by
-CompactIsLegal settings k items t lane v m (Some j) (Busy v' m' g) = IsOn v m v' m' × IsOpen k v × MayBeBusy k items t lane v m j g
+CompactIsLegal settings k items t lane v m (Some j) (Busy v' m' g) = Names v m v' m' × IsOpen k v × MayBeBusy k items t lane v m j g
 CompactIsLegal settings k items t lane v m (Some j) (Worn v' m') =
-    IsOn v m v' m' × IsOpen k v × ((replica_at (volume_at t v) j).generation ≡ 65535)
-CompactIsLegal settings k items t lane v m (Some j) (Failed v' m' f) = IsOn v m v' m' × IsOpen k v
+    Names v m v' m' × IsOpen k v × ((replica_at (volume_at t v) j).generation ≡ 65535)
+CompactIsLegal settings k items t lane v m (Some j) (Failed v' m' f) = Names v m v' m' × IsOpen k v
 CompactIsLegal settings k items t lane v m (Some j) NoMem = Unit {0}
 CompactIsLegal settings k items t lane v m (Some j) _ = ⊥
 
@@ -842,7 +842,7 @@ abbrev pub MetStuck : ℕ → ℕ → LaneItem → Type 0
 MetStuck v m item = SticksBy v m item ⊎ Met item.item item.reply
   where
     MetAs : Command → Reply → Type 0
-    MetAs (command.Flush v' m') (ReadOnly (by ∷ [])) = IsOn v m v' m' × IsOn v m by.volume by.machine
+    MetAs (command.Flush v' m') (ReadOnly (by ∷ [])) = Names v m v' m' × Names v m by.volume by.machine
     MetAs _ _ = ⊥
 
     Met : Item → Reply → Type 0
@@ -854,8 +854,8 @@ abbrev pub MetLoose : ℕ → ℕ → LaneItem → Type 0
 MetLoose v m item = Met item.item item.reply
   where
     MetAs : Command → Reply → Type 0
-    MetAs (command.Flush v' m') (Flushed v'' m'' n) = IsOn v m v' m'
-    MetAs (command.Flush v' m') (Failed v'' m'' f) = IsOn v m v' m'
+    MetAs (command.Flush v' m') (Flushed v'' m'' n) = Names v m v' m'
+    MetAs (command.Flush v' m') (Failed v'' m'' f) = Names v m v' m'
     MetAs _ _ = ⊥
 
     Met : Item → Reply → Type 0
@@ -912,14 +912,14 @@ Freezes settings k items t v m change item = FreezesBy item.item item.reply
     Deletes pair = (change ≡ Some (entry.Del pair)) × StoodThen settings t v (length (volume_at t v).log) pair
 
     FreezesAs : Command → Reply → Type 0
-    FreezesAs (command.Put pair bytes) (Failed v' m' f) = IsOn v m v' m' × (change ≡ Some (put_entry settings pair bytes))
+    FreezesAs (command.Put pair bytes) (Failed v' m' f) = Names v m v' m' × (change ≡ Some (put_entry settings pair bytes))
     FreezesAs (command.Put pair bytes) NoMem =
         Wants pair × MayHaveTaken settings k items t (length bytes) v × (change ≡ Some (put_entry settings pair bytes))
-    FreezesAs (command.Del pair) (Failed v' m' f) = IsOn v m v' m' × Deletes pair
+    FreezesAs (command.Del pair) (Failed v' m' f) = Names v m v' m' × Deletes pair
     FreezesAs (command.Del pair) NoMem = Wants pair × (closed settings k v ≡ None) × ((change ≡ None) ⊎ Deletes pair)
     FreezesAs (command.Read pair cookie) NoMem = Wants pair × (change ≡ None)
     FreezesAs (command.Get url) NoMem = Wants url.pair × (v ≡ url.volume) × (change ≡ None)
-    FreezesAs (command.Compact v' m') (Failed v'' m'' f) = IsOn v m v' m' × (change ≡ None)
+    FreezesAs (command.Compact v' m') (Failed v'' m'' f) = Names v m v' m' × (change ≡ None)
     FreezesAs (command.Compact v' m') NoMem =
         (v' ≡ v) × (m ≡ first_machine settings v) × HasReplica settings v m' × (change ≡ None)
     FreezesAs _ _ = ⊥
@@ -948,8 +948,9 @@ FreezeIsLegal settings k items t v None =
     ((volume_at t v).frozen ≡ (volume_at k v).frozen) × ((volume_at t v).pending ≡ (volume_at k v).pending)
 FreezeIsLegal settings k items t v (Some item) = WasFrozen settings k items t v item
 
--- A line that met the volume v frozen in the block: refused by a machine that had not closed the volume before, or, as a flush or
--- a compact, on a volume that was not frozen before, and no flush as one whose index was stuck.
+-- A line that met the volume v frozen in the block: a put or a delete that a machine refused which had not closed the volume
+-- before, or a compact or a flush that was refused where the volume was not frozen before, but for a flush whose index may have
+-- been stuck.
 abbrev pub MetFreeze : Settings → Known → List LaneItem → ℕ → LaneItem → Type 0
 MetFreeze settings k items v item = Met item.item item.reply
   where

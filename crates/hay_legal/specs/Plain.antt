@@ -347,15 +347,15 @@ LegalUrl settings k tag pair _ t = ⊥
 -- FLUSH AND COMPACTION
 
 -- a reply is about the volume and machine of its command
-abbrev pub IsOn : ℕ → ℕ → ℕ → ℕ → Type 0
-IsOn v m v' m' = (v' ≡ v) × (m' ≡ m)
+abbrev pub Names : ℕ → ℕ → ℕ → ℕ → Type 0
+Names v m v' m' = (v' ≡ v) × (m' ≡ m)
 
 abbrev pub IsFrozenBy : Known → ℕ → List ClosedBy → Type 0
 IsFrozenBy k v (by ∷ []) = (by.volume ≡ v) × ((volume_at k v).frozen ≡ Some by.machine)
 IsFrozenBy k v _ = ⊥
 
 abbrev pub IsStuckOn : Known → ℕ → ℕ → ℕ → List ClosedBy → Type 0
-IsStuckOn k v m j (by ∷ []) = IsOn v m by.volume by.machine × ((volume_at k v).frozen ≡ None) × ((replica_at (volume_at k v) j).stuck ≡ true)
+IsStuckOn k v m j (by ∷ []) = Names v m by.volume by.machine × ((volume_at k v).frozen ≡ None) × ((replica_at (volume_at k v) j).stuck ≡ true)
 IsStuckOn k v m j _ = ⊥
 
 abbrev pub replica_of : Known → ℕ → ℕ → ReplicaKnown
@@ -370,11 +370,11 @@ with_stuck replica = record replica { stuck = true }
 -- What a flush of replica j of v, which is on m, may be answered.
 abbrev pub LegalFlush : Settings → Known → ℕ → ℕ → ℕ → Reply → Known → Type 0
 LegalFlush settings k v m j (Flushed v' m' n) t =
-    IsOn v m v' m' × IsOpen k v × ((replica_of k v j).stuck ≡ false) × (n ≡ (replica_of k v j).bare)
+    Names v m v' m' × IsOpen k v × ((replica_of k v j).stuck ≡ false) × (n ≡ (replica_of k v j).bare)
     × Leaves k (change_replica k v j (with_bare 0)) t
 LegalFlush settings k v m j (ReadOnly by) t = (IsFrozenBy k v by ⊎ IsStuckOn k v m j by) × Leaves k k t
 LegalFlush settings k v m j (Failed v' m' f) t =
-    IsOn v m v' m' × IsOpen k v × ((replica_of k v j).stuck ≡ false) × RoseTo settings k v j f t
+    Names v m v' m' × IsOpen k v × ((replica_of k v j).stuck ≡ false) × RoseTo settings k v j f t
     × Leaves k (change_replica k v j with_stuck) t
 LegalFlush settings k v m j NoMem t = Leaves k k t
 LegalFlush settings k v m j _ t = ⊥
@@ -401,13 +401,13 @@ IsWorn k v j = ((replica_of k v j).run ≡ None) × ((replica_of k v j).generati
 
 abbrev pub LegalBegin : Settings → Known → ℕ → ℕ → ℕ → Reply → Known → Type 0
 LegalBegin settings k v m j (Begun v' m' g) t =
-    IsOn v m v' m' × IsOpen k v × IsAtRest k v j × (g ≡ (replica_of k v j).generation + 1)
+    Names v m v' m' × IsOpen k v × IsAtRest k v j × (g ≡ (replica_of k v j).generation + 1)
     × Leaves k (change_replica k v j (with_run (record { goal = g; left = (replica_of k v j).cells }))) t
 LegalBegin settings k v m j (ReadOnly by) t = IsFrozenBy k v by × Leaves k k t
-LegalBegin settings k v m j (Busy v' m' g) t = IsOn v m v' m' × IsOpen k v × IsBusy k v j g × Leaves k k t
-LegalBegin settings k v m j (Worn v' m') t = IsOn v m v' m' × IsOpen k v × IsWorn k v j × Leaves k k t
+LegalBegin settings k v m j (Busy v' m' g) t = Names v m v' m' × IsOpen k v × IsBusy k v j g × Leaves k k t
+LegalBegin settings k v m j (Worn v' m') t = Names v m v' m' × IsOpen k v × IsWorn k v j × Leaves k k t
 LegalBegin settings k v m j (Failed v' m' f) t =
-    IsOn v m v' m' × IsOpen k v × IsAtRest k v j × RoseTo settings k v j f t × Leaves k k t
+    Names v m v' m' × IsOpen k v × IsAtRest k v j × RoseTo settings k v j f t × Leaves k k t
 LegalBegin settings k v m j NoMem t = Leaves k k t
 LegalBegin settings k v m j _ t = ⊥
 
@@ -426,12 +426,12 @@ stepped n run = record run { left = run.left - n }
 
 abbrev pub LegalStep : Settings → Known → ℕ → ℕ → ℕ → ℕ → Reply → Known → Type 0
 LegalStep settings k v m j cells (Stepped v' m' n) t =
-    IsOn v m v' m' × IsOpen k v
+    Names v m v' m' × IsOpen k v
     × ((run : Run) × ((replica_of k v j).run ≡ Some run) × (n ≡ min cells run.left) × Leaves k (change_replica k v j (with_run (stepped n run))) t)
 LegalStep settings k v m j cells (ReadOnly by) t = IsFrozenBy k v by × Leaves k k t
-LegalStep settings k v m j cells (Idle v' m') t = IsOn v m v' m' × IsOpen k v × IsIdle k v j × Leaves k k t
+LegalStep settings k v m j cells (Idle v' m') t = Names v m v' m' × IsOpen k v × IsIdle k v j × Leaves k k t
 LegalStep settings k v m j cells (Failed v' m' f) t =
-    IsOn v m v' m' × IsOpen k v × HasRun k v j × RoseTo settings k v j f t × Leaves k (change_replica k v j without_run) t
+    Names v m v' m' × IsOpen k v × HasRun k v j × RoseTo settings k v j f t × Leaves k (change_replica k v j without_run) t
 LegalStep settings k v m j cells NoMem t =
     Leaves k k t
     ⊎ (IsOpen k v × (run : Run) × (n : ℕ) × ((replica_of k v j).run ≡ Some run) × (n ≤ min cells run.left) × Leaves k (change_replica k v j (with_run (stepped n run))) t)
@@ -472,22 +472,22 @@ SwapNoMem settings ready sizes k v j t =
 
 abbrev pub LegalFinish : Settings → Known → ℕ → ℕ → ℕ → Reply → Known → Type 0
 LegalFinish settings k v m j (Compacted v' m' g) t =
-    IsOn v m v' m' × IsOpen k v × MayFinish k v j × (g ≡ (replica_of k v j).generation + 1) × Swaps IsLoose as_it_is k v j t
+    Names v m v' m' × IsOpen k v × MayFinish k v j × (g ≡ (replica_of k v j).generation + 1) × Swaps IsLoose as_it_is k v j t
 LegalFinish settings k v m j (ReadOnly by) t = IsFrozenBy k v by × Leaves k k t
-LegalFinish settings k v m j (Idle v' m') t = IsOn v m v' m' × IsOpen k v × IsIdle k v j × Leaves k k t
+LegalFinish settings k v m j (Idle v' m') t = Names v m v' m' × IsOpen k v × IsIdle k v j × Leaves k k t
 LegalFinish settings k v m j (Failed v' m' f) t =
-    IsOn v m v' m' × IsOpen k v × HasRun k v j × RoseTo settings k v j f t × SwapFailed m k v j t
+    Names v m v' m' × IsOpen k v × HasRun k v j × RoseTo settings k v j f t × SwapFailed m k v j t
 LegalFinish settings k v m j NoMem t = SwapNoMem settings MayFinish IsLoose k v j t
 LegalFinish settings k v m j _ t = ⊥
 
 abbrev pub LegalCompact : Settings → Known → ℕ → ℕ → ℕ → Reply → Known → Type 0
 LegalCompact settings k v m j (Compacted v' m' g) t =
-    IsOn v m v' m' × IsOpen k v × IsAtRest k v j × (g ≡ (replica_of k v j).generation + 1) × Swaps IsTight as_it_is k v j t
+    Names v m v' m' × IsOpen k v × IsAtRest k v j × (g ≡ (replica_of k v j).generation + 1) × Swaps IsTight as_it_is k v j t
 LegalCompact settings k v m j (ReadOnly by) t = IsFrozenBy k v by × Leaves k k t
-LegalCompact settings k v m j (Busy v' m' g) t = IsOn v m v' m' × IsOpen k v × IsBusy k v j g × Leaves k k t
-LegalCompact settings k v m j (Worn v' m') t = IsOn v m v' m' × IsOpen k v × IsWorn k v j × Leaves k k t
+LegalCompact settings k v m j (Busy v' m' g) t = Names v m v' m' × IsOpen k v × IsBusy k v j g × Leaves k k t
+LegalCompact settings k v m j (Worn v' m') t = Names v m v' m' × IsOpen k v × IsWorn k v j × Leaves k k t
 LegalCompact settings k v m j (Failed v' m' f) t =
-    IsOn v m v' m' × IsOpen k v × IsAtRest k v j × RoseTo settings k v j f t × SwapFailed m k v j t
+    Names v m v' m' × IsOpen k v × IsAtRest k v j × RoseTo settings k v j f t × SwapFailed m k v j t
 LegalCompact settings k v m j NoMem t = SwapNoMem settings IsAtRest IsTight k v j t
 LegalCompact settings k v m j _ t = ⊥
 
@@ -516,7 +516,7 @@ abbrev pub IsFused : Known → ℕ → Known → Type 0
 IsFused k slot t = (n : ℕ) × IsNext (fuse_count k slot) n × Leaves k (with_fuses k slot n) t
 
 abbrev pub LegalFuse : Settings → Known → ℕ → ℕ → ℕ → ℕ → Reply → Known → Type 0
-LegalFuse settings k v m j n (Fused v' m' n') t = IsOn v m v' m' × (n' ≡ n) × IsFused k (slot_of settings v j) t
+LegalFuse settings k v m j n (Fused v' m' n') t = Names v m v' m' × (n' ≡ n) × IsFused k (slot_of settings v j) t
 LegalFuse settings k v m j n NoMem t = Leaves k k t
 LegalFuse settings k v m j n _ t = ⊥
 
