@@ -16,13 +16,13 @@ use Rattle.hay_legal.specs.declared.turn.Item.TheVariants as asks
 use Rattle.hay_legal.specs.declared.turn.LaneItem.{LaneItem}
 use Rattle.hay_legal.specs.Known.{machine_of, replica_at, replica_on, volume_at}
 use Rattle.hay_legal.specs.Plain.{IsFrozenBy, IsOpen, run_grown, with_stuck}
-use Rattle.hay_legal.specs.Blocks.{CompactIsLegal, FlushIsLegal, IsLeftStuck, MayBeBusy, MayBeStuck, MayFlush, MetOpen, RunsBeside, SticksBy}
+use Rattle.hay_legal.specs.Blocks.{CompactIsLegal, FlushIsLegal, IsLeftStuck, MayBeBusy, MayFlush, MetOpen, RunsBeside}
 use Rattle.std.proofs.lemmas.Option.{slice_get_cases}
 use Rattle.hay_history.specs.Steps.{Did, Leads, Standing, Step}
 use Rattle.hay_history.specs.Steps.Did.{Begins, Flushes, Sticks, Tries}
 use Rattle.hay_history.proofs.Trying.{tried_or_changed}
 use Rattle.hay_history.specs.Histories.{Course, History, IsMoment, OneStep, behind, changes, first_of, own, volume_then}
-use Rattle.hay_history.specs.Commands.{CameInLanes, CompactDid, CompactRefused, FlushDid, IsFrozen, IsStuck}
+use Rattle.hay_history.specs.Commands.{CameInLanes, CompactDid, CompactRefused, FlushDid, IsFrozen}
 use Rattle.hay_history.proofs.Histories.{along, behind_past, behind_step, leads_at}
 use Rattle.hay_history.proofs.Lines.{answered, course_of, one_leads, owner, stops}
 use Rattle.hay_history.proofs.OwnRuns.{ran_stood}
@@ -30,9 +30,9 @@ use Rattle.hay_history.proofs.Own.{EndsBy, InRun, IsCompact, MayDo, in_run, item
 use Rattle.hay_history.proofs.Placing.{machine_there, on_machine}
 use Rattle.hay_history.proofs.Changes.{Becomes, leads_becomes}
 use Rattle.hay_history.proofs.Lists.{each_in, none_in, pair_in}
-use Rattle.hay_history.proofs.Volumes.{frozen_on, generation_grows, left_stuck, loose_then, option_map_some, replicas_many, run_goal, stuck_then, thawed_before, volume_at_moment}
+use Rattle.hay_history.proofs.Volumes.{frozen_on, generation_grows, left_stuck, loose_then, option_map_some, replicas_many, run_goal, thawed_before, volume_at_moment}
 use Rattle.hay_history.proofs.ReplicaSteps.{change_same}
-use Rattle.hay_history.proofs.Meeting.{compact_open}
+use Rattle.hay_history.proofs.Meeting.{compact_open, is_stuck}
 
 -- WHAT A STEP DOES TO A RUN
 
@@ -83,7 +83,7 @@ turns settings v j tag did a b h = elim (leads_becomes settings v tag did a b h 
 
 -- WHAT STANDS AT EACH MOMENT
 
-at_or_past : {X : Type 0} (xs : List X) (n : ℕ) → ((x : X) × (slice_get xs n ≡ Some x)) ⊎ (length xs ≤ n)
+pub at_or_past : {X : Type 0} (xs : List X) (n : ℕ) → ((x : X) × (slice_get xs n ≡ Some x)) ⊎ (length xs ≤ n)
 at_or_past xs n = elim (slice_get_cases xs n).1 [ inl there ↦ inl (there.0, there.2) | inr past ↦ inr past.0 ]
 
 module _ {settings : Settings} {k : Known} {items : List LaneItem} {history : History} {t : Known} (h : CameInLanes settings k items history t)
@@ -374,30 +374,23 @@ module _ {settings : Settings} {k : Known} {items : List LaneItem} {history : Hi
   is_frozen v (by ∷ []) below did = (did.0, frozen_on h v (did.1).moment by.machine below (did.1).is)
   is_frozen v (by ∷ more ∷ rest) below did = absurd did
 
-  is_stuck : (v m j : ℕ) (by : List ClosedBy) → v < settings.volumes → machine_of settings v j ≡ m
-      → IsStuck (course_of h item) v m j by → MayBeStuck k items v m j by
-  is_stuck v m j [] below on did = absurd did
-  is_stuck v m j (by ∷ []) below on did = (
-    did.0,
-    thawed_before h v did.1.0 below did.1.2,
-    subst (λ (w : ℕ). ((replica_at (volume_at k v) j).stuck ≡ true) ⊎ ((item : LaneItem) × Contains items item × SticksBy v w item)) on
-        (stuck_then h v did.1.0 j below did.1.3),
-  )
-  is_stuck v m j (by ∷ more ∷ rest) below on did = absurd did
-
   may_flush : (v n j : ℕ) → v < settings.volumes → (volume_at_moment settings k history v n).frozen ≡ None
       → (replica_at (volume_at_moment settings k history v n) j).stuck ≡ false → MayFlush k t v j
   may_flush v n j below thawed loose = (thawed_before h v n below thawed, loose_then h v n j below loose)
+
+  -- behind a flush that failed the index is stuck
+  pub stuck_behind : (v j : ℕ) → v < settings.volumes → j < settings.replicas → Contains items item → (step : OneStep (course_of h item) v (Sticks j))
+      → (replica_at (volume_at_moment settings k history v (step.place + 1)) j).stuck ≡ true
+  stuck_behind v j below within among step =
+      ap (λ (volume : VolumeKnown). (replica_at volume j).stuck) (one_leads h item v (Sticks j) below among step).3
+      ∙ ap (λ (r : ReplicaKnown). r.stuck) (change_same (volume_at_moment settings k history v step.place) j j with_stuck refl
+      (subst (λ (many : ℕ). j < many) (sym (replicas_many h v step.place below)) within))
 
   flush_failed : (v j : ℕ) → v < settings.volumes → j < settings.replicas → Contains items item → OneStep (course_of h item) v (Sticks j)
       → MayFlush k t v j × IsLeftStuck k t v j
   flush_failed v j below within among step =
       let did = one_leads h item v (Sticks j) below among step in
-      let stuck : (replica_at (volume_at_moment settings k history v (step.place + 1)) j).stuck ≡ true =
-      ap (λ (volume : VolumeKnown). (replica_at volume j).stuck) did.3
-      ∙ ap (λ (r : ReplicaKnown). r.stuck) (change_same (volume_at_moment settings k history v step.place) j j with_stuck refl
-      (subst (λ (many : ℕ). j < many) (sym (replicas_many h v step.place below)) within)) in
-      (may_flush v step.place j below did.0 did.2, left_stuck h v (step.place + 1) j below stuck)
+      (may_flush v step.place j below did.0 did.2, left_stuck h v (step.place + 1) j below (stuck_behind v j below within among step))
 
   flush_on : (v m : ℕ) (on : Option ℕ) (r : Reply) → Contains items item → replica_on settings v m ≡ on → FlushDid (course_of h item) v m on r
       → FlushIsLegal settings k items t v m on r
@@ -407,7 +400,7 @@ module _ {settings : Settings} {k : Known} {items : List LaneItem} {history : Hi
       let there = on_machine settings v m j e in
       elim did.0 [
         | inl frozen ↦ inl (is_frozen v by there.0 frozen)
-        | inr stuck ↦ inr (is_stuck v m j by there.0 there.2 stuck)
+        | inr stuck ↦ inr (is_stuck h item v m j by there.0 there.2 stuck)
       ]
   flush_on v m (Some j) (reply.Flushed v' m' n) among e did =
       let there = on_machine settings v m j e in

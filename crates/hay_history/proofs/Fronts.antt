@@ -21,33 +21,34 @@ use Rattle.hay_legal.specs.declared.turn.Item.TheVariants as asks
 use Rattle.hay_legal.specs.declared.turn.LaneItem.{LaneItem}
 use Rattle.hay_legal.specs.Known.{EachPair, all_lanes, replica_on, volume_at, volumes_of}
 use Rattle.hay_legal.specs.Plain.{start_of}
-use Rattle.hay_legal.specs.Blocks.{Between, FrontsAreLegal, FrontsGrow, InOrder, Printed, lane_items, printed, row_print, tag_of, volume_print}
+use Rattle.hay_legal.specs.Blocks.{Between, FrontsAreLegal, FrontsGrow, InOrder, Printed, lane_items, printed, row_added, row_fronts, row_print, tag_of, volume_print}
 use Rattle.hay_legal.proofs.Subject.Effects.{each_append}
 use Rattle.hay_history.specs.Steps.{Did, Leads, Standing, Step}
 use Rattle.hay_history.specs.Steps.Did.{Entered}
 use Rattle.hay_history.proofs.Trying.{changed}
-use Rattle.hay_history.specs.Histories.{Course, History, IsLater, IsMoment, IsRowMoment, OneStep, SeesHome, own, rows_standing, standing, volume_then}
+use Rattle.hay_history.specs.Histories.{Course, History, IsLater, IsMoment, IsRowMoment, OneStep, SeesHome, own, row_note, rows_standing, standing, volume_then}
 use Rattle.hay_history.specs.Commands.{AnsweredBy, CameInLanes, CommandDid, CompactDid, DelDid, FlushDid, GetDid, ItemDid, PutDid, ShowDid, Showed, UrlDid}
 use Rattle.hay_history.proofs.Changes.{leads_extends}
 use Rattle.hay_history.proofs.Lists.{each_both, each_in, each_from, each_weaker, pair_append, pair_weaker, range_below}
 use Rattle.hay_history.proofs.Lines.{answered, course_of, own_leads}
 use Rattle.hay_history.proofs.Volumes.{log_at_last, log_kept, volume_at_moment}
+use Rattle.hay_history.proofs.OwnRows.{prints_behind, rows_between, rows_rise}
 use Rattle.hay_history.proofs.Rows.{rows_at_last, rows_grow, rows_moment}
 
 -- WHAT A REPLY PRINTS
 
 -- the length of a volume's log at a moment of the line, or one more than it was before the line's own entry
-abbrev Prints : Course → ℕ → Printed → Type 0
+abbrev pub Prints : Course → ℕ → Printed → Type 0
 Prints c v shown =
     ((moment : ℕ) × IsMoment c v moment × (shown ≡ printed (length (volume_then c v moment).log) false))
     ⊎ ((change : Entry) × (one : OneStep c v (Entered change)) × (shown ≡ printed (length (volume_then c v one.place).log + 1) true))
 
 -- the number of rows at a moment of the line
-abbrev PrintsRows : Course → Printed → Type 0
+abbrev pub PrintsRows : Course → Printed → Type 0
 PrintsRows c shown =
     (moment : ℕ) × IsRowMoment c moment × (shown ≡ printed (length ((rows_standing c moment).directory).rows) false)
 
-abbrev AllPrints : Course → ℕ → Reply → Type 0
+abbrev pub AllPrints : Course → ℕ → Reply → Type 0
 AllPrints c v reply = Each (Prints c v) (volume_print v reply) × Each (PrintsRows c) (row_print reply)
 
 print_of : (c : Course) (v v' : ℕ) (shown : Printed) → Prints c v' shown → Each (Prints c v) (cond (v' == v) (shown ∷ []) [])
@@ -129,7 +130,7 @@ command_prints c v (command.Flush u m) reply h = flush_prints c v u m (replica_o
 command_prints c v (command.Compact u m) reply h = compact_prints c v u m (replica_on c.settings u m) reply h
 command_prints c v _ reply h = absurd h
 
-item_prints : (c : Course) (v : ℕ) (item : Item) (reply : Reply) → ItemDid c item reply → AllPrints c v reply
+pub item_prints : (c : Course) (v : ℕ) (item : Item) (reply : Reply) → ItemDid c item reply → AllPrints c v reply
 item_prints c v (asks.Command asked) reply h = command_prints c v asked reply h
 item_prints c v asks.Bad reply h = subst (λ (r : Reply). AllPrints c v r) (sym h.0) (tt, tt)
 
@@ -163,7 +164,7 @@ row_prints_once _ = tt
 -- WHAT A LANE PRINTS
 
 -- between what stood when its line began and what stood when it ended
-abbrev Within : ℕ → ℕ → Printed → Type 0
+abbrev pub Within : ℕ → ℕ → Printed → Type 0
 Within low high shown = InOrder (printed low false) shown × (shown.front ≤ high)
 
 in_order_below : (a b : Printed) (n : ℕ) → a.front ≤ n → InOrder (printed n false) b → InOrder a b
@@ -183,11 +184,11 @@ in_order_front n b h = by b.front b.entered h
 
 module _ (show : LaneItem → List Printed) (low high : LaneItem → ℕ) where
   -- what a line prints stands between these two
-  record Shows (start finish : ℕ) (item : LaneItem) : Type 0 where
-    starts : start ≤ low item
-    stops : high item ≤ finish
-    within : Each (Within (low item) (high item)) (show item)
-    once : EachPair InOrder (show item)
+  pub record Shows (start finish : ℕ) (item : LaneItem) : Type 0 where
+    pub starts : start ≤ low item
+    pub stops : high item ≤ finish
+    pub within : Each (Within (low item) (high item)) (show item)
+    pub once : EachPair InOrder (show item)
 
   each_of_lane : (P : Printed → Type 0) (lane : ℕ) (items : List LaneItem) → Each (λ item. item.lane ≡ lane → Each P (show item)) items
       → Each P (flat_map show (lane_items items lane))
@@ -208,7 +209,7 @@ module _ (show : LaneItem → List Printed) (low high : LaneItem → ℕ) where
       (show item) h.within)
       items shows)
 
-  lane_in_order : (start finish lane : ℕ) (items : List LaneItem) → Each (Shows start finish) items
+  pub lane_in_order : (start finish lane : ℕ) (items : List LaneItem) → Each (Shows start finish) items
       → EachPair (λ a b. a.lane ≡ b.lane → high a ≤ low b) items → EachPair InOrder (flat_map show (lane_items items lane))
   lane_in_order start finish lane [] shows later = tt
   lane_in_order start finish lane (item ∷ items) shows later =
@@ -247,7 +248,7 @@ entered_longer : (settings : Settings) (v : ℕ) (tag : CoreTag) (change : Entry
 entered_longer settings v tag change a b h = ap length (leads_extends settings v tag (Entered change) a b h).log ∙ length_push (a.volume).log _
 
 -- an own step that is the only one, and its place between what the lane had seen before the line and behind it
-one_within : (c : Course) (item : LaneItem) (v : ℕ) (did : Did) (one : OneStep c v did) → AnsweredBy ItemDid c item
+pub one_within : (c : Course) (item : LaneItem) (v : ℕ) (did : Did) (one : OneStep c v did) → AnsweredBy ItemDid c item
     → ((c.from).volumes v ≤ one.place) × (one.place < (c.to).volumes v)
 one_within c item v did one h =
     each_in (λ (at : ℕ × Step). ((c.from).volumes v ≤ at.0) × (at.0 < (c.to).volumes v)) (own c v) (one.place, one.step) (h.steps v)
@@ -314,15 +315,18 @@ rows_to {settings} {k} {items} {history} h item = length ((rows_moment k history
 
 rows_show : {settings : Settings} {k : Known} {items : List LaneItem} {history : History} {t : Known} (h : CameInLanes settings k items history t)
     (item : LaneItem) → Contains items item
-    → Shows (λ item. row_print item.reply) (rows_from h) (rows_to h) (length k.directory.rows) (length t.directory.rows) item
-rows_show h item among = record {
+    → Shows (row_fronts (row_note k history)) (rows_from h) (rows_to h) (length k.directory.rows) (length t.directory.rows) item
+rows_show {k = k} {history = history} h item among = record {
   starts = (rows_at_last h (h.from item.line).rows).2;
   stops = (rows_at_last h (h.to item.line).rows).1;
-  within = each_weaker (PrintsRows (course_of h item)) (Within (rows_from h item) (rows_to h item))
+  within = each_append (Within (rows_from h item) (rows_to h item)) (row_added (row_note k history) item) (row_print item.reply)
+      (rows_between h item among (Within (rows_from h item) (rows_to h item)) (λ n low high. (low, high)))
+      (each_weaker (PrintsRows (course_of h item)) (Within (rows_from h item) (rows_to h item))
       (λ shown prints. subst (Within (rows_from h item) (rows_to h item)) (sym prints.2)
       (rows_grow h (h.from item.line).rows prints.0 prints.1.0, rows_grow h prints.0 (h.to item.line).rows prints.1.1))
-      (row_print item.reply) (item_prints (course_of h item) 0 item.item item.reply (answered h item among).did).1;
-  once = row_prints_once item.reply;
+      (row_print item.reply) (item_prints (course_of h item) 0 item.item item.reply (answered h item among).did).1);
+  once = pair_append InOrder (row_added (row_note k history) item) (row_print item.reply)
+      (rows_rise (length k.directory.rows) (row_note k history).rows item) (row_prints_once item.reply) (prints_behind h item among);
 }
 
 rows_later : {settings : Settings} {k : Known} {items : List LaneItem} {history : History} {t : Known} (h : CameInLanes settings k items history t)
@@ -333,13 +337,13 @@ rows_later {items = items} h =
     items h.«order»
 
 pub fronts_legal : {settings : Settings} {k : Known} {items : List LaneItem} {history : History} {t : Known} → CameInLanes settings k items history t
-    → FrontsAreLegal settings k items t
+    → FrontsAreLegal settings k items (row_note k history) t
 fronts_legal {settings} {k} {items} {history} {t} h = record {
   volumes = each_from _ all_lanes (λ lane in_lanes. each_from _ (volumes_of settings) (λ v in_volumes.
       let below = range_below settings.volumes v in_volumes in
       lane_goes_on (λ item. volume_print v item.reply) (log_from h v) (log_to h v) (length (volume_at k v).log) (length (volume_at t v).log) lane items
       (each_from _ items (volume_shows h v below)) (logs_later h v below)));
   directory = each_from _ all_lanes (λ lane in_lanes.
-      lane_goes_on (λ item. row_print item.reply) (rows_from h) (rows_to h) (length k.directory.rows) (length t.directory.rows) lane items
+      lane_goes_on (row_fronts (row_note k history)) (rows_from h) (rows_to h) (length k.directory.rows) (length t.directory.rows) lane items
       (each_from _ items (rows_show h)) (rows_later h));
 }

@@ -1,25 +1,34 @@
 -- The generations that a block made of a replica.
-use Rattle.std.proofs.Common.{◌≡◌, ◌≢◌, ◌⊎◌, inl, inr, ℕ, ◌<◌, ◌≤◌, ◌+◌, ◌==◌, ◌&&◌, Bool, true, false, cond, List, [], ◌∷◌, ◌++◌, length, slice_get, Contains, flat_map, Option, Some, refl, sym, ap, subst, ◌∙◌, arith, eq-eqb, eqb-true}
+use Rattle.std.proofs.Common.{◌≡◌, ◌≢◌, ◌⊎◌, inl, inr, ℕ, ◌<◌, ◌≤◌, ◌+◌, ◌-◌, ◌==◌, ◌&&◌, Bool, true, false, cond, List, [], ◌∷◌, ◌++◌, length, slice_get, Contains, flat_map, Option, Some, None, refl, sym, ap, subst, ◌∙◌, arith, eq-eqb, eqb-true}
 use Rattle.std.specs.List.{AllByRecursion as Each}
+use Rattle.std.proofs.lemmas.Bool.{cond_both}
 use Rattle.std.proofs.lemmas.List.Concat.{length-flat_map}
 use Rattle.std.proofs.lemmas.List.Elements.{Contains-append_right}
 use Rattle.std.proofs.lemmas.Option.{slice_get_within}
 use Rattle.hay_needle.specs.declared.settings.Settings.{Settings}
+use Rattle.hay_url.specs.declared.Url.{Url as UrlParts}
+use Rattle.hay_script.specs.declared.Command.TheVariants as command
 use Rattle.hay_reply.specs.declared.Reply.{Reply}
 use Rattle.hay_reply.specs.declared.Reply.TheVariants as reply
 use Rattle.hay_legal.specs.declared.known.Known.{Known}
 use Rattle.hay_legal.specs.declared.known.ReplicaKnown.{ReplicaKnown}
 use Rattle.hay_legal.specs.declared.known.VolumeKnown.{VolumeKnown}
+use Rattle.hay_legal.specs.declared.turn.Item.{Item}
+use Rattle.hay_legal.specs.declared.turn.Item.TheVariants as asks
 use Rattle.hay_legal.specs.declared.turn.LaneItem.{LaneItem}
-use Rattle.hay_legal.specs.Known.{EachPair, machine_of, replica_at, volume_at}
-use Rattle.hay_legal.specs.Blocks.{GenerationsAreLegal, froze_at_compact, is_wanting, made_on, tag_of}
+use Rattle.hay_legal.specs.Known.{EachPair, all_lanes, machine_of, replica_at, replica_on, volume_at}
+use Rattle.hay_legal.specs.Plain.{Names}
+use Rattle.hay_legal.specs.Blocks.{GenerationsAreLegal, InOrder, Printed, froze_at_compact, generation_print, is_wanting, lane_items, made_on, printed, tag_of}
 use Rattle.hay_history.specs.Steps.{Did, Standing, Step}
 use Rattle.hay_history.proofs.Trying.{changed}
-use Rattle.hay_history.specs.Histories.{Course, History, behind, first_of, own, standing}
-use Rattle.hay_history.specs.Commands.{CameInLanes}
-use Rattle.hay_history.proofs.Lists.{each_flat, each_from, each_in, in_rest, is_first, pair_by, pair_flat}
-use Rattle.hay_history.proofs.Lines.{answered, course_of, own_at, own_leads}
-use Rattle.hay_history.proofs.Volumes.{Persists, generation_grows, persists_on, replicas_many}
+use Rattle.hay_history.specs.Histories.{Course, History, IsLater, IsMoment, behind, first_of, own, standing}
+use Rattle.hay_history.specs.Commands.{CameInLanes, CompactDid, FlushDid, GetDid, ItemDid, MetBusy, MetWorn}
+use Rattle.hay_history.proofs.Lists.{each_flat, each_from, each_in, in_rest, is_first, pair_by, pair_flat, pair_weaker}
+use Rattle.hay_history.proofs.Fronts.{Within, lane_in_order}
+use Rattle.hay_history.proofs.Lines.{answered, course_of, own_at, own_leads, stops}
+use Rattle.hay_history.proofs.Own.{line_of}
+use Rattle.hay_history.proofs.Placing.{on_machine, same_machine}
+use Rattle.hay_history.proofs.Volumes.{Persists, generation_grows, persists_on, replicas_many, run_goal}
 use Rattle.hay_history.proofs.Changes.{leads_becomes}
 use Rattle.hay_history.proofs.Changes.Becomes.{Goes, Grows, IsFlushed, IsPoised, IsStuck, IsSwapped, Rests, Starts, Stays}
 use Rattle.hay_history.proofs.Weights.{along_weighed, weigh}
@@ -142,6 +151,38 @@ made_alone R v m line lane it (reply.Compacted v' m' g) = alone ((v' == v) && (m
     alone false = tt
 made_alone R v m line lane it _ = tt
 
+one_front : (b : Bool) (shown : Printed) → EachPair InOrder (cond b (shown ∷ []) [])
+one_front true shown = (tt, tt)
+one_front false shown = tt
+
+-- a line prints one front of the generations at most
+generation_once : (v m line lane : ℕ) (it : Item) (r : Reply) → EachPair InOrder (generation_print v m (line_of line lane it r))
+generation_once v m line lane it (reply.Compacted v' m' g) = one_front ((v' == v) && (m' == m)) (printed g true)
+generation_once v m line lane it (reply.Busy v' m' g) = one_front ((v' == v) && (m' == m)) (printed (g - 1) false)
+generation_once v m line lane it (reply.Worn v' m') = one_front ((v' == v) && (m' == m)) (printed 65535 false)
+generation_once v m line lane it _ = tt
+
+pub both_true : (a b : Bool) → (a && b) ≡ true → (a ≡ true) × (b ≡ true)
+both_true true b e = (refl, e)
+both_true false b e = let clash : false ≡ true = e in absurd cc
+
+-- only a compact is busy or worn
+busy_get : (c : Course) (url : UrlParts) (o : Option ℕ) (v m g : ℕ) → GetDid c url o (reply.Busy v m g) → ⊥
+busy_get c url None v m g did = did
+busy_get c url (Some start) v m g did = did.0
+
+busy_flush : (c : Course) (u w : ℕ) (o : Option ℕ) (v m g : ℕ) → FlushDid c u w o (reply.Busy v m g) → ⊥
+busy_flush c u w None v m g did = did
+busy_flush c u w (Some j) v m g did = did
+
+worn_get : (c : Course) (url : UrlParts) (o : Option ℕ) (v m : ℕ) → GetDid c url o (reply.Worn v m) → ⊥
+worn_get c url None v m did = did
+worn_get c url (Some start) v m did = did.0
+
+worn_flush : (c : Course) (u w : ℕ) (o : Option ℕ) (v m : ℕ) → FlushDid c u w o (reply.Worn v m) → ⊥
+worn_flush c u w None v m did = did
+worn_flush c u w (Some j) v m did = did
+
 module _ {settings : Settings} {k : Known} {items : List LaneItem} {history : History} {t : Known} (h : CameInLanes settings k items history t)
     (v j : ℕ) (below : v < settings.volumes) (within : j < settings.replicas) (narrow : settings.replicas ≤ settings.machines) where
   made_by : (item : LaneItem) → Contains items item → Each (MadeAt (course_of h item) v j) (made_on v (machine_of settings v j) item)
@@ -211,6 +252,105 @@ module _ {settings : Settings} {k : Known} {items : List LaneItem} {history : Hi
       (λ item among did. made_printed (course_of h item) v j item narrow within did))
       ∙ sym (length-flat_map (made_on v (machine_of settings v j)) items)
 
+  -- WHAT A LANE PRINTS OF GENERATIONS
+
+  -- the generation when a line began, and when it ended
+  abbrev number_from : LaneItem → ℕ
+  number_from item = generation_of (standing (course_of h item) v ((h.from item.line).volumes v)) j
+
+  abbrev number_to : LaneItem → ℕ
+  number_to item = generation_of (standing (course_of h item) v ((h.to item.line).volumes v)) j
+
+  made_within : (item : LaneItem) → Contains items item → (g : ℕ) → MadeAt (course_of h item) v j g → Within (number_from item) (number_to item) (printed g true)
+  made_within item among g made =
+      let bounds = each_in (λ (at : ℕ × Step). ((h.from item.line).volumes v ≤ at.0) × (at.0 < (h.to item.line).volumes v)) (own (course_of h item) v)
+      (made.place, made.step) ((answered h item among).steps v) made.own in
+      let until = bounds.1 in
+      let low = generation_grows h v ((h.from item.line).volumes v) made.place j below bounds.0 in
+      let high = generation_grows h v (made.place + 1) ((h.to item.line).volumes v) j below (omega (arith, until)) in
+      let number = made.number in
+      let behind_it = number_behind item among g made in
+      (omega (arith, low, number), omega (arith, high, behind_it))
+
+  seen_within : (item : LaneItem) (n g : ℕ) → IsMoment (course_of h item) v n → g ≡ generation_of (standing (course_of h item) v n) j
+      → Within (number_from item) (number_to item) (printed g false)
+  seen_within item n g seen is =
+      let low = generation_grows h v ((h.from item.line).volumes v) n j below seen.0 in
+      let high = generation_grows h v n ((h.to item.line).volumes v) j below seen.1 in
+      (omega (arith, low, is), omega (arith, high, is))
+
+  -- a compact of the replica that a reply names
+  of_replica : (P : ℕ → ℕ → Type 0) (u m v' m' i : ℕ) → replica_on settings u m ≡ Some i → Names u m v' m' → ((v' == v) && (m' == machine_of settings v j)) ≡ true → P u i → P v j
+  of_replica P u m v' m' i there on named holds =
+      let both = both_true (v' == v) (m' == machine_of settings v j) named in
+      let volume : u ≡ v = sym on.0 ∙ eqb-true v' v both.0 in
+      let machine : m ≡ machine_of settings v j = sym on.1 ∙ eqb-true m' (machine_of settings v j) both.1 in
+      let at = on_machine settings u m i there in
+      let replica : i ≡ j = same_machine settings narrow v i j at.1 within (ap (λ (w : ℕ). machine_of settings w i) (sym volume) ∙ at.2 ∙ machine) in
+      subst (P v) replica (subst (λ (w : ℕ). P w i) volume holds)
+
+  busy_met : (item : LaneItem) (it : Item) (v' m' g : ℕ) → ItemDid (course_of h item) it (reply.Busy v' m' g)
+      → ((v' == v) && (m' == machine_of settings v j)) ≡ true → MetBusy (course_of h item) v j g
+  busy_met item (asks.Command (command.Compact u m)) v' m' g did named = by (replica_on settings u m) refl did
+    where
+      by : (o : Option ℕ) → replica_on settings u m ≡ o → CompactDid (course_of h item) u m o (reply.Busy v' m' g) → MetBusy (course_of h item) v j g
+      by None there did = absurd did
+      by (Some i) there did = of_replica (λ w n. MetBusy (course_of h item) w n g) u m v' m' i there did.0 named did.2
+  busy_met item (asks.Command (command.Get url)) v' m' g did named = absurd (busy_get (course_of h item) url (replica_on settings url.volume url.machine) v' m' g did)
+  busy_met item (asks.Command (command.Flush u m)) v' m' g did named = absurd (busy_flush (course_of h item) u m (replica_on settings u m) v' m' g did)
+  busy_met item asks.Bad v' m' g did named = let clash : reply.Busy v' m' g ≡ reply.BadLine = did.0 in absurd cc
+  busy_met item it v' m' g did named = search
+
+  worn_met : (item : LaneItem) (it : Item) (v' m' : ℕ) → ItemDid (course_of h item) it (reply.Worn v' m')
+      → ((v' == v) && (m' == machine_of settings v j)) ≡ true → MetWorn (course_of h item) v j
+  worn_met item (asks.Command (command.Compact u m)) v' m' did named = by (replica_on settings u m) refl did
+    where
+      by : (o : Option ℕ) → replica_on settings u m ≡ o → CompactDid (course_of h item) u m o (reply.Worn v' m') → MetWorn (course_of h item) v j
+      by None there did = absurd did
+      by (Some i) there did = of_replica (λ w n. MetWorn (course_of h item) w n) u m v' m' i there did.0 named did.2
+  worn_met item (asks.Command (command.Get url)) v' m' did named = absurd (worn_get (course_of h item) url (replica_on settings url.volume url.machine) v' m' did)
+  worn_met item (asks.Command (command.Flush u m)) v' m' did named = absurd (worn_flush (course_of h item) u m (replica_on settings u m) v' m' did)
+  worn_met item asks.Bad v' m' did named = let clash : reply.Worn v' m' ≡ reply.BadLine = did.0 in absurd cc
+  worn_met item it v' m' did named = search
+
+  prints_within : (item : LaneItem) → Contains items item → Each (Within (number_from item) (number_to item)) (generation_print v (machine_of settings v j) item)
+  prints_within item among = by item.reply (answered h item among).did (made_by item among)
+    where
+      made : (b : Bool) (g : ℕ) → Each (MadeAt (course_of h item) v j) (cond b (g ∷ []) []) → Each (Within (number_from item) (number_to item)) (cond b (printed g true ∷ []) [])
+      made true g each = (made_within item among g each.0, tt)
+      made false g each = tt
+
+      by : (r : Reply) → ItemDid (course_of h item) item.item r
+          → Each (MadeAt (course_of h item) v j) (made_on v (machine_of settings v j) (line_of item.line item.lane item.item r))
+          → Each (Within (number_from item) (number_to item)) (generation_print v (machine_of settings v j) (line_of item.line item.lane item.item r))
+      by (reply.Compacted v' m' g) did each = made ((v' == v) && (m' == machine_of settings v j)) g each
+      by (reply.Busy v' m' g) did each =
+          cond_both ((v' == v) && (m' == machine_of settings v j)) (printed (g - 1) false ∷ []) [] (Each (Within (number_from item) (number_to item)))
+          (λ named.
+          let met = busy_met item item.item v' m' g did named in
+          let run = met.3 in
+          let goal : (run.0).goal ≡ g = run.2 in
+          let next = run_goal h v met.0 j below within run.0 run.1 in
+          (seen_within item met.0 (g - 1) met.1 (omega (arith, goal, next)), tt)) (λ other. tt)
+      by (reply.Worn v' m') did each =
+          cond_both ((v' == v) && (m' == machine_of settings v j)) (printed 65535 false ∷ []) [] (Each (Within (number_from item) (number_to item)))
+          (λ named. let met = worn_met item item.item v' m' did named in (seen_within item met.0 65535 met.1 (sym met.4), tt)) (λ other. tt)
+      by _ did each = tt
+
+  prints_rise : Each (λ lane. EachPair InOrder (flat_map (generation_print v (machine_of settings v j)) (lane_items items lane))) all_lanes
+  prints_rise = each_from _ all_lanes (λ lane in_lanes.
+      lane_in_order (generation_print v (machine_of settings v j)) number_from number_to
+      (generation_of (first_of settings k v) j) (generation_of (last_of settings k history v) j) lane items
+      (each_from _ items (λ item among. record {
+        starts = generation_grows h v 0 ((h.from item.line).volumes v) j below (omega arith);
+        stops = generation_grows h v ((h.to item.line).volumes v) (length (history.volumes v)) j below ((stops h item among).volumes v);
+        within = prints_within item among;
+        once = generation_once v (machine_of settings v j) item.line item.lane item.item item.reply;
+      }))
+      (pair_weaker (λ a b. a.lane ≡ b.lane → IsLater (h.to a.line) (h.from b.line)) (λ a b. a.lane ≡ b.lane → number_to a ≤ number_from b)
+      (λ a b later same. generation_grows h v ((h.to a.line).volumes v) ((h.from b.line).volumes v) j below ((later same).volumes v))
+      items h.«order»))
+
   pub generations_legal : (froze : Option LaneItem)
       → weigh (hidden_at j) (first_of settings k v) (history.volumes v) ≡ cond (froze_at_compact v (machine_of settings v j) is_wanting froze) 1 0
       → GenerationsAreLegal settings items v j froze (replica_at (volume_at k v) j) (replica_at (volume_at t v) j)
@@ -224,6 +364,7 @@ module _ {settings : Settings} {k : Known} {items : List LaneItem} {history : Hi
       | inl same ↦ absurd (omega (arith, grew, same))
       | inr least ↦ least
     ];
+    rising = prints_rise;
     all = omega (arith, number, (grown h v j below within).generation, swaps_split j (first_of settings k v) (history.volumes v), number_made, hidden);
   }
     where

@@ -8,11 +8,14 @@ pub mod OwnRuns
 pub mod Volumes
 pub mod Rows
 pub mod Takers
+pub mod OwnRows
 pub mod Homes
 pub mod Fronts
 pub mod ReadLines
 pub mod PutLines
+pub mod HomesSeen
 pub mod Meeting
+pub mod Settled
 pub mod CompactLines
 pub mod Answers
 pub mod Weights
@@ -23,6 +26,7 @@ pub mod Sizes
 pub mod Printed
 pub mod Generations
 pub mod Flags
+pub mod Indexes
 pub mod Runs
 pub mod Replicas
 pub mod Entering

@@ -1,5 +1,5 @@
 -- What a line saw of a volume that it met closed or open: a lane that met a freeze of the block meets it from then on.
-use Rattle.std.proofs.Common.{◌≡◌, inl, inr, ℕ, ◌<◌, ◌≤◌, ◌+◌, true, false, List, [], ◌∷◌, length, map, Contains, Option, Some, None, refl, sym, ap, subst, ◌∙◌, arith}
+use Rattle.std.proofs.Common.{◌≡◌, ◌≢◌, ◌⊎◌, inl, inr, ℕ, ◌<◌, ◌≤◌, ◌+◌, true, false, List, [], ◌∷◌, length, map, Contains, Option, Some, None, refl, sym, ap, subst, ◌∙◌, arith}
 use Rattle.std.specs.Prelude.{find}
 use Rattle.std.specs.List.{AllZip, enumerate_from}
 use Rattle.std.proofs.lemmas.Option.{none-some}
@@ -19,21 +19,21 @@ use Rattle.hay_legal.specs.declared.known.Known.{Known}
 use Rattle.hay_legal.specs.declared.turn.Item.{Item}
 use Rattle.hay_legal.specs.declared.turn.Item.TheVariants as asks
 use Rattle.hay_legal.specs.declared.turn.LaneItem.{LaneItem}
-use Rattle.hay_legal.specs.Known.{EachPair, all_tries, closed, closed_by, drained_of, lacks_room, machine_of, refusal_by, replica_on, room_refusal_of, volume_at}
+use Rattle.hay_legal.specs.Known.{EachPair, all_tries, closed, closed_by, drained_of, lacks_room, machine_of, refusal_by, replica_at, replica_on, room_refusal_of, volume_at}
 use Rattle.hay_needle.specs.Sizes.{needle_total}
 use Rattle.hay_legal.specs.declared.known.ReplicaKnown.{ReplicaKnown}
 use Rattle.hay_legal.specs.Plain.{as_closed, put_entry, start_of}
-use Rattle.hay_legal.specs.Blocks.{MetClosed, MetFrozen, MetOpen, MetThawed, tag_of}
+use Rattle.hay_legal.specs.Blocks.{MayBeStuck, MetFreeze, MetFrozen, MetOpen, MetThawed, RefusedAsStuck, SticksBy, tag_of, volume_named}
 use Rattle.hay_history.specs.Steps.{Did, IsThawed, Leads, Standing, Step}
 use Rattle.hay_history.specs.Steps.Did.{Ends, Entered, Flushes, Pends, Poises, Sticks, Swaps}
-use Rattle.hay_history.specs.Histories.{Course, History, IsLater, IsMoment, OneStep, OneTry, SeesRefusal, closing_then, own, refusal_then, standing, volume_then}
-use Rattle.hay_history.specs.Commands.{CameInLanes, CommandDid, CompactDid, CompactFailed, CompactRefused, DelDid, FlushDid, GetDid, HomeIsClosed, HomeRefuses, ItemDid, PutDid, PutRefused, RanAs, ShowDid, UrlDid}
+use Rattle.hay_history.specs.Histories.{Course, History, IsLater, IsMoment, OneStep, OneTry, SeesFrozen, SeesRefusal, closing_then, own, refusal_then, standing, volume_then}
+use Rattle.hay_history.specs.Commands.{CameInLanes, CommandDid, CompactDid, CompactFailed, CompactRefused, DelDid, FlushDid, GetDid, HomeIsClosed, HomeRefuses, IsFrozen, IsStuck, ItemDid, PutDid, PutRefused, RanAs, ShowDid, UrlDid}
 use Rattle.hay_history.proofs.Trying.{one_own}
-use Rattle.hay_history.proofs.Lists.{each_in, first_or_rest, in_rest, is_first, none_in, one_in, pair_by}
+use Rattle.hay_history.proofs.Lists.{each_in, first_or_rest, none_in, one_in, pair_by}
 use Rattle.hay_history.proofs.Lines.{answered, course_of, one_leads, own_leads}
 use Rattle.hay_history.proofs.Placing.{on_machine}
 use Rattle.hay_history.proofs.Laying.{last_step}
-use Rattle.hay_history.proofs.Volumes.{frozen_stays, option_map_some}
+use Rattle.hay_history.proofs.Volumes.{frozen_on, frozen_stays, option_map_some, stuck_then, thawed_before}
 use Rattle.hay_history.proofs.Own.{line_of}
 
 -- the line saw the volume frozen by then, or thawed from then on
@@ -59,17 +59,13 @@ frozen_of : (frozen drained : Option ℕ) (m : ℕ) → closed_by frozen drained
 frozen_of None drained m e none = absurd (none-some m (sym none ∙ e))
 frozen_of (Some by) drained m e none = e
 
-abbrev volume_named : Refused → ℕ
-volume_named (Closed v m) = v
-volume_named (NoRoom v m end need) = v
-
 abbrev machine_named : Refused → ℕ
 machine_named (Closed v m) = m
 machine_named (NoRoom v m end need) = m
 
 module _ (c : Course) where
   -- a refusal is of the volume that it names: as closed, or for room where the volume was open
-  refused_closed : (size u v m n : ℕ) → refusal_then c u n size ≡ Some (Closed v m) → (u ≡ v) × (closing_then c u n ≡ Some m)
+  pub refused_closed : (size u v m n : ℕ) → refusal_then c u n size ≡ Some (Closed v m) → (u ≡ v) × (closing_then c u n ≡ Some m)
   refused_closed size u v m n e = by (closing_then c u n) refl e
     where
       by : (closing : Option ℕ) → closing_then c u n ≡ closing → refusal_by u closing (room_refusal_of c.settings u (volume_then c u n) size) ≡ Some (Closed v m)
@@ -83,7 +79,7 @@ module _ (c : Course) where
           let clash : NoRoom u (machine_of c.settings u (lack.0).0) ((lack.0).1).end (needle_total size) ≡ Closed v m = lack.2 in
           absurd cc
 
-  refused_room : (size u v m end need n : ℕ) → refusal_then c u n size ≡ Some (NoRoom v m end need) → (u ≡ v) × (closing_then c u n ≡ None)
+  pub refused_room : (size u v m end need n : ℕ) → refusal_then c u n size ≡ Some (NoRoom v m end need) → (u ≡ v) × (closing_then c u n ≡ None)
   refused_room size u v m end need n e = by (closing_then c u n) refl e
     where
       by : (closing : Option ℕ) → closing_then c u n ≡ closing → refusal_by u closing (room_refusal_of c.settings u (volume_then c u n) size) ≡ Some (NoRoom v m end need)
@@ -93,17 +89,6 @@ module _ (c : Course) where
           let lack = option_map_some (λ (at : ℕ × ReplicaKnown). NoRoom u (machine_of c.settings u at.0) (at.1).end (needle_total size))
           (find (λ at. lacks_room c.settings size at.1) (enumerate_from 0 (volume_then c u n).replicas)) (NoRoom v m end need) same in
           (ap volume_named lack.2, is)
-
-  -- what a line met closed that was open before the block it saw frozen
-  closing_frozen : (v n m : ℕ) → IsMoment c v n → closed c.settings c.k v ≡ None → closing_then c v n ≡ Some m → SawFrozen c v
-  closing_frozen v n m seen opened closing =
-      (n, m, seen.1, frozen_of (volume_then c v n).frozen (drained_of c.settings c.k v) m closing (thawed_of (volume_at c.k v).frozen (drained_of c.settings c.k v) opened).1)
-
-  refusal_frozen : (size u v m : ℕ) → closed c.settings c.k v ≡ None → SeesRefusal c size u (Closed v m) → SawFrozen c v
-  refusal_frozen size u v m opened sees =
-      let is = refused_closed size u v m sees.moment sees.is in
-      closing_frozen v sees.moment m (subst (λ (w : ℕ). IsMoment c w sees.moment) is.0 sees.seen) opened
-      (subst (λ (w : ℕ). closing_then c w sees.moment ≡ Some m) is.0 is.1)
 
   -- a refusal that a reply names is one that the line saw
   try_seen : (size : ℕ) (named : Refused) (xs : List ℕ) (refused : List Refused) → AllZip (SeesRefusal c size) xs refused → Contains refused named
@@ -129,38 +114,20 @@ module _ (c : Course) where
     | inr home ↦ home_seen pair size named refused home at
   ]
 
-  put_frozen : (pair : Pair) (size v m : ℕ) (refused : List Refused) → closed c.settings c.k v ≡ None → PutRefused c pair size refused
-      → Contains refused (Closed v m) → SawFrozen c v
-  put_frozen pair size v m refused opened did at =
-      let sees = refusal_seen pair size (Closed v m) refused did at in
-      refusal_frozen size sees.0 v m opened sees.1
-
-  as_named : (tries : List ClosedBy) (by : ClosedBy) → Contains tries by → Contains (map as_closed tries) (as_closed by)
-  as_named [] by at = absurd (none_in by at)
-  as_named (x ∷ tries) by at = elim (first_or_rest x tries by at) [
-    | inl same ↦ subst (λ (y : ClosedBy). Contains (map as_closed (x ∷ tries)) (as_closed y)) same (is_first (as_closed x) (map as_closed tries))
-    | inr rest ↦ in_rest (as_closed x) (map as_closed tries) (as_closed by) (as_named tries by rest)
-  ]
-
   -- one closed volume that a reply names
   the_closed : (v : ℕ) (by named : ClosedBy) → Contains (by ∷ []) named → named.volume ≡ v → by.volume ≡ v
   the_closed v by named at is = ap (λ (x : ClosedBy). x.volume) (one_in by named at) ∙ is
 
-  home_closed_frozen : (pair : Pair) (v : ℕ) (tries : List ClosedBy) → closed c.settings c.k v ≡ None → HomeIsClosed c pair tries
-      → (by : ClosedBy) × Contains tries by × (by.volume ≡ v) → SawFrozen c v
-  home_closed_frozen pair v [] opened did names = absurd did
-  home_closed_frozen pair v (by ∷ []) opened did names =
-      let is : by.volume ≡ v = the_closed v by names.0 names.1 names.2 in
-      closing_frozen v (did.1).moment by.machine (subst (λ (w : ℕ). IsMoment c w (did.1).moment) is (did.1).seen) opened
-      (subst (λ (w : ℕ). closing_then c w (did.1).moment ≡ Some by.machine) is (did.1).is)
-  home_closed_frozen pair v (by ∷ next ∷ rest) opened did names = absurd did
+  -- a volume that a lone machine had frozen
+  pub met_frozen_by : (u v : ℕ) (tries : List ClosedBy) → IsFrozen c u tries → (by : ClosedBy) × Contains tries by × (by.volume ≡ v) → SawFrozen c v
+  met_frozen_by u v [] frozen names = absurd frozen
+  met_frozen_by u v (by ∷ []) frozen names =
+      let is : u ≡ v = sym frozen.0 ∙ the_closed v by names.0 names.1 names.2 in
+      subst (SawFrozen c) is ((frozen.1).moment, by.machine, ((frozen.1).seen).1, (frozen.1).is)
+  met_frozen_by u v (by ∷ next ∷ rest) frozen names = absurd frozen
 
   compact_frozen : (u v j : ℕ) (tries : List ClosedBy) → CompactRefused c u j tries → (by : ClosedBy) × Contains tries by × (by.volume ≡ v) → SawFrozen c v
-  compact_frozen u v j [] (inl frozen) names = absurd frozen.0
-  compact_frozen u v j (by ∷ []) (inl frozen) names =
-      let is : u ≡ v = sym (frozen.0).0 ∙ the_closed v by names.0 names.1 names.2 in
-      subst (SawFrozen c) is (((frozen.0).1).moment, by.machine, (((frozen.0).1).seen).1, ((frozen.0).1).is)
-  compact_frozen u v j (by ∷ next ∷ rest) (inl frozen) names = absurd frozen.0
+  compact_frozen u v j tries (inl frozen) names = met_frozen_by u v tries frozen.0 names
   compact_frozen u v j [] (inr ran) names = absurd ran
   compact_frozen u v j (by ∷ []) (inr ran) names =
       let is : u ≡ v = sym ran.0 ∙ the_closed v by names.0 names.1 names.2 in
@@ -172,19 +139,100 @@ module _ (c : Course) where
   compact_on_frozen u m v None tries did names = absurd did
   compact_on_frozen u m v (Some j) tries did names = compact_frozen u v j tries did names
 
-  met_as : (line lane v : ℕ) (request : Command) (r : Reply) → closed c.settings c.k v ≡ None → CommandDid c request r
-      → MetClosed v (line_of line lane (asks.Command request) r) → SawFrozen c v
-  met_as line lane v (command.Put pair bytes) (reply.Full refused) opened did met = put_frozen pair (length bytes) v met.0 refused opened did.0 met.1
-  met_as line lane v (command.Put pair bytes) (reply.ReadOnly tries) opened did met =
-      put_frozen pair (length bytes) v (met.0).machine (map as_closed tries) opened did
-      (subst (λ (w : ℕ). Contains (map as_closed tries) (Closed w (met.0).machine)) met.2 (as_named tries met.0 met.1))
-  met_as line lane v (command.Del pair) (reply.ReadOnly tries) opened did met = home_closed_frozen pair v tries opened did.0 met
-  met_as line lane v (command.Compact u m) (reply.ReadOnly tries) opened did met = compact_on_frozen u m v (replica_on c.settings u m) tries did met
-  met_as line lane v request r opened did met = absurd met
+-- VOLUMES THAT WERE FROZEN IN THE BLOCK
 
-  pub met_frozen : (line lane v : ℕ) (item : Item) (r : Reply) → closed c.settings c.k v ≡ None → ItemDid c item r → MetClosed v (line_of line lane item r) → SawFrozen c v
-  met_frozen line lane v (asks.Command request) r opened did met = met_as line lane v request r opened did met
-  met_frozen line lane v asks.Bad r opened did met = absurd met
+module _ {settings : Settings} {k : Known} {items : List LaneItem} {history : History} {t : Known} (h : CameInLanes settings k items history t) (item : LaneItem) where
+  -- an index that a line met stuck may be so
+  pub is_stuck : (v m j : ℕ) (by : List ClosedBy) → v < settings.volumes → machine_of settings v j ≡ m
+      → IsStuck (course_of h item) v m j by → MayBeStuck k items v m j by
+  is_stuck v m j [] below on did = absurd did
+  is_stuck v m j (by ∷ []) below on did = (
+    did.0,
+    thawed_before h v did.1.0 below did.1.2,
+    subst (λ (w : ℕ). ((replica_at (volume_at k v) j).stuck ≡ true) ⊎ ((item : LaneItem) × Contains items item × SticksBy v w item)) on
+        (stuck_then h v did.1.0 j below did.1.3),
+  )
+  is_stuck v m j (by ∷ more ∷ rest) below on did = absurd did
+
+  -- a volume that a machine closed then, and not before the block, was frozen then
+  closing_frozen : (v n m : ℕ) → v < settings.volumes → IsMoment (course_of h item) v n → closed settings k v ≢ Some m
+      → closing_then (course_of h item) v n ≡ Some m → SawFrozen (course_of h item) v
+  closing_frozen v n m below seen new closing = by (volume_then (course_of h item) v n).frozen refl closing
+    where
+      by : (o : Option ℕ) → (volume_then (course_of h item) v n).frozen ≡ o → closed_by o (drained_of settings k v) ≡ Some m → SawFrozen (course_of h item) v
+      by (Some u) is closing = (n, u, seen.1, is)
+      by None is closing = absurd (new (ap (λ (o : Option ℕ). closed_by o (drained_of settings k v)) (thawed_before h v n below is) ∙ closing))
+
+  -- a put that a freeze of the block refused
+  put_frozen : (pair : Pair) (size v m : ℕ) (refused : List Refused) → v < settings.volumes → PutRefused (course_of h item) pair size refused
+      → Contains refused (Closed v m) → closed settings k v ≢ Some m → SawFrozen (course_of h item) v
+  put_frozen pair size v m refused below did at new =
+      let c = course_of h item in
+      let sees = refusal_seen c pair size (Closed v m) refused did at in
+      let is = refused_closed c size sees.0 v m (sees.1).moment (sees.1).is in
+      closing_frozen v (sees.1).moment m below (subst (λ (w : ℕ). IsMoment c w (sees.1).moment) is.0 (sees.1).seen) new
+      (subst (λ (w : ℕ). closing_then c w (sees.1).moment ≡ Some m) is.0 is.1)
+
+  home_frozen : (pair : Pair) (v m : ℕ) (tries : List ClosedBy) → v < settings.volumes → HomeIsClosed (course_of h item) pair tries
+      → Contains (map as_closed tries) (Closed v m) → closed settings k v ≢ Some m → SawFrozen (course_of h item) v
+  home_frozen pair v m [] below did at new = absurd did
+  home_frozen pair v m (by ∷ []) below did at new =
+      let c = course_of h item in
+      let same : as_closed by ≡ Closed v m = one_in (as_closed by) (Closed v m) at in
+      let volume : by.volume ≡ v = ap volume_named same in
+      let machine : by.machine ≡ m = ap machine_named same in
+      closing_frozen v (did.1).moment m below (subst (λ (w : ℕ). IsMoment c w (did.1).moment) volume (did.1).seen) new
+      (subst (λ (w : ℕ). closing_then c w (did.1).moment ≡ Some m) volume ((did.1).is ∙ ap Some machine))
+  home_frozen pair v m (by ∷ more ∷ rest) below did at new = absurd did
+
+  -- a flush that was refused, but not as one of a stuck index
+  flush_frozen : (u m v : ℕ) (o : Option ℕ) (tries : List ClosedBy) → replica_on settings u m ≡ o → FlushDid (course_of h item) u m o (reply.ReadOnly tries)
+      → (by : ClosedBy) × Contains tries by × (by.volume ≡ v) → ((j : ℕ) → o ≡ Some j → MayBeStuck k items u m j tries → ⊥)
+      → SawFrozen (course_of h item) v
+  flush_frozen u m v None tries there did names never = absurd did
+  flush_frozen u m v (Some j) tries there did names never = elim did.0 [
+    | inl frozen ↦ met_frozen_by (course_of h item) u v tries frozen names
+    | inr stuck ↦
+        let on = on_machine settings u m j there in
+        absurd (never j refl (is_stuck u m j tries on.0 on.2 stuck))
+  ]
+
+  freeze_as : (line lane v : ℕ) (request : Command) (r : Reply) → v < settings.volumes → CommandDid (course_of h item) request r
+      → MetFreeze settings k items v (line_of line lane (asks.Command request) r) → SawFrozen (course_of h item) v
+  freeze_as line lane v (command.Put pair bytes) (reply.Full refused) below did met = put_frozen pair (length bytes) v met.0 refused below did.0 met.1 met.2
+  freeze_as line lane v (command.Put pair bytes) (reply.ReadOnly tries) below did met =
+      put_frozen pair (length bytes) v met.0 (map as_closed tries) below did met.1 met.2
+  freeze_as line lane v (command.Del pair) (reply.ReadOnly tries) below did met = home_frozen pair v met.0 tries below did.0 met.1 met.2
+  freeze_as line lane v (command.Compact u m) (reply.ReadOnly tries) below did met =
+      compact_on_frozen (course_of h item) u m v (replica_on settings u m) tries did met.1
+  freeze_as line lane v (command.Flush u m) (reply.ReadOnly tries) below did met =
+      flush_frozen u m v (replica_on settings u m) tries refl did (met.0).1 met.1
+  freeze_as line lane v request r below did met = absurd met
+
+  -- a line that met a freeze of the block saw it
+  pub met_freeze : (line lane v : ℕ) (asked : Item) (r : Reply) → v < settings.volumes → ItemDid (course_of h item) asked r
+      → MetFreeze settings k items v (line_of line lane asked r) → SawFrozen (course_of h item) v
+  met_freeze line lane v (asks.Command request) r below did met = freeze_as line lane v request r below did met
+  met_freeze line lane v asks.Bad r below did met = absurd met
+
+  -- a flush that no freeze refused met its volume thawed
+  stuck_thawed : (u m v : ℕ) (o : Option ℕ) (by : ClosedBy) → v < settings.volumes → FlushDid (course_of h item) u m o (reply.ReadOnly (by ∷ []))
+      → by.volume ≡ v → (volume_at t v).frozen ≢ Some by.machine → SawThawed (course_of h item) v
+  stuck_thawed u m v None by below did is other = absurd did
+  stuck_thawed u m v (Some j) by below did is other = elim did.0 [
+    | inl frozen ↦
+        let sees = subst (λ (w : ℕ). SeesFrozen (course_of h item) w by.machine) (sym frozen.0 ∙ is) frozen.1 in
+        absurd (other (frozen_on h v sees.moment by.machine below sees.is))
+    | inr stuck ↦
+        let thawed : SawThawed (course_of h item) u = ((stuck.1).0, ((stuck.1).1).0, (stuck.1).2) in
+        subst (SawThawed (course_of h item)) (sym (stuck.0).0 ∙ is) thawed
+  ]
+
+  pub as_stuck_thawed : (line lane v : ℕ) (asked : Item) (r : Reply) → v < settings.volumes → ItemDid (course_of h item) asked r
+      → RefusedAsStuck t v (line_of line lane asked r) → SawThawed (course_of h item) v
+  as_stuck_thawed line lane v (asks.Command (command.Flush u m)) (reply.ReadOnly (by ∷ [])) below did met =
+      stuck_thawed u m v (replica_on settings u m) by below did met.0 met.1
+  as_stuck_thawed line lane v asked r below did met = absurd met
 
 -- OPEN VOLUMES
 
@@ -314,19 +362,28 @@ module _ {settings : Settings} {k : Known} {items : List LaneItem} {history : Hi
 abbrev pub FrostSeen : {settings : Settings} {k : Known} {items : List LaneItem} {history : History} {t : Known} → CameInLanes settings k items history t → ℕ → Option LaneItem → Type 0
 FrostSeen h v froze = (item : LaneItem) → froze ≡ Some item → SawFrozen (course_of h item) v × SawThawed (course_of h item) v
 
+-- a line that froze the volume, or met it frozen, saw it so
+pub frozen_seen : {settings : Settings} {k : Known} {items : List LaneItem} {history : History} {t : Known} (h : CameInLanes settings k items history t)
+    (v : ℕ) → v < settings.volumes → (froze : Option LaneItem) → FrostSeen h v froze → (a : LaneItem) → Contains items a
+    → MetFrozen settings k items v froze a → SawFrozen (course_of h a) v
+frozen_seen h v below froze seen a in_a met = elim met [
+  | inl is ↦ (seen a is).0
+  | inr freeze ↦ met_freeze h a a.line a.lane v a.item a.reply below (answered h a in_a).did freeze
+]
+
 pub lanes_meet : {settings : Settings} {k : Known} {items : List LaneItem} {history : History} {t : Known} (h : CameInLanes settings k items history t)
     (v : ℕ) → v < settings.volumes → (froze : Option LaneItem) → FrostSeen h v froze
-    → EachPair (λ a b. a.lane ≡ b.lane → MetFrozen settings k v froze a → MetThawed v froze b → ⊥) items
+    → EachPair (λ a b. a.lane ≡ b.lane → MetFrozen settings k items v froze a → MetThawed t v froze b → ⊥) items
 lanes_meet {settings} {k} {items} {history} {t} h v below froze seen =
-    pair_by (λ a b. a.lane ≡ b.lane → IsLater (h.to a.line) (h.from b.line)) (λ a b. a.lane ≡ b.lane → MetFrozen settings k v froze a → MetThawed v froze b → ⊥) items
+    pair_by (λ a b. a.lane ≡ b.lane → IsLater (h.to a.line) (h.from b.line)) (λ a b. a.lane ≡ b.lane → MetFrozen settings k items v froze a → MetThawed t v froze b → ⊥) items
     (λ a b in_a in_b later same met thawed.
-    let first : SawFrozen (course_of h a) v = elim met [
-      | inl is ↦ (seen a is).0
-      | inr closed ↦ met_frozen (course_of h a) a.line a.lane v a.item a.reply closed.0 (answered h a in_a).did closed.1
-    ] in
+    let first : SawFrozen (course_of h a) v = frozen_seen h v below froze seen a in_a met in
     let then : SawThawed (course_of h b) v = elim thawed [
       | inl is ↦ (seen b is).1
-      | inr opened ↦ met_open h b in_b b.item b.reply v (answered h b in_b).did opened
+      | inr opened ↦ elim opened [
+        | inl plain ↦ met_open h b in_b b.item b.reply v (answered h b in_b).did plain
+        | inr stuck ↦ as_stuck_thawed h b b.line b.lane v b.item b.reply below (answered h b in_b).did stuck
+      ]
     ] in
     let apart = (later same).volumes v in
     let still = frozen_stays h v first.0 then.0 first.1 below (omega (arith, first.2, then.1, apart)) first.3 in

@@ -12,15 +12,15 @@ use Rattle.hay_legal.specs.declared.known.VolumeKnown.{VolumeKnown}
 use Rattle.hay_legal.specs.declared.turn.LaneItem.{LaneItem}
 use Rattle.hay_legal.specs.Known.{all_tries}
 use Rattle.hay_legal.specs.Plain.{as_closed, put_entry}
-use Rattle.hay_legal.specs.Blocks.{HomeRefuses as legal_home, IsLeftPending, MayRefuse, PutIsLegal, RefusesPut, tag_of}
+use Rattle.hay_legal.specs.Blocks.{HomeRefuses as legal_home, IsLeftPending, MayHaveAdded, MayRefuse, PutIsLegal, RefusesPut, TriesRefuse, tag_of}
 use Rattle.hay_legal.proofs.Subject.Effects.{each_try}
 use Rattle.hay_history.specs.Steps.Did.{Pends}
 use Rattle.hay_history.specs.Histories.{History, OneStep, SeesRefusal}
-use Rattle.hay_history.specs.Commands.{CameInLanes, HomeRefuses, PutDid, PutRefused}
+use Rattle.hay_history.specs.Commands.{CameInLanes, HomeRefuses, PutDid, PutRefused, SeesRefusals}
 use Rattle.hay_history.proofs.Lists.{zip_weaker}
 use Rattle.hay_history.proofs.Lines.{course_of, one_leads}
 use Rattle.hay_history.proofs.Volumes.{frozen_keeps, refused_then, takes_then}
-use Rattle.hay_history.proofs.Rows.{home_below, home_then, no_home_before, rows_frozen_then}
+use Rattle.hay_history.proofs.Rows.{MayAnswerAdded, home_below, home_then, no_home_before, rows_frozen_then}
 use Rattle.hay_history.proofs.Takers.{gets_row, row_left}
 use Rattle.hay_history.proofs.ReadLines.{home_in_block}
 
@@ -30,7 +30,7 @@ module _ {settings : Settings} {k : Known} {items : List LaneItem} {history : Hi
   may_refuse : (size v : ℕ) (refused : Refused) → v < settings.volumes → SeesRefusal (course_of h item) size v refused → MayRefuse settings k items t size v refused
   may_refuse size v refused below sees = refused_then h v sees.moment size refused below sees.is
 
-  home_refuses : (pair : Pair) (bytes : List ℕ) (refused : List Refused) → HomeRefuses (course_of h item) pair (length bytes) refused
+  pub home_refuses : (pair : Pair) (bytes : List ℕ) (refused : List Refused) → HomeRefuses (course_of h item) pair (length bytes) refused
       → legal_home settings k items t pair bytes refused
   home_refuses pair bytes [] did = absurd did
   home_refuses pair bytes (refused ∷ []) did = (
@@ -40,14 +40,28 @@ module _ {settings : Settings} {k : Known} {items : List LaneItem} {history : Hi
   )
   home_refuses pair bytes (refused ∷ more ∷ rest) did = absurd did
 
+  -- what a line that added its row was answered
+  pub answers_added : (pair : Pair) (bytes : List ℕ) (r : Reply) → MayAnswerAdded (course_of h item) pair (length bytes) r
+      → MayHaveAdded settings k items t pair bytes r
+  answers_added pair bytes (reply.Stored v p d cookie) may = tt
+  answers_added pair bytes (reply.Full refused) may = home_refuses pair bytes refused may
+  answers_added pair bytes (reply.ReadOnly by) may = home_refuses pair bytes (map as_closed by) may
+  answers_added pair bytes (reply.Failed v m f) may = tt
+  answers_added pair bytes reply.NoMem may = tt
+  answers_added pair bytes _ may = absurd may
+
+  pub tries_refuse : (pair : Pair) (bytes : List ℕ) (refused : List Refused) → SeesRefusals (course_of h item) pair (length bytes) refused
+      → TriesRefuse settings k items t pair bytes refused
+  tries_refuse pair bytes refused tries = (
+    no_home_before h item pair tries.0.0 tries.0.1,
+    zip_weaker _ _ (all_tries settings pair) refused (λ v r at sees. may_refuse (length bytes) v r (each_try settings pair v at) sees) tries.1,
+  )
+
   refuses_put : (pair : Pair) (bytes : List ℕ) (refused : List Refused) → PutRefused (course_of h item) pair (length bytes) refused
       → RefusesPut settings k items t pair bytes refused
   refuses_put pair bytes refused did =
       elim (did.because) [
-        | inl tries ↦ inl (
-          no_home_before h item pair tries.0.0.0 tries.0.0.1,
-          zip_weaker _ _ (all_tries settings pair) refused (λ v r at sees. may_refuse (length bytes) v r (each_try settings pair v at) sees) tries.0.1,
-        )
+        | inl tries ↦ inl (tries_refuse pair bytes refused tries.0)
         | inr home ↦ inr (home_refuses pair bytes refused home)
       ]
 

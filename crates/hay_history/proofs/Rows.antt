@@ -1,6 +1,6 @@
 -- What holds of the Directory at the moments of a block.
 use Rattle.std.proofs.Common.{◌≢◌, ◌≡◌, ◌⊎◌, ℕ, zero, suc, ◌<◌, ◌≤◌, ◌+◌, Bool, true, false, List, [], ◌∷◌, ◌++◌, length, slice_get, Contains, Option, Some, None, refl, sym, ap, subst, ◌∙◌, inl, inr, arith}
-use Rattle.std.specs.Prelude.{take}
+use Rattle.std.specs.Prelude.{map, take}
 use Rattle.std.specs.List.{AllByRecursion as Each}
 use Rattle.std.proofs.Math.Seq.{take-append_seam}
 use Rattle.std.proofs.lemmas.List.{append-nil, append_assoc, length-append}
@@ -12,6 +12,7 @@ use Rattle.hay_needle.specs.declared.needle.Cookie.{Cookie}
 use Rattle.hay_script.specs.declared.Command.{Command}
 use Rattle.hay_script.specs.declared.Command.TheVariants as command
 use Rattle.hay_reply.specs.declared.ClosedBy.{ClosedBy}
+use Rattle.hay_reply.specs.declared.Refused.{Refused}
 use Rattle.hay_reply.specs.declared.Reply.{Reply}
 use Rattle.hay_reply.specs.declared.Reply.TheVariants.{Stored, Moved, Full, ReadOnly, ReadOnlyDir, Failed, FailedDir, NoMem}
 use Rattle.hay_core.specs.declared.entry.CoreTag.{CoreTag}
@@ -22,15 +23,15 @@ use Rattle.hay_legal.specs.declared.turn.Item.{Item}
 use Rattle.hay_legal.specs.declared.turn.Item.TheVariants as asks
 use Rattle.hay_legal.specs.declared.turn.LaneItem.{LaneItem}
 use Rattle.hay_legal.specs.Known.{home_in, home_of, replica_on}
-use Rattle.hay_legal.specs.Plain.{start_of}
-use Rattle.hay_legal.specs.Blocks.{HomeAt, MayHaveAdded, MayHaveFrozen, tag_of}
+use Rattle.hay_legal.specs.Plain.{as_closed, start_of}
+use Rattle.hay_legal.specs.Blocks.{HomeAt, MayHaveFrozen, tag_of}
 use Rattle.hay_legal.proofs.Subject.Effects.{each_append, each_try, home_stays}
 use Rattle.hay_legal.proofs.Subject.Entries.{home_bounded}
 use Rattle.hay_history.specs.Steps.{FollowsRows, LeadsRows, RowDid, RowsStanding, RowStep}
 use Rattle.hay_history.specs.Steps.RowDid.{AddsRow, Drains, FusesRow, PendsRow, TriesRow}
 use Rattle.hay_history.proofs.Trying.{tried_or_changed_row}
 use Rattle.hay_history.specs.Histories.{row_changes, Course, History, NoRows, OneRowStep, SeesHome, first_rows, own_rows, rows_behind}
-use Rattle.hay_history.specs.Commands.{AddedRow, CameInLanes, CommandDid, CompactDid, CompactFailed, CompactRefused, CompactWanting, DelDid, FlushDid, GetDid, ItemDid, PutDid, RowPends, ShowDid, UrlDid}
+use Rattle.hay_history.specs.Commands.{AddedRow, CameInLanes, CommandDid, CompactDid, CompactFailed, CompactRefused, CompactWanting, DelDid, FlushDid, GetDid, HomeRefuses, ItemDid, PutDid, PutRefused, RowPends, ShowDid, UrlDid}
 use Rattle.hay_history.proofs.Histories.{along_rows, along_rows_last}
 use Rattle.hay_history.proofs.Lists.{one_in}
 use Rattle.hay_history.proofs.Lines.{answered, course_of, row_owner}
@@ -74,14 +75,30 @@ stays_frozen_step tag FusesRow a b h le frozen = h
 
 -- THE STEPS OF A LINE ON THE DIRECTORY
 
+-- a line that added its row may be answered so: a refusal is that of the pair's home
+abbrev pub MayAnswerAdded : Course → Pair → ℕ → Reply → Type 0
+MayAnswerAdded c pair size (Stored v p d cookie) = Unit {0}
+MayAnswerAdded c pair size (Full refused) = HomeRefuses c pair size refused
+MayAnswerAdded c pair size (ReadOnly by) = HomeRefuses c pair size (map as_closed by)
+MayAnswerAdded c pair size (Failed v m f) = Unit {0}
+MayAnswerAdded c pair size NoMem = Unit {0}
+MayAnswerAdded c pair size _ = ⊥
+
 abbrev pub HasRows : Course → Pair → List ℕ → Reply → Type 0
 HasRows c pair bytes reply =
-    (AddedRow c pair (length bytes) × MayHaveAdded reply) ⊎ (RowPends c pair (length bytes) × MayHaveFrozen reply)
+    (AddedRow c pair (length bytes) × MayAnswerAdded c pair (length bytes) reply) ⊎ (RowPends c pair (length bytes) × MayHaveFrozen reply)
+
+refused_rows_of : (c : Course) (pair : Pair) (bytes : List ℕ) (refused : List Refused) → PutRefused c pair (length bytes) refused
+    → NoRows c ⊎ (AddedRow c pair (length bytes) × HomeRefuses c pair (length bytes) refused)
+refused_rows_of c pair bytes refused h = elim h.row [
+  | inl none ↦ inl none
+  | inr added ↦ elim h.because [ inl tries ↦ inl tries.1 | inr home ↦ inr (added, home) ]
+]
 
 put_rows : (c : Course) (pair : Pair) (bytes : List ℕ) (reply : Reply) → PutDid c pair bytes reply → NoRows c ⊎ HasRows c pair bytes reply
 put_rows c pair bytes (Stored v p d cookie) h = elim h.row [ inl none ↦ inl none | inr added ↦ inr (inl (added, tt)) ]
-put_rows c pair bytes (Full refused) h = elim (h.0).row [ inl none ↦ inl none | inr added ↦ inr (inl (added, tt)) ]
-put_rows c pair bytes (ReadOnly by) h = elim h.row [ inl none ↦ inl none | inr added ↦ inr (inl (added, tt)) ]
+put_rows c pair bytes (Full refused) h = elim (refused_rows_of c pair bytes refused h.0) [ inl none ↦ inl none | inr added ↦ inr (inl added) ]
+put_rows c pair bytes (ReadOnly by) h = elim (refused_rows_of c pair bytes (map as_closed by) h) [ inl none ↦ inl none | inr added ↦ inr (inl added) ]
 put_rows c pair bytes ReadOnlyDir h = inl h.1
 put_rows c pair bytes (Failed v m f) h = elim h.row [ inl none ↦ inl none | inr added ↦ inr (inl (added, tt)) ]
 put_rows c pair bytes (FailedDir f) h = inr (inr (h.pends, tt))
@@ -174,7 +191,7 @@ pub record RowsLine (settings : Settings) (k : Known) (items : List LaneItem) (h
   pub pair : Pair
   pub bytes : List ℕ
   pub put : item.item ≡ asks.Command (command.Put pair bytes)
-  pub reply : MayHaveAdded item.reply
+  pub reply : MayAnswerAdded (course_of h item) pair (length bytes) item.reply
   pub added : AddedRow (course_of h item) pair (length bytes)
   pub is : added.row ≡ row
 

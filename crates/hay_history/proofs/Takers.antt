@@ -14,7 +14,7 @@ use Rattle.hay_legal.specs.Blocks.{MayGetRow, MayRefuse, RowIsPending, tag_of}
 use Rattle.hay_legal.proofs.Subject.Effects.{each_try}
 use Rattle.hay_history.specs.Steps.{LeadsRows, RowDid, RowStep}
 use Rattle.hay_history.specs.Steps.RowDid.{PendsRow}
-use Rattle.hay_history.specs.Histories.{History, SeesRefusal, SeesTaker, first_rows, own_rows, rows_standing}
+use Rattle.hay_history.specs.Histories.{History, SeesHome, SeesRefusal, SeesTaker, first_rows, own_rows, rows_standing}
 use Rattle.hay_history.specs.Commands.{CameInLanes, RowPends}
 use Rattle.hay_history.proofs.Histories.{along_rows}
 use Rattle.hay_history.proofs.Lists.{each_both, each_from, each_in, each_take}
@@ -55,6 +55,20 @@ module _ {settings : Settings} {k : Known} {items : List LaneItem} {history : Hi
         absurd (true≢false (sym (ap (λ (d : DirKnown). d.frozen) kept ∙ frozen) ∙ thawed))
   ]
 
+  -- a line that left a row pending saw that its pair has none
+  pub row_missing : (pair : Pair) (size : ℕ) → Contains items item → (pends : RowPends (course_of h item) pair size)
+      → SeesHome (course_of h item) pair (length ((rows_standing (course_of h item) (pends.step).place).directory).rows) None
+  row_missing pair size among pends =
+      let c = course_of h item in
+      let step = pends.step in
+      let at : ℕ × RowStep = (step.place, step.step) in
+      let own : Contains (own_rows c) at = one_own_row c (PendsRow (record { pair = pair; volume = pends.v })) step in
+      let leads = own_leads_rows h item among at own in
+      let did = subst (λ (did : RowDid). LeadsRows (tag_of item) did (rows_standing c step.place) (rows_standing c (step.place + 1))) step.is leads.0 in
+      let seen = each_in (λ (at : ℕ × RowStep). ((c.from).rows ≤ at.0) × (at.0 < (c.to).rows)) (own_rows c) at (answered h item among).rows own in
+      let until : step.place < (c.to).rows = seen.1 in
+      record { moment = step.place; seen = (seen.0, omega (arith, until)); front = refl; is = did.0.1 }
+
   -- A row that a line left pending is so still, and the Directory is frozen.
   pub row_left : (pair : Pair) (size : ℕ) → Contains items item → (pends : RowPends (course_of h item) pair size)
       → (k.directory.frozen ≡ false) × MayGetRow settings k items t pair size pends.v × RowIsPending t (tag_of item) pair pends.v
@@ -65,10 +79,7 @@ module _ {settings : Settings} {k : Known} {items : List LaneItem} {history : Hi
       let own : Contains (own_rows c) at = one_own_row c (PendsRow (record { pair = pair; volume = pends.v })) step in
       let leads = own_leads_rows h item among at own in
       let did = subst (λ (did : RowDid). LeadsRows (tag_of item) did (rows_standing c step.place) (rows_standing c (step.place + 1))) step.is leads.0 in
-      let seen = each_in (λ (at : ℕ × RowStep). ((c.from).rows ≤ at.0) × (at.0 < (c.to).rows)) (own_rows c) at (answered h item among).rows own in
-      let until : step.place < (c.to).rows = seen.1 in
-      let missing : home_of k pair ≡ None = no_home_before h item pair (length ((rows_standing c step.place).directory).rows)
-      (record { moment = step.place; seen = (seen.0, omega (arith, until)); front = refl; is = did.0.1 }) in
+      let missing : home_of k pair ≡ None = no_home_before h item pair (length ((rows_standing c step.place).directory).rows) (row_missing pair size among pends) in
       let left = rows_frozen_then h (step.place + 1) (ap (λ (d : DirKnown). d.frozen) did.1) in (
         open_rows step.place did.0.0,
         gets_row pair size pends.v missing pends.taker,

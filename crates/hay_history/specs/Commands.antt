@@ -29,8 +29,8 @@ use Rattle.hay_legal.specs.declared.turn.Item.{Item}
 use Rattle.hay_legal.specs.declared.turn.Item.TheVariants as asks
 use Rattle.hay_legal.specs.declared.turn.LaneItem.{LaneItem}
 use Rattle.hay_legal.specs.Known.{CameUp, EachPair, NoneFalls, all_tries, arm_count, disk_count, fault_count, fuse_count, machine_of, now, replica_at, replica_on, replicas_of, slot_of, stands, volume_at}
-use Rattle.hay_legal.specs.Plain.{ArmRises, GetShows, as_closed, first_machine, wants_room, order_from, put_entry, start_of}
-use Rattle.hay_legal.specs.Blocks.{IsOn, tag_of}
+use Rattle.hay_legal.specs.Plain.{ArmRises, GetShows, Names, as_closed, first_machine, wants_room, order_from, put_entry, start_of}
+use Rattle.hay_legal.specs.Blocks.{tag_of}
 use Rattle.hay_legal.specs.Subject.{IsOf}
 use Rattle.hay_history.specs.Steps.{Did, Follows, FollowsRows, RowDid, RowsStanding, Standing, Step}
 use Rattle.hay_history.specs.Steps.Did.{Begins, Ends, Entered, Examines, Flushes, Freezes, Fuses, Pends, Poises, Sticks, Swaps, Tries}
@@ -296,7 +296,7 @@ IsFrozen c v _ = ⊥
 
 abbrev pub IsStuck : Course → ℕ → ℕ → ℕ → List ClosedBy → Type 0
 IsStuck c v m j (by ∷ []) =
-    IsOn v m by.volume by.machine
+    Names v m by.volume by.machine
     × ((moment : ℕ) × IsMoment c v moment × ((volume_then c v moment).frozen ≡ None) × ((replica_at (volume_then c v moment) j).stuck ≡ true))
 IsStuck c v m j _ = ⊥
 
@@ -317,9 +317,9 @@ abbrev pub FlushDid : Course → ℕ → ℕ → Option ℕ → Reply → Type 0
 FlushDid c v m None Nowhere = DidNothing c
 FlushDid c v m None NoMem = DidNothing c
 FlushDid c v m None _ = ⊥
-FlushDid c v m (Some j) (Flushed v' m' n) = IsOn v m v' m' × FlushDone c v j n
+FlushDid c v m (Some j) (Flushed v' m' n) = Names v m v' m' × FlushDone c v j n
 FlushDid c v m (Some j) (ReadOnly by) = (IsFrozen c v by ⊎ IsStuck c v m j by) × DidNothing c
-FlushDid c v m (Some j) (Failed v' m' f) = IsOn v m v' m' × FlushFailed c v j f
+FlushDid c v m (Some j) (Failed v' m' f) = Names v m v' m' × FlushFailed c v j f
 FlushDid c v m (Some j) NoMem = DidNothing c
 FlushDid c v m (Some j) _ = ⊥
 
@@ -417,14 +417,14 @@ CompactDid c v m None Nowhere = DidNothing c
 CompactDid c v m None NoMem = DidNothing c
 CompactDid c v m None _ = ⊥
 CompactDid c v m (Some j) (Compacted v' m' g) =
-    IsOn v m v' m'
+    Names v m v' m'
     × ((end : ℕ) × (cells : ℕ) × (swaps : RanAs c v j (Swaps j end cells false))
     × (g ≡ (replica_at (volume_then c v swaps.place) j).generation + 1)
     × IsTightAlone c v j (swaps.ran).place swaps.place end cells)
 CompactDid c v m (Some j) (ReadOnly by) = CompactRefused c v j by
-CompactDid c v m (Some j) (Busy v' m' g) = IsOn v m v' m' × DidNothing c × MetBusy c v j g
-CompactDid c v m (Some j) (Worn v' m') = IsOn v m v' m' × DidNothing c × MetWorn c v j
-CompactDid c v m (Some j) (Failed v' m' f) = IsOn v m v' m' × CompactFailed c v m j f
+CompactDid c v m (Some j) (Busy v' m' g) = Names v m v' m' × DidNothing c × MetBusy c v j g
+CompactDid c v m (Some j) (Worn v' m') = Names v m v' m' × DidNothing c × MetWorn c v j
+CompactDid c v m (Some j) (Failed v' m' f) = Names v m v' m' × CompactFailed c v m j f
 CompactDid c v m (Some j) NoMem = CompactWanting c v j
 CompactDid c v m (Some j) _ = ⊥
 
@@ -455,11 +455,11 @@ BeginDid c v m None Nowhere = DidNothing c
 BeginDid c v m None NoMem = DidNothing c
 BeginDid c v m None _ = ⊥
 BeginDid c v m (Some j) (Begun v' m' g) =
-    IsOn v m v' m' × ((begins : OnlyDid c v (Begins j)) × (g ≡ (replica_at (volume_then c v (begins.step).place) j).generation + 1))
+    Names v m v' m' × ((begins : OnlyDid c v (Begins j)) × (g ≡ (replica_at (volume_then c v (begins.step).place) j).generation + 1))
 BeginDid c v m (Some j) (ReadOnly by) = IsFrozen c v by × DidNothing c
-BeginDid c v m (Some j) (Busy v' m' g) = IsOn v m v' m' × DidNothing c × MetBusy c v j g
-BeginDid c v m (Some j) (Worn v' m') = IsOn v m v' m' × DidNothing c × MetWorn c v j
-BeginDid c v m (Some j) (Failed v' m' f) = IsOn v m v' m' × BeginFailed c v j f
+BeginDid c v m (Some j) (Busy v' m' g) = Names v m v' m' × DidNothing c × MetBusy c v j g
+BeginDid c v m (Some j) (Worn v' m') = Names v m v' m' × DidNothing c × MetWorn c v j
+BeginDid c v m (Some j) (Failed v' m' f) = Names v m v' m' × BeginFailed c v j f
 BeginDid c v m (Some j) NoMem = DidNothing c
 BeginDid c v m (Some j) _ = ⊥
 
@@ -471,11 +471,11 @@ abbrev pub StepDid : Course → ℕ → ℕ → ℕ → Option ℕ → Reply →
 StepDid c v m cells None Nowhere = DidNothing c
 StepDid c v m cells None NoMem = DidNothing c
 StepDid c v m cells None _ = ⊥
-StepDid c v m cells (Some j) (Stepped v' m' n) = IsOn v m v' m' × Stepping c v j n (λ n left. n ≡ min cells left)
+StepDid c v m cells (Some j) (Stepped v' m' n) = Names v m v' m' × Stepping c v j n (λ n left. n ≡ min cells left)
 StepDid c v m cells (Some j) (ReadOnly by) = IsFrozen c v by × DidNothing c
-StepDid c v m cells (Some j) (Idle v' m') = IsOn v m v' m' × MetIdle c v j × DidNothing c
+StepDid c v m cells (Some j) (Idle v' m') = Names v m v' m' × MetIdle c v j × DidNothing c
 StepDid c v m cells (Some j) (Failed v' m' f) =
-    IsOn v m v' m' × ((ends : WentOn c v j (Ends j)) × RoseIn c v ((ends.only).step).place j f × IsLast c v ((ends.only).step).place)
+    Names v m v' m' × ((ends : WentOn c v j (Ends j)) × RoseIn c v ((ends.only).step).place j f × IsLast c v ((ends.only).step).place)
 StepDid c v m cells (Some j) NoMem = DidNothing c ⊎ ((n : ℕ) × Stepping c v j n (λ n left. n ≤ min cells left))
 StepDid c v m cells (Some j) _ = ⊥
 
@@ -489,12 +489,12 @@ FinishDid c v m None Nowhere = DidNothing c
 FinishDid c v m None NoMem = DidNothing c
 FinishDid c v m None _ = ⊥
 FinishDid c v m (Some j) (Compacted v' m' g) =
-    IsOn v m v' m'
+    Names v m v' m'
     × ((end : ℕ) × (cells : ℕ) × (swaps : WentOn c v j (Swaps j end cells false))
     × (g ≡ (replica_at (volume_then c v ((swaps.only).step).place) j).generation + 1))
 FinishDid c v m (Some j) (ReadOnly by) = IsFrozen c v by × DidNothing c
-FinishDid c v m (Some j) (Idle v' m') = IsOn v m v' m' × MetIdle c v j × DidNothing c
-FinishDid c v m (Some j) (Failed v' m' f) = IsOn v m v' m' × FinishFailed c v m j f
+FinishDid c v m (Some j) (Idle v' m') = Names v m v' m' × MetIdle c v j × DidNothing c
+FinishDid c v m (Some j) (Failed v' m' f) = Names v m v' m' × FinishFailed c v m j f
 FinishDid c v m (Some j) NoMem =
     DidNothing c ⊎ WentOn c v j (Ends j) ⊎ ((end : ℕ) × (cells : ℕ) × WentOn c v j (Swaps j end cells true))
 FinishDid c v m (Some j) _ = ⊥
@@ -521,7 +521,7 @@ abbrev pub FuseDid : Course → ℕ → ℕ → ℕ → Option ℕ → Reply →
 FuseDid c v m n None Nowhere = DidNothing c
 FuseDid c v m n None NoMem = DidNothing c
 FuseDid c v m n None _ = ⊥
-FuseDid c v m n (Some j) (Fused v' m' n') = IsOn v m v' m' × (n' ≡ n) × OnlyDid c v (Fuses j)
+FuseDid c v m n (Some j) (Fused v' m' n') = Names v m v' m' × (n' ≡ n) × OnlyDid c v (Fuses j)
 FuseDid c v m n (Some j) NoMem = DidNothing c
 FuseDid c v m n (Some j) _ = ⊥
 

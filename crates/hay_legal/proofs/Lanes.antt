@@ -99,8 +99,9 @@ block = record {
   };
   fronts = record {
     volumes = ((((tt, tt), ((lit≤ tt, lit≤ tt), tt)), tt), ((((tt, tt), ((lit≤ tt, lit≤ tt), tt)), tt), ((((tt, tt), ((lit≤ tt, lit≤ tt), tt)), tt), (((tt, tt), tt), (((tt, tt), tt), (((tt, tt), tt), (((tt, tt), tt), (((tt, tt), tt), tt))))))));
-    directory = (((tt, tt), ((lit≤ tt, lit≤ tt), tt)), (((tt, tt), ((lit≤ tt, lit≤ tt), tt)), (((tt, tt), ((lit≤ tt, lit≤ tt), tt)), ((tt, tt), ((tt, tt), ((tt, tt), ((tt, tt), ((tt, tt), tt))))))));
+    directory = ((((lit≤ tt, tt), (tt, tt)), ((lit≤ tt, lit≤ tt), ((lit≤ tt, lit≤ tt), tt))), (((tt, tt), ((lit≤ tt, lit≤ tt), tt)), (((tt, tt), ((lit≤ tt, lit≤ tt), tt)), ((tt, tt), ((tt, tt), ((tt, tt), ((tt, tt), ((tt, tt), tt))))))));
   };
+  pairs = (((λ e. absurd (omega (arith, e))), ((λ e. absurd (omega (arith, e))), tt)), (((λ e. absurd (omega (arith, e))), tt), (tt, tt)));
   lines = (
     (refl, sym cookie_of-zero, (refl, ((64, (lit≤ tt, lit≤ tt), lit≤ tt), tt))),
     (
@@ -123,14 +124,21 @@ block = record {
       froze = None;
       freeze = (refl, refl);
       lanes = (((λ e met opened. omega (arith, e)), ((λ e met opened. omega (arith, e)), tt)), (((λ e met opened. omega (arith, e)), tt), (tt, tt)));
+      settled = (((λ e met. absurd (omega (arith, e))), ((λ e met. absurd (omega (arith, e))), tt)), (((λ e met. absurd (omega (arith, e))), tt), (tt, tt)));
       replicas = (
         record {
           base = refl;
-          generations = record { inside_range = tt; once = tt; all = refl; last = λ less. omega (arith, less) };
+          generations = record { inside_range = tt; once = tt; all = refl; last = λ less. omega (arith, less); rising = (tt, (tt, (tt, (tt, (tt, (tt, (tt, (tt, tt)))))))) };
           sizes = inl (refl, refl, refl);
           bare = ((λ e. lit≤ tt), inl (refl, refl));
           run = inl (refl, refl);
           stuck = inl (refl, refl);
+          index = record {
+            before = ((λ e loose. absurd loose), ((λ e loose. absurd loose), ((λ e loose. absurd loose), tt)));
+            between = (((λ e met loose. absurd loose), ((λ e met loose. absurd loose), tt)), (((λ e met loose. absurd loose), tt), (tt, tt)));
+            behind = ((λ e sticks. absurd sticks), ((λ e sticks. absurd sticks), ((λ e sticks. absurd sticks), tt)));
+            once = lit≤ tt;
+          };
           poised = refl;
         },
         tt,
@@ -210,8 +218,9 @@ freezing_block = record {
   };
   fronts = record {
     volumes = (((tt, tt), tt), (((tt, tt), tt), (((tt, tt), tt), (((tt, tt), tt), (((tt, tt), tt), (((tt, tt), tt), (((tt, tt), tt), (((tt, tt), tt), tt))))))));
-    directory = ((tt, tt), ((tt, tt), ((tt, tt), ((tt, tt), ((tt, tt), ((tt, tt), ((tt, tt), ((tt, tt), tt))))))));
+    directory = (((tt, tt), ((lit≤ tt, lit≤ tt), tt)), ((tt, tt), ((tt, tt), ((tt, tt), ((tt, tt), ((tt, tt), ((tt, tt), ((tt, tt), tt))))))));
   };
+  pairs = (((λ e. absurd (omega (arith, e))), ((λ e. absurd (omega (arith, e))), tt)), (((λ e. absurd (omega (arith, e))), tt), (tt, tt)));
   lines = (
     ((1, lit≤ tt, lit≤ tt, refl), (0, refl), (refl, ((64, (lit≤ tt, lit≤ tt), lit≤ tt), tt)), (refl, ap left_pending (sym cookie_of-zero))),
     (inr (0, (1, lit≤ tt, lit≤ tt, refl), (refl, inr refl)), (inl (refl, refl), tt)),
@@ -239,14 +248,21 @@ freezing_block = record {
         pending = refl;
       };
       lanes = (((λ e met opened. omega (arith, e)), ((λ e met opened. omega (arith, e)), tt)), (((λ e met opened. omega (arith, e)), tt), (tt, tt)));
+      settled = (((λ e met. absurd (omega (arith, e))), ((λ e met. absurd (omega (arith, e))), tt)), (((λ e met. absurd (omega (arith, e))), tt), (tt, tt)));
       replicas = (
         record {
           base = refl;
-          generations = record { inside_range = tt; once = tt; all = refl; last = λ less. omega (arith, less) };
+          generations = record { inside_range = tt; once = tt; all = refl; last = λ less. omega (arith, less); rising = (tt, (tt, (tt, (tt, (tt, (tt, (tt, (tt, tt)))))))) };
           sizes = inl (refl, refl, refl);
           bare = ((λ e. lit≤ tt), inl (refl, refl));
           run = inl (refl, refl);
           stuck = inl (refl, refl);
+          index = record {
+            before = ((λ e loose. absurd loose), ((λ e loose. absurd loose), ((λ e loose. absurd loose), tt)));
+            between = (((λ e met loose. absurd loose), ((λ e met loose. absurd loose), tt)), (((λ e met loose. absurd loose), tt), (tt, tt)));
+            behind = ((λ e sticks. absurd sticks), ((λ e sticks. absurd sticks), ((λ e sticks. absurd sticks), tt)));
+            once = lit≤ tt;
+          };
           poised = refl;
         },
         tt,

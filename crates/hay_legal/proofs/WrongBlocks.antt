@@ -1,5 +1,5 @@
 -- Blocks of lanes that are not legal, each for one wrong reply or for one wrong thing that it leaves.
-use Rattle.std.specs.Prelude.{◌≡◌, ℕ, zero, suc, ◌+◌, ◌-◌, ◌^◌, ◌<◌, ◌≤◌, ◌==◌, ◌&&◌, ◌||◌, not, Bool, true, false, List, [], ◌∷◌, length, take_while, Contains, Option, Some, None, flat_map, option_map}
+use Rattle.std.specs.Prelude.{◌≡◌, ◌≢◌, ◌⊎◌, ◌++◌, cond, ℕ, zero, suc, ◌+◌, ◌-◌, ◌^◌, ◌<◌, ◌≤◌, ◌==◌, ◌&&◌, ◌||◌, not, Bool, true, false, List, [], ◌∷◌, length, take_while, Contains, Option, Some, None, flat_map, option_map}
 use Rattle.std.specs.List.{AllByRecursion as Each, AllZip}
 use Rattle.std.proofs.Common.{refl, sym, ap, subst, inl, inr, ◌∙◌, arith, sum_by}
 use Rattle.std.proofs.lemmas.Bool.{eq-eqb}
@@ -12,6 +12,7 @@ use Rattle.hay_needle.specs.declared.settings.Settings.{Settings}
 use Rattle.hay_needle.specs.Sizes.{needle_total}
 use Rattle.hay_script.specs.declared.Command.{Command}
 use Rattle.hay_script.specs.declared.Command.TheVariants as command
+use Rattle.hay_reply.specs.declared.LineVolume.{LineVolume}
 use Rattle.hay_reply.specs.declared.Refused.{Refused}
 use Rattle.hay_reply.specs.declared.Refused.TheVariants.{NoRoom, Closed}
 use Rattle.hay_reply.specs.declared.Reply.{Reply}
@@ -27,8 +28,8 @@ use Rattle.hay_legal.specs.declared.turn.Item.TheVariants as asks
 use Rattle.hay_legal.specs.declared.turn.LaneItem.{LaneItem}
 use Rattle.hay_legal.specs.declared.turn.LogNote.{LogNote}
 use Rattle.hay_legal.specs.declared.turn.RowNote.{RowNote}
-use Rattle.hay_legal.specs.Known.{CameUp, all_tries, closed, closed_by, drained_of, fault_count, home_of, machine_of, replica_at, replica_on, replicas_of, slot_of, volume_at}
-use Rattle.hay_legal.specs.Blocks.{CompactIsLegal, DeletesOn, DiskIsLegal, FlushIsLegal, FreezeIsLegal, Freezes, HomeInBlock, IsNewRow, LegalBlock, LineIsLegal, MayHaveFrozen, MayRefuse, ReplicaIsLegal, RefusesPut, SticksBy, VolumeIsLegal, WasFrozen, WasSwapped, disk_prints, froze_at_compact, highest_end, is_compacted, is_failed, new_rows, pending_behind, row_faults, row_failed}
+use Rattle.hay_legal.specs.Known.{CameUp, EachPair, all_tries, closed, closed_by, drained_of, fault_count, home_of, machine_of, replica_at, replica_on, replicas_of, slot_of, volume_at}
+use Rattle.hay_legal.specs.Blocks.{CompactIsLegal, DeletesOn, DiskIsLegal, FlushIsLegal, FreezeIsLegal, Freezes, HomeInBlock, InOrder, IsAt, IsNewRow, LegalBlock, LineIsLegal, MayHaveAdded, MayHaveFrozen, MayPrecede, MayRefuse, Printed, ReplicaIsLegal, RefusesPut, StandsBefore, SticksBy, SwappedWhere, VolumeIsLegal, WasFrozen, WasSwapped, disk_prints, froze_at_compact, generation_print, highest_end, is_compacted, is_failed, made_on, new_rows, pending_behind, printed, row_faults, row_failed, sticks_on}
 use Rattle.hay_legal.proofs.Subject.Entries.{each_in_range}
 
 -- LISTS
@@ -369,7 +370,7 @@ stored_behind_failure {settings} {k} {logs} {rows} {t} lane n n' v m f p d c pai
 
     by_item : (item : LaneItem) → (volume b v below).froze ≡ Some item → Contains (first ∷ second ∷ []) item
         → (by : ℕ) (change : Option Entry) → Freezes settings k (first ∷ second ∷ []) t v by change item → ⊥
-    by_item item is (zero, at, same) by change froze = (volume b v below).lanes.0.0 refl (inl (is ∙ ap (λ (x : LaneItem). Some x) (sym same))) (inr refl)
+    by_item item is (zero, at, same) by change froze = (volume b v below).lanes.0.0 refl (inl (is ∙ ap (λ (x : LaneItem). Some x) (sym same))) (inr (inl refl))
     by_item item is (suc zero, at, same) by change froze = subst (λ (x : LaneItem). Freezes settings k (first ∷ second ∷ []) t v by change x) (sym same) froze
     by_item item is (suc (suc i), at, same) by change froze = omega (arith, at)
 
@@ -453,3 +454,231 @@ module _ {settings : Settings} {k : Known} {logs : List LogNote} {rows : RowNote
       or_true : (x : Bool) → (x || true) ≡ true
       or_true true = refl
       or_true false = refl
+
+-- ORDER IN A LANE
+
+-- one of two lines
+one_of_two : (a b x : LaneItem) → Contains (a ∷ b ∷ []) x → (a ≡ x) ⊎ (b ≡ x)
+one_of_two a b x (zero, below, is) = inl is
+one_of_two a b x (suc i, below, is) = inr (the_only b x (i, omega (arith, below), is))
+
+abbrev row_of : ℕ → ℕ → LineVolume
+row_of line v = record { line = line; volume = v }
+
+-- a row is added to an open Directory alone
+first_row_open : (settings : Settings) (k t : Known) (items : List LaneItem) (named : LineVolume) (rows : List HomeRow)
+    → AllZip (IsNewRow settings k items t) (named ∷ []) rows → k.directory.frozen ≡ false
+first_row_open settings k t items named [] zip = absurd zip
+first_row_open settings k t items named (row ∷ more) zip = (zip.0).«open»
+
+module _ {settings : Settings} {k : Known} {logs : List LogNote} {t : Known} where
+  -- a lane reads that its pair has no home, behind its own put that failed and gave the pair one
+  own_row_is_forgotten : (v m f : ℕ) (pair pair' : Pair) (bytes : List ℕ) (cookie : Cookie)
+      → LegalBlock settings k (answered 0 2 (command.Put pair bytes) (reply.Failed v m f) ∷ answered 0 3 (command.Read pair' cookie) (reply.Unknown 0) ∷ [])
+      logs (record { from = 0; rows = row_of 2 v ∷ [] }) t → ⊥
+  own_row_is_forgotten v m f pair pair' bytes cookie b = let rises : 1 ≤ 0 = ((((b.fronts).directory).0).0.0).0 in omega (arith, rises)
+
+  -- a lane adds the first row behind a line that saw two
+  row_is_added_before_what_was_seen : (u w v p m : ℕ) (c c' own : Cookie) (pair pair' pair'' : Pair) (bytes bytes' : List ℕ)
+      → LegalBlock settings k
+      (answered 0 2 (command.Read pair' own) (reply.Gone u m p 2)
+      ∷ answered 0 3 (command.Put pair bytes) (reply.Stored v 1 2 c)
+      ∷ answered 1 4 (command.Put pair'' bytes') (reply.Stored w 2 2 c')
+      ∷ [])
+      logs (record { from = 0; rows = row_of 3 v ∷ row_of 4 w ∷ [] }) t → ⊥
+  row_is_added_before_what_was_seen u w v p m c c' own pair pair' pair'' bytes bytes' b =
+      let rises : 2 < 1 = ((((b.fronts).directory).0).0.0).0 in omega (arith, rises)
+
+  -- a flush is refused by the freeze that another lane's put made, as its machine tells, and its lane stores a photo then
+  stored_behind_a_refused_flush : (v m m' f p d : ℕ) (c : Cookie) (pair pair' : Pair) (bytes bytes' : List ℕ) (rows : RowNote) → v < settings.volumes → m' ≢ m
+      → LegalBlock settings k
+      (answered 0 2 (command.Flush v m) (reply.ReadOnly (record { volume = v; machine = m' } ∷ []))
+      ∷ answered 0 3 (command.Put pair bytes) (reply.Stored v p d c)
+      ∷ answered 1 4 (command.Put pair' bytes') (reply.Failed v m' f)
+      ∷ [])
+      logs rows t → ⊥
+  stored_behind_a_refused_flush v m m' f p d c pair pair' bytes bytes' rows below other b =
+      let stored = (b.lines.1).0 in
+      let thawed : (volume_at k v).frozen ≡ None = open_thawed (volume_at k v).frozen stored.2.0 in
+      (volume b v below).lanes.0.0 refl
+      (inr ((thawed, (record { volume = v; machine = m' }, (0, omega arith, refl), refl)), λ j there stuck. other (stuck.0).1))
+      (inr (inl refl))
+    where
+      open_thawed : (o : Option ℕ) → closed_by o (drained_of settings k v) ≡ None → o ≡ None
+      open_thawed None e = refl
+      open_thawed (Some by) e = absurd (none-some by (sym e))
+
+  -- a compact is refused by the freeze of the block, be its volume drained, and its lane flushes a replica of it then
+  flushed_behind_a_refused_compact : (v m m' u n : ℕ) (rows : RowNote) → v < settings.volumes → (volume_at k v).frozen ≡ None
+      → LegalBlock settings k
+      (answered 0 2 (command.Compact v m) (reply.ReadOnly (record { volume = v; machine = u } ∷ [])) ∷ answered 0 3 (command.Flush v m') (reply.Flushed v m' n) ∷ [])
+      logs rows t → ⊥
+  flushed_behind_a_refused_compact v m m' u n rows below thawed b =
+      (volume b v below).lanes.0.0 refl (inr (thawed, (record { volume = v; machine = u }, (0, omega arith, refl), refl))) (inr (inl refl))
+
+  -- a flush of a frozen volume is refused as one of a stuck index, behind a line of its lane that met the freeze
+  stuck_behind_a_freeze : (v m m' u : ℕ) (rows : RowNote) → v < settings.volumes → (volume_at k v).frozen ≡ None → (volume_at t v).frozen ≢ Some m'
+      → LegalBlock settings k
+      (answered 0 2 (command.Compact v m) (reply.ReadOnly (record { volume = v; machine = u } ∷ []))
+      ∷ answered 0 3 (command.Flush v m') (reply.ReadOnly (record { volume = v; machine = m' } ∷ []))
+      ∷ [])
+      logs rows t → ⊥
+  stuck_behind_a_freeze v m m' u rows below thawed other b =
+      (volume b v below).lanes.0.0 refl (inr (thawed, (record { volume = v; machine = u }, (0, omega arith, refl), refl))) (inr (inr (refl, other)))
+
+  -- a lane that met the Directory frozen adds a row
+  row_behind_a_refusal : (v p d : ℕ) (c : Cookie) (pair pair' : Pair) (bytes bytes' : List ℕ)
+      → LegalBlock settings k (answered 0 2 (command.Put pair bytes) reply.ReadOnlyDir ∷ answered 0 3 (command.Put pair' bytes') (reply.Stored v p d c) ∷ [])
+      logs (record { from = 0; rows = row_of 3 v ∷ [] }) t → ⊥
+  row_behind_a_refusal v p d c pair pair' bytes bytes' b = elim b.directory [
+    | inl same ↦
+        let clash : true ≡ false = sym (b.lines.0).1 ∙ same.0 ∙ first_row_open settings k t _ _ (new_rows k t) (b.homes).each in absurd cc
+    | inr froze ↦ (froze.lanes).0.0 refl (inr refl) (inr (λ e. cc))
+  ]
+
+  row_behind_its_freeze : (v p d f : ℕ) (c : Cookie) (pair pair' : Pair) (bytes bytes' : List ℕ)
+      → LegalBlock settings k (answered 0 2 (command.Put pair bytes) (reply.FailedDir f) ∷ answered 0 3 (command.Put pair' bytes') (reply.Stored v p d c) ∷ [])
+      logs (record { from = 0; rows = row_of 3 v ∷ [] }) t → ⊥
+  row_behind_its_freeze v p d f c pair pair' bytes bytes' b = elim b.directory [
+    | inl same ↦
+        let left = (b.lines.0).1.2 in
+        let clash : true ≡ false = sym left.1 ∙ same.0 ∙ first_row_open settings k t _ _ (new_rows k t) (b.homes).each in absurd cc
+    | inr froze ↦ elim (one_of_two _ _ froze.item froze.among) [
+      | inl first ↦ (froze.lanes).0.0 refl (inl (sym first)) (inr (λ e. cc))
+      | inr second ↦ subst (λ (x : LaneItem). MayHaveFrozen x.reply) (sym second) froze.reply
+    ]
+  ]
+
+  -- a lane reads that a pair has no home, behind a delete of it that its home refused
+  home_is_forgotten : (v m d : ℕ) (pair : Pair) (cookie : Cookie) (rows : RowNote)
+      → LegalBlock settings k
+      (answered 0 2 (command.Del pair) (reply.ReadOnly (record { volume = v; machine = m } ∷ [])) ∷ answered 0 3 (command.Read pair cookie) (reply.Unknown d) ∷ [])
+      logs rows t → ⊥
+  home_is_forgotten v m d pair cookie rows b = none-some v (sym (b.lines.1).0 ∙ ((b.pairs.0.0 refl).kept pair v (refl, refl)).0)
+
+  -- a put finds no home of its pair, behind a line of its lane that saw the home
+  home_is_missed : (v m p d : ℕ) (pair : Pair) (bytes : List ℕ) (cookie : Cookie) (rows : RowNote)
+      → LegalBlock settings k (answered 0 2 (command.Read pair cookie) (reply.Gone v m p d) ∷ answered 0 3 (command.Put pair bytes) reply.ReadOnlyDir ∷ [])
+      logs rows t → ⊥
+  home_is_missed v m p d pair bytes cookie rows b = none-some v (sym ((b.pairs.0.0 refl).missing pair refl).0 ∙ (b.lines.0).home)
+
+  -- a put finds no home of its pair, behind one of its lane that failed at the home
+  home_is_missed_behind_failure : (v m f : ℕ) (pair : Pair) (bytes bytes' : List ℕ) (rows : RowNote)
+      → LegalBlock settings k (answered 0 2 (command.Put pair bytes) (reply.Failed v m f) ∷ answered 0 3 (command.Put pair bytes') reply.ReadOnlyDir ∷ [])
+      logs rows t → ⊥
+  home_is_missed_behind_failure v m f pair bytes bytes' rows b = (b.pairs.0.0 refl).apart pair v (refl, refl) refl
+
+  -- a lane reads of a volume at an earlier front than its last one, behind a put that froze it
+  read_behind_its_freeze : (v m m' f p d : ℕ) (pair pair' : Pair) (bytes : List ℕ) (cookie : Cookie) (rows : RowNote) → v < settings.volumes
+      → (volume_at k v).frozen ≡ None → p < length (volume_at t v).log
+      → LegalBlock settings k (answered 0 2 (command.Put pair bytes) (reply.Failed v m f) ∷ answered 0 3 (command.Read pair' cookie) (reply.Gone v m' p d) ∷ [])
+      logs rows t → ⊥
+  read_behind_its_freeze v m m' f p d pair pair' bytes cookie rows below before less b =
+      let both : List LaneItem = answered 0 2 (command.Put pair bytes) (reply.Failed v m f) ∷ answered 0 3 (command.Read pair' cookie) (reply.Gone v m' p d) ∷ [] in
+      let by = froze_by b v m below before (b.lines.0).3.0 in
+      elim (one_of_two _ _ by.0 (by.2).among) [
+        | inl first ↦
+            let at = (volume b v below).settled.0.0 refl (inl (by.1 ∙ ap (λ (x : LaneItem). Some x) (sym first))) in
+            let shown = subst (λ (xs : List Printed). Each (IsAt (length (volume_at t v).log)) xs)
+            (ap (λ (x : Bool). cond x (printed p false ∷ []) []) (eq-eqb v v refl)) at in
+            let last : p ≡ length (volume_at t v).log = shown.0 in
+            omega (arith, last, less)
+        | inr second ↦ subst (λ (x : LaneItem). Freezes settings k both t v (by.2).machine (by.2).change x) (sym second) (by.2).freezes
+      ]
+
+  -- a put that each of two tries refused adds the row of its pair
+  row_of_a_put_that_all_refused : (v : ℕ) (pair : Pair) (bytes : List ℕ) (one two : Refused) (rest : List Refused)
+      → LegalBlock settings k (answered 0 2 (command.Put pair bytes) (reply.Full (one ∷ two ∷ rest)) ∷ []) logs (record { from = 0; rows = row_of 2 v ∷ [] }) t → ⊥
+  row_of_a_put_that_all_refused v pair bytes one two rest b = by (new_rows k t) (b.homes).each
+    where
+      put : LaneItem
+      put = answered 0 2 (command.Put pair bytes) (reply.Full (one ∷ two ∷ rest))
+
+      by : (rows : List HomeRow) → AllZip (IsNewRow settings k (put ∷ []) t) (row_of 2 v ∷ []) rows → ⊥
+      by [] zip = zip
+      by (row ∷ more) zip =
+          let new = zip.0 in
+          subst (λ (x : LaneItem). MayHaveAdded settings k (put ∷ []) t row.pair new.bytes x.reply) (sym (the_only put new.item new.among)) new.reply
+
+-- GENERATIONS AND INDEXES IN A LANE
+
+abbrev line_at : Option LaneItem → ℕ
+line_at None = 0
+line_at (Some item) = item.line
+
+never_swaps : (v m : ℕ) (a b : LaneItem) (Where : LaneItem → Type 0) → made_on v m a ≡ [] → made_on v m b ≡ [] → SwappedWhere (a ∷ b ∷ []) v m Where → ⊥
+never_swaps v m a b Where none_a none_b swapped = elim (one_of_two a b swapped.0 swapped.1) [
+  | inl first ↦ swapped.2 (ap (made_on v m) (sym first) ∙ none_a)
+  | inr second ↦ swapped.2 (ap (made_on v m) (sym second) ∙ none_b)
+]
+
+module _ (settings : Settings) (k : Known) (logs : List LogNote) (rows : RowNote) (t : Known) (v j : ℕ) (below : v < settings.volumes) (within : j < settings.replicas) where
+  abbrev on : ℕ
+  on = machine_of settings v j
+
+  here : {X : Type 0} (x : X) → cond ((v == v) && (on == on)) (x ∷ []) [] ≡ x ∷ []
+  here x = ap (λ (b : Bool). cond (b && (on == on)) (x ∷ []) []) (eq-eqb v v refl) ∙ ap (λ (b : Bool). cond b (x ∷ []) []) (eq-eqb on on refl)
+
+  -- a lane flushes an index that it left stuck, though no line swapped the replica
+  flushed_behind_failure : (v' m' v'' m'' f n : ℕ)
+      → LegalBlock settings k (answered 0 2 (command.Flush v on) (reply.Failed v' m' f) ∷ answered 0 3 (command.Flush v on) (reply.Flushed v'' m'' n) ∷ []) logs rows t → ⊥
+  flushed_behind_failure v' m' v'' m'' f n b =
+      never_swaps v on _ _ _ refl refl (((replica b v j below within).index).between.0.0 refl (inl (refl, refl)) (refl, refl))
+
+  -- a flush is refused, by a freeze or as its index is stuck, and the next one of the lane fails
+  failed_behind_refusal : (v' m' f : ℕ)
+      → LegalBlock settings k
+      (answered 0 2 (command.Flush v on) (reply.ReadOnly (record { volume = v; machine = on } ∷ [])) ∷ answered 0 3 (command.Flush v on) (reply.Failed v' m' f) ∷ [])
+      logs rows t → ⊥
+  failed_behind_refusal v' m' f b =
+      never_swaps v on _ _ _ refl refl (((replica b v j below within).index).between.0.0 refl (inr ((refl, refl), (refl, refl))) (refl, refl))
+
+  -- a lane flushes an index that was stuck before the block, and swaps the replica only then
+  flushed_before_swap : (v' m' n g : ℕ) → (replica_at (volume_at k v) j).stuck ≡ true
+      → LegalBlock settings k (answered 0 2 (command.Flush v on) (reply.Flushed v' m' n) ∷ answered 0 3 (command.Compact v on) (reply.Compacted v on g) ∷ []) logs rows t → ⊥
+  flushed_before_swap v' m' n g stuck b =
+      let flush : LaneItem = answered 0 2 (command.Flush v on) (reply.Flushed v' m' n) in
+      let swapped = ((replica b v j below within).index).before.0 stuck (refl, refl) in
+      elim (one_of_two _ _ swapped.0 swapped.1) [
+        | inl first ↦ swapped.2 (ap (made_on v on) (sym first))
+        | inr second ↦ late (subst (λ (x : LaneItem). MayPrecede (flush ∷ answered 0 3 (command.Compact v on) (reply.Compacted v on g) ∷ []) x flush) (sym second) swapped.3 refl)
+      ]
+    where
+      -- the second of two lines stands before no flush
+      late : StandsBefore (answered 0 2 (command.Flush v on) (reply.Flushed v' m' n) ∷ answered 0 3 (command.Compact v on) (reply.Compacted v on g) ∷ [])
+          (answered 0 3 (command.Compact v on) (reply.Compacted v on g)) (answered 0 2 (command.Flush v on) (reply.Flushed v' m' n)) → ⊥
+      late (zero, n, less, at, then) = let clash : 2 ≡ 3 = ap line_at at in omega (arith, clash)
+      late (suc zero, suc zero, less, at, then) = omega (arith, less)
+      late (suc zero, zero, less, at, then) = omega (arith, less)
+      late (suc zero, suc (suc n), less, at, then) = none-some _ then
+      late (suc (suc i), n, less, at, then) = none-some _ at
+
+  -- two lanes leave an index stuck that no line swapped
+  stuck_twice : (v' m' v'' m'' f f' : ℕ) → (replica_at (volume_at t v) j).generation ≡ (replica_at (volume_at k v) j).generation
+      → LegalBlock settings k (answered 0 2 (command.Flush v on) (reply.Failed v' m' f) ∷ answered 1 3 (command.Flush v on) (reply.Failed v'' m'' f') ∷ []) logs rows t → ⊥
+  stuck_twice v' m' v'' m'' f f' same b =
+      let bit : Bool → ℕ = λ x. cond x 1 0 in
+      let count : ℕ = 1 in
+      let one : bit ((v == v) && (on == on)) ≡ count = ap (λ (x : Bool). bit (x && (on == on))) (eq-eqb v v refl) ∙ ap bit (eq-eqb on on refl) in
+      let first : LaneItem = answered 0 2 (command.Flush v on) (reply.Failed v' m' f) in
+      let second : LaneItem = answered 1 3 (command.Flush v on) (reply.Failed v'' m'' f') in
+      let least = ((replica b v j below within).index).once in
+      let total = sum_by-cons (sticks_on v on) first (second ∷ []) in
+      let rest = sum_by-cons (sticks_on v on) second [] in
+      let most : cond (replica_at (volume_at t v) j).stuck 1 0 ≤ 1 = at_most_one (replica_at (volume_at t v) j).stuck in
+      omega (arith, least, total, rest, one, same, most)
+    where
+      at_most_one : (x : Bool) → cond x 1 0 ≤ 1
+      at_most_one true = omega arith
+      at_most_one false = omega arith
+
+  -- the generations that a lane makes fall
+  generations_fall : (g g' : ℕ) → g' ≤ g
+      → LegalBlock settings k (answered 0 2 (command.Compact v on) (reply.Compacted v on g) ∷ answered 0 3 (command.Compact v on) (reply.Compacted v on g') ∷ []) logs rows t → ⊥
+  generations_fall g g' falls b =
+      let rises : EachPair InOrder (generation_print v on (answered 0 2 (command.Compact v on) (reply.Compacted v on g))
+      ++ (generation_print v on (answered 0 3 (command.Compact v on) (reply.Compacted v on g')) ++ [])) = ((replica b v j below within).generations).rising.0 in
+      let first = subst (λ (xs : List Printed). EachPair InOrder (xs ++ (generation_print v on (answered 0 3 (command.Compact v on) (reply.Compacted v on g')) ++ [])))
+      (here (printed g true)) rises in
+      let both = subst (λ (xs : List Printed). EachPair InOrder (printed g true ∷ (xs ++ []))) (here (printed g' true)) first in
+      let less : g < g' = both.0.0 in omega (arith, less, falls)

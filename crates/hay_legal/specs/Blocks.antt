@@ -1,5 +1,5 @@
 -- Which blocks of lanes are legal: what their replies show of the log, the rows and the counts, whatever the order was.
-use Rattle.std.specs.Prelude.{◌≡◌, ◌≢◌, ℕ, ◌+◌, ◌-◌, ◌^◌, ◌<◌, ◌≤◌, ◌==◌, ◌&&◌, ◌||◌, ◌⊎◌, not, Bool, true, false, cond, List, [], ◌∷◌, length, map, drop, take, filter, filter_map, flat_map, sum_by, count_by, take_while, slice_get, unwrap_or, Contains, Option, Some, None, option_map, if◌then◌else◌}
+use Rattle.std.specs.Prelude.{◌≡◌, ◌≢◌, ℕ, ◌+◌, ◌-◌, ◌^◌, ◌<◌, ◌≤◌, ◌==◌, ◌&&◌, ◌||◌, ◌⊎◌, not, Bool, true, false, cond, List, [], ◌∷◌, ◌++◌, length, map, drop, take, filter, filter_map, flat_map, sum_by, count_by, take_while, slice_get, unwrap_or, Contains, Option, Some, None, option_map, if◌then◌else◌}
 use Rattle.std.specs.List.{AllZip, AllByRecursion as Each, list_any, enumerate_from}
 use Rattle.hay_needle.specs.declared.needle.Pair.{Pair}
 use Rattle.hay_needle.specs.declared.needle.Cookie.{Cookie}
@@ -38,7 +38,7 @@ use Rattle.hay_legal.specs.declared.turn.LaneItem.{LaneItem}
 use Rattle.hay_legal.specs.declared.turn.LogNote.{LogNote}
 use Rattle.hay_legal.specs.declared.turn.RowNote.{RowNote}
 use Rattle.hay_legal.specs.Known.{volume_at, replica_at, machine_of, slot_of, replica_on, home_at, home_of, all_tries, at_front, now, closed, fault_count, arm_count, CameUp, NoneFalls, EachPair, replicas_of, volumes_of, all_lanes}
-use Rattle.hay_legal.specs.Plain.{GetShows, IsFrozenBy, IsOpen, as_closed, first_machine, wants_room, order_from, put_entry, start_of}
+use Rattle.hay_legal.specs.Plain.{GetShows, IsFrozenBy, Names, IsOpen, as_closed, first_machine, wants_room, order_from, put_entry, start_of}
 
 -- WHAT A REPLY TELLS
 
@@ -246,14 +246,21 @@ pub record MayGetRow (settings : Settings) (k : Known) (items : List LaneItem) (
   pub takes : MayHaveTaken settings k items t size v
   pub before : Each (λ u. (refused : Refused) × MayRefuse settings k items t size u refused) (take_while (λ u. not (u == v)) (all_tries settings pair))
 
--- a reply to a put that may have added its row
-abbrev pub MayHaveAdded : Reply → Type 0
-MayHaveAdded (Stored v p d c) = Unit {0}
-MayHaveAdded (Full refused) = Unit {0}
-MayHaveAdded (ReadOnly by) = Unit {0}
-MayHaveAdded (Failed v m f) = Unit {0}
-MayHaveAdded NoMem = Unit {0}
-MayHaveAdded _ = ⊥
+-- the pair's home refused the photo, and no other try is named
+abbrev pub HomeRefuses : Settings → Known → List LaneItem → Known → Pair → List ℕ → List Refused → Type 0
+HomeRefuses settings k items t pair bytes (refused ∷ []) =
+    (v : ℕ) × HomeInBlock k t pair v × MayRefuse settings k items t (length bytes) v refused
+HomeRefuses settings k items t pair bytes _ = ⊥
+
+-- A reply to a put that may have added its row. Where the photo was refused, the home that the row gave the pair refused it:
+-- a put that each try refused adds none.
+abbrev pub MayHaveAdded : Settings → Known → List LaneItem → Known → Pair → List ℕ → Reply → Type 0
+MayHaveAdded settings k items t pair bytes (Stored v p d c) = Unit {0}
+MayHaveAdded settings k items t pair bytes (Full refused) = HomeRefuses settings k items t pair bytes refused
+MayHaveAdded settings k items t pair bytes (ReadOnly by) = HomeRefuses settings k items t pair bytes (map as_closed by)
+MayHaveAdded settings k items t pair bytes (Failed v m f) = Unit {0}
+MayHaveAdded settings k items t pair bytes NoMem = Unit {0}
+MayHaveAdded settings k items t pair bytes _ = ⊥
 
 pub record IsNewRow (settings : Settings) (k : Known) (items : List LaneItem) (t : Known) (named : LineVolume) (row : HomeRow) : Type 0 where
   pub volume : named.volume ≡ row.volume
@@ -262,7 +269,7 @@ pub record IsNewRow (settings : Settings) (k : Known) (items : List LaneItem) (t
   pub line : item.line ≡ named.line
   pub bytes : List ℕ
   pub put : item.item ≡ asks.Command (command.Put row.pair bytes)
-  pub reply : MayHaveAdded item.reply
+  pub reply : MayHaveAdded settings k items t row.pair bytes item.reply
   pub «open» : k.directory.frozen ≡ false
   pub gets : MayGetRow settings k items t row.pair (length bytes) row.volume
 
@@ -272,9 +279,9 @@ pub record RowsAreLegal (settings : Settings) (k : Known) (items : List LaneItem
   pub each : AllZip (IsNewRow settings k items t) rows.rows (new_rows k t)
   pub distinct : EachPair (λ a b. a.pair ≢ b.pair) (new_rows k t)
 
--- FRONTS: what a lane prints of a volume or of the Directory never goes back
+-- FRONTS: what a lane prints of a volume or of the Directory never goes back, nor before what the lane itself changed
 
--- a printed front, and whether it is the position of an entry
+-- a printed front, and whether it is the position of a line's own entry or row
 pub record Printed : Type 0 where
   pub front : ℕ
   pub entered : Bool
@@ -305,6 +312,17 @@ row_print reply = prints (told reply)
     prints (ShownRows d) = printed d false ∷ []
     prints _ = []
 
+-- the position of the row that a line added, if it added one
+abbrev pub row_added : RowNote → LaneItem → List Printed
+row_added rows item = filter_map place (enumerate_from (rows.from + 1) rows.rows)
+  where
+    place : ℕ × LineVolume → Option Printed
+    place at = cond ((at.1).line == item.line) (Some (printed at.0 true)) None
+
+-- what a line tells of the Directory: the row that it added comes before what it prints
+abbrev pub row_fronts : RowNote → LaneItem → List Printed
+row_fronts rows item = row_added rows item ++ row_print item.reply
+
 abbrev pub lane_items : List LaneItem → ℕ → List LaneItem
 lane_items items lane = filter (λ item. item.lane == lane) items
 
@@ -318,15 +336,18 @@ InOrder earlier later = InOrderBy later.entered
 abbrev pub Between : ℕ → ℕ → Printed → Type 0
 Between before after shown = (before ≤ shown.front) × (shown.front ≤ after)
 
+abbrev pub IsAt : ℕ → Printed → Type 0
+IsAt front shown = shown.front ≡ front
+
 abbrev pub FrontsGrow : ℕ → ℕ → List Printed → Type 0
 FrontsGrow before after shown = EachPair InOrder shown × Each (Between before after) shown
 
-pub record FrontsAreLegal (settings : Settings) (k : Known) (items : List LaneItem) (t : Known) : Type 0 where
+pub record FrontsAreLegal (settings : Settings) (k : Known) (items : List LaneItem) (rows : RowNote) (t : Known) : Type 0 where
   pub volumes : Each (λ lane. Each
       (λ v. FrontsGrow (length (volume_at k v).log) (length (volume_at t v).log) (flat_map (λ item. volume_print v item.reply) (lane_items items lane)))
       (volumes_of settings)) all_lanes
   pub directory : Each
-      (λ lane. FrontsGrow (length k.directory.rows) (length t.directory.rows) (flat_map (λ item. row_print item.reply) (lane_items items lane)))
+      (λ lane. FrontsGrow (length k.directory.rows) (length t.directory.rows) (flat_map (row_fronts rows) (lane_items items lane)))
       all_lanes
 
 -- READS: a reply is what its printed fronts show
@@ -396,11 +417,6 @@ abbrev pub TriesRefuse : Settings → Known → List LaneItem → Known → Pair
 TriesRefuse settings k items t pair bytes refused =
     (home_of k pair ≡ None) × AllZip (MayRefuse settings k items t (length bytes)) (all_tries settings pair) refused
 
-abbrev pub HomeRefuses : Settings → Known → List LaneItem → Known → Pair → List ℕ → List Refused → Type 0
-HomeRefuses settings k items t pair bytes (refused ∷ []) =
-    (v : ℕ) × HomeInBlock k t pair v × MayRefuse settings k items t (length bytes) v refused
-HomeRefuses settings k items t pair bytes _ = ⊥
-
 abbrev pub RefusesPut : Settings → Known → List LaneItem → Known → Pair → List ℕ → List Refused → Type 0
 RefusesPut settings k items t pair bytes refused =
     TriesRefuse settings k items t pair bytes refused ⊎ HomeRefuses settings k items t pair bytes refused
@@ -431,17 +447,62 @@ PutIsLegal settings k items t tag pair bytes (FailedDir f) =
 PutIsLegal settings k items t tag pair bytes NoMem = Unit {0}
 PutIsLegal settings k items t tag pair bytes _ = ⊥
 
--- FLUSHES AND COMPACTIONS
+-- WHAT A LANE KNOWS OF A PAIR'S HOME
 
-abbrev pub IsOn : ℕ → ℕ → ℕ → ℕ → Type 0
-IsOn v m v' m' = (v' ≡ v) × (m' ≡ m)
+abbrev pub volume_named : Refused → ℕ
+volume_named (NoRoom v m end need) = v
+volume_named (Closed v m) = v
+
+-- a put or a delete of the pair that met its home, and prints no front of it
+abbrev pub MetHome : Settings → Known → List LaneItem → Known → LaneItem → Pair → ℕ → Type 0
+MetHome settings k items t item pair v = Met item.item item.reply
+  where
+    Refuses : List ℕ → List Refused → Type 0
+    Refuses bytes (refused ∷ []) = (volume_named refused ≡ v) × (TriesRefuse settings k items t pair bytes (refused ∷ []) → ⊥)
+    Refuses bytes _ = ⊥
+
+    MetAs : Command → Reply → Type 0
+    MetAs (command.Put pair' bytes) (Full refused) = (pair' ≡ pair) × Refuses bytes refused
+    MetAs (command.Put pair' bytes) (ReadOnly by) = (pair' ≡ pair) × Refuses bytes (map as_closed by)
+    MetAs (command.Put pair' bytes) (Failed v' m f) = (pair' ≡ pair) × (v' ≡ v)
+    MetAs (command.Del pair') (ReadOnly (by ∷ [])) = (pair' ≡ pair) × (by.volume ≡ v)
+    MetAs (command.Del pair') (Failed v' m f) = (pair' ≡ pair) × (v' ≡ v)
+    MetAs _ _ = ⊥
+
+    Met : Item → Reply → Type 0
+    Met (asks.Command command) reply = MetAs command reply
+    Met asks.Bad reply = ⊥
+
+-- a put of the pair that met no home of it, and prints no front
+abbrev pub MetNoHome : Settings → Known → List LaneItem → Known → LaneItem → Pair → Type 0
+MetNoHome settings k items t item pair = Met item.item item.reply
+  where
+    MetAs : Command → Reply → Type 0
+    MetAs (command.Put pair' bytes) (Full refused) = (pair' ≡ pair) × (HomeRefuses settings k items t pair bytes refused → ⊥)
+    MetAs (command.Put pair' bytes) (ReadOnly by) = (pair' ≡ pair) × (HomeRefuses settings k items t pair bytes (map as_closed by) → ⊥)
+    MetAs (command.Put pair' bytes) ReadOnlyDir = pair' ≡ pair
+    MetAs (command.Put pair' bytes) (FailedDir f) = pair' ≡ pair
+    MetAs _ _ = ⊥
+
+    Met : Item → Reply → Type 0
+    Met (asks.Command command) reply = MetAs command reply
+    Met asks.Bad reply = ⊥
+
+-- Two lines of a lane, in their order. A home that the first met stands at what the second prints, and none that the second
+-- missed stands at what the first prints.
+pub record HomesAgree (settings : Settings) (k : Known) (items : List LaneItem) (t : Known) (a b : LaneItem) : Type 0 where
+  pub kept : (pair : Pair) (v : ℕ) → MetHome settings k items t a pair v → Each (λ shown. HomeAt t pair shown.front (Some v)) (row_print b.reply)
+  pub missing : (pair : Pair) → MetNoHome settings k items t b pair → Each (λ shown. HomeAt t pair shown.front None) (row_print a.reply)
+  pub apart : (pair : Pair) (v : ℕ) → MetHome settings k items t a pair v → MetNoHome settings k items t b pair → ⊥
+
+-- FLUSHES AND COMPACTIONS
 
 -- a flush of the replica on m that failed
 abbrev pub SticksBy : ℕ → ℕ → LaneItem → Type 0
 SticksBy v m item = Sticks item.item item.reply
   where
     SticksAs : Command → Reply → Type 0
-    SticksAs (command.Flush v' m') (Failed v'' m'' f) = IsOn v m v' m'
+    SticksAs (command.Flush v' m') (Failed v'' m'' f) = Names v m v' m'
     SticksAs _ _ = ⊥
 
     Sticks : Item → Reply → Type 0
@@ -462,7 +523,7 @@ IsLeftStuck k t v j = ((replica_at (volume_at t v) j).stuck ≡ true) ⊎ WasSwa
 
 abbrev pub MayBeStuck : Known → List LaneItem → ℕ → ℕ → ℕ → List ClosedBy → Type 0
 MayBeStuck k items v m j (by ∷ []) =
-    IsOn v m by.volume by.machine × IsOpen k v
+    Names v m by.volume by.machine × IsOpen k v
     × (((replica_at (volume_at k v) j).stuck ≡ true) ⊎ ((item : LaneItem) × Contains items item × SticksBy v m item))
 MayBeStuck k items v m j _ = ⊥
 
@@ -471,9 +532,9 @@ abbrev pub FlushIsLegal : Settings → Known → List LaneItem → Known → ℕ
 FlushIsLegal settings k items t v m None Nowhere = Unit {0}
 FlushIsLegal settings k items t v m None NoMem = Unit {0}
 FlushIsLegal settings k items t v m None _ = ⊥
-FlushIsLegal settings k items t v m (Some j) (Flushed v' m' n) = IsOn v m v' m' × MayFlush k t v j
+FlushIsLegal settings k items t v m (Some j) (Flushed v' m' n) = Names v m v' m' × MayFlush k t v j
 FlushIsLegal settings k items t v m (Some j) (ReadOnly by) = IsFrozenBy t v by ⊎ MayBeStuck k items v m j by
-FlushIsLegal settings k items t v m (Some j) (Failed v' m' f) = IsOn v m v' m' × MayFlush k t v j × IsLeftStuck k t v j
+FlushIsLegal settings k items t v m (Some j) (Failed v' m' f) = Names v m v' m' × MayFlush k t v j × IsLeftStuck k t v j
 FlushIsLegal settings k items t v m (Some j) NoMem = Unit {0}
 FlushIsLegal settings k items t v m (Some j) _ = ⊥
 
@@ -498,12 +559,12 @@ abbrev pub CompactIsLegal : Settings → Known → List LaneItem → Known → �
 CompactIsLegal settings k items t lane v m None Nowhere = Unit {0}
 CompactIsLegal settings k items t lane v m None NoMem = Unit {0}
 CompactIsLegal settings k items t lane v m None _ = ⊥
-CompactIsLegal settings k items t lane v m (Some j) (Compacted v' m' g) = IsOn v m v' m' × IsOpen k v
+CompactIsLegal settings k items t lane v m (Some j) (Compacted v' m' g) = Names v m v' m' × IsOpen k v
 CompactIsLegal settings k items t lane v m (Some j) (ReadOnly by) = IsFrozenBy t v by
-CompactIsLegal settings k items t lane v m (Some j) (Busy v' m' g) = IsOn v m v' m' × IsOpen k v × MayBeBusy k items t lane v m j g
+CompactIsLegal settings k items t lane v m (Some j) (Busy v' m' g) = Names v m v' m' × IsOpen k v × MayBeBusy k items t lane v m j g
 CompactIsLegal settings k items t lane v m (Some j) (Worn v' m') =
-    IsOn v m v' m' × IsOpen k v × ((replica_at (volume_at t v) j).generation ≡ 65535)
-CompactIsLegal settings k items t lane v m (Some j) (Failed v' m' f) = IsOn v m v' m' × IsOpen k v
+    Names v m v' m' × IsOpen k v × ((replica_at (volume_at t v) j).generation ≡ 65535)
+CompactIsLegal settings k items t lane v m (Some j) (Failed v' m' f) = Names v m v' m' × IsOpen k v
 CompactIsLegal settings k items t lane v m (Some j) NoMem = Unit {0}
 CompactIsLegal settings k items t lane v m (Some j) _ = ⊥
 
@@ -683,6 +744,16 @@ flushed_on v m item = flushed (told item.reply)
     flushed (Recorded v' m' n) = cond ((v' == v) && (m' == m)) (n ∷ []) []
     flushed _ = []
 
+-- what a reply tells of the generation of the replica on m: one that it made, the one before that which another line makes, or the last one
+abbrev pub generation_print : ℕ → ℕ → LaneItem → List Printed
+generation_print v m item = prints item.reply
+  where
+    prints : Reply → List Printed
+    prints (Compacted v' m' g) = cond ((v' == v) && (m' == m)) (printed g true ∷ []) []
+    prints (Busy v' m' g) = cond ((v' == v) && (m' == m)) (printed (g - 1) false ∷ []) []
+    prints (Worn v' m') = cond ((v' == v) && (m' == m)) (printed 65535 false ∷ []) []
+    prints _ = []
+
 abbrev pub is_failed : Reply → Bool
 is_failed reply = failed (told reply)
   where
@@ -702,13 +773,15 @@ abbrev pub froze_at_compact : ℕ → ℕ → (Reply → Bool) → Option LaneIt
 froze_at_compact v m says None = false
 froze_at_compact v m says (Some item) = is_compacted v m item && says item.reply
 
--- the printed generations are all that were made, but for the swap behind which want of memory froze the volume
+-- The printed generations are all that were made, but for the swap behind which want of memory froze the volume. What a lane
+-- prints of them rises.
 pub record GenerationsAreLegal (settings : Settings) (items : List LaneItem) (v j : ℕ) (froze : Option LaneItem) (old new : ReplicaKnown) : Type 0 where
   pub inside_range : Each (λ g. (old.generation < g) × (g ≤ new.generation)) (flat_map (made_on v (machine_of settings v j)) items)
   pub once : EachPair (λ g h. g ≢ h) (flat_map (made_on v (machine_of settings v j)) items)
   pub all : new.generation
       ≡ old.generation + length (flat_map (made_on v (machine_of settings v j)) items) + cond (froze_at_compact v (machine_of settings v j) is_wanting froze) 1 0
   pub last : (old.generation < new.generation) → (new.generation ≤ 65535)
+  pub rising : Each (λ lane. EachPair InOrder (flat_map (generation_print v (machine_of settings v j)) (lane_items items lane))) all_lanes
 
 -- how far a replica grew, where it was not swapped and where it was
 abbrev pub Grew : Known → ℕ → List Logged → ReplicaKnown → ReplicaKnown → Type 0
@@ -752,6 +825,68 @@ StuckIsLegal items v m old new =
     ⊎ ((new.stuck ≡ true) × (item : LaneItem) × Contains items item × SticksBy v m item)
     ⊎ ((new.stuck ≡ false) × (old.generation < new.generation))
 
+-- a line stands before another
+abbrev pub StandsBefore : List LaneItem → LaneItem → LaneItem → Type 0
+StandsBefore items a b = (i : ℕ) × (n : ℕ) × (i < n) × (slice_get items i ≡ Some a) × (slice_get items n ≡ Some b)
+
+-- a line may have come before another: in one lane it stands before it
+abbrev pub MayPrecede : List LaneItem → LaneItem → LaneItem → Type 0
+MayPrecede items a b = a.lane ≡ b.lane → StandsBefore items a b
+
+-- a line swapped the replica on m, and may have done so where it is said
+abbrev pub SwappedWhere : List LaneItem → ℕ → ℕ → (LaneItem → Type 0) → Type 0
+SwappedWhere items v m Where = (swap : LaneItem) × Contains items swap × (made_on v m swap ≢ []) × Where swap
+
+-- a flush of the replica on m that left its index stuck, or was refused on its machine: it met the index stuck or the volume frozen
+abbrev pub MetStuck : ℕ → ℕ → LaneItem → Type 0
+MetStuck v m item = SticksBy v m item ⊎ Met item.item item.reply
+  where
+    MetAs : Command → Reply → Type 0
+    MetAs (command.Flush v' m') (ReadOnly (by ∷ [])) = Names v m v' m' × Names v m by.volume by.machine
+    MetAs _ _ = ⊥
+
+    Met : Item → Reply → Type 0
+    Met (asks.Command command) reply = MetAs command reply
+    Met asks.Bad reply = ⊥
+
+-- a flush of the replica on m that met its index loose
+abbrev pub MetLoose : ℕ → ℕ → LaneItem → Type 0
+MetLoose v m item = Met item.item item.reply
+  where
+    MetAs : Command → Reply → Type 0
+    MetAs (command.Flush v' m') (Flushed v'' m'' n) = Names v m v' m'
+    MetAs (command.Flush v' m') (Failed v'' m'' f) = Names v m v' m'
+    MetAs _ _ = ⊥
+
+    Met : Item → Reply → Type 0
+    Met (asks.Command command) reply = MetAs command reply
+    Met asks.Bad reply = ⊥
+
+-- how many times a line left the index of the replica on m stuck
+abbrev pub sticks_on : ℕ → ℕ → LaneItem → ℕ
+sticks_on v m item = sticks item.item item.reply
+  where
+    sticks_as : Command → Reply → ℕ
+    sticks_as (command.Flush v' m') (Failed v'' m'' f) = cond ((v' == v) && (m' == m)) 1 0
+    sticks_as _ _ = 0
+
+    sticks : Item → Reply → ℕ
+    sticks (asks.Command command) reply = sticks_as command reply
+    sticks asks.Bad reply = 0
+
+-- A stuck index is loose only behind a swap of its replica: be it one that was stuck before the block, one that a line of a lane
+-- met so before another, or one that a line left so. The last swap may be the one behind which want of memory froze the volume.
+-- No index gets stuck twice without a swap.
+pub record IndexIsLegal (items : List LaneItem) (v m : ℕ) (froze : Option LaneItem) (old new : ReplicaKnown) : Type 0 where
+  pub before : Each (λ b. old.stuck ≡ true → MetLoose v m b → SwappedWhere items v m (λ swap. MayPrecede items swap b)) items
+  pub between : EachPair
+      (λ a b. a.lane ≡ b.lane → MetStuck v m a → MetLoose v m b → SwappedWhere items v m (λ swap. MayPrecede items a swap × MayPrecede items swap b))
+      items
+  pub behind : Each
+      (λ a. new.stuck ≡ false → SticksBy v m a → SwappedWhere items v m (λ swap. MayPrecede items a swap) ⊎ (froze_at_compact v m is_wanting froze ≡ true))
+      items
+  pub once : sum_by (sticks_on v m) items + cond old.stuck 1 0 + old.generation ≤ new.generation + cond new.stuck 1 0
+
 pub record ReplicaIsLegal (settings : Settings) (k : Known) (items : List LaneItem) (t : Known) (v : ℕ) (froze : Option LaneItem) (j : ℕ) (old new : ReplicaKnown) : Type 0 where
   pub base : new.base ≡ old.base
   pub generations : GenerationsAreLegal settings items v j froze old new
@@ -759,6 +894,7 @@ pub record ReplicaIsLegal (settings : Settings) (k : Known) (items : List LaneIt
   pub bare : BareIsLegal (flat_map (flushed_on v (machine_of settings v j)) items) (new_entries k t v) old new
   pub run : RunIsLegal settings k items t v j (new_entries k t v) old new
   pub stuck : StuckIsLegal items v (machine_of settings v j) old new
+  pub index : IndexIsLegal items v (machine_of settings v j) froze old new
   pub poised : new.poised ≡ (old.poised || froze_at_compact v (machine_of settings v j) is_failed froze)
 
 -- WHAT IS LEFT OF EACH VOLUME
@@ -776,14 +912,14 @@ Freezes settings k items t v m change item = FreezesBy item.item item.reply
     Deletes pair = (change ≡ Some (entry.Del pair)) × StoodThen settings t v (length (volume_at t v).log) pair
 
     FreezesAs : Command → Reply → Type 0
-    FreezesAs (command.Put pair bytes) (Failed v' m' f) = IsOn v m v' m' × (change ≡ Some (put_entry settings pair bytes))
+    FreezesAs (command.Put pair bytes) (Failed v' m' f) = Names v m v' m' × (change ≡ Some (put_entry settings pair bytes))
     FreezesAs (command.Put pair bytes) NoMem =
         Wants pair × MayHaveTaken settings k items t (length bytes) v × (change ≡ Some (put_entry settings pair bytes))
-    FreezesAs (command.Del pair) (Failed v' m' f) = IsOn v m v' m' × Deletes pair
+    FreezesAs (command.Del pair) (Failed v' m' f) = Names v m v' m' × Deletes pair
     FreezesAs (command.Del pair) NoMem = Wants pair × (closed settings k v ≡ None) × ((change ≡ None) ⊎ Deletes pair)
     FreezesAs (command.Read pair cookie) NoMem = Wants pair × (change ≡ None)
     FreezesAs (command.Get url) NoMem = Wants url.pair × (v ≡ url.volume) × (change ≡ None)
-    FreezesAs (command.Compact v' m') (Failed v'' m'' f) = IsOn v m v' m' × (change ≡ None)
+    FreezesAs (command.Compact v' m') (Failed v'' m'' f) = Names v m v' m' × (change ≡ None)
     FreezesAs (command.Compact v' m') NoMem =
         (v' ≡ v) × (m ≡ first_machine settings v) × HasReplica settings v m' × (change ≡ None)
     FreezesAs _ _ = ⊥
@@ -812,18 +948,25 @@ FreezeIsLegal settings k items t v None =
     ((volume_at t v).frozen ≡ (volume_at k v).frozen) × ((volume_at t v).pending ≡ (volume_at k v).pending)
 FreezeIsLegal settings k items t v (Some item) = WasFrozen settings k items t v item
 
--- a line that met the volume v closed to what it asked for
-abbrev pub MetClosed : ℕ → LaneItem → Type 0
-MetClosed v item = Met item.item item.reply
+-- A line that met the volume v frozen in the block: a put or a delete that a machine refused which had not closed the volume
+-- before, or a compact or a flush that was refused where the volume was not frozen before, but for a flush whose index may have
+-- been stuck.
+abbrev pub MetFreeze : Settings → Known → List LaneItem → ℕ → LaneItem → Type 0
+MetFreeze settings k items v item = Met item.item item.reply
   where
-    Names : List ClosedBy → Type 0
-    Names tries = (by : ClosedBy) × Contains tries by × (by.volume ≡ v)
+    Refuses : List Refused → Type 0
+    Refuses refused = (m : ℕ) × Contains refused (Closed v m) × (closed settings k v ≢ Some m)
+
+    Freezes : List ClosedBy → Type 0
+    Freezes tries = IsOpen k v × ((by : ClosedBy) × Contains tries by × (by.volume ≡ v))
 
     MetAs : Command → Reply → Type 0
-    MetAs (command.Put pair bytes) (Full refused) = (m : ℕ) × Contains refused (Closed v m)
-    MetAs (command.Put pair bytes) (ReadOnly tries) = Names tries
-    MetAs (command.Del pair) (ReadOnly tries) = Names tries
-    MetAs (command.Compact u m) (ReadOnly tries) = Names tries
+    MetAs (command.Put pair bytes) (Full refused) = Refuses refused
+    MetAs (command.Put pair bytes) (ReadOnly tries) = Refuses (map as_closed tries)
+    MetAs (command.Del pair) (ReadOnly tries) = Refuses (map as_closed tries)
+    MetAs (command.Compact u m) (ReadOnly tries) = Freezes tries
+    MetAs (command.Flush u m) (ReadOnly tries) =
+        Freezes tries × ((j : ℕ) → replica_on settings u m ≡ Some j → MayBeStuck k items u m j tries → ⊥)
     MetAs _ _ = ⊥
 
     Met : Item → Reply → Type 0
@@ -843,21 +986,34 @@ MetOpen v (Busy v' m g) = v' ≡ v
 MetOpen v (Worn v' m) = v' ≡ v
 MetOpen v _ = ⊥
 
+-- a flush of the volume v that no freeze refused, so that its index was stuck
+abbrev pub RefusedAsStuck : Known → ℕ → LaneItem → Type 0
+RefusedAsStuck t v item = Met item.item item.reply
+  where
+    MetAs : Command → Reply → Type 0
+    MetAs (command.Flush u m) (ReadOnly (by ∷ [])) = (by.volume ≡ v) × ((volume_at t v).frozen ≢ Some by.machine)
+    MetAs _ _ = ⊥
+
+    Met : Item → Reply → Type 0
+    Met (asks.Command command) reply = MetAs command reply
+    Met asks.Bad reply = ⊥
+
 -- a line that froze the volume in the block, or that met it frozen then
-abbrev pub MetFrozen : Settings → Known → ℕ → Option LaneItem → LaneItem → Type 0
-MetFrozen settings k v froze item = (froze ≡ Some item) ⊎ ((closed settings k v ≡ None) × MetClosed v item)
+abbrev pub MetFrozen : Settings → Known → List LaneItem → ℕ → Option LaneItem → LaneItem → Type 0
+MetFrozen settings k items v froze item = (froze ≡ Some item) ⊎ MetFreeze settings k items v item
 
 -- a line that froze the volume, or that met it open
-abbrev pub MetThawed : ℕ → Option LaneItem → LaneItem → Type 0
-MetThawed v froze item = (froze ≡ Some item) ⊎ MetOpen v item.reply
+abbrev pub MetThawed : Known → ℕ → Option LaneItem → LaneItem → Type 0
+MetThawed t v froze item = (froze ≡ Some item) ⊎ MetOpen v item.reply ⊎ RefusedAsStuck t v item
 
 -- A freeze, the change that it left pending, and the replica that it left poised or that was swapped before it, are one line's.
--- A lane that met the freeze meets it from then on.
+-- A lane that met the freeze meets it from then on, and reads at the last front.
 pub record VolumeIsLegal (settings : Settings) (k : Known) (items : List LaneItem) (t : Known) (v : ℕ) : Type 0 where
   pub many : length (volume_at t v).replicas ≡ length (volume_at k v).replicas
   pub froze : Option LaneItem
   pub freeze : FreezeIsLegal settings k items t v froze
-  pub lanes : EachPair (λ a b. a.lane ≡ b.lane → MetFrozen settings k v froze a → MetThawed v froze b → ⊥) items
+  pub lanes : EachPair (λ a b. a.lane ≡ b.lane → MetFrozen settings k items v froze a → MetThawed t v froze b → ⊥) items
+  pub settled : EachPair (λ a b. a.lane ≡ b.lane → MetFrozen settings k items v froze a → Each (IsAt (length (volume_at t v).log)) (volume_print v b.reply)) items
   pub replicas : Each
       (λ j. ReplicaIsLegal settings k items t v froze j (replica_at (volume_at k v) j) (replica_at (volume_at t v) j))
       (replicas_of settings)
@@ -870,8 +1026,17 @@ MayHaveFrozen (FailedDir f) = Unit {0}
 MayHaveFrozen NoMem = Unit {0}
 MayHaveFrozen _ = ⊥
 
--- A line froze the Directory, with the row of its pair pending.
-pub record RowsWereFrozen (settings : Settings) (k : Known) (items : List LaneItem) (t : Known) : Type 0 where
+-- a line that froze the Directory, as this one did, or that met it frozen
+abbrev pub MetRowsFrozen : LaneItem → LaneItem → Type 0
+MetRowsFrozen froze item = (froze ≡ item) ⊎ (item.reply ≡ ReadOnlyDir)
+
+-- a line that froze the Directory, or that added a row to it
+abbrev pub MetRowsOpen : RowNote → LaneItem → LaneItem → Type 0
+MetRowsOpen rows froze item = (froze ≡ item) ⊎ (row_added rows item ≢ [])
+
+-- A line froze the Directory, with the row of its pair pending. A lane that met the freeze adds no row from then on, and
+-- sees the last front.
+pub record RowsWereFrozen (settings : Settings) (k : Known) (items : List LaneItem) (rows : RowNote) (t : Known) : Type 0 where
   pub «open» : k.directory.frozen ≡ false
   pub item : LaneItem
   pub among : Contains items item
@@ -882,10 +1047,12 @@ pub record RowsWereFrozen (settings : Settings) (k : Known) (items : List LaneIt
   pub volume : ℕ
   pub gets : MayGetRow settings k items t pair (length bytes) volume
   pub pending : RowIsPending t (tag_of item) pair volume
+  pub lanes : EachPair (λ a b. a.lane ≡ b.lane → MetRowsFrozen item a → MetRowsOpen rows item b → ⊥) items
+  pub settled : EachPair (λ a b. a.lane ≡ b.lane → MetRowsFrozen item a → Each (IsAt (length t.directory.rows)) (row_print b.reply)) items
 
-abbrev pub DirectoryIsLegal : Settings → Known → List LaneItem → Known → Type 0
-DirectoryIsLegal settings k items t =
-    ((t.directory.frozen ≡ k.directory.frozen) × (t.directory.pending ≡ k.directory.pending)) ⊎ RowsWereFrozen settings k items t
+abbrev pub DirectoryIsLegal : Settings → Known → List LaneItem → RowNote → Known → Type 0
+DirectoryIsLegal settings k items rows t =
+    ((t.directory.frozen ≡ k.directory.frozen) × (t.directory.pending ≡ k.directory.pending)) ⊎ RowsWereFrozen settings k items rows t
 
 -- THE BLOCK
 
@@ -894,11 +1061,12 @@ pub record LegalBlock (settings : Settings) (k : Known) (items : List LaneItem) 
   pub entered : Each (IsEntered settings k t) items
   pub log : Each (LogIsLegal settings k items t) (volumes_of settings)
   pub homes : RowsAreLegal settings k items rows t
-  pub fronts : FrontsAreLegal settings k items t
+  pub fronts : FrontsAreLegal settings k items rows t
+  pub pairs : EachPair (λ a b. a.lane ≡ b.lane → HomesAgree settings k items t a b) items
   pub lines : Each (LineIsLegal settings k items t) items
   pub counts : CountsAreLegal settings k items t
   pub volumes : Each (VolumeIsLegal settings k items t) (volumes_of settings)
-  pub directory : DirectoryIsLegal settings k items t
+  pub directory : DirectoryIsLegal settings k items rows t
   pub drained : t.drained ≡ k.drained
   pub fuses : t.fuses ≡ k.fuses
   pub many : length t.volumes ≡ length k.volumes

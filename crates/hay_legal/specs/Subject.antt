@@ -29,7 +29,7 @@ use Rattle.hay_legal.specs.declared.turn.Turn.{Turn}
 use Rattle.hay_legal.specs.declared.turn.Turn.TheVariants.{Plain, Lanes, Restart}
 use Rattle.hay_needle.specs.Sizes.{needle_total}
 use Rattle.hay_legal.specs.Known.{now, volume_at, replica_at, replica_on, home_of, tries_of, closed}
-use Rattle.hay_legal.specs.Plain.{DirectoryOpen}
+use Rattle.hay_legal.specs.Plain.{DirectoryOpen, IsSeen}
 use Rattle.hay_legal.specs.Blocks.{acknowledged}
 use Rattle.hay_legal.specs.Legal.{Legal, known_after}
 
@@ -109,10 +109,15 @@ IsTrueOf settings k pair cookie (Gone v m p d) = IsSeenOn settings k pair v m p 
 IsTrueOf settings k pair cookie (WrongCookie v m p d) =
     (other : Cookie) × (bytes : List ℕ) × (other ≢ cookie)
     × IsSeenOn settings k pair v m p d (λ volume replica. HasPhoto volume replica pair other bytes)
+IsTrueOf settings k pair cookie (Unreadable v p d causes) = IsSeen k pair v p d
 IsTrueOf settings k pair cookie (Unknown d) = (home_of k pair ≡ None) × (d ≡ length k.directory.rows)
-IsTrueOf settings k pair cookie _ = Unit {0}
+IsTrueOf settings k pair cookie (Moved v d) = (home_of k pair ≡ Some v) × (d ≡ length k.directory.rows)
+IsTrueOf settings k pair cookie Nowhere = Unit {0}
+IsTrueOf settings k pair cookie NoMem = Unit {0}
+IsTrueOf settings k pair cookie _ = ⊥
 
--- Each reply to a reader is true of what the store stood at before its turn.
+-- Each reply to a reader is true of what the store stood at before its turn. Where its URL is of no replica, and for want of memory,
+-- it says nothing of the store.
 abbrev pub ShowsTheLastChange : Type 0
 ShowsTheLastChange =
     (settings : Settings) (k t : Known) (earlier later : List Turn) (line : ℕ) (request : Command) (reply : Reply) (after : Known) (pair : Pair) (cookie : Cookie)
@@ -333,7 +338,7 @@ pub record IsTidy (settings : Settings) (k : Known) : Type 0 where
       (outcome_at (now (volume_at k v) (replica_at (volume_at k v) j)) pair ≡ outcome.Nothing) ⊎ (home_of k pair ≡ Some v)
   pub pending : (v : ℕ) (pending : Pending) → (volume_at k v).pending ≡ Some pending → home_of k (pair_of pending.entry) ≡ Some v
 
--- Over one replica a store stays tidy, as it is when it was formatted.
+-- Over plain turns and restarts a store stays tidy, as it is when it was formatted.
 abbrev pub TidyStays : Type 0
 TidyStays =
     (settings : Settings) (k t : Known) (turns : List Turn)

@@ -28,8 +28,8 @@ use Rattle.hay_legal.specs.declared.turn.Item.{Item}
 use Rattle.hay_legal.specs.declared.turn.Item.TheVariants as asks
 use Rattle.hay_legal.specs.declared.turn.LaneItem.{LaneItem}
 use Rattle.hay_legal.specs.Known.{CameUp, EachPair, all_tries, machine_of, now, replica_at, replica_on}
-use Rattle.hay_legal.specs.Plain.{ArmRises, GetShows, as_closed, first_machine, order_from, put_entry, start_of, wants_room}
-use Rattle.hay_legal.specs.Blocks.{IsOn, tag_of}
+use Rattle.hay_legal.specs.Plain.{ArmRises, GetShows, Names, as_closed, first_machine, order_from, put_entry, start_of, wants_room}
+use Rattle.hay_legal.specs.Blocks.{tag_of}
 use Rattle.hay_history.specs.Steps.{Did, RowDid}
 use Rattle.hay_history.specs.Steps.Did.{Begins, Ends, Entered, Examines, Flushes, Freezes, Fuses, Pends, Poises, Sticks, Swaps, Tries}
 use Rattle.hay_history.specs.Steps.RowDid.{AddsRow, Drains, FusesRow, PendsRow}
@@ -277,7 +277,7 @@ module _ (settings : Settings) (start : Start) (drained : List Bool) (item : Lan
 
   abbrev pub IsStuckHere : ℕ → ℕ → ℕ → List ClosedBy → Type 0
   IsStuckHere v m j (by ∷ []) =
-      IsOn v m by.volume by.machine
+      Names v m by.volume by.machine
       × Found settings start drained a b v (λ acts. ((volume_stood start v acts).frozen ≡ None) × ((replica_at (volume_stood start v acts) j).stuck ≡ true))
   IsStuckHere v m j _ = ⊥
 
@@ -300,9 +300,9 @@ module _ (settings : Settings) (start : Start) (drained : List Bool) (item : Lan
   FlushDidHere v m None Nowhere = Nothing
   FlushDidHere v m None NoMem = Nothing
   FlushDidHere v m None _ = ⊥
-  FlushDidHere v m (Some j) (Flushed v' m' n) = IsOn v m v' m' × FlushDoneHere v j n
+  FlushDidHere v m (Some j) (Flushed v' m' n) = Names v m v' m' × FlushDoneHere v j n
   FlushDidHere v m (Some j) (ReadOnly by) = (IsFrozenHere v by ⊎ IsStuckHere v m j by) × Nothing
-  FlushDidHere v m (Some j) (Failed v' m' f) = IsOn v m v' m' × FlushFailedHere v j f
+  FlushDidHere v m (Some j) (Failed v' m' f) = Names v m v' m' × FlushFailedHere v j f
   FlushDidHere v m (Some j) NoMem = Nothing
   FlushDidHere v m (Some j) _ = ⊥
 
@@ -400,14 +400,14 @@ module _ (settings : Settings) (start : Start) (drained : List Bool) (item : Lan
   CompactDidHere v m None NoMem = Nothing
   CompactDidHere v m None _ = ⊥
   CompactDidHere v m (Some j) (Compacted v' m' g) =
-      IsOn v m v' m'
+      Names v m v' m'
       × ((end : ℕ) × (cells : ℕ) × (swaps : RanAsHere v j (Swaps j end cells false))
       × (g ≡ (replica_at (volume_stood start v (swaps.doing).held) j).generation + 1)
       × IsTightHere v j ((swaps.ran).first).held (swaps.doing).held end cells)
   CompactDidHere v m (Some j) (ReadOnly by) = CompactRefusedHere v j by
-  CompactDidHere v m (Some j) (Busy v' m' g) = IsOn v m v' m' × Nothing × MetBusyHere v j g
-  CompactDidHere v m (Some j) (Worn v' m') = IsOn v m v' m' × Nothing × MetWornHere v j
-  CompactDidHere v m (Some j) (Failed v' m' f) = IsOn v m v' m' × CompactFailedHere v m j f
+  CompactDidHere v m (Some j) (Busy v' m' g) = Names v m v' m' × Nothing × MetBusyHere v j g
+  CompactDidHere v m (Some j) (Worn v' m') = Names v m v' m' × Nothing × MetWornHere v j
+  CompactDidHere v m (Some j) (Failed v' m' f) = Names v m v' m' × CompactFailedHere v m j f
   CompactDidHere v m (Some j) NoMem = CompactWantingHere v j
   CompactDidHere v m (Some j) _ = ⊥
 
@@ -435,11 +435,11 @@ module _ (settings : Settings) (start : Start) (drained : List Bool) (item : Lan
   BeginDidHere v m None NoMem = Nothing
   BeginDidHere v m None _ = ⊥
   BeginDidHere v m (Some j) (Begun v' m' g) =
-      IsOn v m v' m' × ((begins : OnlyDidHere v (Begins j)) × (g ≡ (replica_at (volume_stood start v ((begins.doing).one).held) j).generation + 1))
+      Names v m v' m' × ((begins : OnlyDidHere v (Begins j)) × (g ≡ (replica_at (volume_stood start v ((begins.doing).one).held) j).generation + 1))
   BeginDidHere v m (Some j) (ReadOnly by) = IsFrozenHere v by × Nothing
-  BeginDidHere v m (Some j) (Busy v' m' g) = IsOn v m v' m' × Nothing × MetBusyHere v j g
-  BeginDidHere v m (Some j) (Worn v' m') = IsOn v m v' m' × Nothing × MetWornHere v j
-  BeginDidHere v m (Some j) (Failed v' m' f) = IsOn v m v' m' × BeginFailedHere v j f
+  BeginDidHere v m (Some j) (Busy v' m' g) = Names v m v' m' × Nothing × MetBusyHere v j g
+  BeginDidHere v m (Some j) (Worn v' m') = Names v m v' m' × Nothing × MetWornHere v j
+  BeginDidHere v m (Some j) (Failed v' m' f) = Names v m v' m' × BeginFailedHere v j f
   BeginDidHere v m (Some j) NoMem = Nothing
   BeginDidHere v m (Some j) _ = ⊥
 
@@ -451,11 +451,11 @@ module _ (settings : Settings) (start : Start) (drained : List Bool) (item : Lan
   StepDidHere v m cells None Nowhere = Nothing
   StepDidHere v m cells None NoMem = Nothing
   StepDidHere v m cells None _ = ⊥
-  StepDidHere v m cells (Some j) (Stepped v' m' n) = IsOn v m v' m' × SteppingHere v j n (λ n left. n ≡ min cells left)
+  StepDidHere v m cells (Some j) (Stepped v' m' n) = Names v m v' m' × SteppingHere v j n (λ n left. n ≡ min cells left)
   StepDidHere v m cells (Some j) (ReadOnly by) = IsFrozenHere v by × Nothing
-  StepDidHere v m cells (Some j) (Idle v' m') = IsOn v m v' m' × MetIdleHere v j × Nothing
+  StepDidHere v m cells (Some j) (Idle v' m') = Names v m v' m' × MetIdleHere v j × Nothing
   StepDidHere v m cells (Some j) (Failed v' m' f) =
-      IsOn v m v' m' × ((ends : WentOnHere v j (Ends j)) × FailedLast v j f ((ends.only).doing).one)
+      Names v m v' m' × ((ends : WentOnHere v j (Ends j)) × FailedLast v j f ((ends.only).doing).one)
   StepDidHere v m cells (Some j) NoMem = Nothing ⊎ ((n : ℕ) × SteppingHere v j n (λ n left. n ≤ min cells left))
   StepDidHere v m cells (Some j) _ = ⊥
 
@@ -469,12 +469,12 @@ module _ (settings : Settings) (start : Start) (drained : List Bool) (item : Lan
   FinishDidHere v m None NoMem = Nothing
   FinishDidHere v m None _ = ⊥
   FinishDidHere v m (Some j) (Compacted v' m' g) =
-      IsOn v m v' m'
+      Names v m v' m'
       × ((end : ℕ) × (cells : ℕ) × (swaps : WentOnHere v j (Swaps j end cells false))
       × (g ≡ (replica_at (volume_stood start v (((swaps.only).doing).one).held) j).generation + 1))
   FinishDidHere v m (Some j) (ReadOnly by) = IsFrozenHere v by × Nothing
-  FinishDidHere v m (Some j) (Idle v' m') = IsOn v m v' m' × MetIdleHere v j × Nothing
-  FinishDidHere v m (Some j) (Failed v' m' f) = IsOn v m v' m' × FinishFailedHere v m j f
+  FinishDidHere v m (Some j) (Idle v' m') = Names v m v' m' × MetIdleHere v j × Nothing
+  FinishDidHere v m (Some j) (Failed v' m' f) = Names v m v' m' × FinishFailedHere v m j f
   FinishDidHere v m (Some j) NoMem =
       Nothing ⊎ WentOnHere v j (Ends j) ⊎ ((end : ℕ) × (cells : ℕ) × WentOnHere v j (Swaps j end cells true))
   FinishDidHere v m (Some j) _ = ⊥
@@ -500,7 +500,7 @@ module _ (settings : Settings) (start : Start) (drained : List Bool) (item : Lan
   FuseDidHere v m n None Nowhere = Nothing
   FuseDidHere v m n None NoMem = Nothing
   FuseDidHere v m n None _ = ⊥
-  FuseDidHere v m n (Some j) (Fused v' m' n') = IsOn v m v' m' × (n' ≡ n) × OnlyDidHere v (Fuses j)
+  FuseDidHere v m n (Some j) (Fused v' m' n') = Names v m v' m' × (n' ≡ n) × OnlyDidHere v (Fuses j)
   FuseDidHere v m n (Some j) NoMem = Nothing
   FuseDidHere v m n (Some j) _ = ⊥
 

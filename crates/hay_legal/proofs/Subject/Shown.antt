@@ -22,7 +22,7 @@ use Rattle.hay_legal.specs.declared.known.ReplicaKnown.{ReplicaKnown}
 use Rattle.hay_legal.specs.declared.known.VolumeKnown.{VolumeKnown}
 use Rattle.hay_legal.specs.declared.known.Known.{Known}
 use Rattle.hay_legal.specs.declared.turn.Turn.{Turn}
-use Rattle.hay_legal.specs.Known.{now}
+use Rattle.hay_legal.specs.Known.{now, replica_on}
 use Rattle.hay_url.specs.declared.Url.{Url as UrlParts}
 use Rattle.hay_legal.specs.Plain.{LegalCommand, LegalShow, LegalGetAt, IsShown, start_of}
 use Rattle.hay_legal.specs.Legal.{Legal, known_after}
@@ -196,23 +196,28 @@ show_true settings k tag start pair cookie (reply.Gone v m p d) t h =
     seen_by settings k tag start pair v m p d _ t _ (λ volume replica e. nothing_from volume replica pair e) h
 show_true settings k tag start pair cookie (reply.WrongCookie v m p d) t h =
     (h.0, h.1, h.2, seen_by settings k tag start pair v m p d _ t _ (λ volume replica e. photo_from volume replica pair h.0 h.1 e) h.3)
+show_true settings k tag start pair cookie (reply.Unreadable v p d causes) t h = h.seen
 show_true settings k tag start pair cookie (reply.Unknown d) t h = h.0
-show_true settings k tag start pair cookie _ t h = tt
+show_true settings k tag start pair cookie reply.NoMem t h = tt
+show_true settings k tag start pair cookie _ t h = absurd h
 
-pub told_true : (settings : Settings) (k : Known) (tag : CoreTag) (c : Command) (r : Reply) (t : Known) (pair : Pair) (cookie : Cookie) → Tells r
-    → AsksFor c pair cookie → LegalCommand settings k tag c r t → IsTrueOf settings k pair cookie r
-told_true settings k tag c r t pair cookie tells asks h =
-    let shows = asked settings k tag c r t pair cookie tells asks h in
-    show_true settings k tag shows.0 pair cookie r t shows.1
+get_true : (settings : Settings) (k : Known) (tag : CoreTag) (url : UrlParts) (o : Option ℕ) (r : Reply) (t : Known)
+    → LegalGetAt settings k tag url o r t → IsTrueOf settings k url.pair url.cookie r
+get_true settings k tag url (Some start) (reply.Moved v d) t h = (h.0, h.2)
+get_true settings k tag url (Some start) r t h = show_true settings k tag start url.pair url.cookie r t h.0
+get_true settings k tag url None reply.Nowhere t h = tt
+get_true settings k tag url None reply.NoMem t h = tt
+get_true settings k tag url None _ t h = absurd h
 
--- a reply that tells nothing says nothing that could be untrue
 pub answer_true : (settings : Settings) (k : Known) (tag : CoreTag) (c : Command) (r : Reply) (t : Known) (pair : Pair) (cookie : Cookie)
     → AsksFor c pair cookie → LegalCommand settings k tag c r t → IsTrueOf settings k pair cookie r
-answer_true settings k tag c (reply.Photo v m p d bytes) t pair cookie asks h = told_true settings k tag c (reply.Photo v m p d bytes) t pair cookie tt asks h
-answer_true settings k tag c (reply.Gone v m p d) t pair cookie asks h = told_true settings k tag c (reply.Gone v m p d) t pair cookie tt asks h
-answer_true settings k tag c (reply.WrongCookie v m p d) t pair cookie asks h = told_true settings k tag c (reply.WrongCookie v m p d) t pair cookie tt asks h
-answer_true settings k tag c (reply.Unknown d) t pair cookie asks h = told_true settings k tag c (reply.Unknown d) t pair cookie tt asks h
-answer_true settings k tag c _ t pair cookie asks h = tt
+answer_true settings k tag (command.Read p c) r t pair cookie asks h =
+    subst (λ (q : Cookie). IsTrueOf settings k pair q r) asks.1
+    (subst (λ (q : Pair). IsTrueOf settings k q c r) asks.0 (show_true settings k tag (start_of settings tag) p c r t h))
+answer_true settings k tag (command.Get url) r t pair cookie asks h =
+    subst (λ (q : Cookie). IsTrueOf settings k pair q r) asks.1
+    (subst (λ (q : Pair). IsTrueOf settings k q url.cookie r) asks.0 (get_true settings k tag url (replica_on settings url.volume url.machine) r t h))
+answer_true settings k tag _ r t pair cookie asks h = absurd asks
 
 pub shows_the_last_change : ShowsTheLastChange
 shows_the_last_change settings k t earlier later line c r after pair cookie legal asks =
