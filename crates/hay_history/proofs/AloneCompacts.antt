@@ -320,12 +320,12 @@ module _ {settings : Settings} {k : Known} {history : History} {t : Known} (item
       let rest = to_rested (Swaps j swaps.0 swaps.1 true) swaps.2 in
       inr (rest.0, rest.1, inr (swaps_left swaps.0 swaps.1 true (frozen_by (first_machine settings v)) (λ x. refl) swaps.2 swaps.3))
   compact_wanting (inr (inr (inr (inl until)))) = absurd (never_ended (until.1).ran)
-  compact_wanting (inr (inr (inr (inr frozen)))) = absurd (never_ended (frozen.1).0)
+  compact_wanting (inr (inr (inr (inr frozen)))) = absurd (never_ended (frozen.1).ran)
 
   compact_refused : (by : List ClosedBy) → CompactRefused (course_of h item) v j by → IsFrozenBy k v by × Leaves k k t
   compact_refused by (inl met) = (frozen_known item h v by below (met.1).0 met.0, nothing_left item h met.1)
   compact_refused [] (inr ran) = absurd ran
-  compact_refused (by ∷ []) (inr ran) = absurd (never_ended (ran.1).0)
+  compact_refused (by ∷ []) (inr ran) = absurd (never_ended (ran.1).ran)
   compact_refused (by ∷ more ∷ rest) (inr ran) = absurd ran
 
   compact_at : (m : ℕ) (r : Reply) → CompactDid (course_of h item) v m (Some j) r → LegalCompact settings k v m j r t

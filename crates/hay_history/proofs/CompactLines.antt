@@ -419,7 +419,7 @@ module _ {settings : Settings} {k : Known} {items : List LaneItem} {history : Hi
   compact_refused : (v j : ℕ) (by : List ClosedBy) → v < settings.volumes → CompactRefused (course_of h item) v j by → IsFrozenBy t v by
   compact_refused v j by below (inl frozen) = is_frozen v by below frozen.0
   compact_refused v j [] below (inr ran) = absurd ran
-  compact_refused v j (by ∷ []) below (inr ran) = (ran.0, frozen_on h v ((ran.1.0).until + 1) by.machine below ran.1.1)
+  compact_refused v j (by ∷ []) below (inr ran) = (ran.0, frozen_on h v (ran.1).moment by.machine below (ran.1).frozen)
   compact_refused v j (by ∷ more ∷ rest) below (inr ran) = absurd ran
 
   -- a compact that met its volume open

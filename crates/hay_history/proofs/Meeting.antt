@@ -131,7 +131,7 @@ module _ (c : Course) where
   compact_frozen u v j [] (inr ran) names = absurd ran
   compact_frozen u v j (by ∷ []) (inr ran) names =
       let is : u ≡ v = sym ran.0 ∙ the_closed v by names.0 names.1 names.2 in
-      subst (SawFrozen c) is (((ran.1).0).until + 1, by.machine, (((ran.1).0).seen).1, (ran.1).1)
+      subst (SawFrozen c) is ((ran.1).moment, by.machine, ((ran.1).seen).1, (ran.1).frozen)
   compact_frozen u v j (by ∷ next ∷ rest) (inr ran) names = absurd ran
 
   compact_on_frozen : (u m v : ℕ) (o : Option ℕ) (tries : List ClosedBy) → CompactDid c u m o (reply.ReadOnly tries)

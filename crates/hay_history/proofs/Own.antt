@@ -241,7 +241,7 @@ flush_may c u m (Some j) reply there h = search (h, may_none c (asks.Command (co
 refused_may : (c : Course) (u m j : ℕ) (by : List ClosedBy) → replica_on c.settings u m ≡ Some j → CompactRefused c u j by → AllMay c (asks.Command (command.Compact u m)) (ReadOnly by)
 refused_may c u m j by there (inl none) = may_none c (asks.Command (command.Compact u m)) (ReadOnly by) (none.1).0
 refused_may c u m j [] there (inr ran) = absurd ran
-refused_may c u m j (by ∷ []) there (inr ran) = may_run c (asks.Command (command.Compact u m)) (ReadOnly (by ∷ [])) u m j [] (refl, there) (ran.1).0 tt
+refused_may c u m j (by ∷ []) there (inr ran) = may_run c (asks.Command (command.Compact u m)) (ReadOnly (by ∷ [])) u m j [] (refl, there) (ran.1).ran tt
 refused_may c u m j (by ∷ next ∷ rest) there (inr ran) = absurd ran
 
 failed_may : (c : Course) (u m j u' m' f : ℕ) → replica_on c.settings u m ≡ Some j → (u' ≡ u) × (m' ≡ m) → CompactFailed c u m j f
@@ -260,7 +260,7 @@ wanting_may c u m j there (inr (inl ends)) = may_run_to c (asks.Command (command
 wanting_may c u m j there (inr (inr (inl swaps))) =
     may_run_to c (asks.Command (command.Compact u m)) NoMem u m j (Swaps j swaps.0 swaps.1 true) (refl, there) swaps.2 (m, (refl, there), refl)
 wanting_may c u m j there (inr (inr (inr (inl until)))) = may_run c (asks.Command (command.Compact u m)) NoMem u m j [] (refl, there) (until.1).ran tt
-wanting_may c u m j there (inr (inr (inr (inr frozen)))) = may_run c (asks.Command (command.Compact u m)) NoMem u m j [] (refl, there) (frozen.1).0 tt
+wanting_may c u m j there (inr (inr (inr (inr frozen)))) = may_run c (asks.Command (command.Compact u m)) NoMem u m j [] (refl, there) (frozen.1).ran tt
 
 compact_may : (c : Course) (u m : ℕ) (o : Option ℕ) (reply : Reply) → replica_on c.settings u m ≡ o → CompactDid c u m o reply → AllMay c (asks.Command (command.Compact u m)) reply
 compact_may c u m None NoMem there h = may_none c (asks.Command (command.Compact u m)) NoMem h.0
@@ -523,7 +523,7 @@ module _ (c : Course) (v j : ℕ) (r : Reply) where
 refused_in_run : (c : Course) (v j : ℕ) (by : List ClosedBy) → CompactRefused c v j by → AllInRun c v j (ReadOnly by)
 refused_in_run c v j by (inl frozen) = idle c v j (ReadOnly by) (frozen.1).0
 refused_in_run c v j [] (inr ran) = absurd ran
-refused_in_run c v j (by ∷ []) (inr ran) = ran_in_run c v j (ReadOnly (by ∷ [])) [] (ran.1).0 tt tt tt
+refused_in_run c v j (by ∷ []) (inr ran) = ran_in_run c v j (ReadOnly (by ∷ [])) [] (ran.1).ran tt tt tt
 refused_in_run c v j (by ∷ more ∷ rest) (inr ran) = absurd ran
 
 failed_in_run : (c : Course) (v m j v' m' f : ℕ) → CompactFailed c v m j f → AllInRun c v j (Failed v' m' f)
@@ -541,7 +541,7 @@ wanting_in_run c v j (inl nothing) = idle c v j NoMem nothing.0
 wanting_in_run c v j (inr (inl ends)) = ran_to_in_run c v j NoMem (Ends j) ends (λ e. cc) (λ n before. before) tt
 wanting_in_run c v j (inr (inr (inl swaps))) = ran_to_in_run c v j NoMem (Swaps j swaps.0 swaps.1 true) swaps.2 (λ e. cc) (λ n before. before) tt
 wanting_in_run c v j (inr (inr (inr (inl until)))) = ran_in_run c v j NoMem [] (until.1).ran tt tt tt
-wanting_in_run c v j (inr (inr (inr (inr frozen)))) = ran_in_run c v j NoMem [] (frozen.1).0 tt tt tt
+wanting_in_run c v j (inr (inr (inr (inr frozen)))) = ran_in_run c v j NoMem [] (frozen.1).ran tt tt tt
 
 compact_in_run : (c : Course) (v m j : ℕ) (r : Reply) → CompactDid c v m (Some j) r → AllInRun c v j r
 compact_in_run c v m j (Compacted v' m' g) h =

@@ -137,7 +137,7 @@ flush_rows c v m (Some j) r h = search (h)
 refused_rows : (c : Course) (v j : ℕ) (by : List ClosedBy) → CompactRefused c v j by → NoRows c
 refused_rows c v j by (inl frozen) = frozen.1.1
 refused_rows c v j [] (inr never) = absurd never
-refused_rows c v j (by ∷ []) (inr ran) = ((ran.1).0).rows
+refused_rows c v j (by ∷ []) (inr ran) = ((ran.1).ran).rows
 refused_rows c v j (by ∷ next ∷ rest) (inr never) = absurd never
 
 failed_rows : (c : Course) (v m j f : ℕ) → CompactFailed c v m j f → NoRows c
@@ -151,7 +151,7 @@ wanting_rows c v j (inl none) = none.1
 wanting_rows c v j (inr (inl ends)) = (ends.ran).rows
 wanting_rows c v j (inr (inr (inl swaps))) = ((swaps.2).ran).rows
 wanting_rows c v j (inr (inr (inr (inl until)))) = ((until.1).ran).rows
-wanting_rows c v j (inr (inr (inr (inr frozen)))) = ((frozen.1).0).rows
+wanting_rows c v j (inr (inr (inr (inr frozen)))) = ((frozen.1).ran).rows
 
 compact_rows : (c : Course) (v m : ℕ) (o : Option ℕ) (reply : Reply) → CompactDid c v m o reply → NoRows c
 compact_rows c v m None NoMem h = h.1

@@ -374,9 +374,13 @@ CompactFailed c v m j f =
     ⊎ ((poises : RanAs c v j (Poises m j)) × RoseIn c v poises.place j f × IsLast c v poises.place)
     ⊎ RanUntil c v j f
 
--- the volume was frozen by this machine in its course
-abbrev pub RanFrozen : Course → ℕ → ℕ → ℕ → Type 0
-RanFrozen c v j m = (ran : Ran c v j []) × ((volume_then c v (ran.until + 1)).frozen ≡ Some m)
+-- once it had ended, the line saw that this machine had frozen the volume: in its course, or behind it
+pub record RanFrozen (c : Course) (v j m : ℕ) : Type 0 where
+  pub ran : Ran c v j []
+  pub moment : ℕ
+  pub behind_it : ran.until < moment
+  pub seen : IsMoment c v moment
+  pub frozen : (volume_then c v moment).frozen ≡ Some m
 
 -- where no entry came while a compaction stood, the sizes behind its swap are those of the standing photos
 abbrev pub IsTightAlone : Course → ℕ → ℕ → ℕ → ℕ → ℕ → ℕ → Type 0

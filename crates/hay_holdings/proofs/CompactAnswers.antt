@@ -269,6 +269,15 @@ module _ (settings : Settings) (start : Start) (drained : List Bool) (tag : Core
         shown_to = prefix_trans (entries volume_lock (past until)) (entries volume_lock held) (b.volumes v).shown (entries_prefix volume_lock (past until) held ended.within) found.shown_to;
       }
 
+      found_behind : Held volume_lock (a.volumes v) (b.volumes v) held
+      found_behind =
+          let later = worked_there.later in record {
+            from = prefix_trans (a.volumes v).seen (m.volumes v).seen held later.seen found.from;
+            shown_from = prefix_trans (a.volumes v).shown (m.volumes v).shown (entries volume_lock held) later.shown found.shown_from;
+            to = found.to;
+            shown_to = found.shown_to;
+          }
+
       abbrev ran_others : {item : Item} {said : Reply} → RanHere settings start drained (line_of tag item said) a b (doings_at v c.doings []) v j []
       ran_others = record {
         below = below;
@@ -410,9 +419,9 @@ module _ (settings : Settings) (start : Start) (drained : List Bool) (tag : Core
       module _ {f : ℕ} (x : AtVolume v (calls.RunDeleted settings start v tag j tag f) k b) where
         until_here : {item : Item} {said : Reply} → RanUntilHere settings start drained (line_of tag item said) a b (doings_at v c.doings []) v j f
         until_here = record {
-          ran = ran_others c b below (holding_held volume_lock (x.is).holding) (((x.is).is).1).0;
-          thawed = (((x.is).is).1).1;
-          rose = rose_at (((x.is).is).1).2;
+          ran = ran_others c b below (holding_held volume_lock (x.is).holding) (((x.is).is).2).0;
+          thawed = (((x.is).is).2).1;
+          rose = rose_at (((x.is).is).2).2;
         }
 
         went_until : Went tag a b (doings_at v c.doings [])
@@ -435,7 +444,11 @@ module _ (settings : Settings) (start : Start) (drained : List Bool) (tag : Core
       -- the volume had been frozen in its course
       module _ {machine : ℕ} (x : AtVolume v (calls.RunFrozen settings start v tag j tag machine) k b) where
         frozen_here : {item : Item} {said : Reply} → RanFrozenHere settings start drained (line_of tag item said) a b (doings_at v c.doings []) v j machine
-        frozen_here = (ran_others c b below (holding_held volume_lock (x.is).holding) (((x.is).is).1).0, (((x.is).is).1).1)
+        frozen_here =
+            let held = holding_held volume_lock (x.is).holding in record {
+              ran = ran_others c b below held ((x.is).is).1;
+              found = record { below = below; held = (x.is).held; between = found_behind c b below held ((x.is).is).1; is = ((((x.is).is).1).within, ((x.is).is).2) };
+            }
 
         went_frozen : Went tag a b (doings_at v c.doings [])
         went_frozen = went_idle c.went (quiet_went x ((x.is).is).0)

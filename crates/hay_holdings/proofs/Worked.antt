@@ -185,6 +185,7 @@ end_call = record {
   holding = record { from = (_, refl); shown_from = (_, refl); seen = refl; own = refl; shown = refl; tags = tt; seats = tt };
   is = (
     refl,
+    refl,
     (
       ends_now one start 0 0 (tag 2 4) (begins ∷ puts ∷ examines ∷ []) deletes (record { run = record { goal = 1; left = 1 }; stands = refl; begun = refl }) refl,
       refl,

@@ -220,15 +220,15 @@ module _ (settings : Settings) (start : Start) (v : ℕ) where
     abbrev pub SwapFailed : ℕ → CoreTag → ℕ → ℕ → VolumeCall
     SwapFailed j who m f = Call (λ held made. MadeOne (Poises m j) made × HasRunOf j who held × FailedAct j f held made)
 
-    -- a delete of another line had ended it, since the replica's disk failed, with this count
+    -- a delete of another line had ended it, since the replica's disk failed, with this count, and the volume is not frozen
     abbrev pub RunDeleted : ℕ → CoreTag → ℕ → VolumeCall
     RunDeleted j who f = Call (λ held made.
-        (made ≡ None) × ((ended : EndedAt j who held) × IsThawed (past ended.until) × RoseTo j f ended.until))
+        (made ≡ None) × IsThawed held × ((ended : EndedAt j who held) × IsThawed (past ended.until) × RoseTo j f ended.until))
 
-    -- this machine had frozen the volume in its course
+    -- it had ended, and this machine had frozen the volume: in its course, or behind it
     abbrev pub RunFrozen : ℕ → CoreTag → ℕ → VolumeCall
     RunFrozen j who m = Call (λ held made.
-        (made ≡ None) × ((ended : EndedAt j who held) × ((volume_stood start v (past ended.until)).frozen ≡ Some m)))
+        (made ≡ None) × EndedAt j who held × ((volume_stood start v held).frozen ≡ Some m))
 
     -- FUSES
 

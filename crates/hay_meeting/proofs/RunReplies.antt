@@ -1,5 +1,5 @@
 -- A flush, or a compaction, whole or step by step, did what its reply says.
-use Rattle.std.proofs.Common.{◌≡◌, inl, inr, ℕ, ◌+◌, ◌<◌, ◌≤◌, Bool, List, [], ◌∷◌, ◌++◌, length, map, sym, ap, subst, ◌∙◌, arith, Option, None, Some}
+use Rattle.std.proofs.Common.{◌≡◌, inl, inr, ℕ, ◌+◌, ◌<◌, ◌≤◌, Bool, List, [], ◌∷◌, ◌++◌, length, map, sym, ap, subst, ◌∙◌, arith, length-append, Option, None, Some}
 use mathlib.Core.List.{map-append}
 use Rattle.hay_needle.specs.declared.settings.Settings.{Settings}
 use Rattle.hay_needle.specs.Tables.{live_end}
@@ -23,6 +23,7 @@ use Rattle.hay_meeting.specs.Replies.{BeginDidHere, BeginFailedHere, CompactDidH
 use Rattle.hay_meeting.specs.Sights.{Bears, Cut, Doings, Sight, Work}
 use Rattle.hay_meeting.proofs.Courses.{at_doing, c, changes_are, doing_held, doing_past, held_low, past_at}
 use Rattle.hay_meeting.proofs.Picking.{each_map}
+use Rattle.hay_meeting.proofs.Replays.{prefix_length}
 use Rattle.hay_meeting.proofs.Seeing.{among_own, doing_among, doing_of, did_nothing, had_run, has_run, is_last, moment_held, no_rows, nothing_on, one_held, one_is, one_step, only_on, place_at, rose_in, volume_held}
 
 module _ {settings : Settings} {start : Start} {drained : List Bool} {k : Known} {cut : Cut} {h : Happened} {item : LaneItem} {a b : Sight} {doings : Doings} (bears : Bears settings start drained k cut h item a b) (work : Work item a b doings) where
@@ -173,7 +174,19 @@ module _ {settings : Settings} {start : Start} {drained : List Bool} {k : Known}
   compact_failed v m j f (inr (inr (inr until))) = inr (inr (inr (ran_until until)))
 
   ran_frozen : (v j m : ℕ) → RanFrozenHere settings start drained item a b doings v j m → RanFrozen line v j m
-  ran_frozen v j m (x, frozen) = (ran x, ap (λ (z : VolumeKnown). z.frozen) (after_is v x.until x.below (x.ran).between) ∙ frozen)
+  ran_frozen v j m x =
+      let held = (x.found).held in
+      let between = (x.found).between in
+      let until : Doing VolumeAct = (x.ran).until in
+      let low : cut.volumes v ≤ length until.held = held_low volume_lock (bears.volumes v) (work.volumes v).later until.held (((x.ran).ran).between).from in
+      let longer = prefix_length (past until) held ((x.found).is).0 in
+      let one = length-append until.held (until.act ∷ []) in record {
+        ran = ran x.ran;
+        moment = place_at bears work v held;
+        behind_it = omega (arith, low, longer, one);
+        seen = moment_held bears work v held between;
+        frozen = ap (λ (z : VolumeKnown). z.frozen) (volume_held bears work v held (x.found).below between) ∙ ((x.found).is).1;
+      }
 
   is_tight : (v j end cells : ℕ) (from to : Doing VolumeAct) → v < settings.volumes → Lies v from → Lies v to → IsTightHere settings start drained item a b doings v j from.held to.held end cells
       → IsTightAlone line v j (place_at bears work v from.held) (place_at bears work v to.held) end cells

@@ -1,6 +1,7 @@
 -- What a line did, by its reply, as its own lane saw it: the clause of each command in terms of its sights and doings alone.
 use Rattle.std.specs.Prelude.{◌≡◌, ◌≢◌, ◌⊎◌, ℕ, ◌+◌, ◌-◌, ◌^◌, ◌<◌, ◌≤◌, ◌==◌, min, not, Bool, true, false, List, [], ◌∷◌, ◌++◌, length, map, take_while, count_by, Contains, Option, Some, None}
 use Rattle.std.specs.List.{AllZip, AllByRecursion as Each, list_any}
+use mathlib.Core.List.{IsPrefix}
 use Rattle.hay_needle.specs.declared.needle.Pair.{Pair}
 use Rattle.hay_needle.specs.declared.needle.Cookie.{Cookie}
 use Rattle.hay_needle.specs.declared.needle.Outcome.{Outcome}
@@ -359,9 +360,10 @@ module _ (settings : Settings) (start : Start) (drained : List Bool) (item : Lan
       ⊎ ((poises : RanAsHere v j (Poises m j)) × FailedLast v j f poises.doing)
       ⊎ RanUntilHere v j f
 
-  -- the volume was frozen by this machine in its course
-  abbrev pub RanFrozenHere : ℕ → ℕ → ℕ → Type 0
-  RanFrozenHere v j m = (ran : RanHere v j []) × ((volume_stood start v (past ran.until)).frozen ≡ Some m)
+  -- once it had ended, the line found that this machine had frozen the volume: in its course, or behind it
+  pub record RanFrozenHere (v j m : ℕ) : Type 0 where
+    pub ran : RanHere v j []
+    pub found : Found settings start drained a b v (λ acts. IsPrefix (past ran.until) acts × ((volume_stood start v acts).frozen ≡ Some m))
 
   -- where no entry came while a compaction stood, the sizes behind its swap are those of the standing photos
   abbrev pub IsTightHere : ℕ → ℕ → List VolumeAct → List VolumeAct → ℕ → ℕ → Type 0
