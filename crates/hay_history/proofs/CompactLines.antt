@@ -1,5 +1,5 @@
 -- The lines that flush or compact a replica are legal.
-use Rattle.std.proofs.Common.{◌≡◌, ◌≢◌, ◌⊎◌, ℕ, zero, suc, ◌+◌, ◌-◌, ◌<◌, ◌≤◌, true, false, List, [], ◌∷◌, length, slice_get, Contains, Option, Some, None, option_map, refl, sym, ap, subst, ◌∙◌, inl, inr, arith}
+use Rattle.std.proofs.Common.{◌≡◌, ◌≢◌, ◌⊎◌, ℕ, zero, suc, ◌+◌, ◌-◌, ◌<◌, ◌≤◌, true, false, List, [], ◌∷◌, ◌++◌, length, slice_get, Contains, Option, Some, None, option_map, refl, sym, ap, subst, ◌∙◌, inl, inr, arith}
 use Rattle.std.proofs.lemmas.Bool.{cases_eq}
 use Rattle.hay_needle.specs.declared.settings.Settings.{Settings}
 use Rattle.hay_core.specs.declared.entry.CoreTag.{CoreTag}
@@ -16,23 +16,24 @@ use Rattle.hay_legal.specs.declared.turn.Item.TheVariants as asks
 use Rattle.hay_legal.specs.declared.turn.LaneItem.{LaneItem}
 use Rattle.hay_legal.specs.Known.{machine_of, replica_at, replica_on, volume_at}
 use Rattle.hay_legal.specs.Plain.{IsFrozenBy, IsOpen, run_grown, with_stuck}
-use Rattle.hay_legal.specs.Blocks.{CompactIsLegal, FlushIsLegal, IsLeftStuck, MayBeBusy, MayFlush, MetOpen, RunsBeside}
-use Rattle.std.proofs.lemmas.Option.{slice_get_cases}
+use Rattle.hay_legal.specs.Blocks.{CompactIsLegal, FlushIsLegal, IsLeftStuck, MayBeAtRest, MayBeBusy, MayFlush, MetOpen, RunsBeside, tag_of}
+use Rattle.std.proofs.lemmas.Option.{slice_get_cases, slice_get_within}
 use Rattle.hay_history.specs.Steps.{Did, Leads, Standing, Step}
 use Rattle.hay_history.specs.Steps.Did.{Begins, Flushes, Sticks, Tries}
-use Rattle.hay_history.proofs.Trying.{tried_or_changed}
-use Rattle.hay_history.specs.Histories.{Course, History, IsMoment, OneStep, behind, changes, first_of, own, volume_then}
-use Rattle.hay_history.specs.Commands.{CameInLanes, CompactDid, CompactRefused, FlushDid, IsFrozen}
+use Rattle.hay_history.proofs.Trying.{changed, tried_or_changed}
+use Rattle.hay_history.specs.Histories.{Course, History, IsMoment, OneStep, behind, changes, first_of, own, standing, volume_then}
+use Rattle.hay_history.specs.Commands.{CameInLanes, CompactDid, CompactFailed, CompactRefused, FlushDid, IsFrozen, Ran}
 use Rattle.hay_history.proofs.Histories.{along, behind_past, behind_step, leads_at}
-use Rattle.hay_history.proofs.Lines.{answered, course_of, one_leads, owner, stops}
+use Rattle.hay_history.proofs.Lines.{answered, course_of, one_leads, own_at, own_leads, owner, stops}
 use Rattle.hay_history.proofs.OwnRuns.{ran_stood}
 use Rattle.hay_history.proofs.Own.{EndsBy, InRun, IsCompact, MayDo, in_run, item_may}
 use Rattle.hay_history.proofs.Placing.{machine_there, on_machine}
 use Rattle.hay_history.proofs.Changes.{Becomes, leads_becomes}
-use Rattle.hay_history.proofs.Lists.{each_in, none_in, pair_in}
+use Rattle.hay_history.proofs.Lists.{each_in, is_first, none_in, pair_in}
 use Rattle.hay_history.proofs.Volumes.{frozen_on, generation_grows, left_stuck, loose_then, option_map_some, replicas_many, run_goal, thawed_before, volume_at_moment}
 use Rattle.hay_history.proofs.ReplicaSteps.{change_same}
 use Rattle.hay_history.proofs.Meeting.{compact_open, is_stuck}
+use Rattle.hay_history.proofs.Runs.{rested_then}
 
 -- WHAT A STEP DOES TO A RUN
 
@@ -428,6 +429,36 @@ module _ {settings : Settings} {k : Known} {items : List LaneItem} {history : Hi
       let saw = compact_open h item among v m (Some j) r v e did met in
       thawed_before h v saw.0 (on_machine settings v m j e).0 saw.2
 
+  -- a replica that was met at rest on an open volume, with a generation that is not the last
+  met_at_rest : (v n j : ℕ) → v < settings.volumes → j < settings.replicas → n ≤ length (history.volumes v) → (volume_at_moment settings k history v n).frozen ≡ None
+      → (replica_at (volume_at_moment settings k history v n) j).run ≡ None → (replica_at (volume_at_moment settings k history v n) j).generation < 65535
+      → MayBeAtRest settings k items t v j
+  met_at_rest v n j below within le thawed none number =
+      let least = generation_grows h v 0 n j below (omega arith) in
+      (omega (arith, least, number), rested_then h v j below within n le thawed none)
+
+  place_within : (v : ℕ) (at : ℕ × Step) → Contains (own (course_of h item) v) at → at.0 ≤ length (history.volumes v)
+  place_within v at mine = omega (arith, slice_get_within (history.volumes v) at.0 at.1 (own_at (history.volumes v) item.line at mine).0)
+
+  began_at_rest : (v j : ℕ) (last : List (ℕ × Step)) → v < settings.volumes → j < settings.replicas → Contains items item → Ran (course_of h item) v j last
+      → MayBeAtRest settings k items t v j
+  began_at_rest v j last below within among ran =
+      let at : ℕ × Step = (ran.place, ran.first) in
+      let mine : Contains (own (course_of h item) v) at =
+      changed (course_of h item) v at (subst (λ (xs : List (ℕ × Step)). Contains xs at) (sym ran.steps) (is_first at (ran.middle ++ last))) in
+      let leads = subst (λ (d : Did). Leads settings v (tag_of item) d (standing (course_of h item) v ran.place) (standing (course_of h item) v (ran.place + 1))) ran.begins
+      (own_leads h item v below among at mine).0 in
+      met_at_rest v ran.place j below within (place_within v at mine) leads.0 leads.2 leads.3
+
+  failed_at_rest : (v m j f : ℕ) → v < settings.volumes → j < settings.replicas → Contains items item → CompactFailed (course_of h item) v m j f
+      → MayBeAtRest settings k items t v j
+  failed_at_rest v m j f below within among (inl began) =
+      let try = began.step in
+      met_at_rest v try.place j below within (place_within v (try.place, try.step) try.among) began.thawed began.at_rest began.number
+  failed_at_rest v m j f below within among (inr (inl ends)) = began_at_rest v j _ below within among (ends.0).ran
+  failed_at_rest v m j f below within among (inr (inr (inl poises))) = began_at_rest v j _ below within among (poises.0).ran
+  failed_at_rest v m j f below within among (inr (inr (inr until))) = began_at_rest v j _ below within among until.ran
+
   compact_on : (v m : ℕ) (on : Option ℕ) (r : Reply) → Contains items item → replica_on settings v m ≡ on → CompactDid (course_of h item) v m on r
       → CompactIsLegal settings k items t item.lane v m on r
   compact_on v m None reply.NoMem among e did = tt
@@ -445,7 +476,9 @@ module _ {settings : Settings} {k : Known} {items : List LaneItem} {history : Hi
       let there = on_machine settings v m j e in
       let seen = did.2 in
       (did.0, was_open v m j (reply.Worn v' m') among e did (did.0).0, worn_legal h v j there.0 there.1 item among seen.0 seen.1 seen.3 seen.4)
-  compact_on v m (Some j) (reply.Failed v' m' f) among e did = (did.0, was_open v m j (reply.Failed v' m' f) among e did (did.0).0)
+  compact_on v m (Some j) (reply.Failed v' m' f) among e did =
+      let there = on_machine settings v m j e in
+      (did.0, was_open v m j (reply.Failed v' m' f) among e did (did.0).0, failed_at_rest v m j f there.0 there.1 among did.1)
   compact_on v m (Some j) r among e did = search
 
   pub compact_legal : (v m : ℕ) (r : Reply) → Contains items item → CompactDid (course_of h item) v m (replica_on settings v m) r

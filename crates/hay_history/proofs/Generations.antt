@@ -1,10 +1,10 @@
 -- The generations that a block made of a replica.
 use Rattle.std.proofs.Common.{◌≡◌, ◌≢◌, ◌⊎◌, inl, inr, ℕ, ◌<◌, ◌≤◌, ◌+◌, ◌-◌, ◌==◌, ◌&&◌, Bool, true, false, cond, List, [], ◌∷◌, ◌++◌, length, slice_get, Contains, flat_map, Option, Some, None, refl, sym, ap, subst, ◌∙◌, arith, eq-eqb, eqb-true}
 use Rattle.std.specs.List.{AllByRecursion as Each}
-use Rattle.std.proofs.lemmas.Bool.{cond_both}
+use Rattle.std.proofs.lemmas.Bool.{cases_eq, cond_both}
 use Rattle.std.proofs.lemmas.List.Concat.{length-flat_map}
 use Rattle.std.proofs.lemmas.List.Elements.{Contains-append_right}
-use Rattle.std.proofs.lemmas.Option.{slice_get_within}
+use Rattle.std.proofs.lemmas.Option.{none-some, slice_get_within}
 use Rattle.hay_needle.specs.declared.settings.Settings.{Settings}
 use Rattle.hay_url.specs.declared.Url.{Url as UrlParts}
 use Rattle.hay_script.specs.declared.Command.TheVariants as command
@@ -17,30 +17,41 @@ use Rattle.hay_legal.specs.declared.turn.Item.{Item}
 use Rattle.hay_legal.specs.declared.turn.Item.TheVariants as asks
 use Rattle.hay_legal.specs.declared.turn.LaneItem.{LaneItem}
 use Rattle.hay_legal.specs.Known.{EachPair, all_lanes, machine_of, replica_at, replica_on, volume_at}
-use Rattle.hay_legal.specs.Plain.{Names}
+use Rattle.hay_legal.specs.Plain.{Names, first_machine}
 use Rattle.hay_legal.specs.Blocks.{GenerationsAreLegal, InOrder, Printed, froze_at_compact, generation_print, is_wanting, lane_items, made_on, printed, tag_of}
-use Rattle.hay_history.specs.Steps.{Did, Standing, Step}
+use Rattle.hay_history.specs.Steps.{Did, Leads, Standing, Step}
 use Rattle.hay_history.proofs.Trying.{changed}
 use Rattle.hay_history.specs.Histories.{Course, History, IsLater, IsMoment, behind, first_of, own, standing}
 use Rattle.hay_history.specs.Commands.{CameInLanes, CompactDid, FlushDid, GetDid, ItemDid, MetBusy, MetWorn}
+use Rattle.hay_history.proofs.Histories.{behind_step, leads_at}
 use Rattle.hay_history.proofs.Lists.{each_flat, each_from, each_in, in_rest, is_first, pair_by, pair_flat, pair_weaker}
 use Rattle.hay_history.proofs.Fronts.{Within, lane_in_order}
 use Rattle.hay_history.proofs.Lines.{answered, course_of, own_at, own_leads, stops}
 use Rattle.hay_history.proofs.Own.{line_of}
 use Rattle.hay_history.proofs.Placing.{on_machine, same_machine}
-use Rattle.hay_history.proofs.Volumes.{Persists, generation_grows, persists_on, replicas_many, run_goal}
+use Rattle.hay_history.proofs.Volumes.{Persists, frozen_stays, generation_grows, persists_on, replicas_many, run_goal}
 use Rattle.hay_history.proofs.Changes.{leads_becomes}
 use Rattle.hay_history.proofs.Changes.Becomes.{Goes, Grows, IsFlushed, IsPoised, IsStuck, IsSwapped, Rests, Starts, Stays}
-use Rattle.hay_history.proofs.Weights.{along_weighed, weigh}
+use Rattle.hay_history.proofs.Weights.{along_weighed, weigh, weighs_some}
 use Rattle.hay_history.proofs.Doings.{CompactedOne, LineDid, line_did}
-use Rattle.hay_history.proofs.ReplicaSteps.{effect, hidden_at, made_at, swaps_at}
+use Rattle.hay_history.proofs.ReplicaSteps.{effect, hidden_at, made_at, other_is, same_is, swaps_at}
 use Rattle.hay_history.proofs.Sizes.{Grown, generation_of, grown_same, grown_step, grown_trans}
 use Rattle.hay_history.proofs.Printed.{made_as, made_is, made_printed, printed_weight}
+
+three : (n m : ℕ) → (n < m) ⊎ (n ≡ m) ⊎ (m < n)
+three n m = grind arith
 
 abbrev number_of : ReplicaKnown → ℕ
 number_of r = r.generation
 
 -- SWAPS THAT A REPLY TELLS, AND OTHERS
+
+hidden_is : (j : ℕ) (a : Standing) (did : Did) → 0 < hidden_at j a did → (end : ℕ) × (cells : ℕ) × (did ≡ Did.Swaps j end cells true)
+hidden_is j a (Did.Swaps i end cells true) some = elim (cases_eq i j) [
+  | inl same ↦ (end, cells, ap (λ (n : ℕ). Did.Swaps n end cells true) same)
+  | inr other ↦ absurd (omega (arith, some, other_is i j 1 other))
+]
+hidden_is j a _ some = absurd (omega (arith, some))
 
 split : (j : ℕ) (a : Standing) (did : Did) → swaps_at j a did ≡ made_at j a did + hidden_at j a did
 split j a (Did.Swaps i end cells true) = omega arith
@@ -231,9 +242,61 @@ module _ {settings : Settings} {k : Known} {items : List LaneItem} {history : Hi
       | inr more ↦ absurd (omega (arith, same, earlier b a in_b y x q p more))
     ]
   ]
+
+  -- A swap behind which want of memory froze the volume comes behind each that a reply tells of.
+  hidden_last : (item : LaneItem) → Contains items item → (g : ℕ) → MadeAt (course_of h item) v j g → 0 < weigh (hidden_at j) (first_of settings k v) (history.volumes v)
+      → g < generation_of (last_of settings k history v) j
+  hidden_last item among g made some = elim (three made.place q) [
+    | inl earlier ↦
+        let grows : generation_of (then (made.place + 1)) j ≤ generation_of (then q) j = generation_grows h v (made.place + 1) q j below (omega (arith, earlier)) in
+        omega (arith, grows, number_behind item among g made, next, until_last)
+    | inr rest ↦ elim rest [
+      | inl same ↦
+          let steps : Some made.step ≡ Some s = sym (own_at (history.volumes v) item.line (made.place, made.step) made.own).0 ∙ ap (slice_get (history.volumes v)) same ∙ at in
+          let is : made.step ≡ s = cc in
+          let clash : Did.Swaps j made.end made.cells false ≡ Did.Swaps j hides.0 hides.1 true = sym made.is ∙ ap (λ (x : Step). x.did) is ∙ hides.2 in
+          absurd cc
+      | inr later ↦
+          let leads = (own_leads h item v below among (made.place, made.step) made.own).0 in
+          let thawed = (subst (λ (d : Did). Leads settings v (tag_of item) d (then made.place) (then (made.place + 1))) made.is leads).0 in
+          absurd (none-some (first_machine settings v) (sym thawed ∙ frozen_stays h v (q + 1) made.place (first_machine settings v) below (omega (arith, later)) frozen))
+    ]
+  ]
     where
-      three : (n m : ℕ) → (n < m) ⊎ (n ≡ m) ⊎ (m < n)
-      three n m = grind arith
+      found : (i : ℕ) × (s : Step) × (slice_get (history.volumes v) i ≡ Some s) × (0 < hidden_at j (behind (first_of settings k v) (history.volumes v) i) s.did)
+      found = weighs_some (hidden_at j) (first_of settings k v) (history.volumes v) some
+
+      q : ℕ
+      q = found.0
+
+      s : Step
+      s = found.1
+
+      at : slice_get (history.volumes v) q ≡ Some s
+      at = found.2
+
+      then : ℕ → Standing
+      then n = behind (first_of settings k v) (history.volumes v) n
+
+      hides : (end : ℕ) × (cells : ℕ) × (s.did ≡ Did.Swaps j end cells true)
+      hides = hidden_is j (then q) s.did found.3
+
+      leads : Leads settings v s.tag (Did.Swaps j hides.0 hides.1 true) (then q) (then (q + 1))
+      leads =
+          subst (λ (b : Standing). Leads settings v s.tag (Did.Swaps j hides.0 hides.1 true) (then q) b) (sym (behind_step (first_of settings k v) (history.volumes v) q s at))
+          (subst (λ (d : Did). Leads settings v s.tag d (then q) s.after) hides.2 (leads_at settings v (first_of settings k v) (history.volumes v) q s (h.follows v below) at).0)
+
+      frozen : ((then (q + 1)).volume).frozen ≡ Some (first_machine settings v)
+      frozen = ap (λ (volume : VolumeKnown). volume.frozen) leads.4
+
+      next : generation_of (then (q + 1)) j ≡ generation_of (then q) j + 1
+      next =
+          let grows = grown_step j (then q) (Did.Swaps j hides.0 hides.1 true) (then (q + 1))
+          (effect settings v j s.tag (Did.Swaps j hides.0 hides.1 true) (then q) (then (q + 1)) leads (within_then h v q j below within)) in
+          omega (arith, grows.generation, same_is j j 1 refl)
+
+      until_last : generation_of (then (q + 1)) j ≤ generation_of (last_of settings k history v) j
+      until_last = generation_grows h v (q + 1) (length (history.volumes v)) j below (omega (arith, slice_get_within (history.volumes v) q s at))
 
   once : EachPair (λ g h. g ≢ h) (flat_map (made_on v (machine_of settings v j)) items)
   once = pair_flat (λ g h. g ≢ h) (made_on v (machine_of settings v j)) items
@@ -357,8 +420,9 @@ module _ {settings : Settings} {k : Known} {items : List LaneItem} {history : Hi
   generations_legal froze hidden = record {
     inside_range = each_flat _ (made_on v (machine_of settings v j)) items (λ item among.
         each_from _ (made_on v (machine_of settings v j) item) (λ g at.
-        let range = in_range item among g (each_in (MadeAt (course_of h item) v j) (made_on v (machine_of settings v j) item) g (made_by item among) at) in
-        (range.0, omega (arith, range.1, number))));
+        let made = each_in (MadeAt (course_of h item) v j) (made_on v (machine_of settings v j) item) g (made_by item among) at in
+        let range = in_range item among g made in
+        (range.0, omega (arith, above item among g made range.1 (froze_at_compact v (machine_of settings v j) is_wanting froze) hidden, number))));
     once = once;
     last = λ grew. elim (numbered h v j below) [
       | inl same ↦ absurd (omega (arith, grew, same))
@@ -368,5 +432,10 @@ module _ {settings : Settings} {k : Known} {items : List LaneItem} {history : Hi
     all = omega (arith, number, (grown h v j below within).generation, swaps_split j (first_of settings k v) (history.volumes v), number_made, hidden);
   }
     where
+      above : (item : LaneItem) → Contains items item → (g : ℕ) → MadeAt (course_of h item) v j g → g ≤ generation_of (last_of settings k history v) j
+          → (hides : Bool) → weigh (hidden_at j) (first_of settings k v) (history.volumes v) ≡ cond hides 1 0 → g + cond hides 1 0 ≤ generation_of (last_of settings k history v) j
+      above item among g made least false is = omega (arith, least)
+      above item among g made least true is = let less = hidden_last item among g made (omega (arith, is)) in omega (arith, less)
+
       number : generation_of (last_of settings k history v) j ≡ (replica_at (volume_at t v) j).generation
       number = ap (λ (volume : VolumeKnown). (replica_at volume j).generation) (sym (h.volumes v below).volume)

@@ -28,6 +28,7 @@ pub mod Generations
 pub mod Flags
 pub mod Indexes
 pub mod Runs
+pub mod Room
 pub mod Replicas
 pub mod Entering
 pub mod Log

@@ -19,7 +19,7 @@ use Rattle.hay_legal.specs.declared.turn.Item.TheVariants as asks
 use Rattle.hay_legal.specs.declared.turn.LaneItem.{LaneItem}
 use Rattle.hay_legal.specs.Known.{EachPair, machine_of, replica_at, replica_on}
 use Rattle.hay_legal.specs.Plain.{first_machine, put_entry, start_of}
-use Rattle.hay_legal.specs.Blocks.{SticksBy, acknowledged, entry_of_item, is_compacted}
+use Rattle.hay_legal.specs.Blocks.{HasReplica, SticksBy, acknowledged, entry_of_item, is_compacted}
 use Rattle.hay_legal.proofs.Subject.Effects.{each_append}
 use Rattle.hay_history.specs.Steps.{Did, Step}
 use Rattle.hay_history.specs.Steps.Did.{Begins, Ends, Entered, Examines, Flushes, Freezes, Fuses, Pends, Poises, Sticks, Swaps, Tries}
@@ -290,7 +290,7 @@ item_may c asks.Bad reply h = may_none c asks.Bad reply (h.1).0
 
 -- WHAT A LINE SAW OF A VOLUME THAT IT FROZE
 
--- that its change was taken, where it left it pending at this place
+-- that its change was taken, where it made it or left it pending at this place
 abbrev pub SawTaken : Course → Item → ℕ → ℕ → Type 0
 SawTaken c (asks.Command (command.Put pair bytes)) v n = ((d : ℕ) × SeesHome c pair d (Some v)) × (refusal_then c v n (length bytes) ≡ None)
 SawTaken c (asks.Command (command.Del pair)) v n =
@@ -300,11 +300,13 @@ SawTaken c _ v n = ⊥
 -- that it is the home of its pair, where it looked at places of it
 abbrev pub SawHome : Course → Item → ℕ → Type 0
 SawHome c (asks.Command (command.Read pair cookie)) v = (d : ℕ) × SeesHome c pair d (Some v)
-SawHome c (asks.Command (command.Get url)) v = ((d : ℕ) × SeesHome c url.pair d (Some v)) × (v ≡ url.volume)
+SawHome c (asks.Command (command.Get url)) v =
+    ((d : ℕ) × SeesHome c url.pair d (Some v)) × (v ≡ url.volume) × HasReplica c.settings url.volume url.machine
 SawHome c (asks.Command (command.Del pair)) v = ((d : ℕ) × SeesHome c pair d (Some v)) × SeesOpen c v
 SawHome c _ v = ⊥
 
 abbrev pub Saw : Course → Item → ℕ → ℕ → Did → Type 0
+Saw c item v n (Entered change) = SawTaken c item v n
 Saw c item v n (Pends m change failed) = SawTaken c item v n
 Saw c item v n (Freezes m) = SawHome c item v
 Saw c item v n _ = Unit {0}
@@ -357,6 +359,7 @@ module _ (c : Course) (item : Item) where
   saw_idle reply none looks may v at among = by (at.1).did (may v at among)
     where
       by : (did : Did) → MayDo c.settings item reply v did → Saw c item v at.0 did
+      by (Entered change) does = let clash : None ≡ Some change = sym none ∙ does.0 in absurd cc
       by (Pends m change true) does = let clash : None ≡ Some change = sym none ∙ does.0 in absurd cc
       by (Pends m change false) does = let clash : None ≡ Some change = sym none ∙ does.0 in absurd cc
       by (Freezes m) does = absurd (looks does.0)
@@ -364,7 +367,7 @@ module _ (c : Course) (item : Item) where
 
 put_saw : (c : Course) (pair : Pair) (bytes : List ℕ) (reply : Reply) → PutDid c pair bytes reply → AllSaw c (asks.Command (command.Put pair bytes))
 put_saw c pair bytes (Stored u p d cookie) h =
-    saw_one c (asks.Command (command.Put pair bytes)) u (Entered (entry.Put pair cookie bytes)) h.elsewhere h.step tt
+    saw_one c (asks.Command (command.Put pair bytes)) u (Entered (entry.Put pair cookie bytes)) h.elsewhere h.step ((d, h.home), h.room)
 put_saw c pair bytes (Failed u m f) h =
     saw_one c (asks.Command (command.Put pair bytes)) u (Pends m (put_entry c.settings pair bytes) true) h.elsewhere h.step ((h.d, h.home), h.room)
 put_saw c pair bytes NoMem h =
@@ -387,18 +390,19 @@ show_saw c item start pair cookie (Unreadable u p d causes) wants h = saw_look c
 show_saw c item start pair cookie NoMem wants h = wants refl h
 show_saw c item start pair cookie reply wants h = search (h, saw_none c item)
 
-get_saw : (c : Course) (url : UrlParts) (o : Option ℕ) (reply : Reply) → GetDid c url o reply → AllSaw c (asks.Command (command.Get url))
-get_saw c url None NoMem h = saw_none c (asks.Command (command.Get url)) h.0
-get_saw c url None reply h = search (h, saw_none c (asks.Command (command.Get url)))
-get_saw c url (Some start) (Moved u d) h = saw_none c (asks.Command (command.Get url)) (h.2).0
-get_saw c url (Some start) NoMem h = elim h.1 [
+get_saw : (c : Course) (url : UrlParts) (o : Option ℕ) (reply : Reply) → replica_on c.settings url.volume url.machine ≡ o → GetDid c url o reply
+    → AllSaw c (asks.Command (command.Get url))
+get_saw c url None NoMem there h = saw_none c (asks.Command (command.Get url)) h.0
+get_saw c url None reply there h = search (h, saw_none c (asks.Command (command.Get url)))
+get_saw c url (Some start) (Moved u d) there h = saw_none c (asks.Command (command.Get url)) (h.2).0
+get_saw c url (Some start) NoMem there h = elim h.1 [
   | inl none ↦ saw_none c (asks.Command (command.Get url)) none
-  | inr froze ↦ saw_froze c (asks.Command (command.Get url)) url.pair froze.0 (((froze.0).d, (froze.0).home), froze.1)
+  | inr froze ↦ saw_froze c (asks.Command (command.Get url)) url.pair froze.0 (((froze.0).d, (froze.0).home), froze.1, (start, there))
 ]
-get_saw c url (Some start) reply h = show_saw c (asks.Command (command.Get url)) start url.pair url.cookie reply (λ is look. absurd cc) h.0
+get_saw c url (Some start) reply there h = show_saw c (asks.Command (command.Get url)) start url.pair url.cookie reply (λ is look. absurd cc) h.0
 
 del_saw : (c : Course) (pair : Pair) (reply : Reply) → DelDid c pair reply → AllSaw c (asks.Command (command.Del pair))
-del_saw c pair (Deleted u p d) h = saw_one c (asks.Command (command.Del pair)) u (Entered (entry.Del pair)) h.elsewhere h.step tt
+del_saw c pair (Deleted u p d) h = saw_one c (asks.Command (command.Del pair)) u (Entered (entry.Del pair)) h.elsewhere h.step ((d, h.home), h.«open», h.stood)
 del_saw c pair (Failed u m f) h =
     elim h.which [
       | inl try ↦ saw_try c (asks.Command (command.Del pair)) u h.elsewhere try.0
@@ -424,7 +428,7 @@ command_saw c (command.Read pair cookie) reply h =
       | inr froze ↦ saw_froze c (asks.Command (command.Read pair cookie)) pair froze (froze.d, froze.home)
     ])
     h
-command_saw c (command.Get url) reply h = get_saw c url (replica_on c.settings url.volume url.machine) reply h
+command_saw c (command.Get url) reply h = get_saw c url (replica_on c.settings url.volume url.machine) reply refl h
 command_saw c (command.Del pair) reply h = del_saw c pair reply h
 command_saw c (command.Url pair) reply h = saw_idle c (asks.Command (command.Url pair)) reply refl (λ never. never) (url_may c pair reply h)
 command_saw c (command.Flush u m) reply h =

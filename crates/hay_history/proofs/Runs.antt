@@ -2,7 +2,7 @@
 use Rattle.std.proofs.Common.{◌≡◌, ◌≢◌, ◌⊎◌, inl, inr, ℕ, zero, suc, ◌<◌, ◌≤◌, ◌+◌, Bool, true, false, cond, List, [], ◌∷◌, ◌++◌, length, map, drop, slice_get, Contains, count_by, Option, Some, None, option_map, refl, sym, ap, subst, ◌∙◌, arith, append-nil}
 use Rattle.std.specs.Prelude.{slice_index_or}
 use Rattle.std.proofs.lemmas.Bool.{cases_eq}
-use Rattle.std.proofs.lemmas.Option.{slice_get_cases}
+use Rattle.std.proofs.lemmas.Option.{none-some, slice_get_cases}
 use Rattle.std.proofs.lemmas.List.{get_or-map}
 use Rattle.std.proofs.lemmas.List.Sums.{sum_by-append}
 use Rattle.hay_needle.specs.declared.settings.Settings.{Settings}
@@ -17,7 +17,7 @@ use Rattle.hay_legal.specs.declared.known.VolumeKnown.{VolumeKnown}
 use Rattle.hay_legal.specs.declared.turn.LaneItem.{LaneItem}
 use Rattle.hay_legal.specs.Known.{empty_replica, fault_count, replica_at, slot_of, volume_at}
 use Rattle.hay_legal.specs.Plain.{ended_where, first_machine, frozen_by, grown, poised, run_grown, stepped, swapped, with_bare, with_run, with_stuck, without_run}
-use Rattle.hay_legal.specs.Blocks.{DeletesOn, RunIsLegal, is_put, new_entries, run_longer, tag_of}
+use Rattle.hay_legal.specs.Blocks.{DeletesOn, MayEndInDelete, RunIsLegal, is_put, new_entries, run_longer, tag_of}
 use Rattle.hay_history.specs.Steps.{Did, IsThawed, Leads, NoneFall, Standing, Step, change_at}
 use Rattle.hay_history.proofs.Trying.{changed}
 use Rattle.hay_history.specs.Histories.{Course, History, behind, first_of, own}
@@ -298,14 +298,14 @@ module _ {settings : Settings} {k : Known} {items : List LaneItem} {history : Hi
     | inr other ↦ inl (grind (arith, a, b, d, other))
   ]
 
-  abbrev Ended : Type 0
-  Ended =
+  -- it ended before this moment
+  abbrev Ended : ℕ → Type 0
+  Ended n =
       (run_at (last_of settings k history v) j ≡ None)
       × ((Rose ((then 0).faults j) ((last_of settings k history v).faults j) × (item : LaneItem) × Contains items item × DeletesOn settings v item)
-      ⊎ (((volume_at k v).frozen ≡ None) × ((m : ℕ) × (((last_of settings k history v).volume).frozen ≡ Some m))
-      × SameNumber (replica_at (volume_at k v) j) (replica_at (volume_at t v) j)))
+      ⊎ (((volume_at k v).frozen ≡ None) × ((m : ℕ) × (((then n).volume).frozen ≡ Some m)) × SameNumber (replica_at (volume_at k v) j) (replica_at (volume_at t v) j)))
 
-  ended_by : (n : ℕ) (item : LaneItem) → Contains items item → n < length (history.volumes v) → RunStays j (then 0) (then n) → RunEnded settings v j item (then n) (then (n + 1)) → Ended
+  ended_by : (n : ℕ) (item : LaneItem) → Contains items item → n < length (history.volumes v) → RunStays j (then 0) (then n) → RunEnded settings v j item (then n) (then (n + 1)) → Ended (n + 1)
   ended_by n item among less stays ended = (
     none_stays (n + 1) ended.none,
     elim ended.cause [
@@ -318,14 +318,18 @@ module _ {settings : Settings} {k : Known} {items : List LaneItem} {history : Hi
       )
       | inr froze ↦ inr (
         thawed_before h v n below froze.0,
-        ((froze.1).0, frozen_stays h v (n + 1) (length (history.volumes v)) (froze.1).0 below (omega (arith, less)) (froze.1).1),
+        froze.1,
         ap (λ (volume : VolumeKnown). (replica_at volume j).generation) (frozen_keeps h v (n + 1) (froze.1).0 below (froze.1).1) ∙ froze.2 ∙ stays.number,
       )
     ],
   )
 
+  ended_on : (n : ℕ) → Ended n → Ended (n + 1)
+  ended_on n (none, inl rose) = (none, inl rose)
+  ended_on n (none, inr (thawed, (m, frozen), number)) = (none, inr (thawed, (m, frozen_stays h v n (n + 1) m below (omega arith) frozen), number))
+
   -- while a run of before the block stands, each step leaves it or ends it
-  goes_on : (n : ℕ) → n < length (history.volumes v) → Alive n → Alive (n + 1) ⊎ Ended
+  goes_on : (n : ℕ) → n < length (history.volumes v) → Alive n → Alive (n + 1) ⊎ Ended (n + 1)
   goes_on n less alive = elim (step_at n) [
     | inr past ↦ absurd (omega (arith, past, less))
     | inl some ↦
@@ -344,7 +348,7 @@ module _ {settings : Settings} {k : Known} {items : List LaneItem} {history : Hi
         ]
   ]
 
-  walk : (n : ℕ) → n ≤ length (history.volumes v) → (run : Run) → run_at (then 0) j ≡ Some run → Alive n ⊎ Ended
+  walk : (n : ℕ) → n ≤ length (history.volumes v) → (run : Run) → run_at (then 0) j ≡ Some run → Alive n ⊎ Ended n
   walk zero le run some = inl (
     (λ i low none.
         let first : run_at (then i) j ≡ run_at (then 0) j = ap (λ (m : ℕ). run_at (then m) j) (zero_is i low) in
@@ -356,8 +360,8 @@ module _ {settings : Settings} {k : Known} {items : List LaneItem} {history : Hi
       zero_is : (i : ℕ) → i ≤ 0 → i ≡ 0
       zero_is i low = omega (arith, low)
   walk (suc n) le run some = elim (walk n (omega (arith, le)) run some) [
-    | inl alive ↦ subst (λ (m : ℕ). Alive m ⊎ Ended) (omega arith) (goes_on n (omega (arith, le)) alive)
-    | inr ended ↦ inr ended
+    | inl alive ↦ subst (λ (m : ℕ). Alive m ⊎ Ended m) (omega arith) (goes_on n (omega (arith, le)) alive)
+    | inr ended ↦ let next : n + 1 ≡ suc n = omega arith in inr (subst Ended next (ended_on n ended))
   ]
 
   is_last : volume_at t v ≡ (last_of settings k history v).volume
@@ -365,6 +369,21 @@ module _ {settings : Settings} {k : Known} {items : List LaneItem} {history : Hi
 
   fault_is : (last_of settings k history v).faults j ≡ fault_count t (slot_of settings v j)
   fault_is = sym ((h.volumes v below).faults j within)
+
+  -- a replica at rest on an open volume was so before the block, or a delete ended its compaction
+  pub rested_then : (n : ℕ) → n ≤ length (history.volumes v) → ((then n).volume).frozen ≡ None → run_at (then n) j ≡ None
+      → ((replica_at (volume_at k v) j).run ≡ None) ⊎ MayEndInDelete settings k items t v j
+  rested_then n le thawed none = by (run_at (then 0) j) refl
+    where
+      by : (o : Option Run) → run_at (then 0) j ≡ o → ((replica_at (volume_at k v) j).run ≡ None) ⊎ MayEndInDelete settings k items t v j
+      by None is = inl is
+      by (Some run) is = elim (walk n le run is) [
+        | inl alive ↦ absurd (alive.0 n (omega arith) none)
+        | inr ended ↦ elim ended.1 [
+          | inl rose ↦ inr (subst (λ (f : ℕ). Rose ((then 0).faults j) f) fault_is rose.0, rose.1, rose.2, rose.3)
+          | inr froze ↦ absurd (none-some (froze.1).0 (sym thawed ∙ (froze.1).1))
+        ]
+      ]
 
   pub run_legal : RunIsLegal settings k items t v j (new_entries k t v) (replica_at (volume_at k v) j) (replica_at (volume_at t v) j)
   run_legal = by (run_at (then 0) j) refl
@@ -382,7 +401,7 @@ module _ {settings : Settings} {k : Known} {items : List LaneItem} {history : Hi
             frozen_is is_last ∙ stays.frozen,
           ))
 
-      ended : Ended → RunIsLegal settings k items t v j (new_entries k t v) (replica_at (volume_at k v) j) (replica_at (volume_at t v) j)
+      ended : Ended (length (history.volumes v)) → RunIsLegal settings k items t v j (new_entries k t v) (replica_at (volume_at k v) j) (replica_at (volume_at t v) j)
       ended end = inr (inr (
         ap run_of (replica_is j is_last) ∙ end.0,
         elim end.1 [

@@ -130,7 +130,7 @@ module _ {settings : Settings} {k : Known} {items : List LaneItem} {logs : List 
         subst (λ (x : Pair). home_of t x ≡ Some v) own (home_left pair ((froze.0).1).0 v ((froze.0).1).3)
   ]
   pending_home v m line lane change left (asks.Command (command.Read pair cookie)) reply.NoMem is legal froze = absurd (none-some change (sym froze.1 ∙ is))
-  pending_home v m line lane change left (asks.Command (command.Get url)) reply.NoMem is legal froze = absurd (none-some change (sym froze.2 ∙ is))
+  pending_home v m line lane change left (asks.Command (command.Get url)) reply.NoMem is legal froze = absurd (none-some change (sym froze.3 ∙ is))
   pending_home v m line lane change left (asks.Command (command.Compact u w)) (reply.Failed u' w' f) is legal froze = absurd (none-some change (sym froze.1 ∙ is))
   pending_home v m line lane change left (asks.Command (command.Compact u w)) reply.NoMem is legal froze = absurd (none-some change (sym froze.3 ∙ is))
   pending_home v m line lane change left _ r is legal froze = absurd froze

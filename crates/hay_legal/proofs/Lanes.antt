@@ -130,6 +130,7 @@ block = record {
           base = refl;
           generations = record { inside_range = tt; once = tt; all = refl; last = λ less. omega (arith, less); rising = (tt, (tt, (tt, (tt, (tt, (tt, (tt, (tt, tt)))))))) };
           sizes = inl (refl, refl, refl);
+          room = inr (lit≤ tt);
           bare = ((λ e. lit≤ tt), inl (refl, refl));
           run = inl (refl, refl);
           stuck = inl (refl, refl);
@@ -254,6 +255,7 @@ freezing_block = record {
           base = refl;
           generations = record { inside_range = tt; once = tt; all = refl; last = λ less. omega (arith, less); rising = (tt, (tt, (tt, (tt, (tt, (tt, (tt, (tt, tt)))))))) };
           sizes = inl (refl, refl, refl);
+          room = inr (lit≤ tt);
           bare = ((λ e. lit≤ tt), inl (refl, refl));
           run = inl (refl, refl);
           stuck = inl (refl, refl);

@@ -1,5 +1,5 @@
 -- Blocks of lanes that are not legal, each for one wrong reply or for one wrong thing that it leaves.
-use Rattle.std.specs.Prelude.{◌≡◌, ◌≢◌, ◌⊎◌, ◌++◌, cond, ℕ, zero, suc, ◌+◌, ◌-◌, ◌^◌, ◌<◌, ◌≤◌, ◌==◌, ◌&&◌, ◌||◌, not, Bool, true, false, List, [], ◌∷◌, length, take_while, Contains, Option, Some, None, flat_map, option_map}
+use Rattle.std.specs.Prelude.{◌≡◌, ◌≢◌, ◌⊎◌, ◌++◌, cond, ℕ, zero, suc, ◌+◌, ◌-◌, ◌^◌, ◌<◌, ◌≤◌, ◌==◌, ◌&&◌, ◌||◌, not, Bool, true, false, List, [], ◌∷◌, length, take_while, slice_get, drop, count_by, Contains, Option, Some, None, flat_map, option_map}
 use Rattle.std.specs.List.{AllByRecursion as Each, AllZip}
 use Rattle.std.proofs.Common.{refl, sym, ap, subst, inl, inr, ◌∙◌, arith, sum_by}
 use Rattle.std.proofs.lemmas.Bool.{eq-eqb}
@@ -10,6 +10,8 @@ use Rattle.hay_needle.specs.declared.needle.Pair.{Pair}
 use Rattle.hay_needle.specs.declared.needle.Cookie.{Cookie}
 use Rattle.hay_needle.specs.declared.settings.Settings.{Settings}
 use Rattle.hay_needle.specs.Sizes.{needle_total}
+use Rattle.hay_url.specs.declared.Url.{Url as UrlParts}
+use Rattle.hay_url.specs.Url.{cookie_of}
 use Rattle.hay_script.specs.declared.Command.{Command}
 use Rattle.hay_script.specs.declared.Command.TheVariants as command
 use Rattle.hay_reply.specs.declared.LineVolume.{LineVolume}
@@ -19,6 +21,8 @@ use Rattle.hay_reply.specs.declared.Reply.{Reply}
 use Rattle.hay_reply.specs.declared.Reply.TheVariants as reply
 use Rattle.hay_core.specs.declared.entry.CoreTag.{CoreTag}
 use Rattle.hay_core.specs.declared.entry.Entry.{Entry}
+use Rattle.hay_core.specs.declared.entry.Entry.TheVariants as entry
+use Rattle.hay_core.specs.declared.entry.Logged.{Logged}
 use Rattle.hay_legal.specs.declared.known.HomeRow.{HomeRow}
 use Rattle.hay_legal.specs.declared.known.Known.{Known}
 use Rattle.hay_legal.specs.declared.known.Pending.{Pending}
@@ -29,7 +33,7 @@ use Rattle.hay_legal.specs.declared.turn.LaneItem.{LaneItem}
 use Rattle.hay_legal.specs.declared.turn.LogNote.{LogNote}
 use Rattle.hay_legal.specs.declared.turn.RowNote.{RowNote}
 use Rattle.hay_legal.specs.Known.{CameUp, EachPair, all_tries, closed, closed_by, drained_of, fault_count, home_of, machine_of, replica_at, replica_on, replicas_of, slot_of, volume_at}
-use Rattle.hay_legal.specs.Blocks.{CompactIsLegal, DeletesOn, DiskIsLegal, FlushIsLegal, FreezeIsLegal, Freezes, HomeInBlock, InOrder, IsAt, IsNewRow, LegalBlock, LineIsLegal, MayHaveAdded, MayHaveFrozen, MayPrecede, MayRefuse, Printed, ReplicaIsLegal, RefusesPut, StandsBefore, SticksBy, SwappedWhere, VolumeIsLegal, WasFrozen, WasSwapped, disk_prints, froze_at_compact, generation_print, highest_end, is_compacted, is_failed, made_on, new_rows, pending_behind, printed, row_faults, row_failed, sticks_on}
+use Rattle.hay_legal.specs.Blocks.{CompactIsLegal, DeletesOn, DiskIsLegal, FlushIsLegal, FreezeIsLegal, Freezes, HomeInBlock, InOrder, IsAt, IsEntered, IsNewRow, LegalBlock, LineIsLegal, MayHaveAdded, MayHaveFrozen, MayPrecede, MayRefuse, Printed, ReplicaIsLegal, RefusesPut, StandsBefore, SticksBy, SwappedWhere, VolumeIsLegal, WasFrozen, WasSwapped, disk_prints, froze_at_compact, generation_print, highest_end, is_compacted, is_failed, is_put, is_wanting, made_on, new_rows, pending_behind, printed, row_faults, row_failed, sticks_on}
 use Rattle.hay_legal.proofs.Subject.Entries.{each_in_range}
 
 -- LISTS
@@ -59,6 +63,17 @@ printed_in (y ∷ xs) x f (zero, below, is) printed =
     Contains-append_left (row_faults y.reply) (flat_map (λ item. row_faults item.reply) xs) f (subst (λ (z : LaneItem). Contains (row_faults z.reply) f) (sym is) printed)
 printed_in (y ∷ xs) x f (suc i, below, is) printed =
     Contains-append_right (row_faults y.reply) (flat_map (λ item. row_faults item.reply) xs) f (printed_in xs x f (i, omega (arith, below), is) printed)
+
+-- a put that a log has behind its first entries is one of those behind them
+put_counted : (log : List Logged) (n i : ℕ) (logged : Logged) → n ≤ i → slice_get log i ≡ Some logged → is_put logged ≡ true → 0 < count_by is_put (drop n log)
+put_counted [] n i logged low at is = absurd (none-some logged at)
+put_counted (x ∷ log) zero zero logged low at is =
+    let one : ◌≡◌ {A = ℕ} (cond (is_put x) 1 0) 1 = ap (λ (l : Logged). cond (is_put l) 1 0) (same_Some x logged at) ∙ ap (λ (b : Bool). cond b 1 0) is in
+    omega (arith, one, sum_by-cons (λ (l : Logged). cond (is_put l) 1 0) x log)
+put_counted (x ∷ log) zero (suc i) logged low at is =
+    omega (arith, put_counted log zero i logged (omega arith) at is, sum_by-cons (λ (l : Logged). cond (is_put l) 1 0) x log)
+put_counted (x ∷ log) (suc n) zero logged low at is = absurd (omega (arith, low))
+put_counted (x ∷ log) (suc n) (suc i) logged low at is = put_counted log n i logged (omega (arith, low)) at is
 
 module _ {settings : Settings} {k : Known} {items : List LaneItem} {logs : List LogNote} {rows : RowNote} {t : Known} (b : LegalBlock settings k items logs rows t) where
   line : (item : LaneItem) → Contains items item → LineIsLegal settings k items t item
@@ -159,6 +174,19 @@ module _ {settings : Settings} {k : Known} {items : List LaneItem} {logs : List 
       → Contains items (answered lane n (command.Compact v m) (reply.Failed v' m'' f)) → ⊥
   compact_failed_on_frozen lane n v m j m' v' m'' f is there among = never_frozen v m' (compact_on lane n v m j _ there among).1 is
 
+  -- a compact fails where it could not begin: beside a run of before the block that no delete ended, or at the last generation
+  compact_failed_beside_run : (lane n v m j v' m' f : ℕ) (run : Run) → (replica_at (volume_at k v) j).run ≡ Some run → replica_on settings v m ≡ Some j
+      → ((item : LaneItem) → Contains items item → DeletesOn settings v item → ⊥)
+      → Contains items (answered lane n (command.Compact v m) (reply.Failed v' m' f)) → ⊥
+  compact_failed_beside_run lane n v m j v' m' f run stands there never among = elim ((compact_on lane n v m j _ there among).2).1 [
+    | inl none ↦ none-some run (sym none ∙ stands)
+    | inr deleted ↦ never deleted.1 deleted.2 deleted.3
+  ]
+
+  compact_failed_at_last_generation : (lane n v m j v' m' f : ℕ) → 65535 ≤ (replica_at (volume_at k v) j).generation → replica_on settings v m ≡ Some j
+      → Contains items (answered lane n (command.Compact v m) (reply.Failed v' m' f)) → ⊥
+  compact_failed_at_last_generation lane n v m j v' m' f last there among = let less = ((compact_on lane n v m j _ there among).2).0 in omega (arith, less, last)
+
   -- COUNTS
 
   -- a machine that has no replica of the volume is blamed
@@ -209,6 +237,22 @@ module _ {settings : Settings} {k : Known} {items : List LaneItem} {logs : List 
       (printed_in items _ f among (zero, omega arith, refl)) in
       let high : f ≤ fault_count t 0 = came.1 in
       omega (arith, above, high)
+
+  -- ROOM
+
+  -- a photo is stored on a volume a replica of which is left too long
+  stored_beyond_room : (lane n v j p d : ℕ) (c : Cookie) (pair : Pair) (bytes : List ℕ) → v < settings.volumes → j < settings.replicas
+      → settings.capacity < (replica_at (volume_at t v) j).end + 8 → Contains items (answered lane n (command.Put pair bytes) (reply.Stored v p d c)) → ⊥
+  stored_beyond_room lane n v j p d c pair bytes below within long among =
+      let entered = each_in (IsEntered settings k t) items (answered lane n (command.Put pair bytes) (reply.Stored v p d c)) b.entered among in
+      let logged = entered.1.0 in
+      let put : entry.Put pair (cookie_of settings.secret pair.key) bytes ≡ logged.entry = same_Some _ logged.entry (entered.1.2).entry in
+      let is : is_put logged ≡ true = ap (λ (e : Entry). is_put (record { tag = logged.tag; entry = e })) (sym put) in
+      let some = put_counted (volume_at t v).log (length (volume_at k v).log) (p - 1) logged (omega (arith, entered.0)) entered.1.1 is in
+      elim (replica v j below within).room [
+        | inl none ↦ omega (arith, some, none)
+        | inr room ↦ omega (arith, room, long)
+      ]
 
   -- ROWS
 
@@ -432,6 +476,10 @@ module _ {settings : Settings} {k : Known} {logs : List LogNote} {rows : RowNote
   read_wants_elsewhere : (lane n : ℕ) (pair : Pair) (cookie : Cookie) → (HomeInBlock k t pair v → ⊥)
       → LegalBlock settings k (answered lane n (command.Read pair cookie) reply.NoMem ∷ []) logs rows t → ⊥
   read_wants_elsewhere lane n pair cookie never b = never (froze_alone _ b).2.0.1
+
+  get_of_no_replica_wants : (lane n : ℕ) (url : UrlParts) → replica_on settings url.volume url.machine ≡ None
+      → LegalBlock settings k (answered lane n (command.Get url) reply.NoMem ∷ []) logs rows t → ⊥
+  get_of_no_replica_wants lane n url none b = let there = (froze_alone _ b).2.2 in none-some there.0 (sym none ∙ there.1)
 
   flush_freezes : (lane n u w : ℕ) (r : Reply) → LegalBlock settings k (answered lane n (command.Flush u w) r ∷ []) logs rows t → ⊥
   flush_freezes lane n u w r b = (froze_alone _ b).2
@@ -682,3 +730,34 @@ module _ (settings : Settings) (k : Known) (logs : List LogNote) (rows : RowNote
       (here (printed g true)) rises in
       let both = subst (λ (xs : List Printed). EachPair InOrder (printed g true ∷ (xs ++ []))) (here (printed g' true)) first in
       let less : g < g' = both.0.0 in omega (arith, less, falls)
+
+  -- a lane is told the last generation, and then want of memory froze the volume behind a swap of its own
+  last_generation_behind_a_freeze : (m : ℕ) → (volume_at k v).frozen ≡ None → (volume_at t v).frozen ≡ Some m
+      → LegalBlock settings k
+      (answered 0 2 (command.Compact v on) (reply.Compacted v on (replica_at (volume_at t v) j).generation) ∷ answered 0 3 (command.Compact v on) reply.NoMem ∷ [])
+      logs rows t → ⊥
+  last_generation_behind_a_freeze m before frozen b =
+      let first : LaneItem = answered 0 2 (command.Compact v on) (reply.Compacted v on (replica_at (volume_at t v) j).generation) in
+      let second : LaneItem = answered 0 3 (command.Compact v on) reply.NoMem in
+      let by = froze_by b v m below before frozen in
+      elim (one_of_two first second by.0 (by.2).among) [
+        | inl is ↦ subst (λ (x : LaneItem). Freezes settings k (first ∷ second ∷ []) t v (by.2).machine (by.2).change x) (sym is) (by.2).freezes
+        | inr is ↦ last (volume b v below).froze (by.1 ∙ ap (λ (x : LaneItem). Some x) (sym is)) ((replica b v j below within).generations).inside_range
+      ]
+    where
+      second : LaneItem
+      second = answered 0 3 (command.Compact v on) reply.NoMem
+
+      last : (froze : Option LaneItem) → froze ≡ Some second
+          → Each (λ g. ((replica_at (volume_at k v) j).generation < g) × (g + cond (froze_at_compact v on is_wanting froze) 1 0 ≤ (replica_at (volume_at t v) j).generation))
+          (cond ((v == v) && (on == on)) ((replica_at (volume_at t v) j).generation ∷ []) [] ++ [])
+          → ⊥
+      last froze is each =
+          let one : ◌≡◌ {A = ℕ} (cond (froze_at_compact v on is_wanting froze) 1 0) 1 =
+          ap (λ (o : Option LaneItem). cond (froze_at_compact v on is_wanting o) 1 0) is ∙ ap (λ (x : Bool). cond (x && true) 1 0) compacts in
+          let shown = subst (λ (xs : List ℕ). Each (λ g. ((replica_at (volume_at k v) j).generation < g) × (g + cond (froze_at_compact v on is_wanting froze) 1 0 ≤ (replica_at (volume_at t v) j).generation)) (xs ++ []))
+          (here (replica_at (volume_at t v) j).generation) each in
+          omega (arith, one, shown.0.1)
+        where
+          compacts : is_compacted v on second ≡ true
+          compacts = ap (λ (x : Bool). x && (on == on)) (eq-eqb v v refl) ∙ eq-eqb on on refl

@@ -555,6 +555,22 @@ MayBeBusy k items t lane v m j g =
     × (((run : Run) × ((replica_at (volume_at k v) j).run ≡ Some run) × (run.goal ≡ g))
     ⊎ ((item : LaneItem) × Contains items item × RunsBeside lane v m g item))
 
+-- a line that deleted a photo of the volume
+abbrev pub DeletesOn : Settings → ℕ → LaneItem → Type 0
+DeletesOn settings v item = (pair : Pair) × (p : ℕ) × (entry_of_item settings item.item ≡ Some (entry.Del pair)) × (acknowledged item.reply ≡ Some (v, p))
+
+-- a run of before the block may have ended in a delete in which a call of its disk failed
+abbrev pub MayEndInDelete : Settings → Known → List LaneItem → Known → ℕ → ℕ → Type 0
+MayEndInDelete settings k items t v j =
+    Rose (fault_count k (slot_of settings v j)) (fault_count t (slot_of settings v j)) × (item : LaneItem) × Contains items item × DeletesOn settings v item
+
+-- A compaction may have met the replica open at rest, where it could begin: no generation was the last, and no run of before the
+-- block stood then.
+abbrev pub MayBeAtRest : Settings → Known → List LaneItem → Known → ℕ → ℕ → Type 0
+MayBeAtRest settings k items t v j =
+    ((replica_at (volume_at k v) j).generation < 65535)
+    × (((replica_at (volume_at k v) j).run ≡ None) ⊎ MayEndInDelete settings k items t v j)
+
 abbrev pub CompactIsLegal : Settings → Known → List LaneItem → Known → ℕ → ℕ → ℕ → Option ℕ → Reply → Type 0
 CompactIsLegal settings k items t lane v m None Nowhere = Unit {0}
 CompactIsLegal settings k items t lane v m None NoMem = Unit {0}
@@ -564,7 +580,7 @@ CompactIsLegal settings k items t lane v m (Some j) (ReadOnly by) = IsFrozenBy t
 CompactIsLegal settings k items t lane v m (Some j) (Busy v' m' g) = Names v m v' m' × IsOpen k v × MayBeBusy k items t lane v m j g
 CompactIsLegal settings k items t lane v m (Some j) (Worn v' m') =
     Names v m v' m' × IsOpen k v × ((replica_at (volume_at t v) j).generation ≡ 65535)
-CompactIsLegal settings k items t lane v m (Some j) (Failed v' m' f) = Names v m v' m' × IsOpen k v
+CompactIsLegal settings k items t lane v m (Some j) (Failed v' m' f) = Names v m v' m' × IsOpen k v × MayBeAtRest settings k items t v j
 CompactIsLegal settings k items t lane v m (Some j) NoMem = Unit {0}
 CompactIsLegal settings k items t lane v m (Some j) _ = ⊥
 
@@ -773,10 +789,12 @@ abbrev pub froze_at_compact : ℕ → ℕ → (Reply → Bool) → Option LaneIt
 froze_at_compact v m says None = false
 froze_at_compact v m says (Some item) = is_compacted v m item && says item.reply
 
--- The printed generations are all that were made, but for the swap behind which want of memory froze the volume. What a lane
--- prints of them rises.
+-- The printed generations are all that were made, but for the swap behind which want of memory froze the volume, which comes last.
+-- What a lane prints of them rises.
 pub record GenerationsAreLegal (settings : Settings) (items : List LaneItem) (v j : ℕ) (froze : Option LaneItem) (old new : ReplicaKnown) : Type 0 where
-  pub inside_range : Each (λ g. (old.generation < g) × (g ≤ new.generation)) (flat_map (made_on v (machine_of settings v j)) items)
+  pub inside_range : Each
+      (λ g. (old.generation < g) × (g + cond (froze_at_compact v (machine_of settings v j) is_wanting froze) 1 0 ≤ new.generation))
+      (flat_map (made_on v (machine_of settings v j)) items)
   pub once : EachPair (λ g h. g ≢ h) (flat_map (made_on v (machine_of settings v j)) items)
   pub all : new.generation
       ≡ old.generation + length (flat_map (made_on v (machine_of settings v j)) items) + cond (froze_at_compact v (machine_of settings v j) is_wanting froze) 1 0
@@ -800,14 +818,10 @@ BareIsLegal flushed new_log old new =
 abbrev pub run_longer : ℕ → Run → Run
 run_longer n run = record run { left = run.left + n }
 
--- a line that deleted a photo of the volume
-abbrev pub DeletesOn : Settings → ℕ → LaneItem → Type 0
-DeletesOn settings v item = (pair : Pair) × (p : ℕ) × (entry_of_item settings item.item ≡ Some (entry.Del pair)) × (acknowledged item.reply ≡ Some (v, p))
-
 -- a run of before the block ended: in a delete in which a call of its disk failed, or as the volume froze
 abbrev pub RunMayEnd : Settings → Known → List LaneItem → Known → ℕ → ℕ → ReplicaKnown → ReplicaKnown → Type 0
 RunMayEnd settings k items t v j old new =
-    (Rose (fault_count k (slot_of settings v j)) (fault_count t (slot_of settings v j)) × (item : LaneItem) × Contains items item × DeletesOn settings v item)
+    MayEndInDelete settings k items t v j
     ⊎ (IsOpen k v × ((m : ℕ) × ((volume_at t v).frozen ≡ Some m)) × (new.generation ≡ old.generation))
 
 -- No run stood before the block, and none is left; or one stands on, with the new cells left besides; or it ended.
@@ -891,6 +905,7 @@ pub record ReplicaIsLegal (settings : Settings) (k : Known) (items : List LaneIt
   pub base : new.base ≡ old.base
   pub generations : GenerationsAreLegal settings items v j froze old new
   pub sizes : Grew t v (new_entries k t v) old new
+  pub room : (count_by is_put (new_entries k t v) ≡ 0) ⊎ (new.end + 8 ≤ settings.capacity)
   pub bare : BareIsLegal (flat_map (flushed_on v (machine_of settings v j)) items) (new_entries k t v) old new
   pub run : RunIsLegal settings k items t v j (new_entries k t v) old new
   pub stuck : StuckIsLegal items v (machine_of settings v j) old new
@@ -918,7 +933,7 @@ Freezes settings k items t v m change item = FreezesBy item.item item.reply
     FreezesAs (command.Del pair) (Failed v' m' f) = Names v m v' m' × Deletes pair
     FreezesAs (command.Del pair) NoMem = Wants pair × (closed settings k v ≡ None) × ((change ≡ None) ⊎ Deletes pair)
     FreezesAs (command.Read pair cookie) NoMem = Wants pair × (change ≡ None)
-    FreezesAs (command.Get url) NoMem = Wants url.pair × (v ≡ url.volume) × (change ≡ None)
+    FreezesAs (command.Get url) NoMem = Wants url.pair × (v ≡ url.volume) × HasReplica settings url.volume url.machine × (change ≡ None)
     FreezesAs (command.Compact v' m') (Failed v'' m'' f) = Names v m v' m' × (change ≡ None)
     FreezesAs (command.Compact v' m') NoMem =
         (v' ≡ v) × (m ≡ first_machine settings v) × HasReplica settings v m' × (change ≡ None)
