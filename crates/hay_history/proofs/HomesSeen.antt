@@ -18,13 +18,14 @@ use Rattle.hay_legal.specs.Known.{EachPair, home_in}
 use Rattle.hay_legal.specs.Plain.{as_closed}
 use Rattle.hay_legal.specs.Blocks.{HomeAt, HomeRefuses, HomesAgree, MetHome, MetNoHome, Printed, TriesRefuse, row_print, volume_named}
 use Rattle.hay_legal.proofs.Subject.Effects.{home_stays}
-use Rattle.hay_history.specs.Histories.{History, IsLater, IsRowMoment, SeesHome, SeesRefusal, first_rows}
+use Rattle.hay_history.specs.Histories.{History, IsLater, IsRowMoment, SeesHome, SeesRefusal, first_rows, row_note}
 use Rattle.hay_history.specs.Commands.{CameInLanes, ItemDid, PutRefused}
 use Rattle.hay_history.proofs.Fronts.{PrintsRows, item_prints}
 use Rattle.hay_history.proofs.Lines.{answered, course_of}
 use Rattle.hay_history.proofs.Lists.{each_weaker, pair_by}
 use Rattle.hay_history.proofs.Meeting.{refused_closed, refused_room}
 use Rattle.hay_history.proofs.Own.{line_of}
+use Rattle.hay_history.proofs.OwnRows.{adds_none}
 use Rattle.hay_history.proofs.PutLines.{home_refuses, tries_refuse}
 use Rattle.hay_history.proofs.Rows.{home_then, lengthens_to, none_before, rows_moment}
 use Rattle.hay_history.proofs.Takers.{row_missing}
@@ -118,9 +119,9 @@ module _ {settings : Settings} {k : Known} {items : List LaneItem} {history : Hi
       (row_print item.reply) (item_prints (course_of h item) 0 item.item item.reply (answered h item among).did).1
 
 pub homes_agree : {settings : Settings} {k : Known} {items : List LaneItem} {history : History} {t : Known} (h : CameInLanes settings k items history t)
-    → EachPair (λ a b. a.lane ≡ b.lane → HomesAgree settings k items t a b) items
+    → EachPair (λ a b. a.lane ≡ b.lane → HomesAgree settings k items (row_note k history) t a b) items
 homes_agree {settings} {k} {items} {history} {t} h =
-    pair_by (λ a b. a.lane ≡ b.lane → IsLater (h.to a.line) (h.from b.line)) (λ a b. a.lane ≡ b.lane → HomesAgree settings k items t a b) items
+    pair_by (λ a b. a.lane ≡ b.lane → IsLater (h.to a.line) (h.from b.line)) (λ a b. a.lane ≡ b.lane → HomesAgree settings k items (row_note k history) t a b) items
     (λ a b in_a in_b later same.
     let apart = (later same).rows in
     record {
@@ -141,5 +142,9 @@ homes_agree {settings} {k} {items} {history} {t} h =
           let since = ((then.1).seen).0 in
           let still = stays_home h a pair v (saw.1).moment (then.1).moment (omega (arith, until, apart, since)) (saw.1).is in
           none-some v (sym (then.1).is ∙ still);
+      laid = λ pair v bytes met put.
+          let saw = saw_home h a a.line a.lane a.item a.reply pair v (answered h a in_a).did met in
+          let until = ((saw.1).seen).1 in
+          adds_none h b in_b pair bytes v (saw.1).moment put (omega (arith, until, apart)) (saw.1).is;
     })
     h.«order»

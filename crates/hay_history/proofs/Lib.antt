@@ -16,6 +16,9 @@ pub mod PutLines
 pub mod HomesSeen
 pub mod Meeting
 pub mod Settled
+pub mod Passing
+pub mod Counted
+pub mod Frosts
 pub mod CompactLines
 pub mod Answers
 pub mod Weights

@@ -1,5 +1,5 @@
 -- What a line saw of a volume that it met closed or open: a lane that met a freeze of the block meets it from then on.
-use Rattle.std.proofs.Common.{◌≡◌, ◌≢◌, ◌⊎◌, inl, inr, ℕ, ◌<◌, ◌≤◌, ◌+◌, true, false, List, [], ◌∷◌, length, map, Contains, Option, Some, None, refl, sym, ap, subst, ◌∙◌, arith}
+use Rattle.std.proofs.Common.{◌≡◌, ◌≢◌, ◌⊎◌, inl, inr, ℕ, ◌<◌, ◌≤◌, ◌+◌, true, false, List, [], ◌∷◌, length, map, Contains, Option, Some, None, refl, sym, ap, subst, ◌∙◌}
 use Rattle.std.specs.Prelude.{find}
 use Rattle.std.specs.List.{AllZip, enumerate_from}
 use Rattle.std.proofs.lemmas.Option.{none-some}
@@ -19,21 +19,21 @@ use Rattle.hay_legal.specs.declared.known.Known.{Known}
 use Rattle.hay_legal.specs.declared.turn.Item.{Item}
 use Rattle.hay_legal.specs.declared.turn.Item.TheVariants as asks
 use Rattle.hay_legal.specs.declared.turn.LaneItem.{LaneItem}
-use Rattle.hay_legal.specs.Known.{EachPair, all_tries, closed, closed_by, drained_of, lacks_room, machine_of, refusal_by, replica_at, replica_on, room_refusal_of, volume_at}
+use Rattle.hay_legal.specs.Known.{all_tries, closed, closed_by, drained_of, lacks_room, machine_of, refusal_by, replica_at, replica_on, room_refusal_of, volume_at}
 use Rattle.hay_needle.specs.Sizes.{needle_total}
 use Rattle.hay_legal.specs.declared.known.ReplicaKnown.{ReplicaKnown}
 use Rattle.hay_legal.specs.Plain.{as_closed, put_entry, start_of}
-use Rattle.hay_legal.specs.Blocks.{MayBeStuck, MetFreeze, MetFrozen, MetOpen, MetThawed, RefusedAsStuck, SticksBy, tag_of, volume_named}
+use Rattle.hay_legal.specs.Blocks.{MayBeStuck, MetFreeze, MetOpen, RefusedAsStuck, SticksBy, tag_of, volume_named}
 use Rattle.hay_history.specs.Steps.{Did, IsThawed, Leads, Standing, Step}
 use Rattle.hay_history.specs.Steps.Did.{Ends, Entered, Flushes, Pends, Poises, Sticks, Swaps}
-use Rattle.hay_history.specs.Histories.{Course, History, IsLater, IsMoment, OneStep, OneTry, SeesFrozen, SeesRefusal, closing_then, own, refusal_then, standing, volume_then}
+use Rattle.hay_history.specs.Histories.{Course, History, IsMoment, OneStep, OneTry, SeesFrozen, SeesRefusal, closing_then, own, refusal_then, standing, volume_then}
 use Rattle.hay_history.specs.Commands.{CameInLanes, CommandDid, CompactDid, CompactFailed, CompactRefused, DelDid, FlushDid, GetDid, HomeIsClosed, HomeRefuses, IsFrozen, IsStuck, ItemDid, PutDid, PutRefused, RanAs, ShowDid, UrlDid}
 use Rattle.hay_history.proofs.Trying.{one_own}
-use Rattle.hay_history.proofs.Lists.{each_in, first_or_rest, none_in, one_in, pair_by}
+use Rattle.hay_history.proofs.Lists.{each_in, first_or_rest, none_in, one_in}
 use Rattle.hay_history.proofs.Lines.{answered, course_of, one_leads, own_leads}
 use Rattle.hay_history.proofs.Placing.{on_machine}
 use Rattle.hay_history.proofs.Laying.{last_step}
-use Rattle.hay_history.proofs.Volumes.{frozen_on, frozen_stays, option_map_some, stuck_then, thawed_before}
+use Rattle.hay_history.proofs.Volumes.{frozen_on, option_map_some, stuck_then, thawed_before}
 use Rattle.hay_history.proofs.Own.{line_of}
 
 -- the line saw the volume frozen by then, or thawed from then on
@@ -46,11 +46,11 @@ SawThawed c v = (n : ℕ) × ((c.from).volumes v ≤ n) × ((volume_then c v n).
 -- CLOSED VOLUMES
 
 -- what is not closed is not frozen
-thawed_of : (frozen drained : Option ℕ) → closed_by frozen drained ≡ None → (frozen ≡ None) × (drained ≡ None)
+pub thawed_of : (frozen drained : Option ℕ) → closed_by frozen drained ≡ None → (frozen ≡ None) × (drained ≡ None)
 thawed_of None drained e = (refl, e)
 thawed_of (Some m) drained e = absurd (none-some m (sym e))
 
-thawed_room : (v : ℕ) (closing : Option ℕ) (room : Option Refused) → refusal_by v closing room ≡ None → closing ≡ None
+pub thawed_room : (v : ℕ) (closing : Option ℕ) (room : Option Refused) → refusal_by v closing room ≡ None → closing ≡ None
 thawed_room v None room e = refl
 thawed_room v (Some m) room e = let clash : Some (Closed v m) ≡ None = e in absurd cc
 
@@ -155,7 +155,7 @@ module _ {settings : Settings} {k : Known} {items : List LaneItem} {history : Hi
   is_stuck v m j (by ∷ more ∷ rest) below on did = absurd did
 
   -- a volume that a machine closed then, and not before the block, was frozen then
-  closing_frozen : (v n m : ℕ) → v < settings.volumes → IsMoment (course_of h item) v n → closed settings k v ≢ Some m
+  pub closing_frozen : (v n m : ℕ) → v < settings.volumes → IsMoment (course_of h item) v n → closed settings k v ≢ Some m
       → closing_then (course_of h item) v n ≡ Some m → SawFrozen (course_of h item) v
   closing_frozen v n m below seen new closing = by (volume_then (course_of h item) v n).frozen refl closing
     where
@@ -358,34 +358,16 @@ module _ {settings : Settings} {k : Known} {items : List LaneItem} {history : Hi
 
 -- LANES
 
--- the line that froze a volume, if one did, saw it thawed and then frozen
+-- the step in which a line froze a volume
+pub record FrozeAt (c : Course) (v : ℕ) : Type 0 where
+  pub place : ℕ
+  pub step : Step
+  pub mine : Contains (own c v) (place, step)
+  pub stands : ((c.from).volumes v ≤ place) × (place < (c.to).volumes v)
+  pub thawed : (volume_then c v place).frozen ≡ None
+  pub machine : ℕ
+  pub frozen : (volume_then c v (place + 1)).frozen ≡ Some machine
+
+-- the line that froze a volume, if one did, has such a step
 abbrev pub FrostSeen : {settings : Settings} {k : Known} {items : List LaneItem} {history : History} {t : Known} → CameInLanes settings k items history t → ℕ → Option LaneItem → Type 0
-FrostSeen h v froze = (item : LaneItem) → froze ≡ Some item → SawFrozen (course_of h item) v × SawThawed (course_of h item) v
-
--- a line that froze the volume, or met it frozen, saw it so
-pub frozen_seen : {settings : Settings} {k : Known} {items : List LaneItem} {history : History} {t : Known} (h : CameInLanes settings k items history t)
-    (v : ℕ) → v < settings.volumes → (froze : Option LaneItem) → FrostSeen h v froze → (a : LaneItem) → Contains items a
-    → MetFrozen settings k items v froze a → SawFrozen (course_of h a) v
-frozen_seen h v below froze seen a in_a met = elim met [
-  | inl is ↦ (seen a is).0
-  | inr freeze ↦ met_freeze h a a.line a.lane v a.item a.reply below (answered h a in_a).did freeze
-]
-
-pub lanes_meet : {settings : Settings} {k : Known} {items : List LaneItem} {history : History} {t : Known} (h : CameInLanes settings k items history t)
-    (v : ℕ) → v < settings.volumes → (froze : Option LaneItem) → FrostSeen h v froze
-    → EachPair (λ a b. a.lane ≡ b.lane → MetFrozen settings k items v froze a → MetThawed t v froze b → ⊥) items
-lanes_meet {settings} {k} {items} {history} {t} h v below froze seen =
-    pair_by (λ a b. a.lane ≡ b.lane → IsLater (h.to a.line) (h.from b.line)) (λ a b. a.lane ≡ b.lane → MetFrozen settings k items v froze a → MetThawed t v froze b → ⊥) items
-    (λ a b in_a in_b later same met thawed.
-    let first : SawFrozen (course_of h a) v = frozen_seen h v below froze seen a in_a met in
-    let then : SawThawed (course_of h b) v = elim thawed [
-      | inl is ↦ (seen b is).1
-      | inr opened ↦ elim opened [
-        | inl plain ↦ met_open h b in_b b.item b.reply v (answered h b in_b).did plain
-        | inr stuck ↦ as_stuck_thawed h b b.line b.lane v b.item b.reply below (answered h b in_b).did stuck
-      ]
-    ] in
-    let apart = (later same).volumes v in
-    let still = frozen_stays h v first.0 then.0 first.1 below (omega (arith, first.2, then.1, apart)) first.3 in
-    none-some first.1 (sym then.2 ∙ still))
-    h.«order»
+FrostSeen {items = items} h v froze = (item : LaneItem) → froze ≡ Some item → Contains items item × FrozeAt (course_of h item) v

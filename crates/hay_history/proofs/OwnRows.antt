@@ -170,6 +170,31 @@ module _ {settings : Settings} {k : Known} {items : List LaneItem} {history : Hi
       let longer = own.longer in
       holds (length ((rows_moment k history i).directory).rows + 1) (omega (arith, before)) (omega (arith, longer, later)))
 
+  -- a line that knows the home of its pair adds no row
+  pub adds_none : (pair : Pair) (bytes : List ℕ) (v n : ℕ) → item.item ≡ asks.Command (command.Put pair bytes) → n ≤ (h.from item.line).rows
+      → home_in ((rows_moment k history n).directory).rows pair ≡ Some v → row_added (row_note k history) item ≡ []
+  adds_none pair bytes v n put low home =
+      nothing (row_added (row_note k history) item) (each_own (λ p. ⊥) item (first_rows k) history.directory h.follows_rows (λ i s row at did same.
+      let line = adds_line h i s row at did in
+      let is : line.item ≡ item = same_line h line.item item line.among among (ap (λ (tag : CoreTag). tag.line) line.own ∙ same) in
+      let own_pair : line.pair ≡ row.pair = sym ((line.added).own_pair) ∙ ap (λ (r : HomeRow). r.pair) line.is in
+      of_row i row (own_row i s row at did same) (sym own_pair ∙ same_pair line.pair line.bytes (ap (λ (x : LaneItem). x.item) (sym is) ∙ line.put))))
+    where
+      nothing : (shown : List Printed) → Each (λ p. ⊥) shown → shown ≡ []
+      nothing [] each = refl
+      nothing (p ∷ shown) each = absurd each.0
+
+      same_pair : (other : Pair) (photo : List ℕ) → item.item ≡ asks.Command (command.Put other photo) → other ≡ pair
+      same_pair other photo is = let same : asks.Command (command.Put other photo) ≡ asks.Command (command.Put pair bytes) = sym is ∙ put in cc
+
+      of_row : (i : ℕ) (row : HomeRow) → OwnRow i row → row.pair ≡ pair → ⊥
+      of_row i row own same =
+          let since = (own.from).0 in
+          let kept = lengthens_to (first_rows k) history.directory h.follows_rows n i (omega (arith, low, since)) in
+          let stays : home_in ((rows_moment k history i).directory).rows pair ≡ Some v =
+          ap (λ (rows : List HomeRow). home_in rows pair) kept.1 ∙ home_stays ((rows_moment k history n).directory).rows kept.0 pair v home in
+          none-some v (sym own.missing ∙ ap (λ (p : Pair). home_in ((rows_moment k history i).directory).rows p) same ∙ stays)
+
   -- THE DIRECTORY FROZEN
 
   -- the line saw the Directory frozen by then, or thawed from then on

@@ -1,5 +1,5 @@
 -- What a lane that met a freeze prints from then on: the last fronts.
-use Rattle.std.proofs.Common.{◌≡◌, inl, inr, ℕ, ◌<◌, ◌+◌, List, length, Option, refl, sym, ap, ◌∙◌, arith}
+use Rattle.std.proofs.Common.{◌≡◌, inl, inr, ℕ, ◌<◌, ◌≤◌, ◌+◌, List, length, Option, refl, sym, ap, ◌∙◌, arith}
 use Rattle.std.specs.List.{AllByRecursion as Each}
 use Rattle.std.proofs.lemmas.Option.{none-some}
 use Rattle.hay_needle.specs.declared.needle.Pair.{Pair}
@@ -14,13 +14,14 @@ use Rattle.hay_legal.specs.Known.{EachPair, volume_at}
 use Rattle.hay_legal.specs.Blocks.{IsAt, MetFrozen, MetRowsFrozen, Printed, row_print, tag_of, volume_print}
 use Rattle.hay_history.specs.Steps.{Leads, Standing, IsThawed}
 use Rattle.hay_history.specs.Steps.Did.{Entered}
-use Rattle.hay_history.specs.Histories.{History, IsLater, first_rows, standing}
+use Rattle.hay_history.specs.Histories.{History, IsLater, first_rows, row_note, standing}
 use Rattle.hay_history.specs.Commands.{CameInLanes, RowPends}
 use Rattle.hay_history.proofs.Fronts.{Prints, PrintsRows, item_prints, one_within}
 use Rattle.hay_history.proofs.Histories.{along_rows}
 use Rattle.hay_history.proofs.Lines.{answered, course_of, one_leads}
 use Rattle.hay_history.proofs.Lists.{each_weaker, pair_by}
-use Rattle.hay_history.proofs.Meeting.{FrostSeen, frozen_seen}
+use Rattle.hay_history.proofs.Frosts.{frozen_seen}
+use Rattle.hay_history.proofs.Meeting.{FrostSeen}
 use Rattle.hay_history.proofs.OwnRows.{rows_frozen_seen}
 use Rattle.hay_history.proofs.Rows.{StaysFrozen, rows_frozen_then, stays_frozen_step, stays_frozen_trans}
 use Rattle.hay_history.proofs.Volumes.{frozen_keeps, frozen_stays}
@@ -30,13 +31,13 @@ entered_thawed settings v item (entry.Put pair cookie bytes) a b leads = leads.0
 entered_thawed settings v item (entry.Del pair) a b leads = leads.0
 
 pub lanes_settle : {settings : Settings} {k : Known} {items : List LaneItem} {history : History} {t : Known} (h : CameInLanes settings k items history t)
-    (v : ℕ) → v < settings.volumes → (froze : Option LaneItem) → FrostSeen h v froze
-    → EachPair (λ a b. a.lane ≡ b.lane → MetFrozen settings k items v froze a → Each (IsAt (length (volume_at t v).log)) (volume_print v b.reply)) items
-lanes_settle {settings} {k} {items} {history} {t} h v below froze seen =
+    (v : ℕ) → v < settings.volumes → settings.replicas ≤ settings.machines → (froze : Option LaneItem) → FrostSeen h v froze
+    → EachPair (λ a b. a.lane ≡ b.lane → MetFrozen settings k items (row_note k history) t v froze a → Each (IsAt (length (volume_at t v).log)) (volume_print v b.reply)) items
+lanes_settle {settings} {k} {items} {history} {t} h v below narrow froze seen =
     pair_by (λ a b. a.lane ≡ b.lane → IsLater (h.to a.line) (h.from b.line))
-    (λ a b. a.lane ≡ b.lane → MetFrozen settings k items v froze a → Each (IsAt (length (volume_at t v).log)) (volume_print v b.reply)) items
+    (λ a b. a.lane ≡ b.lane → MetFrozen settings k items (row_note k history) t v froze a → Each (IsAt (length (volume_at t v).log)) (volume_print v b.reply)) items
     (λ a b in_a in_b later same met.
-    let first = frozen_seen h v below froze seen a in_a met in
+    let first = frozen_seen h v below narrow froze seen a in_a met in
     let apart = (later same).volumes v in
     let until = first.2 in
     each_weaker (Prints (course_of h b) v) (IsAt (length (volume_at t v).log)) (λ shown prints. elim prints [

@@ -1,20 +1,22 @@
 -- The try that a line saw take a photo may have got the row of its pair, and so has a row that it left pending.
-use Rattle.std.proofs.Common.{◌≡◌, ℕ, ◌<◌, ◌≤◌, ◌+◌, false, List, length, Contains, None, refl, sym, ap, subst, ◌∙◌, inl, inr, arith}
+use Rattle.std.proofs.Common.{◌≡◌, ◌⊎◌, ℕ, suc, ◌<◌, ◌≤◌, ◌+◌, false, List, [], ◌∷◌, length, slice_get, Contains, Some, None, refl, sym, ap, subst, ◌∙◌, inl, inr, arith}
 use Rattle.std.specs.Prelude.{◌==◌, not, take_while}
 use Rattle.std.specs.List.{AllByRecursion as Each}
 use Rattle.std.proofs.lemmas.Bool.{cases_Bool, true≢false}
 use Rattle.hay_needle.specs.declared.needle.Pair.{Pair}
 use Rattle.hay_needle.specs.declared.settings.Settings.{Settings}
 use Rattle.hay_reply.specs.declared.Refused.{Refused}
+use Rattle.hay_core.specs.declared.entry.CoreTag.{CoreTag}
 use Rattle.hay_legal.specs.declared.known.DirKnown.{DirKnown}
+use Rattle.hay_legal.specs.declared.known.HomeRow.{HomeRow}
 use Rattle.hay_legal.specs.declared.known.Known.{Known}
 use Rattle.hay_legal.specs.declared.turn.LaneItem.{LaneItem}
 use Rattle.hay_legal.specs.Known.{all_tries, home_in, home_of}
 use Rattle.hay_legal.specs.Blocks.{MayGetRow, MayRefuse, RowIsPending, tag_of}
 use Rattle.hay_legal.proofs.Subject.Effects.{each_try}
-use Rattle.hay_history.specs.Steps.{LeadsRows, RowDid, RowStep}
-use Rattle.hay_history.specs.Steps.RowDid.{PendsRow}
-use Rattle.hay_history.specs.Histories.{History, SeesHome, SeesRefusal, SeesTaker, first_rows, own_rows, rows_standing}
+use Rattle.hay_history.specs.Steps.{FollowsRows, LeadsRows, RowDid, RowsStanding, RowStep}
+use Rattle.hay_history.specs.Steps.RowDid.{AddsRow, Drains, FusesRow, PendsRow, TriesRow}
+use Rattle.hay_history.specs.Histories.{History, SeesHome, SeesRefusal, SeesTaker, first_rows, own_rows, rows_behind, rows_standing}
 use Rattle.hay_history.specs.Commands.{CameInLanes, RowPends}
 use Rattle.hay_history.proofs.Histories.{along_rows}
 use Rattle.hay_history.proofs.Lists.{each_both, each_from, each_in, each_take}
@@ -89,3 +91,36 @@ module _ {settings : Settings} {k : Known} {items : List LaneItem} {history : Hi
           ap (λ (d : DirKnown). d.pending) (left ∙ did.1),
         ),
       )
+
+-- WHETHER A ROW WAS LEFT PENDING
+
+-- a step left a row pending
+pub record RowPended (steps : List RowStep) : Type 0 where
+  pub place : ℕ
+  pub step : RowStep
+  pub there : slice_get steps place ≡ Some step
+  pub row : HomeRow
+  pub is : step.did ≡ PendsRow row
+
+-- the freeze and what is pending are as they were, or a step left a row pending
+abbrev pub RowsKept : DirKnown → DirKnown → Type 0
+RowsKept a b = (b.frozen ≡ a.frozen) × (b.pending ≡ a.pending)
+
+pub pending_step : (before : RowsStanding) (steps : List RowStep) → FollowsRows before steps
+    → RowsKept before.directory (rows_behind before steps (length steps)).directory ⊎ RowPended steps
+pending_step before [] f = inl (refl, refl)
+pending_step before (step ∷ steps) f =
+    elim (by step.tag step.did before step.after f.0) [
+      | inl same ↦ elim (pending_step step.after steps f.3) [
+        | inl none ↦ inl (none.0 ∙ same.0, none.1 ∙ same.1)
+        | inr later ↦ inr (record { place = suc later.place; step = later.step; there = later.there; row = later.row; is = later.is })
+      ]
+      | inr pends ↦ inr (record { place = 0; step = step; there = refl; row = pends.0; is = pends.1 })
+    ]
+  where
+    by : (tag : CoreTag) (did : RowDid) (a b : RowsStanding) → LeadsRows tag did a b → RowsKept a.directory b.directory ⊎ ((row : HomeRow) × (did ≡ PendsRow row))
+    by tag TriesRow a b h = inl (ap (λ (d : DirKnown). d.frozen) h, ap (λ (d : DirKnown). d.pending) h)
+    by tag (AddsRow row) a b h = inl (ap (λ (d : DirKnown). d.frozen) h.1, ap (λ (d : DirKnown). d.pending) h.1)
+    by tag (PendsRow row) a b h = inr (row, refl)
+    by tag (Drains m is) a b h = inl (ap (λ (d : DirKnown). d.frozen) h, ap (λ (d : DirKnown). d.pending) h)
+    by tag FusesRow a b h = inl (ap (λ (d : DirKnown). d.frozen) h, ap (λ (d : DirKnown). d.pending) h)

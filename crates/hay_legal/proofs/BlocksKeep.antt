@@ -58,7 +58,7 @@ pub block_is_of : (settings : Settings) (k : Known) (items : List LaneItem) (log
 block_is_of settings k items logs rows t is b = record {
   volumes = b.many ∙ is.volumes;
   replicas = λ v below.
-      (each_in_range (VolumeIsLegal settings k items t) 0 settings.volumes v b.volumes (omega arith) (omega (arith, below))).many ∙ is.replicas v below;
+      (each_in_range (VolumeIsLegal settings k items rows t) 0 settings.volumes v b.volumes (omega arith) (omega (arith, below))).many ∙ is.replicas v below;
   homes = subst (λ (rows : List HomeRow). Each (λ row. row.volume < settings.volumes) rows)
       (ap (λ (old : List HomeRow). old ++ new_rows k t) (sym (b.homes).kept) ∙ take-append-drop (length k.directory.rows) t.directory.rows)
       (each_append (λ row. row.volume < settings.volumes) k.directory.rows (new_rows k t) is.homes
@@ -137,8 +137,8 @@ module _ {settings : Settings} {k : Known} {items : List LaneItem} {logs : List 
 
   -- TIDY STORES
 
-  volume : (v : ℕ) → v < settings.volumes → VolumeIsLegal settings k items t v
-  volume v below = each_in_range (VolumeIsLegal settings k items t) 0 settings.volumes v b.volumes (omega arith) (omega (arith, below))
+  volume : (v : ℕ) → v < settings.volumes → VolumeIsLegal settings k items rows t v
+  volume v below = each_in_range (VolumeIsLegal settings k items rows t) 0 settings.volumes v b.volumes (omega arith) (omega (arith, below))
 
   replica : (v j : ℕ) → (below : v < settings.volumes) → j < settings.replicas → (replica_at (volume_at t v) j).base ≡ (replica_at (volume_at k v) j).base
   replica v j below within =

@@ -1,6 +1,7 @@
 -- A worked block of lanes, and blocks that are not legal.
 use Rattle.std.specs.Prelude.{◌≡◌, ℕ, true, false, List, [], ◌∷◌, codes, refl, Option, Some, None, slice_index_or, slice_get, Contains}
 use Rattle.std.specs.List.{AllByRecursion as Each, enumerate_from}
+use Rattle.std.proofs.lemmas.Option.{same_Some}
 use Rattle.hay_needle.specs.declared.needle.Outcome.{Outcome}
 use Rattle.hay_needle.specs.declared.needle.Outcome.TheVariants as outcome
 use Rattle.hay_needle.specs.Tables.{outcome_at}
@@ -125,6 +126,7 @@ block = record {
       freeze = (refl, refl);
       lanes = (((λ e met opened. omega (arith, e)), ((λ e met opened. omega (arith, e)), tt)), (((λ e met opened. omega (arith, e)), tt), (tt, tt)));
       settled = (((λ e met. absurd (omega (arith, e))), ((λ e met. absurd (omega (arith, e))), tt)), (((λ e met. absurd (omega (arith, e))), tt), (tt, tt)));
+      counted = λ by m f is says. absurd cc;
       replicas = (
         record {
           base = refl;
@@ -250,6 +252,7 @@ freezing_block = record {
       };
       lanes = (((λ e met opened. omega (arith, e)), ((λ e met opened. omega (arith, e)), tt)), (((λ e met opened. omega (arith, e)), tt), (tt, tt)));
       settled = (((λ e met. absurd (omega (arith, e))), ((λ e met. absurd (omega (arith, e))), tt)), (((λ e met. absurd (omega (arith, e))), tt), (tt, tt)));
+      counted = λ by m f is says. ((λ g apart said. absurd (apart (ap (λ (x : LaneItem). x.line) (same_Some put_failed by is)))), ((λ g apart said. absurd cc), ((λ g apart said. absurd cc), tt)));
       replicas = (
         record {
           base = refl;

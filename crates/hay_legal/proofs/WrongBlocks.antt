@@ -14,6 +14,7 @@ use Rattle.hay_url.specs.declared.Url.{Url as UrlParts}
 use Rattle.hay_url.specs.Url.{cookie_of}
 use Rattle.hay_script.specs.declared.Command.{Command}
 use Rattle.hay_script.specs.declared.Command.TheVariants as command
+use Rattle.hay_reply.specs.declared.Cause.TheVariants.{Disk}
 use Rattle.hay_reply.specs.declared.LineVolume.{LineVolume}
 use Rattle.hay_reply.specs.declared.Refused.{Refused}
 use Rattle.hay_reply.specs.declared.Refused.TheVariants.{NoRoom, Closed}
@@ -79,8 +80,8 @@ module _ {settings : Settings} {k : Known} {items : List LaneItem} {logs : List 
   line : (item : LaneItem) → Contains items item → LineIsLegal settings k items t item
   line item among = each_in (LineIsLegal settings k items t) items item b.lines among
 
-  volume : (v : ℕ) → v < settings.volumes → VolumeIsLegal settings k items t v
-  volume v below = each_in_range (VolumeIsLegal settings k items t) 0 settings.volumes v b.volumes (omega arith) (omega (arith, below))
+  volume : (v : ℕ) → v < settings.volumes → VolumeIsLegal settings k items rows t v
+  volume v below = each_in_range (VolumeIsLegal settings k items rows t) 0 settings.volumes v b.volumes (omega arith) (omega (arith, below))
 
   replica : (v j : ℕ) → (below : v < settings.volumes) → j < settings.replicas
       → ReplicaIsLegal settings k items t v (volume v below).froze j (replica_at (volume_at k v) j) (replica_at (volume_at t v) j)
@@ -549,7 +550,7 @@ module _ {settings : Settings} {k : Known} {logs : List LogNote} {t : Known} whe
       let stored = (b.lines.1).0 in
       let thawed : (volume_at k v).frozen ≡ None = open_thawed (volume_at k v).frozen stored.2.0 in
       (volume b v below).lanes.0.0 refl
-      (inr ((thawed, (record { volume = v; machine = m' }, (0, omega arith, refl), refl)), λ j there stuck. other (stuck.0).1))
+      (inr (inl ((thawed, (record { volume = v; machine = m' }, (0, omega arith, refl), refl)), λ j there stuck. other (stuck.0).1)))
       (inr (inl refl))
     where
       open_thawed : (o : Option ℕ) → closed_by o (drained_of settings k v) ≡ None → o ≡ None
@@ -562,7 +563,7 @@ module _ {settings : Settings} {k : Known} {logs : List LogNote} {t : Known} whe
       (answered 0 2 (command.Compact v m) (reply.ReadOnly (record { volume = v; machine = u } ∷ [])) ∷ answered 0 3 (command.Flush v m') (reply.Flushed v m' n) ∷ [])
       logs rows t → ⊥
   flushed_behind_a_refused_compact v m m' u n rows below thawed b =
-      (volume b v below).lanes.0.0 refl (inr (thawed, (record { volume = v; machine = u }, (0, omega arith, refl), refl))) (inr (inl refl))
+      (volume b v below).lanes.0.0 refl (inr (inl (thawed, (record { volume = v; machine = u }, (0, omega arith, refl), refl)))) (inr (inl refl))
 
   -- a flush of a frozen volume is refused as one of a stuck index, behind a line of its lane that met the freeze
   stuck_behind_a_freeze : (v m m' u : ℕ) (rows : RowNote) → v < settings.volumes → (volume_at k v).frozen ≡ None → (volume_at t v).frozen ≢ Some m'
@@ -572,7 +573,7 @@ module _ {settings : Settings} {k : Known} {logs : List LogNote} {t : Known} whe
       ∷ [])
       logs rows t → ⊥
   stuck_behind_a_freeze v m m' u rows below thawed other b =
-      (volume b v below).lanes.0.0 refl (inr (thawed, (record { volume = v; machine = u }, (0, omega arith, refl), refl))) (inr (inr (refl, other)))
+      (volume b v below).lanes.0.0 refl (inr (inl (thawed, (record { volume = v; machine = u }, (0, omega arith, refl), refl)))) (inr (inr (inl (refl, other))))
 
   -- a lane that met the Directory frozen adds a row
   row_behind_a_refusal : (v p d : ℕ) (c : Cookie) (pair pair' : Pair) (bytes bytes' : List ℕ)
@@ -633,6 +634,97 @@ module _ {settings : Settings} {k : Known} {logs : List LogNote} {t : Known} whe
             omega (arith, last, less)
         | inr second ↦ subst (λ (x : LaneItem). Freezes settings k both t v (by.2).machine (by.2).change x) (sym second) (by.2).freezes
       ]
+
+  -- a put passes a volume over that was open before the block and has room for its photo, and its lane stores a photo there then
+  stored_behind_passing : (v w p p' d d' : ℕ) (c c' : Cookie) (pair pair' : Pair) (bytes bytes' : List ℕ) → v < settings.volumes → closed settings k v ≡ None
+      → Contains (take_while (λ u. not (u == w)) (all_tries settings pair)) v → ((j : ℕ) → highest_end k t v j + needle_total (length bytes) + 8 ≤ settings.capacity)
+      → LegalBlock settings k
+      (answered 0 2 (command.Put pair bytes) (reply.Stored w p d c) ∷ answered 0 3 (command.Put pair' bytes') (reply.Stored v p' d' c') ∷ [])
+      logs (record { from = 0; rows = row_of 2 w ∷ [] }) t → ⊥
+  stored_behind_passing v w p p' d d' c c' pair pair' bytes bytes' below opened passed fits b =
+      (volume b v below).lanes.0.0 refl
+      (inr (inr (inl (
+        pair,
+        bytes,
+        w,
+        refl,
+        inl (0, omega arith, refl),
+        passed,
+        opened,
+        (λ m end need may.
+            let low : highest_end k t v (may.2).0 + needle_total (length bytes) + 8 ≤ settings.capacity = fits (may.2).0 in
+            let high : end ≤ highest_end k t v (may.2).0 = ((may.2).2).1 in
+            omega (arith, low, high, may.3, may.4)),
+      ))))
+      (inr (inl refl))
+
+  -- a lane gets a row for a volume that a put of it had frozen
+  row_for_a_frozen_volume : (v m u f : ℕ) (pair pair' : Pair) (bytes bytes' : List ℕ) → v < settings.volumes → (volume_at k v).frozen ≡ None
+      → LegalBlock settings k
+      (answered 0 2 (command.Put pair bytes) (reply.Failed v m f) ∷ answered 0 3 (command.Put pair' bytes') (reply.ReadOnly (record { volume = v; machine = u } ∷ [])) ∷ [])
+      logs (record { from = 0; rows = row_of 3 v ∷ [] }) t → ⊥
+  row_for_a_frozen_volume v m u f pair pair' bytes bytes' below before b =
+      let first : LaneItem = answered 0 2 (command.Put pair bytes) (reply.Failed v m f) in
+      let second : LaneItem = answered 0 3 (command.Put pair' bytes') (reply.ReadOnly (record { volume = v; machine = u } ∷ [])) in
+      let by = froze_by b v m below before (b.lines.0).3.0 in
+      elim (one_of_two first second by.0 (by.2).among) [
+        | inl is ↦ (volume b v below).lanes.0.0 refl (inl (by.1 ∙ ap (λ (x : LaneItem). Some x) (sym is))) (inr (inr (inr (inl (inl (0, omega arith, refl))))))
+        | inr is ↦ subst (λ (x : LaneItem). Freezes settings k (first ∷ second ∷ []) t v (by.2).machine (by.2).change x) (sym is) (by.2).freezes
+      ]
+
+  -- a pair gets a row from a lane that had met its home
+  row_of_a_known_home : (v w m : ℕ) (pair : Pair) (bytes : List ℕ) (r : Reply)
+      → LegalBlock settings k
+      (answered 0 2 (command.Del pair) (reply.ReadOnly (record { volume = v; machine = m } ∷ [])) ∷ answered 0 3 (command.Put pair bytes) r ∷ [])
+      logs (record { from = 0; rows = row_of 3 w ∷ [] }) t → ⊥
+  row_of_a_known_home v w m pair bytes r b = let none = (b.pairs.0.0 refl).laid pair v bytes (refl, refl) refl in absurd cc
+
+  -- a flush fails with a higher count than that with which its disk froze the volume
+  flush_failed_behind_a_freeze : (v m f g : ℕ) (pair : Pair) (bytes : List ℕ) (rows : RowNote) → v < settings.volumes → (volume_at k v).frozen ≡ None → f ≤ g → f < 2 ^ 64 - 1
+      → LegalBlock settings k (answered 0 2 (command.Flush v m) (reply.Failed v m g) ∷ answered 1 3 (command.Put pair bytes) (reply.Failed v m f) ∷ []) logs rows t → ⊥
+  flush_failed_behind_a_freeze v m f g pair bytes rows below before falls low b =
+      let flush : LaneItem = answered 0 2 (command.Flush v m) (reply.Failed v m g) in
+      let put : LaneItem = answered 1 3 (command.Put pair bytes) (reply.Failed v m f) in
+      let by = froze_by b v m below before ((b.lines.1).0).3.0 in
+      elim (one_of_two flush put by.0 (by.2).among) [
+        | inl is ↦ subst (λ (x : LaneItem). Freezes settings k (flush ∷ put ∷ []) t v (by.2).machine (by.2).change x) (sym is) (by.2).freezes
+        | inr is ↦ elim (((volume b v below).counted put m f (by.1 ∙ ap (λ (x : LaneItem). Some x) (sym is)) refl).0 g (λ same. let clash : ◌≡◌ {A = ℕ} 2 3 = same in omega (arith, clash)) refl) [
+          | inl less ↦ omega (arith, less, falls)
+          | inr top ↦ omega (arith, top, low)
+        ]
+      ]
+
+  -- a lane reads a higher count than that with which the disk froze the volume, and stores a photo on it then
+  stored_behind_a_higher_count : (v m f g p p' d d' : ℕ) (c cookie : Cookie) (pair pair' pair'' : Pair) (bytes bytes' : List ℕ) (rows : RowNote) → v < settings.volumes
+      → (volume_at k v).frozen ≡ None → f < g
+      → LegalBlock settings k
+      (answered 0 2 (command.Read pair cookie) (reply.Unreadable v p d (record { machine = m; cause = Disk g } ∷ []))
+      ∷ answered 0 3 (command.Put pair' bytes) (reply.Stored v p' d' c)
+      ∷ answered 1 4 (command.Put pair'' bytes') (reply.Failed v m f)
+      ∷ [])
+      logs rows t → ⊥
+  stored_behind_a_higher_count v m f g p p' d d' c cookie pair pair' pair'' bytes bytes' rows below before more b =
+      let by = froze_by b v m below before (((b.lines.1).1).0).3.0 in
+      of_three by.0 by.1 (by.2).among (by.2).machine (by.2).change (by.2).freezes
+    where
+      read : LaneItem
+      read = answered 0 2 (command.Read pair cookie) (reply.Unreadable v p d (record { machine = m; cause = Disk g } ∷ []))
+
+      stored : LaneItem
+      stored = answered 0 3 (command.Put pair' bytes) (reply.Stored v p' d' c)
+
+      failed : LaneItem
+      failed = answered 1 4 (command.Put pair'' bytes') (reply.Failed v m f)
+
+      of_three : (item : LaneItem) → (volume b v below).froze ≡ Some item → Contains (read ∷ stored ∷ failed ∷ []) item
+          → (by : ℕ) (change : Option Entry) → Freezes settings k (read ∷ stored ∷ failed ∷ []) t v by change item → ⊥
+      of_three item is (zero, at, same) by change froze = subst (λ (x : LaneItem). Freezes settings k (read ∷ stored ∷ failed ∷ []) t v by change x) (sym same) froze
+      of_three item is (suc zero, at, same) by change froze = subst (λ (x : LaneItem). Freezes settings k (read ∷ stored ∷ failed ∷ []) t v by change x) (sym same) froze
+      of_three item is (suc (suc zero), at, same) by change froze =
+          (volume b v below).lanes.0.0 refl
+          (inr (inr (inr (failed, m, f, g, p, d, record { machine = m; cause = Disk g } ∷ [], is ∙ ap (λ (x : LaneItem). Some x) (sym same), refl, refl, (0, omega arith, refl), more))))
+          (inr (inl refl))
+      of_three item is (suc (suc (suc i)), at, same) by change froze = omega (arith, at)
 
   -- a put that each of two tries refused adds the row of its pair
   row_of_a_put_that_all_refused : (v : ℕ) (pair : Pair) (bytes : List ℕ) (one two : Refused) (rest : List Refused)

@@ -489,11 +489,12 @@ MetNoHome settings k items t item pair = Met item.item item.reply
     Met asks.Bad reply = ⊥
 
 -- Two lines of a lane, in their order. A home that the first met stands at what the second prints, and none that the second
--- missed stands at what the first prints.
-pub record HomesAgree (settings : Settings) (k : Known) (items : List LaneItem) (t : Known) (a b : LaneItem) : Type 0 where
+-- missed stands at what the first prints. A pair whose home the first met gets no row by the second.
+pub record HomesAgree (settings : Settings) (k : Known) (items : List LaneItem) (rows : RowNote) (t : Known) (a b : LaneItem) : Type 0 where
   pub kept : (pair : Pair) (v : ℕ) → MetHome settings k items t a pair v → Each (λ shown. HomeAt t pair shown.front (Some v)) (row_print b.reply)
   pub missing : (pair : Pair) → MetNoHome settings k items t b pair → Each (λ shown. HomeAt t pair shown.front None) (row_print a.reply)
   pub apart : (pair : Pair) (v : ℕ) → MetHome settings k items t a pair v → MetNoHome settings k items t b pair → ⊥
+  pub laid : (pair : Pair) (v : ℕ) (bytes : List ℕ) → MetHome settings k items t a pair v → b.item ≡ asks.Command (command.Put pair bytes) → row_added rows b ≡ []
 
 -- FLUSHES AND COMPACTIONS
 
@@ -1013,22 +1014,54 @@ RefusedAsStuck t v item = Met item.item item.reply
     Met (asks.Command command) reply = MetAs command reply
     Met asks.Bad reply = ⊥
 
+-- a line of whose pair the row is for this volume: the line added it, or left it pending as it froze the Directory
+abbrev pub GotRow : Known → RowNote → Known → LaneItem → ℕ → Type 0
+GotRow k rows t item v =
+    Contains rows.rows (record { line = item.line; volume = v })
+    ⊎ ((k.directory.frozen ≡ false) × (t.directory.frozen ≡ true)
+    × ((pair : Pair) × (t.directory.pending ≡ Some (record { tag = tag_of item; row = record { pair = pair; volume = v } }))))
+
+-- A put whose row is for a try behind the volume v, though v was open before the block and cannot have lacked room: it met v frozen.
+abbrev pub PassedFrozen : Settings → Known → List LaneItem → RowNote → Known → ℕ → LaneItem → Type 0
+PassedFrozen settings k items rows t v item =
+    (pair : Pair) × (bytes : List ℕ) × (w : ℕ) × (item.item ≡ asks.Command (command.Put pair bytes)) × GotRow k rows t item w
+    × Contains (take_while (λ u. not (u == w)) (all_tries settings pair)) v × (closed settings k v ≡ None)
+    × ((m end need : ℕ) → MayRefuse settings k items t (length bytes) v (NoRoom v m end need) → ⊥)
+
+-- a reader that passed a replica over for a count of its disk, beside the one with which that disk froze the volume
+abbrev pub CountedBeside : (ℕ → ℕ → Type 0) → ℕ → Option LaneItem → LaneItem → Type 0
+CountedBeside Is v froze item =
+    (by : LaneItem) × (m : ℕ) × (f : ℕ) × (g : ℕ) × (p : ℕ) × (d : ℕ) × (causes : List Passed)
+    × (froze ≡ Some by) × (told by.reply ≡ Blamed v m f)
+    × (item.reply ≡ Unreadable v p d causes) × Contains causes (record { machine = m; cause = Disk g }) × Is f g
+
 -- a line that froze the volume in the block, or that met it frozen then
-abbrev pub MetFrozen : Settings → Known → List LaneItem → ℕ → Option LaneItem → LaneItem → Type 0
-MetFrozen settings k items v froze item = (froze ≡ Some item) ⊎ MetFreeze settings k items v item
+abbrev pub MetFrozen : Settings → Known → List LaneItem → RowNote → Known → ℕ → Option LaneItem → LaneItem → Type 0
+MetFrozen settings k items rows t v froze item =
+    (froze ≡ Some item) ⊎ MetFreeze settings k items v item ⊎ PassedFrozen settings k items rows t v item ⊎ CountedBeside (λ f g. f < g) v froze item
 
 -- a line that froze the volume, or that met it open
-abbrev pub MetThawed : Known → ℕ → Option LaneItem → LaneItem → Type 0
-MetThawed t v froze item = (froze ≡ Some item) ⊎ MetOpen v item.reply ⊎ RefusedAsStuck t v item
+abbrev pub MetThawed : Known → RowNote → Known → ℕ → Option LaneItem → LaneItem → Type 0
+MetThawed k rows t v froze item =
+    (froze ≡ Some item) ⊎ MetOpen v item.reply ⊎ RefusedAsStuck t v item ⊎ GotRow k rows t item v ⊎ CountedBeside (λ f g. g < f) v froze item
+
+-- the count with which a disk froze the volume is above all others that a line was answered `failed` with
+abbrev pub FreezesLast : List LaneItem → ℕ → Option LaneItem → Type 0
+FreezesLast items v froze =
+    (by : LaneItem) (m f : ℕ) → froze ≡ Some by → told by.reply ≡ Blamed v m f
+    → Each (λ other. (g : ℕ) → other.line ≢ by.line → told other.reply ≡ Blamed v m g → (g < f) ⊎ (f ≡ 2 ^ 64 - 1)) items
 
 -- A freeze, the change that it left pending, and the replica that it left poised or that was swapped before it, are one line's.
 -- A lane that met the freeze meets it from then on, and reads at the last front.
-pub record VolumeIsLegal (settings : Settings) (k : Known) (items : List LaneItem) (t : Known) (v : ℕ) : Type 0 where
+pub record VolumeIsLegal (settings : Settings) (k : Known) (items : List LaneItem) (rows : RowNote) (t : Known) (v : ℕ) : Type 0 where
   pub many : length (volume_at t v).replicas ≡ length (volume_at k v).replicas
   pub froze : Option LaneItem
   pub freeze : FreezeIsLegal settings k items t v froze
-  pub lanes : EachPair (λ a b. a.lane ≡ b.lane → MetFrozen settings k items v froze a → MetThawed t v froze b → ⊥) items
-  pub settled : EachPair (λ a b. a.lane ≡ b.lane → MetFrozen settings k items v froze a → Each (IsAt (length (volume_at t v).log)) (volume_print v b.reply)) items
+  pub lanes : EachPair (λ a b. a.lane ≡ b.lane → MetFrozen settings k items rows t v froze a → MetThawed k rows t v froze b → ⊥) items
+  pub settled : EachPair
+      (λ a b. a.lane ≡ b.lane → MetFrozen settings k items rows t v froze a → Each (IsAt (length (volume_at t v).log)) (volume_print v b.reply))
+      items
+  pub counted : FreezesLast items v froze
   pub replicas : Each
       (λ j. ReplicaIsLegal settings k items t v froze j (replica_at (volume_at k v) j) (replica_at (volume_at t v) j))
       (replicas_of settings)
@@ -1077,10 +1110,10 @@ pub record LegalBlock (settings : Settings) (k : Known) (items : List LaneItem) 
   pub log : Each (LogIsLegal settings k items t) (volumes_of settings)
   pub homes : RowsAreLegal settings k items rows t
   pub fronts : FrontsAreLegal settings k items rows t
-  pub pairs : EachPair (λ a b. a.lane ≡ b.lane → HomesAgree settings k items t a b) items
+  pub pairs : EachPair (λ a b. a.lane ≡ b.lane → HomesAgree settings k items rows t a b) items
   pub lines : Each (LineIsLegal settings k items t) items
   pub counts : CountsAreLegal settings k items t
-  pub volumes : Each (VolumeIsLegal settings k items t) (volumes_of settings)
+  pub volumes : Each (VolumeIsLegal settings k items rows t) (volumes_of settings)
   pub directory : DirectoryIsLegal settings k items rows t
   pub drained : t.drained ≡ k.drained
   pub fuses : t.fuses ≡ k.fuses
