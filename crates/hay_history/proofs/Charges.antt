@@ -20,7 +20,8 @@ use Rattle.hay_history.proofs.Trying.{changed}
 use Rattle.hay_history.specs.Histories.{Course, History, first_of, own}
 use Rattle.hay_history.specs.Commands.{CameInLanes, Ran, RanAs, RanUntil}
 use Rattle.hay_history.proofs.Histories.{along}
-use Rattle.hay_history.proofs.Lines.{course_of, own_at, own_leads, stops}
+use Rattle.hay_history.proofs.Lines.{answered, course_of, own_at, own_leads, stops}
+use Rattle.hay_history.proofs.Lists.{each_in}
 use Rattle.hay_history.proofs.Volumes.{moment, replicas_many, volume_at_moment}
 use Rattle.hay_history.proofs.ReplicaSteps.{change_same, set_keeps}
 use Rattle.hay_history.proofs.Laying.{EndedRun, QuietStep, is_quiet, last_step}
@@ -187,3 +188,23 @@ charge_within {settings} {k} {items} {history} {t} h item among v j place (inr (
     let all : (h.to item.line).volumes v ≤ length (history.volumes v) = (stops h item among).volumes v in
     let is : (cut.ran).until ≡ place = until.2 in
     omega (arith, last, all, is)
+
+-- and stands between what the line's lane had seen before it and behind it
+pub charge_stands : {settings : Settings} {k : Known} {items : List LaneItem} {history : History} {t : Known} (h : CameInLanes settings k items history t)
+    (item : LaneItem) → Contains items item → (v j place : ℕ) → ChargedTo (course_of h item) v j place
+    → ((h.from item.line).volumes v ≤ place) × (place < (h.to item.line).volumes v)
+charge_stands {settings} {k} {items} {history} {t} h item among v j place charged = by charged
+  where
+    stands : (at : ℕ × Step) → Contains (own (course_of h item) v) at → ((h.from item.line).volumes v ≤ at.0) × (at.0 < (h.to item.line).volumes v)
+    stands at mine =
+        each_in (λ (x : ℕ × Step). ((h.from item.line).volumes v ≤ x.0) × (x.0 < (h.to item.line).volumes v)) (own (course_of h item) v) at ((answered h item among).steps v) mine
+
+    by : ChargedTo (course_of h item) v j place → ((h.from item.line).volumes v ≤ place) × (place < (h.to item.line).volumes v)
+    by (inl quiet) = stands (place, quiet.step) quiet.among
+    by (inr (inl (ran, is))) =
+        subst (λ (n : ℕ). ((h.from item.line).volumes v ≤ n) × (n < (h.to item.line).volumes v)) is (stands (ran.place, ran.step) (last_step (course_of h item) v j (Ends j) ran))
+    by (inr (inr (f, until, is))) =
+        let ran = until.ran in
+        let since = (stands (ran.place, ran.first) (first_step (course_of h item) v j [] ran)).0 in
+        let last = (ran.seen).1 in
+        (omega (arith, since, ran.behind_it, is), omega (arith, last, is))

@@ -115,7 +115,7 @@ block = record {
     arms = none_falls (fresh_unharmed one).arms;
     to_arm = λ line j. false;
     as_printed = ((λ v p d causes is. absurd cc), ((λ v p d causes is. absurd cc), ((λ v p d causes is. absurd cc), tt)));
-    disk = ((((tt, tt), inl (lit≤ tt)), tt), tt);
+    disk = ((((tt, tt), inl (lit≤ tt), (tt, (tt, (tt, (tt, (tt, (tt, (tt, (tt, tt))))))))), tt), tt);
     directory = ((tt, tt), inl (lit≤ tt));
     arm = (((tt, tt), inl (lit≤ tt)), (((tt, tt), inl (lit≤ tt)), (((tt, tt), inl (lit≤ tt)), (((tt, tt), inl (lit≤ tt)), (((tt, tt), inl (lit≤ tt)), (((tt, tt), inl (lit≤ tt)), (((tt, tt), inl (lit≤ tt)), (((tt, tt), inl (lit≤ tt)), tt))))))));
   };
@@ -233,7 +233,7 @@ freezing_block = record {
     arms = none_falls (fresh_unharmed one).arms;
     to_arm = λ line j. false;
     as_printed = ((λ v p d causes is. absurd cc), ((λ v p d causes is. absurd cc), ((λ v p d causes is. absurd cc), tt)));
-    disk = ((((((inl (lit< tt), lit≤ tt), tt), (tt, tt)), inl (lit≤ tt)), tt), tt);
+    disk = ((((((inl (lit< tt), lit≤ tt), tt), (tt, tt)), inl (lit≤ tt), ((tt, tt), (tt, (tt, (tt, (tt, (tt, (tt, (tt, tt))))))))), tt), tt);
     directory = ((tt, tt), inl (lit≤ tt));
     arm = (((tt, tt), inl (lit≤ tt)), (((tt, tt), inl (lit≤ tt)), (((tt, tt), inl (lit≤ tt)), (((tt, tt), inl (lit≤ tt)), (((tt, tt), inl (lit≤ tt)), (((tt, tt), inl (lit≤ tt)), (((tt, tt), inl (lit≤ tt)), (((tt, tt), inl (lit≤ tt)), tt))))))));
   };

@@ -660,7 +660,7 @@ Differ f g = (f ≢ g) ⊎ (g ≡ 2 ^ 64 - 1)
 abbrev pub Climbs : ℕ → ℕ → Type 0
 Climbs f g = (f < g) ⊎ (g ≡ 2 ^ 64 - 1)
 
--- counts of one disk are pairwise different; those of one arm rise
+-- counts of one disk are pairwise different, and rise in each lane; those of one arm rise
 abbrev pub CameUpEach : (ℕ → ℕ → Type 0) → ℕ → ℕ → List ℕ → Type 0
 CameUpEach apart before after printed = Each (λ f. CameUp before f after) printed × EachPair apart printed
 
@@ -720,6 +720,7 @@ DiskIsLegal settings k items t to_arm v j =
     CameUpEach Differ (fault_count k (slot_of settings v j)) (fault_count t (slot_of settings v j)) (flat_map (λ item. disk_prints v (machine_of settings v j) item.reply) items)
     × RoseBy (sum_by (laid_to_disk settings to_arm v j) items + sum_by (λ item. failed_on v (machine_of settings v j) item.reply) items)
     (fault_count k (slot_of settings v j)) (fault_count t (slot_of settings v j))
+    × Each (λ lane. EachPair Climbs (flat_map (λ item. disk_prints v (machine_of settings v j) item.reply) (lane_items items lane))) all_lanes
 
 abbrev pub ArmIsLegal : Settings → Known → List LaneItem → Known → Laying → ℕ → Type 0
 ArmIsLegal settings k items t to_arm lane =
