@@ -1,0 +1,287 @@
+#!/usr/bin/env python3
+"""Checks the documents against the tree, and exits with 1 where one of them names what is not there.
+
+    bench/check_docs.py
+
+Looked at are README.md, CHANGELOG.md and all of docs/:
+
+- links lead to a file, and to a heading of it;
+- paths in code (`like/this`) are in the tree, those of a crate's folders in a crate of the same line where one is named;
+- crates are in crates.txt, and the crate by crate table has each of them;
+- modes, options, statuses with their messages, commands and replies are those of the program;
+- names that a table gives of a crate or of a file are defined there;
+- numbers with a definition have its value: the limits, the magics, how many tests and edits there are; and each number of four
+  digits or more in the pages on the program is such a one, or one of a worked example.
+"""
+
+import re
+import sys
+from pathlib import Path
+
+ROOT = Path(__file__).resolve().parent.parent
+CRATES = sorted(path.name for path in (ROOT / "crates").iterdir() if path.is_dir())
+DOCUMENTS = [path for path in (ROOT / "README.md", ROOT / "CHANGELOG.md") if path.exists()] + sorted((ROOT / "docs").glob("*.*"))
+# pages that tell what the program does, in which no measured figure stands
+EXACT = ("README.md", "script.md", "check.md", "file-formats.md", "glossary.md", "rules.md", "architecture.md", "model.md", "haystack.1")
+faults = []
+
+
+def text_of(path):
+    return (ROOT / path).read_text(encoding="utf-8")
+
+
+def fault(path, what):
+    faults.append(f"{path.relative_to(ROOT)}: {what}")
+
+
+def number_in(path, pattern):
+    """The number that a file of the tree has at the pattern's group."""
+    found = re.search(pattern, text_of(path))
+    if found is None:
+        sys.exit(f"{path}: nothing fits {pattern!r}: this script looks at the wrong place")
+    return int(found.group(1).replace("_", ""), 0)
+
+
+# LINKS, PATHS AND CRATES
+
+
+def anchors_of(path):
+    headings = re.findall(r"^#+ (.*)$", path.read_text(encoding="utf-8"), re.MULTILINE)
+    return {re.sub(r"[^\w -]", "", heading).strip().lower().replace(" ", "-") for heading in headings}
+
+
+def check_links(path, text):
+    for target in re.findall(r"\]\(([^)\s]+)\)", text):
+        name, _, anchor = target.partition("#")
+        if "://" in target:
+            continue
+        found = (path.parent / name).resolve() if name else path
+        if not found.exists():
+            fault(path, f"no file: {target}")
+        elif anchor and anchor not in anchors_of(found):
+            fault(path, f"no heading: {target}")
+
+
+def is_in_tree(token, crates):
+    """Whether a path is one of the tree, or of these crates' folders, with or without its ending."""
+    places = [ROOT, ROOT / "docs", *(ROOT / "crates" / crate for crate in crates)]
+    return any((place / token).exists() or (place / f"{token}.antt").exists() for place in places)
+
+
+def check_paths(path, text):
+    for line in text.splitlines():
+        crates = [name for name in re.findall(r"`(hay\w+)`", line) if name in CRATES] or CRATES
+        for token in re.findall(r"`([\w.-]+/[\w./-]*)`", line):
+            if "out" not in token.split("/") and not is_in_tree(token, crates) and not is_in_tree(token, CRATES if "|" not in line else crates):
+                fault(path, f"no path: {token}")
+
+
+def check_crates(path, text):
+    listed = set(re.findall(r"^(\w+):", text_of("crates.txt"), re.MULTILINE))
+    for name in sorted(set(re.findall(r"\bhay_\w+\b", text)) - listed):
+        fault(path, f"no crate: {name}")
+
+
+def rows_of(path):
+    """The cells of each row of each table."""
+    for line in path.read_text(encoding="utf-8").splitlines():
+        if line.startswith("|") and not line.startswith("|--"):
+            yield [cell.strip() for cell in line.strip("|").split("|")]
+
+
+# NAMES
+
+
+def is_defined(name, files):
+    """Whether one of the files defines the name, as code, as a definition, or as the proof of a lemma."""
+    word = re.escape(name.split("::")[-1])
+    code = rf"\b(?:fn|struct|enum|trait|type|const|static)\s+{word}\b"
+    clause = rf"^\s*(?:pub\s+|abbrev\s+|unfoldable\s+|record\s+|data\s+)*{word}\b.*?:"
+    return any(re.search(f"{code}|{clause}", file.read_text(encoding="utf-8"), re.MULTILINE) for file in files)
+
+
+def files_of(crates):
+    return [file for crate in crates for kind in ("*.rt", "*.antt") for file in (ROOT / "crates" / crate).rglob(kind) if "out" not in file.parts]
+
+
+def check_crate_table():
+    path = ROOT / "docs/proved.md"
+    seen = set()
+    for cells in rows_of(path):
+        crates = [name for name in re.findall(r"`(\w+)`", cells[0]) if name in CRATES]
+        seen.update(crates)
+        files = files_of(crates)
+        for name in re.findall(r"`([A-Za-z_][\w:]*)`", cells[-1]) if crates else ():
+            folder = any(file.stem == name and file.parent.name in ("specs", "proofs") for file in files)
+            if name not in CRATES and not folder and not is_defined(name, files):
+                fault(path, f"{'/'.join(crates)} has no {name}")
+    # the program itself has no contract
+    for name in sorted(set(CRATES) - seen - {"haystack"}):
+        fault(path, f"no row for {name}")
+
+
+def check_rules():
+    path = ROOT / "docs/rules.md"
+    for cells in rows_of(path):
+        place = ROOT / cells[1].strip("`")
+        if not cells[1].startswith("`"):
+            continue
+        if not place.is_file():
+            fault(path, f"no file: {cells[1]}")
+            continue
+        # a call of a crate's root may stand in another file of src/
+        files = [place, *place.parent.glob("*.rt")] if place.suffix == ".rt" else [place]
+        for name in re.findall(r"`([\w:]+)`", cells[2]):
+            if not is_defined(name, files):
+                fault(path, f"{cells[1]} has no {name}")
+
+
+# THE PROGRAM'S WORDS
+
+
+def words_in(path, pattern):
+    return set(re.findall(pattern, text_of(path)))
+
+
+def check_words(path, text):
+    names = words_in("crates/hay_cli/specs/Commands.antt", r'codes "(\w+)"') - {"run", "check", "drill"}
+    tools = "".join(file.read_text(encoding="utf-8") for file in (ROOT / "bench").glob("*.py"))
+    for option in set(re.findall(r"(?<![\w-])--([a-z][a-z-]*)", text.replace("\\-", "-"))):
+        if option not in names and f'"--{option}"' not in tools and option not in ("tool", "name"):
+            fault(path, f"no option: --{option}")
+    modes = words_in("crates/hay_cli/src/lib.rt", r'"(\w+)" =>')
+    for mode in set(re.findall(r"`haystack ([a-z]+)|^\.B haystack ([a-z]+)", text, re.MULTILINE)):
+        if not set(mode) & (modes - {"drill"}):
+            fault(path, f"no mode: {mode}")
+
+
+def check_statuses():
+    said = {int(status): message for status, message in re.findall(r'(\d+) => Some\("haystack: ([a-z ]+)"\)', text_of("crates/haystack/src/main.rt"))}
+    manual = ROOT / "docs/haystack.1"
+    told = {int(status): message for status, message in re.findall(r"^\.TP\n\.B (\d)\n\.I ([a-z ]+)\n", manual.read_text(encoding="utf-8"), re.MULTILINE)}
+    if told != said:
+        fault(manual, f"statuses {told}, and the program has {said}")
+    for name in ("script.md", "check.md"):
+        path = ROOT / "docs" / name
+        for message in set(re.findall(r"`haystack: ([a-z ]+)`", path.read_text(encoding="utf-8"))) - set(said.values()):
+            fault(path, f"no message: {message}")
+    for message, status in re.findall(r"`haystack: ([a-z ]+)`, status (\d)", text_of("docs/script.md")):
+        if said.get(int(status)) != message:
+            fault(ROOT / "docs/script.md", f"status {status} is not {message}")
+
+
+def check_script_words():
+    path = ROOT / "docs/script.md"
+    commands = words_in("crates/hay_script/specs/Script.antt", r'codes "([a-z]+)"')
+    replies = words_in("crates/hay_reply/specs/Replies.antt", r'codes "([a-z ]+?) ?"')
+    replies = {word for reply in replies for word in reply.split()}
+    section = ""
+    for line in path.read_text(encoding="utf-8").splitlines():
+        section = line[3:] if line.startswith("## ") else section
+        known = {"Lines": commands, "Transcript": replies}.get(section)
+        if known and line.startswith("| `"):
+            for word in re.findall(r"`([a-z]+)", line.split("|")[1]):
+                # the parts of a group that stand behind the first are no words of a reply
+                if word not in known and word not in ("ro",):
+                    fault(path, f"{section}: no such word: {word}")
+
+
+# NUMBERS
+
+
+def settings():
+    text = text_of("crates/hay_cli/specs/Commands.antt")
+    return {name: tuple(map(int, numbers)) for *numbers, name in re.findall(r'number_or (\d+) (\d+) (\d+) \(value \(codes "(\w+)"\)\)', text)}
+
+
+def limits():
+    """Each number with a definition, and what it is."""
+    low = settings()
+    return {
+        number_in("crates/hay_needle/specs/Sizes.antt", r"max_photo Two = (\d+)"): "the largest photo",
+        number_in("crates/hay_needle/specs/Sizes.antt", r"max_photo One = (\d+)"): "the largest photo of version 1",
+        number_in("crates/hay_script/src/words.rt", r"MAX_LINE: usize = ([\d_]+)"): "the longest line",
+        number_in("crates/hay_run/src/bytes.rt", r"SCRIPT: u64 = ([\d_]+)"): "the longest script",
+        number_in("crates/hay_run/src/block.rt", r"COMMANDS: u32 = ([\d_]+)"): "the most commands of a block",
+        number_in("crates/hay_head/src/head.rt", r"LAST_GENERATION: u64 = ([\d_]+)"): "the last generation",
+        low["capacity"][0]: "the usual capacity",
+        low["capacity"][1]: "the least capacity",
+        low["capacity"][2]: "the greatest capacity",
+    }
+
+
+def check_options():
+    for name, (usual, low, high) in settings().items():
+        script = rf"`--{name} N` \| {low:,} to {high:,}[^|]*\| {usual:,} \|"
+        manual = rf'\\-\\-{name} " N"\n{low:,} to {high:,}(?:.|\n)*?[;,] (?:where none is said )?{usual:,}\b'
+        for path, pattern in ((ROOT / "docs/script.md", script), (ROOT / "docs/haystack.1", manual)):
+            if not re.search(pattern, path.read_text(encoding="utf-8")):
+                fault(path, f"--{name} is {low:,} to {high:,}, and {usual:,} where none is said")
+    lanes = number_in("crates/hay_script/specs/Script.antt", r'codes "lanes"\) then lanes_by \(from_one (\d+) ') - 1
+    for name, due in (("script.md", f"Lanes 1 to {lanes}."), ("haystack.1", f"1 to {lanes} lanes")):
+        if due not in text_of(f"docs/{name}"):
+            fault(ROOT / "docs" / name, f"it does not say: {due!r}")
+
+
+def check_numbers(path, text):
+    if path.name not in EXACT:
+        return
+    known = set(limits())
+    # the most hexadecimal digits of a photo; ports and dates are no such numbers
+    known |= {2 * max(number for number in known if number < 2**25 and number % 1024 == 0)}
+    for number in re.findall(r"(?<![\w,.])\d{1,3}(?:,\d{3})+(?![\w,])", text):
+        if int(number.replace(",", "")) not in known:
+            fault(path, f"a number without a definition: {number}")
+
+
+def check_counts():
+    faults_rt = "crates/haystack/src/tests/faults.rt"
+    picks = len(re.search(r"PICKS: \[u64; \d+\] = \[([^]]*)\]", text_of(faults_rt)).group(1).split(","))
+    fuses = number_in("crates/haystack/src/tests/faults/script.rt", r"FUSES: u64 = (\d+)")
+    machines = sum(int(count) for count in re.findall(r"run_scripts\(&rt, rt\.alloc\(\), (\d)\)", text_of(faults_rt)))
+    lanes = re.search(r"\[\((\d)u32, ([\d_]+)u64\), \((\d), ([\d_]+)\)\]", text_of("crates/hay_thread_tests/src/tests.rt")).groups()
+    words = {"2": "two", "8": "eight"}
+    edits = len(list((ROOT / "crates").glob("*/must-fail/*.edit")))
+    page = ROOT / "docs/testing.md"
+    text = page.read_text(encoding="utf-8")
+    for due in (
+        f"{machines * fuses * picks:,}\n  scripts",
+        f"lets 0 to {fuses - 1} calls",
+        f"{words[lanes[0]]} lanes of {int(lanes[1]):,} lines and {words[lanes[2]]} of {int(lanes[3]):,}",
+        f"{edits} edits",
+    ):
+        if due not in text:
+            fault(page, f"it does not say: {due!r}")
+
+
+def check_magics():
+    path = ROOT / "docs/file-formats.md"
+    for name, digits in re.findall(r"`([A-Z0-9]{4,8})`, `([0-9a-f]+)`", path.read_text(encoding="utf-8")):
+        if name.encode().hex() != digits:
+            fault(path, f"{name} is not {digits}")
+        if not any(f"`{name}`" in file.read_text(encoding="utf-8") for file in files_of(CRATES)):
+            fault(path, f"no magic: {name}")
+
+
+def check_example():
+    """The first example stands in the README as its files have it."""
+    readme = ROOT / "README.md"
+    if text_of("examples/first/transcript") not in readme.read_text(encoding="utf-8"):
+        fault(readme, "the first transcript is not that of examples/first")
+
+
+def main():
+    for path in DOCUMENTS:
+        text = path.read_text(encoding="utf-8")
+        for check in (check_links, check_paths, check_crates, check_words, check_numbers):
+            check(path, text)
+    for check in (check_crate_table, check_rules, check_statuses, check_script_words, check_options, check_counts, check_magics, check_example):
+        check()
+    for told in faults:
+        print(told)
+    print(f"{len(DOCUMENTS)} documents: {len(faults)} faults")
+    sys.exit(1 if faults else 0)
+
+
+if __name__ == "__main__":
+    main()
