@@ -1,7 +1,7 @@
 #!/usr/bin/env python3
 """Checks the documents against the tree, and exits with 1 where one of them names what is not there.
 
-    bench/check_docs.py
+    bench/check_docs.py [--program PATH]
 
 Looked at are README.md, CHANGELOG.md and all of docs/:
 
@@ -11,11 +11,18 @@ Looked at are README.md, CHANGELOG.md and all of docs/:
 - modes, options, statuses with their messages, commands and replies are those of the program;
 - names that a table gives of a crate or of a file are defined there;
 - numbers with a definition have its value: the limits, the magics, how many tests and edits there are; and each number of four
-  digits or more in the pages on the program is such a one, or one of a worked example.
+  digits or more in the pages on the program is such a one.
+
+With --program the examples are tried too: those of examples/, the scripts of docs/script.md beside their transcripts, and the commands
+of docs/check.md with what they print.
 """
 
+import argparse
+import os
 import re
+import subprocess
 import sys
+import tempfile
 from pathlib import Path
 
 ROOT = Path(__file__).resolve().parent.parent
@@ -270,13 +277,69 @@ def check_example():
         fault(readme, "the first transcript is not that of examples/first")
 
 
+# WORKED EXAMPLES
+
+
+def transcript_of(program, words, script):
+    return subprocess.run([program, *words], input=script, capture_output=True, text=True, check=False).stdout
+
+
+def blocks_of(path):
+    """Each block of code, with the text before it."""
+    parts = path.read_text(encoding="utf-8").split("```")
+    return list(zip(parts[::2], parts[1::2]))
+
+
+def check_files(program):
+    for script in (ROOT / "examples").glob("*/script"):
+        if transcript_of(program, ["run"], script.read_text(encoding="utf-8")) != script.with_name("transcript").read_text(encoding="utf-8"):
+            fault(script, "its transcript is another one")
+
+
+def check_scripts(program):
+    """A script stands on the left, and its transcript on the right. The words are those that the text before it names."""
+    path = ROOT / "docs/script.md"
+    for before, block in blocks_of(path):
+        rows = [(line[:30].strip(), line[31:].strip()) for line in block.strip("\n").splitlines()]
+        if not rows[0][1].startswith("haystack "):
+            continue
+        named = re.findall(r"`(run( --\w+ \d+)+)`", before.rstrip().splitlines()[-1])
+        words = named[-1][0].split() if named else ["run"]
+        script = "".join(f"{left}\n" for left, _ in rows if left)
+        if transcript_of(program, words, script).splitlines() != [right for _, right in rows if right]:
+            fault(path, f"another transcript of: {script.splitlines()[:3]}")
+
+
+def check_commands(program):
+    """The commands behind a dollar sign print what stands below them."""
+    path = ROOT / "docs/check.md"
+    for _, block in blocks_of(path):
+        if not block.startswith("\n$ "):
+            continue
+        commands = [line[2:] for line in block.splitlines() if line.startswith("$ ")]
+        due = [line for line in block.strip("\n").splitlines() if not line.startswith("$ ")]
+        with tempfile.TemporaryDirectory() as scratch:
+            os.symlink(program, Path(scratch, "haystack"))
+            paths = {**os.environ, "PATH": f"{scratch}:{os.environ['PATH']}"}
+            done = subprocess.run(["sh"], input="\n".join(commands), cwd=scratch, env=paths, stdout=subprocess.PIPE, stderr=subprocess.STDOUT, text=True, check=False)
+        if done.stdout.splitlines() != due:
+            fault(path, f"its commands print: {done.stdout}")
+
+
 def main():
+    parser = argparse.ArgumentParser(description=__doc__.splitlines()[0])
+    parser.add_argument("--program")
+    options = parser.parse_args()
     for path in DOCUMENTS:
         text = path.read_text(encoding="utf-8")
         for check in (check_links, check_paths, check_crates, check_words, check_numbers):
             check(path, text)
     for check in (check_crate_table, check_rules, check_statuses, check_script_words, check_options, check_counts, check_magics, check_example):
         check()
+    if options.program:
+        program = str(Path(options.program).resolve())
+        for check in (check_files, check_scripts, check_commands):
+            check(program)
     for told in faults:
         print(told)
     print(f"{len(DOCUMENTS)} documents: {len(faults)} faults")
