@@ -162,6 +162,14 @@ def check_words(path, text):
             fault(path, f"no mode: {mode}")
 
 
+def check_modes():
+    """The man page has each mode; the words of a drill are read, and it is not built."""
+    manual = ROOT / "docs/haystack.1"
+    for mode in sorted(words_in("crates/hay_cli/src/lib.rt", r'"(\w+)" =>') - {"drill"}):
+        if f".B haystack {mode}\n" not in manual.read_text(encoding="utf-8"):
+            fault(manual, f"it does not name the mode {mode}")
+
+
 def check_statuses():
     said = {int(status): message for status, message in re.findall(r'(\d+) => Some\("haystack: ([a-z ]+)"\)', text_of("crates/haystack/src/main.rt"))}
     manual = ROOT / "docs/haystack.1"
@@ -334,7 +342,7 @@ def main():
         text = path.read_text(encoding="utf-8")
         for check in (check_links, check_paths, check_crates, check_words, check_numbers):
             check(path, text)
-    for check in (check_crate_table, check_rules, check_statuses, check_script_words, check_options, check_counts, check_magics, check_example):
+    for check in (check_crate_table, check_rules, check_modes, check_statuses, check_script_words, check_options, check_counts, check_magics, check_example):
         check()
     if options.program:
         program = str(Path(options.program).resolve())
