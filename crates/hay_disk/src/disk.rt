@@ -56,7 +56,7 @@ impl<T: Drop> From<AllocFailed<T>> for DiskFault {
 ///
 /// The changing calls are `write`, `remove` and `sync`. What they changed may be lost at a stop until the file's next
 /// `sync` that answers Ok.
-pub trait Disk: Send + Drop {
+pub trait Disk: Drop {
     type Piece: Piece;
 
     /// Whether disks of this type tell what their files hold.

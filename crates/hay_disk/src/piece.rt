@@ -6,7 +6,7 @@ ghost use Rattle.hay_disk.specs.Disk.{IsBut};
 use crate::Failed;
 
 /// A part of a file that was given out, with one place in it whose byte may change: its hole.
-pub trait Piece: Send + Sync + Drop {
+pub trait Piece: Drop {
     /// Whether pieces of this type tell their bytes.
     ghost Tells: { Type 0 };
 
@@ -37,7 +37,7 @@ pub trait Piece: Send + Sync + Drop {
 }
 
 /// Fetches the bytes of pieces.
-pub trait Arm<P: Piece>: Send + Drop {
+pub trait Arm<P: Piece>: Drop {
     /// How often a fetch has failed.
     ghost fault_count: { Self → ℕ };
 

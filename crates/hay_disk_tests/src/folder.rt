@@ -85,7 +85,7 @@ fn a_disk_that_is_out_is_refused(rt: HostRuntime) -> Result<(), Fail> {
 }
 
 // A piece of a file that was removed, and a piece past the end of the file that was made in its place.
-fn pieces<R: System + Send>(disk: &mut FileDisk<R>) -> Result<(FilePiece, FilePiece), Fail>
+fn pieces<R: System>(disk: &mut FileDisk<R>) -> Result<(FilePiece, FilePiece), Fail>
     ensures { IfOk result (λ pieces. (pieces.0.len ≡ 4) × (pieces.1.len ≡ 4)) }
 {
     disk.write(5, 0, b"abcdefgh")?;

@@ -18,7 +18,7 @@ pub struct FileDisk<R> {
     pub(crate) fuses: u64,
 }
 
-impl<R: System + Send> Disk for FileDisk<R> {
+impl<R: System> Disk for FileDisk<R> {
     type Piece = FilePiece;
 
     ghost Tells = { ⊥ };

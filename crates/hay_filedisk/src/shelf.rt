@@ -52,7 +52,7 @@ impl<R: System> FileShelf<R> {
     }
 }
 
-impl<R: System + Send> Shelf for FileShelf<R> {
+impl<R: System> Shelf for FileShelf<R> {
     ghost use Rattle.hay_filedisk.specs.Shelf.{file_disks, file_arms};
 
     type Disk = FileDisk<R>;

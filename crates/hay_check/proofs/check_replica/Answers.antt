@@ -19,7 +19,7 @@ returns-in-Ok-check_disk-clause-opens g c = λ tells generation cells live recor
     let same : c.in-Ok-check_disk.verdict ≡ Whole generation cells live records end old = cc in
     subst (λ (v : Verdict). OpensWhole c.args.sup.now (λ n. (g.D.Disk.files c.args.disk.now n).now) v) same
     (check_opens c.args.sup.now (λ n. (g.D.Disk.files c.args.disk.now n).now) c.in-Ok-check_disk.verdict generation cells live records end old c.read_numbers.ensures
-    (λ n. (g.met.D.Disk g.world.𝓛 g.world.𝓜 g.world.𝓡 ((λ s x. x), (λ x. x), (λ x. x), λ x. x)).fits c.args.disk.now n tells) same
+    (λ n. g.met.D.Disk.fits c.args.disk.now n tells) same
     (check_whole c.args.sup.now (g.D.Disk.files c.args.disk.now) (g.D.Disk.files c.size.new.self) c.in-Ok-check_disk.verdict (c.size.ensures.same tells) (c.in-Ok-check_disk.ensures.whole tells)))
 
 pub returns-in-Err-check_disk-clause-verdict : goal.returns-in-Err-check_disk-clause-verdict
@@ -30,12 +30,12 @@ returns-in-Err-check_disk-clause-verdict g c = λ tells.
 
 pub returns-in-Ok-eq0-clause-only : goal.returns-in-Ok-eq0-clause-only
 returns-in-Ok-eq0-clause-only g c = λ tells v is.
-    verdict_once c.args.sup.now (λ n. (g.D.Disk.files c.args.disk.now n).now) _ v c.read_numbers.ensures (λ n. (g.met.D.Disk g.world.𝓛 g.world.𝓜 g.world.𝓡 ((λ s x. x), (λ x. x), (λ x. x), λ x. x)).fits c.args.disk.now n tells) (returns-in-Ok-eq0-clause-verdict g c tells) is
+    verdict_once c.args.sup.now (λ n. (g.D.Disk.files c.args.disk.now n).now) _ v c.read_numbers.ensures (λ n. g.met.D.Disk.fits c.args.disk.now n tells) (returns-in-Ok-eq0-clause-verdict g c tells) is
 
 pub returns-in-Ok-check_disk-clause-only : goal.returns-in-Ok-check_disk-clause-only
 returns-in-Ok-check_disk-clause-only g c = λ tells v is.
-    verdict_once c.args.sup.now (λ n. (g.D.Disk.files c.args.disk.now n).now) _ v c.read_numbers.ensures (λ n. (g.met.D.Disk g.world.𝓛 g.world.𝓜 g.world.𝓡 ((λ s x. x), (λ x. x), (λ x. x), λ x. x)).fits c.args.disk.now n tells) (returns-in-Ok-check_disk-clause-verdict g c tells) is
+    verdict_once c.args.sup.now (λ n. (g.D.Disk.files c.args.disk.now n).now) _ v c.read_numbers.ensures (λ n. g.met.D.Disk.fits c.args.disk.now n tells) (returns-in-Ok-check_disk-clause-verdict g c tells) is
 
 pub returns-in-Err-check_disk-clause-only : goal.returns-in-Err-check_disk-clause-only
 returns-in-Err-check_disk-clause-only g c = λ tells v is.
-    if_ok c.answer.result (CheckOf c.args.sup.now (λ n. (g.D.Disk.files c.args.disk.now n).now)) _ (returns-in-Err-check_disk-clause-verdict g c tells) (λ told holds. verdict_once c.args.sup.now (λ n. (g.D.Disk.files c.args.disk.now n).now) told v c.read_numbers.ensures (λ n. (g.met.D.Disk g.world.𝓛 g.world.𝓜 g.world.𝓡 ((λ s x. x), (λ x. x), (λ x. x), λ x. x)).fits c.args.disk.now n tells) holds is)
+    if_ok c.answer.result (CheckOf c.args.sup.now (λ n. (g.D.Disk.files c.args.disk.now n).now)) _ (returns-in-Err-check_disk-clause-verdict g c tells) (λ told holds. verdict_once c.args.sup.now (λ n. (g.D.Disk.files c.args.disk.now n).now) told v c.read_numbers.ensures (λ n. g.met.D.Disk.fits c.args.disk.now n tells) holds is)

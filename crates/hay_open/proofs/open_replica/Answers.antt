@@ -46,7 +46,7 @@ pub returns-in-Ok-read_disk-clause-undamaged : goal.returns-in-Ok-read_disk-clau
 unfolding IsOpeningDamage
 returns-in-Ok-read_disk-clause-undamaged g c = λ tells file at damage.
     let contents : ℕ → List ℕ = λ n. (g.D.Disk.files c.args.disk.now n).now in
-    let short = (g.met.D.Disk g.world.𝓛 g.world.𝓜 g.world.𝓡 ((λ s x. x), (λ x. x), (λ x. x), λ x. x)).fits in
+    let short = g.met.D.Disk.fits in
     let whole = subst (λ (fs : Files). ReadsWhole g.D.Piece.Piece.Tells c.args.sup.now (λ n. (fs n).now) c.in-Ok-read_disk.opened) (c.size.ensures.same tells) (c.in-Ok-read_disk.ensures.whole tells) in
     reads_undamaged g.D.Piece.Piece.Tells c.args.sup.now contents c.in-Ok-read_disk.opened file at (λ n. short c.args.disk.now n tells) whole
     (subst (λ (fs : Files). IsDamagedFront c.args.sup.now (λ n. (fs n).now) file at → ⊥) (c.size.ensures.same tells) (c.in-Ok-read_disk.ensures.front tells file at)) damage.1

@@ -45,7 +45,7 @@ returns-in-Broken-clause-damaged g c = λ tells file at is.
 -- a row that stands ends at a number of 64 bits
 pub returns-in_default-checked_add-clause-damaged : goal.returns-in_default-checked_add-clause-damaged
 returns-in_default-checked_add-clause-damaged g c = λ tells file at is.
-    let fits = (g.met.D.Disk g.world.𝓛 g.world.𝓜 g.world.𝓡 ((λ s x. x), (λ x. x), (λ x. x), λ x. x)).fits c.rows.disk 0 tells in
+    let fits = g.met.D.Disk.fits c.rows.disk 0 tells in
     let row = c.in_ok-read_row.ensures.row tells c.in-Row.field-0 (ap (λ x. Ok x) c.in-Row.is) in
     let within : c.rows.end + 24 < 2 ^ 64 = row_within c.rows.end c.in-Row.field-0 (g.D.Disk.files c.rows.disk 0).now row.1 fits in
     let beyond = c.in_default-checked_add.ensures in

@@ -80,8 +80,8 @@ overflow_add-len g c =
     let product : c.len.result * c.args.replicas ≤ c.len.result * 4 = mul-le-mul_left c.len.result c.requires.most in
     omega (arith, low, product)
 
-pub give_volume-requires-after_bounds : goal.give_volume-requires-after_bounds
-give_volume-requires-after_bounds g c = λ κs lives.
+pub give_volume-requires : goal.give_volume-requires
+give_volume-requires g c =
     let vs = c.pop.new.self.items in
     let count : c.len.result ≡ length vs = c.len.ensures ∙ c.pop.new.self.ok.0 in
     let long : length c.loop-volume.volumes.items ≡ length vs + 1 = ap (λ (l : List (Volume g.row.H-Disk.Denot g.row.H-Disk-Piece.Denot)). length l) (c.in-Some.ensures).items ∙ length-append vs (c.in-Some.volume ∷ []) in

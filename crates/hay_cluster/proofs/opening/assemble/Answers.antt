@@ -37,8 +37,8 @@ unreachable-requires g c =
     let no = (c.in_default.ensures).cases in
     omega (arith, no.0, c.reverse.ensures.len, c.requires.disks, c.args.disks.ok.0)
 
-pub fill_volumes-requires-after_bounds : goal.fill_volumes-requires-after_bounds
-fill_volumes-requires-after_bounds g c = λ κs lives.
+pub fill_volumes-requires : goal.fill_volumes-requires
+fill_volumes-requires g c =
     let some : 0 < length c.as_mut_slice.result.now = omega (arith, c.as_mut_slice.ensures.len, c.args.volumes.ok.0, c.requires.many, c.requires.built.some_volumes) in
     let fewer = ap (λ (l : List g.row.D.Denot). length l) (c.in-Some.ensures).items ∙ length-append c.pop.new.self.items (c.in-Some.first ∷ []) in
     let same = ap (λ (l : List (Volume g.row.D.Denot g.row.D-Piece.Denot)). length l * c.args.settings.replicas) c.as_mut_slice.ensures.value in

@@ -18,8 +18,8 @@ unreachable-requires g c =
     let no = (c.in_default.ensures).cases in
     omega (arith, no.0, f.fewer, c.loop-replica.disks.ok.0, c.requires.enough, c.loop-replica-test.true)
 
-pub add-requires-after_bounds : goal.add-requires-after_bounds
-add-requires-after_bounds g c = λ κs lives.
+pub add-requires : goal.add-requires
+add-requires g c =
     let f = c.loop-replica.invariant in
     let same = ap (λ (v : Volume g.row.D.Denot g.row.D-Piece.Denot). (v.settings).replicas) f.only ∙ ap (λ (s : Settings). s.replicas) c.requires.settings in
     let room : length c.loop-replica.volume.replicas < (c.loop-replica.volume.settings).replicas = omega (arith, f.count, same, c.loop-replica-test.true) in

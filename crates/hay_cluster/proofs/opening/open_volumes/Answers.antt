@@ -60,8 +60,8 @@ returns-clause-moves g c =
     gathers_zip R (MovesVolume g.D.Disk.Tells g.D.Disk.files g.D.Piece.Piece.Tells g.D.Disk.fault_count g.D.Disk.fuse_count) c.args.volumes.now c.loop-number.volumes c.loop-number.notes.items (λ x y more r. r.0.moves)
     (gathered_all R c.loop-number.number c.args.volumes.now c.loop-number.volumes c.loop-number.notes.items c.loop-number.invariant (omega arith))
 
-pub open_volume-requires-after_bounds : goal.open_volume-requires-after_bounds
-open_volume-requires-after_bounds g c = λ κs lives.
+pub open_volume-requires : goal.open_volume-requires
+open_volume-requires g c =
     let R = λ (old new : Volume g.row.D.Denot g.row.D-Piece.Denot) (notes : List Note). OpensVolume g.D.Disk.Tells g.D.Disk.files g.D.Piece.Piece.Tells g.D.Disk.fault_count g.D.Disk.fuse_count old new notes × (g.D.Disk.Tells → DrawsVolume g.D.Disk.files g.D.Disk.drawn old new) in
     let n = c.loop-number.number in
     let y = get_or c.loop-number.volumes n c.index-volumes-number.result in

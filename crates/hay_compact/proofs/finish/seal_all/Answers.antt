@@ -18,7 +18,7 @@ loop-row-init g c = record {
 }
 
 pub seal_next-requires-clause-ready : goal.seal_next-requires-clause-ready
-seal_next-requires-clause-ready g c κs within = λ tells.
+seal_next-requires-clause-ready g c = λ tells.
     let ready = c.requires.ready tells in
     let s = ready.1 in
     let same = ready.3 in (

@@ -8,13 +8,13 @@ use Rattle.hay_disk.proofs.gate.gate_append.Goals as goal
 
 pub returns-in_err-write-clause-whole : goal.returns-in_err-write-clause-whole
 returns-in_err-write-clause-whole g c = λ tells image is.
-    let fits = (g.met.D.Disk g.world.𝓛 g.world.𝓜 g.world.𝓡 ((λ s x. x), (λ x. x), (λ x. x), λ x. x)).fits c.args.disk.now c.args.file tells in
+    let fits = g.met.D.Disk.fits c.args.disk.now c.args.file tells in
     let place = behind_is _ _ _ _ (c.requires.gate tells) fits c.saturating_add-behind.ensures in
     inl (closed_behind _ _ _ _ _ _ image place (c.requires.gate tells) (c.write.ensures.changes tells) is)
 
 pub returns-in_err-write-clause-changes : goal.returns-in_err-write-clause-changes
 returns-in_err-write-clause-changes g c = λ tells.
-    let fits = (g.met.D.Disk g.world.𝓛 g.world.𝓜 g.world.𝓡 ((λ s x. x), (λ x. x), (λ x. x), λ x. x)).fits c.args.disk.now c.args.file tells in
+    let fits = g.met.D.Disk.fits c.args.disk.now c.args.file tells in
     let place = behind_is _ _ _ _ (c.requires.gate tells) fits c.saturating_add-behind.ensures in
     body_changes _ _ _ _ _ place (c.write.ensures.changes tells)
 
@@ -24,13 +24,13 @@ returns-in_err-write-clause-stays g c = λ tells some.
 
 pub returns-in_err-sync-clause-whole : goal.returns-in_err-sync-clause-whole
 returns-in_err-sync-clause-whole g c = λ tells image is.
-    let fits = (g.met.D.Disk g.world.𝓛 g.world.𝓜 g.world.𝓡 ((λ s x. x), (λ x. x), (λ x. x), λ x. x)).fits c.args.disk.now c.args.file tells in
+    let fits = g.met.D.Disk.fits c.args.disk.now c.args.file tells in
     let place = behind_is _ _ _ _ (c.requires.gate tells) fits c.saturating_add-behind.ensures in
     inl (closed_behind _ _ _ _ _ _ image place (c.requires.gate tells) (changes_keeps _ _ _ _ _ (c.write.ensures.changes tells) (c.sync.ensures.keeps tells)) is)
 
 pub returns-in_err-sync-clause-changes : goal.returns-in_err-sync-clause-changes
 returns-in_err-sync-clause-changes g c = λ tells.
-    let fits = (g.met.D.Disk g.world.𝓛 g.world.𝓜 g.world.𝓡 ((λ s x. x), (λ x. x), (λ x. x), λ x. x)).fits c.args.disk.now c.args.file tells in
+    let fits = g.met.D.Disk.fits c.args.disk.now c.args.file tells in
     let place = behind_is _ _ _ _ (c.requires.gate tells) fits c.saturating_add-behind.ensures in
     body_changes _ _ _ _ _ place (changes_keeps _ _ _ _ _ (c.write.ensures.changes tells) (c.sync.ensures.keeps tells))
 
@@ -42,13 +42,13 @@ returns-in_err-sync-clause-stays g c = λ tells some.
 
 pub returns-in_err-write-2-clause-whole : goal.returns-in_err-write-2-clause-whole
 returns-in_err-write-2-clause-whole g c = λ tells image is.
-    let fits = (g.met.D.Disk g.world.𝓛 g.world.𝓜 g.world.𝓡 ((λ s x. x), (λ x. x), (λ x. x), λ x. x)).fits c.args.disk.now c.args.file tells in
+    let fits = g.met.D.Disk.fits c.args.disk.now c.args.file tells in
     let place = behind_is _ _ _ _ (c.requires.gate tells) fits c.saturating_add-behind.ensures in
     whole_or_closed _ _ _ _ _ _ _ _ image place (c.requires.gate tells) c.requires.mark ((c.sync.ensures.keeps tells).now ∙ c.in_ok-write.ensures.written tells) (c.in_ok-sync.ensures.solid tells) c.to_be_bytes.ensures (c.write-2.ensures.changes tells) is
 
 pub returns-in_err-write-2-clause-changes : goal.returns-in_err-write-2-clause-changes
 returns-in_err-write-2-clause-changes g c = λ tells.
-    let fits = (g.met.D.Disk g.world.𝓛 g.world.𝓜 g.world.𝓡 ((λ s x. x), (λ x. x), (λ x. x), λ x. x)).fits c.args.disk.now c.args.file tells in
+    let fits = g.met.D.Disk.fits c.args.disk.now c.args.file tells in
     let place = behind_is _ _ _ _ (c.requires.gate tells) fits c.saturating_add-behind.ensures in
     magic_changes _ _ _ _ _ _ _ _ place c.to_be_bytes.ensures (changes_keeps _ _ _ _ _ (c.write.ensures.changes tells) (c.sync.ensures.keeps tells)) (c.write-2.ensures.changes tells)
 
@@ -58,13 +58,13 @@ returns-in_err-write-2-clause-stays g c = λ tells some.
 
 pub returns-in_err-sync-2-clause-whole : goal.returns-in_err-sync-2-clause-whole
 returns-in_err-sync-2-clause-whole g c = λ tells image is.
-    let fits = (g.met.D.Disk g.world.𝓛 g.world.𝓜 g.world.𝓡 ((λ s x. x), (λ x. x), (λ x. x), λ x. x)).fits c.args.disk.now c.args.file tells in
+    let fits = g.met.D.Disk.fits c.args.disk.now c.args.file tells in
     let place = behind_is _ _ _ _ (c.requires.gate tells) fits c.saturating_add-behind.ensures in
     whole_or_closed _ _ _ _ _ _ _ _ image place (c.requires.gate tells) c.requires.mark ((c.sync.ensures.keeps tells).now ∙ c.in_ok-write.ensures.written tells) (c.in_ok-sync.ensures.solid tells) c.to_be_bytes.ensures (changes_keeps _ _ _ _ _ (c.write-2.ensures.changes tells) (c.sync-2.ensures.keeps tells)) is
 
 pub returns-in_err-sync-2-clause-changes : goal.returns-in_err-sync-2-clause-changes
 returns-in_err-sync-2-clause-changes g c = λ tells.
-    let fits = (g.met.D.Disk g.world.𝓛 g.world.𝓜 g.world.𝓡 ((λ s x. x), (λ x. x), (λ x. x), λ x. x)).fits c.args.disk.now c.args.file tells in
+    let fits = g.met.D.Disk.fits c.args.disk.now c.args.file tells in
     let place = behind_is _ _ _ _ (c.requires.gate tells) fits c.saturating_add-behind.ensures in
     magic_changes _ _ _ _ _ _ _ _ place c.to_be_bytes.ensures (changes_keeps _ _ _ _ _ (c.write.ensures.changes tells) (c.sync.ensures.keeps tells)) (changes_keeps _ _ _ _ _ (c.write-2.ensures.changes tells) (c.sync-2.ensures.keeps tells))
 
@@ -76,13 +76,13 @@ returns-in_err-sync-2-clause-stays g c = λ tells some.
 
 pub returns-clause-whole : goal.returns-clause-whole
 returns-clause-whole g c = λ tells image is.
-    let fits = (g.met.D.Disk g.world.𝓛 g.world.𝓜 g.world.𝓡 ((λ s x. x), (λ x. x), (λ x. x), λ x. x)).fits c.args.disk.now c.args.file tells in
+    let fits = g.met.D.Disk.fits c.args.disk.now c.args.file tells in
     let place = behind_is _ _ _ _ (c.requires.gate tells) fits c.saturating_add-behind.ensures in
     whole_or_closed _ _ _ _ _ _ _ _ image place (c.requires.gate tells) c.requires.mark ((c.sync.ensures.keeps tells).now ∙ c.in_ok-write.ensures.written tells) (c.in_ok-sync.ensures.solid tells) c.to_be_bytes.ensures (changes_keeps _ _ _ _ _ (c.write-2.ensures.changes tells) (c.sync-2.ensures.keeps tells)) is
 
 pub returns-clause-changes : goal.returns-clause-changes
 returns-clause-changes g c = λ tells.
-    let fits = (g.met.D.Disk g.world.𝓛 g.world.𝓜 g.world.𝓡 ((λ s x. x), (λ x. x), (λ x. x), λ x. x)).fits c.args.disk.now c.args.file tells in
+    let fits = g.met.D.Disk.fits c.args.disk.now c.args.file tells in
     let place = behind_is _ _ _ _ (c.requires.gate tells) fits c.saturating_add-behind.ensures in
     magic_changes _ _ _ _ _ _ _ _ place c.to_be_bytes.ensures (changes_keeps _ _ _ _ _ (c.write.ensures.changes tells) (c.sync.ensures.keeps tells)) (changes_keeps _ _ _ _ _ (c.write-2.ensures.changes tells) (c.sync-2.ensures.keeps tells))
 
@@ -92,7 +92,7 @@ returns-clause-stays g c = λ tells some.
 
 pub returns-clause-stands : goal.returns-clause-stands
 returns-clause-stands g c = λ tells.
-    let fits = (g.met.D.Disk g.world.𝓛 g.world.𝓜 g.world.𝓡 ((λ s x. x), (λ x. x), (λ x. x), λ x. x)).fits c.args.disk.now c.args.file tells in
+    let fits = g.met.D.Disk.fits c.args.disk.now c.args.file tells in
     let place = behind_is _ _ _ _ (c.requires.gate tells) fits c.saturating_add-behind.ensures in
     magic_stands _ _ _ _ _ _ _ _ place (c.requires.gate tells).closed.room ((c.sync.ensures.keeps tells).now ∙ c.in_ok-write.ensures.written tells) c.to_be_bytes.ensures ((c.sync-2.ensures.keeps tells).now ∙ c.in_ok-write-2.ensures.written tells)
 

@@ -7,8 +7,8 @@ use Rattle.hay_logical.specs.Notes.{keeps}
 use Rattle.hay_logical.proofs.Lists.{at_below, at_first, at_last, at_read, at_same}
 use Rattle.hay_logical.proofs.notes.kept_in.Goals as goal
 
-pub end-requires-after_bounds : goal.end-requires-after_bounds
-end-requires-after_bounds g c = λ κs lives.
+pub end-requires : goal.end-requires
+end-requires g c =
     let within : c.loop-j.j < length c.args.replicas.now = omega arith in
     c.requires.«open» c.loop-j.j c.index-replicas-j.result
     (subst (λ x. At c.args.replicas.now c.loop-j.j x) (sym c.index-replicas-j.is) (at_read c.args.replicas.now c.loop-j.j c.index-replicas-j.result within))

@@ -13,14 +13,14 @@ use Rattle.hay_logical.proofs.replicas.delete_in_order.Goals as goal
 use Rattle.hay_logical.proofs.replicas.delete_in_order.Goals.{in-Live+in-Ok, in_default}
 
 pub delete-requires-clause-open : goal.delete-requires-clause-open
-delete-requires-clause-open g c = λ κs lives.
+delete-requires-clause-open g c =
     let within : c.loop-j.j < length c.loop-j.replicas = omega arith in
     let here : Copy g.row.D.Denot = slice_index_or c.loop-j.replicas c.loop-j.j c.index-replicas-j.result in
     let there : At c.loop-j.replicas c.loop-j.j here = at_read c.loop-j.replicas c.loop-j.j c.index-replicas-j.result within in
     up_open here (c.requires.up c.loop-j.j here (went_next _ c.loop-j.j c.args.replicas.now c.loop-j.replicas here c.loop-j.invariant.went there))
 
 pub delete-requires-clause-flag : goal.delete-requires-clause-flag
-delete-requires-clause-flag g c = λ κs lives tells up.
+delete-requires-clause-flag g c = λ tells up.
     let within : c.loop-j.j < length c.loop-j.replicas = omega arith in
     let here : Copy g.row.D.Denot = slice_index_or c.loop-j.replicas c.loop-j.j c.index-replicas-j.result in
     let there : At c.loop-j.replicas c.loop-j.j here = at_read c.loop-j.replicas c.loop-j.j c.index-replicas-j.result within in

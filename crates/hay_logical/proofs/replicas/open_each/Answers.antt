@@ -20,8 +20,8 @@ loop-j-init g c = record {
   empty = λ pair i h. ap (λ l. place_in l i) (c.requires.empty pair) ∙ none_in (length c.args.replicas.now) i;
 }
 
-pub open_one-requires-after_bounds : goal.open_one-requires-after_bounds
-open_one-requires-after_bounds g c = λ κs lives.
+pub open_one-requires : goal.open_one-requires
+open_one-requires g c =
     let within : c.loop-j.j < length c.loop-j.replicas = omega arith in
     let here : Copy g.row.D.Denot = slice_index_or c.loop-j.replicas c.loop-j.j c.index-replicas-j.result in
     let there : At c.loop-j.replicas c.loop-j.j here = at_read c.loop-j.replicas c.loop-j.j c.index-replicas-j.result within in

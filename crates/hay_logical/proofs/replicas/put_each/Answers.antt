@@ -8,8 +8,8 @@ use Rattle.hay_logical.proofs.Lists.{at_below}
 use Rattle.hay_logical.proofs.replicas.put_each.Goals as goal
 use Rattle.hay_logical.proofs.replicas.put_each.Goals.{then-not-is_untouched, else-not-is_untouched}
 
-pub is_untouched-requires-after_bounds : goal.is_untouched-requires-after_bounds
-is_untouched-requires-after_bounds g c κs within =
+pub is_untouched-requires : goal.is_untouched-requires
+is_untouched-requires g c =
     let left = c.in-Err.ensures.broken in
     at_below c.put_in_order.new.replicas c.in-Err.broken.at left.after left.is
 

@@ -16,7 +16,7 @@ pub loop-j-init : goal.loop-j-init
 loop-j-init g c = record { went = went_start _ c.args.replicas.now; places = rw c.new-row.ensures refl }
 
 pub put-requires-clause-open : goal.put-requires-clause-open
-put-requires-clause-open g c = λ κs lives.
+put-requires-clause-open g c =
     let within : c.loop-j.j < length c.loop-j.replicas = omega arith in
     let here : Copy g.row.D.Denot = slice_index_or c.loop-j.replicas c.loop-j.j c.index-replicas-j.result in
     let there : At c.loop-j.replicas c.loop-j.j here = at_read c.loop-j.replicas c.loop-j.j c.index-replicas-j.result within in

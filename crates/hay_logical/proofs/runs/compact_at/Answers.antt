@@ -9,8 +9,8 @@ use Rattle.hay_logical.proofs.Ends.{stays_there, swaps_one, swaps_there}
 use Rattle.hay_logical.proofs.Lists.{at_read}
 use Rattle.hay_logical.proofs.runs.compact_at.Goals as goal
 
-pub compact-result-requires-after_bounds : goal.compact-result-requires-after_bounds
-compact-result-requires-after_bounds g c κs within =
+pub compact-result-requires : goal.compact-result-requires
+compact-result-requires g c =
     let here : Copy g.row.D.Denot = slice_index_or c.args.replicas.now c.args.at c.index-replicas-at.result in
     let there : At c.args.replicas.now c.args.at here = at_read c.args.replicas.now c.args.at c.index-replicas-at.result c.requires.within in
     let low = c.requires.within in

@@ -7,8 +7,8 @@ use Rattle.hay_logical.proofs.Calls.{one_counts}
 use Rattle.hay_logical.proofs.Lists.{at_read, one_same}
 use Rattle.hay_logical.proofs.runs.step_at.Goals as goal
 
-pub step-requires-after_bounds : goal.step-requires-after_bounds
-step-requires-after_bounds g c κs within =
+pub step-requires : goal.step-requires
+step-requires g c =
     let here : Copy g.row.D.Denot = slice_index_or c.args.replicas.now c.args.at c.index-replicas-at.result in
     let there : At c.args.replicas.now c.args.at here = at_read c.args.replicas.now c.args.at c.index-replicas-at.result c.requires.within in
     let low = c.requires.within in

@@ -5,8 +5,8 @@ use Rattle.hay_logical.proofs.Looks.{found_all, if_err_then, kept_all, left_all,
 use Rattle.hay_logical.proofs.Through.{counts_through}
 use Rattle.hay_logical.proofs.sights.open_all.Goals as goal
 
-pub see_broken_off-requires-after_bounds : goal.see_broken_off-requires-after_bounds
-see_broken_off-requires-after_bounds g c = λ κs lives.
+pub see_broken_off-requires : goal.see_broken_off-requires
+see_broken_off-requires g c =
     let count = c.open_each.ensures.counts.count in
     let few = c.requires.most in (
       search rules,

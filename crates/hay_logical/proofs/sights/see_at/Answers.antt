@@ -10,8 +10,8 @@ use Rattle.hay_logical.proofs.Calls.{one_counts}
 use Rattle.hay_logical.proofs.Lists.{at_read, one_same}
 use Rattle.hay_logical.proofs.sights.see_at.Goals as goal
 
-pub see-requires-after_bounds : goal.see-requires-after_bounds
-see-requires-after_bounds g c = λ κs lives.
+pub see-requires : goal.see-requires
+see-requires g c =
     let here : Copy g.row.D.Denot = slice_index_or c.args.replicas.now c.args.at c.index-replicas-at.result in
     let there : At c.args.replicas.now c.args.at here = at_read c.args.replicas.now c.args.at c.index-replicas-at.result c.requires.within in
     let within = c.requires.within in

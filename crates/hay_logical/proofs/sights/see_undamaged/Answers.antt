@@ -17,8 +17,8 @@ loop-at-init g c = record {
   seen = λ tells j r s h. absurd (omega (arith, h));
 }
 
-pub see_at-requires-after_bounds : goal.see_at-requires-after_bounds
-see_at-requires-after_bounds g c = λ κs lives.
+pub see_at-requires : goal.see_at-requires
+see_at-requires g c =
     let looks = c.loop-at.invariant.looks in
     let long = looks.counts.count in
     let most = c.requires.most in

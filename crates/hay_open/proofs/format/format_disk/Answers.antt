@@ -11,7 +11,7 @@ use Rattle.hay_open.proofs.Undamaged.{fresh_undamaged}
 use Rattle.hay_open.proofs.format.format_disk.Goals as goal
 
 pub format-requires-3-after_bounds : goal.format-requires-3-after_bounds
-format-requires-3-after_bounds g c κs within = λ tells k from to.
+format-requires-3-after_bounds g c = λ tells k from to.
     let f = g.D.Disk.files in
     let v : c.volume_file-volume_number.result ≡ 1 = c.volume_file-volume_number.ensures (omega arith) in
     let x : c.index_file-index_number.result ≡ 2 = c.index_file-index_number.ensures (omega arith) in
@@ -158,6 +158,6 @@ returns-clause-nothing g c = λ tells void image leaves other s opens.
 
 pub returns-clause-whole : goal.returns-clause-whole
 returns-clause-whole g c = λ tells file at.
-    let short = (g.met.D.Disk g.world.𝓛 g.world.𝓜 g.world.𝓡 ((λ s x. x), (λ x. x), (λ x. x), λ x. x)).fits in
+    let short = g.met.D.Disk.fits in
     fresh_undamaged g.D.Piece.Piece.Tells c.args.sup.now (g.D.Disk.files c.format-3.new.disk) _ file at (λ n. short c.format-3.new.disk n tells)
     (subst (λ (s : Super). SuperFits s) c.volume_super.ensures.is c.volume_super.ensures.fits) (returns-clause-opened g c tells) c.new.ensures.items

@@ -30,7 +30,7 @@ loop-head-init g c =
 
 pub open_orphan-requires-clause-stands : goal.open_orphan-requires-clause-stands
 unfolding none
-open_orphan-requires-clause-stands g c κs within = λ tells.
+open_orphan-requires-clause-stands g c = λ tells.
     let listing = c.args.listing.now in
     let given = c.requires.orphans tells in
     let file = (g.D.Disk.files c.args.disk.now listing.volume).now in
@@ -39,7 +39,7 @@ open_orphan-requires-clause-stands g c κs within = λ tells.
     (one.cell, subst (λ l. StandsCell head.at l one.cell) (sym (c.loop-head.invariant.pieces tells).now) one.stands, one.is)
 
 pub open_orphan-requires-clause-solid : goal.open_orphan-requires-clause-solid
-open_orphan-requires-clause-solid g c κs within = λ tells. (c.loop-head.invariant.pieces tells).solid (c.requires.solid tells)
+open_orphan-requires-clause-solid g c = λ tells. (c.loop-head.invariant.pieces tells).solid (c.requires.solid tells)
 
 pub returns-in_err-open_orphan-clause-pieces : goal.returns-in_err-open_orphan-clause-pieces
 unfolding none

@@ -35,7 +35,7 @@ returns-in_err-listing-clause-only g c = λ tells s stored file at is.
     c.in_err-listing.ensures.only tells s stored file at (ap (λ x. Err x) (same_refusal c.from_residual.result fault.0 c.in_err-listing.field-0.0 file at fault.1 fault.2 is))
 
 pub open_cells-requires-clause-holds : goal.open_cells-requires-clause-holds
-open_cells-requires-clause-holds g c κs within = λ tells.
+open_cells-requires-clause-holds g c = λ tells.
     let listing = c.in_ok-listing.listing in
     subst (λ (fs : Files). HoldsRows (fs listing.volume).now listing) (sym (c.read_listing.ensures.same tells)) (listing_holds c.args.sup.now (λ n. (g.D.Disk.files c.args.disk.now n).now) listing (c.in_ok-listing.ensures.listing tells))
 
@@ -53,7 +53,7 @@ pub returns-clause-places : goal.returns-clause-places
 returns-clause-places g c = λ tells s stored.
     let listing = c.in_ok-listing.listing in
     let f = g.D.Disk.files in
-    let fits = (g.met.D.Disk g.world.𝓛 g.world.𝓜 g.world.𝓡 ((λ s x. x), (λ x. x), (λ x. x), λ x. x)).fits in
+    let fits = g.met.D.Disk.fits in
     let contents : ℕ → List ℕ = λ n. (f c.args.disk.now n).now in
     let made = c.in_ok-listing.ensures.listing tells in
     let lists = lists_stored c.args.sup.now contents listing s (λ n. fits c.args.disk.now n tells) made stored in
@@ -81,7 +81,7 @@ returns-clause-opened g c = λ tells s stored.
     let listing = c.in_ok-listing.listing in
     let f = g.D.Disk.files in
     let sup = c.args.sup.now in
-    let fits = (g.met.D.Disk g.world.𝓛 g.world.𝓜 g.world.𝓡 ((λ s x. x), (λ x. x), (λ x. x), λ x. x)).fits in
+    let fits = g.met.D.Disk.fits in
     let contents : ℕ → List ℕ = λ n. (f c.args.disk.now n).now in
     let made = c.in_ok-listing.ensures.listing tells in
     let lists = lists_stored sup contents listing s (λ n. fits c.args.disk.now n tells) made stored in

@@ -14,7 +14,7 @@ blocks-2-init g c = record {
 pub returns-then-left-count-clause-place : goal.returns-then-left-count-clause-place
 returns-then-left-count-clause-place g c = λ tells superblock records end is below.
     let file = (g.D.Disk.files c.args.disk.now c.args.file).now in
-    let fits = (g.met.D.Disk g.world.𝓛 g.world.𝓜 g.world.𝓡 ((λ s x. x), (λ x. x), (λ x. x), λ x. x)).fits c.args.disk.now c.args.file tells in
+    let fits = g.met.D.Disk.fits c.args.disk.now c.args.file tells in
     let w = c.blocks-2.invariant.walked tells superblock records end is below in
     let b = walk_block superblock file records c.blocks-2.start c.blocks-2.left c.args.number below w in
     let counts = c.in_ok-count.ensures.count tells b.block (subst (λ files. BeginsWithBlock (drop c.blocks-2.start (files c.args.file).now) b.block) (sym (c.blocks-2.invariant.same tells)) b.begins) in
@@ -26,7 +26,7 @@ blocks-2-preserved g c = record {
   same = λ tells. c.block_len.ensures.same tells ∙ c.blocks-2.invariant.same tells;
   walked = λ tells superblock records end is below.
       let file = (g.D.Disk.files c.args.disk.now c.args.file).now in
-      let fits = (g.met.D.Disk g.world.𝓛 g.world.𝓜 g.world.𝓡 ((λ s x. x), (λ x. x), (λ x. x), λ x. x)).fits c.args.disk.now c.args.file tells in
+      let fits = g.met.D.Disk.fits c.args.disk.now c.args.file tells in
       let w = c.blocks-2.invariant.walked tells superblock records end is below in
       let b = walk_block superblock file records c.blocks-2.start c.blocks-2.left c.args.number below w in
       let counts = c.in_ok-count.ensures.count tells b.block (subst (λ files. BeginsWithBlock (drop c.blocks-2.start (files c.args.file).now) b.block) (sym (c.blocks-2.invariant.same tells)) b.begins) in

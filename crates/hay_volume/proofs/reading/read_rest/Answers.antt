@@ -4,8 +4,8 @@ use Rattle.hay_needle.proofs.Needles.{length-head}
 use Rattle.hay_volume.proofs.ReadLaws.{in_bytes, is_needle_of, read_stands, whole_front}
 use Rattle.hay_volume.proofs.reading.read_rest.Goals as goal
 
-pub read_up_to-requires-after_bounds : goal.read_up_to-requires-after_bounds
-read_up_to-requires-after_bounds g c κs within =
+pub read_up_to-requires : goal.read_up_to-requires
+read_up_to-requires g c =
     omega (arith, c.args.bytes.now.ok.0, length-head c.args.bytes.now.items (head_of_cell c.args.head) c.requires)
 
 pub returns-in_err-read_up_to-clause-drawn : goal.returns-in_err-read_up_to-clause-drawn

@@ -10,8 +10,8 @@ returns-in_default-clause-damaged g c = λ tells front is n begins.
     let read = c.in_ok-read_up_to.ensures.read tells (eight_first (vec_len c.args.bytes.now) c.args.bytes.now.items _ c.requires front) in
     c.in_default.ensures.only (head_of_needle n) (head_seen c.as_slice.result.now (drop c.args.at (g.D.Disk.files c.args.disk.now c.args.file).now) n (c.as_slice.ensures.value ∙ read) begins)
 
-pub read_rest-requires-after_bounds : goal.read_rest-requires-after_bounds
-read_rest-requires-after_bounds g c κs within =
+pub read_rest-requires : goal.read_rest-requires
+read_rest-requires g c =
     head_alone c.as_slice.result.now c.read_up_to.new.bytes.items (head_of_cell c.in-Ok.head) c.as_slice.ensures.value (omega (arith, c.in_ok-read_up_to.ensures.within, c.read_up_to.new.bytes.ok.0)) c.in-Ok.ensures.found
 
 pub returns-in_err-read_rest-clause-damaged : goal.returns-in_err-read_rest-clause-damaged

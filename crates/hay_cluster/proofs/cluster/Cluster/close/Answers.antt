@@ -9,8 +9,8 @@ use Rattle.hay_cluster.proofs.Lists.{one_fits}
 use Rattle.hay_cluster.proofs.ClosingStore.{given_arms, given_arms_in, given_contents, given_drawn, given_faults, given_fuses, given_in, given_sure, gives_back, stands_on, volumes_long}
 use Rattle.hay_cluster.proofs.cluster.Cluster.close.Goals as goal
 
-pub give_volumes-requires-after_bounds : goal.give_volumes-requires-after_bounds
-give_volumes-requires-after_bounds g c = λ κs lives.
+pub give_volumes-requires : goal.give_volumes-requires
+give_volumes-requires g c =
     let same : disk_count c.self.inside.settings ≡ disk_count c.args.self.settings = ap (λ (st : Open g.row.D.Denot g.row.D-Piece.Denot g.row.A.Denot). disk_count st.settings) c.self.view_is in
     let product = ap (λ m. m * c.self.inside.settings.replicas) c.self.invariant.many in
     let some : 0 < length c.as_slice.result.now = omega (arith, ap (λ (l : List (Volume g.row.D.Denot g.row.D-Piece.Denot)). length l) c.as_slice.ensures.value, c.self.invariant.many, c.self.invariant.built.some_volumes) in (
@@ -38,10 +38,10 @@ pub give_disk-requires : goal.give_disk-requires
 give_disk-requires g c = ap (λ (held : HeldDisk). held.is_out) c.give_volumes.ensures.below ∙ c.requires.disks_out 0 (omega arith)
 
 pub give_seats-requires-clause-few : goal.give_seats-requires-clause-few
-give_seats-requires-clause-few g c = λ κs lives. omega (arith, c.self.invariant.lanes)
+give_seats-requires-clause-few g c = omega (arith, c.self.invariant.lanes)
 
 pub give_seats-requires-clause-out : goal.give_seats-requires-clause-out
-give_seats-requires-clause-out g c = λ κs lives n low.
+give_seats-requires-clause-out g c = λ n low.
     ap (λ (held : ℕ → HeldArm). (held n).is_out) (c.give_disk.ensures.lanes ∙ c.give_volumes.ensures.lanes) ∙ c.requires.arms_out n (omega (arith, low, c.self.invariant.lanes))
 
 pub returns-clause-stands : goal.returns-clause-stands

@@ -21,8 +21,8 @@ offset_bounds-as_slice-volume g c =
     let long = ap length c.as_slice.ensures.value in
     omega (arith, within, long)
 
-pub frozen-requires-after_bounds : goal.frozen-requires-after_bounds
-frozen-requires-after_bounds g c = λ κs lives.
+pub frozen-requires : goal.frozen-requires
+frozen-requires g c =
     let within : c.args.volume < length c.self.inside.volumes.items = let same = ap (λ (st : Open g.row.D.Denot g.row.D-Piece.Denot g.row.A.Denot). (st.settings).volumes) c.self.view_is in omega (arith, c.requires.volume, c.self.invariant.many, same) in
     let long = ap length c.as_slice.ensures.value in
     let room = item_room (length c.as_slice.result.now) _ (let some : 0 < length c.as_slice.result.now = omega (arith, within, long) in some) c.as_slice.type_inv.1 in

@@ -41,7 +41,7 @@ returns-in_default-see_or_pass-clause-counts g c =
     falls_trans (map g.D.Disk.fault_count (disks_of c.args.self.now)) (map g.D.Disk.fault_count (disks_of c.loop.self)) (map g.D.Disk.fault_count (disks_of c.see_or_pass.new.self)) c.loop.invariant.counts c.see_or_pass.ensures.counts
 
 pub read_more-read-requires-clause-first : goal.read_more-read-requires-clause-first
-read_more-read-requires-clause-first g c = λ κs lives.
+read_more-read-requires-clause-first g c =
     let inv = c.loop.invariant in
     let stop : PassesTo (IsWhole g.D.Disk.Tells g.D.Disk.files g.D.Piece.Piece.Tells g.D.Disk.fault_count g.D.Disk.fuse_count g.A.Arm.fault_count c.args.self.now) (c.args.self.now).settings c.args.lane c.args.volume c.args.start (counts_of g.D.Disk.fault_count g.A.Arm.fault_count c.args.self.now) (counts_of g.D.Disk.fault_count g.A.Arm.fault_count c.loop.self) [] c.in-Unseen.causes c.in-Unseen.replica =
     subst (λ (r : ReadReply). ReadPasses (IsWhole g.D.Disk.Tells g.D.Disk.files g.D.Piece.Piece.Tells g.D.Disk.fault_count g.D.Disk.fuse_count g.A.Arm.fault_count c.args.self.now) (c.args.self.now).settings c.args.lane c.args.volume c.args.start (counts_of g.D.Disk.fault_count g.A.Arm.fault_count c.args.self.now) (counts_of g.D.Disk.fault_count g.A.Arm.fault_count c.loop.self) [] r) c.in-Unseen.is inv.passes in
@@ -51,7 +51,7 @@ read_more-read-requires-clause-first g c = λ κs lives.
     subst (λ (s : Settings). ComeFirst c.args.start s.replicas c.in-Ok.passed) (sym c.see_or_pass.ensures.settings) sight.order
 
 pub read_more-read-requires-clause-fewer : goal.read_more-read-requires-clause-fewer
-read_more-read-requires-clause-fewer g c = λ κs lives.
+read_more-read-requires-clause-fewer g c =
     let inv = c.loop.invariant in
     let stop : PassesTo (IsWhole g.D.Disk.Tells g.D.Disk.files g.D.Piece.Piece.Tells g.D.Disk.fault_count g.D.Disk.fuse_count g.A.Arm.fault_count c.args.self.now) (c.args.self.now).settings c.args.lane c.args.volume c.args.start (counts_of g.D.Disk.fault_count g.A.Arm.fault_count c.args.self.now) (counts_of g.D.Disk.fault_count g.A.Arm.fault_count c.loop.self) [] c.in-Unseen.causes c.in-Unseen.replica =
     subst (λ (r : ReadReply). ReadPasses (IsWhole g.D.Disk.Tells g.D.Disk.files g.D.Piece.Piece.Tells g.D.Disk.fault_count g.D.Disk.fuse_count g.A.Arm.fault_count c.args.self.now) (c.args.self.now).settings c.args.lane c.args.volume c.args.start (counts_of g.D.Disk.fault_count g.A.Arm.fault_count c.args.self.now) (counts_of g.D.Disk.fault_count g.A.Arm.fault_count c.loop.self) [] r) c.in-Unseen.is inv.passes in

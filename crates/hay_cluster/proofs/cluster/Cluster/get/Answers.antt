@@ -38,12 +38,12 @@ returns-then-volume-url-clause-legal g c = λ tells k stands.
     (home, c.if-volume-url.true, c.rows-then-volume-url.ensures.known tells k stands, stays k)) stands
 
 pub show-requires-clause-start : goal.show-requires-clause-start
-show-requires-clause-start g c = λ κs lives.
+show-requires-clause-start g c =
     let same = ap (λ (st : Open g.row.D.Denot g.row.D-Piece.Denot g.row.A.Denot). st.settings) c.self.view_is in
     subst (λ (s : Settings). c.in-Some.start < s.replicas) same (c.in-Some.ensures).within.0
 
 pub show-requires-clause-volume : goal.show-requires-clause-volume
-show-requires-clause-volume g c = λ κs lives. (c.in-Some-home.ensures).within
+show-requires-clause-volume g c = (c.in-Some-home.ensures).within
 
 pub returns-clause-legal : goal.returns-clause-legal
 returns-clause-legal g c = λ tells k stands.

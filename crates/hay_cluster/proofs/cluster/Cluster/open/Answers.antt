@@ -18,45 +18,45 @@ use Rattle.hay_cluster.proofs.OpeningVoid.{back_kept}
 use Rattle.hay_cluster.proofs.Pending.{opened_settled}
 use Rattle.hay_cluster.proofs.cluster.Cluster.open.Goals as goal
 
-pub empty_volumes-requires-after_bounds : goal.empty_volumes-requires-after_bounds
-empty_volumes-requires-after_bounds g c =
+pub empty_volumes-requires : goal.empty_volumes-requires
+empty_volumes-requires g c =
     let held : IsTrue c.may_hold.result = search rules in
     let room = c.may_hold.ensures held in
-    λ κs lives. (one_fits 1 _ (omega arith) room.0, c.requires.built)
+    (one_fits 1 _ (omega arith) room.0, c.requires.built)
 
-pub assemble-cluster-requires-after_bounds : goal.assemble-cluster-requires-after_bounds
-assemble-cluster-requires-after_bounds g c =
+pub assemble-cluster-requires : goal.assemble-cluster-requires
+assemble-cluster-requires g c =
     let held : IsTrue c.may_hold.result = search rules in
     let room = c.may_hold.ensures held in
     let count : c.disk_count.result ≡ disk_count c.args.settings = c.disk_count.ensures.is in
-    λ κs lives. (one_fits 1 _ (omega arith) room.0, (c.requires.built, (c.in_ok-volumes.ensures.count, (c.in_ok-volumes.ensures.empty, (c.in_ok-disks.ensures.disk_count ∙ count, c.in_ok-disks.ensures.arm_count)))))
+    (one_fits 1 _ (omega arith) room.0, (c.requires.built, (c.in_ok-volumes.ensures.count, (c.in_ok-volumes.ensures.empty, (c.in_ok-disks.ensures.disk_count ∙ count, c.in_ok-disks.ensures.arm_count)))))
 
 pub drop-volumes-requires-room-T-Destruct : goal.drop-volumes-requires-room-T-Destruct
 drop-volumes-requires-room-T-Destruct g c =
     let held : IsTrue c.may_hold.result = search rules in
     let room = c.may_hold.ensures held in
-    λ κs lives. one_fits 1 _ (omega arith) room.0
+    one_fits 1 _ (omega arith) room.0
 
 pub take_parts-requires-clause-disks_in : goal.take_parts-requires-clause-disks_in
 take_parts-requires-clause-disks_in g c =
     let count : c.disk_count.result ≡ disk_count c.args.settings = c.disk_count.ensures.is in
-    λ κs lives slot below. c.requires.disks_in slot (let low : slot < disk_count c.args.settings = omega (arith, count, below) in low)
+    λ slot below. c.requires.disks_in slot (let low : slot < disk_count c.args.settings = omega (arith, count, below) in low)
 
 pub open_parts-requires-clause-directory : goal.open_parts-requires-clause-directory
 open_parts-requires-clause-directory g c =
     let taken = is_taken g.D.Disk.Tells g.D.Disk.files g.D.Piece.Piece.Tells g.D.Disk.fault_count g.D.Disk.fuse_count g.A.Arm.fault_count g.D.Disk.drawn g.A.Arm.is_sure (g.H.Shelf.disks c.args.shelf.now) (g.H.Shelf.arms c.args.shelf.now) c.assemble-cluster.result c.in_ok-disks.disks.items c.in_ok-disks.seats.items c.assemble-cluster.ensures.shape c.assemble-cluster.ensures.fresh c.assemble-cluster.ensures.closed c.assemble-cluster.ensures.unsure c.assemble-cluster.ensures.disks c.assemble-cluster.ensures.arms c.in_ok-disks.ensures.disks c.in_ok-disks.ensures.arms in
-    λ κs lives. taken_rests g.D.Disk.Tells g.D.Disk.files g.D.Piece.Piece.Tells g.D.Disk.fault_count g.D.Disk.fuse_count g.A.Arm.fault_count g.D.Disk.drawn g.A.Arm.is_sure (g.H.Shelf.disks c.args.shelf.now) (g.H.Shelf.arms c.args.shelf.now) c.assemble-cluster.result taken
+    taken_rests g.D.Disk.Tells g.D.Disk.files g.D.Piece.Piece.Tells g.D.Disk.fault_count g.D.Disk.fuse_count g.A.Arm.fault_count g.D.Disk.drawn g.A.Arm.is_sure (g.H.Shelf.disks c.args.shelf.now) (g.H.Shelf.arms c.args.shelf.now) c.assemble-cluster.result taken
 
 pub open_parts-requires-clause-idle : goal.open_parts-requires-clause-idle
 open_parts-requires-clause-idle g c =
     let taken = is_taken g.D.Disk.Tells g.D.Disk.files g.D.Piece.Piece.Tells g.D.Disk.fault_count g.D.Disk.fuse_count g.A.Arm.fault_count g.D.Disk.drawn g.A.Arm.is_sure (g.H.Shelf.disks c.args.shelf.now) (g.H.Shelf.arms c.args.shelf.now) c.assemble-cluster.result c.in_ok-disks.disks.items c.in_ok-disks.seats.items c.assemble-cluster.ensures.shape c.assemble-cluster.ensures.fresh c.assemble-cluster.ensures.closed c.assemble-cluster.ensures.unsure c.assemble-cluster.ensures.disks c.assemble-cluster.ensures.arms c.in_ok-disks.ensures.disks c.in_ok-disks.ensures.arms in
-    λ κs lives tells. taken_idle g.D.Disk.Tells g.D.Disk.files g.D.Piece.Piece.Tells g.D.Disk.fault_count g.D.Disk.fuse_count g.A.Arm.fault_count g.D.Disk.drawn g.A.Arm.is_sure (g.H.Shelf.disks c.args.shelf.now) (g.H.Shelf.arms c.args.shelf.now) tells c.assemble-cluster.result taken
+    λ tells. taken_idle g.D.Disk.Tells g.D.Disk.files g.D.Piece.Piece.Tells g.D.Disk.fault_count g.D.Disk.fuse_count g.A.Arm.fault_count g.D.Disk.drawn g.A.Arm.is_sure (g.H.Shelf.disks c.args.shelf.now) (g.H.Shelf.arms c.args.shelf.now) tells c.assemble-cluster.result taken
 
 pub close-requires-clause-disks_out : goal.close-requires-clause-disks_out
 close-requires-clause-disks_out g c =
     let count : c.disk_count.result ≡ disk_count c.args.settings = c.disk_count.ensures.is in
     let more : disk_count c.open_parts.new.self.settings ≡ disk_count c.args.settings = ap (λ (s : Settings). disk_count s) (c.open_parts.ensures.settings ∙ c.assemble-cluster.ensures.settings) in
-    λ κs lives slot below. c.in_ok-disks.ensures.disks_out slot (let low : slot < c.disk_count.result = omega (arith, count, more, below) in low)
+    λ slot below. c.in_ok-disks.ensures.disks_out slot (let low : slot < c.disk_count.result = omega (arith, count, more, below) in low)
 
 pub returns-in_err-volumes-clause-damaged : goal.returns-in_err-volumes-clause-damaged
 returns-in_err-volumes-clause-damaged g c =
@@ -263,6 +263,6 @@ returns-in-Ok-clause-drew g c = λ tells.
 pub returns-in-Ok-clause-flushed : goal.returns-in-Ok-clause-flushed
 returns-in-Ok-clause-flushed g c = λ tells k finds.
     let found = returns-in-Ok-clause-opened g c tells k finds in
-    let short = (g.met.D.Disk g.world.𝓛 g.world.𝓜 g.world.𝓡 ((λ s x. x), (λ x. x), (λ x. x), λ x. x)).fits in
+    let short = g.met.D.Disk.fits in
     flushed_drew g.D.Disk.files g.D.Disk.drawn g.D.Piece.Piece.Tells (λ disk n. short disk n tells) g.D.Disk.fault_count g.D.Disk.fuse_count g.A.Arm.fault_count c.args.settings (λ slot. (g.H.Shelf.disks c.args.shelf.now slot).drawn) c.open_parts.new.self k found.0
     (c.open_parts.ensures.settings ∙ c.assemble-cluster.ensures.settings) finds.new found.1 found.2 (returns-in-Ok-clause-drew g c tells)

@@ -166,8 +166,8 @@ returns-clause-opened g c =
       directory = subst (λ (st : Open g.row.D.Denot g.row.D-Piece.Denot g.row.A.Denot). OpensDirectory g.D.Disk.Tells g.D.Disk.files st.directory c.open_directory.new.directory c.in_ok-row_notes.row_notes) c.self.view_is c.in_ok-row_notes.ensures.opened;
     }
 
-pub open_volumes-requires-after_bounds : goal.open_volumes-requires-after_bounds
-open_volumes-requires-after_bounds g c = λ κs lives.
+pub open_volumes-requires : goal.open_volumes-requires
+open_volumes-requires g c =
     let value = c.as_mut_slice.ensures.value in
     let some : 0 < length c.as_mut_slice.result.now = omega (arith, c.as_mut_slice.ensures.len, c.self.inside.volumes.ok.0, c.self.invariant.many, c.self.invariant.built.some_volumes) in
     let closed : AllByRecursion IsClosed c.self.inside.volumes.items = subst (λ (st : Open g.row.D.Denot g.row.D-Piece.Denot g.row.A.Denot). AllByRecursion IsClosed st.volumes) (sym c.self.view_is) c.requires.closed in (

@@ -24,7 +24,7 @@ pub returns-in-Some-refusal-clause-counts : goal.returns-in-Some-refusal-clause-
 returns-in-Some-refusal-clause-counts g c = none_falls (map g.D.Disk.fault_count (disks_of c.args.self.now))
 
 pub put_tried-requires-clause-refused : goal.put_tried-requires-clause-refused
-put_tried-requires-clause-refused g c = λ κs lives refused is. c.find_taker.ensures.refused refused (c.in-Ok.is ∙ ap Ok is)
+put_tried-requires-clause-refused g c = λ refused is. c.find_taker.ensures.refused refused (c.in-Ok.is ∙ ap Ok is)
 
 pub returns-in-Err-clause-suits : goal.returns-in-Err-clause-suits
 returns-in-Err-clause-suits g c = inr (inr (inr (inr (inr (inr refl)))))

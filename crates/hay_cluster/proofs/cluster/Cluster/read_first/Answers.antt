@@ -34,15 +34,15 @@ offset_bounds-as_mut_slice-lane g c =
     let long = ap length c.as_mut_slice.ensures.value in
     scaled_Fits c.args.lane (length c.as_mut_slice.result.now) _ (omega (arith, inside, long)) c.as_mut_slice.type_inv.1
 
-pub look-front-requires-after_bounds : goal.look-front-requires-after_bounds
-look-front-requires-after_bounds g c = λ κs lives.
+pub look-front-requires : goal.look-front-requires
+look-front-requires g c =
     let within : c.args.volume < length c.self.inside.volumes.items = let same = ap (λ (st : Open g.row.D.Denot g.row.D-Piece.Denot g.row.A.Denot). (st.settings).volumes) c.self.view_is in omega (arith, c.requires.volume, c.self.invariant.many, same) in
     let long = ap length c.as_slice.ensures.value in
     let room = item_room (length c.as_slice.result.now) _ (let some : 0 < length c.as_slice.result.now = omega (arith, within, long) in some) c.as_slice.type_inv.1 in
     (room, looked_room _ _ (omega arith) (begin_room _ _ _ room))
 
-pub show-read-requires-after_bounds : goal.show-read-requires-after_bounds
-show-read-requires-after_bounds g c = λ κs lives.
+pub show-read-requires : goal.show-read-requires
+show-read-requires g c =
     let store : Open g.row.D.Denot g.row.D-Piece.Denot g.row.A.Denot = record { settings = c.self.inside.settings; directory = c.self.inside.directory; volumes = c.self.inside.volumes.items; arms = c.self.inside.seats.items } in
     let within : c.args.volume < length c.self.inside.volumes.items = let same = ap (λ (st : Open g.row.D.Denot g.row.D-Piece.Denot g.row.A.Denot). (st.settings).volumes) c.self.view_is in omega (arith, c.requires.volume, c.self.invariant.many, same) in
     let volume = c.index-as_slice-volume.result in

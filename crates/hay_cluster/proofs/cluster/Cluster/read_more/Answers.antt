@@ -35,15 +35,15 @@ offset_bounds-as_mut_slice-lane g c =
     let long = ap length c.as_mut_slice.ensures.value in
     scaled_Fits c.args.lane (length c.as_mut_slice.result.now) _ (omega (arith, inside, long)) c.as_mut_slice.type_inv.1
 
-pub look-row-requires-after_bounds : goal.look-row-requires-after_bounds
-look-row-requires-after_bounds g c = λ κs lives.
+pub look-row-requires : goal.look-row-requires
+look-row-requires g c =
     let within : c.args.volume < length c.self.inside.volumes.items = let same = ap (λ (st : Open g.row.D.Denot g.row.D-Piece.Denot g.row.A.Denot). (st.settings).volumes) c.self.view_is in omega (arith, c.requires.volume, c.self.invariant.many, same) in
     let long = ap length c.as_slice.ensures.value in
     let room = item_room (length c.as_slice.result.now) _ (let some : 0 < length c.as_slice.result.now = omega (arith, within, long) in some) c.as_slice.type_inv.1 in
     (room, looked_room _ _ (omega arith) (begin_room _ _ _ room))
 
-pub show_more-requires-after_bounds : goal.show_more-requires-after_bounds
-show_more-requires-after_bounds g c = λ κs lives.
+pub show_more-requires : goal.show_more-requires
+show_more-requires g c =
     let store : Open g.row.D.Denot g.row.D-Piece.Denot g.row.A.Denot = record { settings = c.self.inside.settings; directory = c.self.inside.directory; volumes = c.self.inside.volumes.items; arms = c.self.inside.seats.items } in
     let within : c.args.volume < length c.self.inside.volumes.items = let same = ap (λ (st : Open g.row.D.Denot g.row.D-Piece.Denot g.row.A.Denot). (st.settings).volumes) c.self.view_is in omega (arith, c.requires.volume, c.self.invariant.many, same) in
     let volume = c.index-as_slice-volume.result in

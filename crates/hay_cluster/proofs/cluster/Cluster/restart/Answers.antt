@@ -10,11 +10,11 @@ use Rattle.hay_cluster.proofs.Pending.{restart_tells, opened_fit, opened_settled
 use Rattle.hay_cluster.proofs.cluster.Cluster.restart.Goals as goal
 
 pub open_parts-requires-clause-closed : goal.open_parts-requires-clause-closed
-open_parts-requires-clause-closed g c = λ κs lives.
+open_parts-requires-clause-closed g c =
     stops_closed g.D.Disk.Tells g.D.Disk.files g.D.Piece.Piece.Tells g.D.Disk.fault_count g.D.Disk.fuse_count _ _ c.stop.ensures.volumes
 
 pub open_parts-requires-clause-idle : goal.open_parts-requires-clause-idle
-open_parts-requires-clause-idle g c = λ κs lives tells.
+open_parts-requires-clause-idle g c = λ tells.
     stops_idle g.D.Disk.Tells g.D.Disk.files g.D.Piece.Piece.Tells g.D.Disk.fault_count g.D.Disk.fuse_count tells _ _ c.stop.ensures.volumes
 
 pub returns-clause-reopened : goal.returns-clause-reopened

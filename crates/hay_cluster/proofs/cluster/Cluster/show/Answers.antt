@@ -26,7 +26,7 @@ pub returns-in_default-clause-arm_counts : goal.returns-in_default-clause-arm_co
 returns-in_default-clause-arm_counts g c = none_falls (map g.A.Arm.fault_count (c.args.self.now).arms)
 
 pub fetch-front-requires-clause-empty : goal.fetch-front-requires-clause-empty
-fetch-front-requires-clause-empty g c = λ κs lives. c.in-Ok.ensures.items
+fetch-front-requires-clause-empty g c = c.in-Ok.ensures.items
 
 pub fetch-front-requires-clause-room : goal.fetch-front-requires-clause-room
 fetch-front-requires-clause-room g c = omega (arith, c.in-Ok.ensures.exact)

@@ -51,8 +51,8 @@ returns-clause-volumes g c =
     subst (λ (st : Open g.row.D.Denot g.row.D-Piece.Denot g.row.A.Denot). AllZip (StopsVolume g.D.Disk.Tells g.D.Disk.files g.D.Piece.Piece.Tells g.D.Disk.fault_count g.D.Disk.fuse_count) st.volumes (take c.self.inside.volumes.len (vs ++ drop (length vs) items))) c.self.view_is
     (subst (λ (l : List (Volume g.row.D.Denot g.row.D-Piece.Denot)). AllZip (StopsVolume g.D.Disk.Tells g.D.Disk.files g.D.Piece.Piece.Tells g.D.Disk.fault_count g.D.Disk.fuse_count) items l) (sym whole) zipped)
 
-pub stop_volumes-requires-after_bounds : goal.stop_volumes-requires-after_bounds
-stop_volumes-requires-after_bounds g c = λ κs lives.
+pub stop_volumes-requires : goal.stop_volumes-requires
+stop_volumes-requires g c =
     let some : 0 < length c.as_mut_slice.result.now = omega (arith, c.as_mut_slice.ensures.len, c.self.inside.volumes.ok.0, c.self.invariant.many, c.self.invariant.built.some_volumes) in
     one_fits (length c.as_mut_slice.result.now) _ some c.as_mut_slice.type_inv.1
 

@@ -10,7 +10,7 @@ use Rattle.hay_compact.proofs.Finishes.{all_anew, files_apart, finished_of, read
 use Rattle.hay_compact.proofs.compactor.Compactor.finish.Goals as goal
 
 pub seal_all-requires-clause-ready : goal.seal_all-requires-clause-ready
-seal_all-requires-clause-ready g c κs within = λ tells.
+seal_all-requires-clause-ready g c = λ tells.
     let files = g.D.Disk.files in
     let s : Stage = record { generation = c.self.inside.generation; capacity = c.self.inside.capacity; volume = c.self.inside.volume; index = c.self.inside.index; standing = c.self.inside.standing; next = c.self.inside.next; bytes = c.self.inside.bytes.items } in
     let under = subst (λ (x : Stage). IsMaking (files c.args.disk.now) x) (sym c.self.view_is) (c.requires tells) in

@@ -22,7 +22,7 @@ returns-in_err-head-clause-whole g c = λ tells sup current fresh examined k cop
 
 pub returns-then-room-total_of-clause-whole : goal.returns-then-room-total_of-clause-whole
 returns-then-room-total_of-clause-whole g c = λ tells sup current fresh examined k copying is.
-    let fits = (g.met.D.Disk g.world.𝓛 g.world.𝓜 g.world.𝓡 ((λ s x. x), (λ x. x), (λ x. x), λ x. x)).fits c.args.disk.now c.args.old.now.file tells in
+    let fits = g.met.D.Disk.fits c.args.disk.now c.args.old.now.file tells in
     let next = has_next sup (g.D.Disk.files c.args.disk.now) c.args.old.now c.args.self.now current fresh examined c.self.inside.next copying (ap (λ (s : Stage). s.next) c.self.view_is)
     (λ all. true≢false (sym ((c.ready.ensures.all sup (g.D.Disk.files c.args.disk.now) current fresh examined copying).1 all) ∙ c.if-ready.false)) in
     let cell = c.in_ok-head.ensures.cell in

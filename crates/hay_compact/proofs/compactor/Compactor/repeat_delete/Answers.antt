@@ -11,7 +11,7 @@ returns-in_default-clause-repeated g c = λ tells sup old current fresh examined
     repeats_nothing sup (g.D.Disk.files c.args.disk.now) old c.args.self.now current fresh examined c.args.pair copying (ap (λ (x : Stage). last_in x.standing c.args.pair) (sym c.self.view_is) ∙ sym c.in_default.ensures.last)
 
 pub flag_loose-requires-clause-stands : goal.flag_loose-requires-clause-stands
-flag_loose-requires-clause-stands g c κs within = λ tells.
+flag_loose-requires-clause-stands g c = λ tells.
     let s : Stage = record { generation = c.self.inside.generation; capacity = c.self.inside.capacity; volume = c.self.inside.volume; index = c.self.inside.index; standing = c.self.inside.standing; next = c.self.inside.next; bytes = c.self.inside.bytes.items } in
     making_flag_stands (g.D.Disk.files c.args.disk.now) s c.in-Some.last c.args.pair (subst (λ (x : Stage). IsMaking (g.D.Disk.files c.args.disk.now) x) (sym c.self.view_is) (c.requires tells)) (sym c.in-Some.ensures.last)
 

@@ -22,7 +22,7 @@ invariant_of-self-in-Ok-settle_row g c =
       long = c.self.invariant.long;
       undrained = c.self.invariant.undrained;
       stands = λ tells up.
-          let fits = (g.met.D.Disk g.world.𝓛 g.world.𝓜 g.world.𝓡 ((λ s x. x), (λ x. x), (λ x. x), λ x. x)).fits was.disk 0 tells in
+          let fits = g.met.D.Disk.fits was.disk 0 tells in
           let old = c.self.invariant.stands tells (ap is_closed serves) in
           let moved : c.settle_row.new.self.end ≡ was.journal.end + 24 = ap (λ (j : Journal). j.end) (done.moved tells) in (
             with_row old.0 (home_row row),
@@ -61,7 +61,7 @@ returns-in-Ok-settle_row-clause-settled g c = λ tells known drained stands.
     let serves : was.mode ≡ Open = ap (λ (d : State _). d.mode) c.self.view_is ∙ c.requires.serves in
     let below : row.volume < was.settings.volumes = subst (λ (d : State _). row.volume < d.settings.volumes) (sym c.self.view_is) c.requires.volume in
     let homeless : home_among was.homes row.pair ≡ None = ap (λ (d : State _). home_among d.homes row.pair) c.self.view_is ∙ c.requires.homeless in
-    let fits = (g.met.D.Disk g.world.𝓛 g.world.𝓜 g.world.𝓡 ((λ s x. x), (λ x. x), (λ x. x), λ x. x)).fits was.disk 0 tells in
+    let fits = g.met.D.Disk.fits was.disk 0 tells in
     let s = subst (λ (d : State _). Stands files d known drained) (sym c.self.view_is) stands in
     let moved : c.settle_row.new.self.end ≡ was.journal.end + 24 = ap (λ (j : Journal). j.end) (done.moved tells) in
     stands_added files _ _ known drained (home_row row) s serves serves refl refl below homeless c.in-Ok.ensures.ok

@@ -9,7 +9,7 @@ returns-in_err-gate_append-clause-left g c = λ tells superblock volumes rows im
 
 pub returns-clause-moved : goal.returns-clause-moved
 returns-clause-moved g c = λ tells.
-    let fits = (g.met.D.Disk g.world.𝓛 g.world.𝓜 g.world.𝓡 ((λ s x. x), (λ x. x), (λ x. x), λ x. x)).fits c.gate_append.new.disk 0 tells in
+    let fits = g.met.D.Disk.fits c.gate_append.new.disk 0 tells in
     let place : c.saturating_add-self.result ≡ c.args.self.now.end + 24 = next_place c.args.self.now.end c.saturating_add-self.result c.row_body.result c.args.row (g.D.Disk.files c.gate_append.new.disk 0) c.row_body.ensures.bytes (c.in_ok-gate_append.ensures.next tells (lit< tt)) fits c.saturating_add-self.ensures in
     let with : ℕ → Journal = λ k. record { end = k } in
     ap with place
@@ -20,7 +20,7 @@ returns-clause-added g c = λ tells superblock volumes rows below ends is.
 
 pub returns-clause-next : goal.returns-clause-next
 returns-clause-next g c = λ tells.
-    let fits = (g.met.D.Disk g.world.𝓛 g.world.𝓜 g.world.𝓡 ((λ s x. x), (λ x. x), (λ x. x), λ x. x)).fits c.gate_append.new.disk 0 tells in
+    let fits = g.met.D.Disk.fits c.gate_append.new.disk 0 tells in
     let gate = c.in_ok-gate_append.ensures.next tells (lit< tt) in
     let place : c.saturating_add-self.result ≡ c.args.self.now.end + 24 = next_place c.args.self.now.end c.saturating_add-self.result c.row_body.result c.args.row (g.D.Disk.files c.gate_append.new.disk 0) c.row_body.ensures.bytes gate fits c.saturating_add-self.ensures in
     next_gate c.args.self.now.end c.saturating_add-self.result c.row_body.result c.args.row (g.D.Disk.files c.gate_append.new.disk 0) c.row_body.ensures.bytes place gate

@@ -3,8 +3,8 @@ use Rattle.hay_head.proofs.BlockLaws.{block_begins}
 use Rattle.hay_head.specs.Blocks.{IsBlock}
 use Rattle.hay_head.proofs.blocks.BlockReader.reach.Goals as goal
 
-pub fill-requires-after_bounds : goal.fill-requires-after_bounds
-fill-requires-after_bounds g c κs within = λ tells.
+pub fill-requires : goal.fill-requires
+fill-requires g c = λ tells.
     let old = c.args.self.now in
     let new = c.begin_at.new.self in
     let files = g.D.Disk.files c.args.disk.now in

@@ -14,7 +14,7 @@ returns-in_err-body-clause-left g c = λ tells superblock records image is row s
     inl (index_kept _ _ _ _ _ (c.requires.gate tells) is solid leaves)
 
 pub gate_append-requires-clause-mark : goal.gate_append-requires-clause-mark
-gate_append-requires-clause-mark g c κs within =
+gate_append-requires-clause-mark g c =
     ends_in_mark c.as_slice.result.now c.as_slice-2.result.now (c.as_slice-2.ensures.value ∙ c.in_ok-body.ensures.bytes)
 
 -- the append was begun
@@ -46,7 +46,7 @@ pub returns-clause-added : goal.returns-clause-added
 returns-clause-added g c = λ tells superblock records is row.
     let made : c.as_slice-2.result.now ≡ block_rest c.args.self.now.pending ++ end_mark = c.as_slice-2.ensures.value ∙ c.in_ok-body.ensures.bytes ∙ ap (λ l. block_rest l ++ end_mark) c.as_slice.ensures in
     let one : IsBlock c.args.self.now.pending = record { some = some_there _ _ c.if-is_empty.false c.is_empty.ensures; fit = subst (λ l. All RecordFits l) c.as_slice.ensures c.in_ok-body.ensures.fit } in
-    let fits = (g.met.D.Disk g.world.𝓛 g.world.𝓜 g.world.𝓡 ((λ s x. x), (λ x. x), (λ x. x), λ x. x)).fits c.gate_append.new.disk c.args.self.now.file tells in
+    let fits = g.met.D.Disk.fits c.gate_append.new.disk c.args.self.now.file tells in
     let room = (c.in_default.ensures.next tells (lit< tt)).closed.room in
     let long : length c.as_slice-2.result.now ≡ c.len.result = omega (arith, ap length c.as_slice-2.ensures.value, c.in_ok-body.body.ok.0, c.len.ensures) in
     let end = c.flushed.ensures.end (omega (arith, room, fits, long)) in
@@ -55,7 +55,7 @@ returns-clause-added g c = λ tells superblock records is row.
 
 pub returns-clause-next : goal.returns-clause-next
 returns-clause-next g c = λ tells.
-    let fits = (g.met.D.Disk g.world.𝓛 g.world.𝓜 g.world.𝓡 ((λ s x. x), (λ x. x), (λ x. x), λ x. x)).fits c.gate_append.new.disk c.args.self.now.file tells in
+    let fits = g.met.D.Disk.fits c.gate_append.new.disk c.args.self.now.file tells in
     let room = (c.in_default.ensures.next tells (lit< tt)).closed.room in
     let long : length c.as_slice-2.result.now ≡ c.len.result = omega (arith, ap length c.as_slice-2.ensures.value, c.in_ok-body.body.ok.0, c.len.ensures) in
     let end = c.flushed.ensures.end (omega (arith, room, fits, long)) in

@@ -25,7 +25,7 @@ returns-clause-added g c = λ tells superblock records is row.
     let bytes = c.as_slice-2.result.now in
     let made : bytes ≡ record_of index_magic (block_rest block ++ end_mark) = c.as_slice-2.ensures.value ∙ c.in_ok-block.ensures.bytes ∙ ap (λ l. record_of index_magic (block_rest l ++ end_mark)) c.as_slice.ensures in
     let one : IsBlock block = record { some = some_there c.is_empty.result block c.if-is_empty.false c.is_empty.ensures; fit = subst (λ l. All RecordFits l) c.as_slice.ensures c.in_ok-block.ensures.fit } in
-    let fits = (g.met.D.Disk g.world.𝓛 g.world.𝓜 g.world.𝓡 ((λ s x. x), (λ x. x), (λ x. x), λ x. x)).fits c.write.new.self c.args.self.now.file tells in
+    let fits = g.met.D.Disk.fits c.write.new.self c.args.self.now.file tells in
     let written = c.in_default.ensures.written tells in
     let room = written_long c.args.self.now.end bytes (g.D.Disk.files c.args.disk.now c.args.self.now.file).now (g.D.Disk.files c.write.new.self c.args.self.now.file).now (c.requires.inside tells) written in
     let long : length bytes ≡ c.len.result = omega (arith, ap length c.as_slice-2.ensures.value, c.in_ok-block.block.ok.0, c.len.ensures) in

@@ -31,14 +31,14 @@ machine_of-machine-requires-clause-within g c =
     omega (arith, most, within)
 
 pub begin_at-requires-clause-within : goal.begin_at-requires-clause-within
-begin_at-requires-clause-within g c = λ κs lives.
+begin_at-requires-clause-within g c =
     let within : c.args.replica < c.self.inside.settings.replicas = subst (λ v. c.args.replica < v.settings.replicas) (sym c.self.view_is) c.requires.within in
     let all : length c.self.inside.replicas.items ≡ c.self.inside.settings.replicas = ap (λ v. length v.replicas) c.self.view_is ∙ c.requires.«open».all ∙ ap (λ v. v.settings.replicas) (sym c.self.view_is) in
     let long = ap length c.as_mut_slice.ensures.value in
     omega (arith, within, all, long)
 
 pub begin_at-requires-clause-up : goal.begin_at-requires-clause-up
-begin_at-requires-clause-up g c = λ κs lives.
+begin_at-requires-clause-up g c =
     let thawed = not_some c.self.inside.frozen c.in_default.not-Some in
     let up : (j : ℕ) (r : Copy g.row.D.Denot) → At c.self.inside.replicas.items j r → IsUp r =
     λ j r e. open_up r (c.requires.«open».each j r (subst (λ v. At v.replicas j r) c.self.view_is e)) ((c.self.invariant.0).thawed thawed j r e) in

@@ -25,8 +25,8 @@ pub returns-in-Some-clause-refused : goal.returns-in-Some-clause-refused
 unfolding Stands
 returns-in-Some-clause-refused g c = λ tells k stands. (stands.frozen ∙ ap (λ v. v.frozen) (sym c.self.view_is) ∙ c.in-Some.is, refl)
 
-pub compact_at-requires-after_bounds : goal.compact_at-requires-after_bounds
-compact_at-requires-after_bounds g c = λ κs lives.
+pub compact_at-requires : goal.compact_at-requires
+compact_at-requires g c =
     let now = c.as_mut_slice.ensures.value in
     let thawed = not_some c.self.inside.frozen c.in_default.not-Some in
     let up : (j : ℕ) (r : Copy g.row.D.Denot) → At c.self.inside.replicas.items j r → IsUp r =

@@ -39,8 +39,8 @@ pub returns-in_default-clause-refused : goal.returns-in_default-clause-refused
 unfolding Stands
 returns-in_default-clause-refused g c = λ tells k stands. (stands.frozen ∙ c.requires.thawed, stands)
 
-pub delete_each-requires-after_bounds : goal.delete_each-requires-after_bounds
-delete_each-requires-after_bounds g c = λ κs lives.
+pub delete_each-requires : goal.delete_each-requires
+delete_each-requires g c =
     let now = c.as_mut_slice.ensures.value in
     let thawed = ap (λ v. v.frozen) c.self.view_is ∙ c.requires.thawed in
     let up : (j : ℕ) (r : Copy g.row.D.Denot) → At c.self.inside.replicas.items j r → IsUp r =

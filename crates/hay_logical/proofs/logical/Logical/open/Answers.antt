@@ -18,8 +18,8 @@ use Rattle.hay_logical.proofs.Standing.{volume_with}
 use Rattle.hay_logical.proofs.Freezing.{never_frozen}
 use Rattle.hay_logical.proofs.logical.Logical.open.Goals as goal
 
-pub open_all-requires-after_bounds : goal.open_all-requires-after_bounds
-open_all-requires-after_bounds g c = λ κs within. (
+pub open_all-requires : goal.open_all-requires
+open_all-requires g c = (
   search rules,
   (
       let now = c.as_mut_slice.ensures.value in
@@ -46,8 +46,8 @@ open_all-requires-after_bounds g c = λ κs within. (
       ),
 )
 
-pub notes_of-requires-after_bounds : goal.notes_of-requires-after_bounds
-notes_of-requires-after_bounds g c = λ κs within. (
+pub notes_of-requires : goal.notes_of-requires
+notes_of-requires g c = (
   omega arith,
   (
       let now = c.as_mut_slice.ensures.value in

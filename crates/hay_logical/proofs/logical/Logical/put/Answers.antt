@@ -30,8 +30,8 @@ use Rattle.hay_logical.specs.Notes.{PutLeavesUnsure}
 use Rattle.hay_logical.proofs.Freezing.{frozen_refusal}
 use Rattle.hay_logical.proofs.logical.Logical.put.Goals as goal
 
-pub put_each-requires-after_bounds : goal.put_each-requires-after_bounds
-put_each-requires-after_bounds g c = λ κs lives.
+pub put_each-requires : goal.put_each-requires
+put_each-requires g c =
     let now = c.as_mut_slice.ensures.value in
     let thawed : c.self.inside.frozen ≡ None = ap (λ v. v.frozen) c.self.view_is ∙ c.in_ok-room.ensures.fits.0 in
     let up : (j : ℕ) (r : Copy g.row.D.Denot) → At c.self.inside.replicas.items j r → IsUp r =
@@ -53,14 +53,14 @@ put_each-requires-after_bounds g c = λ κs lives.
     )
 
 pub ends_of-ends-requires-clause-most : goal.ends_of-ends-requires-clause-most
-ends_of-ends-requires-clause-most g c = λ κs lives.
+ends_of-ends-requires-clause-most g c =
     let most = (c.self.invariant.0).settings.most in
     let few = (c.self.invariant.0).count in
     let long = ap length c.as_slice.ensures.value in
     omega (arith, most, few, long)
 
 pub ends_of-ends-requires-clause-open : goal.ends_of-ends-requires-clause-open
-ends_of-ends-requires-clause-open g c = λ κs lives j r e. c.requires.«open».each j r (subst (λ v. At v.replicas j r) c.self.view_is (subst (λ xs. At xs j r) c.as_slice.ensures.value e))
+ends_of-ends-requires-clause-open g c = λ j r e. c.requires.«open».each j r (subst (λ v. At v.replicas j r) c.self.view_is (subst (λ xs. At xs j r) c.as_slice.ensures.value e))
 
 pub returns-in_err-room-clause-refused : goal.returns-in_err-room-clause-refused
 returns-in_err-room-clause-refused g c = λ tells k stands.
@@ -106,8 +106,8 @@ returns-then-is_err-clause-counts g c =
     subst (λ xs. KeepsCounts g.D.Disk.fault_count g.D.Disk.fuse_count xs c.self.inside.replicas.items) (ap (λ v. v.replicas) c.self.view_is)
     (keeps_counts g.D.Disk.fault_count g.D.Disk.fuse_count c.self.inside.replicas.items c.self.inside.replicas.items refl (λ j r r' e f. counted_same g.D.Disk.fault_count g.D.Disk.fuse_count r r' (at_same c.self.inside.replicas.items j r' r f e)))
 
-pub give_row-requires-after_bounds : goal.give_row-requires-after_bounds
-give_row-requires-after_bounds g c κs within =
+pub give_row-requires : goal.give_row-requires
+give_row-requires g c =
     let long : length c.in-Ok.row ≡ c.reserve.new.self.replicas =
     c.in-Ok.ensures.places ∙ ap length c.as_mut_slice.ensures.value ∙ ap (λ v. length v.replicas) c.self.view_is ∙ c.requires.«open».all ∙ ap (λ v. v.settings.replicas) (sym c.self.view_is)
     ∙ sym (c.self.invariant.0).width ∙ sym c.reserve.ensures.rows.replicas in
@@ -135,8 +135,8 @@ invariant_of-self-in-Ok g c =
           (λ j r r' e f tells. let put = each j r r' e f in (put.deletable tells, seen_sees g.D.Disk.files r' (place_in c.in-Ok.row j) put.seen, seen_apart (place_in c.in-Ok.row j) put.seen, put.apart tells))),
     )
 
-pub is_untouched-requires-after_bounds : goal.is_untouched-requires-after_bounds
-is_untouched-requires-after_bounds g c = λ κs lives.
+pub is_untouched-requires : goal.is_untouched-requires
+is_untouched-requires g c =
     let now = c.as_mut_slice.ensures.value in
     let kept = with_items_is c.self.inside.replicas c.put_each.new.replicas (c.put_each.auto.replicas ∙ c.as_mut_slice.ensures.len) in
     let below = at_below c.put_each.new.replicas c.in-Err.broken.at c.in-Err.ensures.broken.after c.in-Err.ensures.broken.is in

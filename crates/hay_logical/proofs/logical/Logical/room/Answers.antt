@@ -28,14 +28,14 @@ returns-in-Some-clause-frozen g c = λ m e.
     cc
 
 pub room_in-requires-clause-most : goal.room_in-requires-clause-most
-room_in-requires-clause-most g c = λ κs within.
+room_in-requires-clause-most g c =
     let e = ap length c.as_slice.ensures.value in
     let n = (c.self.invariant.0).count in
     let m = ((c.self.invariant.0).settings).most in
     omega (arith, e, n, m)
 
 pub room_in-requires-clause-open : goal.room_in-requires-clause-open
-room_in-requires-clause-open g c = λ κs within j r e.
+room_in-requires-clause-open g c = λ j r e.
     c.requires.«open».each j r (subst (λ (v : Volume g.row.D.Denot g.row.D-Piece.Denot). At v.replicas j r) c.self.view_is (subst (λ xs. At xs j r) c.as_slice.ensures.value e))
 
 pub returns-in_default-room_in-clause-known : goal.returns-in_default-room_in-clause-known

@@ -13,8 +13,8 @@ loop-replica-init g c = record {
   seen = λ j h. let wrong : ⊥ = omega (arith, h) in absurd wrong;
 }
 
-pub see_in-requires-after_bounds : goal.see_in-requires-after_bounds
-see_in-requires-after_bounds g c κs within =
+pub see_in-requires : goal.see_in-requires
+see_in-requires g c =
     let below : c.loop-replica.replica < c.loop-replica.self.settings.replicas =
     subst (λ s. c.loop-replica.replica < s.replicas) (ap (λ v. v.settings) c.self.view_is ∙ sym c.loop-replica.invariant.kept.same.settings) c.loop-replica-test.true in
     (search rules, (below, c.loop-replica.invariant.kept.«open»))

@@ -30,8 +30,8 @@ machine_of-machine-requires-clause-within g c =
     let within : c.args.replica < c.self.inside.settings.replicas = subst (λ v. c.args.replica < v.settings.replicas) (sym c.self.view_is) c.requires.within in
     omega (arith, most, within)
 
-pub see_at-requires-after_bounds : goal.see_at-requires-after_bounds
-see_at-requires-after_bounds g c = λ κs lives.
+pub see_at-requires : goal.see_at-requires
+see_at-requires g c =
     let now = c.as_mut_slice.ensures.value in
     let all : length c.self.inside.replicas.items ≡ c.self.inside.settings.replicas = ap (λ v. length v.replicas) c.self.view_is ∙ c.requires.«open».all ∙ ap (λ v. v.settings.replicas) (sym c.self.view_is) in
     let within : c.args.replica < c.self.inside.settings.replicas = subst (λ v. c.args.replica < v.settings.replicas) (sym c.self.view_is) c.requires.within in

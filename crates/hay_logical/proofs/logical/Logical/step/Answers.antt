@@ -38,8 +38,8 @@ returns-then-is_none-clause-refused g c = λ tells k stands. (
   refl,
 )
 
-pub step_at-requires-after_bounds : goal.step_at-requires-after_bounds
-step_at-requires-after_bounds g c = λ κs lives.
+pub step_at-requires : goal.step_at-requires
+step_at-requires g c =
     let now = c.as_mut_slice.ensures.value in
     let thawed = not_some c.self.inside.frozen c.in_default.not-Some in
     let up : (j : ℕ) (r : Copy g.row.D.Denot) → At c.self.inside.replicas.items j r → IsUp r =

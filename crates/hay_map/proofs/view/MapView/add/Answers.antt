@@ -19,8 +19,8 @@ returns-in_err-reserve-clause-memory g c =
       | inr room ↦ absurd (false≢true (c.in_err-reserve.ensures.enough room))
     ]
 
-pub push_none-requires-after_bounds : goal.push_none-requires-after_bounds
-push_none-requires-after_bounds g c κs within =
+pub push_none-requires : goal.push_none-requires
+push_none-requires g c =
     let room = room_spare _ (c.in_ok-reserve.ensures.room) in
     let spare = ap (λ (rows : MapRows _). rows.spare_places) c.self.view_is in
     let replicas = ap (λ (rows : MapRows _). rows.replicas) c.self.view_is in

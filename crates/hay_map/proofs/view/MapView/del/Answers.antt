@@ -7,8 +7,8 @@ use Rattle.hay_map.proofs.RowLaws.{has_row_is, unknown_none, row_blank}
 use Rattle.hay_map.proofs.Changes.{del_changes, del_nothing}
 use Rattle.hay_map.proofs.view.MapView.del.Goals as goal
 
-pub set_row-requires-after_bounds : goal.set_row-requires-after_bounds
-set_row-requires-after_bounds g c κs within =
+pub set_row-requires : goal.set_row-requires
+set_row-requires g c =
     let known : has_row c.args.self.now c.args.pair ≡ true = has_row_is c.args.self.now c.args.pair ∙ sym (ap is_some c.offset.ensures) ∙ sym c.is_some.ensures ∙ c.if-is_some.true in
     let long : length c.gone-row.result ≡ c.args.self.now.replicas = ap length c.gone-row.ensures ∙ length-map c.row.result gone_place ∙ c.row.ensures.long in
     (search rules, (search rules, (known, long)))

@@ -2,8 +2,8 @@ use Rattle.std.proofs.Common.{rules, sym, ◌∙◌}
 use Rattle.hay_map.proofs.Moving.{moves_nothing, moves_set, stood_known}
 use Rattle.hay_map.proofs.view.MapView.move_place.Goals as goal
 
-pub set_place-requires-after_bounds : goal.set_place-requires-after_bounds
-set_place-requires-after_bounds g c κs within =
+pub set_place-requires : goal.set_place-requires
+set_place-requires g c =
     (search rules, (stood_known c.args.self.now c.args.pair c.args.replica c.requires (sym c.has_place.ensures ∙ c.if-has_place.true), c.requires))
 
 pub returns-then-has_place : goal.returns-then-has_place

@@ -4,8 +4,8 @@ use Rattle.hay_map.specs.Rows.{row_at}
 use Rattle.hay_map.proofs.RowLaws.{row_some, row_blank, row_long}
 use Rattle.hay_map.proofs.view.MapView.row.Goals as goal
 
-pub part-requires-after_bounds : goal.part-requires-after_bounds
-part-requires-after_bounds g c κs bounds =
+pub part-requires : goal.part-requires
+part-requires g c =
     let inside = c.self.invariant.inside c.args.pair c.in-Some.at (ap (λ (rows : MapRows _). offset_of rows c.args.pair) c.self.view_is ∙ sym c.in-Some.ensures) in
     let long : length c.as_slice.result.now ≡ length c.self.inside.places.items = ap length c.as_slice.ensures.value in
     let few : c.self.inside.replicas ≤ 4 = c.self.invariant.most in

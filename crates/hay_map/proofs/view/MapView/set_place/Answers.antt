@@ -10,8 +10,8 @@ overflow_add-at g c =
     let few = ap (λ (rows : MapRows _). rows.replicas) c.self.view_is in
     omega arith
 
-pub set_at-requires-after_bounds : goal.set_at-requires-after_bounds
-set_at-requires-after_bounds g c κs within =
+pub set_at-requires : goal.set_at-requires
+set_at-requires g c =
     let inside = c.self.invariant.inside c.args.pair c.in-Some.at (ap (λ (rows : MapRows _). offset_of rows c.args.pair) c.self.view_is ∙ sym c.in-Some.ensures) in
     let few = ap (λ (rows : MapRows _). rows.replicas) c.self.view_is in
     let long : length c.as_mut_slice.result.now ≡ length c.self.inside.places.items = ap length c.as_mut_slice.ensures.value in

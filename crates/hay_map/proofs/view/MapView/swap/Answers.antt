@@ -2,8 +2,8 @@ use Rattle.std.proofs.Common.{rules, arith, ◌<◌}
 use Rattle.hay_map.proofs.Moving.{left_long, swap_changes}
 use Rattle.hay_map.proofs.view.MapView.swap.Goals as goal
 
-pub move_all-requires-after_bounds : goal.move_all-requires-after_bounds
-move_all-requires-after_bounds g c κs within =
+pub move_all-requires : goal.move_all-requires
+move_all-requires g c =
     let replica : c.args.replica < c.leave_replica.new.self.replicas = omega (arith, c.requires, c.leave_replica.ensures.replicas) in
     (search rules, (replica, left_long _ _ _ c.leave_replica.ensures))
 

@@ -17,7 +17,7 @@ use Rattle.hay_physical.proofs.Views.{by_result, files_flag, files_going, files_
 use Rattle.hay_physical.proofs.replica.Replica.cell.Goals as goal
 
 pub cell-requires-clause-may : goal.cell-requires-clause-may
-cell-requires-clause-may g c κs within = λ tells.
+cell-requires-clause-may g c = λ tells.
     let was = c.self.inside in
     files_look g.D.Disk.files c.args.self.now was.sup was.disk was.phase c.in-Open.files c.args.at c.args.size c.self.view_is c.in-Open.is (c.requires.see tells)
 

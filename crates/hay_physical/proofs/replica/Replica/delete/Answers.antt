@@ -16,13 +16,13 @@ use Rattle.hay_physical.proofs.Sights.{range_apart}
 use Rattle.hay_physical.proofs.replica.Replica.delete.Goals as goal
 
 pub delete-requires-clause-flag : goal.delete-requires-clause-flag
-delete-requires-clause-flag g c κs within = λ tells going.
+delete-requires-clause-flag g c = λ tells going.
     let was = c.self.inside in
     let may = c.requires.flag tells (files_up c.args.self.now was.sup was.disk was.phase c.in-Open.files c.self.view_is c.in-Open.is going) in
     files_flag g.D.Disk.files c.args.self.now was.sup was.disk was.phase c.in-Open.files c.args.at c.self.view_is c.in-Open.is may
 
 pub repeat_delete-requires-clause-making : goal.repeat_delete-requires-clause-making
-repeat_delete-requires-clause-making g c κs within = λ tells.
+repeat_delete-requires-clause-making g c = λ tells.
     let files = g.D.Disk.files in
     let was = c.self.inside in
     let opened = c.in-Open.files in

@@ -18,7 +18,7 @@ pub returns-in_err-head-clause-left : goal.returns-in_err-head-clause-left
 returns-in_err-head-clause-left g c = λ tells stuck s t holds.
     let files = g.D.Disk.files in
     let was = c.self.inside in
-    let left = (g.met.D.Disk g.world.𝓛 g.world.𝓜 g.world.𝓡 ((λ s x. x), (λ x. x), (λ x. x), λ x. x)).may_leave_now was.disk in
+    let left = g.met.D.Disk.may_leave_now was.disk in
     let finds = disk_finds files c.args.self.now (record { sup = was.sup; disk = was.disk; phase = was.phase }) stuck s t c.self.view_is holds in
     let void = finds_not_void was.sup (files was.disk) stuck s t (λ n. left n tells) finds in
     on_any c.from_residual.result _ (finds_kept was.sup (files was.disk) (files c.open_replica.new.disk) stuck s t (λ n. left n tells) (c.in_err-head.ensures.kept tells void) (c.in_err-head.ensures.stays tells void) finds)
@@ -40,7 +40,7 @@ pub returns-in_err-head-clause-whole : goal.returns-in_err-head-clause-whole
 returns-in_err-head-clause-whole g c = λ tells stuck s t holds file at is.
     let files = g.D.Disk.files in
     let was = c.self.inside in
-    let left = (g.met.D.Disk g.world.𝓛 g.world.𝓜 g.world.𝓡 ((λ s x. x), (λ x. x), (λ x. x), λ x. x)).may_leave_now was.disk in
+    let left = g.met.D.Disk.may_leave_now was.disk in
     let finds = disk_finds files c.args.self.now (record { sup = was.sup; disk = was.disk; phase = was.phase }) stuck s t c.self.view_is holds in
     let f = finds_now was.sup (files was.disk) stuck s t (λ n. left n tells) finds in
     let fault = err_from_is_err_and c.from_residual.result c.from_residual.ensures.1 in
@@ -68,7 +68,7 @@ returns-clause-reopened g c = λ tells stuck s t holds.
     let files = g.D.Disk.files in
     let was = c.self.inside in
     let done = c.in_ok-head.ensures in
-    let left = (g.met.D.Disk g.world.𝓛 g.world.𝓜 g.world.𝓡 ((λ s x. x), (λ x. x), (λ x. x), λ x. x)).may_leave_now was.disk in
+    let left = g.met.D.Disk.may_leave_now was.disk in
     let finds = disk_finds files c.args.self.now (record { sup = was.sup; disk = was.disk; phase = was.phase }) stuck s t c.self.view_is holds in
     let f = finds_now was.sup (files was.disk) stuck s t (λ n. left n tells) finds in
     let here = finds_opens was.sup _ stuck s t f in (

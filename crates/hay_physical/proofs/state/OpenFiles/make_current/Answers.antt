@@ -16,7 +16,7 @@ use Rattle.hay_physical.proofs.Views.{if_ok_so}
 use Rattle.hay_physical.proofs.state.OpenFiles.make_current.Goals as goal
 
 pub swap-requires-clause-gate : goal.swap-requires-clause-gate
-swap-requires-clause-gate g c κs within = λ tells.
+swap-requires-clause-gate g c = λ tells.
     let same : g.D.Disk.files c.finish.new.disk 0 ≡ g.D.Disk.files c.args.disk.now 0 = c.finish.ensures.others tells 0 (λ e. omega arith) (λ e. omega arith) in
     subst (λ (f : FileState). IsGate head_magic (row_place (c.args.self.now.head.generation + 1)) f) (sym same) (c.requires.ready tells).head
 

@@ -9,8 +9,8 @@ returns-in_default-clause-damaged g c = λ tells is n begins.
     let seen = front_seen c.args.at c.in_ok-got.got (replicate 36 0) c.read_into.new.out (g.D.Disk.files c.args.disk.now c.args.self.now.file).now refl (c.in_ok-got.ensures.count tells) (c.in_ok-got.ensures.bytes tells) in
     c.in_default.ensures.only (head_of_needle n) (head_seen (take c.in_ok-got.got c.read_into.new.out) (drop c.args.at (g.D.Disk.files c.args.disk.now c.args.self.now.file).now) n seen begins)
 
-pub read_rest-requires-after_bounds : goal.read_rest-requires-after_bounds
-read_rest-requires-after_bounds g c κs within =
+pub read_rest-requires : goal.read_rest-requires
+read_rest-requires g c =
     head_whole c.in_ok-got.got c.read_into.new.out c.clear.new.self.items c.extend_from_slice.new.self.items (head_of_cell c.in-Ok.head)
     c.read_into.auto.out c.clear.ensures.items c.in_ok-extend_from_slice.ensures.items c.in-Ok.ensures.found
 

@@ -15,7 +15,7 @@ returns-in_err-head-clause-damaged g c = λ tells k is.
 
 pub returns-in_default-checked_add-clause-damaged : goal.returns-in_default-checked_add-clause-damaged
 returns-in_default-checked_add-clause-damaged g c = λ tells k is.
-    let fits = (g.met.D.Disk g.world.𝓛 g.world.𝓜 g.world.𝓡 ((λ s x. x), (λ x. x), (λ x. x), λ x. x)).fits c.cells.disk c.args.self.now.file tells in
+    let fits = g.met.D.Disk.fits c.cells.disk c.args.self.now.file tells in
     let cell = found c.in_ok-head.field-0 c.in-Some.head (λ head. (cell : Cell) × StandsCell c.cells.end (g.D.Disk.files c.cells.disk c.args.self.now.file).now cell × (head ≡ cell_head cell)) c.in-Some.is (c.in_ok-head.ensures.cell tells) in
     let within : c.cells.end + needle_total c.in-Some.head.size < 2 ^ 64 = cell_within c.cells.end (g.D.Disk.files c.cells.disk c.args.self.now.file).now cell.0 c.in-Some.head cell.1 cell.2 fits in
     let beyond = c.in_default-checked_add.ensures in
