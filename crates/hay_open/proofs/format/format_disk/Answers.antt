@@ -10,8 +10,8 @@ use Rattle.hay_open.proofs.Formatting.{Frames, frames, all_solid, fresh_head, fr
 use Rattle.hay_open.proofs.Undamaged.{fresh_undamaged}
 use Rattle.hay_open.proofs.format.format_disk.Goals as goal
 
-pub format-requires-3-after_bounds : goal.format-requires-3-after_bounds
-format-requires-3-after_bounds g c = λ tells k from to.
+pub format-requires-3 : goal.format-requires-3
+format-requires-3 g c = λ tells k from to.
     let f = g.D.Disk.files in
     let v : c.volume_file-volume_number.result ≡ 1 = c.volume_file-volume_number.ensures (omega arith) in
     let x : c.index_file-index_number.result ≡ 2 = c.index_file-index_number.ensures (omega arith) in
