@@ -16,10 +16,12 @@ use Rattle.hay_physical.proofs.Sights.{range_sealed}
 use Rattle.hay_physical.proofs.Views.{by_result, files_flag, files_going, files_stand, if_ok, if_ok_so, on_err_so, open_deletes, open_stands}
 use Rattle.hay_physical.proofs.replica.Replica.cell.Goals as goal
 
-pub cell-requires-clause-may : goal.cell-requires-clause-may
-cell-requires-clause-may g c = λ tells.
-    let was = c.self.inside in
-    files_look g.D.Disk.files c.args.self.now was.sup was.disk was.phase c.in-Open.files c.args.at c.args.size c.self.view_is c.in-Open.is (c.requires.see tells)
+pub cell-requires : goal.cell-requires
+cell-requires g c = record {
+  may = λ tells.
+      let was = c.self.inside in
+      files_look g.D.Disk.files c.args.self.now was.sup was.disk was.phase c.in-Open.files c.args.at c.args.size c.self.view_is c.in-Open.is (c.requires.see tells)
+}
 
 pub invariant_of-self : goal.invariant_of-self
 invariant_of-self g c =
