@@ -242,7 +242,7 @@ def limits():
     return found | {name: numbers[2] for name, numbers in ranges.items()} | {"hex_digits": 2 * found["photo"]}
 
 
-# where each limit is told: by file the texts that have it, in which line ends count as spaces
+# where each limit is told in words: by file the texts that have it, in which line ends count as spaces
 LIMITS = {
     "README.md": ("up to {volumes} volumes, each of up to {replicas} replicas, on up to {machines} machines",),
     "CHANGELOG.md": (
@@ -308,6 +308,18 @@ LIMITS = {
     "examples/photo/put-photo": ("largest={photo} ",),
     "examples/album/album": ("LARGEST = {photo:_} ",),
     "bench/check.py": ("or row > {generation}:",),
+    "crates/hay_cli/src/lib.rt": (
+        "| `machines` | 1 to {machines} |",
+        "| `volumes` | 1 to {volumes} |",
+        "| `replicas` | 1 to {replicas}",
+        "| `capacity` | {least:,} to {capacity:,} bytes | {usual:,} |",
+        "| `secret` | {secret} hexadecimal digits",
+        "A number is 1 to {digits} decimal digits",
+    ),
+    "crates/hay_needle/src/lib.rt": ("In version 1 the size is at most {photo_one:,},", "In version 2 the size is at most {photo:,},"),
+    "crates/hay_needle/src/settings.rt": ("a volume file may have: {least:,} to {capacity:,}.",),
+    "crates/hay_needle/src/read.rt": ("The size at 32 is above {photo:,}, or above {photo_one:,} where",),
+    "crates/hay_needle/src/needle.rt": ("at most {photo_one:,} bytes, and the checksum", "at most {photo:,} bytes, and the checksum", "at most {photo:,} bytes, and the cookie"),
 }
 
 
