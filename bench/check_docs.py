@@ -15,13 +15,15 @@ Looked at are README.md, CHANGELOG.md and all of docs/:
 - the version stands in CHANGELOG.md, and the other pages name the same;
 - each figure is drawn from its numbers, which the tables of docs/benchmarks.md have too.
 
-With --program the examples are tried too: those of examples/, the scripts of docs/script.md beside their transcripts, and the commands
-of docs/check.md with what they print.
+With --program the examples are tried too: those of examples/, the scripts of docs/script.md beside their transcripts, the commands of
+docs/check.md with what they print, and how many descriptors a run needs.
 """
 
 import argparse
+import functools
 import os
 import re
+import resource
 import subprocess
 import sys
 import tempfile
@@ -469,6 +471,23 @@ def check_commands(program):
             fault(path, f"its commands print: {done.stdout}")
 
 
+def check_descriptors(program):
+    """What the pages tell is enough for a compaction on one replica, and one descriptor fewer is not."""
+    counts = {"two": 2, "five": 5, "six": 6}
+    said = r"needs (\w+), (\w+) more for each replica of each volume, and (\w+) more for each compaction that stands"
+    told = [re.search(said, text_of(f"docs/{name}")) for name in ("script.md", "haystack.1")]
+    if None in told or told[0].groups() != told[1].groups():
+        return fault(ROOT / "docs/haystack.1", "it does not say the descriptors as script.md does")
+    least = sum(counts[word] for word in told[0].groups())
+    for limit, enough in ((least, True), (least - 1, False)):
+        with tempfile.TemporaryDirectory() as scratch:
+            words = [program, "run", "--folder", f"{scratch}/store"]
+            bound = functools.partial(resource.setrlimit, resource.RLIMIT_NOFILE, (limit, limit))
+            done = subprocess.run(words, input="put 0 1 61\ncompact 0 0\n", preexec_fn=bound, capture_output=True, text=True, check=False)
+        if ("2 compacted 0:0 1" in done.stdout) != enough:
+            fault(ROOT / "docs/haystack.1", f"with {limit} descriptors a run prints: {done.stdout}")
+
+
 def main():
     parser = argparse.ArgumentParser(description=__doc__.splitlines()[0])
     parser.add_argument("--program")
@@ -483,7 +502,7 @@ def main():
         check()
     if options.program:
         program = str(Path(options.program).resolve())
-        for check in (check_files, check_scripts, check_commands):
+        for check in (check_files, check_scripts, check_commands, check_descriptors):
             check(program)
     for told in faults:
         print(told)
