@@ -180,7 +180,9 @@ def speeds(count, size, seconds):
 
 
 def record(options, table, **numbers):
-    """Writes a row to the file of a figure, in place of the one of the same run at the same number across."""
+    """Writes a row to the file of a figure, in place of the one of the same run at the same number across.
+
+    A number is an integer, or a text with as many digits as the table has."""
     if options.csv is None:
         return
     path = Path(options.csv, f"{table}.csv")
@@ -212,8 +214,8 @@ def sizes_table(options, folder):
             f" | {both.clock:.2f} | {both.peak / MIB:.1f} |",
             flush=True,
         )
-        a_second = {"puts_a_second": round(rate(count, puts.cpu)), "reads_a_second": round(rate(count, both.cpu - puts.cpu))}
-        record(options, "sizes", photos=count, bytes_each=size, **a_second, peak_mib=round(both.peak / MIB, 1))
+        a_second = {"puts_a_second": f"{rate(count, puts.cpu):.0f}", "reads_a_second": f"{rate(count, both.cpu - puts.cpu):.0f}"}
+        record(options, "sizes", photos=count, bytes_each=size, **a_second, peak_mib=f"{both.peak / MIB:.1f}")
 
 
 def growth_table(options, folder):
@@ -229,8 +231,8 @@ def growth_table(options, folder):
             f"| {count:,} | {both.cpu:.2f} | {a_put:.1f} | {a_read:.1f} | {both.peak / MIB:.1f} | {(both.peak - empty.peak) / count:.0f} |",
             flush=True,
         )
-        each = {"microseconds_a_put": round(a_put, 1), "microseconds_a_read": round(a_read, 1)}
-        record(options, "growth", photos=count, bytes_each=options.size, **each, peak_mib=round(both.peak / MIB, 1))
+        each = {"microseconds_a_put": f"{a_put:.1f}", "microseconds_a_read": f"{a_read:.1f}"}
+        record(options, "growth", photos=count, bytes_each=options.size, **each, peak_mib=f"{both.peak / MIB:.1f}")
 
 
 def openings_table(options, folder):
@@ -247,7 +249,7 @@ def openings_table(options, folder):
             check_last(transcript, ["flushed", "0:0", f"{count}"])
             opened, _ = run_script(kept, folder, [])
         print(f"| {count:,} | {size:,} | {opened.cpu:.2f} | {opened.peak / MIB:.1f} | {(opened.peak - empty.peak) / count:.0f} |", flush=True)
-        record(options, "openings", photos=count, bytes_each=size, seconds=round(opened.cpu, 2), peak_mib=round(opened.peak / MIB, 1))
+        record(options, "openings", photos=count, bytes_each=size, seconds=f"{opened.cpu:.2f}", peak_mib=f"{opened.peak / MIB:.1f}")
 
 
 def compaction_table(options, folder):
