@@ -2,10 +2,13 @@
 """Measures the built program: photos of three sizes, put and read, and how time and memory grow with their number.
 
     bench/bench.py [--program PATH] [--words WORDS] [--repeat N] [--max PUTS] [--size BYTES] [--folder PATH] [--only TABLE]
-                   [--before PATH] [--photos N] [--equal] [--count]
+                   [--csv FOLDER] [--name NAME] [--before PATH] [--photos N] [--equal] [--count]
 
-With --folder each run has real files, in a new folder below PATH. The tables are `sizes`, `growth`, `compaction`, `beside`,
-`largest` and `small`; without --only all are made.
+With --folder each run has real files, in a new folder below PATH. The tables are `sizes`, `growth`, `openings`, `compaction`,
+`beside`, `largest` and `small`; without --only all are made.
+
+With --csv the numbers of `sizes`, `growth` and `openings` are also written to files of these names in FOLDER, from which
+bench/plot.py draws: each row under --name, in place of the one that stood at its place of the figure.
 
 Each measure has two scripts: the puts alone, and the same puts with a read of each photo behind them. The program runs
 on each of them with plain files as its standard input and output. The time of the reads is the difference of the two
@@ -18,6 +21,8 @@ A compaction is measured over a volume of which every second photo was deleted, 
 and one without. `beside` has puts and reads of one volume while another, as large and half deleted, has no compaction,
 or one that has examined half of its cells.
 
+`openings` has runs that ask for nothing over stores of real files whose index is flushed.
+
 `largest` has a put and a read of the largest photo, 16 MiB, against those of one of 1 MiB: the time of the processor, the median
 of five runs over --photos of each size, and with --count the instructions. With --equal all bytes of a photo are equal, and its
 line is short.
@@ -27,6 +32,7 @@ beside it: a lane keeps room for the largest photo, and is to touch no more of i
 """
 
 import argparse
+import csv
 import functools
 import itertools
 import os
@@ -39,11 +45,14 @@ import tempfile
 import time
 from pathlib import Path
 
+import plot
+
 ROOT = Path(__file__).resolve().parent.parent
 MIB = 1024 * 1024
 TIME = "/usr/bin/time"
 SIZES = ((10_000, 64), (10_000, 4096), (100, MIB))
 COUNTS = (1_000, 10_000, 100_000, 1_000_000)
+OPENINGS = ((100_000, 4096), (1_000_000, 16))
 LARGE = (MIB, 16 * MIB)
 LANES = 8
 
@@ -162,9 +171,29 @@ def check_last(transcript, due):
         sys.exit(f"the last line was answered: {' '.join(words)[:80]}")
 
 
+def rate(count, seconds):
+    return count / max(seconds, 0.001)
+
+
 def speeds(count, size, seconds):
-    seconds = max(seconds, 0.001)
-    return f"{count / seconds:,.0f} | {count * size / seconds / MIB:,.1f}"
+    return f"{rate(count, seconds):,.0f} | {rate(count * size, seconds) / MIB:,.1f}"
+
+
+def record(options, table, **numbers):
+    """Writes a row to the file of a figure, in place of the one of the same run at the same number across.
+
+    A number is an integer, or a text with as many digits as the table has."""
+    if options.csv is None:
+        return
+    path = Path(options.csv, f"{table}.csv")
+    new = {"run": options.name, **{name: str(number) for name, number in numbers.items()}}
+    across = next(figure.across for figure in plot.FIGURES if figure.name == table)
+    rows = {(row["run"], row[across]): row for row in plot.rows_of(path)} if path.exists() else {}
+    rows[new["run"], new[across]] = new
+    with open(path, "w", encoding="utf-8", newline="") as file:
+        writer = csv.DictWriter(file, new, lineterminator="\n")
+        writer.writeheader()
+        writer.writerows(rows.values())
 
 
 def machine():
@@ -185,6 +214,8 @@ def sizes_table(options, folder):
             f" | {both.clock:.2f} | {both.peak / MIB:.1f} |",
             flush=True,
         )
+        a_second = {"puts_a_second": f"{rate(count, puts.cpu):.0f}", "reads_a_second": f"{rate(count, both.cpu - puts.cpu):.0f}"}
+        record(options, "sizes", photos=count, bytes_each=size, **a_second, peak_mib=f"{both.peak / MIB:.1f}")
 
 
 def growth_table(options, folder):
@@ -195,11 +226,30 @@ def growth_table(options, folder):
         if count > options.max:
             break
         puts, both = measure(options, folder, count, options.size)
+        a_put, a_read = ((most - least) / count * 1e6 for least, most in ((empty.cpu, puts.cpu), (puts.cpu, both.cpu)))
         print(
-            f"| {count:,} | {both.cpu:.2f} | {(puts.cpu - empty.cpu) / count * 1e6:.1f} | {(both.cpu - puts.cpu) / count * 1e6:.1f}"
-            f" | {both.peak / MIB:.1f} | {(both.peak - empty.peak) / count:.0f} |",
+            f"| {count:,} | {both.cpu:.2f} | {a_put:.1f} | {a_read:.1f} | {both.peak / MIB:.1f} | {(both.peak - empty.peak) / count:.0f} |",
             flush=True,
         )
+        each = {"microseconds_a_put": f"{a_put:.1f}", "microseconds_a_read": f"{a_read:.1f}"}
+        record(options, "growth", photos=count, bytes_each=options.size, **each, peak_mib=f"{both.peak / MIB:.1f}")
+
+
+def openings_table(options, folder):
+    """Runs that ask for nothing, over stores of one replica."""
+    empty, _ = run_script(options, folder, [])
+    print("| photos | bytes each | seconds of the processor | peak MiB | bytes a photo |")
+    print("|---:|---:|---:|---:|---:|")
+    for count, size in OPENINGS:
+        if count > options.max:
+            break
+        with tempfile.TemporaryDirectory(prefix="haystack-bench-", dir=options.folder) as store:
+            kept = argparse.Namespace(**{**vars(options), "folder": None, "words": f"{options.words} --folder {store}"})
+            _, transcript = run_script(argparse.Namespace(**{**vars(kept), "repeat": 1}), folder, [*put_lines(count, size), "flush 0 0\n"])
+            check_last(transcript, ["flushed", "0:0", f"{count}"])
+            opened, _ = run_script(kept, folder, [])
+        print(f"| {count:,} | {size:,} | {opened.cpu:.2f} | {opened.peak / MIB:.1f} | {(opened.peak - empty.peak) / count:.0f} |", flush=True)
+        record(options, "openings", photos=count, bytes_each=size, seconds=f"{opened.cpu:.2f}", peak_mib=f"{opened.peak / MIB:.1f}")
 
 
 def compaction_table(options, folder):
@@ -313,6 +363,7 @@ def small_table(options, folder):
 TABLES = {
     "sizes": sizes_table,
     "growth": growth_table,
+    "openings": openings_table,
     "compaction": compaction_table,
     "beside": beside_table,
     "largest": largest_table,
@@ -329,11 +380,14 @@ def main():
     parser.add_argument("--size", type=int, default=64)
     parser.add_argument("--folder")
     parser.add_argument("--only", choices=TABLES)
+    parser.add_argument("--csv", help="the folder of the files from which bench/plot.py draws")
+    parser.add_argument("--name", help="the name of the run there; the words, where none is said")
     parser.add_argument("--before", help="another build, beside which the memory of small photos is measured")
     parser.add_argument("--photos", type=int, default=4, help="how many photos of each size `largest` has")
     parser.add_argument("--equal", action="store_true", help="photos of equal bytes in `largest`")
     parser.add_argument("--count", action="store_true", help="count the instructions of `largest` by valgrind, too")
     options = parser.parse_args()
+    options.name = options.name or options.words
     if not os.access(options.program, os.X_OK):
         sys.exit(f"{options.program} is not there: cd crates/haystack && rt run -- run < stdin")
     print(f"{machine()}; the least of {options.repeat} runs of `haystack {options.words}`.\n", flush=True)

@@ -10,20 +10,26 @@ Looked at are README.md, CHANGELOG.md and all of docs/:
 - crates are in crates.txt, and the crate by crate table has each of them;
 - modes, options, statuses with their messages, commands and replies are those of the program;
 - names that a table gives of a crate or of a file are defined there;
-- numbers with a definition have its value: the limits, the magics, how many tests and edits there are; and each number of four
-  digits or more in the pages on the program is such a one.
+- each limit that a page tells is the one of its definition, and the pages on the program have no other number of four digits or more;
+- the magics, and how many tests and edits there are, are those of the tree;
+- the version stands in CHANGELOG.md, and the other pages name the same;
+- each figure is drawn from its numbers, which the tables of docs/benchmarks.md have too.
 
-With --program the examples are tried too: those of examples/, the scripts of docs/script.md beside their transcripts, and the commands
-of docs/check.md with what they print.
+With --program the examples are tried too: those of examples/, the scripts of docs/script.md beside their transcripts, the commands of
+docs/check.md with what they print, and how many descriptors a run needs.
 """
 
 import argparse
+import functools
 import os
 import re
+import resource
 import subprocess
 import sys
 import tempfile
 from pathlib import Path
+
+import plot
 
 ROOT = Path(__file__).resolve().parent.parent
 CRATES = sorted(path.name for path in (ROOT / "crates").iterdir() if path.is_dir())
@@ -89,11 +95,16 @@ def check_crates(path, text):
         fault(path, f"no crate: {name}")
 
 
+def tables_of(path):
+    """The rows of each table, the one of its heads first, and the cells of each row."""
+    for table in re.findall(r"(?:^\|.*\n)+", path.read_text(encoding="utf-8"), re.MULTILINE):
+        yield [[cell.strip() for cell in line.strip("|").split("|")] for line in table.splitlines() if not line.startswith("|--")]
+
+
 def rows_of(path):
     """The cells of each row of each table."""
-    for line in path.read_text(encoding="utf-8").splitlines():
-        if line.startswith("|") and not line.startswith("|--"):
-            yield [cell.strip() for cell in line.strip("|").split("|")]
+    for table in tables_of(path):
+        yield from table
 
 
 # NAMES
@@ -210,19 +221,122 @@ def settings():
 
 
 def limits():
-    """Each number with a definition, and what it is."""
-    low = settings()
-    return {
-        number_in("crates/hay_needle/specs/Sizes.antt", r"max_photo Two = (\d+)"): "the largest photo",
-        number_in("crates/hay_needle/specs/Sizes.antt", r"max_photo One = (\d+)"): "the largest photo of version 1",
-        number_in("crates/hay_script/src/words.rt", r"MAX_LINE: usize = ([\d_]+)"): "the longest line",
-        number_in("crates/hay_run/src/bytes.rt", r"SCRIPT: u64 = ([\d_]+)"): "the longest script",
-        number_in("crates/hay_run/src/block.rt", r"COMMANDS: u32 = ([\d_]+)"): "the most commands of a block",
-        number_in("crates/hay_head/src/head.rt", r"LAST_GENERATION: u64 = ([\d_]+)"): "the last generation",
-        low["capacity"][0]: "the usual capacity",
-        low["capacity"][1]: "the least capacity",
-        low["capacity"][2]: "the greatest capacity",
+    """Each limit by its name, from its definition."""
+    ranges = settings()
+    script = "crates/hay_script/specs/Script.antt"
+    parts = (("superblock", "SUPER_LEN"), ("read", "HEAD_LEN"))
+    superblock, head = (number_in(f"crates/hay_needle/src/{file}.rt", rf"{name}: usize = (\d+)") for file, name in parts)
+    found = {
+        "photo": number_in("crates/hay_needle/specs/Sizes.antt", r"max_photo Two = (\d+)"),
+        "photo_one": number_in("crates/hay_needle/specs/Sizes.antt", r"max_photo One = (\d+)"),
+        "line": number_in("crates/hay_script/src/words.rt", r"MAX_LINE: usize = ([\d_]+)"),
+        "script": number_in("crates/hay_run/specs/Runs.antt", r"length read ≡ (\d+)"),
+        "commands": number_in("crates/hay_legal/specs/Items.antt", r"nat_lt block\.commands (\d+)"),
+        "generation": number_in("crates/hay_head/specs/Head.antt", r"pub most : generation ≤ (\d+)"),
+        "lanes": number_in(script, r'codes "lanes"\) then lanes_by \(from_one (\d+) ') - 1,
+        "digits": number_in(script, r"nat_le \(length text\) (\d+) && list_all is_ascii_digit"),
+        "cookie": number_in(script, r"nat_le \(length text\) (\d+) && list_all is_hex_digit"),
+        "secret": number_in("crates/hay_cli/specs/Commands.antt", r"secret_in text = if length text == (\d+)"),
+        # a superblock, the head of a needle, and an end mark
+        "opening": superblock + head + 8,
     }
+    found |= {"least": ranges["capacity"][1], "usual": ranges["capacity"][0]}
+    return found | {name: numbers[2] for name, numbers in ranges.items()} | {"hex_digits": 2 * found["photo"]}
+
+
+# where each limit is told in words: by file the texts that have it, in which line ends count as spaces
+LIMITS = {
+    "README.md": ("up to {volumes} volumes, each of up to {replicas} replicas, on up to {machines} machines",),
+    "CHANGELOG.md": (
+        "photos of up to {photo:,} bytes",
+        "Up to {volumes} volumes of up to {replicas} replicas on up to {machines} machines",
+        "at most {opening} bytes more than its needles without a record",
+    ),
+    "docs/script.md": (
+        "{least:,} to {capacity:,} bytes, for each volume file | {usual:,} |",
+        "| {secret} hexadecimal digits of either case |",
+        "is longer than {line:,} bytes",
+        "A script has at most {script:,} bytes",
+        "A decimal number is 1 to {digits} digits",
+        "`COOKIE` is 1 to {cookie} hexadecimal digits",
+        "hexadecimal digits from 2 to {hex_digits:,}, or `xLEN:BB` for `LEN` (1 to {photo:,}) bytes",
+        "| open a block of N lanes, 1 to {lanes} |",
+        "the command lines after the {commands:,}th",
+        "the generation is the last one, {generation:,} |",
+        "or has more than {photo:,} bytes",
+        "a byte came after {script:,} bytes of script",
+        "a byte came behind {script:,} bytes of script",
+        "Photo 0 to {photo:,} bytes. Machines 1 to {machines}, volumes 1 to {volumes}, replicas 1 to {replicas}.",
+        "Capacity of a volume file {least:,} to {capacity:,} bytes. Script line {line:,} bytes. Script {script:,} bytes.",
+        "Lanes 1 to {lanes}. Command lines in a block {commands:,}.",
+    ),
+    "docs/haystack.1": (
+        "{least:,} to {capacity:,} bytes for each volume file; {usual:,} where none is said",
+        "{secret} hexadecimal digits, by which the cookies are made",
+        "A photo has 0 to {photo:,} bytes, a line of the script at most {line:,}, and a script at most {script:,}.",
+        "A block has 1 to {lanes} lanes, and at most {commands:,} commands.",
+        "A replica is compacted at most {generation:,} times.",
+        "a byte came behind {script:,} bytes of script",
+    ),
+    "docs/rules.md": (
+        "a photo has at most {photo:,} bytes, in version 1 at most {photo_one:,} |",
+        "1 to {machines} machines, 1 to {volumes} volumes, 1 to {replicas} replicas and no more than the machines, "
+        "capacity {least:,} to {capacity:,}, where none is said {usual:,} |",
+        "a secret has {secret} hexadecimal digits",
+        "a line has at most {line:,} bytes",
+        "a script has at most {script:,} bytes",
+        "a block has at most {commands:,} commands",
+        "a block has 1 to {lanes} lanes",
+        "a number has 1 to {digits} digits, a cookie 1 to {cookie} hexadecimal ones",
+        "the last generation is {generation:,} |",
+        "an opening reads at most {opening} bytes more",
+    ),
+    "docs/glossary.md": ("any bytes, 0 to {photo:,} of them", "Each compaction makes the next one, up to {generation:,} |"),
+    "docs/file-formats.md": (
+        "0 to {photo_one:,} in version 1, 0 to {photo:,} in version 2",
+        "a size above {photo:,}, or above {photo_one:,} where byte 29 is 0",
+        "replica, capacity {usual:,}, zero secret",
+        "each later one is one more, up to {generation:,};",
+    ),
+    "docs/model.md": (
+        "at most {generation:,} ",
+        "the generation is {generation:,} ",
+        "With status 7 exactly {script:,} bytes were taken",
+        "{opening} bytes at most of a volume file",
+    ),
+    "docs/testing.md": ("a photo of {photo:,} bytes and a line of {line:,} go through the whole program",),
+    "docs/benchmarks.md": ("A photo has up to {photo:,} bytes. What the largest costs against one of {photo_one:,}",),
+    "docs/DECISIONS.md": ("and its size goes to {photo:,}.", "a compaction begins below generation {generation:,};"),
+    "examples/photo/put-photo": ("largest={photo} ",),
+    "examples/album/album": ("LARGEST = {photo:_} ",),
+    "bench/check.py": ("or row > {generation}:",),
+    "crates/hay_cli/src/lib.rt": (
+        "| `machines` | 1 to {machines} |",
+        "| `volumes` | 1 to {volumes} |",
+        "| `replicas` | 1 to {replicas}",
+        "| `capacity` | {least:,} to {capacity:,} bytes | {usual:,} |",
+        "| `secret` | {secret} hexadecimal digits",
+        "A number is 1 to {digits} decimal digits",
+    ),
+    "crates/hay_needle/src/lib.rt": ("In version 1 the size is at most {photo_one:,},", "In version 2 the size is at most {photo:,},"),
+    "crates/hay_needle/src/settings.rt": ("a volume file may have: {least:,} to {capacity:,}.",),
+    "crates/hay_needle/src/read.rt": ("The size at 32 is above {photo:,}, or above {photo_one:,} where",),
+    "crates/hay_needle/src/needle.rt": ("at most {photo_one:,} bytes, and the checksum", "at most {photo:,} bytes, and the checksum", "at most {photo:,} bytes, and the cookie"),
+}
+
+
+def check_limits():
+    known = limits()
+    for name, texts in LIMITS.items():
+        path = ROOT / name
+        text = " ".join(path.read_text(encoding="utf-8").split())
+        for due in (told.format(**known) for told in texts):
+            if due not in text:
+                fault(path, f"it does not say: {due!r}")
+            text = text.replace(due, "")
+        if path.name in EXACT:
+            for number in re.findall(r"(?<![\w,.])\d{1,3}(?:,\d{3})+(?![\w,])", text):
+                fault(path, f"a number that is no limit told there: {number}")
 
 
 def check_options():
@@ -232,21 +346,6 @@ def check_options():
         for path, pattern in ((ROOT / "docs/script.md", script), (ROOT / "docs/haystack.1", manual)):
             if not re.search(pattern, path.read_text(encoding="utf-8")):
                 fault(path, f"--{name} is {low:,} to {high:,}, and {usual:,} where none is said")
-    lanes = number_in("crates/hay_script/specs/Script.antt", r'codes "lanes"\) then lanes_by \(from_one (\d+) ') - 1
-    for name, due in (("script.md", f"Lanes 1 to {lanes}."), ("haystack.1", f"1 to {lanes} lanes")):
-        if due not in text_of(f"docs/{name}"):
-            fault(ROOT / "docs" / name, f"it does not say: {due!r}")
-
-
-def check_numbers(path, text):
-    if path.name not in EXACT:
-        return
-    known = set(limits())
-    # the most hexadecimal digits of a photo; ports and dates are no such numbers
-    known |= {2 * max(number for number in known if number < 2**25 and number % 1024 == 0)}
-    for number in re.findall(r"(?<![\w,.])\d{1,3}(?:,\d{3})+(?![\w,])", text):
-        if int(number.replace(",", "")) not in known:
-            fault(path, f"a number without a definition: {number}")
 
 
 def check_counts():
@@ -283,6 +382,44 @@ def check_example():
     readme = ROOT / "README.md"
     if text_of("examples/first/transcript") not in readme.read_text(encoding="utf-8"):
         fault(readme, "the first transcript is not that of examples/first")
+
+
+# VERSION AND FIGURES
+
+
+def check_version():
+    """No code prints the version: it stands in the list of changes, and the other pages repeat it."""
+    found = re.search(r"^This is version (\d+\.\d+\.\d+)\.$", text_of("CHANGELOG.md"), re.MULTILINE)
+    if found is None:
+        return fault(ROOT / "CHANGELOG.md", "it names no version")
+    for name, due in (("README.md", f"version {found[1]}:"), ("docs/haystack.1", f'"haystack {found[1]}"')):
+        if due not in text_of(name):
+            fault(ROOT / name, f"it does not say: {due!r}")
+    for path in DOCUMENTS:
+        for version in set(re.findall(r"(?:\b[Vv]ersion |haystack )(\d+\.\d+\.\d+)", path.read_text(encoding="utf-8"))) - {found[1]}:
+            fault(path, f"version {version}, and the list of changes has {found[1]}")
+
+
+def check_figures():
+    """Each row of a figure's numbers stands in a table of the page, whose first row may name the size of the photos."""
+    page = ROOT / "docs/benchmarks.md"
+    for path in plot.stale():
+        fault(path, "not the drawing of its numbers: run bench/plot.py")
+    tables = [[set(cells) for cells in table] for table in tables_of(page)]
+    for figure in plot.FIGURES:
+        if f"](figures/{figure.name}.svg)" not in page.read_text(encoding="utf-8"):
+            fault(page, f"it does not show {figure.name}.svg")
+        for row in plot.numbers_of(figure):
+            size = f"{int(row['bytes_each']):,}"
+            numbers = {f"{int(row['photos']):,}"} | {shown(row[panel.column]) for panel in figure.panels}
+            if not any(numbers <= cells and (size in cells or f"puts of {size} bytes" in " ".join(head)) for head, *rest in tables for cells in rest):
+                fault(page, f"no row of a table has the numbers of {figure.name}.csv: {', '.join(row.values())}")
+
+
+def shown(number):
+    """A number as tables have it, with its digits behind the point."""
+    whole, _, part = number.partition(".")
+    return f"{int(whole):,}" + (f".{part}" if part else "")
 
 
 # WORKED EXAMPLES
@@ -334,19 +471,38 @@ def check_commands(program):
             fault(path, f"its commands print: {done.stdout}")
 
 
+def check_descriptors(program):
+    """What the pages tell is enough for a compaction on one replica, and one descriptor fewer is not."""
+    counts = {"two": 2, "five": 5, "six": 6}
+    said = r"needs (\w+), (\w+) more for each replica of each volume, and (\w+) more for each compaction that stands"
+    told = [re.search(said, text_of(f"docs/{name}")) for name in ("script.md", "haystack.1")]
+    if None in told or told[0].groups() != told[1].groups():
+        return fault(ROOT / "docs/haystack.1", "it does not say the descriptors as script.md does")
+    least = sum(counts[word] for word in told[0].groups())
+    for limit, enough in ((least, True), (least - 1, False)):
+        with tempfile.TemporaryDirectory() as scratch:
+            words = [program, "run", "--folder", f"{scratch}/store"]
+            bound = functools.partial(resource.setrlimit, resource.RLIMIT_NOFILE, (limit, limit))
+            done = subprocess.run(words, input="put 0 1 61\ncompact 0 0\n", preexec_fn=bound, capture_output=True, text=True, check=False)
+        if ("2 compacted 0:0 1" in done.stdout) != enough:
+            fault(ROOT / "docs/haystack.1", f"with {limit} descriptors a run prints: {done.stdout}")
+
+
 def main():
     parser = argparse.ArgumentParser(description=__doc__.splitlines()[0])
     parser.add_argument("--program")
     options = parser.parse_args()
     for path in DOCUMENTS:
         text = path.read_text(encoding="utf-8")
-        for check in (check_links, check_paths, check_crates, check_words, check_numbers):
+        for check in (check_links, check_paths, check_crates, check_words):
             check(path, text)
-    for check in (check_crate_table, check_rules, check_modes, check_statuses, check_script_words, check_options, check_counts, check_magics, check_example):
+    for check in (check_crate_table, check_rules, check_modes, check_statuses, check_script_words, check_options, check_limits):
+        check()
+    for check in (check_counts, check_magics, check_version, check_figures, check_example):
         check()
     if options.program:
         program = str(Path(options.program).resolve())
-        for check in (check_files, check_scripts, check_commands):
+        for check in (check_files, check_scripts, check_commands, check_descriptors):
             check(program)
     for told in faults:
         print(told)
