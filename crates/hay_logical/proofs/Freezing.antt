@@ -1,5 +1,5 @@
 -- A volume is frozen by the machine of one of its replicas.
-use Rattle.std.proofs.Common.{◌≡◌, ℕ, ◌+◌, ◌<◌, ◌≤◌, Option, Some, None, refl, sym, ap, subst, ◌∙◌, arith}
+use Rattle.std.proofs.Common.{◌≡◌, ℕ, ◌<◌, ◌≤◌, Some, None, refl, sym, subst, ◌∙◌, arith}
 use Rattle.hay_needle.specs.declared.settings.Settings.{Settings}
 use Rattle.hay_legal.specs.Known.{machine_of}
 use Rattle.hay_physical.specs.declared.fault.ReplicaFault.{ReplicaFault}

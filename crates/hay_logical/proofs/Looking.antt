@@ -292,6 +292,9 @@ module _ {P : Type 0} (pair : Pair) (j : ℕ) (rows rows' : MapRows P) where
       by_test true same = get_or-set_same (row_at rows q) j p place.None (subst (λ (x : Pair). j < length (row_at rows x)) (pair_same pair q same) within)
       by_test false apart = refl
 
+  pub set_here : (p : Place P) → SetsPlaceAt pair j p rows rows' → j < length (row_at rows pair) → place_in (row_at rows' pair) j ≡ p
+  set_here p sets within = set_places p sets within pair ∙ cond-true (pair_eq pair pair) p (place_in (row_at rows pair) j) (pair_refl pair)
+
   pub same_places : (p : Place P) → place_in (row_at rows pair) j ≡ p → ((q : Pair) → row_at rows' q ≡ row_at rows q) → (q : Pair) → place_in (row_at rows' q) j ≡ cond (pair_eq pair q) p (place_in (row_at rows q) j)
   same_places p was same q = ap (λ l. place_in l j) (same q) ∙ by_test (pair_eq pair q) refl
     where
@@ -309,7 +312,7 @@ module _ {P : Type 0} (pair : Pair) (j : ℕ) (rows rows' : MapRows P) where
 
   -- the place that was set
   pub sets_this : (p : Place P) → SetsPlaceAt pair j p rows rows' → j < length (row_at rows pair) → SetsPlaceAt pair j (place_in (row_at rows' pair) j) rows rows'
-  sets_this p sets within = subst (λ x. SetsPlaceAt pair j x rows rows') (sym (set_places p sets within pair ∙ cond-true (pair_eq pair pair) p (place_in (row_at rows pair) j) (pair_refl pair))) sets
+  sets_this p sets within = subst (λ x. SetsPlaceAt pair j x rows rows') (sym (set_here p sets within)) sets
 
 -- A CALL
 

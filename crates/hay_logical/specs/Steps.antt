@@ -1,9 +1,11 @@
 -- What the calls of one replica do, as far as a volume goes by it.
 use Rattle.std.specs.Prelude.{◌≡◌, ◌⊎◌, ◌≤◌, ◌<◌, ◌+◌, ℕ, ◌-◌, min, Bool, true, false, List, length, slice_set, Option, Some, None, option_map, if◌then◌else◌, Result, Err, IfOk, IfErr, OnOk, OnErr}
+use Rattle.hay_needle.specs.declared.needle.Cell.{Cell}
 use Rattle.hay_needle.specs.declared.needle.Cookie.{Cookie}
 use Rattle.hay_needle.specs.declared.needle.Pair.{Pair}
 use Rattle.hay_needle.specs.declared.settings.Super.{Super}
 use Rattle.hay_needle.specs.declared.needle.Outcome.{Outcome}
+use Rattle.hay_needle.specs.Needle.{NeedleBytes, needle_of_cell}
 use Rattle.hay_needle.specs.Sizes.{needle_total}
 use Rattle.hay_needle.specs.Tables.{pair_eq}
 use Rattle.hay_disk.specs.Counts.{IsNext, Rose}
@@ -18,7 +20,7 @@ use Rattle.hay_map.specs.declared.place.Place.TheVariants as place
 use Rattle.hay_open.specs.declared.fault.OpenFault.{OpenFault}
 use Rattle.hay_open.specs.declared.fault.OpenFault.TheVariants as open_fault
 use Rattle.hay_open.specs.Damage.{IsOpeningDamage}
-use Rattle.hay_open.specs.Stored.{Stored, IsSealedCell, IsVoid, OpensAs, fresh_stored, index_file, last_cell, volume_file}
+use Rattle.hay_open.specs.Stored.{Stored, IsSealedCell, PlaceOf, IsVoid, OpensAs, fresh_stored, index_file, last_cell, volume_file}
 use Rattle.hay_physical.specs.declared.fault.ReplicaFault.{ReplicaFault}
 use Rattle.hay_physical.specs.declared.fault.ReplicaFault.TheVariants as fault
 use Rattle.hay_physical.specs.declared.state.Phase.TheVariants.{Closed}
@@ -183,6 +185,13 @@ pub record SeesRow {P : Type 0} (pair : Pair) (at : ℕ) (rows rows' : MapRows P
   pub width : rows'.replicas ≡ rows.replicas
   pub set : OnOk result (SetsPlaceAt pair at (place_in (row_at rows' pair) at) rows rows')
   pub kept : OnErr result ((other : Pair) → row_at rows' other ≡ row_at rows other)
+
+-- The bytes are the needle of a cell, and the place is what is seen of it. Where the disk tells, the place has the cell's photo.
+pub record IsSeenBy {P : Type 0} (DiskTells Tells : Type 0) (bytes : List ℕ) (there : Place P) : Type 0 where
+  pub cell : Cell
+  pub needle : NeedleBytes bytes (needle_of_cell cell)
+  pub sight : physical.IsSightOf cell there
+  pub place : DiskTells → PlaceOf Tells (Some cell) there
 
 -- DELETES
 

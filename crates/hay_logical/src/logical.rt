@@ -19,7 +19,7 @@ ghost use Rattle.hay_compact.specs.Finishing.{IsSeen};
 ghost use Rattle.hay_logical.specs.Draws.{DrewAt, HasDrawnNothing, looked_pair};
 ghost use Rattle.hay_logical.specs.Fits.{At, PlaceStands, super_of};
 ghost use Rattle.hay_logical.specs.Notes.{DeleteLeavesUnsure, NotesTell, PutLeavesUnsure};
-ghost use Rattle.hay_logical.specs.Steps.{IsRefusedAt, KeepsDisk, RoomFor, SetsPlaceAt};
+ghost use Rattle.hay_logical.specs.Steps.{IsRefusedAt, IsSeenBy, KeepsDisk, RoomFor, SetsPlaceAt};
 ghost use Rattle.hay_logical.specs.Volumes.{HasAll, IsClosed, IsMachineOf, IsOfSettings, IsOpenVolume, IsSame, KeepsCounts};
 ghost use Rattle.hay_logical.specs.Stands.{Holds, IsFirst, IsIdleVolume, Stands, Stopped};
 ghost use Rattle.hay_logical.specs.Answers.{BeginRefused, CompactRefused, DeleteRefused, FinishRefused, FlushRefused, IsBeginFault, IsBegun, IsCompactFault, IsCompacted, IsDeleteFault, IsDeleted, IsFinished, IsFlushFault, IsFlushed, IsPut, IsPutFault, IsReopened, IsRoomFault, IsRunFault, IsSightFault, IsStepped, PutRefused, RemovesOld, StepRefused, room_answer};
@@ -309,6 +309,10 @@ impl<D: Disk> Logical<D> {
         ensures answered { IfOk result (λ looked. (looked.front ≡ self.new.front) × (looked.row ≡ row_at self.new.rows pair)) }
         ensures kept { OnErr result ((other : Pair) → row_at self.new.rows other ≡ row_at self.old.rows other) }
 
+        // A place that was not looked at yet is what the needle shows that was read. Where the disk tells, its piece has that photo.
+        ensures needle { (IsSeen (place_in (row_at self.old.rows pair) replica) → ⊥) →
+            IfOk result (λ looked. IsSeenBy D.Tells D.Piece.Tells out.new.items (place_in looked.row replica)) }
+
         // The disk that failed is the replica's, and every other replica stays.
         ensures causes { IfErr result (IsSightFault D.fault_count self.old.settings self.old.number self.old.replicas self.new.replicas) }
         ensures machine { (m count : ℕ) → result ≡ Err (LogicalFault.Failed m count) → m ≡ machine_of self.old.settings self.old.number replica }
@@ -339,6 +343,8 @@ impl<D: Disk> Logical<D> {
         ensures seen { OnOk result (IsSeen (place_in (row_at self.new.rows pair) replica)) }
         ensures row { OnOk result (SetsPlaceAt pair replica (place_in (row_at self.new.rows pair) replica) self.old.rows self.new.rows) }
         ensures kept { OnErr result ((other : Pair) → row_at self.new.rows other ≡ row_at self.old.rows other) }
+        ensures needle { (IsSeen (place_in (row_at self.old.rows pair) replica) → ⊥) →
+            OnOk result (IsSeenBy D.Tells D.Piece.Tells out.new.items (place_in (row_at self.new.rows pair) replica)) }
         ensures causes { IfErr result (IsSightFault D.fault_count self.old.settings self.old.number self.old.replicas self.new.replicas) }
         ensures machine { (m count : ℕ) → result ≡ Err (LogicalFault.Failed m count) → m ≡ machine_of self.old.settings self.old.number replica }
         ensures others { (j : ℕ) → (j ≡ replica → ⊥) → (r r' : Copy D) → At self.old.replicas j r → At self.new.replicas j r' → r' ≡ r }

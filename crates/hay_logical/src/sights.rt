@@ -12,7 +12,7 @@ ghost use Rattle.hay_physical.specs.Replicas as physical;
 ghost use Rattle.hay_logical.specs.Draws.{DrawsAtMost, DrewAt, look_total, looked_pair, looked_total};
 ghost use Rattle.hay_logical.specs.Fits.{At};
 ghost use Rattle.hay_logical.specs.Notes.{SeesUnsure};
-ghost use Rattle.hay_logical.specs.Steps.{CallsOne, IsLookFault, IsRefusedAt, IsUnseenAt, KeepsDisk, LeftAt, LooksAt, OpensAt, PlacesAre, SeesRow, SightsAt};
+ghost use Rattle.hay_logical.specs.Steps.{CallsOne, IsLookFault, IsRefusedAt, IsSeenBy, IsUnseenAt, KeepsDisk, LeftAt, LooksAt, OpensAt, PlacesAre, SeesRow, SightsAt};
 ghost use Rattle.hay_logical.specs.Volumes.{CanReach, KeepsCounts};
 
 use crate::fault::Unopened;
@@ -44,6 +44,7 @@ pub(crate) fn see_at<D: Disk>(
     ensures drawn { D.Tells → (r r' : Copy D) → At replicas.old at r → At replicas.new at r' →
         DrawsAtMost D.drawn (look_total (place_in (row_at rows.old pair) at)) r r' }
     ensures row { SeesRow pair at rows.old rows.new result }
+    ensures needle { (IsSeen (place_in (row_at rows.old pair) at) → ⊥) → OnOk result (IsSeenBy D.Tells D.Piece.Tells out.new.items (place_in (row_at rows.new pair) at)) }
     ensures counts { KeepsCounts D.fault_count D.fuse_count replicas.old replicas.new }
 {
     see(&mut replicas[at], at as u32, rows, pair, out)
@@ -63,6 +64,7 @@ fn see<D: Disk>(
     ensures sights { SightsAt D.Tells D.files D.fault_count D.Piece.Tells pair rows.old rows.new at replica.old replica.new result }
     ensures drawn { D.Tells → DrawsAtMost D.drawn (look_total (place_in (row_at rows.old pair) at)) replica.old replica.new }
     ensures row { SeesRow pair at rows.old rows.new result }
+    ensures needle { (IsSeen (place_in (row_at rows.old pair) at) → ⊥) → OnOk result (IsSeenBy D.Tells D.Piece.Tells out.new.items (place_in (row_at rows.new pair) at)) }
     ensures counts { D.fault_count replica.old.disk ≤ D.fault_count replica.new.disk }
     ensures fuses { D.fuse_count replica.new.disk ≡ D.fuse_count replica.old.disk }
 {

@@ -1,5 +1,5 @@
 -- Replicas that are passed over, one after another.
-use Rattle.std.proofs.Common.{◌≡◌, ℕ, ◌+◌, ◌-◌, ◌%◌, ◌^◌, ◌<◌, ◌≤◌, ◌⊎◌, inl, inr, true, Bool, List, [], ◌∷◌, ◌++◌, length, take, sym, ap, ◌∙◌, subst, arith, zero-add}
+use Rattle.std.proofs.Common.{◌≡◌, ℕ, ◌+◌, ◌-◌, ◌%◌, ◌^◌, ◌<◌, ◌≤◌, ◌⊎◌, inl, inr, true, Bool, List, [], ◌∷◌, ◌++◌, length, take, refl, sym, ap, ◌∙◌, subst, arith, zero-add}
 use Rattle.std.specs.Prelude.{Ok, Err}
 use Rattle.std.specs.List.{AllByRecursion}
 use Rattle.std.proofs.lemmas.List.{map-append, length-append, length-take, take-append-le, drop-append-le}
@@ -12,8 +12,8 @@ use Rattle.hay_map.specs.Places.{place_in}
 use Rattle.hay_map.specs.declared.place.Place.{Place}
 use Rattle.hay_map.specs.declared.place.Place.TheVariants as place
 use Rattle.hay_reader.specs.Causes.{ArmRises, ArmUse, ComeFirst, EachPair, HasArmCause, IsDamage, Passes, PassesRow, passed_now, tried_from}
-use Rattle.hay_reader.specs.Shown.{HasBytes, NoArm, ReadsRow, ShowsPlace, reply_at}
-use Rattle.hay_reader.specs.Tried.{FailsBy, PlaceGives, PutsOut}
+use Rattle.hay_reader.specs.Shown.{HasBytes, NoArm, ReadsRow, ShowsAt, ShowsPlace, reply_at}
+use Rattle.hay_reader.specs.Tried.{FailsBy, IsOfSeen, PlaceGives, PutsOut}
 use Rattle.hay_reader.specs.declared.trial.Shown.{Shown}
 use Rattle.hay_reader.specs.declared.trial.Shown.TheVariants as shown
 use Rattle.hay_reader.specs.declared.causes.PassedReplica.{PassedReplica}
@@ -130,18 +130,23 @@ gives_shown Tells sure still cookie put (place.Unseen at size) what gives = give
 abbrev pub arm_use : Bool → ℕ → ℕ → ArmUse
 arm_use sure before after = record { sure = sure; before = before; after = after }
 
--- none was passed over yet in this call
-pub places_none : {P : Type 0} (Tells : Type 0) (sure : Bool) (before start : ℕ) (row : List (Place P)) (cookie : Cookie) (passed : List PassedReplica) → ComeFirst start (length row) passed
-    → PassesRow Tells (arm_use sure before before) start row cookie passed passed
-places_none Tells sure before start row cookie passed first = record {
+-- none is passed over in a call
+pub none_passed : {P : Type 0} (Tells : Type 0) (arm : ArmUse) (start : ℕ) (row : List (Place P)) (cookie : Cookie) (passed : List PassedReplica) → ComeFirst start (length row) passed
+    → PassesRow Tells arm start row cookie passed passed
+none_passed Tells arm start row cookie passed first = record {
   passes = record {
     begins = take-length passed;
     order = first;
-    each = subst (λ (ps : List PassedReplica). AllByRecursion (λ p. HasArmCause before before p.cause) ps) (sym (drop-length passed)) tt;
+    each = subst (λ (ps : List PassedReplica). AllByRecursion (λ p. HasArmCause arm.before arm.after p.cause) ps) (sym (drop-length passed)) tt;
     rises = subst (λ (ps : List PassedReplica). EachPair (λ a b. ArmRises a.cause b.cause) ps) (sym (drop-length passed)) tt;
   };
-  places = subst (λ (ps : List PassedReplica). AllByRecursion (λ p. PlaceGives Tells sure cookie [] (place_in row p.replica) (Err p.cause)) ps) (sym (drop-length passed)) tt;
+  places = subst (λ (ps : List PassedReplica). AllByRecursion (λ p. PlaceGives Tells arm.sure cookie [] (place_in row p.replica) (Err p.cause)) ps) (sym (drop-length passed)) tt;
 }
+
+-- none was passed over yet in this call
+pub places_none : {P : Type 0} (Tells : Type 0) (sure : Bool) (before start : ℕ) (row : List (Place P)) (cookie : Cookie) (passed : List PassedReplica) → ComeFirst start (length row) passed
+    → PassesRow Tells (arm_use sure before before) start row cookie passed passed
+places_none Tells sure before start row cookie passed first = none_passed Tells (arm_use sure before before) start row cookie passed first
 
 -- one more replica was passed over
 pub places_more : {P : Type 0} (Tells : Type 0) (sure still : Bool) (before mid new start : ℕ) (row : List (Place P)) (cookie : Cookie) (put : List ℕ) (passed causes : List PassedReplica) (over : PassedReplica)
@@ -155,23 +160,32 @@ places_more Tells sure still before mid new start row cookie put passed causes o
       (gives_passed Tells sure still cookie put (place_in row over.replica) over.cause stays gives));
 }
 
+-- what a place gives, where it is the next
+pub reads_at : {P : Type 0} (Tells : Type 0) (arm : ArmUse) (start : ℕ) (row : List (Place P)) (cookie : Cookie) (put : List ℕ) (passed causes : List PassedReplica) (j : ℕ) (what : Shown)
+    → ShowsPlace Tells arm start row cookie passed causes put j what → ReadsRow Tells arm start row cookie passed put (reply_at j causes what)
+reads_at Tells arm start row cookie put passed causes j shown.Photo shows = (causes, shows)
+reads_at Tells arm start row cookie put passed causes j shown.Gone shows = (causes, shows)
+reads_at Tells arm start row cookie put passed causes j shown.WrongCookie shows = (causes, shows)
+reads_at Tells arm start row cookie put passed causes j shown.Unseen shows = shows
+
+-- of a place that was seen, its replica shows the reply
+pub shows_at : (j : ℕ) (causes : List PassedReplica) (what : Shown) → IsOfSeen what → ShowsAt j (reply_at j causes what)
+shows_at j causes shown.Photo seen = refl
+shows_at j causes shown.Gone seen = refl
+shows_at j causes shown.WrongCookie seen = refl
+shows_at j causes shown.Unseen seen = seen
+
 -- the next replica showed what its place gives
 pub shows_place : {P : Type 0} (Tells : Type 0) (sure still : Bool) (before mid new start : ℕ) (row : List (Place P)) (cookie : Cookie) (put : List ℕ) (passed causes : List PassedReplica) (j : ℕ) (what : Shown)
     → PassesRow Tells (arm_use sure before mid) start row cookie passed causes → length causes < length row → j ≡ (start + length causes) % length row → mid ≤ new → (new ≡ mid) ⊎ (new < 2 ^ 64)
     → PlaceGives Tells still cookie put (place_in row j) (Ok what) → ReadsRow Tells (arm_use sure before new) start row cookie passed put (reply_at j causes what)
 shows_place {P} Tells sure still before mid new start row cookie put passed causes j what so_far fewer next later most gives =
-    reads_at what (record {
+    reads_at Tells (arm_use sure before new) start row cookie put passed causes j what (record {
       before = record { passes = passes_later start (length row) before mid new passed causes later most so_far.passes; places = so_far.places };
       fewer = fewer;
       next = next;
       gives = gives_shown Tells sure still cookie put (place_in row j) what gives;
     })
-  where
-    reads_at : (what : Shown) → ShowsPlace Tells (arm_use sure before new) start row cookie passed causes put j what → ReadsRow Tells (arm_use sure before new) start row cookie passed put (reply_at j causes what)
-    reads_at shown.Photo shows = (causes, shows)
-    reads_at shown.Gone shows = (causes, shows)
-    reads_at shown.WrongCookie shows = (causes, shows)
-    reads_at shown.Unseen shows = shows
 
 pub has_bytes : (j : ℕ) (causes : List PassedReplica) (bytes : List ℕ) (what : Shown) → PutsOut bytes (Ok what) → HasBytes bytes (reply_at j causes what)
 has_bytes j causes bytes shown.Photo puts = puts

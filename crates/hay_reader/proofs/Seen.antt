@@ -7,13 +7,16 @@ use Rattle.hay_needle.specs.declared.needle.Cookie.{Cookie}
 use Rattle.hay_needle.specs.declared.needle.NeedleView.{NeedleView}
 use Rattle.hay_needle.specs.declared.needle.Photo.{Photo}
 use Rattle.hay_needle.specs.Needle.{BeginsWithNeedle, needle_of_view}
-use Rattle.hay_needle.proofs.Needles.{length-needle, reflagged}
+use Rattle.hay_needle.specs.declared.needle.Needle.{Needle}
+use Rattle.hay_needle.proofs.Needles.{length-needle, one_needle, reflagged}
 use Rattle.hay_map.specs.Sealed.{SealedNeedle}
+use Rattle.hay_map.specs.declared.place.Place.{Place}
+use Rattle.hay_map.specs.declared.place.Place.TheVariants as place
 use Rattle.hay_reply.specs.declared.Cause.{Cause}
 use Rattle.hay_reply.specs.declared.Cause.TheVariants as cause
 use Rattle.hay_reader.specs.declared.trial.Shown.{Shown}
 use Rattle.hay_reader.specs.declared.trial.Shown.TheVariants as shown
-use Rattle.hay_reader.specs.Tried.{HasPhoto, ReadsBytes, NeedleGives, IsDamageAt}
+use Rattle.hay_reader.specs.Tried.{HasItsPhoto, HasPhoto, IsOfSeen, IsRead, NeedleGives, PlaceGives, ReadsBytes, ShowsPhoto, IsDamageAt}
 
 -- all but the byte at the hole are as they were
 but_set : (bytes seen : List ℕ) (hole : ℕ) → hole < length bytes → IsBut hole bytes seen → seen ≡ set bytes hole (get_or seen hole 0)
@@ -87,3 +90,38 @@ photo_read bytes put v cookie begins same out =
 
 pub other_cookie : (v : NeedleView) (cookie : Cookie) → v.cookie.0 ≢ cookie.0 → v.cookie ≢ cookie
 other_cookie v cookie ne e = ne (ap (λ (k : Cookie). k.0) e)
+
+-- A NEEDLE THAT WAS READ TO SEE ITS PLACE
+
+same_photo : (bytes others : List ℕ) (a b : Photo) → HasPhoto bytes a → HasPhoto bytes b → HasPhoto others a → HasPhoto others b
+same_photo bytes others a b has also there =
+    let same : a ≡ b = sym has.2 ∙ ap (λ (n : Needle). n.photo) (one_needle bytes has.0 also.0 has.1 also.1) ∙ also.2 in
+    subst (λ (p : Photo). HasPhoto others p) same there
+
+-- what bytes show, others of the same photo show
+shows_same : (cookie : Cookie) (put bytes others : List ℕ) (photo : Photo) (what : Shown) → HasPhoto bytes photo → HasPhoto others photo → ShowsPhoto cookie put bytes what → ShowsPhoto cookie put others what
+shows_same cookie put bytes others photo shown.Photo has there shows = same_photo bytes others photo _ has shows there
+shows_same cookie put bytes others photo shown.WrongCookie has there shows = (shows.0, shows.1, same_photo bytes others photo shows.0 has shows.2 there)
+shows_same cookie put bytes others photo shown.Gone has there shows = absurd shows
+shows_same cookie put bytes others photo shown.Unseen has there shows = absurd shows
+
+is_read : (cookie : Cookie) (put bytes : List ℕ) (what : Shown) → ShowsPhoto cookie put bytes what → IsRead what
+is_read cookie put bytes shown.Photo shows = tt
+is_read cookie put bytes shown.WrongCookie shows = tt
+is_read cookie put bytes shown.Gone shows = shows
+is_read cookie put bytes shown.Unseen shows = shows
+
+-- what is shown of a needle is of a place that was seen
+pub of_seen : (cookie : Cookie) (put bytes : List ℕ) (what : Shown) → ShowsPhoto cookie put bytes what → IsOfSeen what
+of_seen cookie put bytes shown.Photo shows = tt
+of_seen cookie put bytes shown.WrongCookie shows = tt
+of_seen cookie put bytes shown.Gone shows = absurd shows
+of_seen cookie put bytes shown.Unseen shows = shows
+
+-- what bytes of its photo show, a place gives
+pub place_shown : {P : Type 0} (Tells : Type 0) (sure : Bool) (cookie : Cookie) (put bytes : List ℕ) (there : Place P) (needle : SealedNeedle) (what : Shown) → there ≡ place.Live needle
+    → HasItsPhoto bytes there → ShowsPhoto cookie put bytes what → PlaceGives Tells sure cookie put there (Ok what)
+place_shown {P} Tells sure cookie put bytes there needle what is its shows =
+    let own = subst (λ (p : Place P). HasItsPhoto bytes p) is its in
+    subst (λ (p : Place P). PlaceGives Tells sure cookie put p (Ok what)) (sym is)
+    (is_read cookie put bytes what shows, λ tells. shows_same cookie put bytes needle.bytes own.0 what own.1 own.2 shows)

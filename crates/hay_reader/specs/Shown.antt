@@ -25,6 +25,14 @@ reply_at j causes shown.Gone = reply.Gone j
 reply_at j causes shown.WrongCookie = reply.WrongCookie j
 reply_at j causes shown.Unseen = reply.Unseen j causes
 
+-- this replica showed the reply
+abbrev pub ShowsAt : ℕ → ReadReply → Type 0
+ShowsAt j (reply.Photo i) = i ≡ j
+ShowsAt j (reply.Gone i) = i ≡ j
+ShowsAt j (reply.WrongCookie i) = i ≡ j
+ShowsAt j (reply.Unseen i causes) = ⊥
+ShowsAt j (reply.Unreadable causes) = ⊥
+
 -- The replicas that come before this one were passed over, and its place gives what is shown.
 pub record ShowsPlace {P : Type 0} (Tells : Type 0) (arm : ArmUse) (start : ℕ) (row : List (Place P)) (cookie : Cookie) (passed causes : List PassedReplica) (put : List ℕ) (j : ℕ) (what : Shown) : Type 0 where
   pub before : PassesRow Tells arm start row cookie passed causes

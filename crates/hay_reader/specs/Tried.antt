@@ -22,6 +22,20 @@ HasPhoto bytes photo = (needle : Needle) × BeginsWithNeedle bytes needle × (ne
 abbrev pub HasNone : List ℕ → Type 0
 HasNone bytes = (needle : Needle) → BeginsWithNeedle bytes needle → ⊥
 
+-- The place was looked at, and where it has a needle, one begins in these bytes.
+abbrev pub CanShow : {P : Type 0} → List ℕ → Place P → Type 0
+CanShow bytes (place.Live needle) = (photo : Photo) × HasPhoto bytes photo
+CanShow bytes place.None = Unit {0}
+CanShow bytes place.Gone = Unit {0}
+CanShow bytes (place.Unseen at size) = ⊥
+
+-- Where a place has a needle, these bytes begin with one of the same photo.
+abbrev pub HasItsPhoto : {P : Type 0} → List ℕ → Place P → Type 0
+HasItsPhoto bytes (place.Live needle) = (photo : Photo) × HasPhoto bytes photo × HasPhoto needle.bytes photo
+HasItsPhoto bytes place.None = Unit {0}
+HasItsPhoto bytes place.Gone = Unit {0}
+HasItsPhoto bytes (place.Unseen at size) = Unit {0}
+
 -- what bytes show to who has this cookie; `put` are those that were put out
 abbrev pub ShowsPhoto : Cookie → List ℕ → List ℕ → Shown → Type 0
 ShowsPhoto cookie put bytes shown.Photo = HasPhoto bytes (record { cookie = cookie; bytes = put })
@@ -40,6 +54,13 @@ IsRead shown.Photo = Unit {0}
 IsRead shown.WrongCookie = Unit {0}
 IsRead shown.Gone = ⊥
 IsRead shown.Unseen = ⊥
+
+-- the place was looked at
+abbrev pub IsOfSeen : Shown → Type 0
+IsOfSeen shown.Photo = Unit {0}
+IsOfSeen shown.Gone = Unit {0}
+IsOfSeen shown.WrongCookie = Unit {0}
+IsOfSeen shown.Unseen = ⊥
 
 -- what the try of a needle gives: it tells its photo, or is passed over for an arm that may fail or for its damage
 abbrev pub NeedleGives : Type 0 → Bool → Cookie → List ℕ → SealedNeedle → Result Shown Cause → Type 0

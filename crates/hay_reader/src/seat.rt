@@ -1,12 +1,13 @@
 //! The seat of a lane that reads.
-ghost use Rattle.std.specs.Prelude.{◌≡◌, ◌<◌, ◌≤◌, ◌^◌, ◌⊎◌, [], true, length, IfOk, IfErr};
+ghost use Rattle.std.specs.Prelude.{◌≡◌, ◌<◌, ◌≤◌, ◌+◌, ◌%◌, ◌^◌, ◌⊎◌, [], true, length, IfOk, IfErr};
 ghost use Rattle.std.specs.Vec.{vec_capacity};
 ghost use Rattle.hay_disk.specs.Counts.{StaysSure};
-ghost use Rattle.hay_reader.specs.Tried.{PlaceGives, FailsBy, PutsOut};
-ghost use Rattle.hay_reader.specs.Causes.{ComeFirst};
-ghost use Rattle.hay_reader.specs.Shown.{reply_at, ReadsRow, NoArm, HasBytes};
+ghost use Rattle.hay_map.specs.Places.{place_in};
+ghost use Rattle.hay_reader.specs.Tried.{CanShow, HasItsPhoto, PlaceGives, FailsBy, PutsOut};
+ghost use Rattle.hay_reader.specs.Causes.{ArmUse, ComeFirst};
+ghost use Rattle.hay_reader.specs.Shown.{reply_at, ReadsRow, ShowsAt, NoArm, HasBytes};
 
-use crate::trial::{Shown, try_place};
+use crate::trial::{Shown, show_place, try_place};
 use crate::{Causes, PassedReplica};
 use hay_base::NoMemory;
 use hay_disk::{Arm, Piece};
@@ -164,6 +165,36 @@ impl<A> LaneSeat<A> {
     {
         try_place(&mut self.arm, &mut self.needle, place, cookie, out)
     }
+}
+
+/// Goes on with a read at a place that was seen, from the bytes that were read to see it, where `passed` are the replicas that come
+/// first from `start` on and were passed over. It uses no arm, and takes no memory, as `out` has room for the largest photo.
+pub fn show_seen<P: Piece>(
+    row: &Row<P>,
+    cookie: Cookie,
+    start: usize,
+    passed: Causes,
+    needle: &[u8],
+    out: &mut Vec<u8>,
+) -> ReadReply
+    requires start { start < length row.now }
+    requires first { ComeFirst start (length row.now) passed }
+    requires fewer { length passed < length row.now }
+    requires needle { CanShow needle.now (place_in row.now ((start + length passed) % length row.now)) }
+    requires empty { out.old.items ≡ [] }
+    requires room { MAX_PHOTO ≤ vec_capacity out.old }
+
+    // Where the bytes have the photo of the place, what is shown is what stands there. No replica is passed over in this call.
+    ensures reads { (arm : ArmUse) → HasItsPhoto needle.now (place_in row.now ((start + length passed) % length row.now)) →
+        ReadsRow P.Tells arm start row.now cookie passed out.new.items result }
+    ensures next { ShowsAt ((start + length passed) % length row.now) result }
+    ensures bytes { HasBytes out.new.items result }
+    ensures room { vec_capacity out.old ≤ vec_capacity out.new }
+{
+    let replicas = row.len();
+    let replica = (start + passed.len()) % replicas;
+    let shown = show_place(row.place(replica), needle, cookie, out);
+    reply_of(shown, replica as u32, passed)
 }
 
 fn reply_of(shown: Shown, replica: u32, causes: Causes) -> ReadReply

@@ -1,8 +1,8 @@
 //! The try of one replica.
-ghost use Rattle.std.specs.Prelude.{◌≡◌, ◌≤◌, ◌<◌, ◌+◌, ◌^◌, ◌⊎◌, ◌++◌, [], true, length, vec_len, max, IfErr};
+ghost use Rattle.std.specs.Prelude.{◌≡◌, ◌≤◌, ◌<◌, ◌+◌, ◌^◌, ◌⊎◌, ◌++◌, [], Bool, true, length, vec_len, max, Ok, IfErr};
 ghost use Rattle.std.specs.Vec.{vec_capacity};
 ghost use Rattle.hay_disk.specs.Counts.{IsCounted, StaysSure};
-ghost use Rattle.hay_reader.specs.Tried.{NeedleGives, PlaceGives, ReadsBytes, FailsBy, IsDamageAt, PutsOut};
+ghost use Rattle.hay_reader.specs.Tried.{CanShow, HasItsPhoto, IsOfSeen, NeedleGives, PlaceGives, ReadsBytes, FailsBy, IsDamageAt, PutsOut};
 
 use hay_disk::{Arm, Failed, Piece};
 use hay_map::{Place, Sealed};
@@ -43,6 +43,31 @@ pub fn try_place<P: Piece, A: Arm<P>>(
         Place::Live(needle) => try_needle(arm, buffer, needle, cookie, out),
         Place::Unseen { .. } => Ok(Shown::Unseen),
         Place::None | Place::Gone => Ok(Shown::Gone),
+    }
+}
+
+/// What the replica of this place shows, by the bytes that were read when the place was seen.
+pub fn show_place<P: Piece>(
+    place: &Place<P>,
+    needle: &[u8],
+    cookie: Cookie,
+    out: &mut Vec<u8>,
+) -> Shown
+    requires needle { CanShow needle.now place.now }
+    requires empty { out.old.items ≡ [] }
+    requires room { MAX_PHOTO ≤ vec_capacity out.old }
+    ensures gives { (sure : Bool) → HasItsPhoto needle.now place.now → PlaceGives P.Tells sure cookie out.new.items place.now (Ok result) }
+    ensures seen { IsOfSeen result }
+    ensures bytes { PutsOut out.new.items (Ok result) }
+    ensures room { vec_capacity out.old ≤ vec_capacity out.new }
+{
+    match place {
+        Place::Live(sealed) => match read_photo(needle, sealed.at(), cookie, out) {
+            Ok(shown) => shown,
+            Err(_) => unreachable!(),
+        },
+        Place::None | Place::Gone => Shown::Gone,
+        Place::Unseen { .. } => unreachable!(),
     }
 }
 

@@ -5,7 +5,8 @@ use Rattle.hay_map.specs.declared.place.Place.TheVariants as place
 use Rattle.hay_compact.specs.Finishing.{IsSeen}
 use Rattle.hay_physical.specs.declared.fault.ReplicaFault.{ReplicaFault}
 use Rattle.hay_logical.specs.Draws.{DrawsAtMost, look_total}
-use Rattle.hay_logical.proofs.Looking.{Looked, becomes_same, becomes_seen, same_places, same_sets, set_places, sets_this, sight_seen, sights_looked, sights_none}
+use Rattle.hay_logical.specs.Steps.{IsSeenBy}
+use Rattle.hay_logical.proofs.Looking.{Looked, becomes_same, becomes_seen, same_places, same_sets, set_here, set_places, sets_this, sight_seen, sights_looked, sights_none}
 use Rattle.hay_logical.proofs.sights.see.Goals as goal
 
 pub returns-in-Ok-see-clause-sights : goal.returns-in-Ok-see-clause-sights
@@ -82,3 +83,19 @@ returns-clause-drawn g c = λ tells.
 
 pub returns-in-None-clause-drawn : goal.returns-in-None-clause-drawn
 returns-in-None-clause-drawn g c = λ tells n. omega arith
+
+pub returns-in-Ok-see-clause-needle : goal.returns-in-Ok-see-clause-needle
+returns-in-Ok-see-clause-needle g c = λ unseen.
+    let seen = c.in-Ok.ensures in
+    let long : c.args.at < length (row_at c.args.rows.now c.args.pair) = let w = c.requires.within in let l = c.row-row.ensures.long in subst (λ x. c.args.at < length x) c.row-row.ensures.row (omega (arith, w, l)) in
+    let here : place_in (row_at c.see.new.self c.args.pair) c.args.at ≡ c.in-Ok.seen = set_here c.args.pair c.args.at c.args.rows.now c.see.new.self c.in-Ok.seen c.in-Ok-see.ensures.ok.rows long in
+    subst (λ p. IsSeenBy g.D.Disk.Tells g.D.Piece.Piece.Tells c.cell.new.out.items p) (sym here)
+    (record { cell = seen.needle.0; needle = seen.needle.1.is; sight = seen.needle.3; place = λ tells. (seen.known tells seen.needle.0 (seen.needle.4 tells) seen.needle.1.place).1 })
+
+pub returns-in-None-clause-needle : goal.returns-in-None-clause-needle
+returns-in-None-clause-needle g c = λ unseen.
+    let seen : IsSeen c.place.result.now = elim c.in-None.is [
+      | inl none ↦ subst IsSeen (sym none) tt
+      | inr others ↦ elim others [ inl live ↦ subst IsSeen (sym live.1) tt | inr gone ↦ subst IsSeen (sym gone) tt ]
+    ] in
+    absurd (unseen (subst IsSeen (c.place.ensures ∙ ap (λ l. place_in l c.args.at) c.row-row.ensures.row) seen))

@@ -20,7 +20,6 @@ use Rattle.hay_logical.proofs.Methods.{same_by, same_still, shaped_on}
 use Rattle.hay_logical.proofs.Standing.{volume_with}
 use Rattle.hay_logical.proofs.Changing.{delete_failed, delete_refused, delete_remains, deleted, deleted_same, not_held, some_none}
 use Rattle.hay_logical.proofs.Reaching.{delete_row, failed_row}
-use Rattle.hay_logical.specs.declared.unsure.Change.{Change}
 use Rattle.hay_logical.proofs.Freezing.{frozen_machine}
 use Rattle.hay_logical.proofs.logical.Logical.delete_seen.Goals as goal
 

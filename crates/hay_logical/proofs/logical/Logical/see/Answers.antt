@@ -8,7 +8,7 @@ use Rattle.hay_map.specs.Places.{PlaceMeans, place_in}
 use Rattle.hay_map.specs.Rows.{row_at}
 use Rattle.hay_compact.specs.Finishing.{IsSeen}
 use Rattle.hay_logical.specs.Answers.{IsSightFault}
-use Rattle.hay_logical.specs.Steps.{SetsPlaceAt}
+use Rattle.hay_logical.specs.Steps.{IsSeenBy, SetsPlaceAt}
 use Rattle.hay_logical.proofs.logical.Logical.see.Goals as goal
 use Rattle.hay_logical.proofs.logical.Logical.see.Goals.{in-Ok, in-Err}
 
@@ -72,4 +72,13 @@ pub returns-clause-machine : goal.returns-clause-machine
 returns-clause-machine g c = λ m count e. elim c.match-see_in.branch [
   | in-Ok w ↦ let wrong = sym w.result-is ∙ e in cc
   | in-Err w ↦ c.see_in.ensures.machine m count (let was = w.in-Err.is in let is = w.result-is in cc)
+]
+
+pub returns-clause-needle : goal.returns-clause-needle
+returns-clause-needle g c = λ unseen. elim c.match-see_in.branch [
+  | in-Ok w ↦
+      let by = subst (λ x. OnOk x (IsSeenBy g.D.Disk.Tells g.D.Piece.Piece.Tells c.see_in.new.out.items (place_in (row_at c.see_in.new.self.rows c.args.pair) c.args.replica))) w.in-Ok.is (c.see_in.ensures.needle unseen) in
+      subst (λ r. IfOk r (λ looked. IsSeenBy g.D.Disk.Tells g.D.Piece.Piece.Tells c.see_in.new.out.items (place_in looked.row c.args.replica))) (sym w.result-is)
+      (subst (λ l. IsSeenBy g.D.Disk.Tells g.D.Piece.Piece.Tells c.see_in.new.out.items (place_in l c.args.replica)) (sym (w.row.ensures.row ∙ ap (λ v. row_at v.rows c.args.pair) c.self.view_is)) by)
+  | in-Err w ↦ rw w.result-is tt
 ]

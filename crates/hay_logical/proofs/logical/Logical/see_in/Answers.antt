@@ -15,7 +15,7 @@ use Rattle.hay_physical.specs.declared.fault.ReplicaFault.{ReplicaFault}
 use Rattle.hay_logical.specs.Answers as answers
 use Rattle.hay_logical.specs.Fits.{At}
 use Rattle.hay_logical.specs.Stands.{Stands, StandsFor}
-use Rattle.hay_logical.specs.Steps.{CallsOne, SetsPlaceAt, SightsAt}
+use Rattle.hay_logical.specs.Steps.{CallsOne, IsSeenBy, SetsPlaceAt, SightsAt}
 use Rattle.hay_logical.specs.Volumes.{CanReach, IsShaped, KeepsCounts}
 use Rattle.hay_logical.proofs.Lists.{at_below, at_there}
 use Rattle.hay_logical.proofs.Methods.{one_after, one_count, one_each, other_same, same_by, shaped_on}
@@ -219,3 +219,13 @@ returns-clause-others g c = λ j apart r r' e f.
     let kept = with_items_is c.self.inside.replicas c.see_at.new.replicas (c.see_at.auto.replicas ∙ c.as_mut_slice.ensures.len) in
     let one : CallsOne c.args.replica c.self.inside.replicas.items c.see_at.new.replicas = subst (λ xs. CallsOne c.args.replica xs c.see_at.new.replicas) now c.see_at.ensures.one in
     other_same c.args.replica c.self.inside.replicas.items c.see_at.new.replicas one j apart r r' (subst (λ v. At v.replicas j r) (sym c.self.view_is) e) (subst (λ xs. At xs j r') kept f)
+
+pub returns-clause-needle : goal.returns-clause-needle
+returns-clause-needle g c = λ unseen. elim c.match-see_at.branch [
+  | in-Ok w ↦
+      let read = c.see_at.ensures.needle (λ seen. unseen (subst (λ v. IsSeen (place_in (row_at v.rows c.args.pair) c.args.replica)) c.self.view_is seen)) in
+      let by : IsSeenBy g.D.Disk.Tells g.D.Piece.Piece.Tells c.see_at.new.out.items (place_in (row_at c.see_at.new.rows c.args.pair) c.args.replica) =
+      subst (λ x. OnOk x (IsSeenBy g.D.Disk.Tells g.D.Piece.Piece.Tells c.see_at.new.out.items (place_in (row_at c.see_at.new.rows c.args.pair) c.args.replica))) w.in-Ok.is read in
+      subst (λ r. OnOk r (IsSeenBy g.D.Disk.Tells g.D.Piece.Piece.Tells c.see_at.new.out.items (place_in (row_at c.see_at.new.rows c.args.pair) c.args.replica))) (sym w.result-is) by
+  | in-Err w ↦ rw w.result-is tt
+]
