@@ -48,7 +48,7 @@ open_all-requires g c = (
 
 pub notes_of-requires : goal.notes_of-requires
 notes_of-requires g c = (
-  omega arith,
+  search (rules, c.requires-raw),
   (
       let now = c.as_mut_slice.ensures.value in
       let kept = with_items_is c.self.inside.replicas c.open_all.new.replicas (c.open_all.auto.replicas ∙ c.as_mut_slice.ensures.len) in
