@@ -230,7 +230,7 @@ module _ {D P A : Type 0} (DiskTells : Type 0) (files : D → Files) (Tells : Ty
       volume_named tells old shape by.volume r.refusal.replica slot file at by.before r.cause.before r.cause.after r.refusal.fault by.was r.cause.was r.cause.cause (sym r.told ∙ is)
 
   -- a disk that is not void keeps its bytes
-  contents_kept : DiskTells → (old new : Open D P A) → IsShaped old → MovedParts DiskTells files Tells faults fuses arm_faults old new → (slot : ℕ) → slot < disk_count old.settings
+  pub contents_kept : DiskTells → (old new : Open D P A) → IsShaped old → MovedParts DiskTells files Tells faults fuses arm_faults old new → (slot : ℕ) → slot < disk_count old.settings
       → (IsVoid (contents_in files old slot) → ⊥) → ◌≡◌ {A = Contents} (contents_in files new slot) (contents_in files old slot)
   contents_kept tells old new shape m slot below some =
       let many = disks_many old shape in

@@ -1,4 +1,4 @@
--- What is given back of the disks of a store that was not opened.
+-- What is left of the disks of a store that was opened, or was not.
 use Rattle.std.proofs.Common.{◌≡◌, ℕ, zero, suc, ◌+◌, ◌<◌, ◌⊎◌, inl, inr, Bool, List, [], ◌∷◌, length, Some, refl, sym, ap, subst, ◌∙◌, arith}
 use Rattle.std.proofs.lemmas.Option.{same_Some}
 use Rattle.std.specs.Prelude.{slice_get}
@@ -15,13 +15,13 @@ use Rattle.hay_legal.specs.Statuses.{FindsNothing}
 use Rattle.hay_directory.specs.Rows.{OpensRows}
 use Rattle.hay_logical.specs.Fits.{IsReplica, found_as, super_of}
 use Rattle.hay_cluster.specs.Opening.{MovesVolume}
-use Rattle.hay_cluster.specs.Outside.{IsKept}
-use Rattle.hay_cluster.specs.Store.{IsShaped, Open, disks_of}
+use Rattle.hay_cluster.specs.Outside.{IsKept, KeepsContents, read_of}
+use Rattle.hay_cluster.specs.Store.{IsShaped, Open, contents_in, disks_of}
 use Rattle.hay_cluster.proofs.ClosingStore.{order_get, order_item, order_self}
 use Rattle.hay_cluster.proofs.Moves.{volume_of}
-use Rattle.hay_cluster.proofs.OpeningDamage.{slot_found, zip_get}
+use Rattle.hay_cluster.proofs.OpeningDamage.{contents_kept, slot_found, zip_get}
 use Rattle.hay_cluster.proofs.OpeningStore.{MovedParts, shape_moved}
-use Rattle.hay_cluster.proofs.OpeningTaken.{IsTaken, KeepsBytes, disks_keep, in_volume, taken_disk}
+use Rattle.hay_cluster.proofs.OpeningTaken.{IsTaken, KeepsBytes, disks_keep, in_volume, taken_contents, taken_disk}
 
 void_or : (l : List ℕ) → (l ≡ []) ⊎ (l ≡ [] → ⊥)
 void_or [] = inl refl
@@ -103,3 +103,18 @@ module _ {D P A : Type 0} (DiskTells : Type 0) (files : D → Files) (Tells : Ty
         → (slot : ℕ) → slot < disk_count settings → IsKept slot (disks slot) (after slot)
     back_kept tells settings old new after same t m given slot below =
         kept_in tells old new after t m given slot (subst (λ (s : Settings). slot < disk_count s) (sym same) below)
+
+    -- each disk that was not void has what it had
+    pub contents_stay : DiskTells → (settings : Settings) (old new : Open D P A) → old.settings ≡ settings → IsTaken DiskTells files Tells faults fuses arm_faults drawn sure disks arms old
+        → MovedParts DiskTells files Tells faults fuses arm_faults old new → KeepsContents settings (λ slot. read_of (disks slot)) (contents_in files new)
+    contents_stay tells settings old new same t m slot file below some =
+        let less : slot < disk_count old.settings = subst (λ (s : Settings). slot < disk_count s) (sym same) below in
+        let was = taken_contents DiskTells files Tells faults fuses arm_faults drawn sure disks arms tells old t slot less in
+        let void : contents_in files old slot 0 ≡ [] → ⊥ = λ none. some (ap (λ (contents : Contents). contents 0) (sym was) ∙ none) in
+        ap (λ (contents : Contents). contents file) (contents_kept DiskTells files Tells faults fuses arm_faults tells old new t.shape m slot less void ∙ was)
+
+    -- and so it has where it is given back
+    pub back_contents : (settings : Settings) (new : Open D P A) (after : ℕ → HeldDisk) → ((slot : ℕ) → slot < disk_count settings → read_of (after slot) ≡ contents_in files new slot)
+        → KeepsContents settings (λ slot. read_of (disks slot)) (contents_in files new) → KeepsContents settings (λ slot. read_of (disks slot)) (λ slot. read_of (after slot))
+    back_contents settings new after given keeps slot file below some =
+        ap (λ (contents : Contents). contents file) (given slot below) ∙ keeps slot file below some

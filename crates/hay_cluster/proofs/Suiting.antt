@@ -24,7 +24,7 @@ use Rattle.hay_cluster.specs.Lacks.{lack_of}
 use Rattle.hay_cluster.specs.Maintenance.{IsRefusedAs, command_of, done_as}
 use Rattle.hay_cluster.specs.Puts.{IsPutReply, IsRefusal, settle_reply}
 use Rattle.hay_cluster.specs.Store.{IsBuilt}
-use Rattle.hay_cluster.specs.Suiting.{AtReplica, IsOn, IsReadOnlyAt, IsRefusedBy, Refuses, Suits, SuitsBegin, SuitsCompact, SuitsDel, SuitsFlush, SuitsPut, SuitsRun}
+use Rattle.hay_cluster.specs.Suiting.{AtReplica, IsOn, IsReadOnlyAt, IsRefusedBy, Refuses, Suits, SuitsBegin, SuitsCompact, SuitsDel, SuitsFlush, SuitsFuse, SuitsPut, SuitsRun}
 use Rattle.hay_cluster.proofs.Finds.{range-snoc, map_found}
 use Rattle.hay_cluster.proofs.Lists.{AllZip-append, map-append}
 use Rattle.hay_cluster.proofs.Machines.{replica_found}
@@ -49,6 +49,13 @@ at_none o suits none = subst (λ (p : Option ℕ). AtReplica p suits reply.Nowhe
 
 pub at_no_memory : (o : Option ℕ) (suits : ℕ → Reply → Type 0) (replica : ℕ) (said : Reply) → o ≡ Some replica → said ≡ reply.NoMem → AtReplica o suits said
 at_no_memory o suits replica said there is = subst (λ (p : Option ℕ). AtReplica p suits said) (sym there) (inr is)
+
+-- a fuse of a replica that there is, and of one that there is not
+pub fuses_one : (o : Option ℕ) (replica : ℕ) (done : Reply) → o ≡ Some replica → SuitsFuse o done done
+fuses_one o replica done there = subst (λ (p : Option ℕ). SuitsFuse p done done) (sym there) refl
+
+pub fuses_none : (o : Option ℕ) (done : Reply) → o ≡ None → SuitsFuse o done reply.Nowhere
+fuses_none o done none = subst (λ (p : Option ℕ). SuitsFuse p done reply.Nowhere) (sym none) refl
 
 -- PUTS
 

@@ -40,6 +40,10 @@ pub record WasVoid (slot : ℕ) (old new : HeldDisk) : Type 0 where
 abbrev pub IsKept : ℕ → HeldDisk → HeldDisk → Type 0
 IsKept slot old new = WasVoid slot old new ⊎ (new.files ≡ old.files) ⊎ LeavesAsRead old.files new.files
 
+-- Of each disk that was not void reads give what they gave, file by file.
+abbrev pub KeepsContents : Settings → (ℕ → Contents) → (ℕ → Contents) → Type 0
+KeepsContents settings old new = (slot file : ℕ) → slot < disk_count settings → (IsVoid (old slot) → ⊥) → new slot file ≡ old slot file
+
 -- The counts of a slot's disk behind an opening: its fuses are those from before.
 pub record CountsOn (old : HeldDisk) (faults fuses : ℕ) : Type 0 where
   pub faults_rise : old.fault_count ≤ faults

@@ -128,14 +128,16 @@ abbrev pub SuitsCompact : Settings → ℕ → ℕ → Reply → Type 0
 SuitsCompact settings v m said =
     Does (Compacted v m) said ⊎ IsReadOnlyAt settings v said ⊎ Does (Busy v m) said ⊎ (said ≡ Worn v m) ⊎ Does (Failed v m) said ⊎ Does (Damaged v m) said
 
--- DRAINS AND FUSES
+-- DRAINS AND FUSES, which take no memory
 
 -- it was done where there is this machine, and is nowhere exactly where there is none
 abbrev pub SuitsMachine : Settings → ℕ → Reply → Reply → Type 0
-SuitsMachine settings m done said = ((m < settings.machines) × (said ≡ done)) ⊎ ((settings.machines ≤ m) × (said ≡ Nowhere)) ⊎ (said ≡ NoMem)
+SuitsMachine settings m done said = ((m < settings.machines) × (said ≡ done)) ⊎ ((settings.machines ≤ m) × (said ≡ Nowhere))
 
-abbrev pub SuitsFuseDir : ℕ → Reply → Type 0
-SuitsFuseDir calls said = (said ≡ FusedDir calls) ⊎ (said ≡ NoMem)
+-- so with a replica
+abbrev pub SuitsFuse : Option ℕ → Reply → Reply → Type 0
+SuitsFuse (Some replica) done said = said ≡ done
+SuitsFuse None done said = said ≡ Nowhere
 
 -- EVERY COMMAND
 
@@ -153,6 +155,6 @@ Suits settings line (asks.Step v m cells) said = AtReplica (replica_on settings 
 Suits settings line (asks.Finish v m) said = AtReplica (replica_on settings v m) (λ replica. SuitsRun settings (Compacted v m) v m) said
 Suits settings line (asks.Drain m) said = SuitsMachine settings m (Drained m) said
 Suits settings line (asks.Undrain m) said = SuitsMachine settings m (Undrained m) said
-Suits settings line (asks.Fuse v m calls) said = AtReplica (replica_on settings v m) (λ replica said. said ≡ Fused v m calls) said
-Suits settings line (asks.FuseDir calls) said = SuitsFuseDir calls said
+Suits settings line (asks.Fuse v m calls) said = SuitsFuse (replica_on settings v m) (Fused v m calls) said
+Suits settings line (asks.FuseDir calls) said = said ≡ FusedDir calls
 Suits settings line (asks.Restart pick) said = ⊥

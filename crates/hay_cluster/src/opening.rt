@@ -17,7 +17,7 @@ ghost use Rattle.hay_logical.specs.Stands.{IsIdleVolume};
 ghost use Rattle.hay_logical.specs.Volumes.{IsClosed, IsOfSettings};
 ghost use Rattle.hay_cluster.specs.Causes.{HasFaultCause};
 ghost use Rattle.hay_cluster.specs.Draws.{DrawsVolume, EachDrewLittle, FlushedDrewLittle, StopsDrawing, drawn_in, looked_in, no_look, none_drawn};
-ghost use Rattle.hay_cluster.specs.Outside.{CountsOn, IsDamagedDisk, IsKept, IsUndamaged, IsUndamagedBelow, outside_of, read_of};
+ghost use Rattle.hay_cluster.specs.Outside.{CountsOn, IsDamagedDisk, IsKept, IsUndamaged, IsUndamagedBelow, KeepsContents, outside_of, read_of};
 ghost use Rattle.hay_cluster.specs.Opening.{FillsVolume, Gathers, IsResting, IsEmptyVolume, MovesDirectory, MovesVolume, OpensDirectory, OpensParts, OpensVolume, RefusesDirectory, RefusesParts, RefusesVolume, RefusesVolumes, StopsDirectory, StopsVolume};
 ghost use Rattle.hay_cluster.specs.Pending.{TellsPending, none_pending, pending_of};
 ghost use Rattle.hay_cluster.specs.State.{LeftAt, Stands};
@@ -54,6 +54,9 @@ impl<D: Disk, A: Arm<D::Piece>> Cluster<D, A> {
             IfOk result (λ store. (t : Known) × FaultsRose k t × Stands D.files D.Piece.Tells D.fault_count D.fuse_count A.fault_count store t) }
         // Nothing that it read of a disk is damaged.
         ensures sound { D.Tells → OnOk result (IsUndamaged settings (λ slot. read_of (H.disks shelf.old slot))) }
+        // Nothing that a disk had is changed but where it was void: whether the store was opened or not.
+        ensures contents { D.Tells → IfOk result (λ store. KeepsContents settings (λ slot. read_of (H.disks shelf.old slot)) (contents_in D.files store)) }
+        ensures contents_back { D.Tells → OnErr result (KeepsContents settings (λ slot. read_of (H.disks shelf.old slot)) (λ slot. read_of (H.disks shelf.new slot))) }
         // Of each volume file it read little more than the needles that have no record: of one whose needles all have theirs,
         // the superblock, the head of the last needle and the end mark.
         ensures drew { D.Tells → IfOk result (λ store.

@@ -49,6 +49,7 @@ module _ {D : Type 0} (Tells : Type 0) (files : D → Files) (drawn : D → ℕ 
   back_at old new disk taken given = record {
     kept = λ tells. inr (λ image may n.
         solid_whole (files disk n) (image n) (taken.solid tells n) (subst (λ (held : Files). IsImage (held n) (image n)) (given.files_are tells) (may n)) ∙ taken.now tells n);
+    now = λ tells n. ap (λ (held : Files). (held n).now) (given.files_are tells) ∙ taken.now tells n;
     drawn_is = λ tells n. given.drawn_is tells n ∙ taken.drawn_is tells n;
     fault_count = given.fault_count ∙ taken.fault_count;
     fuse_count = given.fuse_count ∙ taken.fuse_count;
@@ -58,6 +59,7 @@ module _ {D : Type 0} (Tells : Type 0) (files : D → Files) (drawn : D → ℕ 
   not_taken : (old new : HeldDisk) → new ≡ old → old.is_out ≡ false → IsPutBack Tells old new
   not_taken old new same in_place = record {
     kept = λ tells. inl (ap (λ (held : HeldDisk). held.files) same);
+    now = λ tells n. ap (λ (held : HeldDisk). (held.files n).now) same;
     drawn_is = λ tells n. ap (λ (held : HeldDisk). held.drawn n) same;
     fault_count = ap (λ (held : HeldDisk). held.fault_count) same;
     fuse_count = ap (λ (held : HeldDisk). held.fuse_count) same;

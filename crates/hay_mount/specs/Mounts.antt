@@ -57,6 +57,7 @@ LeavesAsRead old new = (image : ℕ → List ℕ) → MayLeave new image → (n 
 -- A disk was not taken, or was taken and given back as it was.
 pub record IsPutBack (Tells : Type 0) (old new : HeldDisk) : Type 0 where
   pub kept : Tells → (new.files ≡ old.files) ⊎ LeavesAsRead old.files new.files
+  pub now : Tells → (n : ℕ) → (new.files n).now ≡ (old.files n).now
   pub drawn_is : Tells → (n : ℕ) → new.drawn n ≡ old.drawn n
   pub fault_count : new.fault_count ≡ old.fault_count
   pub fuse_count : new.fuse_count ≡ old.fuse_count

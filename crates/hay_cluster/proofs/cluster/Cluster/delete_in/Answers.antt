@@ -78,8 +78,8 @@ returns-clause-up g c =
     ∙ ap (λ (vs : List (Volume g.row.D.Denot g.row.D-Piece.Denot)). slice_set vs c.args.volume c.delete.new.self) c.as_mut_slice.ensures.value in
     rw items (called_up c.args.self.now store c.args.volume c.delete.new.self c.self.view_is c.requires.up c.delete.ensures.«open»)
 
-pub delete-requires-clause-open : goal.delete-requires-clause-open
-delete-requires-clause-open g c =
+pub delete-requires : goal.delete-requires
+delete-requires g c =
     let store : Open g.row.D.Denot g.row.D-Piece.Denot g.row.A.Denot = record { settings = c.self.inside.settings; directory = c.self.inside.directory; volumes = c.self.inside.volumes.items; arms = c.self.inside.seats.items } in
     let within : c.args.volume < length c.self.inside.volumes.items = let same = ap (λ (st : Open g.row.D.Denot g.row.D-Piece.Denot g.row.A.Denot). (st.settings).volumes) c.self.view_is in omega (arith, c.requires.volume, c.self.invariant.many, same) in
     let volume : Volume g.row.D.Denot g.row.D-Piece.Denot = slice_index_or c.as_mut_slice.result.now c.args.volume c.index-as_mut_slice-volume.result in

@@ -5,7 +5,7 @@ use Rattle.hay_legal.specs.Known.{replica_on}
 use Rattle.hay_legal.specs.Plain.{LegalFuse, OnReplica}
 use Rattle.hay_cluster.specs.Store.{Open}
 use Rattle.hay_cluster.proofs.Answering.{answered, sets_on}
-use Rattle.hay_cluster.proofs.Suiting.{at_none, at_replica}
+use Rattle.hay_cluster.proofs.Suiting.{fuses_none, fuses_one}
 use Rattle.hay_cluster.proofs.cluster.Cluster.fuse.Goals as goal
 
 pub returns-clause-legal : goal.returns-clause-legal
@@ -29,11 +29,11 @@ returns-clause-fuses g c =
 pub returns-in_default-clause-suits : goal.returns-in_default-clause-suits
 returns-in_default-clause-suits g c = λ line.
     let same = ap (λ (st : Open g.row.D.Denot g.row.D-Piece.Denot g.row.A.Denot). st.settings) c.self.view_is in
-    at_none (replica_on (c.args.self.now).settings c.args.volume c.args.machine) (λ j said. said ≡ reply.Fused c.args.volume c.args.machine c.args.calls)
+    fuses_none (replica_on (c.args.self.now).settings c.args.volume c.args.machine) (reply.Fused c.args.volume c.args.machine c.args.calls)
     (ap (λ (s : Settings). replica_on s c.args.volume c.args.machine) (sym same) ∙ sym c.replica_on.ensures.is ∙ c.in_default.is)
 
 pub returns-clause-suits : goal.returns-clause-suits
 returns-clause-suits g c = λ line.
     let same = ap (λ (st : Open g.row.D.Denot g.row.D-Piece.Denot g.row.A.Denot). st.settings) c.self.view_is in
-    at_replica (replica_on (c.args.self.now).settings c.args.volume c.args.machine) (λ j said. said ≡ reply.Fused c.args.volume c.args.machine c.args.calls) c.in-Some.replica (reply.Fused c.args.volume c.args.machine c.args.calls)
-    (ap (λ (s : Settings). replica_on s c.args.volume c.args.machine) (sym same) ∙ sym c.replica_on.ensures.is ∙ c.in-Some.is) refl
+    fuses_one (replica_on (c.args.self.now).settings c.args.volume c.args.machine) c.in-Some.replica (reply.Fused c.args.volume c.args.machine c.args.calls)
+    (ap (λ (s : Settings). replica_on s c.args.volume c.args.machine) (sym same) ∙ sym c.replica_on.ensures.is ∙ c.in-Some.is)

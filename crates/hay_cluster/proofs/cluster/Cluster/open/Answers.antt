@@ -14,7 +14,7 @@ use Rattle.hay_cluster.proofs.OpeningFound.{found_new}
 use Rattle.hay_cluster.proofs.OpeningLists.{passed_on}
 use Rattle.hay_cluster.proofs.OpeningStore.{MovedParts, opens_up}
 use Rattle.hay_cluster.proofs.OpeningTaken.{IsTakingFault, back_arm, back_counts, back_failed, back_shelf, is_taken, moved_arms, moved_counts, moved_sure, not_memory_damaged, not_memory_failed, one_fault, passed_back, taken_idle, taken_rests, taking_damaged, taking_failed, taking_shelf}
-use Rattle.hay_cluster.proofs.OpeningVoid.{back_kept}
+use Rattle.hay_cluster.proofs.OpeningVoid.{back_contents, back_kept, contents_stay}
 use Rattle.hay_cluster.proofs.Pending.{opened_settled}
 use Rattle.hay_cluster.proofs.cluster.Cluster.open.Goals as goal
 
@@ -35,7 +35,7 @@ pub drop-volumes-requires-room-T-Destruct : goal.drop-volumes-requires-room-T-De
 drop-volumes-requires-room-T-Destruct g c =
     let held : IsTrue c.may_hold.result = search rules in
     let room = c.may_hold.ensures held in
-    one_fits 1 _ (omega arith) room.0
+    λ κs lives. one_fits 1 _ (omega arith) room.0
 
 pub take_parts-requires-clause-disks_in : goal.take_parts-requires-clause-disks_in
 take_parts-requires-clause-disks_in g c =
@@ -266,3 +266,25 @@ returns-in-Ok-clause-flushed g c = λ tells k finds.
     let short = g.met.D.Disk.fits in
     flushed_drew g.D.Disk.files g.D.Disk.drawn g.D.Piece.Piece.Tells (λ disk n. short disk n tells) g.D.Disk.fault_count g.D.Disk.fuse_count g.A.Arm.fault_count c.args.settings (λ slot. (g.H.Shelf.disks c.args.shelf.now slot).drawn) c.open_parts.new.self k found.0
     (c.open_parts.ensures.settings ∙ c.assemble-cluster.ensures.settings) finds.new found.1 found.2 (returns-in-Ok-clause-drew g c tells)
+
+pub returns-in-Ok-clause-contents : goal.returns-in-Ok-clause-contents
+returns-in-Ok-clause-contents g c =
+    let taken = is_taken g.D.Disk.Tells g.D.Disk.files g.D.Piece.Piece.Tells g.D.Disk.fault_count g.D.Disk.fuse_count g.A.Arm.fault_count g.D.Disk.drawn g.A.Arm.is_sure (g.H.Shelf.disks c.args.shelf.now) (g.H.Shelf.arms c.args.shelf.now) c.assemble-cluster.result c.in_ok-disks.disks.items c.in_ok-disks.seats.items c.assemble-cluster.ensures.shape c.assemble-cluster.ensures.fresh c.assemble-cluster.ensures.closed c.assemble-cluster.ensures.unsure c.assemble-cluster.ensures.disks c.assemble-cluster.ensures.arms c.in_ok-disks.ensures.disks c.in_ok-disks.ensures.arms in
+    let moved : MovedParts g.D.Disk.Tells g.D.Disk.files g.D.Piece.Piece.Tells g.D.Disk.fault_count g.D.Disk.fuse_count g.A.Arm.fault_count c.assemble-cluster.result c.open_parts.new.self = record { settings = c.open_parts.ensures.settings; arms = c.open_parts.ensures.arms; directory = c.open_parts.ensures.directory; volumes = c.open_parts.ensures.volumes } in
+    λ tells. contents_stay g.D.Disk.Tells g.D.Disk.files g.D.Piece.Piece.Tells g.D.Disk.fault_count g.D.Disk.fuse_count g.A.Arm.fault_count g.D.Disk.drawn g.A.Arm.is_sure (g.H.Shelf.disks c.args.shelf.now) (g.H.Shelf.arms c.args.shelf.now) tells c.args.settings c.assemble-cluster.result c.open_parts.new.self c.assemble-cluster.ensures.settings taken moved
+
+pub returns-in-Err-clause-contents_back : goal.returns-in-Err-clause-contents_back
+returns-in-Err-clause-contents_back g c =
+    let taken = is_taken g.D.Disk.Tells g.D.Disk.files g.D.Piece.Piece.Tells g.D.Disk.fault_count g.D.Disk.fuse_count g.A.Arm.fault_count g.D.Disk.drawn g.A.Arm.is_sure (g.H.Shelf.disks c.args.shelf.now) (g.H.Shelf.arms c.args.shelf.now) c.assemble-cluster.result c.in_ok-disks.disks.items c.in_ok-disks.seats.items c.assemble-cluster.ensures.shape c.assemble-cluster.ensures.fresh c.assemble-cluster.ensures.closed c.assemble-cluster.ensures.unsure c.assemble-cluster.ensures.disks c.assemble-cluster.ensures.arms c.in_ok-disks.ensures.disks c.in_ok-disks.ensures.arms in
+    let moved : MovedParts g.D.Disk.Tells g.D.Disk.files g.D.Piece.Piece.Tells g.D.Disk.fault_count g.D.Disk.fuse_count g.A.Arm.fault_count c.assemble-cluster.result c.open_parts.new.self = record { settings = c.open_parts.ensures.settings; arms = c.open_parts.ensures.arms; directory = c.open_parts.ensures.directory; volumes = c.open_parts.ensures.volumes } in
+    let more : disk_count c.open_parts.new.self.settings ≡ disk_count c.args.settings = ap (λ (s : Settings). disk_count s) (c.open_parts.ensures.settings ∙ c.assemble-cluster.ensures.settings) in
+    λ tells. back_contents g.D.Disk.Tells g.D.Disk.files g.D.Piece.Piece.Tells g.D.Disk.fault_count g.D.Disk.fuse_count g.A.Arm.fault_count g.D.Disk.drawn g.A.Arm.is_sure (g.H.Shelf.disks c.args.shelf.now) (g.H.Shelf.arms c.args.shelf.now) c.args.settings c.open_parts.new.self (g.H.Shelf.disks c.close.new.shelf)
+    (λ slot below. c.close.ensures.contents tells slot (let low : slot < disk_count c.open_parts.new.self.settings = omega (arith, more, below) in low))
+    (contents_stay g.D.Disk.Tells g.D.Disk.files g.D.Piece.Piece.Tells g.D.Disk.fault_count g.D.Disk.fuse_count g.A.Arm.fault_count g.D.Disk.drawn g.A.Arm.is_sure (g.H.Shelf.disks c.args.shelf.now) (g.H.Shelf.arms c.args.shelf.now) tells c.args.settings c.assemble-cluster.result c.open_parts.new.self c.assemble-cluster.ensures.settings taken moved)
+
+pub returns-in_err-disks-clause-contents_back : goal.returns-in_err-disks-clause-contents_back
+returns-in_err-disks-clause-contents_back g c =
+    let p = err_from_is_err_and c.from_residual-in_err-disks.result c.from_residual-in_err-disks.ensures.1 in
+    let count : c.disk_count.result ≡ disk_count c.args.settings = c.disk_count.ensures.is in
+    let back : (slot : ℕ) → slot < disk_count c.args.settings → IsPutBack g.D.Disk.Tells (g.H.Shelf.disks c.args.shelf.now slot) (g.H.Shelf.disks c.take_parts.new.shelf slot) = λ slot below. c.in_err-disks.ensures.put_back slot (let low : slot < c.disk_count.result = omega (arith, count, below) in low) in
+    λ tells. passed_back c.from_residual-in_err-disks.result _ p.0 p.1 (λ slot file below some. (back slot below).now tells file)

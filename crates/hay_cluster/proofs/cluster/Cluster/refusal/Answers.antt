@@ -25,8 +25,8 @@ offset_bounds-as_slice-volume g c =
     let long = ap length c.as_slice.ensures.value in
     omega (arith, within, long)
 
-pub room-requires-clause-open : goal.room-requires-clause-open
-room-requires-clause-open g c =
+pub room-requires : goal.room-requires
+room-requires g c =
     let store : Open g.row.D.Denot g.row.D-Piece.Denot g.row.A.Denot = record { settings = c.self.inside.settings; directory = c.self.inside.directory; volumes = c.self.inside.volumes.items; arms = c.self.inside.seats.items } in
     let within : c.args.volume < length c.self.inside.volumes.items = let same = ap (λ (st : Open g.row.D.Denot g.row.D-Piece.Denot g.row.A.Denot). (st.settings).volumes) c.self.view_is in omega (arith, c.requires.volume, c.self.invariant.many, same) in
     let volume = c.index-as_slice-volume.result in

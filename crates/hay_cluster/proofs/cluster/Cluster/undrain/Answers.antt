@@ -6,7 +6,7 @@ use Rattle.hay_cluster.proofs.cluster.Cluster.undrain.Goals as goal
 pub returns-then-machine-self-clause-suits : goal.returns-then-machine-self-clause-suits
 returns-then-machine-self-clause-suits g c = λ line.
     let same = ap (λ (st : Open g.row.D.Denot g.row.D-Piece.Denot g.row.A.Denot). st.settings) c.self.view_is in
-    inr (inl (subst (λ (s : Settings). s.machines ≤ c.args.machine) same c.if-machine-self.true, refl))
+    inr (subst (λ (s : Settings). s.machines ≤ c.args.machine) same c.if-machine-self.true, refl)
 
 pub returns-clause-suits : goal.returns-clause-suits
 returns-clause-suits g c = λ line.
