@@ -6,7 +6,7 @@ use Rattle.std.proofs.Math.Nat.{mod-lt}
 use Rattle.std.proofs.Math.Seq.{drop-append_seam, drop-length, take-append_seam, take-length}
 use Rattle.std.proofs.lemmas.Bool.{cases_Bool, cases_order, eq-eqb}
 use Rattle.std.proofs.lemmas.Bool.Decides.{nat_tests}
-use Rattle.std.proofs.lemmas.List.{take-append-drop}
+use Rattle.std.proofs.lemmas.List.{append-nil, take-append-drop}
 use Rattle.std.proofs.lemmas.List.Sums.{sum_by-cons}
 use Rattle.std.proofs.lemmas.Option.{same_Some, slice_get_within}
 use Rattle.hay_needle.specs.declared.needle.Cookie.{Cookie}
@@ -14,7 +14,9 @@ use Rattle.hay_needle.specs.declared.needle.Outcome.{Outcome}
 use Rattle.hay_needle.specs.declared.needle.Outcome.TheVariants as outcome
 use Rattle.hay_needle.specs.declared.needle.Pair.{Pair}
 use Rattle.hay_needle.specs.declared.settings.Settings.{Settings}
+use Rattle.hay_needle.specs.Needle.{NeedleBytes, needle_of_cell}
 use Rattle.hay_needle.specs.Tables.{outcome_at}
+use Rattle.hay_needle.specs.declared.needle.Needle.{Needle}
 use Rattle.hay_disk.specs.Counts.{Rose}
 use Rattle.hay_disk.specs.Disk.{Files}
 use Rattle.hay_core.specs.declared.entry.CoreTag.{CoreTag}
@@ -33,6 +35,7 @@ use Rattle.hay_legal.specs.Plain.{IsShown, IsUnreadable, LegalCommand, LegalGet,
 use Rattle.hay_logical.specs.Answers as answers
 use Rattle.hay_logical.specs.Fits.{At, PlaceStands}
 use Rattle.hay_logical.specs.Stands as logical
+use Rattle.hay_logical.specs.Steps.{IsSeenBy}
 use Rattle.hay_logical.specs.Volumes.{Volume}
 use Rattle.hay_logical.specs.declared.fault.LogicalFault.{LogicalFault}
 use Rattle.hay_logical.specs.declared.fault.LogicalFault.TheVariants as refusal
@@ -44,8 +47,8 @@ use Rattle.hay_reply.specs.declared.Reply.TheVariants as reply
 use Rattle.hay_script.specs.declared.Command.TheVariants as command
 use Rattle.hay_url.specs.declared.Url.{Url}
 use Rattle.hay_reader.specs.Causes.{ArmRises, ArmUse, ComeFirst, EachPair, HasArmCause, PassesRow, passed_now, tried_from}
-use Rattle.hay_reader.specs.Shown.{MayMean, ReadAnswers, ReadsRow, ShowsPlace}
-use Rattle.hay_reader.specs.Tried.{PlaceGives}
+use Rattle.hay_reader.specs.Shown.{MayMean, ReadAnswers, ReadsRow, ShowsAt, ShowsPlace}
+use Rattle.hay_reader.specs.Tried.{CanShow, HasItsPhoto, HasPhoto, PlaceGives}
 use Rattle.hay_reader.specs.declared.causes.PassedReplica.{PassedReplica}
 use Rattle.hay_reader.specs.declared.seat.ReadReply.{ReadReply}
 use Rattle.hay_reader.specs.declared.seat.ReadReply.TheVariants as read
@@ -54,7 +57,7 @@ use Rattle.hay_reader.specs.declared.trial.Shown.TheVariants as shown
 use Rattle.hay_reader.proofs.Outcomes.{passed_for_arm, stops_unseen}
 use Rattle.hay_reader.proofs.Passing.{all_weaken, first_more, no_shorter}
 use Rattle.hay_cluster.specs.Causes.{CauseCameUp, Counts, IsNoArm, PassedOver, RoseIn}
-use Rattle.hay_cluster.specs.Reads.{FoundNoArm, FoundPasses, FoundSays, IsFoundAs, IsPassedFor, IsSeenAt, IsSightCause, IsSightFault, IsWhole, PassesFrom, PassesNoArm, PassesTo, ReadNoArm, ReadPasses, ReadSays, StopsUnseen, counts_of, outcomes_of, passed_at}
+use Rattle.hay_cluster.specs.Reads.{FoundNoArm, FoundPasses, FoundSays, IsFoundAs, IsPassedFor, IsSeenAt, IsSeenByAt, IsSightCause, IsSightFault, IsWhole, PassesFrom, PassesNoArm, PassesTo, ReadNoArm, ReadPasses, ReadSays, StopsUnseen, counts_of, outcomes_of, passed_at}
 use Rattle.hay_cluster.specs.declared.reading.Found.{Found}
 use Rattle.hay_cluster.specs.Parts.{Comes}
 use Rattle.hay_cluster.specs.State.{Stands}
@@ -624,6 +627,26 @@ module _ {D P A : Type 0} (faults fuses : D → ℕ) (old store : Open D P A) (v
   sight_fault refusal.Idle h machine = absurd h
 
 -- the volume that was called has the place that was seen
+pub seen_by_in : {D P A : Type 0} (DiskTells Tells : Type 0) (store : Open D P A) (v : ℕ) (before after : Volume D P) (pair : Pair) (replica : ℕ) (bytes : List ℕ) → At store.volumes v before
+    → IsSeenBy DiskTells Tells bytes (place_in (row_at after.rows pair) replica) → IsSeenByAt DiskTells Tells (with_one store v after) v pair replica bytes
+seen_by_in {D} {P} DiskTells Tells store v before after pair replica bytes at by = λ volume there.
+    let same : after ≡ volume = same_Some after volume (sym (slice_get-set store.volumes v before after at) ∙ there) in
+    subst (λ (w : Volume D P). IsSeenBy DiskTells Tells bytes (place_in (row_at w.rows pair) replica)) same by
+
+-- a place that was seen, where it stands
+pub seen_there : {D P A : Type 0} (old store : Open D P A) (v : ℕ) (volume : Volume D P) (pair : Pair) (replica : ℕ) → store ≡ old → At store.volumes v volume → IsSeen (place_in (row_at volume.rows pair) replica) → IsSeenAt old v pair replica
+seen_there {D} {P} {A} old store v volume pair replica is at seen = subst (λ (st : Open D P A). IsSeenAt st v pair replica) is (λ other there.
+    let same : volume ≡ other = same_Some volume other (sym at ∙ there) in
+    subst (λ (w : Volume D P). IsSeen (place_in (row_at w.rows pair) replica)) same seen)
+
+-- a read stops where it did, in a store of the same volumes
+pub stops_same : {D P A : Type 0} (old new : Open D P A) (v : ℕ) (pair : Pair) (reply : ReadReply) → new.volumes ≡ old.volumes → StopsUnseen old v pair reply → StopsUnseen new v pair reply
+stops_same {D} {P} old new v pair (read.Unseen j causes) same stops = λ seen. stops (λ volume at. seen volume (subst (λ (vs : List (Volume D P)). At vs v volume) (sym same) at))
+stops_same old new v pair (read.Photo j) same stops = tt
+stops_same old new v pair (read.Gone j) same stops = tt
+stops_same old new v pair (read.WrongCookie j) same stops = tt
+stops_same old new v pair (read.Unreadable causes) same stops = tt
+
 pub seen_in : {D P A : Type 0} (store : Open D P A) (v : ℕ) (before after : Volume D P) (pair : Pair) (replica : ℕ) → At store.volumes v before → IsSeen (place_in (row_at after.rows pair) replica) → IsSeenAt (with_one store v after) v pair replica
 seen_in {D} {P} store v before after pair replica at seen = λ volume there.
     let same : after ≡ volume = same_Some after volume (sym (slice_get-set store.volumes v before after at) ∙ there) in
@@ -671,6 +694,58 @@ passes_one W settings lane v start before after causes over order next has = rec
   order = first_more start settings.replicas causes over order next;
   each = subst (λ (ps : List PassedReplica). AllByRecursion (λ p. IsPassedFor W (slot_of settings v p.replica) (slice_index before.arms lane) (slice_index after.arms lane) before.disks after.disks p.cause) ps) (sym (drop-append_seam causes (over ∷ []))) (has, tt);
   rises = subst (λ (ps : List PassedReplica). EachPair (λ a b. ArmRises a.cause b.cause) ps) (sym (drop-append_seam causes (over ∷ []))) (tt, tt);
+}
+
+-- FROM A NEEDLE THAT WAS READ
+
+its_needle : (bytes : List ℕ) (n : Needle) → NeedleBytes bytes n → HasPhoto bytes n.photo
+its_needle bytes n is = (n, record { needle = bytes; rest = []; parts = sym (append-nil bytes); is = is }, refl)
+
+-- the needle by which a place was seen shows its photo
+pub can_show : {P : Type 0} (DiskTells Tells : Type 0) (bytes : List ℕ) (there : Place P) → IsSeenBy DiskTells Tells bytes there → CanShow bytes there
+can_show DiskTells Tells bytes (place.Live needle) by = ((needle_of_cell by.cell).photo, its_needle bytes (needle_of_cell by.cell) by.needle)
+can_show DiskTells Tells bytes place.None by = tt
+can_show DiskTells Tells bytes place.Gone by = tt
+can_show DiskTells Tells bytes (place.Unseen at size) by = by.sight
+
+-- and where the disk tells, that photo stands there
+pub its_photo : {P : Type 0} (DiskTells Tells : Type 0) (bytes : List ℕ) (there : Place P) → DiskTells → IsSeenBy DiskTells Tells bytes there → HasItsPhoto bytes there
+its_photo DiskTells Tells bytes (place.Live needle) tells by =
+    let sealed = (by.place tells).sealed in
+    ((needle_of_cell by.cell).photo, its_needle bytes (needle_of_cell by.cell) by.needle, its_needle needle.bytes _ sealed.is)
+its_photo DiskTells Tells bytes place.None tells by = tt
+its_photo DiskTells Tells bytes place.Gone tells by = tt
+its_photo DiskTells Tells bytes (place.Unseen at size) tells by = tt
+
+-- a read that the next replica showed passes none over
+pub shown_passes : (W : Type 0) (settings : Settings) (lane v start : ℕ) (before after : Counts) (passed : List PassedReplica) (reply : ReadReply) → ComeFirst start settings.replicas passed → length passed < settings.replicas
+    → ShowsAt ((start + length passed) % settings.replicas) reply → ReadPasses W settings lane v start before after passed reply
+shown_passes W settings lane v start before after passed (read.Photo j) order fewer next = (passed, record { passes = passes_none W settings lane v start before after passed order; fewer = fewer; next = next })
+shown_passes W settings lane v start before after passed (read.Gone j) order fewer next = (passed, record { passes = passes_none W settings lane v start before after passed order; fewer = fewer; next = next })
+shown_passes W settings lane v start before after passed (read.WrongCookie j) order fewer next = (passed, record { passes = passes_none W settings lane v start before after passed order; fewer = fewer; next = next })
+shown_passes W settings lane v start before after passed (read.Unseen j causes) order fewer next = absurd next
+shown_passes W settings lane v start before after passed (read.Unreadable causes) order fewer next = absurd next
+
+pub shown_no_arm : (j : ℕ) (passed : List PassedReplica) (reply : ReadReply) → ShowsAt j reply → ReadNoArm passed reply
+shown_no_arm j passed (read.Photo i) next = tt
+shown_no_arm j passed (read.Gone i) next = tt
+shown_no_arm j passed (read.WrongCookie i) next = tt
+shown_no_arm j passed (read.Unseen i causes) next = absurd next
+shown_no_arm j passed (read.Unreadable causes) next = absurd next
+
+pub shown_stops : {D P A : Type 0} (store : Open D P A) (v j : ℕ) (pair : Pair) (reply : ReadReply) → ShowsAt j reply → StopsUnseen store v pair reply
+shown_stops store v j pair (read.Photo i) next = tt
+shown_stops store v j pair (read.Gone i) next = tt
+shown_stops store v j pair (read.WrongCookie i) next = tt
+shown_stops store v j pair (read.Unseen i causes) next = absurd next
+shown_stops store v j pair (read.Unreadable causes) next = absurd next
+
+-- what is known stands where nothing changed
+pub comes_same : {D P A : Type 0} (files : D → Files) (Tells : Type 0) (faults fuses : D → ℕ) (arm_faults : A → ℕ) (store : Open D P A) (k : Known) → Stands files Tells faults fuses arm_faults store k → Comes files Tells faults fuses arm_faults k k store
+comes_same files Tells faults fuses arm_faults store k stands = record {
+  known = k;
+  leaves = record { volumes = refl; directory = refl; drained = refl; fuses = refl; faults = none_falls k.faults; arms = none_falls k.arms };
+  stands = stands;
 }
 
 -- THE WHOLE READ

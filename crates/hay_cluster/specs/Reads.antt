@@ -22,6 +22,7 @@ use Rattle.hay_legal.specs.Known.{machine_of, now, replica_at, slot_of}
 use Rattle.hay_legal.specs.Plain.{LegalShow}
 use Rattle.hay_compact.specs.Finishing.{IsSeen}
 use Rattle.hay_logical.specs.Fits.{At}
+use Rattle.hay_logical.specs.Steps.{IsSeenBy}
 use Rattle.hay_logical.specs.Volumes.{Volume}
 use Rattle.hay_logical.specs.declared.fault.LogicalFault.{LogicalFault}
 use Rattle.hay_logical.specs.declared.fault.LogicalFault.TheVariants as fault
@@ -120,6 +121,10 @@ FoundNoArm found.NoMemory = Unit {0}
 -- a volume's place of a pair on a replica was looked at
 abbrev pub IsSeenAt : {D P A : Type 0} → Open D P A → ℕ → Pair → ℕ → Type 0
 IsSeenAt {D} {P} store v pair j = (volume : Volume D P) → At store.volumes v volume → IsSeen (place_in (row_at volume.rows pair) j)
+
+-- a volume's place of a pair on a replica is what is seen of the needle that these bytes are
+abbrev pub IsSeenByAt : {D P A : Type 0} → Type 0 → Type 0 → Open D P A → ℕ → Pair → ℕ → List ℕ → Type 0
+IsSeenByAt {D} {P} DiskTells Tells store v pair j bytes = (volume : Volume D P) → At store.volumes v volume → IsSeenBy DiskTells Tells bytes (place_in (row_at volume.rows pair) j)
 
 -- a read stops at no place that was looked at
 abbrev pub StopsUnseen : {D P A : Type 0} → Open D P A → ℕ → Pair → ReadReply → Type 0

@@ -1,16 +1,17 @@
 //! Reads, and gets by URL.
-ghost use Rattle.std.specs.Prelude.{◌≡◌, ◌⊎◌, ◌≤◌, ◌<◌, ◌+◌, ◌%◌, ◌^◌, ℕ, true, List, [], Some, Err, length, map, slice_get, slice_index, IfOk, IfErr, OnOk};
+ghost use Rattle.std.specs.Prelude.{◌≡◌, ◌⊎◌, ◌≤◌, ◌<◌, ◌+◌, ◌%◌, ◌^◌, ℕ, true, List, [], Some, Err, length, map, slice_get, slice_index, IfOk, IfErr, IfSome, IfNone, OnOk};
 ghost use Rattle.std.specs.List.{AllByRecursion};
 ghost use Rattle.hay_script.specs.declared.Command.TheVariants as asks;
 ghost use Rattle.hay_legal.specs.declared.known.Known.{Known};
+ghost use Rattle.std.specs.Option.{ForSome};
 ghost use Rattle.std.specs.Vec.{vec_capacity};
 ghost use Rattle.hay_reply.specs.Fits.{FitsPassed, FitsReply, IsLarge};
 ghost use Rattle.hay_reader.specs.Causes.{ComeFirst, passed_now};
-ghost use Rattle.hay_reader.specs.Shown.{HasBytes};
+ghost use Rattle.hay_reader.specs.Shown.{HasBytes, ShowsAt};
 ghost use Rattle.hay_legal.specs.Known.{NoneFalls, home_of, slot_of, volume_at};
 ghost use Rattle.hay_legal.specs.Plain.{start_of};
 ghost use Rattle.hay_cluster.specs.Causes.{BlamesNoArm, IsCaused, StaySure};
-ghost use Rattle.hay_cluster.specs.Reads.{CannotSee, FoundNoArm, FoundPasses, FoundSays, IsFoundAs, IsSeenAt, IsSightCause, IsSightFault, IsWhole, PassesFrom, PassesNoArm, ReadNoArm, ReadPasses, ReadSays, ShownAs, StopsUnseen, counts_of, outcomes_of, passed_at};
+ghost use Rattle.hay_cluster.specs.Reads.{CannotSee, FoundNoArm, FoundPasses, FoundSays, IsFoundAs, IsSeenAt, IsSeenByAt, IsSightCause, IsSightFault, IsWhole, PassesFrom, PassesNoArm, ReadNoArm, ReadPasses, ReadSays, ShownAs, StopsUnseen, counts_of, outcomes_of, passed_at};
 ghost use Rattle.hay_cluster.specs.Parts.{Comes};
 ghost use Rattle.hay_cluster.specs.Pending.{pending_of};
 ghost use Rattle.hay_cluster.specs.State.{Answered, Stands};
@@ -25,7 +26,7 @@ use hay_directory::machine_of;
 use hay_disk::{Arm, Disk};
 use hay_logical::{LogicalFault, Looked};
 use hay_needle::{Bytes, Cookie, MAX_PHOTO, Pair, Settings};
-use hay_reader::{Causes, PassedReplica, ReadReply};
+use hay_reader::{Causes, PassedReplica, ReadReply, show_seen};
 use hay_reply::{Cause, Passed, Reply};
 use hay_url::Url;
 use std::alloc::Global;
@@ -221,10 +222,10 @@ impl<D: Disk, A: Arm<D::Piece>> Cluster<D, A> {
             let ReadReply::Unseen { replica, causes } = read else {
                 break;
             };
-            let Ok(passed) = self.see_or_pass(alloc, volume, pair, replica, causes) else {
+            let Ok((passed, needle)) = self.see_or_pass(alloc, volume, pair, replica, causes) else {
                 return (front, Found::NoMemory);
             };
-            read = self.read_more(lane, volume, pair, cookie, start, passed, photo);
+            read = self.read_more(lane, volume, pair, cookie, start, passed, needle, photo);
         }
         (front, found_of(read))
     }
@@ -251,10 +252,12 @@ impl<D: Disk, A: Arm<D::Piece>> Cluster<D, A> {
             × Comes D.files D.Piece.Tells D.fault_count D.fuse_count A.fault_count k k self.new }
         ensures passes { ReadPasses (IsWhole D.Tells D.files D.Piece.Tells D.fault_count D.fuse_count A.fault_count self.old) self.old.settings lane volume start
             (counts_of D.fault_count A.fault_count self.old) (counts_of D.fault_count A.fault_count self.new) [] result.1 }
+        ensures stops { StopsUnseen self.old volume pair result.1 }
         ensures sure { (arm : A) → slice_get self.old.arms lane ≡ Some arm → A.is_sure arm ≡ true → ReadNoArm [] result.1 }
         ensures bytes { HasBytes photo.new.items result.1 }
         ensures room { vec_capacity photo.old ≤ vec_capacity photo.new }
         ensures sure_arms { StaySure A.is_sure A.fault_count self.old.arms self.new.arms }
+        ensures volumes { self.new.volumes ≡ self.old.volumes }
         ensures disks { disks_of self.new ≡ disks_of self.old }
         ensures arm_counts { NoneFalls (map A.fault_count self.old.arms) (map A.fault_count self.new.arms) }
         ensures pending { pending_of self.new ≡ pending_of self.old }
@@ -271,8 +274,91 @@ impl<D: Disk, A: Arm<D::Piece>> Cluster<D, A> {
         (front, read)
     }
 
-    // Goes on with a read behind the replicas that were passed over.
+    // Goes on with a read behind the replicas that were passed over. Where the place of the next was seen, `needle` is what was read.
     fn read_more(
+        &mut self,
+        lane: u32,
+        volume: u32,
+        pair: Pair,
+        cookie: Cookie,
+        start: u32,
+        passed: Causes,
+        needle: Option<Vec<u8>>,
+        photo: &mut Vec<u8>,
+    ) -> ReadReply
+        requires lane { lane < 8 }
+        requires volume { volume < self.old.settings.volumes }
+        requires start { start < self.old.settings.replicas }
+        requires first { ComeFirst start self.old.settings.replicas passed }
+        requires fewer { length passed ≤ self.old.settings.replicas }
+        requires needle { ForSome needle (λ bytes. (length passed < self.old.settings.replicas)
+            × IsSeenByAt D.Tells D.Piece.Tells self.old volume pair ((start + length passed) % self.old.settings.replicas) bytes.items) }
+        requires empty { photo.old.items ≡ [] }
+        requires room { MAX_PHOTO ≤ vec_capacity photo.old }
+        requires up { IsUp self.old }
+        ensures says { D.Tells → (k : Known) → Stands D.files D.Piece.Tells D.fault_count D.fuse_count A.fault_count self.old k →
+            ReadSays cookie (outcomes_of self.old.settings (volume_at k volume) pair) photo.new.items result
+            × Comes D.files D.Piece.Tells D.fault_count D.fuse_count A.fault_count k k self.new }
+        ensures passes { ReadPasses (IsWhole D.Tells D.files D.Piece.Tells D.fault_count D.fuse_count A.fault_count self.old) self.old.settings lane volume start
+            (counts_of D.fault_count A.fault_count self.old) (counts_of D.fault_count A.fault_count self.new) passed result }
+        ensures stops { StopsUnseen self.old volume pair result }
+        ensures sure { (arm : A) → slice_get self.old.arms lane ≡ Some arm → A.is_sure arm ≡ true → ReadNoArm passed result }
+        ensures most { (slice_index (map A.fault_count self.new.arms) lane ≡ slice_index (map A.fault_count self.old.arms) lane)
+            ⊎ (slice_index (map A.fault_count self.new.arms) lane < 2 ^ 64) }
+        ensures bytes { HasBytes photo.new.items result }
+        ensures room { vec_capacity photo.old ≤ vec_capacity photo.new }
+        ensures sure_arms { StaySure A.is_sure A.fault_count self.old.arms self.new.arms }
+        ensures volumes { self.new.volumes ≡ self.old.volumes }
+        ensures disks { disks_of self.new ≡ disks_of self.old }
+        ensures arm_counts { NoneFalls (map A.fault_count self.old.arms) (map A.fault_count self.new.arms) }
+        ensures pending { pending_of self.new ≡ pending_of self.old }
+        ensures settings { self.new.settings ≡ self.old.settings }
+        ensures up { IsUp self.new }
+    {
+        match needle {
+            Some(needle) => self.read_seen(
+                volume,
+                pair,
+                cookie,
+                start,
+                passed,
+                needle.as_slice(),
+                photo,
+            ),
+            None => self.read_fetched(lane, volume, pair, cookie, start, passed, photo),
+        }
+    }
+
+    // Goes on with a read at a place that was seen, from the needle that was read to see it.
+    fn read_seen(
+        &self,
+        volume: u32,
+        pair: Pair,
+        cookie: Cookie,
+        start: u32,
+        passed: Causes,
+        needle: &[u8],
+        photo: &mut Vec<u8>,
+    ) -> ReadReply
+        requires volume { volume < self.now.settings.volumes }
+        requires start { start < self.now.settings.replicas }
+        requires first { ComeFirst start self.now.settings.replicas passed }
+        requires fewer { length passed < self.now.settings.replicas }
+        requires needle { IsSeenByAt D.Tells D.Piece.Tells self.now volume pair ((start + length passed) % self.now.settings.replicas) needle.now }
+        requires empty { photo.old.items ≡ [] }
+        requires room { MAX_PHOTO ≤ vec_capacity photo.old }
+        ensures says { D.Tells → (k : Known) → Stands D.files D.Piece.Tells D.fault_count D.fuse_count A.fault_count self.now k →
+            ReadSays cookie (outcomes_of self.now.settings (volume_at k volume) pair) photo.new.items result }
+        ensures next { ShowsAt ((start + length passed) % self.now.settings.replicas) result }
+        ensures bytes { HasBytes photo.new.items result }
+        ensures room { vec_capacity photo.old ≤ vec_capacity photo.new }
+    {
+        let Looked { front: _, row } = self.volumes.as_slice()[volume as usize].look(pair);
+        show_seen(&row, cookie, start as usize, passed, needle, photo)
+    }
+
+    // Goes on with a read behind the replicas that were passed over, by fetches.
+    fn read_fetched(
         &mut self,
         lane: u32,
         volume: u32,
@@ -302,6 +388,7 @@ impl<D: Disk, A: Arm<D::Piece>> Cluster<D, A> {
         ensures bytes { HasBytes photo.new.items result }
         ensures room { vec_capacity photo.old ≤ vec_capacity photo.new }
         ensures sure_arms { StaySure A.is_sure A.fault_count self.old.arms self.new.arms }
+        ensures volumes { self.new.volumes ≡ self.old.volumes }
         ensures disks { disks_of self.new ≡ disks_of self.old }
         ensures arm_counts { NoneFalls (map A.fault_count self.old.arms) (map A.fault_count self.new.arms) }
         ensures pending { pending_of self.new ≡ pending_of self.old }
@@ -318,7 +405,8 @@ impl<D: Disk, A: Arm<D::Piece>> Cluster<D, A> {
         )
     }
 
-    // Sees the place of a pair on the replica at which a read stopped, or passes the replica over.
+    // Sees the place of a pair on the replica at which a read stopped, or passes the replica over. Answers the replicas that are
+    // passed over, and the needle by which the place was seen.
     fn see_or_pass(
         &mut self,
         alloc: Global,
@@ -326,7 +414,7 @@ impl<D: Disk, A: Arm<D::Piece>> Cluster<D, A> {
         pair: Pair,
         replica: u32,
         causes: Causes,
-    ) -> Result<Causes, NoMemory>
+    ) -> Result<(Causes, Option<Vec<u8>>), NoMemory>
         requires volume { volume < self.old.settings.volumes }
         requires replica { replica < self.old.settings.replicas }
         requires few { length causes < 4 }
@@ -334,10 +422,13 @@ impl<D: Disk, A: Arm<D::Piece>> Cluster<D, A> {
         ensures stands { D.Tells → (k : Known) → Stands D.files D.Piece.Tells D.fault_count D.fuse_count A.fault_count self.old k →
             Comes D.files D.Piece.Tells D.fault_count D.fuse_count A.fault_count k k self.new }
         ensures passes { (lane start : ℕ) → ComeFirst start self.old.settings.replicas causes → replica ≡ (start + length causes) % self.old.settings.replicas →
-            IfOk result (PassesFrom (IsWhole D.Tells D.files D.Piece.Tells D.fault_count D.fuse_count A.fault_count self.old) self.old.settings lane volume start
-            (counts_of D.fault_count A.fault_count self.old) (counts_of D.fault_count A.fault_count self.new) causes) }
-        ensures on { IfOk result (λ passed. (length passed ≡ length causes + 1) ⊎ ((length passed ≡ length causes) × IsSeenAt self.new volume pair replica)) }
-        ensures no_arm { IfOk result (λ passed. PassesNoArm (passed_now causes passed)) }
+            IfOk result (λ sight. PassesFrom (IsWhole D.Tells D.files D.Piece.Tells D.fault_count D.fuse_count A.fault_count self.old) self.old.settings lane volume start
+            (counts_of D.fault_count A.fault_count self.old) (counts_of D.fault_count A.fault_count self.new) causes sight.0) }
+        ensures on { IfOk result (λ sight. (length sight.0 ≡ length causes + 1) ⊎ ((length sight.0 ≡ length causes) × IsSeenAt self.new volume pair replica)) }
+        ensures no_arm { IfOk result (λ sight. PassesNoArm (passed_now causes sight.0)) }
+        ensures needle { (IsSeenAt self.old volume pair replica → ⊥) →
+            IfOk result (λ sight. IfSome sight.1 (λ needle. (sight.0 ≡ causes) × IsSeenByAt D.Tells D.Piece.Tells self.new volume pair replica needle.items)) }
+        ensures over { IfOk result (λ sight. IfNone sight.1 (length sight.0 ≡ length causes + 1)) }
         ensures others { (j : ℕ) → j < self.old.settings.replicas → (j ≡ replica → ⊥) →
             slice_index (map D.fault_count (disks_of self.new)) (slot_of self.old.settings volume j) ≡ slice_index (map D.fault_count (disks_of self.old)) (slot_of self.old.settings volume j) }
         ensures counts { NoneFalls (map D.fault_count (disks_of self.old)) (map D.fault_count (disks_of self.new)) }
@@ -347,16 +438,19 @@ impl<D: Disk, A: Arm<D::Piece>> Cluster<D, A> {
         ensures settings { self.new.settings ≡ self.old.settings }
         ensures up { IsUp self.new }
     {
-        let mut passed = causes;
         let mut needle = Vec::new(alloc);
-        if let Err(fault) = self.see_in(volume, replica, pair, &mut needle) {
-            let cause = cause_of(fault)?;
-            passed.push(PassedReplica { replica, cause });
+        match self.see_in(volume, replica, pair, &mut needle) {
+            Ok(()) => Ok((causes, Some(needle))),
+            Err(fault) => {
+                let cause = cause_of(fault)?;
+                let mut passed = causes;
+                passed.push(PassedReplica { replica, cause });
+                Ok((passed, None))
+            }
         }
-        Ok(passed)
     }
 
-    // Sees the place of a pair on a replica of a volume.
+    // Sees the place of a pair on a replica of a volume, by its needle, which `out` then has.
     fn see_in(
         &mut self,
         volume: u32,
@@ -371,6 +465,7 @@ impl<D: Disk, A: Arm<D::Piece>> Cluster<D, A> {
             Comes D.files D.Piece.Tells D.fault_count D.fuse_count A.fault_count k k self.new }
         ensures undamaged { IsWhole D.Tells D.files D.Piece.Tells D.fault_count D.fuse_count A.fault_count self.old → (m at : ℕ) → result ≡ Err (LogicalFault.Damaged m at) → ⊥ }
         ensures seen { OnOk result (IsSeenAt self.new volume pair replica) }
+        ensures needle { (IsSeenAt self.old volume pair replica → ⊥) → OnOk result (IsSeenByAt D.Tells D.Piece.Tells self.new volume pair replica out.new.items) }
         ensures causes { IfErr result (IsSightFault (slot_of self.old.settings volume replica) (map D.fault_count (disks_of self.old)) (map D.fault_count (disks_of self.new))) }
         ensures others { (j : ℕ) → j < self.old.settings.replicas → (j ≡ replica → ⊥) →
             slice_index (map D.fault_count (disks_of self.new)) (slot_of self.old.settings volume j) ≡ slice_index (map D.fault_count (disks_of self.old)) (slot_of self.old.settings volume j) }

@@ -1,15 +1,15 @@
 use Rattle.std.proofs.Common.{◌≡◌, ◌+◌, ◌%◌, ◌<◌, ℕ, List, [], length, map, sym, ap, subst, ◌∙◌, inl, inr, arith}
-use Rattle.std.specs.Prelude.{slice_index}
+use Rattle.std.specs.Prelude.{slice_index, IfSome}
 use Rattle.hay_needle.specs.declared.settings.Settings.{Settings}
 use Rattle.hay_legal.specs.Known.{NoneFalls, slot_of, volume_at}
 use Rattle.hay_reader.specs.Causes.{ComeFirst}
 use Rattle.hay_reader.specs.declared.seat.ReadReply.{ReadReply}
 use Rattle.hay_cluster.specs.Causes.{StaySure}
-use Rattle.hay_cluster.specs.Reads.{IsWhole, PassesFrom, PassesNoArm, PassesTo, ReadNoArm, ReadPasses, counts_of, outcomes_of}
+use Rattle.hay_cluster.specs.Reads.{IsWhole, PassesFrom, PassesNoArm, PassesTo, ReadNoArm, ReadPasses, IsSeenAt, IsSeenByAt, StopsUnseen, counts_of, outcomes_of}
 use Rattle.hay_cluster.specs.Store.{Open, disks_of}
 use Rattle.hay_cluster.proofs.Answering.{same_falls}
 use Rattle.hay_cluster.proofs.Moves.{falls_trans}
-use Rattle.hay_cluster.proofs.Showing.{arm_goes_on, comes_on, found_no_arm, found_passes, found_says, no_arm_round, passes_on, read_on, says_on, sight_goes_on, stops_further}
+use Rattle.hay_cluster.proofs.Showing.{arm_goes_on, comes_on, found_no_arm, found_passes, found_says, no_arm_round, passes_on, read_on, says_on, sight_goes_on, stops_further, stops_same}
 use Rattle.hay_cluster.proofs.Sure.{no_arm_on, sure_on, sure_trans}
 use Rattle.hay_cluster.proofs.cluster.Cluster.fetch.Goals as goal
 use Rattle.hay_cluster.proofs.cluster.Cluster.fetch.Goals.{else-loop-test, then-loop-test+in_default}
@@ -19,6 +19,7 @@ loop-init g c = record {
   says = λ tells k stands. let says = c.read_first-front.ensures.says tells k stands in (says.1, says.2);
   passes = c.read_first-front.ensures.passes;
   sure = c.read_first-front.ensures.sure;
+  stops = stops_same c.args.self.now c.read_first-front.new.self c.args.volume c.args.pair _ c.read_first-front.ensures.volumes c.read_first-front.ensures.stops;
   tries = λ j causes is. omega arith;
   bytes = c.read_first-front.ensures.bytes;
   room = omega (arith, c.requires.room, c.read_first-front.ensures.room);
@@ -60,6 +61,20 @@ read_more-read-requires-clause-fewer g c =
     let fewer = stop.fewer in
     let same = ap (λ (s : Settings). s.replicas) (c.see_or_pass.ensures.settings ∙ inv.settings) in
     elim c.in-Ok.ensures.on [ inl one ↦ omega (arith, one, fewer, same) | inr seen ↦ let long = seen.0 in omega (arith, long, fewer, same) ]
+
+pub read_more-read-requires-clause-needle : goal.read_more-read-requires-clause-needle
+read_more-read-requires-clause-needle g c = λ bytes is.
+    let inv = c.loop.invariant in
+    let stop : PassesTo (IsWhole g.D.Disk.Tells g.D.Disk.files g.D.Piece.Piece.Tells g.D.Disk.fault_count g.D.Disk.fuse_count g.A.Arm.fault_count c.args.self.now) (c.args.self.now).settings c.args.lane c.args.volume c.args.start (counts_of g.D.Disk.fault_count g.A.Arm.fault_count c.args.self.now) (counts_of g.D.Disk.fault_count g.A.Arm.fault_count c.loop.self) [] c.in-Unseen.causes c.in-Unseen.replica =
+    subst (λ (r : ReadReply). ReadPasses (IsWhole g.D.Disk.Tells g.D.Disk.files g.D.Piece.Piece.Tells g.D.Disk.fault_count g.D.Disk.fuse_count g.A.Arm.fault_count c.args.self.now) (c.args.self.now).settings c.args.lane c.args.volume c.args.start (counts_of g.D.Disk.fault_count g.A.Arm.fault_count c.args.self.now) (counts_of g.D.Disk.fault_count g.A.Arm.fault_count c.loop.self) [] r) c.in-Unseen.is inv.passes in
+    let unseen : IsSeenAt c.loop.self c.args.volume c.args.pair c.in-Unseen.replica → ⊥ = subst (λ (r : ReadReply). StopsUnseen c.loop.self c.args.volume c.args.pair r) c.in-Unseen.is inv.stops in
+    let seen = subst (λ o. IfSome o (λ needle. (c.in-Ok.passed ≡ c.in-Unseen.causes) × IsSeenByAt g.D.Disk.Tells g.D.Piece.Piece.Tells c.see_or_pass.new.self c.args.volume c.args.pair c.in-Unseen.replica needle.items)) is (c.in-Ok.ensures.needle unseen) in
+    let replicas : ((c.see_or_pass.new.self).settings).replicas ≡ ((c.args.self.now).settings).replicas = ap (λ (s : Settings). s.replicas) (c.see_or_pass.ensures.settings ∙ inv.settings) in
+    let long : length c.in-Ok.passed ≡ length c.in-Unseen.causes = ap length seen.0 in
+    let fewer = stop.fewer in
+    let next : c.in-Unseen.replica ≡ (c.args.start + length c.in-Ok.passed) % ((c.see_or_pass.new.self).settings).replicas =
+    stop.next ∙ ap (λ (n : ℕ). (c.args.start + n) % ((c.args.self.now).settings).replicas) (sym long) ∙ ap (λ (n : ℕ). (c.args.start + length c.in-Ok.passed) % n) (sym replicas) in
+    (omega (arith, fewer, long, replicas), subst (λ (j : ℕ). IsSeenByAt g.D.Disk.Tells g.D.Piece.Piece.Tells c.see_or_pass.new.self c.args.volume c.args.pair j bytes.items) next seen.1)
 
 pub loop-preserved : goal.loop-preserved
 loop-preserved g c =
@@ -104,6 +119,7 @@ loop-preserved g c =
           let before : PassesNoArm c.in-Unseen.causes = subst (λ (r : ReadReply). ReadNoArm [] r) c.in-Unseen.is (inv.sure arm at sure) in
           no_arm_round (IsWhole g.D.Disk.Tells g.D.Disk.files g.D.Piece.Piece.Tells g.D.Disk.fault_count g.D.Disk.fuse_count g.A.Arm.fault_count c.see_or_pass.new.self) (c.args.self.now).settings c.args.lane c.args.volume c.args.start (counts_of g.D.Disk.fault_count g.A.Arm.fault_count c.see_or_pass.new.self) (counts_of g.D.Disk.fault_count g.A.Arm.fault_count c.read_more-read.new.self) c.in-Ok.passed c.read_more-read.result reads
           (no_arm_on c.in-Unseen.causes c.in-Ok.passed here.begins before c.in-Ok.ensures.no_arm) (c.read_more-read.ensures.sure kept.0 kept.1 kept.2);
+      stops = stops_same c.see_or_pass.new.self c.read_more-read.new.self c.args.volume c.args.pair c.read_more-read.result c.read_more-read.ensures.volumes c.read_more-read.ensures.stops;
       tries = λ j more is.
           let longer = stops_further (IsWhole g.D.Disk.Tells g.D.Disk.files g.D.Piece.Piece.Tells g.D.Disk.fault_count g.D.Disk.fuse_count g.A.Arm.fault_count c.see_or_pass.new.self) (c.args.self.now).settings c.args.lane c.args.volume c.args.start (counts_of g.D.Disk.fault_count g.A.Arm.fault_count c.see_or_pass.new.self) (counts_of g.D.Disk.fault_count g.A.Arm.fault_count c.read_more-read.new.self) c.see_or_pass.new.self c.args.pair c.in-Unseen.replica c.in-Unseen.causes c.in-Ok.passed c.read_more-read.result j more stop.next c.in-Ok.ensures.on reads c.read_more-read.ensures.stops is in
           let so_far = inv.tries c.in-Unseen.replica c.in-Unseen.causes c.in-Unseen.is in

@@ -8,7 +8,7 @@ use Rattle.hay_reader.specs.Shown.{HasBytes}
 use Rattle.hay_reader.specs.declared.causes.PassedReplica.{PassedReplica}
 use Rattle.hay_reader.specs.declared.seat.ReadReply.TheVariants as read
 use Rattle.hay_cluster.specs.Causes.{StaySure}
-use Rattle.hay_cluster.specs.Reads.{IsWhole, ReadNoArm, ReadPasses, ReadSays, counts_of, outcomes_of}
+use Rattle.hay_cluster.specs.Reads.{IsWhole, ReadNoArm, ReadPasses, ReadSays, StopsUnseen, counts_of, outcomes_of}
 use Rattle.hay_cluster.specs.Parts.{Comes}
 use Rattle.hay_cluster.specs.Pending.{pending_of}
 use Rattle.hay_cluster.specs.State.{Stands}
@@ -22,6 +22,7 @@ invariant-loop g l = record {
   passes : ReadPasses (IsWhole g.D.Disk.Tells g.D.Disk.files g.D.Piece.Piece.Tells g.D.Disk.fault_count g.D.Disk.fuse_count g.A.Arm.fault_count l.fn.self) l.fn.self.settings l.lane l.volume l.start
       (counts_of g.D.Disk.fault_count g.A.Arm.fault_count l.fn.self) (counts_of g.D.Disk.fault_count g.A.Arm.fault_count l.self) [] l.read;
   sure : (arm : g.row.A.Denot) → slice_get l.fn.self.arms l.lane ≡ Some arm → g.A.Arm.is_sure arm ≡ true → ReadNoArm [] l.read;
+  stops : StopsUnseen l.self l.volume l.pair l.read;
   tries : (j : ℕ) (causes : List PassedReplica) → l.read ≡ read.Unseen j causes → l.counter ≤ length causes;
   bytes : HasBytes l.photo.items l.read;
   room : MAX_PHOTO ≤ vec_capacity l.photo;

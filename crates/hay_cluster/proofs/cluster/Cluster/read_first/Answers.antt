@@ -17,7 +17,7 @@ use Rattle.hay_cluster.specs.Store.{IsUp, Open, disks_of}
 use Rattle.hay_cluster.proofs.Rooms.{begin_room, item_room, looked_room, places_room, row_room}
 use Rattle.hay_cluster.proofs.Lists.{length-set}
 use Rattle.hay_cluster.proofs.Moves.{volume_of, volume_stood}
-use Rattle.hay_cluster.proofs.Showing.{answers_say, counts_at, later_set, row_may_mean, row_read, seat_comes}
+use Rattle.hay_cluster.proofs.Showing.{answers_say, counts_at, later_set, row_may_mean, row_read, row_stops, seat_comes}
 use Rattle.hay_cluster.proofs.Sure.{read_no_arm, used_sure}
 use Rattle.hay_cluster.specs.Pending.{pending_of}
 use Rattle.hay_cluster.proofs.cluster.Cluster.read_first.Goals as goal
@@ -178,3 +178,17 @@ returns-clause-sure_arms g c =
 
 pub returns-clause-pending : goal.returns-clause-pending
 returns-clause-pending g c = ap (λ (st : Open g.row.D.Denot g.row.D-Piece.Denot g.row.A.Denot). pending_of st) c.self.view_is
+
+pub returns-clause-stops : goal.returns-clause-stops
+returns-clause-stops g c =
+    let store : Open g.row.D.Denot g.row.D-Piece.Denot g.row.A.Denot = record { settings = c.self.inside.settings; directory = c.self.inside.directory; volumes = c.self.inside.volumes.items; arms = c.self.inside.seats.items } in
+    let within : c.args.volume < length c.self.inside.volumes.items = let same = ap (λ (st : Open g.row.D.Denot g.row.D-Piece.Denot g.row.A.Denot). (st.settings).volumes) c.self.view_is in omega (arith, c.requires.volume, c.self.invariant.many, same) in
+    let volume = c.index-as_slice-volume.result in
+    let at : At store.volumes c.args.volume volume = subst (λ (w : Volume g.row.D.Denot g.row.D-Piece.Denot). At store.volumes c.args.volume w) (sym c.index-as_slice-volume.is)
+    (subst (λ (vs : List (Volume g.row.D.Denot g.row.D-Piece.Denot)). At vs c.args.volume (slice_index_or c.as_slice.result.now c.args.volume volume)) c.as_slice.ensures.value
+    (at_read c.as_slice.result.now c.args.volume volume (let long = ap length c.as_slice.ensures.value in omega (arith, within, long)))) in
+    let there : At (c.args.self.now).volumes c.args.volume volume = subst (λ (st : Open g.row.D.Denot g.row.D-Piece.Denot g.row.A.Denot). At st.volumes c.args.volume volume) c.self.view_is at in
+    row_stops g.D.Piece.Piece.Tells _ c.args.start c.look-front.result.row c.args.cookie [] c.show-read.new.out.items c.show-read.result c.args.self.now c.args.volume volume c.args.pair there c.look-front.ensures.row c.show-read.ensures.reads
+
+pub returns-clause-volumes : goal.returns-clause-volumes
+returns-clause-volumes g c = ap (λ (st : Open g.row.D.Denot g.row.D-Piece.Denot g.row.A.Denot). st.volumes) c.self.view_is
