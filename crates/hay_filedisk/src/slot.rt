@@ -2,13 +2,21 @@
 ghost use Rattle.std.specs.Prelude.{◌≤◌, length, IfOk};
 
 use crate::opened::{read_whole, write_whole};
-use crate::system::{System, lock, open, open_folder};
+use crate::system::{System, lock, open_folder, open_found, open_or_make};
 use std::alloc::{AllocError, Global};
 use std::collections::BTreeMap;
-use std::fs::{File, OpenOptions};
+use std::fs::File;
 use std::io::ErrorKind;
 use std::sync::Arc;
 use std::{fs, io};
+
+// The number that a text is, in digits alone, the first of which is 0 in 0 alone.
+fn number_in(text: &str) -> Option<u32> {
+    match text.as_bytes() {
+        b"0" | [b'1'..=b'9', ..] => text.parse().ok(),
+        _ => None,
+    }
+}
 
 /// The files of a slot, which no other holder of this lock touches. A file is opened when it is first used.
 #[derive(Drop)]
@@ -62,7 +70,12 @@ impl<R: System> SlotFiles<R> {
     // The locals of reading a folder are large and are cleared when a function begins: so it is one of its own.
     fn settle_all(&mut self) -> io::Result<()> {
         for entry in fs::read_dir(&self.rt, self.path.as_str())? {
-            if let Some(file) = self.number_of(entry?.file_name()) {
+            let number = match entry {
+                Ok(entry) => self.number_of(entry.file_name()),
+                Err(error) if error.kind() == ErrorKind::InvalidFilename => None, // no text
+                Err(error) => return Err(error),
+            };
+            if let Some(file) = number {
                 self.settle_file(file)?;
             }
         }
@@ -82,8 +95,8 @@ impl<R: System> SlotFiles<R> {
     // The number of the slot's file that has this name.
     fn number_of(&self, name: &str) -> Option<u32> {
         let (slot, file) = name.split_once('-')?;
-        if slot.parse() == Ok(self.slot) {
-            file.parse().ok()
+        if number_in(slot)? == self.slot {
+            number_in(file)
         } else {
             None
         }
@@ -99,29 +112,20 @@ impl<R: System> SlotFiles<R> {
             return Ok(Some(opened.clone()?));
         }
         let path = self.path_of(file)?;
-        match open(
-            &self.rt,
-            OpenOptions::new().read(true).write(true),
-            path.as_str(),
-        ) {
-            Ok(opened) => Ok(Some(self.keep(file, opened)?)),
-            Err(error) if error.kind() == ErrorKind::NotFound => Ok(None),
-            Err(error) => Err(error),
+        match open_found(&self.rt, path.as_str())? {
+            Some(opened) => Ok(Some(self.keep(file, opened)?)),
+            None => Ok(None),
         }
     }
 
     // The file, which is made where it is missing.
-    fn open_or_make(&mut self, file: u32) -> io::Result<Arc<File>> {
+    fn find_or_make(&mut self, file: u32) -> io::Result<Arc<File>> {
         if let Some(opened) = self.find(file)? {
             return Ok(opened);
         }
         let path = self.path_of(file)?;
         self.folder_changed = true;
-        let made = open(
-            &self.rt,
-            OpenOptions::new().read(true).write(true).create(true),
-            path.as_str(),
-        )?;
+        let made = open_or_make(&self.rt, path.as_str())?;
         self.keep(file, made)
     }
 
@@ -154,7 +158,7 @@ impl<R: System> SlotFiles<R> {
     }
 
     pub(crate) fn write(&mut self, file: u32, at: u64, bytes: &[u8]) -> io::Result<()> {
-        write_whole(&*self.open_or_make(file)?, at, bytes)
+        write_whole(&*self.find_or_make(file)?, at, bytes)
     }
 
     /// Syncs the file, and then the folder, if a file was made or taken away.

@@ -1,7 +1,9 @@
 //! Standard input as a source, and standard output as a sink.
+ghost use Rattle.std.specs.Prelude.{◌≤◌, length, IfOk};
 
 use hay_disk::{Failed, Sink, Source};
-use std::io::{Read, Stdin, Stdout, Write};
+use std::io;
+use std::io::{ErrorKind, Read, Stdin, Stdout, Write};
 
 /// Standard input.
 #[derive(Drop)]
@@ -16,6 +18,20 @@ impl StdinSource {
     }
 }
 
+// Reads what comes next. A read that a signal interrupts is tried again.
+fn get(input: &mut Stdin, out: &mut [u8]) -> io::Result<usize>
+    ensures within { IfOk result (λ n. n ≤ length out.old) }
+{
+    'tries: for _ in 0..u64::MAX {
+        match input.read(out) {
+            Ok(count) => return Ok(count),
+            Err(error) if error.kind() == ErrorKind::Interrupted => {}
+            Err(error) => return Err(error),
+        }
+    }
+    Err(ErrorKind::Interrupted.into())
+}
+
 impl Source for StdinSource {
     ghost use Rattle.std.specs.Prelude.{None};
 
@@ -24,7 +40,7 @@ impl Source for StdinSource {
     ghost fault_count = { λ source. source.faults };
 
     fn read(&mut self, out: &mut [u8]) -> Result<usize, Failed> {
-        match self.input.read(out) {
+        match get(&mut self.input, out) {
             Ok(count) => Ok(count),
             Err(_) => {
                 self.faults = self.faults.saturating_add(1);
@@ -52,7 +68,7 @@ impl StdoutSink {
 }
 
 // Writes all of the bytes, and sends them on.
-fn put(output: &mut Stdout, bytes: &[u8]) -> std::io::Result<()> {
+fn put(output: &mut Stdout, bytes: &[u8]) -> io::Result<()> {
     output.write_all(bytes)?;
     output.flush()
 }
