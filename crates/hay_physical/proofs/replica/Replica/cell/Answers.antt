@@ -20,7 +20,7 @@ pub cell-requires : goal.cell-requires
 cell-requires g c = record {
   may = λ tells.
       let was = c.self.inside in
-      files_look g.D.Disk.files c.args.self.now was.sup was.disk was.phase c.in-Open.files c.args.at c.args.size c.self.view_is c.in-Open.is (c.requires.see tells)
+      files_look g.D.Disk.files c.args.self.now was.sup was.disk was.phase c.in-Open.files c.args.at c.args.size c.self.view_is c.in-Open.is (c.requires.see tells);
 }
 
 pub invariant_of-self : goal.invariant_of-self
