@@ -1,9 +1,9 @@
 -- At which fronts a volume lacked room in the block, and why it refused a photo then.
-use Rattle.std.proofs.Common.{◌≡◌, inl, inr, ℕ, zero, suc, ◌<◌, ◌≤◌, ◌+◌, ◌-◌, true, false, List, [], ◌∷◌, ◌++◌, length, Option, Some, None, refl, sym, ap, subst, ◌∙◌, arith, append_assoc, length-append}
+use Rattle.std.proofs.Common.{◌≡◌, ◌⊎◌, inl, inr, ℕ, zero, suc, ◌<◌, ◌≤◌, ◌+◌, ◌-◌, true, false, List, [], ◌∷◌, ◌++◌, length, Option, Some, None, refl, sym, ap, subst, ◌∙◌, arith, append_assoc, length-append}
 use Rattle.std.specs.List.{enumerate_from}
 use Rattle.std.specs.Prelude.{take, sum_by, find, slice_index_or}
 use Rattle.std.proofs.Math.Seq.{take-append_seam}
-use Rattle.std.proofs.lemmas.Bool.{cases_Bool, cond-false, cond-true, ltb-false, ltb-true}
+use Rattle.std.proofs.lemmas.Bool.{cases_Bool, cases_eq, cond-false, cond-true, ltb-false, ltb-true}
 use Rattle.hay_core.specs.declared.entry.Logged.{Logged}
 use Rattle.hay_needle.specs.declared.settings.Settings.{Settings}
 use Rattle.hay_needle.specs.Sizes.{needle_total}
@@ -14,14 +14,15 @@ use Rattle.hay_legal.specs.declared.known.Known.{Known}
 use Rattle.hay_legal.specs.declared.known.ReplicaKnown.{ReplicaKnown}
 use Rattle.hay_legal.specs.declared.turn.LaneItem.{LaneItem}
 use Rattle.hay_legal.specs.Known.{at_front, closed, closed_by, drained_of, empty_replica, lacks_room, machine_of, now, refusal_by, replica_at, replica_on, room_refusal_of, volume_at}
-use Rattle.hay_legal.specs.Blocks.{LacksRoom, MayEnd, MayEndAt, MayRefuse, entries_until, new_entries, put_total}
+use Rattle.hay_legal.specs.Blocks.{LacksRoom, MayEnd, MayEndAt, MayRefuse, WasSwapped, entries_until, new_entries, put_total}
+use Rattle.hay_history.specs.Steps.{Did, Standing}
 use Rattle.hay_history.specs.Histories.{History, first_of}
 use Rattle.hay_history.specs.Commands.{CameInLanes}
-use Rattle.hay_history.proofs.Histories.{along}
+use Rattle.hay_history.proofs.Histories.{Found, along, along_or_found}
 use Rattle.hay_history.proofs.Lists.{each_below}
-use Rattle.hay_history.proofs.ReplicaSteps.{effect, swaps_at}
+use Rattle.hay_history.proofs.ReplicaSteps.{effect, other_is, swaps_at}
 use Rattle.hay_history.proofs.Sizes.{Grown, grown_same, grown_step, grown_trans}
-use Rattle.hay_history.proofs.Volumes.{GenerationGrows, closed_then, end_then, generation_persists, grown_on, moment, new_entries_at, open_before, option_map_some, persists_on, replica_there, replicas_many, table_at_front, volume_at_moment}
+use Rattle.hay_history.proofs.Volumes.{GenerationGrows, SwapsIt, closed_then, end_then, generation_persists, grown_on, moment, new_entries_at, open_before, option_map_some, persists_on, replica_there, replicas_many, table_at_front, volume_at_moment}
 
 -- THE FIRST REPLICA WITHOUT ROOM
 
@@ -67,6 +68,18 @@ lower_fit settings size n (r ∷ replicas) at found i less =
     by_place zero less first rest = first
     by_place (suc i) less first rest = rest i (omega (arith, less))
 
+-- SWAPS
+
+-- a step swaps a replica, or does not
+swaps_or : (j : ℕ) (a b : Standing) (did : Did) → (swaps_at j a did ≡ 0) ⊎ SwapsIt j did a b
+swaps_or j a b (Did.Swaps i end cells freezes) = elim (cases_eq i j) [
+  | inl same ↦ inr (end, cells, freezes, ap (λ (n : ℕ). Did.Swaps n end cells freezes) same)
+  | inr other ↦ inl (other_is i j 1 other)
+]
+swaps_or j a b _ = inl refl
+
+-- THE ENDS AT A FRONT
+
 module _ {settings : Settings} {k : Known} {items : List LaneItem} {history : History} {t : Known} (h : CameInLanes settings k items history t)
     (v : ℕ) (below : v < settings.volumes) where
   -- the entries until a moment's front are those that were added until the moment
@@ -93,18 +106,37 @@ module _ {settings : Settings} {k : Known} {items : List LaneItem} {history : Hi
       (λ tag did a b leads rises inside. (swaps_at j a did, grown_step j a did b (effect settings v j tag did a b leads inside)))
       (h.follows v below) 0 n (omega arith) (omega (arith, (h.store).replicas v below, within))
 
-  ends_at : (n j : ℕ) → j < settings.replicas
-      → MayEndAt k t v (length (volume_at_moment settings k history v n).log) j (replica_at (volume_at_moment settings k history v n) j).end
-  ends_at n j within = elim (grew.1).sizes [
+  -- it grew by the puts alone, or a step swapped it
+  exact_or_swapped : (n j : ℕ) → j < settings.replicas
+      → Grown j (first_of settings k v) 0 (moment settings k history v n) ⊎ Found (SwapsIt j) (first_of settings k v) (history.volumes v) n
+  exact_or_swapped n j within =
+      elim (along_or_found settings v (λ a b. j < length (a.volume).replicas → Grown j a 0 b) (SwapsIt j) (first_of settings k v) (history.volumes v)
+      (λ a inside. grown_same j a)
+      (λ a b c x y inside. grown_trans j a b c 0 0 (x inside) (y (subst (λ (m : ℕ). j < m) (sym (x inside).many) inside)))
+      (λ tag did a b leads rises. elim (swaps_or j a b did) [
+        | inl none ↦ inl (λ inside. subst (λ (m : ℕ). Grown j a m b) none (grown_step j a did b (effect settings v j tag did a b leads inside)))
+        | inr swaps ↦ inr swaps
+      ])
+      (h.follows v below) n) [
+        | inl exact ↦ inl (exact (omega (arith, (h.store).replicas v below, within)))
+        | inr found ↦ inr found
+      ]
+
+  -- where it is said what a swap until a moment was
+  abbrev pub SaysSwapped : (ℕ → Type 0) → ℕ → Type 0
+  SaysSwapped Swapped n =
+      (j : ℕ) → j < settings.replicas → WasSwapped k t v j → Found (SwapsIt j) (first_of settings k v) (history.volumes v) n → Swapped j
+
+  ends_by : (Swapped : ℕ → Type 0) (n j swaps : ℕ) → Grown j (first_of settings k v) swaps (moment settings k history v n)
+      → (0 < swaps → WasSwapped k t v j → Swapped j)
+      → MayEndAt k t v Swapped (length (volume_at_moment settings k history v n).log) j (replica_at (volume_at_moment settings k history v n) j).end
+  ends_by Swapped n j swaps grew says = elim grew.sizes [
     | inl same ↦ inl (omega (arith, same.1, total))
-    | inr some ↦ inr (omega (arith, (grew.1).generation, some.0, later), omega (arith, some.1, standing), omega (arith, some.2, total))
+    | inr some ↦ inr (says some.0 (omega (arith, grew.generation, some.0, later)), omega (arith, some.1, standing), omega (arith, some.2, total))
   ]
     where
-      grew : (swaps : ℕ) × Grown j (first_of settings k v) swaps (moment settings k history v n)
-      grew = grown_until n j within
-
-      total : sum_by put_total (entries_until k t v (length (volume_at_moment settings k history v n).log)) ≡ sum_by put_total (grew.1).new
-      total = ap (λ (log : List Logged). sum_by put_total log) (entries_then n (grew.1).new (grew.1).log)
+      total : sum_by put_total (entries_until k t v (length (volume_at_moment settings k history v n).log)) ≡ sum_by put_total grew.new
+      total = ap (λ (log : List Logged). sum_by put_total log) (entries_then n grew.new grew.log)
 
       later : (replica_at (volume_at_moment settings k history v n) j).generation ≤ (replica_at (volume_at t v) j).generation
       later = persists_on h (GenerationGrows j) (generation_persists j) v n below
@@ -113,27 +145,34 @@ module _ {settings : Settings} {k : Known} {items : List LaneItem} {history : Hi
           ≡ live_end (now (volume_at_moment settings k history v n) (replica_at (volume_at_moment settings k history v n) j))
       standing = ap (λ (table : Table). live_end table) (table_at_front h v n j below)
 
+  ends_at : (Swapped : ℕ → Type 0) (n j : ℕ) → SaysSwapped Swapped n → j < settings.replicas
+      → MayEndAt k t v Swapped (length (volume_at_moment settings k history v n).log) j (replica_at (volume_at_moment settings k history v n) j).end
+  ends_at Swapped n j says within = elim (exact_or_swapped n j within) [
+    | inl exact ↦ ends_by Swapped n j 0 exact (λ some was. absurd (omega (arith, some)))
+    | inr found ↦ let grew = grown_until n j within in ends_by Swapped n j grew.0 grew.1 (λ some was. says j within was found)
+  ]
+
   there_by : (number j : ℕ) → number ≡ j → j < settings.replicas → replica_on settings v (machine_of settings v number) ≡ Some j
   there_by number j same within =
       subst (λ (i : ℕ). replica_on settings v (machine_of settings v i) ≡ Some j) (sym same) (replica_there settings v j (h.regular).machines below within)
 
   -- the first replica that lacks room at a moment lacks it at the moment's front
-  lacks_at : (n size : ℕ) (at : ℕ × ReplicaKnown) → find (λ at. lacks_room settings size at.1) (enumerate_from 0 (volume_at_moment settings k history v n).replicas) ≡ Some at
-      → LacksRoom settings k t v (length (volume_at_moment settings k history v n).log) (machine_of settings v at.0) (at.1).end (needle_total size)
-  lacks_at n size at found =
+  lacks_at : (Swapped : ℕ → Type 0) (n size : ℕ) (at : ℕ × ReplicaKnown) → SaysSwapped Swapped n → find (λ at. lacks_room settings size at.1) (enumerate_from 0 (volume_at_moment settings k history v n).replicas) ≡ Some at
+      → LacksRoom settings k t v Swapped (length (volume_at_moment settings k history v n).log) (machine_of settings v at.0) (at.1).end (needle_total size)
+  lacks_at Swapped n size at says found =
       let lacking = lacking_at settings size 0 (volume_at_moment settings k history v n).replicas at found in
       let within : lacking.0 < settings.replicas = subst (λ (many : ℕ). lacking.0 < many) (replicas_many h v n below) lacking.1 in
       let number : at.0 ≡ lacking.0 = omega (arith, lacking.2) in
       record {
         replica = lacking.0;
         there = there_by at.0 lacking.0 number within;
-        ended = subst (λ (r : ReplicaKnown). MayEndAt k t v (length (volume_at_moment settings k history v n).log) lacking.0 r.end) lacking.3 (ends_at n lacking.0 within);
+        ended = subst (λ (r : ReplicaKnown). MayEndAt k t v Swapped (length (volume_at_moment settings k history v n).log) lacking.0 r.end) lacking.3 (ends_at Swapped n lacking.0 says within);
         short = ltb-true settings.capacity ((at.1).end + needle_total size + 8) lacking.4;
         lower = each_below
-            (λ i. (other : ℕ) × MayEndAt k t v (length (volume_at_moment settings k history v n).log) i other × (other + needle_total size + 8 ≤ settings.capacity)) lacking.0
+            (λ i. (other : ℕ) × MayEndAt k t v Swapped (length (volume_at_moment settings k history v n).log) i other × (other + needle_total size + 8 ≤ settings.capacity)) lacking.0
             (λ i less. (
               (replica_at (volume_at_moment settings k history v n) i).end,
-              ends_at n i (omega (arith, less, within)),
+              ends_at Swapped n i says (omega (arith, less, within)),
               ltb-false settings.capacity ((replica_at (volume_at_moment settings k history v n) i).end + needle_total size + 8)
                   (lower_fit settings size 0 (volume_at_moment settings k history v n).replicas at found i (omega (arith, less, number))),
             ));
@@ -159,7 +198,7 @@ module _ {settings : Settings} {k : Known} {items : List LaneItem} {history : Hi
               subst (λ (r : ReplicaKnown). MayEnd settings k items t v lacking.0 r.end) lacking.3 (end_then h v n lacking.0 below within),
             ),
             refl,
-            (length (volume_at_moment settings k history v n).log, lacks_at n size at found),
+            (length (volume_at_moment settings k history v n).log, lacks_at (WasSwapped k t v) n size at (λ j inside was found. was) found),
           )
 
       by_closed : (o : Option ℕ) → closed_by (volume_at_moment settings k history v n).frozen (drained_of settings k v) ≡ o
@@ -173,27 +212,27 @@ module _ {settings : Settings} {k : Known} {items : List LaneItem} {history : Hi
           subst (MayRefuse settings k items t size v) found.2 (by_room (open_before h v n below closed) found.0 found.1)
 
   -- what refused a photo for want of room at a moment lacked it at the moment's front
-  pub lacks_then : (n size m end need : ℕ)
+  pub lacks_then : (Swapped : ℕ → Type 0) (n size m end need : ℕ) → SaysSwapped Swapped n
       → refusal_by v (closed_by (volume_at_moment settings k history v n).frozen (drained_of settings k v)) (room_refusal_of settings v (volume_at_moment settings k history v n) size)
       ≡ Some (NoRoom v m end need)
-      → LacksRoom settings k t v (length (volume_at_moment settings k history v n).log) m end need
-  lacks_then n size m end need is = by_closed (closed_by (volume_at_moment settings k history v n).frozen (drained_of settings k v)) is
+      → LacksRoom settings k t v Swapped (length (volume_at_moment settings k history v n).log) m end need
+  lacks_then Swapped n size m end need says is = by_closed (closed_by (volume_at_moment settings k history v n).frozen (drained_of settings k v)) is
     where
       room_of : (at : ℕ × ReplicaKnown) → NoRoom v (machine_of settings v at.0) (at.1).end (needle_total size) ≡ NoRoom v m end need
-          → LacksRoom settings k t v (length (volume_at_moment settings k history v n).log) (machine_of settings v at.0) (at.1).end (needle_total size)
-          → LacksRoom settings k t v (length (volume_at_moment settings k history v n).log) m end need
+          → LacksRoom settings k t v Swapped (length (volume_at_moment settings k history v n).log) (machine_of settings v at.0) (at.1).end (needle_total size)
+          → LacksRoom settings k t v Swapped (length (volume_at_moment settings k history v n).log) m end need
       room_of at same lacks =
           let machine : machine_of settings v at.0 ≡ m = cc in
           let ended : (at.1).end ≡ end = cc in
           let needed : needle_total size ≡ need = cc in
-          subst (λ (x : ℕ). LacksRoom settings k t v (length (volume_at_moment settings k history v n).log) x end need) machine
-          (subst (λ (x : ℕ). LacksRoom settings k t v (length (volume_at_moment settings k history v n).log) (machine_of settings v at.0) x need) ended
-          (subst (λ (x : ℕ). LacksRoom settings k t v (length (volume_at_moment settings k history v n).log) (machine_of settings v at.0) (at.1).end x) needed lacks))
+          subst (λ (x : ℕ). LacksRoom settings k t v Swapped (length (volume_at_moment settings k history v n).log) x end need) machine
+          (subst (λ (x : ℕ). LacksRoom settings k t v Swapped (length (volume_at_moment settings k history v n).log) (machine_of settings v at.0) x need) ended
+          (subst (λ (x : ℕ). LacksRoom settings k t v Swapped (length (volume_at_moment settings k history v n).log) (machine_of settings v at.0) (at.1).end x) needed lacks))
 
       by_closed : (o : Option ℕ) → refusal_by v o (room_refusal_of settings v (volume_at_moment settings k history v n) size) ≡ Some (NoRoom v m end need)
-          → LacksRoom settings k t v (length (volume_at_moment settings k history v n).log) m end need
+          → LacksRoom settings k t v Swapped (length (volume_at_moment settings k history v n).log) m end need
       by_closed (Some by) because = let clash : Closed v by ≡ NoRoom v m end need = cc in absurd cc
       by_closed None because =
           let found = option_map_some (λ (at : ℕ × ReplicaKnown). NoRoom v (machine_of settings v at.0) (at.1).end (needle_total size))
           (find (λ at. lacks_room settings size at.1) (enumerate_from 0 (volume_at_moment settings k history v n).replicas)) (NoRoom v m end need) because in
-          room_of found.0 found.2 (lacks_at n size found.0 found.1)
+          room_of found.0 found.2 (lacks_at Swapped n size found.0 says found.1)

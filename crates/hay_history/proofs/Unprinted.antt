@@ -1,9 +1,9 @@
 -- At which fronts lines met a volume that they tell of without printing its front, and in what order.
-use Rattle.std.proofs.Common.{◌≡◌, ◌≢◌, ◌⊎◌, inl, inr, ℕ, ◌<◌, ◌≤◌, ◌+◌, ◌==◌, false, cond, List, [], ◌∷◌, ◌++◌, length, count_by, Contains, Option, Some, None, sym, ap, subst, ◌∙◌, arith}
+use Rattle.std.proofs.Common.{◌≡◌, ◌≢◌, ◌⊎◌, refl, inl, inr, ℕ, ◌<◌, ◌≤◌, ◌+◌, ◌==◌, false, cond, List, [], ◌∷◌, ◌++◌, length, count_by, Contains, Option, Some, None, sym, ap, subst, ◌∙◌, arith}
 use Rattle.std.specs.List.{AllByRecursion as Each, AllZip}
 use Rattle.std.proofs.lemmas.Bool.{cases_eq, cases_lt, cond_both, eqb-true}
 use Rattle.std.proofs.lemmas.List.Sums.{sum_by-append}
-use Rattle.std.proofs.lemmas.Option.{slice_get_within}
+use Rattle.std.proofs.lemmas.Option.{none-some, slice_get_within}
 use Rattle.hay_needle.specs.declared.needle.Pair.{Pair}
 use Rattle.hay_needle.specs.declared.settings.Settings.{Settings}
 use Rattle.hay_url.specs.declared.Url.{Url as UrlParts}
@@ -19,26 +19,27 @@ use Rattle.hay_legal.specs.declared.known.VolumeKnown.{VolumeKnown}
 use Rattle.hay_legal.specs.declared.turn.Item.{Item}
 use Rattle.hay_legal.specs.declared.turn.Item.TheVariants as asks
 use Rattle.hay_legal.specs.declared.turn.LaneItem.{LaneItem}
-use Rattle.hay_legal.specs.Known.{EachPair, all_lanes, all_tries, machine_of, replica_at, replica_on, volume_at}
+use Rattle.hay_legal.specs.Known.{EachPair, all_lanes, all_tries, drained_of, machine_of, replica_at, replica_on, volume_at}
 use Rattle.hay_legal.specs.Plain.{with_bare}
-use Rattle.hay_legal.specs.Blocks.{FlushedSince, InOrder, LackedRoom, MeetingsAreLegal, RecordsAreLegal, flushed_on, fronts_told, is_put, new_entries, printed, puts_until, refusals_of, tag_of, tells_unprinted, volume_print}
+use Rattle.hay_legal.specs.Blocks.{FlushedSince, InOrder, LackedRoom, MeetingsAreLegal, RecordsAreLegal, SwappedBefore, flushed_on, fronts_told, is_put, made_on, new_entries, printed, puts_until, refusals_of, tag_of, tells_unprinted, volume_print}
 use Rattle.hay_history.specs.Steps.{Did, Leads, Step}
 use Rattle.hay_history.specs.Histories.{Course, History, IsLater, IsMoment, SeesRefusal, first_of, own, refusal_then, standing}
 use Rattle.hay_history.specs.Commands.{CameInLanes, CompactDid, FlushDid, GetDid, HomeRefuses, ItemDid, PutRefused}
 use Rattle.hay_history.proofs.Charges.{one_line}
 use Rattle.hay_history.proofs.Doings.{FlushedOne, line_did}
 use Rattle.hay_history.proofs.Fronts.{Within, Shows, lane_goes_on, log_from, log_grows, log_to, logs_later, one_within, volume_shows}
-use Rattle.hay_history.proofs.Histories.{along}
+use Rattle.hay_history.proofs.Histories.{Found, along}
+use Rattle.hay_history.proofs.Indexes.{precedes, swap_line}
 use Rattle.hay_history.proofs.Lines.{answered, course_of, one_leads, own_at}
 use Rattle.hay_history.proofs.Lists.{each_below, each_from, each_in, each_weaker, pair_both, pair_by}
-use Rattle.hay_history.proofs.Meeting.{refused_room}
+use Rattle.hay_history.proofs.Meeting.{refused_room, thawed_of}
 use Rattle.hay_history.proofs.Placing.{line_choice, tries_apart}
 use Rattle.hay_history.proofs.Printed.{flushed_as, flushed_is}
 use Rattle.hay_history.proofs.Refusing.{entries_then, lacks_then}
 use Rattle.hay_history.proofs.ReplicaSteps.{change_same, effect, flushes_at}
 use Rattle.hay_history.proofs.Sizes.{Cleared, cleared_same, cleared_step, cleared_trans, logs_joined}
 use Rattle.hay_history.proofs.Trying.{one_own}
-use Rattle.hay_history.proofs.Volumes.{moment, new_entries_at, replicas_many, volume_at_moment}
+use Rattle.hay_history.proofs.Volumes.{SwapsIt, frozen_stays, moment, new_entries_at, replicas_many, volume_at_moment}
 
 -- WHERE A LINE MET A VOLUME WITHOUT ROOM
 
@@ -138,14 +139,53 @@ module _ {settings : Settings} {k : Known} {items : List LaneItem} {history : Hi
   record MetAt (item : LaneItem) (n : ℕ) : Type 0 where
     among : Contains items item
     seen : IsMoment (course_of h item) v n
-    room : Each (LackedRoom settings k t v (front_at n)) (refusals_of item.reply)
+    room : Each (LackedRoom settings k items t v (front_at n) item) (refusals_of item.reply)
     flushed : (j : ℕ) → j < settings.replicas → Each (FlushedIn item n j) (flushed_on v (machine_of settings v j) item)
 
-  lacked : (item : LaneItem) (size n : ℕ) (r : Refused) → RefusedAt (course_of h item) v size n r → LackedRoom settings k t v (front_at n) r
-  lacked item size n (NoRoom u m end need) refused = λ same.
+  -- a swap of the replica before a moment at which a line saw the volume thawed is that of a line that may have come before it
+  swapped_before : (item : LaneItem) → Contains items item → ((m : ℕ) → made_on v m item ≡ []) → (n : ℕ) → IsMoment (course_of h item) v n → (then n).frozen ≡ None
+      → (j : ℕ) → j < settings.replicas → Found (SwapsIt j) (first_of settings k v) (history.volumes v) n → SwappedBefore settings items v item j
+  swapped_before item among none n seen thawed j within found =
+      let narrow : settings.replicas ≤ settings.machines = (h.regular).machines in
+      let swap = swap_line h v j below within narrow 0 n (record {
+        place = found.place;
+        low = omega arith;
+        high = found.below;
+        step = found.step;
+        at = found.at;
+        end = (found.did).0;
+        cells = (found.did).1;
+        freezes = (found.did).2;
+        is = (found.did).3;
+      }) in
+      elim swap.which [
+        | inl made ↦ (
+          swap.line,
+          swap.among,
+          made,
+          precedes h v j below within narrow swap.line item swap.among among
+              (λ same. made (ap (made_on v (machine_of settings v j)) same ∙ none (machine_of settings v j)))
+              (λ later.
+              let order = later.volumes v in
+              let from = swap.since in
+              let high = swap.high in
+              let to = seen.1 in
+              omega (arith, order, from, high, to)),
+        )
+        | inr hidden ↦
+            let high = swap.high in
+            absurd (none-some (hidden.0).0 (sym thawed ∙ frozen_stays h v (swap.place + 1) n (hidden.0).0 below (omega (arith, high)) (hidden.0).1))
+      ]
+
+  lacked : (item : LaneItem) → Contains items item → ((m : ℕ) → made_on v m item ≡ []) → (size n : ℕ) → IsMoment (course_of h item) v n → (r : Refused)
+      → RefusedAt (course_of h item) v size n r → LackedRoom settings k items t v (front_at n) item r
+  lacked item among none size n seen (NoRoom u m end need) refused = λ same.
       let is : NoRoom u m end need ≡ NoRoom v m end need = ap (λ (w : ℕ). NoRoom w m end need) same in
-      lacks_then h v below n size m end need (refused m end need is ∙ ap (λ (x : Refused). Some x) is)
-  lacked item size n (Closed u m) refused = tt
+      let because = refused m end need is ∙ ap (λ (x : Refused). Some x) is in
+      let thawed = (thawed_of (then n).frozen (drained_of settings k v) (refused_room (course_of h item) size v v m end need n because).1).0 in
+      lacks_then h v below (SwappedBefore settings items v item) n size m end need
+      (λ j within was found. swapped_before item among none n seen thawed j within found) because
+  lacked item among none size n seen (Closed u m) refused = tt
 
   flush_met : (item : LaneItem) → Contains items item → (one : FlushedOne (course_of h item) v item) → (j : ℕ) → j < settings.replicas
       → Each (FlushedIn item (one.step).place j) (flushed_on v (machine_of settings v j) item)
@@ -167,9 +207,9 @@ module _ {settings : Settings} {k : Known} {items : List LaneItem} {history : Hi
         log = ap (λ (volume : VolumeKnown). volume.log) leads.3;
       }
 
-  -- a line that flushed nothing of the volume
-  unflushed : (item : LaneItem) → Contains items item → ((m : ℕ) → flushed_on v m item ≡ []) → (n : ℕ) × MetAt item n
-  unflushed item among none =
+  -- a line that made and flushed nothing of the volume
+  quiet_met : (item : LaneItem) → Contains items item → ((m : ℕ) → (made_on v m item ≡ []) × (flushed_on v m item ≡ [])) → (n : ℕ) × MetAt item n
+  quiet_met item among none =
       let answer = answered h item among in
       let found = room_met (course_of h item) v ((h.from item.line).volumes v) (omega arith, (answer.later).volumes v) item.item item.reply answer.did in
       let met = found.1 in (
@@ -177,15 +217,20 @@ module _ {settings : Settings} {k : Known} {items : List LaneItem} {history : Hi
         record {
           among = among;
           seen = met.seen;
-          room = each_weaker (RefusedAt (course_of h item) v found.0 met.moment) (LackedRoom settings k t v (front_at met.moment))
-              (λ r. lacked item found.0 met.moment r) (refusals_of item.reply) met.each;
-          flushed = λ j within. subst (λ (xs : List ℕ). Each (FlushedIn item met.moment j) xs) (sym (none (machine_of settings v j))) tt;
+          room = each_weaker (RefusedAt (course_of h item) v found.0 met.moment) (LackedRoom settings k items t v (front_at met.moment) item)
+              (λ r. lacked item among (λ m. (none m).0) found.0 met.moment met.seen r) (refusals_of item.reply) met.each;
+          flushed = λ j within. subst (λ (xs : List ℕ). Each (FlushedIn item met.moment j) xs) (sym (none (machine_of settings v j)).1) tt;
         },
       )
 
+  -- a reply without refusals
+  no_refusals : (item : LaneItem) (n : ℕ) (r : Reply) → item.reply ≡ r → refusals_of r ≡ [] → Each (LackedRoom settings k items t v (front_at n) item) (refusals_of item.reply)
+  no_refusals item n r said none =
+      subst (λ (refused : List Refused). Each (LackedRoom settings k items t v (front_at n) item) refused) (sym (ap refusals_of said ∙ none)) tt
+
   met : (item : LaneItem) → Contains items item → (n : ℕ) × MetAt item n
   met item among = elim (line_did (course_of h item) v item (answered h item among).did) [
-    | inl quiet ↦ unflushed item among (λ m. (quiet.1 m).1)
+    | inl quiet ↦ quiet_met item among quiet.1
     | inr some ↦ elim some [
       | inl one ↦
           let bounds = one_within (course_of h item) item v (Did.Flushes one.j) one.step (answered h item among) in (
@@ -193,11 +238,20 @@ module _ {settings : Settings} {k : Known} {items : List LaneItem} {history : Hi
             record {
               among = among;
               seen = (bounds.0, omega (arith, bounds.1));
-              room = subst (λ (r : Reply). Each (LackedRoom settings k t v (front_at (one.step).place)) (refusals_of r)) (sym one.said) tt;
+              room = no_refusals item (one.step).place _ one.said refl;
               flushed = flush_met item among one;
             },
           )
-      | inr one ↦ unflushed item among (λ m. flushed_as v m item _ one.said)
+      | inr one ↦
+          let n : ℕ = (h.from item.line).volumes v in (
+            n,
+            record {
+              among = among;
+              seen = (omega arith, ((answered h item among).later).volumes v);
+              room = no_refusals item n _ one.said refl;
+              flushed = λ j within. subst (λ (xs : List ℕ). Each (FlushedIn item n j) xs) (sym (flushed_as v (machine_of settings v j) item _ one.said)) tt;
+            },
+          )
     ]
   ]
 
@@ -343,7 +397,7 @@ module _ {settings : Settings} {k : Known} {items : List LaneItem} {history : Hi
     fronts = each_from _ all_lanes (λ lane in_lanes.
         lane_goes_on (fronts_told front_of v) (log_from h v) (log_to h v) (length (volume_at k v).log) (length (volume_at t v).log) lane items
         (each_from _ items tells) (logs_later h v below));
-    room = each_weaker (λ item. MetAt item (chosen.0 item.line)) (λ item. Each (LackedRoom settings k t v (front_of item.line)) (refusals_of item.reply))
+    room = each_weaker (λ item. MetAt item (chosen.0 item.line)) (λ item. Each (LackedRoom settings k items t v (front_of item.line) item) (refusals_of item.reply))
         (λ item at. at.room) items chosen.1;
     records = each_below
         (λ j. RecordsAreLegal k items t v (machine_of settings v j) front_of (replica_at (volume_at k v) j) (replica_at (volume_at t v) j))

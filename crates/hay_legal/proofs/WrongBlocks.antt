@@ -34,7 +34,7 @@ use Rattle.hay_legal.specs.declared.turn.LaneItem.{LaneItem}
 use Rattle.hay_legal.specs.declared.turn.LogNote.{LogNote}
 use Rattle.hay_legal.specs.declared.turn.RowNote.{RowNote}
 use Rattle.hay_legal.specs.Known.{CameUp, EachPair, all_tries, closed, closed_by, drained_of, fault_count, home_of, machine_of, replica_at, replica_on, replicas_of, slot_of, volume_at}
-use Rattle.hay_legal.specs.Blocks.{CompactIsLegal, DeletesOn, DiskIsLegal, FlushIsLegal, FreezeIsLegal, Freezes, HomeInBlock, FrontsGrow, InOrder, IsAt, IsEntered, IsNewRow, LacksRoom, LegalBlock, LineIsLegal, MayEndAt, MayHaveAdded, MayHaveFrozen, MayPrecede, MayRefuse, Printed, RecordsAreLegal, ReplicaIsLegal, RefusesPut, StandsBefore, SticksBy, SwappedWhere, VolumeIsLegal, WasFrozen, WasSwapped, disk_prints, end_with_puts, flushed_on, fronts_told, froze_at_compact, generation_print, highest_end, is_compacted, is_failed, is_put, is_wanting, lane_items, made_on, new_entries, new_rows, pending_behind, printed, put_total, puts_until, row_faults, row_failed, sticks_on}
+use Rattle.hay_legal.specs.Blocks.{CompactIsLegal, DeletesOn, DiskIsLegal, FlushIsLegal, FreezeIsLegal, Freezes, HomeInBlock, FrontsGrow, InOrder, IsAt, IsEntered, IsNewRow, LacksRoom, LegalBlock, LineIsLegal, MayEndAt, MayHaveAdded, MayHaveFrozen, MayPrecede, MayRefuse, Printed, RecordsAreLegal, ReplicaIsLegal, RefusesPut, StandsBefore, SticksBy, SwappedBefore, SwappedWhere, VolumeIsLegal, WasFrozen, WasSwapped, disk_prints, end_with_puts, flushed_on, fronts_told, froze_at_compact, generation_print, highest_end, is_compacted, is_failed, is_put, is_wanting, lane_items, made_on, new_entries, new_rows, pending_behind, printed, put_total, puts_until, row_faults, row_failed, sticks_on}
 use Rattle.hay_legal.proofs.Subject.Entries.{each_in_range}
 
 -- LISTS
@@ -246,7 +246,7 @@ module _ {settings : Settings} {k : Known} {items : List LaneItem} {logs : List 
   -- ROOM
 
   -- a replica that was not swapped ends where the puts made it end
-  exactly : (v front j end : ℕ) → (WasSwapped k t v j → ⊥) → MayEndAt k t v front j end → end ≡ end_with_puts k t v front j
+  exactly : (v front j end : ℕ) → (WasSwapped k t v j → ⊥) → MayEndAt k t v (WasSwapped k t v) front j end → end ≡ end_with_puts k t v front j
   exactly v front j end kept may = elim may [ inl same ↦ same | inr swapped ↦ absurd (kept swapped.0) ]
 
   -- a photo is stored on a volume a replica of which is left too long
@@ -270,11 +270,11 @@ module _ {settings : Settings} {k : Known} {items : List LaneItem} {logs : List 
   room_behind_a_longer_replica lane n v m i j end need refused pair bytes there less longer kept_i kept_j group among =
       let may = full_refuses lane n refused (NoRoom v m end need) pair bytes group among in
       let front : ℕ = ((may.1).4).0 in
-      let lacks = subst (λ (w : ℕ). LacksRoom settings k t w front m end need) (sym (may.1).0) ((may.1).4).1 in
+      let lacks = subst (λ (w : ℕ). LacksRoom settings k t w (WasSwapped k t w) front m end need) (sym (may.1).0) ((may.1).4).1 in
       let named : lacks.replica ≡ j = same_Some _ _ (sym lacks.there ∙ there) in
-      let lower = each_in_range (λ i. (other : ℕ) × MayEndAt k t v front i other × (other + need + 8 ≤ settings.capacity)) 0 lacks.replica i lacks.lower (omega arith) (omega (arith, less, named)) in
+      let lower = each_in_range (λ i. (other : ℕ) × MayEndAt k t v (WasSwapped k t v) front i other × (other + need + 8 ≤ settings.capacity)) 0 lacks.replica i lacks.lower (omega arith) (omega (arith, less, named)) in
       let first : lower.0 ≡ end_with_puts k t v front i = exactly v front i lower.0 kept_i lower.1 in
-      let second : end ≡ end_with_puts k t v front j = exactly v front j end kept_j (subst (λ (r : ℕ). MayEndAt k t v front r end) named lacks.ended) in
+      let second : end ≡ end_with_puts k t v front j = exactly v front j end kept_j (subst (λ (r : ℕ). MayEndAt k t v (WasSwapped k t v) front r end) named lacks.ended) in
       omega (arith, first, second, longer, lower.2, lacks.short)
 
   -- or though a lower one was too long for the photo, and was not swapped
@@ -284,9 +284,9 @@ module _ {settings : Settings} {k : Known} {items : List LaneItem} {logs : List 
   room_behind_a_full_replica lane n v m i j end need refused pair bytes there less full kept group among =
       let may = full_refuses lane n refused (NoRoom v m end need) pair bytes group among in
       let front : ℕ = ((may.1).4).0 in
-      let lacks = subst (λ (w : ℕ). LacksRoom settings k t w front m end need) (sym (may.1).0) ((may.1).4).1 in
+      let lacks = subst (λ (w : ℕ). LacksRoom settings k t w (WasSwapped k t w) front m end need) (sym (may.1).0) ((may.1).4).1 in
       let named : lacks.replica ≡ j = same_Some _ _ (sym lacks.there ∙ there) in
-      let lower = each_in_range (λ i. (other : ℕ) × MayEndAt k t v front i other × (other + need + 8 ≤ settings.capacity)) 0 lacks.replica i lacks.lower (omega arith) (omega (arith, less, named)) in
+      let lower = each_in_range (λ i. (other : ℕ) × MayEndAt k t v (WasSwapped k t v) front i other × (other + need + 8 ≤ settings.capacity)) 0 lacks.replica i lacks.lower (omega arith) (omega (arith, less, named)) in
       let first : lower.0 ≡ end_with_puts k t v front i = exactly v front i lower.0 kept lower.1 in
       omega (arith, first, full, lower.2)
 
@@ -819,45 +819,77 @@ told_in_order v low high met a b x y lane_a lane_b one_a one_b grow =
 told_full : (v m n end need : ℕ) (met : ℕ → ℕ) (pair : Pair) (bytes : List ℕ) → fronts_told met v (full_put n v m end need pair bytes) ≡ printed (met n) false ∷ []
 told_full v m n end need met pair bytes = ap (λ (c : Bool). cond (c || false) (printed (met n) false ∷ []) []) (eq-eqb v v refl)
 
--- the end of a replica without room that was not swapped
-end_without_room : {settings : Settings} {k t : Known} (v m j front end need : ℕ) → replica_on settings v m ≡ Some j → (WasSwapped k t v j → ⊥)
-    → LacksRoom settings k t v front m end need → end ≡ end_with_puts k t v front j
-end_without_room {settings} {k} {t} v m j front end need there kept lacks =
+-- the end of a replica without room that was not swapped as is said
+end_without_room : {settings : Settings} {k t : Known} (v m j front end need : ℕ) (Swapped : ℕ → Type 0) → replica_on settings v m ≡ Some j → (Swapped j → ⊥)
+    → LacksRoom settings k t v Swapped front m end need → end ≡ end_with_puts k t v front j
+end_without_room {settings} {k} {t} v m j front end need Swapped there kept lacks =
     let named : lacks.replica ≡ j = same_Some _ _ (sym lacks.there ∙ there) in
-    elim (subst (λ (r : ℕ). MayEndAt k t v front r end) named lacks.ended) [ inl same ↦ same | inr swapped ↦ absurd (kept swapped.0) ]
+    elim (subst (λ (r : ℕ). MayEndAt k t v Swapped front r end) named lacks.ended) [ inl same ↦ same | inr swapped ↦ absurd (kept swapped.0) ]
+
+-- the second of two lines stands before none
+no_later : (a b : LaneItem) → a.line ≢ b.line → StandsBefore (a ∷ b ∷ []) b a → ⊥
+no_later a b apart (zero, n, less, at, then) = apart (ap (λ (x : LaneItem). x.line) (same_Some a b at))
+no_later a b apart (suc zero, zero, less, at, then) = omega (arith, less)
+no_later a b apart (suc zero, suc zero, less, at, then) = omega (arith, less)
+no_later a b apart (suc zero, suc (suc n), less, at, then) = none-some _ then
+no_later a b apart (suc (suc i), n, less, at, then) = none-some _ at
+
+never_swaps : (v m : ℕ) (a b : LaneItem) (Where : LaneItem → Type 0) → made_on v m a ≡ [] → made_on v m b ≡ [] → SwappedWhere (a ∷ b ∷ []) v m Where → ⊥
+never_swaps v m a b Where none_a none_b swapped = elim (one_of_two a b swapped.0 swapped.1) [
+  | inl first ↦ swapped.2 (ap (made_on v m) (sym first) ∙ none_a)
+  | inr second ↦ swapped.2 (ap (made_on v m) (sym second) ∙ none_b)
+]
 
 module _ {settings : Settings} {k : Known} {logs : List LogNote} {rows : RowNote} {t : Known} (v m j : ℕ) (below : v < settings.volumes)
     (there : replica_on settings v m ≡ Some j) where
-  -- the ends that a lane is told of a replica fall, though no line swapped it
-  ends_fall : (end end' need need' : ℕ) (pair pair' : Pair) (bytes bytes' : List ℕ) → (WasSwapped k t v j → ⊥) → end' < end
+  -- the ends that a lane is told of a replica fall, though no line swaps it
+  ends_fall : (end end' need need' : ℕ) (pair pair' : Pair) (bytes bytes' : List ℕ) → end' < end
       → LegalBlock settings k (full_put 2 v m end need pair bytes ∷ full_put 3 v m end' need' pair' bytes' ∷ []) logs rows t → ⊥
-  ends_fall end end' need need' pair pair' bytes bytes' kept falls b =
+  ends_fall end end' need need' pair pair' bytes bytes' falls b =
       let told = (volume b v below).meetings in
       let rises : told.met 2 ≤ told.met 3 =
       told_in_order v _ _ told.met (full_put 2 v m end need pair bytes) (full_put 3 v m end' need' pair' bytes') (printed (told.met 2) false) (printed (told.met 3) false) refl refl
       (told_full v m 2 end need told.met pair bytes) (told_full v m 3 end' need' told.met pair' bytes') (told.fronts).0 in
-      let first : end ≡ end_with_puts k t v (told.met 2) j = end_without_room v m j (told.met 2) end need there kept ((told.room).0.0 refl) in
-      let second : end' ≡ end_with_puts k t v (told.met 3) j = end_without_room v m j (told.met 3) end' need' there kept ((told.room).1.0.0 refl) in
+      let first : end ≡ end_with_puts k t v (told.met 2) j = end_without_room v m j (told.met 2) end need _ there (never_swaps v (machine_of settings v j) _ _ _ refl refl) ((told.room).0.0 refl) in
+      let second : end' ≡ end_with_puts k t v (told.met 3) j = end_without_room v m j (told.met 3) end' need' _ there (never_swaps v (machine_of settings v j) _ _ _ refl refl) ((told.room).1.0.0 refl) in
       let more = totals_grow (new_entries k t v) (told.met 2 - length (volume_at k v).log) (told.met 3 - length (volume_at k v).log) (omega (arith, rises)) in
       omega (arith, first, second, more, falls)
 
   -- a lane is told an end that its own put before had passed
-  end_before_own_put : (p d end need : ℕ) (c : Cookie) (pair pair' : Pair) (bytes bytes' : List ℕ) → (WasSwapped k t v j → ⊥)
+  end_before_own_put : (p d end need : ℕ) (c : Cookie) (pair pair' : Pair) (bytes bytes' : List ℕ)
       → end < (replica_at (volume_at k v) j).end + needle_total (length bytes)
       → LegalBlock settings k (answered 0 2 (command.Put pair bytes) (reply.Stored v p d c) ∷ full_put 3 v m end need pair' bytes' ∷ []) logs rows t → ⊥
-  end_before_own_put p d end need c pair pair' bytes bytes' kept short b =
+  end_before_own_put p d end need c pair pair' bytes bytes' short b =
       let put : LaneItem = answered 0 2 (command.Put pair bytes) (reply.Stored v p d c) in
       let told = (volume b v below).meetings in
       let rises : p ≤ told.met 3 =
       told_in_order v _ _ told.met put (full_put 3 v m end need pair' bytes') (printed p true) (printed (told.met 3) false) refl refl
       (ap (λ (x : Bool). cond x (printed p true ∷ []) []) (eq-eqb v v refl)) (told_full v m 3 end need told.met pair' bytes') (told.fronts).0 in
-      let ended : end ≡ end_with_puts k t v (told.met 3) j = end_without_room v m j (told.met 3) end need there kept ((told.room).1.0.0 refl) in
+      let ended : end ≡ end_with_puts k t v (told.met 3) j = end_without_room v m j (told.met 3) end need _ there (never_swaps v (machine_of settings v j) _ _ _ refl refl) ((told.room).1.0.0 refl) in
       let entered = (b.entered).0 in
       let logged = entered.1.0 in
       let entry_is : entry.Put pair (cookie_of settings.secret pair.key) bytes ≡ logged.entry = same_Some _ logged.entry (entered.1.2).entry in
       let total : needle_total (length bytes) ≡ put_total logged = ap (λ (e : Entry). put_total (record { tag = logged.tag; entry = e })) entry_is in
       let some = put_totalled (volume_at t v).log (length (volume_at k v).log) (p - 1) (told.met 3 - length (volume_at k v).log) logged (omega (arith, entered.0)) (omega (arith, entered.0, rises)) entered.1.1 in
       omega (arith, ended, total, some, short)
+
+  -- a lane is told an end before that of k, and swaps the replica only then
+  end_before_own_swap : (end need u w g : ℕ) (pair : Pair) (bytes : List ℕ) → end < (replica_at (volume_at k v) j).end
+      → LegalBlock settings k (full_put 2 v m end need pair bytes ∷ answered 0 3 (command.Compact u w) (reply.Compacted u w g) ∷ []) logs rows t → ⊥
+  end_before_own_swap end need u w g pair bytes short b =
+      let full : LaneItem = full_put 2 v m end need pair bytes in
+      let swap : LaneItem = answered 0 3 (command.Compact u w) (reply.Compacted u w g) in
+      let told = (volume b v below).meetings in
+      let ended : end ≡ end_with_puts k t v (told.met 2) j =
+      end_without_room v m j (told.met 2) end need (SwappedBefore settings (full ∷ swap ∷ []) v full) there
+      (λ swapped. elim (one_of_two full swap swapped.0 swapped.1) [
+        | inl first ↦ swapped.2 (ap (made_on v (machine_of settings v j)) (sym first))
+        | inr second ↦
+            no_later full swap (λ same. let clash : ◌≡◌ {A = ℕ} 2 3 = same in omega (arith, clash))
+            (subst (λ (x : LaneItem). MayPrecede (full ∷ swap ∷ []) x full) (sym second) swapped.3 refl)
+      ])
+      ((told.room).0.0 refl) in
+      omega (arith, ended, short)
 
   -- a lane flushes the record of a photo that it stores only then, where no cell was without a record before
   flushed_before_own_put : (n p d : ℕ) (c : Cookie) (pair : Pair) (bytes : List ℕ) → machine_of settings v j ≡ m → j < settings.replicas → 0 < n
@@ -887,12 +919,6 @@ module _ {settings : Settings} {k : Known} {logs : List LogNote} {rows : RowNote
 abbrev line_at : Option LaneItem → ℕ
 line_at None = 0
 line_at (Some item) = item.line
-
-never_swaps : (v m : ℕ) (a b : LaneItem) (Where : LaneItem → Type 0) → made_on v m a ≡ [] → made_on v m b ≡ [] → SwappedWhere (a ∷ b ∷ []) v m Where → ⊥
-never_swaps v m a b Where none_a none_b swapped = elim (one_of_two a b swapped.0 swapped.1) [
-  | inl first ↦ swapped.2 (ap (made_on v m) (sym first) ∙ none_a)
-  | inr second ↦ swapped.2 (ap (made_on v m) (sym second) ∙ none_b)
-]
 
 module _ (settings : Settings) (k : Known) (logs : List LogNote) (rows : RowNote) (t : Known) (v j : ℕ) (below : v < settings.volumes) (within : j < settings.replicas) where
   abbrev on : ℕ

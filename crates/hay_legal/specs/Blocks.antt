@@ -227,19 +227,19 @@ abbrev pub end_with_puts : Known → Known → ℕ → ℕ → ℕ → ℕ
 end_with_puts k t v front j = (replica_at (volume_at k v) j).end + sum_by put_total (entries_until k t v front)
 
 -- A replica may end so at a front of its volume: where the puts until then made it end, or no further than that, and behind the
--- photos that stood then, where the block swapped it.
-abbrev pub MayEndAt : Known → Known → ℕ → ℕ → ℕ → ℕ → Type 0
-MayEndAt k t v front j end =
+-- photos that stood then, where it was swapped as is said.
+abbrev pub MayEndAt : Known → Known → ℕ → (ℕ → Type 0) → ℕ → ℕ → ℕ → Type 0
+MayEndAt k t v Swapped front j end =
     (end ≡ end_with_puts k t v front j)
-    ⊎ (WasSwapped k t v j × (live_end (at_front (volume_at t v) (replica_at (volume_at t v) j) front) ≤ end) × (end ≤ end_with_puts k t v front j))
+    ⊎ (Swapped j × (live_end (at_front (volume_at t v) (replica_at (volume_at t v) j) front) ≤ end) × (end ≤ end_with_puts k t v front j))
 
 -- At a front of the volume the replica on m was the first without room for so many bytes, and had this end.
-pub record LacksRoom (settings : Settings) (k t : Known) (v front m end need : ℕ) : Type 0 where
+pub record LacksRoom (settings : Settings) (k t : Known) (v : ℕ) (Swapped : ℕ → Type 0) (front m end need : ℕ) : Type 0 where
   pub replica : ℕ
   pub there : replica_on settings v m ≡ Some replica
-  pub ended : MayEndAt k t v front replica end
+  pub ended : MayEndAt k t v Swapped front replica end
   pub short : settings.capacity < end + need + 8
-  pub lower : Each (λ i. (other : ℕ) × MayEndAt k t v front i other × (other + need + 8 ≤ settings.capacity)) (range_with_len 0 replica)
+  pub lower : Each (λ i. (other : ℕ) × MayEndAt k t v Swapped front i other × (other + need + 8 ≤ settings.capacity)) (range_with_len 0 replica)
 
 -- each replica had room for a photo of this size at some time
 abbrev pub MayHaveRoom : Settings → Known → List LaneItem → Known → ℕ → ℕ → Type 0
@@ -259,7 +259,7 @@ abbrev pub MayRefuse : Settings → Known → List LaneItem → Known → ℕ �
 MayRefuse settings k items t size v (NoRoom v' m end need) =
     (v' ≡ v) × (closed settings k v ≡ None)
     × ((j : ℕ) × (replica_on settings v m ≡ Some j) × MayEnd settings k items t v j end)
-    × (need ≡ needle_total size) × ((front : ℕ) × LacksRoom settings k t v front m end need)
+    × (need ≡ needle_total size) × ((front : ℕ) × LacksRoom settings k t v (WasSwapped k t v) front m end need)
 MayRefuse settings k items t size v (Closed v' m) = (v' ≡ v) × MayBeClosed settings k t v m
 
 -- ROWS: each new row is that of a put line, at the try that may have taken its photo
@@ -958,10 +958,15 @@ tells_unprinted v _ = false
 abbrev pub fronts_told : (ℕ → ℕ) → ℕ → LaneItem → List Printed
 fronts_told met v item = cond (tells_unprinted v item.reply) (printed (met item.line) false ∷ []) (volume_print v item.reply)
 
--- the volume lacked room at this front as the refusal says, if it is for that
-abbrev pub LackedRoom : Settings → Known → Known → ℕ → ℕ → Refused → Type 0
-LackedRoom settings k t v front (NoRoom v' m end need) = v' ≡ v → LacksRoom settings k t v front m end need
-LackedRoom settings k t v front (Closed v' m) = Unit {0}
+-- a line swapped the replica that may have come before this one
+abbrev pub SwappedBefore : Settings → List LaneItem → ℕ → LaneItem → ℕ → Type 0
+SwappedBefore settings items v item j = SwappedWhere items v (machine_of settings v j) (λ swap. MayPrecede items swap item)
+
+-- the volume lacked room at this front as the line's refusal says, if it is for that
+abbrev pub LackedRoom : Settings → Known → List LaneItem → Known → ℕ → ℕ → LaneItem → Refused → Type 0
+LackedRoom settings k items t v front item (NoRoom v' m end need) =
+    v' ≡ v → LacksRoom settings k t v (SwappedBefore settings items v item) front m end need
+LackedRoom settings k items t v front item (Closed v' m) = Unit {0}
 
 abbrev pub puts_until : Known → Known → ℕ → ℕ → ℕ
 puts_until k t v front = count_by is_put (entries_until k t v front)
@@ -988,7 +993,7 @@ pub record MeetingsAreLegal (settings : Settings) (k : Known) (items : List Lane
   pub fronts : Each
       (λ lane. FrontsGrow (length (volume_at k v).log) (length (volume_at t v).log) (flat_map (fronts_told met v) (lane_items items lane)))
       all_lanes
-  pub room : Each (λ item. Each (LackedRoom settings k t v (met item.line)) (refusals_of item.reply)) items
+  pub room : Each (λ item. Each (LackedRoom settings k items t v (met item.line) item) (refusals_of item.reply)) items
   pub records : Each
       (λ j. RecordsAreLegal k items t v (machine_of settings v j) met (replica_at (volume_at k v) j) (replica_at (volume_at t v) j))
       (replicas_of settings)
