@@ -228,13 +228,13 @@ module _ (show : LaneItem → List Printed) (low high : LaneItem → ℕ) where
           each_weaker (Within (low b) (high b)) (InOrder a) (λ shown is. in_order_below a shown (low b) (omega (arith, le, less)) is.0) (show b) h.within)
           items shows.1 later.0)
 
-  lane_goes_on : (start finish lane : ℕ) (items : List LaneItem) → Each (Shows start finish) items
+  pub lane_goes_on : (start finish lane : ℕ) (items : List LaneItem) → Each (Shows start finish) items
       → EachPair (λ a b. a.lane ≡ b.lane → high a ≤ low b) items → FrontsGrow start finish (flat_map show (lane_items items lane))
   lane_goes_on start finish lane items shows later = (lane_in_order start finish lane items shows later, lane_between start finish lane items shows)
 
 -- THE LOGS
 
-log_grows : {settings : Settings} {k : Known} {items : List LaneItem} {history : History} {t : Known} (h : CameInLanes settings k items history t)
+pub log_grows : {settings : Settings} {k : Known} {items : List LaneItem} {history : History} {t : Known} (h : CameInLanes settings k items history t)
     (v n m : ℕ) → v < settings.volumes → n ≤ m
     → length (volume_at_moment settings k history v n).log ≤ length (volume_at_moment settings k history v m).log
 log_grows {settings} {k} {items} {history} h v n m below le =
@@ -265,10 +265,10 @@ one_longer {settings} {k} {items} {history} {t} h item v change one below among 
     (subst (λ (did : Did). Leads settings v (tag_of item) did (standing (course_of h item) v one.place) (standing (course_of h item) v (one.place + 1))) one.is led)
 
 -- how long a volume's log was when a line began, and when it ended
-abbrev log_from : {settings : Settings} {k : Known} {items : List LaneItem} {history : History} {t : Known} → CameInLanes settings k items history t → ℕ → LaneItem → ℕ
+abbrev pub log_from : {settings : Settings} {k : Known} {items : List LaneItem} {history : History} {t : Known} → CameInLanes settings k items history t → ℕ → LaneItem → ℕ
 log_from {settings} {k} {items} {history} h v item = length (volume_at_moment settings k history v ((h.from item.line).volumes v)).log
 
-abbrev log_to : {settings : Settings} {k : Known} {items : List LaneItem} {history : History} {t : Known} → CameInLanes settings k items history t → ℕ → LaneItem → ℕ
+abbrev pub log_to : {settings : Settings} {k : Known} {items : List LaneItem} {history : History} {t : Known} → CameInLanes settings k items history t → ℕ → LaneItem → ℕ
 log_to {settings} {k} {items} {history} h v item = length (volume_at_moment settings k history v ((h.to item.line).volumes v)).log
 
 print_within : {settings : Settings} {k : Known} {items : List LaneItem} {history : History} {t : Known} (h : CameInLanes settings k items history t)
@@ -286,7 +286,7 @@ print_within {settings} {k} {items} {history} {t} h item v shown below among pri
           subst (Within (log_from h v item) (log_to h v item)) (sym is) (omega (arith, before), omega (arith, longer, later))
     ]
 
-volume_shows : {settings : Settings} {k : Known} {items : List LaneItem} {history : History} {t : Known} (h : CameInLanes settings k items history t)
+pub volume_shows : {settings : Settings} {k : Known} {items : List LaneItem} {history : History} {t : Known} (h : CameInLanes settings k items history t)
     (v : ℕ) → v < settings.volumes → (item : LaneItem) → Contains items item
     → Shows (λ item. volume_print v item.reply) (log_from h v) (log_to h v) (length (volume_at k v).log) (length (volume_at t v).log) item
 volume_shows h v below item among = record {
@@ -298,7 +298,7 @@ volume_shows h v below item among = record {
   once = prints_once v item.reply;
 }
 
-logs_later : {settings : Settings} {k : Known} {items : List LaneItem} {history : History} {t : Known} (h : CameInLanes settings k items history t)
+pub logs_later : {settings : Settings} {k : Known} {items : List LaneItem} {history : History} {t : Known} (h : CameInLanes settings k items history t)
     (v : ℕ) → v < settings.volumes → EachPair (λ a b. a.lane ≡ b.lane → log_to h v a ≤ log_from h v b) items
 logs_later {items = items} h v below =
     pair_weaker (λ a b. a.lane ≡ b.lane → IsLater (h.to a.line) (h.from b.line)) (λ a b. a.lane ≡ b.lane → log_to h v a ≤ log_from h v b)

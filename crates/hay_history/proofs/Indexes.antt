@@ -190,28 +190,28 @@ sum_within f g (x ∷ xs) each =
 
 module _ {settings : Settings} {k : Known} {items : List LaneItem} {history : History} {t : Known} (h : CameInLanes settings k items history t)
     (v j : ℕ) (below : v < settings.volumes) (within : j < settings.replicas) (narrow : settings.replicas ≤ settings.machines) where
-  abbrev on : ℕ
+  abbrev pub on : ℕ
   on = machine_of settings v j
 
   abbrev stuck_at : ℕ → Bool
   stuck_at n = (replica_at (volume_at_moment settings k history v n) j).stuck
 
-  abbrev frozen_at : ℕ → Option ℕ
+  abbrev pub frozen_at : ℕ → Option ℕ
   frozen_at n = (volume_at_moment settings k history v n).frozen
 
   -- SWAPS
 
   -- a step between two moments that swapped the replica
-  record SwapsAt (n m : ℕ) : Type 0 where
-    place : ℕ
-    low : n ≤ place
-    high : place < m
-    step : Step
-    at : slice_get (history.volumes v) place ≡ Some step
-    end : ℕ
-    cells : ℕ
-    freezes : Bool
-    is : step.did ≡ Did.Swaps j end cells freezes
+  pub record SwapsAt (n m : ℕ) : Type 0 where
+    pub place : ℕ
+    pub low : n ≤ place
+    pub high : place < m
+    pub step : Step
+    pub at : slice_get (history.volumes v) place ≡ Some step
+    pub end : ℕ
+    pub cells : ℕ
+    pub freezes : Bool
+    pub is : step.did ≡ Did.Swaps j end cells freezes
 
   stuck_step : (n : ℕ) (s : Step) → slice_get (history.volumes v) n ≡ Some s → stuck_at n ≡ true → ((replica_at (s.after).volume j).stuck ≡ true) ⊎ SwapsAt n (n + 1)
   stuck_step n s at stuck =
@@ -275,15 +275,15 @@ module _ {settings : Settings} {k : Known} {items : List LaneItem} {history : Hi
   -- THE LINE OF A SWAP
 
   -- the line of a swap made a generation, or the volume is frozen behind it
-  record SwapLine (n m : ℕ) : Type 0 where
-    line : LaneItem
-    among : Contains items line
-    place : ℕ
-    low : n ≤ place
-    high : place < m
-    since : (h.from line.line).volumes v ≤ place
-    until : place < (h.to line.line).volumes v
-    which : (made_on v on line ≢ [])
+  pub record SwapLine (n m : ℕ) : Type 0 where
+    pub line : LaneItem
+    pub among : Contains items line
+    pub place : ℕ
+    pub low : n ≤ place
+    pub high : place < m
+    pub since : (h.from line.line).volumes v ≤ place
+    pub until : place < (h.to line.line).volumes v
+    pub which : (made_on v on line ≢ [])
         ⊎ (((by : ℕ) × (frozen_at (place + 1) ≡ Some by)) × (1 ≤ weigh (hidden_at j) (first_of settings k v) (history.volumes v)))
 
   made_here : (m g : ℕ) → m ≡ on → cond ((v == v) && (m == on)) (g ∷ []) [] ≡ g ∷ []
@@ -309,7 +309,7 @@ module _ {settings : Settings} {k : Known} {items : List LaneItem} {history : Hi
         omega (arith, least, one),
       )
 
-  swap_line : (n m : ℕ) → SwapsAt n m → SwapLine n m
+  pub swap_line : (n m : ℕ) → SwapsAt n m → SwapLine n m
   swap_line n m swap =
       let line = of_line h v swap.place swap.step below swap.at in
       let may = subst (λ (d : Did). MayDo settings (line.item).item (line.item).reply v d) swap.is (line.by).0 in
@@ -332,7 +332,7 @@ module _ {settings : Settings} {k : Known} {items : List LaneItem} {history : Hi
       by x true is may = inr (hides_swap swap.place swap.step swap.end swap.cells swap.at is)
 
   -- lines of one lane stand in the order in which they came
-  precedes : (a b : LaneItem) → Contains items a → Contains items b → a ≢ b → (IsLater (h.to b.line) (h.from a.line) → ⊥) → MayPrecede items a b
+  pub precedes : (a b : LaneItem) → Contains items a → Contains items b → a ≢ b → (IsLater (h.to b.line) (h.from a.line) → ⊥) → MayPrecede items a b
   precedes a b in_a in_b differ never same = elim (in_some_order items a b in_a in_b) [
     | inl one ↦ absurd (differ one)
     | inr two ↦ elim two [

@@ -6,6 +6,7 @@ pub mod Trying
 pub mod Own
 pub mod OwnRuns
 pub mod Volumes
+pub mod Refusing
 pub mod Rows
 pub mod Takers
 pub mod OwnRows
@@ -32,6 +33,7 @@ pub mod Flags
 pub mod Indexes
 pub mod Runs
 pub mod Room
+pub mod Unprinted
 pub mod Replicas
 pub mod Entering
 pub mod Log

@@ -28,7 +28,7 @@ use Rattle.hay_history.proofs.Lines.{course_of, same_line}
 use Rattle.hay_history.proofs.Meeting.{SawFrozen, SawThawed, closing_frozen, refused_closed, refused_room, thawed_of, thawed_room}
 use Rattle.hay_history.proofs.Rows.{adds_line, pends_line}
 use Rattle.hay_history.proofs.Takers.{pending_step, row_left}
-use Rattle.hay_history.proofs.Volumes.{refused_then}
+use Rattle.hay_history.proofs.Refusing.{refused_then}
 
 -- ROWS THAT ARE NOTED
 
@@ -125,5 +125,5 @@ module _ {settings : Settings} {k : Known} {items : List LaneItem} {history : Hi
           closing_frozen h item v sees.moment m below sees.seen (λ closed. none-some m (sym opened ∙ closed)) is.1
       by (NoRoom u m end need) sees =
           let is = refused_room (course_of h item) (length bytes) v u m end need sees.moment sees.is in
-          let may = refused_then h v sees.moment (length bytes) (NoRoom u m end need) below sees.is in
+          let may = refused_then h v below sees.moment (length bytes) (NoRoom u m end need) sees.is in
           absurd (never m end need (subst (λ (x : ℕ). MayRefuse settings k items t (length bytes) v (NoRoom x m end need)) (sym is.0) may))

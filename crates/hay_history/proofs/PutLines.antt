@@ -19,7 +19,8 @@ use Rattle.hay_history.specs.Histories.{History, OneStep, SeesRefusal}
 use Rattle.hay_history.specs.Commands.{CameInLanes, HomeRefuses, PutDid, PutRefused, SeesRefusals}
 use Rattle.hay_history.proofs.Lists.{zip_weaker}
 use Rattle.hay_history.proofs.Lines.{course_of, one_leads}
-use Rattle.hay_history.proofs.Volumes.{frozen_keeps, refused_then, takes_then}
+use Rattle.hay_history.proofs.Refusing.{refused_then}
+use Rattle.hay_history.proofs.Volumes.{frozen_keeps, takes_then}
 use Rattle.hay_history.proofs.Rows.{MayAnswerAdded, home_below, home_then, no_home_before, rows_frozen_then}
 use Rattle.hay_history.proofs.Takers.{gets_row, row_left}
 use Rattle.hay_history.proofs.ReadLines.{home_in_block}
@@ -28,7 +29,7 @@ module _ {settings : Settings} {k : Known} {items : List LaneItem} {history : Hi
   -- REFUSALS
 
   may_refuse : (size v : ℕ) (refused : Refused) → v < settings.volumes → SeesRefusal (course_of h item) size v refused → MayRefuse settings k items t size v refused
-  may_refuse size v refused below sees = refused_then h v sees.moment size refused below sees.is
+  may_refuse size v refused below sees = refused_then h v below sees.moment size refused sees.is
 
   pub home_refuses : (pair : Pair) (bytes : List ℕ) (refused : List Refused) → HomeRefuses (course_of h item) pair (length bytes) refused
       → legal_home settings k items t pair bytes refused

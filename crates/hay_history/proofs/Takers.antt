@@ -22,7 +22,8 @@ use Rattle.hay_history.proofs.Histories.{along_rows}
 use Rattle.hay_history.proofs.Lists.{each_both, each_from, each_in, each_take}
 use Rattle.hay_history.proofs.Trying.{one_own_row}
 use Rattle.hay_history.proofs.Lines.{answered, course_of, own_leads_rows}
-use Rattle.hay_history.proofs.Volumes.{refused_then, takes_then}
+use Rattle.hay_history.proofs.Refusing.{refused_then}
+use Rattle.hay_history.proofs.Volumes.{takes_then}
 use Rattle.hay_history.proofs.Rows.{StaysFrozen, no_home_before, rows_frozen_then, rows_moment, stays_frozen_step, stays_frozen_trans}
 
 -- each of the tries is a volume
@@ -36,7 +37,7 @@ module _ {settings : Settings} {k : Known} {items : List LaneItem} {history : Hi
   tries_refused size vs below each =
       each_both (λ v. v < settings.volumes) (λ v. (refused : Refused) × SeesRefusal (course_of h item) size v refused)
       (λ v. (refused : Refused) × MayRefuse settings k items t size v refused)
-      (λ v within sees. (sees.0, refused_then h v (sees.1).moment size sees.0 within (sees.1).is))
+      (λ v within sees. (sees.0, refused_then h v within (sees.1).moment size sees.0 (sees.1).is))
       vs below each
 
   pub gets_row : (pair : Pair) (size v : ℕ) → home_of k pair ≡ None → SeesTaker (course_of h item) pair size v → MayGetRow settings k items t pair size v

@@ -127,6 +127,12 @@ block = record {
       lanes = (((λ e met opened. omega (arith, e)), ((λ e met opened. omega (arith, e)), tt)), (((λ e met opened. omega (arith, e)), tt), (tt, tt)));
       settled = (((λ e met. absurd (omega (arith, e))), ((λ e met. absurd (omega (arith, e))), tt)), (((λ e met. absurd (omega (arith, e))), tt), (tt, tt)));
       counted = λ by m f is says. absurd cc;
+      meetings = record {
+        met = λ line. 0;
+        fronts = (((tt, tt), ((lit≤ tt, lit≤ tt), tt)), (((tt, tt), ((lit≤ tt, lit≤ tt), tt)), (((tt, tt), ((lit≤ tt, lit≤ tt), tt)), ((tt, tt), ((tt, tt), ((tt, tt), ((tt, tt), ((tt, tt), tt))))))));
+        room = (tt, (tt, (tt, tt)));
+        records = (record { first = (tt, (tt, (tt, tt))); between = ((tt, (tt, tt)), ((tt, tt), (tt, tt))); last = (tt, (tt, (tt, tt))) }, tt);
+      };
       replicas = (
         record {
           base = refl;
@@ -253,6 +259,12 @@ freezing_block = record {
       lanes = (((λ e met opened. omega (arith, e)), ((λ e met opened. omega (arith, e)), tt)), (((λ e met opened. omega (arith, e)), tt), (tt, tt)));
       settled = (((λ e met. absurd (omega (arith, e))), ((λ e met. absurd (omega (arith, e))), tt)), (((λ e met. absurd (omega (arith, e))), tt), (tt, tt)));
       counted = λ by m f is says. ((λ g apart said. absurd (apart (ap (λ (x : LaneItem). x.line) (same_Some put_failed by is)))), ((λ g apart said. absurd cc), ((λ g apart said. absurd cc), tt)));
+      meetings = record {
+        met = λ line. 0;
+        fronts = ((tt, tt), ((tt, tt), ((tt, tt), ((tt, tt), ((tt, tt), ((tt, tt), ((tt, tt), ((tt, tt), tt))))))));
+        room = (tt, (tt, (tt, tt)));
+        records = (record { first = (tt, (tt, (tt, tt))); between = ((tt, (tt, tt)), ((tt, tt), (tt, tt))); last = (tt, (tt, (tt, tt))) }, tt);
+      };
       replicas = (
         record {
           base = refl;

@@ -1,5 +1,5 @@
 -- Blocks of lanes that are not legal, each for one wrong reply or for one wrong thing that it leaves.
-use Rattle.std.specs.Prelude.{◌≡◌, ◌≢◌, ◌⊎◌, ◌++◌, cond, ℕ, zero, suc, ◌+◌, ◌-◌, ◌^◌, ◌<◌, ◌≤◌, ◌==◌, ◌&&◌, ◌||◌, not, Bool, true, false, List, [], ◌∷◌, length, take_while, slice_get, drop, count_by, Contains, Option, Some, None, flat_map, option_map}
+use Rattle.std.specs.Prelude.{◌≡◌, ◌≢◌, ◌⊎◌, ◌++◌, cond, ℕ, zero, suc, ◌+◌, ◌-◌, ◌^◌, ◌<◌, ◌≤◌, ◌==◌, ◌&&◌, ◌||◌, not, Bool, true, false, List, [], ◌∷◌, length, take_while, slice_get, take, drop, count_by, Contains, Option, Some, None, flat_map, option_map}
 use Rattle.std.specs.List.{AllByRecursion as Each, AllZip}
 use Rattle.std.proofs.Common.{refl, sym, ap, subst, inl, inr, ◌∙◌, arith, sum_by}
 use Rattle.std.proofs.lemmas.Bool.{eq-eqb}
@@ -34,7 +34,7 @@ use Rattle.hay_legal.specs.declared.turn.LaneItem.{LaneItem}
 use Rattle.hay_legal.specs.declared.turn.LogNote.{LogNote}
 use Rattle.hay_legal.specs.declared.turn.RowNote.{RowNote}
 use Rattle.hay_legal.specs.Known.{CameUp, EachPair, all_tries, closed, closed_by, drained_of, fault_count, home_of, machine_of, replica_at, replica_on, replicas_of, slot_of, volume_at}
-use Rattle.hay_legal.specs.Blocks.{CompactIsLegal, DeletesOn, DiskIsLegal, FlushIsLegal, FreezeIsLegal, Freezes, HomeInBlock, InOrder, IsAt, IsEntered, IsNewRow, LegalBlock, LineIsLegal, MayHaveAdded, MayHaveFrozen, MayPrecede, MayRefuse, Printed, ReplicaIsLegal, RefusesPut, StandsBefore, SticksBy, SwappedWhere, VolumeIsLegal, WasFrozen, WasSwapped, disk_prints, froze_at_compact, generation_print, highest_end, is_compacted, is_failed, is_put, is_wanting, made_on, new_rows, pending_behind, printed, row_faults, row_failed, sticks_on}
+use Rattle.hay_legal.specs.Blocks.{CompactIsLegal, DeletesOn, DiskIsLegal, FlushIsLegal, FreezeIsLegal, Freezes, HomeInBlock, FrontsGrow, InOrder, IsAt, IsEntered, IsNewRow, LacksRoom, LegalBlock, LineIsLegal, MayEndAt, MayHaveAdded, MayHaveFrozen, MayPrecede, MayRefuse, Printed, RecordsAreLegal, ReplicaIsLegal, RefusesPut, StandsBefore, SticksBy, SwappedBefore, SwappedWhere, VolumeIsLegal, WasFrozen, WasSwapped, disk_prints, end_with_puts, flushed_on, fronts_told, froze_at_compact, generation_print, highest_end, is_compacted, is_failed, is_put, is_wanting, lane_items, made_on, new_entries, new_rows, pending_behind, printed, put_total, puts_until, row_faults, row_failed, sticks_on}
 use Rattle.hay_legal.proofs.Subject.Entries.{each_in_range}
 
 -- LISTS
@@ -105,19 +105,23 @@ module _ {settings : Settings} {k : Known} {items : List LaneItem} {logs : List 
   no_room_on_closed : (size u v m m' end need : ℕ) → closed settings k v ≡ Some m → MayRefuse settings k items t size u (NoRoom v m' end need) → ⊥
   no_room_on_closed size u v m m' end need is may = never_closed u m may.1 (ap (closed settings k) (sym may.0) ∙ is)
 
-  full_on_closed : (lane n v m m' end need : ℕ) (refused : List Refused) (pair : Pair) (bytes : List ℕ) → closed settings k v ≡ Some m
-      → Contains refused (NoRoom v m' end need) → Contains items (answered lane n (command.Put pair bytes) (reply.Full refused)) → ⊥
-  full_on_closed lane n v m m' end need refused pair bytes is group among = by refused group (line _ among).0
+  -- a group of a put's reply is a refusal of some try, or of the home
+  full_refuses : (lane n : ℕ) (refused : List Refused) (named : Refused) (pair : Pair) (bytes : List ℕ) → Contains refused named
+      → Contains items (answered lane n (command.Put pair bytes) (reply.Full refused)) → (u : ℕ) × MayRefuse settings k items t (length bytes) u named
+  full_refuses lane n refused named pair bytes group among = by refused group (line _ among).0
     where
-      by : (refused : List Refused) → Contains refused (NoRoom v m' end need) → RefusesPut settings k items t pair bytes refused → ⊥
-      by refused group (inl tries) =
-          let beside = zip_beside (MayRefuse settings k items t (length bytes)) (all_tries settings pair) refused (NoRoom v m' end need) tries.1 group in
-          no_room_on_closed (length bytes) beside.0 v m m' end need is beside.1
+      by : (refused : List Refused) → Contains refused named → RefusesPut settings k items t pair bytes refused → (u : ℕ) × MayRefuse settings k items t (length bytes) u named
+      by refused group (inl tries) = zip_beside (MayRefuse settings k items t (length bytes)) (all_tries settings pair) refused named tries.1 group
       by [] group (inr home) = absurd home
-      by (one ∷ []) (zero, below, same) (inr home) =
-          no_room_on_closed (length bytes) home.0 v m m' end need is (subst (MayRefuse settings k items t (length bytes) home.0) same home.2)
+      by (one ∷ []) (zero, below, same) (inr home) = (home.0, subst (MayRefuse settings k items t (length bytes) home.0) same home.2)
       by (one ∷ []) (suc i, below, same) (inr home) = absurd (omega (arith, below))
       by (one ∷ more ∷ rest) group (inr home) = absurd home
+
+  full_on_closed : (lane n v m m' end need : ℕ) (refused : List Refused) (pair : Pair) (bytes : List ℕ) → closed settings k v ≡ Some m
+      → Contains refused (NoRoom v m' end need) → Contains items (answered lane n (command.Put pair bytes) (reply.Full refused)) → ⊥
+  full_on_closed lane n v m m' end need refused pair bytes is group among =
+      let may = full_refuses lane n refused (NoRoom v m' end need) pair bytes group among in
+      no_room_on_closed (length bytes) may.0 v m m' end need is may.1
 
   deleted_on_closed : (lane n v m p d : ℕ) (pair : Pair) → closed settings k v ≡ Some m
       → Contains items (answered lane n (command.Del pair) (reply.Deleted v p d)) → ⊥
@@ -241,6 +245,10 @@ module _ {settings : Settings} {k : Known} {items : List LaneItem} {logs : List 
 
   -- ROOM
 
+  -- a replica that was not swapped ends where the puts made it end
+  exactly : (v front j end : ℕ) → (WasSwapped k t v j → ⊥) → MayEndAt k t v (WasSwapped k t v) front j end → end ≡ end_with_puts k t v front j
+  exactly v front j end kept may = elim may [ inl same ↦ same | inr swapped ↦ absurd (kept swapped.0) ]
+
   -- a photo is stored on a volume a replica of which is left too long
   stored_beyond_room : (lane n v j p d : ℕ) (c : Cookie) (pair : Pair) (bytes : List ℕ) → v < settings.volumes → j < settings.replicas
       → settings.capacity < (replica_at (volume_at t v) j).end + 8 → Contains items (answered lane n (command.Put pair bytes) (reply.Stored v p d c)) → ⊥
@@ -255,6 +263,33 @@ module _ {settings : Settings} {k : Known} {items : List LaneItem} {logs : List 
         | inr room ↦ omega (arith, room, long)
       ]
 
+  -- a put is refused for want of room on a replica, though a lower one was no shorter before the block, and neither was swapped
+  room_behind_a_longer_replica : (lane n v m i j end need : ℕ) (refused : List Refused) (pair : Pair) (bytes : List ℕ) → replica_on settings v m ≡ Some j → i < j
+      → (replica_at (volume_at k v) j).end ≤ (replica_at (volume_at k v) i).end → (WasSwapped k t v i → ⊥) → (WasSwapped k t v j → ⊥)
+      → Contains refused (NoRoom v m end need) → Contains items (answered lane n (command.Put pair bytes) (reply.Full refused)) → ⊥
+  room_behind_a_longer_replica lane n v m i j end need refused pair bytes there less longer kept_i kept_j group among =
+      let may = full_refuses lane n refused (NoRoom v m end need) pair bytes group among in
+      let front : ℕ = ((may.1).4).0 in
+      let lacks = subst (λ (w : ℕ). LacksRoom settings k t w (WasSwapped k t w) front m end need) (sym (may.1).0) ((may.1).4).1 in
+      let named : lacks.replica ≡ j = same_Some _ _ (sym lacks.there ∙ there) in
+      let lower = each_in_range (λ i. (other : ℕ) × MayEndAt k t v (WasSwapped k t v) front i other × (other + need + 8 ≤ settings.capacity)) 0 lacks.replica i lacks.lower (omega arith) (omega (arith, less, named)) in
+      let first : lower.0 ≡ end_with_puts k t v front i = exactly v front i lower.0 kept_i lower.1 in
+      let second : end ≡ end_with_puts k t v front j = exactly v front j end kept_j (subst (λ (r : ℕ). MayEndAt k t v (WasSwapped k t v) front r end) named lacks.ended) in
+      omega (arith, first, second, longer, lower.2, lacks.short)
+
+  -- or though a lower one was too long for the photo, and was not swapped
+  room_behind_a_full_replica : (lane n v m i j end need : ℕ) (refused : List Refused) (pair : Pair) (bytes : List ℕ) → replica_on settings v m ≡ Some j → i < j
+      → settings.capacity < (replica_at (volume_at k v) i).end + need + 8 → (WasSwapped k t v i → ⊥)
+      → Contains refused (NoRoom v m end need) → Contains items (answered lane n (command.Put pair bytes) (reply.Full refused)) → ⊥
+  room_behind_a_full_replica lane n v m i j end need refused pair bytes there less full kept group among =
+      let may = full_refuses lane n refused (NoRoom v m end need) pair bytes group among in
+      let front : ℕ = ((may.1).4).0 in
+      let lacks = subst (λ (w : ℕ). LacksRoom settings k t w (WasSwapped k t w) front m end need) (sym (may.1).0) ((may.1).4).1 in
+      let named : lacks.replica ≡ j = same_Some _ _ (sym lacks.there ∙ there) in
+      let lower = each_in_range (λ i. (other : ℕ) × MayEndAt k t v (WasSwapped k t v) front i other × (other + need + 8 ≤ settings.capacity)) 0 lacks.replica i lacks.lower (omega arith) (omega (arith, less, named)) in
+      let first : lower.0 ≡ end_with_puts k t v front i = exactly v front i lower.0 kept lower.1 in
+      omega (arith, first, full, lower.2)
+
   -- ROWS
 
   -- a volume that was open to the end of the block, and had room on each replica, refused no photo of this size
@@ -264,7 +299,7 @@ module _ {settings : Settings} {k : Known} {items : List LaneItem} {logs : List 
       let j : ℕ = (may.2).0 in
       let low : highest_end k t u j + needle_total size + 8 ≤ settings.capacity = fits j in
       let high : end ≤ highest_end k t u j = ((may.2).2).1 in
-      omega (arith, low, high, may.3, may.4)
+      omega (arith, low, high, may.3, ((may.4).1).short)
   open_refuses size u (Closed u' m) thawed still fits may = elim may.1 [
     | inl before ↦ never_closed u m thawed before
     | inr frozen ↦ none-some m (sym still ∙ frozen)
@@ -654,7 +689,7 @@ module _ {settings : Settings} {k : Known} {logs : List LogNote} {t : Known} whe
         (λ m end need may.
             let low : highest_end k t v (may.2).0 + needle_total (length bytes) + 8 ≤ settings.capacity = fits (may.2).0 in
             let high : end ≤ highest_end k t v (may.2).0 = ((may.2).2).1 in
-            omega (arith, low, high, may.3, may.4)),
+            omega (arith, low, high, may.3, ((may.4).1).short)),
       ))))
       (inr (inl refl))
 
@@ -740,17 +775,150 @@ module _ {settings : Settings} {k : Known} {logs : List LogNote} {t : Known} whe
           let new = zip.0 in
           subst (λ (x : LaneItem). MayHaveAdded settings k (put ∷ []) t row.pair new.bytes x.reply) (sym (the_only put new.item new.among)) new.reply
 
--- GENERATIONS AND INDEXES IN A LANE
+-- ENDS AND RECORDS IN A LANE
 
-abbrev line_at : Option LaneItem → ℕ
-line_at None = 0
-line_at (Some item) = item.line
+-- an entry that a log has behind its first ones is among so many of those
+put_totalled : (log : List Logged) (n i many : ℕ) (logged : Logged) → n ≤ i → i < n + many → slice_get log i ≡ Some logged
+    → put_total logged ≤ sum_by put_total (take many (drop n log))
+put_totalled [] n i many logged low high at = absurd (none-some logged at)
+put_totalled (x ∷ log) zero i zero logged low high at = absurd (omega (arith, high))
+put_totalled (x ∷ log) zero zero (suc many) logged low high at =
+    let total : put_total x ≡ put_total logged = ap (λ (l : Logged). put_total l) (same_Some x logged at) in
+    omega (arith, total, sum_by-cons put_total x (take many log))
+put_totalled (x ∷ log) zero (suc i) (suc many) logged low high at =
+    omega (arith, put_totalled log zero i many logged (omega arith) (omega (arith, high)) at, sum_by-cons put_total x (take many log))
+put_totalled (x ∷ log) (suc n) zero many logged low high at = absurd (omega (arith, low))
+put_totalled (x ∷ log) (suc n) (suc i) many logged low high at = put_totalled log n i many logged (omega (arith, low)) (omega (arith, high)) at
+
+-- more entries stand until a later front
+totals_grow : (xs : List Logged) (n m : ℕ) → n ≤ m → sum_by put_total (take n xs) ≤ sum_by put_total (take m xs)
+totals_grow [] zero m le = omega arith
+totals_grow [] (suc n) zero le = absurd (omega (arith, le))
+totals_grow [] (suc n) (suc m) le = omega arith
+totals_grow (x ∷ xs) zero m le = omega arith
+totals_grow (x ∷ xs) (suc n) zero le = absurd (omega (arith, le))
+totals_grow (x ∷ xs) (suc n) (suc m) le =
+    omega (arith, totals_grow xs n m (omega (arith, le)), sum_by-cons put_total x (take n xs), sum_by-cons put_total x (take m xs))
+
+abbrev full_put : ℕ → ℕ → ℕ → ℕ → ℕ → Pair → List ℕ → LaneItem
+full_put line v m end need pair bytes = answered 0 line (command.Put pair bytes) (reply.Full (NoRoom v m end need ∷ []))
+
+-- what a lane tells in two lines stands in order
+told_in_order : (v low high : ℕ) (met : ℕ → ℕ) (a b : LaneItem) (x y : Printed) → a.lane ≡ 0 → b.lane ≡ 0 → fronts_told met v a ≡ x ∷ [] → fronts_told met v b ≡ y ∷ []
+    → FrontsGrow low high (flat_map (fronts_told met v) (lane_items (a ∷ b ∷ []) 0)) → InOrder x y
+told_in_order v low high met a b x y lane_a lane_b one_a one_b grow =
+    let items : lane_items (a ∷ b ∷ []) 0 ≡ a ∷ b ∷ [] =
+    ap (λ (c : Bool). cond c (a ∷ lane_items (b ∷ []) 0) (lane_items (b ∷ []) 0)) (eq-eqb a.lane 0 lane_a)
+    ∙ ap (λ (c : Bool). a ∷ cond c (b ∷ []) []) (eq-eqb b.lane 0 lane_b) in
+    let told : flat_map (fronts_told met v) (lane_items (a ∷ b ∷ []) 0) ≡ x ∷ y ∷ [] =
+    ap (λ (xs : List LaneItem). flat_map (fronts_told met v) xs) items
+    ∙ ap (λ (xs : List Printed). xs ++ (fronts_told met v b ++ [])) one_a
+    ∙ ap (λ (ys : List Printed). x ∷ (ys ++ [])) one_b in
+    (subst (λ (xs : List Printed). EachPair InOrder xs) told grow.0).0.0
+
+told_full : (v m n end need : ℕ) (met : ℕ → ℕ) (pair : Pair) (bytes : List ℕ) → fronts_told met v (full_put n v m end need pair bytes) ≡ printed (met n) false ∷ []
+told_full v m n end need met pair bytes = ap (λ (c : Bool). cond (c || false) (printed (met n) false ∷ []) []) (eq-eqb v v refl)
+
+-- the end of a replica without room that was not swapped as is said
+end_without_room : {settings : Settings} {k t : Known} (v m j front end need : ℕ) (Swapped : ℕ → Type 0) → replica_on settings v m ≡ Some j → (Swapped j → ⊥)
+    → LacksRoom settings k t v Swapped front m end need → end ≡ end_with_puts k t v front j
+end_without_room {settings} {k} {t} v m j front end need Swapped there kept lacks =
+    let named : lacks.replica ≡ j = same_Some _ _ (sym lacks.there ∙ there) in
+    elim (subst (λ (r : ℕ). MayEndAt k t v Swapped front r end) named lacks.ended) [ inl same ↦ same | inr swapped ↦ absurd (kept swapped.0) ]
+
+-- the second of two lines stands before none
+no_later : (a b : LaneItem) → a.line ≢ b.line → StandsBefore (a ∷ b ∷ []) b a → ⊥
+no_later a b apart (zero, n, less, at, then) = apart (ap (λ (x : LaneItem). x.line) (same_Some a b at))
+no_later a b apart (suc zero, zero, less, at, then) = omega (arith, less)
+no_later a b apart (suc zero, suc zero, less, at, then) = omega (arith, less)
+no_later a b apart (suc zero, suc (suc n), less, at, then) = none-some _ then
+no_later a b apart (suc (suc i), n, less, at, then) = none-some _ at
 
 never_swaps : (v m : ℕ) (a b : LaneItem) (Where : LaneItem → Type 0) → made_on v m a ≡ [] → made_on v m b ≡ [] → SwappedWhere (a ∷ b ∷ []) v m Where → ⊥
 never_swaps v m a b Where none_a none_b swapped = elim (one_of_two a b swapped.0 swapped.1) [
   | inl first ↦ swapped.2 (ap (made_on v m) (sym first) ∙ none_a)
   | inr second ↦ swapped.2 (ap (made_on v m) (sym second) ∙ none_b)
 ]
+
+module _ {settings : Settings} {k : Known} {logs : List LogNote} {rows : RowNote} {t : Known} (v m j : ℕ) (below : v < settings.volumes)
+    (there : replica_on settings v m ≡ Some j) where
+  -- the ends that a lane is told of a replica fall, though no line swaps it
+  ends_fall : (end end' need need' : ℕ) (pair pair' : Pair) (bytes bytes' : List ℕ) → end' < end
+      → LegalBlock settings k (full_put 2 v m end need pair bytes ∷ full_put 3 v m end' need' pair' bytes' ∷ []) logs rows t → ⊥
+  ends_fall end end' need need' pair pair' bytes bytes' falls b =
+      let told = (volume b v below).meetings in
+      let rises : told.met 2 ≤ told.met 3 =
+      told_in_order v _ _ told.met (full_put 2 v m end need pair bytes) (full_put 3 v m end' need' pair' bytes') (printed (told.met 2) false) (printed (told.met 3) false) refl refl
+      (told_full v m 2 end need told.met pair bytes) (told_full v m 3 end' need' told.met pair' bytes') (told.fronts).0 in
+      let first : end ≡ end_with_puts k t v (told.met 2) j = end_without_room v m j (told.met 2) end need _ there (never_swaps v (machine_of settings v j) _ _ _ refl refl) ((told.room).0.0 refl) in
+      let second : end' ≡ end_with_puts k t v (told.met 3) j = end_without_room v m j (told.met 3) end' need' _ there (never_swaps v (machine_of settings v j) _ _ _ refl refl) ((told.room).1.0.0 refl) in
+      let more = totals_grow (new_entries k t v) (told.met 2 - length (volume_at k v).log) (told.met 3 - length (volume_at k v).log) (omega (arith, rises)) in
+      omega (arith, first, second, more, falls)
+
+  -- a lane is told an end that its own put before had passed
+  end_before_own_put : (p d end need : ℕ) (c : Cookie) (pair pair' : Pair) (bytes bytes' : List ℕ)
+      → end < (replica_at (volume_at k v) j).end + needle_total (length bytes)
+      → LegalBlock settings k (answered 0 2 (command.Put pair bytes) (reply.Stored v p d c) ∷ full_put 3 v m end need pair' bytes' ∷ []) logs rows t → ⊥
+  end_before_own_put p d end need c pair pair' bytes bytes' short b =
+      let put : LaneItem = answered 0 2 (command.Put pair bytes) (reply.Stored v p d c) in
+      let told = (volume b v below).meetings in
+      let rises : p ≤ told.met 3 =
+      told_in_order v _ _ told.met put (full_put 3 v m end need pair' bytes') (printed p true) (printed (told.met 3) false) refl refl
+      (ap (λ (x : Bool). cond x (printed p true ∷ []) []) (eq-eqb v v refl)) (told_full v m 3 end need told.met pair' bytes') (told.fronts).0 in
+      let ended : end ≡ end_with_puts k t v (told.met 3) j = end_without_room v m j (told.met 3) end need _ there (never_swaps v (machine_of settings v j) _ _ _ refl refl) ((told.room).1.0.0 refl) in
+      let entered = (b.entered).0 in
+      let logged = entered.1.0 in
+      let entry_is : entry.Put pair (cookie_of settings.secret pair.key) bytes ≡ logged.entry = same_Some _ logged.entry (entered.1.2).entry in
+      let total : needle_total (length bytes) ≡ put_total logged = ap (λ (e : Entry). put_total (record { tag = logged.tag; entry = e })) entry_is in
+      let some = put_totalled (volume_at t v).log (length (volume_at k v).log) (p - 1) (told.met 3 - length (volume_at k v).log) logged (omega (arith, entered.0)) (omega (arith, entered.0, rises)) entered.1.1 in
+      omega (arith, ended, total, some, short)
+
+  -- a lane is told an end before that of k, and swaps the replica only then
+  end_before_own_swap : (end need u w g : ℕ) (pair : Pair) (bytes : List ℕ) → end < (replica_at (volume_at k v) j).end
+      → LegalBlock settings k (full_put 2 v m end need pair bytes ∷ answered 0 3 (command.Compact u w) (reply.Compacted u w g) ∷ []) logs rows t → ⊥
+  end_before_own_swap end need u w g pair bytes short b =
+      let full : LaneItem = full_put 2 v m end need pair bytes in
+      let swap : LaneItem = answered 0 3 (command.Compact u w) (reply.Compacted u w g) in
+      let told = (volume b v below).meetings in
+      let ended : end ≡ end_with_puts k t v (told.met 2) j =
+      end_without_room v m j (told.met 2) end need (SwappedBefore settings (full ∷ swap ∷ []) v full) there
+      (λ swapped. elim (one_of_two full swap swapped.0 swapped.1) [
+        | inl first ↦ swapped.2 (ap (made_on v (machine_of settings v j)) (sym first))
+        | inr second ↦
+            no_later full swap (λ same. let clash : ◌≡◌ {A = ℕ} 2 3 = same in omega (arith, clash))
+            (subst (λ (x : LaneItem). MayPrecede (full ∷ swap ∷ []) x full) (sym second) swapped.3 refl)
+      ])
+      ((told.room).0.0 refl) in
+      omega (arith, ended, short)
+
+  -- a lane flushes the record of a photo that it stores only then, where no cell was without a record before
+  flushed_before_own_put : (n p d : ℕ) (c : Cookie) (pair : Pair) (bytes : List ℕ) → machine_of settings v j ≡ m → j < settings.replicas → 0 < n
+      → (replica_at (volume_at k v) j).bare ≡ 0 → p ≡ length (volume_at k v).log + 1
+      → LegalBlock settings k (answered 0 2 (command.Flush v m) (reply.Flushed v m n) ∷ answered 0 3 (command.Put pair bytes) (reply.Stored v p d c) ∷ []) logs rows t → ⊥
+  flushed_before_own_put n p d c pair bytes on within some bare first b =
+      let flush : LaneItem = answered 0 2 (command.Flush v m) (reply.Flushed v m n) in
+      let put : LaneItem = answered 0 3 (command.Put pair bytes) (reply.Stored v p d c) in
+      let told = (volume b v below).meetings in
+      let rises : told.met 2 < p =
+      told_in_order v _ _ told.met flush put (printed (told.met 2) false) (printed p true) refl refl
+      (ap (λ (x : Bool). cond x (printed (told.met 2) false ∷ []) []) (eq-eqb v v refl)) (ap (λ (x : Bool). cond x (printed p true ∷ []) []) (eq-eqb v v refl)) (told.fronts).0 in
+      let records = each_in_range
+      (λ j. RecordsAreLegal k (flush ∷ put ∷ []) t v (machine_of settings v j) told.met (replica_at (volume_at k v) j) (replica_at (volume_at t v) j))
+      0 settings.replicas j told.records (omega arith) (omega (arith, within)) in
+      let printed_n : flushed_on v (machine_of settings v j) flush ≡ n ∷ [] =
+      ap (λ (x : Bool). cond (x && (m == machine_of settings v j)) (n ∷ []) []) (eq-eqb v v refl)
+      ∙ ap (λ (x : Bool). cond x (n ∷ []) []) (eq-eqb m (machine_of settings v j) (sym on)) in
+      let most : n ≤ (replica_at (volume_at k v) j).bare + puts_until k t v (told.met 2) =
+      (subst (λ (xs : List ℕ). Each (λ n. n ≤ (replica_at (volume_at k v) j).bare + puts_until k t v (told.met 2)) xs) printed_n (records.first).0).0 in
+      let none : told.met 2 - length (volume_at k v).log ≡ 0 = omega (arith, rises, first) in
+      let nothing : puts_until k t v (told.met 2) ≡ 0 = ap (λ (x : ℕ). count_by is_put (take x (new_entries k t v))) none in
+      omega (arith, most, nothing, bare, some)
+
+-- GENERATIONS AND INDEXES IN A LANE
+
+abbrev line_at : Option LaneItem → ℕ
+line_at None = 0
+line_at (Some item) = item.line
 
 module _ (settings : Settings) (k : Known) (logs : List LogNote) (rows : RowNote) (t : Known) (v j : ℕ) (below : v < settings.volumes) (within : j < settings.replicas) where
   abbrev on : ℕ

@@ -1,6 +1,6 @@
 -- Which blocks of lanes are legal: what their replies show of the log, the rows and the counts, whatever the order was.
 use Rattle.std.specs.Prelude.{◌≡◌, ◌≢◌, ℕ, ◌+◌, ◌-◌, ◌^◌, ◌<◌, ◌≤◌, ◌==◌, ◌&&◌, ◌||◌, ◌⊎◌, not, Bool, true, false, cond, List, [], ◌∷◌, ◌++◌, length, map, drop, take, filter, filter_map, flat_map, sum_by, count_by, take_while, slice_get, unwrap_or, Contains, Option, Some, None, option_map, if◌then◌else◌}
-use Rattle.std.specs.List.{AllZip, AllByRecursion as Each, list_any, enumerate_from}
+use Rattle.std.specs.List.{AllZip, AllByRecursion as Each, list_any, enumerate_from, range_with_len}
 use Rattle.hay_needle.specs.declared.needle.Pair.{Pair}
 use Rattle.hay_needle.specs.declared.needle.Cookie.{Cookie}
 use Rattle.hay_needle.specs.declared.needle.Outcome.{Outcome}
@@ -215,6 +215,32 @@ highest_end k t v j = (replica_at (volume_at k v) j).end + sum_by put_total (new
 abbrev pub MayEnd : Settings → Known → List LaneItem → Known → ℕ → ℕ → ℕ → Type 0
 MayEnd settings k items t v j end = (lowest_end settings k items v j ≤ end) × (end ≤ highest_end k t v j)
 
+-- the block swapped the replica
+abbrev pub WasSwapped : Known → Known → ℕ → ℕ → Type 0
+WasSwapped k t v j = (replica_at (volume_at k v) j).generation < (replica_at (volume_at t v) j).generation
+
+-- the block's entries in the log of a volume until a front
+abbrev pub entries_until : Known → Known → ℕ → ℕ → List Logged
+entries_until k t v front = take (front - length (volume_at k v).log) (new_entries k t v)
+
+abbrev pub end_with_puts : Known → Known → ℕ → ℕ → ℕ → ℕ
+end_with_puts k t v front j = (replica_at (volume_at k v) j).end + sum_by put_total (entries_until k t v front)
+
+-- A replica may end so at a front of its volume: where the puts until then made it end, or no further than that, and behind the
+-- photos that stood then, where it was swapped as is said.
+abbrev pub MayEndAt : Known → Known → ℕ → (ℕ → Type 0) → ℕ → ℕ → ℕ → Type 0
+MayEndAt k t v Swapped front j end =
+    (end ≡ end_with_puts k t v front j)
+    ⊎ (Swapped j × (live_end (at_front (volume_at t v) (replica_at (volume_at t v) j) front) ≤ end) × (end ≤ end_with_puts k t v front j))
+
+-- At a front of the volume the replica on m was the first without room for so many bytes, and had this end.
+pub record LacksRoom (settings : Settings) (k t : Known) (v : ℕ) (Swapped : ℕ → Type 0) (front m end need : ℕ) : Type 0 where
+  pub replica : ℕ
+  pub there : replica_on settings v m ≡ Some replica
+  pub ended : MayEndAt k t v Swapped front replica end
+  pub short : settings.capacity < end + need + 8
+  pub lower : Each (λ i. (other : ℕ) × MayEndAt k t v Swapped front i other × (other + need + 8 ≤ settings.capacity)) (range_with_len 0 replica)
+
 -- each replica had room for a photo of this size at some time
 abbrev pub MayHaveRoom : Settings → Known → List LaneItem → Known → ℕ → ℕ → Type 0
 MayHaveRoom settings k items t size v =
@@ -233,7 +259,7 @@ abbrev pub MayRefuse : Settings → Known → List LaneItem → Known → ℕ �
 MayRefuse settings k items t size v (NoRoom v' m end need) =
     (v' ≡ v) × (closed settings k v ≡ None)
     × ((j : ℕ) × (replica_on settings v m ≡ Some j) × MayEnd settings k items t v j end)
-    × (need ≡ needle_total size) × (settings.capacity < end + need + 8)
+    × (need ≡ needle_total size) × ((front : ℕ) × LacksRoom settings k t v (WasSwapped k t v) front m end need)
 MayRefuse settings k items t size v (Closed v' m) = (v' ≡ v) × MayBeClosed settings k t v m
 
 -- ROWS: each new row is that of a put line, at the try that may have taken its photo
@@ -509,10 +535,6 @@ SticksBy v m item = Sticks item.item item.reply
     Sticks : Item → Reply → Type 0
     Sticks (asks.Command command) reply = SticksAs command reply
     Sticks asks.Bad reply = ⊥
-
--- the block swapped the replica
-abbrev pub WasSwapped : Known → Known → ℕ → ℕ → Type 0
-WasSwapped k t v j = (replica_at (volume_at k v) j).generation < (replica_at (volume_at t v) j).generation
 
 -- a flush may have met the replica: its volume was not frozen before the block, nor its index stuck but where it was swapped
 abbrev pub MayFlush : Known → Known → ℕ → ℕ → Type 0
@@ -914,6 +936,68 @@ pub record ReplicaIsLegal (settings : Settings) (k : Known) (items : List LaneIt
   pub index : IndexIsLegal items v (machine_of settings v j) froze old new
   pub poised : new.poised ≡ (old.poised || froze_at_compact v (machine_of settings v j) is_failed froze)
 
+-- WHERE A LINE MET A VOLUME WITHOUT PRINTING ITS FRONT
+
+-- a refusal for want of room on the volume v
+abbrev pub is_full_on : ℕ → Refused → Bool
+is_full_on v (NoRoom v' m end need) = v' == v
+is_full_on v (Closed v' m) = false
+
+-- the refusals of a reply that may be for want of room
+abbrev pub refusals_of : Reply → List Refused
+refusals_of (Full refused) = refused
+refusals_of _ = []
+
+-- a reply tells of the volume what depends on its front, and does not print it: want of room, or the records of a replica
+abbrev pub tells_unprinted : ℕ → Reply → Bool
+tells_unprinted v (Full refused) = list_any (is_full_on v) refused
+tells_unprinted v (Flushed v' m n) = v' == v
+tells_unprinted v _ = false
+
+-- what a line tells of the fronts of the volume: the one at which it met the volume, by its number, or the one that it prints
+abbrev pub fronts_told : (ℕ → ℕ) → ℕ → LaneItem → List Printed
+fronts_told met v item = cond (tells_unprinted v item.reply) (printed (met item.line) false ∷ []) (volume_print v item.reply)
+
+-- a line swapped the replica that may have come before this one
+abbrev pub SwappedBefore : Settings → List LaneItem → ℕ → LaneItem → ℕ → Type 0
+SwappedBefore settings items v item j = SwappedWhere items v (machine_of settings v j) (λ swap. MayPrecede items swap item)
+
+-- the volume lacked room at this front as the line's refusal says, if it is for that
+abbrev pub LackedRoom : Settings → Known → List LaneItem → Known → ℕ → ℕ → LaneItem → Refused → Type 0
+LackedRoom settings k items t v front item (NoRoom v' m end need) =
+    v' ≡ v → LacksRoom settings k t v (SwappedBefore settings items v item) front m end need
+LackedRoom settings k items t v front item (Closed v' m) = Unit {0}
+
+abbrev pub puts_until : Known → Known → ℕ → ℕ → ℕ
+puts_until k t v front = count_by is_put (entries_until k t v front)
+
+-- a line that met the volume at the second front flushed no more records than the puts since the first
+abbrev pub FlushedSince : Known → Known → ℕ → ℕ → ℕ → ℕ → Type 0
+FlushedSince k t v first second n = n + puts_until k t v first ≤ puts_until k t v second
+
+-- A line flushes the records of the cells without one: of before the block and of the puts until then, and after another flush of
+-- the puts since then. Of two lines in different lanes either may have come first.
+pub record RecordsAreLegal (k : Known) (items : List LaneItem) (t : Known) (v m : ℕ) (met : ℕ → ℕ) (old new : ReplicaKnown) : Type 0 where
+  pub first : Each (λ a. Each (λ n. n ≤ old.bare + puts_until k t v (met a.line)) (flushed_on v m a)) items
+  pub between : EachPair
+      (λ a b. Each (λ n. Each
+      (λ o. FlushedSince k t v (met a.line) (met b.line) o ⊎ ((a.lane ≢ b.lane) × FlushedSince k t v (met b.line) (met a.line) n))
+      (flushed_on v m b)) (flushed_on v m a))
+      items
+  pub last : Each (λ a. Each (λ n. new.bare + puts_until k t v (met a.line) ≤ count_by is_put (new_entries k t v)) (flushed_on v m a)) items
+
+-- Each line that tells of the volume without printing its front met it at some front, where the volume was as the line tells. In each
+-- lane these fronts stand in order with those that it prints.
+pub record MeetingsAreLegal (settings : Settings) (k : Known) (items : List LaneItem) (t : Known) (v : ℕ) : Type 0 where
+  pub met : ℕ → ℕ
+  pub fronts : Each
+      (λ lane. FrontsGrow (length (volume_at k v).log) (length (volume_at t v).log) (flat_map (fronts_told met v) (lane_items items lane)))
+      all_lanes
+  pub room : Each (λ item. Each (LackedRoom settings k items t v (met item.line) item) (refusals_of item.reply)) items
+  pub records : Each
+      (λ j. RecordsAreLegal k items t v (machine_of settings v j) met (replica_at (volume_at k v) j) (replica_at (volume_at t v) j))
+      (replicas_of settings)
+
 -- WHAT IS LEFT OF EACH VOLUME
 
 -- A line froze the volume v by this machine, with this change of its own pending, or with none.
@@ -1063,6 +1147,7 @@ pub record VolumeIsLegal (settings : Settings) (k : Known) (items : List LaneIte
       (λ a b. a.lane ≡ b.lane → MetFrozen settings k items rows t v froze a → Each (IsAt (length (volume_at t v).log)) (volume_print v b.reply))
       items
   pub counted : FreezesLast items v froze
+  pub meetings : MeetingsAreLegal settings k items t v
   pub replicas : Each
       (λ j. ReplicaIsLegal settings k items t v froze j (replica_at (volume_at k v) j) (replica_at (volume_at t v) j))
       (replicas_of settings)
