@@ -1,10 +1,10 @@
-//! How many bytes of a volume file an opening reads.
+//! How many bytes of a volume file an opening reads, and the first read of a photo behind it.
 
 ghost use Rattle.std.specs.Prelude.{◌≡◌, ℕ, false};
 ghost use Rattle.hay_memdisk.specs.MemShelf.{mem_arms, mem_disks};
 
 use super::run_over;
-use hay_memdisk::MemShelf;
+use hay_memdisk::{MemArm, MemShelf};
 use std::alloc::Global;
 use std::process::Abort;
 use std::test::Fail;
@@ -95,5 +95,33 @@ fn an_opening_reads_what_a_lagging_index_lacks(rt: HostRuntime) -> Result<(), Fa
     assert_eq!(rt; status, 0);
     try_opening(&rt, alloc, &mut shelf, NOTHING[0], 56, 128 + 56)?;
     try_opening(&rt, alloc, &mut shelf, NOTHING[1], 56, 128 + 56)?;
+    Ok(())
+}
+
+/// The first read of a photo reads its needle of 56 bytes once from the file, and never by the arm, whose first fetch fails.
+#[test]
+fn a_first_read_reads_the_needle_once(rt: HostRuntime) -> Result<(), Fail> {
+    let alloc = rt.alloc();
+    let mut arm = MemArm::new(alloc);
+    arm.fail(&[1])?;
+    let mut shelf = MemShelf::new(alloc);
+    shelf.put_arm(0, arm)?;
+    let script = b"put 0 1 61\nflush 0 0\nflush 0 1\n";
+    let (status, _) = run_over(alloc, TWO, script, &mut shelf)?;
+    assert_eq!(rt; status, 0);
+    let before = drawn(&shelf, 1)?;
+    let (status, _) = run_over(alloc, TWO, NOTHING[0], &mut shelf)?;
+    assert_eq!(rt; status, 0);
+    let opened = drawn(&shelf, 1)?;
+    let opening = opened.saturating_sub(before);
+    let script = b"read 0 1 903df1a0ade0b876\n";
+    let (status, written) = run_over(alloc, TWO, script, &mut shelf)?;
+    assert_eq!(rt; status, 0);
+    assert_eq!(rt;
+        written.as_slice(),
+        b"haystack 2 1 2 67108864\n1 photo 0 1 0 1 61\n".as_slice()
+    );
+    let read = drawn(&shelf, 1)?.saturating_sub(opened);
+    assert_eq!(rt; read, opening.saturating_add(56));
     Ok(())
 }
