@@ -1,3 +1,4 @@
 pub mod Chains
+pub mod HomeLooks
 pub mod MapPasts
 pub mod PlaceLooks
