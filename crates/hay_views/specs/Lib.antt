@@ -1,0 +1,4 @@
+pub mod Chains
+pub mod HomeLooks
+pub mod MapPasts
+pub mod PlaceLooks
