@@ -109,7 +109,7 @@ module _ (Tells : Type 0) where
   behind_held held header text part = simp append_assoc
 
   module _ (settings : Settings) (script : List ℕ) (left : Option (List ℕ)) (taken given : Outside) (sure : ℕ → Bool) (disks disks' : ℕ → HeldDisk) (held : List ℕ) (written' : Option (List ℕ)) where
-    module _ (old new : Tally) (begins : BeginsAt settings taken sure old) (ends : EndsAt Tells settings new given) (sound : Tells → IsUndamaged settings (read_contents taken)) where
+    module _ (old new : Tally) (begins : BeginsAt Tells settings taken sure old) (ends : EndsAt Tells settings new given) (sound : Tells → IsUndamaged settings (read_contents taken)) where
       pub all_caused : AllCaused Tells settings old new (Some script) (Some (held ++ header_line settings)) written' → left ≡ Some [] → CausedRun Tells settings ReadAll script left taken given sure disks disks' held written'
       all_caused a over = record {
         read = script;

@@ -22,7 +22,7 @@ use Rattle.hay_legal.specs.Statuses.{Ending, IsFront, read_contents}
 use Rattle.hay_legal.specs.Statuses.Ending.{ReadAll, OutputFault, InputFault, NoMemory, NotOpened, TooLong}
 use Rattle.hay_cluster.specs.Causes.{BlamesNoArm, Counts, IsCaused, LeavesFuses, RoseIn}
 use Rattle.hay_cluster.specs.Draws.{drawn_in}
-use Rattle.hay_cluster.specs.Outside.{IsDamagedDisk, IsKept, IsUndamaged, IsUndamagedBelow}
+use Rattle.hay_cluster.specs.Outside.{IsDamagedDisk, IsKept, IsUndamaged, IsUndamagedBelow, KeepsContents}
 use Rattle.hay_cluster.specs.Pending.{LeavesPending, PendingLines, TellsPending, none_pending, pending_of}
 use Rattle.hay_cluster.specs.Store.{Open, contents_in, disks_of}
 use Rattle.hay_cluster.specs.Suiting.{Suits}
@@ -219,13 +219,15 @@ StandsBehind Tells NoMemory settings before after last part = IsPartBehind Tells
 StandsBehind Tells NotOpened settings before after last part =
     NotReopened before after last × ((note : Note) × IsNoteCaused Tells settings before after note × (part ≡ note_line note))
 
--- A store that was opened on these disks and arms has this tally, and an arm that was sure is sure in it. Nothing is pending.
-pub record BeginsAt (settings : Settings) (taken : Outside) (sure : ℕ → Bool) (tally : Tally) : Type 0 where
+-- A store that was opened on these disks and arms has this tally, and an arm that was sure is sure in it. Nothing is pending, and a
+-- disk that was not void has what it had.
+pub record BeginsAt (Tells : Type 0) (settings : Settings) (taken : Outside) (sure : ℕ → Bool) (tally : Tally) : Type 0 where
   pub faults : (slot : ℕ) → slot < disk_count settings → taken.faults slot ≤ slice_index tally.counts.disks slot
   pub fuses : (slot : ℕ) → slot < disk_count settings → slice_index tally.fuses slot ≡ taken.fuses slot
   pub arms : (lane : ℕ) → lane < 8 → slice_index tally.counts.arms lane ≡ taken.arms lane
   pub stay_sure : (lane : ℕ) → lane < 8 → sure lane ≡ true → HasSureArm tally lane
   pub pending : tally.pending ≡ none_pending settings
+  pub contents : Tells → KeepsContents settings (read_contents taken) tally.contents
 
 -- So has one that was closed.
 pub record EndsAt (Tells : Type 0) (settings : Settings) (tally : Tally) (given : Outside) : Type 0 where
@@ -244,7 +246,7 @@ pub record OpenedText (Tells : Type 0) (settings : Settings) (ending : Ending) (
   pub mid : Tally
   pub new : Tally
   pub sound : Tells → IsUndamaged settings (read_contents taken)
-  pub begins : BeginsAt settings taken sure old
+  pub begins : BeginsAt Tells settings taken sure old
   pub ends : EndsAt Tells settings new given
   pub answered : List ℕ
   pub answers : AnswerTexts Tells settings old mid whole answered

@@ -8,7 +8,7 @@ use Rattle.hay_disk.specs.Streams.{Wrote}
 use Rattle.hay_reply.specs.Replies.{header_line, note_line}
 use Rattle.hay_legal.specs.declared.known.Known.{Known}
 use Rattle.hay_legal.specs.Known.{disk_count}
-use Rattle.hay_legal.specs.Stands.{StandsOn}
+use Rattle.hay_legal.specs.Stands.{Contents, StandsOn}
 use Rattle.hay_directory.specs.Rows.{OpensRows}
 use Rattle.hay_logical.specs.Fits.{IsReplica}
 use Rattle.hay_cluster.specs.Draws.{EachDrewLittle, FlushedDrewLittle, no_look}
@@ -26,7 +26,7 @@ use Rattle.hay_run.specs.Causing.{AllCaused, BeginsAt, CausedRun, CausedUntil, E
 use Rattle.hay_run.specs.Draws.{drawn_of}
 use Rattle.hay_run.proofs.Caused.{all_caused, by_outcome, refused_caused, until_caused}
 use Rattle.hay_run.proofs.Counting.{NoneFalls-at, arm_there, count_at, lane_of, sure_at}
-use Rattle.hay_run.proofs.Drawing.{nothing_asked}
+use Rattle.hay_run.proofs.Drawing.{nothing_asked, nothing_done}
 use Rattle.hay_run.proofs.Giving.{same_more}
 use Rattle.hay_run.proofs.Ran.{ran_all, ran_stopped}
 use Rattle.hay_run.proofs.Refusing.{cause_of, none_opened, not_read, on_ok_both, ran_unopened, refused_later}
@@ -36,7 +36,7 @@ use Rattle.hay_run.proofs.program.answer_script.Goals as goal
 -- what is lent is taken back
 
 pub close-requires-clause-disks_out : goal.close-requires-clause-disks_out
-close-requires-clause-disks_out g c = λ lifetimes outlives.
+close-requires-clause-disks_out g c =
     let is_settings = c.serve-outcome.ensures.settings ∙ c.in-Ok.ensures.settings in
     let P : Settings → Type 0 = λ s. AreOut (disk_count s) (g.H.Shelf.disks c.open.new.shelf) in
     subst P (sym is_settings) c.in-Ok.ensures.disks_out
@@ -182,7 +182,7 @@ returns-clause-caused g c = λ script held told told_sink.
     let left = g.S.Source.left c.serve-outcome.new.source in
     let written = g.K.Sink.written c.serve-outcome.new.sink in
     let is_settings = c.serve-outcome.ensures.settings ∙ c.in-Ok.ensures.settings in
-    let begins : BeginsAt c.args.settings taken sure old = record {
+    let begins : BeginsAt g.H.Disk.Disk.Tells c.args.settings taken sure old = record {
       faults = λ slot within. (c.in-Ok.ensures.counts slot within).faults_rise;
       fuses = λ slot within. (c.in-Ok.ensures.counts slot within).fuses_are;
       arms = c.in-Ok.ensures.arm_counts;
@@ -190,6 +190,7 @@ returns-clause-caused g c = λ script held told told_sink.
           let arm = arm_there c.in-Ok.cluster.arms lane (subst (λ n. lane < n) (sym c.in-Ok.ensures.lanes) within) in
           lane_of A.is_sure c.in-Ok.cluster.arms lane arm.0 arm.1 (c.in-Ok.ensures.sure_arms lane arm.0 arm.1 ∙ is);
       pending = c.in-Ok.ensures.settled;
+      contents = c.in-Ok.ensures.contents;
     } in
     let ends : EndsAt g.H.Disk.Disk.Tells c.args.settings new given = record {
       faults = subst (λ s. (slot : ℕ) → slot < disk_count s → given.faults slot ≡ slice_index new.counts.disks slot) is_settings c.close.ensures.fault_counts;
@@ -306,3 +307,22 @@ returns-clause-flushed g c = λ tells.
     (subst (λ s. (slot : ℕ) → slot < disk_count s → read_of (given slot) ≡ new.contents slot) is_settings (c.close.ensures.contents tells))
     (subst (λ s. (slot : ℕ) → slot < disk_count s → (given slot).drawn ≡ new.drawn slot) is_settings (c.close.ensures.drawn tells))
     k (subst (λ (t : Tally). FlushedDrewLittle c.args.settings k before t.drawn) (sym same) (c.in-Ok.ensures.flushed tells k taken))) c.serve-outcome.ensures.caused
+
+-- what is left of the disks, where nothing was asked
+
+pub returns-clause-contents : goal.returns-clause-contents
+returns-clause-contents g c = λ tells nothing.
+    let D = g.H.Disk.Disk in
+    let A = g.H.Arm.Arm in
+    let old = tally_of D.files D.drawn D.fault_count D.fuse_count A.fault_count A.is_sure c.in-Ok.cluster in
+    let new = tally_of D.files D.drawn D.fault_count D.fuse_count A.fault_count A.is_sure c.serve-outcome.new.cluster in
+    let given = g.H.Shelf.disks c.close.new.shelf in
+    let is_settings = c.serve-outcome.ensures.settings ∙ c.in-Ok.ensures.settings in
+    let closed = subst (λ s. (slot : ℕ) → slot < disk_count s → read_of (given slot) ≡ new.contents slot) is_settings (c.close.ensures.contents tells) in
+    let same : new ≡ old = nothing_done D.Tells c.in-Ok.cluster.settings old new (g.S.Source.left c.args.source.now) (g.K.Sink.written c.args.sink.now) (g.S.Source.left c.serve-outcome.new.source) (g.K.Sink.written c.serve-outcome.new.sink)
+    c.serve-outcome.result c.serve-outcome.ensures.caused c.serve-outcome.ensures.stop_caused nothing in
+    λ slot file below some.
+    ap (λ (contents : Contents). contents file) (closed slot below) ∙ ap (λ (t : Tally). t.contents slot file) same ∙ c.in-Ok.ensures.contents tells slot file below some
+
+pub returns-in-Err-clause-contents : goal.returns-in-Err-clause-contents
+returns-in-Err-clause-contents g c = λ tells nothing. c.in-Err.ensures.contents_back tells

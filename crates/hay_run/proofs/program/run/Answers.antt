@@ -6,7 +6,7 @@ use Rattle.hay_mount.specs.Mounts.{SameFrom}
 use Rattle.hay_legal.specs.Known.{disk_count}
 use Rattle.hay_legal.specs.Statuses.Ending.{NoMemory, ReadAll}
 use Rattle.hay_cluster.specs.Draws.{EachDrewLittle, FlushedDrewLittle, no_look}
-use Rattle.hay_cluster.specs.Outside.{IsUndamaged, outside_of, read_of}
+use Rattle.hay_cluster.specs.Outside.{IsUndamaged, KeepsContents, outside_of, read_of}
 use Rattle.hay_run.specs.Runs.{IsTaken, RanTo, IsNotOpened}
 use Rattle.hay_run.specs.Stops.{ending_of}
 use Rattle.hay_run.specs.Checking.{ChecksTo}
@@ -216,3 +216,19 @@ returns-in-Ok-clause-flushed g c = λ tells zero settings k says taken nothing.
     same_run (map string_bytes c.args.words.now) c.in-Ok-Some-Run.settings settings run says) in
     subst (λ (s : Settings). FlushedDrewLittle s k (drawn_of (g.H.Shelf.disks c.args.shelf.now)) (drawn_of (g.H.Shelf.disks c.run_script.new.shelf))) same
     (c.in-Ok.ensures.flushed tells k (subst (λ (s : Settings). IsTaken s outside k) (sym same) taken) nothing)
+
+-- what is left of the disks, where nothing was asked
+
+pub returns-in-Ok-clause-contents : goal.returns-in-Ok-clause-contents
+returns-in-Ok-clause-contents g c = λ tells settings says nothing.
+    let same : c.in-Ok-Some-Run.settings ≡ settings = (let run : SaysRun (map string_bytes c.args.words.now) c.in-Ok-Some-Run.settings = rw (c.in-Ok-Some-Run.field-0-is, c.in-Ok-Some-Run.field-0-0-is) at c.in-Ok-Some-Run.ensures.says in
+    same_run (map string_bytes c.args.words.now) c.in-Ok-Some-Run.settings settings run says) in
+    subst (λ (s : Settings). KeepsContents s (λ slot. read_of (g.H.Shelf.disks c.args.shelf.now slot)) (λ slot. read_of (g.H.Shelf.disks c.run_script.new.shelf slot))) same
+    (c.in-Ok.ensures.contents tells nothing)
+
+pub returns-in-Err-run_script-clause-contents : goal.returns-in-Err-run_script-clause-contents
+returns-in-Err-run_script-clause-contents g c = λ tells settings says nothing.
+    let same : c.in-Ok-Some-Run.settings ≡ settings = (let run : SaysRun (map string_bytes c.args.words.now) c.in-Ok-Some-Run.settings = rw (c.in-Ok-Some-Run.field-0-is, c.in-Ok-Some-Run.field-0-0-is) at c.in-Ok-Some-Run.ensures.says in
+    same_run (map string_bytes c.args.words.now) c.in-Ok-Some-Run.settings settings run says) in
+    subst (λ (s : Settings). KeepsContents s (λ slot. read_of (g.H.Shelf.disks c.args.shelf.now slot)) (λ slot. read_of (g.H.Shelf.disks c.run_script.new.shelf slot))) same
+    (c.in-Err-run_script.ensures.contents tells nothing)
