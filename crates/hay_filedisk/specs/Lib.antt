@@ -1,2 +1,3 @@
 pub mod Ledger
 pub mod Shelf
+pub mod Unsynced

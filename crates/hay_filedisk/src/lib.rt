@@ -11,6 +11,7 @@
 mod arm;
 mod disk;
 mod faults;
+mod file;
 mod ledger;
 mod opened;
 mod piece;
@@ -18,6 +19,7 @@ mod shelf;
 mod slot;
 mod stream;
 mod system;
+mod unsynced;
 
 pub use arm::FileArm;
 pub use disk::FileDisk;
@@ -25,3 +27,4 @@ pub use piece::FilePiece;
 pub use shelf::FileShelf;
 pub use stream::{StdinSource, StdoutSink};
 pub use system::System;
+pub use unsynced::Unsynced;

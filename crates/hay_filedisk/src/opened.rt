@@ -44,3 +44,22 @@ pub(crate) fn write_whole(file: &File, at: u64, bytes: &[u8]) -> io::Result<()> 
     }
     Err(ErrorKind::Interrupted.into())
 }
+
+/// How much is written again at once.
+const BLOCK_LEN: usize = 4096;
+
+/// Reads a range of a file and writes what was read in its place again, as far as the file goes.
+pub(crate) fn rewrite(file: &File, from: u64, to: u64) -> io::Result<()> {
+    let mut block = [0; BLOCK_LEN];
+    let mut at = from;
+    while at < to {
+        let len = (to - at).min(BLOCK_LEN as u64) as usize;
+        let got = read_whole(file, at, &mut block[..len])?;
+        if got == 0 {
+            return Ok(());
+        }
+        write_whole(file, at, &block[..got])?;
+        at += got as u64;
+    }
+    Ok(())
+}

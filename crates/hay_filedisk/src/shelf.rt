@@ -8,12 +8,14 @@ use crate::disk::FileDisk;
 use crate::faults::Faults;
 use crate::ledger::Ledger;
 use crate::slot::SlotFiles;
-use crate::system::System;
+use crate::system::{System, open_folder};
 use hay_base::NoMemory;
 use hay_disk::{Shelf, ShelfFault};
 use std::alloc::Global;
+use std::fs::File;
 use std::io;
 use std::io::ErrorKind;
+use std::sync::Arc;
 
 /// Disks that keep their files in one folder. A disk that is out is locked against other shelves, of this process or of
 /// another, and `Failed` answers for one that another has out. A slot or a lane that was never out has no faults.
@@ -21,7 +23,9 @@ use std::io::ErrorKind;
 pub struct FileShelf<R> {
     rt: R,
     alloc: Global,
-    folder: String,
+    path: String,
+    /// The folder, once it is open. The disks share it.
+    folder: Option<Arc<File>>,
     disks: Ledger,
     arms: Ledger,
     faults: Faults,
@@ -40,16 +44,40 @@ impl<R: System> FileShelf<R> {
         Ok(FileShelf {
             rt,
             alloc,
-            folder: String::from_str(alloc, folder)?,
+            path: String::from_str(alloc, folder)?,
+            folder: None,
             disks: Ledger::new(alloc),
             arms: Ledger::new(alloc),
             faults: Faults::NONE,
         })
     }
+}
 
-    fn files_of(&self, slot: u32) -> io::Result<SlotFiles<R>> {
-        SlotFiles::take(self.rt.clone()?, self.alloc, self.folder.as_str(), slot)
+// The folder, which is opened once.
+fn shared_folder<R: System>(
+    rt: &R,
+    alloc: Global,
+    path: &str,
+    folder: &mut Option<Arc<File>>,
+) -> io::Result<Arc<File>> {
+    if let Some(opened) = &*folder {
+        return Ok(opened.clone()?);
     }
+    let opened = Arc::new(alloc, open_folder(rt, path)?)?;
+    *folder = Some(opened.clone()?);
+    Ok(opened)
+}
+
+// Takes the files of a slot.
+fn files_of<R: System>(
+    rt: &R,
+    alloc: Global,
+    path: &str,
+    folder: &mut Option<Arc<File>>,
+    slot: u32,
+) -> io::Result<SlotFiles<R>> {
+    let folder = shared_folder(rt, alloc, path, folder)?;
+    SlotFiles::take(rt.clone()?, alloc, path, folder, slot)
 }
 
 impl<R: System> Shelf for FileShelf<R> {
@@ -66,7 +94,14 @@ impl<R: System> Shelf for FileShelf<R> {
     ghost fault_count = { λ shelf. shelf.faults.count };
 
     fn take_disk(&mut self, slot: u32) -> Result<FileDisk<R>, ShelfFault> {
-        let files = match self.files_of(slot) {
+        let taken = files_of(
+            &self.rt,
+            self.alloc,
+            self.path.as_str(),
+            &mut self.folder,
+            slot,
+        );
+        let files = match taken {
             Ok(files) => files,
             Err(error) if error.kind() == ErrorKind::OutOfMemory => {
                 return Err(ShelfFault::NoMemory);

@@ -1,14 +1,34 @@
 //! The files of one slot in a folder.
 ghost use Rattle.std.specs.Prelude.{◌≤◌, length, IfOk};
 
-use crate::opened::{read_whole, write_whole};
-use crate::system::{System, lock, open_folder, open_found, open_or_make};
+use crate::file::SlotFile;
+use crate::system::{System, lock, open_found, open_or_make};
+use crate::unsynced::Unsynced;
 use std::alloc::{AllocError, Global};
 use std::collections::BTreeMap;
 use std::fs::File;
 use std::io::ErrorKind;
 use std::sync::Arc;
 use std::{fs, io};
+
+/// The files of a slot, which no other holder of this lock touches.
+///
+/// A file is opened when it is used. It stays open while it has writes that are not synced, and once a piece of it was
+/// given, until it is taken away. Of the others the one that was used last stays open, but only where no file has pieces.
+/// So where all is synced, two files are open for good: the lock, and the one that is read.
+#[derive(Drop)]
+pub(crate) struct SlotFiles<R> {
+    rt: R,
+    alloc: Global,
+    path: String,
+    slot: u32,
+    _lock: File,
+    folder: Arc<File>,
+    open: BTreeMap<u32, SlotFile>,
+    is_settled: bool,
+    /// A file was made or taken away since the folder was synced.
+    folder_changed: bool,
+}
 
 // The number that a text is, in digits alone, the first of which is 0 in 0 alone.
 fn number_in(text: &str) -> Option<u32> {
@@ -18,25 +38,15 @@ fn number_in(text: &str) -> Option<u32> {
     }
 }
 
-/// The files of a slot, which no other holder of this lock touches. A file is opened when it is first used.
-#[derive(Drop)]
-pub(crate) struct SlotFiles<R> {
-    rt: R,
-    alloc: Global,
-    path: String,
-    slot: u32,
-    _lock: File,
-    folder: File,
-    open: BTreeMap<u32, Arc<File>>,
-    is_settled: bool,
-    /// A file was made or taken away since the folder was synced.
-    folder_changed: bool,
-}
-
 impl<R: System> SlotFiles<R> {
     /// Locks the slot, and syncs its files.
-    pub(crate) fn take(rt: R, alloc: Global, path: &str, slot: u32) -> io::Result<SlotFiles<R>> {
-        let folder = open_folder(&rt, path)?;
+    pub(crate) fn take(
+        rt: R,
+        alloc: Global,
+        path: &str,
+        folder: Arc<File>,
+        slot: u32,
+    ) -> io::Result<SlotFiles<R>> {
         let lock = lock(&rt, format!(in alloc; "{path}/{slot}.lock")?.as_str())?;
         let mut files = SlotFiles {
             rt,
@@ -53,9 +63,12 @@ impl<R: System> SlotFiles<R> {
         Ok(files)
     }
 
-    /// Closes the files. Before the next is opened, all are synced.
+    /// Closes the files, but for those with writes that are not synced. Before the next call all are synced.
     pub(crate) fn close(&mut self) {
-        self.open.clear();
+        self.open.retain(|_, file| {
+            file.has_pieces = false;
+            !file.is_resting()
+        });
         self.is_settled = false;
     }
 
@@ -75,8 +88,8 @@ impl<R: System> SlotFiles<R> {
                 Err(error) if error.kind() == ErrorKind::InvalidFilename => None, // no text
                 Err(error) => return Err(error),
             };
-            if let Some(file) = number {
-                self.settle_file(file)?;
+            if let Some(number) = number {
+                self.settle_file(number)?;
             }
         }
         self.folder.sync_all()?;
@@ -85,11 +98,18 @@ impl<R: System> SlotFiles<R> {
         Ok(())
     }
 
-    fn settle_file(&mut self, file: u32) -> io::Result<()> {
-        match self.open_file(file)? {
-            Some(opened) => opened.sync_all(),
-            None => Ok(()),
+    // Syncs a file. Of one that is not open it is not known what an earlier process wrote of it, and whether it made it.
+    fn settle_file(&mut self, number: u32) -> io::Result<()> {
+        let is_known = self.open.contains_key(&number);
+        if let Some(file) = self.open_file(number)? {
+            if !is_known {
+                file.unsynced = Unsynced::all();
+                file.is_new = true;
+            }
+            file.sync()?;
         }
+        self.close_resting(number);
+        Ok(())
     }
 
     // The number of the slot's file that has this name.
@@ -102,70 +122,93 @@ impl<R: System> SlotFiles<R> {
         }
     }
 
-    fn path_of(&self, file: u32) -> Result<String, AllocError> {
-        format!(in self.alloc; "{}/{}-{}", self.path, self.slot, file)
+    fn path_of(&self, number: u32) -> Result<String, AllocError> {
+        format!(in self.alloc; "{}/{}-{}", self.path, self.slot, number)
     }
 
-    // The file, if there is one.
-    fn open_file(&mut self, file: u32) -> io::Result<Option<Arc<File>>> {
-        if let Some(opened) = self.open.get(&file) {
-            return Ok(Some(opened.clone()?));
-        }
-        let path = self.path_of(file)?;
-        match open_found(&self.rt, path.as_str())? {
-            Some(opened) => Ok(Some(self.keep(file, opened)?)),
-            None => Ok(None),
-        }
+    // Keeps a file that was opened.
+    fn keep(&mut self, number: u32, opened: File, is_new: bool) -> io::Result<()> {
+        let file = SlotFile {
+            opened: Arc::new(self.alloc, opened)?,
+            unsynced: Unsynced::none(),
+            is_new,
+            has_pieces: false,
+        };
+        self.open.insert(number, file)?;
+        Ok(())
     }
 
-    // The file, which is made where it is missing.
-    fn find_or_make(&mut self, file: u32) -> io::Result<Arc<File>> {
-        if let Some(opened) = self.find(file)? {
-            return Ok(opened);
+    // The file, open, if there is one.
+    fn open_file(&mut self, number: u32) -> io::Result<Option<&mut SlotFile>> {
+        if !self.open.contains_key(&number) {
+            let path = self.path_of(number)?;
+            match open_found(&self.rt, path.as_str())? {
+                Some(opened) => self.keep(number, opened, false)?,
+                None => return Ok(None),
+            }
         }
-        let path = self.path_of(file)?;
+        Ok(self.open.get_mut(&number))
+    }
+
+    // The file, if there is one, when all are synced.
+    fn find(&mut self, number: u32) -> io::Result<Option<&mut SlotFile>> {
+        self.settle()?;
+        self.open_file(number)
+    }
+
+    // Makes the file where it is missing.
+    fn make(&mut self, number: u32) -> io::Result<()> {
+        if self.find(number)?.is_some() {
+            return Ok(());
+        }
+        let path = self.path_of(number)?;
         self.folder_changed = true;
         let made = open_or_make(&self.rt, path.as_str())?;
-        self.keep(file, made)
+        self.keep(number, made, true)
     }
 
-    fn keep(&mut self, file: u32, opened: File) -> io::Result<Arc<File>> {
-        let shared = Arc::new(self.alloc, opened)?;
-        self.open.insert(file, shared.clone()?)?;
-        Ok(shared)
+    // Closes the files that have nothing to be synced and no pieces, but for the one that was used last where none has pieces.
+    fn close_resting(&mut self, used: u32) {
+        let has_pieces = self.open.values().any(|file| file.has_pieces);
+        self.open.retain(|number, file| !file.is_resting() || (*number == used && !has_pieces));
     }
 
-    /// The file, if there is one, when all are synced.
-    pub(crate) fn find(&mut self, file: u32) -> io::Result<Option<Arc<File>>> {
-        self.settle()?;
-        self.open_file(file)
-    }
-
-    pub(crate) fn size(&mut self, file: u32) -> io::Result<u64> {
-        match self.find(file)? {
-            Some(opened) => Ok(opened.metadata()?.len()),
+    pub(crate) fn size(&mut self, number: u32) -> io::Result<u64> {
+        let size = match self.find(number)? {
+            Some(file) => file.size(),
             None => Ok(0),
-        }
+        };
+        self.close_resting(number);
+        size
     }
 
-    pub(crate) fn read(&mut self, file: u32, at: u64, out: &mut [u8]) -> io::Result<usize>
+    pub(crate) fn read(&mut self, number: u32, at: u64, out: &mut [u8]) -> io::Result<usize>
         ensures within { IfOk result (λ n. n ≤ length out.old) }
     {
-        match self.find(file)? {
-            Some(opened) => read_whole(&opened, at, out),
+        let read = match self.find(number)? {
+            Some(file) => file.read(at, out),
             None => Ok(0),
-        }
+        };
+        self.close_resting(number);
+        read
     }
 
-    pub(crate) fn write(&mut self, file: u32, at: u64, bytes: &[u8]) -> io::Result<()> {
-        write_whole(&*self.find_or_make(file)?, at, bytes)
+    pub(crate) fn write(&mut self, number: u32, at: u64, bytes: &[u8]) -> io::Result<()> {
+        self.make(number)?;
+        let written = match self.open.get_mut(&number) {
+            Some(file) => file.write(at, bytes),
+            None => Err(ErrorKind::NotFound.into()),
+        };
+        self.close_resting(number);
+        written
     }
 
     /// Syncs the file, and then the folder, if a file was made or taken away.
-    pub(crate) fn sync(&mut self, file: u32) -> io::Result<()> {
-        if let Some(opened) = self.find(file)? {
-            opened.sync_all()?;
+    pub(crate) fn sync(&mut self, number: u32) -> io::Result<()> {
+        if let Some(file) = self.find(number)? {
+            file.sync()?;
         }
+        self.close_resting(number);
         if self.folder_changed {
             self.folder.sync_all()?;
             self.folder_changed = false;
@@ -173,21 +216,26 @@ impl<R: System> SlotFiles<R> {
         Ok(())
     }
 
-    pub(crate) fn remove(&mut self, file: u32) -> io::Result<()> {
-        let path = self.path_of(file)?;
-        self.open.remove(&file);
+    /// Takes the file away. Where that fails, what is known of it stays.
+    pub(crate) fn remove(&mut self, number: u32) -> io::Result<()> {
+        let path = self.path_of(number)?;
         self.folder_changed = true;
         match fs::remove_file(&self.rt, path.as_str()) {
-            Err(error) if error.kind() == ErrorKind::NotFound => Ok(()),
-            removed => removed,
+            Err(error) if error.kind() != ErrorKind::NotFound => Err(error),
+            _ => {
+                self.open.remove(&number);
+                Ok(())
+            }
         }
     }
 
     /// The file, shared. There must be one.
-    pub(crate) fn share(&mut self, file: u32) -> io::Result<Arc<File>> {
-        match self.find(file)? {
-            Some(opened) => Ok(opened),
+    pub(crate) fn share(&mut self, number: u32) -> io::Result<Arc<File>> {
+        let shared = match self.find(number)? {
+            Some(file) => file.share(),
             None => Err(ErrorKind::NotFound.into()),
-        }
+        };
+        self.close_resting(number);
+        shared
     }
 }
