@@ -222,7 +222,7 @@ impl<R: System> SlotFiles<R> {
         self.folder_changed = true;
         match fs::remove_file(&self.rt, path.as_str()) {
             Err(error) if error.kind() != ErrorKind::NotFound => Err(error),
-            _ => {
+            Ok(()) | Err(_) => {
                 self.open.remove(&number);
                 Ok(())
             }
