@@ -473,7 +473,7 @@ def check_commands(program):
 
 def check_descriptors(program):
     """What the pages tell is enough for a compaction on one replica, and one descriptor fewer is not."""
-    counts = {"two": 2, "five": 5, "six": 6}
+    counts = {"two": 2, "six": 6}
     said = r"needs (\w+), (\w+) more for each replica of each volume, and (\w+) more for each compaction that stands"
     told = [re.search(said, text_of(f"docs/{name}")) for name in ("script.md", "haystack.1")]
     if None in told or told[0].groups() != told[1].groups():
