@@ -1,0 +1,9 @@
+pub mod Counts
+pub mod Dels
+pub mod Laying
+pub mod Others
+pub mod Puts
+pub mod Rows
+pub mod Shows
+pub mod Swaps
+pub mod Tests

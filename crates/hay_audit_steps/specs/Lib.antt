@@ -1,0 +1,4 @@
+pub mod Law
+pub mod Laid
+pub mod Next
+pub mod Steps
