@@ -2,7 +2,10 @@ pub mod Counts
 pub mod Dels
 pub mod Laying
 pub mod Others
+pub mod Parts
 pub mod Puts
+pub mod Reopens
+pub mod Restarting
 pub mod Rows
 pub mod Shows
 pub mod Swaps

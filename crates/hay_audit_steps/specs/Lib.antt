@@ -1,4 +1,7 @@
-pub mod Law
 pub mod Laid
+pub mod Law
 pub mod Next
+pub mod Parts
+pub mod Reopen
+pub mod Slacks
 pub mod Steps
