@@ -1,6 +1,11 @@
+pub mod Advancing
 pub mod Counts
 pub mod Dels
+pub mod Feeds
+pub mod Judging
 pub mod Laying
+pub mod Loop
+pub mod OneJudgement
 pub mod Others
 pub mod Parts
 pub mod Puts

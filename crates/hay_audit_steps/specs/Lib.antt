@@ -1,7 +1,9 @@
+pub mod Judged
 pub mod Laid
 pub mod Law
 pub mod Next
 pub mod Parts
+pub mod Reached
 pub mod Reopen
 pub mod Slacks
 pub mod Steps

@@ -32,6 +32,12 @@ pub record IsStep (row : Known → Known → Type 0) (b : Known) (next : List Kn
   pub complete : (faults arms fuses : List ℕ) (t : Known) → NoneFalls b.faults faults → NoneFalls b.arms arms
       → row (with_counts b faults arms fuses) t → AnyOf (λ c. Below c t) next
 
+-- The same of what may stand for several states: `Has` says for which.
+pub record IsStepOf {S : Type 0} (Has : S → Known → Type 0) (row : Known → Known → Type 0) (s : S) (next : List S) : Type 0 where
+  pub sound : Each (λ d. (t : Known) → Has d t → (k : Known) × Has s k × row k t) next
+  pub complete : (k : Known) (faults arms fuses : List ℕ) (t : Known) → Has s k → NoneFalls k.faults faults → NoneFalls k.arms arms
+      → row (with_counts k faults arms fuses) t → AnyOf (λ d. (e : Known) × Has d e × Below e t) next
+
 -- the legal turns of a plain line
 abbrev pub plain_row : Settings → ℕ → Item → Reply → Known → Known → Type 0
 plain_row settings line item reply k t = LegalPlain settings k line item reply t
