@@ -51,7 +51,7 @@ of_run_step b v j cells n (Some run) e =
           );
     })
 
-tells_has_run : (run : Option Run) → Decides (is_some run) ((r : Run) × (run ≡ Some r))
+pub tells_has_run : (run : Option Run) → Decides (is_some run) ((r : Run) × (run ≡ Some r))
 tells_has_run None = (λ h. absurd cc, λ h. absurd (let none : None ≡ Some h.0 = h.1 in cc))
 tells_has_run (Some run) = (λ h. (run, refl), λ h. refl)
 

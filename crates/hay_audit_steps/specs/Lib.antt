@@ -1,3 +1,6 @@
+pub mod BoxLaw
+pub mod BoxNext
+pub mod Boxes
 pub mod Judged
 pub mod Laid
 pub mod Law
