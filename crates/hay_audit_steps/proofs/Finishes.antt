@@ -4,19 +4,20 @@ use Rattle.std.specs.Prelude.{cond, ◌&&◌, ◌==◌, ◌<◌, nat_lt, option_
 use Rattle.std.specs.Bool.{Decides}
 use Rattle.std.proofs.lemmas.Bool.Decides.{Decides-eqb, Decides-and, Decides-ltb}
 use Rattle.hay_needle.specs.Tables.{Table, live_end}
+use Rattle.hay_needle.specs.declared.settings.Settings.{Settings}
 use Rattle.hay_reply.specs.declared.Reply.TheVariants as reply
 use Rattle.hay_legal.specs.declared.known.Run.{Run}
 use Rattle.hay_legal.specs.declared.known.ReplicaKnown.{ReplicaKnown}
 use Rattle.hay_legal.specs.declared.known.VolumeKnown.{VolumeKnown}
 use Rattle.hay_legal.specs.declared.known.Known.{Known}
 use Rattle.hay_legal.specs.Known.{volume_at, now}
-use Rattle.hay_legal.specs.Plain.{LegalFinish, MayFinish, Names, IsOpen, replica_of}
+use Rattle.hay_legal.specs.Plain.{LegalFinish, OnReplica, MayFinish, Names, IsOpen, replica_of}
 use Rattle.hay_audit_steps.specs.BoxLaw.{FinishesStepBoxes}
-use Rattle.hay_audit_steps.specs.BoxNext.{least_end, least_cells, most_end, most_cells, swapped_box, has_sizes, may_finish}
+use Rattle.hay_audit_steps.specs.BoxNext.{least_end, least_cells, most_end, most_cells, swapped_box, has_sizes, may_finish, finished_boxes}
 use Rattle.hay_audit_steps.specs.Steps.{with_counts}
 use Rattle.hay_audit_steps.specs.Next.{names, is_open}
 use Rattle.hay_audit_steps.specs.Slacks.{Slack, fill_replica, fill_run}
-use Rattle.hay_audit_steps.specs.Boxes.{Box, Has, IsBoxStep, fill, slack_at}
+use Rattle.hay_audit_steps.specs.Boxes.{Box, Has, IsBoxStep, IsFilled, fill, slack_at}
 use Rattle.hay_audit_steps.proofs.Cuts.{within_at}
 use Rattle.hay_audit_steps.proofs.Lifting.{volume_fill, now_fill}
 use Rattle.hay_audit_steps.proofs.Others.{tells_names}
@@ -89,8 +90,9 @@ may_on b k v j x like may =
 
 -- THE STEP
 
-pub finishes_step_boxes : FinishesStepBoxes
-finishes_step_boxes settings box v m j v' m' g is =
+finished_step : (settings : Settings) (box : Box) (v m j v' m' g : ℕ) → IsFilled box v j
+    → IsBoxStep (λ k t. LegalFinish settings k v m j (reply.Compacted v' m' g) t) box (finished_boxes box v m j v' m' g)
+finished_step settings box v m j v' m' g is =
     box_tested (finish_row) box (swapped_box box v j ∷ []) (FinishNeeds box v m j v' m' g) _ (tells_finish box v m j v' m' g)
     (λ needs.
     let step = swap_box_step box v j is (omega (arith, needs.1.1.1.1.0)) (omega (arith, needs.1.1.1.1.1)) in
@@ -139,3 +141,8 @@ finishes_step_boxes settings box v m j v' m' g is =
   where
     finish_row : Known → Known → Type 0
     finish_row k t = LegalFinish settings k v m j (reply.Compacted v' m' g) t
+
+pub finishes_step_boxes : FinishesStepBoxes
+finishes_step_boxes settings box line v m j v' m' g on is =
+    subst (λ (o : Option ℕ). IsBoxStep (λ k t. OnReplica k o (LegalFinish settings k v m) (reply.Compacted v' m' g) t) box (finished_boxes box v m j v' m' g)) (sym on)
+    (finished_step settings box v m j v' m' g is)

@@ -30,66 +30,59 @@ long : (n : ℕ) → length {A = ℕ} (replicate n 0) ≡ n
 long zero = refl
 long (suc n) = ap suc (long n)
 
-pub some_fit : {S : Type 0} (Has : S → Known → Type 0) (settings : Settings) (items : List Asked) (transcript : List ℕ) (m : ℕ) (c : Candidate S) (cs : List (Candidate S))
-    → Begins Has settings transcript c → Reached Has settings (take m items) c cs → ((s : S) → (k : Known) × Has s k) → m ≤ length items
-    → IsAny cs → Fits settings items transcript m
-some_fit {S} Has settings items transcript m c cs begins reached some within any =
-    (within, first cs reached.sound any)
+-- the turns that lead to a candidate explain what it has used
+explained : {S : Type 0} (Has : S → Known → Type 0) (settings : Settings) (items : List Asked) (transcript : List ℕ) (c : Candidate S) → Begins Has settings transcript c
+    → (IsText : List ℕ → Type 0) (t : Known) (rest : List ℕ)
+    → (k : Known) (turns : List Turn) → Has c.state k → Runs settings items k c.rest turns t rest
+    → (texts turns ++ rest ≡ c.rest → IsText (header_line settings ++ texts turns))
+    → Explained settings items IsText
+explained Has settings items transcript c begins IsText t rest k turns has run told = record {
+  faults = replicate (disk_count settings) 0;
+  fuses = replicate (disk_count settings) 0;
+  arms = replicate 8 0;
+  disks = long (disk_count settings);
+  lanes = long 8;
+  turns = turns;
+  t = t;
+  asked = run.asked;
+  legal = subst (λ (x : Known). Legal settings x turns t) (begins.alone k has) run.legal;
+  fits = run.fits;
+  told = told run.text;
+}
+
+some_fit : {S : Type 0} (Has : S → Known → Type 0) (settings : Settings) (items : List Asked) (transcript : List ℕ) (m : ℕ) (c : Candidate S) (cs : List (Candidate S))
+    → Begins Has settings transcript c → Reached Has settings (take m items) c cs → m ≤ length items → IsAny Has cs → Fits settings items transcript m
+some_fit {S} Has settings items transcript m c cs begins reached within any = (within, first cs reached.sound any)
   where
     first : (ds : List (Candidate S)) → Each (λ (d : Candidate S). (t : Known) → Has d.state t → (k : Known) × (turns : List Turn) × Has c.state k × Runs settings (take m items) k c.rest turns t d.rest) ds
-        → IsAny ds → Explained settings (take m items) (λ text. IsFront text transcript)
-    first [] h any = absurd any
-    first (d ∷ ds) h any =
-        let one = some d.state in
-        let run = h.0 one.0 one.1 in
-        record {
-          faults = replicate (disk_count settings) 0;
-          fuses = replicate (disk_count settings) 0;
-          arms = replicate 8 0;
-          disks = long (disk_count settings);
-          lanes = long 8;
-          turns = run.1;
-          t = one.0;
-          asked = (run.3).asked;
-          legal = subst (λ (k : Known). Legal settings k run.1 one.0) (begins.alone run.0 run.2) (run.3).legal;
-          fits = (run.3).fits;
-          told = (d.rest, sym (append_assoc (header_line settings) (texts run.1) d.rest ∙ ap (λ (xs : List ℕ). header_line settings ++ xs) (run.3).text ∙ begins.header));
-        }
-
-pub whole_fit : {S : Type 0} (Has : S → Known → Type 0) (settings : Settings) (items : List Asked) (transcript : List ℕ) (c : Candidate S) (cs : List (Candidate S))
-    → Begins Has settings transcript c → Reached Has settings items c cs → ((s : S) → (k : Known) × Has s k)
-    → IsUsed cs → FitsWhole settings items transcript
-whole_fit {S} Has settings items transcript c cs begins reached some any = first cs reached.sound any
-  where
-    first : (ds : List (Candidate S)) → Each (λ (d : Candidate S). (t : Known) → Has d.state t → (k : Known) × (turns : List Turn) × Has c.state k × Runs settings items k c.rest turns t d.rest) ds
-        → IsUsed ds → FitsWhole settings items transcript
+        → IsAny Has ds → Explained settings (take m items) (λ text. IsFront text transcript)
     first [] h any = absurd any
     first (d ∷ ds) h (inr there) = first ds h.1 there
-    first (d ∷ ds) h (inl ended) =
-        let one = some d.state in
+    first (d ∷ ds) h (inl one) =
         let run = h.0 one.0 one.1 in
-        record {
-          faults = replicate (disk_count settings) 0;
-          fuses = replicate (disk_count settings) 0;
-          arms = replicate 8 0;
-          disks = long (disk_count settings);
-          lanes = long 8;
-          turns = run.1;
-          t = one.0;
-          asked = (run.3).asked;
-          legal = subst (λ (k : Known). Legal settings k run.1 one.0) (begins.alone run.0 run.2) (run.3).legal;
-          fits = (run.3).fits;
-          told = whole_text (texts run.1) d.rest ended (run.3).text;
-        }
-      where
-        whole_text : (text rest : List ℕ) → rest ≡ [] → text ++ rest ≡ c.rest → header_line settings ++ text ≡ transcript
-        whole_text text rest none e =
-            ap (λ (xs : List ℕ). header_line settings ++ xs) (sym (append_nil text) ∙ ap (λ (xs : List ℕ). text ++ xs) (sym none) ∙ e) ∙ begins.header
+        explained Has settings (take m items) transcript c begins (λ text. IsFront text transcript) one.0 d.rest run.0 run.1 run.2 run.3
+        (λ e. (d.rest, sym (append_assoc (header_line settings) (texts run.1) d.rest ∙ ap (λ (xs : List ℕ). header_line settings ++ xs) e ∙ begins.header)))
+
+whole_fit : {S : Type 0} (Has : S → Known → Type 0) (settings : Settings) (items : List Asked) (transcript : List ℕ) (c : Candidate S) (cs : List (Candidate S))
+    → Begins Has settings transcript c → Reached Has settings items c cs → IsUsed Has cs → FitsWhole settings items transcript
+whole_fit {S} Has settings items transcript c cs begins reached used = first cs reached.sound used
+  where
+    whole_text : (text rest : List ℕ) → rest ≡ [] → text ++ rest ≡ c.rest → header_line settings ++ text ≡ transcript
+    whole_text text rest none e =
+        ap (λ (xs : List ℕ). header_line settings ++ xs) (sym (append_nil text) ∙ ap (λ (xs : List ℕ). text ++ xs) (sym none) ∙ e) ∙ begins.header
+
+    first : (ds : List (Candidate S)) → Each (λ (d : Candidate S). (t : Known) → Has d.state t → (k : Known) × (turns : List Turn) × Has c.state k × Runs settings items k c.rest turns t d.rest) ds
+        → IsUsed Has ds → FitsWhole settings items transcript
+    first [] h used = absurd used
+    first (d ∷ ds) h (inr there) = first ds h.1 there
+    first (d ∷ ds) h (inl one) =
+        let run = h.0 one.1 one.2 in
+        explained Has settings items transcript c begins (λ text. text ≡ transcript) one.1 d.rest run.0 run.1 run.2 run.3 (λ e. whole_text (texts run.1) d.rest one.0 e)
 
 -- where turns fit, there are candidates
-pub fit_some : {S : Type 0} (Has : S → Known → Type 0) (settings : Settings) (items : List Asked) (transcript : List ℕ) (m : ℕ) (c : Candidate S) (cs : List (Candidate S))
+fit_some : {S : Type 0} (Has : S → Known → Type 0) (settings : Settings) (items : List Asked) (transcript : List ℕ) (m : ℕ) (c : Candidate S) (cs : List (Candidate S))
     → Begins Has settings transcript c → Reached Has settings (take m items) c cs
-    → Fits settings items transcript m → IsAny cs
+    → Fits settings items transcript m → IsAny Has cs
 fit_some {S} Has settings items transcript m c cs begins reached fits =
     let e = fits.1 in
     let text : texts e.turns ++ e.told.0 ≡ c.rest = same_tail (header_line settings) (texts e.turns ++ e.told.0) c.rest
@@ -98,17 +91,17 @@ fit_some {S} Has settings items transcript m c cs begins reached fits =
     (zeros_fall (disk_count settings) e.faults e.disks) (zeros_fall 8 e.arms e.lanes)
     (record { asked = e.asked; legal = e.legal; fits = e.fits; text = text }))
   where
-    any_to : (ds : List (Candidate S)) → AnyOf (λ (d : Candidate S). (d.rest ≡ ((fits.1).told).0) × (k : Known) × Has d.state k × Below k (fits.1).t) ds → IsAny ds
+    any_to : (ds : List (Candidate S)) → AnyOf (λ (d : Candidate S). (d.rest ≡ ((fits.1).told).0) × (k : Known) × Has d.state k × Below k (fits.1).t) ds → IsAny Has ds
     any_to [] h = absurd h
-    any_to (d ∷ ds) h = elim h [ inl here ↦ inl tt | inr there ↦ inr (any_to ds there) ]
+    any_to (d ∷ ds) h = elim h [ inl here ↦ inl (here.1, here.2) | inr there ↦ inr (any_to ds there) ]
 
     same_tail : (xs ys zs : List ℕ) → xs ++ ys ≡ xs ++ zs → ys ≡ zs
     same_tail [] ys zs e = e
     same_tail (x ∷ xs) ys zs e = same_tail xs ys zs (cc)
 
-pub fit_whole : {S : Type 0} (Has : S → Known → Type 0) (settings : Settings) (items : List Asked) (transcript : List ℕ) (c : Candidate S) (cs : List (Candidate S))
+fit_whole : {S : Type 0} (Has : S → Known → Type 0) (settings : Settings) (items : List Asked) (transcript : List ℕ) (c : Candidate S) (cs : List (Candidate S))
     → Begins Has settings transcript c → Reached Has settings items c cs
-    → FitsWhole settings items transcript → IsUsed cs
+    → FitsWhole settings items transcript → IsUsed Has cs
 fit_whole {S} Has settings items transcript c cs begins reached e =
     let text : texts e.turns ++ [] ≡ c.rest = same_tail (header_line settings) (texts e.turns ++ []) c.rest
     (ap (λ (xs : List ℕ). header_line settings ++ xs) (append_nil (texts e.turns)) ∙ e.told ∙ sym begins.header) in
@@ -116,9 +109,9 @@ fit_whole {S} Has settings items transcript c cs begins reached e =
     (zeros_fall (disk_count settings) e.faults e.disks) (zeros_fall 8 e.arms e.lanes)
     (record { asked = e.asked; legal = e.legal; fits = e.fits; text = text }))
   where
-    any_to : (ds : List (Candidate S)) → AnyOf (λ (d : Candidate S). (d.rest ≡ []) × (k : Known) × Has d.state k × Below k e.t) ds → IsUsed ds
+    any_to : (ds : List (Candidate S)) → AnyOf (λ (d : Candidate S). (d.rest ≡ []) × (k : Known) × Has d.state k × Below k e.t) ds → IsUsed Has ds
     any_to [] h = absurd h
-    any_to (d ∷ ds) h = elim h [ inl here ↦ inl here.0 | inr there ↦ inr (any_to ds there) ]
+    any_to (d ∷ ds) h = elim h [ inl here ↦ inl (here.0, here.1, here.2) | inr there ↦ inr (any_to ds there) ]
 
     same_tail : (xs ys zs : List ℕ) → xs ++ ys ≡ xs ++ zs → ys ≡ zs
     same_tail [] ys zs e = e
@@ -186,15 +179,15 @@ shorter settings items transcript m n less within h =
         ∙ sym (append_assoc (turn_text turn) (texts front) (texts back ++ rest))
 
 -- so the first m items are the most that fit
-pub stops_at : {S : Type 0} (Has : S → Known → Type 0) (settings : Settings) (items : List Asked) (transcript : List ℕ) (c : Candidate S) (m : ℕ) (cs : List (Candidate S))
-    → Begins Has settings transcript c → ((s : S) → (k : Known) × Has s k)
-    → Reached Has settings (take m items) c cs → IsAny cs → Reached Has settings (take (suc m) items) c [] → suc m ≤ length items
+stops_at : {S : Type 0} (Has : S → Known → Type 0) (settings : Settings) (items : List Asked) (transcript : List ℕ) (c : Candidate S) (m : ℕ) (cs next : List (Candidate S))
+    → Begins Has settings transcript c → Reached Has settings (take m items) c cs → IsAny Has cs
+    → Reached Has settings (take (suc m) items) c next → (IsAny Has next → ⊥) → suc m ≤ length items
     → IsGreatest settings items transcript m
-stops_at {S} Has settings items transcript c m cs begins some here any next within = record {
-  fits = inl (some_fit Has settings items transcript m c cs begins here some (omega (arith, within)) any);
+stops_at Has settings items transcript c m cs next begins here any behind none within = record {
+  fits = inl (some_fit Has settings items transcript m c cs begins here (omega (arith, within)) any);
   no_more = λ more above fits.
-      fit_some Has settings items transcript (suc m) c [] begins next
-      (within, shorter settings items transcript (suc m) more (omega (arith, above)) fits.0 fits.1);
+      none (fit_some Has settings items transcript (suc m) c next begins behind
+      (within, shorter settings items transcript (suc m) more (omega (arith, above)) fits.0 fits.1));
 }
 
 -- THE JUDGEMENT
@@ -223,49 +216,49 @@ before_within items transcript n before = elim before.next [ inl all ↦ omega (
     there (x ∷ items) zero asked e = omega arith
     there (x ∷ items) (suc n) asked e = omega (arith, there items n asked e)
 
-unlawful_within : {S : Type 0} (Has : S → Known → Type 0) (settings : Settings) (items : List Asked) (transcript : List ℕ) (c : Candidate S) (m n : ℕ) (cs : List (Candidate S))
-    → Begins Has settings transcript c → ((s : S) → (k : Known) × Has s k) → n ≤ length items → m < n
-    → Reached Has settings (take m items) c cs → IsAny cs → Reached Has settings (take (m + 1) items) c []
+unlawful_within : {S : Type 0} (Has : S → Known → Type 0) (settings : Settings) (items : List Asked) (transcript : List ℕ) (c : Candidate S) (m n : ℕ) (cs next : List (Candidate S))
+    → Begins Has settings transcript c → n ≤ length items → m < n
+    → Reached Has settings (take m items) c cs → IsAny Has cs → Reached Has settings (take (m + 1) items) c next → (IsAny Has next → ⊥)
     → IsGreatest settings (take n items) transcript m
-unlawful_within Has settings items transcript c m n cs begins some within less here any next =
-    let long : length (take n items) ≡ n = take_long items n within in
+unlawful_within Has settings items transcript c m n cs next begins within less here any behind none =
+    let long_enough : length (take n items) ≡ n = take_long items n within in
     let next_is : suc m ≡ m + 1 = omega arith in
-    stops_at Has settings (take n items) transcript c m cs begins some
+    stops_at Has settings (take n items) transcript c m cs next begins
     (subst (λ (xs : List Asked). Reached Has settings xs c cs) (sym (take_twice items m n (omega (arith, less)))) here) any
-    (subst (λ (xs : List Asked). Reached Has settings xs c []) (sym (take_twice items (suc m) n (omega (arith, less)))) (subst (λ (i : ℕ). Reached Has settings (take i items) c []) (sym next_is) next))
-    (omega (arith, less, long))
+    (subst (λ (xs : List Asked). Reached Has settings xs c next) (sym (take_twice items (suc m) n (omega (arith, less)))) (subst (λ (i : ℕ). Reached Has settings (take i items) c next) (sym next_is) behind))
+    none (omega (arith, less, long_enough))
 
 unlawful_behind : {S : Type 0} (Has : S → Known → Type 0) (settings : Settings) (items : List Asked) (transcript : List ℕ) (c : Candidate S) (m : ℕ) (cs : List (Candidate S))
-    → Begins Has settings transcript c → ((s : S) → (k : Known) × Has s k) → m ≡ length items
-    → Reached Has settings items c cs → IsAny cs → IsGreatest settings (take m items) transcript m
-unlawful_behind Has settings items transcript c m cs begins some all here any =
+    → Begins Has settings transcript c → m ≡ length items
+    → Reached Has settings items c cs → IsAny Has cs → IsGreatest settings (take m items) transcript m
+unlawful_behind Has settings items transcript c m cs begins all here any =
     let whole : take m items ≡ items = ap (λ (i : ℕ). take i items) all ∙ take_all items in
-    let long : length (take m items) ≡ m = take_long items m (omega (arith, all)) in
+    let long_enough : length (take m items) ≡ m = take_long items m (omega (arith, all)) in
     record {
       fits = inl (subst (λ (xs : List Asked). Fits settings xs transcript m) (sym whole)
-          (some_fit Has settings items transcript m c cs begins (subst (λ (xs : List Asked). Reached Has settings xs c cs) (sym whole) here) some (omega (arith, all)) any));
-      no_more = λ more above fits. omega (arith, above, fits.0, long);
+          (some_fit Has settings items transcript m c cs begins (subst (λ (xs : List Asked). Reached Has settings xs c cs) (sym whole) here) (omega (arith, all)) any));
+      no_more = λ more above fits. omega (arith, above, fits.0, long_enough);
     }
 
 pub candidates_judge : {S : Type 0} (Has : S → Known → Type 0) → CandidatesJudge Has
-candidates_judge {S} Has settings script transcript c n (Lawful m) some begins before tells =
-    (n, before, (tells.0, tells.1, whole_fit Has settings (items_of script) transcript c tells.2 begins tells.3 some tells.4))
-candidates_judge {S} Has settings script transcript c n (Open m) some begins before tells =
-    (n, before, (tells.0, tells.1, some_fit Has settings (items_of script) transcript n c tells.2 begins tells.3 some (omega (arith, tells.1)) tells.4))
-candidates_judge {S} Has settings script transcript c n (Unlawful m) some begins before (inl tells) = (
+candidates_judge {S} Has settings script transcript c n (Lawful m) begins before tells =
+    (n, before, (tells.0, tells.1, whole_fit Has settings (items_of script) transcript c tells.2 begins tells.3 tells.4))
+candidates_judge {S} Has settings script transcript c n (Open m) begins before tells =
+    (n, before, (tells.0, tells.1, some_fit Has settings (items_of script) transcript n c tells.2 begins tells.3 (omega (arith, tells.1)) tells.4))
+candidates_judge {S} Has settings script transcript c n (Unlawful m) begins before (inl tells) = (
   n,
   before,
   (
-    unlawful_within Has settings (items_of script) transcript c m n tells.1 begins some (before_within (items_of script) transcript n before) tells.0 tells.2 tells.3 tells.4,
+    unlawful_within Has settings (items_of script) transcript c m n tells.1 tells.4 begins (before_within (items_of script) transcript n before) tells.0 tells.2 tells.3 tells.5 tells.6,
     inl tells.0,
   ),
 )
-candidates_judge {S} Has settings script transcript c n (Unlawful m) some begins before (inr tells) = (
+candidates_judge {S} Has settings script transcript c n (Unlawful m) begins before (inr tells) = (
   n,
   before,
   (
     subst (λ (i : ℕ). IsGreatest settings (take i (items_of script)) transcript m) tells.0
-        (unlawful_behind Has settings (items_of script) transcript c m tells.2 begins some (tells.0 ∙ tells.1) tells.3 tells.4),
+        (unlawful_behind Has settings (items_of script) transcript c m tells.2 begins (tells.0 ∙ tells.1) tells.3 tells.4),
     inr (inl (tells.0, tells.1, λ whole. tells.5 (fit_whole Has settings (items_of script) transcript c tells.2 begins tells.3 whole))),
   ),
 )

@@ -241,13 +241,13 @@ stored_fill xss b tag pair bytes v c =
     (λ xs volume. ap (λ (rs : List ReplicaKnown). record (logged volume tag (entry.Put pair c bytes)) { replicas = rs }) (all_grown_fill (length bytes) xs volume.replicas)))
 
 pub stored_box_step : StoredPutsStepBoxes
-stored_box_step settings box tag pair bytes v p d c taker decided =
-    lifted_to (put_row settings tag pair bytes (reply.Stored v p d c)) (λ k. next_put settings k tag pair bytes (reply.Stored v p d c)) box (stored_if settings box.base tag pair bytes v p d c taker)
-    (λ k. put_step settings k tag pair bytes (reply.Stored v p d c) (λ lie. cc))
+stored_box_step settings box line pair bytes v p d c taker decided =
+    lifted_to (put_row settings (record { lane = 0; line = line }) pair bytes (reply.Stored v p d c)) (λ k. next_put settings k (record { lane = 0; line = line }) pair bytes (reply.Stored v p d c)) box (stored_if settings box.base (record { lane = 0; line = line }) pair bytes v p d c taker)
+    (λ k. put_step settings k (record { lane = 0; line = line }) pair bytes (reply.Stored v p d c) (λ lie. cc))
     (λ xss within.
-    ap (λ (o : Option ℕ). stored_if settings (fill xss box.base) tag pair bytes v p d c o) (decided xss within)
+    ap (λ (o : Option ℕ). stored_if settings (fill xss box.base) (record { lane = 0; line = line }) pair bytes v p d c o) (decided xss within)
     ∙ ap (λ (log : List Logged). keep_if (is_at taker v && (is_dir_open box.base pair && (cookie_eq c (cookie_of settings.secret pair.key)
-    && ((p == length log + 1) && (d == length (settled box.base.directory.rows pair v)))))) (stored (fill xss box.base) tag pair bytes v c)) (log_fill xss box.base v)
+    && ((p == length log + 1) && (d == length (settled box.base.directory.rows pair v)))))) (stored (fill xss box.base) (record { lane = 0; line = line }) pair bytes v c)) (log_fill xss box.base v)
     ∙ ap (λ (k : Known). keep_if (is_at taker v && (is_dir_open box.base pair && (cookie_eq c (cookie_of settings.secret pair.key)
-    && ((p == length (volume_at box.base v).log + 1) && (d == length (settled box.base.directory.rows pair v)))))) k) (stored_fill xss box.base tag pair bytes v c)
-    ∙ kept_fill xss _ (stored box.base tag pair bytes v c ∷ []))
+    && ((p == length (volume_at box.base v).log + 1) && (d == length (settled box.base.directory.rows pair v)))))) k) (stored_fill xss box.base (record { lane = 0; line = line }) pair bytes v c)
+    ∙ kept_fill xss _ (stored box.base (record { lane = 0; line = line }) pair bytes v c ∷ []))

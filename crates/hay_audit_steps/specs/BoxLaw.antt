@@ -1,18 +1,18 @@
 -- What the crate shows of boxes of states.
-use Rattle.std.specs.Prelude.{◌≡◌, ◌≢◌, ℕ, ◌+◌, ◌<◌, ◌≤◌, Bool, true, false, List, [], ◌∷◌, ◌++◌, length, map, find, Option}
+use Rattle.std.specs.Prelude.{◌≡◌, ◌≢◌, ℕ, ◌+◌, ◌<◌, ◌≤◌, Bool, true, false, List, [], ◌∷◌, ◌++◌, length, map, find, Option, Some}
 use Rattle.std.specs.List.{AllByRecursion as Each}
 use Rattle.hay_needle.specs.declared.needle.Pair.{Pair}
 use Rattle.hay_needle.specs.declared.needle.Cookie.{Cookie}
 use Rattle.hay_needle.specs.declared.settings.Settings.{Settings}
-use Rattle.hay_core.specs.declared.entry.CoreTag.{CoreTag}
+use Rattle.hay_script.specs.declared.Command.TheVariants as command
 use Rattle.hay_reply.specs.declared.Reply.{Reply}
 use Rattle.hay_reply.specs.declared.Reply.TheVariants as reply
 use Rattle.hay_needle.specs.Sizes.{needle_total}
 use Rattle.hay_legal.specs.declared.known.ReplicaKnown.{ReplicaKnown}
 use Rattle.hay_legal.specs.declared.known.Known.{Known}
 use Rattle.hay_legal.specs.declared.turn.Item.{Item}
-use Rattle.hay_legal.specs.Known.{taker_of, tries_of, lacks_room}
-use Rattle.hay_legal.specs.Plain.{LegalPut, LegalFinish}
+use Rattle.hay_legal.specs.declared.turn.Item.TheVariants as item
+use Rattle.hay_legal.specs.Known.{replica_on, taker_of, tries_of, lacks_room}
 use Rattle.hay_audit_steps.specs.Steps.{plain_row, with_counts}
 use Rattle.hay_audit_steps.specs.Next.{next_plain}
 use Rattle.hay_audit_steps.specs.Slacks.{Slack, fill_replica}
@@ -28,9 +28,10 @@ SizelessLinesStepBoxes =
 -- So it has behind a put that was stored, where one volume takes it whatever the sizes are.
 abbrev pub StoredPutsStepBoxes : Type 0
 StoredPutsStepBoxes =
-    (settings : Settings) (box : Box) (tag : CoreTag) (pair : Pair) (bytes : List ℕ) (v p d : ℕ) (c : Cookie) (taker : Option ℕ)
+    (settings : Settings) (box : Box) (line : ℕ) (pair : Pair) (bytes : List ℕ) (v p d : ℕ) (c : Cookie) (taker : Option ℕ)
     → ((xss : List (List Slack)) → Between box.low xss box.high → taker_of settings (fill xss box.base) pair (length bytes) ≡ taker)
-    → IsBoxStep (λ k t. LegalPut settings k tag pair bytes (reply.Stored v p d c) t) box (map (ranged box) (stored_if settings box.base tag pair bytes v p d c taker))
+    → IsBoxStep (plain_row settings line (item.Command (command.Put pair bytes)) (reply.Stored v p d c)) box
+    (map (ranged box) (stored_if settings box.base (record { lane = 0; line = line }) pair bytes v p d c taker))
 
 -- The taker is the first try that takes: where each try takes whatever the sizes are, or refuses so, the taker is known.
 abbrev pub TakersAreDecided : Type 0
@@ -49,8 +50,8 @@ RoomsAreDecided =
 -- The finish of a compaction gives its replica fresh ranges.
 abbrev pub FinishesStepBoxes : Type 0
 FinishesStepBoxes =
-    (settings : Settings) (box : Box) (v m j v' m' g : ℕ) → IsFilled box v j
-    → IsBoxStep (λ k t. LegalFinish settings k v m j (reply.Compacted v' m' g) t) box (finished_boxes box v m j v' m' g)
+    (settings : Settings) (box : Box) (line v m j v' m' g : ℕ) → replica_on settings v m ≡ Some j → IsFilled box v j
+    → IsBoxStep (plain_row settings line (item.Command (command.Finish v m)) (reply.Compacted v' m' g)) box (finished_boxes box v m j v' m' g)
 
 -- A box is cut at an end, and each part lies on one side.
 abbrev pub EndsCutBoxes : Type 0

@@ -90,19 +90,21 @@ pub record Begins {S : Type 0} (Has : S → Known → Type 0) (settings : Settin
   pub fresh : Has c.state (fresh_unharmed settings)
   pub alone : (k : Known) → Has c.state k → k ≡ fresh_unharmed settings
 
-abbrev pub IsAny : {S : Type 0} → List (Candidate S) → Type 0
-IsAny {S} cs = AnyOf (λ (d : Candidate S). Unit {0}) cs
+-- some candidate stands for a state
+abbrev pub IsAny : {S : Type 0} → (S → Known → Type 0) → List (Candidate S) → Type 0
+IsAny {S} Has cs = AnyOf (λ (d : Candidate S). (k : Known) × Has d.state k) cs
 
--- some candidate has used the whole transcript
-abbrev pub IsUsed : {S : Type 0} → List (Candidate S) → Type 0
-IsUsed {S} cs = AnyOf (λ (d : Candidate S). d.rest ≡ []) cs
+-- and has used the whole transcript
+abbrev pub IsUsed : {S : Type 0} → (S → Known → Type 0) → List (Candidate S) → Type 0
+IsUsed {S} Has cs = AnyOf (λ (d : Candidate S). (d.rest ≡ []) × (k : Known) × Has d.state k) cs
 
 -- Such candidates behind the n items before the first open one tell this judgement.
 abbrev pub Tells : {S : Type 0} → (S → Known → Type 0) → Settings → List Asked → Candidate S → ℕ → Judgement → Type 0
 Tells {S} Has settings items c n (Lawful m) =
-    (m ≡ n) × (n ≡ length items) × (cs : List (Candidate S)) × Reached Has settings items c cs × IsUsed cs
+    (m ≡ n) × (n ≡ length items) × (cs : List (Candidate S)) × Reached Has settings items c cs × IsUsed Has cs
 Tells {S} Has settings items c n (Open m) =
-    (m ≡ n) × (n < length items) × (cs : List (Candidate S)) × Reached Has settings (take n items) c cs × IsAny cs
+    (m ≡ n) × (n < length items) × (cs : List (Candidate S)) × Reached Has settings (take n items) c cs × IsAny Has cs
 Tells {S} Has settings items c n (Unlawful m) =
-    ((m < n) × (cs : List (Candidate S)) × Reached Has settings (take m items) c cs × IsAny cs × Reached Has settings (take (m + 1) items) c [])
-    ⊎ ((m ≡ n) × (n ≡ length items) × (cs : List (Candidate S)) × Reached Has settings items c cs × IsAny cs × (IsUsed cs → ⊥))
+    ((m < n) × (cs : List (Candidate S)) × Reached Has settings (take m items) c cs × IsAny Has cs
+    × (next : List (Candidate S)) × Reached Has settings (take (m + 1) items) c next × (IsAny Has next → ⊥))
+    ⊎ ((m ≡ n) × (n ≡ length items) × (cs : List (Candidate S)) × Reached Has settings items c cs × IsAny Has cs × (IsUsed Has cs → ⊥))

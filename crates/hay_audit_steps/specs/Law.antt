@@ -114,8 +114,7 @@ CandidatesGoOn {S} Has =
 abbrev pub CandidatesJudge : {S : Type 0} → (S → Known → Type 0) → Type 0
 CandidatesJudge {S} Has =
     (settings : Settings) (script transcript : List ℕ) (c : Candidate S) (n : ℕ) (judgement : Judgement)
-    → ((state : S) → (k : Known) × Has state k) → Begins Has settings transcript c
-    → AreBeforeOpen (items_of script) transcript n → Tells Has settings (items_of script) c n judgement
+    → Begins Has settings transcript c → AreBeforeOpen (items_of script) transcript n → Tells Has settings (items_of script) c n judgement
     → JudgementOf settings script transcript judgement
 
 abbrev pub OtherHeadersAreUnlawful : Type 0
