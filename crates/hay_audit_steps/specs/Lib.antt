@@ -1,0 +1,12 @@
+pub mod BoxLaw
+pub mod BoxNext
+pub mod Boxes
+pub mod Judged
+pub mod Laid
+pub mod Law
+pub mod Next
+pub mod Parts
+pub mod Reached
+pub mod Reopen
+pub mod Slacks
+pub mod Steps

@@ -1,0 +1,61 @@
+-- What a restart makes of a replica of which some sizes are not known, also where it is stuck or poised.
+use Rattle.std.specs.Prelude.{◌≡◌, ℕ, ◌+◌, ◌-◌, ◌&&◌, nat_lt, Bool, true, false, List, [], ◌∷◌, length, None, if◌then◌else◌}
+use Rattle.hay_needle.specs.Tables.{live_end}
+use Rattle.hay_core.specs.declared.entry.Entry.{Entry}
+use Rattle.hay_legal.specs.declared.known.ReplicaKnown.{ReplicaKnown}
+use Rattle.hay_legal.specs.declared.known.VolumeKnown.{VolumeKnown}
+use Rattle.hay_legal.specs.Known.{now}
+use Rattle.hay_legal.specs.Restarts.{with_entries, added_cells}
+use Rattle.hay_audit_steps.specs.Slacks.{Slack, fill_replica, Lies, no_slack}
+use Rattle.hay_audit_steps.specs.Reopen.{reopened_replica}
+
+pub record Part : Type 0 where
+  pub base : ReplicaKnown
+  pub low : Slack
+  pub high : Slack
+
+-- the replica is one that the part stands for
+pub record In (part : Part) (replica : ReplicaKnown) : Type 0 where
+  pub slack : Slack
+  pub least : Lies part.low slack
+  pub most : Lies slack part.high
+  pub is : replica ≡ fill_replica slack part.base
+
+abbrev pub as_it_was : VolumeKnown → Part → List Entry → Bool → Part
+as_it_was volume part kept false = record part { base = reopened_replica volume part.base kept }
+as_it_was volume part kept true = record {
+  base = record (reopened_replica volume part.base kept) { bare = 0 };
+  low = record part.low { bare = 0 };
+  high = record part.high { bare = part.base.bare + part.high.bare + added_cells kept };
+}
+
+abbrev pub end_above : VolumeKnown → Part → ℕ
+end_above volume part = part.base.end + part.high.end
+
+abbrev pub cells_above : VolumeKnown → Part → ℕ
+cells_above volume part = part.base.cells + part.high.cells
+
+abbrev pub as_swapped : VolumeKnown → Part → List Entry → Part
+as_swapped volume part kept = record {
+  base = record {
+    base = with_entries (now volume part.base) kept;
+    end = live_end (now volume part.base);
+    cells = length (now volume part.base);
+    bare = 0;
+    generation = part.base.generation + 1;
+    stuck = false;
+    run = None;
+    poised = false;
+  };
+  low = no_slack;
+  high = record { end = end_above volume part - live_end (now volume part.base); cells = cells_above volume part - length (now volume part.base); bare = 0 };
+}
+
+abbrev pub may_swap : VolumeKnown → Part → Bool
+may_swap volume part =
+    part.base.poised && (nat_lt (live_end (now volume part.base)) (end_above volume part + 1) && nat_lt (length (now volume part.base)) (cells_above volume part + 1))
+
+-- what a restart may find of it
+abbrev pub reopened_parts : VolumeKnown → Part → List Entry → List Part
+reopened_parts volume part kept =
+    as_it_was volume part kept part.base.stuck ∷ (if may_swap volume part then as_swapped volume part kept ∷ [] else [])
