@@ -1,5 +1,5 @@
 -- What the crate shows of kept states.
-use Rattle.std.specs.Prelude.{◌≡◌, ◌≢◌, ℕ, List, [], ◌∷◌, ◌++◌, length, map, flat_map}
+use Rattle.std.specs.Prelude.{◌≡◌, ◌≢◌, ℕ, List, [], ◌∷◌, ◌++◌, length, map, flat_map, Bool}
 use Rattle.std.specs.List.{AllByRecursion as Each}
 use Rattle.hay_needle.specs.declared.settings.Settings.{Settings}
 use Rattle.hay_script.specs.declared.Command.TheVariants as command
@@ -16,7 +16,7 @@ use Rattle.hay_legal.specs.declared.turn.Item.{Item}
 use Rattle.hay_legal.specs.declared.turn.Item.TheVariants as item
 use Rattle.hay_legal.specs.Items.{Asked, items_of}
 use Rattle.hay_legal.specs.Items.Asked.{Alone}
-use Rattle.hay_legal.specs.Restarts.{ReopenedReplica}
+use Rattle.hay_legal.specs.Restarts.{ReopenedReplica, ReopenedReplicas}
 use Rattle.hay_audit_steps.specs.Steps.{AnyOf, IsStep, IsStepOf, plain_row}
 use Rattle.hay_audit_steps.specs.Next.{next_plain}
 use Rattle.hay_audit_steps.specs.Reopen.{IsDecided, next_restart, restart_row}
@@ -24,7 +24,7 @@ use Rattle.hay_audit_steps.specs.Slacks.{Lies}
 use Rattle.hay_audit_steps.specs.Reached.{Candidate, Is, IsAdvance, AllAdvance, Reached, candidate, IsNoRestart, note_count}
 use Rattle.hay_audit_steps.specs.Judged.{Judgement, JudgementOf, AreBeforeOpen, Begins, Tells, HasOtherHeader}
 use Rattle.hay_audit_steps.specs.Judged.Judgement.{Unlawful}
-use Rattle.hay_audit_steps.specs.Parts.{Part, In, reopened_parts}
+use Rattle.hay_audit_steps.specs.Parts.{Part, In, InParts, reopened_parts, reopened_choices}
 
 -- all but the finish of a compaction, which leaves ranges of sizes
 abbrev pub IsExact : Item → Reply → Type 0
@@ -55,6 +55,18 @@ abbrev pub PartsAreComplete : Type 0
 PartsAreComplete =
     (volume : VolumeKnown) (part : Part) (kept : List Entry) (old new : ReplicaKnown) → In part old → ReopenedReplica volume old kept new
     → AnyOf (λ next. In next new) (reopened_parts volume part kept)
+
+-- The same of all replicas of a volume.
+abbrev pub ChoicesAreSound : Type 0
+ChoicesAreSound =
+    (volume : VolumeKnown) (kept : List Bool) (j : ℕ) (parts : List Part) → Each (λ part. Lies part.low part.high) parts
+    → Each (λ nexts. (news : List ReplicaKnown) → InParts nexts news → (olds : List ReplicaKnown) × InParts parts olds × ReopenedReplicas volume kept j olds news)
+    (reopened_choices volume kept j parts)
+
+abbrev pub ChoicesAreComplete : Type 0
+ChoicesAreComplete =
+    (volume : VolumeKnown) (kept : List Bool) (j : ℕ) (parts : List Part) (olds news : List ReplicaKnown) → InParts parts olds → ReopenedReplicas volume kept j olds news
+    → AnyOf (λ nexts. InParts nexts news) (reopened_choices volume kept j parts)
 
 -- A state that is known but for its counts stands for itself.
 abbrev pub ExactStatesStep : Type 1
