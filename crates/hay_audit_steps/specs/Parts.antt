@@ -1,6 +1,6 @@
 -- What a restart makes of a replica of which some sizes are not known, also where it is stuck or poised.
 use Rattle.std.specs.Prelude.{◌≡◌, ℕ, ◌+◌, ◌-◌, ◌&&◌, nat_lt, Bool, true, false, List, [], ◌∷◌, length, None, if◌then◌else◌, ◌++◌, map}
-use Rattle.std.specs.List.{AllZip}
+use Rattle.std.specs.List.{AllZip, AllByRecursion as Each}
 use Rattle.hay_needle.specs.Tables.{live_end}
 use Rattle.hay_core.specs.declared.entry.Entry.{Entry}
 use Rattle.hay_legal.specs.declared.known.ReplicaKnown.{ReplicaKnown}
@@ -77,3 +77,13 @@ abbrev pub reopened_choices : VolumeKnown → List Bool → ℕ → List Part �
 reopened_choices volume kept j [] = [] ∷ []
 reopened_choices volume kept j (part ∷ parts) =
     choices_with (reopened_parts volume part (kept_entry volume.pending (is_kept kept j))) (reopened_choices volume kept (j + 1) parts)
+
+-- a volume that stands as another one, with replicas such as the parts stand for
+pub record InVolumeParts (base : VolumeKnown) (parts : List Part) (volume : VolumeKnown) : Type 0 where
+  pub same : volume ≡ record base { replicas = volume.replicas }
+  pub replicas : InParts parts volume.replicas
+
+-- the parts lie above the volume's replicas, and each stands for one replica at least
+pub record ArePartsOf (volume : VolumeKnown) (parts : List Part) : Type 0 where
+  pub bases : map (λ part. part.base) parts ≡ volume.replicas
+  pub some : Each (λ part. Lies part.low part.high) parts
