@@ -1,4 +1,5 @@
 pub mod Advancing
+pub mod Choices
 pub mod Counts
 pub mod Cuts
 pub mod Dels

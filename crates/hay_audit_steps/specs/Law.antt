@@ -1,5 +1,5 @@
 -- What the crate shows of kept states.
-use Rattle.std.specs.Prelude.{◌≡◌, ◌≢◌, ℕ, List, [], ◌∷◌, ◌++◌, length, map, flat_map}
+use Rattle.std.specs.Prelude.{◌≡◌, ◌≢◌, ℕ, List, [], ◌∷◌, ◌++◌, length, map, flat_map, Bool}
 use Rattle.std.specs.List.{AllByRecursion as Each}
 use Rattle.hay_needle.specs.declared.settings.Settings.{Settings}
 use Rattle.hay_script.specs.declared.Command.TheVariants as command
@@ -16,7 +16,8 @@ use Rattle.hay_legal.specs.declared.turn.Item.{Item}
 use Rattle.hay_legal.specs.declared.turn.Item.TheVariants as item
 use Rattle.hay_legal.specs.Items.{Asked, items_of}
 use Rattle.hay_legal.specs.Items.Asked.{Alone}
-use Rattle.hay_legal.specs.Restarts.{ReopenedReplica}
+use Rattle.hay_legal.specs.Known.{empty_volume}
+use Rattle.hay_legal.specs.Restarts.{MayKeep, ReopenedReplica, ReopenedVolume}
 use Rattle.hay_audit_steps.specs.Steps.{AnyOf, IsStep, IsStepOf, plain_row}
 use Rattle.hay_audit_steps.specs.Next.{next_plain}
 use Rattle.hay_audit_steps.specs.Reopen.{IsDecided, next_restart, restart_row}
@@ -24,7 +25,7 @@ use Rattle.hay_audit_steps.specs.Slacks.{Lies}
 use Rattle.hay_audit_steps.specs.Reached.{Candidate, Is, IsAdvance, AllAdvance, Reached, candidate, IsNoRestart, note_count}
 use Rattle.hay_audit_steps.specs.Judged.{Judgement, JudgementOf, AreBeforeOpen, Begins, Tells, HasOtherHeader}
 use Rattle.hay_audit_steps.specs.Judged.Judgement.{Unlawful}
-use Rattle.hay_audit_steps.specs.Parts.{Part, In, reopened_parts}
+use Rattle.hay_audit_steps.specs.Parts.{Part, In, InVolumeParts, ArePartsOf, reopened_parts, reopened_choices}
 
 -- all but the finish of a compaction, which leaves ranges of sizes
 abbrev pub IsExact : Item → Reply → Type 0
@@ -55,6 +56,19 @@ abbrev pub PartsAreComplete : Type 0
 PartsAreComplete =
     (volume : VolumeKnown) (part : Part) (kept : List Entry) (old new : ReplicaKnown) → In part old → ReopenedReplica volume old kept new
     → AnyOf (λ next. In next new) (reopened_parts volume part kept)
+
+-- The same of a volume with all its replicas, where these keep so much of its pending change.
+abbrev pub VolumesReopenSound : Type 0
+VolumesReopenSound =
+    (settings : Settings) (v : ℕ) (volume : VolumeKnown) (parts : List Part) (kept : List Bool) → ArePartsOf volume parts → MayKeep settings v volume volume.pending kept
+    → Each (λ nexts. (new : VolumeKnown) → InVolumeParts empty_volume nexts new → (old : VolumeKnown) × InVolumeParts volume parts old × ReopenedVolume settings v old kept new)
+    (reopened_choices volume kept 0 parts)
+
+abbrev pub VolumesReopenComplete : Type 0
+VolumesReopenComplete =
+    (settings : Settings) (v : ℕ) (volume : VolumeKnown) (parts : List Part) (kept : List Bool) (old new : VolumeKnown) → ArePartsOf volume parts
+    → InVolumeParts volume parts old → ReopenedVolume settings v old kept new
+    → MayKeep settings v volume volume.pending kept × AnyOf (λ nexts. InVolumeParts empty_volume nexts new) (reopened_choices volume kept 0 parts)
 
 -- A state that is known but for its counts stands for itself.
 abbrev pub ExactStatesStep : Type 1
