@@ -169,6 +169,7 @@ impl<P: Piece> MapView<P> {
         ensures err { OnErr result (KeepsRows self.old self.new) }
         ensures memory { AllKnown self.old cells.now → IsOk result }
     {
+        self.expect(cells.len());
         self.add_all(cells)?;
         self.set_all(replica as usize, cells);
         Ok(())
@@ -230,6 +231,17 @@ impl<P: Piece> MapView<P> {
         push_none(&mut self.places, self.replicas);
         self.offsets.insert((pair.key, pair.alt), at)?;
         Ok(())
+    }
+
+    // Makes room for so many rows at once where there are none yet, if there is memory for that.
+    fn expect(&mut self, rows: usize)
+        ensures { KeepsRows self.old self.new }
+    {
+        if !self.places.is_empty() {
+            return;
+        }
+        let _ = self.offsets.reserve(rows);
+        let _ = self.places.reserve(rows.saturating_mul(self.replicas));
     }
 
     fn add_all(&mut self, cells: &[OpenCell<P>]) -> Result<(), NoMemory>
