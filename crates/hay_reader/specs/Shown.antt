@@ -10,7 +10,7 @@ use Rattle.hay_needle.specs.declared.total.TheConstants.{MAX_PHOTO}
 use Rattle.hay_map.specs.Places.{PlaceMeans, place_in}
 use Rattle.hay_map.specs.declared.place.Place.{Place}
 use Rattle.hay_map.specs.declared.place.Place.TheVariants as place
-use Rattle.hay_reader.specs.Tried.{PlaceGives}
+use Rattle.hay_reader.specs.Tried.{PlaceGives, ShowsSeen}
 use Rattle.hay_reader.specs.Causes.{ArmUse, Passes, PassesRow, PassedBefore, IsArm, IsDamage, passed_now}
 use Rattle.hay_reader.specs.declared.causes.PassedReplica.{PassedReplica}
 use Rattle.hay_reader.specs.declared.trial.Shown.{Shown}
@@ -32,6 +32,10 @@ ShowsAt j (reply.Gone i) = i ≡ j
 ShowsAt j (reply.WrongCookie i) = i ≡ j
 ShowsAt j (reply.Unseen i causes) = ⊥
 ShowsAt j (reply.Unreadable causes) = ⊥
+
+-- This replica showed the reply, by the bytes that were read when its place was seen; `put` are those that were put out.
+abbrev pub ShowsRead : {P : Type 0} → Cookie → List ℕ → List ℕ → List PassedReplica → ℕ → Place P → ReadReply → Type 0
+ShowsRead cookie put bytes passed j at read = (what : Shown) × ShowsSeen cookie put bytes at what × (read ≡ reply_at j passed what)
 
 -- The replicas that come before this one were passed over, and its place gives what is shown.
 pub record ShowsPlace {P : Type 0} (Tells : Type 0) (arm : ArmUse) (start : ℕ) (row : List (Place P)) (cookie : Cookie) (passed causes : List PassedReplica) (put : List ℕ) (j : ℕ) (what : Shown) : Type 0 where

@@ -43,6 +43,13 @@ ShowsPhoto cookie put bytes shown.WrongCookie = (photo : Photo) × (photo.cookie
 ShowsPhoto cookie put bytes shown.Gone = ⊥
 ShowsPhoto cookie put bytes shown.Unseen = ⊥
 
+-- What is shown of a place that was looked at, by the bytes that were read then, whatever a piece tells.
+abbrev pub ShowsSeen : {P : Type 0} → Cookie → List ℕ → List ℕ → Place P → Shown → Type 0
+ShowsSeen cookie put bytes (place.Live needle) what = ShowsPhoto cookie put bytes what
+ShowsSeen cookie put bytes place.None what = what ≡ shown.Gone
+ShowsSeen cookie put bytes place.Gone what = what ≡ shown.Gone
+ShowsSeen cookie put bytes (place.Unseen at size) what = ⊥
+
 -- what reading bytes gives
 abbrev pub ReadsBytes : Cookie → List ℕ → List ℕ → Result Shown Cause → Type 0
 ReadsBytes cookie put bytes (Ok what) = ShowsPhoto cookie put bytes what

@@ -5,7 +5,7 @@ ghost use Rattle.hay_disk.specs.Counts.{StaysSure};
 ghost use Rattle.hay_map.specs.Places.{place_in};
 ghost use Rattle.hay_reader.specs.Tried.{CanShow, HasItsPhoto, PlaceGives, FailsBy, PutsOut};
 ghost use Rattle.hay_reader.specs.Causes.{ArmUse, ComeFirst};
-ghost use Rattle.hay_reader.specs.Shown.{reply_at, ReadsRow, ShowsAt, NoArm, HasBytes};
+ghost use Rattle.hay_reader.specs.Shown.{reply_at, ReadsRow, ShowsAt, ShowsRead, NoArm, HasBytes};
 
 use crate::trial::{Shown, show_place, try_place};
 use crate::{Causes, PassedReplica};
@@ -184,7 +184,10 @@ pub fn show_seen<P: Piece>(
     requires empty { out.old.items ≡ [] }
     requires room { MAX_PHOTO ≤ vec_capacity out.old }
 
-    // Where the bytes have the photo of the place, what is shown is what stands there. No replica is passed over in this call.
+    // The bytes are shown, whatever a piece tells. Where they have the photo of the place, that is what stands there. No replica is
+    // passed over in this call.
+    ensures shows { ShowsRead cookie out.new.items needle.now passed ((start + length passed) % length row.now)
+        (place_in row.now ((start + length passed) % length row.now)) result }
     ensures reads { (arm : ArmUse) → HasItsPhoto needle.now (place_in row.now ((start + length passed) % length row.now)) →
         ReadsRow P.Tells arm start row.now cookie passed out.new.items result }
     ensures next { ShowsAt ((start + length passed) % length row.now) result }

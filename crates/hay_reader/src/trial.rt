@@ -2,7 +2,7 @@
 ghost use Rattle.std.specs.Prelude.{◌≡◌, ◌≤◌, ◌<◌, ◌+◌, ◌^◌, ◌⊎◌, ◌++◌, [], Bool, true, length, vec_len, max, Ok, IfErr};
 ghost use Rattle.std.specs.Vec.{vec_capacity};
 ghost use Rattle.hay_disk.specs.Counts.{IsCounted, StaysSure};
-ghost use Rattle.hay_reader.specs.Tried.{CanShow, HasItsPhoto, IsOfSeen, NeedleGives, PlaceGives, ReadsBytes, FailsBy, IsDamageAt, PutsOut};
+ghost use Rattle.hay_reader.specs.Tried.{CanShow, HasItsPhoto, IsOfSeen, NeedleGives, PlaceGives, ReadsBytes, ShowsSeen, FailsBy, IsDamageAt, PutsOut};
 
 use hay_disk::{Arm, Failed, Piece};
 use hay_map::{Place, Sealed};
@@ -57,6 +57,7 @@ pub fn show_place<P: Piece>(
     requires empty { out.old.items ≡ [] }
     requires room { MAX_PHOTO ≤ vec_capacity out.old }
     ensures gives { (sure : Bool) → HasItsPhoto needle.now place.now → PlaceGives P.Tells sure cookie out.new.items place.now (Ok result) }
+    ensures shows { ShowsSeen cookie out.new.items needle.now place.now result }
     ensures seen { IsOfSeen result }
     ensures bytes { PutsOut out.new.items (Ok result) }
     ensures room { vec_capacity out.old ≤ vec_capacity out.new }

@@ -1,5 +1,5 @@
-use Rattle.std.proofs.Common.{subst}
-use Rattle.hay_reader.specs.Tried.{CanShow, HasPhoto}
+use Rattle.std.proofs.Common.{subst, sym}
+use Rattle.hay_reader.specs.Tried.{CanShow, HasPhoto, ShowsSeen}
 use Rattle.hay_reader.proofs.Seen.{place_shown}
 use Rattle.hay_reader.proofs.trial.show_place.Goals as goal
 
@@ -11,3 +11,6 @@ unreachable-requires g c =
 
 pub returns-in-Ok-clause-gives : goal.returns-in-Ok-clause-gives
 returns-in-Ok-clause-gives g c = λ sure its. place_shown _ sure c.args.cookie _ c.args.needle.now c.args.place.now c.in-Live.sealed c.in-Ok.shown c.in-Live.is its c.in-Ok.ensures.reads
+
+pub returns-in-Ok-clause-shows : goal.returns-in-Ok-clause-shows
+returns-in-Ok-clause-shows g c = subst (λ p. ShowsSeen c.args.cookie c.read_photo.new.out.items c.args.needle.now p c.in-Ok.shown) (sym c.in-Live.is) c.in-Ok.ensures.reads
