@@ -44,7 +44,7 @@ use Rattle.hay_legal.proofs.Steps.{none_falls}
 
 -- COUNTS OVER TURNS
 
-falls_trans : (xs ys zs : List ℕ) → NoneFalls xs ys → NoneFalls ys zs → NoneFalls xs zs
+pub falls_trans : (xs ys zs : List ℕ) → NoneFalls xs ys → NoneFalls ys zs → NoneFalls xs zs
 falls_trans [] [] [] h g = tt
 falls_trans (x ∷ xs) (y ∷ ys) (z ∷ zs) h g = (omega (arith, h.0, g.0), falls_trans xs ys zs h.1 g.1)
 falls_trans [] (y ∷ ys) zs h g = absurd h
@@ -61,7 +61,7 @@ falls_both (x ∷ xs) (y ∷ ys) h g =
 falls_both [] (y ∷ ys) h g = absurd h
 falls_both (x ∷ xs) [] h g = absurd h
 
-abbrev Rise : Known → Known → Type 0
+abbrev pub Rise : Known → Known → Type 0
 Rise k t = NoneFalls k.faults t.faults × NoneFalls k.arms t.arms
 
 restart_counts : (settings : Settings) (k : Known) (r : Reply) (notes : List Note) (t : Known) → LegalRestart settings k r notes t → Rise k t
@@ -69,7 +69,7 @@ restart_counts settings k (reply.Restarted d) notes t h = ((h.opened).faults, sa
 restart_counts settings k reply.NoMem notes t h = ((h.leaves).faults, same_falls k.arms t.arms (h.leaves).arms)
 restart_counts settings k _ notes t h = absurd h
 
-turn_counts : (settings : Settings) (k : Known) (turn : Turn) → LegalTurn settings k turn → Rise k (known_after turn)
+pub turn_counts : (settings : Settings) (k : Known) (turn : Turn) → LegalTurn settings k turn → Rise k (known_after turn)
 turn_counts settings k (Plain line i r after) h =
     elim (plain_effect settings k line i r after h) [
       | inl calm ↦ ((calm.leaves).faults, (calm.leaves).arms)
@@ -82,17 +82,17 @@ turn_counts settings k (Lanes items logs rows after) h =
     ]
 turn_counts settings k (Restart line pick r notes after) h = restart_counts settings k r notes after h
 
-rise_trans : (a b c : Known) → Rise a b → Rise b c → Rise a c
+pub rise_trans : (a b c : Known) → Rise a b → Rise b c → Rise a c
 rise_trans a b c h g = (falls_trans a.faults b.faults c.faults h.0 g.0, falls_trans a.arms b.arms c.arms h.1 g.1)
 
 -- the counts never fall over turns
-counts_rise : (settings : Settings) (k t : Known) (turns : List Turn) → Legal settings k turns t → Rise k t
+pub counts_rise : (settings : Settings) (k t : Known) (turns : List Turn) → Legal settings k turns t → Rise k t
 counts_rise settings k t [] h = subst (λ (x : Known). Rise k x) (sym h) (none_falls k.faults, none_falls k.arms)
 counts_rise settings k t (turn ∷ turns) h =
     rise_trans k (known_after turn) t (turn_counts settings k turn h.0) (counts_rise settings (known_after turn) t turns h.1)
 
 -- what rose nowhere over the turns rose nowhere in one
-nothing_failed_within : (k b after t : Known) → Rise k b → Rise b after → Rise after t → NothingFailed k t → NothingFailed b after
+pub nothing_failed_within : (k b after t : Known) → Rise k b → Rise b after → Rise after t → NothingFailed k t → NothingFailed b after
 nothing_failed_within k b after t first here last calm =
     let end : Rise after k = (subst (λ (xs : List ℕ). NoneFalls after.faults xs) calm.faults last.0, subst (λ (xs : List ℕ). NoneFalls after.arms xs) calm.arms last.1) in
     let same_faults : b.faults ≡ k.faults = falls_both k.faults b.faults first.0 (falls_trans b.faults after.faults k.faults here.0 end.0) in
@@ -117,7 +117,7 @@ calm_turn settings k t earlier later turn legal calm =
 
 -- NO COUNT ROSE
 
-count_below : (xs : List ℕ) (i : ℕ) → Each (λ count. count < 2 ^ 64 - 1) xs → slice_index xs i < 2 ^ 64 - 1
+pub count_below : (xs : List ℕ) (i : ℕ) → Each (λ count. count < 2 ^ 64 - 1) xs → slice_index xs i < 2 ^ 64 - 1
 count_below [] i h = lit< tt
 count_below (x ∷ xs) zero h = h.0
 count_below (x ∷ xs) (suc i) h = count_below xs i h.1
@@ -165,7 +165,7 @@ unreadable_blames settings k tag start pair v p d causes t some calm h =
     no_causes settings k t tag v (order_from settings start) causes calm more h.each
 
 -- a reply to a command on a replica
-on_replica_never : (k : Known) (o : Option ℕ) (legal : ℕ → Reply → Known → Type 0) (r : Reply) (t : Known) → r ≢ reply.Nowhere → r ≢ reply.NoMem
+pub on_replica_never : (k : Known) (o : Option ℕ) (legal : ℕ → Reply → Known → Type 0) (r : Reply) (t : Known) → r ≢ reply.Nowhere → r ≢ reply.NoMem
     → ((j : ℕ) → legal j r t → ⊥) → OnReplica k o legal r t → ⊥
 on_replica_never k (Some j) legal r t n m never h = never j h
 on_replica_never k None legal reply.Nowhere t n m never h = n refl

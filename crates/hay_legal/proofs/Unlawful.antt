@@ -102,6 +102,15 @@ module _ (replica : Settings → ℕ → ℕ → Contents → Found → Type 0) 
   acknowledged_is_held (inr (inr (inl first))) = let clash = first.none in absurd cc
   acknowledged_is_held (inr (inr (inr again))) = inr again
 
+module _ (replica : Settings → ℕ → ℕ → Contents → Found → Type 0) (rows : Settings → Contents → List HomeRow → Type 0) (void : Contents → Type 0) (settings : Settings) (k : Known) (script read : List ℕ) (byte : ℕ) (taken : Outside) (turns : List Turn) (t : Known) (written : List ℕ) (given : Outside) where
+  -- So they do as soon as a byte of the script was read, turns or none.
+  pub read_behind_an_opening : Interrupted replica rows void settings k script (byte ∷ read) taken turns t written given
+      → StandsOn (replica settings) (rows settings) settings t given ⊎ RestartRefused replica rows void settings k script (byte ∷ read) taken turns t written given IsFront
+  read_behind_an_opening (inl stood) = inl stood.stands
+  read_behind_an_opening (inr (inl never)) = let clash = never.unread in absurd cc
+  read_behind_an_opening (inr (inr (inl first))) = let clash = first.unread in absurd cc
+  read_behind_an_opening (inr (inr (inr again))) = inr again
+
 -- A VOID DISK AT A FIRST OPENING THAT WAS REFUSED
 
 -- a void disk that was formatted in part has no photo that an opening would find, by whatever settings

@@ -162,9 +162,10 @@ module _ (replica : Settings → ℕ → ℕ → Contents → Found → Type 0) 
     pub wrote : written ≡ transcript_text settings turns
     pub stands : StandsOn (replica settings) (rows settings) settings t given
 
-  -- The first opening was refused, as is told.
+  -- The first opening was refused, as is told, and nothing of the script was read.
   pub record FirstRefused (Much : List ℕ → List ℕ → Type 0) : Type 0 where
     pub none : turns ≡ []
+    pub unread : read ≡ []
     pub note : Note
     pub tells : TellsFirst settings k taken given note
     pub wrote : WroteBehind Much settings [] (note_line note) written
@@ -179,9 +180,10 @@ module _ (replica : Settings → ℕ → ℕ → Contents → Found → Type 0) 
     pub wrote : WroteBehind Much settings turns (note_line note) written
     pub left : IsNotReopened (replica settings) (rows settings) settings t given
 
-  -- The first opening was not begun, or wanted memory.
+  -- The first opening was not begun, or wanted memory, and nothing of the script was read.
   pub record NeverOpened : Type 0 where
     pub none : turns ≡ []
+    pub unread : read ≡ []
     pub wrote : IsFront written (transcript_text settings [])
     pub left : IsUnopened replica rows void settings k taken given
 

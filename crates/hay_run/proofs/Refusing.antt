@@ -137,6 +137,7 @@ module _ (settings : Settings) (shelf shelf' : ℕ) (disks disks' : ℕ → Held
       last = no_last;
       ends = inr (inr (inl (record {
         none = refl;
+        unread = refl;
         note = note;
         tells = tells;
         wrote = (
@@ -161,7 +162,7 @@ module _ (settings : Settings) (shelf shelf' : ℕ) (disks disks' : ℕ → Held
       t = k;
       legal = refl;
       last = no_last;
-      ends = inr (inl (record { none = refl; wrote = ([], refl); left = unopened }));
+      ends = inr (inl (record { none = refl; unread = refl; wrote = ([], refl); left = unopened }));
     }
 
     note_whole : (note : Note) → statuses.TellsFirst settings k (outside_of shelf disks arms) (outside_of shelf' disks' arms') note → Wrote (Some (held ++ header_line settings)) (note_line note) written'
@@ -179,7 +180,7 @@ module _ (settings : Settings) (shelf shelf' : ℕ) (disks disks' : ℕ → Held
         t = k;
         legal = refl;
         wanting = wants_none NotOpened [] tt;
-        ends = inl (record { none = refl; note = note; tells = tells; wrote = (note_line note, refl, refl); left = unopened });
+        ends = inl (record { none = refl; unread = refl; note = note; tells = tells; wrote = (note_line note, refl, refl); left = unopened });
       };
     }
 
@@ -237,6 +238,7 @@ ran_header settings taken k is script held written' wrote = record {
   last = no_last;
   ends = inr (inl (record {
     none = refl;
+    unread = refl;
     wrote = (
       (front_take wrote.0 (header_line settings)).0,
       append-nil (header_line settings) ∙ (front_take wrote.0 (header_line settings)).1,
@@ -369,7 +371,7 @@ ran_nothing settings taken k is_taken script held written same ending is =
       t = k;
       legal = refl;
       last = no_last;
-      ends = inr (inl (record { none = refl; wrote = (header_line settings ++ [], refl); left = untouched settings taken k is_taken }));
+      ends = inr (inl (record { none = refl; unread = refl; wrote = (header_line settings ++ [], refl); left = untouched settings taken k is_taken }));
     }))
 
 pub store_by : (why : Stop) → status_of (ending_of why) ≡ 6 → why ≡ stop.Store
