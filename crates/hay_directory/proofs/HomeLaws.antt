@@ -52,20 +52,6 @@ homes_settled rows row old new homes homeless set = record {
   are = λ other. set.at other ∙ ap (λ (home : Option ℕ). cond (pair_eq row.pair other) (Some row.volume) home) (homes.are other) ∙ sym (home_in-settled rows row other homeless);
 }
 
--- and taken away again
-pub homes_undone : (rows : List HomeRow) (pair : Pair) (volume : ℕ) (old mid new : List ((ℕ × ℕ) × ℕ)) → AreHomes old rows → home_in rows pair ≡ None → SetsHome pair (Some volume) old mid → SetsHome pair None mid new → AreHomes new rows
-homes_undone rows pair volume old mid new homes homeless set undone = record {
-  are = λ other. undone.at other ∙ ap (λ (home : Option ℕ). cond (pair_eq pair other) None home) (set.at other) ∙ back other (pair_eq pair other) refl ∙ homes.are other;
-}
-  where
-    back : (other : Pair) (b : Bool) → pair_eq pair other ≡ b → cond (pair_eq pair other) None (cond (pair_eq pair other) (Some volume) (home_among old other)) ≡ home_among old other
-    back other true e =
-        cond-true (pair_eq pair other) None (cond (pair_eq pair other) (Some volume) (home_among old other)) e
-        ∙ sym (homes.are other ∙ ap (λ (p : Pair). home_in rows p) (sym (pair_same pair other e)) ∙ homeless)
-    back other false e =
-        cond-false (pair_eq pair other) None (cond (pair_eq pair other) (Some volume) (home_among old other)) e
-        ∙ cond-false (pair_eq pair other) (Some volume) (home_among old other) e
-
 -- THE NOTE
 
 kept_home : (rows : List HomeRow) (pending : PendingRow) (kept : Bool) → home_in rows (pending.row).pair ≡ None → is_some (home_in (rows ++ kept_row (Some pending) kept) (pending.row).pair) ≡ kept

@@ -110,10 +110,10 @@ row_left settings old new end rows row was below leaves homeless = record {
 }
 
 -- the rows are fewer than numbers of 64 bits
-pub next_count : (settings : Settings) (file : FileState) (end count more : ℕ) (rows : List HomeRow) (row : HomeRow) → IsSettled settings file end rows → length file.now < 2 ^ 64 → count ≡ length rows → more ≡ min (count + 1) 18446744073709551615
+pub next_count : (settings : Settings) (file : FileState) (end count more : ℕ) (rows : List HomeRow) (row : HomeRow) → IsSettled settings file end (rows ++ row ∷ []) → length file.now < 2 ^ 64 → count ≡ length rows → more ≡ min (count + 1) 18446744073709551615
     → more ≡ length (rows ++ row ∷ [])
-next_count settings file end count more rows row was fits counts is =
-    omega (arith, was.gate.closed.room, was.ends, length-map rows dir_row, length-append rows (row ∷ []))
+next_count settings file end count more rows row is fits counts next =
+    omega (arith, is.gate.closed.room, is.ends, length-map (rows ++ row ∷ []) dir_row, length-append rows (row ∷ []))
 
 -- WHAT AN OPENING FINDS
 

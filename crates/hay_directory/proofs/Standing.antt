@@ -19,11 +19,11 @@ use Rattle.hay_needle.specs.declared.settings.Settings.{Settings}
 use Rattle.hay_directory.specs.declared.mode.Mode.{Mode}
 use Rattle.hay_directory.specs.declared.mode.Mode.TheVariants.{Closed, Open, Frozen}
 use Rattle.hay_directory.specs.declared.mode.Unsure.{Unsure}
-use Rattle.hay_directory.specs.Homes.{SetsHome}
+use Rattle.hay_directory.specs.Homes.{KeepsHomes, SetsHome}
 use Rattle.hay_directory.specs.Notes.{notes_by}
 use Rattle.hay_directory.specs.Rows.{dir_row, HasJournal, OpensRows}
-use Rattle.hay_directory.specs.State.{State, StandsFor, StoppedFor, HoldsFor, Stands, Stopped, Holds, HoldsRows, IsSettled, IsUnsure, IsDue, FindsRows, mode_of, unsure_of, unsure_row, home_of, is_frozen}
-use Rattle.hay_directory.proofs.HomeLaws.{AreHomes, homes_settled, homes_undone, notes_are}
+use Rattle.hay_directory.specs.State.{State, StandsFor, StoppedFor, HoldsFor, WrittenFor, Stands, Stopped, Holds, HoldsRows, IsSettled, IsUnsure, IsDue, FindsRows, mode_of, unsure_of, unsure_row, home_of, is_closed, is_frozen}
+use Rattle.hay_directory.proofs.HomeLaws.{AreHomes, homes_settled, notes_are}
 use Rattle.hay_directory.proofs.RowLaws.{Adds, Leaves, journal_left, not_void, opens_journal, row_added, row_left, next_count}
 
 -- WHAT CANNOT BE: that a directory is both up and closed
@@ -39,6 +39,12 @@ not_up files d up = absurd (true≢false up)
 not_pending : (mode : Mode) (pending : Option PendingRow) → mode ≡ mode_of pending → mode ≡ Open → pending ≡ None
 not_pending mode None is serves = refl
 not_pending mode (Some pending) is serves = absurd cc
+
+-- what is up and not frozen is open
+pub serving : (mode : Mode) → is_closed mode ≡ false → is_frozen mode ≡ false → mode ≡ Open
+serving (Closed unsure) up thawed = absurd (true≢false up)
+serving Open up thawed = refl
+serving (Frozen unsure) up thawed = absurd (true≢false thawed)
 
 pub record StandsOpen {D : Type 0} (files : D → Files) (d : State D) (known : DirKnown) : Type 0 where
   pub none : known.pending ≡ None
@@ -72,56 +78,76 @@ with_row known row = record known { rows = known.rows ++ row ∷ [] }
 abbrev pub with_pending : DirKnown → CoreTag → HomeRow → DirKnown
 with_pending known tag row = record known { frozen = true; pending = Some (record { tag = tag; row = row }) }
 
-pub stands_added : {D : Type 0} (files : D → Files) (d d' : State D) (known : DirKnown) (drained : List Bool) (row : HomeRow) → StandsFor files d known drained → d.mode ≡ Open → d'.mode ≡ Open → d'.settings ≡ d.settings → d'.drained ≡ d.drained
-    → row.volume < d.settings.volumes → home_of d row.pair ≡ None → SetsHome row.pair (Some row.volume) d.homes d'.homes
+-- a row that the disk has
+pub row_written : {D : Type 0} (files : D → Files) (d d' : State D) (known : DirKnown) (drained : List Bool) (row : HomeRow) → StandsFor files d known drained → d.mode ≡ Open → d'.settings ≡ d.settings → d'.drained ≡ d.drained
+    → row.volume < d.settings.volumes → home_of d row.pair ≡ None → KeepsHomes d.homes d'.homes
     → Adds (dir_row row) d.journal.end (files d.disk 0).now (files d'.disk 0).now → IsSolid (files d'.disk 0) → IsGate journal_magic d'.journal.end (files d'.disk 0) → d'.journal.end ≡ d.journal.end + 24
-    → length (files d.disk 0).now < 2 ^ 64 → d'.count ≡ min (d.count + 1) 18446744073709551615 → StandsFor files d' (with_row known row) drained
-stands_added files d d' known drained row s serves serves' settings drains below homeless set adds solid gate ends fits counts =
+    → d'.count ≡ d.count → WrittenFor files d' known drained row
+row_written files d d' known drained row s serves settings drains below homeless kept adds solid gate ends counts =
     let o = stands_open files d known drained s serves in
-    let settled = subst (λ k. IsSettled k (files d'.disk 0) d'.journal.end (known.rows ++ row ∷ [])) (sym settings) (row_added d.settings (files d.disk 0) (files d'.disk 0) d.journal.end d'.journal.end known.rows row o.settled below adds solid gate ends) in
-    let free : home_in known.rows row.pair ≡ None = sym (s.homes row.pair) ∙ homeless in
     record {
-      mode = serves' ∙ sym serves ∙ s.mode;
-      frozen = s.frozen;
-      holds = subst (λ p. HoldsRows d'.settings (files d'.disk 0) d'.journal.end (known.rows ++ row ∷ []) p) (sym o.none) settled;
-      homes = (homes_settled known.rows row d.homes d'.homes o.homes free set).are;
-      count = next_count d.settings (files d.disk 0) d.journal.end d.count d'.count known.rows row o.settled fits s.count counts;
+      serves = o.none;
+      frozen = s.frozen ∙ ap is_some o.none;
+      holds = subst (λ k. IsSettled k (files d'.disk 0) d'.journal.end (known.rows ++ row ∷ [])) (sym settings) (row_added d.settings (files d.disk 0) (files d'.disk 0) d.journal.end d'.journal.end known.rows row o.settled below adds solid gate ends);
+      homeless = sym (s.homes row.pair) ∙ homeless;
+      homes = λ pair. kept.at pair ∙ s.homes pair;
+      count = counts ∙ s.count;
       drained_is = s.drained_is ∙ sym drains;
     }
 
+-- and that is shown
+pub stands_shown : {D : Type 0} (files : D → Files) (d d' : State D) (known : DirKnown) (drained : List Bool) (row : HomeRow) → WrittenFor files d known drained row → d'.mode ≡ Open → d'.settings ≡ d.settings → d'.drained ≡ d.drained
+    → SetsHome row.pair (Some row.volume) d.homes d'.homes → d'.disk ≡ d.disk → d'.journal ≡ d.journal
+    → length (files d.disk 0).now < 2 ^ 64 → d'.count ≡ min (d.count + 1) 18446744073709551615 → StandsFor files d' (with_row known row) drained
+stands_shown files d d' known drained row w serves settings drains set disk journal fits counts =
+    let rows = known.rows ++ row ∷ [] in
+    let here = subst (λ x. IsSettled d.settings (files x 0) d.journal.end rows) (sym disk) w.holds in
+    let there = subst (λ j. IsSettled d.settings (files d'.disk 0) j.end rows) (sym journal) here in
+    let settled = subst (λ k. IsSettled k (files d'.disk 0) d'.journal.end rows) (sym settings) there in
+    record {
+      mode = serves ∙ ap mode_of (sym w.serves);
+      frozen = w.frozen ∙ ap is_some (sym w.serves);
+      holds = subst (λ p. HoldsRows d'.settings (files d'.disk 0) d'.journal.end rows p) (sym w.serves) settled;
+      homes = (homes_settled known.rows row d.homes d'.homes (record { are = w.homes }) w.homeless set).are;
+      count = next_count d.settings (files d.disk 0) d.journal.end d.count d'.count known.rows row w.holds fits w.count counts;
+      drained_is = w.drained_is ∙ sym drains;
+    }
+
 -- want of memory
-pub stands_undone : {D : Type 0} (files : D → Files) (d d' : State D) (known : DirKnown) (drained : List Bool) (row : HomeRow) (mid : List ((ℕ × ℕ) × ℕ)) → StandsFor files d known drained → d.mode ≡ Open → d'.mode ≡ d.mode → d'.settings ≡ d.settings → d'.drained ≡ d.drained
-    → home_of d row.pair ≡ None → SetsHome row.pair (Some row.volume) d.homes mid → SetsHome row.pair None mid d'.homes → files d'.disk ≡ files d.disk → d'.journal ≡ d.journal → d'.count ≡ d.count → StandsFor files d' known drained
-stands_undone files d d' known drained row mid s serves modes settings drains homeless set undone same ends counts =
-    let o = stands_open files d known drained s serves in
-    let free : home_in known.rows row.pair ≡ None = sym (s.homes row.pair) ∙ homeless in
+pub stands_kept : {D : Type 0} (files : D → Files) (d d' : State D) (known : DirKnown) (drained : List Bool) → StandsFor files d known drained → d'.mode ≡ d.mode → d'.settings ≡ d.settings → d'.drained ≡ d.drained
+    → KeepsHomes d.homes d'.homes → files d'.disk ≡ files d.disk → d'.journal ≡ d.journal → d'.count ≡ d.count → StandsFor files d' known drained
+stands_kept files d d' known drained s modes settings drains kept same ends counts =
     let here = subst (λ f. HoldsRows d.settings (f 0) d.journal.end known.rows known.pending) (sym same) s.holds in
     let there = subst (λ j. HoldsRows d.settings (files d'.disk 0) j.end known.rows known.pending) (sym ends) here in
     record {
       mode = modes ∙ s.mode;
       frozen = s.frozen;
       holds = subst (λ k. HoldsRows k (files d'.disk 0) d'.journal.end known.rows known.pending) (sym settings) there;
-      homes = (homes_undone known.rows row.pair row.volume d.homes mid d'.homes o.homes free set undone).are;
+      homes = λ pair. kept.at pair ∙ s.homes pair;
       count = counts ∙ s.count;
       drained_is = s.drained_is ∙ sym drains;
     }
 
--- a failure
-pub stands_failed : {D : Type 0} (files : D → Files) (d d' : State D) (known : DirKnown) (drained : List Bool) (tag : CoreTag) (row : HomeRow) (mid : List ((ℕ × ℕ) × ℕ)) → StandsFor files d known drained → d.mode ≡ Open
+-- a row that the disk may have
+pub stands_failed : {D : Type 0} (files : D → Files) (d d' : State D) (known : DirKnown) (drained : List Bool) (tag : CoreTag) (row : HomeRow) → StandsFor files d known drained → d.mode ≡ Open
     → d'.mode ≡ Frozen (record { tag = tag; row = dir_row row }) → d'.settings ≡ d.settings → d'.drained ≡ d.drained → row.volume < d.settings.volumes
-    → home_of d row.pair ≡ None → SetsHome row.pair (Some row.volume) d.homes mid → SetsHome row.pair None mid d'.homes → Leaves (dir_row row) d.journal.end (files d.disk 0) (files d'.disk 0) → d'.count ≡ d.count
+    → home_of d row.pair ≡ None → KeepsHomes d.homes d'.homes → Leaves (dir_row row) d.journal.end (files d.disk 0) (files d'.disk 0) → d'.count ≡ d.count
     → StandsFor files d' (with_pending known tag row) drained
-stands_failed files d d' known drained tag row mid s serves frozen settings drains below homeless set undone leaves counts =
+stands_failed files d d' known drained tag row s serves frozen settings drains below homeless kept leaves counts =
     let o = stands_open files d known drained s serves in
     let free : home_in known.rows row.pair ≡ None = sym (s.homes row.pair) ∙ homeless in
     record {
       mode = frozen;
       frozen = refl;
       holds = subst (λ k. IsUnsure k (files d'.disk 0) known.rows row) (sym settings) (row_left d.settings (files d.disk 0) (files d'.disk 0) d.journal.end known.rows row o.settled below leaves free);
-      homes = (homes_undone known.rows row.pair row.volume d.homes mid d'.homes o.homes free set undone).are;
+      homes = λ pair. kept.at pair ∙ s.homes pair;
       count = counts ∙ s.count;
       drained_is = s.drained_is ∙ sym drains;
     }
+
+-- the drained machines that are known are those that it has
+pub stands_now : {D : Type 0} (files : D → Files) (d : State D) (known : DirKnown) (drained : List Bool) → StandsFor files d known drained → StandsFor files d known d.drained
+stands_now files d known drained s = subst (λ l. StandsFor files d known l) s.drained_is s
 
 -- BEHIND A FUSE OR A DRAIN
 

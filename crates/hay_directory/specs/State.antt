@@ -19,12 +19,13 @@ use Rattle.hay_directory.specs.declared.mode.Unsure.{Unsure}
 use Rattle.hay_directory.specs.Homes.{home_among}
 use Rattle.hay_directory.specs.Rows.{dir_row, HasJournal, FileHasRows, OpensRows}
 
--- A directory, with its disk. The drains are by machine.
+-- A directory, with its disk: the homes, for how many more there is room, how many rows there are, and the drains by machine.
 pub record State (D : Type 0) : Type 0 where
   pub settings : Settings
   pub disk : D
   pub journal : Journal
   pub homes : List ((ℕ × ℕ) × ℕ)
+  pub room : ℕ
   pub count : ℕ
   pub drained : List Bool
   pub mode : Mode
@@ -108,6 +109,26 @@ pub record StandsFor {D : Type 0} (files : D → Files) (directory : State D) (k
 -- An open directory has these rows on its disk, this one may be there, and these machines are drained.
 unfoldable pub Stands : {D : Type 0} → (D → Files) → State D → DirKnown → List Bool → Type 0
 Stands files directory known drained = StandsFor files directory known drained
+
+-- A ROW THAT IS WRITTEN AND NOT SHOWN YET
+
+-- Whatever the disk has: the directory is frozen with the row pending, as behind a failure, and the homes have room for it.
+pub record IsUnshown {D : Type 0} (directory : State D) (row : Unsure) : Type 0 where
+  pub mode : directory.mode ≡ Frozen row
+  pub room : 1 ≤ directory.room
+
+pub record WrittenFor {D : Type 0} (files : D → Files) (directory : State D) (known : DirKnown) (drained : List Bool) (row : HomeRow) : Type 0 where
+  pub serves : known.pending ≡ None
+  pub frozen : known.frozen ≡ false
+  pub holds : IsSettled directory.settings (files directory.disk 0) directory.journal.end (known.rows ++ row ∷ [])
+  pub homeless : home_in known.rows row.pair ≡ None
+  pub homes : (pair : Pair) → home_of directory pair ≡ home_in known.rows pair
+  pub count : directory.count ≡ length known.rows
+  pub drained_is : drained ≡ directory.drained
+
+-- The disk has the row behind those that are known, and all else of the directory is as known.
+unfoldable pub IsRowWritten : {D : Type 0} → (D → Files) → State D → DirKnown → List Bool → HomeRow → Type 0
+IsRowWritten files directory known drained row = WrittenFor files directory known drained row
 
 -- WHAT IS ON THE DISK OF ANY DIRECTORY
 

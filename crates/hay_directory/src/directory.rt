@@ -11,13 +11,14 @@ ghost use Rattle.hay_legal.specs.declared.known.HomeRow.{HomeRow};
 ghost use Rattle.hay_legal.specs.Known.{home_in};
 ghost use Rattle.hay_legal.specs.Restarts.{directory_with, kept_row, row_notes};
 ghost use Rattle.hay_directory.specs.Notes.{NotesTell};
-ghost use Rattle.hay_directory.specs.Rows.{OpensRows, dir_row, journal_super};
-ghost use Rattle.hay_directory.specs.State.{Holds, IsClosed, IsFresh, IsFrozen, IsUp, LeavesMode, Stands, Stopped, home_of, is_frozen, unsure_of};
+ghost use Rattle.hay_directory.specs.Homes.{SetsHome};
+ghost use Rattle.hay_directory.specs.Rows.{OpensRows, dir_row, home_row, journal_super};
+ghost use Rattle.hay_directory.specs.State.{Holds, IsClosed, IsFresh, IsFrozen, IsRowWritten, IsUnshown, IsUp, LeavesMode, Stands, Stopped, home_of, is_frozen, unsure_of};
 
 use crate::fault::DirFault;
 use crate::homes::Homes;
 use crate::load::{Loaded, load};
-use crate::mode::{Mode, Unsure};
+use crate::mode::{Mode, Unsure, WrittenRow};
 use hay_base::Listed;
 use hay_core::CoreTag;
 use hay_dirfile::{DirRow, Journal, OpenFault};
@@ -54,7 +55,8 @@ impl<D: Disk> Model for Directory<D> {
       settings = d.settings;
       disk = d.disk;
       journal = d.journal;
-      homes = d.homes;
+      homes = d.homes.volumes;
+      room = d.homes.room;
       count = d.count;
       drained = take d.settings.machines d.drained;
       mode = d.mode;
@@ -64,7 +66,8 @@ impl<D: Disk> Model for Directory<D> {
       settings = d.settings;
       disk = d.disk;
       journal = d.journal;
-      homes = d.homes;
+      homes = d.homes.volumes;
+      room = d.homes.room;
       count = d.count;
       drained = take d.settings.machines d.drained;
       mode = d.mode;
@@ -212,30 +215,37 @@ impl<D: Disk> Directory<D> {
         ensures later { D.fault_count self.old.disk ≤ D.fault_count self.new.disk }
         ensures fuses { D.fuse_count self.new.disk ≡ D.fuse_count self.old.disk }
     {
-        if self.is_frozen() {
-            return Err(DirFault::Frozen);
-        }
-        self.add_row(tag, DirRow { pair, volume })
+        let written = self.write_row(tag, DirRow { pair, volume })?;
+        self.show_row(written);
+        Ok(())
     }
 
-    // Adds a row. Memory is taken before the disk is called, and what it was taken for is undone after a refusal.
-    fn add_row(&mut self, tag: CoreTag, row: DirRow) -> Result<(), DirFault>
-        requires serves { self.old.mode ≡ Mode.Open }
+    /// Writes the row of a pair, which has no home, to the disk. The homes do not have it before it is shown: until then the
+    /// directory is frozen and the row is pending, and it stays so where what is answered is dropped. Room for the home is taken
+    /// before the disk is called. `NoMemory` changes nothing, and `Failed` freezes the directory too.
+    pub fn write_row(&mut self, tag: CoreTag, row: DirRow) -> Result<WrittenRow, DirFault>
+        requires up { IsUp self.old }
         requires volume { row.volume < self.old.settings.volumes }
         requires homeless { home_of self.old row.pair ≡ None }
 
-        ensures settled { D.Tells → (known : DirKnown) (drained : List Bool) → Stands D.files self.old known drained →
-            OnOk result (Stands D.files self.new (record known { rows = known.rows ++ record { pair = row.pair; volume = row.volume } ∷ [] }) drained) }
+        ensures row { IfOk result (λ written. written ≡ record { unsure = record { tag = tag; row = row } }) }
+        ensures written { D.Tells → (known : DirKnown) (drained : List Bool) → Stands D.files self.old known drained →
+            OnOk result (IsRowWritten D.files self.new known drained (home_row row)) }
+        // Something is known of a directory at any time.
+        ensures sound { D.Tells → OnOk result ((known : DirKnown) × (drained : List Bool) × IsRowWritten D.files self.new known drained (home_row row)) }
+        ensures unshown { OnOk result (IsUnshown self.new (record { tag = tag; row = row })) }
+        // Until it is shown it is pending.
+        ensures given_up { D.Tells → (known : DirKnown) (drained : List Bool) → Stands D.files self.old known drained →
+            OnOk result (Stands D.files self.new (record known { frozen = true; pending = Some (record { tag = tag; row = home_row row }) }) drained) }
         ensures no_memory { D.Tells → (known : DirKnown) (drained : List Bool) → Stands D.files self.old known drained →
             IsErrOf result DirFault.NoMemory → Stands D.files self.new known drained }
         ensures pending { D.Tells → (known : DirKnown) (drained : List Bool) (faults : ℕ) → Stands D.files self.old known drained →
-            result ≡ Err (DirFault.Failed faults) → Stands D.files self.new (record known {
-              frozen = true;
-              pending = Some (record { tag = tag; row = record { pair = row.pair; volume = row.volume } });
-            }) drained }
-        ensures mode { OnOk result (self.new.mode ≡ self.old.mode) }
+            result ≡ Err (DirFault.Failed faults) →
+            Stands D.files self.new (record known { frozen = true; pending = Some (record { tag = tag; row = home_row row }) }) drained }
+
         ensures refused_mode { IfErr result (LeavesMode (record { tag = tag; row = row }) self.old.mode self.new.mode) }
-        ensures not_frozen { IsErrOf result DirFault.Frozen → ⊥ }
+        ensures frozen { IsFrozen self.old → IsErrOf result DirFault.Frozen }
+        ensures only_frozen { IsErrOf result DirFault.Frozen → IsFrozen self.old × (self.new ≡ self.old) }
         ensures failed { (faults : ℕ) → result ≡ Err (DirFault.Failed faults) →
             (faults ≡ D.fault_count self.new.disk) × Rose (D.fault_count self.old.disk) (D.fault_count self.new.disk) }
         ensures up { IsUp self.new }
@@ -243,26 +253,47 @@ impl<D: Disk> Directory<D> {
         ensures later { D.fault_count self.old.disk ≤ D.fault_count self.new.disk }
         ensures fuses { D.fuse_count self.new.disk ≡ D.fuse_count self.old.disk }
     {
-        let Ok(()) = self.homes.insert(row.pair, row.volume) else {
+        if self.is_frozen() {
+            return Err(DirFault::Frozen);
+        }
+        let Ok(()) = self.homes.reserve(1) else {
             return Err(DirFault::NoMemory);
         };
+        let unsure = Unsure { tag, row };
+        self.mode = Mode::Frozen(unsure);
         match self.journal.settle_row(&mut self.disk, row) {
-            Ok(()) => {
-                self.count = self.count.saturating_add(1);
-                Ok(())
-            }
+            Ok(()) => Ok(WrittenRow { unsure }),
             Err(DiskFault::NoMemory) => {
-                self.homes.remove(row.pair);
+                self.mode = Mode::Open;
                 Err(DirFault::NoMemory)
             }
-            Err(DiskFault::Failed) => {
-                self.homes.remove(row.pair);
-                self.mode = Mode::Frozen(Unsure { tag, row });
-                Err(DirFault::Failed {
-                    faults: self.disk.faults(),
-                })
-            }
+            Err(DiskFault::Failed) => Err(DirFault::Failed {
+                faults: self.disk.faults(),
+            }),
         }
+    }
+
+    /// Shows a row that was written: its pair has its home, and the directory is no longer frozen. No memory is taken, and no
+    /// call of the disk is made.
+    pub fn show_row(&mut self, written: WrittenRow)
+        requires unshown { IsUnshown self.old written.unsure }
+        requires written { D.Tells → (known : DirKnown) × (drained : List Bool) × IsRowWritten D.files self.old known drained (home_row written.unsure.row) }
+        ensures shown { D.Tells → (known : DirKnown) (drained : List Bool) →
+            IsRowWritten D.files self.old known drained (home_row written.unsure.row) →
+            Stands D.files self.new (record known { rows = known.rows ++ home_row written.unsure.row ∷ [] }) drained }
+        ensures serves { self.new.mode ≡ Mode.Open }
+        ensures home { SetsHome written.unsure.row.pair (Some written.unsure.row.volume) self.old.homes self.new.homes }
+        ensures disk { self.new.disk ≡ self.old.disk }
+        ensures settings { self.new.settings ≡ self.old.settings }
+        ensures drained { self.new.drained ≡ self.old.drained }
+    {
+        let WrittenRow { unsure } = written;
+        let row = unsure.row;
+        let Ok(()) = self.homes.insert(row.pair, row.volume) else {
+            unreachable!()
+        };
+        self.count = self.count.saturating_add(1);
+        self.mode = Mode::Open;
     }
 
     /// Closes a machine to changes.

@@ -1,9 +1,9 @@
 //! The homes of pairs in memory.
-ghost use Rattle.std.specs.Prelude.{◌≡◌, ℕ, [], ◌∷◌, map, OnOk, OnErr, IfOk, None, Some};
+ghost use Rattle.std.specs.Prelude.{◌≡◌, ◌≤◌, ℕ, [], ◌∷◌, map, OnOk, OnErr, IfOk, IsOk, None, Some};
 ghost use Rattle.std.specs.Option.{option_or};
 ghost use Rattle.hay_needle.specs.declared.needle.Pair.{Pair};
 ghost use Rattle.hay_legal.specs.Known.{home_in};
-ghost use Rattle.hay_directory.specs.Homes.{home_among, SetsHome};
+ghost use Rattle.hay_directory.specs.Homes.{home_among, KeepsHomes, SetsHome};
 ghost use Rattle.hay_directory.specs.Rows.{home_row};
 
 use hay_base::NoMemory;
@@ -20,28 +20,30 @@ pub struct Homes {
 }
 
 impl Model for Homes {
-    ghost use Rattle.std.specs.Prelude.{List, ℕ};
+    ghost use Rattle.std.specs.HashMap.{spare};
+    ghost use Rattle.hay_directory.specs.Homes.{KeptHomes};
 
-    ghost Value = { List ((ℕ × ℕ) × ℕ) };
+    ghost Value = { KeptHomes };
 
-    ghost view = { λ h. h.volumes.entries };
+    ghost view = { λ h. record { volumes = h.volumes.entries; room = spare h.volumes } };
 }
 
 impl Homes {
     /// No homes. It takes no memory.
     pub fn new(alloc: Global) -> Homes
-        ensures { result ≡ [] }
+        ensures { result.volumes ≡ [] }
     {
         Homes {
             volumes: HashMap::new(alloc),
         }
     }
 
-    /// The homes by these rows.
+    /// The homes by these rows. Room for all is taken at once, if there is memory for that.
     pub fn of_rows(alloc: Global, rows: &[DirRow]) -> Result<Homes, NoMemory>
-        ensures { IfOk result (λ homes. (pair : Pair) → home_among homes pair ≡ home_in (map home_row rows.now) pair) }
+        ensures { IfOk result (λ homes. (pair : Pair) → home_among homes.volumes pair ≡ home_in (map home_row rows.now) pair) }
     {
         let mut homes = Homes::new(alloc);
+        let _ = homes.reserve(rows.len());
         for row in rows {
             homes.add_row(*row)?;
         }
@@ -50,30 +52,33 @@ impl Homes {
 
     /// The home of a pair.
     pub fn get(&self, pair: Pair) -> Option<u32>
-        ensures { result ≡ home_among self.now pair }
+        ensures { result ≡ home_among self.now.volumes pair }
     {
         self.volumes.get(&(pair.key, pair.alt)).copied()
     }
 
+    /// Makes room for the homes of so many more pairs.
+    pub fn reserve(&mut self, pairs: usize) -> Result<(), NoMemory>
+        ensures kept { KeepsHomes self.old.volumes self.new.volumes }
+        ensures room { OnOk result (pairs ≤ self.new.room) }
+    {
+        self.volumes.reserve(pairs)?;
+        Ok(())
+    }
+
     /// Gives a pair a home. `NoMemory` changes nothing.
     pub fn insert(&mut self, pair: Pair, volume: u32) -> Result<(), NoMemory>
-        ensures ok { OnOk result (SetsHome pair (Some volume) self.old self.new) }
-        ensures err { OnErr result (self.new ≡ self.old) }
+        ensures ok { OnOk result (SetsHome pair (Some volume) self.old.volumes self.new.volumes) }
+        ensures err { OnErr result (self.new.volumes ≡ self.old.volumes) }
+        ensures room { 1 ≤ self.old.room → IsOk result }
     {
         self.volumes.insert((pair.key, pair.alt), volume)?;
         Ok(())
     }
 
-    /// Takes a pair's home away.
-    pub fn remove(&mut self, pair: Pair)
-        ensures { SetsHome pair None self.old self.new }
-    {
-        self.volumes.remove(&(pair.key, pair.alt));
-    }
-
     // Adds a row behind the others: a pair that has a home keeps it.
     fn add_row(&mut self, row: DirRow) -> Result<(), NoMemory>
-        ensures { OnOk result ((pair : Pair) → home_among self.new pair ≡ option_or (home_among self.old pair) (home_in (home_row row ∷ []) pair)) }
+        ensures { OnOk result ((pair : Pair) → home_among self.new.volumes pair ≡ option_or (home_among self.old.volumes pair) (home_in (home_row row ∷ []) pair)) }
     {
         if self.get(row.pair).is_some() {
             return Ok(());

@@ -17,5 +17,5 @@ mod spread;
 
 pub use directory::Directory;
 pub use fault::DirFault;
-pub use mode::{Mode, Unsure};
+pub use mode::{Mode, Unsure, WrittenRow};
 pub use spread::{machine_of, tries};

@@ -39,8 +39,8 @@ pub fn load<D: Disk>(
 ) -> Result<Loaded, OpenFault>
     requires solid { D.Tells → IsSolid (D.files disk.old 0) }
     requires free { D.Tells → IsFree (D.files disk.old 0) }
-    ensures found { D.Tells → IfOk result (λ loaded. FindsRows settings.now (D.files disk.old 0) (D.files disk.new 0) loaded.journal.end loaded.homes loaded.count) }
-    ensures notes { IfOk result (λ loaded. loaded.notes ≡ notes_by unsure loaded.homes) }
+    ensures found { D.Tells → IfOk result (λ loaded. FindsRows settings.now (D.files disk.old 0) (D.files disk.new 0) loaded.journal.end loaded.homes.volumes loaded.count) }
+    ensures notes { IfOk result (λ loaded. loaded.notes ≡ notes_by unsure loaded.homes.volumes) }
     ensures fits { IfOk result (λ loaded. AllByRecursion FitsNote loaded.notes) }
     ensures failed { (faults : ℕ) → result ≡ Err (OpenFault.Failed faults) →
         (faults ≡ D.fault_count disk.new) × Rose (D.fault_count disk.old) (D.fault_count disk.new) }

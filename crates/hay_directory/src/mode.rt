@@ -11,6 +11,12 @@ pub struct Unsure {
     pub row: DirRow,
 }
 
+/// A row that the disk has, and that the homes do not have before it is shown.
+#[derive(Debug, Drop, PartialEq, Eq)]
+pub struct WrittenRow {
+    pub unsure: Unsure,
+}
+
 /// Whether a directory serves.
 #[derive(Clone, Copy, Debug, PartialEq, Eq)]
 pub enum Mode {

@@ -16,7 +16,7 @@ pub fn notes_of(
     unsure: Option<Unsure>,
     homes: &Homes,
 ) -> Result<Listed<Note>, NoMemory>
-    ensures are { IfOk result (λ notes. notes ≡ notes_by unsure homes.now) }
+    ensures are { IfOk result (λ notes. notes ≡ notes_by unsure homes.now.volumes) }
     ensures fits { IfOk result (AllByRecursion FitsNote) }
 {
     let Some(Unsure { tag, row }) = unsure else {

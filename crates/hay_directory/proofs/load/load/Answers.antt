@@ -31,7 +31,7 @@ returns-clause-found g c = λ tells.
     let files = g.D.Disk.files in
     let opened = c.in_ok-journal.ensures in
     let slice = c.as_slice.ensures in
-    found_rows c.args.settings.now c.super_of-sup.result (files c.args.disk.now 0) (files c.open.new.disk 0) c.in_ok-journal.journal.end c.len-count.result c.in-Ok.homes c.in_ok-journal.rows.items c.super_of-sup.ensures
+    found_rows c.args.settings.now c.super_of-sup.result (files c.args.disk.now 0) (files c.open.new.disk 0) c.in_ok-journal.journal.end c.len-count.result c.in-Ok.homes.volumes c.in_ok-journal.rows.items c.super_of-sup.ensures
     (opened.rows tells) (opened.end tells) (opened.rest tells) (opened.next tells) (opened.void tells) (λ some. ap (λ (f : Files). f 0) (opened.same tells some)) (opened.exact tells)
     (λ pair. c.in-Ok.ensures pair ∙ ap (λ l. home_in (map home_row l) pair) slice.value)
     (c.len-count.ensures ∙ sym slice.len ∙ ap length slice.value)

@@ -51,7 +51,7 @@ returns-clause-opened g c = rw (← c.self.view_is) (λ tells fresh.
     let found = c.in_ok-loaded.ensures.found tells in
     let unsure = c.unsure-unsure.ensures ∙ ap unsure_of fresh in
     let drains = c.self.invariant.undrained (ap is_closed fresh) in (
-      c.in_ok-loaded.ensures.notes ∙ ap (λ (u : Option Unsure). notes_by u c.in_ok-loaded.loaded.homes) unsure,
+      c.in_ok-loaded.ensures.notes ∙ ap (λ (u : Option Unsure). notes_by u c.in_ok-loaded.loaded.homes.volumes) unsure,
       (found.rows, found.found, stands_opened files was.settings (files was.disk 0) _ _ found refl refl drains),
     ))
 
@@ -63,7 +63,7 @@ returns-clause-reopened g c = λ tells known stopped.
     let closed : is_closed c.self.inside.mode ≡ true = ap (λ (d : State _). is_closed d.mode) c.self.view_is ∙ c.requires.closed in
     let drains = c.self.invariant.undrained closed ∙ ap (λ (d : State _). replicate d.settings.machines false) c.self.view_is in
     reopened files _ _ _ known c.in_ok-loaded.loaded.notes (c.in_ok-loaded.ensures.found tells) s refl refl drains
-    (c.in_ok-loaded.ensures.notes ∙ ap (λ (u : Option Unsure). notes_by u c.in_ok-loaded.loaded.homes) c.unsure-unsure.ensures)
+    (c.in_ok-loaded.ensures.notes ∙ ap (λ (u : Option Unsure). notes_by u c.in_ok-loaded.loaded.homes.volumes) c.unsure-unsure.ensures)
 
 pub returns-clause-undamaged : goal.returns-clause-undamaged
 returns-clause-undamaged g c = rw (← c.self.view_is) (λ tells some. c.in_ok-loaded.ensures.undamaged tells some)

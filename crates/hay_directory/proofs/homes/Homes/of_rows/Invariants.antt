@@ -6,4 +6,4 @@ use Rattle.hay_directory.specs.Rows.{home_row}
 use Rattle.hay_directory.proofs.homes.Homes.of_rows.Given as goal
 
 abbrev pub invariant-loop-row : goal.invariant-loop-row
-invariant-loop-row l = (pair : Pair) → home_among l.homes pair ≡ home_in (map home_row (take l.row-index l.rows)) pair
+invariant-loop-row l = (pair : Pair) → home_among l.homes.volumes pair ≡ home_in (map home_row (take l.row-index l.rows)) pair
