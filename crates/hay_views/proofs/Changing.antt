@@ -29,21 +29,21 @@ fold_more : {X A : Type 0} (f : A → X → A) (a : A) (xs : List X) (x : X) →
 fold_more f a [] x = refl
 fold_more f a (y ∷ xs) x = fold_more f (f a y) xs x
 
-row_more : {P : Type 0} (past : MapPast P) (change : MapOp P) (pair : Pair) → row_of (with_change past change) pair ≡ row_after (past.first).replicas pair (row_of past pair) change
+row_more : {P S : Type 0} (past : MapPast P S) (change : MapOp P) (pair : Pair) → row_of (with_change past change) pair ≡ row_after (past.first).replicas pair (row_of past pair) change
 row_more past change pair = fold_more (row_after (past.first).replicas pair) (row_at past.first pair) past.made change
 
-pub map_changed : {P : Type 0} (past : MapPast P) (change : MapOp P) (old new : MapRows P) → IsMapOf past old → fits old.replicas change ≡ true → ChangesRows change old new → IsMapOf (with_change past change) new
-map_changed {P} past change old new is e changes = record {
+pub map_changed : {P S : Type 0} (past : MapPast P S) (change : MapOp P) (old new : MapRows P) → IsMapOf past old → fits old.replicas change ≡ true → ChangesRows change old new → IsMapOf (with_change past change) new
+map_changed {P} {S} past change old new is e changes = record {
   replicas = changes.replicas ∙ is.replicas;
   rows = λ pair.
       changes.rows pair ∙ ap (λ (row : List (Place P)). changed_row change pair row) (is.rows pair)
       ∙ sym (row_more past change pair ∙ cond-true (fits (past.first).replicas change) (changed_row change pair (row_of past pair)) (row_of past pair) (ap (λ (n : ℕ). fits n change) (sym is.replicas) ∙ e));
 }
 
-pub map_kept : {P : Type 0} (past : MapPast P) (old new : MapRows P) → IsMapOf past old → KeepsRows old new → IsMapOf past new
+pub map_kept : {P S : Type 0} (past : MapPast P S) (old new : MapRows P) → IsMapOf past old → KeepsRows old new → IsMapOf past new
 map_kept past old new is keeps = record { replicas = keeps.replicas ∙ is.replicas; rows = λ pair. keeps.rows pair ∙ is.rows pair }
 
-pub map_unfit : {P : Type 0} (past : MapPast P) (change : MapOp P) (map : MapRows P) → IsMapOf past map → fits map.replicas change ≡ false → IsMapOf (with_change past change) map
+pub map_unfit : {P S : Type 0} (past : MapPast P S) (change : MapOp P) (map : MapRows P) → IsMapOf past map → fits map.replicas change ≡ false → IsMapOf (with_change past change) map
 map_unfit past change map is e = record {
   replicas = is.replicas;
   rows = λ pair.

@@ -1,22 +1,35 @@
 -- The rows of a map at first, and what was changed since.
-use Rattle.std.specs.Prelude.{◌≡◌, ℕ, nat_eq, nat_lt, Bool, true, false, List, [], ◌∷◌, ◌++◌, length, fold, if◌then◌else◌}
+use Rattle.std.specs.Prelude.{◌≡◌, ℕ, nat_eq, nat_lt, Bool, true, false, List, [], ◌∷◌, ◌++◌, length, map, fold, if◌then◌else◌}
 use Rattle.std.specs.List.{AllByRecursion}
 use Rattle.hay_needle.specs.declared.needle.Pair.{Pair}
+use Rattle.hay_needle.specs.declared.needle.Cookie.{Cookie}
+use Rattle.hay_core.specs.declared.entry.Entry.{Entry}
+use Rattle.hay_core.specs.declared.entry.Entry.TheVariants as entry
 use Rattle.hay_map.specs.MapRows.{MapRows}
 use Rattle.hay_map.specs.Rows.{row_at, changed_row, ChangesRows, FitsRows, KeepsRows}
 use Rattle.hay_map.specs.declared.place.Place.{Place}
 use Rattle.hay_map.specs.declared.view.MapOp.{MapOp}
 use Rattle.hay_map.specs.declared.view.MapOp.TheVariants as op
+use Rattle.hay_views.specs.declared.places.Published.{Published}
 
-pub record MapPast (P : Type 0) : Type 0 where
+-- what stood when the rows were taken, too
+pub record MapPast (P S : Type 0) : Type 0 where
+  pub start : S
   pub first : MapRows P
   pub made : List (MapOp P)
 
-abbrev pub begun_at : {P : Type 0} → MapRows P → MapPast P
-begun_at first = record { first = first; made = [] }
+abbrev pub begun_at : {P S : Type 0} → S → MapRows P → MapPast P S
+begun_at start first = record { start = start; first = first; made = [] }
 
-abbrev pub with_change : {P : Type 0} → MapPast P → MapOp P → MapPast P
+abbrev pub with_change : {P S : Type 0} → MapPast P S → MapOp P → MapPast P S
 with_change past change = record past { made = past.made ++ change ∷ [] }
+
+-- what was published, as changes of the map
+abbrev pub changes_of : {P : Type 0} → List (Published P) → List (MapOp P)
+changes_of deeds = map (λ deed. deed.change) deeds
+
+abbrev pub with_published : {P S : Type 0} → MapPast P S → Published P → MapPast P S
+with_published past deed = with_change past deed.change
 
 -- whether a change can be made where rows have so many places
 abbrev pub fits : {P : Type 0} → ℕ → MapOp P → Bool
@@ -30,15 +43,15 @@ abbrev pub row_after : {P : Type 0} → ℕ → Pair → List (Place P) → MapO
 row_after replicas pair row change = if fits replicas change then changed_row change pair row else row
 
 -- and behind all that was changed
-abbrev pub row_of : {P : Type 0} → MapPast P → Pair → List (Place P)
+abbrev pub row_of : {P S : Type 0} → MapPast P S → Pair → List (Place P)
 row_of past pair = fold (row_after (past.first).replicas pair) (row_at past.first pair) past.made
 
 -- a row of the pair, whole
-abbrev pub IsRowOf : {P : Type 0} → MapPast P → Pair → List (Place P) → Type 0
+abbrev pub IsRowOf : {P S : Type 0} → MapPast P S → Pair → List (Place P) → Type 0
 IsRowOf past pair row = (row ≡ row_of past pair) × (length row ≡ (past.first).replicas)
 
 -- a map that has the rows
-pub record IsMapOf {P : Type 0} (past : MapPast P) (map : MapRows P) : Type 0 where
+pub record IsMapOf {P S : Type 0} (past : MapPast P S) (map : MapRows P) : Type 0 where
   pub replicas : map.replicas ≡ (past.first).replicas
   pub rows : (pair : Pair) → row_at map pair ≡ row_of past pair
 
@@ -49,8 +62,24 @@ is_entry (op.Del pair) = true
 is_entry (op.Seen pair replica place) = false
 is_entry (op.Swap replica cells) = false
 
-abbrev pub AllFit : {P : Type 0} → MapPast P → List (MapOp P) → Type 0
-AllFit past changes = AllByRecursion (FitsRows (past.first).replicas) changes
+-- what a change enters: a put its pair's photo, a delete its pair, and what tells where photos stand nothing
+abbrev pub Enters : {P : Type 0} → MapOp P → List Entry → Type 0
+Enters (op.Put pair row) entered = (cookie : Cookie) × (bytes : List ℕ) × (entered ≡ entry.Put pair cookie bytes ∷ [])
+Enters (op.Del pair) entered = entered ≡ entry.Del pair ∷ []
+Enters (op.Seen pair replica place) entered = entered ≡ []
+Enters (op.Swap replica cells) entered = entered ≡ []
+
+pub record IsFit {P : Type 0} (replicas : ℕ) (deed : Published P) : Type 0 where
+  pub rows : FitsRows replicas deed.change
+  pub enters : Enters deed.change deed.entered
+
+abbrev pub AllFit : {P S : Type 0} → MapPast P S → List (Published P) → Type 0
+AllFit past deeds = AllByRecursion (IsFit (past.first).replicas) deeds
+
+-- all that was entered, in order
+abbrev pub entered_by : {P : Type 0} → List (Published P) → List Entry
+entered_by [] = []
+entered_by (deed ∷ deeds) = deed.entered ++ entered_by deeds
 
 -- a map on which these changes were made, one after another
 abbrev pub MadeBy : {P : Type 0} → List (MapOp P) → MapRows P → MapRows P → Type 0

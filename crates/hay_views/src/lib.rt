@@ -4,8 +4,9 @@
 //! A view has in memory what is looked up, and for clauses alone what stood at first and each change since. So a seat that has seen
 //! the first n changes that were published is shown the row that a map has behind these n, and the home by the rows that stood and
 //! these n: `proofs/PlaceLaw` and `proofs/HomeLaw` say so in the terms of `hay_map` and `hay_legal`. A change that does not fit the
-//! map changes no row; whoever publishes shows that each one fits, and may tell more of the changes, by `Telling`. Of several rows of
-//! one pair the first one counts.
+//! map changes no row; whoever publishes shows that each one fits, and may tell more of the changes, by `Telling`. A change of places
+//! is published with what it enters in the log of its volume, one entry or none, and as many entries were entered as changes count.
+//! Of several rows of one pair the first one counts.
 //!
 //! It stands on hay_map, hay_directory and hay_front. A look takes no memory. What a view has for clauses takes none either.
 #![tactic(auto)]
@@ -16,4 +17,4 @@ mod places;
 
 pub use homes::HomeView;
 pub use past::Past;
-pub use places::{PlaceView, Telling};
+pub use places::{PlaceView, Published, Telling};
