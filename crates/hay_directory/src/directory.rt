@@ -11,7 +11,7 @@ ghost use Rattle.hay_legal.specs.declared.known.HomeRow.{HomeRow};
 ghost use Rattle.hay_legal.specs.Known.{home_in};
 ghost use Rattle.hay_legal.specs.Restarts.{directory_with, kept_row, row_notes};
 ghost use Rattle.hay_directory.specs.Notes.{NotesTell};
-ghost use Rattle.hay_directory.specs.Homes.{SetsHome};
+ghost use Rattle.hay_directory.specs.Homes.{KeepsHomes, SetsHome};
 ghost use Rattle.hay_directory.specs.Rows.{OpensRows, dir_row, home_row, journal_super};
 ghost use Rattle.hay_directory.specs.State.{Holds, IsClosed, IsFresh, IsFrozen, IsRowWritten, IsUnshown, IsUp, LeavesMode, Stands, Stopped, home_of, is_frozen, unsure_of};
 
@@ -243,6 +243,8 @@ impl<D: Disk> Directory<D> {
             result ≡ Err (DirFault.Failed faults) →
             Stands D.files self.new (record known { frozen = true; pending = Some (record { tag = tag; row = home_row row }) }) drained }
 
+        // Whatever the disk has.
+        ensures homes { KeepsHomes self.old.homes self.new.homes }
         ensures refused_mode { IfErr result (LeavesMode (record { tag = tag; row = row }) self.old.mode self.new.mode) }
         ensures frozen { IsFrozen self.old → IsErrOf result DirFault.Frozen }
         ensures only_frozen { IsErrOf result DirFault.Frozen → IsFrozen self.old × (self.new ≡ self.old) }

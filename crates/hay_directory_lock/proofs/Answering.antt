@@ -1,0 +1,70 @@
+-- What a holding for a row tells.
+use Rattle.std.proofs.Common.{◌≡◌, ◌<◌, ℕ, Bool, true, false, List, [], ◌∷◌, ◌++◌, length, filter, Option, Some, None, refl, sym, ap, subst, ◌∙◌, append_assoc}
+use Rattle.std.specs.List.{AllByRecursion as Each}
+use Rattle.hay_needle.specs.declared.needle.Pair.{Pair}
+use Rattle.hay_disk.specs.Counts.{Rose}
+use Rattle.hay_disk.specs.Disk.{Files}
+use Rattle.hay_legal.specs.declared.known.HomeRow.{HomeRow}
+use Rattle.hay_legal.specs.Known.{home_in}
+use Rattle.hay_history.specs.Steps.{RowsStanding}
+use Rattle.hay_meeting.specs.declared.act.DirAct.{DirAct}
+use Rattle.hay_meeting.specs.Acts.{Start, row_lock}
+use Rattle.hay_meeting.specs.Locks.{entries, left}
+use Rattle.hay_holdings.specs.Rows.{FailedRow, rows_found}
+use Rattle.hay_directory.specs.State.{State, home_of}
+use Rattle.hay_directory_lock.specs.Begun.{BegunAt, HomesShown}
+use Rattle.hay_directory_lock.specs.Standing.{HomeFront, KeptFor}
+
+pub not_true : (b : Bool) → (b ≡ true → ⊥) → b ≡ false
+not_true true not = absurd (not refl)
+not_true false not = refl
+
+-- WHAT MAY BE PUBLISHED
+
+all_more : {X : Type 0} (P : X → Type 0) (xs : List X) (x : X) → Each P xs → P x → Each P (xs ++ x ∷ [])
+all_more P [] x all is = (is, tt)
+all_more P (y ∷ xs) x all is = (all.0, all_more P xs x all.1 is)
+
+volumes_in : ℕ → Option (List HomeRow × ℕ) → ℕ
+volumes_in d None = d
+volumes_in d (Some both) = both.1
+
+rows_in : List HomeRow → Option (List HomeRow × ℕ) → List HomeRow
+rows_in d None = d
+rows_in d (Some both) = both.0
+
+-- a row of a volume that there is
+pub may_publish : (w : HomesShown) (rows : List HomeRow) (volumes : ℕ) (row : HomeRow) → w.base ≡ Some (rows, volumes)
+    → ((m : List HomeRow) × (b : ℕ) × (w.base ≡ Some (m, b)) × Each (λ (r : HomeRow). r.volume < b) (m ++ w.deeds)) → row.volume < volumes
+    → (m : List HomeRow) (b : ℕ) → w.base ≡ Some (m, b) → Each (λ (r : HomeRow). r.volume < b) (m ++ (w.deeds ++ row ∷ []))
+unfolding volumes_in rows_in
+may_publish w rows volumes row base holds below m b is =
+    let most : volumes ≡ b = ap (volumes_in b) (sym base ∙ is) in
+    let same : holds.1 ≡ b = ap (volumes_in b) (sym holds.2 ∙ is) in
+    let first : holds.0 ≡ m = ap (rows_in m) (sym holds.2 ∙ is) in
+    let all = subst (λ (n : ℕ). Each (λ (r : HomeRow). r.volume < n) (holds.0 ++ w.deeds)) same holds.3 in
+    let here = subst (λ (l : List HomeRow). Each (λ (r : HomeRow). r.volume < b) (l ++ w.deeds)) first all in
+    subst (λ (l : List HomeRow). Each (λ (r : HomeRow). r.volume < b) l) (append_assoc m w.deeds (row ∷ []))
+    (all_more (λ (r : HomeRow). r.volume < b) (m ++ w.deeds) row here (subst (λ n. row.volume < n) most below))
+
+-- every row counts
+pub all_counted : (rows : List HomeRow) → filter (λ (r : HomeRow). true) rows ≡ rows
+all_counted [] = refl
+all_counted (row ∷ rows) = ap (λ (l : List HomeRow). row ∷ l) (all_counted rows)
+
+module _ {D : Type 0} (Tells : Type 0) (files : D → Files) (faults fuses : D → ℕ) (start : Start) {begun : BegunAt} (same : begun.rows ≡ start.directory) where
+  -- how many rows were published
+  pub published : (acts : List DirAct) (d : State D) (f : HomeFront) (n : ℕ) → KeptFor Tells files faults fuses begun acts d f → n ≡ length (filter (λ (r : HomeRow). true) (f.shown).deeds) → n ≡ length (entries row_lock acts)
+  published acts d f n k is = is ∙ ap length (all_counted (f.shown).deeds ∙ k.shown)
+
+  -- the home of a pair
+  pub found_home : (acts : List DirAct) (d : State D) (f : HomeFront) (pair : Pair) (home : Option ℕ) → KeptFor Tells files faults fuses begun acts d f → home_of d pair ≡ home → home_in (rows_found start acts) pair ≡ home
+  found_home acts d f pair home k is = ap (λ (r : RowsStanding). home_in ((left row_lock r acts).directory).rows pair) (sym same) ∙ sym (k.homes pair) ∙ is
+
+  -- a call of the disk failed
+  pub failed_in : (acts : List DirAct) (act : DirAct) (d d' : State D) (f f' : HomeFront) (n : ℕ) → KeptFor Tells files faults fuses begun acts d f → KeptFor Tells files faults fuses begun (acts ++ act ∷ []) d' f'
+      → n ≡ faults d'.disk → Rose (faults d.disk) (faults d'.disk) → FailedRow start n acts (Some act)
+  failed_in acts act d d' f f' n k k' is rose =
+      let before : faults d.disk ≡ (left row_lock start.directory acts).faults = k.faults_are ∙ ap (λ (r : RowsStanding). (left row_lock r acts).faults) same in
+      let after : faults d'.disk ≡ (left row_lock start.directory (acts ++ act ∷ [])).faults = k'.faults_are ∙ ap (λ (r : RowsStanding). (left row_lock r (acts ++ act ∷ [])).faults) same in
+      (subst (λ n. Rose n (left row_lock start.directory (acts ++ act ∷ [])).faults) before (subst (λ n. Rose (faults d.disk) n) after rose), is ∙ after)

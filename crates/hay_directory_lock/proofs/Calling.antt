@@ -1,0 +1,174 @@
+-- What a call tells of the seat that made it.
+use Rattle.std.proofs.Common.{◌≡◌, inl, inr, ◌+◌, ℕ, true, List, [], ◌∷◌, ◌++◌, length, take, filter, Option, Some, None, Ok, Err, refl, sym, ap, subst, ◌∙◌, append-nil, length-append, arith}
+use Rattle.std.specs.List.{AllByRecursion as Each}
+use mathlib.Core.List.{IsPrefix}
+use Rattle.hay_needle.specs.declared.needle.Pair.{Pair}
+use Rattle.hay_disk.specs.Disk.{Files}
+use Rattle.hay_core.specs.declared.entry.CoreTag.{CoreTag}
+use Rattle.hay_legal.specs.declared.known.HomeRow.{HomeRow}
+use Rattle.hay_legal.specs.Known.{home_in}
+use Rattle.hay_history.specs.Steps.{RowsStanding}
+use Rattle.hay_history.specs.Steps.RowDid.{AddsRow}
+use Rattle.hay_turn.specs.Acts.{AllOf}
+use Rattle.hay_turn.specs.Seats.{Holds, MayFree, SeatState, after_free}
+use Rattle.hay_turn.specs.Slots.{acts_in}
+use Rattle.hay_turn.proofs.Prefixes.{prefix_self}
+use Rattle.hay_front.specs.Fronts.{IsBehind, RowOf}
+use Rattle.hay_views.specs.HomeLooks.{IsHomeOf, with_row}
+use Rattle.hay_views.proofs.HomeLaw.{looks_show_homes}
+use Rattle.hay_views.proofs.PlaceLaw.{seen_first}
+use Rattle.hay_meeting.specs.declared.act.DirAct.{DirAct}
+use Rattle.hay_meeting.specs.declared.act.DirDid.{DirDid}
+use Rattle.hay_meeting.specs.declared.act.DirDid.TheVariants as did
+use Rattle.hay_meeting.specs.Acts.{Start, row_did_of, row_lock, row_of}
+use Rattle.hay_meeting.specs.Locks.{LockSight, add_shown, entries}
+use Rattle.hay_meeting.proofs.Replays.{entries_append}
+use Rattle.hay_meeting.proofs.Standings.{rows_behind_acts}
+use Rattle.hay_holdings.specs.Holdings.{Holding, sight_of}
+use Rattle.hay_holdings.specs.Rows.{HomeShown, MadeRow, rows_found}
+use Rattle.hay_holdings.proofs.Calls.{held_by_seat}
+use Rattle.hay_directory.specs.State.{State}
+use Rattle.hay_directory.specs.declared.fault.DirFault.{DirFault}
+use Rattle.hay_directory.specs.declared.fault.DirFault.TheVariants as refusal
+use Rattle.hay_directory_lock.specs.Answers.{Settles, SettlesAs}
+use Rattle.hay_directory_lock.specs.Begun.{BegunAt, HomesShown}
+use Rattle.hay_directory_lock.specs.Seats.{DirectorySeatState, IsSeated, LockState, StartsAt, sight}
+use Rattle.hay_directory_lock.specs.Standing.{HomeFront, KeptFor}
+use Rattle.hay_directory_lock.proofs.Answering.{all_counted}
+
+-- each act is of the line, and of its seat
+abbrev pub AreOf : CoreTag → List DirAct → Type 0
+AreOf tag acts = Each (λ act. (act.tag ≡ tag) × (act.seat ≡ tag.lane)) acts
+
+mine : (tag : CoreTag) (number : ℕ) (acts : List DirAct) → number ≡ tag.lane → AreOf tag acts → AllOf (λ a. a.seat) number acts
+mine tag number [] is of = tt
+mine tag number (act ∷ acts) is of = (of.0.1 ∙ sym is, mine tag number acts is of.1)
+
+their_tags : (tag : CoreTag) (acts : List DirAct) → AreOf tag acts → Each (λ act. act.tag ≡ tag) acts
+their_tags tag [] of = tt
+their_tags tag (act ∷ acts) of = (of.0.0, their_tags tag acts of.1)
+
+their_seats : (tag : CoreTag) (acts : List DirAct) → AreOf tag acts → Each (λ act. act.seat ≡ tag.lane) acts
+their_seats tag [] of = tt
+their_seats tag (act ∷ acts) of = (of.0.1, their_seats tag acts of.1)
+
+-- A HOLDING
+
+module _ {D Y : Type 0} (Tells : Type 0) (files : D → Files) (faults fuses : D → ℕ) (directory_of : Y → State D) (front_of : Y → HomeFront) where
+  abbrev Stood : BegunAt → List DirAct → Y → Type 0
+  Stood begun acts y = KeptFor Tells files faults fuses begun acts (directory_of y) (front_of y)
+
+  module _ {lock : LockState} {seat : DirectorySeatState} (seated : IsSeated lock seat) {mid : SeatState BegunAt DirAct} {y : Y} (held : Holds (λ a. a.seat) Stood seat.turn mid y) where
+    pub kept_held : KeptFor Tells files faults fuses seated.begun mid.seen (directory_of y) (front_of y)
+    kept_held = held.stands_for seated.begun (seated.is).start
+
+    pub view_held : (seat.view).front ≡ ((front_of y).shown).front
+    view_held = (seated.is).front ∙ sym kept_held.front_is
+
+    pub settings_held : (directory_of y).settings ≡ lock.settings
+    settings_held = kept_held.settings ∙ (seated.is).settings
+
+    module _ (tag : CoreTag) {y' : Y} (made : Option DirAct) (lane : (seat.turn).number ≡ tag.lane) (of : AreOf tag (acts_in made)) (kept : (begun : BegunAt) (acts : List DirAct) → KeptFor Tells files faults fuses begun acts (directory_of y) (front_of y) → KeptFor Tells files faults fuses begun (acts ++ acts_in made) (directory_of y') (front_of y')) where
+      pub may_free : MayFree (λ a. a.seat) Stood mid y' (acts_in made)
+      may_free = record {
+        stands_for = λ b is. kept b mid.seen (held.stands_for b (sym (ap (λ (s : SeatState BegunAt DirAct). s.start) held.same) ∙ is));
+        mine = mine tag mid.number (acts_in made) (ap (λ (s : SeatState BegunAt DirAct). s.number) held.same ∙ lane) of;
+      }
+
+      module _ {new : SeatState BegunAt DirAct} (freed : new ≡ after_free mid (acts_in made)) {view : HomesShown} (all : view ≡ (front_of y').shown) where
+        same_start : new.start ≡ (seat.turn).start
+        same_start = ap (λ (s : SeatState BegunAt DirAct). s.start) freed ∙ ap (λ (s : SeatState BegunAt DirAct). s.start) held.same
+
+        kept_then : KeptFor Tells files faults fuses seated.begun (mid.seen ++ acts_in made) (directory_of y') (front_of y')
+        kept_then = kept seated.begun mid.seen kept_held
+
+        pub seated_still : IsSeated lock (record { turn = new; view = view })
+        seated_still = record {
+          turn_is = ap (λ (s : SeatState BegunAt DirAct). s.turn) freed ∙ ap (λ (s : SeatState BegunAt DirAct). s.turn) held.same ∙ seated.turn_is;
+          rests = ap (λ (s : SeatState BegunAt DirAct). s.holds) freed;
+          begun = seated.begun;
+          is = record {
+            start = same_start ∙ (seated.is).start;
+            settings = (seated.is).settings;
+            stood = (seated.is).stood;
+            front = ap (λ (w : HomesShown). w.front) all ∙ kept_then.front_is;
+            base = ap (λ (w : HomesShown). w.base) all ∙ kept_then.base;
+          };
+        }
+
+        pub holding : IsBehind seat.view (front_of y).shown → Holding row_lock tag mid.seen made (sight seat) (sight (record { turn = new; view = view }))
+        holding behind =
+            let shown : view.deeds ≡ entries row_lock (mid.seen ++ acts_in made) = ap (λ (w : HomesShown). w.deeds) all ∙ kept_then.shown in
+            let from : IsPrefix (seat.view).deeds (entries row_lock mid.seen) = subst (λ (l : List HomeRow). IsPrefix (seat.view).deeds l) kept_held.shown behind.2 in
+            let here = held_by_seat row_lock {tag = tag} made held from (their_tags tag (acts_in made) of) (their_seats tag (acts_in made) of) in
+            let there = subst (λ (s : SeatState BegunAt DirAct). Holding row_lock tag mid.seen made (sight seat) (sight_of s (entries row_lock (mid.seen ++ acts_in made)))) (sym freed) here in
+            subst (λ (l : List HomeRow). Holding row_lock tag mid.seen made (sight seat) (sight_of new l)) (sym shown) there
+
+-- THE ANSWER FOR A ROW
+
+one_shown : (d : DirDid) (row : HomeRow) → row_did_of d ≡ AddsRow row → length (add_shown (row_of d) []) ≡ 1
+one_shown did.TriesRow row is = absurd cc
+one_shown (did.AddsRow added) row is = refl
+one_shown (did.PendsRow pending) row is = absurd cc
+one_shown (did.Drains machine drained) row is = absurd cc
+one_shown did.FusesRow row is = absurd cc
+
+one_more : (held : List DirAct) (made : Option DirAct) (row : HomeRow) → MadeRow (AddsRow row) made → length (entries row_lock (held ++ acts_in made)) ≡ length (entries row_lock held) + 1
+one_more held None row is = absurd is
+one_more held (Some act) row is =
+    ap length (entries_append row_lock held (act ∷ [])) ∙ length-append (entries row_lock held) (add_shown (row_of act.did) []) ∙ ap (λ n. length (entries row_lock held) + n) (one_shown act.did row is)
+
+module _ (start : Start) (row : HomeRow) {tag : CoreTag} {held : List DirAct} {made : Option DirAct} {a b : LockSight DirAct HomeRow} (holding : Holding row_lock tag held made a b) where
+  count_found : (stood published n : ℕ) → length ((start.directory).directory).rows ≡ stood → published ≡ length (entries row_lock held) → n ≡ stood + published → n ≡ length (rows_found start held)
+  count_found stood published n first since all =
+      omega (arith, first, since, all, ap length (rows_behind_acts start.directory held), length-append ((start.directory).directory).rows (entries row_lock held))
+
+  pub told_home : (home stood published n : ℕ) → length ((start.directory).directory).rows ≡ stood → n ≡ stood + published → Settles start row (Ok (home, published)) held made → SettlesAs start row tag (Ok (home, n)) a b
+  told_home home stood published n first all (since, inl found) =
+      let same : length (entries row_lock (held ++ acts_in made)) ≡ length (entries row_lock held) = ap (λ m. length (entries row_lock (held ++ acts_in m))) found.0 ∙ ap (λ (l : List DirAct). length (entries row_lock l)) (append-nil held) in
+      inl (record { held = held; made = made; holding = holding; is = (found.0, found.1, count_found stood published n first (since ∙ same) all) })
+  told_home home stood published n first all (since, inr new) =
+      let before = count_found stood (length (entries row_lock held)) (stood + length (entries row_lock held)) first refl refl in
+      let more = one_more held made row new.1 in
+      inr (new.0, record { held = held; made = made; holding = holding; is = (new.1, new.2, omega (arith, since, more, all, before)) })
+
+  pub told_refusal : (fault : DirFault) → Settles start row (Err fault) held made → SettlesAs start row tag (Err fault) a b
+  told_refusal refusal.Frozen is = record { held = held; made = made; holding = holding; is = is }
+  told_refusal refusal.NoMemory is = record { held = held; made = made; holding = holding; is = is }
+  told_refusal (refusal.Failed faults) is = record { held = held; made = made; holding = holding; is = is }
+
+-- A LOOK
+
+abbrev some_in : BegunAt → Option BegunAt → BegunAt
+some_in d None = d
+some_in d (Some b) = b
+
+module _ (start : Start) {lock : LockState} {seat : DirectorySeatState} (seated : IsSeated lock seat) (starts : StartsAt start seat) where
+  pub stood_first : length ((start.directory).directory).rows ≡ lock.stood
+  stood_first =
+      let same : starts.0 ≡ seated.begun = ap (some_in starts.0) (sym starts.1 ∙ (seated.is).start) in
+      ap (λ (r : RowsStanding). length (r.directory).rows) (sym starts.2) ∙ ap (λ (b : BegunAt). length ((b.rows).directory).rows) same ∙ (seated.is).stood
+
+  pub first_rows : ((seated.begun).rows) ≡ start.directory
+  first_rows = ap (λ (b : BegunAt). b.rows) (sym (ap (some_in starts.0) (sym starts.1 ∙ (seated.is).start))) ∙ starts.2
+
+  pub home_shown : (pair : Pair) (view : HomesShown) (published n : ℕ) (home : Option ℕ) → IsBehind seat.view view → published ≡ length (filter (λ (r : HomeRow). true) view.deeds) → n ≡ lock.stood + published
+      → RowOf with_row IsHomeOf view pair home → HomeShown start pair n home (sight seat) (sight (record { turn = seat.turn; view = view }))
+  home_shown pair view published n home behind counted all is =
+      let base = sym behind.1 ∙ (seated.is).base in
+      let there = looks_show_homes view view _ _ (length view.deeds) pair home base (refl, refl, prefix_self view.deeds) refl is in
+      let whole : take (length view.deeds) view.deeds ≡ view.deeds = seen_first view.deeds view.deeds (length view.deeds) (prefix_self view.deeds) refl in
+      let rows : List HomeRow = (((seated.begun).rows).directory).rows in
+      record {
+        looked = record { seen = refl; own = refl; shown = behind.2 };
+        front = omega (arith, all, counted, ap length (all_counted view.deeds), stood_first, length-append ((start.directory).directory).rows view.deeds);
+        is = ap (λ (r : RowsStanding). home_in ((r.directory).rows ++ view.deeds) pair) (sym first_rows) ∙ ap (λ (l : List HomeRow). home_in (rows ++ l) pair) (sym whole) ∙ sym there;
+      }
+
+-- WHAT A CALL IS GIVEN, of the lock and of the seat as they are inside
+
+pub seated_in : {lock now : LockState} {seat old : DirectorySeatState} → lock ≡ now → seat ≡ old → IsSeated now old → IsSeated lock seat
+seated_in {lock} {now} {seat} {old} lock_is seat_is seated = subst (λ (s : DirectorySeatState). IsSeated lock s) (sym seat_is) (subst (λ (l : LockState). IsSeated l old) (sym lock_is) seated)
+
+pub lane_in : {seat old : DirectorySeatState} {lane : ℕ} → seat ≡ old → (old.turn).number ≡ lane → (seat.turn).number ≡ lane
+lane_in seat_is lane = ap (λ (s : DirectorySeatState). (s.turn).number) seat_is ∙ lane

@@ -1,0 +1,4 @@
+pub mod Begun
+pub mod Standing
+pub mod Seats
+pub mod Answers

@@ -1,0 +1,19 @@
+//! The Directory behind its lock, with its homes published.
+//!
+//! Lanes share one Directory. Each has a seat, which looks at the homes without the lock, and holds the lock for each change. What a
+//! call found and did is said as `hay_holdings` says it of the Directory, from what the lane's seat knew before to what it knows then:
+//! which acts of all lanes it has seen, which are its own, and which rows it was shown. Behind the lock the Directory is always what
+//! those acts left of what stood at first, and where its disk tells, the disk has all of it. A row is shown to lookers once it is on
+//! the disk. Where it cannot be shown for want of memory, the Directory is frozen with the row pending, as where the disk failed.
+//!
+//! It stands on hay_directory, hay_turn and hay_front, and on hay_holdings for what a call tells. Acts are for clauses alone, and none
+//! is kept. It promises nothing of time or fairness.
+#![tactic(auto)]
+
+mod act;
+mod kept;
+mod lock;
+
+pub use act::RowAct;
+pub use kept::{Begun, KeptDirectory};
+pub use lock::{DirectoryLock, DirectorySeat};

@@ -1,0 +1,156 @@
+//! The lock and its seats.
+ghost use Rattle.std.specs.Prelude.{◌≡◌, ◌+◌, ◌<◌, true, false};
+ghost use Rattle.hay_meeting.specs.Acts.{Start};
+ghost use Rattle.hay_holdings.specs.Rows.{Drained, FusedDir, HomeShown};
+ghost use Rattle.hay_directory_lock.specs.Seats.{IsSeated, StartsAt, sight};
+ghost use Rattle.hay_directory_lock.specs.Answers.{SettlesAs};
+
+use crate::kept::KeptDirectory;
+use hay_core::CoreTag;
+use hay_directory::DirFault;
+use hay_dirfile::DirRow;
+use hay_disk::Disk;
+use hay_front::Seat;
+use hay_needle::{Pair, Settings};
+use hay_turn::{Turn, TurnSeat};
+use hay_views::HomeView;
+use std::marker::Model;
+use std::sync::Wait;
+
+/// The Directory behind its lock. Clauses see which lock it is, the settings, and how many rows stood when it was made.
+pub struct DirectoryLock<D: Disk> {
+    turn: Turn<KeptDirectory<D>>,
+    settings: Settings,
+    stood: u64,
+}
+
+impl<D: Disk> Model for DirectoryLock<D> {
+    ghost use Rattle.hay_directory_lock.specs.Seats.{LockState};
+
+    ghost Value = { LockState };
+
+    ghost view = { λ l. record { turn = l.turn; settings = l.settings; stood = l.stood } };
+}
+
+/// A lane's seat at the lock, with its seat of the published homes.
+pub struct DirectorySeat<D: Disk> {
+    turn: TurnSeat<KeptDirectory<D>>,
+    view: Seat<HomeView>,
+}
+
+impl<D: Disk> Model for DirectorySeat<D> {
+    ghost use Rattle.hay_directory_lock.specs.Seats.{DirectorySeatState};
+
+    ghost Value = { DirectorySeatState };
+
+    ghost view = { λ s. record { turn = s.turn; view = s.view } };
+}
+
+// The rows that stood at first and those that were published since.
+fn all_rows<R: Wait>(rt: &R, stood: u64, published: u64) -> u64
+    ensures { result ≡ stood + published }
+{
+    let Some(rows) = stood.checked_add(published) else {
+        // There are fewer rows than numbers of 64 bits.
+        for _ in rt.forever() {}
+        unreachable!()
+    };
+    rows
+}
+
+impl<D: Disk> DirectoryLock<D> {
+    /// How many rows there are, and the home of a pair among them, by one look without the lock. It takes no memory.
+    pub fn home<R: Wait>(
+        &self,
+        rt: &R,
+        seat: &mut DirectorySeat<D>,
+        pair: Pair,
+    ) -> (u64, Option<u32>)
+        requires seated { IsSeated self.now seat.old }
+        ensures seated { IsSeated self.now seat.new }
+        ensures shown { (start : Start) → StartsAt start seat.old → HomeShown start pair result.0 result.1 (sight seat.old) (sight seat.new) }
+    {
+        let (published, home) = seat.view.look(rt, &pair);
+        (all_rows(rt, self.stood, published), home)
+    }
+
+    /// Gives a pair a home, unless it has one, and answers its home and how many rows there are. The row is on the disk then, and is
+    /// shown. `Frozen` comes where a row is pending, and changes nothing; `Failed` leaves the row pending, and so may `NoMemory`.
+    pub fn settle<R: Wait>(
+        &self,
+        rt: &R,
+        seat: &mut DirectorySeat<D>,
+        tag: CoreTag,
+        pair: Pair,
+        volume: u32,
+    ) -> Result<(u32, u64), DirFault>
+        requires seated { IsSeated self.now seat.old }
+        requires lane { seat.old.turn.number ≡ tag.lane }
+        requires volume { volume < self.now.settings.volumes }
+        ensures seated { IsSeated self.now seat.new }
+        ensures settles { (start : Start) → StartsAt start seat.old →
+            SettlesAs start (record { pair = pair; volume = volume }) tag result (sight seat.old) (sight seat.new) }
+    {
+        let mut kept = self.turn.hold(rt, &mut seat.turn);
+        let (answer, made) = kept.settle(rt, &mut seat.view, tag, DirRow { pair, volume });
+        self.turn.free(&mut seat.turn, kept, made);
+        match answer {
+            Ok((home, published)) => Ok((home, all_rows(rt, self.stood, published))),
+            Err(fault) => Err(fault),
+        }
+    }
+
+    /// Closes a machine to changes.
+    pub fn drain<R: Wait>(&self, rt: &R, seat: &mut DirectorySeat<D>, tag: CoreTag, machine: u32)
+        requires seated { IsSeated self.now seat.old }
+        requires lane { seat.old.turn.number ≡ tag.lane }
+        requires machine { machine < self.now.settings.machines }
+        ensures seated { IsSeated self.now seat.new }
+        ensures drained { (start : Start) → StartsAt start seat.old → Drained start tag machine true (sight seat.old) (sight seat.new) }
+    {
+        self.set_drained(rt, seat, tag, machine, true);
+    }
+
+    /// Opens a machine to changes again.
+    pub fn undrain<R: Wait>(&self, rt: &R, seat: &mut DirectorySeat<D>, tag: CoreTag, machine: u32)
+        requires seated { IsSeated self.now seat.old }
+        requires lane { seat.old.turn.number ≡ tag.lane }
+        requires machine { machine < self.now.settings.machines }
+        ensures seated { IsSeated self.now seat.new }
+        ensures drained { (start : Start) → StartsAt start seat.old → Drained start tag machine false (sight seat.old) (sight seat.new) }
+    {
+        self.set_drained(rt, seat, tag, machine, false);
+    }
+
+    // Drains a machine, or no longer.
+    fn set_drained<R: Wait>(
+        &self,
+        rt: &R,
+        seat: &mut DirectorySeat<D>,
+        tag: CoreTag,
+        machine: u32,
+        is_drained: bool,
+    )
+        requires seated { IsSeated self.now seat.old }
+        requires lane { seat.old.turn.number ≡ tag.lane }
+        requires machine { machine < self.now.settings.machines }
+        ensures seated { IsSeated self.now seat.new }
+        ensures drained { (start : Start) → StartsAt start seat.old → Drained start tag machine is_drained (sight seat.old) (sight seat.new) }
+    {
+        let mut kept = self.turn.hold(rt, &mut seat.turn);
+        let act = kept.set_drained(rt, &mut seat.view, tag, machine, is_drained);
+        self.turn.free(&mut seat.turn, kept, Some(act));
+    }
+
+    /// Sets a fuse on the disk.
+    pub fn fuse<R: Wait>(&self, rt: &R, seat: &mut DirectorySeat<D>, tag: CoreTag, calls: u32)
+        requires seated { IsSeated self.now seat.old }
+        requires lane { seat.old.turn.number ≡ tag.lane }
+        ensures seated { IsSeated self.now seat.new }
+        ensures fused { (start : Start) → StartsAt start seat.old → FusedDir start tag (sight seat.old) (sight seat.new) }
+    {
+        let mut kept = self.turn.hold(rt, &mut seat.turn);
+        let act = kept.fuse(rt, &mut seat.view, tag, calls);
+        self.turn.free(&mut seat.turn, kept, Some(act));
+    }
+}
