@@ -4,6 +4,7 @@ pub mod Counts
 pub mod Cuts
 pub mod Dels
 pub mod Feeds
+pub mod Fills
 pub mod Finishes
 pub mod Judging
 pub mod Laying
@@ -12,6 +13,8 @@ pub mod Loop
 pub mod OneJudgement
 pub mod Others
 pub mod Parts
+pub mod Placing
+pub mod Places
 pub mod Pointwise
 pub mod Puts
 pub mod Reopens

@@ -212,7 +212,7 @@ show_fill xss settings b tag start pair cookie r = refl
 
 -- PUTS
 
-same_replica : (r : ReplicaKnown) (e e' c c' b b' : ℕ) (run run' : Option Run) → e ≡ e' → c ≡ c' → b ≡ b' → run ≡ run'
+pub same_replica : (r : ReplicaKnown) (e e' c c' b b' : ℕ) (run run' : Option Run) → e ≡ e' → c ≡ c' → b ≡ b' → run ≡ run'
     → record r { end = e; cells = c; bare = b; run = run } ≡ record r { end = e'; cells = c'; bare = b'; run = run' }
 same_replica r e e' c c' b b' run run' p q s t = simp (p, q, s, t)
 

@@ -6,6 +6,7 @@ pub mod Laid
 pub mod Law
 pub mod Next
 pub mod Parts
+pub mod Places
 pub mod Reached
 pub mod Reopen
 pub mod Slacks
