@@ -3,6 +3,7 @@ pub mod Choices
 pub mod Counts
 pub mod Cuts
 pub mod Dels
+pub mod Divide
 pub mod Feeds
 pub mod Fills
 pub mod Finishes
@@ -16,9 +17,12 @@ pub mod Parts
 pub mod Placing
 pub mod Places
 pub mod Pointwise
+pub mod PutBoxes
 pub mod Puts
+pub mod Refusals
 pub mod Reopens
 pub mod Restarting
+pub mod Rooming
 pub mod Rooms
 pub mod Rows
 pub mod Shows

@@ -28,10 +28,10 @@ use Rattle.hay_audit_steps.proofs.Placing.{ArePartsBehind, place_step, put_there
 use Rattle.hay_audit_steps.proofs.Rows.{stays}
 use Rattle.hay_audit_steps.proofs.Tests.{tells_none, tells_unset}
 
-tells_least : (n f : ℕ) → Decides (is_least n f) (n ≤ f)
+pub tells_least : (n f : ℕ) → Decides (is_least n f) (n ≤ f)
 tells_least n f = Decides-like _ (λ h. omega (arith, h)) (λ h. omega (arith, h)) (Decides-ltb n (f + 1))
 
-tells_between : (low n high : ℕ) → Decides (is_between low n high) ((low ≤ n) × (n ≤ high))
+pub tells_between : (low n high : ℕ) → Decides (is_between low n high) ((low ≤ n) × (n ≤ high))
 tells_between low n high = Decides-and (is_least low n) (is_least n high) (tells_least low n) (tells_least n high)
 
 -- PARTS BEHIND A TEST

@@ -119,13 +119,13 @@ zip_set_both R (x ∷ xs) [] i d a b h f = absurd h
 zip_set_both R (x ∷ xs) (z ∷ ys) zero d a b h f = (f h.0, h.1)
 zip_set_both R (x ∷ xs) (z ∷ ys) (suc i) d a b h f = (h.0, zip_set_both R xs ys i d a b h.1 f)
 
-zip_long : {X : Type 0} (R : X → X → Type 0) (xs ys : List X) → AllZip R xs ys → length xs ≡ length ys
+pub zip_long : {X : Type 0} (R : X → X → Type 0) (xs ys : List X) → AllZip R xs ys → length xs ≡ length ys
 zip_long R [] [] h = refl
 zip_long R (x ∷ xs) (y ∷ ys) h = ap suc (zip_long R xs ys h.1)
 zip_long R [] (y ∷ ys) h = absurd h
 zip_long R (x ∷ xs) [] h = absurd h
 
-zip_index : {X : Type 0} (R : X → X → Type 0) (xs ys : List X) (i : ℕ) (d : X) → R d d → AllZip R xs ys → R (slice_index_or xs i d) (slice_index_or ys i d)
+pub zip_index : {X : Type 0} (R : X → X → Type 0) (xs ys : List X) (i : ℕ) (d : X) → R d d → AllZip R xs ys → R (slice_index_or xs i d) (slice_index_or ys i d)
 zip_index R [] [] i d e h = e
 zip_index R (x ∷ xs) (y ∷ ys) zero d e h = h.0
 zip_index R (x ∷ xs) (y ∷ ys) (suc i) d e h = zip_index R xs ys i d e h.1
@@ -136,7 +136,7 @@ pub place_below : (xss yss : List (List Slack)) (v j : ℕ) → Within xss yss �
 place_below xss yss v j h place =
     (omega (arith, place.0, zip_long Row xss yss h), omega (arith, place.1, zip_long Lies (slice_index_or xss v []) (slice_index_or yss v []) (zip_index Row xss yss v [] tt h)))
 
-set_length : {X : Type 0} (xs : List X) (i : ℕ) (x : X) → length (slice_set xs i x) ≡ length xs
+pub set_length : {X : Type 0} (xs : List X) (i : ℕ) (x : X) → length (slice_set xs i x) ≡ length xs
 set_length [] i x = refl
 set_length (y ∷ xs) zero x = refl
 set_length (y ∷ xs) (suc i) x = ap suc (set_length xs i x)

@@ -18,6 +18,7 @@ use Rattle.hay_audit_steps.specs.Next.{next_plain}
 use Rattle.hay_audit_steps.specs.Slacks.{Slack, fill_replica}
 use Rattle.hay_audit_steps.specs.Boxes.{Box, Between, Has, IsBoxStep, IsCut, EachIn, IsShaped, IsPlace, IsFilled, fill, ranged, slack_at, up_to, above}
 use Rattle.hay_audit_steps.specs.BoxNext.{IsSizeless, takes, stored_if, finished_boxes}
+use Rattle.hay_audit_steps.specs.Rooms.{IsWhole, put_boxes}
 use Rattle.hay_audit_steps.specs.Places.{flushed_boxes, stepped_boxes, compacted_boxes}
 
 -- Behind a line whose row looks at no sizes a box has the ranges that it had.
@@ -33,6 +34,12 @@ StoredPutsStepBoxes =
     → ((xss : List (List Slack)) → Between box.low xss box.high → taker_of settings (fill xss box.base) pair (length bytes) ≡ taker)
     → IsBoxStep (plain_row settings line (item.Command (command.Put pair bytes)) (reply.Stored v p d c)) box
     (map (ranged box) (stored_if settings box.base (record { lane = 0; line = line }) pair bytes v p d c taker))
+
+-- Behind a put a box is cut by what has room, and narrowed to the ends that are printed.
+abbrev pub PutsStepBoxes : Type 0
+PutsStepBoxes =
+    (settings : Settings) (box : Box) (line : ℕ) (pair : Pair) (bytes : List ℕ) (answer : Reply) → answer ≢ reply.NoMem → IsWhole box
+    → IsBoxStep (plain_row settings line (item.Command (command.Put pair bytes)) answer) box (put_boxes settings (record { lane = 0; line = line }) pair bytes answer box)
 
 -- The taker is the first try that takes: where each try takes whatever the sizes are, or refuses so, the taker is known.
 abbrev pub TakersAreDecided : Type 0

@@ -9,5 +9,6 @@ pub mod Parts
 pub mod Places
 pub mod Reached
 pub mod Reopen
+pub mod Rooms
 pub mod Slacks
 pub mod Steps
