@@ -18,6 +18,9 @@ use Rattle.hay_audit_steps.specs.Next.{next_plain}
 use Rattle.hay_audit_steps.specs.Slacks.{Slack, fill_replica}
 use Rattle.hay_audit_steps.specs.Boxes.{Box, Between, Has, IsBoxStep, IsCut, EachIn, IsShaped, IsPlace, IsFilled, fill, ranged, slack_at, up_to, above}
 use Rattle.hay_audit_steps.specs.BoxNext.{IsSizeless, takes, stored_if, finished_boxes}
+use Rattle.hay_reply.specs.declared.Note.{Note}
+use Rattle.hay_audit_steps.specs.BoxReopen.{restart_boxes}
+use Rattle.hay_audit_steps.specs.Reopen.{restart_row}
 use Rattle.hay_audit_steps.specs.Rooms.{IsWhole, put_boxes}
 use Rattle.hay_audit_steps.specs.Places.{flushed_boxes, stepped_boxes, compacted_boxes}
 
@@ -78,6 +81,12 @@ abbrev pub CompactsStepBoxes : Type 0
 CompactsStepBoxes =
     (settings : Settings) (box : Box) (line v m j v' m' g : ℕ) → replica_on settings v m ≡ Some j → IsFilled box v j
     → IsBoxStep (plain_row settings line (item.Command (command.Compact v m)) (reply.Compacted v' m' g)) box (compacted_boxes box v m j v' m' g)
+
+-- Behind a restart, whatever it was answered but want of memory, these boxes are kept.
+abbrev pub RestartsStepBoxes : Type 0
+RestartsStepBoxes =
+    (settings : Settings) (box : Box) (answer : Reply) (notes : List Note) → answer ≢ reply.NoMem → IsWhole box
+    → IsBoxStep (restart_row settings answer notes) box (restart_boxes settings box answer notes)
 
 -- A box is cut at an end, and each part lies on one side.
 abbrev pub EndsCutBoxes : Type 0
