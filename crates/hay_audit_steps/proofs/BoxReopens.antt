@@ -18,7 +18,7 @@ use Rattle.hay_legal.specs.declared.known.Known.{Known}
 use Rattle.hay_legal.specs.Known.{NoneFalls, empty_volume}
 use Rattle.hay_legal.specs.Restarts.{IsRestarted, KeptAfter, KeptFirst, MayKeep, ReopenedVolume, ReopenedVolumes, directory_with, kept_row, pending_notes, row_notes, undrained, volume_notes}
 use Rattle.hay_audit_steps.specs.BoxLaw.{RestartsStepBoxes}
-use Rattle.hay_audit_steps.specs.BoxReopen.{base_of, before_others, high_of, is_front, kept_if, low_of, may_keep, parts_of, reopened_stores, restart_boxes, restarted_box, restarted_from, restarted_with, then_others, volume_kept, volume_of}
+use Rattle.hay_audit_steps.specs.BoxReopen.{base_of, before_others, high_of, is_front, kept_first, kept_if, low_of, may_keep, parts_of, reopened_stores, restart_boxes, restarted_box, restarted_from, restarted_with, then_others, volume_kept, volume_of}
 use Rattle.hay_audit_steps.specs.Boxes.{Box, EachIn, Has, InReplicas, InVolumes, Within}
 use Rattle.hay_audit_steps.specs.Parts.{ArePartsOf, InParts, InVolumeParts, Part, choices_with, reopened_choices}
 use Rattle.hay_audit_steps.specs.Reopen.{Read, new_rows, read_kept, restart_row, says}
@@ -74,7 +74,7 @@ tells_may : (settings : Settings) (v : ℕ) (volume : VolumeKnown) (pending : Pe
 tells_may settings v volume pending true kept = tells_after settings v volume pending.entry kept
 tells_may settings v volume pending false kept = by_entry pending.entry
   where
-    by_entry : (change : Entry) → Decides (Rattle.hay_audit_steps.specs.BoxReopen.kept_first change kept) (KeptFirst change kept)
+    by_entry : (change : Entry) → Decides (kept_first change kept) (KeptFirst change kept)
     by_entry (Put pair cookie bytes) = tells_front kept
     by_entry (Del pair) = tells_below (λ j. says true (slice_get kept j)) (λ j. slice_get kept j ≡ Some true) (λ j. tells_says true (slice_get kept j)) (length kept)
 

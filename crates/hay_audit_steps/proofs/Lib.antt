@@ -1,4 +1,5 @@
 pub mod Advancing
+pub mod BoxPlains
 pub mod BoxReopens
 pub mod Choices
 pub mod Counts

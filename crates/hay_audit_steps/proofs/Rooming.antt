@@ -186,7 +186,7 @@ map_same f (x ∷ xs) [] e h = absurd (omega (arith, e))
 map_same f (x ∷ xs) (y ∷ ys) e h =
     ap (λ (b : Bool). b ∷ map f xs) (h 0 (omega arith)) ∙ ap (λ (bs : List Bool). f y ∷ bs) (map_same f xs ys (omega (arith, e)) (λ j within. h (suc j) (omega (arith, within))))
 
-long_fill : (xs : List Slack) (replicas : List ReplicaKnown) → length (fill_replicas xs replicas) ≡ length replicas
+pub long_fill : (xs : List Slack) (replicas : List ReplicaKnown) → length (fill_replicas xs replicas) ≡ length replicas
 long_fill [] replicas = refl
 long_fill (x ∷ xs) [] = refl
 long_fill (x ∷ xs) (r ∷ replicas) = ap suc (long_fill xs replicas)

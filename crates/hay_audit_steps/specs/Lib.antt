@@ -1,5 +1,6 @@
 pub mod BoxLaw
 pub mod BoxNext
+pub mod BoxPlain
 pub mod BoxReopen
 pub mod Boxes
 pub mod Judged
