@@ -22,25 +22,25 @@ use Rattle.hay_audit_steps.proofs.Parts.{parts_sound, parts_complete}
 
 -- CHOICES
 
-each_with : (Q R : List Part → Type 0) (first : Part) → ((rest : List Part) → Q rest → R (first ∷ rest)) → (rests : List (List Part)) → Each Q rests
+each_with : {X : Type 0} (Q R : List X → Type 0) (first : X) → ((rest : List X) → Q rest → R (first ∷ rest)) → (rests : List (List X)) → Each Q rests
     → Each R (map (λ rest. first ∷ rest) rests)
 each_with Q R first step [] h = tt
 each_with Q R first step (rest ∷ rests) h = (step rest h.0, each_with Q R first step rests h.1)
 
-each_choice : (P : Part → Type 0) (Q R : List Part → Type 0) → ((first : Part) (rest : List Part) → P first → Q rest → R (first ∷ rest))
-    → (firsts : List Part) (rests : List (List Part)) → Each P firsts → Each Q rests → Each R (choices_with firsts rests)
+pub each_choice : {X : Type 0} (P : X → Type 0) (Q R : List X → Type 0) → ((first : X) (rest : List X) → P first → Q rest → R (first ∷ rest))
+    → (firsts : List X) (rests : List (List X)) → Each P firsts → Each Q rests → Each R (choices_with firsts rests)
 each_choice P Q R step [] rests h g = tt
 each_choice P Q R step (first ∷ firsts) rests h g =
     each_both R (map (λ rest. first ∷ rest) rests) (choices_with firsts rests)
     (each_with Q R first (λ rest q. step first rest h.0 q) rests g) (each_choice P Q R step firsts rests h.1 g)
 
-any_with : (Q R : List Part → Type 0) (first : Part) → ((rest : List Part) → Q rest → R (first ∷ rest)) → (rests : List (List Part)) → AnyOf Q rests
+any_with : {X : Type 0} (Q R : List X → Type 0) (first : X) → ((rest : List X) → Q rest → R (first ∷ rest)) → (rests : List (List X)) → AnyOf Q rests
     → AnyOf R (map (λ rest. first ∷ rest) rests)
 any_with Q R first step [] h = absurd h
 any_with Q R first step (rest ∷ rests) h = elim h [ inl here ↦ inl (step rest here) | inr there ↦ inr (any_with Q R first step rests there) ]
 
-any_choice : (P : Part → Type 0) (Q R : List Part → Type 0) → ((first : Part) (rest : List Part) → P first → Q rest → R (first ∷ rest))
-    → (firsts : List Part) (rests : List (List Part)) → AnyOf P firsts → AnyOf Q rests → AnyOf R (choices_with firsts rests)
+pub any_choice : {X : Type 0} (P : X → Type 0) (Q R : List X → Type 0) → ((first : X) (rest : List X) → P first → Q rest → R (first ∷ rest))
+    → (firsts : List X) (rests : List (List X)) → AnyOf P firsts → AnyOf Q rests → AnyOf R (choices_with firsts rests)
 any_choice P Q R step [] rests h g = absurd h
 any_choice P Q R step (first ∷ firsts) rests h g = elim h [
   | inl here ↦ any_left R (map (λ rest. first ∷ rest) rests) (choices_with firsts rests) (any_with Q R first (λ rest q. step first rest here q) rests g)

@@ -25,7 +25,7 @@ use Rattle.hay_audit_steps.proofs.Swaps.{tells_has_run}
 use Rattle.hay_audit_steps.proofs.Tests.{tells_none}
 use Rattle.hay_audit_steps.proofs.Wider.{sizes_of, swap_box_step}
 
-box_tested : (row : Known → Known → Type 0) (box : Box) (next : List Box) (Needs : Type 0) (test : Bool)
+pub box_tested : (row : Known → Known → Type 0) (box : Box) (next : List Box) (Needs : Type 0) (test : Bool)
     → Decides test Needs → (Needs → IsBoxStep row box next)
     → ((k : Known) (faults arms fuses : List ℕ) (t : Known) → Has box k → row (with_counts k faults arms fuses) t → Needs)
     → IsBoxStep row box (cond test next [])
@@ -60,19 +60,19 @@ tells_finish box v m j v' m' g =
 
 -- WHAT A STATE OF THE BOX HAS OF IT
 
-record IsLike (b k : Known) (v j : ℕ) (x : Slack) : Type 0 where
-  frozen : (volume_at k v).frozen ≡ (volume_at b v).frozen
-  replica : replica_of k v j ≡ fill_replica x (replica_of b v j)
-  table : now (volume_at k v) (replica_of k v j) ≡ now (volume_at b v) (replica_of b v j)
+pub record IsLike (b k : Known) (v j : ℕ) (x : Slack) : Type 0 where
+  pub frozen : (volume_at k v).frozen ≡ (volume_at b v).frozen
+  pub replica : replica_of k v j ≡ fill_replica x (replica_of b v j)
+  pub table : now (volume_at k v) (replica_of k v j) ≡ now (volume_at b v) (replica_of b v j)
 
-is_like : (xss : List (List Slack)) (b k : Known) (v j : ℕ) → j < length (volume_at b v).replicas → k ≡ fill xss b → IsLike b k v j (slack_at xss v j)
+pub is_like : (xss : List (List Slack)) (b k : Known) (v j : ℕ) → j < length (volume_at b v).replicas → k ≡ fill xss b → IsLike b k v j (slack_at xss v j)
 is_like xss b k v j h e = subst (λ (q : Known). IsLike b q v j (slack_at xss v j)) (sym e) (record {
   frozen = ap (λ (volume : VolumeKnown). volume.frozen) (volume_fill xss b v);
   replica = sizes_of xss b v j h;
   table = now_fill xss b v j;
 })
 
-run_back : (n : ℕ) (o : Option Run) (run : Run) → option_map (fill_run n) o ≡ Some run → (q : Run) × (o ≡ Some q)
+pub run_back : (n : ℕ) (o : Option Run) (run : Run) → option_map (fill_run n) o ≡ Some run → (q : Run) × (o ≡ Some q)
 run_back n None run e = absurd cc
 run_back n (Some q) run e = (q, refl)
 

@@ -212,7 +212,7 @@ show_fill xss settings b tag start pair cookie r = refl
 
 -- PUTS
 
-same_replica : (r : ReplicaKnown) (e e' c c' b b' : ℕ) (run run' : Option Run) → e ≡ e' → c ≡ c' → b ≡ b' → run ≡ run'
+pub same_replica : (r : ReplicaKnown) (e e' c c' b b' : ℕ) (run run' : Option Run) → e ≡ e' → c ≡ c' → b ≡ b' → run ≡ run'
     → record r { end = e; cells = c; bare = b; run = run } ≡ record r { end = e'; cells = c'; bare = b'; run = run' }
 same_replica r e e' c c' b b' run run' p q s t = simp (p, q, s, t)
 
@@ -233,7 +233,7 @@ all_grown_fill size (x ∷ xs) (r ∷ rs) =
     ap (λ (s : ReplicaKnown). s ∷ map (grown size) (fill_replicas xs rs)) (grown_fill size x r)
     ∙ ap (λ (ss : List ReplicaKnown). fill_replica x (grown size r) ∷ ss) (all_grown_fill size xs rs)
 
-stored_fill : (xss : List (List Slack)) (b : Known) (tag : CoreTag) (pair : Pair) (bytes : List ℕ) (v : ℕ) (c : Cookie)
+pub stored_fill : (xss : List (List Slack)) (b : Known) (tag : CoreTag) (pair : Pair) (bytes : List ℕ) (v : ℕ) (c : Cookie)
     → stored (fill xss b) tag pair bytes v c ≡ fill xss (stored b tag pair bytes v c)
 stored_fill xss b tag pair bytes v c =
     ap (λ (k : Known). with_home k pair v)

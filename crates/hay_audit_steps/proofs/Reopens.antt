@@ -23,7 +23,7 @@ kept_back v m line true = cond-true _ (Some true) None (and_from (v == v) _ (eq-
 kept_back v m line false = cond-true _ (Some false) None (and_from (v == v) _ (eq-eqb v v refl) (and_from (m == m) (line == line) (eq-eqb m m refl) (eq-eqb line line refl)))
 
 -- what was read is what the notes tell
-read_back : (settings : Settings) (v line j : ℕ) (replicas : List ReplicaKnown) (kept : List Bool) (rest : List Note) → length kept ≡ length replicas
+pub read_back : (settings : Settings) (v line j : ℕ) (replicas : List ReplicaKnown) (kept : List Bool) (rest : List Note) → length kept ≡ length replicas
     → read_kept settings v line j replicas (replica_notes settings v line j kept ++ rest) ≡ Some (record { value = kept; rest = rest })
 read_back settings v line j [] [] rest e = refl
 read_back settings v line j [] (x ∷ kept) rest e = absurd (omega (arith, e))
@@ -51,11 +51,11 @@ kept_is v m line (note.Lost v' m' line') false e = let h = said v m line v' m' l
 kept_is v m line (note.Lost v' m' line') true e = absurd (let h = said v m line v' m' line' false true e in let lie : false ≡ true = h.3 in cc)
 kept_is v m line n kept e = absurd cc
 
-record IsReading (settings : Settings) (v line j : ℕ) (replicas : List ReplicaKnown) (notes : List Note) (read : Read (List Bool)) : Type 0 where
-  told : notes ≡ replica_notes settings v line j read.value ++ read.rest
-  long : length read.value ≡ length replicas
+pub record IsReading (settings : Settings) (v line j : ℕ) (replicas : List ReplicaKnown) (notes : List Note) (read : Read (List Bool)) : Type 0 where
+  pub told : notes ≡ replica_notes settings v line j read.value ++ read.rest
+  pub long : length read.value ≡ length replicas
 
-read_is : (settings : Settings) (v line j : ℕ) (replicas : List ReplicaKnown) (notes : List Note) (read : Read (List Bool))
+pub read_is : (settings : Settings) (v line j : ℕ) (replicas : List ReplicaKnown) (notes : List Note) (read : Read (List Bool))
     → read_kept settings v line j replicas notes ≡ Some read → IsReading settings v line j replicas notes read
 read_is settings v line j [] notes read e =
     let is : record { value = []; rest = notes } ≡ read = some_same _ read e in
@@ -86,7 +86,7 @@ read_is settings v line j (r ∷ replicas) (n ∷ notes) read e =
 
 -- WHICH REPLICAS MAY KEEP IT
 
-tells_says : (x : Bool) (o : Option Bool) → Decides (says x o) (o ≡ Some x)
+pub tells_says : (x : Bool) (o : Option Bool) → Decides (says x o) (o ≡ Some x)
 tells_says true (Some true) = (λ h. refl, λ h. refl)
 tells_says true (Some false) = (λ h. absurd cc, λ h. absurd cc)
 tells_says false (Some false) = (λ h. refl, λ h. refl)
@@ -94,7 +94,7 @@ tells_says false (Some true) = (λ h. absurd cc, λ h. absurd cc)
 tells_says true None = (λ h. absurd cc, λ h. absurd cc)
 tells_says false None = (λ h. absurd cc, λ h. absurd cc)
 
-tells_below : (test : ℕ → Bool) (P : ℕ → Type 0) → ((j : ℕ) → Decides (test j) (P j)) → (n : ℕ) → Decides (all_below test n) ((j : ℕ) → j < n → P j)
+pub tells_below : (test : ℕ → Bool) (P : ℕ → Type 0) → ((j : ℕ) → Decides (test j) (P j)) → (n : ℕ) → Decides (all_below test n) ((j : ℕ) → j < n → P j)
 tells_below test P each n = Decides-below_and test P (all_below test) each refl (λ m. refl) n
 
 -- a premise that is a test
@@ -124,10 +124,10 @@ tells_kept volume change f kept =
     less_is : (a b : ℕ) → nat_lt a b ≡ true → a < b
     less_is a b h = (Decides-ltb a b).0 h
 
-abbrev AfterFailed : Settings → ℕ → VolumeKnown → Entry → List Bool → Type 0
+abbrev pub AfterFailed : Settings → ℕ → VolumeKnown → Entry → List Bool → Type 0
 AfterFailed settings v volume change kept = (m : ℕ) × (f : ℕ) × (volume.frozen ≡ Some m) × (replica_on settings v m ≡ Some f) × KeptBelow volume change f kept
 
-tells_after : (settings : Settings) (v : ℕ) (volume : VolumeKnown) (change : Entry) (kept : List Bool) → Decides (kept_on settings v volume change volume.frozen kept) (AfterFailed settings v volume change kept)
+pub tells_after : (settings : Settings) (v : ℕ) (volume : VolumeKnown) (change : Entry) (kept : List Bool) → Decides (kept_on settings v volume change volume.frozen kept) (AfterFailed settings v volume change kept)
 tells_after settings v volume change kept = by_machine volume.frozen refl
   where
     some_same : (a b : ℕ) → Some a ≡ Some b → a ≡ b

@@ -70,16 +70,16 @@ all_complete settings v (old ∷ olds) (new ∷ news) [] rest plain h = absurd h
 
 -- THE DIRECTORY
 
-rows_back : (pending : Option PendingRow) (row : Bool) → new_rows pending (row_notes pending row) ≡ Some (kept_row pending row)
+pub rows_back : (pending : Option PendingRow) (row : Bool) → new_rows pending (row_notes pending row) ≡ Some (kept_row pending row)
 rows_back None true = refl
 rows_back None false = refl
 rows_back (Some pending) true = cond-true _ (Some (pending.row ∷ [])) None (eq-eqb (pending.tag).line (pending.tag).line refl)
 rows_back (Some pending) false = cond-true _ (Some []) None (eq-eqb (pending.tag).line (pending.tag).line refl)
 
-record RowsTold (pending : Option PendingRow) (notes : List Note) (new : List HomeRow) : Type 0 where
-  row : Bool
-  told : notes ≡ row_notes pending row
-  rows : new ≡ kept_row pending row
+pub record RowsTold (pending : Option PendingRow) (notes : List Note) (new : List HomeRow) : Type 0 where
+  pub row : Bool
+  pub told : notes ≡ row_notes pending row
+  pub rows : new ≡ kept_row pending row
 
 row_told : (line : ℕ) (x : List HomeRow) (new : List HomeRow) (line' : ℕ) → cond (line' == line) (Some x) None ≡ Some new → (line' ≡ line) × (new ≡ x)
 row_told line x new line' e = by_test (cases_Bool (line' == line))
@@ -88,7 +88,7 @@ row_told line x new line' e = by_test (cases_Bool (line' == line))
     by_test (inl same) = (eqb-true line' line same, (let is : Some x ≡ Some new = sym (cond-true _ (Some x) None same) ∙ e in cc))
     by_test (inr other) = absurd (let lie : None ≡ Some new = sym (cond-false _ (Some x) None other) ∙ e in cc)
 
-rows_sound : (pending : Option PendingRow) (notes : List Note) (new : List HomeRow) → new_rows pending notes ≡ Some new → RowsTold pending notes new
+pub rows_sound : (pending : Option PendingRow) (notes : List Note) (new : List HomeRow) → new_rows pending notes ≡ Some new → RowsTold pending notes new
 rows_sound None [] new e = record { row = false; told = refl; rows = (let is : Some [] ≡ Some new = e in cc) }
 rows_sound None (n ∷ notes) new e = absurd (let lie : None ≡ Some new = e in cc)
 rows_sound (Some pending) (note.KeptDir line' ∷ []) new e =

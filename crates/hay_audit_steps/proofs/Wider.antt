@@ -119,29 +119,29 @@ zip_set_both R (x ∷ xs) [] i d a b h f = absurd h
 zip_set_both R (x ∷ xs) (z ∷ ys) zero d a b h f = (f h.0, h.1)
 zip_set_both R (x ∷ xs) (z ∷ ys) (suc i) d a b h f = (h.0, zip_set_both R xs ys i d a b h.1 f)
 
-zip_long : {X : Type 0} (R : X → X → Type 0) (xs ys : List X) → AllZip R xs ys → length xs ≡ length ys
+pub zip_long : {X : Type 0} (R : X → X → Type 0) (xs ys : List X) → AllZip R xs ys → length xs ≡ length ys
 zip_long R [] [] h = refl
 zip_long R (x ∷ xs) (y ∷ ys) h = ap suc (zip_long R xs ys h.1)
 zip_long R [] (y ∷ ys) h = absurd h
 zip_long R (x ∷ xs) [] h = absurd h
 
-zip_index : {X : Type 0} (R : X → X → Type 0) (xs ys : List X) (i : ℕ) (d : X) → R d d → AllZip R xs ys → R (slice_index_or xs i d) (slice_index_or ys i d)
+pub zip_index : {X : Type 0} (R : X → X → Type 0) (xs ys : List X) (i : ℕ) (d : X) → R d d → AllZip R xs ys → R (slice_index_or xs i d) (slice_index_or ys i d)
 zip_index R [] [] i d e h = e
 zip_index R (x ∷ xs) (y ∷ ys) zero d e h = h.0
 zip_index R (x ∷ xs) (y ∷ ys) (suc i) d e h = zip_index R xs ys i d e h.1
 zip_index R [] (y ∷ ys) i d e h = absurd h
 zip_index R (x ∷ xs) [] i d e h = absurd h
 
-place_below : (xss yss : List (List Slack)) (v j : ℕ) → Within xss yss → IsPlace yss v j → IsPlace xss v j
+pub place_below : (xss yss : List (List Slack)) (v j : ℕ) → Within xss yss → IsPlace yss v j → IsPlace xss v j
 place_below xss yss v j h place =
     (omega (arith, place.0, zip_long Row xss yss h), omega (arith, place.1, zip_long Lies (slice_index_or xss v []) (slice_index_or yss v []) (zip_index Row xss yss v [] tt h)))
 
-set_length : {X : Type 0} (xs : List X) (i : ℕ) (x : X) → length (slice_set xs i x) ≡ length xs
+pub set_length : {X : Type 0} (xs : List X) (i : ℕ) (x : X) → length (slice_set xs i x) ≡ length xs
 set_length [] i x = refl
 set_length (y ∷ xs) zero x = refl
 set_length (y ∷ xs) (suc i) x = ap suc (set_length xs i x)
 
-place_set : (xss : List (List Slack)) (v j : ℕ) (y : Slack) → IsPlace xss v j → IsPlace (set_slack xss v j y) v j
+pub place_set : (xss : List (List Slack)) (v j : ℕ) (y : Slack) → IsPlace xss v j → IsPlace (set_slack xss v j y) v j
 place_set xss v j y place = (
   omega (arith, place.0, set_length xss v (slice_set (slice_index_or xss v []) j y)),
   subst (λ (xs : List Slack). j < length xs) (sym (index_list xss v (slice_set (slice_index_or xss v []) j y) place.0))
@@ -153,7 +153,7 @@ set_back [] i z d = refl
 set_back (x ∷ xs) zero z d = refl
 set_back (x ∷ xs) (suc i) z d = ap (λ (ys : List _). x ∷ ys) (set_back xs i z d)
 
-slack_back : (xss : List (List Slack)) (v j : ℕ) (z : Slack) → IsPlace xss v j → set_slack (set_slack xss v j z) v j (slack_at xss v j) ≡ xss
+pub slack_back : (xss : List (List Slack)) (v j : ℕ) (z : Slack) → IsPlace xss v j → set_slack (set_slack xss v j z) v j (slack_at xss v j) ≡ xss
 slack_back xss v j z place =
     let xs : List Slack = slice_index_or xss v [] in
     ap (λ (ys : List Slack). slice_set (slice_set xss v (slice_set xs j z)) v (slice_set ys j (slack_at xss v j))) (index_list xss v (slice_set xs j z) place.0)
@@ -161,17 +161,17 @@ slack_back xss v j z place =
     ∙ set_back xss v (slice_set xs j z) []
 
 -- one place free below, and set above
-free_low : (low xss : List (List Slack)) (v j : ℕ) (a y : Slack) → Within (set_slack low v j a) xss → Lies (slack_at low v j) y → Within low (set_slack xss v j y)
+pub free_low : (low xss : List (List Slack)) (v j : ℕ) (a y : Slack) → Within (set_slack low v j a) xss → Lies (slack_at low v j) y → Within low (set_slack xss v j y)
 free_low low xss v j a y h g =
     zip_swap_left Row low xss v [] (slice_set (slice_index_or low v []) j a) (slice_set (slice_index_or xss v []) j y) h
     (λ row. zip_swap_left Lies (slice_index_or low v []) (slice_index_or xss v []) j no_slack a y row (λ any. g))
 
-free_high : (xss high : List (List Slack)) (v j : ℕ) (y b : Slack) → Within xss (set_slack high v j b) → Lies y (slack_at high v j) → Within (set_slack xss v j y) high
+pub free_high : (xss high : List (List Slack)) (v j : ℕ) (y b : Slack) → Within xss (set_slack high v j b) → Lies y (slack_at high v j) → Within (set_slack xss v j y) high
 free_high xss high v j y b h g =
     zip_swap_right Row xss high v [] (slice_set (slice_index_or xss v []) j y) (slice_set (slice_index_or high v []) j b) h
     (λ row. zip_swap_right Lies (slice_index_or xss v []) (slice_index_or high v []) j no_slack y b row (λ any. g))
 
-both_set : (xss yss : List (List Slack)) (v j : ℕ) (a b : Slack) → Within xss yss → Lies a b → Within (set_slack xss v j a) (set_slack yss v j b)
+pub both_set : (xss yss : List (List Slack)) (v j : ℕ) (a b : Slack) → Within xss yss → Lies a b → Within (set_slack xss v j a) (set_slack yss v j b)
 both_set xss yss v j a b h g =
     zip_set_both Row xss yss v [] (slice_set (slice_index_or xss v []) j a) (slice_set (slice_index_or yss v []) j b) h
     (λ row. zip_set_both Lies (slice_index_or xss v []) (slice_index_or yss v []) j no_slack a b row (λ any. g))

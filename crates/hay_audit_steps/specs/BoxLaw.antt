@@ -18,11 +18,16 @@ use Rattle.hay_audit_steps.specs.Next.{next_plain}
 use Rattle.hay_audit_steps.specs.Slacks.{Slack, fill_replica}
 use Rattle.hay_audit_steps.specs.Boxes.{Box, Between, Has, IsBoxStep, IsCut, EachIn, IsShaped, IsPlace, IsFilled, fill, ranged, slack_at, up_to, above}
 use Rattle.hay_audit_steps.specs.BoxNext.{IsSizeless, takes, stored_if, finished_boxes}
+use Rattle.hay_reply.specs.declared.Note.{Note}
+use Rattle.hay_audit_steps.specs.BoxReopen.{restart_boxes}
+use Rattle.hay_audit_steps.specs.Reopen.{restart_row}
+use Rattle.hay_audit_steps.specs.Rooms.{IsWhole, put_boxes}
+use Rattle.hay_audit_steps.specs.Places.{flushed_boxes, stepped_boxes, compacted_boxes}
 
--- Behind a command whose row looks at no sizes a box has the ranges that it had.
+-- Behind a line whose row looks at no sizes a box has the ranges that it had.
 abbrev pub SizelessLinesStepBoxes : Type 0
 SizelessLinesStepBoxes =
-    (settings : Settings) (box : Box) (line : ℕ) (asked : Item) (answer : Reply) → answer ≢ reply.NoMem → IsSizeless asked
+    (settings : Settings) (box : Box) (line : ℕ) (asked : Item) (answer : Reply) → answer ≢ reply.NoMem → IsSizeless asked answer
     → IsBoxStep (plain_row settings line asked answer) box (map (ranged box) (next_plain settings line asked answer box.base))
 
 -- So it has behind a put that was stored, where one volume takes it whatever the sizes are.
@@ -32,6 +37,12 @@ StoredPutsStepBoxes =
     → ((xss : List (List Slack)) → Between box.low xss box.high → taker_of settings (fill xss box.base) pair (length bytes) ≡ taker)
     → IsBoxStep (plain_row settings line (item.Command (command.Put pair bytes)) (reply.Stored v p d c)) box
     (map (ranged box) (stored_if settings box.base (record { lane = 0; line = line }) pair bytes v p d c taker))
+
+-- Behind a put a box is cut by what has room, and narrowed to the ends that are printed.
+abbrev pub PutsStepBoxes : Type 0
+PutsStepBoxes =
+    (settings : Settings) (box : Box) (line : ℕ) (pair : Pair) (bytes : List ℕ) (answer : Reply) → answer ≢ reply.NoMem → IsWhole box
+    → IsBoxStep (plain_row settings line (item.Command (command.Put pair bytes)) answer) box (put_boxes settings (record { lane = 0; line = line }) pair bytes answer box)
 
 -- The taker is the first try that takes: where each try takes whatever the sizes are, or refuses so, the taker is known.
 abbrev pub TakersAreDecided : Type 0
@@ -52,6 +63,30 @@ abbrev pub FinishesStepBoxes : Type 0
 FinishesStepBoxes =
     (settings : Settings) (box : Box) (line v m j v' m' g : ℕ) → replica_on settings v m ≡ Some j → IsFilled box v j
     → IsBoxStep (plain_row settings line (item.Command (command.Finish v m)) (reply.Compacted v' m' g)) box (finished_boxes box v m j v' m' g)
+
+-- A flush tells how many cells had no record, and leaves none.
+abbrev pub FlushesStepBoxes : Type 0
+FlushesStepBoxes =
+    (settings : Settings) (box : Box) (line v m j v' m' n : ℕ) → replica_on settings v m ≡ Some j → IsFilled box v j
+    → IsBoxStep (plain_row settings line (item.Command (command.Flush v m)) (reply.Flushed v' m' n)) box (flushed_boxes box v m j v' m' n)
+
+-- A step tells how many cells were copied: those that were asked for, or all that were left.
+abbrev pub StepsStepBoxes : Type 0
+StepsStepBoxes =
+    (settings : Settings) (box : Box) (line v m j cells v' m' n : ℕ) → replica_on settings v m ≡ Some j → IsFilled box v j
+    → IsBoxStep (plain_row settings line (item.Command (command.Step v m cells)) (reply.Stepped v' m' n)) box (stepped_boxes box v m j cells v' m' n)
+
+-- A compaction in one command leaves exact sizes.
+abbrev pub CompactsStepBoxes : Type 0
+CompactsStepBoxes =
+    (settings : Settings) (box : Box) (line v m j v' m' g : ℕ) → replica_on settings v m ≡ Some j → IsFilled box v j
+    → IsBoxStep (plain_row settings line (item.Command (command.Compact v m)) (reply.Compacted v' m' g)) box (compacted_boxes box v m j v' m' g)
+
+-- Behind a restart, whatever it was answered but want of memory, these boxes are kept.
+abbrev pub RestartsStepBoxes : Type 0
+RestartsStepBoxes =
+    (settings : Settings) (box : Box) (answer : Reply) (notes : List Note) → answer ≢ reply.NoMem → IsWhole box
+    → IsBoxStep (restart_row settings answer notes) box (restart_boxes settings box answer notes)
 
 -- A box is cut at an end, and each part lies on one side.
 abbrev pub EndsCutBoxes : Type 0

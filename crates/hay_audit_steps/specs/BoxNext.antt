@@ -8,6 +8,8 @@ use Rattle.hay_needle.specs.Tables.{live_end}
 use Rattle.hay_url.specs.Url.{cookie_of}
 use Rattle.hay_core.specs.declared.entry.CoreTag.{CoreTag}
 use Rattle.hay_script.specs.declared.Command.TheVariants as command
+use Rattle.hay_reply.specs.declared.Reply.{Reply}
+use Rattle.hay_reply.specs.declared.Reply.TheVariants as reply
 use Rattle.hay_legal.specs.declared.known.Known.{Known}
 use Rattle.hay_legal.specs.declared.turn.Item.{Item}
 use Rattle.hay_legal.specs.declared.turn.Item.TheVariants as item
@@ -17,17 +19,14 @@ use Rattle.hay_audit_steps.specs.Slacks.{Slack, no_slack}
 use Rattle.hay_audit_steps.specs.Boxes.{Box, slack_at, set_slack}
 use Rattle.hay_audit_steps.specs.Next.{is_at, is_dir_open, cookie_eq, keep_if, stored, names, is_open}
 
--- a command whose row looks at no sizes
-abbrev pub IsSizeless : Item → Type 0
-IsSizeless (item.Command (command.Read pair cookie)) = Unit {0}
-IsSizeless (item.Command (command.Get url)) = Unit {0}
-IsSizeless (item.Command (command.Url pair)) = Unit {0}
-IsSizeless (item.Command (command.Drain m)) = Unit {0}
-IsSizeless (item.Command (command.Undrain m)) = Unit {0}
-IsSizeless (item.Command (command.Fuse v m n)) = Unit {0}
-IsSizeless (item.Command (command.FuseDir n)) = Unit {0}
-IsSizeless item.Bad = Unit {0}
-IsSizeless _ = ⊥
+-- a line with such a reply, whose row looks at no sizes but those that change with all else
+abbrev pub IsSizeless : Item → Reply → Type 0
+IsSizeless (item.Command (command.Put pair bytes)) r = ⊥
+IsSizeless (item.Command (command.Flush v m)) (reply.Flushed v' m' n) = ⊥
+IsSizeless (item.Command (command.Compact v m)) (reply.Compacted v' m' g) = ⊥
+IsSizeless (item.Command (command.Step v m n)) (reply.Stepped v' m' n') = ⊥
+IsSizeless (item.Command (command.Finish v m)) (reply.Compacted v' m' g) = ⊥
+IsSizeless _ r = Unit {0}
 
 -- A PUT
 

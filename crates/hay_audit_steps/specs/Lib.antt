@@ -1,12 +1,16 @@
 pub mod BoxLaw
 pub mod BoxNext
+pub mod BoxPlain
+pub mod BoxReopen
 pub mod Boxes
 pub mod Judged
 pub mod Laid
 pub mod Law
 pub mod Next
 pub mod Parts
+pub mod Places
 pub mod Reached
 pub mod Reopen
+pub mod Rooms
 pub mod Slacks
 pub mod Steps

@@ -67,8 +67,8 @@ reopened_parts volume part kept =
 abbrev pub InParts : List Part → List ReplicaKnown → Type 0
 InParts parts replicas = AllZip In parts replicas
 
--- each first part before each list of others
-abbrev pub choices_with : List Part → List (List Part) → List (List Part)
+-- each first choice before each list of others
+abbrev pub choices_with : {X : Type 0} → List X → List (List X) → List (List X)
 choices_with [] rests = []
 choices_with (first ∷ firsts) rests = map (λ rest. first ∷ rest) rests ++ choices_with firsts rests
 
