@@ -1,0 +1,319 @@
+#!/usr/bin/env python3
+"""Judges blocks of lanes: whether what a script and its transcript show is lawful, and why it is not.
+
+    bench/blocks.py judge SCRIPT TRANSCRIPT [--secret HEX] [--sure]
+    bench/blocks.py blocks [--program PATH] [--blocks N] [--seed N] [--keep FOLDER]
+    bench/blocks.py faults [--scripts N] [--seed N] [--only WORD]
+
+`judge` reads a script and the transcript of a run of it over void disks, and tells of each block whether it is lawful. It stops at
+the first item that is not. `blocks` draws scripts of plain lines, blocks of 2 to 8 lanes and restarts until there are N blocks, and
+judges what the store of block_store.py prints of them; with --program what the program prints. `faults` has one planted fault after
+the other in that store, and tells how many scripts it takes until the judge finds it.
+
+The judge is written from the rules on blocks of docs/model.md, plain lines and restarts among them, and from no definition or code of
+the program. It keeps all states that the store may stand at, with the least counts of faults. A plain line is judged as a block of
+one lane. What a line met of a volume is taken apart into parts (block_volume.py), and a block is lawful where no rule below
+refuses it and where, for each replica, the parts have an order, each lane's in its own, by which each was answered as it was. The
+states behind it are those that such orders leave.
+
+rule                                                               held by (block_judge.py, or block_volume.py where it is said)
+-----------------------------------------------------------------  ----------------------------------------------------------------
+each line has one reply, in order, with its one text               take_turn, reply_of (block_text.py)
+a reply is of a kind of its command, and never damaged             kinds
+nowhere exactly where it is due; own volume and machine            kinds, own_place
+B1 the log is the acknowledged lines, at their positions           new_entries; must_be_next (block_volume.py)
+B2 rows, and why each earlier try did not take the photo           new_rows; decision, Passed and Takes (block_volume.py)
+B3 fronts of a lane                                                fronts; Shown (block_volume.py)
+B4 answers at their fronts                                         answers, right_photo, right_url, right_causes
+B5 counts of failures come up, differ, rise in a lane              counts; counted, fails (block_volume.py)
+B5 one change of a volume is pending                               PutFailed, DeleteFailed (block_volume.py)
+B6 ends of refusals for room, and room at each put                 needs, ends_in_range; NoRoom, Stored (block_volume.py)
+B7 who closed a volume                                             closings; ClosedBy, Flush, Work (block_volume.py)
+B7 groups are the tries in order, of a pair without a home         groups, directory_in_order
+B7 readonly dir and failed dir                                     directory_in_order
+B7 busy, worn, and the generations made                            generations; Begin (block_volume.py)
+B7 records flushed                                                 Flush (block_volume.py), stays_in_range
+B8 what is left behind the block                                   stand_behind, stays_in_range
+no change comes to a volume that was closed before                 must_be_open, in each change (block_volume.py)
+a refusal for room names the lowest replica without room           NoRoom (block_volume.py)
+ends and records are those of some front, in each lane's order     orders (block_volume.py)
+a freeze is one line's; who met it meets it later too              PutFailed, DeleteFailed, fails_to_switch, orders (block_volume.py)
+the count that froze a volume is the last of a failed              counted, with orders (block_volume.py)
+who froze the Directory, or met it so, adds no row                 directory_in_order
+what a lane was told of a home it keeps                            directory_in_order, told_of_home
+a run of before ends by a delete whose disk failed, or a freeze    Deleted, froze (block_volume.py)
+an index that is stuck is loose behind a swap alone                Flush, swapped (block_volume.py)
+generations that a lane makes rise                                 Begin, with orders (block_volume.py)
+restarts and their notes                                           worlds_restarted, notes_fit, reopened
+
+It asks for more than these rules in four ways. `one_order`: the lanes' order, the positions, the rows and the fronts stand in one order
+over all volumes. `orders`: the lines of a replica came in one order, where the rules ask for each front by itself. A lane that held a
+lock is shown all that came before. And a swap leaves just the cells that its order makes of it, where the rules have a range.
+
+It does not hold these:
+- replicas that a read passed over are laid to no count, so the counts of arms and disks behind a turn may be taken as too low;
+- of a refusal of a volume of several replicas it does not ask that one moment fits all replicas, and of an earlier try without a group
+  it asks for a lack of room only where no other replica can lack it in the block;
+- of `readonly dir` in a block it does not ask that a try takes the photo;
+- `nomem` is not judged: a turn that has it, or that has more orders than can be looked at, is undecided.
+"""
+
+import argparse
+import collections
+import random
+import subprocess
+import sys
+from pathlib import Path
+
+import block_judge
+import block_text as text
+from block_faults import FAULTS
+from block_store import Store
+
+SIZES = ((0, 1, 20, 600), (1, 500, 900, 1500), (3, 40, 3000))
+MIXES = ((5, 4, 1, 2, 1, 1, 1), (8, 2, 0, 2, 0, 1, 1), (3, 8, 2, 1, 1, 0, 0), (5, 2, 0, 3, 0, 2, 3))
+MOST_LINES = 40
+# how often an arm fails, or a look at a disk
+FLAKY = (0, 0, 0, 0.1)
+
+
+# SCRIPTS
+
+
+class Script:
+    """A drawn script, with the settings that it is for."""
+
+    def __init__(self, seed):
+        self.draw = draw = random.Random(seed)
+        machines = draw.choice((1, 2, 2, 3))
+        replicas = draw.randint(1, min(3, machines))
+        secret = bytes(32) if draw.random() < 0.8 else draw.randbytes(32)
+        self.settings = text.Settings(machines, draw.choice((1, 1, 2, 3)), replicas, draw.choice((4096, 4096, 4600, 65536)), secret)
+        self.keys, self.sizes = draw.choice((2, 3, 4)), draw.choice(SIZES)
+        self.lines, self.blocks = [], 0
+        for _ in range(draw.randrange(8)):
+            self.lines.append(self.plain_line())
+        for _ in range(draw.randint(1, 5)):
+            self.add_block()
+
+    def text(self):
+        return "".join(line + "\n" for line in self.lines).encode("ascii")
+
+    def pair(self):
+        return (self.draw.randrange(self.keys), self.draw.choice((1, 1, 2)))
+
+    def replica(self):
+        volume = self.draw.randrange(self.settings.volumes)
+        if self.draw.random() < 0.03:
+            return f"{volume} {self.draw.randrange(4)}"
+        return f"{volume} {self.settings.machine_of(volume, self.draw.randrange(self.settings.replicas))}"
+
+    def cookie(self, key):
+        cookie = text.cookie_of(self.settings.secret, key)
+        return cookie if self.draw.random() < 0.95 else cookie ^ 1
+
+    def lane_line(self, mix):
+        word = self.draw.choices(("put", "read", "get", "del", "url", "flush", "compact"), mix)[0]
+        key, alt = self.pair()
+        if word == "put":
+            size = self.draw.choice(self.sizes)
+            return f"put {key} {alt} " + ("-" if size == 0 else f"x{size}:{self.draw.randrange(256):02x}")
+        if word == "read":
+            return f"read {key} {alt} {self.cookie(key):x}"
+        if word == "get":
+            volume = self.draw.randrange(self.settings.volumes)
+            machine = self.settings.machine_of(volume, self.draw.randrange(self.settings.replicas))
+            return "get " + text.Url(machine, volume, (key, alt), self.cookie(key)).text()
+        return f"{word} {key} {alt}" if word in ("del", "url") else f"{word} {self.replica()}"
+
+    def plain_line(self):
+        word = self.draw.choices(("lane", "begin", "step", "finish", "drain", "undrain", "fuse"), (12, 2, 2, 1, 0.5, 1, 2))[0]
+        if word == "lane":
+            return self.lane_line((6, 3, 1, 2, 1, 1, 1))
+        if word == "step":
+            return f"step {self.replica()} {self.draw.choice((1, 2, 5))}"
+        if word in ("drain", "undrain"):
+            return f"{word} {self.draw.randrange(self.settings.machines)}"
+        return self.fuse_line() if word == "fuse" else f"{word} {self.replica()}"
+
+    def fuse_line(self):
+        if self.draw.random() < 0.25:
+            return f"fuse dir {self.draw.randrange(9)}"
+        return f"fuse {self.replica()} {self.draw.randrange(30)}"
+
+    def add_block(self):
+        """A block, with what may come before and behind it."""
+        while self.draw.random() < 0.3:
+            self.lines.append(self.fuse_line())
+        if self.draw.random() < 0.3:
+            replica = self.replica()
+            self.lines += [f"begin {replica}", f"step {replica} {self.draw.choice((1, 3, 9))}"]
+        lanes, mix = self.draw.randint(2, 8), self.draw.choice(MIXES)
+        self.lines.append(f"lanes {lanes}")
+        count = min(self.draw.choice((lanes, 2 * lanes, 3 * lanes, MOST_LINES)), MOST_LINES)
+        chosen = self.draw.sample(range(lanes), lanes) + self.draw.choices(range(lanes), k=count - lanes)
+        self.lines += [f"{lane} {self.lane_line(mix)}" for lane in chosen]
+        self.lines.append("end")
+        self.blocks += 1
+        self.add_behind()
+
+    def add_behind(self):
+        for _ in range(self.draw.randrange(4)):
+            self.lines.append(self.plain_line())
+        if self.draw.random() < 0.4:
+            self.add_reads()
+        if self.draw.random() < 0.6:
+            self.lines.append(self.draw.choice(("restart", "restart 1", f"restart {self.draw.randrange(2, 99)}")))
+            if self.draw.random() < 0.7:
+                self.add_reads()
+
+    def add_reads(self):
+        """Reads each pair from each replica, and flushes and compacts each at times."""
+        for key in range(self.keys):
+            for alt in (1, 2):
+                self.lines += [f"read {key} {alt} {text.cookie_of(self.settings.secret, key):x}"] * self.settings.replicas
+        for volume in range(self.settings.volumes):
+            for replica in range(self.settings.replicas):
+                if self.draw.random() < 0.3:
+                    self.lines.append(f"{self.draw.choice(('flush', 'compact'))} {volume} {self.settings.machine_of(volume, replica)}")
+
+
+def flaky_of(seed):
+    """How often a read of a script's store fails."""
+    return random.Random(seed).choice(FLAKY)
+
+
+def verdicts_of(script, transcript, sure):
+    return block_judge.verdicts(script.text(), transcript, script.settings.secret, sure)
+
+
+def transcript_of(program, script, seed):
+    """What the program prints of a script, or the store where there is no program."""
+    if program is None:
+        return Store(script.settings, seed, flaky_of(seed)).run(script.text())
+    done = subprocess.run([program, "run", *script.settings.words()], input=script.text(), capture_output=True, timeout=600, check=False)
+    if done.returncode != 0:
+        sys.exit(f"seed {seed}: status {done.returncode}, {done.stderr!r}")
+    return done.stdout.decode("ascii")
+
+
+# RUNS
+
+
+class Tally:
+    """How blocks and other items were judged, and which replies stand in the blocks."""
+
+    def __init__(self):
+        self.blocks, self.plain, self.lanes, self.replies = (collections.Counter() for _ in range(4))
+
+    def add(self, verdicts, transcript, script):
+        lines_of = {asked.line for item in text.items_of(script) if isinstance(item, text.Block) for asked in item.asked}
+        for verdict in verdicts:
+            if verdict.is_block:
+                self.blocks[verdict.word] += 1
+                self.lanes[verdict.lanes] += 1
+            else:
+                self.plain[verdict.word] += 1
+        for line in transcript.splitlines()[1:]:
+            first, _, reply = line.partition(" ")
+            if first.isdigit() and int(first) in lines_of:
+                self.replies[text.reply_of(reply).word] += 1
+
+    def told(self):
+        def parts(counter):
+            return ", ".join(f"{count} {word}" for word, count in sorted(counter.items(), key=lambda item: str(item[0])))
+
+        return (
+            f"blocks: {parts(self.blocks)}; other items: {parts(self.plain)}\n"
+            f"blocks by the lanes that have lines: {', '.join(f'{lanes}: {count}' for lanes, count in sorted(self.lanes.items()))}\n"
+            f"replies in blocks: {parts(self.replies)}"
+        )
+
+
+def keep(folder, seed, script, transcript):
+    if folder:
+        Path(folder).mkdir(parents=True, exist_ok=True)
+        Path(folder, f"{seed}.script").write_bytes(script.text())
+        Path(folder, f"{seed}.transcript").write_text(transcript, encoding="ascii")
+
+
+def run_blocks(options):
+    tally, seed, wrong = Tally(), options.seed, 0
+    while sum(tally.blocks.values()) < options.blocks:
+        script = Script(seed)
+        transcript = transcript_of(options.program, script, seed)
+        verdicts = verdicts_of(script, transcript, options.program is not None or flaky_of(seed) == 0)
+        tally.add(verdicts, transcript, script.text())
+        for verdict in verdicts:
+            if verdict.word != "lawful":
+                wrong += 1
+                keep(options.keep, seed, script, transcript)
+                print(f"seed {seed}: {verdict.told()}", flush=True)
+        seed += 1
+    print(f"{seed - options.seed} scripts\n{tally.told()}")
+    return 1 if wrong else 0
+
+
+def found_by(kind, options):
+    """After how many scripts a fault is found, and after how many in a block, each with the verdict, where it is."""
+    first, in_block = None, None
+    for count in range(1, options.scripts + 1):
+        seed = options.seed + count
+        script = Script(seed)
+        transcript = kind(script.settings, seed, flaky_of(seed)).run(script.text())
+        last = verdicts_of(script, transcript, flaky_of(seed) == 0)[-1]
+        if last.word != "unlawful":
+            continue
+        first = first or (count, last)
+        if last.is_block:
+            in_block = (count, last)
+            break
+    return first, in_block
+
+
+def run_faults(options):
+    missed = 0
+    print("| planted fault | scripts until found | until found in a block | told |\n|---|---:|---:|---|")
+    for name, kind in FAULTS.items():
+        if options.only and options.only not in name:
+            continue
+        first, in_block = found_by(kind, options)
+        missed += first is None
+        told = (in_block or first or (0, None))[1]
+        counts = " | ".join(str(found[0]) if found else f"not in {options.scripts}" for found in (first, in_block))
+        print(f"| {name} | {counts} | {told.reasons[0] if told else ''} |", flush=True)
+    return 1 if missed else 0
+
+
+def run_judge(options):
+    transcript = options.transcript.read_text(encoding="ascii")
+    found = block_judge.verdicts(options.script.read_bytes(), transcript, bytes.fromhex(options.secret), options.sure)
+    for verdict in found:
+        if verdict.is_block or verdict.word != "lawful":
+            print(verdict.told())
+    return 0 if all(verdict.word == "lawful" for verdict in found) else 1
+
+
+def main():
+    parser = argparse.ArgumentParser(description=__doc__.splitlines()[0])
+    modes = parser.add_subparsers(dest="mode", required=True)
+    judge = modes.add_parser("judge")
+    judge.add_argument("script", type=Path)
+    judge.add_argument("transcript", type=Path)
+    judge.add_argument("--secret", default="00" * 32)
+    judge.add_argument("--sure", action="store_true", help="no read fails, so each shows its start replica")
+    blocks = modes.add_parser("blocks")
+    blocks.add_argument("--program")
+    blocks.add_argument("--blocks", type=int, default=2000)
+    blocks.add_argument("--seed", type=int, default=1)
+    blocks.add_argument("--keep", help="a folder for the scripts and transcripts that are not lawful")
+    faults = modes.add_parser("faults")
+    faults.add_argument("--scripts", type=int, default=500)
+    faults.add_argument("--seed", type=int, default=1)
+    faults.add_argument("--only", help="the faults with this word in their name")
+    options = parser.parse_args()
+    sys.exit({"judge": run_judge, "blocks": run_blocks, "faults": run_faults}[options.mode](options))
+
+
+if __name__ == "__main__":
+    main()
