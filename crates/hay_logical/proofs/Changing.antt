@@ -18,7 +18,7 @@ use Rattle.hay_legal.specs.declared.known.ReplicaKnown.{ReplicaKnown}
 use Rattle.hay_legal.specs.declared.known.VolumeKnown.{VolumeKnown}
 use Rattle.hay_legal.specs.Known.{empty_replica, lacks_room, machine_of, now, replica_at, room_refusal_of}
 use Rattle.hay_legal.specs.Known as legal
-use Rattle.hay_legal.specs.Plain.{has_pair, with_bare, with_stuck}
+use Rattle.hay_legal.specs.Plain.{has_pair, with_bare, with_stuck, without_run}
 use Rattle.hay_map.specs.MapRows.{MapRows}
 use Rattle.hay_map.specs.Places.{PlaceMeans, gone_place, place_in}
 use Rattle.hay_map.specs.Rows.{row_at}
@@ -36,19 +36,19 @@ use Rattle.hay_logical.specs.declared.unsure.Change.TheVariants as change
 use Rattle.hay_logical.specs.declared.unsure.Unsure.{Unsure}
 use Rattle.hay_logical.specs.Answers.{DeleteRefused, FlushRefused, HasFailed, HasRoom, IsDeleted, IsFlushed, IsPut, PutRefused, change_at, is_held, room_answer}
 use Rattle.hay_logical.specs.Answers as answers
-use Rattle.hay_logical.specs.Fits.{At, RunsAs, copier_run}
+use Rattle.hay_logical.specs.Fits.{At, Fits, RunsAs, copier_run}
 use Rattle.hay_logical.specs.Notes.{is_live}
 use Rattle.hay_logical.specs.Refusals.{answer_at}
 use Rattle.hay_logical.specs.Stands.{ReplicaStands, Stands, StandsFor}
-use Rattle.hay_logical.specs.Steps.{AllIdle, CallsOne, DeleteLeaves, DeletesAt, FlushesAt, FollowsAt, PutLeaves, StaysBeside}
+use Rattle.hay_logical.specs.Steps.{AllIdle, CallsOne, DeleteLeaves, DeletesAt, FlushesAt, FollowsAt, LosesRun, PutLeaves, StaysBeside}
 use Rattle.hay_logical.specs.Volumes.{CanReach, Volume}
 use Rattle.hay_logical.proofs.Calls.{up_open, frozen_open}
-use Rattle.hay_logical.proofs.Holding.{RunEnd, delete_part, stands_broken, stands_changed, stands_delete}
-use Rattle.hay_logical.proofs.Knowing.{changed_here, changed_other, fits_flushed, fits_other, fits_stuck}
-use Rattle.hay_logical.proofs.Lists.{at_below, at_same, at_there, length-slice_set}
+use Rattle.hay_logical.proofs.Holding.{delete_part, stands_broken, stands_changed}
+use Rattle.hay_logical.proofs.Compacting.{no_run}
+use Rattle.hay_logical.proofs.Knowing.{changed_here, changed_other, fits_flushed, fits_other, fits_same, fits_stuck}
+use Rattle.hay_logical.proofs.Lists.{at_below, at_read, at_same, at_there, length-slice_set}
 use Rattle.hay_logical.proofs.Looking.{stands_on, stands_seen}
 use Rattle.hay_logical.proofs.Methods.{one_after, one_count, other_same, shown}
-use Rattle.hay_logical.proofs.Reopening.{Chosen, choose}
 use Rattle.hay_logical.proofs.Standing.{takes, volume_with}
 
 pub not_some : (o : Option ℕ) → ((m : ℕ) → o ≡ Some m → ⊥) → o ≡ None
@@ -88,7 +88,7 @@ some_any f (x ∷ xs) (suc j) d h e =
     ]
 
 -- what a delete of one replica leaves of it
-deletes_sup : {D P : Type 0} (DiskTells : Type 0) (files : D → Files) (p : Place P) (r r' : Copy D) → DeletesAt DiskTells files p r r' → (r'.sup ≡ r.sup) × (is_stuck r' ≡ is_stuck r)
+pub deletes_sup : {D P : Type 0} (DiskTells : Type 0) (files : D → Files) (p : Place P) (r r' : Copy D) → DeletesAt DiskTells files p r r' → (r'.sup ≡ r.sup) × (is_stuck r' ≡ is_stuck r)
 deletes_sup DiskTells files (place.Live needle) r r' h = (h.1, h.2)
 deletes_sup DiskTells files place.Gone r r' h = (h.sup, h.stuck)
 deletes_sup DiskTells files place.None r r' h = (h.sup, h.stuck)
@@ -106,28 +106,12 @@ deleted_same DiskTells files p r r' h up =
     (deletes_up DiskTells files p r r' h up, s.0, s.1)
 
 -- whether a compaction ended
-goal_follows : {D P : Type 0} (DiskTells : Type 0) (files : D → Files) (faults : D → ℕ) (pair : Pair) (p : Place P) (r r' : Copy D) → FollowsAt DiskTells files faults pair p r r'
+pub goal_follows : {D P : Type 0} (DiskTells : Type 0) (files : D → Files) (faults : D → ℕ) (pair : Pair) (p : Place P) (r r' : Copy D) → FollowsAt DiskTells files faults pair p r r'
     → (goal_of r' ≡ goal_of r) ⊎ ((goal_of r' ≡ None) × Rose (faults r.disk) (faults r'.disk))
 goal_follows DiskTells files faults pair (place.Live needle) r r' h = h.goal
 goal_follows DiskTells files faults pair place.Gone r r' h = inl (ap (λ x. goal_of x) h)
 goal_follows DiskTells files faults pair place.None r r' h = inl (ap (λ x. goal_of x) h)
 goal_follows DiskTells files faults pair (place.Unseen at size) r r' h = inl (ap (λ x. goal_of x) h)
-
-abbrev EndedIn : {D : Type 0} → (D → ℕ) → List (Copy D) → List (Copy D) → ℕ → Bool → Type 0
-EndedIn {D} faults olds news j b = (r r' : Copy D) → At olds j r → At news j r' → RunEnd faults r r' b
-
-ends_in : {D : Type 0} (faults : D → ℕ) (olds news : List (Copy D)) (n : ℕ) → length olds ≡ n → length news ≡ length olds
-    → ((j : ℕ) (r r' : Copy D) → At olds j r → At news j r' → (goal_of r' ≡ goal_of r) ⊎ ((goal_of r' ≡ None) × Rose (faults r.disk) (faults r'.disk)))
-    → Chosen (EndedIn faults olds news) n
-ends_in {D} faults olds news n all count each = choose (EndedIn faults olds news) n (λ j low.
-    let old = at_there olds j (let less : j < length olds = omega (arith, low, all) in less) in
-    let new = at_there news j (let less : j < length news = omega (arith, low, all, count) in less) in
-    let on : (b : Bool) → RunEnd faults old.0 new.0 b → EndedIn faults olds news j b =
-    λ b end r r' e f. subst (λ (x : Copy D). RunEnd faults x r' b) (at_same olds j old.0 r old.1 e) (subst (λ (x : Copy D). RunEnd faults old.0 x b) (at_same news j new.0 r' new.1 f) end) in
-    elim (each j old.0 new.0 old.1 new.1) [
-      | inl same ↦ (false, on false (record { rose = λ e. absurd (false≢true e); gone = λ e. absurd (false≢true e); kept = λ e. same }))
-      | inr gone ↦ (true, on true (record { rose = λ e. gone.1; gone = λ e. gone.0; kept = λ e. absurd (true≢false e) }))
-    ])
 
 -- what a delete that was broken off leaves: each replica is open, with its superblock and its index
 pub record Remains {D : Type 0} (r r' : Copy D) : Type 0 where
@@ -167,36 +151,15 @@ module _ {D P : Type 0} (settings : Settings) (number : ℕ) (DiskTells : Type 0
       let known : some.0 < length k.replicas = omega (arith, within, many) in
       some_any (has_pair k pair) k.replicas some.0 empty_replica known (held_by items rows front frozen unsure k pair row stands is seen some.0 within ∙ some.2)
 
-  pub deleted : DiskTells → (items new : List (Copy D)) (rows rows' : MapRows P) (front front' : ℕ) (frozen : Option ℕ) (unsure : Option Unsure) (k : VolumeKnown) (tag : CoreTag) (pair : Pair) (row : List (Place P))
-      → StandsFor files Tells (volume_with settings number items rows front frozen unsure) k → frozen ≡ None → length new ≡ length items → front' ≡ front + 1
-      → row ≡ row_at rows pair → length row ≡ settings.replicas → ((j : ℕ) → j < settings.replicas → IsSeen (place_in (row_at rows pair) j)) → (some : (j : ℕ) × (j < length row) × (is_live (place_in row j) ≡ true))
-      → ((other : Pair) → row_at rows' other ≡ cond (pair_eq pair other) (map gone_place (row_at rows other)) (row_at rows other))
-      → ((j : ℕ) (r : Copy D) → At items j r → IsUp r)
-      → ((j : ℕ) (r r' : Copy D) → At items j r → At new j r' → DeletesAt DiskTells files (place_in row j) r r')
-      → ((j : ℕ) (r r' : Copy D) → At items j r → At new j r' → FollowsAt DiskTells files faults pair (place_in row j) r r')
-      → IsDeleted files faults Tells k tag pair front' (volume_with settings number items rows front frozen unsure) (volume_with settings number new rows' front' frozen unsure)
-  unfolding Stands
-  deleted tells items new rows rows' front front' (Some m) unsure k tag pair row stands thawed count next is long seen some changed up each follow = some_none thawed
-  deleted tells items new rows rows' front front' None unsure k tag pair row stands thawed count next is long seen some changed up each follow =
-      let ended = ends_in faults items new settings.replicas stands.all count (λ j r r' e f. goal_follows DiskTells files faults pair (place_in row j) r r' (follow j r r' e f)) in
-      record {
-        thawed = stands.frozen;
-        stood = is_held_at items rows front None unsure k pair row stands is long seen some;
-        position = let e = stands.front in omega (arith, e, next);
-        ended = ended.items;
-        count = ended.count;
-        cause = λ j r r' there e f. (ended.each j true there r r' e f).rose refl;
-        stands = stands_delete DiskTells files Tells settings number tells items new rows rows' front front' unsure k tag pair stands count next changed
-            (λ j r r' e f. subst (λ l. DeletesAt DiskTells files (place_in l j) r r') is (each j r r' e f))
-            (λ j r r' e f. (deletes_sup DiskTells files (place_in row j) r r' (each j r r' e f)).1)
-            faults (λ j r r' e f. subst (λ l. FollowsAt DiskTells files faults pair (place_in l j) r r') is (follow j r r' e f)) ended.items
-            (λ j r r' e f.
-            let low = at_below items j r e in
-            let all = stands.all in
-            let there = at_there ended.items j (let n = ended.count in let less : j < length ended.items = omega (arith, low, n, all) in less) in
-            (there.0, there.1, ended.each j there.0 there.1 r r' e f))
-            (λ j r e. seen j (let low = at_below items j r e in let all = stands.all in let less : j < settings.replicas = omega (arith, low, all) in less));
-      }
+  -- the places of other pairs that were not looked at are apart from those of a pair that was
+  pub apart_of : DiskTells → (items : List (Copy D)) (rows : MapRows P) (pair : Pair) → CanReach DiskTells files items rows → ((j : ℕ) (r : Copy D) → At items j r → IsOpenCopy r)
+      → (j : ℕ) (r : Copy D) → At items j r → IsSeen (place_in (row_at rows pair) j) → (q : Pair) (at size : ℕ) → place_in (row_at rows q) j ≡ place.Unseen at size → physical.IsApartPlace at size (place_in (row_at rows pair) j)
+  apart_of tells items rows pair can ups j r e own q at size here = elim (cases_Bool (pair_eq q pair)) [
+    | inl same ↦
+        let is_own : place_in (row_at rows pair) j ≡ place.Unseen at size = ap (λ (x : Pair). place_in (row_at rows x) j) (sym (pair_same q pair same)) ∙ here in
+        let never : ⊥ = subst IsSeen is_own own in absurd never
+    | inr differ ↦ subst (λ x. physical.ArePlacesApart x (place_in (row_at rows pair) j)) here (((can tells j r e).sees (ups j r e)).apart q pair differ)
+  ]
 
   pub delete_refused : DiskTells → (items new : List (Copy D)) (rows : MapRows P) (front : ℕ) (frozen : Option ℕ) (unsure : Option Unsure) (k : VolumeKnown) (tag : CoreTag) (pair : Pair) (row : List (Place P)) (failed : DiskFailed) (m : ℕ)
       → StandsFor files Tells (volume_with settings number items rows front frozen unsure) k → frozen ≡ None → length new ≡ length items → row ≡ row_at rows pair
@@ -218,17 +181,9 @@ module _ {D P : Type 0} (settings : Settings) (number : ℕ) (DiskTells : Type 0
               (delete_part DiskTells files Tells settings number tells faults items new rows front unsure k pair failed left'
               (λ j r r' less e f. (deletes_sup DiskTells files (place_in row j) r r' (left.below j r r' less e f)).1) looked) idle
               (λ j r r' e f q what. stands_on DiskTells files Tells (λ at size. physical.IsApartPlace at size (place_in row j)) r r' q (place_in (row_at rows q) j) what (beside j r r' e f tells).sees
-              (λ at size here. subst (λ l. physical.IsApartPlace at size (place_in l j)) (sym is) (apart_of j r e (looked j r e) q at size here))),
+              (λ at size here. subst (λ l. physical.IsApartPlace at size (place_in l j)) (sym is) (apart_of tells items rows pair can ups j r e (looked j r e) q at size here))),
         ),
       )
-    where
-      apart_of : (j : ℕ) (r : Copy D) → At items j r → IsSeen (place_in (row_at rows pair) j) → (q : Pair) (at size : ℕ) → place_in (row_at rows q) j ≡ place.Unseen at size → physical.IsApartPlace at size (place_in (row_at rows pair) j)
-      apart_of j r e own q at size here = elim (cases_Bool (pair_eq q pair)) [
-        | inl same ↦
-            let is_own : place_in (row_at rows pair) j ≡ place.Unseen at size = ap (λ (x : Pair). place_in (row_at rows x) j) (sym (pair_same q pair same)) ∙ here in
-            let never : ⊥ = subst IsSeen is_own own in absurd never
-        | inr differ ↦ subst (λ x. physical.ArePlacesApart x (place_in (row_at rows pair) j)) here (((can tells j r e).sees (ups j r e)).apart q pair differ)
-      ]
 
   pub delete_failed : (items new : List (Copy D)) (row : List (Place P)) (failed : DiskFailed) (m : ℕ) → length items ≡ settings.replicas
       → m ≡ machine_of settings number failed.at → DeleteLeaves DiskTells files faults row items new failed → HasFailed faults settings number items new m failed.faults
@@ -321,6 +276,41 @@ module _ {D P : Type 0} (settings : Settings) (number : ℕ) (DiskTells : Type 0
     settled = ap (λ x. x.poised) (changed_other k j at alter apart) ∙ was.settled;
     places = was.places;
   }
+
+  -- the compaction of one replica ended, if one stood
+  pub run_ended : DiskTells → (items new : List (Copy D)) (rows : MapRows P) (front : ℕ) (frozen : Option ℕ) (unsure : Option Unsure) (k : VolumeKnown) (at : ℕ) (one : CallsOne at items new)
+      → StandsFor files Tells (volume_with settings number items rows front frozen unsure) k → LosesRun DiskTells files one.before one.after → goal_of one.after ≡ None
+      → StandsFor files Tells (volume_with settings number new rows front frozen unsure) (change_at k at without_run)
+  run_ended tells items new rows front None unsure k at one stands loses idle =
+      let below = at_below items at one.before one.was in
+      let all : length items ≡ settings.replicas = stands.all in
+      let many : length k.replicas ≡ settings.replicas = stands.many in
+      let known : at < length k.replicas = omega (arith, below, all, many) in
+      let here = changed_here k at without_run known in
+      stands_one items new rows front unsure k (change_at k at without_run) at one stands refl refl refl (length-slice_set k.replicas at _)
+      (λ w. record {
+        stored = w.stored;
+        fits = subst (λ (x : ReplicaKnown). Fits (change_at k at without_run) x w.stored) (sym here)
+            (fits_same k (change_at k at without_run) (replica_at k at) (without_run (replica_at k at)) w.stored refl refl refl refl refl refl w.fits);
+        stands = loses.stands tells w.stored w.stands;
+        stuck = ap (λ (x : ReplicaKnown). x.stuck) here ∙ w.stuck ∙ sym loses.stuck;
+        run = no_run files one.after w.stored (replica_at (change_at k at without_run) at).run (ap (λ (x : ReplicaKnown). x.run) here) idle;
+        settled = ap (λ (x : ReplicaKnown). x.poised) here ∙ w.settled;
+        places = w.places;
+      })
+      (other_changed items new rows front unsure k at without_run)
+  run_ended tells items new rows front (Some m) unsure k at one stands loses idle =
+      let below = at_below items at one.before one.was in
+      let all : length items ≡ settings.replicas = stands.all in
+      let many : length k.replicas ≡ settings.replicas = stands.many in
+      let known : at < length k.replicas = omega (arith, below, all, many) in
+      let was = stands.by.idle at one.before one.was in
+      let same : new ≡ items = one.is ∙ ap (λ x. slice_set items at x) (loses.idle was.1) ∙ set_back items at one.before one.was in
+      let bare : without_run (replica_at k at) ≡ replica_at k at = ap (λ run. record (replica_at k at) { run = run }) (sym was.0) in
+      let known_same : change_at k at without_run ≡ k =
+      ap (λ replicas. record k { replicas = replicas }) (ap (λ x. slice_set k.replicas at x) bare ∙ set_back k.replicas at (replica_at k at) (at_read k.replicas at empty_replica known)) in
+      subst (λ (t : VolumeKnown). StandsFor files Tells (volume_with settings number new rows front (Some m) unsure) t) (sym known_same)
+      (subst (λ rs. StandsFor files Tells (volume_with settings number rs rows front (Some m) unsure) k) (sym same) stands)
 
   pub flushed : DiskTells → (items new : List (Copy D)) (rows : MapRows P) (front : ℕ) (frozen : Option ℕ) (unsure : Option Unsure) (k : VolumeKnown) (at n : ℕ) (one : CallsOne at items new)
       → StandsFor files Tells (volume_with settings number items rows front frozen unsure) k → frozen ≡ None → FlushesAt DiskTells files faults one.before one.after (Ok n)

@@ -159,6 +159,14 @@ module _ {D P : Type 0} (settings : Settings) (number : ℕ) (DiskTells : Type 0
       frozen_as t j r r' (without_run (replica_at k j)) was.stored is refl refl (loses.reach tells).sees (fits_same k t (replica_at k j) (without_run (replica_at k j)) was.stored log refl refl refl refl refl was.fits)
       (swap_settled files r' (replica_at k j).stuck was.stored (replica_at k j).poised was.settled (loses.holds tells (replica_at k j).stuck was.stored was.stored (hold_stuck files r was.stored (replica_at k j).stuck was.stands was.stuck)))
 
+  -- the volume was frozen, and nothing else
+  pub stands_halted : DiskTells → (m : ℕ) → ((q : Pair) → row_at rows' q ≡ row_at rows q) → ((j : ℕ) (r r' : Copy D) → At items j r → At new j r' → LosesRun DiskTells files r r') → AllIdle new
+      → StandsFor files Tells (volume_with settings number new rows' front (Some m) unsure) (frozen_by m k)
+  stands_halted tells m same loses idle =
+      stands_frozen (frozen_by m k) m refl refl refl (length-map k.replicas without_run) same idle (λ j r r' e f was.
+      frozen_other tells (frozen_by m k) j r r' refl was (loses j r r' e f)
+      (replica_mapped without_run k.replicas j (let h = at_below items j r e in let all = stands.all in let many = stands.many in let l : j < length k.replicas = omega (arith, h, all, many) in l)))
+
   module _ (tells : DiskTells) (at : ℕ) (one : SwapsOne DiskTells files at items new) where
     pub low_at : at < length k.replicas
     low_at =

@@ -25,10 +25,11 @@ use Rattle.hay_legal.specs.Known.{now, replica_at}
 use Rattle.hay_legal.specs.Plain.{frozen_with, with_del}
 use Rattle.hay_map.specs.MapRows.{MapRows}
 use Rattle.hay_map.specs.Places.{PlaceMeans, gone_place, place_in}
-use Rattle.hay_map.specs.Rows.{row_at}
+use Rattle.hay_map.specs.Rows.{changed_row, row_at}
 use Rattle.hay_map.specs.Sealed.{SealedNeedle}
 use Rattle.hay_map.specs.declared.place.Place.{Place}
 use Rattle.hay_map.specs.declared.place.Place.TheVariants as place
+use Rattle.hay_map.specs.declared.view.MapOp.TheVariants as op
 use Rattle.hay_open.specs.Stored.{IsSealedCell, Stored, last_cell}
 use Rattle.hay_physical.specs.Copies.{Copy, goal_of, is_stuck}
 use Rattle.hay_physical.specs.Runs.{HasRun, Run, loosened}
@@ -140,11 +141,11 @@ no_photo P Tells pair (outcome.Photo photo) (inl h) = absurd h
 no_photo P Tells pair (outcome.Photo photo) (inr h) = absurd h
 
 -- A replica behind a delete of a pair.
-pub record DeletedIn {D P : Type 0} (files : D → Files) (Tells : Type 0) (pair : Pair) (s : Stored) (rows' : MapRows P) (j : ℕ) (r r' : Copy D) : Type 0 where
+pub record DeletedIn {D P : Type 0} (files : D → Files) (Tells : Type 0) (pair : Pair) (s : Stored) (rows : MapRows P) (j : ℕ) (r r' : Copy D) : Type 0 where
   pub stored : Stored
   pub makes : Makes (Del pair) s stored
   pub stands : physical.Stands files r' stored
-  pub places : (q : Pair) → PhotoAt Tells (last_cell stored.cells q) (place_in (row_at rows' q) j)
+  pub places : (q : Pair) → PhotoAt Tells (last_cell stored.cells q) (place_in (changed_row (op.Del pair) q (row_at rows q)) j)
   pub run : (run : Option Run) → HasRun files r s run → HasRun files r' stored (option_map loosened run) ⊎ (goal_of r' ≡ None)
 
 -- whether a compaction ended in a delete
@@ -158,7 +159,7 @@ loosely_all files r s None has = has
 loosely_all files r s (Some run) has = loosely files r s run has
 
 -- what is known of a compaction behind a delete
-ended_run : {D : Type 0} (files : D → Files) (faults : D → ℕ) (known : ReplicaKnown) (r r' : Copy D) (s t : Stored) (b : Bool) → RunEnd faults r r' b → RunsAs files r s known.run
+pub ended_run : {D : Type 0} (files : D → Files) (faults : D → ℕ) (known : ReplicaKnown) (r r' : Copy D) (s t : Stored) (b : Bool) → RunEnd faults r r' b → RunsAs files r s known.run
     → HasRun files r' t (option_map loosened (option_map copier_run known.run)) ⊎ (goal_of r' ≡ None) → RunsAs files r' t (ended_by b known).run
 ended_run files faults known r r' s t true end was now = goal_none files r' t (end.gone refl)
 ended_run files faults known r r' s t false end was now = elim now [
@@ -167,29 +168,28 @@ ended_run files faults known r r' s t false end was now = elim now [
 ]
 
 module _ {D P : Type 0} (DiskTells : Type 0) (files : D → Files) (Tells : Type 0) where
-  module _ (faults : D → ℕ) (pair : Pair) (s : Stored) (rows rows' : MapRows P) (j : ℕ) (r r' : Copy D)
-      (changed : (other : Pair) → row_at rows' other ≡ cond (pair_eq pair other) (map gone_place (row_at rows other)) (row_at rows other))
+  module _ (faults : D → ℕ) (pair : Pair) (s : Stored) (rows : MapRows P) (j : ℕ) (r r' : Copy D)
       (places : (q : Pair) → PhotoAt Tells (last_cell s.cells q) (place_in (row_at rows q) j)) where
     -- the places, where those of the pair and of the others are known
     places_by : (stored : Stored) (p : Place P) → place_in (row_at rows pair) j ≡ p → PhotoAt Tells (last_cell stored.cells pair) (gone_place p)
         → ((q : Pair) → pair_eq pair q ≡ false → last_cell stored.cells q ≡ last_cell s.cells q)
-        → (q : Pair) → PhotoAt Tells (last_cell stored.cells q) (place_in (row_at rows' q) j)
+        → (q : Pair) → PhotoAt Tells (last_cell stored.cells q) (place_in (changed_row (op.Del pair) q (row_at rows q)) j)
     places_by stored p is own others q = elim (cases_Bool (pair_eq pair q)) [
       | inl t ↦
           let same : pair ≡ q = pair_same pair q t in
-          let there : row_at rows' q ≡ map gone_place (row_at rows q) = changed q ∙ cond-true (pair_eq pair q) (map gone_place (row_at rows q)) (row_at rows q) t in
-          let p_is : place_in (row_at rows' q) j ≡ gone_place p =
+          let there : changed_row (op.Del pair) q (row_at rows q) ≡ map gone_place (row_at rows q) = cond-true (pair_eq pair q) (map gone_place (row_at rows q)) (row_at rows q) t in
+          let p_is : place_in (changed_row (op.Del pair) q (row_at rows q)) j ≡ gone_place p =
           ap (λ (l : List (Place P)). place_in l j) there ∙ gone_in (row_at rows q) j ∙ ap (λ (x : Pair). gone_place (place_in (row_at rows x) j)) (sym same) ∙ ap gone_place is in
           subst (λ (x : Place P). PhotoAt Tells (last_cell stored.cells q) x) (sym p_is)
           (subst (λ (x : Pair). PhotoAt Tells (last_cell stored.cells x) (gone_place p)) same own)
       | inr f ↦
-          let there : row_at rows' q ≡ row_at rows q = changed q ∙ cond-false (pair_eq pair q) (map gone_place (row_at rows q)) (row_at rows q) f in
+          let there : changed_row (op.Del pair) q (row_at rows q) ≡ row_at rows q = cond-false (pair_eq pair q) (map gone_place (row_at rows q)) (row_at rows q) f in
           subst (λ (l : List (Place P)). PhotoAt Tells (last_cell stored.cells q) (place_in l j)) (sym there)
           (subst (λ (o : Option Cell). PhotoAt Tells o (place_in (row_at rows q) j)) (sym (others q f)) (places q))
     ]
 
     stays : (p : Place P) → place_in (row_at rows pair) j ≡ p → PhotoAt Tells (last_cell s.cells pair) (gone_place p)
-        → outcome_at (table_of (needles_of s.cells)) pair ≡ outcome.Nothing → physical.Stands files r' s → r' ≡ r → DeletedIn files Tells pair s rows' j r r'
+        → outcome_at (table_of (needles_of s.cells)) pair ≡ outcome.Nothing → physical.Stands files r' s → r' ≡ r → DeletedIn files Tells pair s rows j r r'
     stays p is own nothing stands same = record {
       stored = s;
       makes = makes_nothing s pair nothing;
@@ -200,7 +200,7 @@ module _ {D P : Type 0} (DiskTells : Type 0) (files : D → Files) (Tells : Type
 
     flags : (needle : SealedNeedle) (d : Cell) → place_in (row_at rows pair) j ≡ place.Live needle → last_cell s.cells pair ≡ Some d → IsSealedCell Tells d needle
         → physical.Stands files r s → physical.Stands files r' (physical.without_cell s needle.at)
-        → ((run : Option Run) → HasRun files r s run → HasRun files r' (physical.without_cell s needle.at) (option_map loosened run) ⊎ (goal_of r' ≡ None)) → DeletedIn files Tells pair s rows' j r r'
+        → ((run : Option Run) → HasRun files r s run → HasRun files r' (physical.without_cell s needle.at) (option_map loosened run) ⊎ (goal_of r' ≡ None)) → DeletedIn files Tells pair s rows j r r'
     flags needle d is last sealed before stands runs =
         let cells = stands_cells files r s before in
         let moved : needle.at ≡ d.at = sealed.at in
@@ -215,7 +215,7 @@ module _ {D P : Type 0} (DiskTells : Type 0) (files : D → Files) (Tells : Type
         }
 
     delete_by : DiskTells → (p : Place P) (o : Option Cell) → IsSeen p → place_in (row_at rows pair) j ≡ p → last_cell s.cells pair ≡ o → PhotoAt Tells o p → physical.Stands files r s
-        → DeletesAt DiskTells files p r r' → FollowsAt DiskTells files faults pair p r r' → DeletedIn files Tells pair s rows' j r r'
+        → DeletesAt DiskTells files p r r' → FollowsAt DiskTells files faults pair p r r' → DeletedIn files Tells pair s rows j r r'
     delete_by tells (place.Live needle) (Some d) seen is last of stands step follow =
         flags needle d is last of stands (step.3 tells s stands (sealed_live Tells s.cells pair d needle last of))
         (λ run has. follow.run tells s run stands has (record { cell = d; last = last; place = sym of.at; alive = of.alive }))
@@ -228,7 +228,7 @@ module _ {D P : Type 0} (DiskTells : Type 0) (files : D → Files) (Tells : Type
         stays place.None is (subst (λ (x : Option Cell). PhotoAt {P = P} Tells x place.None) (sym last) of)
         (no_photo P Tells pair _ (inr (place_means Tells s.cells pair place.None tt (subst (λ (x : Option Cell). PhotoAt {P = P} Tells x place.None) (sym last) of)))) (step.stands tells s stands) follow
 
-    pub delete_replica : DiskTells → IsSeen (place_in (row_at rows pair) j) → physical.Stands files r s → DeletesAt DiskTells files (place_in (row_at rows pair) j) r r' → FollowsAt DiskTells files faults pair (place_in (row_at rows pair) j) r r' → DeletedIn files Tells pair s rows' j r r'
+    pub delete_replica : DiskTells → IsSeen (place_in (row_at rows pair) j) → physical.Stands files r s → DeletesAt DiskTells files (place_in (row_at rows pair) j) r r' → FollowsAt DiskTells files faults pair (place_in (row_at rows pair) j) r r' → DeletedIn files Tells pair s rows j r r'
     delete_replica tells seen stands step follow = delete_by tells (place_in (row_at rows pair) j) (last_cell s.cells pair) seen refl refl (places pair) stands step follow
 
   -- what a delete of a pair makes of a replica
@@ -254,46 +254,6 @@ module _ {D P : Type 0} (DiskTells : Type 0) (files : D → Files) (Tells : Type
   )
 
   module _ (settings : Settings) (number : ℕ) where
-    pub stands_delete : DiskTells → (replicas replicas' : List (Copy D)) (rows rows' : MapRows P) (front front' : ℕ) (unsure : Option Unsure) (k : VolumeKnown) (tag : CoreTag) (pair : Pair)
-        → StandsFor files Tells (volume_with settings number replicas rows front None unsure) k → length replicas' ≡ length replicas → front' ≡ front + 1
-        → ((other : Pair) → row_at rows' other ≡ cond (pair_eq pair other) (map gone_place (row_at rows other)) (row_at rows other))
-        → ((j : ℕ) (r r' : Copy D) → At replicas j r → At replicas' j r' → DeletesAt DiskTells files (place_in (row_at rows pair) j) r r')
-        → ((j : ℕ) (r r' : Copy D) → At replicas j r → At replicas' j r' → is_stuck r' ≡ is_stuck r)
-        → (faults : D → ℕ) → ((j : ℕ) (r r' : Copy D) → At replicas j r → At replicas' j r' → FollowsAt DiskTells files faults pair (place_in (row_at rows pair) j) r r')
-        → (ended : List Bool) → ((j : ℕ) (r r' : Copy D) → At replicas j r → At replicas' j r' → (b : Bool) × At ended j b × RunEnd faults r r' b)
-        → ((j : ℕ) (r : Copy D) → At replicas j r → IsSeen (place_in (row_at rows pair) j))
-        → StandsFor files Tells (volume_with settings number replicas' rows' front' None unsure) (with_del ended tag pair k)
-    stands_delete tells replicas replicas' rows rows' front front' unsure k tag pair stands count next changed each stuck faults follow ended ends seen =
-        let taking = takes DiskTells files Tells settings number replicas rows front None unsure k stands refl in
-        record {
-          all = count ∙ stands.all;
-          many = length-ended ended k.replicas ∙ stands.many;
-          front = let e = stands.front in let l = length-append k.log (record { tag = tag; entry = Del pair } ∷ []) in omega (arith, e, l, next);
-          frozen = stands.frozen;
-          unsure = none_pending unsure (with_del ended tag pair k) k.pending (pending_unsure unsure k k.pending stands.unsure taking.pending) taking.pending;
-          by = record {
-            pending = taking.pending;
-            each = λ j r' f.
-                let below : j < length replicas = (let h = at_below replicas' j r' f in omega (arith, h, count)) in
-                let old = at_there replicas j below in
-                let was = taking.each j old.0 old.1 in
-                let d = delete_replica faults pair was.stored rows rows' j old.0 r' changed was.places tells (seen j old.0 old.1) was.stands (each j old.0 r' old.1 f) (follow j old.0 r' old.1 f) in
-                let b = ends j old.0 r' old.1 f in
-                let known : j < length k.replicas = (let m = stands.many in let a = stands.all in omega (arith, below, m, a)) in
-                let now_is = deleted_replica k ended tag pair j b.0 b.1 known in
-                record {
-                  stored = d.stored;
-                  fits = fits_delete k ended tag pair j b.0 was.stored d.stored b.1 known d.makes was.fits;
-                  stands = d.stands;
-                  stuck = ap (λ (x : ReplicaKnown). x.stuck) now_is ∙ ended_stuck b.0 (replica_at k j) ∙ was.stuck ∙ sym (stuck j old.0 r' old.1 f);
-                  run = subst (λ (x : ReplicaKnown). RunsAs files r' d.stored x.run) (sym now_is)
-                      (ended_run files faults (replica_at k j) old.0 r' was.stored d.stored b.0 b.2 was.run (d.run (option_map copier_run (replica_at k j).run) was.run));
-                  settled = ap (λ (x : ReplicaKnown). x.poised) now_is ∙ ended_poised b.0 (replica_at k j) ∙ was.settled;
-                  places = d.places;
-                };
-          };
-        }
-
     -- A change was broken off, and the rows are as they were.
     pub stands_broken : (replicas replicas' : List (Copy D)) (rows rows' : MapRows P) (front : ℕ) (unsure : Option Unsure) (k : VolumeKnown) (tag : CoreTag) (entry : Entry) (asked : Change) (m at : ℕ) (failed : Bool)
         → (given : StandsFor files Tells (volume_with settings number replicas rows front None unsure) k) → length replicas' ≡ length replicas

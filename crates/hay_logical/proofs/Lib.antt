@@ -11,6 +11,7 @@ pub mod Finishing
 pub mod Freezing
 pub mod Holding
 pub mod Knowing
+pub mod Layouts
 pub mod Lists
 pub mod Looking
 pub mod Machines
@@ -21,6 +22,7 @@ pub mod Refusing
 pub mod Reopening
 pub mod Rooms
 pub mod Sighting
+pub mod Showing
 pub mod Standing
 pub mod Stepping
 pub mod SwapShapes

@@ -34,12 +34,12 @@ use Rattle.hay_logical.specs.declared.refusals.Refusal.{Refusal}
 use Rattle.hay_logical.specs.declared.replicas.Broken.{Broken}
 use Rattle.hay_logical.specs.declared.unsure.Change.TheVariants as change
 use Rattle.hay_logical.specs.declared.unsure.Unsure.{Unsure}
-use Rattle.hay_logical.specs.Answers.{HasRoom, IsPut, IsRoomFault, PutRefused, room_answer}
+use Rattle.hay_logical.specs.Answers.{HasRoom, IsRoomFault, PutRefused, room_answer}
 use Rattle.hay_logical.specs.Answers as answers
 use Rattle.hay_logical.specs.Fits.{At, PhotoAt, RunsAs, copier_run}
 use Rattle.hay_logical.specs.Refusals.{IsRefusal, IsUntouched, RefusalBy}
 use Rattle.hay_logical.specs.Stands.{BreaksOffAt, IsChange, Stands, StandsFor}
-use Rattle.hay_logical.specs.Steps.{AllIdle, IsPutFault, PutLeaves, PutsAt, StaysInReach, StillRuns}
+use Rattle.hay_logical.specs.Steps.{AllIdle, IsPutFault, PutLeaves, StaysInReach, StillRuns}
 use Rattle.hay_logical.specs.Volumes.{Volume}
 use Rattle.hay_logical.proofs.Calls.{frozen_is, open_up, up_thawed}
 use Rattle.hay_logical.proofs.Changing.{some_none}
@@ -47,7 +47,7 @@ use Rattle.hay_logical.proofs.Holding.{put_part, stands_broken, stands_changed}
 use Rattle.hay_logical.proofs.Knowing.{frozen_end}
 use Rattle.hay_logical.proofs.Looking.{stands_on}
 use Rattle.hay_logical.proofs.Lists.{at_below, at_same, at_there}
-use Rattle.hay_logical.proofs.Standing.{stands_put, takes, volume_with}
+use Rattle.hay_logical.proofs.Standing.{takes, volume_with}
 
 -- RESULTS
 
@@ -161,19 +161,6 @@ module _ {D P : Type 0} (settings : Settings) (number : ℕ) (DiskTells : Type 0
       }
 
   module _ (pair : Pair) (cookie : Cookie) (bytes : List ℕ) where
-    pub done : DiskTells → (items new : List (Copy D)) (rows rows' : MapRows P) (front front' : ℕ) (frozen : Option ℕ) (unsure : Option Unsure) (k : VolumeKnown) (tag : CoreTag) (row : List (Place P))
-        → StandsFor files Tells (volume_with settings number items rows front frozen unsure) k → frozen ≡ None → HasRoom settings number k (length bytes) → length new ≡ length items → front' ≡ front + 1
-        → ((other : Pair) → row_at rows' other ≡ cond (pair_eq pair other) row (row_at rows other))
-        → ((j : ℕ) (r r' : Copy D) → At items j r → At new j r' → PutsAt DiskTells files Tells pair cookie bytes r r' (place_in row j))
-        → IsPut files Tells k tag pair cookie bytes front' (volume_with settings number new rows' front' frozen unsure)
-    unfolding Stands
-    done tells items new rows rows' front front' (Some m) unsure k tag row stands thawed room count next changed each = some_none thawed
-    done tells items new rows rows' front front' None unsure k tag row stands thawed room count next changed each = record {
-      room = room;
-      position = let e = stands.front in omega (arith, e, next);
-      stands = stands_put DiskTells files Tells settings number tells items new rows rows' front front' unsure k tag pair cookie bytes row stands count next changed each;
-    }
-
     -- a put that changed nothing
     module _ (items new : List (Copy D)) (broken : Broken) (left : PutLeaves DiskTells files faults pair cookie bytes items new broken) (un : IsUntouched new broken)
         (still : StillRuns DiskTells files items new broken) where

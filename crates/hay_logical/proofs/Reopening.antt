@@ -314,7 +314,11 @@ module _ (settings : Settings) (v : ℕ) (of : IsOfSettings settings v) (k : Vol
 
   kept_first : (pending : Pending) → k.pending ≡ Some pending → (entry : Entry) → pending.entry ≡ entry → IsBroken settings v k.frozen at (Some (record pending { failed = false; entry = entry }))
       → KeptFirst entry (map (λ (x : Choice). x.kept) chosen.items)
-  kept_first pending is (Del pair) e b = absurd b
+  kept_first pending is (Del pair) e b = λ j h.
+      let all : settings.replicas ≤ at = b in
+      let low = within_list j h in
+      let a = answer_at (Some pending) is j low in
+      kept_get j a.0 true a.1 (a.2.below (omega (arith, low, all)))
   kept_first pending is (Put pair cookie bytes) e b = elim (cases_Bool (is_kept (map (λ (x : Choice). x.kept) chosen.items) at)) [
     | inl t ↦ (
       at + 1,

@@ -1,6 +1,6 @@
 -- A volume through several looks.
 use Rattle.std.proofs.Common.{◌≡◌, inl, inr, ℕ, ◌+◌, ◌<◌, List, length, None, refl, sym, ap, subst, ◌∙◌, arith}
-use Rattle.std.specs.Prelude.{slice_set}
+use Rattle.std.specs.Prelude.{slice_get, slice_set}
 use Rattle.std.proofs.lemmas.Bool.{cases_eq, cond-true}
 use Rattle.std.proofs.lemmas.List.{get_or-set_other}
 use Rattle.hay_needle.specs.declared.needle.Pair.{Pair}
@@ -9,26 +9,32 @@ use Rattle.hay_needle.specs.Tables.{pair_eq}
 use Rattle.hay_needle.proofs.TableLaws.{pair_refl}
 use Rattle.hay_disk.specs.Disk.{Files}
 use Rattle.hay_core.specs.declared.entry.CoreTag.{CoreTag}
+use Rattle.hay_core.specs.declared.entry.Entry.TheVariants.{Del}
 use Rattle.hay_legal.specs.declared.known.VolumeKnown.{VolumeKnown}
 use Rattle.hay_legal.specs.Known.{machine_of}
+use Rattle.hay_legal.specs.Plain.{ended_where}
 use Rattle.hay_map.specs.MapRows.{MapRows}
 use Rattle.hay_map.specs.Places.{place_in}
 use Rattle.hay_map.specs.Rows.{row_at}
 use Rattle.hay_map.specs.declared.place.Place.{Place}
 use Rattle.hay_map.specs.declared.place.Place.TheVariants as place
+use Rattle.hay_map.specs.declared.view.MapOp.TheVariants as op
 use Rattle.hay_compact.specs.Finishing.{IsSeen}
-use Rattle.hay_physical.specs.Copies.{Copy}
+use Rattle.hay_physical.specs.Copies.{Copy, goal_of}
 use Rattle.hay_logical.specs.declared.fault.LogicalFault.{LogicalFault}
 use Rattle.hay_logical.specs.declared.fault.LogicalFault.TheVariants.{Busy, Damaged, Failed, Full, Gone, Idle, NoMemory, ReadOnly, Worn}
-use Rattle.hay_logical.specs.Answers.{DeleteRefused, HasFailed, IsDeleteFault, IsDeleted, IsSightFault}
+use Rattle.hay_logical.specs.declared.written.Erased.{Erased}
+use Rattle.hay_logical.specs.Answers.{DeleteRefused, HasFailed, IsDeleteFault, IsSightFault, ended_runs}
 use Rattle.hay_logical.specs.Fits.{At}
 use Rattle.hay_logical.specs.Stands.{Stands}
 use Rattle.hay_logical.specs.Steps.{SetsPlaceAt}
+use Rattle.hay_logical.specs.Unshown.{IsErased, IsUnshown}
 use Rattle.hay_logical.specs.Volumes.{IsOpenVolume, IsSame, KeepsCounts, Volume}
 use Rattle.hay_logical.proofs.Calls.{counted_same, keeps_counts}
 use Rattle.hay_logical.proofs.Examining.{rose_later}
 use Rattle.hay_logical.proofs.Lists.{at_below, at_same, at_there}
 use Rattle.hay_logical.proofs.Methods.{same_still}
+use Rattle.hay_logical.proofs.Showing.{ended_same}
 
 pub counts_through : {D : Type 0} (faults fuses : D → ℕ) (a b c : List (Copy D)) → KeepsCounts faults fuses a b → KeepsCounts faults fuses b c → KeepsCounts faults fuses a c
 counts_through faults fuses a b c first second =
@@ -54,6 +60,7 @@ pub record Kept {D P : Type 0} (DiskTells : Type 0) (files : D → Files) (Tells
   pub counts : KeepsCounts faults fuses old.replicas new.replicas
   pub same : IsSame old new
   pub still : (new.frozen ≡ old.frozen) × (new.front ≡ old.front) × (new.unsure ≡ old.unsure)
+  pub runs : (j : ℕ) (r r' : Copy D) → At old.replicas j r → At new.replicas j r' → goal_of r' ≡ goal_of r
 
 module _ {D P : Type 0} (DiskTells : Type 0) (files : D → Files) (Tells : Type 0) (faults fuses : D → ℕ) where
   pub kept_none : (volume : Volume D P) → IsOpenVolume volume → Kept DiskTells files Tells faults fuses volume volume
@@ -63,16 +70,20 @@ module _ {D P : Type 0} (DiskTells : Type 0) (files : D → Files) (Tells : Type
     counts = keeps_counts faults fuses volume.replicas volume.replicas refl (λ j r r' e f. counted_same faults fuses r r' (at_same volume.replicas j r' r f e));
     same = same_still volume;
     still = (refl, refl, refl);
+    runs = λ j r r' e f. ap (λ (x : Copy D). goal_of x) (at_same volume.replicas j r' r f e);
   }
 
   pub kept_more : (a b c : Volume D P) → Kept DiskTells files Tells faults fuses a b → (DiskTells → (k : VolumeKnown) → Stands files Tells b k → Stands files Tells c k) → IsOpenVolume c → KeepsCounts faults fuses b.replicas c.replicas
-      → IsSame b c → (c.frozen ≡ b.frozen) × (c.front ≡ b.front) × (c.unsure ≡ b.unsure) → Kept DiskTells files Tells faults fuses a c
-  kept_more a b c kept stands is counts same still = record {
+      → IsSame b c → (c.frozen ≡ b.frozen) × (c.front ≡ b.front) × (c.unsure ≡ b.unsure) → ((j : ℕ) (r r' : Copy D) → At b.replicas j r → At c.replicas j r' → goal_of r' ≡ goal_of r) → Kept DiskTells files Tells faults fuses a c
+  kept_more a b c kept stands is counts same still runs = record {
     stands = λ tells k was. stands tells k (kept.stands tells k was);
     «open» = is;
     counts = counts_through faults fuses a.replicas b.replicas c.replicas kept.counts counts;
     same = same_through a b c kept.counts.count kept.same same;
     still = (still.0 ∙ kept.still.0, still.1 ∙ kept.still.1, still.2 ∙ kept.still.2);
+    runs = λ j r r' e f.
+        let x = at_there b.replicas j (let h = at_below a.replicas j r e in let n = kept.counts.count in let less : j < length b.replicas = omega (arith, h, n) in less) in
+        runs j x.0 r' x.1 f ∙ kept.runs j r x.0 e x.1;
   }
 
   -- a refusal's cause
@@ -146,16 +157,19 @@ module _ {D P : Type 0} (files : D → Files) (Tells : Type 0) (faults fuses : D
     mid : (j : ℕ) (r : Copy D) → At a.replicas j r → (x : Copy D) × At b.replicas j x
     mid j r e = (let h = at_below a.replicas j r e in let n = counts.count in at_there b.replicas j (let less : j < length b.replicas = omega (arith, h, n) in less))
 
-    pub deleted_later : (k : VolumeKnown) (tag : CoreTag) (pair : Pair) (p : ℕ) → IsDeleted files faults Tells k tag pair p b c → IsDeleted files faults Tells k tag pair p a c
-    deleted_later k tag pair p is = record {
-      thawed = is.thawed;
-      stood = is.stood;
-      position = is.position;
-      ended = is.ended;
-      count = is.count ∙ ap (λ (s : Settings). s.replicas) same.settings;
-      cause = λ j r r' gone e f. let x = mid j r e in rose_later (faults r.disk) (faults (x.0).disk) (faults r'.disk) (counts.rises j r x.0 e x.1) (is.cause j x.0 r' gone x.1 f);
-      stands = is.stands;
-    }
+    pub erased_later : ((j : ℕ) (r r' : Copy D) → At a.replicas j r → At b.replicas j r' → goal_of r' ≡ goal_of r) → (k : VolumeKnown) (pair : Pair) (e : Erased) → IsErased files faults Tells k pair e b c → IsErased files faults Tells k pair e a c
+    erased_later runs k pair e is =
+        let ended : ended_runs b.replicas c.replicas ≡ ended_runs a.replicas c.replicas = ended_same a.replicas b.replicas c.replicas counts.count runs in
+        record {
+          stood = is.stood;
+          own = is.own;
+          position = is.position;
+          count = ap length (sym ended) ∙ is.count ∙ ap (λ (s : Settings). s.replicas) same.settings;
+          cause = λ j r r' gone was now.
+              let x = mid j r was in
+              rose_later (faults r.disk) (faults (x.0).disk) (faults r'.disk) (counts.rises j r x.0 was x.1) (is.cause j x.0 r' (ap (λ l. slice_get l j) ended ∙ gone) x.1 now);
+          unshown = subst (λ l. IsUnshown files Tells k (Del pair) (op.Del pair) (ended_where l k.replicas) c) ended is.unshown;
+        }
 
     failed_later : (m n : ℕ) → HasFailed faults b.settings b.number b.replicas c.replicas m n → HasFailed faults a.settings a.number a.replicas c.replicas m n
     failed_later m n cause =

@@ -1,5 +1,5 @@
 -- What the calls of a logical volume answer.
-use Rattle.std.specs.Prelude.{◌≡◌, ◌⊎◌, ℕ, ◌<◌, ◌≤◌, ◌+◌, min, Bool, true, false, List, length, slice_get, Option, Some, None, Result, Ok, Err}
+use Rattle.std.specs.Prelude.{◌≡◌, ◌⊎◌, ℕ, ◌<◌, ◌≤◌, ◌+◌, min, Bool, true, false, List, [], ◌∷◌, length, slice_get, Option, Some, None, Result, Ok, Err}
 use Rattle.std.specs.List.{list_any}
 use Rattle.hay_needle.specs.declared.needle.Cookie.{Cookie}
 use Rattle.hay_needle.specs.declared.needle.Pair.{Pair}
@@ -19,7 +19,7 @@ use Rattle.hay_legal.specs.Known.{machine_of, now, replica_at, room_refusal_of, 
 use Rattle.hay_legal.specs.Plain.{as_it_is, frozen_by, frozen_with, has_pair, poised, stepped, swapped, with_bare, with_del, with_put, with_run, with_stuck, without_run}
 use Rattle.hay_legal.specs.Restarts.{ReopenedVolume, pending_notes}
 use Rattle.hay_open.specs.Stored.{index_file, volume_file}
-use Rattle.hay_physical.specs.Copies.{Copy}
+use Rattle.hay_physical.specs.Copies.{Copy, goal_of}
 use Rattle.hay_physical.specs.Runs.{RemovedBoth}
 use Rattle.hay_logical.specs.declared.fault.LogicalFault.{LogicalFault}
 use Rattle.hay_logical.specs.declared.fault.LogicalFault.TheVariants.{Busy, Damaged, Failed, Full, Gone, Idle, NoMemory, ReadOnly, Worn}
@@ -177,12 +177,24 @@ PutRefused files Tells k tag pair cookie bytes old new (Damaged m at) = ⊥
 abbrev pub is_held : VolumeKnown → Pair → Bool
 is_held k pair = list_any (has_pair k pair) k.replicas
 
+-- of each replica, whether a compaction stood before and stands no more
+abbrev pub has_ended : Option ℕ → Option ℕ → Bool
+has_ended (Some goal) None = true
+has_ended (Some goal) (Some next) = false
+has_ended None now = false
+
+abbrev pub ended_runs : {D : Type 0} → List (Copy D) → List (Copy D) → List Bool
+ended_runs (before ∷ old) (after ∷ new) = has_ended (goal_of before) (goal_of after) ∷ ended_runs old new
+ended_runs [] new = []
+ended_runs (before ∷ old) [] = []
+
 -- A compaction ended only where its disk's count of faults rose.
 pub record IsDeleted {D P : Type 0} (files : D → Files) (faults : D → ℕ) (Tells : Type 0) (k : VolumeKnown) (tag : CoreTag) (pair : Pair) (p : ℕ) (old new : Volume D P) : Type 0 where
   pub thawed : k.frozen ≡ None
   pub stood : is_held k pair ≡ true
   pub position : p ≡ length k.log + 1
   pub ended : List Bool
+  pub runs : ended ≡ ended_runs old.replicas new.replicas
   pub count : length ended ≡ old.settings.replicas
   pub cause : (j : ℕ) (r r' : Copy D) → slice_get ended j ≡ Some true → At old.replicas j r → At new.replicas j r' → Rose (faults r.disk) (faults r'.disk)
   pub stands : Stands files Tells new (with_del ended tag pair k)

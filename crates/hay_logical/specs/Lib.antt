@@ -6,3 +6,4 @@ pub mod Steps
 pub mod Notes
 pub mod Refusals
 pub mod Draws
+pub mod Unshown

@@ -1,5 +1,5 @@
 -- When a logical volume stands for what is known of it.
-use Rattle.std.specs.Prelude.{◌≡◌, ℕ, ◌<◌, Bool, true, false, length, Option, Some, None, slice_index}
+use Rattle.std.specs.Prelude.{◌≡◌, ℕ, ◌<◌, ◌≤◌, Bool, true, false, length, Option, Some, None, slice_index}
 use Rattle.hay_needle.specs.declared.needle.Pair.{Pair}
 use Rattle.hay_needle.specs.declared.settings.Settings.{Settings}
 use Rattle.hay_needle.specs.Tables.{outcome_at}
@@ -37,12 +37,12 @@ IsPending (Some unsure) k (Some pending) = (unsure.tag ≡ pending.tag) × IsCha
 IsPending None k (Some pending) = ⊥
 IsPending (Some unsure) k None = ⊥
 
--- Where it failed, its volume is frozen by the machine of the replica that broke it off. For want of memory only a put
--- is broken off.
+-- Where it failed, its volume is frozen by the machine of the replica that broke it off. Where memory was wanting, a delete
+-- stands on all of them, and a put perhaps on some.
 abbrev pub BreaksOffAt : Settings → ℕ → Option ℕ → ℕ → Bool → Entry → Type 0
 BreaksOffAt settings v frozen broken_at true entry = (broken_at < settings.replicas) × (frozen ≡ Some (machine_of settings v broken_at))
 BreaksOffAt settings v frozen broken_at false (Put pair cookie bytes) = Unit {0}
-BreaksOffAt settings v frozen broken_at false (Del pair) = ⊥
+BreaksOffAt settings v frozen broken_at false (Del pair) = settings.replicas ≤ broken_at
 
 abbrev pub IsBroken : Settings → ℕ → Option ℕ → ℕ → Option Pending → Type 0
 IsBroken settings v frozen broken_at None = Unit {0}

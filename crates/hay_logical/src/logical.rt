@@ -5,6 +5,7 @@ ghost use Rattle.hay_disk.specs.Counts.{IsNext, Rose};
 ghost use Rattle.hay_disk.specs.Disk.{MayLeave};
 ghost use Rattle.hay_legal.specs.declared.known.VolumeKnown.{VolumeKnown};
 ghost use Rattle.hay_legal.specs.Known.{machine_of, now, replica_at, room_refusal_of};
+ghost use Rattle.hay_legal.specs.Plain.{frozen_by, without_run};
 ghost use Rattle.hay_needle.specs.Tables.{outcome_at};
 ghost use Rattle.hay_reply.specs.Fits.{FitsNote};
 ghost use Rattle.hay_map.specs.Places.{PlaceMeans, place_in};
@@ -19,18 +20,20 @@ ghost use Rattle.hay_compact.specs.Finishing.{IsSeen};
 ghost use Rattle.hay_logical.specs.Draws.{DrewAt, HasDrawnNothing, looked_pair};
 ghost use Rattle.hay_logical.specs.Fits.{At, PlaceStands, super_of};
 ghost use Rattle.hay_logical.specs.Notes.{DeleteLeavesUnsure, NotesTell, PutLeavesUnsure};
-ghost use Rattle.hay_logical.specs.Steps.{IsRefusedAt, IsSeenBy, KeepsDisk, RoomFor, SetsPlaceAt};
-ghost use Rattle.hay_logical.specs.Volumes.{HasAll, IsClosed, IsMachineOf, IsOfSettings, IsOpenVolume, IsSame, KeepsCounts};
+ghost use Rattle.hay_logical.specs.Steps.{AllIdle, IsRefusedAt, IsSeenBy, KeepsDisk, LosesRun, RoomFor, SetsPlaceAt};
+ghost use Rattle.hay_logical.specs.Volumes.{HasAll, IsClosed, IsMachineOf, IsOfSettings, IsOpenVolume, IsSame, KeepsCounts, Volume};
+ghost use Rattle.hay_logical.specs.Unshown.{GivesUp, IsErased, IsWritten, IsWrittenFor, ShowsSame};
 ghost use Rattle.hay_logical.specs.Stands.{Holds, IsFirst, IsIdleVolume, Stands, Stopped};
-ghost use Rattle.hay_logical.specs.Answers.{BeginRefused, CompactRefused, DeleteRefused, FinishRefused, FlushRefused, IsBeginFault, IsBegun, IsCompactFault, IsCompacted, IsDeleteFault, IsDeleted, IsFinished, IsFlushFault, IsFlushed, IsPut, IsPutFault, IsReopened, IsRoomFault, IsRunFault, IsSightFault, IsStepped, PutRefused, RemovesOld, StepRefused, room_answer};
+ghost use Rattle.hay_logical.specs.Answers.{BeginRefused, CompactRefused, DeleteRefused, FinishRefused, FlushRefused, IsBeginFault, IsBegun, IsCompactFault, IsCompacted, IsDeleteFault, IsDeleted, IsFinished, IsFlushFault, IsFlushed, IsPut, IsPutFault, IsReopened, IsRoomFault, IsRunFault, IsSightFault, IsStepped, PutRefused, RemovesOld, StepRefused, change_at, room_answer};
 
 use crate::fault::{LogicalFault, Unopened};
 use crate::notes::{machine_of, notes_of};
 use crate::refusals::{answer_at, has_live, is_untouched, put_refusal, unfinished_by};
 use crate::replicas::{delete_each, ends_of, flush_at, fuse_at, put_each, room_in, stop_each};
-use crate::runs::{begin_at, compact_at, finish_at, step_at};
+use crate::runs::{begin_at, compact_at, drop_run_at, drop_runs, finish_at, step_at};
 use crate::sights::{open_all, see_at};
 use crate::unsure::{Change, Unsure};
+use crate::written::{Erased, Written};
 use hay_base::{Listed, NoMemory};
 use hay_core::CoreTag;
 use hay_disk::{Disk, Piece};
@@ -228,6 +231,130 @@ impl<D: Disk> Logical<D> {
         }
     }
 
+    /// Writes a photo to each replica in order. The rows show it once it is given to `show`, before any other change.
+    /// `Failed` freezes the volume, and so does `NoMemory` once a disk was changed.
+    pub fn write(
+        &mut self,
+        alloc: Global,
+        tag: CoreTag,
+        pair: Pair,
+        cookie: Cookie,
+        bytes: &[u8],
+    ) -> Result<Written<D::Piece>, LogicalFault>
+        requires size { length bytes.now ≤ MAX_PHOTO }
+        requires open { IsOpenVolume self.old }
+        ensures written { D.Tells → (k : VolumeKnown) → Stands D.files D.Piece.Tells self.old k →
+            IfOk result (λ written. IsWritten D.files D.Piece.Tells k pair cookie bytes.now written self.new) }
+        ensures fits { IfOk result (λ written. IsWrittenFor D.Tells D.files written self.new) }
+        ensures still { OnOk result (ShowsSame self.old self.new) }
+        ensures refused { D.Tells → (k : VolumeKnown) → Stands D.files D.Piece.Tells self.old k →
+            IfErr result (PutRefused D.files D.Piece.Tells k tag pair cookie bytes.now self.old self.new) }
+        ensures causes { IfErr result (IsPutFault D.fault_count self.old.settings self.old.number self.old.replicas self.new.replicas) }
+        ensures refused_unsure { IfErr result (PutLeavesUnsure tag self.old.unsure self.new.unsure) }
+        ensures open { IsOpenVolume self.new }
+        ensures counts { KeepsCounts D.fault_count D.fuse_count self.old.replicas self.new.replicas }
+        ensures same { IsSame self.old self.new }
+    {
+        self.room(bytes.len() as u32)?;
+        let Some(position) = self.front.checked_add(1) else {
+            return Err(LogicalFault::NoMemory);
+        };
+        if self.rows.reserve().is_err() {
+            return Err(LogicalFault::NoMemory);
+        }
+        let ends = ends_of(self.replicas.as_slice());
+        match put_each(self.replicas.as_mut_slice(), alloc, pair, cookie, bytes) {
+            Ok(row) => Ok(Written {
+                pair,
+                row,
+                position,
+                ends,
+            }),
+            Err(broken) => {
+                if is_untouched(self.replicas.as_slice(), &broken) {
+                    return Err(LogicalFault::NoMemory);
+                }
+                let refusal = put_refusal(&self.settings, self.number, &broken);
+                self.frozen = Some(refusal.machine);
+                self.unsure = Some(Unsure {
+                    tag,
+                    change: Change::Put { ends },
+                });
+                Err(refusal.fault)
+            }
+        }
+    }
+
+    /// Shows a photo that was written, and answers the position of the change. It takes no memory.
+    pub fn show(&mut self, written: Written<D::Piece>) -> u64
+        requires { IsWrittenFor D.Tells D.files written self.old }
+        ensures put { D.Tells → (k : VolumeKnown) (tag : CoreTag) (pair : Pair) (cookie : Cookie) (bytes : List ℕ) →
+            IsWritten D.files D.Piece.Tells k pair cookie bytes written self.old → IsPut D.files D.Piece.Tells k tag pair cookie bytes result self.new }
+        ensures position { result ≡ written.position }
+        ensures rows { ChangesRows (map_op.Put written.pair written.row) self.old.rows self.new.rows }
+        ensures still { self.new ≡ record self.old { rows = self.new.rows; front = written.position } }
+    {
+        give_row::<D>(&mut self.rows, written.pair, written.row);
+        self.front = written.position;
+        written.position
+    }
+
+    /// Gives up a change that stands on each replica and was not shown, for want of memory: the volume is frozen by the
+    /// machine of its first replica with the change pending, and each compaction ends.
+    pub fn give_up(&mut self, tag: CoreTag, change: Change)
+        requires { IsOpenVolume self.old }
+        ensures pending { D.Tells → (k : VolumeKnown) → GivesUp D.files D.Piece.Tells k tag change self.old self.new }
+        ensures still { self.new ≡ record self.old {
+          replicas = self.new.replicas;
+          frozen = Some (machine_of self.old.settings self.old.number 0);
+          unsure = Some (record { tag = tag; change = change });
+        } }
+        ensures ended { AllIdle self.new.replicas }
+        ensures open { IsOpenVolume self.new }
+        ensures counts { KeepsCounts D.fault_count D.fuse_count self.old.replicas self.new.replicas }
+        ensures same { IsSame self.old self.new }
+    {
+        self.halt();
+        self.unsure = Some(Unsure { tag, change });
+    }
+
+    /// Freezes a volume by the machine of its first replica, and each compaction ends. One that is frozen stays as it is.
+    pub fn freeze(&mut self)
+        requires { IsOpenVolume self.old }
+        ensures frozen { D.Tells → (k : VolumeKnown) → Stands D.files D.Piece.Tells self.old k → k.frozen ≡ None →
+            Stands D.files D.Piece.Tells self.new (frozen_by (machine_of self.old.settings self.old.number 0) k) }
+        ensures again { (m : ℕ) → self.old.frozen ≡ Some m → self.new ≡ self.old }
+        ensures still { self.old.frozen ≡ None → self.new ≡ record self.old {
+          replicas = self.new.replicas;
+          frozen = Some (machine_of self.old.settings self.old.number 0);
+        } }
+        ensures open { IsOpenVolume self.new }
+        ensures counts { KeepsCounts D.fault_count D.fuse_count self.old.replicas self.new.replicas }
+        ensures same { IsSame self.old self.new }
+    {
+        if self.frozen.is_some() {
+            return;
+        }
+        self.halt();
+    }
+
+    // Freezes the volume by the machine of its first replica. Each compaction ends.
+    fn halt(&mut self)
+        requires { IsOpenVolume self.old }
+        ensures still { self.new ≡ record self.old {
+          replicas = self.new.replicas;
+          frozen = Some (machine_of self.old.settings self.old.number 0);
+        } }
+        ensures each { (j : ℕ) (r r' : Copy D) → At self.old.replicas j r → At self.new.replicas j r' → LosesRun D.Tells D.files r r' }
+        ensures ended { AllIdle self.new.replicas }
+        ensures open { IsOpenVolume self.new }
+        ensures counts { KeepsCounts D.fault_count D.fuse_count self.old.replicas self.new.replicas }
+        ensures same { IsSame self.old self.new }
+    {
+        drop_runs(self.replicas.as_mut_slice());
+        self.frozen = Some(machine_of(&self.settings, self.number, 0));
+    }
+
     /// Stores a photo on each replica in order, and then in the rows, and answers the position of the change.
     /// `Failed` freezes the volume, and so does `NoMemory` once a disk was changed.
     pub fn put(
@@ -251,33 +378,8 @@ impl<D: Disk> Logical<D> {
         ensures counts { KeepsCounts D.fault_count D.fuse_count self.old.replicas self.new.replicas }
         ensures same { IsSame self.old self.new }
     {
-        self.room(bytes.len() as u32)?;
-        let Some(position) = self.front.checked_add(1) else {
-            return Err(LogicalFault::NoMemory);
-        };
-        if self.rows.reserve().is_err() {
-            return Err(LogicalFault::NoMemory);
-        }
-        let ends = ends_of(self.replicas.as_slice());
-        match put_each(self.replicas.as_mut_slice(), alloc, pair, cookie, bytes) {
-            Ok(row) => {
-                give_row::<D>(&mut self.rows, pair, row);
-                self.front = position;
-                Ok(position)
-            }
-            Err(broken) => {
-                if is_untouched(self.replicas.as_slice(), &broken) {
-                    return Err(LogicalFault::NoMemory);
-                }
-                let refusal = put_refusal(&self.settings, self.number, &broken);
-                self.frozen = Some(refusal.machine);
-                self.unsure = Some(Unsure {
-                    tag,
-                    change: Change::Put { ends },
-                });
-                Err(refusal.fault)
-            }
-        }
+        let written = self.write(alloc, tag, pair, cookie, bytes)?;
+        Ok(self.show(written))
     }
 
     /// Sees the place of a pair's photo on a replica, where it was not looked at yet: one read of its needle, which `out` then
@@ -352,6 +454,7 @@ impl<D: Disk> Logical<D> {
         ensures counts { KeepsCounts D.fault_count D.fuse_count self.old.replicas self.new.replicas }
         ensures same { IsSame self.old self.new }
         ensures still { (self.new.frozen ≡ self.old.frozen) × (self.new.front ≡ self.old.front) × (self.new.unsure ≡ self.old.unsure) }
+        ensures runs { (j : ℕ) (r r' : Copy D) → At self.old.replicas j r → At self.new.replicas j r' → goal_of r' ≡ goal_of r }
     {
         let machine = machine_of(&self.settings, self.number, replica);
         match see_at(
@@ -378,6 +481,7 @@ impl<D: Disk> Logical<D> {
         ensures counts { KeepsCounts D.fault_count D.fuse_count self.old.replicas self.new.replicas }
         ensures same { IsSame self.old self.new }
         ensures still { (self.new.frozen ≡ self.old.frozen) × (self.new.front ≡ self.old.front) × (self.new.unsure ≡ self.old.unsure) }
+        ensures runs { (j : ℕ) (r r' : Copy D) → At self.old.replicas j r → At self.new.replicas j r' → goal_of r' ≡ goal_of r }
     {
         for replica in 0..self.settings.replicas {
             self.see_in(replica, pair, out)?;
@@ -385,10 +489,96 @@ impl<D: Disk> Logical<D> {
         Ok(())
     }
 
-    /// Deletes a pair's photo from each replica that has it, in order, and then from the rows, and answers the position of
-    /// the change. It first sees each place of the pair that was not looked at yet, as `see` does, and `out` has a needle
+    /// Deletes a pair's photo from each replica that has it, in order. The rows show that once it is given to `hide`, before any
+    /// other change. It first sees each place of the pair that was not looked at yet, as `see` does, and `out` has a needle
     /// then: what refuses that leaves the volume as it stood, and so do `ReadOnly` and `Gone`. Behind that it takes no memory,
     /// and `Failed` freezes the volume. A compaction whose disk fails as it follows ends, and that is no refusal.
+    pub fn erase(
+        &mut self,
+        tag: CoreTag,
+        pair: Pair,
+        out: &mut Vec<u8>,
+    ) -> Result<Erased, LogicalFault>
+        requires open { IsOpenVolume self.old }
+        ensures erased { D.Tells → (k : VolumeKnown) → Stands D.files D.Piece.Tells self.old k →
+            IfOk result (λ erased. IsErased D.files D.fault_count D.Piece.Tells k pair erased self.old self.new) }
+        ensures of { IfOk result (λ erased. (erased.pair ≡ pair) × (erased.position ≡ self.old.front + 1)) }
+        ensures still { OnOk result ((self.new.front ≡ self.old.front) × (self.new.frozen ≡ self.old.frozen) × (self.new.unsure ≡ self.old.unsure)) }
+        ensures refused { D.Tells → (k : VolumeKnown) → Stands D.files D.Piece.Tells self.old k →
+            IfErr result (DeleteRefused D.files D.Piece.Tells k tag pair self.new) }
+        ensures frozen { (m : ℕ) → self.old.frozen ≡ Some m → (result ≡ Err (LogicalFault.ReadOnly m)) × (self.new ≡ self.old) }
+        ensures causes { IfErr result (IsDeleteFault D.fault_count self.old.settings self.old.number self.old.replicas self.new.replicas) }
+        ensures refused_unsure { IfErr result (DeleteLeavesUnsure tag self.old.unsure self.new.unsure) }
+        ensures open { IsOpenVolume self.new }
+        ensures counts { KeepsCounts D.fault_count D.fuse_count self.old.replicas self.new.replicas }
+        ensures same { IsSame self.old self.new }
+    {
+        if let Some(machine) = self.frozen {
+            return Err(LogicalFault::ReadOnly { machine });
+        }
+        self.see_each(pair, out)?;
+        self.erase_seen(tag, pair)
+    }
+
+    /// Deletes a pair's photo, of which each place was seen, from each replica that has it, as `erase` does.
+    pub fn erase_seen(&mut self, tag: CoreTag, pair: Pair) -> Result<Erased, LogicalFault>
+        requires open { IsOpenVolume self.old }
+        requires seen { (j : ℕ) → j < self.old.settings.replicas → IsSeen (place_in (row_at self.old.rows pair) j) }
+        requires thawed { self.old.frozen ≡ None }
+        ensures erased { D.Tells → (k : VolumeKnown) → Stands D.files D.Piece.Tells self.old k →
+            IfOk result (λ erased. IsErased D.files D.fault_count D.Piece.Tells k pair erased self.old self.new) }
+        ensures of { IfOk result (λ erased. (erased.pair ≡ pair) × (erased.position ≡ self.old.front + 1)) }
+        ensures still { OnOk result (self.new ≡ record self.old { replicas = self.new.replicas }) }
+        ensures refused { D.Tells → (k : VolumeKnown) → Stands D.files D.Piece.Tells self.old k →
+            IfErr result (DeleteRefused D.files D.Piece.Tells k tag pair self.new) }
+        ensures causes { IfErr result (IsDeleteFault D.fault_count self.old.settings self.old.number self.old.replicas self.new.replicas) }
+        ensures refused_unsure { IfErr result (DeleteLeavesUnsure tag self.old.unsure self.new.unsure) }
+        ensures undamaged { (m at : ℕ) → result ≡ Err (LogicalFault.Damaged m at) → ⊥ }
+        ensures open { IsOpenVolume self.new }
+        ensures counts { KeepsCounts D.fault_count D.fuse_count self.old.replicas self.new.replicas }
+        ensures same { IsSame self.old self.new }
+    {
+        let row = self.rows.row(pair);
+        if !has_live(&row) {
+            return Err(LogicalFault::Gone { front: self.front });
+        }
+        let Some(position) = self.front.checked_add(1) else {
+            return Err(LogicalFault::NoMemory);
+        };
+        match delete_each(self.replicas.as_mut_slice(), pair, &row) {
+            Ok(()) => Ok(Erased { pair, position }),
+            Err(failed) => {
+                let machine = machine_of(&self.settings, self.number, failed.at);
+                self.frozen = Some(machine);
+                self.unsure = Some(Unsure {
+                    tag,
+                    change: Change::Delete { pair },
+                });
+                Err(LogicalFault::Failed {
+                    machine,
+                    faults: failed.faults,
+                })
+            }
+        }
+    }
+
+    /// Deletes from the rows a photo that was deleted from each replica, and answers the position of the change. It takes no
+    /// memory.
+    pub fn hide(&mut self, erased: Erased) -> u64
+        ensures deleted { D.Tells → (k : VolumeKnown) (tag : CoreTag) (pair : Pair) (before : Volume D D.Piece) →
+            IsErased D.files D.fault_count D.Piece.Tells k pair erased before self.old →
+            IsDeleted D.files D.fault_count D.Piece.Tells k tag pair result before self.new }
+        ensures position { result ≡ erased.position }
+        ensures rows { ChangesRows (map_op.Del erased.pair) self.old.rows self.new.rows }
+        ensures still { self.new ≡ record self.old { rows = self.new.rows; front = erased.position } }
+    {
+        self.rows.del(erased.pair);
+        self.front = erased.position;
+        erased.position
+    }
+
+    /// Deletes a pair's photo from each replica that has it, as `erase` does, and then from the rows, and answers the position
+    /// of the change.
     pub fn delete(
         &mut self,
         tag: CoreTag,
@@ -408,56 +598,8 @@ impl<D: Disk> Logical<D> {
         ensures counts { KeepsCounts D.fault_count D.fuse_count self.old.replicas self.new.replicas }
         ensures same { IsSame self.old self.new }
     {
-        if let Some(machine) = self.frozen {
-            return Err(LogicalFault::ReadOnly { machine });
-        }
-        self.see_each(pair, out)?;
-        self.delete_seen(tag, pair)
-    }
-
-    // Deletes a pair's photo, of which each place was seen.
-    fn delete_seen(&mut self, tag: CoreTag, pair: Pair) -> Result<u64, LogicalFault>
-        requires open { IsOpenVolume self.old }
-        requires seen { (j : ℕ) → j < self.old.settings.replicas → IsSeen (place_in (row_at self.old.rows pair) j) }
-        requires thawed { self.old.frozen ≡ None }
-        ensures deleted { D.Tells → (k : VolumeKnown) → Stands D.files D.Piece.Tells self.old k →
-            IfOk result (λ position. IsDeleted D.files D.fault_count D.Piece.Tells k tag pair position self.old self.new) }
-        ensures refused { D.Tells → (k : VolumeKnown) → Stands D.files D.Piece.Tells self.old k →
-            IfErr result (DeleteRefused D.files D.Piece.Tells k tag pair self.new) }
-        ensures causes { IfErr result (IsDeleteFault D.fault_count self.old.settings self.old.number self.old.replicas self.new.replicas) }
-        ensures deleted_unsure { OnOk result (self.new.unsure ≡ self.old.unsure) }
-        ensures refused_unsure { IfErr result (DeleteLeavesUnsure tag self.old.unsure self.new.unsure) }
-        ensures undamaged { (m at : ℕ) → result ≡ Err (LogicalFault.Damaged m at) → ⊥ }
-        ensures open { IsOpenVolume self.new }
-        ensures counts { KeepsCounts D.fault_count D.fuse_count self.old.replicas self.new.replicas }
-        ensures same { IsSame self.old self.new }
-    {
-        let row = self.rows.row(pair);
-        if !has_live(&row) {
-            return Err(LogicalFault::Gone { front: self.front });
-        }
-        let Some(position) = self.front.checked_add(1) else {
-            return Err(LogicalFault::NoMemory);
-        };
-        match delete_each(self.replicas.as_mut_slice(), pair, &row) {
-            Ok(()) => {
-                self.rows.del(pair);
-                self.front = position;
-                Ok(position)
-            }
-            Err(failed) => {
-                let machine = machine_of(&self.settings, self.number, failed.at);
-                self.frozen = Some(machine);
-                self.unsure = Some(Unsure {
-                    tag,
-                    change: Change::Delete { pair },
-                });
-                Err(LogicalFault::Failed {
-                    machine,
-                    faults: failed.faults,
-                })
-            }
-        }
+        let erased = self.erase(tag, pair, out)?;
+        Ok(self.hide(erased))
     }
 
     /// Gives the cells of a replica without an index record theirs, and answers how many these were. `ReadOnly` comes
@@ -616,6 +758,21 @@ impl<D: Disk> Logical<D> {
                 Err(unfinished.fault)
             }
         }
+    }
+
+    /// Ends the compaction that stands at a replica, if one does.
+    pub fn end_run(&mut self, replica: u32)
+        requires within { replica < self.old.settings.replicas }
+        requires open { IsOpenVolume self.old }
+        ensures stands { D.Tells → (k : VolumeKnown) → Stands D.files D.Piece.Tells self.old k → Stands D.files D.Piece.Tells self.new (change_at k replica without_run) }
+        ensures still { self.new ≡ record self.old { replicas = self.new.replicas } }
+        ensures ended { (r : Copy D) → At self.new.replicas replica r → goal_of r ≡ None }
+        ensures others { (j : ℕ) → (j ≡ replica → ⊥) → (r r' : Copy D) → At self.old.replicas j r → At self.new.replicas j r' → r' ≡ r }
+        ensures open { IsOpenVolume self.new }
+        ensures counts { KeepsCounts D.fault_count D.fuse_count self.old.replicas self.new.replicas }
+        ensures same { IsSame self.old self.new }
+    {
+        drop_run_at(self.replicas.as_mut_slice(), replica as usize);
     }
 
     /// The generation that a compaction of a replica makes, if one stands.

@@ -32,6 +32,16 @@ pub(crate) fn drop_runs<D: Disk>(replicas: &mut [Replica<D>])
     }
 }
 
+/// Lets go of the compaction of one replica.
+pub(crate) fn drop_run_at<D: Disk>(replicas: &mut [Replica<D>], at: usize)
+    requires { at < length replicas.old }
+    ensures one { CallsOne at replicas.old replicas.new }
+    ensures loses { (r r' : Copy D) → At replicas.old at r → At replicas.new at r' → LosesRun D.Tells D.files r r' }
+    ensures idle { (r : Copy D) → At replicas.new at r → goal_of r ≡ None }
+{
+    replicas[at].drop_run();
+}
+
 /// Begins a compaction of one replica, and answers the generation that it makes.
 pub(crate) fn begin_at<D: Disk>(
     replicas: &mut [Replica<D>],

@@ -10,7 +10,7 @@ use Rattle.hay_map.specs.Rows.{row_at}
 use Rattle.hay_compact.specs.Finishing.{IsSeen}
 use Rattle.hay_needle.specs.declared.needle.Pair.{Pair}
 use Rattle.hay_physical.specs.Faults as physical_faults
-use Rattle.hay_physical.specs.Copies.{Copy, IsOpenCopy, is_frozen}
+use Rattle.hay_physical.specs.Copies.{Copy, IsOpenCopy, goal_of, is_frozen}
 use Rattle.hay_physical.specs.declared.fault.ReplicaFault.{ReplicaFault}
 use Rattle.hay_logical.specs.Answers as answers
 use Rattle.hay_logical.specs.Fits.{At}
@@ -229,3 +229,13 @@ returns-clause-needle g c = λ unseen. elim c.match-see_at.branch [
       subst (λ r. OnOk r (IsSeenBy g.D.Disk.Tells g.D.Piece.Piece.Tells c.see_at.new.out.items (place_in (row_at c.see_at.new.rows c.args.pair) c.args.replica))) (sym w.result-is) by
   | in-Err w ↦ rw w.result-is tt
 ]
+
+pub returns-clause-runs : goal.returns-clause-runs
+returns-clause-runs g c = λ j r r' e f.
+    let now = c.as_mut_slice.ensures.value in
+    let kept = with_items_is c.self.inside.replicas c.see_at.new.replicas (c.see_at.auto.replicas ∙ c.as_mut_slice.ensures.len) in
+    let one : CallsOne c.args.replica c.self.inside.replicas.items c.see_at.new.replicas = subst (λ xs. CallsOne c.args.replica xs c.see_at.new.replicas) now c.see_at.ensures.one in
+    let sights : SightsAt g.D.Disk.Tells g.D.Disk.files g.D.Disk.fault_count g.D.Piece.Piece.Tells c.args.pair c.self.inside.rows c.see_at.new.rows c.args.replica one.before one.after c.see_at.result =
+    c.see_at.ensures.sights one.before one.after (subst (λ xs. At xs c.args.replica one.before) (sym now) one.was) (one_after c.args.replica c.self.inside.replicas.items c.see_at.new.replicas one) in
+    one_each (λ (x y : Copy g.row.D.Denot). goal_of y ≡ goal_of x) c.args.replica c.self.inside.replicas.items c.see_at.new.replicas one (ap (λ (x : Copy g.row.D.Denot). goal_of x) sights.copy) (λ x. refl)
+    j r r' (subst (λ v. At v.replicas j r) (sym c.self.view_is) e) (subst (λ xs. At xs j r') kept f)

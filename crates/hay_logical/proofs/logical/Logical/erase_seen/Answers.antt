@@ -9,19 +9,22 @@ use Rattle.hay_physical.specs.Copies as copies
 use Rattle.hay_physical.specs.Replicas as physical
 use Rattle.hay_logical.specs.declared.fault.LogicalFault.TheVariants as fault
 use Rattle.hay_logical.specs.declared.unsure.Change.TheVariants as change
-use Rattle.hay_logical.specs.Answers.{DeleteRefused, HasFailed, IsDeleted}
+use Rattle.hay_logical.specs.declared.written.Erased.{Erased}
+use Rattle.hay_logical.specs.Answers.{DeleteRefused, HasFailed}
 use Rattle.hay_logical.specs.Fits.{At}
 use Rattle.hay_logical.specs.Stands.{Stands, StandsFor}
 use Rattle.hay_logical.specs.Steps.{DeleteLeaves, DeletesAt, KeepsReach}
-use Rattle.hay_logical.specs.Volumes.{CanReach, IsShaped, KeepsCounts}
+use Rattle.hay_logical.specs.Unshown.{IsErased}
+use Rattle.hay_logical.specs.Volumes.{CanReach, IsShaped, KeepsCounts, Volume}
 use Rattle.hay_logical.proofs.Calls.{open_up, up_open, up_thawed}
 use Rattle.hay_logical.proofs.Lists.{at_below, at_there}
 use Rattle.hay_logical.proofs.Methods.{same_by, same_still, shaped_on}
 use Rattle.hay_logical.proofs.Standing.{volume_with}
-use Rattle.hay_logical.proofs.Changing.{delete_failed, delete_refused, delete_remains, deleted, deleted_same, not_held, some_none}
-use Rattle.hay_logical.proofs.Reaching.{delete_row, failed_row}
+use Rattle.hay_logical.proofs.Changing.{delete_failed, delete_refused, delete_remains, deleted_same, not_held, some_none}
+use Rattle.hay_logical.proofs.Showing.{erased}
+use Rattle.hay_logical.proofs.Reaching.{failed_row}
 use Rattle.hay_logical.proofs.Freezing.{frozen_machine}
-use Rattle.hay_logical.proofs.logical.Logical.delete_seen.Goals as goal
+use Rattle.hay_logical.proofs.logical.Logical.erase_seen.Goals as goal
 
 pub returns-then-not-has_live-clause-refused : goal.returns-then-not-has_live-clause-refused
 unfolding Stands
@@ -70,23 +73,26 @@ invariant_of-self g c =
     let thawed = ap (λ v. v.frozen) c.self.view_is ∙ c.requires.thawed in
     let up : (j : ℕ) (r : Copy g.row.D.Denot) → At c.self.inside.replicas.items j r → IsUp r =
     λ j r e. open_up r (c.requires.«open».each j r (subst (λ v. At v.replicas j r) c.self.view_is e)) ((c.self.invariant.0).thawed thawed j r e) in
+    let all : length c.self.inside.replicas.items ≡ c.self.inside.settings.replicas = ap (λ v. length v.replicas) c.self.view_is ∙ c.requires.«open».all ∙ ap (λ v. v.settings.replicas) (sym c.self.view_is) in
     let each : (j : ℕ) (r r' : Copy g.row.D.Denot) → At c.self.inside.replicas.items j r → At c.delete_each.new.replicas j r' → DeletesAt g.D.Disk.Tells g.D.Disk.files (place_in c.row-row.result j) r r' =
     λ j r r' e f. c.in-Ok.ensures.deleted j r r' (subst (λ xs. At xs j r) (sym now) e) f in
     let step : (j : ℕ) (r r' : Copy g.row.D.Denot) → At c.self.inside.replicas.items j r → At c.delete_each.new.replicas j r' → IsUp r' × (r'.sup ≡ r.sup) × (copies.is_stuck r' ≡ copies.is_stuck r) =
     λ j r r' e f. deleted_same g.D.Disk.Tells g.D.Disk.files (place_in c.row-row.result j) r r' (each j r r' e f) (up j r e) in (
-      subst (λ rs. IsShaped (volume_with c.self.inside.settings c.self.inside.number rs c.del.new.self c.in-Some.position c.self.inside.frozen c.self.inside.unsure)) (sym kept)
-          (shaped_on c.self.inside.settings c.self.inside.number c.self.inside.replicas.items c.delete_each.new.replicas c.self.inside.rows c.del.new.self c.self.inside.front c.in-Some.position c.self.inside.frozen c.self.inside.frozen c.self.inside.unsure c.self.inside.unsure
-          c.self.invariant.0 (c.self.invariant.0).frozen_by (c.delete_each.ensures.counts.count ∙ ap length now) (λ j r r' e f. (step j r r' e f).1) c.del.ensures.replicas (λ none j r r' e f. up_thawed r' (step j r r' e f).0)),
+      subst (λ rs. IsShaped (volume_with c.self.inside.settings c.self.inside.number rs c.self.inside.rows c.self.inside.front c.self.inside.frozen c.self.inside.unsure)) (sym kept)
+          (shaped_on c.self.inside.settings c.self.inside.number c.self.inside.replicas.items c.delete_each.new.replicas c.self.inside.rows c.self.inside.rows c.self.inside.front c.self.inside.front c.self.inside.frozen c.self.inside.frozen c.self.inside.unsure c.self.inside.unsure
+          c.self.invariant.0 (c.self.invariant.0).frozen_by (c.delete_each.ensures.counts.count ∙ ap length now) (λ j r r' e f. (step j r r' e f).1) refl (λ none j r r' e f. up_thawed r' (step j r r' e f).0)),
       c.self.invariant.1,
-      subst (λ rs. CanReach g.D.Disk.Tells g.D.Disk.files rs c.del.new.self) (sym kept)
-          (delete_row g.D.Disk.Tells g.D.Disk.files c.self.inside.replicas.items c.delete_each.new.replicas c.self.inside.rows c.del.new.self c.self.invariant.2 (c.delete_each.ensures.counts.count ∙ ap length now)
-          (λ j r r' e f. (λ u. up j r e, λ u. up_open r (up j r e))) c.args.pair c.del.ensures.rows
-          (λ j r r' e f tells. subst (λ l. KeepsReach g.D.Disk.files (λ at size. physical.IsApartPlace at size (place_in l j)) r r') c.row-row.ensures.row (c.delete_each.ensures.reach j r r' (subst (λ xs. At xs j r) (sym now) e) f tells))),
+      subst (λ rs. CanReach g.D.Disk.Tells g.D.Disk.files rs c.self.inside.rows) (sym kept)
+          (failed_row g.D.Disk.Tells g.D.Disk.files c.self.inside.replicas.items c.delete_each.new.replicas c.self.inside.rows c.self.inside.rows c.self.invariant.2 (c.delete_each.ensures.counts.count ∙ ap length now)
+          (λ j r r' e f. (λ u. up j r e, λ u. up_open r (up j r e))) c.args.pair (λ pair. refl)
+          (λ j r r' e f tells. subst (λ l. KeepsReach g.D.Disk.files (λ at size. physical.IsApartPlace at size (place_in l j)) r r') c.row-row.ensures.row (c.delete_each.ensures.reach j r r' (subst (λ xs. At xs j r) (sym now) e) f tells))
+          (λ j r e at size here. let below = at_below c.self.inside.replicas.items j r e in
+          let within : j < c.self.inside.settings.replicas = omega (arith, below, all) in let never : ⊥ = subst IsSeen here (subst (λ v. IsSeen (place_in (row_at v.rows c.args.pair) j)) (sym c.self.view_is) (c.requires.seen j (subst (λ v. j < v.settings.replicas) c.self.view_is within))) in never)),
     )
 
-pub returns-in-Ok-clause-deleted : goal.returns-in-Ok-clause-deleted
+pub returns-in-Ok-clause-erased : goal.returns-in-Ok-clause-erased
 unfolding Stands
-returns-in-Ok-clause-deleted g c = λ tells k stands.
+returns-in-Ok-clause-erased g c = λ tells k stands.
     let now = c.as_mut_slice.ensures.value in
     let kept = with_items_is c.self.inside.replicas c.delete_each.new.replicas (c.delete_each.auto.replicas ∙ c.as_mut_slice.ensures.len) in
     let thawed = ap (λ v. v.frozen) c.self.view_is ∙ c.requires.thawed in
@@ -95,12 +101,22 @@ returns-in-Ok-clause-deleted g c = λ tells k stands.
     let each : (j : ℕ) (r r' : Copy g.row.D.Denot) → At c.self.inside.replicas.items j r → At c.delete_each.new.replicas j r' → DeletesAt g.D.Disk.Tells g.D.Disk.files (place_in c.row-row.result j) r r' =
     λ j r r' e f. c.in-Ok.ensures.deleted j r r' (subst (λ xs. At xs j r) (sym now) e) f in
     let next : c.in-Some.position ≡ c.self.inside.front + 1 = (let h = c.in-Some.ensures in omega (arith, h)) in
-    subst (λ v. IsDeleted g.D.Disk.files g.D.Disk.fault_count g.D.Piece.Piece.Tells k c.args.tag c.args.pair c.in-Some.position v (volume_with c.self.inside.settings c.self.inside.number ((with_items c.self.inside.replicas c.delete_each.new.replicas).items) c.del.new.self c.in-Some.position c.self.inside.frozen c.self.inside.unsure)) c.self.view_is
-    (subst (λ rs. IsDeleted g.D.Disk.files g.D.Disk.fault_count g.D.Piece.Piece.Tells k c.args.tag c.args.pair c.in-Some.position (volume_with c.self.inside.settings c.self.inside.number c.self.inside.replicas.items c.self.inside.rows c.self.inside.front c.self.inside.frozen c.self.inside.unsure) (volume_with c.self.inside.settings c.self.inside.number rs c.del.new.self c.in-Some.position c.self.inside.frozen c.self.inside.unsure)) (sym kept)
-    (deleted c.self.inside.settings c.self.inside.number g.D.Disk.Tells g.D.Disk.files g.D.Piece.Piece.Tells g.D.Disk.fault_count g.D.Disk.fuse_count tells c.self.inside.replicas.items c.delete_each.new.replicas c.self.inside.rows c.del.new.self c.self.inside.front c.in-Some.position c.self.inside.frozen c.self.inside.unsure k c.args.tag c.args.pair c.row-row.result
+    let e : Erased = record { pair = c.args.pair; position = c.in-Some.position } in
+    subst (λ v. IsErased g.D.Disk.files g.D.Disk.fault_count g.D.Piece.Piece.Tells k c.args.pair e v (volume_with c.self.inside.settings c.self.inside.number ((with_items c.self.inside.replicas c.delete_each.new.replicas).items) c.self.inside.rows c.self.inside.front c.self.inside.frozen c.self.inside.unsure)) c.self.view_is
+    (subst (λ rs. IsErased g.D.Disk.files g.D.Disk.fault_count g.D.Piece.Piece.Tells k c.args.pair e (volume_with c.self.inside.settings c.self.inside.number c.self.inside.replicas.items c.self.inside.rows c.self.inside.front c.self.inside.frozen c.self.inside.unsure) (volume_with c.self.inside.settings c.self.inside.number rs c.self.inside.rows c.self.inside.front c.self.inside.frozen c.self.inside.unsure)) (sym kept)
+    (erased c.self.inside.settings c.self.inside.number g.D.Disk.Tells g.D.Disk.files g.D.Piece.Piece.Tells g.D.Disk.fault_count g.D.Disk.fuse_count tells c.self.inside.replicas.items c.delete_each.new.replicas c.self.inside.rows c.self.inside.front c.self.inside.frozen c.self.inside.unsure k c.args.pair c.row-row.result c.in-Some.position
     (subst (λ v. StandsFor g.D.Disk.files g.D.Piece.Piece.Tells v k) (sym c.self.view_is) stands) thawed (c.delete_each.ensures.counts.count ∙ ap length now) next
-    c.row-row.ensures.row (c.row-row.ensures.long ∙ (c.self.invariant.0).width) (λ j h. subst (λ v. IsSeen (place_in (row_at v.rows c.args.pair) j)) (sym c.self.view_is) (c.requires.seen j (subst (λ v. j < v.settings.replicas) c.self.view_is h))) (c.has_live.ensures.some c.if-not-has_live.false) c.del.ensures.rows up each
-    (λ j r r' e f. c.in-Ok.ensures.follow j r r' (subst (λ xs. At xs j r) (sym now) e) f)))
+    c.row-row.ensures.row (c.row-row.ensures.long ∙ (c.self.invariant.0).width) (λ j h. subst (λ v. IsSeen (place_in (row_at v.rows c.args.pair) j)) (sym c.self.view_is) (c.requires.seen j (subst (λ v. j < v.settings.replicas) c.self.view_is h))) (c.has_live.ensures.some c.if-not-has_live.false)
+    c.self.invariant.2 (λ j r e. up_open r (up j r e)) each
+    (λ j r r' e f. c.in-Ok.ensures.follow j r r' (subst (λ xs. At xs j r) (sym now) e) f) (λ j r r' e f. c.delete_each.ensures.reach j r r' (subst (λ xs. At xs j r) (sym now) e) f)))
+
+pub returns-in-Ok-clause-of : goal.returns-in-Ok-clause-of
+returns-in-Ok-clause-of g c =
+    let next : c.in-Some.position ≡ c.self.inside.front + 1 = (let h = c.in-Some.ensures in omega (arith, h)) in
+    (refl, next ∙ ap (λ v. v.front + 1) c.self.view_is)
+
+pub returns-in-Ok-clause-still : goal.returns-in-Ok-clause-still
+returns-in-Ok-clause-still g c = ap (λ (v : Volume g.row.D.Denot g.row.D-Piece.Denot). record v { replicas = (with_items c.self.inside.replicas c.delete_each.new.replicas).items }) c.self.view_is
 
 pub returns-in-Ok-clause-open : goal.returns-in-Ok-clause-open
 returns-in-Ok-clause-open g c =
@@ -242,9 +258,6 @@ returns-clause-same g c =
     subst (λ xs. DeleteLeaves g.D.Disk.Tells g.D.Disk.files g.D.Disk.fault_count c.row-row.result xs c.delete_each.new.replicas c.in-Err.failed) now c.in-Err.ensures.broken in
     same_by _ _ _ _ c.self.view_is refl refl kept
     (λ j r r' e f. (delete_remains g.D.Disk.Tells g.D.Disk.files g.D.Disk.fault_count c.self.inside.replicas.items c.delete_each.new.replicas c.row-row.result c.in-Err.failed left up j r r' e f).sup)
-
-pub returns-in-Ok-clause-deleted_unsure : goal.returns-in-Ok-clause-deleted_unsure
-returns-in-Ok-clause-deleted_unsure g c = ap (λ v. v.unsure) c.self.view_is
 
 pub returns-clause-refused_unsure : goal.returns-clause-refused_unsure
 returns-clause-refused_unsure g c = inr (change.Delete c.args.pair, refl)

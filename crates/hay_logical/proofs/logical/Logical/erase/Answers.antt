@@ -1,0 +1,70 @@
+use Rattle.std.proofs.Common.{◌≡◌, ◌+◌, None, Err, sym, ap, subst, ◌∙◌, Option}
+use Rattle.std.specs.Prelude.{IfErr}
+use Rattle.std.proofs.lemmas.Result.{err_from_is_err_and, on_ok_weaker}
+use Rattle.hay_physical.proofs.Views.{if_err_so, if_ok_so}
+use Rattle.hay_logical.specs.declared.fault.LogicalFault.{LogicalFault}
+use Rattle.hay_logical.specs.Answers.{DeleteRefused}
+use Rattle.hay_logical.specs.Stands.{Stands}
+use Rattle.hay_logical.proofs.Changing.{not_some}
+use Rattle.hay_logical.proofs.Through.{counts_through, delete_later, erased_later, look_refused, same_through}
+use Rattle.hay_logical.proofs.Telling.{delete_before}
+use Rattle.hay_logical.specs.Notes.{DeleteLeavesUnsure}
+use Rattle.hay_logical.specs.declared.unsure.Unsure.{Unsure}
+use Rattle.hay_logical.specs.Volumes.{IsMachineOf, Volume}
+use Rattle.hay_logical.proofs.logical.Logical.erase.Goals as goal
+
+pub returns-in-Some-clause-refused : goal.returns-in-Some-clause-refused
+unfolding Stands
+returns-in-Some-clause-refused g c = λ tells k stands. (stands.frozen ∙ ap (λ v. v.frozen) (sym c.self.view_is) ∙ c.in-Some.is, stands)
+
+pub returns-in_err-see_each-clause-refused : goal.returns-in_err-see_each-clause-refused
+unfolding Stands
+returns-in_err-see_each-clause-refused g c = λ tells k stands.
+    let fault = err_from_is_err_and c.from_residual.result c.from_residual.ensures.1 in
+    let thawed : k.frozen ≡ None = stands.frozen ∙ ap (λ v. v.frozen) (sym c.self.view_is) ∙ not_some c.self.inside.frozen c.in_default.not-Some in
+    subst (λ r. IfErr r (DeleteRefused g.D.Disk.files g.D.Piece.Piece.Tells k c.args.tag c.args.pair c.see_each.new.self)) (sym fault.1)
+    (subst (λ (f : LogicalFault). DeleteRefused g.D.Disk.files g.D.Piece.Piece.Tells k c.args.tag c.args.pair c.see_each.new.self f) (sym fault.2)
+    (look_refused g.D.Disk.files g.D.Piece.Piece.Tells g.D.Disk.fault_count g.D.Disk.fuse_count k c.args.tag c.args.pair c.args.self.now.settings c.args.self.now.number c.args.self.now.replicas c.see_each.new.self.replicas c.see_each.new.self c.in_err-see_each.field-0.0
+    c.in_err-see_each.ensures.causes thawed (c.see_each.ensures.stands tells k stands) (λ m at e. c.see_each.ensures.undamaged tells k stands m at (c.in_err-see_each.was ∙ ap (λ (f : LogicalFault). Err f) e))))
+
+pub returns-clause-erased : goal.returns-clause-erased
+returns-clause-erased g c = λ tells k stands.
+    if_ok_so c.erase_seen.result _ _
+    (λ e is. erased_later g.D.Disk.files g.D.Piece.Piece.Tells g.D.Disk.fault_count g.D.Disk.fuse_count c.args.self.now c.see_each.new.self c.erase_seen.new.self c.see_each.ensures.counts c.see_each.ensures.same c.see_each.ensures.runs k c.args.pair e is)
+    (c.erase_seen.ensures.erased tells k (c.see_each.ensures.stands tells k stands))
+
+pub returns-clause-of : goal.returns-clause-of
+returns-clause-of g c = if_ok_so c.erase_seen.result _ _ (λ e is. (is.0, is.1 ∙ ap (λ n. n + 1) c.see_each.ensures.still.1)) c.erase_seen.ensures.of
+
+pub returns-clause-still : goal.returns-clause-still
+returns-clause-still g c = on_ok_weaker c.erase_seen.result
+    (λ same. (ap (λ v. v.front) same ∙ c.see_each.ensures.still.1, ap (λ v. v.frozen) same ∙ c.see_each.ensures.still.0, ap (λ v. v.unsure) same ∙ c.see_each.ensures.still.2)) c.erase_seen.ensures.still
+
+pub returns-clause-refused : goal.returns-clause-refused
+returns-clause-refused g c = λ tells k stands. c.erase_seen.ensures.refused tells k (c.see_each.ensures.stands tells k stands)
+
+pub returns-clause-causes : goal.returns-clause-causes
+returns-clause-causes g c =
+    if_err_so c.erase_seen.result _ _
+    (λ f is. delete_later g.D.Disk.files g.D.Piece.Piece.Tells g.D.Disk.fault_count g.D.Disk.fuse_count c.args.self.now c.see_each.new.self c.erase_seen.new.self c.see_each.ensures.counts c.see_each.ensures.same f is)
+    c.erase_seen.ensures.causes
+
+pub returns-clause-counts : goal.returns-clause-counts
+returns-clause-counts g c = counts_through g.D.Disk.fault_count g.D.Disk.fuse_count c.args.self.now.replicas c.see_each.new.self.replicas c.erase_seen.new.self.replicas c.see_each.ensures.counts c.erase_seen.ensures.counts
+
+pub returns-clause-same : goal.returns-clause-same
+returns-clause-same g c = same_through c.args.self.now c.see_each.new.self c.erase_seen.new.self c.see_each.ensures.counts.count c.see_each.ensures.same c.erase_seen.ensures.same
+
+pub returns-in_err-see_each-clause-refused_unsure : goal.returns-in_err-see_each-clause-refused_unsure
+returns-in_err-see_each-clause-refused_unsure g c =
+    let fault = err_from_is_err_and c.from_residual.result c.from_residual.ensures.1 in
+    subst (λ r. IfErr r (DeleteLeavesUnsure c.args.tag c.args.self.now.unsure c.see_each.new.self.unsure)) (sym fault.1)
+    (delete_before c.args.tag c.args.self.now.unsure c.see_each.new.self.unsure fault.0 c.see_each.ensures.still.2)
+
+pub returns-clause-refused_unsure : goal.returns-clause-refused_unsure
+returns-clause-refused_unsure g c =
+    subst (λ (u : Option Unsure). IfErr c.erase_seen.result (DeleteLeavesUnsure c.args.tag u c.erase_seen.new.self.unsure)) c.see_each.ensures.still.2 c.erase_seen.ensures.refused_unsure
+
+pub returns-in-Some-clause-causes : goal.returns-in-Some-clause-causes
+returns-in-Some-clause-causes g c =
+    subst (λ (v : Volume g.row.D.Denot g.row.D-Piece.Denot). IsMachineOf v.settings v.number c.in-Some.machine) c.self.view_is ((c.self.invariant.0).frozen_by c.in-Some.machine c.in-Some.is)

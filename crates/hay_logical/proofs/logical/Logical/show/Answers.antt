@@ -1,0 +1,35 @@
+use Rattle.std.proofs.Common.{◌≡◌, refl, rules, sym, ap, subst, ◌∙◌}
+use Rattle.hay_map.specs.Rows.{ChangesRows, HasRoom}
+use Rattle.hay_map.specs.declared.view.MapOp.TheVariants as op
+use Rattle.hay_logical.specs.Unshown.{IsWritten, IsWrittenFor}
+use Rattle.hay_logical.specs.Volumes.{Volume}
+use Rattle.hay_logical.proofs.Lists.{at_same}
+use Rattle.hay_logical.proofs.Methods.{shaped_on}
+use Rattle.hay_logical.proofs.Showing.{put_shown}
+use Rattle.hay_logical.proofs.logical.Logical.show.Given as given
+use Rattle.hay_logical.proofs.logical.Logical.show.Goals as goal
+
+pub give_row-requires : goal.give_row-requires
+give_row-requires g c =
+    let fits = subst (λ v. IsWrittenFor g.D.Disk.Tells g.D.Disk.files c.args.written v) (sym c.self.view_is) c.requires in
+    (search rules, (search rules, (fits.room, fits.long)))
+
+pub invariant_of-self : goal.invariant_of-self
+invariant_of-self g c =
+    let fits = subst (λ v. IsWrittenFor g.D.Disk.Tells g.D.Disk.files c.args.written v) (sym c.self.view_is) c.requires in (
+      shaped_on c.self.inside.settings c.self.inside.number c.self.inside.replicas.items c.self.inside.replicas.items c.self.inside.rows c.give_row.new.rows c.self.inside.front c.args.written.position c.self.inside.frozen c.self.inside.frozen c.self.inside.unsure c.self.inside.unsure
+          c.self.invariant.0 (c.self.invariant.0).frozen_by refl (λ j r r' e f. ap (λ x. x.sup) (at_same c.self.inside.replicas.items j r' r f e)) c.give_row.ensures.replicas (λ none j r r' e f. (c.self.invariant.0).thawed none j r' f),
+      c.self.invariant.1,
+      fits.reach c.give_row.new.rows c.give_row.ensures,
+    )
+
+pub returns-clause-put : goal.returns-clause-put
+returns-clause-put g c = λ tells k tag pair cookie bytes is.
+    put_shown c.self.inside.settings c.self.inside.number g.D.Disk.Tells g.D.Disk.files g.D.Piece.Piece.Tells g.D.Disk.fault_count g.D.Disk.fuse_count c.self.inside.replicas.items c.self.inside.rows c.give_row.new.rows c.self.inside.front c.args.written.position
+    c.self.inside.frozen c.self.inside.unsure k tag pair cookie bytes c.args.written (subst (λ v. IsWritten g.D.Disk.files g.D.Piece.Piece.Tells k pair cookie bytes c.args.written v) (sym c.self.view_is) is) refl c.give_row.ensures.rows
+
+pub returns-clause-rows : goal.returns-clause-rows
+returns-clause-rows g c = subst (λ v. ChangesRows (op.Put c.args.written.pair c.args.written.row) v.rows c.give_row.new.rows) c.self.view_is c.give_row.ensures
+
+pub returns-clause-still : goal.returns-clause-still
+returns-clause-still g c = ap (λ (v : Volume g.row.D.Denot g.row.D-Piece.Denot). record v { rows = c.give_row.new.rows; front = c.args.written.position }) c.self.view_is
