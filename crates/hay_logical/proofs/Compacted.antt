@@ -2,6 +2,7 @@
 use Rattle.std.proofs.Common.{◌≡◌, inl, inr, ℕ, ◌+◌, ◌<◌, ◌≤◌, true, List, length, Option, Some, None, refl, sym, ap, subst, ◌∙◌, arith}
 use Rattle.std.specs.Prelude.{Err, Ok, option_map}
 use Rattle.std.proofs.lemmas.Bool.{cases_eq}
+use Rattle.hay_needle.specs.declared.needle.Cell.{Cell}
 use Rattle.hay_needle.specs.declared.settings.Settings.{Settings}
 use Rattle.hay_disk.specs.Counts.{Rose}
 use Rattle.hay_disk.specs.Disk.{Files}
@@ -12,9 +13,11 @@ use Rattle.hay_map.specs.MapRows.{MapRows}
 use Rattle.hay_physical.specs.declared.fault.ReplicaFault.TheVariants as fault
 use Rattle.hay_open.specs.Stored.{Stored, index_file, volume_file}
 use Rattle.hay_physical.specs.Copies.{Copy, IsUp, generation_of, goal_of}
+use Rattle.hay_physical.specs.Replicas as physical
 use Rattle.hay_physical.specs.Runs as runs
 use Rattle.hay_physical.specs.Runs.{HasRun, RemovedBoth}
 use Rattle.hay_physical.proofs.Laws.{goal_none, stands_generation}
+use Rattle.hay_logical.specs.declared.runs.NewFiles.{NewFiles}
 use Rattle.hay_logical.specs.declared.runs.Unswapped.{Unswapped}
 use Rattle.hay_logical.specs.declared.runs.Unswapped.TheVariants.{Refused, Unsure as Perhaps}
 use Rattle.hay_logical.specs.declared.unsure.Unsure.{Unsure}
@@ -25,6 +28,7 @@ use Rattle.hay_logical.specs.Refusals.{unfinished_by}
 use Rattle.hay_logical.specs.Stands.{ReplicaStands, Stands, StandsFor}
 use Rattle.hay_logical.specs.Steps.{KeepsPlaces, Start, StaysInReach, SwapsAt, SwapsOne}
 use Rattle.hay_logical.specs.Steps.Start.{Fresh, Going}
+use Rattle.hay_logical.proofs.Alike.{one_standing}
 use Rattle.hay_logical.proofs.Compacting.{known_goal, known_none}
 use Rattle.hay_logical.proofs.Finishing.{loose_sizes, stands_dropped, stands_poised, stands_same, stands_swap, tight_sizes, was_there}
 use Rattle.hay_logical.proofs.Lists.{at_below, at_same}
@@ -57,10 +61,10 @@ module _ {D P : Type 0} (settings : Settings) (number : ℕ) (DiskTells : Type 0
       let fits = was.fits.generation in
       (run, (let e : (replica_at k at).generation < 65535 = omega (arith, most, next, fits) in e))
 
-  pub finished : (generation : ℕ) → (goal_of one.before ≡ None → ⊥) → ((goal : ℕ) → goal_of one.before ≡ Some goal → goal ≤ 65535) → SwapsAt DiskTells files faults Tells Going rows rows' at one.before one.after (Ok generation) → KeepsPlaces rows rows' at (Ok generation)
-      → IsFinished files Tells k at generation (volume_with settings number new rows' front None unsure)
+  pub finished : (files_now : NewFiles P) → (goal_of one.before ≡ None → ⊥) → ((goal : ℕ) → goal_of one.before ≡ Some goal → goal ≤ 65535) → SwapsAt DiskTells files faults Tells Going rows rows' at one.before one.after (Ok files_now) → KeepsPlaces rows rows' at (Ok files_now)
+      → IsFinished files Tells k at files_now.generation (volume_with settings number new rows' front None unsure)
   unfolding Stands was has_run
-  finished generation standing few swaps places =
+  finished files_now standing few swaps places =
       let run = running standing in
       let made = swaps.swapped tells was.stored (copier_run run.0) was.stands (has_run run) was.places in
       record {
@@ -71,8 +75,11 @@ module _ {D P : Type 0} (settings : Settings) (number : ℕ) (DiskTells : Type 0
           made.stored.end,
           length made.stored.cells,
           loose_sizes k at was.stored made.stored (copier_run run.0) was.fits made.to,
-          stands_swap settings number DiskTells files Tells items new rows rows' front unsure k stands one.count tells at one (copier_run run.0) generation swaps.up.0 swaps.up.1 swaps.up.2 made places.others,
+          stands_swap settings number DiskTells files Tells items new rows rows' front unsure k stands one.count tells at one (copier_run run.0) files_now.generation swaps.up.0 swaps.up.1 swaps.up.2 made places.others,
         );
+        sizes = λ r f s is.
+            let same = one_standing files r made.stored s (subst (λ (x : Copy D). physical.Stands files x made.stored) (at_same new at one.after r one.is f) made.stands) is in
+            (same.0, ap (λ (l : List Cell). length l) same.1);
       }
 
   pub finish_refused : (u : Unswapped) → (goal_of one.before ≡ None → ⊥) → ((goal : ℕ) → goal_of one.before ≡ Some goal → goal ≤ 65535) → SwapsAt DiskTells files faults Tells Going rows rows' at one.before one.after (Err u) → StaysInReach DiskTells files one.before one.after
@@ -101,10 +108,10 @@ module _ {D P : Type 0} (settings : Settings) (number : ℕ) (DiskTells : Type 0
       (stands.frozen, refl, run, inr (stands_poised settings number DiskTells files Tells items new rows rows' front unsure k stands one.count tells at one (machine_of settings number at) h.0 swaps.left.0 stays h.1 h.2 places.same))
 
   -- the files of the old generation
-  pub removes_old : (start : Start) (generation : ℕ) → SwapsAt DiskTells files faults Tells start rows rows' at one.before one.after (Ok generation)
+  pub removes_old : (start : Start) (files_now : NewFiles P) → SwapsAt DiskTells files faults Tells start rows rows' at one.before one.after (Ok files_now)
       → RemovesOld files faults k at (volume_with settings number items rows front None unsure) (volume_with settings number new rows' front None unsure)
   unfolding Stands was
-  removes_old start generation swaps = λ r r' e f.
+  removes_old start files_now swaps = λ r r' e f.
       subst (λ n. RemovedBoth (files r'.disk) (volume_file n) (index_file n) (faults r.disk) (faults r'.disk)) (sym was.fits.generation)
       (subst (λ (x : Copy D). RemovedBoth (files x.disk) (volume_file was.stored.generation) (index_file was.stored.generation) (faults r.disk) (faults x.disk)) (at_same new at one.after r' one.is f)
       (subst (λ (x : Copy D). RemovedBoth (files (one.after).disk) (volume_file was.stored.generation) (index_file was.stored.generation) (faults x.disk) (faults (one.after).disk)) (at_same items at one.before r one.was e)
@@ -122,10 +129,10 @@ module _ {D P : Type 0} (settings : Settings) (number : ℕ) (DiskTells : Type 0
       let less = idle.1 in
       (known_none files one.before was.stored (replica_at k at).run was.run idle.0, (let e : (replica_at k at).generation < 65535 = omega (arith, less, same, fits) in e))
 
-  pub compacted : (generation : ℕ) → SwapsAt DiskTells files faults Tells Fresh rows rows' at one.before one.after (Ok generation) → KeepsPlaces rows rows' at (Ok generation)
-      → IsCompacted files Tells k at generation (volume_with settings number new rows' front None unsure)
+  pub compacted : (files_now : NewFiles P) → SwapsAt DiskTells files faults Tells Fresh rows rows' at one.before one.after (Ok files_now) → KeepsPlaces rows rows' at (Ok files_now)
+      → IsCompacted files Tells k at files_now.generation (volume_with settings number new rows' front None unsure)
   unfolding Stands was fresh
-  compacted generation swaps places =
+  compacted files_now swaps places =
       let idle = swaps.up.3 in
       let made = swaps.swapped tells was.stored fresh was.stands (goal_none files one.before was.stored idle.0, refl) was.places in
       record {
@@ -136,8 +143,11 @@ module _ {D P : Type 0} (settings : Settings) (number : ℕ) (DiskTells : Type 0
           made.stored.end,
           length made.stored.cells,
           tight_sizes k at was.stored made.stored fresh refl was.fits made.to,
-          stands_swap settings number DiskTells files Tells items new rows rows' front unsure k stands one.count tells at one fresh generation swaps.up.0 swaps.up.1 swaps.up.2 made places.others,
+          stands_swap settings number DiskTells files Tells items new rows rows' front unsure k stands one.count tells at one fresh files_now.generation swaps.up.0 swaps.up.1 swaps.up.2 made places.others,
         );
+        sizes = λ r f s is.
+            let same = one_standing files r made.stored s (subst (λ (x : Copy D). physical.Stands files x made.stored) (at_same new at one.after r one.is f) made.stands) is in
+            (same.0, ap (λ (l : List Cell). length l) same.1);
       }
 
   all_same : one.after ≡ one.before → (j : ℕ) (r r' : Copy D) → At items j r → At new j r' → IsUp one.after → r' ≡ r

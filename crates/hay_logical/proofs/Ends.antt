@@ -6,6 +6,7 @@ use Rattle.hay_disk.specs.Disk.{Files}
 use Rattle.hay_map.specs.MapRows.{MapRows}
 use Rattle.hay_physical.specs.declared.fault.ReplicaFault.TheVariants as fault
 use Rattle.hay_physical.specs.Copies.{Copy, IsFrozen, IsUp, goal_of, is_frozen}
+use Rattle.hay_logical.specs.declared.runs.NewFiles.{NewFiles}
 use Rattle.hay_logical.specs.declared.runs.Unswapped.{Unswapped}
 use Rattle.hay_logical.specs.declared.runs.Unswapped.TheVariants.{Refused, Unsure}
 use Rattle.hay_logical.specs.Fits.{At}
@@ -15,7 +16,7 @@ use Rattle.hay_logical.proofs.Lists.{at_below, at_same, at_set_other, at_set_sam
 
 module _ {D P : Type 0} (DiskTells : Type 0) (files : D → Files) (faults : D → ℕ) (Tells : Type 0) (start : Start) (rows rows' : MapRows P) (at : ℕ) where
   -- where it takes no changes no compaction stands
-  idle_frozen : (r y : Copy D) (result : Result ℕ Unswapped) → IsUp r → IsFrozen y → SwapsAt DiskTells files faults Tells start rows rows' at r y result → goal_of y ≡ None
+  idle_frozen : (r y : Copy D) (result : Result (NewFiles P) Unswapped) → IsUp r → IsFrozen y → SwapsAt DiskTells files faults Tells start rows rows' at r y result → goal_of y ≡ None
   idle_frozen r y (Ok n) up frozen swaps = (swaps.up).2
   idle_frozen r y (Err (Refused (fault.Failed n))) up frozen swaps = (swaps.left).1
   idle_frozen r y (Err (Refused (fault.Damaged n))) up frozen swaps = (swaps.left).1
@@ -27,7 +28,7 @@ module _ {D P : Type 0} (DiskTells : Type 0) (files : D → Files) (faults : D �
   idle_frozen r y (Err (Refused (fault.Ended n))) up frozen swaps = absurd swaps.left
   idle_frozen r y (Err (Unsure n)) up frozen swaps = (swaps.left).1
 
-  module _ (old new : List (Copy D)) (r y : Copy D) (result : Result ℕ Unswapped) (was : At old at r) (up : IsUp r) (swaps : SwapsAt DiskTells files faults Tells start rows rows' at r y result)
+  module _ (old new : List (Copy D)) (r y : Copy D) (result : Result (NewFiles P) Unswapped) (was : At old at r) (up : IsUp r) (swaps : SwapsAt DiskTells files faults Tells start rows rows' at r y result)
       (count : length new ≡ length (slice_set old at y))
       (each : (j : ℕ) (a b : Copy D) → At (slice_set old at y) j a → At new j b → LosesRun DiskTells files a b)
       (still : (a : Copy D) → At (slice_set old at y) at a → is_frozen a ≡ false → new ≡ slice_set old at y)

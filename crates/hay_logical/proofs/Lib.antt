@@ -1,3 +1,4 @@
+pub mod Alike
 pub mod Beginning
 pub mod Calls
 pub mod Changing

@@ -8,6 +8,7 @@ use Rattle.hay_map.specs.MapRows.{MapRows}
 use Rattle.hay_physical.specs.declared.fault.ReplicaFault.TheVariants as fault
 use Rattle.hay_physical.specs.Copies.{Copy, IsOpenCopy, IsUp, is_frozen}
 use Rattle.hay_logical.specs.declared.unsure.Unsure.{Unsure}
+use Rattle.hay_logical.specs.declared.runs.NewFiles.{NewFiles}
 use Rattle.hay_logical.specs.declared.runs.Unswapped.{Unswapped}
 use Rattle.hay_logical.specs.declared.runs.Unswapped.TheVariants.{Refused, Unsure as Perhaps}
 use Rattle.hay_logical.specs.Fits.{At}
@@ -33,7 +34,7 @@ module _ {D P : Type 0} (DiskTells : Type 0) (files : D → Files) (Tells : Type
     | inr apart ↦ others r r' (ups j r e) (one.others j r r' apart e f).0
   ]
 
-  pub swaps_kept : (result : Result ℕ Unswapped) → SwapsAt DiskTells files faults Tells start rows rows' at one.before one.after result → (j : ℕ) (r r' : Copy D) → At items j r → At new j r' → IsOpenCopy r' × (r'.sup ≡ r.sup)
+  pub swaps_kept : (result : Result (NewFiles P) Unswapped) → SwapsAt DiskTells files faults Tells start rows rows' at one.before one.after result → (j : ℕ) (r r' : Copy D) → At items j r → At new j r' → IsOpenCopy r' × (r'.sup ≡ r.sup)
   swaps_kept result swaps = each_of (λ r r'. IsOpenCopy r' × (r'.sup ≡ r.sup)) (swaps.«open», swaps.sup) (λ r r' up loses. (loses.«open» (up_open r up), loses.sup))
 
   pub swaps_thawed : IsUp one.after → (j : ℕ) (r r' : Copy D) → At items j r → At new j r' → is_frozen r' ≡ false
@@ -50,7 +51,7 @@ module _ {D P : Type 0} (DiskTells : Type 0) (files : D → Files) (Tells : Type
   swaps_up settings number (Refused (fault.Ended n)) swaps none = absurd swaps.left
   swaps_up settings number (Perhaps n) swaps none = absurd cc
 
-  pub swaps_reach : (result : Result ℕ Unswapped) → SwapsAt DiskTells files faults Tells start rows rows' at one.before one.after result → KeepsPlaces rows rows' at result → CanReach DiskTells files items rows → CanReach DiskTells files new rows'
+  pub swaps_reach : (result : Result (NewFiles P) Unswapped) → SwapsAt DiskTells files faults Tells start rows rows' at one.before one.after result → KeepsPlaces rows rows' at result → CanReach DiskTells files items rows → CanReach DiskTells files new rows'
   swaps_reach result swaps places can tells j r' f = elim (cases_eq j at) [
     | inl same ↦
         let r'_is : r' ≡ one.after = at_same new at r' one.after (subst (λ n. At new n r') same f) one.is in
@@ -62,18 +63,18 @@ module _ {D P : Type 0} (DiskTells : Type 0) (files : D → Files) (Tells : Type
   ]
 
 -- a volume's call that ended a compaction
-pub record SwapCall {D P : Type 0} (DiskTells : Type 0) (files : D → Files) (Tells : Type 0) (faults : D → ℕ) (start : Start) (items new : List (Copy D)) (rows rows' : MapRows P) (at : ℕ) (result : Result ℕ Unswapped) : Type 0 where
+pub record SwapCall {D P : Type 0} (DiskTells : Type 0) (files : D → Files) (Tells : Type 0) (faults : D → ℕ) (start : Start) (items new : List (Copy D)) (rows rows' : MapRows P) (at : ℕ) (result : Result (NewFiles P) Unswapped) : Type 0 where
   pub one : SwapsOne DiskTells files at items new
   pub ups : (j : ℕ) (r : Copy D) → At items j r → IsUp r
   pub swaps : SwapsAt DiskTells files faults Tells start rows rows' at one.before one.after result
   pub stays : OnErr result (StaysInReach DiskTells files one.before one.after)
   pub places : KeepsPlaces rows rows' at result
 
-pub called_with : {D P : Type 0} {DiskTells : Type 0} {files : D → Files} {Tells : Type 0} {faults : D → ℕ} {start : Start} {items new : List (Copy D)} {rows rows' : MapRows P} {at : ℕ} {result result' : Result ℕ Unswapped}
+pub called_with : {D P : Type 0} {DiskTells : Type 0} {files : D → Files} {Tells : Type 0} {faults : D → ℕ} {start : Start} {items new : List (Copy D)} {rows rows' : MapRows P} {at : ℕ} {result result' : Result (NewFiles P) Unswapped}
     → result ≡ result' → SwapCall DiskTells files Tells faults start items new rows rows' at result → SwapCall DiskTells files Tells faults start items new rows rows' at result'
 called_with {D} {P} {DiskTells} {files} {Tells} {faults} {start} {items} {new} {rows} {rows'} {at} is call = subst (λ z. SwapCall DiskTells files Tells faults start items new rows rows' at z) is call
 
-module _ {D P : Type 0} {DiskTells : Type 0} {files : D → Files} {Tells : Type 0} {faults : D → ℕ} {start : Start} {items new : List (Copy D)} {rows rows' : MapRows P} {at : ℕ} {result : Result ℕ Unswapped}
+module _ {D P : Type 0} {DiskTells : Type 0} {files : D → Files} {Tells : Type 0} {faults : D → ℕ} {start : Start} {items new : List (Copy D)} {rows rows' : MapRows P} {at : ℕ} {result : Result (NewFiles P) Unswapped}
     (call : SwapCall DiskTells files Tells faults start items new rows rows' at result) where
   pub called_each : (j : ℕ) (r r' : Copy D) → At items j r → At new j r' → IsOpenCopy r' × (r'.sup ≡ r.sup)
   called_each = swaps_kept DiskTells files Tells faults start items new rows rows' at call.one call.ups result call.swaps

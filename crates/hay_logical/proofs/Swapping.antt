@@ -26,6 +26,7 @@ use Rattle.hay_physical.specs.Faults as physical_faults
 use Rattle.hay_physical.specs.Replicas as physical
 use Rattle.hay_physical.specs.Runs.{Run}
 use Rattle.hay_physical.proofs.Removing.{removed_since}
+use Rattle.hay_logical.specs.declared.runs.NewFiles.{NewFiles}
 use Rattle.hay_logical.specs.declared.runs.Unswapped.{Unswapped}
 use Rattle.hay_logical.specs.declared.runs.Unswapped.TheVariants.{Refused, Unsure}
 use Rattle.hay_logical.specs.Fits.{PhotoAt}
@@ -188,18 +189,17 @@ module _ {D : Type 0} (files : D → Files) (faults : D → ℕ) where
   holds_later r x y s run next (Unsure n) same stuck h = (h.0, h.1, subst (λ b. physical.Holds files y b s h.0) stuck h.2)
 
 -- the rows stay
-pub keeps_rows : {P : Type 0} (rows rows' : MapRows P) (at : ℕ) (result : Result ℕ Unswapped) → rows'.replicas ≡ rows.replicas → ((pair : Pair) → row_at rows' pair ≡ row_at rows pair) → KeepsPlaces rows rows' at result
-keeps_rows rows rows' at (Ok n) width same = record { width = width; others = λ pair i apart. ap (λ l. place_in l i) (same pair); same = tt }
-keeps_rows rows rows' at (Err u) width same = record { width = width; others = λ pair i apart. ap (λ l. place_in l i) (same pair); same = same }
+pub keeps_rows : {P : Type 0} (rows rows' : MapRows P) (at : ℕ) (u : Unswapped) → rows'.replicas ≡ rows.replicas → ((pair : Pair) → row_at rows' pair ≡ row_at rows pair) → KeepsPlaces rows rows' at (Err u)
+keeps_rows rows rows' at u width same = record { moved = tt; width = width; others = λ pair i apart. ap (λ l. place_in l i) (same pair); same = same }
 
 -- a refusal behind what went before
-pub stays_later : {D : Type 0} (DiskTells : Type 0) (files : D → Files) (r x y : Copy D) (result : Result ℕ Unswapped) → StaysInReach DiskTells files r x → OnErr result (StaysInReach DiskTells files x y) → OnErr result (StaysInReach DiskTells files r y)
+pub stays_later : {D P : Type 0} (DiskTells : Type 0) (files : D → Files) (r x y : Copy D) (result : Result (NewFiles P) Unswapped) → StaysInReach DiskTells files r x → OnErr result (StaysInReach DiskTells files x y) → OnErr result (StaysInReach DiskTells files r y)
 stays_later DiskTells files r x y (Ok n) before behind = tt
 stays_later DiskTells files r x y (Err u) before behind = λ tells. reach_through files r x y (before tells) (behind tells)
 
 -- A swap behind what went before. `meets` says what it finds then.
 module _ {D P : Type 0} (DiskTells : Type 0) (files : D → Files) (faults : D → ℕ) (Tells : Type 0) (rows rows' : MapRows P) (at : ℕ) (r x y : Copy D) where
-  pub swaps_later : (result : Result ℕ Unswapped) (a b : Start) → (b ≡ Fresh → ⊥) → IsUp r → GoesOn DiskTells files r x → WasAtRest a r → faults r.disk ≤ faults x.disk
+  pub swaps_later : (result : Result (NewFiles P) Unswapped) (a b : Start) → (b ≡ Fresh → ⊥) → IsUp r → GoesOn DiskTells files r x → WasAtRest a r → faults r.disk ≤ faults x.disk
       → (DiskTells → (s : Stored) (run : Run) → physical.Stands files r s → StartsRun files a r s run → PlacesAre Tells rows at s → (next : Run) × (next.tight ≡ run.tight) × StartsRun files b x s next)
       → SwapsAt DiskTells files faults Tells b rows rows' at x y result → SwapsAt DiskTells files faults Tells a rows rows' at r y result
   swaps_later (Ok generation) a b later up on rest low meets swaps = record {

@@ -18,8 +18,9 @@ use Rattle.hay_legal.specs.declared.known.VolumeKnown.{VolumeKnown}
 use Rattle.hay_legal.specs.Known.{machine_of, now, replica_at, room_refusal_of, with_replica}
 use Rattle.hay_legal.specs.Plain.{as_it_is, frozen_by, frozen_with, has_pair, poised, stepped, swapped, with_bare, with_del, with_put, with_run, with_stuck, without_run}
 use Rattle.hay_legal.specs.Restarts.{ReopenedVolume, pending_notes}
-use Rattle.hay_open.specs.Stored.{index_file, volume_file}
+use Rattle.hay_open.specs.Stored.{Stored, index_file, volume_file}
 use Rattle.hay_physical.specs.Copies.{Copy, goal_of}
+use Rattle.hay_physical.specs.Replicas as physical
 use Rattle.hay_physical.specs.Runs.{RemovedBoth}
 use Rattle.hay_logical.specs.declared.fault.LogicalFault.{LogicalFault}
 use Rattle.hay_logical.specs.declared.fault.LogicalFault.TheVariants.{Busy, Damaged, Failed, Full, Gone, Idle, NoMemory, ReadOnly, Worn}
@@ -307,6 +308,10 @@ IsLoose k j end cells =
     (live_end (now k (replica_at k j)) ≤ end) × (end ≤ (replica_at k j).end)
     × (length (now k (replica_at k j)) ≤ cells) × (cells ≤ (replica_at k j).cells)
 
+-- The cells of a replica end here, and are so many, whatever it is said to stand for.
+abbrev pub HasSizes : {D : Type 0} → (D → Files) → Copy D → ℕ → ℕ → Type 0
+HasSizes files r end cells = (s : Stored) → physical.Stands files r s → (end ≡ s.end) × (cells ≡ length s.cells)
+
 -- The files of a replica were swapped, with sizes of this kind, and the volume changed besides.
 abbrev pub StandsSwapped : {D P : Type 0} → (D → Files) → Type 0 → (VolumeKnown → ℕ → ℕ → ℕ → Type 0) → (VolumeKnown → VolumeKnown) → VolumeKnown → ℕ → Volume D P → Type 0
 StandsSwapped files Tells sizes besides k replica new =
@@ -330,6 +335,7 @@ pub record IsFinished {D P : Type 0} (files : D → Files) (Tells : Type 0) (k :
   pub stood : MayFinish k replica
   pub next : generation ≡ (replica_at k replica).generation + 1
   pub swaps : StandsSwapped files Tells IsLoose as_it_is k replica new
+  pub sizes : (r : Copy D) → At new.replicas replica r → HasSizes files r swaps.0 swaps.1
 
 abbrev pub FinishRefused : {D P : Type 0} → (D → Files) → Type 0 → VolumeKnown → ℕ → Volume D P → Volume D P → LogicalFault → Type 0
 FinishRefused files Tells k replica old new (ReadOnly m) = (k.frozen ≡ Some m) × (new ≡ old)
@@ -349,6 +355,7 @@ pub record IsCompacted {D P : Type 0} (files : D → Files) (Tells : Type 0) (k 
   pub rest : MayBegin k replica
   pub next : generation ≡ (replica_at k replica).generation + 1
   pub swaps : StandsSwapped files Tells IsTight as_it_is k replica new
+  pub sizes : (r : Copy D) → At new.replicas replica r → HasSizes files r swaps.0 swaps.1
 
 abbrev pub CompactRefused : {D P : Type 0} → (D → Files) → Type 0 → VolumeKnown → ℕ → Volume D P → Volume D P → LogicalFault → Type 0
 CompactRefused files Tells k replica old new (ReadOnly m) = (k.frozen ≡ Some m) × (new ≡ old)

@@ -13,10 +13,11 @@ use Rattle.hay_disk.specs.Disk.{Files, IsSolid, MayLeave}
 use Rattle.hay_volume.specs.Cells.{live_cell}
 use Rattle.hay_map.specs.MapRows.{MapRows}
 use Rattle.hay_map.specs.Places.{place_in}
-use Rattle.hay_map.specs.Rows.{row_at}
+use Rattle.hay_map.specs.Rows.{ChangesRows, row_at}
 use Rattle.hay_map.specs.Sealed.{SealedNeedle}
 use Rattle.hay_map.specs.declared.place.Place.{Place}
 use Rattle.hay_map.specs.declared.place.Place.TheVariants as place
+use Rattle.hay_map.specs.declared.view.MapOp.TheVariants as op
 use Rattle.hay_open.specs.declared.fault.OpenFault.{OpenFault}
 use Rattle.hay_open.specs.declared.fault.OpenFault.TheVariants as open_fault
 use Rattle.hay_open.specs.Damage.{IsOpeningDamage}
@@ -33,6 +34,7 @@ use Rattle.hay_physical.specs.Runs.{HasLastAt, HasRun, IsTight, RemovedBoth, Run
 use Rattle.hay_logical.specs.declared.fault.Unopened.{Unopened}
 use Rattle.hay_logical.specs.declared.replicas.Broken.{Broken}
 use Rattle.hay_logical.specs.declared.replicas.DiskFailed.{DiskFailed}
+use Rattle.hay_logical.specs.declared.runs.NewFiles.{NewFiles}
 use Rattle.hay_logical.specs.declared.runs.Unswapped.{Unswapped}
 use Rattle.hay_logical.specs.declared.runs.Unswapped.TheVariants.{Refused, Unsure}
 use Rattle.hay_logical.specs.Fits.{At, PhotoAt, PlaceStands}
@@ -434,21 +436,22 @@ pub record Swapped {D P : Type 0} (files : D → Files) (Tells : Type 0) (rows' 
   pub generation_is : generation ≡ stored.generation
 
 -- The compaction ended with a swap of the files, or nothing of the replica's photos has changed.
-pub record SwapsAt {D P : Type 0} (DiskTells : Type 0) (files : D → Files) (faults : D → ℕ) (Tells : Type 0) (start : Start) (rows rows' : MapRows P) (at : ℕ) (r r' : Copy D) (result : Result ℕ Unswapped) : Type 0 where
+pub record SwapsAt {D P : Type 0} (DiskTells : Type 0) (files : D → Files) (faults : D → ℕ) (Tells : Type 0) (start : Start) (rows rows' : MapRows P) (at : ℕ) (r r' : Copy D) (result : Result (NewFiles P) Unswapped) : Type 0 where
   pub «open» : IsOpenCopy r'
   pub sup : r'.sup ≡ r.sup
   pub up : OnOk result (IsUp r' × (is_stuck r' ≡ false) × (goal_of r' ≡ None) × WasAtRest start r)
   pub left : IfErr result (IsLeftBy faults start r r')
   pub swapped : DiskTells → (s : Stored) (run : Run) → physical.Stands files r s → StartsRun files start r s run → PlacesAre Tells rows at s →
-      IfOk result (Swapped files Tells rows' at r' s run)
+      IfOk result (λ new. Swapped files Tells rows' at r' s run new.generation)
   pub removed : DiskTells → (s : Stored) → physical.Stands files r s →
       OnOk result (RemovedBoth (files r'.disk) (volume_file s.generation) (index_file s.generation) (faults r.disk) (faults r'.disk))
   pub refused : DiskTells → (s : Stored) (run : Run) → physical.Stands files r s → StartsRun files start r s run → PlacesAre Tells rows at s →
       IfErr result (HoldsUnswapped files r r' s run)
   pub reach : DiskTells → ReachesPlaces files rows at r → ReachesPlaces files rows' at r'
 
--- the places of the other replicas stay, and of all behind a refusal
-pub record KeepsPlaces {P : Type 0} (rows rows' : MapRows P) (at : ℕ) (result : Result ℕ Unswapped) : Type 0 where
+-- the places of the replica moved to its new cells, those of the other replicas stay, and all behind a refusal
+pub record KeepsPlaces {P : Type 0} (rows rows' : MapRows P) (at : ℕ) (result : Result (NewFiles P) Unswapped) : Type 0 where
+  pub moved : IfOk result (λ new. ChangesRows (op.Swap at new.cells) rows rows')
   pub width : rows'.replicas ≡ rows.replicas
   pub others : (pair : Pair) (i : ℕ) → (i ≡ at → ⊥) → place_in (row_at rows' pair) i ≡ place_in (row_at rows pair) i
   pub same : OnErr result ((pair : Pair) → row_at rows' pair ≡ row_at rows pair)

@@ -25,5 +25,6 @@ mod written;
 
 pub use fault::{LogicalFault, Unopened};
 pub use logical::{Logical, Looked};
+pub use runs::NewFiles;
 pub use unsure::{Change, Unsure};
 pub use written::{Erased, Written};

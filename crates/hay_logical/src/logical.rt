@@ -30,7 +30,7 @@ use crate::fault::{LogicalFault, Unopened};
 use crate::notes::{machine_of, notes_of};
 use crate::refusals::{answer_at, has_live, is_untouched, put_refusal, unfinished_by};
 use crate::replicas::{delete_each, ends_of, flush_at, fuse_at, put_each, room_in, stop_each};
-use crate::runs::{begin_at, compact_at, drop_run_at, drop_runs, finish_at, step_at};
+use crate::runs::{NewFiles, begin_at, compact_at, drop_run_at, drop_runs, finish_at, step_at};
 use crate::sights::{open_all, see_at};
 use crate::unsure::{Change, Unsure};
 use crate::written::{Erased, Written};
@@ -686,15 +686,17 @@ impl<D: Disk> Logical<D> {
     }
 
     /// Examines what is left for a replica's compaction, makes its files the current ones, and then changes the rows.
-    /// Answers the new generation. Any refusal but `ReadOnly` and `Idle` ends the compaction.
+    /// Answers them, by whose cells the rows changed. Any refusal but `ReadOnly` and `Idle` ends the compaction.
     ///
     /// `Failed` freezes the volume where the replica may stand before the swap or behind it, and so does `NoMemory`
     /// behind the swap.
-    pub fn finish(&mut self, replica: u32) -> Result<u64, LogicalFault>
+    pub fn finish_files(&mut self, replica: u32) -> Result<NewFiles<D::Piece>, LogicalFault>
         requires within { replica < self.old.settings.replicas }
         requires open { IsOpenVolume self.old }
         ensures finished { D.Tells → (k : VolumeKnown) → Stands D.files D.Piece.Tells self.old k →
-            IfOk result (λ generation. IsFinished D.files D.Piece.Tells k replica generation self.new) }
+            IfOk result (λ files. IsFinished D.files D.Piece.Tells k replica files.generation self.new) }
+        ensures rows { IfOk result (λ files. ChangesRows (map_op.Swap replica files.cells) self.old.rows self.new.rows) }
+        ensures still { OnOk result ((self.new.front ≡ self.old.front) × (self.new.frozen ≡ self.old.frozen)) }
         ensures removed { D.Tells → (k : VolumeKnown) → Stands D.files D.Piece.Tells self.old k →
             OnOk result (RemovesOld D.files D.fault_count k replica self.old self.new) }
         ensures refused { D.Tells → (k : VolumeKnown) → Stands D.files D.Piece.Tells self.old k →
@@ -716,7 +718,7 @@ impl<D: Disk> Logical<D> {
             replica as usize,
             &mut self.rows,
         ) {
-            Ok(generation) => Ok(generation),
+            Ok(files) => Ok(files),
             Err(unswapped) => {
                 let unfinished = unfinished_by(&self.settings, self.number, replica, unswapped);
                 self.frozen = unfinished.frozen;
@@ -725,13 +727,39 @@ impl<D: Disk> Logical<D> {
         }
     }
 
+    /// Finishes a compaction as `finish_files` does, and answers the new generation.
+    pub fn finish(&mut self, replica: u32) -> Result<u64, LogicalFault>
+        requires within { replica < self.old.settings.replicas }
+        requires open { IsOpenVolume self.old }
+        ensures finished { D.Tells → (k : VolumeKnown) → Stands D.files D.Piece.Tells self.old k →
+            IfOk result (λ generation. IsFinished D.files D.Piece.Tells k replica generation self.new) }
+        ensures removed { D.Tells → (k : VolumeKnown) → Stands D.files D.Piece.Tells self.old k →
+            OnOk result (RemovesOld D.files D.fault_count k replica self.old self.new) }
+        ensures refused { D.Tells → (k : VolumeKnown) → Stands D.files D.Piece.Tells self.old k →
+            IfErr result (FinishRefused D.files D.Piece.Tells k replica self.old self.new) }
+        ensures causes { IfErr result (IsRunFault D.fault_count self.old.settings self.old.number replica self.old.replicas self.new.replicas) }
+        ensures unsure { self.new.unsure ≡ self.old.unsure }
+        ensures open { IsOpenVolume self.new }
+        ensures counts { KeepsCounts D.fault_count D.fuse_count self.old.replicas self.new.replicas }
+        ensures same { IsSame self.old self.new }
+    {
+        let files = self.finish_files(replica)?;
+        Ok(files.generation)
+    }
+
     /// Begins a compaction of a replica and finishes it: its files have just the photos that stand then. A refusal
-    /// leaves what one of `begin` or `finish` does.
-    pub fn compact(&mut self, alloc: Global, replica: u32) -> Result<u64, LogicalFault>
+    /// leaves what one of `begin` or `finish_files` does.
+    pub fn compact_files(
+        &mut self,
+        alloc: Global,
+        replica: u32,
+    ) -> Result<NewFiles<D::Piece>, LogicalFault>
         requires within { replica < self.old.settings.replicas }
         requires open { IsOpenVolume self.old }
         ensures compacted { D.Tells → (k : VolumeKnown) → Stands D.files D.Piece.Tells self.old k →
-            IfOk result (λ generation. IsCompacted D.files D.Piece.Tells k replica generation self.new) }
+            IfOk result (λ files. IsCompacted D.files D.Piece.Tells k replica files.generation self.new) }
+        ensures rows { IfOk result (λ files. ChangesRows (map_op.Swap replica files.cells) self.old.rows self.new.rows) }
+        ensures still { OnOk result ((self.new.front ≡ self.old.front) × (self.new.frozen ≡ self.old.frozen)) }
         ensures removed { D.Tells → (k : VolumeKnown) → Stands D.files D.Piece.Tells self.old k →
             OnOk result (RemovesOld D.files D.fault_count k replica self.old self.new) }
         ensures refused { D.Tells → (k : VolumeKnown) → Stands D.files D.Piece.Tells self.old k →
@@ -751,13 +779,33 @@ impl<D: Disk> Logical<D> {
             &mut self.rows,
             alloc,
         ) {
-            Ok(generation) => Ok(generation),
+            Ok(files) => Ok(files),
             Err(unswapped) => {
                 let unfinished = unfinished_by(&self.settings, self.number, replica, unswapped);
                 self.frozen = unfinished.frozen;
                 Err(unfinished.fault)
             }
         }
+    }
+
+    /// Compacts a replica as `compact_files` does, and answers the new generation.
+    pub fn compact(&mut self, alloc: Global, replica: u32) -> Result<u64, LogicalFault>
+        requires within { replica < self.old.settings.replicas }
+        requires open { IsOpenVolume self.old }
+        ensures compacted { D.Tells → (k : VolumeKnown) → Stands D.files D.Piece.Tells self.old k →
+            IfOk result (λ generation. IsCompacted D.files D.Piece.Tells k replica generation self.new) }
+        ensures removed { D.Tells → (k : VolumeKnown) → Stands D.files D.Piece.Tells self.old k →
+            OnOk result (RemovesOld D.files D.fault_count k replica self.old self.new) }
+        ensures refused { D.Tells → (k : VolumeKnown) → Stands D.files D.Piece.Tells self.old k →
+            IfErr result (CompactRefused D.files D.Piece.Tells k replica self.old self.new) }
+        ensures causes { IfErr result (IsCompactFault D.fault_count self.old.settings self.old.number replica self.old.replicas self.new.replicas) }
+        ensures unsure { self.new.unsure ≡ self.old.unsure }
+        ensures open { IsOpenVolume self.new }
+        ensures counts { KeepsCounts D.fault_count D.fuse_count self.old.replicas self.new.replicas }
+        ensures same { IsSame self.old self.new }
+    {
+        let files = self.compact_files(alloc, replica)?;
+        Ok(files.generation)
     }
 
     /// Ends the compaction that stands at a replica, if one does.

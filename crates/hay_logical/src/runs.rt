@@ -7,8 +7,9 @@ ghost use Rattle.hay_logical.specs.Steps.Start.{Examined, Fresh, Going};
 ghost use Rattle.hay_logical.specs.Steps.{AllIdle, BeginsAt, CallsOne, ExaminesAt, KeepsPlaces, LosesRun, StaysInReach, StepsAt, SwapsAt, SwapsOne, latest_of};
 ghost use Rattle.hay_logical.specs.Volumes.{KeepsCounts};
 
+use hay_base::Listed;
 use hay_disk::{Disk, Piece};
-use hay_map::{MapView, Place, Row};
+use hay_map::{MapView, OpenCell, Place, Row};
 use hay_physical::{Replica, ReplicaFault};
 use std::alloc::Global;
 
@@ -19,6 +20,13 @@ pub(crate) enum Unswapped {
     Refused(ReplicaFault),
     /// The disk failed, and its count of faults rose to this: the head may name either generation.
     Unsure { faults: u64 },
+}
+
+/// The new files of a replica: their generation, and the cells to which its photos moved.
+#[derive(Drop)]
+pub struct NewFiles<P: Piece> {
+    pub generation: u64,
+    pub cells: Listed<OpenCell<P>>,
 }
 
 /// Lets go of the compaction of each replica.
@@ -83,7 +91,7 @@ pub(crate) fn finish_at<D: Disk>(
     replicas: &mut [Replica<D>],
     at: usize,
     rows: &mut MapView<D::Piece>,
-) -> Result<u64, Unswapped>
+) -> Result<NewFiles<D::Piece>, Unswapped>
     requires within { at < length replicas.old }
     requires most { length replicas.old ≤ 4 }
     requires width { rows.old.replicas ≡ length replicas.old }
@@ -107,7 +115,7 @@ pub(crate) fn compact_at<D: Disk>(
     at: usize,
     rows: &mut MapView<D::Piece>,
     alloc: Global,
-) -> Result<u64, Unswapped>
+) -> Result<NewFiles<D::Piece>, Unswapped>
     requires within { at < length replicas.old }
     requires most { length replicas.old ≤ 4 }
     requires width { rows.old.replicas ≡ length replicas.old }
@@ -143,7 +151,7 @@ fn compact<D: Disk>(
     at: u32,
     rows: &mut MapView<D::Piece>,
     alloc: Global,
-) -> Result<u64, Unswapped>
+) -> Result<NewFiles<D::Piece>, Unswapped>
     requires up { IsUp replica.old }
     requires within { at < rows.old.replicas }
     ensures swaps { SwapsAt D.Tells D.files D.fault_count D.Piece.Tells Fresh rows.old rows.new at replica.old replica.new result }
@@ -163,7 +171,7 @@ fn finish<D: Disk>(
     replica: &mut Replica<D>,
     at: u32,
     rows: &mut MapView<D::Piece>,
-) -> Result<u64, Unswapped>
+) -> Result<NewFiles<D::Piece>, Unswapped>
     requires up { IsUp replica.old }
     requires within { at < rows.old.replicas }
     requires standing { goal_of replica.old ≡ None → ⊥ }
@@ -189,7 +197,7 @@ fn swap<D: Disk>(
     replica: &mut Replica<D>,
     at: u32,
     rows: &mut MapView<D::Piece>,
-) -> Result<u64, Unswapped>
+) -> Result<NewFiles<D::Piece>, Unswapped>
     requires up { IsUp replica.old }
     requires within { at < rows.old.replicas }
     requires standing { goal_of replica.old ≡ None → ⊥ }
@@ -202,7 +210,10 @@ fn swap<D: Disk>(
     match replica.finish() {
         Ok(places) => {
             rows.swap(at, places.as_slice());
-            Ok(replica.generation())
+            Ok(NewFiles {
+                generation: replica.generation(),
+                cells: Listed::from_vec(places),
+            })
         }
         Err(fault) => Err(why_unswapped(replica, fault)),
     }

@@ -3,7 +3,8 @@ use Rattle.std.proofs.lemmas.Bool.{cases_Bool}
 use Rattle.std.specs.Prelude.{slice_set}
 use Rattle.hay_needle.specs.declared.needle.Pair.{Pair}
 use Rattle.hay_map.specs.Places.{gone_place, place_in}
-use Rattle.hay_map.specs.Rows.{row_at, swapped_place}
+use Rattle.hay_map.specs.Rows.{ChangesRows, row_at, swapped_place}
+use Rattle.hay_map.specs.declared.view.MapOp.TheVariants as op
 use Rattle.hay_open.specs.Stored.{index_file, volume_file}
 use Rattle.hay_physical.specs.Copies.{Copy, is_frozen}
 use Rattle.hay_physical.specs.Runs.{RemovedBoth}
@@ -47,6 +48,7 @@ returns-in-Ok-clause-swaps g c =
 
 pub returns-in-Ok-clause-places : goal.returns-in-Ok-clause-places
 returns-in-Ok-clause-places g c = record {
+  moved = subst (λ l. ChangesRows (op.Swap c.args.at l) c.args.rows.now c.swap.new.self) (c.as_slice.ensures.value ∙ sym c.from_vec.ensures) c.swap.ensures;
   width = c.swap.ensures.replicas;
   others = λ pair i apart. loaded_other (row_at c.args.rows.now pair) (row_at c.swap.new.self pair) i c.args.at _ (c.swap.ensures.rows pair) apart;
   same = tt;

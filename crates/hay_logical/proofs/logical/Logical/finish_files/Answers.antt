@@ -2,6 +2,8 @@ use Rattle.std.proofs.Common.{◌≡◌, ◌<◌, ◌≤◌, ℕ, length, Option
 use Rattle.std.specs.Prelude.{IfSome}
 use Rattle.std.specs.Vec.{with_items}
 use Rattle.std.proofs.lemmas.List.{with_items_is}
+use Rattle.hay_map.specs.Rows.{ChangesRows}
+use Rattle.hay_map.specs.declared.view.MapOp.TheVariants as op
 use Rattle.hay_physical.specs.Copies.{Copy, IsUp, goal_of}
 use Rattle.hay_logical.specs.Answers.{FinishRefused, IsFinished}
 use Rattle.hay_logical.specs.Answers as answers
@@ -19,9 +21,9 @@ use Rattle.hay_logical.proofs.Stepping.{none_there, stands_there}
 use Rattle.hay_logical.proofs.SwapShapes.{SwapCall, called_each, called_open, called_reach, called_shaped, called_up, called_with}
 use Rattle.hay_logical.proofs.Freezing.{frozen_unfinished}
 use Rattle.hay_logical.specs.Volumes.{IsMachineOf, Volume}
-use Rattle.hay_logical.proofs.logical.Logical.finish.Given as given
-use Rattle.hay_logical.proofs.logical.Logical.finish.Goals as goal
-use Rattle.hay_logical.proofs.logical.Logical.finish.Goals.{After-finish_at}
+use Rattle.hay_logical.proofs.logical.Logical.finish_files.Given as given
+use Rattle.hay_logical.proofs.logical.Logical.finish_files.Goals as goal
+use Rattle.hay_logical.proofs.logical.Logical.finish_files.Goals.{After-finish_at}
 
 pub returns-in-Some-clause-refused : goal.returns-in-Some-clause-refused
 unfolding Stands
@@ -111,10 +113,10 @@ returns-in-Ok-clause-finished g c = λ tells k stands.
     λ e. stands_there c.standing.result c.is_none.result c.is_none.ensures c.if-is_none.false (c.standing.ensures.is call.one.before (subst (λ v. At v.replicas c.args.replica call.one.before) c.self.view_is call.one.was) ∙ e) in
     let few : (goal : ℕ) → goal_of call.one.before ≡ Some goal → goal ≤ 65535 =
     λ most e. subst (λ (o : Option ℕ). IfSome o (λ goal. goal ≤ 65535)) (c.standing.ensures.is call.one.before (subst (λ v. At v.replicas c.args.replica call.one.before) c.self.view_is call.one.was) ∙ e) c.standing.ensures.most in
-    subst (λ rs. IsFinished g.D.Disk.files g.D.Piece.Piece.Tells k c.args.replica c.in-Ok.generation (volume_with c.self.inside.settings c.self.inside.number rs c.finish_at.new.rows c.self.inside.front c.self.inside.frozen c.self.inside.unsure)) (sym (kept g after))
-    (subst (λ o. IsFinished g.D.Disk.files g.D.Piece.Piece.Tells k c.args.replica c.in-Ok.generation (volume_with c.self.inside.settings c.self.inside.number c.finish_at.new.replicas c.finish_at.new.rows c.self.inside.front o c.self.inside.unsure)) (sym thawed)
+    subst (λ rs. IsFinished g.D.Disk.files g.D.Piece.Piece.Tells k c.args.replica c.in-Ok.files.generation (volume_with c.self.inside.settings c.self.inside.number rs c.finish_at.new.rows c.self.inside.front c.self.inside.frozen c.self.inside.unsure)) (sym (kept g after))
+    (subst (λ o. IsFinished g.D.Disk.files g.D.Piece.Piece.Tells k c.args.replica c.in-Ok.files.generation (volume_with c.self.inside.settings c.self.inside.number c.finish_at.new.replicas c.finish_at.new.rows c.self.inside.front o c.self.inside.unsure)) (sym thawed)
     (finished c.self.inside.settings c.self.inside.number g.D.Disk.Tells g.D.Disk.files g.D.Piece.Piece.Tells g.D.Disk.fault_count c.self.inside.replicas.items c.finish_at.new.replicas c.self.inside.rows c.finish_at.new.rows c.self.inside.front c.self.inside.unsure k
-    (subst (λ o. StandsFor g.D.Disk.files g.D.Piece.Piece.Tells (volume_with c.self.inside.settings c.self.inside.number c.self.inside.replicas.items c.self.inside.rows c.self.inside.front o c.self.inside.unsure) k) thawed (subst (λ v. StandsFor g.D.Disk.files g.D.Piece.Piece.Tells v k) (sym c.self.view_is) stands)) tells c.args.replica call.one c.in-Ok.generation standing few call.swaps call.places))
+    (subst (λ o. StandsFor g.D.Disk.files g.D.Piece.Piece.Tells (volume_with c.self.inside.settings c.self.inside.number c.self.inside.replicas.items c.self.inside.rows c.self.inside.front o c.self.inside.unsure) k) thawed (subst (λ v. StandsFor g.D.Disk.files g.D.Piece.Piece.Tells v k) (sym c.self.view_is) stands)) tells c.args.replica call.one c.in-Ok.files standing few call.swaps call.places))
 
 pub returns-in-Ok-clause-removed : goal.returns-in-Ok-clause-removed
 unfolding Stands
@@ -123,7 +125,7 @@ returns-in-Ok-clause-removed g c = λ tells k stands r r' e f.
     let call = called_with c.in-Ok.is (called g after) in
     let thawed = not_some c.self.inside.frozen c.in_default.not-Some in
     removes_old c.self.inside.settings c.self.inside.number g.D.Disk.Tells g.D.Disk.files g.D.Piece.Piece.Tells g.D.Disk.fault_count c.self.inside.replicas.items c.finish_at.new.replicas c.self.inside.rows c.finish_at.new.rows c.self.inside.front c.self.inside.unsure k
-    (subst (λ o. StandsFor g.D.Disk.files g.D.Piece.Piece.Tells (volume_with c.self.inside.settings c.self.inside.number c.self.inside.replicas.items c.self.inside.rows c.self.inside.front o c.self.inside.unsure) k) thawed (subst (λ v. StandsFor g.D.Disk.files g.D.Piece.Piece.Tells v k) (sym c.self.view_is) stands)) tells c.args.replica call.one Going c.in-Ok.generation call.swaps r r'
+    (subst (λ o. StandsFor g.D.Disk.files g.D.Piece.Piece.Tells (volume_with c.self.inside.settings c.self.inside.number c.self.inside.replicas.items c.self.inside.rows c.self.inside.front o c.self.inside.unsure) k) thawed (subst (λ v. StandsFor g.D.Disk.files g.D.Piece.Piece.Tells v k) (sym c.self.view_is) stands)) tells c.args.replica call.one Going c.in-Ok.files call.swaps r r'
     (subst (λ v. At v.replicas c.args.replica r) (sym c.self.view_is) e) (subst (λ xs. At xs c.args.replica r') (kept g after) f)
 
 pub returns-in-Ok-clause-open : goal.returns-in-Ok-clause-open
@@ -171,3 +173,11 @@ returns-in-Err-clause-same g c =
 pub returns-in-Some-clause-causes : goal.returns-in-Some-clause-causes
 returns-in-Some-clause-causes g c =
     subst (λ (v : Volume g.row.D.Denot g.row.D-Piece.Denot). IsMachineOf v.settings v.number c.in-Some.machine) c.self.view_is ((c.self.invariant.0).frozen_by c.in-Some.machine c.in-Some.is)
+
+pub returns-in-Ok-clause-rows : goal.returns-in-Ok-clause-rows
+returns-in-Ok-clause-rows g c =
+    let call = called_with c.in-Ok.is (called g (goal.at.returns-in-Ok-clause-rows g c).After-finish_at) in
+    subst (λ v. ChangesRows (op.Swap c.args.replica c.in-Ok.files.cells) v.rows c.finish_at.new.rows) c.self.view_is call.places.moved
+
+pub returns-in-Ok-clause-still : goal.returns-in-Ok-clause-still
+returns-in-Ok-clause-still g c = (ap (λ v. v.front) c.self.view_is, ap (λ v. v.frozen) c.self.view_is)
