@@ -74,7 +74,7 @@ module _ {D Y : Type 0} (Tells : Type 0) (files : D → Files) (faults fuses : D
     view_held = seated.front ∙ sym kept_held.front_is
 
     pub settings_held : (directory_of y).settings ≡ lock.settings
-    settings_held = kept_held.settings ∙ seated.settings
+    settings_held = (kept_held.of).settings ∙ seated.settings
 
     module _ (tag : CoreTag) {y' : Y} (made : Option DirAct) (by_lane : lane ≡ tag.lane) (of : AreOf tag (acts_in made)) (kept : (begun : BegunAt) (acts : List DirAct) → KeptFor Tells files faults fuses begun acts (directory_of y) (front_of y) → KeptFor Tells files faults fuses begun (acts ++ acts_in made) (directory_of y') (front_of y')) where
       pub may_free : MayFree (λ a. a.seat) Stood mid y' (acts_in made)
