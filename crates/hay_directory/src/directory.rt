@@ -245,6 +245,7 @@ impl<D: Disk> Directory<D> {
 
         // Whatever the disk has.
         ensures homes { KeepsHomes self.old.homes self.new.homes }
+        ensures drained { self.new.drained ≡ self.old.drained }
         ensures refused_mode { IfErr result (LeavesMode (record { tag = tag; row = row }) self.old.mode self.new.mode) }
         ensures frozen { IsFrozen self.old → IsErrOf result DirFault.Frozen }
         ensures only_frozen { IsErrOf result DirFault.Frozen → IsFrozen self.old × (self.new ≡ self.old) }

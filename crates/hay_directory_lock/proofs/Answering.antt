@@ -59,12 +59,12 @@ module _ {D : Type 0} (Tells : Type 0) (files : D → Files) (faults fuses : D �
 
   -- the home of a pair
   pub found_home : (acts : List DirAct) (d : State D) (f : HomeFront) (pair : Pair) (home : Option ℕ) → KeptFor Tells files faults fuses begun acts d f → home_of d pair ≡ home → home_in (rows_found start acts) pair ≡ home
-  found_home acts d f pair home k is = ap (λ (r : RowsStanding). home_in ((left row_lock r acts).directory).rows pair) (sym same) ∙ sym (k.homes pair) ∙ is
+  found_home acts d f pair home k is = ap (λ (r : RowsStanding). home_in ((left row_lock r acts).directory).rows pair) (sym same) ∙ sym ((k.of).homes pair) ∙ is
 
   -- a call of the disk failed
   pub failed_in : (acts : List DirAct) (act : DirAct) (d d' : State D) (f f' : HomeFront) (n : ℕ) → KeptFor Tells files faults fuses begun acts d f → KeptFor Tells files faults fuses begun (acts ++ act ∷ []) d' f'
       → n ≡ faults d'.disk → Rose (faults d.disk) (faults d'.disk) → FailedRow start n acts (Some act)
   failed_in acts act d d' f f' n k k' is rose =
-      let before : faults d.disk ≡ (left row_lock start.directory acts).faults = k.faults_are ∙ ap (λ (r : RowsStanding). (left row_lock r acts).faults) same in
-      let after : faults d'.disk ≡ (left row_lock start.directory (acts ++ act ∷ [])).faults = k'.faults_are ∙ ap (λ (r : RowsStanding). (left row_lock r (acts ++ act ∷ [])).faults) same in
+      let before : faults d.disk ≡ (left row_lock start.directory acts).faults = (k.of).faults_are ∙ ap (λ (r : RowsStanding). (left row_lock r acts).faults) same in
+      let after : faults d'.disk ≡ (left row_lock start.directory (acts ++ act ∷ [])).faults = (k'.of).faults_are ∙ ap (λ (r : RowsStanding). (left row_lock r (acts ++ act ∷ [])).faults) same in
       (subst (λ n. Rose n (left row_lock start.directory (acts ++ act ∷ [])).faults) before (subst (λ n. Rose (faults d.disk) n) after rose), is ∙ after)

@@ -1,5 +1,5 @@
 -- What a call tells of the seat that made it.
-use Rattle.std.proofs.Common.{◌≡◌, inl, inr, ◌+◌, ℕ, true, List, [], ◌∷◌, ◌++◌, length, take, filter, Option, Some, None, Ok, Err, refl, sym, ap, subst, ◌∙◌, append-nil, length-append, arith}
+use Rattle.std.proofs.Common.{◌≡◌, inl, inr, ◌+◌, ℕ, Bool, true, false, List, [], ◌∷◌, ◌++◌, length, take, filter, Option, Some, None, Ok, Err, refl, sym, ap, subst, ◌∙◌, append-nil, length-append, arith}
 use Rattle.std.specs.List.{AllByRecursion as Each}
 use mathlib.Core.List.{IsPrefix}
 use Rattle.hay_needle.specs.declared.needle.Pair.{Pair}
@@ -32,7 +32,7 @@ use Rattle.hay_directory.specs.declared.fault.DirFault.{DirFault}
 use Rattle.hay_directory.specs.declared.fault.DirFault.TheVariants as refusal
 use Rattle.hay_directory_lock.specs.Answers.{Settles, SettlesAs}
 use Rattle.hay_directory_lock.specs.Begun.{BegunAt, HomesShown}
-use Rattle.hay_directory_lock.specs.Seats.{DirectorySeatState, IsSeated, LockState, StartsAt, sight}
+use Rattle.hay_directory_lock.specs.Seats.{DirectorySeatState, IsAt, IsSeated, LockState, sight}
 use Rattle.hay_directory_lock.specs.Standing.{HomeFront, KeptFor}
 use Rattle.hay_directory_lock.proofs.Answering.{all_counted}
 
@@ -54,47 +54,54 @@ their_seats tag (act ∷ acts) of = (of.0.1, their_seats tag acts of.1)
 
 -- A HOLDING
 
+-- what of a seat is said of its seat at the turn
+record IsTurnAt (lock : LockState) (begun : BegunAt) (lane : ℕ) (holds : Bool) (seat : SeatState BegunAt DirAct) : Type 0 where
+  turn_is : seat.turn ≡ lock.turn
+  seats : seat.seats ≡ lock.seats
+  number : seat.number ≡ lane
+  start : seat.start ≡ Some begun
+  holds_is : seat.holds ≡ holds
+
 module _ {D Y : Type 0} (Tells : Type 0) (files : D → Files) (faults fuses : D → ℕ) (directory_of : Y → State D) (front_of : Y → HomeFront) where
   abbrev Stood : BegunAt → List DirAct → Y → Type 0
   Stood begun acts y = KeptFor Tells files faults fuses begun acts (directory_of y) (front_of y)
 
-  module _ {lock : LockState} {seat : DirectorySeatState} (seated : IsSeated lock seat) {mid : SeatState BegunAt DirAct} {y : Y} (held : Holds (λ a. a.seat) Stood seat.turn mid y) where
-    pub kept_held : KeptFor Tells files faults fuses seated.begun mid.seen (directory_of y) (front_of y)
-    kept_held = held.stands_for seated.begun (seated.is).start
+  module _ {lock : LockState} {begun : BegunAt} {lane : ℕ} {seat : DirectorySeatState} (seated : IsSeated lock begun lane seat) {mid : SeatState BegunAt DirAct} {y : Y} (held : Holds (λ a. a.seat) Stood seat.turn mid y) where
+    pub kept_held : KeptFor Tells files faults fuses begun mid.seen (directory_of y) (front_of y)
+    kept_held = held.stands_for begun seated.start
 
     pub view_held : (seat.view).front ≡ ((front_of y).shown).front
-    view_held = (seated.is).front ∙ sym kept_held.front_is
+    view_held = seated.front ∙ sym kept_held.front_is
 
     pub settings_held : (directory_of y).settings ≡ lock.settings
-    settings_held = kept_held.settings ∙ (seated.is).settings
+    settings_held = (kept_held.of).settings ∙ seated.settings
 
-    module _ (tag : CoreTag) {y' : Y} (made : Option DirAct) (lane : (seat.turn).number ≡ tag.lane) (of : AreOf tag (acts_in made)) (kept : (begun : BegunAt) (acts : List DirAct) → KeptFor Tells files faults fuses begun acts (directory_of y) (front_of y) → KeptFor Tells files faults fuses begun (acts ++ acts_in made) (directory_of y') (front_of y')) where
+    module _ (tag : CoreTag) {y' : Y} (made : Option DirAct) (by_lane : lane ≡ tag.lane) (of : AreOf tag (acts_in made)) (kept : (begun : BegunAt) (acts : List DirAct) → KeptFor Tells files faults fuses begun acts (directory_of y) (front_of y) → KeptFor Tells files faults fuses begun (acts ++ acts_in made) (directory_of y') (front_of y')) where
       pub may_free : MayFree (λ a. a.seat) Stood mid y' (acts_in made)
       may_free = record {
         stands_for = λ b is. kept b mid.seen (held.stands_for b (sym (ap (λ (s : SeatState BegunAt DirAct). s.start) held.same) ∙ is));
-        mine = mine tag mid.number (acts_in made) (ap (λ (s : SeatState BegunAt DirAct). s.number) held.same ∙ lane) of;
+        mine = mine tag mid.number (acts_in made) (ap (λ (s : SeatState BegunAt DirAct). s.number) held.same ∙ seated.number ∙ by_lane) of;
       }
 
       module _ {new : SeatState BegunAt DirAct} (freed : new ≡ after_free mid (acts_in made)) {view : HomesShown} (all : view ≡ (front_of y').shown) where
-        same_start : new.start ≡ (seat.turn).start
-        same_start = ap (λ (s : SeatState BegunAt DirAct). s.start) freed ∙ ap (λ (s : SeatState BegunAt DirAct). s.start) held.same
+        kept_then : KeptFor Tells files faults fuses begun (mid.seen ++ acts_in made) (directory_of y') (front_of y')
+        kept_then = kept begun mid.seen kept_held
 
-        kept_then : KeptFor Tells files faults fuses seated.begun (mid.seen ++ acts_in made) (directory_of y') (front_of y')
-        kept_then = kept seated.begun mid.seen kept_held
-
-        pub seated_still : IsSeated lock (record { turn = new; view = view })
-        seated_still = record {
-          turn_is = ap (λ (s : SeatState BegunAt DirAct). s.turn) freed ∙ ap (λ (s : SeatState BegunAt DirAct). s.turn) held.same ∙ seated.turn_is;
-          rests = ap (λ (s : SeatState BegunAt DirAct). s.holds) freed;
-          begun = seated.begun;
-          is = record {
-            start = same_start ∙ (seated.is).start;
-            settings = (seated.is).settings;
-            stood = (seated.is).stood;
-            front = ap (λ (w : HomesShown). w.front) all ∙ kept_then.front_is;
-            base = ap (λ (w : HomesShown). w.base) all ∙ kept_then.base;
-          };
-        }
+        pub seated_still : IsSeated lock begun lane (record { turn = new; view = view })
+        seated_still =
+            let was = subst (λ (s : SeatState BegunAt DirAct). IsTurnAt lock begun lane true s) (sym held.same) (record { turn_is = seated.turn_is; seats = seated.seats; number = seated.number; start = seated.start; holds_is = refl }) in
+            let is = subst (λ (s : SeatState BegunAt DirAct). IsTurnAt lock begun lane false s) (sym freed) (record { turn_is = was.turn_is; seats = was.seats; number = was.number; start = was.start; holds_is = refl }) in
+            record {
+              turn_is = is.turn_is;
+              seats = is.seats;
+              number = is.number;
+              start = is.start;
+              holds_is = is.holds_is;
+              settings = seated.settings;
+              stood = seated.stood;
+              front = ap (λ (w : HomesShown). w.front) all ∙ kept_then.front_is;
+              base = ap (λ (w : HomesShown). w.base) all ∙ kept_then.base;
+            }
 
         pub holding : IsBehind seat.view (front_of y).shown → Holding row_lock tag mid.seen made (sight seat) (sight (record { turn = new; view = view }))
         holding behind =
@@ -139,36 +146,25 @@ module _ (start : Start) (row : HomeRow) {tag : CoreTag} {held : List DirAct} {m
 
 -- A LOOK
 
-abbrev some_in : BegunAt → Option BegunAt → BegunAt
-some_in d None = d
-some_in d (Some b) = b
-
-module _ (start : Start) {lock : LockState} {seat : DirectorySeatState} (seated : IsSeated lock seat) (starts : StartsAt start seat) where
+module _ (start : Start) {lock : LockState} {begun : BegunAt} {lane : ℕ} {seat : DirectorySeatState} (seated : IsSeated lock begun lane seat) (same : begun.rows ≡ start.directory) where
   pub stood_first : length ((start.directory).directory).rows ≡ lock.stood
-  stood_first =
-      let same : starts.0 ≡ seated.begun = ap (some_in starts.0) (sym starts.1 ∙ (seated.is).start) in
-      ap (λ (r : RowsStanding). length (r.directory).rows) (sym starts.2) ∙ ap (λ (b : BegunAt). length ((b.rows).directory).rows) same ∙ (seated.is).stood
-
-  pub first_rows : ((seated.begun).rows) ≡ start.directory
-  first_rows = ap (λ (b : BegunAt). b.rows) (sym (ap (some_in starts.0) (sym starts.1 ∙ (seated.is).start))) ∙ starts.2
+  stood_first = ap (λ (r : RowsStanding). length (r.directory).rows) (sym same) ∙ seated.stood
 
   pub home_shown : (pair : Pair) (view : HomesShown) (published n : ℕ) (home : Option ℕ) → IsBehind seat.view view → published ≡ length (filter (λ (r : HomeRow). true) view.deeds) → n ≡ lock.stood + published
       → RowOf with_row IsHomeOf view pair home → HomeShown start pair n home (sight seat) (sight (record { turn = seat.turn; view = view }))
   home_shown pair view published n home behind counted all is =
-      let base = sym behind.1 ∙ (seated.is).base in
+      let base = sym behind.1 ∙ seated.base in
       let there = looks_show_homes view view _ _ (length view.deeds) pair home base (refl, refl, prefix_self view.deeds) refl is in
       let whole : take (length view.deeds) view.deeds ≡ view.deeds = seen_first view.deeds view.deeds (length view.deeds) (prefix_self view.deeds) refl in
-      let rows : List HomeRow = (((seated.begun).rows).directory).rows in
+      let rows : List HomeRow = ((begun.rows).directory).rows in
       record {
         looked = record { seen = refl; own = refl; shown = behind.2 };
         front = omega (arith, all, counted, ap length (all_counted view.deeds), stood_first, length-append ((start.directory).directory).rows view.deeds);
-        is = ap (λ (r : RowsStanding). home_in ((r.directory).rows ++ view.deeds) pair) (sym first_rows) ∙ ap (λ (l : List HomeRow). home_in (rows ++ l) pair) (sym whole) ∙ sym there;
+        is = ap (λ (r : RowsStanding). home_in ((r.directory).rows ++ view.deeds) pair) (sym same) ∙ ap (λ (l : List HomeRow). home_in (rows ++ l) pair) (sym whole) ∙ sym there;
       }
 
 -- WHAT A CALL IS GIVEN, of the lock and of the seat as they are inside
 
-pub seated_in : {lock now : LockState} {seat old : DirectorySeatState} → lock ≡ now → seat ≡ old → IsSeated now old → IsSeated lock seat
-seated_in {lock} {now} {seat} {old} lock_is seat_is seated = subst (λ (s : DirectorySeatState). IsSeated lock s) (sym seat_is) (subst (λ (l : LockState). IsSeated l old) (sym lock_is) seated)
-
-pub lane_in : {seat old : DirectorySeatState} {lane : ℕ} → seat ≡ old → (old.turn).number ≡ lane → (seat.turn).number ≡ lane
-lane_in seat_is lane = ap (λ (s : DirectorySeatState). (s.turn).number) seat_is ∙ lane
+pub seated_in : {lock now : LockState} {begun : BegunAt} {lane : ℕ} {holds : Bool} {seat old : DirectorySeatState} → lock ≡ now → seat ≡ old → IsAt now begun lane holds old → IsAt lock begun lane holds seat
+seated_in {lock} {now} {begun} {lane} {holds} {seat} {old} lock_is seat_is seated =
+    subst (λ (s : DirectorySeatState). IsAt lock begun lane holds s) (sym seat_is) (subst (λ (l : LockState). IsAt l begun lane holds old) (sym lock_is) seated)

@@ -1,8 +1,9 @@
 //! The lock and its seats.
-ghost use Rattle.std.specs.Prelude.{◌≡◌, ◌+◌, ◌<◌, true, false};
+ghost use Rattle.std.specs.Prelude.{◌≡◌, ◌+◌, ◌<◌, ℕ, true, false};
 ghost use Rattle.hay_meeting.specs.Acts.{Start};
 ghost use Rattle.hay_holdings.specs.Rows.{Drained, FusedDir, HomeShown};
-ghost use Rattle.hay_directory_lock.specs.Seats.{IsSeated, StartsAt, sight};
+ghost use Rattle.hay_directory_lock.specs.Begun.{BegunAt};
+ghost use Rattle.hay_directory_lock.specs.Seats.{IsSeated, sight};
 ghost use Rattle.hay_directory_lock.specs.Answers.{SettlesAs};
 
 use crate::kept::KeptDirectory;
@@ -17,9 +18,11 @@ use hay_views::HomeView;
 use std::marker::Model;
 use std::sync::Wait;
 
-/// The Directory behind its lock. Clauses see which lock it is, the settings, and how many rows stood when it was made.
+/// The Directory behind its lock. Clauses see which lock it is, how many seats it has, the settings, and how many rows stood
+/// when it was made.
 pub struct DirectoryLock<D: Disk> {
     turn: Turn<KeptDirectory<D>>,
+    seats: u32,
     settings: Settings,
     stood: u64,
 }
@@ -29,7 +32,7 @@ impl<D: Disk> Model for DirectoryLock<D> {
 
     ghost Value = { LockState };
 
-    ghost view = { λ l. record { turn = l.turn; settings = l.settings; stood = l.stood } };
+    ghost view = { λ l. record { turn = l.turn; seats = l.seats; settings = l.settings; stood = l.stood } };
 }
 
 /// A lane's seat at the lock, with its seat of the published homes.
@@ -66,9 +69,10 @@ impl<D: Disk> DirectoryLock<D> {
         seat: &mut DirectorySeat<D>,
         pair: Pair,
     ) -> (u64, Option<u32>)
-        requires seated { IsSeated self.now seat.old }
-        ensures seated { IsSeated self.now seat.new }
-        ensures shown { (start : Start) → StartsAt start seat.old → HomeShown start pair result.0 result.1 (sight seat.old) (sight seat.new) }
+        requires seated { (begun : BegunAt) × (lane : ℕ) × IsSeated self.now begun lane seat.old }
+        ensures seated { (begun : BegunAt) (lane : ℕ) → IsSeated self.now begun lane seat.old → IsSeated self.now begun lane seat.new }
+        ensures shown { (start : Start) (begun : BegunAt) (lane : ℕ) → IsSeated self.now begun lane seat.old → begun.rows ≡ start.directory →
+            HomeShown start pair result.0 result.1 (sight seat.old) (sight seat.new) }
     {
         let (published, home) = seat.view.look(rt, &pair);
         (all_rows(rt, self.stood, published), home)
@@ -84,11 +88,10 @@ impl<D: Disk> DirectoryLock<D> {
         pair: Pair,
         volume: u32,
     ) -> Result<(u32, u64), DirFault>
-        requires seated { IsSeated self.now seat.old }
-        requires lane { seat.old.turn.number ≡ tag.lane }
+        requires seated { (begun : BegunAt) × IsSeated self.now begun tag.lane seat.old }
         requires volume { volume < self.now.settings.volumes }
-        ensures seated { IsSeated self.now seat.new }
-        ensures settles { (start : Start) → StartsAt start seat.old →
+        ensures seated { (begun : BegunAt) (lane : ℕ) → IsSeated self.now begun lane seat.old → IsSeated self.now begun lane seat.new }
+        ensures settles { (start : Start) (begun : BegunAt) (lane : ℕ) → IsSeated self.now begun lane seat.old → begun.rows ≡ start.directory →
             SettlesAs start (record { pair = pair; volume = volume }) tag result (sight seat.old) (sight seat.new) }
     {
         let mut kept = self.turn.hold(rt, &mut seat.turn);
@@ -102,22 +105,22 @@ impl<D: Disk> DirectoryLock<D> {
 
     /// Closes a machine to changes.
     pub fn drain<R: Wait>(&self, rt: &R, seat: &mut DirectorySeat<D>, tag: CoreTag, machine: u32)
-        requires seated { IsSeated self.now seat.old }
-        requires lane { seat.old.turn.number ≡ tag.lane }
+        requires seated { (begun : BegunAt) × IsSeated self.now begun tag.lane seat.old }
         requires machine { machine < self.now.settings.machines }
-        ensures seated { IsSeated self.now seat.new }
-        ensures drained { (start : Start) → StartsAt start seat.old → Drained start tag machine true (sight seat.old) (sight seat.new) }
+        ensures seated { (begun : BegunAt) (lane : ℕ) → IsSeated self.now begun lane seat.old → IsSeated self.now begun lane seat.new }
+        ensures drained { (start : Start) (begun : BegunAt) (lane : ℕ) → IsSeated self.now begun lane seat.old → begun.rows ≡ start.directory →
+            Drained start tag machine true (sight seat.old) (sight seat.new) }
     {
         self.set_drained(rt, seat, tag, machine, true);
     }
 
     /// Opens a machine to changes again.
     pub fn undrain<R: Wait>(&self, rt: &R, seat: &mut DirectorySeat<D>, tag: CoreTag, machine: u32)
-        requires seated { IsSeated self.now seat.old }
-        requires lane { seat.old.turn.number ≡ tag.lane }
+        requires seated { (begun : BegunAt) × IsSeated self.now begun tag.lane seat.old }
         requires machine { machine < self.now.settings.machines }
-        ensures seated { IsSeated self.now seat.new }
-        ensures drained { (start : Start) → StartsAt start seat.old → Drained start tag machine false (sight seat.old) (sight seat.new) }
+        ensures seated { (begun : BegunAt) (lane : ℕ) → IsSeated self.now begun lane seat.old → IsSeated self.now begun lane seat.new }
+        ensures drained { (start : Start) (begun : BegunAt) (lane : ℕ) → IsSeated self.now begun lane seat.old → begun.rows ≡ start.directory →
+            Drained start tag machine false (sight seat.old) (sight seat.new) }
     {
         self.set_drained(rt, seat, tag, machine, false);
     }
@@ -131,11 +134,11 @@ impl<D: Disk> DirectoryLock<D> {
         machine: u32,
         is_drained: bool,
     )
-        requires seated { IsSeated self.now seat.old }
-        requires lane { seat.old.turn.number ≡ tag.lane }
+        requires seated { (begun : BegunAt) × IsSeated self.now begun tag.lane seat.old }
         requires machine { machine < self.now.settings.machines }
-        ensures seated { IsSeated self.now seat.new }
-        ensures drained { (start : Start) → StartsAt start seat.old → Drained start tag machine is_drained (sight seat.old) (sight seat.new) }
+        ensures seated { (begun : BegunAt) (lane : ℕ) → IsSeated self.now begun lane seat.old → IsSeated self.now begun lane seat.new }
+        ensures drained { (start : Start) (begun : BegunAt) (lane : ℕ) → IsSeated self.now begun lane seat.old → begun.rows ≡ start.directory →
+            Drained start tag machine is_drained (sight seat.old) (sight seat.new) }
     {
         let mut kept = self.turn.hold(rt, &mut seat.turn);
         let act = kept.set_drained(rt, &mut seat.view, tag, machine, is_drained);
@@ -144,10 +147,10 @@ impl<D: Disk> DirectoryLock<D> {
 
     /// Sets a fuse on the disk.
     pub fn fuse<R: Wait>(&self, rt: &R, seat: &mut DirectorySeat<D>, tag: CoreTag, calls: u32)
-        requires seated { IsSeated self.now seat.old }
-        requires lane { seat.old.turn.number ≡ tag.lane }
-        ensures seated { IsSeated self.now seat.new }
-        ensures fused { (start : Start) → StartsAt start seat.old → FusedDir start tag (sight seat.old) (sight seat.new) }
+        requires seated { (begun : BegunAt) × IsSeated self.now begun tag.lane seat.old }
+        ensures seated { (begun : BegunAt) (lane : ℕ) → IsSeated self.now begun lane seat.old → IsSeated self.now begun lane seat.new }
+        ensures fused { (start : Start) (begun : BegunAt) (lane : ℕ) → IsSeated self.now begun lane seat.old → begun.rows ≡ start.directory →
+            FusedDir start tag (sight seat.old) (sight seat.new) }
     {
         let mut kept = self.turn.hold(rt, &mut seat.turn);
         let act = kept.fuse(rt, &mut seat.view, tag, calls);

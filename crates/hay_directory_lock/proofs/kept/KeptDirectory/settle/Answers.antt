@@ -25,7 +25,7 @@ returns-in-Err-NoMemory-clause-kept g c = λ begun acts k.
     let wrote = c.in-Err-NoMemory.ensures in
     let modes = subst (λ (e : DirFault). LeavesMode (record { tag = c.args.tag; row = c.args.row }) c.args.self.now.directory.mode c.write_row.new.self.mode e) c.in-Err-NoMemory.field-0-is wrote.refused_mode in
     tried g.D.Disk.Tells g.D.Disk.files g.D.Disk.fault_count g.D.Disk.fuse_count k c.args.tag c.of-act.result c.write_row.new.self c.of-act.ensures wrote.settings
-    (λ known drained tells stands. wrote.no_memory tells known drained stands (ap Err c.in-Err-NoMemory.field-0-is)) wrote.homes modes wrote.later wrote.fuses
+    (λ known drained tells stands. wrote.no_memory tells known drained stands (ap Err c.in-Err-NoMemory.field-0-is)) wrote.homes wrote.drained modes wrote.later wrote.fuses
 
 pub returns-in-Err-Failed-clause-kept : goal.returns-in-Err-Failed-clause-kept
 returns-in-Err-Failed-clause-kept g c = λ begun acts k.
@@ -33,8 +33,8 @@ returns-in-Err-Failed-clause-kept g c = λ begun acts k.
     let modes = subst (λ (e : DirFault). LeavesMode (record { tag = c.args.tag; row = c.args.row }) c.args.self.now.directory.mode c.write_row.new.self.mode e) c.in-Err-Failed.field-0-is wrote.refused_mode in
     let thawed = not_true (is_frozen c.args.self.now.directory.mode) (λ frozen. absurd (cc (wrote.frozen frozen, c.in-Err-Failed.field-0-is))) in
     let homeless : home_of c.args.self.now.directory c.args.row.pair ≡ None = sym c.in_default.ensures.kept in
-    pended g.D.Disk.Tells g.D.Disk.files g.D.Disk.fault_count g.D.Disk.fuse_count k c.args.tag c.of-act-in-Err-Failed.result c.write_row.new.self (home_row c.args.row) (record { tag = c.args.tag; row = c.args.row }) c.args.self.now.front
-    c.of-act-in-Err-Failed.ensures wrote.settings (λ known drained tells stands. wrote.pending tells known drained c.in-Err-Failed.faults stands (ap Err c.in-Err-Failed.field-0-is)) wrote.homes modes wrote.later wrote.fuses thawed homeless refl
+    pended g.D.Disk.Tells g.D.Disk.files g.D.Disk.fault_count g.D.Disk.fuse_count k c.args.tag c.of-act-in-Err-Failed.result c.write_row.new.self (home_row c.args.row) c.args.self.now.front
+    c.of-act-in-Err-Failed.ensures wrote.settings (λ known drained tells stands. wrote.pending tells known drained c.in-Err-Failed.faults stands (ap Err c.in-Err-Failed.field-0-is)) wrote.homes wrote.drained modes wrote.later wrote.fuses thawed homeless refl
 
 pub returns-in-Err-Failed-clause-settles : goal.returns-in-Err-Failed-clause-settles
 returns-in-Err-Failed-clause-settles g c = λ start begun acts k same.
@@ -48,15 +48,15 @@ returns-in-Err-Failed-clause-settles g c = λ start begun acts k same.
 pub publish-requires-clause-fact : goal.publish-requires-clause-fact
 publish-requires-clause-fact g c =
     let k = c.requires.kept.2 in
-    λ κs within m b is. may_publish c.args.self.now.front.shown _ _ (home_row c.args.row) k.base c.show_all.ensures.fact (subst (λ (s : Settings). c.args.row.volume < s.volumes) k.settings c.requires.volume) m b is
+    λ κs within m b is. may_publish c.args.self.now.front.shown _ _ (home_row c.args.row) k.base c.show_all.ensures.fact (subst (λ (s : Settings). c.args.row.volume < s.volumes) (k.of).settings c.requires.volume) m b is
 
 pub returns-in_default-publish-clause-kept : goal.returns-in_default-publish-clause-kept
 returns-in_default-publish-clause-kept g c = λ begun acts k.
     let wrote = c.in-Ok.ensures in
     let thawed = not_true (is_frozen c.args.self.now.directory.mode) (λ frozen. absurd (cc (wrote.frozen frozen))) in
     let homeless : home_of c.args.self.now.directory c.args.row.pair ≡ None = sym c.in_default.ensures.kept in
-    pended g.D.Disk.Tells g.D.Disk.files g.D.Disk.fault_count g.D.Disk.fuse_count k c.args.tag c.of-act-in_default-publish.result c.write_row.new.self (home_row c.args.row) (record { tag = c.args.tag; row = c.args.row }) c.publish.new.self
-    c.of-act-in_default-publish.ensures wrote.settings (λ known drained tells stands. wrote.given_up tells known drained stands) wrote.homes wrote.unshown.mode wrote.later wrote.fuses thawed homeless
+    pended g.D.Disk.Tells g.D.Disk.files g.D.Disk.fault_count g.D.Disk.fuse_count k c.args.tag c.of-act-in_default-publish.result c.write_row.new.self (home_row c.args.row) c.publish.new.self
+    c.of-act-in_default-publish.ensures wrote.settings (λ known drained tells stands. wrote.given_up tells known drained stands) wrote.homes wrote.drained wrote.unshown.mode wrote.later wrote.fuses thawed homeless
     (ap (λ (f : HomeFront). f.shown) c.in_default-publish.ensures.refused)
 
 pub returns-clause-kept : goal.returns-clause-kept
@@ -72,7 +72,7 @@ returns-clause-kept g c = λ begun acts k.
     c.of-act-2.ensures (shown.settings ∙ wrote.settings)
     (λ known drained tells stands. subst (λ (w : WrittenRow). Stands files c.show_row.new.self (record known { rows = known.rows ++ home_row w.unsure.row ∷ [] }) drained) wrote.row
     (shown.shown tells known drained (subst (λ (w : WrittenRow). IsRowWritten files c.write_row.new.self known drained (home_row w.unsure.row)) (sym wrote.row) (wrote.written tells known drained stands))))
-    c.write_row.new.self.homes wrote.homes set shown.serves
+    c.write_row.new.self.homes wrote.homes set (shown.drained ∙ wrote.drained) shown.serves
     (subst (λ n. g.D.Disk.fault_count c.args.self.now.directory.disk ≤ n) (sym (ap g.D.Disk.fault_count shown.disk)) wrote.later) (ap g.D.Disk.fuse_count shown.disk ∙ wrote.fuses) thawed homeless
     (ap (λ (f : HomeFront). f.shown) done) (ap (λ (f : HomeFront). f.closed) done)
 
