@@ -1,5 +1,5 @@
 -- What stands on a replica is one, as far as its cells go.
-use Rattle.std.proofs.Common.{◌≡◌, ℕ, sym, ap, subst, ◌∙◌}
+use Rattle.std.proofs.Common.{◌≡◌, sym, ap, subst, ◌∙◌}
 use Rattle.hay_needle.specs.Needle.{needle_magic}
 use Rattle.hay_disk.specs.Disk.{Files}
 use Rattle.hay_disk.specs.Gate.{IsClosed}

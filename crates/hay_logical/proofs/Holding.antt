@@ -1,5 +1,5 @@
 -- What the disks of a volume hold where a change was broken off, and behind calls that change nothing known.
-use Rattle.std.proofs.Common.{◌≡◌, ◌⊎◌, inl, inr, ℕ, zero, suc, ◌+◌, ◌<◌, Bool, true, false, cond, List, [], ◌∷◌, length, map, Option, Some, None, option_map, refl, sym, ap, subst, ◌∙◌, arith, length-append}
+use Rattle.std.proofs.Common.{◌≡◌, ◌⊎◌, inl, inr, ℕ, zero, suc, ◌<◌, Bool, true, false, List, [], ◌∷◌, length, map, Option, Some, None, option_map, refl, sym, ap, subst, ◌∙◌, arith}
 use Rattle.std.specs.Prelude.{nat_lt}
 use Rattle.std.proofs.lemmas.Bool.{cases_Bool, cases_lt, cond-true, cond-false}
 use Rattle.std.proofs.lemmas.Bool.Decides.{nat_tests}
@@ -22,7 +22,7 @@ use Rattle.hay_legal.specs.declared.known.Pending.{Pending}
 use Rattle.hay_legal.specs.declared.known.ReplicaKnown.{ReplicaKnown}
 use Rattle.hay_legal.specs.declared.known.VolumeKnown.{VolumeKnown}
 use Rattle.hay_legal.specs.Known.{now, replica_at}
-use Rattle.hay_legal.specs.Plain.{frozen_with, with_del}
+use Rattle.hay_legal.specs.Plain.{frozen_with}
 use Rattle.hay_map.specs.MapRows.{MapRows}
 use Rattle.hay_map.specs.Places.{PlaceMeans, gone_place, place_in}
 use Rattle.hay_map.specs.Rows.{changed_row, row_at}
@@ -45,8 +45,8 @@ use Rattle.hay_logical.specs.Fits.Part.{Kept, Unsure as Perhaps, Lost}
 use Rattle.hay_logical.specs.Stands.{HoldsFor, HoldsPending, BreaksOffAt, IsChange, IsPending, ReplicaHolds, ReplicaStands, StandsBy, StandsFor, TakesChanges}
 use Rattle.hay_logical.specs.Stands as stands
 use Rattle.hay_logical.specs.Steps.{AllIdle, DeleteLeaves, DeletesAt, FollowsAt, PutBroken, PutLeaves}
-use Rattle.hay_logical.proofs.Compacting.{ended_by, ended_poised, ended_stuck, known_none, length-ended, loose_run, loosely, no_run}
-use Rattle.hay_logical.proofs.Knowing.{deleted_replica, fits_delete, fits_frozen, frozen_base, frozen_replica, frozen_stuck}
+use Rattle.hay_logical.proofs.Compacting.{ended_by, known_none, loose_run, loosely, no_run}
+use Rattle.hay_logical.proofs.Knowing.{fits_frozen, frozen_base, frozen_replica, frozen_stuck}
 use Rattle.hay_logical.proofs.Lists.{at_below, at_same, at_there}
 use Rattle.hay_logical.proofs.Standing.{none_pending, pending_unsure, takes, volume_with}
 use Rattle.hay_logical.proofs.Looking.{stored_stands}

@@ -1,5 +1,5 @@
 -- What puts of a volume answer.
-use Rattle.std.proofs.Common.{◌≡◌, inl, inr, ℕ, ◌+◌, ◌<◌, Bool, true, false, cond, List, length, Option, Some, None, refl, sym, ap, subst, ◌∙◌, arith}
+use Rattle.std.proofs.Common.{◌≡◌, inl, inr, ℕ, ◌<◌, Bool, true, false, List, length, Option, Some, None, refl, sym, ap, subst, ◌∙◌, arith}
 use Rattle.std.specs.Prelude.{Err, IsErrAnd, IsOk, Ok, OnOk, Result, find, is_err, option_map, slice_index}
 use Rattle.std.specs.List.{enumerate_from}
 use Rattle.std.proofs.lemmas.Bool.{cases_lt}
@@ -8,7 +8,6 @@ use Rattle.hay_needle.specs.declared.needle.Cookie.{Cookie}
 use Rattle.hay_needle.specs.declared.needle.Pair.{Pair}
 use Rattle.hay_needle.specs.declared.settings.Settings.{Settings}
 use Rattle.hay_needle.specs.Sizes.{needle_total}
-use Rattle.hay_needle.specs.Tables.{pair_eq}
 use Rattle.hay_disk.specs.Disk.{Files}
 use Rattle.hay_reply.specs.declared.Refused.{Refused}
 use Rattle.hay_reply.specs.declared.Refused.TheVariants as refused
@@ -21,7 +20,6 @@ use Rattle.hay_legal.specs.Plain.{frozen_with, without_run}
 use Rattle.hay_map.specs.MapRows.{MapRows}
 use Rattle.hay_map.specs.Places.{place_in}
 use Rattle.hay_map.specs.Rows.{row_at}
-use Rattle.hay_map.specs.declared.place.Place.{Place}
 use Rattle.hay_open.specs.Stored.{last_cell}
 use Rattle.hay_physical.specs.declared.fault.ReplicaFault.{ReplicaFault}
 use Rattle.hay_physical.specs.declared.fault.ReplicaFault.TheVariants as fault

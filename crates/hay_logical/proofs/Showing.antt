@@ -41,7 +41,7 @@ use Rattle.hay_logical.specs.Steps.{AllIdle, DeletesAt, FollowsAt, LosesRun, Put
 use Rattle.hay_logical.specs.Unshown.{IsErased, IsUnshown, IsWritten}
 use Rattle.hay_logical.specs.Volumes.{CanReach, Volume}
 use Rattle.hay_logical.proofs.Changing.{apart_of, deletes_sup, goal_follows, is_held_at, some_none}
-use Rattle.hay_logical.proofs.Compacting.{ended_at, ended_by, length-ended, longer_run}
+use Rattle.hay_logical.proofs.Compacting.{ended_at, length-ended, longer_run}
 use Rattle.hay_logical.proofs.Holding.{RunEnd, delete_replica, ended_run, hold_stuck, part_kept}
 use Rattle.hay_logical.proofs.Knowing.{Grows, fits_frozen, fits_logged, frozen_base, frozen_end, frozen_replica, frozen_stuck, grown_grows, replica_mapped, same_grows}
 use Rattle.hay_logical.proofs.Lists.{at_below, at_there}

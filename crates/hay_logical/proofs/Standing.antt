@@ -22,7 +22,7 @@ use Rattle.hay_open.specs.Stored.{Stored, last_cell}
 use Rattle.hay_physical.specs.Copies.{Copy}
 use Rattle.hay_physical.specs.Replicas as physical
 use Rattle.hay_logical.specs.declared.unsure.Unsure.{Unsure}
-use Rattle.hay_logical.specs.Fits.{At, PhotoAt}
+use Rattle.hay_logical.specs.Fits.{PhotoAt}
 use Rattle.hay_logical.specs.Stands.{IsPending, StandsBy, StandsFor, TakesChanges}
 use Rattle.hay_logical.specs.Steps.{IsPlaceOf}
 use Rattle.hay_logical.specs.Volumes.{Volume}

@@ -4,7 +4,7 @@ use Rattle.hay_physical.specs.Copies.{Copy, goal_of}
 use Rattle.hay_logical.specs.Fits.{At}
 use Rattle.hay_logical.specs.Steps.{LosesRun}
 use Rattle.hay_logical.proofs.Calls.{frozen_is, frozen_open, open_frozen}
-use Rattle.hay_logical.proofs.Lists.{at_below, at_read, at_same, at_set_same, one_same}
+use Rattle.hay_logical.proofs.Lists.{at_read, one_same}
 use Rattle.hay_logical.proofs.runs.drop_run_at.Goals as goal
 
 pub returns-clause-one : goal.returns-clause-one

@@ -2,7 +2,7 @@ use Rattle.std.proofs.Common.{◌≡◌, ◌≤◌, ◌<◌, ℕ, length, refl, 
 use Rattle.std.specs.Vec.{with_items}
 use Rattle.std.proofs.lemmas.List.{with_items_is}
 use Rattle.hay_legal.specs.Plain.{without_run}
-use Rattle.hay_physical.specs.Copies.{Copy, IsOpenCopy, is_frozen}
+use Rattle.hay_physical.specs.Copies.{Copy, IsOpenCopy}
 use Rattle.hay_logical.specs.Answers.{change_at}
 use Rattle.hay_logical.specs.Fits.{At}
 use Rattle.hay_logical.specs.Stands.{Stands, StandsFor}

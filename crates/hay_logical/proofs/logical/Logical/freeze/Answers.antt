@@ -8,7 +8,6 @@ use Rattle.hay_logical.proofs.Finishing.{stands_halted}
 use Rattle.hay_logical.proofs.Lists.{at_same}
 use Rattle.hay_logical.proofs.Methods.{same_still}
 use Rattle.hay_logical.proofs.Standing.{volume_with}
-use Rattle.hay_logical.proofs.logical.Logical.freeze.Given as given
 use Rattle.hay_logical.proofs.logical.Logical.freeze.Goals as goal
 
 never : {X : Type 0} (o : Option ℕ) → is_some o ≡ true → o ≡ None → X

@@ -1,4 +1,4 @@
-use Rattle.std.proofs.Common.{◌≡◌, false, List, Some, refl, sym, ap, subst, ◌∙◌}
+use Rattle.std.proofs.Common.{false, List, Some, refl, sym, ap, subst, ◌∙◌}
 use Rattle.hay_legal.specs.Known.{machine_of}
 use Rattle.hay_legal.specs.Plain.{frozen_with}
 use Rattle.hay_physical.specs.Copies.{Copy}

@@ -1,4 +1,4 @@
-use Rattle.std.proofs.Common.{rules, arith, ◌≡◌, ◌<◌, ◌≤◌, sym, ap, subst, ◌∙◌}
+use Rattle.std.proofs.Common.{rules, arith, sym, ap, subst, ◌∙◌}
 use Rattle.hay_logical.specs.Volumes.{IsOpenVolume, IsSame, KeepsCounts}
 use Rattle.hay_logical.proofs.Layouts.{written_room}
 use Rattle.hay_logical.proofs.logical.Logical.put.Goals as goal

@@ -1,12 +1,11 @@
-use Rattle.std.proofs.Common.{◌≡◌, refl, rules, sym, ap, subst, ◌∙◌}
-use Rattle.hay_map.specs.Rows.{ChangesRows, HasRoom}
+use Rattle.std.proofs.Common.{refl, rules, sym, ap, subst}
+use Rattle.hay_map.specs.Rows.{ChangesRows}
 use Rattle.hay_map.specs.declared.view.MapOp.TheVariants as op
 use Rattle.hay_logical.specs.Unshown.{IsWritten, IsWrittenFor}
 use Rattle.hay_logical.specs.Volumes.{Volume}
 use Rattle.hay_logical.proofs.Lists.{at_same}
 use Rattle.hay_logical.proofs.Methods.{shaped_on}
 use Rattle.hay_logical.proofs.Showing.{put_shown}
-use Rattle.hay_logical.proofs.logical.Logical.show.Given as given
 use Rattle.hay_logical.proofs.logical.Logical.show.Goals as goal
 
 pub give_row-requires : goal.give_row-requires

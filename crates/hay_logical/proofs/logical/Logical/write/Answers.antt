@@ -5,7 +5,7 @@ use Rattle.hay_needle.specs.Tables.{pair_eq}
 use Rattle.std.specs.Vec.{with_items}
 use Rattle.std.proofs.lemmas.List.{with_items_is}
 use Rattle.hay_map.specs.Places.{place_in}
-use Rattle.hay_map.specs.Rows.{KeepsRows, row_at}
+use Rattle.hay_map.specs.Rows.{KeepsRows}
 use Rattle.hay_physical.specs.Copies.{Copy, IsOpenCopy, IsUp}
 use Rattle.hay_logical.specs.declared.unsure.Change.TheVariants as change
 use Rattle.hay_logical.specs.declared.written.Written.{Written}
