@@ -7,6 +7,7 @@ pub mod Finds
 pub mod Fitting
 pub mod GivenDraws
 pub mod Homes
+pub mod Leaving
 pub mod Lists
 pub mod Machines
 pub mod Maintaining

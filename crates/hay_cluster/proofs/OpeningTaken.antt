@@ -229,6 +229,11 @@ module _ {D P A : Type 0} (DiskTells : Type 0) (files : D → Files) (Tells : Ty
           cause.2 ∙ sym (given slot cause.0),
         )
 
+    pub back_damaged : (old new : Open D P A) (fault : ClusterFault) → IsTaken old → MovedParts DiskTells files Tells faults fuses arm_faults old new
+        → RefusesParts DiskTells files faults old.settings old.directory new.directory old.volumes new.volumes fault → (slot file at : ℕ) → fault ≡ Damaged slot file at → slot < disk_count old.settings
+    back_damaged old new fault t m refused slot file at is =
+        subst (λ f. HasFaultCause old.settings (map faults (disks_of old)) (map faults (disks_of new)) f) is (opening_cause DiskTells files Tells faults fuses arm_faults old new fault t.shape m refused)
+
     -- the shelf has no part in it
     pub back_shelf : (old new : Open D P A) (fault : ClusterFault) → IsTaken old → MovedParts DiskTells files Tells faults fuses arm_faults old new
         → RefusesParts DiskTells files faults old.settings old.directory new.directory old.volumes new.volumes fault → (count : ℕ) → fault ≡ Shelf count → ⊥

@@ -87,7 +87,7 @@ abbrev pub HasFaultCause : Settings → List ℕ → List ℕ → ClusterFault �
 HasFaultCause settings before after (fault.Shelf count) = ⊥
 HasFaultCause settings before after (fault.Failed slot count) =
     (slot < disk_count settings) × Rose (slice_index before slot) (slice_index after slot) × (count ≡ slice_index after slot)
-HasFaultCause settings before after (fault.Damaged slot file at) = Unit {0}
+HasFaultCause settings before after (fault.Damaged slot file at) = slot < disk_count settings
 HasFaultCause settings before after fault.NoMemory = Unit {0}
 
 -- HOW MANY FUSES WERE SET

@@ -2,6 +2,7 @@ pub mod Causes
 pub mod Changes
 pub mod Faults
 pub mod Lacks
+pub mod Leaving
 pub mod Maintenance
 pub mod Opening
 pub mod Outside

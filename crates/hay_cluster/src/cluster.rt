@@ -5,9 +5,10 @@ ghost use Rattle.hay_legal.specs.Known.{NoneFalls};
 ghost use Rattle.hay_script.specs.Script.{IsWithin};
 ghost use Rattle.hay_reply.specs.Fits.{FitsReply};
 ghost use Rattle.hay_cluster.specs.Causes.{BlamesNoArm, IsCaused, LeavesFuses, StaySure};
+ghost use Rattle.hay_cluster.specs.Leaving.{LeavesContents};
 ghost use Rattle.hay_cluster.specs.Pending.{LeavesPending, pending_of};
 ghost use Rattle.hay_cluster.specs.State.{Answered, Stands};
-ghost use Rattle.hay_cluster.specs.Store.{IsUp, disks_of};
+ghost use Rattle.hay_cluster.specs.Store.{IsUp, contents_in, disks_of};
 ghost use Rattle.hay_cluster.specs.Suiting.{Suits};
 
 use crate::maintenance::Maintenance;
@@ -75,6 +76,8 @@ impl<D: Disk, A: Arm<D::Piece>> Cluster<D, A> {
         ensures counts { NoneFalls (map D.fault_count (disks_of self.old)) (map D.fault_count (disks_of self.new)) }
         // A fuse is set by its command alone, on the disk that it names.
         ensures fuses { LeavesFuses self.old.settings command.now (map D.fuse_count (disks_of self.old)) (map D.fuse_count (disks_of self.new)) }
+        // What reads give of the disks of other volumes than the one that it is of is what they gave.
+        ensures contents { D.Tells → LeavesContents self.old.settings command.now result (contents_in D.files self.old) (contents_in D.files self.new) }
         ensures arm_counts { NoneFalls (map A.fault_count self.old.arms) (map A.fault_count self.new.arms) }
         // A change or a row is pending only where its own line failed, or wanted memory.
         ensures pending { LeavesPending self.old.settings tag.line command.now result (pending_of self.old) (pending_of self.new) }

@@ -4,8 +4,9 @@
 //! answer is legal from the state before it, a restart finds one of that state's outcomes, and the disks that are given
 //! back hold the state behind the last one.
 //!
-//! The Directory's disk is in slot 0, and behind it, volume by volume, are the disks of the replicas. A change that
-//! fails freezes its volume, or the Directory, until a restart, which tells what the disks kept of it.
+//! The Directory's disk is in slot 0, and behind it, volume by volume, are the disks of the replicas. A command has to do
+//! with the disks of one volume at most, and a put with the Directory's. A change that fails freezes its volume, or the
+//! Directory, until a restart, which tells what the disks kept of it.
 #![tactic(auto)]
 
 mod changes;

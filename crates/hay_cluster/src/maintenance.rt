@@ -8,6 +8,7 @@ ghost use Rattle.hay_legal.specs.Known.{NoneFalls};
 ghost use Rattle.hay_logical.specs.Stands as logical;
 ghost use Rattle.hay_logical.specs.Volumes.{IsOpenVolume, IsSame, KeepsCounts};
 ghost use Rattle.hay_cluster.specs.Causes.{IsCaused, RefusesWork};
+ghost use Rattle.hay_cluster.specs.Leaving.{IsBeside, LeavesIn};
 ghost use Rattle.hay_cluster.specs.Maintenance.{IsDone, IsRefused, IsRefusedAs, IsReplicaFault, command_of, done_as};
 ghost use Rattle.hay_cluster.specs.Pending.{pending_of};
 ghost use Rattle.hay_cluster.specs.State.{Answered, Stands};
@@ -57,6 +58,7 @@ impl<D: Disk, A: Arm<D::Piece>> Cluster<D, A> {
         ensures fits { FitsReply result }
         ensures counts { NoneFalls (map D.fault_count (disks_of self.old)) (map D.fault_count (disks_of self.new)) }
         ensures fuses { map D.fuse_count (disks_of self.new) ≡ map D.fuse_count (disks_of self.old) }
+        ensures beside { LeavesIn (IsBeside self.old.settings volume) (disks_of self.old) (disks_of self.new) }
         ensures arms { self.new.arms ≡ self.old.arms }
         ensures pending { pending_of self.new ≡ pending_of self.old }
         ensures settings { self.new.settings ≡ self.old.settings }

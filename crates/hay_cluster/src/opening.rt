@@ -72,6 +72,7 @@ impl<D: Disk, A: Arm<D::Piece>> Cluster<D, A> {
         ensures arm_counts { IfOk result (λ store. (lane : ℕ) → lane < 8 →
             slice_index (map A.fault_count store.arms) lane ≡ (H.arms shelf.old lane).fault_count) }
         ensures sure_arms { IfOk result (λ store. (lane : ℕ) (arm : A) → slice_get store.arms lane ≡ Some arm → A.is_sure arm ≡ (H.arms shelf.old lane).is_sure) }
+        ensures disks { IfOk result (λ store. length (disks_of store) ≡ disk_count settings) }
         ensures lanes { IfOk result (λ store. length store.arms ≡ 8) }
         ensures disks_out { OnOk result (AreOut (disk_count settings) (H.disks shelf.new)) }
         ensures arms_out { OnOk result (AreArmsOut 8 (H.arms shelf.new)) }
@@ -89,6 +90,7 @@ impl<D: Disk, A: Arm<D::Piece>> Cluster<D, A> {
             × Rose (H.disks shelf.old slot).fault_count (H.disks shelf.new slot).fault_count × (faults ≡ (H.disks shelf.new slot).fault_count)) }
         ensures failed_lowest { D.Tells → (slot faults : ℕ) → result ≡ Err (ClusterFault.Failed slot faults) →
             IsUndamagedBelow settings slot (λ slot. read_of (H.disks shelf.old slot)) }
+        ensures damaged_within { (slot file at : ℕ) → result ≡ Err (ClusterFault.Damaged slot file at) → slot < disk_count settings }
         ensures damaged { D.Tells → (slot file at : ℕ) → result ≡ Err (ClusterFault.Damaged slot file at) →
             IsDamagedDisk settings (λ slot. read_of (H.disks shelf.old slot)) slot file at × IsDamagedDisk settings (λ slot. read_of (H.disks shelf.new slot)) slot file at }
 

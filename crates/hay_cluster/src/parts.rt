@@ -9,11 +9,12 @@ ghost use Rattle.hay_legal.specs.Plain.{row_pending, with_drain, with_fuses};
 ghost use Rattle.hay_logical.specs.Answers.{DeleteRefused, IsDeleted, IsPut, PutRefused};
 ghost use Rattle.hay_directory.specs.State as directory;
 ghost use Rattle.hay_cluster.specs.Causes.{IsDeleteCause, IsPutCause, IsReplicaCause, RoseIn, SetsFuse};
+ghost use Rattle.hay_cluster.specs.Leaving.{AnySlot, IsApart, IsBeside, IsReplicaSlot, KeepsIn, LeavesIn};
 ghost use Rattle.hay_cluster.specs.Maintenance.{IsDone, IsRefused};
 ghost use Rattle.hay_cluster.specs.Parts.{Comes, InVolume};
 ghost use Rattle.hay_cluster.specs.Pending.{DeleteLeft, PutLeft, RowLeft, pending_of};
 ghost use Rattle.hay_cluster.specs.State.{Stands};
-ghost use Rattle.hay_cluster.specs.Store.{IsUp, disks_of};
+ghost use Rattle.hay_cluster.specs.Store.{IsUp, contents_in, disks_of};
 
 use crate::cluster::Cluster;
 use crate::maintenance::{Maintenance, maintain};
@@ -45,6 +46,7 @@ impl<D: Disk, A: Arm<D::Piece>> Cluster<D, A> {
         ensures causes { IfErr result (IsPutCause self.old.settings volume (map D.fault_count (disks_of self.old)) (map D.fault_count (disks_of self.new))) }
         ensures counts { NoneFalls (map D.fault_count (disks_of self.old)) (map D.fault_count (disks_of self.new)) }
         ensures fuses { map D.fuse_count (disks_of self.new) ≡ map D.fuse_count (disks_of self.old) }
+        ensures beside { LeavesIn (IsBeside self.old.settings volume) (disks_of self.old) (disks_of self.new) }
         ensures arms { self.new.arms ≡ self.old.arms }
         ensures done_pending { OnOk result (pending_of self.new ≡ pending_of self.old) }
         ensures refused_pending { IfErr result (PutLeft tag.line volume (pending_of self.old) (pending_of self.new)) }
@@ -72,6 +74,7 @@ impl<D: Disk, A: Arm<D::Piece>> Cluster<D, A> {
         ensures causes { IfErr result (IsDeleteCause self.old.settings volume (map D.fault_count (disks_of self.old)) (map D.fault_count (disks_of self.new))) }
         ensures counts { NoneFalls (map D.fault_count (disks_of self.old)) (map D.fault_count (disks_of self.new)) }
         ensures fuses { map D.fuse_count (disks_of self.new) ≡ map D.fuse_count (disks_of self.old) }
+        ensures beside { LeavesIn (IsBeside self.old.settings volume) (disks_of self.old) (disks_of self.new) }
         ensures arms { self.new.arms ≡ self.old.arms }
         ensures done_pending { OnOk result (pending_of self.new ≡ pending_of self.old) }
         ensures refused_pending { IfErr result (DeleteLeft tag.line volume (pending_of self.old) (pending_of self.new)) }
@@ -99,6 +102,7 @@ impl<D: Disk, A: Arm<D::Piece>> Cluster<D, A> {
         ensures causes { IfErr result (IsReplicaCause self.old.settings work volume replica (map D.fault_count (disks_of self.old)) (map D.fault_count (disks_of self.new))) }
         ensures counts { NoneFalls (map D.fault_count (disks_of self.old)) (map D.fault_count (disks_of self.new)) }
         ensures fuses { map D.fuse_count (disks_of self.new) ≡ map D.fuse_count (disks_of self.old) }
+        ensures beside { LeavesIn (IsBeside self.old.settings volume) (disks_of self.old) (disks_of self.new) }
         ensures arms { self.new.arms ≡ self.old.arms }
         ensures pending { pending_of self.new ≡ pending_of self.old }
         ensures settings { self.new.settings ≡ self.old.settings }
@@ -122,6 +126,7 @@ impl<D: Disk, A: Arm<D::Piece>> Cluster<D, A> {
             × Comes D.files D.Piece.Tells D.fault_count D.fuse_count A.fault_count k (with_fuses k (slot_of self.old.settings volume replica) n) self.new }
         ensures counts { NoneFalls (map D.fault_count (disks_of self.old)) (map D.fault_count (disks_of self.new)) }
         ensures fuses { SetsFuse (slot_of self.old.settings volume replica) (map D.fuse_count (disks_of self.old)) (map D.fuse_count (disks_of self.new)) }
+        ensures others { LeavesIn (IsApart self.old.settings volume replica) (disks_of self.old) (disks_of self.new) }
         ensures arms { self.new.arms ≡ self.old.arms }
         ensures pending { pending_of self.new ≡ pending_of self.old }
         ensures settings { self.new.settings ≡ self.old.settings }
@@ -146,6 +151,7 @@ impl<D: Disk, A: Arm<D::Piece>> Cluster<D, A> {
         ensures causes { (faults : ℕ) → result ≡ Err (DirFault.Failed faults) → RoseIn 0 (map D.fault_count (disks_of self.old)) (map D.fault_count (disks_of self.new)) faults }
         ensures counts { NoneFalls (map D.fault_count (disks_of self.old)) (map D.fault_count (disks_of self.new)) }
         ensures fuses { map D.fuse_count (disks_of self.new) ≡ map D.fuse_count (disks_of self.old) }
+        ensures replicas { LeavesIn IsReplicaSlot (disks_of self.old) (disks_of self.new) }
         ensures arms { self.new.arms ≡ self.old.arms }
         ensures settled_pending { OnOk result (pending_of self.new ≡ pending_of self.old) }
         ensures refused_pending { IfErr result (RowLeft tag.line (pending_of self.old) (pending_of self.new)) }
@@ -162,6 +168,7 @@ impl<D: Disk, A: Arm<D::Piece>> Cluster<D, A> {
         ensures set { D.Tells → (k : Known) → Stands D.files D.Piece.Tells D.fault_count D.fuse_count A.fault_count self.old k → Comes D.files D.Piece.Tells D.fault_count D.fuse_count A.fault_count k (with_drain k machine is_drained) self.new }
         ensures counts { NoneFalls (map D.fault_count (disks_of self.old)) (map D.fault_count (disks_of self.new)) }
         ensures fuses { map D.fuse_count (disks_of self.new) ≡ map D.fuse_count (disks_of self.old) }
+        ensures disks { disks_of self.new ≡ disks_of self.old }
         ensures arms { self.new.arms ≡ self.old.arms }
         ensures pending { pending_of self.new ≡ pending_of self.old }
         ensures settings { self.new.settings ≡ self.old.settings }
@@ -181,6 +188,7 @@ impl<D: Disk, A: Arm<D::Piece>> Cluster<D, A> {
             (n : ℕ) × IsNext (fuse_count k 0) n × Comes D.files D.Piece.Tells D.fault_count D.fuse_count A.fault_count k (with_fuses k 0 n) self.new }
         ensures counts { NoneFalls (map D.fault_count (disks_of self.old)) (map D.fault_count (disks_of self.new)) }
         ensures fuses { SetsFuse 0 (map D.fuse_count (disks_of self.old)) (map D.fuse_count (disks_of self.new)) }
+        ensures contents { D.Tells → KeepsIn self.old.settings AnySlot (contents_in D.files self.old) (contents_in D.files self.new) }
         ensures arms { self.new.arms ≡ self.old.arms }
         ensures pending { pending_of self.new ≡ pending_of self.old }
         ensures settings { self.new.settings ≡ self.old.settings }

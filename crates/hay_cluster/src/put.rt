@@ -8,6 +8,7 @@ ghost use Rattle.hay_script.specs.declared.Command.TheVariants as asks;
 ghost use Rattle.hay_reply.specs.Fits.{FitsRefused, FitsReply};
 ghost use Rattle.hay_directory.specs.State as directory;
 ghost use Rattle.hay_cluster.specs.Causes.{IsCaused, RefusesPut};
+ghost use Rattle.hay_cluster.specs.Leaving.{IsReplicaBeside, LeavesIn, TellsNoOther};
 ghost use Rattle.hay_cluster.specs.Pending.{LeavesPut, pending_of};
 ghost use Rattle.hay_cluster.specs.Puts as puts;
 ghost use Rattle.hay_cluster.specs.Puts.{IsPutReply, IsRefusal, IsTried, StoredAs};
@@ -49,6 +50,7 @@ impl<D: Disk, A: Arm<D::Piece>> Cluster<D, A> {
         ensures fits { FitsReply result }
         ensures counts { NoneFalls (map D.fault_count (disks_of self.old)) (map D.fault_count (disks_of self.new)) }
         ensures fuses { map D.fuse_count (disks_of self.new) ≡ map D.fuse_count (disks_of self.old) }
+        ensures beside { (v : ℕ) × TellsNoOther result v × LeavesIn (IsReplicaBeside self.old.settings v) (disks_of self.old) (disks_of self.new) }
         ensures arms { self.new.arms ≡ self.old.arms }
         ensures pending { LeavesPut self.old.settings tag.line result (pending_of self.old) (pending_of self.new) }
         ensures settings { self.new.settings ≡ self.old.settings }
@@ -111,6 +113,7 @@ impl<D: Disk, A: Arm<D::Piece>> Cluster<D, A> {
         ensures fits { FitsReply result }
         ensures counts { NoneFalls (map D.fault_count (disks_of self.old)) (map D.fault_count (disks_of self.new)) }
         ensures fuses { map D.fuse_count (disks_of self.new) ≡ map D.fuse_count (disks_of self.old) }
+        ensures beside { (v : ℕ) × TellsNoOther result v × LeavesIn (IsReplicaBeside self.old.settings v) (disks_of self.old) (disks_of self.new) }
         ensures arms { self.new.arms ≡ self.old.arms }
         ensures pending { LeavesPut self.old.settings tag.line result (pending_of self.old) (pending_of self.new) }
         ensures settings { self.new.settings ≡ self.old.settings }
@@ -144,6 +147,8 @@ impl<D: Disk, A: Arm<D::Piece>> Cluster<D, A> {
         ensures fits { FitsReply result }
         ensures counts { NoneFalls (map D.fault_count (disks_of self.old)) (map D.fault_count (disks_of self.new)) }
         ensures fuses { map D.fuse_count (disks_of self.new) ≡ map D.fuse_count (disks_of self.old) }
+        ensures beside { LeavesIn (IsReplicaBeside self.old.settings volume) (disks_of self.old) (disks_of self.new) }
+        ensures tells { TellsNoOther result volume }
         ensures arms { self.new.arms ≡ self.old.arms }
         ensures pending { LeavesPut self.old.settings tag.line result (pending_of self.old) (pending_of self.new) }
         ensures settings { self.new.settings ≡ self.old.settings }
@@ -177,6 +182,8 @@ impl<D: Disk, A: Arm<D::Piece>> Cluster<D, A> {
         ensures fits { FitsReply result }
         ensures counts { NoneFalls (map D.fault_count (disks_of self.old)) (map D.fault_count (disks_of self.new)) }
         ensures fuses { map D.fuse_count (disks_of self.new) ≡ map D.fuse_count (disks_of self.old) }
+        ensures beside { LeavesIn (IsReplicaBeside self.old.settings volume) (disks_of self.old) (disks_of self.new) }
+        ensures tells { TellsNoOther result volume }
         ensures arms { self.new.arms ≡ self.old.arms }
         ensures pending { LeavesPut self.old.settings tag.line result (pending_of self.old) (pending_of self.new) }
         ensures settings { self.new.settings ≡ self.old.settings }

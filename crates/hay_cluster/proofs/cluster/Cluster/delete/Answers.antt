@@ -6,6 +6,9 @@ use Rattle.hay_cluster.proofs.Changing.{deleted, not_deleted}
 use Rattle.hay_cluster.proofs.Suiting.{closed_suits_del, del_refusal_suits}
 use Rattle.hay_cluster.proofs.Pending.{delete_pending}
 use Rattle.hay_cluster.specs.Pending.{pending_of}
+use Rattle.hay_reply.specs.declared.Reply.TheVariants.{Deleted, Unknown}
+use Rattle.hay_cluster.specs.Store.{disks_of}
+use Rattle.hay_cluster.proofs.Leaving.{closed_tells, delete_tells, leaves-same, tells-none, tells-one}
 use Rattle.hay_cluster.proofs.cluster.Cluster.delete.Goals as goal
 
 pub returns-in-Ok-clause-legal : goal.returns-in-Ok-clause-legal
@@ -54,3 +57,15 @@ pub returns-clause-pending : goal.returns-clause-pending
 returns-clause-pending g c =
     delete_pending c.args.tag.line c.in-Some.volume c.rows-in-Err.result (pending_of c.args.self.now) (pending_of c.delete_in.new.self) c.in-Err.fault c.delete_refusal.result c.delete_refusal.ensures.is
     (IfErr-at_err _ c.in-Err.is c.delete_in.ensures.refused_pending)
+
+pub returns-in_default-clause-beside : goal.returns-in_default-clause-beside
+returns-in_default-clause-beside g c = (0, tells-none (Unknown c.rows.result) 0 refl, leaves-same _ (disks_of c.args.self.now) (disks_of c.args.self.now) refl)
+
+pub returns-in-Some-closed_by-clause-beside : goal.returns-in-Some-closed_by-clause-beside
+returns-in-Some-closed_by-clause-beside g c = (c.in-Some.volume, closed_tells c.in-Some.volume c.in-Some-closed_by.machine c.read_only.result c.read_only.ensures.is, leaves-same _ (disks_of c.args.self.now) (disks_of c.args.self.now) refl)
+
+pub returns-in-Ok-clause-beside : goal.returns-in-Ok-clause-beside
+returns-in-Ok-clause-beside g c = (c.in-Some.volume, tells-one (Deleted c.in-Some.volume c.in-Ok.position c.rows-in-Ok.result) c.in-Some.volume refl, c.delete_in.ensures.beside)
+
+pub returns-clause-beside : goal.returns-clause-beside
+returns-clause-beside g c = (c.in-Some.volume, delete_tells c.in-Some.volume c.rows-in-Err.result c.in-Err.fault c.delete_refusal.result c.delete_refusal.ensures.is, c.delete_in.ensures.beside)

@@ -9,6 +9,7 @@ use Rattle.hay_reader.specs.declared.causes.PassedReplica.{PassedReplica}
 use Rattle.hay_reader.specs.declared.seat.ReadReply.TheVariants as read
 use Rattle.hay_cluster.specs.Causes.{StaySure}
 use Rattle.hay_cluster.specs.Reads.{IsWhole, ReadNoArm, ReadPasses, ReadSays, StopsUnseen, counts_of, outcomes_of}
+use Rattle.hay_cluster.specs.Leaving.{IsBeside, LeavesIn}
 use Rattle.hay_cluster.specs.Parts.{Comes}
 use Rattle.hay_cluster.specs.Pending.{pending_of}
 use Rattle.hay_cluster.specs.State.{Stands}
@@ -29,6 +30,7 @@ invariant-loop g l = record {
   sure_arms : StaySure g.A.Arm.is_sure g.A.Arm.fault_count l.fn.self.arms l.self.arms;
   counts : NoneFalls (map g.D.Disk.fault_count (disks_of l.fn.self)) (map g.D.Disk.fault_count (disks_of l.self));
   fuses : map g.D.Disk.fuse_count (disks_of l.self) ≡ map g.D.Disk.fuse_count (disks_of l.fn.self);
+  beside : LeavesIn (IsBeside l.fn.self.settings l.volume) (disks_of l.fn.self) (disks_of l.self);
   pending : pending_of l.self ≡ pending_of l.fn.self;
   arm_counts : NoneFalls (map g.A.Arm.fault_count l.fn.self.arms) (map g.A.Arm.fault_count l.self.arms);
   settings : l.self.settings ≡ l.fn.self.settings;

@@ -1,15 +1,16 @@
-use Rattle.std.proofs.Common.{◌≡◌, ◌<◌, None, Some, sym, ap, subst, ◌∙◌, inl, inr}
+use Rattle.std.proofs.Common.{◌≡◌, ◌<◌, None, Some, refl, sym, ap, subst, ◌∙◌, inl, inr}
 use Rattle.std.proofs.lemmas.Result.{IfErr-at_err, IfOk-at_ok}
 use Rattle.hay_needle.specs.declared.settings.Settings.{Settings}
 use Rattle.hay_reply.specs.declared.Reply.{Reply}
 use Rattle.hay_legal.specs.Known.{replica_on}
 use Rattle.hay_cluster.specs.Maintenance.{command_of}
 use Rattle.hay_cluster.specs.State.{Answered}
-use Rattle.hay_cluster.specs.Store.{Open}
+use Rattle.hay_cluster.specs.Store.{Open, disks_of}
 use Rattle.hay_cluster.proofs.Maintaining.{maintained, not_maintained, nowhere}
 use Rattle.hay_cluster.proofs.Suiting.{done_suits, memory_suits, nowhere_suits, undone_suits, work_refuses, work_suits}
 use Rattle.hay_cluster.specs.Causes.{RefusesOn}
 use Rattle.hay_cluster.proofs.Changing.{replica_machine}
+use Rattle.hay_cluster.proofs.Leaving.{leaves-same}
 use Rattle.hay_cluster.proofs.cluster.Cluster.maintain.Goals as goal
 
 pub returns-in_default-clause-legal : goal.returns-in_default-clause-legal
@@ -69,3 +70,6 @@ returns-in-Err-clause-suits g c = λ line.
       | inl suits ↦ work_suits (c.args.self.now).settings c.args.volume c.args.machine line c.in-Some.replica c.args.work c.refused.result there suits
       | inr none ↦ memory_suits (c.args.self.now).settings c.args.volume c.args.machine line c.in-Some.replica c.args.work c.refused.result there none
     ]
+
+pub returns-in_default-clause-beside : goal.returns-in_default-clause-beside
+returns-in_default-clause-beside g c = leaves-same _ (disks_of c.args.self.now) (disks_of c.args.self.now) refl

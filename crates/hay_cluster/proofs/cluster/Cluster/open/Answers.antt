@@ -1,4 +1,4 @@
-use Rattle.std.proofs.Common.{◌≡◌, ◌<◌, ◌≤◌, ℕ, inr, map, sym, ap, ◌∙◌, arith, rules}
+use Rattle.std.proofs.Common.{◌≡◌, ◌<◌, ◌≤◌, ℕ, inr, map, sym, ap, subst, ◌∙◌, arith, rules}
 use Rattle.std.proofs.lemmas.Result.{err_from_is_err_and}
 use Rattle.std.specs.Prelude.{IsTrue, slice_index}
 use Rattle.hay_needle.specs.declared.settings.Settings.{Settings}
@@ -7,13 +7,14 @@ use Rattle.hay_mount.specs.Mounts.{IsPutBack}
 use Rattle.hay_legal.specs.Known.{disk_count}
 use Rattle.hay_cluster.specs.declared.fault.ClusterFault.TheVariants.{Shelf, Failed, Damaged, NoMemory}
 use Rattle.hay_cluster.specs.Store.{disks_of}
+use Rattle.hay_cluster.proofs.ClosingStore.{disks_many}
 use Rattle.hay_cluster.proofs.Lists.{one_fits}
 use Rattle.hay_cluster.proofs.OpeningDamage.{opened_sound, opening_damaged, opening_failed}
 use Rattle.hay_cluster.proofs.OpeningDraws.{flushed_drew, opening_drew}
 use Rattle.hay_cluster.proofs.OpeningFound.{found_new}
 use Rattle.hay_cluster.proofs.OpeningLists.{passed_on}
 use Rattle.hay_cluster.proofs.OpeningStore.{MovedParts, opens_up}
-use Rattle.hay_cluster.proofs.OpeningTaken.{IsTakingFault, back_arm, back_counts, back_failed, back_shelf, is_taken, moved_arms, moved_counts, moved_sure, not_memory_damaged, not_memory_failed, one_fault, passed_back, taken_idle, taken_rests, taking_damaged, taking_failed, taking_shelf}
+use Rattle.hay_cluster.proofs.OpeningTaken.{IsTakingFault, back_arm, back_counts, back_failed, back_shelf, back_damaged, is_taken, moved_arms, moved_counts, moved_sure, not_memory_damaged, not_memory_failed, one_fault, passed_back, taken_idle, taken_rests, taking_damaged, taking_failed, taking_shelf}
 use Rattle.hay_cluster.proofs.OpeningVoid.{back_contents, back_kept, contents_stay}
 use Rattle.hay_cluster.proofs.Pending.{opened_settled}
 use Rattle.hay_cluster.proofs.cluster.Cluster.open.Goals as goal
@@ -288,3 +289,28 @@ returns-in_err-disks-clause-contents_back g c =
     let count : c.disk_count.result ≡ disk_count c.args.settings = c.disk_count.ensures.is in
     let back : (slot : ℕ) → slot < disk_count c.args.settings → IsPutBack g.D.Disk.Tells (g.H.Shelf.disks c.args.shelf.now slot) (g.H.Shelf.disks c.take_parts.new.shelf slot) = λ slot below. c.in_err-disks.ensures.put_back slot (let low : slot < c.disk_count.result = omega (arith, count, below) in low) in
     λ tells. passed_back c.from_residual-in_err-disks.result _ p.0 p.1 (λ slot file below some. (back slot below).now tells file)
+
+pub returns-in_err-volumes-clause-damaged_within : goal.returns-in_err-volumes-clause-damaged_within
+returns-in_err-volumes-clause-damaged_within g c =
+    let p = err_from_is_err_and c.from_residual.result c.from_residual.ensures.1 in
+    let memory : c.in_err-volumes.field-0.0 ≡ NoMemory = c.in_err-volumes.ensures.no_memory in
+    λ slot file at is. absurd (not_memory_damaged p.0 slot file at (p.2 ∙ memory) (one_fault c.from_residual.result p.0 (Damaged slot file at) p.1 is))
+
+pub returns-in_err-disks-clause-damaged_within : goal.returns-in_err-disks-clause-damaged_within
+returns-in_err-disks-clause-damaged_within g c =
+    let p = err_from_is_err_and c.from_residual-in_err-disks.result c.from_residual-in_err-disks.ensures.1 in
+    let cause : IsTakingFault (g.H.Shelf.fault_count c.args.shelf.now) (g.H.Shelf.fault_count c.take_parts.new.shelf) c.in_err-disks.field-0.0 = c.in_err-disks.ensures.cause in
+    λ slot file at is. absurd (taking_damaged (g.H.Shelf.fault_count c.args.shelf.now) (g.H.Shelf.fault_count c.take_parts.new.shelf) c.in_err-disks.field-0.0 slot file at cause (sym p.2 ∙ one_fault c.from_residual-in_err-disks.result p.0 (Damaged slot file at) p.1 is))
+
+pub returns-in-Ok-clause-disks : goal.returns-in-Ok-clause-disks
+returns-in-Ok-clause-disks g c =
+    disks_many c.open_parts.new.self c.open_parts.ensures.shape ∙ ap (λ (s : Settings). disk_count s) (c.open_parts.ensures.settings ∙ c.assemble-cluster.ensures.settings)
+
+pub returns-in-Err-clause-damaged_within : goal.returns-in-Err-clause-damaged_within
+returns-in-Err-clause-damaged_within g c =
+    let taken = is_taken g.D.Disk.Tells g.D.Disk.files g.D.Piece.Piece.Tells g.D.Disk.fault_count g.D.Disk.fuse_count g.A.Arm.fault_count g.D.Disk.drawn g.A.Arm.is_sure (g.H.Shelf.disks c.args.shelf.now) (g.H.Shelf.arms c.args.shelf.now) c.assemble-cluster.result c.in_ok-disks.disks.items c.in_ok-disks.seats.items c.assemble-cluster.ensures.shape c.assemble-cluster.ensures.fresh c.assemble-cluster.ensures.closed c.assemble-cluster.ensures.unsure c.assemble-cluster.ensures.disks c.assemble-cluster.ensures.arms c.in_ok-disks.ensures.disks c.in_ok-disks.ensures.arms in
+    let moved : MovedParts g.D.Disk.Tells g.D.Disk.files g.D.Piece.Piece.Tells g.D.Disk.fault_count g.D.Disk.fuse_count g.A.Arm.fault_count c.assemble-cluster.result c.open_parts.new.self = record { settings = c.open_parts.ensures.settings; arms = c.open_parts.ensures.arms; directory = c.open_parts.ensures.directory; volumes = c.open_parts.ensures.volumes } in
+    λ slot file at is.
+    let told : c.in-Err.fault ≡ Damaged slot file at = cc in
+    subst (λ (s : Settings). slot < disk_count s) c.assemble-cluster.ensures.settings
+    (back_damaged g.D.Disk.Tells g.D.Disk.files g.D.Piece.Piece.Tells g.D.Disk.fault_count g.D.Disk.fuse_count g.A.Arm.fault_count g.D.Disk.drawn g.A.Arm.is_sure (g.H.Shelf.disks c.args.shelf.now) (g.H.Shelf.arms c.args.shelf.now) c.assemble-cluster.result c.open_parts.new.self c.in-Err.fault taken moved c.in-Err.ensures.refused slot file at told)

@@ -1,4 +1,4 @@
-use Rattle.std.proofs.Common.{map, ap, ◌∙◌, inl, inr}
+use Rattle.std.proofs.Common.{map, refl, ap, ◌∙◌, inl, inr}
 use Rattle.std.proofs.lemmas.Result.{IfErr-at_err, IfOk-at_ok}
 use Rattle.hay_url.specs.Url.{cookie_of}
 use Rattle.hay_cluster.specs.Store.{Open, disks_of}
@@ -9,6 +9,8 @@ use Rattle.hay_reply.specs.declared.Reply.TheVariants.{Stored}
 use Rattle.hay_cluster.proofs.Suiting.{put_refusal_suits}
 use Rattle.hay_cluster.proofs.Pending.{put_pending}
 use Rattle.hay_cluster.specs.Pending.{pending_of}
+use Rattle.hay_cluster.specs.Leaving.{IsBeside, IsReplicaBeside}
+use Rattle.hay_cluster.proofs.Leaving.{leaves-fewer, put_tells, tells-one}
 use Rattle.hay_cluster.proofs.cluster.Cluster.put_at.Goals as goal
 
 pub returns-in-Err-clause-stored : goal.returns-in-Err-clause-stored
@@ -46,3 +48,15 @@ pub returns-in-Err-clause-pending : goal.returns-in-Err-clause-pending
 returns-in-Err-clause-pending g c =
     put_pending (c.args.self.now).settings c.args.tag.line c.args.volume (pending_of c.args.self.now) (pending_of c.put_in.new.self) c.in-Err.fault c.put_refusal.result c.requires.volume c.put_refusal.ensures.is
     (IfErr-at_err _ c.in-Err.is c.put_in.ensures.refused_pending)
+
+pub returns-in-Ok-clause-beside : goal.returns-in-Ok-clause-beside
+returns-in-Ok-clause-beside g c = leaves-fewer (IsBeside (c.args.self.now).settings c.args.volume) (IsReplicaBeside (c.args.self.now).settings c.args.volume) (disks_of c.args.self.now) (disks_of c.put_in.new.self) (λ slot far. far.1) c.put_in.ensures.beside
+
+pub returns-in-Err-clause-beside : goal.returns-in-Err-clause-beside
+returns-in-Err-clause-beside g c = leaves-fewer (IsBeside (c.args.self.now).settings c.args.volume) (IsReplicaBeside (c.args.self.now).settings c.args.volume) (disks_of c.args.self.now) (disks_of c.put_in.new.self) (λ slot far. far.1) c.put_in.ensures.beside
+
+pub returns-in-Ok-clause-tells : goal.returns-in-Ok-clause-tells
+returns-in-Ok-clause-tells g c = tells-one (Stored c.args.volume c.in-Ok.position c.rows.result c.cookie_of-cookie.result) c.args.volume refl
+
+pub returns-in-Err-clause-tells : goal.returns-in-Err-clause-tells
+returns-in-Err-clause-tells g c = put_tells c.args.volume c.in-Err.fault c.put_refusal.result c.put_refusal.ensures.is

@@ -16,6 +16,8 @@ use Rattle.hay_cluster.proofs.Suiting.{settle_suits}
 use Rattle.hay_cluster.proofs.Pending.{settle_pending}
 use Rattle.hay_cluster.specs.Pending.{LeavesPut, PendingLines, pending_of}
 use Rattle.std.proofs.lemmas.Result.{IfErr-at_err}
+use Rattle.hay_cluster.specs.Leaving.{IsReplicaBeside, IsReplicaSlot, LeavesIn}
+use Rattle.hay_cluster.proofs.Leaving.{leaves-fewer, leaves-on, settle_tells}
 use Rattle.hay_cluster.proofs.cluster.Cluster.put_new.Goals as goal
 
 ok_not_err : {T E : Type 0} (x : T) (y : E) → Ok x ≡ Err y → ⊥
@@ -66,3 +68,15 @@ pub returns-in-Err-clause-pending : goal.returns-in-Err-clause-pending
 returns-in-Err-clause-pending g c =
     settle_pending (c.args.self.now).settings c.args.tag.line (pending_of c.args.self.now) (pending_of c.settle.new.self) c.in-Err.fault c.settle_refusal.result c.settle_refusal.ensures.is
     (IfErr-at_err _ c.in-Err.is c.settle.ensures.refused_pending)
+
+pub returns-in-Ok-clause-beside : goal.returns-in-Ok-clause-beside
+returns-in-Ok-clause-beside g c =
+    leaves-on (IsReplicaBeside (c.args.self.now).settings c.args.volume) (disks_of c.args.self.now) (disks_of c.settle.new.self) (disks_of c.put_at.new.self)
+    (leaves-fewer IsReplicaSlot (IsReplicaBeside (c.args.self.now).settings c.args.volume) (disks_of c.args.self.now) (disks_of c.settle.new.self) (λ slot far. far.0) c.settle.ensures.replicas)
+    (subst (λ (s : Settings). LeavesIn (IsReplicaBeside s c.args.volume) (disks_of c.settle.new.self) (disks_of c.put_at.new.self)) c.settle.ensures.settings c.put_at.ensures.beside)
+
+pub returns-in-Err-clause-beside : goal.returns-in-Err-clause-beside
+returns-in-Err-clause-beside g c = leaves-fewer IsReplicaSlot (IsReplicaBeside (c.args.self.now).settings c.args.volume) (disks_of c.args.self.now) (disks_of c.settle.new.self) (λ slot far. far.0) c.settle.ensures.replicas
+
+pub returns-in-Err-clause-tells : goal.returns-in-Err-clause-tells
+returns-in-Err-clause-tells g c = settle_tells c.args.volume c.in-Err.fault c.settle_refusal.result c.settle_refusal.ensures.is

@@ -9,6 +9,7 @@ use Rattle.hay_cluster.proofs.Moves.{none_falls}
 use Rattle.hay_cluster.proofs.Puts.{all_refused}
 use Rattle.hay_cluster.proofs.Suiting.{all_refuse, refusal_suits}
 use Rattle.hay_cluster.proofs.Pending.{refusal_no_failure}
+use Rattle.hay_cluster.proofs.Leaving.{leaves-same, refusal_tells}
 use Rattle.hay_cluster.proofs.cluster.Cluster.put_tried.Goals as goal
 
 pub returns-in-Taker-clause-legal : goal.returns-in-Taker-clause-legal
@@ -35,3 +36,9 @@ returns-in-Nobody-clause-suits g c =
 
 pub returns-in-Nobody-clause-pending : goal.returns-in-Nobody-clause-pending
 returns-in-Nobody-clause-pending g c = inr (inr (inr (refusal_no_failure _ c.refuse.result c.refuse.ensures.is, refl)))
+
+pub returns-in-Nobody-clause-beside : goal.returns-in-Nobody-clause-beside
+returns-in-Nobody-clause-beside g c = (0, refusal_tells c.in-Nobody.refused c.refuse.result 0 c.refuse.ensures.is, leaves-same _ (disks_of c.args.self.now) (disks_of c.args.self.now) refl)
+
+pub returns-in-Taker-clause-beside : goal.returns-in-Taker-clause-beside
+returns-in-Taker-clause-beside g c = (c.in-Taker.volume, c.put_new.ensures.tells, c.put_new.ensures.beside)

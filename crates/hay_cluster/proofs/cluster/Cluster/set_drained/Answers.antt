@@ -8,6 +8,7 @@ use Rattle.hay_legal.specs.Plain.{with_drain}
 use Rattle.hay_cluster.specs.Parts.{Comes}
 use Rattle.hay_cluster.proofs.Moves.{directory_fuses, in_directory, none_falls}
 use Rattle.hay_cluster.proofs.Pending.{directory_kept}
+use Rattle.hay_cluster.proofs.Leaving.{directory_same}
 use Rattle.hay_cluster.proofs.cluster.Cluster.set_drained.Goals as goal
 
 pub returns-then-is_drained-clause-set : goal.returns-then-is_drained-clause-set
@@ -65,3 +66,13 @@ pub returns-else-is_drained-clause-pending : goal.returns-else-is_drained-clause
 returns-else-is_drained-clause-pending g c =
     let store : Open g.row.D.Denot g.row.D-Piece.Denot g.row.A.Denot = record { settings = c.self.inside.settings; directory = c.self.inside.directory; volumes = c.self.inside.volumes.items; arms = c.self.inside.seats.items } in
     directory_kept c.args.self.now store c.undrain.new.self c.self.view_is (ap (λ (d : State g.row.D.Denot). d.mode) c.undrain.ensures.only)
+
+pub returns-then-is_drained-clause-disks : goal.returns-then-is_drained-clause-disks
+returns-then-is_drained-clause-disks g c =
+    let store : Open g.row.D.Denot g.row.D-Piece.Denot g.row.A.Denot = record { settings = c.self.inside.settings; directory = c.self.inside.directory; volumes = c.self.inside.volumes.items; arms = c.self.inside.seats.items } in
+    directory_same c.args.self.now store c.drain.new.self c.self.view_is (ap (λ (d : State g.row.D.Denot). d.disk) c.drain.ensures.only)
+
+pub returns-else-is_drained-clause-disks : goal.returns-else-is_drained-clause-disks
+returns-else-is_drained-clause-disks g c =
+    let store : Open g.row.D.Denot g.row.D-Piece.Denot g.row.A.Denot = record { settings = c.self.inside.settings; directory = c.self.inside.directory; volumes = c.self.inside.volumes.items; arms = c.self.inside.seats.items } in
+    directory_same c.args.self.now store c.undrain.new.self c.self.view_is (ap (λ (d : State g.row.D.Denot). d.disk) c.undrain.ensures.only)

@@ -14,6 +14,7 @@ use Rattle.hay_cluster.specs.Causes.{RoseIn}
 use Rattle.hay_cluster.specs.State.{Stands}
 use Rattle.hay_cluster.proofs.Moves.{directory_fuses, directory_stood, in_directory, none_falls}
 use Rattle.hay_cluster.proofs.Pending.{directory_kept, row_left}
+use Rattle.hay_cluster.proofs.Leaving.{directory_leaves}
 use Rattle.hay_cluster.proofs.cluster.Cluster.settle.Goals as goal
 
 pub returns-clause-settled : goal.returns-clause-settled
@@ -89,3 +90,8 @@ pub returns-clause-refused_pending : goal.returns-clause-refused_pending
 returns-clause-refused_pending g c =
     let store : Open g.row.D.Denot g.row.D-Piece.Denot g.row.A.Denot = record { settings = c.self.inside.settings; directory = c.self.inside.directory; volumes = c.self.inside.volumes.items; arms = c.self.inside.seats.items } in
     IfErr-weaker c.settle.result _ _ (λ fault left. row_left c.args.self.now store c.settle.new.self _ fault c.self.view_is left) c.settle.ensures.refused_mode
+
+pub returns-clause-replicas : goal.returns-clause-replicas
+returns-clause-replicas g c =
+    let store : Open g.row.D.Denot g.row.D-Piece.Denot g.row.A.Denot = record { settings = c.self.inside.settings; directory = c.self.inside.directory; volumes = c.self.inside.volumes.items; arms = c.self.inside.seats.items } in
+    directory_leaves c.args.self.now store c.settle.new.self c.self.view_is
