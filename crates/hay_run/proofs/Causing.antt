@@ -19,6 +19,7 @@ use Rattle.hay_legal.specs.Items.{Asked, InBlock}
 use Rattle.hay_legal.specs.Items.Asked.{Alone, Block}
 use Rattle.hay_cluster.specs.declared.fault.ClusterFault.{ClusterFault}
 use Rattle.hay_cluster.specs.declared.fault.ClusterFault.TheVariants as refusal
+use Rattle.hay_cluster.specs.Leaving.{LeavesContents}
 use Rattle.hay_cluster.specs.Outside.{IsDamagedDisk, IsUndamaged, IsUndamagedBelow}
 use Rattle.hay_cluster.specs.Causes.{BlamesNoArm, HasFaultCause, IsCaused, LeavesFuses}
 use Rattle.hay_cluster.specs.Pending.{LeavesPending, TellsPending, none_pending}
@@ -80,10 +81,11 @@ module _ (Tells : Type 0) where
   pub caused_reply : (Writes : Writing) (settings : Settings) (before after : Tally) (number : ℕ) (command : Command) (reply : Reply) (written written' : Option (List ℕ))
       → ((pick : ℕ) → command ≢ asks.Restart pick) → IsLaterTally before after → LeavesFuses settings command before.fuses after.fuses
       → FitsReply reply → Suits settings number command reply → IsCaused settings 0 before.counts after.counts reply → (HasSureArm before 0 → BlamesNoArm reply)
-      → LeavesPending settings number command reply before.pending after.pending → Writes written (numbered_line number reply) written'
+      → LeavesPending settings number command reply before.pending after.pending → (Tells → LeavesContents settings command reply before.contents after.contents)
+      → Writes written (numbered_line number reply) written'
       → Caused Tells Writes settings before after (Alone number (item.Command command) ∷ []) written written'
-  caused_reply Writes settings before after number command reply written written' other none fuses fits suits cause sure pending wrote =
-      caused_one Writes settings before after (Alone number (item.Command command)) (numbered_line number reply) written written' none (fuses, inr (other, (reply, fits, suits, cause, sure, pending, refl))) wrote
+  caused_reply Writes settings before after number command reply written written' other none fuses fits suits cause sure pending contents wrote =
+      caused_one Writes settings before after (Alone number (item.Command command)) (numbered_line number reply) written written' none (fuses, inr (other, (reply, fits, suits, cause, sure, pending, contents, refl))) wrote
 
   pub caused_restart : (Writes : Writing) (settings : Settings) (before after : Tally) (number pick rows : ℕ) (notes : List Note) (written written' : Option (List ℕ))
       → IsLaterTally before after → after.fuses ≡ before.fuses → FitsReply (Restarted rows) → TellsPending settings before.pending notes → AllByRecursion FitsNote notes → after.pending ≡ none_pending settings
@@ -134,7 +136,7 @@ module _ (Tells : Type 0) where
     note_caused (refusal.Failed slot count) cause lowest place note is =
         let same : note ≡ OpenFailed slot count = cc in subst (λ (n : Note). IsNoteCaused Tells settings before after n) (sym same) (cause.0, (cause.1, cause.2), λ tells. lowest tells slot count refl)
     note_caused (refusal.Damaged slot file at) cause lowest place note is =
-        let same : note ≡ OpenDamaged slot file at = cc in subst (λ (n : Note). IsNoteCaused Tells settings before after n) (sym same) (λ tells. place tells slot file at refl)
+        let same : note ≡ OpenDamaged slot file at = cc in subst (λ (n : Note). IsNoteCaused Tells settings before after n) (sym same) (cause, λ tells. place tells slot file at refl)
     note_caused refusal.NoMemory cause lowest place note is = cc
 
     abbrev Told : Type 0
@@ -150,7 +152,7 @@ module _ (Tells : Type 0) where
     part_refused (refusal.Shelf count) cause lowest place other wanting part = absurd cause
     part_refused (refusal.Failed slot count) cause lowest place other wanting part =
         refusal_part (OpenFailed slot count) other (cause.0, (cause.1, cause.2), λ tells. lowest tells slot count refl) (part (OpenFailed slot count) refl)
-    part_refused (refusal.Damaged slot file at) cause lowest place other wanting part = refusal_part (OpenDamaged slot file at) other (λ tells. place tells slot file at refl) (part (OpenDamaged slot file at) refl)
+    part_refused (refusal.Damaged slot file at) cause lowest place other wanting part = refusal_part (OpenDamaged slot file at) other (cause, λ tells. place tells slot file at refl) (part (OpenDamaged slot file at) refl)
     part_refused refusal.NoMemory cause lowest place other wanting part =
         let same : back.restart.0 ≡ number = restart_number back.restart in
         inr (inl (back, subst (λ (n : ℕ). WrotePart written (numbered_line n NoMem) written') (sym same) (wanting refl).1))

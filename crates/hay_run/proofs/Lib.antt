@@ -8,6 +8,7 @@ pub mod Giving
 pub mod Ran
 pub mod Reading
 pub mod Refusing
+pub mod Refuted
 pub mod Restarting
 pub mod Serving
 pub mod Stopping

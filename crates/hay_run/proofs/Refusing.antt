@@ -118,7 +118,7 @@ module _ (settings : Settings) (shelf shelf' : ℕ) (disks disks' : ℕ → Held
         within,
         subst (λ n. CameUp n count (disks' slot).fault_count) (sym (taken.faults slot within)) (rose_came_up (disks slot).fault_count (disks' slot).fault_count count rose told),
       )
-  tells_of Tells tells note (inr (inr (slot, file, at, is, why))) = absurd (not_damaged settings some (outside_of shelf disks arms) k taken slot file at (why tells).0)
+  tells_of Tells tells note (inr (inr (slot, file, at, is, within, why))) = absurd (not_damaged settings some (outside_of shelf disks arms) k taken slot file at (why tells).0)
 
   module _ (script held : List ℕ) (written' : Option (List ℕ)) where
     -- a note was written behind the header, or a front of it
@@ -255,15 +255,16 @@ module _ (Tells : Type 0) (settings : Settings) (taken given : Outside) where
       → ((count : ℕ) → fault ≡ refusal.Shelf count → Rose taken.shelf given.shelf × (count ≡ given.shelf))
       → ((slot count : ℕ) → fault ≡ refusal.Failed slot count → (slot < disk_count settings) × Rose (taken.faults slot) (given.faults slot) × (count ≡ given.faults slot))
       → (Tells → (slot count : ℕ) → fault ≡ refusal.Failed slot count → IsUndamagedBelow settings slot (read_contents taken))
+      → ((slot file at : ℕ) → fault ≡ refusal.Damaged slot file at → slot < disk_count settings)
       → (Tells → (slot file at : ℕ) → fault ≡ refusal.Damaged slot file at → IsDamagedDisk settings (read_contents taken) slot file at × IsDamagedDisk settings (read_contents given) slot file at)
       → (note : Note) → note_of fault ≡ Some note → IsFirstRefusal Tells settings taken given note
-  cause_of (refusal.Shelf count) of_shelf of_disk of_lower of_damage note is =
+  cause_of (refusal.Shelf count) of_shelf of_disk of_lower within of_damage note is =
       let same : note ≡ told.OpenShelf count = cc in let rose = of_shelf count refl in inl (count, same, rose.0, rose.1)
-  cause_of (refusal.Failed slot count) of_shelf of_disk of_lower of_damage note is =
+  cause_of (refusal.Failed slot count) of_shelf of_disk of_lower within of_damage note is =
       let same : note ≡ told.OpenFailed slot count = cc in let rose = of_disk slot count refl in inr (inl (slot, (count, same, rose.0, rose.1, rose.2), λ tells. of_lower tells slot count refl))
-  cause_of (refusal.Damaged slot file at) of_shelf of_disk of_lower of_damage note is =
-      let same : note ≡ told.OpenDamaged slot file at = cc in inr (inr (slot, file, at, same, λ tells. of_damage tells slot file at refl))
-  cause_of refusal.NoMemory of_shelf of_disk of_lower of_damage note is = cc
+  cause_of (refusal.Damaged slot file at) of_shelf of_disk of_lower within of_damage note is =
+      let same : note ≡ told.OpenDamaged slot file at = cc in inr (inr (slot, file, at, same, within slot file at refl, λ tells. of_damage tells slot file at refl))
+  cause_of refusal.NoMemory of_shelf of_disk of_lower within of_damage note is = cc
 
   -- as the refusal of a restart says
   module _ {D P A : Type 0} (Begins : Standing D P A) (files : D → Files) (faults : D → ℕ) (store store' : Open D P A)
@@ -288,12 +289,13 @@ module _ (Tells : Type 0) (settings : Settings) (taken given : Outside) where
           λ tells. undamaged_as settings slot (contents_in files store') (read_contents given) (λ lower low. sym (contents tells lower (omega (arith, low, within))))
               (subst (λ (s : Settings). IsUndamagedBelow s slot (contents_in files store')) same (lowest tells)),
         )
-    cause_later note (inr (slot, file, at, is, why)) =
+    cause_later note (inr (slot, file, at, is, below, why)) =
         inr (
           slot,
           file,
           at,
           is,
+          subst (λ (s : Settings). slot < disk_count s) same below,
           λ tells.
               let damaged : IsDamagedDisk settings (contents_in files store') slot file at = subst (λ (s : Settings). IsDamagedDisk s (contents_in files store') slot file at) same (why tells).1 in (
                 λ k held. let s = stands tells k held in (why tells).0 s.0 s.1,

@@ -177,7 +177,7 @@ module _ {D P A : Type 0} (Tells : Type 0) (Begins Left : Standing D P A) (files
   }
   halts (refusal.Damaged slot file at) cause damaged place lowest some told = record {
     note = OpenDamaged slot file at;
-    why = inr (slot, file, at, refl, λ tells. (λ k stands. damaged tells k stands slot file at refl, place tells slot file at refl));
+    why = inr (slot, file, at, refl, cause, λ tells. (λ k stands. damaged tells k stands slot file at refl, place tells slot file at refl));
     told = told_behind (OpenDamaged slot file at) (told_damaged slot file at told);
   }
   halts refusal.NoMemory cause damaged place lowest some told = absurd (some refl)

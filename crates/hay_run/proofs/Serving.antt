@@ -60,12 +60,13 @@ refused_more Tells Stands files faults asked written written' store mid store' t
       count_is,
       λ tells. subst (λ (settings : Settings). IsUndamagedBelow settings slot (contents_in files store')) same (lowest tells),
     )
-refused_more Tells Stands files faults asked written written' store mid store' told same later answers (inr (slot, file, at, is, damaged)) =
+refused_more Tells Stands files faults asked written written' store mid store' told same later answers (inr (slot, file, at, is, below, damaged)) =
     inr (
       slot,
       file,
       at,
       is,
+      subst (λ (settings : Settings). slot < disk_count settings) same below,
       λ tells. (
         λ k stands. let a = answers tells k stands in (damaged tells).0 a.t a.left,
         subst (λ (settings : Settings). IsDamagedDisk settings (contents_in files store') slot file at) same (damaged tells).1,

@@ -22,6 +22,7 @@ use Rattle.hay_legal.specs.Statuses.{Ending, IsFront, read_contents}
 use Rattle.hay_legal.specs.Statuses.Ending.{ReadAll, OutputFault, InputFault, NoMemory, NotOpened, TooLong}
 use Rattle.hay_cluster.specs.Causes.{BlamesNoArm, Counts, IsCaused, LeavesFuses, RoseIn}
 use Rattle.hay_cluster.specs.Draws.{drawn_in}
+use Rattle.hay_cluster.specs.Leaving.{LeavesContents}
 use Rattle.hay_cluster.specs.Outside.{IsDamagedDisk, IsKept, IsUndamaged, IsUndamagedBelow, KeepsContents}
 use Rattle.hay_cluster.specs.Pending.{LeavesPending, PendingLines, TellsPending, none_pending, pending_of}
 use Rattle.hay_cluster.specs.Store.{Open, contents_in, disks_of}
@@ -76,17 +77,19 @@ IsRestartText Tells settings before after command number text =
     × (after.pending ≡ none_pending settings) × (text ≡ numbered_line number (Restarted rows) ++ flat_map note_line notes) × (Tells → IsUndamaged settings after.contents)
 
 -- the text of another command: a reply with numbers of their types, which the command of this line may be given, which tells of a
--- failure only where the count that it prints rose, and never of an arm that is sure, and by which it is known what it left pending
-abbrev pub IsReplyText : Settings → Tally → Tally → Command → ℕ → List ℕ → Type 0
-IsReplyText settings before after command number text =
+-- failure only where the count that it prints rose, and never of an arm that is sure, and by which it is known what it left pending, and
+-- which disks have what they had
+abbrev pub IsReplyText : Type 0 → Settings → Tally → Tally → Command → ℕ → List ℕ → Type 0
+IsReplyText Tells settings before after command number text =
     ((pick : ℕ) → command ≢ asks.Restart pick)
     × ((reply : Reply) × FitsReply reply × Suits settings number command reply × IsCaused settings 0 before.counts after.counts reply × (HasSureArm before 0 → BlamesNoArm reply)
-    × LeavesPending settings number command reply before.pending after.pending × (text ≡ numbered_line number reply))
+    × LeavesPending settings number command reply before.pending after.pending × (Tells → LeavesContents settings command reply before.contents after.contents)
+    × (text ≡ numbered_line number reply))
 
 -- The text answers the item, while the counts went from these to those. A fuse is set by its command alone.
 abbrev pub IsTextOf : Type 0 → Settings → Tally → Tally → Asked → List ℕ → Type 0
 IsTextOf Tells settings before after (Alone number (item.Command command)) text =
-    LeavesFuses settings command before.fuses after.fuses × (IsRestartText Tells settings before after command number text ⊎ IsReplyText settings before after command number text)
+    LeavesFuses settings command before.fuses after.fuses × (IsRestartText Tells settings before after command number text ⊎ IsReplyText Tells settings before after command number text)
 IsTextOf Tells settings before after (Alone number item.Bad) text = (after ≡ before) × (text ≡ numbered_line number BadLine)
 IsTextOf Tells settings before after (Block lines) text = (after ≡ before) × (text ≡ flat_map unbuilt_text lines)
 
@@ -119,7 +122,7 @@ pub record NotReopened (before after : Tally) (asked : List Asked) : Type 0 wher
 -- in a slot is damaged at the place that is told
 abbrev pub IsNoteCaused : Type 0 → Settings → Tally → Tally → Note → Type 0
 IsNoteCaused Tells settings before after (OpenFailed slot count) = (slot < disk_count settings) × RoseIn slot before.counts.disks after.counts.disks count × (Tells → IsUndamagedBelow settings slot after.contents)
-IsNoteCaused Tells settings before after (OpenDamaged slot file at) = Tells → IsDamagedDisk settings after.contents slot file at
+IsNoteCaused Tells settings before after (OpenDamaged slot file at) = (slot < disk_count settings) × (Tells → IsDamagedDisk settings after.contents slot file at)
 IsNoteCaused Tells settings before after (OpenShelf count) = ⊥
 IsNoteCaused Tells settings before after (Kept v m line) = ⊥
 IsNoteCaused Tells settings before after (Lost v m line) = ⊥
@@ -219,9 +222,12 @@ StandsBehind Tells NoMemory settings before after last part = IsPartBehind Tells
 StandsBehind Tells NotOpened settings before after last part =
     NotReopened before after last × ((note : Note) × IsNoteCaused Tells settings before after note × (part ≡ note_line note))
 
--- A store that was opened on these disks and arms has this tally, and an arm that was sure is sure in it. Nothing is pending, and a
+-- A store that was opened on these disks and arms has this tally, of just these, and an arm that was sure is sure in it. Nothing is pending, and a
 -- disk that was not void has what it had.
 pub record BeginsAt (Tells : Type 0) (settings : Settings) (taken : Outside) (sure : ℕ → Bool) (tally : Tally) : Type 0 where
+  pub disks : length tally.counts.disks ≡ disk_count settings
+  pub fused : length tally.fuses ≡ disk_count settings
+  pub lanes : (length tally.counts.arms ≡ 8) × (length tally.sure ≡ 8)
   pub faults : (slot : ℕ) → slot < disk_count settings → taken.faults slot ≤ slice_index tally.counts.disks slot
   pub fuses : (slot : ℕ) → slot < disk_count settings → slice_index tally.fuses slot ≡ taken.fuses slot
   pub arms : (lane : ℕ) → lane < 8 → slice_index tally.counts.arms lane ≡ taken.arms lane

@@ -65,7 +65,7 @@ abbrev pub IsFirstRefusal : Type 0 → Settings → Outside → Outside → Note
 IsFirstRefusal Tells settings taken given note =
     ((count : ℕ) × (note ≡ OpenShelf count) × Rose taken.shelf given.shelf × (count ≡ given.shelf))
     ⊎ ((slot : ℕ) × TellsDisk settings taken given note slot × (Tells → IsUndamagedBelow settings slot (read_contents taken)))
-    ⊎ ((slot : ℕ) × (file : ℕ) × (at : ℕ) × (note ≡ OpenDamaged slot file at)
+    ⊎ ((slot : ℕ) × (file : ℕ) × (at : ℕ) × (note ≡ OpenDamaged slot file at) × (slot < disk_count settings)
     × (Tells → IsDamagedDisk settings (read_contents taken) slot file at × IsDamagedDisk settings (read_contents given) slot file at))
 
 -- Why the opening of a restart was refused, as it is told: a disk failed, and none in a lower slot was given back damaged; or the
@@ -74,7 +74,7 @@ IsFirstRefusal Tells settings taken given note =
 abbrev pub IsLaterRefusal : Type 0 → Settings → Outside → Outside → Note → Type 0
 IsLaterRefusal Tells settings taken given note =
     ((slot : ℕ) × TellsDisk settings taken given note slot × (Tells → IsUndamagedBelow settings slot (read_contents given)))
-    ⊎ ((slot : ℕ) × (file : ℕ) × (at : ℕ) × (note ≡ OpenDamaged slot file at)
+    ⊎ ((slot : ℕ) × (file : ℕ) × (at : ℕ) × (note ≡ OpenDamaged slot file at) × (slot < disk_count settings)
     × (Tells → ((k : Known) → IsTaken settings taken k → ⊥) × IsUndamaged settings (read_contents taken) × IsDamagedDisk settings (read_contents given) slot file at))
 
 -- A run whose store was never opened: why, as all that was written behind what was written before tells. Nothing of the script

@@ -161,7 +161,7 @@ RefusedFor Tells Stands files faults store store' note =
     ((slot : ℕ) × (count : ℕ) × (note ≡ OpenFailed slot count) × (slot < disk_count store.settings)
     × Rose (slice_index (counts_of faults store) slot) (slice_index (counts_of faults store') slot) × (count ≡ slice_index (counts_of faults store') slot)
     × (Tells → IsUndamagedBelow store.settings slot (contents_in files store')))
-    ⊎ ((slot : ℕ) × (file : ℕ) × (at : ℕ) × (note ≡ OpenDamaged slot file at)
+    ⊎ ((slot : ℕ) × (file : ℕ) × (at : ℕ) × (note ≡ OpenDamaged slot file at) × (slot < disk_count store.settings)
     × (Tells → ((k : Known) → Stands store k → ⊥) × IsDamagedDisk store.settings (contents_in files store') slot file at))
 
 -- so it was told, behind what was written before

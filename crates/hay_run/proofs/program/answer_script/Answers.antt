@@ -1,5 +1,6 @@
 use Rattle.std.proofs.Common.{◌≡◌, ◌<◌, ◌++◌, Some, List, [], ℕ, length, map, refl, sym, ap, subst, ◌∙◌, arith, inl, inr}
 use Rattle.std.specs.Prelude.{Bool, true, Err, Option, slice_index}
+use Rattle.std.proofs.lemmas.List.{length-map}
 use Rattle.std.proofs.lemmas.Result.{on_ok_weaker}
 use Rattle.hay_needle.specs.declared.settings.Settings.{Settings}
 use Rattle.hay_mount.specs.Mounts.{AreIn, AreOut, SameFrom}
@@ -183,6 +184,9 @@ returns-clause-caused g c = λ script held told told_sink.
     let written = g.K.Sink.written c.serve-outcome.new.sink in
     let is_settings = c.serve-outcome.ensures.settings ∙ c.in-Ok.ensures.settings in
     let begins : BeginsAt g.H.Disk.Disk.Tells c.args.settings taken sure old = record {
+      disks = length-map (disks_of c.in-Ok.cluster) D.fault_count ∙ c.in-Ok.ensures.disks;
+      fused = length-map (disks_of c.in-Ok.cluster) D.fuse_count ∙ c.in-Ok.ensures.disks;
+      lanes = (length-map c.in-Ok.cluster.arms A.fault_count ∙ c.in-Ok.ensures.lanes, length-map c.in-Ok.cluster.arms A.is_sure ∙ c.in-Ok.ensures.lanes);
       faults = λ slot within. (c.in-Ok.ensures.counts slot within).faults_rise;
       fuses = λ slot within. (c.in-Ok.ensures.counts slot within).fuses_are;
       arms = c.in-Ok.ensures.arm_counts;
@@ -223,7 +227,7 @@ returns-in-Err-clause-caused g c = λ script held told told_sink.
     let given = outside_of shelf' (g.H.Shelf.disks c.open.new.shelf) (g.H.Shelf.arms c.open.new.shelf) in
     refused_caused g.H.Disk.Disk.Tells c.args.settings script (g.S.Source.left c.args.source.now) taken given sure disks disks' held (g.K.Sink.written c.write_refusal.new.sink) c.in-Err.ensures.kept (λ lane within. (c.in-Err.ensures.back_arms lane within).fault_count) (λ slot within. (c.in-Err.ensures.back_counts slot within).fuses_are) c.write_refusal.result c.in-Err.fault
     (cause_of g.H.Disk.Disk.Tells c.args.settings taken given c.in-Err.fault c.in-Err.ensures.shelf c.in-Err.ensures.failed
-    (λ t slot count e. c.in-Err.ensures.failed_lowest t slot count (ap (λ f. Err f) e)) (λ t slot file at e. c.in-Err.ensures.damaged t slot file at (ap (λ f. Err f) e)))
+    (λ t slot count e. c.in-Err.ensures.failed_lowest t slot count (ap (λ f. Err f) e)) (λ slot file at e. c.in-Err.ensures.damaged_within slot file at (ap (λ f. Err f) e)) (λ t slot file at e. c.in-Err.ensures.damaged t slot file at (ap (λ f. Err f) e)))
     (rw told_sink at c.write_refusal.ensures.told) (rw told_sink at c.write_refusal.ensures.part)
     (λ none. let w = c.write_refusal.ensures.wanting none in (w.0, ap g.K.Sink.written w.1 ∙ told_sink)) c.write_refusal.ensures.stops told
 
@@ -246,7 +250,7 @@ returns-in-Err-clause-stopped g c = λ tells why is k taken_is script held told 
     (ran_unopened c.args.settings shelf shelf' disks disks' arms arms' k taken_is (c.in-Err.ensures.kept tells) c.in-Err.ensures.back_counts c.in-Err.ensures.back_arms c.requires.built.some_replicas
     script held written' D.Tells tells c.in-Err.fault why
     (cause_of D.Tells c.args.settings (outside_of shelf disks arms) (outside_of shelf' disks' arms') c.in-Err.fault
-    c.in-Err.ensures.shelf c.in-Err.ensures.failed (λ t slot count e. c.in-Err.ensures.failed_lowest t slot count (ap (λ f. Err f) e)) (λ t slot file at e. c.in-Err.ensures.damaged t slot file at (ap (λ f. Err f) e)))
+    c.in-Err.ensures.shelf c.in-Err.ensures.failed (λ t slot count e. c.in-Err.ensures.failed_lowest t slot count (ap (λ f. Err f) e)) (λ slot file at e. c.in-Err.ensures.damaged_within slot file at (ap (λ f. Err f) e)) (λ t slot file at e. c.in-Err.ensures.damaged t slot file at (ap (λ f. Err f) e)))
     (rw (told_sink, same) at c.write_refusal.ensures.told) (rw (told_sink, same) at c.write_refusal.ensures.part)
     (λ none. let w = c.write_refusal.ensures.wanting none in (sym same ∙ w.0, ap g.K.Sink.written w.1 ∙ told_sink)) (rw same at c.write_refusal.ensures.stops))
 
@@ -260,7 +264,7 @@ returns-in-Err-clause-store g c = λ is.
       note = note.0;
       why = cause_of D.Tells c.args.settings (outside_of shelf (g.H.Shelf.disks c.args.shelf.now) (g.H.Shelf.arms c.args.shelf.now))
           (outside_of shelf' (g.H.Shelf.disks c.open.new.shelf) (g.H.Shelf.arms c.open.new.shelf)) c.in-Err.fault
-          c.in-Err.ensures.shelf c.in-Err.ensures.failed (λ t slot count e. c.in-Err.ensures.failed_lowest t slot count (ap (λ f. Err f) e)) (λ t slot file at e. c.in-Err.ensures.damaged t slot file at (ap (λ f. Err f) e)) note.0 note.1;
+          c.in-Err.ensures.shelf c.in-Err.ensures.failed (λ t slot count e. c.in-Err.ensures.failed_lowest t slot count (ap (λ f. Err f) e)) (λ slot file at e. c.in-Err.ensures.damaged_within slot file at (ap (λ f. Err f) e)) (λ t slot file at e. c.in-Err.ensures.damaged t slot file at (ap (λ f. Err f) e)) note.0 note.1;
       told = λ held told_sink. (let wrote : Wrote (Some held) (note_line note.0) (g.K.Sink.written c.write_refusal.new.sink) = rw told_sink at note.2 in wrote);
       unread = refl;
       kept = c.in-Err.ensures.kept;
