@@ -246,6 +246,7 @@ impl<D: Disk> Logical<D> {
         ensures written { D.Tells → (k : VolumeKnown) → Stands D.files D.Piece.Tells self.old k →
             IfOk result (λ written. IsWritten D.files D.Piece.Tells k pair cookie bytes.now written self.new) }
         ensures fits { IfOk result (λ written. IsWrittenFor D.Tells D.files written self.new) }
+        ensures of { IfOk result (λ written. (written.pair ≡ pair) × (written.position ≡ self.old.front + 1)) }
         ensures still { OnOk result (ShowsSame self.old self.new) }
         ensures refused { D.Tells → (k : VolumeKnown) → Stands D.files D.Piece.Tells self.old k →
             IfErr result (PutRefused D.files D.Piece.Tells k tag pair cookie bytes.now self.old self.new) }

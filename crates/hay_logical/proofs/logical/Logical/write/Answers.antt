@@ -410,3 +410,8 @@ returns-then-is_untouched-clause-refused_unsure g c = inl (ap (λ v. v.unsure) c
 pub returns-else-is_untouched-clause-refused_unsure : goal.returns-else-is_untouched-clause-refused_unsure
 returns-else-is_untouched-clause-refused_unsure g c =
     put_broken c.self.inside.settings c.self.inside.number c.in-Err.broken.at c.args.tag (change.Put c.ends_of-ends.result) c.args.self.now.unsure c.in-Err.broken.fault c.put_refusal-refusal.result c.put_refusal-refusal.ensures
+
+pub returns-in-Ok-clause-of : goal.returns-in-Ok-clause-of
+returns-in-Ok-clause-of g c =
+    let next : c.in-Some.position ≡ c.self.inside.front + 1 = (let h = c.in-Some.ensures in omega (arith, h)) in
+    (refl, next ∙ ap (λ v. v.front + 1) c.self.view_is)
