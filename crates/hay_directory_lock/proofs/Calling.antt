@@ -9,7 +9,7 @@ use Rattle.hay_legal.specs.declared.known.HomeRow.{HomeRow}
 use Rattle.hay_legal.specs.Known.{home_in}
 use Rattle.hay_history.specs.Steps.{RowsStanding}
 use Rattle.hay_history.specs.Steps.RowDid.{AddsRow}
-use Rattle.hay_turn.specs.Acts.{AllOf}
+use Rattle.hay_turn.specs.Acts.{acts_of, AllBelow, AllOf}
 use Rattle.hay_turn.specs.Seats.{Holds, MayFree, SeatState, after_free}
 use Rattle.hay_turn.specs.Slots.{acts_in}
 use Rattle.hay_turn.proofs.Prefixes.{prefix_self}
@@ -32,6 +32,7 @@ use Rattle.hay_directory.specs.declared.fault.DirFault.{DirFault}
 use Rattle.hay_directory.specs.declared.fault.DirFault.TheVariants as refusal
 use Rattle.hay_directory_lock.specs.Answers.{Settles, SettlesAs}
 use Rattle.hay_directory_lock.specs.Begun.{BegunAt, HomesShown}
+use Rattle.hay_directory_lock.specs.Rounds.{FoundAll}
 use Rattle.hay_directory_lock.specs.Seats.{DirectorySeatState, IsAt, IsSeated, LockState, sight}
 use Rattle.hay_directory_lock.specs.Standing.{HomeFront, KeptFor}
 use Rattle.hay_directory_lock.proofs.Answering.{all_counted}
@@ -75,6 +76,22 @@ module _ {D Y : Type 0} (Tells : Type 0) (files : D → Files) (faults fuses : D
 
     pub settings_held : (directory_of y).settings ≡ lock.settings
     settings_held = (kept_held.of).settings ∙ seated.settings
+
+    pub found_all : (view : HomesShown) → IsBehind seat.view (front_of y).shown → view ≡ (front_of y).shown → FoundAll lock begun lane (sight seat) (sight (record { turn = mid; view = view }))
+    found_all view behind all =
+        let own : mid.own ≡ (seat.turn).own = ap (λ (s : SeatState BegunAt DirAct). s.own) held.same in
+        let shown : view.deeds ≡ entries row_lock mid.seen = ap (λ (w : HomesShown). w.deeds) all ∙ kept_held.shown in
+        record {
+          seen = held.seen;
+          own = own;
+          history = record {
+            follows = (kept_held.of).follows;
+            below = subst (λ n. AllBelow row_lock.seat n mid.seen) seated.seats held.below;
+            own_is = ap (λ n. acts_of row_lock.seat n mid.seen) (sym seated.number) ∙ held.own ∙ sym own;
+          };
+          shown_from = subst (λ (w : HomesShown). IsPrefix (seat.view).deeds w.deeds) (sym all) behind.2;
+          shown = shown;
+        }
 
     module _ (tag : CoreTag) {y' : Y} (made : Option DirAct) (by_lane : lane ≡ tag.lane) (of : AreOf tag (acts_in made)) (kept : (begun : BegunAt) (acts : List DirAct) → KeptFor Tells files faults fuses begun acts (directory_of y) (front_of y) → KeptFor Tells files faults fuses begun (acts ++ acts_in made) (directory_of y') (front_of y')) where
       pub may_free : MayFree (λ a. a.seat) Stood mid y' (acts_in made)
