@@ -1,5 +1,5 @@
 //! The lock and its seats.
-ghost use Rattle.std.specs.Prelude.{◌≡◌, ◌+◌, ◌<◌, ℕ, List, true, false};
+ghost use Rattle.std.specs.Prelude.{◌≡◌, ◌+◌, ◌<◌, ℕ, List, true, false, IfOk, IfSome};
 ghost use Rattle.hay_meeting.specs.Acts.{Start};
 ghost use Rattle.hay_holdings.specs.Rows.{Drained, FusedDir, HomeShown};
 ghost use Rattle.hay_directory_lock.specs.Begun.{BegunAt};
@@ -10,6 +10,7 @@ ghost use Rattle.hay_meeting.specs.declared.act.DirAct.{DirAct};
 ghost use Rattle.hay_directory_lock.specs.Answers.{SettlesAs};
 
 use crate::kept::KeptDirectory;
+use crate::view::DirectoryView;
 use hay_core::CoreTag;
 use hay_directory::DirFault;
 use hay_dirfile::DirRow;
@@ -17,7 +18,6 @@ use hay_disk::Disk;
 use hay_front::Seat;
 use hay_needle::{Pair, Settings};
 use hay_turn::{Turn, TurnSeat};
-use hay_views::HomeView;
 use std::marker::Model;
 use std::sync::Wait;
 
@@ -41,7 +41,7 @@ impl<D: Disk> Model for DirectoryLock<D> {
 /// A lane's seat at the lock, with its seat of the published homes.
 pub struct DirectorySeat<D: Disk> {
     turn: TurnSeat<KeptDirectory<D>>,
-    view: Seat<HomeView>,
+    view: Seat<DirectoryView>,
 }
 
 impl<D: Disk> Model for DirectorySeat<D> {
@@ -74,6 +74,7 @@ impl<D: Disk> DirectoryLock<D> {
     ) -> (u64, Option<u32>)
         requires seated { (begun : BegunAt) × (lane : ℕ) × IsSeated self.now begun lane seat.old }
         ensures seated { (begun : BegunAt) (lane : ℕ) → IsSeated self.now begun lane seat.old → IsSeated self.now begun lane seat.new }
+        ensures below { IfSome result.1 (λ home. home < self.now.settings.volumes) }
         ensures shown { (start : Start) (begun : BegunAt) (lane : ℕ) → IsSeated self.now begun lane seat.old → begun.rows ≡ start.directory →
             HomeShown start pair result.0 result.1 (sight seat.old) (sight seat.new) }
     {
@@ -94,6 +95,7 @@ impl<D: Disk> DirectoryLock<D> {
         requires seated { (begun : BegunAt) × IsSeated self.now begun tag.lane seat.old }
         requires volume { volume < self.now.settings.volumes }
         ensures seated { (begun : BegunAt) (lane : ℕ) → IsSeated self.now begun lane seat.old → IsSeated self.now begun lane seat.new }
+        ensures below { IfOk result (λ answer. answer.0 < self.now.settings.volumes) }
         ensures settles { (start : Start) (begun : BegunAt) (lane : ℕ) → IsSeated self.now begun lane seat.old → begun.rows ≡ start.directory →
             SettlesAs start (record { pair = pair; volume = volume }) tag result (sight seat.old) (sight seat.new) }
     {

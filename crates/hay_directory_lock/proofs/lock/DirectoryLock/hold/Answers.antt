@@ -1,4 +1,3 @@
-use Rattle.std.proofs.Common.{refl}
 use Rattle.hay_directory_lock.proofs.Calling.{found_all, kept_held, seated_in, view_held}
 use Rattle.hay_directory_lock.proofs.lock.DirectoryLock.hold.Goals as goal
 
