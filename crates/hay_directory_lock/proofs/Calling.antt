@@ -1,5 +1,5 @@
 -- What a call tells of the seat that made it.
-use Rattle.std.proofs.Common.{◌≡◌, inl, inr, ◌+◌, ℕ, Bool, true, false, List, [], ◌∷◌, ◌++◌, length, take, filter, Option, Some, None, Ok, Err, refl, sym, ap, subst, ◌∙◌, append-nil, length-append, arith}
+use Rattle.std.proofs.Common.{◌≡◌, inl, inr, ◌+◌, ℕ, Bool, true, false, List, [], ◌∷◌, ◌++◌, length, filter, Option, Some, None, Ok, Err, refl, sym, ap, subst, ◌∙◌, append-nil, length-append, arith}
 use Rattle.std.specs.List.{AllByRecursion as Each}
 use mathlib.Core.List.{IsPrefix}
 use Rattle.hay_needle.specs.declared.needle.Pair.{Pair}
@@ -9,14 +9,10 @@ use Rattle.hay_legal.specs.declared.known.HomeRow.{HomeRow}
 use Rattle.hay_legal.specs.Known.{home_in}
 use Rattle.hay_history.specs.Steps.{RowsStanding}
 use Rattle.hay_history.specs.Steps.RowDid.{AddsRow}
-use Rattle.hay_turn.specs.Acts.{AllOf}
+use Rattle.hay_turn.specs.Acts.{acts_of, AllBelow, AllOf}
 use Rattle.hay_turn.specs.Seats.{Holds, MayFree, SeatState, after_free}
 use Rattle.hay_turn.specs.Slots.{acts_in}
-use Rattle.hay_turn.proofs.Prefixes.{prefix_self}
 use Rattle.hay_front.specs.Fronts.{IsBehind, RowOf}
-use Rattle.hay_views.specs.HomeLooks.{IsHomeOf, with_row}
-use Rattle.hay_views.proofs.HomeLaw.{looks_show_homes}
-use Rattle.hay_views.proofs.PlaceLaw.{seen_first}
 use Rattle.hay_meeting.specs.declared.act.DirAct.{DirAct}
 use Rattle.hay_meeting.specs.declared.act.DirDid.{DirDid}
 use Rattle.hay_meeting.specs.declared.act.DirDid.TheVariants as did
@@ -31,10 +27,11 @@ use Rattle.hay_directory.specs.State.{State}
 use Rattle.hay_directory.specs.declared.fault.DirFault.{DirFault}
 use Rattle.hay_directory.specs.declared.fault.DirFault.TheVariants as refusal
 use Rattle.hay_directory_lock.specs.Answers.{Settles, SettlesAs}
-use Rattle.hay_directory_lock.specs.Begun.{BegunAt, HomesShown}
+use Rattle.hay_directory_lock.specs.Begun.{BegunAt, HomesShown, first_homes, with_row}
+use Rattle.hay_directory_lock.specs.Rounds.{FoundAll}
 use Rattle.hay_directory_lock.specs.Seats.{DirectorySeatState, IsAt, IsSeated, LockState, sight}
 use Rattle.hay_directory_lock.specs.Standing.{HomeFront, KeptFor}
-use Rattle.hay_directory_lock.proofs.Answering.{all_counted}
+use Rattle.hay_directory_lock.proofs.Answering.{IsHomeAt, all_counted, home_looked}
 
 -- each act is of the line, and of its seat
 abbrev pub AreOf : CoreTag → List DirAct → Type 0
@@ -75,6 +72,22 @@ module _ {D Y : Type 0} (Tells : Type 0) (files : D → Files) (faults fuses : D
 
     pub settings_held : (directory_of y).settings ≡ lock.settings
     settings_held = (kept_held.of).settings ∙ seated.settings
+
+    pub found_all : (view : HomesShown) → IsBehind seat.view (front_of y).shown → view ≡ (front_of y).shown → FoundAll lock begun lane (sight seat) (sight (record { turn = mid; view = view }))
+    found_all view behind all =
+        let own : mid.own ≡ (seat.turn).own = ap (λ (s : SeatState BegunAt DirAct). s.own) held.same in
+        let shown : view.deeds ≡ entries row_lock mid.seen = ap (λ (w : HomesShown). w.deeds) all ∙ kept_held.shown in
+        record {
+          seen = held.seen;
+          own = own;
+          history = record {
+            follows = (kept_held.of).follows;
+            below = subst (λ n. AllBelow row_lock.seat n mid.seen) seated.seats held.below;
+            own_is = ap (λ n. acts_of row_lock.seat n mid.seen) (sym seated.number) ∙ held.own ∙ sym own;
+          };
+          shown_from = subst (λ (w : HomesShown). IsPrefix (seat.view).deeds w.deeds) (sym all) behind.2;
+          shown = shown;
+        }
 
     module _ (tag : CoreTag) {y' : Y} (made : Option DirAct) (by_lane : lane ≡ tag.lane) (of : AreOf tag (acts_in made)) (kept : (begun : BegunAt) (acts : List DirAct) → KeptFor Tells files faults fuses begun acts (directory_of y) (front_of y) → KeptFor Tells files faults fuses begun (acts ++ acts_in made) (directory_of y') (front_of y')) where
       pub may_free : MayFree (λ a. a.seat) Stood mid y' (acts_in made)
@@ -151,17 +164,12 @@ module _ (start : Start) {lock : LockState} {begun : BegunAt} {lane : ℕ} {seat
   stood_first = ap (λ (r : RowsStanding). length (r.directory).rows) (sym same) ∙ seated.stood
 
   pub home_shown : (pair : Pair) (view : HomesShown) (published n : ℕ) (home : Option ℕ) → IsBehind seat.view view → published ≡ length (filter (λ (r : HomeRow). true) view.deeds) → n ≡ lock.stood + published
-      → RowOf with_row IsHomeOf view pair home → HomeShown start pair n home (sight seat) (sight (record { turn = seat.turn; view = view }))
-  home_shown pair view published n home behind counted all is =
-      let base = sym behind.1 ∙ seated.base in
-      let there = looks_show_homes view view _ _ (length view.deeds) pair home base (refl, refl, prefix_self view.deeds) refl is in
-      let whole : take (length view.deeds) view.deeds ≡ view.deeds = seen_first view.deeds view.deeds (length view.deeds) (prefix_self view.deeds) refl in
-      let rows : List HomeRow = ((begun.rows).directory).rows in
-      record {
-        looked = record { seen = refl; own = refl; shown = behind.2 };
-        front = omega (arith, all, counted, ap length (all_counted view.deeds), stood_first, length-append ((start.directory).directory).rows view.deeds);
-        is = ap (λ (r : RowsStanding). home_in ((r.directory).rows ++ view.deeds) pair) (sym same) ∙ ap (λ (l : List HomeRow). home_in (rows ++ l) pair) (sym whole) ∙ sym there;
-      }
+      → RowOf with_row IsHomeAt view pair home → HomeShown start pair n home (sight seat) (sight (record { turn = seat.turn; view = view }))
+  home_shown pair view published n home behind counted all is = record {
+    looked = record { seen = refl; own = refl; shown = behind.2 };
+    front = omega (arith, all, counted, ap length (all_counted view.deeds), stood_first, length-append ((start.directory).directory).rows view.deeds);
+    is = ap (λ (r : RowsStanding). home_in ((r.directory).rows ++ view.deeds) pair) (sym same) ∙ sym (home_looked view (first_homes begun) pair home (sym behind.1 ∙ seated.base) is);
+  }
 
 -- WHAT A CALL IS GIVEN, of the lock and of the seat as they are inside
 

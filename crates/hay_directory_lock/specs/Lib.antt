@@ -2,3 +2,4 @@ pub mod Begun
 pub mod Standing
 pub mod Seats
 pub mod Answers
+pub mod Rounds

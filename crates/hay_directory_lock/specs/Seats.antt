@@ -6,7 +6,7 @@ use Rattle.hay_turn.specs.Seats.{SeatState, TurnId}
 use Rattle.hay_meeting.specs.declared.act.DirAct.{DirAct}
 use Rattle.hay_meeting.specs.Locks.{LockSight}
 use Rattle.hay_holdings.specs.Holdings.{sight_of}
-use Rattle.hay_directory_lock.specs.Begun.{BegunAt, HomesShown}
+use Rattle.hay_directory_lock.specs.Begun.{BegunAt, HomesShown, first_homes}
 
 -- which lock it is, how many seats it has, the settings, and how many rows stood at first
 pub record LockState : Type 0 where
@@ -34,7 +34,7 @@ pub record IsAt (lock : LockState) (begun : BegunAt) (lane : ℕ) (holds : Bool)
   pub settings : begun.settings ≡ lock.settings
   pub stood : length ((begun.rows).directory).rows ≡ lock.stood
   pub front : (seat.view).front ≡ (begun.view).front
-  pub base : (seat.view).base ≡ Some (((begun.rows).directory).rows, (begun.settings).volumes)
+  pub base : (seat.view).base ≡ Some (first_homes begun, tt)
 
 abbrev pub IsSeated : LockState → BegunAt → ℕ → DirectorySeatState → Type 0
 IsSeated lock begun lane seat = IsAt lock begun lane false seat

@@ -11,10 +11,10 @@ use Rattle.hay_meeting.specs.declared.act.DirAct.{DirAct}
 use Rattle.hay_meeting.specs.Acts.{row_lock}
 use Rattle.hay_meeting.specs.Locks.{entries, left, replayed}
 use Rattle.hay_directory.specs.State.{State, Stands, home_of, is_frozen, mode_of}
-use Rattle.hay_directory_lock.specs.Begun.{BegunAt}
+use Rattle.hay_directory_lock.specs.Begun.{BegunAt, HomesAt, first_homes}
 
 abbrev pub HomeFront : Type 0
-HomeFront = FrontState (List HomeRow) ℕ HomeRow (LogEntry HomeRow)
+HomeFront = FrontState HomesAt (Unit {0}) HomeRow (LogEntry HomeRow)
 
 -- what stands of the Directory behind these acts
 abbrev pub standing : BegunAt → List DirAct → RowsStanding
@@ -36,7 +36,7 @@ pub record DirectoryFor {D : Type 0} (Tells : Type 0) (files : D → Files) (fau
 pub record KeptFor {D : Type 0} (Tells : Type 0) (files : D → Files) (faults fuses : D → ℕ) (begun : BegunAt) (acts : List DirAct) (directory : State D) (front : HomeFront) : Type 0 where
   pub of : DirectoryFor Tells files faults fuses begun acts directory
   pub front_is : (front.shown).front ≡ (begun.view).front
-  pub base : (front.shown).base ≡ Some (((begun.rows).directory).rows, (begun.settings).volumes)
+  pub base : (front.shown).base ≡ Some (first_homes begun, tt)
   pub shown : (front.shown).deeds ≡ entries row_lock acts
   -- a frozen Directory adds no row
   pub serves : is_frozen directory.mode ≡ false → front.closed ≡ false

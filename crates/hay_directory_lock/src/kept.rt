@@ -1,5 +1,5 @@
 //! The Directory and the front of its homes, as they stand behind the lock.
-ghost use Rattle.std.specs.Prelude.{◌≡◌, ◌<◌, ◌++◌, ◌∷◌, [], List, Bool, slice_set};
+ghost use Rattle.std.specs.Prelude.{◌≡◌, ◌<◌, ◌++◌, ◌∷◌, [], List, Bool, slice_set, IfOk};
 ghost use Rattle.std.specs.List.{AllByRecursion};
 ghost use Rattle.hay_front.specs.Fronts.{IsBehind};
 ghost use Rattle.hay_turn.specs.Slots.{acts_in};
@@ -15,6 +15,7 @@ ghost use Rattle.hay_directory_lock.specs.Standing.{KeptFor};
 ghost use Rattle.hay_directory_lock.specs.Answers.{Settles};
 
 use crate::act::RowAct;
+use crate::view::DirectoryView;
 use hay_base::Listed;
 use hay_core::CoreTag;
 use hay_directory::{DirFault, Directory};
@@ -25,7 +26,6 @@ use hay_legal::known::{DirKnown, HomeRow};
 use hay_meeting::DirDid;
 use hay_needle::Settings;
 use hay_turn::Kept;
-use hay_views::HomeView;
 use std::marker::Model;
 use std::sync::Wait;
 
@@ -36,7 +36,7 @@ pub struct Begun {
     drained: Listed<bool>,
     faults: u64,
     fuses: u64,
-    view: Seat<HomeView>,
+    view: Seat<DirectoryView>,
 }
 
 impl Model for Begun {
@@ -54,7 +54,7 @@ impl Model for Begun {
 /// The Directory, and the front of its homes. It is not `Drop`, since the front waits for looks that are under way: end it by `close`.
 pub struct KeptDirectory<D: Disk> {
     pub directory: Directory<D>,
-    pub front: Front<HomeView>,
+    pub front: Front<DirectoryView>,
 }
 
 impl<D: Disk> Kept for KeptDirectory<D> {
@@ -95,7 +95,7 @@ impl<D: Disk> KeptDirectory<D> {
     pub(crate) fn settle<R: Wait>(
         &mut self,
         rt: &R,
-        view: &mut Seat<HomeView>,
+        view: &mut Seat<DirectoryView>,
         tag: CoreTag,
         row: DirRow,
     ) -> (Result<(u32, u64), DirFault>, Option<RowAct<D>>)
@@ -107,6 +107,7 @@ impl<D: Disk> KeptDirectory<D> {
         ensures from { IsBehind view.old self.old.front.shown }
         ensures shown { view.new ≡ self.new.front.shown }
         ensures act { AllByRecursion (λ act. (act.tag ≡ tag) × (act.seat ≡ tag.lane)) (acts_in result.1) }
+        ensures below { IfOk result.0 (λ answer. answer.0 < self.old.directory.settings.volumes) }
         ensures settles { (start : Start) (begun : BegunAt) (acts : List DirAct) → KeptFor D.Tells D.files D.fault_count D.fuse_count begun acts self.old.directory self.old.front →
             begun.rows ≡ start.directory → Settles start (home_row row) result.0 acts result.1 }
     {
@@ -143,7 +144,7 @@ impl<D: Disk> KeptDirectory<D> {
     pub(crate) fn set_drained<R: Wait>(
         &mut self,
         rt: &R,
-        view: &mut Seat<HomeView>,
+        view: &mut Seat<DirectoryView>,
         tag: CoreTag,
         machine: u32,
         is_drained: bool,
@@ -171,7 +172,7 @@ impl<D: Disk> KeptDirectory<D> {
     pub(crate) fn fuse<R: Wait>(
         &mut self,
         rt: &R,
-        view: &mut Seat<HomeView>,
+        view: &mut Seat<DirectoryView>,
         tag: CoreTag,
         calls: u32,
     ) -> RowAct<D>

@@ -13,7 +13,9 @@
 mod act;
 mod kept;
 mod lock;
+mod view;
 
 pub use act::RowAct;
 pub use kept::{Begun, KeptDirectory};
 pub use lock::{DirectoryLock, DirectorySeat};
+pub use view::DirectoryView;

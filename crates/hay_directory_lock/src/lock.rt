@@ -1,12 +1,16 @@
 //! The lock and its seats.
-ghost use Rattle.std.specs.Prelude.{◌≡◌, ◌+◌, ◌<◌, ℕ, true, false};
+ghost use Rattle.std.specs.Prelude.{◌≡◌, ◌+◌, ◌<◌, ℕ, List, true, false, IfOk, IfSome};
 ghost use Rattle.hay_meeting.specs.Acts.{Start};
 ghost use Rattle.hay_holdings.specs.Rows.{Drained, FusedDir, HomeShown};
 ghost use Rattle.hay_directory_lock.specs.Begun.{BegunAt};
-ghost use Rattle.hay_directory_lock.specs.Seats.{IsSeated, sight};
+ghost use Rattle.hay_directory_lock.specs.Seats.{IsHolding, IsSeated, LockState, sight};
+ghost use Rattle.hay_directory_lock.specs.Standing.{KeptFor};
+ghost use Rattle.hay_directory_lock.specs.Rounds.{FoundAll, HasMet, ShownAll};
+ghost use Rattle.hay_meeting.specs.declared.act.DirAct.{DirAct};
 ghost use Rattle.hay_directory_lock.specs.Answers.{SettlesAs};
 
 use crate::kept::KeptDirectory;
+use crate::view::DirectoryView;
 use hay_core::CoreTag;
 use hay_directory::DirFault;
 use hay_dirfile::DirRow;
@@ -14,7 +18,6 @@ use hay_disk::Disk;
 use hay_front::Seat;
 use hay_needle::{Pair, Settings};
 use hay_turn::{Turn, TurnSeat};
-use hay_views::HomeView;
 use std::marker::Model;
 use std::sync::Wait;
 
@@ -38,7 +41,7 @@ impl<D: Disk> Model for DirectoryLock<D> {
 /// A lane's seat at the lock, with its seat of the published homes.
 pub struct DirectorySeat<D: Disk> {
     turn: TurnSeat<KeptDirectory<D>>,
-    view: Seat<HomeView>,
+    view: Seat<DirectoryView>,
 }
 
 impl<D: Disk> Model for DirectorySeat<D> {
@@ -71,6 +74,7 @@ impl<D: Disk> DirectoryLock<D> {
     ) -> (u64, Option<u32>)
         requires seated { (begun : BegunAt) × (lane : ℕ) × IsSeated self.now begun lane seat.old }
         ensures seated { (begun : BegunAt) (lane : ℕ) → IsSeated self.now begun lane seat.old → IsSeated self.now begun lane seat.new }
+        ensures below { IfSome result.1 (λ home. home < self.now.settings.volumes) }
         ensures shown { (start : Start) (begun : BegunAt) (lane : ℕ) → IsSeated self.now begun lane seat.old → begun.rows ≡ start.directory →
             HomeShown start pair result.0 result.1 (sight seat.old) (sight seat.new) }
     {
@@ -91,6 +95,7 @@ impl<D: Disk> DirectoryLock<D> {
         requires seated { (begun : BegunAt) × IsSeated self.now begun tag.lane seat.old }
         requires volume { volume < self.now.settings.volumes }
         ensures seated { (begun : BegunAt) (lane : ℕ) → IsSeated self.now begun lane seat.old → IsSeated self.now begun lane seat.new }
+        ensures below { IfOk result (λ answer. answer.0 < self.now.settings.volumes) }
         ensures settles { (start : Start) (begun : BegunAt) (lane : ℕ) → IsSeated self.now begun lane seat.old → begun.rows ≡ start.directory →
             SettlesAs start (record { pair = pair; volume = volume }) tag result (sight seat.old) (sight seat.new) }
     {
@@ -155,5 +160,54 @@ impl<D: Disk> DirectoryLock<D> {
         let mut kept = self.turn.hold(rt, &mut seat.turn);
         let act = kept.fuse(rt, &mut seat.view, tag, calls);
         self.turn.free(&mut seat.turn, kept, Some(act));
+    }
+
+    /// Waits for this seat's turn, and takes the Directory, with the front of its homes. The seat is shown all of them.
+    pub fn hold<R: Wait>(&self, rt: &R, seat: &mut DirectorySeat<D>) -> KeptDirectory<D>
+        requires seated { (begun : BegunAt) × (lane : ℕ) × IsSeated self.now begun lane seat.old }
+        ensures holding { (begun : BegunAt) (lane : ℕ) → IsSeated self.now begun lane seat.old → IsHolding self.now begun lane seat.new }
+        ensures kept { (begun : BegunAt) (lane : ℕ) → IsSeated self.now begun lane seat.old →
+            KeptFor D.Tells D.files D.fault_count D.fuse_count begun seat.new.turn.seen result.directory result.front }
+        ensures found { (begun : BegunAt) (lane : ℕ) → IsSeated self.now begun lane seat.old →
+            FoundAll self.now begun lane (sight seat.old) (sight seat.new) }
+    {
+        let kept = self.turn.hold(rt, &mut seat.turn);
+        kept.front.show_all(rt, &mut seat.view);
+        kept
+    }
+
+    /// Puts the Directory back as it was, and lets the next seat have its turn.
+    pub fn free(&self, seat: &mut DirectorySeat<D>, kept: KeptDirectory<D>)
+        requires kept { (begun : BegunAt) × (lane : ℕ) × IsHolding self.now begun lane seat.old
+            × KeptFor D.Tells D.files D.fault_count D.fuse_count begun seat.old.turn.seen kept.directory kept.front }
+        ensures seated { (begun : BegunAt) (lane : ℕ) → IsHolding self.now begun lane seat.old → IsSeated self.now begun lane seat.new }
+        ensures same { sight seat.new ≡ sight seat.old }
+    {
+        self.turn.free(&mut seat.turn, kept, None);
+    }
+
+    /// What the other seat has seen, this one then has seen too.
+    pub fn meet(&self, seat: &mut DirectorySeat<D>, other: &mut DirectorySeat<D>)
+        requires seated { (begun : BegunAt) × (lane : ℕ) × IsSeated self.now begun lane seat.old }
+        requires other { (begun : BegunAt) × (lane : ℕ) × IsSeated self.now begun lane other.old }
+        ensures seated { (begun : BegunAt) (lane : ℕ) → IsSeated self.now begun lane seat.old → IsSeated self.now begun lane seat.new }
+        ensures met { (begun : BegunAt) (lane : ℕ) → IsSeated self.now begun lane seat.old →
+            HasMet self.now begun lane (sight seat.old) (sight other.old) (sight seat.new) }
+        ensures same { other.new ≡ other.old }
+    {
+        self.turn.meet(&mut seat.turn, &mut other.turn);
+    }
+}
+
+impl<D: Disk> DirectorySeat<D> {
+    /// Shows the seat all homes, while another one holds the lock.
+    pub fn show<R: Wait>(&mut self, rt: &R, kept: &KeptDirectory<D>)
+        requires kept { (lock : LockState) × (begun : BegunAt) × (lane : ℕ) × (acts : List DirAct) × IsSeated lock begun lane self.old
+            × KeptFor D.Tells D.files D.fault_count D.fuse_count begun acts kept.now.directory kept.now.front }
+        ensures seated { (lock : LockState) (begun : BegunAt) (lane : ℕ) → IsSeated lock begun lane self.old → IsSeated lock begun lane self.new }
+        ensures shown { (begun : BegunAt) (acts : List DirAct) →
+            KeptFor D.Tells D.files D.fault_count D.fuse_count begun acts kept.now.directory kept.now.front → ShownAll acts (sight self.old) (sight self.new) }
+    {
+        kept.front.show_all(rt, &mut self.view);
     }
 }

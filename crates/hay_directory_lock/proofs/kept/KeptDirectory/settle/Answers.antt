@@ -10,7 +10,7 @@ use Rattle.hay_directory.specs.Rows.{home_row}
 use Rattle.hay_directory.specs.State.{IsRowWritten, LeavesMode, Stands, home_of, is_frozen}
 use Rattle.hay_directory_lock.specs.Standing.{HomeFront}
 use Rattle.hay_directory_lock.proofs.Acting.{added, pended, tried}
-use Rattle.hay_directory_lock.proofs.Answering.{failed_in, found_home, may_publish, not_true, published}
+use Rattle.hay_directory_lock.proofs.Answering.{failed_in, found_home, kept_within, may_publish, not_true, published}
 use Rattle.hay_directory_lock.proofs.kept.KeptDirectory.settle.Goals as goal
 
 pub returns-in-Some-clause-settles : goal.returns-in-Some-clause-settles
@@ -48,7 +48,7 @@ returns-in-Err-Failed-clause-settles g c = λ start begun acts k same.
 pub publish-requires-clause-fact : goal.publish-requires-clause-fact
 publish-requires-clause-fact g c =
     let k = c.requires.kept.2 in
-    λ κs within m b is. may_publish c.args.self.now.front.shown _ _ (home_row c.args.row) k.base c.show_all.ensures.fact (subst (λ (s : Settings). c.args.row.volume < s.volumes) (k.of).settings c.requires.volume) m b is
+    λ κs within m b is. may_publish c.args.self.now.front.shown _ (home_row c.args.row) k.base c.show_all.ensures.fact (subst (λ (s : Settings). c.args.row.volume < s.volumes) (k.of).settings c.requires.volume) m b is
 
 pub returns-in_default-publish-clause-kept : goal.returns-in_default-publish-clause-kept
 returns-in_default-publish-clause-kept g c = λ begun acts k.
@@ -83,3 +83,7 @@ returns-clause-settles g c = λ start begun acts k same.
       published g.D.Disk.Tells files faults fuses start same (acts ++ c.of-act-2.result ∷ []) _ _ c.front-2.result (returns-clause-kept g c begun acts k) c.front-2.ensures.counted,
       inr (refl, ap (λ (a : DirAct). row_did_of a.did) c.of-act-2.ensures, found_home g.D.Disk.Tells files faults fuses start same acts _ _ c.args.row.pair None k homeless),
     )
+
+pub returns-in-Some-clause-below : goal.returns-in-Some-clause-below
+returns-in-Some-clause-below g c =
+    kept_within g.D.Disk.Tells g.D.Disk.files g.D.Disk.fault_count g.D.Disk.fuse_count c.requires.kept.0 c.requires.kept.1 c.args.self.now.directory c.args.self.now.front c.args.row.pair c.in-Some.home c.requires.kept.2 c.show_all.ensures.fact (sym c.in-Some.ensures.kept)

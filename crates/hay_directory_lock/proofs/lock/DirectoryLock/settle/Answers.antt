@@ -1,4 +1,4 @@
-use Rattle.std.proofs.Common.{◌<◌, refl, sym, subst, ◌∙◌}
+use Rattle.std.proofs.Common.{IfOk, ◌<◌, refl, sym, subst, ◌∙◌}
 use Rattle.hay_needle.specs.declared.settings.Settings.{Settings}
 use Rattle.hay_directory_lock.specs.Seats.{DirectorySeatState, LockState, sight}
 use Rattle.hay_legal.specs.declared.known.HomeRow.{HomeRow}
@@ -43,4 +43,13 @@ returns-clause-settles g c = rw (← c.seat.view_is) (λ start begun lane seated
           (told_home start row all w.in-Ok.home c.self.inside.stood w.in-Ok.published w.all_rows.result (stood_first start here same) w.all_rows.ensures (subst (λ r. Settles start row r c.hold-kept.new.seat.seen c.settle-answer.result.1) w.in-Ok.is settled))
       | in-Err w ↦ subst (λ r. SettlesAs start row c.args.tag r (sight before) (sight after)) (sym w.result-is)
           (told_refusal start row all w.in-Err.fault (subst (λ r. Settles start row r c.hold-kept.new.seat.seen c.settle-answer.result.1) w.in-Err.is settled))
+    ])
+
+pub returns-clause-below : goal.returns-clause-below
+returns-clause-below g c = rw (← c.self.view_is)
+    (let below = c.settle-answer.ensures.below in
+    elim c.match-answer.branch [
+      | in-Ok w ↦ subst (λ r. IfOk r (λ answer. answer.0 < (c.self.inside.settings).volumes)) (sym w.result-is)
+          (subst (λ (s : Settings). w.in-Ok.home < s.volumes) (settings_held g.D.Disk.Tells g.D.Disk.files g.D.Disk.fault_count g.D.Disk.fuse_count (λ y. y.directory) (λ y. y.front) (seated_in c.self.view_is c.seat.view_is c.requires.seated.1) c.hold-kept.ensures) (subst (λ r. IfOk r (λ answer. answer.0 < (c.hold-kept.result.directory.settings).volumes)) w.in-Ok.is below))
+      | in-Err w ↦ subst (λ r. IfOk r (λ answer. answer.0 < (c.self.inside.settings).volumes)) (sym w.result-is) tt
     ])
