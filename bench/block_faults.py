@@ -228,6 +228,10 @@ def open_behind_failure(self, machine):
     pass
 
 
+def open_behind_want(self, pending):
+    pass
+
+
 def older_rows(self, lane):
     rows = Views.look(self, lane)
     return self.views[max(0, self.seen[lane] - 1)] if self.draw.random() < 0.1 else rows
@@ -332,10 +336,11 @@ FAULTS = {
     "a compaction leaves a generation out": of_replica(next_generation=two_further),
     "a compaction drops the cells that came meanwhile": of_replica(examine_rest=rest_unexamined),
     "busy where no compaction stands": store_with(refused_begin=busy_at_times),
-    "a compaction goes on in a frozen volume": type(
-        "FaultyStore", (Store,), {"refused_run": unfrozen_run, "volume_kind": type("FaultyVolume", (Volume,), {"freeze": freeze_beside_runs})}
+    "a compaction goes on in a frozen volume": store_with(
+        refused_run=unfrozen_run, volume_kind=type("FaultyVolume", (Volume,), {"freeze": freeze_beside_runs})
     ),
     "a failed change does not freeze the volume": of_volume(freeze=open_behind_failure),
+    "want of memory behind a change leaves the volume open": of_volume(want_memory=open_behind_want),
     "full tells an end eight bytes further": of_volume(refusal=end_further),
     "a lane is shown fewer rows than before": of_directory(views_kind=type("FaultyViews", (Views,), {"look": older_rows})),
     "a restart loses the last cell": of_replica(power_cycle=last_cell_lost),

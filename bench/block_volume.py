@@ -45,7 +45,7 @@ class Copy(NamedTuple):
 
 
 class Pending(NamedTuple):
-    """A change that was broken off, with the machine whose disk failed."""
+    """A change that was broken off, with the machine whose disk failed, or none where memory was wanting."""
 
     line: int
     pair: tuple
@@ -111,10 +111,9 @@ def flagged(cells, pair):
 
 def examined_to(replica, upto):
     """The copy behind the examination of the old file's first so many cells."""
-    copied = tuple(
-        cell for i, cell in enumerate(replica.cells[replica.copy.examined : upto], replica.copy.examined) if not cell.deleted and replica.last_of(cell.pair) == i
-    )
-    return replica.copy._replace(examined=upto, cells=replica.copy.cells + copied)
+    cells, copy = replica.cells, replica.copy
+    copied = tuple(cells[i] for i in range(copy.examined, upto) if not cells[i].deleted and replica.last_of(cells[i].pair) == i)
+    return copy._replace(examined=upto, cells=copy.cells + copied)
 
 
 def finished(replica):
@@ -281,6 +280,28 @@ class DeleteFailed(Part):
 
 
 @dataclass(frozen=True)
+class Wanted(Part):
+    """A put, delete or read that wanted memory: it changed nothing, or froze the volume with one of these pending."""
+
+    pendings: tuple
+    size: int = None
+    waits = True
+
+    def held(self, scene, side):
+        is_change = self.pendings != (None,)
+        if side.frozen is not None or is_change and scene.closed(side) is not None:
+            return [(side, None)]
+        if self.size is not None and scene.lacks(side.replica.end(), self.size):
+            return [(side, None)]
+        pendings = [pending for pending in self.pendings if self.may_be(scene, side, pending)]
+        return [(side, None)] + [(side.froze(scene.machine(0), pending), None) for pending in pendings]
+
+    def may_be(self, scene, side, pending):
+        """A deletion is pending only of a photo that stands."""
+        return pending is None or pending.photo is not None or scene.holders(side, pending.pair) != []
+
+
+@dataclass(frozen=True)
 class Absent(Part):
     """A delete of a photo that no replica has."""
 
@@ -361,7 +382,7 @@ class Shown(Part):
 
     def steps(self, scene, side, seen):
         if not seen <= self.front <= side.front:
-            raise NotNow(f"the lane had seen {seen} entries of volume {scene.volume}, which has {side.front}, and the line tells {self.front}")
+            raise NotNow(f"the lane had seen {seen} of the {side.front} entries of volume {scene.volume}, and the line tells {self.front}")
         for j, count in self.disks:
             side = scene.counted(side, j, count)
         return [(side, None, self.front)]
@@ -411,7 +432,13 @@ class Work(Part):
     reply: object
     target: int = 0
 
+    @property
+    def waits(self):
+        return self.reply.word == "nomem"
+
     def held(self, scene, side):
+        if self.reply.word == "nomem":
+            return [(side, None)] + (self.wanted(scene, side) if side.frozen is None else [])
         if side.frozen is not None:
             if self.reply.word != "readonly" or self.reply.groups[0].machine != side.frozen:
                 raise NotNow(f"volume {scene.volume} is frozen by machine {side.frozen}")
@@ -425,6 +452,16 @@ class Work(Part):
         if self.reply.word != "failed" or isinstance(self, Step) or type(self) is Begin:
             return [(side, None)]
         return [(side, None), (side.froze(scene.machine(self.replica)), None)]
+
+    def wanted(self, scene, side):
+        """What may stand behind work that wanted memory, besides what stood before."""
+        if scene.own != self.replica:
+            return [(side.froze(scene.machine(0)), None)]
+        return self.wanted_here(scene, side)
+
+    def ended(self, scene, side):
+        """The run is none, or memory was wanting to publish the swap, and the volume is frozen by replica 0's machine."""
+        return [(side.with_replica(copy=None), None), (swapped(side).froze(scene.machine(0)), None)]
 
     def fails(self, side, **changes):
         """The replica behind a failed call of its disk, where the line may have met one."""
@@ -465,6 +502,11 @@ class Begin(Work):
 
 
 class Compact(Begin):
+    def wanted_here(self, scene, side):
+        if side.replica.copy is not None or side.replica.generation == LAST_GENERATION:
+            return []
+        return self.began(side.with_replica(copy=Copy(side.replica.generation + 1, 0, (), self.line)))
+
     def began(self, side):
         return [(side, Examine(self.line, self.replica, self.reply, len(side.replica.cells)))]
 
@@ -473,16 +515,32 @@ class Examine(Work):
     """A `compact` behind its beginning: up to 64 cells at once until `target` are examined, and then the end."""
 
     def open(self, scene, side):
-        copy = side.replica.copy
-        if copy is None or copy.owner != self.line:
+        if not self.stands(side):
             self.needs("failed", "the line's compaction does not stand any more")
             return [(side, None)]
         failed = self.fails(side, copy=None)
-        if copy.examined >= self.target:
+        if side.replica.copy.examined >= self.target:
             return failed + self.ends(scene, side)
-        most = copy.examined + EXAMINED_AT_ONCE
+        return failed + self.goes_on(side)
+
+    def stands(self, side):
+        return side.replica.copy is not None and side.replica.copy.owner == self.line
+
+    def goes_on(self, side):
+        most = side.replica.copy.examined + EXAMINED_AT_ONCE
         ends = {min(most, self.target), min(most, len(side.replica.cells))}
-        return failed + [(side.with_replica(copy=examined_to(side.replica, upto)), self) for upto in sorted(ends)]
+        return [(side.with_replica(copy=examined_to(side.replica, upto)), self) for upto in sorted(ends)]
+
+    def held(self, scene, side):
+        if self.reply.word != "nomem" or side.frozen is not None or not self.stands(side):
+            return super().held(scene, side)
+        if side.replica.copy.examined >= self.target:
+            return self.ended(scene, side)
+        return [(side.with_replica(copy=None), None)] + self.goes_on(side)
+
+    def wanted_here(self, scene, side):
+        """Another line ended the compaction."""
+        return []
 
     def ends(self, scene, side):
         if self.reply.word == "compacted":
@@ -501,6 +559,16 @@ class Idle(Work):
 class Step(Idle):
     """A `step` of up to `target` cells."""
 
+    def wanted(self, scene, side):
+        return super().wanted(scene, side) if scene.own == self.replica else []
+
+    def wanted_here(self, scene, side):
+        if side.replica.copy is None:
+            return []
+        examined = side.replica.copy.examined
+        upto = range(examined + 1, min(len(side.replica.cells), examined + self.target) + 1)
+        return [(side.with_replica(copy=examined_to(side.replica, cells)), None) for cells in upto]
+
     def standing(self, scene, side):
         if self.reply.word == "failed":
             return self.fails(side, copy=None)
@@ -513,6 +581,9 @@ class Step(Idle):
 
 
 class Finish(Idle):
+    def wanted_here(self, scene, side):
+        return [] if side.replica.copy is None else self.ended(scene, side)
+
     def standing(self, scene, side):
         if self.reply.word == "failed":
             return self.fails(side, copy=None) + self.fails_to_switch(scene, side)

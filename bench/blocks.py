@@ -55,11 +55,12 @@ It does not hold these:
 - of a refusal of a volume of several replicas it does not ask that one moment fits all replicas, and of an earlier try without a group
   it asks for a lack of room only where no other replica can lack it in the block;
 - of `readonly dir` in a block it does not ask that a try takes the photo;
-- `nomem` is not judged: a turn that has it, or that has more orders than can be looked at, is undecided.
+- a turn that has more orders than can be looked at is undecided, and so is a restart that is answered `nomem`.
 """
 
 import argparse
 import collections
+import itertools
 import random
 import subprocess
 import sys
@@ -73,8 +74,9 @@ from block_store import Store
 SIZES = ((0, 1, 20, 600), (1, 500, 900, 1500), (3, 40, 3000))
 MIXES = ((5, 4, 1, 2, 1, 1, 1), (8, 2, 0, 2, 0, 1, 1), (3, 8, 2, 1, 1, 0, 0), (5, 2, 0, 3, 0, 2, 3))
 MOST_LINES = 40
-# how often an arm fails, or a look at a disk
+# how often an arm fails, or a look at a disk; and how often memory is wanting
 FLAKY = (0, 0, 0, 0.1)
+SCARCE = (0, 0, 0, 0, 0, 0.02)
 
 
 # SCRIPTS
@@ -169,18 +171,21 @@ class Script:
 
     def add_reads(self):
         """Reads each pair from each replica, and flushes and compacts each at times."""
-        for key in range(self.keys):
-            for alt in (1, 2):
-                self.lines += [f"read {key} {alt} {text.cookie_of(self.settings.secret, key):x}"] * self.settings.replicas
-        for volume in range(self.settings.volumes):
-            for replica in range(self.settings.replicas):
-                if self.draw.random() < 0.3:
-                    self.lines.append(f"{self.draw.choice(('flush', 'compact'))} {volume} {self.settings.machine_of(volume, replica)}")
+        for key, alt in itertools.product(range(self.keys), (1, 2)):
+            self.lines += [f"read {key} {alt} {text.cookie_of(self.settings.secret, key):x}"] * self.settings.replicas
+        for volume, replica in itertools.product(range(self.settings.volumes), range(self.settings.replicas)):
+            if self.draw.random() < 0.3:
+                word = self.draw.choice(("flush", "compact"))
+                self.lines.append(f"{word} {volume} {self.settings.machine_of(volume, replica)}")
 
 
 def flaky_of(seed):
     """How often a read of a script's store fails."""
     return random.Random(seed).choice(FLAKY)
+
+
+def store_of(kind, script, seed):
+    return kind(script.settings, seed, flaky_of(seed), random.Random(f"memory {seed}").choice(SCARCE))
 
 
 def verdicts_of(script, transcript, sure):
@@ -190,7 +195,7 @@ def verdicts_of(script, transcript, sure):
 def transcript_of(program, script, seed):
     """What the program prints of a script, or the store where there is no program."""
     if program is None:
-        return Store(script.settings, seed, flaky_of(seed)).run(script.text())
+        return store_of(Store, script, seed).run(script.text())
     done = subprocess.run([program, "run", *script.settings.words()], input=script.text(), capture_output=True, timeout=600, check=False)
     if done.returncode != 0:
         sys.exit(f"seed {seed}: status {done.returncode}, {done.stderr!r}")
@@ -201,32 +206,30 @@ def transcript_of(program, script, seed):
 
 
 class Tally:
-    """How blocks and other items were judged, and which replies stand in the blocks."""
+    """How blocks and other items were judged, and which replies and notes their transcripts have."""
 
     def __init__(self):
-        self.blocks, self.plain, self.lanes, self.replies = (collections.Counter() for _ in range(4))
+        self.blocks, self.plain, self.lanes, self.in_blocks, self.others = (collections.Counter() for _ in range(5))
 
     def add(self, verdicts, transcript, script):
-        lines_of = {asked.line for item in text.items_of(script) if isinstance(item, text.Block) for asked in item.asked}
         for verdict in verdicts:
-            if verdict.is_block:
-                self.blocks[verdict.word] += 1
-                self.lanes[verdict.lanes] += 1
-            else:
-                self.plain[verdict.word] += 1
+            (self.blocks if verdict.is_block else self.plain)[verdict.word] += 1
+        items = [item for item in text.items_of(script) if isinstance(item, text.Block)]
+        self.lanes.update(len({asked.lane for asked in item.asked if asked.command}) for item in items)
+        in_block = {str(asked.line) for item in items for asked in item.asked}
         for line in transcript.splitlines()[1:]:
             first, _, reply = line.partition(" ")
-            if first.isdigit() and int(first) in lines_of:
-                self.replies[text.reply_of(reply).word] += 1
+            counter = self.in_blocks if first in in_block else self.others
+            counter[text.reply_of(reply).word if first.isdigit() else first] += 1
 
     def told(self):
         def parts(counter):
-            return ", ".join(f"{count} {word}" for word, count in sorted(counter.items(), key=lambda item: str(item[0])))
+            return ", ".join(f"{count} {word}" for word, count in sorted(counter.items()))
 
+        lanes = ", ".join(f"{count} of {number}" for number, count in sorted(self.lanes.items()))
         return (
-            f"blocks: {parts(self.blocks)}; other items: {parts(self.plain)}\n"
-            f"blocks by the lanes that have lines: {', '.join(f'{lanes}: {count}' for lanes, count in sorted(self.lanes.items()))}\n"
-            f"replies in blocks: {parts(self.replies)}"
+            f"blocks: {parts(self.blocks)}; other items: {parts(self.plain)}\nblocks by their lanes: {lanes}\n"
+            f"replies in blocks: {parts(self.in_blocks)}\nother replies, and notes: {parts(self.others)}"
         )
 
 
@@ -260,7 +263,7 @@ def found_by(kind, options):
     for count in range(1, options.scripts + 1):
         seed = options.seed + count
         script = Script(seed)
-        transcript = kind(script.settings, seed, flaky_of(seed)).run(script.text())
+        transcript = store_of(kind, script, seed).run(script.text())
         last = verdicts_of(script, transcript, flaky_of(seed) == 0)[-1]
         if last.word != "unlawful":
             continue
