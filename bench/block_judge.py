@@ -245,7 +245,7 @@ def groups(case):
 
 
 def needs(case, line):
-    """B6: NEED is the photo's total, and END, NEED and 8 are above the capacity."""
+    """NEED is the photo's total, and END, NEED and 8 are above the capacity."""
     lacking = [group for group in line.reply.groups if group.end is not None]
     if not lacking:
         yield told(line, "no try lacks room")
@@ -256,23 +256,23 @@ def needs(case, line):
             yield told(line, f"{group.end}, {group.need} and 8 are not above the capacity")
 
 
-# B1 AND B2: THE LOG AND THE ROWS
+# THE LOG AND THE ROWS
 
 
 def new_entries(settings, world, turn):
-    """B1: the log notes have each acknowledged line once, at its printed position. Answers the new entries of each volume."""
+    """The log notes have each acknowledged line once, at its printed position. Answers the new entries of each volume."""
     named = [note.volume for note in turn.logs]
     if named != sorted(set(named)) or any(volume >= settings.volumes for volume in named):
-        raise Unlawful("B1: the notes of logs are not one for each volume upwards")
+        raise Unlawful("log: the notes of logs are not one for each volume upwards")
     said = {(line.line, line.reply.volume, line.reply.front) for line in turn.lines if line.reply.word in ("stored", "deleted")}
     noted = {(line, note.volume, position) for note in turn.logs for position, line in enumerate(note.lines, note.start + 1)}
     for line, volume, position in sorted(said ^ noted):
         which = "is answered so, but not noted" if (line, volume, position) in said else "is noted so, but not answered"
-        raise Unlawful(f"B1: line {line}: entry {position} of volume {volume} {which}")
+        raise Unlawful(f"log: line {line}: entry {position} of volume {volume} {which}")
     entries, by_line = [[] for _ in range(settings.volumes)], {line.line: line for line in turn.lines}
     for note in turn.logs:
         if note.start != len(world.logs[note.volume]) or len(set(note.lines)) != len(note.lines):
-            raise Unlawful(f"B1: log {note.volume} {note.start}: its log had another length, or a line is noted twice")
+            raise Unlawful(f"log: log {note.volume} {note.start}: its log had another length, or a line is noted twice")
         entries[note.volume] = [entry_of(settings, by_line[line]) for line in note.lines]
     return entries
 
@@ -280,32 +280,32 @@ def new_entries(settings, world, turn):
 def entry_of(settings, line):
     command = line.command
     if command is None or command.word not in ("put", "del"):
-        raise Unlawful(f"B1: line {line.line} is no put or delete")
+        raise Unlawful(f"log: line {line.line} is no put or delete")
     photo = (text.cookie_of(settings.secret, command.pair[0]), command.data) if command.word == "put" else None
     return Entry(line.line, command.pair, photo)
 
 
 def new_rows(settings, world, turn):
-    """B2: each new row is that of one put line, for a pair that had none, at one of its tries. Answers the lines and rows."""
+    """Each new row is that of one put line, for a pair that had none, at one of its tries. Answers the lines and rows."""
     if turn.rows is None:
         return []
     if turn.rows.start != len(world.directory.rows):
-        raise Unlawful(f"B2: rows {turn.rows.start}: the Directory had {len(world.directory.rows)}")
+        raise Unlawful(f"rows: rows {turn.rows.start}: the Directory had {len(world.directory.rows)}")
     if world.directory.frozen:
-        raise Unlawful("B2: the Directory was frozen before")
+        raise Unlawful("rows: the Directory was frozen before")
     by_line, rows = {line.line: line for line in turn.lines}, []
     for number, volume in turn.rows.rows:
         line = by_line.get(number)
         if line is None or line.command is None or line.command.word != "put":
-            raise Unlawful(f"B2: line {number} has a row, and is no put of the block")
+            raise Unlawful(f"rows: line {number} has a row, and is no put of the block")
         pair = line.command.pair
         if home_in(world.directory.rows, pair) is not None or any(row.pair == pair for _, row in rows):
-            raise Unlawful(f"B2: line {number}: its pair has a row already")
+            raise Unlawful(f"rows: line {number}: its pair has a row already")
         if volume >= settings.volumes:
-            raise Unlawful(f"B2: line {number}: there is no volume {volume}")
+            raise Unlawful(f"rows: line {number}: there is no volume {volume}")
         lone = [group.volume for group in line.reply.groups] == [volume]
         if line.reply.volume != volume and not lone and line.reply.word != "nomem":
-            raise Unlawful(f"B2: line {number} has a row for volume {volume}, of which its reply does not tell")
+            raise Unlawful(f"rows: line {number} has a row for volume {volume}, of which its reply does not tell")
         rows.append((number, Row(pair, volume)))
     return rows
 
@@ -325,7 +325,7 @@ def notes_of_plain(settings, world, line):
     return [(logs, None if volume is None else text.RowNote(rows, ((line.line, volume),))) for volume in tries]
 
 
-# B3: THE FRONTS OF EACH LANE
+# THE FRONTS OF EACH LANE
 
 
 def fronts(case):
@@ -336,22 +336,22 @@ def fronts(case):
             reply, own = line.reply, case.row_of.get(line.line)
             if own is not None:
                 if own <= rows:
-                    yield told(line, f"B3: its row is number {own}, and the lane had been told of {rows}")
+                    yield told(line, f"fronts: its row is number {own}, and the lane had been told of {rows}")
                 rows = max(rows, own)
             if reply.rows is not None:
                 if not rows <= reply.rows <= len(case.rows):
-                    yield told(line, f"B3: {reply.rows} rows, where the lane had been told of {rows}, and there are {len(case.rows)}")
+                    yield told(line, f"fronts: {reply.rows} rows, where the lane had been told of {rows}, and there are {len(case.rows)}")
                 rows = max(rows, reply.rows)
             if reply.front is None or reply.volume >= case.settings.volumes:
                 continue
             least = seen[reply.volume] + (reply.word in ("stored", "deleted"))
             if not least <= reply.front <= case.behind(reply.volume):
                 most = case.behind(reply.volume)
-                yield told(line, f"B3: front {reply.front} of volume {reply.volume}, where {least} to {most} may be told")
+                yield told(line, f"fronts: front {reply.front} of volume {reply.volume}, where {least} to {most} may be told")
             seen[reply.volume] = max(seen[reply.volume], reply.front)
 
 
-# B4: ANSWERS AT THEIR FRONTS
+# ANSWERS AT THEIR FRONTS
 
 
 def answers(case):
@@ -361,27 +361,27 @@ def answers(case):
         if command is None or command.pair is None:
             continue
         if reply.word == "unknown" and case.home(command.pair, reply.rows) is not None:
-            yield told(line, f"B4: the pair has a home among the first {reply.rows} rows")
+            yield told(line, f"answers: the pair has a home among the first {reply.rows} rows")
         elif reply.word == "moved" and (case.home(command.pair, reply.rows) != reply.volume or reply.volume == command.url.volume):
-            yield told(line, "B4: not the pair's home, or the URL's volume")
+            yield told(line, "answers: not the pair's home, or the URL's volume")
         elif reply.word == "url":
             yield from right_url(case, line)
         elif reply.front is not None:
             yield from at_home(case, line)
         if reply.word == "failed" and command.word in ("put", "del") and reply.volume != case.home(command.pair):
-            yield told(line, "B4: not the pair's home")
+            yield told(line, "answers: not the pair's home")
 
 
 def at_home(case, line):
     command, reply = line.command, line.reply
     if case.home(command.pair, reply.rows) != reply.volume:
-        yield told(line, f"B4: the pair's home among the first {reply.rows} rows is {case.home(command.pair, reply.rows)}")
+        yield told(line, f"answers: the pair's home among the first {reply.rows} rows is {case.home(command.pair, reply.rows)}")
     elif command.word == "get" and reply.volume != command.url.volume:
-        yield told(line, "B4: not the URL's volume")
+        yield told(line, "answers: not the URL's volume")
     elif reply.word == "stored" and reply.cookie != text.cookie_of(case.settings.secret, command.pair[0]):
-        yield told(line, "B4: not the cookie of the key")
+        yield told(line, "answers: not the cookie of the key")
     elif not case.before(reply.volume) <= reply.front <= case.behind(reply.volume):
-        yield told(line, "B3: no front of the block")
+        yield told(line, "fronts: no front of the block")
     elif reply.word == "unreadable":
         yield from right_causes(case, line)
     elif reply.word in SHOWS:
@@ -390,14 +390,14 @@ def at_home(case, line):
         front = reply.front - (reply.word == "deleted")
         has = any(command.pair in case.table(reply.volume, j, front) for j in range(case.settings.replicas))
         if has != (reply.word == "deleted"):
-            yield told(line, f"B4: {'a' if has else 'no'} replica has a photo behind {front} entries")
+            yield told(line, f"answers: {'a' if has else 'no'} replica has a photo behind {front} entries")
 
 
 def right_photo(case, line):
     command, reply = line.command, line.reply
     replica = case.settings.replica_on(reply.volume, reply.machine)
     if replica is None:
-        yield told(line, "B4: the volume has no replica on this machine")
+        yield told(line, "answers: the volume has no replica on this machine")
         return
     photo = case.table(reply.volume, replica, reply.front).get(command.pair)
     if photo is None:
@@ -406,29 +406,29 @@ def right_photo(case, line):
         due = ("photo", photo[1]) if photo[0] == command.cookie else ("wrong cookie", None)
     if due != (reply.word, reply.data):
         shown = "" if due[1] is None else " " + text.photo_text(due[1])[:40]
-        yield told(line, f"B4: behind {reply.front} entries the replica on {reply.machine} shows: {due[0]}{shown}")
+        yield told(line, f"answers: behind {reply.front} entries the replica on {reply.machine} shows: {due[0]}{shown}")
 
 
 def right_url(case, line):
     home = case.home(line.command.pair, line.reply.rows)
     if home is None:
-        yield told(line, f"B4: the pair has no home among the first {line.reply.rows} rows")
+        yield told(line, f"answers: the pair has no home among the first {line.reply.rows} rows")
         return
     machine = case.settings.machine_of(home, case.start_of(line))
     due = text.Url(machine, home, line.command.pair, text.cookie_of(case.settings.secret, line.command.pair[0]))
     if line.reply.url != due:
-        yield told(line, f"B4: the URL is {due.text()}")
+        yield told(line, f"answers: the URL is {due.text()}")
 
 
 def right_causes(case, line):
     order = [case.settings.machine_of(line.reply.volume, j) for j in case.settings.order_from(case.start_of(line))]
     if [cause.machine for cause in line.reply.causes] != order:
-        yield told(line, "B4: not one group for each replica, in the order of tries")
+        yield told(line, "answers: not one group for each replica, in the order of tries")
     if any(cause.of == "damage" for cause in line.reply.causes):
-        yield told(line, "B4: no replica is damaged")
+        yield told(line, "answers: no replica is damaged")
 
 
-# B5: COUNTS
+# COUNTS
 
 
 def counts(case):
@@ -436,10 +436,10 @@ def counts(case):
     found = set()
     for line, disk, count in [(line, *one) for line in case.lines for one in disk_counts(case, line)]:
         if (disk, count) in found and count != LONG:
-            yield told(line, f"B5: the count {count} of one disk is told twice")
+            yield told(line, f"counts: the count {count} of one disk is told twice")
         found.add((disk, count))
         if not rises(count, least_count(case, disk)):
-            yield told(line, f"B5: the disk's count stood at {least_count(case, disk)} before the block")
+            yield told(line, f"counts: the disk's count stood at {least_count(case, disk)} before the block")
 
 
 def arm_counts(case):
@@ -447,7 +447,7 @@ def arm_counts(case):
     arms = list(case.world.arms)
     for line, count in [(line, cause.number) for line in case.lines for cause in line.reply.causes if cause.of == "arm"]:
         if not rises(count, arms[line.lane]):
-            yield told(line, f"B5: the arm's count stood at {arms[line.lane]}, so it did not rise to {count}")
+            yield told(line, f"counts: the arm's count stood at {arms[line.lane]}, so it did not rise to {count}")
         arms[line.lane] = max(arms[line.lane], count)
 
 
@@ -477,20 +477,20 @@ def arms_behind(case):
     return tuple(arms)
 
 
-# B6 AND B7: REFUSALS FOR ROOM, FREEZES AND COMPACTIONS, BY WHAT THE BLOCK HAS
+# REFUSALS FOR ROOM, FREEZES AND COMPACTIONS, BY WHAT THE BLOCK HAS
 
 
 def ends_in_range(case):
-    """B6: a printed END is between the end before the block, or 64 where the block has a compact there, and that end with all puts."""
+    """A printed END is between the end before the block, or 64 where the block has a compact there, and that end with all puts."""
     for line in case.lines:
         for group in line.reply.groups:
             if line.reply.word != "full" or group.end is None:
                 continue
             replica = case.settings.replica_on(group.volume, group.machine)
-            least = 64 if has_compact(case, group.volume, replica) else min(side.end() for side in case.sides(group.volume, replica))
+            least = least_end(case, group.volume, replica)
             most = most_end(case, group.volume, replica)
             if not least <= group.end <= most:
-                yield told(line, f"B6: the end is from {least} to {most}")
+                yield told(line, f"room: the end is from {least} to {most}")
 
 
 def put_totals(case, volume):
@@ -501,6 +501,10 @@ def most_end(case, volume, replica):
     return max(side.end() for side in case.sides(volume, replica)) + sum(put_totals(case, volume))
 
 
+def least_end(case, volume, replica):
+    return 64 if has_compact(case, volume, replica) else min(side.end() for side in case.sides(volume, replica))
+
+
 def has_compact(case, volume, replica):
     machine = case.settings.machine_of(volume, replica)
     compacts = [line.command for line in case.lines if line.command and line.command.word == "compact"]
@@ -508,13 +512,13 @@ def has_compact(case, volume, replica):
 
 
 def closings(case):
-    """B7: a volume is closed by a machine only by a freeze or drain of before, or by a `failed` of the block."""
+    """A volume is closed by a machine only by a freeze or drain of before, or by a `failed` of the block."""
     for line in case.lines:
         if line.reply.word not in ("full", "readonly"):
             continue
         for group in line.reply.groups:
             if group.end is None and not may_close(case, line, group):
-                yield told(line, f"B7: nothing closed volume {group.volume} by machine {group.machine}")
+                yield told(line, f"refusals: nothing closed volume {group.volume} by machine {group.machine}")
 
 
 def may_close(case, line, group):
@@ -535,13 +539,13 @@ def may_close(case, line, group):
 
 
 def generations(case):
-    """B7: the generations that `compacted` tells of a replica are those behind the one before the block, each once."""
+    """The generations that `compacted` tells of a replica are those behind the one before the block, each once."""
     for volume, replica in itertools.product(range(case.settings.volumes), range(case.settings.replicas)):
         machine = case.settings.machine_of(volume, replica)
         made = sorted(replica_counts(case, "compacted", volume, machine))
         before = {side.generation for side in case.sides(volume, replica)}
         if made and not any(made == list(range(start + 1, start + 1 + len(made))) for start in before):
-            yield f"B7: compacted {volume}:{machine} tells {made}, where the generation was {sorted(before)}"
+            yield f"refusals: compacted {volume}:{machine} tells {made}, where the generation was {sorted(before)}"
 
 
 def replica_counts(case, word, volume, machine):
@@ -550,14 +554,14 @@ def replica_counts(case, word, volume, machine):
 
 
 def directory_in_order(case):
-    """B7: `readonly dir` comes where the Directory is frozen, to a pair without a home; what a lane was told of a home it keeps."""
+    """`readonly dir` comes where the Directory is frozen, to a pair without a home; what a lane was told of a home it keeps."""
     failed = [line for line in case.lines if line.reply.word == "failed dir"]
     if len(failed) > 1 or (failed and case.world.directory.frozen):
-        yield told(failed[-1], "B7: the Directory was frozen already")
+        yield told(failed[-1], "refusals: the Directory was frozen already")
     may_freeze = case.world.directory.frozen or any(may_freeze_directory(case, line) for line in case.lines)
     for line in case.lines:
         if line.reply.word == "readonly dir" and not may_freeze:
-            yield told(line, "B7: nothing froze the Directory")
+            yield told(line, "refusals: nothing froze the Directory")
         if line.reply.word in ("readonly dir", "failed dir"):
             yield from met_frozen(case, line)
     for lane in range(LANES):
@@ -574,10 +578,19 @@ def may_freeze_directory(case, line):
 def met_frozen(case, line):
     """A line that froze the Directory or met it so: the rows are all that there are, and none is its pair's."""
     if case.home(line.command.pair) is not None:
-        yield told(line, "B7: the pair has a home")
+        yield told(line, "refusals: the pair has a home")
+    if not any(may_take(case, volume, len(line.command.data)) for volume in range(case.settings.volumes)):
+        yield told(line, "refusals: no try can have taken the photo")
     for later in case.lane_lines(line.lane):
         if later.line > line.line and (later.line in case.row_of or later.reply.rows not in (None, len(case.rows))):
-            yield told(later, "B7: the lane had met the Directory frozen, so its rows are all that there are")
+            yield told(later, "refusals: the lane had met the Directory frozen, so its rows are all that there are")
+
+
+def may_take(case, volume, size):
+    """Whether a volume that was open before the turn can have had room in it."""
+    room = case.settings.capacity - total_of(size) - 8
+    is_open = any(scene_of(case, volume, 0).closed(stand) is None for stand in case.world.stands[volume])
+    return is_open and all(least_end(case, volume, j) <= room for j in range(case.settings.replicas))
 
 
 def homes_in_order(case, lines):
@@ -585,7 +598,7 @@ def homes_in_order(case, lines):
     for line in lines:
         rows = max(rows, line.reply.rows or 0, case.row_of.get(line.line, 0))
         if line.reply.word in ("full", "readonly") and len(line.reply.groups) > 1 and case.home(line.command.pair, rows) is not None:
-            yield told(line, "B7: the lane had been told of the pair's home")
+            yield told(line, "refusals: the lane had been told of the pair's home")
         if told_of_home(case, line):
             rows = max(rows, case.number_of_row(line.command.pair))
 
@@ -732,7 +745,8 @@ def delete_parts(case, line):
     if reply.word == "readonly":
         return [(reply.groups[0].volume, volumes.ClosedBy(reply.groups[0].machine))]
     if reply.word == "failed":
-        return [(reply.volume, volumes.DeleteFailed(Pending(line.line, command.pair, None, reply.machine), reply.count))]
+        pending = Pending(line.line, command.pair, None, reply.machine)
+        return [(reply.volume, volumes.DeleteFailed(pending, reply.count, not case.sure))]
     return []
 
 
@@ -788,7 +802,7 @@ def sides_behind(case, volume, stand, j, lanes):
 
 
 def stays_in_range(case, volume, j, old, new):
-    """B6 to B8 between what stood before and behind: this judge is at fault where they do not hold."""
+    """What the rules say of numbers before and behind: this judge is at fault where that does not hold."""
     puts = put_totals(case, volume)
     flushed = sum(replica_counts(case, "flushed", volume, case.settings.machine_of(volume, j)))
     live = [total_of(len(photo[1])) for photo in case.table(volume, j, case.behind(volume)).values()]
@@ -830,7 +844,8 @@ def start_replicas(case):
             yield told(line, "not the replica that the line begins with, and nothing that is read can fail here")
 
 
-RULES = (kinds, groups, start_replicas, fronts, answers, counts, arm_counts, ends_in_range, closings, generations, directory_in_order, one_order)
+RULES = (kinds, groups, start_replicas, fronts, answers, counts, arm_counts)
+RULES += (ends_in_range, closings, generations, directory_in_order, one_order)
 
 
 def worlds_behind(settings, world, turn, sure):
@@ -872,7 +887,7 @@ def ways_of(case):
 
 def case_worlds(case):
     """The worlds that may stand behind a turn that no rule refuses, by the orders of its lines' parts at each volume."""
-    refused, found = Unlawful("B7: nothing froze the Directory"), False
+    refused, found = Unlawful("refusals: nothing froze the Directory"), False
     met = any(line.reply.word == "readonly dir" for line in case.lines) and not case.world.directory.frozen
     for parts, froze, volume in ways_of(case):
         try:
@@ -894,7 +909,7 @@ def case_worlds(case):
 
 
 def worlds_restarted(settings, world, turn, sure):
-    """D18: the worlds that may stand behind a restart with these notes, whatever is sure."""
+    """The worlds that may stand behind a restart with these notes, whatever is sure."""
     line, directory = turn.lines[0], world.directory
     notes = [note for note in turn.notes if note.volume is not None]
     row_notes = [note for note in turn.notes if note.volume is None]

@@ -363,14 +363,14 @@ def reply_of(text):
         parts = list(found.groups())
         word = word or parts.pop(0)
         reply = Reply(word, **{name: field_of(name, part) for name, part in zip(names, parts, strict=True)})
-        if word in ("full", "readonly") and any(text_of_group(word, group) not in text.split() for group in reply.groups):
+        if word in ("full", "readonly") and [text_of_group(word, group) for group in reply.groups] != text.split()[1:]:
             raise BadText(f"no reply: {text[:80]!r}")
         return reply
     raise BadText(f"no reply: {text[:80]!r}")
 
 
 def text_of_group(word, group):
-    if group.end is not None:
+    if group.end is not None and word == "full":
         return f"{group.volume}:{group.machine}:{group.end}:{group.need}"
     return f"{group.volume}:{group.machine}" + (":ro" if word == "full" else "")
 

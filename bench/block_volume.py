@@ -15,7 +15,7 @@ from block_text import LONG, total_of
 
 LAST_GENERATION = 65_535
 EXAMINED_AT_ONCE = 64
-MOST_MOMENTS = 200_000
+MOST_MOMENTS = 600_000
 
 
 class NotNow(Exception):
@@ -195,6 +195,10 @@ class Part:
 
     waits = False
 
+    def fits_freeze(self, machine):
+        """Whether the part can come where the volume is frozen by this machine."""
+        return False
+
     def steps(self, scene, side, seen):
         """The sides and the next parts of the line that may stand behind this part, and what the lane has seen then."""
         return [(after, following, after.front) for after, following in self.held(scene, side)]
@@ -266,17 +270,18 @@ class PutFailed(Part):
 
 @dataclass(frozen=True)
 class DeleteFailed(Part):
-    """A flag failed, which freezes the volume, or a look at the photo, which changes nothing."""
+    """A flag failed, which freezes the volume, or a look at the photo, where one can, which changes nothing."""
 
     pending: Pending
     count: int
+    can_look: bool
     waits = True
 
     def held(self, scene, side):
         scene.must_be_open(side)
         after = scene.counted(side, scene.replica(self.pending.machine), self.count)
         froze = [(after.froze(self.pending.machine, self.pending), None)] if scene.holders(side, self.pending.pair) else []
-        return [(after, None), *froze]
+        return ([(after, None)] if self.can_look else []) + froze
 
 
 @dataclass(frozen=True)
@@ -295,6 +300,9 @@ class Wanted(Part):
             return [(side, None)]
         pendings = [pending for pending in self.pendings if self.may_be(scene, side, pending)]
         return [(side, None)] + [(side.froze(scene.machine(0), pending), None) for pending in pendings]
+
+    def fits_freeze(self, machine):
+        return True
 
     def may_be(self, scene, side, pending):
         """A deletion is pending only of a photo that stands."""
@@ -339,6 +347,9 @@ class NoRoom(Part):
 class ClosedBy(Part):
     machine: int
 
+    def fits_freeze(self, machine):
+        return machine == self.machine
+
     def held(self, scene, side):
         if (machine := scene.closed(side)) != self.machine:
             raise NotNow(f"volume {scene.volume} is " + ("closed by no machine" if machine is None else f"closed by machine {machine}"))
@@ -350,6 +361,9 @@ class Passed(Part):
     """A try of which the put tells nothing, and that did not take it."""
 
     size: int
+
+    def fits_freeze(self, machine):
+        return True
 
     def held(self, scene, side):
         lacks = scene.lacks(side.replica.end(), self.size) or scene.others_may_lack(self.size)
@@ -380,6 +394,9 @@ class Shown(Part):
     front: int
     disks: tuple = ()
 
+    def fits_freeze(self, machine):
+        return True
+
     def steps(self, scene, side, seen):
         if not seen <= self.front <= side.front:
             raise NotNow(f"the lane had seen {seen} of the {side.front} entries of volume {scene.volume}, and the line tells {self.front}")
@@ -395,6 +412,9 @@ class Shown(Part):
 class Flush(Part):
     replica: int
     reply: object
+
+    def fits_freeze(self, machine):
+        return self.reply.word == "readonly" and self.reply.groups[0].machine == machine
 
     def held(self, scene, side):
         refused = self.reply.groups[0].machine if self.reply.word == "readonly" else None
@@ -435,6 +455,9 @@ class Work(Part):
     @property
     def waits(self):
         return self.reply.word == "nomem"
+
+    def fits_freeze(self, machine):
+        return self.waits or self.reply.word == "readonly" and self.reply.groups[0].machine == machine
 
     def held(self, scene, side):
         if self.reply.word == "nomem":
@@ -611,6 +634,10 @@ class Furthest:
     done: int = -1
     reasons: tuple = ()
 
+    def meet(self, done, reasons):
+        if reasons and done > self.done:
+            self.done, self.reasons = done, tuple(reasons)
+
 
 def moves_of(scene, side, courses, lanes):
     """What may come next: (lane, side, course). A part that changes nothing comes at once, since it stands in no other's way."""
@@ -636,6 +663,14 @@ def moves_of(scene, side, courses, lanes):
     return moves, reasons
 
 
+def stuck_line(side, courses, lanes):
+    """A line that is still to come and cannot, since the volume is frozen, or none."""
+    if side.frozen is None:
+        return None
+    left = ((line, part) for course, lane in zip(courses, lanes) for line, part in lane[course.done :])
+    return next((line for line, part in left if not part.fits_freeze(side.frozen)), None)
+
+
 def orders(scene, side, lanes, furthest):
     """All that may stand behind the parts of some lanes, each a list of (line, part), whatever their order."""
     first = (side, tuple(Course(0, None, side.front) for _ in lanes))
@@ -648,13 +683,16 @@ def orders(scene, side, lanes, furthest):
             ends.add(side)
             continue
         moves, reasons = moves_of(scene, side, courses, lanes)
-        if reasons and done > furthest.done:
-            furthest.done, furthest.reasons = done, tuple(reasons)
         for lane, after, course in moves:
             moment = (after, courses[:lane] + (course,) + courses[lane + 1 :])
-            if moment not in found:
-                found.add(moment)
-                open_moments.append(moment)
+            if moment in found:
+                continue
+            if (line := stuck_line(*moment, lanes)) is not None:
+                reasons.append(f"line {line}: volume {scene.volume} would be frozen by then")
+                continue
+            found.add(moment)
+            open_moments.append(moment)
+        furthest.meet(done, reasons)
         if len(found) > MOST_MOMENTS:
             raise TooMany(f"more than {MOST_MOMENTS} moments of volume {scene.volume}")
     return ends
