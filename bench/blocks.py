@@ -71,7 +71,7 @@ MOST_LINES = 40
 # how often an arm fails, or a look at a disk; and how often memory is wanting
 FLAKY = (0, 0, 0, 0.1)
 SCARCE = (0, 0, 0, 0, 0, 0.02)
-# how many scripts are tried until a fault that another line told is told of a block
+# how many more scripts are tried for a fault that was found outside of a block
 MOST_FURTHER = 100
 
 
@@ -257,6 +257,8 @@ def found_by(kind, options):
     """After how many scripts a fault is found, and after how many in a block, each with the verdict, where it is."""
     first, in_block = None, None
     for count in range(1, options.scripts + 1):
+        if in_block or (first and count > first[0] + MOST_FURTHER):
+            break
         seed = options.seed + count
         script = Script(seed)
         transcript = store_of(kind, script, seed).run(script.text())
@@ -266,8 +268,6 @@ def found_by(kind, options):
         first = first or (count, last)
         if last.is_block:
             in_block = (count, last)
-        if last.is_block or count > first[0] + MOST_FURTHER:
-            break
     return first, in_block
 
 
