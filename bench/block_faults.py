@@ -224,7 +224,48 @@ def end_further(self, drained, size):
     return "full", f"{volume}:{machine}:{int(end) + 8}:{need}"
 
 
+def end_of_before(self, drained, size):
+    """The end from before the last put, where that leaves no room either."""
+    refused, replica = Volume.refusal(self, drained, size), self.lacking(size)
+    if refused is None or refused[0] == "ro" or not replica.cells():
+        return refused
+    end = replica.end() - replica.cells()[-1].total()
+    if end + text.total_of(size) + 8 <= self.settings.capacity:
+        return refused
+    return "full", f"{self.number}:{replica.machine}:{end}:{text.total_of(size)}"
+
+
+def other_machine(self, drained):
+    closed = Volume.closed(self, drained)
+    return next((replica.machine for replica in self.replicas if replica.machine != closed), closed) if self.frozen is not None else closed
+
+
+def first_flag_alone(self, pair):
+    return Volume.holders(self, pair)[:1]
+
+
+def one_less(self):
+    return max(0, Replica.unrecorded(self) - 1)
+
+
+def rows_before(self, asked, volume, rows):
+    own = any(line == asked.line for line, _ in self.directory.new)
+    return Store.put_home(self, asked, volume, rows - 1 if own else rows)
+
+
+def no_row_note(self, rows_before):
+    return []
+
+
+def rows_exchanged(self, rows, new):
+    return Store.row_notes(self, rows, new[1::-1] + new[2:])
+
+
 def open_behind_failure(self, machine):
+    pass
+
+
+def open_behind_want(self, pending):
     pass
 
 
@@ -332,11 +373,19 @@ FAULTS = {
     "a compaction leaves a generation out": of_replica(next_generation=two_further),
     "a compaction drops the cells that came meanwhile": of_replica(examine_rest=rest_unexamined),
     "busy where no compaction stands": store_with(refused_begin=busy_at_times),
-    "a compaction goes on in a frozen volume": type(
-        "FaultyStore", (Store,), {"refused_run": unfrozen_run, "volume_kind": type("FaultyVolume", (Volume,), {"freeze": freeze_beside_runs})}
+    "a compaction goes on in a frozen volume": store_with(
+        refused_run=unfrozen_run, volume_kind=type("FaultyVolume", (Volume,), {"freeze": freeze_beside_runs})
     ),
     "a failed change does not freeze the volume": of_volume(freeze=open_behind_failure),
+    "want of memory behind a change leaves the volume open": of_volume(want_memory=open_behind_want),
     "full tells an end eight bytes further": of_volume(refusal=end_further),
+    "full tells the end of before the last put": of_volume(refusal=end_of_before),
+    "a freeze names another machine": of_volume(closed=other_machine),
+    "a delete is acknowledged behind the first replica": of_volume(holders=first_flag_alone),
+    "a flush tells one record too few": of_replica(unrecorded=one_less),
+    "stored tells fewer rows than with its own": store_with(put_home=rows_before),
+    "a row that failed is not pending": of_directory(notes=no_row_note),
+    "two rows of the notes are exchanged": store_with(row_notes=rows_exchanged),
     "a lane is shown fewer rows than before": of_directory(views_kind=type("FaultyViews", (Views,), {"look": older_rows})),
     "a restart loses the last cell": of_replica(power_cycle=last_cell_lost),
     "a restart brings deleted photos back": of_replica(flag=unflagged, power_cycle=flags_lost),

@@ -1,6 +1,7 @@
 """The judge of bench/blocks.py: whether the turns of a transcript are lawful, and why one is not. The head of bench/blocks.py says which
 rule each function holds."""
 
+import graphlib
 import itertools
 from dataclasses import dataclass, field, replace
 from typing import NamedTuple
@@ -82,7 +83,8 @@ class World:
 def void_world(settings):
     each = range(settings.volumes)
     void = Volume(tuple(frozenset({Replica()}) for _ in range(settings.replicas)))
-    return World(tuple(frozenset({void}) for _ in each), tuple(() for _ in each), tuple(tuple({} for _ in range(settings.replicas)) for _ in each))
+    tables = tuple({} for _ in range(settings.replicas))
+    return World(tuple(frozenset({void}) for _ in each), tuple(() for _ in each), tuple(tables for _ in each))
 
 
 def applied(table, entry):
@@ -189,7 +191,7 @@ def kinds(case):
     for line in case.lines:
         command, reply = line.command, line.reply
         if reply.word == "nomem" and command is not None:
-            raise Undecided(f"line {line.line} is answered nomem")
+            continue
         if command is None or reply.word not in KINDS[command.word]:
             if command is not None or reply.word != "bad line":
                 yield told(line, "no reply of this line")
@@ -201,16 +203,21 @@ def kinds(case):
             yield told(line, "the volume has no replica on this machine")
         elif command.word in ("drain", "undrain") and reply.word != "nowhere" and reply.machine != command.machine:
             yield told(line, "another machine")
-        elif command.word == "fuse" and reply.word != "nowhere" and (reply.volume, reply.machine, reply.count) != (command.volume, command.machine, command.number):
+        elif command.word == "fuse" and reply.word != "nowhere" and not is_fuse(command, reply):
             yield told(line, "another fuse")
+
+
+def is_fuse(command, reply):
+    return reply.is_of(command.volume, command.machine) and reply.count == command.number
 
 
 def own_place(case, line):
     command, reply = line.command, line.reply
     if reply.word == "readonly":
-        if len(reply.groups) != 1 or reply.groups[0].volume != command.volume or case.settings.replica_on(command.volume, reply.groups[0].machine) is None:
+        machines = [case.settings.machine_of(command.volume, j) for j in range(case.settings.replicas)]
+        if [group.volume for group in reply.groups] != [command.volume] or reply.groups[0].machine not in machines:
             yield told(line, "not the line's volume, or no machine of it")
-    elif (reply.volume, reply.machine) != (command.volume, command.machine):
+    elif not reply.is_of(command.volume, command.machine):
         yield told(line, "not the line's replica")
 
 
@@ -238,7 +245,7 @@ def groups(case):
 
 
 def needs(case, line):
-    """B6: NEED is the photo's total, and END, NEED and 8 are above the capacity."""
+    """NEED is the photo's total, and END, NEED and 8 are above the capacity."""
     lacking = [group for group in line.reply.groups if group.end is not None]
     if not lacking:
         yield told(line, "no try lacks room")
@@ -249,71 +256,76 @@ def needs(case, line):
             yield told(line, f"{group.end}, {group.need} and 8 are not above the capacity")
 
 
-# B1 AND B2: THE LOG AND THE ROWS
+# THE LOG AND THE ROWS
 
 
 def new_entries(settings, world, turn):
-    """B1: the log notes have each acknowledged line once, at its printed position. Answers the new entries of each volume."""
-    by_line = {line.line: line for line in turn.lines}
+    """The log notes have each acknowledged line once, at its printed position. Answers the new entries of each volume."""
+    named = [note.volume for note in turn.logs]
+    if named != sorted(set(named)) or any(volume >= settings.volumes for volume in named):
+        raise Unlawful("log: the notes of logs are not one for each volume upwards")
     said = {(line.line, line.reply.volume, line.reply.front) for line in turn.lines if line.reply.word in ("stored", "deleted")}
-    noted, entries = set(), [[] for _ in range(settings.volumes)]
-    if [volume for volume, _, _ in turn.logs] != sorted({volume for volume, _, _ in turn.logs}):
-        raise Unlawful("B1: the notes of logs are not one for each volume upwards")
-    for volume, start, lines in turn.logs:
-        if volume >= settings.volumes or start != len(world.logs[volume]):
-            raise Unlawful(f"B1: log {volume} {start}: there is no such volume, or its log had another length")
-        for position, number in enumerate(lines, start + 1):
-            line = by_line.get(number)
-            if line is None or line.command is None or line.command.word not in ("put", "del"):
-                raise Unlawful(f"B1: log {volume} has line {number}, which is no put or delete of the block")
-            noted.add((number, volume, position))
-            photo = (text.cookie_of(settings.secret, line.command.pair[0]), line.command.data) if line.command.word == "put" else None
-            entries[volume].append(Entry(number, line.command.pair, photo))
-    for number, volume, position in sorted(said ^ noted):
-        which = "is answered so, but not noted" if (number, volume, position) in said else "is noted so, but not answered"
-        raise Unlawful(f"B1: line {number}: entry {position} of volume {volume} {which}")
+    noted = {(line, note.volume, position) for note in turn.logs for position, line in enumerate(note.lines, note.start + 1)}
+    for line, volume, position in sorted(said ^ noted):
+        which = "is answered so, but not noted" if (line, volume, position) in said else "is noted so, but not answered"
+        raise Unlawful(f"log: line {line}: entry {position} of volume {volume} {which}")
+    entries, by_line = [[] for _ in range(settings.volumes)], {line.line: line for line in turn.lines}
+    for note in turn.logs:
+        if note.start != len(world.logs[note.volume]) or len(set(note.lines)) != len(note.lines):
+            raise Unlawful(f"log: log {note.volume} {note.start}: its log had another length, or a line is noted twice")
+        entries[note.volume] = [entry_of(settings, by_line[line]) for line in note.lines]
     return entries
 
 
+def entry_of(settings, line):
+    command = line.command
+    if command is None or command.word not in ("put", "del"):
+        raise Unlawful(f"log: line {line.line} is no put or delete")
+    photo = (text.cookie_of(settings.secret, command.pair[0]), command.data) if command.word == "put" else None
+    return Entry(line.line, command.pair, photo)
+
+
 def new_rows(settings, world, turn):
-    """B2: each new row is that of one put line, for a pair that had none, at one of its tries. Answers the lines and rows."""
+    """Each new row is that of one put line, for a pair that had none, at one of its tries. Answers the lines and rows."""
     if turn.rows is None:
         return []
-    start, named = turn.rows
-    if start != len(world.directory.rows):
-        raise Unlawful(f"B2: rows {start}: the Directory had {len(world.directory.rows)}")
+    if turn.rows.start != len(world.directory.rows):
+        raise Unlawful(f"rows: rows {turn.rows.start}: the Directory had {len(world.directory.rows)}")
     if world.directory.frozen:
-        raise Unlawful("B2: the Directory was frozen before")
+        raise Unlawful("rows: the Directory was frozen before")
     by_line, rows = {line.line: line for line in turn.lines}, []
-    for number, volume in named:
+    for number, volume in turn.rows.rows:
         line = by_line.get(number)
         if line is None or line.command is None or line.command.word != "put":
-            raise Unlawful(f"B2: line {number} has a row, and is no put of the block")
+            raise Unlawful(f"rows: line {number} has a row, and is no put of the block")
         pair = line.command.pair
         if home_in(world.directory.rows, pair) is not None or any(row.pair == pair for _, row in rows):
-            raise Unlawful(f"B2: line {number}: its pair has a row already")
+            raise Unlawful(f"rows: line {number}: its pair has a row already")
         if volume >= settings.volumes:
-            raise Unlawful(f"B2: line {number}: there is no volume {volume}")
+            raise Unlawful(f"rows: line {number}: there is no volume {volume}")
         lone = [group.volume for group in line.reply.groups] == [volume]
-        if line.reply.volume != volume and not (line.reply.word in ("full", "readonly") and lone):
-            raise Unlawful(f"B2: line {number} has a row for volume {volume}, of which its reply does not tell")
+        if line.reply.volume != volume and not lone and line.reply.word != "nomem":
+            raise Unlawful(f"rows: line {number} has a row for volume {volume}, of which its reply does not tell")
         rows.append((number, Row(pair, volume)))
     return rows
 
 
 def notes_of_plain(settings, world, line):
-    """The notes that a plain line would have as a block of one lane."""
+    """The notes that a plain line can have as a block of one lane."""
     reply, command = line.reply, line.command
-    logs = ()
+    logs, tries = (), [None]
     if reply.word in ("stored", "deleted") and reply.volume < settings.volumes:
-        logs = ((reply.volume, len(world.logs[reply.volume]), (line.line,)),)
-    rows = None
-    if command is not None and command.word == "put" and home_in(world.directory.rows, command.pair) is None and reply.word in ("stored", "failed"):
-        rows = (len(world.directory.rows), ((line.line, reply.volume),))
-    return logs, rows
+        logs = (text.LogNote(reply.volume, len(world.logs[reply.volume]), (line.line,)),)
+    if command is not None and command.word == "put" and home_in(world.directory.rows, command.pair) is None:
+        if reply.word in ("stored", "failed"):
+            tries = [reply.volume]
+        elif reply.word == "nomem" and not world.directory.frozen:
+            tries += settings.tries_of(command.pair)
+    rows = len(world.directory.rows)
+    return [(logs, None if volume is None else text.RowNote(rows, ((line.line, volume),))) for volume in tries]
 
 
-# B3: THE FRONTS OF EACH LANE
+# THE FRONTS OF EACH LANE
 
 
 def fronts(case):
@@ -324,21 +336,22 @@ def fronts(case):
             reply, own = line.reply, case.row_of.get(line.line)
             if own is not None:
                 if own <= rows:
-                    yield told(line, f"B3: its row is number {own}, and the lane had been told of {rows}")
+                    yield told(line, f"fronts: its row is number {own}, and the lane had been told of {rows}")
                 rows = max(rows, own)
             if reply.rows is not None:
                 if not rows <= reply.rows <= len(case.rows):
-                    yield told(line, f"B3: {reply.rows} rows, where the lane had been told of {rows}, and there are {len(case.rows)}")
+                    yield told(line, f"fronts: {reply.rows} rows, where the lane had been told of {rows}, and there are {len(case.rows)}")
                 rows = max(rows, reply.rows)
             if reply.front is None or reply.volume >= case.settings.volumes:
                 continue
             least = seen[reply.volume] + (reply.word in ("stored", "deleted"))
             if not least <= reply.front <= case.behind(reply.volume):
-                yield told(line, f"B3: front {reply.front} of volume {reply.volume}, where {least} to {case.behind(reply.volume)} may be told")
+                most = case.behind(reply.volume)
+                yield told(line, f"fronts: front {reply.front} of volume {reply.volume}, where {least} to {most} may be told")
             seen[reply.volume] = max(seen[reply.volume], reply.front)
 
 
-# B4: ANSWERS AT THEIR FRONTS
+# ANSWERS AT THEIR FRONTS
 
 
 def answers(case):
@@ -348,27 +361,27 @@ def answers(case):
         if command is None or command.pair is None:
             continue
         if reply.word == "unknown" and case.home(command.pair, reply.rows) is not None:
-            yield told(line, f"B4: the pair has a home among the first {reply.rows} rows")
+            yield told(line, f"answers: the pair has a home among the first {reply.rows} rows")
         elif reply.word == "moved" and (case.home(command.pair, reply.rows) != reply.volume or reply.volume == command.url.volume):
-            yield told(line, "B4: not the pair's home, or the URL's volume")
+            yield told(line, "answers: not the pair's home, or the URL's volume")
         elif reply.word == "url":
             yield from right_url(case, line)
         elif reply.front is not None:
             yield from at_home(case, line)
         if reply.word == "failed" and command.word in ("put", "del") and reply.volume != case.home(command.pair):
-            yield told(line, "B4: not the pair's home")
+            yield told(line, "answers: not the pair's home")
 
 
 def at_home(case, line):
     command, reply = line.command, line.reply
     if case.home(command.pair, reply.rows) != reply.volume:
-        yield told(line, f"B4: the pair's home among the first {reply.rows} rows is {case.home(command.pair, reply.rows)}")
+        yield told(line, f"answers: the pair's home among the first {reply.rows} rows is {case.home(command.pair, reply.rows)}")
     elif command.word == "get" and reply.volume != command.url.volume:
-        yield told(line, "B4: not the URL's volume")
+        yield told(line, "answers: not the URL's volume")
     elif reply.word == "stored" and reply.cookie != text.cookie_of(case.settings.secret, command.pair[0]):
-        yield told(line, "B4: not the cookie of the key")
+        yield told(line, "answers: not the cookie of the key")
     elif not case.before(reply.volume) <= reply.front <= case.behind(reply.volume):
-        yield told(line, "B3: no front of the block")
+        yield told(line, "fronts: no front of the block")
     elif reply.word == "unreadable":
         yield from right_causes(case, line)
     elif reply.word in SHOWS:
@@ -377,14 +390,14 @@ def at_home(case, line):
         front = reply.front - (reply.word == "deleted")
         has = any(command.pair in case.table(reply.volume, j, front) for j in range(case.settings.replicas))
         if has != (reply.word == "deleted"):
-            yield told(line, f"B4: {'a' if has else 'no'} replica has a photo behind {front} entries")
+            yield told(line, f"answers: {'a' if has else 'no'} replica has a photo behind {front} entries")
 
 
 def right_photo(case, line):
     command, reply = line.command, line.reply
     replica = case.settings.replica_on(reply.volume, reply.machine)
     if replica is None:
-        yield told(line, "B4: the volume has no replica on this machine")
+        yield told(line, "answers: the volume has no replica on this machine")
         return
     photo = case.table(reply.volume, replica, reply.front).get(command.pair)
     if photo is None:
@@ -393,46 +406,49 @@ def right_photo(case, line):
         due = ("photo", photo[1]) if photo[0] == command.cookie else ("wrong cookie", None)
     if due != (reply.word, reply.data):
         shown = "" if due[1] is None else " " + text.photo_text(due[1])[:40]
-        yield told(line, f"B4: behind {reply.front} entries the replica on {reply.machine} shows: {due[0]}{shown}")
+        yield told(line, f"answers: behind {reply.front} entries the replica on {reply.machine} shows: {due[0]}{shown}")
 
 
 def right_url(case, line):
     home = case.home(line.command.pair, line.reply.rows)
     if home is None:
-        yield told(line, f"B4: the pair has no home among the first {line.reply.rows} rows")
+        yield told(line, f"answers: the pair has no home among the first {line.reply.rows} rows")
         return
     machine = case.settings.machine_of(home, case.start_of(line))
     due = text.Url(machine, home, line.command.pair, text.cookie_of(case.settings.secret, line.command.pair[0]))
     if line.reply.url != due:
-        yield told(line, f"B4: the URL is {due.text()}")
+        yield told(line, f"answers: the URL is {due.text()}")
 
 
 def right_causes(case, line):
     order = [case.settings.machine_of(line.reply.volume, j) for j in case.settings.order_from(case.start_of(line))]
     if [cause.machine for cause in line.reply.causes] != order:
-        yield told(line, "B4: not one group for each replica, in the order of tries")
+        yield told(line, "answers: not one group for each replica, in the order of tries")
     if any(cause.of == "damage" for cause in line.reply.causes):
-        yield told(line, "B4: no replica is damaged")
+        yield told(line, "answers: no replica is damaged")
 
 
-# B5: COUNTS
+# COUNTS
 
 
 def counts(case):
-    """Printed counts of failures are above those before; those of one disk differ, and those of one arm rise in line order."""
-    told_of, arms = {}, list(case.world.arms)
-    for line in case.lines:
-        for disk, count in disk_counts(case, line):
-            if count in told_of.setdefault(disk, set()) and count != LONG:
-                yield told(line, f"B5: the count {count} of one disk is told twice")
-            told_of[disk].add(count)
-            if not rises(count, least_count(case, disk)):
-                yield told(line, f"B5: the disk's count stood at {least_count(case, disk)} before the block")
-        for cause in line.reply.causes:
-            if cause.of == "arm":
-                if not rises(cause.number, arms[line.lane]):
-                    yield told(line, f"B5: the arm's count stood at {arms[line.lane]}, so it did not rise to {cause.number}")
-                arms[line.lane] = max(arms[line.lane], cause.number)
+    """Printed counts of failures are above those before, and those of one disk differ."""
+    found = set()
+    for line, disk, count in [(line, *one) for line in case.lines for one in disk_counts(case, line)]:
+        if (disk, count) in found and count != LONG:
+            yield told(line, f"counts: the count {count} of one disk is told twice")
+        found.add((disk, count))
+        if not rises(count, least_count(case, disk)):
+            yield told(line, f"counts: the disk's count stood at {least_count(case, disk)} before the block")
+
+
+def arm_counts(case):
+    """Printed counts of an arm rise in line order."""
+    arms = list(case.world.arms)
+    for line, count in [(line, cause.number) for line in case.lines for cause in line.reply.causes if cause.of == "arm"]:
+        if not rises(count, arms[line.lane]):
+            yield told(line, f"counts: the arm's count stood at {arms[line.lane]}, so it did not rise to {count}")
+        arms[line.lane] = max(arms[line.lane], count)
 
 
 def disk_counts(case, line):
@@ -461,20 +477,20 @@ def arms_behind(case):
     return tuple(arms)
 
 
-# B6 AND B7: REFUSALS FOR ROOM, FREEZES AND COMPACTIONS, BY WHAT THE BLOCK HAS
+# REFUSALS FOR ROOM, FREEZES AND COMPACTIONS, BY WHAT THE BLOCK HAS
 
 
 def ends_in_range(case):
-    """B6: a printed END is between the end before the block, or 64 where the block has a compact there, and that end with all puts."""
+    """A printed END is between the end before the block, or 64 where the block has a compact there, and that end with all puts."""
     for line in case.lines:
         for group in line.reply.groups:
             if line.reply.word != "full" or group.end is None:
                 continue
             replica = case.settings.replica_on(group.volume, group.machine)
-            least = 64 if has_compact(case, group.volume, replica) else min(side.end() for side in case.sides(group.volume, replica))
+            least = least_end(case, group.volume, replica)
             most = most_end(case, group.volume, replica)
             if not least <= group.end <= most:
-                yield told(line, f"B6: the end is from {least} to {most}")
+                yield told(line, f"room: the end is from {least} to {most}")
 
 
 def put_totals(case, volume):
@@ -485,19 +501,24 @@ def most_end(case, volume, replica):
     return max(side.end() for side in case.sides(volume, replica)) + sum(put_totals(case, volume))
 
 
+def least_end(case, volume, replica):
+    return 64 if has_compact(case, volume, replica) else min(side.end() for side in case.sides(volume, replica))
+
+
 def has_compact(case, volume, replica):
     machine = case.settings.machine_of(volume, replica)
-    return any(line.command and line.command.word == "compact" and (line.command.volume, line.command.machine) == (volume, machine) for line in case.lines)
+    compacts = [line.command for line in case.lines if line.command and line.command.word == "compact"]
+    return any((command.volume, command.machine) == (volume, machine) for command in compacts)
 
 
 def closings(case):
-    """B7: a volume is closed by a machine only by a freeze or drain of before, or by a `failed` of the block."""
+    """A volume is closed by a machine only by a freeze or drain of before, or by a `failed` of the block."""
     for line in case.lines:
         if line.reply.word not in ("full", "readonly"):
             continue
         for group in line.reply.groups:
             if group.end is None and not may_close(case, line, group):
-                yield told(line, f"B7: nothing closed volume {group.volume} by machine {group.machine}")
+                yield told(line, f"refusals: nothing closed volume {group.volume} by machine {group.machine}")
 
 
 def may_close(case, line, group):
@@ -511,52 +532,84 @@ def may_close(case, line, group):
     drained = scene_of(case, group.volume, replica).drained_by() if changes else None
     if any(group.machine == (drained if stand.frozen is None else stand.frozen) for stand in case.world.stands[group.volume]):
         return True
-    return any(
-        other.reply.word == "failed" and (other.reply.volume, other.reply.machine) == (group.volume, group.machine) and other.command.word in freezing
-        for other in case.lines
-    )
+    if replica == 0 and any(other.reply.word == "nomem" for other in case.lines):
+        return True
+    failed = [other for other in case.lines if other.reply.word == "failed" and other.command.word in freezing]
+    return any(other.reply.is_of(group.volume, group.machine) for other in failed)
 
 
 def generations(case):
-    """B7: the generations that `compacted` tells of a replica are those behind the one before the block, each once."""
+    """The generations that `compacted` tells of a replica are those behind the one before the block, each once."""
     for volume, replica in itertools.product(range(case.settings.volumes), range(case.settings.replicas)):
         machine = case.settings.machine_of(volume, replica)
-        made = sorted(line.reply.count for line in case.lines if line.reply.word == "compacted" and (line.reply.volume, line.reply.machine) == (volume, machine))
+        made = sorted(replica_counts(case, "compacted", volume, machine))
         before = {side.generation for side in case.sides(volume, replica)}
         if made and not any(made == list(range(start + 1, start + 1 + len(made))) for start in before):
-            yield f"B7: compacted {volume}:{machine} tells {made}, where the generation was {sorted(before)}"
+            yield f"refusals: compacted {volume}:{machine} tells {made}, where the generation was {sorted(before)}"
+
+
+def replica_counts(case, word, volume, machine):
+    """The numbers that replies of a kind tell of a replica."""
+    return [line.reply.count for line in case.lines if line.reply.word == word and line.reply.is_of(volume, machine)]
 
 
 def directory_in_order(case):
-    """B7: `readonly dir` comes where the Directory is frozen, to a pair without a home; what a lane met of a freeze or of a home it keeps."""
+    """`readonly dir` comes where the Directory is frozen, to a pair without a home; what a lane was told of a home it keeps."""
     failed = [line for line in case.lines if line.reply.word == "failed dir"]
     if len(failed) > 1 or (failed and case.world.directory.frozen):
-        yield told(failed[-1], "B7: the Directory was frozen already")
+        yield told(failed[-1], "refusals: the Directory was frozen already")
+    may_freeze = case.world.directory.frozen or any(may_freeze_directory(case, line) for line in case.lines)
+    for line in case.lines:
+        if line.reply.word == "readonly dir" and not may_freeze:
+            yield told(line, "refusals: nothing froze the Directory")
+        if line.reply.word in ("readonly dir", "failed dir"):
+            yield from met_frozen(case, line)
     for lane in range(LANES):
-        rows, frozen = len(case.world.directory.rows), False
-        for line in case.lane_lines(lane):
-            command, reply = line.command, line.reply
-            if frozen and (line.line in case.row_of or reply.rows not in (None, len(case.rows))):
-                yield told(line, "B7: the lane had met the Directory frozen, so its rows are all that there are")
-            rows = max(rows, reply.rows or 0, case.row_of.get(line.line, 0))
-            if reply.word in ("failed dir", "readonly dir"):
-                frozen = True
-                if not failed and not case.world.directory.frozen:
-                    yield told(line, "B7: nothing froze the Directory")
-                if case.home(command.pair) is not None:
-                    yield told(line, "B7: the pair has a home")
-            elif reply.word in ("full", "readonly") and len(reply.groups) > 1 and case.home(command.pair, rows) is not None:
-                yield told(line, "B7: the lane had been told of the pair's home")
-            if told_of_home(case, line):
-                rows = max(rows, case.number_of_row(command.pair))
+        yield from homes_in_order(case, case.lane_lines(lane))
+
+
+def may_freeze_directory(case, line):
+    """Whether a line may have left the Directory frozen, with its row pending."""
+    if line.reply.word != "nomem":
+        return line.reply.word == "failed dir"
+    return line.command.word == "put" and line.line not in case.row_of and case.home(line.command.pair) is None
+
+
+def met_frozen(case, line):
+    """A line that froze the Directory or met it so: the rows are all that there are, and none is its pair's."""
+    if case.home(line.command.pair) is not None:
+        yield told(line, "refusals: the pair has a home")
+    if not any(may_take(case, volume, len(line.command.data)) for volume in range(case.settings.volumes)):
+        yield told(line, "refusals: no try can have taken the photo")
+    for later in case.lane_lines(line.lane):
+        if later.line > line.line and (later.line in case.row_of or later.reply.rows not in (None, len(case.rows))):
+            yield told(later, "refusals: the lane had met the Directory frozen, so its rows are all that there are")
+
+
+def may_take(case, volume, size):
+    """Whether a volume that was open before the turn can have had room in it."""
+    room = case.settings.capacity - total_of(size) - 8
+    is_open = any(scene_of(case, volume, 0).closed(stand) is None for stand in case.world.stands[volume])
+    return is_open and all(least_end(case, volume, j) <= room for j in range(case.settings.replicas))
+
+
+def homes_in_order(case, lines):
+    rows = len(case.world.directory.rows)
+    for line in lines:
+        rows = max(rows, line.reply.rows or 0, case.row_of.get(line.line, 0))
+        if line.reply.word in ("full", "readonly") and len(line.reply.groups) > 1 and case.home(line.command.pair, rows) is not None:
+            yield told(line, "refusals: the lane had been told of the pair's home")
+        if told_of_home(case, line):
+            rows = max(rows, case.number_of_row(line.command.pair))
 
 
 def told_of_home(case, line):
     """Whether a refusal tells the lane the home of its pair."""
-    if line.command is None or line.command.word not in ("put", "del") or case.home(line.command.pair) is None:
+    command, reply = line.command, line.reply
+    if command is None or command.word not in ("put", "del") or case.home(command.pair) is None:
         return False
-    lone = line.reply.word in ("full", "readonly") and len(line.reply.groups) == 1 and (case.settings.volumes > 1 or line.command.word == "del")
-    return line.reply.word == "failed" or lone
+    lone = reply.word in ("full", "readonly") and len(reply.groups) == 1
+    return reply.word == "failed" or lone and (case.settings.volumes > 1 or command.word == "del")
 
 
 # ONE ORDER OVER ALL VOLUMES AND THE DIRECTORY
@@ -564,60 +617,43 @@ def told_of_home(case, line):
 
 def one_order(case):
     """There is an order of all lines that fits the order in each lane, the positions, the numbers of rows, and what was shown."""
-    after = {}
-
-    def comes(first, second):
-        after.setdefault(first, set()).add(second)
-
-    for lane in range(LANES):
-        lines = case.lane_lines(lane)
-        for one, other in zip(lines, lines[1:]):
-            comes(("end", one.line), ("begin", other.line))
-        for line in lines:
-            for event in events_of(case, line, comes):
-                comes(("begin", line.line), event)
-                comes(event, ("end", line.line))
-    for volume in range(case.settings.volumes):
-        for position in range(case.before(volume) + 2, case.behind(volume) + 1):
-            comes(("entry", volume, position - 1), ("entry", volume, position))
-    for number in range(len(case.world.directory.rows) + 2, len(case.rows) + 1):
-        comes(("row", number - 1), ("row", number))
-    if is_cyclic(after):
+    sorter = graphlib.TopologicalSorter()
+    for first, second in itertools.chain(lane_steps(case), log_steps(case), *(line_steps(case, line) for line in case.lines)):
+        sorter.add(second, first)
+    try:
+        sorter.prepare()
+    except graphlib.CycleError:
         yield "order: the lines' positions, rows and fronts stand in no one order"
 
 
-def events_of(case, line, comes):
-    """The events of a line, each behind what the line was shown."""
-    reply, own = line.reply, case.row_of.get(line.line)
+def lane_steps(case):
+    for lane in range(LANES):
+        for one, other in itertools.pairwise(case.lane_lines(lane)):
+            yield ("end", one.line), ("begin", other.line)
+
+
+def log_steps(case):
+    """What comes behind what in each log, and among the rows."""
+    for volume in range(case.settings.volumes):
+        positions = range(case.before(volume) + 1, case.behind(volume) + 1)
+        yield from itertools.pairwise(("entry", volume, position) for position in positions)
+    yield from itertools.pairwise(("row", number) for number in range(len(case.world.directory.rows) + 1, len(case.rows) + 1))
+
+
+def line_steps(case, line):
+    """A line's own row and entry come within it, and what it was shown comes before its end."""
+    begin, end, reply, own = ("begin", line.line), ("end", line.line), line.reply, case.row_of.get(line.line)
+    yield begin, end
     if own is not None:
-        yield ("row", own)
+        yield begin, ("row", own)
+        yield ("row", own), end
     if reply.rows is not None:
-        comes(("row", reply.rows), ("end", line.line))
+        yield ("row", reply.rows), end
+    if reply.front is not None:
+        yield ("entry", reply.volume, reply.front), end
     if reply.word in ("stored", "deleted"):
-        entry = ("entry", reply.volume, reply.front)
-        if own is not None:
-            comes(("row", own), entry)
-        yield entry
-    elif reply.front is not None:
-        comes(("entry", reply.volume, reply.front), ("end", line.line))
-
-
-def is_cyclic(after):
-    before = {}
-    for first, others in after.items():
-        before.setdefault(first, 0)
-        for other in others:
-            before[other] = before.get(other, 0) + 1
-    free = [event for event, count in before.items() if count == 0]
-    done = 0
-    while free:
-        event = free.pop()
-        done += 1
-        for other in after.get(event, ()):
-            before[other] -= 1
-            if before[other] == 0:
-                free.append(other)
-    return done < len(before)
+        yield begin if own is None else ("row", own), ("entry", reply.volume, reply.front)
+        yield begin, ("entry", reply.volume, reply.front)
 
 
 # THE PARTS OF A LINE AT EACH VOLUME
@@ -628,6 +664,8 @@ def choices_of(case, line):
     command, reply = line.command, line.reply
     if command is None or reply.word == "nowhere":
         return [([], None)]
+    if reply.word == "nomem":
+        return wanted_choices(case, line)
     if command.word == "put":
         return put_choices(case, line)
     if command.word == "del":
@@ -638,6 +676,24 @@ def choices_of(case, line):
     if command.word in REPLICA_WORK:
         return [([(command.volume, work_part(case, line))], None)]
     return [([], None)]
+
+
+def wanted_choices(case, line):
+    """The parts of a line that wanted memory: the first choice leaves the Directory as it is."""
+    command = line.command
+    if command.word in ("compact", "step", "finish") and not case.is_nowhere(command):
+        return [([(command.volume, work_part(case, line))], None)]
+    if command.word not in ("put", "del", "read", "get") or case.is_nowhere(command):
+        return [([], None)]
+    home, change = case.home(command.pair), Pending(line.line, command.pair, None, None)
+    if home is None:
+        tries = case.settings.tries_of(command.pair) if may_freeze_directory(case, line) and not case.world.directory.frozen else []
+        return [([], None)] + [(decision(tries, volume, len(command.data)), volume) for volume in tries]
+    if command.word == "put":
+        size = len(command.data)
+        own = decision(case.settings.tries_of(command.pair), home, size) if line.line in case.row_of else []
+        return [(own + [(home, volumes.Wanted((change._replace(photo=case.photo_of(command)),), size))], None)]
+    return [([(home, volumes.Wanted((None, change) if command.word == "del" else (None,)))], None)]
 
 
 def work_part(case, line):
@@ -689,7 +745,8 @@ def delete_parts(case, line):
     if reply.word == "readonly":
         return [(reply.groups[0].volume, volumes.ClosedBy(reply.groups[0].machine))]
     if reply.word == "failed":
-        return [(reply.volume, volumes.DeleteFailed(Pending(line.line, command.pair, None, reply.machine), reply.count))]
+        pending = Pending(line.line, command.pair, None, reply.machine)
+        return [(reply.volume, volumes.DeleteFailed(pending, reply.count, not case.sure))]
     return []
 
 
@@ -725,26 +782,29 @@ def stands_behind(case, volume, parts):
 
 def stand_behind(case, volume, stand, lanes):
     """What one volume may stand at behind the lanes' parts: for each freeze and pending change all that each replica may be."""
-    ways = []
-    for j, replicas in enumerate(stand.replicas):
-        scene, furthest, found = scene_of(case, volume, j), volumes.Furthest(), {}
-        for replica in replicas:
-            for side in orders(scene, Side(replica, case.before(volume), stand.frozen, stand.pending), lanes, furthest):
-                stays_in_range(case, volume, j, replica, side.replica)
-                found.setdefault((side.frozen, side.pending), set()).add(side.replica)
-        if not found:
-            raise Unlawful(f"order: the lines have none at replica {j} of volume {volume}: " + "; or ".join(furthest.reasons))
-        ways.append(found)
+    ways = [sides_behind(case, volume, stand, j, lanes) for j in range(case.settings.replicas)]
     common = [key for key in ways[0] if all(key in found for found in ways)]
     if not common:
         raise Unlawful(f"order: the lines have none that fits all replicas of volume {volume}")
     return [Volume(tuple(frozenset(found[key]) for found in ways), *key) for key in common]
 
 
+def sides_behind(case, volume, stand, j, lanes):
+    """What a replica may be behind the parts, by the freeze and the pending change of the volume then."""
+    scene, furthest, found = scene_of(case, volume, j), volumes.Furthest(), {}
+    for replica in stand.replicas[j]:
+        for side in orders(scene, Side(replica, case.before(volume), stand.frozen, stand.pending), lanes, furthest):
+            stays_in_range(case, volume, j, replica, side.replica)
+            found.setdefault((side.frozen, side.pending), set()).add(side.replica)
+    if not found:
+        raise Unlawful(f"order: the lines have none at replica {j} of volume {volume}: " + "; or ".join(furthest.reasons))
+    return found
+
+
 def stays_in_range(case, volume, j, old, new):
-    """B6 to B8 between what stood before and behind: this judge is at fault where they do not hold."""
-    puts, place = put_totals(case, volume), (volume, case.settings.machine_of(volume, j))
-    flushed = sum(line.reply.count for line in case.lines if line.reply.word == "flushed" and (line.reply.volume, line.reply.machine) == place)
+    """What the rules say of numbers before and behind: this judge is at fault where that does not hold."""
+    puts = put_totals(case, volume)
+    flushed = sum(replica_counts(case, "flushed", volume, case.settings.machine_of(volume, j)))
     live = [total_of(len(photo[1])) for photo in case.table(volume, j, case.behind(volume)).values()]
     if new.generation == old.generation:
         right = new.end() == old.end() + sum(puts) and flushed + new.bare == old.bare + len(puts)
@@ -755,13 +815,13 @@ def stays_in_range(case, volume, j, old, new):
         raise AssertionError(f"replica {j} of volume {volume} went from {old} to {new}")
 
 
-def directory_behind(case, pending):
+def directory_behind(case, line, volume):
+    """The Directory behind the turn, which a line may have frozen with its row for a volume pending."""
     directory = replace(case.world.directory, rows=case.rows)
-    for line in case.lines:
-        if line.reply.word == "failed dir":
-            row = PendingRow(line.line, Row(line.command.pair, pending))
-            directory = replace(directory, frozen=True, pending=row, count=max(directory.count, line.reply.count))
-    return directory
+    if line is None:
+        return directory
+    row = PendingRow(line.line, Row(line.command.pair, volume))
+    return replace(directory, frozen=True, pending=row, count=max(directory.count, line.reply.count or 0))
 
 
 def drained_behind(case):
@@ -776,41 +836,71 @@ def drained_behind(case):
 
 def start_replicas(case):
     """Where nothing that is read can fail, each read shows its start replica."""
-    for line in case.lines:
-        if case.sure and line.reply.word == "unreadable":
+    for line in case.lines if case.sure else ():
+        reply = line.reply
+        if reply.word == "unreadable":
             yield told(line, "nothing that is read can fail here")
-        elif case.sure and line.reply.word in SHOWS and case.settings.replica_on(line.reply.volume, line.reply.machine) != case.start_of(line):
+        elif reply.word in SHOWS and case.settings.replica_on(reply.volume, reply.machine) != case.start_of(line):
             yield told(line, "not the replica that the line begins with, and nothing that is read can fail here")
 
 
-RULES = (kinds, groups, start_replicas, fronts, answers, counts, ends_in_range, closings, generations, directory_in_order, one_order)
+RULES = (kinds, groups, start_replicas, fronts, answers, counts, arm_counts)
+RULES += (ends_in_range, closings, generations, directory_in_order, one_order)
 
 
 def worlds_behind(settings, world, turn, sure):
     """The worlds that may stand behind a turn of commands, or Unlawful with the reasons of the first rule that it breaks."""
-    logs, rows = (turn.logs, turn.rows) if turn.block else notes_of_plain(settings, world, turn.lines[0])
-    noted = replace(turn, logs=logs, rows=rows)
-    case = Case(settings, world, turn.lines, turn.block is not None, new_entries(settings, world, noted), new_rows(settings, world, noted), sure)
+    noted = [(turn.logs, turn.rows)] if turn.block else notes_of_plain(settings, world, turn.lines[0])
+    found, refused = [], None
+    for logs, rows in noted:
+        try:
+            found += noted_worlds(settings, world, replace(turn, logs=logs, rows=rows), sure)
+        except Unlawful as reason:
+            refused = refused or reason
+    if not found:
+        raise refused
+    return found
+
+
+def noted_worlds(settings, world, turn, sure):
+    entries, rows = new_entries(settings, world, turn), new_rows(settings, world, turn)
+    case = Case(settings, world, turn.lines, turn.block is not None, entries, rows, sure)
     for rule in RULES:
         if reasons := list(rule(case)):
             raise Unlawful(*reasons)
     return list(case_worlds(case))
 
 
+def ways_of(case):
+    """For each way in which the lines may have gone their parts, and the line and the try of a row that is pending. One line at most has
+    more than one way, since one row at most gets pending."""
+    choices = [choices_of(case, line) for line in case.lines]
+    # where a row failed it is the one that is pending, and else one of a line that wanted memory may be
+    fixed = ("nomem",) if any(line.reply.word == "failed dir" for line in case.lines) else ()
+    free = [i for i, line in enumerate(case.lines) if line.reply.word not in fixed]
+    picks = [{}] + [{i: way} for i in free for way in range(1, len(choices[i]))]
+    for pick in picks:
+        ways = [(line, *choice[pick.get(i, 0)]) for i, (line, choice) in enumerate(zip(case.lines, choices))]
+        parts = [(line.line, line.lane, at, part) for line, own, _ in ways for at, part in own]
+        yield parts, *next(((line, volume) for line, _, volume in ways if volume is not None), (None, None))
+
+
 def case_worlds(case):
     """The worlds that may stand behind a turn that no rule refuses, by the orders of its lines' parts at each volume."""
-    refused, found = None, False
-    for choice in itertools.product(*(choices_of(case, line) for line in case.lines)):
-        parts = [(line.line, line.lane, at, part) for line, (own, _) in zip(case.lines, choice) for at, part in own]
-        pending = next((volume for _, volume in choice if volume is not None), None)
+    refused, found = Unlawful("refusals: nothing froze the Directory"), False
+    met = any(line.reply.word == "readonly dir" for line in case.lines) and not case.world.directory.frozen
+    for parts, froze, volume in ways_of(case):
         try:
-            stands = tuple(stands_behind(case, volume, parts) for volume in range(case.settings.volumes))
+            if met and froze is None or froze and list(met_frozen(case, froze)):
+                continue
+            stands = tuple(stands_behind(case, number, parts) for number in range(case.settings.volumes))
         except Unlawful as reason:
             refused = reason
             continue
         logs = tuple(log + tuple(new) for log, new in zip(case.world.logs, case.entries))
         found = True
-        yield replace(case.world, stands=stands, logs=logs, directory=directory_behind(case, pending), drained=drained_behind(case), arms=arms_behind(case))
+        directory = directory_behind(case, froze, volume)
+        yield replace(case.world, stands=stands, logs=logs, directory=directory, drained=drained_behind(case), arms=arms_behind(case))
     if not found:
         raise refused
 
@@ -819,7 +909,7 @@ def case_worlds(case):
 
 
 def worlds_restarted(settings, world, turn, sure):
-    """D18: the worlds that may stand behind a restart with these notes, whatever is sure."""
+    """The worlds that may stand behind a restart with these notes, whatever is sure."""
     line, directory = turn.lines[0], world.directory
     notes = [note for note in turn.notes if note.volume is not None]
     row_notes = [note for note in turn.notes if note.volume is None]
@@ -832,8 +922,8 @@ def worlds_restarted(settings, world, turn, sure):
     rows = directory.rows + tuple(directory.pending.row for note in row_notes if note.kept)
     if line.reply.rows != len(rows):
         raise Unlawful(f"restart: {line.reply.rows} rows, where there are {len(rows)}")
-    reopened = [reopened_volume(settings, world, volume, [note for note in notes if note.volume == volume]) for volume in range(settings.volumes)]
-    stands, bases = zip(*reopened)
+    own_notes = [[note for note in notes if note.volume == volume] for volume in range(settings.volumes)]
+    stands, bases = zip(*(reopened_volume(settings, world, volume, own) for volume, own in enumerate(own_notes)))
     return [World(stands, tuple(() for _ in stands), bases, Directory(rows, count=directory.count), arms=world.arms)]
 
 
@@ -872,6 +962,9 @@ def notes_fit(settings, volume, pending, notes, tables):
     machines = [settings.machine_of(volume, j) for j in range(settings.replicas)]
     if [(note.machine, note.line) for note in notes] != [(machine, pending.line) for machine in machines]:
         return False
+    kept = [note.kept for note in notes]
+    if pending.machine is None:
+        return kept == sorted(kept, reverse=True) and (pending.photo is not None or all(kept))
     failed = settings.replica_on(volume, pending.machine)
     for j, note in enumerate(notes):
         empty = pending.photo is None and pending.pair not in tables[j]

@@ -1,9 +1,9 @@
 """An honest store for bench/blocks.py, which runs a script and prints its transcript: it makes what the judge is to find lawful.
 
-Volumes and the Directory stand behind a lock each. A lane is a generator that gives the others their turn before each holding of a lock and
-each look; a scheduler draws which lane goes on. Each publish leaves a view, and a lane that looks is shown any one from the last that it has
-seen on. A disk counts its changing calls, so a fuse fails the right one, and what its last failed sync leaves in doubt is drawn at the
-restart. Nothing here is taken from the judge but the grammar, and the sizes and places of block_text.py.
+Volumes and the Directory stand behind a lock each. A lane is a generator that gives the others their turn before each holding of a
+lock and each look; a scheduler draws which lane goes on. Each publish leaves a view, and a lane that looks is shown any one from the
+last that it has seen on. A disk counts its changing calls, so a fuse fails the right one, and what its failed sync leaves in doubt is
+drawn at the restart. Nothing here is taken from the judge but the grammar, and the sizes and places of block_text.py.
 """
 
 import random
@@ -23,6 +23,21 @@ class DiskFailed(Exception):
 
 class SwitchFailed(DiskFailed):
     """It failed while the head was switched to new files."""
+
+
+class NoMemory(Exception):
+    """Memory was wanting."""
+
+
+class Memory:
+    """Memory that is wanting at times."""
+
+    def __init__(self, draw, scarce):
+        self.draw, self.scarce = draw, scarce
+
+    def take(self):
+        if self.scarce and self.draw.random() < self.scarce:
+            raise NoMemory
 
 
 class Disk:
@@ -254,8 +269,8 @@ class Views:
 class Volume:
     replica_kind, views_kind = Replica, Views
 
-    def __init__(self, settings, number, draw):
-        self.settings, self.number, self.draw = settings, number, draw
+    def __init__(self, settings, number, draw, memory):
+        self.settings, self.number, self.draw, self.memory = settings, number, draw, memory
         self.replicas = [self.replica_kind(settings.machine_of(number, j)) for j in range(settings.replicas)]
         self.open()
 
@@ -313,6 +328,7 @@ class Volume:
         pending = Pending(line, pair, False, [])
         for j in self.holders(pair):
             self.on_disk(self.replicas[j], pending, lambda replica: replica.delete(pair))
+        self.take_for_publish(pending)
         self.log.append(line)
         self.publish(pair, [None] * len(self.replicas))
         return self.front()
@@ -321,13 +337,30 @@ class Volume:
         return [j for j, place in enumerate(self.views.now().rows.get(pair, ())) if place is not None]
 
     def on_disk(self, replica, pending, change):
-        """A change of a replica; a fault freezes the volume."""
+        """A change of a replica; a fault freezes the volume, and so does want of memory behind a put's change."""
         try:
-            return change(replica)
+            done = change(replica)
+            if pending.is_put:
+                self.memory.take()
+            return done
         except DiskFailed as fault:
             self.freeze(replica.machine)
             self.leave_pending(pending)
             fault.machine = replica.machine
+            raise
+        except NoMemory:
+            self.want_memory(pending)
+            raise
+
+    def want_memory(self, pending):
+        self.freeze(self.replicas[0].machine)
+        self.leave_pending(pending)
+
+    def take_for_publish(self, pending):
+        try:
+            self.memory.take()
+        except NoMemory:
+            self.want_memory(pending)
             raise
 
     def leave_pending(self, pending):
@@ -335,12 +368,17 @@ class Volume:
 
     def swap(self, j):
         """Publishes the places of a replica's new files."""
+        self.take_for_publish(None)
         places, old = self.replicas[j].places(), self.views.now()
         rows = {pair: list(row) for pair, row in old.rows.items()}
         for pair, row in rows.items():
             row[j] = places.get(pair)
         self.unseen -= {(j, pair) for pair in rows}
         self.views.publish(View(self.front(), rows))
+
+    def power_cycle(self, pick):
+        for j, replica in enumerate(self.replicas):
+            replica.power_cycle(pick if pick < 2 else pick + 64 * self.number + j)
 
     def kept(self, j):
         """Whether a replica that was opened again has the change that was pending."""
@@ -352,18 +390,19 @@ class Volume:
     def notes(self):
         if self.pending is None:
             return []
-        return [f"{'kept' if self.kept(j) else 'lost'} {self.number}:{replica.machine} {self.pending.line}" for j, replica in enumerate(self.replicas)]
+        words = ["kept" if self.kept(j) else "lost" for j in range(len(self.replicas))]
+        return [f"{word} {self.number}:{replica.machine} {self.pending.line}" for word, replica in zip(words, self.replicas)]
 
 
 class Directory:
     views_kind = Views
 
-    def __init__(self, draw):
-        self.disk, self.rows, self.draw, self.drained = Disk(), [], draw, set()
+    def __init__(self, draw, memory):
+        self.disk, self.rows, self.draw, self.drained, self.memory = Disk(), [], draw, set(), memory
         self.open()
 
     def open(self):
-        self.new, self.frozen, self.pending = [], False, None
+        self.new, self.frozen, self.pending, self.unpublished = [], False, None, []
         self.drained.clear()
         self.views = self.views_kind(self.draw, len(self.rows))
 
@@ -381,10 +420,22 @@ class Directory:
         except DiskFailed:
             self.frozen, self.pending = True, line
             raise
+        self.take_for_publish(line, pair, volume)
         self.rows.append((pair, volume))
         self.new.append((line, volume))
         self.views.publish(len(self.rows))
         return volume
+
+    def take_for_publish(self, line, pair, volume):
+        try:
+            self.memory.take()
+        except NoMemory:
+            self.frozen, self.pending, self.unpublished = True, line, [(pair, volume)]
+            raise
+
+    def power_cycle(self, pick):
+        self.disk.power_cycle(pick)
+        self.rows += self.unpublished
 
     def notes(self, rows_before):
         if self.pending is None:
@@ -406,13 +457,15 @@ class Store:
     settings: text.Settings
     seed: int = 0
     flaky: float = 0.0
+    scarce: float = 0.0
     replies: dict = field(default_factory=dict)
     volume_kind, directory_kind = Volume, Directory
 
     def __post_init__(self):
         self.draw = random.Random(self.seed)
-        self.volumes = [self.volume_kind(self.settings, number, self.draw) for number in range(self.settings.volumes)]
-        self.directory = self.directory_kind(self.draw)
+        self.memory = Memory(self.draw, self.scarce)
+        self.volumes = [self.volume_kind(self.settings, number, self.draw, self.memory) for number in range(self.settings.volumes)]
+        self.directory = self.directory_kind(self.draw, self.memory)
         self.arms = [0] * 8
 
     # SCRIPTS
@@ -476,8 +529,11 @@ class Store:
     def answer(self, asked):
         if asked.command is None:
             return "bad line"
-        own = {"del": self.delete, "begin": self.begin, "step": self.step, "finish": self.finish}
-        return (yield from own.get(asked.command.word, getattr(self, asked.command.word, None))(asked))
+        try:
+            self.memory.take()
+            return (yield from getattr(self, "delete" if asked.command.word == "del" else asked.command.word)(asked))
+        except NoMemory:
+            return "nomem"
 
     # PUTS
 
@@ -522,6 +578,7 @@ class Store:
 
     def put_home(self, asked, volume, rows):
         command = asked.command
+        self.memory.take()
         volume.views.show_all(asked.lane)
         if (refused := volume.refusal(self.directory.drained, len(command.data))) is not None:
             return ("readonly " if refused[0] == "ro" else "full ") + refused[1]
@@ -752,10 +809,19 @@ class Store:
                 if (refused := self.refused_run(asked, *found)) is not None:
                     return refused
                 examined += replica.step(64)
+                self.take_or_drop(asked, replica)
         except DiskFailed as fault:
             return f"failed {name} {fault.count}"
         yield
         return self.refused_run(asked, *found) or self.finish_run(*found)
+
+    def take_or_drop(self, asked, replica):
+        """Want of memory ends the line's own compaction."""
+        try:
+            self.memory.take()
+        except NoMemory:
+            replica.run = None
+            raise
 
     def refused_run(self, asked, volume, j, name):
         """The reply where the line's own compaction does not stand any more."""
@@ -797,10 +863,9 @@ class Store:
 
     def restart(self, asked):
         rows, pick = len(self.directory.rows), asked.command.number
-        self.directory.disk.power_cycle(pick)
+        self.directory.power_cycle(pick)
         for volume in self.volumes:
-            for j, replica in enumerate(volume.replicas):
-                replica.power_cycle(pick if pick < 2 else pick + 64 * volume.number + j)
+            volume.power_cycle(pick)
         notes = [note for volume in self.volumes for note in volume.notes()] + self.directory.notes(rows)
         for opened in (*self.volumes, self.directory):
             opened.open()

@@ -77,11 +77,9 @@ def cookie_of(secret, key):
     words = [int.from_bytes(secret[4 * i : 4 * i + 4], "little") for i in range(8)]
     start = [0x61707865, 0x3320646E, 0x79622D32, 0x6B206574, *words, 0, 0, key & WORD, key >> 32]
     state = list(start)
-    for _ in range(10):
-        for i in range(4):
-            quarter(state, i, 4 + i, 8 + i, 12 + i)
-        for i in range(4):
-            quarter(state, i, 4 + (i + 1) % 4, 8 + (i + 2) % 4, 12 + (i + 3) % 4)
+    for turn in range(80):
+        i, aside = turn % 4, turn // 4 % 2
+        quarter(state, i, 4 + (i + aside) % 4, 8 + (i + 2 * aside) % 4, 12 + (i + 3 * aside) % 4)
     low, high = ((state[i] + start[i]) & WORD for i in range(2))
     return low + (high << 32)
 
@@ -293,6 +291,9 @@ class Reply:
     groups: tuple = ()
     causes: tuple = ()
 
+    def is_of(self, volume, machine):
+        return (self.volume, self.machine) == (volume, machine)
+
 
 SHAPES = (
     (rf"stored {N} {N} {N} ([0-9a-f]{{16}})", "stored", ("volume", "front", "rows", "cookie")),
@@ -362,14 +363,14 @@ def reply_of(text):
         parts = list(found.groups())
         word = word or parts.pop(0)
         reply = Reply(word, **{name: field_of(name, part) for name, part in zip(names, parts, strict=True)})
-        if word in ("full", "readonly") and any(text_of_group(word, group) not in text.split() for group in reply.groups):
+        if word in ("full", "readonly") and [text_of_group(word, group) for group in reply.groups] != text.split()[1:]:
             raise BadText(f"no reply: {text[:80]!r}")
         return reply
     raise BadText(f"no reply: {text[:80]!r}")
 
 
 def text_of_group(word, group):
-    if group.end is not None:
+    if group.end is not None and word == "full":
         return f"{group.volume}:{group.machine}:{group.end}:{group.need}"
     return f"{group.volume}:{group.machine}" + (":ro" if word == "full" else "")
 
@@ -385,6 +386,23 @@ class Line:
     lane: int
     command: Command
     reply: Reply
+
+
+@dataclass(frozen=True)
+class LogNote:
+    """The lines of a volume's new entries, behind those that it had."""
+
+    volume: int
+    start: int
+    lines: tuple
+
+
+@dataclass(frozen=True)
+class RowNote:
+    """The line and the volume of each new row, behind those that there were."""
+
+    start: int
+    rows: tuple
 
 
 @dataclass(frozen=True)
@@ -438,16 +456,19 @@ class Lines:
 
 
 def notes_of_block(lines):
-    logs = tuple(
-        (int(found[1]), int(found[2]), tuple(int(word) for word in found[3].split())) for found in lines.take_all(rf"log {N} {N}((?: {N})+)")
-    )
-    rows = [
-        (int(found[1]), tuple(tuple(int(part) for part in word.split(":")) for word in found[2].split()))
-        for found in lines.take_all(rf"rows {N}((?: {N}:{N})+)")
-    ]
+    logs = tuple(LogNote(int(found[1]), int(found[2]), numbers(found[3])) for found in lines.take_all(rf"log {N} {N}((?: {N})+)"))
+    rows = list(lines.take_all(rf"rows {N}((?: {N}:{N})+)"))
     if len(rows) > 1:
         raise BadText("two notes of rows")
-    return logs, rows[0] if rows else None
+    return logs, row_note_of(rows[0]) if rows else None
+
+
+def row_note_of(found):
+    return RowNote(int(found[1]), tuple(numbers(word, ":") for word in found[2].split()))
+
+
+def numbers(words, between=None):
+    return tuple(int(word) for word in words.split(between))
 
 
 def notes_of_restart(lines):

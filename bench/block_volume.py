@@ -15,7 +15,7 @@ from block_text import LONG, total_of
 
 LAST_GENERATION = 65_535
 EXAMINED_AT_ONCE = 64
-MOST_MOMENTS = 200_000
+MOST_MOMENTS = 600_000
 
 
 class NotNow(Exception):
@@ -45,7 +45,7 @@ class Copy(NamedTuple):
 
 
 class Pending(NamedTuple):
-    """A change that was broken off, with the machine whose disk failed."""
+    """A change that was broken off, with the machine whose disk failed, or none where memory was wanting."""
 
     line: int
     pair: tuple
@@ -111,10 +111,9 @@ def flagged(cells, pair):
 
 def examined_to(replica, upto):
     """The copy behind the examination of the old file's first so many cells."""
-    copied = tuple(
-        cell for i, cell in enumerate(replica.cells[replica.copy.examined : upto], replica.copy.examined) if not cell.deleted and replica.last_of(cell.pair) == i
-    )
-    return replica.copy._replace(examined=upto, cells=replica.copy.cells + copied)
+    cells, copy = replica.cells, replica.copy
+    copied = tuple(cells[i] for i in range(copy.examined, upto) if not cells[i].deleted and replica.last_of(cells[i].pair) == i)
+    return copy._replace(examined=upto, cells=copy.cells + copied)
 
 
 def finished(replica):
@@ -196,6 +195,10 @@ class Part:
 
     waits = False
 
+    def fits_freeze(self, machine):
+        """Whether the part can come where the volume is frozen by this machine."""
+        return False
+
     def steps(self, scene, side, seen):
         """The sides and the next parts of the line that may stand behind this part, and what the lane has seen then."""
         return [(after, following, after.front) for after, following in self.held(scene, side)]
@@ -267,17 +270,43 @@ class PutFailed(Part):
 
 @dataclass(frozen=True)
 class DeleteFailed(Part):
-    """A flag failed, which freezes the volume, or a look at the photo, which changes nothing."""
+    """A flag failed, which freezes the volume, or a look at the photo, where one can, which changes nothing."""
 
     pending: Pending
     count: int
+    can_look: bool
     waits = True
 
     def held(self, scene, side):
         scene.must_be_open(side)
         after = scene.counted(side, scene.replica(self.pending.machine), self.count)
         froze = [(after.froze(self.pending.machine, self.pending), None)] if scene.holders(side, self.pending.pair) else []
-        return [(after, None), *froze]
+        return ([(after, None)] if self.can_look else []) + froze
+
+
+@dataclass(frozen=True)
+class Wanted(Part):
+    """A put, delete or read that wanted memory: it changed nothing, or froze the volume with one of these pending."""
+
+    pendings: tuple
+    size: int = None
+    waits = True
+
+    def held(self, scene, side):
+        is_change = self.pendings != (None,)
+        if side.frozen is not None or is_change and scene.closed(side) is not None:
+            return [(side, None)]
+        if self.size is not None and scene.lacks(side.replica.end(), self.size):
+            return [(side, None)]
+        pendings = [pending for pending in self.pendings if self.may_be(scene, side, pending)]
+        return [(side, None)] + [(side.froze(scene.machine(0), pending), None) for pending in pendings]
+
+    def fits_freeze(self, machine):
+        return True
+
+    def may_be(self, scene, side, pending):
+        """A deletion is pending only of a photo that stands."""
+        return pending is None or pending.photo is not None or scene.holders(side, pending.pair) != []
 
 
 @dataclass(frozen=True)
@@ -318,6 +347,9 @@ class NoRoom(Part):
 class ClosedBy(Part):
     machine: int
 
+    def fits_freeze(self, machine):
+        return machine == self.machine
+
     def held(self, scene, side):
         if (machine := scene.closed(side)) != self.machine:
             raise NotNow(f"volume {scene.volume} is " + ("closed by no machine" if machine is None else f"closed by machine {machine}"))
@@ -329,6 +361,9 @@ class Passed(Part):
     """A try of which the put tells nothing, and that did not take it."""
 
     size: int
+
+    def fits_freeze(self, machine):
+        return True
 
     def held(self, scene, side):
         lacks = scene.lacks(side.replica.end(), self.size) or scene.others_may_lack(self.size)
@@ -359,9 +394,12 @@ class Shown(Part):
     front: int
     disks: tuple = ()
 
+    def fits_freeze(self, machine):
+        return True
+
     def steps(self, scene, side, seen):
         if not seen <= self.front <= side.front:
-            raise NotNow(f"the lane had seen {seen} entries of volume {scene.volume}, which has {side.front}, and the line tells {self.front}")
+            raise NotNow(f"the lane had seen {seen} of the {side.front} entries of volume {scene.volume}, and the line tells {self.front}")
         for j, count in self.disks:
             side = scene.counted(side, j, count)
         return [(side, None, self.front)]
@@ -374,6 +412,9 @@ class Shown(Part):
 class Flush(Part):
     replica: int
     reply: object
+
+    def fits_freeze(self, machine):
+        return self.reply.word == "readonly" and self.reply.groups[0].machine == machine
 
     def held(self, scene, side):
         refused = self.reply.groups[0].machine if self.reply.word == "readonly" else None
@@ -411,7 +452,16 @@ class Work(Part):
     reply: object
     target: int = 0
 
+    @property
+    def waits(self):
+        return self.reply.word == "nomem"
+
+    def fits_freeze(self, machine):
+        return self.waits or self.reply.word == "readonly" and self.reply.groups[0].machine == machine
+
     def held(self, scene, side):
+        if self.reply.word == "nomem":
+            return [(side, None)] + (self.wanted(scene, side) if side.frozen is None else [])
         if side.frozen is not None:
             if self.reply.word != "readonly" or self.reply.groups[0].machine != side.frozen:
                 raise NotNow(f"volume {scene.volume} is frozen by machine {side.frozen}")
@@ -425,6 +475,16 @@ class Work(Part):
         if self.reply.word != "failed" or isinstance(self, Step) or type(self) is Begin:
             return [(side, None)]
         return [(side, None), (side.froze(scene.machine(self.replica)), None)]
+
+    def wanted(self, scene, side):
+        """What may stand behind work that wanted memory, besides what stood before."""
+        if scene.own != self.replica:
+            return [(side.froze(scene.machine(0)), None)]
+        return self.wanted_here(scene, side)
+
+    def ended(self, scene, side):
+        """The run is none, or memory was wanting to publish the swap, and the volume is frozen by replica 0's machine."""
+        return [(side.with_replica(copy=None), None), (swapped(side).froze(scene.machine(0)), None)]
 
     def fails(self, side, **changes):
         """The replica behind a failed call of its disk, where the line may have met one."""
@@ -465,6 +525,11 @@ class Begin(Work):
 
 
 class Compact(Begin):
+    def wanted_here(self, scene, side):
+        if side.replica.copy is not None or side.replica.generation == LAST_GENERATION:
+            return []
+        return self.began(side.with_replica(copy=Copy(side.replica.generation + 1, 0, (), self.line)))
+
     def began(self, side):
         return [(side, Examine(self.line, self.replica, self.reply, len(side.replica.cells)))]
 
@@ -473,16 +538,32 @@ class Examine(Work):
     """A `compact` behind its beginning: up to 64 cells at once until `target` are examined, and then the end."""
 
     def open(self, scene, side):
-        copy = side.replica.copy
-        if copy is None or copy.owner != self.line:
+        if not self.stands(side):
             self.needs("failed", "the line's compaction does not stand any more")
             return [(side, None)]
         failed = self.fails(side, copy=None)
-        if copy.examined >= self.target:
+        if side.replica.copy.examined >= self.target:
             return failed + self.ends(scene, side)
-        most = copy.examined + EXAMINED_AT_ONCE
+        return failed + self.goes_on(side)
+
+    def stands(self, side):
+        return side.replica.copy is not None and side.replica.copy.owner == self.line
+
+    def goes_on(self, side):
+        most = side.replica.copy.examined + EXAMINED_AT_ONCE
         ends = {min(most, self.target), min(most, len(side.replica.cells))}
-        return failed + [(side.with_replica(copy=examined_to(side.replica, upto)), self) for upto in sorted(ends)]
+        return [(side.with_replica(copy=examined_to(side.replica, upto)), self) for upto in sorted(ends)]
+
+    def held(self, scene, side):
+        if self.reply.word != "nomem" or side.frozen is not None or not self.stands(side):
+            return super().held(scene, side)
+        if side.replica.copy.examined >= self.target:
+            return self.ended(scene, side)
+        return [(side.with_replica(copy=None), None)] + self.goes_on(side)
+
+    def wanted_here(self, scene, side):
+        """Another line ended the compaction."""
+        return []
 
     def ends(self, scene, side):
         if self.reply.word == "compacted":
@@ -501,6 +582,16 @@ class Idle(Work):
 class Step(Idle):
     """A `step` of up to `target` cells."""
 
+    def wanted(self, scene, side):
+        return super().wanted(scene, side) if scene.own == self.replica else []
+
+    def wanted_here(self, scene, side):
+        if side.replica.copy is None:
+            return []
+        examined = side.replica.copy.examined
+        upto = range(examined + 1, min(len(side.replica.cells), examined + self.target) + 1)
+        return [(side.with_replica(copy=examined_to(side.replica, cells)), None) for cells in upto]
+
     def standing(self, scene, side):
         if self.reply.word == "failed":
             return self.fails(side, copy=None)
@@ -513,6 +604,9 @@ class Step(Idle):
 
 
 class Finish(Idle):
+    def wanted_here(self, scene, side):
+        return [] if side.replica.copy is None else self.ended(scene, side)
+
     def standing(self, scene, side):
         if self.reply.word == "failed":
             return self.fails(side, copy=None) + self.fails_to_switch(scene, side)
@@ -540,6 +634,10 @@ class Furthest:
     done: int = -1
     reasons: tuple = ()
 
+    def meet(self, done, reasons):
+        if reasons and done > self.done:
+            self.done, self.reasons = done, tuple(reasons)
+
 
 def moves_of(scene, side, courses, lanes):
     """What may come next: (lane, side, course). A part that changes nothing comes at once, since it stands in no other's way."""
@@ -565,6 +663,14 @@ def moves_of(scene, side, courses, lanes):
     return moves, reasons
 
 
+def stuck_line(side, courses, lanes):
+    """A line that is still to come and cannot, since the volume is frozen, or none."""
+    if side.frozen is None:
+        return None
+    left = ((line, part) for course, lane in zip(courses, lanes) for line, part in lane[course.done :])
+    return next((line for line, part in left if not part.fits_freeze(side.frozen)), None)
+
+
 def orders(scene, side, lanes, furthest):
     """All that may stand behind the parts of some lanes, each a list of (line, part), whatever their order."""
     first = (side, tuple(Course(0, None, side.front) for _ in lanes))
@@ -577,13 +683,16 @@ def orders(scene, side, lanes, furthest):
             ends.add(side)
             continue
         moves, reasons = moves_of(scene, side, courses, lanes)
-        if reasons and done > furthest.done:
-            furthest.done, furthest.reasons = done, tuple(reasons)
         for lane, after, course in moves:
             moment = (after, courses[:lane] + (course,) + courses[lane + 1 :])
-            if moment not in found:
-                found.add(moment)
-                open_moments.append(moment)
+            if moment in found:
+                continue
+            if (line := stuck_line(*moment, lanes)) is not None:
+                reasons.append(f"line {line}: volume {scene.volume} would be frozen by then")
+                continue
+            found.add(moment)
+            open_moments.append(moment)
+        furthest.meet(done, reasons)
         if len(found) > MOST_MOMENTS:
             raise TooMany(f"more than {MOST_MOMENTS} moments of volume {scene.volume}")
     return ends

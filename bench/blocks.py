@@ -5,61 +5,56 @@
     bench/blocks.py blocks [--program PATH] [--blocks N] [--seed N] [--keep FOLDER]
     bench/blocks.py faults [--scripts N] [--seed N] [--only WORD]
 
-`judge` reads a script and the transcript of a run of it over void disks, and tells of each block whether it is lawful. It stops at
-the first item that is not. `blocks` draws scripts of plain lines, blocks of 2 to 8 lanes and restarts until there are N blocks, and
-judges what the store of block_store.py prints of them; with --program what the program prints. `faults` has one planted fault after
-the other in that store, and tells how many scripts it takes until the judge finds it.
+`judge` reads a script and the transcript of a run of it over void disks, and tells of each block whether it is lawful; it stops at the
+first item that is not. `blocks` draws scripts of plain lines, blocks of 2 to 8 lanes and restarts until there are N blocks, and judges
+what the store of block_store.py prints of them, or with --program what the program does. `faults` takes that store with one planted
+fault after the other (block_faults.py), and tells how many scripts it takes until the judge finds it.
 
-The judge is written from the rules on blocks of docs/model.md, plain lines and restarts among them, and from no definition or code of
-the program. It keeps all states that the store may stand at, with the least counts of faults. A plain line is judged as a block of
-one lane. What a line met of a volume is taken apart into parts (block_volume.py), and a block is lawful where no rule below
-refuses it and where, for each replica, the parts have an order, each lane's in its own, by which each was answered as it was. The
-states behind it are those that such orders leave.
+The judge is written from the rules of docs/model.md, and from no definition or code of the program. It keeps all states that the store
+may stand at, with the least counts of faults. A plain line is judged as a block of one lane. What each line did to a volume, or found
+there, is taken apart into parts (block_volume.py). A block is lawful where no rule below refuses it, and where the parts at each
+replica have an order, each lane's in its own, by which each line was answered as it was. What such orders leave stands behind it.
 
-rule                                                               held by (block_judge.py, or block_volume.py where it is said)
------------------------------------------------------------------  ----------------------------------------------------------------
-each line has one reply, in order, with its one text               take_turn, reply_of (block_text.py)
-a reply is of a kind of its command, and never damaged             kinds
-nowhere exactly where it is due; own volume and machine            kinds, own_place
-B1 the log is the acknowledged lines, at their positions           new_entries; must_be_next (block_volume.py)
-B2 rows, and why each earlier try did not take the photo           new_rows; decision, Passed and Takes (block_volume.py)
-B3 fronts of a lane                                                fronts; Shown (block_volume.py)
-B4 answers at their fronts                                         answers, right_photo, right_url, right_causes
-B5 counts of failures come up, differ, rise in a lane              counts; counted, fails (block_volume.py)
-B5 one change of a volume is pending                               PutFailed, DeleteFailed (block_volume.py)
-B6 ends of refusals for room, and room at each put                 needs, ends_in_range; NoRoom, Stored (block_volume.py)
-B7 who closed a volume                                             closings; ClosedBy, Flush, Work (block_volume.py)
-B7 groups are the tries in order, of a pair without a home         groups, directory_in_order
-B7 readonly dir and failed dir                                     directory_in_order
-B7 busy, worn, and the generations made                            generations; Begin (block_volume.py)
-B7 records flushed                                                 Flush (block_volume.py), stays_in_range
-B8 what is left behind the block                                   stand_behind, stays_in_range
-no change comes to a volume that was closed before                 must_be_open, in each change (block_volume.py)
-a refusal for room names the lowest replica without room           NoRoom (block_volume.py)
-ends and records are those of some front, in each lane's order     orders (block_volume.py)
-a freeze is one line's; who met it meets it later too              PutFailed, DeleteFailed, fails_to_switch, orders (block_volume.py)
-the count that froze a volume is the last of a failed              counted, with orders (block_volume.py)
-who froze the Directory, or met it so, adds no row                 directory_in_order
-what a lane was told of a home it keeps                            directory_in_order, told_of_home
-a run of before ends by a delete whose disk failed, or a freeze    Deleted, froze (block_volume.py)
-an index that is stuck is loose behind a swap alone                Flush, swapped (block_volume.py)
-generations that a lane makes rise                                 Begin, with orders (block_volume.py)
-restarts and their notes                                           worlds_restarted, notes_fit, reopened
+each line has one reply, in order, with its one text          block_text: take_turn, reply_of
+a reply is of a kind of its command; nowhere where it is due  block_judge: kinds, own_place
+where no read can fail each shows its start replica           block_judge: start_replicas
+the log has the acknowledged lines, at their positions        block_judge: new_entries; block_volume: must_be_next
+rows, and why no earlier try took the photo                   block_judge: new_rows, decision; block_volume: Passed, Takes
+fronts, positions and rows of a lane rise                     block_judge: fronts; block_volume: Shown
+answers at their fronts                                       block_judge: answers, right_photo, right_url, right_causes
+counts of failures come up, and none is told twice            block_judge: counts, arm_counts; block_volume: counted, fails
+no change comes to a volume that is closed                    block_volume: must_be_open, in each change
+room at each put; the lowest replica without room, its end    block_judge: needs, ends_in_range; block_volume: Stored, NoRoom
+who closed a volume, and when                                 block_judge: closings; block_volume: ClosedBy, Flush, Work
+groups are the tries in order, of a pair without a home       block_judge: groups, homes_in_order
+ends and records are of one moment, in each lane's order      block_volume: orders
+a freeze is one line's, and who met it meets it later too     block_volume: froze, PutFailed, DeleteFailed, Wanted, orders
+one change of a volume is pending, and one row                block_volume: Pending, with froze; block_judge: ways_of
+the count that froze a volume is its disk's last one told     block_volume: counted, with orders
+the Directory's freeze, and what a lane knows of homes        block_judge: directory_in_order, met_frozen, homes_in_order
+a run of before ends by a deletion whose disk failed, or by   block_volume: Deleted, froze
+  a freeze
+busy, worn, and the generations that are made                 block_judge: generations; block_volume: Begin, with orders
+records that a flush writes; an index that is stuck           block_volume: Flush, swapped
+want of memory                                                block_judge: wanted_choices; block_volume: Wanted, wanted_here
+what is left behind the block                                 block_judge: stand_behind, stays_in_range, directory_behind
+restarts and their notes                                      block_judge: worlds_restarted, notes_fit, reopened
 
-It asks for more than these rules in four ways. `one_order`: the lanes' order, the positions, the rows and the fronts stand in one order
-over all volumes. `orders`: the lines of a replica came in one order, where the rules ask for each front by itself. A lane that held a
-lock is shown all that came before. And a swap leaves just the cells that its order makes of it, where the rules have a range.
+It asks for more than the rules in these: the lanes' order, positions, rows and fronts stand in one order over all volumes (`one_order`);
+all lines of a replica came in one order, not each at some front by itself; a lane that held a lock is shown all that came before; and a
+swap leaves just the cells that its order makes of it, where the rules have a range.
 
 It does not hold these:
-- replicas that a read passed over are laid to no count, so the counts of arms and disks behind a turn may be taken as too low;
-- of a refusal of a volume of several replicas it does not ask that one moment fits all replicas, and of an earlier try without a group
-  it asks for a lack of room only where no other replica can lack it in the block;
-- of `readonly dir` in a block it does not ask that a try takes the photo;
-- `nomem` is not judged: a turn that has it, or that has more orders than can be looked at, is undecided.
+- replicas that a read passed over are laid to no count, so the counts of arms and disks may be taken as too low behind it;
+- of a refusal of a volume it does not ask that one moment fits all of its replicas, and an earlier try that no group tells of may lack
+  room on any replica that can lack it at some moment of the block;
+- of `readonly dir` and `failed dir` in a block it asks that some try can have taken the photo, and not when;
+- a restart that is answered `nomem`, an `open` line, and a turn that has more orders than it looks at are undecided.
 """
 
 import argparse
 import collections
+import itertools
 import random
 import subprocess
 import sys
@@ -73,8 +68,11 @@ from block_store import Store
 SIZES = ((0, 1, 20, 600), (1, 500, 900, 1500), (3, 40, 3000))
 MIXES = ((5, 4, 1, 2, 1, 1, 1), (8, 2, 0, 2, 0, 1, 1), (3, 8, 2, 1, 1, 0, 0), (5, 2, 0, 3, 0, 2, 3))
 MOST_LINES = 40
-# how often an arm fails, or a look at a disk
+# how often an arm fails, or a look at a disk; and how often memory is wanting
 FLAKY = (0, 0, 0, 0.1)
+SCARCE = (0, 0, 0, 0, 0, 0.02)
+# how many more scripts are tried for a fault that was found outside of a block
+MOST_FURTHER = 100
 
 
 # SCRIPTS
@@ -91,8 +89,8 @@ class Script:
         self.settings = text.Settings(machines, draw.choice((1, 1, 2, 3)), replicas, draw.choice((4096, 4096, 4600, 65536)), secret)
         self.keys, self.sizes = draw.choice((2, 3, 4)), draw.choice(SIZES)
         self.lines, self.blocks = [], 0
-        for _ in range(draw.randrange(8)):
-            self.lines.append(self.plain_line())
+        for _ in range(draw.randrange(12)):
+            self.lines.append(self.lane_line((9, 0, 0, 1, 0, 1, 1)) if draw.random() < 0.7 else self.plain_line())
         for _ in range(draw.randint(1, 5)):
             self.add_block()
 
@@ -169,18 +167,21 @@ class Script:
 
     def add_reads(self):
         """Reads each pair from each replica, and flushes and compacts each at times."""
-        for key in range(self.keys):
-            for alt in (1, 2):
-                self.lines += [f"read {key} {alt} {text.cookie_of(self.settings.secret, key):x}"] * self.settings.replicas
-        for volume in range(self.settings.volumes):
-            for replica in range(self.settings.replicas):
-                if self.draw.random() < 0.3:
-                    self.lines.append(f"{self.draw.choice(('flush', 'compact'))} {volume} {self.settings.machine_of(volume, replica)}")
+        for key, alt in itertools.product(range(self.keys), (1, 2)):
+            self.lines += [f"read {key} {alt} {text.cookie_of(self.settings.secret, key):x}"] * self.settings.replicas
+        for volume, replica in itertools.product(range(self.settings.volumes), range(self.settings.replicas)):
+            if self.draw.random() < 0.3:
+                word = self.draw.choice(("flush", "compact"))
+                self.lines.append(f"{word} {volume} {self.settings.machine_of(volume, replica)}")
 
 
 def flaky_of(seed):
     """How often a read of a script's store fails."""
     return random.Random(seed).choice(FLAKY)
+
+
+def store_of(kind, script, seed):
+    return kind(script.settings, seed, flaky_of(seed), random.Random(f"memory {seed}").choice(SCARCE))
 
 
 def verdicts_of(script, transcript, sure):
@@ -190,7 +191,7 @@ def verdicts_of(script, transcript, sure):
 def transcript_of(program, script, seed):
     """What the program prints of a script, or the store where there is no program."""
     if program is None:
-        return Store(script.settings, seed, flaky_of(seed)).run(script.text())
+        return store_of(Store, script, seed).run(script.text())
     done = subprocess.run([program, "run", *script.settings.words()], input=script.text(), capture_output=True, timeout=600, check=False)
     if done.returncode != 0:
         sys.exit(f"seed {seed}: status {done.returncode}, {done.stderr!r}")
@@ -201,32 +202,30 @@ def transcript_of(program, script, seed):
 
 
 class Tally:
-    """How blocks and other items were judged, and which replies stand in the blocks."""
+    """How blocks and other items were judged, and which replies and notes their transcripts have."""
 
     def __init__(self):
-        self.blocks, self.plain, self.lanes, self.replies = (collections.Counter() for _ in range(4))
+        self.blocks, self.plain, self.lanes, self.in_blocks, self.others = (collections.Counter() for _ in range(5))
 
     def add(self, verdicts, transcript, script):
-        lines_of = {asked.line for item in text.items_of(script) if isinstance(item, text.Block) for asked in item.asked}
         for verdict in verdicts:
-            if verdict.is_block:
-                self.blocks[verdict.word] += 1
-                self.lanes[verdict.lanes] += 1
-            else:
-                self.plain[verdict.word] += 1
+            (self.blocks if verdict.is_block else self.plain)[verdict.word] += 1
+        items = [item for item in text.items_of(script) if isinstance(item, text.Block)]
+        self.lanes.update(len({asked.lane for asked in item.asked if asked.command}) for item in items)
+        in_block = {str(asked.line) for item in items for asked in item.asked}
         for line in transcript.splitlines()[1:]:
             first, _, reply = line.partition(" ")
-            if first.isdigit() and int(first) in lines_of:
-                self.replies[text.reply_of(reply).word] += 1
+            counter = self.in_blocks if first in in_block else self.others
+            counter[text.reply_of(reply).word if first.isdigit() else first] += 1
 
     def told(self):
         def parts(counter):
-            return ", ".join(f"{count} {word}" for word, count in sorted(counter.items(), key=lambda item: str(item[0])))
+            return ", ".join(f"{count} {word}" for word, count in sorted(counter.items()))
 
+        lanes = ", ".join(f"{count} of {number}" for number, count in sorted(self.lanes.items()))
         return (
-            f"blocks: {parts(self.blocks)}; other items: {parts(self.plain)}\n"
-            f"blocks by the lanes that have lines: {', '.join(f'{lanes}: {count}' for lanes, count in sorted(self.lanes.items()))}\n"
-            f"replies in blocks: {parts(self.replies)}"
+            f"blocks: {parts(self.blocks)}; other items: {parts(self.plain)}\nblocks by their lanes: {lanes}\n"
+            f"replies in blocks: {parts(self.in_blocks)}\nother replies, and notes: {parts(self.others)}"
         )
 
 
@@ -258,16 +257,17 @@ def found_by(kind, options):
     """After how many scripts a fault is found, and after how many in a block, each with the verdict, where it is."""
     first, in_block = None, None
     for count in range(1, options.scripts + 1):
+        if in_block or (first and count > first[0] + MOST_FURTHER):
+            break
         seed = options.seed + count
         script = Script(seed)
-        transcript = kind(script.settings, seed, flaky_of(seed)).run(script.text())
+        transcript = store_of(kind, script, seed).run(script.text())
         last = verdicts_of(script, transcript, flaky_of(seed) == 0)[-1]
         if last.word != "unlawful":
             continue
         first = first or (count, last)
         if last.is_block:
             in_block = (count, last)
-            break
     return first, in_block
 
 
@@ -280,7 +280,7 @@ def run_faults(options):
         first, in_block = found_by(kind, options)
         missed += first is None
         told = (in_block or first or (0, None))[1]
-        counts = " | ".join(str(found[0]) if found else f"not in {options.scripts}" for found in (first, in_block))
+        counts = " | ".join(str(found[0]) if found else "none" for found in (first, in_block))
         print(f"| {name} | {counts} | {told.reasons[0] if told else ''} |", flush=True)
     return 1 if missed else 0
 
