@@ -1,0 +1,3 @@
+pub mod NeedleRuns
+pub mod Volumes
+pub mod RowRuns

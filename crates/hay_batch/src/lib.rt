@@ -1,0 +1,16 @@
+//! Batches of photos. A batch is one photo at least and 64 at most, whose needles take 67,108,864 bytes at most.
+//! It stands on `hay_base`, `hay_needle`, `hay_disk`, `byteorder`, `hay_head`, `hay_volume` and `hay_dirfile`.
+//!
+//! A batch's needles are added to a volume file by one gated append, and so are its rows to a journal: whatever a stop
+//! leaves has all of them or none.
+#![tactic(auto)]
+
+mod append;
+mod needles;
+mod photo;
+mod rows;
+mod settle;
+
+pub use append::append_many;
+pub use photo::{MAX_PHOTOS, MAX_TOTAL, NewPhoto, batch_total};
+pub use settle::settle_many;
