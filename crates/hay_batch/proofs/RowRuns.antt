@@ -67,7 +67,7 @@ length-body body rows made =
 
 -- THE JOURNAL
 
-rows_end : (rows more : List DirRow) → journal_end (rows ++ more) ≡ journal_end rows + 24 * length more
+pub rows_end : (rows more : List DirRow) → journal_end (rows ++ more) ≡ journal_end rows + 24 * length more
 rows_end rows more = omega (arith, length-append rows more)
 
 -- rows of the volumes that there are

@@ -35,6 +35,10 @@ new_cells at (photo ∷ photos) = live_cell at photo.pair photo.cookie photo.byt
 abbrev pub AreNeedles : List ℕ → List NewPhoto → Type 0
 AreNeedles bytes photos = (at : ℕ) → AreCellsAt at bytes (new_cells at photos)
 
+-- the row by which a photo is kept in a volume
+abbrev pub new_row : ℕ → NewPhoto → DirRow
+new_row volume photo = record { pair = photo.pair; volume = volume }
+
 -- the numbers of a row are those of its pair
 pub record RowFits (row : DirRow) : Type 0 where
   pub key : row.pair.key < 2 ^ 64

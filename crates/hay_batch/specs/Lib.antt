@@ -1,1 +1,4 @@
 pub mod Batches
+pub mod Directories
+pub mod Homes
+pub mod Replicas

@@ -6,11 +6,18 @@
 #![tactic(auto)]
 
 mod append;
+mod directory;
+mod homes;
 mod needles;
 mod photo;
+mod replica;
+mod replicas;
 mod rows;
 mod settle;
 
 pub use append::append_many;
+pub use directory::LoadDirectory;
+pub use homes::Homes;
 pub use photo::{MAX_PHOTOS, MAX_TOTAL, NewPhoto, batch_total};
+pub use replica::LoadReplica;
 pub use settle::settle_many;
