@@ -5,3 +5,5 @@ pub mod ReplicaLaws
 pub mod Lists
 pub mod HomeLaws
 pub mod DirectoryLaws
+pub mod StoreLaws
+pub mod Loading

@@ -1,5 +1,5 @@
 -- Items by their places, and lists whose items are called in order.
-use Rattle.std.proofs.Common.{◌≡◌, ◌≢◌, inl, inr, ℕ, zero, suc, ◌+◌, ◌<◌, ◌≤◌, List, [], ◌∷◌, length, Some, refl, sym, ap, subst, ◌∙◌, arith}
+use Rattle.std.proofs.Common.{◌≡◌, ◌≢◌, ◌⊎◌, inl, inr, ℕ, zero, suc, ◌+◌, ◌<◌, ◌≤◌, List, [], ◌∷◌, ◌++◌, length, Some, refl, sym, ap, subst, ◌∙◌, arith}
 use Rattle.std.specs.Prelude.{slice_get, slice_set, slice_index_or}
 use Rattle.std.proofs.lemmas.Bool.{cases_lt}
 use Rattle.hay_batch.specs.Replicas.{At}
@@ -41,6 +41,16 @@ pub length-slice_set : {X : Type 0} (xs : List X) (j : ℕ) (x : X) → length (
 length-slice_set [] j x = refl
 length-slice_set (y ∷ xs) zero x = refl
 length-slice_set (y ∷ xs) (suc j) x = let h = length-slice_set xs j x in omega (arith, h)
+
+-- an item of a longer list is one of the shorter, or the last
+pub at_either : {X : Type 0} (xs : List X) (z : X) (j : ℕ) (x : X) → At (xs ++ z ∷ []) j x → At xs j x ⊎ ((j ≡ length xs) × (x ≡ z))
+at_either [] z zero x e = inr (refl, cc)
+at_either [] z (suc j) x e = absurd cc
+at_either (y ∷ xs) z zero x e = inl e
+at_either (y ∷ xs) z (suc j) x e = elim (at_either xs z j x e) [
+  | inl h ↦ inl h
+  | inr h ↦ inr (let e : suc j ≡ suc (length xs) = ap suc h.0 in e, h.1)
+]
 
 -- ITEMS IN ORDER
 

@@ -2,3 +2,4 @@ pub mod Batches
 pub mod Directories
 pub mod Homes
 pub mod Replicas
+pub mod Stores

@@ -7,17 +7,23 @@
 
 mod append;
 mod directory;
+mod fault;
 mod homes;
+mod load;
 mod needles;
 mod photo;
 mod replica;
 mod replicas;
 mod rows;
 mod settle;
+mod store;
 
 pub use append::append_many;
 pub use directory::LoadDirectory;
+pub use fault::{FullTry, LoadFault};
 pub use homes::Homes;
+pub use load::Loaded;
 pub use photo::{MAX_PHOTOS, MAX_TOTAL, NewPhoto, batch_total};
 pub use replica::LoadReplica;
 pub use settle::settle_many;
+pub use store::{LoadStore, LoadVolume};
