@@ -7,3 +7,4 @@ pub mod HomeLaws
 pub mod DirectoryLaws
 pub mod StoreLaws
 pub mod Loading
+pub mod Showing

@@ -1,9 +1,10 @@
 -- What a store holds when a batch was added to the replicas of one volume, and what a stop leaves of it.
-use Rattle.std.proofs.Common.{◌≡◌, ◌≢◌, ◌⊎◌, inl, inr, ◌<◌, ◌+◌, ℕ, Bool, true, false, cond, List, ◌++◌, length, map, refl, sym, ap, subst, ◌∙◌, arith}
+use Rattle.std.proofs.Common.{◌≡◌, ◌≢◌, ◌⊎◌, inl, inr, ◌<◌, ◌+◌, ◌*◌, ℕ, List, ◌++◌, length, map, refl, sym, ap, subst, ◌∙◌, arith}
 use Rattle.std.proofs.lemmas.Bool.{cond-true, cond-false}
 use Rattle.std.proofs.lemmas.Bool.Decides.{eqb_tells}
 use Rattle.hay_needle.specs.declared.needle.Cell.{Cell}
 use Rattle.hay_needle.specs.declared.settings.Settings.{Settings}
+use Rattle.hay_disk.specs.Counts.{Rose}
 use Rattle.hay_disk.specs.Disk.{Files, IsImage}
 use Rattle.hay_volume.specs.Cells.{IsVolume}
 use Rattle.hay_volume.specs.declared.volume.VolumeFile.{VolumeFile}
@@ -11,14 +12,15 @@ use Rattle.hay_volume.proofs.Volumes.{volume_kept}
 use Rattle.hay_dirfile.specs.Journal.{IsJournal}
 use Rattle.hay_dirfile.specs.declared.row.DirRow.{DirRow}
 use Rattle.hay_batch.specs.declared.directory.LoadDirectory.{LoadDirectory}
+use Rattle.hay_batch.specs.declared.fault.LoadFault.{LoadFault}
+use Rattle.hay_batch.specs.declared.replicas.AppendFault.{AppendFault}
 use Rattle.hay_batch.specs.declared.photo.NewPhoto.{NewPhoto}
 use Rattle.hay_batch.specs.declared.replica.LoadReplica.{LoadReplica}
 use Rattle.hay_batch.specs.declared.store.LoadStore.{LoadStore}
-use Rattle.hay_batch.specs.declared.store.LoadVolume.{LoadVolume}
 use Rattle.hay_batch.specs.Batches.{batch_total, new_cells, new_row}
-use Rattle.hay_batch.specs.Directories.{HoldsRows, MaySettle}
-use Rattle.hay_batch.specs.Replicas.{Adds, At, HasWithOrWithout, Holds, MayAdd, file_of}
-use Rattle.hay_batch.specs.Stores.{AreContents, AreWithoutRows, Contents, Images, IsShaped, MayLeaveStore, ReplicaAt, Stands, with_batch}
+use Rattle.hay_batch.specs.Directories.{HoldsRows}
+use Rattle.hay_batch.specs.Replicas.{Adds, HasWithOrWithout, Holds, MayAdd, file_of}
+use Rattle.hay_batch.specs.Stores.{AreContents, AreWithoutRows, Contents, FailsReplica, Images, IsShaped, MayLeaveStore, ReplicaAt, Stands, with_batch}
 use Rattle.hay_batch.proofs.Lists.{at_below, at_there}
 use Rattle.hay_batch.proofs.RowRuns.{journal_kept}
 
@@ -185,3 +187,33 @@ module _ {D : Type 0} (files : D → Files) (v : ℕ) (photos : List NewPhoto) (
 -- where the Directory was not called, a stop leaves its rows
 pub rows_kept : {D : Type 0} (files : D → Files) (superblock : List ℕ) (volumes : ℕ) (rows : List DirRow) (d : LoadDirectory D) (image : List ℕ) → HoldsRows files superblock volumes rows d → IsImage (files d.disk 0) image → IsJournal superblock volumes image rows
 rows_kept files superblock volumes rows d image has leaves = journal_kept superblock volumes (files d.disk 0) image rows d.journal.end has.end has.ready has.is (λ k from to. has.solid.places k) leaves
+
+-- where nothing was changed, a stop leaves what there was
+pub left_same : {D : Type 0} (files : D → Files) (photos : List NewPhoto) (k : Contents) (store : LoadStore D) (left : Images) → IsShaped store → Stands files store k → MayLeaveStore files store left → AreWithoutRows store.settings photos k left
+left_same files photos k store left shape stands leaves = record {
+  rows = rows_kept files k.superblock store.settings.volumes k.rows store.directory left.journal stands.directory leaves.journal;
+  cells = λ u j below within.
+      let is = replica_there store u j shape below within in
+      inl (subst (λ n. IsVolume (k.superblocks u j) (left.volumes u j) (k.cells u j) n) (stands.ends u j is.0 is.1)
+      (held_image files (k.superblocks u j) (k.cells u j) is.0 (left.volumes u j) (stands.replicas u j is.0 is.1) (leaves.volumes u j is.0 is.1)));
+}
+
+-- WHICH DISK FAILED
+
+pub refused_is : (fault : AppendFault) (answer : LoadFault) (slot faults base : ℕ) → ((j n : ℕ) → fault ≡ AppendFault.Failed j n → answer ≡ LoadFault.Failed (base + j) n) → (fault ≡ AppendFault.NoMemory → answer ≡ LoadFault.NoMemory)
+    → answer ≡ LoadFault.Failed slot faults → (j : ℕ) × (fault ≡ AppendFault.Failed j faults) × (slot ≡ base + j)
+refused_is (AppendFault.Failed j n) answer slot faults base failed wanting is =
+    let told : answer ≡ LoadFault.Failed (base + j) n = failed j n refl in
+    let count : n ≡ faults = cc in
+    let place : slot ≡ base + j = cc in
+    (j, ap (λ m. AppendFault.Failed j m) count, place)
+refused_is AppendFault.NoMemory answer slot faults base failed wanting is = let told : answer ≡ LoadFault.NoMemory = wanting refl in absurd cc
+
+pub fails_replica : {D : Type 0} (fault_count : D → ℕ) (v j slot faults : ℕ) (old new : LoadStore D) → Touches v old new → v < old.settings.volumes → slot ≡ 1 + v * old.settings.replicas + j
+    → (j < old.settings.replicas) × ((r r' : LoadReplica D) → ReplicaAt old v j r → ReplicaAt new v j r' → Rose (fault_count r.disk) (fault_count r'.disk) × (faults ≡ fault_count r'.disk))
+    → FailsReplica fault_count old new slot faults
+fails_replica fault_count v j slot faults old new touched below place failed =
+    let was = replica_there old v j touched.was below failed.0 in
+    let is = replica_there new v j touched.is (subst (λ (s : Settings). v < s.volumes) (sym touched.settings) below) (subst (λ (s : Settings). j < s.replicas) (sym touched.settings) failed.0) in
+    let rose = failed.1 was.0 is.0 was.1 is.1 in
+    record { v = v; j = j; before = was.0; after = is.0; was = was.1; is = is.1; place = place; rose = rose.0; count = rose.1 }

@@ -1,6 +1,6 @@
 -- A store that a batch is loaded to.
-use Rattle.std.proofs.Common.{◌≡◌, ◌≢◌, ◌⊎◌, inl, inr, ◌<◌, ◌≤◌, ◌+◌, ◌%◌, ℕ, List, [], ◌∷◌, ◌++◌, Result, Ok, Err, length, get_or, take, drop, refl, sym, ap, subst, ◌∙◌, arith, length-append, append-nil}
-use Rattle.std.specs.Prelude.{IfErr, OnOk, slice_get, slice_set}
+use Rattle.std.proofs.Common.{◌≡◌, ◌≢◌, inl, inr, ◌<◌, ◌≤◌, ◌+◌, ◌%◌, ℕ, List, [], ◌∷◌, ◌++◌, Result, Ok, Err, length, get_or, take, drop, refl, sym, ap, subst, ◌∙◌, arith, length-append, append-nil}
+use Rattle.std.specs.Prelude.{IfErr, IfOk, OnOk, slice_set}
 use Rattle.std.specs.Vec.{with_item, with_items}
 use Rattle.std.proofs.lemmas.Bool.{cases_eq}
 use Rattle.std.proofs.lemmas.List.{drop_all, take_all}
@@ -9,8 +9,8 @@ use Rattle.hay_batch.specs.declared.fault.FullTry.{FullTry}
 use Rattle.hay_batch.specs.declared.replica.LoadReplica.{LoadReplica}
 use Rattle.hay_batch.specs.declared.store.LoadStore.{LoadStore}
 use Rattle.hay_batch.specs.declared.store.LoadVolume.{LoadVolume}
-use Rattle.hay_batch.specs.Replicas.{At, IsFirstFull}
-use Rattle.hay_batch.specs.Stores.{AreTries, IsShaped, IsTry, KeepsCounts, ReplicaAt, try_at}
+use Rattle.hay_batch.specs.Replicas.{At, HasRoom, IsFirstFull}
+use Rattle.hay_batch.specs.Stores.{AreTries, IsFirstRoom, IsShaped, IsTry, KeepsCounts, ReplicaAt, try_at}
 use Rattle.hay_batch.proofs.Lists.{at_below, at_either, at_read, at_same, at_set_other, at_set_same, length-slice_set}
 
 -- TRIES
@@ -37,6 +37,20 @@ tries_more store key need turn tries more full longer before one = record {
     | inl h ↦ before.are i x h
     | inr h ↦ subst (λ k. IsTry store key need k x) (sym (h.0 ∙ before.count)) (subst (λ y. IsTry store key need turn y) (sym h.1) one)
   ];
+}
+
+-- of the same key and as many bytes
+pub same_tries : {D : Type 0} (store : LoadStore D) (key other need total turns : ℕ) (tries : List FullTry) → key ≡ other → need ≡ total → AreTries store key need turns tries → AreTries store other total turns tries
+same_tries store key other need total turns tries same much are = subst (λ n. AreTries store other n turns tries) much (subst (λ n. AreTries store n need turns tries) same are)
+
+pub first_room : {D : Type 0} (store : LoadStore D) (key other need total volume : ℕ) → key ≡ other → need ≡ total → (turn : ℕ) × (volume ≡ try_at store.settings key turn) × (tries : List FullTry) × AreTries store key need turn tries
+    → ((w : LoadVolume D) → At store.volumes.items volume w → (j : ℕ) (r : LoadReplica D) → At w.replicas.items j r → HasRoom need r) → IsFirstRoom store other total volume
+first_room store key other need total volume same much first room = record {
+  turn = first.0;
+  is = subst (λ n. volume ≡ try_at store.settings n first.0) same first.1;
+  tries = first.2;
+  before = same_tries store key other need total first.0 first.2 same much first.3;
+  room = λ j r there. subst (λ n. HasRoom n r) much (room there.0 there.1 j r there.2);
 }
 
 -- ONE VOLUME IS CHANGED
@@ -144,3 +158,7 @@ on_ok_more (Err e) P Q holds more = tt
 pub if_err_more : {T E : Type 0} (r : Result T E) (P Q R : E → Type 0) → IfErr r P → IfErr r Q → ((e : E) → P e → Q e → R e) → IfErr r R
 if_err_more (Ok x) P Q R first second more = tt
 if_err_more (Err e) P Q R first second more = more e first second
+
+pub if_ok_more : {T E : Type 0} (r : Result T E) (P Q : T → Type 0) → IfOk r P → ((x : T) → P x → Q x) → IfOk r Q
+if_ok_more (Ok x) P Q holds more = more x holds
+if_ok_more (Err e) P Q holds more = tt

@@ -1,6 +1,8 @@
 -- What a batch of photos is, and the cells and rows that it adds.
-use Rattle.std.specs.Prelude.{◌<◌, ◌≤◌, ◌+◌, ◌^◌, ℕ, List, [], ◌∷◌, length, sum_by, All}
+use Rattle.std.specs.Prelude.{◌≡◌, ◌<◌, ◌≤◌, ◌+◌, ◌^◌, ◌≢◌, ℕ, List, [], ◌∷◌, Some, length, slice_get, sum_by, All}
 use Rattle.hay_needle.specs.declared.needle.Cell.{Cell}
+use Rattle.hay_needle.specs.declared.needle.Outcome.{Outcome}
+use Rattle.hay_needle.specs.declared.needle.Outcome.TheVariants as outcome
 use Rattle.hay_needle.specs.declared.needle.Version.TheVariants.{Two}
 use Rattle.hay_needle.specs.Sizes.{max_photo, needle_total}
 use Rattle.hay_volume.specs.Cells.{AreCellsAt, live_cell}
@@ -25,6 +27,14 @@ pub record IsBatch (photos : List NewPhoto) : Type 0 where
   pub most : length photos ≤ 64
   pub storable : All IsStorable photos
   pub total : batch_total photos ≤ 67108864
+
+-- no two photos are of one pair
+abbrev pub AreDistinct : List NewPhoto → Type 0
+AreDistinct photos = (i j : ℕ) (a b : NewPhoto) → i < j → slice_get photos i ≡ Some a → slice_get photos j ≡ Some b → a.pair ≢ b.pair
+
+-- what a pair has whose last needle is that of this photo
+abbrev pub shown_of : NewPhoto → Outcome
+shown_of photo = outcome.Photo (record { cookie = photo.cookie; bytes = photo.bytes })
 
 -- the cells of these photos without gaps, the first of them at `at`
 abbrev pub new_cells : ℕ → List NewPhoto → List Cell

@@ -8,6 +8,7 @@ use Rattle.hay_volume.specs.Cells.{IsVolume}
 use Rattle.hay_dirfile.specs.Journal.{IsJournal}
 use Rattle.hay_dirfile.specs.declared.row.DirRow.{DirRow}
 use Rattle.hay_batch.specs.declared.fault.FullTry.{FullTry}
+use Rattle.hay_batch.specs.declared.fault.LoadFault.{LoadFault}
 use Rattle.hay_batch.specs.declared.photo.NewPhoto.{NewPhoto}
 use Rattle.hay_batch.specs.declared.replica.LoadReplica.{LoadReplica}
 use Rattle.hay_batch.specs.declared.store.LoadStore.{LoadStore}
@@ -15,7 +16,7 @@ use Rattle.hay_batch.specs.declared.store.LoadVolume.{LoadVolume}
 use Rattle.hay_batch.specs.Batches.{batch_total, new_cells, new_row}
 use Rattle.hay_batch.specs.Directories.{HoldsRows}
 use Rattle.hay_batch.specs.Directories as directories
-use Rattle.hay_batch.specs.Replicas.{At, HasWithOrWithout, Holds, IsFirstFull, IsReady, file_of}
+use Rattle.hay_batch.specs.Replicas.{At, HasRoom, HasWithOrWithout, Holds, IsFirstFull, IsReady, file_of}
 
 -- as many volumes, and of each as many replicas, as the settings say
 pub record IsShaped {D : Type 0} (store : LoadStore D) : Type 0 where
@@ -52,6 +53,14 @@ pub record IsTry {D : Type 0} (store : LoadStore D) (key need turn : ℕ) (full 
 pub record AreTries {D : Type 0} (store : LoadStore D) (key need turns : ℕ) (tries : List FullTry) : Type 0 where
   pub count : length tries ≡ turns
   pub are : (turn : ℕ) (full : FullTry) → At tries turn full → IsTry store key need turn full
+
+-- The volume is the first try in which each replica has room: those before it are these.
+pub record IsFirstRoom {D : Type 0} (store : LoadStore D) (key need volume : ℕ) : Type 0 where
+  pub turn : ℕ
+  pub is : volume ≡ try_at store.settings key turn
+  pub tries : List FullTry
+  pub before : AreTries store key need turn tries
+  pub room : (j : ℕ) (r : LoadReplica D) → ReplicaAt store volume j r → HasRoom need r
 
 -- WHAT THE DISKS HOLD
 
@@ -104,6 +113,12 @@ pub record AreContents (settings : Settings) (k : Contents) (left : Images) : Ty
 pub record AreWithoutRows (settings : Settings) (photos : List NewPhoto) (k : Contents) (left : Images) : Type 0 where
   pub rows : IsJournal k.superblock settings.volumes left.journal k.rows
   pub cells : (v j : ℕ) → v < settings.volumes → j < settings.replicas → HasWithOrWithout (k.superblocks v j) (k.cells v j) (k.ends v j) photos (left.volumes v j)
+
+-- REFUSALS
+
+-- a disk failed, or memory was wanting
+abbrev pub IsDiskFault : LoadFault → Type 0
+IsDiskFault fault = ((slot : ℕ) × (faults : ℕ) × (fault ≡ LoadFault.Failed slot faults)) ⊎ (fault ≡ LoadFault.NoMemory)
 
 -- COUNTS
 

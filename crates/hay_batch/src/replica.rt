@@ -1,6 +1,6 @@
 //! A replica to which batches are added.
 
-ghost use Rattle.std.specs.Prelude.{◌≡◌, ◌≤◌, ◌+◌, OnOk, OnErr, IsErrOf};
+ghost use Rattle.std.specs.Prelude.{◌≡◌, OnOk, OnErr, IsErrOf};
 ghost use Rattle.hay_disk.specs.Counts.{IsCounted};
 ghost use Rattle.hay_disk.specs.declared.disk.DiskFault.{DiskFault};
 ghost use Rattle.hay_batch.specs.Batches.{IsBatch, batch_total};

@@ -1,15 +1,13 @@
 //! A store to which batches are loaded.
 
-ghost use Rattle.std.specs.Prelude.{◌≡◌, ◌≢◌, ◌⊎◌, ◌≤◌, ◌<◌, ◌+◌, ◌*◌, ◌%◌, ℕ, List, length, Err, IfErr, IfOk, OnOk, map, slice_set};
-ghost use Rattle.hay_disk.specs.Counts.{Rose};
+ghost use Rattle.std.specs.Prelude.{◌≡◌, ◌⊎◌, ◌≤◌, ◌<◌, ◌+◌, ◌%◌, ℕ, List, Err, IfErr, IfOk};
 ghost use Rattle.hay_needle.specs.declared.settings.Settings.{Settings};
 ghost use Rattle.hay_batch.specs.declared.fault.FullTry.{FullTry};
 ghost use Rattle.hay_batch.specs.declared.fault.LoadFault.{LoadFault};
 ghost use Rattle.hay_batch.specs.declared.replica.LoadReplica.{LoadReplica};
 ghost use Rattle.hay_batch.specs.declared.store.LoadVolume.{LoadVolume};
-ghost use Rattle.hay_batch.specs.Batches.{IsBatch, batch_total};
-ghost use Rattle.hay_batch.specs.Replicas.{At, HasRoom, IsFirstFull};
-ghost use Rattle.hay_batch.specs.Stores.{AreTries, IsShaped, IsTry, try_at};
+ghost use Rattle.hay_batch.specs.Replicas.{At, HasRoom};
+ghost use Rattle.hay_batch.specs.Stores.{AreTries, IsShaped, try_at};
 
 use crate::directory::LoadDirectory;
 use crate::fault::{FullTry, LoadFault};

@@ -1,7 +1,4 @@
-use Rattle.std.proofs.Common.{◌≡◌, ◌∙◌, List, length, refl, sym, ap, arith}
-use Rattle.std.specs.Option.{option_or}
-use Rattle.hay_dirfile.specs.declared.row.DirRow.{DirRow}
-use Rattle.hay_batch.specs.Homes.{home_among, home_in}
+use Rattle.std.proofs.Common.{◌≡◌, ◌∙◌, length, refl, arith}
 use Rattle.hay_batch.proofs.DirectoryLaws.{may_settle, may_settle_same, settled}
 use Rattle.hay_batch.proofs.directory.LoadDirectory.settle.Goals as goal
 
@@ -25,6 +22,5 @@ returns-clause-left g c = λ tells.
 pub returns-clause-settled : goal.returns-clause-settled
 returns-clause-settled g c = λ tells superblock volumes rows below has.
     let many : c.len.result ≡ length c.as_slice-2.result.now = omega (arith, c.len.ensures, c.as_slice-2.ensures.len) in
-    let same : c.as_slice.result.now ≡ c.as_slice-2.result.now = c.as_slice.ensures.value ∙ sym c.as_slice-2.ensures.value in
-    settled g.D.Disk.files c.args.volume c.len.result c.args.photos.now c.as_slice-2.result.now c.args.self.now _ (c.as_slice-2.ensures.value ∙ c.in_ok-rows.ensures) many (λ disk. g.met.D.Disk.fits disk 0 tells)
-    (c.in_ok-settle_many.ensures.moved tells) c.saturating_add-self.ensures (c.in_ok-settle_many.ensures.added tells) (c.in_ok-settle_many.ensures.solid tells) (c.in_ok-settle_many.ensures.next tells) (λ pair. c.in-Ok.ensures pair ∙ ap (λ (l : List DirRow). option_or (home_among c.args.self.now.homes pair) (home_in l pair)) same) superblock volumes rows below has
+    settled g.D.Disk.files c.args.volume c.len.result c.args.photos.now c.as_slice.result.now c.as_slice-2.result.now c.args.self.now _ (c.as_slice.ensures.value ∙ c.in_ok-rows.ensures) (c.as_slice-2.ensures.value ∙ c.in_ok-rows.ensures) many (λ disk. g.met.D.Disk.fits disk 0 tells)
+    (c.in_ok-settle_many.ensures.moved tells) c.saturating_add-self.ensures (c.in_ok-settle_many.ensures.added tells) (c.in_ok-settle_many.ensures.solid tells) (c.in_ok-settle_many.ensures.next tells) c.in-Ok.ensures superblock volumes rows below has

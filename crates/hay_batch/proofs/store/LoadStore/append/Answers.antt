@@ -1,4 +1,4 @@
-use Rattle.std.proofs.Common.{◌≡◌, ◌<◌, refl, sym, ap, subst, arith, length}
+use Rattle.std.proofs.Common.{◌<◌, refl, sym, ap, subst, arith, length}
 use Rattle.hay_batch.specs.Replicas.{At}
 use Rattle.hay_batch.proofs.Lists.{at_read}
 use Rattle.hay_batch.proofs.StoreLaws.{if_err_more, on_ok_more, swapped, swapped_counts, swapped_new, swapped_old, swapped_other, swapped_shape}
