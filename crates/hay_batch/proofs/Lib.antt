@@ -8,3 +8,4 @@ pub mod DirectoryLaws
 pub mod StoreLaws
 pub mod Loading
 pub mod Showing
+pub mod Openings

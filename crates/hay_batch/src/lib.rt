@@ -1,5 +1,6 @@
 //! Bulk loading. A batch is one photo at least and 64 at most, whose needles take 67,108,864 bytes at most.
-//! It stands on `hay_base`, `hay_needle`, `hay_disk`, `byteorder`, `hay_head`, `hay_volume` and `hay_dirfile`.
+//! It stands on `hay_base`, `hay_needle`, `hay_disk`, `byteorder`, `hay_head`, `hay_volume`, `hay_dirfile`, `hay_index`,
+//! `hay_map` and `hay_open`.
 //!
 //! A batch's needles are added to a volume file by one gated append, and so are its rows to a journal: whatever a stop
 //! leaves has all of them or none. A batch is loaded into a store by adding its needles to each replica of the first volume
@@ -14,6 +15,7 @@ mod fault;
 mod homes;
 mod load;
 mod needles;
+mod opening;
 mod photo;
 mod replica;
 mod replicas;
