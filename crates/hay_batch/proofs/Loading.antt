@@ -18,9 +18,10 @@ use Rattle.hay_batch.specs.declared.photo.NewPhoto.{NewPhoto}
 use Rattle.hay_batch.specs.declared.replica.LoadReplica.{LoadReplica}
 use Rattle.hay_batch.specs.declared.store.LoadStore.{LoadStore}
 use Rattle.hay_batch.specs.Batches.{batch_total, new_cells, new_row}
+use Rattle.hay_batch.specs.Directories as directories
 use Rattle.hay_batch.specs.Directories.{HoldsRows}
-use Rattle.hay_batch.specs.Replicas.{Adds, HasWithOrWithout, Holds, MayAdd, file_of}
-use Rattle.hay_batch.specs.Stores.{AreContents, AreWithoutRows, Contents, FailsReplica, Images, IsShaped, MayLeaveStore, ReplicaAt, Stands, with_batch}
+use Rattle.hay_batch.specs.Replicas.{Adds, HasWithOrWithout, Holds, MayAdd, file_of, IsReady}
+use Rattle.hay_batch.specs.Stores.{AreContents, AreWithoutRows, Contents, FailsReplica, Images, IsReadyStore, IsShaped, MayLeaveStore, ReplicaAt, Stands, with_batch}
 use Rattle.hay_batch.proofs.Lists.{at_below, at_there}
 use Rattle.hay_batch.proofs.RowRuns.{journal_kept}
 
@@ -183,6 +184,20 @@ module _ {D : Type 0} (files : D → Files) (v : ℕ) (photos : List NewPhoto) (
               (subst (λ n. IsVolume (k.superblocks u j) (left.volumes u j) (k.cells u j) n) (sym (ends_there v u j photos k apart.1)) (image_other left leaves u j apart.1 below within))
         ];
       })
+
+-- the next batch may be loaded
+pub ready_loaded : {D : Type 0} (Tells : Type 0) (tells : Tells) (files : D → Files) (v : ℕ) (photos : List NewPhoto) (old new : LoadStore D) (d : LoadDirectory D) → Touches v old new → IsReadyStore files old
+    → ((j : ℕ) (r r' : LoadReplica D) → ReplicaAt old v j r → ReplicaAt new v j r' → Adds Tells files photos r r') → directories.IsReady files d → IsReadyStore files (with_directory new d)
+ready_loaded Tells tells files v photos old new d touched ready added settled = record {
+  directory = settled;
+  replicas = λ u j r' is.
+      let within = within_settings new u j r' touched.is is in
+      let was = replica_there old u j touched.was (subst (λ (s : Settings). u < s.volumes) touched.settings within.0) (subst (λ (s : Settings). j < s.replicas) touched.settings within.1) in
+      elim (eqb_tells u v) [
+        | inl same ↦ (added j was.0 r' (subst (λ n. ReplicaAt old n j was.0) same.1 was.1) (subst (λ n. ReplicaAt new n j r') same.1 is)).ready tells
+        | inr apart ↦ subst (λ x. IsReady files x) (sym (touched.others u j was.0 r' apart.1 was.1 is)) (ready.replicas u j was.0 was.1)
+      ];
+}
 
 -- where the Directory was not called, a stop leaves its rows
 pub rows_kept : {D : Type 0} (files : D → Files) (superblock : List ℕ) (volumes : ℕ) (rows : List DirRow) (d : LoadDirectory D) (image : List ℕ) → HoldsRows files superblock volumes rows d → IsImage (files d.disk 0) image → IsJournal superblock volumes image rows

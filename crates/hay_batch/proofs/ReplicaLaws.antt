@@ -23,6 +23,7 @@ added Tells files photos old new moved grown solid next =
     let same : new.volume.file ≡ old.volume.file = ap (λ (v : VolumeFile). v.file) moved in
     record {
       volume = moved;
+      ready = λ tells. subst (λ n. IsGate needle_magic new.volume.end (files new.disk n)) (sym same) (next tells);
       holds = λ tells superblock cells has. record {
         is = subst (λ n. IsVolume superblock (files new.disk n).now (cells ++ new_cells old.volume.end photos) new.volume.end) (sym same) (grown tells superblock cells has.is);
         solid = subst (λ n. IsSolid (files new.disk n)) (sym same) (solid tells);

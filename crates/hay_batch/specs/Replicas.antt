@@ -37,9 +37,10 @@ pub record Holds {D : Type 0} (files : D → Files) (superblock : List ℕ) (cel
   pub solid : IsSolid (file_of files r)
   pub ready : IsReady files r
 
--- The cells of the batch were added behind those that the replica had.
+-- The cells of the batch were added behind those that the replica had, and the next batch may be added.
 pub record Adds {D : Type 0} (Tells : Type 0) (files : D → Files) (photos : List NewPhoto) (old new : LoadReplica D) : Type 0 where
   pub volume : new.volume ≡ record old.volume { end = old.volume.end + batch_total photos }
+  pub ready : Tells → IsReady files new
   pub holds : Tells → (superblock : List ℕ) (cells : List Cell) → Holds files superblock cells old → Holds files superblock (cells ++ new_cells old.volume.end photos) new
 
 -- a volume file of these cells, with those of the batch or without

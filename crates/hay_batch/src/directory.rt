@@ -67,6 +67,7 @@ impl<D: Disk> LoadDirectory<D> {
         requires ready { D.Tells → IsReady D.files self.old }
         ensures settled { D.Tells → OnOk result ((superblock : List ℕ) (volumes : ℕ) (rows : List DirRow) → volume < volumes →
             HoldsRows D.files superblock volumes rows self.old → HoldsRows D.files superblock volumes (rows ++ map (new_row volume) photos.now) self.new) }
+        ensures next { D.Tells → OnOk result (IsReady D.files self.new) }
         ensures left { D.Tells → MaySettle D.files volume photos.now self.old self.new }
         ensures counted { IsCounted (D.fault_count self.old.disk) (D.fault_count self.new.disk) (IsErrOf result DiskFault.Failed) }
         ensures fuses { D.fuse_count self.new.disk ≡ D.fuse_count self.old.disk }

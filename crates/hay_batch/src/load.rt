@@ -46,6 +46,7 @@ fn settle_rows<D: Disk>(
     ensures loaded { IfOk result (λ loaded. (loaded.volume ≡ volume) × (loaded.rows ≡ directory.new.rows)) }
     ensures settled { D.Tells → OnOk result ((superblock : List ℕ) (volumes : ℕ) (rows : List DirRow) → volume < volumes →
         HoldsRows D.files superblock volumes rows directory.old → HoldsRows D.files superblock volumes (rows ++ map (new_row volume) photos.now) directory.new) }
+    ensures next { D.Tells → OnOk result (directories.IsReady D.files directory.new) }
     ensures left { D.Tells → MaySettle D.files volume photos.now directory.old directory.new }
     ensures later { D.fault_count directory.old.disk ≤ D.fault_count directory.new.disk }
     ensures fuses { D.fuse_count directory.new.disk ≡ D.fuse_count directory.old.disk }
@@ -103,6 +104,7 @@ impl<D: Disk> LoadStore<D> {
         let target = &mut self.volumes[volume as usize];
         append_each(target.replicas.as_mut_slice(), alloc, photos)
     }
+
     // Loads a batch into a volume that has room for it: its cells on each replica, and then its rows.
     fn load_into(
         &mut self,
@@ -118,6 +120,7 @@ impl<D: Disk> LoadStore<D> {
         ensures shape { (self.new.settings ≡ self.old.settings) × IsShaped self.new }
         ensures answer { IfOk result (λ loaded. (loaded.volume ≡ volume) × (loaded.rows ≡ self.new.directory.rows)) }
         ensures loaded { D.Tells → OnOk result ((k : Contents) → Stands D.files self.old k → Stands D.files self.new (with_batch volume photos.now k)) }
+        ensures next { D.Tells → OnOk result (IsReadyStore D.files self.new) }
         ensures left { D.Tells → (k : Contents) (left : Images) → Stands D.files self.old k → MayLeaveStore D.files self.new left →
             AreWithoutRows self.old.settings photos.now k left ⊎ AreContents self.old.settings (with_batch volume photos.now k) left }
         ensures counts { KeepsCounts D.fault_count D.fuse_count self.old self.new }
@@ -129,6 +132,7 @@ impl<D: Disk> LoadStore<D> {
             Err(fault) => Err(refused(&self.settings, volume, fault)),
         }
     }
+
     /// Loads a batch of one key into the first volume that the key tries in which each replica has room: its cells on each
     /// replica in order, and then its rows. A value that refused with `Failed` or `NoMemory` must not be used for another.
     pub fn load_batch(&mut self, alloc: Global, photos: &[NewPhoto]) -> Result<Loaded, LoadFault>
@@ -153,6 +157,8 @@ impl<D: Disk> LoadStore<D> {
 
         // At `Ok` the store has the batch, all of it is on the disks, and the next batch may follow.
         ensures loaded { D.Tells → (k : Contents) → Stands D.files self.old k → IfOk result (λ loaded. Stands D.files self.new (with_batch loaded.volume photos.now k)) }
+
+        ensures next { D.Tells → OnOk result (IsReadyStore D.files self.new) }
 
         // Wherever the cells of the batch come last, each of its pairs has its photo.
         ensures shows { (cells : List Cell) (at i : ℕ) (photo : NewPhoto) → At photos.now i photo → look (rows_of (needles_of (cells ++ new_cells at photos.now))) photo.pair ≡ shown_of photo }

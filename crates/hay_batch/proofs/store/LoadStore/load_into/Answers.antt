@@ -2,7 +2,7 @@ use Rattle.std.proofs.Common.{◌≡◌, ◌+◌, ◌*◌, inl, inr, sym, subst}
 use Rattle.hay_needle.specs.declared.settings.Settings.{Settings}
 use Rattle.hay_batch.specs.declared.directory.LoadDirectory.{LoadDirectory}
 use Rattle.hay_batch.specs.Directories.{HoldsRows, MaySettle}
-use Rattle.hay_batch.proofs.Loading.{Touches, fails_replica, left_all_or_no_rows, left_without_rows, refused_is, rows_kept, stands_loaded}
+use Rattle.hay_batch.proofs.Loading.{Touches, fails_replica, left_all_or_no_rows, left_without_rows, ready_loaded, refused_is, rows_kept, stands_loaded}
 use Rattle.hay_batch.proofs.StoreLaws.{on_ok_more}
 use Rattle.hay_batch.proofs.store.LoadStore.load_into.Goals as goal
 
@@ -17,6 +17,12 @@ returns-in-Ok-clause-loaded g c = λ tells.
     stands_loaded g.D.Disk.files c.args.volume c.args.photos.now k c.args.self.now c.append.new.self touched stands g.D.Disk.Tells tells c.in-Ok.ensures.added c.settle_rows.new.directory
     (settled k.superblock c.args.self.now.settings.volumes k.rows c.requires.there
     (subst (λ (d : LoadDirectory g.row.D.Denot). HoldsRows g.D.Disk.files k.superblock c.args.self.now.settings.volumes k.rows d) (sym c.append.ensures.same) stands.directory)))
+
+pub returns-in-Ok-clause-next : goal.returns-in-Ok-clause-next
+returns-in-Ok-clause-next g c = λ tells.
+    let touched : Touches c.args.volume c.args.self.now c.append.new.self = record { settings = c.append.ensures.shape.0; was = c.requires.shape; is = c.append.ensures.shape.1; others = c.append.ensures.others } in
+    on_ok_more c.settle_rows.result _ _ (c.settle_rows.ensures.next tells)
+    (ready_loaded g.D.Disk.Tells tells g.D.Disk.files c.args.volume c.args.photos.now c.args.self.now c.append.new.self c.settle_rows.new.directory touched (c.requires.ready tells) c.in-Ok.ensures.added)
 
 pub returns-in-Ok-clause-left : goal.returns-in-Ok-clause-left
 returns-in-Ok-clause-left g c = λ tells k left stands leaves.
