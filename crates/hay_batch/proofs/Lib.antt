@@ -1,0 +1,11 @@
+pub mod NeedleRuns
+pub mod Volumes
+pub mod RowRuns
+pub mod ReplicaLaws
+pub mod Lists
+pub mod HomeLaws
+pub mod DirectoryLaws
+pub mod StoreLaws
+pub mod Loading
+pub mod Showing
+pub mod Openings

@@ -1,0 +1,6 @@
+pub mod Batches
+pub mod Directories
+pub mod Homes
+pub mod Openings
+pub mod Replicas
+pub mod Stores
