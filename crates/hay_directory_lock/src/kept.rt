@@ -51,7 +51,7 @@ impl Model for Begun {
     } };
 }
 
-/// The Directory, and the front of its homes. It is not `Drop`, since the front waits for looks that are under way: end it by `close`.
+/// The Directory, and the front of its homes. It is not `Drop`, since the front waits for looks that are under way: end it by `end`.
 pub struct KeptDirectory<D: Disk> {
     pub directory: Directory<D>,
     pub front: Front<DirectoryView>,
@@ -187,5 +187,14 @@ impl<D: Disk> KeptDirectory<D> {
         self.front.show_all(rt, view);
         self.directory.fuse(calls);
         RowAct::of(tag, DirDid::FusesRow, &self.directory)
+    }
+
+    /// Ends the front with all its seats, and gives the Directory.
+    pub(crate) fn end<R: Wait>(self, rt: &R, views: Vec<Seat<DirectoryView>>) -> Directory<D>
+        ensures { result ≡ self.directory }
+    {
+        let KeptDirectory { directory, front } = self;
+        let _tags = front.close(rt, views);
+        directory
     }
 }

@@ -13,6 +13,7 @@
 mod act;
 mod kept;
 mod lock;
+mod open;
 mod view;
 
 pub use act::RowAct;

@@ -1,8 +1,10 @@
 //! The lock and its seats.
-ghost use Rattle.std.specs.Prelude.{◌≡◌, ◌+◌, ◌<◌, ℕ, List, true, false, IfOk, IfSome};
+ghost use Rattle.std.specs.Prelude.{◌≡◌, ◌+◌, ◌<◌, ℕ, List, true, false, map, IfErr, IfOk, IfSome};
 ghost use Rattle.hay_meeting.specs.Acts.{Start};
 ghost use Rattle.hay_holdings.specs.Rows.{Drained, FusedDir, HomeShown};
+ghost use Rattle.hay_directory.specs.Rows.{home_row};
 ghost use Rattle.hay_directory_lock.specs.Begun.{BegunAt};
+ghost use Rattle.hay_directory_lock.specs.Opening.{AreNewSeats, AreSeated, Closes, IsOpenWith, rows_opened};
 ghost use Rattle.hay_directory_lock.specs.Seats.{IsHolding, IsSeated, LockState, sight};
 ghost use Rattle.hay_directory_lock.specs.Standing.{KeptFor};
 ghost use Rattle.hay_directory_lock.specs.Rounds.{FoundAll, HasMet, ShownAll};
@@ -10,14 +12,17 @@ ghost use Rattle.hay_meeting.specs.declared.act.DirAct.{DirAct};
 ghost use Rattle.hay_directory_lock.specs.Answers.{SettlesAs};
 
 use crate::kept::KeptDirectory;
+use crate::open::{Rooms, apart, front_of, joined};
 use crate::view::DirectoryView;
+use hay_base::NoMemory;
 use hay_core::CoreTag;
-use hay_directory::DirFault;
+use hay_directory::{DirFault, Directory};
 use hay_dirfile::DirRow;
 use hay_disk::Disk;
 use hay_front::Seat;
 use hay_needle::{Pair, Settings};
 use hay_turn::{Turn, TurnSeat};
+use std::alloc::Global;
 use std::marker::Model;
 use std::sync::Wait;
 
@@ -28,6 +33,9 @@ pub struct DirectoryLock<D: Disk> {
     seats: u32,
     settings: Settings,
     stood: u64,
+    // Room for the parts of all seats, when the lock ends.
+    turns: Vec<TurnSeat<KeptDirectory<D>>>,
+    views: Vec<Seat<DirectoryView>>,
 }
 
 impl<D: Disk> Model for DirectoryLock<D> {
@@ -36,12 +44,17 @@ impl<D: Disk> Model for DirectoryLock<D> {
     ghost Value = { LockState };
 
     ghost view = { λ l. record { turn = l.turn; seats = l.seats; settings = l.settings; stood = l.stood } };
+
+    ghost use Rattle.std.specs.Prelude.{◌≡◌, ◌≤◌, [], vec_capacity};
+
+    ghost invariant = { λ l. ((l.turns.items ≡ []) × (l.seats ≤ vec_capacity l.turns)) × ((l.views.items ≡ []) × (l.seats ≤ vec_capacity l.views)) };
 }
 
 /// A lane's seat at the lock, with its seat of the published homes.
+#[derive(Drop)]
 pub struct DirectorySeat<D: Disk> {
-    turn: TurnSeat<KeptDirectory<D>>,
-    view: Seat<DirectoryView>,
+    pub(crate) turn: TurnSeat<KeptDirectory<D>>,
+    pub(crate) view: Seat<DirectoryView>,
 }
 
 impl<D: Disk> Model for DirectorySeat<D> {
@@ -65,6 +78,70 @@ fn all_rows<R: Wait>(rt: &R, stood: u64, published: u64) -> u64
 }
 
 impl<D: Disk> DirectoryLock<D> {
+    /// The lock of a Directory that was opened and has these rows, and a seat for each lane. `NoMemory` gives the Directory back.
+    pub fn new<R: Wait>(
+        rt: &R,
+        alloc: Global,
+        settings: Settings,
+        directory: Directory<D>,
+        rows: &[DirRow],
+        seats: u32,
+    ) -> Result<(DirectoryLock<D>, Vec<DirectorySeat<D>>), (Directory<D>, NoMemory)>
+        requires some { 0 < seats }
+        requires settings { directory.settings ≡ settings }
+        requires opened { IsOpenWith D.Tells D.files directory (map home_row rows.now) }
+        ensures made { IfOk result (λ made. (begun : BegunAt) × (begun.rows ≡ rows_opened D.fault_count D.fuse_count directory (map home_row rows.now))
+            × (made.0.settings ≡ settings) × (made.0.seats ≡ seats) × AreNewSeats made.0 begun made.1.items) }
+        ensures refused { IfErr result (λ back. back.0 ≡ directory) }
+    {
+        let Ok(
+            Rooms {
+                seats: room,
+                turns: turn_room,
+                views: view_room,
+            },
+        ) = Rooms::new(alloc, seats)
+        else {
+            return Err((directory, NoMemory));
+        };
+        let Ok((front, views)) = front_of(rt, alloc, settings.volumes, rows, seats) else {
+            return Err((directory, NoMemory));
+        };
+        match Turn::new(alloc, KeptDirectory { directory, front }, seats) {
+            Ok((turn, turns)) => {
+                let lock = DirectoryLock {
+                    turn,
+                    seats,
+                    settings,
+                    stood: rows.len() as u64,
+                    turns: turn_room,
+                    views: view_room,
+                };
+                Ok((lock, joined(turns, views, room)))
+            }
+            Err((kept, error)) => Err((kept.end(rt, views), error)),
+        }
+    }
+
+    /// Ends the lock with all its seats, and gives the Directory back. It may wait for looks that are under way, behind which none
+    /// returns.
+    pub fn close<R: Wait>(self, rt: &R, seats: Vec<DirectorySeat<D>>) -> Directory<D>
+        requires { (begun : BegunAt) × AreSeated self begun seats.items }
+        ensures { (begun : BegunAt) → AreSeated self begun seats.items →
+            Closes D.Tells D.files D.fault_count D.fuse_count self begun seats.items result }
+    {
+        let DirectoryLock {
+            turn,
+            seats: _,
+            settings: _,
+            stood: _,
+            turns,
+            views,
+        } = self;
+        let (turns, views) = apart(seats, turns, views);
+        turn.close(turns).end(rt, views)
+    }
+
     /// How many rows there are, and the home of a pair among them, by one look without the lock. It takes no memory.
     pub fn home<R: Wait>(
         &self,

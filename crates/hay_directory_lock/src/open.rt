@@ -1,0 +1,95 @@
+//! The seats of the lock, made and ended.
+ghost use Rattle.std.specs.Prelude.{◌≡◌, ◌<◌, ◌≤◌, [], length, map, replicate, vec_len, vec_capacity, Some, IfOk, false};
+ghost use Rattle.std.specs.List.{AllByRecursion};
+ghost use Rattle.hay_directory.specs.Rows.{home_row};
+
+use crate::kept::KeptDirectory;
+use crate::lock::DirectorySeat;
+use crate::view::DirectoryView;
+use hay_base::NoMemory;
+use hay_dirfile::DirRow;
+use hay_disk::Disk;
+use hay_front::{Front, Seat};
+use hay_turn::TurnSeat;
+use std::alloc::Global;
+use std::sync::Wait;
+
+/// Room for all seats, and for their parts when the lock ends.
+#[derive(Drop)]
+pub(crate) struct Rooms<D: Disk> {
+    pub seats: Vec<DirectorySeat<D>>,
+    pub turns: Vec<TurnSeat<KeptDirectory<D>>>,
+    pub views: Vec<Seat<DirectoryView>>,
+}
+
+impl<D: Disk> Rooms<D> {
+    pub(crate) fn new(alloc: Global, seats: u32) -> Result<Rooms<D>, NoMemory>
+        ensures seats { IfOk result (λ rooms. (rooms.seats.items ≡ []) × (seats ≤ vec_capacity rooms.seats)) }
+        ensures turns { IfOk result (λ rooms. (rooms.turns.items ≡ []) × (seats ≤ vec_capacity rooms.turns)) }
+        ensures views { IfOk result (λ rooms. (rooms.views.items ≡ []) × (seats ≤ vec_capacity rooms.views)) }
+    {
+        Ok(Rooms {
+            seats: Vec::with_capacity(alloc, seats as usize)?,
+            turns: Vec::with_capacity(alloc, seats as usize)?,
+            views: Vec::with_capacity(alloc, seats as usize)?,
+        })
+    }
+}
+
+/// The front of the homes by these rows, and its seats.
+pub(crate) fn front_of<R: Wait>(
+    rt: &R,
+    alloc: Global,
+    volumes: u32,
+    rows: &[DirRow],
+    seats: u32,
+) -> Result<(Front<DirectoryView>, Vec<Seat<DirectoryView>>), NoMemory>
+    requires some { 0 < seats }
+    requires volumes { AllByRecursion (λ row. row.volume < volumes) (map home_row rows.now) }
+    ensures base { IfOk result (λ made. made.0.shown.base ≡ Some (record { volumes = volumes; rows = map home_row rows.now }, tt)) }
+    ensures blank { IfOk result (λ made. (made.0.shown.deeds ≡ []) × (made.0.closed ≡ false)) }
+    ensures seats { IfOk result (λ made. made.1.items ≡ replicate seats made.0.shown) }
+{
+    let first = DirectoryView::of_rows(alloc, volumes, rows)?;
+    let second = DirectoryView::of_rows(alloc, volumes, rows)?;
+    Front::new(rt, alloc, first, second, seats)
+}
+
+/// Gives each lane its seats.
+pub(crate) fn joined<D: Disk>(
+    turns: Vec<TurnSeat<KeptDirectory<D>>>,
+    views: Vec<Seat<DirectoryView>>,
+    mut seats: Vec<DirectorySeat<D>>,
+) -> Vec<DirectorySeat<D>>
+    requires as_many { length views.items ≡ length turns.items }
+    requires room { (seats.items ≡ []) × (vec_len turns ≤ vec_capacity seats) }
+    ensures turns { map (λ seat. seat.turn) result.items ≡ turns.items }
+    ensures views { map (λ seat. seat.view) result.items ≡ views.items }
+{
+    let mut views = views.into_iter();
+    for turn in turns {
+        let Some(view) = views.next() else {
+            unreachable!()
+        };
+        seats.push_reserved(DirectorySeat { turn, view });
+    }
+    seats
+}
+
+/// Takes the seats of all lanes apart, in their order.
+pub(crate) fn apart<D: Disk>(
+    seats: Vec<DirectorySeat<D>>,
+    mut turns: Vec<TurnSeat<KeptDirectory<D>>>,
+    mut views: Vec<Seat<DirectoryView>>,
+) -> (Vec<TurnSeat<KeptDirectory<D>>>, Vec<Seat<DirectoryView>>)
+    requires turns { (turns.items ≡ []) × (vec_len seats ≤ vec_capacity turns) }
+    requires views { (views.items ≡ []) × (vec_len seats ≤ vec_capacity views) }
+    ensures { result.0.items ≡ map (λ seat. seat.turn) seats.items }
+{
+    for seat in seats {
+        let DirectorySeat { turn, view } = seat;
+        turns.push_reserved(turn);
+        views.push_reserved(view);
+    }
+    (turns, views)
+}
