@@ -16,5 +16,5 @@ mod past;
 mod places;
 
 pub use homes::HomeView;
-pub use past::Past;
+pub use past::{Moment, Past};
 pub use places::{PlaceView, Published, Telling};

@@ -2,21 +2,22 @@
 ghost use Rattle.std.specs.Prelude.{◌≡◌, ◌++◌, ◌∷◌, []};
 
 use std::marker::Model;
-use std::mem;
+use std::mem::{self, ManuallyDrop};
 use std::snapshot::Snapshot;
 
-/// Items in order, for clauses alone. It has no bytes, and takes no memory.
+/// Items in order, for clauses alone. It has no bytes, takes no memory, and is let go as it is, whatever the size of an item.
 #[derive(Drop)]
 pub struct Past<T> {
-    chain: Snapshot<Chain<T>>,
+    chain: ManuallyDrop<Snapshot<Chain<T>>>,
 }
 
 impl<T> Model for Past<T> {
     ghost use Rattle.std.specs.Prelude.{List};
+    ghost use Rattle.std.specs.Mem.{manually_drop_value};
 
     ghost Value = { List T };
 
-    ghost view = { λ p. p.chain.value };
+    ghost view = { λ p. (manually_drop_value p.chain).value };
 }
 
 #[cycle(chain)]
@@ -58,7 +59,7 @@ impl<T> Past<T> {
     {
         let start = Chain { link: Link::Start };
         Past {
-            chain: Snapshot::of(&start),
+            chain: ManuallyDrop::new(Snapshot::of(&start)),
         }
     }
 
@@ -69,10 +70,34 @@ impl<T> Past<T> {
         let before = mem::replace(self, Past::new());
         let chain = Chain {
             link: Link::Behind {
-                before: before.chain,
+                before: ManuallyDrop::into_inner(before.chain),
                 item: Snapshot::of(item),
             },
         };
-        self.chain = Snapshot::of(&chain);
+        self.chain = ManuallyDrop::new(Snapshot::of(&chain));
+    }
+}
+
+/// A value as it was, for clauses alone. It has no bytes, and is let go as it is, whatever the size of the value.
+#[derive(Drop)]
+pub struct Moment<T> {
+    of: ManuallyDrop<Snapshot<T>>,
+}
+
+impl<T> Model for Moment<T> {
+    ghost use Rattle.std.specs.Mem.{manually_drop_value};
+
+    ghost Value = { T };
+
+    ghost view = { λ m. (manually_drop_value m.of).value };
+}
+
+impl<T> Moment<T> {
+    pub fn of(value: &T) -> Moment<T>
+        ensures { result ≡ value.now }
+    {
+        Moment {
+            of: ManuallyDrop::new(Snapshot::of(value)),
+        }
     }
 }

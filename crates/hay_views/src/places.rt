@@ -3,7 +3,7 @@ ghost use Rattle.std.specs.Prelude.{◌≡◌, IfOk, OnOk, OnErr};
 ghost use Rattle.hay_map.specs.Rows.{ChangesRows, FitsRows, KeepsRows};
 ghost use Rattle.hay_views.specs.MapPasts.{MapPast, AllFit, IsMapOf, IsRowOf, begun_at, fits, is_entry, with_published};
 
-use crate::past::Past;
+use crate::past::{Moment, Past};
 use hay_base::NoMemory;
 use hay_core::Entry;
 use hay_disk::Piece;
@@ -39,7 +39,7 @@ pub trait Telling<P: Piece> {
 pub struct PlaceView<P: Piece, F: Telling<P>> {
     replicas: u32,
     map: MapView<P>,
-    start: Snapshot<F::Start>,
+    start: Moment<F::Start>,
     first: Snapshot<MapView<P>>,
     made: Past<MapOp<P>>,
 }
@@ -50,9 +50,9 @@ impl<P: Piece, F: Telling<P>> Model for PlaceView<P, F> {
 
     ghost Value = { MapPast P F.Start };
 
-    ghost view = { λ v. record { start = v.start.value; first = v.first.value; made = v.made } };
+    ghost view = { λ v. record { start = v.start; first = v.first.value; made = v.made } };
 
-    ghost invariant = { λ v. (v.replicas ≡ v.map.replicas) × IsMapOf (record { start = v.start.value; first = v.first.value; made = v.made }) v.map };
+    ghost invariant = { λ v. (v.replicas ≡ v.map.replicas) × IsMapOf (record { start = v.start; first = v.first.value; made = v.made }) v.map };
 }
 
 // Whether a change can be made where rows have so many places.
@@ -101,7 +101,7 @@ impl<P: Piece, F: Telling<P>> PlaceView<P, F> {
         PlaceView {
             replicas,
             map,
-            start: Snapshot::of(start),
+            start: Moment::of(start),
             first: Snapshot::of(first),
             made: Past::new(),
         }
@@ -123,7 +123,7 @@ impl<P: Piece, F: Telling<P>> PlaceView<P, F> {
         let view = PlaceView {
             replicas,
             map,
-            start: Snapshot::of(start),
+            start: Moment::of(start),
             first,
             made: Past::new(),
         };

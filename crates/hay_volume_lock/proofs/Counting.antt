@@ -1,0 +1,46 @@
+-- The counts of disks by replica.
+use Rattle.std.proofs.Common.{◌≡◌, ℕ, ◌<◌, ◌≤◌, inl, inr, List, length, sym, subst, ◌∙◌, arith}
+use Rattle.std.specs.Prelude.{slice_index_or}
+use Rattle.std.proofs.lemmas.Bool.{cases_lt}
+use Rattle.std.proofs.lemmas.List.{get_or_past, length-map}
+use Rattle.hay_physical.specs.Copies.{Copy}
+use Rattle.hay_logical.specs.Fits.{At}
+use Rattle.hay_logical.proofs.Lists.{at_map, at_or, at_there}
+use Rattle.hay_volume_lock.specs.Acts.{counts}
+use Rattle.hay_volume_lock.specs.Keeping.{count_at}
+
+module _ {D : Type 0} (count : D → ℕ) where
+  or_there : (replicas : List (Copy D)) (j d : ℕ) (r : Copy D) → At replicas j r → slice_index_or (counts count replicas) j d ≡ count r.disk
+  or_there replicas j d r there = at_or (counts count replicas) j (count r.disk) d (at_map (λ (r : Copy D). count r.disk) replicas j r there)
+
+  or_past : (replicas : List (Copy D)) (j d : ℕ) → length replicas ≤ j → slice_index_or (counts count replicas) j d ≡ d
+  or_past replicas j d past = get_or_past (counts count replicas) j d (let e = length-map replicas (λ (r : Copy D). count r.disk) in omega (arith, e))
+
+  pub count_there : (replicas : List (Copy D)) (j : ℕ) (r : Copy D) → At replicas j r → count_at count replicas j ≡ count r.disk
+  count_there replicas j r there = or_there replicas j 0 r there
+
+  -- what an act tells of a replica is the count behind it
+  pub count_behind : (old new : List (Copy D)) (j before : ℕ) → length new ≡ length old → before ≡ count_at count old j → slice_index_or (counts count new) j before ≡ count_at count new j
+  count_behind old new j before same is = elim (cases_lt j (length new)) [
+    | inl less ↦ let there = at_there new j less in or_there new j before there.0 there.1 ∙ sym (or_there new j 0 there.0 there.1)
+    | inr past ↦ or_past new j before past ∙ is ∙ or_past old j 0 (let h : length old ≤ j = omega arith in h) ∙ sym (or_past new j 0 past)
+  ]
+
+  -- what holds of the counts of a replica, and of none, holds at its place
+  pub count_one : (old new : List (Copy D)) → length new ≡ length old → (R : ℕ → ℕ → Type 0) → R 0 0 → (j : ℕ)
+      → ((r r' : Copy D) → At old j r → At new j r' → R (count r.disk) (count r'.disk)) → R (count_at count old j) (count_at count new j)
+  count_one old new same R none j one = elim (cases_lt j (length new)) [
+    | inl less ↦
+        let was = at_there old j (let h : j < length old = omega arith in h) in
+        let is = at_there new j less in
+        subst (λ (n : ℕ). R n (count_at count new j)) (sym (count_there old j was.0 was.1))
+        (subst (λ (n : ℕ). R (count ((was.0).disk)) n) (sym (count_there new j is.0 is.1)) (one was.0 is.0 was.1 is.1))
+    | inr past ↦
+        subst (λ (n : ℕ). R n (count_at count new j)) (sym (or_past old j 0 (let h : length old ≤ j = omega arith in h)))
+        (subst (λ (n : ℕ). R 0 n) (sym (or_past new j 0 past)) none)
+  ]
+
+  pub count_each : (old new : List (Copy D)) → length new ≡ length old → (R : ℕ → ℕ → Type 0) → R 0 0
+      → ((j : ℕ) (r r' : Copy D) → At old j r → At new j r' → R (count r.disk) (count r'.disk))
+      → (j : ℕ) → R (count_at count old j) (count_at count new j)
+  count_each old new same R none each j = count_one old new same R none j (each j)

@@ -1,0 +1,412 @@
+-- What a call found and did, as a step of a lane.
+use Rattle.std.proofs.Common.{◌≡◌, ◌≢◌, inl, inr, ℕ, ◌+◌, ◌<◌, ◌≤◌, List, [], ◌∷◌, ◌++◌, length, Option, Some, None, option_map, refl, sym, ap, subst, ◌∙◌, arith}
+use Rattle.std.specs.Prelude.{◌==◌, slice_index_or, find, IsNone, IfSome, ◌↔◌, Result, Ok, Err}
+use Rattle.std.specs.List.{enumerate_from}
+use Rattle.std.proofs.lemmas.Bool.{cond-true, eq-eqb}
+use Rattle.std.proofs.lemmas.List.{get_or-set_same}
+use Rattle.hay_core.specs.declared.entry.CoreTag.{CoreTag}
+use Rattle.hay_core.specs.declared.entry.Entry.{Entry}
+use Rattle.hay_disk.specs.Counts.{IsNext, Rose}
+use Rattle.hay_disk.specs.Disk.{Files}
+use Rattle.hay_legal.specs.declared.known.ReplicaKnown.{ReplicaKnown}
+use Rattle.hay_legal.specs.declared.known.VolumeKnown.{VolumeKnown}
+use Rattle.hay_legal.specs.Known.{empty_replica, lacks_room, machine_of, replica_at, room_refusal_of}
+use Rattle.hay_legal.specs.Plain.{with_run}
+use Rattle.hay_history.specs.Histories.{begun_in}
+use Rattle.hay_history.specs.Steps.{Standing}
+use Rattle.hay_history.specs.Steps.Did.{Begins, Fuses, Tries}
+use Rattle.hay_logical.specs.Answers as logical
+use Rattle.hay_logical.specs.declared.fault.LogicalFault.{LogicalFault}
+use Rattle.hay_logical.specs.declared.fault.LogicalFault.TheVariants.{Busy, Damaged, Failed, Full, Gone, Idle, NoMemory, ReadOnly, Worn}
+use Rattle.hay_logical.specs.Fits.{At}
+use Rattle.hay_logical.specs.Stands.{Stands}
+use Rattle.hay_logical.specs.Volumes.{IsOfSettings}
+use Rattle.hay_logical.proofs.Lists.{at_there}
+use Rattle.hay_logical.proofs.Machines.{same_machine}
+use Rattle.hay_meeting.specs.declared.act.VolumeAct.{VolumeAct}
+use Rattle.hay_meeting.specs.Acts.{begun_at, begun_of, did_of, entry_of, known_by, nobody, volume_lock}
+use Rattle.hay_meeting.specs.Facts.{volume_stood}
+use Rattle.hay_meeting.specs.Locks.{LockSight}
+use Rattle.hay_meeting.specs.Sights.{stood}
+use Rattle.hay_meeting.proofs.Replays.{left_append}
+use Rattle.hay_holdings.specs.Holdings.{Holding}
+use Rattle.hay_holdings.specs.Volumes.{FailedAct, Fused, HasRunOf, MadeNothing, VolumeCall}
+use Rattle.hay_needle.specs.declared.settings.Settings.{Settings}
+use Rattle.hay_physical.specs.Copies.{Copy}
+use Rattle.hay_reply.specs.declared.Refused.{Refused}
+use Rattle.hay_reply.specs.declared.Refused.TheVariants.{Closed, NoRoom}
+use Rattle.hay_volume_lock.specs.Acts.{act_of, counts, did_by}
+use Rattle.hay_volume_lock.specs.Answers.{BeginAnswer, BeginRefused, FailedLook, FlushAnswer, FlushRefused, Found, FoundAlways, FrozenAnswer, IsAt, RoomAnswer, StoreVolume}
+use Rattle.hay_volume_lock.specs.Keeping.{GoesOn, IsKept, stood_of}
+use Rattle.hay_volume_lock.specs.declared.act.Made.{Made}
+use Rattle.hay_volume_lock.specs.declared.act.Made.TheVariants as made_is
+use Rattle.hay_volume_lock.specs.declared.guarded.Guarded.{Guarded}
+use Rattle.hay_volume_lock.specs.declared.guarded.Opened.{Opened}
+use Rattle.hay_volume_lock.proofs.Counting.{count_one, count_there}
+use Rattle.hay_volume_lock.proofs.Growing.{FusesStay, IsOfOne, LeadsFusesOf, LeadsTo, begun_more, goes_more, goes_tried, no_fuse}
+use Rattle.hay_volume_lock.proofs.Holding.{stood_is}
+
+-- WHETHER IT TAKES A CHANGE
+
+module _ (volume : StoreVolume) (tag : CoreTag) (held : List VolumeAct) (a b : LockSight VolumeAct Entry) (holding : Holding volume_lock tag held None a b) where
+  abbrev now_known : VolumeKnown
+  now_known = volume_stood volume.start volume.number held
+
+  pub frozen_answer : (machine : Option ℕ) → machine ≡ now_known.frozen → FrozenAnswer volume tag machine a b
+  frozen_answer None is = record { held = held; made = None; holding = holding; is = (refl, sym is) }
+  frozen_answer (Some m) is = record { held = held; made = None; holding = holding; is = (refl, sym is) }
+
+  pub room_answer_by : (size : ℕ) (result : Result Unit LogicalFault) (frozen : Option ℕ) (refused : Option Refused) → now_known.frozen ≡ frozen
+      → room_refusal_of volume.settings volume.number now_known size ≡ refused → result ≡ logical.room_answer volume.settings frozen refused → RoomAnswer volume tag size result a b
+  room_answer_by size result (Some m) refused f r e = subst (λ (z : Result Unit LogicalFault). RoomAnswer volume tag size z a b) (sym e) (record { held = held; made = None; holding = holding; is = (refl, f) })
+  room_answer_by size result None None f r e = subst (λ (z : Result Unit LogicalFault). RoomAnswer volume tag size z a b) (sym e) (record { held = held; made = None; holding = holding; is = (refl, (f, r)) })
+  room_answer_by size result None (Some (NoRoom w m end need)) f r e =
+      subst (λ (z : Result Unit LogicalFault). RoomAnswer volume tag size z a b) (sym e)
+      (refl, record { held = held; made = None; holding = holding; is = (refl, f, r ∙ ap (λ (n : ℕ). Some (NoRoom n m end need)) (same w m end need r)) })
+    where
+      from : (at : Option (ℕ × ReplicaKnown)) (w m end need : ℕ) (f g : ℕ × ReplicaKnown → ℕ) (v x : ℕ) → option_map (λ at. NoRoom v (f at) (g at) x) at ≡ Some (NoRoom w m end need) → w ≡ v
+      from None w m end need f g v x e = absurd cc
+      from (Some at) w m end need f g v x e = cc
+
+      same : (w m end need : ℕ) → room_refusal_of volume.settings volume.number now_known size ≡ Some (NoRoom w m end need) → w ≡ volume.number
+      same w m end need e = from (find (λ at. lacks_room volume.settings size at.1) (enumerate_from 0 now_known.replicas)) w m end need _ _ volume.number _ e
+  room_answer_by size result None (Some (Closed w m)) f r e = absurd (never (find (λ at. lacks_room volume.settings size at.1) (enumerate_from 0 now_known.replicas)) _ _ _ r)
+    where
+      never : (at : Option (ℕ × ReplicaKnown)) (f g : ℕ × ReplicaKnown → ℕ) (x : ℕ) → option_map (λ at. NoRoom volume.number (f at) (g at) x) at ≡ Some (Closed w m) → ⊥
+      never None f g x e = absurd cc
+      never (Some at) f g x e = absurd cc
+
+-- CALLS OF THE DISKS
+
+module _ {D P : Type 0} (Tells : Type 0) (files : D → Files) (PieceTells : Type 0) (faults fuses : D → ℕ) (tag : CoreTag) (old new : Guarded D P) where
+  abbrev Goes : Option VolumeAct → Type 0
+  Goes made = GoesOn Tells files PieceTells faults fuses tag old new made
+
+  abbrev Finds : Option VolumeAct → (StoreVolume → VolumeCall) → Type 0
+  Finds made Is = Found Tells files PieceTells faults fuses tag old made Is
+
+  abbrev Always : Option VolumeAct → (StoreVolume → VolumeCall) → Type 0
+  Always made Is = FoundAlways Tells files PieceTells faults fuses tag old made Is
+
+  abbrev Kept : Opened D P → List VolumeAct → Type 0
+  Kept opened held = IsKept Tells files PieceTells faults fuses opened held old
+
+  abbrev Behind : (made : Made) → VolumeAct → Type 0
+  Behind made act = act ≡ act_of faults fuses tag made (new.logical).replicas
+
+  same_settings : (opened : Opened D P) (held : List VolumeAct) (k : VolumeKnown) (volume : StoreVolume) → Kept opened held → IsAt faults fuses opened k volume → (old.logical).settings ≡ volume.settings
+  same_settings opened held k volume h at = h.same_settings ∙ sym at.settings
+
+  same_number : (opened : Opened D P) (held : List VolumeAct) (k : VolumeKnown) (volume : StoreVolume) → Kept opened held → IsAt faults fuses opened k volume → (old.logical).number ≡ volume.number
+  same_number opened held k volume h at = h.number ∙ sym at.number
+
+  on_machine : (opened : Opened D P) (held : List VolumeAct) (k : VolumeKnown) (volume : StoreVolume) → Kept opened held → IsAt faults fuses opened k volume
+      → (m j : ℕ) → m ≡ machine_of (old.logical).settings (old.logical).number j → m ≡ machine_of volume.settings volume.number j
+  on_machine opened held k volume h at m j is =
+      is ∙ ap (λ (s : Settings). machine_of s (old.logical).number j) (same_settings opened held k volume h at) ∙ ap (λ (v : ℕ). machine_of volume.settings v j) (same_number opened held k volume h at)
+
+  many_of : (k : VolumeKnown) → Stands files PieceTells old.logical k → length k.replicas ≡ ((old.logical).settings).replicas
+  unfolding Stands
+  many_of k s = s.many
+
+  -- where a call of the replica's disk failed, its count rose in the act
+  failed_act : (act : VolumeAct) → Goes (Some act) → (j m f : ℕ) → j < ((old.logical).settings).replicas → m ≡ machine_of (old.logical).settings (old.logical).number j
+      → logical.HasFailed faults (old.logical).settings (old.logical).number (old.logical).replicas (new.logical).replicas m f
+      → (opened : Opened D P) (held : List VolumeAct) → Kept opened held → (k : VolumeKnown) (volume : StoreVolume) → IsAt faults fuses opened k volume
+      → FailedAct volume.settings volume.start volume.number j f held (Some act)
+  failed_act act goes j m f within machine failed opened held h k volume at =
+      let of : IsOfSettings (old.logical).settings (old.logical).number =
+      subst (λ (s : Settings). IsOfSettings s (old.logical).number) (sym h.same_settings) (subst (λ (v : ℕ). IsOfSettings (opened.volume).settings v) (sym h.number) (h.from).of) in
+      let few : ((old.logical).settings).replicas ≤ ((old.logical).settings).machines = of.fits in
+      let one : failed.replica ≡ j = same_machine ((old.logical).settings).machines (old.logical).number failed.replica j
+      (let w = failed.within in omega arith) (omega arith) (sym failed.machine ∙ machine) in
+      let was : (stood volume.start volume.number held).faults j ≡ faults ((failed.before).disk) =
+      ap (λ (s : Standing). s.faults j) (sym (stood_is faults fuses opened k volume held at)) ∙ h.fault_counts k j
+      ∙ count_there faults (old.logical).replicas j failed.before (subst (λ (i : ℕ). At (old.logical).replicas i failed.before) one failed.was) in
+      let is : (stood volume.start volume.number (held ++ act ∷ [])).faults j ≡ faults ((failed.after).disk) =
+      ap (λ (s : Standing). s.faults j) (sym (stood_is faults fuses opened k volume (held ++ act ∷ []) at)) ∙ (goes.kept opened held h).fault_counts k j
+      ∙ count_there faults (new.logical).replicas j failed.after (subst (λ (i : ℕ). At (new.logical).replicas i failed.after) one failed.is) in (
+        subst (λ (s : Settings). j < s.replicas) (same_settings opened held k volume h at) within,
+        subst (λ (n : ℕ). Rose n ((stood volume.start volume.number (held ++ act ∷ [])).faults j)) (sym was) (subst (λ (n : ℕ). Rose (faults ((failed.before).disk)) n) (sym is) failed.rose),
+        failed.printed ∙ sym is,
+      )
+
+  -- no act was made where nothing happened
+  none_made : (made : Option VolumeAct) → (IsNone made ↔ (counts faults (old.logical).replicas ≡ counts faults (new.logical).replicas)) → new.logical ≡ old.logical → made ≡ None
+  none_made None even same = refl
+  none_made (Some act) even same = absurd (cc (even.1 (ap (λ l. counts faults l.replicas) (sym same))))
+
+  nothing_made : (made : Option VolumeAct) → IfSome made (Behind made_is.Tries) → MadeNothing made
+  nothing_made None act = tt
+  nothing_made (Some made) act = ap (λ (z : VolumeAct). did_of z.did) act
+
+  module _ (of : IsOfOne faults old new) (stay : FusesStay fuses old new) (j : ℕ) (within : j < ((old.logical).settings).replicas) where
+    more : (made : Made) → entry_of (did_by made) ≡ None → LeadsFusesOf fuses old new (did_of (did_by made))
+        → (Tells → (before : Standing) → Stands files PieceTells old.logical before.volume → LeadsTo Tells files PieceTells faults fuses tag old new made before)
+        → ((i : ℕ) → i < (old.settings).replicas → slice_index_or new.begun i nobody ≡ begun_in i tag (did_of (did_by made)) (slice_index_or old.begun i nobody))
+        → (act : VolumeAct) → Behind made act → Goes (Some act)
+    more made quiet fuses_lead leads begun act is = goes_more Tells files PieceTells faults fuses tag old new made of fuses_lead quiet leads begun act is
+
+    none_set : LeadsFusesOf fuses old new Tries
+    none_set = no_fuse Tells files PieceTells faults fuses tag old new of stay
+
+    tried : (Tells → (k : VolumeKnown) → Stands files PieceTells old.logical k → Stands files PieceTells new.logical k) → new.begun ≡ old.begun
+        → (made : Option VolumeAct) → (IsNone made ↔ (counts faults (old.logical).replicas ≡ counts faults (new.logical).replicas)) → IfSome made (Behind made_is.Tries) → Goes made
+    tried stands begun made even act = goes_tried Tells files PieceTells faults fuses tag old new of stay stands begun made even act
+
+    same_begun : new.begun ≡ old.begun → (i : ℕ) → i < (old.settings).replicas → slice_index_or new.begun i nobody ≡ slice_index_or old.begun i nobody
+    same_begun begun i less = ap (λ (l : List CoreTag). slice_index_or l i nobody) begun
+
+    -- FLUSHES
+
+    pub flush_ok : new.begun ≡ old.begun → (n : ℕ) → (Tells → (k : VolumeKnown) → Stands files PieceTells old.logical k → logical.IsFlushed files PieceTells k j n new.logical)
+        → (act : VolumeAct) → Behind (made_is.Flushes j) act → Goes (Some act) × Finds (Some act) (λ volume. FlushAnswer volume tag j (Ok n))
+    flush_ok begun n flushed act is = (
+      more (made_is.Flushes j) refl none_set
+          (λ tells before s. let f = flushed tells before.volume s in record { leads = (f.thawed, within, f.loose, refl); stands = f.stands })
+          (same_begun begun) act is,
+      λ opened held h tells k s volume at a b holding. record {
+        held = held;
+        made = Some act;
+        holding = holding;
+        is = (
+          ap (λ (z : VolumeAct). did_of z.did) is,
+          (flushed tells (stood_of faults fuses opened k held).volume (h.stands tells k s)).number
+              ∙ ap (λ (z : Standing). (replica_at z.volume j).bare) (stood_is faults fuses opened k volume held at),
+        );
+      },
+    )
+
+    pub flush_failed : new.begun ≡ old.begun → (m f : ℕ) → m ≡ machine_of (old.logical).settings (old.logical).number j
+        → logical.HasFailed faults (old.logical).settings (old.logical).number (old.logical).replicas (new.logical).replicas m f
+        → (Tells → (k : VolumeKnown) → Stands files PieceTells old.logical k → logical.FlushRefused files PieceTells k j old.logical new.logical (Failed m f))
+        → (act : VolumeAct) → Behind (made_is.Sticks j) act → Goes (Some act) × Always (Some act) (λ volume. FlushRefused volume tag j (Failed m f))
+    flush_failed begun m f machine failed refused act is =
+        let goes : Goes (Some act) = more (made_is.Sticks j) refl none_set
+        (λ tells before s. let r = refused tells before.volume s in record { leads = (r.0, within, r.1, refl); stands = r.3 })
+        (same_begun begun) act is in (
+          goes,
+          λ opened held h k volume at a b holding.
+              let rose = failed_act act goes j m f within machine failed opened held h k volume at in (
+                on_machine opened held k volume h at m j machine,
+                record {
+                  held = held;
+                  made = Some act;
+                  holding = holding;
+                  is = (ap (λ (z : VolumeAct). did_of z.did) is, rose);
+                },
+              ),
+        )
+
+    flush_kept : (fault : LogicalFault) → ((m f : ℕ) → fault ≡ Failed m f → ⊥) → (k : VolumeKnown) → logical.FlushRefused files PieceTells k j old.logical new.logical fault
+        → Stands files PieceTells old.logical k → Stands files PieceTells new.logical k
+    flush_kept (ReadOnly m) not k r s = subst (λ v. Stands files PieceTells v k) (sym r.1) s
+    flush_kept (Failed m f) not k r s = absurd (not m f refl)
+    flush_kept NoMemory not k r s = r.2
+    flush_kept (Full m end need capacity) not k r s = absurd r
+    flush_kept (Gone front) not k r s = absurd r
+    flush_kept (Busy m g) not k r s = absurd r
+    flush_kept (Worn m) not k r s = absurd r
+    flush_kept Idle not k r s = absurd r
+    flush_kept (Damaged m at) not k r s = absurd r
+
+    pub flush_refused : new.begun ≡ old.begun → (fault : LogicalFault) → ((m f : ℕ) → fault ≡ Failed m f → ⊥)
+        → (Tells → (k : VolumeKnown) → Stands files PieceTells old.logical k → logical.FlushRefused files PieceTells k j old.logical new.logical fault)
+        → (made : Option VolumeAct) → (IsNone made ↔ (counts faults (old.logical).replicas ≡ counts faults (new.logical).replicas)) → IfSome made (Behind made_is.Tries)
+        → Goes made × Finds made (λ volume. FlushRefused volume tag j fault)
+    flush_refused begun fault not refused made even act = (
+      tried (λ tells k s. flush_kept fault not k (refused tells k s) s) begun made even act,
+      λ opened held h tells k s volume at a b holding.
+          found fault not (stood_of faults fuses opened k held) volume held a b holding (stood_is faults fuses opened k volume held at)
+          (λ m e. on_machine opened held k volume h at m j e) (refused tells (stood_of faults fuses opened k held).volume (h.stands tells k s)),
+    )
+      where
+        found : (fault : LogicalFault) → ((m f : ℕ) → fault ≡ Failed m f → ⊥) → (now : Standing) (volume : StoreVolume) (held : List VolumeAct) (a b : LockSight VolumeAct Entry)
+            → Holding volume_lock tag held made a b → now ≡ stood volume.start volume.number held
+            → ((m : ℕ) → m ≡ machine_of (old.logical).settings (old.logical).number j → m ≡ machine_of volume.settings volume.number j)
+            → logical.FlushRefused files PieceTells now.volume j old.logical new.logical fault → FlushRefused volume tag j fault a b
+        found (ReadOnly m) not now volume held a b holding there machine r = elim r.0 [
+          | inl frozen ↦ inl (record { held = held; made = made; holding = holding; is = (none_made made even r.1, sym (ap (λ (z : Standing). (z.volume).frozen) there) ∙ frozen) })
+          | inr stuck ↦ inr (
+            machine m stuck.2,
+            record {
+              held = held;
+              made = made;
+              holding = holding;
+              is = (none_made made even r.1, sym (ap (λ (z : Standing). (z.volume).frozen) there) ∙ stuck.0, sym (ap (λ (z : Standing). (replica_at z.volume j).stuck) there) ∙ stuck.1);
+            },
+          )
+        ]
+        found (Failed m f) not now volume held a b holding there machine r = absurd (not m f refl)
+        found NoMemory not now volume held a b holding there machine r = record { held = held; made = made; holding = holding; is = nothing_made made act }
+        found (Full m end need capacity) not now volume held a b holding there machine r = absurd r
+        found (Gone front) not now volume held a b holding there machine r = absurd r
+        found (Busy m g) not now volume held a b holding there machine r = absurd r
+        found (Worn m) not now volume held a b holding there machine r = absurd r
+        found Idle not now volume held a b holding there machine r = absurd r
+        found (Damaged m at) not now volume held a b holding there machine r = absurd r
+
+    -- COMPACTIONS THAT BEGIN
+
+    pub begin_ok : ((i : ℕ) → i < (old.settings).replicas → slice_index_or new.begun i nobody ≡ begun_in i tag (Begins j) (slice_index_or old.begun i nobody))
+        → (g : ℕ) → (Tells → (k : VolumeKnown) → Stands files PieceTells old.logical k → logical.IsBegun files PieceTells k j g new.logical)
+        → (act : VolumeAct) → Behind (made_is.Begins j) act → Goes (Some act) × Finds (Some act) (λ volume. BeginAnswer volume tag j (Ok g))
+    begin_ok begun g is_begun act is = (
+      more (made_is.Begins j) refl none_set
+          (λ tells before s. let i = is_begun tells before.volume s in record {
+            leads = ((i.thawed, within, (i.rest).0, (i.rest).1, refl));
+            stands = subst (λ (n : ℕ). Stands files PieceTells new.logical (logical.change_at before.volume j (with_run (record { goal = n; left = (replica_at before.volume j).cells })))) i.next i.stands;
+          })
+          begun act is,
+      λ opened held h tells k s volume at a b holding.
+          let there : stood_of faults fuses opened k held ≡ stood volume.start volume.number held = stood_is faults fuses opened k volume held at in
+          let s_old = h.stands tells k s in
+          let i = is_begun tells (stood_of faults fuses opened k held).volume s_old in record {
+            held = held;
+            made = Some act;
+            holding = holding;
+            is = (
+              ap (λ (z : VolumeAct). did_of z.did) is,
+              has_run volume held
+                  (subst (λ (z : Standing). j < length ((z.volume).replicas)) there (subst (λ (n : ℕ). j < n) (sym (many_of (stood_of faults fuses opened k held).volume s_old)) within)),
+              i.next ∙ ap (λ (z : Standing). (replica_at z.volume j).generation + 1) there,
+            );
+          },
+    )
+      where
+        has_run : (volume : StoreVolume) (held : List VolumeAct) → j < length ((volume_stood volume.start volume.number held).replicas) → HasRunOf volume.settings volume.start volume.number j tag (held ++ act ∷ [])
+        has_run volume held less =
+            let before : VolumeKnown = volume_stood volume.start volume.number held in
+            let after : volume_stood volume.start volume.number (held ++ act ∷ []) ≡ logical.change_at before j begun_at =
+            ap (λ (z : Standing). z.volume) (left_append volume_lock ((volume.start).volumes volume.number) held (act ∷ []))
+            ∙ ap (λ (z : VolumeAct). known_by z.tag z.did before) is in record {
+              run = record { goal = (replica_at before j).generation + 1; left = (replica_at before j).cells };
+              stands = ap (λ (z : VolumeKnown). (replica_at z j).run) after
+                  ∙ ap (λ (r : ReplicaKnown). r.run) (get_or-set_same before.replicas j (begun_at (replica_at before j)) empty_replica less);
+              begun = begun_more j nobody held act
+                  ∙ ap (λ (z : VolumeAct). begun_in j z.tag (did_of z.did) (begun_of j nobody held)) is
+                  ∙ cond-true (j == j) tag (begun_of j nobody held) (eq-eqb j j refl);
+            }
+
+    pub begin_failed : new.begun ≡ old.begun → (m f : ℕ) → m ≡ machine_of (old.logical).settings (old.logical).number j
+        → logical.HasFailed faults (old.logical).settings (old.logical).number (old.logical).replicas (new.logical).replicas m f
+        → (Tells → (k : VolumeKnown) → Stands files PieceTells old.logical k → logical.BeginRefused files PieceTells k j old.logical new.logical (Failed m f))
+        → (act : VolumeAct) → Behind made_is.Tries act
+        → Goes (Some act) × Always (Some act) (λ volume. FailedLook volume tag j m f) × Finds (Some act) (λ volume. BeginAnswer volume tag j (Err (Failed m f)))
+    begin_failed begun m f machine failed refused act is =
+        let goes : Goes (Some act) = more made_is.Tries refl none_set
+        (λ tells before s. record { leads = refl; stands = (refused tells before.volume s).3 })
+        (same_begun begun) act is in (
+          goes,
+          λ opened held h k volume at a b holding.
+              let rose = failed_act act goes j m f within machine failed opened held h k volume at in (
+                on_machine opened held k volume h at m j machine,
+                record {
+                  held = held;
+                  made = Some act;
+                  holding = holding;
+                  is = (ap (λ (z : VolumeAct). did_of z.did) is, rose);
+                },
+              ),
+          λ opened held h tells k s volume at a b holding.
+              let there : stood_of faults fuses opened k held ≡ stood volume.start volume.number held = stood_is faults fuses opened k volume held at in
+              let r = refused tells (stood_of faults fuses opened k held).volume (h.stands tells k s) in
+              let rose = failed_act act goes j m f within machine failed opened held h k volume at in (
+                on_machine opened held k volume h at m j machine,
+                record {
+                  held = held;
+                  made = Some act;
+                  holding = holding;
+                  is = (
+                    ap (λ (z : VolumeAct). did_of z.did) is,
+                    sym (ap (λ (z : Standing). (z.volume).frozen) there) ∙ r.0,
+                    sym (ap (λ (z : Standing). (replica_at z.volume j).run) there) ∙ (r.2).0,
+                    subst (λ (z : Standing). (replica_at z.volume j).generation < 65535) there (r.2).1,
+                    rose,
+                  );
+                },
+              ),
+        )
+
+    begin_kept : (fault : LogicalFault) → ((m f : ℕ) → fault ≡ Failed m f → ⊥) → (k : VolumeKnown) → logical.BeginRefused files PieceTells k j old.logical new.logical fault
+        → Stands files PieceTells old.logical k → Stands files PieceTells new.logical k
+    begin_kept (ReadOnly m) not k r s = subst (λ v. Stands files PieceTells v k) (sym r.1) s
+    begin_kept (Busy m g) not k r s = subst (λ v. Stands files PieceTells v k) (sym r.3) s
+    begin_kept (Worn m) not k r s = subst (λ v. Stands files PieceTells v k) (sym r.4) s
+    begin_kept (Failed m f) not k r s = absurd (not m f refl)
+    begin_kept NoMemory not k r s = r.2
+    begin_kept (Full m end need capacity) not k r s = absurd r
+    begin_kept (Gone front) not k r s = absurd r
+    begin_kept Idle not k r s = absurd r
+    begin_kept (Damaged m at) not k r s = absurd r
+
+    pub begin_refused : new.begun ≡ old.begun → (fault : LogicalFault) → ((m f : ℕ) → fault ≡ Failed m f → ⊥)
+        → (Tells → (k : VolumeKnown) → Stands files PieceTells old.logical k → logical.BeginRefused files PieceTells k j old.logical new.logical fault)
+        → (made : Option VolumeAct) → (IsNone made ↔ (counts faults (old.logical).replicas ≡ counts faults (new.logical).replicas)) → IfSome made (Behind made_is.Tries)
+        → Goes made × Finds made (λ volume. BeginRefused volume tag j fault)
+    begin_refused begun fault not refused made even act = (
+      tried (λ tells k s. begin_kept fault not k (refused tells k s) s) begun made even act,
+      λ opened held h tells k s volume at a b holding.
+          found fault not (stood_of faults fuses opened k held) volume held a b holding (stood_is faults fuses opened k volume held at)
+          (λ m e. on_machine opened held k volume h at m j e) (refused tells (stood_of faults fuses opened k held).volume (h.stands tells k s)),
+    )
+      where
+        found : (fault : LogicalFault) → ((m f : ℕ) → fault ≡ Failed m f → ⊥) → (now : Standing) (volume : StoreVolume) (held : List VolumeAct) (a b : LockSight VolumeAct Entry)
+            → Holding volume_lock tag held made a b → now ≡ stood volume.start volume.number held
+            → ((m : ℕ) → m ≡ machine_of (old.logical).settings (old.logical).number j → m ≡ machine_of volume.settings volume.number j)
+            → logical.BeginRefused files PieceTells now.volume j old.logical new.logical fault → BeginRefused volume tag j fault a b
+        found (ReadOnly m) not now volume held a b holding there machine r =
+            record { held = held; made = made; holding = holding; is = (none_made made even r.1, sym (ap (λ (z : Standing). (z.volume).frozen) there) ∙ r.0) }
+        found (Busy m g) not now volume held a b holding there machine r = (
+          machine m r.1,
+          record {
+            held = held;
+            made = made;
+            holding = holding;
+            is = (none_made made even r.3, sym (ap (λ (z : Standing). (z.volume).frozen) there) ∙ r.0, ((r.2).0, sym (ap (λ (z : Standing). (replica_at z.volume j).run) there) ∙ (r.2).1, (r.2).2));
+          },
+        )
+        found (Worn m) not now volume held a b holding there machine r = (
+          machine m r.1,
+          record {
+            held = held;
+            made = made;
+            holding = holding;
+            is = (
+              none_made made even r.4,
+              sym (ap (λ (z : Standing). (z.volume).frozen) there) ∙ r.0,
+              sym (ap (λ (z : Standing). (replica_at z.volume j).run) there) ∙ r.2,
+              sym (ap (λ (z : Standing). (replica_at z.volume j).generation) there) ∙ r.3,
+            );
+          },
+        )
+        found (Failed m f) not now volume held a b holding there machine r = absurd (not m f refl)
+        found NoMemory not now volume held a b holding there machine r = record { held = held; made = made; holding = holding; is = nothing_made made act }
+        found (Full m end need capacity) not now volume held a b holding there machine r = absurd r
+        found (Gone front) not now volume held a b holding there machine r = absurd r
+        found Idle not now volume held a b holding there machine r = absurd r
+        found (Damaged m at) not now volume held a b holding there machine r = absurd r
+
+  -- FUSES
+
+  module _ (of : IsOfOne faults old new) (j : ℕ) (within : j < ((old.logical).settings).replicas) where
+    pub fuse_leads : length (old.logical).replicas ≡ ((old.logical).settings).replicas
+        → ((r r' : Copy D) → At (old.logical).replicas j r → At (new.logical).replicas j r' → IsNext (fuses r.disk) (fuses r'.disk))
+        → ((i : ℕ) → i ≢ j → (r r' : Copy D) → At (old.logical).replicas i r → At (new.logical).replicas i r' → fuses r'.disk ≡ fuses r.disk)
+        → LeadsFusesOf fuses old new (Fuses j)
+    fuse_leads all next stay before after was is =
+        let old_at = at_there (old.logical).replicas j (let h : j < length (old.logical).replicas = omega arith in h) in
+        let new_at = at_there (new.logical).replicas j (let h : j < length (new.logical).replicas = omega (arith, of.count) in h) in (
+          subst (λ (n : ℕ). IsNext n (after j)) (sym (was j ∙ count_there fuses (old.logical).replicas j old_at.0 old_at.1))
+              (subst (λ (n : ℕ). IsNext (fuses ((old_at.0).disk)) n) (sym (is j ∙ count_there fuses (new.logical).replicas j new_at.0 new_at.1)) (next old_at.0 new_at.0 old_at.1 new_at.1)),
+          λ i other. is i ∙ count_one fuses (old.logical).replicas (new.logical).replicas of.count (λ a b. b ≡ a) refl i (stay i other) ∙ sym (was i),
+        )
+
+    pub fuse_made : new.begun ≡ old.begun → LeadsFusesOf fuses old new (Fuses j) → (Tells → (k : VolumeKnown) → Stands files PieceTells old.logical k → Stands files PieceTells new.logical k)
+        → (act : VolumeAct) → Behind (made_is.Fuses j) act → Goes (Some act) × Always (Some act) (λ volume. Fused volume.settings volume.start volume.number tag j)
+    fuse_made begun leads stands act is = (
+      goes_more Tells files PieceTells faults fuses tag old new (made_is.Fuses j) of leads refl
+          (λ tells before s. record { leads = (within, refl); stands = stands tells before.volume s })
+          (λ i less. ap (λ (l : List CoreTag). slice_index_or l i nobody) begun) act is,
+      λ opened held h k volume at a b holding. record { held = held; made = Some act; holding = holding; is = ap (λ (z : VolumeAct). did_of z.did) is },
+    )

@@ -1,0 +1,75 @@
+-- What a holding tells of a lane.
+use Rattle.std.proofs.Common.{◌≡◌, ℕ, false, List, [], ◌∷◌, ◌++◌, Option, Some, refl, sym, ap, subst, ◌∙◌, append-nil}
+use Rattle.std.specs.List.{AllByRecursion as Each}
+use Rattle.hay_core.specs.declared.entry.CoreTag.{CoreTag}
+use Rattle.hay_core.specs.declared.entry.Entry.{Entry}
+use Rattle.hay_disk.specs.Disk.{Files}
+use Rattle.hay_legal.specs.declared.known.VolumeKnown.{VolumeKnown}
+use Rattle.hay_history.specs.Steps.{Standing}
+use Rattle.hay_meeting.specs.declared.act.VolumeAct.{VolumeAct}
+use Rattle.hay_meeting.specs.Acts.{volume_lock}
+use Rattle.hay_meeting.specs.Locks.{LockSight, entries, left}
+use Rattle.hay_meeting.specs.Sights.{stood}
+use Rattle.hay_meeting.proofs.Replays.{entries_append}
+use Rattle.hay_holdings.specs.Holdings.{Holding}
+use Rattle.hay_holdings.specs.Volumes.{VolumeCall}
+use Rattle.hay_turn.specs.Acts.{AllOf}
+use Rattle.hay_turn.specs.Slots.{acts_in}
+use Rattle.hay_volume_lock.specs.Answers.{Found, FoundAlways, IsAlways, IsAt, IsTold, OneHolding, StoreVolume}
+use Rattle.hay_volume_lock.specs.Keeping.{GoesOn, IsKept, stood_of}
+use Rattle.hay_volume_lock.specs.Seats.{IsSameSeat, Seated, Takes, freed, holding}
+use Rattle.hay_volume_lock.specs.declared.guarded.Guarded.{Guarded}
+use Rattle.hay_volume_lock.specs.declared.guarded.Opened.{Opened}
+
+-- what stood of the volume, in the terms of the store
+pub stood_is : {D P : Type 0} (faults fuses : D → ℕ) (opened : Opened D P) (k : VolumeKnown) (volume : StoreVolume) (held : List VolumeAct)
+    → IsAt faults fuses opened k volume → stood_of faults fuses opened k held ≡ stood volume.start volume.number held
+stood_is faults fuses opened k volume held at = ap (λ (z : Standing). left volume_lock z held) (sym at.start)
+
+all_mine : (m n : ℕ) (acts : List VolumeAct) → m ≡ n → Each (λ act. act.seat ≡ n) acts → AllOf (λ act. act.seat) m acts
+all_mine m n [] same each = tt
+all_mine m n (act ∷ acts) same each = (each.0 ∙ sym same, all_mine m n acts same each.1)
+
+module _ {D P : Type 0} (Tells : Type 0) (files : D → Files) (PieceTells : Type 0) (faults fuses : D → ℕ) (tag : CoreTag) (old mid : Seated D P) (found : Guarded D P) (takes : Takes Tells files PieceTells faults fuses old mid found) where
+  -- the start is the seat's own
+  kept_at : (opened : Opened D P) → old.start ≡ Some opened → IsKept Tells files PieceTells faults fuses opened (mid.sight).seen found
+  kept_at opened is = let same : takes.opened ≡ opened = cc (takes.start, is) in
+      subst (λ (z : Opened D P). IsKept Tells files PieceTells faults fuses z (mid.sight).seen found) same takes.is_kept
+
+  module _ (after : Guarded D P) (made : Option VolumeAct) (goes : GoesOn Tells files PieceTells faults fuses tag found after made) where
+    -- the volume may be put back
+    pub may_free : (opened : Opened D P) → mid.start ≡ Some opened → IsKept Tells files PieceTells faults fuses opened ((mid.sight).seen ++ acts_in made) after
+    may_free opened is = goes.kept opened (mid.sight).seen (kept_at opened (sym (ap (λ (s : Seated D P). s.start) takes.same) ∙ is))
+
+    pub mine : old.number ≡ tag.lane → AllOf (λ act. act.seat) mid.number (acts_in made)
+    mine lane = all_mine mid.number tag.lane (acts_in made) (ap (λ (s : Seated D P). s.number) takes.same ∙ lane) goes.seats
+
+    pub holding_of : Holding volume_lock tag (mid.sight).seen made old.sight (freed mid (acts_in made)).sight
+    holding_of = record {
+      from = takes.seen;
+      shown_from = takes.shown;
+      seen = refl;
+      own = ap (λ (s : Seated D P). (s.sight).own ++ acts_in made) takes.same;
+      shown = ap (λ (s : Seated D P). (s.sight).shown) takes.same
+          ∙ sym (entries_append volume_lock (mid.sight).seen (acts_in made) ∙ ap (λ (l : List Entry). entries volume_lock (mid.sight).seen ++ l) goes.quiet ∙ append-nil (entries volume_lock (mid.sight).seen));
+      tags = goes.tags;
+      seats = goes.seats;
+    }
+
+    module _ (new : Seated D P) (is_new : new ≡ freed mid (acts_in made)) where
+      pub told : (Is : StoreVolume → VolumeCall) → Found Tells files PieceTells faults fuses tag found made Is
+          → IsTold Tells files PieceTells faults fuses old.start (λ volume. Is volume old.sight new.sight)
+      told Is finds opened is tells k s volume at = subst (λ (z : Seated D P). Is volume old.sight z.sight) (sym is_new)
+          (finds opened (mid.sight).seen (kept_at opened is) tells k s volume at old.sight (freed mid (acts_in made)).sight holding_of)
+
+      pub always : (Is : StoreVolume → VolumeCall) → FoundAlways Tells files PieceTells faults fuses tag found made Is
+          → IsAlways faults fuses old.start (λ volume. Is volume old.sight new.sight)
+      always Is finds opened is k volume at = subst (λ (z : Seated D P). Is volume old.sight z.sight) (sym is_new)
+          (finds opened (mid.sight).seen (kept_at opened is) k volume at old.sight (freed mid (acts_in made)).sight holding_of)
+
+      pub one_holding : OneHolding tag old.sight new.sight
+      one_holding = subst (λ (z : Seated D P). OneHolding tag old.sight z.sight) (sym is_new) (record { held = (mid.sight).seen; made = made; holding = holding_of; is = tt })
+
+      pub same_seat : old.holds ≡ false → IsSameSeat old new
+      same_seat rests = let e : new ≡ freed (holding old (mid.sight).seen) (acts_in made) = is_new ∙ ap (λ (s : Seated D P). freed s (acts_in made)) takes.same in
+          e ∙ ap (λ b. record (freed (holding old (mid.sight).seen) (acts_in made)) { holds = b }) (sym rests) ∙ ap (λ (s : LockSight VolumeAct Entry). record old { sight = s }) (sym (ap (λ (s : Seated D P). s.sight) e))

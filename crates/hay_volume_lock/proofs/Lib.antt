@@ -1,0 +1,5 @@
+pub mod Counting
+pub mod Finding
+pub mod Growing
+pub mod Holding
+pub mod Telling

@@ -1,0 +1,5 @@
+pub mod Acts
+pub mod Answers
+pub mod Keeping
+pub mod Rows
+pub mod Seats

@@ -1,0 +1,51 @@
+//! What a holding did.
+ghost use Rattle.std.specs.Prelude.{◌≡◌};
+ghost use Rattle.hay_volume_lock.specs.Acts.{act_of};
+
+use hay_core::CoreTag;
+use hay_disk::Disk;
+use hay_logical::Logical;
+use hay_views::Moment;
+use std::marker::Model;
+
+/// What was done to a volume.
+#[derive(Clone, Copy, Debug, PartialEq, Eq)]
+pub enum Made {
+    /// Nothing was changed, though a call of a disk may have failed.
+    Tries,
+    Flushes { replica: u32 },
+    /// A flush of the replica failed.
+    Sticks { replica: u32 },
+    Begins { replica: u32 },
+    Fuses { replica: u32 },
+}
+
+/// An act for a line, and the volume behind it. It is for clauses alone, which see a `VolumeAct`.
+#[derive(Drop)]
+pub struct Act<D: Disk> {
+    tag: CoreTag,
+    made: Made,
+    after: Moment<Logical<D>>,
+}
+
+impl<D: Disk> Model for Act<D> {
+    ghost use Rattle.hay_meeting.specs.declared.act.VolumeAct.{VolumeAct};
+    ghost use Rattle.hay_volume_lock.specs.Acts.{act_of};
+
+    ghost Value = { VolumeAct };
+
+    ghost view = { λ a. act_of D.fault_count D.fuse_count a.tag a.made a.after.replicas };
+}
+
+impl<D: Disk> Act<D> {
+    /// The line did this, and left the volume so.
+    pub(crate) fn new(tag: CoreTag, made: Made, after: &Logical<D>) -> Act<D>
+        ensures { result ≡ act_of D.fault_count D.fuse_count tag made after.now.replicas }
+    {
+        Act {
+            tag,
+            made,
+            after: Moment::of(after),
+        }
+    }
+}

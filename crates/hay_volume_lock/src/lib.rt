@@ -1,0 +1,28 @@
+//! A logical volume behind a lock, with its rows published for lanes that do not hold it: the types, what they stand for, and the laws
+//! by which a call at a seat is a step of its lane. The calls are not here yet.
+//!
+//! A lane has a seat at each volume. A call at a seat holds the volume once, and tells what it found and what act it made; or it looks
+//! at the published rows without the lock. Clauses see of a seat what its lane knows of the volume, as `hay_meeting` has it, and each
+//! answer is a call of `hay_holdings`: so a lane's calls add up to the answers of its lines. What a call tells of what stands holds
+//! where the disk tells what it has, and for all that the volume stood for where the lock was made; that it fails only where a count
+//! of faults rose holds on any disk.
+//!
+//! `Guarded` is what stands behind the lock, and `specs/Keeping` says for which acts it stands. An act takes no memory: it has the
+//! volume as it was behind it, for clauses alone, which see a `VolumeAct`. `Told` is what the published rows tell. In `specs/Answers`
+//! each answer of a call is a call of `hay_holdings`.
+//!
+//! In `proofs/`, `Growing` has what an act makes of what stands behind the lock, `Finding` how the answers of a logical volume are
+//! those calls, `Holding` what a holding tells of its lane, and `Telling` what a look at the published rows does.
+#![tactic(auto)]
+
+mod act;
+mod guarded;
+mod lock;
+mod seat;
+mod told;
+
+pub use act::Act;
+pub use guarded::{Guarded, Opened};
+pub use lock::VolumeLock;
+pub use seat::VolumeSeat;
+pub use told::Told;
