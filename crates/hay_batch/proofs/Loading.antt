@@ -5,7 +5,7 @@ use Rattle.std.proofs.lemmas.Bool.Decides.{eqb_tells}
 use Rattle.hay_needle.specs.declared.needle.Cell.{Cell}
 use Rattle.hay_needle.specs.declared.settings.Settings.{Settings}
 use Rattle.hay_disk.specs.Counts.{Rose}
-use Rattle.hay_disk.specs.Disk.{Files, IsImage}
+use Rattle.hay_disk.specs.Disk.{Files, IsImage, KeepsOthers}
 use Rattle.hay_volume.specs.Cells.{IsVolume}
 use Rattle.hay_volume.specs.declared.volume.VolumeFile.{VolumeFile}
 use Rattle.hay_volume.proofs.Volumes.{volume_kept}
@@ -17,12 +17,13 @@ use Rattle.hay_batch.specs.declared.replicas.AppendFault.{AppendFault}
 use Rattle.hay_batch.specs.declared.photo.NewPhoto.{NewPhoto}
 use Rattle.hay_batch.specs.declared.replica.LoadReplica.{LoadReplica}
 use Rattle.hay_batch.specs.declared.store.LoadStore.{LoadStore}
+use Rattle.hay_batch.specs.declared.store.LoadVolume.{LoadVolume}
 use Rattle.hay_batch.specs.Batches.{batch_total, new_cells, new_row}
 use Rattle.hay_batch.specs.Directories as directories
 use Rattle.hay_batch.specs.Directories.{HoldsRows}
-use Rattle.hay_batch.specs.Replicas.{Adds, HasWithOrWithout, Holds, MayAdd, file_of, IsReady}
-use Rattle.hay_batch.specs.Stores.{AreContents, AreWithoutRows, Contents, FailsReplica, Images, IsReadyStore, IsShaped, MayLeaveStore, ReplicaAt, Stands, with_batch}
-use Rattle.hay_batch.proofs.Lists.{at_below, at_there}
+use Rattle.hay_batch.specs.Replicas.{Adds, At, HasWithOrWithout, Holds, MayAdd, file_of, IsReady}
+use Rattle.hay_batch.specs.Stores.{AreContents, AreWithoutRows, Contents, FailsReplica, Images, IsReadyStore, IsShaped, KeepsFiles, MayLeaveStore, ReplicaAt, Stands, with_batch}
+use Rattle.hay_batch.proofs.Lists.{at_below, at_same, at_there}
 use Rattle.hay_batch.proofs.RowRuns.{journal_kept}
 
 -- an image of a replica has its cells
@@ -111,7 +112,9 @@ module _ {D : Type 0} (files : D → Files) (v : ℕ) (photos : List NewPhoto) (
     pub left_without_rows : ((j : ℕ) (r r' : LoadReplica D) → ReplicaAt old v j r → ReplicaAt new v j r' → MayAdd files photos r r') → IsJournal k.superblock old.settings.volumes left.journal k.rows → AreWithoutRows old.settings photos k left
     unfolding before after image_other
     left_without_rows may rows = record {
+      volume = v;
       rows = rows;
+      others = λ u j apart below within. image_other u j apart below within;
       cells = λ u j below within. elim (eqb_tells u v) [
         | inl same ↦
             let is = after u j below within in
@@ -167,7 +170,9 @@ module _ {D : Type 0} (files : D → Files) (v : ℕ) (photos : List NewPhoto) (
           → AreWithoutRows old.settings photos k left ⊎ AreContents old.settings (with_batch v photos k) left
       unfolding image_other image_added cells_here cells_there ends_here ends_there
       left_all_or_no_rows (inl rows) = inl (record {
+        volume = v;
         rows = rows;
+        others = λ u j apart below within. image_other left leaves u j apart below within;
         cells = λ u j below within. elim (eqb_tells u v) [
           | inl same ↦ inr (image_added u j same.1 below within)
           | inr apart ↦ inl (image_other left leaves u j apart.1 below within)
@@ -205,12 +210,45 @@ rows_kept files superblock volumes rows d image has leaves = journal_kept superb
 
 -- where nothing was changed, a stop leaves what there was
 pub left_same : {D : Type 0} (files : D → Files) (photos : List NewPhoto) (k : Contents) (store : LoadStore D) (left : Images) → IsShaped store → Stands files store k → MayLeaveStore files store left → AreWithoutRows store.settings photos k left
-left_same files photos k store left shape stands leaves = record {
-  rows = rows_kept files k.superblock store.settings.volumes k.rows store.directory left.journal stands.directory leaves.journal;
-  cells = λ u j below within.
-      let is = replica_there store u j shape below within in
-      inl (subst (λ n. IsVolume (k.superblocks u j) (left.volumes u j) (k.cells u j) n) (stands.ends u j is.0 is.1)
-      (held_image files (k.superblocks u j) (k.cells u j) is.0 (left.volumes u j) (stands.replicas u j is.0 is.1) (leaves.volumes u j is.0 is.1)));
+left_same files photos k store left shape stands leaves =
+    let has : (u j : ℕ) → u < store.settings.volumes → j < store.settings.replicas → IsVolume (k.superblocks u j) (left.volumes u j) (k.cells u j) (k.ends u j) = λ u j below within.
+    let is = replica_there store u j shape below within in
+    subst (λ n. IsVolume (k.superblocks u j) (left.volumes u j) (k.cells u j) n) (stands.ends u j is.0 is.1)
+    (held_image files (k.superblocks u j) (k.cells u j) is.0 (left.volumes u j) (stands.replicas u j is.0 is.1) (leaves.volumes u j is.0 is.1)) in
+    record {
+      volume = 0;
+      rows = rows_kept files k.superblock store.settings.volumes k.rows store.directory left.journal stands.directory leaves.journal;
+      cells = λ u j below within. inl (has u j below within);
+      others = λ u j apart below within. has u j below within;
+    }
+
+-- OTHER FILES
+
+one_replica : {D : Type 0} (store : LoadStore D) (v j : ℕ) (r r' : LoadReplica D) → ReplicaAt store v j r → ReplicaAt store v j r' → r ≡ r'
+one_replica {D} store v j r r' first second =
+    let same : first.0 ≡ second.0 = at_same store.volumes.items v first.0 second.0 first.1 second.1 in
+    at_same second.0.replicas.items j r r' (subst (λ (w : LoadVolume D). At w.replicas.items j r) same first.2) second.2
+
+pub files_same : {D : Type 0} (files : D → Files) (store : LoadStore D) → KeepsFiles files store store
+files_same {D} files store = record {
+  directory = λ other apart. refl;
+  numbers = λ v j r r' was is. ap (λ (x : LoadReplica D). x.volume.file) (sym (one_replica store v j r r' was is));
+  replicas = λ v j r r' was is other apart. ap (λ (x : LoadReplica D). files x.disk other) (sym (one_replica store v j r r' was is));
+}
+
+-- what a batch changed
+pub files_kept : {D : Type 0} (files : D → Files) (v : ℕ) (photos : List NewPhoto) (old new : LoadStore D) (d : LoadDirectory D) → Touches v old new → ((j : ℕ) (r r' : LoadReplica D) → ReplicaAt old v j r → ReplicaAt new v j r' → MayAdd files photos r r')
+    → KeepsOthers 0 (files old.directory.disk) (files d.disk) → KeepsFiles files old (with_directory new d)
+files_kept {D} files v photos old new d touched may directory = record {
+  directory = directory;
+  numbers = λ u j r r' was is. elim (eqb_tells u v) [
+    | inl same ↦ (may j r r' (subst (λ n. ReplicaAt old n j r) same.1 was) (subst (λ n. ReplicaAt new n j r') same.1 is)).file
+    | inr apart ↦ ap (λ (x : LoadReplica D). x.volume.file) (touched.others u j r r' apart.1 was is)
+  ];
+  replicas = λ u j r r' was is. elim (eqb_tells u v) [
+    | inl same ↦ (may j r r' (subst (λ n. ReplicaAt old n j r) same.1 was) (subst (λ n. ReplicaAt new n j r') same.1 is)).others
+    | inr apart ↦ λ other far. ap (λ (x : LoadReplica D). files x.disk other) (touched.others u j r r' apart.1 was is)
+  ];
 }
 
 -- WHICH DISK FAILED

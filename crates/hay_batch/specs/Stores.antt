@@ -1,9 +1,9 @@
 -- What a store holds to which batches are loaded, and what loading one does to it.
-use Rattle.std.specs.Prelude.{◌≡◌, ◌⊎◌, ◌<◌, ◌≤◌, ◌+◌, ◌*◌, ◌%◌, ℕ, List, ◌++◌, length, map, nat_eq, if◌then◌else◌}
+use Rattle.std.specs.Prelude.{◌≡◌, ◌≢◌, ◌⊎◌, ◌<◌, ◌≤◌, ◌+◌, ◌*◌, ◌%◌, ℕ, List, ◌++◌, length, map, nat_eq, if◌then◌else◌}
 use Rattle.hay_needle.specs.declared.needle.Cell.{Cell}
 use Rattle.hay_needle.specs.declared.settings.Settings.{Settings}
 use Rattle.hay_disk.specs.Counts.{Rose}
-use Rattle.hay_disk.specs.Disk.{Files, IsImage}
+use Rattle.hay_disk.specs.Disk.{Files, IsImage, KeepsOthers}
 use Rattle.hay_volume.specs.Cells.{IsVolume}
 use Rattle.hay_dirfile.specs.Journal.{IsJournal}
 use Rattle.hay_dirfile.specs.declared.row.DirRow.{DirRow}
@@ -109,10 +109,20 @@ pub record AreContents (settings : Settings) (k : Contents) (left : Images) : Ty
   pub rows : IsJournal k.superblock settings.volumes left.journal k.rows
   pub cells : (v j : ℕ) → v < settings.volumes → j < settings.replicas → IsVolume (k.superblocks v j) (left.volumes v j) (k.cells v j) (k.ends v j)
 
--- The bytes have no row of the batch: each replica has its cells, with those of the batch or without.
+-- The bytes have no row of the batch. On the replicas of one volume its cells may stand behind the others, and on no other replica.
 pub record AreWithoutRows (settings : Settings) (photos : List NewPhoto) (k : Contents) (left : Images) : Type 0 where
+  pub volume : ℕ
   pub rows : IsJournal k.superblock settings.volumes left.journal k.rows
   pub cells : (v j : ℕ) → v < settings.volumes → j < settings.replicas → HasWithOrWithout (k.superblocks v j) (k.cells v j) (k.ends v j) photos (left.volumes v j)
+  pub others : (v j : ℕ) → v ≢ volume → v < settings.volumes → j < settings.replicas → IsVolume (k.superblocks v j) (left.volumes v j) (k.cells v j) (k.ends v j)
+
+-- OTHER FILES
+
+-- The journal's disk has no other file that changed, and that of a replica none but the volume file.
+pub record KeepsFiles {D : Type 0} (files : D → Files) (old new : LoadStore D) : Type 0 where
+  pub directory : KeepsOthers 0 (files old.directory.disk) (files new.directory.disk)
+  pub numbers : (v j : ℕ) (r r' : LoadReplica D) → ReplicaAt old v j r → ReplicaAt new v j r' → r'.volume.file ≡ r.volume.file
+  pub replicas : (v j : ℕ) (r r' : LoadReplica D) → ReplicaAt old v j r → ReplicaAt new v j r' → KeepsOthers r.volume.file (files r.disk) (files r'.disk)
 
 -- REFUSALS
 

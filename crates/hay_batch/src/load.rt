@@ -16,7 +16,7 @@ ghost use Rattle.hay_batch.specs.Directories.{HoldsRows, IsFirstHome, MaySettle}
 ghost use Rattle.hay_batch.specs.Directories as directories;
 ghost use Rattle.hay_batch.specs.Homes.{home_among};
 ghost use Rattle.hay_batch.specs.Replicas.{Adds, At, HasRoom, IsReady, MayAdd};
-ghost use Rattle.hay_batch.specs.Stores.{AreContents, AreTries, AreWithoutRows, Contents, FailsAt, Images, IsDiskFault, IsFirstRoom, IsReadyStore, IsShaped, KeepsCounts, MayLeaveStore, ReplicaAt, Stands, with_batch};
+ghost use Rattle.hay_batch.specs.Stores.{AreContents, AreTries, AreWithoutRows, Contents, FailsAt, Images, IsDiskFault, IsFirstRoom, IsReadyStore, IsShaped, KeepsCounts, KeepsFiles, MayLeaveStore, ReplicaAt, Stands, with_batch};
 
 use crate::directory::LoadDirectory;
 use crate::fault::LoadFault;
@@ -123,6 +123,7 @@ impl<D: Disk> LoadStore<D> {
         ensures next { D.Tells → OnOk result (IsReadyStore D.files self.new) }
         ensures left { D.Tells → (k : Contents) (left : Images) → Stands D.files self.old k → MayLeaveStore D.files self.new left →
             AreWithoutRows self.old.settings photos.now k left ⊎ AreContents self.old.settings (with_batch volume photos.now k) left }
+        ensures files { D.Tells → KeepsFiles D.files self.old self.new }
         ensures counts { KeepsCounts D.fault_count D.fuse_count self.old self.new }
         ensures failed { IfErr result (λ fault. (slot faults : ℕ) → fault ≡ LoadFault.Failed slot faults → FailsAt D.fault_count self.old self.new slot faults) }
         ensures faults { IfErr result IsDiskFault }
@@ -167,6 +168,7 @@ impl<D: Disk> LoadStore<D> {
         ensures left { D.Tells → (k : Contents) (left : Images) → Stands D.files self.old k → MayLeaveStore D.files self.new left →
             AreWithoutRows self.old.settings photos.now k left ⊎ ((volume : ℕ) × (volume < self.old.settings.volumes) × AreContents self.old.settings (with_batch volume photos.now k) left) }
 
+        ensures files { D.Tells → KeepsFiles D.files self.old self.new }
         ensures shape { (self.new.settings ≡ self.old.settings) × IsShaped self.new }
         ensures counts { KeepsCounts D.fault_count D.fuse_count self.old self.new }
         ensures failed { IfErr result (λ fault. (slot faults : ℕ) → fault ≡ LoadFault.Failed slot faults → FailsAt D.fault_count self.old self.new slot faults) }

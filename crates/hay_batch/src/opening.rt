@@ -83,7 +83,8 @@ impl<D: Disk> LoadDirectory<D> {
         ensures disk { IfOk result (λ d. OpensDirectory D.Tells D.files D.fault_count D.fuse_count disk d.disk) }
 
         ensures back { IfErr result (λ refused. OpensDirectory D.Tells D.files D.fault_count D.fuse_count disk refused.0) }
-        ensures damaged { D.Tells → IfErr result (λ refused. (file at : ℕ) → refused.1 ≡ JournalFault.Damaged file at → (file ≡ 0) × IsDamagedJournal (journal_super settings.now) (D.files disk 0).now at) }
+        ensures damaged { D.Tells → IfErr result (λ refused. (file at : ℕ) → refused.1 ≡ JournalFault.Damaged file at →
+            (file ≡ 0) × IsDamagedJournal (journal_super settings.now) (D.files disk 0).now at) }
         ensures failed { IfErr result (λ refused. (faults : ℕ) → refused.1 ≡ JournalFault.Failed faults →
             Rose (D.fault_count disk) (D.fault_count refused.0) × (faults ≡ D.fault_count refused.0)) }
     {

@@ -109,7 +109,10 @@ fn a_volume_without_room_is_full(rt: HostRuntime) -> Result<(), Fail> {
         need: 4048,
         capacity: 4096,
     };
-    assert_eq!(rt; append_many(&mut volume, alloc, &mut disk, &large), Err(full));
+    assert_eq!(rt;
+        append_many(&mut volume, alloc, &mut disk, &large),
+        Err(full)
+    );
     Ok(())
 }
 

@@ -4,3 +4,5 @@
 
 #[cfg(test)]
 mod appends;
+#[cfg(test)]
+mod loads;

@@ -2,7 +2,7 @@ use Rattle.std.proofs.Common.{◌≡◌, get_or, inl, sym, subst}
 use Rattle.hay_batch.specs.declared.photo.NewPhoto.{NewPhoto}
 use Rattle.hay_batch.specs.Batches.{batch_total}
 use Rattle.hay_batch.specs.Stores.{IsFirstRoom}
-use Rattle.hay_batch.proofs.Loading.{left_same}
+use Rattle.hay_batch.proofs.Loading.{files_same, left_same}
 use Rattle.hay_batch.proofs.Showing.{batch_shows}
 use Rattle.hay_batch.proofs.StoreLaws.{first_room, if_ok_more, same_tries}
 use Rattle.hay_batch.proofs.store.LoadStore.load_batch.Goals as goal
@@ -37,3 +37,9 @@ returns-in-Ok-clause-shows g c = λ cells at i photo there. batch_shows c.args.p
 
 pub returns-in-Err-clause-shows : goal.returns-in-Err-clause-shows
 returns-in-Err-clause-shows g c = λ cells at i photo there. batch_shows c.args.photos.now cells at i photo c.requires.distinct there
+
+pub returns-in-Some-clause-files : goal.returns-in-Some-clause-files
+returns-in-Some-clause-files g c = λ tells. files_same g.D.Disk.files c.args.self.now
+
+pub returns-in-Err-clause-files : goal.returns-in-Err-clause-files
+returns-in-Err-clause-files g c = λ tells. files_same g.D.Disk.files c.args.self.now

@@ -1,8 +1,9 @@
-use Rattle.std.proofs.Common.{◌≡◌, ◌+◌, ◌*◌, inl, inr, sym, subst}
+use Rattle.std.proofs.Common.{◌≡◌, ◌+◌, ◌*◌, inl, inr, sym, ap, subst}
 use Rattle.hay_needle.specs.declared.settings.Settings.{Settings}
+use Rattle.hay_disk.specs.Disk.{KeepsOthers}
 use Rattle.hay_batch.specs.declared.directory.LoadDirectory.{LoadDirectory}
 use Rattle.hay_batch.specs.Directories.{HoldsRows, MaySettle}
-use Rattle.hay_batch.proofs.Loading.{Touches, fails_replica, left_all_or_no_rows, left_without_rows, ready_loaded, refused_is, rows_kept, stands_loaded}
+use Rattle.hay_batch.proofs.Loading.{Touches, fails_replica, files_kept, left_all_or_no_rows, left_without_rows, ready_loaded, refused_is, rows_kept, stands_loaded}
 use Rattle.hay_batch.proofs.StoreLaws.{on_ok_more}
 use Rattle.hay_batch.proofs.store.LoadStore.load_into.Goals as goal
 
@@ -46,3 +47,17 @@ returns-in-Err-clause-failed g c = λ slot faults is.
     let there = refused_is c.in-Err.fault c.refused.result slot faults (1 + c.args.volume * c.append.new.self.settings.replicas) c.refused.ensures.failed c.refused.ensures.no_memory is in
     inr (fails_replica g.D.Disk.fault_count c.args.volume there.0 slot faults c.args.self.now _ touched c.requires.there
     (subst (λ (s : Settings). slot ≡ 1 + c.args.volume * s.replicas + there.0) c.append.ensures.shape.0 there.2) (c.in-Err.ensures.failed there.0 faults there.1))
+
+-- other files
+
+pub returns-in-Ok-clause-files : goal.returns-in-Ok-clause-files
+returns-in-Ok-clause-files g c = λ tells.
+    let touched : Touches c.args.volume c.args.self.now c.append.new.self = record { settings = c.append.ensures.shape.0; was = c.requires.shape; is = c.append.ensures.shape.1; others = c.append.ensures.others } in
+    files_kept g.D.Disk.files c.args.volume c.args.photos.now c.args.self.now c.append.new.self c.settle_rows.new.directory touched (c.append.ensures.left tells)
+    (subst (λ (d : LoadDirectory g.row.D.Denot). KeepsOthers 0 (g.D.Disk.files d.disk) (g.D.Disk.files c.settle_rows.new.directory.disk)) c.append.ensures.same (c.settle_rows.ensures.left tells).others)
+
+pub returns-in-Err-clause-files : goal.returns-in-Err-clause-files
+returns-in-Err-clause-files g c = λ tells.
+    let touched : Touches c.args.volume c.args.self.now c.append.new.self = record { settings = c.append.ensures.shape.0; was = c.requires.shape; is = c.append.ensures.shape.1; others = c.append.ensures.others } in
+    files_kept g.D.Disk.files c.args.volume c.args.photos.now c.args.self.now c.append.new.self c.append.new.self.directory touched (c.append.ensures.left tells)
+    (λ other apart. ap (λ (d : LoadDirectory g.row.D.Denot). g.D.Disk.files d.disk other) c.append.ensures.same)
