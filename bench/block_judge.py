@@ -1049,18 +1049,23 @@ def verdict_of(judge, item, lines):
 
 def verdicts(script, transcript, secret=bytes(32), sure=False):
     """A verdict for each item of a script, up to the first that is not lawful."""
+    return judged(script, transcript, secret, sure)[0]
+
+
+def judged(script, transcript, secret, sure):
+    """The verdicts, and the worlds that the store may stand at behind the last of them that is lawful."""
     lines = text.Lines(transcript)
     try:
         settings = text.settings_of(lines.take(), secret)
     except text.BadText as reason:
-        return [Verdict(0, word="unlawful", reasons=(str(reason),))]
+        return [Verdict(0, word="unlawful", reasons=(str(reason),))], []
     judge, found = Judge(settings, sure), []
     for item in text.items_of(script):
         if lines.next().startswith("open "):
-            return found + [Verdict(item.line, word="undecided", reasons=(lines.next(),))]
+            return found + [Verdict(item.line, word="undecided", reasons=(lines.next(),))], judge.worlds
         found.append(verdict_of(judge, item, lines))
         if found[-1].word != "lawful":
-            return found
+            return found, judge.worlds
     if lines.next() or lines.open_end:
         found.append(Verdict(0, word="unlawful", reasons=(f"text: a line of no item: {lines.next()[:80]!r}",)))
-    return found
+    return found, judge.worlds

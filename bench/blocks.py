@@ -7,8 +7,9 @@
 
 `judge` reads a script and the transcript of a run of it over void disks, and tells of each block whether it is lawful; it stops at the
 first item that is not. `blocks` draws scripts of plain lines, blocks of 2 to 8 lanes and restarts until there are N blocks, and judges
-what the store of block_store.py prints of them, or with --program what the program does. `faults` takes that store with one planted
-fault after the other (block_faults.py), and tells how many scripts it takes until the judge finds it.
+what the store of block_store.py prints of them, or with --program what the program does. The state that the store stands at in the end
+has to be one of those that the judge keeps (block_truth.py). `faults` takes that store with one planted fault after the other
+(block_faults.py), and tells how many scripts it takes until the judge finds it.
 
 The judge is written from the rules of docs/model.md, and from no definition or code of the program. It keeps all states that the store
 may stand at, with the least counts of faults. A plain line is judged as a block of one lane. What each line did to a volume, or found
@@ -64,6 +65,7 @@ import block_judge
 import block_text as text
 from block_faults import FAULTS
 from block_store import Store
+from block_truth import is_kept
 
 SIZES = ((0, 1, 20, 600), (1, 500, 900, 1500), (3, 40, 3000))
 MIXES = ((5, 4, 1, 2, 1, 1, 1), (8, 2, 0, 2, 0, 1, 1), (3, 8, 2, 1, 1, 0, 0), (5, 2, 0, 3, 0, 2, 3))
@@ -88,7 +90,7 @@ class Script:
         secret = bytes(32) if draw.random() < 0.8 else draw.randbytes(32)
         self.settings = text.Settings(machines, draw.choice((1, 1, 2, 3)), replicas, draw.choice((4096, 4096, 4600, 65536)), secret)
         self.keys, self.sizes = draw.choice((2, 3, 4)), draw.choice(SIZES)
-        self.lines, self.blocks = [], 0
+        self.lines = []
         for _ in range(draw.randrange(12)):
             self.lines.append(self.lane_line((9, 0, 0, 1, 0, 1, 1)) if draw.random() < 0.7 else self.plain_line())
         for _ in range(draw.randint(1, 5)):
@@ -152,8 +154,8 @@ class Script:
         chosen = self.draw.sample(range(lanes), lanes) + self.draw.choices(range(lanes), k=count - lanes)
         self.lines += [f"{lane} {self.lane_line(mix)}" for lane in chosen]
         self.lines.append("end")
-        self.blocks += 1
-        self.add_behind()
+        if self.draw.random() < 0.8:
+            self.add_behind()
 
     def add_behind(self):
         for _ in range(self.draw.randrange(4)):
@@ -184,18 +186,23 @@ def store_of(kind, script, seed):
     return kind(script.settings, seed, flaky_of(seed), random.Random(f"memory {seed}").choice(SCARCE))
 
 
-def verdicts_of(script, transcript, sure):
-    return block_judge.verdicts(script.text(), transcript, script.settings.secret, sure)
-
-
-def transcript_of(program, script, seed):
-    """What the program prints of a script, or the store where there is no program."""
-    if program is None:
-        return store_of(Store, script, seed).run(script.text())
+def judge_program(program, script, seed):
+    """The transcript of the program, and its verdicts."""
     done = subprocess.run([program, "run", *script.settings.words()], input=script.text(), capture_output=True, timeout=600, check=False)
     if done.returncode != 0:
         sys.exit(f"seed {seed}: status {done.returncode}, {done.stderr!r}")
-    return done.stdout.decode("ascii")
+    transcript = done.stdout.decode("ascii")
+    return transcript, block_judge.verdicts(script.text(), transcript, script.settings.secret, sure=True)
+
+
+def judge_store(kind, script, seed):
+    """The transcript of a store of this kind, and its verdicts, of which the last one is that the judge keeps the state of the store."""
+    store = store_of(kind, script, seed)
+    transcript = store.run(script.text())
+    verdicts, worlds = block_judge.judged(script.text(), transcript, script.settings.secret, flaky_of(seed) == 0)
+    if verdicts[-1].word == "lawful" and not is_kept(store, worlds):
+        verdicts.append(block_judge.Verdict(0, word="lost", reasons=("the judge does not keep the state that the store stands at",)))
+    return transcript, verdicts
 
 
 # RUNS
@@ -240,8 +247,7 @@ def run_blocks(options):
     tally, seed, wrong = Tally(), options.seed, 0
     while sum(tally.blocks.values()) < options.blocks:
         script = Script(seed)
-        transcript = transcript_of(options.program, script, seed)
-        verdicts = verdicts_of(script, transcript, options.program is not None or flaky_of(seed) == 0)
+        transcript, verdicts = judge_program(options.program, script, seed) if options.program else judge_store(Store, script, seed)
         tally.add(verdicts, transcript, script.text())
         for verdict in verdicts:
             if verdict.word != "lawful":
@@ -261,8 +267,8 @@ def found_by(kind, options):
             break
         seed = options.seed + count
         script = Script(seed)
-        transcript = store_of(kind, script, seed).run(script.text())
-        last = verdicts_of(script, transcript, flaky_of(seed) == 0)[-1]
+        _, verdicts = judge_store(kind, script, seed)
+        last = verdicts[-1]
         if last.word != "unlawful":
             continue
         first = first or (count, last)
