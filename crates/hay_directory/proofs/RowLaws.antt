@@ -128,12 +128,11 @@ only_rows settings file items more void exact (inr is) = ap (λ (l : List DirRow
 
 pub found_rows : (settings : Settings) (sup : Super) (old new : FileState) (end count : ℕ) (homes : List ((ℕ × ℕ) × ℕ)) (items : List DirRow) → sup ≡ journal_super settings → IsJournal (super_bytes sup) sup.settings.volumes new.now items → end ≡ journal_end items
     → IsSolid new → IsGate journal_magic end new → (old.now ≡ [] → items ≡ []) → (0 < length old.now → new ≡ old) → ((rows : List DirRow) → IsJournal (super_bytes sup) sup.settings.volumes old.now rows → items ≡ rows)
-    → ((pair : Pair) → home_among homes pair ≡ home_in (map home_row items) pair) → count ≡ length items → FindsRows settings old new end homes count
+    → ((pair : Pair) → home_among homes pair ≡ home_in (map home_row items) pair) → count ≡ length items → FindsRows settings old new end homes count (map home_row items)
 found_rows settings sup old new end count homes items sups is ends solid gate void keeps exact homes_are counts =
     let same : IsJournal (super_bytes (journal_super settings)) settings.volumes new.now items = subst (λ (s : Super). IsJournal (super_bytes s) s.settings.volumes new.now items) sups is in
     let here : HasJournal settings new.now (map home_row items) = subst (λ (l : List DirRow). IsJournal (super_bytes (journal_super settings)) settings.volumes new.now l) (sym (dir_rows items)) same in
     record {
-      rows = map home_row items;
       found = file_rows settings old.now new.now items here void (λ some. ap (λ (f : FileState). f.now) (keeps some));
       only = λ more has. only_rows settings old.now items more void (subst (λ (s : Super). (rows : List DirRow) → IsJournal (super_bytes s) s.settings.volumes old.now rows → items ≡ rows) sups exact) has;
       settled = record { journal = here; solid = solid; gate = gate; ends = ends ∙ ap (λ (l : List DirRow). journal_end l) (sym (dir_rows items)) };

@@ -226,27 +226,28 @@ holds_behind files d d' known h stops = record {
 
 -- BEHIND AN OPENING
 
-pub stands_opened : {D : Type 0} (files : D → Files) (settings : Settings) (old : FileState) (d' : State D) (drained : List Bool) (found : FindsRows settings old (files d'.disk 0) d'.journal.end d'.homes d'.count) → d'.settings ≡ settings → d'.mode ≡ Open → d'.drained ≡ drained
-    → StandsFor files d' (directory_with found.rows) drained
-stands_opened files settings old d' drained found same mode drains = record {
+pub stands_opened : {D : Type 0} (files : D → Files) (settings : Settings) (old : FileState) (d' : State D) (drained : List Bool) (rows : List HomeRow) (found : FindsRows settings old (files d'.disk 0) d'.journal.end d'.homes d'.count rows) → d'.settings ≡ settings → d'.mode ≡ Open → d'.drained ≡ drained
+    → StandsFor files d' (directory_with rows) drained
+stands_opened files settings old d' drained rows found same mode drains = record {
   mode = mode;
   frozen = refl;
-  holds = subst (λ k. IsSettled k (files d'.disk 0) d'.journal.end found.rows) (sym same) found.settled;
+  holds = subst (λ k. IsSettled k (files d'.disk 0) d'.journal.end rows) (sym same) found.settled;
   homes = found.homes_are;
   count = found.count_is;
   drained_is = sym drains;
 }
 
 -- and behind a stop
-pub reopened : {D : Type 0} (files : D → Files) (d d' : State D) (drained : List Bool) (known : DirKnown) (notes : List Note) (found : FindsRows d.settings (files d.disk 0) (files d'.disk 0) d'.journal.end d'.homes d'.count) → StoppedFor files d known
+pub reopened : {D : Type 0} (files : D → Files) (d d' : State D) (drained : List Bool) (known : DirKnown) (notes : List Note) (rows : List HomeRow) (found : FindsRows d.settings (files d.disk 0) (files d'.disk 0) d'.journal.end d'.homes d'.count rows) → StoppedFor files d known
     → d'.settings ≡ d.settings → d'.mode ≡ Open → d'.drained ≡ drained → notes ≡ notes_by (unsure_of d.mode) d'.homes
-    → (kept : Bool) × (notes ≡ row_notes known.pending kept) × StandsFor files d' (directory_with (known.rows ++ kept_row known.pending kept)) drained
-reopened files d d' drained known notes found s settings mode drains told =
-    let rows : found.rows ≡ known.rows ++ kept_row known.pending s.kept = found.only (known.rows ++ kept_row known.pending s.kept) (inr s.journal) in
-    let homes : AreHomes d'.homes (known.rows ++ kept_row known.pending s.kept) = subst (λ l. AreHomes d'.homes l) rows (record { are = found.homes_are }) in (
+    → (kept : Bool) × (notes ≡ row_notes known.pending kept) × (rows ≡ known.rows ++ kept_row known.pending kept) × StandsFor files d' (directory_with (known.rows ++ kept_row known.pending kept)) drained
+reopened files d d' drained known notes rows found s settings mode drains told =
+    let same : rows ≡ known.rows ++ kept_row known.pending s.kept = found.only (known.rows ++ kept_row known.pending s.kept) (inr s.journal) in
+    let homes : AreHomes d'.homes (known.rows ++ kept_row known.pending s.kept) = subst (λ l. AreHomes d'.homes l) same (record { are = found.homes_are }) in (
       s.kept,
       told ∙ ap (λ u. notes_by u d'.homes) (ap unsure_of s.mode) ∙ notes_are known.rows known.pending s.kept d'.homes s.due homes,
-      subst (λ l. StandsFor files d' (directory_with l) drained) rows (stands_opened files d.settings (files d.disk 0) d' drained found settings mode drains),
+      same,
+      subst (λ l. StandsFor files d' (directory_with l) drained) same (stands_opened files d.settings (files d.disk 0) d' drained rows found settings mode drains),
     )
 
 -- a refusal keeps what stood

@@ -162,8 +162,7 @@ Stopped files directory known = StoppedFor files directory known
 -- WHAT AN OPENING MAKES
 
 -- The file has these rows now, a row may be added, and what is kept in memory is right.
-pub record FindsRows (settings : Settings) (old new : FileState) (end : ℕ) (homes : List ((ℕ × ℕ) × ℕ)) (count : ℕ) : Type 0 where
-  pub rows : List HomeRow
+pub record FindsRows (settings : Settings) (old new : FileState) (end : ℕ) (homes : List ((ℕ × ℕ) × ℕ)) (count : ℕ) (rows : List HomeRow) : Type 0 where
   pub found : FileHasRows settings old.now rows
   pub only : (more : List HomeRow) → FileHasRows settings old.now more → rows ≡ more
   pub settled : IsSettled settings new end rows

@@ -6,6 +6,7 @@ ghost use Rattle.hay_disk.specs.Disk.{IsFree, IsImage, IsSolid, KeepsOthers, May
 ghost use Rattle.std.specs.List.{AllByRecursion};
 ghost use Rattle.hay_dirfile.specs.Journal.{IsDamagedJournal};
 ghost use Rattle.hay_reply.specs.Fits.{FitsNote};
+ghost use Rattle.hay_needle.specs.declared.needle.Pair.{Pair};
 ghost use Rattle.hay_legal.specs.declared.known.DirKnown.{DirKnown};
 ghost use Rattle.hay_legal.specs.declared.known.HomeRow.{HomeRow};
 ghost use Rattle.hay_legal.specs.Known.{home_in};
@@ -30,6 +31,13 @@ use std::marker::Model;
 
 // The most machines that settings may have.
 const MOST_MACHINES: usize = 16;
+
+/// What an opening found: the note of a row that was pending, if there was one, and all rows.
+#[derive(Drop)]
+pub struct Opened {
+    pub notes: Listed<Note>,
+    pub rows: Vec<DirRow>,
+}
 
 /// The homes of pairs, in a journal on a disk, and the drained machines.
 #[derive(Drop)]
@@ -139,6 +147,58 @@ impl<D: Disk> Directory<D> {
         ensures later { D.fault_count self.old.disk ≤ D.fault_count self.new.disk }
         ensures fuses { D.fuse_count self.new.disk ≡ D.fuse_count self.old.disk }
     {
+        let opened = self.open_rows(alloc)?;
+        Ok(opened.notes)
+    }
+
+    /// Opens the journal, and answers its rows, and the note of a row that was pending at the stop, if there was one. A void disk
+    /// is formatted. A refusal leaves the directory closed, and what stood on a disk that was not void.
+    pub fn open_rows(&mut self, alloc: Global) -> Result<Opened, OpenFault>
+        requires closed { IsClosed self.old }
+        requires solid { D.Tells → IsSolid (D.files self.old.disk 0) }
+        requires free { D.Tells → IsFree (D.files self.old.disk 0) }
+
+        // The first opening finds the rows that the disk has.
+        ensures opened { D.Tells → IsFresh self.old → IfOk result (λ opened. (opened.notes ≡ [])
+            × OpensRows self.old.settings (λ n. (D.files self.old.disk n).now) (map home_row opened.rows.items)
+            × Stands D.files self.new (directory_with (map home_row opened.rows.items)) (replicate self.old.settings.machines false)) }
+        // A later one finds the rows, and tells whether the pending one was kept.
+        ensures reopened { D.Tells → (known : DirKnown) → Stopped D.files self.old known → IfOk result (λ opened. (kept : Bool)
+            × (opened.notes ≡ row_notes known.pending kept) × (map home_row opened.rows.items ≡ known.rows ++ kept_row known.pending kept)
+            × Stands D.files self.new (directory_with (known.rows ++ kept_row known.pending kept)) (replicate self.old.settings.machines false)) }
+        // Whatever the disk has, the homes are by the rows, and no machine is drained.
+        ensures homes { IfOk result (λ opened. (pair : Pair) → home_of self.new pair ≡ home_in (map home_row opened.rows.items) pair) }
+        ensures undrained { OnOk result (self.new.drained ≡ replicate self.old.settings.machines false) }
+        ensures up { OnOk result (IsUp self.new) }
+        // Whatever the disk has, it tells of the row that was pending, and none is then.
+        ensures told { IfOk result (λ opened. NotesTell (unsure_of self.old.mode) opened.notes) }
+        ensures fits { IfOk result (λ opened. AllByRecursion FitsNote opened.notes) }
+        ensures serves { OnOk result (self.new.mode ≡ Mode.Open) }
+
+        // What a refusal leaves, and its cause.
+        ensures closed { OnErr result (IsClosed self.new × (self.new.mode ≡ self.old.mode)) }
+        ensures stopped { D.Tells → (known : DirKnown) → Stopped D.files self.old known → OnErr result (Stopped D.files self.new known) }
+        ensures failed { (faults : ℕ) → result ≡ Err (OpenFault.Failed faults) →
+            (faults ≡ D.fault_count self.new.disk) × Rose (D.fault_count self.old.disk) (D.fault_count self.new.disk) }
+        ensures damaged { D.Tells → (file at : ℕ) → result ≡ Err (OpenFault.Damaged file at) →
+            (file ≡ 0) × (0 < length (D.files self.old.disk 0).now)
+            × IsDamagedJournal (journal_super self.old.settings) (D.files self.old.disk 0).now at }
+        ensures undamaged { D.Tells → 0 < length (D.files self.old.disk 0).now →
+            OnOk result ((at : ℕ) → IsDamagedJournal (journal_super self.old.settings) (D.files self.old.disk 0).now at → ⊥) }
+        ensures undamaged_now { D.Tells → OnOk result ((at : ℕ) → IsDamagedJournal (journal_super self.old.settings) (D.files self.new.disk 0).now at → ⊥) }
+        // Whatever a stop leaves of a void disk has no rows, by whatever settings, then or after a refusal.
+        ensures nothing { D.Tells → (D.files self.old.disk 0).now ≡ [] → (image : ℕ → List ℕ) (rows : List HomeRow) →
+            (other : Settings) → IsImage (D.files self.new.disk 0) (image 0) → OpensRows other image rows → rows ≡ [] }
+        ensures whole { D.Tells → (rows : List HomeRow) (file at : ℕ) →
+            OpensRows self.old.settings (λ n. (D.files self.old.disk n).now) rows →
+            result ≡ Err (OpenFault.Damaged file at) → ⊥ }
+
+        ensures same { D.Tells → 0 < length (D.files self.old.disk 0).now → D.files self.new.disk ≡ D.files self.old.disk }
+        ensures others { D.Tells → KeepsOthers 0 (D.files self.old.disk) (D.files self.new.disk) }
+        ensures settings { self.new.settings ≡ self.old.settings }
+        ensures later { D.fault_count self.old.disk ≤ D.fault_count self.new.disk }
+        ensures fuses { D.fuse_count self.new.disk ≡ D.fuse_count self.old.disk }
+    {
         let unsure = self.mode.unsure();
         self.homes = Homes::new(alloc); // before memory is taken for others
         let loaded = load(alloc, &mut self.disk, &self.settings, unsure)?;
@@ -146,13 +206,14 @@ impl<D: Disk> Directory<D> {
             journal,
             homes,
             count,
+            rows,
             notes,
         } = loaded;
         self.journal = journal;
         self.homes = homes;
         self.count = count;
         self.mode = Mode::Open;
-        Ok(notes)
+        Ok(Opened { notes, rows })
     }
 
     /// The home of a pair.

@@ -15,7 +15,7 @@ mod mode;
 mod notes;
 mod spread;
 
-pub use directory::Directory;
+pub use directory::{Directory, Opened};
 pub use fault::DirFault;
 pub use mode::{Mode, Unsure, WrittenRow};
 pub use spread::{machine_of, tries};

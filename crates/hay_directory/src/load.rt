@@ -8,14 +8,17 @@ ghost use Rattle.hay_legal.specs.declared.known.HomeRow.{HomeRow};
 ghost use Rattle.std.specs.List.{AllByRecursion};
 ghost use Rattle.hay_reply.specs.Fits.{FitsNote};
 ghost use Rattle.hay_directory.specs.Notes.{notes_by};
-ghost use Rattle.hay_directory.specs.Rows.{FileHasRows, journal_super};
+ghost use Rattle.hay_needle.specs.declared.needle.Pair.{Pair};
+ghost use Rattle.hay_legal.specs.Known.{home_in};
+ghost use Rattle.hay_directory.specs.Homes.{home_among};
+ghost use Rattle.hay_directory.specs.Rows.{FileHasRows, home_row, journal_super};
 ghost use Rattle.hay_directory.specs.State.{FindsRows};
 
 use crate::homes::Homes;
 use crate::mode::Unsure;
 use crate::notes::notes_of;
 use hay_base::Listed;
-use hay_dirfile::{Journal, OpenFault};
+use hay_dirfile::{DirRow, Journal, OpenFault};
 use hay_disk::Disk;
 use hay_needle::{FileKind, Settings, Super};
 use hay_reply::Note;
@@ -27,6 +30,7 @@ pub struct Loaded {
     pub journal: Journal,
     pub homes: Homes,
     pub count: u64,
+    pub rows: Vec<DirRow>,
     pub notes: Listed<Note>,
 }
 
@@ -39,7 +43,8 @@ pub fn load<D: Disk>(
 ) -> Result<Loaded, OpenFault>
     requires solid { D.Tells → IsSolid (D.files disk.old 0) }
     requires free { D.Tells → IsFree (D.files disk.old 0) }
-    ensures found { D.Tells → IfOk result (λ loaded. FindsRows settings.now (D.files disk.old 0) (D.files disk.new 0) loaded.journal.end loaded.homes.volumes loaded.count) }
+    ensures found { D.Tells → IfOk result (λ loaded. FindsRows settings.now (D.files disk.old 0) (D.files disk.new 0) loaded.journal.end loaded.homes.volumes loaded.count (map home_row loaded.rows.items)) }
+    ensures homes { IfOk result (λ loaded. (pair : Pair) → home_among loaded.homes.volumes pair ≡ home_in (map home_row loaded.rows.items) pair) }
     ensures notes { IfOk result (λ loaded. loaded.notes ≡ notes_by unsure loaded.homes.volumes) }
     ensures fits { IfOk result (λ loaded. AllByRecursion FitsNote loaded.notes) }
     ensures failed { (faults : ℕ) → result ≡ Err (OpenFault.Failed faults) →
@@ -70,6 +75,7 @@ pub fn load<D: Disk>(
         journal,
         homes,
         count,
+        rows,
         notes,
     })
 }
