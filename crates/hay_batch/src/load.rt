@@ -158,7 +158,6 @@ impl<D: Disk> LoadStore<D> {
 
         // At `Ok` the store has the batch, all of it is on the disks, and the next batch may follow.
         ensures loaded { D.Tells → (k : Contents) → Stands D.files self.old k → IfOk result (λ loaded. Stands D.files self.new (with_batch loaded.volume photos.now k)) }
-
         ensures next { D.Tells → OnOk result (IsReadyStore D.files self.new) }
 
         // Wherever the cells of the batch come last, each of its pairs has its photo.
