@@ -1,13 +1,13 @@
 //! The Directory to which batches are added.
 
-ghost use Rattle.std.specs.Prelude.{◌≡◌, ◌<◌, ◌++◌, ℕ, List, None, All, IfNone, IfSome, IfOk, OnOk, IsErrOf, map};
+ghost use Rattle.std.specs.Prelude.{◌≡◌, ◌<◌, ◌++◌, ◌+◌, ◌-◌, ◌^◌, min, ℕ, List, None, All, length, IfNone, IfSome, IfOk, OnOk, IsErrOf, map};
 ghost use Rattle.hay_disk.specs.Counts.{IsCounted};
 ghost use Rattle.hay_disk.specs.declared.disk.DiskFault.{DiskFault};
 ghost use Rattle.hay_dirfile.specs.declared.row.DirRow.{DirRow};
 ghost use Rattle.hay_batch.specs.declared.photo.NewPhoto.{NewPhoto};
 ghost use Rattle.hay_batch.specs.Batches.{IsBatch, new_row};
 ghost use Rattle.hay_batch.specs.Directories.{HoldsRows, IsFirstHome, IsReady, MaySettle};
-ghost use Rattle.hay_batch.specs.Homes.{home_among};
+ghost use Rattle.hay_batch.specs.Homes.{AddsHomes, home_among};
 
 use crate::homes::Homes;
 use crate::photo::NewPhoto;
@@ -68,6 +68,9 @@ impl<D: Disk> LoadDirectory<D> {
         ensures settled { D.Tells → OnOk result ((superblock : List ℕ) (volumes : ℕ) (rows : List DirRow) → volume < volumes →
             HoldsRows D.files superblock volumes rows self.old → HoldsRows D.files superblock volumes (rows ++ map (new_row volume) photos.now) self.new) }
         ensures next { D.Tells → OnOk result (IsReady D.files self.new) }
+        // Whatever the disk tells, the homes are known then, and the rows are counted.
+        ensures homes { OnOk result (AddsHomes (map (new_row volume) photos.now) self.old.homes self.new.homes) }
+        ensures rows { OnOk result (self.new.rows ≡ min (self.old.rows + length photos.now) (2 ^ 64 - 1)) }
         ensures left { D.Tells → MaySettle D.files volume photos.now self.old self.new }
         ensures counted { IsCounted (D.fault_count self.old.disk) (D.fault_count self.new.disk) (IsErrOf result DiskFault.Failed) }
         ensures fuses { D.fuse_count self.new.disk ≡ D.fuse_count self.old.disk }

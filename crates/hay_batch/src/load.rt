@@ -1,6 +1,6 @@
 //! Loading a batch.
 
-ghost use Rattle.std.specs.Prelude.{◌≡◌, ◌≢◌, ◌⊎◌, ◌≤◌, ◌<◌, ◌+◌, ◌++◌, ◌*◌, ℕ, List, None, All, map, Err, IfErr, IfOk, OnOk};
+ghost use Rattle.std.specs.Prelude.{◌≡◌, ◌≢◌, ◌⊎◌, ◌≤◌, ◌<◌, ◌+◌, ◌++◌, ◌*◌, ◌-◌, ◌^◌, min, ℕ, List, None, All, length, map, Err, IfErr, IfOk, OnOk};
 ghost use Rattle.hay_disk.specs.Counts.{Rose};
 ghost use Rattle.hay_batch.specs.declared.replicas.AppendFault.{AppendFault};
 ghost use Rattle.hay_batch.specs.declared.fault.FullTry.{FullTry};
@@ -14,7 +14,7 @@ ghost use Rattle.hay_dirfile.specs.declared.row.DirRow.{DirRow};
 ghost use Rattle.hay_batch.specs.Batches.{AreDistinct, IsBatch, batch_total, new_cells, new_row, shown_of};
 ghost use Rattle.hay_batch.specs.Directories.{HoldsRows, IsFirstHome, MaySettle};
 ghost use Rattle.hay_batch.specs.Directories as directories;
-ghost use Rattle.hay_batch.specs.Homes.{home_among};
+ghost use Rattle.hay_batch.specs.Homes.{AddsHomes, home_among};
 ghost use Rattle.hay_batch.specs.Replicas.{Adds, At, HasRoom, IsReady, MayAdd};
 ghost use Rattle.hay_batch.specs.Stores.{AreContents, AreTries, AreWithoutRows, Contents, FailsAt, Images, IsDiskFault, IsFirstRoom, IsReadyStore, IsShaped, KeepsCounts, KeepsFiles, MayLeaveStore, ReplicaAt, Stands, with_batch};
 
@@ -47,6 +47,8 @@ fn settle_rows<D: Disk>(
     ensures settled { D.Tells → OnOk result ((superblock : List ℕ) (volumes : ℕ) (rows : List DirRow) → volume < volumes →
         HoldsRows D.files superblock volumes rows directory.old → HoldsRows D.files superblock volumes (rows ++ map (new_row volume) photos.now) directory.new) }
     ensures next { D.Tells → OnOk result (directories.IsReady D.files directory.new) }
+    ensures homes { OnOk result (AddsHomes (map (new_row volume) photos.now) directory.old.homes directory.new.homes) }
+    ensures rows { OnOk result (directory.new.rows ≡ min (directory.old.rows + length photos.now) (2 ^ 64 - 1)) }
     ensures left { D.Tells → MaySettle D.files volume photos.now directory.old directory.new }
     ensures later { D.fault_count directory.old.disk ≤ D.fault_count directory.new.disk }
     ensures fuses { D.fuse_count directory.new.disk ≡ D.fuse_count directory.old.disk }
@@ -121,6 +123,8 @@ impl<D: Disk> LoadStore<D> {
         ensures answer { IfOk result (λ loaded. (loaded.volume ≡ volume) × (loaded.rows ≡ self.new.directory.rows)) }
         ensures loaded { D.Tells → OnOk result ((k : Contents) → Stands D.files self.old k → Stands D.files self.new (with_batch volume photos.now k)) }
         ensures next { D.Tells → OnOk result (IsReadyStore D.files self.new) }
+        ensures homes { OnOk result (AddsHomes (map (new_row volume) photos.now) self.old.directory.homes self.new.directory.homes) }
+        ensures rows { OnOk result (self.new.directory.rows ≡ min (self.old.directory.rows + length photos.now) (2 ^ 64 - 1)) }
         ensures left { D.Tells → (k : Contents) (left : Images) → Stands D.files self.old k → MayLeaveStore D.files self.new left →
             AreWithoutRows self.old.settings photos.now k left ⊎ AreContents self.old.settings (with_batch volume photos.now k) left }
         ensures files { D.Tells → KeepsFiles D.files self.old self.new }
@@ -156,9 +160,12 @@ impl<D: Disk> LoadStore<D> {
         ensures room { IfOk result (λ loaded. (key : ℕ) → All (λ (photo : NewPhoto). photo.pair.key ≡ key) photos.now → IsFirstRoom self.old key (batch_total photos.now) loaded.volume) }
         ensures rows { IfOk result (λ loaded. loaded.rows ≡ self.new.directory.rows) }
 
+        // Whatever the disks tell, the pairs of a batch that was loaded are known then, and its rows are counted.
+        ensures settled { IfOk result (λ loaded. AddsHomes (map (new_row loaded.volume) photos.now) self.old.directory.homes self.new.directory.homes) }
+        ensures counted { OnOk result (self.new.directory.rows ≡ min (self.old.directory.rows + length photos.now) (2 ^ 64 - 1)) }
+
         // At `Ok` the store has the batch, all of it is on the disks, and the next batch may follow.
         ensures loaded { D.Tells → (k : Contents) → Stands D.files self.old k → IfOk result (λ loaded. Stands D.files self.new (with_batch loaded.volume photos.now k)) }
-
         ensures next { D.Tells → OnOk result (IsReadyStore D.files self.new) }
 
         // Wherever the cells of the batch come last, each of its pairs has its photo.

@@ -1,6 +1,6 @@
 //! Opening the disks of a store.
 
-ghost use Rattle.std.specs.Prelude.{◌≡◌, ℕ, List, [], Err, IfErr, IfOk};
+ghost use Rattle.std.specs.Prelude.{◌≡◌, ℕ, List, [], Err, length, IfErr, IfOk};
 ghost use Rattle.hay_disk.specs.Counts.{Rose};
 ghost use Rattle.hay_disk.specs.Disk.{IsFree, IsSolid};
 ghost use Rattle.hay_needle.specs.Super.{super_bytes};
@@ -12,6 +12,7 @@ ghost use Rattle.hay_open.specs.Stored.{OpensAs, Stored, volume_super};
 ghost use Rattle.hay_dirfile.specs.declared.fault.OpenFault.{OpenFault as JournalFault};
 ghost use Rattle.hay_batch.specs.Directories.{HoldsRows};
 ghost use Rattle.hay_batch.specs.Directories as directories;
+ghost use Rattle.hay_batch.specs.Homes.{AreHomes};
 ghost use Rattle.hay_batch.specs.Openings.{OpensDirectory, OpensReplica, journal_super};
 ghost use Rattle.hay_batch.specs.Replicas.{Holds, IsReady};
 
@@ -80,6 +81,8 @@ impl<D: Disk> LoadDirectory<D> {
             IfOk result (HoldsRows D.files (super_bytes (journal_super settings.now)) settings.now.volumes rows) }
         ensures void { D.Tells → (D.files disk 0).now ≡ [] → IfOk result (HoldsRows D.files (super_bytes (journal_super settings.now)) settings.now.volumes []) }
         ensures ready { D.Tells → IfOk result (directories.IsReady D.files) }
+        // Whatever the disk tells, what is kept in memory is right of the rows that were read.
+        ensures homes { IfOk result (λ d. (rows : List DirRow) × AreHomes d.homes rows × (d.rows ≡ length rows)) }
         ensures disk { IfOk result (λ d. OpensDirectory D.Tells D.files D.fault_count D.fuse_count disk d.disk) }
 
         ensures back { IfErr result (λ refused. OpensDirectory D.Tells D.files D.fault_count D.fuse_count disk refused.0) }

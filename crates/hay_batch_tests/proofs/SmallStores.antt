@@ -1,8 +1,6 @@
 -- Small stores, and batches of one key.
-use Rattle.std.proofs.Common.{◌≡◌, ◌≢◌, ◌<◌, ◌≤◌, ℕ, zero, suc, List, [], ◌∷◌, Some, All, length, sym, ap, subst, ◌∙◌, arith}
-use Rattle.std.specs.Prelude.{slice_get}
+use Rattle.std.proofs.Common.{◌≡◌, ℕ, zero, suc, List, [], ◌∷◌, All, subst, arith}
 use Rattle.std.proofs.lemmas.List.Elements.{All-cons, All-nil}
-use Rattle.hay_needle.specs.declared.needle.Pair.{Pair}
 use Rattle.hay_disk.specs.Disk.{Files}
 use Rattle.hay_batch.specs.declared.photo.NewPhoto.{NewPhoto}
 use Rattle.hay_batch.specs.declared.replica.LoadReplica.{LoadReplica}
@@ -11,7 +9,7 @@ use Rattle.hay_batch.specs.declared.store.LoadVolume.{LoadVolume}
 use Rattle.hay_batch.specs.Batches.{AreDistinct}
 use Rattle.hay_batch.specs.Directories as directories
 use Rattle.hay_batch.specs.Replicas.{At, IsReady}
-use Rattle.hay_batch.specs.Stores.{IsReadyStore, IsShaped}
+use Rattle.hay_batch.specs.Stores.{IsReadyStore}
 
 pub key_one : (a : NewPhoto) → a.pair.key ≡ 0 → All (λ (photo : NewPhoto). photo.pair.key ≡ 0) (a ∷ [])
 key_one a is = All-cons (λ (photo : NewPhoto). photo.pair.key ≡ 0) a [] is (All-nil (λ (photo : NewPhoto). photo.pair.key ≡ 0))
