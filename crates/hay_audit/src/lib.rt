@@ -21,3 +21,6 @@ mod spread;
 mod state;
 
 pub use judge::{Verdict, audit};
+
+#[cfg(test)]
+mod tests;
