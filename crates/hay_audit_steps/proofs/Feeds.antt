@@ -24,10 +24,10 @@ use Rattle.hay_reply.specs.Reading.{is_mark, reply_of, note_of, words_of}
 use Rattle.hay_reply.proofs.Wording.{Plain, plain_decimal, plain_lower}
 use Rattle.hay_reply.proofs.Back.{back_reply, back_note}
 
-abbrev Fine : List ℕ → Type 0
+abbrev pub Fine : List ℕ → Type 0
 Fine text = Plain 10 text
 
-on : (a b : List ℕ) → Fine a → Fine b → Fine (a ++ b)
+pub on : (a b : List ℕ) → Fine a → Fine b → Fine (a ++ b)
 on a b h k = rw (list_all-append (λ c. not (is_mark 10 c)) a b, h, k) refl
 
 on3 : (a b c : List ℕ) → Fine a → Fine b → Fine c → Fine (a ++ b ++ c)
@@ -39,7 +39,7 @@ on4 a b c d h k l m = on (a ++ b ++ c) d (on3 a b c h k l) m
 on6 : (a b c d e f : List ℕ) → Fine a → Fine b → Fine c → Fine d → Fine e → Fine f → Fine (a ++ b ++ c ++ d ++ e ++ f)
 on6 a b c d e f h k l m n o = on (a ++ b ++ c ++ d ++ e) f (on (a ++ b ++ c ++ d) e (on4 a b c d h k l m) n) o
 
-large : (n : ℕ) → IsLarge n → Fine (decimal n)
+pub large : (n : ℕ) → IsLarge n → Fine (decimal n)
 large n h = plain_decimal 10 n refl h
 
 a_field : (n : ℕ) → IsLarge n → Fine (field n)
@@ -154,7 +154,7 @@ own_mark : is_mark 10 10 ≡ true
 own_mark = eq-eqb 10 10 refl
 
 -- texts without a feed, each with a feed behind it, are cut at one place
-cut_once : (xs ys us ws : List ℕ) → Fine xs → Fine ys → xs ++ 10 ∷ us ≡ ys ++ 10 ∷ ws → (xs ≡ ys) × (us ≡ ws)
+pub cut_once : (xs ys us ws : List ℕ) → Fine xs → Fine ys → xs ++ 10 ∷ us ≡ ys ++ 10 ∷ ws → (xs ≡ ys) × (us ≡ ws)
 cut_once [] [] us ws h g e = (refl, cc)
 cut_once [] (y ∷ ys) us ws h g e =
     let is : 10 ≡ y = cc in
@@ -169,11 +169,11 @@ cut_once (x ∷ xs) (y ∷ ys) us ws h g e =
     let rest = cut_once xs ys us ws (and_parts (not (is_mark 10 x)) (list_all (λ b. not (is_mark 10 b)) xs) h).1 (and_parts (not (is_mark 10 y)) (list_all (λ b. not (is_mark 10 b)) ys) g).1 cc in
     (ap (λ (b : ℕ). b ∷ xs) is ∙ ap (λ (zs : List ℕ). y ∷ zs) rest.0, rest.1)
 
-same_front : (xs ys zs : List ℕ) → xs ++ ys ≡ xs ++ zs → ys ≡ zs
+pub same_front : (xs ys zs : List ℕ) → xs ++ ys ≡ xs ++ zs → ys ≡ zs
 same_front [] ys zs e = e
 same_front (x ∷ xs) ys zs e = same_front xs ys zs cc
 
-line_text : (n : ℕ) (r : Reply) (rest : List ℕ) → numbered_line n r ++ rest ≡ (decimal n ++ codes " ") ++ (reply_text r ++ 10 ∷ rest)
+pub line_text : (n : ℕ) (r : Reply) (rest : List ℕ) → numbered_line n r ++ rest ≡ (decimal n ++ codes " ") ++ (reply_text r ++ 10 ∷ rest)
 line_text n r rest = simp append_assoc
 
 -- A line that has a reply's text has no other's.

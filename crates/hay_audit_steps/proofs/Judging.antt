@@ -50,7 +50,7 @@ explained Has settings items transcript c begins IsText t rest k turns has run t
   told = told run.text;
 }
 
-some_fit : {S : Type 0} (Has : S → Known → Type 0) (settings : Settings) (items : List Asked) (transcript : List ℕ) (m : ℕ) (c : Candidate S) (cs : List (Candidate S))
+pub some_fit : {S : Type 0} (Has : S → Known → Type 0) (settings : Settings) (items : List Asked) (transcript : List ℕ) (m : ℕ) (c : Candidate S) (cs : List (Candidate S))
     → Begins Has settings transcript c → Reached Has settings (take m items) c cs → m ≤ length items → IsAny Has cs → Fits settings items transcript m
 some_fit {S} Has settings items transcript m c cs begins reached within any = (within, first cs reached.sound any)
   where
@@ -63,7 +63,7 @@ some_fit {S} Has settings items transcript m c cs begins reached within any = (w
         explained Has settings (take m items) transcript c begins (λ text. IsFront text transcript) one.0 d.rest run.0 run.1 run.2 run.3
         (λ e. (d.rest, sym (append_assoc (header_line settings) (texts run.1) d.rest ∙ ap (λ (xs : List ℕ). header_line settings ++ xs) e ∙ begins.header)))
 
-whole_fit : {S : Type 0} (Has : S → Known → Type 0) (settings : Settings) (items : List Asked) (transcript : List ℕ) (c : Candidate S) (cs : List (Candidate S))
+pub whole_fit : {S : Type 0} (Has : S → Known → Type 0) (settings : Settings) (items : List Asked) (transcript : List ℕ) (c : Candidate S) (cs : List (Candidate S))
     → Begins Has settings transcript c → Reached Has settings items c cs → IsUsed Has cs → FitsWhole settings items transcript
 whole_fit {S} Has settings items transcript c cs begins reached used = first cs reached.sound used
   where
@@ -80,7 +80,7 @@ whole_fit {S} Has settings items transcript c cs begins reached used = first cs 
         explained Has settings items transcript c begins (λ text. text ≡ transcript) one.1 d.rest run.0 run.1 run.2 run.3 (λ e. whole_text (texts run.1) d.rest one.0 e)
 
 -- where turns fit, there are candidates
-fit_some : {S : Type 0} (Has : S → Known → Type 0) (settings : Settings) (items : List Asked) (transcript : List ℕ) (m : ℕ) (c : Candidate S) (cs : List (Candidate S))
+pub fit_some : {S : Type 0} (Has : S → Known → Type 0) (settings : Settings) (items : List Asked) (transcript : List ℕ) (m : ℕ) (c : Candidate S) (cs : List (Candidate S))
     → Begins Has settings transcript c → Reached Has settings (take m items) c cs
     → Fits settings items transcript m → IsAny Has cs
 fit_some {S} Has settings items transcript m c cs begins reached fits =
@@ -99,7 +99,7 @@ fit_some {S} Has settings items transcript m c cs begins reached fits =
     same_tail [] ys zs e = e
     same_tail (x ∷ xs) ys zs e = same_tail xs ys zs (cc)
 
-fit_whole : {S : Type 0} (Has : S → Known → Type 0) (settings : Settings) (items : List Asked) (transcript : List ℕ) (c : Candidate S) (cs : List (Candidate S))
+pub fit_whole : {S : Type 0} (Has : S → Known → Type 0) (settings : Settings) (items : List Asked) (transcript : List ℕ) (c : Candidate S) (cs : List (Candidate S))
     → Begins Has settings transcript c → Reached Has settings items c cs
     → FitsWhole settings items transcript → IsUsed Has cs
 fit_whole {S} Has settings items transcript c cs begins reached e =
@@ -179,7 +179,7 @@ shorter settings items transcript m n less within h =
         ∙ sym (append_assoc (turn_text turn) (texts front) (texts back ++ rest))
 
 -- so the first m items are the most that fit
-stops_at : {S : Type 0} (Has : S → Known → Type 0) (settings : Settings) (items : List Asked) (transcript : List ℕ) (c : Candidate S) (m : ℕ) (cs next : List (Candidate S))
+pub stops_at : {S : Type 0} (Has : S → Known → Type 0) (settings : Settings) (items : List Asked) (transcript : List ℕ) (c : Candidate S) (m : ℕ) (cs next : List (Candidate S))
     → Begins Has settings transcript c → Reached Has settings (take m items) c cs → IsAny Has cs
     → Reached Has settings (take (suc m) items) c next → (IsAny Has next → ⊥) → suc m ≤ length items
     → IsGreatest settings items transcript m

@@ -1,0 +1,9 @@
+pub mod Heads
+pub mod Judging
+pub mod Lines
+pub mod Lists
+pub mod Placing
+pub mod Reading
+pub mod Slots
+pub mod Tables
+pub mod Takers

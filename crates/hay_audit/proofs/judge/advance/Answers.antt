@@ -1,0 +1,14 @@
+use Rattle.std.proofs.Common.{Bool, List, Ok, ap, subst}
+use Rattle.hay_audit.specs.declared.judge.Candidate.{Candidate}
+use Rattle.hay_audit.specs.Candidates.{AreWithin}
+use Rattle.hay_audit.proofs.Placing.{advanced_more}
+use Rattle.hay_audit.proofs.judge.advance.Goals as goal
+
+pub loop-candidate-preserved : goal.loop-candidate-preserved
+loop-candidate-preserved c =
+    let went = ap (λ (b : Bool). Ok b) c.if-not-branch.false in (
+      advanced_more c.args.settings.now c.args.line c.args.item.now c.args.transcript.now c.args.candidates c.loop-candidate.candidate-iterator.rest.items c.next.new.self.rest.items c.loop-candidate.out c.advance_one.new.out
+          c.in-Some.candidate (c.loop-candidate.invariant).0 (c.in-Some.ensures.steps).0 (c.in_ok-advance_one.ensures.went went),
+      c.in_ok-advance_one.ensures.within went (c.loop-candidate.invariant).1,
+      (subst (λ (xs : List Candidate). AreWithin c.args.transcript.now xs) (c.in-Some.ensures.steps).0 (c.loop-candidate.invariant).2).1,
+    )

@@ -1,0 +1,6 @@
+pub mod Candidates
+pub mod Feeds
+pub mod Lines
+pub mod Outside
+pub mod Sizes
+pub mod Wanted

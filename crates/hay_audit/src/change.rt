@@ -1,0 +1,183 @@
+//! Changes of a state.
+
+ghost use Rattle.std.specs.Prelude.{◌≡◌, ◌++◌, ◌∷◌, ◌<◌, ◌+◌, ◌^◌, [], map, length, IfOk, OnOk, slice_set, option_map, slice_index_or};
+ghost use Rattle.std.specs.List.{AllByRecursion as Each};
+ghost use Rattle.hay_legal.specs.Known as known;
+ghost use Rattle.hay_legal.specs.Plain as plain;
+ghost use Rattle.hay_core.specs.declared.entry.Entry.TheVariants as entry;
+ghost use Rattle.hay_audit.specs.Sizes.{MayGrow, RunMayGrow};
+ghost use Rattle.hay_audit_steps.specs.Next as next;
+
+use crate::looks::home_in;
+use crate::state::{ReplicaState, State, VolumeState};
+use hay_base::{Listed, NoMemory};
+use hay_core::{CoreTag, Entry, Logged};
+use hay_legal::known::{DirKnown, HomeRow, Run};
+use hay_needle::{Bytes, Cookie, Pair, total_of};
+use std::alloc::Global;
+use std::mem;
+
+fn grown_run(run: Option<Run>) -> Option<Run>
+    requires { RunMayGrow run }
+    ensures { result ≡ option_map plain.run_grown run }
+{
+    match run {
+        Some(run) => Some(Run {
+            goal: run.goal,
+            left: run.left + 1,
+        }),
+        None => None,
+    }
+}
+
+/// A replica with one cell more.
+fn grown(size: u32, replica: ReplicaState) -> ReplicaState
+    requires { MayGrow replica }
+    ensures { result ≡ plain.grown size replica }
+{
+    ReplicaState {
+        base: replica.base,
+        end: replica.end + total_of(size),
+        cells: replica.cells + 1,
+        bare: replica.bare + 1,
+        generation: replica.generation,
+        stuck: replica.stuck,
+        run: grown_run(replica.run),
+        poised: replica.poised,
+    }
+}
+
+fn all_grown(
+    alloc: Global,
+    size: u32,
+    replicas: Listed<ReplicaState>,
+) -> Result<Listed<ReplicaState>, NoMemory>
+    requires { Each MayGrow replicas }
+    ensures { IfOk result (λ after. after ≡ map (plain.grown size) replicas) }
+{
+    let mut after = Listed::new(alloc);
+    for replica in replicas.into_vec() {
+        after.push(grown(size, replica))?;
+    }
+    Ok(after)
+}
+
+/// The rows, with the pair's home if it has none.
+fn settle(rows: Listed<HomeRow>, pair: Pair, volume: u32) -> Result<Listed<HomeRow>, NoMemory>
+    ensures { IfOk result (λ settled. settled ≡ known.settled rows pair volume) }
+{
+    let mut rows = rows;
+    if home_in(rows.as_slice(), pair).is_none() {
+        rows.push(HomeRow { pair, volume })?;
+    }
+    Ok(rows)
+}
+
+/// A volume behind a put.
+fn with_put(
+    alloc: Global,
+    volume: VolumeState,
+    tag: CoreTag,
+    pair: Pair,
+    cookie: Cookie,
+    bytes: Bytes,
+    size: u32,
+) -> Result<VolumeState, NoMemory>
+    requires size { size ≡ length bytes }
+    requires grow { Each MayGrow volume.replicas }
+    ensures { IfOk result (λ after. after ≡ plain.with_put volume tag pair cookie bytes) }
+{
+    let VolumeState {
+        mut log,
+        frozen,
+        pending,
+        replicas,
+    } = volume;
+    log.push(Logged {
+        tag,
+        entry: Entry::Put {
+            pair,
+            cookie,
+            bytes,
+        },
+    })?;
+    Ok(VolumeState {
+        log,
+        frozen,
+        pending,
+        replicas: all_grown(alloc, size, replicas)?,
+    })
+}
+
+fn no_volume(alloc: Global) -> VolumeState
+    ensures { result ≡ known.empty_volume }
+{
+    VolumeState {
+        log: Listed::new(alloc),
+        frozen: None,
+        pending: None,
+        replicas: Listed::new(alloc),
+    }
+}
+
+/// The volumes, with a photo put on one of them.
+#[tactic(auto, using(crate::proofs::Lists::set_twice))]
+fn put_on(
+    alloc: Global,
+    volumes: Listed<VolumeState>,
+    tag: CoreTag,
+    pair: Pair,
+    bytes: Bytes,
+    size: u32,
+    number: u32,
+    cookie: Cookie,
+) -> Result<Listed<VolumeState>, NoMemory>
+    requires size { size ≡ length bytes }
+    requires within { number < length volumes }
+    requires grow { Each (λ volume. Each MayGrow volume.replicas) volumes }
+    ensures { IfOk result (λ after. after ≡ slice_set volumes number (plain.with_put (slice_index_or volumes number known.empty_volume) tag pair cookie bytes)) }
+{
+    let at = number as usize;
+    let mut volumes = volumes.into_vec();
+    let volume = mem::replace(&mut volumes[at], no_volume(alloc));
+    volumes[at] = with_put(alloc, volume, tag, pair, cookie, bytes, size)?;
+    Ok(Listed::from_vec(volumes))
+}
+
+/// The state behind a put that was stored on one of its volumes.
+pub fn stored(
+    alloc: Global,
+    state: State,
+    tag: CoreTag,
+    pair: Pair,
+    bytes: Bytes,
+    size: u32,
+    number: u32,
+    cookie: Cookie,
+) -> Result<State, NoMemory>
+    requires size { size ≡ length bytes }
+    requires within { number < length state.volumes }
+    requires grow { Each (λ volume. Each MayGrow volume.replicas) state.volumes }
+    ensures { IfOk result (λ after. after ≡ next.stored state tag pair bytes number cookie) }
+{
+    let State {
+        volumes,
+        directory,
+        drained,
+        faults,
+        arms,
+        fuses,
+    } = state;
+    Ok(State {
+        volumes: put_on(alloc, volumes, tag, pair, bytes, size, number, cookie)?,
+        directory: DirKnown {
+            rows: settle(directory.rows, pair, number)?,
+            frozen: directory.frozen,
+            pending: directory.pending,
+        },
+        drained,
+        faults,
+        arms,
+        fuses,
+    })
+}

@@ -1,0 +1,222 @@
+//! Whether a transcript is one that legal turns of a script may have written.
+
+ghost use Rattle.std.specs.Prelude.{◌≡◌, ◌<◌, ◌≤◌, ℕ, List, [], ◌∷◌, ◌++◌, drop, length, map, true, Ok, IfOk, IfSome, OnOk, IsTrue, IsFalse};
+ghost use Rattle.hay_needle.specs.declared.settings.Settings.{Settings as SettingsOf};
+ghost use Rattle.hay_legal.specs.declared.known.Known.{Known};
+ghost use Rattle.hay_legal.specs.Items.Asked.{Alone};
+ghost use Rattle.hay_script.specs.Script.{IsWithinLine};
+ghost use Rattle.hay_audit_steps.specs.Judged.{Begins, IsUsed};
+ghost use Rattle.hay_audit_steps.specs.Reached.{AllAdvance, Candidate as Kept, Is, IsAdvance};
+ghost use Rattle.hay_audit.specs.Candidates.{AreWithin, SaidBy, Says, all_standing, placed, standing};
+ghost use Rattle.hay_audit.specs.Outside.{IsInside, IsWithinItem};
+
+use crate::answers::{is_judged, read_answer};
+use crate::first::fresh_state;
+use crate::items::next_line;
+use crate::plain::next_plain;
+use crate::state::State;
+use hay_base::{Listed, NoMemory};
+use hay_legal::turn::Item;
+use hay_needle::Settings;
+use hay_reply::header_line;
+use hay_script::{Command, Line, read_line};
+use std::alloc::Global;
+
+/// What is said of a transcript.
+#[derive(Clone, Copy, Debug, PartialEq, Eq)]
+pub enum Verdict {
+    /// So many turns, all of the script, have it as their text.
+    Lawful { turns: u64 },
+    /// So many turns of the script, and no more, have a text at its front.
+    Unlawful { turns: u64 },
+    /// So many have, and what comes next is not judged yet.
+    Undecided { turns: u64 },
+}
+
+/// A state in which the store may stand, and the place behind what has been read.
+#[derive(Drop)]
+pub(crate) struct Candidate {
+    pub state: State,
+    pub at: usize,
+}
+
+/// What a line asks for.
+#[derive(Drop)]
+pub(crate) enum Said {
+    Nothing,
+    Judged(Item),
+    /// What is not judged yet.
+    Other,
+}
+
+fn said_by(line: Line) -> Said
+    requires { IsWithinLine line }
+    ensures { SaidBy line result }
+{
+    match line {
+        Line::Skip => Said::Nothing,
+        Line::Lanes(_) => Said::Other,
+        Line::Plain(Command::Put { pair, photo }) => {
+            Said::Judged(Item::Command(Command::Put { pair, photo }))
+        }
+        Line::Plain(Command::Read { pair, cookie }) => {
+            Said::Judged(Item::Command(Command::Read { pair, cookie }))
+        }
+        Line::Plain(_) => Said::Other,
+        Line::Bad | Line::InLane { .. } | Line::End => Said::Judged(Item::Bad),
+    }
+}
+
+fn push_all(states: Listed<State>, at: usize, out: &mut Listed<Candidate>) -> Result<(), NoMemory>
+    ensures { OnOk result (out.new ≡ out.old ++ map (placed at) states) }
+{
+    for state in states.into_vec() {
+        out.push(Candidate { state, at })?;
+    }
+    Ok(())
+}
+
+/// Adds what a candidate comes to behind this item. Where that is not judged, it says so.
+fn advance_one(
+    alloc: Global,
+    settings: &Settings,
+    transcript: &[u8],
+    line: u64,
+    item: &Item,
+    candidate: Candidate,
+    out: &mut Listed<Candidate>,
+) -> Result<bool, NoMemory>
+    requires machines { 0 < settings.now.machines }
+    requires volumes { 0 < settings.now.volumes }
+    requires replicas { 0 < settings.now.replicas }
+    requires inside { IsInside item.now }
+    requires small { IsWithinItem item.now }
+    requires within { candidate.at ≤ length transcript.now }
+    ensures went { result ≡ Ok true → (next : List (Kept Known)) × (all_standing transcript.now out.new ≡ all_standing transcript.now out.old ++ next)
+        × IsAdvance Is settings.now (Alone line item.now) (standing transcript.now candidate) next }
+    ensures within { result ≡ Ok true → AreWithin transcript.now out.old → AreWithin transcript.now out.new }
+{
+    let Candidate { state, at } = candidate;
+    let Some(answer) = read_answer(alloc, line, &transcript[at..])? else {
+        return Ok(true);
+    };
+    if !is_judged(&answer.reply) {
+        return Ok(false);
+    }
+    let Some(states) = next_plain(alloc, settings, state, line, item, &answer.reply)? else {
+        return Ok(false);
+    };
+    push_all(states, at + answer.behind, out)?;
+    Ok(true)
+}
+
+/// What all candidates come to behind this item, unless that is not judged.
+fn advance(
+    alloc: Global,
+    settings: &Settings,
+    transcript: &[u8],
+    line: u64,
+    item: &Item,
+    candidates: Listed<Candidate>,
+) -> Result<Option<Listed<Candidate>>, NoMemory>
+    requires machines { 0 < settings.now.machines }
+    requires volumes { 0 < settings.now.volumes }
+    requires replicas { 0 < settings.now.replicas }
+    requires inside { IsInside item.now }
+    requires small { IsWithinItem item.now }
+    requires within { AreWithin transcript.now candidates }
+    ensures went { IfOk result (λ made. IfSome made (λ next. AllAdvance Is settings.now (Alone line item.now) (all_standing transcript.now candidates) (all_standing transcript.now next))) }
+    ensures within { IfOk result (λ made. IfSome made (AreWithin transcript.now)) }
+{
+    let mut out = Listed::new(alloc);
+    for candidate in candidates.into_vec() {
+        if !advance_one(alloc, settings, transcript, line, item, candidate, &mut out)? {
+            return Ok(None);
+        }
+    }
+    Ok(Some(out))
+}
+
+/// Whether some candidate has used the whole transcript.
+fn is_used(transcript: &[u8], candidates: &[Candidate]) -> bool
+    requires { AreWithin transcript.now candidates.now }
+    ensures yes { IsTrue result → IsUsed Is (all_standing transcript.now candidates.now) }
+    ensures no { IsFalse result → IsUsed Is (all_standing transcript.now candidates.now) → ⊥ }
+{
+    for candidate in candidates {
+        if candidate.at == transcript.len() {
+            return true;
+        }
+    }
+    false
+}
+
+/// The verdict of the lines of a script, from a first candidate.
+fn run(
+    alloc: Global,
+    settings: &Settings,
+    script: &[u8],
+    transcript: &[u8],
+    first: Candidate,
+) -> Result<Verdict, NoMemory>
+    requires machines { 0 < settings.now.machines }
+    requires volumes { 0 < settings.now.volumes }
+    requires replicas { 0 < settings.now.replicas }
+    requires begins { Begins Is settings.now transcript.now (standing transcript.now first) }
+    requires within { first.at ≤ length transcript.now }
+    ensures { IfOk result (λ verdict. Says settings.now script.now transcript.now verdict) }
+{
+    let mut candidates = Listed::one(alloc, first)?;
+    let mut at = 0;
+    let mut number: u64 = 1;
+    let mut turns: u64 = 0;
+    while at < script.len() {
+        let (text, behind) = next_line(alloc, script, at)?;
+        match said_by(read_line(alloc, text.as_slice(), None)?) {
+            Said::Nothing => {}
+            Said::Other => return Ok(Verdict::Undecided { turns }),
+            Said::Judged(item) => {
+                let made = advance(alloc, settings, transcript, number, &item, candidates)?;
+                let Some(next) = made else {
+                    return Ok(Verdict::Undecided { turns });
+                };
+                if next.is_empty() {
+                    return Ok(Verdict::Unlawful { turns });
+                }
+                candidates = next;
+                turns += 1;
+            }
+        }
+        at = behind;
+        number += 1;
+    }
+    if is_used(transcript, candidates.as_slice()) {
+        Ok(Verdict::Lawful { turns })
+    } else {
+        Ok(Verdict::Unlawful { turns })
+    }
+}
+
+/// What is said of a transcript of a script, over a store on void disks as formatted.
+pub fn audit(
+    alloc: Global,
+    settings: &Settings,
+    script: &[u8],
+    transcript: &[u8],
+) -> Result<Verdict, NoMemory>
+    requires machines { 0 < settings.now.machines }
+    requires volumes { 0 < settings.now.volumes }
+    requires replicas { 0 < settings.now.replicas }
+    ensures { IfOk result (λ verdict. Says settings.now script.now transcript.now verdict) }
+{
+    let mut header = Vec::new(alloc);
+    header_line(alloc, settings, &mut header)?;
+    if !transcript.starts_with(header.as_slice()) {
+        return Ok(Verdict::Unlawful { turns: 0 });
+    }
+    let first = Candidate {
+        state: fresh_state(alloc, settings)?,
+        at: header.len(),
+    };
+    run(alloc, settings, script, transcript, first)
+}

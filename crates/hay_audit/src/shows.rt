@@ -1,0 +1,90 @@
+//! Behind a read or a get.
+
+ghost use Rattle.std.specs.Prelude.{◌≡◌, ◌<◌, ◌+◌, ◌%◌, IfOk};
+ghost use Rattle.hay_legal.specs.Plain as plain;
+ghost use Rattle.hay_legal.specs.Known as known;
+ghost use Rattle.hay_audit_steps.specs.Next as next;
+ghost use Rattle.hay_audit.specs.Wanted.{fits};
+
+use crate::lay::lay;
+use crate::looks::{front_of, home_of, rows_of};
+use crate::photos::{Wanted, stands};
+use crate::puts::is_at;
+use crate::spread::{replica_on, slot_of};
+use crate::state::State;
+use hay_base::{Listed, NoMemory};
+use hay_needle::{Pair, Settings};
+use std::alloc::Global;
+
+/// Where a reader looked, and the fronts that it saw.
+#[derive(Clone, Copy)]
+pub(crate) struct Sight {
+    pub volume: u32,
+    pub machine: u32,
+    pub front: u64,
+    pub rows: u64,
+}
+
+fn is_seen(state: &State, pair: Pair, sight: Sight) -> bool
+    ensures { result ≡ next.is_seen state.now pair sight.volume sight.front sight.rows }
+{
+    is_at(home_of(state, pair), sight.volume)
+        && (sight.front == front_of(state, sight.volume) && sight.rows == rows_of(state))
+}
+
+/// The replica that a reader tries at this turn.
+fn replica_from(settings: &Settings, start: u32, turn: u32) -> u32
+    requires { 0 < settings.now.replicas }
+    ensures { result ≡ (start + turn) % settings.now.replicas }
+{
+    let replicas = settings.replicas;
+    let replica = (u64::from(start) + u64::from(turn)) % u64::from(replicas);
+    replica as u32
+}
+
+/// The disks of the replicas that are tried before this one.
+#[tactic(auto, using(crate::proofs::Lists::range_next))]
+fn slots_before(
+    alloc: Global,
+    settings: &Settings,
+    volume: u32,
+    start: u32,
+    replica: u32,
+) -> Result<Listed<usize>, NoMemory>
+    ensures { IfOk result (λ slots. slots ≡ next.slots_before settings.now volume start replica) }
+{
+    let mut slots = Listed::new(alloc);
+    for i in 0..settings.replicas {
+        let at = replica_from(settings, start, i);
+        if at == replica {
+            return Ok(slots);
+        }
+        slots.push(slot_of(settings, volume, at))?;
+    }
+    Ok(slots)
+}
+
+/// Behind a reader that saw this.
+pub(crate) fn next_shown(
+    alloc: Global,
+    settings: &Settings,
+    state: State,
+    line: u64,
+    start: u32,
+    pair: Pair,
+    sight: Sight,
+    wanted: &Wanted<'_>,
+) -> Result<Listed<State>, NoMemory>
+    requires { 0 < settings.now.machines }
+    ensures { IfOk result (λ states. states ≡ next.next_shown settings.now state (record { lane = 0; line = line }) start pair sight.volume sight.machine sight.front sight.rows (fits wanted.now)) }
+{
+    let Some(replica) = replica_on(settings, sight.volume, sight.machine) else {
+        return Ok(Listed::new(alloc));
+    };
+    if is_seen(&state, pair, sight) && stands(wanted, &state, sight.volume, replica, pair) {
+        let slots = slots_before(alloc, settings, sight.volume, start, replica)?;
+        lay(alloc, &state, 0, slots.as_slice())
+    } else {
+        Ok(Listed::new(alloc))
+    }
+}
