@@ -18,5 +18,6 @@ mod view;
 
 pub use act::RowAct;
 pub use kept::{Begun, KeptDirectory};
-pub use lock::{DirectoryLock, DirectorySeat};
+pub use lock::{DirectoryLock, DirectorySeat, NewLock};
+pub use open::SeatRoom;
 pub use view::DirectoryView;

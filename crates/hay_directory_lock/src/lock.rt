@@ -12,7 +12,7 @@ ghost use Rattle.hay_meeting.specs.declared.act.DirAct.{DirAct};
 ghost use Rattle.hay_directory_lock.specs.Answers.{SettlesAs};
 
 use crate::kept::KeptDirectory;
-use crate::open::{Rooms, apart, front_of, joined};
+use crate::open::{SeatRoom, apart, front_of, joined};
 use crate::view::DirectoryView;
 use hay_base::NoMemory;
 use hay_core::CoreTag;
@@ -33,9 +33,6 @@ pub struct DirectoryLock<D: Disk> {
     seats: u32,
     settings: Settings,
     stood: u64,
-    // Room for the parts of all seats, when the lock ends.
-    turns: Vec<TurnSeat<KeptDirectory<D>>>,
-    views: Vec<Seat<DirectoryView>>,
 }
 
 impl<D: Disk> Model for DirectoryLock<D> {
@@ -44,10 +41,13 @@ impl<D: Disk> Model for DirectoryLock<D> {
     ghost Value = { LockState };
 
     ghost view = { λ l. record { turn = l.turn; seats = l.seats; settings = l.settings; stood = l.stood } };
+}
 
-    ghost use Rattle.std.specs.Prelude.{◌≡◌, ◌≤◌, [], vec_capacity};
-
-    ghost invariant = { λ l. ((l.turns.items ≡ []) × (l.seats ≤ vec_capacity l.turns)) × ((l.views.items ≡ []) × (l.seats ≤ vec_capacity l.views)) };
+/// A lock, its seats in the order of their lanes, and room for when it ends.
+pub struct NewLock<D: Disk> {
+    pub lock: DirectoryLock<D>,
+    pub seats: Vec<DirectorySeat<D>>,
+    pub room: SeatRoom<D>,
 }
 
 /// A lane's seat at the lock, with its seat of the published homes.
@@ -86,22 +86,18 @@ impl<D: Disk> DirectoryLock<D> {
         directory: Directory<D>,
         rows: &[DirRow],
         seats: u32,
-    ) -> Result<(DirectoryLock<D>, Vec<DirectorySeat<D>>), (Directory<D>, NoMemory)>
+    ) -> Result<NewLock<D>, (Directory<D>, NoMemory)>
         requires some { 0 < seats }
         requires settings { directory.settings ≡ settings }
         requires opened { IsOpenWith D.Tells D.files directory (map home_row rows.now) }
         ensures made { IfOk result (λ made. (begun : BegunAt) × (begun.rows ≡ rows_opened D.fault_count D.fuse_count directory (map home_row rows.now))
-            × (made.0.settings ≡ settings) × (made.0.seats ≡ seats) × AreNewSeats made.0 begun made.1.items) }
+            × (made.lock.settings ≡ settings) × (made.lock.seats ≡ seats) × (made.room ≡ seats) × AreNewSeats made.lock begun made.seats.items) }
         ensures refused { IfErr result (λ back. back.0 ≡ directory) }
     {
-        let Ok(
-            Rooms {
-                seats: room,
-                turns: turn_room,
-                views: view_room,
-            },
-        ) = Rooms::new(alloc, seats)
-        else {
+        let Ok(room) = SeatRoom::new(alloc, seats) else {
+            return Err((directory, NoMemory));
+        };
+        let Ok(lanes) = Vec::with_capacity(alloc, seats as usize) else {
             return Err((directory, NoMemory));
         };
         let Ok((front, views)) = front_of(rt, alloc, settings.volumes, rows, seats) else {
@@ -114,10 +110,9 @@ impl<D: Disk> DirectoryLock<D> {
                     seats,
                     settings,
                     stood: rows.len() as u64,
-                    turns: turn_room,
-                    views: view_room,
                 };
-                Ok((lock, joined(turns, views, room)))
+                let seats = joined(turns, views, lanes);
+                Ok(NewLock { lock, seats, room })
             }
             Err((kept, error)) => Err((kept.end(rt, views), error)),
         }
@@ -125,20 +120,24 @@ impl<D: Disk> DirectoryLock<D> {
 
     /// Ends the lock with all its seats, and gives the Directory back. It may wait for looks that are under way, behind which none
     /// returns.
-    pub fn close<R: Wait>(self, rt: &R, seats: Vec<DirectorySeat<D>>) -> Directory<D>
-        requires { (begun : BegunAt) × AreSeated self begun seats.items }
+    pub fn close<R: Wait>(
+        self,
+        rt: &R,
+        seats: Vec<DirectorySeat<D>>,
+        room: SeatRoom<D>,
+    ) -> Directory<D>
+        requires room { room ≡ self.seats }
+        requires seats { (begun : BegunAt) × AreSeated self begun seats.items }
         ensures { (begun : BegunAt) → AreSeated self begun seats.items →
             Closes D.Tells D.files D.fault_count D.fuse_count self begun seats.items result }
     {
+        let (turns, views) = apart(seats, room);
         let DirectoryLock {
             turn,
             seats: _,
             settings: _,
             stood: _,
-            turns,
-            views,
         } = self;
-        let (turns, views) = apart(seats, turns, views);
         turn.close(turns).end(rt, views)
     }
 

@@ -12,24 +12,33 @@ use hay_disk::Disk;
 use hay_front::{Front, Seat};
 use hay_turn::TurnSeat;
 use std::alloc::Global;
+use std::marker::Model;
 use std::sync::Wait;
 
-/// Room for all seats, and for their parts when the lock ends.
+/// Room for the parts of all seats, for when the lock ends. Clauses see for how many seats.
 #[derive(Drop)]
-pub(crate) struct Rooms<D: Disk> {
-    pub seats: Vec<DirectorySeat<D>>,
-    pub turns: Vec<TurnSeat<KeptDirectory<D>>>,
-    pub views: Vec<Seat<DirectoryView>>,
+pub struct SeatRoom<D: Disk> {
+    seats: u32,
+    turns: Vec<TurnSeat<KeptDirectory<D>>>,
+    views: Vec<Seat<DirectoryView>>,
 }
 
-impl<D: Disk> Rooms<D> {
-    pub(crate) fn new(alloc: Global, seats: u32) -> Result<Rooms<D>, NoMemory>
-        ensures seats { IfOk result (λ rooms. (rooms.seats.items ≡ []) × (seats ≤ vec_capacity rooms.seats)) }
-        ensures turns { IfOk result (λ rooms. (rooms.turns.items ≡ []) × (seats ≤ vec_capacity rooms.turns)) }
-        ensures views { IfOk result (λ rooms. (rooms.views.items ≡ []) × (seats ≤ vec_capacity rooms.views)) }
+impl<D: Disk> Model for SeatRoom<D> {
+    ghost use Rattle.std.specs.Prelude.{◌≡◌, ◌≤◌, ℕ, [], vec_capacity};
+
+    ghost Value = { ℕ };
+
+    ghost view = { λ r. r.seats };
+
+    ghost invariant = { λ r. ((r.turns.items ≡ []) × (r.seats ≤ vec_capacity r.turns)) × ((r.views.items ≡ []) × (r.seats ≤ vec_capacity r.views)) };
+}
+
+impl<D: Disk> SeatRoom<D> {
+    pub(crate) fn new(alloc: Global, seats: u32) -> Result<SeatRoom<D>, NoMemory>
+        ensures { IfOk result (λ room. room ≡ seats) }
     {
-        Ok(Rooms {
-            seats: Vec::with_capacity(alloc, seats as usize)?,
+        Ok(SeatRoom {
+            seats,
             turns: Vec::with_capacity(alloc, seats as usize)?,
             views: Vec::with_capacity(alloc, seats as usize)?,
         })
@@ -79,13 +88,16 @@ pub(crate) fn joined<D: Disk>(
 /// Takes the seats of all lanes apart, in their order.
 pub(crate) fn apart<D: Disk>(
     seats: Vec<DirectorySeat<D>>,
-    mut turns: Vec<TurnSeat<KeptDirectory<D>>>,
-    mut views: Vec<Seat<DirectoryView>>,
+    room: SeatRoom<D>,
 ) -> (Vec<TurnSeat<KeptDirectory<D>>>, Vec<Seat<DirectoryView>>)
-    requires turns { (turns.items ≡ []) × (vec_len seats ≤ vec_capacity turns) }
-    requires views { (views.items ≡ []) × (vec_len seats ≤ vec_capacity views) }
+    requires { length seats.items ≡ room }
     ensures { result.0.items ≡ map (λ seat. seat.turn) seats.items }
 {
+    let SeatRoom {
+        seats: _,
+        mut turns,
+        mut views,
+    } = room;
     for seat in seats {
         let DirectorySeat { turn, view } = seat;
         turns.push_reserved(turn);

@@ -7,7 +7,7 @@ use Rattle.hay_directory_lock.proofs.lock.DirectoryLock.close.Goals as goal
 
 pub close-requires : goal.close-requires
 close-requires g c =
-    all_seats g.D.Disk.Tells g.D.Disk.files g.D.Disk.fault_count g.D.Disk.fuse_count (subst (λ (l : LockState). AreSeated l c.requires.0 c.args.seats.items) (sym c.self.view_is) c.requires.1) c.apart-turns.ensures
+    all_seats g.D.Disk.Tells g.D.Disk.files g.D.Disk.fault_count g.D.Disk.fuse_count (subst (λ (l : LockState). AreSeated l c.requires.seats.0 c.args.seats.items) (sym c.self.view_is) c.requires.seats.1) c.apart-turns.ensures
 
 pub returns : goal.returns
 returns g c = rw (← c.self.view_is) (λ begun are.

@@ -17,6 +17,7 @@ returns-in-Ok-new-clause-made g c =
       begun_is g.D.Disk.Tells g.D.Disk.files g.D.Disk.fault_count g.D.Disk.fuse_count c.requires.opened c.requires.settings front.base made.0 made.1,
       refl,
       refl,
-      new_seats g.D.Disk.Tells g.D.Disk.files g.D.Disk.fault_count g.D.Disk.fuse_count c.requires.opened c.requires.settings front.base _ made.0 made.1 c.in-Ok-new.turns.items c.in-Ok-front_of.views.items c.joined.result.items
-          refl (length-map c.args.rows.now home_row) c.requires.some front.blank.0 made.3 (sym c.in-Ok-new.turns.ok.0 ∙ made.2) front.seats c.joined.ensures.turns c.joined.ensures.views,
+      c.in-Ok.ensures,
+      new_seats g.D.Disk.Tells g.D.Disk.files g.D.Disk.fault_count g.D.Disk.fuse_count c.requires.opened c.requires.settings front.base _ made.0 made.1 c.in-Ok-new.turns.items c.in-Ok-front_of.views.items c.joined-seats.result.items
+          refl (length-map c.args.rows.now home_row) c.requires.some front.blank.0 made.3 (sym c.in-Ok-new.turns.ok.0 ∙ made.2) front.seats c.joined-seats.ensures.turns c.joined-seats.ensures.views,
     )
