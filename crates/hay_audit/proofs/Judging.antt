@@ -150,7 +150,7 @@ take_front : (xs ys : List Asked) → take (length xs) (xs ++ ys) ≡ xs
 take_front [] ys = refl
 take_front (x ∷ xs) ys = ap (λ (zs : List Asked). x ∷ zs) (take_front xs ys)
 
-front_of : (script : List ℕ) (items rest : List Asked) (n : ℕ) → items_of script ≡ items ++ rest → n ≡ length items → take n (items_of script) ≡ items
+pub front_of : (script : List ℕ) (items rest : List Asked) (n : ℕ) → items_of script ≡ items ++ rest → n ≡ length items → take n (items_of script) ≡ items
 front_of script items rest n parts count = ap (λ (xs : List Asked). take n xs) parts ∙ ap (λ (m : ℕ). take m (items ++ rest)) count ∙ take_front items rest
 
 long_more : (xs ys : List Asked) → length xs ≤ length (xs ++ ys)

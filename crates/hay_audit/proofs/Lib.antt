@@ -5,5 +5,6 @@ pub mod Lists
 pub mod Placing
 pub mod Reading
 pub mod Slots
+pub mod Stopping
 pub mod Tables
 pub mod Takers

@@ -1,14 +1,16 @@
 //! Whether a transcript is one that legal turns of a script may have written.
 
-ghost use Rattle.std.specs.Prelude.{◌≡◌, ◌<◌, ◌≤◌, ℕ, List, [], ◌∷◌, ◌++◌, drop, length, map, true, Ok, IfOk, IfSome, OnOk, IsTrue, IsFalse};
+ghost use Rattle.std.specs.Prelude.{◌≡◌, ◌<◌, ◌≤◌, ℕ, List, [], ◌∷◌, ◌++◌, drop, length, map, true, Ok, IfOk, IfSome, IfNone, OnOk, IsTrue, IsFalse, false};
 ghost use Rattle.hay_needle.specs.declared.settings.Settings.{Settings as SettingsOf};
 ghost use Rattle.hay_legal.specs.declared.known.Known.{Known};
 ghost use Rattle.hay_legal.specs.Items.Asked.{Alone};
-ghost use Rattle.hay_script.specs.Script.{IsWithinLine};
+ghost use Rattle.hay_script.specs.Script.{IsWithin, IsWithinLine};
+ghost use Rattle.hay_script.specs.declared.Line.TheVariants as line;
 ghost use Rattle.hay_audit_steps.specs.Judged.{Begins, IsUsed};
+ghost use Rattle.hay_audit_steps.specs.Steps.{AnyOf};
 ghost use Rattle.hay_audit_steps.specs.Reached.{AllAdvance, Candidate as Kept, Is, IsAdvance};
-ghost use Rattle.hay_audit.specs.Candidates.{AreWithin, SaidBy, Says, all_standing, placed, standing};
-ghost use Rattle.hay_audit.specs.Outside.{IsInside, IsWithinItem};
+ghost use Rattle.hay_audit.specs.Candidates.{AreWithin, SaidBy, Says, Stops, all_standing, placed, standing};
+ghost use Rattle.hay_audit.specs.Outside.{IsInside, IsOutside, IsWithinItem};
 
 use crate::answers::{is_judged, read_answer};
 use crate::first::fresh_state;
@@ -49,6 +51,28 @@ pub(crate) enum Said {
     Other,
 }
 
+fn is_inside(item: &Item) -> bool
+    ensures yes { IsTrue result → IsInside item.now }
+    ensures no { IsFalse result → IsOutside item.now }
+{
+    match item {
+        Item::Bad | Item::Command(Command::Put { .. }) | Item::Command(Command::Read { .. }) =>
+            true,
+        Item::Command(_) => false,
+    }
+}
+
+fn said_of(command: Command) -> Said
+    requires { IsWithin command }
+    ensures { SaidBy (line.Plain command) result }
+{
+    let item = Item::Command(command);
+    if !is_inside(&item) {
+        return Said::Other;
+    }
+    Said::Judged(item)
+}
+
 fn said_by(line: Line) -> Said
     requires { IsWithinLine line }
     ensures { SaidBy line result }
@@ -56,13 +80,7 @@ fn said_by(line: Line) -> Said
     match line {
         Line::Skip => Said::Nothing,
         Line::Lanes(_) => Said::Other,
-        Line::Plain(Command::Put { pair, photo }) => {
-            Said::Judged(Item::Command(Command::Put { pair, photo }))
-        }
-        Line::Plain(Command::Read { pair, cookie }) => {
-            Said::Judged(Item::Command(Command::Read { pair, cookie }))
-        }
-        Line::Plain(_) => Said::Other,
+        Line::Plain(command) => said_of(command),
         Line::Bad | Line::InLane { .. } | Line::End => Said::Judged(Item::Bad),
     }
 }
@@ -95,6 +113,7 @@ fn advance_one(
     ensures went { result ≡ Ok true → (next : List (Kept Known)) × (all_standing transcript.now out.new ≡ all_standing transcript.now out.old ++ next)
         × IsAdvance Is settings.now (Alone line item.now) (standing transcript.now candidate) next }
     ensures within { result ≡ Ok true → AreWithin transcript.now out.old → AreWithin transcript.now out.new }
+    ensures stops { result ≡ Ok false → Stops settings.now transcript.now candidate }
 {
     let Candidate { state, at } = candidate;
     let Some(answer) = read_answer(alloc, line, &transcript[at..])? else {
@@ -127,6 +146,7 @@ fn advance(
     requires within { AreWithin transcript.now candidates }
     ensures went { IfOk result (λ made. IfSome made (λ next. AllAdvance Is settings.now (Alone line item.now) (all_standing transcript.now candidates) (all_standing transcript.now next))) }
     ensures within { IfOk result (λ made. IfSome made (AreWithin transcript.now)) }
+    ensures stops { IfOk result (λ made. IfNone made (AnyOf (Stops settings.now transcript.now) candidates)) }
 {
     let mut out = Listed::new(alloc);
     for candidate in candidates.into_vec() {

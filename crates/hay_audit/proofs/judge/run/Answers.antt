@@ -1,15 +1,19 @@
-use Rattle.std.proofs.Common.{◌≡◌, ℕ, ◌+◌, ◌<◌, ◌≤◌, true, false, List, [], ◌∷◌, length, drop, Option, None, refl, ap, sym, subst, ◌∙◌, arith}
-use Rattle.std.specs.Prelude.{IfSome}
+use Rattle.std.proofs.Common.{◌≡◌, ℕ, ◌+◌, ◌<◌, ◌≤◌, true, false, List, [], ◌∷◌, length, drop, Option, Some, None, ◌⊎◌, inl, refl, ap, sym, subst, ◌∙◌, arith}
+use Rattle.std.specs.Prelude.{IfNone, IfSome}
+use Rattle.hay_legal.specs.declared.turn.Item.{Item}
 use Rattle.std.proofs.Math.ListN.{drop_of_length-le}
-use Rattle.hay_legal.specs.Items.{outside}
+use Rattle.hay_legal.specs.Items.{OpenBlock, outside}
 use Rattle.hay_legal.specs.Items.Asked.{Alone}
 use Rattle.hay_script.specs.declared.Line.{Line}
 use Rattle.hay_script.specs.Script.{line_of}
 use Rattle.hay_audit_steps.specs.Judged.{IsUsed}
 use Rattle.hay_audit_steps.specs.Reached.{AllAdvance, Is}
 use Rattle.hay_audit.specs.declared.judge.Candidate.{Candidate}
-use Rattle.hay_audit.specs.Candidates.{AreWithin, all_standing, standing}
+use Rattle.hay_audit.specs.Candidates.{AreWithin, Stops, all_standing, standing}
 use Rattle.hay_audit.proofs.Judging.{IsBehind, begin, goes_on, is_lawful, is_unlawful, is_unlawful_behind, skipped, so_many_fit}
+use Rattle.hay_audit.specs.Outside.{IsOutside}
+use Rattle.hay_audit_steps.specs.Steps.{AnyOf}
+use Rattle.hay_audit.proofs.Stopping.{is_not_asked, is_stopped}
 use Rattle.hay_audit.proofs.Placing.{any_kept}
 use Rattle.hay_audit.proofs.judge.run.Goals as goal
 use Rattle.hay_audit.proofs.judge.run.Goals.{in-Nothing, in-Judged+in_ok-made-in-Judged+in-Some+else-is_empty+in-Command+in-Put-1, in-Judged+in_ok-made-in-Judged+in-Some+else-is_empty+in-Command+in-Read-1, in-Judged+in_ok-made-in-Judged+in-Some+else-is_empty+in-Bad-1}
@@ -20,10 +24,19 @@ loop-at-init c =
     (begin c.args.settings.now c.args.script.now c.args.transcript.now (standing c.args.transcript.now c.args.first) c.requires.begins, (c.requires.within, tt), omega arith, omega arith, omega arith)
 
 pub returns-in-Other : goal.returns-in-Other
-returns-in-Other c = so_many_fit c.args.settings.now c.args.script.now c.args.transcript.now (standing c.args.transcript.now c.args.first) (all_standing c.args.transcript.now c.loop-at.candidates) c.loop-at.number c.loop-at.turns (drop c.loop-at.at c.args.script.now) (c.loop-at.invariant).0
+returns-in-Other c =
+    let said : c.in_ok-read_line.field-0 ≡ line_of None c.in_ok-text.text.items = c.in_ok-read_line.ensures.said ∙ ap (λ (t : List ℕ). line_of None t) c.as_slice.ensures.value in (
+      so_many_fit c.args.settings.now c.args.script.now c.args.transcript.now (standing c.args.transcript.now c.args.first) (all_standing c.args.transcript.now c.loop-at.candidates) c.loop-at.number c.loop-at.turns (drop c.loop-at.at c.args.script.now) (c.loop-at.invariant).0,
+      inl (is_not_asked c.args.settings.now c.args.script.now c.args.transcript.now (standing c.args.transcript.now c.args.first) (all_standing c.args.transcript.now c.loop-at.candidates) c.loop-at.number c.loop-at.turns (drop c.loop-at.at c.args.script.now) c.in_ok-text.text.items (drop c.in_ok-text.behind c.args.script.now) (c.loop-at.invariant).0 c.in_ok-text.ensures.line
+          (subst (λ (l : Line). ((block : OpenBlock) × (outside c.loop-at.number l ≡ ([], Some block))) ⊎ ((asked : Item) × (outside c.loop-at.number l ≡ (Alone c.loop-at.number asked ∷ [], None)) × IsOutside asked)) said (c.in-Other.ensures c.loop-at.number))),
+    )
 
 pub returns-in_default : goal.returns-in_default
-returns-in_default c = so_many_fit c.args.settings.now c.args.script.now c.args.transcript.now (standing c.args.transcript.now c.args.first) (all_standing c.args.transcript.now c.loop-at.candidates) c.loop-at.number c.loop-at.turns (drop c.loop-at.at c.args.script.now) (c.loop-at.invariant).0
+returns-in_default c = (
+  so_many_fit c.args.settings.now c.args.script.now c.args.transcript.now (standing c.args.transcript.now c.args.first) (all_standing c.args.transcript.now c.loop-at.candidates) c.loop-at.number c.loop-at.turns (drop c.loop-at.at c.args.script.now) (c.loop-at.invariant).0,
+  is_stopped c.args.settings.now c.args.script.now c.args.transcript.now (standing c.args.transcript.now c.args.first) c.loop-at.candidates c.loop-at.number c.loop-at.turns (drop c.loop-at.at c.args.script.now) (c.loop-at.invariant).0
+      (subst (λ (o : Option (List Candidate)). IfNone o (AnyOf (Stops c.args.settings.now c.args.transcript.now) c.loop-at.candidates)) c.in_default.is c.in_ok-made-in-Judged.ensures.stops),
+)
 
 pub returns-then-is_empty : goal.returns-then-is_empty
 returns-then-is_empty c =
