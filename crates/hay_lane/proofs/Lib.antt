@@ -1,0 +1,5 @@
+pub mod Lists
+pub mod Stepping
+pub mod Finds
+pub mod Maintained
+pub mod Changed

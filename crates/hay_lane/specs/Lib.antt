@@ -1,0 +1,3 @@
+pub mod Tellings
+pub mod Lanes
+pub mod Replies
