@@ -3,3 +3,4 @@ pub mod Stepping
 pub mod Finds
 pub mod Maintained
 pub mod Changed
+pub mod Putting

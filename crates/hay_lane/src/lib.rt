@@ -10,6 +10,7 @@ mod calls;
 mod changes;
 mod lane;
 mod places;
+mod put;
 mod replies;
 mod steps;
 mod upkeep;
