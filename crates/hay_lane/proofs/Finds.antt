@@ -1,0 +1,67 @@
+-- The first number of a range that passes a test: the replica on a machine.
+use Rattle.std.proofs.Common.{◌≡◌, ℕ, zero, suc, ◌+◌, ◌<◌, ◌≤◌, inl, inr, Bool, true, false, List, [], ◌∷◌, map, Some, None, refl, sym, ap, ◌∙◌, arith}
+use Rattle.std.specs.Prelude.{◌==◌, find, nat_lt, option_map}
+use Rattle.std.specs.List.{range_with_len}
+use Rattle.std.proofs.lemmas.Bool.{cases_Bool, cases_order, cond-false, cond-true, eq-eqb, le-ltb, lt-ltb}
+use Rattle.hay_needle.specs.declared.settings.Settings.{Settings}
+use Rattle.hay_legal.specs.Known.{machine_of, replica_on}
+
+pub find-hit : (test : ℕ → Bool) (n at j : ℕ) → at ≤ j → j < at + n → test j ≡ true → ((i : ℕ) → at ≤ i → i < j → test i ≡ false) → find test (range_with_len at n) ≡ Some j
+find-hit test zero at j low high is others = absurd (omega arith)
+find-hit test (suc n) at j low high is others =
+    elim (cases_order at j) [
+      | inl here ↦ cond-true (test at) (Some at) (find test (range_with_len (at + 1) n)) (ap test here ∙ is) ∙ ap (λ i. Some i) here
+      | inr (inl less) ↦ cond-false (test at) (Some at) (find test (range_with_len (at + 1) n)) (others at (omega arith) less)
+          ∙ find-hit test n (at + 1) j (omega arith) (omega arith) is (λ i from below. others i (omega arith) below)
+      | inr (inr more) ↦ absurd (omega arith)
+    ]
+
+pub find-none : (test : ℕ → Bool) (n at : ℕ) → ((i : ℕ) → at ≤ i → i < at + n → test i ≡ false) → find test (range_with_len at n) ≡ None
+find-none test zero at others = refl
+find-none test (suc n) at others =
+    cond-false (test at) (Some at) (find test (range_with_len (at + 1) n)) (others at (omega arith) (omega arith))
+    ∙ find-none test n (at + 1) (λ i from below. others i (omega arith) (omega arith))
+
+-- of values by number
+pub find-map : {X : Type 0} (test : X → Bool) (g : ℕ → X) (ns : List ℕ) → find test (map g ns) ≡ option_map g (find (λ i. test (g i)) ns)
+find-map test g [] = refl
+find-map test g (n ∷ ns) =
+    elim (cases_Bool (test (g n))) [
+      | inl passes ↦ cond-true (test (g n)) (Some (g n)) (find test (map g ns)) passes
+          ∙ ap (option_map g) (sym (cond-true (test (g n)) (Some n) (find (λ i. test (g i)) ns) passes))
+      | inr fails ↦ cond-false (test (g n)) (Some (g n)) (find test (map g ns)) fails ∙ find-map test g ns
+          ∙ ap (option_map g) (sym (cond-false (test (g n)) (Some n) (find (λ i. test (g i)) ns) fails))
+    ]
+
+pub map_hit : {X : Type 0} (test : X → Bool) (g : ℕ → X) (n j : ℕ) → j < n → test (g j) ≡ true → ((i : ℕ) → i < j → test (g i) ≡ false) → find test (map g (range_with_len 0 n)) ≡ Some (g j)
+map_hit test g n j within is others =
+    find-map test g (range_with_len 0 n) ∙ ap (option_map g) (find-hit (λ i. test (g i)) n 0 j (omega arith) (omega arith) is (λ i from below. others i below))
+
+pub map_none : {X : Type 0} (test : X → Bool) (g : ℕ → X) (n : ℕ) → ((i : ℕ) → i < n → test (g i) ≡ false) → find test (map g (range_with_len 0 n)) ≡ None
+map_none test g n others =
+    find-map test g (range_with_len 0 n) ∙ ap (option_map g) (find-none (λ i. test (g i)) n 0 (λ i from below. others i (omega arith)))
+
+-- one number more for which a test fails
+pub below_next : (test : ℕ → Bool) (j : ℕ) → ((i : ℕ) → i < j → test i ≡ false) → test j ≡ false → (i : ℕ) → i < j + 1 → test i ≡ false
+below_next test j below here i low =
+    elim (cases_order i j) [
+      | inl same ↦ ap test same ∙ here
+      | inr (inl less) ↦ below i less
+      | inr (inr more) ↦ absurd (omega arith)
+    ]
+
+pub replica_hit : (settings : Settings) (v m j : ℕ) → v < settings.volumes → j < settings.replicas → machine_of settings v j ≡ m → ((i : ℕ) → i < j → (machine_of settings v i == m) ≡ false)
+    → Some j ≡ replica_on settings v m
+replica_hit settings v m j volume within is others =
+    let test : ℕ → Bool = λ i. machine_of settings v i == m in
+    sym (cond-true (nat_lt v settings.volumes) (find test (range_with_len 0 settings.replicas)) None (lt-ltb v settings.volumes volume)
+    ∙ find-hit test settings.replicas 0 j (omega arith) (omega arith) (eq-eqb (machine_of settings v j) m is) (λ i from below. others i below))
+
+pub replica_none : (settings : Settings) (v m : ℕ) → v < settings.volumes → ((i : ℕ) → i < settings.replicas → (machine_of settings v i == m) ≡ false) → None ≡ replica_on settings v m
+replica_none settings v m volume others =
+    let test : ℕ → Bool = λ i. machine_of settings v i == m in
+    sym (cond-true (nat_lt v settings.volumes) (find test (range_with_len 0 settings.replicas)) None (lt-ltb v settings.volumes volume)
+    ∙ find-none test settings.replicas 0 (λ i from below. others i (omega arith)))
+
+pub no_volume : (settings : Settings) (v m : ℕ) → settings.volumes ≤ v → None ≡ replica_on settings v m
+no_volume settings v m beyond = sym (cond-false (nat_lt v settings.volumes) (find (λ i. machine_of settings v i == m) (range_with_len 0 settings.replicas)) None (le-ltb v settings.volumes beyond))

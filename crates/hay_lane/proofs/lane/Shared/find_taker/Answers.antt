@@ -1,0 +1,60 @@
+use Rattle.std.proofs.Common.{◌≡◌, ◌+◌, [], refl, sym, subst, arith}
+use Rattle.hay_holdings.specs.Lines.{Tried}
+use Rattle.hay_holdings.proofs.PutAnswers.{tries}
+use Rattle.hay_lane.specs.Lanes.{sight}
+use Rattle.hay_lane.specs.Puts.{TryTells}
+use Rattle.hay_lane.proofs.Putting.{first_tries, one_more, takes_next, tries_wanted}
+use Rattle.hay_lane.proofs.lane.Shared.find_taker.Goals as goal
+
+pub loop-turn-init : goal.loop-turn-init
+loop-turn-init g c = record {
+  seated = c.requires.seated;
+  same = λ start of. of;
+  tried = λ start d a of sees. subst (λ refused. Tried c.args.self.now.settings start c.args.self.now.drained.items c.args.tag c.args.pair c.args.size [] refused a (sight g.V.VolumeCalls.sight g.D.DirectoryCalls.sight c.args.lane.now))
+      (sym c.new-refused.ensures) (tries c.args.self.now.settings start c.args.self.now.drained.items c.args.tag sees);
+}
+
+pub refusal-requires-clause-seated : goal.refusal-requires-clause-seated
+refusal-requires-clause-seated g c = c.loop-turn.invariant.seated
+
+pub returns-in-None-clause-same : goal.returns-in-None-clause-same
+returns-in-None-clause-same g c start of = c.refusal.ensures.same start (c.loop-turn.invariant.same start of)
+
+pub returns-in-None-clause-tried : goal.returns-in-None-clause-tried
+returns-in-None-clause-tried g c start d a of sees =
+    takes_next c.args.self.now.settings start c.args.self.now.drained.items c.args.tag c.loop-turn.turn (c.loop-turn.invariant.tried start d a of sees) c.tries-volume.result
+    (c.tries-volume.ensures.is c.args.pair refl) c.loop-turn-test.true c.tries-volume.ensures.below
+    (subst (λ r. TryTells c.args.self.now.settings start c.args.self.now.drained.items c.args.tag c.tries-volume.result c.args.size r (sight g.V.VolumeCalls.sight g.D.DirectoryCalls.sight c.loop-turn.lane) (sight g.V.VolumeCalls.sight g.D.DirectoryCalls.sight c.refusal.new.lane))
+    c.in-None.is (c.refusal.ensures.tells start (c.loop-turn.invariant.same start of)))
+
+pub returns-in-Err-clause-same : goal.returns-in-Err-clause-same
+returns-in-Err-clause-same g c start of = c.refusal.ensures.same start (c.loop-turn.invariant.same start of)
+
+pub returns-in-Err-clause-tried : goal.returns-in-Err-clause-tried
+returns-in-Err-clause-tried g c start d a of sees =
+    tries_wanted c.args.self.now.settings start c.args.self.now.drained.items c.args.tag c.loop-turn.turn (c.loop-turn.invariant.tried start d a of sees)
+    (subst (λ r. TryTells c.args.self.now.settings start c.args.self.now.drained.items c.args.tag c.tries-volume.result c.args.size r (sight g.V.VolumeCalls.sight g.D.DirectoryCalls.sight c.loop-turn.lane) (sight g.V.VolumeCalls.sight g.D.DirectoryCalls.sight c.refusal.new.lane))
+    c.in-Some.is (c.refusal.ensures.tells start (c.loop-turn.invariant.same start of)))
+
+pub loop-turn-preserved : goal.loop-turn-preserved
+loop-turn-preserved g c = record {
+  seated = c.refusal.ensures.seated;
+  same = λ start of. c.refusal.ensures.same start (c.loop-turn.invariant.same start of);
+  tried = λ start d a of sees. subst (λ refused. Tried c.args.self.now.settings start c.args.self.now.drained.items c.args.tag c.args.pair c.args.size
+      (first_tries c.args.self.now.settings c.args.pair (c.loop-turn.turn + 1)) refused a (sight g.V.VolumeCalls.sight g.D.DirectoryCalls.sight c.refusal.new.lane)) (sym c.in-Ok.ensures.ok)
+      (one_more c.args.self.now.settings start c.args.self.now.drained.items c.args.tag c.loop-turn.turn (c.loop-turn.invariant.tried start d a of sees) c.tries-volume.result
+      (c.tries-volume.ensures.is c.args.pair refl) c.tries-volume.ensures.below (subst (λ r. TryTells c.args.self.now.settings start c.args.self.now.drained.items c.args.tag c.tries-volume.result c.args.size r (sight g.V.VolumeCalls.sight g.D.DirectoryCalls.sight c.loop-turn.lane) (sight g.V.VolumeCalls.sight g.D.DirectoryCalls.sight c.refusal.new.lane))
+      c.in-Some.is (c.refusal.ensures.tells start (c.loop-turn.invariant.same start of))));
+}
+
+pub returns-clause-seated : goal.returns-clause-seated
+returns-clause-seated g c = c.loop-turn.invariant.seated
+
+pub returns-clause-same : goal.returns-clause-same
+returns-clause-same g c = c.loop-turn.invariant.same
+
+pub returns-clause-tried : goal.returns-clause-tried
+returns-clause-tried g c start d a of sees =
+    let all : c.loop-turn.turn ≡ c.args.self.now.settings.volumes = omega (arith, c.loop-turn-test.false, c.loop-turn.auto.turn-end) in
+    subst (λ n. Tried c.args.self.now.settings start c.args.self.now.drained.items c.args.tag c.args.pair c.args.size (first_tries c.args.self.now.settings c.args.pair n) c.loop-turn.refused a (sight g.V.VolumeCalls.sight g.D.DirectoryCalls.sight c.loop-turn.lane)) all
+    (c.loop-turn.invariant.tried start d a of sees)

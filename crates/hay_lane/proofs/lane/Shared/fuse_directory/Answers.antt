@@ -1,0 +1,21 @@
+use Rattle.hay_holdings.specs.Rows.{FusedDir}
+use Rattle.hay_lane.proofs.Stepping.{still_of_rows, still_seated_rows, stepped_rows}
+use Rattle.hay_lane.proofs.lane.Shared.fuse_directory.Goals as goal
+
+pub fuse-requires : goal.fuse-requires
+fuse-requires g c = record { fits = (c.args.self.now.settings, c.requires.seated.rows) }
+
+pub returns-clause-seated : goal.returns-clause-seated
+returns-clause-seated g c =
+    still_seated_rows g.V.VolumeCalls.fits g.D.DirectoryCalls.fits c.args.self.now c.args.tag.lane c.args.lane.now c.requires.seated
+    c.fuse.new.seat g.D.DirectoryCalls.is_at c.fuse.ensures.stays
+
+pub returns-clause-same : goal.returns-clause-same
+returns-clause-same g c =
+    still_of_rows g.V.VolumeCalls.fits g.D.DirectoryCalls.fits c.args.self.now c.args.tag.lane c.args.lane.now c.requires.seated
+    c.fuse.new.seat g.D.DirectoryCalls.is_at c.fuse.ensures.stays g.V.VolumeCalls.is_at c.args.self.now.settings
+
+pub returns-clause-tells : goal.returns-clause-tells
+returns-clause-tells g c start of =
+    stepped_rows g.V.VolumeCalls.fits g.D.DirectoryCalls.fits c.args.self.now c.args.tag.lane c.args.lane.now c.requires.seated
+    c.fuse.new.seat g.V.VolumeCalls.sight g.D.DirectoryCalls.sight (FusedDir start c.args.tag) (c.fuse.ensures.tells start of.rows)

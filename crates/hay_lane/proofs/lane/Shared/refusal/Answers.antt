@@ -1,0 +1,16 @@
+use Rattle.std.proofs.Common.{sym, ap, subst, ◌∙◌}
+use Rattle.hay_meeting.specs.Facts.{drained_in}
+use Rattle.hay_lane.specs.Lanes.{sight}
+use Rattle.hay_lane.specs.Puts.{TryTells}
+use Rattle.hay_lane.proofs.Changed.{closes_refuses}
+use Rattle.hay_lane.proofs.Putting.{room_tells}
+use Rattle.hay_lane.proofs.lane.Shared.refusal.Goals as goal
+
+pub returns-in_default-clause-tells : goal.returns-in_default-clause-tells
+returns-in_default-clause-tells g c start of =
+    subst (λ r. TryTells c.args.self.now.settings start c.args.self.now.drained.items c.args.tag c.args.volume c.args.size r (sight g.V.VolumeCalls.sight g.D.DirectoryCalls.sight c.args.lane.now) (sight g.V.VolumeCalls.sight g.D.DirectoryCalls.sight c.room_at-room.new.lane)) (sym c.refusal_for.ensures.is)
+    (room_tells c.args.self.now.settings start c.args.self.now.drained.items c.args.tag c.args.volume c.args.size c.room_at-room.result (ap (λ drained. drained_in c.args.self.now.settings drained c.args.volume) (sym c.as_slice.ensures.value) ∙ sym c.in_default.ensures.is) (c.room_at-room.ensures.tells start of))
+
+pub returns-clause-tells : goal.returns-clause-tells
+returns-clause-tells g c start of =
+    closes_refuses c.args.self.now.settings start c.args.self.now.drained.items c.args.volume c.args.tag c.args.size (c.closed_at-machine.ensures.tells start of)

@@ -1,0 +1,6 @@
+use Rattle.std.proofs.Common.{◌≡◌, map, take}
+use Rattle.hay_legal.specs.Plain.{as_closed}
+use Rattle.hay_lane.proofs.put.closed_of.Given as goal
+
+abbrev pub invariant-loop-refusal : goal.invariant-loop-refusal
+invariant-loop-refusal l = map as_closed l.closed ≡ take l.refusal-index l.refused

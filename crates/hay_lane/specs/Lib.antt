@@ -1,0 +1,4 @@
+pub mod Tellings
+pub mod Lanes
+pub mod Replies
+pub mod Puts

@@ -1,0 +1,19 @@
+//! A lane, and what all lanes share.
+
+use hay_needle::Settings;
+
+/// The seats of one lane, at each volume and at the Directory, and how many fetches at its arm have failed.
+#[derive(Drop)]
+pub struct Lane<S: Drop, T: Drop> {
+    pub volumes: Vec<S>,
+    pub directory: T,
+    pub faults: u64,
+}
+
+/// The volumes and the Directory behind their locks. Machines are drained between the blocks of lines alone.
+pub struct Shared<V, D> {
+    pub settings: Settings,
+    pub volumes: Vec<V>,
+    pub directory: D,
+    pub drained: Vec<bool>,
+}

@@ -1,0 +1,196 @@
+//! Flushes, compactions step by step, fuses and drains.
+ghost use Rattle.hay_script.specs.declared.Command.TheVariants as asks;
+ghost use Rattle.hay_meeting.specs.Acts.{Start};
+ghost use Rattle.hay_holdings.specs.Lines.{IsAnswered};
+ghost use Rattle.hay_lane.specs.Lanes.{IsOf, IsSeated, sight};
+
+use crate::calls::{DirectoryCalls, VolumeCalls};
+use crate::lane::{Lane, Shared};
+use crate::places::replica_on;
+use crate::replies::{begin_reply, finish_reply, flush_reply, step_reply};
+use hay_core::CoreTag;
+use hay_reply::Reply;
+use std::alloc::Global;
+use std::sync::Wait;
+
+impl<V: VolumeCalls, D: DirectoryCalls> Shared<V, D> {
+    /// Gives the cells of a replica without an index record theirs.
+    pub fn flush<R: Wait>(
+        &self,
+        rt: &R,
+        alloc: Global,
+        lane: &mut Lane<V::Seat, D::Seat>,
+        tag: CoreTag,
+        volume: u32,
+        machine: u32,
+    ) -> Reply
+        requires seated { IsSeated V.fits D.fits self.now tag.lane lane.old }
+        ensures seated { IsSeated V.fits D.fits self.now tag.lane lane.new }
+        ensures same { (start : Start) → IsOf V.is_at D.is_at self.now.settings start lane.old → IsOf V.is_at D.is_at self.now.settings start lane.new }
+        ensures answered { (start : Start) → IsOf V.is_at D.is_at self.now.settings start lane.old →
+            IsAnswered self.now.settings start self.now.drained.items tag (asks.Flush volume machine) result (sight V.sight D.sight lane.old) (sight V.sight D.sight lane.new) }
+    {
+        let Some(replica) = replica_on(&self.settings, volume, machine) else {
+            return Reply::Nowhere;
+        };
+        let answer = self.flush_at(rt, lane, tag, volume, replica);
+        flush_reply(alloc, volume, machine, answer)
+    }
+
+    /// Begins a compaction.
+    pub fn begin<R: Wait>(
+        &self,
+        rt: &R,
+        alloc: Global,
+        lane: &mut Lane<V::Seat, D::Seat>,
+        tag: CoreTag,
+        volume: u32,
+        machine: u32,
+    ) -> Reply
+        requires seated { IsSeated V.fits D.fits self.now tag.lane lane.old }
+        ensures seated { IsSeated V.fits D.fits self.now tag.lane lane.new }
+        ensures same { (start : Start) → IsOf V.is_at D.is_at self.now.settings start lane.old → IsOf V.is_at D.is_at self.now.settings start lane.new }
+        ensures answered { (start : Start) → IsOf V.is_at D.is_at self.now.settings start lane.old →
+            IsAnswered self.now.settings start self.now.drained.items tag (asks.Begin volume machine) result (sight V.sight D.sight lane.old) (sight V.sight D.sight lane.new) }
+    {
+        let Some(replica) = replica_on(&self.settings, volume, machine) else {
+            return Reply::Nowhere;
+        };
+        let answer = self.begin_at(rt, alloc, lane, tag, volume, replica);
+        begin_reply(alloc, volume, machine, answer)
+    }
+
+    /// Examines so many cells of a compaction that a line of the lane began.
+    pub fn step<R: Wait>(
+        &self,
+        rt: &R,
+        alloc: Global,
+        lane: &mut Lane<V::Seat, D::Seat>,
+        tag: CoreTag,
+        volume: u32,
+        machine: u32,
+        cells: u32,
+    ) -> Reply
+        requires seated { IsSeated V.fits D.fits self.now tag.lane lane.old }
+        ensures seated { IsSeated V.fits D.fits self.now tag.lane lane.new }
+        ensures same { (start : Start) → IsOf V.is_at D.is_at self.now.settings start lane.old → IsOf V.is_at D.is_at self.now.settings start lane.new }
+        ensures answered { (start : Start) → IsOf V.is_at D.is_at self.now.settings start lane.old →
+            IsAnswered self.now.settings start self.now.drained.items tag (asks.Step volume machine cells) result (sight V.sight D.sight lane.old) (sight V.sight D.sight lane.new) }
+    {
+        let Some(replica) = replica_on(&self.settings, volume, machine) else {
+            return Reply::Nowhere;
+        };
+        let answer = self.step_at(rt, lane, tag, volume, replica, cells);
+        step_reply(alloc, volume, machine, answer)
+    }
+
+    /// Finishes it.
+    pub fn finish<R: Wait>(
+        &self,
+        rt: &R,
+        alloc: Global,
+        lane: &mut Lane<V::Seat, D::Seat>,
+        tag: CoreTag,
+        volume: u32,
+        machine: u32,
+    ) -> Reply
+        requires seated { IsSeated V.fits D.fits self.now tag.lane lane.old }
+        ensures seated { IsSeated V.fits D.fits self.now tag.lane lane.new }
+        ensures same { (start : Start) → IsOf V.is_at D.is_at self.now.settings start lane.old → IsOf V.is_at D.is_at self.now.settings start lane.new }
+        ensures answered { (start : Start) → IsOf V.is_at D.is_at self.now.settings start lane.old →
+            IsAnswered self.now.settings start self.now.drained.items tag (asks.Finish volume machine) result (sight V.sight D.sight lane.old) (sight V.sight D.sight lane.new) }
+    {
+        let Some(replica) = replica_on(&self.settings, volume, machine) else {
+            return Reply::Nowhere;
+        };
+        let answer = self.finish_at(rt, lane, tag, volume, replica);
+        finish_reply(alloc, volume, machine, answer)
+    }
+
+    /// Sets a fuse on the disk of the replica of a volume on a machine.
+    pub fn fuse<R: Wait>(
+        &self,
+        rt: &R,
+        lane: &mut Lane<V::Seat, D::Seat>,
+        tag: CoreTag,
+        volume: u32,
+        machine: u32,
+        calls: u32,
+    ) -> Reply
+        requires seated { IsSeated V.fits D.fits self.now tag.lane lane.old }
+        ensures seated { IsSeated V.fits D.fits self.now tag.lane lane.new }
+        ensures same { (start : Start) → IsOf V.is_at D.is_at self.now.settings start lane.old → IsOf V.is_at D.is_at self.now.settings start lane.new }
+        ensures answered { (start : Start) → IsOf V.is_at D.is_at self.now.settings start lane.old →
+            IsAnswered self.now.settings start self.now.drained.items tag (asks.Fuse volume machine calls) result (sight V.sight D.sight lane.old) (sight V.sight D.sight lane.new) }
+    {
+        let Some(replica) = replica_on(&self.settings, volume, machine) else {
+            return Reply::Nowhere;
+        };
+        self.fuse_at(rt, lane, tag, volume, replica, calls);
+        Reply::Fused {
+            volume,
+            machine,
+            calls,
+        }
+    }
+
+    /// Sets a fuse on the Directory's disk.
+    pub fn fuse_dir<R: Wait>(
+        &self,
+        rt: &R,
+        lane: &mut Lane<V::Seat, D::Seat>,
+        tag: CoreTag,
+        calls: u32,
+    ) -> Reply
+        requires seated { IsSeated V.fits D.fits self.now tag.lane lane.old }
+        ensures seated { IsSeated V.fits D.fits self.now tag.lane lane.new }
+        ensures same { (start : Start) → IsOf V.is_at D.is_at self.now.settings start lane.old → IsOf V.is_at D.is_at self.now.settings start lane.new }
+        ensures answered { (start : Start) → IsOf V.is_at D.is_at self.now.settings start lane.old →
+            IsAnswered self.now.settings start self.now.drained.items tag (asks.FuseDir calls) result (sight V.sight D.sight lane.old) (sight V.sight D.sight lane.new) }
+    {
+        self.fuse_directory(rt, lane, tag, calls);
+        Reply::FusedDir { calls }
+    }
+
+    /// Closes a machine to changes. The machines that are shared as drained change behind the block.
+    pub fn drain<R: Wait>(
+        &self,
+        rt: &R,
+        lane: &mut Lane<V::Seat, D::Seat>,
+        tag: CoreTag,
+        machine: u32,
+    ) -> Reply
+        requires seated { IsSeated V.fits D.fits self.now tag.lane lane.old }
+        ensures seated { IsSeated V.fits D.fits self.now tag.lane lane.new }
+        ensures same { (start : Start) → IsOf V.is_at D.is_at self.now.settings start lane.old → IsOf V.is_at D.is_at self.now.settings start lane.new }
+        ensures answered { (start : Start) → IsOf V.is_at D.is_at self.now.settings start lane.old →
+            IsAnswered self.now.settings start self.now.drained.items tag (asks.Drain machine) result (sight V.sight D.sight lane.old) (sight V.sight D.sight lane.new) }
+    {
+        if machine >= self.settings.machines {
+            return Reply::Nowhere;
+        }
+        self.drain_machine(rt, lane, tag, machine);
+        Reply::Drained { machine }
+    }
+
+    /// Opens a machine to changes again.
+    pub fn undrain<R: Wait>(
+        &self,
+        rt: &R,
+        lane: &mut Lane<V::Seat, D::Seat>,
+        tag: CoreTag,
+        machine: u32,
+    ) -> Reply
+        requires seated { IsSeated V.fits D.fits self.now tag.lane lane.old }
+        ensures seated { IsSeated V.fits D.fits self.now tag.lane lane.new }
+        ensures same { (start : Start) → IsOf V.is_at D.is_at self.now.settings start lane.old → IsOf V.is_at D.is_at self.now.settings start lane.new }
+        ensures answered { (start : Start) → IsOf V.is_at D.is_at self.now.settings start lane.old →
+            IsAnswered self.now.settings start self.now.drained.items tag (asks.Undrain machine) result (sight V.sight D.sight lane.old) (sight V.sight D.sight lane.new) }
+    {
+        if machine >= self.settings.machines {
+            return Reply::Nowhere;
+        }
+        self.undrain_machine(rt, lane, tag, machine);
+        Reply::Undrained { machine }
+    }
+}
