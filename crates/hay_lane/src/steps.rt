@@ -4,9 +4,9 @@ ghost use Rattle.hay_meeting.specs.Acts.{Start};
 ghost use Rattle.hay_holdings.specs.Rows.{Drained, FusedDir, HomeShown};
 ghost use Rattle.hay_holdings.specs.Sights.{AtDirectory, AtVolume};
 ghost use Rattle.hay_lane.specs.Lanes.{IsOf, IsSeated, sight};
-ghost use Rattle.hay_lane.specs.Tellings.{BeginTells, DeleteTells, FinishTells, FlushTells, FrozenTells, FuseTells, PutTells, RoomTells, SettleTells, StepTells};
+ghost use Rattle.hay_lane.specs.Tellings.{BeginTells, CompactionTells, DeleteTells, FinishTells, FlushTells, FrozenTells, FuseTells, PutTells, RoomTells, SettleTells, StepTells};
 
-use crate::answers::{Begin, Delete, Finish, Flush, Put, Room, Step};
+use crate::answers::{Begin, Compaction, Delete, Finish, Flush, Put, Room, Step};
 use crate::calls::{DirectoryCalls, VolumeCalls};
 use crate::lane::{Lane, Shared};
 use hay_core::CoreTag;
@@ -207,6 +207,27 @@ impl<V: VolumeCalls, D: DirectoryCalls> Shared<V, D> {
     {
         let seat = &mut lane.volumes.as_mut_slice()[volume as usize];
         self.volumes.as_slice()[volume as usize].finish(rt, seat, tag, replica)
+    }
+
+    /// Finishes the compaction that the line itself began.
+    pub(crate) fn compact_at<R: Wait>(
+        &self,
+        rt: &R,
+        lane: &mut Lane<V::Seat, D::Seat>,
+        tag: CoreTag,
+        volume: u32,
+        replica: u32,
+    ) -> Compaction
+        requires seated { IsSeated V.fits D.fits self.now tag.lane lane.old }
+        requires volume { volume < self.now.settings.volumes }
+        requires replica { replica < self.now.settings.replicas }
+        ensures seated { IsSeated V.fits D.fits self.now tag.lane lane.new }
+        ensures same { (start : Start) → IsOf V.is_at D.is_at self.now.settings start lane.old → IsOf V.is_at D.is_at self.now.settings start lane.new }
+        ensures tells { (start : Start) → IsOf V.is_at D.is_at self.now.settings start lane.old →
+            AtVolume volume (CompactionTells (record { settings = self.now.settings; start = start; number = volume }) tag replica result) (sight V.sight D.sight lane.old) (sight V.sight D.sight lane.new) }
+    {
+        let seat = &mut lane.volumes.as_mut_slice()[volume as usize];
+        self.volumes.as_slice()[volume as usize].compact(rt, seat, tag, replica)
     }
 
     /// How many rows there are, and the home of a pair among them.
