@@ -1,5 +1,5 @@
 -- The answers of deletes at the home of a pair, whatever their calls answered.
-use Rattle.std.proofs.Common.{◌≡◌, inl, inr, ℕ, ◌<◌, Bool, List, [], ◌∷◌, sym, ap, subst, ◌∙◌, Option, Some, None}
+use Rattle.std.proofs.Common.{◌≡◌, inl, inr, ℕ, ◌<◌, Bool, List, sym, ap, subst, Option, Some, None}
 use Rattle.hay_needle.specs.declared.needle.Pair.{Pair}
 use Rattle.hay_needle.specs.declared.settings.Settings.{Settings}
 use Rattle.hay_script.specs.declared.Command.TheVariants as command

@@ -4,3 +4,4 @@ pub mod Finds
 pub mod Maintained
 pub mod Changed
 pub mod Putting
+pub mod Compacted

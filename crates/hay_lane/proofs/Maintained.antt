@@ -10,7 +10,7 @@ use Rattle.hay_legal.specs.Known.{machine_of, replica_on}
 use Rattle.hay_meeting.specs.Acts.{Start}
 use Rattle.hay_meeting.specs.Sights.{Sight}
 use Rattle.hay_holdings.specs.Lines.{IsAnswered, Unchanged}
-use Rattle.hay_holdings.specs.Sights.{AtVolume, Idle}
+use Rattle.hay_holdings.specs.Sights.{AtVolume}
 use Rattle.hay_holdings.specs.Volumes as calls
 use Rattle.hay_holdings.proofs.Going.{quiet_went}
 use Rattle.hay_holdings.proofs.Unchanged.{call_unchanged, idle_unchanged, wants_memory}

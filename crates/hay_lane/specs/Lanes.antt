@@ -29,7 +29,8 @@ sight of of_rows lane = record {
 -- WHERE IT HAS ITS SEATS
 
 -- a lock and a seat of it for each volume, and the Directory's
-pub record IsSeated {V D S T : Type 0} (fits : V → Settings → ℕ → S → Type 0) (fits_rows : D → Settings → ℕ → T → Type 0) (shared : Shared V D) (number : ℕ) (lane : Lane S T) : Type 0 where
+pub record IsSeated {V D S T : Type 0} (fits : V → Settings → ℕ → S → Type 0) (fits_rows : D → Settings → ℕ → T → Type 0)
+    (shared : Shared V D) (number : ℕ) (lane : Lane S T) : Type 0 where
   pub machines : 0 < (shared.settings).machines
   pub some : 0 < (shared.settings).volumes
   pub replicas : 0 < (shared.settings).replicas

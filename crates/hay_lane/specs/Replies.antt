@@ -12,6 +12,8 @@ use Rattle.hay_lane.specs.declared.answers.Step.{Step}
 use Rattle.hay_lane.specs.declared.answers.Step.TheVariants as step
 use Rattle.hay_lane.specs.declared.answers.Finish.{Finish}
 use Rattle.hay_lane.specs.declared.answers.Finish.TheVariants as finish
+use Rattle.hay_lane.specs.declared.answers.Compaction.{Compaction}
+use Rattle.hay_lane.specs.declared.answers.Compaction.TheVariants as compaction
 
 -- volume v is closed by this machine, if there is memory to say so
 abbrev pub IsReadOnly : ℕ → ℕ → Reply → Type 0
@@ -57,3 +59,11 @@ IsFinishReply v m finish.Idle r = r ≡ reply.Idle v m
 IsFinishReply v m (finish.Failed f) r = r ≡ reply.Failed v m f
 IsFinishReply v m (finish.Poised f) r = r ≡ reply.Failed v m f
 IsFinishReply v m finish.NoMemory r = r ≡ reply.NoMem
+
+abbrev pub IsCompactionReply : ℕ → ℕ → Compaction → Reply → Type 0
+IsCompactionReply v m (compaction.Compacted g) r = r ≡ reply.Compacted v m g
+IsCompactionReply v m (compaction.Frozen by) r = IsReadOnly v by r
+IsCompactionReply v m (compaction.Deleted f) r = r ≡ reply.Failed v m f
+IsCompactionReply v m (compaction.Failed f) r = r ≡ reply.Failed v m f
+IsCompactionReply v m (compaction.Poised f) r = r ≡ reply.Failed v m f
+IsCompactionReply v m compaction.NoMemory r = r ≡ reply.NoMem

@@ -30,6 +30,8 @@ use Rattle.hay_lane.specs.declared.answers.Step.{Step}
 use Rattle.hay_lane.specs.declared.answers.Step.TheVariants as step
 use Rattle.hay_lane.specs.declared.answers.Finish.{Finish}
 use Rattle.hay_lane.specs.declared.answers.Finish.TheVariants as finish
+use Rattle.hay_lane.specs.declared.answers.Compaction.{Compaction}
+use Rattle.hay_lane.specs.declared.answers.Compaction.TheVariants as compaction
 
 -- a volume of a store, with what stands of all locks where it is opened
 pub record StoreVolume : Type 0 where
@@ -116,6 +118,19 @@ module _ (volume : StoreVolume) (tag : CoreTag) where
   FinishTells j (finish.Poised f) a b =
       Own tag (λ who. calls.SwapFailed volume.settings volume.start volume.number tag j who (machine_of volume.settings volume.number j) f) a b
   FinishTells j finish.NoMemory a b = FinishWanted j a b
+
+  -- the line's own compaction came to its end
+  abbrev pub CompactionTells : ℕ → Compaction → VolumeCall
+  CompactionTells j (compaction.Compacted g) a b =
+      (end : ℕ) × (cells : ℕ) × calls.Swapped volume.settings volume.start volume.number tag j tag g end cells false a b
+  CompactionTells j (compaction.Frozen m) a b = calls.RunFrozen volume.settings volume.start volume.number tag j tag m a b
+  CompactionTells j (compaction.Deleted f) a b = calls.RunDeleted volume.settings volume.start volume.number tag j tag f a b
+  CompactionTells j (compaction.Failed f) a b = calls.RunFailed volume.settings volume.start volume.number tag j tag f a b
+  CompactionTells j (compaction.Poised f) a b =
+      calls.SwapFailed volume.settings volume.start volume.number tag j tag (machine_of volume.settings volume.number j) f a b
+  CompactionTells j compaction.NoMemory a b =
+      calls.RunWanted volume.settings volume.start volume.number tag j tag a b
+      ⊎ ((g : ℕ) × (end : ℕ) × (cells : ℕ) × calls.Swapped volume.settings volume.start volume.number tag j tag g end cells true a b)
 
 -- the home of the row's pair, and how many rows there are
 abbrev pub SettleTells : Start → CoreTag → HomeRow → Result (ℕ × ℕ) DirFault → DirectoryCall

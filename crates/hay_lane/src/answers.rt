@@ -84,3 +84,19 @@ pub enum Finish {
     Poised { faults: u64 },
     NoMemory,
 }
+
+/// What the end of a compaction that the line itself had begun came to.
+#[derive(Clone, Copy, Debug)]
+pub enum Compaction {
+    Compacted { generation: u64 },
+    /// It had ended, and the machine had frozen the volume.
+    Frozen { machine: u32 },
+    /// A delete of another line had ended it, since the replica's disk failed.
+    Deleted { faults: u64 },
+    /// A call of the replica's disk failed, and the compaction ended.
+    Failed { faults: u64 },
+    /// The switch of its head failed, and the volume is frozen.
+    Poised { faults: u64 },
+    /// It ended, or its files are the current ones and the volume is frozen.
+    NoMemory,
+}

@@ -8,9 +8,9 @@ ghost use Rattle.hay_meeting.specs.declared.act.VolumeAct.{VolumeAct};
 ghost use Rattle.hay_meeting.specs.Acts.{Start};
 ghost use Rattle.hay_meeting.specs.Locks.{LockSight};
 ghost use Rattle.hay_holdings.specs.Rows.{Drained, FusedDir, HomeShown};
-ghost use Rattle.hay_lane.specs.Tellings.{BeginTells, DeleteTells, FinishTells, FlushTells, FrozenTells, FuseTells, PutTells, RoomTells, SettleTells, Stays, StepTells, StoreVolume};
+ghost use Rattle.hay_lane.specs.Tellings.{BeginTells, CompactionTells, DeleteTells, FinishTells, FlushTells, FrozenTells, FuseTells, PutTells, RoomTells, SettleTells, Stays, StepTells, StoreVolume};
 
-use crate::answers::{Begin, Delete, Finish, Flush, Put, Room, Step};
+use crate::answers::{Begin, Compaction, Delete, Finish, Flush, Put, Room, Step};
 use hay_core::CoreTag;
 use hay_directory::DirFault;
 use hay_needle::{Cookie, MAX_PHOTO, Pair};
@@ -115,6 +115,18 @@ pub trait VolumeCalls {
         requires fits { (settings : Settings) × fits self.now settings tag.lane seat.old × (replica < settings.replicas) }
         ensures stays { Stays fits is_at self.now seat.old seat.new }
         ensures tells { (volume : StoreVolume) → is_at seat.old volume → FinishTells volume tag replica result (sight seat.old) (sight seat.new) };
+
+    /// Finishes the compaction of a replica that the line itself began.
+    fn compact<R: Wait>(
+        &self,
+        rt: &R,
+        seat: &mut Self::Seat,
+        tag: CoreTag,
+        replica: u32,
+    ) -> Compaction
+        requires fits { (settings : Settings) × fits self.now settings tag.lane seat.old × (replica < settings.replicas) }
+        ensures stays { Stays fits is_at self.now seat.old seat.new }
+        ensures tells { (volume : StoreVolume) → is_at seat.old volume → CompactionTells volume tag replica result (sight seat.old) (sight seat.new) };
 }
 
 /// The Directory behind its lock.

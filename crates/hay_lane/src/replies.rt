@@ -1,7 +1,7 @@
 //! How a line is answered by what its calls answered.
-ghost use Rattle.hay_lane.specs.Replies.{IsBeginReply, IsDeleteReply, IsFinishReply, IsFlushReply, IsReadOnly, IsStepReply};
+ghost use Rattle.hay_lane.specs.Replies.{IsBeginReply, IsCompactionReply, IsDeleteReply, IsFinishReply, IsFlushReply, IsReadOnly, IsStepReply};
 
-use crate::answers::{Begin, Delete, Finish, Flush, Step};
+use crate::answers::{Begin, Compaction, Delete, Finish, Flush, Step};
 use hay_base::Listed;
 use hay_reply::{ClosedBy, Reply};
 use std::alloc::Global;
@@ -132,5 +132,32 @@ pub(crate) fn finish_reply(alloc: Global, volume: u32, machine: u32, answer: Fin
             faults,
         },
         Finish::NoMemory => Reply::NoMem,
+    }
+}
+
+/// The reply to a whole compaction that was begun.
+pub(crate) fn compaction_reply(
+    alloc: Global,
+    volume: u32,
+    machine: u32,
+    answer: Compaction,
+) -> Reply
+    ensures is { IsCompactionReply volume machine answer result }
+{
+    match answer {
+        Compaction::Compacted { generation } => Reply::Compacted {
+            volume,
+            machine,
+            generation,
+        },
+        Compaction::Frozen { machine } => read_only(alloc, volume, machine),
+        Compaction::Deleted { faults }
+        | Compaction::Failed { faults }
+        | Compaction::Poised { faults } => Reply::Failed {
+            volume,
+            machine,
+            faults,
+        },
+        Compaction::NoMemory => Reply::NoMem,
     }
 }

@@ -4,9 +4,9 @@ ghost use Rattle.hay_meeting.specs.Acts.{Start};
 ghost use Rattle.hay_holdings.specs.Rows.{Drained, FusedDir, HomeShown};
 ghost use Rattle.hay_holdings.specs.Sights.{AtDirectory, AtVolume};
 ghost use Rattle.hay_lane.specs.Lanes.{IsOf, IsSeated, sight};
-ghost use Rattle.hay_lane.specs.Tellings.{BeginTells, DeleteTells, FinishTells, FlushTells, FrozenTells, FuseTells, PutTells, RoomTells, SettleTells, StepTells};
+ghost use Rattle.hay_lane.specs.Tellings.{BeginTells, CompactionTells, DeleteTells, FinishTells, FlushTells, FrozenTells, FuseTells, PutTells, RoomTells, SettleTells, StepTells};
 
-use crate::answers::{Begin, Delete, Finish, Flush, Put, Room, Step};
+use crate::answers::{Begin, Compaction, Delete, Finish, Flush, Put, Room, Step};
 use crate::calls::{DirectoryCalls, VolumeCalls};
 use crate::lane::{Lane, Shared};
 use hay_core::CoreTag;
@@ -29,7 +29,8 @@ impl<V: VolumeCalls, D: DirectoryCalls> Shared<V, D> {
         ensures seated { IsSeated V.fits D.fits self.now tag.lane lane.new }
         ensures same { (start : Start) → IsOf V.is_at D.is_at self.now.settings start lane.old → IsOf V.is_at D.is_at self.now.settings start lane.new }
         ensures tells { (start : Start) → IsOf V.is_at D.is_at self.now.settings start lane.old →
-            AtVolume volume (FrozenTells (record { settings = self.now.settings; start = start; number = volume }) tag result) (sight V.sight D.sight lane.old) (sight V.sight D.sight lane.new) }
+            AtVolume volume (FrozenTells (record { settings = self.now.settings; start = start; number = volume }) tag result)
+            (sight V.sight D.sight lane.old) (sight V.sight D.sight lane.new) }
     {
         let seat = &mut lane.volumes.as_mut_slice()[volume as usize];
         self.volumes.as_slice()[volume as usize].frozen(rt, seat, tag)
@@ -50,7 +51,8 @@ impl<V: VolumeCalls, D: DirectoryCalls> Shared<V, D> {
         ensures seated { IsSeated V.fits D.fits self.now tag.lane lane.new }
         ensures same { (start : Start) → IsOf V.is_at D.is_at self.now.settings start lane.old → IsOf V.is_at D.is_at self.now.settings start lane.new }
         ensures tells { (start : Start) → IsOf V.is_at D.is_at self.now.settings start lane.old →
-            AtVolume volume (RoomTells (record { settings = self.now.settings; start = start; number = volume }) tag size result) (sight V.sight D.sight lane.old) (sight V.sight D.sight lane.new) }
+            AtVolume volume (RoomTells (record { settings = self.now.settings; start = start; number = volume }) tag size result)
+            (sight V.sight D.sight lane.old) (sight V.sight D.sight lane.new) }
     {
         let seat = &mut lane.volumes.as_mut_slice()[volume as usize];
         self.volumes.as_slice()[volume as usize].room(rt, seat, tag, size)
@@ -74,7 +76,8 @@ impl<V: VolumeCalls, D: DirectoryCalls> Shared<V, D> {
         ensures seated { IsSeated V.fits D.fits self.now tag.lane lane.new }
         ensures same { (start : Start) → IsOf V.is_at D.is_at self.now.settings start lane.old → IsOf V.is_at D.is_at self.now.settings start lane.new }
         ensures tells { (start : Start) → IsOf V.is_at D.is_at self.now.settings start lane.old →
-            AtVolume volume (PutTells (record { settings = self.now.settings; start = start; number = volume }) tag pair cookie bytes.now result) (sight V.sight D.sight lane.old) (sight V.sight D.sight lane.new) }
+            AtVolume volume (PutTells (record { settings = self.now.settings; start = start; number = volume }) tag pair cookie bytes.now result)
+            (sight V.sight D.sight lane.old) (sight V.sight D.sight lane.new) }
     {
         let seat = &mut lane.volumes.as_mut_slice()[volume as usize];
         self.volumes.as_slice()[volume as usize].put(rt, alloc, seat, tag, pair, cookie, bytes)
@@ -95,7 +98,8 @@ impl<V: VolumeCalls, D: DirectoryCalls> Shared<V, D> {
         ensures seated { IsSeated V.fits D.fits self.now tag.lane lane.new }
         ensures same { (start : Start) → IsOf V.is_at D.is_at self.now.settings start lane.old → IsOf V.is_at D.is_at self.now.settings start lane.new }
         ensures tells { (start : Start) → IsOf V.is_at D.is_at self.now.settings start lane.old →
-            AtVolume volume (DeleteTells (record { settings = self.now.settings; start = start; number = volume }) tag pair result) (sight V.sight D.sight lane.old) (sight V.sight D.sight lane.new) }
+            AtVolume volume (DeleteTells (record { settings = self.now.settings; start = start; number = volume }) tag pair result)
+            (sight V.sight D.sight lane.old) (sight V.sight D.sight lane.new) }
     {
         let seat = &mut lane.volumes.as_mut_slice()[volume as usize];
         self.volumes.as_slice()[volume as usize].delete(rt, alloc, seat, tag, pair)
@@ -116,7 +120,8 @@ impl<V: VolumeCalls, D: DirectoryCalls> Shared<V, D> {
         ensures seated { IsSeated V.fits D.fits self.now tag.lane lane.new }
         ensures same { (start : Start) → IsOf V.is_at D.is_at self.now.settings start lane.old → IsOf V.is_at D.is_at self.now.settings start lane.new }
         ensures tells { (start : Start) → IsOf V.is_at D.is_at self.now.settings start lane.old →
-            AtVolume volume (FlushTells (record { settings = self.now.settings; start = start; number = volume }) tag replica result) (sight V.sight D.sight lane.old) (sight V.sight D.sight lane.new) }
+            AtVolume volume (FlushTells (record { settings = self.now.settings; start = start; number = volume }) tag replica result)
+            (sight V.sight D.sight lane.old) (sight V.sight D.sight lane.new) }
     {
         let seat = &mut lane.volumes.as_mut_slice()[volume as usize];
         self.volumes.as_slice()[volume as usize].flush(rt, seat, tag, replica)
@@ -138,7 +143,8 @@ impl<V: VolumeCalls, D: DirectoryCalls> Shared<V, D> {
         ensures seated { IsSeated V.fits D.fits self.now tag.lane lane.new }
         ensures same { (start : Start) → IsOf V.is_at D.is_at self.now.settings start lane.old → IsOf V.is_at D.is_at self.now.settings start lane.new }
         ensures tells { (start : Start) → IsOf V.is_at D.is_at self.now.settings start lane.old →
-            AtVolume volume (FuseTells (record { settings = self.now.settings; start = start; number = volume }) tag replica) (sight V.sight D.sight lane.old) (sight V.sight D.sight lane.new) }
+            AtVolume volume (FuseTells (record { settings = self.now.settings; start = start; number = volume }) tag replica)
+            (sight V.sight D.sight lane.old) (sight V.sight D.sight lane.new) }
     {
         let seat = &mut lane.volumes.as_mut_slice()[volume as usize];
         self.volumes.as_slice()[volume as usize].fuse(rt, seat, tag, replica, calls);
@@ -160,7 +166,8 @@ impl<V: VolumeCalls, D: DirectoryCalls> Shared<V, D> {
         ensures seated { IsSeated V.fits D.fits self.now tag.lane lane.new }
         ensures same { (start : Start) → IsOf V.is_at D.is_at self.now.settings start lane.old → IsOf V.is_at D.is_at self.now.settings start lane.new }
         ensures tells { (start : Start) → IsOf V.is_at D.is_at self.now.settings start lane.old →
-            AtVolume volume (BeginTells (record { settings = self.now.settings; start = start; number = volume }) tag replica result) (sight V.sight D.sight lane.old) (sight V.sight D.sight lane.new) }
+            AtVolume volume (BeginTells (record { settings = self.now.settings; start = start; number = volume }) tag replica result)
+            (sight V.sight D.sight lane.old) (sight V.sight D.sight lane.new) }
     {
         let seat = &mut lane.volumes.as_mut_slice()[volume as usize];
         self.volumes.as_slice()[volume as usize].begin(rt, alloc, seat, tag, replica)
@@ -182,7 +189,8 @@ impl<V: VolumeCalls, D: DirectoryCalls> Shared<V, D> {
         ensures seated { IsSeated V.fits D.fits self.now tag.lane lane.new }
         ensures same { (start : Start) → IsOf V.is_at D.is_at self.now.settings start lane.old → IsOf V.is_at D.is_at self.now.settings start lane.new }
         ensures tells { (start : Start) → IsOf V.is_at D.is_at self.now.settings start lane.old →
-            AtVolume volume (StepTells (record { settings = self.now.settings; start = start; number = volume }) tag replica cells result) (sight V.sight D.sight lane.old) (sight V.sight D.sight lane.new) }
+            AtVolume volume (StepTells (record { settings = self.now.settings; start = start; number = volume }) tag replica cells result)
+            (sight V.sight D.sight lane.old) (sight V.sight D.sight lane.new) }
     {
         let seat = &mut lane.volumes.as_mut_slice()[volume as usize];
         self.volumes.as_slice()[volume as usize].step(rt, seat, tag, replica, cells)
@@ -203,10 +211,33 @@ impl<V: VolumeCalls, D: DirectoryCalls> Shared<V, D> {
         ensures seated { IsSeated V.fits D.fits self.now tag.lane lane.new }
         ensures same { (start : Start) → IsOf V.is_at D.is_at self.now.settings start lane.old → IsOf V.is_at D.is_at self.now.settings start lane.new }
         ensures tells { (start : Start) → IsOf V.is_at D.is_at self.now.settings start lane.old →
-            AtVolume volume (FinishTells (record { settings = self.now.settings; start = start; number = volume }) tag replica result) (sight V.sight D.sight lane.old) (sight V.sight D.sight lane.new) }
+            AtVolume volume (FinishTells (record { settings = self.now.settings; start = start; number = volume }) tag replica result)
+            (sight V.sight D.sight lane.old) (sight V.sight D.sight lane.new) }
     {
         let seat = &mut lane.volumes.as_mut_slice()[volume as usize];
         self.volumes.as_slice()[volume as usize].finish(rt, seat, tag, replica)
+    }
+
+    /// Finishes the compaction that the line itself began.
+    pub(crate) fn compact_at<R: Wait>(
+        &self,
+        rt: &R,
+        lane: &mut Lane<V::Seat, D::Seat>,
+        tag: CoreTag,
+        volume: u32,
+        replica: u32,
+    ) -> Compaction
+        requires seated { IsSeated V.fits D.fits self.now tag.lane lane.old }
+        requires volume { volume < self.now.settings.volumes }
+        requires replica { replica < self.now.settings.replicas }
+        ensures seated { IsSeated V.fits D.fits self.now tag.lane lane.new }
+        ensures same { (start : Start) → IsOf V.is_at D.is_at self.now.settings start lane.old → IsOf V.is_at D.is_at self.now.settings start lane.new }
+        ensures tells { (start : Start) → IsOf V.is_at D.is_at self.now.settings start lane.old →
+            AtVolume volume (CompactionTells (record { settings = self.now.settings; start = start; number = volume }) tag replica result)
+            (sight V.sight D.sight lane.old) (sight V.sight D.sight lane.new) }
+    {
+        let seat = &mut lane.volumes.as_mut_slice()[volume as usize];
+        self.volumes.as_slice()[volume as usize].compact(rt, seat, tag, replica)
     }
 
     /// How many rows there are, and the home of a pair among them.

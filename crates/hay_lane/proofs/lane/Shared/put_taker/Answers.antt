@@ -1,4 +1,4 @@
-use Rattle.std.proofs.Common.{Err, Ok, subst}
+use Rattle.std.proofs.Common.{subst}
 use Rattle.hay_holdings.specs.Sights.{AtDirectory}
 use Rattle.hay_lane.specs.Lanes.{sight}
 use Rattle.hay_lane.specs.Tellings.{SettleTells}

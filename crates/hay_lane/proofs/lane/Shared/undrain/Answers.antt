@@ -1,4 +1,3 @@
-use Rattle.std.proofs.Common.{arith}
 use Rattle.hay_holdings.proofs.Going.{idle_same}
 use Rattle.hay_holdings.proofs.Unchanged.{undrain_nowhere, idle_unchanged}
 use Rattle.hay_holdings.proofs.WorkAnswers.{undrains}

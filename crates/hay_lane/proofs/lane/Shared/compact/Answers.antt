@@ -1,0 +1,10 @@
+use Rattle.std.proofs.Common.{sym}
+use Rattle.hay_holdings.proofs.Going.{idle_same}
+use Rattle.hay_holdings.proofs.Unchanged.{compact_nowhere, idle_unchanged}
+use Rattle.hay_lane.specs.Lanes.{sight}
+use Rattle.hay_lane.proofs.lane.Shared.compact.Goals as goal
+
+pub returns-in_default-clause-answered : goal.returns-in_default-clause-answered
+returns-in_default-clause-answered g c start of =
+    compact_nowhere c.args.self.now.settings start c.args.self.now.drained.items
+    (idle_unchanged (idle_same c.args.tag (sight g.V.VolumeCalls.sight g.D.DirectoryCalls.sight c.args.lane.now))) (sym c.in_default.ensures.is)

@@ -1,0 +1,70 @@
+//! Whole compactions.
+ghost use Rattle.std.specs.Prelude.{◌≡◌, ◌<◌, Some};
+ghost use Rattle.hay_script.specs.declared.Command.TheVariants as asks;
+ghost use Rattle.hay_legal.specs.Known as known;
+ghost use Rattle.hay_meeting.specs.Acts.{Start};
+ghost use Rattle.hay_holdings.specs.Lines.{IsAnswered};
+ghost use Rattle.hay_lane.specs.Lanes.{IsOf, IsSeated, sight};
+
+use crate::answers::Begin;
+use crate::calls::{DirectoryCalls, VolumeCalls};
+use crate::lane::{Lane, Shared};
+use crate::places::replica_on;
+use crate::replies::{begin_reply, compaction_reply};
+use hay_core::CoreTag;
+use hay_reply::Reply;
+use std::alloc::Global;
+use std::sync::Wait;
+
+impl<V: VolumeCalls, D: DirectoryCalls> Shared<V, D> {
+    /// Begins a compaction and finishes it. Other lanes may come between.
+    pub fn compact<R: Wait>(
+        &self,
+        rt: &R,
+        alloc: Global,
+        lane: &mut Lane<V::Seat, D::Seat>,
+        tag: CoreTag,
+        volume: u32,
+        machine: u32,
+    ) -> Reply
+        requires seated { IsSeated V.fits D.fits self.now tag.lane lane.old }
+        ensures seated { IsSeated V.fits D.fits self.now tag.lane lane.new }
+        ensures same { (start : Start) → IsOf V.is_at D.is_at self.now.settings start lane.old → IsOf V.is_at D.is_at self.now.settings start lane.new }
+        ensures answered { (start : Start) → IsOf V.is_at D.is_at self.now.settings start lane.old →
+            IsAnswered self.now.settings start self.now.drained.items tag (asks.Compact volume machine) result (sight V.sight D.sight lane.old) (sight V.sight D.sight lane.new) }
+    {
+        let Some(replica) = replica_on(&self.settings, volume, machine) else {
+            return Reply::Nowhere;
+        };
+        self.compact_replica(rt, alloc, lane, tag, volume, machine, replica)
+    }
+
+    // The same of the replica on the machine.
+    fn compact_replica<R: Wait>(
+        &self,
+        rt: &R,
+        alloc: Global,
+        lane: &mut Lane<V::Seat, D::Seat>,
+        tag: CoreTag,
+        volume: u32,
+        machine: u32,
+        replica: u32,
+    ) -> Reply
+        requires seated { IsSeated V.fits D.fits self.now tag.lane lane.old }
+        requires volume { volume < self.now.settings.volumes }
+        requires replica { replica < self.now.settings.replicas }
+        requires there { known.replica_on self.now.settings volume machine ≡ Some replica }
+        requires on { known.machine_of self.now.settings volume replica ≡ machine }
+        ensures seated { IsSeated V.fits D.fits self.now tag.lane lane.new }
+        ensures same { (start : Start) → IsOf V.is_at D.is_at self.now.settings start lane.old → IsOf V.is_at D.is_at self.now.settings start lane.new }
+        ensures answered { (start : Start) → IsOf V.is_at D.is_at self.now.settings start lane.old →
+            IsAnswered self.now.settings start self.now.drained.items tag (asks.Compact volume machine) result (sight V.sight D.sight lane.old) (sight V.sight D.sight lane.new) }
+    {
+        let answer = self.begin_at(rt, alloc, lane, tag, volume, replica);
+        let Begin::Begun { generation: _ } = answer else {
+            return begin_reply(alloc, volume, machine, answer);
+        };
+        let ended = self.compact_at(rt, lane, tag, volume, replica);
+        compaction_reply(alloc, volume, machine, ended)
+    }
+}
