@@ -3,3 +3,4 @@ pub mod Leaving
 pub mod Lists
 pub mod Moving
 pub mod RowLaws
+pub mod FourPlaces

@@ -4,23 +4,37 @@ ghost use Rattle.hay_map.specs.Places.{place_in, gone_place};
 ghost use Rattle.hay_map.specs.declared.place.Place.TheVariants as place_is;
 
 use crate::Place;
-use arrayvec::ArrayVec;
 use hay_disk::Piece;
 use std::marker::Model;
 
 /// The places of a pair, one for each replica and four at most. A clause sees a list.
 #[derive(Drop)]
 pub struct Row<P: Piece> {
-    places: ArrayVec<Place<P>, 4>,
+    first: Place<P>,
+    second: Place<P>,
+    third: Place<P>,
+    fourth: Place<P>,
+    count: usize,
 }
 
 impl<P: Piece> Model for Row<P> {
-    ghost use Rattle.std.specs.Prelude.{List};
+    ghost use Rattle.std.specs.Prelude.{List, [], ◌∷◌, ◌≤◌, take};
     ghost use Rattle.hay_map.specs.declared.place.Place.{Place};
 
     ghost Value = { List (Place P) };
 
-    ghost view = { λ r. r.places.items };
+    ghost view = { λ r. take r.count (r.first ∷ r.second ∷ r.third ∷ r.fourth ∷ []) };
+
+    ghost invariant = { λ r. r.count ≤ 4 };
+}
+
+// The place once the photo was deleted.
+fn gone_from<P: Piece>(place: &Place<P>) -> Place<P>
+    ensures { result ≡ gone_place place.now }
+{
+    let mut left = place.dup();
+    left.leave();
+    left
 }
 
 impl<P: Piece> Row<P> {
@@ -29,7 +43,11 @@ impl<P: Piece> Row<P> {
         ensures { result ≡ [] }
     {
         Row {
-            places: ArrayVec::new(),
+            first: Place::None,
+            second: Place::None,
+            third: Place::None,
+            fourth: Place::None,
+            count: 0,
         }
     }
 
@@ -38,11 +56,13 @@ impl<P: Piece> Row<P> {
         requires { replicas ≤ 4 }
         ensures { result ≡ replicate replicas place_is.None }
     {
-        let mut row = Row::new();
-        for _ in 0..replicas {
-            row.push(Place::None);
+        Row {
+            first: Place::None,
+            second: Place::None,
+            third: Place::None,
+            fourth: Place::None,
+            count: replicas,
         }
-        row
     }
 
     /// These places once more.
@@ -70,7 +90,13 @@ impl<P: Piece> Row<P> {
         requires { length self.old < 4 }
         ensures { self.new ≡ self.old ++ place ∷ [] }
     {
-        self.places.push(place);
+        match self.count {
+            0 => self.first = place,
+            1 => self.second = place,
+            2 => self.third = place,
+            _ => self.fourth = place,
+        }
+        self.count += 1;
     }
 
     /// The number of places.
@@ -78,7 +104,7 @@ impl<P: Piece> Row<P> {
         ensures is { result ≡ length self.now }
         ensures most { result ≤ 4 }
     {
-        self.places.len()
+        self.count
     }
 
     /// The place of a replica.
@@ -86,26 +112,37 @@ impl<P: Piece> Row<P> {
         requires { replica < length self.now }
         ensures { result.now ≡ place_in self.now replica }
     {
-        &self.places.as_slice()[replica]
+        match replica {
+            0 => &self.first,
+            1 => &self.second,
+            2 => &self.third,
+            _ => &self.fourth,
+        }
     }
 
     /// The same places once more.
     pub fn dup(&self) -> Row<P>
         ensures { result ≡ self.now }
     {
-        Row::of(self.places.as_slice())
+        Row {
+            first: self.first.dup(),
+            second: self.second.dup(),
+            third: self.third.dup(),
+            fourth: self.fourth.dup(),
+            count: self.count,
+        }
     }
 
     /// The places once the photo was deleted from every replica.
     pub fn gone(&self) -> Row<P>
         ensures { result ≡ map gone_place self.now }
     {
-        let mut row = Row::new();
-        for place in self.places.as_slice() {
-            let mut left = place.dup();
-            left.leave();
-            row.push(left);
+        Row {
+            first: gone_from(&self.first),
+            second: gone_from(&self.second),
+            third: gone_from(&self.third),
+            fourth: gone_from(&self.fourth),
+            count: self.count,
         }
-        row
     }
 }

@@ -11,7 +11,7 @@ pub set_row-requires : goal.set_row-requires
 set_row-requires g c =
     let known : has_row c.args.self.now c.args.pair ≡ true = has_row_is c.args.self.now c.args.pair ∙ sym (ap is_some c.offset.ensures) ∙ sym c.is_some.ensures ∙ c.if-is_some.true in
     let long : length c.gone-row.result ≡ c.args.self.now.replicas = ap length c.gone-row.ensures ∙ length-map c.row.result gone_place ∙ c.row.ensures.long in
-    (search rules, (search rules, (known, long)))
+    record { known = known; long = long }
 
 pub returns-then-is_some : goal.returns-then-is_some
 returns-then-is_some g c = del_changes _ _ _ (rw (← c.row.ensures.row, ← c.gone-row.ensures) c.set_row.ensures)

@@ -4,7 +4,7 @@ use Rattle.hay_map.proofs.view.MapView.move_place.Goals as goal
 
 pub set_place-requires : goal.set_place-requires
 set_place-requires g c =
-    (search rules, (stood_known c.args.self.now c.args.pair c.args.replica c.requires (sym c.has_place.ensures ∙ c.if-has_place.true), c.requires))
+    record { known = stood_known c.args.self.now c.args.pair c.args.replica c.requires (sym c.has_place.ensures ∙ c.if-has_place.true); replica = c.requires }
 
 pub returns-then-has_place : goal.returns-then-has_place
 returns-then-has_place g c = moves_set _ _ _ _ _ c.set_place.ensures.set (sym c.has_place.ensures ∙ c.if-has_place.true)

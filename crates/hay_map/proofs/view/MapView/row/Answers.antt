@@ -10,7 +10,7 @@ part-requires g c =
     let long : length c.as_slice.result.now ≡ length c.self.inside.places.items = ap length c.as_slice.ensures.value in
     let few : c.self.inside.replicas ≤ 4 = c.self.invariant.most in
     let within : c.in-Some.at + c.self.inside.replicas ≤ length c.as_slice.result.now = omega arith in
-    (search rules, (within, few))
+    (within, few)
 
 pub returns-in-Some-clause-row : goal.returns-in-Some-clause-row
 returns-in-Some-clause-row g c =

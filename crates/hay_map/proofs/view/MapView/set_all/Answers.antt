@@ -10,7 +10,7 @@ set_place-requires g c =
     let had : has_row c.args.self.now c.cell-item.result.pair ≡ true =
     ap (λ (cell : OpenCell _). has_row c.args.self.now cell.pair) c.cell-item.is ∙ all_known_at c.args.self.now c.args.cells.now c.loop-cell.cell-index c.cell-item.result c.requires.known c.loop-cell-test.true in
     let replica : c.args.replica < c.loop-cell.self.replicas = omega (arith, c.loop-cell.invariant.replicas, c.requires.replica) in
-    (search rules, (c.loop-cell.invariant.known c.cell-item.result.pair had, replica))
+    record { known = c.loop-cell.invariant.known c.cell-item.result.pair had; replica = replica }
 
 pub loop-cell-init : goal.loop-cell-init
 loop-cell-init g c = gives_none _ _
