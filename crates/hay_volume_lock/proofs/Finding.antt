@@ -1,8 +1,8 @@
 -- What a call found and did, as a step of a lane.
-use Rattle.std.proofs.Common.{◌≡◌, ◌≢◌, inl, inr, ℕ, ◌+◌, ◌<◌, ◌≤◌, List, [], ◌∷◌, ◌++◌, length, Option, Some, None, option_map, refl, sym, ap, subst, ◌∙◌, arith}
+use Rattle.std.proofs.Common.{◌⊎◌, ◌≡◌, ◌≢◌, inl, inr, ℕ, ◌+◌, ◌<◌, ◌≤◌, List, [], ◌∷◌, ◌++◌, length, Option, Some, None, option_map, refl, sym, ap, subst, ◌∙◌, arith}
 use Rattle.std.specs.Prelude.{◌==◌, slice_index_or, find, IsNone, IfSome, ◌↔◌, Result, Ok, Err}
 use Rattle.std.specs.List.{enumerate_from}
-use Rattle.std.proofs.lemmas.Bool.{cond-true, eq-eqb}
+use Rattle.std.proofs.lemmas.Bool.{cases_order, cond-true, eq-eqb}
 use Rattle.std.proofs.lemmas.List.{get_or-set_same}
 use Rattle.hay_core.specs.declared.entry.CoreTag.{CoreTag}
 use Rattle.hay_core.specs.declared.entry.Entry.{Entry}
@@ -20,7 +20,7 @@ use Rattle.hay_logical.specs.declared.fault.LogicalFault.{LogicalFault}
 use Rattle.hay_logical.specs.declared.fault.LogicalFault.TheVariants.{Busy, Damaged, Failed, Full, Gone, Idle, NoMemory, ReadOnly, Worn}
 use Rattle.hay_logical.specs.Fits.{At}
 use Rattle.hay_logical.specs.Stands.{Stands}
-use Rattle.hay_logical.specs.Volumes.{IsOfSettings}
+use Rattle.hay_logical.specs.Volumes.{IsOfSettings, IsOpenVolume, IsSame}
 use Rattle.hay_logical.proofs.Lists.{at_there}
 use Rattle.hay_logical.proofs.Machines.{same_machine}
 use Rattle.hay_meeting.specs.declared.act.VolumeAct.{VolumeAct}
@@ -75,6 +75,26 @@ module _ (volume : StoreVolume) (tag : CoreTag) (held : List VolumeAct) (a b : L
       never : (at : Option (ℕ × ReplicaKnown)) (f g : ℕ × ReplicaKnown → ℕ) (x : ℕ) → option_map (λ at. NoRoom volume.number (f at) (g at) x) at ≡ Some (Closed w m) → ⊥
       never None f g x e = absurd cc
       never (Some at) f g x e = absurd cc
+
+-- LOOKS AT WHAT STANDS
+
+module _ {D P : Type 0} (Tells : Type 0) (files : D → Files) (PieceTells : Type 0) (faults fuses : D → ℕ) (tag : CoreTag) (kept : Guarded D P) where
+  pub frozen_found : (machine : Option ℕ) → (Tells → (k : VolumeKnown) → Stands files PieceTells kept.logical k → machine ≡ k.frozen)
+      → Found Tells files PieceTells faults fuses tag kept None (λ volume. FrozenAnswer volume tag machine)
+  frozen_found machine known opened held h tells k s volume at a b holding =
+      frozen_answer volume tag held a b holding machine
+      (known tells (stood_of faults fuses opened k held).volume (h.stands tells k s) ∙ ap (λ (z : Standing). (z.volume).frozen) (stood_is faults fuses opened k volume held at))
+
+  pub room_found : (size : ℕ) (answer : Result Unit LogicalFault) → (Tells → (k : VolumeKnown) → Stands files PieceTells kept.logical k
+      → answer ≡ logical.room_answer (kept.logical).settings k.frozen (room_refusal_of (kept.logical).settings (kept.logical).number k size))
+      → Found Tells files PieceTells faults fuses tag kept None (λ volume. RoomAnswer volume tag size answer)
+  room_found size answer known opened held h tells k s volume at a b holding =
+      let now : VolumeKnown = volume_stood volume.start volume.number held in
+      room_answer_by volume tag held a b holding size answer now.frozen (room_refusal_of volume.settings volume.number now size) refl refl
+      (known tells (stood_of faults fuses opened k held).volume (h.stands tells k s)
+      ∙ ap (λ (z : Standing). logical.room_answer (kept.logical).settings (z.volume).frozen (room_refusal_of (kept.logical).settings (kept.logical).number z.volume size)) (stood_is faults fuses opened k volume held at)
+      ∙ ap (λ (z : Settings). logical.room_answer z now.frozen (room_refusal_of z (kept.logical).number now size)) (h.same_settings ∙ sym at.settings)
+      ∙ ap (λ (z : ℕ). logical.room_answer volume.settings now.frozen (room_refusal_of volume.settings z now size)) (h.number ∙ sym at.number))
 
 -- CALLS OF THE DISKS
 
@@ -410,3 +430,31 @@ module _ {D P : Type 0} (Tells : Type 0) (files : D → Files) (PieceTells : Typ
           (λ i less. ap (λ (l : List CoreTag). slice_index_or l i nobody) begun) act is,
       λ opened held h k volume at a b holding. record { held = held; made = Some act; holding = holding; is = ap (λ (z : VolumeAct). did_of z.did) is },
     )
+
+  -- what a call that sets a fuse tells of the volume and of its disks
+  pub fuse_goes : IsOpenVolume old.logical → IsOpenVolume new.logical → IsSame old.logical new.logical → length (new.logical).replicas ≡ length (old.logical).replicas
+      → new.settings ≡ old.settings → new.front ≡ old.front → new.begun ≡ old.begun → (j : ℕ) → j < ((old.logical).settings).replicas
+      → ((r r' : Copy D) → At (old.logical).replicas j r → At (new.logical).replicas j r' → IsNext (fuses r.disk) (fuses r'.disk) × (faults r'.disk ≡ faults r.disk))
+      → ((i : ℕ) → (i ≡ j → ⊥) → (r r' : Copy D) → At (old.logical).replicas i r → At (new.logical).replicas i r' → r' ≡ r)
+      → (Tells → (k : VolumeKnown) → Stands files PieceTells old.logical k → Stands files PieceTells new.logical k)
+      → (act : VolumeAct) → Behind (made_is.Fuses j) act → Goes (Some act) × Always (Some act) (λ volume. Fused volume.settings volume.start volume.number tag j)
+  fuse_goes open_old open_new same count settings front begun j within fused others stands act is =
+      fuse_made of j within begun
+      (fuse_leads of j within open_old.all (λ r r' e f. (fused r r' e f).0) (λ i other r r' e f. ap (λ (x : Copy D). fuses x.disk) (others i other r r' e f))) stands act is
+    where
+      rises : (i : ℕ) (r r' : Copy D) → At (old.logical).replicas i r → At (new.logical).replicas i r' → faults r.disk ≤ faults r'.disk
+      rises i r r' e f = elim (cases_order i j) [
+        | inl here ↦
+            let stay = (fused r r' (subst (λ (n : ℕ). At (old.logical).replicas n r) here e) (subst (λ (n : ℕ). At (new.logical).replicas n r') here f)).1 in
+            (let h : faults r.disk ≤ faults r'.disk = omega (arith, stay) in h)
+        | inr away ↦
+            let stay = ap (λ (x : Copy D). faults x.disk) (others i (apart i j away) r r' e f) in
+            (let h : faults r.disk ≤ faults r'.disk = omega (arith, stay) in h)
+      ]
+        where
+          apart : (i j : ℕ) → (i < j) ⊎ (j < i) → i ≡ j → ⊥
+          apart i j (inl less) same = omega (arith, less, same)
+          apart i j (inr more) same = omega (arith, more, same)
+
+      of : IsOfOne faults old new
+      of = record { settings = settings; front = front; same = same; is_open = open_new; count = count; rises = rises }

@@ -1,5 +1,5 @@
 -- What a holding tells of a lane.
-use Rattle.std.proofs.Common.{◌≡◌, ℕ, false, List, [], ◌∷◌, ◌++◌, Option, Some, refl, sym, ap, subst, ◌∙◌, append-nil}
+use Rattle.std.proofs.Common.{◌≡◌, ℕ, true, false, List, [], ◌∷◌, ◌++◌, append_assoc, Option, Some, None, refl, sym, ap, subst, ◌∙◌, append-nil}
 use Rattle.std.specs.List.{AllByRecursion as Each}
 use Rattle.hay_core.specs.declared.entry.CoreTag.{CoreTag}
 use Rattle.hay_core.specs.declared.entry.Entry.{Entry}
@@ -11,15 +11,22 @@ use Rattle.hay_meeting.specs.Acts.{volume_lock}
 use Rattle.hay_meeting.specs.Locks.{LockSight, entries, left}
 use Rattle.hay_meeting.specs.Sights.{stood}
 use Rattle.hay_meeting.proofs.Replays.{entries_append}
-use Rattle.hay_holdings.specs.Holdings.{Holding}
+use mathlib.Core.List.{IsPrefix}
+use Rattle.hay_front.specs.Fronts.{IsBehind, Witness}
+use Rattle.hay_holdings.specs.Holdings.{Holding, sight_of}
+use Rattle.hay_logical.specs.Volumes.{Volume}
+use Rattle.hay_turn.specs.Seats.{Holds, SeatState, after_free}
+use Rattle.hay_views.specs.declared.places.Published.{Published}
+use Rattle.hay_views.specs.MapPasts.{MapPast, entered_by}
 use Rattle.hay_holdings.specs.Volumes.{VolumeCall}
 use Rattle.hay_turn.specs.Acts.{AllOf}
 use Rattle.hay_turn.specs.Slots.{acts_in}
 use Rattle.hay_volume_lock.specs.Answers.{Found, FoundAlways, IsAlways, IsAt, IsTold, OneHolding, StoreVolume}
 use Rattle.hay_volume_lock.specs.Keeping.{GoesOn, IsKept, stood_of}
-use Rattle.hay_volume_lock.specs.Seats.{IsSameSeat, Seated, Takes, freed, holding}
+use Rattle.hay_volume_lock.specs.Seats.{IsSameSeat, IsSeated, Seated, Takes, freed, holding}
 use Rattle.hay_volume_lock.specs.declared.guarded.Guarded.{Guarded}
 use Rattle.hay_volume_lock.specs.declared.guarded.Opened.{Opened}
+use Rattle.hay_volume_lock.proofs.Growing.{goes_nowhere}
 
 -- what stood of the volume, in the terms of the store
 pub stood_is : {D P : Type 0} (faults fuses : D → ℕ) (opened : Opened D P) (k : VolumeKnown) (volume : StoreVolume) (held : List VolumeAct)
@@ -73,3 +80,83 @@ module _ {D P : Type 0} (Tells : Type 0) (files : D → Files) (PieceTells : Typ
       pub same_seat : old.holds ≡ false → IsSameSeat old new
       same_seat rests = let e : new ≡ freed (holding old (mid.sight).seen) (acts_in made) = is_new ∙ ap (λ (s : Seated D P). freed s (acts_in made)) takes.same in
           e ∙ ap (λ b. record (freed (holding old (mid.sight).seen) (acts_in made)) { holds = b }) (sym rests) ∙ ap (λ (s : LockSight VolumeAct Entry). record old { sight = s }) (sym (ap (λ (s : Seated D P). s.sight) e))
+
+-- WHERE IT BEGINS
+
+abbrev View : Type 0 → Type 0 → Type 0
+View D P = Witness (MapPast P (Volume D P)) (Volume D P) (Published P)
+
+-- a lane's seats at the turn and at the view
+abbrev pub seat_of : {D P : Type 0} → SeatState (Opened D P) VolumeAct → View D P → Seated D P
+seat_of t v = record { lock = t.turn; number = t.number; start = t.start; holds = t.holds; sight = sight_of t (entered_by v.deeds) }
+
+entered_both : {P : Type 0} (xs ys : List (Published P)) → entered_by (xs ++ ys) ≡ entered_by xs ++ entered_by ys
+entered_both [] ys = refl
+entered_both (x ∷ xs) ys = ap (λ (l : List Entry). x.entered ++ l) (entered_both xs ys) ∙ sym (append_assoc x.entered (entered_by xs) (entered_by ys))
+
+pub entered_prefix : {P : Type 0} (xs ys : List (Published P)) → IsPrefix xs ys → IsPrefix (entered_by xs) (entered_by ys)
+entered_prefix xs ys p = (entered_by p.0, sym (entered_both xs p.0) ∙ ap entered_by p.1)
+
+module _ {D P : Type 0} (Tells : Type 0) (files : D → Files) (PieceTells : Type 0) (faults fuses : D → ℕ) where
+  pub took : (t t' : SeatState (Opened D P) VolumeAct) (v v' : View D P) (kept : Guarded D P) → IsSeated Tells t.start v
+      → Holds (λ act. act.seat) (λ opened acts x. IsKept Tells files PieceTells faults fuses opened acts x) t t' kept
+      → IsBehind v (kept.front).shown → v' ≡ (kept.front).shown → Takes Tells files PieceTells faults fuses (seat_of t v) (seat_of t' v') kept
+  took t t' v v' kept seated holds behind all =
+      let is_kept : IsKept Tells files PieceTells faults fuses seated.opened t'.seen kept = holds.stands_for seated.opened seated.is in record {
+        opened = seated.opened;
+        start = seated.is;
+        is_kept = is_kept;
+        same = ap (λ (z : SeatState (Opened D P) VolumeAct). record (seat_of z v') { sight = record { seen = t'.seen; own = z.own; shown = entered_by v'.deeds } }) holds.same
+            ∙ ap (λ (l : List Entry). record (seat_of t v) { holds = true; sight = record { seen = t'.seen; own = t.own; shown = l } })
+            (ap (λ (z : View D P). entered_by z.deeds) all ∙ is_kept.entered);
+        seen = holds.seen;
+        shown = subst (λ (l : List Entry). IsPrefix (entered_by v.deeds) l) is_kept.entered (entered_prefix v.deeds ((kept.front).shown).deeds behind.2);
+      }
+
+  -- a holding that made no act
+  module _ (tag : CoreTag) (t t' t'' : SeatState (Opened D P) VolumeAct) (v v' : View D P) (kept : Guarded D P) (seated : IsSeated Tells t.start v)
+      (holds : Holds (λ act. act.seat) (λ opened acts x. IsKept Tells files PieceTells faults fuses opened acts x) t t' kept)
+      (behind : IsBehind v (kept.front).shown) (all : v' ≡ (kept.front).shown) (free : t'' ≡ after_free t' []) where
+    -- the volume may be put back as it was
+    pub quiet_free : (opened : Opened D P) → t'.start ≡ Some opened → IsKept Tells files PieceTells faults fuses opened (t'.seen ++ []) kept
+    quiet_free = may_free Tells files PieceTells faults fuses tag (seat_of t v) (seat_of t' v') kept (took t t' v v' kept seated holds behind all) kept None
+        (goes_nowhere Tells files PieceTells faults fuses tag kept)
+
+    pub quiet_told : (Is : StoreVolume → VolumeCall) → Found Tells files PieceTells faults fuses tag kept None Is
+        → IsTold Tells files PieceTells faults fuses t.start (λ volume. Is volume (seat_of t v).sight (seat_of t'' v').sight)
+    quiet_told = told Tells files PieceTells faults fuses tag (seat_of t v) (seat_of t' v') kept (took t t' v v' kept seated holds behind all) kept None
+        (goes_nowhere Tells files PieceTells faults fuses tag kept) (seat_of t'' v') (ap (λ (z : SeatState (Opened D P) VolumeAct). seat_of z v') free)
+
+    pub quiet_held : OneHolding tag (seat_of t v).sight (seat_of t'' v').sight
+    quiet_held = one_holding Tells files PieceTells faults fuses tag (seat_of t v) (seat_of t' v') kept (took t t' v v' kept seated holds behind all) kept None
+        (goes_nowhere Tells files PieceTells faults fuses tag kept) (seat_of t'' v') (ap (λ (z : SeatState (Opened D P) VolumeAct). seat_of z v') free)
+
+    pub quiet_same : t.holds ≡ false → IsSameSeat (seat_of t v) (seat_of t'' v')
+    quiet_same = same_seat Tells files PieceTells faults fuses tag (seat_of t v) (seat_of t' v') kept (took t t' v v' kept seated holds behind all) kept None
+        (goes_nowhere Tells files PieceTells faults fuses tag kept) (seat_of t'' v') (ap (λ (z : SeatState (Opened D P) VolumeAct). seat_of z v') free)
+
+  -- a holding that made an act
+  module _ (tag : CoreTag) (t t' t'' : SeatState (Opened D P) VolumeAct) (v v' : View D P) (kept after : Guarded D P) (act : VolumeAct) (seated : IsSeated Tells t.start v)
+      (holds : Holds (λ act. act.seat) (λ opened acts x. IsKept Tells files PieceTells faults fuses opened acts x) t t' kept)
+      (behind : IsBehind v (kept.front).shown) (all : v' ≡ (kept.front).shown)
+      (goes : GoesOn Tells files PieceTells faults fuses tag kept after (Some act)) (free : t'' ≡ after_free t' (act ∷ [])) where
+    -- the volume may be put back behind it
+    pub acted_free : (opened : Opened D P) → t'.start ≡ Some opened → IsKept Tells files PieceTells faults fuses opened (t'.seen ++ act ∷ []) after
+    acted_free = may_free Tells files PieceTells faults fuses tag (seat_of t v) (seat_of t' v') kept (took t t' v v' kept seated holds behind all) after (Some act) goes
+
+    pub acted_mine : t.number ≡ tag.lane → AllOf (λ act. act.seat) t'.number (act ∷ [])
+    acted_mine = mine Tells files PieceTells faults fuses tag (seat_of t v) (seat_of t' v') kept (took t t' v v' kept seated holds behind all) after (Some act) goes
+
+    pub acted_told : (Is : StoreVolume → VolumeCall) → Found Tells files PieceTells faults fuses tag kept (Some act) Is
+        → IsTold Tells files PieceTells faults fuses t.start (λ volume. Is volume (seat_of t v).sight (seat_of t'' v').sight)
+    acted_told = told Tells files PieceTells faults fuses tag (seat_of t v) (seat_of t' v') kept (took t t' v v' kept seated holds behind all) after (Some act) goes
+        (seat_of t'' v') (ap (λ (z : SeatState (Opened D P) VolumeAct). seat_of z v') free)
+
+    pub acted_always : (Is : StoreVolume → VolumeCall) → FoundAlways Tells files PieceTells faults fuses tag kept (Some act) Is
+        → IsAlways faults fuses t.start (λ volume. Is volume (seat_of t v).sight (seat_of t'' v').sight)
+    acted_always = always Tells files PieceTells faults fuses tag (seat_of t v) (seat_of t' v') kept (took t t' v v' kept seated holds behind all) after (Some act) goes
+        (seat_of t'' v') (ap (λ (z : SeatState (Opened D P) VolumeAct). seat_of z v') free)
+
+    pub acted_same : t.holds ≡ false → IsSameSeat (seat_of t v) (seat_of t'' v')
+    acted_same = same_seat Tells files PieceTells faults fuses tag (seat_of t v) (seat_of t' v') kept (took t t' v v' kept seated holds behind all) after (Some act) goes
+        (seat_of t'' v') (ap (λ (z : SeatState (Opened D P) VolumeAct). seat_of z v') free)
