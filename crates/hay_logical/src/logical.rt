@@ -920,6 +920,7 @@ impl<D: Disk> Logical<D> {
         ensures open { IsOpenVolume self.old → IsOpenVolume self.new }
         ensures fused { (r r' : Copy D) → At self.old.replicas replica r → At self.new.replicas replica r' →
             IsNext (D.fuse_count r.disk) (D.fuse_count r'.disk) × (D.fault_count r'.disk ≡ D.fault_count r.disk) }
+        ensures files { D.Tells → (r r' : Copy D) → At self.old.replicas replica r → At self.new.replicas replica r' → D.files r'.disk ≡ D.files r.disk }
         ensures others { (j : ℕ) → (j ≡ replica → ⊥) → (r r' : Copy D) → At self.old.replicas j r → At self.new.replicas j r' → r' ≡ r }
         ensures count { length self.new.replicas ≡ length self.old.replicas }
         ensures still { self.new ≡ record self.old { replicas = self.new.replicas } }
