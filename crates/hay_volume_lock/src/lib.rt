@@ -19,7 +19,6 @@
 mod act;
 mod guarded;
 mod lock;
-mod making;
 mod seat;
 mod told;
 mod tries;
@@ -27,6 +26,5 @@ mod tries;
 pub use act::Act;
 pub use guarded::{Guarded, Opened};
 pub use lock::VolumeLock;
-pub use making::{NewLock, SeatRoom};
 pub use seat::VolumeSeat;
 pub use told::Told;
