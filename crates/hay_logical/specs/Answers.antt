@@ -1,5 +1,5 @@
 -- What the calls of a logical volume answer.
-use Rattle.std.specs.Prelude.{◌≡◌, ◌⊎◌, ℕ, ◌<◌, ◌≤◌, ◌+◌, min, Bool, true, false, List, [], ◌∷◌, length, slice_get, Option, Some, None, Result, Ok, Err}
+use Rattle.std.specs.Prelude.{◌≡◌, ◌⊎◌, ℕ, ◌<◌, ◌≤◌, ◌+◌, ◌-◌, min, Bool, true, false, List, [], ◌∷◌, length, slice_get, Option, Some, None, Result, Ok, Err}
 use Rattle.std.specs.List.{list_any}
 use Rattle.hay_needle.specs.declared.needle.Cookie.{Cookie}
 use Rattle.hay_needle.specs.declared.needle.Pair.{Pair}
@@ -304,7 +304,7 @@ StepRefused files Tells k replica cells old new Idle = (k.frozen ≡ None) × ((
 StepRefused files Tells k replica cells old new (Failed m faults) =
     (k.frozen ≡ None) × (m ≡ machine_of old.settings old.number replica) × IsRunning k replica × Stands files Tells new (change_at k replica without_run)
 StepRefused files Tells k replica cells old new NoMemory =
-    (k.frozen ≡ None) × ((run : Run) × (n : ℕ) × ((replica_at k replica).run ≡ Some run) × (n ≤ min cells run.left) × StandsStepped files Tells k replica run n new)
+    (k.frozen ≡ None) × ((run : Run) × (n : ℕ) × ((replica_at k replica).run ≡ Some run) × (n ≤ min (cells - 1) run.left) × StandsStepped files Tells k replica run n new)
 StepRefused files Tells k replica cells old new (Full m end need capacity) = ⊥
 StepRefused files Tells k replica cells old new (Gone front) = ⊥
 StepRefused files Tells k replica cells old new (Busy m generation) = ⊥
