@@ -66,6 +66,18 @@ IsPutFault faults settings v old new (Worn m) = ⊥
 IsPutFault faults settings v old new Idle = ⊥
 IsPutFault faults settings v old new (Damaged m at) = ⊥
 
+-- a put that has room is refused only so
+abbrev pub BreaksPutOff : LogicalFault → Type 0
+BreaksPutOff (Failed machine printed) = Unit {0}
+BreaksPutOff NoMemory = Unit {0}
+BreaksPutOff (ReadOnly m) = ⊥
+BreaksPutOff (Full machine end need capacity) = ⊥
+BreaksPutOff (Gone front) = ⊥
+BreaksPutOff (Busy m generation) = ⊥
+BreaksPutOff (Worn m) = ⊥
+BreaksPutOff Idle = ⊥
+BreaksPutOff (Damaged m at) = ⊥
+
 abbrev pub IsDeleteFault : {D : Type 0} → (D → ℕ) → Settings → ℕ → List (Copy D) → List (Copy D) → LogicalFault → Type 0
 IsDeleteFault faults settings v old new (Failed machine printed) = HasFailed faults settings v old new machine printed
 IsDeleteFault faults settings v old new (ReadOnly m) = IsMachineOf settings v m

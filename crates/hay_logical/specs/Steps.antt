@@ -280,6 +280,7 @@ pub record FusesAt {D : Type 0} (DiskTells : Type 0) (files : D → Files) (faul
   pub holds : DiskTells → (stuck : Bool) (s t : Stored) → physical.Holds files r stuck s t → physical.Holds files r' stuck s t
   pub run : DiskTells → (s : Stored) (run : Option Run) → HasRun files r s run → HasRun files r' s run
   pub reach : StaysInReach DiskTells files r r'
+  pub same_files : DiskTells → files r'.disk ≡ files r.disk
   pub same_faults : faults r'.disk ≡ faults r.disk
   pub next : IsNext (fuses r.disk) (fuses r'.disk)
 
