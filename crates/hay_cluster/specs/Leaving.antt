@@ -6,6 +6,8 @@ use Rattle.hay_script.specs.declared.Command.{Command}
 use Rattle.hay_script.specs.declared.Command.TheVariants as asks
 use Rattle.hay_reply.specs.declared.Reply.{Reply}
 use Rattle.hay_reply.specs.declared.Reply.TheVariants as reply
+use Rattle.hay_logical.specs.declared.fault.LogicalFault.{LogicalFault}
+use Rattle.hay_logical.specs.declared.fault.LogicalFault.TheVariants as refusal
 use Rattle.hay_legal.specs.Known.{disk_count, replica_on, slot_of}
 use Rattle.hay_legal.specs.Stands.{Contents}
 
@@ -40,6 +42,30 @@ LeavesIn Among old new = (slot : ℕ) → Among slot → slice_get new slot ≡ 
 -- reads of the disks in these slots give what they gave
 abbrev pub KeepsIn : Settings → (ℕ → Type 0) → (ℕ → Contents) → (ℕ → Contents) → Type 0
 KeepsIn settings Among old new = (slot file : ℕ) → slot < disk_count settings → Among slot → new slot file ≡ old slot file
+
+-- A delete that a volume refused leaves every disk, unless one failed.
+abbrev pub DeleteKeeps : Settings → (ℕ → Contents) → (ℕ → Contents) → LogicalFault → Type 0
+DeleteKeeps settings old new (refusal.Failed m f) = Unit {0}
+DeleteKeeps settings old new (refusal.ReadOnly m) = KeepsIn settings AnySlot old new
+DeleteKeeps settings old new (refusal.Full m end need capacity) = KeepsIn settings AnySlot old new
+DeleteKeeps settings old new (refusal.Gone front) = KeepsIn settings AnySlot old new
+DeleteKeeps settings old new (refusal.Busy m generation) = KeepsIn settings AnySlot old new
+DeleteKeeps settings old new (refusal.Worn m) = KeepsIn settings AnySlot old new
+DeleteKeeps settings old new refusal.Idle = KeepsIn settings AnySlot old new
+DeleteKeeps settings old new (refusal.Damaged m at) = KeepsIn settings AnySlot old new
+DeleteKeeps settings old new refusal.NoMemory = KeepsIn settings AnySlot old new
+
+-- A put leaves every disk where its volume is closed or lacks room.
+abbrev pub PutKeeps : Settings → (ℕ → Contents) → (ℕ → Contents) → LogicalFault → Type 0
+PutKeeps settings old new (refusal.ReadOnly m) = KeepsIn settings AnySlot old new
+PutKeeps settings old new (refusal.Full m end need capacity) = KeepsIn settings AnySlot old new
+PutKeeps settings old new (refusal.Failed m f) = Unit {0}
+PutKeeps settings old new (refusal.Gone front) = Unit {0}
+PutKeeps settings old new (refusal.Busy m generation) = Unit {0}
+PutKeeps settings old new (refusal.Worn m) = Unit {0}
+PutKeeps settings old new refusal.Idle = Unit {0}
+PutKeeps settings old new (refusal.Damaged m at) = Unit {0}
+PutKeeps settings old new refusal.NoMemory = Unit {0}
 
 -- COMMANDS
 
