@@ -74,7 +74,7 @@ IsLaterTally before after =
 abbrev pub IsRestartText : Type 0 → Settings → Tally → Tally → Command → ℕ → List ℕ → Type 0
 IsRestartText Tells settings before after command number text =
     (pick : ℕ) × (rows : ℕ) × (notes : List Note) × (command ≡ asks.Restart pick) × FitsReply (Restarted rows) × TellsPending settings before.pending notes × AllByRecursion FitsNote notes
-    × (after.pending ≡ none_pending settings) × (text ≡ numbered_line number (Restarted rows) ++ flat_map note_line notes) × (Tells → IsUndamaged settings after.contents)
+    × (after.pending ≡ none_pending settings) × (after.counts.arms ≡ before.counts.arms) × (text ≡ numbered_line number (Restarted rows) ++ flat_map note_line notes) × (Tells → IsUndamaged settings after.contents)
 
 -- the text of another command: a reply with numbers of their types, which the command of this line may be given, which tells of a
 -- failure only where the count that it prints rose, and never of an arm that is sure, and by which it is known what it left pending, and
