@@ -1,5 +1,6 @@
 pub mod Alike
 pub mod Beginning
+pub mod Bytes
 pub mod Calls
 pub mod Changing
 pub mod Compacted
@@ -12,7 +13,6 @@ pub mod Finishing
 pub mod Freezing
 pub mod Holding
 pub mod Knowing
-pub mod Layouts
 pub mod Lists
 pub mod Looking
 pub mod Machines

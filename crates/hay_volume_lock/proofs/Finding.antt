@@ -1,8 +1,8 @@
 -- What a call found and did, as a step of a lane.
-use Rattle.std.proofs.Common.{◌≡◌, ◌≢◌, inl, inr, ℕ, ◌+◌, ◌<◌, ◌≤◌, List, [], ◌∷◌, ◌++◌, length, Option, Some, None, option_map, refl, sym, ap, subst, ◌∙◌, arith}
-use Rattle.std.specs.Prelude.{◌==◌, slice_index_or, find, IsNone, IfSome, ◌↔◌, Result, Ok, Err}
+use Rattle.std.proofs.Common.{◌⊎◌, ◌≡◌, ◌≢◌, inl, inr, ℕ, ◌+◌, ◌<◌, ◌≤◌, List, [], ◌∷◌, ◌++◌, length, Option, Some, None, option_map, refl, sym, ap, subst, ◌∙◌, arith}
+use Rattle.std.specs.Prelude.{◌==◌, false, slice_index_or, find, IsNone, IfSome, ◌↔◌, Result, Ok, Err, IfOk, IfErr}
 use Rattle.std.specs.List.{enumerate_from}
-use Rattle.std.proofs.lemmas.Bool.{cond-true, eq-eqb}
+use Rattle.std.proofs.lemmas.Bool.{cases_order, cond-true, eq-eqb}
 use Rattle.std.proofs.lemmas.List.{get_or-set_same}
 use Rattle.hay_core.specs.declared.entry.CoreTag.{CoreTag}
 use Rattle.hay_core.specs.declared.entry.Entry.{Entry}
@@ -20,9 +20,10 @@ use Rattle.hay_logical.specs.declared.fault.LogicalFault.{LogicalFault}
 use Rattle.hay_logical.specs.declared.fault.LogicalFault.TheVariants.{Busy, Damaged, Failed, Full, Gone, Idle, NoMemory, ReadOnly, Worn}
 use Rattle.hay_logical.specs.Fits.{At}
 use Rattle.hay_logical.specs.Stands.{Stands}
-use Rattle.hay_logical.specs.Volumes.{IsOfSettings}
+use Rattle.hay_logical.specs.Volumes.{IsOfSettings, IsOpenVolume, IsSame, KeepsCounts}
 use Rattle.hay_logical.proofs.Lists.{at_there}
 use Rattle.hay_logical.proofs.Machines.{same_machine}
+use Rattle.hay_map.specs.Rows.{row_at}
 use Rattle.hay_meeting.specs.declared.act.VolumeAct.{VolumeAct}
 use Rattle.hay_meeting.specs.Acts.{begun_at, begun_of, did_of, entry_of, known_by, nobody, volume_lock}
 use Rattle.hay_meeting.specs.Facts.{volume_stood}
@@ -37,13 +38,14 @@ use Rattle.hay_reply.specs.declared.Refused.{Refused}
 use Rattle.hay_reply.specs.declared.Refused.TheVariants.{Closed, NoRoom}
 use Rattle.hay_volume_lock.specs.Acts.{act_of, counts, did_by}
 use Rattle.hay_volume_lock.specs.Answers.{BeginAnswer, BeginRefused, FailedLook, FlushAnswer, FlushRefused, Found, FoundAlways, FrozenAnswer, IsAt, RoomAnswer, StoreVolume}
-use Rattle.hay_volume_lock.specs.Keeping.{GoesOn, IsKept, stood_of}
+use Rattle.hay_volume_lock.specs.Keeping.{EndsOwn, GoesOn, IsKept, ends_at, stood_of}
+use Rattle.hay_volume_lock.specs.Tries.{IsBegunBy, IsTried, begin_made, flush_made}
 use Rattle.hay_volume_lock.specs.declared.act.Made.{Made}
 use Rattle.hay_volume_lock.specs.declared.act.Made.TheVariants as made_is
 use Rattle.hay_volume_lock.specs.declared.guarded.Guarded.{Guarded}
 use Rattle.hay_volume_lock.specs.declared.guarded.Opened.{Opened}
 use Rattle.hay_volume_lock.proofs.Counting.{count_one, count_there}
-use Rattle.hay_volume_lock.proofs.Growing.{FusesStay, IsOfOne, LeadsFusesOf, LeadsTo, begun_more, goes_more, goes_tried, no_fuse}
+use Rattle.hay_volume_lock.proofs.Growing.{FusesStay, IsOfOne, LeadsFusesOf, LeadsTo, begun_more, ends_none, goes_more, goes_tried, no_fuse, of_still}
 use Rattle.hay_volume_lock.proofs.Holding.{stood_is}
 
 -- WHETHER IT TAKES A CHANGE
@@ -75,6 +77,26 @@ module _ (volume : StoreVolume) (tag : CoreTag) (held : List VolumeAct) (a b : L
       never : (at : Option (ℕ × ReplicaKnown)) (f g : ℕ × ReplicaKnown → ℕ) (x : ℕ) → option_map (λ at. NoRoom volume.number (f at) (g at) x) at ≡ Some (Closed w m) → ⊥
       never None f g x e = absurd cc
       never (Some at) f g x e = absurd cc
+
+-- LOOKS AT WHAT STANDS
+
+module _ {D P : Type 0} (Tells : Type 0) (files : D → Files) (PieceTells : Type 0) (faults fuses : D → ℕ) (tag : CoreTag) (kept : Guarded D P) where
+  pub frozen_found : (machine : Option ℕ) → (Tells → (k : VolumeKnown) → Stands files PieceTells kept.logical k → machine ≡ k.frozen)
+      → Found Tells files PieceTells faults fuses tag kept None (λ volume. FrozenAnswer volume tag machine)
+  frozen_found machine known opened held h tells k s volume at a b holding =
+      frozen_answer volume tag held a b holding machine
+      (known tells (stood_of faults fuses opened k held).volume (h.stands tells k s) ∙ ap (λ (z : Standing). (z.volume).frozen) (stood_is faults fuses opened k volume held at))
+
+  pub room_found : (size : ℕ) (answer : Result Unit LogicalFault) → (Tells → (k : VolumeKnown) → Stands files PieceTells kept.logical k
+      → answer ≡ logical.room_answer (kept.logical).settings k.frozen (room_refusal_of (kept.logical).settings (kept.logical).number k size))
+      → Found Tells files PieceTells faults fuses tag kept None (λ volume. RoomAnswer volume tag size answer)
+  room_found size answer known opened held h tells k s volume at a b holding =
+      let now : VolumeKnown = volume_stood volume.start volume.number held in
+      room_answer_by volume tag held a b holding size answer now.frozen (room_refusal_of volume.settings volume.number now size) refl refl
+      (known tells (stood_of faults fuses opened k held).volume (h.stands tells k s)
+      ∙ ap (λ (z : Standing). logical.room_answer (kept.logical).settings (z.volume).frozen (room_refusal_of (kept.logical).settings (kept.logical).number z.volume size)) (stood_is faults fuses opened k volume held at)
+      ∙ ap (λ (z : Settings). logical.room_answer z now.frozen (room_refusal_of z (kept.logical).number now size)) (h.same_settings ∙ sym at.settings)
+      ∙ ap (λ (z : ℕ). logical.room_answer volume.settings now.frozen (room_refusal_of volume.settings z now size)) (h.number ∙ sym at.number))
 
 -- CALLS OF THE DISKS
 
@@ -140,22 +162,30 @@ module _ {D P : Type 0} (Tells : Type 0) (files : D → Files) (PieceTells : Typ
   nothing_made None act = tt
   nothing_made (Some made) act = ap (λ (z : VolumeAct). did_of z.did) act
 
-  module _ (of : IsOfOne faults old new) (stay : FusesStay fuses old new) (j : ℕ) (within : j < ((old.logical).settings).replicas) where
+  module _ (of : IsOfOne faults old new) (stay : FusesStay fuses old new) (ended : new.ended ≡ old.ended) (j : ℕ) (within : j < ((old.logical).settings).replicas) where
     more : (made : Made) → entry_of (did_by made) ≡ None → LeadsFusesOf fuses old new (did_of (did_by made))
         → (Tells → (before : Standing) → Stands files PieceTells old.logical before.volume → LeadsTo Tells files PieceTells faults fuses tag old new made before)
         → ((i : ℕ) → i < (old.settings).replicas → slice_index_or new.begun i nobody ≡ begun_in i tag (did_of (did_by made)) (slice_index_or old.begun i nobody))
+        → ((i : ℕ) → ends_at i (did_by made) ≡ false) → ((i : ℕ) → EndsOwn (did_of (did_by made)) i → ⊥)
         → (act : VolumeAct) → Behind made act → Goes (Some act)
-    more made quiet fuses_lead leads begun act is = goes_more Tells files PieceTells faults fuses tag old new made of fuses_lead quiet leads begun act is
+    more made quiet fuses_lead leads begun none own act is =
+        goes_more Tells files PieceTells faults fuses tag old new made of fuses_lead quiet leads begun
+        (ends_none Tells files PieceTells old new (act_of faults fuses tag made (new.logical).replicas) none own ended) act is
 
     none_set : LeadsFusesOf fuses old new Tries
     none_set = no_fuse Tells files PieceTells faults fuses tag old new of stay
 
     tried : (Tells → (k : VolumeKnown) → Stands files PieceTells old.logical k → Stands files PieceTells new.logical k) → new.begun ≡ old.begun
         → (made : Option VolumeAct) → (IsNone made ↔ (counts faults (old.logical).replicas ≡ counts faults (new.logical).replicas)) → IfSome made (Behind made_is.Tries) → Goes made
-    tried stands begun made even act = goes_tried Tells files PieceTells faults fuses tag old new of stay stands begun made even act
+    tried stands begun made even act = goes_tried Tells files PieceTells faults fuses tag old new of stay stands begun ended made even act
 
     same_begun : new.begun ≡ old.begun → (i : ℕ) → i < (old.settings).replicas → slice_index_or new.begun i nobody ≡ slice_index_or old.begun i nobody
     same_begun begun i less = ap (λ (l : List CoreTag). slice_index_or l i nobody) begun
+
+    -- by the act of the answer
+    abbrev Acts : Option Made → Option VolumeAct → Type 0
+    Acts did made = ((m : Made) → did ≡ Some m → made ≡ Some (act_of faults fuses tag m (new.logical).replicas))
+        × (did ≡ None → IsTried faults fuses tag (counts faults (old.logical).replicas) (new.logical).replicas made)
 
     -- FLUSHES
 
@@ -164,7 +194,7 @@ module _ {D P : Type 0} (Tells : Type 0) (files : D → Files) (PieceTells : Typ
     flush_ok begun n flushed act is = (
       more (made_is.Flushes j) refl none_set
           (λ tells before s. let f = flushed tells before.volume s in record { leads = (f.thawed, within, f.loose, refl); stands = f.stands })
-          (same_begun begun) act is,
+          (same_begun begun) (λ i. refl) (λ i own. own) act is,
       λ opened held h tells k s volume at a b holding. record {
         held = held;
         made = Some act;
@@ -184,7 +214,7 @@ module _ {D P : Type 0} (Tells : Type 0) (files : D → Files) (PieceTells : Typ
     flush_failed begun m f machine failed refused act is =
         let goes : Goes (Some act) = more (made_is.Sticks j) refl none_set
         (λ tells before s. let r = refused tells before.volume s in record { leads = (r.0, within, r.1, refl); stands = r.3 })
-        (same_begun begun) act is in (
+        (same_begun begun) (λ i. refl) (λ i own. own) act is in (
           goes,
           λ opened held h k volume at a b holding.
               let rose = failed_act act goes j m f within machine failed opened held h k volume at in (
@@ -246,6 +276,46 @@ module _ {D P : Type 0} (Tells : Type 0) (files : D → Files) (PieceTells : Typ
         found Idle not now volume held a b holding there machine r = absurd r
         found (Damaged m at) not now volume held a b holding there machine r = absurd r
 
+    flush_rest : new.begun ≡ old.begun → (fault : LogicalFault) → ((m f : ℕ) → fault ≡ Failed m f → ⊥)
+        → (Tells → (k : VolumeKnown) → Stands files PieceTells old.logical k → logical.FlushRefused files PieceTells k j old.logical new.logical fault)
+        → (made : Option VolumeAct) → IsTried faults fuses tag (counts faults (old.logical).replicas) (new.logical).replicas made
+        → Goes made × Finds made (λ volume. FlushRefused volume tag j fault)
+        × ((m f : ℕ) → ◌≡◌ {A = Result ℕ LogicalFault} (Err fault) (Err (Failed m f)) → Always made (λ volume. FlushRefused volume tag j (Failed m f)))
+    flush_rest begun fault not refused made tried =
+        let found = flush_refused begun fault not refused made tried.quiet tried.is in
+        (found.0, found.1, λ m f e. absurd (not m f (let same : fault ≡ Failed m f = cc e in same)))
+
+    pub flush_found : new.begun ≡ old.begun → (answer : Result ℕ LogicalFault)
+        → (Tells → (k : VolumeKnown) → Stands files PieceTells old.logical k → IfOk answer (λ n. logical.IsFlushed files PieceTells k j n new.logical))
+        → (Tells → (k : VolumeKnown) → Stands files PieceTells old.logical k → IfErr answer (logical.FlushRefused files PieceTells k j old.logical new.logical))
+        → IfErr answer (logical.IsFlushFault faults (old.logical).settings (old.logical).number j (old.logical).replicas (new.logical).replicas)
+        → (made : Option VolumeAct) → Acts (flush_made j answer) made
+        → Goes made × Finds made (λ volume. FlushAnswer volume tag j answer)
+        × ((m f : ℕ) → answer ≡ Err (Failed m f) → Always made (λ volume. FlushRefused volume tag j (Failed m f)))
+    flush_found begun (Ok n) flushed refused cause made acts =
+        let is = acts.0 (made_is.Flushes j) refl in
+        let found = flush_ok begun n flushed (act_of faults fuses tag (made_is.Flushes j) (new.logical).replicas) refl in
+        subst (λ (z : Option VolumeAct). Goes z × Finds z (λ volume. FlushAnswer volume tag j (Ok n)) × ((m f : ℕ) → ◌≡◌ {A = Result ℕ LogicalFault} (Ok n) (Err (Failed m f)) → Always z (λ volume. FlushRefused volume tag j (Failed m f))))
+        (sym is) (found.0, found.1, λ m f e. absurd cc)
+    flush_found begun (Err (Failed m f)) flushed refused cause made acts =
+        let is = acts.0 (made_is.Sticks j) refl in
+        let found = flush_failed begun m f cause.0 cause.1 refused (act_of faults fuses tag (made_is.Sticks j) (new.logical).replicas) refl in
+        subst (λ (z : Option VolumeAct). Goes z × Finds z (λ volume. FlushAnswer volume tag j (Err (Failed m f)))
+        × ((m' f' : ℕ) → ◌≡◌ {A = Result ℕ LogicalFault} (Err (Failed m f)) (Err (Failed m' f')) → Always z (λ volume. FlushRefused volume tag j (Failed m' f'))))
+        (sym is) (
+          found.0,
+          λ opened held h tells k s volume at. found.1 opened held h k volume at,
+          λ m' f' e. subst (λ (r : Result ℕ LogicalFault). IfErr r (λ fault. Always (Some (act_of faults fuses tag (made_is.Sticks j) (new.logical).replicas)) (λ volume. FlushRefused volume tag j fault))) e found.1,
+        )
+    flush_found begun (Err (ReadOnly m)) flushed refused cause made acts = flush_rest begun (ReadOnly m) (λ m f e. absurd cc) refused made (acts.1 refl)
+    flush_found begun (Err NoMemory) flushed refused cause made acts = flush_rest begun NoMemory (λ m f e. absurd cc) refused made (acts.1 refl)
+    flush_found begun (Err (Full m end need capacity)) flushed refused cause made acts = flush_rest begun (Full m end need capacity) (λ m f e. absurd cc) refused made (acts.1 refl)
+    flush_found begun (Err (Gone front)) flushed refused cause made acts = flush_rest begun (Gone front) (λ m f e. absurd cc) refused made (acts.1 refl)
+    flush_found begun (Err (Busy m g)) flushed refused cause made acts = flush_rest begun (Busy m g) (λ m f e. absurd cc) refused made (acts.1 refl)
+    flush_found begun (Err (Worn m)) flushed refused cause made acts = flush_rest begun (Worn m) (λ m f e. absurd cc) refused made (acts.1 refl)
+    flush_found begun (Err Idle) flushed refused cause made acts = flush_rest begun Idle (λ m f e. absurd cc) refused made (acts.1 refl)
+    flush_found begun (Err (Damaged m at)) flushed refused cause made acts = flush_rest begun (Damaged m at) (λ m f e. absurd cc) refused made (acts.1 refl)
+
     -- COMPACTIONS THAT BEGIN
 
     pub begin_ok : ((i : ℕ) → i < (old.settings).replicas → slice_index_or new.begun i nobody ≡ begun_in i tag (Begins j) (slice_index_or old.begun i nobody))
@@ -257,7 +327,7 @@ module _ {D P : Type 0} (Tells : Type 0) (files : D → Files) (PieceTells : Typ
             leads = ((i.thawed, within, (i.rest).0, (i.rest).1, refl));
             stands = subst (λ (n : ℕ). Stands files PieceTells new.logical (logical.change_at before.volume j (with_run (record { goal = n; left = (replica_at before.volume j).cells })))) i.next i.stands;
           })
-          begun act is,
+          begun (λ i. refl) (λ i own. own) act is,
       λ opened held h tells k s volume at a b holding.
           let there : stood_of faults fuses opened k held ≡ stood volume.start volume.number held = stood_is faults fuses opened k volume held at in
           let s_old = h.stands tells k s in
@@ -296,7 +366,7 @@ module _ {D P : Type 0} (Tells : Type 0) (files : D → Files) (PieceTells : Typ
     begin_failed begun m f machine failed refused act is =
         let goes : Goes (Some act) = more made_is.Tries refl none_set
         (λ tells before s. record { leads = refl; stands = (refused tells before.volume s).3 })
-        (same_begun begun) act is in (
+        (same_begun begun) (λ i. refl) (λ i own. own) act is in (
           goes,
           λ opened held h k volume at a b holding.
               let rose = failed_act act goes j m f within machine failed opened held h k volume at in (
@@ -387,6 +457,50 @@ module _ {D P : Type 0} (Tells : Type 0) (files : D → Files) (PieceTells : Typ
         found Idle not now volume held a b holding there machine r = absurd r
         found (Damaged m at) not now volume held a b holding there machine r = absurd r
 
+    begin_rest : new.begun ≡ old.begun → (fault : LogicalFault) → ((m f : ℕ) → fault ≡ Failed m f → ⊥)
+        → (Tells → (k : VolumeKnown) → Stands files PieceTells old.logical k → logical.BeginRefused files PieceTells k j old.logical new.logical fault)
+        → (made : Option VolumeAct) → IsTried faults fuses tag (counts faults (old.logical).replicas) (new.logical).replicas made
+        → Goes made × Finds made (λ volume. BeginRefused volume tag j fault)
+        × ((m f : ℕ) → ◌≡◌ {A = Result ℕ LogicalFault} (Err fault) (Err (Failed m f)) → Always made (λ volume. FailedLook volume tag j m f))
+    begin_rest begun fault not refused made tried =
+        let found = begin_refused begun fault not refused made tried.quiet tried.is in
+        (found.0, found.1, λ m f e. absurd (not m f (let same : fault ≡ Failed m f = cc e in same)))
+
+    pub begin_found : (answer : Result ℕ LogicalFault) → IsBegunBy tag j answer old.begun new.begun
+        → (Tells → (k : VolumeKnown) → Stands files PieceTells old.logical k → IfOk answer (λ g. logical.IsBegun files PieceTells k j g new.logical))
+        → (Tells → (k : VolumeKnown) → Stands files PieceTells old.logical k → IfErr answer (logical.BeginRefused files PieceTells k j old.logical new.logical))
+        → IfErr answer (logical.IsBeginFault faults (old.logical).settings (old.logical).number j (old.logical).replicas (new.logical).replicas)
+        → (made : Option VolumeAct) → Acts (begin_made j answer) made
+        → Goes made × Finds made (λ volume. BeginAnswer volume tag j answer)
+        × ((m f : ℕ) → answer ≡ Err (Failed m f) → Always made (λ volume. FailedLook volume tag j m f))
+    begin_found (Ok g) begun is_begun refused cause made acts =
+        let is = acts.0 (made_is.Begins j) refl in
+        let found = begin_ok (λ i less. begun i) g is_begun (act_of faults fuses tag (made_is.Begins j) (new.logical).replicas) refl in
+        subst (λ (z : Option VolumeAct). Goes z × Finds z (λ volume. BeginAnswer volume tag j (Ok g)) × ((m f : ℕ) → ◌≡◌ {A = Result ℕ LogicalFault} (Ok g) (Err (Failed m f)) → Always z (λ volume. FailedLook volume tag j m f)))
+        (sym is) (found.0, found.1, λ m f e. absurd cc)
+    begin_found (Err (Failed m f)) begun is_begun refused cause made acts =
+        let is = acts.0 made_is.Tries refl in
+        let found = begin_failed begun m f cause.0 cause.1 refused (act_of faults fuses tag made_is.Tries (new.logical).replicas) refl in
+        subst (λ (z : Option VolumeAct). Goes z × Finds z (λ volume. BeginAnswer volume tag j (Err (Failed m f)))
+        × ((m' f' : ℕ) → ◌≡◌ {A = Result ℕ LogicalFault} (Err (Failed m f)) (Err (Failed m' f')) → Always z (λ volume. FailedLook volume tag j m' f')))
+        (sym is) (
+          found.0,
+          found.2,
+          λ m' f' e.
+              let machine : m ≡ m' = cc e in
+              let count : f ≡ f' = cc e in
+              subst (λ (x : ℕ). Always (Some (act_of faults fuses tag made_is.Tries (new.logical).replicas)) (λ volume. FailedLook volume tag j x f')) machine
+              (subst (λ (x : ℕ). Always (Some (act_of faults fuses tag made_is.Tries (new.logical).replicas)) (λ volume. FailedLook volume tag j m x)) count found.1),
+        )
+    begin_found (Err (ReadOnly m)) begun is_begun refused cause made acts = begin_rest begun (ReadOnly m) (λ m f e. absurd cc) refused made (acts.1 refl)
+    begin_found (Err NoMemory) begun is_begun refused cause made acts = begin_rest begun NoMemory (λ m f e. absurd cc) refused made (acts.1 refl)
+    begin_found (Err (Full m end need capacity)) begun is_begun refused cause made acts = begin_rest begun (Full m end need capacity) (λ m f e. absurd cc) refused made (acts.1 refl)
+    begin_found (Err (Gone front)) begun is_begun refused cause made acts = begin_rest begun (Gone front) (λ m f e. absurd cc) refused made (acts.1 refl)
+    begin_found (Err (Busy m g)) begun is_begun refused cause made acts = begin_rest begun (Busy m g) (λ m f e. absurd cc) refused made (acts.1 refl)
+    begin_found (Err (Worn m)) begun is_begun refused cause made acts = begin_rest begun (Worn m) (λ m f e. absurd cc) refused made (acts.1 refl)
+    begin_found (Err Idle) begun is_begun refused cause made acts = begin_rest begun Idle (λ m f e. absurd cc) refused made (acts.1 refl)
+    begin_found (Err (Damaged m at)) begun is_begun refused cause made acts = begin_rest begun (Damaged m at) (λ m f e. absurd cc) refused made (acts.1 refl)
+
   -- FUSES
 
   module _ (of : IsOfOne faults old new) (j : ℕ) (within : j < ((old.logical).settings).replicas) where
@@ -402,11 +516,100 @@ module _ {D P : Type 0} (Tells : Type 0) (files : D → Files) (PieceTells : Typ
           λ i other. is i ∙ count_one fuses (old.logical).replicas (new.logical).replicas of.count (λ a b. b ≡ a) refl i (stay i other) ∙ sym (was i),
         )
 
-    pub fuse_made : new.begun ≡ old.begun → LeadsFusesOf fuses old new (Fuses j) → (Tells → (k : VolumeKnown) → Stands files PieceTells old.logical k → Stands files PieceTells new.logical k)
+    pub fuse_made : new.begun ≡ old.begun → new.ended ≡ old.ended → LeadsFusesOf fuses old new (Fuses j) → (Tells → (k : VolumeKnown) → Stands files PieceTells old.logical k → Stands files PieceTells new.logical k)
         → (act : VolumeAct) → Behind (made_is.Fuses j) act → Goes (Some act) × Always (Some act) (λ volume. Fused volume.settings volume.start volume.number tag j)
-    fuse_made begun leads stands act is = (
+    fuse_made begun ended leads stands act is = (
       goes_more Tells files PieceTells faults fuses tag old new (made_is.Fuses j) of leads refl
           (λ tells before s. record { leads = (within, refl); stands = stands tells before.volume s })
-          (λ i less. ap (λ (l : List CoreTag). slice_index_or l i nobody) begun) act is,
+          (λ i less. ap (λ (l : List CoreTag). slice_index_or l i nobody) begun)
+          (ends_none Tells files PieceTells old new (act_of faults fuses tag (made_is.Fuses j) (new.logical).replicas) (λ i. refl) (λ i own. own) ended) act is,
       λ opened held h k volume at a b holding. record { held = held; made = Some act; holding = holding; is = ap (λ (z : VolumeAct). did_of z.did) is },
     )
+
+  -- what a call that sets a fuse tells of the volume and of its disks
+  pub fuse_goes : IsOpenVolume old.logical → IsOpenVolume new.logical → IsSame old.logical new.logical → length (new.logical).replicas ≡ length (old.logical).replicas
+      → new.logical ≡ record old.logical { replicas = (new.logical).replicas }
+      → new.settings ≡ old.settings → new.front ≡ old.front → new.begun ≡ old.begun → new.ended ≡ old.ended → (j : ℕ) → j < ((old.logical).settings).replicas
+      → ((r r' : Copy D) → At (old.logical).replicas j r → At (new.logical).replicas j r' → IsNext (fuses r.disk) (fuses r'.disk) × (faults r'.disk ≡ faults r.disk))
+      → ((i : ℕ) → (i ≡ j → ⊥) → (r r' : Copy D) → At (old.logical).replicas i r → At (new.logical).replicas i r' → r' ≡ r)
+      → (Tells → (k : VolumeKnown) → Stands files PieceTells old.logical k → Stands files PieceTells new.logical k)
+      → (act : VolumeAct) → Behind (made_is.Fuses j) act → Goes (Some act) × Always (Some act) (λ volume. Fused volume.settings volume.start volume.number tag j)
+  fuse_goes open_old open_new same count still settings front begun ended j within fused others stands act is =
+      fuse_made of j within begun ended
+      (fuse_leads of j within open_old.all (λ r r' e f. (fused r r' e f).0) (λ i other r r' e f. ap (λ (x : Copy D). fuses x.disk) (others i other r r' e f))) stands act is
+    where
+      rises : (i : ℕ) (r r' : Copy D) → At (old.logical).replicas i r → At (new.logical).replicas i r' → faults r.disk ≤ faults r'.disk
+      rises i r r' e f = elim (cases_order i j) [
+        | inl here ↦
+            let stay = (fused r r' (subst (λ (n : ℕ). At (old.logical).replicas n r) here e) (subst (λ (n : ℕ). At (new.logical).replicas n r') here f)).1 in
+            (let h : faults r.disk ≤ faults r'.disk = omega (arith, stay) in h)
+        | inr away ↦
+            let stay = ap (λ (x : Copy D). faults x.disk) (others i (apart i j away) r r' e f) in
+            (let h : faults r.disk ≤ faults r'.disk = omega (arith, stay) in h)
+      ]
+        where
+          apart : (i j : ℕ) → (i < j) ⊎ (j < i) → i ≡ j → ⊥
+          apart i j (inl less) same = omega (arith, less, same)
+          apart i j (inr more) same = omega (arith, more, same)
+
+      of : IsOfOne faults old new
+      of = record {
+        settings = settings;
+        front = front;
+        same = same;
+        is_open = open_new;
+        count = count;
+        rises = rises;
+        thawed = λ thawed. sym (ap (λ v. v.frozen) still) ∙ thawed;
+        rows = λ thawed pair. ap (λ v. row_at v.rows pair) still;
+      }
+
+-- WHOLE CALLS
+
+module _ {D P : Type 0} (Tells : Type 0) (files : D → Files) (PieceTells : Type 0) (faults fuses : D → ℕ) (tag : CoreTag) (old new : Guarded D P) where
+  -- the act for what was done
+  acts_by : (before : List ℕ) (did want : Option Made) (made : Option VolumeAct) → before ≡ counts faults (old.logical).replicas → did ≡ want
+      → ((m : Made) → did ≡ Some m → made ≡ Some (act_of faults fuses tag m (new.logical).replicas))
+      → (did ≡ None → IsTried faults fuses tag before (new.logical).replicas made)
+      → ((m : Made) → want ≡ Some m → made ≡ Some (act_of faults fuses tag m (new.logical).replicas))
+      × (want ≡ None → IsTried faults fuses tag (counts faults (old.logical).replicas) (new.logical).replicas made)
+  acts_by before did want made same is some none =
+      (λ m e. some m (is ∙ e), λ e. subst (λ (l : List ℕ). IsTried faults fuses tag l (new.logical).replicas made) same (none (is ∙ e)))
+
+  -- the replicas alone changed
+  pub record Changed : Type 0 where
+    pub settings : new.settings ≡ old.settings
+    pub front : new.front ≡ old.front
+    pub ended : new.ended ≡ old.ended
+    pub same : IsSame old.logical new.logical
+    pub is_open : IsOpenVolume new.logical
+    pub counts : KeepsCounts faults fuses (old.logical).replicas (new.logical).replicas
+    pub still : new.logical ≡ record old.logical { replicas = (new.logical).replicas }
+
+  module _ (change : Changed) (j : ℕ) (within : j < ((old.logical).settings).replicas) (answer : Result ℕ LogicalFault) (before : List ℕ) (was : before ≡ counts faults (old.logical).replicas) (did : Option Made) (made : Option VolumeAct)
+      (some : (m : Made) → did ≡ Some m → made ≡ Some (act_of faults fuses tag m (new.logical).replicas))
+      (none : did ≡ None → IsTried faults fuses tag before (new.logical).replicas made) where
+    abbrev both : IsOfOne faults old new × FusesStay fuses old new
+    both = of_still faults fuses old new change.settings change.front change.same change.is_open change.counts change.still
+
+    pub flush_call : new.begun ≡ old.begun
+        → (Tells → (k : VolumeKnown) → Stands files PieceTells old.logical k → IfOk answer (λ n. logical.IsFlushed files PieceTells k j n new.logical))
+        → (Tells → (k : VolumeKnown) → Stands files PieceTells old.logical k → IfErr answer (logical.FlushRefused files PieceTells k j old.logical new.logical))
+        → IfErr answer (logical.IsFlushFault faults (old.logical).settings (old.logical).number j (old.logical).replicas (new.logical).replicas)
+        → did ≡ flush_made j answer
+        → GoesOn Tells files PieceTells faults fuses tag old new made
+        × Found Tells files PieceTells faults fuses tag old made (λ volume. FlushAnswer volume tag j answer)
+        × ((m f : ℕ) → answer ≡ Err (Failed m f) → FoundAlways Tells files PieceTells faults fuses tag old made (λ volume. FlushRefused volume tag j (Failed m f)))
+    flush_call begun flushed refused cause is =
+        flush_found Tells files PieceTells faults fuses tag old new both.0 both.1 change.ended j within begun answer flushed refused cause made (acts_by before did (flush_made j answer) made was is some none)
+
+    pub begin_call : IsBegunBy tag j answer old.begun new.begun
+        → (Tells → (k : VolumeKnown) → Stands files PieceTells old.logical k → IfOk answer (λ g. logical.IsBegun files PieceTells k j g new.logical))
+        → (Tells → (k : VolumeKnown) → Stands files PieceTells old.logical k → IfErr answer (logical.BeginRefused files PieceTells k j old.logical new.logical))
+        → IfErr answer (logical.IsBeginFault faults (old.logical).settings (old.logical).number j (old.logical).replicas (new.logical).replicas)
+        → did ≡ begin_made j answer
+        → GoesOn Tells files PieceTells faults fuses tag old new made
+        × Found Tells files PieceTells faults fuses tag old made (λ volume. BeginAnswer volume tag j answer)
+        × ((m f : ℕ) → answer ≡ Err (Failed m f) → FoundAlways Tells files PieceTells faults fuses tag old made (λ volume. FailedLook volume tag j m f))
+    begin_call begun is_begun refused cause is =
+        begin_found Tells files PieceTells faults fuses tag old new both.0 both.1 change.ended j within answer begun is_begun refused cause made (acts_by before did (begin_made j answer) made was is some none)

@@ -1,5 +1,6 @@
-//! A logical volume behind a lock, with its rows published for lanes that do not hold it: the types, what they stand for, and the laws
-//! by which a call at a seat is a step of its lane. The calls are not here yet.
+//! A logical volume behind a lock, with its rows published for lanes that do not hold it. At a seat a lane looks at the rows, and asks
+//! whether the volume is frozen and has room; of flushes, of compactions that begin and of fuses there are the laws by which they are
+//! steps of a lane, and not the calls.
 //!
 //! A lane has a seat at each volume. A call at a seat holds the volume once, and tells what it found and what act it made; or it looks
 //! at the published rows without the lock. Clauses see of a seat what its lane knows of the volume, as `hay_meeting` has it, and each
@@ -20,6 +21,7 @@ mod guarded;
 mod lock;
 mod seat;
 mod told;
+mod tries;
 
 pub use act::Act;
 pub use guarded::{Guarded, Opened};

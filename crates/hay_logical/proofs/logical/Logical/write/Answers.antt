@@ -1,5 +1,5 @@
-use Rattle.std.proofs.Common.{◌≡◌, ◌≤◌, ◌<◌, ◌+◌, ℕ, cond, inl, length, Some, None, refl, sym, ap, subst, ◌∙◌, arith, rules}
-use Rattle.std.specs.Prelude.{IfErr}
+use Rattle.std.proofs.Common.{◌≡◌, ◌≤◌, ◌<◌, ◌+◌, ℕ, cond, inl, length, Some, None, refl, sym, ap, subst, ◌∙◌, arith}
+use Rattle.std.specs.Prelude.{IfErr, IsOk}
 use Rattle.hay_legal.specs.Known.{room_refusal_of}
 use Rattle.hay_needle.specs.Tables.{pair_eq}
 use Rattle.std.specs.Vec.{with_items}
@@ -25,7 +25,7 @@ use Rattle.hay_logical.specs.Refusals.{IsUntouched}
 use Rattle.hay_logical.proofs.Changing.{put_remains, some_none}
 use Rattle.hay_logical.proofs.Reaching.{put_row, same_rows, seen_apart, seen_sees}
 use Rattle.hay_logical.proofs.Putting.{all_thawed, is_err_of, ok_of, put_cause_of, put_refused, room_cause, room_ok, room_refused, rows_kept, untouched}
-use Rattle.hay_logical.proofs.Refusing.{refuses_put}
+use Rattle.hay_logical.proofs.Refusing.{refusal_breaks, refuses_put}
 use Rattle.hay_logical.proofs.Showing.{written}
 use Rattle.hay_logical.proofs.Telling.{put_broken, room_leaves}
 use Rattle.hay_logical.specs.Notes.{PutLeavesUnsure}
@@ -40,19 +40,12 @@ put_each-requires g c =
     λ j r e. open_up r (c.requires.«open».each j r (subst (λ v. At v.replicas j r) c.self.view_is e)) ((c.self.invariant.0).thawed thawed j r e) in
     let most = (c.self.invariant.0).settings.most in
     let few = (c.self.invariant.0).count in
-    let long = ap length now in (
-      search rules,
-      (
-        (let n : length c.as_mut_slice.result.now ≤ 4 = omega (arith, most, few, long) in n),
-        (
-          c.requires.size,
-          (
-            λ j r e. up j r (subst (λ xs. At xs j r) now e),
-            λ j r e. c.in_ok-room.ensures.fits.1 j r (subst (λ v. At v.replicas j r) c.self.view_is (subst (λ xs. At xs j r) now e)),
-          ),
-        ),
-      ),
-    )
+    let long = ap length now in record {
+      most = (let n : length c.as_mut_slice.result.now ≤ 4 = omega (arith, most, few, long) in n);
+      size = c.requires.size;
+      up = λ j r e. up j r (subst (λ xs. At xs j r) now e);
+      room = λ j r e. c.in_ok-room.ensures.fits.1 j r (subst (λ v. At v.replicas j r) c.self.view_is (subst (λ xs. At xs j r) now e));
+    }
 
 pub ends_of-ends-requires-clause-most : goal.ends_of-ends-requires-clause-most
 ends_of-ends-requires-clause-most g c =
@@ -81,7 +74,7 @@ returns-in_default-clause-refused g c = λ tells k stands. ((room_ok c.args.self
 pub invariant_of-self : goal.invariant_of-self
 invariant_of-self g c = (
   shaped_on c.self.inside.settings c.self.inside.number c.self.inside.replicas.items c.self.inside.replicas.items c.self.inside.rows c.reserve.new.self c.self.inside.front c.self.inside.front c.self.inside.frozen c.self.inside.frozen c.self.inside.unsure c.self.inside.unsure
-      c.self.invariant.0 (c.self.invariant.0).frozen_by refl (λ j r r' e f. ap (λ x. x.sup) (at_same c.self.inside.replicas.items j r' r f e)) c.reserve.ensures.rows.replicas (λ none j r r' e f. (c.self.invariant.0).thawed none j r' f),
+      c.self.invariant.0 (c.self.invariant.0).frozen_by (c.self.invariant.0).settled refl (λ j r r' e f. ap (λ x. x.sup) (at_same c.self.inside.replicas.items j r' r f e)) c.reserve.ensures.rows.replicas (λ none j r r' e f. (c.self.invariant.0).thawed none j r' f),
   c.self.invariant.1,
   same_rows g.D.Disk.Tells g.D.Disk.files c.self.inside.replicas.items c.self.inside.replicas.items c.self.inside.rows c.reserve.new.self c.self.invariant.2 refl
       (λ j r r' e f. let same = at_same c.self.inside.replicas.items j r' r f e in (λ u. subst (λ (x : Copy g.row.D.Denot). IsUp x) same u, λ u. subst (λ (x : Copy g.row.D.Denot). IsOpenCopy x) same u))
@@ -119,7 +112,7 @@ invariant_of-self-in-Ok g c =
     λ j r r' e f. c.in-Ok.ensures.put j r r' (subst (λ xs. At xs j r) (sym now) e) f in (
       subst (λ rs. IsShaped (volume_with c.self.inside.settings c.self.inside.number rs c.reserve.new.self c.self.inside.front c.self.inside.frozen c.self.inside.unsure)) (sym kept)
           (shaped_on c.self.inside.settings c.self.inside.number c.self.inside.replicas.items c.put_each.new.replicas c.self.inside.rows c.reserve.new.self c.self.inside.front c.self.inside.front c.self.inside.frozen c.self.inside.frozen c.self.inside.unsure c.self.inside.unsure
-          c.self.invariant.0 (c.self.invariant.0).frozen_by (c.put_each.ensures.counts.count ∙ ap length now) (λ j r r' e f. (each j r r' e f).sup) c.reserve.ensures.rows.replicas (λ none j r r' e f. up_thawed r' (each j r r' e f).up)),
+          c.self.invariant.0 (c.self.invariant.0).frozen_by (c.self.invariant.0).settled (c.put_each.ensures.counts.count ∙ ap length now) (λ j r r' e f. (each j r r' e f).sup) c.reserve.ensures.rows.replicas (λ none j r r' e f. up_thawed r' (each j r r' e f).up)),
       c.self.invariant.1,
       subst (λ rs. CanReach g.D.Disk.Tells g.D.Disk.files rs c.reserve.new.self) (sym kept)
           (same_rows g.D.Disk.Tells g.D.Disk.files c.self.inside.replicas.items c.put_each.new.replicas c.self.inside.rows c.reserve.new.self c.self.invariant.2 (c.put_each.ensures.counts.count ∙ ap length now) (λ j r r' e f. (λ u. up j r e, λ u. up_open r (up j r e))) (λ j r r' e f. c.put_each.ensures.reach j r r' (subst (λ xs. At xs j r) (sym now) e) f) c.reserve.ensures.rows.rows),
@@ -146,7 +139,7 @@ invariant_of-self-then-is_untouched g c =
     let remains = put_remains g.D.Disk.Tells g.D.Disk.files g.D.Disk.fault_count c.args.pair c.args.cookie c.args.bytes.now c.self.inside.replicas.items c.put_each.new.replicas c.in-Err.broken left up in (
       subst (λ rs. IsShaped (volume_with c.self.inside.settings c.self.inside.number rs c.reserve.new.self c.self.inside.front c.self.inside.frozen c.self.inside.unsure)) (sym kept)
           (shaped_on c.self.inside.settings c.self.inside.number c.self.inside.replicas.items c.put_each.new.replicas c.self.inside.rows c.reserve.new.self c.self.inside.front c.self.inside.front c.self.inside.frozen c.self.inside.frozen c.self.inside.unsure c.self.inside.unsure
-          c.self.invariant.0 (c.self.invariant.0).frozen_by (c.put_each.ensures.counts.count ∙ ap length now) (λ j r r' e f. (remains j r r' e f).sup) c.reserve.ensures.rows.replicas
+          c.self.invariant.0 (c.self.invariant.0).frozen_by (c.self.invariant.0).settled (c.put_each.ensures.counts.count ∙ ap length now) (λ j r r' e f. (remains j r r' e f).sup) c.reserve.ensures.rows.replicas
           (λ none j r r' e f. all_thawed g.D.Disk.Tells g.D.Disk.files g.D.Disk.fault_count c.args.pair c.args.cookie c.args.bytes.now c.self.inside.replicas.items c.put_each.new.replicas c.in-Err.broken left un up j r r' e f)),
       c.self.invariant.1,
       subst (λ rs. CanReach g.D.Disk.Tells g.D.Disk.files rs c.reserve.new.self) (sym kept)
@@ -226,7 +219,7 @@ invariant_of-self-in-Err g c =
     let remains = put_remains g.D.Disk.Tells g.D.Disk.files g.D.Disk.fault_count c.args.pair c.args.cookie c.args.bytes.now c.self.inside.replicas.items c.put_each.new.replicas c.in-Err.broken left up in (
       subst (λ rs. IsShaped (volume_with c.self.inside.settings c.self.inside.number rs c.reserve.new.self c.self.inside.front (Some c.put_refusal-refusal.result.machine) (Some (record { tag = c.args.tag; change = change.Put c.ends_of-ends.result })))) (sym kept)
           (shaped_on c.self.inside.settings c.self.inside.number c.self.inside.replicas.items c.put_each.new.replicas c.self.inside.rows c.reserve.new.self c.self.inside.front c.self.inside.front c.self.inside.frozen (Some c.put_refusal-refusal.result.machine) c.self.inside.unsure (Some (record { tag = c.args.tag; change = change.Put c.ends_of-ends.result }))
-          c.self.invariant.0 (frozen_refusal c.self.inside.settings c.self.inside.number c.in-Err.broken.at c.in-Err.broken.fault c.put_refusal-refusal.result ((c.self.invariant.0).settings).some within c.put_refusal-refusal.ensures) (c.put_each.ensures.counts.count ∙ ap length now) (λ j r r' e f. (remains j r r' e f).sup) c.reserve.ensures.rows.replicas (λ none j r r' e f. some_none none)),
+          c.self.invariant.0 (frozen_refusal c.self.inside.settings c.self.inside.number c.in-Err.broken.at c.in-Err.broken.fault c.put_refusal-refusal.result ((c.self.invariant.0).settings).some within c.put_refusal-refusal.ensures) (λ none. some_none none) (c.put_each.ensures.counts.count ∙ ap length now) (λ j r r' e f. (remains j r r' e f).sup) c.reserve.ensures.rows.replicas (λ none j r r' e f. some_none none)),
       c.self.invariant.1,
       subst (λ rs. CanReach g.D.Disk.Tells g.D.Disk.files rs c.reserve.new.self) (sym kept)
           (same_rows g.D.Disk.Tells g.D.Disk.files c.self.inside.replicas.items c.put_each.new.replicas c.self.inside.rows c.reserve.new.self c.self.invariant.2 (c.put_each.ensures.counts.count ∙ ap length now) (λ j r r' e f. (λ u. up j r e, λ u. up_open r (up j r e))) (λ j r r' e f. c.put_each.ensures.reach j r r' (subst (λ xs. At xs j r) (sym now) e) f) c.reserve.ensures.rows.rows),
@@ -410,8 +403,19 @@ returns-then-is_untouched-clause-refused_unsure g c = inl (ap (λ v. v.unsure) c
 pub returns-else-is_untouched-clause-refused_unsure : goal.returns-else-is_untouched-clause-refused_unsure
 returns-else-is_untouched-clause-refused_unsure g c =
     put_broken c.self.inside.settings c.self.inside.number c.in-Err.broken.at c.args.tag (change.Put c.ends_of-ends.result) c.args.self.now.unsure c.in-Err.broken.fault c.put_refusal-refusal.result c.put_refusal-refusal.ensures
+    (ap (λ v. v.unsure) (sym c.self.view_is) ∙ (c.self.invariant.0).settled (ap (λ v. v.frozen) c.self.view_is ∙ c.in_ok-room.ensures.fits.0))
 
 pub returns-in-Ok-clause-of : goal.returns-in-Ok-clause-of
 returns-in-Ok-clause-of g c =
-    let next : c.in-Some.position ≡ c.self.inside.front + 1 = (let h = c.in-Some.ensures in omega (arith, h)) in
-    (refl, next ∙ ap (λ v. v.front + 1) c.self.view_is)
+    let next : c.in-Some.position ≡ c.self.inside.front + 1 = (let h = c.in-Some.ensures in omega (arith, h)) in (
+      refl,
+      next ∙ ap (λ v. v.front + 1) c.self.view_is,
+      c.in-Ok.ensures.places ∙ ap length c.as_mut_slice.ensures.value ∙ ap (λ v. length v.replicas) c.self.view_is ∙ c.requires.«open».all,
+    )
+
+pub returns-in_err-room-clause-takes : goal.returns-in_err-room-clause-takes
+returns-in_err-room-clause-takes g c = λ none fits.
+    let fine = subst IsOk c.in_err-room.was (c.room.ensures.takes none fits) in absurd cc
+
+pub returns-else-is_untouched-clause-takes : goal.returns-else-is_untouched-clause-takes
+returns-else-is_untouched-clause-takes g c = λ none fits. refusal_breaks c.self.inside.settings c.self.inside.number c.in-Err.broken.at c.in-Err.broken.fault c.put_refusal-refusal.result c.put_refusal-refusal.ensures
