@@ -1,9 +1,8 @@
 -- One piece of a script after another, up to a whole line.
-use Rattle.std.proofs.Common.{◌≡◌, ◌≢◌, ◌⊎◌, inl, inr, ◌==◌, ◌&&◌, ℕ, zero, suc, ◌+◌, ◌<◌, ◌≤◌, Bool, true, false, if◌then◌else◌, List, [], ◌∷◌, ◌++◌, length, Option, Some, None, refl, sym, ap, subst, ◌∙◌, append_assoc, length-append, arith, fold, filter}
-use Rattle.std.specs.Prelude.{slice_index_or, slice_set}
+use Rattle.std.proofs.Common.{◌≡◌, ◌≢◌, ◌⊎◌, inl, inr, ◌==◌, ◌&&◌, ℕ, zero, suc, ◌+◌, ◌<◌, ◌≤◌, Bool, true, false, if◌then◌else◌, List, [], ◌∷◌, ◌++◌, length, get_or}
+use Rattle.std.proofs.Common.{Option, Some, None, refl, sym, ap, subst, ◌∙◌, append_assoc, length-append, arith, fold, filter}
+use Rattle.std.specs.Prelude.{slice_index_or, slice_set, take, drop, ◌-◌, slice_range}
 use Rattle.std.specs.List.{onto_first, slice_split}
-use Rattle.std.specs.Prelude.{take, drop, ◌-◌, slice_range}
-use Rattle.std.proofs.Common.{get_or}
 use Rattle.std.proofs.lemmas.Grind.{common_steps}
 use Rattle.std.proofs.lemmas.List.{append-nil, drop-drop, drop-take, drop_all, length-drop, length-take, take-append-drop}
 use Rattle.memchr.specs.Find.{IsFirstByte, is_byte}
@@ -92,7 +91,8 @@ seen-other b rest n = grind (arith, nat_tests)
 pub seen-inner : (b c : ℕ) (rest : List ℕ) → c ≢ 10 → seen_byte b (c ∷ rest) ≡ b
 seen-inner b c rest n = grind (arith, nat_tests)
 
-says_fed_by : (b : ℕ) (bytes : List ℕ) → FirstByte b → NoFeed bytes → is_skipped (words_of (fed_text bytes)) ≡ silent_fed (start_of bytes) → is_skipped (words_of (fed_text (b ∷ bytes))) ≡ silent_fed (start_of (b ∷ bytes))
+says_fed_by : (b : ℕ) (bytes : List ℕ) → FirstByte b → NoFeed bytes → is_skipped (words_of (fed_text bytes)) ≡ silent_fed (start_of bytes)
+    → is_skipped (words_of (fed_text (b ∷ bytes))) ≡ silent_fed (start_of (b ∷ bytes))
 says_fed_by b bytes (blank e n f) free h =
     ap (λ (c : ℕ). is_skipped (words_of (c ∷ fed_text bytes))) (seen-other b (bytes ++ 10 ∷ []) n)
     ∙ ap (λ (words : List (List ℕ)). is_skipped words) (words-blank b (fed_text bytes) e) ∙ h
@@ -186,7 +186,8 @@ took_feed left before mid held held' given span first none e =
 pub took_whole : (left before mid : Option (List ℕ)) (held held' : Held) (given span : List ℕ) → Took before given mid → Took mid [] (rest_of left held)
     → span ≡ held.bytes → held'.bytes ≡ drop (length span) held.bytes → Took before (given ++ span) (rest_of left held')
 took_whole left before mid held held' given span first none whole passed =
-    let cut : held.bytes ≡ span ++ drop (length span) held.bytes = rw whole (sym (ap (λ (l : List ℕ). held.bytes ++ l) (drop_all (length held.bytes) held.bytes (omega arith)) ∙ append-nil held.bytes)) in
+    let gone = drop_all (length held.bytes) held.bytes (omega arith) in
+    let cut : held.bytes ≡ span ++ drop (length span) held.bytes = rw whole (sym (ap (λ (l : List ℕ). held.bytes ++ l) gone ∙ append-nil held.bytes)) in
     took_more before (rest_of left held) (rest_of left held') given span (took_held before mid (rest_of left held) given first none)
     (took_front left held held' span (cut ∙ ap (λ (l : List ℕ). span ++ l) (sym passed)))
 
@@ -269,13 +270,15 @@ kept_free kept given keeps free = subst NoFeed (sym keeps.0) free
 pub start_of-append : (given span : List ℕ) (start : LineStart) → start ≡ start_of given → fold start_behind start span ≡ start_of (given ++ span)
 start_of-append given span start e = ap (λ (s : LineStart). fold start_behind s span) e ∙ sym (fold-append start_behind Blank given span)
 
-long_fed_reads : (start : LineStart) (kept text : List ℕ) (before after : Option (List ℕ)) (ended : Bool) → TookLine before text after ended → MAX_LINE < length text → is_skipped (words_of text) ≡ silent_fed start → ReadsLine (long_fed start) kept before after ended
+long_fed_reads : (start : LineStart) (kept text : List ℕ) (before after : Option (List ℕ)) (ended : Bool)
+    → TookLine before text after ended → MAX_LINE < length text → is_skipped (words_of text) ≡ silent_fed start → ReadsLine (long_fed start) kept before after ended
 long_fed_reads Blank kept text before after ended took long says = (text, took, (long, says))
 long_fed_reads BlankReturn kept text before after ended took long says = (text, took, (long, says))
 long_fed_reads Comment kept text before after ended took long says = (text, took, (long, says))
 long_fed_reads Words kept text before after ended took long says = (text, took, (long, says))
 
-long_last_reads : (start : LineStart) (kept text : List ℕ) (before after : Option (List ℕ)) (ended : Bool) → TookLine before text after ended → MAX_LINE < length text → is_skipped (words_of text) ≡ silent_last start → ReadsLine (long_last start) kept before after ended
+long_last_reads : (start : LineStart) (kept text : List ℕ) (before after : Option (List ℕ)) (ended : Bool)
+    → TookLine before text after ended → MAX_LINE < length text → is_skipped (words_of text) ≡ silent_last start → ReadsLine (long_last start) kept before after ended
 long_last_reads Blank kept text before after ended took long says = (text, took, (long, says))
 long_last_reads BlankReturn kept text before after ended took long says = (text, took, (long, says))
 long_last_reads Comment kept text before after ended took long says = (text, took, (long, says))
@@ -328,7 +331,8 @@ reads_last true start items given before mid after ended read keeps free starts 
 -- WHOLE LINES
 
 pub took_fed_more : (texts : List (List ℕ)) (before mid after : Option (List ℕ)) (text : List ℕ) → TookFeds before texts mid → TookFed mid text after → TookFeds before (texts ++ text ∷ []) after
-took_fed_more [] before mid after text h k = (after, record { bytes = k.bytes; free = k.free; text_is = k.text_is; took = took_more before mid after [] (k.bytes ++ 10 ∷ []) h k.took }, took_nothing after)
+took_fed_more [] before mid after text h k =
+    (after, record { bytes = k.bytes; free = k.free; text_is = k.text_is; took = took_more before mid after [] (k.bytes ++ 10 ∷ []) h k.took }, took_nothing after)
 took_fed_more (first ∷ texts) before mid after text h k = (h.0, h.1, took_fed_more texts h.0 mid after text h.2 k)
 
 pub took_last_more : (texts : List (List ℕ)) (before mid after : Option (List ℕ)) (text : List ℕ) → TookFeds before texts mid → TookLast mid text after → TookToEnd before (texts ++ text ∷ []) after
