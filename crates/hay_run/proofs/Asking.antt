@@ -11,11 +11,12 @@ use Rattle.hay_legal.specs.declared.turn.Item.TheVariants as item
 use Rattle.hay_script.specs.Script.{line_of, lines_of, seen_byte}
 use Rattle.hay_legal.specs.Items.{Asked, OpenBlock, InBlock, empty_block, added, inside, outside, lanes_open, at_end, items_from, whole_items_from}
 use Rattle.hay_legal.specs.Items.Asked.{Alone, Block}
-use Rattle.hay_run.specs.Stream.{IsReadToEnd, TookAtMost, Held, rest_of, Accounts, IsTooLong, TookAll}
-use Rattle.hay_run.specs.Lines.{NoFeed, fed_text, TookFed, TookLine, TookFeds, TookToEnd, TookLines, TookSome}
-use Rattle.hay_run.specs.Items.{SaysNext, block_behind, Asks, TookItems, TookOpen, AsksAll}
+use Rattle.hay_lines.specs.Stream.{IsReadToEnd, TookAtMost, Held, rest_of, Accounts, IsTooLong, TookAll}
+use Rattle.hay_lines.specs.Lines.{NoFeed, fed_text, TookFed, TookLine, TookFeds, TookToEnd, TookLines, TookSome}
+use Rattle.hay_run.specs.Items.{block_behind, Asks, TookItems, TookOpen, AsksAll}
+use Rattle.hay_lines.specs.Said.{SaysNext}
 use Rattle.hay_disk.specs.Streams.{Took}
-use Rattle.hay_run.proofs.Taking.{took_nothing, took_more, took_fed_more, took_last_more, took_end, feeds_append, feeds_end, seen-inner, accounts_more, long_before}
+use Rattle.hay_lines.proofs.Taking.{took_nothing, took_more, took_fed_more, took_last_more, took_end, feeds_append, feeds_end, seen-inner, accounts_more, long_before}
 
 abbrev by_line : ℕ → Option OpenBlock → List ℕ → List Asked × Option OpenBlock
 by_line number held text = added number held (line_of (lanes_open held) text)

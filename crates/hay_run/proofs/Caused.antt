@@ -24,7 +24,7 @@ use Rattle.hay_run.specs.Causing.{Tally, Caused, ToldRefusal, ToldWanting, IsUno
 use Rattle.hay_run.specs.Items.{TookItems}
 use Rattle.hay_run.specs.Runs.{IsFirstRefusal, ReadBytes}
 use Rattle.hay_run.specs.Stops.{ending_of, note_of}
-use Rattle.hay_run.specs.Stream.{Held, rest_of}
+use Rattle.hay_lines.specs.Stream.{Held, rest_of}
 use Rattle.hay_run.specs.Turns.{HoldsNone}
 use Rattle.hay_run.proofs.Asking.{took_items_more}
 use Rattle.hay_run.proofs.Ran.{front_take, front_behind}

@@ -28,7 +28,7 @@ use Rattle.hay_run.specs.declared.stops.Stop.{Stop}
 use Rattle.hay_run.specs.declared.stops.Stop.TheVariants as stop
 use Rattle.hay_run.specs.Causing.{IsLaterTally, IsTextOf, AnswerTexts, Caused, IsNoteCaused, IsRestart, NotReopened, ToldRefusal, ToldWanting, StopCaused, TookLastItem, TurnStops, HasSureArm, Tally}
 use Rattle.hay_run.specs.Items.{TookOpen}
-use Rattle.hay_run.specs.Lines.{TookPart, TookOver, TookSome}
+use Rattle.hay_lines.specs.Lines.{TookPart, TookOver, TookSome}
 use Rattle.hay_run.specs.Stops.{note_of}
 use Rattle.hay_run.specs.Turns.{Writing}
 use Rattle.hay_run.specs.Unbuilt.{unbuilt_text}

@@ -8,7 +8,7 @@ use Rattle.hay_run.specs.declared.stops.Stop.TheVariants as stop
 use Rattle.hay_run.specs.Causing.{AllCaused, AnswerTexts, CausedUntil, IsRestart, StopCaused, StopTook, Tally, TookLastItem}
 use Rattle.hay_run.specs.Draws.{AsksNothing}
 use Rattle.hay_run.specs.Items.{AsksAll, TookItems}
-use Rattle.hay_run.specs.Stream.{Held, rest_of}
+use Rattle.hay_lines.specs.Stream.{Held, rest_of}
 use Rattle.hay_run.proofs.Asking.{took_items_more}
 use Rattle.hay_run.proofs.Reading.{front_read, rest_none}
 

@@ -12,7 +12,6 @@ pub mod Refuted
 pub mod Restarting
 pub mod Serving
 pub mod Stopping
-pub mod Taking
 pub mod Turning
 pub mod Unread
 pub mod Drawing

@@ -31,8 +31,8 @@ use Rattle.hay_legal.specs.Statuses.Ending.{ReadAll, OutputFault, InputFault, No
 use Rattle.hay_run.specs.declared.stops.Stop.{Stop}
 use Rattle.hay_run.specs.declared.stops.Stop.TheVariants as stop
 use Rattle.hay_run.specs.Stops.{ending_of}
-use Rattle.hay_run.specs.Stream.{Held, rest_of}
-use Rattle.hay_run.specs.Lines.{TookPart, TookOver, TookSome}
+use Rattle.hay_lines.specs.Stream.{Held, rest_of}
+use Rattle.hay_lines.specs.Lines.{TookPart, TookOver, TookSome}
 use Rattle.hay_run.specs.Items.{TookItems, TookOpen}
 use Rattle.hay_run.specs.Turns.{Writing, Standing, AnswersTurns, IsGoingOn, Refused, TurnedPart, RefusesRestart, Broke, HoldsNone, StopsTurn}
 use Rattle.hay_run.specs.Runs.{RanTo, ReadFront}

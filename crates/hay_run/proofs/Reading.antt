@@ -6,10 +6,10 @@ use Rattle.hay_disk.specs.Streams.{Took}
 use Rattle.hay_script.specs.Script.{lines_of}
 use Rattle.hay_legal.specs.Items.{Asked, items_of, items_from, items_before, whole_items_from, has_feed, fed_part}
 use Rattle.hay_legal.specs.Statuses.{IsFront}
-use Rattle.hay_run.specs.Stream.{Held, rest_of, TookOne}
-use Rattle.hay_run.specs.Lines.{NoFeed, TookFeds, TookPart, TookOver, TookSome}
+use Rattle.hay_lines.specs.Stream.{Held, rest_of, TookOne}
+use Rattle.hay_lines.specs.Lines.{NoFeed, TookFeds, TookPart, TookOver, TookSome}
 use Rattle.hay_run.specs.Items.{block_behind, TookItems, TookOpen}
-use Rattle.hay_run.proofs.Taking.{feeds_append}
+use Rattle.hay_lines.proofs.Taking.{feeds_append}
 use Rattle.hay_run.proofs.Asking.{lines_of-fed, items_from-append, whole_items_from-append, asks_whole, fed_lines, asks_all, at_end_turn}
 
 -- lines that end with their feeds, and whatever follows them

@@ -14,8 +14,8 @@ use Rattle.hay_cluster.specs.Store.{Open, contents_in}
 use Rattle.hay_run.specs.declared.stops.Stop.{Stop}
 use Rattle.hay_run.specs.declared.stops.Stop.TheVariants as stop
 use Rattle.hay_run.specs.Items.{TookOpen}
-use Rattle.hay_run.specs.Lines.{TookPart, TookOver, TookSome}
-use Rattle.hay_run.specs.Stream.{Held}
+use Rattle.hay_lines.specs.Lines.{TookPart, TookOver, TookSome}
+use Rattle.hay_lines.specs.Stream.{Held}
 use Rattle.hay_run.specs.Turns.{Standing, AnswersAll, Appends, Broke, RefusesRestart, StopsTurn, HoldsNone, counts_of, RefusedFor, Halts}
 use Rattle.hay_run.proofs.Counting.{NoneFalls-at, rose_more}
 
@@ -107,6 +107,12 @@ read_by : {T : Type 0} (r : Result T Stop) → (r ≡ Err stop.TooLong → ⊥) 
 read_by r other (inl e) = inl e
 read_by r other (inr (inl e)) = inr e
 read_by r other (inr (inr e)) = absurd (other e)
+
+-- one of two stops, of another call that stopped so
+pub either_stop : {T U : Type 0} (r : Result T Stop) (w : Result U Stop) (why : Stop) → r ≡ Err why → w ≡ Err why
+    → IsErrOf w stop.Input ⊎ IsErrOf w stop.NoMemory → IsErrOf r stop.Input ⊎ IsErrOf r stop.NoMemory
+either_stop r w why is same (inl e) = inl cc
+either_stop r w why is same (inr e) = inr cc
 
 pub read_stop : {T U : Type 0} (r : Result T Stop) (w : Result U Stop) (why : Stop) → r ≡ Err why → w ≡ Err why → OnErr r ((r ≡ Err stop.Input) ⊎ (r ≡ Err stop.NoMemory) ⊎ (r ≡ Err stop.TooLong))
     → IsErrOf w stop.Input ⊎ IsErrOf w stop.NoMemory ⊎ IsErrOf w stop.Output ⊎ IsErrOf w stop.Store → IsErrOf r stop.Input ⊎ IsErrOf r stop.NoMemory

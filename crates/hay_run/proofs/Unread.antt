@@ -7,7 +7,7 @@ use Rattle.hay_legal.specs.Items.Asked.{Alone}
 use Rattle.hay_legal.specs.Statuses.{IsFront}
 use Rattle.hay_cluster.specs.Store.{Open}
 use Rattle.hay_run.specs.declared.stops.Stop.TheVariants as stop
-use Rattle.hay_run.specs.Stream.{rest_of}
+use Rattle.hay_lines.specs.Stream.{rest_of}
 use Rattle.hay_run.specs.Turns.{Standing, ServedUntil}
 use Rattle.hay_run.proofs.Asking.{took_items_more}
 use Rattle.hay_run.proofs.Reading.{front_read}

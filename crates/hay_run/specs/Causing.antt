@@ -30,10 +30,10 @@ use Rattle.hay_cluster.specs.Suiting.{Suits}
 use Rattle.hay_run.specs.declared.stops.Stop.{Stop}
 use Rattle.hay_run.specs.declared.stops.Stop.TheVariants as stop
 use Rattle.hay_run.specs.Items.{TookItems, TookOpen, AsksAll}
-use Rattle.hay_run.specs.Lines.{TookPart, TookOver, TookSome}
+use Rattle.hay_lines.specs.Lines.{TookPart, TookOver, TookSome}
 use Rattle.hay_run.specs.Runs.{IsFirstRefusal, ReadBytes}
 use Rattle.hay_run.specs.Stops.{ending_of}
-use Rattle.hay_run.specs.Stream.{Held, rest_of}
+use Rattle.hay_lines.specs.Stream.{Held, rest_of}
 use Rattle.hay_run.specs.Turns.{Writing, HoldsNone}
 use Rattle.hay_run.specs.Unbuilt.{unbuilt_text}
 

@@ -1,16 +1,8 @@
 -- What lines ask for.
 use Rattle.std.specs.Prelude.{◌≡◌, ◌⊎◌, ℕ, ◌+◌, Bool, true, List, [], ◌∷◌, length, Option, Some, None}
-use Rattle.hay_script.specs.declared.Line.{Line}
 use Rattle.hay_script.specs.Script.{line_of}
 use Rattle.hay_legal.specs.Items.{Asked, OpenBlock, added, lanes_open, items_of, items_from, whole_items_from}
-use Rattle.hay_run.specs.Stream.{TookAll}
-use Rattle.hay_run.specs.Lines.{TookLine, TookFeds, TookLines}
-
--- what came next says this, outside of a block or in one of so many lanes
-abbrev pub SaysNext : Option ℕ → Option Line → Option (List ℕ) → Option (List ℕ) → Bool → Type 0
-SaysNext lanes None before after ended = TookAll before [] after × (ended ≡ true)
-SaysNext lanes (Some said) before after ended =
-    (text : List ℕ) × TookLine before text after ended × (said ≡ line_of lanes text)
+use Rattle.hay_lines.specs.Lines.{TookFeds, TookLines}
 
 -- the block that is open behind lines, whose first has this number
 abbrev pub block_behind : ℕ → Option OpenBlock → List (List ℕ) → Option OpenBlock

@@ -1,11 +1,9 @@
 pub mod Causing
 pub mod Checking
 pub mod Items
-pub mod Lines
 pub mod Runs
 pub mod Stopping
 pub mod Stops
-pub mod Stream
 pub mod Turns
 pub mod Unbuilt
 pub mod Words

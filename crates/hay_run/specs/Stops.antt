@@ -6,14 +6,15 @@ use Rattle.hay_legal.specs.Statuses.{Ending}
 use Rattle.hay_legal.specs.Statuses.Ending.{OutputFault, InputFault, NoMemory, NotOpened, TooLong}
 use Rattle.hay_cluster.specs.declared.fault.ClusterFault.{ClusterFault}
 use Rattle.hay_cluster.specs.declared.fault.ClusterFault.TheVariants as refusal
-use Rattle.hay_run.specs.declared.stops.ReadFault.{ReadFault}
-use Rattle.hay_run.specs.declared.stops.ReadFault.TheVariants as fault
+use Rattle.hay_lines.specs.declared.fault.LineFault.{LineFault}
+use Rattle.hay_lines.specs.declared.fault.LineFault.TheVariants as fault
 use Rattle.hay_run.specs.declared.stops.Stop.{Stop}
 use Rattle.hay_run.specs.declared.stops.Stop.TheVariants as stop
 
-abbrev pub stop_of : ReadFault → Stop
-stop_of fault.Failed = stop.Input
+abbrev pub stop_of : LineFault → Stop
+stop_of fault.Input = stop.Input
 stop_of fault.TooLong = stop.TooLong
+stop_of fault.NoMemory = stop.NoMemory
 
 abbrev pub ending_of : Stop → Ending
 ending_of stop.Output = OutputFault

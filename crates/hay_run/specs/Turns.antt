@@ -23,8 +23,8 @@ use Rattle.hay_cluster.specs.Outside.{IsDamagedDisk, IsUndamagedBelow}
 use Rattle.hay_cluster.specs.Store.{Open, contents_in, disks_of}
 use Rattle.hay_run.specs.declared.stops.Stop.{Stop}
 use Rattle.hay_run.specs.declared.stops.Stop.TheVariants as stop
-use Rattle.hay_run.specs.Stream.{Held, rest_of}
-use Rattle.hay_run.specs.Lines.{TookPart, TookOver, TookSome}
+use Rattle.hay_lines.specs.Stream.{Held, rest_of}
+use Rattle.hay_lines.specs.Lines.{TookPart, TookOver, TookSome}
 use Rattle.hay_run.specs.Items.{TookItems, TookOpen, AsksAll}
 
 -- what is written of a text, from what a sink held before to what it holds after

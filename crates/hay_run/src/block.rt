@@ -5,16 +5,16 @@ ghost use Rattle.hay_script.specs.declared.Command.{Command};
 ghost use Rattle.hay_legal.specs.Items.{empty_block, with_bad, with_command, inside};
 ghost use Rattle.hay_legal.specs.Items.Asked.{Block};
 ghost use Rattle.hay_run.specs.Items.{TookItems, TookOpen};
-ghost use Rattle.hay_run.specs.Lines.{TookPart, TookOver, TookSome};
-ghost use Rattle.hay_run.specs.Stream.{rest_of, budget, Accounts, IsTooLong};
+ghost use Rattle.hay_lines.specs.Lines.{TookPart, TookOver, TookSome};
+ghost use Rattle.hay_lines.specs.Stream.{rest_of, budget, Accounts, IsTooLong};
 ghost use Rattle.hay_run.specs.Unbuilt.{unbuilt_reply, unbuilt_text};
 
-use crate::bytes::SCRIPT;
-use crate::lines::ScriptLines;
+use crate::said::next_said;
 use crate::stops::Stop;
 use hay_base::{Listed, NoMemory};
 use hay_disk::Source;
 use hay_legal::turn::Item;
+use hay_lines::{SCRIPT, ScriptLines};
 use hay_reply::{Reply, numbered_line};
 use hay_script::{Command, Line};
 use std::alloc::Global;
@@ -177,7 +177,7 @@ fn read_lines<S: Source>(
 {
     let mut next = number;
     'lines: loop {
-        let Some(said) = script.next_said(alloc, source, Some(block.lanes()))? else {
+        let Some(said) = next_said(alloc, script, source, Some(block.lanes()))? else {
             return Ok((block, next));
         };
         let closed = block.take(next, said)?;

@@ -1,5 +1,5 @@
 //! The program's run: a script comes in, and a transcript goes out. It stands on `hay_cluster`, which answers one command,
-//! on the grammar of `hay_script`, the texts of `hay_reply` and the rules of `hay_legal`, and on the source, the sink and the
+//! on the lines of `hay_lines`, the texts of `hay_reply` and the rules of `hay_legal`, and on the source, the sink and the
 //! shelf that `hay_disk` describes.
 //!
 //! What it promises, where the source, the sink and the disks tell, and the disks are void or of the run's settings: after
@@ -12,15 +12,14 @@
 #![tactic(auto)]
 
 mod block;
-mod bytes;
 mod check;
-mod lines;
 mod program;
+mod said;
 mod serve;
 mod stops;
 mod turns;
 mod words;
 mod writing;
 
-pub use bytes::SCRIPT;
+pub use hay_lines::SCRIPT;
 pub use program::run;

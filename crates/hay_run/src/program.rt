@@ -13,14 +13,13 @@ ghost use Rattle.hay_cluster.specs.Store.{IsBuilt};
 ghost use Rattle.hay_run.specs.declared.stops.Stop.{Stop};
 ghost use Rattle.hay_run.specs.Causing.{CausedRun, ending_in};
 ghost use Rattle.hay_run.specs.Draws.{AsksNothing, drawn_of};
-ghost use Rattle.hay_run.specs.Stream.{IsReadToEnd, TookAtMost};
+ghost use Rattle.hay_lines.specs.Stream.{IsReadToEnd, TookAtMost};
 ghost use Rattle.hay_run.specs.Stops.{ending_of};
 ghost use Rattle.hay_run.specs.Runs.{HasOpened, IsNotOpened, IsNotOpenedBehind, IsSureStill, IsTaken, RanTo, WasRead};
 ghost use Rattle.hay_run.specs.Turns.{Appends};
 ghost use Rattle.hay_run.specs.Checking.{ChecksTo, IsUnchanged};
 ghost use Rattle.hay_run.specs.Words.{IsCommand, SaysCheck, SaysRun};
 
-use crate::bytes::SCRIPT;
 use crate::check::check_store;
 use crate::serve::serve;
 use crate::stops::Stop;
@@ -30,6 +29,7 @@ use hay_base::NoMemory;
 use hay_cli::Mode;
 use hay_cluster::Cluster;
 use hay_disk::{Shelf, Sink, Source};
+use hay_lines::SCRIPT;
 use hay_needle::Settings;
 use std::alloc::Global;
 

@@ -7,15 +7,14 @@ ghost use Rattle.hay_cluster.specs.Causes.{StaySure};
 ghost use Rattle.hay_cluster.specs.Store.{IsUp, disks_of};
 ghost use Rattle.hay_run.specs.declared.stops.Stop.{Stop};
 ghost use Rattle.hay_run.specs.Causing.{tally_of, AllCaused, CausedUntil};
-ghost use Rattle.hay_run.specs.Stream.{IsReadToEnd, TookAtMost};
+ghost use Rattle.hay_lines.specs.Stream.{IsReadToEnd, TookAtMost};
 ghost use Rattle.hay_run.specs.Turns.{Appends, Serves, ServedUntil, Halts};
 
-use crate::bytes::SCRIPT;
-use crate::lines::ScriptLines;
 use crate::stops::Stop;
 use crate::turns::turn;
 use hay_cluster::Cluster;
 use hay_disk::{Arm, Disk, Sink, Source};
+use hay_lines::{SCRIPT, ScriptLines};
 use std::alloc::Global;
 
 /// Answers what a script asks for, from first to last.

@@ -2,16 +2,8 @@
 ghost use Rattle.std.specs.Prelude.{◌≡◌};
 
 use hay_base::NoMemory;
+use hay_lines::LineFault;
 use std::alloc::AllocFailed;
-
-/// Why no more of a script was read.
-#[derive(Clone, Copy, Debug, PartialEq, Eq)]
-pub enum ReadFault {
-    /// The source failed, and its count of faults rose.
-    Failed,
-    /// A script may not be longer than what was taken, and more came.
-    TooLong,
-}
 
 /// Why a run ended before its script did.
 #[derive(Clone, Copy, Debug, PartialEq, Eq)]
@@ -46,15 +38,16 @@ impl Stop {
     }
 }
 
-impl From<ReadFault> for Stop {
+impl From<LineFault> for Stop {
     ghost use Rattle.hay_run.specs.Stops.{stop_of};
 
     ghost from_gives = { λ fault stop. stop ≡ stop_of fault };
 
-    fn from(fault: ReadFault) -> Self {
+    fn from(fault: LineFault) -> Self {
         match fault {
-            ReadFault::Failed => Stop::Input,
-            ReadFault::TooLong => Stop::TooLong,
+            LineFault::Input => Stop::Input,
+            LineFault::TooLong => Stop::TooLong,
+            LineFault::NoMemory => Stop::NoMemory,
         }
     }
 }

@@ -17,20 +17,20 @@ ghost use Rattle.hay_cluster.specs.Store.{IsUp, disks_of};
 ghost use Rattle.hay_run.specs.declared.stops.Stop.{Stop};
 ghost use Rattle.hay_run.specs.Causing.{tally_of, Caused, StopCaused, TurnStops, TurnCaused};
 ghost use Rattle.hay_run.specs.Items.{TookOpen};
-ghost use Rattle.hay_run.specs.Lines.{TookPart, TookOver, TookSome};
-ghost use Rattle.hay_run.specs.Stream.{rest_of, budget, Accounts, IsTooLong};
+ghost use Rattle.hay_lines.specs.Lines.{TookPart, TookOver, TookSome};
+ghost use Rattle.hay_lines.specs.Stream.{rest_of, budget, Accounts, IsTooLong};
 ghost use Rattle.hay_run.specs.Stops.{note_of};
 ghost use Rattle.hay_run.specs.Turns.{AnswersAll, AnswersPart, Appends, Turned, RefusesRestart, Broke, Halts};
 ghost use Rattle.hay_run.specs.Stopping.{RefusedAsked, BrokeAsked};
 
 use crate::block::read_block;
-use crate::bytes::SCRIPT;
-use crate::lines::ScriptLines;
+use crate::said::next_said;
 use crate::stops::Stop;
 use crate::writing::{write_block, write_refusal, write_reply, write_restarted};
 use hay_cluster::{Cluster, ClusterFault};
 use hay_core::CoreTag;
 use hay_disk::{Arm, Disk, Sink, Source};
+use hay_lines::{SCRIPT, ScriptLines};
 use hay_reply::Reply;
 use hay_script::{Command, Line};
 use std::alloc::Global;
@@ -201,7 +201,7 @@ pub fn turn<D: Disk, A: Arm<D::Piece>, S: Source, K: Sink>(
     ensures appends { Appends (K.written sink.old) (K.written sink.new) }
     ensures settings { cluster.new.settings ≡ cluster.old.settings }
 {
-    let Some(said) = script.next_said(alloc, source, None)? else {
+    let Some(said) = next_said(alloc, script, source, None)? else {
         return Ok(number);
     };
     if let Line::Lanes(lanes) = said {

@@ -1,8 +1,8 @@
 use Rattle.std.proofs.Common.{◌≡◌, ℕ, ◌+◌, ◌≤◌, false, List, [], length, Some}
 use Rattle.hay_legal.specs.Items.{whole_items_from}
 use Rattle.hay_run.specs.Items.{block_behind}
-use Rattle.hay_run.specs.Lines.{TookFeds}
-use Rattle.hay_run.specs.Stream.{rest_of, budget, Accounts}
+use Rattle.hay_lines.specs.Lines.{TookFeds}
+use Rattle.hay_lines.specs.Stream.{rest_of, budget, Accounts}
 use Rattle.hay_run.proofs.block.read_lines.Given as goal
 
 abbrev pub invariant-lines : goal.invariant-lines

@@ -4,11 +4,11 @@ use Rattle.hay_run.specs.declared.stops.Stop.{Stop}
 use Rattle.std.proofs.lemmas.Result.{err_from_is_err_and}
 use Rattle.hay_cluster.specs.State.{Stands, Holds}
 use Rattle.hay_cluster.specs.Store.{disks_of}
-use Rattle.hay_run.specs.Stream.{rest_of, Accounts}
+use Rattle.hay_lines.specs.Stream.{rest_of, Accounts}
 use Rattle.hay_run.proofs.Asking.{took_first, took_items_more, asks_all, at_end_turn, read_to_end, short_script, taken_most}
 use Rattle.hay_cluster.proofs.Sure.{same_sure}
 use Rattle.hay_run.proofs.Counting.{NoneFalls-same, NoneFalls-more, sure_more}
-use Rattle.hay_run.proofs.Taking.{accounts_same, accounts_more}
+use Rattle.hay_lines.proofs.Taking.{accounts_same, accounts_more}
 use Rattle.hay_disk.specs.Streams.{Wrote}
 use Rattle.hay_needle.specs.declared.settings.Settings.{Settings}
 use Rattle.hay_run.specs.Causing.{tally_of, Caused, TurnStops}

@@ -7,7 +7,7 @@ use Rattle.hay_cluster.specs.Store.{IsUp, disks_of}
 use Rattle.hay_disk.specs.Streams.{Wrote}
 use Rattle.hay_run.specs.Causing.{tally_of, Caused}
 use Rattle.hay_run.specs.Items.{TookItems}
-use Rattle.hay_run.specs.Stream.{Held, rest_of, budget, Accounts}
+use Rattle.hay_lines.specs.Stream.{Held, rest_of, budget, Accounts}
 use Rattle.hay_run.specs.Turns.{AnswersAll, Appends}
 use Rattle.hay_run.proofs.serve.serve.Given as goal
 
