@@ -5,8 +5,8 @@ pub mod ClosingSlots
 pub mod ClosingStore
 pub mod Finds
 pub mod Fitting
+pub mod Formatted
 pub mod GivenDraws
-pub mod Homes
 pub mod Leaving
 pub mod Lists
 pub mod Machines
@@ -26,7 +26,6 @@ pub mod OpeningVolumes
 pub mod Pending
 pub mod Puts
 pub mod Refusals
-pub mod Rooms
 pub mod Showing
 pub mod Standing
 pub mod Suiting

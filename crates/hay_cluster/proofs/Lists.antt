@@ -1,6 +1,5 @@
 -- Laws of lists of lists, and of facts of two lists place by place.
-use Rattle.std.proofs.Common.{◌≡◌, ℕ, zero, suc, ◌+◌, ◌*◌, ◌<◌, ◌≤◌, List, [], ◌∷◌, ◌++◌, length, map, Some, refl, sym, ap, subst, ◌∙◌, arith, ◌^◌}
-use Rattle.std.proofs.Math.Nat.{mul-le-mul_left}
+use Rattle.std.proofs.Common.{◌≡◌, ℕ, zero, suc, ◌+◌, ◌*◌, ◌<◌, ◌≤◌, List, [], ◌∷◌, ◌++◌, length, map, Some, refl, sym, ap, subst, ◌∙◌, arith}
 use Rattle.std.specs.Prelude.{slice_get, slice_index, slice_index_or, slice_set}
 use Rattle.std.specs.List.{AllByRecursion, AllZip, flat_map}
 use Rattle.hay_mount.specs.Mounts.{InOrder}
@@ -209,7 +208,3 @@ module _ {X D : Type 0} (f : D → ℕ) (g : X → List D) where
       behind (a ∷ front) back k =
           let e : length (a ∷ front) + k ≡ suc (length front + k) = omega arith in
           ap (λ z. slice_index (a ∷ (front ++ back)) z) e ∙ behind front back k
-
--- where many items fit in memory, each of them does
-pub one_fits : (n k : ℕ) → 0 < n → n * k < 2 ^ 63 → k < 2 ^ 63
-one_fits n k some room = let one = mul-le-mul_left k some in omega (arith, one, room)

@@ -1,5 +1,6 @@
 -- Flushes and compactions are legal.
-use Rattle.std.proofs.Common.{◌≡◌, ℕ, ◌<◌, List, [], ◌∷◌, length, map, Option, Some, None, refl, sym, ap, subst, ◌∙◌, inl, inr}
+use Rattle.std.proofs.Common.{◌≡◌, ℕ, ◌<◌, ◌≤◌, List, [], ◌∷◌, length, map, Option, Some, None, refl, sym, ap, subst, ◌∙◌, inl, inr, arith}
+use Rattle.std.specs.Prelude.{min}
 use Rattle.hay_needle.specs.declared.settings.Settings.{Settings}
 use Rattle.hay_disk.specs.Disk.{Files}
 use Rattle.hay_script.specs.declared.Command.TheVariants as command
@@ -213,7 +214,7 @@ module _ {D P A : Type 0} (files : D → Files) (Tells : Type 0) (faults fuses :
     not_stepped tag cells NoMemory answer cause (thawed, (run, n, stood, few, stands)) told =
         let came = asked.comes (change_at (volume_at k v) j (with_run (stepped n run))) stands in
         told_by tag (Step cells) reply.NoMem answer came.known told
-        (found_here (λ i. LegalStep old.settings k v m i cells) _ came.known (inr (thawed, run, n, stood, few, came.leaves))) came.stands
+        (found_here (λ i. LegalStep old.settings k v m i cells) _ came.known (inr (thawed, run, n, stood, (let most : n ≤ min cells run.left = omega (arith, few) in most), came.leaves))) came.stands
     not_stepped tag cells _ answer cause refused told = absurd refused
 
     not_finished : (tag : CoreTag) (fault : LogicalFault) (answer : Reply) → IsReplicaCause old.settings Finish v j (map faults (disks_of old)) (map faults (disks_of new)) fault

@@ -1,5 +1,5 @@
 -- Which lines left a change or a row pending: laws of calls, of replies and of restarts.
-use Rattle.std.proofs.Common.{◌≡◌, ◌⊎◌, ℕ, zero, suc, ◌+◌, ◌<◌, List, [], ◌∷◌, ◌++◌, length, map, Option, Some, None, inl, inr, refl, sym, ap, subst, ◌∙◌, arith}
+use Rattle.std.proofs.Common.{◌≡◌, ◌⊎◌, true, false, ℕ, zero, suc, ◌+◌, ◌<◌, List, [], ◌∷◌, ◌++◌, length, map, Option, Some, None, inl, inr, refl, sym, ap, subst, ◌∙◌, arith}
 use Rattle.std.specs.Prelude.{replicate, slice_get, slice_set}
 use Rattle.std.specs.List.{AllByRecursion, AllZip}
 use Rattle.hay_needle.specs.declared.settings.Settings.{Settings}
@@ -14,10 +14,11 @@ use Rattle.hay_reply.specs.Fits.{FitsNote}
 use Rattle.hay_directory.specs.declared.fault.DirFault.{DirFault}
 use Rattle.hay_directory.specs.declared.fault.DirFault.TheVariants as settling
 use Rattle.hay_directory.specs.declared.mode.Mode.{Mode}
+use Rattle.hay_directory.specs.declared.mode.Mode.TheVariants.{Closed, Frozen, Open as Serving}
 use Rattle.hay_directory.specs.declared.mode.Unsure.{Unsure as UnsureRow}
 use Rattle.hay_directory.specs.Notes as noting
 use Rattle.hay_directory.specs.State as directory
-use Rattle.hay_directory.specs.State.{LeavesMode, State, unsure_of}
+use Rattle.hay_directory.specs.State.{LeavesMode, State, is_closed, is_frozen, unsure_of}
 use Rattle.hay_logical.specs.declared.fault.LogicalFault.{LogicalFault}
 use Rattle.hay_logical.specs.declared.fault.LogicalFault.TheVariants as refusal
 use Rattle.hay_logical.specs.declared.unsure.Unsure.{Unsure}
@@ -25,12 +26,12 @@ use Rattle.hay_logical.specs.Fits.{At}
 use Rattle.hay_logical.specs.Notes.{DeleteLeavesUnsure, IsBrokenOff, NotesTell, PutLeavesUnsure}
 use Rattle.hay_logical.specs.Volumes.{Volume}
 use Rattle.hay_cluster.specs.Changes.{IsDeleteReply}
-use Rattle.hay_cluster.specs.Opening.{Gathers, OpensDirectory, OpensParts, OpensVolume, StopsVolume}
-use Rattle.hay_cluster.specs.Pending.{DeleteLeft, LeavesDelete, LeavesPut, PendingLines, PutLeft, RowLeft, TellsChange, TellsChanges, TellsNoFailure, TellsPending, TellsRow, line_of_change, line_of_row, none_pending, pending_change, pending_of, pending_row, with_change, with_row}
+use Rattle.hay_cluster.specs.Opening.{Gathers, OpensParts, OpensVolume, StopsVolume}
+use Rattle.hay_cluster.specs.Pending.{ChangePends, DeleteLeft, LeavesDelete, LeavesPut, PendingLines, PutLeft, RowLeft, TellsChange, TellsChanges, TellsNoFailure, TellsPending, TellsRow, line_of_change, line_of_row, none_pending, pending_change, pending_of, pending_row, with_change, with_row}
 use Rattle.hay_cluster.specs.Puts.{IsPutReply, IsRefusal, settle_reply}
 use Rattle.hay_cluster.specs.Store.{Open, IsShaped, IsVolumeOf}
 use Rattle.hay_cluster.proofs.Moves.{with_directory, with_one}
-use Rattle.hay_cluster.proofs.OpeningStore.{MovedParts, StoppedParts}
+use Rattle.hay_cluster.proofs.OpeningStore.{StoppedParts}
 
 -- ONE ITEM OF A LIST
 
@@ -45,6 +46,17 @@ map-kept f [] i x x' at is = absurd cc
 map-kept f (y ∷ xs) zero x x' at is = let same : y ≡ x = cc in ap (λ b. b ∷ map f xs) (is ∙ ap f (sym same))
 map-kept f (y ∷ xs) (suc i) x x' at is = ap (λ zs. f y ∷ zs) (map-kept f xs i x x' at is)
 
+map-at : {A B : Type 0} (f : A → B) (xs : List A) (i : ℕ) (x : A) → slice_get xs i ≡ Some x → slice_get (map f xs) i ≡ Some (f x)
+map-at f [] i x at = absurd cc
+map-at f (y ∷ xs) zero x at = let same : y ≡ x = cc in ap (λ z. Some (f z)) same
+map-at f (y ∷ xs) (suc i) x at = map-at f xs i x at
+
+-- a directory that is open has no row pending
+open_sure : (mode : Mode) → is_closed mode ≡ false → (is_frozen mode ≡ true → ⊥) → unsure_of mode ≡ None
+open_sure (Closed unsure) up thawed = absurd cc
+open_sure Serving up thawed = refl
+open_sure (Frozen unsure) up thawed = absurd (thawed refl)
+
 -- A CALL OF ONE VOLUME
 
 abbrev pending_with : List (Option ℕ) → Option ℕ → PendingLines
@@ -57,23 +69,28 @@ module _ {D P A : Type 0} where
       ap (λ changes. pending_with changes (pending_row store.directory)) (map-kept pending_change store.volumes v before after at (ap line_of_change kept))
       ∙ ap (λ (st : Open D P A). pending_of st) is
 
-  pub called_broken : (old store : Open D P A) (v : ℕ) (after : Volume D P) (tag : CoreTag) → store ≡ old → IsBrokenOff tag after.unsure
-      → pending_of (with_one store v after) ≡ with_change v tag.line (pending_of old)
-  called_broken old store v after tag is broken =
-      ap (λ changes. pending_with changes (pending_row store.directory)) (map-set pending_change store.volumes v after ∙ ap (λ line. slice_set (map pending_change store.volumes) v line) (ap line_of_change broken.1))
-      ∙ ap (λ (st : Open D P A). with_change v tag.line (pending_of st)) is
+  pub called_broken : (old store : Open D P A) (v : ℕ) (before after : Volume D P) (tag : CoreTag) → store ≡ old → At store.volumes v before → IsBrokenOff tag before.unsure after.unsure
+      → ChangePends v tag.line (pending_of old) (pending_of (with_one store v after))
+  called_broken old store v before after tag is at broken = (
+    ap (λ (st : Open D P A). slice_get (map pending_change st.volumes) v) (sym is) ∙ map-at pending_change store.volumes v before at ∙ ap (λ unsure. Some (line_of_change unsure)) broken.settled,
+    ap (λ changes. pending_with changes (pending_row store.directory)) (map-set pending_change store.volumes v after ∙ ap (λ line. slice_set (map pending_change store.volumes) v line) (ap line_of_change broken.is))
+        ∙ ap (λ (st : Open D P A). with_change v tag.line (pending_of st)) is,
+  )
 
   module _ (old store : Open D P A) (v : ℕ) (before after : Volume D P) (tag : CoreTag) (is : store ≡ old) (at : At store.volumes v before) where
     kept : after.unsure ≡ before.unsure → pending_of (with_one store v after) ≡ pending_of old
     kept same = called_kept old store v before after is at same
 
-    perhaps : (after.unsure ≡ before.unsure) ⊎ IsBrokenOff tag after.unsure
-        → (pending_of (with_one store v after) ≡ pending_of old) ⊎ (pending_of (with_one store v after) ≡ with_change v tag.line (pending_of old))
+    broke : IsBrokenOff tag before.unsure after.unsure → ChangePends v tag.line (pending_of old) (pending_of (with_one store v after))
+    broke broken = called_broken old store v before after tag is at broken
+
+    perhaps : (after.unsure ≡ before.unsure) ⊎ IsBrokenOff tag before.unsure after.unsure
+        → (pending_of (with_one store v after) ≡ pending_of old) ⊎ ChangePends v tag.line (pending_of old) (pending_of (with_one store v after))
     perhaps (inl same) = inl (kept same)
-    perhaps (inr broken) = inr (called_broken old store v after tag is broken)
+    perhaps (inr broken) = inr (broke broken)
 
     pub put_left : (fault : LogicalFault) → PutLeavesUnsure tag before.unsure after.unsure fault → PutLeft tag.line v (pending_of old) (pending_of (with_one store v after)) fault
-    put_left (refusal.Failed m count) left = called_broken old store v after tag is left
+    put_left (refusal.Failed m count) left = broke left
     put_left refusal.NoMemory left = perhaps left
     put_left (refusal.ReadOnly m) left = kept left
     put_left (refusal.Full m end need capacity) left = kept left
@@ -100,12 +117,16 @@ module _ {D P A : Type 0} where
   directory_kept old store after is same =
       ap (λ (mode : Mode). pending_with (map pending_change store.volumes) (line_of_row (unsure_of mode))) same ∙ ap (λ (st : Open D P A). pending_of st) is
 
-  pub row_left : (old store : Open D P A) (after : State D) (row : UnsureRow) (fault : DirFault) → store ≡ old → LeavesMode row (store.directory).mode after.mode fault
+  pub row_left : (old store : Open D P A) (after : State D) (row : UnsureRow) (fault : DirFault) → store ≡ old → directory.IsUp old.directory
+      → (directory.IsFrozen store.directory → fault ≡ settling.Frozen) → LeavesMode row (store.directory).mode after.mode fault
       → RowLeft (row.tag).line (pending_of old) (pending_of (with_directory store after)) fault
-  row_left old store after row settling.Frozen is left = directory_kept old store after is left
-  row_left old store after row settling.NoMemory is left = directory_kept old store after is left
-  row_left old store after row (settling.Failed faults) is left =
-      ap (λ (mode : Mode). pending_with (map pending_change store.volumes) (line_of_row (unsure_of mode))) left ∙ ap (λ (st : Open D P A). with_row (row.tag).line (pending_of st)) is
+  row_left old store after row settling.Frozen is up thawed left = directory_kept old store after is left
+  row_left old store after row settling.NoMemory is up thawed left = directory_kept old store after is left
+  row_left old store after row (settling.Failed faults) is up thawed left = (
+    ap line_of_row (open_sure (old.directory).mode up
+        (λ frozen. let wrong : settling.Failed faults ≡ settling.Frozen = thawed (subst (λ (st : Open D P A). directory.IsFrozen st.directory) (sym is) frozen) in cc)),
+    ap (λ (mode : Mode). pending_with (map pending_change store.volumes) (line_of_row (unsure_of mode))) left ∙ ap (λ (st : Open D P A). with_row (row.tag).line (pending_of st)) is,
+  )
 
 -- REPLIES
 

@@ -20,7 +20,7 @@ use Rattle.hay_cluster.specs.declared.maintenance.Maintenance.{Maintenance}
 use Rattle.hay_cluster.specs.declared.maintenance.Maintenance.TheVariants.{Flush, Begin, Step, Finish, Compact}
 use Rattle.hay_cluster.specs.Causes.{IsDeleteCause, IsPutCause, RefusesBegin, RefusesCompact, RefusesFlush, RefusesOn, RefusesRun, RefusesWork, IsThere}
 use Rattle.hay_cluster.specs.Changes.{IsDeleteReply, IsReadOnly}
-use Rattle.hay_cluster.specs.Lacks.{lack_of}
+use Rattle.hay_cluster.specs.Lacks.{LacksRoom, lack_of}
 use Rattle.hay_cluster.specs.Maintenance.{IsRefusedAs, command_of, done_as}
 use Rattle.hay_cluster.specs.Puts.{IsPutReply, IsRefusal, settle_reply}
 use Rattle.hay_cluster.specs.Store.{IsBuilt}
@@ -62,7 +62,7 @@ fuses_none o done none = subst (λ (p : Option ℕ). SuitsFuse p done reply.Nowh
 -- a volume that lacks room
 pub lack_refuses : (settings : Settings) (v : ℕ) (fault : LogicalFault) → IsBuilt settings → v < settings.volumes → IsRoomFault settings v fault → IfSome (lack_of v fault) (Refuses settings v)
 lack_refuses settings v (refusal.Full m end need capacity) built volume is = (refl, on_machine settings v is.0 m built volume is.1 is.2)
-lack_refuses settings v (refusal.ReadOnly m) built volume is = tt
+lack_refuses settings v (refusal.ReadOnly m) built volume is = (refl, on_machine settings v is.0 m built volume is.1 is.2)
 lack_refuses settings v (refusal.Gone front) built volume is = absurd is
 lack_refuses settings v (refusal.Failed m count) built volume is = absurd is
 lack_refuses settings v (refusal.Busy m generation) built volume is = absurd is
@@ -70,6 +70,17 @@ lack_refuses settings v (refusal.Worn m) built volume is = absurd is
 lack_refuses settings v refusal.Idle built volume is = absurd is
 lack_refuses settings v (refusal.Damaged m at) built volume is = absurd is
 lack_refuses settings v refusal.NoMemory built volume is = absurd is
+
+pub room_lack : (settings : Settings) (v : ℕ) (fault : LogicalFault) → IsRoomFault settings v fault → LacksRoom fault
+room_lack settings v (refusal.Full m end need capacity) is = tt
+room_lack settings v (refusal.ReadOnly m) is = tt
+room_lack settings v (refusal.Gone front) is = absurd is
+room_lack settings v (refusal.Failed m count) is = absurd is
+room_lack settings v (refusal.Busy m generation) is = absurd is
+room_lack settings v (refusal.Worn m) is = absurd is
+room_lack settings v refusal.Idle is = absurd is
+room_lack settings v (refusal.Damaged m at) is = absurd is
+room_lack settings v refusal.NoMemory is = absurd is
 
 -- one volume more was tried
 pub one_more_refuses : (settings : Settings) (pair : Pair) (turn v : ℕ) (refused : List Refused) (more : Refused) → v ≡ try_at settings pair turn → Refuses settings v more

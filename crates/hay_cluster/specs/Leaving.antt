@@ -1,10 +1,13 @@
 -- Which disks of a store a command leaves as they are.
-use Rattle.std.specs.Prelude.{◌≡◌, ◌≢◌, ℕ, ◌<◌, List, Option, Some, None, slice_get}
+use Rattle.std.specs.Prelude.{◌≡◌, ◌≢◌, ◌⊎◌, ℕ, ◌<◌, List, Some, slice_get}
+use Rattle.hay_needle.specs.declared.needle.Cookie.{Cookie}
 use Rattle.hay_needle.specs.declared.settings.Settings.{Settings}
 use Rattle.hay_script.specs.declared.Command.{Command}
 use Rattle.hay_script.specs.declared.Command.TheVariants as asks
 use Rattle.hay_reply.specs.declared.Reply.{Reply}
 use Rattle.hay_reply.specs.declared.Reply.TheVariants as reply
+use Rattle.hay_logical.specs.declared.fault.LogicalFault.{LogicalFault}
+use Rattle.hay_logical.specs.declared.fault.LogicalFault.TheVariants as refusal
 use Rattle.hay_legal.specs.Known.{disk_count, replica_on, slot_of}
 use Rattle.hay_legal.specs.Stands.{Contents}
 
@@ -40,64 +43,70 @@ LeavesIn Among old new = (slot : ℕ) → Among slot → slice_get new slot ≡ 
 abbrev pub KeepsIn : Settings → (ℕ → Type 0) → (ℕ → Contents) → (ℕ → Contents) → Type 0
 KeepsIn settings Among old new = (slot file : ℕ) → slot < disk_count settings → Among slot → new slot file ≡ old slot file
 
--- THE VOLUME OF A REPLY
+-- A delete that a volume refused leaves every disk, unless one failed.
+abbrev pub DeleteKeeps : Settings → (ℕ → Contents) → (ℕ → Contents) → LogicalFault → Type 0
+DeleteKeeps settings old new (refusal.Failed m f) = Unit {0}
+DeleteKeeps settings old new (refusal.ReadOnly m) = KeepsIn settings AnySlot old new
+DeleteKeeps settings old new (refusal.Full m end need capacity) = KeepsIn settings AnySlot old new
+DeleteKeeps settings old new (refusal.Gone front) = KeepsIn settings AnySlot old new
+DeleteKeeps settings old new (refusal.Busy m generation) = KeepsIn settings AnySlot old new
+DeleteKeeps settings old new (refusal.Worn m) = KeepsIn settings AnySlot old new
+DeleteKeeps settings old new refusal.Idle = KeepsIn settings AnySlot old new
+DeleteKeeps settings old new (refusal.Damaged m at) = KeepsIn settings AnySlot old new
+DeleteKeeps settings old new refusal.NoMemory = KeepsIn settings AnySlot old new
 
--- the volume whose log or disk a reply tells of
-abbrev pub volume_in : Reply → Option ℕ
-volume_in (reply.Stored v p d c) = Some v
-volume_in (reply.Deleted v p d) = Some v
-volume_in (reply.Photo v m p d bytes) = Some v
-volume_in (reply.Gone v m p d) = Some v
-volume_in (reply.Absent v p d) = Some v
-volume_in (reply.WrongCookie v m p d) = Some v
-volume_in (reply.Unreadable v p d causes) = Some v
-volume_in (reply.Failed v m f) = Some v
-volume_in (reply.Damaged v m at) = Some v
-volume_in (reply.Flushed v m n) = Some v
-volume_in (reply.Begun v m g) = Some v
-volume_in (reply.Stepped v m n) = Some v
-volume_in (reply.Compacted v m g) = Some v
-volume_in (reply.Busy v m g) = Some v
-volume_in (reply.Idle v m) = Some v
-volume_in (reply.Worn v m) = Some v
-volume_in (reply.Fused v m n) = Some v
-volume_in (reply.Unknown d) = None
-volume_in (reply.Moved v d) = None
-volume_in (reply.Url d url) = None
-volume_in (reply.Full tries) = None
-volume_in (reply.ReadOnly tries) = None
-volume_in reply.ReadOnlyDir = None
-volume_in (reply.FailedDir f) = None
-volume_in (reply.Drained m) = None
-volume_in (reply.Undrained m) = None
-volume_in (reply.FusedDir n) = None
-volume_in reply.Nowhere = None
-volume_in (reply.Restarted d) = None
-volume_in reply.BadLine = None
-volume_in reply.Unbuilt = None
-volume_in reply.NoMem = None
-
--- a reply tells of no other volume
-abbrev pub TellsNoOther : Reply → ℕ → Type 0
-TellsNoOther said v = (w : ℕ) → volume_in said ≡ Some w → w ≡ v
+-- A put leaves every disk where its volume is closed or lacks room.
+abbrev pub PutKeeps : Settings → (ℕ → Contents) → (ℕ → Contents) → LogicalFault → Type 0
+PutKeeps settings old new (refusal.ReadOnly m) = KeepsIn settings AnySlot old new
+PutKeeps settings old new (refusal.Full m end need capacity) = KeepsIn settings AnySlot old new
+PutKeeps settings old new (refusal.Failed m f) = Unit {0}
+PutKeeps settings old new (refusal.Gone front) = Unit {0}
+PutKeeps settings old new (refusal.Busy m generation) = Unit {0}
+PutKeeps settings old new (refusal.Worn m) = Unit {0}
+PutKeeps settings old new refusal.Idle = Unit {0}
+PutKeeps settings old new (refusal.Damaged m at) = Unit {0}
+PutKeeps settings old new refusal.NoMemory = Unit {0}
 
 -- COMMANDS
 
--- A command changes what reads give of the disks of one volume at most, and a put that of the Directory's besides: of the volume
--- that the command names, or that its reply tells of.
+-- a put of this reply may have changed the disks of this volume, and a delete
+abbrev pub MayPut : Settings → Reply → ℕ → Type 0
+MayPut settings said v =
+    ((p : ℕ) × (d : ℕ) × (c : Cookie) × (said ≡ reply.Stored v p d c))
+    ⊎ ((m : ℕ) × (f : ℕ) × (said ≡ reply.Failed v m f))
+    ⊎ ((v < settings.volumes) × (said ≡ reply.NoMem))
+
+abbrev pub MayDelete : Reply → ℕ → Type 0
+MayDelete said v = ((p : ℕ) × (d : ℕ) × (said ≡ reply.Deleted v p d)) ⊎ ((m : ℕ) × (f : ℕ) × (said ≡ reply.Failed v m f))
+
+-- A put changes the disks of the volume that stored its photo, or that failed, and the Directory's; where the Directory's disk
+-- failed, that alone. Want of memory may come behind a change. Another reply leaves every disk.
+abbrev pub LeavesByPut : Settings → Reply → (ℕ → Contents) → (ℕ → Contents) → Type 0
+LeavesByPut settings said old new =
+    ((v : ℕ) × MayPut settings said v × KeepsIn settings (IsReplicaBeside settings v) old new)
+    ⊎ ((f : ℕ) × (said ≡ reply.FailedDir f) × KeepsIn settings IsReplicaSlot old new)
+    ⊎ KeepsIn settings AnySlot old new
+
+-- A delete changes the disks of the volume that deleted the photo, or that failed.
+abbrev pub LeavesByDelete : Settings → Reply → (ℕ → Contents) → (ℕ → Contents) → Type 0
+LeavesByDelete settings said old new =
+    ((v : ℕ) × MayDelete said v × KeepsIn settings (IsBeside settings v) old new) ⊎ KeepsIn settings AnySlot old new
+
+-- What reads give of the disks is changed by puts and deletes as their replies tell, and by work on a replica of that replica's disk
+-- alone. Where there is no such replica, every disk stays; so it does with reads, drains and fuses.
 abbrev pub LeavesContents : Settings → Command → Reply → (ℕ → Contents) → (ℕ → Contents) → Type 0
-LeavesContents settings (asks.Put pair photo) said old new = (v : ℕ) × TellsNoOther said v × KeepsIn settings (IsReplicaBeside settings v) old new
-LeavesContents settings (asks.Read pair cookie) said old new = (v : ℕ) × TellsNoOther said v × KeepsIn settings (IsBeside settings v) old new
-LeavesContents settings (asks.Get url) said old new = KeepsIn settings (IsBeside settings url.volume) old new
-LeavesContents settings (asks.Del pair) said old new = (v : ℕ) × TellsNoOther said v × KeepsIn settings (IsBeside settings v) old new
+LeavesContents settings (asks.Put pair photo) said old new = LeavesByPut settings said old new
+LeavesContents settings (asks.Read pair cookie) said old new = KeepsIn settings AnySlot old new
+LeavesContents settings (asks.Get url) said old new = KeepsIn settings AnySlot old new
+LeavesContents settings (asks.Del pair) said old new = LeavesByDelete settings said old new
 LeavesContents settings (asks.Url pair) said old new = KeepsIn settings AnySlot old new
-LeavesContents settings (asks.Flush v m) said old new = KeepsIn settings (IsBeside settings v) old new
+LeavesContents settings (asks.Flush v m) said old new = KeepsIn settings (IsApartOn settings v m) old new
 LeavesContents settings (asks.Drain m) said old new = KeepsIn settings AnySlot old new
 LeavesContents settings (asks.Undrain m) said old new = KeepsIn settings AnySlot old new
-LeavesContents settings (asks.Fuse v m calls) said old new = KeepsIn settings (IsApartOn settings v m) old new
+LeavesContents settings (asks.Fuse v m calls) said old new = KeepsIn settings AnySlot old new
 LeavesContents settings (asks.FuseDir calls) said old new = KeepsIn settings AnySlot old new
-LeavesContents settings (asks.Compact v m) said old new = KeepsIn settings (IsBeside settings v) old new
-LeavesContents settings (asks.Begin v m) said old new = KeepsIn settings (IsBeside settings v) old new
-LeavesContents settings (asks.Step v m cells) said old new = KeepsIn settings (IsBeside settings v) old new
-LeavesContents settings (asks.Finish v m) said old new = KeepsIn settings (IsBeside settings v) old new
+LeavesContents settings (asks.Compact v m) said old new = KeepsIn settings (IsApartOn settings v m) old new
+LeavesContents settings (asks.Begin v m) said old new = KeepsIn settings (IsApartOn settings v m) old new
+LeavesContents settings (asks.Step v m cells) said old new = KeepsIn settings (IsApartOn settings v m) old new
+LeavesContents settings (asks.Finish v m) said old new = KeepsIn settings (IsApartOn settings v m) old new
 LeavesContents settings (asks.Restart pick) said old new = Unit {0}

@@ -1,5 +1,5 @@
 -- Which lines left a change or a row pending, whatever the disks tell, and what a restart tells of them.
-use Rattle.std.specs.Prelude.{◌≡◌, ◌≢◌, ◌⊎◌, ◌<◌, ◌+◌, ◌++◌, ℕ, Bool, List, [], ◌∷◌, length, map, replicate, slice_set, Option, None, Some, option_map}
+use Rattle.std.specs.Prelude.{◌≡◌, ◌≢◌, ◌⊎◌, ◌<◌, ◌+◌, ◌++◌, ℕ, Bool, List, [], ◌∷◌, length, map, replicate, slice_get, slice_set, Option, None, Some, option_map}
 use Rattle.hay_needle.specs.declared.settings.Settings.{Settings}
 use Rattle.hay_script.specs.declared.Command.{Command}
 use Rattle.hay_script.specs.declared.Command.TheVariants as asks
@@ -47,12 +47,19 @@ with_change v line pending = record pending { changes = slice_set pending.change
 abbrev pub with_row : ℕ → PendingLines → PendingLines
 with_row line pending = record pending { row = Some line }
 
+-- the change of this line, or its row, came to be pending, where none was
+abbrev pub ChangePends : ℕ → ℕ → PendingLines → PendingLines → Type 0
+ChangePends v line before after = (slice_get before.changes v ≡ Some None) × (after ≡ with_change v line before)
+
+abbrev pub RowPends : ℕ → PendingLines → PendingLines → Type 0
+RowPends line before after = (before.row ≡ None) × (after ≡ with_row line before)
+
 -- WHAT A CALL LEAVES PENDING
 
 -- Volume v refused a put of this line: a failure leaves it pending, and want of memory may.
 abbrev pub PutLeft : ℕ → ℕ → PendingLines → PendingLines → LogicalFault → Type 0
-PutLeft line v before after (refusal.Failed m count) = after ≡ with_change v line before
-PutLeft line v before after refusal.NoMemory = (after ≡ before) ⊎ (after ≡ with_change v line before)
+PutLeft line v before after (refusal.Failed m count) = ChangePends v line before after
+PutLeft line v before after refusal.NoMemory = (after ≡ before) ⊎ ChangePends v line before after
 PutLeft line v before after (refusal.ReadOnly m) = after ≡ before
 PutLeft line v before after (refusal.Full m end need capacity) = after ≡ before
 PutLeft line v before after (refusal.Gone front) = after ≡ before
@@ -63,7 +70,7 @@ PutLeft line v before after (refusal.Damaged m at) = after ≡ before
 
 -- It refused a delete of this line: a failure may leave it pending.
 abbrev pub DeleteLeft : ℕ → ℕ → PendingLines → PendingLines → LogicalFault → Type 0
-DeleteLeft line v before after (refusal.Failed m count) = (after ≡ before) ⊎ (after ≡ with_change v line before)
+DeleteLeft line v before after (refusal.Failed m count) = (after ≡ before) ⊎ ChangePends v line before after
 DeleteLeft line v before after refusal.NoMemory = after ≡ before
 DeleteLeft line v before after (refusal.ReadOnly m) = after ≡ before
 DeleteLeft line v before after (refusal.Full m end need capacity) = after ≡ before
@@ -77,7 +84,7 @@ DeleteLeft line v before after (refusal.Damaged m at) = after ≡ before
 abbrev pub RowLeft : ℕ → PendingLines → PendingLines → DirFault → Type 0
 RowLeft line before after settling.Frozen = after ≡ before
 RowLeft line before after settling.NoMemory = after ≡ before
-RowLeft line before after (settling.Failed faults) = after ≡ with_row line before
+RowLeft line before after (settling.Failed faults) = RowPends line before after
 
 -- WHAT A REPLY LEAVES PENDING
 
@@ -87,14 +94,14 @@ TellsNoFailure said = ((v m n : ℕ) → said ≢ Failed v m n) × ((n : ℕ) �
 
 -- a volume failed, and this line's change is pending there
 abbrev pub FailsPending : ℕ → Reply → PendingLines → PendingLines → Type 0
-FailsPending line said before after = (v : ℕ) × (m : ℕ) × (n : ℕ) × (said ≡ Failed v m n) × (after ≡ with_change v line before)
+FailsPending line said before after = (v : ℕ) × (m : ℕ) × (n : ℕ) × (said ≡ Failed v m n) × ChangePends v line before after
 
 -- A put that failed is pending, or its row, and one that wanted memory may be. Another leaves what was pending.
 abbrev pub LeavesPut : Settings → ℕ → Reply → PendingLines → PendingLines → Type 0
 LeavesPut settings line said before after =
     FailsPending line said before after
-    ⊎ ((n : ℕ) × (said ≡ FailedDir n) × (after ≡ with_row line before))
-    ⊎ ((v : ℕ) × (v < settings.volumes) × (said ≡ NoMem) × (after ≡ with_change v line before))
+    ⊎ ((n : ℕ) × (said ≡ FailedDir n) × RowPends line before after)
+    ⊎ ((v : ℕ) × (v < settings.volumes) × (said ≡ NoMem) × ChangePends v line before after)
     ⊎ (TellsNoFailure said × (after ≡ before))
 
 -- A delete that failed may be pending.

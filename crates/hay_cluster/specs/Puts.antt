@@ -1,5 +1,5 @@
 -- What the parts of a put do.
-use Rattle.std.specs.Prelude.{◌≡◌, ◌⊎◌, ℕ, ◌+◌, true, false, List, [], ◌∷◌, length, map, find, is_none, Some}
+use Rattle.std.specs.Prelude.{◌≡◌, ◌⊎◌, ℕ, ◌+◌, true, false, List, [], ◌∷◌, length, map, find, is_none, Some, None}
 use Rattle.std.specs.List.{list_any}
 use Rattle.hay_needle.specs.declared.needle.Pair.{Pair}
 use Rattle.hay_needle.specs.declared.settings.Settings.{Settings}
@@ -15,12 +15,21 @@ use Rattle.hay_legal.specs.Known.{Leaves, all_tries, refusal_of, replica_on, vol
 use Rattle.hay_legal.specs.Plain.{RoseTo, as_closed, change_volume, first_machine, frozen_with, wants_room, put_entry, with_put}
 use Rattle.hay_directory.specs.declared.fault.DirFault.{DirFault}
 use Rattle.hay_directory.specs.declared.fault.DirFault.TheVariants as settling
+use Rattle.hay_physical.specs.Copies.{Copy}
+use Rattle.hay_logical.specs.Fits.{At}
+use Rattle.hay_logical.specs.Steps.{RoomFor}
+use Rattle.hay_logical.specs.Volumes.{Volume}
 use Rattle.hay_logical.specs.declared.fault.LogicalFault.{LogicalFault}
 use Rattle.hay_logical.specs.declared.fault.LogicalFault.TheVariants as refusal
 use Rattle.hay_cluster.specs.declared.put.Tried.{Tried}
 use Rattle.hay_cluster.specs.declared.put.Tried.TheVariants.{Taker, Nobody}
 use Rattle.hay_cluster.specs.State.{Stands}
 use Rattle.hay_cluster.specs.Store.{Open}
+
+-- volume v is thawed, and each of its replicas has room for a photo of this size
+abbrev pub TakesPhoto : {D P A : Type 0} → Open D P A → ℕ → ℕ → Type 0
+TakesPhoto {D} {P} store v size =
+    (volume : Volume D P) → At store.volumes v volume → (volume.frozen ≡ None) × ((j : ℕ) (r : Copy D) → At volume.replicas j r → RoomFor size r)
 
 -- the first of a pair's tries that does not refuse, or how each refuses
 abbrev pub IsTried : Settings → Known → Pair → ℕ → Tried → Type 0

@@ -1,10 +1,11 @@
 //! Where pairs and replicas are, and which volumes take a photo.
-ghost use Rattle.std.specs.Prelude.{◌≡◌, ◌<◌, ℕ, None, Some, map, find, slice_index_or, false, IfSome, is_some};
+ghost use Rattle.std.specs.Prelude.{◌≡◌, ◌<◌, ℕ, None, Some, map, find, slice_index_or, false, IfNone, IfSome, is_some};
 ghost use Rattle.hay_legal.specs.declared.known.Known.{Known};
 ghost use Rattle.hay_legal.specs.Known as known;
 ghost use Rattle.hay_reply.specs.Fits.{FitsRefused};
 ghost use Rattle.hay_directory.specs.State as directory;
 ghost use Rattle.hay_cluster.specs.Lacks as lacks;
+ghost use Rattle.hay_cluster.specs.Puts.{TakesPhoto};
 ghost use Rattle.hay_cluster.specs.State.{Stands};
 ghost use Rattle.hay_cluster.specs.Store.{IsBuilt, IsUp};
 ghost use Rattle.hay_cluster.specs.Suiting.{IsOn, Refuses};
@@ -34,17 +35,13 @@ pub(crate) fn replica_on(settings: &Settings, volume: u32, machine: u32) -> Opti
 }
 
 impl<D: Disk, A: Arm<D::Piece>> Cluster<D, A> {
-    /// The home of a pair. A disk that doesn't tell what it holds may name any volume.
+    /// The home of a pair, which is a volume that there is.
     pub(crate) fn home(&self, pair: Pair) -> Option<u32>
         ensures known { D.Tells → (k : Known) → Stands D.files D.Piece.Tells D.fault_count D.fuse_count A.fault_count self.now k → result ≡ known.home_of k pair }
         ensures within { IfSome result (λ volume. volume < self.now.settings.volumes) }
         ensures homeless { result ≡ None → directory.home_of self.now.directory pair ≡ None }
     {
-        let last = self.settings.volumes - 1;
-        match self.directory.home(pair) {
-            Some(volume) => Some(volume.min(last)),
-            None => None,
-        }
+        self.directory.home(pair)
     }
 
     /// The drained machine of the lowest replica of a volume that is on one.
@@ -77,6 +74,7 @@ impl<D: Disk, A: Arm<D::Piece>> Cluster<D, A> {
         requires volume { volume < self.now.settings.volumes }
         requires up { IsUp self.now }
         ensures known { D.Tells → (k : Known) → Stands D.files D.Piece.Tells D.fault_count D.fuse_count A.fault_count self.now k → result ≡ known.refusal_of self.now.settings k size volume }
+        ensures takes { IfNone result (TakesPhoto self.now volume size) }
         ensures refuses { IfSome result (Refuses self.now.settings volume) }
         ensures fits { IfSome result FitsRefused }
     {
@@ -85,15 +83,16 @@ impl<D: Disk, A: Arm<D::Piece>> Cluster<D, A> {
         }
         match self.volumes.as_slice()[volume as usize].room(size) {
             Ok(()) => None,
-            Err(fault) => lack_of(volume, fault),
+            Err(fault) => Some(lack_of(volume, fault)),
         }
     }
 }
 
 // What a volume without room is refused for.
-fn lack_of(volume: u32, fault: LogicalFault) -> Option<Refused>
-    ensures is { result ≡ lacks.lack_of volume fault }
-    ensures fits { IfSome result FitsRefused }
+fn lack_of(volume: u32, fault: LogicalFault) -> Refused
+    requires { lacks.LacksRoom fault }
+    ensures is { lacks.lack_of volume fault ≡ Some result }
+    ensures fits { FitsRefused result }
 {
     match fault {
         LogicalFault::Full {
@@ -101,19 +100,19 @@ fn lack_of(volume: u32, fault: LogicalFault) -> Option<Refused>
             end,
             need,
             capacity: _,
-        } => Some(Refused::NoRoom {
+        } => Refused::NoRoom {
             volume,
             machine,
             end,
             need,
-        }),
-        LogicalFault::ReadOnly { .. }
-        | LogicalFault::Gone { .. }
+        },
+        LogicalFault::ReadOnly { machine } => Refused::Closed { volume, machine },
+        LogicalFault::Gone { .. }
         | LogicalFault::Failed { .. }
         | LogicalFault::Busy { .. }
         | LogicalFault::Worn { .. }
         | LogicalFault::Idle
         | LogicalFault::Damaged { .. }
-        | LogicalFault::NoMemory => None,
+        | LogicalFault::NoMemory => unreachable!(),
     }
 }

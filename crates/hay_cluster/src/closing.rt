@@ -7,8 +7,8 @@ ghost use Rattle.hay_legal.specs.Stands.{StandsOn};
 ghost use Rattle.hay_directory.specs.Rows.{OpensRows};
 ghost use Rattle.hay_logical.specs.Fits.{IsReplica};
 ghost use Rattle.hay_cluster.specs.Draws.{drawn_in};
-ghost use Rattle.hay_cluster.specs.Outside.{outside_of, read_of};
-ghost use Rattle.hay_cluster.specs.State.{Holds};
+ghost use Rattle.hay_cluster.specs.Outside.{IsVoid, outside_of, read_of};
+ghost use Rattle.hay_cluster.specs.State.{Holds, Stands};
 ghost use Rattle.hay_cluster.specs.Store.{contents_in, disks_of, volume_disks};
 ghost use Rattle.std.specs.List.{AllByRecursion, flat_map};
 
@@ -31,6 +31,9 @@ impl<D: Disk, A: Arm<D::Piece>> Cluster<D, A> {
         ensures arm_counts { (lane : ℕ) → lane < 8 → (H.arms shelf.new lane).fault_count ≡ slice_index (map A.fault_count self.arms) lane }
         ensures sure_arms { (lane : ℕ) (arm : A) → slice_get self.arms lane ≡ Some arm → (H.arms shelf.new lane).is_sure ≡ A.is_sure arm }
         ensures contents { D.Tells → (slot : ℕ) → slot < disk_count self.settings → read_of (H.disks shelf.new slot) ≡ contents_in D.files self slot }
+        // Each disk of a store that stands for what is known is formatted.
+        ensures formatted { D.Tells → (k : Known) → Stands D.files D.Piece.Tells D.fault_count D.fuse_count A.fault_count self k →
+            (slot : ℕ) → slot < disk_count self.settings → IsVoid (read_of (H.disks shelf.new slot)) → ⊥ }
         ensures drawn { D.Tells → (slot : ℕ) → slot < disk_count self.settings → (H.disks shelf.new slot).drawn ≡ drawn_in D.drawn self slot }
         ensures disks_back { AreIn (disk_count self.settings) (H.disks shelf.new) }
         ensures arms_back { AreArmsIn 8 (H.arms shelf.new) }
@@ -44,9 +47,6 @@ impl<D: Disk, A: Arm<D::Piece>> Cluster<D, A> {
             volumes,
             seats,
         } = self;
-        // There are some, so each of them fits in memory.
-        let has_volumes = !volumes.as_slice().is_empty();
-        prove!(has_volumes);
         give_volumes(shelf, volumes, settings.replicas);
         shelf.give_disk(0, directory.into_disk());
         give_seats(shelf, seats);

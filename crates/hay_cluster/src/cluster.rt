@@ -76,7 +76,7 @@ impl<D: Disk, A: Arm<D::Piece>> Cluster<D, A> {
         ensures counts { NoneFalls (map D.fault_count (disks_of self.old)) (map D.fault_count (disks_of self.new)) }
         // A fuse is set by its command alone, on the disk that it names.
         ensures fuses { LeavesFuses self.old.settings command.now (map D.fuse_count (disks_of self.old)) (map D.fuse_count (disks_of self.new)) }
-        // What reads give of the disks of other volumes than the one that it is of is what they gave.
+        // What reads give of the disks is changed as the reply tells, and by work on a replica on its disk alone.
         ensures contents { D.Tells → LeavesContents self.old.settings command.now result (contents_in D.files self.old) (contents_in D.files self.new) }
         ensures arm_counts { NoneFalls (map A.fault_count self.old.arms) (map A.fault_count self.new.arms) }
         // A change or a row is pending only where its own line failed, or wanted memory.

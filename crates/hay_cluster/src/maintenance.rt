@@ -5,10 +5,12 @@ ghost use Rattle.hay_reply.specs.Fits.{FitsReply};
 ghost use Rattle.hay_legal.specs.declared.known.Known.{Known};
 ghost use Rattle.hay_legal.specs.declared.known.VolumeKnown.{VolumeKnown};
 ghost use Rattle.hay_legal.specs.Known.{NoneFalls};
+ghost use Rattle.hay_physical.specs.Copies.{Copy};
+ghost use Rattle.hay_logical.specs.Fits.{At};
 ghost use Rattle.hay_logical.specs.Stands as logical;
 ghost use Rattle.hay_logical.specs.Volumes.{IsOpenVolume, IsSame, KeepsCounts};
 ghost use Rattle.hay_cluster.specs.Causes.{IsCaused, RefusesWork};
-ghost use Rattle.hay_cluster.specs.Leaving.{IsBeside, LeavesIn};
+ghost use Rattle.hay_cluster.specs.Leaving.{IsApartOn, LeavesIn};
 ghost use Rattle.hay_cluster.specs.Maintenance.{IsDone, IsRefused, IsRefusedAs, IsReplicaFault, command_of, done_as};
 ghost use Rattle.hay_cluster.specs.Pending.{pending_of};
 ghost use Rattle.hay_cluster.specs.State.{Answered, Stands};
@@ -58,7 +60,7 @@ impl<D: Disk, A: Arm<D::Piece>> Cluster<D, A> {
         ensures fits { FitsReply result }
         ensures counts { NoneFalls (map D.fault_count (disks_of self.old)) (map D.fault_count (disks_of self.new)) }
         ensures fuses { map D.fuse_count (disks_of self.new) ≡ map D.fuse_count (disks_of self.old) }
-        ensures beside { LeavesIn (IsBeside self.old.settings volume) (disks_of self.old) (disks_of self.new) }
+        ensures others { LeavesIn (IsApartOn self.old.settings volume machine) (disks_of self.old) (disks_of self.new) }
         ensures arms { self.new.arms ≡ self.old.arms }
         ensures pending { pending_of self.new ≡ pending_of self.old }
         ensures settings { self.new.settings ≡ self.old.settings }
@@ -91,6 +93,7 @@ pub(crate) fn maintain<D: Disk>(
     ensures causes { IfErr result (IsReplicaFault D.fault_count volume.old.settings work volume.old.number replica volume.old.replicas volume.new.replicas) }
     ensures unsure { volume.new.unsure ≡ volume.old.unsure }
     ensures open { IsOpenVolume volume.new }
+    ensures others { (j : ℕ) → (j ≡ replica → ⊥) → (r r' : Copy D) → At volume.old.replicas j r → At volume.new.replicas j r' → r'.disk ≡ r.disk }
     ensures counts { KeepsCounts D.fault_count D.fuse_count volume.old.replicas volume.new.replicas }
     ensures same { IsSame volume.old volume.new }
 {

@@ -34,7 +34,6 @@ use hay_needle::Settings;
 use hay_reader::LaneSeat;
 use hay_reply::Note;
 use std::alloc::Global;
-use std_alloc::room::may_hold;
 
 impl<D: Disk, A: Arm<D::Piece>> Cluster<D, A> {
     /// Opens a store on the disks of a shelf, from slot 0 upwards: void disks are formatted, and any others must be of
@@ -98,9 +97,6 @@ impl<D: Disk, A: Arm<D::Piece>> Cluster<D, A> {
         ensures other_lanes { SameFrom 8 (H.arms shelf.old) (H.arms shelf.new) }
         ensures counted { H.fault_count shelf.old ≤ H.fault_count shelf.new }
     {
-        if !may_hold::<Logical<D>>(1) {
-            return Err(ClusterFault::NoMemory); // one volume is larger than any memory
-        }
         let volumes = empty_volumes(alloc, &settings)?;
         let (disks, seats) = take_parts(alloc, shelf, disk_count(&settings))?;
         let mut cluster = assemble(alloc, settings, volumes, disks, seats);

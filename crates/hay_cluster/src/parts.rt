@@ -6,12 +6,13 @@ ghost use Rattle.hay_disk.specs.Counts.{IsNext};
 ghost use Rattle.hay_legal.specs.declared.known.Known.{Known};
 ghost use Rattle.hay_legal.specs.Known.{NoneFalls, fuse_count, slot_of, volume_at, with_home};
 ghost use Rattle.hay_legal.specs.Plain.{row_pending, with_drain, with_fuses};
-ghost use Rattle.hay_logical.specs.Answers.{DeleteRefused, IsDeleted, IsPut, PutRefused};
+ghost use Rattle.hay_logical.specs.Answers.{BreaksPutOff, DeleteRefused, IsDeleted, IsPut, PutRefused};
 ghost use Rattle.hay_directory.specs.State as directory;
 ghost use Rattle.hay_cluster.specs.Causes.{IsDeleteCause, IsPutCause, IsReplicaCause, RoseIn, SetsFuse};
-ghost use Rattle.hay_cluster.specs.Leaving.{AnySlot, IsApart, IsBeside, IsReplicaSlot, KeepsIn, LeavesIn};
+ghost use Rattle.hay_cluster.specs.Leaving.{AnySlot, DeleteKeeps, IsApart, IsBeside, IsReplicaSlot, KeepsIn, LeavesIn, PutKeeps};
 ghost use Rattle.hay_cluster.specs.Maintenance.{IsDone, IsRefused};
 ghost use Rattle.hay_cluster.specs.Parts.{Comes, InVolume};
+ghost use Rattle.hay_cluster.specs.Puts.{TakesPhoto};
 ghost use Rattle.hay_cluster.specs.Pending.{DeleteLeft, PutLeft, RowLeft, pending_of};
 ghost use Rattle.hay_cluster.specs.State.{Stands};
 ghost use Rattle.hay_cluster.specs.Store.{IsUp, contents_in, disks_of};
@@ -47,6 +48,8 @@ impl<D: Disk, A: Arm<D::Piece>> Cluster<D, A> {
         ensures counts { NoneFalls (map D.fault_count (disks_of self.old)) (map D.fault_count (disks_of self.new)) }
         ensures fuses { map D.fuse_count (disks_of self.new) ≡ map D.fuse_count (disks_of self.old) }
         ensures beside { LeavesIn (IsBeside self.old.settings volume) (disks_of self.old) (disks_of self.new) }
+        ensures kept { IfErr result (PutKeeps self.old.settings (contents_in D.files self.old) (contents_in D.files self.new)) }
+        ensures takes { TakesPhoto self.old volume (length bytes.now) → IfErr result BreaksPutOff }
         ensures arms { self.new.arms ≡ self.old.arms }
         ensures done_pending { OnOk result (pending_of self.new ≡ pending_of self.old) }
         ensures refused_pending { IfErr result (PutLeft tag.line volume (pending_of self.old) (pending_of self.new)) }
@@ -75,6 +78,7 @@ impl<D: Disk, A: Arm<D::Piece>> Cluster<D, A> {
         ensures counts { NoneFalls (map D.fault_count (disks_of self.old)) (map D.fault_count (disks_of self.new)) }
         ensures fuses { map D.fuse_count (disks_of self.new) ≡ map D.fuse_count (disks_of self.old) }
         ensures beside { LeavesIn (IsBeside self.old.settings volume) (disks_of self.old) (disks_of self.new) }
+        ensures kept { D.Tells → IfErr result (DeleteKeeps self.old.settings (contents_in D.files self.old) (contents_in D.files self.new)) }
         ensures arms { self.new.arms ≡ self.old.arms }
         ensures done_pending { OnOk result (pending_of self.new ≡ pending_of self.old) }
         ensures refused_pending { IfErr result (DeleteLeft tag.line volume (pending_of self.old) (pending_of self.new)) }
@@ -102,7 +106,7 @@ impl<D: Disk, A: Arm<D::Piece>> Cluster<D, A> {
         ensures causes { IfErr result (IsReplicaCause self.old.settings work volume replica (map D.fault_count (disks_of self.old)) (map D.fault_count (disks_of self.new))) }
         ensures counts { NoneFalls (map D.fault_count (disks_of self.old)) (map D.fault_count (disks_of self.new)) }
         ensures fuses { map D.fuse_count (disks_of self.new) ≡ map D.fuse_count (disks_of self.old) }
-        ensures beside { LeavesIn (IsBeside self.old.settings volume) (disks_of self.old) (disks_of self.new) }
+        ensures others { LeavesIn (IsApart self.old.settings volume replica) (disks_of self.old) (disks_of self.new) }
         ensures arms { self.new.arms ≡ self.old.arms }
         ensures pending { pending_of self.new ≡ pending_of self.old }
         ensures settings { self.new.settings ≡ self.old.settings }
@@ -126,7 +130,7 @@ impl<D: Disk, A: Arm<D::Piece>> Cluster<D, A> {
             × Comes D.files D.Piece.Tells D.fault_count D.fuse_count A.fault_count k (with_fuses k (slot_of self.old.settings volume replica) n) self.new }
         ensures counts { NoneFalls (map D.fault_count (disks_of self.old)) (map D.fault_count (disks_of self.new)) }
         ensures fuses { SetsFuse (slot_of self.old.settings volume replica) (map D.fuse_count (disks_of self.old)) (map D.fuse_count (disks_of self.new)) }
-        ensures others { LeavesIn (IsApart self.old.settings volume replica) (disks_of self.old) (disks_of self.new) }
+        ensures contents { D.Tells → KeepsIn self.old.settings AnySlot (contents_in D.files self.old) (contents_in D.files self.new) }
         ensures arms { self.new.arms ≡ self.old.arms }
         ensures pending { pending_of self.new ≡ pending_of self.old }
         ensures settings { self.new.settings ≡ self.old.settings }
@@ -152,6 +156,8 @@ impl<D: Disk, A: Arm<D::Piece>> Cluster<D, A> {
         ensures counts { NoneFalls (map D.fault_count (disks_of self.old)) (map D.fault_count (disks_of self.new)) }
         ensures fuses { map D.fuse_count (disks_of self.new) ≡ map D.fuse_count (disks_of self.old) }
         ensures replicas { LeavesIn IsReplicaSlot (disks_of self.old) (disks_of self.new) }
+        ensures refused_frozen { IsErrOf result DirFault.Frozen → disks_of self.new ≡ disks_of self.old }
+        ensures volumes { self.new.volumes ≡ self.old.volumes }
         ensures arms { self.new.arms ≡ self.old.arms }
         ensures settled_pending { OnOk result (pending_of self.new ≡ pending_of self.old) }
         ensures refused_pending { IfErr result (RowLeft tag.line (pending_of self.old) (pending_of self.new)) }

@@ -8,12 +8,12 @@ ghost use Rattle.hay_script.specs.declared.Command.TheVariants as asks;
 ghost use Rattle.hay_reply.specs.Fits.{FitsRefused, FitsReply};
 ghost use Rattle.hay_directory.specs.State as directory;
 ghost use Rattle.hay_cluster.specs.Causes.{IsCaused, RefusesPut};
-ghost use Rattle.hay_cluster.specs.Leaving.{IsReplicaBeside, LeavesIn, TellsNoOther};
+ghost use Rattle.hay_cluster.specs.Leaving.{IsBeside, LeavesByPut, LeavesIn, MayPut};
 ghost use Rattle.hay_cluster.specs.Pending.{LeavesPut, pending_of};
 ghost use Rattle.hay_cluster.specs.Puts as puts;
-ghost use Rattle.hay_cluster.specs.Puts.{IsPutReply, IsRefusal, IsTried, StoredAs};
+ghost use Rattle.hay_cluster.specs.Puts.{IsPutReply, IsRefusal, IsTried, StoredAs, TakesPhoto};
 ghost use Rattle.hay_cluster.specs.State.{Answered, Stands};
-ghost use Rattle.hay_cluster.specs.Store.{IsUp, disks_of};
+ghost use Rattle.hay_cluster.specs.Store.{IsUp, contents_in, disks_of};
 ghost use Rattle.hay_cluster.specs.Suiting.{Refuses, Suits};
 
 use crate::cluster::Cluster;
@@ -50,7 +50,7 @@ impl<D: Disk, A: Arm<D::Piece>> Cluster<D, A> {
         ensures fits { FitsReply result }
         ensures counts { NoneFalls (map D.fault_count (disks_of self.old)) (map D.fault_count (disks_of self.new)) }
         ensures fuses { map D.fuse_count (disks_of self.new) ≡ map D.fuse_count (disks_of self.old) }
-        ensures beside { (v : ℕ) × TellsNoOther result v × LeavesIn (IsReplicaBeside self.old.settings v) (disks_of self.old) (disks_of self.new) }
+        ensures contents { LeavesByPut self.old.settings result (contents_in D.files self.old) (contents_in D.files self.new) }
         ensures arms { self.new.arms ≡ self.old.arms }
         ensures pending { LeavesPut self.old.settings tag.line result (pending_of self.old) (pending_of self.new) }
         ensures settings { self.new.settings ≡ self.old.settings }
@@ -74,6 +74,7 @@ impl<D: Disk, A: Arm<D::Piece>> Cluster<D, A> {
         requires up { IsUp self.now }
         ensures known { D.Tells → (k : Known) → Stands D.files D.Piece.Tells D.fault_count D.fuse_count A.fault_count self.now k → IfOk result (IsTried self.now.settings k pair size) }
         ensures within { (volume : ℕ) → result ≡ Ok (Tried.Taker volume) → volume < self.now.settings.volumes }
+        ensures takes { (volume : ℕ) → result ≡ Ok (Tried.Taker volume) → TakesPhoto self.now volume size }
         ensures refused { (refused : List Refused) → result ≡ Ok (Tried.Nobody refused) → AllZip (Refuses self.now.settings) (all_tries self.now.settings pair) refused }
         ensures fits { (refused : List Refused) → result ≡ Ok (Tried.Nobody refused) → AllByRecursion FitsRefused refused }
     {
@@ -100,6 +101,7 @@ impl<D: Disk, A: Arm<D::Piece>> Cluster<D, A> {
         requires size { length bytes.now ≤ MAX_PHOTO }
         requires homeless { directory.home_of self.old.directory pair ≡ None }
         requires within { (volume : ℕ) → tried ≡ Tried.Taker volume → volume < self.old.settings.volumes }
+        requires takes { (volume : ℕ) → tried ≡ Tried.Taker volume → TakesPhoto self.old volume (length bytes.now) }
         requires refused { (refused : List Refused) → tried ≡ Tried.Nobody refused → AllZip (Refuses self.old.settings) (all_tries self.old.settings pair) refused }
         requires fits { (refused : List Refused) → tried ≡ Tried.Nobody refused → AllByRecursion FitsRefused refused }
         requires up { IsUp self.old }
@@ -113,7 +115,7 @@ impl<D: Disk, A: Arm<D::Piece>> Cluster<D, A> {
         ensures fits { FitsReply result }
         ensures counts { NoneFalls (map D.fault_count (disks_of self.old)) (map D.fault_count (disks_of self.new)) }
         ensures fuses { map D.fuse_count (disks_of self.new) ≡ map D.fuse_count (disks_of self.old) }
-        ensures beside { (v : ℕ) × TellsNoOther result v × LeavesIn (IsReplicaBeside self.old.settings v) (disks_of self.old) (disks_of self.new) }
+        ensures contents { LeavesByPut self.old.settings result (contents_in D.files self.old) (contents_in D.files self.new) }
         ensures arms { self.new.arms ≡ self.old.arms }
         ensures pending { LeavesPut self.old.settings tag.line result (pending_of self.old) (pending_of self.new) }
         ensures settings { self.new.settings ≡ self.old.settings }
@@ -136,6 +138,7 @@ impl<D: Disk, A: Arm<D::Piece>> Cluster<D, A> {
     ) -> Reply
         requires size { length bytes.now ≤ MAX_PHOTO }
         requires volume { volume < self.old.settings.volumes }
+        requires takes { TakesPhoto self.old volume (length bytes.now) }
         requires homeless { directory.home_of self.old.directory pair ≡ None }
         requires up { IsUp self.old }
         ensures legal { D.Tells → (k : Known) → Stands D.files D.Piece.Tells D.fault_count D.fuse_count A.fault_count self.old k →
@@ -147,8 +150,7 @@ impl<D: Disk, A: Arm<D::Piece>> Cluster<D, A> {
         ensures fits { FitsReply result }
         ensures counts { NoneFalls (map D.fault_count (disks_of self.old)) (map D.fault_count (disks_of self.new)) }
         ensures fuses { map D.fuse_count (disks_of self.new) ≡ map D.fuse_count (disks_of self.old) }
-        ensures beside { LeavesIn (IsReplicaBeside self.old.settings volume) (disks_of self.old) (disks_of self.new) }
-        ensures tells { TellsNoOther result volume }
+        ensures contents { LeavesByPut self.old.settings result (contents_in D.files self.old) (contents_in D.files self.new) }
         ensures arms { self.new.arms ≡ self.old.arms }
         ensures pending { LeavesPut self.old.settings tag.line result (pending_of self.old) (pending_of self.new) }
         ensures settings { self.new.settings ≡ self.old.settings }
@@ -182,8 +184,9 @@ impl<D: Disk, A: Arm<D::Piece>> Cluster<D, A> {
         ensures fits { FitsReply result }
         ensures counts { NoneFalls (map D.fault_count (disks_of self.old)) (map D.fault_count (disks_of self.new)) }
         ensures fuses { map D.fuse_count (disks_of self.new) ≡ map D.fuse_count (disks_of self.old) }
-        ensures beside { LeavesIn (IsReplicaBeside self.old.settings volume) (disks_of self.old) (disks_of self.new) }
-        ensures tells { TellsNoOther result volume }
+        ensures beside { LeavesIn (IsBeside self.old.settings volume) (disks_of self.old) (disks_of self.new) }
+        ensures contents { LeavesByPut self.old.settings result (contents_in D.files self.old) (contents_in D.files self.new) }
+        ensures takes { TakesPhoto self.old volume (length bytes.now) → MayPut self.old.settings result volume }
         ensures arms { self.new.arms ≡ self.old.arms }
         ensures pending { LeavesPut self.old.settings tag.line result (pending_of self.old) (pending_of self.new) }
         ensures settings { self.new.settings ≡ self.old.settings }

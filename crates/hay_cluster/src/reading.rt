@@ -12,11 +12,11 @@ ghost use Rattle.hay_legal.specs.Known.{NoneFalls, home_of, slot_of, volume_at};
 ghost use Rattle.hay_legal.specs.Plain.{start_of};
 ghost use Rattle.hay_cluster.specs.Causes.{BlamesNoArm, IsCaused, StaySure};
 ghost use Rattle.hay_cluster.specs.Reads.{CannotSee, FoundNoArm, FoundPasses, FoundSays, IsFoundAs, IsSeenAt, IsSeenByAt, IsSightCause, IsSightFault, IsWhole, PassesFrom, PassesNoArm, ReadNoArm, ReadPasses, ReadSays, ShownAs, StopsUnseen, counts_of, outcomes_of, passed_at};
-ghost use Rattle.hay_cluster.specs.Leaving.{IsBeside, LeavesIn, TellsNoOther};
+ghost use Rattle.hay_cluster.specs.Leaving.{AnySlot, KeepsIn};
 ghost use Rattle.hay_cluster.specs.Parts.{Comes};
 ghost use Rattle.hay_cluster.specs.Pending.{pending_of};
 ghost use Rattle.hay_cluster.specs.State.{Answered, Stands};
-ghost use Rattle.hay_cluster.specs.Store.{IsBuilt, IsUp, disks_of};
+ghost use Rattle.hay_cluster.specs.Store.{IsBuilt, IsUp, contents_in, disks_of};
 ghost use Rattle.hay_cluster.specs.Suiting.{ShowsFrom, Suits};
 
 use crate::closed::replica_on;
@@ -68,7 +68,7 @@ impl<D: Disk, A: Arm<D::Piece>> Cluster<D, A> {
         ensures sure_arms { StaySure A.is_sure A.fault_count self.old.arms self.new.arms }
         ensures counts { NoneFalls (map D.fault_count (disks_of self.old)) (map D.fault_count (disks_of self.new)) }
         ensures fuses { map D.fuse_count (disks_of self.new) ≡ map D.fuse_count (disks_of self.old) }
-        ensures beside { (v : ℕ) × TellsNoOther result v × LeavesIn (IsBeside self.old.settings v) (disks_of self.old) (disks_of self.new) }
+        ensures contents { D.Tells → KeepsIn self.old.settings AnySlot (contents_in D.files self.old) (contents_in D.files self.new) }
         ensures arm_counts { NoneFalls (map A.fault_count self.old.arms) (map A.fault_count self.new.arms) }
         ensures pending { pending_of self.new ≡ pending_of self.old }
         ensures settings { self.new.settings ≡ self.old.settings }
@@ -96,7 +96,7 @@ impl<D: Disk, A: Arm<D::Piece>> Cluster<D, A> {
         ensures sure_arms { StaySure A.is_sure A.fault_count self.old.arms self.new.arms }
         ensures counts { NoneFalls (map D.fault_count (disks_of self.old)) (map D.fault_count (disks_of self.new)) }
         ensures fuses { map D.fuse_count (disks_of self.new) ≡ map D.fuse_count (disks_of self.old) }
-        ensures beside { LeavesIn (IsBeside self.old.settings url.now.volume) (disks_of self.old) (disks_of self.new) }
+        ensures contents { D.Tells → KeepsIn self.old.settings AnySlot (contents_in D.files self.old) (contents_in D.files self.new) }
         ensures arm_counts { NoneFalls (map A.fault_count self.old.arms) (map A.fault_count self.new.arms) }
         ensures pending { pending_of self.new ≡ pending_of self.old }
         ensures settings { self.new.settings ≡ self.old.settings }
@@ -142,7 +142,7 @@ impl<D: Disk, A: Arm<D::Piece>> Cluster<D, A> {
         ensures sure_arms { StaySure A.is_sure A.fault_count self.old.arms self.new.arms }
         ensures counts { NoneFalls (map D.fault_count (disks_of self.old)) (map D.fault_count (disks_of self.new)) }
         ensures fuses { map D.fuse_count (disks_of self.new) ≡ map D.fuse_count (disks_of self.old) }
-        ensures beside { LeavesIn (IsBeside self.old.settings volume) (disks_of self.old) (disks_of self.new) }
+        ensures contents { D.Tells → KeepsIn self.old.settings AnySlot (contents_in D.files self.old) (contents_in D.files self.new) }
         ensures arm_counts { NoneFalls (map A.fault_count self.old.arms) (map A.fault_count self.new.arms) }
         ensures pending { pending_of self.new ≡ pending_of self.old }
         ensures settings { self.new.settings ≡ self.old.settings }
@@ -216,7 +216,7 @@ impl<D: Disk, A: Arm<D::Piece>> Cluster<D, A> {
         ensures sure_arms { StaySure A.is_sure A.fault_count self.old.arms self.new.arms }
         ensures counts { NoneFalls (map D.fault_count (disks_of self.old)) (map D.fault_count (disks_of self.new)) }
         ensures fuses { map D.fuse_count (disks_of self.new) ≡ map D.fuse_count (disks_of self.old) }
-        ensures beside { LeavesIn (IsBeside self.old.settings volume) (disks_of self.old) (disks_of self.new) }
+        ensures contents { D.Tells → KeepsIn self.old.settings AnySlot (contents_in D.files self.old) (contents_in D.files self.new) }
         ensures arm_counts { NoneFalls (map A.fault_count self.old.arms) (map A.fault_count self.new.arms) }
         ensures pending { pending_of self.new ≡ pending_of self.old }
         ensures settings { self.new.settings ≡ self.old.settings }
@@ -438,7 +438,7 @@ impl<D: Disk, A: Arm<D::Piece>> Cluster<D, A> {
             slice_index (map D.fault_count (disks_of self.new)) (slot_of self.old.settings volume j) ≡ slice_index (map D.fault_count (disks_of self.old)) (slot_of self.old.settings volume j) }
         ensures counts { NoneFalls (map D.fault_count (disks_of self.old)) (map D.fault_count (disks_of self.new)) }
         ensures fuses { map D.fuse_count (disks_of self.new) ≡ map D.fuse_count (disks_of self.old) }
-        ensures beside { LeavesIn (IsBeside self.old.settings volume) (disks_of self.old) (disks_of self.new) }
+        ensures contents { D.Tells → KeepsIn self.old.settings AnySlot (contents_in D.files self.old) (contents_in D.files self.new) }
         ensures arms { self.new.arms ≡ self.old.arms }
         ensures pending { pending_of self.new ≡ pending_of self.old }
         ensures settings { self.new.settings ≡ self.old.settings }
@@ -477,7 +477,7 @@ impl<D: Disk, A: Arm<D::Piece>> Cluster<D, A> {
             slice_index (map D.fault_count (disks_of self.new)) (slot_of self.old.settings volume j) ≡ slice_index (map D.fault_count (disks_of self.old)) (slot_of self.old.settings volume j) }
         ensures counts { NoneFalls (map D.fault_count (disks_of self.old)) (map D.fault_count (disks_of self.new)) }
         ensures fuses { map D.fuse_count (disks_of self.new) ≡ map D.fuse_count (disks_of self.old) }
-        ensures beside { LeavesIn (IsBeside self.old.settings volume) (disks_of self.old) (disks_of self.new) }
+        ensures contents { D.Tells → KeepsIn self.old.settings AnySlot (contents_in D.files self.old) (contents_in D.files self.new) }
         ensures arms { self.new.arms ≡ self.old.arms }
         ensures pending { pending_of self.new ≡ pending_of self.old }
         ensures settings { self.new.settings ≡ self.old.settings }

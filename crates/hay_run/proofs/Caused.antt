@@ -5,6 +5,7 @@ use Rattle.std.proofs.lemmas.List.{append-nil}
 use Rattle.hay_disk.specs.Streams.{Wrote, WrotePart}
 use Rattle.hay_needle.specs.declared.settings.Settings.{Settings}
 use Rattle.hay_reply.specs.declared.Note.{Note}
+use Rattle.hay_reply.specs.Fits.{FitsNote}
 use Rattle.hay_reply.specs.declared.Note.TheVariants.{OpenShelf, OpenFailed, OpenDamaged}
 use Rattle.hay_reply.specs.declared.Reply.TheVariants.{NoMem}
 use Rattle.hay_reply.specs.Replies.{header_line, note_line, numbered_line}
@@ -93,8 +94,8 @@ module _ (Tells : Type 0) where
       let n = c.wrote.0 in (take n c.text, c.wrote.1, inl (c.text, c.answers, front_take n c.text))
   part_of settings before after last base written' (inr (inl (not, (n, wrote)))) =
       let line = numbered_line not.restart.0 NoMem in (take n line, wrote, inr (inl (not, front_take n line)))
-  part_of settings before after last base written' (inr (inr (not, (note, cause, (n, wrote))))) =
-      (take n (note_line note), wrote, inr (inr (not, (note, cause, front_take n (note_line note)))))
+  part_of settings before after last base written' (inr (inr (not, (note, fits, cause, (n, wrote))))) =
+      (take n (note_line note), wrote, inr (inr (not, (note, fits, cause, front_take n (note_line note)))))
 
   pub stop_part : (why : Stop) (settings : Settings) (before after : Tally) (last : List Asked) (base : List ℕ) (written' : Option (List ℕ))
       → StopCaused Tells settings before after why last (Some base) written' → PartOf (ending_of why) settings before after last base written'
@@ -102,7 +103,7 @@ module _ (Tells : Type 0) where
   stop_part stop.TooLong settings before after last base written' (none, same, wrote) = ([], wrote ∙ ap (λ (l : List ℕ). Some l) (sym (append-nil base)), (refl, same))
   stop_part stop.Output settings before after last base written' c = part_of settings before after last base written' c
   stop_part stop.NoMemory settings before after last base written' c = part_of settings before after last base written' c
-  stop_part stop.Store settings before after last base written' (not, (note, cause, wrote)) = (note_line note, wrote, (not, (note, cause, refl)))
+  stop_part stop.Store settings before after last base written' (not, (note, fits, cause, wrote)) = (note_line note, wrote, (not, (note, fits, cause, refl)))
 
   -- what stands behind the header
   behind_held : (held header text part : List ℕ) → ((held ++ header) ++ text) ++ part ≡ held ++ ((header ++ text) ++ part)
@@ -178,13 +179,13 @@ module _ (Tells : Type 0) where
       memory_front : (text : List ℕ) → Behind text → left ≡ Some script → CausedRun Tells settings NoMemory script left taken given sure disks disks' held written'
       memory_front text (wrote, front) told = record { read = []; bytes = (script, refl, told); text = text; wrote = wrote; causes = inr (record { unread = refl; kept = kept; arms = arms; fuses = fuses; told = front }) }
 
-      store_told : (note : Note) → IsFirstRefusal Tells settings taken given note → Wrote (Some (held ++ header_line settings)) (note_line note) written' → left ≡ Some script → CausedRun Tells settings NotOpened script left taken given sure disks disks' held written'
-      store_told note why wrote told = record {
+      store_told : (note : Note) → FitsNote note → IsFirstRefusal Tells settings taken given note → Wrote (Some (held ++ header_line settings)) (note_line note) written' → left ≡ Some script → CausedRun Tells settings NotOpened script left taken given sure disks disks' held written'
+      store_told note fits why wrote told = record {
         read = [];
         bytes = (script, refl, told);
         text = header_line settings ++ note_line note;
         wrote = wrote ∙ ap (λ (l : List ℕ). Some l) (append_assoc held (header_line settings) (note_line note));
-        causes = inr (record { unread = refl; kept = kept; arms = arms; fuses = fuses; told = (note, why, refl) });
+        causes = inr (record { unread = refl; kept = kept; arms = arms; fuses = fuses; told = (note, fits, why, refl) });
       }
 
       -- nothing was written
@@ -208,38 +209,41 @@ module _ (Tells : Type 0) where
         abbrev PartOfNote : Note → Type 0
         PartOfNote note = (why ≡ stop.Store) ⊎ WrotePart (Some (held ++ header_line settings)) (note_line note) written'
 
+        abbrev FitsFor : ClusterFault → Type 0
+        FitsFor fault = (note : Note) → note_of fault ≡ Some note → FitsNote note
+
         abbrev Because : ClusterFault → Type 0
         Because fault = (note : Note) → note_of fault ≡ Some note → IsFirstRefusal Tells settings taken given note
 
-        note_part : (note : Note) → IsFirstRefusal Tells settings taken given note → why ≢ stop.Store → PartOfNote note → (text : List ℕ) × Behind text
-        note_part note because other (inl is) = absurd (other is)
-        note_part note because other (inr (n, wrote)) = (
+        note_part : (note : Note) → FitsNote note → IsFirstRefusal Tells settings taken given note → why ≢ stop.Store → PartOfNote note → (text : List ℕ) × Behind text
+        note_part note fits because other (inl is) = absurd (other is)
+        note_part note fits because other (inr (n, wrote)) = (
           header_line settings ++ take n (note_line note),
           (
             wrote ∙ ap (λ (l : List ℕ). Some l) (append_assoc held (header_line settings) (take n (note_line note))),
-            inr (note, because, front_behind (header_line settings) (take n (note_line note)) (note_line note) (front_take n (note_line note))),
+            inr (note, fits, because, front_behind (header_line settings) (take n (note_line note)) (note_line note) (front_take n (note_line note))),
           ),
         )
 
-        refused_part : (fault : ClusterFault) → Because fault → why ≢ stop.Store → (note_of fault ≡ None → (why ≡ stop.NoMemory) × (written' ≡ Some (held ++ header_line settings)))
+        refused_part : (fault : ClusterFault) → FitsFor fault → Because fault → why ≢ stop.Store → (note_of fault ≡ None → (why ≡ stop.NoMemory) × (written' ≡ Some (held ++ header_line settings)))
             → ((note : Note) → note_of fault ≡ Some note → PartOfNote note) → (text : List ℕ) × Behind text
-        refused_part (refusal.Shelf count) because other wanting part = note_part (OpenShelf count) (because (OpenShelf count) refl) other (part (OpenShelf count) refl)
-        refused_part (refusal.Failed slot count) because other wanting part = note_part (OpenFailed slot count) (because (OpenFailed slot count) refl) other (part (OpenFailed slot count) refl)
-        refused_part (refusal.Damaged slot file at) because other wanting part = note_part (OpenDamaged slot file at) (because (OpenDamaged slot file at) refl) other (part (OpenDamaged slot file at) refl)
-        refused_part refusal.NoMemory because other wanting part = (header_line settings, ((wanting refl).1, inl ([], sym (append-nil (header_line settings)))))
+        refused_part (refusal.Shelf count) fits because other wanting part = note_part (OpenShelf count) (fits (OpenShelf count) refl) (because (OpenShelf count) refl) other (part (OpenShelf count) refl)
+        refused_part (refusal.Failed slot count) fits because other wanting part = note_part (OpenFailed slot count) (fits (OpenFailed slot count) refl) (because (OpenFailed slot count) refl) other (part (OpenFailed slot count) refl)
+        refused_part (refusal.Damaged slot file at) fits because other wanting part = note_part (OpenDamaged slot file at) (fits (OpenDamaged slot file at) refl) (because (OpenDamaged slot file at) refl) other (part (OpenDamaged slot file at) refl)
+        refused_part refusal.NoMemory fits because other wanting part = (header_line settings, ((wanting refl).1, inl ([], sym (append-nil (header_line settings)))))
 
-        pub refused_caused : (fault : ClusterFault) → Because fault
+        pub refused_caused : (fault : ClusterFault) → FitsFor fault → Because fault
             → (why ≡ stop.Store → (note : Note) × (note_of fault ≡ Some note) × Wrote (Some (held ++ header_line settings)) (note_line note) written')
             → ((note : Note) → note_of fault ≡ Some note → PartOfNote note)
             → (note_of fault ≡ None → (why ≡ stop.NoMemory) × (written' ≡ Some (held ++ header_line settings)))
             → (why ≡ stop.Output) ⊎ (why ≡ stop.NoMemory) ⊎ (why ≡ stop.Store) → left ≡ Some script
             → CausedRun Tells settings (ending_of why) script left taken given sure disks disks' held written'
-        refused_caused fault because told part wanting (inl e) unread =
-            let p = refused_part fault because (λ is. cc) wanting part in
+        refused_caused fault fits because told part wanting (inl e) unread =
+            let p = refused_part fault fits because (λ is. cc) wanting part in
             subst (λ (w : Stop). CausedRun Tells settings (ending_of w) script left taken given sure disks disks' held written') (sym e) (output_front p.0 p.1 unread)
-        refused_caused fault because told part wanting (inr (inl e)) unread =
-            let p = refused_part fault because (λ is. cc) wanting part in
+        refused_caused fault fits because told part wanting (inr (inl e)) unread =
+            let p = refused_part fault fits because (λ is. cc) wanting part in
             subst (λ (w : Stop). CausedRun Tells settings (ending_of w) script left taken given sure disks disks' held written') (sym e) (memory_front p.0 p.1 unread)
-        refused_caused fault because told part wanting (inr (inr e)) unread =
+        refused_caused fault fits because told part wanting (inr (inr e)) unread =
             let note = told e in
-            subst (λ (w : Stop). CausedRun Tells settings (ending_of w) script left taken given sure disks disks' held written') (sym e) (store_told note.0 (because note.0 note.1) note.2 unread)
+            subst (λ (w : Stop). CausedRun Tells settings (ending_of w) script left taken given sure disks disks' held written') (sym e) (store_told note.0 (fits note.0 note.1) (because note.0 note.1) note.2 unread)

@@ -88,12 +88,12 @@ module _ (Tells : Type 0) where
       caused_one Writes settings before after (Alone number (item.Command command)) (numbered_line number reply) written written' none (fuses, inr (other, (reply, fits, suits, cause, sure, pending, contents, refl))) wrote
 
   pub caused_restart : (Writes : Writing) (settings : Settings) (before after : Tally) (number pick rows : ℕ) (notes : List Note) (written written' : Option (List ℕ))
-      → IsLaterTally before after → after.fuses ≡ before.fuses → FitsReply (Restarted rows) → TellsPending settings before.pending notes → AllByRecursion FitsNote notes → after.pending ≡ none_pending settings
+      → IsLaterTally before after → after.fuses ≡ before.fuses → after.counts.arms ≡ before.counts.arms → FitsReply (Restarted rows) → TellsPending settings before.pending notes → AllByRecursion FitsNote notes → after.pending ≡ none_pending settings
       → (Tells → IsUndamaged settings after.contents) → Writes written (numbered_line number (Restarted rows) ++ flat_map note_line notes) written'
       → Caused Tells Writes settings before after (Alone number (item.Command (asks.Restart pick)) ∷ []) written written'
-  caused_restart Writes settings before after number pick rows notes written written' none fuses large tells fits settled sound wrote =
+  caused_restart Writes settings before after number pick rows notes written written' none fuses arms large tells fits settled sound wrote =
       caused_one Writes settings before after (Alone number (item.Command (asks.Restart pick))) (numbered_line number (Restarted rows) ++ flat_map note_line notes) written written' none
-      (fuses, inl (pick, rows, notes, refl, large, tells, fits, settled, refl, sound)) wrote
+      (fuses, inl (pick, rows, notes, refl, large, tells, fits, settled, arms, refl, sound)) wrote
 
   -- HOW A LINE STOPS A RUN
 
@@ -116,6 +116,9 @@ module _ (Tells : Type 0) where
 
   -- a restart that was refused
   module _ (settings : Settings) (before after : Tally) (number pick : ℕ) (written written' : Option (List ℕ)) (why : Stop) (back : NotReopened before after (Alone number (item.Command (asks.Restart pick)) ∷ [])) where
+    abbrev FitsFor : ClusterFault → Type 0
+    FitsFor fault = (note : Note) → note_of fault ≡ Some note → FitsNote note
+
     abbrev RestartAsked : List Asked
     RestartAsked = Alone number (item.Command (asks.Restart pick)) ∷ []
 
@@ -142,33 +145,33 @@ module _ (Tells : Type 0) where
     abbrev Told : Type 0
     Told = Caused Tells WrotePart settings before after RestartAsked written written' ⊎ ToldWanting before after RestartAsked written written' ⊎ ToldRefusal Tells WrotePart settings before after RestartAsked written written'
 
-    refusal_part : (note : Note) → why ≢ stop.Store → IsNoteCaused Tells settings before after note → PartOf note → Told
-    refusal_part note other cause (inl is) = absurd (other is)
-    refusal_part note other cause (inr wrote) = inr (inr (back, (note, cause, wrote)))
+    refusal_part : (note : Note) → why ≢ stop.Store → FitsNote note → IsNoteCaused Tells settings before after note → PartOf note → Told
+    refusal_part note other fits cause (inl is) = absurd (other is)
+    refusal_part note other fits cause (inr wrote) = inr (inr (back, (note, fits, cause, wrote)))
 
-    part_refused : (fault : ClusterFault) → HasFaultCause settings before.counts.disks after.counts.disks fault → LowestFor fault → PlaceFor fault → why ≢ stop.Store
+    part_refused : (fault : ClusterFault) → FitsFor fault → HasFaultCause settings before.counts.disks after.counts.disks fault → LowestFor fault → PlaceFor fault → why ≢ stop.Store
         → (fault ≡ refusal.NoMemory → (why ≢ stop.Store) × WrotePart written (numbered_line number NoMem) written') → ((note : Note) → note_of fault ≡ Some note → PartOf note)
         → Told
-    part_refused (refusal.Shelf count) cause lowest place other wanting part = absurd cause
-    part_refused (refusal.Failed slot count) cause lowest place other wanting part =
-        refusal_part (OpenFailed slot count) other (cause.0, (cause.1, cause.2), λ tells. lowest tells slot count refl) (part (OpenFailed slot count) refl)
-    part_refused (refusal.Damaged slot file at) cause lowest place other wanting part = refusal_part (OpenDamaged slot file at) other (cause, λ tells. place tells slot file at refl) (part (OpenDamaged slot file at) refl)
-    part_refused refusal.NoMemory cause lowest place other wanting part =
+    part_refused (refusal.Shelf count) fits cause lowest place other wanting part = absurd cause
+    part_refused (refusal.Failed slot count) fits cause lowest place other wanting part =
+        refusal_part (OpenFailed slot count) other (fits (OpenFailed slot count) refl) (cause.0, (cause.1, cause.2), λ tells. lowest tells slot count refl) (part (OpenFailed slot count) refl)
+    part_refused (refusal.Damaged slot file at) fits cause lowest place other wanting part = refusal_part (OpenDamaged slot file at) other (fits (OpenDamaged slot file at) refl) (cause, λ tells. place tells slot file at refl) (part (OpenDamaged slot file at) refl)
+    part_refused refusal.NoMemory fits cause lowest place other wanting part =
         let same : back.restart.0 ≡ number = restart_number back.restart in
         inr (inl (back, subst (λ (n : ℕ). WrotePart written (numbered_line n NoMem) written') (sym same) (wanting refl).1))
 
-    pub refused_stops : (fault : ClusterFault) → HasFaultCause settings before.counts.disks after.counts.disks fault → LowestFor fault → PlaceFor fault
+    pub refused_stops : (fault : ClusterFault) → FitsFor fault → HasFaultCause settings before.counts.disks after.counts.disks fault → LowestFor fault → PlaceFor fault
         → (fault ≡ refusal.NoMemory → (why ≢ stop.Store) × WrotePart written (numbered_line number NoMem) written')
         → (why ≡ stop.Store → (note : Note) × (note_of fault ≡ Some note) × Wrote written (note_line note) written')
         → ((note : Note) → note_of fault ≡ Some note → PartOf note)
         → (why ≡ stop.Output) ⊎ (why ≡ stop.NoMemory) ⊎ (why ≡ stop.Store) → StopCaused Tells settings before after why RestartAsked written written'
-    refused_stops fault cause lowest place wanting told part (inl e) =
-        subst (λ (w : Stop). StopCaused Tells settings before after w RestartAsked written written') (sym e) (part_refused fault cause lowest place (λ is. cc) wanting part)
-    refused_stops fault cause lowest place wanting told part (inr (inl e)) =
-        subst (λ (w : Stop). StopCaused Tells settings before after w RestartAsked written written') (sym e) (part_refused fault cause lowest place (λ is. cc) wanting part)
-    refused_stops fault cause lowest place wanting told part (inr (inr e)) =
+    refused_stops fault fits cause lowest place wanting told part (inl e) =
+        subst (λ (w : Stop). StopCaused Tells settings before after w RestartAsked written written') (sym e) (part_refused fault fits cause lowest place (λ is. cc) wanting part)
+    refused_stops fault fits cause lowest place wanting told part (inr (inl e)) =
+        subst (λ (w : Stop). StopCaused Tells settings before after w RestartAsked written written') (sym e) (part_refused fault fits cause lowest place (λ is. cc) wanting part)
+    refused_stops fault fits cause lowest place wanting told part (inr (inr e)) =
         let note = told e in
-        subst (λ (w : Stop). StopCaused Tells settings before after w RestartAsked written written') (sym e) (back, (note.0, note_caused fault cause lowest place note.0 note.1, note.2))
+        subst (λ (w : Stop). StopCaused Tells settings before after w RestartAsked written written') (sym e) (back, (note.0, fits note.0 note.1, note_caused fault cause lowest place note.0 note.1, note.2))
 
   -- HOW A TURN STOPS
 

@@ -3,7 +3,6 @@ use Rattle.std.proofs.Common.{◌≡◌, inl, inr, ℕ, false, List, [], ◌∷�
 use Rattle.std.specs.Prelude.{Result, Ok, Err, OnOk}
 use Rattle.hay_needle.specs.declared.settings.Settings.{Settings}
 use Rattle.hay_legal.specs.Items.{Asked, items_of}
-use Rattle.hay_legal.specs.Statuses.{IsFront}
 use Rattle.hay_run.specs.declared.stops.Stop.{Stop}
 use Rattle.hay_run.specs.declared.stops.Stop.TheVariants as stop
 use Rattle.hay_run.specs.Causing.{AllCaused, AnswerTexts, CausedUntil, IsRestart, StopCaused, StopTook, Tally, TookLastItem}

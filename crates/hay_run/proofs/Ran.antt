@@ -1,5 +1,5 @@
 -- From what was served to a whole run.
-use Rattle.std.proofs.Common.{◌≡◌, ◌≢◌, ◌⊎◌, inl, inr, ℕ, ◌+◌, ◌<◌, ◌≤◌, false, List, [], ◌∷◌, ◌++◌, map, length, take, drop, Option, Some, None, refl, sym, ap, subst, ◌∙◌, append_assoc, length-append, arith, lit≤}
+use Rattle.std.proofs.Common.{◌≡◌, ◌⊎◌, inl, inr, ℕ, ◌+◌, ◌<◌, ◌≤◌, false, List, [], ◌∷◌, ◌++◌, map, length, take, drop, Option, Some, None, refl, sym, ap, subst, ◌∙◌, append_assoc, length-append, arith, lit≤}
 use Rattle.std.specs.Prelude.{flat_map}
 use Rattle.std.specs.List.{AllByRecursion}
 use Rattle.std.proofs.lemmas.Grind.{flat_map-append}
@@ -38,7 +38,7 @@ use Rattle.hay_run.specs.Turns.{Writing, Standing, AnswersTurns, IsGoingOn, Refu
 use Rattle.hay_run.specs.Runs.{RanTo, ReadFront}
 use Rattle.hay_run.proofs.Asking.{took_items_more}
 use Rattle.hay_run.proofs.Reading.{ReadsFront, rest_none, breaks_off, over_part, front_some, front_read}
-use Rattle.hay_run.proofs.Turning.{legal_more}
+use Rattle.hay_run.proofs.Turning.{each_more, legal_more}
 
 -- WHAT IS WRITTEN
 
@@ -76,6 +76,9 @@ none_wanting (turn ∷ turns) [] line pick notes after behind each is =
     let same : turn ≡ Restart line pick NoMem notes after = cc in each.0 line pick notes after same
 none_wanting (turn ∷ turns) (first ∷ before) line pick notes after behind each is =
     let same : turns ≡ before ++ Restart line pick NoMem notes after ∷ behind = cc in none_wanting turns before line pick notes after behind each.1 same
+
+pub none_wants : (turns : List Turn) → AllByRecursion IsGoingOn turns → statuses.NoneWants turns
+none_wants turns each = λ before line pick notes after behind is. none_wanting turns before line pick notes after behind each is
 
 -- in turns that all go on there is none
 pub wants_none : (ending : Ending) (turns : List Turn) → AllByRecursion IsGoingOn turns → statuses.WantsLast ending turns
@@ -116,6 +119,7 @@ pub record RanPart (settings : Settings) (k : Known) (script : List ℕ) (left :
   pub t : Known
   pub legal : Legal settings opened turns t
   pub last : LastWants turns
+  pub unbuilt : AllByRecursion statuses.IsUnbuiltTurn turns
   pub ends : statuses.Interrupted IsReplica OpensRows IsVoid settings k script read taken turns t text given
 
 pub ran_output : (settings : Settings) (k : Known) (script : List ℕ) (left : Option (List ℕ)) (taken given : Outside) (held : List ℕ) (written : Option (List ℕ))
@@ -132,6 +136,7 @@ ran_output settings k script left taken given held written part = record {
     t = part.t;
     legal = part.legal;
     wanting = λ before line pick notes after behind is. (part.last before line pick notes after behind is, inr refl);
+    unbuilt = part.unbuilt;
     ends = part.ends;
   };
 }
@@ -150,6 +155,7 @@ ran_memory settings k script left taken given held written part = record {
     t = part.t;
     legal = part.legal;
     wanting = λ before line pick notes after behind is. (part.last before line pick notes after behind is, inl refl);
+    unbuilt = part.unbuilt;
     ends = part.ends;
   };
 }
@@ -186,6 +192,7 @@ module _ {D P A : Type 0} (Tells : Type 0) (Begins Left : Standing D P A) (setti
           t = answers.t;
           legal = subst P store'_is answers.legal;
           wanting = wants_none ReadAll answers.turns answers.each;
+          unbuilt = answers.unbuilt;
           ends = record { asked = answers.items ∙ all; wrote = refl; stands = closed answers.t (weaken store' store'_is answers.t answers.left) };
         };
       }
@@ -227,6 +234,7 @@ module _ {D P A : Type 0} (Tells : Type 0) (Begins Left : Standing D P A) (setti
             t = answers.t;
             legal = mid_legal;
             wanting = wants_none InputFault answers.turns answers.each;
+            unbuilt = answers.unbuilt;
             ends = record { asked = answers.items ∙ off.items; wrote = refl; stands = mid_closed same };
           };
         }
@@ -251,6 +259,7 @@ module _ {D P A : Type 0} (Tells : Type 0) (Begins Left : Standing D P A) (setti
             t = answers.t;
             legal = mid_legal;
             wanting = wants_none TooLong answers.turns answers.each;
+            unbuilt = answers.unbuilt;
             ends = record { asked = answers.items ∙ over.items; wrote = refl; stands = mid_closed same };
           };
         }
@@ -271,6 +280,7 @@ module _ {D P A : Type 0} (Tells : Type 0) (Begins Left : Standing D P A) (setti
           t = answers.t;
           legal = mid_legal;
           last = last_none answers.turns answers.each;
+          unbuilt = answers.unbuilt;
           ends = inl (record {
             asked = subst P (sym answers.items) reads.front;
             whole_lines = subst W (sym answers.items) reads.whole;
@@ -308,6 +318,7 @@ module _ {D P A : Type 0} (Tells : Type 0) (Begins Left : Standing D P A) (setti
           t = last.t;
           legal = legal_more settings start answers.turns answers.t last.turns last.t mid_legal (subst P store'_is last.legal);
           last = last_more answers.turns last.turns answers.each one;
+          unbuilt = each_more statuses.IsUnbuiltTurn answers.turns last.turns answers.unbuilt last.unbuilt;
           ends = inl (record {
             asked = subst Q (sym items) reads.front;
             whole_lines = subst W (sym items) reads.whole;
@@ -355,9 +366,11 @@ module _ {D P A : Type 0} (Tells : Type 0) (Begins Left : Standing D P A) (setti
           t = answers.t;
           legal = mid_legal;
           last = last_none answers.turns answers.each;
+          unbuilt = answers.unbuilt;
           ends = inr (inr (inr (record {
             next = (number, r.pick, subst P (sym answers.items) reads.front);
             whole_lines = (number, r.pick, subst W (sym answers.items) reads.whole);
+            answered = none_wants answers.turns answers.each;
             note = OpenFailed f.slot f.count;
             tells = refused_tells WrotePart f;
             wrote = (take wrote.0 line, front_take wrote.0 line, refl);
@@ -389,9 +402,11 @@ module _ {D P A : Type 0} (Tells : Type 0) (Begins Left : Standing D P A) (setti
             t = answers.t;
             legal = mid_legal;
             wanting = wants_none NotOpened answers.turns answers.each;
+            unbuilt = answers.unbuilt;
             ends = inr (record {
               next = (number, r.pick, subst P (sym answers.items) reads.front);
               whole_lines = (number, r.pick, subst W (sym answers.items) reads.whole);
+              answered = none_wants answers.turns answers.each;
               note = OpenFailed f.slot f.count;
               tells = refused_tells Wrote f;
               wrote = (line, refl, refl);

@@ -29,7 +29,7 @@ use Rattle.hay_run.specs.declared.stops.Stop.{Stop}
 use Rattle.hay_run.specs.declared.stops.Stop.TheVariants as stop
 use Rattle.hay_run.specs.Stops.{ending_of, note_of}
 use Rattle.hay_run.specs.Runs.{HasOpened, IsFirstRefusal, IsLaterRefusal, IsTaken, IsNotOpened, IsNotOpenedBehind, IsUnread, RanTo, RefusedLater, WasRead}
-use Rattle.hay_run.specs.Turns.{Standing, counts_of, RefusedFor, Halts}
+use Rattle.hay_run.specs.Turns.{Standing, Serves, ServedUntil, counts_of, RefusedFor, Halts}
 use Rattle.hay_run.proofs.Counting.{rose_more}
 use Rattle.hay_run.proofs.Restarting.{rose_came_up}
 use Rattle.hay_run.proofs.Turning.{rises_same}
@@ -135,6 +135,7 @@ module _ (settings : Settings) (shelf shelf' : ℕ) (disks disks' : ℕ → Held
       t = k;
       legal = refl;
       last = no_last;
+      unbuilt = tt;
       ends = inr (inr (inl (record {
         none = refl;
         unread = refl;
@@ -162,6 +163,7 @@ module _ (settings : Settings) (shelf shelf' : ℕ) (disks disks' : ℕ → Held
       t = k;
       legal = refl;
       last = no_last;
+      unbuilt = tt;
       ends = inr (inl (record { none = refl; unread = refl; wrote = ([], refl); left = unopened }));
     }
 
@@ -180,6 +182,7 @@ module _ (settings : Settings) (shelf shelf' : ℕ) (disks disks' : ℕ → Held
         t = k;
         legal = refl;
         wanting = wants_none NotOpened [] tt;
+        unbuilt = tt;
         ends = inl (record { none = refl; unread = refl; note = note; tells = tells; wrote = (note_line note, refl, refl); left = unopened });
       };
     }
@@ -236,6 +239,7 @@ ran_header settings taken k is script held written' wrote = record {
   t = k;
   legal = refl;
   last = no_last;
+  unbuilt = tt;
   ends = inr (inl (record {
     none = refl;
     unread = refl;
@@ -373,6 +377,7 @@ ran_nothing settings taken k is_taken script held written same ending is =
       t = k;
       legal = refl;
       last = no_last;
+      unbuilt = tt;
       ends = inr (inl (record { none = refl; unread = refl; wrote = (header_line settings ++ [], refl); left = untouched settings taken k is_taken }));
     }))
 
@@ -403,6 +408,11 @@ opened_by why status same (inr (inl is)) = inl (open_then why (inr (inl (sym sam
 opened_by why status same (inr (inr (inl is))) = inl (open_then why (inr (inr (sym same ∙ is))))
 opened_by why status same (inr (inr (inr read))) = inr read
 
+pub opened_only : (why : Stop) (status : ℕ) → status ≡ status_of (ending_of why) → (status ≡ 0) ⊎ (status ≡ 4) ⊎ (status ≡ 7) → HasOpened (Err why)
+opened_only why status same (inl is) = open_then why (inl (sym same ∙ is))
+opened_only why status same (inr (inl is)) = open_then why (inr (inl (sym same ∙ is)))
+opened_only why status same (inr (inr is)) = open_then why (inr (inr (sym same ∙ is)))
+
 -- a store that was not opened
 pub none_opened : {W : Type 0} (why : Stop) → (why ≡ stop.Output) ⊎ (why ≡ stop.NoMemory) ⊎ (why ≡ stop.Store) → (W → ⊥) → HasOpened (Err why) ⊎ W → ⊥
 none_opened why kinds none (inr read) = none read
@@ -422,3 +432,20 @@ not_read left read = read.2 read.1
 -- what holds of an ending holds of the one with its status
 pub by_status : (P : Ending → Type 0) (one other : Ending) → status_of one ≡ status_of other → P one → P other
 by_status P one other same h = subst P (same_ending one other same) h
+
+-- a store that was open to the end stands for what is known of it
+pub stands_at_end : {D P A : Type 0} (Tells : Type 0) (Stands Left : Standing D P A) (script : Option (List ℕ)) (store : Open D P A) (written : Option (List ℕ)) (script' : Option (List ℕ)) (store' : Open D P A) (written' : Option (List ℕ))
+    → Tells → (k : Known) → Stands store k → (r : Result (Unit {0}) Stop) → HasOpened r → OnOk r (Serves Tells Stands script store written store' written')
+    → ((why : Stop) → r ≡ Err why → ServedUntil Tells Stands Left why script store written script' store' written') → (t : Known) × Stands store' t
+stands_at_end Tells Stands Left script store written script' store' written' tells k stands (Ok done) opened served stopped = let a = served.answers tells k stands in (a.t, a.left)
+stands_at_end Tells Stands Left script store written script' store' written' tells k stands (Err stop.Output) opened served stopped = absurd opened
+stands_at_end {D} {P} {A} Tells Stands Left script store written script' store' written' tells k stands (Err stop.Input) opened served stopped =
+    let u = stopped stop.Input refl in
+    let a = u.answers tells k stands in
+    (a.t, subst (λ (s : Open D P A). Stands s a.t) (sym u.stops.1) a.left)
+stands_at_end Tells Stands Left script store written script' store' written' tells k stands (Err stop.NoMemory) opened served stopped = absurd opened
+stands_at_end Tells Stands Left script store written script' store' written' tells k stands (Err stop.Store) opened served stopped = absurd opened
+stands_at_end {D} {P} {A} Tells Stands Left script store written script' store' written' tells k stands (Err stop.TooLong) opened served stopped =
+    let u = stopped stop.TooLong refl in
+    let a = u.answers tells k stands in
+    (a.t, subst (λ (s : Open D P A). Stands s a.t) (sym u.stops.1) a.left)

@@ -29,6 +29,7 @@ use Rattle.hay_legal.specs.Known.{Leaves, FaultsRose}
 use Rattle.hay_legal.specs.Legal.{Legal, known_after, IsUnbuiltLine}
 use Rattle.hay_legal.specs.Plain.{LegalCommand}
 use Rattle.hay_legal.specs.Restarts.{LegalRestart}
+use Rattle.hay_legal.specs.Statuses.{IsUnbuiltTurn}
 use Rattle.hay_legal.specs.Transcript.{turn_text, answered_line}
 use Rattle.hay_cluster.specs.Store.{Open}
 use Rattle.hay_run.specs.Turns.{Writing, Standing, AnswersTurns, Appends, IsGoingOn}
@@ -137,6 +138,7 @@ module _ {D P A : Type 0} (Left : Standing D P A) where
     turns = [];
     t = k;
     each = tt;
+    unbuilt = tt;
     items = refl;
     legal = refl;
     left = left;
@@ -152,6 +154,7 @@ module _ {D P A : Type 0} (Left : Standing D P A) where
         turns = Plain number item.Bad BadLine k ∷ [];
         t = k;
         each = (is number item.Bad BadLine k, tt);
+        unbuilt = (tt, tt);
         items = refl;
         legal = ((refl, leaves_same k), refl);
         left = left;
@@ -167,6 +170,7 @@ module _ {D P A : Type 0} (Left : Standing D P A) where
         turns = Plain number (item.Command command) reply t ∷ [];
         t = t;
         each = (is number (item.Command command) reply t, tt);
+        unbuilt = (tt, tt);
         items = refl;
         legal = (legal, refl);
         left = left;
@@ -183,6 +187,7 @@ module _ {D P A : Type 0} (Left : Standing D P A) where
         turns = Restart number pick reply notes t ∷ [];
         t = t;
         each = (is, tt);
+        unbuilt = (tt, tt);
         items = refl;
         legal = (legal, refl);
         left = left;
@@ -198,6 +203,7 @@ module _ {D P A : Type 0} (Left : Standing D P A) where
         turns = Lanes (map unbuilt_line lines) [] (record { from = 0; rows = [] }) k ∷ [];
         t = k;
         each = (is (map unbuilt_line lines) [] (record { from = 0; rows = [] }) k, tt);
+        unbuilt = ((all_unbuilt lines, refl, refl), tt);
         items = ap (λ (items : List InBlock). Block items ∷ []) (asked_lines lines);
         legal = (inr (record { lines = all_unbuilt lines; no_entries = refl; no_rows = refl; leaves = leaves_same k }), refl);
         left = left;
@@ -217,6 +223,7 @@ answers_more Stands k asked more written written' written'' store store' same fi
       turns = first.turns ++ next.turns;
       t = next.t;
       each = each_more IsGoingOn first.turns next.turns first.each next.each;
+      unbuilt = each_more IsUnbuiltTurn first.turns next.turns first.unbuilt next.unbuilt;
       items = map-append item_of_turn first.turns next.turns ∙ ap (λ (items : List Asked). items ++ map item_of_turn next.turns) first.items ∙ ap (λ (items : List Asked). asked ++ items) next.items;
       legal = legal_more store'.settings k first.turns first.t next.turns next.t (subst P (sym same) first.legal) next.legal;
       left = next.left;

@@ -74,7 +74,7 @@ IsLaterTally before after =
 abbrev pub IsRestartText : Type 0 → Settings → Tally → Tally → Command → ℕ → List ℕ → Type 0
 IsRestartText Tells settings before after command number text =
     (pick : ℕ) × (rows : ℕ) × (notes : List Note) × (command ≡ asks.Restart pick) × FitsReply (Restarted rows) × TellsPending settings before.pending notes × AllByRecursion FitsNote notes
-    × (after.pending ≡ none_pending settings) × (text ≡ numbered_line number (Restarted rows) ++ flat_map note_line notes) × (Tells → IsUndamaged settings after.contents)
+    × (after.pending ≡ none_pending settings) × (after.counts.arms ≡ before.counts.arms) × (text ≡ numbered_line number (Restarted rows) ++ flat_map note_line notes) × (Tells → IsUndamaged settings after.contents)
 
 -- the text of another command: a reply with numbers of their types, which the command of this line may be given, which tells of a
 -- failure only where the count that it prints rose, and never of an arm that is sure, and by which it is known what it left pending, and
@@ -131,10 +131,10 @@ IsNoteCaused Tells settings before after (LostDir line) = ⊥
 IsNoteCaused Tells settings before after (Log v from lines) = ⊥
 IsNoteCaused Tells settings before after (Rows from rows) = ⊥
 
--- a restart was refused, and so much was written of the line of the note that tells why
+-- a restart was refused, and so much was written of the line of the note that tells why, with numbers of their types
 abbrev pub ToldRefusal : Type 0 → Writing → Settings → Tally → Tally → List Asked → Option (List ℕ) → Option (List ℕ) → Type 0
 ToldRefusal Tells Writes settings before after asked written written' =
-    NotReopened before after asked × ((note : Note) × IsNoteCaused Tells settings before after note × Writes written (note_line note) written')
+    NotReopened before after asked × ((note : Note) × FitsNote note × IsNoteCaused Tells settings before after note × Writes written (note_line note) written')
 
 -- a restart wanted memory, and a front of its reply was written
 abbrev pub ToldWanting : Tally → Tally → List Asked → Option (List ℕ) → Option (List ℕ) → Type 0
@@ -211,7 +211,7 @@ abbrev pub IsPartBehind : Type 0 → Settings → Tally → Tally → List Asked
 IsPartBehind Tells settings before after last part =
     ((text : List ℕ) × AnswerTexts Tells settings before after last text × IsFront part text)
     ⊎ ((not : NotReopened before after last) × IsFront part (numbered_line not.restart.0 NoMem))
-    ⊎ (NotReopened before after last × ((note : Note) × IsNoteCaused Tells settings before after note × IsFront part (note_line note)))
+    ⊎ (NotReopened before after last × ((note : Note) × FitsNote note × IsNoteCaused Tells settings before after note × IsFront part (note_line note)))
 
 abbrev pub StandsBehind : Type 0 → Ending → Settings → Tally → Tally → List Asked → List ℕ → Type 0
 StandsBehind Tells ReadAll settings before after last part = (part ≡ []) × (after ≡ before)
@@ -220,7 +220,7 @@ StandsBehind Tells TooLong settings before after last part = (part ≡ []) × (a
 StandsBehind Tells OutputFault settings before after last part = IsPartBehind Tells settings before after last part
 StandsBehind Tells NoMemory settings before after last part = IsPartBehind Tells settings before after last part
 StandsBehind Tells NotOpened settings before after last part =
-    NotReopened before after last × ((note : Note) × IsNoteCaused Tells settings before after note × (part ≡ note_line note))
+    NotReopened before after last × ((note : Note) × FitsNote note × IsNoteCaused Tells settings before after note × (part ≡ note_line note))
 
 -- A store that was opened on these disks and arms has this tally, of just these, and an arm that was sure is sure in it. Nothing is pending, and a
 -- disk that was not void has what it had.
@@ -263,7 +263,7 @@ pub record OpenedText (Tells : Type 0) (settings : Settings) (ending : Ending) (
 -- a front of the header was written, or of the header and the line that tells why the first opening was refused
 abbrev pub IsUnopenedFront : Type 0 → Settings → Outside → Outside → List ℕ → Type 0
 IsUnopenedFront Tells settings taken given text =
-    IsFront text (header_line settings) ⊎ ((note : Note) × IsFirstRefusal Tells settings taken given note × IsFront text (header_line settings ++ note_line note))
+    IsFront text (header_line settings) ⊎ ((note : Note) × FitsNote note × IsFirstRefusal Tells settings taken given note × IsFront text (header_line settings ++ note_line note))
 
 -- why is written behind the header, or a front of both
 abbrev pub ToldUnopened : Type 0 → Settings → Outside → Outside → Ending → List ℕ → Type 0
@@ -273,7 +273,7 @@ ToldUnopened Tells settings taken given TooLong text = ⊥
 ToldUnopened Tells settings taken given OutputFault text = IsUnopenedFront Tells settings taken given text
 ToldUnopened Tells settings taken given NoMemory text = IsUnopenedFront Tells settings taken given text
 ToldUnopened Tells settings taken given NotOpened text =
-    (note : Note) × IsFirstRefusal Tells settings taken given note × (text ≡ header_line settings ++ note_line note)
+    (note : Note) × FitsNote note × IsFirstRefusal Tells settings taken given note × (text ≡ header_line settings ++ note_line note)
 
 -- A run that opened none. It read nothing, set no fuse and used no arm, and each disk that was not void is as it was taken.
 pub record UnopenedText (Tells : Type 0) (settings : Settings) (taken given : Outside) (disks disks' : ℕ → HeldDisk) (ending : Ending) (read text : List ℕ) : Type 0 where

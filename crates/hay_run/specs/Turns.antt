@@ -17,6 +17,7 @@ use Rattle.hay_legal.specs.Items.{Asked, item_of_turn}
 use Rattle.hay_legal.specs.Items.Asked.{Alone}
 use Rattle.hay_legal.specs.Known.{CameUp, FaultsRose, disk_count, fault_count}
 use Rattle.hay_legal.specs.Legal.{Legal}
+use Rattle.hay_legal.specs.Statuses.{IsUnbuiltTurn}
 use Rattle.hay_legal.specs.Transcript.{turn_text}
 use Rattle.hay_cluster.specs.Outside.{IsDamagedDisk, IsUndamagedBelow}
 use Rattle.hay_cluster.specs.Store.{Open, contents_in, disks_of}
@@ -41,11 +42,13 @@ IsGoingOn turn = (line pick : ℕ) (notes : List Note) (after : Known) → turn 
 abbrev pub AnyTurn : Turn → Type 0
 AnyTurn turn = Unit {0}
 
--- Turns of this kind, legal from k, answer these items, and the store is left at what the last one left. Their text was written.
+-- Turns of this kind, legal from k, answer these items, and the store is left at what the last one left. Their text was written,
+-- and no block was run.
 pub record AnswersTurns {D P A : Type 0} (Is : Turn → Type 0) (Writes : Writing) (Left : Standing D P A) (k : Known) (asked : List Asked) (written : Option (List ℕ)) (store : Open D P A) (written' : Option (List ℕ)) : Type 0 where
   pub turns : List Turn
   pub t : Known
   pub each : AllByRecursion Is turns
+  pub unbuilt : AllByRecursion IsUnbuiltTurn turns
   pub items : map item_of_turn turns ≡ asked
   pub legal : Legal store.settings k turns t
   pub left : Left store t

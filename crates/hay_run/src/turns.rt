@@ -5,6 +5,7 @@ ghost use Rattle.hay_disk.specs.Streams.{Wrote, WrotePart};
 ghost use Rattle.hay_script.specs.Script.{IsWithin, IsWithinLine};
 ghost use Rattle.hay_script.specs.declared.Command.TheVariants as asks;
 ghost use Rattle.hay_reply.specs.declared.Note.{Note};
+ghost use Rattle.hay_reply.specs.Fits.{FitsNote};
 ghost use Rattle.hay_reply.specs.Replies as texts;
 ghost use Rattle.hay_legal.specs.declared.turn.Item.TheVariants as item;
 ghost use Rattle.hay_legal.specs.Items.{outside};
@@ -71,6 +72,7 @@ fn plain<D: Disk, A: Arm<D::Piece>, K: Sink>(
 fn refuse<K: Sink>(alloc: Global, number: u64, fault: ClusterFault, sink: &mut K) -> Stop
     ensures wanting { fault ≡ ClusterFault.NoMemory → (result ≢ Stop.Store) × WrotePart (K.written sink.old) (texts.numbered_line number Reply.NoMem) (K.written sink.new) }
     ensures told { result ≡ Stop.Store → (note : Note) × (note_of fault ≡ Some note) × Wrote (K.written sink.old) (texts.note_line note) (K.written sink.new) }
+    ensures fits { (note : Note) → note_of fault ≡ Some note → FitsNote note }
     ensures part { (note : Note) → note_of fault ≡ Some note → (result ≡ Stop.Store) ⊎ WrotePart (K.written sink.old) (texts.note_line note) (K.written sink.new) }
     ensures stops { (result ≡ Stop.Output) ⊎ (result ≡ Stop.NoMemory) ⊎ (result ≡ Stop.Store) }
     ensures cause { result ≡ Stop.Output → Rose (K.fault_count sink.old) (K.fault_count sink.new) }

@@ -1,8 +1,9 @@
 //! What a run writes: lines of replies and notes.
-ghost use Rattle.std.specs.Prelude.{◌≡◌, ◌⊎◌, ◌≤◌, ◌++◌, Some, None, Err, flat_map, OnOk, OnErr, IsErrOf};
+ghost use Rattle.std.specs.Prelude.{◌≡◌, ◌⊎◌, ◌≤◌, ◌++◌, Some, None, Err, flat_map, IfSome, OnOk, OnErr, IsErrOf};
 ghost use Rattle.hay_disk.specs.Counts.{Rose};
 ghost use Rattle.hay_disk.specs.Streams.{Wrote, WrotePart};
 ghost use Rattle.hay_reply.specs.declared.Note.{Note};
+ghost use Rattle.hay_reply.specs.Fits.{FitsNote};
 ghost use Rattle.hay_reply.specs.Replies as texts;
 ghost use Rattle.hay_run.specs.Stops.{note_of};
 ghost use Rattle.hay_run.specs.Turns.{Appends};
@@ -132,21 +133,32 @@ fn write_note<K: Sink>(alloc: Global, note: &Note, sink: &mut K) -> Result<(), S
     write_text(sink, text.as_slice())
 }
 
+/// How a refused opening is told, unless memory was wanting.
+fn refusal_note(fault: ClusterFault) -> Option<Note>
+    ensures is { result ≡ note_of fault }
+    ensures fits { IfSome result FitsNote }
+{
+    match fault {
+        ClusterFault::NoMemory => None,
+        ClusterFault::Shelf { faults } => Some(Note::OpenShelf { faults }),
+        ClusterFault::Failed { slot, faults } => Some(Note::OpenFailed { slot, faults }),
+        ClusterFault::Damaged { slot, file, at } => Some(Note::OpenDamaged { slot, file, at }),
+    }
+}
+
 /// Writes how an opening was refused, and answers why the run stops. Where memory was wanting nothing is written.
 pub fn write_refusal<K: Sink>(alloc: Global, fault: ClusterFault, sink: &mut K) -> Stop
     ensures told { result ≡ Stop.Store → (note : Note) × (note_of fault ≡ Some note) × Wrote (K.written sink.old) (texts.note_line note) (K.written sink.new) }
     ensures part { (note : Note) → note_of fault ≡ Some note → (result ≡ Stop.Store) ⊎ WrotePart (K.written sink.old) (texts.note_line note) (K.written sink.new) }
+    ensures fits { (note : Note) → note_of fault ≡ Some note → FitsNote note }
     ensures wanting { note_of fault ≡ None → (result ≡ Stop.NoMemory) × (sink.new ≡ sink.old) }
     ensures stops { (result ≡ Stop.Output) ⊎ (result ≡ Stop.NoMemory) ⊎ (result ≡ Stop.Store) }
     ensures cause { result ≡ Stop.Output → Rose (K.fault_count sink.old) (K.fault_count sink.new) }
     ensures count { K.fault_count sink.old ≤ K.fault_count sink.new }
     ensures appends { Appends (K.written sink.old) (K.written sink.new) }
 {
-    let note = match fault {
-        ClusterFault::NoMemory => return Stop::NoMemory,
-        ClusterFault::Shelf { faults } => Note::OpenShelf { faults },
-        ClusterFault::Failed { slot, faults } => Note::OpenFailed { slot, faults },
-        ClusterFault::Damaged { slot, file, at } => Note::OpenDamaged { slot, file, at },
+    let Some(note) = refusal_note(fault) else {
+        return Stop::NoMemory;
     };
     match write_note(alloc, &note, sink) {
         Ok(()) => Stop::Store,

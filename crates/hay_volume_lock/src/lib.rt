@@ -17,6 +17,7 @@
 #![tactic(auto)]
 
 mod act;
+mod ended;
 mod guarded;
 mod lock;
 mod seat;
@@ -24,6 +25,7 @@ mod told;
 mod tries;
 
 pub use act::Act;
+pub use ended::Ended;
 pub use guarded::{Guarded, Opened};
 pub use lock::VolumeLock;
 pub use seat::VolumeSeat;

@@ -1,4 +1,4 @@
-use Rattle.std.proofs.Common.{◌≡◌, ◌+◌, ◌*◌, ◌≤◌, List, [], ◌∷◌, ◌++◌, length, refl, sym, ap, subst, ◌∙◌, arith, rules}
+use Rattle.std.proofs.Common.{◌≡◌, ◌+◌, ◌*◌, ◌≤◌, List, [], ◌∷◌, ◌++◌, length, refl, sym, ap, subst, ◌∙◌, arith}
 use Rattle.std.proofs.lemmas.List.{length-append, nil_from_length}
 use Rattle.std.proofs.Math.Nat.{mul-le-mul_left}
 use Rattle.std.specs.List.{AllByRecursion, flat_map}
@@ -92,13 +92,9 @@ give_volume-requires g c =
     let all = flat-long volume_disks c.args.replicas c.args.volumes.items c.requires.all in
     let rest = flat-long volume_disks c.args.replicas c.loop-volume.volumes.items c.loop-volume.invariant.all in
     let more : length c.loop-volume.volumes.items * c.args.replicas ≡ c.len.result * c.args.replicas + c.args.replicas = (let e = ap (λ n. n * c.args.replicas) long in let d = ap (λ n. n * c.args.replicas) count in omega (arith, e, d)) in
-    let each : AllByRecursion (λ (v : Volume g.row.H-Disk.Denot g.row.H-Disk-Piece.Denot). length (volume_disks v) ≡ c.args.replicas) (vs ++ c.in-Some.volume ∷ []) = subst (λ (l : List (Volume g.row.H-Disk.Denot g.row.H-Disk-Piece.Denot)). AllByRecursion (λ (v : Volume g.row.H-Disk.Denot g.row.H-Disk-Piece.Denot). length (volume_disks v) ≡ c.args.replicas) l) (c.in-Some.ensures).items c.loop-volume.invariant.all in (
-      search rules,
-      (
-        (let most = c.requires.most in omega (arith, low, product, most)),
-        (
-          sym (disks-long c.in-Some.volume.replicas) ∙ all-last (λ (v : Volume g.row.H-Disk.Denot g.row.H-Disk-Piece.Denot). length (volume_disks v) ≡ c.args.replicas) vs c.in-Some.volume each,
-          (λ n below. ap (λ (held : HeldDisk). held.is_out) (gives.below n (omega (arith, below, rest, more))) ∙ c.requires.out n (omega (arith, below, rest, more, shorter, all))),
-        ),
-      ),
-    )
+    let each : AllByRecursion (λ (v : Volume g.row.H-Disk.Denot g.row.H-Disk-Piece.Denot). length (volume_disks v) ≡ c.args.replicas) (vs ++ c.in-Some.volume ∷ []) = subst (λ (l : List (Volume g.row.H-Disk.Denot g.row.H-Disk-Piece.Denot)). AllByRecursion (λ (v : Volume g.row.H-Disk.Denot g.row.H-Disk-Piece.Denot). length (volume_disks v) ≡ c.args.replicas) l) (c.in-Some.ensures).items c.loop-volume.invariant.all in
+    record {
+      few = let most = c.requires.most in omega (arith, low, product, most);
+      all = sym (disks-long c.in-Some.volume.replicas) ∙ all-last (λ (v : Volume g.row.H-Disk.Denot g.row.H-Disk-Piece.Denot). length (volume_disks v) ≡ c.args.replicas) vs c.in-Some.volume each;
+      out = λ n below. ap (λ (held : HeldDisk). held.is_out) (gives.below n (omega (arith, below, rest, more))) ∙ c.requires.out n (omega (arith, below, rest, more, shorter, all));
+    }

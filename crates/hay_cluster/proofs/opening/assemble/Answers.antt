@@ -1,4 +1,4 @@
-use Rattle.std.proofs.Common.{◌≡◌, ◌*◌, ◌<◌, None, List, [], ◌∷◌, ◌++◌, length, take, drop, sym, ap, subst, ◌∙◌, arith}
+use Rattle.std.proofs.Common.{◌≡◌, ◌*◌, None, List, [], ◌∷◌, ◌++◌, length, take, drop, sym, ap, subst, ◌∙◌, arith}
 use Rattle.std.proofs.lemmas.List.{length-append, take_at}
 use Rattle.std.specs.Prelude.{reverse}
 use Rattle.std.specs.List.{AllByRecursion, flat_map}
@@ -6,7 +6,6 @@ use Rattle.hay_mount.specs.Mounts.{InOrder}
 use Rattle.hay_logical.specs.Volumes.{IsClosed, Volume}
 use Rattle.hay_cluster.specs.Opening.{IsEmptyVolume}
 use Rattle.hay_cluster.specs.Store.{IsShaped, Open, volume_disks}
-use Rattle.hay_cluster.proofs.Lists.{one_fits}
 use Rattle.hay_cluster.proofs.OpeningFill.{AreFilled, are_filled, first_turned}
 use Rattle.hay_cluster.proofs.opening.assemble.Goals as goal
 
@@ -39,15 +38,12 @@ unreachable-requires g c =
 
 pub fill_volumes-requires : goal.fill_volumes-requires
 fill_volumes-requires g c =
-    let some : 0 < length c.as_mut_slice.result.now = omega (arith, c.as_mut_slice.ensures.len, c.args.volumes.ok.0, c.requires.many, c.requires.built.some_volumes) in
     let fewer = ap (λ (l : List g.row.D.Denot). length l) (c.in-Some.ensures).items ∙ length-append c.pop.new.self.items (c.in-Some.first ∷ []) in
     let same = ap (λ (l : List (Volume g.row.D.Denot g.row.D-Piece.Denot)). length l * c.args.settings.replicas) c.as_mut_slice.ensures.value in
     let many = ap (λ n. n * c.args.settings.replicas) c.requires.many in
     let enough : length c.pop.new.self.items ≡ length c.as_mut_slice.result.now * c.args.settings.replicas =
-    omega (arith, fewer, c.reverse.ensures.len, c.reverse.new.self.ok.0, c.args.disks.ok.0, c.requires.disks, same, many) in (
-      one_fits (length c.as_mut_slice.result.now) _ some c.as_mut_slice.type_inv.1,
-      (subst (λ (l : List (Volume g.row.D.Denot g.row.D-Piece.Denot)). InOrder (IsEmptyVolume c.args.settings) 0 l) (sym c.as_mut_slice.ensures.value) c.requires.empty, enough),
-    )
+    omega (arith, fewer, c.reverse.ensures.len, c.reverse.new.self.ok.0, c.args.disks.ok.0, c.requires.disks, same, many) in
+    record { empty = subst (λ (l : List (Volume g.row.D.Denot g.row.D-Piece.Denot)). InOrder (IsEmptyVolume c.args.settings) 0 l) (sym c.as_mut_slice.ensures.value) c.requires.empty; enough = enough }
 
 pub returns-clause-closed : goal.returns-clause-closed
 returns-clause-closed g c =

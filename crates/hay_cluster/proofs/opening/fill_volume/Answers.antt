@@ -1,4 +1,4 @@
-use Rattle.std.proofs.Common.{◌≡◌, ◌<◌, length, sym, ap, ◌∙◌, arith, rules}
+use Rattle.std.proofs.Common.{◌≡◌, ◌<◌, length, sym, ap, ◌∙◌, arith}
 use Rattle.hay_needle.specs.declared.settings.Settings.{Settings}
 use Rattle.hay_logical.specs.Volumes.{Volume}
 use Rattle.hay_cluster.proofs.OpeningFill.{filled, filling_more, filling_none}
@@ -23,7 +23,7 @@ add-requires g c =
     let f = c.loop-replica.invariant in
     let same = ap (λ (v : Volume g.row.D.Denot g.row.D-Piece.Denot). (v.settings).replicas) f.only ∙ ap (λ (s : Settings). s.replicas) c.requires.settings in
     let room : length c.loop-replica.volume.replicas < (c.loop-replica.volume.settings).replicas = omega (arith, f.count, same, c.loop-replica-test.true) in
-    (search rules, room)
+    room
 
 pub returns-clause-taken : goal.returns-clause-taken
 returns-clause-taken g c =

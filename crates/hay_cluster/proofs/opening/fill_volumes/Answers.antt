@@ -1,4 +1,4 @@
-use Rattle.std.proofs.Common.{◌≡◌, ◌+◌, ◌*◌, ◌≤◌, List, [], ◌++◌, length, get_or, sym, ap, subst, ◌∙◌, arith, rules}
+use Rattle.std.proofs.Common.{◌≡◌, ◌+◌, ◌*◌, ◌≤◌, List, [], ◌++◌, length, get_or, sym, ap, subst, ◌∙◌, arith}
 use Rattle.std.proofs.Math.Nat.{mul-le-mul_left}
 use Rattle.std.proofs.lemmas.List.{append-nil, nil_from_length}
 use Rattle.std.specs.Prelude.{reverse}
@@ -28,7 +28,7 @@ fill_volume-requires g c =
     let next : n + 1 ≤ length c.args.volumes.now = omega arith in
     let product = mul-le-mul_left c.args.settings.now.replicas next in
     let enough : c.args.settings.now.replicas ≤ length c.loop-volume.disks.items = omega (arith, product, f.fewer, c.requires.enough) in
-    (search rules, (was.none, (was.settings_are, enough)))
+    record { empty = was.none; settings = was.settings_are; enough = enough }
 
 pub returns : goal.returns
 returns g c =

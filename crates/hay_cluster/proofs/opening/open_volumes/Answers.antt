@@ -1,4 +1,4 @@
-use Rattle.std.proofs.Common.{List, ◌+◌, ◌<◌, get_or, sym, subst, arith, rules}
+use Rattle.std.proofs.Common.{List, ◌+◌, ◌<◌, get_or, sym, subst, arith}
 use Rattle.std.specs.Prelude.{slice_set}
 use Rattle.std.proofs.lemmas.Result.{err_from_is_err_and}
 use Rattle.hay_logical.specs.Stands.{IsIdleVolume}
@@ -66,19 +66,14 @@ open_volume-requires g c =
     let n = c.loop-number.number in
     let y = get_or c.loop-number.volumes n c.index-volumes-number.result in
     let was = gathered_was R n c.args.volumes.now c.loop-number.volumes c.loop-number.notes.items y c.loop-number.invariant (at_read c.loop-number.volumes n c.index-volumes-number.result (omega arith)) in
-    let within : n < c.args.settings.now.volumes = omega (arith, c.requires.many) in (
-      search rules,
-      (
-        c.requires.built,
-        (
-          within,
-          (
-            InOrder-get (IsVolumeOf c.args.settings.now) c.args.volumes.now n y was c.requires.numbers,
-            (AllByRecursion-at IsClosed c.args.volumes.now n y was c.requires.closed, λ tells. AllByRecursion-at (IsIdleVolume g.D.Disk.files) c.args.volumes.now n y was (c.requires.idle tells)),
-          ),
-        ),
-      ),
-    )
+    let within : n < c.args.settings.now.volumes = omega (arith, c.requires.many) in
+    record {
+      built = c.requires.built;
+      within = within;
+      is = InOrder-get (IsVolumeOf c.args.settings.now) c.args.volumes.now n y was c.requires.numbers;
+      closed = AllByRecursion-at IsClosed c.args.volumes.now n y was c.requires.closed;
+      idle = λ tells. AllByRecursion-at (IsIdleVolume g.D.Disk.files) c.args.volumes.now n y was (c.requires.idle tells);
+    }
 
 pub returns-clause-drew : goal.returns-clause-drew
 returns-clause-drew g c = λ tells.

@@ -1,5 +1,5 @@
 use Rattle.std.proofs.Common.{◌≡◌, ◌<◌, ◌++◌, Some, List, [], ℕ, length, map, refl, sym, ap, subst, ◌∙◌, arith, inl, inr}
-use Rattle.std.specs.Prelude.{Bool, true, Err, Option, slice_index}
+use Rattle.std.specs.Prelude.{Bool, Err, Option, slice_index}
 use Rattle.std.proofs.lemmas.List.{length-map}
 use Rattle.std.proofs.lemmas.Result.{on_ok_weaker}
 use Rattle.hay_needle.specs.declared.settings.Settings.{Settings}
@@ -30,7 +30,7 @@ use Rattle.hay_run.proofs.Counting.{NoneFalls-at, arm_there, count_at, lane_of, 
 use Rattle.hay_run.proofs.Drawing.{nothing_asked, nothing_done}
 use Rattle.hay_run.proofs.Giving.{same_more}
 use Rattle.hay_run.proofs.Ran.{ran_all, ran_stopped}
-use Rattle.hay_run.proofs.Refusing.{cause_of, none_opened, not_read, on_ok_both, ran_unopened, refused_later}
+use Rattle.hay_run.proofs.Refusing.{cause_of, none_opened, not_read, on_ok_both, ran_unopened, refused_later, stands_at_end}
 use Rattle.hay_run.proofs.Unread.{was_read}
 use Rattle.hay_run.proofs.program.answer_script.Goals as goal
 
@@ -168,6 +168,19 @@ returns-clause-sure_arms g c = λ lane within sure.
 pub returns-clause-sound : goal.returns-clause-sound
 returns-clause-sound g c = λ tells opened. c.in-Ok.ensures.sound tells
 
+-- each disk of a store that was open to the end is formatted
+pub returns-clause-formatted : goal.returns-clause-formatted
+returns-clause-formatted g c = λ tells opened k taken_is slot within.
+    let D = g.H.Disk.Disk in
+    let A = g.H.Arm.Arm in
+    let store' = c.serve-outcome.new.cluster in
+    let is_settings : store'.settings ≡ c.args.settings = c.serve-outcome.ensures.settings ∙ c.in-Ok.ensures.settings in
+    let start = c.in-Ok.ensures.opened tells k taken_is in
+    let stands = stands_at_end D.Tells (Stands D.files g.H.Disk.Piece.Piece.Tells D.fault_count D.fuse_count A.fault_count) (Holds D.files D.fault_count D.fuse_count A.fault_count)
+    (g.S.Source.left c.args.source.now) c.in-Ok.cluster (g.K.Sink.written c.args.sink.now) (g.S.Source.left c.serve-outcome.new.source) store' (g.K.Sink.written c.serve-outcome.new.sink)
+    tells start.0 start.2 c.serve-outcome.result opened c.serve-outcome.ensures.served c.serve-outcome.ensures.stopped in
+    c.close.ensures.formatted tells stands.0 stands.1 slot (subst (λ (s : Settings). slot < disk_count s) (sym is_settings) within)
+
 -- what was written, and its causes
 pub returns-clause-caused : goal.returns-clause-caused
 returns-clause-caused g c = λ script held told told_sink.
@@ -225,7 +238,7 @@ returns-in-Err-clause-caused g c = λ script held told told_sink.
     let sure : ℕ → Bool = (λ lane. (g.H.Shelf.arms c.args.shelf.now lane).is_sure) in
     let taken = outside_of shelf (g.H.Shelf.disks c.args.shelf.now) (g.H.Shelf.arms c.args.shelf.now) in
     let given = outside_of shelf' (g.H.Shelf.disks c.open.new.shelf) (g.H.Shelf.arms c.open.new.shelf) in
-    refused_caused g.H.Disk.Disk.Tells c.args.settings script (g.S.Source.left c.args.source.now) taken given sure disks disks' held (g.K.Sink.written c.write_refusal.new.sink) c.in-Err.ensures.kept (λ lane within. (c.in-Err.ensures.back_arms lane within).fault_count) (λ slot within. (c.in-Err.ensures.back_counts slot within).fuses_are) c.write_refusal.result c.in-Err.fault
+    refused_caused g.H.Disk.Disk.Tells c.args.settings script (g.S.Source.left c.args.source.now) taken given sure disks disks' held (g.K.Sink.written c.write_refusal.new.sink) c.in-Err.ensures.kept (λ lane within. (c.in-Err.ensures.back_arms lane within).fault_count) (λ slot within. (c.in-Err.ensures.back_counts slot within).fuses_are) c.write_refusal.result c.in-Err.fault c.write_refusal.ensures.fits
     (cause_of g.H.Disk.Disk.Tells c.args.settings taken given c.in-Err.fault c.in-Err.ensures.shelf c.in-Err.ensures.failed
     (λ t slot count e. c.in-Err.ensures.failed_lowest t slot count (ap (λ f. Err f) e)) (λ slot file at e. c.in-Err.ensures.damaged_within slot file at (ap (λ f. Err f) e)) (λ t slot file at e. c.in-Err.ensures.damaged t slot file at (ap (λ f. Err f) e)))
     (rw told_sink at c.write_refusal.ensures.told) (rw told_sink at c.write_refusal.ensures.part)
@@ -274,6 +287,10 @@ returns-in-Err-clause-store g c = λ is.
 pub returns-in-Err-clause-sound : goal.returns-in-Err-clause-sound
 returns-in-Err-clause-sound g c = λ tells opened.
     absurd (none_opened c.write_refusal.result c.write_refusal.ensures.stops (not_read (g.S.Source.left c.args.source.now)) opened)
+
+pub returns-in-Err-clause-formatted : goal.returns-in-Err-clause-formatted
+returns-in-Err-clause-formatted g c = λ tells opened.
+    absurd (none_opened c.write_refusal.result c.write_refusal.ensures.stops (not_read (g.S.Source.left c.args.source.now)) (inl opened))
 
 pub returns-clause-appends : goal.returns-clause-appends
 returns-clause-appends g c = c.serve-outcome.ensures.appends

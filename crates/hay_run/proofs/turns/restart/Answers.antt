@@ -110,7 +110,7 @@ returns-in-Ok-clause-caused g c =
     let none : IsLaterTally (tally_of D.files D.drawn D.fault_count D.fuse_count A.fault_count A.is_sure c.args.cluster.now) (tally_of D.files D.drawn D.fault_count D.fuse_count A.fault_count A.is_sure c.restart.new.self) = (c.in-Ok.ensures.counts, NoneFalls-kept (map A.fault_count c.args.cluster.now.arms) (map A.fault_count c.restart.new.self.arms) (ap (map A.fault_count) c.in-Ok.ensures.arms), λ lane is. subst (λ arms. slice_get (map A.is_sure arms) lane ≡ Some true) (sym c.in-Ok.ensures.arms) is) in
     on_ok_weaker c.write_restarted.result (λ wrote.
     caused_restart g.D.Disk.Tells Wrote c.args.cluster.now.settings (tally_of D.files D.drawn D.fault_count D.fuse_count A.fault_count A.is_sure c.args.cluster.now) (tally_of D.files D.drawn D.fault_count D.fuse_count A.fault_count A.is_sure c.restart.new.self) c.args.number c.args.pick c.rows.result c.as_slice.result.now
-    (g.K.Sink.written c.args.sink.now) (g.K.Sink.written c.write_restarted.new.sink) none c.in-Ok.ensures.fuses large (subst (λ (l : List Note). TellsPending c.args.cluster.now.settings (pending_of c.args.cluster.now) l) (sym c.as_slice.ensures) c.in-Ok.ensures.told)
+    (g.K.Sink.written c.args.sink.now) (g.K.Sink.written c.write_restarted.new.sink) none c.in-Ok.ensures.fuses (ap (map A.fault_count) c.in-Ok.ensures.arms) large (subst (λ (l : List Note). TellsPending c.args.cluster.now.settings (pending_of c.args.cluster.now) l) (sym c.as_slice.ensures) c.in-Ok.ensures.told)
     (subst (λ (l : List Note). AllByRecursion FitsNote l) (sym c.as_slice.ensures) c.in-Ok.ensures.fits) c.in-Ok.ensures.settled c.in-Ok.ensures.sound wrote)
     c.write_restarted.ensures.wrote
 
@@ -124,7 +124,7 @@ returns-in-Ok-clause-stop_caused g c = λ why is.
     (g.K.Sink.written c.args.sink.now) (g.K.Sink.written c.write_restarted.new.sink) c.write_restarted.result why is c.write_restarted.ensures.stops
     (on_err_weaker c.write_restarted.result (λ wrote.
     caused_restart g.D.Disk.Tells WrotePart c.args.cluster.now.settings (tally_of D.files D.drawn D.fault_count D.fuse_count A.fault_count A.is_sure c.args.cluster.now) (tally_of D.files D.drawn D.fault_count D.fuse_count A.fault_count A.is_sure c.restart.new.self) c.args.number c.args.pick c.rows.result c.as_slice.result.now
-    (g.K.Sink.written c.args.sink.now) (g.K.Sink.written c.write_restarted.new.sink) none c.in-Ok.ensures.fuses large (subst (λ (l : List Note). TellsPending c.args.cluster.now.settings (pending_of c.args.cluster.now) l) (sym c.as_slice.ensures) c.in-Ok.ensures.told)
+    (g.K.Sink.written c.args.sink.now) (g.K.Sink.written c.write_restarted.new.sink) none c.in-Ok.ensures.fuses (ap (map A.fault_count) c.in-Ok.ensures.arms) large (subst (λ (l : List Note). TellsPending c.args.cluster.now.settings (pending_of c.args.cluster.now) l) (sym c.as_slice.ensures) c.in-Ok.ensures.told)
     (subst (λ (l : List Note). AllByRecursion FitsNote l) (sym c.as_slice.ensures) c.in-Ok.ensures.fits) c.in-Ok.ensures.settled c.in-Ok.ensures.sound wrote)
     c.write_restarted.ensures.part)
 
@@ -140,5 +140,5 @@ returns-in-Err-clause-stop_caused g c = λ why is.
     subst P same
     (refused_stops g.D.Disk.Tells c.args.cluster.now.settings (tally_of D.files D.drawn D.fault_count D.fuse_count A.fault_count A.is_sure c.args.cluster.now) (tally_of D.files D.drawn D.fault_count D.fuse_count A.fault_count A.is_sure c.restart.new.self) c.args.number c.args.pick
     (g.K.Sink.written c.args.sink.now) (g.K.Sink.written c.refuse.new.sink) c.refuse.result back
-    c.in-Err.fault c.in-Err.ensures.cause (λ tells slot count e. c.in-Err.ensures.failed_lowest tells slot count (ap (λ f. Err f) e)) (λ tells slot file at e. c.in-Err.ensures.damaged tells slot file at (ap (λ f. Err f) e))
+    c.in-Err.fault c.refuse.ensures.fits c.in-Err.ensures.cause (λ tells slot count e. c.in-Err.ensures.failed_lowest tells slot count (ap (λ f. Err f) e)) (λ tells slot file at e. c.in-Err.ensures.damaged tells slot file at (ap (λ f. Err f) e))
     c.refuse.ensures.wanting c.refuse.ensures.told c.refuse.ensures.part c.refuse.ensures.stops)

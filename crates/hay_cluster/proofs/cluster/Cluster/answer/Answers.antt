@@ -4,7 +4,7 @@ use Rattle.hay_cluster.specs.Suiting.{Suits}
 use Rattle.hay_cluster.proofs.Answering.{same_falls}
 use Rattle.hay_cluster.proofs.Sure.{same_sure, unblamed}
 use Rattle.hay_cluster.specs.Pending.{LeavesPending, pending_of}
-use Rattle.hay_cluster.specs.Leaving.{IsApartOn, IsBeside, IsReplicaBeside, LeavesContents}
+use Rattle.hay_cluster.specs.Leaving.{IsApartOn, LeavesContents}
 use Rattle.hay_cluster.specs.Store.{contents_in}
 use Rattle.hay_cluster.proofs.Leaving.{leaves_contents, same_contents}
 use Rattle.hay_cluster.proofs.cluster.Cluster.answer.Goals as goal
@@ -222,26 +222,6 @@ returns-in-Fuse-clause-pending g c = subst (λ (asked : Command). LeavesPending 
 pub returns-in-FuseDir-clause-pending : goal.returns-in-FuseDir-clause-pending
 returns-in-FuseDir-clause-pending g c = subst (λ (asked : Command). LeavesPending (c.args.self.now).settings c.args.tag.line asked c.fuse_dir.result (pending_of c.args.self.now) (pending_of c.fuse_dir.new.self)) (sym c.in-FuseDir.is) c.fuse_dir.ensures.pending
 
-pub returns-in-Put-clause-contents : goal.returns-in-Put-clause-contents
-returns-in-Put-clause-contents g c = λ tells.
-    subst (λ (asked : Command). LeavesContents (c.args.self.now).settings asked c.put.result (contents_in g.D.Disk.files c.args.self.now) (contents_in g.D.Disk.files c.put.new.self)) (sym c.in-Put.is)
-    (let b = c.put.ensures.beside in (b.0, b.1, leaves_contents g.D.Disk.files (c.args.self.now).settings (IsReplicaBeside (c.args.self.now).settings b.0) c.args.self.now c.put.new.self b.2))
-
-pub returns-in-Read-clause-contents : goal.returns-in-Read-clause-contents
-returns-in-Read-clause-contents g c = λ tells.
-    subst (λ (asked : Command). LeavesContents (c.args.self.now).settings asked c.read.result (contents_in g.D.Disk.files c.args.self.now) (contents_in g.D.Disk.files c.read.new.self)) (sym c.in-Read.is)
-    (let b = c.read.ensures.beside in (b.0, b.1, leaves_contents g.D.Disk.files (c.args.self.now).settings (IsBeside (c.args.self.now).settings b.0) c.args.self.now c.read.new.self b.2))
-
-pub returns-in-Get-clause-contents : goal.returns-in-Get-clause-contents
-returns-in-Get-clause-contents g c = λ tells.
-    subst (λ (asked : Command). LeavesContents (c.args.self.now).settings asked c.get.result (contents_in g.D.Disk.files c.args.self.now) (contents_in g.D.Disk.files c.get.new.self)) (sym c.in-Get.is)
-    (leaves_contents g.D.Disk.files (c.args.self.now).settings (IsBeside (c.args.self.now).settings (c.in-Get.url).volume) c.args.self.now c.get.new.self c.get.ensures.beside)
-
-pub returns-in-Del-clause-contents : goal.returns-in-Del-clause-contents
-returns-in-Del-clause-contents g c = λ tells.
-    subst (λ (asked : Command). LeavesContents (c.args.self.now).settings asked c.delete.result (contents_in g.D.Disk.files c.args.self.now) (contents_in g.D.Disk.files c.delete.new.self)) (sym c.in-Del.is)
-    (let b = c.delete.ensures.beside in (b.0, b.1, leaves_contents g.D.Disk.files (c.args.self.now).settings (IsBeside (c.args.self.now).settings b.0) c.args.self.now c.delete.new.self b.2))
-
 pub returns-in-Url-clause-contents : goal.returns-in-Url-clause-contents
 returns-in-Url-clause-contents g c = λ tells.
     subst (λ (asked : Command). LeavesContents (c.args.self.now).settings asked c.url.result (contents_in g.D.Disk.files c.args.self.now) (contents_in g.D.Disk.files c.url.new.self)) (sym c.in-Url.is)
@@ -257,37 +237,57 @@ returns-in-Undrain-clause-contents g c = λ tells.
     subst (λ (asked : Command). LeavesContents (c.args.self.now).settings asked c.undrain.result (contents_in g.D.Disk.files c.args.self.now) (contents_in g.D.Disk.files c.undrain.new.self)) (sym c.in-Undrain.is)
     (same_contents g.D.Disk.files (c.args.self.now).settings c.args.self.now c.undrain.new.self c.undrain.ensures.disks)
 
-pub returns-in-Fuse-clause-contents : goal.returns-in-Fuse-clause-contents
-returns-in-Fuse-clause-contents g c = λ tells.
-    subst (λ (asked : Command). LeavesContents (c.args.self.now).settings asked c.fuse.result (contents_in g.D.Disk.files c.args.self.now) (contents_in g.D.Disk.files c.fuse.new.self)) (sym c.in-Fuse.is)
-    (leaves_contents g.D.Disk.files (c.args.self.now).settings (IsApartOn (c.args.self.now).settings c.in-Fuse.volume c.in-Fuse.machine) c.args.self.now c.fuse.new.self c.fuse.ensures.others)
-
 pub returns-in-FuseDir-clause-contents : goal.returns-in-FuseDir-clause-contents
 returns-in-FuseDir-clause-contents g c = λ tells.
     subst (λ (asked : Command). LeavesContents (c.args.self.now).settings asked c.fuse_dir.result (contents_in g.D.Disk.files c.args.self.now) (contents_in g.D.Disk.files c.fuse_dir.new.self)) (sym c.in-FuseDir.is)
     (c.fuse_dir.ensures.contents tells)
 
+pub returns-in-Put-clause-contents : goal.returns-in-Put-clause-contents
+returns-in-Put-clause-contents g c = λ tells.
+    subst (λ (asked : Command). LeavesContents (c.args.self.now).settings asked c.put.result (contents_in g.D.Disk.files c.args.self.now) (contents_in g.D.Disk.files c.put.new.self)) (sym c.in-Put.is)
+    c.put.ensures.contents
+
+pub returns-in-Read-clause-contents : goal.returns-in-Read-clause-contents
+returns-in-Read-clause-contents g c = λ tells.
+    subst (λ (asked : Command). LeavesContents (c.args.self.now).settings asked c.read.result (contents_in g.D.Disk.files c.args.self.now) (contents_in g.D.Disk.files c.read.new.self)) (sym c.in-Read.is)
+    (c.read.ensures.contents tells)
+
+pub returns-in-Get-clause-contents : goal.returns-in-Get-clause-contents
+returns-in-Get-clause-contents g c = λ tells.
+    subst (λ (asked : Command). LeavesContents (c.args.self.now).settings asked c.get.result (contents_in g.D.Disk.files c.args.self.now) (contents_in g.D.Disk.files c.get.new.self)) (sym c.in-Get.is)
+    (c.get.ensures.contents tells)
+
+pub returns-in-Del-clause-contents : goal.returns-in-Del-clause-contents
+returns-in-Del-clause-contents g c = λ tells.
+    subst (λ (asked : Command). LeavesContents (c.args.self.now).settings asked c.delete.result (contents_in g.D.Disk.files c.args.self.now) (contents_in g.D.Disk.files c.delete.new.self)) (sym c.in-Del.is)
+    (c.delete.ensures.contents tells)
+
+pub returns-in-Fuse-clause-contents : goal.returns-in-Fuse-clause-contents
+returns-in-Fuse-clause-contents g c = λ tells.
+    subst (λ (asked : Command). LeavesContents (c.args.self.now).settings asked c.fuse.result (contents_in g.D.Disk.files c.args.self.now) (contents_in g.D.Disk.files c.fuse.new.self)) (sym c.in-Fuse.is)
+    (c.fuse.ensures.contents tells)
+
 pub returns-in-Flush-clause-contents : goal.returns-in-Flush-clause-contents
 returns-in-Flush-clause-contents g c = λ tells.
     subst (λ (asked : Command). LeavesContents (c.args.self.now).settings asked c.maintain.result (contents_in g.D.Disk.files c.args.self.now) (contents_in g.D.Disk.files c.maintain.new.self)) (sym c.in-Flush.is)
-    (leaves_contents g.D.Disk.files (c.args.self.now).settings (IsBeside (c.args.self.now).settings c.in-Flush.volume) c.args.self.now c.maintain.new.self c.maintain.ensures.beside)
+    (leaves_contents g.D.Disk.files (c.args.self.now).settings (IsApartOn (c.args.self.now).settings c.in-Flush.volume c.in-Flush.machine) c.args.self.now c.maintain.new.self c.maintain.ensures.others)
 
 pub returns-in-Begin-clause-contents : goal.returns-in-Begin-clause-contents
 returns-in-Begin-clause-contents g c = λ tells.
     subst (λ (asked : Command). LeavesContents (c.args.self.now).settings asked c.maintain-in-Begin.result (contents_in g.D.Disk.files c.args.self.now) (contents_in g.D.Disk.files c.maintain-in-Begin.new.self)) (sym c.in-Begin.is)
-    (leaves_contents g.D.Disk.files (c.args.self.now).settings (IsBeside (c.args.self.now).settings c.in-Begin.volume) c.args.self.now c.maintain-in-Begin.new.self c.maintain-in-Begin.ensures.beside)
+    (leaves_contents g.D.Disk.files (c.args.self.now).settings (IsApartOn (c.args.self.now).settings c.in-Begin.volume c.in-Begin.machine) c.args.self.now c.maintain-in-Begin.new.self c.maintain-in-Begin.ensures.others)
 
 pub returns-in-Step-clause-contents : goal.returns-in-Step-clause-contents
 returns-in-Step-clause-contents g c = λ tells.
     subst (λ (asked : Command). LeavesContents (c.args.self.now).settings asked c.maintain-in-Step.result (contents_in g.D.Disk.files c.args.self.now) (contents_in g.D.Disk.files c.maintain-in-Step.new.self)) (sym c.in-Step.is)
-    (leaves_contents g.D.Disk.files (c.args.self.now).settings (IsBeside (c.args.self.now).settings c.in-Step.volume) c.args.self.now c.maintain-in-Step.new.self c.maintain-in-Step.ensures.beside)
+    (leaves_contents g.D.Disk.files (c.args.self.now).settings (IsApartOn (c.args.self.now).settings c.in-Step.volume c.in-Step.machine) c.args.self.now c.maintain-in-Step.new.self c.maintain-in-Step.ensures.others)
 
 pub returns-in-Finish-clause-contents : goal.returns-in-Finish-clause-contents
 returns-in-Finish-clause-contents g c = λ tells.
     subst (λ (asked : Command). LeavesContents (c.args.self.now).settings asked c.maintain-in-Finish.result (contents_in g.D.Disk.files c.args.self.now) (contents_in g.D.Disk.files c.maintain-in-Finish.new.self)) (sym c.in-Finish.is)
-    (leaves_contents g.D.Disk.files (c.args.self.now).settings (IsBeside (c.args.self.now).settings c.in-Finish.volume) c.args.self.now c.maintain-in-Finish.new.self c.maintain-in-Finish.ensures.beside)
+    (leaves_contents g.D.Disk.files (c.args.self.now).settings (IsApartOn (c.args.self.now).settings c.in-Finish.volume c.in-Finish.machine) c.args.self.now c.maintain-in-Finish.new.self c.maintain-in-Finish.ensures.others)
 
 pub returns-in-Compact-clause-contents : goal.returns-in-Compact-clause-contents
 returns-in-Compact-clause-contents g c = λ tells.
     subst (λ (asked : Command). LeavesContents (c.args.self.now).settings asked c.maintain-in-Compact.result (contents_in g.D.Disk.files c.args.self.now) (contents_in g.D.Disk.files c.maintain-in-Compact.new.self)) (sym c.in-Compact.is)
-    (leaves_contents g.D.Disk.files (c.args.self.now).settings (IsBeside (c.args.self.now).settings c.in-Compact.volume) c.args.self.now c.maintain-in-Compact.new.self c.maintain-in-Compact.ensures.beside)
+    (leaves_contents g.D.Disk.files (c.args.self.now).settings (IsApartOn (c.args.self.now).settings c.in-Compact.volume c.in-Compact.machine) c.args.self.now c.maintain-in-Compact.new.self c.maintain-in-Compact.ensures.others)

@@ -1,11 +1,10 @@
-use Rattle.std.proofs.Common.{◌≡◌, ◌*◌, ◌<◌, ℕ, List, length, ap, subst, ◌∙◌, arith}
-use Rattle.std.proofs.lemmas.Bool.Decides.{nat_tests}
+use Rattle.std.proofs.Common.{◌≡◌, ◌*◌, ◌<◌, ℕ, sym, ap, subst, ◌∙◌, arith}
 use Rattle.hay_disk.specs.Shelf.{HeldArm, HeldDisk}
 use Rattle.hay_mount.specs.Mounts.{IsGivenDisk}
 use Rattle.hay_legal.specs.Known.{disk_count}
 use Rattle.hay_cluster.specs.Store.{Open}
-use Rattle.hay_logical.specs.Volumes.{Volume}
-use Rattle.hay_cluster.proofs.Lists.{one_fits}
+use Rattle.hay_legal.specs.Stands.{Contents}
+use Rattle.hay_cluster.proofs.Formatted.{stands_formatted}
 use Rattle.hay_cluster.proofs.ClosingStore.{given_arms, given_arms_in, given_contents, given_drawn, given_faults, given_fuses, given_in, given_sure, gives_back, stands_on, volumes_long}
 use Rattle.hay_cluster.proofs.cluster.Cluster.close.Goals as goal
 
@@ -13,26 +12,12 @@ pub give_volumes-requires : goal.give_volumes-requires
 give_volumes-requires g c =
     let same : disk_count c.self.inside.settings ≡ disk_count c.args.self.settings = ap (λ (st : Open g.row.D.Denot g.row.D-Piece.Denot g.row.A.Denot). disk_count st.settings) c.self.view_is in
     let product = ap (λ m. m * c.self.inside.settings.replicas) c.self.invariant.many in
-    let some : 0 < length c.as_slice.result.now = omega (arith, ap (λ (l : List (Volume g.row.D.Denot g.row.D-Piece.Denot)). length l) c.as_slice.ensures.value, c.self.invariant.many, c.self.invariant.built.some_volumes) in (
-      one_fits (length c.as_slice.result.now) _ some c.as_slice.type_inv.1,
-      (
-        (let many = c.self.invariant.many in let few = c.self.invariant.built.few_volumes in omega (arith, many, few)),
-        (
-          c.self.invariant.built.few_replicas,
-          (
-            volumes_long c.self.inside.settings 0 c.self.inside.volumes.items c.self.invariant.volumes,
-            (λ n low. c.requires.disks_out n (let below : n < disk_count c.args.self.settings = omega (arith, low, product, same) in below)),
-          ),
-        ),
-      ),
-    )
-
-pub prove-unreachable-requires : goal.prove-unreachable-requires
-prove-unreachable-requires g c =
-    let some : 0 < length c.as_slice.result.now = omega (arith, ap (λ (l : List (Volume g.row.D.Denot g.row.D-Piece.Denot)). length l) c.as_slice.ensures.value, c.self.invariant.many, c.self.invariant.built.some_volumes) in
-    let e = c.is_empty-has_volumes.ensures in
-    let t = c.if-prove.true in
-    grind (arith, nat_tests, e, t, some)
+    record {
+      few = let many = c.self.invariant.many in let few = c.self.invariant.built.few_volumes in omega (arith, many, few);
+      most = c.self.invariant.built.few_replicas;
+      all = volumes_long c.self.inside.settings 0 c.self.inside.volumes.items c.self.invariant.volumes;
+      out = λ n low. c.requires.disks_out n (let below : n < disk_count c.args.self.settings = omega (arith, low, product, same) in below);
+    }
 
 pub give_disk-requires : goal.give_disk-requires
 give_disk-requires g c = ap (λ (held : HeldDisk). held.is_out) c.give_volumes.ensures.below ∙ c.requires.disks_out 0 (omega arith)
@@ -178,3 +163,18 @@ returns-clause-drawn g c =
     (record { drawn_is = c.give_disk.ensures.drawn; files_are = c.give_disk.ensures.files; fault_count = c.give_disk.ensures.faults; fuse_count = c.give_disk.ensures.fuses; back = c.give_disk.ensures.back }) in
     let gives = gives_back g.D.Disk.Tells g.D.Disk.files g.D.Disk.drawn g.D.Disk.fault_count g.D.Disk.fuse_count g.A.Arm.fault_count g.A.Arm.is_sure disks arms low mid inside c.args.self c.self.view_is c.self.invariant c.give_volumes.ensures.given c.give_disk.ensures.others first c.give_seats.ensures.slots c.give_seats.ensures.given in
     λ tells. given_drawn g.D.Disk.Tells g.D.Disk.files g.D.Disk.drawn g.D.Disk.fault_count g.D.Disk.fuse_count g.A.Arm.fault_count g.A.Arm.is_sure disks arms tells c.args.self gives
+
+pub returns-clause-formatted : goal.returns-clause-formatted
+returns-clause-formatted g c =
+    let disks = g.H.Shelf.disks c.give_seats.new.shelf in
+    let arms = g.H.Shelf.arms c.give_seats.new.shelf in
+    let mid = g.H.Shelf.disks c.give_disk.new.self in
+    let low = g.H.Shelf.disks c.give_volumes.new.shelf in
+    let inside : Open g.row.D.Denot g.row.D-Piece.Denot g.row.A.Denot = record { settings = c.self.inside.settings; directory = c.self.inside.directory; volumes = c.self.inside.volumes.items; arms = c.self.inside.seats.items } in
+    let first : IsGivenDisk g.D.Disk.Tells g.D.Disk.files g.D.Disk.drawn g.D.Disk.fault_count g.D.Disk.fuse_count (mid 0) c.self.inside.directory.disk = subst (λ (d : g.row.D.Denot). IsGivenDisk g.D.Disk.Tells g.D.Disk.files g.D.Disk.drawn g.D.Disk.fault_count g.D.Disk.fuse_count (mid 0) d) c.into_disk.ensures
+    (record { drawn_is = c.give_disk.ensures.drawn; files_are = c.give_disk.ensures.files; fault_count = c.give_disk.ensures.faults; fuse_count = c.give_disk.ensures.fuses; back = c.give_disk.ensures.back }) in
+    let gives = gives_back g.D.Disk.Tells g.D.Disk.files g.D.Disk.drawn g.D.Disk.fault_count g.D.Disk.fuse_count g.A.Arm.fault_count g.A.Arm.is_sure disks arms low mid inside c.args.self c.self.view_is c.self.invariant c.give_volumes.ensures.given c.give_disk.ensures.others first c.give_seats.ensures.slots c.give_seats.ensures.given in
+    λ tells k stands slot below void.
+    let read = given_contents g.D.Disk.Tells g.D.Disk.files g.D.Disk.drawn g.D.Disk.fault_count g.D.Disk.fuse_count g.A.Arm.fault_count g.A.Arm.is_sure disks arms tells c.args.self gives slot below in
+    stands_formatted g.D.Disk.files (λ disk n. g.met.D.Disk.may_leave_now disk n tells) g.D.Piece.Piece.Tells g.D.Disk.fault_count g.D.Disk.fuse_count g.A.Arm.fault_count c.args.self k stands slot below
+    (ap (λ (contents : Contents). contents 0) (sym read) ∙ void)

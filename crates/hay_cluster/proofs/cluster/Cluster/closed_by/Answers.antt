@@ -6,7 +6,6 @@ use Rattle.hay_logical.specs.Volumes.{Volume}
 use Rattle.hay_logical.proofs.Lists.{at_read}
 use Rattle.hay_cluster.specs.State.{Stands}
 use Rattle.hay_cluster.specs.Store.{Open, IsBuilt}
-use Rattle.hay_cluster.proofs.Rooms.{item_room}
 use Rattle.hay_cluster.proofs.Refusals.{drained-known}
 use Rattle.hay_cluster.proofs.Moves.{volume_stood}
 use Rattle.hay_needle.specs.declared.settings.Settings.{Settings}
@@ -20,13 +19,6 @@ offset_bounds-as_slice-volume g c =
     let within : c.args.volume < length c.self.inside.volumes.items = let same = ap (λ (st : Open g.row.D.Denot g.row.D-Piece.Denot g.row.A.Denot). (st.settings).volumes) c.self.view_is in omega (arith, c.requires.volume, c.self.invariant.many, same) in
     let long = ap length c.as_slice.ensures.value in
     omega (arith, within, long)
-
-pub frozen-requires : goal.frozen-requires
-frozen-requires g c =
-    let within : c.args.volume < length c.self.inside.volumes.items = let same = ap (λ (st : Open g.row.D.Denot g.row.D-Piece.Denot g.row.A.Denot). (st.settings).volumes) c.self.view_is in omega (arith, c.requires.volume, c.self.invariant.many, same) in
-    let long = ap length c.as_slice.ensures.value in
-    let room = item_room (length c.as_slice.result.now) _ (let some : 0 < length c.as_slice.result.now = omega (arith, within, long) in some) c.as_slice.type_inv.1 in
-    room
 
 pub returns-in-Some : goal.returns-in-Some
 returns-in-Some g c = record {

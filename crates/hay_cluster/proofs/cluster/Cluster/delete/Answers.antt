@@ -6,9 +6,9 @@ use Rattle.hay_cluster.proofs.Changing.{deleted, not_deleted}
 use Rattle.hay_cluster.proofs.Suiting.{closed_suits_del, del_refusal_suits}
 use Rattle.hay_cluster.proofs.Pending.{delete_pending}
 use Rattle.hay_cluster.specs.Pending.{pending_of}
-use Rattle.hay_reply.specs.declared.Reply.TheVariants.{Deleted, Unknown}
-use Rattle.hay_cluster.specs.Store.{disks_of}
-use Rattle.hay_cluster.proofs.Leaving.{closed_tells, delete_tells, leaves-same, tells-none, tells-one}
+use Rattle.hay_cluster.specs.Store.{contents_in}
+use Rattle.hay_cluster.specs.Leaving.{AnySlot, IsBeside}
+use Rattle.hay_cluster.proofs.Leaving.{delete_leaves, keeps-all, leaves_contents}
 use Rattle.hay_cluster.proofs.cluster.Cluster.delete.Goals as goal
 
 pub returns-in-Ok-clause-legal : goal.returns-in-Ok-clause-legal
@@ -58,14 +58,22 @@ returns-clause-pending g c =
     delete_pending c.args.tag.line c.in-Some.volume c.rows-in-Err.result (pending_of c.args.self.now) (pending_of c.delete_in.new.self) c.in-Err.fault c.delete_refusal.result c.delete_refusal.ensures.is
     (IfErr-at_err _ c.in-Err.is c.delete_in.ensures.refused_pending)
 
-pub returns-in_default-clause-beside : goal.returns-in_default-clause-beside
-returns-in_default-clause-beside g c = (0, tells-none (Unknown c.rows.result) 0 refl, leaves-same _ (disks_of c.args.self.now) (disks_of c.args.self.now) refl)
+pub returns-in_default-clause-contents : goal.returns-in_default-clause-contents
+returns-in_default-clause-contents g c = λ tells. inr (keeps-all (c.args.self.now).settings AnySlot (contents_in g.D.Disk.files c.args.self.now))
 
-pub returns-in-Some-closed_by-clause-beside : goal.returns-in-Some-closed_by-clause-beside
-returns-in-Some-closed_by-clause-beside g c = (c.in-Some.volume, closed_tells c.in-Some.volume c.in-Some-closed_by.machine c.read_only.result c.read_only.ensures.is, leaves-same _ (disks_of c.args.self.now) (disks_of c.args.self.now) refl)
+pub returns-in-Some-closed_by-clause-contents : goal.returns-in-Some-closed_by-clause-contents
+returns-in-Some-closed_by-clause-contents g c = λ tells. inr (keeps-all (c.args.self.now).settings AnySlot (contents_in g.D.Disk.files c.args.self.now))
 
-pub returns-in-Ok-clause-beside : goal.returns-in-Ok-clause-beside
-returns-in-Ok-clause-beside g c = (c.in-Some.volume, tells-one (Deleted c.in-Some.volume c.in-Ok.position c.rows-in-Ok.result) c.in-Some.volume refl, c.delete_in.ensures.beside)
+pub returns-in-Ok-clause-contents : goal.returns-in-Ok-clause-contents
+returns-in-Ok-clause-contents g c = λ tells.
+    inl (
+      c.in-Some.volume,
+      inl (c.in-Ok.position, c.rows-in-Ok.result, refl),
+      leaves_contents g.D.Disk.files (c.args.self.now).settings (IsBeside (c.args.self.now).settings c.in-Some.volume) c.args.self.now c.delete_in.new.self c.delete_in.ensures.beside,
+    )
 
-pub returns-clause-beside : goal.returns-clause-beside
-returns-clause-beside g c = (c.in-Some.volume, delete_tells c.in-Some.volume c.rows-in-Err.result c.in-Err.fault c.delete_refusal.result c.delete_refusal.ensures.is, c.delete_in.ensures.beside)
+pub returns-clause-contents : goal.returns-clause-contents
+returns-clause-contents g c = λ tells.
+    delete_leaves (c.args.self.now).settings c.in-Some.volume c.rows-in-Err.result (contents_in g.D.Disk.files c.args.self.now) (contents_in g.D.Disk.files c.delete_in.new.self) c.in-Err.fault c.delete_refusal.result c.delete_refusal.ensures.is
+    (leaves_contents g.D.Disk.files (c.args.self.now).settings (IsBeside (c.args.self.now).settings c.in-Some.volume) c.args.self.now c.delete_in.new.self c.delete_in.ensures.beside)
+    (IfErr-at_err _ c.in-Err.is (c.delete_in.ensures.kept tells))

@@ -1,20 +1,31 @@
-use Rattle.std.proofs.Common.{◌<◌, List, ap, length, sym, subst, ◌∙◌, arith}
-use Rattle.std.specs.Prelude.{slice_index_or, slice_set}
+use Rattle.std.proofs.Common.{◌≡◌, ℕ, Option, ◌<◌, List, ap, length, sym, subst, ◌∙◌, arith}
+use Rattle.std.specs.Prelude.{Result, Ok, Err, IfErr, OnErr, slice_index_or, slice_set}
 use Rattle.std.proofs.lemmas.List.{with_items_is}
 use Rattle.std.proofs.lemmas.Result.{IfErr-weaker, on_ok_weaker}
 use borrow.Author.Rules.{scaled_Fits}
+use Rattle.hay_core.specs.declared.entry.CoreTag.{CoreTag}
+use Rattle.hay_needle.specs.declared.settings.Settings.{Settings}
+use Rattle.hay_legal.specs.Stands.{Contents}
+use Rattle.hay_logical.specs.declared.fault.LogicalFault.{LogicalFault}
+use Rattle.hay_logical.specs.declared.unsure.Unsure.{Unsure}
+use Rattle.hay_logical.specs.Notes.{DeleteLeavesUnsure}
+use Rattle.hay_logical.specs.Steps.{KeepsFiles}
 use Rattle.hay_logical.specs.Fits.{At}
 use Rattle.hay_logical.specs.Volumes.{Volume}
 use Rattle.hay_logical.proofs.Lists.{at_read}
-use Rattle.hay_cluster.specs.Store.{Open, disks_of}
+use Rattle.hay_cluster.specs.Store.{Open, contents_in, disks_of}
 use Rattle.hay_cluster.proofs.Calls.{called_open, called_up, delete_cause}
-use Rattle.hay_cluster.proofs.Rooms.{item_room}
 use Rattle.hay_cluster.proofs.Lists.{length-set}
 use Rattle.hay_cluster.proofs.Moves.{Called, called_fuses, called_later, called_shape, in_volume}
 use Rattle.hay_cluster.proofs.Pending.{called_kept, delete_left}
-use Rattle.hay_cluster.specs.Leaving.{IsBeside, LeavesIn}
-use Rattle.hay_cluster.proofs.Leaving.{called_leaves}
+use Rattle.hay_cluster.specs.Leaving.{AnySlot, DeleteKeeps, IsBeside, KeepsIn, LeavesIn}
+use Rattle.hay_cluster.proofs.Leaving.{called_keeps, called_leaves, delete_keeps}
 use Rattle.hay_cluster.proofs.cluster.Cluster.delete_in.Goals as goal
+
+refused_keeps : {T : Type 0} (settings : Settings) (old new : ℕ → Contents) (tag : CoreTag) (before after : Option Unsure) (Keeps : Type 0) (r : Result T LogicalFault) → IfErr r (DeleteLeavesUnsure tag before after)
+    → OnErr r (after ≡ before → Keeps) → (Keeps → KeepsIn settings AnySlot old new) → IfErr r (DeleteKeeps settings old new)
+refused_keeps settings old new tag before after Keeps (Ok x) left files keeps = tt
+refused_keeps settings old new tag before after Keeps (Err fault) left files keeps = delete_keeps settings old new tag before after fault left (λ same. keeps (files same))
 
 pub offset_bounds-as_mut_slice-volume : goal.offset_bounds-as_mut_slice-volume
 offset_bounds-as_mut_slice-volume g c =
@@ -87,9 +98,7 @@ delete-requires g c =
     let volume : Volume g.row.D.Denot g.row.D-Piece.Denot = slice_index_or c.as_mut_slice.result.now c.args.volume c.index-as_mut_slice-volume.result in
     let at : At store.volumes c.args.volume volume = subst (λ (vs : List (Volume g.row.D.Denot g.row.D-Piece.Denot)). At vs c.args.volume volume) c.as_mut_slice.ensures.value
     (at_read c.as_mut_slice.result.now c.args.volume c.index-as_mut_slice-volume.result (let long = ap length c.as_mut_slice.ensures.value in omega (arith, within, long))) in
-    let long = ap length c.as_mut_slice.ensures.value in
-    let room = item_room (length c.as_mut_slice.result.now) _ (let some : 0 < length c.as_mut_slice.result.now = omega (arith, within, long) in some) c.as_mut_slice.type_inv.1 in
-    (room, called_open c.args.self.now store c.args.volume volume c.self.view_is at c.requires.up)
+    record { «open» = called_open c.args.self.now store c.args.volume volume c.self.view_is at c.requires.up }
 
 pub returns-clause-fuses : goal.returns-clause-fuses
 returns-clause-fuses g c =
@@ -137,3 +146,17 @@ returns-clause-beside g c =
     subst (λ (vs : List (Volume g.row.D.Denot g.row.D-Piece.Denot)). LeavesIn (IsBeside (c.args.self.now).settings c.args.volume) (disks_of c.args.self.now)
     (disks_of (let next : Open g.row.D.Denot g.row.D-Piece.Denot g.row.A.Denot = record store { volumes = vs } in next))) (sym items)
     (called_leaves c.args.self.now store c.args.volume volume c.delete.new.self c.self.view_is c.self.invariant at (c.delete.ensures.counts).count)
+
+pub returns-clause-kept : goal.returns-clause-kept
+returns-clause-kept g c = λ tells.
+    let store : Open g.row.D.Denot g.row.D-Piece.Denot g.row.A.Denot = record { settings = c.self.inside.settings; directory = c.self.inside.directory; volumes = c.self.inside.volumes.items; arms = c.self.inside.seats.items } in
+    let within : c.args.volume < length c.self.inside.volumes.items = let same = ap (λ (st : Open g.row.D.Denot g.row.D-Piece.Denot g.row.A.Denot). (st.settings).volumes) c.self.view_is in omega (arith, c.requires.volume, c.self.invariant.many, same) in
+    let volume : Volume g.row.D.Denot g.row.D-Piece.Denot = slice_index_or c.as_mut_slice.result.now c.args.volume c.index-as_mut_slice-volume.result in
+    let at : At store.volumes c.args.volume volume = subst (λ (vs : List (Volume g.row.D.Denot g.row.D-Piece.Denot)). At vs c.args.volume volume) c.as_mut_slice.ensures.value
+    (at_read c.as_mut_slice.result.now c.args.volume c.index-as_mut_slice-volume.result (let long = ap length c.as_mut_slice.ensures.value in omega (arith, within, long))) in
+    let items = with_items_is c.self.inside.volumes (slice_set c.as_mut_slice.result.now c.args.volume c.delete.new.self) (length-set c.as_mut_slice.result.now c.args.volume c.delete.new.self ∙ c.as_mut_slice.ensures.len)
+    ∙ ap (λ (vs : List (Volume g.row.D.Denot g.row.D-Piece.Denot)). slice_set vs c.args.volume c.delete.new.self) c.as_mut_slice.ensures.value in
+    let keeps = λ (files : KeepsFiles g.D.Disk.Tells g.D.Disk.files volume.replicas c.delete.new.self.replicas).
+    called_keeps g.D.Disk.files g.D.Disk.Tells (c.args.self.now).settings c.args.self.now store c.args.volume volume c.delete.new.self tells c.self.view_is at (c.delete.ensures.counts).count files in
+    subst (λ (vs : List (Volume g.row.D.Denot g.row.D-Piece.Denot)). IfErr c.delete.result (DeleteKeeps (c.args.self.now).settings (contents_in g.D.Disk.files c.args.self.now) (contents_in g.D.Disk.files (let next : Open g.row.D.Denot g.row.D-Piece.Denot g.row.A.Denot = record store { volumes = vs } in next)))) (sym items)
+    (refused_keeps (c.args.self.now).settings _ _ c.args.tag volume.unsure c.delete.new.self.unsure _ c.delete.result c.delete.ensures.refused_unsure c.delete.ensures.files keeps)

@@ -5,11 +5,11 @@ use Rattle.hay_legal.specs.Known.{NoneFalls, slot_of, volume_at}
 use Rattle.hay_reader.specs.Causes.{ComeFirst}
 use Rattle.hay_reader.specs.declared.seat.ReadReply.{ReadReply}
 use Rattle.hay_cluster.specs.Causes.{StaySure}
-use Rattle.hay_cluster.specs.Leaving.{IsBeside, LeavesIn}
+use Rattle.hay_cluster.specs.Leaving.{AnySlot, KeepsIn}
 use Rattle.hay_cluster.specs.Reads.{IsWhole, PassesFrom, PassesNoArm, PassesTo, ReadNoArm, ReadPasses, IsSeenAt, IsSeenByAt, StopsUnseen, counts_of, outcomes_of}
-use Rattle.hay_cluster.specs.Store.{Open, disks_of}
+use Rattle.hay_cluster.specs.Store.{Open, contents_in, disks_of}
 use Rattle.hay_cluster.proofs.Answering.{same_falls}
-use Rattle.hay_cluster.proofs.Leaving.{leaves-on, leaves-same}
+use Rattle.hay_cluster.proofs.Leaving.{keeps-on, same_contents}
 use Rattle.hay_cluster.proofs.Moves.{falls_trans}
 use Rattle.hay_cluster.proofs.Showing.{arm_goes_on, comes_on, found_no_arm, found_passes, found_says, no_arm_round, passes_on, read_on, says_on, sight_goes_on, stops_further, stops_same}
 use Rattle.hay_cluster.proofs.Sure.{no_arm_on, sure_on, sure_trans}
@@ -28,7 +28,7 @@ loop-init g c = record {
   sure_arms = c.read_first-front.ensures.sure_arms;
   counts = same_falls g.D.Disk.fault_count (disks_of c.args.self.now) (disks_of c.read_first-front.new.self) c.read_first-front.ensures.disks;
   fuses = ap (λ (ds : List g.row.D.Denot). map g.D.Disk.fuse_count ds) c.read_first-front.ensures.disks;
-  beside = leaves-same (IsBeside (c.args.self.now).settings c.args.volume) (disks_of c.args.self.now) (disks_of c.read_first-front.new.self) c.read_first-front.ensures.disks;
+  contents = λ tells. same_contents g.D.Disk.files (c.args.self.now).settings c.args.self.now c.read_first-front.new.self c.read_first-front.ensures.disks;
   pending = c.read_first-front.ensures.pending;
   arm_counts = c.read_first-front.ensures.arm_counts;
   settings = c.read_first-front.ensures.settings;
@@ -132,10 +132,11 @@ loop-preserved g c =
       sure_arms = sure_trans g.A.Arm.is_sure g.A.Arm.fault_count (c.args.self.now).arms (c.see_or_pass.new.self).arms (c.read_more-read.new.self).arms sure_arms c.read_more-read.ensures.sure_arms;
       counts = subst (λ (ds : List g.row.D.Denot). NoneFalls (map g.D.Disk.fault_count (disks_of c.args.self.now)) (map g.D.Disk.fault_count ds)) (sym c.read_more-read.ensures.disks) falls;
       fuses = ap (λ (ds : List g.row.D.Denot). map g.D.Disk.fuse_count ds) c.read_more-read.ensures.disks ∙ c.see_or_pass.ensures.fuses ∙ inv.fuses;
-      beside = leaves-on (IsBeside (c.args.self.now).settings c.args.volume) (disks_of c.args.self.now) (disks_of c.see_or_pass.new.self) (disks_of c.read_more-read.new.self)
-          (leaves-on (IsBeside (c.args.self.now).settings c.args.volume) (disks_of c.args.self.now) (disks_of c.loop.self) (disks_of c.see_or_pass.new.self) inv.beside
-          (subst (λ (s : Settings). LeavesIn (IsBeside s c.args.volume) (disks_of c.loop.self) (disks_of c.see_or_pass.new.self)) inv.settings c.see_or_pass.ensures.beside))
-          (leaves-same (IsBeside (c.args.self.now).settings c.args.volume) (disks_of c.see_or_pass.new.self) (disks_of c.read_more-read.new.self) c.read_more-read.ensures.disks);
+      contents = λ tells.
+          keeps-on (c.args.self.now).settings AnySlot _ (contents_in g.D.Disk.files c.see_or_pass.new.self) _
+          (keeps-on (c.args.self.now).settings AnySlot _ (contents_in g.D.Disk.files c.loop.self) _ (inv.contents tells)
+          (subst (λ (s : Settings). KeepsIn s AnySlot (contents_in g.D.Disk.files c.loop.self) (contents_in g.D.Disk.files c.see_or_pass.new.self)) inv.settings (c.see_or_pass.ensures.contents tells)))
+          (same_contents g.D.Disk.files (c.args.self.now).settings c.see_or_pass.new.self c.read_more-read.new.self c.read_more-read.ensures.disks);
       pending = c.read_more-read.ensures.pending ∙ c.see_or_pass.ensures.pending ∙ inv.pending;
       arm_counts = falls_trans (map g.A.Arm.fault_count (c.args.self.now).arms) (map g.A.Arm.fault_count (c.see_or_pass.new.self).arms) (map g.A.Arm.fault_count (c.read_more-read.new.self).arms) arms c.read_more-read.ensures.arm_counts;
       settings = c.read_more-read.ensures.settings ∙ same;
@@ -167,7 +168,7 @@ returns-clause-passes g c = found_passes (IsWhole g.D.Disk.Tells g.D.Disk.files 
 pub returns-clause-sure : goal.returns-clause-sure
 returns-clause-sure g c = λ arm at sure. found_no_arm c.loop.read c.found_of.result c.found_of.ensures (c.loop.invariant.sure arm at sure)
 
-pub returns-in_default-see_or_pass-clause-beside : goal.returns-in_default-see_or_pass-clause-beside
-returns-in_default-see_or_pass-clause-beside g c =
-    leaves-on (IsBeside (c.args.self.now).settings c.args.volume) (disks_of c.args.self.now) (disks_of c.loop.self) (disks_of c.see_or_pass.new.self) c.loop.invariant.beside
-    (subst (λ (s : Settings). LeavesIn (IsBeside s c.args.volume) (disks_of c.loop.self) (disks_of c.see_or_pass.new.self)) c.loop.invariant.settings c.see_or_pass.ensures.beside)
+pub returns-in_default-see_or_pass-clause-contents : goal.returns-in_default-see_or_pass-clause-contents
+returns-in_default-see_or_pass-clause-contents g c = λ tells.
+    keeps-on (c.args.self.now).settings AnySlot _ (contents_in g.D.Disk.files c.loop.self) _ (c.loop.invariant.contents tells)
+    (subst (λ (s : Settings). KeepsIn s AnySlot (contents_in g.D.Disk.files c.loop.self) (contents_in g.D.Disk.files c.see_or_pass.new.self)) c.loop.invariant.settings (c.see_or_pass.ensures.contents tells))

@@ -9,11 +9,11 @@ use Rattle.hay_reader.specs.declared.causes.PassedReplica.{PassedReplica}
 use Rattle.hay_reader.specs.declared.seat.ReadReply.TheVariants as read
 use Rattle.hay_cluster.specs.Causes.{StaySure}
 use Rattle.hay_cluster.specs.Reads.{IsWhole, ReadNoArm, ReadPasses, ReadSays, StopsUnseen, counts_of, outcomes_of}
-use Rattle.hay_cluster.specs.Leaving.{IsBeside, LeavesIn}
+use Rattle.hay_cluster.specs.Leaving.{AnySlot, KeepsIn}
 use Rattle.hay_cluster.specs.Parts.{Comes}
 use Rattle.hay_cluster.specs.Pending.{pending_of}
 use Rattle.hay_cluster.specs.State.{Stands}
-use Rattle.hay_cluster.specs.Store.{IsUp, disks_of}
+use Rattle.hay_cluster.specs.Store.{IsUp, contents_in, disks_of}
 use Rattle.hay_cluster.proofs.cluster.Cluster.fetch.Given as goal
 
 abbrev pub invariant-loop : goal.invariant-loop
@@ -30,7 +30,7 @@ invariant-loop g l = record {
   sure_arms : StaySure g.A.Arm.is_sure g.A.Arm.fault_count l.fn.self.arms l.self.arms;
   counts : NoneFalls (map g.D.Disk.fault_count (disks_of l.fn.self)) (map g.D.Disk.fault_count (disks_of l.self));
   fuses : map g.D.Disk.fuse_count (disks_of l.self) ≡ map g.D.Disk.fuse_count (disks_of l.fn.self);
-  beside : LeavesIn (IsBeside l.fn.self.settings l.volume) (disks_of l.fn.self) (disks_of l.self);
+  contents : g.D.Disk.Tells → KeepsIn l.fn.self.settings AnySlot (contents_in g.D.Disk.files l.fn.self) (contents_in g.D.Disk.files l.self);
   pending : pending_of l.self ≡ pending_of l.fn.self;
   arm_counts : NoneFalls (map g.A.Arm.fault_count l.fn.self.arms) (map g.A.Arm.fault_count l.self.arms);
   settings : l.self.settings ≡ l.fn.self.settings;

@@ -3,11 +3,9 @@ use Rattle.hay_needle.specs.declared.settings.Settings.{Settings}
 use Rattle.hay_reply.specs.declared.Reply.TheVariants as reply
 use Rattle.hay_legal.specs.Known.{replica_on}
 use Rattle.hay_legal.specs.Plain.{LegalFuse, OnReplica}
-use Rattle.hay_cluster.specs.Store.{Open, disks_of}
+use Rattle.hay_cluster.specs.Store.{Open}
 use Rattle.hay_cluster.proofs.Answering.{answered, sets_on}
 use Rattle.hay_cluster.proofs.Suiting.{fuses_none, fuses_one}
-use Rattle.hay_cluster.specs.Leaving.{IsApart, IsApartOn}
-use Rattle.hay_cluster.proofs.Leaving.{leaves-fewer, leaves-same}
 use Rattle.hay_cluster.proofs.cluster.Cluster.fuse.Goals as goal
 
 pub returns-clause-legal : goal.returns-clause-legal
@@ -39,13 +37,3 @@ returns-clause-suits g c = λ line.
     let same = ap (λ (st : Open g.row.D.Denot g.row.D-Piece.Denot g.row.A.Denot). st.settings) c.self.view_is in
     fuses_one (replica_on (c.args.self.now).settings c.args.volume c.args.machine) c.in-Some.replica (reply.Fused c.args.volume c.args.machine c.args.calls)
     (ap (λ (s : Settings). replica_on s c.args.volume c.args.machine) (sym same) ∙ sym c.replica_on.ensures.is ∙ c.in-Some.is)
-
-pub returns-in_default-clause-others : goal.returns-in_default-clause-others
-returns-in_default-clause-others g c = leaves-same _ (disks_of c.args.self.now) (disks_of c.args.self.now) refl
-
-pub returns-clause-others : goal.returns-clause-others
-returns-clause-others g c =
-    let same = ap (λ (st : Open g.row.D.Denot g.row.D-Piece.Denot g.row.A.Denot). st.settings) c.self.view_is in
-    let there : replica_on (c.args.self.now).settings c.args.volume c.args.machine ≡ Some c.in-Some.replica =
-    ap (λ (s : Settings). replica_on s c.args.volume c.args.machine) (sym same) ∙ sym c.replica_on.ensures.is ∙ c.in-Some.is in
-    leaves-fewer (IsApart (c.args.self.now).settings c.args.volume c.in-Some.replica) (IsApartOn (c.args.self.now).settings c.args.volume c.args.machine) (disks_of c.args.self.now) (disks_of c.fuse_in.new.self) (λ slot apart. apart c.in-Some.replica there) c.fuse_in.ensures.others

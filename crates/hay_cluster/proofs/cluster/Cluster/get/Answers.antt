@@ -10,8 +10,6 @@ use Rattle.hay_cluster.proofs.Showing.{get_command}
 use Rattle.hay_cluster.proofs.Sure.{same_sure}
 use Rattle.hay_cluster.specs.Suiting.{ShowsFrom, SuitsGet}
 use Rattle.hay_cluster.proofs.Suiting.{at_no_memory, at_none, at_replica}
-use Rattle.hay_cluster.specs.Leaving.{IsBeside, LeavesIn}
-use Rattle.hay_cluster.proofs.Leaving.{leaves-same}
 use Rattle.hay_cluster.proofs.cluster.Cluster.get.Goals as goal
 
 pub returns-in_default-clause-legal : goal.returns-in_default-clause-legal
@@ -111,15 +109,3 @@ returns-clause-suits g c =
           (inr (inr (subst (λ v. ShowsFrom (c.args.self.now).settings c.in-Some.start v c.show.result) c.if-volume-url.false shows)))
       | inr none ↦ at_no_memory _ (SuitsGet (c.args.self.now).settings c.args.url.now) c.in-Some.start c.show.result there none
     ]
-
-pub returns-in_default-clause-beside : goal.returns-in_default-clause-beside
-returns-in_default-clause-beside g c = leaves-same _ (disks_of c.args.self.now) (disks_of c.args.self.now) refl
-
-pub returns-in_default-home-clause-beside : goal.returns-in_default-home-clause-beside
-returns-in_default-home-clause-beside g c = leaves-same _ (disks_of c.args.self.now) (disks_of c.args.self.now) refl
-
-pub returns-then-volume-url-clause-beside : goal.returns-then-volume-url-clause-beside
-returns-then-volume-url-clause-beside g c = leaves-same _ (disks_of c.args.self.now) (disks_of c.args.self.now) refl
-
-pub returns-clause-beside : goal.returns-clause-beside
-returns-clause-beside g c = subst (λ v. LeavesIn (IsBeside (c.args.self.now).settings v) (disks_of c.args.self.now) (disks_of c.show.new.self)) c.if-volume-url.false c.show.ensures.beside

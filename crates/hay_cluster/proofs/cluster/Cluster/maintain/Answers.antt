@@ -10,7 +10,8 @@ use Rattle.hay_cluster.proofs.Maintaining.{maintained, not_maintained, nowhere}
 use Rattle.hay_cluster.proofs.Suiting.{done_suits, memory_suits, nowhere_suits, undone_suits, work_refuses, work_suits}
 use Rattle.hay_cluster.specs.Causes.{RefusesOn}
 use Rattle.hay_cluster.proofs.Changing.{replica_machine}
-use Rattle.hay_cluster.proofs.Leaving.{leaves-same}
+use Rattle.hay_cluster.specs.Leaving.{IsApart, IsApartOn}
+use Rattle.hay_cluster.proofs.Leaving.{leaves-fewer, leaves-same}
 use Rattle.hay_cluster.proofs.cluster.Cluster.maintain.Goals as goal
 
 pub returns-in_default-clause-legal : goal.returns-in_default-clause-legal
@@ -71,5 +72,19 @@ returns-in-Err-clause-suits g c = λ line.
       | inr none ↦ memory_suits (c.args.self.now).settings c.args.volume c.args.machine line c.in-Some.replica c.args.work c.refused.result there none
     ]
 
-pub returns-in_default-clause-beside : goal.returns-in_default-clause-beside
-returns-in_default-clause-beside g c = leaves-same _ (disks_of c.args.self.now) (disks_of c.args.self.now) refl
+pub returns-in_default-clause-others : goal.returns-in_default-clause-others
+returns-in_default-clause-others g c = leaves-same _ (disks_of c.args.self.now) (disks_of c.args.self.now) refl
+
+pub returns-in-Ok-clause-others : goal.returns-in-Ok-clause-others
+returns-in-Ok-clause-others g c =
+    let same = ap (λ (st : Open g.row.D.Denot g.row.D-Piece.Denot g.row.A.Denot). st.settings) c.self.view_is in
+    let there : replica_on (c.args.self.now).settings c.args.volume c.args.machine ≡ Some c.in-Some.replica =
+    ap (λ (s : Settings). replica_on s c.args.volume c.args.machine) (sym same) ∙ sym c.replica_on.ensures.is ∙ c.in-Some.is in
+    leaves-fewer (IsApart (c.args.self.now).settings c.args.volume c.in-Some.replica) (IsApartOn (c.args.self.now).settings c.args.volume c.args.machine) (disks_of c.args.self.now) (disks_of c.maintain_in.new.self) (λ slot apart. apart c.in-Some.replica there) c.maintain_in.ensures.others
+
+pub returns-in-Err-clause-others : goal.returns-in-Err-clause-others
+returns-in-Err-clause-others g c =
+    let same = ap (λ (st : Open g.row.D.Denot g.row.D-Piece.Denot g.row.A.Denot). st.settings) c.self.view_is in
+    let there : replica_on (c.args.self.now).settings c.args.volume c.args.machine ≡ Some c.in-Some.replica =
+    ap (λ (s : Settings). replica_on s c.args.volume c.args.machine) (sym same) ∙ sym c.replica_on.ensures.is ∙ c.in-Some.is in
+    leaves-fewer (IsApart (c.args.self.now).settings c.args.volume c.in-Some.replica) (IsApartOn (c.args.self.now).settings c.args.volume c.args.machine) (disks_of c.args.self.now) (disks_of c.maintain_in.new.self) (λ slot apart. apart c.in-Some.replica there) c.maintain_in.ensures.others

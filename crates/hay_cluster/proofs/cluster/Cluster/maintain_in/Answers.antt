@@ -9,12 +9,11 @@ use Rattle.hay_logical.specs.Volumes.{Volume}
 use Rattle.hay_logical.proofs.Lists.{at_read}
 use Rattle.hay_cluster.specs.Store.{Open, disks_of}
 use Rattle.hay_cluster.proofs.Calls.{called_open, called_up, replica_cause}
-use Rattle.hay_cluster.proofs.Rooms.{item_room}
 use Rattle.hay_cluster.proofs.Lists.{length-set}
 use Rattle.hay_cluster.proofs.Moves.{Called, called_fuses, called_later, called_shape, in_volume, volume_of}
 use Rattle.hay_cluster.proofs.Pending.{called_kept}
-use Rattle.hay_cluster.specs.Leaving.{IsBeside, LeavesIn}
-use Rattle.hay_cluster.proofs.Leaving.{called_leaves}
+use Rattle.hay_cluster.specs.Leaving.{IsApart, LeavesIn}
+use Rattle.hay_cluster.proofs.Leaving.{called_others}
 use Rattle.hay_cluster.proofs.cluster.Cluster.maintain_in.Goals as goal
 
 pub offset_bounds-as_mut_slice-volume : goal.offset_bounds-as_mut_slice-volume
@@ -30,13 +29,11 @@ maintain-requires g c =
     let volume : Volume g.row.D.Denot g.row.D-Piece.Denot = slice_index_or c.as_mut_slice.result.now c.args.volume c.index-as_mut_slice-volume.result in
     let at : At store.volumes c.args.volume volume = subst (λ (vs : List (Volume g.row.D.Denot g.row.D-Piece.Denot)). At vs c.args.volume volume) c.as_mut_slice.ensures.value
     (at_read c.as_mut_slice.result.now c.args.volume c.index-as_mut_slice-volume.result (let long = ap length c.as_mut_slice.ensures.value in omega (arith, within, long))) in
-    let long = ap length c.as_mut_slice.ensures.value in
-    let room = item_room (length c.as_mut_slice.result.now) _ (let some : 0 < length c.as_mut_slice.result.now = omega (arith, within, long) in some) c.as_mut_slice.type_inv.1 in
     let was = volume_of store c.args.volume volume c.self.invariant at in
     let same = ap (λ (st : Open g.row.D.Denot g.row.D-Piece.Denot g.row.A.Denot). st.settings) c.self.view_is in
     let replica : c.args.replica < (volume.settings).replicas =
     subst (λ (s : Settings). c.args.replica < s.replicas) (sym was.settings_are) (subst (λ (s : Settings). c.args.replica < s.replicas) (sym same) c.requires.replica) in
-    (room, (replica, called_open c.args.self.now store c.args.volume volume c.self.view_is at c.requires.up))
+    record { within = replica; «open» = called_open c.args.self.now store c.args.volume volume c.self.view_is at c.requires.up }
 
 pub invariant_of-self : goal.invariant_of-self
 invariant_of-self g c =
@@ -119,8 +116,8 @@ returns-clause-pending g c =
     ∙ ap (λ (vs : List (Volume g.row.D.Denot g.row.D-Piece.Denot)). slice_set vs c.args.volume c.maintain.new.volume) c.as_mut_slice.ensures.value in
     rw items (called_kept c.args.self.now store c.args.volume volume c.maintain.new.volume c.self.view_is at c.maintain.ensures.unsure)
 
-pub returns-clause-beside : goal.returns-clause-beside
-returns-clause-beside g c =
+pub returns-clause-others : goal.returns-clause-others
+returns-clause-others g c =
     let store : Open g.row.D.Denot g.row.D-Piece.Denot g.row.A.Denot = record { settings = c.self.inside.settings; directory = c.self.inside.directory; volumes = c.self.inside.volumes.items; arms = c.self.inside.seats.items } in
     let within : c.args.volume < length c.self.inside.volumes.items = let same = ap (λ (st : Open g.row.D.Denot g.row.D-Piece.Denot g.row.A.Denot). (st.settings).volumes) c.self.view_is in omega (arith, c.requires.volume, c.self.invariant.many, same) in
     let volume : Volume g.row.D.Denot g.row.D-Piece.Denot = slice_index_or c.as_mut_slice.result.now c.args.volume c.index-as_mut_slice-volume.result in
@@ -128,6 +125,6 @@ returns-clause-beside g c =
     (at_read c.as_mut_slice.result.now c.args.volume c.index-as_mut_slice-volume.result (let long = ap length c.as_mut_slice.ensures.value in omega (arith, within, long))) in
     let items = with_items_is c.self.inside.volumes (slice_set c.as_mut_slice.result.now c.args.volume c.maintain.new.volume) (length-set c.as_mut_slice.result.now c.args.volume c.maintain.new.volume ∙ c.as_mut_slice.ensures.len)
     ∙ ap (λ (vs : List (Volume g.row.D.Denot g.row.D-Piece.Denot)). slice_set vs c.args.volume c.maintain.new.volume) c.as_mut_slice.ensures.value in
-    subst (λ (vs : List (Volume g.row.D.Denot g.row.D-Piece.Denot)). LeavesIn (IsBeside (c.args.self.now).settings c.args.volume) (disks_of c.args.self.now)
+    subst (λ (vs : List (Volume g.row.D.Denot g.row.D-Piece.Denot)). LeavesIn (IsApart (c.args.self.now).settings c.args.volume c.args.replica) (disks_of c.args.self.now)
     (disks_of (let next : Open g.row.D.Denot g.row.D-Piece.Denot g.row.A.Denot = record store { volumes = vs } in next))) (sym items)
-    (called_leaves c.args.self.now store c.args.volume volume c.maintain.new.volume c.self.view_is c.self.invariant at (c.maintain.ensures.counts).count)
+    (called_others c.args.self.now store c.args.volume c.args.replica volume c.maintain.new.volume c.self.view_is c.self.invariant at (c.maintain.ensures.counts).count c.maintain.ensures.others)

@@ -1,6 +1,6 @@
-use Rattle.std.proofs.Common.{◌≡◌, ◌<◌, ◌≤◌, ℕ, inr, map, sym, ap, subst, ◌∙◌, arith, rules}
+use Rattle.std.proofs.Common.{◌≡◌, ◌<◌, ◌≤◌, ℕ, inr, map, sym, ap, subst, ◌∙◌, arith}
 use Rattle.std.proofs.lemmas.Result.{err_from_is_err_and}
-use Rattle.std.specs.Prelude.{IsTrue, slice_index}
+use Rattle.std.specs.Prelude.{slice_index}
 use Rattle.hay_needle.specs.declared.settings.Settings.{Settings}
 use Rattle.hay_disk.specs.Counts.{Rose}
 use Rattle.hay_mount.specs.Mounts.{IsPutBack}
@@ -8,7 +8,6 @@ use Rattle.hay_legal.specs.Known.{disk_count}
 use Rattle.hay_cluster.specs.declared.fault.ClusterFault.TheVariants.{Shelf, Failed, Damaged, NoMemory}
 use Rattle.hay_cluster.specs.Store.{disks_of}
 use Rattle.hay_cluster.proofs.ClosingStore.{disks_many}
-use Rattle.hay_cluster.proofs.Lists.{one_fits}
 use Rattle.hay_cluster.proofs.OpeningDamage.{opened_sound, opening_damaged, opening_failed}
 use Rattle.hay_cluster.proofs.OpeningDraws.{flushed_drew, opening_drew}
 use Rattle.hay_cluster.proofs.OpeningFound.{found_new}
@@ -19,24 +18,16 @@ use Rattle.hay_cluster.proofs.OpeningVoid.{back_contents, back_kept, contents_st
 use Rattle.hay_cluster.proofs.Pending.{opened_settled}
 use Rattle.hay_cluster.proofs.cluster.Cluster.open.Goals as goal
 
-pub empty_volumes-requires : goal.empty_volumes-requires
-empty_volumes-requires g c =
-    let held : IsTrue c.may_hold.result = search rules in
-    let room = c.may_hold.ensures held in
-    (one_fits 1 _ (omega arith) room.0, c.requires.built)
-
 pub assemble-cluster-requires : goal.assemble-cluster-requires
 assemble-cluster-requires g c =
-    let held : IsTrue c.may_hold.result = search rules in
-    let room = c.may_hold.ensures held in
     let count : c.disk_count.result ≡ disk_count c.args.settings = c.disk_count.ensures.is in
-    (one_fits 1 _ (omega arith) room.0, (c.requires.built, (c.in_ok-volumes.ensures.count, (c.in_ok-volumes.ensures.empty, (c.in_ok-disks.ensures.disk_count ∙ count, c.in_ok-disks.ensures.arm_count)))))
-
-pub drop-volumes-requires-room-T-Destruct : goal.drop-volumes-requires-room-T-Destruct
-drop-volumes-requires-room-T-Destruct g c =
-    let held : IsTrue c.may_hold.result = search rules in
-    let room = c.may_hold.ensures held in
-    λ κs lives. one_fits 1 _ (omega arith) room.0
+    record {
+      built = c.requires.built;
+      many = c.in_ok-volumes.ensures.count;
+      empty = c.in_ok-volumes.ensures.empty;
+      disks = c.in_ok-disks.ensures.disk_count ∙ count;
+      lanes = c.in_ok-disks.ensures.arm_count;
+    }
 
 pub take_parts-requires-clause-disks_in : goal.take_parts-requires-clause-disks_in
 take_parts-requires-clause-disks_in g c =

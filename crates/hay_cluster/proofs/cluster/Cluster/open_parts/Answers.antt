@@ -1,4 +1,4 @@
-use Rattle.std.proofs.Common.{◌≡◌, ◌++◌, List, length, take, drop, refl, sym, subst, ◌∙◌, arith, ◌<◌, inr, ap}
+use Rattle.std.proofs.Common.{◌≡◌, ◌++◌, List, length, take, drop, refl, sym, subst, ◌∙◌, arith, inr, ap}
 use Rattle.std.proofs.lemmas.List.{take_at}
 use Rattle.std.proofs.lemmas.Result.{err_from_is_err_and}
 use Rattle.std.specs.List.{AllByRecursion, AllZip}
@@ -9,7 +9,6 @@ use Rattle.hay_mount.specs.Mounts.{InOrder}
 use Rattle.hay_cluster.specs.Draws.{DrawsVolume}
 use Rattle.hay_cluster.specs.Opening.{MovesVolume, Gathers, OpensDirectory, OpensVolume, RefusesParts, RefusesVolumes}
 use Rattle.hay_cluster.specs.Store.{IsShaped, Open, IsVolumeOf}
-use Rattle.hay_cluster.proofs.Lists.{one_fits}
 use Rattle.hay_cluster.proofs.OpeningLists.{AllZip-still, each_told, passed_on}
 use Rattle.hay_cluster.proofs.OpeningStore.{MovedParts, shape_moved}
 use Rattle.hay_cluster.proofs.OpeningVolumes.{moves_still}
@@ -169,23 +168,14 @@ returns-clause-opened g c =
 pub open_volumes-requires : goal.open_volumes-requires
 open_volumes-requires g c =
     let value = c.as_mut_slice.ensures.value in
-    let some : 0 < length c.as_mut_slice.result.now = omega (arith, c.as_mut_slice.ensures.len, c.self.inside.volumes.ok.0, c.self.invariant.many, c.self.invariant.built.some_volumes) in
-    let closed : AllByRecursion IsClosed c.self.inside.volumes.items = subst (λ (st : Open g.row.D.Denot g.row.D-Piece.Denot g.row.A.Denot). AllByRecursion IsClosed st.volumes) (sym c.self.view_is) c.requires.closed in (
-      one_fits (length c.as_mut_slice.result.now) _ some c.as_mut_slice.type_inv.1,
-      (
-        c.self.invariant.built,
-        (
-          ap (λ (l : List (Volume g.row.D.Denot g.row.D-Piece.Denot)). length l) value ∙ c.self.invariant.many,
-          (
-            subst (λ (l : List (Volume g.row.D.Denot g.row.D-Piece.Denot)). InOrder (IsVolumeOf c.self.inside.settings) 0 l) (sym value) c.self.invariant.volumes,
-            (
-              subst (λ (l : List (Volume g.row.D.Denot g.row.D-Piece.Denot)). AllByRecursion IsClosed l) (sym value) closed,
-              (λ tells. subst (λ (l : List (Volume g.row.D.Denot g.row.D-Piece.Denot)). AllByRecursion (IsIdleVolume g.D.Disk.files) l) (sym value) (subst (λ (st : Open g.row.D.Denot g.row.D-Piece.Denot g.row.A.Denot). AllByRecursion (IsIdleVolume g.D.Disk.files) st.volumes) (sym c.self.view_is) (c.requires.idle tells))),
-            ),
-          ),
-        ),
-      ),
-    )
+    let closed : AllByRecursion IsClosed c.self.inside.volumes.items = subst (λ (st : Open g.row.D.Denot g.row.D-Piece.Denot g.row.A.Denot). AllByRecursion IsClosed st.volumes) (sym c.self.view_is) c.requires.closed in
+    record {
+      built = c.self.invariant.built;
+      many = ap (λ (l : List (Volume g.row.D.Denot g.row.D-Piece.Denot)). length l) value ∙ c.self.invariant.many;
+      numbers = subst (λ (l : List (Volume g.row.D.Denot g.row.D-Piece.Denot)). InOrder (IsVolumeOf c.self.inside.settings) 0 l) (sym value) c.self.invariant.volumes;
+      closed = subst (λ (l : List (Volume g.row.D.Denot g.row.D-Piece.Denot)). AllByRecursion IsClosed l) (sym value) closed;
+      idle = λ tells. subst (λ (l : List (Volume g.row.D.Denot g.row.D-Piece.Denot)). AllByRecursion (IsIdleVolume g.D.Disk.files) l) (sym value) (subst (λ (st : Open g.row.D.Denot g.row.D-Piece.Denot g.row.A.Denot). AllByRecursion (IsIdleVolume g.D.Disk.files) st.volumes) (sym c.self.view_is) (c.requires.idle tells));
+    }
 
 pub returns-clause-drew : goal.returns-clause-drew
 returns-clause-drew g c = λ tells.

@@ -1,12 +1,12 @@
 use Rattle.std.proofs.Common.{map, sym, ◌∙◌, refl, inl, ◌∷◌, [], ap, inr, Ok}
-use Rattle.hay_reply.specs.declared.Reply.TheVariants.{NoMem}
-use Rattle.hay_cluster.specs.Store.{disks_of}
+use Rattle.hay_cluster.specs.Store.{contents_in, disks_of}
 use Rattle.hay_cluster.proofs.Answering.{answered, stays}
 use Rattle.hay_cluster.proofs.Moves.{none_falls}
 use Rattle.hay_cluster.proofs.Puts.{home_refused}
 use Rattle.hay_cluster.proofs.Suiting.{one_refuses, refusal_suits}
 use Rattle.hay_cluster.proofs.Pending.{refusal_no_failure}
-use Rattle.hay_cluster.proofs.Leaving.{leaves-same, refusal_tells, tells-none}
+use Rattle.hay_cluster.specs.Leaving.{AnySlot}
+use Rattle.hay_cluster.proofs.Leaving.{keeps-all}
 use Rattle.hay_cluster.proofs.cluster.Cluster.put.Goals as goal
 
 pub returns-in-Err-clause-legal : goal.returns-in-Err-clause-legal
@@ -43,8 +43,11 @@ returns-in-Err-clause-pending g c = inr (inr (inr ((λ v m n is. cc, λ n is. cc
 pub returns-in-Some-refusal-clause-pending : goal.returns-in-Some-refusal-clause-pending
 returns-in-Some-refusal-clause-pending g c = inr (inr (inr (refusal_no_failure _ c.refuse_one.result c.refuse_one.ensures.is, refl)))
 
-pub returns-in-Err-clause-beside : goal.returns-in-Err-clause-beside
-returns-in-Err-clause-beside g c = (0, tells-none NoMem 0 refl, leaves-same _ (disks_of c.args.self.now) (disks_of c.args.self.now) refl)
+pub returns-in-Err-clause-contents : goal.returns-in-Err-clause-contents
+returns-in-Err-clause-contents g c = inr (inr (keeps-all (c.args.self.now).settings AnySlot (contents_in g.D.Disk.files c.args.self.now)))
 
-pub returns-in-Some-refusal-clause-beside : goal.returns-in-Some-refusal-clause-beside
-returns-in-Some-refusal-clause-beside g c = (0, refusal_tells (c.in-Some-refusal.refused ∷ []) c.refuse_one.result 0 c.refuse_one.ensures.is, leaves-same _ (disks_of c.args.self.now) (disks_of c.args.self.now) refl)
+pub returns-in-Some-refusal-clause-contents : goal.returns-in-Some-refusal-clause-contents
+returns-in-Some-refusal-clause-contents g c = inr (inr (keeps-all (c.args.self.now).settings AnySlot (contents_in g.D.Disk.files c.args.self.now)))
+
+pub put_tried-requires-clause-takes : goal.put_tried-requires-clause-takes
+put_tried-requires-clause-takes g c = λ volume is. c.find_taker.ensures.takes volume (c.in-Ok.is ∙ ap Ok is)

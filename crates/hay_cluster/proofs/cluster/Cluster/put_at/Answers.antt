@@ -1,7 +1,7 @@
 use Rattle.std.proofs.Common.{map, refl, ap, ◌∙◌, inl, inr}
 use Rattle.std.proofs.lemmas.Result.{IfErr-at_err, IfOk-at_ok}
 use Rattle.hay_url.specs.Url.{cookie_of}
-use Rattle.hay_cluster.specs.Store.{Open, disks_of}
+use Rattle.hay_cluster.specs.Store.{Open, contents_in, disks_of}
 use Rattle.hay_legal.specs.Known.{volume_at}
 use Rattle.hay_legal.specs.Plain.{with_put}
 use Rattle.hay_cluster.proofs.Puts.{put_caused, put_done, put_refused}
@@ -10,7 +10,7 @@ use Rattle.hay_cluster.proofs.Suiting.{put_refusal_suits}
 use Rattle.hay_cluster.proofs.Pending.{put_pending}
 use Rattle.hay_cluster.specs.Pending.{pending_of}
 use Rattle.hay_cluster.specs.Leaving.{IsBeside, IsReplicaBeside}
-use Rattle.hay_cluster.proofs.Leaving.{leaves-fewer, put_tells, tells-one}
+use Rattle.hay_cluster.proofs.Leaving.{leaves-fewer, leaves_contents, put_leaves, taken_may}
 use Rattle.hay_cluster.proofs.cluster.Cluster.put_at.Goals as goal
 
 pub returns-in-Err-clause-stored : goal.returns-in-Err-clause-stored
@@ -49,14 +49,23 @@ returns-in-Err-clause-pending g c =
     put_pending (c.args.self.now).settings c.args.tag.line c.args.volume (pending_of c.args.self.now) (pending_of c.put_in.new.self) c.in-Err.fault c.put_refusal.result c.requires.volume c.put_refusal.ensures.is
     (IfErr-at_err _ c.in-Err.is c.put_in.ensures.refused_pending)
 
-pub returns-in-Ok-clause-beside : goal.returns-in-Ok-clause-beside
-returns-in-Ok-clause-beside g c = leaves-fewer (IsBeside (c.args.self.now).settings c.args.volume) (IsReplicaBeside (c.args.self.now).settings c.args.volume) (disks_of c.args.self.now) (disks_of c.put_in.new.self) (λ slot far. far.1) c.put_in.ensures.beside
+pub returns-in-Ok-clause-contents : goal.returns-in-Ok-clause-contents
+returns-in-Ok-clause-contents g c =
+    inl (
+      c.args.volume,
+      inl (c.in-Ok.position, c.rows.result, c.cookie_of-cookie.result, refl),
+      (leaves_contents g.D.Disk.files (c.args.self.now).settings (IsReplicaBeside (c.args.self.now).settings c.args.volume) c.args.self.now c.put_in.new.self (leaves-fewer (IsBeside (c.args.self.now).settings c.args.volume) (IsReplicaBeside (c.args.self.now).settings c.args.volume) (disks_of c.args.self.now) (disks_of c.put_in.new.self) (λ slot far. far.1) c.put_in.ensures.beside)),
+    )
 
-pub returns-in-Err-clause-beside : goal.returns-in-Err-clause-beside
-returns-in-Err-clause-beside g c = leaves-fewer (IsBeside (c.args.self.now).settings c.args.volume) (IsReplicaBeside (c.args.self.now).settings c.args.volume) (disks_of c.args.self.now) (disks_of c.put_in.new.self) (λ slot far. far.1) c.put_in.ensures.beside
+pub returns-in-Err-clause-contents : goal.returns-in-Err-clause-contents
+returns-in-Err-clause-contents g c =
+    put_leaves (c.args.self.now).settings c.args.volume (contents_in g.D.Disk.files c.args.self.now) (contents_in g.D.Disk.files c.put_in.new.self) c.in-Err.fault c.put_refusal.result c.requires.volume c.put_refusal.ensures.is
+    (leaves_contents g.D.Disk.files (c.args.self.now).settings (IsReplicaBeside (c.args.self.now).settings c.args.volume) c.args.self.now c.put_in.new.self (leaves-fewer (IsBeside (c.args.self.now).settings c.args.volume) (IsReplicaBeside (c.args.self.now).settings c.args.volume) (disks_of c.args.self.now) (disks_of c.put_in.new.self) (λ slot far. far.1) c.put_in.ensures.beside))
+    (IfErr-at_err _ c.in-Err.is c.put_in.ensures.kept)
 
-pub returns-in-Ok-clause-tells : goal.returns-in-Ok-clause-tells
-returns-in-Ok-clause-tells g c = tells-one (Stored c.args.volume c.in-Ok.position c.rows.result c.cookie_of-cookie.result) c.args.volume refl
+pub returns-in-Ok-clause-takes : goal.returns-in-Ok-clause-takes
+returns-in-Ok-clause-takes g c = λ takes. inl (c.in-Ok.position, c.rows.result, c.cookie_of-cookie.result, refl)
 
-pub returns-in-Err-clause-tells : goal.returns-in-Err-clause-tells
-returns-in-Err-clause-tells g c = put_tells c.args.volume c.in-Err.fault c.put_refusal.result c.put_refusal.ensures.is
+pub returns-in-Err-clause-takes : goal.returns-in-Err-clause-takes
+returns-in-Err-clause-takes g c = λ takes.
+    taken_may (c.args.self.now).settings c.args.volume c.in-Err.fault c.put_refusal.result c.requires.volume c.put_refusal.ensures.is (IfErr-at_err _ c.in-Err.is (c.put_in.ensures.takes takes))

@@ -1,20 +1,23 @@
-use Rattle.std.proofs.Common.{◌<◌, List, ap, length, sym, subst, ◌∙◌, arith}
-use Rattle.std.specs.Prelude.{slice_index_or, slice_set}
+use Rattle.std.proofs.Common.{◌≡◌, ◌<◌, refl, List, ap, length, sym, subst, ◌∙◌, arith}
+use Rattle.std.specs.Prelude.{Result, Ok, Err, IfErr, slice_index_or, slice_set}
 use Rattle.std.proofs.lemmas.List.{with_items_is}
 use Rattle.std.proofs.lemmas.Result.{IfErr-weaker, on_ok_weaker}
 use borrow.Author.Rules.{scaled_Fits}
 use Rattle.hay_logical.specs.Fits.{At}
 use Rattle.hay_logical.specs.Volumes.{Volume}
 use Rattle.hay_logical.proofs.Lists.{at_read}
-use Rattle.hay_cluster.specs.Store.{Open, disks_of}
+use Rattle.hay_cluster.specs.Store.{Open, contents_in, disks_of}
 use Rattle.hay_cluster.proofs.Calls.{called_open, called_up, put_cause}
-use Rattle.hay_cluster.proofs.Rooms.{item_room}
 use Rattle.hay_cluster.proofs.Lists.{length-set}
 use Rattle.hay_cluster.proofs.Moves.{Called, called_fuses, called_later, called_shape, in_volume}
 use Rattle.hay_cluster.proofs.Pending.{called_kept, put_left}
-use Rattle.hay_cluster.specs.Leaving.{IsBeside, LeavesIn}
-use Rattle.hay_cluster.proofs.Leaving.{called_leaves}
+use Rattle.hay_cluster.specs.Leaving.{IsBeside, LeavesIn, PutKeeps}
+use Rattle.hay_cluster.proofs.Leaving.{called_leaves, called_same, put_keeps}
 use Rattle.hay_cluster.proofs.cluster.Cluster.put_in.Goals as goal
+
+err_is : {T E : Type 0} (r : Result T E) → IfErr r (λ fault. r ≡ Err fault)
+err_is (Ok x) = tt
+err_is (Err fault) = refl
 
 pub offset_bounds-as_mut_slice-volume : goal.offset_bounds-as_mut_slice-volume
 offset_bounds-as_mut_slice-volume g c =
@@ -29,9 +32,7 @@ put-requires g c =
     let volume : Volume g.row.D.Denot g.row.D-Piece.Denot = slice_index_or c.as_mut_slice.result.now c.args.volume c.index-as_mut_slice-volume.result in
     let at : At store.volumes c.args.volume volume = subst (λ (vs : List (Volume g.row.D.Denot g.row.D-Piece.Denot)). At vs c.args.volume volume) c.as_mut_slice.ensures.value
     (at_read c.as_mut_slice.result.now c.args.volume c.index-as_mut_slice-volume.result (let long = ap length c.as_mut_slice.ensures.value in omega (arith, within, long))) in
-    let long = ap length c.as_mut_slice.ensures.value in
-    let room = item_room (length c.as_mut_slice.result.now) _ (let some : 0 < length c.as_mut_slice.result.now = omega (arith, within, long) in some) c.as_mut_slice.type_inv.1 in
-    (room, (c.requires.size, called_open c.args.self.now store c.args.volume volume c.self.view_is at c.requires.up))
+    record { size = c.requires.size; «open» = called_open c.args.self.now store c.args.volume volume c.self.view_is at c.requires.up }
 
 pub invariant_of-self : goal.invariant_of-self
 invariant_of-self g c =
@@ -137,3 +138,28 @@ returns-clause-beside g c =
     subst (λ (vs : List (Volume g.row.D.Denot g.row.D-Piece.Denot)). LeavesIn (IsBeside (c.args.self.now).settings c.args.volume) (disks_of c.args.self.now)
     (disks_of (let next : Open g.row.D.Denot g.row.D-Piece.Denot g.row.A.Denot = record store { volumes = vs } in next))) (sym items)
     (called_leaves c.args.self.now store c.args.volume volume c.put.new.self c.self.view_is c.self.invariant at (c.put.ensures.counts).count)
+
+pub returns-clause-kept : goal.returns-clause-kept
+returns-clause-kept g c =
+    let store : Open g.row.D.Denot g.row.D-Piece.Denot g.row.A.Denot = record { settings = c.self.inside.settings; directory = c.self.inside.directory; volumes = c.self.inside.volumes.items; arms = c.self.inside.seats.items } in
+    let within : c.args.volume < length c.self.inside.volumes.items = let same = ap (λ (st : Open g.row.D.Denot g.row.D-Piece.Denot g.row.A.Denot). (st.settings).volumes) c.self.view_is in omega (arith, c.requires.volume, c.self.invariant.many, same) in
+    let volume : Volume g.row.D.Denot g.row.D-Piece.Denot = slice_index_or c.as_mut_slice.result.now c.args.volume c.index-as_mut_slice-volume.result in
+    let at : At store.volumes c.args.volume volume = subst (λ (vs : List (Volume g.row.D.Denot g.row.D-Piece.Denot)). At vs c.args.volume volume) c.as_mut_slice.ensures.value
+    (at_read c.as_mut_slice.result.now c.args.volume c.index-as_mut_slice-volume.result (let long = ap length c.as_mut_slice.ensures.value in omega (arith, within, long))) in
+    let items = with_items_is c.self.inside.volumes (slice_set c.as_mut_slice.result.now c.args.volume c.put.new.self) (length-set c.as_mut_slice.result.now c.args.volume c.put.new.self ∙ c.as_mut_slice.ensures.len)
+    ∙ ap (λ (vs : List (Volume g.row.D.Denot g.row.D-Piece.Denot)). slice_set vs c.args.volume c.put.new.self) c.as_mut_slice.ensures.value in
+    let keeps = λ (same : c.put.new.self ≡ volume). called_same g.D.Disk.files (c.args.self.now).settings c.args.self.now store c.args.volume volume c.put.new.self c.self.view_is at same in
+    subst (λ (vs : List (Volume g.row.D.Denot g.row.D-Piece.Denot)). IfErr c.put.result (PutKeeps (c.args.self.now).settings (contents_in g.D.Disk.files c.args.self.now) (contents_in g.D.Disk.files (let next : Open g.row.D.Denot g.row.D-Piece.Denot g.row.A.Denot = record store { volumes = vs } in next)))) (sym items)
+    (IfErr-weaker c.put.result (λ fault. c.put.result ≡ Err fault) _ (λ fault is. put_keeps (c.args.self.now).settings _ _ fault
+    (λ m e. keeps (c.put.ensures.read_only m (is ∙ ap Err e)))
+    (λ m end need capacity e. keeps (c.put.ensures.full m end need capacity (is ∙ ap Err e)))) (err_is c.put.result))
+
+pub returns-clause-takes : goal.returns-clause-takes
+returns-clause-takes g c = λ takes.
+    let store : Open g.row.D.Denot g.row.D-Piece.Denot g.row.A.Denot = record { settings = c.self.inside.settings; directory = c.self.inside.directory; volumes = c.self.inside.volumes.items; arms = c.self.inside.seats.items } in
+    let within : c.args.volume < length c.self.inside.volumes.items = let same = ap (λ (st : Open g.row.D.Denot g.row.D-Piece.Denot g.row.A.Denot). (st.settings).volumes) c.self.view_is in omega (arith, c.requires.volume, c.self.invariant.many, same) in
+    let volume : Volume g.row.D.Denot g.row.D-Piece.Denot = slice_index_or c.as_mut_slice.result.now c.args.volume c.index-as_mut_slice-volume.result in
+    let at : At store.volumes c.args.volume volume = subst (λ (vs : List (Volume g.row.D.Denot g.row.D-Piece.Denot)). At vs c.args.volume volume) c.as_mut_slice.ensures.value
+    (at_read c.as_mut_slice.result.now c.args.volume c.index-as_mut_slice-volume.result (let long = ap length c.as_mut_slice.ensures.value in omega (arith, within, long))) in
+    let took = takes volume (subst (λ (st : Open g.row.D.Denot g.row.D-Piece.Denot g.row.A.Denot). At st.volumes c.args.volume volume) c.self.view_is at) in
+    c.put.ensures.takes took.0 took.1

@@ -1,13 +1,16 @@
-use Rattle.std.proofs.Common.{◌≡◌, None, Some, length, map, sym, ap, subst, ◌∙◌, refl}
+use Rattle.std.proofs.Common.{◌≡◌, ℕ, List, inl, None, Some, length, map, sym, ap, subst, ◌∙◌, refl}
 use Rattle.std.specs.Prelude.{Ok, Err}
 use Rattle.hay_directory.specs.declared.fault.DirFault.TheVariants as settling
 use Rattle.hay_needle.specs.declared.settings.Settings.{Settings}
 use Rattle.hay_legal.specs.Known.{refusal_of, taker_of}
 use Rattle.hay_script.specs.declared.Command.TheVariants as command
 use Rattle.hay_reply.specs.declared.Reply.{Reply}
+use Rattle.hay_logical.specs.Fits.{At}
+use Rattle.hay_logical.specs.Volumes.{Volume}
 use Rattle.hay_cluster.specs.Causes.{IsCaused}
+use Rattle.hay_cluster.specs.Puts.{TakesPhoto}
 use Rattle.hay_cluster.specs.State.{Answered}
-use Rattle.hay_cluster.specs.Store.{disks_of}
+use Rattle.hay_cluster.specs.Store.{Open, contents_in, disks_of}
 use Rattle.hay_cluster.proofs.Answering.{answered, cause_earlier, not_settled, refusal_same, taker_takes}
 use Rattle.hay_cluster.proofs.Moves.{falls_trans}
 use Rattle.hay_cluster.proofs.Puts.{put_legal}
@@ -16,8 +19,8 @@ use Rattle.hay_cluster.proofs.Suiting.{settle_suits}
 use Rattle.hay_cluster.proofs.Pending.{settle_pending}
 use Rattle.hay_cluster.specs.Pending.{LeavesPut, PendingLines, pending_of}
 use Rattle.std.proofs.lemmas.Result.{IfErr-at_err}
-use Rattle.hay_cluster.specs.Leaving.{IsReplicaBeside, IsReplicaSlot, LeavesIn}
-use Rattle.hay_cluster.proofs.Leaving.{leaves-fewer, leaves-on, settle_tells}
+use Rattle.hay_cluster.specs.Leaving.{IsBeside, IsReplicaBeside, IsReplicaSlot, LeavesIn, MayPut}
+use Rattle.hay_cluster.proofs.Leaving.{leaves-fewer, leaves-on, leaves_contents, same_contents, unsettled_leaves}
 use Rattle.hay_cluster.proofs.cluster.Cluster.put_new.Goals as goal
 
 ok_not_err : {T E : Type 0} (x : T) (y : E) → Ok x ≡ Err y → ⊥
@@ -69,14 +72,24 @@ returns-in-Err-clause-pending g c =
     settle_pending (c.args.self.now).settings c.args.tag.line (pending_of c.args.self.now) (pending_of c.settle.new.self) c.in-Err.fault c.settle_refusal.result c.settle_refusal.ensures.is
     (IfErr-at_err _ c.in-Err.is c.settle.ensures.refused_pending)
 
-pub returns-in-Ok-clause-beside : goal.returns-in-Ok-clause-beside
-returns-in-Ok-clause-beside g c =
-    leaves-on (IsReplicaBeside (c.args.self.now).settings c.args.volume) (disks_of c.args.self.now) (disks_of c.settle.new.self) (disks_of c.put_at.new.self)
-    (leaves-fewer IsReplicaSlot (IsReplicaBeside (c.args.self.now).settings c.args.volume) (disks_of c.args.self.now) (disks_of c.settle.new.self) (λ slot far. far.0) c.settle.ensures.replicas)
-    (subst (λ (s : Settings). LeavesIn (IsReplicaBeside s c.args.volume) (disks_of c.settle.new.self) (disks_of c.put_at.new.self)) c.settle.ensures.settings c.put_at.ensures.beside)
+taken : {D P A : Type 0} (old mid : Open D P A) (v size : ℕ) → mid.volumes ≡ old.volumes → TakesPhoto old v size → TakesPhoto mid v size
+taken {D} {P} {A} old mid v size same takes = λ volume at. takes volume (subst (λ (vs : List (Volume D P)). At vs v volume) same at)
 
-pub returns-in-Err-clause-beside : goal.returns-in-Err-clause-beside
-returns-in-Err-clause-beside g c = leaves-fewer IsReplicaSlot (IsReplicaBeside (c.args.self.now).settings c.args.volume) (disks_of c.args.self.now) (disks_of c.settle.new.self) (λ slot far. far.0) c.settle.ensures.replicas
+pub returns-in-Ok-clause-contents : goal.returns-in-Ok-clause-contents
+returns-in-Ok-clause-contents g c =
+    let may = c.put_at.ensures.takes (taken c.args.self.now c.settle.new.self c.args.volume (length c.args.bytes.now) c.settle.ensures.volumes c.requires.takes) in
+    inl (
+      c.args.volume,
+      subst (λ (s : Settings). MayPut s c.put_at.result c.args.volume) c.settle.ensures.settings may,
+      leaves_contents g.D.Disk.files (c.args.self.now).settings (IsReplicaBeside (c.args.self.now).settings c.args.volume) c.args.self.now c.put_at.new.self
+          (leaves-on (IsReplicaBeside (c.args.self.now).settings c.args.volume) (disks_of c.args.self.now) (disks_of c.settle.new.self) (disks_of c.put_at.new.self)
+          (leaves-fewer IsReplicaSlot (IsReplicaBeside (c.args.self.now).settings c.args.volume) (disks_of c.args.self.now) (disks_of c.settle.new.self) (λ slot far. far.0) c.settle.ensures.replicas)
+          (leaves-fewer (IsBeside (c.args.self.now).settings c.args.volume) (IsReplicaBeside (c.args.self.now).settings c.args.volume) (disks_of c.settle.new.self) (disks_of c.put_at.new.self) (λ slot far. far.1)
+          (subst (λ (s : Settings). LeavesIn (IsBeside s c.args.volume) (disks_of c.settle.new.self) (disks_of c.put_at.new.self)) c.settle.ensures.settings c.put_at.ensures.beside))),
+    )
 
-pub returns-in-Err-clause-tells : goal.returns-in-Err-clause-tells
-returns-in-Err-clause-tells g c = settle_tells c.args.volume c.in-Err.fault c.settle_refusal.result c.settle_refusal.ensures.is
+pub returns-in-Err-clause-contents : goal.returns-in-Err-clause-contents
+returns-in-Err-clause-contents g c =
+    unsettled_leaves (c.args.self.now).settings c.args.volume (contents_in g.D.Disk.files c.args.self.now) (contents_in g.D.Disk.files c.settle.new.self) c.in-Err.fault c.settle_refusal.result c.requires.volume c.settle_refusal.ensures.is
+    (leaves_contents g.D.Disk.files (c.args.self.now).settings IsReplicaSlot c.args.self.now c.settle.new.self c.settle.ensures.replicas)
+    (λ frozen. same_contents g.D.Disk.files (c.args.self.now).settings c.args.self.now c.settle.new.self (c.settle.ensures.refused_frozen (c.in-Err.is ∙ ap Err frozen)))

@@ -4,12 +4,13 @@ use Rattle.hay_legal.specs.Known.{refusal_of, tries_by}
 use Rattle.hay_cluster.specs.declared.put.Tried.{Tried}
 use Rattle.hay_cluster.specs.Puts.{IsTried}
 use Rattle.hay_cluster.proofs.Answering.{answered, stays}
-use Rattle.hay_cluster.specs.Store.{disks_of}
+use Rattle.hay_cluster.specs.Store.{contents_in, disks_of}
 use Rattle.hay_cluster.proofs.Moves.{none_falls}
 use Rattle.hay_cluster.proofs.Puts.{all_refused}
 use Rattle.hay_cluster.proofs.Suiting.{all_refuse, refusal_suits}
 use Rattle.hay_cluster.proofs.Pending.{refusal_no_failure}
-use Rattle.hay_cluster.proofs.Leaving.{leaves-same, refusal_tells}
+use Rattle.hay_cluster.specs.Leaving.{AnySlot}
+use Rattle.hay_cluster.proofs.Leaving.{keeps-all}
 use Rattle.hay_cluster.proofs.cluster.Cluster.put_tried.Goals as goal
 
 pub returns-in-Taker-clause-legal : goal.returns-in-Taker-clause-legal
@@ -37,8 +38,5 @@ returns-in-Nobody-clause-suits g c =
 pub returns-in-Nobody-clause-pending : goal.returns-in-Nobody-clause-pending
 returns-in-Nobody-clause-pending g c = inr (inr (inr (refusal_no_failure _ c.refuse.result c.refuse.ensures.is, refl)))
 
-pub returns-in-Nobody-clause-beside : goal.returns-in-Nobody-clause-beside
-returns-in-Nobody-clause-beside g c = (0, refusal_tells c.in-Nobody.refused c.refuse.result 0 c.refuse.ensures.is, leaves-same _ (disks_of c.args.self.now) (disks_of c.args.self.now) refl)
-
-pub returns-in-Taker-clause-beside : goal.returns-in-Taker-clause-beside
-returns-in-Taker-clause-beside g c = (c.in-Taker.volume, c.put_new.ensures.tells, c.put_new.ensures.beside)
+pub returns-in-Nobody-clause-contents : goal.returns-in-Nobody-clause-contents
+returns-in-Nobody-clause-contents g c = inr (inr (keeps-all (c.args.self.now).settings AnySlot (contents_in g.D.Disk.files c.args.self.now)))

@@ -4,9 +4,6 @@ use Rattle.hay_legal.specs.Plain.{LegalShow}
 use Rattle.hay_cluster.proofs.Answering.{answered}
 use Rattle.hay_cluster.proofs.Sure.{same_sure}
 use Rattle.hay_cluster.specs.Suiting.{ShowsFrom}
-use Rattle.hay_reply.specs.declared.Reply.TheVariants.{Unknown}
-use Rattle.hay_cluster.specs.Store.{disks_of}
-use Rattle.hay_cluster.proofs.Leaving.{leaves-same, memory_tells, show_tells, tells-none}
 use Rattle.hay_cluster.proofs.cluster.Cluster.read.Goals as goal
 
 pub returns-clause-legal : goal.returns-clause-legal
@@ -28,16 +25,3 @@ returns-clause-suits g c =
       | inl shows ↦ inr (inl (c.in-Some.volume, (c.in-Some.ensures).within, subst (λ start. ShowsFrom (c.args.self.now).settings start c.in-Some.volume c.show.result) c.start_of-start.ensures.is shows))
       | inr none ↦ inr (inr none)
     ]
-
-pub returns-in_default-clause-beside : goal.returns-in_default-clause-beside
-returns-in_default-clause-beside g c = (0, tells-none (Unknown c.rows.result) 0 refl, leaves-same _ (disks_of c.args.self.now) (disks_of c.args.self.now) refl)
-
-pub returns-clause-beside : goal.returns-clause-beside
-returns-clause-beside g c = (
-  c.in-Some.volume,
-  elim c.show.ensures.here [
-    | inl shows ↦ show_tells (c.args.self.now).settings c.start_of-start.result c.in-Some.volume c.show.result shows
-    | inr none ↦ memory_tells c.show.result c.in-Some.volume none
-  ],
-  c.show.ensures.beside,
-)

@@ -14,7 +14,6 @@ use Rattle.hay_cluster.specs.Causes.{Counts}
 use Rattle.hay_cluster.specs.Reads.{IsWhole, counts_of, outcomes_of}
 use Rattle.hay_cluster.specs.State.{Stands}
 use Rattle.hay_cluster.specs.Store.{IsUp, Open, disks_of}
-use Rattle.hay_cluster.proofs.Rooms.{begin_room, item_room, looked_room, places_room, row_room}
 use Rattle.hay_cluster.proofs.Lists.{length-set}
 use Rattle.hay_cluster.proofs.Moves.{volume_of, volume_stood}
 use Rattle.hay_cluster.proofs.Showing.{answers_say, counts_at, later_set, row_may_mean, row_read, row_stops, seat_comes}
@@ -34,13 +33,6 @@ offset_bounds-as_mut_slice-lane g c =
     let long = ap length c.as_mut_slice.ensures.value in
     scaled_Fits c.args.lane (length c.as_mut_slice.result.now) _ (omega (arith, inside, long)) c.as_mut_slice.type_inv.1
 
-pub look-front-requires : goal.look-front-requires
-look-front-requires g c =
-    let within : c.args.volume < length c.self.inside.volumes.items = let same = ap (λ (st : Open g.row.D.Denot g.row.D-Piece.Denot g.row.A.Denot). (st.settings).volumes) c.self.view_is in omega (arith, c.requires.volume, c.self.invariant.many, same) in
-    let long = ap length c.as_slice.ensures.value in
-    let room = item_room (length c.as_slice.result.now) _ (let some : 0 < length c.as_slice.result.now = omega (arith, within, long) in some) c.as_slice.type_inv.1 in
-    (room, looked_room _ _ (omega arith) (begin_room _ _ _ room))
-
 pub show-read-requires : goal.show-read-requires
 show-read-requires g c =
     let store : Open g.row.D.Denot g.row.D-Piece.Denot g.row.A.Denot = record { settings = c.self.inside.settings; directory = c.self.inside.directory; volumes = c.self.inside.volumes.items; arms = c.self.inside.seats.items } in
@@ -51,10 +43,8 @@ show-read-requires g c =
     (at_read c.as_slice.result.now c.args.volume volume (let long = ap length c.as_slice.ensures.value in omega (arith, within, long)))) in
     let was = volume_of store c.args.volume volume c.self.invariant at in
     let same = was.settings_are ∙ ap (λ (st : Open g.row.D.Denot g.row.D-Piece.Denot g.row.A.Denot). st.settings) c.self.view_is in
-    let long = ap length c.as_slice.ensures.value in
-    let room = item_room (length c.as_slice.result.now) _ (let some : 0 < length c.as_slice.result.now = omega (arith, within, long) in some) c.as_slice.type_inv.1 in
     let start : c.args.start < length c.look-front.result.row = let row = c.look-front.ensures.long ∙ ap (λ (s : Settings). s.replicas) same in omega (arith, c.requires.start, row) in
-    (row_room _ _ (begin_room _ _ _ room), (start, (c.requires.empty, c.requires.room)))
+    record { start = start; empty = c.requires.empty; room = c.requires.room }
 
 pub returns-clause-says : goal.returns-clause-says
 returns-clause-says g c = λ tells k stands.
@@ -146,13 +136,6 @@ invariant_of-self g c =
       volumes = c.self.invariant.volumes;
       lanes = length-set c.self.inside.seats.items c.args.lane c.show-read.new.self ∙ c.self.invariant.lanes;
     })
-
-pub array_drop-row-inside-requires : goal.array_drop-row-inside-requires
-array_drop-row-inside-requires g c =
-    let within : c.args.volume < length c.self.inside.volumes.items = let same = ap (λ (st : Open g.row.D.Denot g.row.D-Piece.Denot g.row.A.Denot). (st.settings).volumes) c.self.view_is in omega (arith, c.requires.volume, c.self.invariant.many, same) in
-    let long = ap length c.as_slice.ensures.value in
-    let room = item_room (length c.as_slice.result.now) _ (let some : 0 < length c.as_slice.result.now = omega (arith, within, long) in some) c.as_slice.type_inv.1 in
-    places_room _ _ _ _ _ (row_room _ _ (begin_room _ _ _ room))
 
 pub returns-clause-sure : goal.returns-clause-sure
 returns-clause-sure g c = λ one at sure.

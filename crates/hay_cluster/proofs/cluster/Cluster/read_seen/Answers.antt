@@ -14,7 +14,6 @@ use Rattle.hay_reader.proofs.Outcomes.{answers_row}
 use Rattle.hay_cluster.specs.Reads.{outcomes_of}
 use Rattle.hay_cluster.specs.State.{Stands}
 use Rattle.hay_cluster.specs.Store.{Open}
-use Rattle.hay_cluster.proofs.Rooms.{begin_room, item_room, looked_room, places_room, row_room}
 use Rattle.hay_cluster.proofs.Moves.{volume_of, volume_stood}
 use Rattle.hay_cluster.proofs.Showing.{answers_say, can_show, its_photo, row_may_mean}
 use Rattle.hay_cluster.proofs.cluster.Cluster.read_seen.Goals as goal
@@ -24,20 +23,6 @@ offset_bounds-as_slice-volume g c =
     let within : c.args.volume < length c.self.inside.volumes.items = let same = ap (λ (st : Open g.row.D.Denot g.row.D-Piece.Denot g.row.A.Denot). (st.settings).volumes) c.self.view_is in omega (arith, c.requires.volume, c.self.invariant.many, same) in
     let long = ap length c.as_slice.ensures.value in
     omega (arith, within, long)
-
-pub look-row-requires : goal.look-row-requires
-look-row-requires g c =
-    let within : c.args.volume < length c.self.inside.volumes.items = let same = ap (λ (st : Open g.row.D.Denot g.row.D-Piece.Denot g.row.A.Denot). (st.settings).volumes) c.self.view_is in omega (arith, c.requires.volume, c.self.invariant.many, same) in
-    let long = ap length c.as_slice.ensures.value in
-    let room = item_room (length c.as_slice.result.now) _ (let some : 0 < length c.as_slice.result.now = omega (arith, within, long) in some) c.as_slice.type_inv.1 in
-    (room, looked_room _ _ (omega arith) (begin_room _ _ _ room))
-
-pub array_drop-row-inside-requires : goal.array_drop-row-inside-requires
-array_drop-row-inside-requires g c =
-    let within : c.args.volume < length c.self.inside.volumes.items = let same = ap (λ (st : Open g.row.D.Denot g.row.D-Piece.Denot g.row.A.Denot). (st.settings).volumes) c.self.view_is in omega (arith, c.requires.volume, c.self.invariant.many, same) in
-    let long = ap length c.as_slice.ensures.value in
-    let room = item_room (length c.as_slice.result.now) _ (let some : 0 < length c.as_slice.result.now = omega (arith, within, long) in some) c.as_slice.type_inv.1 in
-    places_room _ _ _ _ _ (row_room _ _ (begin_room _ _ _ room))
 
 pub show_seen-requires : goal.show_seen-requires
 show_seen-requires g c =
@@ -49,8 +34,6 @@ show_seen-requires g c =
     (at_read c.as_slice.result.now c.args.volume volume (let long = ap length c.as_slice.ensures.value in omega (arith, within, long)))) in
     let was = volume_of store c.args.volume volume c.self.invariant at in
     let same = was.settings_are ∙ ap (λ (st : Open g.row.D.Denot g.row.D-Piece.Denot g.row.A.Denot). st.settings) c.self.view_is in
-    let long = ap length c.as_slice.ensures.value in
-    let room = item_room (length c.as_slice.result.now) _ (let some : 0 < length c.as_slice.result.now = omega (arith, within, long) in some) c.as_slice.type_inv.1 in
     let row : length c.look-row.result.row ≡ ((c.args.self.now).settings).replicas = c.look-row.ensures.long ∙ ap (λ (s : Settings). s.replicas) same in
     let there : At (c.args.self.now).volumes c.args.volume volume = subst (λ (st : Open g.row.D.Denot g.row.D-Piece.Denot g.row.A.Denot). At st.volumes c.args.volume volume) c.self.view_is at in
     let by : IsSeenBy g.D.Disk.Tells g.D.Piece.Piece.Tells c.args.needle.now (place_in c.look-row.result.row ((c.args.start + length c.args.passed) % length c.look-row.result.row)) =
@@ -60,7 +43,7 @@ show_seen-requires g c =
     let start : c.args.start < length c.look-row.result.row = omega (arith, c.requires.start, row) in
     let first : ComeFirst c.args.start (length c.look-row.result.row) c.args.passed = subst (λ n. ComeFirst c.args.start n c.args.passed) (sym row) c.requires.first in
     let fewer : length c.args.passed < length c.look-row.result.row = omega (arith, c.requires.fewer, row) in
-    (row_room _ _ (begin_room _ _ _ room), (start, (first, (fewer, (can_show g.D.Disk.Tells g.D.Piece.Piece.Tells c.args.needle.now _ by, (c.requires.empty, c.requires.room))))))
+    record { start = start; first = first; fewer = fewer; needle = can_show g.D.Disk.Tells g.D.Piece.Piece.Tells c.args.needle.now _ by; empty = c.requires.empty; room = c.requires.room }
 
 pub returns-clause-says : goal.returns-clause-says
 returns-clause-says g c = λ tells k stands.

@@ -14,15 +14,14 @@ use Rattle.hay_logical.proofs.Lists.{at_read}
 use Rattle.hay_needle.specs.declared.settings.Settings.{Settings}
 use Rattle.hay_legal.specs.Known.{volume_at}
 use Rattle.hay_cluster.specs.State.{Stands}
-use Rattle.hay_cluster.specs.Store.{Open, disks_of}
+use Rattle.hay_cluster.specs.Store.{Open, contents_in}
 use Rattle.hay_cluster.proofs.Calls.{called_open, called_up}
-use Rattle.hay_cluster.proofs.Rooms.{begin_room, item_room, looked_room, places_room, row_room}
 use Rattle.hay_cluster.proofs.Lists.{length-set}
 use Rattle.hay_cluster.proofs.Moves.{Called, called_fuses, called_later, called_shape, volume_of, volume_stood}
 use Rattle.hay_cluster.proofs.Showing.{seen_by_in, seen_in, seen_there, sight_comes, sight_fault, sight_others}
 use Rattle.hay_cluster.proofs.Pending.{called_kept}
-use Rattle.hay_cluster.specs.Leaving.{IsBeside, LeavesIn}
-use Rattle.hay_cluster.proofs.Leaving.{called_leaves}
+use Rattle.hay_cluster.specs.Leaving.{AnySlot, KeepsIn}
+use Rattle.hay_cluster.proofs.Leaving.{called_keeps}
 use Rattle.hay_cluster.proofs.cluster.Cluster.see_in.Goals as goal
 use Rattle.hay_cluster.proofs.cluster.Cluster.see_in.Goals.{in-Ok, in-Err}
 
@@ -39,18 +38,9 @@ see-requires g c =
     let volume : Volume g.row.D.Denot g.row.D-Piece.Denot = slice_index_or c.as_mut_slice.result.now c.args.volume c.index-as_mut_slice-volume.result in
     let at : At store.volumes c.args.volume volume = subst (λ (vs : List (Volume g.row.D.Denot g.row.D-Piece.Denot)). At vs c.args.volume volume) c.as_mut_slice.ensures.value
     (at_read c.as_mut_slice.result.now c.args.volume c.index-as_mut_slice-volume.result (let long = ap length c.as_mut_slice.ensures.value in omega (arith, within, long))) in
-    let long = ap length c.as_mut_slice.ensures.value in
-    let room = item_room (length c.as_mut_slice.result.now) _ (let some : 0 < length c.as_mut_slice.result.now = omega (arith, within, long) in some) c.as_mut_slice.type_inv.1 in
     let was = volume_of store c.args.volume volume c.self.invariant at in
     let same = was.settings_are ∙ ap (λ (st : Open g.row.D.Denot g.row.D-Piece.Denot g.row.A.Denot). st.settings) c.self.view_is in
-    (room, (looked_room _ _ (omega arith) (begin_room _ _ _ room), (subst (λ (t : Settings). c.args.replica < t.replicas) (sym same) c.requires.replica, called_open c.args.self.now store c.args.volume volume c.self.view_is at c.requires.up)))
-
-pub array_drop-see-requires : goal.array_drop-see-requires
-array_drop-see-requires g c =
-    let within : c.args.volume < length c.self.inside.volumes.items = let same = ap (λ (st : Open g.row.D.Denot g.row.D-Piece.Denot g.row.A.Denot). (st.settings).volumes) c.self.view_is in omega (arith, c.requires.volume, c.self.invariant.many, same) in
-    let long = ap length c.as_mut_slice.ensures.value in
-    let room = item_room (length c.as_mut_slice.result.now) _ (let some : 0 < length c.as_mut_slice.result.now = omega (arith, within, long) in some) c.as_mut_slice.type_inv.1 in
-    places_room _ _ _ _ _ (row_room _ _ (begin_room _ _ _ room))
+    record { within = subst (λ (t : Settings). c.args.replica < t.replicas) (sym same) c.requires.replica; «open» = called_open c.args.self.now store c.args.volume volume c.self.view_is at c.requires.up }
 
 pub invariant_of-self : goal.invariant_of-self
 invariant_of-self g c =
@@ -204,8 +194,8 @@ returns-clause-needle g c = λ unseen.
       | in-Err w ↦ rw w.result-is tt
     ]
 
-pub returns-clause-beside : goal.returns-clause-beside
-returns-clause-beside g c =
+pub returns-clause-contents : goal.returns-clause-contents
+returns-clause-contents g c = λ tells.
     let store : Open g.row.D.Denot g.row.D-Piece.Denot g.row.A.Denot = record { settings = c.self.inside.settings; directory = c.self.inside.directory; volumes = c.self.inside.volumes.items; arms = c.self.inside.seats.items } in
     let within : c.args.volume < length c.self.inside.volumes.items = let same = ap (λ (st : Open g.row.D.Denot g.row.D-Piece.Denot g.row.A.Denot). (st.settings).volumes) c.self.view_is in omega (arith, c.requires.volume, c.self.invariant.many, same) in
     let volume : Volume g.row.D.Denot g.row.D-Piece.Denot = slice_index_or c.as_mut_slice.result.now c.args.volume c.index-as_mut_slice-volume.result in
@@ -213,6 +203,5 @@ returns-clause-beside g c =
     (at_read c.as_mut_slice.result.now c.args.volume c.index-as_mut_slice-volume.result (let long = ap length c.as_mut_slice.ensures.value in omega (arith, within, long))) in
     let items = with_items_is c.self.inside.volumes (slice_set c.as_mut_slice.result.now c.args.volume c.see.new.self) (length-set c.as_mut_slice.result.now c.args.volume c.see.new.self ∙ c.as_mut_slice.ensures.len)
     ∙ ap (λ (vs : List (Volume g.row.D.Denot g.row.D-Piece.Denot)). slice_set vs c.args.volume c.see.new.self) c.as_mut_slice.ensures.value in
-    subst (λ (vs : List (Volume g.row.D.Denot g.row.D-Piece.Denot)). LeavesIn (IsBeside (c.args.self.now).settings c.args.volume) (disks_of c.args.self.now)
-    (disks_of (let next : Open g.row.D.Denot g.row.D-Piece.Denot g.row.A.Denot = record store { volumes = vs } in next))) (sym items)
-    (called_leaves c.args.self.now store c.args.volume volume c.see.new.self c.self.view_is c.self.invariant at (c.see.ensures.counts).count)
+    subst (λ (vs : List (Volume g.row.D.Denot g.row.D-Piece.Denot)). KeepsIn (c.args.self.now).settings AnySlot (contents_in g.D.Disk.files c.args.self.now) (contents_in g.D.Disk.files (let next : Open g.row.D.Denot g.row.D-Piece.Denot g.row.A.Denot = record store { volumes = vs } in next))) (sym items)
+    (called_keeps g.D.Disk.files g.D.Disk.Tells (c.args.self.now).settings c.args.self.now store c.args.volume volume c.see.new.self tells c.self.view_is at (c.see.ensures.counts).count c.see.ensures.files)

@@ -1,5 +1,5 @@
 use Rattle.std.proofs.Common.{◌≡◌, ◌++◌, ◌∷◌, [], None, Bool, List, map, sym, ap, subst, ◌∙◌, inl, inr}
-use Rattle.std.proofs.lemmas.Result.{on_ok_weaker, IfErr-weaker}
+use Rattle.std.proofs.lemmas.Result.{on_ok_weaker}
 use Rattle.std.proofs.lemmas.Bool.{cases_Bool}
 use Rattle.std.specs.List.{flat_map}
 use Rattle.hay_legal.specs.declared.known.DirKnown.{DirKnown}
@@ -8,14 +8,24 @@ use Rattle.hay_cluster.specs.Store.{Open, disks_of, volume_disks}
 use Rattle.hay_legal.specs.Known.{home_in, settled, settled_by}
 use Rattle.hay_disk.specs.Disk.{Files}
 use Rattle.hay_legal.specs.declared.known.HomeRow.{HomeRow}
-use Rattle.hay_directory.specs.State.{State, Stands as DirectoryStands, home_of, is_frozen}
+use Rattle.hay_directory.specs.State.{IsFrozen, IsUp, LeavesMode, State, Stands as DirectoryStands, home_of, is_frozen}
 use Rattle.hay_directory.proofs.Standing.{stands_frozen, stands_home}
+use Rattle.std.specs.Prelude.{Result, Ok, Err, IfErr, IsErrOf}
+use Rattle.hay_directory.specs.declared.fault.DirFault.{DirFault}
+use Rattle.hay_directory.specs.declared.fault.DirFault.TheVariants as settling
+use Rattle.hay_directory.specs.declared.mode.Unsure.{Unsure as UnsureRow}
 use Rattle.hay_cluster.specs.Causes.{RoseIn}
+use Rattle.hay_cluster.specs.Pending.{RowLeft, pending_of}
 use Rattle.hay_cluster.specs.State.{Stands}
-use Rattle.hay_cluster.proofs.Moves.{directory_fuses, directory_stood, in_directory, none_falls}
+use Rattle.hay_cluster.proofs.Moves.{directory_fuses, directory_stood, in_directory, none_falls, with_directory}
 use Rattle.hay_cluster.proofs.Pending.{directory_kept, row_left}
-use Rattle.hay_cluster.proofs.Leaving.{directory_leaves}
+use Rattle.hay_cluster.proofs.Leaving.{directory_leaves, directory_same}
 use Rattle.hay_cluster.proofs.cluster.Cluster.settle.Goals as goal
+
+refused_row : {D P A T : Type 0} (old store : Open D P A) (after : State D) (row : UnsureRow) (r : Result T DirFault) → store ≡ old → IsUp old.directory
+    → (IsFrozen store.directory → IsErrOf r settling.Frozen) → IfErr r (LeavesMode row (store.directory).mode after.mode) → IfErr r (RowLeft (row.tag).line (pending_of old) (pending_of (with_directory store after)))
+refused_row old store after row (Ok x) is up frozen left = tt
+refused_row old store after row (Err fault) is up frozen left = row_left old store after row fault is up (λ f. let same = frozen f in cc) left
 
 pub returns-clause-settled : goal.returns-clause-settled
 returns-clause-settled g c = λ tells k stands.
@@ -89,9 +99,17 @@ returns-clause-settled_pending g c =
 pub returns-clause-refused_pending : goal.returns-clause-refused_pending
 returns-clause-refused_pending g c =
     let store : Open g.row.D.Denot g.row.D-Piece.Denot g.row.A.Denot = record { settings = c.self.inside.settings; directory = c.self.inside.directory; volumes = c.self.inside.volumes.items; arms = c.self.inside.seats.items } in
-    IfErr-weaker c.settle.result _ _ (λ fault left. row_left c.args.self.now store c.settle.new.self _ fault c.self.view_is left) c.settle.ensures.refused_mode
+    refused_row c.args.self.now store c.settle.new.self _ c.settle.result c.self.view_is c.requires.up.directory c.settle.ensures.frozen c.settle.ensures.refused_mode
 
 pub returns-clause-replicas : goal.returns-clause-replicas
 returns-clause-replicas g c =
     let store : Open g.row.D.Denot g.row.D-Piece.Denot g.row.A.Denot = record { settings = c.self.inside.settings; directory = c.self.inside.directory; volumes = c.self.inside.volumes.items; arms = c.self.inside.seats.items } in
     directory_leaves c.args.self.now store c.settle.new.self c.self.view_is
+
+pub returns-clause-refused_frozen : goal.returns-clause-refused_frozen
+returns-clause-refused_frozen g c = λ refused.
+    let store : Open g.row.D.Denot g.row.D-Piece.Denot g.row.A.Denot = record { settings = c.self.inside.settings; directory = c.self.inside.directory; volumes = c.self.inside.volumes.items; arms = c.self.inside.seats.items } in
+    directory_same c.args.self.now store c.settle.new.self c.self.view_is (ap (λ (d : State g.row.D.Denot). d.disk) (c.settle.ensures.only_frozen refused).1)
+
+pub returns-clause-volumes : goal.returns-clause-volumes
+returns-clause-volumes g c = ap (λ (st : Open g.row.D.Denot g.row.D-Piece.Denot g.row.A.Denot). st.volumes) c.self.view_is

@@ -14,7 +14,6 @@ use Rattle.hay_cluster.proofs.Moves.{none_falls}
 use Rattle.hay_cluster.proofs.Showing.{passed_in_order, passed_over, read_shown, read_unreadable, to_below}
 use Rattle.hay_cluster.proofs.Sure.{same_sure, unreadable_told}
 use Rattle.hay_cluster.proofs.Suiting.{on_machine}
-use Rattle.hay_cluster.proofs.Leaving.{leaves-same}
 use Rattle.hay_cluster.proofs.cluster.Cluster.show.Goals as goal
 
 pub returns-in_default-clause-shown : goal.returns-in_default-clause-shown
@@ -172,6 +171,3 @@ returns-in-Unreadable-clause-here g c = inr refl
 
 pub returns-clause-here : goal.returns-clause-here
 returns-clause-here g c = inr refl
-
-pub returns-in_default-clause-beside : goal.returns-in_default-clause-beside
-returns-in_default-clause-beside g c = leaves-same _ (disks_of c.args.self.now) (disks_of c.args.self.now) refl

@@ -1,4 +1,4 @@
-use Rattle.std.proofs.Common.{◌≡◌, ◌++◌, List, length, take, drop, refl, sym, subst, arith, ◌<◌, ap}
+use Rattle.std.proofs.Common.{◌≡◌, ◌++◌, List, length, take, drop, refl, sym, subst, arith, ap}
 use Rattle.std.proofs.lemmas.List.{take_at}
 use Rattle.std.specs.List.{AllZip}
 use Rattle.hay_directory.specs.State.{unsure_of}
@@ -6,7 +6,6 @@ use Rattle.hay_logical.specs.Volumes.{Volume}
 use Rattle.hay_cluster.specs.Draws.{StopsDrawing}
 use Rattle.hay_cluster.specs.Opening.{StopsDirectory, StopsVolume}
 use Rattle.hay_cluster.specs.Store.{IsShaped, Open}
-use Rattle.hay_cluster.proofs.Lists.{one_fits}
 use Rattle.hay_cluster.proofs.OpeningStore.{StoppedParts, shape_stopped}
 use Rattle.hay_cluster.proofs.cluster.Cluster.stop.Goals as goal
 
@@ -50,11 +49,6 @@ returns-clause-volumes g c =
     let zipped : AllZip (StopsVolume g.D.Disk.Tells g.D.Disk.files g.D.Piece.Piece.Tells g.D.Disk.fault_count g.D.Disk.fuse_count) items vs = subst (λ (l : List (Volume g.row.D.Denot g.row.D-Piece.Denot)). AllZip (StopsVolume g.D.Disk.Tells g.D.Disk.files g.D.Piece.Piece.Tells g.D.Disk.fault_count g.D.Disk.fuse_count) l vs) c.as_mut_slice.ensures.value c.stop_volumes.ensures.stops in
     subst (λ (st : Open g.row.D.Denot g.row.D-Piece.Denot g.row.A.Denot). AllZip (StopsVolume g.D.Disk.Tells g.D.Disk.files g.D.Piece.Piece.Tells g.D.Disk.fault_count g.D.Disk.fuse_count) st.volumes (take c.self.inside.volumes.len (vs ++ drop (length vs) items))) c.self.view_is
     (subst (λ (l : List (Volume g.row.D.Denot g.row.D-Piece.Denot)). AllZip (StopsVolume g.D.Disk.Tells g.D.Disk.files g.D.Piece.Piece.Tells g.D.Disk.fault_count g.D.Disk.fuse_count) items l) (sym whole) zipped)
-
-pub stop_volumes-requires : goal.stop_volumes-requires
-stop_volumes-requires g c =
-    let some : 0 < length c.as_mut_slice.result.now = omega (arith, c.as_mut_slice.ensures.len, c.self.inside.volumes.ok.0, c.self.invariant.many, c.self.invariant.built.some_volumes) in
-    one_fits (length c.as_mut_slice.result.now) _ some c.as_mut_slice.type_inv.1
 
 pub returns-clause-drawn : goal.returns-clause-drawn
 returns-clause-drawn g c = λ tells.
