@@ -1,11 +1,12 @@
 #!/usr/bin/env python3
 """Counts the instructions of a put and of a read, as multiples of those of their own SHA-256, by valgrind's callgrind.
 
-    bench/sums.py [--program PATH] [--words WORDS] [--size BYTES] [--photos N]
+    bench/sums.py [--program PATH] [--words WORDS] [--size BYTES] [--photos N] [--folder PATH]
 
 Three scripts are run: one that asks for nothing, one of N puts of photos of so many bytes, and one of the same puts with a read of each
 behind them. A put costs what the second counts above the first, and a read what the third counts above the second. The part of SHA-256
-is what the functions of `sha2` count of it. Neither depends on other work on the machine.
+is what the functions of `sha2` count of it. Neither depends on other work on the machine. With --folder each run has real files, in a new
+folder below PATH; without it the disks in memory count too, some 18 instructions for each byte that is put.
 """
 
 import argparse
@@ -26,7 +27,9 @@ def counted(options, folder, lines):
     script, transcript, counts = folder / "script", folder / "transcript", folder / "counts"
     script.write_text("".join(lines), encoding="ascii")
     command = ["valgrind", "--quiet", "--tool=callgrind", f"--callgrind-out-file={counts}", options.program, *options.words.split()]
-    with open(script, "rb") as source, open(transcript, "wb") as sink:
+    with tempfile.TemporaryDirectory(prefix="haystack-sums-", dir=options.folder) as store, open(script, "rb") as source, open(transcript, "wb") as sink:
+        if options.folder is not None:
+            command += ["--folder", store]
         subprocess.run(command, stdin=source, stdout=sink, check=True)
     listed = subprocess.run(["callgrind_annotate", "--threshold=100", counts], capture_output=True, text=True, check=True).stdout
     costs = [(int(found[1].replace(",", "")), found[2]) for found in map(LINE.match, listed.splitlines()) if found]
@@ -40,6 +43,7 @@ def main():
     parser.add_argument("--words", default=f"run --capacity {1024 * MIB}")
     parser.add_argument("--size", type=int, default=65_536)
     parser.add_argument("--photos", type=int, default=16)
+    parser.add_argument("--folder")
     options = parser.parse_args()
     if not os.access(options.program, os.X_OK):
         sys.exit(f"{options.program} is not there: cd crates/haystack && rt run -- run < stdin")
