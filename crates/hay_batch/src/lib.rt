@@ -2,6 +2,9 @@
 //! It stands on `hay_base`, `hay_needle`, `hay_disk`, `byteorder`, `hay_mount`, `hay_head`, `hay_volume`, `hay_dirfile`,
 //! `hay_index`, `hay_map` and `hay_open`.
 //!
+//! A store is opened on the disks of a shelf, all of them or none, and closed: then, and at a refusal, the shelf has them
+//! again.
+//!
 //! A batch's needles are added to a volume file by one gated append, and so are its rows to a journal: whatever a stop
 //! leaves has all of them or none. A batch is loaded into a store by adding its needles to each replica of the first volume
 //! that has room for it, and then its rows to the Directory's journal. So whatever a stop leaves has no row of the batch, or
