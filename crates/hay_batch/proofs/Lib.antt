@@ -9,3 +9,9 @@ pub mod StoreLaws
 pub mod Loading
 pub mod Showing
 pub mod Openings
+pub mod SlotLaws
+pub mod FillingLaws
+pub mod ShelfLaws
+pub mod Closing
+pub mod OpenedLaws
+pub mod StoredLaws

@@ -1,6 +1,6 @@
 -- Items by their places, and lists whose items are called in order.
 use Rattle.std.proofs.Common.{◌≡◌, ◌≢◌, ◌⊎◌, inl, inr, ℕ, zero, suc, ◌+◌, ◌<◌, ◌≤◌, List, [], ◌∷◌, ◌++◌, length, Some, refl, sym, ap, subst, ◌∙◌, arith}
-use Rattle.std.specs.Prelude.{slice_get, slice_set, slice_index_or}
+use Rattle.std.specs.Prelude.{slice_get, slice_set, slice_index_or, Result, Err, IfErr}
 use Rattle.std.proofs.lemmas.Bool.{cases_lt}
 use Rattle.hay_batch.specs.Replicas.{At}
 
@@ -51,6 +51,10 @@ at_either (y ∷ xs) z (suc j) x e = elim (at_either xs z j x e) [
   | inl h ↦ inl h
   | inr h ↦ inr (let e : suc j ≡ suc (length xs) = ap suc h.0 in e, h.1)
 ]
+
+-- the exit of a `?`
+pub passed_on : {T E : Type 0} (r : Result T E) (Q : E → Type 0) (fault y : E) → r ≡ Err y → y ≡ fault → Q fault → IfErr r Q
+passed_on r Q fault y e is q = subst (λ s. IfErr s Q) (sym e) (subst Q (sym is) q)
 
 -- ITEMS IN ORDER
 

@@ -27,11 +27,11 @@ use Rattle.hay_batch.proofs.Lists.{at_below, at_same, at_there}
 use Rattle.hay_batch.proofs.RowRuns.{journal_kept}
 
 -- an image of a replica has its cells
-held_image : {D : Type 0} (files : D → Files) (superblock : List ℕ) (cells : List Cell) (r : LoadReplica D) (image : List ℕ) → Holds files superblock cells r → IsImage (file_of files r) image → IsVolume superblock image cells r.volume.end
+pub held_image : {D : Type 0} (files : D → Files) (superblock : List ℕ) (cells : List Cell) (r : LoadReplica D) (image : List ℕ) → Holds files superblock cells r → IsImage (file_of files r) image → IsVolume superblock image cells r.volume.end
 held_image files superblock cells r image has leaves = volume_kept superblock (file_of files r) image cells r.volume.end has.ready has.is (λ k from to. has.solid.places k) leaves
 
 -- each replica that the settings say is there
-replica_there : {D : Type 0} (store : LoadStore D) (v j : ℕ) → IsShaped store → v < store.settings.volumes → j < store.settings.replicas → (r : LoadReplica D) × ReplicaAt store v j r
+pub replica_there : {D : Type 0} (store : LoadStore D) (v j : ℕ) → IsShaped store → v < store.settings.volumes → j < store.settings.replicas → (r : LoadReplica D) × ReplicaAt store v j r
 replica_there store v j shape below within =
     let w = at_there store.volumes.items v (let less : v < length store.volumes.items = omega (arith, shape.volumes) in less) in
     let r = at_there w.0.replicas.items j (let less : j < length w.0.replicas.items = omega (arith, shape.replicas v w.0 w.1) in less) in
@@ -233,6 +233,7 @@ pub files_same : {D : Type 0} (files : D → Files) (store : LoadStore D) → Ke
 files_same {D} files store = record {
   directory = λ other apart. refl;
   numbers = λ v j r r' was is. ap (λ (x : LoadReplica D). x.volume.file) (sym (one_replica store v j r r' was is));
+  rooms = λ v j r r' was is. ap (λ (x : LoadReplica D). x.volume.capacity) (sym (one_replica store v j r r' was is));
   replicas = λ v j r r' was is other apart. ap (λ (x : LoadReplica D). files x.disk other) (sym (one_replica store v j r r' was is));
 }
 
@@ -244,6 +245,10 @@ files_kept {D} files v photos old new d touched may directory = record {
   numbers = λ u j r r' was is. elim (eqb_tells u v) [
     | inl same ↦ (may j r r' (subst (λ n. ReplicaAt old n j r) same.1 was) (subst (λ n. ReplicaAt new n j r') same.1 is)).file
     | inr apart ↦ ap (λ (x : LoadReplica D). x.volume.file) (touched.others u j r r' apart.1 was is)
+  ];
+  rooms = λ u j r r' was is. elim (eqb_tells u v) [
+    | inl same ↦ (may j r r' (subst (λ n. ReplicaAt old n j r) same.1 was) (subst (λ n. ReplicaAt new n j r') same.1 is)).room
+    | inr apart ↦ ap (λ (x : LoadReplica D). x.volume.capacity) (touched.others u j r r' apart.1 was is)
   ];
   replicas = λ u j r r' was is. elim (eqb_tells u v) [
     | inl same ↦ (may j r r' (subst (λ n. ReplicaAt old n j r) same.1 was) (subst (λ n. ReplicaAt new n j r') same.1 is)).others

@@ -1,20 +1,55 @@
 -- What was opened, as what a store holds.
-use Rattle.std.proofs.Common.{◌≡◌, sym, subst, ap}
+use Rattle.std.proofs.Common.{◌≡◌, List, [], ℕ, length, ap, subst, ◌∙◌}
+use Rattle.std.specs.Option.{option_or}
+use Rattle.hay_needle.specs.declared.needle.Pair.{Pair}
+use Rattle.hay_needle.specs.declared.settings.Settings.{Settings}
 use Rattle.hay_needle.specs.declared.settings.Super.{Super}
 use Rattle.hay_needle.specs.Super.{super_bytes}
-use Rattle.hay_disk.specs.Disk.{Files}
-use Rattle.hay_volume.specs.declared.volume.VolumeFile.{VolumeFile}
+use Rattle.hay_disk.specs.Disk.{Files, IsSolid}
+use Rattle.hay_dirfile.specs.Journal.{IsJournal, journal_end}
+use Rattle.hay_dirfile.specs.declared.row.DirRow.{DirRow}
 use Rattle.hay_open.specs.declared.opened.Opened.{Opened}
 use Rattle.hay_open.specs.Finds.{OpenedAs}
-use Rattle.hay_open.specs.Stored.{Stored, volume_super}
-use Rattle.hay_batch.specs.declared.replica.LoadReplica.{LoadReplica}
-use Rattle.hay_batch.specs.Replicas.{Holds}
+use Rattle.hay_open.specs.Stored.{Stored}
+use Rattle.hay_batch.specs.declared.opening.OpenJournal.{OpenJournal}
+use Rattle.hay_batch.specs.Directories.{HoldsRows}
+use Rattle.hay_batch.specs.Directories as directories
+use Rattle.hay_batch.specs.Homes.{AreHomes, home_among, home_in}
+use Rattle.hay_batch.specs.Openings.{directory_of, journal_super}
+use Rattle.hay_batch.specs.Shelves.{IsOpenAs}
+use Rattle.hay_batch.specs.Slots.{replica_of}
 
-pub opened_holds : {D P : Type 0} (files : D → Files) (disk : D) (sup : Super) (s : Stored) (opened : Opened P) → OpenedAs sup (files disk) opened s
-    → Holds files (super_bytes (volume_super sup s.generation)) s.cells (record { disk = disk; volume = opened.volume }) × (opened.volume.end ≡ s.end) × (opened.volume.capacity ≡ sup.settings.capacity)
-opened_holds {D} files disk sup s opened has =
-    let with : VolumeFile → LoadReplica D = λ v. record { disk = disk; volume = v } in (
-      subst (λ (v : VolumeFile). Holds files (super_bytes (volume_super sup s.generation)) s.cells (with v)) (sym has.volume) (record { is = has.cells.is; solid = has.cells.solid; ready = has.cells.gate }),
-      ap (λ (v : VolumeFile). v.end) has.volume,
-      ap (λ (v : VolumeFile). v.capacity) has.volume,
-    )
+pub opened_as : {D P : Type 0} (files : D → Files) (disk : D) (sup : Super) (s : Stored) (opened : Opened P) → OpenedAs sup (files disk) opened s → IsOpenAs files sup s (replica_of disk opened.volume)
+opened_as {D} files disk sup s opened has = record {
+  rests = record {
+    is = record { head = has.head.is; volume = has.cells.is; lags = has.lags; index_end = opened.index.end; index = has.index.is };
+    head = has.head.solid;
+    volume = has.cells.solid;
+    index = has.index.solid;
+  };
+  volume = has.volume;
+}
+
+pub homes_are : (old new : List ((ℕ × ℕ) × ℕ)) (rows : List DirRow) → old ≡ [] → ((pair : Pair) → home_among new pair ≡ option_or (home_among old pair) (home_in rows pair)) → AreHomes new rows
+homes_are old new rows none adds = record { are = λ pair. adds pair ∙ ap (λ (l : List ((ℕ × ℕ) × ℕ)). option_or (home_among l pair) (home_in rows pair)) none }
+
+-- What was read of a journal is what the Directory holds.
+pub record Reads {D : Type 0} (files : D → Files) (sup : Super) (disk : D) (kept : OpenJournal) (items : List DirRow) : Type 0 where
+  pub is : IsJournal (super_bytes sup) sup.settings.volumes (files disk 0).now items
+  pub end : kept.journal.end ≡ journal_end items
+  pub solid : IsSolid (files disk 0)
+  pub ready : directories.IsReady files (directory_of disk kept)
+  pub homes : AreHomes kept.homes items
+  pub count : kept.rows ≡ length items
+
+pub journal_holds : {D : Type 0} (files : D → Files) (settings : Settings) (sup : Super) (disk : D) (kept : OpenJournal) (items rows : List DirRow) → sup ≡ journal_super settings → items ≡ rows → Reads files sup disk kept items
+    → HoldsRows files (super_bytes (journal_super settings)) settings.volumes rows (directory_of disk kept)
+journal_holds {D} files settings sup disk kept items rows same all r =
+    subst (λ (l : List DirRow). HoldsRows files (super_bytes (journal_super settings)) settings.volumes l (directory_of disk kept)) all (record {
+      is = subst (λ (u : Super). IsJournal (super_bytes u) u.settings.volumes (files disk 0).now items) same r.is;
+      end = r.end;
+      solid = r.solid;
+      ready = r.ready;
+      homes = r.homes;
+      count = r.count;
+    })

@@ -32,12 +32,13 @@ added Tells files photos old new moved grown solid next =
     }
 
 -- what it says of one that was added or not
-pub may_add : {D : Type 0} (files : D → Files) (photos : List NewPhoto) (old new : LoadReplica D) → new.volume.file ≡ old.volume.file
+pub may_add : {D : Type 0} (files : D → Files) (photos : List NewPhoto) (old new : LoadReplica D) → new.volume.file ≡ old.volume.file → new.volume.capacity ≡ old.volume.capacity
     → ((superblock : List ℕ) (cells : List Cell) (image : List ℕ) → IsVolume superblock (file_of files old).now cells old.volume.end → IsSolidIn 0 old.volume.end (file_of files old) → IsImage (files new.disk old.volume.file) image
     → HasWithOrWithout superblock cells old.volume.end photos image)
     → KeepsOthers old.volume.file (files old.disk) (files new.disk) → MayAdd files photos old new
-may_add files photos old new same left others = record {
+may_add files photos old new same room left others = record {
   file = same;
+  room = room;
   left = λ superblock cells image has leaves. left superblock cells image has.is (λ k from to. has.solid.places k) (subst (λ n. IsImage (files new.disk n) image) same leaves);
   others = others;
 }
@@ -46,6 +47,7 @@ may_add files photos old new same left others = record {
 pub may_add_same : {D : Type 0} (files : D → Files) (photos : List NewPhoto) (r : LoadReplica D) → MayAdd files photos r r
 may_add_same files photos r = record {
   file = refl;
+  room = refl;
   left = λ superblock cells image has leaves. inl (volume_kept superblock (file_of files r) image cells r.volume.end has.ready has.is (λ k from to. has.solid.places k) leaves);
   others = λ other apart. refl;
 }

@@ -66,7 +66,7 @@ pub record Swapped {D : Type 0} (v : ℕ) (w w' : LoadVolume D) (xs ws : List (L
   pub count : length ws ≡ length xs
 
 -- a vector with as many items written over its own has these
-items_written : {X : Type 0} (n : ℕ) (ws xs : List X) → n ≡ length xs → length ws ≡ length xs → take n (ws ++ drop (length ws) xs) ≡ ws
+pub items_written : {X : Type 0} (n : ℕ) (ws xs : List X) → n ≡ length xs → length ws ≡ length xs → take n (ws ++ drop (length ws) xs) ≡ ws
 items_written {X} n ws xs all same =
     ap (λ (l : List X). take n (ws ++ l)) (drop_all (length ws) xs (omega arith)) ∙ ap (λ (l : List X). take n l) (append-nil ws) ∙ take_all n ws (omega arith)
 
@@ -162,3 +162,7 @@ if_err_more (Err e) P Q R first second more = more e first second
 pub if_ok_more : {T E : Type 0} (r : Result T E) (P Q : T → Type 0) → IfOk r P → ((x : T) → P x → Q x) → IfOk r Q
 if_ok_more (Ok x) P Q holds more = more x holds
 if_ok_more (Err e) P Q holds more = tt
+
+pub on_ok_if : {T E : Type 0} (r : Result T E) (P : Type 0) (Q R : T → Type 0) → OnOk r P → IfOk r Q → (P → (x : T) → Q x → R x) → IfOk r R
+on_ok_if (Ok x) P Q R first second more = more first x second
+on_ok_if (Err e) P Q R first second more = tt

@@ -1,6 +1,10 @@
 pub mod Batches
 pub mod Directories
+pub mod Faults
+pub mod Filling
 pub mod Homes
 pub mod Openings
 pub mod Replicas
+pub mod Shelves
+pub mod Slots
 pub mod Stores

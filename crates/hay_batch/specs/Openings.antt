@@ -7,10 +7,16 @@ use Rattle.hay_disk.specs.Disk.{Files, IsImage, IsSolid, MayLeave}
 use Rattle.hay_dirfile.specs.Journal.{IsJournal}
 use Rattle.hay_dirfile.specs.declared.row.DirRow.{DirRow}
 use Rattle.hay_open.specs.Stored.{IsVoid, OpensAs, Stored, fresh_stored}
+use Rattle.hay_batch.specs.declared.directory.LoadDirectory.{LoadDirectory}
+use Rattle.hay_batch.specs.declared.opening.OpenJournal.{OpenJournal}
 
 -- what stands at the front of a journal
 abbrev pub journal_super : Settings → Super
 journal_super settings = record { settings = settings; kind = Journal; volume = 0; replica = 0; generation = 0 }
+
+-- a disk with what is kept of its journal
+abbrev pub directory_of : {D : Type 0} → D → OpenJournal → LoadDirectory D
+directory_of disk kept = record { disk = disk; journal = kept.journal; homes = kept.homes; rows = kept.rows }
 
 -- The disk of a replica keeps its bytes, all of it on the disk, but where it was void: whatever a stop leaves of such a one,
 -- an opening finds nothing.

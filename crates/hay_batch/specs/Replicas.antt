@@ -50,6 +50,7 @@ HasWithOrWithout superblock cells end photos file = IsVolume superblock file cel
 -- Whatever a stop leaves has the cells from before, with those of the batch or without, and no other file was changed.
 pub record MayAdd {D : Type 0} (files : D → Files) (photos : List NewPhoto) (old new : LoadReplica D) : Type 0 where
   pub file : new.volume.file ≡ old.volume.file
+  pub room : new.volume.capacity ≡ old.volume.capacity
   pub left : (superblock : List ℕ) (cells : List Cell) (image : List ℕ) → Holds files superblock cells old → IsImage (file_of files new) image
       → HasWithOrWithout superblock cells old.volume.end photos image
   pub others : KeepsOthers old.volume.file (files old.disk) (files new.disk)

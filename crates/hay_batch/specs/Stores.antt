@@ -118,10 +118,11 @@ pub record AreWithoutRows (settings : Settings) (photos : List NewPhoto) (k : Co
 
 -- OTHER FILES
 
--- The journal's disk has no other file that changed, and that of a replica none but the volume file.
+-- The journal's disk has no other file that changed, and that of a replica none but the volume file, which has the room that it had.
 pub record KeepsFiles {D : Type 0} (files : D → Files) (old new : LoadStore D) : Type 0 where
   pub directory : KeepsOthers 0 (files old.directory.disk) (files new.directory.disk)
   pub numbers : (v j : ℕ) (r r' : LoadReplica D) → ReplicaAt old v j r → ReplicaAt new v j r' → r'.volume.file ≡ r.volume.file
+  pub rooms : (v j : ℕ) (r r' : LoadReplica D) → ReplicaAt old v j r → ReplicaAt new v j r' → r'.volume.capacity ≡ r.volume.capacity
   pub replicas : (v j : ℕ) (r r' : LoadReplica D) → ReplicaAt old v j r → ReplicaAt new v j r' → KeepsOthers r.volume.file (files r.disk) (files r'.disk)
 
 -- REFUSALS

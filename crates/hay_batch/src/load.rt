@@ -16,6 +16,7 @@ ghost use Rattle.hay_batch.specs.Directories.{HoldsRows, IsFirstHome, MaySettle}
 ghost use Rattle.hay_batch.specs.Directories as directories;
 ghost use Rattle.hay_batch.specs.Homes.{AddsHomes, home_among};
 ghost use Rattle.hay_batch.specs.Replicas.{Adds, At, HasRoom, IsReady, MayAdd};
+ghost use Rattle.hay_batch.specs.Shelves.{LeavesBatch, MayLeaveDisks, StandsAs, StoredStore, with_stored};
 ghost use Rattle.hay_batch.specs.Stores.{AreContents, AreTries, AreWithoutRows, Contents, FailsAt, Images, IsDiskFault, IsFirstRoom, IsReadyStore, IsShaped, KeepsCounts, KeepsFiles, MayLeaveStore, ReplicaAt, Stands, with_batch};
 
 use crate::directory::LoadDirectory;
@@ -174,6 +175,11 @@ impl<D: Disk> LoadStore<D> {
         // Whatever a stop leaves, then or after any refusal, has no row of the batch, or the whole batch, and nothing else.
         ensures left { D.Tells → (k : Contents) (left : Images) → Stands D.files self.old k → MayLeaveStore D.files self.new left →
             AreWithoutRows self.old.settings photos.now k left ⊎ ((volume : ℕ) × (volume < self.old.settings.volumes) × AreContents self.old.settings (with_batch volume photos.now k) left) }
+
+        // The same of what an opening finds: at `Ok`, and in whatever a stop leaves.
+        ensures stored { D.Tells → (s : StoredStore) → StandsAs D.files self.old s → IfOk result (λ loaded. StandsAs D.files self.new (with_stored loaded.volume photos.now s)) }
+        ensures left_stored { D.Tells → (s : StoredStore) (image : ℕ → ℕ → List ℕ) → StandsAs D.files self.old s → MayLeaveDisks D.files self.new image →
+            LeavesBatch self.old.settings photos.now image s }
 
         ensures files { D.Tells → KeepsFiles D.files self.old self.new }
         ensures shape { (self.new.settings ≡ self.old.settings) × IsShaped self.new }

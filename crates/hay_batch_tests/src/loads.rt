@@ -1,21 +1,18 @@
-//! That a store takes batches, and what is left where the Directory's disk fails.
+//! That a store on a shelf takes batches, and what an opening finds where a disk fails.
 #![tactic(auto, using(crate::proofs::Batches::batch_of_one, crate::proofs::Batches::batch_of_two, crate::proofs::SmallStores::distinct_one, crate::proofs::SmallStores::key_one))]
 
-ghost use Rattle.std.specs.Prelude.{◌≡◌, ◌≤◌, length, All, IfOk};
+ghost use Rattle.std.specs.Prelude.{◌≡◌, ◌<◌, ℕ, false, length, All, IfOk, OnOk};
 ghost use Rattle.hay_memdisk.specs.MemDisk.{mem_files};
+ghost use Rattle.hay_memdisk.specs.MemShelf.{mem_disks};
+ghost use Rattle.hay_mount.specs.Mounts.{AreOut};
 ghost use Rattle.hay_batch.specs.declared.photo.NewPhoto.{NewPhoto};
 ghost use Rattle.hay_batch.specs.Batches.{AreDistinct, IsBatch};
-ghost use Rattle.hay_batch.specs.Directories as directories;
-ghost use Rattle.hay_batch.specs.Replicas.{IsReady};
 ghost use Rattle.hay_batch.specs.Stores.{IsReadyStore, IsShaped};
 
-use hay_batch::{
-    FullTry, LoadDirectory, LoadFault, LoadReplica, LoadStore, LoadVolume, Loaded, NewPhoto,
-};
-use hay_dirfile::Journal;
-use hay_disk::Disk;
-use hay_memdisk::MemDisk;
-use hay_needle::{Bytes, Cookie, FileKind, Pair, Settings, Super};
+use hay_batch::{FullTry, LoadFault, LoadStore, Loaded, NewPhoto};
+use hay_disk::{Disk, Shelf};
+use hay_memdisk::{MemDisk, MemShelf};
+use hay_needle::{Bytes, Cookie, Pair, Settings};
 use std::alloc::Global;
 use std::test::Fail;
 
@@ -27,13 +24,8 @@ const SETTINGS: Settings = Settings {
     secret: [0; 32],
 };
 
-const JOURNAL: Super = Super {
-    settings: SETTINGS,
-    kind: FileKind::Journal,
-    volume: 0,
-    replica: 0,
-    generation: 0,
-};
+// How many changing calls format the disk of a replica.
+const FORMAT_CALLS: u64 = 8;
 
 // A photo of so many bytes under key 0.
 fn photo(alloc: Global, alt: u32, len: usize) -> Result<NewPhoto, Fail>
@@ -49,47 +41,38 @@ fn photo(alloc: Global, alt: u32, len: usize) -> Result<NewPhoto, Fail>
     })
 }
 
-// A volume of one replica, on an empty disk.
-fn volume(alloc: Global, number: u32) -> Result<LoadVolume<MemDisk>, Fail>
-    ensures count { IfOk result (λ made. length made.replicas.items ≡ 1) }
-    ensures ready { IfOk result (λ made. All (IsReady mem_files) made.replicas.items) }
-{
-    let sup = Super {
-        kind: FileKind::Volume,
-        volume: number,
-        ..JOURNAL
-    };
-    let replica = LoadReplica::open(alloc, MemDisk::new(alloc), &sup);
-    let mut replicas = Vec::new(alloc);
-    replicas.push(replica.ok().ok_or("a replica that opens")?)?;
-    Ok(LoadVolume { replicas })
-}
-
-// A Directory on an empty disk, of which so many calls pass.
-fn directory(alloc: Global, calls: u64) -> Result<LoadDirectory<MemDisk>, Fail>
-    ensures { IfOk result (directories.IsReady mem_files) }
+// A shelf of empty disks, where so many calls of the disk in this slot pass.
+fn shelf(alloc: Global, slot: u32, calls: u64) -> Result<MemShelf, Fail>
+    ensures { IfOk result (λ made. (n : ℕ) → (mem_disks made n).is_out ≡ false) }
 {
     let mut disk = MemDisk::new(alloc);
     disk.fuse(calls);
-    let opened = LoadDirectory::open(alloc, disk, &SETTINGS);
-    let directory = opened.ok().ok_or("a Directory that opens")?;
-    Ok(directory)
+    let mut made = MemShelf::new(alloc);
+    made.put_disk(slot, disk)?;
+    Ok(made)
 }
 
-// A store of two volumes on empty disks, where so many calls of the Directory's disk pass.
-fn store(alloc: Global, calls: u64) -> Result<LoadStore<MemDisk>, Fail>
+// A store of two volumes on this shelf.
+fn open(alloc: Global, shelf: &mut MemShelf) -> Result<LoadStore<MemDisk>, Fail>
+    requires { (n : ℕ) → (mem_disks shelf.old n).is_out ≡ false }
+    ensures settings { IfOk result (λ store. store.settings ≡ SETTINGS) }
+    ensures shape { IfOk result IsShaped }
+    ensures ready { IfOk result (IsReadyStore mem_files) }
+    ensures out { OnOk result (AreOut 3 (mem_disks shelf.new)) }
+{
+    match LoadStore::open(alloc, SETTINGS, shelf) {
+        Ok(store) => Ok(store),
+        Err(_) => Err("a store that opens".into()),
+    }
+}
+
+// A store of two volumes on empty disks, where so many calls of the disk in this slot pass.
+fn store(alloc: Global, slot: u32, calls: u64) -> Result<LoadStore<MemDisk>, Fail>
     ensures shape { IfOk result IsShaped }
     ensures ready { IfOk result (IsReadyStore mem_files) }
 {
-    let directory = directory(alloc, calls)?;
-    let mut volumes = Vec::new(alloc);
-    volumes.push(volume(alloc, 0)?)?;
-    volumes.push(volume(alloc, 1)?)?;
-    Ok(LoadStore {
-        settings: SETTINGS,
-        directory,
-        volumes,
-    })
+    let mut shelf = shelf(alloc, slot, calls)?;
+    open(alloc, &mut shelf)
 }
 
 // Two photos of one byte.
@@ -104,7 +87,7 @@ fn two(alloc: Global) -> Result<[NewPhoto; 2], Fail>
 #[test]
 fn a_batch_is_loaded_into_the_first_volume(rt: HostRuntime) -> Result<(), Fail> {
     let alloc = rt.alloc();
-    let mut store = store(alloc, 100)?;
+    let mut store = store(alloc, 0, 100)?;
     let loaded = store.load_batch(alloc, &two(alloc)?)?;
     assert_eq!(rt; loaded, Loaded { volume: 0, rows: 2 });
     assert_eq!(rt; store.directory.disk.bytes(0).len(), 120);
@@ -114,9 +97,56 @@ fn a_batch_is_loaded_into_the_first_volume(rt: HostRuntime) -> Result<(), Fail> 
 }
 
 #[test]
+fn a_store_that_was_closed_has_its_batch(rt: HostRuntime) -> Result<(), Fail> {
+    let alloc = rt.alloc();
+    let (loaded, mut shelf) = stopped(alloc, 2, 100, 0)?;
+    assert!(rt; loaded);
+    assert_eq!(rt; found(alloc, &mut shelf)?, (2, 2));
+    Ok(())
+}
+
+// A stop of the Directory's disk leaves all rows or none, and the cells stand.
+#[test]
+fn a_stop_leaves_the_whole_batch_or_no_row(rt: HostRuntime) -> Result<(), Fail> {
+    let alloc = rt.alloc();
+    for pick in 0..4 {
+        for calls in 0..4 {
+            let (loaded, mut shelf) = stopped(alloc, 0, 2 + calls, pick)?;
+            let (rows, cells) = found(alloc, &mut shelf)?;
+            assert!(rt;
+                !loaded && rows != 1 && cells == 2,
+                "{calls} calls, pick {pick}"
+            );
+        }
+        let (loaded, mut shelf) = stopped(alloc, 0, 6, pick)?;
+        assert_eq!(rt; (loaded, found(alloc, &mut shelf)?), (true, (2, 2)));
+    }
+    Ok(())
+}
+
+// A stop of the replica's disk leaves no row, and all cells or none.
+#[test]
+fn a_stop_of_a_replica_leaves_no_row(rt: HostRuntime) -> Result<(), Fail> {
+    let alloc = rt.alloc();
+    for pick in 0..4 {
+        for calls in 0..4 {
+            let (loaded, mut shelf) = stopped(alloc, 1, FORMAT_CALLS + calls, pick)?;
+            let (rows, cells) = found(alloc, &mut shelf)?;
+            assert!(rt;
+                !loaded && rows == 0 && cells != 1,
+                "{calls} calls, pick {pick}"
+            );
+        }
+        let (loaded, mut shelf) = stopped(alloc, 1, FORMAT_CALLS + 4, pick)?;
+        assert_eq!(rt; (loaded, found(alloc, &mut shelf)?), (true, (2, 2)));
+    }
+    Ok(())
+}
+
+#[test]
 fn a_volume_without_room_is_passed_over(rt: HostRuntime) -> Result<(), Fail> {
     let alloc = rt.alloc();
-    let mut store = store(alloc, 100)?;
+    let mut store = store(alloc, 0, 100)?;
     let large = [photo(alloc, 3, 3900)?];
     let first = store.load_batch(alloc, &large)?;
     assert_eq!(rt; first, Loaded { volume: 0, rows: 1 });
@@ -125,28 +155,34 @@ fn a_volume_without_room_is_passed_over(rt: HostRuntime) -> Result<(), Fail> {
     Ok(())
 }
 
-// The rows of the Directory that are left where so many calls of a batch's rows pass, and whether the batch was loaded.
-fn rows_left(alloc: Global, calls: u64, pick: u64) -> Result<(bool, usize), Fail>
-    requires { calls ≤ 4 }
+// Whether two photos are loaded where so many calls of the disk in this slot pass, and the store after a stop of that disk.
+fn stopped(alloc: Global, slot: u32, calls: u64, pick: u64) -> Result<(bool, MemShelf), Fail>
+    requires { slot < 3 }
+    ensures { IfOk result (λ left. (n : ℕ) → n < 3 → (mem_disks left.1 n).is_out ≡ false) }
 {
-    let mut store = store(alloc, 2 + calls)?;
+    let mut shelf = shelf(alloc, slot, calls)?;
+    let mut store = open(alloc, &mut shelf)?;
     let loaded = store.load_batch(alloc, &two(alloc)?).is_ok();
-    store.directory.disk.power_cycle(pick);
-    let (_, rows) = Journal::open(alloc, &mut store.directory.disk, &JOURNAL)?;
-    Ok((loaded, rows.len()))
+    store.close(&mut shelf);
+    let mut disk = shelf.take_disk(slot)?;
+    disk.power_cycle(pick);
+    shelf.give_disk(slot, disk);
+    Ok((loaded, shelf))
 }
 
-#[test]
-fn a_stop_leaves_all_rows_of_a_batch_or_none(rt: HostRuntime) -> Result<(), Fail> {
-    let alloc = rt.alloc();
-    for calls in 0..3 {
-        assert_eq!(rt; rows_left(alloc, calls, 0)?, (false, 0));
-        assert_eq!(rt; rows_left(alloc, calls, 1)?, (false, 0));
-    }
-    assert_eq!(rt; rows_left(alloc, 3, 0)?, (false, 0));
-    assert_eq!(rt; rows_left(alloc, 3, 1)?, (false, 2));
-    assert_eq!(rt; rows_left(alloc, 4, 0)?, (true, 2));
-    Ok(())
+// What an opening finds then: the rows, and the cells of the first volume.
+fn found(alloc: Global, shelf: &mut MemShelf) -> Result<(u64, usize), Fail>
+    requires { (n : ℕ) → n < 3 → (mem_disks shelf.old n).is_out ≡ false }
+{
+    let mut store = match LoadStore::open(alloc, SETTINGS, shelf) {
+        Ok(store) => store,
+        Err(_) => return Err("a store that opens again".into()),
+    };
+    let rows = store.directory.rows;
+    let first = store.volumes.first_mut().ok_or("a volume")?;
+    let replica = first.replicas.first_mut().ok_or("a replica")?;
+    let (cells, _) = replica.volume.scan_from(alloc, &mut replica.disk, 64)?;
+    Ok((rows, cells.len()))
 }
 
 // Why a store that has the two photos refuses a batch.
@@ -155,7 +191,7 @@ fn refused(alloc: Global, photos: &[NewPhoto]) -> Result<LoadFault, Fail>
     requires key { All (λ (photo : NewPhoto). photo.pair.key ≡ 0) photos.now }
     requires distinct { AreDistinct photos.now }
 {
-    let mut store = store(alloc, 100)?;
+    let mut store = store(alloc, 0, 100)?;
     store.load_batch(alloc, &two(alloc)?)?;
     let fault = store.load_batch(alloc, photos).err().ok_or("a refusal")?;
     Ok(fault)

@@ -10,5 +10,6 @@ mod disks;
 mod fault;
 mod mounted;
 
+pub use disks::{give_disks, take_disks};
 pub use fault::MountFault;
 pub use mounted::{LANES, Mounted, mount, unmount};

@@ -1,10 +1,12 @@
-use Rattle.std.proofs.Common.{◌≡◌, get_or, inl, sym, subst}
+use Rattle.std.proofs.Common.{◌≡◌, get_or, inl, inr, refl, sym, subst}
 use Rattle.hay_batch.specs.declared.photo.NewPhoto.{NewPhoto}
 use Rattle.hay_batch.specs.Batches.{batch_total}
+use Rattle.hay_batch.specs.Shelves.{StandsAs, contents_of, with_stored}
 use Rattle.hay_batch.specs.Stores.{IsFirstRoom}
 use Rattle.hay_batch.proofs.Loading.{files_same, left_same}
 use Rattle.hay_batch.proofs.Showing.{batch_shows}
-use Rattle.hay_batch.proofs.StoreLaws.{first_room, if_ok_more, same_tries}
+use Rattle.hay_batch.proofs.StoreLaws.{first_room, if_ok_more, on_ok_if, same_tries}
+use Rattle.hay_batch.proofs.StoredLaws.{leaves_stored, stands_stored}
 use Rattle.hay_batch.proofs.store.LoadStore.load_batch.Goals as goal
 
 -- nothing was changed
@@ -43,3 +45,30 @@ returns-in-Some-clause-files g c = λ tells. files_same g.D.Disk.files c.args.se
 
 pub returns-in-Err-clause-files : goal.returns-in-Err-clause-files
 returns-in-Err-clause-files g c = λ tells. files_same g.D.Disk.files c.args.self.now
+
+-- what an opening finds
+pub returns-in-Some-clause-left_stored : goal.returns-in-Some-clause-left_stored
+returns-in-Some-clause-left_stored g c = λ tells s image was leaves.
+    leaves_stored g.D.Disk.files c.args.photos.now s c.args.self.now c.args.self.now c.requires.shape c.requires.shape refl (files_same g.D.Disk.files c.args.self.now) was image leaves
+    (λ k left stands may. inl (left_same g.D.Disk.files c.args.photos.now k c.args.self.now left c.requires.shape stands may))
+
+pub returns-in-Err-clause-left_stored : goal.returns-in-Err-clause-left_stored
+returns-in-Err-clause-left_stored g c = λ tells s image was leaves.
+    leaves_stored g.D.Disk.files c.args.photos.now s c.args.self.now c.args.self.now c.requires.shape c.requires.shape refl (files_same g.D.Disk.files c.args.self.now) was image leaves
+    (λ k left stands may. inl (left_same g.D.Disk.files c.args.photos.now k c.args.self.now left c.requires.shape stands may))
+
+pub returns-in-Ok-clause-left_stored : goal.returns-in-Ok-clause-left_stored
+returns-in-Ok-clause-left_stored g c = λ tells s image was leaves.
+    let told = c.load_into.ensures in
+    leaves_stored g.D.Disk.files c.args.photos.now s c.args.self.now c.load_into.new.self c.requires.shape told.shape.1 told.shape.0 (told.files tells) was image leaves
+    (λ k left stands may. elim (told.left tells k left stands may) [
+      | inl without ↦ inl without
+      | inr whole ↦ inr (c.in-Ok.volume, c.in-Ok.ensures.there, whole)
+    ])
+
+pub returns-in-Ok-clause-stored : goal.returns-in-Ok-clause-stored
+returns-in-Ok-clause-stored g c = λ tells s was.
+    let told = c.load_into.ensures in
+    on_ok_if c.load_into.result _ _ _ (told.loaded tells) told.answer (λ loads loaded answer.
+    subst (λ v. StandsAs g.D.Disk.files c.load_into.new.self (with_stored v c.args.photos.now s)) (sym answer.0)
+    (stands_stored g.D.Disk.files c.args.photos.now s c.args.self.now c.load_into.new.self c.requires.shape told.shape.1 told.shape.0 (told.files tells) was c.in-Ok.volume (loads (contents_of c.args.self.now.settings s) was.contents)))

@@ -1,0 +1,112 @@
+-- What a load told of the lines that it took.
+use Rattle.std.proofs.Common.{◌≡◌, inl, inr, ℕ, List, [], ◌∷◌, ◌++◌, length, Bool, true, Option, Some, None, refl, sym, ap, subst, ◌∙◌, arith, append_assoc, length-append}
+use Rattle.std.proofs.lemmas.List.{append-nil}
+use Rattle.std.specs.Prelude.{if◌then◌else◌}
+use Rattle.hay_needle.specs.declared.settings.Settings.{Settings}
+use Rattle.hay_disk.specs.Disk.{Files}
+use Rattle.hay_reply.specs.declared.Reply.TheVariants.{BadLine}
+use Rattle.hay_batch.specs.declared.fault.FullTry.{FullTry}
+use Rattle.hay_batch.specs.declared.fault.LoadFault.{LoadFault}
+use Rattle.hay_batch.specs.declared.photo.NewPhoto.{NewPhoto}
+use Rattle.hay_batch.specs.declared.store.LoadStore.{LoadStore}
+use Rattle.hay_batch.specs.Shelves.{MayLeaveDisks, OpensStore, StandsAs, StoredStore}
+use Rattle.hay_batch.specs.Stores.{IsDiskFault, IsShaped}
+use Rattle.hay_batch.proofs.StoredLaws.{stands_left}
+use Rattle.hay_load.specs.declared.reply.LoadReply.{LoadReply}
+use Rattle.hay_load.specs.declared.reply.LoadReply.TheVariants.{Other}
+use Rattle.hay_load.specs.Answers.{AnswersAll, reply_lines}
+use Rattle.hay_load.specs.Gathering.{Bad, Batch, Group, OpenBatch, Step, closed, joins, put_step}
+use Rattle.hay_load.specs.Loads.{Answered, LeavesHeld, Loads}
+use Rattle.hay_load.specs.Replies.{load_line}
+
+-- MORE GROUPS
+
+answers_more : (settings : Settings) (s mid new : StoredStore) (groups more : List Group) (replies others : List LoadReply) → AnswersAll settings s groups replies mid → AnswersAll settings mid more others new
+    → AnswersAll settings s (groups ++ more) (replies ++ others) new
+answers_more settings s mid new [] more [] others first second = subst (λ (x : StoredStore). AnswersAll settings x more others new) first second
+answers_more settings s mid new [] more (reply ∷ replies) others first second = absurd first
+answers_more settings s mid new (group ∷ groups) more [] others first second = absurd first
+answers_more settings s mid new (Bad line ∷ groups) more (reply ∷ replies) others first second = (first.0, answers_more settings s mid new groups more replies others first.1 second)
+answers_more settings s mid new (Batch line photos ∷ groups) more (reply ∷ replies) others first second =
+    (first.0, first.1, answers_more settings first.0 mid new groups more replies others first.2 second)
+
+lines_more : (groups more : List Group) (replies others : List LoadReply) → length replies ≡ length groups → reply_lines (groups ++ more) (replies ++ others) ≡ reply_lines groups replies ++ reply_lines more others
+lines_more [] more [] others many = refl
+lines_more [] more (reply ∷ replies) others many = absurd (omega (arith, many))
+lines_more (group ∷ groups) more [] others many = absurd (omega (arith, many))
+lines_more (Bad line ∷ groups) more (reply ∷ replies) others many =
+    ap (λ (l : List ℕ). load_line line reply ++ l) (lines_more groups more replies others (let less : length replies ≡ length groups = omega (arith, many) in less))
+    ∙ sym (append_assoc (load_line line reply) (reply_lines groups replies) (reply_lines more others))
+lines_more (Batch line photos ∷ groups) more (reply ∷ replies) others many =
+    ap (λ (l : List ℕ). load_line line reply ++ l) (lines_more groups more replies others (let less : length replies ≡ length groups = omega (arith, many) in less))
+    ∙ sym (append_assoc (load_line line reply) (reply_lines groups replies) (reply_lines more others))
+
+module _ {D : Type 0} (Tells : Type 0) (files : D → Files) where
+  pub loads_none : (old new : LoadStore D) (before after : List ℕ) → new ≡ old → after ≡ before → Loads Tells files [] old new before after
+  loads_none old new before after same told = record {
+    replies = [];
+    many = refl;
+    told = told ∙ sym (append-nil before);
+    answers = λ tells s stands. record { stored = s; answers = refl; stands = subst (λ (store : LoadStore D). StandsAs files store s) (sym same) stands };
+  }
+
+  pub loads_bad : (line : ℕ) (old new : LoadStore D) (before after : List ℕ) → new ≡ old → after ≡ before ++ load_line line (Other BadLine) → Loads Tells files (Bad line ∷ []) old new before after
+  loads_bad line old new before after same told = record {
+    replies = Other BadLine ∷ [];
+    many = refl;
+    told = told ∙ ap (λ (l : List ℕ). before ++ l) (sym (append-nil (load_line line (Other BadLine))));
+    answers = λ tells s stands. record { stored = s; answers = (refl, refl); stands = subst (λ (store : LoadStore D). StandsAs files store s) (sym same) stands };
+  }
+
+  pub loads_batch : (line : ℕ) (photos : List NewPhoto) (reply : LoadReply) (old new : LoadStore D) (before after : List ℕ) → after ≡ before ++ load_line line reply
+      → (Tells → (s : StoredStore) → StandsAs files old s → Answered files old.settings s photos reply new) → Loads Tells files (Batch line photos ∷ []) old new before after
+  loads_batch line photos reply old new before after told answered = record {
+    replies = reply ∷ [];
+    many = refl;
+    told = told ∙ ap (λ (l : List ℕ). before ++ l) (sym (append-nil (load_line line reply)));
+    answers = λ tells s stands.
+        let a = answered tells s stands in
+        record { stored = a.stored; answers = (a.stored, a.answers, refl); stands = a.stands };
+  }
+
+  pub loads_more : (groups more : List Group) (old mid new : LoadStore D) (before middle after : List ℕ) → mid.settings ≡ old.settings → Loads Tells files groups old mid before middle → Loads Tells files more mid new middle after → Loads Tells files (groups ++ more) old new before after
+  loads_more groups more old mid new before middle after same first second = record {
+    replies = first.replies ++ second.replies;
+    many = (let a = length-append first.replies second.replies in let b = length-append groups more in let m = first.many in let n = second.many in omega (arith, a, b, m, n));
+    told = second.told ∙ ap (λ (l : List ℕ). l ++ reply_lines more second.replies) first.told ∙ append_assoc before (reply_lines groups first.replies) (reply_lines more second.replies)
+        ∙ ap (λ (l : List ℕ). before ++ l) (sym (lines_more groups more first.replies second.replies first.many));
+    answers = λ tells s stands.
+        let a = first.answers tells s stands in
+        let b = second.answers tells a.stored a.stands in
+        record {
+          stored = b.stored;
+          answers = answers_more old.settings s a.stored b.stored groups more first.replies second.replies a.answers
+              (subst (λ (x : Settings). AnswersAll x a.stored more second.replies b.stored) same b.answers);
+          stands = b.stands;
+        };
+  }
+
+-- what an opening finds where nothing was changed
+pub left_untouched : {D : Type 0} (files : D → Files) (s : StoredStore) (old new : LoadStore D) (image : ℕ → ℕ → List ℕ) → new ≡ old → IsShaped old → StandsAs files old s → MayLeaveDisks files new image → OpensStore old.settings image s
+left_untouched {D} files s old new image same shape stands leaves = stands_left files s old image shape stands (subst (λ (store : LoadStore D). MayLeaveDisks files store image) same leaves)
+
+-- and so it is of any open batch
+pub left_any : (settings : Settings) (held : Option OpenBatch) (image : ℕ → ℕ → List ℕ) (s : StoredStore) → OpensStore settings image s → LeavesHeld settings held image s
+left_any settings None image s opens = opens
+left_any settings (Some batch) image s opens = inl (record {
+  volume = 0;
+  rows = opens.rows;
+  replicas = λ v j volume replica. inl (opens.replicas v j volume replica);
+  others = λ v j apart volume replica. opens.replicas v j volume replica;
+})
+
+-- a photo that joins ends no group
+pub joined_groups : (number : ℕ) (batch : OpenBatch) (photo : NewPhoto) → joins batch.photos photo ≡ true → (put_step number (Some batch) photo).groups ≡ []
+joined_groups number batch photo joined =
+    let step : Bool → Step = λ b. if b then record { groups = []; held = Some (record { line = batch.line; photos = batch.photos ++ photo ∷ [] }) } else record { groups = closed (Some batch); held = Some (record { line = number; photos = photo ∷ [] }) } in
+    ap (λ (b : Bool). (step b).groups) joined
+
+-- a batch without room is no failure of a disk
+pub full_is_none : (fault : LoadFault) (tries : List FullTry) → fault ≡ LoadFault.Full tries → IsDiskFault fault → ⊥
+full_is_none fault tries is (inl (slot, faults, failed)) = let both : LoadFault.Full tries ≡ LoadFault.Failed slot faults = sym is ∙ failed in absurd cc
+full_is_none fault tries is (inr memory) = let both : LoadFault.Full tries ≡ LoadFault.NoMemory = sym is ∙ memory in absurd cc

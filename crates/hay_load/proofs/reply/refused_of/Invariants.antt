@@ -1,0 +1,6 @@
+use Rattle.std.proofs.Common.{◌≡◌, map, take}
+use Rattle.hay_load.specs.Replies.{refused_of}
+use Rattle.hay_load.proofs.reply.refused_of.Given as goal
+
+abbrev pub invariant-loop-full : goal.invariant-loop-full
+invariant-loop-full l = l.refused ≡ map refused_of (take l.full-index l.tries)

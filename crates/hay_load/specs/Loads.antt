@@ -1,0 +1,76 @@
+-- A load that has taken some lines: its store, the batch that is open, and what it told.
+use Rattle.std.specs.Prelude.{◌≡◌, ◌<◌, ◌+◌, ◌%◌, ◌++◌, ℕ, List, length, Option, Some, None, option_map}
+use Rattle.hay_needle.specs.declared.settings.Settings.{Settings}
+use Rattle.hay_disk.specs.Disk.{Files}
+use Rattle.hay_reply.specs.declared.Reply.{Reply}
+use Rattle.hay_reply.specs.declared.Reply.TheVariants.{Failed, FailedDir}
+use Rattle.hay_batch.specs.declared.photo.NewPhoto.{NewPhoto}
+use Rattle.hay_batch.specs.declared.store.LoadStore.{LoadStore}
+use Rattle.hay_batch.specs.Shelves.{LeavesBatch, OpensStore, StandsAs, StoredStore, slot_of}
+use Rattle.hay_batch.specs.Stores.{FailsAt, IsReadyStore, IsShaped}
+use Rattle.hay_load.specs.declared.batch.Gathered.{Gathered}
+use Rattle.hay_load.specs.declared.loading.Loading.{Loading}
+use Rattle.hay_load.specs.declared.reply.LoadReply.{LoadReply}
+use Rattle.hay_load.specs.declared.reply.LoadReply.TheVariants.{Other}
+use Rattle.hay_load.specs.Answers.{AnswersAll, AnswersBatch, reply_lines}
+use Rattle.hay_load.specs.Gathering.{Group, IsGathered, OpenBatch}
+use Rattle.hay_load.specs.Replies.{load_line}
+
+-- THE OPEN BATCH
+
+abbrev pub batch_of : Gathered → OpenBatch
+batch_of gathered = record { line = gathered.line; photos = gathered.photos.items }
+
+abbrev pub held_of : Option Gathered → Option OpenBatch
+held_of held = option_map batch_of held
+
+-- the open batch, if there is one, may be loaded, and so may others behind it
+pub record IsLoading {D : Type 0} (Tells : Type 0) (files : D → Files) (load : Loading D) : Type 0 where
+  pub shape : IsShaped load.store
+  pub some_replicas : 0 < load.store.settings.replicas
+  pub ready : Tells → IsReadyStore files load.store
+  pub gathered : (gathered : Gathered) → load.held ≡ Some gathered → IsGathered gathered.photos.items
+
+-- WHAT WAS TOLD
+
+-- A batch was answered by this reply, and the store stands at what is stored then.
+pub record Answered {D : Type 0} (files : D → Files) (settings : Settings) (s : StoredStore) (photos : List NewPhoto) (reply : LoadReply) (store : LoadStore D) : Type 0 where
+  pub stored : StoredStore
+  pub answers : AnswersBatch settings s photos reply stored
+  pub stands : StandsAs files store stored
+
+-- so were these groups
+pub record AnsweredAll {D : Type 0} (files : D → Files) (settings : Settings) (s : StoredStore) (groups : List Group) (replies : List LoadReply) (store : LoadStore D) : Type 0 where
+  pub stored : StoredStore
+  pub answers : AnswersAll settings s groups replies stored
+  pub stands : StandsAs files store stored
+
+-- These groups were answered, and the lines of their replies were added.
+pub record Loads {D : Type 0} (Tells : Type 0) (files : D → Files) (groups : List Group) (old new : LoadStore D) (before after : List ℕ) : Type 0 where
+  pub replies : List LoadReply
+  pub many : length replies ≡ length groups
+  pub told : after ≡ before ++ reply_lines groups replies
+  pub answers : Tells → (s : StoredStore) → StandsAs files old s → AnsweredAll files old.settings s groups replies new
+
+-- WHERE A DISK FAILED
+
+-- the reply to a disk's failure
+pub record IsFailed (settings : Settings) (slot faults : ℕ) (reply : Reply) : Type 0 where
+  pub directory : slot ≡ 0 → reply ≡ FailedDir faults
+  pub replica : (v j : ℕ) → j < settings.replicas → slot ≡ slot_of settings v j → reply ≡ Failed v ((v + j) % settings.machines) faults
+
+-- A disk failed while the open batch was loaded, and the line of this was added.
+pub record FailsHeld {D : Type 0} (fault_count : D → ℕ) (held : Option OpenBatch) (old new : LoadStore D) (before after : List ℕ) : Type 0 where
+  pub batch : OpenBatch
+  pub is : held ≡ Some batch
+  pub slot : ℕ
+  pub faults : ℕ
+  pub fails : FailsAt fault_count old new slot faults
+  pub reply : Reply
+  pub failed : IsFailed old.settings slot faults reply
+  pub told : after ≡ before ++ load_line batch.line (Other reply)
+
+-- what an opening finds: what was stored, or that with no row of the open batch, or with the whole of it
+abbrev pub LeavesHeld : Settings → Option OpenBatch → (ℕ → ℕ → List ℕ) → StoredStore → Type 0
+LeavesHeld settings None image s = OpensStore settings image s
+LeavesHeld settings (Some batch) image s = LeavesBatch settings batch.photos image s

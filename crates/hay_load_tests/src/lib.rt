@@ -1,0 +1,6 @@
+//! Tests of bulk loads, over disks in memory: what is told of the lines of a script.
+//! They stand apart, so that the crates below are proved once. No crate of the store stands on this one.
+#![tactic(auto)]
+
+#[cfg(test)]
+mod lines;
