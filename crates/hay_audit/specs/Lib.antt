@@ -1,6 +1,15 @@
+pub mod Behind
 pub mod Candidates
+pub mod Deleting
 pub mod Feeds
+pub mod Frozen
+pub mod Kinds
 pub mod Lines
 pub mod Outside
+pub mod Putting
+pub mod Refusing
+pub mod Replicas
+pub mod Showing
 pub mod Sizes
+pub mod Upkeep
 pub mod Wanted

@@ -1,6 +1,6 @@
 //! Changes of a state.
 
-ghost use Rattle.std.specs.Prelude.{◌≡◌, ◌++◌, ◌∷◌, ◌<◌, ◌+◌, ◌^◌, [], map, length, IfOk, OnOk, slice_set, option_map, slice_index_or};
+ghost use Rattle.std.specs.Prelude.{◌≡◌, ◌++◌, ◌∷◌, ◌<◌, ◌+◌, ◌^◌, [], map, length, IfOk, OnOk, slice_set, option_map, slice_index_or, true};
 ghost use Rattle.std.specs.List.{AllByRecursion as Each};
 ghost use Rattle.hay_legal.specs.Known as known;
 ghost use Rattle.hay_legal.specs.Plain as plain;
@@ -8,12 +8,14 @@ ghost use Rattle.hay_core.specs.declared.entry.Entry.TheVariants as entry;
 ghost use Rattle.hay_audit.specs.Sizes.{MayGrow, RunMayGrow};
 ghost use Rattle.hay_audit_steps.specs.Next as next;
 
+use crate::freezes::frozen_by;
 use crate::looks::home_in;
 use crate::state::{ReplicaState, State, VolumeState};
 use hay_base::{Listed, NoMemory};
 use hay_core::{CoreTag, Entry, Logged};
-use hay_legal::known::{DirKnown, HomeRow, Run};
-use hay_needle::{Bytes, Cookie, Pair, total_of};
+use hay_legal::known::{DirKnown, HomeRow, Pending, PendingRow, Run};
+use hay_needle::{Bytes, Cookie, Pair, Settings, total_of};
+use hay_url::cookie_of;
 use std::alloc::Global;
 use std::mem;
 
@@ -109,7 +111,7 @@ fn with_put(
     })
 }
 
-fn no_volume(alloc: Global) -> VolumeState
+pub(crate) fn no_volume(alloc: Global) -> VolumeState
     ensures { result ≡ known.empty_volume }
 {
     VolumeState {
@@ -180,4 +182,90 @@ pub fn stored(
         arms,
         fuses,
     })
+}
+
+/// The state, with the pair's home if it has none.
+fn with_home(state: State, pair: Pair, volume: u32) -> Result<State, NoMemory>
+    ensures { IfOk result (λ after. after ≡ known.with_home state pair volume) }
+{
+    let State {
+        volumes,
+        directory,
+        drained,
+        faults,
+        arms,
+        fuses,
+    } = state;
+    let DirKnown {
+        rows,
+        frozen,
+        pending,
+    } = directory;
+    Ok(State {
+        volumes,
+        directory: DirKnown {
+            rows: settle(rows, pair, volume)?,
+            frozen,
+            pending,
+        },
+        drained,
+        faults,
+        arms,
+        fuses,
+    })
+}
+
+/// The state behind a put that failed on a machine.
+pub(crate) fn put_frozen(
+    alloc: Global,
+    settings: &Settings,
+    state: State,
+    tag: CoreTag,
+    pair: Pair,
+    bytes: Bytes,
+    volume: u32,
+    machine: u32,
+) -> Result<State, NoMemory>
+    ensures { IfOk result (λ after. after ≡ plain.put_frozen settings.now state tag pair bytes volume machine true) }
+{
+    let pending = Pending {
+        tag,
+        entry: Entry::Put {
+            pair,
+            cookie: cookie_of(&settings.secret, pair.key),
+            bytes,
+        },
+        failed: true,
+    };
+    let frozen = frozen_by(alloc, state, volume, machine, Some(pending))?;
+    with_home(frozen, pair, volume)
+}
+
+/// The state behind a row that could not be written.
+pub(crate) fn row_pending(state: State, tag: CoreTag, pair: Pair, volume: u32) -> State
+    ensures { result ≡ plain.row_pending state tag pair volume }
+{
+    let State {
+        volumes,
+        directory,
+        drained,
+        faults,
+        arms,
+        fuses,
+    } = state;
+    State {
+        volumes,
+        directory: DirKnown {
+            rows: directory.rows,
+            frozen: true,
+            pending: Some(PendingRow {
+                tag,
+                row: HomeRow { pair, volume },
+            }),
+        },
+        drained,
+        faults,
+        arms,
+        fuses,
+    }
 }

@@ -9,7 +9,7 @@ use hay_legal::known::DirKnown;
 use hay_needle::Settings;
 use std::alloc::Global;
 
-fn fresh_replica(alloc: Global) -> ReplicaState
+pub(crate) fn fresh_replica(alloc: Global) -> ReplicaState
     ensures { result ≡ known.empty_replica }
 {
     ReplicaState {

@@ -4,11 +4,14 @@ ghost use Rattle.std.specs.Prelude.{◌≡◌, map};
 ghost use Rattle.hay_needle.specs.declared.needle.Outcome.TheVariants as outcome;
 ghost use Rattle.hay_needle.specs.Tables.{look_after, outcome_at};
 ghost use Rattle.hay_core.specs.Entries.{entry_row, logged_row};
+ghost use Rattle.std.specs.List.{list_any};
 ghost use Rattle.hay_legal.specs.Known as known;
+ghost use Rattle.hay_legal.specs.Plain as plain;
+ghost use Rattle.hay_audit_steps.specs.Next as next;
 ghost use Rattle.hay_audit.specs.Wanted.{fits};
 
 use crate::looks::{is_same, volume_of};
-use crate::state::{State, VolumeState};
+use crate::state::{ReplicaState, State, VolumeState};
 use hay_core::{Entry, Logged};
 use hay_needle::{Cookie, Pair, Photo};
 
@@ -82,6 +85,39 @@ fn log_fits(wanted: &Wanted<'_>, log: &[Logged], base: &[(Pair, Photo)], pair: P
         }
     }
     is
+}
+
+#[tactic(auto, using(crate::proofs::Tables::stands_now))]
+fn has_pair(volume: &VolumeState, replica: &ReplicaState, pair: Pair) -> bool
+    ensures { result ≡ plain.has_pair volume.now pair replica.now }
+{
+    log_fits(
+        &Wanted::Any,
+        volume.log.as_slice(),
+        replica.base.as_slice(),
+        pair,
+    )
+}
+
+fn some_has_pair(volume: &VolumeState, pair: Pair) -> bool
+    ensures { result ≡ list_any (plain.has_pair volume.now pair) volume.now.replicas }
+{
+    for replica in volume.replicas.as_slice() {
+        if has_pair(volume, replica, pair) {
+            return true;
+        }
+    }
+    false
+}
+
+/// Whether a photo stands at the pair on some replica.
+pub(crate) fn stands_there(state: &State, pair: Pair, volume: u32) -> bool
+    ensures { result ≡ next.stands_there state.now pair volume }
+{
+    match state.volumes.as_slice().get(volume as usize) {
+        Some(volume) => some_has_pair(volume, pair),
+        None => false,
+    }
 }
 
 fn base_of(volume: &VolumeState, replica: u32) -> &[(Pair, Photo)]
