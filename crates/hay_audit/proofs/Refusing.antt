@@ -2,7 +2,7 @@
 use Rattle.std.proofs.Common.{◌≡◌, ℕ, suc, Bool, true, false, List, [], ◌∷◌, length, map, Option, Some, None, refl, ap, ◌∙◌}
 use Rattle.std.specs.Prelude.{◌&&◌}
 use Rattle.hay_reply.specs.declared.Refused.{Refused}
-use Rattle.hay_audit_steps.specs.Next.{refuse_so, same_refused}
+use Rattle.hay_audit_steps.specs.Next.{refuse_so}
 use Rattle.hay_audit.specs.Refusing.{refuses}
 
 pub refused_next : (a : Option Refused) (tries : List (Option Refused)) (b : Refused) (refused : List Refused) → refuse_so (a ∷ tries) (b ∷ refused) ≡ refuses a b && refuse_so tries refused

@@ -5,7 +5,6 @@ use Rattle.hay_script.specs.declared.Line.{Line}
 use Rattle.hay_script.specs.Script.{line_of, lines_of}
 use Rattle.hay_legal.specs.declared.known.Known.{Known}
 use Rattle.hay_legal.specs.declared.turn.Item.{Item}
-use Rattle.hay_legal.specs.Items.{Asked}
 use Rattle.hay_legal.specs.Items.Asked.{Alone}
 use Rattle.hay_audit_steps.specs.Reached.{AllAdvance, Candidate as Kept, Is}
 use Rattle.hay_audit_steps.specs.Steps.{AnyOf}

@@ -1,5 +1,4 @@
 -- What is known of one replica, and what a line changes on it.
-use Rattle.std.specs.Prelude.{◌≡◌}
 use Rattle.hay_legal.specs.declared.known.ReplicaKnown.{ReplicaKnown}
 use Rattle.hay_legal.specs.Plain as plain
 use Rattle.hay_audit.specs.declared.replicas.Standing.{Standing}
