@@ -1,6 +1,7 @@
 pub mod Endings
 pub mod Heads
 pub mod Judging
+pub mod Keyed
 pub mod Lines
 pub mod Lists
 pub mod Passing

@@ -3,8 +3,10 @@ pub mod Candidates
 pub mod Deleting
 pub mod Feeds
 pub mod Frozen
+pub mod Keyed
 pub mod Kinds
 pub mod Lines
+pub mod Links
 pub mod Outside
 pub mod Putting
 pub mod Refusing

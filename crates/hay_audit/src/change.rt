@@ -9,11 +9,11 @@ ghost use Rattle.hay_audit.specs.Sizes.{MayGrow, RunMayGrow};
 ghost use Rattle.hay_audit_steps.specs.Next as next;
 
 use crate::freezes::frozen_by;
-use crate::looks::home_in;
-use crate::state::{ReplicaState, State, VolumeState};
+use crate::pairs::{Log, Rows};
+use crate::state::{Directory, ReplicaState, State, VolumeState};
 use hay_base::{Listed, NoMemory};
 use hay_core::{CoreTag, Entry, Logged};
-use hay_legal::known::{DirKnown, HomeRow, Pending, PendingRow, Run};
+use hay_legal::known::{HomeRow, Pending, PendingRow, Run};
 use hay_needle::{Bytes, Cookie, Pair, Settings, total_of};
 use hay_url::cookie_of;
 use std::alloc::Global;
@@ -65,14 +65,14 @@ fn all_grown(
 }
 
 /// The rows, with the pair's home if it has none.
-fn settle(rows: Listed<HomeRow>, pair: Pair, volume: u32) -> Result<Listed<HomeRow>, NoMemory>
+fn settle(rows: Rows, pair: Pair, volume: u32) -> Result<Rows, NoMemory>
     ensures { IfOk result (λ settled. settled ≡ known.settled rows pair volume) }
 {
-    let mut rows = rows;
-    if home_in(rows.as_slice(), pair).is_none() {
-        rows.push(HomeRow { pair, volume })?;
+    if rows.home(pair).is_none() {
+        rows.with(HomeRow { pair, volume })
+    } else {
+        Ok(rows)
     }
-    Ok(rows)
 }
 
 /// A volume behind a put.
@@ -90,21 +90,21 @@ fn with_put(
     ensures { IfOk result (λ after. after ≡ plain.with_put volume tag pair cookie bytes) }
 {
     let VolumeState {
-        mut log,
+        log,
         frozen,
         pending,
         replicas,
     } = volume;
-    log.push(Logged {
+    let logged = Logged {
         tag,
         entry: Entry::Put {
             pair,
             cookie,
             bytes,
         },
-    })?;
+    };
     Ok(VolumeState {
-        log,
+        log: log.with(logged)?,
         frozen,
         pending,
         replicas: all_grown(alloc, size, replicas)?,
@@ -115,7 +115,7 @@ pub(crate) fn no_volume(alloc: Global) -> VolumeState
     ensures { result ≡ known.empty_volume }
 {
     VolumeState {
-        log: Listed::new(alloc),
+        log: Log::new(alloc),
         frozen: None,
         pending: None,
         replicas: Listed::new(alloc),
@@ -172,7 +172,7 @@ pub fn stored(
     } = state;
     Ok(State {
         volumes: put_on(alloc, volumes, tag, pair, bytes, size, number, cookie)?,
-        directory: DirKnown {
+        directory: Directory {
             rows: settle(directory.rows, pair, number)?,
             frozen: directory.frozen,
             pending: directory.pending,
@@ -196,14 +196,14 @@ fn with_home(state: State, pair: Pair, volume: u32) -> Result<State, NoMemory>
         arms,
         fuses,
     } = state;
-    let DirKnown {
+    let Directory {
         rows,
         frozen,
         pending,
     } = directory;
     Ok(State {
         volumes,
-        directory: DirKnown {
+        directory: Directory {
             rows: settle(rows, pair, volume)?,
             frozen,
             pending,
@@ -255,7 +255,7 @@ pub(crate) fn row_pending(state: State, tag: CoreTag, pair: Pair, volume: u32) -
     } = state;
     State {
         volumes,
-        directory: DirKnown {
+        directory: Directory {
             rows: directory.rows,
             frozen: true,
             pending: Some(PendingRow {

@@ -161,17 +161,17 @@ fn with_del(
     ensures { IfOk result (λ after. after ≡ plain.with_del ended.now tag pair volume) }
 {
     let VolumeState {
-        mut log,
+        log,
         frozen,
         pending,
         replicas,
     } = volume;
-    log.push(Logged {
+    let logged = Logged {
         tag,
         entry: Entry::Del { pair },
-    })?;
+    };
     Ok(VolumeState {
-        log,
+        log: log.with(logged)?,
         frozen,
         pending,
         replicas: ended_where(alloc, ended, replicas)?,

@@ -1,6 +1,6 @@
 //! Behind drains and fuses.
 
-ghost use Rattle.std.specs.Prelude.{◌≡◌, ◌==◌, ◌+◌, ◌-◌, ◌^◌, if◌then◌else◌, IfOk, slice_set};
+ghost use Rattle.std.specs.Prelude.{◌≡◌, ◌==◌, ◌&&◌, nat_lt, ◌+◌, ◌-◌, ◌^◌, if◌then◌else◌, IfOk, slice_set};
 ghost use Rattle.hay_legal.specs.Plain as plain;
 ghost use Rattle.hay_audit_steps.specs.Next as next;
 
@@ -62,6 +62,13 @@ fn with_drain(state: State, machine: u32, is: bool) -> State
     }
 }
 
+/// The machine that was asked for is told, and there is one.
+fn is_told(settings: &Settings, asked: u32, told: u32) -> bool
+    ensures { result ≡ ((told == asked) && nat_lt asked settings.now.machines) }
+{
+    told == asked && asked < settings.machines
+}
+
 pub(crate) fn next_drain(
     alloc: Global,
     settings: &Settings,
@@ -73,7 +80,7 @@ pub(crate) fn next_drain(
 {
     match reply {
         Reply::Drained { machine } => {
-            let test = *machine == asked && asked < settings.machines;
+            let test = is_told(settings, asked, *machine);
             keep_if(alloc, test, with_drain(state, asked, true))
         }
         Reply::Nowhere => keep_if(alloc, asked >= settings.machines, state),
@@ -92,7 +99,7 @@ pub(crate) fn next_undrain(
 {
     match reply {
         Reply::Undrained { machine } => {
-            let test = *machine == asked && asked < settings.machines;
+            let test = is_told(settings, asked, *machine);
             keep_if(alloc, test, with_drain(state, asked, false))
         }
         Reply::Nowhere => keep_if(alloc, asked >= settings.machines, state),

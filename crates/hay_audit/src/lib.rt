@@ -19,6 +19,7 @@ mod items;
 mod judge;
 mod lay;
 mod looks;
+mod pairs;
 mod photos;
 mod plain;
 mod puts;

@@ -11,8 +11,9 @@ ghost use Rattle.hay_audit_steps.specs.Next as next;
 ghost use Rattle.hay_audit.specs.Wanted.{fits};
 
 use crate::looks::{is_same, volume_of};
+use crate::pairs::Log;
 use crate::state::{ReplicaState, State, VolumeState};
-use hay_core::{Entry, Logged};
+use hay_core::Entry;
 use hay_needle::{Cookie, Pair, Photo};
 
 /// What a reply says that stands there.
@@ -46,15 +47,6 @@ fn fits_nothing(wanted: &Wanted<'_>) -> bool
     }
 }
 
-fn pair_of(entry: &Entry) -> Pair
-    ensures { result ≡ (entry_row entry.now).pair }
-{
-    match entry {
-        Entry::Put { pair, .. } => *pair,
-        Entry::Del { pair } => *pair,
-    }
-}
-
 fn entry_fits(wanted: &Wanted<'_>, entry: &Entry) -> bool
     ensures { result ≡ fits wanted.now (entry_row entry.now).outcome }
 {
@@ -75,28 +67,20 @@ fn base_fits(wanted: &Wanted<'_>, base: &[(Pair, Photo)], pair: Pair) -> bool
     fits_nothing(wanted)
 }
 
-fn log_fits(wanted: &Wanted<'_>, log: &[Logged], base: &[(Pair, Photo)], pair: Pair) -> bool
+fn log_fits(wanted: &Wanted<'_>, log: &Log, base: &[(Pair, Photo)], pair: Pair) -> bool
     ensures { result ≡ fits wanted.now (look_after (map logged_row log.now) pair (outcome_at base.now pair)) }
 {
-    let mut is = base_fits(wanted, base, pair);
-    for logged in log {
-        if is_same(pair_of(&logged.entry), pair) {
-            is = entry_fits(wanted, &logged.entry);
-        }
+    match log.last_of(pair) {
+        Some(logged) => entry_fits(wanted, &logged.entry),
+        None => base_fits(wanted, base, pair),
     }
-    is
 }
 
 #[tactic(auto, using(crate::proofs::Tables::stands_now))]
 fn has_pair(volume: &VolumeState, replica: &ReplicaState, pair: Pair) -> bool
     ensures { result ≡ plain.has_pair volume.now pair replica.now }
 {
-    log_fits(
-        &Wanted::Any,
-        volume.log.as_slice(),
-        replica.base.as_slice(),
-        pair,
-    )
+    log_fits(&Wanted::Any, &volume.log, replica.base.as_slice(), pair)
 }
 
 fn some_has_pair(volume: &VolumeState, pair: Pair) -> bool
@@ -141,12 +125,7 @@ pub(crate) fn stands(
     ensures { result ≡ fits wanted.now (outcome_at (known.now (known.volume_at state.now volume) (known.replica_at (known.volume_at state.now volume) replica)) pair) }
 {
     match volume_of(state, volume) {
-        Some(volume) => log_fits(
-            wanted,
-            volume.log.as_slice(),
-            base_of(volume, replica),
-            pair,
-        ),
+        Some(volume) => log_fits(wanted, &volume.log, base_of(volume, replica), pair),
         None => fits_nothing(wanted),
     }
 }

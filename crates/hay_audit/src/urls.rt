@@ -3,6 +3,7 @@
 ghost use Rattle.std.specs.Prelude.{◌≡◌, ◌<◌, ◌%◌, IfOk};
 ghost use Rattle.hay_legal.specs.Known as known;
 ghost use Rattle.hay_audit_steps.specs.Next as next;
+ghost use Rattle.hay_audit.specs.Links as urls;
 
 use crate::looks::{home_of, is_same, rows_of};
 use crate::plain::{keep_if, next_unknown};
@@ -25,6 +26,19 @@ fn start_machine(settings: &Settings, volume: u32, line: u64) -> u32
     machine_of(settings, volume, start_of(settings, line) as usize)
 }
 
+/// This is the URL of the pair, and so many rows there are.
+fn is_url(settings: &Settings, state: &State, line: u64, pair: Pair, rows: u64, url: &Url) -> bool
+    requires machines { 0 < settings.now.machines }
+    requires replicas { 0 < settings.now.replicas }
+    ensures { result ≡ urls.is_url settings.now state.now line pair rows url.now }
+{
+    is_at(home_of(state, pair), url.volume)
+        && (is_same(url.pair, pair)
+            && (cookie_eq(url.cookie, cookie_of(&settings.secret, pair.key))
+                && (url.machine == start_machine(settings, url.volume, line)
+                    && rows == rows_of(state))))
+}
+
 /// Behind a line that asks for a URL.
 pub(crate) fn next_url(
     alloc: Global,
@@ -40,11 +54,7 @@ pub(crate) fn next_url(
 {
     match reply {
         Reply::Url { rows, url } => {
-            let test = is_at(home_of(&state, pair), url.volume)
-                && (is_same(url.pair, pair)
-                    && (cookie_eq(url.cookie, cookie_of(&settings.secret, pair.key))
-                        && (url.machine == start_machine(settings, url.volume, line)
-                            && *rows == rows_of(&state))));
+            let test = is_url(settings, &state, line, pair, *rows, url);
             keep_if(alloc, test, state)
         }
         Reply::Unknown { rows } => next_unknown(alloc, state, pair, *rows),
