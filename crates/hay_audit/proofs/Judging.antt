@@ -25,7 +25,8 @@ use Rattle.hay_audit_steps.proofs.Judging.{fit_whole, other_header, some_fit, st
 use Rattle.hay_audit_steps.proofs.Laying.{any_left, any_right, each_both}
 use Rattle.hay_audit_steps.proofs.Loop.{advance_none, reached_more, reached_none}
 use Rattle.hay_audit_steps.proofs.Swaps.{plain_step}
-use Rattle.hay_audit.specs.Outside.{IsInside, IsJudged}
+use Rattle.hay_audit.specs.Outside.{IsInside, IsNotJudged}
+use Rattle.hay_audit.specs.Behind.{IsBehind}
 
 -- ONE CANDIDATE
 
@@ -33,23 +34,22 @@ no_restart : (asked : Item) → IsInside asked → IsNoRestart asked
 no_restart (item.Command (command.Restart pick)) inside = absurd inside
 no_restart asked inside = tt
 
-exact : (asked : Item) (r : Reply) → IsJudged r → IsExact asked r
-exact (item.Command (command.Finish v m)) (reply.Compacted v' m' g) judged = absurd judged
+exact : (asked : Item) (r : Reply) → (IsNotJudged asked r → ⊥) → IsExact asked r
+exact (item.Command (command.Finish v m)) (reply.Compacted v' m' g) judged = judged tt
 exact asked r judged = tt
 
-known : (r : Reply) → IsJudged r → r ≢ reply.NoMem
-known reply.NoMem judged e = absurd judged
-known r judged e = absurd (subst (λ (x : Reply). IsJudged x) e judged)
+known : (asked : Item) (r : Reply) → (IsNotJudged asked r → ⊥) → r ≢ reply.NoMem
+known asked r judged e = judged (subst (λ (x : Reply). IsNotJudged asked x) (sym e) tt)
 
 -- the states behind a line advance a candidate, behind the text of its reply
-pub line_advances : (settings : Settings) (line : ℕ) (asked : Item) (k : Known) (r : Reply) (text rest : List ℕ) (next : List Known) → IsInside asked → FitsReply r → IsJudged r
+pub line_advances : (settings : Settings) (line : ℕ) (asked : Item) (k : Known) (r : Reply) (text rest : List ℕ) (next : List Known) → IsInside asked → FitsReply r → (IsNotJudged asked r → ⊥)
     → next ≡ next_plain settings line asked r k → numbered_line line r ++ rest ≡ text
     → IsAdvance Is settings (Alone line asked) (candidate text k) (map (candidate rest) next)
 line_advances settings line asked k r text rest next inside fits judged is e =
     subst (λ (t : List ℕ). IsAdvance Is settings (Alone line asked) (candidate t k) (map (candidate rest) next)) e
     (lines_advance Is settings k line asked r rest next (no_restart asked inside) fits
     (exact_states_step (plain_row settings line asked r) k next
-    (subst (λ (ks : List Known). IsStep (plain_row settings line asked r) k ks) (sym is) (plain_step settings k line asked r (known r judged) (exact asked r judged)))))
+    (subst (λ (ks : List Known). IsStep (plain_row settings line asked r) k ks) (sym is) (plain_step settings k line asked r (known asked r judged) (exact asked r judged)))))
 
 pub unread_ends : (settings : Settings) (line : ℕ) (asked : Item) (c : Candidate Known) → ((r : Reply) (rest : List ℕ) → FitsReply r → numbered_line line r ++ rest ≢ c.rest) → IsAdvance Is settings (Alone line asked) c []
 unread_ends settings line asked c none = unread_lines_end Is settings c line asked none
@@ -75,15 +75,6 @@ one_more_advances settings asked cs c next more all one = record {
 }
 
 -- THE ITEMS SO FAR
-
--- The first items of the script, the lines that are left, and the candidates behind the items.
-pub record IsBehind (settings : Settings) (script transcript : List ℕ) (c : Candidate Known) (cs : List (Candidate Known)) (number turns : ℕ) (left : List ℕ) : Type 0 where
-  pub items : List Asked
-  pub parts : items_of script ≡ items ++ items_from number None (lines_of left)
-  pub count : turns ≡ length items
-  pub begins : Begins Is settings transcript c
-  pub reached : Reached Is settings items c cs
-  pub some : IsAny Is cs
 
 pub begin : (settings : Settings) (script transcript : List ℕ) (c : Candidate Known) → Begins Is settings transcript c → IsBehind settings script transcript c (c ∷ []) 1 0 script
 begin settings script transcript c begins = record {
@@ -119,7 +110,7 @@ skipped settings script transcript c cs number turns left text behind h lines no
 abbrev pub Asks : ℕ → List ℕ → Item → Type 0
 Asks number text asked = outside number (line_of None text) ≡ (Alone number asked ∷ [], None)
 
-with_item : (settings : Settings) (script transcript : List ℕ) (c : Candidate Known) (cs : List (Candidate Known)) (number turns : ℕ) (left text behind : List ℕ) (asked : Item)
+pub with_item : (settings : Settings) (script transcript : List ℕ) (c : Candidate Known) (cs : List (Candidate Known)) (number turns : ℕ) (left text behind : List ℕ) (asked : Item)
     → (h : IsBehind settings script transcript c cs number turns left) → lines_of left ≡ text ∷ lines_of behind → Asks number text asked
     → items_of script ≡ (h.items ++ Alone number asked ∷ []) ++ items_from (number + 1) None (lines_of behind)
 with_item settings script transcript c cs number turns left text behind asked h lines asks =

@@ -1,10 +1,15 @@
+pub mod Endings
 pub mod Heads
 pub mod Judging
+pub mod Keyed
 pub mod Lines
 pub mod Lists
+pub mod Passing
 pub mod Placing
 pub mod Reading
+pub mod Refusing
 pub mod Slots
 pub mod Stopping
 pub mod Tables
 pub mod Takers
+pub mod Walking

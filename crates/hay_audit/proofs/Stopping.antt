@@ -1,5 +1,5 @@
 -- Why a verdict is left open.
-use Rattle.std.proofs.Common.{◌≡◌, ℕ, zero, suc, ◌+◌, List, [], ◌∷◌, ◌++◌, length, take, drop, Option, Some, None, refl, sym, ap, subst, ◌∙◌, ◌⊎◌, inl, inr, arith}
+use Rattle.std.proofs.Common.{◌≡◌, ℕ, zero, suc, ◌+◌, List, [], ◌∷◌, ◌++◌, length, take, drop, Option, Some, None, refl, sym, ap, subst, ◌∙◌, ◌⊎◌, inl, inr, arith, append_assoc}
 use Rattle.std.specs.Prelude.{slice_get}
 use Rattle.hay_needle.specs.declared.settings.Settings.{Settings}
 use Rattle.hay_reply.specs.declared.Reply.{Reply}
@@ -18,10 +18,11 @@ use Rattle.hay_audit_steps.specs.Reached.{Candidate as Kept, Is, Reached}
 use Rattle.hay_audit_steps.specs.Steps.{AnyOf}
 use Rattle.hay_audit_steps.proofs.Laying.{any_right}
 use Rattle.hay_audit.specs.declared.judge.Candidate.{Candidate}
-use Rattle.hay_audit.specs.Candidates.{HasElse, IsElse, IsNotAsked, MayBeTooLarge, SaidBy, Stops, all_standing}
+use Rattle.hay_audit.specs.Candidates.{HasElse, IsElse, IsNotAsked, IsNotSaid, MayBeTooLarge, SaidBy, Stops, all_standing}
 use Rattle.hay_audit.specs.declared.judge.Said.TheVariants.{Other}
 use Rattle.hay_audit.specs.Outside.{IsInside, IsNotJudged, IsOutside, IsTooLarge, IsWithinItem}
-use Rattle.hay_audit.proofs.Judging.{IsBehind, front_of}
+use Rattle.hay_audit.specs.Behind.{IsBehind}
+use Rattle.hay_audit.proofs.Judging.{Asks, front_of, with_item}
 
 take_drop : (n : ℕ) (xs : List ℕ) → xs ≡ take n xs ++ drop n xs
 take_drop zero xs = refl
@@ -29,38 +30,39 @@ take_drop (suc n) [] = refl
 take_drop (suc n) (x ∷ xs) = ap (λ (ys : List ℕ). x ∷ ys) (take_drop n xs)
 
 -- a reply at the place of a candidate
-pub has_else : (transcript text : List ℕ) (line at behind : ℕ) (r : Reply) → text ≡ drop at transcript → numbered_line line r ++ drop behind text ≡ text → IsNotJudged r → HasElse transcript
-has_else transcript text line at behind r is read other =
-    (line, r, take at transcript, drop behind text, take_drop at transcript ∙ ap (λ (xs : List ℕ). take at transcript ++ xs) (sym is ∙ sym read), other)
+pub has_else : (transcript text : List ℕ) (line at behind : ℕ) (asked : Item) (r : Reply) → text ≡ drop at transcript → numbered_line line r ++ drop behind text ≡ text → IsNotJudged asked r → HasElse transcript line asked
+has_else transcript text line at behind asked r is read other =
+    (r, take at transcript, drop behind text, take_drop at transcript ∙ ap (λ (xs : List ℕ). take at transcript ++ xs) (sym is ∙ sym read), other)
 
-pub stops_by : (settings : Settings) (transcript text : List ℕ) (line behind : ℕ) (asked : Item) (r : Reply) (c : Candidate) → text ≡ drop c.at transcript → numbered_line line r ++ drop behind text ≡ text → IsInside asked
-    → IsOutside asked ⊎ IsNotJudged r ⊎ IsTooLarge settings c.state → Stops settings transcript c
-stops_by settings transcript text line behind asked r c is read within why = elim why [
-  | inl out ↦ absurd (out within)
-  | inr more ↦ elim more [
-    | inl other ↦ inl (has_else transcript text line c.at behind r is read other)
-    | inr large ↦ inr large
-  ]
-]
+pub stops_by : (settings : Settings) (transcript : List ℕ) (line : ℕ) (asked : Item) (c : Candidate) → IsInside asked → IsOutside asked ⊎ IsTooLarge settings c.state → Stops settings transcript line asked c
+stops_by settings transcript line asked c within (inl out) = absurd (out within)
+stops_by settings transcript line asked c within (inr large) = inr large
 
-pub any_stops : (settings : Settings) (transcript : List ℕ) (all done rest more : List Candidate) (c : Candidate) → all ≡ done ++ rest → rest ≡ c ∷ more → Stops settings transcript c → AnyOf (Stops settings transcript) all
-any_stops settings transcript all done rest more c parts first stops =
-    subst (λ (xs : List Candidate). AnyOf (Stops settings transcript) xs) (sym (parts ∙ ap (λ (xs : List Candidate). done ++ xs) first))
-    (any_right (Stops settings transcript) done (c ∷ more) (inl stops))
+pub any_stops : (settings : Settings) (transcript : List ℕ) (line : ℕ) (asked : Item) (all done rest more : List Candidate) (c : Candidate) → all ≡ done ++ rest → rest ≡ c ∷ more → Stops settings transcript line asked c
+    → AnyOf (Stops settings transcript line asked) all
+any_stops settings transcript line asked all done rest more c parts first stops =
+    subst (λ (xs : List Candidate). AnyOf (Stops settings transcript line asked) xs) (sym (parts ∙ ap (λ (xs : List Candidate). done ++ xs) first))
+    (any_right (Stops settings transcript line asked) done (c ∷ more) (inl stops))
 
 -- BEHIND THE ITEMS SO FAR
 
-one_of : (settings : Settings) (transcript : List ℕ) (cs : List Candidate) → AnyOf (Stops settings transcript) cs → HasElse transcript ⊎ AnyOf (λ (d : Kept Known). IsTooLarge settings d.state) (all_standing transcript cs)
-one_of settings transcript [] h = absurd h
-one_of settings transcript (c ∷ cs) (inl (inl other)) = inl other
-one_of settings transcript (c ∷ cs) (inl (inr large)) = inr (inl large)
-one_of settings transcript (c ∷ cs) (inr there) = elim (one_of settings transcript cs there) [ inl other ↦ inl other | inr large ↦ inr (inr large) ]
+one_of : (settings : Settings) (transcript : List ℕ) (line : ℕ) (asked : Item) (cs : List Candidate) → AnyOf (Stops settings transcript line asked) cs
+    → HasElse transcript line asked ⊎ AnyOf (λ (d : Kept Known). IsTooLarge settings d.state) (all_standing transcript cs)
+one_of settings transcript line asked [] h = absurd h
+one_of settings transcript line asked (c ∷ cs) (inl (inl other)) = inl other
+one_of settings transcript line asked (c ∷ cs) (inl (inr large)) = inr (inl large)
+one_of settings transcript line asked (c ∷ cs) (inr there) = elim (one_of settings transcript line asked cs there) [ inl other ↦ inl other | inr large ↦ inr (inr large) ]
 
-pub is_stopped : (settings : Settings) (script transcript : List ℕ) (c : Kept Known) (cs : List Candidate) (number turns : ℕ) (left : List ℕ)
-    → IsBehind settings script transcript c (all_standing transcript cs) number turns left → AnyOf (Stops settings transcript) cs
-    → IsNotAsked script turns ⊎ HasElse transcript ⊎ MayBeTooLarge settings script transcript turns
-is_stopped settings script transcript c cs number turns left h stops = elim (one_of settings transcript cs stops) [
-  | inl other ↦ inr (inl other)
+next_at : (items : List Asked) (asked : Asked) (rest : List Asked) → slice_get (items ++ asked ∷ rest) (length items) ≡ Some asked
+next_at [] asked rest = refl
+next_at (x ∷ items) asked rest = next_at items asked rest
+
+pub is_stopped : (settings : Settings) (script transcript : List ℕ) (c : Kept Known) (cs : List Candidate) (number turns : ℕ) (left text behind : List ℕ) (asked : Item)
+    → IsBehind settings script transcript c (all_standing transcript cs) number turns left → lines_of left ≡ text ∷ lines_of behind → Asks number text asked
+    → AnyOf (Stops settings transcript number asked) cs
+    → IsNotAsked script turns ⊎ IsNotSaid script transcript turns ⊎ MayBeTooLarge settings script transcript turns
+is_stopped settings script transcript c cs number turns left text behind asked h lines asks stops = elim (one_of settings transcript number asked cs stops) [
+  | inl other ↦ inr (inl (number, asked, here, other))
   | inr large ↦ inr (inr (
     c,
     all_standing transcript cs,
@@ -69,6 +71,12 @@ is_stopped settings script transcript c cs number turns left h stops = elim (one
     large,
   ))
 ]
+  where
+    here : slice_get (items_of script) turns ≡ Some (Alone number asked)
+    here = ap (λ (n : ℕ). slice_get (items_of script) n) h.count
+        ∙ ap (λ (xs : List Asked). slice_get xs (length h.items))
+        (with_item settings script transcript c (all_standing transcript cs) number turns left text behind asked h lines asks ∙ append_assoc h.items (Alone number asked ∷ []) (items_from (number + 1) None (lines_of behind)))
+        ∙ next_at h.items (Alone number asked) (items_from (number + 1) None (lines_of behind))
 
 record IsBlockNext (items : List Asked) : Type 0 where
   lines : List _
@@ -84,10 +92,6 @@ block_next number block (text ∷ texts) = by_line (line_of (Some block.lanes) t
     by_line line.End later = record { lines = block.lines; rest = items_from (number + 1) None texts; parts = refl }
     by_line (line.InLane lane command) later = later (with_command number lane command block)
     by_line said later = later (with_bad number block)
-
-next_at : (items : List Asked) (asked : Asked) (rest : List Asked) → slice_get (items ++ asked ∷ rest) (length items) ≡ Some asked
-next_at [] asked rest = refl
-next_at (x ∷ items) asked rest = next_at items asked rest
 
 pub is_not_asked : (settings : Settings) (script transcript : List ℕ) (c : Kept Known) (cs : List (Kept Known)) (number turns : ℕ) (left text behind : List ℕ)
     → IsBehind settings script transcript c cs number turns left → lines_of left ≡ text ∷ lines_of behind

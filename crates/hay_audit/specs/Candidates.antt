@@ -34,16 +34,21 @@ placed at k = record { state = k; at = at }
 abbrev pub AreWithin : List ℕ → List Candidate → Type 0
 AreWithin transcript cs = Each (λ c. c.at ≤ length transcript) cs
 
--- some line of the transcript has a reply of a kind that is not judged
-abbrev pub HasElse : List ℕ → Type 0
-HasElse transcript =
-    (line : ℕ) × (reply : Reply) × (front : List ℕ) × (rest : List ℕ) × (transcript ≡ front ++ (numbered_line line reply ++ rest)) × IsNotJudged reply
+-- the line has a reply of a kind that is not judged
+abbrev pub HasElse : List ℕ → ℕ → Item → Type 0
+HasElse transcript line asked =
+    (reply : Reply) × (front : List ℕ) × (rest : List ℕ) × (transcript ≡ front ++ (numbered_line line reply ++ rest)) × IsNotJudged asked reply
+
+-- so has the item of this number
+abbrev pub IsNotSaid : List ℕ → List ℕ → ℕ → Type 0
+IsNotSaid script transcript n =
+    (line : ℕ) × (asked : Item) × (slice_get (items_of script) n ≡ Some (Alone line asked)) × HasElse transcript line asked
 
 -- why a candidate does not advance
-abbrev pub Stops : Settings → List ℕ → Candidate → Type 0
-Stops settings transcript c = HasElse transcript ⊎ IsTooLarge settings c.state
+abbrev pub Stops : Settings → List ℕ → ℕ → Item → Candidate → Type 0
+Stops settings transcript line asked c = HasElse transcript line asked ⊎ IsTooLarge settings c.state
 
--- the item of this number is neither a put nor a read nor a bad line
+-- the item of this number is a restart or a block
 abbrev pub IsElse : Asked → Type 0
 IsElse (Alone number asked) = IsOutside asked
 IsElse (Block lines) = Unit {0}
@@ -61,11 +66,12 @@ abbrev pub SaidBy : Line → Said → Type 0
 SaidBy line Nothing = (number : ℕ) → outside number line ≡ ([], None)
 SaidBy line (Judged asked) = ((number : ℕ) → outside number line ≡ (Alone number asked ∷ [], None)) × IsInside asked × IsWithinItem asked
 SaidBy line Other =
-    (number : ℕ) → ((block : OpenBlock) × (outside number line ≡ ([], Some block))) ⊎ ((asked : Item) × (outside number line ≡ (Alone number asked ∷ [], None)) × IsOutside asked)
+    (number : ℕ) → ((block : OpenBlock) × (outside number line ≡ ([], Some block)))
+    ⊎ ((asked : Item) × (outside number line ≡ (Alone number asked ∷ [], None)) × IsOutside asked)
 
 -- the script's turns have the transcript as their text, or the first so many and no more, or so many at least
 abbrev pub Says : Settings → List ℕ → List ℕ → Verdict → Type 0
 Says settings script transcript (Lawful turns) = (turns ≡ length (items_of script)) × FitsWhole settings (items_of script) transcript
 Says settings script transcript (Unlawful turns) = IsGreatest settings (items_of script) transcript turns × (FitsWhole settings (items_of script) transcript → ⊥)
 Says settings script transcript (Undecided turns) =
-    Fits settings (items_of script) transcript turns × (IsNotAsked script turns ⊎ HasElse transcript ⊎ MayBeTooLarge settings script transcript turns)
+    Fits settings (items_of script) transcript turns × (IsNotAsked script turns ⊎ IsNotSaid script transcript turns ⊎ MayBeTooLarge settings script transcript turns)

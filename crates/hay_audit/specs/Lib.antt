@@ -1,6 +1,17 @@
+pub mod Behind
 pub mod Candidates
+pub mod Deleting
 pub mod Feeds
+pub mod Frozen
+pub mod Keyed
+pub mod Kinds
 pub mod Lines
+pub mod Links
 pub mod Outside
+pub mod Putting
+pub mod Refusing
+pub mod Replicas
+pub mod Showing
 pub mod Sizes
+pub mod Upkeep
 pub mod Wanted

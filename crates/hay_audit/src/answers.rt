@@ -2,14 +2,15 @@
 
 ghost use Rattle.std.specs.Prelude.{◌≡◌, ◌≢◌, ◌<◌, ◌≤◌, ℕ, List, ◌++◌, length, drop, IfOk, IfSome, IfNone, IsTrue, IsFalse, codes, decimal};
 ghost use Rattle.hay_reply.specs.declared.Reply.{Reply as ReplyOf};
-ghost use Rattle.hay_reply.specs.Fits.{FitsReply, IsLarge, IsSmall};
-ghost use Rattle.hex.specs.Hex.{IsBytes};
+ghost use Rattle.hay_reply.specs.Fits.{FitsReply};
 ghost use Rattle.hay_reply.specs.Replies as texts;
 ghost use Rattle.hay_audit.specs.Feeds as feeds;
-ghost use Rattle.hay_audit.specs.Outside.{IsJudged, IsNotJudged};
+ghost use Rattle.hay_audit.specs.Outside.{Compacts, IsNotJudged};
 
 use hay_base::NoMemory;
+use hay_legal::turn::Item;
 use hay_reply::{Reply, read_reply};
+use hay_script::Command;
 use std::alloc::Global;
 
 /// A reply, and the place behind its line.
@@ -19,77 +20,25 @@ pub(crate) struct Answer {
     pub behind: usize,
 }
 
-// What the types of numbers say of them.
-fn small(_number: u32)
-    ensures { IsSmall _number }
-{}
+fn compacts(item: &Item) -> bool
+    ensures yes { IsTrue result → Compacts item.now }
+    ensures no { IsFalse result → Compacts item.now → ⊥ }
+{
+    match item {
+        Item::Command(Command::Compact { .. } | Command::Finish { .. }) => true,
+        Item::Bad | Item::Command(_) => false,
+    }
+}
 
-fn large(_number: u64)
-    ensures { IsLarge _number }
-{}
-
-fn bytes(_bytes: &[u8])
-    ensures { IsBytes _bytes.now }
-{}
-
-/// Whether replies of this kind are judged.
-pub(crate) fn is_judged(reply: &Reply) -> bool
-    ensures fits { IsTrue result → FitsReply reply.now }
-    ensures kind { IsTrue result → IsJudged reply.now }
-    ensures other { IsFalse result → IsNotJudged reply.now }
+/// Whether this reply to the item is judged.
+pub(crate) fn is_judged(item: &Item, reply: &Reply) -> bool
+    ensures yes { IsTrue result → IsNotJudged item.now reply.now → ⊥ }
+    ensures no { IsFalse result → IsNotJudged item.now reply.now }
 {
     match reply {
-        Reply::Stored {
-            volume,
-            position,
-            rows,
-            cookie,
-        } => {
-            small(*volume);
-            large(*position);
-            large(*rows);
-            large(cookie.0);
-            true
-        }
-        Reply::Photo {
-            volume,
-            machine,
-            front,
-            rows,
-            photo,
-        } => {
-            small(*volume);
-            small(*machine);
-            large(*front);
-            large(*rows);
-            bytes(photo.as_slice());
-            large(photo.len() as u64);
-            true
-        }
-        Reply::Gone {
-            volume,
-            machine,
-            front,
-            rows,
-        }
-        | Reply::WrongCookie {
-            volume,
-            machine,
-            front,
-            rows,
-        } => {
-            small(*volume);
-            small(*machine);
-            large(*front);
-            large(*rows);
-            true
-        }
-        Reply::Unknown { rows } => {
-            large(*rows);
-            true
-        }
-        Reply::BadLine => true,
-        _ => false,
+        Reply::NoMem => false,
+        Reply::Compacted { .. } => !compacts(item),
+        _ => true,
     }
 }
 

@@ -1,6 +1,6 @@
 //! Changes of a state.
 
-ghost use Rattle.std.specs.Prelude.{◌≡◌, ◌++◌, ◌∷◌, ◌<◌, ◌+◌, ◌^◌, [], map, length, IfOk, OnOk, slice_set, option_map, slice_index_or};
+ghost use Rattle.std.specs.Prelude.{◌≡◌, ◌++◌, ◌∷◌, ◌<◌, ◌+◌, ◌^◌, [], map, length, IfOk, OnOk, slice_set, option_map, slice_index_or, true};
 ghost use Rattle.std.specs.List.{AllByRecursion as Each};
 ghost use Rattle.hay_legal.specs.Known as known;
 ghost use Rattle.hay_legal.specs.Plain as plain;
@@ -8,12 +8,14 @@ ghost use Rattle.hay_core.specs.declared.entry.Entry.TheVariants as entry;
 ghost use Rattle.hay_audit.specs.Sizes.{MayGrow, RunMayGrow};
 ghost use Rattle.hay_audit_steps.specs.Next as next;
 
-use crate::looks::home_in;
-use crate::state::{ReplicaState, State, VolumeState};
+use crate::freezes::frozen_by;
+use crate::pairs::{Log, Rows};
+use crate::state::{Directory, ReplicaState, State, VolumeState};
 use hay_base::{Listed, NoMemory};
 use hay_core::{CoreTag, Entry, Logged};
-use hay_legal::known::{DirKnown, HomeRow, Run};
-use hay_needle::{Bytes, Cookie, Pair, total_of};
+use hay_legal::known::{HomeRow, Pending, PendingRow, Run};
+use hay_needle::{Bytes, Cookie, Pair, Settings, total_of};
+use hay_url::cookie_of;
 use std::alloc::Global;
 use std::mem;
 
@@ -63,14 +65,14 @@ fn all_grown(
 }
 
 /// The rows, with the pair's home if it has none.
-fn settle(rows: Listed<HomeRow>, pair: Pair, volume: u32) -> Result<Listed<HomeRow>, NoMemory>
+fn settle(rows: Rows, pair: Pair, volume: u32) -> Result<Rows, NoMemory>
     ensures { IfOk result (λ settled. settled ≡ known.settled rows pair volume) }
 {
-    let mut rows = rows;
-    if home_in(rows.as_slice(), pair).is_none() {
-        rows.push(HomeRow { pair, volume })?;
+    if rows.home(pair).is_none() {
+        rows.with(HomeRow { pair, volume })
+    } else {
+        Ok(rows)
     }
-    Ok(rows)
 }
 
 /// A volume behind a put.
@@ -88,32 +90,32 @@ fn with_put(
     ensures { IfOk result (λ after. after ≡ plain.with_put volume tag pair cookie bytes) }
 {
     let VolumeState {
-        mut log,
+        log,
         frozen,
         pending,
         replicas,
     } = volume;
-    log.push(Logged {
+    let logged = Logged {
         tag,
         entry: Entry::Put {
             pair,
             cookie,
             bytes,
         },
-    })?;
+    };
     Ok(VolumeState {
-        log,
+        log: log.with(logged)?,
         frozen,
         pending,
         replicas: all_grown(alloc, size, replicas)?,
     })
 }
 
-fn no_volume(alloc: Global) -> VolumeState
+pub(crate) fn no_volume(alloc: Global) -> VolumeState
     ensures { result ≡ known.empty_volume }
 {
     VolumeState {
-        log: Listed::new(alloc),
+        log: Log::new(alloc),
         frozen: None,
         pending: None,
         replicas: Listed::new(alloc),
@@ -170,7 +172,7 @@ pub fn stored(
     } = state;
     Ok(State {
         volumes: put_on(alloc, volumes, tag, pair, bytes, size, number, cookie)?,
-        directory: DirKnown {
+        directory: Directory {
             rows: settle(directory.rows, pair, number)?,
             frozen: directory.frozen,
             pending: directory.pending,
@@ -180,4 +182,90 @@ pub fn stored(
         arms,
         fuses,
     })
+}
+
+/// The state, with the pair's home if it has none.
+fn with_home(state: State, pair: Pair, volume: u32) -> Result<State, NoMemory>
+    ensures { IfOk result (λ after. after ≡ known.with_home state pair volume) }
+{
+    let State {
+        volumes,
+        directory,
+        drained,
+        faults,
+        arms,
+        fuses,
+    } = state;
+    let Directory {
+        rows,
+        frozen,
+        pending,
+    } = directory;
+    Ok(State {
+        volumes,
+        directory: Directory {
+            rows: settle(rows, pair, volume)?,
+            frozen,
+            pending,
+        },
+        drained,
+        faults,
+        arms,
+        fuses,
+    })
+}
+
+/// The state behind a put that failed on a machine.
+pub(crate) fn put_frozen(
+    alloc: Global,
+    settings: &Settings,
+    state: State,
+    tag: CoreTag,
+    pair: Pair,
+    bytes: Bytes,
+    volume: u32,
+    machine: u32,
+) -> Result<State, NoMemory>
+    ensures { IfOk result (λ after. after ≡ plain.put_frozen settings.now state tag pair bytes volume machine true) }
+{
+    let pending = Pending {
+        tag,
+        entry: Entry::Put {
+            pair,
+            cookie: cookie_of(&settings.secret, pair.key),
+            bytes,
+        },
+        failed: true,
+    };
+    let frozen = frozen_by(alloc, state, volume, machine, Some(pending))?;
+    with_home(frozen, pair, volume)
+}
+
+/// The state behind a row that could not be written.
+pub(crate) fn row_pending(state: State, tag: CoreTag, pair: Pair, volume: u32) -> State
+    ensures { result ≡ plain.row_pending state tag pair volume }
+{
+    let State {
+        volumes,
+        directory,
+        drained,
+        faults,
+        arms,
+        fuses,
+    } = state;
+    State {
+        volumes,
+        directory: Directory {
+            rows: directory.rows,
+            frozen: true,
+            pending: Some(PendingRow {
+                tag,
+                row: HomeRow { pair, volume },
+            }),
+        },
+        drained,
+        faults,
+        arms,
+        fuses,
+    }
 }

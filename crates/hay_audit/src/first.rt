@@ -3,13 +3,13 @@
 ghost use Rattle.std.specs.Prelude.{◌≡◌, IfOk, replicate, false};
 ghost use Rattle.hay_legal.specs.Known as known;
 
-use crate::state::{ReplicaState, State, VolumeState};
+use crate::pairs::{Log, Rows};
+use crate::state::{Directory, ReplicaState, State, VolumeState};
 use hay_base::{Listed, NoMemory};
-use hay_legal::known::DirKnown;
 use hay_needle::Settings;
 use std::alloc::Global;
 
-fn fresh_replica(alloc: Global) -> ReplicaState
+pub(crate) fn fresh_replica(alloc: Global) -> ReplicaState
     ensures { result ≡ known.empty_replica }
 {
     ReplicaState {
@@ -39,7 +39,7 @@ fn fresh_volume(alloc: Global, settings: &Settings) -> Result<VolumeState, NoMem
     ensures { IfOk result (λ volume. volume ≡ known.fresh_volume settings.now) }
 {
     Ok(VolumeState {
-        log: Listed::new(alloc),
+        log: Log::new(alloc),
         frozen: None,
         pending: None,
         replicas: fresh_replicas(alloc, settings.replicas)?,
@@ -76,8 +76,8 @@ pub(crate) fn fresh_state(alloc: Global, settings: &Settings) -> Result<State, N
     let disks = 1 + settings.volumes as usize * settings.replicas as usize;
     Ok(State {
         volumes: fresh_volumes(alloc, settings)?,
-        directory: DirKnown {
-            rows: Listed::new(alloc),
+        directory: Directory {
+            rows: Rows::new(alloc),
             frozen: false,
             pending: None,
         },

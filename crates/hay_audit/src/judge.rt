@@ -1,19 +1,23 @@
 //! Whether a transcript is one that legal turns of a script may have written.
 
-ghost use Rattle.std.specs.Prelude.{◌≡◌, ◌<◌, ◌≤◌, ℕ, List, [], ◌∷◌, ◌++◌, drop, length, map, true, Ok, IfOk, IfSome, IfNone, OnOk, IsTrue, IsFalse, false};
+ghost use Rattle.std.specs.Prelude.{◌≡◌, ◌<◌, ◌≤◌, ◌+◌, ◌^◌};
+ghost use Rattle.std.specs.Prelude.{ℕ, List, [], ◌∷◌, ◌++◌, drop, length, map, true, Ok, IfOk, IfSome, IfNone, OnOk, IsTrue, IsFalse, false};
 ghost use Rattle.hay_needle.specs.declared.settings.Settings.{Settings as SettingsOf};
 ghost use Rattle.hay_legal.specs.declared.known.Known.{Known};
 ghost use Rattle.hay_legal.specs.Items.Asked.{Alone};
 ghost use Rattle.hay_script.specs.Script.{IsWithin, IsWithinLine};
+ghost use Rattle.hay_script.specs.declared.Line.{Line as LineOf};
 ghost use Rattle.hay_script.specs.declared.Line.TheVariants as line;
 ghost use Rattle.hay_audit_steps.specs.Judged.{Begins, IsUsed};
 ghost use Rattle.hay_audit_steps.specs.Steps.{AnyOf};
 ghost use Rattle.hay_audit_steps.specs.Reached.{AllAdvance, Candidate as Kept, Is, IsAdvance};
+ghost use Rattle.hay_audit.specs.Behind.{Walks};
 ghost use Rattle.hay_audit.specs.Candidates.{AreWithin, SaidBy, Says, Stops, all_standing, placed, standing};
 ghost use Rattle.hay_audit.specs.Outside.{IsInside, IsOutside, IsWithinItem};
 
 use crate::answers::{is_judged, read_answer};
 use crate::first::fresh_state;
+use crate::fits::fits;
 use crate::items::next_line;
 use crate::plain::next_plain;
 use crate::state::State;
@@ -51,14 +55,24 @@ pub(crate) enum Said {
     Other,
 }
 
+/// What a judge comes to behind a line.
+#[derive(Drop)]
+pub(crate) enum Walk {
+    /// These candidates, behind so many turns.
+    On {
+        candidates: Listed<Candidate>,
+        turns: u64,
+    },
+    Ends(Verdict),
+}
+
 fn is_inside(item: &Item) -> bool
     ensures yes { IsTrue result → IsInside item.now }
     ensures no { IsFalse result → IsOutside item.now }
 {
     match item {
-        Item::Bad | Item::Command(Command::Put { .. }) | Item::Command(Command::Read { .. }) =>
-            true,
-        Item::Command(_) => false,
+        Item::Command(Command::Restart { .. }) => false,
+        Item::Bad | Item::Command(_) => true,
     }
 }
 
@@ -113,15 +127,16 @@ fn advance_one(
     ensures went { result ≡ Ok true → (next : List (Kept Known)) × (all_standing transcript.now out.new ≡ all_standing transcript.now out.old ++ next)
         × IsAdvance Is settings.now (Alone line item.now) (standing transcript.now candidate) next }
     ensures within { result ≡ Ok true → AreWithin transcript.now out.old → AreWithin transcript.now out.new }
-    ensures stops { result ≡ Ok false → Stops settings.now transcript.now candidate }
+    ensures stops { result ≡ Ok false → Stops settings.now transcript.now line item.now candidate }
 {
     let Candidate { state, at } = candidate;
     let Some(answer) = read_answer(alloc, line, &transcript[at..])? else {
         return Ok(true);
     };
-    if !is_judged(&answer.reply) {
+    if !is_judged(item, &answer.reply) {
         return Ok(false);
     }
+    fits(&answer.reply);
     let Some(states) = next_plain(alloc, settings, state, line, item, &answer.reply)? else {
         return Ok(false);
     };
@@ -146,7 +161,7 @@ fn advance(
     requires within { AreWithin transcript.now candidates }
     ensures went { IfOk result (λ made. IfSome made (λ next. AllAdvance Is settings.now (Alone line item.now) (all_standing transcript.now candidates) (all_standing transcript.now next))) }
     ensures within { IfOk result (λ made. IfSome made (AreWithin transcript.now)) }
-    ensures stops { IfOk result (λ made. IfNone made (AnyOf (Stops settings.now transcript.now) candidates)) }
+    ensures stops { IfOk result (λ made. IfNone made (AnyOf (Stops settings.now transcript.now line item.now) candidates)) }
 {
     let mut out = Listed::new(alloc);
     for candidate in candidates.into_vec() {
@@ -171,6 +186,42 @@ fn is_used(transcript: &[u8], candidates: &[Candidate]) -> bool
     false
 }
 
+/// What the candidates come to behind a line that says this.
+fn walk_line(
+    alloc: Global,
+    settings: &Settings,
+    transcript: &[u8],
+    number: u64,
+    said: Said,
+    candidates: Listed<Candidate>,
+    turns: u64,
+) -> Result<Walk, NoMemory>
+    requires machines { 0 < settings.now.machines }
+    requires volumes { 0 < settings.now.volumes }
+    requires replicas { 0 < settings.now.replicas }
+    requires within { AreWithin transcript.now candidates }
+    requires few { turns + 1 < 2 ^ 64 }
+    requires told { (text : LineOf) × SaidBy text said }
+    ensures { IfOk result (Walks settings.now transcript.now candidates number turns said) }
+{
+    let item = match said {
+        Said::Nothing => return Ok(Walk::On { candidates, turns }),
+        Said::Other => return Ok(Walk::Ends(Verdict::Undecided { turns })),
+        Said::Judged(item) => item,
+    };
+    let made = advance(alloc, settings, transcript, number, &item, candidates)?;
+    let Some(next) = made else {
+        return Ok(Walk::Ends(Verdict::Undecided { turns }));
+    };
+    if next.is_empty() {
+        return Ok(Walk::Ends(Verdict::Unlawful { turns }));
+    }
+    Ok(Walk::On {
+        candidates: next,
+        turns: turns + 1,
+    })
+}
+
 /// The verdict of the lines of a script, from a first candidate.
 fn run(
     alloc: Global,
@@ -192,19 +243,15 @@ fn run(
     let mut turns: u64 = 0;
     while at < script.len() {
         let (text, behind) = next_line(alloc, script, at)?;
-        match said_by(read_line(alloc, text.as_slice(), None)?) {
-            Said::Nothing => {}
-            Said::Other => return Ok(Verdict::Undecided { turns }),
-            Said::Judged(item) => {
-                let made = advance(alloc, settings, transcript, number, &item, candidates)?;
-                let Some(next) = made else {
-                    return Ok(Verdict::Undecided { turns });
-                };
-                if next.is_empty() {
-                    return Ok(Verdict::Unlawful { turns });
-                }
+        let said = said_by(read_line(alloc, text.as_slice(), None)?);
+        match walk_line(alloc, settings, transcript, number, said, candidates, turns)? {
+            Walk::Ends(verdict) => return Ok(verdict),
+            Walk::On {
+                candidates: next,
+                turns: more,
+            } => {
                 candidates = next;
-                turns += 1;
+                turns = more;
             }
         }
         at = behind;

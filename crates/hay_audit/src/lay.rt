@@ -15,7 +15,7 @@ fn next_count(count: u64) -> u64
 }
 
 /// The counts, one of them set.
-fn set_count(counts: Listed<u64>, index: usize, count: u64) -> Listed<u64>
+pub(crate) fn set_count(counts: Listed<u64>, index: usize, count: u64) -> Listed<u64>
     ensures { result ≡ slice_set counts index count }
 {
     let mut counts = counts.into_vec();
@@ -25,7 +25,7 @@ fn set_count(counts: Listed<u64>, index: usize, count: u64) -> Listed<u64>
     Listed::from_vec(counts)
 }
 
-fn count_at(counts: &Listed<u64>, index: usize) -> u64
+pub(crate) fn count_at(counts: &Listed<u64>, index: usize) -> u64
     ensures { result ≡ slice_index counts.now index }
 {
     match counts.as_slice().get(index) {
@@ -34,7 +34,7 @@ fn count_at(counts: &Listed<u64>, index: usize) -> u64
     }
 }
 
-fn raise_disk(before: &State, slot: usize, state: State) -> State
+pub(crate) fn raise_disk(before: &State, slot: usize, state: State) -> State
     ensures { result ≡ laid.raise_disk before.now slot state }
 {
     let count = count_at(&state.faults, slot).max(next_count(count_at(&before.faults, slot)));

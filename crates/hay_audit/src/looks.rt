@@ -7,7 +7,6 @@ ghost use Rattle.hay_needle.specs.Tables.{pair_eq};
 ghost use Rattle.hay_legal.specs.Known as known;
 
 use crate::state::{ReplicaState, State, VolumeState};
-use hay_legal::known::HomeRow;
 use hay_needle::{Pair, Settings, total_of};
 
 pub(crate) fn is_same(a: Pair, b: Pair) -> bool
@@ -16,22 +15,10 @@ pub(crate) fn is_same(a: Pair, b: Pair) -> bool
     a.key == b.key && a.alt == b.alt
 }
 
-/// The volume of the first row of a pair.
-pub(crate) fn home_in(rows: &[HomeRow], pair: Pair) -> Option<u32>
-    ensures { result ≡ known.home_in rows.now pair }
-{
-    for row in rows {
-        if is_same(row.pair, pair) {
-            return Some(row.volume);
-        }
-    }
-    None
-}
-
 pub(crate) fn home_of(state: &State, pair: Pair) -> Option<u32>
     ensures { result ≡ known.home_of state.now pair }
 {
-    home_in(state.directory.rows.as_slice(), pair)
+    state.directory.rows.home(pair)
 }
 
 pub(crate) fn rows_of(state: &State) -> u64

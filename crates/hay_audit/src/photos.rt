@@ -4,12 +4,16 @@ ghost use Rattle.std.specs.Prelude.{◌≡◌, map};
 ghost use Rattle.hay_needle.specs.declared.needle.Outcome.TheVariants as outcome;
 ghost use Rattle.hay_needle.specs.Tables.{look_after, outcome_at};
 ghost use Rattle.hay_core.specs.Entries.{entry_row, logged_row};
+ghost use Rattle.std.specs.List.{list_any};
 ghost use Rattle.hay_legal.specs.Known as known;
+ghost use Rattle.hay_legal.specs.Plain as plain;
+ghost use Rattle.hay_audit_steps.specs.Next as next;
 ghost use Rattle.hay_audit.specs.Wanted.{fits};
 
 use crate::looks::{is_same, volume_of};
-use crate::state::{State, VolumeState};
-use hay_core::{Entry, Logged};
+use crate::pairs::Log;
+use crate::state::{ReplicaState, State, VolumeState};
+use hay_core::Entry;
 use hay_needle::{Cookie, Pair, Photo};
 
 /// What a reply says that stands there.
@@ -43,15 +47,6 @@ fn fits_nothing(wanted: &Wanted<'_>) -> bool
     }
 }
 
-fn pair_of(entry: &Entry) -> Pair
-    ensures { result ≡ (entry_row entry.now).pair }
-{
-    match entry {
-        Entry::Put { pair, .. } => *pair,
-        Entry::Del { pair } => *pair,
-    }
-}
-
 fn entry_fits(wanted: &Wanted<'_>, entry: &Entry) -> bool
     ensures { result ≡ fits wanted.now (entry_row entry.now).outcome }
 {
@@ -72,16 +67,41 @@ fn base_fits(wanted: &Wanted<'_>, base: &[(Pair, Photo)], pair: Pair) -> bool
     fits_nothing(wanted)
 }
 
-fn log_fits(wanted: &Wanted<'_>, log: &[Logged], base: &[(Pair, Photo)], pair: Pair) -> bool
+fn log_fits(wanted: &Wanted<'_>, log: &Log, base: &[(Pair, Photo)], pair: Pair) -> bool
     ensures { result ≡ fits wanted.now (look_after (map logged_row log.now) pair (outcome_at base.now pair)) }
 {
-    let mut is = base_fits(wanted, base, pair);
-    for logged in log {
-        if is_same(pair_of(&logged.entry), pair) {
-            is = entry_fits(wanted, &logged.entry);
+    match log.last_of(pair) {
+        Some(logged) => entry_fits(wanted, &logged.entry),
+        None => base_fits(wanted, base, pair),
+    }
+}
+
+#[tactic(auto, using(crate::proofs::Tables::stands_now))]
+fn has_pair(volume: &VolumeState, replica: &ReplicaState, pair: Pair) -> bool
+    ensures { result ≡ plain.has_pair volume.now pair replica.now }
+{
+    log_fits(&Wanted::Any, &volume.log, replica.base.as_slice(), pair)
+}
+
+fn some_has_pair(volume: &VolumeState, pair: Pair) -> bool
+    ensures { result ≡ list_any (plain.has_pair volume.now pair) volume.now.replicas }
+{
+    for replica in volume.replicas.as_slice() {
+        if has_pair(volume, replica, pair) {
+            return true;
         }
     }
-    is
+    false
+}
+
+/// Whether a photo stands at the pair on some replica.
+pub(crate) fn stands_there(state: &State, pair: Pair, volume: u32) -> bool
+    ensures { result ≡ next.stands_there state.now pair volume }
+{
+    match state.volumes.as_slice().get(volume as usize) {
+        Some(volume) => some_has_pair(volume, pair),
+        None => false,
+    }
 }
 
 fn base_of(volume: &VolumeState, replica: u32) -> &[(Pair, Photo)]
@@ -105,12 +125,7 @@ pub(crate) fn stands(
     ensures { result ≡ fits wanted.now (outcome_at (known.now (known.volume_at state.now volume) (known.replica_at (known.volume_at state.now volume) replica)) pair) }
 {
     match volume_of(state, volume) {
-        Some(volume) => log_fits(
-            wanted,
-            volume.log.as_slice(),
-            base_of(volume, replica),
-            pair,
-        ),
+        Some(volume) => log_fits(wanted, &volume.log, base_of(volume, replica), pair),
         None => fits_nothing(wanted),
     }
 }

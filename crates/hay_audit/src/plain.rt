@@ -1,25 +1,29 @@
 //! The states behind a plain line.
 
-ghost use Rattle.std.specs.Prelude.{◌≡◌, ◌<◌, ◌^◌, IfOk, IfSome, IfNone, length, ◌⊎◌, ◌%◌};
+ghost use Rattle.std.specs.Prelude.{◌≡◌, ◌<◌, ◌^◌, IfOk, IfSome, IfNone, length, ◌⊎◌};
 ghost use Rattle.hay_audit_steps.specs.Next as next;
-ghost use Rattle.hay_audit.specs.Outside.{IsNotJudged, IsOutside, IsTooLarge, IsWithinItem};
+ghost use Rattle.hay_audit.specs.Outside.{IsNamed, IsNotJudged, IsOutside, IsTooLarge, IsUnnamed, IsWithinItem};
+ghost use Rattle.hay_legal.specs.declared.turn.Item.TheVariants as item_of;
 
+use crate::del::next_del;
+use crate::fuses::{next_drain, next_fuse_dir, next_undrain};
 use crate::looks::{home_of, rows_of};
-use crate::photos::Wanted;
-use crate::puts::{Told, next_stored};
-use crate::shows::{Sight, next_shown};
+use crate::puts::next_put;
+use crate::shows::next_show;
 use crate::spread::start_of;
 use crate::state::State;
-use hay_base::{Duplicate, Listed, NoMemory};
+use crate::upkeep::{Work, next_on_replica};
+use crate::urls::{next_get, next_url};
+use hay_base::{Listed, NoMemory};
 use hay_core::CoreTag;
 use hay_legal::turn::Item;
-use hay_needle::{Bytes, Cookie, Pair, Settings};
+use hay_needle::{Pair, Settings};
 use hay_reply::Reply;
 use hay_script::Command;
 use std::alloc::Global;
 
 /// The state, where the test holds.
-fn keep_if(alloc: Global, test: bool, state: State) -> Result<Listed<State>, NoMemory>
+pub(crate) fn keep_if(alloc: Global, test: bool, state: State) -> Result<Listed<State>, NoMemory>
     ensures { IfOk result (λ states. states ≡ next.keep_if test state) }
 {
     if test {
@@ -29,7 +33,7 @@ fn keep_if(alloc: Global, test: bool, state: State) -> Result<Listed<State>, NoM
     }
 }
 
-fn next_unknown(
+pub(crate) fn next_unknown(
     alloc: Global,
     state: State,
     pair: Pair,
@@ -41,146 +45,141 @@ fn next_unknown(
     keep_if(alloc, test, state)
 }
 
-/// Behind a read by the replica with which a reader of this line starts.
-fn next_read(
+/// Behind a line that names one replica.
+fn next_named(
     alloc: Global,
     settings: &Settings,
     state: State,
     line: u64,
-    pair: Pair,
-    cookie: Cookie,
+    command: &Command,
     reply: &Reply,
-) -> Result<Option<Listed<State>>, NoMemory>
+) -> Result<Listed<State>, NoMemory>
     requires machines { 0 < settings.now.machines }
-    requires replicas { 0 < settings.now.replicas }
-    ensures some { IfOk result (λ made. IfSome made (λ states. states ≡ next.next_show settings.now state (record { lane = 0; line = line }) (line % settings.now.replicas) pair cookie reply.now)) }
-    ensures none { IfOk result (λ made. IfNone made (IsNotJudged reply.now)) }
+    requires named { IsNamed command.now }
+    requires judged { IsNotJudged (item_of.Command command.now) reply.now → ⊥ }
+    ensures { IfOk result (λ states. states ≡ next.next_plain settings.now line (item_of.Command command.now) reply.now state) }
 {
-    let start = start_of(settings, line);
-    match reply {
-        Reply::Photo {
+    match command {
+        Command::Flush { volume, machine } => {
+            let work = Work::Flush;
+            next_on_replica(alloc, settings, state, *volume, *machine, work, reply)
+        }
+        Command::Compact { volume, machine } => {
+            let work = Work::Compact;
+            next_on_replica(alloc, settings, state, *volume, *machine, work, reply)
+        }
+        Command::Begin { volume, machine } => {
+            let work = Work::Begin;
+            next_on_replica(alloc, settings, state, *volume, *machine, work, reply)
+        }
+        Command::Step {
             volume,
             machine,
-            front,
-            rows,
-            photo,
+            cells,
         } => {
-            let sight = Sight {
-                volume: *volume,
-                machine: *machine,
-                front: *front,
-                rows: *rows,
-            };
-            let wanted = Wanted::Photo {
-                cookie,
-                bytes: photo.as_slice(),
-            };
-            let states = next_shown(alloc, settings, state, line, start, pair, sight, &wanted)?;
-            Ok(Some(states))
+            let work = Work::Step { cells: *cells };
+            next_on_replica(alloc, settings, state, *volume, *machine, work, reply)
         }
-        Reply::Gone {
+        Command::Finish { volume, machine } => {
+            let work = Work::Finish;
+            next_on_replica(alloc, settings, state, *volume, *machine, work, reply)
+        }
+        Command::Fuse {
             volume,
             machine,
-            front,
-            rows,
+            calls,
         } => {
-            let sight = Sight {
-                volume: *volume,
-                machine: *machine,
-                front: *front,
-                rows: *rows,
-            };
-            let states = next_shown(
-                alloc,
-                settings,
-                state,
-                line,
-                start,
-                pair,
-                sight,
-                &Wanted::Nothing,
-            )?;
-            Ok(Some(states))
+            let work = Work::Fuse { calls: *calls };
+            next_on_replica(alloc, settings, state, *volume, *machine, work, reply)
         }
-        Reply::WrongCookie {
-            volume,
-            machine,
-            front,
-            rows,
-        } => {
-            let sight = Sight {
-                volume: *volume,
-                machine: *machine,
-                front: *front,
-                rows: *rows,
-            };
-            let wanted = Wanted::Other { cookie };
-            let states = next_shown(alloc, settings, state, line, start, pair, sight, &wanted)?;
-            Ok(Some(states))
-        }
-        Reply::Unknown { rows } => Ok(Some(next_unknown(alloc, state, pair, *rows)?)),
-        Reply::Stored { .. } | Reply::BadLine => Ok(Some(Listed::new(alloc))),
-        _ => Ok(None),
+        _ => unreachable!(),
     }
 }
 
-fn next_put(
+/// Behind a line that names no replica, and neither stores nor restarts.
+fn next_unnamed(
     alloc: Global,
     settings: &Settings,
     state: State,
     line: u64,
-    pair: Pair,
-    photo: &Bytes,
+    command: &Command,
+    reply: &Reply,
+) -> Result<Listed<State>, NoMemory>
+    requires machines { 0 < settings.now.machines }
+    requires replicas { 0 < settings.now.replicas }
+    requires unnamed { IsUnnamed command.now }
+    ensures { IfOk result (λ states. states ≡ next.next_plain settings.now line (item_of.Command command.now) reply.now state) }
+{
+    match command {
+        Command::Read { pair, cookie } => {
+            let start = start_of(settings, line);
+            next_show(alloc, settings, state, line, start, *pair, *cookie, reply)
+        }
+        Command::Get { url } => next_get(alloc, settings, state, line, url, reply),
+        Command::Del { pair } => {
+            let tag = CoreTag { lane: 0, line };
+            next_del(alloc, settings, state, tag, *pair, reply)
+        }
+        Command::Url { pair } => next_url(alloc, settings, state, line, *pair, reply),
+        Command::Drain { machine } => next_drain(alloc, settings, state, *machine, reply),
+        Command::Undrain { machine } => next_undrain(alloc, settings, state, *machine, reply),
+        Command::FuseDir { calls } => next_fuse_dir(alloc, state, *calls, reply),
+        Command::Put { .. }
+        | Command::Flush { .. }
+        | Command::Compact { .. }
+        | Command::Begin { .. }
+        | Command::Step { .. }
+        | Command::Finish { .. }
+        | Command::Fuse { .. }
+        | Command::Restart { .. } => unreachable!(),
+    }
+}
+
+fn next_command(
+    alloc: Global,
+    settings: &Settings,
+    state: State,
+    line: u64,
+    command: &Command,
     reply: &Reply,
 ) -> Result<Option<Listed<State>>, NoMemory>
     requires machines { 0 < settings.now.machines }
     requires volumes { 0 < settings.now.volumes }
-    requires size { length photo.now < 2 ^ 32 }
-    ensures some { IfOk result (λ made. IfSome made (λ states. states ≡ next.next_put settings.now state (record { lane = 0; line = line }) pair photo.now reply.now)) }
-    ensures none { IfOk result (λ made. IfNone made (IsNotJudged reply.now ⊎ IsTooLarge settings.now state)) }
+    requires replicas { 0 < settings.now.replicas }
+    requires within { IsWithinItem (item_of.Command command.now) }
+    requires judged { IsNotJudged (item_of.Command command.now) reply.now → ⊥ }
+    ensures some { IfOk result (λ made. IfSome made (λ states. states ≡ next.next_plain settings.now line (item_of.Command command.now) reply.now state)) }
+    ensures none { IfOk result (λ made. IfNone made (IsOutside (item_of.Command command.now) ⊎ IsTooLarge settings.now state)) }
 {
-    match reply {
-        Reply::Stored {
-            volume,
-            position,
-            rows,
-            cookie,
-        } => {
-            let told = Told {
-                volume: *volume,
-                position: *position,
-                rows: *rows,
-                cookie: *cookie,
-            };
+    match command {
+        Command::Put { pair, photo } => {
             let tag = CoreTag { lane: 0, line };
-            let bytes = photo.duplicate(alloc)?;
-            next_stored(alloc, settings, state, tag, pair, bytes, told)
+            next_put(alloc, settings, state, tag, *pair, photo, reply)
         }
-        Reply::Photo { .. }
-        | Reply::Gone { .. }
-        | Reply::WrongCookie { .. }
-        | Reply::Unknown { .. }
-        | Reply::BadLine => Ok(Some(Listed::new(alloc))),
-        _ => Ok(None),
+        Command::Read { .. }
+        | Command::Get { .. }
+        | Command::Del { .. }
+        | Command::Url { .. }
+        | Command::Drain { .. }
+        | Command::Undrain { .. }
+        | Command::FuseDir { .. } => {
+            let states = next_unnamed(alloc, settings, state, line, command, reply)?;
+            Ok(Some(states))
+        }
+        Command::Flush { .. }
+        | Command::Compact { .. }
+        | Command::Begin { .. }
+        | Command::Step { .. }
+        | Command::Finish { .. }
+        | Command::Fuse { .. } => {
+            let states = next_named(alloc, settings, state, line, command, reply)?;
+            Ok(Some(states))
+        }
+        Command::Restart { .. } => Ok(None),
     }
 }
 
-fn next_bad(alloc: Global, state: State, reply: &Reply) -> Result<Option<Listed<State>>, NoMemory>
-    ensures some { IfOk result (λ made. IfSome made (λ states. states ≡ next.next_bad state reply.now)) }
-    ensures none { IfOk result (λ made. IfNone made (IsNotJudged reply.now)) }
-{
-    match reply {
-        Reply::BadLine => Ok(Some(Listed::one(alloc, state)?)),
-        Reply::Stored { .. }
-        | Reply::Photo { .. }
-        | Reply::Gone { .. }
-        | Reply::WrongCookie { .. }
-        | Reply::Unknown { .. } => Ok(Some(Listed::new(alloc))),
-        _ => Ok(None),
-    }
-}
-
-/// The states behind a plain line that was answered so, unless its command or its reply is not judged yet.
+/// The states behind a plain line that was answered so, unless it is a restart, or a size is too large.
 pub(crate) fn next_plain(
     alloc: Global,
     settings: &Settings,
@@ -193,17 +192,15 @@ pub(crate) fn next_plain(
     requires volumes { 0 < settings.now.volumes }
     requires replicas { 0 < settings.now.replicas }
     requires within { IsWithinItem item.now }
+    requires judged { IsNotJudged item.now reply.now → ⊥ }
     ensures some { IfOk result (λ made. IfSome made (λ states. states ≡ next.next_plain settings.now line item.now reply.now state)) }
-    ensures none { IfOk result (λ made. IfNone made (IsOutside item.now ⊎ IsNotJudged reply.now ⊎ IsTooLarge settings.now state)) }
+    ensures none { IfOk result (λ made. IfNone made (IsOutside item.now ⊎ IsTooLarge settings.now state)) }
 {
     match item {
-        Item::Bad => next_bad(alloc, state, reply),
-        Item::Command(Command::Put { pair, photo }) => {
-            next_put(alloc, settings, state, line, *pair, photo, reply)
+        Item::Bad => {
+            let states = keep_if(alloc, matches!(reply, Reply::BadLine), state)?;
+            Ok(Some(states))
         }
-        Item::Command(Command::Read { pair, cookie }) => {
-            next_read(alloc, settings, state, line, *pair, *cookie, reply)
-        }
-        Item::Command(_) => Ok(None),
+        Item::Command(command) => { next_command(alloc, settings, state, line, command, reply) }
     }
 }

@@ -17,5 +17,5 @@ loop-candidate-preserved c =
 pub returns-then-not-branch-clause-stops : goal.returns-then-not-branch-clause-stops
 returns-then-not-branch-clause-stops c =
     let before = (c.loop-candidate.invariant).0 in
-    any_stops c.args.settings.now c.args.transcript.now c.args.candidates before.0 c.loop-candidate.candidate-iterator.rest.items c.next.new.self.rest.items c.in-Some.candidate before.1 (c.in-Some.ensures.steps).0
+    any_stops c.args.settings.now c.args.transcript.now c.args.line c.args.item.now c.args.candidates before.0 c.loop-candidate.candidate-iterator.rest.items c.next.new.self.rest.items c.in-Some.candidate before.1 (c.in-Some.ensures.steps).0
     (c.in_ok-advance_one.ensures.stops (ap (λ (b : Bool). Ok b) c.if-not-branch.true))

@@ -7,7 +7,7 @@ use Rattle.hay_reply.specs.Replies.{numbered_line}
 use Rattle.hay_audit_steps.specs.Next.{next_plain}
 use Rattle.hay_audit.specs.declared.answers.Answer.{Answer}
 use Rattle.hay_audit.proofs.Placing.{goes_nowhere, goes_to, placed_within}
-use Rattle.hay_audit.specs.Outside.{IsNotJudged, IsOutside, IsTooLarge}
+use Rattle.hay_audit.specs.Outside.{IsOutside, IsTooLarge}
 use Rattle.hay_audit.proofs.Stopping.{has_else, stops_by}
 use Rattle.hay_audit.proofs.Reading.{all_behind}
 use Rattle.hay_audit.proofs.judge.advance_one.Goals as goal
@@ -25,7 +25,7 @@ returns-clause-went c = λ e.
     let made = subst (λ (o : Option (List Known)). IfSome o (λ states. states ≡ next_plain c.args.settings.now c.args.line c.args.item.now (c.in-Some.answer).reply c.args.candidate.state)) c.in-Some-2.is c.in_ok-states.ensures.some in
     goes_to c.args.settings.now c.args.line c.args.item.now c.args.transcript.now (take (length c.args.transcript.now - c.args.candidate.at) (drop c.args.candidate.at c.args.transcript.now)) c.args.candidate c.args.out.now c.push_all.new.out
     (c.in-Some.answer).reply (c.in-Some.answer).behind c.in-Some-2.states (all_behind c.args.transcript.now c.args.candidate.at) c.requires.inside
-    (c.if-not-is_judged.ensures.fits refl) (c.if-not-is_judged.ensures.kind refl) made read.1 c.in_ok-push_all.ensures
+    c.fits.ensures (c.if-not-is_judged.ensures.yes refl) made read.1 c.in_ok-push_all.ensures
 
 pub returns-clause-within : goal.returns-clause-within
 returns-clause-within c = λ e h.
@@ -36,12 +36,10 @@ returns-clause-within c = λ e h.
 pub returns-then-not-is_judged-clause-stops : goal.returns-then-not-is_judged-clause-stops
 returns-then-not-is_judged-clause-stops c = λ e.
     let read = subst (λ (o : Option Answer). IfSome o (λ answer. (answer.behind ≤ length (take (length c.args.transcript.now - c.args.candidate.at) (drop c.args.candidate.at c.args.transcript.now))) × (numbered_line c.args.line answer.reply ++ drop answer.behind (take (length c.args.transcript.now - c.args.candidate.at) (drop c.args.candidate.at c.args.transcript.now)) ≡ take (length c.args.transcript.now - c.args.candidate.at) (drop c.args.candidate.at c.args.transcript.now)))) c.in-Some.is c.in_ok-answer.ensures.some in
-    inl (has_else c.args.transcript.now (take (length c.args.transcript.now - c.args.candidate.at) (drop c.args.candidate.at c.args.transcript.now)) c.args.line c.args.candidate.at (c.in-Some.answer).behind (c.in-Some.answer).reply
-    (all_behind c.args.transcript.now c.args.candidate.at) read.1 (c.if-not-is_judged.ensures.other refl))
+    inl (has_else c.args.transcript.now (take (length c.args.transcript.now - c.args.candidate.at) (drop c.args.candidate.at c.args.transcript.now)) c.args.line c.args.candidate.at (c.in-Some.answer).behind c.args.item.now (c.in-Some.answer).reply
+    (all_behind c.args.transcript.now c.args.candidate.at) read.1 (c.if-not-is_judged.ensures.no refl))
 
 pub returns-in_default-2-clause-stops : goal.returns-in_default-2-clause-stops
 returns-in_default-2-clause-stops c = λ e.
-    let read = subst (λ (o : Option Answer). IfSome o (λ answer. (answer.behind ≤ length (take (length c.args.transcript.now - c.args.candidate.at) (drop c.args.candidate.at c.args.transcript.now))) × (numbered_line c.args.line answer.reply ++ drop answer.behind (take (length c.args.transcript.now - c.args.candidate.at) (drop c.args.candidate.at c.args.transcript.now)) ≡ take (length c.args.transcript.now - c.args.candidate.at) (drop c.args.candidate.at c.args.transcript.now)))) c.in-Some.is c.in_ok-answer.ensures.some in
-    stops_by c.args.settings.now c.args.transcript.now (take (length c.args.transcript.now - c.args.candidate.at) (drop c.args.candidate.at c.args.transcript.now)) c.args.line (c.in-Some.answer).behind c.args.item.now (c.in-Some.answer).reply c.args.candidate
-    (all_behind c.args.transcript.now c.args.candidate.at) read.1 c.requires.inside
-    (subst (λ (o : Option (List Known)). IfNone o (IsOutside c.args.item.now ⊎ IsNotJudged (c.in-Some.answer).reply ⊎ IsTooLarge c.args.settings.now c.args.candidate.state)) c.in_default-2.is c.in_ok-states.ensures.none)
+    stops_by c.args.settings.now c.args.transcript.now c.args.line c.args.item.now c.args.candidate c.requires.inside
+    (subst (λ (o : Option (List Known)). IfNone o (IsOutside c.args.item.now ⊎ IsTooLarge c.args.settings.now c.args.candidate.state)) c.in_default-2.is c.in_ok-states.ensures.none)

@@ -1,6 +1,6 @@
 use Rattle.std.proofs.Common.{◌+◌, ◌-◌, ◌<◌, ◌≤◌, drop, length}
+use Rattle.hay_audit.specs.Behind.{IsBehind}
 use Rattle.hay_audit.specs.Candidates.{AreWithin, all_standing, standing}
-use Rattle.hay_audit.proofs.Judging.{IsBehind}
 use Rattle.hay_audit.proofs.judge.run.Given as goal
 
 abbrev pub invariant-loop-at : goal.invariant-loop-at
