@@ -5,3 +5,5 @@ pub mod Maintained
 pub mod Changed
 pub mod Putting
 pub mod Compacted
+pub mod Reading
+pub mod Showing

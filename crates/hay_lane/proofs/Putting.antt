@@ -40,7 +40,7 @@ rows_as Is Is' x is = record { is = is; volumes = x.volumes; arm = x.arm }
 
 -- THE TRIES IN THEIR ORDER
 
-range_parts : (at n k : ℕ) → range_with_len at (n + suc k) ≡ range_with_len at n ++ (at + n) ∷ range_with_len (at + n + 1) k
+pub range_parts : (at n k : ℕ) → range_with_len at (n + suc k) ≡ range_with_len at n ++ (at + n) ∷ range_with_len (at + n + 1) k
 range_parts at zero k =
     let e : zero + suc k ≡ suc k = omega arith in
     let f : at ≡ at + zero = omega arith in ap (λ n. range_with_len at n) e ∙ ap (λ i. i ∷ range_with_len (i + 1) k) f

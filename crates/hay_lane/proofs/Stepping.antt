@@ -1,5 +1,5 @@
 -- A call at a seat is a step of its lane.
-use Rattle.std.proofs.Common.{◌≡◌, ◌≢◌, ℕ, ◌<◌, List, length, Some, refl, sym, ap, subst, ◌∙◌, arith}
+use Rattle.std.proofs.Common.{◌≡◌, ◌≢◌, ◌⊎◌, ℕ, ◌^◌, ◌<◌, ◌≤◌, List, length, Some, refl, sym, ap, subst, ◌∙◌, arith}
 use Rattle.std.specs.Prelude.{slice_get, slice_index_or, slice_set}
 use Rattle.std.proofs.lemmas.List.{with_items_is}
 use Rattle.std.specs.Vec.{with_items}
@@ -13,7 +13,7 @@ use Rattle.hay_meeting.specs.declared.act.VolumeAct.{VolumeAct}
 use Rattle.hay_meeting.specs.Acts.{Start}
 use Rattle.hay_meeting.specs.Locks.{LockSight}
 use Rattle.hay_holdings.specs.Rows.{DirectoryCall}
-use Rattle.hay_holdings.specs.Sights.{AtDirectory, AtVolume}
+use Rattle.hay_holdings.specs.Sights.{AtArm, AtDirectory, AtVolume}
 use Rattle.hay_holdings.specs.Volumes.{VolumeCall}
 use Rattle.hay_lane.specs.declared.lane.Lane.{Lane}
 use Rattle.hay_lane.specs.declared.lane.Shared.{Shared}
@@ -21,7 +21,7 @@ use Rattle.hay_lane.specs.Lanes.{IsOf, IsSeated, known_by, sight}
 use Rattle.hay_lane.specs.Tellings.{Stays, StoreVolume}
 use Rattle.hay_lane.proofs.Lists.{get_read, get_set, get_set_other, length_set}
 
-module _ {V D S T : Type 0} (fits : V → Settings → ℕ → S → Type 0) (fits_rows : D → Settings → ℕ → T → Type 0) (shared : Shared V D) (number : ℕ) (lane : Lane S T)
+module _ {V D S T A : Type 0} (fits : V → Settings → ℕ → S → Type 0) (fits_rows : D → Settings → ℕ → T → Type 0) (shared : Shared V D) (number : ℕ) (lane : Lane S T A)
     (seated : IsSeated fits fits_rows shared number lane) where
   -- AT A VOLUME, by its lock and the seat
 
@@ -42,8 +42,8 @@ module _ {V D S T : Type 0} (fits : V → Settings → ℕ → S → Type 0) (fi
 
     -- and has become another
     module _ (found : V) (found_is : found ≡ slice_index_or locks v lock) (new : S) where
-      abbrev pub moved : Lane S T
-      moved = record { volumes = with_items lane.volumes (slice_set seats v new); directory = lane.directory; faults = lane.faults }
+      abbrev pub moved : Lane S T A
+      moved = record { volumes = with_items lane.volumes (slice_set seats v new); directory = lane.directory; arm = lane.arm }
 
       pub items_are : (moved.volumes).items ≡ slice_set seats v new
       items_are = with_items_is lane.volumes (slice_set seats v new) (length_set seats v new ∙ (ap length seats_are ∙ sym (lane.volumes).ok.0))
@@ -63,6 +63,8 @@ module _ {V D S T : Type 0} (fits : V → Settings → ℕ → S → Type 0) (fi
           machines = seated.machines;
           some = seated.some;
           replicas = seated.replicas;
+          fewer = seated.fewer;
+          few = seated.few;
           drains = seated.drains;
           locks = seated.locks;
           seats = ap length items_are ∙ (length_set seats v new ∙ (ap length seats_are ∙ seated.seats));
@@ -88,9 +90,9 @@ module _ {V D S T : Type 0} (fits : V → Settings → ℕ → S → Type 0) (fi
         }
 
       -- what the call told is a step of the lane
-      pub stepped : (of : S → LockSight VolumeAct Entry) (of_rows : T → LockSight DirAct HomeRow) (Is : VolumeCall) → Is (of (slice_index_or seats v seat)) (of new)
-          → AtVolume v Is (sight of of_rows lane) (sight of of_rows moved)
-      stepped of of_rows Is is = record {
+      pub stepped : (of : S → LockSight VolumeAct Entry) (of_rows : T → LockSight DirAct HomeRow) (faults : A → ℕ) (Is : VolumeCall) → Is (of (slice_index_or seats v seat)) (of new)
+          → AtVolume v Is (sight of of_rows faults lane) (sight of of_rows faults moved)
+      stepped of of_rows faults Is is = record {
         is = subst (λ x. Is (known_by of (slice_get (lane.volumes).items v)) (known_by of x)) (sym now_at)
             (subst (λ x. Is (known_by of x) (of new)) (sym seat_at) is);
         others = λ u differs. ap (known_by of) (still_at u differs);
@@ -101,8 +103,8 @@ module _ {V D S T : Type 0} (fits : V → Settings → ℕ → S → Type 0) (fi
   -- AT THE DIRECTORY
 
   module _ (new : T) where
-    abbrev pub moved_rows : Lane S T
-    moved_rows = record { volumes = lane.volumes; directory = new; faults = lane.faults }
+    abbrev pub moved_rows : Lane S T A
+    moved_rows = record { volumes = lane.volumes; directory = new; arm = lane.arm }
 
     module _ (is_at_rows : T → Start → Type 0) (stays : Stays fits_rows is_at_rows shared.directory lane.directory new) where
       pub still_seated_rows : IsSeated fits fits_rows shared number moved_rows
@@ -110,6 +112,8 @@ module _ {V D S T : Type 0} (fits : V → Settings → ℕ → S → Type 0) (fi
         machines = seated.machines;
         some = seated.some;
         replicas = seated.replicas;
+        fewer = seated.fewer;
+        few = seated.few;
         drains = seated.drains;
         locks = seated.locks;
         seats = seated.seats;
@@ -120,6 +124,33 @@ module _ {V D S T : Type 0} (fits : V → Settings → ℕ → S → Type 0) (fi
       pub still_of_rows : (is_at : S → StoreVolume → Type 0) (settings : Settings) (start : Start) → IsOf is_at is_at_rows settings start lane → IsOf is_at is_at_rows settings start moved_rows
       still_of_rows is_at settings start of = record { each = of.each; rows = stays.at_still start of.rows }
 
-    pub stepped_rows : (of : S → LockSight VolumeAct Entry) (of_rows : T → LockSight DirAct HomeRow) (Is : DirectoryCall) → Is (of_rows lane.directory) (of_rows new)
-        → AtDirectory Is (sight of of_rows lane) (sight of of_rows moved_rows)
-    stepped_rows of of_rows Is is = record { is = is; volumes = λ v. refl; arm = refl }
+    pub stepped_rows : (of : S → LockSight VolumeAct Entry) (of_rows : T → LockSight DirAct HomeRow) (faults : A → ℕ) (Is : DirectoryCall) → Is (of_rows lane.directory) (of_rows new)
+        → AtDirectory Is (sight of of_rows faults lane) (sight of of_rows faults moved_rows)
+    stepped_rows of of_rows faults Is is = record { is = is; volumes = λ v. refl; arm = refl }
+
+  -- AT THE ARM
+
+  module _ (new : A) where
+    abbrev pub moved_arm : Lane S T A
+    moved_arm = record { volumes = lane.volumes; directory = lane.directory; arm = new }
+
+    pub still_seated_arm : IsSeated fits fits_rows shared number moved_arm
+    still_seated_arm = record {
+      machines = seated.machines;
+      some = seated.some;
+      replicas = seated.replicas;
+      fewer = seated.fewer;
+      few = seated.few;
+      drains = seated.drains;
+      locks = seated.locks;
+      seats = seated.seats;
+      each = seated.each;
+      rows = seated.rows;
+    }
+
+    pub still_of_arm : (is_at : S → StoreVolume → Type 0) (is_at_rows : T → Start → Type 0) (settings : Settings) (start : Start) → IsOf is_at is_at_rows settings start lane → IsOf is_at is_at_rows settings start moved_arm
+    still_of_arm is_at is_at_rows settings start of = record { each = of.each; rows = of.rows }
+
+    pub fetched : (of : S → LockSight VolumeAct Entry) (of_rows : T → LockSight DirAct HomeRow) (faults : A → ℕ) → faults lane.arm ≤ faults new → (faults new ≡ faults lane.arm) ⊎ (faults new < 2 ^ 64)
+        → AtArm (sight of of_rows faults lane) (sight of of_rows faults moved_arm)
+    fetched of of_rows faults later most = record { volumes = λ v. refl; directory = refl; arm = later; most = most }

@@ -1,5 +1,5 @@
 -- A lane at the locks that are shared, and what it knows of them.
-use Rattle.std.specs.Prelude.{◌≡◌, ℕ, ◌<◌, [], length, slice_get, Option, Some, None}
+use Rattle.std.specs.Prelude.{◌≡◌, ℕ, ◌<◌, ◌≤◌, [], length, slice_get, Option, Some, None}
 use Rattle.hay_needle.specs.declared.settings.Settings.{Settings}
 use Rattle.hay_core.specs.declared.entry.Entry.{Entry}
 use Rattle.hay_legal.specs.declared.known.HomeRow.{HomeRow}
@@ -19,21 +19,23 @@ abbrev pub known_by : {S : Type 0} → (S → LockSight VolumeAct Entry) → Opt
 known_by of None = record { seen = []; own = []; shown = [] }
 known_by of (Some seat) = of seat
 
-abbrev pub sight : {S T : Type 0} → (S → LockSight VolumeAct Entry) → (T → LockSight DirAct HomeRow) → Lane S T → Sight
-sight of of_rows lane = record {
+abbrev pub sight : {S T A : Type 0} → (S → LockSight VolumeAct Entry) → (T → LockSight DirAct HomeRow) → (A → ℕ) → Lane S T A → Sight
+sight of of_rows faults lane = record {
   volumes = λ v. known_by of (slice_get (lane.volumes).items v);
   directory = of_rows lane.directory;
-  arm = lane.faults;
+  arm = faults lane.arm;
 }
 
 -- WHERE IT HAS ITS SEATS
 
 -- a lock and a seat of it for each volume, and the Directory's
-pub record IsSeated {V D S T : Type 0} (fits : V → Settings → ℕ → S → Type 0) (fits_rows : D → Settings → ℕ → T → Type 0)
-    (shared : Shared V D) (number : ℕ) (lane : Lane S T) : Type 0 where
+pub record IsSeated {V D S T A : Type 0} (fits : V → Settings → ℕ → S → Type 0) (fits_rows : D → Settings → ℕ → T → Type 0)
+    (shared : Shared V D) (number : ℕ) (lane : Lane S T A) : Type 0 where
   pub machines : 0 < (shared.settings).machines
   pub some : 0 < (shared.settings).volumes
   pub replicas : 0 < (shared.settings).replicas
+  pub fewer : (shared.settings).replicas ≤ (shared.settings).machines
+  pub few : (shared.settings).replicas ≤ 4
   pub drains : length (shared.drained).items ≡ (shared.settings).machines
   pub locks : length (shared.volumes).items ≡ (shared.settings).volumes
   pub seats : length (lane.volumes).items ≡ (shared.settings).volumes
@@ -41,6 +43,6 @@ pub record IsSeated {V D S T : Type 0} (fits : V → Settings → ℕ → S → 
   pub rows : fits_rows shared.directory shared.settings number lane.directory
 
 -- these locks were made round a store that stood so
-pub record IsOf {S T : Type 0} (is_at : S → StoreVolume → Type 0) (is_at_rows : T → Start → Type 0) (settings : Settings) (start : Start) (lane : Lane S T) : Type 0 where
+pub record IsOf {S T A : Type 0} (is_at : S → StoreVolume → Type 0) (is_at_rows : T → Start → Type 0) (settings : Settings) (start : Start) (lane : Lane S T A) : Type 0 where
   pub each : (v : ℕ) (seat : S) → slice_get (lane.volumes).items v ≡ Some seat → is_at seat (record { settings = settings; start = start; number = v })
   pub rows : is_at_rows lane.directory start

@@ -2,3 +2,4 @@ pub mod Tellings
 pub mod Lanes
 pub mod Replies
 pub mod Puts
+pub mod Reads

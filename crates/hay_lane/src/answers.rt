@@ -1,5 +1,25 @@
 //! What calls at a volume answer.
 
+use hay_disk::Piece;
+use hay_map::Row;
+
+/// The places of a pair's photo, one for each replica, and the front of the volume where they are so.
+#[derive(Drop)]
+pub struct Looked<P: Piece> {
+    pub front: u64,
+    pub row: Row<P>,
+}
+
+/// Why a place was not seen.
+#[derive(Clone, Copy, Debug)]
+pub enum SightFault {
+    /// The replica's disk failed.
+    Failed { faults: u64 },
+    /// A disk that does not tell what it has may be found damaged.
+    Damaged { at: u64 },
+    NoMemory,
+}
+
 /// Whether a volume takes a photo.
 #[derive(Clone, Copy, Debug)]
 pub enum Room {

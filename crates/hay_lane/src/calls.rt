@@ -1,6 +1,9 @@
 //! What a lane calls at locks.
-ghost use Rattle.std.specs.Prelude.{◌≤◌, ◌<◌, ℕ, true, false, IfOk, IfSome, length};
+ghost use Rattle.std.specs.Prelude.{◌≡◌, ◌⊎◌, ◌≤◌, ◌<◌, [], ℕ, true, false, IfOk, IfSome, length};
 ghost use Rattle.hay_core.specs.declared.entry.Entry.{Entry};
+ghost use Rattle.hay_map.specs.Places.{place_in};
+ghost use Rattle.hay_reader.specs.Tried.{CanShow};
+ghost use Rattle.hay_lane.specs.Reads.{LookTells, SeeTells, WasSeen};
 ghost use Rattle.hay_needle.specs.declared.settings.Settings.{Settings};
 ghost use Rattle.hay_legal.specs.declared.known.HomeRow.{HomeRow};
 ghost use Rattle.hay_meeting.specs.declared.act.DirAct.{DirAct};
@@ -10,9 +13,10 @@ ghost use Rattle.hay_meeting.specs.Locks.{LockSight};
 ghost use Rattle.hay_holdings.specs.Rows.{Drained, FusedDir, HomeShown};
 ghost use Rattle.hay_lane.specs.Tellings.{BeginTells, CompactionTells, DeleteTells, FinishTells, FlushTells, FrozenTells, FuseTells, PutTells, RoomTells, SettleTells, Stays, StepTells, StoreVolume};
 
-use crate::answers::{Begin, Compaction, Delete, Finish, Flush, Put, Room, Step};
+use crate::answers::{Begin, Compaction, Delete, Finish, Flush, Looked, Put, Room, SightFault, Step};
 use hay_core::CoreTag;
 use hay_directory::DirFault;
+use hay_disk::Piece;
 use hay_needle::{Cookie, MAX_PHOTO, Pair};
 use std::alloc::Global;
 use std::sync::Wait;
@@ -20,6 +24,9 @@ use std::sync::Wait;
 /// A volume behind a lock. Each call holds it once, for a line of the seat's lane.
 pub trait VolumeCalls {
     type Seat: Drop;
+
+    /// By what a photo is fetched.
+    type Piece: Piece;
 
     /// What the seat's lane knows of the volume.
     ghost sight: { Self.Seat → LockSight VolumeAct Entry };
@@ -29,6 +36,32 @@ pub trait VolumeCalls {
 
     /// Where the disks tell what they have, the lock was made round this volume of a store.
     ghost is_at: { Self.Seat → StoreVolume → Type 0 };
+
+    /// The places of a pair's photo that the seat is shown, without the lock.
+    fn look<R: Wait>(&self, rt: &R, seat: &mut Self::Seat, pair: Pair) -> Looked<Self::Piece>
+        requires fits { (settings : Settings) × (lane : ℕ) × fits self.now settings lane seat.old }
+        ensures stays { Stays fits is_at self.now seat.old seat.new }
+        ensures long { (settings : Settings) (lane : ℕ) → fits self.now settings lane seat.old → length result.row ≡ settings.replicas }
+        ensures tells { (volume : StoreVolume) → is_at seat.old volume → LookTells Self.Piece.Tells volume pair result (sight seat.old) (sight seat.new) };
+
+    /// Sees the place of a pair's photo on a replica, by its needle, which `out` then has. A place that had been seen is left as it
+    /// is, and `out` too.
+    fn see<R: Wait>(
+        &self,
+        rt: &R,
+        seat: &mut Self::Seat,
+        tag: CoreTag,
+        pair: Pair,
+        replica: u32,
+        out: &mut Vec<u8>,
+    ) -> Result<Looked<Self::Piece>, SightFault>
+        requires fits { (settings : Settings) × fits self.now settings tag.lane seat.old × (replica < settings.replicas) }
+        requires empty { out.old.items ≡ [] }
+        ensures stays { Stays fits is_at self.now seat.old seat.new }
+        ensures long { (settings : Settings) (lane : ℕ) → fits self.now settings lane seat.old → IfOk result (λ looked. length looked.row ≡ settings.replicas) }
+        ensures seen { IfOk result (λ looked. WasSeen (place_in looked.row replica)) }
+        ensures needle { IfOk result (λ looked. (out.new.items ≡ []) ⊎ CanShow out.new.items (place_in looked.row replica)) }
+        ensures tells { (volume : StoreVolume) → is_at seat.old volume → SeeTells Self.Piece.Tells volume pair tag replica out.new.items result (sight seat.old) (sight seat.new) };
 
     /// The machine by which the volume is frozen.
     fn frozen<R: Wait>(&self, rt: &R, seat: &mut Self::Seat, tag: CoreTag) -> Option<u32>

@@ -7,12 +7,14 @@ ghost use Rattle.hay_meeting.specs.Sights.{Sight};
 ghost use Rattle.hay_holdings.specs.Lines.{Closes, IsAnswered, Sees};
 ghost use Rattle.hay_holdings.specs.Sights.{AtVolume};
 ghost use Rattle.hay_lane.specs.Lanes.{IsOf, IsSeated, sight};
+ghost use Rattle.hay_reply.specs.Fits.{FitsReply};
 
 use crate::calls::{DirectoryCalls, VolumeCalls};
 use crate::lane::{Lane, Shared};
 use crate::places::{drained_by, start_of};
 use crate::replies::{delete_reply, read_only};
 use hay_core::CoreTag;
+use hay_disk::Arm;
 use hay_directory::machine_of;
 use hay_needle::Pair;
 use hay_reply::Reply;
@@ -22,10 +24,10 @@ use std::sync::Wait;
 
 impl<V: VolumeCalls, D: DirectoryCalls> Shared<V, D> {
     /// The URL by which a photo is read.
-    pub fn url<R: Wait>(
+    pub fn url<R: Wait, A: Arm<V::Piece>>(
         &self,
         rt: &R,
-        lane: &mut Lane<V::Seat, D::Seat>,
+        lane: &mut Lane<V::Seat, D::Seat, A>,
         tag: CoreTag,
         pair: Pair,
     ) -> Reply
@@ -33,7 +35,8 @@ impl<V: VolumeCalls, D: DirectoryCalls> Shared<V, D> {
         ensures seated { IsSeated V.fits D.fits self.now tag.lane lane.new }
         ensures same { (start : Start) → IsOf V.is_at D.is_at self.now.settings start lane.old → IsOf V.is_at D.is_at self.now.settings start lane.new }
         ensures answered { (start : Start) → IsOf V.is_at D.is_at self.now.settings start lane.old →
-            IsAnswered self.now.settings start self.now.drained.items tag (asks.Url pair) result (sight V.sight D.sight lane.old) (sight V.sight D.sight lane.new) }
+            IsAnswered self.now.settings start self.now.drained.items tag (asks.Url pair) result (sight V.sight D.sight A.fault_count lane.old) (sight V.sight D.sight A.fault_count lane.new) }
+        ensures fits { FitsReply result }
     {
         let (rows, home) = self.home_in_view(rt, lane, tag, pair);
         let Some(volume) = home else {
@@ -52,11 +55,11 @@ impl<V: VolumeCalls, D: DirectoryCalls> Shared<V, D> {
     }
 
     /// Deletes the photo of a pair.
-    pub fn delete<R: Wait>(
+    pub fn delete<R: Wait, A: Arm<V::Piece>>(
         &self,
         rt: &R,
         alloc: Global,
-        lane: &mut Lane<V::Seat, D::Seat>,
+        lane: &mut Lane<V::Seat, D::Seat, A>,
         tag: CoreTag,
         pair: Pair,
     ) -> Reply
@@ -64,7 +67,8 @@ impl<V: VolumeCalls, D: DirectoryCalls> Shared<V, D> {
         ensures seated { IsSeated V.fits D.fits self.now tag.lane lane.new }
         ensures same { (start : Start) → IsOf V.is_at D.is_at self.now.settings start lane.old → IsOf V.is_at D.is_at self.now.settings start lane.new }
         ensures answered { (start : Start) → IsOf V.is_at D.is_at self.now.settings start lane.old →
-            IsAnswered self.now.settings start self.now.drained.items tag (asks.Del pair) result (sight V.sight D.sight lane.old) (sight V.sight D.sight lane.new) }
+            IsAnswered self.now.settings start self.now.drained.items tag (asks.Del pair) result (sight V.sight D.sight A.fault_count lane.old) (sight V.sight D.sight A.fault_count lane.new) }
+        ensures fits { FitsReply result }
     {
         let (rows, home) = self.home_in_view(rt, lane, tag, pair);
         let Some(volume) = home else {
@@ -74,11 +78,11 @@ impl<V: VolumeCalls, D: DirectoryCalls> Shared<V, D> {
     }
 
     // Deletes the photo of a pair from its home, which the lane saw at so many rows.
-    fn delete_home<R: Wait>(
+    fn delete_home<R: Wait, A: Arm<V::Piece>>(
         &self,
         rt: &R,
         alloc: Global,
-        lane: &mut Lane<V::Seat, D::Seat>,
+        lane: &mut Lane<V::Seat, D::Seat, A>,
         tag: CoreTag,
         pair: Pair,
         volume: u32,
@@ -89,8 +93,9 @@ impl<V: VolumeCalls, D: DirectoryCalls> Shared<V, D> {
         ensures seated { IsSeated V.fits D.fits self.now tag.lane lane.new }
         ensures same { (start : Start) → IsOf V.is_at D.is_at self.now.settings start lane.old → IsOf V.is_at D.is_at self.now.settings start lane.new }
         ensures answered { (start : Start) (a : Sight) → IsOf V.is_at D.is_at self.now.settings start lane.old →
-            Sees self.now.settings start self.now.drained.items tag pair rows (Some volume) a (sight V.sight D.sight lane.old) →
-            IsAnswered self.now.settings start self.now.drained.items tag (asks.Del pair) result a (sight V.sight D.sight lane.new) }
+            Sees self.now.settings start self.now.drained.items tag pair rows (Some volume) a (sight V.sight D.sight A.fault_count lane.old) →
+            IsAnswered self.now.settings start self.now.drained.items tag (asks.Del pair) result a (sight V.sight D.sight A.fault_count lane.new) }
+        ensures fits { FitsReply result }
     {
         let Some(machine) = drained_by(&self.settings, self.drained.as_slice(), volume) else {
             let answer = self.delete_at(rt, alloc, lane, tag, volume, pair);
@@ -101,10 +106,10 @@ impl<V: VolumeCalls, D: DirectoryCalls> Shared<V, D> {
     }
 
     /// The machine by which a volume is closed to changes of which this machine is drained: a freeze goes before a drain.
-    pub(crate) fn closed_at<R: Wait>(
+    pub(crate) fn closed_at<R: Wait, A: Arm<V::Piece>>(
         &self,
         rt: &R,
-        lane: &mut Lane<V::Seat, D::Seat>,
+        lane: &mut Lane<V::Seat, D::Seat, A>,
         tag: CoreTag,
         volume: u32,
         machine: u32,
@@ -115,7 +120,7 @@ impl<V: VolumeCalls, D: DirectoryCalls> Shared<V, D> {
         ensures seated { IsSeated V.fits D.fits self.now tag.lane lane.new }
         ensures same { (start : Start) → IsOf V.is_at D.is_at self.now.settings start lane.old → IsOf V.is_at D.is_at self.now.settings start lane.new }
         ensures tells { (start : Start) → IsOf V.is_at D.is_at self.now.settings start lane.old →
-            AtVolume volume (Closes self.now.settings start self.now.drained.items volume tag result) (sight V.sight D.sight lane.old) (sight V.sight D.sight lane.new) }
+            AtVolume volume (Closes self.now.settings start self.now.drained.items volume tag result) (sight V.sight D.sight A.fault_count lane.old) (sight V.sight D.sight A.fault_count lane.new) }
     {
         match self.frozen_at(rt, lane, tag, volume) {
             Some(frozen) => frozen,

@@ -5,6 +5,7 @@ ghost use Rattle.hay_legal.specs.Known as known;
 ghost use Rattle.hay_meeting.specs.Acts.{Start};
 ghost use Rattle.hay_holdings.specs.Lines.{IsAnswered};
 ghost use Rattle.hay_lane.specs.Lanes.{IsOf, IsSeated, sight};
+ghost use Rattle.hay_reply.specs.Fits.{FitsReply};
 
 use crate::answers::Begin;
 use crate::calls::{DirectoryCalls, VolumeCalls};
@@ -12,17 +13,18 @@ use crate::lane::{Lane, Shared};
 use crate::places::replica_on;
 use crate::replies::{begin_reply, compaction_reply};
 use hay_core::CoreTag;
+use hay_disk::Arm;
 use hay_reply::Reply;
 use std::alloc::Global;
 use std::sync::Wait;
 
 impl<V: VolumeCalls, D: DirectoryCalls> Shared<V, D> {
     /// Begins a compaction and finishes it. Other lanes may come between.
-    pub fn compact<R: Wait>(
+    pub fn compact<R: Wait, A: Arm<V::Piece>>(
         &self,
         rt: &R,
         alloc: Global,
-        lane: &mut Lane<V::Seat, D::Seat>,
+        lane: &mut Lane<V::Seat, D::Seat, A>,
         tag: CoreTag,
         volume: u32,
         machine: u32,
@@ -31,7 +33,8 @@ impl<V: VolumeCalls, D: DirectoryCalls> Shared<V, D> {
         ensures seated { IsSeated V.fits D.fits self.now tag.lane lane.new }
         ensures same { (start : Start) → IsOf V.is_at D.is_at self.now.settings start lane.old → IsOf V.is_at D.is_at self.now.settings start lane.new }
         ensures answered { (start : Start) → IsOf V.is_at D.is_at self.now.settings start lane.old →
-            IsAnswered self.now.settings start self.now.drained.items tag (asks.Compact volume machine) result (sight V.sight D.sight lane.old) (sight V.sight D.sight lane.new) }
+            IsAnswered self.now.settings start self.now.drained.items tag (asks.Compact volume machine) result (sight V.sight D.sight A.fault_count lane.old) (sight V.sight D.sight A.fault_count lane.new) }
+        ensures fits { FitsReply result }
     {
         let Some(replica) = replica_on(&self.settings, volume, machine) else {
             return Reply::Nowhere;
@@ -40,11 +43,11 @@ impl<V: VolumeCalls, D: DirectoryCalls> Shared<V, D> {
     }
 
     // The same of the replica on the machine.
-    fn compact_replica<R: Wait>(
+    fn compact_replica<R: Wait, A: Arm<V::Piece>>(
         &self,
         rt: &R,
         alloc: Global,
-        lane: &mut Lane<V::Seat, D::Seat>,
+        lane: &mut Lane<V::Seat, D::Seat, A>,
         tag: CoreTag,
         volume: u32,
         machine: u32,
@@ -58,7 +61,8 @@ impl<V: VolumeCalls, D: DirectoryCalls> Shared<V, D> {
         ensures seated { IsSeated V.fits D.fits self.now tag.lane lane.new }
         ensures same { (start : Start) → IsOf V.is_at D.is_at self.now.settings start lane.old → IsOf V.is_at D.is_at self.now.settings start lane.new }
         ensures answered { (start : Start) → IsOf V.is_at D.is_at self.now.settings start lane.old →
-            IsAnswered self.now.settings start self.now.drained.items tag (asks.Compact volume machine) result (sight V.sight D.sight lane.old) (sight V.sight D.sight lane.new) }
+            IsAnswered self.now.settings start self.now.drained.items tag (asks.Compact volume machine) result (sight V.sight D.sight A.fault_count lane.old) (sight V.sight D.sight A.fault_count lane.new) }
+        ensures fits { FitsReply result }
     {
         let answer = self.begin_at(rt, alloc, lane, tag, volume, replica);
         let Begin::Begun { generation: _ } = answer else {

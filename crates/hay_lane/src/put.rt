@@ -1,6 +1,6 @@
 //! Puts.
-ghost use Rattle.std.specs.Prelude.{◌≡◌, ◌≤◌, ◌<◌, ℕ, false, None, length, map, IfOk};
-ghost use Rattle.std.specs.List.{list_any};
+ghost use Rattle.std.specs.Prelude.{◌≡◌, ◌≤◌, ◌<◌, ℕ, false, None, length, map, IfOk, IfSome, List};
+ghost use Rattle.std.specs.List.{AllByRecursion, list_any};
 ghost use Rattle.hay_script.specs.declared.Command.TheVariants as asks;
 ghost use Rattle.hay_legal.specs.Plain.{as_closed, wants_room};
 ghost use Rattle.hay_meeting.specs.Acts.{Start};
@@ -8,6 +8,7 @@ ghost use Rattle.hay_meeting.specs.Sights.{Sight};
 ghost use Rattle.hay_holdings.specs.Lines.{HasTaker, IsAnswered, Sees, Settled};
 ghost use Rattle.hay_lane.specs.Lanes.{IsOf, IsSeated, sight};
 ghost use Rattle.hay_lane.specs.Puts.{IsPutReply, IsRefusal, TriesTell, TryTells, room_refusal, settle_reply};
+ghost use Rattle.hay_reply.specs.Fits.{FitsClosed, FitsRefused, FitsReply};
 
 use crate::answers::{Put, Room};
 use crate::calls::{DirectoryCalls, VolumeCalls};
@@ -16,6 +17,7 @@ use crate::places::drained_by;
 use crate::replies::read_only;
 use hay_base::{Listed, NoMemory};
 use hay_core::CoreTag;
+use hay_disk::Arm;
 use hay_directory::{DirFault, tries};
 use hay_needle::{Cookie, MAX_PHOTO, Pair};
 use hay_reply::{ClosedBy, Refused, Reply};
@@ -35,11 +37,11 @@ pub enum Tries {
 
 impl<V: VolumeCalls, D: DirectoryCalls> Shared<V, D> {
     /// Stores a photo in its pair's home, or in the first of its tries that takes it.
-    pub fn put<R: Wait>(
+    pub fn put<R: Wait, A: Arm<V::Piece>>(
         &self,
         rt: &R,
         alloc: Global,
-        lane: &mut Lane<V::Seat, D::Seat>,
+        lane: &mut Lane<V::Seat, D::Seat, A>,
         tag: CoreTag,
         pair: Pair,
         bytes: &[u8],
@@ -49,7 +51,8 @@ impl<V: VolumeCalls, D: DirectoryCalls> Shared<V, D> {
         ensures seated { IsSeated V.fits D.fits self.now tag.lane lane.new }
         ensures same { (start : Start) → IsOf V.is_at D.is_at self.now.settings start lane.old → IsOf V.is_at D.is_at self.now.settings start lane.new }
         ensures answered { (start : Start) → IsOf V.is_at D.is_at self.now.settings start lane.old →
-            IsAnswered self.now.settings start self.now.drained.items tag (asks.Put pair bytes.now) result (sight V.sight D.sight lane.old) (sight V.sight D.sight lane.new) }
+            IsAnswered self.now.settings start self.now.drained.items tag (asks.Put pair bytes.now) result (sight V.sight D.sight A.fault_count lane.old) (sight V.sight D.sight A.fault_count lane.new) }
+        ensures fits { FitsReply result }
     {
         let (rows, home) = self.home_in_view(rt, lane, tag, pair);
         match home {
@@ -59,11 +62,11 @@ impl<V: VolumeCalls, D: DirectoryCalls> Shared<V, D> {
     }
 
     // Stores a photo of a pair that the lane saw without a home.
-    fn put_first<R: Wait>(
+    fn put_first<R: Wait, A: Arm<V::Piece>>(
         &self,
         rt: &R,
         alloc: Global,
-        lane: &mut Lane<V::Seat, D::Seat>,
+        lane: &mut Lane<V::Seat, D::Seat, A>,
         tag: CoreTag,
         pair: Pair,
         bytes: &[u8],
@@ -73,8 +76,9 @@ impl<V: VolumeCalls, D: DirectoryCalls> Shared<V, D> {
         ensures seated { IsSeated V.fits D.fits self.now tag.lane lane.new }
         ensures same { (start : Start) → IsOf V.is_at D.is_at self.now.settings start lane.old → IsOf V.is_at D.is_at self.now.settings start lane.new }
         ensures answered { (start : Start) (d : ℕ) (a : Sight) → IsOf V.is_at D.is_at self.now.settings start lane.old →
-            Sees self.now.settings start self.now.drained.items tag pair d None a (sight V.sight D.sight lane.old) →
-            IsAnswered self.now.settings start self.now.drained.items tag (asks.Put pair bytes.now) result a (sight V.sight D.sight lane.new) }
+            Sees self.now.settings start self.now.drained.items tag pair d None a (sight V.sight D.sight A.fault_count lane.old) →
+            IsAnswered self.now.settings start self.now.drained.items tag (asks.Put pair bytes.now) result a (sight V.sight D.sight A.fault_count lane.new) }
+        ensures fits { FitsReply result }
     {
         match self.find_taker(rt, alloc, lane, tag, pair, bytes.len() as u32) {
             Tries::Taker(volume) => self.put_taker(rt, alloc, lane, tag, pair, bytes, volume),
@@ -84,11 +88,11 @@ impl<V: VolumeCalls, D: DirectoryCalls> Shared<V, D> {
     }
 
     // The first of a pair's tries that takes a photo of this size, or why none does.
-    fn find_taker<R: Wait>(
+    fn find_taker<R: Wait, A: Arm<V::Piece>>(
         &self,
         rt: &R,
         alloc: Global,
-        lane: &mut Lane<V::Seat, D::Seat>,
+        lane: &mut Lane<V::Seat, D::Seat, A>,
         tag: CoreTag,
         pair: Pair,
         size: u32,
@@ -98,9 +102,10 @@ impl<V: VolumeCalls, D: DirectoryCalls> Shared<V, D> {
         ensures seated { IsSeated V.fits D.fits self.now tag.lane lane.new }
         ensures same { (start : Start) → IsOf V.is_at D.is_at self.now.settings start lane.old → IsOf V.is_at D.is_at self.now.settings start lane.new }
         ensures within { (volume : ℕ) → result ≡ Tries.Taker volume → volume < self.now.settings.volumes }
+        ensures fits { (refused : List Refused) → result ≡ Tries.Nobody refused → AllByRecursion FitsRefused refused }
         ensures tried { (start : Start) (d : ℕ) (a : Sight) → IsOf V.is_at D.is_at self.now.settings start lane.old →
-            Sees self.now.settings start self.now.drained.items tag pair d None a (sight V.sight D.sight lane.old) →
-            TriesTell self.now.settings start self.now.drained.items tag pair size result a (sight V.sight D.sight lane.new) }
+            Sees self.now.settings start self.now.drained.items tag pair d None a (sight V.sight D.sight A.fault_count lane.old) →
+            TriesTell self.now.settings start self.now.drained.items tag pair size result a (sight V.sight D.sight A.fault_count lane.new) }
     {
         let mut refused = Listed::new(alloc);
         for turn in 0..self.settings.volumes {
@@ -117,10 +122,10 @@ impl<V: VolumeCalls, D: DirectoryCalls> Shared<V, D> {
     }
 
     // Why a volume does not take a photo of this size, if it does not.
-    fn refusal<R: Wait>(
+    fn refusal<R: Wait, A: Arm<V::Piece>>(
         &self,
         rt: &R,
-        lane: &mut Lane<V::Seat, D::Seat>,
+        lane: &mut Lane<V::Seat, D::Seat, A>,
         tag: CoreTag,
         volume: u32,
         size: u32,
@@ -131,7 +136,8 @@ impl<V: VolumeCalls, D: DirectoryCalls> Shared<V, D> {
         ensures seated { IsSeated V.fits D.fits self.now tag.lane lane.new }
         ensures same { (start : Start) → IsOf V.is_at D.is_at self.now.settings start lane.old → IsOf V.is_at D.is_at self.now.settings start lane.new }
         ensures tells { (start : Start) → IsOf V.is_at D.is_at self.now.settings start lane.old →
-            TryTells self.now.settings start self.now.drained.items tag volume size result (sight V.sight D.sight lane.old) (sight V.sight D.sight lane.new) }
+            TryTells self.now.settings start self.now.drained.items tag volume size result (sight V.sight D.sight A.fault_count lane.old) (sight V.sight D.sight A.fault_count lane.new) }
+        ensures fits { IfSome result FitsRefused }
     {
         let Some(machine) = drained_by(&self.settings, self.drained.as_slice(), volume) else {
             let room = self.room_at(rt, lane, tag, volume, size);
@@ -142,11 +148,11 @@ impl<V: VolumeCalls, D: DirectoryCalls> Shared<V, D> {
     }
 
     // Stores the first photo of a pair in the volume that takes it, or in the home that the pair has got.
-    fn put_taker<R: Wait>(
+    fn put_taker<R: Wait, A: Arm<V::Piece>>(
         &self,
         rt: &R,
         alloc: Global,
-        lane: &mut Lane<V::Seat, D::Seat>,
+        lane: &mut Lane<V::Seat, D::Seat, A>,
         tag: CoreTag,
         pair: Pair,
         bytes: &[u8],
@@ -158,8 +164,9 @@ impl<V: VolumeCalls, D: DirectoryCalls> Shared<V, D> {
         ensures seated { IsSeated V.fits D.fits self.now tag.lane lane.new }
         ensures same { (start : Start) → IsOf V.is_at D.is_at self.now.settings start lane.old → IsOf V.is_at D.is_at self.now.settings start lane.new }
         ensures answered { (start : Start) (a : Sight) → IsOf V.is_at D.is_at self.now.settings start lane.old →
-            HasTaker self.now.settings start self.now.drained.items tag pair (length bytes.now) volume a (sight V.sight D.sight lane.old) →
-            IsAnswered self.now.settings start self.now.drained.items tag (asks.Put pair bytes.now) result a (sight V.sight D.sight lane.new) }
+            HasTaker self.now.settings start self.now.drained.items tag pair (length bytes.now) volume a (sight V.sight D.sight A.fault_count lane.old) →
+            IsAnswered self.now.settings start self.now.drained.items tag (asks.Put pair bytes.now) result a (sight V.sight D.sight A.fault_count lane.new) }
+        ensures fits { FitsReply result }
     {
         match self.settle_home(rt, lane, tag, pair, volume) {
             Ok((home, rows)) => self.put_home(rt, alloc, lane, tag, pair, bytes, home, rows),
@@ -168,11 +175,11 @@ impl<V: VolumeCalls, D: DirectoryCalls> Shared<V, D> {
     }
 
     // Stores a photo in its pair's home, where there are so many rows.
-    fn put_home<R: Wait>(
+    fn put_home<R: Wait, A: Arm<V::Piece>>(
         &self,
         rt: &R,
         alloc: Global,
-        lane: &mut Lane<V::Seat, D::Seat>,
+        lane: &mut Lane<V::Seat, D::Seat, A>,
         tag: CoreTag,
         pair: Pair,
         bytes: &[u8],
@@ -185,8 +192,9 @@ impl<V: VolumeCalls, D: DirectoryCalls> Shared<V, D> {
         ensures seated { IsSeated V.fits D.fits self.now tag.lane lane.new }
         ensures same { (start : Start) → IsOf V.is_at D.is_at self.now.settings start lane.old → IsOf V.is_at D.is_at self.now.settings start lane.new }
         ensures answered { (start : Start) (a : Sight) → IsOf V.is_at D.is_at self.now.settings start lane.old →
-            Settled self.now.settings start self.now.drained.items tag pair (length bytes.now) rows volume a (sight V.sight D.sight lane.old) →
-            IsAnswered self.now.settings start self.now.drained.items tag (asks.Put pair bytes.now) result a (sight V.sight D.sight lane.new) }
+            Settled self.now.settings start self.now.drained.items tag pair (length bytes.now) rows volume a (sight V.sight D.sight A.fault_count lane.old) →
+            IsAnswered self.now.settings start self.now.drained.items tag (asks.Put pair bytes.now) result a (sight V.sight D.sight A.fault_count lane.new) }
+        ensures fits { FitsReply result }
     {
         let Some(machine) = drained_by(&self.settings, self.drained.as_slice(), volume) else {
             let cookie = cookie_of(&self.settings.secret, pair.key);
@@ -201,6 +209,7 @@ impl<V: VolumeCalls, D: DirectoryCalls> Shared<V, D> {
 // Why a volume that no drain closes does not take a photo, if it does not.
 fn refusal_for(volume: u32, room: Room) -> Option<Refused>
     ensures is { result ≡ room_refusal volume room }
+    ensures fits { IfSome result FitsRefused }
 {
     match room {
         Room::Fits => None,
@@ -217,6 +226,7 @@ fn refusal_for(volume: u32, room: Room) -> Option<Refused>
 // What a put is answered whose pair got no home.
 fn settle_refusal(fault: DirFault) -> Reply
     ensures is { result ≡ settle_reply fault }
+    ensures fits { FitsReply result }
 {
     match fault {
         DirFault::Frozen => Reply::ReadOnlyDir,
@@ -228,6 +238,7 @@ fn settle_refusal(fault: DirFault) -> Reply
 // What a put is answered at its pair's home, where there are so many rows.
 fn put_reply(alloc: Global, volume: u32, rows: u64, cookie: Cookie, answer: Put) -> Reply
     ensures is { IsPutReply volume rows cookie answer result }
+    ensures fits { FitsReply result }
 {
     match answer {
         Put::Stored { position } => Reply::Stored {
@@ -262,7 +273,9 @@ fn put_reply(alloc: Global, volume: u32, rows: u64, cookie: Cookie, answer: Put)
 
 // What a put is answered that all its tries refuse: it is full where one at least wants room.
 fn refuse(alloc: Global, refused: Listed<Refused>) -> Reply
+    requires fits { AllByRecursion FitsRefused refused }
     ensures is { IsRefusal refused result }
+    ensures fits { FitsReply result }
 {
     if has_lack(refused.as_slice()) {
         return Reply::Full { tries: refused };
@@ -285,7 +298,8 @@ fn has_lack(refused: &[Refused]) -> bool
 // The machines by which volumes are closed, where none wants room.
 fn closed_of(alloc: Global, refused: &[Refused]) -> Result<Listed<ClosedBy>, NoMemory>
     requires { list_any wants_room refused.now ≡ false }
-    ensures { IfOk result (λ closed. map as_closed closed ≡ refused.now) }
+    ensures is { IfOk result (λ closed. map as_closed closed ≡ refused.now) }
+    ensures fits { IfOk result (AllByRecursion FitsClosed) }
 {
     let mut closed = Listed::new(alloc);
     for refusal in refused {

@@ -1,5 +1,6 @@
 //! How a line is answered by what its calls answered.
 ghost use Rattle.hay_lane.specs.Replies.{IsBeginReply, IsCompactionReply, IsDeleteReply, IsFinishReply, IsFlushReply, IsReadOnly, IsStepReply};
+ghost use Rattle.hay_reply.specs.Fits.{FitsReply};
 
 use crate::answers::{Begin, Compaction, Delete, Finish, Flush, Step};
 use hay_base::Listed;
@@ -9,6 +10,7 @@ use std::alloc::Global;
 /// The refusal of a change of a volume that is closed by this machine.
 pub(crate) fn read_only(alloc: Global, volume: u32, machine: u32) -> Reply
     ensures is { IsReadOnly volume machine result }
+    ensures fits { FitsReply result }
 {
     match Listed::one(alloc, ClosedBy { volume, machine }) {
         Ok(tries) => Reply::ReadOnly { tries },
@@ -19,6 +21,7 @@ pub(crate) fn read_only(alloc: Global, volume: u32, machine: u32) -> Reply
 /// The reply to a delete at the pair's home, where there are so many rows.
 pub(crate) fn delete_reply(alloc: Global, volume: u32, rows: u64, answer: Delete) -> Reply
     ensures is { IsDeleteReply volume rows answer result }
+    ensures fits { FitsReply result }
 {
     match answer {
         Delete::Deleted { position } => Reply::Deleted {
@@ -49,6 +52,7 @@ pub(crate) fn delete_reply(alloc: Global, volume: u32, rows: u64, answer: Delete
 /// The reply to a flush of the replica on the machine.
 pub(crate) fn flush_reply(alloc: Global, volume: u32, machine: u32, answer: Flush) -> Reply
     ensures is { IsFlushReply volume machine answer result }
+    ensures fits { FitsReply result }
 {
     match answer {
         Flush::Flushed { cells } => Reply::Flushed {
@@ -70,6 +74,7 @@ pub(crate) fn flush_reply(alloc: Global, volume: u32, machine: u32, answer: Flus
 /// The reply to the beginning of a compaction of the replica on the machine.
 pub(crate) fn begin_reply(alloc: Global, volume: u32, machine: u32, answer: Begin) -> Reply
     ensures is { IsBeginReply volume machine answer result }
+    ensures fits { FitsReply result }
 {
     match answer {
         Begin::Begun { generation } => Reply::Begun {
@@ -96,6 +101,7 @@ pub(crate) fn begin_reply(alloc: Global, volume: u32, machine: u32, answer: Begi
 /// The reply to a step of it.
 pub(crate) fn step_reply(alloc: Global, volume: u32, machine: u32, answer: Step) -> Reply
     ensures is { IsStepReply volume machine answer result }
+    ensures fits { FitsReply result }
 {
     match answer {
         Step::Stepped { cells } => Reply::Stepped {
@@ -117,6 +123,7 @@ pub(crate) fn step_reply(alloc: Global, volume: u32, machine: u32, answer: Step)
 /// The reply to its end.
 pub(crate) fn finish_reply(alloc: Global, volume: u32, machine: u32, answer: Finish) -> Reply
     ensures is { IsFinishReply volume machine answer result }
+    ensures fits { FitsReply result }
 {
     match answer {
         Finish::Compacted { generation } => Reply::Compacted {
@@ -143,6 +150,7 @@ pub(crate) fn compaction_reply(
     answer: Compaction,
 ) -> Reply
     ensures is { IsCompactionReply volume machine answer result }
+    ensures fits { FitsReply result }
 {
     match answer {
         Compaction::Compacted { generation } => Reply::Compacted {

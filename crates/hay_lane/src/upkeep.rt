@@ -3,23 +3,25 @@ ghost use Rattle.hay_script.specs.declared.Command.TheVariants as asks;
 ghost use Rattle.hay_meeting.specs.Acts.{Start};
 ghost use Rattle.hay_holdings.specs.Lines.{IsAnswered};
 ghost use Rattle.hay_lane.specs.Lanes.{IsOf, IsSeated, sight};
+ghost use Rattle.hay_reply.specs.Fits.{FitsReply};
 
 use crate::calls::{DirectoryCalls, VolumeCalls};
 use crate::lane::{Lane, Shared};
 use crate::places::replica_on;
 use crate::replies::{begin_reply, finish_reply, flush_reply, step_reply};
 use hay_core::CoreTag;
+use hay_disk::Arm;
 use hay_reply::Reply;
 use std::alloc::Global;
 use std::sync::Wait;
 
 impl<V: VolumeCalls, D: DirectoryCalls> Shared<V, D> {
     /// Gives the cells of a replica without an index record theirs.
-    pub fn flush<R: Wait>(
+    pub fn flush<R: Wait, A: Arm<V::Piece>>(
         &self,
         rt: &R,
         alloc: Global,
-        lane: &mut Lane<V::Seat, D::Seat>,
+        lane: &mut Lane<V::Seat, D::Seat, A>,
         tag: CoreTag,
         volume: u32,
         machine: u32,
@@ -28,7 +30,8 @@ impl<V: VolumeCalls, D: DirectoryCalls> Shared<V, D> {
         ensures seated { IsSeated V.fits D.fits self.now tag.lane lane.new }
         ensures same { (start : Start) → IsOf V.is_at D.is_at self.now.settings start lane.old → IsOf V.is_at D.is_at self.now.settings start lane.new }
         ensures answered { (start : Start) → IsOf V.is_at D.is_at self.now.settings start lane.old →
-            IsAnswered self.now.settings start self.now.drained.items tag (asks.Flush volume machine) result (sight V.sight D.sight lane.old) (sight V.sight D.sight lane.new) }
+            IsAnswered self.now.settings start self.now.drained.items tag (asks.Flush volume machine) result (sight V.sight D.sight A.fault_count lane.old) (sight V.sight D.sight A.fault_count lane.new) }
+        ensures fits { FitsReply result }
     {
         let Some(replica) = replica_on(&self.settings, volume, machine) else {
             return Reply::Nowhere;
@@ -38,11 +41,11 @@ impl<V: VolumeCalls, D: DirectoryCalls> Shared<V, D> {
     }
 
     /// Begins a compaction.
-    pub fn begin<R: Wait>(
+    pub fn begin<R: Wait, A: Arm<V::Piece>>(
         &self,
         rt: &R,
         alloc: Global,
-        lane: &mut Lane<V::Seat, D::Seat>,
+        lane: &mut Lane<V::Seat, D::Seat, A>,
         tag: CoreTag,
         volume: u32,
         machine: u32,
@@ -51,7 +54,8 @@ impl<V: VolumeCalls, D: DirectoryCalls> Shared<V, D> {
         ensures seated { IsSeated V.fits D.fits self.now tag.lane lane.new }
         ensures same { (start : Start) → IsOf V.is_at D.is_at self.now.settings start lane.old → IsOf V.is_at D.is_at self.now.settings start lane.new }
         ensures answered { (start : Start) → IsOf V.is_at D.is_at self.now.settings start lane.old →
-            IsAnswered self.now.settings start self.now.drained.items tag (asks.Begin volume machine) result (sight V.sight D.sight lane.old) (sight V.sight D.sight lane.new) }
+            IsAnswered self.now.settings start self.now.drained.items tag (asks.Begin volume machine) result (sight V.sight D.sight A.fault_count lane.old) (sight V.sight D.sight A.fault_count lane.new) }
+        ensures fits { FitsReply result }
     {
         let Some(replica) = replica_on(&self.settings, volume, machine) else {
             return Reply::Nowhere;
@@ -61,11 +65,11 @@ impl<V: VolumeCalls, D: DirectoryCalls> Shared<V, D> {
     }
 
     /// Examines so many cells of a compaction that a line of the lane began.
-    pub fn step<R: Wait>(
+    pub fn step<R: Wait, A: Arm<V::Piece>>(
         &self,
         rt: &R,
         alloc: Global,
-        lane: &mut Lane<V::Seat, D::Seat>,
+        lane: &mut Lane<V::Seat, D::Seat, A>,
         tag: CoreTag,
         volume: u32,
         machine: u32,
@@ -75,7 +79,8 @@ impl<V: VolumeCalls, D: DirectoryCalls> Shared<V, D> {
         ensures seated { IsSeated V.fits D.fits self.now tag.lane lane.new }
         ensures same { (start : Start) → IsOf V.is_at D.is_at self.now.settings start lane.old → IsOf V.is_at D.is_at self.now.settings start lane.new }
         ensures answered { (start : Start) → IsOf V.is_at D.is_at self.now.settings start lane.old →
-            IsAnswered self.now.settings start self.now.drained.items tag (asks.Step volume machine cells) result (sight V.sight D.sight lane.old) (sight V.sight D.sight lane.new) }
+            IsAnswered self.now.settings start self.now.drained.items tag (asks.Step volume machine cells) result (sight V.sight D.sight A.fault_count lane.old) (sight V.sight D.sight A.fault_count lane.new) }
+        ensures fits { FitsReply result }
     {
         let Some(replica) = replica_on(&self.settings, volume, machine) else {
             return Reply::Nowhere;
@@ -85,11 +90,11 @@ impl<V: VolumeCalls, D: DirectoryCalls> Shared<V, D> {
     }
 
     /// Finishes it.
-    pub fn finish<R: Wait>(
+    pub fn finish<R: Wait, A: Arm<V::Piece>>(
         &self,
         rt: &R,
         alloc: Global,
-        lane: &mut Lane<V::Seat, D::Seat>,
+        lane: &mut Lane<V::Seat, D::Seat, A>,
         tag: CoreTag,
         volume: u32,
         machine: u32,
@@ -98,7 +103,8 @@ impl<V: VolumeCalls, D: DirectoryCalls> Shared<V, D> {
         ensures seated { IsSeated V.fits D.fits self.now tag.lane lane.new }
         ensures same { (start : Start) → IsOf V.is_at D.is_at self.now.settings start lane.old → IsOf V.is_at D.is_at self.now.settings start lane.new }
         ensures answered { (start : Start) → IsOf V.is_at D.is_at self.now.settings start lane.old →
-            IsAnswered self.now.settings start self.now.drained.items tag (asks.Finish volume machine) result (sight V.sight D.sight lane.old) (sight V.sight D.sight lane.new) }
+            IsAnswered self.now.settings start self.now.drained.items tag (asks.Finish volume machine) result (sight V.sight D.sight A.fault_count lane.old) (sight V.sight D.sight A.fault_count lane.new) }
+        ensures fits { FitsReply result }
     {
         let Some(replica) = replica_on(&self.settings, volume, machine) else {
             return Reply::Nowhere;
@@ -108,10 +114,10 @@ impl<V: VolumeCalls, D: DirectoryCalls> Shared<V, D> {
     }
 
     /// Sets a fuse on the disk of the replica of a volume on a machine.
-    pub fn fuse<R: Wait>(
+    pub fn fuse<R: Wait, A: Arm<V::Piece>>(
         &self,
         rt: &R,
-        lane: &mut Lane<V::Seat, D::Seat>,
+        lane: &mut Lane<V::Seat, D::Seat, A>,
         tag: CoreTag,
         volume: u32,
         machine: u32,
@@ -121,7 +127,8 @@ impl<V: VolumeCalls, D: DirectoryCalls> Shared<V, D> {
         ensures seated { IsSeated V.fits D.fits self.now tag.lane lane.new }
         ensures same { (start : Start) → IsOf V.is_at D.is_at self.now.settings start lane.old → IsOf V.is_at D.is_at self.now.settings start lane.new }
         ensures answered { (start : Start) → IsOf V.is_at D.is_at self.now.settings start lane.old →
-            IsAnswered self.now.settings start self.now.drained.items tag (asks.Fuse volume machine calls) result (sight V.sight D.sight lane.old) (sight V.sight D.sight lane.new) }
+            IsAnswered self.now.settings start self.now.drained.items tag (asks.Fuse volume machine calls) result (sight V.sight D.sight A.fault_count lane.old) (sight V.sight D.sight A.fault_count lane.new) }
+        ensures fits { FitsReply result }
     {
         let Some(replica) = replica_on(&self.settings, volume, machine) else {
             return Reply::Nowhere;
@@ -135,10 +142,10 @@ impl<V: VolumeCalls, D: DirectoryCalls> Shared<V, D> {
     }
 
     /// Sets a fuse on the Directory's disk.
-    pub fn fuse_dir<R: Wait>(
+    pub fn fuse_dir<R: Wait, A: Arm<V::Piece>>(
         &self,
         rt: &R,
-        lane: &mut Lane<V::Seat, D::Seat>,
+        lane: &mut Lane<V::Seat, D::Seat, A>,
         tag: CoreTag,
         calls: u32,
     ) -> Reply
@@ -146,17 +153,18 @@ impl<V: VolumeCalls, D: DirectoryCalls> Shared<V, D> {
         ensures seated { IsSeated V.fits D.fits self.now tag.lane lane.new }
         ensures same { (start : Start) → IsOf V.is_at D.is_at self.now.settings start lane.old → IsOf V.is_at D.is_at self.now.settings start lane.new }
         ensures answered { (start : Start) → IsOf V.is_at D.is_at self.now.settings start lane.old →
-            IsAnswered self.now.settings start self.now.drained.items tag (asks.FuseDir calls) result (sight V.sight D.sight lane.old) (sight V.sight D.sight lane.new) }
+            IsAnswered self.now.settings start self.now.drained.items tag (asks.FuseDir calls) result (sight V.sight D.sight A.fault_count lane.old) (sight V.sight D.sight A.fault_count lane.new) }
+        ensures fits { FitsReply result }
     {
         self.fuse_directory(rt, lane, tag, calls);
         Reply::FusedDir { calls }
     }
 
     /// Closes a machine to changes. The machines that are shared as drained change behind the block.
-    pub fn drain<R: Wait>(
+    pub fn drain<R: Wait, A: Arm<V::Piece>>(
         &self,
         rt: &R,
-        lane: &mut Lane<V::Seat, D::Seat>,
+        lane: &mut Lane<V::Seat, D::Seat, A>,
         tag: CoreTag,
         machine: u32,
     ) -> Reply
@@ -164,7 +172,8 @@ impl<V: VolumeCalls, D: DirectoryCalls> Shared<V, D> {
         ensures seated { IsSeated V.fits D.fits self.now tag.lane lane.new }
         ensures same { (start : Start) → IsOf V.is_at D.is_at self.now.settings start lane.old → IsOf V.is_at D.is_at self.now.settings start lane.new }
         ensures answered { (start : Start) → IsOf V.is_at D.is_at self.now.settings start lane.old →
-            IsAnswered self.now.settings start self.now.drained.items tag (asks.Drain machine) result (sight V.sight D.sight lane.old) (sight V.sight D.sight lane.new) }
+            IsAnswered self.now.settings start self.now.drained.items tag (asks.Drain machine) result (sight V.sight D.sight A.fault_count lane.old) (sight V.sight D.sight A.fault_count lane.new) }
+        ensures fits { FitsReply result }
     {
         if machine >= self.settings.machines {
             return Reply::Nowhere;
@@ -174,10 +183,10 @@ impl<V: VolumeCalls, D: DirectoryCalls> Shared<V, D> {
     }
 
     /// Opens a machine to changes again.
-    pub fn undrain<R: Wait>(
+    pub fn undrain<R: Wait, A: Arm<V::Piece>>(
         &self,
         rt: &R,
-        lane: &mut Lane<V::Seat, D::Seat>,
+        lane: &mut Lane<V::Seat, D::Seat, A>,
         tag: CoreTag,
         machine: u32,
     ) -> Reply
@@ -185,7 +194,8 @@ impl<V: VolumeCalls, D: DirectoryCalls> Shared<V, D> {
         ensures seated { IsSeated V.fits D.fits self.now tag.lane lane.new }
         ensures same { (start : Start) → IsOf V.is_at D.is_at self.now.settings start lane.old → IsOf V.is_at D.is_at self.now.settings start lane.new }
         ensures answered { (start : Start) → IsOf V.is_at D.is_at self.now.settings start lane.old →
-            IsAnswered self.now.settings start self.now.drained.items tag (asks.Undrain machine) result (sight V.sight D.sight lane.old) (sight V.sight D.sight lane.new) }
+            IsAnswered self.now.settings start self.now.drained.items tag (asks.Undrain machine) result (sight V.sight D.sight A.fault_count lane.old) (sight V.sight D.sight A.fault_count lane.new) }
+        ensures fits { FitsReply result }
     {
         if machine >= self.settings.machines {
             return Reply::Nowhere;

@@ -7,4 +7,4 @@ use Rattle.hay_lane.proofs.lane.Shared.compact.Goals as goal
 pub returns-in_default-clause-answered : goal.returns-in_default-clause-answered
 returns-in_default-clause-answered g c start of =
     compact_nowhere c.args.self.now.settings start c.args.self.now.drained.items
-    (idle_unchanged (idle_same c.args.tag (sight g.V.VolumeCalls.sight g.D.DirectoryCalls.sight c.args.lane.now))) (sym c.in_default.ensures.is)
+    (idle_unchanged (idle_same c.args.tag (sight g.V.VolumeCalls.sight g.D.DirectoryCalls.sight g.A.Arm.fault_count c.args.lane.now))) (sym c.in_default.ensures.is)

@@ -13,6 +13,6 @@ returns-in_default-clause-answered g c start of =
 pub returns-clause-answered : goal.returns-clause-answered
 returns-clause-answered g c start of =
     end_answered c.args.self.now.settings start c.args.self.now.drained.items c.args.tag c.args.volume c.args.machine c.args.replica c.requires.there c.requires.volume c.requires.on
-    (subst (λ answer. AtVolume c.args.volume (BeginTells (record { settings = c.args.self.now.settings; start = start; number = c.args.volume }) c.args.tag c.args.replica answer) (sight g.V.VolumeCalls.sight g.D.DirectoryCalls.sight c.args.lane.now) (sight g.V.VolumeCalls.sight g.D.DirectoryCalls.sight c.begin_at-answer.new.lane))
+    (subst (λ answer. AtVolume c.args.volume (BeginTells (record { settings = c.args.self.now.settings; start = start; number = c.args.volume }) c.args.tag c.args.replica answer) (sight g.V.VolumeCalls.sight g.D.DirectoryCalls.sight g.A.Arm.fault_count c.args.lane.now) (sight g.V.VolumeCalls.sight g.D.DirectoryCalls.sight g.A.Arm.fault_count c.begin_at-answer.new.lane))
     c.in-Begun.is (c.begin_at-answer.ensures.tells start of))
     c.compact_at-ended.result c.compaction_reply.result (c.compact_at-ended.ensures.tells start (c.begin_at-answer.ensures.same start of)) c.compaction_reply.ensures.is

@@ -10,5 +10,5 @@ returns-in_default-clause-answered g c start of =
 
 pub returns-clause-answered : goal.returns-clause-answered
 returns-clause-answered g c start of =
-    c.delete_home.ensures.answered start (sight g.V.VolumeCalls.sight g.D.DirectoryCalls.sight c.args.lane.now) (c.home_in_view-rows.ensures.same start of)
+    c.delete_home.ensures.answered start (sight g.V.VolumeCalls.sight g.D.DirectoryCalls.sight g.A.Arm.fault_count c.args.lane.now) (c.home_in_view-rows.ensures.same start of)
     (saw c.args.self.now.settings start c.args.self.now.drained.items c.args.tag c.in-Some.is (c.home_in_view-rows.ensures.tells start of))

@@ -6,10 +6,10 @@ use Rattle.hay_lane.proofs.lane.Shared.delete_home.Goals as goal
 
 pub returns-in_default-clause-answered : goal.returns-in_default-clause-answered
 returns-in_default-clause-answered g c start a of home =
-    delete_answered c.args.self.now.settings start c.args.self.now.drained.items c.args.tag home c.requires.volume (sight g.V.VolumeCalls.sight g.D.DirectoryCalls.sight c.delete_at-answer.new.lane)
+    delete_answered c.args.self.now.settings start c.args.self.now.drained.items c.args.tag home c.requires.volume (sight g.V.VolumeCalls.sight g.D.DirectoryCalls.sight g.A.Arm.fault_count c.delete_at-answer.new.lane)
     (ap (λ drained. drained_in c.args.self.now.settings drained c.args.volume) (sym c.as_slice.ensures.value) ∙ sym c.in_default.ensures.is) c.delete_at-answer.result c.delete_reply.result (c.delete_at-answer.ensures.tells start of) c.delete_reply.ensures.is
 
 pub returns-clause-answered : goal.returns-clause-answered
 returns-clause-answered g c start a of home =
-    closed_answered c.args.self.now.settings start c.args.self.now.drained.items c.args.tag home c.requires.volume (sight g.V.VolumeCalls.sight g.D.DirectoryCalls.sight c.closed_at-machine.new.lane)
+    closed_answered c.args.self.now.settings start c.args.self.now.drained.items c.args.tag home c.requires.volume (sight g.V.VolumeCalls.sight g.D.DirectoryCalls.sight g.A.Arm.fault_count c.closed_at-machine.new.lane)
     (c.closed_at-machine.ensures.tells start of) c.read_only.ensures.is

@@ -19,4 +19,4 @@ returns-clause-same g c =
 pub returns-clause-tells : goal.returns-clause-tells
 returns-clause-tells g c start of =
     stepped_rows g.V.VolumeCalls.fits g.D.DirectoryCalls.fits c.args.self.now c.args.tag.lane c.args.lane.now c.requires.seated
-    c.drain.new.seat g.V.VolumeCalls.sight g.D.DirectoryCalls.sight (Drained start c.args.tag c.args.machine true) (c.drain.ensures.tells start of.rows)
+    c.drain.new.seat g.V.VolumeCalls.sight g.D.DirectoryCalls.sight g.A.Arm.fault_count (Drained start c.args.tag c.args.machine true) (c.drain.ensures.tells start of.rows)

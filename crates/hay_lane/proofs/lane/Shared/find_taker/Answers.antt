@@ -1,4 +1,7 @@
-use Rattle.std.proofs.Common.{◌≡◌, ◌+◌, [], refl, sym, subst, arith}
+use Rattle.std.proofs.Common.{◌≡◌, ◌+◌, [], ◌∷◌, refl, sym, subst, arith}
+use Rattle.std.specs.List.{AllByRecursion}
+use Rattle.hay_reply.specs.Fits.{FitsRefused}
+use Rattle.hay_legal.proofs.Subject.Effects.{each_append}
 use Rattle.hay_holdings.specs.Lines.{Tried}
 use Rattle.hay_holdings.proofs.PutAnswers.{tries}
 use Rattle.hay_lane.specs.Lanes.{sight}
@@ -8,9 +11,10 @@ use Rattle.hay_lane.proofs.lane.Shared.find_taker.Goals as goal
 
 pub loop-turn-init : goal.loop-turn-init
 loop-turn-init g c = record {
+  fits = subst (λ l. AllByRecursion FitsRefused l) (sym c.new-refused.ensures) tt;
   seated = c.requires.seated;
   same = λ start of. of;
-  tried = λ start d a of sees. subst (λ refused. Tried c.args.self.now.settings start c.args.self.now.drained.items c.args.tag c.args.pair c.args.size [] refused a (sight g.V.VolumeCalls.sight g.D.DirectoryCalls.sight c.args.lane.now))
+  tried = λ start d a of sees. subst (λ refused. Tried c.args.self.now.settings start c.args.self.now.drained.items c.args.tag c.args.pair c.args.size [] refused a (sight g.V.VolumeCalls.sight g.D.DirectoryCalls.sight g.A.Arm.fault_count c.args.lane.now))
       (sym c.new-refused.ensures) (tries c.args.self.now.settings start c.args.self.now.drained.items c.args.tag sees);
 }
 
@@ -24,7 +28,7 @@ pub returns-in-None-clause-tried : goal.returns-in-None-clause-tried
 returns-in-None-clause-tried g c start d a of sees =
     takes_next c.args.self.now.settings start c.args.self.now.drained.items c.args.tag c.loop-turn.turn (c.loop-turn.invariant.tried start d a of sees) c.tries-volume.result
     (c.tries-volume.ensures.is c.args.pair refl) c.loop-turn-test.true c.tries-volume.ensures.below
-    (subst (λ r. TryTells c.args.self.now.settings start c.args.self.now.drained.items c.args.tag c.tries-volume.result c.args.size r (sight g.V.VolumeCalls.sight g.D.DirectoryCalls.sight c.loop-turn.lane) (sight g.V.VolumeCalls.sight g.D.DirectoryCalls.sight c.refusal.new.lane))
+    (subst (λ r. TryTells c.args.self.now.settings start c.args.self.now.drained.items c.args.tag c.tries-volume.result c.args.size r (sight g.V.VolumeCalls.sight g.D.DirectoryCalls.sight g.A.Arm.fault_count c.loop-turn.lane) (sight g.V.VolumeCalls.sight g.D.DirectoryCalls.sight g.A.Arm.fault_count c.refusal.new.lane))
     c.in-None.is (c.refusal.ensures.tells start (c.loop-turn.invariant.same start of)))
 
 pub returns-in-Err-clause-same : goal.returns-in-Err-clause-same
@@ -33,17 +37,18 @@ returns-in-Err-clause-same g c start of = c.refusal.ensures.same start (c.loop-t
 pub returns-in-Err-clause-tried : goal.returns-in-Err-clause-tried
 returns-in-Err-clause-tried g c start d a of sees =
     tries_wanted c.args.self.now.settings start c.args.self.now.drained.items c.args.tag c.loop-turn.turn (c.loop-turn.invariant.tried start d a of sees)
-    (subst (λ r. TryTells c.args.self.now.settings start c.args.self.now.drained.items c.args.tag c.tries-volume.result c.args.size r (sight g.V.VolumeCalls.sight g.D.DirectoryCalls.sight c.loop-turn.lane) (sight g.V.VolumeCalls.sight g.D.DirectoryCalls.sight c.refusal.new.lane))
+    (subst (λ r. TryTells c.args.self.now.settings start c.args.self.now.drained.items c.args.tag c.tries-volume.result c.args.size r (sight g.V.VolumeCalls.sight g.D.DirectoryCalls.sight g.A.Arm.fault_count c.loop-turn.lane) (sight g.V.VolumeCalls.sight g.D.DirectoryCalls.sight g.A.Arm.fault_count c.refusal.new.lane))
     c.in-Some.is (c.refusal.ensures.tells start (c.loop-turn.invariant.same start of)))
 
 pub loop-turn-preserved : goal.loop-turn-preserved
 loop-turn-preserved g c = record {
+  fits = subst (λ l. AllByRecursion FitsRefused l) (sym c.in-Ok.ensures.ok) (each_append FitsRefused c.loop-turn.refused (c.in-Some.refusal ∷ []) c.loop-turn.invariant.fits (c.in-Some.ensures.fits, tt));
   seated = c.refusal.ensures.seated;
   same = λ start of. c.refusal.ensures.same start (c.loop-turn.invariant.same start of);
   tried = λ start d a of sees. subst (λ refused. Tried c.args.self.now.settings start c.args.self.now.drained.items c.args.tag c.args.pair c.args.size
-      (first_tries c.args.self.now.settings c.args.pair (c.loop-turn.turn + 1)) refused a (sight g.V.VolumeCalls.sight g.D.DirectoryCalls.sight c.refusal.new.lane)) (sym c.in-Ok.ensures.ok)
+      (first_tries c.args.self.now.settings c.args.pair (c.loop-turn.turn + 1)) refused a (sight g.V.VolumeCalls.sight g.D.DirectoryCalls.sight g.A.Arm.fault_count c.refusal.new.lane)) (sym c.in-Ok.ensures.ok)
       (one_more c.args.self.now.settings start c.args.self.now.drained.items c.args.tag c.loop-turn.turn (c.loop-turn.invariant.tried start d a of sees) c.tries-volume.result
-      (c.tries-volume.ensures.is c.args.pair refl) c.tries-volume.ensures.below (subst (λ r. TryTells c.args.self.now.settings start c.args.self.now.drained.items c.args.tag c.tries-volume.result c.args.size r (sight g.V.VolumeCalls.sight g.D.DirectoryCalls.sight c.loop-turn.lane) (sight g.V.VolumeCalls.sight g.D.DirectoryCalls.sight c.refusal.new.lane))
+      (c.tries-volume.ensures.is c.args.pair refl) c.tries-volume.ensures.below (subst (λ r. TryTells c.args.self.now.settings start c.args.self.now.drained.items c.args.tag c.tries-volume.result c.args.size r (sight g.V.VolumeCalls.sight g.D.DirectoryCalls.sight g.A.Arm.fault_count c.loop-turn.lane) (sight g.V.VolumeCalls.sight g.D.DirectoryCalls.sight g.A.Arm.fault_count c.refusal.new.lane))
       c.in-Some.is (c.refusal.ensures.tells start (c.loop-turn.invariant.same start of))));
 }
 
@@ -56,5 +61,5 @@ returns-clause-same g c = c.loop-turn.invariant.same
 pub returns-clause-tried : goal.returns-clause-tried
 returns-clause-tried g c start d a of sees =
     let all : c.loop-turn.turn ≡ c.args.self.now.settings.volumes = omega (arith, c.loop-turn-test.false, c.loop-turn.auto.turn-end) in
-    subst (λ n. Tried c.args.self.now.settings start c.args.self.now.drained.items c.args.tag c.args.pair c.args.size (first_tries c.args.self.now.settings c.args.pair n) c.loop-turn.refused a (sight g.V.VolumeCalls.sight g.D.DirectoryCalls.sight c.loop-turn.lane)) all
+    subst (λ n. Tried c.args.self.now.settings start c.args.self.now.drained.items c.args.tag c.args.pair c.args.size (first_tries c.args.self.now.settings c.args.pair n) c.loop-turn.refused a (sight g.V.VolumeCalls.sight g.D.DirectoryCalls.sight g.A.Arm.fault_count c.loop-turn.lane)) all
     (c.loop-turn.invariant.tried start d a of sees)

@@ -1,4 +1,6 @@
 use Rattle.std.proofs.Common.{ℕ, None}
+use Rattle.std.specs.List.{AllByRecursion}
+use Rattle.hay_reply.specs.Fits.{FitsRefused}
 use Rattle.hay_meeting.specs.Acts.{Start}
 use Rattle.hay_meeting.specs.Sights.{Sight}
 use Rattle.hay_holdings.specs.Lines.{Sees, Tried}
@@ -8,9 +10,10 @@ use Rattle.hay_lane.proofs.lane.Shared.find_taker.Given as goal
 
 abbrev pub invariant-loop-turn : goal.invariant-loop-turn
 invariant-loop-turn g l = record {
+  fits : AllByRecursion FitsRefused l.refused;
   seated : IsSeated g.V.VolumeCalls.fits g.D.DirectoryCalls.fits l.fn.self l.fn.tag.lane l.lane;
   same : (start : Start) → IsOf g.V.VolumeCalls.is_at g.D.DirectoryCalls.is_at l.fn.self.settings start l.fn.lane → IsOf g.V.VolumeCalls.is_at g.D.DirectoryCalls.is_at l.fn.self.settings start l.lane;
   tried : (start : Start) (d : ℕ) (a : Sight) → IsOf g.V.VolumeCalls.is_at g.D.DirectoryCalls.is_at l.fn.self.settings start l.fn.lane
-      → Sees l.fn.self.settings start l.fn.self.drained.items l.fn.tag l.pair d None a (sight g.V.VolumeCalls.sight g.D.DirectoryCalls.sight l.fn.lane)
-      → Tried l.fn.self.settings start l.fn.self.drained.items l.fn.tag l.pair l.size (first_tries l.fn.self.settings l.pair l.turn) l.refused a (sight g.V.VolumeCalls.sight g.D.DirectoryCalls.sight l.lane);
+      → Sees l.fn.self.settings start l.fn.self.drained.items l.fn.tag l.pair d None a (sight g.V.VolumeCalls.sight g.D.DirectoryCalls.sight g.A.Arm.fault_count l.fn.lane)
+      → Tried l.fn.self.settings start l.fn.self.drained.items l.fn.tag l.pair l.size (first_tries l.fn.self.settings l.pair l.turn) l.refused a (sight g.V.VolumeCalls.sight g.D.DirectoryCalls.sight g.A.Arm.fault_count l.lane);
 }

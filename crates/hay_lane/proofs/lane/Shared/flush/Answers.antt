@@ -8,11 +8,11 @@ use Rattle.hay_lane.proofs.lane.Shared.flush.Goals as goal
 pub returns-in_default-clause-answered : goal.returns-in_default-clause-answered
 returns-in_default-clause-answered g c start of =
     flush_nowhere c.args.self.now.settings start c.args.self.now.drained.items
-    (idle_unchanged (idle_same c.args.tag (sight g.V.VolumeCalls.sight g.D.DirectoryCalls.sight c.args.lane.now))) (sym c.in_default.ensures.is)
+    (idle_unchanged (idle_same c.args.tag (sight g.V.VolumeCalls.sight g.D.DirectoryCalls.sight g.A.Arm.fault_count c.args.lane.now))) (sym c.in_default.ensures.is)
 
 pub returns-clause-answered : goal.returns-clause-answered
 returns-clause-answered g c start of =
     flush_answered c.args.self.now.settings start c.args.self.now.drained.items c.args.tag
-    (sight g.V.VolumeCalls.sight g.D.DirectoryCalls.sight c.args.lane.now) (sight g.V.VolumeCalls.sight g.D.DirectoryCalls.sight c.flush_at-answer.new.lane)
+    (sight g.V.VolumeCalls.sight g.D.DirectoryCalls.sight g.A.Arm.fault_count c.args.lane.now) (sight g.V.VolumeCalls.sight g.D.DirectoryCalls.sight g.A.Arm.fault_count c.flush_at-answer.new.lane)
     c.args.volume c.args.machine c.in-Some.replica (sym c.in-Some.ensures.is) c.in-Some.ensures.within.1 c.in-Some.ensures.within.2
     c.flush_at-answer.result c.flush_reply.result (c.flush_at-answer.ensures.tells start of) c.flush_reply.ensures.is

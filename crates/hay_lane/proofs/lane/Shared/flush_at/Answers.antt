@@ -29,7 +29,7 @@ pub returns-clause-tells : goal.returns-clause-tells
 returns-clause-tells g c start of =
     stepped g.V.VolumeCalls.fits g.D.DirectoryCalls.fits c.args.self.now c.args.tag.lane c.args.lane.now c.requires.seated
     c.args.volume c.requires.volume c.as_slice.ensures.value c.as_mut_slice.ensures.value c.index-as_slice-volume.result c.index-as_mut_slice-volume.result
-    c.index-as_slice-volume.result c.index-as_slice-volume.is c.flush.new.seat g.V.VolumeCalls.sight g.D.DirectoryCalls.sight
+    c.index-as_slice-volume.result c.index-as_slice-volume.is c.flush.new.seat g.V.VolumeCalls.sight g.D.DirectoryCalls.sight g.A.Arm.fault_count
     (FlushTells (record { settings = c.args.self.now.settings; start = start; number = c.args.volume }) c.args.tag c.args.replica c.flush.result)
     (c.flush.ensures.tells (record { settings = c.args.self.now.settings; start = start; number = c.args.volume })
     (of.each c.args.volume _ (seat_at g.V.VolumeCalls.fits g.D.DirectoryCalls.fits c.args.self.now c.args.tag.lane c.args.lane.now c.requires.seated

@@ -18,4 +18,4 @@ returns-clause-same g c =
 pub returns-clause-tells : goal.returns-clause-tells
 returns-clause-tells g c start of =
     stepped_rows g.V.VolumeCalls.fits g.D.DirectoryCalls.fits c.args.self.now c.args.tag.lane c.args.lane.now c.requires.seated
-    c.fuse.new.seat g.V.VolumeCalls.sight g.D.DirectoryCalls.sight (FusedDir start c.args.tag) (c.fuse.ensures.tells start of.rows)
+    c.fuse.new.seat g.V.VolumeCalls.sight g.D.DirectoryCalls.sight g.A.Arm.fault_count (FusedDir start c.args.tag) (c.fuse.ensures.tells start of.rows)

@@ -21,4 +21,4 @@ returns-clause-below g c = c.home.ensures.below c.args.self.now.settings c.args.
 pub returns-clause-tells : goal.returns-clause-tells
 returns-clause-tells g c start of =
     stepped_rows g.V.VolumeCalls.fits g.D.DirectoryCalls.fits c.args.self.now c.args.tag.lane c.args.lane.now c.requires.seated
-    c.home.new.seat g.V.VolumeCalls.sight g.D.DirectoryCalls.sight (HomeShown start c.args.pair c.home.result.0 c.home.result.1) (c.home.ensures.tells start of.rows)
+    c.home.new.seat g.V.VolumeCalls.sight g.D.DirectoryCalls.sight g.A.Arm.fault_count (HomeShown start c.args.pair c.home.result.0 c.home.result.1) (c.home.ensures.tells start of.rows)

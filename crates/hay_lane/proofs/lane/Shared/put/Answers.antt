@@ -5,11 +5,11 @@ use Rattle.hay_lane.proofs.lane.Shared.put.Goals as goal
 
 pub returns-in-Some-clause-answered : goal.returns-in-Some-clause-answered
 returns-in-Some-clause-answered g c start of =
-    c.put_home.ensures.answered start (sight g.V.VolumeCalls.sight g.D.DirectoryCalls.sight c.args.lane.now) (c.home_in_view-rows.ensures.same start of)
+    c.put_home.ensures.answered start (sight g.V.VolumeCalls.sight g.D.DirectoryCalls.sight g.A.Arm.fault_count c.args.lane.now) (c.home_in_view-rows.ensures.same start of)
     (settles c.args.self.now.settings start c.args.self.now.drained.items c.args.tag
     (saw c.args.self.now.settings start c.args.self.now.drained.items c.args.tag c.in-Some.is (c.home_in_view-rows.ensures.tells start of)))
 
 pub returns-in-None-clause-answered : goal.returns-in-None-clause-answered
 returns-in-None-clause-answered g c start of =
-    c.put_first.ensures.answered start c.home_in_view-rows.result.0 (sight g.V.VolumeCalls.sight g.D.DirectoryCalls.sight c.args.lane.now) (c.home_in_view-rows.ensures.same start of)
+    c.put_first.ensures.answered start c.home_in_view-rows.result.0 (sight g.V.VolumeCalls.sight g.D.DirectoryCalls.sight g.A.Arm.fault_count c.args.lane.now) (c.home_in_view-rows.ensures.same start of)
     (saw c.args.self.now.settings start c.args.self.now.drained.items c.args.tag c.in-None.is (c.home_in_view-rows.ensures.tells start of))

@@ -8,7 +8,7 @@ use Rattle.hay_lane.proofs.lane.Shared.refusal.Goals as goal
 
 pub returns-in_default-clause-tells : goal.returns-in_default-clause-tells
 returns-in_default-clause-tells g c start of =
-    subst (λ r. TryTells c.args.self.now.settings start c.args.self.now.drained.items c.args.tag c.args.volume c.args.size r (sight g.V.VolumeCalls.sight g.D.DirectoryCalls.sight c.args.lane.now) (sight g.V.VolumeCalls.sight g.D.DirectoryCalls.sight c.room_at-room.new.lane)) (sym c.refusal_for.ensures.is)
+    subst (λ r. TryTells c.args.self.now.settings start c.args.self.now.drained.items c.args.tag c.args.volume c.args.size r (sight g.V.VolumeCalls.sight g.D.DirectoryCalls.sight g.A.Arm.fault_count c.args.lane.now) (sight g.V.VolumeCalls.sight g.D.DirectoryCalls.sight g.A.Arm.fault_count c.room_at-room.new.lane)) (sym c.refusal_for.ensures.is)
     (room_tells c.args.self.now.settings start c.args.self.now.drained.items c.args.tag c.args.volume c.args.size c.room_at-room.result (ap (λ drained. drained_in c.args.self.now.settings drained c.args.volume) (sym c.as_slice.ensures.value) ∙ sym c.in_default.ensures.is) (c.room_at-room.ensures.tells start of))
 
 pub returns-clause-tells : goal.returns-clause-tells

@@ -7,9 +7,9 @@ use Rattle.hay_lane.proofs.lane.Shared.undrain.Goals as goal
 pub returns-then-machine-self-clause-answered : goal.returns-then-machine-self-clause-answered
 returns-then-machine-self-clause-answered g c start of =
     undrain_nowhere c.args.self.now.settings start c.args.self.now.drained.items
-    (idle_unchanged (idle_same c.args.tag (sight g.V.VolumeCalls.sight g.D.DirectoryCalls.sight c.args.lane.now))) c.if-machine-self.true
+    (idle_unchanged (idle_same c.args.tag (sight g.V.VolumeCalls.sight g.D.DirectoryCalls.sight g.A.Arm.fault_count c.args.lane.now))) c.if-machine-self.true
 
 pub returns-clause-answered : goal.returns-clause-answered
 returns-clause-answered g c start of =
     undrains c.args.self.now.settings start c.args.self.now.drained.items c.args.tag
-    (sight g.V.VolumeCalls.sight g.D.DirectoryCalls.sight c.args.lane.now) (sight g.V.VolumeCalls.sight g.D.DirectoryCalls.sight c.undrain_machine.new.lane) c.if-machine-self.false (c.undrain_machine.ensures.tells start of)
+    (sight g.V.VolumeCalls.sight g.D.DirectoryCalls.sight g.A.Arm.fault_count c.args.lane.now) (sight g.V.VolumeCalls.sight g.D.DirectoryCalls.sight g.A.Arm.fault_count c.undrain_machine.new.lane) c.if-machine-self.false (c.undrain_machine.ensures.tells start of)

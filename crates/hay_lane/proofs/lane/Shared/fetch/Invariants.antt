@@ -1,0 +1,24 @@
+use Rattle.std.proofs.Common.{◌≡◌, ◌≤◌, ℕ, length, Some}
+use Rattle.std.specs.Vec.{vec_capacity}
+use Rattle.hay_needle.specs.declared.total.TheConstants.{MAX_PHOTO}
+use Rattle.hay_meeting.specs.Acts.{Start}
+use Rattle.hay_meeting.specs.Sights.{Sight}
+use Rattle.hay_holdings.specs.Lines.{Sees}
+use Rattle.hay_reader.specs.Shown.{HasBytes}
+use Rattle.hay_lane.specs.Lanes.{IsOf, IsSeated, sight}
+use Rattle.hay_lane.specs.Reads.{HasRead, StopsBehind}
+use Rattle.hay_lane.proofs.lane.Shared.fetch.Given as goal
+
+abbrev pub invariant-loop : goal.invariant-loop
+invariant-loop g l = record {
+  seated : IsSeated g.V.VolumeCalls.fits g.D.DirectoryCalls.fits l.self l.tag.lane l.lane;
+  same : (start : Start) → IsOf g.V.VolumeCalls.is_at g.D.DirectoryCalls.is_at l.self.settings start l.fn.lane → IsOf g.V.VolumeCalls.is_at g.D.DirectoryCalls.is_at l.self.settings start l.lane;
+  long : length l.looked.row ≡ l.self.settings.replicas;
+  stops : StopsBehind l.first l.self.settings.replicas l.counter l.read;
+  bytes : HasBytes l.photo.items l.read;
+  room : MAX_PHOTO ≤ vec_capacity l.photo;
+  tells : (start : Start) (d : ℕ) (a : Sight) → IsOf g.V.VolumeCalls.is_at g.D.DirectoryCalls.is_at l.self.settings start l.fn.lane →
+      Sees l.self.settings start l.self.drained.items l.tag l.pair d (Some l.volume) a (sight g.V.VolumeCalls.sight g.D.DirectoryCalls.sight g.A.Arm.fault_count l.fn.lane) →
+      HasRead l.self.settings start l.self.drained.items l.tag l.pair d l.volume l.first g.V.Piece.Piece.Tells l.cookie l.looked l.photo.items l.read
+      a (sight g.V.VolumeCalls.sight g.D.DirectoryCalls.sight g.A.Arm.fault_count l.lane);
+}

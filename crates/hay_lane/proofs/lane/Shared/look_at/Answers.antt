@@ -1,0 +1,42 @@
+use Rattle.hay_lane.specs.Reads.{LookTells}
+use Rattle.hay_lane.proofs.Stepping.{fits_here, seat_at, stepped, still_of, still_seated}
+use Rattle.hay_lane.proofs.lane.Shared.look_at.Goals as goal
+
+pub look-requires : goal.look-requires
+look-requires g c = record {
+  fits = (
+    c.args.self.now.settings,
+    c.args.tag.lane,
+    fits_here g.V.VolumeCalls.fits g.D.DirectoryCalls.fits c.args.self.now c.args.tag.lane c.args.lane.now c.requires.seated
+        c.args.volume c.requires.volume c.as_slice.ensures.value c.as_mut_slice.ensures.value c.index-as_slice-volume.result c.index-as_mut_slice-volume.result
+        c.index-as_slice-volume.result c.index-as_slice-volume.is,
+  );
+}
+
+pub returns-clause-seated : goal.returns-clause-seated
+returns-clause-seated g c =
+    still_seated g.V.VolumeCalls.fits g.D.DirectoryCalls.fits c.args.self.now c.args.tag.lane c.args.lane.now c.requires.seated
+    c.args.volume c.requires.volume c.as_slice.ensures.value c.as_mut_slice.ensures.value c.index-as_slice-volume.result c.index-as_mut_slice-volume.result
+    c.index-as_slice-volume.result c.index-as_slice-volume.is c.look.new.seat g.V.VolumeCalls.is_at c.look.ensures.stays
+
+pub returns-clause-same : goal.returns-clause-same
+returns-clause-same g c =
+    still_of g.V.VolumeCalls.fits g.D.DirectoryCalls.fits c.args.self.now c.args.tag.lane c.args.lane.now c.requires.seated
+    c.args.volume c.requires.volume c.as_slice.ensures.value c.as_mut_slice.ensures.value c.index-as_slice-volume.result c.index-as_mut_slice-volume.result
+    c.index-as_slice-volume.result c.index-as_slice-volume.is c.look.new.seat g.V.VolumeCalls.is_at c.look.ensures.stays g.D.DirectoryCalls.is_at c.args.self.now.settings
+
+pub returns-clause-tells : goal.returns-clause-tells
+returns-clause-tells g c start of =
+    stepped g.V.VolumeCalls.fits g.D.DirectoryCalls.fits c.args.self.now c.args.tag.lane c.args.lane.now c.requires.seated
+    c.args.volume c.requires.volume c.as_slice.ensures.value c.as_mut_slice.ensures.value c.index-as_slice-volume.result c.index-as_mut_slice-volume.result
+    c.index-as_slice-volume.result c.index-as_slice-volume.is c.look.new.seat g.V.VolumeCalls.sight g.D.DirectoryCalls.sight g.A.Arm.fault_count
+    (LookTells g.V.Piece.Piece.Tells (record { settings = c.args.self.now.settings; start = start; number = c.args.volume }) c.args.pair c.look.result)
+    (c.look.ensures.tells (record { settings = c.args.self.now.settings; start = start; number = c.args.volume })
+    (of.each c.args.volume _ (seat_at g.V.VolumeCalls.fits g.D.DirectoryCalls.fits c.args.self.now c.args.tag.lane c.args.lane.now c.requires.seated
+    c.args.volume c.requires.volume c.as_slice.ensures.value c.as_mut_slice.ensures.value c.index-as_slice-volume.result c.index-as_mut_slice-volume.result)))
+
+pub returns-clause-long : goal.returns-clause-long
+returns-clause-long g c = c.look.ensures.long c.args.self.now.settings c.args.tag.lane
+    (fits_here g.V.VolumeCalls.fits g.D.DirectoryCalls.fits c.args.self.now c.args.tag.lane c.args.lane.now c.requires.seated
+    c.args.volume c.requires.volume c.as_slice.ensures.value c.as_mut_slice.ensures.value c.index-as_slice-volume.result c.index-as_mut_slice-volume.result
+    c.index-as_slice-volume.result c.index-as_slice-volume.is)

@@ -1,0 +1,189 @@
+-- What looks at a volume's places tell, and what the parts of a read do.
+use Rattle.std.specs.Prelude.{◌≡◌, ◌≢◌, ◌⊎◌, ℕ, ◌+◌, ◌%◌, ◌<◌, ◌≤◌, Bool, List, [], length, map, Result, Ok, Err, IsErr}
+use Rattle.hay_needle.specs.declared.needle.Pair.{Pair}
+use Rattle.hay_needle.specs.declared.needle.Cookie.{Cookie}
+use Rattle.hay_needle.specs.declared.needle.Outcome.{Outcome}
+use Rattle.hay_needle.specs.declared.needle.Outcome.TheVariants as outcome
+use Rattle.hay_needle.specs.declared.needle.Photo.{Photo as PhotoOf}
+use Rattle.hay_needle.specs.declared.settings.Settings.{Settings}
+use Rattle.hay_needle.specs.Tables.{outcome_at}
+use Rattle.hay_map.specs.Places.{place_in}
+use Rattle.hay_map.specs.declared.place.Place.{Place}
+use Rattle.hay_map.specs.declared.place.Place.TheVariants as place
+use Rattle.hay_reply.specs.declared.Cause.{Cause}
+use Rattle.hay_reply.specs.declared.Cause.TheVariants.{Damage, Disk}
+use Rattle.hay_reply.specs.declared.Passed.{Passed}
+use Rattle.hay_reply.specs.declared.Reply.{Reply}
+use Rattle.hay_reply.specs.declared.Reply.TheVariants as reply
+use Rattle.hay_core.specs.declared.entry.CoreTag.{CoreTag}
+use Rattle.hay_core.specs.declared.entry.Entry.{Entry}
+use Rattle.hay_legal.specs.Known.{machine_of}
+use Rattle.hay_meeting.specs.declared.act.VolumeAct.{VolumeAct}
+use Rattle.hay_meeting.specs.Acts.{Start}
+use Rattle.hay_meeting.specs.Facts.{front_shown, table_shown}
+use Rattle.hay_meeting.specs.Locks.{LockSight}
+use Rattle.hay_meeting.specs.Sights.{Sight}
+use Rattle.hay_holdings.specs.Holdings as holdings
+use Rattle.hay_holdings.specs.Lines.{Looking, PassedOver, Unchanged}
+use Rattle.hay_holdings.specs.Sights.{AtVolume}
+use Rattle.hay_holdings.specs.Volumes.{ChangedNothing, SightFailed, SightWanted, VolumeCall}
+use Rattle.hay_reader.specs.Causes.{ComeFirst}
+use Rattle.hay_reader.specs.Shown.{MayMean}
+use Rattle.hay_reader.specs.Tried.{HasItsPhoto}
+use Rattle.hay_reader.specs.declared.causes.PassedReplica.{PassedReplica}
+use Rattle.hay_reader.specs.declared.seat.ReadReply.{ReadReply}
+use Rattle.hay_reader.specs.declared.seat.ReadReply.TheVariants as read
+use Rattle.hay_lane.specs.declared.answers.Looked.{Looked}
+use Rattle.hay_lane.specs.declared.answers.SightFault.{SightFault}
+use Rattle.hay_lane.specs.declared.answers.SightFault.TheVariants as fault
+use Rattle.hay_lane.specs.declared.reads.Found.{Found}
+use Rattle.hay_lane.specs.declared.reads.Found.TheVariants as found
+use Rattle.hay_lane.specs.Tellings.{StoreVolume}
+
+-- PLACES
+
+-- the place was looked at
+abbrev pub WasSeen : {P : Type 0} → Place P → Type 0
+WasSeen (place.Live needle) = Unit {0}
+WasSeen place.None = Unit {0}
+WasSeen place.Gone = Unit {0}
+WasSeen (place.Unseen at size) = ⊥
+
+module _ {P : Type 0} (Tells : Type 0) (volume : StoreVolume) (pair : Pair) where
+  -- The front that a lane is shown, and of each place of the pair that was looked at what its replica has there.
+  pub record PlacesTell (looked : Looked P) (b : LockSight VolumeAct Entry) : Type 0 where
+    pub front : looked.front ≡ front_shown volume.start volume.number b.shown
+    pub means : (j : ℕ) → j < (volume.settings).replicas
+        → MayMean Tells pair (place_in looked.row j) (outcome_at (table_shown volume.start volume.number j b.shown) pair)
+
+  abbrev pub LookTells : Looked P → VolumeCall
+  LookTells looked a b = holdings.Looked a b × PlacesTell looked b
+
+  -- a place was seen by these bytes, or it had been seen before and there are none
+  abbrev pub SeeTells : CoreTag → ℕ → List ℕ → Result (Looked P) SightFault → VolumeCall
+  SeeTells tag j bytes (Ok looked) a b =
+      ChangedNothing volume.settings volume.start volume.number tag a b × PlacesTell looked b
+      × ((bytes ≡ []) ⊎ HasItsPhoto bytes (place_in looked.row j))
+  SeeTells tag j bytes (Err (fault.Failed f)) a b = SightFailed volume.settings volume.start volume.number tag j f a b
+  SeeTells tag j bytes (Err (fault.Damaged at)) a b = ⊥
+  SeeTells tag j bytes (Err fault.NoMemory) a b = SightWanted volume.settings volume.start volume.number tag a b
+
+-- READS
+
+abbrev pub replicas_in : List PassedReplica → List ℕ
+replicas_in causes = map (λ over. over.replica) causes
+
+abbrev pub causes_in : List PassedReplica → List Cause
+causes_in causes = map (λ over. over.cause) causes
+
+-- the places of a row that were looked at mean these outcomes by replica
+abbrev pub RowMeans : {P : Type 0} → Type 0 → Settings → Pair → List (Place P) → (ℕ → Outcome) → Type 0
+RowMeans Tells settings pair row what = (j : ℕ) → j < settings.replicas → MayMean Tells pair (place_in row j) (what j)
+
+-- the next replica from `first` on, behind those that were passed over
+pub record IsNext (first replicas : ℕ) (causes : List PassedReplica) (j : ℕ) : Type 0 where
+  pub order : ComeFirst first replicas causes
+  pub fewer : length causes < replicas
+  pub next : j ≡ (first + length causes) % replicas
+
+-- a read stops only at the next replica, behind so many at least
+abbrev pub StopsBehind : ℕ → ℕ → ℕ → ReadReply → Type 0
+StopsBehind first replicas n (read.Unseen j causes) = IsNext first replicas causes j × (n ≤ length causes)
+StopsBehind first replicas n (read.Photo j) = Unit {0}
+StopsBehind first replicas n (read.Gone j) = Unit {0}
+StopsBehind first replicas n (read.WrongCookie j) = Unit {0}
+StopsBehind first replicas n (read.Unreadable causes) = Unit {0}
+
+-- the outcome is another cookie's photo
+abbrev pub IsOther : Cookie → Outcome → Type 0
+IsOther cookie what = (photo : PhotoOf) × (photo.cookie ≢ cookie) × (what ≡ outcome.Photo photo)
+
+-- what was read is what was found
+abbrev pub IsFoundAs : ReadReply → Found → Type 0
+IsFoundAs (read.Photo j) what = what ≡ found.Photo j
+IsFoundAs (read.Gone j) what = what ≡ found.Gone j
+IsFoundAs (read.WrongCookie j) what = what ≡ found.WrongCookie j
+IsFoundAs (read.Unreadable causes) what = what ≡ found.Unreadable causes
+IsFoundAs (read.Unseen j causes) what = ⊥
+
+-- why a replica is passed over whose place was not seen
+abbrev pub IsSightCause : {E : Type 0} → SightFault → Result Cause E → Type 0
+IsSightCause (fault.Failed f) r = r ≡ Ok (Disk f)
+IsSightCause (fault.Damaged at) r = r ≡ Ok (Damage at)
+IsSightCause fault.NoMemory r = IsErr r
+
+module _ (settings : Settings) (start : Start) (drained : List Bool) (tag : CoreTag) (pair : Pair) (d v first : ℕ) where
+  -- These replicas come first and were passed over. The last look at the volume showed this front, and this at the pair by replica.
+  pub record PassedFirst (p : ℕ) (what : ℕ → Outcome) (causes : List PassedReplica) (a b : Sight) : Type 0 where
+    pub order : ComeFirst first settings.replicas causes
+    pub looking : Looking settings start drained tag pair d v p what (replicas_in causes) (causes_in causes) a b
+
+  -- this replica comes next, and had such an outcome
+  pub record ShownBy (p : ℕ) (what : ℕ → Outcome) (j : ℕ) (IsSo : Outcome → Type 0) (a b : Sight) : Type 0 where
+    pub causes : List PassedReplica
+    pub passed : PassedFirst p what causes a b
+    pub fewer : length causes < settings.replicas
+    pub next : j ≡ (first + length causes) % settings.replicas
+    pub is : IsSo (what j)
+
+  -- each was passed over
+  abbrev pub AllPassed : ℕ → (ℕ → Outcome) → List PassedReplica → Sight → Sight → Type 0
+  AllPassed p what causes a b = PassedFirst p what causes a b × (length causes ≡ settings.replicas)
+
+  -- for want of memory the volume may be frozen, behind replicas that were passed over
+  pub record FrozeBehind (a b : Sight) : Type 0 where
+    pub js : List ℕ
+    pub causes : List Cause
+    pub m : Sight
+    pub over : PassedOver settings start drained tag pair d v js causes a m
+    pub wanted : AtVolume v (SightWanted settings start v tag) m b
+
+  abbrev pub ReadTells : Cookie → ℕ → (ℕ → Outcome) → List ℕ → ReadReply → Sight → Sight → Type 0
+  ReadTells cookie p what put (read.Photo j) = ShownBy p what j (λ o. o ≡ outcome.Photo (record { cookie = cookie; bytes = put }))
+  ReadTells cookie p what put (read.Gone j) = ShownBy p what j (λ o. o ≡ outcome.Nothing)
+  ReadTells cookie p what put (read.WrongCookie j) = ShownBy p what j (IsOther cookie)
+  ReadTells cookie p what put (read.Unseen j causes) = PassedFirst p what causes
+  ReadTells cookie p what put (read.Unreadable causes) = AllPassed p what causes
+
+  abbrev pub FoundTells : Cookie → ℕ → (ℕ → Outcome) → List ℕ → Found → Sight → Sight → Type 0
+  FoundTells cookie p what put (found.Photo j) = ShownBy p what j (λ o. o ≡ outcome.Photo (record { cookie = cookie; bytes = put }))
+  FoundTells cookie p what put (found.Gone j) = ShownBy p what j (λ o. o ≡ outcome.Nothing)
+  FoundTells cookie p what put (found.WrongCookie j) = ShownBy p what j (IsOther cookie)
+  FoundTells cookie p what put (found.Unreadable causes) = AllPassed p what causes
+
+  -- a read of a row has come so far
+  pub record HasRead {P : Type 0} (Tells : Type 0) (cookie : Cookie) (looked : Looked P) (put : List ℕ) (reply : ReadReply) (a b : Sight) : Type 0 where
+    pub what : ℕ → Outcome
+    pub means : RowMeans Tells settings pair looked.row what
+    pub tells : ReadTells cookie looked.front what put reply a b
+
+  -- this was found
+  pub record HasFound (cookie : Cookie) (p : ℕ) (put : List ℕ) (found : Found) (a b : Sight) : Type 0 where
+    pub what : ℕ → Outcome
+    pub tells : FoundTells cookie p what put found a b
+
+-- REPLIES
+
+-- a replica of a volume that was passed over, by its machine
+abbrev pub passed_at : Settings → ℕ → PassedReplica → Passed
+passed_at settings v over = record { machine = machine_of settings v over.replica; cause = over.cause }
+
+-- of what was found at a front of the pair's home, where there are so many rows
+abbrev pub IsFoundReply : Settings → ℕ → ℕ → ℕ → List ℕ → Found → Reply → Type 0
+IsFoundReply settings v p d put (found.Photo j) r = r ≡ reply.Photo v (machine_of settings v j) p d put
+IsFoundReply settings v p d put (found.Gone j) r = r ≡ reply.Gone v (machine_of settings v j) p d
+IsFoundReply settings v p d put (found.WrongCookie j) r = r ≡ reply.WrongCookie v (machine_of settings v j) p d
+IsFoundReply settings v p d put (found.Unreadable causes) r = (r ≡ reply.Unreadable v p d (map (passed_at settings v) causes)) ⊎ (r ≡ reply.NoMem)
+
+module _ (settings : Settings) (start : Start) (drained : List Bool) (tag : CoreTag) (pair : Pair) (cookie : Cookie) (d v first : ℕ) where
+  -- the reply to what was found
+  pub record RepliesFound (reply : Reply) (a b : Sight) : Type 0 where
+    pub front : ℕ
+    pub put : List ℕ
+    pub found : Found
+    pub is : IsFoundReply settings v front d put found reply
+    pub tells : HasFound settings start drained tag pair d v first cookie front put found a b
+
+  -- how a read of a pair's home is answered, where there are so many rows
+  abbrev pub ShowTells : Reply → Sight → Sight → Type 0
+  ShowTells r a b = RepliesFound r a b ⊎ ((r ≡ reply.NoMem) × (Unchanged tag a b ⊎ FrozeBehind settings start drained tag pair d v first a b))

@@ -1,0 +1,70 @@
+//! The answer of any line but a restart's.
+ghost use Rattle.std.specs.Prelude.{◌≡◌, ◌≢◌, ℕ};
+ghost use Rattle.hay_script.specs.declared.Command.TheVariants as asks;
+ghost use Rattle.hay_script.specs.Script.{IsWithin};
+ghost use Rattle.hay_meeting.specs.Acts.{Start};
+ghost use Rattle.hay_holdings.specs.Lines.{IsAnswered};
+ghost use Rattle.hay_lane.specs.Lanes.{IsOf, IsSeated, sight};
+ghost use Rattle.hay_reply.specs.Fits.{FitsReply};
+
+use crate::calls::{DirectoryCalls, VolumeCalls};
+use crate::lane::{Lane, Shared};
+use hay_core::CoreTag;
+use hay_disk::Arm;
+use hay_reply::Reply;
+use hay_script::Command;
+use std::alloc::Global;
+use std::sync::Wait;
+
+impl<V: VolumeCalls, D: DirectoryCalls> Shared<V, D> {
+    /// Answers a line of this command.
+    pub fn answer<R: Wait, A: Arm<V::Piece>>(
+        &self,
+        rt: &R,
+        alloc: Global,
+        lane: &mut Lane<V::Seat, D::Seat, A>,
+        tag: CoreTag,
+        command: &Command,
+    ) -> Reply
+        requires seated { IsSeated V.fits D.fits self.now tag.lane lane.old }
+        requires within { IsWithin command.now }
+        requires no_restart { (pick : ℕ) → command.now ≢ asks.Restart pick }
+        ensures seated { IsSeated V.fits D.fits self.now tag.lane lane.new }
+        ensures same { (start : Start) → IsOf V.is_at D.is_at self.now.settings start lane.old → IsOf V.is_at D.is_at self.now.settings start lane.new }
+        ensures answered { (start : Start) → IsOf V.is_at D.is_at self.now.settings start lane.old →
+            IsAnswered self.now.settings start self.now.drained.items tag command.now result (sight V.sight D.sight A.fault_count lane.old) (sight V.sight D.sight A.fault_count lane.new) }
+        ensures fits { FitsReply result }
+    {
+        match command {
+            Command::Put { pair, photo } => {
+                self.put(rt, alloc, lane, tag, *pair, photo.as_slice())
+            }
+            Command::Read { pair, cookie } => self.read(rt, alloc, lane, tag, *pair, *cookie),
+            Command::Get { url } => self.get(rt, alloc, lane, tag, url),
+            Command::Del { pair } => self.delete(rt, alloc, lane, tag, *pair),
+            Command::Url { pair } => self.url(rt, lane, tag, *pair),
+            Command::Flush { volume, machine } => self.flush(rt, alloc, lane, tag, *volume, *machine),
+            Command::Compact { volume, machine } => {
+                self.compact(rt, alloc, lane, tag, *volume, *machine)
+            }
+            Command::Begin { volume, machine } => self.begin(rt, alloc, lane, tag, *volume, *machine),
+            Command::Step {
+                volume,
+                machine,
+                cells,
+            } => self.step(rt, alloc, lane, tag, *volume, *machine, *cells),
+            Command::Finish { volume, machine } => {
+                self.finish(rt, alloc, lane, tag, *volume, *machine)
+            }
+            Command::Drain { machine } => self.drain(rt, lane, tag, *machine),
+            Command::Undrain { machine } => self.undrain(rt, lane, tag, *machine),
+            Command::Fuse {
+                volume,
+                machine,
+                calls,
+            } => self.fuse(rt, lane, tag, *volume, *machine, *calls),
+            Command::FuseDir { calls } => self.fuse_dir(rt, lane, tag, *calls),
+            Command::Restart { pick: _ } => unreachable!(),
+        }
+    }
+}
