@@ -1,6 +1,5 @@
-//! A logical volume behind a lock, with its rows published for lanes that do not hold it. At a seat a lane looks at the rows, and asks
-//! whether the volume is frozen and has room; of flushes, of compactions that begin and of fuses there are the laws by which they are
-//! steps of a lane, and not the calls.
+//! A logical volume behind a lock, with its rows published for lanes that do not hold it. At a seat a lane looks at the rows, asks
+//! whether the volume is frozen and has room, flushes a replica, begins a compaction of one, and sets a fuse on its disk.
 //!
 //! A lane has a seat at each volume. A call at a seat holds the volume once, and tells what it found and what act it made; or it looks
 //! at the published rows without the lock. Clauses see of a seat what its lane knows of the volume, as `hay_meeting` has it, and each
@@ -8,18 +7,25 @@
 //! where the disk tells what it has, and for all that the volume stood for where the lock was made; that it fails only where a count
 //! of faults rose holds on any disk.
 //!
+//! `VolumeLock::new` makes a lock of any open volume, whatever changes it has behind it, and `close` gives the volume back: it is what
+//! one history of acts left, of which each seat's own ones are known, with the tags of the changes that were entered. Where memory is
+//! wanting `new` gives the volume back as it was.
+//!
 //! `Guarded` is what stands behind the lock, and `specs/Keeping` says for which acts it stands. An act takes no memory: it has the
 //! volume as it was behind it, for clauses alone, which see a `VolumeAct`. `Told` is what the published rows tell. In `specs/Answers`
-//! each answer of a call is a call of `hay_holdings`.
+//! each answer of a call is a call of `hay_holdings`. It stands on hay_logical, hay_turn, hay_front and hay_views, and promises nothing
+//! of time or fairness.
 //!
 //! In `proofs/`, `Growing` has what an act makes of what stands behind the lock, `Finding` how the answers of a logical volume are
-//! those calls, `Holding` what a holding tells of its lane, and `Telling` what a look at the published rows does.
+//! those calls, `Holding` what a holding tells of its lane, `Telling` what a look at the published rows does, and `Opening` how a lock
+//! is made and ends.
 #![tactic(auto)]
 
 mod act;
 mod ended;
 mod guarded;
 mod lock;
+mod making;
 mod seat;
 mod told;
 mod tries;
@@ -28,5 +34,6 @@ pub use act::Act;
 pub use ended::Ended;
 pub use guarded::{Guarded, Opened};
 pub use lock::VolumeLock;
+pub use making::{NewLock, SeatRoom};
 pub use seat::VolumeSeat;
 pub use told::Told;
