@@ -1,5 +1,7 @@
 pub mod Acts
 pub mod Answers
+pub mod Closing
 pub mod Keeping
 pub mod Rows
 pub mod Seats
+pub mod Tries

@@ -21,6 +21,7 @@ mod guarded;
 mod lock;
 mod seat;
 mod told;
+mod tries;
 
 pub use act::Act;
 pub use guarded::{Guarded, Opened};
