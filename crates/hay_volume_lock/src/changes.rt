@@ -83,7 +83,13 @@ fn put_did(fault: &LogicalFault, frozen: Option<u32>, entry: &Entry) -> Option<M
     match fault {
         LogicalFault::Failed { machine, .. } => pended(Some(*machine), entry, true),
         LogicalFault::NoMemory => pended(frozen, entry, false),
-        _ => None,
+        LogicalFault::ReadOnly { .. } => None,
+        LogicalFault::Full { .. } => None,
+        LogicalFault::Gone { .. } => None,
+        LogicalFault::Busy { .. } => None,
+        LogicalFault::Worn { .. } => None,
+        LogicalFault::Idle => None,
+        LogicalFault::Damaged { .. } => None,
     }
 }
 

@@ -17,6 +17,7 @@
 #![tactic(auto)]
 
 mod act;
+mod changes;
 mod guarded;
 mod lock;
 mod seat;
