@@ -5,4 +5,5 @@ pub mod Holding
 pub mod Published
 pub mod Publishing
 pub mod Putting
+pub mod Seeing
 pub mod Telling

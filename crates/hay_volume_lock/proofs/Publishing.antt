@@ -186,14 +186,14 @@ module _ {D P : Type 0} (Tells : Type 0) (files : D → Files) (PieceTells : Typ
   fuses_stay count stay before after was is j = is j ∙ count_each fuses (old.logical).replicas (new.logical).replicas count (λ a b. b ≡ a) refl stay j ∙ sym (was j)
 
   pub changes_acted : (made : Made) → IsOfBoth faults old new → Shows tag (entry_of (did_by made)) old new
-      → ((opened : Opened D P) (held : List VolumeAct) → IsKept Tells files PieceTells faults fuses opened held old → Serves opened old new)
+      → ((opened : Opened D P) → old.settings ≡ (opened.volume).settings → Serves opened old new)
       → LeadsFusesOf fuses old new (did_of (did_by made))
       → (Tells → (before : Standing) → Stands files PieceTells old.logical before.volume → LeadsTo Tells files PieceTells faults fuses tag old new made before)
       → ((j : ℕ) → j < (old.settings).replicas → slice_index_or new.begun j nobody ≡ begun_in j tag (did_of (did_by made)) (slice_index_or old.begun j nobody))
       → EndsRuns Tells files PieceTells old new (act_of faults fuses tag made (new.logical).replicas)
       → (act : VolumeAct) → act ≡ act_of faults fuses tag made (new.logical).replicas → Leaves (Some act)
   changes_acted made of shows serves fuses_lead leads begun ends act is = subst (λ (z : VolumeAct). Leaves (Some z)) (sym is) (record {
-    kept = λ opened held h. kept_acted Tells files PieceTells faults fuses opened held old new tag made h of shows (serves opened held h) fuses_lead
+    kept = λ opened held h. kept_acted Tells files PieceTells faults fuses opened held old new tag made h of shows (serves opened h.settings) fuses_lead
         (λ tells k s. subst (λ (z : Settings). Leads z (opened.volume).number tag (did_of (did_by made)) (stood_of faults fuses opened k held) (left_by this (stood_of faults fuses opened k held))) h.same_settings
         (subst (λ (z : ℕ). Leads (old.logical).settings z tag (did_of (did_by made)) (stood_of faults fuses opened k held) (left_by this (stood_of faults fuses opened k held))) h.number
         (leads tells (stood_of faults fuses opened k held) (h.stands tells k s)).leads))
@@ -208,13 +208,13 @@ module _ {D P : Type 0} (Tells : Type 0) (files : D → Files) (PieceTells : Typ
 
   -- where what stands was not changed: an act tells of it where a call of a disk has failed
   pub changes_seen : IsOfBoth faults old new → Shows tag None old new
-      → ((opened : Opened D P) (held : List VolumeAct) → IsKept Tells files PieceTells faults fuses opened held old → Serves opened old new)
+      → ((opened : Opened D P) → old.settings ≡ (opened.volume).settings → Serves opened old new)
       → FusesStay fuses old new → (Tells → (k : VolumeKnown) → Stands files PieceTells old.logical k → Stands files PieceTells new.logical k)
       → new.begun ≡ old.begun → new.ended ≡ old.ended
       → (made : Option VolumeAct) → IsTried faults fuses tag (counts faults (old.logical).replicas) (new.logical).replicas made → Leaves made
   changes_seen of shows serves stay stands begun ended None tried = record {
     kept = λ opened held h. subst (λ (l : List VolumeAct). IsKept Tells files PieceTells faults fuses opened l new) (sym (append-nil held))
-        (kept_seen Tells files PieceTells faults fuses opened held old new tag h of shows (serves opened held h) stay (tried.quiet.0 refl) stands begun ended);
+        (kept_seen Tells files PieceTells faults fuses opened held old new tag h of shows (serves opened h.settings) stay (tried.quiet.0 refl) stands begun ended);
     tags = tt;
     seats = tt;
   }
@@ -278,13 +278,13 @@ module _ {D P : Type 0} (Tells : Type 0) (files : D → Files) (PieceTells : Typ
 
 -- WHAT IS PUBLISHED
 
-module _ {D P : Type 0} (tag : CoreTag) (deed : Published P) (old new : Guarded D P) where
+module _ {D P : Type 0} (tag : CoreTag) (old new : Guarded D P) where
   -- a change that was published, which entered this or nothing
-  pub shows_deed : (entered : Option Entry) → deed.entered ≡ add_shown entered []
+  pub shows_deed : (deed : Published P) (entered : Option Entry) → deed.entered ≡ add_shown entered []
       → (new.front).shown ≡ with_deed (old.front).shown deed
       → map (λ e. e.tag) (new.front).log ≡ map (λ e. e.tag) (old.front).log ++ add_tag entered (record { seat = tag.lane; lane = tag.lane; line = tag.line }) []
       → Shows tag entered old new
-  shows_deed entered is shown tags = record {
+  shows_deed deed entered is shown tags = record {
     front = ap (λ (w : View D P). w.front) shown;
     base = ap (λ (w : View D P). w.base) shown;
     more = ap (λ (w : View D P). entered_by w.deeds) shown ∙ entered_more ((old.front).shown).deeds deed ∙ ap (λ (l : List Entry). entered_by ((old.front).shown).deeds ++ l) is;
@@ -301,10 +301,10 @@ module _ {D P : Type 0} (tag : CoreTag) (deed : Published P) (old new : Guarded 
   }
 
   -- the rows are changed as they are published
-  pub serves_deed : (opened : Opened D P) → (new.front).closed ≡ false → (new.front).shown ≡ with_deed (old.front).shown deed
+  pub serves_deed : (deed : Published P) (opened : Opened D P) → (new.front).closed ≡ false → (new.front).shown ≡ with_deed (old.front).shown deed
       → ((new.logical).frozen ≡ None → (old.logical).frozen ≡ None) → FitsRows ((opened.volume).settings).replicas deed.change
       → ((pair : Pair) → row_at (new.logical).rows pair ≡ changed_row deed.change pair (row_at (old.logical).rows pair)) → Serves opened old new
-  serves_deed opened «open» shown thawed fit rows = record {
+  serves_deed deed opened «open» shown thawed fit rows = record {
     «open» = λ still. «open»;
     rows = λ from were still pair.
         ap (λ (w : View D P). published_row opened.volume from.rows w.deeds pair) shown

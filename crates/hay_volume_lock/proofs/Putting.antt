@@ -243,7 +243,7 @@ module _ {D P : Type 0} (Tells : Type 0) (files : D → Files) (PieceTells : Typ
 
       -- and was published
       pub put_stored : (p : ℕ) → (Tells → (k : VolumeKnown) → Stands files PieceTells old.logical k → logical.IsPut files PieceTells k tag pair cookie bytes p new.logical)
-          → Shows tag (Some change) old new → ((opened : Opened D P) (held : List VolumeAct) → Kept opened held → Serves opened old new)
+          → Shows tag (Some change) old new → ((opened : Opened D P) → old.settings ≡ (opened.volume).settings → Serves opened old new)
           → (act : VolumeAct) → act ≡ act_of faults fuses tag (made_is.Enters change []) (new.logical).replicas
           → Changes Tells files PieceTells faults fuses tag old new (Some act) × Found Tells files PieceTells faults fuses tag old (Some act) (λ volume. PutAnswer volume tag pair cookie bytes (Ok p))
       put_stored p put shows serves act is = (
@@ -267,7 +267,7 @@ module _ {D P : Type 0} (Tells : Type 0) (files : D → Files) (PieceTells : Typ
       -- and was given up for want of memory
       pub put_given_up : (Tells → (k : VolumeKnown) → Stands files PieceTells old.logical k
           → logical.HasRoom (old.logical).settings (old.logical).number k (length bytes) × Stands files PieceTells new.logical (frozen_with (machine_of (old.logical).settings (old.logical).number 0) tag change false k))
-          → Shows tag None old new → ((opened : Opened D P) (held : List VolumeAct) → Kept opened held → Serves opened old new)
+          → Shows tag None old new → ((opened : Opened D P) → old.settings ≡ (opened.volume).settings → Serves opened old new)
           → (act : VolumeAct) → act ≡ act_of faults fuses tag (made_is.Pends (machine_of (old.logical).settings (old.logical).number 0) change false) (new.logical).replicas
           → Changes Tells files PieceTells faults fuses tag old new (Some act) × Found Tells files PieceTells faults fuses tag old (Some act) (λ volume. PutAnswer volume tag pair cookie bytes (Err NoMemory))
       put_given_up given shows serves act is =
