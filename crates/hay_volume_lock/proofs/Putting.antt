@@ -1,6 +1,6 @@
 -- What a put leaves and tells.
 use Rattle.std.proofs.Common.{◌≡◌, ◌⊎◌, inl, inr, ℕ, ◌<◌, ◌≤◌, Bool, true, false, List, [], ◌∷◌, ◌++◌, length, Option, Some, None, refl, sym, ap, subst, ◌∙◌, arith}
-use Rattle.std.specs.Prelude.{IfSome, IsNone, Ok, Err, slice_index_or}
+use Rattle.std.specs.Prelude.{Result, Ok, Err, slice_index_or}
 use Rattle.hay_core.specs.declared.entry.CoreTag.{CoreTag}
 use Rattle.hay_core.specs.declared.entry.Entry.{Entry}
 use Rattle.hay_core.specs.declared.entry.Entry.TheVariants as entry
@@ -287,3 +287,23 @@ module _ {D P : Type 0} (Tells : Type 0) (files : D → Files) (PieceTells : Typ
               );
             },
           )
+
+-- WHERE NOTHING WAS CHANGED
+
+pub err_same : {X : Type 0} {a b : LogicalFault} → (Err a : Result X LogicalFault) ≡ Err b → a ≡ b
+err_same same = cc same
+
+module _ {D P : Type 0} (Tells : Type 0) (files : D → Files) (PieceTells : Type 0) (faults fuses : D → ℕ) (tag : CoreTag) (kept : Guarded D P) {pair : Pair} {cookie : Cookie} {bytes : List ℕ} where
+  -- the volume was frozen before
+  pub met_frozen : (m : ℕ) → (Tells → (k : VolumeKnown) → Stands files PieceTells kept.logical k → k.frozen ≡ Some m)
+      → Found Tells files PieceTells faults fuses tag kept None (λ volume. PutAnswer volume tag pair cookie bytes (Err (ReadOnly m)))
+  met_frozen m known opened held h tells k s volume at a b holding = record {
+    held = held;
+    made = None;
+    holding = holding;
+    is = (refl, sym (ap (λ (z : Standing). (z.volume).frozen) (stood_is faults fuses opened k volume held at)) ∙ known tells (stood_of faults fuses opened k held).volume (h.stands tells k s));
+  }
+
+  -- memory was wanting
+  pub wanted_nothing : Found Tells files PieceTells faults fuses tag kept None (λ volume. PutAnswer volume tag pair cookie bytes (Err NoMemory))
+  wanted_nothing opened held h tells k s volume at a b holding = record { held = held; made = None; holding = holding; is = inl tt }

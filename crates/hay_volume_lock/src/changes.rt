@@ -21,7 +21,7 @@ use std::alloc::Global;
 use std::marker::Model;
 use std::sync::Wait;
 
-fn front_tag(tag: CoreTag) -> Tag
+pub(crate) fn front_tag(tag: CoreTag) -> Tag
     ensures { result ≡ record { seat = tag.lane; lane = tag.lane; line = tag.line } }
 {
     Tag {

@@ -21,6 +21,7 @@ mod changes;
 mod guarded;
 mod lock;
 mod seat;
+mod sights;
 mod told;
 mod tries;
 
