@@ -170,7 +170,7 @@ module _ {D P : Type 0} (Tells : Type 0) (files : D → Files) (PieceTells : Typ
     abbrev first : MapPast P (Volume D P)
     first = begun_at volume rows
 
-    base_is : (m : MapPast P (Volume D P)) (b : Volume D P) → w.base ≡ Some (m, b) → (first, volume) ≡ (m, b)
+    base_is : (m : MapPast P (Volume D P)) (b : Volume D P) → w.base ≡ Some (m, b) → ◌≡◌ {A = MapPast P (Volume D P) × Volume D P} (first, volume) (m, b)
     unfolding both_in
     base_is m b is = ap (both_in (first, volume)) (sym base ∙ is)
 

@@ -1,5 +1,5 @@
 -- What a holding leaves that changes the volume and what is published of it, and what it tells of its lane.
-use Rattle.std.proofs.Common.{◌≡◌, ℕ, ◌<◌, ◌≤◌, Bool, true, false, List, [], ◌∷◌, ◌++◌, length, Option, Some, None, refl, sym, ap, subst, ◌∙◌, append-nil, arith}
+use Rattle.std.proofs.Common.{◌≡◌, ℕ, ◌<◌, ◌≤◌, Bool, true, false, List, [], ◌∷◌, ◌++◌, length, Option, Some, None, refl, sym, ap, subst, ◌∙◌, append_assoc, append-nil, arith}
 use Rattle.std.specs.Prelude.{slice_index_or, map, fold}
 use Rattle.std.specs.List.{AllByRecursion as Each}
 use Rattle.std.proofs.lemmas.List.{length-map, map-append}
@@ -49,6 +49,14 @@ use Rattle.hay_volume_lock.proofs.Published.{entered_more, row_more}
 
 abbrev View : Type 0 → Type 0 → Type 0
 View D P = Witness (MapPast P (Volume D P)) (Volume D P) (Published P)
+
+-- what begins what was shown begins what is shown
+pub later_same : {M B X : Type 0} (v w z : Witness M B X) → IsBehind v w → z ≡ w → IsBehind v z
+later_same v w z behind same = subst (λ x. IsBehind v x) (sym same) behind
+
+pub later_deed : {M B X : Type 0} (v w z : Witness M B X) (deed : X) → IsBehind v w → z ≡ with_deed w deed → IsBehind v z
+later_deed v w z deed behind same = subst (λ x. IsBehind v x) (sym same)
+    (behind.0, behind.1, ((behind.2).0 ++ deed ∷ [], sym (append_assoc v.deeds (behind.2).0 (deed ∷ [])) ∙ ap (λ l. l ++ deed ∷ []) (behind.2).1))
 
 -- WHAT CHANGED
 
@@ -186,14 +194,14 @@ module _ {D P : Type 0} (Tells : Type 0) (files : D → Files) (PieceTells : Typ
   fuses_stay count stay before after was is j = is j ∙ count_each fuses (old.logical).replicas (new.logical).replicas count (λ a b. b ≡ a) refl stay j ∙ sym (was j)
 
   pub changes_acted : (made : Made) → IsOfBoth faults old new → Shows tag (entry_of (did_by made)) old new
-      → ((opened : Opened D P) → old.settings ≡ (opened.volume).settings → Serves opened old new)
+      → ((opened : Opened D P) → (old.logical).settings ≡ (opened.volume).settings → Serves opened old new)
       → LeadsFusesOf fuses old new (did_of (did_by made))
       → (Tells → (before : Standing) → Stands files PieceTells old.logical before.volume → LeadsTo Tells files PieceTells faults fuses tag old new made before)
       → ((j : ℕ) → j < (old.settings).replicas → slice_index_or new.begun j nobody ≡ begun_in j tag (did_of (did_by made)) (slice_index_or old.begun j nobody))
       → EndsRuns Tells files PieceTells old new (act_of faults fuses tag made (new.logical).replicas)
       → (act : VolumeAct) → act ≡ act_of faults fuses tag made (new.logical).replicas → Leaves (Some act)
   changes_acted made of shows serves fuses_lead leads begun ends act is = subst (λ (z : VolumeAct). Leaves (Some z)) (sym is) (record {
-    kept = λ opened held h. kept_acted Tells files PieceTells faults fuses opened held old new tag made h of shows (serves opened h.settings) fuses_lead
+    kept = λ opened held h. kept_acted Tells files PieceTells faults fuses opened held old new tag made h of shows (serves opened h.same_settings) fuses_lead
         (λ tells k s. subst (λ (z : Settings). Leads z (opened.volume).number tag (did_of (did_by made)) (stood_of faults fuses opened k held) (left_by this (stood_of faults fuses opened k held))) h.same_settings
         (subst (λ (z : ℕ). Leads (old.logical).settings z tag (did_of (did_by made)) (stood_of faults fuses opened k held) (left_by this (stood_of faults fuses opened k held))) h.number
         (leads tells (stood_of faults fuses opened k held) (h.stands tells k s)).leads))
@@ -208,13 +216,13 @@ module _ {D P : Type 0} (Tells : Type 0) (files : D → Files) (PieceTells : Typ
 
   -- where what stands was not changed: an act tells of it where a call of a disk has failed
   pub changes_seen : IsOfBoth faults old new → Shows tag None old new
-      → ((opened : Opened D P) → old.settings ≡ (opened.volume).settings → Serves opened old new)
+      → ((opened : Opened D P) → (old.logical).settings ≡ (opened.volume).settings → Serves opened old new)
       → FusesStay fuses old new → (Tells → (k : VolumeKnown) → Stands files PieceTells old.logical k → Stands files PieceTells new.logical k)
       → new.begun ≡ old.begun → new.ended ≡ old.ended
       → (made : Option VolumeAct) → IsTried faults fuses tag (counts faults (old.logical).replicas) (new.logical).replicas made → Leaves made
   changes_seen of shows serves stay stands begun ended None tried = record {
     kept = λ opened held h. subst (λ (l : List VolumeAct). IsKept Tells files PieceTells faults fuses opened l new) (sym (append-nil held))
-        (kept_seen Tells files PieceTells faults fuses opened held old new tag h of shows (serves opened h.settings) stay (tried.quiet.0 refl) stands begun ended);
+        (kept_seen Tells files PieceTells faults fuses opened held old new tag h of shows (serves opened h.same_settings) stay (tried.quiet.0 refl) stands begun ended);
     tags = tt;
     seats = tt;
   }

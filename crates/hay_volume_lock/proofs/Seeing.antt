@@ -1,13 +1,14 @@
 -- What a holding leaves that sees places, and what it tells.
 use Rattle.std.proofs.Common.{◌≡◌, ◌⊎◌, inl, inr, ℕ, ◌+◌, ◌<◌, ◌≤◌, Bool, true, false, List, [], ◌∷◌, ◌++◌, length, Option, Some, None, refl, sym, ap, subst, ◌∙◌, append-nil, arith}
-use Rattle.std.specs.Prelude.{fold, map, Ok, Err, slice_index_or}
+use Rattle.std.specs.Prelude.{fold, map, Ok, Err, slice_index_or, slice_set}
+use Rattle.std.proofs.lemmas.Bool.{cond-true}
 use Rattle.hay_core.specs.declared.entry.CoreTag.{CoreTag}
 use Rattle.hay_core.specs.declared.entry.Entry.{Entry}
 use Rattle.hay_core.specs.Entries.{apply_entry}
 use Rattle.hay_compact.specs.Finishing.{IsSeen}
 use Rattle.hay_disk.specs.Disk.{Files}
 use Rattle.hay_front.specs.Entries.{LogEntry}
-use Rattle.hay_front.specs.Fronts.{Holds, MayPublish, Witness, with_deed}
+use Rattle.hay_front.specs.Fronts.{Holds, MayPublish, Witness, logged, with_deed}
 use Rattle.hay_front.specs.declared.front.Tag.{Tag}
 use Rattle.hay_legal.specs.declared.known.VolumeKnown.{VolumeKnown}
 use Rattle.hay_legal.specs.Known.{machine_of, now, replica_at}
@@ -24,7 +25,8 @@ use Rattle.hay_logical.specs.Fits.{At, PlaceStands}
 use Rattle.hay_logical.specs.Stands.{Stands}
 use Rattle.hay_logical.specs.Steps.{SetsPlaceAt}
 use Rattle.hay_logical.specs.Volumes.{IsOpenVolume, IsSame, KeepsCounts, Volume}
-use Rattle.hay_logical.proofs.Lists.{at_below, at_there}
+use Rattle.hay_logical.proofs.Lists.{at_below, at_there, length-slice_set}
+use Rattle.hay_map.specs.MapRows.{MapRows}
 use Rattle.hay_map.specs.Places.{PlaceMeans, place_in}
 use Rattle.hay_map.specs.Rows.{FitsRows, changed_row, row_at}
 use Rattle.hay_map.specs.declared.place.Place.{Place}
@@ -40,11 +42,12 @@ use Rattle.hay_meeting.proofs.Standings.{front_behind, table_behind}
 use Rattle.hay_needle.specs.declared.needle.Outcome.{Outcome}
 use Rattle.hay_needle.specs.declared.needle.Pair.{Pair}
 use Rattle.hay_needle.specs.declared.settings.Settings.{Settings}
-use Rattle.hay_needle.specs.Tables.{Table, outcome_at}
+use Rattle.hay_needle.specs.Tables.{Table, outcome_at, pair_eq}
+use Rattle.hay_needle.proofs.TableLaws.{pair_refl}
 use Rattle.hay_physical.specs.Copies.{Copy}
 use Rattle.hay_turn.specs.Slots.{acts_in}
 use Rattle.hay_views.specs.declared.places.Published.{Published}
-use Rattle.hay_views.specs.MapPasts.{Enters, MapPast, begun_at, entered_by}
+use Rattle.hay_views.specs.MapPasts.{Enters, MapPast, begun_at, entered_by, is_entry}
 use Rattle.hay_volume_lock.specs.Acts.{act_of, counts, did_by}
 use Rattle.hay_volume_lock.specs.Answers.{FailedLook, Found, FoundAlways, IsAt, StoreVolume}
 use Rattle.hay_volume_lock.specs.Changes.{PlaceSeen, SeeAnswer, SeeRefused, freezes_by}
@@ -79,7 +82,7 @@ module _ {D P : Type 0} (Tells : Type 0) (files : D → Files) (PieceTells : Typ
   pub record Sees (old new : Guarded D P) : Type 0 where
     pub of : IsOfBoth faults old new
     pub shows : Shows tag None old new
-    pub serves : (opened : Opened D P) → old.settings ≡ (opened.volume).settings → Serves opened old new
+    pub serves : (opened : Opened D P) → (old.logical).settings ≡ (opened.volume).settings → Serves opened old new
     pub stay : FusesStay fuses old new
     pub stands : Tells → (k : VolumeKnown) → Stands files PieceTells old.logical k → Stands files PieceTells new.logical k
     pub begun : new.begun ≡ old.begun
@@ -118,7 +121,7 @@ module _ {D P : Type 0} (Tells : Type 0) (files : D → Files) (PieceTells : Typ
       tags = (two.shows).tags ∙ ap (λ (l : List Tag). l ++ []) ((one.shows).tags ∙ append-nil (map (λ e. e.tag) (old.front).log));
     };
     serves = λ opened is.
-        let s = one.serves opened is in let t = two.serves opened ((one.of).settings ∙ is) in record {
+        let s = one.serves opened is in let t = two.serves opened (((one.of).same).settings ∙ is) in record {
           «open» = t.«open»;
           rows = λ from were still pair. t.rows from (λ thawed. s.rows from were thawed) still pair;
         };
@@ -136,7 +139,7 @@ module _ {D P : Type 0} (Tells : Type 0) (files : D → Files) (PieceTells : Typ
   pub sees_published : (deed : Published P) (old new : Guarded D P) (pair : Pair) (replica : ℕ) (there : Place P) → IsOfBoth faults old new → FusesStay fuses old new
       → (Tells → (k : VolumeKnown) → Stands files PieceTells old.logical k → Stands files PieceTells new.logical k)
       → new.begun ≡ old.begun → new.ended ≡ old.ended → (new.logical).frozen ≡ (old.logical).frozen
-      → deed ≡ record { change = op.Seen pair replica there; entered = [] } → replica < (old.settings).replicas
+      → deed ≡ record { change = op.Seen pair replica there; entered = [] } → replica < ((old.logical).settings).replicas
       → (new.front).shown ≡ with_deed (old.front).shown deed → (new.front).log ≡ (old.front).log → (new.front).closed ≡ false
       → SetsPlaceAt pair replica there (old.logical).rows (new.logical).rows → Sees old new
   sees_published deed old new pair replica there of stay stands begun ended frozen is within shown log «open» sets = record {
@@ -182,14 +185,14 @@ module _ {D P : Type 0} (Tells : Type 0) (files : D → Files) (PieceTells : Typ
       ∙ ap (fold apply_entry (now k (replica_at k j))) (sym h.entered)
 
   pub seen_may : (deed : Published P) (opened : Opened D P) (held : List VolumeAct) (old mid : Guarded D P) → IsKept Tells files PieceTells faults fuses opened held old → Sees old mid
-      → Holds (Fact Tells files PieceTells) (mid.front).shown → (pair : Pair) (replica : ℕ) (there : Place P) → deed ≡ record { change = op.Seen pair replica there; entered = [] } → replica < (old.settings).replicas
+      → Holds (Fact Tells files PieceTells) (mid.front).shown → (pair : Pair) (replica : ℕ) (there : Place P) → deed ≡ record { change = op.Seen pair replica there; entered = [] } → replica < ((old.logical).settings).replicas
       → (Tells → (k : VolumeKnown) → Stands files PieceTells mid.logical k → PlaceMeans PieceTells pair there (outcome_at (now k (replica_at k replica)) pair))
       → MayPublish (Fact Tells files PieceTells) (mid.front).shown deed
   seen_may deed opened held old mid h sees fact pair replica there is within means =
       let base = (sees.shows).base ∙ h.base ∙ (h.from).base in
       let fit : FitsRows ((h.from).rows).replicas deed.change =
       subst (λ (d : Published P). FitsRows ((h.from).rows).replicas d.change) (sym is)
-      (subst (λ (n : ℕ). replica < n) (sym (h.from).width) (subst (λ (s : Settings). replica < s.replicas) h.settings within)) in
+      (subst (λ (n : ℕ). replica < n) (sym (h.from).width) (subst (λ (s : Settings). replica < s.replicas) h.same_settings within)) in
       may_publish Tells files PieceTells opened.volume (h.from).rows (mid.front).shown base fact deed
       (record { rows = fit; enters = subst (λ (d : Published P). Enters d.change d.entered) (sym is) refl })
       (seen_tells Tells files PieceTells (begun_at opened.volume (h.from).rows) ((mid.front).shown).deeds deed fit (fact_first Tells files PieceTells opened.volume (h.from).rows (mid.front).shown base fact).1 pair replica there is
@@ -320,3 +323,54 @@ module _ {D P : Type 0} (Tells : Type 0) (files : D → Files) (PieceTells : Typ
             (λ tells k s. subst (λ v. Stands files PieceTells v k) (sym left) (stands tells k s)) begun ended made (by.tries refl),
         λ opened held h tells k s volume at a b holding. record { held = held; made = made; holding = holding; is = inl (nothing_made Tells files PieceTells faults fuses tag old new made (by.tries refl)) },
       )
+
+-- BY WHAT THE CALLS TELL
+
+-- a place that was looked at
+pub look_known : {D P : Type 0} (Tells : Type 0) (files : D → Files) (PieceTells : Type 0) (old : Volume D P) (pair : Pair) (replica : ℕ) (looked : Looked P) → replica < length old.replicas → IsSeen (place_in looked.row replica)
+    → (Tells → (k : VolumeKnown) → Stands files PieceTells old k → (looked.front ≡ length k.log)
+        × ((j : ℕ) (r : Copy D) → At old.replicas j r → PlaceStands files PieceTells r pair (place_in looked.row j) (outcome_at (now k (replica_at k j)) pair)))
+    → Tells → (k : VolumeKnown) → Stands files PieceTells old k → (looked.front ≡ length k.log) × PlaceMeans PieceTells pair (place_in looked.row replica) (outcome_at (now k (replica_at k replica)) pair)
+look_known Tells files PieceTells old pair replica looked less seen known tells k s =
+    let r = at_there old.replicas replica less in let q = known tells k s in
+    (q.0, seen_means files PieceTells r.0 pair (place_in looked.row replica) (outcome_at (now k (replica_at k replica)) pair) seen (q.1 replica r.0 r.1))
+
+-- the row is as long as before
+pub row_long : {P : Type 0} (pair : Pair) (replica : ℕ) (there : Place P) (old new : MapRows P) → SetsPlaceAt pair replica there old new → length (row_at new pair) ≡ length (row_at old pair)
+row_long pair replica there old new sets =
+    ap length (sets pair ∙ cond-true (pair_eq pair pair) (slice_set (row_at old pair) replica there) (row_at old pair) (pair_refl pair)) ∙ length-slice_set (row_at old pair) replica there
+
+module _ {D P : Type 0} (Tells : Type 0) (files : D → Files) (PieceTells : Type 0) (faults fuses : D → ℕ) (tag : CoreTag) (old new : Guarded D P)
+    (settings : new.settings ≡ old.settings) (begun : new.begun ≡ old.begun) (ended : new.ended ≡ old.ended)
+    (same : IsSame old.logical new.logical) (is_open : IsOpenVolume new.logical) (counts : KeepsCounts faults fuses (old.logical).replicas (new.logical).replicas)
+    (stands : Tells → (k : VolumeKnown) → Stands files PieceTells old.logical k → Stands files PieceTells new.logical k) (frozen : (new.logical).frozen ≡ (old.logical).frozen) where
+  abbrev both : IsOfBoth faults old new
+  both = record { settings = settings; same = same; is_open = is_open; count = counts.count; rises = counts.rises }
+
+  -- a place was seen and published
+  pub see_shown : (pair : Pair) (replica : ℕ) (there : Place P) (deed : Published P) (item : LogEntry (Published P)) → deed ≡ record { change = op.Seen pair replica there; entered = [] }
+      → replica < ((old.logical).settings).replicas → SetsPlaceAt pair replica there (old.logical).rows (new.logical).rows
+      → new.front ≡ record { shown = with_deed (old.front).shown deed; log = logged (is_entry deed.change) (old.front).log item; closed = false } → Sees Tells files PieceTells faults fuses tag old new
+  see_shown pair replica there deed item is within sets front = sees_published Tells files PieceTells faults fuses tag deed old new pair replica there both counts.stay stands begun ended frozen is within
+      (ap (λ f. f.shown) front) (ap (λ f. f.log) front ∙ ap (λ (d : Published P). logged (is_entry d.change) (old.front).log item) is) (ap (λ f. f.closed) front) sets
+
+  -- a frozen volume whose front is closed
+  pub see_closed : new.front ≡ old.front → (old.front).closed ≡ true → ((old.logical).frozen ≡ None → (old.front).closed ≡ false) → Sees Tells files PieceTells faults fuses tag old new
+  see_closed front closed serves = by_frozen (old.logical).frozen refl
+    where
+      by_frozen : (f : Option ℕ) → (old.logical).frozen ≡ f → Sees Tells files PieceTells faults fuses tag old new
+      by_frozen None is = absurd (let not : true ≡ false = sym closed ∙ serves is in cc not)
+      by_frozen (Some m) is = sees_frozen Tells files PieceTells faults fuses tag old new m both counts.stay stands begun ended frozen front is
+
+  -- it was refused
+  pub of_refused : new.front ≡ old.front → ((pair : Pair) → row_at (new.logical).rows pair ≡ row_at (old.logical).rows pair) → IsOfOne faults old new
+  of_refused front rows = record {
+    settings = settings;
+    front = front;
+    same = same;
+    is_open = is_open;
+    count = counts.count;
+    rises = counts.rises;
+    thawed = λ thawed. sym frozen ∙ thawed;
+    rows = λ thawed pair. rows pair;
+  }

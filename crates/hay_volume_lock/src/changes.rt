@@ -130,7 +130,7 @@ impl<D: Disk<Piece = P> + Send + Sync, P: Piece + Send + Sync> VolumeLock<D, P> 
             Ok(written) => written,
             Err(fault) => {
                 let did = put_did(&fault, kept.logical.frozen(), &entry);
-                let made = act_made(&kept.logical, replicas, before.as_slice(), tag, did);
+                let made = act_made(&kept.logical, replicas, &before, tag, did);
                 self.turn.free(&mut seat.turn, kept, made);
                 return Err(fault);
             }
@@ -139,7 +139,7 @@ impl<D: Disk<Piece = P> + Send + Sync, P: Piece + Send + Sync> VolumeLock<D, P> 
         let Ok(_receipt) = kept.front.publish(rt, &mut seat.view, front_tag(tag), op) else {
             kept.logical.give_up(tag, Change::Put { ends: written.ends });
             let did = pended(kept.logical.frozen(), &entry, false);
-            let made = act_made(&kept.logical, replicas, before.as_slice(), tag, did);
+            let made = act_made(&kept.logical, replicas, &before, tag, did);
             self.turn.free(&mut seat.turn, kept, made);
             return Err(LogicalFault::NoMemory);
         };

@@ -109,13 +109,13 @@ impl<D: Disk<Piece = P> + Send + Sync, P: Piece + Send + Sync> VolumeLock<D, P> 
         let seen = match kept.logical.see(replica, pair, out) {
             Ok(seen) => seen,
             Err(fault) => {
-                let made = act_made(&kept.logical, replicas, before.as_slice(), tag, sight_did(&fault));
+                let made = act_made(&kept.logical, replicas, &before, tag, sight_did(&fault));
                 self.turn.free(&mut seat.turn, kept, made);
                 return Err(fault);
             }
         };
         if kept.front.is_closed() {
-            let made = act_made(&kept.logical, replicas, before.as_slice(), tag, None);
+            let made = act_made(&kept.logical, replicas, &before, tag, None);
             self.turn.free(&mut seat.turn, kept, made);
             return Ok(seen);
         }
@@ -124,11 +124,11 @@ impl<D: Disk<Piece = P> + Send + Sync, P: Piece + Send + Sync> VolumeLock<D, P> 
         let Ok(_receipt) = kept.front.publish(rt, &mut seat.view, front_tag(tag), op) else {
             kept.logical.freeze();
             let did = freeze_did(frozen, kept.logical.frozen());
-            let made = act_made(&kept.logical, replicas, before.as_slice(), tag, did);
+            let made = act_made(&kept.logical, replicas, &before, tag, did);
             self.turn.free(&mut seat.turn, kept, made);
             return Err(LogicalFault::NoMemory);
         };
-        let made = act_made(&kept.logical, replicas, before.as_slice(), tag, None);
+        let made = act_made(&kept.logical, replicas, &before, tag, None);
         self.turn.free(&mut seat.turn, kept, made);
         Ok(seen)
     }
