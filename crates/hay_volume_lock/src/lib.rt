@@ -18,6 +18,7 @@
 
 mod act;
 mod changes;
+mod ended;
 mod guarded;
 mod lock;
 mod seat;
@@ -26,6 +27,7 @@ mod told;
 mod tries;
 
 pub use act::Act;
+pub use ended::Ended;
 pub use guarded::{Guarded, Opened};
 pub use lock::VolumeLock;
 pub use seat::VolumeSeat;
