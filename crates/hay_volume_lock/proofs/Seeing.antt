@@ -208,8 +208,8 @@ module _ {D P : Type 0} (Tells : Type 0) (files : D → Files) (PieceTells : Typ
       (record { rows = fit; enters = subst (λ (d : Published P). Enters d.change d.entered) (sym is) refl })
       (seen_tells Tells files PieceTells (begun_at opened.volume (h.from).rows) ((mid.front).shown).deeds deed fit (fact_first Tells files PieceTells opened.volume (h.from).rows (mid.front).shown base fact).1 pair replica there is
       (λ tells k s. subst (λ (table : Table). PlaceMeans PieceTells pair there (outcome_at table pair))
-          (table_kept opened held old h tells k s replica ∙ ap (fold apply_entry (now k (replica_at k replica))) (sym ((sees.shows).more ∙ append-nil (entered_by ((old.front).shown).deeds))))
-          (means tells (stood_of faults fuses opened k held).volume (sees.stands tells (stood_of faults fuses opened k held).volume (h.stands tells k s)))))
+      (table_kept opened held old h tells k s replica ∙ ap (fold apply_entry (now k (replica_at k replica))) (sym ((sees.shows).more ∙ append-nil (entered_by ((old.front).shown).deeds))))
+      (means tells (stood_of faults fuses opened k held).volume (sees.stands tells (stood_of faults fuses opened k held).volume (h.stands tells k s)))))
 
   -- WHAT IT TELLS
 
@@ -336,7 +336,7 @@ module _ {D P : Type 0} (Tells : Type 0) (files : D → Files) (PieceTells : Typ
 -- a place that was looked at
 pub look_known : {D P : Type 0} (Tells : Type 0) (files : D → Files) (PieceTells : Type 0) (old : Volume D P) (pair : Pair) (replica : ℕ) (looked : Looked P) → replica < length old.replicas → IsSeen (place_in looked.row replica)
     → (Tells → (k : VolumeKnown) → Stands files PieceTells old k → (looked.front ≡ length k.log)
-        × ((j : ℕ) (r : Copy D) → At old.replicas j r → PlaceStands files PieceTells r pair (place_in looked.row j) (outcome_at (now k (replica_at k j)) pair)))
+    × ((j : ℕ) (r : Copy D) → At old.replicas j r → PlaceStands files PieceTells r pair (place_in looked.row j) (outcome_at (now k (replica_at k j)) pair)))
     → Tells → (k : VolumeKnown) → Stands files PieceTells old k → (looked.front ≡ length k.log) × PlaceMeans PieceTells pair (place_in looked.row replica) (outcome_at (now k (replica_at k replica)) pair)
 look_known Tells files PieceTells old pair replica looked less seen known tells k s =
     let r = at_there old.replicas replica less in let q = known tells k s in
