@@ -3,4 +3,8 @@ pub mod Finding
 pub mod Growing
 pub mod Holding
 pub mod Opening
+pub mod Published
+pub mod Publishing
+pub mod Putting
+pub mod Seeing
 pub mod Telling

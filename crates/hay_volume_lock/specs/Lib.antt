@@ -1,5 +1,6 @@
 pub mod Acts
 pub mod Answers
+pub mod Changes
 pub mod Ended
 pub mod Keeping
 pub mod Opening

@@ -18,15 +18,18 @@
 //!
 //! In `proofs/`, `Growing` has what an act makes of what stands behind the lock, `Finding` how the answers of a logical volume are
 //! those calls, `Holding` what a holding tells of its lane, `Telling` what a look at the published rows does, and `Opening` how a lock
-//! is made and ends.
+//! is made and ends. `Published` has what the rows tell behind one change more, `Publishing` what a holding leaves that publishes a
+//! change, and what it tells; `Putting` and `Seeing` are puts and places that are seen.
 #![tactic(auto)]
 
 mod act;
+mod changes;
 mod ended;
 mod guarded;
 mod lock;
 mod making;
 mod seat;
+mod sights;
 mod told;
 mod tries;
 
