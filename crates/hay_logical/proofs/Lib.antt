@@ -12,7 +12,6 @@ pub mod Finishing
 pub mod Freezing
 pub mod Holding
 pub mod Knowing
-pub mod Layouts
 pub mod Lists
 pub mod Looking
 pub mod Machines

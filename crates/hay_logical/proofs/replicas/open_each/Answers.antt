@@ -1,4 +1,4 @@
-use Rattle.std.proofs.Common.{◌≡◌, ◌≤◌, ◌<◌, ◌+◌, inl, inr, ℕ, length, sym, ap, subst, ◌∙◌, arith, rules}
+use Rattle.std.proofs.Common.{◌≡◌, ◌≤◌, ◌<◌, ◌+◌, inl, inr, ℕ, length, sym, ap, subst, ◌∙◌, arith}
 use Rattle.std.specs.Prelude.{slice_index_or, slice_set}
 use Rattle.std.proofs.lemmas.Bool.{cases_lt}
 use Rattle.std.proofs.lemmas.List.{length-replicate}
@@ -28,7 +28,13 @@ open_one-requires g c =
     let was : At c.args.replicas.now c.loop-j.j here = went_next _ c.loop-j.j c.args.replicas.now c.loop-j.replicas here c.loop-j.invariant.went there in
     let wide : c.loop-j.j < c.loop-j.rows.replicas = (let w = c.loop-j.invariant.width in omega (arith, w)) in
     let low : c.loop-j.j ≤ c.loop-j.j = omega arith in
-    (search rules, (wide, (c.requires.closed c.loop-j.j here was, ((λ tells. c.requires.idle tells c.loop-j.j here was), (c.loop-j.invariant.long, λ pair. c.loop-j.invariant.empty pair c.loop-j.j low)))))
+    record {
+      within = wide;
+      closed = c.requires.closed c.loop-j.j here was;
+      idle = (λ tells. c.requires.idle tells c.loop-j.j here was);
+      long = c.loop-j.invariant.long;
+      empty = λ pair. c.loop-j.invariant.empty pair c.loop-j.j low;
+    }
 
 pub returns-in-Err-clause-counts : goal.returns-in-Err-clause-counts
 returns-in-Err-clause-counts g c =

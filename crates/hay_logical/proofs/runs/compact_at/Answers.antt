@@ -1,4 +1,4 @@
-use Rattle.std.proofs.Common.{◌<◌, arith, rules}
+use Rattle.std.proofs.Common.{◌<◌, arith}
 use Rattle.std.specs.Prelude.{slice_index_or, slice_set}
 use Rattle.hay_physical.specs.Copies.{Copy}
 use Rattle.hay_logical.specs.Fits.{At}
@@ -16,7 +16,10 @@ compact-result-requires g c =
     let low = c.requires.within in
     let wide = c.requires.width in
     let less : c.args.at < c.args.rows.now.replicas = omega (arith, low, wide) in
-    (search rules, (c.requires.up c.args.at here there, less))
+    record {
+      up = c.requires.up c.args.at here there;
+      within = less;
+    }
 
 pub returns-clause-one : goal.returns-clause-one
 returns-clause-one g c =

@@ -1,4 +1,4 @@
-use Rattle.std.proofs.Common.{◌<◌, refl, sym, subst, arith, rules}
+use Rattle.std.proofs.Common.{◌<◌, refl, sym, subst, arith}
 use Rattle.std.specs.Prelude.{slice_index_or}
 use Rattle.hay_physical.specs.Copies.{Copy}
 use Rattle.hay_logical.specs.Fits.{At}
@@ -14,7 +14,11 @@ step-requires g c =
     let low = c.requires.within in
     let wide = c.requires.width in
     let less : c.args.at < c.args.rows.now.replicas = omega (arith, low, wide) in
-    (search rules, (c.requires.up c.args.at here there, (less, c.requires.standing here there)))
+    record {
+      up = c.requires.up c.args.at here there;
+      within = less;
+      standing = c.requires.standing here there;
+    }
 
 pub returns-clause-one : goal.returns-clause-one
 returns-clause-one g c =

@@ -1,4 +1,4 @@
-use Rattle.std.proofs.Common.{rules, ◌≤◌, length, sym, ◌∙◌, arith}
+use Rattle.std.proofs.Common.{◌≤◌, length, sym, ◌∙◌, arith}
 use Rattle.hay_logical.specs.Draws.{looked_pair}
 use Rattle.hay_logical.proofs.Drawing.{drew_all}
 use Rattle.hay_logical.proofs.Looks.{found_all, if_err_then, kept_all, left_all, on_err_now, on_ok_now, on_ok_then, opened_all, opened_open, reached_all, refused_all, thawed_all}
@@ -8,16 +8,12 @@ use Rattle.hay_logical.proofs.sights.open_all.Goals as goal
 pub see_broken_off-requires : goal.see_broken_off-requires
 see_broken_off-requires g c =
     let count = c.open_each.ensures.counts.count in
-    let few = c.requires.most in (
-      search rules,
-      (
-        (let most : length c.open_each.new.replicas ≤ 4 = omega (arith, count, few) in most),
-        (
-          c.open_each.ensures.width ∙ c.requires.width ∙ sym count,
-          (opened_open g.D.Disk.Tells g.D.Disk.files g.D.Piece.Piece.Tells c.args.replicas.now c.open_each.new.replicas c.open_each.new.rows count c.in-Ok.ensures.opened, c.open_each.ensures.reach),
-        ),
-      ),
-    )
+    let few = c.requires.most in record {
+      most = (let most : length c.open_each.new.replicas ≤ 4 = omega (arith, count, few) in most);
+      width = c.open_each.ensures.width ∙ c.requires.width ∙ sym count;
+      «open» = opened_open g.D.Disk.Tells g.D.Disk.files g.D.Piece.Piece.Tells c.args.replicas.now c.open_each.new.replicas c.open_each.new.rows count c.in-Ok.ensures.opened;
+      reach = c.open_each.ensures.reach;
+    }
 
 pub returns-in-Ok-clause-counts : goal.returns-in-Ok-clause-counts
 returns-in-Ok-clause-counts g c = counts_through g.D.Disk.fault_count g.D.Disk.fuse_count c.args.replicas.now c.open_each.new.replicas c.see_broken_off.new.replicas c.open_each.ensures.counts c.see_broken_off.ensures.counts

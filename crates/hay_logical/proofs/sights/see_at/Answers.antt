@@ -1,4 +1,4 @@
-use Rattle.std.proofs.Common.{rules, ◌<◌, ℕ, refl, sym, subst, arith}
+use Rattle.std.proofs.Common.{◌<◌, ℕ, refl, sym, subst, arith}
 use Rattle.std.specs.Prelude.{slice_index_or}
 use Rattle.hay_physical.specs.Copies.{Copy}
 use Rattle.hay_map.specs.Places.{place_in}
@@ -15,10 +15,11 @@ see-requires g c =
     let here : Copy g.row.D.Denot = slice_index_or c.args.replicas.now c.args.at c.index-replicas-at.result in
     let there : At c.args.replicas.now c.args.at here = at_read c.args.replicas.now c.args.at c.index-replicas-at.result c.requires.within in
     let within = c.requires.within in
-    let width = c.requires.width in (
-      search rules,
-      (c.requires.«open» c.args.at here there, (let less : c.args.at < c.args.rows.now.replicas = omega (arith, within, width) in less, λ tells. c.requires.may tells here there)),
-    )
+    let width = c.requires.width in record {
+      «open» = c.requires.«open» c.args.at here there;
+      within = let less : c.args.at < c.args.rows.now.replicas = omega (arith, within, width) in less;
+      may = λ tells. c.requires.may tells here there;
+    }
 
 pub returns-clause-one : goal.returns-clause-one
 returns-clause-one g c =

@@ -1,4 +1,4 @@
-use Rattle.std.proofs.Common.{rules, ◌≡◌, ◌≤◌, ◌<◌, ℕ, length, Err, refl, sym, subst, ◌∙◌, ◌+◌, arith}
+use Rattle.std.proofs.Common.{◌≡◌, ◌≤◌, ◌<◌, ℕ, length, Err, refl, sym, subst, ◌∙◌, ◌+◌, arith}
 use Rattle.std.specs.Prelude.{IfErr, MatchOption}
 use Rattle.hay_physical.specs.declared.fault.ReplicaFault.{ReplicaFault}
 use Rattle.hay_physical.specs.Faults.{IsSightFault}
@@ -24,19 +24,13 @@ see_at-requires g c =
     let most = c.requires.most in
     let within = c.loop-at-test.true in
     let up = still_open g.D.Disk.Tells g.D.Disk.files g.D.Piece.Piece.Tells g.D.Disk.fault_count g.D.Disk.fuse_count c.args.replicas.now c.loop-at.replicas c.args.rows.now c.loop-at.rows looks c.requires.«open» in
-    let can = still_reached g.D.Disk.Tells g.D.Disk.files g.D.Piece.Piece.Tells g.D.Disk.fault_count g.D.Disk.fuse_count c.args.replicas.now c.loop-at.replicas c.args.rows.now c.loop-at.rows looks c.requires.reach in (
-      search rules,
-      (
-        (let less : c.loop-at.at < length c.loop-at.replicas = omega (arith, within, long) in less),
-        (
-          (let few : length c.loop-at.replicas ≤ 4 = omega (arith, most, long) in few),
-          (
-            looks.width ∙ c.requires.width ∙ sym long,
-            (up, λ tells r e. ((can tells c.loop-at.at r e).sees (up c.loop-at.at r e)).may c.args.pair),
-          ),
-        ),
-      ),
-    )
+    let can = still_reached g.D.Disk.Tells g.D.Disk.files g.D.Piece.Piece.Tells g.D.Disk.fault_count g.D.Disk.fuse_count c.args.replicas.now c.loop-at.replicas c.args.rows.now c.loop-at.rows looks c.requires.reach in record {
+      within = (let less : c.loop-at.at < length c.loop-at.replicas = omega (arith, within, long) in less);
+      most = (let few : length c.loop-at.replicas ≤ 4 = omega (arith, most, long) in few);
+      width = looks.width ∙ c.requires.width ∙ sym long;
+      «open» = up;
+      may = λ tells r e. ((can tells c.loop-at.at r e).sees (up c.loop-at.at r e)).may c.args.pair;
+    }
 
 pub ending_fault-requires : goal.ending_fault-requires
 ending_fault-requires g c =

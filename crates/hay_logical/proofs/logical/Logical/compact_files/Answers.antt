@@ -1,4 +1,4 @@
-use Rattle.std.proofs.Common.{◌≡◌, ◌<◌, ◌≤◌, ℕ, length, refl, sym, ap, subst, ◌∙◌, arith, rules}
+use Rattle.std.proofs.Common.{◌≡◌, ◌<◌, ◌≤◌, ℕ, length, refl, sym, ap, subst, ◌∙◌, arith}
 use Rattle.std.specs.Vec.{with_items}
 use Rattle.std.proofs.lemmas.List.{with_items_is}
 use Rattle.hay_map.specs.Rows.{ChangesRows}
@@ -37,19 +37,12 @@ compact_at-requires g c =
     let within : c.args.replica < c.self.inside.settings.replicas = subst (λ v. c.args.replica < v.settings.replicas) (sym c.self.view_is) c.requires.within in
     let most = (c.self.invariant.0).settings.most in
     let few = (c.self.invariant.0).count in
-    let long = ap length now in (
-      search rules,
-      (
-        (let less : c.args.replica < length c.as_mut_slice.result.now = omega (arith, within, all, long) in less),
-        (
-          (let n : length c.as_mut_slice.result.now ≤ 4 = omega (arith, most, few, long) in n),
-          (
-            (c.self.invariant.0).width ∙ sym all ∙ sym long,
-            (λ j r e. up j r (subst (λ xs. At xs j r) now e)),
-          ),
-        ),
-      ),
-    )
+    let long = ap length now in record {
+      within = (let less : c.args.replica < length c.as_mut_slice.result.now = omega (arith, within, all, long) in less);
+      most = (let n : length c.as_mut_slice.result.now ≤ 4 = omega (arith, most, few, long) in n);
+      width = (c.self.invariant.0).width ∙ sym all ∙ sym long;
+      up = (λ j r e. up j r (subst (λ xs. At xs j r) now e));
+    }
 
 -- what the call found and left
 called : (g : given.Over) (c : goal.After-compact_at g) → SwapCall g.D.Disk.Tells g.D.Disk.files g.D.Piece.Piece.Tells g.D.Disk.fault_count Fresh c.self.inside.replicas.items c.compact_at.new.replicas c.self.inside.rows c.compact_at.new.rows c.args.replica c.compact_at.result

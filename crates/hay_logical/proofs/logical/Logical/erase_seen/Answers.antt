@@ -1,4 +1,4 @@
-use Rattle.std.proofs.Common.{◌≡◌, ◌≤◌, ◌<◌, ◌+◌, ℕ, length, Some, refl, sym, ap, subst, ◌∙◌, arith, rules, inr}
+use Rattle.std.proofs.Common.{◌≡◌, ◌≤◌, ◌<◌, ◌+◌, ℕ, length, Some, refl, sym, ap, subst, ◌∙◌, arith, inr}
 use Rattle.std.specs.Vec.{with_items}
 use Rattle.std.proofs.lemmas.List.{with_items_is}
 use Rattle.hay_map.specs.Places.{place_in}
@@ -50,21 +50,14 @@ delete_each-requires g c =
     let all : length c.self.inside.replicas.items ≡ c.self.inside.settings.replicas = ap (λ v. length v.replicas) c.self.view_is ∙ c.requires.«open».all ∙ ap (λ v. v.settings.replicas) (sym c.self.view_is) in
     let most = (c.self.invariant.0).settings.most in
     let few = (c.self.invariant.0).count in
-    let long = ap length now in (
-      search rules,
-      (
-        (let n : length c.as_mut_slice.result.now ≤ 4 = omega (arith, most, few, long) in n),
-        (
-          c.row-row.ensures.long ∙ (c.self.invariant.0).width ∙ sym all ∙ sym long,
-          (
-            λ j r e. up j r (subst (λ xs. At xs j r) now e),
-            λ tells j r e needle is.
-                let there = subst (λ xs. At xs j r) now e in
-                subst (physical.MayDeletePlace g.D.Disk.files r) (ap (λ l. place_in l j) (sym c.row-row.ensures.row) ∙ is) ((c.self.invariant.2 tells j r there).deletes (up j r there) c.args.pair),
-          ),
-        ),
-      ),
-    )
+    let long = ap length now in record {
+      most = (let n : length c.as_mut_slice.result.now ≤ 4 = omega (arith, most, few, long) in n);
+      places = c.row-row.ensures.long ∙ (c.self.invariant.0).width ∙ sym all ∙ sym long;
+      up = λ j r e. up j r (subst (λ xs. At xs j r) now e);
+      live = λ tells j r e needle is.
+          let there = subst (λ xs. At xs j r) now e in
+          subst (physical.MayDeletePlace g.D.Disk.files r) (ap (λ l. place_in l j) (sym c.row-row.ensures.row) ∙ is) ((c.self.invariant.2 tells j r there).deletes (up j r there) c.args.pair);
+    }
 
 pub invariant_of-self : goal.invariant_of-self
 invariant_of-self g c =

@@ -1,4 +1,4 @@
-use Rattle.std.proofs.Common.{◌≡◌, ◌<◌, ◌≤◌, ℕ, length, Option, Some, None, refl, sym, ap, subst, ◌∙◌, arith, rules}
+use Rattle.std.proofs.Common.{◌≡◌, ◌<◌, ◌≤◌, ℕ, length, Option, Some, None, refl, sym, ap, subst, ◌∙◌, arith}
 use Rattle.std.specs.Prelude.{IfSome}
 use Rattle.std.specs.Vec.{with_items}
 use Rattle.std.proofs.lemmas.List.{with_items_is}
@@ -47,22 +47,13 @@ finish_at-requires g c =
     let within : c.args.replica < c.self.inside.settings.replicas = subst (λ v. c.args.replica < v.settings.replicas) (sym c.self.view_is) c.requires.within in
     let most = (c.self.invariant.0).settings.most in
     let few = (c.self.invariant.0).count in
-    let long = ap length now in (
-      search rules,
-      (
-        (let less : c.args.replica < length c.as_mut_slice.result.now = omega (arith, within, all, long) in less),
-        (
-          (let n : length c.as_mut_slice.result.now ≤ 4 = omega (arith, most, few, long) in n),
-          (
-            (c.self.invariant.0).width ∙ sym all ∙ sym long,
-            (
-              (λ j r e. up j r (subst (λ xs. At xs j r) now e)),
-              (λ r e none. stands_there c.standing.result c.is_none.result c.is_none.ensures c.if-is_none.false (c.standing.ensures.is r (subst (λ v. At v.replicas c.args.replica r) c.self.view_is (subst (λ xs. At xs c.args.replica r) now e)) ∙ none)),
-            ),
-          ),
-        ),
-      ),
-    )
+    let long = ap length now in record {
+      within = (let less : c.args.replica < length c.as_mut_slice.result.now = omega (arith, within, all, long) in less);
+      most = (let n : length c.as_mut_slice.result.now ≤ 4 = omega (arith, most, few, long) in n);
+      width = (c.self.invariant.0).width ∙ sym all ∙ sym long;
+      up = (λ j r e. up j r (subst (λ xs. At xs j r) now e));
+      standing = (λ r e none. stands_there c.standing.result c.is_none.result c.is_none.ensures c.if-is_none.false (c.standing.ensures.is r (subst (λ v. At v.replicas c.args.replica r) c.self.view_is (subst (λ xs. At xs c.args.replica r) now e)) ∙ none));
+    }
 
 -- what the call found and left
 called : (g : given.Over) (c : goal.After-finish_at g) → SwapCall g.D.Disk.Tells g.D.Disk.files g.D.Piece.Piece.Tells g.D.Disk.fault_count Going c.self.inside.replicas.items c.finish_at.new.replicas c.self.inside.rows c.finish_at.new.rows c.args.replica c.finish_at.result

@@ -1,4 +1,4 @@
-use Rattle.std.proofs.Common.{◌≡◌, ◌≤◌, ◌<◌, ℕ, None, length, replicate, refl, sym, ap, subst, ◌∙◌, arith, rules}
+use Rattle.std.proofs.Common.{◌≡◌, ◌≤◌, ◌<◌, ℕ, None, length, replicate, refl, sym, ap, subst, ◌∙◌, arith}
 use Rattle.std.proofs.lemmas.List.{with_items_is}
 use Rattle.hay_map.specs.declared.place.Place.TheVariants as place
 use Rattle.hay_open.specs.declared.fault.OpenFault.TheVariants as open_fault
@@ -19,65 +19,45 @@ use Rattle.hay_logical.proofs.Freezing.{never_frozen}
 use Rattle.hay_logical.proofs.logical.Logical.open.Goals as goal
 
 pub open_all-requires : goal.open_all-requires
-open_all-requires g c = (
-  search rules,
-  (
-      let now = c.as_mut_slice.ensures.value in
-      let here = c.self.inside in
-      let olds = c.self.inside.replicas.items in
-      let all : length olds ≡ here.settings.replicas = subst (λ (v : Volume g.row.D.Denot g.row.D-Piece.Denot). length v.replicas ≡ v.settings.replicas) (sym c.self.view_is) c.requires.all in
-      let shape = c.self.invariant.0 in
-      let long = ap length now in
-      let few = (shape.settings).most in
-      let wide : here.settings.replicas ≡ length c.as_mut_slice.result.now = sym all ∙ sym long in
-      let most : length c.as_mut_slice.result.now ≤ 4 = omega (arith, wide, few) in (
-        most,
-        (
-          c.new.ensures.replicas ∙ wide,
-          (
-            (λ pair. c.new.ensures.rows pair ∙ ap (λ n. replicate n place.None) wide),
-            (
-              (λ j r e. c.requires.closed j r (subst (λ (v : Volume g.row.D.Denot g.row.D-Piece.Denot). At v.replicas j r) c.self.view_is (subst (λ xs. At xs j r) now e))),
-              (λ tells j r e. c.requires.idle tells j r (subst (λ (v : Volume g.row.D.Denot g.row.D-Piece.Denot). At v.replicas j r) c.self.view_is (subst (λ xs. At xs j r) now e))),
-            ),
-          ),
-        ),
-      )
-      ),
-)
+open_all-requires g c = let now = c.as_mut_slice.ensures.value in
+    let here = c.self.inside in
+    let olds = c.self.inside.replicas.items in
+    let all : length olds ≡ here.settings.replicas = subst (λ (v : Volume g.row.D.Denot g.row.D-Piece.Denot). length v.replicas ≡ v.settings.replicas) (sym c.self.view_is) c.requires.all in
+    let shape = c.self.invariant.0 in
+    let long = ap length now in
+    let few = (shape.settings).most in
+    let wide : here.settings.replicas ≡ length c.as_mut_slice.result.now = sym all ∙ sym long in
+    let most : length c.as_mut_slice.result.now ≤ 4 = omega (arith, wide, few) in record {
+      most = most;
+      width = c.new.ensures.replicas ∙ wide;
+      empty = (λ pair. c.new.ensures.rows pair ∙ ap (λ n. replicate n place.None) wide);
+      closed = (λ j r e. c.requires.closed j r (subst (λ (v : Volume g.row.D.Denot g.row.D-Piece.Denot). At v.replicas j r) c.self.view_is (subst (λ xs. At xs j r) now e)));
+      idle = (λ tells j r e. c.requires.idle tells j r (subst (λ (v : Volume g.row.D.Denot g.row.D-Piece.Denot). At v.replicas j r) c.self.view_is (subst (λ xs. At xs j r) now e)));
+    }
 
 pub notes_of-requires : goal.notes_of-requires
-notes_of-requires g c = (
-  search (rules, c.requires-raw),
-  (
-      let now = c.as_mut_slice.ensures.value in
-      let kept = with_items_is c.self.inside.replicas c.open_all.new.replicas (c.open_all.auto.replicas ∙ c.as_mut_slice.ensures.len) in
-      let here = c.self.inside in
-      let olds = c.self.inside.replicas.items in
-      let news = c.open_all.new.replicas in
-      let count = c.open_all.ensures.counts.count ∙ ap length now in
-      let opened : (j : ℕ) (r r' : Copy g.row.D.Denot) → At olds j r → At news j r' → OpensAt g.D.Disk.Tells g.D.Disk.files g.D.Piece.Piece.Tells c.open_all.new.rows j r r' =
-      λ j r r' e f. c.in-Ok.ensures.opened j r r' (subst (λ xs. At xs j r) (sym now) e) f in
-      let all : length olds ≡ here.settings.replicas = subst (λ (v : Volume g.row.D.Denot g.row.D-Piece.Denot). length v.replicas ≡ v.settings.replicas) (sym c.self.view_is) c.requires.all in
-      let shape = c.self.invariant.0 in
-      let slice = c.as_slice.ensures.value ∙ kept in
-      let long = ap length slice in
-      let few = (shape.settings).most in
-      let most : length c.as_slice.result.now ≤ 4 = omega (arith, long, count, all, few) in (
-        shape.settings,
-        (
-          most,
-          (
-            (λ j r' s.
-                let f = subst (λ xs. At xs j r') slice s in
-                let old = at_there olds j (let h = at_below news j r' f in let less : j < length olds = omega (arith, h, count) in less) in
-                up_open r' (opened j old.0 r' old.1 f).up),
-            c.open_all.ensures.width ∙ c.new.ensures.replicas ∙ sym all ∙ sym count ∙ sym long,
-          ),
-        ),
-      )
-      ),
-)
+notes_of-requires g c = let now = c.as_mut_slice.ensures.value in
+    let kept = with_items_is c.self.inside.replicas c.open_all.new.replicas (c.open_all.auto.replicas ∙ c.as_mut_slice.ensures.len) in
+    let here = c.self.inside in
+    let olds = c.self.inside.replicas.items in
+    let news = c.open_all.new.replicas in
+    let count = c.open_all.ensures.counts.count ∙ ap length now in
+    let opened : (j : ℕ) (r r' : Copy g.row.D.Denot) → At olds j r → At news j r' → OpensAt g.D.Disk.Tells g.D.Disk.files g.D.Piece.Piece.Tells c.open_all.new.rows j r r' =
+    λ j r r' e f. c.in-Ok.ensures.opened j r r' (subst (λ xs. At xs j r) (sym now) e) f in
+    let all : length olds ≡ here.settings.replicas = subst (λ (v : Volume g.row.D.Denot g.row.D-Piece.Denot). length v.replicas ≡ v.settings.replicas) (sym c.self.view_is) c.requires.all in
+    let shape = c.self.invariant.0 in
+    let slice = c.as_slice.ensures.value ∙ kept in
+    let long = ap length slice in
+    let few = (shape.settings).most in
+    let most : length c.as_slice.result.now ≤ 4 = omega (arith, long, count, all, few) in record {
+      of = shape.settings;
+      most = most;
+      «open» = (λ j r' s.
+          let f = subst (λ xs. At xs j r') slice s in
+          let old = at_there olds j (let h = at_below news j r' f in let less : j < length olds = omega (arith, h, count) in less) in
+          up_open r' (opened j old.0 r' old.1 f).up);
+      width = c.open_all.ensures.width ∙ c.new.ensures.replicas ∙ sym all ∙ sym count ∙ sym long;
+    }
 
 pub invariant_of-self : goal.invariant_of-self
 invariant_of-self g c =

@@ -1,6 +1,5 @@
-use Rattle.std.proofs.Common.{rules, arith, sym, ap, subst, ◌∙◌}
+use Rattle.std.proofs.Common.{sym, ap, subst, ◌∙◌}
 use Rattle.hay_logical.specs.Volumes.{IsOpenVolume, IsSame, KeepsCounts}
-use Rattle.hay_logical.proofs.Layouts.{written_room}
 use Rattle.hay_logical.proofs.logical.Logical.put.Goals as goal
 
 pub returns-clause-stored : goal.returns-clause-stored
@@ -19,7 +18,7 @@ pub returns-clause-same : goal.returns-clause-same
 returns-clause-same g c = let was = c.write.ensures.same in subst (λ v. IsSame c.args.self.now v) (sym c.show.ensures.still) (record { settings = was.settings; number = was.number; sups = was.sups })
 
 pub write-requires : goal.write-requires
-write-requires g c = (search (rules, c.requires-raw), (written_room _ _ _ _ _ _ (omega arith) (omega arith) (omega arith) (omega arith) c.requires-raw.1.1.0, (c.requires.size, c.requires.«open»)))
+write-requires g c = record { size = c.requires.size; «open» = c.requires.«open» }
 
 pub show-requires : goal.show-requires
-show-requires g c = (search (rules, c.requires-raw), (written_room _ _ _ _ _ _ (omega arith) (omega arith) (omega arith) (omega arith) c.requires-raw.1.1.0, c.in_ok-written.ensures.fits))
+show-requires g c = c.in_ok-written.ensures.fits

@@ -1,4 +1,4 @@
-use Rattle.std.proofs.Common.{rules, ◌<◌, Err, refl, sym, ap, subst, ◌∙◌, arith}
+use Rattle.std.proofs.Common.{◌<◌, Err, refl, sym, ap, subst, ◌∙◌, arith}
 use Rattle.std.specs.Prelude.{IfErr}
 use Rattle.std.proofs.lemmas.Result.{err_from_is_err_and}
 use Rattle.hay_map.specs.Rows.{row_at}
@@ -17,7 +17,10 @@ pub see_in-requires : goal.see_in-requires
 see_in-requires g c =
     let below : c.loop-replica.replica < c.loop-replica.self.settings.replicas =
     subst (λ s. c.loop-replica.replica < s.replicas) (ap (λ v. v.settings) c.self.view_is ∙ sym c.loop-replica.invariant.kept.same.settings) c.loop-replica-test.true in
-    (search rules, (below, c.loop-replica.invariant.kept.«open»))
+    record {
+      within = below;
+      «open» = c.loop-replica.invariant.kept.«open»;
+    }
 
 pub returns-in_err-see_in-clause-stands : goal.returns-in_err-see_in-clause-stands
 returns-in_err-see_in-clause-stands g c = λ tells k stands. c.see_in.ensures.stands tells k (c.loop-replica.invariant.kept.stands tells k stands)

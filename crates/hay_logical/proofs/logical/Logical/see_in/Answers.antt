@@ -1,4 +1,4 @@
-use Rattle.std.proofs.Common.{rules, ◌≡◌, ◌≤◌, ◌<◌, ℕ, length, Err, refl, sym, ap, subst, ◌∙◌, arith}
+use Rattle.std.proofs.Common.{◌≡◌, ◌≤◌, ◌<◌, ℕ, length, Err, refl, sym, ap, subst, ◌∙◌, arith}
 use Rattle.std.specs.Prelude.{IfErr, OnErr, OnOk}
 use Rattle.std.specs.Vec.{with_items}
 use Rattle.std.proofs.lemmas.List.{with_items_is}
@@ -39,19 +39,13 @@ see_at-requires g c =
     let few = (c.self.invariant.0).count in
     let long = ap length now in
     let is : (j : ℕ) (r : Copy g.row.D.Denot) → At c.as_mut_slice.result.now j r → IsOpenCopy r =
-    λ j r e. c.requires.«open».each j r (subst (λ v. At v.replicas j r) c.self.view_is (subst (λ xs. At xs j r) now e)) in (
-      search rules,
-      (
-        (let less : c.args.replica < length c.as_mut_slice.result.now = omega (arith, within, all, long) in less),
-        (
-          (let n : length c.as_mut_slice.result.now ≤ 4 = omega (arith, most, few, long) in n),
-          (
-            (c.self.invariant.0).width ∙ sym all ∙ sym long,
-            (is, λ tells r e. ((c.self.invariant.2 tells c.args.replica r (subst (λ xs. At xs c.args.replica r) now e)).sees (is c.args.replica r e)).may c.args.pair),
-          ),
-        ),
-      ),
-    )
+    λ j r e. c.requires.«open».each j r (subst (λ v. At v.replicas j r) c.self.view_is (subst (λ xs. At xs j r) now e)) in record {
+      within = (let less : c.args.replica < length c.as_mut_slice.result.now = omega (arith, within, all, long) in less);
+      most = (let n : length c.as_mut_slice.result.now ≤ 4 = omega (arith, most, few, long) in n);
+      width = (c.self.invariant.0).width ∙ sym all ∙ sym long;
+      «open» = is;
+      may = λ tells r e. ((c.self.invariant.2 tells c.args.replica r (subst (λ xs. At xs c.args.replica r) now e)).sees (is c.args.replica r e)).may c.args.pair;
+    }
 
 pub invariant_of-self : goal.invariant_of-self
 invariant_of-self g c =

@@ -1,4 +1,4 @@
-use Rattle.std.proofs.Common.{refl, rules, sym, ap, subst}
+use Rattle.std.proofs.Common.{refl, sym, ap, subst}
 use Rattle.hay_map.specs.Rows.{ChangesRows}
 use Rattle.hay_map.specs.declared.view.MapOp.TheVariants as op
 use Rattle.hay_logical.specs.Unshown.{IsWritten, IsWrittenFor}
@@ -11,7 +11,7 @@ use Rattle.hay_logical.proofs.logical.Logical.show.Goals as goal
 pub give_row-requires : goal.give_row-requires
 give_row-requires g c =
     let fits = subst (λ v. IsWrittenFor g.D.Disk.Tells g.D.Disk.files c.args.written v) (sym c.self.view_is) c.requires in
-    (search rules, (search rules, (fits.room, fits.long)))
+    record { room = fits.room; long = fits.long }
 
 pub invariant_of-self : goal.invariant_of-self
 invariant_of-self g c =

@@ -1,4 +1,4 @@
-use Rattle.std.proofs.Common.{◌≡◌, ◌≤◌, ◌<◌, ◌+◌, ℕ, cond, inl, length, Some, None, refl, sym, ap, subst, ◌∙◌, arith, rules}
+use Rattle.std.proofs.Common.{◌≡◌, ◌≤◌, ◌<◌, ◌+◌, ℕ, cond, inl, length, Some, None, refl, sym, ap, subst, ◌∙◌, arith}
 use Rattle.std.specs.Prelude.{IfErr}
 use Rattle.hay_legal.specs.Known.{room_refusal_of}
 use Rattle.hay_needle.specs.Tables.{pair_eq}
@@ -40,19 +40,12 @@ put_each-requires g c =
     λ j r e. open_up r (c.requires.«open».each j r (subst (λ v. At v.replicas j r) c.self.view_is e)) ((c.self.invariant.0).thawed thawed j r e) in
     let most = (c.self.invariant.0).settings.most in
     let few = (c.self.invariant.0).count in
-    let long = ap length now in (
-      search rules,
-      (
-        (let n : length c.as_mut_slice.result.now ≤ 4 = omega (arith, most, few, long) in n),
-        (
-          c.requires.size,
-          (
-            λ j r e. up j r (subst (λ xs. At xs j r) now e),
-            λ j r e. c.in_ok-room.ensures.fits.1 j r (subst (λ v. At v.replicas j r) c.self.view_is (subst (λ xs. At xs j r) now e)),
-          ),
-        ),
-      ),
-    )
+    let long = ap length now in record {
+      most = (let n : length c.as_mut_slice.result.now ≤ 4 = omega (arith, most, few, long) in n);
+      size = c.requires.size;
+      up = λ j r e. up j r (subst (λ xs. At xs j r) now e);
+      room = λ j r e. c.in_ok-room.ensures.fits.1 j r (subst (λ v. At v.replicas j r) c.self.view_is (subst (λ xs. At xs j r) now e));
+    }
 
 pub ends_of-ends-requires-clause-most : goal.ends_of-ends-requires-clause-most
 ends_of-ends-requires-clause-most g c =
