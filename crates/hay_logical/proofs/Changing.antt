@@ -55,7 +55,7 @@ pub not_some : (o : Option ℕ) → ((m : ℕ) → o ≡ Some m → ⊥) → o �
 not_some None h = refl
 not_some (Some m) h = absurd (h m refl)
 
-pub some_none : {X : Type 0} {m : ℕ} → Some m ≡ None → X
+pub some_none : {X Y : Type 0} {m : Y} → Some m ≡ None → X
 some_none e = absurd cc
 
 -- DELETES

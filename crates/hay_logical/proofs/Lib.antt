@@ -1,5 +1,6 @@
 pub mod Alike
 pub mod Beginning
+pub mod Bytes
 pub mod Calls
 pub mod Changing
 pub mod Compacted

@@ -28,14 +28,8 @@ use Rattle.hay_logical.proofs.Lists.{at_below, at_same, at_there}
 use Rattle.hay_logical.proofs.Looking.{looks_still}
 use Rattle.hay_logical.proofs.Methods.{one_after}
 use Rattle.hay_logical.proofs.Sighting.{looks_one, other_places, place_seen}
+use Rattle.hay_logical.proofs.Bytes.{bytes_more}
 use Rattle.hay_logical.proofs.Through.{counts_through}
-
-pub bytes_more : (a b c : Files) → KeepsBytes a b → KeepsBytes b c → KeepsBytes a c
-bytes_more a b c first second = record {
-  now = λ n. second.now n ∙ first.now n;
-  solid = λ n solid. second.solid n (first.solid n solid);
-  leaves = λ image leaves. first.leaves image (second.leaves image leaves);
-}
 
 module _ {D P : Type 0} (DiskTells : Type 0) (files : D → Files) (Tells : Type 0) where
   pub looks_more : (a b c : MapRows P) (j : ℕ) (r x y : Copy D) → LooksAt DiskTells files Tells a b j r x → LooksAt DiskTells files Tells b c j x y → LooksAt DiskTells files Tells a c j r y

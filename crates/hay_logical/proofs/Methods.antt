@@ -37,11 +37,11 @@ pub record Quiet {D : Type 0} (files : D → Files) (r r' : Copy D) : Type 0 whe
 module _ {D P : Type 0} (settings : Settings) (number : ℕ) where
   -- the shape stays
   pub shaped_on : (items new : List (Copy D)) (rows rows' : MapRows P) (front front' : ℕ) (frozen frozen' : Option ℕ) (unsure unsure' : Option Unsure)
-      → IsShaped (volume_with settings number items rows front frozen unsure) → IsFrozenBy settings number frozen' → length new ≡ length items
+      → IsShaped (volume_with settings number items rows front frozen unsure) → IsFrozenBy settings number frozen' → (frozen' ≡ None → unsure' ≡ None) → length new ≡ length items
       → ((j : ℕ) (r r' : Copy D) → At items j r → At new j r' → r'.sup ≡ r.sup) → rows'.replicas ≡ rows.replicas
       → (frozen' ≡ None → (j : ℕ) (r r' : Copy D) → At items j r → At new j r' → is_frozen r' ≡ false)
       → IsShaped (volume_with settings number new rows' front' frozen' unsure')
-  shaped_on items new rows rows' front front' frozen frozen' unsure unsure' shape by count sups width thawed =
+  shaped_on items new rows rows' front front' frozen frozen' unsure unsure' shape by settled count sups width thawed =
       let old : (j : ℕ) (r' : Copy D) → At new j r' → (r : Copy D) × At items j r =
       λ j r' f. (let h = at_below new j r' f in at_there items j (let less : j < length items = omega (arith, h, count) in less)) in
       record {
@@ -51,6 +51,7 @@ module _ {D P : Type 0} (settings : Settings) (number : ℕ) where
         width = width ∙ shape.width;
         thawed = λ e j r' f. let o = old j r' f in thawed e j o.0 r' o.1 f;
         frozen_by = by;
+        settled = settled;
       }
 
   module _ (DiskTells : Type 0) (files : D → Files) (Tells : Type 0) (faults fuses : D → ℕ) where
@@ -158,4 +159,5 @@ shaped_shorter {D} settings number items rest last rows front frozen unsure is s
       width = shape.width;
       thawed = λ none j r e. shape.thawed none j r (there j r e);
       frozen_by = shape.frozen_by;
+      settled = shape.settled;
     }

@@ -79,11 +79,11 @@ module _ {D P : Type 0} {DiskTells : Type 0} {files : D → Files} {Tells : Type
   pub called_each : (j : ℕ) (r r' : Copy D) → At items j r → At new j r' → IsOpenCopy r' × (r'.sup ≡ r.sup)
   called_each = swaps_kept DiskTells files Tells faults start items new rows rows' at call.one call.ups result call.swaps
 
-  pub called_shaped : (settings : Settings) (number : ℕ) (replicas : List (Copy D)) (front : ℕ) (frozen frozen' : Option ℕ) (unsure : Option Unsure) → replicas ≡ new → (frozen' ≡ None → IsUp call.one.after) → IsFrozenBy settings number frozen'
+  pub called_shaped : (settings : Settings) (number : ℕ) (replicas : List (Copy D)) (front : ℕ) (frozen frozen' : Option ℕ) (unsure : Option Unsure) → replicas ≡ new → (frozen' ≡ None → IsUp call.one.after) → IsFrozenBy settings number frozen' → (frozen' ≡ None → unsure ≡ None)
       → IsShaped (volume_with settings number items rows front frozen unsure) → IsShaped (volume_with settings number replicas rows' front frozen' unsure)
-  called_shaped settings number replicas front frozen frozen' unsure is up by shape =
+  called_shaped settings number replicas front frozen frozen' unsure is up by settled shape =
       subst (λ rs. IsShaped (volume_with settings number rs rows' front frozen' unsure)) (sym is)
-      (shaped_on settings number items new rows rows' front front frozen frozen' unsure unsure shape by call.one.count (λ j r r' e f. (called_each j r r' e f).1) call.places.width
+      (shaped_on settings number items new rows rows' front front frozen frozen' unsure unsure shape by settled call.one.count (λ j r r' e f. (called_each j r r' e f).1) call.places.width
       (λ none. swaps_thawed DiskTells files Tells faults start items new rows rows' at call.one call.ups (up none)))
 
   pub called_reach : (replicas : List (Copy D)) → replicas ≡ new → CanReach DiskTells files items rows → CanReach DiskTells files replicas rows'

@@ -1,5 +1,5 @@
 -- What the notes of an opening tell, and what a put or a delete that is refused leaves to be told.
-use Rattle.std.proofs.Common.{◌≡◌, ℕ, ◌+◌, ◌<◌, ◌≤◌, ◌^◌, Bool, true, false, List, [], ◌∷◌, length, Option, Some, inl, inr, refl, sym, subst, arith}
+use Rattle.std.proofs.Common.{◌≡◌, ℕ, ◌+◌, ◌<◌, ◌≤◌, ◌^◌, Bool, true, false, List, [], ◌∷◌, length, Option, Some, None, inl, inr, refl, sym, subst, ◌∙◌, arith}
 use Rattle.std.specs.List.{AllByRecursion}
 use Rattle.std.proofs.Math.Nat.{mod-le}
 use Rattle.hay_needle.specs.declared.settings.Settings.{Settings}
@@ -39,15 +39,22 @@ room_leaves settings v tag unsure (refusal.ReadOnly m) is = refl
 room_leaves settings v tag unsure (refusal.Full m end need capacity) is = refl
 room_leaves settings v tag unsure _ is = absurd is
 
-pub put_broken : (settings : Settings) (v at : ℕ) (tag : CoreTag) (change : Change) (old : Option Unsure) (fault : ReplicaFault) (said : Refusal) → RefusalBy settings v at fault said
+pub put_broken : (settings : Settings) (v at : ℕ) (tag : CoreTag) (change : Change) (old : Option Unsure) (fault : ReplicaFault) (said : Refusal) → RefusalBy settings v at fault said → old ≡ None
     → PutLeavesUnsure tag old (Some (record { tag = tag; change = change })) said.fault
-put_broken settings v at tag change old (replica.Failed printed) said by =
+put_broken settings v at tag change old (replica.Failed printed) said by settled =
     let unsure : Unsure = record { tag = tag; change = change } in
-    subst (λ (f : LogicalFault). PutLeavesUnsure tag old (Some unsure) f) (sym by.1) (change, refl)
-put_broken settings v at tag change old replica.NoMemory said by =
+    subst (λ (f : LogicalFault). PutLeavesUnsure tag old (Some unsure) f) (sym by.1) (record { settled = settled; change = change; is = refl })
+put_broken settings v at tag change old replica.NoMemory said by settled =
     let unsure : Unsure = record { tag = tag; change = change } in
-    subst (λ (f : LogicalFault). PutLeavesUnsure tag old (Some unsure) f) (sym by.1) (inr (change, refl))
-put_broken settings v at tag change old _ said by = absurd by
+    subst (λ (f : LogicalFault). PutLeavesUnsure tag old (Some unsure) f) (sym by.1) (inr (record { settled = settled; change = change; is = refl }))
+put_broken settings v at tag change old _ said by settled = absurd by
+
+-- a put that came to a replica was not refused for want of room, nor by a freeze
+pub put_had_room : (settings : Settings) (v at : ℕ) (fault : ReplicaFault) (said : Refusal) → RefusalBy settings v at fault said
+    → ((m : ℕ) → said.fault ≡ refusal.ReadOnly m → ⊥) × ((m end need capacity : ℕ) → said.fault ≡ refusal.Full m end need capacity → ⊥)
+put_had_room settings v at (replica.Failed printed) said by = (λ m e. let wrong = sym by.1 ∙ e in cc, λ m end need capacity e. let wrong = sym by.1 ∙ e in cc)
+put_had_room settings v at replica.NoMemory said by = (λ m e. let wrong = sym by.1 ∙ e in cc, λ m end need capacity e. let wrong = sym by.1 ∙ e in cc)
+put_had_room settings v at _ said by = absurd by
 
 -- a delete that came before any change
 pub delete_before : (tag : CoreTag) (old new : Option Unsure) (fault : LogicalFault) → new ≡ old → DeleteLeavesUnsure tag old new fault

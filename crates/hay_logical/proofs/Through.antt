@@ -27,9 +27,10 @@ use Rattle.hay_logical.specs.declared.written.Erased.{Erased}
 use Rattle.hay_logical.specs.Answers.{DeleteRefused, HasFailed, IsDeleteFault, IsSightFault, ended_runs}
 use Rattle.hay_logical.specs.Fits.{At}
 use Rattle.hay_logical.specs.Stands.{Stands}
-use Rattle.hay_logical.specs.Steps.{SetsPlaceAt}
+use Rattle.hay_logical.specs.Steps.{KeepsFiles, SetsPlaceAt}
 use Rattle.hay_logical.specs.Unshown.{IsErased, IsUnshown}
 use Rattle.hay_logical.specs.Volumes.{IsOpenVolume, IsSame, KeepsCounts, Volume}
+use Rattle.hay_logical.proofs.Bytes.{files_more, files_same}
 use Rattle.hay_logical.proofs.Calls.{counted_same, keeps_counts}
 use Rattle.hay_logical.proofs.Examining.{rose_later}
 use Rattle.hay_logical.proofs.Lists.{at_below, at_same, at_there}
@@ -61,6 +62,7 @@ pub record Kept {D P : Type 0} (DiskTells : Type 0) (files : D → Files) (Tells
   pub same : IsSame old new
   pub still : (new.frozen ≡ old.frozen) × (new.front ≡ old.front) × (new.unsure ≡ old.unsure)
   pub runs : (j : ℕ) (r r' : Copy D) → At old.replicas j r → At new.replicas j r' → goal_of r' ≡ goal_of r
+  pub bytes : KeepsFiles DiskTells files old.replicas new.replicas
 
 module _ {D P : Type 0} (DiskTells : Type 0) (files : D → Files) (Tells : Type 0) (faults fuses : D → ℕ) where
   pub kept_none : (volume : Volume D P) → IsOpenVolume volume → Kept DiskTells files Tells faults fuses volume volume
@@ -71,11 +73,13 @@ module _ {D P : Type 0} (DiskTells : Type 0) (files : D → Files) (Tells : Type
     same = same_still volume;
     still = (refl, refl, refl);
     runs = λ j r r' e f. ap (λ (x : Copy D). goal_of x) (at_same volume.replicas j r' r f e);
+    bytes = files_same DiskTells files volume.replicas;
   }
 
   pub kept_more : (a b c : Volume D P) → Kept DiskTells files Tells faults fuses a b → (DiskTells → (k : VolumeKnown) → Stands files Tells b k → Stands files Tells c k) → IsOpenVolume c → KeepsCounts faults fuses b.replicas c.replicas
-      → IsSame b c → (c.frozen ≡ b.frozen) × (c.front ≡ b.front) × (c.unsure ≡ b.unsure) → ((j : ℕ) (r r' : Copy D) → At b.replicas j r → At c.replicas j r' → goal_of r' ≡ goal_of r) → Kept DiskTells files Tells faults fuses a c
-  kept_more a b c kept stands is counts same still runs = record {
+      → IsSame b c → (c.frozen ≡ b.frozen) × (c.front ≡ b.front) × (c.unsure ≡ b.unsure) → ((j : ℕ) (r r' : Copy D) → At b.replicas j r → At c.replicas j r' → goal_of r' ≡ goal_of r)
+      → KeepsFiles DiskTells files b.replicas c.replicas → Kept DiskTells files Tells faults fuses a c
+  kept_more a b c kept stands is counts same still runs looked = record {
     stands = λ tells k was. stands tells k (kept.stands tells k was);
     «open» = is;
     counts = counts_through faults fuses a.replicas b.replicas c.replicas kept.counts counts;
@@ -84,6 +88,7 @@ module _ {D P : Type 0} (DiskTells : Type 0) (files : D → Files) (Tells : Type
     runs = λ j r r' e f.
         let x = at_there b.replicas j (let h = at_below a.replicas j r e in let n = kept.counts.count in let less : j < length b.replicas = omega (arith, h, n) in less) in
         runs j x.0 r' x.1 f ∙ kept.runs j r x.0 e x.1;
+    bytes = files_more DiskTells files a.replicas b.replicas c.replicas kept.counts.count kept.bytes looked;
   }
 
   -- a refusal's cause

@@ -64,14 +64,16 @@ NotesTell settings v (Some unsure) notes =
 
 -- WHAT IS BROKEN OFF
 
--- the change of this line was broken off
-abbrev pub IsBrokenOff : CoreTag → Option Unsure → Type 0
-IsBrokenOff tag unsure = (change : Change) × (unsure ≡ Some (record { tag = tag; change = change }))
+-- the change of this line was broken off, and none before it
+pub record IsBrokenOff (tag : CoreTag) (old new : Option Unsure) : Type 0 where
+  pub settled : old ≡ None
+  pub change : Change
+  pub is : new ≡ Some (record { tag = tag; change = change })
 
 -- what a put leaves that is refused: a failure broke it off, and want of memory may have
 abbrev pub PutLeavesUnsure : CoreTag → Option Unsure → Option Unsure → LogicalFault → Type 0
-PutLeavesUnsure tag old new (refusal.Failed m count) = IsBrokenOff tag new
-PutLeavesUnsure tag old new refusal.NoMemory = (new ≡ old) ⊎ IsBrokenOff tag new
+PutLeavesUnsure tag old new (refusal.Failed m count) = IsBrokenOff tag old new
+PutLeavesUnsure tag old new refusal.NoMemory = (new ≡ old) ⊎ IsBrokenOff tag old new
 PutLeavesUnsure tag old new (refusal.ReadOnly m) = new ≡ old
 PutLeavesUnsure tag old new (refusal.Full m end need capacity) = new ≡ old
 PutLeavesUnsure tag old new (refusal.Gone front) = new ≡ old
@@ -82,7 +84,7 @@ PutLeavesUnsure tag old new (refusal.Damaged m at) = new ≡ old
 
 -- what a delete leaves that is refused: a failure may have broken it off, or came before it changed anything
 abbrev pub DeleteLeavesUnsure : CoreTag → Option Unsure → Option Unsure → LogicalFault → Type 0
-DeleteLeavesUnsure tag old new (refusal.Failed m count) = (new ≡ old) ⊎ IsBrokenOff tag new
+DeleteLeavesUnsure tag old new (refusal.Failed m count) = (new ≡ old) ⊎ IsBrokenOff tag old new
 DeleteLeavesUnsure tag old new refusal.NoMemory = new ≡ old
 DeleteLeavesUnsure tag old new (refusal.ReadOnly m) = new ≡ old
 DeleteLeavesUnsure tag old new (refusal.Full m end need capacity) = new ≡ old

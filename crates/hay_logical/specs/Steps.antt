@@ -161,6 +161,10 @@ pub record KeepsBytes (old new : Files) : Type 0 where
   pub solid : (n : ℕ) → IsSolid (old n) → IsSolid (new n)
   pub leaves : (image : ℕ → List ℕ) → MayLeave new image → MayLeave old image
 
+-- So it is of each replica's files.
+abbrev pub KeepsFiles : {D : Type 0} → Type 0 → (D → Files) → List (Copy D) → List (Copy D) → Type 0
+KeepsFiles {D} DiskTells files old new = DiskTells → (j : ℕ) (r r' : Copy D) → At old j r → At new j r' → KeepsBytes (files r.disk) (files r'.disk)
+
 -- A look at the place of a pair: one that was not seen yet is seen, as what it stands for, or a refusal has left it.
 pub record SightsAt {D P : Type 0} (DiskTells : Type 0) (files : D → Files) (faults : D → ℕ) (Tells : Type 0) (pair : Pair) (rows rows' : MapRows P) (at : ℕ) (r r' : Copy D) (result : Result Unit ReplicaFault) : Type 0 where
   pub copy : r' ≡ record r { disk = r'.disk }

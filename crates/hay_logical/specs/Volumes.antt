@@ -46,7 +46,7 @@ IsFrozenBy settings v frozen = (m : ℕ) → frozen ≡ Some m → IsMachineOf s
 abbrev pub HasSupers : {D P : Type 0} → Volume D P → Type 0
 HasSupers {D} volume = (j : ℕ) (r : Copy D) → At volume.replicas j r → r.sup ≡ super_of volume.settings volume.number j
 
--- What holds of every volume.
+-- What holds of every volume: among others, no change is pending unless it is frozen.
 pub record IsShaped {D P : Type 0} (volume : Volume D P) : Type 0 where
   pub settings : IsOfSettings volume.settings volume.number
   pub count : length volume.replicas ≤ volume.settings.replicas
@@ -54,6 +54,7 @@ pub record IsShaped {D P : Type 0} (volume : Volume D P) : Type 0 where
   pub width : volume.rows.replicas ≡ volume.settings.replicas
   pub thawed : volume.frozen ≡ None → (j : ℕ) (r : Copy D) → At volume.replicas j r → is_frozen r ≡ false
   pub frozen_by : IsFrozenBy volume.settings volume.number volume.frozen
+  pub settled : volume.frozen ≡ None → volume.unsure ≡ None
 
 -- Each photo that the rows have of a replica can be deleted there.
 abbrev pub DeletesPlaces : {D P : Type 0} → (D → Files) → MapRows P → ℕ → Copy D → Type 0

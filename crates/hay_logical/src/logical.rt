@@ -20,7 +20,7 @@ ghost use Rattle.hay_compact.specs.Finishing.{IsSeen};
 ghost use Rattle.hay_logical.specs.Draws.{DrewAt, HasDrawnNothing, looked_pair};
 ghost use Rattle.hay_logical.specs.Fits.{At, PlaceStands, super_of};
 ghost use Rattle.hay_logical.specs.Notes.{DeleteLeavesUnsure, NotesTell, PutLeavesUnsure};
-ghost use Rattle.hay_logical.specs.Steps.{AllIdle, IsRefusedAt, IsSeenBy, KeepsDisk, LosesRun, RoomFor, SetsPlaceAt};
+ghost use Rattle.hay_logical.specs.Steps.{AllIdle, IsRefusedAt, IsSeenBy, KeepsDisk, KeepsFiles, LosesRun, RoomFor, SetsPlaceAt};
 ghost use Rattle.hay_logical.specs.Volumes.{HasAll, IsClosed, IsMachineOf, IsOfSettings, IsOpenVolume, IsSame, KeepsCounts, Volume};
 ghost use Rattle.hay_logical.specs.Unshown.{GivesUp, IsErased, IsWritten, IsWrittenFor, ShowsSame};
 ghost use Rattle.hay_logical.specs.Stands.{Holds, IsFirst, IsIdleVolume, Stands, Stopped};
@@ -231,6 +231,14 @@ impl<D: Disk> Logical<D> {
         }
     }
 
+    /// The rows once more.
+    pub fn copy_rows(&self, alloc: Global) -> Result<MapView<D::Piece>, NoMemory>
+        ensures replicas { IfOk result (λ rows. rows.replicas ≡ self.now.settings.replicas) }
+        ensures rows { IfOk result (λ rows. (pair : Pair) → row_at rows pair ≡ row_at self.now.rows pair) }
+    {
+        self.rows.copy(alloc)
+    }
+
     /// Writes a photo to each replica in order. The rows show it once it is given to `show`, before any other change.
     /// `Failed` freezes the volume, and so does `NoMemory` once a disk was changed.
     pub fn write(
@@ -246,12 +254,17 @@ impl<D: Disk> Logical<D> {
         ensures written { D.Tells → (k : VolumeKnown) → Stands D.files D.Piece.Tells self.old k →
             IfOk result (λ written. IsWritten D.files D.Piece.Tells k pair cookie bytes.now written self.new) }
         ensures fits { IfOk result (λ written. IsWrittenFor D.Tells D.files written self.new) }
-        ensures of { IfOk result (λ written. (written.pair ≡ pair) × (written.position ≡ self.old.front + 1)) }
+        ensures of { IfOk result (λ written. (written.pair ≡ pair) × (written.position ≡ self.old.front + 1) × (length written.row ≡ self.old.settings.replicas)) }
         ensures still { OnOk result (ShowsSame self.old self.new) }
         ensures refused { D.Tells → (k : VolumeKnown) → Stands D.files D.Piece.Tells self.old k →
             IfErr result (PutRefused D.files D.Piece.Tells k tag pair cookie bytes.now self.old self.new) }
         ensures causes { IfErr result (IsPutFault D.fault_count self.old.settings self.old.number self.old.replicas self.new.replicas) }
         ensures refused_unsure { IfErr result (PutLeavesUnsure tag self.old.unsure self.new.unsure) }
+        // Where the volume is frozen or a replica lacks room, all stays. A refusal that left no change pending changed no byte.
+        ensures read_only { (m : ℕ) → result ≡ Err (LogicalFault.ReadOnly m) → self.new ≡ self.old }
+        ensures full { (m end need capacity : ℕ) → result ≡ Err (LogicalFault.Full m end need capacity) → self.new ≡ self.old }
+        ensures files { OnErr result (self.new.unsure ≡ self.old.unsure → KeepsFiles D.Tells D.files self.old.replicas self.new.replicas) }
+        ensures kept { OnErr result ((pair : Pair) → row_at self.new.rows pair ≡ row_at self.old.rows pair) }
         ensures open { IsOpenVolume self.new }
         ensures counts { KeepsCounts D.fault_count D.fuse_count self.old.replicas self.new.replicas }
         ensures same { IsSame self.old self.new }
@@ -375,6 +388,10 @@ impl<D: Disk> Logical<D> {
         ensures causes { IfErr result (IsPutFault D.fault_count self.old.settings self.old.number self.old.replicas self.new.replicas) }
         ensures stored_unsure { OnOk result (self.new.unsure ≡ self.old.unsure) }
         ensures refused_unsure { IfErr result (PutLeavesUnsure tag self.old.unsure self.new.unsure) }
+        // Where the volume is frozen or a replica lacks room, all stays. A refusal that left no change pending changed no byte.
+        ensures read_only { (m : ℕ) → result ≡ Err (LogicalFault.ReadOnly m) → self.new ≡ self.old }
+        ensures full { (m end need capacity : ℕ) → result ≡ Err (LogicalFault.Full m end need capacity) → self.new ≡ self.old }
+        ensures files { OnErr result (self.new.unsure ≡ self.old.unsure → KeepsFiles D.Tells D.files self.old.replicas self.new.replicas) }
         ensures open { IsOpenVolume self.new }
         ensures counts { KeepsCounts D.fault_count D.fuse_count self.old.replicas self.new.replicas }
         ensures same { IsSame self.old self.new }
@@ -420,6 +437,8 @@ impl<D: Disk> Logical<D> {
         ensures causes { IfErr result (IsSightFault D.fault_count self.old.settings self.old.number self.old.replicas self.new.replicas) }
         ensures machine { (m count : ℕ) → result ≡ Err (LogicalFault.Failed m count) → m ≡ machine_of self.old.settings self.old.number replica }
         ensures others { (j : ℕ) → (j ≡ replica → ⊥) → (r r' : Copy D) → At self.old.replicas j r → At self.new.replicas j r' → r' ≡ r }
+        // Behind a look each file has its bytes.
+        ensures files { KeepsFiles D.Tells D.files self.old.replicas self.new.replicas }
         ensures open { IsOpenVolume self.new }
         ensures counts { KeepsCounts D.fault_count D.fuse_count self.old.replicas self.new.replicas }
         ensures same { IsSame self.old self.new }
@@ -451,6 +470,7 @@ impl<D: Disk> Logical<D> {
         ensures causes { IfErr result (IsSightFault D.fault_count self.old.settings self.old.number self.old.replicas self.new.replicas) }
         ensures machine { (m count : ℕ) → result ≡ Err (LogicalFault.Failed m count) → m ≡ machine_of self.old.settings self.old.number replica }
         ensures others { (j : ℕ) → (j ≡ replica → ⊥) → (r r' : Copy D) → At self.old.replicas j r → At self.new.replicas j r' → r' ≡ r }
+        ensures files { KeepsFiles D.Tells D.files self.old.replicas self.new.replicas }
         ensures open { IsOpenVolume self.new }
         ensures counts { KeepsCounts D.fault_count D.fuse_count self.old.replicas self.new.replicas }
         ensures same { IsSame self.old self.new }
@@ -478,6 +498,7 @@ impl<D: Disk> Logical<D> {
             (m at : ℕ) → result ≡ Err (LogicalFault.Damaged m at) → ⊥ }
         ensures seen { OnOk result ((j : ℕ) → j < self.new.settings.replicas → IsSeen (place_in (row_at self.new.rows pair) j)) }
         ensures causes { IfErr result (IsSightFault D.fault_count self.old.settings self.old.number self.old.replicas self.new.replicas) }
+        ensures files { KeepsFiles D.Tells D.files self.old.replicas self.new.replicas }
         ensures open { IsOpenVolume self.new }
         ensures counts { KeepsCounts D.fault_count D.fuse_count self.old.replicas self.new.replicas }
         ensures same { IsSame self.old self.new }
@@ -510,6 +531,8 @@ impl<D: Disk> Logical<D> {
         ensures frozen { (m : ℕ) → self.old.frozen ≡ Some m → (result ≡ Err (LogicalFault.ReadOnly m)) × (self.new ≡ self.old) }
         ensures causes { IfErr result (IsDeleteFault D.fault_count self.old.settings self.old.number self.old.replicas self.new.replicas) }
         ensures refused_unsure { IfErr result (DeleteLeavesUnsure tag self.old.unsure self.new.unsure) }
+        // A refusal that left no change pending changed no byte of a file.
+        ensures files { OnErr result (self.new.unsure ≡ self.old.unsure → KeepsFiles D.Tells D.files self.old.replicas self.new.replicas) }
         ensures open { IsOpenVolume self.new }
         ensures counts { KeepsCounts D.fault_count D.fuse_count self.old.replicas self.new.replicas }
         ensures same { IsSame self.old self.new }
@@ -535,6 +558,8 @@ impl<D: Disk> Logical<D> {
         ensures causes { IfErr result (IsDeleteFault D.fault_count self.old.settings self.old.number self.old.replicas self.new.replicas) }
         ensures refused_unsure { IfErr result (DeleteLeavesUnsure tag self.old.unsure self.new.unsure) }
         ensures undamaged { (m at : ℕ) → result ≡ Err (LogicalFault.Damaged m at) → ⊥ }
+        ensures files { OnErr result (self.new.unsure ≡ self.old.unsure → KeepsFiles D.Tells D.files self.old.replicas self.new.replicas) }
+        ensures kept { OnErr result ((pair : Pair) → row_at self.new.rows pair ≡ row_at self.old.rows pair) }
         ensures open { IsOpenVolume self.new }
         ensures counts { KeepsCounts D.fault_count D.fuse_count self.old.replicas self.new.replicas }
         ensures same { IsSame self.old self.new }
@@ -595,6 +620,8 @@ impl<D: Disk> Logical<D> {
         ensures causes { IfErr result (IsDeleteFault D.fault_count self.old.settings self.old.number self.old.replicas self.new.replicas) }
         ensures deleted_unsure { OnOk result (self.new.unsure ≡ self.old.unsure) }
         ensures refused_unsure { IfErr result (DeleteLeavesUnsure tag self.old.unsure self.new.unsure) }
+        // A refusal that left no change pending changed no byte of a file.
+        ensures files { OnErr result (self.new.unsure ≡ self.old.unsure → KeepsFiles D.Tells D.files self.old.replicas self.new.replicas) }
         ensures open { IsOpenVolume self.new }
         ensures counts { KeepsCounts D.fault_count D.fuse_count self.old.replicas self.new.replicas }
         ensures same { IsSame self.old self.new }
@@ -614,6 +641,8 @@ impl<D: Disk> Logical<D> {
             IfErr result (FlushRefused D.files D.Piece.Tells k replica self.old self.new) }
         ensures causes { IfErr result (IsFlushFault D.fault_count self.old.settings self.old.number replica self.old.replicas self.new.replicas) }
         ensures unsure { self.new.unsure ≡ self.old.unsure }
+        ensures still { self.new ≡ record self.old { replicas = self.new.replicas } }
+        ensures others { (j : ℕ) → (j ≡ replica → ⊥) → (r r' : Copy D) → At self.old.replicas j r → At self.new.replicas j r' → r' ≡ r }
         ensures open { IsOpenVolume self.new }
         ensures counts { KeepsCounts D.fault_count D.fuse_count self.old.replicas self.new.replicas }
         ensures same { IsSame self.old self.new }
@@ -639,6 +668,8 @@ impl<D: Disk> Logical<D> {
             IfErr result (BeginRefused D.files D.Piece.Tells k replica self.old self.new) }
         ensures causes { IfErr result (IsBeginFault D.fault_count self.old.settings self.old.number replica self.old.replicas self.new.replicas) }
         ensures unsure { self.new.unsure ≡ self.old.unsure }
+        ensures still { self.new ≡ record self.old { replicas = self.new.replicas } }
+        ensures others { (j : ℕ) → (j ≡ replica → ⊥) → (r r' : Copy D) → At self.old.replicas j r → At self.new.replicas j r' → r' ≡ r }
         ensures open { IsOpenVolume self.new }
         ensures counts { KeepsCounts D.fault_count D.fuse_count self.old.replicas self.new.replicas }
         ensures same { IsSame self.old self.new }
@@ -664,6 +695,8 @@ impl<D: Disk> Logical<D> {
             IfErr result (StepRefused D.files D.Piece.Tells k replica cells self.old self.new) }
         ensures causes { IfErr result (IsRunFault D.fault_count self.old.settings self.old.number replica self.old.replicas self.new.replicas) }
         ensures unsure { self.new.unsure ≡ self.old.unsure }
+        ensures still { self.new ≡ record self.old { replicas = self.new.replicas } }
+        ensures others { (j : ℕ) → (j ≡ replica → ⊥) → (r r' : Copy D) → At self.old.replicas j r → At self.new.replicas j r' → r' ≡ r }
         ensures open { IsOpenVolume self.new }
         ensures counts { KeepsCounts D.fault_count D.fuse_count self.old.replicas self.new.replicas }
         ensures same { IsSame self.old self.new }
@@ -703,7 +736,12 @@ impl<D: Disk> Logical<D> {
         ensures refused { D.Tells → (k : VolumeKnown) → Stands D.files D.Piece.Tells self.old k →
             IfErr result (FinishRefused D.files D.Piece.Tells k replica self.old self.new) }
         ensures causes { IfErr result (IsRunFault D.fault_count self.old.settings self.old.number replica self.old.replicas self.new.replicas) }
+        ensures kept { OnErr result ((pair : Pair) → row_at self.new.rows pair ≡ row_at self.old.rows pair) }
+        ensures front { self.new.front ≡ self.old.front }
         ensures unsure { self.new.unsure ≡ self.old.unsure }
+        // Every other replica stays, unless the call froze the volume: then its compaction ended, and nothing but that.
+        ensures others { self.new.frozen ≡ self.old.frozen → (j : ℕ) → (j ≡ replica → ⊥) → (r r' : Copy D) → At self.old.replicas j r → At self.new.replicas j r' → r' ≡ r }
+        ensures beside { (j : ℕ) → (j ≡ replica → ⊥) → (r r' : Copy D) → At self.old.replicas j r → At self.new.replicas j r' → LosesRun D.Tells D.files r r' }
         ensures open { IsOpenVolume self.new }
         ensures counts { KeepsCounts D.fault_count D.fuse_count self.old.replicas self.new.replicas }
         ensures same { IsSame self.old self.new }
@@ -740,6 +778,9 @@ impl<D: Disk> Logical<D> {
             IfErr result (FinishRefused D.files D.Piece.Tells k replica self.old self.new) }
         ensures causes { IfErr result (IsRunFault D.fault_count self.old.settings self.old.number replica self.old.replicas self.new.replicas) }
         ensures unsure { self.new.unsure ≡ self.old.unsure }
+        // Every other replica stays, unless the call froze the volume: then its compaction ended, and nothing but that.
+        ensures others { self.new.frozen ≡ self.old.frozen → (j : ℕ) → (j ≡ replica → ⊥) → (r r' : Copy D) → At self.old.replicas j r → At self.new.replicas j r' → r' ≡ r }
+        ensures beside { (j : ℕ) → (j ≡ replica → ⊥) → (r r' : Copy D) → At self.old.replicas j r → At self.new.replicas j r' → LosesRun D.Tells D.files r r' }
         ensures open { IsOpenVolume self.new }
         ensures counts { KeepsCounts D.fault_count D.fuse_count self.old.replicas self.new.replicas }
         ensures same { IsSame self.old self.new }
@@ -766,7 +807,12 @@ impl<D: Disk> Logical<D> {
         ensures refused { D.Tells → (k : VolumeKnown) → Stands D.files D.Piece.Tells self.old k →
             IfErr result (CompactRefused D.files D.Piece.Tells k replica self.old self.new) }
         ensures causes { IfErr result (IsCompactFault D.fault_count self.old.settings self.old.number replica self.old.replicas self.new.replicas) }
+        ensures kept { OnErr result ((pair : Pair) → row_at self.new.rows pair ≡ row_at self.old.rows pair) }
+        ensures front { self.new.front ≡ self.old.front }
         ensures unsure { self.new.unsure ≡ self.old.unsure }
+        // Every other replica stays, unless the call froze the volume: then its compaction ended, and nothing but that.
+        ensures others { self.new.frozen ≡ self.old.frozen → (j : ℕ) → (j ≡ replica → ⊥) → (r r' : Copy D) → At self.old.replicas j r → At self.new.replicas j r' → r' ≡ r }
+        ensures beside { (j : ℕ) → (j ≡ replica → ⊥) → (r r' : Copy D) → At self.old.replicas j r → At self.new.replicas j r' → LosesRun D.Tells D.files r r' }
         ensures open { IsOpenVolume self.new }
         ensures counts { KeepsCounts D.fault_count D.fuse_count self.old.replicas self.new.replicas }
         ensures same { IsSame self.old self.new }
@@ -801,6 +847,9 @@ impl<D: Disk> Logical<D> {
             IfErr result (CompactRefused D.files D.Piece.Tells k replica self.old self.new) }
         ensures causes { IfErr result (IsCompactFault D.fault_count self.old.settings self.old.number replica self.old.replicas self.new.replicas) }
         ensures unsure { self.new.unsure ≡ self.old.unsure }
+        // Every other replica stays, unless the call froze the volume: then its compaction ended, and nothing but that.
+        ensures others { self.new.frozen ≡ self.old.frozen → (j : ℕ) → (j ≡ replica → ⊥) → (r r' : Copy D) → At self.old.replicas j r → At self.new.replicas j r' → r' ≡ r }
+        ensures beside { (j : ℕ) → (j ≡ replica → ⊥) → (r r' : Copy D) → At self.old.replicas j r → At self.new.replicas j r' → LosesRun D.Tells D.files r r' }
         ensures open { IsOpenVolume self.new }
         ensures counts { KeepsCounts D.fault_count D.fuse_count self.old.replicas self.new.replicas }
         ensures same { IsSame self.old self.new }
@@ -839,6 +888,7 @@ impl<D: Disk> Logical<D> {
     pub fn frozen(&self) -> Option<u32>
         ensures is { result ≡ self.now.frozen }
         ensures on { IfSome result (IsMachineOf self.now.settings self.now.number) }
+        ensures settled { IfNone result (self.now.unsure ≡ None) }
         ensures known { D.Tells → (k : VolumeKnown) → Stands D.files D.Piece.Tells self.now k → result ≡ k.frozen }
     {
         self.frozen
@@ -869,6 +919,7 @@ impl<D: Disk> Logical<D> {
             IsNext (D.fuse_count r.disk) (D.fuse_count r'.disk) × (D.fault_count r'.disk ≡ D.fault_count r.disk) }
         ensures others { (j : ℕ) → (j ≡ replica → ⊥) → (r r' : Copy D) → At self.old.replicas j r → At self.new.replicas j r' → r' ≡ r }
         ensures count { length self.new.replicas ≡ length self.old.replicas }
+        ensures still { self.new ≡ record self.old { replicas = self.new.replicas } }
         ensures unsure { self.new.unsure ≡ self.old.unsure }
         ensures same { IsSame self.old self.new }
     {

@@ -12,8 +12,9 @@ ghost use Rattle.hay_physical.specs.Runs.{HasRun, Run};
 ghost use Rattle.hay_open.specs.Stored.{Stored};
 ghost use Rattle.hay_logical.specs.Draws.{DrewRecordedAt, HasDrawnNothing};
 ghost use Rattle.hay_logical.specs.Fits.{At};
+ghost use Rattle.hay_logical.specs.Refusals.{IsUntouched};
 ghost use Rattle.hay_logical.specs.Volumes.{CanReach, KeepsCounts, ReachesPlaces};
-ghost use Rattle.hay_logical.specs.Steps.{AllIdle, CallsOne, DeleteLeaves, DeletesAt, EndsRuns, FlushesAt, FollowsAt, FusesAt, IsOpenFault, IsRefusedAt, KeepsDisk, LacksRoom, LeftAt, OpensAt, PutLeaves, PutsAt, RoomFor, StaysBeside, StaysInReach, Stops};
+ghost use Rattle.hay_logical.specs.Steps.{AllIdle, CallsOne, DeleteLeaves, DeletesAt, EndsRuns, FlushesAt, FollowsAt, FusesAt, IsOpenFault, IsRefusedAt, KeepsDisk, KeepsFiles, LacksRoom, LeftAt, OpensAt, PutLeaves, PutsAt, RoomFor, StaysBeside, StaysInReach, Stops};
 
 use crate::fault::Unopened;
 use crate::refusals::is_untouched;
@@ -93,6 +94,7 @@ pub(crate) fn put_each<D: Disk>(
         PutsAt D.Tells D.files D.Piece.Tells pair cookie bytes.now r r' (place_in row j)) }
     ensures reach { (j : ℕ) (r r' : Copy D) → At replicas.old j r → At replicas.new j r' → StaysInReach D.Tells D.files r r' }
     ensures broken { IfErr result (PutLeaves D.Tells D.files D.fault_count pair cookie bytes.now replicas.old replicas.new) }
+    ensures untouched { IfErr result (λ broken. IsUntouched replicas.new broken → KeepsFiles D.Tells D.files replicas.old replicas.new) }
     ensures runs { IfErr result (EndsRuns D.Tells D.files replicas.old replicas.new) }
 {
     match put_in_order(replicas, alloc, pair, cookie, bytes) {
@@ -124,6 +126,7 @@ fn put_in_order<D: Disk>(
         PutsAt D.Tells D.files D.Piece.Tells pair cookie bytes.now r r' (place_in row j)) }
     ensures reach { (j : ℕ) (r r' : Copy D) → At replicas.old j r → At replicas.new j r' → StaysInReach D.Tells D.files r r' }
     ensures broken { IfErr result (PutLeaves D.Tells D.files D.fault_count pair cookie bytes.now replicas.old replicas.new) }
+    ensures untouched { IfErr result (λ broken. IsUntouched replicas.new broken → KeepsFiles D.Tells D.files replicas.old replicas.new) }
     ensures others { IfErr result (λ broken. (j : ℕ) (r r' : Copy D) → broken.at < j → At replicas.old j r → At replicas.new j r' → r' ≡ r) }
     ensures run { IfErr result (λ broken. (r r' : Copy D) → At replicas.old broken.at r → At replicas.new broken.at r' → IsUp r' → D.Tells → (s : Stored) (run : Option Run) →
         physical.Stands D.files r s → HasRun D.files r s run → HasRun D.files r' s run) }

@@ -1,6 +1,7 @@
 use Rattle.hay_physical.specs.Replicas as physical
 use Rattle.std.proofs.Common.{inl, inr, sym, subst}
-use Rattle.hay_logical.specs.Steps.{EndsRuns, PutLeaves}
+use Rattle.hay_logical.specs.Steps.{EndsRuns, KeepsFiles, PutLeaves}
+use Rattle.hay_logical.specs.Refusals.{IsUntouched}
 use Rattle.hay_logical.specs.Volumes.{KeepsCounts}
 use Rattle.hay_logical.specs.Fits.{At}
 use Rattle.hay_logical.proofs.Dropping.{counts_on, reach_on, not_untouched, put_leaves_on, untouched_back}
@@ -50,4 +51,15 @@ returns-after-not-is_untouched-clause-runs g c = elim c.if-not-is_untouched.bran
   | else-not-is_untouched w ↦
       subst (λ rs. EndsRuns g.D.Disk.Tells g.D.Disk.files c.args.replicas.now rs c.in-Err.broken) (sym w.replicas-is)
       (inl (record { is = c.is_untouched.ensures.untouched w.if-not-is_untouched.false; above = c.in-Err.ensures.others; there = c.in-Err.ensures.run }))
+]
+
+pub returns-after-not-is_untouched-clause-untouched : goal.returns-after-not-is_untouched-clause-untouched
+returns-after-not-is_untouched-clause-untouched g c = elim c.if-not-is_untouched.branch [
+  | then-not-is_untouched w ↦ λ un. absurd (
+      not_untouched c.put_in_order.new.replicas c.in-Err.broken (λ e f r there. c.is_untouched.ensures.touched w.if-not-is_untouched.true e f r there)
+      (untouched_back g.D.Disk.Tells g.D.Disk.files g.D.Disk.fault_count c.args.replicas.now c.put_in_order.new.replicas w.drop_runs.new.replicas w.drop_runs.ensures.count w.drop_runs.ensures.each c.in-Err.broken
+      (subst (λ rs. IsUntouched rs c.in-Err.broken) w.replicas-is un))
+      )
+  | else-not-is_untouched w ↦
+      subst (λ rs. IsUntouched rs c.in-Err.broken → KeepsFiles g.D.Disk.Tells g.D.Disk.files c.args.replicas.now rs) (sym w.replicas-is) c.in-Err.ensures.untouched
 ]

@@ -1,15 +1,17 @@
-use Rattle.std.proofs.Common.{Err, Option, ◌≡◌, ◌≤◌, ◌<◌, ◌+◌, ℕ, ◌∷◌, [], length, length-append, refl, sym, ap, subst, ◌∙◌, arith}
-use Rattle.std.specs.Prelude.{slice_index_or}
+use Rattle.std.proofs.Common.{Err, Option, inl, inr, false, ◌≡◌, ◌≤◌, ◌<◌, ◌+◌, ℕ, ◌∷◌, [], length, length-append, refl, sym, ap, subst, ◌∙◌, arith}
+use Rattle.std.specs.Prelude.{slice_index_or, slice_set}
 use Rattle.hay_map.specs.Places.{place_in}
 use Rattle.hay_map.specs.declared.place.Place.TheVariants as place
 use Rattle.hay_open.specs.Stored.{Stored}
-use Rattle.hay_physical.specs.Copies.{Copy, IsUp}
+use Rattle.hay_physical.specs.Copies.{Copy, IsUp, is_frozen}
 use Rattle.hay_physical.specs.Replicas as physical
 use Rattle.hay_physical.specs.Runs.{HasRun, Run}
 use Rattle.hay_logical.specs.Fits.{At}
-use Rattle.hay_logical.specs.Steps.{StaysInReach, LosesRun}
-use Rattle.hay_logical.proofs.Calls.{Counted, loses_none, place_before, place_last, put_cause, puts_on, reach_still, up_open, went_counts}
+use Rattle.hay_logical.specs.Steps.{KeepsBytes, StaysInReach, LosesRun}
+use Rattle.hay_logical.proofs.Calls.{Counted, loses_none, place_before, place_last, open_up, put_cause, puts_on, reach_still, up_open, went_counts}
 use Rattle.hay_logical.proofs.Lists.{at_read, at_same, broken_above, broken_below, broken_is, broken_was, went_all, went_every, went_next, went_start, went_step}
+use Rattle.hay_logical.proofs.Looking.{bytes_same}
+use Rattle.std.proofs.lemmas.Bool.{cases_lt}
 use Rattle.hay_logical.proofs.replicas.put_in_order.Goals as goal
 
 pub loop-j-init : goal.loop-j-init
@@ -122,3 +124,24 @@ returns-in-Err-clause-run g c = λ r r' e f.
     subst (λ (x : Copy g.row.D.Denot). IsUp r' → g.D.Disk.Tells → (s : Stored) (run : Option Run) → physical.Stands g.D.Disk.files x s → HasRun g.D.Disk.files x s run → HasRun g.D.Disk.files r' s run) r_is
     (subst (λ (x : Copy g.row.D.Denot). IsUp x → g.D.Disk.Tells → (s : Stored) (run : Option Run) → physical.Stands g.D.Disk.files here s → HasRun g.D.Disk.files here s run → HasRun g.D.Disk.files x s run) r'_is
     (λ up tells s run stands has. c.in-Err.ensures.run_stays tells s run stands has up))
+
+pub returns-in-Err-clause-untouched : goal.returns-in-Err-clause-untouched
+returns-in-Err-clause-untouched g c = λ un tells i r r' e f.
+    let within : c.loop-j.j < length c.loop-j.replicas = omega arith in
+    let here : Copy g.row.D.Denot = slice_index_or c.loop-j.replicas c.loop-j.j c.index-replicas-j.result in
+    let there : At c.loop-j.replicas c.loop-j.j here = at_read c.loop-j.replicas c.loop-j.j c.index-replicas-j.result within in
+    let was : At c.args.replicas.now c.loop-j.j here = broken_was _ c.loop-j.j c.args.replicas.now c.loop-j.replicas here c.put.new.self c.loop-j.invariant.went there in
+    let is = broken_is _ c.loop-j.j c.args.replicas.now c.loop-j.replicas here c.put.new.self c.loop-j.invariant.went there in
+    let thawed : is_frozen c.put.new.self ≡ false = subst (λ (x : Copy g.row.D.Denot). is_frozen x ≡ false) (at_same _ c.loop-j.j un.replica c.put.new.self (subst (λ k. At (slice_set c.loop-j.replicas c.loop-j.j c.put.new.self) k un.replica) (sym un.first) un.there) is) un.thawed in
+    let same = c.put.ensures.unchanged tells (c.in-Err.is ∙ ap Err un.fault) (open_up c.put.new.self c.put.ensures.«open» thawed) in
+    elim (cases_lt c.loop-j.j i) [
+      | inl more ↦
+          subst (λ (x : Copy g.row.D.Denot). KeepsBytes (g.D.Disk.files r.disk) (g.D.Disk.files x.disk)) (sym (broken_above _ c.loop-j.j c.args.replicas.now c.loop-j.replicas here c.put.new.self c.loop-j.invariant.went there i r r' more e f)) (bytes_same (g.D.Disk.files r.disk))
+      | inr most ↦
+          let first = un.first in
+          let at : i ≡ c.loop-j.j = omega (arith, first, most) in
+          let before : here ≡ r = at_same c.args.replicas.now c.loop-j.j here r was (subst (λ k. At c.args.replicas.now k r) at e) in
+          let after : c.put.new.self ≡ r' = at_same _ c.loop-j.j c.put.new.self r' is (subst (λ k. At (slice_set c.loop-j.replicas c.loop-j.j c.put.new.self) k r') at f) in
+          subst (λ (x : Copy g.row.D.Denot). KeepsBytes (g.D.Disk.files x.disk) (g.D.Disk.files r'.disk)) before
+          (subst (λ (x : Copy g.row.D.Denot). KeepsBytes (g.D.Disk.files here.disk) (g.D.Disk.files x.disk)) after (subst (KeepsBytes (g.D.Disk.files here.disk)) (sym same) (bytes_same (g.D.Disk.files here.disk))))
+    ]

@@ -29,6 +29,7 @@ invariant_of-self g c =
           | inr h ↦ ap (λ (x : Copy g.row.D.Denot). is_frozen x) (h.1 ∙ c.new.ensures)
         ];
         frozen_by = shape.frozen_by;
+        settled = shape.settled;
       },
       subst (λ n. 4 ≤ n) (sym c.push_reserved.ensures.capacity) c.self.invariant.1,
       λ tells j r f. elim (at_either olds c.new.result j r (subst (λ xs. At xs j r) c.push_reserved.ensures.items f)) [

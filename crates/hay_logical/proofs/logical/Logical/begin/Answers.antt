@@ -11,8 +11,8 @@ use Rattle.hay_logical.specs.Stands.{Stands, StandsFor}
 use Rattle.hay_logical.specs.Steps.{CallsOne, StaysInReach, BeginsAt}
 use Rattle.hay_logical.specs.Volumes.{CanReach, IsShaped, KeepsCounts, IsMachineOf, Volume}
 use Rattle.hay_logical.proofs.Calls.{open_up, reach_still, up_open, up_thawed}
-use Rattle.hay_logical.proofs.Lists.{at_below, at_there}
-use Rattle.hay_logical.proofs.Methods.{one_after, one_count, one_each, same_by, same_still, shaped_on}
+use Rattle.hay_logical.proofs.Lists.{at_below, at_same, at_there}
+use Rattle.hay_logical.proofs.Methods.{one_after, one_count, one_each, other_same, same_by, same_still, shaped_on}
 use Rattle.hay_logical.proofs.Standing.{volume_with}
 use Rattle.hay_logical.proofs.Changing.{not_some}
 use Rattle.hay_logical.proofs.Stepping.{begin_fault, begin_refused, begun}
@@ -60,7 +60,7 @@ invariant_of-self g c =
     (λ u. step.on.up, step.on.sup, step.on.reach) (λ x. (λ u. u, refl, λ tells. reach_still g.D.Disk.files x)) in (
       subst (λ rs. IsShaped (volume_with c.self.inside.settings c.self.inside.number rs c.self.inside.rows c.self.inside.front c.self.inside.frozen c.self.inside.unsure)) (sym kept)
           (shaped_on c.self.inside.settings c.self.inside.number c.self.inside.replicas.items c.begin_at.new.replicas c.self.inside.rows c.self.inside.rows c.self.inside.front c.self.inside.front c.self.inside.frozen c.self.inside.frozen c.self.inside.unsure c.self.inside.unsure
-          c.self.invariant.0 (c.self.invariant.0).frozen_by count (λ j r r' e f. (each j r r' e f).1) refl (λ none j r r' e f. up_thawed r' ((each j r r' e f).0 (up j r e)))),
+          c.self.invariant.0 (c.self.invariant.0).frozen_by (c.self.invariant.0).settled count (λ j r r' e f. (each j r r' e f).1) refl (λ none j r r' e f. up_thawed r' ((each j r r' e f).0 (up j r e)))),
       c.self.invariant.1,
       subst (λ rs. CanReach g.D.Disk.Tells g.D.Disk.files rs c.self.inside.rows) (sym kept)
           (same_rows g.D.Disk.Tells g.D.Disk.files c.self.inside.replicas.items c.begin_at.new.replicas c.self.inside.rows c.self.inside.rows c.self.invariant.2 count
@@ -176,3 +176,16 @@ returns-clause-same g c =
 pub returns-in-Some-clause-causes : goal.returns-in-Some-clause-causes
 returns-in-Some-clause-causes g c =
     subst (λ (v : Volume g.row.D.Denot g.row.D-Piece.Denot). IsMachineOf v.settings v.number c.in-Some.machine) c.self.view_is ((c.self.invariant.0).frozen_by c.in-Some.machine c.in-Some.is)
+
+pub returns-clause-still : goal.returns-clause-still
+returns-clause-still g c = ap (λ (v : Volume g.row.D.Denot g.row.D-Piece.Denot). record v { replicas = (with_items c.self.inside.replicas c.begin_at.new.replicas).items }) c.self.view_is
+
+pub returns-clause-others : goal.returns-clause-others
+returns-clause-others g c = λ j apart r r' e f.
+    let now = c.as_mut_slice.ensures.value in
+    let kept = with_items_is c.self.inside.replicas c.begin_at.new.replicas (c.begin_at.auto.replicas ∙ c.as_mut_slice.ensures.len) in
+    let one : CallsOne c.args.replica c.self.inside.replicas.items c.begin_at.new.replicas = subst (λ xs. CallsOne c.args.replica xs c.begin_at.new.replicas) now c.begin_at.ensures.one in
+    other_same c.args.replica c.self.inside.replicas.items c.begin_at.new.replicas one j apart r r' (subst (λ v. At v.replicas j r) (sym c.self.view_is) e) (subst (λ xs. At xs j r') kept f)
+
+pub returns-in-Some-clause-others : goal.returns-in-Some-clause-others
+returns-in-Some-clause-others g c = λ j apart r r' e f. at_same c.args.self.now.replicas j r' r f e

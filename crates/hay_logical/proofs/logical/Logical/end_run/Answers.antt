@@ -50,7 +50,7 @@ invariant_of-self g c =
     let a = (goal.at.invariant_of-self g c).After-drop_run_at in (
       subst (λ rs. IsShaped (volume_with c.self.inside.settings c.self.inside.number rs c.self.inside.rows c.self.inside.front c.self.inside.frozen c.self.inside.unsure)) (sym (kept g a))
           (shaped_on c.self.inside.settings c.self.inside.number c.self.inside.replicas.items c.drop_run_at.new.replicas c.self.inside.rows c.self.inside.rows c.self.inside.front c.self.inside.front c.self.inside.frozen c.self.inside.frozen c.self.inside.unsure c.self.inside.unsure
-          c.self.invariant.0 (c.self.invariant.0).frozen_by (count g a) (λ j r r' e f. (loses g a j r r' e f).sup) refl
+          c.self.invariant.0 (c.self.invariant.0).frozen_by (c.self.invariant.0).settled (count g a) (λ j r r' e f. (loses g a j r r' e f).sup) refl
           (λ none j r r' e f. (loses g a j r r' e f).frozen ∙ (c.self.invariant.0).thawed none j r e)),
       c.self.invariant.1,
       subst (λ rs. CanReach g.D.Disk.Tells g.D.Disk.files rs c.self.inside.rows) (sym (kept g a))

@@ -1,10 +1,11 @@
 use Rattle.std.proofs.Common.{◌≡◌, ◌+◌, None, Err, sym, ap, subst, ◌∙◌, Option}
 use Rattle.std.specs.Prelude.{IfErr}
-use Rattle.std.proofs.lemmas.Result.{err_from_is_err_and, on_ok_weaker}
+use Rattle.std.proofs.lemmas.Result.{err_from_is_err_and, on_ok_weaker, on_err_weaker}
 use Rattle.hay_physical.proofs.Views.{if_err_so, if_ok_so}
 use Rattle.hay_logical.specs.declared.fault.LogicalFault.{LogicalFault}
 use Rattle.hay_logical.specs.Answers.{DeleteRefused}
 use Rattle.hay_logical.specs.Stands.{Stands}
+use Rattle.hay_logical.proofs.Bytes.{files_more}
 use Rattle.hay_logical.proofs.Changing.{not_some}
 use Rattle.hay_logical.proofs.Through.{counts_through, delete_later, erased_later, look_refused, same_through}
 use Rattle.hay_logical.proofs.Telling.{delete_before}
@@ -68,3 +69,8 @@ returns-clause-refused_unsure g c =
 pub returns-in-Some-clause-causes : goal.returns-in-Some-clause-causes
 returns-in-Some-clause-causes g c =
     subst (λ (v : Volume g.row.D.Denot g.row.D-Piece.Denot). IsMachineOf v.settings v.number c.in-Some.machine) c.self.view_is ((c.self.invariant.0).frozen_by c.in-Some.machine c.in-Some.is)
+
+pub returns-clause-files : goal.returns-clause-files
+returns-clause-files g c = on_err_weaker c.erase_seen.result
+    (λ keeps same. files_more g.D.Disk.Tells g.D.Disk.files c.args.self.now.replicas c.see_each.new.self.replicas c.erase_seen.new.self.replicas c.see_each.ensures.counts.count c.see_each.ensures.files (keeps (same ∙ sym c.see_each.ensures.still.2)))
+    c.erase_seen.ensures.files

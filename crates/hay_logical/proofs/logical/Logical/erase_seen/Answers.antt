@@ -73,7 +73,7 @@ invariant_of-self g c =
     λ j r r' e f. deleted_same g.D.Disk.Tells g.D.Disk.files (place_in c.row-row.result j) r r' (each j r r' e f) (up j r e) in (
       subst (λ rs. IsShaped (volume_with c.self.inside.settings c.self.inside.number rs c.self.inside.rows c.self.inside.front c.self.inside.frozen c.self.inside.unsure)) (sym kept)
           (shaped_on c.self.inside.settings c.self.inside.number c.self.inside.replicas.items c.delete_each.new.replicas c.self.inside.rows c.self.inside.rows c.self.inside.front c.self.inside.front c.self.inside.frozen c.self.inside.frozen c.self.inside.unsure c.self.inside.unsure
-          c.self.invariant.0 (c.self.invariant.0).frozen_by (c.delete_each.ensures.counts.count ∙ ap length now) (λ j r r' e f. (step j r r' e f).1) refl (λ none j r r' e f. up_thawed r' (step j r r' e f).0)),
+          c.self.invariant.0 (c.self.invariant.0).frozen_by (c.self.invariant.0).settled (c.delete_each.ensures.counts.count ∙ ap length now) (λ j r r' e f. (step j r r' e f).1) refl (λ none j r r' e f. up_thawed r' (step j r r' e f).0)),
       c.self.invariant.1,
       subst (λ rs. CanReach g.D.Disk.Tells g.D.Disk.files rs c.self.inside.rows) (sym kept)
           (failed_row g.D.Disk.Tells g.D.Disk.files c.self.inside.replicas.items c.delete_each.new.replicas c.self.inside.rows c.self.inside.rows c.self.invariant.2 (c.delete_each.ensures.counts.count ∙ ap length now)
@@ -160,7 +160,7 @@ invariant_of-self-in-Err g c =
     let remains = delete_remains g.D.Disk.Tells g.D.Disk.files g.D.Disk.fault_count c.self.inside.replicas.items c.delete_each.new.replicas c.row-row.result c.in-Err.failed left up in (
       subst (λ rs. IsShaped (volume_with c.self.inside.settings c.self.inside.number rs c.self.inside.rows c.self.inside.front (Some c.machine_of-machine.result) (Some (record { tag = c.args.tag; change = change.Delete c.args.pair })))) (sym kept)
           (shaped_on c.self.inside.settings c.self.inside.number c.self.inside.replicas.items c.delete_each.new.replicas c.self.inside.rows c.self.inside.rows c.self.inside.front c.self.inside.front c.self.inside.frozen (Some c.machine_of-machine.result) c.self.inside.unsure (Some (record { tag = c.args.tag; change = change.Delete c.args.pair }))
-          c.self.invariant.0 (frozen_machine c.self.inside.settings c.self.inside.number c.in-Err.failed.at c.machine_of-machine.result within c.machine_of-machine.ensures) (c.delete_each.ensures.counts.count ∙ ap length now) (λ j r r' e f. (remains j r r' e f).sup) refl (λ none j r r' e f. some_none none)),
+          c.self.invariant.0 (frozen_machine c.self.inside.settings c.self.inside.number c.in-Err.failed.at c.machine_of-machine.result within c.machine_of-machine.ensures) (λ none. some_none none) (c.delete_each.ensures.counts.count ∙ ap length now) (λ j r r' e f. (remains j r r' e f).sup) refl (λ none j r r' e f. some_none none)),
       c.self.invariant.1,
       subst (λ rs. CanReach g.D.Disk.Tells g.D.Disk.files rs c.self.inside.rows) (sym kept)
           (failed_row g.D.Disk.Tells g.D.Disk.files c.self.inside.replicas.items c.delete_each.new.replicas c.self.inside.rows c.self.inside.rows c.self.invariant.2 (c.delete_each.ensures.counts.count ∙ ap length now)
@@ -253,4 +253,13 @@ returns-clause-same g c =
     (λ j r r' e f. (delete_remains g.D.Disk.Tells g.D.Disk.files g.D.Disk.fault_count c.self.inside.replicas.items c.delete_each.new.replicas c.row-row.result c.in-Err.failed left up j r r' e f).sup)
 
 pub returns-clause-refused_unsure : goal.returns-clause-refused_unsure
-returns-clause-refused_unsure g c = inr (change.Delete c.args.pair, refl)
+returns-clause-refused_unsure g c = inr (record {
+  settled = ap (λ v. v.unsure) (sym c.self.view_is) ∙ (c.self.invariant.0).settled (ap (λ v. v.frozen) c.self.view_is ∙ c.requires.thawed);
+  change = change.Delete c.args.pair;
+  is = refl;
+})
+
+pub returns-clause-files : goal.returns-clause-files
+returns-clause-files g c = λ same.
+    let settled = ap (λ v. v.unsure) (sym c.self.view_is) ∙ (c.self.invariant.0).settled (ap (λ v. v.frozen) c.self.view_is ∙ c.requires.thawed) in
+    some_none (same ∙ settled)

@@ -2,7 +2,7 @@ use Rattle.std.proofs.Common.{◌≡◌, ◌<◌, ◌≤◌, ℕ, length, Option
 use Rattle.std.specs.Prelude.{IfSome}
 use Rattle.std.specs.Vec.{with_items}
 use Rattle.std.proofs.lemmas.List.{with_items_is}
-use Rattle.hay_map.specs.Rows.{ChangesRows}
+use Rattle.hay_map.specs.Rows.{ChangesRows, row_at}
 use Rattle.hay_map.specs.declared.view.MapOp.TheVariants as op
 use Rattle.hay_physical.specs.Copies.{Copy, IsUp, goal_of}
 use Rattle.hay_logical.specs.Answers.{FinishRefused, IsFinished}
@@ -10,11 +10,12 @@ use Rattle.hay_logical.specs.Answers as answers
 use Rattle.hay_logical.specs.Fits.{At}
 use Rattle.hay_logical.specs.Refusals.{unfinished_by}
 use Rattle.hay_logical.specs.Stands.{Stands, StandsFor}
-use Rattle.hay_logical.specs.Steps.{SwapsOne}
+use Rattle.hay_logical.specs.Steps.{LosesRun, SwapsOne}
 use Rattle.hay_logical.specs.Steps.Start.{Going}
-use Rattle.hay_logical.proofs.Calls.{open_up}
+use Rattle.hay_logical.proofs.Calls.{loses_none, open_up}
 use Rattle.hay_logical.proofs.Changing.{not_some}
 use Rattle.hay_logical.proofs.Compacted.{finish_fault, finish_refused, finished, removes_old}
+use Rattle.hay_logical.proofs.Lists.{at_same}
 use Rattle.hay_logical.proofs.Methods.{same_by}
 use Rattle.hay_logical.proofs.Standing.{volume_with}
 use Rattle.hay_logical.proofs.Stepping.{none_there, stands_there}
@@ -79,7 +80,7 @@ pub invariant_of-self : goal.invariant_of-self
 invariant_of-self g c =
     let after = (goal.at.invariant_of-self g c).After-finish_at in
     let call = called_with c.in-Ok.is (called g after) in (
-      called_shaped call c.self.inside.settings c.self.inside.number _ c.self.inside.front c.self.inside.frozen c.self.inside.frozen c.self.inside.unsure (kept g after) (λ none. call.swaps.up.0) (c.self.invariant.0).frozen_by c.self.invariant.0,
+      called_shaped call c.self.inside.settings c.self.inside.number _ c.self.inside.front c.self.inside.frozen c.self.inside.frozen c.self.inside.unsure (kept g after) (λ none. call.swaps.up.0) (c.self.invariant.0).frozen_by (c.self.invariant.0).settled c.self.invariant.0,
       c.self.invariant.1,
       called_reach call _ (kept g after) c.self.invariant.2,
     )
@@ -89,7 +90,7 @@ invariant_of-self-in-Err g c =
     let after = (goal.at.invariant_of-self-in-Err g c).After-finish_at in
     let call = called_with c.in-Err.is (called g after) in (
       called_shaped call c.self.inside.settings c.self.inside.number _ c.self.inside.front c.self.inside.frozen c.unfinished_by-unfinished.result.frozen c.self.inside.unsure (kept g after) (λ none. called_up c.self.inside.settings c.self.inside.number c.in-Err.unswapped call (ap (λ x. x.frozen) (sym c.unfinished_by-unfinished.ensures) ∙ none))
-          (frozen_unfinished c.self.inside.settings c.self.inside.number c.args.replica c.in-Err.unswapped c.unfinished_by-unfinished.result (subst (λ v. c.args.replica < v.settings.replicas) (sym c.self.view_is) c.requires.within) c.unfinished_by-unfinished.ensures) c.self.invariant.0,
+          (frozen_unfinished c.self.inside.settings c.self.inside.number c.args.replica c.in-Err.unswapped c.unfinished_by-unfinished.result (subst (λ v. c.args.replica < v.settings.replicas) (sym c.self.view_is) c.requires.within) c.unfinished_by-unfinished.ensures) (λ none. (c.self.invariant.0).settled (not_some c.self.inside.frozen c.in_default.not-Some)) c.self.invariant.0,
       c.self.invariant.1,
       called_reach call _ (kept g after) c.self.invariant.2,
     )
@@ -172,3 +173,47 @@ returns-in-Ok-clause-rows g c =
 
 pub returns-in-Ok-clause-still : goal.returns-in-Ok-clause-still
 returns-in-Ok-clause-still g c = (ap (λ v. v.front) c.self.view_is, ap (λ v. v.frozen) c.self.view_is)
+
+pub returns-in-Ok-clause-others : goal.returns-in-Ok-clause-others
+returns-in-Ok-clause-others g c = λ same j apart r r' e f.
+    let after = (goal.at.returns-in-Ok-clause-others g c).After-finish_at in
+    let call = called_with c.in-Ok.is (called g after) in
+    (call.one.others j r r' apart (subst (λ v. At v.replicas j r) (sym c.self.view_is) e) (subst (λ xs. At xs j r') (kept g after) f)).1 call.swaps.up.0
+
+pub returns-in-Ok-clause-beside : goal.returns-in-Ok-clause-beside
+returns-in-Ok-clause-beside g c = λ j apart r r' e f.
+    let after = (goal.at.returns-in-Ok-clause-beside g c).After-finish_at in
+    ((called g after).one.others j r r' apart (subst (λ v. At v.replicas j r) (sym c.self.view_is) e) (subst (λ xs. At xs j r') (kept g after) f)).0
+
+pub returns-in-Err-clause-others : goal.returns-in-Err-clause-others
+returns-in-Err-clause-others g c = λ same j apart r r' e f.
+    let after = (goal.at.returns-in-Err-clause-others g c).After-finish_at in
+    let call = called_with c.in-Err.is (called g after) in
+    let thawed = not_some c.self.inside.frozen c.in_default.not-Some in
+    let none = ap (λ x. x.frozen) (sym c.unfinished_by-unfinished.ensures) ∙ same ∙ ap (λ v. v.frozen) (sym c.self.view_is) ∙ thawed in
+    (call.one.others j r r' apart (subst (λ v. At v.replicas j r) (sym c.self.view_is) e) (subst (λ xs. At xs j r') (kept g after) f)).1
+    (called_up c.self.inside.settings c.self.inside.number c.in-Err.unswapped call none)
+
+pub returns-in-Err-clause-beside : goal.returns-in-Err-clause-beside
+returns-in-Err-clause-beside g c = λ j apart r r' e f.
+    let after = (goal.at.returns-in-Err-clause-beside g c).After-finish_at in
+    ((called g after).one.others j r r' apart (subst (λ v. At v.replicas j r) (sym c.self.view_is) e) (subst (λ xs. At xs j r') (kept g after) f)).0
+
+pub returns-in-Err-clause-kept : goal.returns-in-Err-clause-kept
+returns-in-Err-clause-kept g c = λ pair.
+    let after = (goal.at.returns-in-Err-clause-kept g c).After-finish_at in
+    (called_with c.in-Err.is (called g after)).places.same pair ∙ ap (λ v. row_at v.rows pair) c.self.view_is
+
+pub returns-in-Some-clause-others : goal.returns-in-Some-clause-others
+returns-in-Some-clause-others g c = λ same j apart r r' e f. at_same c.args.self.now.replicas j r' r f e
+
+pub returns-in-Some-clause-beside : goal.returns-in-Some-clause-beside
+returns-in-Some-clause-beside g c = λ j apart r r' e f.
+    subst (λ x. LosesRun g.D.Disk.Tells g.D.Disk.files r x) (at_same c.args.self.now.replicas j r r' e f) (loses_none g.D.Disk.Tells g.D.Disk.files r)
+
+pub returns-then-is_none-clause-others : goal.returns-then-is_none-clause-others
+returns-then-is_none-clause-others g c = λ same j apart r r' e f. at_same c.args.self.now.replicas j r' r f e
+
+pub returns-then-is_none-clause-beside : goal.returns-then-is_none-clause-beside
+returns-then-is_none-clause-beside g c = λ j apart r r' e f.
+    subst (λ x. LosesRun g.D.Disk.Tells g.D.Disk.files r x) (at_same c.args.self.now.replicas j r r' e f) (loses_none g.D.Disk.Tells g.D.Disk.files r)

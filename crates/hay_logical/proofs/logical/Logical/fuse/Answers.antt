@@ -1,4 +1,5 @@
 use Rattle.std.proofs.Common.{◌≡◌, ◌<◌, ℕ, false, length, refl, sym, ap, subst, ◌∙◌}
+use Rattle.std.specs.Vec.{with_items}
 use Rattle.std.proofs.lemmas.List.{with_items_is}
 use Rattle.hay_physical.specs.Copies.{Copy, phase_frozen, phase_goal, phase_stuck}
 use Rattle.hay_logical.specs.Fits.{At}
@@ -7,7 +8,7 @@ use Rattle.hay_logical.specs.Steps.{StaysInReach}
 use Rattle.hay_logical.proofs.Calls.{reach_still}
 use Rattle.hay_logical.proofs.Lists.{at_below, at_there}
 use Rattle.hay_logical.proofs.Methods.{Quiet, one_after, other_same, one_count, one_each, quiet, same_by, shaped_on}
-use Rattle.hay_logical.specs.Volumes.{CanReach, IsShaped}
+use Rattle.hay_logical.specs.Volumes.{CanReach, IsShaped, Volume}
 use Rattle.hay_logical.proofs.Reaching.{same_rows}
 use Rattle.hay_physical.specs.Copies as copies
 use Rattle.hay_logical.proofs.Standing.{volume_with}
@@ -42,7 +43,7 @@ invariant_of-self g c =
     (ap (λ r. r.sup) step.same, ap (λ r. r.phase) step.same) (λ x. (refl, refl)) in (
       subst (λ rs. IsShaped (volume_with c.self.inside.settings c.self.inside.number rs c.self.inside.rows c.self.inside.front c.self.inside.frozen c.self.inside.unsure)) (sym kept)
           (shaped_on c.self.inside.settings c.self.inside.number c.self.inside.replicas.items c.fuse_at.new.replicas c.self.inside.rows c.self.inside.rows c.self.inside.front c.self.inside.front c.self.inside.frozen c.self.inside.frozen c.self.inside.unsure c.self.inside.unsure
-          c.self.invariant.0 (c.self.invariant.0).frozen_by (one_count c.args.replica c.as_mut_slice.result.now c.fuse_at.new.replicas one ∙ ap length now)
+          c.self.invariant.0 (c.self.invariant.0).frozen_by (c.self.invariant.0).settled (one_count c.args.replica c.as_mut_slice.result.now c.fuse_at.new.replicas one ∙ ap length now)
           (λ j r r' e f. (each j r r' (subst (λ xs. At xs j r) (sym now) e) f).0) refl
           (λ none j r r' e f. ap phase_frozen (each j r r' (subst (λ xs. At xs j r) (sym now) e) f).1 ∙ (c.self.invariant.0).thawed none j r e)),
       c.self.invariant.1,
@@ -110,3 +111,6 @@ returns-clause-same g c =
     let step = c.fuse_at.ensures.fuses one.before one.after one.was after in
     same_by _ _ _ _ c.self.view_is refl refl kept
     (λ j r r' e f. one_each (λ (x y : Copy g.row.D.Denot). y.sup ≡ x.sup) c.args.replica c.as_mut_slice.result.now c.fuse_at.new.replicas one (ap (λ r. r.sup) step.same) (λ x. refl) j r r' (subst (λ xs. At xs j r) (sym now) e) f)
+
+pub returns-clause-still : goal.returns-clause-still
+returns-clause-still g c = ap (λ (v : Volume g.row.D.Denot g.row.D-Piece.Denot). record v { replicas = (with_items c.self.inside.replicas c.fuse_at.new.replicas).items }) c.self.view_is

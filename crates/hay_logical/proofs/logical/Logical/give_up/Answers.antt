@@ -5,6 +5,7 @@ use Rattle.hay_physical.specs.Copies.{Copy}
 use Rattle.hay_logical.specs.declared.unsure.Unsure.{Unsure}
 use Rattle.hay_logical.specs.Stands.{Stands, StandsFor}
 use Rattle.hay_logical.specs.Volumes.{IsOpenVolume, IsSame, Volume}
+use Rattle.hay_logical.proofs.Changing.{some_none}
 use Rattle.hay_logical.proofs.Showing.{given_up}
 use Rattle.hay_logical.proofs.Standing.{volume_with}
 use Rattle.hay_logical.proofs.logical.Logical.give_up.Goals as goal
@@ -12,7 +13,7 @@ use Rattle.hay_logical.proofs.logical.Logical.give_up.Goals as goal
 pub invariant_of-self : goal.invariant_of-self
 invariant_of-self g c =
     let shape = c.self.invariant.0 in
-    (record { settings = shape.settings; count = shape.count; sups = shape.sups; width = shape.width; thawed = shape.thawed; frozen_by = shape.frozen_by }, c.self.invariant.1, c.self.invariant.2)
+    (record { settings = shape.settings; count = shape.count; sups = shape.sups; width = shape.width; thawed = shape.thawed; frozen_by = shape.frozen_by; settled = λ none. some_none (sym (ap (λ v. v.frozen) (c.self.view_is ∙ c.halt.ensures.still)) ∙ none) }, c.self.invariant.1, c.self.invariant.2)
 
 pub returns-clause-pending : goal.returns-clause-pending
 unfolding Stands

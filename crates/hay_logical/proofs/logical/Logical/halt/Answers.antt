@@ -38,7 +38,7 @@ invariant_of-self g c =
     let some = ((c.self.invariant.0).settings).some in (
       subst (λ rs. IsShaped (volume_with c.self.inside.settings c.self.inside.number rs c.self.inside.rows c.self.inside.front (Some c.machine_of.result) c.self.inside.unsure)) (sym (kept g a))
           (shaped_on c.self.inside.settings c.self.inside.number c.self.inside.replicas.items c.drop_runs.new.replicas c.self.inside.rows c.self.inside.rows c.self.inside.front c.self.inside.front c.self.inside.frozen (Some c.machine_of.result) c.self.inside.unsure c.self.inside.unsure
-          c.self.invariant.0 (frozen_machine c.self.inside.settings c.self.inside.number 0 c.machine_of.result (let first : 0 < c.self.inside.settings.replicas = omega (arith, some) in first) c.machine_of.ensures) (count g a)
+          c.self.invariant.0 (frozen_machine c.self.inside.settings c.self.inside.number 0 c.machine_of.result (let first : 0 < c.self.inside.settings.replicas = omega (arith, some) in first) c.machine_of.ensures) (λ none. some_none none) (count g a)
           (λ j r r' e f. (loses g a j r r' e f).sup) refl (λ none j r r' e f. some_none none)),
       c.self.invariant.1,
       subst (λ rs. CanReach g.D.Disk.Tells g.D.Disk.files rs c.self.inside.rows) (sym (kept g a))

@@ -17,7 +17,7 @@ use Rattle.hay_logical.proofs.logical.Logical.hide.Goals as goal
 pub invariant_of-self : goal.invariant_of-self
 invariant_of-self g c = (
   shaped_on c.self.inside.settings c.self.inside.number c.self.inside.replicas.items c.self.inside.replicas.items c.self.inside.rows c.del.new.self c.self.inside.front c.args.erased.position c.self.inside.frozen c.self.inside.frozen c.self.inside.unsure c.self.inside.unsure
-      c.self.invariant.0 (c.self.invariant.0).frozen_by refl (λ j r r' e f. ap (λ x. x.sup) (at_same c.self.inside.replicas.items j r' r f e)) c.del.ensures.replicas (λ none j r r' e f. (c.self.invariant.0).thawed none j r' f),
+      c.self.invariant.0 (c.self.invariant.0).frozen_by (c.self.invariant.0).settled refl (λ j r r' e f. ap (λ x. x.sup) (at_same c.self.inside.replicas.items j r' r f e)) c.del.ensures.replicas (λ none j r r' e f. (c.self.invariant.0).thawed none j r' f),
   c.self.invariant.1,
   delete_row g.D.Disk.Tells g.D.Disk.files c.self.inside.replicas.items c.self.inside.replicas.items c.self.inside.rows c.del.new.self c.self.invariant.2 refl
       (λ j r r' e f. let same = at_same c.self.inside.replicas.items j r' r f e in (λ u. subst (λ (x : Copy g.row.D.Denot). IsUp x) same u, λ u. subst (λ (x : Copy g.row.D.Denot). IsOpenCopy x) same u))

@@ -69,7 +69,7 @@ invariant_of-self g c =
     let count = c.open_all.ensures.counts.count ∙ ap length now in
     let shape = c.self.invariant.0 in (
       subst (λ rs. IsShaped (volume_with here.settings here.number rs c.open_all.new.rows here.front here.frozen here.unsure)) (sym kept)
-          (shaped_on here.settings here.number olds news here.rows c.open_all.new.rows here.front here.front here.frozen here.frozen here.unsure here.unsure shape shape.frozen_by count
+          (shaped_on here.settings here.number olds news here.rows c.open_all.new.rows here.front here.front here.frozen here.frozen here.unsure here.unsure shape shape.frozen_by shape.settled count
           (λ j r r' e f. (c.open_all.ensures.left j r r' (subst (λ xs. At xs j r) (sym now) e) f).sup)
           (c.open_all.ensures.width ∙ c.new.ensures.replicas ∙ sym shape.width)
           (λ none j r r' e f. c.in-Err.ensures.thawed j r' f)),
@@ -141,7 +141,7 @@ invariant_of-self-in_default g c =
     λ j r r' e f. c.in-Ok.ensures.opened j r r' (subst (λ xs. At xs j r) (sym now) e) f in
     let shape = c.self.invariant.0 in (
       subst (λ rs. IsShaped (volume_with here.settings here.number rs c.open_all.new.rows here.front here.frozen here.unsure)) (sym kept)
-          (shaped_on here.settings here.number olds news here.rows c.open_all.new.rows here.front here.front here.frozen here.frozen here.unsure here.unsure shape shape.frozen_by count
+          (shaped_on here.settings here.number olds news here.rows c.open_all.new.rows here.front here.front here.frozen here.frozen here.unsure here.unsure shape shape.frozen_by shape.settled count
           (λ j r r' e f. (c.open_all.ensures.left j r r' (subst (λ xs. At xs j r) (sym now) e) f).sup)
           (c.open_all.ensures.width ∙ c.new.ensures.replicas ∙ sym shape.width)
           (λ none j r r' e f. up_thawed r' (opened j r r' e f).up)),
@@ -218,7 +218,7 @@ invariant_of-self-2 g c =
     λ j r r' e f. c.in-Ok.ensures.opened j r r' (subst (λ xs. At xs j r) (sym now) e) f in
     let shape = c.self.invariant.0 in (
       subst (λ rs. IsShaped (volume_with here.settings here.number rs c.open_all.new.rows 0 None None)) (sym kept)
-          (shaped_on here.settings here.number olds news here.rows c.open_all.new.rows here.front 0 here.frozen None here.unsure None shape (never_frozen here.settings here.number) count
+          (shaped_on here.settings here.number olds news here.rows c.open_all.new.rows here.front 0 here.frozen None here.unsure None shape (never_frozen here.settings here.number) (λ none. refl) count
           (λ j r r' e f. (c.open_all.ensures.left j r r' (subst (λ xs. At xs j r) (sym now) e) f).sup)
           (c.open_all.ensures.width ∙ c.new.ensures.replicas ∙ sym shape.width)
           (λ none j r r' e f. up_thawed r' (opened j r r' e f).up)),

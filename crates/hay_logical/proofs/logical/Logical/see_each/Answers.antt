@@ -39,19 +39,19 @@ returns-in_err-see_in-clause-causes g c =
 
 pub returns-in_err-see_in-clause-counts : goal.returns-in_err-see_in-clause-counts
 returns-in_err-see_in-clause-counts g c =
-    (kept_more g.D.Disk.Tells g.D.Disk.files g.D.Piece.Piece.Tells g.D.Disk.fault_count g.D.Disk.fuse_count c.args.self.now c.loop-replica.self c.see_in.new.self c.loop-replica.invariant.kept c.see_in.ensures.stands c.see_in.ensures.«open» c.see_in.ensures.counts c.see_in.ensures.same c.see_in.ensures.still c.see_in.ensures.runs).counts
+    (kept_more g.D.Disk.Tells g.D.Disk.files g.D.Piece.Piece.Tells g.D.Disk.fault_count g.D.Disk.fuse_count c.args.self.now c.loop-replica.self c.see_in.new.self c.loop-replica.invariant.kept c.see_in.ensures.stands c.see_in.ensures.«open» c.see_in.ensures.counts c.see_in.ensures.same c.see_in.ensures.still c.see_in.ensures.runs c.see_in.ensures.files).counts
 
 pub returns-in_err-see_in-clause-same : goal.returns-in_err-see_in-clause-same
 returns-in_err-see_in-clause-same g c =
-    (kept_more g.D.Disk.Tells g.D.Disk.files g.D.Piece.Piece.Tells g.D.Disk.fault_count g.D.Disk.fuse_count c.args.self.now c.loop-replica.self c.see_in.new.self c.loop-replica.invariant.kept c.see_in.ensures.stands c.see_in.ensures.«open» c.see_in.ensures.counts c.see_in.ensures.same c.see_in.ensures.still c.see_in.ensures.runs).same
+    (kept_more g.D.Disk.Tells g.D.Disk.files g.D.Piece.Piece.Tells g.D.Disk.fault_count g.D.Disk.fuse_count c.args.self.now c.loop-replica.self c.see_in.new.self c.loop-replica.invariant.kept c.see_in.ensures.stands c.see_in.ensures.«open» c.see_in.ensures.counts c.see_in.ensures.same c.see_in.ensures.still c.see_in.ensures.runs c.see_in.ensures.files).same
 
 pub returns-in_err-see_in-clause-still : goal.returns-in_err-see_in-clause-still
 returns-in_err-see_in-clause-still g c =
-    (kept_more g.D.Disk.Tells g.D.Disk.files g.D.Piece.Piece.Tells g.D.Disk.fault_count g.D.Disk.fuse_count c.args.self.now c.loop-replica.self c.see_in.new.self c.loop-replica.invariant.kept c.see_in.ensures.stands c.see_in.ensures.«open» c.see_in.ensures.counts c.see_in.ensures.same c.see_in.ensures.still c.see_in.ensures.runs).still
+    (kept_more g.D.Disk.Tells g.D.Disk.files g.D.Piece.Piece.Tells g.D.Disk.fault_count g.D.Disk.fuse_count c.args.self.now c.loop-replica.self c.see_in.new.self c.loop-replica.invariant.kept c.see_in.ensures.stands c.see_in.ensures.«open» c.see_in.ensures.counts c.see_in.ensures.same c.see_in.ensures.still c.see_in.ensures.runs c.see_in.ensures.files).still
 
 pub loop-replica-preserved : goal.loop-replica-preserved
 loop-replica-preserved g c = record {
-  kept = kept_more g.D.Disk.Tells g.D.Disk.files g.D.Piece.Piece.Tells g.D.Disk.fault_count g.D.Disk.fuse_count c.args.self.now c.loop-replica.self c.see_in.new.self c.loop-replica.invariant.kept c.see_in.ensures.stands c.see_in.ensures.«open» c.see_in.ensures.counts c.see_in.ensures.same c.see_in.ensures.still c.see_in.ensures.runs;
+  kept = kept_more g.D.Disk.Tells g.D.Disk.files g.D.Piece.Piece.Tells g.D.Disk.fault_count g.D.Disk.fuse_count c.args.self.now c.loop-replica.self c.see_in.new.self c.loop-replica.invariant.kept c.see_in.ensures.stands c.see_in.ensures.«open» c.see_in.ensures.counts c.see_in.ensures.same c.see_in.ensures.still c.see_in.ensures.runs c.see_in.ensures.files;
   seen = seen_more c.args.pair c.loop-replica.replica c.loop-replica.self.rows c.see_in.new.self.rows (row_at c.see_in.new.self.rows c.args.pair) c.in_ok-see_in.ensures.row refl c.in_ok-see_in.ensures.seen c.loop-replica.invariant.seen;
 }
 
@@ -78,7 +78,14 @@ returns-clause-still g c = c.loop-replica.invariant.kept.still
 
 pub returns-in_err-see_in-clause-runs : goal.returns-in_err-see_in-clause-runs
 returns-in_err-see_in-clause-runs g c =
-    (kept_more g.D.Disk.Tells g.D.Disk.files g.D.Piece.Piece.Tells g.D.Disk.fault_count g.D.Disk.fuse_count c.args.self.now c.loop-replica.self c.see_in.new.self c.loop-replica.invariant.kept c.see_in.ensures.stands c.see_in.ensures.«open» c.see_in.ensures.counts c.see_in.ensures.same c.see_in.ensures.still c.see_in.ensures.runs).runs
+    (kept_more g.D.Disk.Tells g.D.Disk.files g.D.Piece.Piece.Tells g.D.Disk.fault_count g.D.Disk.fuse_count c.args.self.now c.loop-replica.self c.see_in.new.self c.loop-replica.invariant.kept c.see_in.ensures.stands c.see_in.ensures.«open» c.see_in.ensures.counts c.see_in.ensures.same c.see_in.ensures.still c.see_in.ensures.runs c.see_in.ensures.files).runs
 
 pub returns-clause-runs : goal.returns-clause-runs
 returns-clause-runs g c = c.loop-replica.invariant.kept.runs
+
+pub returns-in_err-see_in-clause-files : goal.returns-in_err-see_in-clause-files
+returns-in_err-see_in-clause-files g c =
+    (kept_more g.D.Disk.Tells g.D.Disk.files g.D.Piece.Piece.Tells g.D.Disk.fault_count g.D.Disk.fuse_count c.args.self.now c.loop-replica.self c.see_in.new.self c.loop-replica.invariant.kept c.see_in.ensures.stands c.see_in.ensures.«open» c.see_in.ensures.counts c.see_in.ensures.same c.see_in.ensures.still c.see_in.ensures.runs c.see_in.ensures.files).bytes
+
+pub returns-clause-files : goal.returns-clause-files
+returns-clause-files g c = c.loop-replica.invariant.kept.bytes

@@ -15,9 +15,10 @@ use Rattle.hay_physical.specs.declared.fault.ReplicaFault.{ReplicaFault}
 use Rattle.hay_logical.specs.Answers as answers
 use Rattle.hay_logical.specs.Fits.{At}
 use Rattle.hay_logical.specs.Stands.{Stands, StandsFor}
-use Rattle.hay_logical.specs.Steps.{CallsOne, IsSeenBy, SetsPlaceAt, SightsAt}
-use Rattle.hay_logical.specs.Volumes.{CanReach, IsShaped, KeepsCounts}
+use Rattle.hay_logical.specs.Steps.{CallsOne, IsSeenBy, KeepsFiles, SetsPlaceAt, SightsAt}
+use Rattle.hay_logical.specs.Volumes.{CanReach, IsShaped, KeepsCounts, Volume}
 use Rattle.hay_logical.proofs.Lists.{at_below, at_there}
+use Rattle.hay_logical.proofs.Bytes.{files_one}
 use Rattle.hay_logical.proofs.Methods.{one_after, one_count, one_each, other_same, same_by, shaped_on}
 use Rattle.hay_logical.proofs.Sighting.{damaged_answer, failed_machine, known_seen, reach_seen, saw, seen_whole, sight_cause}
 use Rattle.hay_logical.proofs.Standing.{volume_with}
@@ -60,7 +61,7 @@ invariant_of-self g c =
     (ap (λ (x : Copy g.row.D.Denot). x.sup) sights.copy, ap (λ (x : Copy g.row.D.Denot). is_frozen x) sights.copy) (λ x. (refl, refl)) in (
       subst (λ rs. IsShaped (volume_with c.self.inside.settings c.self.inside.number rs c.see_at.new.rows c.self.inside.front c.self.inside.frozen c.self.inside.unsure)) (sym kept)
           (shaped_on c.self.inside.settings c.self.inside.number c.self.inside.replicas.items c.see_at.new.replicas c.self.inside.rows c.see_at.new.rows c.self.inside.front c.self.inside.front c.self.inside.frozen c.self.inside.frozen c.self.inside.unsure c.self.inside.unsure
-          c.self.invariant.0 (c.self.invariant.0).frozen_by count (λ j r r' e f. (each j r r' e f).0) c.see_at.ensures.row.width (λ none j r r' e f. (each j r r' e f).1 ∙ (c.self.invariant.0).thawed none j r e)),
+          c.self.invariant.0 (c.self.invariant.0).frozen_by (c.self.invariant.0).settled count (λ j r r' e f. (each j r r' e f).0) c.see_at.ensures.row.width (λ none j r r' e f. (each j r r' e f).1 ∙ (c.self.invariant.0).thawed none j r e)),
       c.self.invariant.1,
       subst (λ rs. CanReach g.D.Disk.Tells g.D.Disk.files rs c.see_at.new.rows) (sym kept) (reach_seen g.D.Disk.Tells g.D.Disk.files g.D.Piece.Piece.Tells g.D.Disk.fault_count c.self.inside.replicas.items c.see_at.new.replicas c.self.inside.rows c.see_at.new.rows c.args.replica c.args.pair c.see_at.result one sights c.see_at.ensures.row c.self.invariant.2),
     )
@@ -233,3 +234,14 @@ returns-clause-runs g c = λ j r r' e f.
     c.see_at.ensures.sights one.before one.after (subst (λ xs. At xs c.args.replica one.before) (sym now) one.was) (one_after c.args.replica c.self.inside.replicas.items c.see_at.new.replicas one) in
     one_each (λ (x y : Copy g.row.D.Denot). goal_of y ≡ goal_of x) c.args.replica c.self.inside.replicas.items c.see_at.new.replicas one (ap (λ (x : Copy g.row.D.Denot). goal_of x) sights.copy) (λ x. refl)
     j r r' (subst (λ v. At v.replicas j r) (sym c.self.view_is) e) (subst (λ xs. At xs j r') kept f)
+
+pub returns-clause-files : goal.returns-clause-files
+returns-clause-files g c =
+    let now = c.as_mut_slice.ensures.value in
+    let kept = with_items_is c.self.inside.replicas c.see_at.new.replicas (c.see_at.auto.replicas ∙ c.as_mut_slice.ensures.len) in
+    let one : CallsOne c.args.replica c.self.inside.replicas.items c.see_at.new.replicas = subst (λ xs. CallsOne c.args.replica xs c.see_at.new.replicas) now c.see_at.ensures.one in
+    let sights : SightsAt g.D.Disk.Tells g.D.Disk.files g.D.Disk.fault_count g.D.Piece.Piece.Tells c.args.pair c.self.inside.rows c.see_at.new.rows c.args.replica one.before one.after c.see_at.result =
+    c.see_at.ensures.sights one.before one.after (subst (λ xs. At xs c.args.replica one.before) (sym now) one.was) (one_after c.args.replica c.self.inside.replicas.items c.see_at.new.replicas one) in
+    subst (λ (v : Volume g.row.D.Denot g.row.D-Piece.Denot). KeepsFiles g.D.Disk.Tells g.D.Disk.files v.replicas (with_items c.self.inside.replicas c.see_at.new.replicas).items) c.self.view_is
+    (subst (KeepsFiles g.D.Disk.Tells g.D.Disk.files c.self.inside.replicas.items) (sym kept)
+    (files_one g.D.Disk.Tells g.D.Disk.files c.args.replica c.self.inside.replicas.items c.see_at.new.replicas one sights.keeps))

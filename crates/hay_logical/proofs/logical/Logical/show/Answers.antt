@@ -17,7 +17,7 @@ pub invariant_of-self : goal.invariant_of-self
 invariant_of-self g c =
     let fits = subst (λ v. IsWrittenFor g.D.Disk.Tells g.D.Disk.files c.args.written v) (sym c.self.view_is) c.requires in (
       shaped_on c.self.inside.settings c.self.inside.number c.self.inside.replicas.items c.self.inside.replicas.items c.self.inside.rows c.give_row.new.rows c.self.inside.front c.args.written.position c.self.inside.frozen c.self.inside.frozen c.self.inside.unsure c.self.inside.unsure
-          c.self.invariant.0 (c.self.invariant.0).frozen_by refl (λ j r r' e f. ap (λ x. x.sup) (at_same c.self.inside.replicas.items j r' r f e)) c.give_row.ensures.replicas (λ none j r r' e f. (c.self.invariant.0).thawed none j r' f),
+          c.self.invariant.0 (c.self.invariant.0).frozen_by (c.self.invariant.0).settled refl (λ j r r' e f. ap (λ x. x.sup) (at_same c.self.inside.replicas.items j r' r f e)) c.give_row.ensures.replicas (λ none j r r' e f. (c.self.invariant.0).thawed none j r' f),
       c.self.invariant.1,
       fits.reach c.give_row.new.rows c.give_row.ensures,
     )

@@ -19,7 +19,7 @@ invariant_of-self g c =
     λ j r r' e f. c.stop_each.ensures.stopped j r r' (subst (λ xs. At xs j r) (sym now) e) f in (
       subst (λ rs. IsShaped (volume_with c.self.inside.settings c.self.inside.number rs c.self.inside.rows c.self.inside.front c.self.inside.frozen c.self.inside.unsure)) (sym kept)
           (shaped_on c.self.inside.settings c.self.inside.number c.self.inside.replicas.items c.stop_each.new.replicas c.self.inside.rows c.self.inside.rows c.self.inside.front c.self.inside.front c.self.inside.frozen c.self.inside.frozen c.self.inside.unsure c.self.inside.unsure
-          c.self.invariant.0 (c.self.invariant.0).frozen_by (c.stop_each.ensures.count ∙ ap length now) (λ j r r' e f. (stops j r r' e f).sup) refl (λ none j r r' e f. ap phase_frozen (stops j r r' e f).closed)),
+          c.self.invariant.0 (c.self.invariant.0).frozen_by (c.self.invariant.0).settled (c.stop_each.ensures.count ∙ ap length now) (λ j r r' e f. (stops j r r' e f).sup) refl (λ none j r r' e f. ap phase_frozen (stops j r r' e f).closed)),
       c.self.invariant.1,
       subst (λ rs. CanReach g.D.Disk.Tells g.D.Disk.files rs c.self.inside.rows) (sym kept)
           (none_open g.D.Disk.Tells g.D.Disk.files c.stop_each.new.replicas c.self.inside.rows (λ j r' f.

@@ -74,7 +74,7 @@ returns-in_default-clause-refused g c = λ tells k stands. ((room_ok c.args.self
 pub invariant_of-self : goal.invariant_of-self
 invariant_of-self g c = (
   shaped_on c.self.inside.settings c.self.inside.number c.self.inside.replicas.items c.self.inside.replicas.items c.self.inside.rows c.reserve.new.self c.self.inside.front c.self.inside.front c.self.inside.frozen c.self.inside.frozen c.self.inside.unsure c.self.inside.unsure
-      c.self.invariant.0 (c.self.invariant.0).frozen_by refl (λ j r r' e f. ap (λ x. x.sup) (at_same c.self.inside.replicas.items j r' r f e)) c.reserve.ensures.rows.replicas (λ none j r r' e f. (c.self.invariant.0).thawed none j r' f),
+      c.self.invariant.0 (c.self.invariant.0).frozen_by (c.self.invariant.0).settled refl (λ j r r' e f. ap (λ x. x.sup) (at_same c.self.inside.replicas.items j r' r f e)) c.reserve.ensures.rows.replicas (λ none j r r' e f. (c.self.invariant.0).thawed none j r' f),
   c.self.invariant.1,
   same_rows g.D.Disk.Tells g.D.Disk.files c.self.inside.replicas.items c.self.inside.replicas.items c.self.inside.rows c.reserve.new.self c.self.invariant.2 refl
       (λ j r r' e f. let same = at_same c.self.inside.replicas.items j r' r f e in (λ u. subst (λ (x : Copy g.row.D.Denot). IsUp x) same u, λ u. subst (λ (x : Copy g.row.D.Denot). IsOpenCopy x) same u))
@@ -112,7 +112,7 @@ invariant_of-self-in-Ok g c =
     λ j r r' e f. c.in-Ok.ensures.put j r r' (subst (λ xs. At xs j r) (sym now) e) f in (
       subst (λ rs. IsShaped (volume_with c.self.inside.settings c.self.inside.number rs c.reserve.new.self c.self.inside.front c.self.inside.frozen c.self.inside.unsure)) (sym kept)
           (shaped_on c.self.inside.settings c.self.inside.number c.self.inside.replicas.items c.put_each.new.replicas c.self.inside.rows c.reserve.new.self c.self.inside.front c.self.inside.front c.self.inside.frozen c.self.inside.frozen c.self.inside.unsure c.self.inside.unsure
-          c.self.invariant.0 (c.self.invariant.0).frozen_by (c.put_each.ensures.counts.count ∙ ap length now) (λ j r r' e f. (each j r r' e f).sup) c.reserve.ensures.rows.replicas (λ none j r r' e f. up_thawed r' (each j r r' e f).up)),
+          c.self.invariant.0 (c.self.invariant.0).frozen_by (c.self.invariant.0).settled (c.put_each.ensures.counts.count ∙ ap length now) (λ j r r' e f. (each j r r' e f).sup) c.reserve.ensures.rows.replicas (λ none j r r' e f. up_thawed r' (each j r r' e f).up)),
       c.self.invariant.1,
       subst (λ rs. CanReach g.D.Disk.Tells g.D.Disk.files rs c.reserve.new.self) (sym kept)
           (same_rows g.D.Disk.Tells g.D.Disk.files c.self.inside.replicas.items c.put_each.new.replicas c.self.inside.rows c.reserve.new.self c.self.invariant.2 (c.put_each.ensures.counts.count ∙ ap length now) (λ j r r' e f. (λ u. up j r e, λ u. up_open r (up j r e))) (λ j r r' e f. c.put_each.ensures.reach j r r' (subst (λ xs. At xs j r) (sym now) e) f) c.reserve.ensures.rows.rows),
@@ -139,7 +139,7 @@ invariant_of-self-then-is_untouched g c =
     let remains = put_remains g.D.Disk.Tells g.D.Disk.files g.D.Disk.fault_count c.args.pair c.args.cookie c.args.bytes.now c.self.inside.replicas.items c.put_each.new.replicas c.in-Err.broken left up in (
       subst (λ rs. IsShaped (volume_with c.self.inside.settings c.self.inside.number rs c.reserve.new.self c.self.inside.front c.self.inside.frozen c.self.inside.unsure)) (sym kept)
           (shaped_on c.self.inside.settings c.self.inside.number c.self.inside.replicas.items c.put_each.new.replicas c.self.inside.rows c.reserve.new.self c.self.inside.front c.self.inside.front c.self.inside.frozen c.self.inside.frozen c.self.inside.unsure c.self.inside.unsure
-          c.self.invariant.0 (c.self.invariant.0).frozen_by (c.put_each.ensures.counts.count ∙ ap length now) (λ j r r' e f. (remains j r r' e f).sup) c.reserve.ensures.rows.replicas
+          c.self.invariant.0 (c.self.invariant.0).frozen_by (c.self.invariant.0).settled (c.put_each.ensures.counts.count ∙ ap length now) (λ j r r' e f. (remains j r r' e f).sup) c.reserve.ensures.rows.replicas
           (λ none j r r' e f. all_thawed g.D.Disk.Tells g.D.Disk.files g.D.Disk.fault_count c.args.pair c.args.cookie c.args.bytes.now c.self.inside.replicas.items c.put_each.new.replicas c.in-Err.broken left un up j r r' e f)),
       c.self.invariant.1,
       subst (λ rs. CanReach g.D.Disk.Tells g.D.Disk.files rs c.reserve.new.self) (sym kept)
@@ -219,7 +219,7 @@ invariant_of-self-in-Err g c =
     let remains = put_remains g.D.Disk.Tells g.D.Disk.files g.D.Disk.fault_count c.args.pair c.args.cookie c.args.bytes.now c.self.inside.replicas.items c.put_each.new.replicas c.in-Err.broken left up in (
       subst (λ rs. IsShaped (volume_with c.self.inside.settings c.self.inside.number rs c.reserve.new.self c.self.inside.front (Some c.put_refusal-refusal.result.machine) (Some (record { tag = c.args.tag; change = change.Put c.ends_of-ends.result })))) (sym kept)
           (shaped_on c.self.inside.settings c.self.inside.number c.self.inside.replicas.items c.put_each.new.replicas c.self.inside.rows c.reserve.new.self c.self.inside.front c.self.inside.front c.self.inside.frozen (Some c.put_refusal-refusal.result.machine) c.self.inside.unsure (Some (record { tag = c.args.tag; change = change.Put c.ends_of-ends.result }))
-          c.self.invariant.0 (frozen_refusal c.self.inside.settings c.self.inside.number c.in-Err.broken.at c.in-Err.broken.fault c.put_refusal-refusal.result ((c.self.invariant.0).settings).some within c.put_refusal-refusal.ensures) (c.put_each.ensures.counts.count ∙ ap length now) (λ j r r' e f. (remains j r r' e f).sup) c.reserve.ensures.rows.replicas (λ none j r r' e f. some_none none)),
+          c.self.invariant.0 (frozen_refusal c.self.inside.settings c.self.inside.number c.in-Err.broken.at c.in-Err.broken.fault c.put_refusal-refusal.result ((c.self.invariant.0).settings).some within c.put_refusal-refusal.ensures) (λ none. some_none none) (c.put_each.ensures.counts.count ∙ ap length now) (λ j r r' e f. (remains j r r' e f).sup) c.reserve.ensures.rows.replicas (λ none j r r' e f. some_none none)),
       c.self.invariant.1,
       subst (λ rs. CanReach g.D.Disk.Tells g.D.Disk.files rs c.reserve.new.self) (sym kept)
           (same_rows g.D.Disk.Tells g.D.Disk.files c.self.inside.replicas.items c.put_each.new.replicas c.self.inside.rows c.reserve.new.self c.self.invariant.2 (c.put_each.ensures.counts.count ∙ ap length now) (λ j r r' e f. (λ u. up j r e, λ u. up_open r (up j r e))) (λ j r r' e f. c.put_each.ensures.reach j r r' (subst (λ xs. At xs j r) (sym now) e) f) c.reserve.ensures.rows.rows),
@@ -403,8 +403,12 @@ returns-then-is_untouched-clause-refused_unsure g c = inl (ap (λ v. v.unsure) c
 pub returns-else-is_untouched-clause-refused_unsure : goal.returns-else-is_untouched-clause-refused_unsure
 returns-else-is_untouched-clause-refused_unsure g c =
     put_broken c.self.inside.settings c.self.inside.number c.in-Err.broken.at c.args.tag (change.Put c.ends_of-ends.result) c.args.self.now.unsure c.in-Err.broken.fault c.put_refusal-refusal.result c.put_refusal-refusal.ensures
+    (ap (λ v. v.unsure) (sym c.self.view_is) ∙ (c.self.invariant.0).settled (ap (λ v. v.frozen) c.self.view_is ∙ c.in_ok-room.ensures.fits.0))
 
 pub returns-in-Ok-clause-of : goal.returns-in-Ok-clause-of
 returns-in-Ok-clause-of g c =
-    let next : c.in-Some.position ≡ c.self.inside.front + 1 = (let h = c.in-Some.ensures in omega (arith, h)) in
-    (refl, next ∙ ap (λ v. v.front + 1) c.self.view_is)
+    let next : c.in-Some.position ≡ c.self.inside.front + 1 = (let h = c.in-Some.ensures in omega (arith, h)) in (
+      refl,
+      next ∙ ap (λ v. v.front + 1) c.self.view_is,
+      c.in-Ok.ensures.places ∙ ap length c.as_mut_slice.ensures.value ∙ ap (λ v. length v.replicas) c.self.view_is ∙ c.requires.«open».all,
+    )
