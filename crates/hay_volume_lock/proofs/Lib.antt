@@ -1,5 +1,7 @@
 pub mod Counting
+pub mod Examining
 pub mod Finding
 pub mod Growing
 pub mod Holding
+pub mod Stepping
 pub mod Telling

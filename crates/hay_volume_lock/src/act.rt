@@ -18,6 +18,9 @@ pub enum Made {
     Sticks { replica: u32 },
     Begins { replica: u32 },
     Fuses { replica: u32 },
+    Examines { replica: u32, cells: u64 },
+    Ends { replica: u32 },
+    Poises { machine: u32, replica: u32 },
 }
 
 /// An act for a line, and the volume behind it. It is for clauses alone, which see a `VolumeAct`.

@@ -17,12 +17,14 @@
 #![tactic(auto)]
 
 mod act;
+mod compactions;
 mod guarded;
 mod lock;
 mod seat;
 mod told;
 
 pub use act::Act;
+pub use compactions::Examined;
 pub use guarded::{Guarded, Opened};
 pub use lock::VolumeLock;
 pub use seat::VolumeSeat;

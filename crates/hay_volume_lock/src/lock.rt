@@ -13,7 +13,7 @@ use std::sync::Wait;
 
 /// A volume behind its lock. Clauses see which lock it is.
 pub struct VolumeLock<D: Disk<Piece = P> + Send + Sync, P: Piece + Send + Sync> {
-    turn: Turn<Guarded<D, P>>,
+    pub(crate) turn: Turn<Guarded<D, P>>,
 }
 
 impl<D: Disk<Piece = P> + Send + Sync, P: Piece + Send + Sync> Model for VolumeLock<D, P> {
