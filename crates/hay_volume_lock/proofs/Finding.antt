@@ -1,6 +1,6 @@
 -- What a call found and did, as a step of a lane.
 use Rattle.std.proofs.Common.{◌⊎◌, ◌≡◌, ◌≢◌, inl, inr, ℕ, ◌+◌, ◌<◌, ◌≤◌, List, [], ◌∷◌, ◌++◌, length, Option, Some, None, option_map, refl, sym, ap, subst, ◌∙◌, arith}
-use Rattle.std.specs.Prelude.{◌==◌, slice_index_or, find, IsNone, IfSome, ◌↔◌, Result, Ok, Err}
+use Rattle.std.specs.Prelude.{◌==◌, false, slice_index_or, find, IsNone, IfSome, ◌↔◌, Result, Ok, Err, IfOk, IfErr}
 use Rattle.std.specs.List.{enumerate_from}
 use Rattle.std.proofs.lemmas.Bool.{cases_order, cond-true, eq-eqb}
 use Rattle.std.proofs.lemmas.List.{get_or-set_same}
@@ -23,6 +23,7 @@ use Rattle.hay_logical.specs.Stands.{Stands}
 use Rattle.hay_logical.specs.Volumes.{IsOfSettings, IsOpenVolume, IsSame}
 use Rattle.hay_logical.proofs.Lists.{at_there}
 use Rattle.hay_logical.proofs.Machines.{same_machine}
+use Rattle.hay_map.specs.Rows.{row_at}
 use Rattle.hay_meeting.specs.declared.act.VolumeAct.{VolumeAct}
 use Rattle.hay_meeting.specs.Acts.{begun_at, begun_of, did_of, entry_of, known_by, nobody, volume_lock}
 use Rattle.hay_meeting.specs.Facts.{volume_stood}
@@ -37,13 +38,14 @@ use Rattle.hay_reply.specs.declared.Refused.{Refused}
 use Rattle.hay_reply.specs.declared.Refused.TheVariants.{Closed, NoRoom}
 use Rattle.hay_volume_lock.specs.Acts.{act_of, counts, did_by}
 use Rattle.hay_volume_lock.specs.Answers.{BeginAnswer, BeginRefused, FailedLook, FlushAnswer, FlushRefused, Found, FoundAlways, FrozenAnswer, IsAt, RoomAnswer, StoreVolume}
-use Rattle.hay_volume_lock.specs.Keeping.{GoesOn, IsKept, stood_of}
+use Rattle.hay_volume_lock.specs.Keeping.{EndsOwn, GoesOn, IsKept, ends_at, stood_of}
+use Rattle.hay_volume_lock.specs.Tries.{IsTried, begin_made, flush_made}
 use Rattle.hay_volume_lock.specs.declared.act.Made.{Made}
 use Rattle.hay_volume_lock.specs.declared.act.Made.TheVariants as made_is
 use Rattle.hay_volume_lock.specs.declared.guarded.Guarded.{Guarded}
 use Rattle.hay_volume_lock.specs.declared.guarded.Opened.{Opened}
 use Rattle.hay_volume_lock.proofs.Counting.{count_one, count_there}
-use Rattle.hay_volume_lock.proofs.Growing.{FusesStay, IsOfOne, LeadsFusesOf, LeadsTo, begun_more, goes_more, goes_tried, no_fuse}
+use Rattle.hay_volume_lock.proofs.Growing.{FusesStay, IsOfOne, LeadsFusesOf, LeadsTo, begun_more, ends_none, goes_more, goes_tried, no_fuse}
 use Rattle.hay_volume_lock.proofs.Holding.{stood_is}
 
 -- WHETHER IT TAKES A CHANGE
@@ -160,22 +162,30 @@ module _ {D P : Type 0} (Tells : Type 0) (files : D → Files) (PieceTells : Typ
   nothing_made None act = tt
   nothing_made (Some made) act = ap (λ (z : VolumeAct). did_of z.did) act
 
-  module _ (of : IsOfOne faults old new) (stay : FusesStay fuses old new) (j : ℕ) (within : j < ((old.logical).settings).replicas) where
+  module _ (of : IsOfOne faults old new) (stay : FusesStay fuses old new) (ended : new.ended ≡ old.ended) (j : ℕ) (within : j < ((old.logical).settings).replicas) where
     more : (made : Made) → entry_of (did_by made) ≡ None → LeadsFusesOf fuses old new (did_of (did_by made))
         → (Tells → (before : Standing) → Stands files PieceTells old.logical before.volume → LeadsTo Tells files PieceTells faults fuses tag old new made before)
         → ((i : ℕ) → i < (old.settings).replicas → slice_index_or new.begun i nobody ≡ begun_in i tag (did_of (did_by made)) (slice_index_or old.begun i nobody))
+        → ((i : ℕ) → ends_at i (did_by made) ≡ false) → ((i : ℕ) → EndsOwn (did_of (did_by made)) i → ⊥)
         → (act : VolumeAct) → Behind made act → Goes (Some act)
-    more made quiet fuses_lead leads begun act is = goes_more Tells files PieceTells faults fuses tag old new made of fuses_lead quiet leads begun act is
+    more made quiet fuses_lead leads begun none own act is =
+        goes_more Tells files PieceTells faults fuses tag old new made of fuses_lead quiet leads begun
+        (ends_none Tells files PieceTells old new (act_of faults fuses tag made (new.logical).replicas) none own ended) act is
 
     none_set : LeadsFusesOf fuses old new Tries
     none_set = no_fuse Tells files PieceTells faults fuses tag old new of stay
 
     tried : (Tells → (k : VolumeKnown) → Stands files PieceTells old.logical k → Stands files PieceTells new.logical k) → new.begun ≡ old.begun
         → (made : Option VolumeAct) → (IsNone made ↔ (counts faults (old.logical).replicas ≡ counts faults (new.logical).replicas)) → IfSome made (Behind made_is.Tries) → Goes made
-    tried stands begun made even act = goes_tried Tells files PieceTells faults fuses tag old new of stay stands begun made even act
+    tried stands begun made even act = goes_tried Tells files PieceTells faults fuses tag old new of stay stands begun ended made even act
 
     same_begun : new.begun ≡ old.begun → (i : ℕ) → i < (old.settings).replicas → slice_index_or new.begun i nobody ≡ slice_index_or old.begun i nobody
     same_begun begun i less = ap (λ (l : List CoreTag). slice_index_or l i nobody) begun
+
+    -- by the act of the answer
+    abbrev Acts : Option Made → Option VolumeAct → Type 0
+    Acts did made = ((m : Made) → did ≡ Some m → made ≡ Some (act_of faults fuses tag m (new.logical).replicas))
+        × (did ≡ None → IsTried faults fuses tag (counts faults (old.logical).replicas) (new.logical).replicas made)
 
     -- FLUSHES
 
@@ -184,7 +194,7 @@ module _ {D P : Type 0} (Tells : Type 0) (files : D → Files) (PieceTells : Typ
     flush_ok begun n flushed act is = (
       more (made_is.Flushes j) refl none_set
           (λ tells before s. let f = flushed tells before.volume s in record { leads = (f.thawed, within, f.loose, refl); stands = f.stands })
-          (same_begun begun) act is,
+          (same_begun begun) (λ i. refl) (λ i own. own) act is,
       λ opened held h tells k s volume at a b holding. record {
         held = held;
         made = Some act;
@@ -204,7 +214,7 @@ module _ {D P : Type 0} (Tells : Type 0) (files : D → Files) (PieceTells : Typ
     flush_failed begun m f machine failed refused act is =
         let goes : Goes (Some act) = more (made_is.Sticks j) refl none_set
         (λ tells before s. let r = refused tells before.volume s in record { leads = (r.0, within, r.1, refl); stands = r.3 })
-        (same_begun begun) act is in (
+        (same_begun begun) (λ i. refl) (λ i own. own) act is in (
           goes,
           λ opened held h k volume at a b holding.
               let rose = failed_act act goes j m f within machine failed opened held h k volume at in (
@@ -266,6 +276,46 @@ module _ {D P : Type 0} (Tells : Type 0) (files : D → Files) (PieceTells : Typ
         found Idle not now volume held a b holding there machine r = absurd r
         found (Damaged m at) not now volume held a b holding there machine r = absurd r
 
+    flush_rest : new.begun ≡ old.begun → (fault : LogicalFault) → ((m f : ℕ) → fault ≡ Failed m f → ⊥)
+        → (Tells → (k : VolumeKnown) → Stands files PieceTells old.logical k → logical.FlushRefused files PieceTells k j old.logical new.logical fault)
+        → (made : Option VolumeAct) → IsTried faults fuses tag (counts faults (old.logical).replicas) (new.logical).replicas made
+        → Goes made × Finds made (λ volume. FlushRefused volume tag j fault)
+        × ((m f : ℕ) → Err fault ≡ Err (Failed m f) → Always made (λ volume. FlushRefused volume tag j (Failed m f)))
+    flush_rest begun fault not refused made tried =
+        let found = flush_refused begun fault not refused made tried.quiet tried.is in
+        (found.0, found.1, λ m f e. absurd (not m f (let same : fault ≡ Failed m f = cc e in same)))
+
+    pub flush_found : new.begun ≡ old.begun → (answer : Result ℕ LogicalFault)
+        → (Tells → (k : VolumeKnown) → Stands files PieceTells old.logical k → IfOk answer (λ n. logical.IsFlushed files PieceTells k j n new.logical))
+        → (Tells → (k : VolumeKnown) → Stands files PieceTells old.logical k → IfErr answer (logical.FlushRefused files PieceTells k j old.logical new.logical))
+        → IfErr answer (logical.IsFlushFault faults (old.logical).settings (old.logical).number j (old.logical).replicas (new.logical).replicas)
+        → (made : Option VolumeAct) → Acts (flush_made j answer) made
+        → Goes made × Finds made (λ volume. FlushAnswer volume tag j answer)
+        × ((m f : ℕ) → answer ≡ Err (Failed m f) → Always made (λ volume. FlushRefused volume tag j (Failed m f)))
+    flush_found begun (Ok n) flushed refused cause made acts =
+        let is = acts.0 (made_is.Flushes j) refl in
+        let found = flush_ok begun n flushed (act_of faults fuses tag (made_is.Flushes j) (new.logical).replicas) refl in
+        subst (λ (z : Option VolumeAct). Goes z × Finds z (λ volume. FlushAnswer volume tag j (Ok n)) × ((m f : ℕ) → Ok n ≡ Err (Failed m f) → Always z (λ volume. FlushRefused volume tag j (Failed m f))))
+        (sym is) (found.0, found.1, λ m f e. absurd cc)
+    flush_found begun (Err (Failed m f)) flushed refused cause made acts =
+        let is = acts.0 (made_is.Sticks j) refl in
+        let found = flush_failed begun m f cause.0 cause.1 refused (act_of faults fuses tag (made_is.Sticks j) (new.logical).replicas) refl in
+        subst (λ (z : Option VolumeAct). Goes z × Finds z (λ volume. FlushAnswer volume tag j (Err (Failed m f)))
+        × ((m' f' : ℕ) → Err (Failed m f) ≡ Err (Failed m' f') → Always z (λ volume. FlushRefused volume tag j (Failed m' f'))))
+        (sym is) (
+          found.0,
+          λ opened held h tells k s volume at. found.1 opened held h k volume at,
+          λ m' f' e. subst (λ (r : Result ℕ LogicalFault). IfErr r (λ fault. Always (Some (act_of faults fuses tag (made_is.Sticks j) (new.logical).replicas)) (λ volume. FlushRefused volume tag j fault))) e found.1,
+        )
+    flush_found begun (Err (ReadOnly m)) flushed refused cause made acts = flush_rest begun (ReadOnly m) (λ m f e. absurd cc) refused made (acts.1 refl)
+    flush_found begun (Err NoMemory) flushed refused cause made acts = flush_rest begun NoMemory (λ m f e. absurd cc) refused made (acts.1 refl)
+    flush_found begun (Err (Full m end need capacity)) flushed refused cause made acts = flush_rest begun (Full m end need capacity) (λ m f e. absurd cc) refused made (acts.1 refl)
+    flush_found begun (Err (Gone front)) flushed refused cause made acts = flush_rest begun (Gone front) (λ m f e. absurd cc) refused made (acts.1 refl)
+    flush_found begun (Err (Busy m g)) flushed refused cause made acts = flush_rest begun (Busy m g) (λ m f e. absurd cc) refused made (acts.1 refl)
+    flush_found begun (Err (Worn m)) flushed refused cause made acts = flush_rest begun (Worn m) (λ m f e. absurd cc) refused made (acts.1 refl)
+    flush_found begun (Err Idle) flushed refused cause made acts = flush_rest begun Idle (λ m f e. absurd cc) refused made (acts.1 refl)
+    flush_found begun (Err (Damaged m at)) flushed refused cause made acts = flush_rest begun (Damaged m at) (λ m f e. absurd cc) refused made (acts.1 refl)
+
     -- COMPACTIONS THAT BEGIN
 
     pub begin_ok : ((i : ℕ) → i < (old.settings).replicas → slice_index_or new.begun i nobody ≡ begun_in i tag (Begins j) (slice_index_or old.begun i nobody))
@@ -277,7 +327,7 @@ module _ {D P : Type 0} (Tells : Type 0) (files : D → Files) (PieceTells : Typ
             leads = ((i.thawed, within, (i.rest).0, (i.rest).1, refl));
             stands = subst (λ (n : ℕ). Stands files PieceTells new.logical (logical.change_at before.volume j (with_run (record { goal = n; left = (replica_at before.volume j).cells })))) i.next i.stands;
           })
-          begun act is,
+          begun (λ i. refl) (λ i own. own) act is,
       λ opened held h tells k s volume at a b holding.
           let there : stood_of faults fuses opened k held ≡ stood volume.start volume.number held = stood_is faults fuses opened k volume held at in
           let s_old = h.stands tells k s in
@@ -316,7 +366,7 @@ module _ {D P : Type 0} (Tells : Type 0) (files : D → Files) (PieceTells : Typ
     begin_failed begun m f machine failed refused act is =
         let goes : Goes (Some act) = more made_is.Tries refl none_set
         (λ tells before s. record { leads = refl; stands = (refused tells before.volume s).3 })
-        (same_begun begun) act is in (
+        (same_begun begun) (λ i. refl) (λ i own. own) act is in (
           goes,
           λ opened held h k volume at a b holding.
               let rose = failed_act act goes j m f within machine failed opened held h k volume at in (
@@ -407,6 +457,55 @@ module _ {D P : Type 0} (Tells : Type 0) (files : D → Files) (PieceTells : Typ
         found Idle not now volume held a b holding there machine r = absurd r
         found (Damaged m at) not now volume held a b holding there machine r = absurd r
 
+    begin_rest : new.begun ≡ old.begun → (fault : LogicalFault) → ((m f : ℕ) → fault ≡ Failed m f → ⊥)
+        → (Tells → (k : VolumeKnown) → Stands files PieceTells old.logical k → logical.BeginRefused files PieceTells k j old.logical new.logical fault)
+        → (made : Option VolumeAct) → IsTried faults fuses tag (counts faults (old.logical).replicas) (new.logical).replicas made
+        → Goes made × Finds made (λ volume. BeginRefused volume tag j fault)
+        × ((m f : ℕ) → Err fault ≡ Err (Failed m f) → Always made (λ volume. FailedLook volume tag j m f))
+    begin_rest begun fault not refused made tried =
+        let found = begin_refused begun fault not refused made tried.quiet tried.is in
+        (found.0, found.1, λ m f e. absurd (not m f (let same : fault ≡ Failed m f = cc e in same)))
+
+    -- who began the compactions, by the answer
+    abbrev pub BegunBy : Result ℕ LogicalFault → Type 0
+    BegunBy (Ok g) = (i : ℕ) → i < (old.settings).replicas → slice_index_or new.begun i nobody ≡ begun_in i tag (Begins j) (slice_index_or old.begun i nobody)
+    BegunBy (Err fault) = new.begun ≡ old.begun
+
+    pub begin_found : (answer : Result ℕ LogicalFault) → BegunBy answer
+        → (Tells → (k : VolumeKnown) → Stands files PieceTells old.logical k → IfOk answer (λ g. logical.IsBegun files PieceTells k j g new.logical))
+        → (Tells → (k : VolumeKnown) → Stands files PieceTells old.logical k → IfErr answer (logical.BeginRefused files PieceTells k j old.logical new.logical))
+        → IfErr answer (logical.IsBeginFault faults (old.logical).settings (old.logical).number j (old.logical).replicas (new.logical).replicas)
+        → (made : Option VolumeAct) → Acts (begin_made j answer) made
+        → Goes made × Finds made (λ volume. BeginAnswer volume tag j answer)
+        × ((m f : ℕ) → answer ≡ Err (Failed m f) → Always made (λ volume. FailedLook volume tag j m f))
+    begin_found (Ok g) begun is_begun refused cause made acts =
+        let is = acts.0 (made_is.Begins j) refl in
+        let found = begin_ok begun g is_begun (act_of faults fuses tag (made_is.Begins j) (new.logical).replicas) refl in
+        subst (λ (z : Option VolumeAct). Goes z × Finds z (λ volume. BeginAnswer volume tag j (Ok g)) × ((m f : ℕ) → Ok g ≡ Err (Failed m f) → Always z (λ volume. FailedLook volume tag j m f)))
+        (sym is) (found.0, found.1, λ m f e. absurd cc)
+    begin_found (Err (Failed m f)) begun is_begun refused cause made acts =
+        let is = acts.0 made_is.Tries refl in
+        let found = begin_failed begun m f cause.0 cause.1 refused (act_of faults fuses tag made_is.Tries (new.logical).replicas) refl in
+        subst (λ (z : Option VolumeAct). Goes z × Finds z (λ volume. BeginAnswer volume tag j (Err (Failed m f)))
+        × ((m' f' : ℕ) → Err (Failed m f) ≡ Err (Failed m' f') → Always z (λ volume. FailedLook volume tag j m' f')))
+        (sym is) (
+          found.0,
+          found.2,
+          λ m' f' e.
+              let machine : m ≡ m' = cc e in
+              let count : f ≡ f' = cc e in
+              subst (λ (x : ℕ). Always (Some (act_of faults fuses tag made_is.Tries (new.logical).replicas)) (λ volume. FailedLook volume tag j x f')) machine
+              (subst (λ (x : ℕ). Always (Some (act_of faults fuses tag made_is.Tries (new.logical).replicas)) (λ volume. FailedLook volume tag j m x)) count found.1),
+        )
+    begin_found (Err (ReadOnly m)) begun is_begun refused cause made acts = begin_rest begun (ReadOnly m) (λ m f e. absurd cc) refused made (acts.1 refl)
+    begin_found (Err NoMemory) begun is_begun refused cause made acts = begin_rest begun NoMemory (λ m f e. absurd cc) refused made (acts.1 refl)
+    begin_found (Err (Full m end need capacity)) begun is_begun refused cause made acts = begin_rest begun (Full m end need capacity) (λ m f e. absurd cc) refused made (acts.1 refl)
+    begin_found (Err (Gone front)) begun is_begun refused cause made acts = begin_rest begun (Gone front) (λ m f e. absurd cc) refused made (acts.1 refl)
+    begin_found (Err (Busy m g)) begun is_begun refused cause made acts = begin_rest begun (Busy m g) (λ m f e. absurd cc) refused made (acts.1 refl)
+    begin_found (Err (Worn m)) begun is_begun refused cause made acts = begin_rest begun (Worn m) (λ m f e. absurd cc) refused made (acts.1 refl)
+    begin_found (Err Idle) begun is_begun refused cause made acts = begin_rest begun Idle (λ m f e. absurd cc) refused made (acts.1 refl)
+    begin_found (Err (Damaged m at)) begun is_begun refused cause made acts = begin_rest begun (Damaged m at) (λ m f e. absurd cc) refused made (acts.1 refl)
+
   -- FUSES
 
   module _ (of : IsOfOne faults old new) (j : ℕ) (within : j < ((old.logical).settings).replicas) where
@@ -422,24 +521,26 @@ module _ {D P : Type 0} (Tells : Type 0) (files : D → Files) (PieceTells : Typ
           λ i other. is i ∙ count_one fuses (old.logical).replicas (new.logical).replicas of.count (λ a b. b ≡ a) refl i (stay i other) ∙ sym (was i),
         )
 
-    pub fuse_made : new.begun ≡ old.begun → LeadsFusesOf fuses old new (Fuses j) → (Tells → (k : VolumeKnown) → Stands files PieceTells old.logical k → Stands files PieceTells new.logical k)
+    pub fuse_made : new.begun ≡ old.begun → new.ended ≡ old.ended → LeadsFusesOf fuses old new (Fuses j) → (Tells → (k : VolumeKnown) → Stands files PieceTells old.logical k → Stands files PieceTells new.logical k)
         → (act : VolumeAct) → Behind (made_is.Fuses j) act → Goes (Some act) × Always (Some act) (λ volume. Fused volume.settings volume.start volume.number tag j)
-    fuse_made begun leads stands act is = (
+    fuse_made begun ended leads stands act is = (
       goes_more Tells files PieceTells faults fuses tag old new (made_is.Fuses j) of leads refl
           (λ tells before s. record { leads = (within, refl); stands = stands tells before.volume s })
-          (λ i less. ap (λ (l : List CoreTag). slice_index_or l i nobody) begun) act is,
+          (λ i less. ap (λ (l : List CoreTag). slice_index_or l i nobody) begun)
+          (ends_none Tells files PieceTells old new (act_of faults fuses tag (made_is.Fuses j) (new.logical).replicas) (λ i. refl) (λ i own. own) ended) act is,
       λ opened held h k volume at a b holding. record { held = held; made = Some act; holding = holding; is = ap (λ (z : VolumeAct). did_of z.did) is },
     )
 
   -- what a call that sets a fuse tells of the volume and of its disks
   pub fuse_goes : IsOpenVolume old.logical → IsOpenVolume new.logical → IsSame old.logical new.logical → length (new.logical).replicas ≡ length (old.logical).replicas
-      → new.settings ≡ old.settings → new.front ≡ old.front → new.begun ≡ old.begun → (j : ℕ) → j < ((old.logical).settings).replicas
+      → new.logical ≡ record old.logical { replicas = (new.logical).replicas }
+      → new.settings ≡ old.settings → new.front ≡ old.front → new.begun ≡ old.begun → new.ended ≡ old.ended → (j : ℕ) → j < ((old.logical).settings).replicas
       → ((r r' : Copy D) → At (old.logical).replicas j r → At (new.logical).replicas j r' → IsNext (fuses r.disk) (fuses r'.disk) × (faults r'.disk ≡ faults r.disk))
       → ((i : ℕ) → (i ≡ j → ⊥) → (r r' : Copy D) → At (old.logical).replicas i r → At (new.logical).replicas i r' → r' ≡ r)
       → (Tells → (k : VolumeKnown) → Stands files PieceTells old.logical k → Stands files PieceTells new.logical k)
       → (act : VolumeAct) → Behind (made_is.Fuses j) act → Goes (Some act) × Always (Some act) (λ volume. Fused volume.settings volume.start volume.number tag j)
-  fuse_goes open_old open_new same count settings front begun j within fused others stands act is =
-      fuse_made of j within begun
+  fuse_goes open_old open_new same count still settings front begun ended j within fused others stands act is =
+      fuse_made of j within begun ended
       (fuse_leads of j within open_old.all (λ r r' e f. (fused r r' e f).0) (λ i other r r' e f. ap (λ (x : Copy D). fuses x.disk) (others i other r r' e f))) stands act is
     where
       rises : (i : ℕ) (r r' : Copy D) → At (old.logical).replicas i r → At (new.logical).replicas i r' → faults r.disk ≤ faults r'.disk
@@ -457,4 +558,13 @@ module _ {D P : Type 0} (Tells : Type 0) (files : D → Files) (PieceTells : Typ
           apart i j (inr more) same = omega (arith, more, same)
 
       of : IsOfOne faults old new
-      of = record { settings = settings; front = front; same = same; is_open = open_new; count = count; rises = rises }
+      of = record {
+        settings = settings;
+        front = front;
+        same = same;
+        is_open = open_new;
+        count = count;
+        rises = rises;
+        thawed = λ thawed. sym (ap (λ v. v.frozen) still) ∙ thawed;
+        rows = λ thawed pair. ap (λ v. row_at v.rows pair) still;
+      }

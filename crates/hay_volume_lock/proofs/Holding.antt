@@ -19,7 +19,8 @@ use Rattle.hay_turn.specs.Seats.{Holds, SeatState, after_free}
 use Rattle.hay_views.specs.declared.places.Published.{Published}
 use Rattle.hay_views.specs.MapPasts.{MapPast, entered_by}
 use Rattle.hay_holdings.specs.Volumes.{VolumeCall}
-use Rattle.hay_turn.specs.Acts.{AllOf}
+use Rattle.hay_turn.specs.Acts.{AllOf, acts_of}
+use Rattle.hay_turn.proofs.ActLists.{acts_of_all, acts_of_append}
 use Rattle.hay_turn.specs.Slots.{acts_in}
 use Rattle.hay_volume_lock.specs.Answers.{Found, FoundAlways, IsAlways, IsAt, IsTold, OneHolding, StoreVolume}
 use Rattle.hay_volume_lock.specs.Keeping.{GoesOn, IsKept, stood_of}
@@ -88,7 +89,7 @@ View D P = Witness (MapPast P (Volume D P)) (Volume D P) (Published P)
 
 -- a lane's seats at the turn and at the view
 abbrev pub seat_of : {D P : Type 0} → SeatState (Opened D P) VolumeAct → View D P → Seated D P
-seat_of t v = record { lock = t.turn; number = t.number; start = t.start; holds = t.holds; sight = sight_of t (entered_by v.deeds) }
+seat_of t v = record { lock = t.turn; number = t.number; seats = t.seats; start = t.start; holds = t.holds; sight = sight_of t (entered_by v.deeds) }
 
 entered_both : {P : Type 0} (xs ys : List (Published P)) → entered_by (xs ++ ys) ≡ entered_by xs ++ entered_by ys
 entered_both [] ys = refl
@@ -98,10 +99,10 @@ pub entered_prefix : {P : Type 0} (xs ys : List (Published P)) → IsPrefix xs y
 entered_prefix xs ys p = (entered_by p.0, sym (entered_both xs p.0) ∙ ap entered_by p.1)
 
 module _ {D P : Type 0} (Tells : Type 0) (files : D → Files) (PieceTells : Type 0) (faults fuses : D → ℕ) where
-  pub took : (t t' : SeatState (Opened D P) VolumeAct) (v v' : View D P) (kept : Guarded D P) → IsSeated Tells t.start v
+  pub took : (t t' : SeatState (Opened D P) VolumeAct) {stood : ℕ} (v v' : View D P) (kept : Guarded D P) → IsSeated t stood v
       → Holds (λ act. act.seat) (λ opened acts x. IsKept Tells files PieceTells faults fuses opened acts x) t t' kept
       → IsBehind v (kept.front).shown → v' ≡ (kept.front).shown → Takes Tells files PieceTells faults fuses (seat_of t v) (seat_of t' v') kept
-  took t t' v v' kept seated holds behind all =
+  took t t' {stood} v v' kept seated holds behind all =
       let is_kept : IsKept Tells files PieceTells faults fuses seated.opened t'.seen kept = holds.stands_for seated.opened seated.is in record {
         opened = seated.opened;
         start = seated.is;
@@ -113,50 +114,77 @@ module _ {D P : Type 0} (Tells : Type 0) (files : D → Files) (PieceTells : Typ
         shown = subst (λ (l : List Entry). IsPrefix (entered_by v.deeds) l) is_kept.entered (entered_prefix v.deeds ((kept.front).shown).deeds behind.2);
       }
 
-  -- a holding that made no act
-  module _ (tag : CoreTag) (t t' t'' : SeatState (Opened D P) VolumeAct) (v v' : View D P) (kept : Guarded D P) (seated : IsSeated Tells t.start v)
+  -- the seat goes on behind a holding
+  seated_behind : (t t' t'' : SeatState (Opened D P) VolumeAct) {stood : ℕ} (v v' : View D P) (kept : Guarded D P) (made : List VolumeAct) → IsSeated t stood v
+      → Holds (λ act. act.seat) (λ opened acts x. IsKept Tells files PieceTells faults fuses opened acts x) t t' kept
+      → IsBehind v v' → AllOf (λ act. act.seat) t.number made → t'' ≡ after_free t' made → IsSeated t'' stood v'
+  seated_behind t t' t'' {stood} v v' kept made seated holds behind mine free =
+      subst (λ (z : SeatState (Opened D P) VolumeAct). IsSeated z stood v') (sym free) (record {
+        opened = seated.opened;
+        is = ap (λ (z : SeatState (Opened D P) VolumeAct). z.start) holds.same ∙ seated.is;
+        from = seated.from;
+        stood_is = seated.stood_is;
+        front = sym behind.0 ∙ seated.front;
+        base = sym behind.1 ∙ seated.base;
+        own = ap (λ (z : SeatState (Opened D P) VolumeAct). acts_of (λ act. act.seat) z.number (t'.seen ++ made)) holds.same
+            ∙ acts_of_append (λ act. act.seat) t.number t'.seen made
+            ∙ ap (λ (l : List VolumeAct). l ++ acts_of (λ act. act.seat) t.number made) (holds.own ∙ sym (ap (λ (z : SeatState (Opened D P) VolumeAct). z.own) holds.same))
+            ∙ ap (λ (l : List VolumeAct). t'.own ++ l) (acts_of_all (λ act. act.seat) t.number made mine);
+      })
+
+  -- a holding, with its act or none
+  module _ (tag : CoreTag) (t t' t'' : SeatState (Opened D P) VolumeAct) {stood : ℕ} (v v' : View D P) (kept after : Guarded D P) (made : Option VolumeAct) (seated : IsSeated t stood v)
+      (holds : Holds (λ act. act.seat) (λ opened acts x. IsKept Tells files PieceTells faults fuses opened acts x) t t' kept)
+      (behind : IsBehind v (kept.front).shown) (all : v' ≡ (kept.front).shown)
+      (goes : GoesOn Tells files PieceTells faults fuses tag kept after made) (free : t'' ≡ after_free t' (acts_in made)) where
+    -- the volume may be put back behind it
+    pub made_free : (opened : Opened D P) → t'.start ≡ Some opened → IsKept Tells files PieceTells faults fuses opened (t'.seen ++ acts_in made) after
+    made_free = may_free Tells files PieceTells faults fuses tag (seat_of t v) (seat_of t' v') kept (took t t' v v' kept seated holds behind all) after made goes
+
+    pub made_mine : t.number ≡ tag.lane → AllOf (λ act. act.seat) t'.number (acts_in made)
+    made_mine = mine Tells files PieceTells faults fuses tag (seat_of t v) (seat_of t' v') kept (took t t' v v' kept seated holds behind all) after made goes
+
+    pub made_seated : t.number ≡ tag.lane → IsSeated t'' stood v'
+    made_seated lane = seated_behind t t' t'' v v' kept (acts_in made) seated holds (subst (λ (z : View D P). IsBehind v z) (sym all) behind)
+        (all_mine t.number tag.lane (acts_in made) lane goes.seats) free
+
+    pub made_told : (Is : StoreVolume → VolumeCall) → Found Tells files PieceTells faults fuses tag kept made Is
+        → IsTold Tells files PieceTells faults fuses t.start (λ volume. Is volume (seat_of t v).sight (seat_of t'' v').sight)
+    made_told = told Tells files PieceTells faults fuses tag (seat_of t v) (seat_of t' v') kept (took t t' v v' kept seated holds behind all) after made goes
+        (seat_of t'' v') (ap (λ (z : SeatState (Opened D P) VolumeAct). seat_of z v') free)
+
+    pub made_always : (Is : StoreVolume → VolumeCall) → FoundAlways Tells files PieceTells faults fuses tag kept made Is
+        → IsAlways faults fuses t.start (λ volume. Is volume (seat_of t v).sight (seat_of t'' v').sight)
+    made_always = always Tells files PieceTells faults fuses tag (seat_of t v) (seat_of t' v') kept (took t t' v v' kept seated holds behind all) after made goes
+        (seat_of t'' v') (ap (λ (z : SeatState (Opened D P) VolumeAct). seat_of z v') free)
+
+    pub made_held : OneHolding tag (seat_of t v).sight (seat_of t'' v').sight
+    made_held = one_holding Tells files PieceTells faults fuses tag (seat_of t v) (seat_of t' v') kept (took t t' v v' kept seated holds behind all) after made goes
+        (seat_of t'' v') (ap (λ (z : SeatState (Opened D P) VolumeAct). seat_of z v') free)
+
+    pub made_same : t.holds ≡ false → IsSameSeat (seat_of t v) (seat_of t'' v')
+    made_same = same_seat Tells files PieceTells faults fuses tag (seat_of t v) (seat_of t' v') kept (took t t' v v' kept seated holds behind all) after made goes
+        (seat_of t'' v') (ap (λ (z : SeatState (Opened D P) VolumeAct). seat_of z v') free)
+
+  -- a holding that made none
+  module _ (tag : CoreTag) (t t' t'' : SeatState (Opened D P) VolumeAct) {stood : ℕ} (v v' : View D P) (kept : Guarded D P) (seated : IsSeated t stood v)
       (holds : Holds (λ act. act.seat) (λ opened acts x. IsKept Tells files PieceTells faults fuses opened acts x) t t' kept)
       (behind : IsBehind v (kept.front).shown) (all : v' ≡ (kept.front).shown) (free : t'' ≡ after_free t' []) where
-    -- the volume may be put back as it was
+    abbrev nowhere : GoesOn Tells files PieceTells faults fuses tag kept kept None
+    nowhere = goes_nowhere Tells files PieceTells faults fuses tag kept
+
     pub quiet_free : (opened : Opened D P) → t'.start ≡ Some opened → IsKept Tells files PieceTells faults fuses opened (t'.seen ++ []) kept
-    quiet_free = may_free Tells files PieceTells faults fuses tag (seat_of t v) (seat_of t' v') kept (took t t' v v' kept seated holds behind all) kept None
-        (goes_nowhere Tells files PieceTells faults fuses tag kept)
+    quiet_free = made_free tag t t' t'' v v' kept kept None seated holds behind all nowhere free
+
+    pub quiet_seated : IsSeated t'' stood v'
+    quiet_seated = seated_behind t t' t'' v v' kept [] seated holds (subst (λ (z : View D P). IsBehind v z) (sym all) behind) tt free
 
     pub quiet_told : (Is : StoreVolume → VolumeCall) → Found Tells files PieceTells faults fuses tag kept None Is
         → IsTold Tells files PieceTells faults fuses t.start (λ volume. Is volume (seat_of t v).sight (seat_of t'' v').sight)
-    quiet_told = told Tells files PieceTells faults fuses tag (seat_of t v) (seat_of t' v') kept (took t t' v v' kept seated holds behind all) kept None
-        (goes_nowhere Tells files PieceTells faults fuses tag kept) (seat_of t'' v') (ap (λ (z : SeatState (Opened D P) VolumeAct). seat_of z v') free)
+    quiet_told = made_told tag t t' t'' v v' kept kept None seated holds behind all nowhere free
 
     pub quiet_held : OneHolding tag (seat_of t v).sight (seat_of t'' v').sight
-    quiet_held = one_holding Tells files PieceTells faults fuses tag (seat_of t v) (seat_of t' v') kept (took t t' v v' kept seated holds behind all) kept None
-        (goes_nowhere Tells files PieceTells faults fuses tag kept) (seat_of t'' v') (ap (λ (z : SeatState (Opened D P) VolumeAct). seat_of z v') free)
+    quiet_held = made_held tag t t' t'' v v' kept kept None seated holds behind all nowhere free
 
     pub quiet_same : t.holds ≡ false → IsSameSeat (seat_of t v) (seat_of t'' v')
-    quiet_same = same_seat Tells files PieceTells faults fuses tag (seat_of t v) (seat_of t' v') kept (took t t' v v' kept seated holds behind all) kept None
-        (goes_nowhere Tells files PieceTells faults fuses tag kept) (seat_of t'' v') (ap (λ (z : SeatState (Opened D P) VolumeAct). seat_of z v') free)
-
-  -- a holding that made an act
-  module _ (tag : CoreTag) (t t' t'' : SeatState (Opened D P) VolumeAct) (v v' : View D P) (kept after : Guarded D P) (act : VolumeAct) (seated : IsSeated Tells t.start v)
-      (holds : Holds (λ act. act.seat) (λ opened acts x. IsKept Tells files PieceTells faults fuses opened acts x) t t' kept)
-      (behind : IsBehind v (kept.front).shown) (all : v' ≡ (kept.front).shown)
-      (goes : GoesOn Tells files PieceTells faults fuses tag kept after (Some act)) (free : t'' ≡ after_free t' (act ∷ [])) where
-    -- the volume may be put back behind it
-    pub acted_free : (opened : Opened D P) → t'.start ≡ Some opened → IsKept Tells files PieceTells faults fuses opened (t'.seen ++ act ∷ []) after
-    acted_free = may_free Tells files PieceTells faults fuses tag (seat_of t v) (seat_of t' v') kept (took t t' v v' kept seated holds behind all) after (Some act) goes
-
-    pub acted_mine : t.number ≡ tag.lane → AllOf (λ act. act.seat) t'.number (act ∷ [])
-    acted_mine = mine Tells files PieceTells faults fuses tag (seat_of t v) (seat_of t' v') kept (took t t' v v' kept seated holds behind all) after (Some act) goes
-
-    pub acted_told : (Is : StoreVolume → VolumeCall) → Found Tells files PieceTells faults fuses tag kept (Some act) Is
-        → IsTold Tells files PieceTells faults fuses t.start (λ volume. Is volume (seat_of t v).sight (seat_of t'' v').sight)
-    acted_told = told Tells files PieceTells faults fuses tag (seat_of t v) (seat_of t' v') kept (took t t' v v' kept seated holds behind all) after (Some act) goes
-        (seat_of t'' v') (ap (λ (z : SeatState (Opened D P) VolumeAct). seat_of z v') free)
-
-    pub acted_always : (Is : StoreVolume → VolumeCall) → FoundAlways Tells files PieceTells faults fuses tag kept (Some act) Is
-        → IsAlways faults fuses t.start (λ volume. Is volume (seat_of t v).sight (seat_of t'' v').sight)
-    acted_always = always Tells files PieceTells faults fuses tag (seat_of t v) (seat_of t' v') kept (took t t' v v' kept seated holds behind all) after (Some act) goes
-        (seat_of t'' v') (ap (λ (z : SeatState (Opened D P) VolumeAct). seat_of z v') free)
-
-    pub acted_same : t.holds ≡ false → IsSameSeat (seat_of t v) (seat_of t'' v')
-    acted_same = same_seat Tells files PieceTells faults fuses tag (seat_of t v) (seat_of t' v') kept (took t t' v v' kept seated holds behind all) after (Some act) goes
-        (seat_of t'' v') (ap (λ (z : SeatState (Opened D P) VolumeAct). seat_of z v') free)
+    quiet_same = made_same tag t t' t'' v v' kept kept None seated holds behind all nowhere free

@@ -1,6 +1,6 @@
 -- What a look at the published rows tells.
 use Rattle.std.proofs.Common.{◌≡◌, ℕ, ◌<◌, List, [], ◌∷◌, ◌++◌, append_assoc, length, Option, Some, None, refl, sym, ap, subst, ◌∙◌, arith}
-use Rattle.std.specs.Prelude.{filter, fold}
+use Rattle.std.specs.Prelude.{◌+◌, filter, fold}
 use mathlib.Core.List.{IsPrefix}
 use Rattle.hay_core.specs.declared.entry.Entry.{Entry}
 use Rattle.hay_core.specs.Entries.{apply_entry}
@@ -27,6 +27,8 @@ use Rattle.hay_physical.specs.Copies.{Copy}
 use Rattle.hay_views.specs.declared.places.Published.{Published}
 use Rattle.hay_views.specs.MapPasts.{AllFit, IsRowOf, MapPast, begun_at, entered_by, is_entry, row_of, with_published}
 use Rattle.hay_views.proofs.PlaceLaw.{counts_entries}
+use Rattle.hay_turn.specs.Seats.{SeatState}
+use Rattle.hay_meeting.specs.declared.act.VolumeAct.{VolumeAct}
 use Rattle.hay_volume_lock.specs.Answers.{IsTold}
 use Rattle.hay_volume_lock.specs.Rows.{PlaceTells, RowsTell}
 use Rattle.hay_volume_lock.specs.Seats.{IsSeated}
@@ -63,7 +65,7 @@ module _ {D P : Type 0} (Tells : Type 0) (files : D → Files) (PieceTells : Typ
   abbrev Fact : Volume D P → MapPast P (Volume D P) → List (Published P) → Type 0
   Fact start past published = (start ≡ past.start) × AllFit past published × RowsTell Tells files PieceTells past published
 
-  module _ (start : Option (Opened D P)) (old new : View D P) (seated : IsSeated Tells start old) (behind : IsBehind old new) (fact : Holds Fact new) where
+  module _ (turn : SeatState (Opened D P) VolumeAct) (stood : ℕ) (old new : View D P) (seated : IsSeated turn stood old) (behind : IsBehind old new) (fact : Holds Fact new) where
     abbrev opened : Opened D P
     opened = seated.opened
 
@@ -74,8 +76,16 @@ module _ {D P : Type 0} (Tells : Type 0) (files : D → Files) (PieceTells : Typ
     base_is = sym behind.1 ∙ seated.base ∙ (seated.from).base
 
     -- the seat goes on
-    pub seated_still : IsSeated Tells start new
-    seated_still = record { opened = opened; is = seated.is; from = seated.from; front = sym behind.0 ∙ seated.front; base = sym behind.1 ∙ seated.base }
+    pub seated_still : IsSeated turn stood new
+    seated_still = record {
+      opened = opened;
+      is = seated.is;
+      from = seated.from;
+      stood_is = seated.stood_is;
+      front = sym behind.0 ∙ seated.front;
+      base = sym behind.1 ∙ seated.base;
+      own = seated.own;
+    }
 
     first_is : (m : MapPast P (Volume D P)) (b : Volume D P) → new.base ≡ Some (m, b) → m ≡ first
     unfolding both_in
@@ -99,12 +109,12 @@ module _ {D P : Type 0} (Tells : Type 0) (files : D → Files) (PieceTells : Typ
       first_stays m [] = refl
       first_stays m (deed ∷ deeds) = first_stays (with_published m deed) deeds
 
-      pub row_long : (o : Opened D P) → start ≡ Some o → length row ≡ ((o.volume).settings).replicas
+      pub row_long : (o : Opened D P) → turn.start ≡ Some o → length row ≡ ((o.volume).settings).replicas
       row_long o is = let same : opened ≡ o = cc (seated.is, is) in
           at.2.1 ∙ ap (λ (m : MapPast P (Volume D P)). (m.first).replicas) (at.1.3 ∙ ap (λ (m : MapPast P (Volume D P)). fold with_published m new.deeds) (first_is at.1.0 at.1.1 at.1.2))
           ∙ ap (λ (rows : MapRows P). rows.replicas) (first_stays first new.deeds) ∙ (seated.from).width ∙ ap (λ (z : Opened D P). ((z.volume).settings).replicas) same
 
-      pub places_tell : (faults fuses : D → ℕ) → IsTold Tells files PieceTells faults fuses start (λ volume. (j : ℕ) → j < (volume.settings).replicas
+      pub places_tell : (faults fuses : D → ℕ) → IsTold Tells files PieceTells faults fuses turn.start (λ volume. (j : ℕ) → j < (volume.settings).replicas
           → PlaceTells PieceTells pair (place_in row j) (outcome_at (table_shown volume.start volume.number j (entered_by new.deeds)) pair))
       places_tell faults fuses o is tells k stands volume here j less =
           let same : opened ≡ o = cc (seated.is, is) in
@@ -117,13 +127,13 @@ module _ {D P : Type 0} (Tells : Type 0) (files : D → Files) (PieceTells : Typ
           (holds_first.1 tells k own pair j within))
 
     -- how many changes it shows
-    pub front_tells : (faults fuses : D → ℕ) (n : ℕ) → n ≡ length (filter (λ (d : Published P). is_entry d.change) new.deeds)
-        → IsTold Tells files PieceTells faults fuses start (λ volume. n ≡ front_shown volume.start volume.number (entered_by new.deeds))
+    pub front_tells : (faults fuses : D → ℕ) (published n : ℕ) → published ≡ length (filter (λ (d : Published P). is_entry d.change) new.deeds) → n ≡ stood + published
+        → IsTold Tells files PieceTells faults fuses turn.start (λ volume. n ≡ front_shown volume.start volume.number (entered_by new.deeds))
     unfolding Stands
-    front_tells faults fuses n count o is tells k stands volume here =
+    front_tells faults fuses published n count all o is tells k stands volume here =
         let same : opened ≡ o = cc (seated.is, is) in
         let known : ((volume.start).volumes volume.number).volume ≡ k = ap (λ (z : Standing). z.volume) here.start in
-        let none : length k.log ≡ 0 = sym stands.front ∙ ap (λ (z : Opened D P). (z.volume).front) (sym same) ∙ (seated.from).fresh tells in
-        let some : n ≡ length (entered_by new.deeds) = count ∙ counts_entries P (Volume D P) first new.deeds holds_first.0 in
-        let empty : length ((((volume.start).volumes volume.number).volume).log) ≡ 0 = ap (λ (z : VolumeKnown). length z.log) known ∙ none in
-        omega (arith, some, empty)
+        let first : stood ≡ length k.log = seated.stood_is ∙ ap (λ (z : Opened D P). (z.volume).front) same ∙ stands.front in
+        let some : published ≡ length (entered_by new.deeds) = count ∙ counts_entries P (Volume D P) (begun_at opened.volume (seated.from).rows) new.deeds holds_first.0 in
+        let log : length ((((volume.start).volumes volume.number).volume).log) ≡ length k.log = ap (λ (z : VolumeKnown). length z.log) known in
+        omega (arith, all, some, first, log)

@@ -9,28 +9,34 @@ use Rattle.hay_logical.specs.Volumes.{Volume}
 use Rattle.hay_meeting.specs.declared.act.VolumeAct.{VolumeAct}
 use Rattle.hay_meeting.specs.Acts.{volume_lock}
 use Rattle.hay_meeting.specs.Locks.{LockSight, entries}
-use Rattle.hay_turn.specs.Seats.{TurnId}
+use Rattle.hay_turn.specs.Acts.{acts_of}
+use Rattle.hay_turn.specs.Seats.{SeatState, TurnId}
 use Rattle.hay_views.specs.declared.places.Published.{Published}
 use Rattle.hay_views.specs.MapPasts.{MapPast}
 use Rattle.hay_volume_lock.specs.Keeping.{IsKept, IsOpened}
 use Rattle.hay_volume_lock.specs.declared.guarded.Guarded.{Guarded}
 use Rattle.hay_volume_lock.specs.declared.guarded.Opened.{Opened}
 
--- which lock it is of, its number, what stood where the lock was made, whether it holds the volume, and what its lane knows of it
+-- which lock it is of, its number and how many seats there are, what stood where the lock was made, whether it holds the volume, and
+-- what its lane knows of it
 pub record Seated (D P : Type 0) : Type 0 where
   pub lock : TurnId
   pub number : ℕ
+  pub seats : ℕ
   pub start : Option (Opened D P)
   pub holds : Bool
   pub sight : LockSight VolumeAct Entry
 
--- the start is there, and the view is the one of its rows
-pub record IsSeated {D P : Type 0} (Tells : Type 0) (start : Option (Opened D P)) (view : Witness (MapPast P (Volume D P)) (Volume D P) (Published P)) : Type 0 where
+-- The start is there, and the view is the one of its rows; so many changes were made before it. All that was seen of acts of its number
+-- is its own.
+pub record IsSeated {D P : Type 0} (turn : SeatState (Opened D P) VolumeAct) (stood : ℕ) (view : Witness (MapPast P (Volume D P)) (Volume D P) (Published P)) : Type 0 where
   pub opened : Opened D P
-  pub is : start ≡ Some opened
-  pub from : IsOpened Tells opened
+  pub is : turn.start ≡ Some opened
+  pub from : IsOpened opened
+  pub stood_is : stood ≡ (opened.volume).front
   pub front : view.front ≡ (opened.view).front
   pub base : view.base ≡ (opened.view).base
+  pub own : acts_of volume_lock.seat turn.number turn.seen ≡ turn.own
 
 -- a seat of this lock, which does not hold the volume
 pub record Rests {D P : Type 0} (lock : TurnId) (seat : Seated D P) : Type 0 where
@@ -67,14 +73,14 @@ pub record Takes {D P : Type 0} (Tells : Type 0) (files : D → Files) (PieceTel
   pub seen : IsPrefix (old.sight).seen (new.sight).seen
   pub shown : IsPrefix (old.sight).shown (entries volume_lock (new.sight).seen)
 
--- the seat of this number, which has seen nothing and done nothing
-abbrev pub new_seat : {D P : Type 0} → TurnId → Opened D P → ℕ → Seated D P
-new_seat lock opened n = record { lock = lock; number = n; start = Some opened; holds = false; sight = record { seen = []; own = []; shown = [] } }
+-- the seat of this number, of so many, which has seen nothing and done nothing
+abbrev pub new_seat : {D P : Type 0} → TurnId → Opened D P → ℕ → ℕ → Seated D P
+new_seat lock opened n i = record { lock = lock; number = i; seats = n; start = Some opened; holds = false; sight = record { seen = []; own = []; shown = [] } }
 
 -- these are all seats of a lock that was made round this volume
-pub record AreNew {D P : Type 0} (Tells : Type 0) (lock : TurnId) (volume : Volume D P) (n : ℕ) (seats : List (Seated D P)) : Type 0 where
+pub record AreNew {D P : Type 0} (lock : TurnId) (volume : Volume D P) (n : ℕ) (seats : List (Seated D P)) : Type 0 where
   pub opened : Opened D P
-  pub from : IsOpened Tells opened
+  pub from : IsOpened opened
   pub own : opened.volume ≡ volume
   pub count : length seats ≡ n
-  pub each : (i : ℕ) (s : Seated D P) → slice_get seats i ≡ Some s → s ≡ new_seat lock opened i
+  pub each : (i : ℕ) (s : Seated D P) → slice_get seats i ≡ Some s → s ≡ new_seat lock opened n i

@@ -22,6 +22,8 @@ pub struct Guarded<D: Disk<Piece = P> + Send + Sync, P: Piece + Send + Sync> {
     pub front: Front<Places<D, P>>,
     /// The line that began the compaction of each replica last.
     pub begun: [CoreTag; 4],
+    /// How often the disk of each replica had failed behind the last delete that ended its compaction, by the lane that had begun it.
+    pub ended: [[Option<u64>; 8]; 4],
 }
 
 impl<D: Disk<Piece = P> + Send + Sync, P: Piece + Send + Sync> Kept for Guarded<D, P> {

@@ -22,6 +22,7 @@ mod guarded;
 mod lock;
 mod seat;
 mod told;
+mod tries;
 
 pub use act::Act;
 pub use compactions::Examined;

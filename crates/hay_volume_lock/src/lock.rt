@@ -1,13 +1,19 @@
 //! The lock, and the calls at a seat.
+ghost use Rattle.std.specs.Prelude.{◌≡◌, ℕ, Err};
 ghost use Rattle.hay_core.specs.declared.entry.CoreTag.{CoreTag};
-ghost use Rattle.hay_volume_lock.specs.Answers.{FrozenAnswer, IsTold, OneHolding, RoomAnswer};
-ghost use Rattle.hay_volume_lock.specs.Seats.{IsSameSeat, Rests};
+ghost use Rattle.hay_holdings.specs.Volumes.{Fused};
+ghost use Rattle.hay_volume_lock.specs.Answers.{BeginAnswer, FailedLook, FlushAnswer, FlushRefused, FrozenAnswer, IsAlways, IsTold, OneHolding, RoomAnswer};
+ghost use Rattle.hay_volume_lock.specs.Seats.{HasReplica, IsSameSeat, MayAct, Rests};
 
+use crate::act::{Act, Made};
 use crate::guarded::Guarded;
 use crate::seat::VolumeSeat;
+use crate::tries::{act_made, begin_did, faults_of, flush_did};
+use hay_core::CoreTag;
 use hay_disk::{Disk, Piece};
 use hay_logical::LogicalFault;
 use hay_turn::Turn;
+use std::alloc::Global;
 use std::marker::Model;
 use std::sync::Wait;
 
@@ -56,5 +62,97 @@ impl<D: Disk<Piece = P> + Send + Sync, P: Piece + Send + Sync> VolumeLock<D, P> 
         let answer = kept.logical.room(size);
         self.turn.free(&mut seat.turn, kept, None);
         answer
+    }
+
+    /// Gives the cells of a replica without an index record theirs, and answers how many these were. `ReadOnly` comes where the
+    /// volume is frozen, or the replica's index, which `Failed` freezes.
+    pub fn flush<R: Wait>(
+        &self,
+        rt: &R,
+        seat: &mut VolumeSeat<D, P>,
+        tag: CoreTag,
+        replica: u32,
+    ) -> Result<u64, LogicalFault>
+        requires may { MayAct self.now tag seat.old }
+        requires within { HasReplica seat.old replica }
+        ensures flushed { IsTold D.Tells D.files P.Tells D.fault_count D.fuse_count seat.old.start (λ volume. FlushAnswer volume tag replica result seat.old.sight seat.new.sight) }
+        ensures causes { (m f : ℕ) → result ≡ Err (LogicalFault.Failed m f) →
+            IsAlways D.fault_count D.fuse_count seat.old.start (λ volume. FlushRefused volume tag replica (LogicalFault.Failed m f) seat.old.sight seat.new.sight) }
+        ensures held { OneHolding tag seat.old.sight seat.new.sight }
+        ensures same { IsSameSeat seat.old seat.new }
+    {
+        let mut kept = self.turn.hold(rt, &mut seat.turn);
+        kept.front.show_all(rt, &mut seat.view);
+        let before = faults_of(&kept.logical, kept.settings.replicas);
+        let answer = kept.logical.flush(replica);
+        let did = flush_did(&answer, replica);
+        let made = act_made(
+            &kept.logical,
+            kept.settings.replicas,
+            before.as_slice(),
+            tag,
+            did,
+        );
+        self.turn.free(&mut seat.turn, kept, made);
+        answer
+    }
+
+    /// Begins a compaction of a replica for the line, and answers the generation that it makes. `Busy` comes where one stands, and
+    /// `Worn` where the replica's generation is the last one. A refusal leaves what stood.
+    pub fn begin<R: Wait>(
+        &self,
+        rt: &R,
+        alloc: Global,
+        seat: &mut VolumeSeat<D, P>,
+        tag: CoreTag,
+        replica: u32,
+    ) -> Result<u64, LogicalFault>
+        requires may { MayAct self.now tag seat.old }
+        requires within { HasReplica seat.old replica }
+        ensures begun { IsTold D.Tells D.files P.Tells D.fault_count D.fuse_count seat.old.start (λ volume. BeginAnswer volume tag replica result seat.old.sight seat.new.sight) }
+        ensures causes { (m f : ℕ) → result ≡ Err (LogicalFault.Failed m f) →
+            IsAlways D.fault_count D.fuse_count seat.old.start (λ volume. FailedLook volume tag replica m f seat.old.sight seat.new.sight) }
+        ensures held { OneHolding tag seat.old.sight seat.new.sight }
+        ensures same { IsSameSeat seat.old seat.new }
+    {
+        let mut kept = self.turn.hold(rt, &mut seat.turn);
+        kept.front.show_all(rt, &mut seat.view);
+        let before = faults_of(&kept.logical, kept.settings.replicas);
+        let answer = kept.logical.begin(alloc, replica);
+        if answer.is_ok() {
+            kept.begun[replica as usize] = tag;
+        }
+        let did = begin_did(&answer, replica);
+        let made = act_made(
+            &kept.logical,
+            kept.settings.replicas,
+            before.as_slice(),
+            tag,
+            did,
+        );
+        self.turn.free(&mut seat.turn, kept, made);
+        answer
+    }
+
+    /// Sets a fuse on a replica's disk for the line.
+    pub fn fuse<R: Wait>(
+        &self,
+        rt: &R,
+        seat: &mut VolumeSeat<D, P>,
+        tag: CoreTag,
+        replica: u32,
+        calls: u32,
+    )
+        requires may { MayAct self.now tag seat.old }
+        requires within { HasReplica seat.old replica }
+        ensures fused { IsAlways D.fault_count D.fuse_count seat.old.start (λ volume. Fused volume.settings volume.start volume.number tag replica seat.old.sight seat.new.sight) }
+        ensures held { OneHolding tag seat.old.sight seat.new.sight }
+        ensures same { IsSameSeat seat.old seat.new }
+    {
+        let mut kept = self.turn.hold(rt, &mut seat.turn);
+        kept.front.show_all(rt, &mut seat.view);
+        kept.logical.fuse(replica, calls);
+        let act = Act::new(tag, Made::Fuses { replica }, &kept.logical);
+        self.turn.free(&mut seat.turn, kept, Some(act));
     }
 }

@@ -1,5 +1,5 @@
 //! A lane's seat at a volume.
-ghost use Rattle.std.specs.Prelude.{◌≡◌, ◌<◌, ℕ, Some, length};
+ghost use Rattle.std.specs.Prelude.{◌≡◌, ◌+◌, ◌<◌, ℕ, Some, length};
 ghost use Rattle.hay_needle.specs.Tables.{outcome_at};
 ghost use Rattle.hay_map.specs.Places.{place_in};
 ghost use Rattle.hay_meeting.specs.Facts.{table_shown};
@@ -19,11 +19,24 @@ use hay_turn::TurnSeat;
 use std::marker::Model;
 use std::sync::Wait;
 
-/// A seat at the lock, and one at the published rows. Clauses see what its lane knows of the volume.
+/// A seat at the lock, and one at the published rows, and how many changes stood where the lock was made. Clauses see what its lane knows of the volume.
 #[derive(Drop)]
 pub struct VolumeSeat<D: Disk<Piece = P> + Send + Sync, P: Piece + Send + Sync> {
     pub(crate) turn: TurnSeat<Guarded<D, P>>,
     pub(crate) view: Seat<Places<D, P>>,
+    pub(crate) stood: u64,
+}
+
+// The changes that stood at first and those that were published since.
+fn all_changes<R: Wait>(rt: &R, stood: u64, published: u64) -> u64
+    ensures { result ≡ stood + published }
+{
+    let Some(changes) = stood.checked_add(published) else {
+        // There are fewer changes than numbers of 64 bits.
+        for _ in rt.forever() {}
+        unreachable!()
+    };
+    changes
 }
 
 impl<D: Disk<Piece = P> + Send + Sync, P: Piece + Send + Sync> Model for VolumeSeat<D, P> {
@@ -33,9 +46,9 @@ impl<D: Disk<Piece = P> + Send + Sync, P: Piece + Send + Sync> Model for VolumeS
 
     ghost Value = { Seated D P };
 
-    ghost view = { λ s. record { lock = s.turn.turn; number = s.turn.number; start = s.turn.start; holds = s.turn.holds; sight = sight_of s.turn (entered_by s.view.deeds) } };
+    ghost view = { λ s. record { lock = s.turn.turn; number = s.turn.number; seats = s.turn.seats; start = s.turn.start; holds = s.turn.holds; sight = sight_of s.turn (entered_by s.view.deeds) } };
 
-    ghost invariant = { λ s. IsSeated D.Tells s.turn.start s.view };
+    ghost invariant = { λ s. IsSeated s.turn s.stood s.view };
 }
 
 impl<D: Disk<Piece = P> + Send + Sync, P: Piece + Send + Sync> VolumeSeat<D, P> {
@@ -50,7 +63,10 @@ impl<D: Disk<Piece = P> + Send + Sync, P: Piece + Send + Sync> VolumeSeat<D, P> 
         ensures looked { OneLook self.old.sight self.new.sight }
         ensures same { IsSameSeat self.old self.new }
     {
-        let (front, row) = self.view.look(rt, &pair);
-        Looked { front, row }
+        let (published, row) = self.view.look(rt, &pair);
+        Looked {
+            front: all_changes(rt, self.stood, published),
+            row,
+        }
     }
 }

@@ -1,0 +1,75 @@
+//! The act of a holding, by what its call answered.
+ghost use Rattle.std.specs.Prelude.{◌≡◌, ◌↔◌, ◌≤◌, length, IsTrue, IfSome, Some, None};
+ghost use Rattle.hay_volume_lock.specs.Acts.{act_of, counts};
+ghost use Rattle.hay_volume_lock.specs.Tries.{IsTried, begin_made, flush_made};
+ghost use Rattle.hay_volume_lock.specs.declared.act.Made.{Made};
+
+use crate::act::{Act, Made};
+use arrayvec::ArrayVec;
+use hay_core::CoreTag;
+use hay_disk::Disk;
+use hay_logical::{Logical, LogicalFault};
+
+/// How many calls of each replica's disk have failed.
+pub(crate) fn faults_of<D: Disk>(logical: &Logical<D>, replicas: u32) -> ArrayVec<u64, 4>
+    requires all { length logical.now.replicas ≡ replicas }
+    requires most { replicas ≤ 4 }
+    ensures { result.items ≡ counts D.fault_count logical.now.replicas }
+{
+    let mut faults = ArrayVec::new();
+    for replica in 0..replicas {
+        faults.push(logical.faults(replica));
+    }
+    faults
+}
+
+fn is_same(before: &[u64], now: &[u64]) -> bool
+    ensures { IsTrue result ↔ (before.now ≡ now.now) }
+{
+    before == now
+}
+
+/// The act for what was done, and where nothing was changed, one for calls of the disks that have failed since these counts.
+pub(crate) fn act_made<D: Disk>(
+    logical: &Logical<D>,
+    replicas: u32,
+    before: &[u64],
+    tag: CoreTag,
+    did: Option<Made>,
+) -> Option<Act<D>>
+    requires all { length logical.now.replicas ≡ replicas }
+    requires most { replicas ≤ 4 }
+    ensures did { (made : Made) → did ≡ Some made → result ≡ Some (act_of D.fault_count D.fuse_count tag made logical.now.replicas) }
+    ensures tried { did ≡ None → IsTried D.fault_count D.fuse_count tag before.now logical.now.replicas result }
+{
+    if let Some(made) = did {
+        return Some(Act::new(tag, made, logical));
+    }
+    let now = faults_of(logical, replicas);
+    if is_same(before, now.as_slice()) {
+        return None;
+    }
+    Some(Act::new(tag, Made::Tries, logical))
+}
+
+/// What a flush did.
+pub(crate) fn flush_did(answer: &Result<u64, LogicalFault>, replica: u32) -> Option<Made>
+    ensures { result ≡ flush_made replica answer.now }
+{
+    match answer {
+        Ok(_) => Some(Made::Flushes { replica }),
+        Err(LogicalFault::Failed { .. }) => Some(Made::Sticks { replica }),
+        Err(_) => None,
+    }
+}
+
+/// What a call that begins a compaction did.
+pub(crate) fn begin_did(answer: &Result<u64, LogicalFault>, replica: u32) -> Option<Made>
+    ensures { result ≡ begin_made replica answer.now }
+{
+    match answer {
+        Ok(_) => Some(Made::Begins { replica }),
+        Err(LogicalFault::Failed { .. }) => Some(Made::Tries),
+        Err(_) => None,
+    }
+}
