@@ -122,7 +122,7 @@ module _ {D P : Type 0} (Tells : Type 0) (files : D → Files) (PieceTells : Typ
   same_number : (opened : Opened D P) (held : List VolumeAct) (k : VolumeKnown) (volume : StoreVolume) → Kept opened held → IsAt faults fuses opened k volume → (old.logical).number ≡ volume.number
   same_number opened held k volume h at = h.number ∙ sym at.number
 
-  on_machine : (opened : Opened D P) (held : List VolumeAct) (k : VolumeKnown) (volume : StoreVolume) → Kept opened held → IsAt faults fuses opened k volume
+  pub on_machine : (opened : Opened D P) (held : List VolumeAct) (k : VolumeKnown) (volume : StoreVolume) → Kept opened held → IsAt faults fuses opened k volume
       → (m j : ℕ) → m ≡ machine_of (old.logical).settings (old.logical).number j → m ≡ machine_of volume.settings volume.number j
   on_machine opened held k volume h at m j is =
       is ∙ ap (λ (s : Settings). machine_of s (old.logical).number j) (same_settings opened held k volume h at) ∙ ap (λ (v : ℕ). machine_of volume.settings v j) (same_number opened held k volume h at)
@@ -132,7 +132,7 @@ module _ {D P : Type 0} (Tells : Type 0) (files : D → Files) (PieceTells : Typ
   many_of k s = s.many
 
   -- where a call of the replica's disk failed, its count rose in the act
-  failed_act : (act : VolumeAct) → Goes (Some act) → (j m f : ℕ) → j < ((old.logical).settings).replicas → m ≡ machine_of (old.logical).settings (old.logical).number j
+  pub failed_act : (act : VolumeAct) → Goes (Some act) → (j m f : ℕ) → j < ((old.logical).settings).replicas → m ≡ machine_of (old.logical).settings (old.logical).number j
       → logical.HasFailed faults (old.logical).settings (old.logical).number (old.logical).replicas (new.logical).replicas m f
       → (opened : Opened D P) (held : List VolumeAct) → Kept opened held → (k : VolumeKnown) (volume : StoreVolume) → IsAt faults fuses opened k volume
       → FailedAct volume.settings volume.start volume.number j f held (Some act)
