@@ -1,5 +1,5 @@
 -- What a holding tells of a lane.
-use Rattle.std.proofs.Common.{◌≡◌, ℕ, true, false, List, [], ◌∷◌, ◌++◌, append_assoc, Option, Some, None, refl, sym, ap, subst, ◌∙◌, append-nil}
+use Rattle.std.proofs.Common.{◌≡◌, ℕ, ◌<◌, ◌≤◌, true, false, List, [], ◌∷◌, ◌++◌, append_assoc, length, Option, Some, None, refl, sym, ap, subst, ◌∙◌, append-nil}
 use Rattle.std.specs.List.{AllByRecursion as Each}
 use Rattle.hay_core.specs.declared.entry.CoreTag.{CoreTag}
 use Rattle.hay_core.specs.declared.entry.Entry.{Entry}
@@ -15,6 +15,7 @@ use mathlib.Core.List.{IsPrefix}
 use Rattle.hay_front.specs.Fronts.{IsBehind, Witness}
 use Rattle.hay_holdings.specs.Holdings.{Holding, sight_of}
 use Rattle.hay_logical.specs.Volumes.{Volume}
+use Rattle.hay_needle.specs.declared.settings.Settings.{Settings}
 use Rattle.hay_turn.specs.Seats.{Holds, SeatState, after_free}
 use Rattle.hay_views.specs.declared.places.Published.{Published}
 use Rattle.hay_views.specs.MapPasts.{MapPast, entered_by}
@@ -131,6 +132,21 @@ module _ {D P : Type 0} (Tells : Type 0) (files : D → Files) (PieceTells : Typ
             ∙ ap (λ (l : List VolumeAct). l ++ acts_of (λ act. act.seat) t.number made) (holds.own ∙ sym (ap (λ (z : SeatState (Opened D P) VolumeAct). z.own) holds.same))
             ∙ ap (λ (l : List VolumeAct). t'.own ++ l) (acts_of_all (λ act. act.seat) t.number made mine);
       })
+
+  -- what stands behind the lock where it was taken
+  module _ {t t' : SeatState (Opened D P) VolumeAct} {stood : ℕ} {v : View D P} {kept : Guarded D P} (seated : IsSeated t stood v)
+      (holds : Holds (λ act. act.seat) (λ opened acts x. IsKept Tells files PieceTells faults fuses opened acts x) t t' kept) where
+    pub is_held : IsKept Tells files PieceTells faults fuses seated.opened t'.seen kept
+    is_held = holds.stands_for seated.opened seated.is
+
+    pub all_there : length (kept.logical).replicas ≡ (kept.settings).replicas
+    all_there = (is_held.is_open).all ∙ ap (λ (s : Settings). s.replicas) (is_held.same_settings ∙ sym is_held.settings)
+
+    pub few_there : (kept.settings).replicas ≤ 4
+    few_there = subst (λ (s : Settings). s.replicas ≤ 4) (sym is_held.settings) ((seated.from).of).most
+
+    pub within_it : (j : ℕ) → j < (((seated.opened).volume).settings).replicas → j < ((kept.logical).settings).replicas
+    within_it j less = subst (λ (s : Settings). j < s.replicas) (sym is_held.same_settings) less
 
   -- a holding, with its act or none
   module _ (tag : CoreTag) (t t' t'' : SeatState (Opened D P) VolumeAct) {stood : ℕ} (v v' : View D P) (kept after : Guarded D P) (made : Option VolumeAct) (seated : IsSeated t stood v)
