@@ -1,6 +1,6 @@
 -- What a step of a compaction found and did, as a step of a lane.
 use Rattle.std.proofs.Common.{◌≡◌, inl, inr, ℕ, ◌<◌, ◌≤◌, List, [], ◌∷◌, ◌++◌, length, Option, Some, None, refl, sym, ap, subst, ◌∙◌, arith}
-use Rattle.std.specs.Prelude.{false, slice_index_or, min, IfSome}
+use Rattle.std.specs.Prelude.{false, true, slice_index_or, min, IfSome}
 use Rattle.std.proofs.lemmas.Option.{none-some}
 use Rattle.hay_core.specs.declared.entry.CoreTag.{CoreTag}
 use Rattle.hay_core.specs.declared.entry.Entry.{Entry}
