@@ -4,5 +4,6 @@ pub mod Finding
 pub mod Growing
 pub mod Holding
 pub mod Losing
+pub mod Lost
 pub mod Stepping
 pub mod Telling

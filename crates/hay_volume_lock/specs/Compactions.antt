@@ -11,7 +11,12 @@ use Rattle.hay_logical.specs.declared.fault.LogicalFault.{LogicalFault}
 use Rattle.hay_logical.specs.declared.fault.LogicalFault.TheVariants.{Busy, Damaged, Failed, Full, Gone, Idle, NoMemory, ReadOnly, Worn}
 use Rattle.hay_logical.specs.Stands.{Stands}
 use Rattle.hay_logical.specs.Volumes.{Volume}
-use Rattle.hay_holdings.specs.Volumes.{Call, FailedAct, MetFrozen, MetIdle, RunFailed, Stepped, VolumeCall}
+use Rattle.hay_holdings.specs.Volumes.{Call, FailedAct, HasRunOf, MetFrozen, MetIdle, RunFailed, Stepped, VolumeCall}
+use Rattle.hay_core.specs.declared.entry.Entry.{Entry}
+use Rattle.hay_meeting.specs.declared.act.VolumeAct.{VolumeAct}
+use Rattle.hay_meeting.specs.Acts.{volume_lock}
+use Rattle.hay_meeting.specs.Locks.{LockSight}
+use Rattle.hay_turn.specs.Acts.{acts_of}
 use Rattle.hay_volume_lock.specs.Answers.{Never, StoreVolume, Where}
 use Rattle.hay_volume_lock.specs.declared.act.Made.{Made}
 use Rattle.hay_volume_lock.specs.declared.act.Made.TheVariants as made
@@ -69,10 +74,18 @@ stopped_made j n (Some fault) = halted_made j n fault
 abbrev pub step_made : ℕ → Examined → Made
 step_made j examined = stopped_made j examined.cells examined.refused
 
+-- the acts of the line's lane that were seen are its own
+abbrev pub IsOwnSight : CoreTag → LockSight VolumeAct Entry → Type 0
+IsOwnSight tag a = acts_of volume_lock.seat tag.lane a.seen ≡ a.own
+
 module _ (volume : StoreVolume) (tag : CoreTag) where
   -- of a compaction that a line of this lane began
   abbrev pub OfLane : (CoreTag → VolumeCall) → VolumeCall
   OfLane Is a b = (who : CoreTag) × (who.lane ≡ tag.lane) × Is who a b
+
+  -- of the line's own compaction, which stood behind all that its lane had seen
+  abbrev pub OfOwn : ℕ → VolumeCall → VolumeCall
+  OfOwn j Is a b = IsOwnSight tag a → IsOwnSight tag b → HasRunOf volume.settings volume.start volume.number j tag a.seen → Is a b
 
   -- a call of the disk of replica j failed in the act
   abbrev pub FailedHere : ℕ → ℕ → ℕ → VolumeCall
