@@ -1,5 +1,5 @@
 -- The counts of disks by replica.
-use Rattle.std.proofs.Common.{◌≡◌, ℕ, zero, suc, ◌<◌, ◌≤◌, inl, inr, List, [], ◌∷◌, ◌++◌, length, take, refl, sym, ap, subst, ◌∙◌, arith}
+use Rattle.std.proofs.Common.{◌≡◌, ℕ, zero, suc, ◌+◌, ◌<◌, ◌≤◌, inl, inr, List, [], ◌∷◌, ◌++◌, length, take, refl, sym, ap, subst, ◌∙◌, arith}
 use Rattle.std.specs.Prelude.{slice_index_or}
 use Rattle.std.proofs.lemmas.Bool.{cases_lt}
 use Rattle.std.proofs.lemmas.List.{get_or_past, length-map}
@@ -51,6 +51,18 @@ module _ {D : Type 0} (count : D → ℕ) where
   take_next [] j r there = absurd cc
   take_next (x ∷ xs) zero r there = let same : x ≡ r = cc in ap (λ (y : Copy D). count y.disk ∷ []) same
   take_next (x ∷ xs) (suc j) r there = ap (λ l. count x.disk ∷ l) (take_next xs j r there)
+
+  -- one more is counted
+  pub taken_next : (replicas : List (Copy D)) (j fault : ℕ) (before now : List ℕ) → j < length replicas → ((r : Copy D) → At replicas j r → fault ≡ count r.disk)
+      → before ≡ take j (counts count replicas) → now ≡ before ++ fault ∷ [] → now ≡ take (j + 1) (counts count replicas)
+  taken_next replicas j fault before now less is taken more =
+      let there = at_there replicas j less in
+      let next : suc j ≡ j + 1 = omega arith in
+      let all : before ++ fault ∷ [] ≡ take j (counts count replicas) ++ count ((there.0).disk) ∷ [] =
+      ap (λ l. l ++ fault ∷ []) taken ∙ ap (λ n. take j (counts count replicas) ++ n ∷ []) (is there.0 there.1) in
+      let whole : take j (counts count replicas) ++ count ((there.0).disk) ∷ [] ≡ take (j + 1) (counts count replicas) =
+      sym (take_next replicas j there.0 there.1) ∙ ap (λ n. take n (counts count replicas)) next in
+      more ∙ all ∙ whole
 
 pub take_whole : {A : Type 0} (xs : List A) (n : ℕ) → length xs ≤ n → take n xs ≡ xs
 take_whole [] zero all = refl

@@ -20,7 +20,7 @@ use Rattle.hay_logical.specs.declared.fault.LogicalFault.{LogicalFault}
 use Rattle.hay_logical.specs.declared.fault.LogicalFault.TheVariants.{Busy, Damaged, Failed, Full, Gone, Idle, NoMemory, ReadOnly, Worn}
 use Rattle.hay_logical.specs.Fits.{At}
 use Rattle.hay_logical.specs.Stands.{Stands}
-use Rattle.hay_logical.specs.Volumes.{IsOfSettings, IsOpenVolume, IsSame}
+use Rattle.hay_logical.specs.Volumes.{IsOfSettings, IsOpenVolume, IsSame, KeepsCounts}
 use Rattle.hay_logical.proofs.Lists.{at_there}
 use Rattle.hay_logical.proofs.Machines.{same_machine}
 use Rattle.hay_map.specs.Rows.{row_at}
@@ -39,13 +39,13 @@ use Rattle.hay_reply.specs.declared.Refused.TheVariants.{Closed, NoRoom}
 use Rattle.hay_volume_lock.specs.Acts.{act_of, counts, did_by}
 use Rattle.hay_volume_lock.specs.Answers.{BeginAnswer, BeginRefused, FailedLook, FlushAnswer, FlushRefused, Found, FoundAlways, FrozenAnswer, IsAt, RoomAnswer, StoreVolume}
 use Rattle.hay_volume_lock.specs.Keeping.{EndsOwn, GoesOn, IsKept, ends_at, stood_of}
-use Rattle.hay_volume_lock.specs.Tries.{IsTried, begin_made, flush_made}
+use Rattle.hay_volume_lock.specs.Tries.{IsBegunBy, IsTried, begin_made, flush_made}
 use Rattle.hay_volume_lock.specs.declared.act.Made.{Made}
 use Rattle.hay_volume_lock.specs.declared.act.Made.TheVariants as made_is
 use Rattle.hay_volume_lock.specs.declared.guarded.Guarded.{Guarded}
 use Rattle.hay_volume_lock.specs.declared.guarded.Opened.{Opened}
 use Rattle.hay_volume_lock.proofs.Counting.{count_one, count_there}
-use Rattle.hay_volume_lock.proofs.Growing.{FusesStay, IsOfOne, LeadsFusesOf, LeadsTo, begun_more, ends_none, goes_more, goes_tried, no_fuse}
+use Rattle.hay_volume_lock.proofs.Growing.{FusesStay, IsOfOne, LeadsFusesOf, LeadsTo, begun_more, ends_none, goes_more, goes_tried, no_fuse, of_still}
 use Rattle.hay_volume_lock.proofs.Holding.{stood_is}
 
 -- WHETHER IT TAKES A CHANGE
@@ -280,7 +280,7 @@ module _ {D P : Type 0} (Tells : Type 0) (files : D → Files) (PieceTells : Typ
         → (Tells → (k : VolumeKnown) → Stands files PieceTells old.logical k → logical.FlushRefused files PieceTells k j old.logical new.logical fault)
         → (made : Option VolumeAct) → IsTried faults fuses tag (counts faults (old.logical).replicas) (new.logical).replicas made
         → Goes made × Finds made (λ volume. FlushRefused volume tag j fault)
-        × ((m f : ℕ) → Err fault ≡ Err (Failed m f) → Always made (λ volume. FlushRefused volume tag j (Failed m f)))
+        × ((m f : ℕ) → ◌≡◌ {A = Result ℕ LogicalFault} (Err fault) (Err (Failed m f)) → Always made (λ volume. FlushRefused volume tag j (Failed m f)))
     flush_rest begun fault not refused made tried =
         let found = flush_refused begun fault not refused made tried.quiet tried.is in
         (found.0, found.1, λ m f e. absurd (not m f (let same : fault ≡ Failed m f = cc e in same)))
@@ -295,13 +295,13 @@ module _ {D P : Type 0} (Tells : Type 0) (files : D → Files) (PieceTells : Typ
     flush_found begun (Ok n) flushed refused cause made acts =
         let is = acts.0 (made_is.Flushes j) refl in
         let found = flush_ok begun n flushed (act_of faults fuses tag (made_is.Flushes j) (new.logical).replicas) refl in
-        subst (λ (z : Option VolumeAct). Goes z × Finds z (λ volume. FlushAnswer volume tag j (Ok n)) × ((m f : ℕ) → Ok n ≡ Err (Failed m f) → Always z (λ volume. FlushRefused volume tag j (Failed m f))))
+        subst (λ (z : Option VolumeAct). Goes z × Finds z (λ volume. FlushAnswer volume tag j (Ok n)) × ((m f : ℕ) → ◌≡◌ {A = Result ℕ LogicalFault} (Ok n) (Err (Failed m f)) → Always z (λ volume. FlushRefused volume tag j (Failed m f))))
         (sym is) (found.0, found.1, λ m f e. absurd cc)
     flush_found begun (Err (Failed m f)) flushed refused cause made acts =
         let is = acts.0 (made_is.Sticks j) refl in
         let found = flush_failed begun m f cause.0 cause.1 refused (act_of faults fuses tag (made_is.Sticks j) (new.logical).replicas) refl in
         subst (λ (z : Option VolumeAct). Goes z × Finds z (λ volume. FlushAnswer volume tag j (Err (Failed m f)))
-        × ((m' f' : ℕ) → Err (Failed m f) ≡ Err (Failed m' f') → Always z (λ volume. FlushRefused volume tag j (Failed m' f'))))
+        × ((m' f' : ℕ) → ◌≡◌ {A = Result ℕ LogicalFault} (Err (Failed m f)) (Err (Failed m' f')) → Always z (λ volume. FlushRefused volume tag j (Failed m' f'))))
         (sym is) (
           found.0,
           λ opened held h tells k s volume at. found.1 opened held h k volume at,
@@ -461,17 +461,12 @@ module _ {D P : Type 0} (Tells : Type 0) (files : D → Files) (PieceTells : Typ
         → (Tells → (k : VolumeKnown) → Stands files PieceTells old.logical k → logical.BeginRefused files PieceTells k j old.logical new.logical fault)
         → (made : Option VolumeAct) → IsTried faults fuses tag (counts faults (old.logical).replicas) (new.logical).replicas made
         → Goes made × Finds made (λ volume. BeginRefused volume tag j fault)
-        × ((m f : ℕ) → Err fault ≡ Err (Failed m f) → Always made (λ volume. FailedLook volume tag j m f))
+        × ((m f : ℕ) → ◌≡◌ {A = Result ℕ LogicalFault} (Err fault) (Err (Failed m f)) → Always made (λ volume. FailedLook volume tag j m f))
     begin_rest begun fault not refused made tried =
         let found = begin_refused begun fault not refused made tried.quiet tried.is in
         (found.0, found.1, λ m f e. absurd (not m f (let same : fault ≡ Failed m f = cc e in same)))
 
-    -- who began the compactions, by the answer
-    abbrev pub BegunBy : Result ℕ LogicalFault → Type 0
-    BegunBy (Ok g) = (i : ℕ) → i < (old.settings).replicas → slice_index_or new.begun i nobody ≡ begun_in i tag (Begins j) (slice_index_or old.begun i nobody)
-    BegunBy (Err fault) = new.begun ≡ old.begun
-
-    pub begin_found : (answer : Result ℕ LogicalFault) → BegunBy answer
+    pub begin_found : (answer : Result ℕ LogicalFault) → IsBegunBy tag j answer old.begun new.begun
         → (Tells → (k : VolumeKnown) → Stands files PieceTells old.logical k → IfOk answer (λ g. logical.IsBegun files PieceTells k j g new.logical))
         → (Tells → (k : VolumeKnown) → Stands files PieceTells old.logical k → IfErr answer (logical.BeginRefused files PieceTells k j old.logical new.logical))
         → IfErr answer (logical.IsBeginFault faults (old.logical).settings (old.logical).number j (old.logical).replicas (new.logical).replicas)
@@ -480,14 +475,14 @@ module _ {D P : Type 0} (Tells : Type 0) (files : D → Files) (PieceTells : Typ
         × ((m f : ℕ) → answer ≡ Err (Failed m f) → Always made (λ volume. FailedLook volume tag j m f))
     begin_found (Ok g) begun is_begun refused cause made acts =
         let is = acts.0 (made_is.Begins j) refl in
-        let found = begin_ok begun g is_begun (act_of faults fuses tag (made_is.Begins j) (new.logical).replicas) refl in
-        subst (λ (z : Option VolumeAct). Goes z × Finds z (λ volume. BeginAnswer volume tag j (Ok g)) × ((m f : ℕ) → Ok g ≡ Err (Failed m f) → Always z (λ volume. FailedLook volume tag j m f)))
+        let found = begin_ok (λ i less. begun i) g is_begun (act_of faults fuses tag (made_is.Begins j) (new.logical).replicas) refl in
+        subst (λ (z : Option VolumeAct). Goes z × Finds z (λ volume. BeginAnswer volume tag j (Ok g)) × ((m f : ℕ) → ◌≡◌ {A = Result ℕ LogicalFault} (Ok g) (Err (Failed m f)) → Always z (λ volume. FailedLook volume tag j m f)))
         (sym is) (found.0, found.1, λ m f e. absurd cc)
     begin_found (Err (Failed m f)) begun is_begun refused cause made acts =
         let is = acts.0 made_is.Tries refl in
         let found = begin_failed begun m f cause.0 cause.1 refused (act_of faults fuses tag made_is.Tries (new.logical).replicas) refl in
         subst (λ (z : Option VolumeAct). Goes z × Finds z (λ volume. BeginAnswer volume tag j (Err (Failed m f)))
-        × ((m' f' : ℕ) → Err (Failed m f) ≡ Err (Failed m' f') → Always z (λ volume. FailedLook volume tag j m' f')))
+        × ((m' f' : ℕ) → ◌≡◌ {A = Result ℕ LogicalFault} (Err (Failed m f)) (Err (Failed m' f')) → Always z (λ volume. FailedLook volume tag j m' f')))
         (sym is) (
           found.0,
           found.2,
@@ -568,3 +563,53 @@ module _ {D P : Type 0} (Tells : Type 0) (files : D → Files) (PieceTells : Typ
         thawed = λ thawed. sym (ap (λ v. v.frozen) still) ∙ thawed;
         rows = λ thawed pair. ap (λ v. row_at v.rows pair) still;
       }
+
+-- WHOLE CALLS
+
+module _ {D P : Type 0} (Tells : Type 0) (files : D → Files) (PieceTells : Type 0) (faults fuses : D → ℕ) (tag : CoreTag) (old new : Guarded D P) where
+  -- the act for what was done
+  acts_by : (before : List ℕ) (did want : Option Made) (made : Option VolumeAct) → before ≡ counts faults (old.logical).replicas → did ≡ want
+      → ((m : Made) → did ≡ Some m → made ≡ Some (act_of faults fuses tag m (new.logical).replicas))
+      → (did ≡ None → IsTried faults fuses tag before (new.logical).replicas made)
+      → ((m : Made) → want ≡ Some m → made ≡ Some (act_of faults fuses tag m (new.logical).replicas))
+      × (want ≡ None → IsTried faults fuses tag (counts faults (old.logical).replicas) (new.logical).replicas made)
+  acts_by before did want made same is some none =
+      (λ m e. some m (is ∙ e), λ e. subst (λ (l : List ℕ). IsTried faults fuses tag l (new.logical).replicas made) same (none (is ∙ e)))
+
+  -- the replicas alone changed
+  pub record Changed : Type 0 where
+    pub settings : new.settings ≡ old.settings
+    pub front : new.front ≡ old.front
+    pub ended : new.ended ≡ old.ended
+    pub same : IsSame old.logical new.logical
+    pub is_open : IsOpenVolume new.logical
+    pub counts : KeepsCounts faults fuses (old.logical).replicas (new.logical).replicas
+    pub still : new.logical ≡ record old.logical { replicas = (new.logical).replicas }
+
+  module _ (change : Changed) (j : ℕ) (within : j < ((old.logical).settings).replicas) (answer : Result ℕ LogicalFault) (before : List ℕ) (was : before ≡ counts faults (old.logical).replicas) (did : Option Made) (made : Option VolumeAct)
+      (some : (m : Made) → did ≡ Some m → made ≡ Some (act_of faults fuses tag m (new.logical).replicas))
+      (none : did ≡ None → IsTried faults fuses tag before (new.logical).replicas made) where
+    abbrev both : IsOfOne faults old new × FusesStay fuses old new
+    both = of_still faults fuses old new change.settings change.front change.same change.is_open change.counts change.still
+
+    pub flush_call : new.begun ≡ old.begun
+        → (Tells → (k : VolumeKnown) → Stands files PieceTells old.logical k → IfOk answer (λ n. logical.IsFlushed files PieceTells k j n new.logical))
+        → (Tells → (k : VolumeKnown) → Stands files PieceTells old.logical k → IfErr answer (logical.FlushRefused files PieceTells k j old.logical new.logical))
+        → IfErr answer (logical.IsFlushFault faults (old.logical).settings (old.logical).number j (old.logical).replicas (new.logical).replicas)
+        → did ≡ flush_made j answer
+        → GoesOn Tells files PieceTells faults fuses tag old new made
+        × Found Tells files PieceTells faults fuses tag old made (λ volume. FlushAnswer volume tag j answer)
+        × ((m f : ℕ) → answer ≡ Err (Failed m f) → FoundAlways Tells files PieceTells faults fuses tag old made (λ volume. FlushRefused volume tag j (Failed m f)))
+    flush_call begun flushed refused cause is =
+        flush_found Tells files PieceTells faults fuses tag old new both.0 both.1 change.ended j within begun answer flushed refused cause made (acts_by before did (flush_made j answer) made was is some none)
+
+    pub begin_call : IsBegunBy tag j answer old.begun new.begun
+        → (Tells → (k : VolumeKnown) → Stands files PieceTells old.logical k → IfOk answer (λ g. logical.IsBegun files PieceTells k j g new.logical))
+        → (Tells → (k : VolumeKnown) → Stands files PieceTells old.logical k → IfErr answer (logical.BeginRefused files PieceTells k j old.logical new.logical))
+        → IfErr answer (logical.IsBeginFault faults (old.logical).settings (old.logical).number j (old.logical).replicas (new.logical).replicas)
+        → did ≡ begin_made j answer
+        → GoesOn Tells files PieceTells faults fuses tag old new made
+        × Found Tells files PieceTells faults fuses tag old made (λ volume. BeginAnswer volume tag j answer)
+        × ((m f : ℕ) → answer ≡ Err (Failed m f) → FoundAlways Tells files PieceTells faults fuses tag old made (λ volume. FailedLook volume tag j m f))
+    begin_call begun is_begun refused cause is =
+        begin_found Tells files PieceTells faults fuses tag old new both.0 both.1 change.ended j within answer begun is_begun refused cause made (acts_by before did (begin_made j answer) made was is some none)

@@ -1,5 +1,5 @@
 -- What is left of a lock where it ends.
-use Rattle.std.specs.Prelude.{◌≡◌, ℕ, ◌<◌, false, List, length, slice_get, Some}
+use Rattle.std.specs.Prelude.{◌≡◌, ℕ, ◌<◌, List, length, slice_get, Some}
 use mathlib.Core.List.{IsPrefix}
 use Rattle.hay_disk.specs.Disk.{Files}
 use Rattle.hay_logical.specs.Volumes.{Volume}

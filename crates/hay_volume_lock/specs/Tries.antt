@@ -1,9 +1,12 @@
 -- The act of a holding, by what its call answered.
-use Rattle.std.specs.Prelude.{◌≡◌, ◌↔◌, ℕ, List, Option, Some, None, Result, Ok, Err, IsNone, IfSome}
+use Rattle.std.specs.Prelude.{◌≡◌, ◌↔◌, ℕ, List, Option, Some, None, Result, Ok, Err, IsNone, IfSome, slice_index_or}
 use Rattle.hay_core.specs.declared.entry.CoreTag.{CoreTag}
+use Rattle.hay_history.specs.Histories.{begun_in}
+use Rattle.hay_history.specs.Steps.Did.{Begins}
 use Rattle.hay_logical.specs.declared.fault.LogicalFault.{LogicalFault}
 use Rattle.hay_logical.specs.declared.fault.LogicalFault.TheVariants.{Busy, Damaged, Failed, Full, Gone, Idle, NoMemory, ReadOnly, Worn}
 use Rattle.hay_meeting.specs.declared.act.VolumeAct.{VolumeAct}
+use Rattle.hay_meeting.specs.Acts.{nobody}
 use Rattle.hay_physical.specs.Copies.{Copy}
 use Rattle.hay_volume_lock.specs.Acts.{act_of, counts}
 use Rattle.hay_volume_lock.specs.declared.act.Made.{Made}
@@ -45,3 +48,8 @@ tried_made (Damaged m at) = None
 abbrev pub begin_made : ℕ → Result ℕ LogicalFault → Option Made
 begin_made j (Ok g) = Some (made.Begins j)
 begin_made j (Err fault) = tried_made fault
+
+-- who began the compaction of each replica last, behind such a call
+abbrev pub IsBegunBy : CoreTag → ℕ → Result ℕ LogicalFault → List CoreTag → List CoreTag → Type 0
+IsBegunBy tag j (Ok g) old new = (i : ℕ) → slice_index_or new i nobody ≡ begun_in i tag (Begins j) (slice_index_or old i nobody)
+IsBegunBy tag j (Err fault) old new = new ≡ old

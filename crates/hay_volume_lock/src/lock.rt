@@ -8,7 +8,7 @@ ghost use Rattle.hay_volume_lock.specs.Seats.{HasReplica, IsSameSeat, MayAct, Re
 use crate::act::{Act, Made};
 use crate::guarded::Guarded;
 use crate::seat::VolumeSeat;
-use crate::tries::{act_made, begin_did, faults_of, flush_did};
+use crate::tries::{act_made, begin_did, faults_of, flush_did, note_begun};
 use hay_core::CoreTag;
 use hay_disk::{Disk, Piece};
 use hay_logical::LogicalFault;
@@ -86,13 +86,7 @@ impl<D: Disk<Piece = P> + Send + Sync, P: Piece + Send + Sync> VolumeLock<D, P> 
         let before = faults_of(&kept.logical, kept.settings.replicas);
         let answer = kept.logical.flush(replica);
         let did = flush_did(&answer, replica);
-        let made = act_made(
-            &kept.logical,
-            kept.settings.replicas,
-            before.as_slice(),
-            tag,
-            did,
-        );
+        let made = act_made(&kept.logical, kept.settings.replicas, &before, tag, did);
         self.turn.free(&mut seat.turn, kept, made);
         answer
     }
@@ -119,17 +113,9 @@ impl<D: Disk<Piece = P> + Send + Sync, P: Piece + Send + Sync> VolumeLock<D, P> 
         kept.front.show_all(rt, &mut seat.view);
         let before = faults_of(&kept.logical, kept.settings.replicas);
         let answer = kept.logical.begin(alloc, replica);
-        if answer.is_ok() {
-            kept.begun[replica as usize] = tag;
-        }
+        note_begun(&mut kept.begun, &answer, tag, replica);
         let did = begin_did(&answer, replica);
-        let made = act_made(
-            &kept.logical,
-            kept.settings.replicas,
-            before.as_slice(),
-            tag,
-            did,
-        );
+        let made = act_made(&kept.logical, kept.settings.replicas, &before, tag, did);
         self.turn.free(&mut seat.turn, kept, made);
         answer
     }

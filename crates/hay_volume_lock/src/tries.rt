@@ -1,7 +1,7 @@
 //! The act of a holding, by what its call answered.
-ghost use Rattle.std.specs.Prelude.{◌≡◌, ◌↔◌, ◌≤◌, length, IsTrue, IfSome, Some, None};
+ghost use Rattle.std.specs.Prelude.{◌≡◌, ◌↔◌, ◌≤◌, ◌<◌, length, IsTrue, IfSome, Some, None};
 ghost use Rattle.hay_volume_lock.specs.Acts.{act_of, counts};
-ghost use Rattle.hay_volume_lock.specs.Tries.{IsTried, begin_made, flush_made};
+ghost use Rattle.hay_volume_lock.specs.Tries.{IsBegunBy, IsTried, begin_made, flush_made};
 ghost use Rattle.hay_volume_lock.specs.declared.act.Made.{Made};
 
 use crate::act::{Act, Made};
@@ -33,20 +33,20 @@ fn is_same(before: &[u64], now: &[u64]) -> bool
 pub(crate) fn act_made<D: Disk>(
     logical: &Logical<D>,
     replicas: u32,
-    before: &[u64],
+    before: &ArrayVec<u64, 4>,
     tag: CoreTag,
     did: Option<Made>,
 ) -> Option<Act<D>>
     requires all { length logical.now.replicas ≡ replicas }
     requires most { replicas ≤ 4 }
     ensures did { (made : Made) → did ≡ Some made → result ≡ Some (act_of D.fault_count D.fuse_count tag made logical.now.replicas) }
-    ensures tried { did ≡ None → IsTried D.fault_count D.fuse_count tag before.now logical.now.replicas result }
+    ensures tried { did ≡ None → IsTried D.fault_count D.fuse_count tag before.now.items logical.now.replicas result }
 {
     if let Some(made) = did {
         return Some(Act::new(tag, made, logical));
     }
     let now = faults_of(logical, replicas);
-    if is_same(before, now.as_slice()) {
+    if is_same(before.as_slice(), now.as_slice()) {
         return None;
     }
     Some(Act::new(tag, Made::Tries, logical))
@@ -71,5 +71,20 @@ pub(crate) fn begin_did(answer: &Result<u64, LogicalFault>, replica: u32) -> Opt
         Ok(_) => Some(Made::Begins { replica }),
         Err(LogicalFault::Failed { .. }) => Some(Made::Tries),
         Err(_) => None,
+    }
+}
+
+/// Notes who began the compaction of a replica, if one was begun.
+pub(crate) fn note_begun(
+    begun: &mut [CoreTag; 4],
+    answer: &Result<u64, LogicalFault>,
+    tag: CoreTag,
+    replica: u32,
+)
+    requires { replica < 4 }
+    ensures { IsBegunBy tag replica answer.now begun.old begun.new }
+{
+    if answer.is_ok() {
+        begun[replica as usize] = tag;
     }
 }

@@ -4,7 +4,7 @@ use Rattle.hay_turn.specs.Seats.{after_free}
 use Rattle.hay_volume_lock.specs.Answers.{FrozenAnswer, IsTold, OneHolding}
 use Rattle.hay_volume_lock.specs.Seats.{IsSameSeat, Seated}
 use Rattle.hay_volume_lock.proofs.Finding.{frozen_found}
-use Rattle.hay_volume_lock.proofs.Holding.{quiet_free, quiet_held, quiet_same, quiet_told, seat_of}
+use Rattle.hay_volume_lock.proofs.Holding.{quiet_free, quiet_held, quiet_same, quiet_seated, quiet_told, seat_of}
 use Rattle.hay_volume_lock.proofs.lock.VolumeLock.frozen.Goals as goal
 
 pub show_all-requires-after_bounds : goal.show_all-requires-after_bounds
@@ -33,3 +33,7 @@ pub returns-clause-same : goal.returns-clause-same
 returns-clause-same g c =
     subst (λ (s : Seated g.row.D.Denot g.row.P.Denot). IsSameSeat s (seat_of c.free.new.seat c.show_all.new.seat)) c.seat.view_is
     (quiet_same g.D.Disk.Tells g.D.Disk.files g.P.Piece.Tells g.D.Disk.fault_count g.D.Disk.fuse_count nobody c.seat.inside.turn c.hold-kept.new.seat c.free.new.seat c.seat.inside.view c.show_all.new.seat c.hold-kept.result c.seat.invariant c.hold-kept.ensures c.show_all.ensures.seen.0 c.show_all.ensures.seen.1 c.free.ensures (ap (λ (s : Seated g.row.D.Denot g.row.P.Denot). s.holds) c.seat.view_is ∙ c.requires.rests.rests))
+
+pub invariant_of-seat : goal.invariant_of-seat
+invariant_of-seat g c =
+    quiet_seated g.D.Disk.Tells g.D.Disk.files g.P.Piece.Tells g.D.Disk.fault_count g.D.Disk.fuse_count nobody c.seat.inside.turn c.hold-kept.new.seat c.free.new.seat c.seat.inside.view c.show_all.new.seat c.hold-kept.result c.seat.invariant c.hold-kept.ensures c.show_all.ensures.seen.0 c.show_all.ensures.seen.1 c.free.ensures

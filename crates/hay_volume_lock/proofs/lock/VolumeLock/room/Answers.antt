@@ -4,7 +4,7 @@ use Rattle.hay_turn.specs.Seats.{after_free}
 use Rattle.hay_volume_lock.specs.Answers.{RoomAnswer, IsTold, OneHolding}
 use Rattle.hay_volume_lock.specs.Seats.{IsSameSeat, Seated}
 use Rattle.hay_volume_lock.proofs.Finding.{room_found}
-use Rattle.hay_volume_lock.proofs.Holding.{quiet_free, quiet_held, quiet_same, quiet_told, seat_of}
+use Rattle.hay_volume_lock.proofs.Holding.{quiet_free, quiet_held, quiet_same, quiet_seated, quiet_told, seat_of}
 use Rattle.hay_volume_lock.proofs.lock.VolumeLock.room.Goals as goal
 
 pub show_all-requires-after_bounds : goal.show_all-requires-after_bounds
@@ -36,3 +36,7 @@ returns-clause-same g c =
 
 pub room-answer-requires : goal.room-answer-requires
 room-answer-requires g c = record { «open» = (c.hold-kept.ensures.stands_for c.seat.invariant.opened c.seat.invariant.is).is_open }
+
+pub invariant_of-seat : goal.invariant_of-seat
+invariant_of-seat g c =
+    quiet_seated g.D.Disk.Tells g.D.Disk.files g.P.Piece.Tells g.D.Disk.fault_count g.D.Disk.fuse_count nobody c.seat.inside.turn c.hold-kept.new.seat c.free.new.seat c.seat.inside.view c.show_all.new.seat c.hold-kept.result c.seat.invariant c.hold-kept.ensures c.show_all.ensures.seen.0 c.show_all.ensures.seen.1 c.free.ensures

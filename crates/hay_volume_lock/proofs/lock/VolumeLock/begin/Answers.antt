@@ -1,0 +1,103 @@
+use Rattle.std.proofs.Common.{refl, sym, ap, subst, ◌∙◌}
+use Rattle.hay_turn.specs.Seats.{after_free}
+use Rattle.hay_turn.specs.Slots.{acts_in}
+use Rattle.hay_volume_lock.specs.Answers.{BeginAnswer, FailedLook, IsAlways, IsTold, OneHolding}
+use Rattle.hay_volume_lock.specs.Seats.{IsSameSeat, Seated}
+use Rattle.hay_volume_lock.proofs.Finding.{begin_call}
+use Rattle.hay_volume_lock.proofs.Holding.{all_there, few_there, is_held, made_always, made_free, made_held, made_mine, made_same, made_seated, made_told, seat_of, within_it}
+use Rattle.hay_volume_lock.proofs.lock.VolumeLock.begin.Goals as goal
+
+pub show_all-requires-after_bounds : goal.show_all-requires-after_bounds
+show_all-requires-after_bounds g c = λ κs within.
+    c.seat.invariant.front ∙ sym (is_held g.D.Disk.Tells g.D.Disk.files g.P.Piece.Tells g.D.Disk.fault_count g.D.Disk.fuse_count c.seat.invariant c.hold-kept.ensures).front
+
+pub faults_of-before-requires-clause-all : goal.faults_of-before-requires-clause-all
+faults_of-before-requires-clause-all g c = all_there g.D.Disk.Tells g.D.Disk.files g.P.Piece.Tells g.D.Disk.fault_count g.D.Disk.fuse_count c.seat.invariant c.hold-kept.ensures
+
+pub faults_of-before-requires-clause-most : goal.faults_of-before-requires-clause-most
+faults_of-before-requires-clause-most g c = few_there g.D.Disk.Tells g.D.Disk.files g.P.Piece.Tells g.D.Disk.fault_count g.D.Disk.fuse_count c.seat.invariant c.hold-kept.ensures
+
+pub begin-answer-requires-clause-within : goal.begin-answer-requires-clause-within
+begin-answer-requires-clause-within g c = (within_it g.D.Disk.Tells g.D.Disk.files g.P.Piece.Tells g.D.Disk.fault_count g.D.Disk.fuse_count c.seat.invariant c.hold-kept.ensures c.args.replica (c.requires.within c.seat.invariant.opened (sym (ap (λ (s : Seated g.row.D.Denot g.row.P.Denot). s.start) c.seat.view_is) ∙ c.seat.invariant.is)))
+
+pub begin-answer-requires-clause-open : goal.begin-answer-requires-clause-open
+begin-answer-requires-clause-open g c = (is_held g.D.Disk.Tells g.D.Disk.files g.P.Piece.Tells g.D.Disk.fault_count g.D.Disk.fuse_count c.seat.invariant c.hold-kept.ensures).is_open
+
+pub act_made-made-requires-clause-all : goal.act_made-made-requires-clause-all
+act_made-made-requires-clause-all g c = c.begin-answer.ensures.counts.count ∙ all_there g.D.Disk.Tells g.D.Disk.files g.P.Piece.Tells g.D.Disk.fault_count g.D.Disk.fuse_count c.seat.invariant c.hold-kept.ensures
+
+pub act_made-made-requires-clause-most : goal.act_made-made-requires-clause-most
+act_made-made-requires-clause-most g c = few_there g.D.Disk.Tells g.D.Disk.files g.P.Piece.Tells g.D.Disk.fault_count g.D.Disk.fuse_count c.seat.invariant c.hold-kept.ensures
+
+pub free-requires-clause-may : goal.free-requires-clause-may
+free-requires-clause-may g c = record {
+  stands_for = made_free g.D.Disk.Tells g.D.Disk.files g.P.Piece.Tells g.D.Disk.fault_count g.D.Disk.fuse_count c.args.tag c.seat.inside.turn c.hold-kept.new.seat (after_free c.hold-kept.new.seat (acts_in (c.act_made-made.result))) c.seat.inside.view c.show_all.new.seat c.hold-kept.result (record c.hold-kept.result { logical = c.begin-answer.new.self; begun = c.note_begun.new.begun })
+      c.act_made-made.result c.seat.invariant c.hold-kept.ensures c.show_all.ensures.seen.0 c.show_all.ensures.seen.1
+      (begin_call g.D.Disk.Tells g.D.Disk.files g.P.Piece.Tells g.D.Disk.fault_count g.D.Disk.fuse_count c.args.tag c.hold-kept.result (record c.hold-kept.result { logical = c.begin-answer.new.self; begun = c.note_begun.new.begun })
+      (record { settings = refl; front = refl; ended = refl; same = c.begin-answer.ensures.same; is_open = c.begin-answer.ensures.open; counts = c.begin-answer.ensures.counts; still = c.begin-answer.ensures.still }) c.args.replica (within_it g.D.Disk.Tells g.D.Disk.files g.P.Piece.Tells g.D.Disk.fault_count g.D.Disk.fuse_count c.seat.invariant c.hold-kept.ensures c.args.replica (c.requires.within c.seat.invariant.opened (sym (ap (λ (s : Seated g.row.D.Denot g.row.P.Denot). s.start) c.seat.view_is) ∙ c.seat.invariant.is)))
+      c.begin-answer.result c.faults_of-before.result.items c.faults_of-before.ensures c.begin_did-did.result c.act_made-made.result c.act_made-made.ensures.did c.act_made-made.ensures.tried
+      c.note_begun.ensures c.begin-answer.ensures.begun c.begin-answer.ensures.refused c.begin-answer.ensures.causes c.begin_did-did.ensures).0 refl;
+  mine = made_mine g.D.Disk.Tells g.D.Disk.files g.P.Piece.Tells g.D.Disk.fault_count g.D.Disk.fuse_count c.args.tag c.seat.inside.turn c.hold-kept.new.seat (after_free c.hold-kept.new.seat (acts_in (c.act_made-made.result))) c.seat.inside.view c.show_all.new.seat c.hold-kept.result (record c.hold-kept.result { logical = c.begin-answer.new.self; begun = c.note_begun.new.begun })
+      c.act_made-made.result c.seat.invariant c.hold-kept.ensures c.show_all.ensures.seen.0 c.show_all.ensures.seen.1
+      (begin_call g.D.Disk.Tells g.D.Disk.files g.P.Piece.Tells g.D.Disk.fault_count g.D.Disk.fuse_count c.args.tag c.hold-kept.result (record c.hold-kept.result { logical = c.begin-answer.new.self; begun = c.note_begun.new.begun })
+      (record { settings = refl; front = refl; ended = refl; same = c.begin-answer.ensures.same; is_open = c.begin-answer.ensures.open; counts = c.begin-answer.ensures.counts; still = c.begin-answer.ensures.still }) c.args.replica (within_it g.D.Disk.Tells g.D.Disk.files g.P.Piece.Tells g.D.Disk.fault_count g.D.Disk.fuse_count c.seat.invariant c.hold-kept.ensures c.args.replica (c.requires.within c.seat.invariant.opened (sym (ap (λ (s : Seated g.row.D.Denot g.row.P.Denot). s.start) c.seat.view_is) ∙ c.seat.invariant.is)))
+      c.begin-answer.result c.faults_of-before.result.items c.faults_of-before.ensures c.begin_did-did.result c.act_made-made.result c.act_made-made.ensures.did c.act_made-made.ensures.tried
+      c.note_begun.ensures c.begin-answer.ensures.begun c.begin-answer.ensures.refused c.begin-answer.ensures.causes c.begin_did-did.ensures).0 refl (ap (λ (s : Seated g.row.D.Denot g.row.P.Denot). s.number) c.seat.view_is ∙ c.requires.may.lane);
+}
+
+pub invariant_of-seat : goal.invariant_of-seat
+invariant_of-seat g c =
+    made_seated g.D.Disk.Tells g.D.Disk.files g.P.Piece.Tells g.D.Disk.fault_count g.D.Disk.fuse_count c.args.tag c.seat.inside.turn c.hold-kept.new.seat c.free.new.seat c.seat.inside.view c.show_all.new.seat c.hold-kept.result (record c.hold-kept.result { logical = c.begin-answer.new.self; begun = c.note_begun.new.begun })
+    c.act_made-made.result c.seat.invariant c.hold-kept.ensures c.show_all.ensures.seen.0 c.show_all.ensures.seen.1
+    (begin_call g.D.Disk.Tells g.D.Disk.files g.P.Piece.Tells g.D.Disk.fault_count g.D.Disk.fuse_count c.args.tag c.hold-kept.result (record c.hold-kept.result { logical = c.begin-answer.new.self; begun = c.note_begun.new.begun })
+    (record { settings = refl; front = refl; ended = refl; same = c.begin-answer.ensures.same; is_open = c.begin-answer.ensures.open; counts = c.begin-answer.ensures.counts; still = c.begin-answer.ensures.still }) c.args.replica (within_it g.D.Disk.Tells g.D.Disk.files g.P.Piece.Tells g.D.Disk.fault_count g.D.Disk.fuse_count c.seat.invariant c.hold-kept.ensures c.args.replica (c.requires.within c.seat.invariant.opened (sym (ap (λ (s : Seated g.row.D.Denot g.row.P.Denot). s.start) c.seat.view_is) ∙ c.seat.invariant.is)))
+    c.begin-answer.result c.faults_of-before.result.items c.faults_of-before.ensures c.begin_did-did.result c.act_made-made.result c.act_made-made.ensures.did c.act_made-made.ensures.tried
+    c.note_begun.ensures c.begin-answer.ensures.begun c.begin-answer.ensures.refused c.begin-answer.ensures.causes c.begin_did-did.ensures).0 c.free.ensures (ap (λ (s : Seated g.row.D.Denot g.row.P.Denot). s.number) c.seat.view_is ∙ c.requires.may.lane)
+
+pub returns-clause-begun : goal.returns-clause-begun
+returns-clause-begun g c =
+    subst (λ (s : Seated g.row.D.Denot g.row.P.Denot). IsTold g.D.Disk.Tells g.D.Disk.files g.P.Piece.Tells g.D.Disk.fault_count g.D.Disk.fuse_count s.start (λ volume. BeginAnswer volume c.args.tag c.args.replica c.begin-answer.result s.sight (seat_of c.free.new.seat c.show_all.new.seat).sight)) c.seat.view_is
+    (made_told g.D.Disk.Tells g.D.Disk.files g.P.Piece.Tells g.D.Disk.fault_count g.D.Disk.fuse_count c.args.tag c.seat.inside.turn c.hold-kept.new.seat c.free.new.seat c.seat.inside.view c.show_all.new.seat c.hold-kept.result (record c.hold-kept.result { logical = c.begin-answer.new.self; begun = c.note_begun.new.begun })
+    c.act_made-made.result c.seat.invariant c.hold-kept.ensures c.show_all.ensures.seen.0 c.show_all.ensures.seen.1
+    (begin_call g.D.Disk.Tells g.D.Disk.files g.P.Piece.Tells g.D.Disk.fault_count g.D.Disk.fuse_count c.args.tag c.hold-kept.result (record c.hold-kept.result { logical = c.begin-answer.new.self; begun = c.note_begun.new.begun })
+    (record { settings = refl; front = refl; ended = refl; same = c.begin-answer.ensures.same; is_open = c.begin-answer.ensures.open; counts = c.begin-answer.ensures.counts; still = c.begin-answer.ensures.still }) c.args.replica (within_it g.D.Disk.Tells g.D.Disk.files g.P.Piece.Tells g.D.Disk.fault_count g.D.Disk.fuse_count c.seat.invariant c.hold-kept.ensures c.args.replica (c.requires.within c.seat.invariant.opened (sym (ap (λ (s : Seated g.row.D.Denot g.row.P.Denot). s.start) c.seat.view_is) ∙ c.seat.invariant.is)))
+    c.begin-answer.result c.faults_of-before.result.items c.faults_of-before.ensures c.begin_did-did.result c.act_made-made.result c.act_made-made.ensures.did c.act_made-made.ensures.tried
+    c.note_begun.ensures c.begin-answer.ensures.begun c.begin-answer.ensures.refused c.begin-answer.ensures.causes c.begin_did-did.ensures).0 c.free.ensures
+    (λ volume. BeginAnswer volume c.args.tag c.args.replica c.begin-answer.result) (begin_call g.D.Disk.Tells g.D.Disk.files g.P.Piece.Tells g.D.Disk.fault_count g.D.Disk.fuse_count c.args.tag c.hold-kept.result (record c.hold-kept.result { logical = c.begin-answer.new.self; begun = c.note_begun.new.begun })
+    (record { settings = refl; front = refl; ended = refl; same = c.begin-answer.ensures.same; is_open = c.begin-answer.ensures.open; counts = c.begin-answer.ensures.counts; still = c.begin-answer.ensures.still }) c.args.replica (within_it g.D.Disk.Tells g.D.Disk.files g.P.Piece.Tells g.D.Disk.fault_count g.D.Disk.fuse_count c.seat.invariant c.hold-kept.ensures c.args.replica (c.requires.within c.seat.invariant.opened (sym (ap (λ (s : Seated g.row.D.Denot g.row.P.Denot). s.start) c.seat.view_is) ∙ c.seat.invariant.is)))
+    c.begin-answer.result c.faults_of-before.result.items c.faults_of-before.ensures c.begin_did-did.result c.act_made-made.result c.act_made-made.ensures.did c.act_made-made.ensures.tried
+    c.note_begun.ensures c.begin-answer.ensures.begun c.begin-answer.ensures.refused c.begin-answer.ensures.causes c.begin_did-did.ensures).1)
+
+pub returns-clause-causes : goal.returns-clause-causes
+returns-clause-causes g c = λ m f is.
+    subst (λ (s : Seated g.row.D.Denot g.row.P.Denot). IsAlways g.D.Disk.fault_count g.D.Disk.fuse_count s.start (λ volume. FailedLook volume c.args.tag c.args.replica m f s.sight (seat_of c.free.new.seat c.show_all.new.seat).sight)) c.seat.view_is
+    (made_always g.D.Disk.Tells g.D.Disk.files g.P.Piece.Tells g.D.Disk.fault_count g.D.Disk.fuse_count c.args.tag c.seat.inside.turn c.hold-kept.new.seat c.free.new.seat c.seat.inside.view c.show_all.new.seat c.hold-kept.result (record c.hold-kept.result { logical = c.begin-answer.new.self; begun = c.note_begun.new.begun })
+    c.act_made-made.result c.seat.invariant c.hold-kept.ensures c.show_all.ensures.seen.0 c.show_all.ensures.seen.1
+    (begin_call g.D.Disk.Tells g.D.Disk.files g.P.Piece.Tells g.D.Disk.fault_count g.D.Disk.fuse_count c.args.tag c.hold-kept.result (record c.hold-kept.result { logical = c.begin-answer.new.self; begun = c.note_begun.new.begun })
+    (record { settings = refl; front = refl; ended = refl; same = c.begin-answer.ensures.same; is_open = c.begin-answer.ensures.open; counts = c.begin-answer.ensures.counts; still = c.begin-answer.ensures.still }) c.args.replica (within_it g.D.Disk.Tells g.D.Disk.files g.P.Piece.Tells g.D.Disk.fault_count g.D.Disk.fuse_count c.seat.invariant c.hold-kept.ensures c.args.replica (c.requires.within c.seat.invariant.opened (sym (ap (λ (s : Seated g.row.D.Denot g.row.P.Denot). s.start) c.seat.view_is) ∙ c.seat.invariant.is)))
+    c.begin-answer.result c.faults_of-before.result.items c.faults_of-before.ensures c.begin_did-did.result c.act_made-made.result c.act_made-made.ensures.did c.act_made-made.ensures.tried
+    c.note_begun.ensures c.begin-answer.ensures.begun c.begin-answer.ensures.refused c.begin-answer.ensures.causes c.begin_did-did.ensures).0 c.free.ensures
+    (λ volume. FailedLook volume c.args.tag c.args.replica m f) ((begin_call g.D.Disk.Tells g.D.Disk.files g.P.Piece.Tells g.D.Disk.fault_count g.D.Disk.fuse_count c.args.tag c.hold-kept.result (record c.hold-kept.result { logical = c.begin-answer.new.self; begun = c.note_begun.new.begun })
+    (record { settings = refl; front = refl; ended = refl; same = c.begin-answer.ensures.same; is_open = c.begin-answer.ensures.open; counts = c.begin-answer.ensures.counts; still = c.begin-answer.ensures.still }) c.args.replica (within_it g.D.Disk.Tells g.D.Disk.files g.P.Piece.Tells g.D.Disk.fault_count g.D.Disk.fuse_count c.seat.invariant c.hold-kept.ensures c.args.replica (c.requires.within c.seat.invariant.opened (sym (ap (λ (s : Seated g.row.D.Denot g.row.P.Denot). s.start) c.seat.view_is) ∙ c.seat.invariant.is)))
+    c.begin-answer.result c.faults_of-before.result.items c.faults_of-before.ensures c.begin_did-did.result c.act_made-made.result c.act_made-made.ensures.did c.act_made-made.ensures.tried
+    c.note_begun.ensures c.begin-answer.ensures.begun c.begin-answer.ensures.refused c.begin-answer.ensures.causes c.begin_did-did.ensures).2 m f is))
+
+pub returns-clause-held : goal.returns-clause-held
+returns-clause-held g c =
+    subst (λ (s : Seated g.row.D.Denot g.row.P.Denot). OneHolding c.args.tag s.sight (seat_of c.free.new.seat c.show_all.new.seat).sight) c.seat.view_is
+    (made_held g.D.Disk.Tells g.D.Disk.files g.P.Piece.Tells g.D.Disk.fault_count g.D.Disk.fuse_count c.args.tag c.seat.inside.turn c.hold-kept.new.seat c.free.new.seat c.seat.inside.view c.show_all.new.seat c.hold-kept.result (record c.hold-kept.result { logical = c.begin-answer.new.self; begun = c.note_begun.new.begun })
+    c.act_made-made.result c.seat.invariant c.hold-kept.ensures c.show_all.ensures.seen.0 c.show_all.ensures.seen.1
+    (begin_call g.D.Disk.Tells g.D.Disk.files g.P.Piece.Tells g.D.Disk.fault_count g.D.Disk.fuse_count c.args.tag c.hold-kept.result (record c.hold-kept.result { logical = c.begin-answer.new.self; begun = c.note_begun.new.begun })
+    (record { settings = refl; front = refl; ended = refl; same = c.begin-answer.ensures.same; is_open = c.begin-answer.ensures.open; counts = c.begin-answer.ensures.counts; still = c.begin-answer.ensures.still }) c.args.replica (within_it g.D.Disk.Tells g.D.Disk.files g.P.Piece.Tells g.D.Disk.fault_count g.D.Disk.fuse_count c.seat.invariant c.hold-kept.ensures c.args.replica (c.requires.within c.seat.invariant.opened (sym (ap (λ (s : Seated g.row.D.Denot g.row.P.Denot). s.start) c.seat.view_is) ∙ c.seat.invariant.is)))
+    c.begin-answer.result c.faults_of-before.result.items c.faults_of-before.ensures c.begin_did-did.result c.act_made-made.result c.act_made-made.ensures.did c.act_made-made.ensures.tried
+    c.note_begun.ensures c.begin-answer.ensures.begun c.begin-answer.ensures.refused c.begin-answer.ensures.causes c.begin_did-did.ensures).0 c.free.ensures)
+
+pub returns-clause-same : goal.returns-clause-same
+returns-clause-same g c =
+    subst (λ (s : Seated g.row.D.Denot g.row.P.Denot). IsSameSeat s (seat_of c.free.new.seat c.show_all.new.seat)) c.seat.view_is
+    (made_same g.D.Disk.Tells g.D.Disk.files g.P.Piece.Tells g.D.Disk.fault_count g.D.Disk.fuse_count c.args.tag c.seat.inside.turn c.hold-kept.new.seat c.free.new.seat c.seat.inside.view c.show_all.new.seat c.hold-kept.result (record c.hold-kept.result { logical = c.begin-answer.new.self; begun = c.note_begun.new.begun })
+    c.act_made-made.result c.seat.invariant c.hold-kept.ensures c.show_all.ensures.seen.0 c.show_all.ensures.seen.1
+    (begin_call g.D.Disk.Tells g.D.Disk.files g.P.Piece.Tells g.D.Disk.fault_count g.D.Disk.fuse_count c.args.tag c.hold-kept.result (record c.hold-kept.result { logical = c.begin-answer.new.self; begun = c.note_begun.new.begun })
+    (record { settings = refl; front = refl; ended = refl; same = c.begin-answer.ensures.same; is_open = c.begin-answer.ensures.open; counts = c.begin-answer.ensures.counts; still = c.begin-answer.ensures.still }) c.args.replica (within_it g.D.Disk.Tells g.D.Disk.files g.P.Piece.Tells g.D.Disk.fault_count g.D.Disk.fuse_count c.seat.invariant c.hold-kept.ensures c.args.replica (c.requires.within c.seat.invariant.opened (sym (ap (λ (s : Seated g.row.D.Denot g.row.P.Denot). s.start) c.seat.view_is) ∙ c.seat.invariant.is)))
+    c.begin-answer.result c.faults_of-before.result.items c.faults_of-before.ensures c.begin_did-did.result c.act_made-made.result c.act_made-made.ensures.did c.act_made-made.ensures.tried
+    c.note_begun.ensures c.begin-answer.ensures.begun c.begin-answer.ensures.refused c.begin-answer.ensures.causes c.begin_did-did.ensures).0 c.free.ensures (ap (λ (s : Seated g.row.D.Denot g.row.P.Denot). s.holds) c.seat.view_is ∙ c.requires.may.rests.rests))
