@@ -1,6 +1,7 @@
 pub mod Counting
 pub mod Examining
 pub mod Finding
+pub mod Finishing
 pub mod Growing
 pub mod Holding
 pub mod Losing

@@ -11,7 +11,7 @@ use Rattle.hay_logical.specs.declared.fault.LogicalFault.{LogicalFault}
 use Rattle.hay_logical.specs.declared.fault.LogicalFault.TheVariants.{Busy, Damaged, Failed, Full, Gone, Idle, NoMemory, ReadOnly, Worn}
 use Rattle.hay_logical.specs.Stands.{Stands}
 use Rattle.hay_logical.specs.Volumes.{Volume}
-use Rattle.hay_holdings.specs.Volumes.{Call, FailedAct, HasRunOf, MetFrozen, MetIdle, RunFailed, Stepped, VolumeCall}
+use Rattle.hay_holdings.specs.Volumes.{Call, FailedAct, HasRunOf, MetFrozen, MetIdle, RunFailed, RunWanted, Stepped, SwapFailed, VolumeCall}
 use Rattle.hay_core.specs.declared.entry.Entry.{Entry}
 use Rattle.hay_meeting.specs.declared.act.VolumeAct.{VolumeAct}
 use Rattle.hay_meeting.specs.Acts.{volume_lock}
@@ -74,6 +74,21 @@ stopped_made j n (Some fault) = halted_made j n fault
 abbrev pub step_made : ℕ → Examined → Made
 step_made j examined = stopped_made j examined.cells examined.refused
 
+-- ENDS
+
+-- what was done where a compaction did not end with a swap: the volume may be frozen then by a machine
+abbrev pub unswapped_made : ℕ → LogicalFault → Option ℕ → Made
+unswapped_made j (Failed m f) None = made.Ends j
+unswapped_made j (Failed m f) (Some machine) = made.Poises machine j
+unswapped_made j NoMemory frozen = made.Ends j
+unswapped_made j (Damaged m at) frozen = made.Ends j
+unswapped_made j (ReadOnly m) frozen = made.Tries
+unswapped_made j Idle frozen = made.Tries
+unswapped_made j (Full m end need capacity) frozen = made.Tries
+unswapped_made j (Gone front) frozen = made.Tries
+unswapped_made j (Busy m g) frozen = made.Tries
+unswapped_made j (Worn m) frozen = made.Tries
+
 -- the acts of the line's lane that were seen are its own
 abbrev pub IsOwnSight : CoreTag → LockSight VolumeAct Entry → Type 0
 IsOwnSight tag a = acts_of volume_lock.seat tag.lane a.seen ≡ a.own
@@ -112,3 +127,17 @@ module _ (volume : StoreVolume) (tag : CoreTag) where
   -- what a step found and did, by how many cells it examined and why no more
   abbrev pub StepAnswer : ℕ → ℕ → Examined → VolumeCall
   StepAnswer j cells examined = StepStops j cells examined.cells examined.refused
+
+  -- the compaction that this line began did not end with a swap
+  abbrev pub Unswapped : ℕ → LogicalFault → Option ℕ → CoreTag → VolumeCall
+  Unswapped j (Failed m f) None who = Where (m ≡ machine_of volume.settings volume.number j) (RunFailed volume.settings volume.start volume.number tag j who f)
+  Unswapped j (Failed m f) (Some machine) who =
+      Where (m ≡ machine_of volume.settings volume.number j) (SwapFailed volume.settings volume.start volume.number tag j who machine f)
+  Unswapped j NoMemory frozen who = RunWanted volume.settings volume.start volume.number tag j who
+  Unswapped j (ReadOnly m) frozen who = Never
+  Unswapped j Idle frozen who = Never
+  Unswapped j (Damaged m at) frozen who = Never
+  Unswapped j (Full m end need capacity) frozen who = Never
+  Unswapped j (Gone front) frozen who = Never
+  Unswapped j (Busy m g) frozen who = Never
+  Unswapped j (Worn m) frozen who = Never
