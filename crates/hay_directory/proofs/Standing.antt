@@ -1,7 +1,7 @@
 -- What a directory stands for behind each call.
-use Rattle.std.proofs.Common.{◌≡◌, inr, ◌<◌, ◌+◌, ◌^◌, ℕ, Bool, true, false, min, List, [], ◌∷◌, ◌++◌, length, Option, Some, None, refl, sym, ap, subst, ◌∙◌}
+use Rattle.std.proofs.Common.{◌≡◌, inr, ◌<◌, ◌≤◌, ◌+◌, ◌^◌, ℕ, Bool, true, false, min, List, [], ◌∷◌, ◌++◌, length, Option, Some, None, refl, sym, ap, subst, ◌∙◌}
 use Rattle.std.proofs.lemmas.Bool.{true≢false}
-use Rattle.std.specs.Prelude.{slice_set, is_some, option_map, Result, Ok, Err, OnErr}
+use Rattle.std.specs.Prelude.{slice_set, replicate, IfSome, is_some, option_map, Result, Ok, Err, OnErr}
 use Rattle.hay_core.specs.declared.entry.CoreTag.{CoreTag}
 use Rattle.hay_disk.specs.Disk.{Files, FileState, IsFree, IsImage, IsSolid, MayLeave}
 use Rattle.hay_disk.specs.Gate.{IsGate}
@@ -19,11 +19,11 @@ use Rattle.hay_needle.specs.declared.settings.Settings.{Settings}
 use Rattle.hay_directory.specs.declared.mode.Mode.{Mode}
 use Rattle.hay_directory.specs.declared.mode.Mode.TheVariants.{Closed, Open, Frozen}
 use Rattle.hay_directory.specs.declared.mode.Unsure.{Unsure}
-use Rattle.hay_directory.specs.Homes.{KeepsHomes, SetsHome}
+use Rattle.hay_directory.specs.Homes.{HomesWithin, KeepsHomes, SetsHome}
 use Rattle.hay_directory.specs.Notes.{notes_by}
 use Rattle.hay_directory.specs.Rows.{dir_row, HasJournal, OpensRows}
-use Rattle.hay_directory.specs.State.{State, StandsFor, StoppedFor, HoldsFor, WrittenFor, Stands, Stopped, Holds, HoldsRows, IsSettled, IsUnsure, IsDue, FindsRows, mode_of, unsure_of, unsure_row, home_of, is_closed, is_frozen}
-use Rattle.hay_directory.proofs.HomeLaws.{AreHomes, homes_settled, notes_are}
+use Rattle.hay_directory.specs.State.{State, StandsFor, StoppedFor, HoldsFor, WrittenFor, Stands, Stopped, Holds, HoldsRows, IsSettled, IsUnsure, IsDue, FindsRows, IsSound, mode_of, unsure_of, unsure_row, home_of, is_closed, is_frozen}
+use Rattle.hay_directory.proofs.HomeLaws.{AreHomes, homes_settled, kept_within, notes_are}
 use Rattle.hay_directory.proofs.RowLaws.{Adds, Leaves, journal_left, not_void, opens_journal, row_added, row_left, next_count}
 
 -- WHAT CANNOT BE: that a directory is both up and closed
@@ -70,6 +70,16 @@ stands_frozen files d known drained s = ap is_frozen s.mode ∙ frozen_mode know
 
 -- BEHIND A SETTLING
 
+-- A directory may take a row: it is open, there is the volume, and the pair has no home.
+pub record Takes {D : Type 0} (d : State D) (row : HomeRow) : Type 0 where
+  pub serves : d.mode ≡ Open
+  pub below : row.volume < d.settings.volumes
+  pub homeless : home_of d row.pair ≡ None
+
+pub takes : {D : Type 0} (d now : State D) (row : HomeRow) → d ≡ now → is_closed now.mode ≡ false → is_frozen now.mode ≡ false → row.volume < now.settings.volumes → home_of now row.pair ≡ None → Takes d row
+takes d now row same up thawed below homeless =
+    subst (λ (x : State _). Takes x row) (sym same) (record { serves = serving now.mode up thawed; below = below; homeless = homeless })
+
 -- the rows with one more
 abbrev pub with_row : DirKnown → HomeRow → DirKnown
 with_row known row = record known { rows = known.rows ++ row ∷ [] }
@@ -79,17 +89,17 @@ abbrev pub with_pending : DirKnown → CoreTag → HomeRow → DirKnown
 with_pending known tag row = record known { frozen = true; pending = Some (record { tag = tag; row = row }) }
 
 -- a row that the disk has
-pub row_written : {D : Type 0} (files : D → Files) (d d' : State D) (known : DirKnown) (drained : List Bool) (row : HomeRow) → StandsFor files d known drained → d.mode ≡ Open → d'.settings ≡ d.settings → d'.drained ≡ d.drained
-    → row.volume < d.settings.volumes → home_of d row.pair ≡ None → KeepsHomes d.homes d'.homes
+pub row_written : {D : Type 0} (files : D → Files) (d d' : State D) (known : DirKnown) (drained : List Bool) (row : HomeRow) → StandsFor files d known drained → Takes d row → d'.settings ≡ d.settings → d'.drained ≡ d.drained
+    → KeepsHomes d.homes d'.homes
     → Adds (dir_row row) d.journal.end (files d.disk 0).now (files d'.disk 0).now → IsSolid (files d'.disk 0) → IsGate journal_magic d'.journal.end (files d'.disk 0) → d'.journal.end ≡ d.journal.end + 24
     → d'.count ≡ d.count → WrittenFor files d' known drained row
-row_written files d d' known drained row s serves settings drains below homeless kept adds solid gate ends counts =
-    let o = stands_open files d known drained s serves in
+row_written files d d' known drained row s t settings drains kept adds solid gate ends counts =
+    let o = stands_open files d known drained s t.serves in
     record {
       serves = o.none;
       frozen = s.frozen ∙ ap is_some o.none;
-      holds = subst (λ k. IsSettled k (files d'.disk 0) d'.journal.end (known.rows ++ row ∷ [])) (sym settings) (row_added d.settings (files d.disk 0) (files d'.disk 0) d.journal.end d'.journal.end known.rows row o.settled below adds solid gate ends);
-      homeless = sym (s.homes row.pair) ∙ homeless;
+      holds = subst (λ k. IsSettled k (files d'.disk 0) d'.journal.end (known.rows ++ row ∷ [])) (sym settings) (row_added d.settings (files d.disk 0) (files d'.disk 0) d.journal.end d'.journal.end known.rows row o.settled t.below adds solid gate ends);
+      homeless = sym (s.homes row.pair) ∙ t.homeless;
       homes = λ pair. kept.at pair ∙ s.homes pair;
       count = counts ∙ s.count;
       drained_is = s.drained_is ∙ sym drains;
@@ -129,17 +139,17 @@ stands_kept files d d' known drained s modes settings drains kept same ends coun
     }
 
 -- a row that the disk may have
-pub stands_failed : {D : Type 0} (files : D → Files) (d d' : State D) (known : DirKnown) (drained : List Bool) (tag : CoreTag) (row : HomeRow) → StandsFor files d known drained → d.mode ≡ Open
-    → d'.mode ≡ Frozen (record { tag = tag; row = dir_row row }) → d'.settings ≡ d.settings → d'.drained ≡ d.drained → row.volume < d.settings.volumes
-    → home_of d row.pair ≡ None → KeepsHomes d.homes d'.homes → Leaves (dir_row row) d.journal.end (files d.disk 0) (files d'.disk 0) → d'.count ≡ d.count
+pub stands_failed : {D : Type 0} (files : D → Files) (d d' : State D) (known : DirKnown) (drained : List Bool) (tag : CoreTag) (row : HomeRow) → StandsFor files d known drained → Takes d row
+    → d'.mode ≡ Frozen (record { tag = tag; row = dir_row row }) → d'.settings ≡ d.settings → d'.drained ≡ d.drained
+    → KeepsHomes d.homes d'.homes → Leaves (dir_row row) d.journal.end (files d.disk 0) (files d'.disk 0) → d'.count ≡ d.count
     → StandsFor files d' (with_pending known tag row) drained
-stands_failed files d d' known drained tag row s serves frozen settings drains below homeless kept leaves counts =
-    let o = stands_open files d known drained s serves in
-    let free : home_in known.rows row.pair ≡ None = sym (s.homes row.pair) ∙ homeless in
+stands_failed files d d' known drained tag row s t frozen settings drains kept leaves counts =
+    let o = stands_open files d known drained s t.serves in
+    let free : home_in known.rows row.pair ≡ None = sym (s.homes row.pair) ∙ t.homeless in
     record {
       mode = frozen;
       frozen = refl;
-      holds = subst (λ k. IsUnsure k (files d'.disk 0) known.rows row) (sym settings) (row_left d.settings (files d.disk 0) (files d'.disk 0) d.journal.end known.rows row o.settled below leaves free);
+      holds = subst (λ k. IsUnsure k (files d'.disk 0) known.rows row) (sym settings) (row_left d.settings (files d.disk 0) (files d'.disk 0) d.journal.end known.rows row o.settled t.below leaves free);
       homes = λ pair. kept.at pair ∙ s.homes pair;
       count = counts ∙ s.count;
       drained_is = s.drained_is ∙ sym drains;
@@ -148,6 +158,25 @@ stands_failed files d d' known drained tag row s serves frozen settings drains b
 -- the drained machines that are known are those that it has
 pub stands_now : {D : Type 0} (files : D → Files) (d : State D) (known : DirKnown) (drained : List Bool) → StandsFor files d known drained → StandsFor files d known d.drained
 stands_now files d known drained s = subst (λ l. StandsFor files d known l) s.drained_is s
+
+-- what holds of every directory holds of one that has the row pending
+pub sound_failed : {D : Type 0} (Tells : Type 0) (files : D → Files) (d d' : State D) (tag : CoreTag) (row : HomeRow) → IsSound Tells files d → Takes d row
+    → d'.mode ≡ Frozen (record { tag = tag; row = dir_row row }) → d'.settings ≡ d.settings → d'.drained ≡ d.drained
+    → KeepsHomes d.homes d'.homes → (Tells → Leaves (dir_row row) d.journal.end (files d.disk 0) (files d'.disk 0)) → d'.count ≡ d.count
+    → IsSound Tells files d'
+sound_failed Tells files d d' tag row is t frozen settings drains kept leaves counts = record {
+  machines = subst (λ (s : Settings). s.machines ≤ 16) (sym settings) is.machines;
+  long = ap length drains ∙ is.long ∙ ap (λ (s : Settings). s.machines) (sym settings);
+  within = subst (λ (s : Settings). HomesWithin s.volumes d'.homes) (sym settings) (kept_within d.settings.volumes d.homes d'.homes is.within kept);
+  pending = subst (λ (m : Mode). IfSome (unsure_of m) (λ unsure. unsure.row.volume < d'.settings.volumes)) (sym frozen)
+      (subst (λ (s : Settings). row.volume < s.volumes) (sym settings) t.below);
+  undrained = λ closed. not_closed d'.drained (replicate d'.settings.machines false) (ap is_closed (sym frozen) ∙ closed);
+  stands = λ tells up.
+      let old = is.stands tells (ap is_closed t.serves) in (
+        with_pending old.0 tag row,
+        stands_now files d' (with_pending old.0 tag row) d.drained (stands_failed files d d' old.0 d.drained tag row old.1 t frozen settings drains kept (leaves tells) counts),
+      );
+}
 
 -- BEHIND A FUSE OR A DRAIN
 

@@ -1,5 +1,5 @@
 -- What is kept in memory of the rows: by pair the volume of its first row.
-use Rattle.std.specs.Prelude.{◌≡◌, ℕ, Bool, nat_eq, ◌&&◌, List, Option, if◌then◌else◌}
+use Rattle.std.specs.Prelude.{◌≡◌, ◌<◌, ℕ, Bool, nat_eq, ◌&&◌, List, Option, IfSome, if◌then◌else◌}
 use Rattle.std.specs.Map.{lookup}
 use Rattle.hay_needle.specs.declared.needle.Pair.{Pair}
 use Rattle.hay_needle.specs.Tables.{pair_eq}
@@ -16,6 +16,10 @@ key_eq a b = nat_eq a.0 b.0 && nat_eq a.1 b.1
 -- the volume that is kept of a pair
 abbrev pub home_among : List ((ℕ × ℕ) × ℕ) → Pair → Option ℕ
 home_among homes pair = lookup (key_eq (pair.key, pair.alt)) homes
+
+-- each home is one of so many volumes
+pub record HomesWithin (volumes : ℕ) (homes : List ((ℕ × ℕ) × ℕ)) : Type 0 where
+  pub at : (pair : Pair) → IfSome (home_among homes pair) (λ volume. volume < volumes)
 
 -- each pair has the home that it had
 pub record KeepsHomes (old new : List ((ℕ × ℕ) × ℕ)) : Type 0 where

@@ -1,5 +1,6 @@
 -- What an opening finds on the disk of a directory: the rows of its journal.
-use Rattle.std.specs.Prelude.{◌≡◌, ◌⊎◌, ℕ, List, [], map}
+use Rattle.std.specs.Prelude.{◌≡◌, ◌⊎◌, ◌<◌, ℕ, List, [], map}
+use Rattle.std.specs.List.{AllByRecursion}
 use Rattle.hay_needle.specs.declared.settings.FileKind.TheVariants.{Journal}
 use Rattle.hay_needle.specs.declared.settings.Settings.{Settings}
 use Rattle.hay_needle.specs.declared.settings.Super.{Super}
@@ -18,6 +19,10 @@ dir_row row = record { pair = row.pair; volume = row.volume }
 
 abbrev pub home_row : DirRow → HomeRow
 home_row row = record { pair = row.pair; volume = row.volume }
+
+-- each row is of one of so many volumes
+abbrev pub RowsWithin : ℕ → List HomeRow → Type 0
+RowsWithin volumes rows = AllByRecursion (λ row. row.volume < volumes) rows
 
 -- a journal of these settings with these rows
 abbrev pub HasJournal : Settings → List ℕ → List HomeRow → Type 0

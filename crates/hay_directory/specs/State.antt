@@ -1,5 +1,5 @@
 -- When a directory stands for what is known of it.
-use Rattle.std.specs.Prelude.{◌≡◌, ◌⊎◌, ◌≤◌, ℕ, Bool, true, false, List, [], ◌∷◌, ◌++◌, length, map, replicate, Option, None, Some, is_some, option_map}
+use Rattle.std.specs.Prelude.{◌≡◌, ◌⊎◌, ◌≤◌, ◌<◌, ℕ, Bool, true, false, List, [], ◌∷◌, ◌++◌, length, map, replicate, Option, None, Some, IfSome, is_some, option_map}
 use Rattle.hay_needle.specs.declared.needle.Pair.{Pair}
 use Rattle.hay_needle.specs.declared.settings.Settings.{Settings}
 use Rattle.hay_disk.specs.Disk.{Files, FileState, IsFree, IsImage, IsSolid}
@@ -16,7 +16,7 @@ use Rattle.hay_directory.specs.declared.fault.DirFault.TheVariants as refusal
 use Rattle.hay_directory.specs.declared.mode.Mode.{Mode}
 use Rattle.hay_directory.specs.declared.mode.Mode.TheVariants.{Closed, Open, Frozen}
 use Rattle.hay_directory.specs.declared.mode.Unsure.{Unsure}
-use Rattle.hay_directory.specs.Homes.{home_among}
+use Rattle.hay_directory.specs.Homes.{HomesWithin, home_among}
 use Rattle.hay_directory.specs.Rows.{dir_row, HasJournal, FileHasRows, OpensRows}
 
 -- A directory, with its disk: the homes, for how many more there is room, how many rows there are, and the drains by machine.
@@ -173,5 +173,7 @@ pub record FindsRows (settings : Settings) (old new : FileState) (end : ℕ) (ho
 pub record IsSound {D : Type 0} (Tells : Type 0) (files : D → Files) (directory : State D) : Type 0 where
   pub machines : directory.settings.machines ≤ 16
   pub long : length directory.drained ≡ directory.settings.machines
+  pub within : HomesWithin directory.settings.volumes directory.homes
+  pub pending : IfSome (unsure_of directory.mode) (λ unsure. unsure.row.volume < directory.settings.volumes)
   pub undrained : IsClosed directory → directory.drained ≡ replicate directory.settings.machines false
   pub stands : Tells → IsUp directory → (known : DirKnown) × StandsFor files directory known directory.drained

@@ -1,5 +1,5 @@
 //! The Directory on its disk.
-ghost use Rattle.std.specs.Prelude.{◌≡◌, ◌≤◌, ◌<◌, ℕ, List, Bool, [], ◌∷◌, ◌++◌, None, Some, true, false, length, map, replicate, slice_index_or, slice_set, Err, IfOk, OnOk, OnErr, IfErr, IsErrOf};
+ghost use Rattle.std.specs.Prelude.{◌≡◌, ◌≤◌, ◌<◌, ℕ, List, Bool, [], ◌∷◌, ◌++◌, None, Some, true, false, length, map, replicate, slice_index_or, slice_set, Err, IfOk, OnOk, OnErr, IfErr, IfSome, IsErrOf};
 ghost use Rattle.hay_needle.specs.declared.settings.Settings.{Settings};
 ghost use Rattle.hay_disk.specs.Counts.{Rose, IsNext};
 ghost use Rattle.hay_disk.specs.Disk.{IsFree, IsImage, IsSolid, KeepsOthers, MayLeave};
@@ -13,7 +13,7 @@ ghost use Rattle.hay_legal.specs.Known.{home_in};
 ghost use Rattle.hay_legal.specs.Restarts.{directory_with, kept_row, row_notes};
 ghost use Rattle.hay_directory.specs.Notes.{NotesTell};
 ghost use Rattle.hay_directory.specs.Homes.{KeepsHomes, SetsHome};
-ghost use Rattle.hay_directory.specs.Rows.{OpensRows, dir_row, home_row, journal_super};
+ghost use Rattle.hay_directory.specs.Rows.{OpensRows, RowsWithin, dir_row, home_row, journal_super};
 ghost use Rattle.hay_directory.specs.State.{Holds, IsClosed, IsFresh, IsFrozen, IsRowWritten, IsUnshown, IsUp, LeavesMode, Stands, Stopped, home_of, is_frozen, unsure_of};
 
 use crate::fault::DirFault;
@@ -166,7 +166,8 @@ impl<D: Disk> Directory<D> {
         ensures reopened { D.Tells → (known : DirKnown) → Stopped D.files self.old known → IfOk result (λ opened. (kept : Bool)
             × (opened.notes ≡ row_notes known.pending kept) × (map home_row opened.rows.items ≡ known.rows ++ kept_row known.pending kept)
             × Stands D.files self.new (directory_with (known.rows ++ kept_row known.pending kept)) (replicate self.old.settings.machines false)) }
-        // Whatever the disk has, the homes are by the rows, and no machine is drained.
+        // Whatever the disk has, the rows are of volumes that there are, the homes are by the rows, and no machine is drained.
+        ensures within { IfOk result (λ opened. RowsWithin self.new.settings.volumes (map home_row opened.rows.items)) }
         ensures homes { IfOk result (λ opened. (pair : Pair) → home_of self.new pair ≡ home_in (map home_row opened.rows.items) pair) }
         ensures undrained { OnOk result (self.new.drained ≡ replicate self.old.settings.machines false) }
         ensures up { OnOk result (IsUp self.new) }
@@ -216,9 +217,10 @@ impl<D: Disk> Directory<D> {
         Ok(Opened { notes, rows })
     }
 
-    /// The home of a pair.
+    /// The home of a pair, which is a volume that there is.
     pub fn home(&self, pair: Pair) -> Option<u32>
         ensures kept { result ≡ home_of self.now pair }
+        ensures below { IfSome result (λ volume. volume < self.now.settings.volumes) }
         ensures known { (known : DirKnown) (drained : List Bool) → Stands D.files self.now known drained → result ≡ home_in known.rows pair }
     {
         self.homes.get(pair)

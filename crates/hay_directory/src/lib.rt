@@ -4,7 +4,8 @@
 //!
 //! A home that was settled is in the journal, on the disk, whatever a stop leaves. A row that failed freezes the
 //! Directory until it is stopped and opened again, and the opening tells whether the journal has the row. Drains are kept
-//! in memory alone, and end at a stop. A home is found with one look-up in memory.
+//! in memory alone, and end at a stop. A home is found with one look-up in memory. Who publishes homes writes a row first, and shows
+//! it once it is published: in between the row is pending, and it stays so where it cannot be published.
 #![tactic(auto)]
 
 mod directory;

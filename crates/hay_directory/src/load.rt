@@ -11,7 +11,7 @@ ghost use Rattle.hay_directory.specs.Notes.{notes_by};
 ghost use Rattle.hay_needle.specs.declared.needle.Pair.{Pair};
 ghost use Rattle.hay_legal.specs.Known.{home_in};
 ghost use Rattle.hay_directory.specs.Homes.{home_among};
-ghost use Rattle.hay_directory.specs.Rows.{FileHasRows, home_row, journal_super};
+ghost use Rattle.hay_directory.specs.Rows.{FileHasRows, RowsWithin, home_row, journal_super};
 ghost use Rattle.hay_directory.specs.State.{FindsRows};
 
 use crate::homes::Homes;
@@ -45,6 +45,7 @@ pub fn load<D: Disk>(
     requires free { D.Tells → IsFree (D.files disk.old 0) }
     ensures found { D.Tells → IfOk result (λ loaded. FindsRows settings.now (D.files disk.old 0) (D.files disk.new 0) loaded.journal.end loaded.homes.volumes loaded.count (map home_row loaded.rows.items)) }
     ensures homes { IfOk result (λ loaded. (pair : Pair) → home_among loaded.homes.volumes pair ≡ home_in (map home_row loaded.rows.items) pair) }
+    ensures within { IfOk result (λ loaded. RowsWithin settings.now.volumes (map home_row loaded.rows.items)) }
     ensures notes { IfOk result (λ loaded. loaded.notes ≡ notes_by unsure loaded.homes.volumes) }
     ensures fits { IfOk result (λ loaded. AllByRecursion FitsNote loaded.notes) }
     ensures failed { (faults : ℕ) → result ≡ Err (OpenFault.Failed faults) →

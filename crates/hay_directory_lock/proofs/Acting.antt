@@ -24,7 +24,8 @@ use Rattle.hay_directory.specs.Rows.{dir_row}
 use Rattle.hay_directory.specs.Homes.{KeepsHomes, SetsHome}
 use Rattle.hay_directory.specs.State.{State, Stands, home_of, is_closed, is_frozen, mode_of}
 use Rattle.hay_directory.proofs.HomeLaws.{homes_settled}
-use Rattle.hay_directory_lock.specs.Begun.{BegunAt, HomesShown}
+use Rattle.hay_views.specs.HomeLooks.{HomesShown}
+use Rattle.hay_directory_lock.specs.Begun.{BegunAt}
 use Rattle.hay_directory_lock.specs.Standing.{HomeFront, KeptFor, standing}
 
 follow_on : (start : RowsStanding) (xs : List DirAct) (act : DirAct) → FollowsRows start (replayed row_lock start xs)

@@ -27,11 +27,13 @@ use Rattle.hay_directory.specs.State.{State}
 use Rattle.hay_directory.specs.declared.fault.DirFault.{DirFault}
 use Rattle.hay_directory.specs.declared.fault.DirFault.TheVariants as refusal
 use Rattle.hay_directory_lock.specs.Answers.{Settles, SettlesAs}
-use Rattle.hay_directory_lock.specs.Begun.{BegunAt, HomesShown, first_homes, with_row}
+use Rattle.hay_views.specs.HomeLooks.{HomesShown, IsHomeOf, with_row}
+use Rattle.hay_views.proofs.HomeLaw.{home_looked}
+use Rattle.hay_directory_lock.specs.Begun.{BegunAt, first_homes}
 use Rattle.hay_directory_lock.specs.Rounds.{FoundAll}
 use Rattle.hay_directory_lock.specs.Seats.{DirectorySeatState, IsAt, IsSeated, LockState, sight}
 use Rattle.hay_directory_lock.specs.Standing.{HomeFront, KeptFor}
-use Rattle.hay_directory_lock.proofs.Answering.{IsHomeAt, all_counted, home_looked}
+use Rattle.hay_directory_lock.proofs.Answering.{all_counted}
 
 -- each act is of the line, and of its seat
 abbrev pub AreOf : CoreTag → List DirAct → Type 0
@@ -164,7 +166,7 @@ module _ (start : Start) {lock : LockState} {begun : BegunAt} {lane : ℕ} {seat
   stood_first = ap (λ (r : RowsStanding). length (r.directory).rows) (sym same) ∙ seated.stood
 
   pub home_shown : (pair : Pair) (view : HomesShown) (published n : ℕ) (home : Option ℕ) → IsBehind seat.view view → published ≡ length (filter (λ (r : HomeRow). true) view.deeds) → n ≡ lock.stood + published
-      → RowOf with_row IsHomeAt view pair home → HomeShown start pair n home (sight seat) (sight (record { turn = seat.turn; view = view }))
+      → RowOf with_row IsHomeOf view pair home → HomeShown start pair n home (sight seat) (sight (record { turn = seat.turn; view = view }))
   home_shown pair view published n home behind counted all is = record {
     looked = record { seen = refl; own = refl; shown = behind.2 };
     front = omega (arith, all, counted, ap length (all_counted view.deeds), stood_first, length-append ((start.directory).directory).rows view.deeds);

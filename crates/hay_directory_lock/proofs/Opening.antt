@@ -17,11 +17,12 @@ use Rattle.hay_meeting.proofs.Closing.{there}
 use Rattle.hay_directory.specs.declared.mode.Mode.{Mode}
 use Rattle.hay_directory.specs.declared.mode.Mode.TheVariants.{Open}
 use Rattle.hay_directory.specs.State.{State, is_frozen, mode_of}
-use Rattle.hay_directory_lock.specs.Begun.{BegunAt, HomesAt, HomesShown, first_homes}
+use Rattle.hay_views.specs.HomeLooks.{HomesAt, HomesShown}
+use Rattle.hay_views.proofs.HomeLaw.{first_is}
+use Rattle.hay_directory_lock.specs.Begun.{BegunAt, first_homes}
 use Rattle.hay_directory_lock.specs.Opening.{AreNewSeats, AreSeated, Closes, IsOpenWith, rows_opened}
 use Rattle.hay_directory_lock.specs.Seats.{DirectorySeatState, LockState}
 use Rattle.hay_directory_lock.specs.Standing.{HomeFront, KeptFor}
-use Rattle.hay_directory_lock.proofs.Answering.{first_is}
 
 copied : {A : Type 0} → (n : ℕ) (x : A) (i : ℕ) (y : A) → slice_get (replicate n x) i ≡ Some y → y ≡ x
 copied zero x i y e = absurd cc
@@ -64,7 +65,7 @@ module _ {D : Type 0} (Tells : Type 0) (files : D → Files) (faults fuses : D �
     -- what stood at first is no other
     pub begun_is : (begun : BegunAt) → KeptFor Tells files faults fuses begun [] d f → begun.rows ≡ rows_opened faults fuses d rows
     begun_is begun k =
-        let homes : first_homes begun ≡ record { volumes = settings.volumes; rows = rows } = first_is f.shown (record { volumes = settings.volumes; rows = rows }) (first_homes begun) tt k.base base in
+        let homes : first_homes begun ≡ record { volumes = settings.volumes; rows = rows } = first_is f.shown (first_homes begun) (record { volumes = settings.volumes; rows = rows }) tt k.base base in
         let directory : (begun.rows).directory ≡ directory_with rows = same_directory (begun.rows).directory rows (ap (λ (h : HomesAt). h.rows) homes) (sym (k.of).frozen ∙ ap is_frozen o.mode)
         (none_by ((begun.rows).directory).pending d.mode (k.of).mode o.mode) in
         let drained = sym (k.of).drained in

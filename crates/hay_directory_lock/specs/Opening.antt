@@ -1,6 +1,5 @@
 -- What a lock is made of, and what is left when it ends.
 use Rattle.std.specs.Prelude.{◌≡◌, ◌<◌, ℕ, List, [], length, slice_get, Some}
-use Rattle.std.specs.List.{AllByRecursion as Each}
 use mathlib.Core.List.{IsPrefix}
 use Rattle.hay_needle.specs.declared.needle.Pair.{Pair}
 use Rattle.hay_disk.specs.Disk.{Files}
@@ -12,6 +11,7 @@ use Rattle.hay_turn.specs.Acts.{acts_of, AllBelow}
 use Rattle.hay_meeting.specs.declared.act.DirAct.{DirAct}
 use Rattle.hay_meeting.specs.Acts.{row_lock}
 use Rattle.hay_directory.specs.declared.mode.Mode.TheVariants.{Open}
+use Rattle.hay_directory.specs.Rows.{RowsWithin}
 use Rattle.hay_directory.specs.State.{State, Stands, home_of}
 use Rattle.hay_directory_lock.specs.Begun.{BegunAt}
 use Rattle.hay_directory_lock.specs.Seats.{DirectorySeatState, IsSeated, LockState, sight}
@@ -21,7 +21,7 @@ use Rattle.hay_directory_lock.specs.Standing.{DirectoryFor}
 pub record IsOpenWith {D : Type 0} (Tells : Type 0) (files : D → Files) (directory : State D) (rows : List HomeRow) : Type 0 where
   pub mode : directory.mode ≡ Open
   pub homes : (pair : Pair) → home_of directory pair ≡ home_in rows pair
-  pub volumes : Each (λ row. row.volume < (directory.settings).volumes) rows
+  pub volumes : RowsWithin (directory.settings).volumes rows
   pub told : Tells → Stands files directory (directory_with rows) directory.drained
 
 -- what stands of it

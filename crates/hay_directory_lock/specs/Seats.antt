@@ -6,7 +6,8 @@ use Rattle.hay_turn.specs.Seats.{SeatState, TurnId}
 use Rattle.hay_meeting.specs.declared.act.DirAct.{DirAct}
 use Rattle.hay_meeting.specs.Locks.{LockSight}
 use Rattle.hay_holdings.specs.Holdings.{sight_of}
-use Rattle.hay_directory_lock.specs.Begun.{BegunAt, HomesShown, first_homes}
+use Rattle.hay_views.specs.HomeLooks.{HomesShown}
+use Rattle.hay_directory_lock.specs.Begun.{BegunAt, first_homes}
 
 -- which lock it is, how many seats it has, the settings, and how many rows stood at first
 pub record LockState : Type 0 where

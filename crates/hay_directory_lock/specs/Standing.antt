@@ -11,7 +11,8 @@ use Rattle.hay_meeting.specs.declared.act.DirAct.{DirAct}
 use Rattle.hay_meeting.specs.Acts.{row_lock}
 use Rattle.hay_meeting.specs.Locks.{entries, left, replayed}
 use Rattle.hay_directory.specs.State.{State, Stands, home_of, is_frozen, mode_of}
-use Rattle.hay_directory_lock.specs.Begun.{BegunAt, HomesAt, first_homes}
+use Rattle.hay_views.specs.HomeLooks.{HomesAt}
+use Rattle.hay_directory_lock.specs.Begun.{BegunAt, first_homes}
 
 abbrev pub HomeFront : Type 0
 HomeFront = FrontState HomesAt (Unit {0}) HomeRow (LogEntry HomeRow)

@@ -15,7 +15,6 @@ ghost use Rattle.hay_directory_lock.specs.Standing.{KeptFor};
 ghost use Rattle.hay_directory_lock.specs.Answers.{Settles};
 
 use crate::act::RowAct;
-use crate::view::DirectoryView;
 use hay_base::Listed;
 use hay_core::CoreTag;
 use hay_directory::{DirFault, Directory};
@@ -26,6 +25,7 @@ use hay_legal::known::{DirKnown, HomeRow};
 use hay_meeting::DirDid;
 use hay_needle::Settings;
 use hay_turn::Kept;
+use hay_views::HomeView;
 use std::marker::Model;
 use std::sync::Wait;
 
@@ -36,7 +36,7 @@ pub struct Begun {
     drained: Listed<bool>,
     faults: u64,
     fuses: u64,
-    view: Seat<DirectoryView>,
+    view: Seat<HomeView>,
 }
 
 impl Model for Begun {
@@ -54,7 +54,7 @@ impl Model for Begun {
 /// The Directory, and the front of its homes. It is not `Drop`, since the front waits for looks that are under way: end it by `end`.
 pub struct KeptDirectory<D: Disk> {
     pub directory: Directory<D>,
-    pub front: Front<DirectoryView>,
+    pub front: Front<HomeView>,
 }
 
 impl<D: Disk> Kept for KeptDirectory<D> {
@@ -95,7 +95,7 @@ impl<D: Disk> KeptDirectory<D> {
     pub(crate) fn settle<R: Wait>(
         &mut self,
         rt: &R,
-        view: &mut Seat<DirectoryView>,
+        view: &mut Seat<HomeView>,
         tag: CoreTag,
         row: DirRow,
     ) -> (Result<(u32, u64), DirFault>, Option<RowAct<D>>)
@@ -144,7 +144,7 @@ impl<D: Disk> KeptDirectory<D> {
     pub(crate) fn set_drained<R: Wait>(
         &mut self,
         rt: &R,
-        view: &mut Seat<DirectoryView>,
+        view: &mut Seat<HomeView>,
         tag: CoreTag,
         machine: u32,
         is_drained: bool,
@@ -172,7 +172,7 @@ impl<D: Disk> KeptDirectory<D> {
     pub(crate) fn fuse<R: Wait>(
         &mut self,
         rt: &R,
-        view: &mut Seat<DirectoryView>,
+        view: &mut Seat<HomeView>,
         tag: CoreTag,
         calls: u32,
     ) -> RowAct<D>
@@ -190,7 +190,7 @@ impl<D: Disk> KeptDirectory<D> {
     }
 
     /// Ends the front with all its seats, and gives the Directory.
-    pub(crate) fn end<R: Wait>(self, rt: &R, views: Vec<Seat<DirectoryView>>) -> Directory<D>
+    pub(crate) fn end<R: Wait>(self, rt: &R, views: Vec<Seat<HomeView>>) -> Directory<D>
         ensures { result ≡ self.directory }
     {
         let KeptDirectory { directory, front } = self;

@@ -6,18 +6,16 @@
 //! those acts left of what stood at first, and where its disk tells, the disk has all of it. A row is shown to lookers once it is on
 //! the disk. Where it cannot be shown for want of memory, the Directory is frozen with the row pending, as where the disk failed.
 //!
-//! It stands on hay_directory, hay_turn and hay_front, and on hay_holdings for what a call tells. Acts are for clauses alone, and none
-//! is kept. It promises nothing of time or fairness.
+//! It stands on hay_directory, hay_turn, hay_front and the published homes of hay_views, and on hay_holdings for what a call tells.
+//! Acts are for clauses alone, and none is kept. It promises nothing of time or fairness.
 #![tactic(auto)]
 
 mod act;
 mod kept;
 mod lock;
 mod open;
-mod view;
 
 pub use act::RowAct;
 pub use kept::{Begun, KeptDirectory};
 pub use lock::{DirectoryLock, DirectorySeat, NewLock};
 pub use open::SeatRoom;
-pub use view::DirectoryView;

@@ -13,7 +13,6 @@ ghost use Rattle.hay_directory_lock.specs.Answers.{SettlesAs};
 
 use crate::kept::KeptDirectory;
 use crate::open::{SeatRoom, apart, front_of, joined};
-use crate::view::DirectoryView;
 use hay_base::NoMemory;
 use hay_core::CoreTag;
 use hay_directory::{DirFault, Directory};
@@ -22,6 +21,7 @@ use hay_disk::Disk;
 use hay_front::Seat;
 use hay_needle::{Pair, Settings};
 use hay_turn::{Turn, TurnSeat};
+use hay_views::HomeView;
 use std::alloc::Global;
 use std::marker::Model;
 use std::sync::Wait;
@@ -54,7 +54,7 @@ pub struct NewLock<D: Disk> {
 #[derive(Drop)]
 pub struct DirectorySeat<D: Disk> {
     pub(crate) turn: TurnSeat<KeptDirectory<D>>,
-    pub(crate) view: Seat<DirectoryView>,
+    pub(crate) view: Seat<HomeView>,
 }
 
 impl<D: Disk> Model for DirectorySeat<D> {

@@ -1,16 +1,15 @@
 //! The seats of the lock, made and ended.
 ghost use Rattle.std.specs.Prelude.{◌≡◌, ◌<◌, ◌≤◌, [], length, map, replicate, vec_len, vec_capacity, Some, IfOk, false};
-ghost use Rattle.std.specs.List.{AllByRecursion};
-ghost use Rattle.hay_directory.specs.Rows.{home_row};
+ghost use Rattle.hay_directory.specs.Rows.{RowsWithin, home_row};
 
 use crate::kept::KeptDirectory;
 use crate::lock::DirectorySeat;
-use crate::view::DirectoryView;
 use hay_base::NoMemory;
 use hay_dirfile::DirRow;
 use hay_disk::Disk;
 use hay_front::{Front, Seat};
 use hay_turn::TurnSeat;
+use hay_views::HomeView;
 use std::alloc::Global;
 use std::marker::Model;
 use std::sync::Wait;
@@ -20,7 +19,7 @@ use std::sync::Wait;
 pub struct SeatRoom<D: Disk> {
     seats: u32,
     turns: Vec<TurnSeat<KeptDirectory<D>>>,
-    views: Vec<Seat<DirectoryView>>,
+    views: Vec<Seat<HomeView>>,
 }
 
 impl<D: Disk> Model for SeatRoom<D> {
@@ -52,22 +51,22 @@ pub(crate) fn front_of<R: Wait>(
     volumes: u32,
     rows: &[DirRow],
     seats: u32,
-) -> Result<(Front<DirectoryView>, Vec<Seat<DirectoryView>>), NoMemory>
+) -> Result<(Front<HomeView>, Vec<Seat<HomeView>>), NoMemory>
     requires some { 0 < seats }
-    requires volumes { AllByRecursion (λ row. row.volume < volumes) (map home_row rows.now) }
+    requires volumes { RowsWithin volumes (map home_row rows.now) }
     ensures base { IfOk result (λ made. made.0.shown.base ≡ Some (record { volumes = volumes; rows = map home_row rows.now }, tt)) }
     ensures blank { IfOk result (λ made. (made.0.shown.deeds ≡ []) × (made.0.closed ≡ false)) }
     ensures seats { IfOk result (λ made. made.1.items ≡ replicate seats made.0.shown) }
 {
-    let first = DirectoryView::of_rows(alloc, volumes, rows)?;
-    let second = DirectoryView::of_rows(alloc, volumes, rows)?;
+    let first = HomeView::of_rows(alloc, volumes, rows)?;
+    let second = HomeView::of_rows(alloc, volumes, rows)?;
     Front::new(rt, alloc, first, second, seats)
 }
 
 /// Gives each lane its seats.
 pub(crate) fn joined<D: Disk>(
     turns: Vec<TurnSeat<KeptDirectory<D>>>,
-    views: Vec<Seat<DirectoryView>>,
+    views: Vec<Seat<HomeView>>,
     mut seats: Vec<DirectorySeat<D>>,
 ) -> Vec<DirectorySeat<D>>
     requires as_many { length views.items ≡ length turns.items }
@@ -89,7 +88,7 @@ pub(crate) fn joined<D: Disk>(
 pub(crate) fn apart<D: Disk>(
     seats: Vec<DirectorySeat<D>>,
     room: SeatRoom<D>,
-) -> (Vec<TurnSeat<KeptDirectory<D>>>, Vec<Seat<DirectoryView>>)
+) -> (Vec<TurnSeat<KeptDirectory<D>>>, Vec<Seat<HomeView>>)
     requires { length seats.items ≡ room }
     ensures { result.0.items ≡ map (λ seat. seat.turn) seats.items }
 {

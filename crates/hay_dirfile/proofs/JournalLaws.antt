@@ -40,7 +40,7 @@ length-body row body is = ap length is
 all_none : (P : DirRow → Type 0) → All P []
 all_none P k d below = absurd (omega arith)
 
-all_one : (P : DirRow → Type 0) (row : DirRow) → P row → All P (row ∷ [])
+pub all_one : (P : DirRow → Type 0) (row : DirRow) → P row → All P (row ∷ [])
 all_one P row holds zero d below = holds
 all_one P row holds (suc k) d below = absurd (omega arith)
 

@@ -1,6 +1,7 @@
 //! A journal and its end.
 
 ghost use Rattle.std.specs.Prelude.{◌≡◌, ◌⊎◌, ◌≤◌, ◌<◌, ◌+◌, ◌-◌, List, [], ◌∷◌, ◌++◌, ℕ, length, Ok, Err, IfOk, IfErr, OnOk, OnErr, IsErrOf};
+ghost use Rattle.std.specs.List.{All};
 ghost use Rattle.hay_disk.specs.Counts.{IsCounted, Rose};
 ghost use Rattle.hay_disk.specs.Disk.{IsImage, IsSolid, IsSolidIn, IsFree, IsFreeIn, Changes, KeepsOthers};
 ghost use Rattle.hay_disk.specs.Gate.{IsGate, end_mark};
@@ -42,6 +43,8 @@ impl Journal {
         ensures end { D.Tells → IfOk result (λ opened. opened.0.end ≡ journal_end opened.1.items) }
         ensures rest { D.Tells → IfOk result (λ _. IsSolid (D.files disk.new 0)) }
         ensures next { D.Tells → IfOk result (λ opened. IsGate journal_magic opened.0.end (D.files disk.new 0)) }
+        // Whatever the disk tells, each row is of a volume that there is.
+        ensures within { IfOk result (λ opened. All (λ row. row.volume < sup.now.settings.volumes) opened.1.items) }
 
         // A file of size 0 has no rows. Any other stays as it is.
         ensures void { D.Tells → (D.files disk.old 0).now ≡ [] → IfOk result (λ opened. opened.1.items ≡ []) }
@@ -123,6 +126,7 @@ fn open_rows<D: Disk>(
 ) -> Result<(Vec<DirRow>, u64), RowsFault>
     requires free { D.Tells → IsFree (D.files disk.old 0) }
     ensures rows { D.Tells → IfOk result (λ scan. IsJournal (super_bytes sup.now) sup.now.settings.volumes (D.files disk.new 0).now scan.0.items) }
+    ensures within { IfOk result (λ scan. All (λ row. row.volume < sup.now.settings.volumes) scan.0.items) }
     ensures end { D.Tells → IfOk result (λ scan. scan.1 ≡ journal_end scan.0.items) }
     ensures rest { D.Tells → IsSolid (D.files disk.old 0) → IfOk result (λ _. IsSolid (D.files disk.new 0)) }
     ensures free { D.Tells → IsFree (D.files disk.new 0) }

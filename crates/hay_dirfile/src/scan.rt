@@ -1,6 +1,7 @@
 //! Reading the rows of a journal.
 
 ghost use Rattle.std.specs.Prelude.{◌≡◌, ◌⊎◌, ◌≤◌, ◌<◌, ◌+◌, ℕ, List, Ok, Err, IfOk, IfErr, OnOk, IsErr, IsErrOf};
+ghost use Rattle.std.specs.List.{All};
 ghost use Rattle.hay_disk.specs.Counts.{IsCounted};
 ghost use Rattle.hay_disk.specs.Disk.{KeepsOthers};
 ghost use Rattle.hay_disk.specs.Gate.{IsClosed, HasBytesAt};
@@ -40,6 +41,7 @@ pub fn read_row<D: Disk>(
     requires reaches { Reaches reader.old at }
     requires block { D.Tells → HasBlockOf (D.files disk.old 0).now reader.old }
     ensures row { D.Tells → (row : DirRow) → result ≡ Ok (Due.Row row) → IsRowOf volumes row × HasBytesAt at (journal_row row) (D.files disk.old 0).now }
+    ensures within { (row : DirRow) → result ≡ Ok (Due.Row row) → row.volume < volumes }
     ensures mark { D.Tells → result ≡ Ok Due.Mark → IsClosed journal_magic at (D.files disk.old 0).now }
     ensures broken { D.Tells → result ≡ Ok Due.Broken → IsBrokenRow volumes at (D.files disk.old 0).now }
     ensures file { reader.new.file ≡ 0 }
@@ -70,6 +72,7 @@ pub(crate) fn read_rows<D: Disk>(
     sup: &Super,
 ) -> Result<(Vec<DirRow>, u64), RowsFault>
     ensures rows { D.Tells → IfOk result (λ scan. IsJournal (super_bytes sup.now) sup.now.settings.volumes (D.files disk.old 0).now scan.0.items) }
+    ensures within { IfOk result (λ scan. All (λ row. row.volume < sup.now.settings.volumes) scan.0.items) }
     ensures end { D.Tells → IfOk result (λ scan. scan.1 ≡ journal_end scan.0.items) }
     ensures damaged { D.Tells → (at : ℕ) → result ≡ Err (RowsFault.Damaged at) → IsDamagedJournal sup.now (D.files disk.old 0).now at }
     ensures only { D.Tells → (rows : List DirRow) → IsJournal (super_bytes sup.now) sup.now.settings.volumes (D.files disk.old 0).now rows →

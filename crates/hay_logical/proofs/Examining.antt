@@ -1,5 +1,5 @@
 -- Cells that a compaction examines.
-use Rattle.std.proofs.Common.{◌≡◌, inl, inr, ℕ, ◌+◌, ◌-◌, ◌≤◌, List, Option, Some, None, refl, sym, ap, subst, ◌∙◌, arith}
+use Rattle.std.proofs.Common.{◌≡◌, inl, inr, ℕ, ◌+◌, ◌-◌, ◌≤◌, ◌<◌, List, Option, Some, None, refl, sym, ap, subst, ◌∙◌, arith}
 use Rattle.hay_needle.specs.declared.needle.Cell.{Cell}
 use Rattle.hay_needle.specs.declared.needle.Pair.{Pair}
 use Rattle.hay_disk.specs.Counts.{Rose}
@@ -94,7 +94,7 @@ module _ {D : Type 0} (files : D → Files) where
       record { number = 0; within = omega arith; has = subst (λ (x : Run). HasRun files r' s (Some x)) (sym (step_none run)) (memory refl) }
 
   -- nothing more was examined
-  pub leaves_some : (r' : Copy D) (s : Stored) (run : Run) (cells n : ℕ) (f : ReplicaFault) → n ≤ cells → n ≤ run.left → StepLeaves files r' s (stepped_by n run) 0 f → StepLeaves files r' s run cells f
+  pub leaves_some : (r' : Copy D) (s : Stored) (run : Run) (cells n : ℕ) (f : ReplicaFault) → n < cells → n ≤ run.left → StepLeaves files r' s (stepped_by n run) 0 f → StepLeaves files r' s run cells f
   leaves_some r' s run cells n (fault.Failed count) low few leaves = tt
   leaves_some r' s run cells n fault.Frozen low few leaves = tt
   leaves_some r' s run cells n (fault.Full end need capacity) low few leaves = tt

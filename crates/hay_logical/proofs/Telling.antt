@@ -1,5 +1,5 @@
 -- What the notes of an opening tell, and what a put or a delete that is refused leaves to be told.
-use Rattle.std.proofs.Common.{◌≡◌, ℕ, ◌+◌, ◌<◌, ◌≤◌, ◌^◌, Bool, true, false, List, [], ◌∷◌, length, Option, Some, None, inl, inr, refl, sym, subst, ◌∙◌, arith}
+use Rattle.std.proofs.Common.{◌≡◌, ℕ, ◌+◌, ◌<◌, ◌≤◌, ◌^◌, Bool, true, false, List, [], ◌∷◌, length, Option, Some, None, inl, inr, refl, sym, subst, arith}
 use Rattle.std.specs.List.{AllByRecursion}
 use Rattle.std.proofs.Math.Nat.{mod-le}
 use Rattle.hay_needle.specs.declared.settings.Settings.{Settings}
@@ -48,13 +48,6 @@ put_broken settings v at tag change old replica.NoMemory said by settled =
     let unsure : Unsure = record { tag = tag; change = change } in
     subst (λ (f : LogicalFault). PutLeavesUnsure tag old (Some unsure) f) (sym by.1) (inr (record { settled = settled; change = change; is = refl }))
 put_broken settings v at tag change old _ said by settled = absurd by
-
--- a put that came to a replica was not refused for want of room, nor by a freeze
-pub put_had_room : (settings : Settings) (v at : ℕ) (fault : ReplicaFault) (said : Refusal) → RefusalBy settings v at fault said
-    → ((m : ℕ) → said.fault ≡ refusal.ReadOnly m → ⊥) × ((m end need capacity : ℕ) → said.fault ≡ refusal.Full m end need capacity → ⊥)
-put_had_room settings v at (replica.Failed printed) said by = (λ m e. let wrong = sym by.1 ∙ e in cc, λ m end need capacity e. let wrong = sym by.1 ∙ e in cc)
-put_had_room settings v at replica.NoMemory said by = (λ m e. let wrong = sym by.1 ∙ e in cc, λ m end need capacity e. let wrong = sym by.1 ∙ e in cc)
-put_had_room settings v at _ said by = absurd by
 
 -- a delete that came before any change
 pub delete_before : (tag : CoreTag) (old new : Option Unsure) (fault : LogicalFault) → new ≡ old → DeleteLeavesUnsure tag old new fault

@@ -1,5 +1,5 @@
 -- What the calls of a logical volume answer.
-use Rattle.std.specs.Prelude.{◌≡◌, ◌⊎◌, ℕ, ◌<◌, ◌≤◌, ◌+◌, min, Bool, true, false, List, [], ◌∷◌, length, slice_get, Option, Some, None, Result, Ok, Err}
+use Rattle.std.specs.Prelude.{◌≡◌, ◌⊎◌, ℕ, ◌<◌, ◌≤◌, ◌+◌, ◌-◌, min, Bool, true, false, List, [], ◌∷◌, length, slice_get, Option, Some, None, Result, Ok, Err}
 use Rattle.std.specs.List.{list_any}
 use Rattle.hay_needle.specs.declared.needle.Cookie.{Cookie}
 use Rattle.hay_needle.specs.declared.needle.Pair.{Pair}
@@ -65,6 +65,18 @@ IsPutFault faults settings v old new (Busy m generation) = ⊥
 IsPutFault faults settings v old new (Worn m) = ⊥
 IsPutFault faults settings v old new Idle = ⊥
 IsPutFault faults settings v old new (Damaged m at) = ⊥
+
+-- a put that has room is refused only so
+abbrev pub BreaksPutOff : LogicalFault → Type 0
+BreaksPutOff (Failed machine printed) = Unit {0}
+BreaksPutOff NoMemory = Unit {0}
+BreaksPutOff (ReadOnly m) = ⊥
+BreaksPutOff (Full machine end need capacity) = ⊥
+BreaksPutOff (Gone front) = ⊥
+BreaksPutOff (Busy m generation) = ⊥
+BreaksPutOff (Worn m) = ⊥
+BreaksPutOff Idle = ⊥
+BreaksPutOff (Damaged m at) = ⊥
 
 abbrev pub IsDeleteFault : {D : Type 0} → (D → ℕ) → Settings → ℕ → List (Copy D) → List (Copy D) → LogicalFault → Type 0
 IsDeleteFault faults settings v old new (Failed machine printed) = HasFailed faults settings v old new machine printed
@@ -292,7 +304,7 @@ StepRefused files Tells k replica cells old new Idle = (k.frozen ≡ None) × ((
 StepRefused files Tells k replica cells old new (Failed m faults) =
     (k.frozen ≡ None) × (m ≡ machine_of old.settings old.number replica) × IsRunning k replica × Stands files Tells new (change_at k replica without_run)
 StepRefused files Tells k replica cells old new NoMemory =
-    (k.frozen ≡ None) × ((run : Run) × (n : ℕ) × ((replica_at k replica).run ≡ Some run) × (n ≤ min cells run.left) × StandsStepped files Tells k replica run n new)
+    (k.frozen ≡ None) × ((run : Run) × (n : ℕ) × ((replica_at k replica).run ≡ Some run) × (n ≤ min (cells - 1) run.left) × StandsStepped files Tells k replica run n new)
 StepRefused files Tells k replica cells old new (Full m end need capacity) = ⊥
 StepRefused files Tells k replica cells old new (Gone front) = ⊥
 StepRefused files Tells k replica cells old new (Busy m generation) = ⊥

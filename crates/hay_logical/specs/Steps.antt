@@ -280,6 +280,7 @@ pub record FusesAt {D : Type 0} (DiskTells : Type 0) (files : D → Files) (faul
   pub holds : DiskTells → (stuck : Bool) (s t : Stored) → physical.Holds files r stuck s t → physical.Holds files r' stuck s t
   pub run : DiskTells → (s : Stored) (run : Option Run) → HasRun files r s run → HasRun files r' s run
   pub reach : StaysInReach DiskTells files r r'
+  pub same_files : DiskTells → files r'.disk ≡ files r.disk
   pub same_faults : faults r'.disk ≡ faults r.disk
   pub next : IsNext (fuses r.disk) (fuses r'.disk)
 
@@ -350,7 +351,7 @@ IsStepFault faults r r' fault.NoMemory = goal_of r' ≡ goal_of r
 -- what want of memory leaves of so many cells to examine
 pub record SteppedPart {D : Type 0} (files : D → Files) (r' : Copy D) (s : Stored) (run : Run) (cells : ℕ) : Type 0 where
   pub number : ℕ
-  pub within : number ≤ min cells run.left
+  pub within : number ≤ min (cells - 1) run.left
   pub has : HasRun files r' s (Some (stepped_by number run))
 
 abbrev pub StepLeaves : {D : Type 0} → (D → Files) → Copy D → Stored → Run → ℕ → ReplicaFault → Type 0

@@ -4,7 +4,8 @@
 //! A change is made on each replica in order, and then in memory, in one call or in two, so that it can be shown to others
 //! between them. Where a replica fails, the volume is frozen by its machine: it takes no more changes, and shows what stood
 //! before. So it is where the change is given up between the two. Once it was stopped and is opened again, each replica has
-//! the change or lacks it, and the opening tells which. What it stands for is said in the words of `hay_legal`.
+//! the change or lacks it, and the opening tells which. A volume that is not frozen has no change pending. What it stands for is
+//! said in the words of `hay_legal`.
 //!
 //! A compaction of a replica goes on beside the changes, a few cells at a time, or all at once. What freezes the volume
 //! ends the compactions of all replicas: a change that was broken off, or a swap of a replica's files of which no one knows

@@ -1,5 +1,5 @@
 //! A logical volume.
-ghost use Rattle.std.specs.Prelude.{◌≡◌, ◌≢◌, ◌⊎◌, ◌≤◌, ◌<◌, ◌+◌, ◌++◌, ◌∷◌, [], ℕ, List, Option, Some, None, true, false, length, map, option_map, Ok, Err, IfOk, IfErr, IfSome, IfNone, OnOk, OnErr};
+ghost use Rattle.std.specs.Prelude.{◌≡◌, ◌≢◌, ◌⊎◌, ◌≤◌, ◌<◌, ◌+◌, ◌++◌, ◌∷◌, [], ℕ, List, Option, Some, None, true, false, length, map, option_map, Ok, Err, IfOk, IfErr, IfSome, IfNone, IsOk, OnOk, OnErr};
 ghost use Rattle.std.specs.List.{AllByRecursion};
 ghost use Rattle.hay_disk.specs.Counts.{IsNext, Rose};
 ghost use Rattle.hay_disk.specs.Disk.{MayLeave};
@@ -24,7 +24,7 @@ ghost use Rattle.hay_logical.specs.Steps.{AllIdle, IsRefusedAt, IsSeenBy, KeepsD
 ghost use Rattle.hay_logical.specs.Volumes.{HasAll, IsClosed, IsMachineOf, IsOfSettings, IsOpenVolume, IsSame, KeepsCounts, Volume};
 ghost use Rattle.hay_logical.specs.Unshown.{GivesUp, IsErased, IsWritten, IsWrittenFor, ShowsSame};
 ghost use Rattle.hay_logical.specs.Stands.{Holds, IsFirst, IsIdleVolume, Stands, Stopped};
-ghost use Rattle.hay_logical.specs.Answers.{BeginRefused, CompactRefused, DeleteRefused, FinishRefused, FlushRefused, IsBeginFault, IsBegun, IsCompactFault, IsCompacted, IsDeleteFault, IsDeleted, IsFinished, IsFlushFault, IsFlushed, IsPut, IsPutFault, IsReopened, IsRoomFault, IsRunFault, IsSightFault, IsStepped, PutRefused, RemovesOld, StepRefused, change_at, room_answer};
+ghost use Rattle.hay_logical.specs.Answers.{BeginRefused, BreaksPutOff, CompactRefused, DeleteRefused, FinishRefused, FlushRefused, IsBeginFault, IsBegun, IsCompactFault, IsCompacted, IsDeleteFault, IsDeleted, IsFinished, IsFlushFault, IsFlushed, IsPut, IsPutFault, IsReopened, IsRoomFault, IsRunFault, IsSightFault, IsStepped, PutRefused, RemovesOld, StepRefused, change_at, room_answer};
 
 use crate::fault::{LogicalFault, Unopened};
 use crate::notes::{machine_of, notes_of};
@@ -205,6 +205,7 @@ impl<D: Disk> Logical<D> {
             result ≡ room_answer self.now.settings k.frozen (room_refusal_of self.now.settings self.now.number k size) }
         ensures frozen { (m : ℕ) → self.now.frozen ≡ Some m → result ≡ Err (LogicalFault.ReadOnly m) }
         ensures fits { OnOk result ((self.now.frozen ≡ None) × ((j : ℕ) (r : Copy D) → At self.now.replicas j r → RoomFor size r)) }
+        ensures takes { self.now.frozen ≡ None → ((j : ℕ) (r : Copy D) → At self.now.replicas j r → RoomFor size r) → IsOk result }
         ensures causes { IfErr result (IsRoomFault self.now.settings self.now.number) }
     {
         if let Some(machine) = self.frozen {
@@ -259,6 +260,7 @@ impl<D: Disk> Logical<D> {
         ensures refused { D.Tells → (k : VolumeKnown) → Stands D.files D.Piece.Tells self.old k →
             IfErr result (PutRefused D.files D.Piece.Tells k tag pair cookie bytes.now self.old self.new) }
         ensures causes { IfErr result (IsPutFault D.fault_count self.old.settings self.old.number self.old.replicas self.new.replicas) }
+        ensures takes { self.old.frozen ≡ None → ((j : ℕ) (r : Copy D) → At self.old.replicas j r → RoomFor (length bytes.now) r) → IfErr result BreaksPutOff }
         ensures refused_unsure { IfErr result (PutLeavesUnsure tag self.old.unsure self.new.unsure) }
         // Where the volume is frozen or a replica lacks room, all stays. A refusal that left no change pending changed no byte.
         ensures read_only { (m : ℕ) → result ≡ Err (LogicalFault.ReadOnly m) → self.new ≡ self.old }
@@ -386,6 +388,7 @@ impl<D: Disk> Logical<D> {
         ensures refused { D.Tells → (k : VolumeKnown) → Stands D.files D.Piece.Tells self.old k →
             IfErr result (PutRefused D.files D.Piece.Tells k tag pair cookie bytes.now self.old self.new) }
         ensures causes { IfErr result (IsPutFault D.fault_count self.old.settings self.old.number self.old.replicas self.new.replicas) }
+        ensures takes { self.old.frozen ≡ None → ((j : ℕ) (r : Copy D) → At self.old.replicas j r → RoomFor (length bytes.now) r) → IfErr result BreaksPutOff }
         ensures stored_unsure { OnOk result (self.new.unsure ≡ self.old.unsure) }
         ensures refused_unsure { IfErr result (PutLeavesUnsure tag self.old.unsure self.new.unsure) }
         // Where the volume is frozen or a replica lacks room, all stays. A refusal that left no change pending changed no byte.
@@ -917,6 +920,7 @@ impl<D: Disk> Logical<D> {
         ensures open { IsOpenVolume self.old → IsOpenVolume self.new }
         ensures fused { (r r' : Copy D) → At self.old.replicas replica r → At self.new.replicas replica r' →
             IsNext (D.fuse_count r.disk) (D.fuse_count r'.disk) × (D.fault_count r'.disk ≡ D.fault_count r.disk) }
+        ensures files { D.Tells → (r r' : Copy D) → At self.old.replicas replica r → At self.new.replicas replica r' → D.files r'.disk ≡ D.files r.disk }
         ensures others { (j : ℕ) → (j ≡ replica → ⊥) → (r r' : Copy D) → At self.old.replicas j r → At self.new.replicas j r' → r' ≡ r }
         ensures count { length self.new.replicas ≡ length self.old.replicas }
         ensures still { self.new ≡ record self.old { replicas = self.new.replicas } }

@@ -3,3 +3,4 @@ pub mod Cuts
 pub mod Numbers
 pub mod Wording
 pub mod Back
+pub mod Encoding

@@ -5,6 +5,7 @@
 //! text it is, and none exactly where no value has the text; `specs/Fits.antt` says which values there are.
 #![tactic(auto)]
 
+mod digits;
 mod groups;
 mod lists;
 mod read;

@@ -3,12 +3,26 @@ ghost use Rattle.std.specs.Prelude.{◌≡◌, ◌++◌, ◌==◌, OnOk, OnErr, 
 ghost use Rattle.std.specs.List.{list_all};
 ghost use Rattle.hay_reply.specs.Replies as texts;
 
+use crate::digits::write_digits;
 use crate::groups::write_groups;
 use crate::{Note, Reply};
 use hay_base::NoMemory;
 use hay_needle::Settings;
 use hay_url::{cookie_text, url_text};
 use std::alloc::Global;
+
+/// Adds a text, which becomes all of what is written to where that was empty. `NoMemory` adds nothing.
+fn add(text: String, out: &mut Vec<u8>) -> Result<(), NoMemory>
+    ensures ok { OnOk result (out.new.items ≡ out.old.items ++ string_bytes text) }
+    ensures err { OnErr result (out.new.items ≡ out.old.items) }
+{
+    if out.is_empty() {
+        *out = text.into_bytes();
+    } else {
+        out.extend_from_slice(text.as_bytes())?;
+    }
+    Ok(())
+}
 
 /// Adds the text of a reply, without its line's number. `NoMemory` adds nothing.
 pub fn reply_text(alloc: Global, reply: &Reply, out: &mut Vec<u8>) -> Result<(), NoMemory>
@@ -17,8 +31,7 @@ pub fn reply_text(alloc: Global, reply: &Reply, out: &mut Vec<u8>) -> Result<(),
 {
     let mut text = String::new(alloc);
     write_reply(alloc, reply, &mut text)?;
-    out.extend_from_slice(text.as_bytes())?;
-    Ok(())
+    add(text, out)
 }
 
 /// Adds the text of a note, without its line feed. `NoMemory` adds nothing.
@@ -28,8 +41,7 @@ pub fn note_text(alloc: Global, note: &Note, out: &mut Vec<u8>) -> Result<(), No
 {
     let mut text = String::new(alloc);
     write_note(note, &mut text)?;
-    out.extend_from_slice(text.as_bytes())?;
-    Ok(())
+    add(text, out)
 }
 
 /// Adds a line of the transcript: the number of the script's line, and its reply. `NoMemory` adds nothing.
@@ -46,8 +58,7 @@ pub fn numbered_line(
     write!(text, "{line} ")?;
     write_reply(alloc, reply, &mut text)?;
     writeln!(text)?;
-    out.extend_from_slice(text.as_bytes())?;
-    Ok(())
+    add(text, out)
 }
 
 /// Adds the first line of the transcript. `NoMemory` adds nothing.
@@ -64,8 +75,7 @@ pub fn header_line(alloc: Global, settings: &Settings, out: &mut Vec<u8>) -> Res
     } = settings;
     let mut text = String::new(alloc);
     writeln!(text, "haystack {machines} {volumes} {replicas} {capacity}")?;
-    out.extend_from_slice(text.as_bytes())?;
-    Ok(())
+    add(text, out)
 }
 
 fn write_reply(alloc: Global, reply: &Reply, out: &mut String) -> Result<(), NoMemory>
@@ -251,8 +261,7 @@ fn write_data(alloc: Global, photo: &[u8], out: &mut String) -> Result<(), NoMem
         let byte = hex::encode(alloc, [*first])?;
         write!(out, "x{count}:{byte}")?;
     } else {
-        let digits = hex::encode(alloc, photo)?;
-        out.push_str(digits.as_str())?;
+        write_digits(photo, out)?;
     }
     Ok(())
 }

@@ -1,10 +1,13 @@
 -- Where words begin and end.
-use Rattle.std.proofs.Common.{◌≡◌, ℕ, ◌+◌, ◌<◌, ◌≤◌, nat_lt, Bool, true, false, not, List, [], ◌∷◌, length, take, drop, get_or, Option, Some, None, unwrap_or, position, refl, sym, ◌∙◌, ap, arith, filter, cond, suc, add-one, drop-cons, length-take, if◌then◌else◌, ◌==◌, ◌&&◌}
+use Rattle.std.proofs.Common.{◌≡◌, ℕ, ◌+◌, ◌<◌, ◌≤◌, nat_lt, Bool, true, false, not, List, [], ◌∷◌, length, take, drop, get_or}
+use Rattle.std.proofs.Common.{Option, Some, None, unwrap_or, position, refl, sym, ◌∙◌, ap, arith, filter, cond, suc, add-one, drop-cons, length-take, if◌then◌else◌, ◌==◌, ◌&&◌}
 use Rattle.std.specs.List.{slice_split, position_or_len, list_all, join_with_byte}
 use Rattle.std.proofs.lemmas.Grind.{common_steps}
 use Rattle.std.proofs.lemmas.Bool.Decides.{nat_tests}
 use Rattle.std.proofs.lemmas.List.Splits.{slice_split_first, slice_split-cons_yes, slice_split-cons_no, join_with_byte-slice_split}
-use Rattle.std.proofs.lemmas.List.Sums.{passes_at_first, prefix_len-le-length}
+use Rattle.std.proofs.lemmas.Bool.{false_from_ne_true}
+use Rattle.std.proofs.lemmas.List.Sums.{passes_at_first, position_or_len_is, prefix_len-le-length}
+use Rattle.memchr.specs.Find.{IsFirstByte}
 use Rattle.std.proofs.lemmas.List.{drop_all, take_all}
 use Rattle.hay_script.specs.Script.{is_blank, is_word, words_of, is_colon, equal_bytes, run_of_parts, from_one}
 use Rattle.hay_needle.specs.declared.total.TheConstants.{MAX_PHOTO}
@@ -30,6 +33,21 @@ pub first_part : (p : ℕ → Bool) (xs : List ℕ) (i : ℕ) → Some i ≡ pos
 first_part p xs i h =
     let at = found (position_or_len p xs) (length xs) i h in
     rw (at.1) (slice_split_first p xs 0 at.0)
+
+place_found : (n len : ℕ) → n < len → Some n ≡ cond (nat_lt n len) (Some n) None
+place_found n len h = grind (arith, nat_tests)
+
+nothing_found : (n len : ℕ) → n ≡ len → None ≡ cond (nat_lt n len) (Some n) None
+nothing_found n len h = grind (arith, nat_tests)
+
+-- the first place that a search finds
+pub searched : (p : ℕ → Bool) (xs : List ℕ) (r : Option ℕ) → IsFirstByte p xs r → r ≡ position p xs
+searched p xs None h =
+    let at = position_or_len_is p xs (length xs) 0 (omega arith) (λ k l. false_from_ne_true (p (get_or xs k 0)) (h k (omega arith) l)) (λ l. absurd (omega arith)) in
+    nothing_found (position_or_len p xs) (length xs) at
+searched p xs (Some i) h =
+    let at = position_or_len_is p xs i 0 (omega (arith, h.0.high)) (λ k l. false_from_ne_true (p (get_or xs k 0)) (h.0.before k (omega arith) l)) (λ l. h.1) in
+    ap Some (sym at) ∙ place_found (position_or_len p xs) (length xs) (rw at (h.0.high))
 
 abbrev pub is_other : ℕ → Bool
 is_other b = not (is_blank b)

@@ -1,10 +1,11 @@
 //! The script: what each of its lines says.
 //!
-//! It stands on the values of `hay_needle`, on `hay_url` for the line `get`, and on `hex`. `specs/Script.antt` has the grammar, as what a
+//! It stands on the values of `hay_needle`, on `hay_url` for the line `get`, on `hex`, and on `memchr`. `specs/Script.antt` has the grammar, as what a
 //! line's words say. `read_line` answers just that, for every line of any bytes; want of memory is its only refusal.
 #![tactic(auto)]
 
 mod commands;
+mod hexadecimal;
 mod numbers;
 mod photo;
 mod read;

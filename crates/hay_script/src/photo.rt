@@ -5,10 +5,10 @@ ghost use Rattle.std.specs.Str.Parse.{digits_value};
 ghost use Rattle.hex.specs.Hex.{is_hex_digit};
 ghost use Rattle.hay_script.specs.Script as grammar;
 
+use crate::hexadecimal::decode;
 use crate::numbers::{is_hex, read_count, read_digits};
 use hay_base::NoMemory;
 use hay_needle::{Bytes, MAX_PHOTO};
-use hex::FromHexError;
 use std::alloc::Global;
 
 /// The photo of a word: no bytes, one byte many times, or two digits for each byte.
@@ -30,11 +30,7 @@ fn read_hex(alloc: Global, text: &[u8]) -> Result<Option<Bytes>, NoMemory>
     if text.len() < 2 || text.len() > 2 * MAX_PHOTO as usize {
         return Ok(None);
     }
-    match hex::decode(alloc, text) {
-        Ok(bytes) => Ok(Some(Bytes::from_vec(bytes))),
-        Err(FromHexError::OutOfMemory) => Err(NoMemory),
-        Err(_) => Ok(None),
-    }
+    decode(alloc, text)
 }
 
 fn first_colon(run: &[u8]) -> Option<usize>

@@ -3,19 +3,21 @@ ghost use Rattle.std.specs.Prelude.{◌≡◌, ◌∷◌, [], not, position, Mat
 ghost use Rattle.std.specs.List.{list_all};
 ghost use Rattle.hay_script.specs.Script as grammar;
 
+use memchr::memchr2;
+
 /// The most bytes that a line has, without its line feed.
 pub const MAX_LINE: usize = 33_554_560;
 
 fn is_blank(byte: u8) -> bool
     ensures { result ≡ grammar.is_blank byte }
 {
-    byte == b' ' || byte == b'\t'
+    (byte == b' ') | (byte == b'\t')
 }
 
 fn first_blank(line: &[u8]) -> Option<usize>
     ensures { result ≡ position grammar.is_blank line.now }
 {
-    line.iter().position(|byte| is_blank(*byte))
+    memchr2(b' ', b'\t', line)
 }
 
 fn first_other(line: &[u8]) -> Option<usize>
@@ -38,13 +40,17 @@ pub fn split_word(line: &[u8]) -> Option<(&[u8], &[u8])>
 fn is_written(byte: u8) -> bool
     ensures { result ≡ grammar.is_written byte }
 {
-    is_blank(byte) || (33..=126).contains(&byte)
+    is_blank(byte) | ((byte >= 33) & (byte <= 126))
 }
 
 fn are_written(line: &[u8]) -> bool
     ensures { result ≡ list_all grammar.is_written line.now }
 {
-    line.iter().all(|byte| is_written(*byte))
+    let mut all = true;
+    for byte in line {
+        all = all & is_written(*byte);
+    }
+    all
 }
 
 /// Whether a line is not too long, and of printable ASCII, spaces and tabs.

@@ -1,10 +1,9 @@
 //! The homes of pairs, as a view.
-ghost use Rattle.std.specs.Prelude.{◌≡◌, ◌++◌, ◌∷◌, ◌<◌, [], true, Some, map, IfOk, OnOk, OnErr};
-ghost use Rattle.std.specs.List.{AllByRecursion};
+ghost use Rattle.std.specs.Prelude.{◌≡◌, ◌++◌, ◌∷◌, [], true, Some, map, IfOk, OnOk, OnErr};
 ghost use Rattle.hay_legal.specs.declared.known.HomeRow.{HomeRow};
 ghost use Rattle.hay_directory.specs.Homes.{home_among, SetsHome};
 ghost use Rattle.hay_directory.specs.Rows.{home_row};
-ghost use Rattle.hay_views.specs.HomeLooks.{IsHomeOf, with_row};
+ghost use Rattle.hay_views.specs.HomeLooks.{AreWithin, IsHomeOf, with_row};
 
 use crate::past::Past;
 use hay_base::NoMemory;
@@ -16,77 +15,79 @@ use std::alloc::Global;
 use std::collections::HashMap;
 use std::marker::Model;
 
-/// The volume of the first row of each pair. Clauses see the rows.
+/// The volume of the first row of each pair, and how many volumes there are. Clauses see the rows.
 #[derive(Drop)]
 pub struct HomeView {
-    volumes: HashMap<(u64, u32), u32>,
+    volumes: u32,
+    homes: HashMap<(u64, u32), u32>,
     rows: Past<HomeRow>,
 }
 
 impl Model for HomeView {
-    ghost use Rattle.std.specs.Prelude.{◌≡◌, List};
+    ghost use Rattle.std.specs.Prelude.{◌≡◌};
     ghost use Rattle.hay_needle.specs.declared.needle.Pair.{Pair};
     ghost use Rattle.hay_legal.specs.Known.{home_in};
-    ghost use Rattle.hay_legal.specs.declared.known.HomeRow.{HomeRow};
     ghost use Rattle.hay_directory.specs.Homes.{home_among};
+    ghost use Rattle.hay_views.specs.HomeLooks.{HomesAt};
 
-    ghost Value = { List HomeRow };
+    ghost Value = { HomesAt };
 
-    ghost view = { λ v. v.rows };
+    ghost view = { λ v. record { volumes = v.volumes; rows = v.rows } };
 
-    ghost invariant = { λ v. (pair : Pair) → home_among v.volumes.entries pair ≡ home_in v.rows pair };
+    ghost invariant = { λ v. (pair : Pair) → home_among v.homes.entries pair ≡ home_in v.rows pair };
 }
 
-fn home_of(volumes: &HashMap<(u64, u32), u32>, pair: Pair) -> Option<u32>
-    ensures { result ≡ home_among volumes.now.entries pair }
+fn home_of(homes: &HashMap<(u64, u32), u32>, pair: Pair) -> Option<u32>
+    ensures { result ≡ home_among homes.now.entries pair }
 {
-    volumes.get(&(pair.key, pair.alt)).copied()
+    homes.get(&(pair.key, pair.alt)).copied()
 }
 
-fn settle(volumes: &mut HashMap<(u64, u32), u32>, row: DirRow) -> Result<(), NoMemory>
-    ensures ok { OnOk result (SetsHome row.pair (Some row.volume) volumes.old.entries volumes.new.entries) }
-    ensures err { OnErr result (volumes.new.entries ≡ volumes.old.entries) }
+fn settle(homes: &mut HashMap<(u64, u32), u32>, row: DirRow) -> Result<(), NoMemory>
+    ensures ok { OnOk result (SetsHome row.pair (Some row.volume) homes.old.entries homes.new.entries) }
+    ensures err { OnErr result (homes.new.entries ≡ homes.old.entries) }
 {
-    volumes.insert((row.pair.key, row.pair.alt), row.volume)?;
+    homes.insert((row.pair.key, row.pair.alt), row.volume)?;
     Ok(())
 }
 
 impl HomeView {
-    /// No rows. It takes no memory.
-    pub fn new(alloc: Global) -> HomeView
-        ensures { result ≡ [] }
+    /// No rows, and so many volumes. It takes no memory.
+    pub fn new(alloc: Global, volumes: u32) -> HomeView
+        ensures { result ≡ record { volumes = volumes; rows = [] } }
     {
         HomeView {
-            volumes: HashMap::new(alloc),
+            volumes,
+            homes: HashMap::new(alloc),
             rows: Past::new(),
         }
     }
 
-    /// The homes by these rows.
-    pub fn of_rows(alloc: Global, rows: &[DirRow]) -> Result<HomeView, NoMemory>
-        ensures { IfOk result (λ homes. homes ≡ map home_row rows.now) }
+    /// The homes by these rows, and so many volumes.
+    pub fn of_rows(alloc: Global, volumes: u32, rows: &[DirRow]) -> Result<HomeView, NoMemory>
+        ensures { IfOk result (λ view. view ≡ record { volumes = volumes; rows = map home_row rows.now }) }
     {
-        let mut homes = HomeView::new(alloc);
+        let mut view = HomeView::new(alloc, volumes);
         for row in rows {
-            homes.add(*row)?;
+            view.add(*row)?;
         }
-        Ok(homes)
+        Ok(view)
     }
 
     // Adds a row behind the others. A pair that has a home keeps it. `NoMemory` changes nothing.
     fn add(&mut self, row: DirRow) -> Result<(), NoMemory>
-        ensures ok { OnOk result (self.new ≡ self.old ++ home_row row ∷ []) }
+        ensures ok { OnOk result (self.new ≡ with_row self.old (home_row row)) }
         ensures err { OnErr result (self.new ≡ self.old) }
     {
         let added = HomeRow {
             pair: row.pair,
             volume: row.volume,
         };
-        if home_of(&self.volumes, row.pair).is_some() {
+        if home_of(&self.homes, row.pair).is_some() {
             self.rows.add(&added);
             return Ok(());
         }
-        settle(&mut self.volumes, row)?;
+        settle(&mut self.homes, row)?;
         self.rows.add(&added);
         Ok(())
     }
@@ -103,23 +104,22 @@ impl View for HomeView {
 
     type Means = HomeView;
 
-    // The number of volumes.
-    type Start = u32;
+    type Start = ();
 
     ghost means = { λ v. v };
 
     ghost deed = { λ row. home_row row };
 
-    ghost row_is = { λ rows pair home. IsHomeOf rows pair home };
+    ghost row_is = { λ homes pair home. IsHomeOf homes pair home };
 
-    ghost after = { λ rows row. with_row rows row };
+    ghost after = { λ homes row. with_row homes row };
 
     ghost is_counted = { λ row. true };
 
-    ghost fact = { λ volumes stood rows. AllByRecursion (λ row. row.volume < volumes) (stood ++ rows) };
+    ghost fact = { λ start stood added. AreWithin start stood added };
 
     fn row(&self, key: &Pair) -> Option<u32> {
-        home_of(&self.volumes, *key)
+        home_of(&self.homes, *key)
     }
 
     fn apply(&mut self, op: &DirRow) -> Result<(), NoMemory> {

@@ -6,7 +6,7 @@
 //! these n: `proofs/PlaceLaw` and `proofs/HomeLaw` say so in the terms of `hay_map` and `hay_legal`. A change that does not fit the
 //! map changes no row; whoever publishes shows that each one fits, and may tell more of the changes, by `Telling`. A change of places
 //! is published with what it enters in the log of its volume, one entry or none, and as many entries were entered as changes count.
-//! Of several rows of one pair the first one counts.
+//! Of several rows of one pair the first one counts. A home that is shown is a volume that there is, whatever any disk tells.
 //!
 //! It stands on hay_map, hay_directory and hay_front. A look takes no memory. What a view has for clauses takes none either.
 #![tactic(auto)]

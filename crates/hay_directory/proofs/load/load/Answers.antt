@@ -1,12 +1,15 @@
 use Rattle.std.proofs.Common.{◌≡◌, ◌<◌, ◌∙◌, Err, length, map, ap, sym, subst}
+use Rattle.std.specs.List.{All}
 use Rattle.std.proofs.lemmas.Result.{err_from_is_err_and}
 use Rattle.hay_disk.specs.Disk.{Files}
 use Rattle.hay_needle.specs.declared.settings.Super.{Super}
 use Rattle.hay_dirfile.specs.declared.fault.OpenFault.{OpenFault}
+use Rattle.hay_dirfile.specs.declared.row.DirRow.{DirRow}
 use Rattle.hay_dirfile.specs.Journal.{IsDamagedJournal}
 use Rattle.hay_needle.specs.Super.{super_bytes}
 use Rattle.hay_legal.specs.Known.{home_in}
 use Rattle.hay_directory.specs.Rows.{home_row, journal_super}
+use Rattle.hay_directory.proofs.HomeLaws.{rows_within}
 use Rattle.hay_directory.proofs.RowLaws.{found_rows, no_rows, undamaged}
 use Rattle.hay_directory.proofs.Standing.{same_fault}
 use Rattle.hay_directory.proofs.load.load.Goals as goal
@@ -35,6 +38,10 @@ returns-clause-found g c = λ tells.
     (opened.rows tells) (opened.end tells) (opened.rest tells) (opened.next tells) (opened.void tells) (λ some. ap (λ (f : Files). f 0) (opened.same tells some)) (opened.exact tells)
     (λ pair. c.in-Ok.ensures pair ∙ ap (λ l. home_in (map home_row l) pair) slice.value)
     (c.len-count.ensures ∙ sym slice.len ∙ ap length slice.value)
+
+pub returns-clause-within : goal.returns-clause-within
+returns-clause-within g c =
+    rows_within c.args.settings.now.volumes c.in_ok-journal.rows.items (subst (λ (s : Super). All (λ (row : DirRow). row.volume < s.settings.volumes) c.in_ok-journal.rows.items) c.super_of-sup.ensures c.in_ok-journal.ensures.within)
 
 pub returns-clause-undamaged : goal.returns-clause-undamaged
 returns-clause-undamaged g c = λ tells some at damage.

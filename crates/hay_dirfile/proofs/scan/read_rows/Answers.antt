@@ -1,12 +1,15 @@
-use Rattle.std.proofs.Common.{◌≡◌, inl, inr, ◌<◌, ◌+◌, ◌^◌, ◌∙◌, sym, ap, subst, arith, Ok}
+use Rattle.std.proofs.Common.{◌≡◌, inl, inr, ◌<◌, ◌+◌, ◌^◌, ◌∙◌, List, length, [], ◌∷◌, sym, ap, subst, arith, Ok}
+use Rattle.std.specs.List.{All}
+use Rattle.std.proofs.lemmas.List.Elements.{All-append}
 use Rattle.hay_needle.specs.Super.{super_bytes}
 use Rattle.hay_needle.proofs.Supers.{length-super}
 use Rattle.hay_disk.specs.Gate.{IsClosed, HasBytesAt}
 use Rattle.hay_head.specs.Blocks.{HasBlockOf, Reaches}
 use Rattle.hay_head.proofs.RowLaws.{front_is}
 use Rattle.hay_head.proofs.HeadLaws.{none_is, some_is_none}
+use Rattle.hay_dirfile.specs.declared.row.DirRow.{DirRow}
 use Rattle.hay_dirfile.specs.Journal.{journal_magic, journal_row, journal_end, IsBrokenRow, IsDamagedJournal}
-use Rattle.hay_dirfile.proofs.JournalLaws.{lead_first, lead_next, next_count, row_within, journal_found, one_journal, no_broken_row, undamaged}
+use Rattle.hay_dirfile.proofs.JournalLaws.{all_one, lead_first, lead_next, next_count, row_within, journal_found, one_journal, no_broken_row, undamaged}
 use Rattle.hay_dirfile.proofs.scan.read_rows.Goals as goal
 
 pub returns-in-Some-clause-only : goal.returns-in-Some-clause-only
@@ -17,6 +20,7 @@ returns-in-Some-clause-only g c = λ tells rows is.
 pub rows-init : goal.rows-init
 rows-init g c = record {
   end = omega (arith, ap (λ l. journal_end l) c.new-rows.ensures.items);
+  within = λ k d below. absurd (omega (arith, ap length c.new-rows.ensures.items));
   same = λ tells. c.read_front.ensures.same tells;
   lead = λ tells. lead_first (super_bytes c.args.sup.now) c.args.sup.now.settings.volumes (g.D.Disk.files c.args.disk.now 0).now c.new-rows.result.items c.new-rows.ensures.items (length-super c.args.sup.now)
       (none_is c.in_ok-at.field-0 _ c.in_default.is (c.in_ok-at.ensures.stands tells));
@@ -82,6 +86,11 @@ rows-preserved g c =
     let next : c.in-Some-checked_add.next ≡ c.rows.end + 24 = omega (arith, c.in-Some-checked_add.ensures) in
     record {
       end = next_count c.rows.rows.items c.push.new.self.items c.in-Row.row c.rows.end c.in-Some-checked_add.next c.in_ok-push-in-Row.ensures.items c.rows.invariant.end next;
+      within =
+          let below = c.in_ok-row.ensures.within c.in-Row.row (ap (λ x. Ok x) c.in-Row.is) in
+          let P = λ (row : DirRow). row.volume < c.args.sup.now.settings.volumes in
+          let more = All-append P c.rows.rows.items (c.in-Row.row ∷ []) c.rows.invariant.within (all_one P c.in-Row.row below) in
+          subst (λ (l : List DirRow). All P l) (sym c.in_ok-push-in-Row.ensures.items) more;
       same = λ tells. c.read_row.ensures.same tells ∙ c.rows.invariant.same tells;
       lead = λ tells.
           let row = c.in_ok-row.ensures.row tells c.in-Row.row (ap (λ x. Ok x) c.in-Row.is) in

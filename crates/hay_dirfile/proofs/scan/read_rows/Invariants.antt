@@ -1,4 +1,5 @@
-use Rattle.std.proofs.Common.{◌≡◌, ◌+◌, ◌-◌, ◌≤◌, ◌^◌}
+use Rattle.std.proofs.Common.{◌≡◌, ◌+◌, ◌-◌, ◌≤◌, ◌<◌, ◌^◌}
+use Rattle.std.specs.List.{All}
 use Rattle.hay_disk.specs.Disk.{KeepsOthers}
 use Rattle.hay_needle.specs.Super.{super_bytes}
 use Rattle.hay_head.specs.Blocks.{HasBlockOf, Reaches, block_end}
@@ -8,6 +9,7 @@ use Rattle.hay_dirfile.proofs.scan.read_rows.Given as goal
 abbrev pub invariant-rows : goal.invariant-rows
 invariant-rows g l = record {
   end : l.end ≡ journal_end l.rows.items;
+  within : All (λ row. row.volume < l.sup.settings.volumes) l.rows.items;
   same : g.D.Disk.Tells → g.D.Disk.files l.disk ≡ g.D.Disk.files l.fn.disk;
   lead : g.D.Disk.Tells → LeadsTo (super_bytes l.sup) l.sup.settings.volumes (g.D.Disk.files l.fn.disk 0).now l.rows.items;
   file : l.reader.file ≡ 0;

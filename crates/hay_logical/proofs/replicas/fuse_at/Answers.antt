@@ -23,6 +23,7 @@ returns-clause-fuses g c = λ r r' e f.
       holds = c.fuse.ensures.holds;
       run = c.fuse.ensures.run;
       reach = λ tells. record { deletes = c.fuse.ensures.deletes tells; sees = c.fuse.ensures.sees tells };
+      same_files = c.fuse.ensures.files;
       same_faults = c.fuse.ensures.faults;
       next = c.fuse.ensures.fuses;
     } in

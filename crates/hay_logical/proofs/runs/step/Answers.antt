@@ -1,4 +1,4 @@
-use Rattle.std.proofs.Common.{◌≡◌, ◌≤◌, ◌+◌, Some, refl, sym, subst, ◌∙◌, arith}
+use Rattle.std.proofs.Common.{◌≡◌, ◌≤◌, ◌<◌, ◌+◌, Some, refl, sym, subst, ◌∙◌, arith}
 use Rattle.std.specs.Prelude.{min}
 use Rattle.hay_physical.specs.Runs.{HasRun, Run}
 use Rattle.hay_logical.specs.Steps.{stepped_by}
@@ -62,7 +62,7 @@ returns-in-Err-clause-steps g c =
       refused = λ tells s run stands has places.
           let so_far = was.stepped tells s run stands has places in
           let test = c.loop-examined-test.true in
-          let low : c.loop-examined.examined ≤ c.args.cells = omega (arith, test) in
+          let low : c.loop-examined.examined < c.args.cells = omega (arith, test) in
           leaves_some g.D.Disk.files c.examine.new.replica s run c.args.cells c.loop-examined.examined c.in-Err.fault low so_far.0
           (c.in-Err.ensures.examines.refused tells s (stepped_by c.loop-examined.examined run) (was.on.stands tells s stands) so_far.1 places);
       cause = step_later g.D.Disk.fault_count c.args.replica.now c.loop-examined.replica c.examine.new.replica c.in-Err.fault was.counts was.goal c.in-Err.ensures.examines.cause;

@@ -7,6 +7,7 @@ use Rattle.hay_directory.specs.declared.mode.Unsure.{Unsure}
 use Rattle.hay_directory.specs.Notes.{notes_by}
 use Rattle.hay_directory.specs.Rows.{OpensRows, home_row}
 use Rattle.hay_directory.specs.State.{State, Stands, Stopped, is_closed, unsure_of}
+use Rattle.hay_directory.proofs.HomeLaws.{homes_within}
 use Rattle.hay_directory.proofs.Standing.{not_closed, on_err, same_fault, reopened, stands_opened, stopped_still}
 use Rattle.hay_directory.proofs.directory.Directory.open_rows.Goals as goal
 
@@ -37,6 +38,8 @@ invariant_of-self-2 g c =
     record {
       machines = c.self.invariant.machines;
       long = c.self.invariant.long;
+      within = homes_within was.settings.volumes _ (map home_row c.in_ok-loaded.loaded.rows.items) c.in_ok-loaded.ensures.within c.in_ok-loaded.ensures.homes;
+      pending = tt;
       undrained = λ closed. not_closed (take was.settings.machines was.drained) (replicate was.settings.machines false) closed;
       stands = λ tells up.
           let found = c.in_ok-loaded.ensures.found tells in

@@ -1,7 +1,9 @@
-use Rattle.std.proofs.Common.{false, take, refl, sym, subst}
-use Rattle.std.specs.Prelude.{replicate}
+use Rattle.std.proofs.Common.{◌≡◌, ◌<◌, Option, Some, false, take, refl, sym, ap, subst, ◌∙◌}
+use Rattle.std.specs.Prelude.{IfSome, replicate}
+use Rattle.hay_directory.specs.declared.mode.Unsure.{Unsure}
 use Rattle.hay_directory.specs.Rows.{home_row}
-use Rattle.hay_directory.specs.State.{State, Stands, IsRowWritten}
+use Rattle.hay_directory.specs.State.{State, Stands, IsRowWritten, unsure_of}
+use Rattle.hay_directory.proofs.HomeLaws.{set_within}
 use Rattle.hay_directory.proofs.Standing.{not_closed, stands_now, stands_shown, with_row}
 use Rattle.hay_directory.proofs.directory.Directory.show_row.Goals as goal
 
@@ -11,9 +13,13 @@ invariant_of-self g c =
     let files = g.D.Disk.files in
     let was = c.self.inside in
     let row = home_row c.args.written.unsure.row in
+    let pends : unsure_of was.mode ≡ Some c.args.written.unsure = ap (λ (d : State _). unsure_of d.mode) c.self.view_is ∙ ap unsure_of c.requires.unshown.mode in
+    let below : row.volume < was.settings.volumes = subst (λ (u : Option Unsure). IfSome u (λ unsure. unsure.row.volume < was.settings.volumes)) pends c.self.invariant.pending in
     record {
       machines = c.self.invariant.machines;
       long = c.self.invariant.long;
+      within = set_within was.settings.volumes _ _ row.pair row.volume c.self.invariant.within c.in-Ok.ensures.ok below;
+      pending = tt;
       undrained = λ closed. not_closed (take was.settings.machines was.drained) (replicate was.settings.machines false) closed;
       stands = λ tells up.
           let old = c.requires.written tells in

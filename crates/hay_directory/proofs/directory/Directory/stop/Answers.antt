@@ -1,5 +1,5 @@
-use Rattle.std.proofs.Common.{Option, false, refl, sym, ap, subst, ◌∙◌}
-use Rattle.std.specs.Prelude.{replicate}
+use Rattle.std.proofs.Common.{◌<◌, Option, false, refl, sym, ap, subst, ◌∙◌}
+use Rattle.std.specs.Prelude.{IfSome, replicate}
 use Rattle.hay_directory.specs.declared.mode.Mode.TheVariants.{Closed}
 use Rattle.hay_directory.specs.declared.mode.Unsure.{Unsure}
 use Rattle.hay_directory.specs.State.{State, Stands, Stopped, Holds}
@@ -13,6 +13,8 @@ invariant_of-self g c =
     record {
       machines = c.self.invariant.machines;
       long = length-drains was.settings.machines c.self.invariant.machines;
+      within = c.self.invariant.within;
+      pending = subst (λ (u : Option Unsure). IfSome u (λ unsure. unsure.row.volume < was.settings.volumes)) (sym c.unsure.ensures) c.self.invariant.pending;
       undrained = λ closed. no_drains was.settings.machines c.self.invariant.machines;
       stands = λ tells up. not_up g.D.Disk.files _ up;
     }

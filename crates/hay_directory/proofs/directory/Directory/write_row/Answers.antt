@@ -1,50 +1,22 @@
-use Rattle.std.proofs.Common.{take, false, ◌≡◌, ◌<◌, ◌+◌, None, Err, refl, sym, ap, subst, ◌∙◌}
-use Rattle.std.specs.Prelude.{replicate}
+use Rattle.std.proofs.Common.{◌≡◌, ◌+◌, Err, refl, sym, ap, subst, ◌∙◌}
 use Rattle.hay_dirfile.specs.declared.journal.Journal.{Journal}
 use Rattle.hay_directory.specs.declared.mode.Mode.TheVariants.{Open}
-use Rattle.hay_directory.specs.Homes.{home_among}
 use Rattle.hay_directory.specs.Rows.{home_row}
 use Rattle.hay_directory.specs.State.{State, Stands, IsRowWritten, is_closed, is_frozen}
-use Rattle.hay_directory.proofs.Standing.{not_closed, row_written, serving, stands_failed, stands_kept, with_pending}
+use Rattle.hay_directory.proofs.Standing.{row_written, serving, sound_failed, stands_failed, stands_kept, takes}
 use Rattle.hay_directory.proofs.directory.Directory.write_row.Goals as goal
 
 pub invariant_of-self-in-Ok-settle_row : goal.invariant_of-self-in-Ok-settle_row
 invariant_of-self-in-Ok-settle_row g c =
-    let files = g.D.Disk.files in
-    let was = c.self.inside in
     let row = c.args.row in
-    let serves : was.mode ≡ Open = serving was.mode (ap (λ (d : State _). is_closed d.mode) c.self.view_is ∙ c.requires.up) (ap (λ (d : State _). is_frozen d.mode) c.self.view_is ∙ sym c.is_frozen.ensures.frozen ∙ c.if-is_frozen.false) in
-    let below : row.volume < was.settings.volumes = subst (λ (d : State _). row.volume < d.settings.volumes) (sym c.self.view_is) c.requires.volume in
-    let homeless : home_among was.homes.volumes row.pair ≡ None = ap (λ (d : State _). home_among d.homes row.pair) c.self.view_is ∙ c.requires.homeless in
-    record {
-      machines = c.self.invariant.machines;
-      long = c.self.invariant.long;
-      undrained = λ closed. not_closed (take was.settings.machines was.drained) (replicate was.settings.machines false) closed;
-      stands = λ tells up.
-          let old = c.self.invariant.stands tells (ap is_closed serves) in (
-            with_pending old.0 c.args.tag (home_row row),
-            stands_failed files _ _ old.0 _ c.args.tag (home_row row) old.1 serves refl refl refl below homeless c.reserve.ensures.kept (c.settle_row.ensures.left tells) refl,
-          );
-    }
+    let t = takes _ _ (home_row row) c.self.view_is c.requires.up (sym c.is_frozen.ensures.frozen ∙ c.if-is_frozen.false) c.requires.volume c.requires.homeless in
+    sound_failed g.D.Disk.Tells g.D.Disk.files _ _ c.args.tag (home_row row) c.self.invariant t refl refl refl c.reserve.ensures.kept c.settle_row.ensures.left refl
 
 pub invariant_of-self-in-Err-Failed : goal.invariant_of-self-in-Err-Failed
 invariant_of-self-in-Err-Failed g c =
-    let files = g.D.Disk.files in
-    let was = c.self.inside in
     let row = c.args.row in
-    let serves : was.mode ≡ Open = serving was.mode (ap (λ (d : State _). is_closed d.mode) c.self.view_is ∙ c.requires.up) (ap (λ (d : State _). is_frozen d.mode) c.self.view_is ∙ sym c.is_frozen.ensures.frozen ∙ c.if-is_frozen.false) in
-    let below : row.volume < was.settings.volumes = subst (λ (d : State _). row.volume < d.settings.volumes) (sym c.self.view_is) c.requires.volume in
-    let homeless : home_among was.homes.volumes row.pair ≡ None = ap (λ (d : State _). home_among d.homes row.pair) c.self.view_is ∙ c.requires.homeless in
-    record {
-      machines = c.self.invariant.machines;
-      long = c.self.invariant.long;
-      undrained = λ closed. not_closed (take was.settings.machines was.drained) (replicate was.settings.machines false) closed;
-      stands = λ tells up.
-          let old = c.self.invariant.stands tells (ap is_closed serves) in (
-            with_pending old.0 c.args.tag (home_row row),
-            stands_failed files _ _ old.0 _ c.args.tag (home_row row) old.1 serves refl refl refl below homeless c.reserve.ensures.kept (c.settle_row.ensures.left tells) refl,
-          );
-    }
+    let t = takes _ _ (home_row row) c.self.view_is c.requires.up (sym c.is_frozen.ensures.frozen ∙ c.if-is_frozen.false) c.requires.volume c.requires.homeless in
+    sound_failed g.D.Disk.Tells g.D.Disk.files _ _ c.args.tag (home_row row) c.self.invariant t refl refl refl c.reserve.ensures.kept c.settle_row.ensures.left refl
 
 pub returns-in-Ok-settle_row-clause-written : goal.returns-in-Ok-settle_row-clause-written
 unfolding Stands IsRowWritten
@@ -52,13 +24,11 @@ returns-in-Ok-settle_row-clause-written g c = λ tells known drained stands.
     let files = g.D.Disk.files in
     let was = c.self.inside in
     let row = c.args.row in
-    let serves : was.mode ≡ Open = serving was.mode (ap (λ (d : State _). is_closed d.mode) c.self.view_is ∙ c.requires.up) (ap (λ (d : State _). is_frozen d.mode) c.self.view_is ∙ sym c.is_frozen.ensures.frozen ∙ c.if-is_frozen.false) in
-    let below : row.volume < was.settings.volumes = subst (λ (d : State _). row.volume < d.settings.volumes) (sym c.self.view_is) c.requires.volume in
-    let homeless : home_among was.homes.volumes row.pair ≡ None = ap (λ (d : State _). home_among d.homes row.pair) c.self.view_is ∙ c.requires.homeless in
+    let t = takes _ _ (home_row row) c.self.view_is c.requires.up (sym c.is_frozen.ensures.frozen ∙ c.if-is_frozen.false) c.requires.volume c.requires.homeless in
     let done = c.in-Ok-settle_row.ensures in
     let s = subst (λ (d : State _). Stands files d known drained) (sym c.self.view_is) stands in
     let moved : c.settle_row.new.self.end ≡ was.journal.end + 24 = ap (λ (j : Journal). j.end) (done.moved tells) in
-    row_written files _ _ known drained (home_row row) s serves refl refl below homeless c.reserve.ensures.kept (done.added tells) (done.solid tells) (done.next tells) moved refl
+    row_written files _ _ known drained (home_row row) s t refl refl c.reserve.ensures.kept (done.added tells) (done.solid tells) (done.next tells) moved refl
 
 pub returns-in-Ok-settle_row-clause-sound : goal.returns-in-Ok-settle_row-clause-sound
 unfolding IsRowWritten
@@ -66,13 +36,11 @@ returns-in-Ok-settle_row-clause-sound g c = λ tells.
     let files = g.D.Disk.files in
     let was = c.self.inside in
     let row = c.args.row in
-    let serves : was.mode ≡ Open = serving was.mode (ap (λ (d : State _). is_closed d.mode) c.self.view_is ∙ c.requires.up) (ap (λ (d : State _). is_frozen d.mode) c.self.view_is ∙ sym c.is_frozen.ensures.frozen ∙ c.if-is_frozen.false) in
-    let below : row.volume < was.settings.volumes = subst (λ (d : State _). row.volume < d.settings.volumes) (sym c.self.view_is) c.requires.volume in
-    let homeless : home_among was.homes.volumes row.pair ≡ None = ap (λ (d : State _). home_among d.homes row.pair) c.self.view_is ∙ c.requires.homeless in
+    let t = takes _ _ (home_row row) c.self.view_is c.requires.up (sym c.is_frozen.ensures.frozen ∙ c.if-is_frozen.false) c.requires.volume c.requires.homeless in
     let done = c.in-Ok-settle_row.ensures in
-    let old = c.self.invariant.stands tells (ap is_closed serves) in
+    let old = c.self.invariant.stands tells (ap is_closed t.serves) in
     let moved : c.settle_row.new.self.end ≡ was.journal.end + 24 = ap (λ (j : Journal). j.end) (done.moved tells) in
-    (old.0, _, row_written files _ _ old.0 _ (home_row row) old.1 serves refl refl below homeless c.reserve.ensures.kept (done.added tells) (done.solid tells) (done.next tells) moved refl)
+    (old.0, _, row_written files _ _ old.0 _ (home_row row) old.1 t refl refl c.reserve.ensures.kept (done.added tells) (done.solid tells) (done.next tells) moved refl)
 
 pub returns-in-Ok-settle_row-clause-given_up : goal.returns-in-Ok-settle_row-clause-given_up
 unfolding Stands
@@ -80,11 +48,9 @@ returns-in-Ok-settle_row-clause-given_up g c = λ tells known drained stands.
     let files = g.D.Disk.files in
     let was = c.self.inside in
     let row = c.args.row in
-    let serves : was.mode ≡ Open = serving was.mode (ap (λ (d : State _). is_closed d.mode) c.self.view_is ∙ c.requires.up) (ap (λ (d : State _). is_frozen d.mode) c.self.view_is ∙ sym c.is_frozen.ensures.frozen ∙ c.if-is_frozen.false) in
-    let below : row.volume < was.settings.volumes = subst (λ (d : State _). row.volume < d.settings.volumes) (sym c.self.view_is) c.requires.volume in
-    let homeless : home_among was.homes.volumes row.pair ≡ None = ap (λ (d : State _). home_among d.homes row.pair) c.self.view_is ∙ c.requires.homeless in
+    let t = takes _ _ (home_row row) c.self.view_is c.requires.up (sym c.is_frozen.ensures.frozen ∙ c.if-is_frozen.false) c.requires.volume c.requires.homeless in
     let s = subst (λ (d : State _). Stands files d known drained) (sym c.self.view_is) stands in
-    stands_failed files _ _ known drained c.args.tag (home_row row) s serves refl refl refl below homeless c.reserve.ensures.kept (c.settle_row.ensures.left tells) refl
+    stands_failed files _ _ known drained c.args.tag (home_row row) s t refl refl refl c.reserve.ensures.kept (c.settle_row.ensures.left tells) refl
 
 pub returns-in-Err-Failed-clause-pending : goal.returns-in-Err-Failed-clause-pending
 unfolding Stands
@@ -92,11 +58,9 @@ returns-in-Err-Failed-clause-pending g c = λ tells known drained faults stands 
     let files = g.D.Disk.files in
     let was = c.self.inside in
     let row = c.args.row in
-    let serves : was.mode ≡ Open = serving was.mode (ap (λ (d : State _). is_closed d.mode) c.self.view_is ∙ c.requires.up) (ap (λ (d : State _). is_frozen d.mode) c.self.view_is ∙ sym c.is_frozen.ensures.frozen ∙ c.if-is_frozen.false) in
-    let below : row.volume < was.settings.volumes = subst (λ (d : State _). row.volume < d.settings.volumes) (sym c.self.view_is) c.requires.volume in
-    let homeless : home_among was.homes.volumes row.pair ≡ None = ap (λ (d : State _). home_among d.homes row.pair) c.self.view_is ∙ c.requires.homeless in
+    let t = takes _ _ (home_row row) c.self.view_is c.requires.up (sym c.is_frozen.ensures.frozen ∙ c.if-is_frozen.false) c.requires.volume c.requires.homeless in
     let s = subst (λ (d : State _). Stands files d known drained) (sym c.self.view_is) stands in
-    stands_failed files _ _ known drained c.args.tag (home_row row) s serves refl refl refl below homeless c.reserve.ensures.kept (c.settle_row.ensures.left tells) refl
+    stands_failed files _ _ known drained c.args.tag (home_row row) s t refl refl refl c.reserve.ensures.kept (c.settle_row.ensures.left tells) refl
 
 pub returns-in_default-clause-no_memory : goal.returns-in_default-clause-no_memory
 unfolding Stands

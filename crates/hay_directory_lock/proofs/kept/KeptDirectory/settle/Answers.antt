@@ -8,9 +8,10 @@ use Rattle.hay_directory.specs.declared.mode.WrittenRow.{WrittenRow}
 use Rattle.hay_directory.specs.Homes.{SetsHome}
 use Rattle.hay_directory.specs.Rows.{home_row}
 use Rattle.hay_directory.specs.State.{IsRowWritten, LeavesMode, Stands, home_of, is_frozen}
+use Rattle.hay_views.proofs.HomeLaw.{may_publish}
 use Rattle.hay_directory_lock.specs.Standing.{HomeFront}
 use Rattle.hay_directory_lock.proofs.Acting.{added, pended, tried}
-use Rattle.hay_directory_lock.proofs.Answering.{failed_in, found_home, kept_within, may_publish, not_true, published}
+use Rattle.hay_directory_lock.proofs.Answering.{failed_in, found_home, not_true, published}
 use Rattle.hay_directory_lock.proofs.kept.KeptDirectory.settle.Goals as goal
 
 pub returns-in-Some-clause-settles : goal.returns-in-Some-clause-settles
@@ -83,7 +84,3 @@ returns-clause-settles g c = λ start begun acts k same.
       published g.D.Disk.Tells files faults fuses start same (acts ++ c.of-act-2.result ∷ []) _ _ c.front-2.result (returns-clause-kept g c begun acts k) c.front-2.ensures.counted,
       inr (refl, ap (λ (a : DirAct). row_did_of a.did) c.of-act-2.ensures, found_home g.D.Disk.Tells files faults fuses start same acts _ _ c.args.row.pair None k homeless),
     )
-
-pub returns-in-Some-clause-below : goal.returns-in-Some-clause-below
-returns-in-Some-clause-below g c =
-    kept_within g.D.Disk.Tells g.D.Disk.files g.D.Disk.fault_count g.D.Disk.fuse_count c.requires.kept.0 c.requires.kept.1 c.args.self.now.directory c.args.self.now.front c.args.row.pair c.in-Some.home c.requires.kept.2 c.show_all.ensures.fact (sym c.in-Some.ensures.kept)

@@ -1,8 +1,8 @@
 use Rattle.std.proofs.Common.{◌<◌, refl, sym, subst, ◌∙◌}
 use Rattle.std.specs.Prelude.{IfSome}
 use Rattle.hay_needle.specs.declared.settings.Settings.{Settings}
+use Rattle.hay_views.proofs.HomeLaw.{looks_show_volumes}
 use Rattle.hay_directory_lock.specs.Begun.{first_homes}
-use Rattle.hay_directory_lock.proofs.Answering.{looked_within}
 use Rattle.hay_directory_lock.proofs.Calling.{home_shown, seated_in}
 use Rattle.hay_directory_lock.proofs.lock.DirectoryLock.home.Goals as goal
 
@@ -15,5 +15,5 @@ pub returns-clause-below : goal.returns-clause-below
 returns-clause-below g c =
     let look = c.look-published.ensures in
     let seated = seated_in c.self.view_is c.seat.view_is c.requires.seated.2 in
-    let below = looked_within c.look-published.new.self (first_homes c.requires.seated.0) c.args.pair c.look-published.result.1 (sym look.seen.1 ∙ seated.base) look.fact look.row in
+    let below = looks_show_volumes c.look-published.new.self (first_homes c.requires.seated.0) c.args.pair c.look-published.result.1 (sym look.seen.1 ∙ seated.base) look.fact look.row in
     subst (λ (s : Settings). IfSome c.look-published.result.1 (λ v. v < s.volumes)) (c.requires.seated.2).settings below

@@ -67,6 +67,13 @@ returns-clause-fused g c = λ r r' e f.
     let done = c.fuse_at.ensures.fuses r r' was (subst (λ xs. At xs c.args.replica r') kept f) in
     (done.next, done.same_faults)
 
+pub returns-clause-files : goal.returns-clause-files
+returns-clause-files g c = λ tells r r' e f.
+    let now = c.as_mut_slice.ensures.value in
+    let kept = with_items_is c.self.inside.replicas c.fuse_at.new.replicas (c.fuse_at.auto.replicas ∙ c.as_mut_slice.ensures.len) in
+    let was : At c.as_mut_slice.result.now c.args.replica r = subst (λ xs. At xs c.args.replica r) (sym now) (subst (λ v. At v.replicas c.args.replica r) (sym c.self.view_is) e) in
+    (c.fuse_at.ensures.fuses r r' was (subst (λ xs. At xs c.args.replica r') kept f)).same_files tells
+
 pub returns-clause-others : goal.returns-clause-others
 returns-clause-others g c = λ j apart r r' e f.
     let now = c.as_mut_slice.ensures.value in

@@ -110,3 +110,17 @@ returns-clause-causes g c =
 pub returns-in-Some-clause-causes : goal.returns-in-Some-clause-causes
 returns-in-Some-clause-causes g c =
     subst (λ (v : Volume g.row.D.Denot g.row.D-Piece.Denot). IsMachineOf v.settings v.number c.in-Some.machine) c.self.view_is ((c.self.invariant.0).frozen_by c.in-Some.machine c.in-Some.is)
+
+pub returns-in-Some-clause-takes : goal.returns-in-Some-clause-takes
+returns-in-Some-clause-takes g c = λ none fits.
+    let both : Some c.in-Some.machine ≡ None = sym c.in-Some.is ∙ ap (λ (v : Volume g.row.D.Denot g.row.D-Piece.Denot). v.frozen) c.self.view_is ∙ none in
+    absurd cc
+
+pub returns-clause-takes : goal.returns-clause-takes
+returns-clause-takes g c = λ none fits.
+    let l = c.in-Err.ensures.lacks in
+    let there : At c.args.self.now.replicas c.in-Err.lacking.at l.replica =
+    subst (λ (v : Volume g.row.D.Denot g.row.D-Piece.Denot). At v.replicas c.in-Err.lacking.at l.replica) c.self.view_is (subst (λ xs. At xs c.in-Err.lacking.at l.replica) c.as_slice.ensures.value l.there) in
+    let room = fits c.in-Err.lacking.at l.replica there in
+    let full = l.full in
+    absurd (omega (arith, room, full))

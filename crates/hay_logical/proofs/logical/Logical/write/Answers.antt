@@ -1,5 +1,5 @@
 use Rattle.std.proofs.Common.{◌≡◌, ◌≤◌, ◌<◌, ◌+◌, ℕ, cond, inl, length, Some, None, refl, sym, ap, subst, ◌∙◌, arith}
-use Rattle.std.specs.Prelude.{IfErr}
+use Rattle.std.specs.Prelude.{IfErr, IsOk}
 use Rattle.hay_legal.specs.Known.{room_refusal_of}
 use Rattle.hay_needle.specs.Tables.{pair_eq}
 use Rattle.std.specs.Vec.{with_items}
@@ -25,7 +25,7 @@ use Rattle.hay_logical.specs.Refusals.{IsUntouched}
 use Rattle.hay_logical.proofs.Changing.{put_remains, some_none}
 use Rattle.hay_logical.proofs.Reaching.{put_row, same_rows, seen_apart, seen_sees}
 use Rattle.hay_logical.proofs.Putting.{all_thawed, is_err_of, ok_of, put_cause_of, put_refused, room_cause, room_ok, room_refused, rows_kept, untouched}
-use Rattle.hay_logical.proofs.Refusing.{refuses_put}
+use Rattle.hay_logical.proofs.Refusing.{refusal_breaks, refuses_put}
 use Rattle.hay_logical.proofs.Showing.{written}
 use Rattle.hay_logical.proofs.Telling.{put_broken, room_leaves}
 use Rattle.hay_logical.specs.Notes.{PutLeavesUnsure}
@@ -412,3 +412,10 @@ returns-in-Ok-clause-of g c =
       next ∙ ap (λ v. v.front + 1) c.self.view_is,
       c.in-Ok.ensures.places ∙ ap length c.as_mut_slice.ensures.value ∙ ap (λ v. length v.replicas) c.self.view_is ∙ c.requires.«open».all,
     )
+
+pub returns-in_err-room-clause-takes : goal.returns-in_err-room-clause-takes
+returns-in_err-room-clause-takes g c = λ none fits.
+    let fine = subst IsOk c.in_err-room.was (c.room.ensures.takes none fits) in absurd cc
+
+pub returns-else-is_untouched-clause-takes : goal.returns-else-is_untouched-clause-takes
+returns-else-is_untouched-clause-takes g c = λ none fits. refusal_breaks c.self.inside.settings c.self.inside.number c.in-Err.broken.at c.in-Err.broken.fault c.put_refusal-refusal.result c.put_refusal-refusal.ensures
