@@ -155,7 +155,7 @@ module _ {D P : Type 0} (files : D → Files) (Tells : Type 0) (k : VolumeKnown)
   none_more n cells old mid new NoMemory same thawed few less stands refused =
       let at = refused.1 in
       let is : stepped n run ≡ at.0 = some_is (sym (run_behind k j run there n) ∙ at.2) in
-      let none : at.1 ≡ 0 = ? in (
+      let none : at.1 ≡ 0 = (let most = at.3 in omega (arith, most)) in (
         (let le : n ≤ min cells run.left = omega (arith, few, less) in le),
         subst (λ (z : VolumeKnown). Stands files Tells new z)
             (ap (λ (r : Run). change_at (behind k j run there n) j (with_run (stepped at.1 r))) (sym is) ∙ ap (λ (i : ℕ). change_at (behind k j run there n) j (with_run (stepped i (stepped n run)))) none

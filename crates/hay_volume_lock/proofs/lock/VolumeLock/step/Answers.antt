@@ -7,7 +7,6 @@ use Rattle.hay_volume_lock.specs.Compactions.{FailedHere, StepAnswer, StepHalted
 use Rattle.hay_volume_lock.specs.Seats.{IsSameSeat, Seated}
 use Rattle.hay_volume_lock.proofs.Growing.{of_still}
 use Rattle.hay_volume_lock.proofs.Holding.{is_held, made_always, made_free, made_held, made_mine, made_same, made_seated, made_told, quiet_free, quiet_held, quiet_same, quiet_seated, quiet_told, seat_of, within_it}
-use Rattle.hay_volume_lock.proofs.Lost.{deleted_lost}
 use Rattle.hay_volume_lock.proofs.Stepping.{barred_found, step_failed, step_found, step_goes}
 use Rattle.hay_volume_lock.proofs.lock.VolumeLock.step.Goals as goal
 
