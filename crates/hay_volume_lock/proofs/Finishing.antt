@@ -1,5 +1,5 @@
 -- What a compaction that did not end with a swap is found to be, as a step of a lane.
-use Rattle.std.proofs.Common.{◌≡◌, inl, inr, ℕ, ◌<◌, List, [], ◌∷◌, ◌++◌, Option, Some, None, refl, sym, ap, subst, ◌∙◌}
+use Rattle.std.proofs.Common.{◌≡◌, inl, inr, ℕ, ◌<◌, List, Option, Some, None, refl, sym, ap, subst, ◌∙◌}
 use Rattle.std.specs.Prelude.{false, true, slice_index_or}
 use Rattle.std.proofs.lemmas.Option.{none-some}
 use Rattle.hay_core.specs.declared.entry.CoreTag.{CoreTag}

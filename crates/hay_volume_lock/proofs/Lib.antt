@@ -7,4 +7,5 @@ pub mod Holding
 pub mod Losing
 pub mod Lost
 pub mod Stepping
+pub mod Swapping
 pub mod Telling

@@ -1,21 +1,19 @@
 -- How a compaction that a line began is told to have ended by acts of other lanes.
-use Rattle.std.proofs.Common.{◌≡◌, ◌⊎◌, inl, inr, ℕ, zero, suc, ◌<◌, ◌≤◌, Bool, true, false, List, [], ◌∷◌, ◌++◌, length, Option, Some, None, option_map, refl, sym, ap, subst, ◌∙◌, arith, append_assoc, append-nil}
-use Rattle.std.specs.Prelude.{◌==◌, ◌≢◌, cond, if◌then◌else◌, slice_get, slice_index_or}
-use Rattle.std.specs.List.{AllByRecursion as Each}
-use Rattle.std.proofs.lemmas.Bool.{cases_Bool, cases_eq, cond-false, cond-true, eq-eqb, ne_eqb, true≢false}
+use Rattle.std.proofs.Common.{◌≡◌, ◌⊎◌, inl, inr, ℕ, zero, suc, ◌<◌, Bool, true, false, List, [], ◌∷◌, ◌++◌, length, Option, Some, None, option_map, refl, sym, ap, subst, ◌∙◌, arith, append_assoc, append-nil}
+use Rattle.std.specs.Prelude.{◌==◌, ◌≢◌, if◌then◌else◌, slice_get, slice_index_or}
+use Rattle.std.proofs.lemmas.Bool.{cases_Bool, cases_eq, cond-false, cond-true, eq-eqb, ne_eqb}
 use Rattle.std.proofs.lemmas.Option.{none-some}
 use mathlib.Core.List.{IsPrefix}
 use Rattle.hay_needle.specs.declared.needle.Pair.{Pair}
 use Rattle.hay_needle.specs.declared.settings.Settings.{Settings}
 use Rattle.hay_core.specs.declared.entry.CoreTag.{CoreTag}
-use Rattle.hay_core.specs.declared.entry.Entry.{Entry}
 use Rattle.hay_core.specs.declared.entry.Entry.TheVariants as entry
 use Rattle.hay_disk.specs.Counts.{Rose}
 use Rattle.hay_legal.specs.declared.known.ReplicaKnown.{ReplicaKnown}
 use Rattle.hay_legal.specs.declared.known.Run.{Run}
 use Rattle.hay_legal.specs.declared.known.VolumeKnown.{VolumeKnown}
-use Rattle.hay_legal.specs.Known.{empty_replica, replica_at}
-use Rattle.hay_legal.specs.Plain.{ended_where, grown, run_grown}
+use Rattle.hay_legal.specs.Known.{replica_at}
+use Rattle.hay_legal.specs.Plain.{run_grown}
 use Rattle.hay_history.specs.Histories.{begun_in}
 use Rattle.hay_history.specs.Steps.{Did, Follows, Leads, Standing}
 use Rattle.hay_history.specs.Steps.Did.{Begins, Ends, Entered, Examines, Flushes, Freezes, Fuses, Pends, Poises, Sticks, Swaps, Tries}
@@ -29,7 +27,7 @@ use Rattle.hay_meeting.specs.declared.act.VolumeDid.{VolumeDid}
 use Rattle.hay_meeting.specs.declared.act.VolumeDid.TheVariants as act_did
 use Rattle.hay_meeting.specs.Acts.{Start, begun_of, did_of, known_by, left_by, nobody, volume_lock}
 use Rattle.hay_meeting.specs.Facts.{volume_stood}
-use Rattle.hay_meeting.specs.Locks.{Doing, left, past, replayed}
+use Rattle.hay_meeting.specs.Locks.{left, past, replayed}
 use Rattle.hay_meeting.specs.Runs.{HowEnded}
 use Rattle.hay_meeting.specs.Runs.HowEnded.{ByDelete, ByEnd, ByFreeze, BySwap}
 use Rattle.hay_meeting.specs.Sights.{stood}
@@ -37,7 +35,7 @@ use Rattle.hay_meeting.proofs.Replays.{left_append, prefix_length}
 use Rattle.hay_meeting.proofs.RunsEnd.{run_ended}
 use Rattle.hay_holdings.specs.Volumes.{EndedAt, HasRunOf, RoseTo}
 use Rattle.hay_holdings.proofs.Ending.{all_or_before}
-use Rattle.hay_volume_lock.specs.Keeping.{EndsOwn, ended_in, ended_of, ends_at}
+use Rattle.hay_volume_lock.specs.Keeping.{EndsOwn, ended_of, ends_at}
 use Rattle.hay_volume_lock.proofs.Growing.{begun_more, ended_more}
 
 -- ONE ACT

@@ -1,6 +1,6 @@
 -- What a line finds of its compaction that other lanes ended.
-use Rattle.std.proofs.Common.{◌≡◌, ◌⊎◌, inl, inr, ℕ, ◌<◌, Bool, true, List, [], ◌∷◌, ◌++◌, length, Option, Some, None, refl, sym, ap, subst, ◌∙◌, append-nil, append_assoc}
-use Rattle.std.specs.Prelude.{◌==◌, if◌then◌else◌, slice_index_or}
+use Rattle.std.proofs.Common.{◌≡◌, ◌⊎◌, inl, inr, ℕ, ◌<◌, Bool, List, [], ◌∷◌, ◌++◌, Option, Some, None, refl, sym, ap, subst, ◌∙◌, append-nil, append_assoc}
+use Rattle.std.specs.Prelude.{if◌then◌else◌, slice_index_or}
 use Rattle.std.specs.List.{AllByRecursion as Each}
 use Rattle.std.proofs.lemmas.Bool.{eq-eqb}
 use Rattle.std.proofs.lemmas.Option.{none-some}
@@ -9,13 +9,12 @@ use Rattle.hay_core.specs.declared.entry.CoreTag.{CoreTag}
 use Rattle.hay_core.specs.declared.entry.Entry.{Entry}
 use Rattle.hay_disk.specs.Disk.{Files}
 use Rattle.hay_needle.specs.declared.settings.Settings.{Settings}
-use Rattle.hay_legal.specs.declared.known.Run.{Run}
 use Rattle.hay_legal.specs.declared.known.VolumeKnown.{VolumeKnown}
 use Rattle.hay_legal.specs.Known.{replica_at}
 use Rattle.hay_history.specs.Steps.{Follows, Standing}
 use Rattle.hay_logical.specs.Stands.{Stands}
 use Rattle.hay_meeting.specs.declared.act.VolumeAct.{VolumeAct}
-use Rattle.hay_meeting.specs.Acts.{IsSized, begun_of, nobody, volume_lock}
+use Rattle.hay_meeting.specs.Acts.{IsSized, nobody, volume_lock}
 use Rattle.hay_meeting.specs.Facts.{volume_stood}
 use Rattle.hay_meeting.specs.Locks.{LockSight, replayed}
 use Rattle.hay_meeting.specs.Sights.{stood}

@@ -1,17 +1,16 @@
 -- What a step of a compaction found and did, as a step of a lane.
-use Rattle.std.proofs.Common.{◌≡◌, inl, inr, ℕ, ◌<◌, ◌≤◌, List, [], ◌∷◌, ◌++◌, length, Option, Some, None, refl, sym, ap, subst, ◌∙◌, arith}
+use Rattle.std.proofs.Common.{◌≡◌, ℕ, ◌<◌, ◌≤◌, List, Option, Some, None, refl, sym, ap, subst, ◌∙◌, arith}
 use Rattle.std.specs.Prelude.{false, true, slice_index_or, min, IfSome}
 use Rattle.std.proofs.lemmas.Option.{none-some}
 use Rattle.hay_core.specs.declared.entry.CoreTag.{CoreTag}
 use Rattle.hay_core.specs.declared.entry.Entry.{Entry}
 use Rattle.hay_disk.specs.Disk.{Files}
-use Rattle.hay_legal.specs.declared.known.ReplicaKnown.{ReplicaKnown}
 use Rattle.hay_legal.specs.declared.known.Run.{Run}
 use Rattle.hay_legal.specs.declared.known.VolumeKnown.{VolumeKnown}
 use Rattle.hay_legal.specs.Known.{machine_of, replica_at, with_replica}
 use Rattle.hay_legal.specs.Plain.{stepped, with_run, without_run}
 use Rattle.hay_history.specs.Steps.{Standing}
-use Rattle.hay_history.specs.Steps.Did.{Ends, Examines, Tries}
+use Rattle.hay_history.specs.Steps.Did.{Examines, Tries}
 use Rattle.hay_logical.specs.Answers as logical
 use Rattle.hay_logical.specs.declared.fault.LogicalFault.{LogicalFault}
 use Rattle.hay_logical.specs.declared.fault.LogicalFault.TheVariants.{Busy, Damaged, Failed, Full, Gone, Idle, NoMemory, ReadOnly, Worn}
@@ -105,12 +104,12 @@ module _ {D P : Type 0} (Tells : Type 0) (files : D → Files) (PieceTells : Typ
           → (act : VolumeAct) → Behind (made_is.Examines j n) act → Goes (Some act)
       examines n told act is = goes_more Tells files PieceTells faults fuses tag old new (made_is.Examines j n) of none_set refl
           (λ tells before s.
-              let t = told tells before.volume s in
-              let same : known_by tag (did_by (made_is.Examines j n)) before.volume ≡ logical.change_at before.volume j (with_run (stepped n t.0)) =
-              ap (λ (o : Option Run). with_replica before.volume j (examined_by n o (replica_at before.volume j))) t.1 in record {
-                leads = ((may tells before.volume s).thawed, within, (t.0, t.1, t.2, same));
-                stands = subst (λ (z : VolumeKnown). Stands files PieceTells new.logical z) (sym same) t.3;
-              })
+          let t = told tells before.volume s in
+          let same : known_by tag (did_by (made_is.Examines j n)) before.volume ≡ logical.change_at before.volume j (with_run (stepped n t.0)) =
+          ap (λ (o : Option Run). with_replica before.volume j (examined_by n o (replica_at before.volume j))) t.1 in record {
+            leads = ((may tells before.volume s).thawed, within, (t.0, t.1, t.2, same));
+            stands = subst (λ (z : VolumeKnown). Stands files PieceTells new.logical z) (sym same) t.3;
+          })
           with_begun (ends_none Tells files PieceTells old new (act_of faults fuses tag (made_is.Examines j n) (new.logical).replicas) (λ i. refl) (λ i none. none) ended) act is
 
       -- the compaction ended

@@ -6,7 +6,7 @@ use Rattle.hay_legal.specs.declared.known.Run.{Run}
 use Rattle.hay_legal.specs.declared.known.VolumeKnown.{VolumeKnown}
 use Rattle.hay_legal.specs.Known.{machine_of, replica_at}
 use Rattle.hay_legal.specs.Plain.{without_run}
-use Rattle.hay_logical.specs.Answers.{IsRunning, IsStepped, StandsStepped, change_at}
+use Rattle.hay_logical.specs.Answers.{IsRunning, StandsStepped, change_at}
 use Rattle.hay_logical.specs.declared.fault.LogicalFault.{LogicalFault}
 use Rattle.hay_logical.specs.declared.fault.LogicalFault.TheVariants.{Busy, Damaged, Failed, Full, Gone, Idle, NoMemory, ReadOnly, Worn}
 use Rattle.hay_logical.specs.Stands.{Stands}

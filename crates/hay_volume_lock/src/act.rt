@@ -20,6 +20,7 @@ pub enum Made {
     Fuses { replica: u32 },
     Examines { replica: u32, cells: u64 },
     Ends { replica: u32 },
+    Swaps { replica: u32, end: u64, cells: u64, frozen: Option<u32> },
     Poises { machine: u32, replica: u32 },
 }
 

@@ -1,4 +1,4 @@
-use Rattle.std.proofs.Common.{◌≡◌, ◌≤◌, ◌<◌, ◌+◌, length, refl, sym, ap, subst, ◌∙◌, arith, Some, None}
+use Rattle.std.proofs.Common.{◌≡◌, ◌≤◌, ◌<◌, ◌+◌, length, refl, sym, ap, subst, ◌∙◌, arith}
 use Rattle.std.specs.Prelude.{min}
 use Rattle.hay_legal.specs.declared.known.VolumeKnown.{VolumeKnown}
 use Rattle.hay_logical.specs.Answers.{StandsStepped}
@@ -13,7 +13,7 @@ loop-examined-init g c = record {
   told = λ tells k run stands thawed stood. (
     (let low : 0 ≤ run.left = omega arith in low),
     (let many = all_known g.D.Disk.files g.D.Piece.Piece.Tells c.args.logical.now k stands in let within = c.requires.within in
-    subst (λ (z : VolumeKnown). Stands g.D.Disk.files g.D.Piece.Piece.Tells c.args.logical.now z) (sym (behind_none k c.args.replica run (let less : c.args.replica < length k.replicas = omega (arith, many, within) in less) stood)) stands),
+        subst (λ (z : VolumeKnown). Stands g.D.Disk.files g.D.Piece.Piece.Tells c.args.logical.now z) (sym (behind_none k c.args.replica run (let less : c.args.replica < length k.replicas = omega (arith, many, within) in less) stood)) stands),
   );
   still = refl;
   is_open = c.requires.«open»;

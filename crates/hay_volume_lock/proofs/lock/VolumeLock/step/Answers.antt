@@ -1,12 +1,12 @@
-use Rattle.std.proofs.Common.{[], None, Some, refl, sym, ap, subst, ◌∙◌}
+use Rattle.std.proofs.Common.{[], Some, refl, sym, ap, subst, ◌∙◌}
 use Rattle.hay_turn.specs.Seats.{after_free}
 use Rattle.hay_turn.specs.Slots.{acts_in}
 use Rattle.hay_volume_lock.specs.Acts.{act_of}
 use Rattle.hay_volume_lock.specs.Answers.{IsAlways, IsTold, OneHolding}
 use Rattle.hay_volume_lock.specs.Compactions.{FailedHere, StepAnswer, StepHalted}
-use Rattle.hay_volume_lock.specs.Seats.{IsSameSeat, Seated}
+use Rattle.hay_volume_lock.specs.Seats.{Seated}
 use Rattle.hay_volume_lock.proofs.Growing.{of_still}
-use Rattle.hay_volume_lock.proofs.Holding.{is_held, made_always, made_free, made_held, made_mine, made_same, made_seated, made_told, quiet_free, quiet_held, quiet_same, quiet_seated, quiet_told, seat_of, within_it}
+use Rattle.hay_volume_lock.proofs.Holding.{is_held, made_always, made_free, made_held, made_mine, made_seated, made_told, quiet_free, quiet_held, quiet_seated, quiet_told, seat_of, within_it}
 use Rattle.hay_volume_lock.proofs.Stepping.{barred_found, step_failed, step_found, step_goes}
 use Rattle.hay_volume_lock.proofs.lock.VolumeLock.step.Goals as goal
 
@@ -58,9 +58,9 @@ free-requires-2-clause-may g c =
     let goes_on = step_goes g.D.Disk.Tells g.D.Disk.files g.P.Piece.Tells g.D.Disk.fault_count g.D.Disk.fuse_count c.args.tag c.hold-kept.result c.args.replica (within_it g.D.Disk.Tells g.D.Disk.files g.P.Piece.Tells g.D.Disk.fault_count g.D.Disk.fuse_count c.seat.invariant c.hold-kept.ensures c.args.replica (c.requires.within c.seat.invariant.opened (sym (ap (λ (s : Seated g.row.D.Denot g.row.P.Denot). s.start) c.seat.view_is) ∙ c.seat.invariant.is))) (record c.hold-kept.result { logical = c.examine-examined.new.logical }) of.0 of.1 refl refl c.in_default.ensures.own c.in_default.ensures.free c.args.cells c.examine-examined.result c.new-act.result c.examine-examined.ensures.told (c.new-act.ensures ∙ ap (λ m. act_of g.D.Disk.fault_count g.D.Disk.fuse_count c.args.tag m c.examine-examined.new.logical.replicas) c.step_did.ensures) in
     record {
       stands_for = made_free g.D.Disk.Tells g.D.Disk.files g.P.Piece.Tells g.D.Disk.fault_count g.D.Disk.fuse_count c.args.tag c.seat.inside.turn c.hold-kept.new.seat (after_free c.hold-kept.new.seat (acts_in (Some c.new-act.result))) c.seat.inside.view c.show_all.new.seat c.hold-kept.result (record c.hold-kept.result { logical = c.examine-examined.new.logical }) (Some c.new-act.result)
-    c.seat.invariant c.hold-kept.ensures c.show_all.ensures.seen.0 c.show_all.ensures.seen.1 goes_on refl;
+          c.seat.invariant c.hold-kept.ensures c.show_all.ensures.seen.0 c.show_all.ensures.seen.1 goes_on refl;
       mine = made_mine g.D.Disk.Tells g.D.Disk.files g.P.Piece.Tells g.D.Disk.fault_count g.D.Disk.fuse_count c.args.tag c.seat.inside.turn c.hold-kept.new.seat (after_free c.hold-kept.new.seat (acts_in (Some c.new-act.result))) c.seat.inside.view c.show_all.new.seat c.hold-kept.result (record c.hold-kept.result { logical = c.examine-examined.new.logical }) (Some c.new-act.result)
-    c.seat.invariant c.hold-kept.ensures c.show_all.ensures.seen.0 c.show_all.ensures.seen.1 goes_on refl (ap (λ (s : Seated g.row.D.Denot g.row.P.Denot). s.number) c.seat.view_is ∙ c.requires.may.lane);
+          c.seat.invariant c.hold-kept.ensures c.show_all.ensures.seen.0 c.show_all.ensures.seen.1 goes_on refl (ap (λ (s : Seated g.row.D.Denot g.row.P.Denot). s.number) c.seat.view_is ∙ c.requires.may.lane);
     }
 
 pub invariant_of-seat-2 : goal.invariant_of-seat-2
