@@ -41,7 +41,7 @@ pub record FollowsOne (settings : Settings) (v : ℕ) (before : Standing) (act :
   pub faults : NoneFall before.faults (left_by act before).faults
   pub fuses : LeadsFuses (did_of act.did) before.fuses (left_by act before).fuses
 
-follows_more : (settings : Settings) (v : ℕ) (before : Standing) (acts : List VolumeAct) (act : VolumeAct)
+pub follows_more : (settings : Settings) (v : ℕ) (before : Standing) (acts : List VolumeAct) (act : VolumeAct)
     → Follows settings v before (replayed volume_lock before acts) → FollowsOne settings v (left volume_lock before acts) act
     → Follows settings v before (replayed volume_lock before (acts ++ act ∷ []))
 follows_more settings v before [] act follows one = (one.leads, one.faults, one.fuses, tt)
@@ -78,7 +78,7 @@ pub ended_more : (j lane : ℕ) (begun : CoreTag) (before : Option ℕ) (acts : 
 ended_more j lane begun before [] act = refl
 ended_more j lane begun before (x ∷ xs) act = ended_more j lane (begun_in j x.tag (did_of x.did) begun) (ended_in j lane begun x before) xs act
 
-tags_more : (acts : List VolumeAct) (act : VolumeAct) → tags_of (acts ++ act ∷ []) ≡ tags_of acts ++ add_tag (entry_of act.did) (tag_of act) []
+pub tags_more : (acts : List VolumeAct) (act : VolumeAct) → tags_of (acts ++ act ∷ []) ≡ tags_of acts ++ add_tag (entry_of act.did) (tag_of act) []
 tags_more [] act = refl
 tags_more (x ∷ xs) act = ap (λ (l : List Tag). add_tag (entry_of x.did) (tag_of x) l) (tags_more xs act) ∙ added (entry_of x.did)
   where
@@ -86,7 +86,7 @@ tags_more (x ∷ xs) act = ap (λ (l : List Tag). add_tag (entry_of x.did) (tag_
     added None = refl
     added (Some change) = refl
 
-each_more : {A : Type 0} (P : A → Type 0) (xs : List A) (x : A) → Each P xs → P x → Each P (xs ++ x ∷ [])
+pub each_more : {A : Type 0} (P : A → Type 0) (xs : List A) (x : A) → Each P xs → P x → Each P (xs ++ x ∷ [])
 each_more P [] x each here = (here, tt)
 each_more P (y ∷ ys) x each here = (each.0, each_more P ys x each.1 here)
 

@@ -35,7 +35,7 @@ pub stood_is : {D P : Type 0} (faults fuses : D → ℕ) (opened : Opened D P) (
     → IsAt faults fuses opened k volume → stood_of faults fuses opened k held ≡ stood volume.start volume.number held
 stood_is faults fuses opened k volume held at = ap (λ (z : Standing). left volume_lock z held) (sym at.start)
 
-all_mine : (m n : ℕ) (acts : List VolumeAct) → m ≡ n → Each (λ act. act.seat ≡ n) acts → AllOf (λ act. act.seat) m acts
+pub all_mine : (m n : ℕ) (acts : List VolumeAct) → m ≡ n → Each (λ act. act.seat ≡ n) acts → AllOf (λ act. act.seat) m acts
 all_mine m n [] same each = tt
 all_mine m n (act ∷ acts) same each = (each.0 ∙ sym same, all_mine m n acts same each.1)
 
@@ -116,7 +116,7 @@ module _ {D P : Type 0} (Tells : Type 0) (files : D → Files) (PieceTells : Typ
       }
 
   -- the seat goes on behind a holding
-  seated_behind : (t t' t'' : SeatState (Opened D P) VolumeAct) {stood : ℕ} (v v' : View D P) (kept : Guarded D P) (made : List VolumeAct) → IsSeated t stood v
+  pub seated_behind : (t t' t'' : SeatState (Opened D P) VolumeAct) {stood : ℕ} (v v' : View D P) (kept : Guarded D P) (made : List VolumeAct) → IsSeated t stood v
       → Holds (λ act. act.seat) (λ opened acts x. IsKept Tells files PieceTells faults fuses opened acts x) t t' kept
       → IsBehind v v' → AllOf (λ act. act.seat) t.number made → t'' ≡ after_free t' made → IsSeated t'' stood v'
   seated_behind t t' t'' {stood} v v' kept made seated holds behind mine free =

@@ -6,6 +6,10 @@ pub mod Growing
 pub mod Holding
 pub mod Losing
 pub mod Lost
+pub mod Published
+pub mod Publishing
+pub mod Putting
+pub mod Seeing
 pub mod Stepping
 pub mod Swapping
 pub mod Telling

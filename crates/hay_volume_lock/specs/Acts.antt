@@ -15,6 +15,9 @@ counts count replicas = map (λ r. count r.disk) replicas
 -- what was done, as lanes tell it
 abbrev pub did_by : Made → VolumeDid
 did_by made.Tries = did.Tries
+did_by (made.Enters change ended) = did.Entered change ended
+did_by (made.Pends m change failed) = did.Pends m change failed
+did_by (made.Freezes m) = did.Freezes m
 did_by (made.Flushes j) = did.Flushes j
 did_by (made.Sticks j) = did.Sticks j
 did_by (made.Begins j) = did.Begins j

@@ -1,5 +1,6 @@
 pub mod Acts
 pub mod Answers
+pub mod Changes
 pub mod Closing
 pub mod Compactions
 pub mod Keeping

@@ -2,17 +2,30 @@
 ghost use Rattle.std.specs.Prelude.{◌≡◌};
 ghost use Rattle.hay_volume_lock.specs.Acts.{act_of};
 
-use hay_core::CoreTag;
+use hay_core::{CoreTag, Entry};
 use hay_disk::Disk;
 use hay_logical::Logical;
-use hay_views::Moment;
+use hay_views::{Moment, Past};
 use std::marker::Model;
 
-/// What was done to a volume.
-#[derive(Clone, Copy, Debug, PartialEq, Eq)]
+/// What was done to a volume. What it has of a change, and of compactions that a delete ended, is for clauses alone.
+#[derive(Drop)]
 pub enum Made {
     /// Nothing was changed, though a call of a disk may have failed.
     Tries,
+    /// The change was made. A delete ended the compactions of these replicas, since their disks failed.
+    Enters {
+        entry: Moment<Entry>,
+        ended: Past<bool>,
+    },
+    /// The volume was frozen by the machine with the change pending; the flag tells whether a disk failed.
+    Pends {
+        machine: u32,
+        entry: Moment<Entry>,
+        failed: bool,
+    },
+    /// The volume was frozen by the machine.
+    Freezes { machine: u32 },
     Flushes { replica: u32 },
     /// A flush of the replica failed.
     Sticks { replica: u32 },

@@ -17,10 +17,12 @@
 #![tactic(auto)]
 
 mod act;
+mod changes;
 mod compactions;
 mod guarded;
 mod lock;
 mod seat;
+mod sights;
 mod told;
 mod tries;
 
