@@ -6,6 +6,7 @@ pub mod Growing
 pub mod Holding
 pub mod Losing
 pub mod Lost
+pub mod Moving
 pub mod Published
 pub mod Publishing
 pub mod Putting
@@ -13,3 +14,4 @@ pub mod Seeing
 pub mod Stepping
 pub mod Swapping
 pub mod Telling
+pub mod Tightening
