@@ -9,3 +9,4 @@ pub mod Lost
 pub mod Stepping
 pub mod Swapping
 pub mod Telling
+pub mod Tightening

@@ -40,12 +40,12 @@ use Rattle.hay_volume_lock.proofs.Growing.{begun_more, ended_more}
 
 -- ONE ACT
 
-some_or_none : (o : Option Run) → ((run : Run) × (o ≡ Some run)) ⊎ (o ≡ None)
+pub some_or_none : (o : Option Run) → ((run : Run) × (o ≡ Some run)) ⊎ (o ≡ None)
 some_or_none None = inr refl
 some_or_none (Some run) = inl (run, refl)
 
 -- where none begins none stands
-none_stays : (j : ℕ) (did : Did) (a b : VolumeKnown) → did ≢ Begins j → Becomes a did j (replica_at a j) (replica_at b j) → (replica_at a j).run ≡ None → (replica_at b j).run ≡ None
+pub none_stays : (j : ℕ) (did : Did) (a b : VolumeKnown) → did ≢ Begins j → Becomes a did j (replica_at a j) (replica_at b j) → (replica_at a j).run ≡ None → (replica_at b j).run ≡ None
 none_stays j did a b other (Stays is) none = ap (λ (r : ReplicaKnown). r.run) is ∙ none
 none_stays j did a b other (Grows pair cookie bytes entered is) none = ap (λ (r : ReplicaKnown). r.run) is ∙ ap (option_map run_grown) none
 none_stays j did a b other (Rests is) none = ap (λ (r : ReplicaKnown). r.run) is

@@ -5,4 +5,5 @@ pub mod Compactions
 pub mod Keeping
 pub mod Rows
 pub mod Seats
+pub mod Since
 pub mod Tries

@@ -13,15 +13,36 @@ use std::marker::Model;
 pub enum Made {
     /// Nothing was changed, though a call of a disk may have failed.
     Tries,
-    Flushes { replica: u32 },
+    Flushes {
+        replica: u32,
+    },
     /// A flush of the replica failed.
-    Sticks { replica: u32 },
-    Begins { replica: u32 },
-    Fuses { replica: u32 },
-    Examines { replica: u32, cells: u64 },
-    Ends { replica: u32 },
-    Swaps { replica: u32, end: u64, cells: u64, frozen: Option<u32> },
-    Poises { machine: u32, replica: u32 },
+    Sticks {
+        replica: u32,
+    },
+    Begins {
+        replica: u32,
+    },
+    Fuses {
+        replica: u32,
+    },
+    Examines {
+        replica: u32,
+        cells: u64,
+    },
+    Ends {
+        replica: u32,
+    },
+    Swaps {
+        replica: u32,
+        end: u64,
+        cells: u64,
+        frozen: Option<u32>,
+    },
+    Poises {
+        machine: u32,
+        replica: u32,
+    },
 }
 
 /// An act for a line, and the volume behind it. It is for clauses alone, which see a `VolumeAct`.
