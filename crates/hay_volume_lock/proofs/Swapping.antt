@@ -1,8 +1,7 @@
 -- What the swap of a compaction's files is found to be, as a step of a lane.
-use Rattle.std.proofs.Common.{◌≡◌, ℕ, ◌+◌, ◌<◌, ◌≤◌, Bool, true, false, List, [], ◌∷◌, ◌++◌, length, Option, Some, None, refl, sym, ap, subst, ◌∙◌, arith}
+use Rattle.std.proofs.Common.{◌≡◌, ℕ, ◌+◌, ◌<◌, ◌≤◌, List, length, Option, Some, None, refl, sym, ap, subst, ◌∙◌, arith}
 use Rattle.std.specs.Prelude.{slice_index_or}
 use Rattle.hay_core.specs.declared.entry.CoreTag.{CoreTag}
-use Rattle.hay_core.specs.declared.entry.Entry.{Entry}
 use Rattle.hay_disk.specs.Disk.{Files}
 use Rattle.hay_legal.specs.declared.known.Run.{Run}
 use Rattle.hay_legal.specs.declared.known.VolumeKnown.{VolumeKnown}
@@ -16,15 +15,12 @@ use Rattle.hay_logical.specs.Stands.{ReplicaStands, Stands, StandsBy, TakesChang
 use Rattle.hay_logical.specs.Volumes.{Volume}
 use Rattle.hay_logical.proofs.Lists.{at_there}
 use Rattle.hay_meeting.specs.declared.act.VolumeAct.{VolumeAct}
-use Rattle.hay_meeting.specs.Acts.{begun_of, did_of, is_frozen_then, nobody, volume_lock}
-use Rattle.hay_meeting.specs.Locks.{LockSight}
+use Rattle.hay_meeting.specs.Acts.{did_of, is_frozen_then, nobody}
 use Rattle.hay_meeting.specs.Sights.{stood}
-use Rattle.hay_holdings.specs.Holdings.{Holding}
-use Rattle.hay_holdings.specs.Volumes.{HasRunOf, IsTightSince, Swapped}
+use Rattle.hay_holdings.specs.Volumes.{IsTightSince, Swapped}
 use Rattle.hay_physical.specs.Copies.{Copy}
 use Rattle.hay_physical.specs.Runs as runs
 use Rattle.hay_physical.proofs.Laws.{run_next}
-use Rattle.hay_volume_lock.specs.Acts.{act_of}
 use Rattle.hay_volume_lock.specs.Answers.{Found, IsAt, StoreVolume}
 use Rattle.hay_volume_lock.specs.Compactions.{MayGoOn}
 use Rattle.hay_volume_lock.specs.Keeping.{IsKept, stood_of}
@@ -127,9 +123,9 @@ module _ {D P : Type 0} (Tells : Type 0) (files : D → Files) (PieceTells : Typ
   pub swap_found : (frozen : Option ℕ) (act : VolumeAct) → did_of act.did ≡ Swaps j end cells (is_frozen_then frozen)
       → (Tells → (k : VolumeKnown) → Stood k → MayGoOn k j tag.lane owner × (g ≡ (replica_at k j).generation + 1))
       → ((opened : Opened D P) (held : List VolumeAct) → Kept opened held → Tells → (k : VolumeKnown) → Stands files PieceTells opened.volume k → (volume : StoreVolume) → IsAt faults fuses opened k volume
-          → IsTightSince volume.settings volume.start volume.number j end cells held)
+      → IsTightSince volume.settings volume.start volume.number j end cells held)
       → Found Tells files PieceTells faults fuses tag old (Some act)
-          (λ volume. Swapped volume.settings volume.start volume.number tag j owner g end cells (is_frozen_then frozen))
+      (λ volume. Swapped volume.settings volume.start volume.number tag j owner g end cells (is_frozen_then frozen))
   swap_found frozen act did known tight opened held h tells k s volume at a b holding =
       let there : stood_of faults fuses opened k held ≡ stood volume.start volume.number held = stood_is faults fuses opened k volume held at in
       let now = known tells (stood_of faults fuses opened k held).volume (h.stands tells k s) in

@@ -1,17 +1,14 @@
 -- What holds of a compaction since whose beginning no entry came: act by act.
-use Rattle.std.proofs.Common.{◌≡◌, ◌⊎◌, inl, inr, ℕ, ◌+◌, ◌≤◌, List, [], ◌∷◌, ◌++◌, length, Option, Some, None, refl, sym, ap, subst, ◌∙◌, arith, append-nil, append_assoc, length-append}
-use Rattle.std.specs.Prelude.{◌≢◌}
+use Rattle.std.proofs.Common.{◌≡◌, ◌⊎◌, inl, inr, ℕ, ◌≤◌, List, [], ◌∷◌, ◌++◌, length, None, refl, sym, ap, subst, ◌∙◌, arith, append-nil, append_assoc, length-append}
 use Rattle.std.proofs.lemmas.Option.{none-some}
 use mathlib.Core.List.{IsPrefix}
 use Rattle.hay_core.specs.declared.entry.CoreTag.{CoreTag}
-use Rattle.hay_core.specs.declared.entry.Entry.{Entry}
 use Rattle.hay_core.specs.declared.entry.Logged.{Logged}
 use Rattle.hay_needle.specs.declared.settings.Settings.{Settings}
 use Rattle.hay_needle.specs.Tables.{live_end}
 use Rattle.hay_legal.specs.declared.known.Run.{Run}
-use Rattle.hay_legal.specs.declared.known.VolumeKnown.{VolumeKnown}
 use Rattle.hay_legal.specs.Known.{now, replica_at}
-use Rattle.hay_history.specs.Steps.{Did, Follows, HasRun, Leads, Standing}
+use Rattle.hay_history.specs.Steps.{Follows, HasRun, Leads, Standing}
 use Rattle.hay_history.specs.Steps.Did.{Begins}
 use Rattle.hay_history.proofs.Changes.{leads_becomes, leads_extends, log_by}
 use Rattle.hay_history.proofs.Own.{is_begin}

@@ -25,16 +25,39 @@ pub enum Made {
         failed: bool,
     },
     /// The volume was frozen by the machine.
-    Freezes { machine: u32 },
-    Flushes { replica: u32 },
+    Freezes {
+        machine: u32,
+    },
+    Flushes {
+        replica: u32,
+    },
     /// A flush of the replica failed.
-    Sticks { replica: u32 },
-    Begins { replica: u32 },
-    Fuses { replica: u32 },
-    Examines { replica: u32, cells: u64 },
-    Ends { replica: u32 },
-    Swaps { replica: u32, end: u64, cells: u64, frozen: Option<u32> },
-    Poises { machine: u32, replica: u32 },
+    Sticks {
+        replica: u32,
+    },
+    Begins {
+        replica: u32,
+    },
+    Fuses {
+        replica: u32,
+    },
+    Examines {
+        replica: u32,
+        cells: u64,
+    },
+    Ends {
+        replica: u32,
+    },
+    Swaps {
+        replica: u32,
+        end: u64,
+        cells: u64,
+        frozen: Option<u32>,
+    },
+    Poises {
+        machine: u32,
+        replica: u32,
+    },
 }
 
 /// An act for a line, and the volume behind it. It is for clauses alone, which see a `VolumeAct`.
