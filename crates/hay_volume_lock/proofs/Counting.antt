@@ -1,6 +1,7 @@
 -- The counts of disks by replica.
 use Rattle.std.proofs.Common.{◌≡◌, ℕ, zero, suc, ◌+◌, ◌<◌, ◌≤◌, inl, inr, List, [], ◌∷◌, ◌++◌, length, take, refl, sym, ap, subst, ◌∙◌, arith}
-use Rattle.std.specs.Prelude.{slice_index_or}
+use Rattle.std.specs.Prelude.{slice_index_or, slice_set}
+use Rattle.std.specs.List.{AllByRecursion as Each}
 use Rattle.std.proofs.lemmas.Bool.{cases_lt}
 use Rattle.std.proofs.lemmas.List.{get_or_past, length-map}
 use Rattle.hay_physical.specs.Copies.{Copy}
@@ -69,3 +70,16 @@ take_whole [] zero all = refl
 take_whole [] (suc n) all = refl
 take_whole (x ∷ xs) zero all = absurd (omega (arith, all))
 take_whole (x ∷ xs) (suc n) all = ap (λ l. x ∷ l) (take_whole xs n (omega (arith, all)))
+
+-- ROWS OF COUNTS
+
+-- what holds of each of a list holds of the one at a place, and with another there
+pub each_at : {A : Type 0} (P : A → Type 0) (xs : List A) (j : ℕ) (d : A) → Each P xs → j < length xs → P (slice_index_or xs j d)
+each_at P [] j d each less = absurd (omega (arith, less))
+each_at P (x ∷ xs) zero d each less = each.0
+each_at P (x ∷ xs) (suc j) d each less = each_at P xs j d each.1 (omega (arith, less))
+
+pub each_set : {A : Type 0} (P : A → Type 0) (xs : List A) (j : ℕ) (x : A) → Each P xs → P x → Each P (slice_set xs j x)
+each_set P [] j x each is = tt
+each_set P (y ∷ xs) zero x each is = (is, each.1)
+each_set P (y ∷ xs) (suc j) x each is = (each.0, each_set P xs j x each.1 is)

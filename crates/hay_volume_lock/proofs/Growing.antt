@@ -26,7 +26,8 @@ use Rattle.hay_needle.specs.declared.settings.Settings.{Settings}
 use Rattle.hay_physical.specs.Copies.{Copy}
 use Rattle.hay_views.specs.MapPasts.{entered_by}
 use Rattle.hay_volume_lock.specs.Acts.{act_of, counts, did_by}
-use Rattle.hay_volume_lock.specs.Keeping.{EndsOwn, GoesOn, IsKept, add_tag, count_at, ended_at, ended_in, ended_of, ends_at, published_row, standing_of, stood_of, tag_of, tags_of}
+use Rattle.hay_volume_lock.specs.Ended.{ended_at}
+use Rattle.hay_volume_lock.specs.Keeping.{EndsOwn, GoesOn, IsKept, add_tag, count_at, ended_in, ended_of, ends_at, published_row, standing_of, stood_of, tag_of, tags_of}
 use Rattle.hay_volume_lock.specs.declared.act.Made.{Made}
 use Rattle.hay_volume_lock.specs.declared.act.Made.TheVariants as made_is
 use Rattle.hay_volume_lock.specs.declared.guarded.Guarded.{Guarded}

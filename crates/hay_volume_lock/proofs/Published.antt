@@ -108,7 +108,7 @@ module _ {D P : Type 0} (Tells : Type 0) (files : D → Files) (PieceTells : Typ
 
   pub put_tells : (pair : Pair) (cookie : Cookie) (bytes : List ℕ) (row : List (Place P)) → deed ≡ record { change = op.Put pair row; entered = entry.Put pair cookie bytes ∷ [] }
       → (Tells → (k : VolumeKnown) → Stands files PieceTells past.start k → (j : ℕ) → j < ((past.start).settings).replicas
-          → PlaceMeans PieceTells pair (place_in row j) (outcome.Photo (record { cookie = cookie; bytes = bytes })))
+      → PlaceMeans PieceTells pair (place_in row j) (outcome.Photo (record { cookie = cookie; bytes = bytes })))
       → RowsTell Tells files PieceTells past (deeds ++ deed ∷ [])
   put_tells pair cookie bytes row is means tells k s other j less = behind k other j
       (subst (λ (d : Published P). PlaceTells PieceTells other (place_in (changed_row d.change other (row_then other)) j) (outcome_at (fold apply_entry (table_then k j) d.entered) other)) (sym is)

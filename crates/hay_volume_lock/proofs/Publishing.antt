@@ -35,7 +35,8 @@ use Rattle.hay_views.specs.declared.places.Published.{Published}
 use Rattle.hay_views.specs.MapPasts.{MapPast, begun_at, entered_by}
 use Rattle.hay_volume_lock.specs.Acts.{act_of, counts, did_by}
 use Rattle.hay_volume_lock.specs.Answers.{Found, FoundAlways, IsAlways, IsTold, OneHolding, StoreVolume}
-use Rattle.hay_volume_lock.specs.Keeping.{EndsOwn, IsKept, IsOpened, add_tag, count_at, ended_at, ended_in, ended_of, ends_at, published_row, standing_of, stood_of, tag_of, tags_of}
+use Rattle.hay_volume_lock.specs.Ended.{ended_at}
+use Rattle.hay_volume_lock.specs.Keeping.{EndsOwn, IsKept, IsOpened, add_tag, count_at, ended_in, ended_of, ends_at, published_row, standing_of, stood_of, tag_of, tags_of}
 use Rattle.hay_volume_lock.specs.Seats.{IsSameSeat, IsSeated}
 use Rattle.hay_volume_lock.specs.Tries.{IsTried}
 use Rattle.hay_volume_lock.specs.declared.act.Made.{Made}

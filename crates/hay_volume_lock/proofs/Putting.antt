@@ -75,8 +75,8 @@ module _ {D P : Type 0} (Tells : Type 0) (files : D → Files) (PieceTells : Typ
       let there : stood_of faults fuses opened k held ≡ stood volume.start volume.number held = stood_is faults fuses opened k volume held at in (
         sym (ap (λ (z : Standing). (z.volume).frozen) there) ∙ room.0,
         sym (ap (λ (z : Standing). room_refusal_of (old.logical).settings (old.logical).number z.volume size) there
-        ∙ ap (λ (z : Settings). room_refusal_of z (old.logical).number (volume_stood volume.start volume.number held) size) (h.same_settings ∙ sym at.settings)
-        ∙ ap (λ (z : ℕ). room_refusal_of volume.settings z (volume_stood volume.start volume.number held) size) (h.number ∙ sym at.number)) ∙ room.1,
+            ∙ ap (λ (z : Settings). room_refusal_of z (old.logical).number (volume_stood volume.start volume.number held) size) (h.same_settings ∙ sym at.settings)
+            ∙ ap (λ (z : ℕ). room_refusal_of volume.settings z (volume_stood volume.start volume.number held) size) (h.number ∙ sym at.number)) ∙ room.1,
       )
 
   -- the disk on the machine failed in the act
@@ -156,9 +156,11 @@ module _ {D P : Type 0} (Tells : Type 0) (files : D → Files) (PieceTells : Typ
                   held = held;
                   made = Some act;
                   holding = holding;
-                  is = inr (ap (λ (n : ℕ). Pends n change false)
-                      (first (stood_of faults fuses opened k held).volume r ∙ ap (λ (s : Settings). machine_of s (old.logical).number 0) (h.same_settings ∙ sym at.settings) ∙ ap (λ (v : ℕ). machine_of volume.settings v 0) (h.number ∙ sym at.number)),
-                      takes_of opened held h k volume at (length bytes) r.0);
+                  is = inr (
+                    ap (λ (n : ℕ). Pends n change false)
+                        (first (stood_of faults fuses opened k held).volume r ∙ ap (λ (s : Settings). machine_of s (old.logical).number 0) (h.same_settings ∙ sym at.settings) ∙ ap (λ (v : ℕ). machine_of volume.settings v 0) (h.number ∙ sym at.number)),
+                    takes_of opened held h k volume at (length bytes) r.0,
+                  );
                 };
             always = λ m f e. absurd (cc e);
           })
@@ -208,9 +210,9 @@ module _ {D P : Type 0} (Tells : Type 0) (files : D → Files) (PieceTells : Typ
                   none_made made (by.tries refl) r.3,
                   sym (ap (λ (z : Standing). (z.volume).frozen) there) ∙ r.0,
                   sym (ap (λ (z : Standing). room_refusal_of (old.logical).settings (old.logical).number z.volume (length bytes)) there
-                  ∙ ap (λ (z : Settings). room_refusal_of z (old.logical).number (volume_stood volume.start volume.number held) (length bytes)) (h.same_settings ∙ sym at.settings)
-                  ∙ ap (λ (z : ℕ). room_refusal_of volume.settings z (volume_stood volume.start volume.number held) (length bytes)) (h.number ∙ sym at.number))
-                  ∙ r.1 ∙ ap (λ (v : ℕ). Some (NoRoom v m end need)) (h.number ∙ sym at.number),
+                      ∙ ap (λ (z : Settings). room_refusal_of z (old.logical).number (volume_stood volume.start volume.number held) (length bytes)) (h.same_settings ∙ sym at.settings)
+                      ∙ ap (λ (z : ℕ). room_refusal_of volume.settings z (volume_stood volume.start volume.number held) (length bytes)) (h.number ∙ sym at.number))
+                      ∙ r.1 ∙ ap (λ (v : ℕ). Some (NoRoom v m end need)) (h.number ∙ sym at.number),
                 );
               },
             );
@@ -391,7 +393,7 @@ module _ {D P : Type 0} (Tells : Type 0) (files : D → Files) (PieceTells : Typ
       (record { rows = fit; enters = subst (λ (d : Published P). Enters d.change d.entered) (sym deed_is) (cookie, bytes, refl) })
       (put_tells Tells files PieceTells (begun_at opened.volume (h.from).rows) ((old.front).shown).deeds deed fit (fact_first Tells files PieceTells opened.volume (h.from).rows (old.front).shown base fact).1 pair cookie bytes written.row deed_is
       (λ tells k s j less. (stands tells (stood_of faults fuses opened k held).volume (h.stands tells k s)).means j
-          (subst (λ (s : Settings). j < s.replicas) (sym (same.settings ∙ h.same_settings)) less)))
+      (subst (λ (s : Settings). j < s.replicas) (sym (same.settings ∙ h.same_settings)) less)))
 
   module _ (new : Guarded D P) (settings : new.settings ≡ old.settings) (begun : new.begun ≡ old.begun) (ended : new.ended ≡ old.ended) (thawed : (old.logical).frozen ≡ None)
       (is_open : IsOpenVolume mid) (counts : KeepsCounts faults fuses (old.logical).replicas mid.replicas) where
@@ -412,8 +414,8 @@ module _ {D P : Type 0} (Tells : Type 0) (files : D → Files) (PieceTells : Typ
         (ap (λ f. map (λ e. e.tag) f.log) front ∙ tags_logged (old.front).log item (is_entry deed.change) (ap is_entry change_is)
         ∙ ap (λ (t : Tag). map (λ e. e.tag) (old.front).log ++ t ∷ []) own_tag))
         (λ opened same_as. serves_deed tag old new deed opened (ap (λ f. f.closed) front) shown (λ still. thawed)
-            (subst (λ (d : Published P). FitsRows ((opened.volume).settings).replicas d.change) (sym deed_is) (long ∙ ap (λ (s : Settings). s.replicas) same_as))
-            (λ q. rows.rows q ∙ ap (λ (row : List (Place P)). changed_row (op.Put written.pair written.row) q row) ((shows.rows).rows q) ∙ ap (λ (change : MapOp P). changed_row change q (row_at (old.logical).rows q)) (sym change_is)))
+        (subst (λ (d : Published P). FitsRows ((opened.volume).settings).replicas d.change) (sym deed_is) (long ∙ ap (λ (s : Settings). s.replicas) same_as))
+        (λ q. rows.rows q ∙ ap (λ (row : List (Place P)). changed_row (op.Put written.pair written.row) q row) ((shows.rows).rows q) ∙ ap (λ (change : MapOp P). changed_row change q (row_at (old.logical).rows q)) (sym change_is)))
         act is
 
     -- it was not published, and given up
@@ -433,9 +435,9 @@ module _ {D P : Type 0} (Tells : Type 0) (files : D → Files) (PieceTells : Typ
         (sym (by.acts (made_is.Pends m photo false) (ap (λ (f : Option ℕ). pends_by f photo false) now_frozen)))
         (put_given_up Tells files PieceTells faults fuses tag old new pair cookie bytes both.0 both.1 begun ended thawed
         (λ tells k s. let w = stands tells k s in (
-            subst (λ (z : Settings). logical.HasRoom z (old.logical).number k (length bytes)) same.settings (subst (λ (v : ℕ). logical.HasRoom mid.settings v k (length bytes)) same.number w.room),
-            subst (λ (n : ℕ). Stands files PieceTells new.logical (frozen_with n tag photo false k)) first
-                (given tells k photo (op.Put pair written.row) (map (grown (length bytes)) k.replicas) w.unshown
-                (subst (λ (l : List ℕ). IsChange (unsure.Put l) k photo) (sym ends_is) w.ends)),
-          ))
+          subst (λ (z : Settings). logical.HasRoom z (old.logical).number k (length bytes)) same.settings (subst (λ (v : ℕ). logical.HasRoom mid.settings v k (length bytes)) same.number w.room),
+          subst (λ (n : ℕ). Stands files PieceTells new.logical (frozen_with n tag photo false k)) first
+              (given tells k photo (op.Put pair written.row) (map (grown (length bytes)) k.replicas) w.unshown
+              (subst (λ (l : List ℕ). IsChange (unsure.Put l) k photo) (sym ends_is) w.ends)),
+        ))
         (shows_nothing tag old new shown log) (λ opened same_as. serves_frozen tag old new opened m now_frozen) act refl)

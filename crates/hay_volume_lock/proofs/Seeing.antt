@@ -25,7 +25,7 @@ use Rattle.hay_logical.specs.Fits.{At, PlaceStands}
 use Rattle.hay_logical.specs.Stands.{Stands}
 use Rattle.hay_logical.specs.Steps.{SetsPlaceAt}
 use Rattle.hay_logical.specs.Volumes.{IsOpenVolume, IsSame, KeepsCounts, Volume}
-use Rattle.hay_logical.proofs.Lists.{at_below, at_there, length-slice_set}
+use Rattle.hay_logical.proofs.Lists.{at_below, at_same, at_there, length-slice_set}
 use Rattle.hay_map.specs.MapRows.{MapRows}
 use Rattle.hay_map.specs.Places.{PlaceMeans, place_in}
 use Rattle.hay_map.specs.Rows.{FitsRows, changed_row, row_at}
@@ -75,6 +75,11 @@ seen_means files PieceTells r pair place.None what seen stands = stands
 seen_means files PieceTells r pair place.Gone what seen stands = stands
 seen_means files PieceTells r pair (place.Unseen at size) what seen stands = absurd seen
 
+-- a view shows nothing of an act that changed nothing
+pub tried_quiet : {D : Type 0} (faults fuses : D → ℕ) (tag : CoreTag) (before : List ℕ) (copies : List (Copy D)) (made : Option VolumeAct) → IsTried faults fuses tag before copies made → entries volume_lock (acts_in made) ≡ []
+tried_quiet faults fuses tag before copies None tried = refl
+tried_quiet faults fuses tag before copies (Some act) tried = ap (λ (z : VolumeAct). add_shown (entry_of z.did) []) tried.is
+
 -- PLACES THAT WERE SEEN
 
 module _ {D P : Type 0} (Tells : Type 0) (files : D → Files) (PieceTells : Type 0) (faults fuses : D → ℕ) (tag : CoreTag) where
@@ -91,10 +96,16 @@ module _ {D P : Type 0} (Tells : Type 0) (files : D → Files) (PieceTells : Typ
 
   pub sees_nothing : (old : Guarded D P) → IsOpenVolume old.logical → ((old.logical).frozen ≡ None → (old.front).closed ≡ false) → Sees old old
   sees_nothing old is_open serves = record {
-    of = record { settings = refl; same = record { settings = refl; number = refl; sups = λ j r r' e f. ap (λ (c : Copy D). c.sup) (let same : Some r' ≡ Some r = sym f ∙ e in cc same) }; is_open = is_open; count = refl; rises = λ j r r' e f. (let same : faults r'.disk ≡ faults r.disk = ap (λ (c : Copy D). faults c.disk) (let both : Some r' ≡ Some r = sym f ∙ e in cc both) in omega (arith, same)) };
+    of = record {
+      settings = refl;
+      same = record { settings = refl; number = refl; sups = λ j r r' e f. ap (λ (c : Copy D). c.sup) (at_same (old.logical).replicas j r' r f e) };
+      is_open = is_open;
+      count = refl;
+      rises = λ j r r' e f. (let same : faults r'.disk ≡ faults r.disk = ap (λ (c : Copy D). faults c.disk) (at_same (old.logical).replicas j r' r f e) in omega (arith, same));
+    };
     shows = shows_nothing tag old old refl refl;
     serves = λ opened is. record { «open» = serves; rows = λ from were still. were still };
-    stay = λ j r r' e f. ap (λ (c : Copy D). fuses c.disk) (let same : Some r' ≡ Some r = sym f ∙ e in cc same);
+    stay = λ j r r' e f. ap (λ (c : Copy D). fuses c.disk) (at_same (old.logical).replicas j r' r f e);
     stands = λ tells k s. s;
     begun = refl;
     ended = refl;
@@ -197,14 +208,10 @@ module _ {D P : Type 0} (Tells : Type 0) (files : D → Files) (PieceTells : Typ
       (record { rows = fit; enters = subst (λ (d : Published P). Enters d.change d.entered) (sym is) refl })
       (seen_tells Tells files PieceTells (begun_at opened.volume (h.from).rows) ((mid.front).shown).deeds deed fit (fact_first Tells files PieceTells opened.volume (h.from).rows (mid.front).shown base fact).1 pair replica there is
       (λ tells k s. subst (λ (table : Table). PlaceMeans PieceTells pair there (outcome_at table pair))
-          (table_kept opened held old h tells k s replica ∙ ap (fold apply_entry (now k (replica_at k replica))) (sym ((sees.shows).more ∙ append-nil (entered_by ((old.front).shown).deeds))))
-          (means tells (stood_of faults fuses opened k held).volume (sees.stands tells (stood_of faults fuses opened k held).volume (h.stands tells k s)))))
+      (table_kept opened held old h tells k s replica ∙ ap (fold apply_entry (now k (replica_at k replica))) (sym ((sees.shows).more ∙ append-nil (entered_by ((old.front).shown).deeds))))
+      (means tells (stood_of faults fuses opened k held).volume (sees.stands tells (stood_of faults fuses opened k held).volume (h.stands tells k s)))))
 
   -- WHAT IT TELLS
-
-  pub tried_quiet : (before : List ℕ) (copies : List (Copy D)) (made : Option VolumeAct) → IsTried faults fuses tag before copies made → entries volume_lock (acts_in made) ≡ []
-  tried_quiet before copies None tried = refl
-  tried_quiet before copies (Some act) tried = ap (λ (z : VolumeAct). add_shown (entry_of z.did) []) tried.is
 
   module _ (pair : Pair) (replica : ℕ) where
     pub seen_found : (old : Guarded D P) (made : Option VolumeAct) → entries volume_lock (acts_in made) ≡ [] → MadeNothing made → (looked : Looked P)
@@ -329,7 +336,7 @@ module _ {D P : Type 0} (Tells : Type 0) (files : D → Files) (PieceTells : Typ
 -- a place that was looked at
 pub look_known : {D P : Type 0} (Tells : Type 0) (files : D → Files) (PieceTells : Type 0) (old : Volume D P) (pair : Pair) (replica : ℕ) (looked : Looked P) → replica < length old.replicas → IsSeen (place_in looked.row replica)
     → (Tells → (k : VolumeKnown) → Stands files PieceTells old k → (looked.front ≡ length k.log)
-        × ((j : ℕ) (r : Copy D) → At old.replicas j r → PlaceStands files PieceTells r pair (place_in looked.row j) (outcome_at (now k (replica_at k j)) pair)))
+    × ((j : ℕ) (r : Copy D) → At old.replicas j r → PlaceStands files PieceTells r pair (place_in looked.row j) (outcome_at (now k (replica_at k j)) pair)))
     → Tells → (k : VolumeKnown) → Stands files PieceTells old k → (looked.front ≡ length k.log) × PlaceMeans PieceTells pair (place_in looked.row replica) (outcome_at (now k (replica_at k replica)) pair)
 look_known Tells files PieceTells old pair replica looked less seen known tells k s =
     let r = at_there old.replicas replica less in let q = known tells k s in

@@ -27,6 +27,7 @@ use Rattle.hay_turn.specs.Slots.{acts_in}
 use Rattle.hay_views.specs.declared.places.Published.{Published}
 use Rattle.hay_views.specs.MapPasts.{begun_at, entered_by, row_of, with_published}
 use Rattle.hay_volume_lock.specs.Acts.{counts}
+use Rattle.hay_volume_lock.specs.Ended.{ended_at}
 use Rattle.hay_volume_lock.specs.declared.guarded.Guarded.{Guarded}
 use Rattle.hay_volume_lock.specs.declared.guarded.Opened.{Opened}
 
@@ -101,10 +102,6 @@ ended_in j lane begun act before = if ends_at j act.did then (if begun.lane == l
 abbrev pub ended_of : ℕ → ℕ → CoreTag → Option ℕ → List VolumeAct → Option ℕ
 ended_of j lane begun before [] = before
 ended_of j lane begun before (act ∷ acts) = ended_of j lane (begun_in j act.tag (did_of act.did) begun) (ended_in j lane begun act before) acts
-
--- the count that is kept of it
-abbrev pub ended_at : List (List (Option ℕ)) → ℕ → ℕ → Option ℕ
-ended_at ended j lane = slice_index_or (slice_index_or ended j []) lane None
 
 -- what stands of the volume where it was opened, if that is known of it, and behind acts
 abbrev pub standing_of : {D P : Type 0} → (D → ℕ) → (D → ℕ) → Opened D P → VolumeKnown → Standing

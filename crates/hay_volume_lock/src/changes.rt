@@ -32,12 +32,7 @@ pub(crate) fn front_tag(tag: CoreTag) -> Tag
 }
 
 // The entry of a put. It has a copy of the photo's bytes for as long as the call.
-fn put_entry(
-    alloc: Global,
-    pair: Pair,
-    cookie: Cookie,
-    bytes: &[u8],
-) -> Result<Entry, NoMemory>
+fn put_entry(alloc: Global, pair: Pair, cookie: Cookie, bytes: &[u8]) -> Result<Entry, NoMemory>
     ensures { IfOk result (λ entry. entry ≡ change.Put pair cookie bytes.now) }
 {
     let bytes = Bytes::from_vec(bytes.to_vec(alloc)?);
@@ -137,7 +132,8 @@ impl<D: Disk<Piece = P> + Send + Sync, P: Piece + Send + Sync> VolumeLock<D, P> 
         };
         let op = published(&written, &entry);
         let Ok(_receipt) = kept.front.publish(rt, &mut seat.view, front_tag(tag), op) else {
-            kept.logical.give_up(tag, Change::Put { ends: written.ends });
+            kept.logical
+                .give_up(tag, Change::Put { ends: written.ends });
             let did = pended(kept.logical.frozen(), &entry, false);
             let made = act_made(&kept.logical, replicas, &before, tag, did);
             self.turn.free(&mut seat.turn, kept, made);

@@ -1,6 +1,7 @@
 //! What stands behind the lock.
 
 use crate::act::Act;
+use crate::ended::Ended;
 use crate::told::Places;
 use hay_core::CoreTag;
 use hay_disk::{Disk, Piece};
@@ -22,8 +23,8 @@ pub struct Guarded<D: Disk<Piece = P> + Send + Sync, P: Piece + Send + Sync> {
     pub front: Front<Places<D, P>>,
     /// The line that began the compaction of each replica last.
     pub begun: [CoreTag; 4],
-    /// How often the disk of each replica had failed behind the last delete that ended its compaction, by the lane that had begun it.
-    pub ended: [[Option<u64>; 8]; 4],
+    /// How often disks had failed behind deletes that ended compactions.
+    pub ended: Ended,
 }
 
 impl<D: Disk<Piece = P> + Send + Sync, P: Piece + Send + Sync> Kept for Guarded<D, P> {

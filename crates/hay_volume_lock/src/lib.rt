@@ -13,12 +13,15 @@
 //! each answer of a call is a call of `hay_holdings`.
 //!
 //! In `proofs/`, `Growing` has what an act makes of what stands behind the lock, `Finding` how the answers of a logical volume are
-//! those calls, `Holding` what a holding tells of its lane, and `Telling` what a look at the published rows does.
+//! those calls, `Holding` what a holding tells of its lane, and `Telling` what a look at the published rows does. `Published` has what
+//! the rows tell behind one change more, `Publishing` what a holding leaves that publishes a change, and what it tells; `Putting` and
+//! `Seeing` are puts and places that are seen.
 #![tactic(auto)]
 
 mod act;
 mod changes;
 mod compactions;
+mod ended;
 mod guarded;
 mod lock;
 mod seat;
@@ -28,6 +31,7 @@ mod tries;
 
 pub use act::Act;
 pub use compactions::Examined;
+pub use ended::Ended;
 pub use guarded::{Guarded, Opened};
 pub use lock::VolumeLock;
 pub use seat::VolumeSeat;

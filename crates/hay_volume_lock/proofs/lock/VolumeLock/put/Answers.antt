@@ -28,18 +28,18 @@ free-requires-clause-may g c = record {
 }
 
 pub invariant_of-seat : goal.invariant_of-seat
-invariant_of-seat g c = 
+invariant_of-seat g c =
     quiet_seated g.D.Disk.Tells g.D.Disk.files g.P.Piece.Tells g.D.Disk.fault_count g.D.Disk.fuse_count nobody c.seat.inside.turn c.hold-kept.new.seat c.free.new.seat c.seat.inside.view c.show_all.new.seat c.hold-kept.result
     c.seat.invariant c.hold-kept.ensures c.show_all.ensures.seen.0 c.show_all.ensures.seen.1 c.free.ensures
 
 pub returns-in-Some-clause-put : goal.returns-in-Some-clause-put
-returns-in-Some-clause-put g c = 
+returns-in-Some-clause-put g c =
     subst (λ (s : Seated g.row.D.Denot g.row.P.Denot). IsTold g.D.Disk.Tells g.D.Disk.files g.P.Piece.Tells g.D.Disk.fault_count g.D.Disk.fuse_count s.start (λ volume. PutAnswer volume c.args.tag c.args.pair c.args.cookie c.args.bytes.now (Err (ReadOnly c.in-Some.machine)) s.sight (seat_of c.free.new.seat c.show_all.new.seat).sight)) c.seat.view_is
     (quiet_told g.D.Disk.Tells g.D.Disk.files g.P.Piece.Tells g.D.Disk.fault_count g.D.Disk.fuse_count c.args.tag c.seat.inside.turn c.hold-kept.new.seat c.free.new.seat c.seat.inside.view c.show_all.new.seat c.hold-kept.result c.seat.invariant c.hold-kept.ensures c.show_all.ensures.seen.0 c.show_all.ensures.seen.1 c.free.ensures (λ volume. PutAnswer volume c.args.tag c.args.pair c.args.cookie c.args.bytes.now (Err (ReadOnly c.in-Some.machine)))
     (met_frozen g.D.Disk.Tells g.D.Disk.files g.P.Piece.Tells g.D.Disk.fault_count g.D.Disk.fuse_count c.args.tag c.hold-kept.result c.args.pair c.args.cookie c.args.bytes.now c.in-Some.machine (λ tells k s. sym (c.frozen.ensures.known tells k s) ∙ c.in-Some.is)))
 
 pub returns-in-Some-clause-held : goal.returns-in-Some-clause-held
-returns-in-Some-clause-held g c = 
+returns-in-Some-clause-held g c =
     subst (λ (s : Seated g.row.D.Denot g.row.P.Denot). OneHolding c.args.tag s.sight (seat_of c.free.new.seat c.show_all.new.seat).sight) c.seat.view_is
     (quiet_held g.D.Disk.Tells g.D.Disk.files g.P.Piece.Tells g.D.Disk.fault_count g.D.Disk.fuse_count c.args.tag c.seat.inside.turn c.hold-kept.new.seat c.free.new.seat c.seat.inside.view c.show_all.new.seat c.hold-kept.result c.seat.invariant c.hold-kept.ensures c.show_all.ensures.seen.0 c.show_all.ensures.seen.1 c.free.ensures)
 
@@ -51,18 +51,18 @@ free-requires-in_default-put_entry-clause-may g c = record {
 }
 
 pub invariant_of-seat-in_default-put_entry : goal.invariant_of-seat-in_default-put_entry
-invariant_of-seat-in_default-put_entry g c = 
+invariant_of-seat-in_default-put_entry g c =
     quiet_seated g.D.Disk.Tells g.D.Disk.files g.P.Piece.Tells g.D.Disk.fault_count g.D.Disk.fuse_count nobody c.seat.inside.turn c.hold-kept.new.seat c.free-in_default-put_entry.new.seat c.seat.inside.view c.show_all.new.seat c.hold-kept.result
     c.seat.invariant c.hold-kept.ensures c.show_all.ensures.seen.0 c.show_all.ensures.seen.1 c.free-in_default-put_entry.ensures
 
 pub returns-in_default-put_entry-clause-put : goal.returns-in_default-put_entry-clause-put
-returns-in_default-put_entry-clause-put g c = 
+returns-in_default-put_entry-clause-put g c =
     subst (λ (s : Seated g.row.D.Denot g.row.P.Denot). IsTold g.D.Disk.Tells g.D.Disk.files g.P.Piece.Tells g.D.Disk.fault_count g.D.Disk.fuse_count s.start (λ volume. PutAnswer volume c.args.tag c.args.pair c.args.cookie c.args.bytes.now (Err NoMemory) s.sight (seat_of c.free-in_default-put_entry.new.seat c.show_all.new.seat).sight)) c.seat.view_is
     (quiet_told g.D.Disk.Tells g.D.Disk.files g.P.Piece.Tells g.D.Disk.fault_count g.D.Disk.fuse_count c.args.tag c.seat.inside.turn c.hold-kept.new.seat c.free-in_default-put_entry.new.seat c.seat.inside.view c.show_all.new.seat c.hold-kept.result c.seat.invariant c.hold-kept.ensures c.show_all.ensures.seen.0 c.show_all.ensures.seen.1 c.free-in_default-put_entry.ensures (λ volume. PutAnswer volume c.args.tag c.args.pair c.args.cookie c.args.bytes.now (Err NoMemory))
     (wanted_nothing g.D.Disk.Tells g.D.Disk.files g.P.Piece.Tells g.D.Disk.fault_count g.D.Disk.fuse_count c.args.tag c.hold-kept.result c.args.pair c.args.cookie c.args.bytes.now))
 
 pub returns-in_default-put_entry-clause-held : goal.returns-in_default-put_entry-clause-held
-returns-in_default-put_entry-clause-held g c = 
+returns-in_default-put_entry-clause-held g c =
     subst (λ (s : Seated g.row.D.Denot g.row.P.Denot). OneHolding c.args.tag s.sight (seat_of c.free-in_default-put_entry.new.seat c.show_all.new.seat).sight) c.seat.view_is
     (quiet_held g.D.Disk.Tells g.D.Disk.files g.P.Piece.Tells g.D.Disk.fault_count g.D.Disk.fuse_count c.args.tag c.seat.inside.turn c.hold-kept.new.seat c.free-in_default-put_entry.new.seat c.seat.inside.view c.show_all.new.seat c.hold-kept.result c.seat.invariant c.hold-kept.ensures c.show_all.ensures.seen.0 c.show_all.ensures.seen.1 c.free-in_default-put_entry.ensures)
 
@@ -84,19 +84,19 @@ act_made-made-requires-clause-most g c = few_there g.D.Disk.Tells g.D.Disk.files
 pub free-requires-in-Err-clause-may : goal.free-requires-in-Err-clause-may
 free-requires-in-Err-clause-may g c = record {
   stands_for = made_free g.D.Disk.Tells g.D.Disk.files g.P.Piece.Tells g.D.Disk.fault_count g.D.Disk.fuse_count c.args.tag c.seat.inside.turn c.hold-kept.new.seat (after_free c.hold-kept.new.seat (acts_in c.act_made-made.result)) c.seat.inside.view c.show_all.new.seat c.hold-kept.result (record c.hold-kept.result { logical = c.write.new.self })
-    c.act_made-made.result c.seat.invariant c.hold-kept.ensures c.show_all.ensures.seen.0 c.show_all.ensures.seen.1
-    (put_refused g.D.Disk.Tells g.D.Disk.files g.P.Piece.Tells g.D.Disk.fault_count g.D.Disk.fuse_count c.args.tag c.hold-kept.result (record c.hold-kept.result { logical = c.write.new.self }) c.args.pair c.args.cookie c.args.bytes.now
-    (record { settings = refl; front = refl; same = c.in-Err.ensures.same; is_open = c.in-Err.ensures.open; count = c.in-Err.ensures.counts.count; rises = c.in-Err.ensures.counts.rises; thawed = λ thawed. (sym c.in_default.ensures.is); rows = λ thawed pair. c.in-Err.ensures.kept pair })
-    c.in-Err.ensures.counts.stay refl refl (sym c.in_default.ensures.is) c.in-Err.fault c.in-Err.ensures.refused c.in-Err.ensures.causes c.act_made-made.result (record { acts = λ m is. c.act_made-made.ensures.did m ((c.put_did-did.ensures ∙ ap (λ (e : Entry). put_made c.frozen-in-Err.result e c.in-Err.fault) c.in-Ok.ensures ∙ ap (λ (f : Option ℕ). put_made f (change.Put c.args.pair c.args.cookie c.args.bytes.now) c.in-Err.fault) c.frozen-in-Err.ensures.is) ∙ is); tries = λ none. subst (λ (l : List ℕ). IsTried g.D.Disk.fault_count g.D.Disk.fuse_count c.args.tag l c.write.new.self.replicas c.act_made-made.result) c.faults_of-before.ensures (c.act_made-made.ensures.tried ((c.put_did-did.ensures ∙ ap (λ (e : Entry). put_made c.frozen-in-Err.result e c.in-Err.fault) c.in-Ok.ensures ∙ ap (λ (f : Option ℕ). put_made f (change.Put c.args.pair c.args.cookie c.args.bytes.now) c.in-Err.fault) c.frozen-in-Err.ensures.is) ∙ none)) })).goes refl;
+      c.act_made-made.result c.seat.invariant c.hold-kept.ensures c.show_all.ensures.seen.0 c.show_all.ensures.seen.1
+      (put_refused g.D.Disk.Tells g.D.Disk.files g.P.Piece.Tells g.D.Disk.fault_count g.D.Disk.fuse_count c.args.tag c.hold-kept.result (record c.hold-kept.result { logical = c.write.new.self }) c.args.pair c.args.cookie c.args.bytes.now
+      (record { settings = refl; front = refl; same = c.in-Err.ensures.same; is_open = c.in-Err.ensures.open; count = c.in-Err.ensures.counts.count; rises = c.in-Err.ensures.counts.rises; thawed = λ thawed. (sym c.in_default.ensures.is); rows = λ thawed pair. c.in-Err.ensures.kept pair })
+      c.in-Err.ensures.counts.stay refl refl (sym c.in_default.ensures.is) c.in-Err.fault c.in-Err.ensures.refused c.in-Err.ensures.causes c.act_made-made.result (record { acts = λ m is. c.act_made-made.ensures.did m ((c.put_did-did.ensures ∙ ap (λ (e : Entry). put_made c.frozen-in-Err.result e c.in-Err.fault) c.in-Ok.ensures ∙ ap (λ (f : Option ℕ). put_made f (change.Put c.args.pair c.args.cookie c.args.bytes.now) c.in-Err.fault) c.frozen-in-Err.ensures.is) ∙ is); tries = λ none. subst (λ (l : List ℕ). IsTried g.D.Disk.fault_count g.D.Disk.fuse_count c.args.tag l c.write.new.self.replicas c.act_made-made.result) c.faults_of-before.ensures (c.act_made-made.ensures.tried ((c.put_did-did.ensures ∙ ap (λ (e : Entry). put_made c.frozen-in-Err.result e c.in-Err.fault) c.in-Ok.ensures ∙ ap (λ (f : Option ℕ). put_made f (change.Put c.args.pair c.args.cookie c.args.bytes.now) c.in-Err.fault) c.frozen-in-Err.ensures.is) ∙ none)) })).goes refl;
   mine = made_mine g.D.Disk.Tells g.D.Disk.files g.P.Piece.Tells g.D.Disk.fault_count g.D.Disk.fuse_count c.args.tag c.seat.inside.turn c.hold-kept.new.seat (after_free c.hold-kept.new.seat (acts_in c.act_made-made.result)) c.seat.inside.view c.show_all.new.seat c.hold-kept.result (record c.hold-kept.result { logical = c.write.new.self })
-    c.act_made-made.result c.seat.invariant c.hold-kept.ensures c.show_all.ensures.seen.0 c.show_all.ensures.seen.1
-    (put_refused g.D.Disk.Tells g.D.Disk.files g.P.Piece.Tells g.D.Disk.fault_count g.D.Disk.fuse_count c.args.tag c.hold-kept.result (record c.hold-kept.result { logical = c.write.new.self }) c.args.pair c.args.cookie c.args.bytes.now
-    (record { settings = refl; front = refl; same = c.in-Err.ensures.same; is_open = c.in-Err.ensures.open; count = c.in-Err.ensures.counts.count; rises = c.in-Err.ensures.counts.rises; thawed = λ thawed. (sym c.in_default.ensures.is); rows = λ thawed pair. c.in-Err.ensures.kept pair })
-    c.in-Err.ensures.counts.stay refl refl (sym c.in_default.ensures.is) c.in-Err.fault c.in-Err.ensures.refused c.in-Err.ensures.causes c.act_made-made.result (record { acts = λ m is. c.act_made-made.ensures.did m ((c.put_did-did.ensures ∙ ap (λ (e : Entry). put_made c.frozen-in-Err.result e c.in-Err.fault) c.in-Ok.ensures ∙ ap (λ (f : Option ℕ). put_made f (change.Put c.args.pair c.args.cookie c.args.bytes.now) c.in-Err.fault) c.frozen-in-Err.ensures.is) ∙ is); tries = λ none. subst (λ (l : List ℕ). IsTried g.D.Disk.fault_count g.D.Disk.fuse_count c.args.tag l c.write.new.self.replicas c.act_made-made.result) c.faults_of-before.ensures (c.act_made-made.ensures.tried ((c.put_did-did.ensures ∙ ap (λ (e : Entry). put_made c.frozen-in-Err.result e c.in-Err.fault) c.in-Ok.ensures ∙ ap (λ (f : Option ℕ). put_made f (change.Put c.args.pair c.args.cookie c.args.bytes.now) c.in-Err.fault) c.frozen-in-Err.ensures.is) ∙ none)) })).goes refl (ap (λ (s : Seated g.row.D.Denot g.row.P.Denot). s.number) c.seat.view_is ∙ c.requires.may.lane);
+      c.act_made-made.result c.seat.invariant c.hold-kept.ensures c.show_all.ensures.seen.0 c.show_all.ensures.seen.1
+      (put_refused g.D.Disk.Tells g.D.Disk.files g.P.Piece.Tells g.D.Disk.fault_count g.D.Disk.fuse_count c.args.tag c.hold-kept.result (record c.hold-kept.result { logical = c.write.new.self }) c.args.pair c.args.cookie c.args.bytes.now
+      (record { settings = refl; front = refl; same = c.in-Err.ensures.same; is_open = c.in-Err.ensures.open; count = c.in-Err.ensures.counts.count; rises = c.in-Err.ensures.counts.rises; thawed = λ thawed. (sym c.in_default.ensures.is); rows = λ thawed pair. c.in-Err.ensures.kept pair })
+      c.in-Err.ensures.counts.stay refl refl (sym c.in_default.ensures.is) c.in-Err.fault c.in-Err.ensures.refused c.in-Err.ensures.causes c.act_made-made.result (record { acts = λ m is. c.act_made-made.ensures.did m ((c.put_did-did.ensures ∙ ap (λ (e : Entry). put_made c.frozen-in-Err.result e c.in-Err.fault) c.in-Ok.ensures ∙ ap (λ (f : Option ℕ). put_made f (change.Put c.args.pair c.args.cookie c.args.bytes.now) c.in-Err.fault) c.frozen-in-Err.ensures.is) ∙ is); tries = λ none. subst (λ (l : List ℕ). IsTried g.D.Disk.fault_count g.D.Disk.fuse_count c.args.tag l c.write.new.self.replicas c.act_made-made.result) c.faults_of-before.ensures (c.act_made-made.ensures.tried ((c.put_did-did.ensures ∙ ap (λ (e : Entry). put_made c.frozen-in-Err.result e c.in-Err.fault) c.in-Ok.ensures ∙ ap (λ (f : Option ℕ). put_made f (change.Put c.args.pair c.args.cookie c.args.bytes.now) c.in-Err.fault) c.frozen-in-Err.ensures.is) ∙ none)) })).goes refl (ap (λ (s : Seated g.row.D.Denot g.row.P.Denot). s.number) c.seat.view_is ∙ c.requires.may.lane);
 }
 
 pub invariant_of-seat-in-Err : goal.invariant_of-seat-in-Err
-invariant_of-seat-in-Err g c = 
+invariant_of-seat-in-Err g c =
     made_seated g.D.Disk.Tells g.D.Disk.files g.P.Piece.Tells g.D.Disk.fault_count g.D.Disk.fuse_count c.args.tag c.seat.inside.turn c.hold-kept.new.seat c.free-in-Err.new.seat c.seat.inside.view c.show_all.new.seat c.hold-kept.result (record c.hold-kept.result { logical = c.write.new.self })
     c.act_made-made.result c.seat.invariant c.hold-kept.ensures c.show_all.ensures.seen.0 c.show_all.ensures.seen.1
     (put_refused g.D.Disk.Tells g.D.Disk.files g.P.Piece.Tells g.D.Disk.fault_count g.D.Disk.fuse_count c.args.tag c.hold-kept.result (record c.hold-kept.result { logical = c.write.new.self }) c.args.pair c.args.cookie c.args.bytes.now
@@ -104,7 +104,7 @@ invariant_of-seat-in-Err g c =
     c.in-Err.ensures.counts.stay refl refl (sym c.in_default.ensures.is) c.in-Err.fault c.in-Err.ensures.refused c.in-Err.ensures.causes c.act_made-made.result (record { acts = λ m is. c.act_made-made.ensures.did m ((c.put_did-did.ensures ∙ ap (λ (e : Entry). put_made c.frozen-in-Err.result e c.in-Err.fault) c.in-Ok.ensures ∙ ap (λ (f : Option ℕ). put_made f (change.Put c.args.pair c.args.cookie c.args.bytes.now) c.in-Err.fault) c.frozen-in-Err.ensures.is) ∙ is); tries = λ none. subst (λ (l : List ℕ). IsTried g.D.Disk.fault_count g.D.Disk.fuse_count c.args.tag l c.write.new.self.replicas c.act_made-made.result) c.faults_of-before.ensures (c.act_made-made.ensures.tried ((c.put_did-did.ensures ∙ ap (λ (e : Entry). put_made c.frozen-in-Err.result e c.in-Err.fault) c.in-Ok.ensures ∙ ap (λ (f : Option ℕ). put_made f (change.Put c.args.pair c.args.cookie c.args.bytes.now) c.in-Err.fault) c.frozen-in-Err.ensures.is) ∙ none)) })).goes c.free-in-Err.ensures (ap (λ (s : Seated g.row.D.Denot g.row.P.Denot). s.number) c.seat.view_is ∙ c.requires.may.lane)
 
 pub returns-in-Err-clause-put : goal.returns-in-Err-clause-put
-returns-in-Err-clause-put g c = 
+returns-in-Err-clause-put g c =
     subst (λ (s : Seated g.row.D.Denot g.row.P.Denot). IsTold g.D.Disk.Tells g.D.Disk.files g.P.Piece.Tells g.D.Disk.fault_count g.D.Disk.fuse_count s.start (λ volume. PutAnswer volume c.args.tag c.args.pair c.args.cookie c.args.bytes.now (Err c.in-Err.fault) s.sight (seat_of c.free-in-Err.new.seat c.show_all.new.seat).sight)) c.seat.view_is
     (made_told g.D.Disk.Tells g.D.Disk.files g.P.Piece.Tells g.D.Disk.fault_count g.D.Disk.fuse_count c.args.tag c.seat.inside.turn c.hold-kept.new.seat c.free-in-Err.new.seat c.seat.inside.view c.show_all.new.seat c.hold-kept.result (record c.hold-kept.result { logical = c.write.new.self })
     c.act_made-made.result c.seat.invariant c.hold-kept.ensures c.show_all.ensures.seen.0 c.show_all.ensures.seen.1
@@ -126,7 +126,7 @@ returns-in-Err-clause-causes g c = λ m f is.
     c.in-Err.ensures.counts.stay refl refl (sym c.in_default.ensures.is) c.in-Err.fault c.in-Err.ensures.refused c.in-Err.ensures.causes c.act_made-made.result (record { acts = λ m is. c.act_made-made.ensures.did m ((c.put_did-did.ensures ∙ ap (λ (e : Entry). put_made c.frozen-in-Err.result e c.in-Err.fault) c.in-Ok.ensures ∙ ap (λ (f : Option ℕ). put_made f (change.Put c.args.pair c.args.cookie c.args.bytes.now) c.in-Err.fault) c.frozen-in-Err.ensures.is) ∙ is); tries = λ none. subst (λ (l : List ℕ). IsTried g.D.Disk.fault_count g.D.Disk.fuse_count c.args.tag l c.write.new.self.replicas c.act_made-made.result) c.faults_of-before.ensures (c.act_made-made.ensures.tried ((c.put_did-did.ensures ∙ ap (λ (e : Entry). put_made c.frozen-in-Err.result e c.in-Err.fault) c.in-Ok.ensures ∙ ap (λ (f : Option ℕ). put_made f (change.Put c.args.pair c.args.cookie c.args.bytes.now) c.in-Err.fault) c.frozen-in-Err.ensures.is) ∙ none)) })).always m f (err_same is)))
 
 pub returns-in-Err-clause-held : goal.returns-in-Err-clause-held
-returns-in-Err-clause-held g c = 
+returns-in-Err-clause-held g c =
     subst (λ (s : Seated g.row.D.Denot g.row.P.Denot). OneHolding c.args.tag s.sight (seat_of c.free-in-Err.new.seat c.show_all.new.seat).sight) c.seat.view_is
     (made_held g.D.Disk.Tells g.D.Disk.files g.P.Piece.Tells g.D.Disk.fault_count g.D.Disk.fuse_count c.args.tag c.seat.inside.turn c.hold-kept.new.seat c.free-in-Err.new.seat c.seat.inside.view c.show_all.new.seat c.hold-kept.result (record c.hold-kept.result { logical = c.write.new.self })
     c.act_made-made.result c.seat.invariant c.hold-kept.ensures c.show_all.ensures.seen.0 c.show_all.ensures.seen.1
@@ -150,19 +150,19 @@ act_made-made-requires-in_default-publish-clause-most g c = few_there g.D.Disk.T
 pub free-requires-in_default-publish-clause-may : goal.free-requires-in_default-publish-clause-may
 free-requires-in_default-publish-clause-may g c = record {
   stands_for = changed_free g.D.Disk.Tells g.D.Disk.files g.P.Piece.Tells g.D.Disk.fault_count g.D.Disk.fuse_count c.args.tag c.seat.inside.turn c.hold-kept.new.seat c.seat.inside.view c.show_all.new.seat c.publish.new.seat c.hold-kept.result (record c.hold-kept.result { logical = c.give_up.new.self; front = c.publish.new.self }) c.act_made-made-in_default-publish.result
-    c.seat.invariant c.hold-kept.ensures c.show_all.ensures.seen.0 c.show_all.ensures.seen.1 c.in_default-publish.ensures.seen.1
-    (put_unshown g.D.Disk.Tells g.D.Disk.files g.P.Piece.Tells g.D.Disk.fault_count g.D.Disk.fuse_count c.args.tag c.hold-kept.result c.args.pair c.args.cookie c.args.bytes.now c.write.new.self c.in-Ok-write.written c.published-op.result c.in-Ok-write.ensures.of.0 c.in-Ok-write.ensures.of.2 c.in-Ok-write.ensures.written c.published-op.ensures.change (c.published-op.ensures.entered ∙ ap (λ (e : Entry). e ∷ []) c.in-Ok.ensures) c.in-Ok-write.ensures.same (record c.hold-kept.result { logical = c.give_up.new.self; front = c.publish.new.self }) refl refl refl (sym c.in_default.ensures.is) c.in-Ok-write.ensures.open c.in-Ok-write.ensures.counts
-    (ap (λ f. f.shown) c.in_default-publish.ensures.refused) (ap (λ f. f.log) c.in_default-publish.ensures.refused) c.in-Ok-write.ensures.still c.in-Ok-write.written.ends refl c.give_up.ensures.pending
-    c.give_up.ensures.same c.give_up.ensures.open c.give_up.ensures.counts (ap (λ v. v.frozen) c.give_up.ensures.still) c.act_made-made-in_default-publish.result (record { acts = λ m is. c.act_made-made-in_default-publish.ensures.did m ((c.pended-did.ensures ∙ ap (λ (e : Entry). pends_by c.frozen-in_default-publish.result e false) c.in-Ok.ensures ∙ ap (λ (f : Option ℕ). pends_by f (change.Put c.args.pair c.args.cookie c.args.bytes.now) false) c.frozen-in_default-publish.ensures.is) ∙ is); tries = λ none. subst (λ (l : List ℕ). IsTried g.D.Disk.fault_count g.D.Disk.fuse_count c.args.tag l c.give_up.new.self.replicas c.act_made-made-in_default-publish.result) c.faults_of-before.ensures (c.act_made-made-in_default-publish.ensures.tried ((c.pended-did.ensures ∙ ap (λ (e : Entry). pends_by c.frozen-in_default-publish.result e false) c.in-Ok.ensures ∙ ap (λ (f : Option ℕ). pends_by f (change.Put c.args.pair c.args.cookie c.args.bytes.now) false) c.frozen-in_default-publish.ensures.is) ∙ none)) })).0;
+      c.seat.invariant c.hold-kept.ensures c.show_all.ensures.seen.0 c.show_all.ensures.seen.1 c.in_default-publish.ensures.seen.1
+      (put_unshown g.D.Disk.Tells g.D.Disk.files g.P.Piece.Tells g.D.Disk.fault_count g.D.Disk.fuse_count c.args.tag c.hold-kept.result c.args.pair c.args.cookie c.args.bytes.now c.write.new.self c.in-Ok-write.written c.published-op.result c.in-Ok-write.ensures.of.0 c.in-Ok-write.ensures.of.2 c.in-Ok-write.ensures.written c.published-op.ensures.change (c.published-op.ensures.entered ∙ ap (λ (e : Entry). e ∷ []) c.in-Ok.ensures) c.in-Ok-write.ensures.same (record c.hold-kept.result { logical = c.give_up.new.self; front = c.publish.new.self }) refl refl refl (sym c.in_default.ensures.is) c.in-Ok-write.ensures.open c.in-Ok-write.ensures.counts
+      (ap (λ f. f.shown) c.in_default-publish.ensures.refused) (ap (λ f. f.log) c.in_default-publish.ensures.refused) c.in-Ok-write.ensures.still c.in-Ok-write.written.ends refl c.give_up.ensures.pending
+      c.give_up.ensures.same c.give_up.ensures.open c.give_up.ensures.counts (ap (λ v. v.frozen) c.give_up.ensures.still) c.act_made-made-in_default-publish.result (record { acts = λ m is. c.act_made-made-in_default-publish.ensures.did m ((c.pended-did.ensures ∙ ap (λ (e : Entry). pends_by c.frozen-in_default-publish.result e false) c.in-Ok.ensures ∙ ap (λ (f : Option ℕ). pends_by f (change.Put c.args.pair c.args.cookie c.args.bytes.now) false) c.frozen-in_default-publish.ensures.is) ∙ is); tries = λ none. subst (λ (l : List ℕ). IsTried g.D.Disk.fault_count g.D.Disk.fuse_count c.args.tag l c.give_up.new.self.replicas c.act_made-made-in_default-publish.result) c.faults_of-before.ensures (c.act_made-made-in_default-publish.ensures.tried ((c.pended-did.ensures ∙ ap (λ (e : Entry). pends_by c.frozen-in_default-publish.result e false) c.in-Ok.ensures ∙ ap (λ (f : Option ℕ). pends_by f (change.Put c.args.pair c.args.cookie c.args.bytes.now) false) c.frozen-in_default-publish.ensures.is) ∙ none)) })).0;
   mine = changed_mine g.D.Disk.Tells g.D.Disk.files g.P.Piece.Tells g.D.Disk.fault_count g.D.Disk.fuse_count c.args.tag c.seat.inside.turn c.hold-kept.new.seat c.seat.inside.view c.show_all.new.seat c.publish.new.seat c.hold-kept.result (record c.hold-kept.result { logical = c.give_up.new.self; front = c.publish.new.self }) c.act_made-made-in_default-publish.result
-    c.seat.invariant c.hold-kept.ensures c.show_all.ensures.seen.0 c.show_all.ensures.seen.1 c.in_default-publish.ensures.seen.1
-    (put_unshown g.D.Disk.Tells g.D.Disk.files g.P.Piece.Tells g.D.Disk.fault_count g.D.Disk.fuse_count c.args.tag c.hold-kept.result c.args.pair c.args.cookie c.args.bytes.now c.write.new.self c.in-Ok-write.written c.published-op.result c.in-Ok-write.ensures.of.0 c.in-Ok-write.ensures.of.2 c.in-Ok-write.ensures.written c.published-op.ensures.change (c.published-op.ensures.entered ∙ ap (λ (e : Entry). e ∷ []) c.in-Ok.ensures) c.in-Ok-write.ensures.same (record c.hold-kept.result { logical = c.give_up.new.self; front = c.publish.new.self }) refl refl refl (sym c.in_default.ensures.is) c.in-Ok-write.ensures.open c.in-Ok-write.ensures.counts
-    (ap (λ f. f.shown) c.in_default-publish.ensures.refused) (ap (λ f. f.log) c.in_default-publish.ensures.refused) c.in-Ok-write.ensures.still c.in-Ok-write.written.ends refl c.give_up.ensures.pending
-    c.give_up.ensures.same c.give_up.ensures.open c.give_up.ensures.counts (ap (λ v. v.frozen) c.give_up.ensures.still) c.act_made-made-in_default-publish.result (record { acts = λ m is. c.act_made-made-in_default-publish.ensures.did m ((c.pended-did.ensures ∙ ap (λ (e : Entry). pends_by c.frozen-in_default-publish.result e false) c.in-Ok.ensures ∙ ap (λ (f : Option ℕ). pends_by f (change.Put c.args.pair c.args.cookie c.args.bytes.now) false) c.frozen-in_default-publish.ensures.is) ∙ is); tries = λ none. subst (λ (l : List ℕ). IsTried g.D.Disk.fault_count g.D.Disk.fuse_count c.args.tag l c.give_up.new.self.replicas c.act_made-made-in_default-publish.result) c.faults_of-before.ensures (c.act_made-made-in_default-publish.ensures.tried ((c.pended-did.ensures ∙ ap (λ (e : Entry). pends_by c.frozen-in_default-publish.result e false) c.in-Ok.ensures ∙ ap (λ (f : Option ℕ). pends_by f (change.Put c.args.pair c.args.cookie c.args.bytes.now) false) c.frozen-in_default-publish.ensures.is) ∙ none)) })).0 (ap (λ (s : Seated g.row.D.Denot g.row.P.Denot). s.number) c.seat.view_is ∙ c.requires.may.lane);
+      c.seat.invariant c.hold-kept.ensures c.show_all.ensures.seen.0 c.show_all.ensures.seen.1 c.in_default-publish.ensures.seen.1
+      (put_unshown g.D.Disk.Tells g.D.Disk.files g.P.Piece.Tells g.D.Disk.fault_count g.D.Disk.fuse_count c.args.tag c.hold-kept.result c.args.pair c.args.cookie c.args.bytes.now c.write.new.self c.in-Ok-write.written c.published-op.result c.in-Ok-write.ensures.of.0 c.in-Ok-write.ensures.of.2 c.in-Ok-write.ensures.written c.published-op.ensures.change (c.published-op.ensures.entered ∙ ap (λ (e : Entry). e ∷ []) c.in-Ok.ensures) c.in-Ok-write.ensures.same (record c.hold-kept.result { logical = c.give_up.new.self; front = c.publish.new.self }) refl refl refl (sym c.in_default.ensures.is) c.in-Ok-write.ensures.open c.in-Ok-write.ensures.counts
+      (ap (λ f. f.shown) c.in_default-publish.ensures.refused) (ap (λ f. f.log) c.in_default-publish.ensures.refused) c.in-Ok-write.ensures.still c.in-Ok-write.written.ends refl c.give_up.ensures.pending
+      c.give_up.ensures.same c.give_up.ensures.open c.give_up.ensures.counts (ap (λ v. v.frozen) c.give_up.ensures.still) c.act_made-made-in_default-publish.result (record { acts = λ m is. c.act_made-made-in_default-publish.ensures.did m ((c.pended-did.ensures ∙ ap (λ (e : Entry). pends_by c.frozen-in_default-publish.result e false) c.in-Ok.ensures ∙ ap (λ (f : Option ℕ). pends_by f (change.Put c.args.pair c.args.cookie c.args.bytes.now) false) c.frozen-in_default-publish.ensures.is) ∙ is); tries = λ none. subst (λ (l : List ℕ). IsTried g.D.Disk.fault_count g.D.Disk.fuse_count c.args.tag l c.give_up.new.self.replicas c.act_made-made-in_default-publish.result) c.faults_of-before.ensures (c.act_made-made-in_default-publish.ensures.tried ((c.pended-did.ensures ∙ ap (λ (e : Entry). pends_by c.frozen-in_default-publish.result e false) c.in-Ok.ensures ∙ ap (λ (f : Option ℕ). pends_by f (change.Put c.args.pair c.args.cookie c.args.bytes.now) false) c.frozen-in_default-publish.ensures.is) ∙ none)) })).0 (ap (λ (s : Seated g.row.D.Denot g.row.P.Denot). s.number) c.seat.view_is ∙ c.requires.may.lane);
 }
 
 pub invariant_of-seat-in_default-publish : goal.invariant_of-seat-in_default-publish
-invariant_of-seat-in_default-publish g c = 
+invariant_of-seat-in_default-publish g c =
     changed_seated g.D.Disk.Tells g.D.Disk.files g.P.Piece.Tells g.D.Disk.fault_count g.D.Disk.fuse_count c.args.tag c.seat.inside.turn c.hold-kept.new.seat c.seat.inside.view c.show_all.new.seat c.publish.new.seat c.hold-kept.result (record c.hold-kept.result { logical = c.give_up.new.self; front = c.publish.new.self }) c.act_made-made-in_default-publish.result
     c.seat.invariant c.hold-kept.ensures c.show_all.ensures.seen.0 c.show_all.ensures.seen.1 c.in_default-publish.ensures.seen.1
     (put_unshown g.D.Disk.Tells g.D.Disk.files g.P.Piece.Tells g.D.Disk.fault_count g.D.Disk.fuse_count c.args.tag c.hold-kept.result c.args.pair c.args.cookie c.args.bytes.now c.write.new.self c.in-Ok-write.written c.published-op.result c.in-Ok-write.ensures.of.0 c.in-Ok-write.ensures.of.2 c.in-Ok-write.ensures.written c.published-op.ensures.change (c.published-op.ensures.entered ∙ ap (λ (e : Entry). e ∷ []) c.in-Ok.ensures) c.in-Ok-write.ensures.same (record c.hold-kept.result { logical = c.give_up.new.self; front = c.publish.new.self }) refl refl refl (sym c.in_default.ensures.is) c.in-Ok-write.ensures.open c.in-Ok-write.ensures.counts
@@ -170,7 +170,7 @@ invariant_of-seat-in_default-publish g c =
     c.give_up.ensures.same c.give_up.ensures.open c.give_up.ensures.counts (ap (λ v. v.frozen) c.give_up.ensures.still) c.act_made-made-in_default-publish.result (record { acts = λ m is. c.act_made-made-in_default-publish.ensures.did m ((c.pended-did.ensures ∙ ap (λ (e : Entry). pends_by c.frozen-in_default-publish.result e false) c.in-Ok.ensures ∙ ap (λ (f : Option ℕ). pends_by f (change.Put c.args.pair c.args.cookie c.args.bytes.now) false) c.frozen-in_default-publish.ensures.is) ∙ is); tries = λ none. subst (λ (l : List ℕ). IsTried g.D.Disk.fault_count g.D.Disk.fuse_count c.args.tag l c.give_up.new.self.replicas c.act_made-made-in_default-publish.result) c.faults_of-before.ensures (c.act_made-made-in_default-publish.ensures.tried ((c.pended-did.ensures ∙ ap (λ (e : Entry). pends_by c.frozen-in_default-publish.result e false) c.in-Ok.ensures ∙ ap (λ (f : Option ℕ). pends_by f (change.Put c.args.pair c.args.cookie c.args.bytes.now) false) c.frozen-in_default-publish.ensures.is) ∙ none)) })).0 c.free-in_default-publish.new.seat c.free-in_default-publish.ensures (ap (λ (s : Seated g.row.D.Denot g.row.P.Denot). s.number) c.seat.view_is ∙ c.requires.may.lane) (later_same c.seat.inside.view c.hold-kept.result.front.shown c.publish.new.seat c.show_all.ensures.seen.0 (c.in_default-publish.ensures.seen.1 ∙ ap (λ f. f.shown) c.in_default-publish.ensures.refused))
 
 pub returns-in_default-publish-clause-put : goal.returns-in_default-publish-clause-put
-returns-in_default-publish-clause-put g c = 
+returns-in_default-publish-clause-put g c =
     subst (λ (s : Seated g.row.D.Denot g.row.P.Denot). IsTold g.D.Disk.Tells g.D.Disk.files g.P.Piece.Tells g.D.Disk.fault_count g.D.Disk.fuse_count s.start (λ volume. PutAnswer volume c.args.tag c.args.pair c.args.cookie c.args.bytes.now (Err NoMemory) s.sight (seat_of c.free-in_default-publish.new.seat c.publish.new.seat).sight)) c.seat.view_is
     (changed_told g.D.Disk.Tells g.D.Disk.files g.P.Piece.Tells g.D.Disk.fault_count g.D.Disk.fuse_count c.args.tag c.seat.inside.turn c.hold-kept.new.seat c.seat.inside.view c.show_all.new.seat c.publish.new.seat c.hold-kept.result (record c.hold-kept.result { logical = c.give_up.new.self; front = c.publish.new.self }) c.act_made-made-in_default-publish.result
     c.seat.invariant c.hold-kept.ensures c.show_all.ensures.seen.0 c.show_all.ensures.seen.1 c.in_default-publish.ensures.seen.1
@@ -182,7 +182,7 @@ returns-in_default-publish-clause-put g c =
     c.give_up.ensures.same c.give_up.ensures.open c.give_up.ensures.counts (ap (λ v. v.frozen) c.give_up.ensures.still) c.act_made-made-in_default-publish.result (record { acts = λ m is. c.act_made-made-in_default-publish.ensures.did m ((c.pended-did.ensures ∙ ap (λ (e : Entry). pends_by c.frozen-in_default-publish.result e false) c.in-Ok.ensures ∙ ap (λ (f : Option ℕ). pends_by f (change.Put c.args.pair c.args.cookie c.args.bytes.now) false) c.frozen-in_default-publish.ensures.is) ∙ is); tries = λ none. subst (λ (l : List ℕ). IsTried g.D.Disk.fault_count g.D.Disk.fuse_count c.args.tag l c.give_up.new.self.replicas c.act_made-made-in_default-publish.result) c.faults_of-before.ensures (c.act_made-made-in_default-publish.ensures.tried ((c.pended-did.ensures ∙ ap (λ (e : Entry). pends_by c.frozen-in_default-publish.result e false) c.in-Ok.ensures ∙ ap (λ (f : Option ℕ). pends_by f (change.Put c.args.pair c.args.cookie c.args.bytes.now) false) c.frozen-in_default-publish.ensures.is) ∙ none)) })).1)
 
 pub returns-in_default-publish-clause-held : goal.returns-in_default-publish-clause-held
-returns-in_default-publish-clause-held g c = 
+returns-in_default-publish-clause-held g c =
     subst (λ (s : Seated g.row.D.Denot g.row.P.Denot). OneHolding c.args.tag s.sight (seat_of c.free-in_default-publish.new.seat c.publish.new.seat).sight) c.seat.view_is
     (changed_held g.D.Disk.Tells g.D.Disk.files g.P.Piece.Tells g.D.Disk.fault_count g.D.Disk.fuse_count c.args.tag c.seat.inside.turn c.hold-kept.new.seat c.seat.inside.view c.show_all.new.seat c.publish.new.seat c.hold-kept.result (record c.hold-kept.result { logical = c.give_up.new.self; front = c.publish.new.self }) c.act_made-made-in_default-publish.result
     c.seat.invariant c.hold-kept.ensures c.show_all.ensures.seen.0 c.show_all.ensures.seen.1 c.in_default-publish.ensures.seen.1
@@ -193,24 +193,24 @@ returns-in_default-publish-clause-held g c =
 pub free-requires-2-clause-may : goal.free-requires-2-clause-may
 free-requires-2-clause-may g c = record {
   stands_for = changed_free g.D.Disk.Tells g.D.Disk.files g.P.Piece.Tells g.D.Disk.fault_count g.D.Disk.fuse_count c.args.tag c.seat.inside.turn c.hold-kept.new.seat c.seat.inside.view c.show_all.new.seat c.publish.new.seat c.hold-kept.result (record c.hold-kept.result { logical = c.show-position.new.self; front = c.publish.new.self }) (Some c.new-act.result)
-    c.seat.invariant c.hold-kept.ensures c.show_all.ensures.seen.0 c.show_all.ensures.seen.1 c.in-Ok-publish.ensures.seen.1
-    (put_shown g.D.Disk.Tells g.D.Disk.files g.P.Piece.Tells g.D.Disk.fault_count g.D.Disk.fuse_count c.args.tag c.hold-kept.result c.args.pair c.args.cookie c.args.bytes.now c.write.new.self c.in-Ok-write.written c.published-op.result c.in-Ok-write.ensures.of.0 c.in-Ok-write.ensures.of.2 c.in-Ok-write.ensures.written c.published-op.ensures.change (c.published-op.ensures.entered ∙ ap (λ (e : Entry). e ∷ []) c.in-Ok.ensures) c.in-Ok-write.ensures.same (record c.hold-kept.result { logical = c.show-position.new.self; front = c.publish.new.self }) refl refl refl (sym c.in_default.ensures.is) c.in-Ok-write.ensures.open c.in-Ok-write.ensures.counts
-    c.show-position.result (record { tag = c.front_tag.result; deed = c.published-op.result }) c.front_tag.ensures c.in-Ok-publish.ensures.done.0 c.in-Ok-write.ensures.still c.show-position.ensures.rows c.show-position.ensures.still c.show-position.ensures.put c.new-act.result (c.new-act.ensures ∙ ap (λ (e : Entry). act_of g.D.Disk.fault_count g.D.Disk.fuse_count c.args.tag (made_is.Enters e c.new.result) c.show-position.new.self.replicas) (c.of.ensures ∙ c.in-Ok.ensures) ∙ ap (λ (l : List Bool). act_of g.D.Disk.fault_count g.D.Disk.fuse_count c.args.tag (made_is.Enters (change.Put c.args.pair c.args.cookie c.args.bytes.now) l) c.show-position.new.self.replicas) c.new.ensures)).0;
+      c.seat.invariant c.hold-kept.ensures c.show_all.ensures.seen.0 c.show_all.ensures.seen.1 c.in-Ok-publish.ensures.seen.1
+      (put_shown g.D.Disk.Tells g.D.Disk.files g.P.Piece.Tells g.D.Disk.fault_count g.D.Disk.fuse_count c.args.tag c.hold-kept.result c.args.pair c.args.cookie c.args.bytes.now c.write.new.self c.in-Ok-write.written c.published-op.result c.in-Ok-write.ensures.of.0 c.in-Ok-write.ensures.of.2 c.in-Ok-write.ensures.written c.published-op.ensures.change (c.published-op.ensures.entered ∙ ap (λ (e : Entry). e ∷ []) c.in-Ok.ensures) c.in-Ok-write.ensures.same (record c.hold-kept.result { logical = c.show-position.new.self; front = c.publish.new.self }) refl refl refl (sym c.in_default.ensures.is) c.in-Ok-write.ensures.open c.in-Ok-write.ensures.counts
+      c.show-position.result (record { tag = c.front_tag.result; deed = c.published-op.result }) c.front_tag.ensures c.in-Ok-publish.ensures.done.0 c.in-Ok-write.ensures.still c.show-position.ensures.rows c.show-position.ensures.still c.show-position.ensures.put c.new-act.result (c.new-act.ensures ∙ ap (λ (e : Entry). act_of g.D.Disk.fault_count g.D.Disk.fuse_count c.args.tag (made_is.Enters e c.new.result) c.show-position.new.self.replicas) (c.of.ensures ∙ c.in-Ok.ensures) ∙ ap (λ (l : List Bool). act_of g.D.Disk.fault_count g.D.Disk.fuse_count c.args.tag (made_is.Enters (change.Put c.args.pair c.args.cookie c.args.bytes.now) l) c.show-position.new.self.replicas) c.new.ensures)).0;
   mine = changed_mine g.D.Disk.Tells g.D.Disk.files g.P.Piece.Tells g.D.Disk.fault_count g.D.Disk.fuse_count c.args.tag c.seat.inside.turn c.hold-kept.new.seat c.seat.inside.view c.show_all.new.seat c.publish.new.seat c.hold-kept.result (record c.hold-kept.result { logical = c.show-position.new.self; front = c.publish.new.self }) (Some c.new-act.result)
-    c.seat.invariant c.hold-kept.ensures c.show_all.ensures.seen.0 c.show_all.ensures.seen.1 c.in-Ok-publish.ensures.seen.1
-    (put_shown g.D.Disk.Tells g.D.Disk.files g.P.Piece.Tells g.D.Disk.fault_count g.D.Disk.fuse_count c.args.tag c.hold-kept.result c.args.pair c.args.cookie c.args.bytes.now c.write.new.self c.in-Ok-write.written c.published-op.result c.in-Ok-write.ensures.of.0 c.in-Ok-write.ensures.of.2 c.in-Ok-write.ensures.written c.published-op.ensures.change (c.published-op.ensures.entered ∙ ap (λ (e : Entry). e ∷ []) c.in-Ok.ensures) c.in-Ok-write.ensures.same (record c.hold-kept.result { logical = c.show-position.new.self; front = c.publish.new.self }) refl refl refl (sym c.in_default.ensures.is) c.in-Ok-write.ensures.open c.in-Ok-write.ensures.counts
-    c.show-position.result (record { tag = c.front_tag.result; deed = c.published-op.result }) c.front_tag.ensures c.in-Ok-publish.ensures.done.0 c.in-Ok-write.ensures.still c.show-position.ensures.rows c.show-position.ensures.still c.show-position.ensures.put c.new-act.result (c.new-act.ensures ∙ ap (λ (e : Entry). act_of g.D.Disk.fault_count g.D.Disk.fuse_count c.args.tag (made_is.Enters e c.new.result) c.show-position.new.self.replicas) (c.of.ensures ∙ c.in-Ok.ensures) ∙ ap (λ (l : List Bool). act_of g.D.Disk.fault_count g.D.Disk.fuse_count c.args.tag (made_is.Enters (change.Put c.args.pair c.args.cookie c.args.bytes.now) l) c.show-position.new.self.replicas) c.new.ensures)).0 (ap (λ (s : Seated g.row.D.Denot g.row.P.Denot). s.number) c.seat.view_is ∙ c.requires.may.lane);
+      c.seat.invariant c.hold-kept.ensures c.show_all.ensures.seen.0 c.show_all.ensures.seen.1 c.in-Ok-publish.ensures.seen.1
+      (put_shown g.D.Disk.Tells g.D.Disk.files g.P.Piece.Tells g.D.Disk.fault_count g.D.Disk.fuse_count c.args.tag c.hold-kept.result c.args.pair c.args.cookie c.args.bytes.now c.write.new.self c.in-Ok-write.written c.published-op.result c.in-Ok-write.ensures.of.0 c.in-Ok-write.ensures.of.2 c.in-Ok-write.ensures.written c.published-op.ensures.change (c.published-op.ensures.entered ∙ ap (λ (e : Entry). e ∷ []) c.in-Ok.ensures) c.in-Ok-write.ensures.same (record c.hold-kept.result { logical = c.show-position.new.self; front = c.publish.new.self }) refl refl refl (sym c.in_default.ensures.is) c.in-Ok-write.ensures.open c.in-Ok-write.ensures.counts
+      c.show-position.result (record { tag = c.front_tag.result; deed = c.published-op.result }) c.front_tag.ensures c.in-Ok-publish.ensures.done.0 c.in-Ok-write.ensures.still c.show-position.ensures.rows c.show-position.ensures.still c.show-position.ensures.put c.new-act.result (c.new-act.ensures ∙ ap (λ (e : Entry). act_of g.D.Disk.fault_count g.D.Disk.fuse_count c.args.tag (made_is.Enters e c.new.result) c.show-position.new.self.replicas) (c.of.ensures ∙ c.in-Ok.ensures) ∙ ap (λ (l : List Bool). act_of g.D.Disk.fault_count g.D.Disk.fuse_count c.args.tag (made_is.Enters (change.Put c.args.pair c.args.cookie c.args.bytes.now) l) c.show-position.new.self.replicas) c.new.ensures)).0 (ap (λ (s : Seated g.row.D.Denot g.row.P.Denot). s.number) c.seat.view_is ∙ c.requires.may.lane);
 }
 
 pub invariant_of-seat-2 : goal.invariant_of-seat-2
-invariant_of-seat-2 g c = 
+invariant_of-seat-2 g c =
     changed_seated g.D.Disk.Tells g.D.Disk.files g.P.Piece.Tells g.D.Disk.fault_count g.D.Disk.fuse_count c.args.tag c.seat.inside.turn c.hold-kept.new.seat c.seat.inside.view c.show_all.new.seat c.publish.new.seat c.hold-kept.result (record c.hold-kept.result { logical = c.show-position.new.self; front = c.publish.new.self }) (Some c.new-act.result)
     c.seat.invariant c.hold-kept.ensures c.show_all.ensures.seen.0 c.show_all.ensures.seen.1 c.in-Ok-publish.ensures.seen.1
     (put_shown g.D.Disk.Tells g.D.Disk.files g.P.Piece.Tells g.D.Disk.fault_count g.D.Disk.fuse_count c.args.tag c.hold-kept.result c.args.pair c.args.cookie c.args.bytes.now c.write.new.self c.in-Ok-write.written c.published-op.result c.in-Ok-write.ensures.of.0 c.in-Ok-write.ensures.of.2 c.in-Ok-write.ensures.written c.published-op.ensures.change (c.published-op.ensures.entered ∙ ap (λ (e : Entry). e ∷ []) c.in-Ok.ensures) c.in-Ok-write.ensures.same (record c.hold-kept.result { logical = c.show-position.new.self; front = c.publish.new.self }) refl refl refl (sym c.in_default.ensures.is) c.in-Ok-write.ensures.open c.in-Ok-write.ensures.counts
     c.show-position.result (record { tag = c.front_tag.result; deed = c.published-op.result }) c.front_tag.ensures c.in-Ok-publish.ensures.done.0 c.in-Ok-write.ensures.still c.show-position.ensures.rows c.show-position.ensures.still c.show-position.ensures.put c.new-act.result (c.new-act.ensures ∙ ap (λ (e : Entry). act_of g.D.Disk.fault_count g.D.Disk.fuse_count c.args.tag (made_is.Enters e c.new.result) c.show-position.new.self.replicas) (c.of.ensures ∙ c.in-Ok.ensures) ∙ ap (λ (l : List Bool). act_of g.D.Disk.fault_count g.D.Disk.fuse_count c.args.tag (made_is.Enters (change.Put c.args.pair c.args.cookie c.args.bytes.now) l) c.show-position.new.self.replicas) c.new.ensures)).0 c.free-2.new.seat c.free-2.ensures (ap (λ (s : Seated g.row.D.Denot g.row.P.Denot). s.number) c.seat.view_is ∙ c.requires.may.lane) (later_deed c.seat.inside.view c.hold-kept.result.front.shown c.publish.new.seat c.published-op.result c.show_all.ensures.seen.0 (c.in-Ok-publish.ensures.seen.1 ∙ ap (λ f. f.shown) c.in-Ok-publish.ensures.done.0))
 
 pub returns-clause-put : goal.returns-clause-put
-returns-clause-put g c = 
+returns-clause-put g c =
     subst (λ (s : Seated g.row.D.Denot g.row.P.Denot). IsTold g.D.Disk.Tells g.D.Disk.files g.P.Piece.Tells g.D.Disk.fault_count g.D.Disk.fuse_count s.start (λ volume. PutAnswer volume c.args.tag c.args.pair c.args.cookie c.args.bytes.now (Ok c.show-position.result) s.sight (seat_of c.free-2.new.seat c.publish.new.seat).sight)) c.seat.view_is
     (changed_told g.D.Disk.Tells g.D.Disk.files g.P.Piece.Tells g.D.Disk.fault_count g.D.Disk.fuse_count c.args.tag c.seat.inside.turn c.hold-kept.new.seat c.seat.inside.view c.show_all.new.seat c.publish.new.seat c.hold-kept.result (record c.hold-kept.result { logical = c.show-position.new.self; front = c.publish.new.self }) (Some c.new-act.result)
     c.seat.invariant c.hold-kept.ensures c.show_all.ensures.seen.0 c.show_all.ensures.seen.1 c.in-Ok-publish.ensures.seen.1
@@ -220,7 +220,7 @@ returns-clause-put g c =
     c.show-position.result (record { tag = c.front_tag.result; deed = c.published-op.result }) c.front_tag.ensures c.in-Ok-publish.ensures.done.0 c.in-Ok-write.ensures.still c.show-position.ensures.rows c.show-position.ensures.still c.show-position.ensures.put c.new-act.result (c.new-act.ensures ∙ ap (λ (e : Entry). act_of g.D.Disk.fault_count g.D.Disk.fuse_count c.args.tag (made_is.Enters e c.new.result) c.show-position.new.self.replicas) (c.of.ensures ∙ c.in-Ok.ensures) ∙ ap (λ (l : List Bool). act_of g.D.Disk.fault_count g.D.Disk.fuse_count c.args.tag (made_is.Enters (change.Put c.args.pair c.args.cookie c.args.bytes.now) l) c.show-position.new.self.replicas) c.new.ensures)).1)
 
 pub returns-clause-held : goal.returns-clause-held
-returns-clause-held g c = 
+returns-clause-held g c =
     subst (λ (s : Seated g.row.D.Denot g.row.P.Denot). OneHolding c.args.tag s.sight (seat_of c.free-2.new.seat c.publish.new.seat).sight) c.seat.view_is
     (changed_held g.D.Disk.Tells g.D.Disk.files g.P.Piece.Tells g.D.Disk.fault_count g.D.Disk.fuse_count c.args.tag c.seat.inside.turn c.hold-kept.new.seat c.seat.inside.view c.show_all.new.seat c.publish.new.seat c.hold-kept.result (record c.hold-kept.result { logical = c.show-position.new.self; front = c.publish.new.self }) (Some c.new-act.result)
     c.seat.invariant c.hold-kept.ensures c.show_all.ensures.seen.0 c.show_all.ensures.seen.1 c.in-Ok-publish.ensures.seen.1
