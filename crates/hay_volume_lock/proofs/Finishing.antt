@@ -24,7 +24,8 @@ use Rattle.hay_holdings.specs.Volumes.{FailedAct, HasRunOf}
 use Rattle.hay_volume_lock.specs.Acts.{act_of}
 use Rattle.hay_volume_lock.specs.Answers.{Found, FoundAlways, IsAt, StoreVolume}
 use Rattle.hay_volume_lock.specs.Compactions.{FailedHere, MayGoOn, Unswapped, unswapped_made}
-use Rattle.hay_volume_lock.specs.Keeping.{GoesOn, IsKept, ended_at, stood_of}
+use Rattle.hay_volume_lock.specs.Ended.{ended_at}
+use Rattle.hay_volume_lock.specs.Keeping.{GoesOn, IsKept, stood_of}
 use Rattle.hay_volume_lock.specs.declared.act.Made.{Made}
 use Rattle.hay_volume_lock.specs.declared.act.Made.TheVariants as made_is
 use Rattle.hay_volume_lock.specs.declared.guarded.Guarded.{Guarded}

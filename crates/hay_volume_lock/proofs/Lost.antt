@@ -25,7 +25,8 @@ use Rattle.hay_holdings.specs.Holdings.{Holding}
 use Rattle.hay_holdings.specs.Volumes.{HasRunOf, RunDeleted, RunFrozen}
 use Rattle.hay_volume_lock.specs.Answers.{Found, IsAt, Never, StoreVolume}
 use Rattle.hay_volume_lock.specs.Compactions.{IsOwnSight, OfOwn}
-use Rattle.hay_volume_lock.specs.Keeping.{IsKept, ended_at, ended_of, standing_of, stood_of}
+use Rattle.hay_volume_lock.specs.Ended.{ended_at}
+use Rattle.hay_volume_lock.specs.Keeping.{IsKept, ended_of, standing_of, stood_of}
 use Rattle.hay_volume_lock.specs.declared.guarded.Guarded.{Guarded}
 use Rattle.hay_volume_lock.specs.declared.guarded.Opened.{Opened}
 use Rattle.hay_volume_lock.proofs.Holding.{stood_is}

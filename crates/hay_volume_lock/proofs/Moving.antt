@@ -39,7 +39,8 @@ use Rattle.hay_physical.specs.Copies.{Copy}
 use Rattle.hay_views.specs.declared.places.Published.{Published}
 use Rattle.hay_views.specs.MapPasts.{Enters, begun_at, entered_by, is_entry, row_of, with_published}
 use Rattle.hay_volume_lock.specs.Acts.{act_of}
-use Rattle.hay_volume_lock.specs.Keeping.{IsKept, ended_at, published_row, standing_of, stood_of}
+use Rattle.hay_volume_lock.specs.Ended.{ended_at}
+use Rattle.hay_volume_lock.specs.Keeping.{IsKept, published_row, standing_of, stood_of}
 use Rattle.hay_volume_lock.specs.Rows.{PlaceTells, RowsTell}
 use Rattle.hay_volume_lock.specs.Compactions.{MayGoOn}
 use Rattle.hay_volume_lock.specs.declared.act.Made.TheVariants as made_is

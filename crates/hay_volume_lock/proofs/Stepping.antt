@@ -26,7 +26,8 @@ use Rattle.hay_volume_lock.specs.Acts.{act_of, did_by}
 use Rattle.hay_volume_lock.specs.Answers.{Found, FoundAlways, IsAt, StoreVolume}
 use Rattle.hay_volume_lock.specs.Compactions.{FailedHere, IsBarred, MayGoOn, OfLane, StepAnswer, StepHalted, StepStops, halted_made, step_made, stopped_made}
 use Rattle.hay_volume_lock.specs.Compactions as steps
-use Rattle.hay_volume_lock.specs.Keeping.{GoesOn, IsKept, ended_at, stood_of}
+use Rattle.hay_volume_lock.specs.Ended.{ended_at}
+use Rattle.hay_volume_lock.specs.Keeping.{GoesOn, IsKept, stood_of}
 use Rattle.hay_volume_lock.specs.declared.act.Made.{Made}
 use Rattle.hay_volume_lock.specs.declared.act.Made.TheVariants as made_is
 use Rattle.hay_volume_lock.specs.declared.compactions.Examined.{Examined}
