@@ -7,14 +7,11 @@ use Rattle.hay_core.specs.Entries.{apply_entry}
 use Rattle.hay_disk.specs.Disk.{Files}
 use Rattle.hay_front.specs.Entries.{LogEntry}
 use Rattle.hay_front.specs.Fronts.{Holds, MayPublish, logged, with_deed}
-use Rattle.hay_legal.specs.declared.known.ReplicaKnown.{ReplicaKnown}
 use Rattle.hay_legal.specs.declared.known.VolumeKnown.{VolumeKnown}
 use Rattle.hay_legal.specs.Known.{at_front, machine_of, now, replica_at}
 use Rattle.hay_legal.specs.Plain.{first_machine, frozen_by, swapped}
 use Rattle.hay_legal.proofs.Subject.Effects.{replica_same}
-use Rattle.hay_history.specs.Steps.{Standing}
-use Rattle.hay_history.specs.Steps.Did.{Swaps, Tries}
-use Rattle.hay_logical.specs.Answers.{HasSizes, IsFinished, change_at}
+use Rattle.hay_logical.specs.Answers.{change_at}
 use Rattle.hay_logical.specs.Fits.{At, PlaceStands}
 use Rattle.hay_logical.specs.Stands.{Stands}
 use Rattle.hay_logical.specs.Volumes.{IsOpenVolume, IsSame, KeepsCounts, Volume}
@@ -28,7 +25,7 @@ use Rattle.hay_map.specs.declared.view.OpenCell.{OpenCell}
 use Rattle.hay_map.specs.declared.place.Place.{Place}
 use Rattle.hay_map.specs.declared.place.Place.TheVariants as place
 use Rattle.hay_meeting.specs.declared.act.VolumeAct.{VolumeAct}
-use Rattle.hay_meeting.specs.Acts.{begun_of, did_of, nobody, volume_lock}
+use Rattle.hay_meeting.specs.Acts.{nobody, volume_lock}
 use Rattle.hay_meeting.specs.Locks.{entries}
 use Rattle.hay_meeting.proofs.Standings.{table_behind}
 use Rattle.hay_needle.specs.declared.needle.Outcome.{Outcome}
@@ -42,12 +39,11 @@ use Rattle.hay_volume_lock.specs.Acts.{act_of}
 use Rattle.hay_volume_lock.specs.Ended.{ended_at}
 use Rattle.hay_volume_lock.specs.Keeping.{IsKept, published_row, standing_of, stood_of}
 use Rattle.hay_volume_lock.specs.Rows.{PlaceTells, RowsTell}
-use Rattle.hay_volume_lock.specs.Compactions.{MayGoOn}
 use Rattle.hay_volume_lock.specs.declared.act.Made.TheVariants as made_is
 use Rattle.hay_volume_lock.specs.declared.guarded.Guarded.{Guarded}
 use Rattle.hay_volume_lock.specs.declared.guarded.Opened.{Opened}
-use Rattle.hay_volume_lock.proofs.Published.{Fact, entered_more, fact_first, may_publish, row_more}
-use Rattle.hay_volume_lock.proofs.Publishing.{Changes, IsOfBoth, Serves, Shows, changes_acted, fuses_stay, serves_deed, serves_frozen, shows_deed, shows_nothing}
+use Rattle.hay_volume_lock.proofs.Published.{Fact, entered_more, may_publish, row_more}
+use Rattle.hay_volume_lock.proofs.Publishing.{Changes, IsOfBoth, changes_acted, fuses_stay, serves_deed, serves_frozen, shows_deed, shows_nothing}
 use Rattle.hay_volume_lock.proofs.Growing.{EndsRuns, FusesStay}
 use Rattle.hay_volume_lock.proofs.Putting.{both_again}
 use Rattle.hay_volume_lock.proofs.Swapping.{IsSwap, froze_leads, swap_leads}
@@ -153,11 +149,11 @@ module _ {D P : Type 0} (Tells : Type 0) (files : D → Files) (PieceTells : Typ
         (shows_deed tag old new deed None entered_is shown_is
         (ap (λ f. map (λ e. e.tag) f.log) front ∙ ap (λ (b : Bool). map (λ e. e.tag) (logged b (old.front).log item)) (ap is_entry change_is) ∙ sym (append-nil (map (λ e. e.tag) (old.front).log))))
         (λ opened same_as. serves_deed tag old new deed opened (ap (λ f. f.closed) front) shown_is (λ still. thawed)
-            (subst (λ (change : MapOp P). FitsRows ((opened.volume).settings).replicas change) (sym change_is) (subst (λ (z : Settings). j < z.replicas) same_as within))
-            (λ pair. ap (λ (v : Volume D P). row_at v.rows pair) is_mid ∙ rows.rows pair ∙ ap (λ (change : MapOp P). changed_row change pair (row_at (old.logical).rows pair)) (sym change_is)))
+        (subst (λ (change : MapOp P). FitsRows ((opened.volume).settings).replicas change) (sym change_is) (subst (λ (z : Settings). j < z.replicas) same_as within))
+        (λ pair. ap (λ (v : Volume D P). row_at v.rows pair) is_mid ∙ rows.rows pair ∙ ap (λ (change : MapOp P). changed_row change pair (row_at (old.logical).rows pair)) (sym change_is)))
         (fuses_stay Tells files PieceTells faults fuses tag old new both.count stay)
         (λ tells before s. swap_leads Tells files PieceTells faults fuses tag old j g end count within new before
-            (subst (λ (v : Volume D P). IsSwap files PieceTells before.volume j g end count v) (sym is_mid) (swap tells before.volume s)))
+        (subst (λ (v : Volume D P). IsSwap files PieceTells before.volume j g end count v) (sym is_mid) (swap tells before.volume s)))
         with_begun (ends None) act is
       where
         both : IsOfBoth faults old new
@@ -184,6 +180,6 @@ module _ {D P : Type 0} (Tells : Type 0) (files : D → Files) (PieceTells : Typ
           (λ opened same_as. serves_frozen tag old new opened m (frozen ∙ ap Some first_same))
           (fuses_stay Tells files PieceTells faults fuses tag old new (both.0).count both.1)
           (λ tells before s. let w = swap tells before.volume s in froze_leads Tells files PieceTells faults fuses tag old j g end count within mid new before w
-              (subst (λ (n : ℕ). Stands files PieceTells new.logical (frozen_by n (change_at before.volume j (swapped end count)))) first_same
-              (froze tells (change_at before.volume j (swapped end count)) w.stands w.thawed)))
+          (subst (λ (n : ℕ). Stands files PieceTells new.logical (frozen_by n (change_at before.volume j (swapped end count)))) first_same
+          (froze tells (change_at before.volume j (swapped end count)) w.stands w.thawed)))
           with_begun (ends (Some m)) act is

@@ -1,29 +1,28 @@
 -- What a holding leaves that changes the volume and what is published of it, and what it tells of its lane.
 use Rattle.std.proofs.Common.{◌≡◌, ℕ, ◌<◌, ◌≤◌, Bool, true, false, List, [], ◌∷◌, ◌++◌, length, Option, Some, None, refl, sym, ap, subst, ◌∙◌, append_assoc, append-nil, arith}
-use Rattle.std.specs.Prelude.{slice_index_or, map, fold}
+use Rattle.std.specs.Prelude.{slice_index_or, map}
 use Rattle.std.specs.List.{AllByRecursion as Each}
-use Rattle.std.proofs.lemmas.List.{length-map, map-append}
-use mathlib.Core.List.{IsPrefix}
+use Rattle.std.proofs.lemmas.List.{length-map}
 use Rattle.hay_core.specs.declared.entry.CoreTag.{CoreTag}
 use Rattle.hay_core.specs.declared.entry.Entry.{Entry}
 use Rattle.hay_disk.specs.Disk.{Files}
 use Rattle.hay_front.specs.declared.front.Tag.{Tag}
 use Rattle.hay_front.specs.Entries.{LogEntry}
-use Rattle.hay_front.specs.Fronts.{FrontState, IsBehind, Witness, with_deed}
+use Rattle.hay_front.specs.Fronts.{IsBehind, Witness, with_deed}
 use Rattle.hay_legal.specs.declared.known.Run.{Run}
 use Rattle.hay_legal.specs.declared.known.VolumeKnown.{VolumeKnown}
-use Rattle.hay_history.specs.Steps.{Follows, HasRun, Leads, NoneFall, Standing}
+use Rattle.hay_history.specs.Steps.{HasRun, Leads, NoneFall, Standing}
 use Rattle.hay_history.specs.Histories.{begun_in}
 use Rattle.hay_holdings.specs.Holdings.{Holding}
 use Rattle.hay_holdings.specs.Volumes.{VolumeCall}
 use Rattle.hay_logical.specs.Fits.{At}
 use Rattle.hay_logical.specs.Stands.{Stands}
 use Rattle.hay_logical.specs.Volumes.{IsOpenVolume, IsSame, Volume}
-use Rattle.hay_map.specs.Rows.{ChangesRows, FitsRows, changed_row, row_at}
+use Rattle.hay_map.specs.Rows.{FitsRows, changed_row, row_at}
 use Rattle.hay_map.specs.declared.place.Place.{Place}
 use Rattle.hay_meeting.specs.declared.act.VolumeAct.{VolumeAct}
 use Rattle.hay_meeting.specs.Acts.{IsSized, begun_of, did_of, entry_of, known_by, left_by, nobody, volume_lock}
-use Rattle.hay_meeting.specs.Locks.{Doing, add_shown, entries, past}
+use Rattle.hay_meeting.specs.Locks.{add_shown}
 use Rattle.hay_meeting.proofs.Replays.{entries_append, left_append}
 use Rattle.hay_needle.specs.declared.needle.Pair.{Pair}
 use Rattle.hay_needle.specs.declared.settings.Settings.{Settings}
@@ -36,7 +35,7 @@ use Rattle.hay_views.specs.MapPasts.{MapPast, begun_at, entered_by}
 use Rattle.hay_volume_lock.specs.Acts.{act_of, counts, did_by}
 use Rattle.hay_volume_lock.specs.Answers.{Found, FoundAlways, IsAlways, IsTold, OneHolding, StoreVolume}
 use Rattle.hay_volume_lock.specs.Ended.{ended_at}
-use Rattle.hay_volume_lock.specs.Keeping.{EndsOwn, IsKept, IsOpened, add_tag, count_at, ended_in, ended_of, ends_at, published_row, standing_of, stood_of, tag_of, tags_of}
+use Rattle.hay_volume_lock.specs.Keeping.{EndsOwn, IsKept, IsOpened, add_tag, count_at, ended_in, ends_at, published_row, standing_of, stood_of, tag_of}
 use Rattle.hay_volume_lock.specs.Seats.{IsSameSeat, IsSeated}
 use Rattle.hay_volume_lock.specs.Tries.{IsTried}
 use Rattle.hay_volume_lock.specs.declared.act.Made.{Made}

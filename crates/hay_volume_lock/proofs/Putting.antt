@@ -1,5 +1,5 @@
 -- What a put leaves and tells.
-use Rattle.std.proofs.Common.{◌≡◌, ◌⊎◌, inl, inr, ℕ, ◌+◌, ◌<◌, ◌≤◌, Bool, true, false, List, [], ◌∷◌, ◌++◌, length, Option, Some, None, refl, sym, ap, subst, ◌∙◌, arith}
+use Rattle.std.proofs.Common.{◌≡◌, inl, inr, ℕ, ◌+◌, ◌<◌, Bool, true, false, List, [], ◌∷◌, ◌++◌, length, Option, Some, None, refl, sym, ap, subst, ◌∙◌, arith}
 use Rattle.std.specs.Prelude.{Result, Ok, Err, map, slice_index_or}
 use Rattle.std.proofs.lemmas.List.{map-append}
 use Rattle.hay_core.specs.declared.entry.CoreTag.{CoreTag}
@@ -15,7 +15,7 @@ use Rattle.hay_front.specs.Fronts.{Holds, MayPublish, logged, with_deed}
 use Rattle.hay_legal.specs.Plain.{frozen_with, grown}
 use Rattle.hay_history.specs.Steps.{Standing}
 use Rattle.hay_history.specs.Steps.Did.{Pends}
-use Rattle.hay_holdings.specs.Volumes.{FailedAct, FailedOn, MadeNothing, Takes}
+use Rattle.hay_holdings.specs.Volumes.{FailedOn, MadeNothing, Takes}
 use Rattle.hay_logical.specs.Answers as logical
 use Rattle.hay_logical.specs.declared.fault.LogicalFault.{LogicalFault}
 use Rattle.hay_logical.specs.declared.fault.LogicalFault.TheVariants.{Busy, Damaged, Failed, Full, Gone, Idle, NoMemory, ReadOnly, Worn}
@@ -42,7 +42,7 @@ use Rattle.hay_physical.specs.Copies.{Copy}
 use Rattle.hay_reply.specs.declared.Refused.TheVariants.{NoRoom}
 use Rattle.hay_views.specs.declared.places.Published.{Published}
 use Rattle.hay_views.specs.MapPasts.{Enters, begun_at, is_entry}
-use Rattle.hay_volume_lock.specs.Acts.{act_of, counts, did_by}
+use Rattle.hay_volume_lock.specs.Acts.{act_of, counts}
 use Rattle.hay_volume_lock.specs.Answers.{Found, FoundAlways, IsAt, StoreVolume}
 use Rattle.hay_volume_lock.specs.Changes.{DiskFailed, PutAnswer, PutRefused, pends_by, put_made}
 use Rattle.hay_volume_lock.specs.Keeping.{GoesOn, IsKept, stood_of}
@@ -52,7 +52,7 @@ use Rattle.hay_volume_lock.specs.declared.act.Made.TheVariants as made_is
 use Rattle.hay_volume_lock.specs.declared.guarded.Guarded.{Guarded}
 use Rattle.hay_volume_lock.specs.declared.guarded.Opened.{Opened}
 use Rattle.hay_volume_lock.proofs.Counting.{count_there}
-use Rattle.hay_volume_lock.proofs.Growing.{FusesStay, IsOfOne, LeadsTo, ends_none, goes_more, goes_tried, no_fuse}
+use Rattle.hay_volume_lock.proofs.Growing.{FusesStay, IsOfOne, ends_none, goes_more, goes_tried, no_fuse}
 use Rattle.hay_volume_lock.proofs.Holding.{stood_is}
 use Rattle.hay_volume_lock.proofs.Published.{Fact, fact_first, may_publish, put_tells}
 use Rattle.hay_volume_lock.proofs.Publishing.{Changes, IsOfBoth, Serves, Shows, changes_acted, fuses_stay, serves_deed, serves_frozen, shows_deed, shows_nothing}

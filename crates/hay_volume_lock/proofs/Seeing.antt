@@ -1,6 +1,6 @@
 -- What a holding leaves that sees places, and what it tells.
-use Rattle.std.proofs.Common.{◌≡◌, ◌⊎◌, inl, inr, ℕ, ◌+◌, ◌<◌, ◌≤◌, Bool, true, false, List, [], ◌∷◌, ◌++◌, length, Option, Some, None, refl, sym, ap, subst, ◌∙◌, append-nil, arith}
-use Rattle.std.specs.Prelude.{fold, map, Ok, Err, slice_index_or, slice_set}
+use Rattle.std.proofs.Common.{◌≡◌, inl, inr, ℕ, ◌+◌, ◌<◌, true, false, List, [], ◌++◌, length, Option, Some, None, refl, sym, ap, subst, ◌∙◌, append-nil, arith}
+use Rattle.std.specs.Prelude.{fold, map, Ok, slice_index_or, slice_set}
 use Rattle.std.proofs.lemmas.Bool.{cond-true}
 use Rattle.hay_core.specs.declared.entry.CoreTag.{CoreTag}
 use Rattle.hay_core.specs.declared.entry.Entry.{Entry}
@@ -13,9 +13,8 @@ use Rattle.hay_front.specs.declared.front.Tag.{Tag}
 use Rattle.hay_legal.specs.declared.known.VolumeKnown.{VolumeKnown}
 use Rattle.hay_legal.specs.Known.{machine_of, now, replica_at}
 use Rattle.hay_legal.specs.Plain.{frozen_by}
-use Rattle.hay_history.specs.Steps.{Follows, Standing}
+use Rattle.hay_history.specs.Steps.{Standing}
 use Rattle.hay_history.specs.Steps.Did.{Freezes}
-use Rattle.hay_holdings.specs.Holdings.{Holding}
 use Rattle.hay_holdings.specs.Volumes.{MadeNothing}
 use Rattle.hay_logical.specs.Answers as logical
 use Rattle.hay_logical.specs.declared.fault.LogicalFault.{LogicalFault}
@@ -33,10 +32,8 @@ use Rattle.hay_map.specs.declared.place.Place.{Place}
 use Rattle.hay_map.specs.declared.place.Place.TheVariants as place
 use Rattle.hay_map.specs.declared.view.MapOp.TheVariants as op
 use Rattle.hay_meeting.specs.declared.act.VolumeAct.{VolumeAct}
-use Rattle.hay_meeting.specs.Acts.{did_of, entry_of, nobody, volume_lock}
-use Rattle.hay_meeting.specs.Facts.{front_shown, table_shown}
-use Rattle.hay_meeting.specs.Locks.{LockSight, add_shown, entries, replayed}
-use Rattle.hay_meeting.specs.Sights.{stood}
+use Rattle.hay_meeting.specs.Acts.{entry_of, nobody, volume_lock}
+use Rattle.hay_meeting.specs.Locks.{add_shown, entries}
 use Rattle.hay_meeting.proofs.Replays.{entries_append}
 use Rattle.hay_meeting.proofs.Standings.{front_behind, table_behind}
 use Rattle.hay_needle.specs.declared.needle.Outcome.{Outcome}
@@ -48,18 +45,16 @@ use Rattle.hay_physical.specs.Copies.{Copy}
 use Rattle.hay_turn.specs.Slots.{acts_in}
 use Rattle.hay_views.specs.declared.places.Published.{Published}
 use Rattle.hay_views.specs.MapPasts.{Enters, MapPast, begun_at, entered_by, is_entry}
-use Rattle.hay_volume_lock.specs.Acts.{act_of, counts, did_by}
-use Rattle.hay_volume_lock.specs.Answers.{FailedLook, Found, FoundAlways, IsAt, StoreVolume}
-use Rattle.hay_volume_lock.specs.Changes.{PlaceSeen, SeeAnswer, SeeRefused, freezes_by}
+use Rattle.hay_volume_lock.specs.Acts.{act_of, counts}
+use Rattle.hay_volume_lock.specs.Answers.{FailedLook, Found, FoundAlways}
+use Rattle.hay_volume_lock.specs.Changes.{SeeAnswer, SeeRefused, freezes_by}
 use Rattle.hay_volume_lock.specs.Keeping.{GoesOn, IsKept, standing_of, stood_of}
 use Rattle.hay_volume_lock.specs.Tries.{IsTried, tried_made}
-use Rattle.hay_volume_lock.specs.declared.act.Made.{Made}
 use Rattle.hay_volume_lock.specs.declared.act.Made.TheVariants as made_is
 use Rattle.hay_volume_lock.specs.declared.guarded.Guarded.{Guarded}
 use Rattle.hay_volume_lock.specs.declared.guarded.Opened.{Opened}
 use Rattle.hay_volume_lock.proofs.Finding.{failed_act, on_machine}
-use Rattle.hay_volume_lock.proofs.Growing.{FusesStay, IsOfOne, LeadsTo, ends_none, goes_more, goes_tried, no_fuse}
-use Rattle.hay_volume_lock.proofs.Holding.{stood_is}
+use Rattle.hay_volume_lock.proofs.Growing.{FusesStay, IsOfOne, ends_none, goes_more, goes_tried, no_fuse}
 use Rattle.hay_volume_lock.proofs.Publishing.{Changes, IsOfBoth, Serves, Shows, changes_acted, changes_seen, fuses_stay, serves_deed, serves_frozen, shows_deed, shows_nothing}
 use Rattle.hay_volume_lock.proofs.Published.{Fact, fact_first, may_publish, seen_tells}
 use Rattle.hay_volume_lock.proofs.Putting.{IsMadeBy, frozen_known, nothing_made}

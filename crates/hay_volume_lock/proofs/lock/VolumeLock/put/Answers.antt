@@ -1,7 +1,7 @@
 use Rattle.std.proofs.Common.{[], ◌∷◌, ℕ, Bool, false, List, Option, Some, Ok, Err, refl, sym, ap, subst, ◌∙◌}
 use Rattle.hay_core.specs.declared.entry.Entry.{Entry}
 use Rattle.hay_core.specs.declared.entry.Entry.TheVariants as change
-use Rattle.hay_logical.specs.declared.fault.LogicalFault.TheVariants.{Failed, NoMemory, ReadOnly}
+use Rattle.hay_logical.specs.declared.fault.LogicalFault.TheVariants.{NoMemory, ReadOnly}
 use Rattle.hay_meeting.specs.Acts.{nobody}
 use Rattle.hay_turn.specs.Seats.{after_free}
 use Rattle.hay_turn.specs.Slots.{acts_in}

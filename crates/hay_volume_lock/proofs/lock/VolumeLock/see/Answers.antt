@@ -1,4 +1,4 @@
-use Rattle.std.proofs.Common.{[], ◌∷◌, ◌<◌, ℕ, true, false, List, length, Option, Some, None, Ok, Err, refl, sym, ap, subst, ◌∙◌}
+use Rattle.std.proofs.Common.{[], ◌<◌, ℕ, List, length, Option, None, Ok, Err, refl, sym, ap, subst, ◌∙◌}
 use Rattle.hay_logical.specs.declared.fault.LogicalFault.TheVariants.{NoMemory}
 use Rattle.hay_map.specs.Places.{place_in}
 use Rattle.hay_meeting.specs.Acts.{nobody}
