@@ -22,6 +22,10 @@ did_by (made.Flushes j) = did.Flushes j
 did_by (made.Sticks j) = did.Sticks j
 did_by (made.Begins j) = did.Begins j
 did_by (made.Fuses j) = did.Fuses j
+did_by (made.Examines j n) = did.Examines j n
+did_by (made.Ends j) = did.Ends j
+did_by (made.Swaps j end cells frozen) = did.Swaps j end cells frozen
+did_by (made.Poises m j) = did.Poises m j
 
 -- the act of the line, with the counts behind it
 abbrev pub act_of : {D : Type 0} → (D → ℕ) → (D → ℕ) → CoreTag → Made → List (Copy D) → VolumeAct

@@ -1,9 +1,11 @@
 pub mod Acts
 pub mod Answers
 pub mod Changes
+pub mod Compactions
 pub mod Ended
 pub mod Keeping
 pub mod Opening
 pub mod Rows
 pub mod Seats
+pub mod Since
 pub mod Tries

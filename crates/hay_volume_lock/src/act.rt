@@ -41,6 +41,23 @@ pub enum Made {
     Fuses {
         replica: u32,
     },
+    Examines {
+        replica: u32,
+        cells: u64,
+    },
+    Ends {
+        replica: u32,
+    },
+    Swaps {
+        replica: u32,
+        end: u64,
+        cells: u64,
+        frozen: Option<u32>,
+    },
+    Poises {
+        machine: u32,
+        replica: u32,
+    },
 }
 
 /// An act for a line, and the volume behind it. It is for clauses alone, which see a `VolumeAct`.

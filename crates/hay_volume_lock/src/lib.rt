@@ -24,6 +24,7 @@
 
 mod act;
 mod changes;
+mod compactions;
 mod ended;
 mod guarded;
 mod lock;
@@ -34,6 +35,7 @@ mod told;
 mod tries;
 
 pub use act::Act;
+pub use compactions::Examined;
 pub use ended::Ended;
 pub use guarded::{Guarded, Opened};
 pub use lock::VolumeLock;
