@@ -1,12 +1,12 @@
 -- Lists that are looked up by pair, with one item more.
-use Rattle.std.proofs.Common.{◌≡◌, ℕ, zero, suc, ◌+◌, ◌<◌, ◌⊎◌, inl, inr, Bool, true, false, cond, List, [], ◌∷◌, ◌++◌, length, map, Option, Some, None, refl, sym, ap, subst, ◌∙◌, arith, length-append}
+use Rattle.std.proofs.Common.{◌≡◌, ℕ, zero, suc, ◌<◌, Bool, true, false, cond, List, [], ◌∷◌, ◌++◌, length, map, Option, Some, None, refl, sym, ap, subst, ◌∙◌, arith, length-append}
 use Rattle.std.specs.Prelude.{slice_get}
 use Rattle.std.specs.List.{AllZip}
 use Rattle.hay_needle.specs.declared.needle.Pair.{Pair}
 use Rattle.hay_needle.specs.declared.needle.Outcome.{Outcome}
 use Rattle.hay_needle.specs.declared.needle.Row.{Row}
 use Rattle.hay_needle.specs.Tables.{look_after, pair_eq}
-use Rattle.hay_needle.proofs.TableLaws.{look_append, pair_refl, pair_same}
+use Rattle.hay_needle.proofs.TableLaws.{look_append, pair_same}
 use Rattle.hay_core.specs.declared.entry.Logged.{Logged}
 use Rattle.hay_core.specs.Entries.{logged_row}
 use Rattle.hay_legal.specs.declared.known.HomeRow.{HomeRow}
