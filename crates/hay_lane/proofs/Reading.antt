@@ -1,9 +1,8 @@
 -- How far a read has come behind each call.
-use Rattle.std.proofs.Common.{◌≡◌, ◌≢◌, ◌⊎◌, inl, inr, ℕ, zero, suc, ◌+◌, ◌%◌, ◌^◌, ◌<◌, ◌≤◌, Bool, List, [], ◌∷◌, ◌++◌, length, map, take, drop, refl, sym, ap, subst, ◌∙◌, arith, Option, Some, None}
+use Rattle.std.proofs.Common.{◌≡◌, ◌⊎◌, inl, inr, ℕ, zero, suc, ◌+◌, ◌%◌, ◌^◌, ◌<◌, ◌≤◌, Bool, List, [], ◌∷◌, ◌++◌, length, refl, sym, ap, subst, ◌∙◌, arith, Some}
 use Rattle.std.specs.Prelude.{Ok, Err}
-use Rattle.std.specs.List.{AllByRecursion as Each, range_with_len}
+use Rattle.std.specs.List.{AllByRecursion as Each}
 use Rattle.std.proofs.Math.Nat.{mod-lt}
-use Rattle.std.proofs.Math.Seq.{drop-append_seam}
 use Rattle.std.proofs.lemmas.List.{map-append, take-append-drop}
 use Rattle.hay_needle.specs.declared.needle.Pair.{Pair}
 use Rattle.hay_needle.specs.declared.needle.Cookie.{Cookie}
@@ -12,20 +11,19 @@ use Rattle.hay_needle.specs.declared.needle.Outcome.TheVariants as outcome
 use Rattle.hay_needle.specs.declared.settings.Settings.{Settings}
 use Rattle.hay_map.specs.Places.{place_in}
 use Rattle.hay_map.specs.declared.place.Place.{Place}
-use Rattle.hay_map.specs.declared.place.Place.TheVariants as place
 use Rattle.hay_reply.specs.declared.Cause.{Cause}
 use Rattle.hay_reply.specs.declared.Cause.TheVariants.{Arm, Damage, Disk}
 use Rattle.hay_core.specs.declared.entry.CoreTag.{CoreTag}
 use Rattle.hay_legal.specs.Known as known
 use Rattle.hay_legal.specs.Plain as legal
 use Rattle.hay_meeting.specs.Acts.{Start}
-use Rattle.hay_meeting.specs.Facts.{front_shown, table_shown}
+use Rattle.hay_meeting.specs.Facts.{table_shown}
 use Rattle.hay_meeting.specs.Sights.{IsLaterSight, Sight}
 use Rattle.hay_meeting.proofs.Chaining.{later_at, same_at}
 use Rattle.hay_needle.specs.Tables.{outcome_at}
 use Rattle.hay_holdings.specs.Lines.{ArmFailed, Looking, PassedOver, Sees, Shows}
-use Rattle.hay_holdings.specs.Sights.{AtArm, AtVolume, Went}
-use Rattle.hay_holdings.specs.Volumes.{ChangedNothing, ShownAt, SightFailed, SightWanted, VolumeCall}
+use Rattle.hay_holdings.specs.Sights.{AtArm, AtVolume}
+use Rattle.hay_holdings.specs.Volumes.{ChangedNothing, ShownAt, SightFailed, SightWanted}
 use Rattle.hay_holdings.proofs.Going.{call_went, went_later}
 use Rattle.hay_holdings.proofs.ReadAnswers as reading
 use Rattle.hay_reader.specs.Causes.{ArmRises, ArmUse, ComeFirst, EachPair, HasArmCause, IsArm, PassesRow, passed_now}
@@ -42,7 +40,7 @@ use Rattle.hay_base.specs.declared.memory.NoMemory.{NoMemory}
 use Rattle.hay_lane.specs.declared.answers.Looked.{Looked}
 use Rattle.hay_lane.specs.declared.answers.SightFault.{SightFault}
 use Rattle.hay_lane.specs.declared.answers.SightFault.TheVariants as fault
-use Rattle.hay_lane.specs.Reads.{AllPassed, FrozeBehind, HasRead, IsNext, IsOther, IsSightCause, LookTells, PassedFirst, PlacesTell, ReadTells, RowMeans, SeeTells, ShownBy, StopsBehind, WasSeen, causes_in, replicas_in}
+use Rattle.hay_lane.specs.Reads.{FrozeBehind, IsNext, IsOther, IsSightCause, LookTells, PassedFirst, PlacesTell, ReadTells, RowMeans, SeeTells, ShownBy, StopsBehind, WasSeen, causes_in, replicas_in}
 use Rattle.hay_lane.specs.Tellings.{StoreVolume}
 use Rattle.hay_lane.proofs.Maintained.{call_as}
 

@@ -1,5 +1,5 @@
 -- The answers of reads and of gets, whatever was found.
-use Rattle.std.proofs.Common.{◌≡◌, ◌≢◌, ◌⊎◌, inl, inr, ℕ, suc, ◌+◌, ◌-◌, ◌%◌, ◌<◌, ◌≤◌, Bool, List, [], ◌∷◌, ◌++◌, length, map, refl, sym, ap, subst, ◌∙◌, arith, Some, None}
+use Rattle.std.proofs.Common.{◌≡◌, inl, inr, ℕ, suc, ◌+◌, ◌-◌, ◌%◌, ◌<◌, ◌≤◌, Bool, List, [], ◌∷◌, ◌++◌, length, map, refl, sym, ap, subst, ◌∙◌, arith, Some}
 use Rattle.std.specs.List.{range_with_len}
 use Rattle.std.proofs.Math.Nat.{mod-lt}
 use Rattle.std.proofs.lemmas.Bool.{ne_eqb}
@@ -10,7 +10,6 @@ use Rattle.hay_needle.specs.declared.needle.Outcome.{Outcome}
 use Rattle.hay_needle.specs.declared.needle.Outcome.TheVariants as outcome
 use Rattle.hay_needle.specs.declared.settings.Settings.{Settings}
 use Rattle.hay_url.specs.declared.Url.{Url as UrlParts}
-use Rattle.hay_script.specs.declared.Command.{Command}
 use Rattle.hay_script.specs.declared.Command.TheVariants as command
 use Rattle.hay_reply.specs.declared.Cause.{Cause}
 use Rattle.hay_reply.specs.declared.Passed.{Passed}
@@ -31,7 +30,7 @@ use Rattle.hay_reader.specs.declared.seat.ReadReply.TheVariants as read
 use Rattle.hay_lane.specs.declared.answers.Looked.{Looked}
 use Rattle.hay_lane.specs.declared.reads.Found.{Found}
 use Rattle.hay_lane.specs.declared.reads.Found.TheVariants as found
-use Rattle.hay_lane.specs.Reads.{AllPassed, FoundTells, FrozeBehind, HasFound, HasRead, IsFoundAs, IsFoundReply, IsOther, PassedFirst, ReadTells, RepliesFound, ShowTells, ShownBy, causes_in, passed_at, replicas_in}
+use Rattle.hay_lane.specs.Reads.{AllPassed, FoundTells, HasFound, HasRead, IsFoundAs, IsFoundReply, IsOther, ReadTells, ShowTells, ShownBy, causes_in, passed_at, replicas_in}
 use Rattle.hay_lane.proofs.Finds.{replica_hit}
 use Rattle.hay_lane.proofs.Putting.{range_parts}
 

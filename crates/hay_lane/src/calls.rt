@@ -13,7 +13,9 @@ ghost use Rattle.hay_meeting.specs.Locks.{LockSight};
 ghost use Rattle.hay_holdings.specs.Rows.{Drained, FusedDir, HomeShown};
 ghost use Rattle.hay_lane.specs.Tellings.{BeginTells, CompactionTells, DeleteTells, FinishTells, FlushTells, FrozenTells, FuseTells, PutTells, RoomTells, SettleTells, Stays, StepTells, StoreVolume};
 
-use crate::answers::{Begin, Compaction, Delete, Finish, Flush, Looked, Put, Room, SightFault, Step};
+use crate::answers::{
+    Begin, Compaction, Delete, Finish, Flush, Looked, Put, Room, SightFault, Step,
+};
 use hay_core::CoreTag;
 use hay_directory::DirFault;
 use hay_disk::Piece;

@@ -33,7 +33,8 @@ impl<V: VolumeCalls, D: DirectoryCalls> Shared<V, D> {
         ensures seated { IsSeated V.fits D.fits self.now tag.lane lane.new }
         ensures same { (start : Start) → IsOf V.is_at D.is_at self.now.settings start lane.old → IsOf V.is_at D.is_at self.now.settings start lane.new }
         ensures answered { (start : Start) → IsOf V.is_at D.is_at self.now.settings start lane.old →
-            IsAnswered self.now.settings start self.now.drained.items tag (asks.Compact volume machine) result (sight V.sight D.sight A.fault_count lane.old) (sight V.sight D.sight A.fault_count lane.new) }
+            IsAnswered self.now.settings start self.now.drained.items tag (asks.Compact volume machine) result
+            (sight V.sight D.sight A.fault_count lane.old) (sight V.sight D.sight A.fault_count lane.new) }
         ensures fits { FitsReply result }
     {
         let Some(replica) = replica_on(&self.settings, volume, machine) else {
@@ -61,7 +62,8 @@ impl<V: VolumeCalls, D: DirectoryCalls> Shared<V, D> {
         ensures seated { IsSeated V.fits D.fits self.now tag.lane lane.new }
         ensures same { (start : Start) → IsOf V.is_at D.is_at self.now.settings start lane.old → IsOf V.is_at D.is_at self.now.settings start lane.new }
         ensures answered { (start : Start) → IsOf V.is_at D.is_at self.now.settings start lane.old →
-            IsAnswered self.now.settings start self.now.drained.items tag (asks.Compact volume machine) result (sight V.sight D.sight A.fault_count lane.old) (sight V.sight D.sight A.fault_count lane.new) }
+            IsAnswered self.now.settings start self.now.drained.items tag (asks.Compact volume machine) result
+            (sight V.sight D.sight A.fault_count lane.old) (sight V.sight D.sight A.fault_count lane.new) }
         ensures fits { FitsReply result }
     {
         let answer = self.begin_at(rt, alloc, lane, tag, volume, replica);

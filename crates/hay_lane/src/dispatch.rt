@@ -43,11 +43,15 @@ impl<V: VolumeCalls, D: DirectoryCalls> Shared<V, D> {
             Command::Get { url } => self.get(rt, alloc, lane, tag, url),
             Command::Del { pair } => self.delete(rt, alloc, lane, tag, *pair),
             Command::Url { pair } => self.url(rt, lane, tag, *pair),
-            Command::Flush { volume, machine } => self.flush(rt, alloc, lane, tag, *volume, *machine),
+            Command::Flush { volume, machine } => self.flush(
+                rt, alloc, lane, tag, *volume, *machine,
+            ),
             Command::Compact { volume, machine } => {
                 self.compact(rt, alloc, lane, tag, *volume, *machine)
             }
-            Command::Begin { volume, machine } => self.begin(rt, alloc, lane, tag, *volume, *machine),
+            Command::Begin { volume, machine } => self.begin(
+                rt, alloc, lane, tag, *volume, *machine,
+            ),
             Command::Step {
                 volume,
                 machine,

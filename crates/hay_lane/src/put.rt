@@ -17,8 +17,8 @@ use crate::places::drained_by;
 use crate::replies::read_only;
 use hay_base::{Listed, NoMemory};
 use hay_core::CoreTag;
-use hay_disk::Arm;
 use hay_directory::{DirFault, tries};
+use hay_disk::Arm;
 use hay_needle::{Cookie, MAX_PHOTO, Pair};
 use hay_reply::{ClosedBy, Refused, Reply};
 use hay_url::cookie_of;
@@ -51,7 +51,8 @@ impl<V: VolumeCalls, D: DirectoryCalls> Shared<V, D> {
         ensures seated { IsSeated V.fits D.fits self.now tag.lane lane.new }
         ensures same { (start : Start) → IsOf V.is_at D.is_at self.now.settings start lane.old → IsOf V.is_at D.is_at self.now.settings start lane.new }
         ensures answered { (start : Start) → IsOf V.is_at D.is_at self.now.settings start lane.old →
-            IsAnswered self.now.settings start self.now.drained.items tag (asks.Put pair bytes.now) result (sight V.sight D.sight A.fault_count lane.old) (sight V.sight D.sight A.fault_count lane.new) }
+            IsAnswered self.now.settings start self.now.drained.items tag (asks.Put pair bytes.now) result
+            (sight V.sight D.sight A.fault_count lane.old) (sight V.sight D.sight A.fault_count lane.new) }
         ensures fits { FitsReply result }
     {
         let (rows, home) = self.home_in_view(rt, lane, tag, pair);

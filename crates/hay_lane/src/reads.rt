@@ -57,7 +57,8 @@ impl<V: VolumeCalls, D: DirectoryCalls> Shared<V, D> {
         ensures seated { IsSeated V.fits D.fits self.now tag.lane lane.new }
         ensures same { (start : Start) → IsOf V.is_at D.is_at self.now.settings start lane.old → IsOf V.is_at D.is_at self.now.settings start lane.new }
         ensures answered { (start : Start) → IsOf V.is_at D.is_at self.now.settings start lane.old →
-            IsAnswered self.now.settings start self.now.drained.items tag (asks.Read pair cookie) result (sight V.sight D.sight A.fault_count lane.old) (sight V.sight D.sight A.fault_count lane.new) }
+            IsAnswered self.now.settings start self.now.drained.items tag (asks.Read pair cookie) result
+            (sight V.sight D.sight A.fault_count lane.old) (sight V.sight D.sight A.fault_count lane.new) }
         ensures fits { FitsReply result }
     {
         let (rows, home) = self.home_in_view(rt, lane, tag, pair);
@@ -94,7 +95,9 @@ impl<V: VolumeCalls, D: DirectoryCalls> Shared<V, D> {
         if volume != url.volume {
             return Reply::Moved { volume, rows };
         }
-        self.show(rt, alloc, lane, tag, volume, rows, url.pair, url.cookie, first)
+        self.show(
+            rt, alloc, lane, tag, volume, rows, url.pair, url.cookie, first,
+        )
     }
 
     // Shows the photo of a pair, from this replica of its home on. The lane saw the home at so many rows.
@@ -123,7 +126,9 @@ impl<V: VolumeCalls, D: DirectoryCalls> Shared<V, D> {
         let Ok(mut photo) = Vec::with_capacity(alloc, MAX_PHOTO as usize) else {
             return Reply::NoMem;
         };
-        match self.fetch(rt, alloc, lane, tag, volume, pair, cookie, first, &mut photo) {
+        match self.fetch(
+            rt, alloc, lane, tag, volume, pair, cookie, first, &mut photo,
+        ) {
             Ok((front, found)) => {
                 found_reply(alloc, &self.settings, volume, front, rows, photo, found)
             }
@@ -160,8 +165,9 @@ impl<V: VolumeCalls, D: DirectoryCalls> Shared<V, D> {
             Sees self.now.settings start self.now.drained.items tag pair d (Some volume) a (sight V.sight D.sight A.fault_count lane.old) →
             OnErr result (FrozeBehind self.now.settings start self.now.drained.items tag pair d volume first a (sight V.sight D.sight A.fault_count lane.new)) }
     {
-        let (mut looked, mut read) =
-            self.read_first(rt, lane, tag, volume, pair, cookie, first, photo);
+        let (mut looked, mut read) = self.read_first(
+            rt, lane, tag, volume, pair, cookie, first, photo,
+        );
         for _ in 0..self.settings.replicas {
             let ReadReply::Unseen { replica, causes } = read else {
                 break;

@@ -9,12 +9,14 @@ ghost use Rattle.hay_reader.specs.Tried.{CanShow};
 ghost use Rattle.hay_lane.specs.Reads.{LookTells, SeeTells, WasSeen};
 ghost use Rattle.hay_lane.specs.Tellings.{BeginTells, CompactionTells, DeleteTells, FinishTells, FlushTells, FrozenTells, FuseTells, PutTells, RoomTells, SettleTells, StepTells};
 
-use crate::answers::{Begin, Compaction, Delete, Finish, Flush, Looked, Put, Room, SightFault, Step};
+use crate::answers::{
+    Begin, Compaction, Delete, Finish, Flush, Looked, Put, Room, SightFault, Step,
+};
 use crate::calls::{DirectoryCalls, VolumeCalls};
 use crate::lane::{Lane, Shared};
 use hay_core::CoreTag;
-use hay_disk::Arm;
 use hay_directory::DirFault;
+use hay_disk::Arm;
 use hay_needle::{Cookie, MAX_PHOTO, Pair};
 use std::alloc::Global;
 use std::sync::Wait;

@@ -30,7 +30,8 @@ impl<V: VolumeCalls, D: DirectoryCalls> Shared<V, D> {
         ensures seated { IsSeated V.fits D.fits self.now tag.lane lane.new }
         ensures same { (start : Start) → IsOf V.is_at D.is_at self.now.settings start lane.old → IsOf V.is_at D.is_at self.now.settings start lane.new }
         ensures answered { (start : Start) → IsOf V.is_at D.is_at self.now.settings start lane.old →
-            IsAnswered self.now.settings start self.now.drained.items tag (asks.Flush volume machine) result (sight V.sight D.sight A.fault_count lane.old) (sight V.sight D.sight A.fault_count lane.new) }
+            IsAnswered self.now.settings start self.now.drained.items tag (asks.Flush volume machine) result
+            (sight V.sight D.sight A.fault_count lane.old) (sight V.sight D.sight A.fault_count lane.new) }
         ensures fits { FitsReply result }
     {
         let Some(replica) = replica_on(&self.settings, volume, machine) else {
@@ -54,7 +55,8 @@ impl<V: VolumeCalls, D: DirectoryCalls> Shared<V, D> {
         ensures seated { IsSeated V.fits D.fits self.now tag.lane lane.new }
         ensures same { (start : Start) → IsOf V.is_at D.is_at self.now.settings start lane.old → IsOf V.is_at D.is_at self.now.settings start lane.new }
         ensures answered { (start : Start) → IsOf V.is_at D.is_at self.now.settings start lane.old →
-            IsAnswered self.now.settings start self.now.drained.items tag (asks.Begin volume machine) result (sight V.sight D.sight A.fault_count lane.old) (sight V.sight D.sight A.fault_count lane.new) }
+            IsAnswered self.now.settings start self.now.drained.items tag (asks.Begin volume machine) result
+            (sight V.sight D.sight A.fault_count lane.old) (sight V.sight D.sight A.fault_count lane.new) }
         ensures fits { FitsReply result }
     {
         let Some(replica) = replica_on(&self.settings, volume, machine) else {
@@ -79,7 +81,8 @@ impl<V: VolumeCalls, D: DirectoryCalls> Shared<V, D> {
         ensures seated { IsSeated V.fits D.fits self.now tag.lane lane.new }
         ensures same { (start : Start) → IsOf V.is_at D.is_at self.now.settings start lane.old → IsOf V.is_at D.is_at self.now.settings start lane.new }
         ensures answered { (start : Start) → IsOf V.is_at D.is_at self.now.settings start lane.old →
-            IsAnswered self.now.settings start self.now.drained.items tag (asks.Step volume machine cells) result (sight V.sight D.sight A.fault_count lane.old) (sight V.sight D.sight A.fault_count lane.new) }
+            IsAnswered self.now.settings start self.now.drained.items tag (asks.Step volume machine cells) result
+            (sight V.sight D.sight A.fault_count lane.old) (sight V.sight D.sight A.fault_count lane.new) }
         ensures fits { FitsReply result }
     {
         let Some(replica) = replica_on(&self.settings, volume, machine) else {
@@ -103,7 +106,8 @@ impl<V: VolumeCalls, D: DirectoryCalls> Shared<V, D> {
         ensures seated { IsSeated V.fits D.fits self.now tag.lane lane.new }
         ensures same { (start : Start) → IsOf V.is_at D.is_at self.now.settings start lane.old → IsOf V.is_at D.is_at self.now.settings start lane.new }
         ensures answered { (start : Start) → IsOf V.is_at D.is_at self.now.settings start lane.old →
-            IsAnswered self.now.settings start self.now.drained.items tag (asks.Finish volume machine) result (sight V.sight D.sight A.fault_count lane.old) (sight V.sight D.sight A.fault_count lane.new) }
+            IsAnswered self.now.settings start self.now.drained.items tag (asks.Finish volume machine) result
+            (sight V.sight D.sight A.fault_count lane.old) (sight V.sight D.sight A.fault_count lane.new) }
         ensures fits { FitsReply result }
     {
         let Some(replica) = replica_on(&self.settings, volume, machine) else {
@@ -127,7 +131,8 @@ impl<V: VolumeCalls, D: DirectoryCalls> Shared<V, D> {
         ensures seated { IsSeated V.fits D.fits self.now tag.lane lane.new }
         ensures same { (start : Start) → IsOf V.is_at D.is_at self.now.settings start lane.old → IsOf V.is_at D.is_at self.now.settings start lane.new }
         ensures answered { (start : Start) → IsOf V.is_at D.is_at self.now.settings start lane.old →
-            IsAnswered self.now.settings start self.now.drained.items tag (asks.Fuse volume machine calls) result (sight V.sight D.sight A.fault_count lane.old) (sight V.sight D.sight A.fault_count lane.new) }
+            IsAnswered self.now.settings start self.now.drained.items tag (asks.Fuse volume machine calls) result
+            (sight V.sight D.sight A.fault_count lane.old) (sight V.sight D.sight A.fault_count lane.new) }
         ensures fits { FitsReply result }
     {
         let Some(replica) = replica_on(&self.settings, volume, machine) else {
@@ -194,7 +199,8 @@ impl<V: VolumeCalls, D: DirectoryCalls> Shared<V, D> {
         ensures seated { IsSeated V.fits D.fits self.now tag.lane lane.new }
         ensures same { (start : Start) → IsOf V.is_at D.is_at self.now.settings start lane.old → IsOf V.is_at D.is_at self.now.settings start lane.new }
         ensures answered { (start : Start) → IsOf V.is_at D.is_at self.now.settings start lane.old →
-            IsAnswered self.now.settings start self.now.drained.items tag (asks.Undrain machine) result (sight V.sight D.sight A.fault_count lane.old) (sight V.sight D.sight A.fault_count lane.new) }
+            IsAnswered self.now.settings start self.now.drained.items tag (asks.Undrain machine) result
+            (sight V.sight D.sight A.fault_count lane.old) (sight V.sight D.sight A.fault_count lane.new) }
         ensures fits { FitsReply result }
     {
         if machine >= self.settings.machines {

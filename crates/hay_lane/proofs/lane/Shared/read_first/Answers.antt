@@ -10,7 +10,7 @@ returns-clause-tells g c start d a of sees =
     let drained = c.args.self.now.drained.items in
     let there = c.look_at-looked.ensures.tells start of in
     let arm = fetched g.V.VolumeCalls.fits g.D.DirectoryCalls.fits c.args.self.now c.args.tag.lane c.look_at-looked.new.lane c.look_at-looked.ensures.seated c.show-read.new.self
-        g.V.VolumeCalls.sight g.D.DirectoryCalls.sight g.A.Arm.fault_count c.show-read.ensures.later c.show-read.ensures.most in
+    g.V.VolumeCalls.sight g.D.DirectoryCalls.sight g.A.Arm.fault_count c.show-read.ensures.later c.show-read.ensures.most in
     let what = shown_by settings start drained c.args.tag c.args.pair d c.args.volume c.args.first (sight g.V.VolumeCalls.sight g.D.DirectoryCalls.sight g.A.Arm.fault_count c.look_at-looked.new.lane) in
     record {
       what = what;

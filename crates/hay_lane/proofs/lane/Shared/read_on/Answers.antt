@@ -22,7 +22,7 @@ returns-in-Ok-clause-tells g c start d a of has =
     let there = c.in-Ok.ensures.tells start of in
     let row = c.in-Ok.seen.row in
     let arm = fetched g.V.VolumeCalls.fits g.D.DirectoryCalls.fits c.args.self.now c.args.tag.lane c.see_at.new.lane c.see_at.ensures.seated c.read_seen-read.new.arm
-        g.V.VolumeCalls.sight g.D.DirectoryCalls.sight g.A.Arm.fault_count c.read_seen-read.ensures.later c.read_seen-read.ensures.most in
+    g.V.VolumeCalls.sight g.D.DirectoryCalls.sight g.A.Arm.fault_count c.read_seen-read.ensures.later c.read_seen-read.ensures.most in
     let what = shown_by settings start drained c.args.tag c.args.pair d c.args.volume c.args.first (sight g.V.VolumeCalls.sight g.D.DirectoryCalls.sight g.A.Arm.fault_count c.see_at.new.lane) in
     let places = (there.is).1 in
     let again = looked_again settings start drained c.args.tag c.args.pair d c.args.volume c.args.first has.tells (call_as _ (ChangedNothing settings start c.args.volume c.args.tag) there (there.is).0) places in
@@ -41,7 +41,7 @@ returns-in_ok-cause-in-Err-clause-tells g c start d a of has =
     let drained = c.args.self.now.drained.items in
     let m = sight g.V.VolumeCalls.sight g.D.DirectoryCalls.sight g.A.Arm.fault_count c.see_at.new.lane in
     let arm = fetched g.V.VolumeCalls.fits g.D.DirectoryCalls.fits c.args.self.now c.args.tag.lane c.see_at.new.lane c.see_at.ensures.seated c.show_more-read.new.self
-        g.V.VolumeCalls.sight g.D.DirectoryCalls.sight g.A.Arm.fault_count c.show_more-read.ensures.later c.show_more-read.ensures.most in
+    g.V.VolumeCalls.sight g.D.DirectoryCalls.sight g.A.Arm.fault_count c.show_more-read.ensures.later c.show_more-read.ensures.most in
     let passed = sight_passed settings start drained c.args.tag c.args.pair d c.args.volume c.args.first has.tells g.row.V-Piece.Denot g.V.Piece.Piece.Tells c.see_at.new.out.items c.args.replica c.in-Err.fault c.in_ok-cause-in-Err.cause c.in_ok-cause-in-Err.ensures.is c.requires.next (c.in-Err.ensures.tells start of) in
     record {
       what = has.what;
