@@ -1,5 +1,5 @@
 -- The counts of disks by replica.
-use Rattle.std.proofs.Common.{◌≡◌, ℕ, zero, suc, ◌+◌, ◌<◌, ◌≤◌, inl, inr, List, [], ◌∷◌, ◌++◌, length, take, refl, sym, ap, subst, ◌∙◌, arith}
+use Rattle.std.proofs.Common.{◌≡◌, ℕ, zero, suc, ◌+◌, ◌<◌, ◌≤◌, inl, inr, List, [], ◌∷◌, ◌++◌, length, take, drop, refl, sym, ap, subst, ◌∙◌, arith}
 use Rattle.std.specs.Prelude.{slice_index_or, slice_set}
 use Rattle.std.specs.List.{AllByRecursion as Each}
 use Rattle.std.proofs.lemmas.Bool.{cases_lt}
@@ -83,3 +83,23 @@ pub each_set : {A : Type 0} (P : A → Type 0) (xs : List A) (j : ℕ) (x : A) �
 each_set P [] j x each is = tt
 each_set P (y ∷ xs) zero x each is = (is, each.1)
 each_set P (y ∷ xs) (suc j) x each is = (each.0, each_set P xs j x each.1 is)
+
+-- ONE AFTER ANOTHER
+
+-- where two lists have the same rest, the next ones are the same, and the rest behind them with another there
+pub next_same : {A : Type 0} (xs ys : List A) (i : ℕ) (d : A) → length xs ≡ length ys → i < length ys → drop i xs ≡ drop i ys → slice_index_or xs i d ≡ slice_index_or ys i d
+next_same xs [] i d long less same = absurd (omega (arith, less))
+next_same [] (y ∷ ys) i d long less same = absurd (omega (arith, long))
+next_same (x ∷ xs) (y ∷ ys) zero d long less same = cc same
+next_same (x ∷ xs) (y ∷ ys) (suc i) d long less same = next_same xs ys i d (omega (arith, long)) (omega (arith, less)) same
+
+pub rest_same : {A : Type 0} (xs ys : List A) (i : ℕ) (x : A) → length xs ≡ length ys → i < length ys → drop i xs ≡ drop i ys → drop (suc i) (slice_set xs i x) ≡ drop (suc i) ys
+rest_same xs [] i x long less same = absurd (omega (arith, less))
+rest_same [] (y ∷ ys) i x long less same = absurd (omega (arith, long))
+rest_same (z ∷ zs) (y ∷ ys) zero x long less same = cc same
+rest_same (z ∷ zs) (y ∷ ys) (suc i) x long less same = rest_same zs ys i x (omega (arith, long)) (omega (arith, less)) same
+
+pub each_next : {A : Type 0} (P : A → Type 0) (xs : List A) (i : ℕ) (d : A) → i < length xs → Each P (take i xs) → P (slice_index_or xs i d) → Each P (take (suc i) xs)
+each_next P [] i d less each is = absurd (omega (arith, less))
+each_next P (x ∷ xs) zero d less each is = (is, tt)
+each_next P (x ∷ xs) (suc i) d less each is = (each.0, each_next P xs i d (omega (arith, less)) each.1 is)

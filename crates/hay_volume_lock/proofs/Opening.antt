@@ -1,11 +1,12 @@
 -- The lock where it is made, and where it ends.
-use Rattle.std.proofs.Common.{◌≡◌, ◌+◌, ◌<◌, ℕ, zero, suc, false, List, [], ◌∷◌, ◌++◌, length, map, replicate, slice_get, Option, Some, None, refl, sym, ap, subst, ◌∙◌, arith, append-nil, length-append}
+use Rattle.std.proofs.Common.{◌≡◌, ◌+◌, ◌<◌, ℕ, zero, suc, false, List, [], ◌∷◌, ◌++◌, length, map, replicate, slice_get, Option, Some, None, refl, sym, ap, subst, ◌∙◌, arith, append-nil, append_assoc, length-append}
 use Rattle.std.specs.Prelude.{slice_index_or, IfOk, Result, Ok, Err}
+use Rattle.std.specs.List.{AllByRecursion as Each}
 use Rattle.std.proofs.lemmas.List.{length-map, length-replicate}
 use mathlib.Core.List.{IsPrefix}
 use Rattle.hay_core.specs.declared.entry.Entry.{Entry}
 use Rattle.hay_disk.specs.Disk.{Files}
-use Rattle.hay_front.specs.Fronts.{Witness}
+use Rattle.hay_front.specs.Fronts.{IsBehind, Witness}
 use Rattle.hay_front.specs.declared.front.Tag.{Tag}
 use Rattle.hay_lanes.proofs.Results.{mapped, unmapped}
 use Rattle.hay_logical.specs.Volumes.{IsOfSettings, IsOpenVolume, Volume}
@@ -27,7 +28,7 @@ use Rattle.hay_volume_lock.specs.Seats.{AreNew, IsSeated, Seated, new_seat}
 use Rattle.hay_volume_lock.specs.declared.guarded.Guarded.{Guarded}
 use Rattle.hay_volume_lock.specs.declared.guarded.Opened.{Opened}
 use Rattle.hay_volume_lock.specs.Rows.{RowsTell}
-use Rattle.hay_volume_lock.proofs.Holding.{seat_of}
+use Rattle.hay_volume_lock.proofs.Holding.{entered_prefix, seat_of}
 use Rattle.hay_volume_lock.proofs.Telling.{first_tell}
 
 abbrev pub View : Type 0 → Type 0 → Type 0
@@ -237,6 +238,63 @@ module _ {D P : Type 0} where
   abbrev pub turn_of : Seated D P → SeatState (Opened D P) VolumeAct
   turn_of s = record { turn = s.lock; number = s.number; seats = s.seats; start = s.start; seen = (s.sight).seen; own = (s.sight).own; holds = s.holds }
 
+  -- its seat at the view
+  pub record IsViewOf (view : View D P) (s : Seated D P) : Type 0 where
+    pub turn : SeatState (Opened D P) VolumeAct
+    pub stood : ℕ
+    pub seated : IsSeated turn stood view
+    pub start : turn.start ≡ s.start
+    pub shown : entered_by view.deeds ≡ (s.sight).shown
+
+  abbrev pub AreViews : List (View D P) → List (Seated D P) → Type 0
+  AreViews [] [] = Unit {0}
+  AreViews (v ∷ vs) (s ∷ ss) = IsViewOf v s × AreViews vs ss
+  AreViews [] (s ∷ ss) = ⊥
+  AreViews (v ∷ vs) [] = ⊥
+
+  -- so far, of all seats
+  pub record Viewing (views : List (View D P)) (rest seats : List (Seated D P)) : Type 0 where
+    pub past : List (Seated D P)
+    pub are : past ++ rest ≡ seats
+    pub each : AreViews views past
+
+  more_views : (views : List (View D P)) (past : List (Seated D P)) (v : View D P) (s : Seated D P) → AreViews views past → IsViewOf v s → AreViews (views ++ v ∷ []) (past ++ s ∷ [])
+  more_views [] [] v s each is = (is, tt)
+  more_views (w ∷ ws) (z ∷ zs) v s each is = (each.0, more_views ws zs v s each.1 is)
+  more_views [] (z ∷ zs) v s each is = absurd each
+  more_views (w ∷ ws) [] v s each is = absurd each
+
+  pub viewing_next : (views : List (View D P)) (rest seats : List (Seated D P)) (v : View D P) (s : Seated D P) → Viewing views (s ∷ rest) seats → IsViewOf v s → Viewing (views ++ v ∷ []) rest seats
+  viewing_next views rest seats v s viewing is = record {
+    past = viewing.past ++ s ∷ [];
+    are = append_assoc viewing.past (s ∷ []) rest ∙ viewing.are;
+    each = more_views views viewing.past v s viewing.each is;
+  }
+
+  pub viewing_ends : (views : List (View D P)) (rest seats : List (Seated D P)) → Viewing views rest seats → length rest ≡ 0 → AreViews views seats
+  viewing_ends views rest seats viewing none =
+      subst (λ (l : List (Seated D P)). AreViews views l) (sym (append-nil viewing.past) ∙ ap (λ l. viewing.past ++ l) (sym (none_left rest none)) ∙ viewing.are) viewing.each
+
+  -- each is of the front that stands behind the lock
+  pub all_of_front : (opened : Opened D P) (shown : View D P) (views : List (View D P)) (seats : List (Seated D P)) → AreViews views seats → ((i : ℕ) (s : Seated D P) → slice_get seats i ≡ Some s → s.start ≡ Some opened)
+      → shown.front ≡ (opened.view).front → Each (λ v. v.front ≡ shown.front) views
+  all_of_front opened shown [] seats are starts front = tt
+  all_of_front opened shown (v ∷ vs) [] are starts front = absurd are
+  all_of_front opened shown (v ∷ vs) (s ∷ ss) are starts front =
+      let same : ((are.0).seated).opened ≡ opened = cc (((are.0).seated).is, (are.0).start, starts 0 s refl) in
+      (((are.0).seated).front ∙ ap (λ (o : Opened D P). (o.view).front) same ∙ sym front, all_of_front opened shown vs ss are.1 (λ i. starts (suc i)) front)
+
+  all_shown : (shown : View D P) (views : List (View D P)) (seats : List (Seated D P)) → AreViews views seats → Each (λ v. IsBehind v shown) views
+      → (i : ℕ) (s : Seated D P) → slice_get seats i ≡ Some s → IsPrefix (s.sight).shown (entered_by shown.deeds)
+  all_shown shown [] [] are behind i s at = absurd cc
+  all_shown shown [] (z ∷ zs) are behind i s at = absurd are
+  all_shown shown (v ∷ vs) [] are behind i s at = absurd are
+  all_shown shown (v ∷ vs) (z ∷ zs) are behind zero s at =
+      let same : z ≡ s = cc at in
+      subst (λ (x : Seated D P). IsPrefix (x.sight).shown (entered_by shown.deeds)) same
+      (subst (λ (l : List Entry). IsPrefix l (entered_by shown.deeds)) (are.0).shown (entered_prefix v.deeds shown.deeds ((behind.0).2)))
+  all_shown shown (v ∷ vs) (z ∷ zs) are behind (suc i) s at = all_shown shown vs zs are.1 behind.1 i s at
+
   module _ {lock : TurnId} {opened : Opened D P} {seats : List (Seated D P)} (are : AreSeated lock opened seats) {turns : List (SeatState (Opened D P) VolumeAct)} (turns_are : turns ≡ map turn_of seats) where
     many_turns : length turns ≡ length seats
     many_turns = ap length turns_are ∙ length-map seats turn_of
@@ -255,10 +313,20 @@ module _ {D P : Type 0} where
           ),
     )
 
+    pub kept_front : (Tells : Type 0) (files : D → Files) (PieceTells : Type 0) (faults fuses : D → ℕ) (kept : Guarded D P)
+        → Ends (λ a. a.seat) (λ o acts x. IsKept Tells files PieceTells faults fuses o acts x) turns kept
+        → (views : List (View D P)) → AreViews views seats → Each (λ v. v.front ≡ ((kept.front).shown).front) views
+    kept_front Tells files PieceTells faults fuses kept ends views viewed =
+        let first = there seats 0 (omega (arith, are.some)) in
+        let turn_at : slice_get turns 0 ≡ Some (turn_of first.0) = ap (λ l. slice_get l 0) turns_are ∙ mapped turn_of seats 0 first.0 first.1 in
+        all_of_front opened (kept.front).shown views seats viewed (λ i s at. (are.each i s at).start)
+        (ends.stands_for (turn_of first.0) turn_at opened (are.each 0 first.0 first.1).start).front
+
     pub closes : (Tells : Type 0) (files : D → Files) (PieceTells : Type 0) (faults fuses : D → ℕ) (kept : Guarded D P) (tags : List Tag)
         → Ends (λ a. a.seat) (λ o acts x. IsKept Tells files PieceTells faults fuses o acts x) turns kept → tags ≡ map (λ e. e.tag) (kept.front).log
+        → (views : List (View D P)) → AreViews views seats → Each (λ v. IsBehind v (kept.front).shown) views
         → Closes Tells files PieceTells faults fuses opened seats kept.logical tags
-    closes Tells files PieceTells faults fuses kept tags ends tags_are =
+    closes Tells files PieceTells faults fuses kept tags ends tags_are views viewed behind =
         let turn_at : (i : ℕ) (s : Seated D P) → slice_get seats i ≡ Some s → slice_get turns i ≡ Some (turn_of s) =
         λ i s at. ap (λ l. slice_get l i) turns_are ∙ mapped turn_of seats i s at in
         let first = there seats 0 (omega (arith, are.some)) in
@@ -269,6 +337,7 @@ module _ {D P : Type 0} where
           own = λ i s at. ends.own i (turn_of s) (turn_at i s at);
           below = subst (λ n. AllBelow volume_lock.seat n ends.history) many_turns ends.below;
           seen = λ i s at. ends.seen i (turn_of s) (turn_at i s at);
+          shown = λ i s at. subst (λ (l : List Entry). IsPrefix (s.sight).shown l) stands.entered (all_shown (kept.front).shown views seats viewed behind i s at);
           kept = kept;
           stands = stands;
           is = refl;

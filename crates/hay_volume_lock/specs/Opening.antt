@@ -10,6 +10,7 @@ use Rattle.hay_map.specs.MapRows.{MapRows}
 use Rattle.hay_map.specs.Rows.{row_at}
 use Rattle.hay_meeting.specs.declared.act.VolumeAct.{VolumeAct}
 use Rattle.hay_meeting.specs.Acts.{volume_lock}
+use Rattle.hay_meeting.specs.Locks.{entries}
 use Rattle.hay_needle.specs.declared.needle.Pair.{Pair}
 use Rattle.hay_turn.specs.Acts.{AllBelow, acts_of}
 use Rattle.hay_turn.specs.Seats.{TurnId}
@@ -51,13 +52,14 @@ pub record AreSeated {D P : Type 0} (lock : TurnId) (opened : Opened D P) (seats
   pub some : 0 < length seats
   pub each : (i : ℕ) (s : Seated D P) → slice_get seats i ≡ Some s → IsOne lock opened (length seats) i s
 
--- The volume is what one history left, with the tags of the changes that it entered: it begins with what each seat has seen, each act in
--- it is an own act of one of them, and each own act stands in it once.
+-- The volume is what one history left, with the tags of the changes that it entered: it begins with what each seat has seen, and
+-- shows what each was shown; each act in it is an own act of one of them, and each own act stands in it once.
 pub record Closes {D P : Type 0} (Tells : Type 0) (files : D → Files) (PieceTells : Type 0) (faults fuses : D → ℕ) (opened : Opened D P) (seats : List (Seated D P)) (volume : Volume D P) (tags : List Tag) : Type 0 where
   pub history : List VolumeAct
   pub own : (i : ℕ) (s : Seated D P) → slice_get seats i ≡ Some s → acts_of volume_lock.seat i history ≡ (s.sight).own
   pub below : AllBelow volume_lock.seat (length seats) history
   pub seen : (i : ℕ) (s : Seated D P) → slice_get seats i ≡ Some s → IsPrefix (s.sight).seen history
+  pub shown : (i : ℕ) (s : Seated D P) → slice_get seats i ≡ Some s → IsPrefix (s.sight).shown (entries volume_lock history)
   pub kept : Guarded D P
   pub stands : IsKept Tells files PieceTells faults fuses opened history kept
   pub is : kept.logical ≡ volume

@@ -1,5 +1,7 @@
 //! How a lock and its seats are made, and how they end.
 ghost use Rattle.std.specs.Prelude.{◌≡◌, ◌<◌, length, replicate, IfErr, IfOk};
+ghost use Rattle.std.specs.List.{AllByRecursion};
+ghost use Rattle.hay_front.specs.Fronts.{IsBehind};
 ghost use Rattle.hay_logical.specs.Volumes.{HasAll, IsOfSettings, IsOpenVolume};
 ghost use Rattle.hay_volume_lock.specs.Opening.{AreSeated, Closes, IsFirst, ShowsFirst};
 ghost use Rattle.hay_volume_lock.specs.Seats.{AreNew};
@@ -13,7 +15,7 @@ use crate::told::{Places, Told};
 use hay_base::NoMemory;
 use hay_core::CoreTag;
 use hay_disk::{Disk, Piece};
-use hay_front::{Front, Seat, Tag};
+use hay_front::{Front, Seat, Tag, View};
 use hay_logical::Logical;
 use hay_needle::Settings;
 use hay_turn::{Turn, TurnSeat};
@@ -87,6 +89,16 @@ fn publish<D: Disk<Piece = P> + Send + Sync, P: Piece + Send + Sync, R: Wait>(
 {
     let (first, second) = views_of(alloc, logical, replicas)?;
     Front::new(rt, alloc, first, second, seats)
+}
+
+// Shows each seat all that was published.
+fn show_each<T: View, R: Wait>(rt: &R, front: &Front<T>, seats: &mut [Seat<T>])
+    requires { AllByRecursion (λ s. s.front ≡ front.now.shown.front) seats.old }
+    ensures { AllByRecursion (λ s. IsBehind s front.now.shown) seats.old }
+{
+    for i in 0..seats.len() {
+        front.show_all(rt, &mut seats[i]);
+    }
 }
 
 impl<D: Disk<Piece = P> + Send + Sync, P: Piece + Send + Sync> VolumeLock<D, P> {
@@ -192,6 +204,7 @@ impl<D: Disk<Piece = P> + Send + Sync, P: Piece + Send + Sync> VolumeLock<D, P> 
             begun: _,
             ended: _,
         } = turn.close(turns);
+        show_each(rt, &front, views.as_mut_slice());
         let tags = front.close(rt, views);
         (logical, tags)
     }
