@@ -1,6 +1,6 @@
 -- Which lines left a change or a row pending: laws of calls, of replies and of restarts.
 use Rattle.std.proofs.Common.{◌≡◌, ◌⊎◌, true, false, ℕ, zero, suc, ◌+◌, ◌<◌, List, [], ◌∷◌, ◌++◌, length, map, Option, Some, None, inl, inr, refl, sym, ap, subst, ◌∙◌, arith}
-use Rattle.std.specs.Prelude.{replicate, slice_get, slice_set}
+use Rattle.std.specs.Prelude.{IfNone, replicate, slice_get, slice_set}
 use Rattle.std.specs.List.{AllByRecursion, AllZip}
 use Rattle.hay_needle.specs.declared.settings.Settings.{Settings}
 use Rattle.hay_disk.specs.Disk.{Files}
@@ -8,6 +8,7 @@ use Rattle.hay_mount.specs.Mounts.{InOrder}
 use Rattle.hay_core.specs.declared.entry.CoreTag.{CoreTag}
 use Rattle.hay_reply.specs.declared.Note.{Note}
 use Rattle.hay_reply.specs.declared.Refused.{Refused}
+use Rattle.hay_reply.specs.declared.Refused.TheVariants as refused_for
 use Rattle.hay_reply.specs.declared.Reply.{Reply}
 use Rattle.hay_reply.specs.declared.Reply.TheVariants.{Full, ReadOnly, NoMem}
 use Rattle.hay_reply.specs.Fits.{FitsNote}
@@ -25,9 +26,10 @@ use Rattle.hay_logical.specs.declared.unsure.Unsure.{Unsure}
 use Rattle.hay_logical.specs.Fits.{At}
 use Rattle.hay_logical.specs.Notes.{DeleteLeavesUnsure, IsBrokenOff, NotesTell, PutLeavesUnsure}
 use Rattle.hay_logical.specs.Volumes.{Volume}
-use Rattle.hay_cluster.specs.Changes.{IsDeleteReply}
+use Rattle.hay_cluster.specs.Changes.{IsDeleteReply, IsReadOnly}
+use Rattle.hay_cluster.specs.Lacks.{lack_of}
 use Rattle.hay_cluster.specs.Opening.{Gathers, OpensParts, OpensVolume, StopsVolume}
-use Rattle.hay_cluster.specs.Pending.{ChangePends, DeleteLeft, LeavesDelete, LeavesPut, PendingLines, PutLeft, RowLeft, TellsChange, TellsChanges, TellsNoFailure, TellsPending, TellsRow, line_of_change, line_of_row, none_pending, pending_change, pending_of, pending_row, with_change, with_row}
+use Rattle.hay_cluster.specs.Pending.{ChangePends, DeleteLeft, IsSettledAt, LeavesDelete, LeavesPut, MetOpen, PendingLines, PutLeft, RefusedOpen, RowLeft, TellsChange, TellsChanges, TellsNoFailure, TellsPending, TellsRow, line_of_change, line_of_row, none_pending, pending_change, pending_of, pending_row, with_change, with_row}
 use Rattle.hay_cluster.specs.Puts.{IsPutReply, IsRefusal, settle_reply}
 use Rattle.hay_cluster.specs.Store.{Open, IsShaped, IsVolumeOf}
 use Rattle.hay_cluster.proofs.Moves.{with_directory, with_one}
@@ -76,6 +78,10 @@ module _ {D P A : Type 0} where
     ap (λ changes. pending_with changes (pending_row store.directory)) (map-set pending_change store.volumes v after ∙ ap (λ line. slice_set (map pending_change store.volumes) v line) (ap line_of_change broken.is))
         ∙ ap (λ (st : Open D P A). with_change v tag.line (pending_of st)) is,
   )
+
+  pub settled_at : (old store : Open D P A) (v : ℕ) (volume : Volume D P) → store ≡ old → At store.volumes v volume → volume.unsure ≡ None → IsSettledAt v (pending_of old)
+  settled_at old store v volume is at settled =
+      ap (λ (st : Open D P A). slice_get (map pending_change st.volumes) v) (sym is) ∙ map-at pending_change store.volumes v volume at ∙ ap (λ unsure. Some (line_of_change unsure)) settled
 
   module _ (old store : Open D P A) (v : ℕ) (before after : Volume D P) (tag : CoreTag) (is : store ≡ old) (at : At store.volumes v before) where
     kept : after.unsure ≡ before.unsure → pending_of (with_one store v after) ≡ pending_of old
@@ -171,6 +177,63 @@ delete_pending line v rows before after (refusal.Full m end need capacity) said 
 delete_pending line v rows before after (refusal.Busy m generation) said is left = absurd is
 delete_pending line v rows before after (refusal.Worn m) said is left = absurd is
 delete_pending line v rows before after refusal.Idle said is left = absurd is
+
+-- WHAT WAS MET
+
+pub none_or : {X : Type 0} (o : Option X) (Q : Type 0) → Q → IfNone o Q
+none_or None Q q = q
+none_or (Some x) Q q = tt
+
+pub lack_open : (v : ℕ) (before : PendingLines) (fault : LogicalFault) (refused : Refused) → lack_of v fault ≡ Some refused → IsSettledAt v before → RefusedOpen before refused
+lack_open v before (refusal.Full m end need capacity) refused is settled = let same : refused_for.NoRoom v m end need ≡ refused = cc in subst (λ (r : Refused). RefusedOpen before r) same settled
+lack_open v before (refusal.ReadOnly m) refused is settled = let same : refused_for.Closed v m ≡ refused = cc in subst (λ (r : Refused). RefusedOpen before r) same tt
+lack_open v before (refusal.Failed m count) refused is settled = absurd cc
+lack_open v before (refusal.Gone front) refused is settled = absurd cc
+lack_open v before (refusal.Busy m generation) refused is settled = absurd cc
+lack_open v before (refusal.Worn m) refused is settled = absurd cc
+lack_open v before refusal.Idle refused is settled = absurd cc
+lack_open v before (refusal.Damaged m place) refused is settled = absurd cc
+lack_open v before refusal.NoMemory refused is settled = absurd cc
+
+pub refusal_met : (before : PendingLines) (refused : List Refused) (said : Reply) → IsRefusal refused said → AllByRecursion (RefusedOpen before) refused → MetOpen before said
+refusal_met before refused (Full tries) is met = subst (λ (rs : List Refused). AllByRecursion (RefusedOpen before) rs) (sym is.0) met
+refusal_met before refused (ReadOnly closed) is met = tt
+refusal_met before refused NoMem is met = tt
+refusal_met before refused _ is met = absurd is
+
+met_as : (before : PendingLines) (said said' : Reply) → said' ≡ said → MetOpen before said → MetOpen before said'
+met_as before said said' is met = subst (λ (r : Reply). MetOpen before r) (sym is) met
+
+pub put_met : (before : PendingLines) (v : ℕ) (fault : LogicalFault) (said : Reply) → IsPutReply v fault said → IsSettledAt v before → MetOpen before said
+put_met before v (refusal.Failed m count) said is settled = met_as before _ said is settled
+put_met before v (refusal.ReadOnly m) said is settled = refusal_met before _ said is (tt, tt)
+put_met before v (refusal.Full m end need capacity) said is settled = refusal_met before _ said is (settled, tt)
+put_met before v refusal.NoMemory said is settled = met_as before _ said is tt
+put_met before v (refusal.Gone front) said is settled = absurd is
+put_met before v (refusal.Busy m generation) said is settled = absurd is
+put_met before v (refusal.Worn m) said is settled = absurd is
+put_met before v refusal.Idle said is settled = absurd is
+put_met before v (refusal.Damaged m place) said is settled = absurd is
+
+pub settle_met : (before : PendingLines) (fault : DirFault) (said : Reply) → said ≡ settle_reply fault → MetOpen before said
+settle_met before settling.Frozen said is = met_as before _ said is tt
+settle_met before settling.NoMemory said is = met_as before _ said is tt
+settle_met before (settling.Failed faults) said is = met_as before _ said is tt
+
+pub read_only_met : (before : PendingLines) (v m : ℕ) (said : Reply) → IsReadOnly v m said → MetOpen before said
+read_only_met before v m said (inl closed) = met_as before _ said closed tt
+read_only_met before v m said (inr none) = met_as before _ said none tt
+
+pub delete_met : (before : PendingLines) (v rows : ℕ) (fault : LogicalFault) (said : Reply) → IsDeleteReply v rows fault said → IsSettledAt v before → MetOpen before said
+delete_met before v rows (refusal.Failed m count) said is settled = met_as before _ said is settled
+delete_met before v rows (refusal.Gone front) said is settled = met_as before _ said is settled
+delete_met before v rows (refusal.ReadOnly m) said is settled = read_only_met before v m said is
+delete_met before v rows refusal.NoMemory said is settled = met_as before _ said is tt
+delete_met before v rows (refusal.Damaged m place) said is settled = met_as before _ said is tt
+delete_met before v rows (refusal.Full m end need capacity) said is settled = absurd is
+delete_met before v rows (refusal.Busy m generation) said is settled = absurd is
+delete_met before v rows (refusal.Worn m) said is settled = absurd is
+delete_met before v rows refusal.Idle said is settled = absurd is
 
 -- RESTARTS
 

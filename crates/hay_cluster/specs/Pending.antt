@@ -1,10 +1,14 @@
 -- Which lines left a change or a row pending, whatever the disks tell, and what a restart tells of them.
 use Rattle.std.specs.Prelude.{◌≡◌, ◌≢◌, ◌⊎◌, ◌<◌, ◌+◌, ◌++◌, ℕ, Bool, List, [], ◌∷◌, length, map, replicate, slice_get, slice_set, Option, None, Some, option_map}
+use Rattle.std.specs.List.{AllByRecursion}
 use Rattle.hay_needle.specs.declared.settings.Settings.{Settings}
 use Rattle.hay_script.specs.declared.Command.{Command}
 use Rattle.hay_script.specs.declared.Command.TheVariants as asks
 use Rattle.hay_reply.specs.declared.Note.{Note}
+use Rattle.hay_reply.specs.declared.Refused.{Refused}
+use Rattle.hay_reply.specs.declared.Refused.TheVariants as refused
 use Rattle.hay_reply.specs.declared.Reply.{Reply}
+use Rattle.hay_reply.specs.declared.Reply.TheVariants as reply
 use Rattle.hay_reply.specs.declared.Reply.TheVariants.{Failed, FailedDir, NoMem}
 use Rattle.hay_legal.specs.Restarts.{replica_notes, row_note}
 use Rattle.hay_directory.specs.declared.fault.DirFault.{DirFault}
@@ -47,9 +51,13 @@ with_change v line pending = record pending { changes = slice_set pending.change
 abbrev pub with_row : ℕ → PendingLines → PendingLines
 with_row line pending = record pending { row = Some line }
 
+-- nothing is pending in volume v
+abbrev pub IsSettledAt : ℕ → PendingLines → Type 0
+IsSettledAt v pending = slice_get pending.changes v ≡ Some None
+
 -- the change of this line, or its row, came to be pending, where none was
 abbrev pub ChangePends : ℕ → ℕ → PendingLines → PendingLines → Type 0
-ChangePends v line before after = (slice_get before.changes v ≡ Some None) × (after ≡ with_change v line before)
+ChangePends v line before after = IsSettledAt v before × (after ≡ with_change v line before)
 
 abbrev pub RowPends : ℕ → PendingLines → PendingLines → Type 0
 RowPends line before after = (before.row ≡ None) × (after ≡ with_row line before)
@@ -108,10 +116,50 @@ LeavesPut settings line said before after =
 abbrev pub LeavesDelete : ℕ → Reply → PendingLines → PendingLines → Type 0
 LeavesDelete line said before after = FailsPending line said before after ⊎ (after ≡ before)
 
+-- a volume that lacks room takes changes
+abbrev pub RefusedOpen : PendingLines → Refused → Type 0
+RefusedOpen before (refused.Closed v m) = Unit {0}
+RefusedOpen before (refused.NoRoom v m end need) = IsSettledAt v before
+
+-- A change is made, fails, finds nothing or lacks room only where nothing was pending in its volume.
+abbrev pub MetOpen : PendingLines → Reply → Type 0
+MetOpen before (reply.Stored v p d c) = IsSettledAt v before
+MetOpen before (reply.Deleted v p d) = IsSettledAt v before
+MetOpen before (reply.Absent v f d) = IsSettledAt v before
+MetOpen before (reply.Failed v m n) = IsSettledAt v before
+MetOpen before (reply.Full tries) = AllByRecursion (RefusedOpen before) tries
+MetOpen before (reply.ReadOnly tries) = Unit {0}
+MetOpen before reply.ReadOnlyDir = Unit {0}
+MetOpen before (reply.FailedDir n) = Unit {0}
+MetOpen before (reply.Damaged v m at) = Unit {0}
+MetOpen before (reply.Photo v m f d photo) = Unit {0}
+MetOpen before (reply.Gone v m f d) = Unit {0}
+MetOpen before (reply.WrongCookie v m f d) = Unit {0}
+MetOpen before (reply.Unknown d) = Unit {0}
+MetOpen before (reply.Moved v d) = Unit {0}
+MetOpen before (reply.Url d url) = Unit {0}
+MetOpen before (reply.Unreadable v f d causes) = Unit {0}
+MetOpen before (reply.Flushed v m n) = Unit {0}
+MetOpen before (reply.Begun v m n) = Unit {0}
+MetOpen before (reply.Stepped v m n) = Unit {0}
+MetOpen before (reply.Compacted v m n) = Unit {0}
+MetOpen before (reply.Busy v m n) = Unit {0}
+MetOpen before (reply.Idle v m) = Unit {0}
+MetOpen before (reply.Worn v m) = Unit {0}
+MetOpen before (reply.Drained m) = Unit {0}
+MetOpen before (reply.Undrained m) = Unit {0}
+MetOpen before (reply.Fused v m calls) = Unit {0}
+MetOpen before (reply.FusedDir calls) = Unit {0}
+MetOpen before reply.Nowhere = Unit {0}
+MetOpen before (reply.Restarted d) = Unit {0}
+MetOpen before reply.BadLine = Unit {0}
+MetOpen before reply.Unbuilt = Unit {0}
+MetOpen before reply.NoMem = Unit {0}
+
 -- what the reply to the command of this line leaves pending; a restart is not answered by one
 abbrev pub LeavesPending : Settings → ℕ → Command → Reply → PendingLines → PendingLines → Type 0
-LeavesPending settings line (asks.Put pair photo) said before after = LeavesPut settings line said before after
-LeavesPending settings line (asks.Del pair) said before after = LeavesDelete line said before after
+LeavesPending settings line (asks.Put pair photo) said before after = LeavesPut settings line said before after × MetOpen before said
+LeavesPending settings line (asks.Del pair) said before after = LeavesDelete line said before after × MetOpen before said
 LeavesPending settings line (asks.Read pair cookie) said before after = after ≡ before
 LeavesPending settings line (asks.Get url) said before after = after ≡ before
 LeavesPending settings line (asks.Url pair) said before after = after ≡ before

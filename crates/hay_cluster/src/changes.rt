@@ -8,7 +8,7 @@ ghost use Rattle.hay_legal.specs.Known.{NoneFalls};
 ghost use Rattle.hay_cluster.specs.Causes.{IsCaused, RefusesDelete, SetsFuse, SetsFuseOn};
 ghost use Rattle.hay_cluster.specs.Changes.{IsDeleteReply, IsReadOnly};
 ghost use Rattle.hay_cluster.specs.Leaving.{AnySlot, KeepsIn, LeavesByDelete};
-ghost use Rattle.hay_cluster.specs.Pending.{LeavesDelete, pending_of};
+ghost use Rattle.hay_cluster.specs.Pending.{LeavesDelete, MetOpen, pending_of};
 ghost use Rattle.hay_cluster.specs.State.{Answered, Stands};
 ghost use Rattle.hay_cluster.specs.Store.{IsUp, contents_in, disks_of};
 ghost use Rattle.hay_cluster.specs.Suiting.{Suits};
@@ -42,6 +42,7 @@ impl<D: Disk, A: Arm<D::Piece>> Cluster<D, A> {
         ensures contents { D.Tells → LeavesByDelete self.old.settings result (contents_in D.files self.old) (contents_in D.files self.new) }
         ensures arms { self.new.arms ≡ self.old.arms }
         ensures pending { LeavesDelete tag.line result (pending_of self.old) (pending_of self.new) }
+        ensures met { MetOpen (pending_of self.old) result }
         ensures settings { self.new.settings ≡ self.old.settings }
         ensures up { IsUp self.new }
     {

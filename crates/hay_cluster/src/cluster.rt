@@ -79,7 +79,7 @@ impl<D: Disk, A: Arm<D::Piece>> Cluster<D, A> {
         // What reads give of the disks is changed as the reply tells, and by work on a replica on its disk alone.
         ensures contents { D.Tells → LeavesContents self.old.settings command.now result (contents_in D.files self.old) (contents_in D.files self.new) }
         ensures arm_counts { NoneFalls (map A.fault_count self.old.arms) (map A.fault_count self.new.arms) }
-        // A change or a row is pending only where its own line failed, or wanted memory.
+        // A change or a row is pending only where its own line failed, or wanted memory; and a volume where one is takes no other.
         ensures pending { LeavesPending self.old.settings tag.line command.now result (pending_of self.old) (pending_of self.new) }
         ensures settings { self.new.settings ≡ self.old.settings }
         ensures up { IsUp self.new }

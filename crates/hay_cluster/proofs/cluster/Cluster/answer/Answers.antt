@@ -181,10 +181,10 @@ pub returns-in-Compact-clause-suits : goal.returns-in-Compact-clause-suits
 returns-in-Compact-clause-suits g c = subst (λ (asked : Command). Suits (c.args.self.now).settings c.args.tag.line asked c.maintain-in-Compact.result) (sym c.in-Compact.is) (c.maintain-in-Compact.ensures.suits c.args.tag.line)
 
 pub returns-in-Put-clause-pending : goal.returns-in-Put-clause-pending
-returns-in-Put-clause-pending g c = subst (λ (asked : Command). LeavesPending (c.args.self.now).settings c.args.tag.line asked c.put.result (pending_of c.args.self.now) (pending_of c.put.new.self)) (sym c.in-Put.is) c.put.ensures.pending
+returns-in-Put-clause-pending g c = subst (λ (asked : Command). LeavesPending (c.args.self.now).settings c.args.tag.line asked c.put.result (pending_of c.args.self.now) (pending_of c.put.new.self)) (sym c.in-Put.is) (c.put.ensures.pending, c.put.ensures.met)
 
 pub returns-in-Del-clause-pending : goal.returns-in-Del-clause-pending
-returns-in-Del-clause-pending g c = subst (λ (asked : Command). LeavesPending (c.args.self.now).settings c.args.tag.line asked c.delete.result (pending_of c.args.self.now) (pending_of c.delete.new.self)) (sym c.in-Del.is) c.delete.ensures.pending
+returns-in-Del-clause-pending g c = subst (λ (asked : Command). LeavesPending (c.args.self.now).settings c.args.tag.line asked c.delete.result (pending_of c.args.self.now) (pending_of c.delete.new.self)) (sym c.in-Del.is) (c.delete.ensures.pending, c.delete.ensures.met)
 
 pub returns-in-Read-clause-pending : goal.returns-in-Read-clause-pending
 returns-in-Read-clause-pending g c = subst (λ (asked : Command). LeavesPending (c.args.self.now).settings c.args.tag.line asked c.read.result (pending_of c.args.self.now) (pending_of c.read.new.self)) (sym c.in-Read.is) c.read.ensures.pending

@@ -4,7 +4,7 @@ use Rattle.hay_legal.specs.Known.{closed, home_of, volume_at}
 use Rattle.hay_legal.specs.Plain.{with_del}
 use Rattle.hay_cluster.proofs.Changing.{deleted, not_deleted}
 use Rattle.hay_cluster.proofs.Suiting.{closed_suits_del, del_refusal_suits}
-use Rattle.hay_cluster.proofs.Pending.{delete_pending}
+use Rattle.hay_cluster.proofs.Pending.{delete_met, delete_pending, read_only_met}
 use Rattle.hay_cluster.specs.Pending.{pending_of}
 use Rattle.hay_cluster.specs.Store.{contents_in}
 use Rattle.hay_cluster.specs.Leaving.{AnySlot, IsBeside}
@@ -77,3 +77,10 @@ returns-clause-contents g c = λ tells.
     delete_leaves (c.args.self.now).settings c.in-Some.volume c.rows-in-Err.result (contents_in g.D.Disk.files c.args.self.now) (contents_in g.D.Disk.files c.delete_in.new.self) c.in-Err.fault c.delete_refusal.result c.delete_refusal.ensures.is
     (leaves_contents g.D.Disk.files (c.args.self.now).settings (IsBeside (c.args.self.now).settings c.in-Some.volume) c.args.self.now c.delete_in.new.self c.delete_in.ensures.beside)
     (IfErr-at_err _ c.in-Err.is (c.delete_in.ensures.kept tells))
+
+pub returns-in-Some-closed_by-clause-met : goal.returns-in-Some-closed_by-clause-met
+returns-in-Some-closed_by-clause-met g c = read_only_met (pending_of c.args.self.now) c.in-Some.volume c.in-Some-closed_by.machine c.read_only.result c.read_only.ensures.is
+
+pub returns-clause-met : goal.returns-clause-met
+returns-clause-met g c =
+    delete_met (pending_of c.args.self.now) c.in-Some.volume c.rows-in-Err.result c.in-Err.fault c.delete_refusal.result c.delete_refusal.ensures.is (c.in_default-closed_by.ensures).settled

@@ -4,7 +4,8 @@ use Rattle.hay_cluster.proofs.Answering.{answered, stays}
 use Rattle.hay_cluster.proofs.Moves.{none_falls}
 use Rattle.hay_cluster.proofs.Puts.{home_refused}
 use Rattle.hay_cluster.proofs.Suiting.{one_refuses, refusal_suits}
-use Rattle.hay_cluster.proofs.Pending.{refusal_no_failure}
+use Rattle.hay_cluster.specs.Pending.{pending_of}
+use Rattle.hay_cluster.proofs.Pending.{refusal_met, refusal_no_failure}
 use Rattle.hay_cluster.specs.Leaving.{AnySlot}
 use Rattle.hay_cluster.proofs.Leaving.{keeps-all}
 use Rattle.hay_cluster.proofs.cluster.Cluster.put.Goals as goal
@@ -51,3 +52,7 @@ returns-in-Some-refusal-clause-contents g c = inr (inr (keeps-all (c.args.self.n
 
 pub put_tried-requires-clause-takes : goal.put_tried-requires-clause-takes
 put_tried-requires-clause-takes g c = λ volume is. c.find_taker.ensures.takes volume (c.in-Ok.is ∙ ap Ok is)
+
+pub returns-in-Some-refusal-clause-met : goal.returns-in-Some-refusal-clause-met
+returns-in-Some-refusal-clause-met g c =
+    refusal_met (pending_of c.args.self.now) (c.in-Some-refusal.refused ∷ []) c.refuse_one.result c.refuse_one.ensures.is ((c.in-Some-refusal.ensures).met, tt)

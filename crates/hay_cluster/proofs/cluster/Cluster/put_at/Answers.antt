@@ -7,7 +7,7 @@ use Rattle.hay_legal.specs.Plain.{with_put}
 use Rattle.hay_cluster.proofs.Puts.{put_caused, put_done, put_refused}
 use Rattle.hay_reply.specs.declared.Reply.TheVariants.{Stored}
 use Rattle.hay_cluster.proofs.Suiting.{put_refusal_suits}
-use Rattle.hay_cluster.proofs.Pending.{put_pending}
+use Rattle.hay_cluster.proofs.Pending.{put_met, put_pending}
 use Rattle.hay_cluster.specs.Pending.{pending_of}
 use Rattle.hay_cluster.specs.Leaving.{IsBeside, IsReplicaBeside}
 use Rattle.hay_cluster.proofs.Leaving.{leaves-fewer, leaves_contents, put_leaves, taken_may}
@@ -69,3 +69,6 @@ returns-in-Ok-clause-takes g c = λ takes. inl (c.in-Ok.position, c.rows.result,
 pub returns-in-Err-clause-takes : goal.returns-in-Err-clause-takes
 returns-in-Err-clause-takes g c = λ takes.
     taken_may (c.args.self.now).settings c.args.volume c.in-Err.fault c.put_refusal.result c.requires.volume c.put_refusal.ensures.is (IfErr-at_err _ c.in-Err.is (c.put_in.ensures.takes takes))
+
+pub returns-in-Err-clause-met : goal.returns-in-Err-clause-met
+returns-in-Err-clause-met g c = put_met (pending_of c.args.self.now) c.args.volume c.in-Err.fault c.put_refusal.result c.put_refusal.ensures.is c.requires.settled

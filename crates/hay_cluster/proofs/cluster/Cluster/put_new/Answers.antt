@@ -16,8 +16,8 @@ use Rattle.hay_cluster.proofs.Moves.{falls_trans}
 use Rattle.hay_cluster.proofs.Puts.{put_legal}
 use Rattle.hay_cluster.specs.Suiting.{SuitsPut}
 use Rattle.hay_cluster.proofs.Suiting.{settle_suits}
-use Rattle.hay_cluster.proofs.Pending.{settle_pending}
-use Rattle.hay_cluster.specs.Pending.{LeavesPut, PendingLines, pending_of}
+use Rattle.hay_cluster.proofs.Pending.{settle_met, settle_pending}
+use Rattle.hay_cluster.specs.Pending.{IsSettledAt, LeavesPut, MetOpen, PendingLines, pending_of}
 use Rattle.std.proofs.lemmas.Result.{IfErr-at_err}
 use Rattle.hay_cluster.specs.Leaving.{IsBeside, IsReplicaBeside, IsReplicaSlot, LeavesIn, MayPut}
 use Rattle.hay_cluster.proofs.Leaving.{leaves-fewer, leaves-on, leaves_contents, same_contents, unsettled_leaves}
@@ -93,3 +93,12 @@ returns-in-Err-clause-contents g c =
     unsettled_leaves (c.args.self.now).settings c.args.volume (contents_in g.D.Disk.files c.args.self.now) (contents_in g.D.Disk.files c.settle.new.self) c.in-Err.fault c.settle_refusal.result c.requires.volume c.settle_refusal.ensures.is
     (leaves_contents g.D.Disk.files (c.args.self.now).settings IsReplicaSlot c.args.self.now c.settle.new.self c.settle.ensures.replicas)
     (λ frozen. same_contents g.D.Disk.files (c.args.self.now).settings c.args.self.now c.settle.new.self (c.settle.ensures.refused_frozen (c.in-Err.is ∙ ap Err frozen)))
+
+pub put_at-requires-clause-settled : goal.put_at-requires-clause-settled
+put_at-requires-clause-settled g c = subst (λ (p : PendingLines). IsSettledAt c.args.volume p) (sym c.in-Ok.ensures.settled_pending) c.requires.settled
+
+pub returns-in-Ok-clause-met : goal.returns-in-Ok-clause-met
+returns-in-Ok-clause-met g c = subst (λ (p : PendingLines). MetOpen p c.put_at.result) c.in-Ok.ensures.settled_pending c.put_at.ensures.met
+
+pub returns-in-Err-clause-met : goal.returns-in-Err-clause-met
+returns-in-Err-clause-met g c = settle_met (pending_of c.args.self.now) c.in-Err.fault c.settle_refusal.result c.settle_refusal.ensures.is

@@ -8,7 +8,8 @@ use Rattle.hay_cluster.specs.Store.{contents_in, disks_of}
 use Rattle.hay_cluster.proofs.Moves.{none_falls}
 use Rattle.hay_cluster.proofs.Puts.{all_refused}
 use Rattle.hay_cluster.proofs.Suiting.{all_refuse, refusal_suits}
-use Rattle.hay_cluster.proofs.Pending.{refusal_no_failure}
+use Rattle.hay_cluster.specs.Pending.{pending_of}
+use Rattle.hay_cluster.proofs.Pending.{refusal_met, refusal_no_failure}
 use Rattle.hay_cluster.specs.Leaving.{AnySlot}
 use Rattle.hay_cluster.proofs.Leaving.{keeps-all}
 use Rattle.hay_cluster.proofs.cluster.Cluster.put_tried.Goals as goal
@@ -40,3 +41,6 @@ returns-in-Nobody-clause-pending g c = inr (inr (inr (refusal_no_failure _ c.ref
 
 pub returns-in-Nobody-clause-contents : goal.returns-in-Nobody-clause-contents
 returns-in-Nobody-clause-contents g c = inr (inr (keeps-all (c.args.self.now).settings AnySlot (contents_in g.D.Disk.files c.args.self.now)))
+
+pub returns-in-Nobody-clause-met : goal.returns-in-Nobody-clause-met
+returns-in-Nobody-clause-met g c = refusal_met (pending_of c.args.self.now) c.in-Nobody.refused c.refuse.result c.refuse.ensures.is (c.requires.met c.in-Nobody.refused c.in-Nobody.is)

@@ -18,6 +18,8 @@ use Rattle.hay_cluster.proofs.Moves.{volume_of, volume_stood}
 use Rattle.hay_cluster.proofs.Calls.{called_open}
 use Rattle.hay_cluster.proofs.Refusals.{refused_for, taken_for}
 use Rattle.hay_cluster.proofs.Suiting.{lack_refuses, room_lack}
+use Rattle.hay_cluster.proofs.Pending.{lack_open}
+use Rattle.hay_cluster.specs.Pending.{pending_of}
 use Rattle.hay_cluster.proofs.cluster.Cluster.refusal.Goals as goal
 
 pub offset_bounds-as_slice-volume : goal.offset_bounds-as_slice-volume
@@ -66,7 +68,9 @@ returns-in-Ok g c = record {
       let one : Some volume ≡ Some other = sym here ∙ there in
       let same : volume ≡ other = cc in
       subst (λ (w : Volume g.row.D.Denot g.row.D-Piece.Denot). (w.frozen ≡ None) × ((j : ℕ) (r : Copy g.row.D.Denot) → At w.replicas j r → RoomFor c.args.size r)) same c.in-Ok.ensures.fits;
+  settled = (c.in_default.ensures).settled;
   refuses = tt;
+  met = tt;
   fits = tt;
 }
 
@@ -90,6 +94,8 @@ returns-in-Err g c = record {
       sym c.lack_of.ensures.is ∙ subst (λ (st : Open g.row.D.Denot g.row.D-Piece.Denot g.row.A.Denot). lack_of c.args.volume c.in-Err.fault ≡ refusal_of st.settings k c.args.size c.args.volume) c.self.view_is
       (refused_for store.settings k c.args.volume c.args.size c.in-Err.fault thawed (said ∙ c.in-Err.is));
   takes = tt;
+  settled = tt;
+  met = lack_open c.args.volume (pending_of c.args.self.now) c.in-Err.fault c.lack_of.result c.lack_of.ensures.is (c.in_default.ensures).settled;
   refuses =
       let store : Open g.row.D.Denot g.row.D-Piece.Denot g.row.A.Denot = record { settings = c.self.inside.settings; directory = c.self.inside.directory; volumes = c.self.inside.volumes.items; arms = c.self.inside.seats.items } in
       let volume = c.index-as_slice-volume.result in
