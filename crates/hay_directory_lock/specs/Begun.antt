@@ -1,14 +1,15 @@
--- What stood when the lock was made.
-use Rattle.hay_needle.specs.declared.settings.Settings.{Settings}
-use Rattle.hay_history.specs.Steps.{RowsStanding}
-use Rattle.hay_views.specs.HomeLooks.{HomesAt, HomesShown}
+-- What stood where the lock was made.
+use Rattle.std.specs.Prelude.{◌≡◌, Some}
+use Rattle.hay_needle.specs.declared.needle.Pair.{Pair}
+use Rattle.hay_legal.specs.Known.{home_in}
+use Rattle.hay_directory.specs.State.{IsUp, home_of}
+use Rattle.hay_views.specs.HomeLooks.{HomesAt}
+use Rattle.hay_directory_lock.specs.declared.kept.Begun.{Begun}
 
--- the settings, what stood of the Directory, and what its front had published
-pub record BegunAt : Type 0 where
-  pub settings : Settings
-  pub rows : RowsStanding
-  pub view : HomesShown
-
--- the rows as they were published first
-abbrev pub first_homes : BegunAt → HomesAt
-first_homes begun = record { volumes = (begun.settings).volumes; rows = ((begun.rows).directory).rows }
+-- a Directory that is up; its homes were published first
+pub record IsBegun {D : Type 0} (begun : Begun D) : Type 0 where
+  pub up : IsUp begun.directory
+  pub homes : HomesAt
+  pub base : (begun.view).base ≡ Some (homes, tt)
+  pub volumes : homes.volumes ≡ ((begun.directory).settings).volumes
+  pub same : (pair : Pair) → home_in homes.rows pair ≡ home_of begun.directory pair
