@@ -28,7 +28,7 @@ use Rattle.hay_directory.specs.State.{IsUp, State, Stands, home_of, is_closed, i
 use Rattle.hay_directory.proofs.HomeLaws.{homes_settled}
 use Rattle.hay_directory.proofs.Standing.{serving}
 use Rattle.hay_views.specs.HomeLooks.{HomesShown}
-use Rattle.hay_directory_lock.specs.declared.kept.Begun.{Begun}
+use Rattle.hay_directory_lock.specs.Begun.{BegunAt}
 use Rattle.hay_directory_lock.specs.Acts.{add_tag, mode_behind, mode_by, tag_of, tags_of}
 use Rattle.hay_directory_lock.specs.Standing.{HomeFront, KeptFor, MayBeKnown}
 
@@ -85,7 +85,7 @@ module _ {D : Type 0} (Tells : Type 0) (files : D → Files) (faults fuses : D �
     tags : map (λ e. e.tag) f'.log ≡ map (λ e. e.tag) f.log ++ add_tag (row_of act.did) (tag_of act) []
     serves : is_frozen d'.mode ≡ false → f'.closed ≡ false
 
-  kept_by : (begun : Begun D) (acts : List DirAct) (act : DirAct) (d d' : State D) (f f' : HomeFront) → KeptFor Tells files faults fuses begun acts d f
+  kept_by : (begun : BegunAt D) (acts : List DirAct) (act : DirAct) (d d' : State D) (f f' : HomeFront) → KeptFor Tells files faults fuses begun acts d f
       → Leaves act d d' f f' → KeptFor Tells files faults fuses begun (acts ++ act ∷ []) d' f'
   kept_by begun acts act d d' f f' k m =
       let next : (s : RowsStanding) → left row_lock s (acts ++ act ∷ []) ≡ rows_left_by act (left row_lock s acts) = λ s. left_append row_lock s acts (act ∷ []) in
@@ -122,7 +122,7 @@ module _ {D : Type 0} (Tells : Type 0) (files : D → Files) (faults fuses : D �
         serves = m.serves;
       }
 
-  module _ {begun : Begun D} {acts : List DirAct} {d : State D} {f : HomeFront} (k : KeptFor Tells files faults fuses begun acts d f) where
+  module _ {begun : BegunAt D} {acts : List DirAct} {d : State D} {f : HomeFront} (k : KeptFor Tells files faults fuses begun acts d f) where
     missing : (row : HomeRow) (s : RowsStanding) → is_frozen d.mode ≡ false → home_of d row.pair ≡ None → MayBeKnown d s.directory → IsMissing s row
     missing row s thawed homeless is = (sym is.frozen ∙ thawed, sym (is.homes row.pair) ∙ homeless)
 

@@ -11,7 +11,7 @@ use Rattle.hay_meeting.specs.Locks.{entries, left}
 use Rattle.hay_holdings.specs.Rows.{FailedRow, rows_found}
 use Rattle.hay_meeting.specs.Sights.{rows_stood}
 use Rattle.hay_directory.specs.State.{State, home_of, is_frozen}
-use Rattle.hay_directory_lock.specs.declared.kept.Begun.{Begun}
+use Rattle.hay_directory_lock.specs.Begun.{BegunAt}
 use Rattle.hay_directory_lock.specs.Standing.{HomeFront, KeptFor, StandsAt}
 
 pub not_true : (b : Bool) → (b ≡ true → ⊥) → b ≡ false
@@ -23,7 +23,7 @@ pub all_counted : (rows : List HomeRow) → filter (λ (r : HomeRow). true) rows
 all_counted [] = refl
 all_counted (row ∷ rows) = ap (λ (l : List HomeRow). row ∷ l) (all_counted rows)
 
-module _ {D : Type 0} (Tells : Type 0) (files : D → Files) (faults fuses : D → ℕ) {begun : Begun D} where
+module _ {D : Type 0} (Tells : Type 0) (files : D → Files) (faults fuses : D → ℕ) {begun : BegunAt D} where
   -- how many rows were published
   pub published : (acts : List DirAct) (d : State D) (f : HomeFront) (n : ℕ) → KeptFor Tells files faults fuses begun acts d f → n ≡ length (filter (λ (r : HomeRow). true) (f.shown).deeds) → n ≡ length (entries row_lock acts)
   published acts d f n k is = is ∙ ap length (all_counted (f.shown).deeds ∙ k.shown)

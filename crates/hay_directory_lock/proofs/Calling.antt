@@ -30,7 +30,7 @@ use Rattle.hay_directory.specs.declared.fault.DirFault.TheVariants as refusal
 use Rattle.hay_directory_lock.specs.Answers.{Settles, SettlesAs}
 use Rattle.hay_views.specs.HomeLooks.{HomesShown, IsHomeOf, with_row}
 use Rattle.hay_views.proofs.HomeLaw.{home_looked}
-use Rattle.hay_directory_lock.specs.declared.kept.Begun.{Begun}
+use Rattle.hay_directory_lock.specs.Begun.{BegunAt}
 use Rattle.hay_directory_lock.specs.Seats.{DirectorySeatState, IsSeated, LockState, sight}
 use Rattle.hay_directory_lock.specs.Standing.{HomeFront, KeptFor, StandsAt}
 use Rattle.hay_directory_lock.proofs.Answering.{all_counted}
@@ -54,7 +54,7 @@ their_seats tag (act ∷ acts) of = (of.0.1, their_seats tag acts of.1)
 -- A HOLDING
 
 -- what of a seat is said of its seat at the turn
-record IsTurnAt {D : Type 0} (lock : LockState) (begun : Begun D) (lane : ℕ) (holds : Bool) (seat : SeatState (Begun D) DirAct) : Type 0 where
+record IsTurnAt {D : Type 0} (lock : LockState) (begun : BegunAt D) (lane : ℕ) (holds : Bool) (seat : SeatState (BegunAt D) DirAct) : Type 0 where
   turn_is : seat.turn ≡ lock.turn
   seats : seat.seats ≡ lock.seats
   number : seat.number ≡ lane
@@ -62,10 +62,10 @@ record IsTurnAt {D : Type 0} (lock : LockState) (begun : Begun D) (lane : ℕ) (
   holds_is : seat.holds ≡ holds
 
 module _ {D Y : Type 0} (Tells : Type 0) (files : D → Files) (faults fuses : D → ℕ) (directory_of : Y → State D) (front_of : Y → HomeFront) where
-  abbrev Stood : Begun D → List DirAct → Y → Type 0
+  abbrev Stood : BegunAt D → List DirAct → Y → Type 0
   Stood begun acts y = KeptFor Tells files faults fuses begun acts (directory_of y) (front_of y)
 
-  module _ {lock : LockState} {begun : Begun D} {lane : ℕ} {seat : DirectorySeatState D} (seated : IsSeated lock begun lane seat) {mid : SeatState (Begun D) DirAct} {y : Y} (held : Holds (λ a. a.seat) Stood seat.turn mid y) where
+  module _ {lock : LockState} {begun : BegunAt D} {lane : ℕ} {seat : DirectorySeatState D} (seated : IsSeated lock begun lane seat) {mid : SeatState (BegunAt D) DirAct} {y : Y} (held : Holds (λ a. a.seat) Stood seat.turn mid y) where
     pub kept_held : KeptFor Tells files faults fuses begun mid.seen (directory_of y) (front_of y)
     kept_held = held.stands_for begun seated.start
 
@@ -75,22 +75,22 @@ module _ {D Y : Type 0} (Tells : Type 0) (files : D → Files) (faults fuses : D
     pub settings_held : (directory_of y).settings ≡ lock.settings
     settings_held = (kept_held.of).settings ∙ seated.settings
 
-    module _ (tag : CoreTag) {y' : Y} (made : Option DirAct) (by_lane : lane ≡ tag.lane) (of : AreOf tag (acts_in made)) (kept : (begun : Begun D) (acts : List DirAct) → KeptFor Tells files faults fuses begun acts (directory_of y) (front_of y) → KeptFor Tells files faults fuses begun (acts ++ acts_in made) (directory_of y') (front_of y')) where
+    module _ (tag : CoreTag) {y' : Y} (made : Option DirAct) (by_lane : lane ≡ tag.lane) (of : AreOf tag (acts_in made)) (kept : (begun : BegunAt D) (acts : List DirAct) → KeptFor Tells files faults fuses begun acts (directory_of y) (front_of y) → KeptFor Tells files faults fuses begun (acts ++ acts_in made) (directory_of y') (front_of y')) where
       pub may_free : MayFree (λ a. a.seat) Stood mid y' (acts_in made)
       may_free = record {
-        stands_for = λ b is. kept b mid.seen (held.stands_for b (sym (ap (λ (s : SeatState (Begun D) DirAct). s.start) held.same) ∙ is));
-        mine = mine tag mid.number (acts_in made) (ap (λ (s : SeatState (Begun D) DirAct). s.number) held.same ∙ seated.number ∙ by_lane) of;
+        stands_for = λ b is. kept b mid.seen (held.stands_for b (sym (ap (λ (s : SeatState (BegunAt D) DirAct). s.start) held.same) ∙ is));
+        mine = mine tag mid.number (acts_in made) (ap (λ (s : SeatState (BegunAt D) DirAct). s.number) held.same ∙ seated.number ∙ by_lane) of;
       }
 
-      module _ {new : SeatState (Begun D) DirAct} (freed : new ≡ after_free mid (acts_in made)) {view : HomesShown} (all : view ≡ (front_of y').shown) where
+      module _ {new : SeatState (BegunAt D) DirAct} (freed : new ≡ after_free mid (acts_in made)) {view : HomesShown} (all : view ≡ (front_of y').shown) where
         kept_then : KeptFor Tells files faults fuses begun (mid.seen ++ acts_in made) (directory_of y') (front_of y')
         kept_then = kept begun mid.seen kept_held
 
         pub seated_still : IsSeated lock begun lane (record { turn = new; view = view })
         seated_still =
-            let was = subst (λ (s : SeatState (Begun D) DirAct). IsTurnAt lock begun lane true s) (sym held.same)
+            let was = subst (λ (s : SeatState (BegunAt D) DirAct). IsTurnAt lock begun lane true s) (sym held.same)
                 (record { turn_is = seated.turn_is; seats = seated.seats; number = seated.number; start = seated.start; holds_is = refl }) in
-            let is = subst (λ (s : SeatState (Begun D) DirAct). IsTurnAt lock begun lane false s) (sym freed)
+            let is = subst (λ (s : SeatState (BegunAt D) DirAct). IsTurnAt lock begun lane false s) (sym freed)
                 (record { turn_is = was.turn_is; seats = was.seats; number = was.number; start = was.start; holds_is = refl }) in
             record {
               turn_is = is.turn_is;
@@ -110,7 +110,7 @@ module _ {D Y : Type 0} (Tells : Type 0) (files : D → Files) (faults fuses : D
             let shown : view.deeds ≡ entries row_lock (mid.seen ++ acts_in made) = ap (λ (w : HomesShown). w.deeds) all ∙ kept_then.shown in
             let from : IsPrefix (seat.view).deeds (entries row_lock mid.seen) = subst (λ (l : List HomeRow). IsPrefix (seat.view).deeds l) kept_held.shown behind.2 in
             let here = held_by_seat row_lock {tag = tag} made held from (their_tags tag (acts_in made) of) (their_seats tag (acts_in made) of) in
-            let there = subst (λ (s : SeatState (Begun D) DirAct). Holding row_lock tag mid.seen made (sight seat) (sight_of s (entries row_lock (mid.seen ++ acts_in made)))) (sym freed) here in
+            let there = subst (λ (s : SeatState (BegunAt D) DirAct). Holding row_lock tag mid.seen made (sight seat) (sight_of s (entries row_lock (mid.seen ++ acts_in made)))) (sym freed) here in
             subst (λ (l : List HomeRow). Holding row_lock tag mid.seen made (sight seat) (sight_of new l)) (sym shown) there
 
 -- THE ANSWER FOR A ROW
@@ -153,7 +153,7 @@ more_homes : (xs ys more : List HomeRow) (pair : Pair) → home_in xs pair ≡ h
 more_homes xs ys more pair same =
     home_in-append xs more pair ∙ ap (λ (home : Option ℕ). option_or home (home_in more pair)) same ∙ sym (home_in-append ys more pair)
 
-module _ {D : Type 0} (faults fuses : D → ℕ) (start : Start) {lock : LockState} {begun : Begun D} {lane : ℕ} {seat : DirectorySeatState D} (seated : IsSeated lock begun lane seat) (at : StandsAt faults fuses begun.directory start.directory) where
+module _ {D : Type 0} (faults fuses : D → ℕ) (start : Start) {lock : LockState} {begun : BegunAt D} {lane : ℕ} {seat : DirectorySeatState D} (seated : IsSeated lock begun lane seat) (at : StandsAt faults fuses begun.directory start.directory) where
   pub stood_first : length ((start.directory).directory).rows ≡ lock.stood
   stood_first = sym at.count ∙ seated.stood
 
@@ -168,6 +168,6 @@ module _ {D : Type 0} (faults fuses : D → ℕ) (start : Start) {lock : LockSta
 
 -- WHAT A CALL IS GIVEN, of the lock and of the seat as they are inside
 
-pub seated_in : {D : Type 0} {lock now : LockState} {begun : Begun D} {lane : ℕ} {seat old : DirectorySeatState D} → lock ≡ now → seat ≡ old → IsSeated now begun lane old → IsSeated lock begun lane seat
+pub seated_in : {D : Type 0} {lock now : LockState} {begun : BegunAt D} {lane : ℕ} {seat old : DirectorySeatState D} → lock ≡ now → seat ≡ old → IsSeated now begun lane old → IsSeated lock begun lane seat
 seated_in {D} {lock} {now} {begun} {lane} {seat} {old} lock_is seat_is seated =
     subst (λ (s : DirectorySeatState D). IsSeated lock begun lane s) (sym seat_is) (subst (λ (l : LockState). IsSeated l begun lane old) (sym lock_is) seated)

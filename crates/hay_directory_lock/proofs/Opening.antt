@@ -16,7 +16,7 @@ use Rattle.hay_meeting.specs.Acts.{row_lock}
 use Rattle.hay_meeting.proofs.Closing.{there}
 use Rattle.hay_directory.specs.State.{IsUp, State}
 use Rattle.hay_views.specs.HomeLooks.{HomesShown}
-use Rattle.hay_directory_lock.specs.declared.kept.Begun.{Begun}
+use Rattle.hay_directory_lock.specs.Begun.{BegunAt}
 use Rattle.hay_directory_lock.specs.Opening.{AreNewSeats, AreSeated, Closes, HasHomes}
 use Rattle.hay_directory_lock.specs.Seats.{DirectorySeatState, LockState}
 use Rattle.hay_directory_lock.specs.Standing.{HomeFront, KeptFor}
@@ -40,7 +40,7 @@ module _ {D : Type 0} (Tells : Type 0) (files : D → Files) (faults fuses : D �
 
   module _ {d : State D} {settings : Settings} (same : d.settings ≡ settings) {f : HomeFront} where
     pub opens : {rows : List HomeRow} → IsUp d → HasHomes d rows → (f.shown).base ≡ Some (record { volumes = settings.volumes; rows = rows }, tt) → (f.shown).deeds ≡ [] → f.log ≡ [] → f.closed ≡ false
-        → (begun : Begun D) × KeptFor Tells files faults fuses begun [] d f
+        → (begun : BegunAt D) × KeptFor Tells files faults fuses begun [] d f
     opens {rows} up has base none no_log open_to = (
       record { directory = d; view = f.shown },
       record {
@@ -70,10 +70,10 @@ module _ {D : Type 0} (Tells : Type 0) (files : D → Files) (faults fuses : D �
     )
 
     -- what stood where it was made is no other Directory
-    pub begun_is : (begun : Begun D) → KeptFor Tells files faults fuses begun [] d f → begun.directory ≡ d
+    pub begun_is : (begun : BegunAt D) → KeptFor Tells files faults fuses begun [] d f → begun.directory ≡ d
     begun_is begun k = sym ((k.of).untouched refl)
 
-    pub new_seats : (lock : LockState) (begun : Begun D) (k : KeptFor Tells files faults fuses begun [] d f) (turns : List (SeatState (Begun D) DirAct)) (views : List HomesShown) (seats : List (DirectorySeatState D))
+    pub new_seats : (lock : LockState) (begun : BegunAt D) (k : KeptFor Tells files faults fuses begun [] d f) (turns : List (SeatState (BegunAt D) DirAct)) (views : List HomesShown) (seats : List (DirectorySeatState D))
         → lock.settings ≡ settings → lock.stood ≡ d.count → 0 < lock.seats → (f.shown).deeds ≡ [] → AreNew lock.turn (Some begun) lock.seats turns → length turns ≡ lock.seats → views ≡ replicate lock.seats f.shown
         → map (λ seat. seat.turn) seats ≡ turns → map (λ seat. seat.view) seats ≡ views → AreNewSeats lock begun seats
     new_seats lock begun k turns views seats settings_is stood some none fresh many all turns_are views_are =
@@ -86,11 +86,11 @@ module _ {D : Type 0} (Tells : Type 0) (files : D → Files) (faults fuses : D �
             many = sym (length-map seats (λ (s : DirectorySeatState D). s.turn)) ∙ ap length turns_are ∙ many;
             some = some;
             each = λ lane seat at. record {
-              turn_is = ap (λ (s : SeatState (Begun D) DirAct). s.turn) (turn_at lane seat at);
-              seats = ap (λ (s : SeatState (Begun D) DirAct). s.seats) (turn_at lane seat at);
-              number = ap (λ (s : SeatState (Begun D) DirAct). s.number) (turn_at lane seat at);
-              start = ap (λ (s : SeatState (Begun D) DirAct). s.start) (turn_at lane seat at);
-              rests = ap (λ (s : SeatState (Begun D) DirAct). s.holds) (turn_at lane seat at);
+              turn_is = ap (λ (s : SeatState (BegunAt D) DirAct). s.turn) (turn_at lane seat at);
+              seats = ap (λ (s : SeatState (BegunAt D) DirAct). s.seats) (turn_at lane seat at);
+              number = ap (λ (s : SeatState (BegunAt D) DirAct). s.number) (turn_at lane seat at);
+              start = ap (λ (s : SeatState (BegunAt D) DirAct). s.start) (turn_at lane seat at);
+              rests = ap (λ (s : SeatState (BegunAt D) DirAct). s.holds) (turn_at lane seat at);
               from = k.from;
               settings = sym (k.of).settings ∙ same ∙ sym settings_is;
               stood = ap (λ (x : State D). x.count) (begun_is begun k) ∙ sym stood;
@@ -99,15 +99,15 @@ module _ {D : Type 0} (Tells : Type 0) (files : D → Files) (faults fuses : D �
             };
           };
           blank = λ lane seat at.
-              let seen = ap (λ (s : SeatState (Begun D) DirAct). s.seen) (turn_at lane seat at) in
-              let own = ap (λ (s : SeatState (Begun D) DirAct). s.own) (turn_at lane seat at) in
+              let seen = ap (λ (s : SeatState (BegunAt D) DirAct). s.seen) (turn_at lane seat at) in
+              let own = ap (λ (s : SeatState (BegunAt D) DirAct). s.own) (turn_at lane seat at) in
               let shown = ap (λ (w : HomesShown). w.deeds) (view_at lane seat at) ∙ none in
               λ i. record { seen = seen i; own = own i; shown = shown i };
         }
 
   -- WHERE IT ENDS
 
-  module _ {lock : LockState} {begun : Begun D} {seats : List (DirectorySeatState D)} (are : AreSeated lock begun seats) {turns : List (SeatState (Begun D) DirAct)} (turns_are : turns ≡ map (λ seat. seat.turn) seats) where
+  module _ {lock : LockState} {begun : BegunAt D} {seats : List (DirectorySeatState D)} (are : AreSeated lock begun seats) {turns : List (SeatState (BegunAt D) DirAct)} (turns_are : turns ≡ map (λ seat. seat.turn) seats) where
     many_turns : length turns ≡ lock.seats
     many_turns = ap length turns_are ∙ length-map seats (λ (s : DirectorySeatState D). s.turn) ∙ are.many
 
@@ -118,10 +118,10 @@ module _ {D : Type 0} (Tells : Type 0) (files : D → Files) (faults fuses : D �
           let found = unmapped (λ (z : DirectorySeatState D). z.turn) seats i s (ap (λ l. slice_get l i) (sym turns_are) ∙ at) in
           let seat = are.each i found.0 found.1 in
           let same = sym found.2 in (
-            ap (λ (z : SeatState (Begun D) DirAct). z.turn) same ∙ seat.turn_is,
-            ap (λ (z : SeatState (Begun D) DirAct). z.number) same ∙ seat.number,
-            ap (λ (z : SeatState (Begun D) DirAct). z.seats) same ∙ seat.seats ∙ sym many_turns,
-            ap (λ (z : SeatState (Begun D) DirAct). z.holds) same ∙ seat.rests,
+            ap (λ (z : SeatState (BegunAt D) DirAct). z.turn) same ∙ seat.turn_is,
+            ap (λ (z : SeatState (BegunAt D) DirAct). z.number) same ∙ seat.number,
+            ap (λ (z : SeatState (BegunAt D) DirAct). z.seats) same ∙ seat.seats ∙ sym many_turns,
+            ap (λ (z : SeatState (BegunAt D) DirAct). z.holds) same ∙ seat.rests,
           ),
     )
 

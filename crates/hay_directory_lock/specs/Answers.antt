@@ -12,14 +12,14 @@ use Rattle.hay_holdings.specs.Rows.{DirectoryCall, FailedRow, MadeNoRow, MadeRow
 use Rattle.hay_meeting.specs.Sights.{rows_stood}
 use Rattle.hay_directory.specs.declared.fault.DirFault.{DirFault}
 use Rattle.hay_directory.specs.declared.fault.DirFault.TheVariants as refusal
-use Rattle.hay_directory_lock.specs.declared.kept.Begun.{Begun}
+use Rattle.hay_directory_lock.specs.Begun.{BegunAt}
 use Rattle.hay_directory_lock.specs.Seats.{DirectorySeatState, IsSeated, LockState}
 use Rattle.hay_directory_lock.specs.Standing.{StandsAt}
 
 -- so it is at a seat of the lock, for all that stood of the Directory where the lock was made
 abbrev pub IsTold : {D : Type 0} → (D → ℕ) → (D → ℕ) → LockState → DirectorySeatState D → (Start → Type 0) → Type 0
 IsTold {D} faults fuses lock seat IsSo =
-    (begun : Begun D) (lane : ℕ) → IsSeated lock begun lane seat → (start : Start) → StandsAt faults fuses begun.directory start.directory → IsSo start
+    (begun : BegunAt D) (lane : ℕ) → IsSeated lock begun lane seat → (start : Start) → StandsAt faults fuses begun.directory start.directory → IsSo start
 
 module _ (start : Start) (row : HomeRow) where
   -- its pair had a home, or it has its volume for one now, and this is known of the rows that were added: so many were published

@@ -7,8 +7,7 @@ use Rattle.hay_meeting.specs.declared.act.DirAct.{DirAct}
 use Rattle.hay_meeting.specs.Locks.{LockSight}
 use Rattle.hay_holdings.specs.Holdings.{sight_of}
 use Rattle.hay_views.specs.HomeLooks.{HomesShown}
-use Rattle.hay_directory_lock.specs.declared.kept.Begun.{Begun}
-use Rattle.hay_directory_lock.specs.Begun.{IsBegun}
+use Rattle.hay_directory_lock.specs.Begun.{BegunAt, IsBegun}
 
 -- which lock it is, how many seats it has, the settings, and how many rows stood at first
 pub record LockState : Type 0 where
@@ -19,7 +18,7 @@ pub record LockState : Type 0 where
 
 -- a seat at the turn, and one of the view
 pub record DirectorySeatState (D : Type 0) : Type 0 where
-  pub turn : SeatState (Begun D) DirAct
+  pub turn : SeatState (BegunAt D) DirAct
   pub view : HomesShown
 
 -- what the seat has seen and made, and what it was shown
@@ -27,7 +26,7 @@ abbrev pub sight : {D : Type 0} → DirectorySeatState D → LockSight DirAct Ho
 sight seat = sight_of seat.turn (seat.view).deeds
 
 -- The seat is of this lock and of this lane, where that stood at first, and it does not hold the Directory.
-pub record IsSeated {D : Type 0} (lock : LockState) (begun : Begun D) (lane : ℕ) (seat : DirectorySeatState D) : Type 0 where
+pub record IsSeated {D : Type 0} (lock : LockState) (begun : BegunAt D) (lane : ℕ) (seat : DirectorySeatState D) : Type 0 where
   pub turn_is : (seat.turn).turn ≡ lock.turn
   pub seats : (seat.turn).seats ≡ lock.seats
   pub number : (seat.turn).number ≡ lane

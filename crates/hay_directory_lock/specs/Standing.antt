@@ -13,9 +13,8 @@ use Rattle.hay_meeting.specs.Acts.{row_lock}
 use Rattle.hay_meeting.specs.Locks.{entries, left, replayed}
 use Rattle.hay_directory.specs.State.{IsUp, State, Stands, home_of, is_frozen, mode_of}
 use Rattle.hay_views.specs.HomeLooks.{HomesAt}
-use Rattle.hay_directory_lock.specs.declared.kept.Begun.{Begun}
 use Rattle.hay_directory_lock.specs.Acts.{mode_behind, tags_of}
-use Rattle.hay_directory_lock.specs.Begun.{IsBegun}
+use Rattle.hay_directory_lock.specs.Begun.{BegunAt, IsBegun}
 
 abbrev pub HomeFront : Type 0
 HomeFront = FrontState HomesAt (Unit {0}) HomeRow (LogEntry HomeRow)
@@ -42,7 +41,7 @@ module _ {D : Type 0} (faults fuses : D → ℕ) where
 
 module _ {D : Type 0} (Tells : Type 0) (files : D → Files) (faults fuses : D → ℕ) where
   -- The Directory is what these acts left of the one that stood where the lock was made, whatever stood of it.
-  pub record DirectoryFor (begun : Begun D) (acts : List DirAct) (directory : State D) : Type 0 where
+  pub record DirectoryFor (begun : BegunAt D) (acts : List DirAct) (directory : State D) : Type 0 where
     pub settings : directory.settings ≡ (begun.directory).settings
     pub up : IsUp directory
     pub untouched : acts ≡ [] → directory ≡ begun.directory
@@ -55,7 +54,7 @@ module _ {D : Type 0} (Tells : Type 0) (files : D → Files) (faults fuses : D �
     pub follows : (s : RowsStanding) → StandsAt faults fuses begun.directory s → FollowsRows s (replayed row_lock s acts)
 
   -- and its front has published the rows that they added
-  pub record KeptFor (begun : Begun D) (acts : List DirAct) (directory : State D) (front : HomeFront) : Type 0 where
+  pub record KeptFor (begun : BegunAt D) (acts : List DirAct) (directory : State D) (front : HomeFront) : Type 0 where
     pub from : IsBegun begun
     pub of : DirectoryFor begun acts directory
     pub front_is : (front.shown).front ≡ (begun.view).front

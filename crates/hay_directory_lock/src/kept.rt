@@ -11,7 +11,7 @@ ghost use Rattle.hay_legal.specs.declared.known.DirKnown.{DirKnown};
 ghost use Rattle.hay_directory.specs.Rows.{home_row};
 ghost use Rattle.hay_directory.specs.State.{IsUp, Stands};
 ghost use Rattle.hay_directory_lock.specs.Standing.{KeptFor, StandsAt};
-ghost use Rattle.hay_directory_lock.specs.declared.kept.Begun.{Begun};
+ghost use Rattle.hay_directory_lock.specs.Begun.{BegunAt};
 ghost use Rattle.hay_directory_lock.specs.Answers.{Settles};
 
 use crate::act::RowAct;
@@ -24,12 +24,21 @@ use hay_legal::known::HomeRow;
 use hay_meeting::DirDid;
 use hay_turn::Kept;
 use hay_views::HomeView;
+use std::marker::Model;
 use std::sync::Wait;
 
 /// What stood where the lock was made: the Directory, and what was published of its homes. No value is made.
 pub struct Begun<D: Disk> {
-    pub directory: Directory<D>,
-    pub view: Seat<HomeView>,
+    directory: Directory<D>,
+    view: Seat<HomeView>,
+}
+
+impl<D: Disk> Model for Begun<D> {
+    ghost use Rattle.hay_directory_lock.specs.Begun.{BegunAt};
+
+    ghost Value = { BegunAt D };
+
+    ghost view = { λ b. record { directory = b.directory; view = b.view } };
 }
 
 /// The Directory, and the front of its homes. It is not `Drop`, since the front waits for looks that are under way: end it by `end`.
@@ -48,7 +57,9 @@ impl<D: Disk> Kept for KeptDirectory<D> {
     ghost stands = { λ begun acts kept. KeptFor D.Tells D.files D.fault_count D.fuse_count begun acts kept.directory kept.front };
 }
 
-fn front_tag(tag: CoreTag) -> Tag {
+fn front_tag(tag: CoreTag) -> Tag
+    ensures { result ≡ record { seat = tag.lane; lane = tag.lane; line = tag.line } }
+{
     Tag {
         seat: tag.lane,
         lane: tag.lane,
@@ -80,16 +91,16 @@ impl<D: Disk> KeptDirectory<D> {
         tag: CoreTag,
         row: DirRow,
     ) -> (Result<(u32, u64), DirFault>, Option<RowAct<D>>)
-        requires kept { (begun : Begun D) × (acts : List DirAct) × KeptFor D.Tells D.files D.fault_count D.fuse_count begun acts self.old.directory self.old.front }
+        requires kept { (begun : BegunAt D) × (acts : List DirAct) × KeptFor D.Tells D.files D.fault_count D.fuse_count begun acts self.old.directory self.old.front }
         requires view { view.old.front ≡ self.old.front.shown.front }
         requires volume { row.volume < self.old.directory.settings.volumes }
-        ensures kept { (begun : Begun D) (acts : List DirAct) → KeptFor D.Tells D.files D.fault_count D.fuse_count begun acts self.old.directory self.old.front →
+        ensures kept { (begun : BegunAt D) (acts : List DirAct) → KeptFor D.Tells D.files D.fault_count D.fuse_count begun acts self.old.directory self.old.front →
             KeptFor D.Tells D.files D.fault_count D.fuse_count begun (acts ++ acts_in result.1) self.new.directory self.new.front }
         ensures from { IsBehind view.old self.old.front.shown }
         ensures shown { view.new ≡ self.new.front.shown }
         ensures act { AllByRecursion (λ act. (act.tag ≡ tag) × (act.seat ≡ tag.lane)) (acts_in result.1) }
         ensures below { IfOk result.0 (λ answer. answer.0 < self.old.directory.settings.volumes) }
-        ensures settles { (start : Start) (begun : Begun D) (acts : List DirAct) → KeptFor D.Tells D.files D.fault_count D.fuse_count begun acts self.old.directory self.old.front →
+        ensures settles { (start : Start) (begun : BegunAt D) (acts : List DirAct) → KeptFor D.Tells D.files D.fault_count D.fuse_count begun acts self.old.directory self.old.front →
             StandsAt D.fault_count D.fuse_count begun.directory start.directory → Settles start (home_row row) result.0 acts result.1 }
     {
         self.front.show_all(rt, view);
@@ -130,10 +141,10 @@ impl<D: Disk> KeptDirectory<D> {
         machine: u32,
         is_drained: bool,
     ) -> RowAct<D>
-        requires kept { (begun : Begun D) × (acts : List DirAct) × KeptFor D.Tells D.files D.fault_count D.fuse_count begun acts self.old.directory self.old.front }
+        requires kept { (begun : BegunAt D) × (acts : List DirAct) × KeptFor D.Tells D.files D.fault_count D.fuse_count begun acts self.old.directory self.old.front }
         requires view { view.old.front ≡ self.old.front.shown.front }
         requires machine { machine < self.old.directory.settings.machines }
-        ensures kept { (begun : Begun D) (acts : List DirAct) → KeptFor D.Tells D.files D.fault_count D.fuse_count begun acts self.old.directory self.old.front →
+        ensures kept { (begun : BegunAt D) (acts : List DirAct) → KeptFor D.Tells D.files D.fault_count D.fuse_count begun acts self.old.directory self.old.front →
             KeptFor D.Tells D.files D.fault_count D.fuse_count begun (acts ++ result ∷ []) self.new.directory self.new.front }
         ensures from { IsBehind view.old self.old.front.shown }
         ensures shown { view.new ≡ self.new.front.shown }
@@ -158,7 +169,7 @@ impl<D: Disk> KeptDirectory<D> {
         calls: u32,
     ) -> RowAct<D>
         requires view { view.old.front ≡ self.old.front.shown.front }
-        ensures kept { (begun : Begun D) (acts : List DirAct) → KeptFor D.Tells D.files D.fault_count D.fuse_count begun acts self.old.directory self.old.front →
+        ensures kept { (begun : BegunAt D) (acts : List DirAct) → KeptFor D.Tells D.files D.fault_count D.fuse_count begun acts self.old.directory self.old.front →
             KeptFor D.Tells D.files D.fault_count D.fuse_count begun (acts ++ result ∷ []) self.new.directory self.new.front }
         ensures from { IsBehind view.old self.old.front.shown }
         ensures shown { view.new ≡ self.new.front.shown }

@@ -6,7 +6,7 @@ ghost use Rattle.hay_directory.specs.State.{IsUp};
 ghost use Rattle.hay_directory_lock.specs.Opening.{AreNewSeats, AreSeated, Closes, HasHomes};
 ghost use Rattle.hay_directory_lock.specs.Seats.{IsSeated, sight};
 ghost use Rattle.hay_directory_lock.specs.Answers.{IsTold, SettlesAs};
-ghost use Rattle.hay_directory_lock.specs.declared.kept.Begun.{Begun};
+ghost use Rattle.hay_directory_lock.specs.Begun.{BegunAt};
 
 use crate::kept::KeptDirectory;
 use crate::open::{SeatRoom, apart, front_of, joined, show_each};
@@ -89,7 +89,7 @@ impl<D: Disk> DirectoryLock<D> {
         requires settings { directory.settings ≡ settings }
         requires up { IsUp directory }
         requires homes { HasHomes directory (map home_row rows.now) }
-        ensures made { IfOk result (λ made. (begun : Begun D) × (begun.directory ≡ directory) × (made.lock.settings ≡ settings)
+        ensures made { IfOk result (λ made. (begun : BegunAt D) × (begun.directory ≡ directory) × (made.lock.settings ≡ settings)
             × (made.lock.seats ≡ seats) × (made.room ≡ seats) × AreNewSeats made.lock begun made.seats.items) }
         ensures refused { IfErr result (λ back. back.0 ≡ directory) }
     {
@@ -127,8 +127,8 @@ impl<D: Disk> DirectoryLock<D> {
         room: SeatRoom<D>,
     ) -> (Directory<D>, Vec<Tag>)
         requires room { room ≡ self.seats }
-        requires seats { (begun : Begun D) × AreSeated self begun seats.items }
-        ensures { (begun : Begun D) → AreSeated self begun seats.items →
+        requires seats { (begun : BegunAt D) × AreSeated self begun seats.items }
+        ensures { (begun : BegunAt D) → AreSeated self begun seats.items →
             Closes D.Tells D.files D.fault_count D.fuse_count self begun seats.items result.0 result.1.items }
     {
         let (turns, mut views) = apart(seats, room);
@@ -151,8 +151,8 @@ impl<D: Disk> DirectoryLock<D> {
         seat: &mut DirectorySeat<D>,
         pair: Pair,
     ) -> (u64, Option<u32>)
-        requires seated { (begun : Begun D) × (lane : ℕ) × IsSeated self.now begun lane seat.old }
-        ensures seated { (begun : Begun D) (lane : ℕ) → IsSeated self.now begun lane seat.old → IsSeated self.now begun lane seat.new }
+        requires seated { (begun : BegunAt D) × (lane : ℕ) × IsSeated self.now begun lane seat.old }
+        ensures seated { (begun : BegunAt D) (lane : ℕ) → IsSeated self.now begun lane seat.old → IsSeated self.now begun lane seat.new }
         ensures below { IfSome result.1 (λ home. home < self.now.settings.volumes) }
         ensures shown { IsTold D.fault_count D.fuse_count self.now seat.old (λ start. HomeShown start pair result.0 result.1 (sight seat.old) (sight seat.new)) }
     {
@@ -170,9 +170,9 @@ impl<D: Disk> DirectoryLock<D> {
         pair: Pair,
         volume: u32,
     ) -> Result<(u32, u64), DirFault>
-        requires seated { (begun : Begun D) × IsSeated self.now begun tag.lane seat.old }
+        requires seated { (begun : BegunAt D) × IsSeated self.now begun tag.lane seat.old }
         requires volume { volume < self.now.settings.volumes }
-        ensures seated { (begun : Begun D) (lane : ℕ) → IsSeated self.now begun lane seat.old → IsSeated self.now begun lane seat.new }
+        ensures seated { (begun : BegunAt D) (lane : ℕ) → IsSeated self.now begun lane seat.old → IsSeated self.now begun lane seat.new }
         ensures below { IfOk result (λ answer. answer.0 < self.now.settings.volumes) }
         ensures settles { IsTold D.fault_count D.fuse_count self.now seat.old (λ start. SettlesAs start (record { pair = pair; volume = volume }) tag result (sight seat.old) (sight seat.new)) }
     {
@@ -187,9 +187,9 @@ impl<D: Disk> DirectoryLock<D> {
 
     /// Closes a machine to changes.
     pub fn drain<R: Wait>(&self, rt: &R, seat: &mut DirectorySeat<D>, tag: CoreTag, machine: u32)
-        requires seated { (begun : Begun D) × IsSeated self.now begun tag.lane seat.old }
+        requires seated { (begun : BegunAt D) × IsSeated self.now begun tag.lane seat.old }
         requires machine { machine < self.now.settings.machines }
-        ensures seated { (begun : Begun D) (lane : ℕ) → IsSeated self.now begun lane seat.old → IsSeated self.now begun lane seat.new }
+        ensures seated { (begun : BegunAt D) (lane : ℕ) → IsSeated self.now begun lane seat.old → IsSeated self.now begun lane seat.new }
         ensures drained { IsTold D.fault_count D.fuse_count self.now seat.old (λ start. Drained start tag machine true (sight seat.old) (sight seat.new)) }
     {
         self.set_drained(rt, seat, tag, machine, true);
@@ -197,9 +197,9 @@ impl<D: Disk> DirectoryLock<D> {
 
     /// Opens a machine to changes again.
     pub fn undrain<R: Wait>(&self, rt: &R, seat: &mut DirectorySeat<D>, tag: CoreTag, machine: u32)
-        requires seated { (begun : Begun D) × IsSeated self.now begun tag.lane seat.old }
+        requires seated { (begun : BegunAt D) × IsSeated self.now begun tag.lane seat.old }
         requires machine { machine < self.now.settings.machines }
-        ensures seated { (begun : Begun D) (lane : ℕ) → IsSeated self.now begun lane seat.old → IsSeated self.now begun lane seat.new }
+        ensures seated { (begun : BegunAt D) (lane : ℕ) → IsSeated self.now begun lane seat.old → IsSeated self.now begun lane seat.new }
         ensures drained { IsTold D.fault_count D.fuse_count self.now seat.old (λ start. Drained start tag machine false (sight seat.old) (sight seat.new)) }
     {
         self.set_drained(rt, seat, tag, machine, false);
@@ -214,9 +214,9 @@ impl<D: Disk> DirectoryLock<D> {
         machine: u32,
         is_drained: bool,
     )
-        requires seated { (begun : Begun D) × IsSeated self.now begun tag.lane seat.old }
+        requires seated { (begun : BegunAt D) × IsSeated self.now begun tag.lane seat.old }
         requires machine { machine < self.now.settings.machines }
-        ensures seated { (begun : Begun D) (lane : ℕ) → IsSeated self.now begun lane seat.old → IsSeated self.now begun lane seat.new }
+        ensures seated { (begun : BegunAt D) (lane : ℕ) → IsSeated self.now begun lane seat.old → IsSeated self.now begun lane seat.new }
         ensures drained { IsTold D.fault_count D.fuse_count self.now seat.old (λ start. Drained start tag machine is_drained (sight seat.old) (sight seat.new)) }
     {
         let mut kept = self.turn.hold(rt, &mut seat.turn);
@@ -226,8 +226,8 @@ impl<D: Disk> DirectoryLock<D> {
 
     /// Sets a fuse on the disk.
     pub fn fuse<R: Wait>(&self, rt: &R, seat: &mut DirectorySeat<D>, tag: CoreTag, calls: u32)
-        requires seated { (begun : Begun D) × IsSeated self.now begun tag.lane seat.old }
-        ensures seated { (begun : Begun D) (lane : ℕ) → IsSeated self.now begun lane seat.old → IsSeated self.now begun lane seat.new }
+        requires seated { (begun : BegunAt D) × IsSeated self.now begun tag.lane seat.old }
+        ensures seated { (begun : BegunAt D) (lane : ℕ) → IsSeated self.now begun lane seat.old → IsSeated self.now begun lane seat.new }
         ensures fused { IsTold D.fault_count D.fuse_count self.now seat.old (λ start. FusedDir start tag (sight seat.old) (sight seat.new)) }
     {
         let mut kept = self.turn.hold(rt, &mut seat.turn);

@@ -1,5 +1,6 @@
 use Rattle.std.proofs.Common.{◌≡◌, ◌≤◌, ◌<◌, ◌++◌, ◌∷◌, [], inl, inr, None, Some, Err, List, refl, sym, ap, subst, ◌∙◌, append-nil, length}
 use Rattle.hay_needle.specs.declared.settings.Settings.{Settings}
+use Rattle.hay_front.specs.declared.front.Tag.{Tag}
 use Rattle.hay_meeting.specs.declared.act.DirAct.{DirAct}
 use Rattle.hay_meeting.specs.Acts.{row_did_of, row_lock}
 use Rattle.hay_meeting.specs.Locks.{entries}
@@ -76,7 +77,7 @@ returns-clause-kept g c = λ begun acts k.
     (shown.shown tells known drained (subst (λ (w : WrittenRow). IsRowWritten files c.write_row.new.self known drained (home_row w.unsure.row)) (sym wrote.row) (wrote.written tells known drained stands))))
     c.write_row.new.self.homes wrote.homes set (shown.drained ∙ wrote.drained) shown.serves
     (subst (λ n. g.D.Disk.fault_count c.args.self.now.directory.disk ≤ n) (sym (ap g.D.Disk.fault_count shown.disk)) wrote.later) (ap g.D.Disk.fuse_count shown.disk ∙ wrote.fuses) thawed homeless
-    (ap (λ (f : HomeFront). f.shown) done) (ap (λ (f : HomeFront). f.log) done) (ap (λ (f : HomeFront). f.closed) done)
+    (ap (λ (f : HomeFront). f.shown) done) (ap (λ (f : HomeFront). f.log) done ∙ ap (λ (tag : Tag). c.args.self.now.front.log ++ record { tag = tag; deed = home_row c.args.row } ∷ []) c.front_tag.ensures) (ap (λ (f : HomeFront). f.closed) done)
 
 pub returns-clause-settles : goal.returns-clause-settles
 returns-clause-settles g c = λ start begun acts k at.
