@@ -15,9 +15,10 @@ use Rattle.hay_meeting.specs.declared.act.DirAct.{DirAct}
 use Rattle.hay_meeting.specs.Acts.{row_lock}
 use Rattle.hay_meeting.proofs.Closing.{there}
 use Rattle.hay_directory.specs.State.{IsUp, State}
-use Rattle.hay_views.specs.HomeLooks.{HomesShown}
+use Rattle.hay_views.specs.HomeLooks.{HomesShown, rows_among}
+use Rattle.hay_views.proofs.HomeTables.{homes_listed}
 use Rattle.hay_directory_lock.specs.Begun.{BegunAt}
-use Rattle.hay_directory_lock.specs.Opening.{AreNewSeats, AreSeated, Closes, HasHomes}
+use Rattle.hay_directory_lock.specs.Opening.{AreNewSeats, AreSeated, Closes}
 use Rattle.hay_directory_lock.specs.Seats.{DirectorySeatState, LockState}
 use Rattle.hay_directory_lock.specs.Standing.{HomeFront, KeptFor}
 
@@ -39,17 +40,17 @@ module _ {D : Type 0} (Tells : Type 0) (files : D → Files) (faults fuses : D �
   -- WHERE IT IS MADE
 
   module _ {d : State D} {settings : Settings} (same : d.settings ≡ settings) {f : HomeFront} where
-    pub opens : {rows : List HomeRow} → IsUp d → HasHomes d rows → (f.shown).base ≡ Some (record { volumes = settings.volumes; rows = rows }, tt) → (f.shown).deeds ≡ [] → f.log ≡ [] → f.closed ≡ false
+    pub opens : IsUp d → (f.shown).base ≡ Some (record { volumes = settings.volumes; rows = rows_among d.homes }, tt) → (f.shown).deeds ≡ [] → f.log ≡ [] → f.closed ≡ false
         → (begun : BegunAt D) × KeptFor Tells files faults fuses begun [] d f
-    opens {rows} up has base none no_log open_to = (
+    opens up base none no_log open_to = (
       record { directory = d; view = f.shown },
       record {
         from = record {
           up = up;
-          homes = record { volumes = settings.volumes; rows = rows };
+          homes = record { volumes = settings.volumes; rows = rows_among d.homes };
           base = base;
           volumes = ap (λ (s : Settings). s.volumes) (sym same);
-          same = has.homes;
+          same = λ pair. homes_listed d.homes pair;
         };
         of = record {
           settings = refl;

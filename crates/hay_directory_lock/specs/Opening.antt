@@ -1,26 +1,17 @@
 -- What a lock is made of, and what is left when it ends.
 use Rattle.std.specs.Prelude.{◌≡◌, ◌<◌, ℕ, List, [], length, slice_get, Some}
 use mathlib.Core.List.{IsPrefix}
-use Rattle.hay_needle.specs.declared.needle.Pair.{Pair}
 use Rattle.hay_disk.specs.Disk.{Files}
 use Rattle.hay_front.specs.declared.front.Tag.{Tag}
-use Rattle.hay_legal.specs.declared.known.HomeRow.{HomeRow}
-use Rattle.hay_legal.specs.Known.{home_in}
 use Rattle.hay_turn.specs.Acts.{acts_of, AllBelow}
 use Rattle.hay_meeting.specs.declared.act.DirAct.{DirAct}
 use Rattle.hay_meeting.specs.Acts.{row_lock}
 use Rattle.hay_meeting.specs.Locks.{entries}
-use Rattle.hay_directory.specs.Rows.{RowsWithin}
-use Rattle.hay_directory.specs.State.{State, home_of}
+use Rattle.hay_directory.specs.State.{State}
 use Rattle.hay_directory_lock.specs.Acts.{tags_of}
 use Rattle.hay_directory_lock.specs.Begun.{BegunAt}
 use Rattle.hay_directory_lock.specs.Seats.{DirectorySeatState, IsSeated, LockState, sight}
 use Rattle.hay_directory_lock.specs.Standing.{DirectoryFor}
-
--- these rows give its homes, each of a volume that there is
-pub record HasHomes {D : Type 0} (directory : State D) (rows : List HomeRow) : Type 0 where
-  pub homes : (pair : Pair) → home_in rows pair ≡ home_of directory pair
-  pub within : RowsWithin (directory.settings).volumes rows
 
 -- these are all seats of the lock, in the order of their lanes
 pub record AreSeated {D : Type 0} (lock : LockState) (begun : BegunAt D) (seats : List (DirectorySeatState D)) : Type 0 where

@@ -1,9 +1,8 @@
 //! The lock and its seats.
-ghost use Rattle.std.specs.Prelude.{◌≡◌, ◌+◌, ◌<◌, ℕ, true, false, map, IfErr, IfOk, IfSome};
+ghost use Rattle.std.specs.Prelude.{◌≡◌, ◌+◌, ◌<◌, ℕ, true, false, IfErr, IfOk, IfSome};
 ghost use Rattle.hay_holdings.specs.Rows.{Drained, FusedDir, HomeShown};
-ghost use Rattle.hay_directory.specs.Rows.{home_row};
 ghost use Rattle.hay_directory.specs.State.{IsUp};
-ghost use Rattle.hay_directory_lock.specs.Opening.{AreNewSeats, AreSeated, Closes, HasHomes};
+ghost use Rattle.hay_directory_lock.specs.Opening.{AreNewSeats, AreSeated, Closes};
 ghost use Rattle.hay_directory_lock.specs.Seats.{IsSeated, sight};
 ghost use Rattle.hay_directory_lock.specs.Answers.{IsTold, SettlesAs};
 ghost use Rattle.hay_directory_lock.specs.Begun.{BegunAt};
@@ -75,20 +74,18 @@ fn all_rows<R: Wait>(rt: &R, stood: u64, published: u64) -> u64
 }
 
 impl<D: Disk> DirectoryLock<D> {
-    /// The lock of a Directory that is up, and a seat for each lane. These rows give its homes, which are published. `NoMemory` gives
-    /// the Directory back.
+    /// The lock of a Directory that is up, and a seat for each lane. Its homes are published as they stand. `NoMemory` gives the
+    /// Directory back.
     pub fn new<R: Wait>(
         rt: &R,
         alloc: Global,
         settings: Settings,
         directory: Directory<D>,
-        rows: &[DirRow],
         seats: u32,
     ) -> Result<NewLock<D>, (Directory<D>, NoMemory)>
         requires some { 0 < seats }
         requires settings { directory.settings ≡ settings }
         requires up { IsUp directory }
-        requires homes { HasHomes directory (map home_row rows.now) }
         ensures made { IfOk result (λ made. (begun : BegunAt D) × (begun.directory ≡ directory) × (made.lock.settings ≡ settings)
             × (made.lock.seats ≡ seats) × (made.room ≡ seats) × AreNewSeats made.lock begun made.seats.items) }
         ensures refused { IfErr result (λ back. back.0 ≡ directory) }
@@ -99,7 +96,7 @@ impl<D: Disk> DirectoryLock<D> {
         let Ok(lanes) = Vec::with_capacity(alloc, seats as usize) else {
             return Err((directory, NoMemory));
         };
-        let Ok((front, views)) = front_of(rt, alloc, settings.volumes, rows, seats) else {
+        let Ok((front, views)) = front_of(rt, alloc, &directory, settings.volumes, seats) else {
             return Err((directory, NoMemory));
         };
         let stood = directory.rows();

@@ -2,12 +2,12 @@
 ghost use Rattle.std.specs.Prelude.{◌≡◌, ◌<◌, ◌≤◌, [], length, map, replicate, vec_len, vec_capacity, Some, IfOk, false};
 ghost use Rattle.std.specs.List.{AllByRecursion};
 ghost use Rattle.hay_front.specs.Fronts.{IsBehind};
-ghost use Rattle.hay_directory.specs.Rows.{RowsWithin, home_row};
+ghost use Rattle.hay_views.specs.HomeLooks.{rows_among};
 
 use crate::kept::KeptDirectory;
 use crate::lock::DirectorySeat;
 use hay_base::NoMemory;
-use hay_dirfile::DirRow;
+use hay_directory::Directory;
 use hay_disk::Disk;
 use hay_front::{Front, Seat, View};
 use hay_turn::TurnSeat;
@@ -46,22 +46,22 @@ impl<D: Disk> SeatRoom<D> {
     }
 }
 
-/// The front of the homes by these rows, and its seats.
-pub(crate) fn front_of<R: Wait>(
+/// The front of the homes of a Directory, and its seats.
+pub(crate) fn front_of<D: Disk, R: Wait>(
     rt: &R,
     alloc: Global,
+    directory: &Directory<D>,
     volumes: u32,
-    rows: &[DirRow],
     seats: u32,
 ) -> Result<(Front<HomeView>, Vec<Seat<HomeView>>), NoMemory>
     requires some { 0 < seats }
-    requires volumes { RowsWithin volumes (map home_row rows.now) }
-    ensures base { IfOk result (λ made. made.0.shown.base ≡ Some (record { volumes = volumes; rows = map home_row rows.now }, tt)) }
+    requires volumes { volumes ≡ directory.now.settings.volumes }
+    ensures base { IfOk result (λ made. made.0.shown.base ≡ Some (record { volumes = volumes; rows = rows_among directory.now.homes }, tt)) }
     ensures blank { IfOk result (λ made. (made.0.shown.deeds ≡ []) × (made.0.log ≡ []) × (made.0.closed ≡ false)) }
     ensures seats { IfOk result (λ made. made.1.items ≡ replicate seats made.0.shown) }
 {
-    let first = HomeView::of_rows(alloc, volumes, rows)?;
-    let second = HomeView::of_rows(alloc, volumes, rows)?;
+    let first = HomeView::of_table(volumes, directory.copy_homes()?);
+    let second = HomeView::of_table(volumes, directory.copy_homes()?);
     Front::new(rt, alloc, first, second, seats)
 }
 

@@ -5,7 +5,7 @@ use Rattle.hay_directory_lock.proofs.lock.DirectoryLock.new.Goals as goal
 pub new-requires-2-clause-start : goal.new-requires-2-clause-start
 new-requires-2-clause-start g c =
     let made = c.in-Ok-front_of.ensures in
-    opens g.D.Disk.Tells g.D.Disk.files g.D.Disk.fault_count g.D.Disk.fuse_count c.requires.settings c.requires.up c.requires.homes made.base made.blank.0 made.blank.1 made.blank.2
+    opens g.D.Disk.Tells g.D.Disk.files g.D.Disk.fault_count g.D.Disk.fuse_count c.requires.settings c.requires.up made.base made.blank.0 made.blank.1 made.blank.2
 
 pub returns-in-Ok-new-clause-made : goal.returns-in-Ok-new-clause-made
 returns-in-Ok-new-clause-made g c =
