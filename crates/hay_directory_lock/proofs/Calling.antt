@@ -89,9 +89,9 @@ module _ {D Y : Type 0} (Tells : Type 0) (files : D → Files) (faults fuses : D
         pub seated_still : IsSeated lock begun lane (record { turn = new; view = view })
         seated_still =
             let was = subst (λ (s : SeatState (BegunAt D) DirAct). IsTurnAt lock begun lane true s) (sym held.same)
-                (record { turn_is = seated.turn_is; seats = seated.seats; number = seated.number; start = seated.start; holds_is = refl }) in
+            (record { turn_is = seated.turn_is; seats = seated.seats; number = seated.number; start = seated.start; holds_is = refl }) in
             let is = subst (λ (s : SeatState (BegunAt D) DirAct). IsTurnAt lock begun lane false s) (sym freed)
-                (record { turn_is = was.turn_is; seats = was.seats; number = was.number; start = was.start; holds_is = refl }) in
+            (record { turn_is = was.turn_is; seats = was.seats; number = was.number; start = was.start; holds_is = refl }) in
             record {
               turn_is = is.turn_is;
               seats = is.seats;

@@ -1,5 +1,5 @@
 -- The lock where it is made, and where it ends.
-use Rattle.std.proofs.Common.{◌≡◌, ◌<◌, ℕ, zero, suc, false, List, [], ◌∷◌, length, map, replicate, slice_get, Option, Some, None, refl, sym, ap, subst, ◌∙◌, arith}
+use Rattle.std.proofs.Common.{◌≡◌, ◌<◌, ℕ, zero, suc, false, List, [], ◌∷◌, length, map, replicate, slice_get, Some, refl, sym, ap, subst, ◌∙◌, arith}
 use Rattle.std.specs.List.{AllByRecursion as Each}
 use Rattle.std.proofs.lemmas.List.{length-map}
 use mathlib.Core.List.{IsPrefix}
@@ -145,7 +145,7 @@ module _ {D : Type 0} (Tells : Type 0) (files : D → Files) (faults fuses : D �
       closes tags behind tags_are = record {
         history = ends.history;
         own = λ lane seat at. ends.own lane seat.turn (turn_at lane seat at);
-        below = subst (λ n. AllBelow row_lock.seat n ends.history) many_turns ends.below;
+        below = subst (λ n. AllBelow row_lock.seat n ends.history) (many_turns ∙ sym are.many) ends.below;
         seen = λ lane seat at. ends.seen lane seat.turn (turn_at lane seat at);
         shown = λ lane seat at.
             let view_at : slice_get views lane ≡ Some seat.view = ap (λ l. slice_get l lane) views_are ∙ mapped (λ (s : DirectorySeatState D). s.view) seats lane seat at in

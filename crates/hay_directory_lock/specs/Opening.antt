@@ -30,7 +30,7 @@ pub record Closes {D : Type 0} (Tells : Type 0) (files : D → Files) (faults fu
     (seats : List (DirectorySeatState D)) (directory : State D) (tags : List Tag) : Type 0 where
   pub history : List DirAct
   pub own : (lane : ℕ) (seat : DirectorySeatState D) → slice_get seats lane ≡ Some seat → acts_of row_lock.seat lane history ≡ (sight seat).own
-  pub below : AllBelow row_lock.seat lock.seats history
+  pub below : AllBelow row_lock.seat (length seats) history
   pub seen : (lane : ℕ) (seat : DirectorySeatState D) → slice_get seats lane ≡ Some seat → IsPrefix (sight seat).seen history
   pub shown : (lane : ℕ) (seat : DirectorySeatState D) → slice_get seats lane ≡ Some seat → IsPrefix (sight seat).shown (entries row_lock history)
   pub stands : DirectoryFor Tells files faults fuses begun history directory

@@ -1,5 +1,5 @@
 -- What stands behind the lock.
-use Rattle.std.specs.Prelude.{◌≡◌, ℕ, false, List, [], length, map}
+use Rattle.std.specs.Prelude.{◌≡◌, ℕ, Bool, false, List, [], length, map}
 use Rattle.hay_needle.specs.declared.needle.Pair.{Pair}
 use Rattle.hay_disk.specs.Disk.{Files}
 use Rattle.hay_front.specs.Entries.{LogEntry}
@@ -38,6 +38,10 @@ module _ {D : Type 0} (faults fuses : D → ℕ) where
     pub known : MayBeKnown directory s.directory
     pub count : directory.count ≡ length (s.directory).rows
     pub counted : IsCounted directory s
+
+-- what stands of it where this is known
+abbrev pub standing_of : {D : Type 0} → (D → ℕ) → (D → ℕ) → State D → DirKnown → List Bool → RowsStanding
+standing_of faults fuses directory known drained = record { directory = known; drained = drained; faults = faults directory.disk; fuses = fuses directory.disk }
 
 module _ {D : Type 0} (Tells : Type 0) (files : D → Files) (faults fuses : D → ℕ) where
   -- The Directory is what these acts left of the one that stood where the lock was made, whatever stood of it.

@@ -1,9 +1,11 @@
 //! The lock and its seats.
-ghost use Rattle.std.specs.Prelude.{◌≡◌, ◌+◌, ◌<◌, ℕ, true, false, IfErr, IfOk, IfSome};
+ghost use Rattle.std.specs.Prelude.{◌≡◌, ◌+◌, ◌<◌, ℕ, Bool, List, true, false, IfErr, IfOk, IfSome, OnOk};
 ghost use Rattle.hay_holdings.specs.Rows.{Drained, FusedDir, HomeShown};
-ghost use Rattle.hay_directory.specs.State.{IsUp};
+ghost use Rattle.hay_legal.specs.declared.known.DirKnown.{DirKnown};
+ghost use Rattle.hay_directory.specs.State.{IsUp, Stands};
 ghost use Rattle.hay_directory_lock.specs.Opening.{AreNewSeats, AreSeated, Closes};
 ghost use Rattle.hay_directory_lock.specs.Seats.{IsSeated, sight};
+ghost use Rattle.hay_directory_lock.specs.Standing.{StandsAt, standing_of};
 ghost use Rattle.hay_directory_lock.specs.Answers.{IsTold, SettlesAs};
 ghost use Rattle.hay_directory_lock.specs.Begun.{BegunAt};
 
@@ -88,6 +90,8 @@ impl<D: Disk> DirectoryLock<D> {
         requires up { IsUp directory }
         ensures made { IfOk result (λ made. (begun : BegunAt D) × (begun.directory ≡ directory) × (made.lock.settings ≡ settings)
             × (made.lock.seats ≡ seats) × (made.room ≡ seats) × AreNewSeats made.lock begun made.seats.items) }
+        ensures stood { OnOk result ((known : DirKnown) (drained : List Bool) → Stands D.files directory known drained →
+            StandsAt D.fault_count D.fuse_count directory (standing_of D.fault_count D.fuse_count directory known drained)) }
         ensures refused { IfErr result (λ back. back.0 ≡ directory) }
     {
         let Ok(room) = SeatRoom::new(alloc, seats) else {

@@ -1,4 +1,5 @@
 use Rattle.std.proofs.Common.{refl, sym, ◌∙◌}
+use Rattle.hay_directory_lock.proofs.Knowing.{stands_at}
 use Rattle.hay_directory_lock.proofs.Opening.{begun_is, new_seats, opens}
 use Rattle.hay_directory_lock.proofs.lock.DirectoryLock.new.Goals as goal
 
@@ -19,3 +20,6 @@ returns-in-Ok-new-clause-made g c =
       new_seats g.D.Disk.Tells g.D.Disk.files g.D.Disk.fault_count g.D.Disk.fuse_count c.requires.settings _ made.0 made.1 c.in-Ok-new.turns.items c.in-Ok-front_of.views.items c.joined-seats.result.items
           refl c.rows-stood.ensures.count c.requires.some front.blank.0 made.3 (sym c.in-Ok-new.turns.ok.0 ∙ made.2) front.seats c.joined-seats.ensures.turns c.joined-seats.ensures.views,
     )
+
+pub returns-in-Ok-new-clause-stood : goal.returns-in-Ok-new-clause-stood
+returns-in-Ok-new-clause-stood g c = λ known drained stands. stands_at g.D.Disk.files g.D.Disk.fault_count g.D.Disk.fuse_count c.args.directory known drained stands
