@@ -17,7 +17,7 @@ returns-clause-seated g c = rw (← c.self.view_is) (λ begun lane seated.
     c.args.tag (Some c.fuse-act.result) (sym seated.number ∙ c.requires.seated.1.number) (c.fuse-act.ensures.act, tt) c.fuse-act.ensures.kept c.free.ensures c.fuse-act.ensures.shown)
 
 pub returns-clause-fused : goal.returns-clause-fused
-returns-clause-fused g c = rw (← c.seat.view_is) (λ start begun lane seated same.
+returns-clause-fused g c = rw (← c.seat.view_is) (λ begun lane seated start at.
     let here = seated_in c.self.view_is refl seated in record {
       held = c.hold-kept.new.seat.seen;
       made = Some c.fuse-act.result;

@@ -27,7 +27,7 @@ returns-clause-seated g c = rw (← c.self.view_is) (λ begun lane seated.
     c.args.tag (Some c.set_drained-act.result) (sym seated.number ∙ c.requires.seated.1.number) (c.set_drained-act.ensures.act, tt) c.set_drained-act.ensures.kept c.free.ensures c.set_drained-act.ensures.shown)
 
 pub returns-clause-drained : goal.returns-clause-drained
-returns-clause-drained g c = rw (← c.seat.view_is) (λ start begun lane seated same.
+returns-clause-drained g c = rw (← c.seat.view_is) (λ begun lane seated start at.
     let here = seated_in c.self.view_is refl seated in record {
       held = c.hold-kept.new.seat.seen;
       made = Some c.set_drained-act.result;

@@ -30,17 +30,17 @@ returns-clause-seated g c = rw (← c.self.view_is) (λ begun lane seated.
     c.args.tag c.settle-answer.result.1 (sym seated.number ∙ c.requires.seated.1.number) c.settle-answer.ensures.act c.settle-answer.ensures.kept c.free.ensures c.settle-answer.ensures.shown)
 
 pub returns-clause-settles : goal.returns-clause-settles
-returns-clause-settles g c = rw (← c.seat.view_is) (λ start begun lane seated same.
+returns-clause-settles g c = rw (← c.seat.view_is) (λ begun lane seated start at.
     let here = seated_in c.self.view_is refl seated in
     let all = holding g.D.Disk.Tells g.D.Disk.files g.D.Disk.fault_count g.D.Disk.fuse_count (λ y. y.directory) (λ y. y.front) here c.hold-kept.ensures
     c.args.tag c.settle-answer.result.1 (sym seated.number ∙ (seated_in refl c.seat.view_is c.requires.seated.1).number) c.settle-answer.ensures.act c.settle-answer.ensures.kept c.free.ensures c.settle-answer.ensures.shown c.settle-answer.ensures.from in
-    let settled = c.settle-answer.ensures.settles start begun c.hold-kept.new.seat.seen (kept_held g.D.Disk.Tells g.D.Disk.files g.D.Disk.fault_count g.D.Disk.fuse_count (λ y. y.directory) (λ y. y.front) here c.hold-kept.ensures) same in
-    let before : DirectorySeatState = record { turn = c.seat.inside.turn; view = c.seat.inside.view } in
-    let after : DirectorySeatState = record { turn = c.free.new.seat; view = c.settle-answer.new.view } in
+    let settled = c.settle-answer.ensures.settles start begun c.hold-kept.new.seat.seen (kept_held g.D.Disk.Tells g.D.Disk.files g.D.Disk.fault_count g.D.Disk.fuse_count (λ y. y.directory) (λ y. y.front) here c.hold-kept.ensures) at in
+    let before : DirectorySeatState g.row.D.Denot = record { turn = c.seat.inside.turn; view = c.seat.inside.view } in
+    let after : DirectorySeatState g.row.D.Denot = record { turn = c.free.new.seat; view = c.settle-answer.new.view } in
     let row : HomeRow = record { pair = c.args.pair; volume = c.args.volume } in
     elim c.match-answer.branch [
       | in-Ok w ↦ subst (λ r. SettlesAs start row c.args.tag r (sight before) (sight after)) (sym w.result-is)
-          (told_home start row all w.in-Ok.home c.self.inside.stood w.in-Ok.published w.all_rows.result (stood_first start here same) w.all_rows.ensures (subst (λ r. Settles start row r c.hold-kept.new.seat.seen c.settle-answer.result.1) w.in-Ok.is settled))
+          (told_home start row all w.in-Ok.home c.self.inside.stood w.in-Ok.published w.all_rows.result (stood_first g.D.Disk.fault_count g.D.Disk.fuse_count start here at) w.all_rows.ensures (subst (λ r. Settles start row r c.hold-kept.new.seat.seen c.settle-answer.result.1) w.in-Ok.is settled))
       | in-Err w ↦ subst (λ r. SettlesAs start row c.args.tag r (sight before) (sight after)) (sym w.result-is)
           (told_refusal start row all w.in-Err.fault (subst (λ r. Settles start row r c.hold-kept.new.seat.seen c.settle-answer.result.1) w.in-Err.is settled))
     ])
