@@ -29,3 +29,13 @@ returns-clause-fused g c = rw (← c.seat.view_is) (λ begun lane seated start a
           c.free.ensures c.fuse-act.ensures.shown c.fuse-act.ensures.from;
       is = c.fuse-act.ensures.did;
     })
+
+pub returns-clause-held : goal.returns-clause-held
+returns-clause-held g c = rw (← c.seat.view_is) (record {
+  held = c.hold-kept.new.seat.seen;
+  made = Some c.fuse-act.result;
+  holding = holding g.D.Disk.Tells g.D.Disk.files g.D.Disk.fault_count g.D.Disk.fuse_count (λ y. y.directory) (λ y. y.front)
+      (seated_in c.self.view_is c.seat.view_is c.requires.seated.1) c.hold-kept.ensures
+      c.args.tag (Some c.fuse-act.result) refl (c.fuse-act.ensures.act, tt) c.fuse-act.ensures.kept c.free.ensures c.fuse-act.ensures.shown c.fuse-act.ensures.from;
+  is = tt;
+})

@@ -19,3 +19,6 @@ returns-clause-below g c =
     let below = looks_show_volumes c.look-published.new.self homes c.args.pair c.look-published.result.1 (sym look.seen.1 ∙ seated.base ∙ (seated.from).base) look.fact look.row in
     subst (λ (s : Settings). IfSome c.look-published.result.1 (λ v. v < s.volumes)) (c.requires.seated.2).settings
     (subst (λ n. IfSome c.look-published.result.1 (λ v. v < n)) (seated.from).volumes below)
+
+pub returns-clause-looked : goal.returns-clause-looked
+returns-clause-looked g c = rw (← c.seat.view_is) (record { seen = refl; own = refl; shown = c.look-published.ensures.seen.2 })

@@ -44,3 +44,14 @@ returns-clause-drained g c = rw (← c.seat.view_is) (λ begun lane seated start
           c.set_drained-act.ensures.kept c.free.ensures c.set_drained-act.ensures.shown c.set_drained-act.ensures.from;
       is = c.set_drained-act.ensures.did;
     })
+
+pub returns-clause-held : goal.returns-clause-held
+returns-clause-held g c = rw (← c.seat.view_is) (record {
+  held = c.hold-kept.new.seat.seen;
+  made = Some c.set_drained-act.result;
+  holding = holding g.D.Disk.Tells g.D.Disk.files g.D.Disk.fault_count g.D.Disk.fuse_count (λ y. y.directory) (λ y. y.front)
+      (seated_in c.self.view_is c.seat.view_is c.requires.seated.1) c.hold-kept.ensures
+      c.args.tag (Some c.set_drained-act.result) refl (c.set_drained-act.ensures.act, tt) c.set_drained-act.ensures.kept
+      c.free.ensures c.set_drained-act.ensures.shown c.set_drained-act.ensures.from;
+  is = tt;
+})

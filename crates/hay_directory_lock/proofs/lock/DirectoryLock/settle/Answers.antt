@@ -65,3 +65,14 @@ returns-clause-below g c = rw (← c.self.view_is)
           (subst (λ r. IfOk r (λ answer. answer.0 < (c.hold-kept.result.directory.settings).volumes)) w.in-Ok.is below))
       | in-Err w ↦ subst (λ r. IfOk r (λ answer. answer.0 < (c.self.inside.settings).volumes)) (sym w.result-is) tt
     ])
+
+pub returns-clause-held : goal.returns-clause-held
+returns-clause-held g c = rw (← c.seat.view_is) (record {
+  held = c.hold-kept.new.seat.seen;
+  made = c.settle-answer.result.1;
+  holding = holding g.D.Disk.Tells g.D.Disk.files g.D.Disk.fault_count g.D.Disk.fuse_count (λ y. y.directory) (λ y. y.front)
+      (seated_in c.self.view_is c.seat.view_is c.requires.seated.1) c.hold-kept.ensures
+      c.args.tag c.settle-answer.result.1 refl c.settle-answer.ensures.act c.settle-answer.ensures.kept
+      c.free.ensures c.settle-answer.ensures.shown c.settle-answer.ensures.from;
+  is = tt;
+})
