@@ -152,7 +152,8 @@ module _ {D : Type 0} (Tells : Type 0) (files : D → Files) (faults fuses : D �
 
       -- the row is pending
       pub pended : (row : HomeRow) (f' : HomeFront) → act ≡ act_of tag (did.PendsRow row) d' → d'.settings ≡ d.settings
-          → ((known : DirKnown) (drained : List Bool) → Tells → Stands files d known drained → Stands files d' (record known { frozen = true; pending = Some (record { tag = tag; row = row }) }) drained)
+          → ((known : DirKnown) (drained : List Bool) → Tells → Stands files d known drained
+          → Stands files d' (record known { frozen = true; pending = Some (record { tag = tag; row = row }) }) drained)
           → KeepsHomes d.homes d'.homes → d'.drained ≡ d.drained → d'.mode ≡ Frozen (record { tag = tag; row = dir_row row }) → faults d.disk ≤ faults d'.disk → fuses d'.disk ≡ fuses d.disk
           → is_frozen d.mode ≡ false → home_of d row.pair ≡ None → f'.shown ≡ f.shown → f'.log ≡ f.log
           → KeptFor Tells files faults fuses begun (acts ++ act ∷ []) d' f'
@@ -180,7 +181,8 @@ module _ {D : Type 0} (Tells : Type 0) (files : D → Files) (faults fuses : D �
       -- the row was added
       pub added : (row : HomeRow) (f' : HomeFront) → act ≡ act_of tag (did.AddsRow row) d' → d'.settings ≡ d.settings
           → ((known : DirKnown) (drained : List Bool) → Tells → Stands files d known drained → Stands files d' (record known { rows = known.rows ++ row ∷ [] }) drained)
-          → (mid : List ((ℕ × ℕ) × ℕ)) → KeepsHomes d.homes mid → SetsHome row.pair (Some row.volume) mid d'.homes → d'.drained ≡ d.drained → d'.mode ≡ Open → faults d.disk ≤ faults d'.disk → fuses d'.disk ≡ fuses d.disk
+          → (mid : List ((ℕ × ℕ) × ℕ)) → KeepsHomes d.homes mid → SetsHome row.pair (Some row.volume) mid d'.homes → d'.drained ≡ d.drained → d'.mode ≡ Open
+          → faults d.disk ≤ faults d'.disk → fuses d'.disk ≡ fuses d.disk
           → is_frozen d.mode ≡ false → home_of d row.pair ≡ None → f'.shown ≡ with_deed f.shown row
           → f'.log ≡ f.log ++ record { tag = record { seat = tag.lane; lane = tag.lane; line = tag.line }; deed = row } ∷ [] → f'.closed ≡ false
           → KeptFor Tells files faults fuses begun (acts ++ act ∷ []) d' f'
@@ -206,7 +208,8 @@ module _ {D : Type 0} (Tells : Type 0) (files : D → Files) (faults fuses : D �
             drains = λ s. refl;
             fused = fused;
             front_is = front;
-            tags = ap (λ (l : List (LogEntry HomeRow)). map (λ e. e.tag) l) log ∙ map-append (λ (e : LogEntry HomeRow). e.tag) f.log (record { tag = record { seat = tag.lane; lane = tag.lane; line = tag.line }; deed = row } ∷ []);
+            tags = ap (λ (l : List (LogEntry HomeRow)). map (λ e. e.tag) l) log
+                ∙ map-append (λ (e : LogEntry HomeRow). e.tag) f.log (record { tag = record { seat = tag.lane; lane = tag.lane; line = tag.line }; deed = row } ∷ []);
             serves = λ thaws. closed;
           }))
 
@@ -238,7 +241,8 @@ module _ {D : Type 0} (Tells : Type 0) (files : D → Files) (faults fuses : D �
           }))
 
       -- a fuse was set
-      pub fuse_set : act ≡ act_of tag did.FusesRow d' → d' ≡ record d { disk = d'.disk } → (Tells → (known : DirKnown) (drained : List Bool) → Stands files d known drained → Stands files d' known drained)
+      pub fuse_set : act ≡ act_of tag did.FusesRow d' → d' ≡ record d { disk = d'.disk }
+          → (Tells → (known : DirKnown) (drained : List Bool) → Stands files d known drained → Stands files d' known drained)
           → faults d'.disk ≡ faults d.disk → IsNext (fuses d.disk) (fuses d'.disk) → KeptFor Tells files faults fuses begun (acts ++ act ∷ []) d' f
       fuse_set is only told same next =
           let mode : d'.mode ≡ d.mode = ap (λ (x : State D). x.mode) only in

@@ -65,7 +65,8 @@ module _ {D Y : Type 0} (Tells : Type 0) (files : D → Files) (faults fuses : D
   abbrev Stood : BegunAt D → List DirAct → Y → Type 0
   Stood begun acts y = KeptFor Tells files faults fuses begun acts (directory_of y) (front_of y)
 
-  module _ {lock : LockState} {begun : BegunAt D} {lane : ℕ} {seat : DirectorySeatState D} (seated : IsSeated lock begun lane seat) {mid : SeatState (BegunAt D) DirAct} {y : Y} (held : Holds (λ a. a.seat) Stood seat.turn mid y) where
+  module _ {lock : LockState} {begun : BegunAt D} {lane : ℕ} {seat : DirectorySeatState D} (seated : IsSeated lock begun lane seat) {mid : SeatState (BegunAt D) DirAct} {y : Y}
+      (held : Holds (λ a. a.seat) Stood seat.turn mid y) where
     pub kept_held : KeptFor Tells files faults fuses begun mid.seen (directory_of y) (front_of y)
     kept_held = held.stands_for begun seated.start
 
@@ -75,7 +76,9 @@ module _ {D Y : Type 0} (Tells : Type 0) (files : D → Files) (faults fuses : D
     pub settings_held : (directory_of y).settings ≡ lock.settings
     settings_held = (kept_held.of).settings ∙ seated.settings
 
-    module _ (tag : CoreTag) {y' : Y} (made : Option DirAct) (by_lane : lane ≡ tag.lane) (of : AreOf tag (acts_in made)) (kept : (begun : BegunAt D) (acts : List DirAct) → KeptFor Tells files faults fuses begun acts (directory_of y) (front_of y) → KeptFor Tells files faults fuses begun (acts ++ acts_in made) (directory_of y') (front_of y')) where
+    module _ (tag : CoreTag) {y' : Y} (made : Option DirAct) (by_lane : lane ≡ tag.lane) (of : AreOf tag (acts_in made))
+        (kept : (begun : BegunAt D) (acts : List DirAct) → KeptFor Tells files faults fuses begun acts (directory_of y) (front_of y)
+        → KeptFor Tells files faults fuses begun (acts ++ acts_in made) (directory_of y') (front_of y')) where
       pub may_free : MayFree (λ a. a.seat) Stood mid y' (acts_in made)
       may_free = record {
         stands_for = λ b is. kept b mid.seen (held.stands_for b (sym (ap (λ (s : SeatState (BegunAt D) DirAct). s.start) held.same) ∙ is));
@@ -125,16 +128,19 @@ one_shown did.FusesRow row is = absurd cc
 one_more : (held : List DirAct) (made : Option DirAct) (row : HomeRow) → MadeRow (AddsRow row) made → length (entries row_lock (held ++ acts_in made)) ≡ length (entries row_lock held) + 1
 one_more held None row is = absurd is
 one_more held (Some act) row is =
-    ap length (entries_append row_lock held (act ∷ [])) ∙ length-append (entries row_lock held) (add_shown (row_of act.did) []) ∙ ap (λ n. length (entries row_lock held) + n) (one_shown act.did row is)
+    ap length (entries_append row_lock held (act ∷ [])) ∙ length-append (entries row_lock held) (add_shown (row_of act.did) [])
+    ∙ ap (λ n. length (entries row_lock held) + n) (one_shown act.did row is)
 
 module _ (start : Start) (row : HomeRow) {tag : CoreTag} {held : List DirAct} {made : Option DirAct} {a b : LockSight DirAct HomeRow} (holding : Holding row_lock tag held made a b) where
   count_found : (stood published n : ℕ) → length ((start.directory).directory).rows ≡ stood → published ≡ length (entries row_lock held) → n ≡ stood + published → n ≡ length (rows_found start held)
   count_found stood published n first since all =
       omega (arith, first, since, all, ap length (rows_behind_acts start.directory held), length-append ((start.directory).directory).rows (entries row_lock held))
 
-  pub told_home : (home stood published n : ℕ) → length ((start.directory).directory).rows ≡ stood → n ≡ stood + published → Settles start row (Ok (home, published)) held made → SettlesAs start row tag (Ok (home, n)) a b
+  pub told_home : (home stood published n : ℕ) → length ((start.directory).directory).rows ≡ stood → n ≡ stood + published → Settles start row (Ok (home, published)) held made
+      → SettlesAs start row tag (Ok (home, n)) a b
   told_home home stood published n first all (since, inl found) =
-      let same : length (entries row_lock (held ++ acts_in made)) ≡ length (entries row_lock held) = ap (λ m. length (entries row_lock (held ++ acts_in m))) found.0 ∙ ap (λ (l : List DirAct). length (entries row_lock l)) (append-nil held) in
+      let same : length (entries row_lock (held ++ acts_in made)) ≡ length (entries row_lock held) = ap (λ m. length (entries row_lock (held ++ acts_in m))) found.0
+      ∙ ap (λ (l : List DirAct). length (entries row_lock l)) (append-nil held) in
       inl (record { held = held; made = made; holding = holding; is = (found.0, found.1, count_found stood published n first (since ∙ same) all) })
   told_home home stood published n first all (since, inr new) =
       let before = count_found stood (length (entries row_lock held)) (stood + length (entries row_lock held)) first refl refl in
@@ -153,11 +159,13 @@ more_homes : (xs ys more : List HomeRow) (pair : Pair) → home_in xs pair ≡ h
 more_homes xs ys more pair same =
     home_in-append xs more pair ∙ ap (λ (home : Option ℕ). option_or home (home_in more pair)) same ∙ sym (home_in-append ys more pair)
 
-module _ {D : Type 0} (faults fuses : D → ℕ) (start : Start) {lock : LockState} {begun : BegunAt D} {lane : ℕ} {seat : DirectorySeatState D} (seated : IsSeated lock begun lane seat) (at : StandsAt faults fuses begun.directory start.directory) where
+module _ {D : Type 0} (faults fuses : D → ℕ) (start : Start) {lock : LockState} {begun : BegunAt D} {lane : ℕ} {seat : DirectorySeatState D} (seated : IsSeated lock begun lane seat)
+    (at : StandsAt faults fuses begun.directory start.directory) where
   pub stood_first : length ((start.directory).directory).rows ≡ lock.stood
   stood_first = sym at.count ∙ seated.stood
 
-  pub home_shown : (pair : Pair) (view : HomesShown) (published n : ℕ) (home : Option ℕ) → IsBehind seat.view view → published ≡ length (filter (λ (r : HomeRow). true) view.deeds) → n ≡ lock.stood + published
+  pub home_shown : (pair : Pair) (view : HomesShown) (published n : ℕ) (home : Option ℕ) → IsBehind seat.view view → published ≡ length (filter (λ (r : HomeRow). true) view.deeds)
+      → n ≡ lock.stood + published
       → RowOf with_row IsHomeOf view pair home → HomeShown start pair n home (sight seat) (sight (record { turn = seat.turn; view = view }))
   home_shown pair view published n home behind counted all is = record {
     looked = record { seen = refl; own = refl; shown = behind.2 };
@@ -168,6 +176,7 @@ module _ {D : Type 0} (faults fuses : D → ℕ) (start : Start) {lock : LockSta
 
 -- WHAT A CALL IS GIVEN, of the lock and of the seat as they are inside
 
-pub seated_in : {D : Type 0} {lock now : LockState} {begun : BegunAt D} {lane : ℕ} {seat old : DirectorySeatState D} → lock ≡ now → seat ≡ old → IsSeated now begun lane old → IsSeated lock begun lane seat
+pub seated_in : {D : Type 0} {lock now : LockState} {begun : BegunAt D} {lane : ℕ} {seat old : DirectorySeatState D} → lock ≡ now → seat ≡ old → IsSeated now begun lane old
+    → IsSeated lock begun lane seat
 seated_in {D} {lock} {now} {begun} {lane} {seat} {old} lock_is seat_is seated =
     subst (λ (s : DirectorySeatState D). IsSeated lock begun lane s) (sym seat_is) (subst (λ (l : LockState). IsSeated l begun lane old) (sym lock_is) seated)

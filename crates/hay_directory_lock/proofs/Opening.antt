@@ -74,8 +74,10 @@ module _ {D : Type 0} (Tells : Type 0) (files : D → Files) (faults fuses : D �
     pub begun_is : (begun : BegunAt D) → KeptFor Tells files faults fuses begun [] d f → begun.directory ≡ d
     begun_is begun k = sym ((k.of).untouched refl)
 
-    pub new_seats : (lock : LockState) (begun : BegunAt D) (k : KeptFor Tells files faults fuses begun [] d f) (turns : List (SeatState (BegunAt D) DirAct)) (views : List HomesShown) (seats : List (DirectorySeatState D))
-        → lock.settings ≡ settings → lock.stood ≡ d.count → 0 < lock.seats → (f.shown).deeds ≡ [] → AreNew lock.turn (Some begun) lock.seats turns → length turns ≡ lock.seats → views ≡ replicate lock.seats f.shown
+    pub new_seats : (lock : LockState) (begun : BegunAt D) (k : KeptFor Tells files faults fuses begun [] d f) (turns : List (SeatState (BegunAt D) DirAct)) (views : List HomesShown)
+        (seats : List (DirectorySeatState D))
+        → lock.settings ≡ settings → lock.stood ≡ d.count → 0 < lock.seats → (f.shown).deeds ≡ [] → AreNew lock.turn (Some begun) lock.seats turns → length turns ≡ lock.seats
+        → views ≡ replicate lock.seats f.shown
         → map (λ seat. seat.turn) seats ≡ turns → map (λ seat. seat.view) seats ≡ views → AreNewSeats lock begun seats
     new_seats lock begun k turns views seats settings_is stood some none fresh many all turns_are views_are =
         let turn_at : (lane : ℕ) (seat : DirectorySeatState D) → slice_get seats lane ≡ Some seat → seat.turn ≡ new_seat lock.turn (Some begun) lock.seats lane =
@@ -108,7 +110,8 @@ module _ {D : Type 0} (Tells : Type 0) (files : D → Files) (faults fuses : D �
 
   -- WHERE IT ENDS
 
-  module _ {lock : LockState} {begun : BegunAt D} {seats : List (DirectorySeatState D)} (are : AreSeated lock begun seats) {turns : List (SeatState (BegunAt D) DirAct)} (turns_are : turns ≡ map (λ seat. seat.turn) seats) where
+  module _ {lock : LockState} {begun : BegunAt D} {seats : List (DirectorySeatState D)} (are : AreSeated lock begun seats) {turns : List (SeatState (BegunAt D) DirAct)}
+      (turns_are : turns ≡ map (λ seat. seat.turn) seats) where
     many_turns : length turns ≡ lock.seats
     many_turns = ap length turns_are ∙ length-map seats (λ (s : DirectorySeatState D). s.turn) ∙ are.many
 
@@ -126,7 +129,9 @@ module _ {D : Type 0} (Tells : Type 0) (files : D → Files) (faults fuses : D �
           ),
     )
 
-    module _ {Y : Type 0} (directory_of : Y → State D) (front_of : Y → HomeFront) (y : Y) (ends : Ends (λ a. a.seat) (λ begun acts x. KeptFor Tells files faults fuses begun acts (directory_of x) (front_of x)) turns y) {views : List HomesShown} (views_are : views ≡ map (λ seat. seat.view) seats) where
+    module _ {Y : Type 0} (directory_of : Y → State D) (front_of : Y → HomeFront) (y : Y)
+        (ends : Ends (λ a. a.seat) (λ begun acts x. KeptFor Tells files faults fuses begun acts (directory_of x) (front_of x)) turns y) {views : List HomesShown}
+        (views_are : views ≡ map (λ seat. seat.view) seats) where
       turn_at : (lane : ℕ) (seat : DirectorySeatState D) → slice_get seats lane ≡ Some seat → slice_get turns lane ≡ Some seat.turn
       turn_at lane seat at = ap (λ l. slice_get l lane) turns_are ∙ mapped (λ (s : DirectorySeatState D). s.turn) seats lane seat at
 
@@ -141,7 +146,8 @@ module _ {D : Type 0} (Tells : Type 0) (files : D → Files) (faults fuses : D �
           let found = unmapped (λ (z : DirectorySeatState D). z.view) seats i v (ap (λ l. slice_get l i) (sym views_are) ∙ at) in
           ap (λ (w : HomesShown). w.front) (sym found.2) ∙ (are.each i found.0 found.1).front ∙ sym kept_then.front_is)
 
-      pub closes : (tags : List Tag) → Each (λ (v : HomesShown). IsBehind v (front_of y).shown) views → tags ≡ map (λ e. e.tag) (front_of y).log → Closes Tells files faults fuses lock begun seats (directory_of y) tags
+      pub closes : (tags : List Tag) → Each (λ (v : HomesShown). IsBehind v (front_of y).shown) views → tags ≡ map (λ e. e.tag) (front_of y).log
+          → Closes Tells files faults fuses lock begun seats (directory_of y) tags
       closes tags behind tags_are = record {
         history = ends.history;
         own = λ lane seat at. ends.own lane seat.turn (turn_at lane seat at);

@@ -8,6 +8,7 @@ use Rattle.hay_turn.specs.Slots.{acts_in}
 use Rattle.hay_meeting.specs.declared.act.DirAct.{DirAct}
 use Rattle.hay_meeting.specs.Acts.{Start, row_lock}
 use Rattle.hay_meeting.specs.Locks.{entries}
+use Rattle.hay_holdings.specs.Holdings.{Called, Looked}
 use Rattle.hay_holdings.specs.Rows.{DirectoryCall, FailedRow, MadeNoRow, MadeRow, MetFrozenDir, MetHome, RowAdded, RowFailed, RowWanted, rows_found}
 use Rattle.hay_meeting.specs.Sights.{rows_stood}
 use Rattle.hay_directory.specs.declared.fault.DirFault.{DirFault}
@@ -20,6 +21,14 @@ use Rattle.hay_directory_lock.specs.Standing.{StandsAt}
 abbrev pub IsTold : {D : Type 0} → (D → ℕ) → (D → ℕ) → LockState → DirectorySeatState D → (Start → Type 0) → Type 0
 IsTold {D} faults fuses lock seat IsSo =
     (begun : BegunAt D) (lane : ℕ) → IsSeated lock begun lane seat → (start : Start) → StandsAt faults fuses begun.directory start.directory → IsSo start
+
+-- one holding, whatever it found
+abbrev pub OneHolding : CoreTag → DirectoryCall
+OneHolding tag = Called row_lock tag (λ held made. Unit {0})
+
+-- a look without the lock
+abbrev pub OneLook : DirectoryCall
+OneLook a b = Looked a b
 
 module _ (start : Start) (row : HomeRow) where
   -- its pair had a home, or it has its volume for one now, and this is known of the rows that were added: so many were published

@@ -25,24 +25,28 @@ returns-in-Some-clause-settles g c = λ start begun acts k at.
 pub returns-in-Err-NoMemory-clause-kept : goal.returns-in-Err-NoMemory-clause-kept
 returns-in-Err-NoMemory-clause-kept g c = λ begun acts k.
     let wrote = c.in-Err-NoMemory.ensures in
-    let modes = subst (λ (e : DirFault). LeavesMode (record { tag = c.args.tag; row = c.args.row }) c.args.self.now.directory.mode c.write_row.new.self.mode e) c.in-Err-NoMemory.field-0-is wrote.refused_mode in
+    let modes = subst (λ (e : DirFault). LeavesMode (record { tag = c.args.tag; row = c.args.row }) c.args.self.now.directory.mode c.write_row.new.self.mode e)
+    c.in-Err-NoMemory.field-0-is wrote.refused_mode in
     tried g.D.Disk.Tells g.D.Disk.files g.D.Disk.fault_count g.D.Disk.fuse_count k c.args.tag c.of-act.result c.write_row.new.self c.of-act.ensures wrote.settings
     (λ known drained tells stands. wrote.no_memory tells known drained stands (ap Err c.in-Err-NoMemory.field-0-is)) wrote.homes wrote.drained modes wrote.later wrote.fuses
 
 pub returns-in-Err-Failed-clause-kept : goal.returns-in-Err-Failed-clause-kept
 returns-in-Err-Failed-clause-kept g c = λ begun acts k.
     let wrote = c.in-Err-Failed.ensures in
-    let modes = subst (λ (e : DirFault). LeavesMode (record { tag = c.args.tag; row = c.args.row }) c.args.self.now.directory.mode c.write_row.new.self.mode e) c.in-Err-Failed.field-0-is wrote.refused_mode in
+    let modes = subst (λ (e : DirFault). LeavesMode (record { tag = c.args.tag; row = c.args.row }) c.args.self.now.directory.mode c.write_row.new.self.mode e) c.in-Err-Failed.field-0-is
+    wrote.refused_mode in
     let thawed = not_true (is_frozen c.args.self.now.directory.mode) (λ frozen. absurd (cc (wrote.frozen frozen, c.in-Err-Failed.field-0-is))) in
     let homeless : home_of c.args.self.now.directory c.args.row.pair ≡ None = sym c.in_default.ensures.kept in
     pended g.D.Disk.Tells g.D.Disk.files g.D.Disk.fault_count g.D.Disk.fuse_count k c.args.tag c.of-act-in-Err-Failed.result c.write_row.new.self (home_row c.args.row) c.args.self.now.front
-    c.of-act-in-Err-Failed.ensures wrote.settings (λ known drained tells stands. wrote.pending tells known drained c.in-Err-Failed.faults stands (ap Err c.in-Err-Failed.field-0-is)) wrote.homes wrote.drained modes wrote.later wrote.fuses thawed homeless refl refl
+    c.of-act-in-Err-Failed.ensures wrote.settings (λ known drained tells stands. wrote.pending tells known drained c.in-Err-Failed.faults stands (ap Err c.in-Err-Failed.field-0-is))
+    wrote.homes wrote.drained modes wrote.later wrote.fuses thawed homeless refl refl
 
 pub returns-in-Err-Failed-clause-settles : goal.returns-in-Err-Failed-clause-settles
 returns-in-Err-Failed-clause-settles g c = λ start begun acts k at.
     let wrote = c.in-Err-Failed.ensures in
     let failed = wrote.failed c.in-Err-Failed.faults (ap Err c.in-Err-Failed.field-0-is) in
-    let told = failed_in g.D.Disk.Tells g.D.Disk.files g.D.Disk.fault_count g.D.Disk.fuse_count start at acts c.of-act-in-Err-Failed.result c.args.self.now.directory c.write_row.new.self c.args.self.now.front c.args.self.now.front c.in-Err-Failed.faults k (returns-in-Err-Failed-clause-kept g c begun acts k) failed.0 failed.1 in (
+    let told = failed_in g.D.Disk.Tells g.D.Disk.files g.D.Disk.fault_count g.D.Disk.fuse_count start at acts c.of-act-in-Err-Failed.result c.args.self.now.directory c.write_row.new.self
+    c.args.self.now.front c.args.self.now.front c.in-Err-Failed.faults k (returns-in-Err-Failed-clause-kept g c begun acts k) failed.0 failed.1 in (
       ap (λ (a : DirAct). row_did_of a.did) c.of-act-in-Err-Failed.ensures,
       (told.0, c.in-Err-Failed.faults-is ∙ told.1),
     )
@@ -59,7 +63,8 @@ returns-in_default-publish-clause-kept g c = λ begun acts k.
     let thawed = not_true (is_frozen c.args.self.now.directory.mode) (λ frozen. absurd (cc (wrote.frozen frozen))) in
     let homeless : home_of c.args.self.now.directory c.args.row.pair ≡ None = sym c.in_default.ensures.kept in
     pended g.D.Disk.Tells g.D.Disk.files g.D.Disk.fault_count g.D.Disk.fuse_count k c.args.tag c.of-act-in_default-publish.result c.write_row.new.self (home_row c.args.row) c.publish.new.self
-    c.of-act-in_default-publish.ensures wrote.settings (λ known drained tells stands. wrote.given_up tells known drained stands) wrote.homes wrote.drained wrote.unshown.mode wrote.later wrote.fuses thawed homeless
+    c.of-act-in_default-publish.ensures wrote.settings (λ known drained tells stands. wrote.given_up tells known drained stands) wrote.homes wrote.drained wrote.unshown.mode wrote.later
+    wrote.fuses thawed homeless
     (ap (λ (f : HomeFront). f.shown) c.in_default-publish.ensures.refused) (ap (λ (f : HomeFront). f.log) c.in_default-publish.ensures.refused)
 
 pub returns-clause-kept : goal.returns-clause-kept
@@ -74,10 +79,12 @@ returns-clause-kept g c = λ begun acts k.
     added g.D.Disk.Tells files g.D.Disk.fault_count g.D.Disk.fuse_count k c.args.tag c.of-act-2.result c.show_row.new.self (home_row c.args.row) c.publish.new.self
     c.of-act-2.ensures (shown.settings ∙ wrote.settings)
     (λ known drained tells stands. subst (λ (w : WrittenRow). Stands files c.show_row.new.self (record known { rows = known.rows ++ home_row w.unsure.row ∷ [] }) drained) wrote.row
-    (shown.shown tells known drained (subst (λ (w : WrittenRow). IsRowWritten files c.write_row.new.self known drained (home_row w.unsure.row)) (sym wrote.row) (wrote.written tells known drained stands))))
+    (shown.shown tells known drained (subst (λ (w : WrittenRow). IsRowWritten files c.write_row.new.self known drained (home_row w.unsure.row)) (sym wrote.row)
+    (wrote.written tells known drained stands))))
     c.write_row.new.self.homes wrote.homes set (shown.drained ∙ wrote.drained) shown.serves
     (subst (λ n. g.D.Disk.fault_count c.args.self.now.directory.disk ≤ n) (sym (ap g.D.Disk.fault_count shown.disk)) wrote.later) (ap g.D.Disk.fuse_count shown.disk ∙ wrote.fuses) thawed homeless
-    (ap (λ (f : HomeFront). f.shown) done) (ap (λ (f : HomeFront). f.log) done ∙ ap (λ (tag : Tag). c.args.self.now.front.log ++ record { tag = tag; deed = home_row c.args.row } ∷ []) c.front_tag.ensures) (ap (λ (f : HomeFront). f.closed) done)
+    (ap (λ (f : HomeFront). f.shown) done) (ap (λ (f : HomeFront). f.log) done
+    ∙ ap (λ (tag : Tag). c.args.self.now.front.log ++ record { tag = tag; deed = home_row c.args.row } ∷ []) c.front_tag.ensures) (ap (λ (f : HomeFront). f.closed) done)
 
 pub returns-clause-settles : goal.returns-clause-settles
 returns-clause-settles g c = λ start begun acts k at.

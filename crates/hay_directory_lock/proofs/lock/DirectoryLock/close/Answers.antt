@@ -8,13 +8,15 @@ use Rattle.hay_directory_lock.proofs.lock.DirectoryLock.close.Goals as goal
 
 pub close-directory-requires : goal.close-directory-requires
 close-directory-requires g c =
-    all_seats g.D.Disk.Tells g.D.Disk.files g.D.Disk.fault_count g.D.Disk.fuse_count (subst (λ (l : LockState). AreSeated l c.requires.seats.0 c.args.seats.items) (sym c.self.view_is) c.requires.seats.1)
+    all_seats g.D.Disk.Tells g.D.Disk.files g.D.Disk.fault_count g.D.Disk.fuse_count
+    (subst (λ (l : LockState). AreSeated l c.requires.seats.0 c.args.seats.items) (sym c.self.view_is) c.requires.seats.1)
     c.apart-turns.ensures.turns
 
 pub show_each-requires-after_bounds : goal.show_each-requires-after_bounds
 show_each-requires-after_bounds g c = λ κs within.
     subst (λ (l : List HomesShown). Each (λ v. v.front ≡ c.close-directory.result.front.shown.front) l) (sym c.as_mut_slice.ensures.value)
-    (views_of g.D.Disk.Tells g.D.Disk.files g.D.Disk.fault_count g.D.Disk.fuse_count (subst (λ (l : LockState). AreSeated l c.requires.seats.0 c.args.seats.items) (sym c.self.view_is) c.requires.seats.1)
+    (views_of g.D.Disk.Tells g.D.Disk.files g.D.Disk.fault_count g.D.Disk.fuse_count
+    (subst (λ (l : LockState). AreSeated l c.requires.seats.0 c.args.seats.items) (sym c.self.view_is) c.requires.seats.1)
     c.apart-turns.ensures.turns (λ y. y.directory) (λ y. y.front) c.close-directory.result c.close-directory.ensures c.apart-turns.ensures.views)
 
 pub returns : goal.returns

@@ -17,7 +17,8 @@ returns-in-Ok-new-clause-made g c =
       refl,
       refl,
       c.in-Ok.ensures,
-      new_seats g.D.Disk.Tells g.D.Disk.files g.D.Disk.fault_count g.D.Disk.fuse_count c.requires.settings _ made.0 made.1 c.in-Ok-new.turns.items c.in-Ok-front_of.views.items c.joined-seats.result.items
+      new_seats g.D.Disk.Tells g.D.Disk.files g.D.Disk.fault_count g.D.Disk.fuse_count c.requires.settings _ made.0 made.1 c.in-Ok-new.turns.items c.in-Ok-front_of.views.items
+          c.joined-seats.result.items
           refl c.rows-stood.ensures.count c.requires.some front.blank.0 made.3 (sym c.in-Ok-new.turns.ok.0 ∙ made.2) front.seats c.joined-seats.ensures.turns c.joined-seats.ensures.views,
     )
 
