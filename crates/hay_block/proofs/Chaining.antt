@@ -1,0 +1,138 @@
+-- What the workers of all lanes answered is their lines.
+use Rattle.std.proofs.Common.{◌≡◌, ◌<◌, ◌≤◌, ℕ, zero, suc, List, [], ◌∷◌, map, length, filter, Contains, refl, sym, ap, subst, ◌∙◌, arith, Some, All, slice_get}
+use Rattle.std.specs.Prelude.{◌==◌}
+use Rattle.std.specs.List.{AllByRecursion as Each}
+use Rattle.std.proofs.lemmas.Option.{slice_get_within}
+use Rattle.hay_needle.specs.declared.settings.Settings.{Settings}
+use Rattle.hay_core.specs.declared.entry.Entry.{Entry}
+use Rattle.hay_reply.specs.declared.Reply.{Reply}
+use Rattle.hay_legal.specs.declared.known.HomeRow.{HomeRow}
+use Rattle.hay_legal.specs.declared.turn.Item.{Item}
+use Rattle.hay_legal.specs.declared.turn.Item.TheVariants as asks
+use Rattle.hay_legal.specs.declared.turn.LaneItem.{LaneItem}
+use Rattle.hay_history.specs.Commands.{MayStandInLane}
+use Rattle.hay_history.proofs.Lists.{each_from, each_in}
+use Rattle.hay_lanes.specs.Lanes.{AnswersAll, AnswersLanes}
+use Rattle.hay_meeting.specs.declared.act.DirAct.{DirAct}
+use Rattle.hay_meeting.specs.declared.act.VolumeAct.{VolumeAct}
+use Rattle.hay_meeting.specs.Acts.{Start}
+use Rattle.hay_meeting.specs.Chains.{AreLanes, GoesOn}
+use Rattle.hay_meeting.specs.Locks.{LockSight}
+use Rattle.hay_meeting.specs.Replies.{AnsweredHere}
+use Rattle.hay_meeting.specs.Sights.{Sight}
+use Rattle.hay_meeting.proofs.Closing.{there}
+use Rattle.hay_meeting.proofs.Looping.{GoOn, are_lanes, lines_of, note_of}
+use Rattle.hay_meeting.proofs.Picking.{in_part}
+use Rattle.hay_meeting.proofs.Replying.{goes_on}
+use Rattle.hay_lane.specs.declared.lane.Shared.{Shared}
+use Rattle.hay_lane.specs.Lanes.{IsOf, IsSeated, sight}
+use Rattle.hay_lane.specs.Tellings.{StoreVolume}
+use Rattle.hay_block.specs.declared.worker.Job.{Job}
+use Rattle.hay_block.specs.declared.worker.LaneWorker.{LaneWorker}
+use Rattle.hay_block.specs.Lines.{Answers, AreItems, IsServed, SitsAt, answered_line, answered_lines}
+use Rattle.hay_block.proofs.Lists.{each_at}
+
+-- WHAT STAYS WHILE LANES ANSWER
+
+module _ {W J O : Type 0} (Is : ℕ → W → Type 0) (gives becomes : W → ℕ → J → W → O → Type 0)
+    (goes : (lane : ℕ) (w : W) (job : J) (x : W) (out : O) → Is lane w → gives w lane job x out → Is lane x × becomes w lane job x out) where
+  all_go : (lane : ℕ) (w : W) (jobs : List J) (after : W) (outs : List O) → Is lane w → AnswersAll gives lane w jobs after outs → Is lane after × AnswersAll becomes lane w jobs after outs
+  all_go lane w [] after outs is (same, none) = (subst (Is lane) (sym same) is, (same, none))
+  all_go lane w (job ∷ jobs) after outs is (x, out, rest, outs_are, answered, more) =
+      let one = goes lane w job x out is answered in
+      let others = all_go lane x jobs after rest one.0 more in
+      (others.0, (x, out, rest, outs_are, one.1, others.1))
+
+  module _ {workers after : List W} {jobs : List (List J)} {outs : List (List O)} (given : length jobs ≡ length workers)
+      (first : (lane : ℕ) (w : W) → slice_get workers lane ≡ Some w → Is lane w) (answers : AnswersLanes gives workers jobs after outs) where
+    pub lanes_go : AnswersLanes becomes workers jobs after outs
+    lanes_go = record {
+      workers_stay = answers.workers_stay;
+      lanes_stay = answers.lanes_stay;
+      each = λ lane w js here there.
+          let r = answers.each lane w js here there in
+          (r.0, r.1, r.2, r.3, (all_go lane w js r.0 r.1 (first lane w here) r.4).1);
+    }
+
+    pub lanes_stay : (lane : ℕ) (x : W) → slice_get after lane ≡ Some x → Is lane x
+    lanes_stay lane x at =
+        let inside = slice_get_within after lane x at in
+        let many = answers.workers_stay in
+        let w = there workers lane (omega (arith, inside, many)) in
+        let js = there jobs lane (omega (arith, inside, many, given)) in
+        let r = answers.each lane w.0 js.0 w.1 js.1 in
+        let same : r.0 ≡ x = let both : Some r.0 ≡ Some x = sym r.2 ∙ at in cc in
+        subst (Is lane) same (all_go lane w.0 js.0 r.0 r.1 (first lane w.0 w.1) r.4).0
+
+-- THE WORKERS
+
+module _ {V D S T A : Type 0} (fits : V → Settings → ℕ → S → Type 0) (fits_rows : D → Settings → ℕ → T → Type 0) (is_at : S → StoreVolume → Type 0) (is_at_rows : T → Start → Type 0)
+    (of : S → LockSight VolumeAct Entry) (of_rows : T → LockSight DirAct HomeRow) (arm_faults : A → ℕ) where
+  abbrev pub sight_at : LaneWorker V D S T A → Sight
+  sight_at w = sight of of_rows arm_faults w.lane
+
+  abbrev pub gives : LaneWorker V D S T A → ℕ → Job → LaneWorker V D S T A → Reply → Type 0
+  gives w lane job after out = Answers fits fits_rows is_at is_at_rows of of_rows arm_faults lane job w after out
+
+  module _ (shared : Shared V D) (start : Start) where
+    abbrev pub sits_at : ℕ → LaneWorker V D S T A → Type 0
+    sits_at lane w = SitsAt fits fits_rows is_at is_at_rows shared start lane w
+
+    goes_from : LaneWorker V D S T A → ℕ → Job → LaneWorker V D S T A → Reply → Type 0
+    goes_from w lane job x out =
+        GoesOn shared.settings start (shared.drained).items (record { item = answered_line lane job out; before = sight_at w; after = sight_at x })
+
+    one_goes : (lane : ℕ) (w : LaneWorker V D S T A) (job : Job) (x : LaneWorker V D S T A) (out : Reply) → sits_at lane w → gives w lane job x out → sits_at lane x × goes_from w lane job x out
+    one_goes lane w job x out sits answered =
+        let at : (w.shared).now ≡ shared = sits.own in (
+          record {
+            own = answered.shared ∙ at;
+            seated = subst (λ (z : Shared V D). IsSeated fits fits_rows z lane x.lane) at answered.seated;
+            store = subst (λ (z : Shared V D). IsOf is_at is_at_rows z.settings start w.lane → IsOf is_at is_at_rows z.settings start x.lane) at (answered.same start) sits.store;
+          },
+          goes_on _ (subst (λ (z : Shared V D). IsOf is_at is_at_rows z.settings start w.lane
+          → AnsweredHere z.settings start (z.drained).items (answered_line lane job out) (sight_at w) (sight_at x)) at (answered.answered start) sits.store),
+        )
+
+    module _ {workers after : List (LaneWorker V D S T A)} {jobs : List (List Job)} {replies : List (List Reply)} (given : length jobs ≡ length workers)
+        (first : (lane : ℕ) (w : LaneWorker V D S T A) → slice_get workers lane ≡ Some w → sits_at lane w) (answers : AnswersLanes gives workers jobs after replies) where
+      -- they sit where they sat
+      pub still_sit : (lane : ℕ) (x : LaneWorker V D S T A) → slice_get after lane ≡ Some x → sits_at lane x
+      still_sit = lanes_stay sits_at gives goes_from one_goes given first answers
+
+      same_lines : (lane : ℕ) (js : List Job) (rs : List Reply)
+          → answered_lines lane js rs ≡ lines_of shared.settings start (shared.drained).items goes_from sight_at answered_line lane js rs
+      same_lines lane [] rs = refl
+      same_lines lane (job ∷ js) [] = refl
+      same_lines lane (job ∷ js) (reply ∷ rs) = ap (λ z. answered_line lane job reply ∷ z) (same_lines lane js rs)
+
+      -- and their answers are lines of lanes
+      pub lanes_answered : (items : List LaneItem) → AreItems jobs replies items
+          → AreLanes shared.settings start (shared.drained).items (length workers) (map sight_at workers) (map sight_at after) items
+      lanes_answered items are =
+          are_lanes shared.settings start (shared.drained).items goes_from sight_at answered_line (record { lane_is = λ lane job out. refl; each = λ lane w job x out goes. goes })
+          (lanes_go sits_at gives goes_from one_goes given first answers) refl given (subst (λ n. Each (λ item. item.lane < n) items) given are.low)
+          (λ lane js os here there. are.each lane js os here there ∙ same_lines lane js os)
+
+-- LINES THAT A BLOCK MAY HAVE
+
+may_stand : (item : Item) → IsServed item → MayStandInLane item
+may_stand (asks.Command command) served = served.1
+may_stand asks.Bad served = tt
+
+lines_stand : (lane : ℕ) (jobs : List Job) (replies : List Reply) → Each (λ job. IsServed job.item) jobs → Each (λ item. MayStandInLane item.item) (answered_lines lane jobs replies)
+lines_stand lane [] replies each = tt
+lines_stand lane (job ∷ jobs) [] each = tt
+lines_stand lane (job ∷ jobs) (reply ∷ replies) each = (may_stand job.item each.0, lines_stand lane jobs replies each.1)
+
+pub items_stand : {jobs : List (List Job)} {replies : List (List Reply)} {items : List LaneItem} → length replies ≡ length jobs
+    → Each (λ js. Each (λ job. IsServed job.item) js) jobs → AreItems jobs replies items → Each (λ item. MayStandInLane item.item) items
+items_stand {jobs} {replies} {items} many served are = each_from (λ (item : LaneItem). MayStandInLane item.item) items
+    (λ item among.
+    let lane : ℕ = item.lane in
+    let low : lane < length jobs = each_in (λ (i : LaneItem). i.lane < length jobs) items item are.low among in
+    let js = there jobs lane low in
+    let rs = there replies lane (omega (arith, low, many)) in
+    each_in (λ (i : LaneItem). MayStandInLane i.item) (answered_lines lane js.0 rs.0) item
+    (lines_stand lane js.0 rs.0 (each_at (λ js. Each (λ job. IsServed job.item) js) jobs lane js.0 served js.1))
+    (subst (λ z. Contains z item) (are.each lane js.0 rs.0 js.1 rs.1) (in_part (λ (i : LaneItem). i.lane) items item among)))

@@ -1,0 +1,6 @@
+pub mod Ends
+pub mod Seats
+pub mod Behind
+pub mod Lines
+pub mod Law
+pub mod Workers
