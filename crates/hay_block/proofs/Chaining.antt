@@ -1,11 +1,12 @@
 -- What the workers of all lanes answered is their lines.
 use Rattle.std.proofs.Common.{◌≡◌, ◌<◌, ◌≤◌, ℕ, zero, suc, List, [], ◌∷◌, map, length, filter, Contains, refl, sym, ap, subst, ◌∙◌, arith, Some, All, slice_get}
-use Rattle.std.specs.Prelude.{◌==◌}
+use Rattle.std.specs.Prelude.{◌==◌, Bool}
 use Rattle.std.specs.List.{AllByRecursion as Each}
 use Rattle.std.proofs.lemmas.Option.{slice_get_within}
 use Rattle.hay_needle.specs.declared.settings.Settings.{Settings}
 use Rattle.hay_core.specs.declared.entry.Entry.{Entry}
 use Rattle.hay_reply.specs.declared.Reply.{Reply}
+use Rattle.hay_reply.specs.declared.Reply.TheVariants.{BadLine}
 use Rattle.hay_legal.specs.declared.known.HomeRow.{HomeRow}
 use Rattle.hay_legal.specs.declared.turn.Item.{Item}
 use Rattle.hay_legal.specs.declared.turn.Item.TheVariants as asks
@@ -15,15 +16,18 @@ use Rattle.hay_history.proofs.Lists.{each_from, each_in}
 use Rattle.hay_lanes.specs.Lanes.{AnswersAll, AnswersLanes}
 use Rattle.hay_meeting.specs.declared.act.DirAct.{DirAct}
 use Rattle.hay_meeting.specs.declared.act.VolumeAct.{VolumeAct}
-use Rattle.hay_meeting.specs.Acts.{Start}
+use Rattle.hay_turn.proofs.Prefixes.{prefix_self}
+use Rattle.hay_meeting.specs.Acts.{Start, row_lock, volume_lock}
 use Rattle.hay_meeting.specs.Chains.{AreLanes, GoesOn}
 use Rattle.hay_meeting.specs.Locks.{LockSight}
 use Rattle.hay_meeting.specs.Replies.{AnsweredHere}
 use Rattle.hay_meeting.specs.Sights.{Sight}
 use Rattle.hay_meeting.proofs.Closing.{there}
 use Rattle.hay_meeting.proofs.Looping.{GoOn, are_lanes, lines_of, note_of}
+use Rattle.hay_meeting.proofs.Phases.{only_saw}
 use Rattle.hay_meeting.proofs.Picking.{in_part}
 use Rattle.hay_meeting.proofs.Replying.{goes_on}
+use Rattle.hay_holdings.specs.Sights.{no_doings}
 use Rattle.hay_lane.specs.declared.lane.Shared.{Shared}
 use Rattle.hay_lane.specs.Lanes.{IsOf, IsSeated, sight}
 use Rattle.hay_lane.specs.Tellings.{StoreVolume}
@@ -78,7 +82,7 @@ module _ {V D S T A : Type 0} (fits : V → Settings → ℕ → S → Type 0) (
     abbrev pub sits_at : ℕ → LaneWorker V D S T A → Type 0
     sits_at lane w = SitsAt fits fits_rows is_at is_at_rows shared start lane w
 
-    goes_from : LaneWorker V D S T A → ℕ → Job → LaneWorker V D S T A → Reply → Type 0
+    abbrev goes_from : LaneWorker V D S T A → ℕ → Job → LaneWorker V D S T A → Reply → Type 0
     goes_from w lane job x out =
         GoesOn shared.settings start (shared.drained).items (record { item = answered_line lane job out; before = sight_at w; after = sight_at x })
 
@@ -136,3 +140,18 @@ items_stand {jobs} {replies} {items} many served are = each_from (λ (item : Lan
     each_in (λ (i : LaneItem). MayStandInLane i.item) (answered_lines lane js.0 rs.0) item
     (lines_stand lane js.0 rs.0 (each_at (λ js. Each (λ job. IsServed job.item) js) jobs lane js.0 served js.1))
     (subst (λ z. Contains z item) (are.each lane js.0 rs.0 js.1 rs.1) (in_part (λ (i : LaneItem). i.lane) items item among)))
+
+-- A BAD LINE
+
+pub bad_answered : (settings : Settings) (start : Start) (drained : List Bool) (line lane : ℕ) (s : Sight) (item : Item) → item ≡ asks.Bad
+    → AnsweredHere settings start drained (record { line = line; lane = lane; item = item; reply = BadLine }) s s
+bad_answered settings start drained line lane s item bad =
+    subst (λ (z : Item). AnsweredHere settings start drained (record { line = line; lane = lane; item = z; reply = BadLine }) s s) (sym bad) (record {
+      doings = no_doings;
+      work = record {
+        volumes = λ v. only_saw volume_lock (record { seen = prefix_self (s.volumes v).seen; shown = prefix_self (s.volumes v).shown }) refl;
+        directory = only_saw row_lock (record { seen = prefix_self (s.directory).seen; shown = prefix_self (s.directory).shown }) refl;
+        arm = omega arith;
+      };
+      did = (refl, (λ v. refl, refl));
+    })

@@ -117,5 +117,5 @@ module _ {V D S T A : Type 0} {fits : V → Settings → ℕ → S → Type 0} {
   }
 
 pub workers_are_legal : WorkersAreLegal
-workers_are_legal fits fits_rows is_at is_at_rows of of_rows arm_faults shared start k workers after jobs replies h faults fuses arms ran items are distinct =
+workers_are_legal V D S T A fits fits_rows is_at is_at_rows of of_rows arm_faults shared start k workers after jobs replies h faults fuses arms ran items are distinct =
     blocks_are_legal shared.settings start k (sights ran workers) (sights ran after) items h faults fuses arms (block ran items are distinct)

@@ -57,7 +57,7 @@ module _ {V D S T A : Type 0} (fits : V → Settings → ℕ → S → Type 0) (
 -- Then their lines are a legal block, in any order that keeps each lane's own.
 abbrev pub WorkersAreLegal : Type 1
 WorkersAreLegal =
-    {V D S T A : Type 0} (fits : V → Settings → ℕ → S → Type 0) (fits_rows : D → Settings → ℕ → T → Type 0) (is_at : S → StoreVolume → Type 0) (is_at_rows : T → Start → Type 0)
+    (V D S T A : Type 0) (fits : V → Settings → ℕ → S → Type 0) (fits_rows : D → Settings → ℕ → T → Type 0) (is_at : S → StoreVolume → Type 0) (is_at_rows : T → Start → Type 0)
     (of : S → LockSight VolumeAct Entry) (of_rows : T → LockSight DirAct HomeRow) (arm_faults : A → ℕ)
     (shared : Shared V D) (start : Start) (k : Known) (workers after : List (LaneWorker V D S T A)) (jobs : List (List Job)) (replies : List (List Reply))
     (h : Happened) (faults fuses arms : List ℕ)
