@@ -2,7 +2,9 @@
 use Rattle.std.proofs.Common.{◌≡◌, ◌<◌, ◌≤◌, ℕ, zero, suc, List, [], ◌∷◌, map, length, filter, Contains, refl, sym, ap, subst, ◌∙◌, arith, Some, All, slice_get}
 use Rattle.std.specs.Prelude.{◌==◌, Bool}
 use Rattle.std.specs.List.{AllByRecursion as Each}
+use Rattle.std.proofs.lemmas.List.{length-map}
 use Rattle.std.proofs.lemmas.Option.{slice_get_within}
+use Rattle.hay_lanes.proofs.Results.{unmapped}
 use Rattle.hay_needle.specs.declared.settings.Settings.{Settings}
 use Rattle.hay_core.specs.declared.entry.Entry.{Entry}
 use Rattle.hay_reply.specs.declared.Reply.{Reply}
@@ -28,13 +30,13 @@ use Rattle.hay_meeting.proofs.Phases.{only_saw}
 use Rattle.hay_meeting.proofs.Picking.{in_part}
 use Rattle.hay_meeting.proofs.Replying.{goes_on}
 use Rattle.hay_holdings.specs.Sights.{no_doings}
+use Rattle.hay_lane.specs.declared.lane.Lane.{Lane}
 use Rattle.hay_lane.specs.declared.lane.Shared.{Shared}
 use Rattle.hay_lane.specs.Lanes.{IsOf, IsSeated, sight}
 use Rattle.hay_lane.specs.Tellings.{StoreVolume}
 use Rattle.hay_block.specs.declared.worker.Job.{Job}
-use Rattle.hay_block.specs.declared.worker.LaneWorker.{LaneWorker}
 use Rattle.hay_block.specs.Lines.{Answers, AreItems, IsServed, SitsAt, answered_line, answered_lines}
-use Rattle.hay_block.proofs.Lists.{each_at}
+use Rattle.hay_block.proofs.Lists.{each_at, mapped}
 
 -- WHAT STAYS WHILE LANES ANSWER
 
@@ -68,55 +70,63 @@ module _ {W J O : Type 0} (Is : ℕ → W → Type 0) (gives becomes : W → ℕ
         let same : r.0 ≡ x = let both : Some r.0 ≡ Some x = sym r.2 ∙ at in cc in
         subst (Is lane) same (all_go lane w.0 js.0 r.0 r.1 (first lane w.0 w.1) r.4).0
 
--- THE WORKERS
+-- LANES
+
+-- what answers to images
+module _ {W L J O : Type 0} (f : W → L) (answers : L → ℕ → J → L → O → Type 0) where
+  abbrev answers_by : W → ℕ → J → W → O → Type 0
+  answers_by w lane job x out = answers (f w) lane job (f x) out
+
+  image_answers : (lane : ℕ) (w : W) (jobs : List J) (after : W) (outs : List O) → AnswersAll answers_by lane w jobs after outs → AnswersAll answers lane (f w) jobs (f after) outs
+  image_answers lane w [] after outs (same, none) = (ap f same, none)
+  image_answers lane w (job ∷ jobs) after outs (x, out, rest, outs_are, answered, more) = (f x, out, rest, outs_are, answered, image_answers lane x jobs after rest more)
+
+  pub images_answer : {workers after : List W} {jobs : List (List J)} {outs : List (List O)} → AnswersLanes answers_by workers jobs after outs → AnswersLanes answers (map f workers) jobs (map f after) outs
+  images_answer {workers} {after} all = record {
+    workers_stay = length-map after f ∙ (all.workers_stay ∙ sym (length-map workers f));
+    lanes_stay = all.lanes_stay;
+    each = λ lane l js here there.
+        let w = unmapped f workers lane l here in
+        let r = all.each lane w.0 js w.1 there in
+        (f r.0, r.1, mapped f after lane r.0 r.2, r.3, subst (λ z. AnswersAll answers lane z js (f r.0) r.1) w.2 (image_answers lane w.0 js r.0 r.1 r.4));
+  }
 
 module _ {V D S T A : Type 0} (fits : V → Settings → ℕ → S → Type 0) (fits_rows : D → Settings → ℕ → T → Type 0) (is_at : S → StoreVolume → Type 0) (is_at_rows : T → Start → Type 0)
-    (of : S → LockSight VolumeAct Entry) (of_rows : T → LockSight DirAct HomeRow) (arm_faults : A → ℕ) where
-  abbrev pub sight_at : LaneWorker V D S T A → Sight
-  sight_at w = sight of of_rows arm_faults w.lane
+    (of : S → LockSight VolumeAct Entry) (of_rows : T → LockSight DirAct HomeRow) (arm_faults : A → ℕ) (shared : Shared V D) (start : Start) where
+  abbrev sight_at : Lane S T A → Sight
+  sight_at l = sight of of_rows arm_faults l
 
-  abbrev pub gives : LaneWorker V D S T A → ℕ → Job → LaneWorker V D S T A → Reply → Type 0
-  gives w lane job after out = Answers fits fits_rows is_at is_at_rows of of_rows arm_faults lane job w after out
+  abbrev gives : Lane S T A → ℕ → Job → Lane S T A → Reply → Type 0
+  gives old lane job new reply = Answers fits fits_rows is_at is_at_rows of of_rows arm_faults shared lane job old new reply
 
-  module _ (shared : Shared V D) (start : Start) where
-    abbrev pub sits_at : ℕ → LaneWorker V D S T A → Type 0
-    sits_at lane w = SitsAt fits fits_rows is_at is_at_rows shared start lane w
+  abbrev sits_at : ℕ → Lane S T A → Type 0
+  sits_at lane l = SitsAt fits fits_rows is_at is_at_rows of of_rows arm_faults shared start lane l
 
-    abbrev goes_from : LaneWorker V D S T A → ℕ → Job → LaneWorker V D S T A → Reply → Type 0
-    goes_from w lane job x out =
-        GoesOn shared.settings start (shared.drained).items (record { item = answered_line lane job out; before = sight_at w; after = sight_at x })
+  abbrev goes_from : Lane S T A → ℕ → Job → Lane S T A → Reply → Type 0
+  goes_from old lane job new reply = GoesOn shared.settings start (shared.drained).items (record { item = answered_line lane job reply; before = sight_at old; after = sight_at new })
 
-    one_goes : (lane : ℕ) (w : LaneWorker V D S T A) (job : Job) (x : LaneWorker V D S T A) (out : Reply) → sits_at lane w → gives w lane job x out → sits_at lane x × goes_from w lane job x out
-    one_goes lane w job x out sits answered =
-        let at : (w.shared).now ≡ shared = sits.own in (
-          record {
-            own = answered.shared ∙ at;
-            seated = subst (λ (z : Shared V D). IsSeated fits fits_rows z lane x.lane) at answered.seated;
-            store = subst (λ (z : Shared V D). IsOf is_at is_at_rows z.settings start w.lane → IsOf is_at is_at_rows z.settings start x.lane) at (answered.same start) sits.store;
-          },
-          goes_on _ (subst (λ (z : Shared V D). IsOf is_at is_at_rows z.settings start w.lane
-          → AnsweredHere z.settings start (z.drained).items (answered_line lane job out) (sight_at w) (sight_at x)) at (answered.answered start) sits.store),
-        )
+  one_goes : (lane : ℕ) (old : Lane S T A) (job : Job) (new : Lane S T A) (reply : Reply) → sits_at lane old → gives old lane job new reply → sits_at lane new × goes_from old lane job new reply
+  one_goes lane old job new reply sits answered =
+      (record { seated = answered.seated; store = answered.same start sits.store }, goes_on _ (answered.answered start sits.store))
 
-    module _ {workers after : List (LaneWorker V D S T A)} {jobs : List (List Job)} {replies : List (List Reply)} (given : length jobs ≡ length workers)
-        (first : (lane : ℕ) (w : LaneWorker V D S T A) → slice_get workers lane ≡ Some w → sits_at lane w) (answers : AnswersLanes gives workers jobs after replies) where
-      -- they sit where they sat
-      pub still_sit : (lane : ℕ) (x : LaneWorker V D S T A) → slice_get after lane ≡ Some x → sits_at lane x
-      still_sit = lanes_stay sits_at gives goes_from one_goes given first answers
+  module _ {lanes after : List (Lane S T A)} {jobs : List (List Job)} {replies : List (List Reply)} (given : length jobs ≡ length lanes)
+      (first : (lane : ℕ) (l : Lane S T A) → slice_get lanes lane ≡ Some l → sits_at lane l) (answers : AnswersLanes gives lanes jobs after replies) where
+    -- they sit where they sat
+    pub still_sit : (lane : ℕ) (l : Lane S T A) → slice_get after lane ≡ Some l → sits_at lane l
+    still_sit = lanes_stay sits_at gives goes_from one_goes given first answers
 
-      same_lines : (lane : ℕ) (js : List Job) (rs : List Reply)
-          → answered_lines lane js rs ≡ lines_of shared.settings start (shared.drained).items goes_from sight_at answered_line lane js rs
-      same_lines lane [] rs = refl
-      same_lines lane (job ∷ js) [] = refl
-      same_lines lane (job ∷ js) (reply ∷ rs) = ap (λ z. answered_line lane job reply ∷ z) (same_lines lane js rs)
+    same_lines : (lane : ℕ) (js : List Job) (rs : List Reply) → answered_lines lane js rs ≡ lines_of shared.settings start (shared.drained).items goes_from sight_at answered_line lane js rs
+    same_lines lane [] rs = refl
+    same_lines lane (job ∷ js) [] = refl
+    same_lines lane (job ∷ js) (reply ∷ rs) = ap (λ z. answered_line lane job reply ∷ z) (same_lines lane js rs)
 
-      -- and their answers are lines of lanes
-      pub lanes_answered : (items : List LaneItem) → AreItems jobs replies items
-          → AreLanes shared.settings start (shared.drained).items (length workers) (map sight_at workers) (map sight_at after) items
-      lanes_answered items are =
-          are_lanes shared.settings start (shared.drained).items goes_from sight_at answered_line (record { lane_is = λ lane job out. refl; each = λ lane w job x out goes. goes })
-          (lanes_go sits_at gives goes_from one_goes given first answers) refl given (subst (λ n. Each (λ item. item.lane < n) items) given are.low)
-          (λ lane js os here there. are.each lane js os here there ∙ same_lines lane js os)
+    -- and their answers are lines of lanes
+    pub lanes_answered : (items : List LaneItem) → AreItems jobs replies items
+        → AreLanes shared.settings start (shared.drained).items (length lanes) (map sight_at lanes) (map sight_at after) items
+    lanes_answered items are =
+        are_lanes shared.settings start (shared.drained).items goes_from sight_at answered_line (record { lane_is = λ lane job out. refl; each = λ lane w job x out goes. goes })
+        (lanes_go sits_at gives goes_from one_goes given first answers) refl given (subst (λ n. Each (λ item. item.lane < n) items) given are.low)
+        (λ lane js os here there. are.each lane js os here there ∙ same_lines lane js os)
 
 -- LINES THAT A BLOCK MAY HAVE
 

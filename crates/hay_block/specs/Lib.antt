@@ -3,4 +3,4 @@ pub mod Seats
 pub mod Behind
 pub mod Lines
 pub mod Law
-pub mod Workers
+pub mod Lanes

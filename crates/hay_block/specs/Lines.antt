@@ -1,4 +1,4 @@
--- The lines of a lane, and what its worker answers.
+-- The lines of a lane, and what it answers.
 use Rattle.std.specs.Prelude.{◌≡◌, ℕ, ◌<◌, ◌==◌, List, [], ◌∷◌, length, filter, slice_get, Some}
 use Rattle.std.specs.List.{AllByRecursion as Each}
 use Rattle.hay_needle.specs.declared.settings.Settings.{Settings}
@@ -16,11 +16,11 @@ use Rattle.hay_meeting.specs.declared.act.VolumeAct.{VolumeAct}
 use Rattle.hay_meeting.specs.Acts.{Start}
 use Rattle.hay_meeting.specs.Locks.{LockSight}
 use Rattle.hay_meeting.specs.Replies.{AnsweredHere}
+use Rattle.hay_lane.specs.declared.lane.Lane.{Lane}
 use Rattle.hay_lane.specs.declared.lane.Shared.{Shared}
 use Rattle.hay_lane.specs.Lanes.{IsOf, IsSeated, sight}
 use Rattle.hay_lane.specs.Tellings.{StoreVolume}
 use Rattle.hay_block.specs.declared.worker.Job.{Job}
-use Rattle.hay_block.specs.declared.worker.LaneWorker.{LaneWorker}
 
 -- a line that a block may have
 abbrev pub IsServed : Item → Type 0
@@ -31,26 +31,20 @@ IsServed asks.Bad = Unit {0}
 abbrev pub answered_line : ℕ → Job → Reply → LaneItem
 answered_line lane job reply = record { line = job.line; lane = lane; item = job.item; reply = reply }
 
--- The worker of the lane answered a line so: it sits where it sat, and what its lane knows grew by this answer.
-pub record Answers {V D S T A : Type 0} (fits : V → Settings → ℕ → S → Type 0) (fits_rows : D → Settings → ℕ → T → Type 0)
-    (is_at : S → StoreVolume → Type 0) (is_at_rows : T → Start → Type 0)
-    (of : S → LockSight VolumeAct Entry) (of_rows : T → LockSight DirAct HomeRow) (arm_faults : A → ℕ)
-    (lane : ℕ) (job : Job) (old new : LaneWorker V D S T A) (reply : Reply) : Type 0 where
-  pub shared : (new.shared).now ≡ (old.shared).now
-  pub seated : IsSeated fits fits_rows (old.shared).now lane new.lane
-  pub same : (start : Start) → IsOf is_at is_at_rows ((old.shared).now).settings start old.lane → IsOf is_at is_at_rows ((old.shared).now).settings start new.lane
-  pub answered : (start : Start) → IsOf is_at is_at_rows ((old.shared).now).settings start old.lane
-      → AnsweredHere ((old.shared).now).settings start (((old.shared).now).drained).items (answered_line lane job reply)
-      (sight of of_rows arm_faults old.lane) (sight of of_rows arm_faults new.lane)
-  pub fits_reply : FitsReply reply
+module _ {V D S T A : Type 0} (fits : V → Settings → ℕ → S → Type 0) (fits_rows : D → Settings → ℕ → T → Type 0) (is_at : S → StoreVolume → Type 0) (is_at_rows : T → Start → Type 0)
+    (of : S → LockSight VolumeAct Entry) (of_rows : T → LockSight DirAct HomeRow) (arm_faults : A → ℕ) (shared : Shared V D) where
+  -- The lane of this number sits at these locks, which were made round this store.
+  pub record SitsAt (start : Start) (number : ℕ) (lane : Lane S T A) : Type 0 where
+    pub seated : IsSeated fits fits_rows shared number lane
+    pub store : IsOf is_at is_at_rows shared.settings start lane
 
--- The worker of the lane sits at these locks, which were made round this store.
-pub record SitsAt {V D S T A : Type 0} (fits : V → Settings → ℕ → S → Type 0) (fits_rows : D → Settings → ℕ → T → Type 0)
-    (is_at : S → StoreVolume → Type 0) (is_at_rows : T → Start → Type 0)
-    (shared : Shared V D) (start : Start) (lane : ℕ) (worker : LaneWorker V D S T A) : Type 0 where
-  pub own : (worker.shared).now ≡ shared
-  pub seated : IsSeated fits fits_rows shared lane worker.lane
-  pub store : IsOf is_at is_at_rows shared.settings start worker.lane
+  -- It answered a line so: it sits where it sat, and what it knows grew by this answer.
+  pub record Answers (number : ℕ) (job : Job) (old new : Lane S T A) (reply : Reply) : Type 0 where
+    pub seated : IsSeated fits fits_rows shared number new
+    pub same : (start : Start) → IsOf is_at is_at_rows shared.settings start old → IsOf is_at is_at_rows shared.settings start new
+    pub answered : (start : Start) → IsOf is_at is_at_rows shared.settings start old
+        → AnsweredHere shared.settings start (shared.drained).items (answered_line number job reply) (sight of of_rows arm_faults old) (sight of of_rows arm_faults new)
+    pub fits_reply : FitsReply reply
 
 -- a lane's lines with their replies
 abbrev pub answered_lines : ℕ → List Job → List Reply → List LaneItem

@@ -1,4 +1,5 @@
 //! A lane's worker.
+ghost use Rattle.std.specs.Prelude.{◌≡◌};
 ghost use Rattle.hay_lane.specs.Lanes.{IsSeated};
 ghost use Rattle.hay_block.specs.Lines.{Answers, IsServed};
 
@@ -39,7 +40,7 @@ where
 
     ghost may_answer = { λ w lane job. IsSeated V.fits D.fits w.shared.now lane w.lane × IsServed job.item };
 
-    ghost answers = { λ w lane job after out. Answers V.fits D.fits V.is_at D.is_at V.sight D.sight A.fault_count lane job w after out };
+    ghost answers = { λ w lane job after out. (after.shared.now ≡ w.shared.now) × Answers V.fits D.fits V.is_at D.is_at V.sight D.sight A.fault_count w.shared.now lane job w.lane after.lane out };
 
     fn line(job: &Job) -> u64 {
         job.line
