@@ -5,3 +5,4 @@ pub mod Legal
 pub mod Chaining
 pub mod Seating
 pub mod Working
+pub mod Running

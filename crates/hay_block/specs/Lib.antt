@@ -4,3 +4,4 @@ pub mod Behind
 pub mod Lines
 pub mod Law
 pub mod Lanes
+pub mod Workers

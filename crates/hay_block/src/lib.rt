@@ -19,6 +19,8 @@
 //! | no count is above 2^64 - 1 | counts that are read behind the locks' end, since no act bounds them |
 #![tactic(auto)]
 
+mod run;
 mod worker;
 
+pub use run::run_lines;
 pub use worker::{Job, LaneWorker};

@@ -4,7 +4,7 @@ ghost use Rattle.hay_lane.specs.Lanes.{IsSeated};
 ghost use Rattle.hay_block.specs.Lines.{Answers, IsServed};
 
 use hay_core::CoreTag;
-use hay_disk::Arm;
+use hay_disk::{Arm, Piece};
 use hay_lane::{DirectoryCalls, Lane, Shared, VolumeCalls};
 use hay_lanes::{Gate, Work};
 use hay_legal::turn::Item;
@@ -26,13 +26,14 @@ pub struct LaneWorker<'a, V, D, S: Drop, T: Drop, A> {
     pub lane: Lane<S, T, A>,
 }
 
-impl<'a, V, D, A> Work for LaneWorker<'a, V, D, V::Seat, D::Seat, A>
+impl<'a, V, D, S, T, P, A> Work for LaneWorker<'a, V, D, S, T, A>
 where
-    V: VolumeCalls + Sync,
-    D: DirectoryCalls + Sync,
-    A: Arm<V::Piece> + Send + Drop,
-    V::Seat: Send,
-    D::Seat: Send,
+    V: VolumeCalls<Seat = S, Piece = P> + Send + Sync,
+    D: DirectoryCalls<Seat = T> + Send + Sync,
+    S: Send + Drop,
+    T: Send + Drop,
+    P: Piece + Send + Sync,
+    A: Arm<P> + Send + Drop,
 {
     type Job = Job;
 

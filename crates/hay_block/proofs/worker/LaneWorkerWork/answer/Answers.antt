@@ -1,7 +1,7 @@
 use Rattle.std.proofs.Common.{refl, sym, ap, subst, ◌∙◌}
 use Rattle.hay_lane.specs.Lanes.{sight}
 use Rattle.hay_block.proofs.Chaining.{bad_answered}
-use Rattle.hay_block.proofs.worker.LaneWorkerSeatSeatWork.answer.Goals as goal
+use Rattle.hay_block.proofs.worker.LaneWorkerWork.answer.Goals as goal
 
 pub returns-in-Bad-clause-answered : goal.returns-in-Bad-clause-answered
 returns-in-Bad-clause-answered g c = (refl, record {
