@@ -90,6 +90,6 @@ blocks_are_legal settings start k before after items h faults fuses arms ran =
     let r = lanes_make_blocks settings start (length before) before after items nothing_yet h k (t ran) (lines ran) ran.may in
     let settled = r.1 in (
       subst (λ (n : List LogNote). LegalBlock settings k items n (row_note_of k h) (t ran)) (notes_are ran)
-      (subst (λ (n : RowNote). LegalBlock settings k items (log_notes settings k (t ran)) n (t ran)) (rows_are ran) r.0),
+          (subst (λ (n : RowNote). LegalBlock settings k items (log_notes settings k (t ran)) n (t ran)) (rows_are ran) r.0),
       record { store = settled.store; regular = settled.regular; disks = settled.disks },
     )

@@ -60,9 +60,7 @@ where
             line: job.line,
         };
         match &job.item {
-            Item::Command(command) => self
-                .shared
-                .answer(rt, alloc, &mut self.lane, tag, command),
+            Item::Command(command) => self.shared.answer(rt, alloc, &mut self.lane, tag, command),
             Item::Bad => Reply::BadLine,
         }
     }
