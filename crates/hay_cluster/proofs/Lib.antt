@@ -1,7 +1,7 @@
 pub mod Answering
 pub mod Calls
 pub mod Changing
-pub mod Closing
+pub mod Closures
 pub mod ClosingSlots
 pub mod ClosingStore
 pub mod Finds

@@ -14,7 +14,7 @@ use Rattle.hay_cluster.proofs.Calls.{machine_on}
 use Rattle.hay_cluster.proofs.Suiting.{drained_on}
 use Rattle.hay_cluster.specs.Closing.{Closes, IsOpenTo, closures_of}
 use Rattle.hay_cluster.specs.Pending.{pending_of}
-use Rattle.hay_cluster.proofs.Closing.{drained_closes, is_frozen_by, is_thawed, undrained_opens}
+use Rattle.hay_cluster.proofs.Closures.{drained_closes, is_frozen_by, is_thawed, undrained_opens}
 use Rattle.hay_cluster.proofs.cluster.Cluster.closed_by.Goals as goal
 
 pub offset_bounds-as_slice-volume : goal.offset_bounds-as_slice-volume

@@ -11,7 +11,7 @@ use Rattle.hay_cluster.specs.Store.{contents_in}
 use Rattle.hay_cluster.specs.Leaving.{AnySlot, IsBeside}
 use Rattle.hay_cluster.proofs.Leaving.{delete_leaves, keeps-all, leaves_contents}
 use Rattle.hay_cluster.specs.Closing.{closures_of}
-use Rattle.hay_cluster.proofs.Closing.{delete_closes, delete_met, read_only_met}
+use Rattle.hay_cluster.proofs.Closures.{delete_closes, delete_met, read_only_met}
 use Rattle.hay_cluster.proofs.cluster.Cluster.delete.Goals as goal
 
 pub returns-in-Ok-clause-legal : goal.returns-in-Ok-clause-legal

@@ -22,7 +22,7 @@ use Rattle.hay_cluster.proofs.Pending.{called_kept, delete_left, called_broken}
 use Rattle.hay_cluster.specs.Leaving.{AnySlot, DeleteKeeps, IsBeside, KeepsIn, LeavesIn, ComesToPend, KeepsBehind}
 use Rattle.hay_cluster.proofs.Leaving.{called_keeps, called_leaves, delete_keeps, called_behind, comes_to_pend}
 use Rattle.hay_cluster.specs.Pending.{PendingLines, pending_of}
-use Rattle.hay_cluster.proofs.Closing.{closures_kept, failure_froze, was_thawed}
+use Rattle.hay_cluster.proofs.Closures.{closures_kept, delete_froze, was_thawed}
 use Rattle.hay_cluster.proofs.cluster.Cluster.delete_in.Goals as goal
 
 refused_keeps : {T : Type 0} (settings : Settings) (v : ℕ) (pending pending' : PendingLines) (old new : ℕ → Contents) (tag : CoreTag) (before after : Option Unsure) (Kept : Type 0) (r : Result T LogicalFault)
@@ -180,7 +180,7 @@ returns-clause-done_closures g c =
     (at_read c.as_mut_slice.result.now c.args.volume c.index-as_mut_slice-volume.result (let long = ap length c.as_mut_slice.ensures.value in omega (arith, within, long))) in
     let items = with_items_is c.self.inside.volumes (slice_set c.as_mut_slice.result.now c.args.volume c.delete.new.self) (length-set c.as_mut_slice.result.now c.args.volume c.delete.new.self ∙ c.as_mut_slice.ensures.len)
     ∙ ap (λ (vs : List (Volume g.row.D.Denot g.row.D-Piece.Denot)). slice_set vs c.args.volume c.delete.new.self) c.as_mut_slice.ensures.value in
-    rw items (on_ok_weaker c.delete.result (closures_kept c.args.self.now store c.args.volume volume c.self.view_is at c.delete.new.self) c.delete.ensures.deleted_frozen)
+    rw items (on_ok_weaker c.delete.result (closures_kept c.args.self.now store c.args.volume volume c.self.view_is at c.delete.new.self) c.delete.ensures.still)
 
 pub returns-clause-refused_closures : goal.returns-clause-refused_closures
 returns-clause-refused_closures g c =
@@ -191,7 +191,7 @@ returns-clause-refused_closures g c =
     (at_read c.as_mut_slice.result.now c.args.volume c.index-as_mut_slice-volume.result (let long = ap length c.as_mut_slice.ensures.value in omega (arith, within, long))) in
     let items = with_items_is c.self.inside.volumes (slice_set c.as_mut_slice.result.now c.args.volume c.delete.new.self) (length-set c.as_mut_slice.result.now c.args.volume c.delete.new.self ∙ c.as_mut_slice.ensures.len)
     ∙ ap (λ (vs : List (Volume g.row.D.Denot g.row.D-Piece.Denot)). slice_set vs c.args.volume c.delete.new.self) c.as_mut_slice.ensures.value in
-    rw items (IfErr-weaker c.delete.result _ _ (failure_froze c.args.self.now store c.args.volume volume c.self.view_is at c.delete.new.self) c.delete.ensures.freezes)
+    rw items (IfErr-weaker c.delete.result _ _ (delete_froze c.args.self.now store c.args.volume volume c.self.view_is at c.delete.new.self) c.delete.ensures.freezes)
 
 pub returns-clause-thawed : goal.returns-clause-thawed
 returns-clause-thawed g c = λ thawed m is.

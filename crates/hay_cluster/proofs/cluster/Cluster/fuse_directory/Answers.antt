@@ -6,7 +6,7 @@ use Rattle.hay_directory.specs.State.{State}
 use Rattle.hay_cluster.proofs.Moves.{directory_fused, directory_sets, none_falls}
 use Rattle.hay_cluster.proofs.Pending.{directory_kept}
 use Rattle.hay_cluster.proofs.Leaving.{directory_contents}
-use Rattle.hay_cluster.proofs.Closing.{drains_kept}
+use Rattle.hay_cluster.proofs.Closures.{drains_kept}
 use Rattle.hay_cluster.proofs.cluster.Cluster.fuse_directory.Goals as goal
 
 pub returns-clause-fused : goal.returns-clause-fused

@@ -16,7 +16,7 @@ use Rattle.hay_cluster.proofs.Moves.{fused_counts, fused_fuses, shape_kept, volu
 use Rattle.hay_cluster.proofs.Pending.{called_kept}
 use Rattle.hay_cluster.specs.Leaving.{AnySlot, KeepsIn}
 use Rattle.hay_cluster.proofs.Leaving.{called_reads}
-use Rattle.hay_cluster.proofs.Closing.{closures_kept}
+use Rattle.hay_cluster.proofs.Closures.{closures_kept}
 use Rattle.hay_cluster.proofs.cluster.Cluster.fuse_in.Goals as goal
 
 -- the fused replica keeps its files, and every other all it had

@@ -14,7 +14,7 @@ use Rattle.hay_cluster.specs.Leaving.{AnySlot, IsApart, IsApartOn}
 use Rattle.hay_cluster.proofs.Leaving.{done_leaves, keeps-all, leaves-fewer, leaves_contents, refused_leaves}
 use Rattle.hay_cluster.specs.Closing.{closures_of}
 use Rattle.hay_cluster.specs.Pending.{pending_of}
-use Rattle.hay_cluster.proofs.Closing.{done_thawed, refused_met, work_closes, work_done, work_leaves, work_met, work_nowhere}
+use Rattle.hay_cluster.proofs.Closures.{done_thawed, refused_met, work_closes, work_done, work_leaves, work_met, work_nowhere}
 use Rattle.hay_cluster.proofs.cluster.Cluster.maintain.Goals as goal
 
 pub returns-in_default-clause-legal : goal.returns-in_default-clause-legal

@@ -15,7 +15,7 @@ use Rattle.hay_cluster.proofs.Pending.{called_kept}
 use Rattle.hay_cluster.specs.Leaving.{IsApart, LeavesIn}
 use Rattle.hay_cluster.proofs.Leaving.{called_others, called_same, work_keeps}
 use Rattle.hay_cluster.specs.Maintenance.{WorkKeeps}
-use Rattle.hay_cluster.proofs.Closing.{closures_kept, volume_met, work_froze}
+use Rattle.hay_cluster.proofs.Closures.{closures_kept, volume_met, work_froze}
 use Rattle.hay_cluster.proofs.cluster.Cluster.maintain_in.Goals as goal
 
 pub offset_bounds-as_mut_slice-volume : goal.offset_bounds-as_mut_slice-volume

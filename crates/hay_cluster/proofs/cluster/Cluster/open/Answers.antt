@@ -16,7 +16,7 @@ use Rattle.hay_cluster.proofs.OpeningStore.{MovedParts, opens_up}
 use Rattle.hay_cluster.proofs.OpeningTaken.{IsTakingFault, back_arm, back_counts, back_failed, back_shelf, back_damaged, is_taken, moved_arms, moved_counts, moved_sure, not_memory_damaged, not_memory_failed, one_fault, passed_back, taken_idle, taken_rests, taking_damaged, taking_failed, taking_shelf}
 use Rattle.hay_cluster.proofs.OpeningVoid.{back_contents, back_kept, contents_stay, formats_void}
 use Rattle.hay_cluster.proofs.Pending.{opened_settled}
-use Rattle.hay_cluster.proofs.Closing.{opened_closures}
+use Rattle.hay_cluster.proofs.Closures.{opened_closures}
 use Rattle.hay_cluster.proofs.cluster.Cluster.open.Goals as goal
 
 pub assemble-cluster-requires : goal.assemble-cluster-requires

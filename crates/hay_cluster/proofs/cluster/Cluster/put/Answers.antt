@@ -7,8 +7,8 @@ use Rattle.hay_cluster.proofs.Suiting.{one_refuses, refusal_suits}
 use Rattle.hay_cluster.specs.Pending.{pending_of}
 use Rattle.hay_cluster.proofs.Pending.{refusal_no_failure}
 use Rattle.hay_cluster.specs.Closing.{closures_of}
-use Rattle.hay_cluster.proofs.Closing.{refusal_met}
-use Rattle.hay_cluster.proofs.Leaving.{nothing_put}
+use Rattle.hay_cluster.proofs.Closures.{refusal_met}
+use Rattle.hay_cluster.proofs.Leaving.{first_contents, nothing_put}
 use Rattle.hay_cluster.proofs.cluster.Cluster.put.Goals as goal
 
 pub returns-in-Err-clause-legal : goal.returns-in-Err-clause-legal
@@ -63,3 +63,9 @@ returns-in-Some-refusal-clause-closures g c = inr (inr ((refusal_no_failure _ c.
 pub returns-in-Some-refusal-clause-met : goal.returns-in-Some-refusal-clause-met
 returns-in-Some-refusal-clause-met g c =
     refusal_met (c.args.self.now).settings (closures_of c.args.self.now) (pending_of c.args.self.now) (c.in-Some-refusal.refused ∷ []) c.refuse_one.result c.refuse_one.ensures.is ((c.in-Some-refusal.ensures).met, tt)
+
+pub returns-in-None-clause-contents : goal.returns-in-None-clause-contents
+returns-in-None-clause-contents g c = λ tells. record {
+  replicas = c.put_at.ensures.replicas tells;
+  rows = inr (first_contents g.D.Disk.files (c.args.self.now).settings c.in-Some.volume c.args.self.now c.put_at.new.self c.put_at.ensures.beside);
+}

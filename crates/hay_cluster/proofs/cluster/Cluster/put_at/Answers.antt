@@ -12,7 +12,7 @@ use Rattle.hay_cluster.specs.Pending.{pending_of}
 use Rattle.hay_cluster.specs.Leaving.{IsBeside, IsReplicaBeside}
 use Rattle.hay_cluster.proofs.Leaving.{leaves-fewer, leaves_contents, put_adds, put_leaves}
 use Rattle.hay_cluster.specs.Closing.{closures_of}
-use Rattle.hay_cluster.proofs.Closing.{put_closes, put_met}
+use Rattle.hay_cluster.proofs.Closures.{put_closes, put_met}
 use Rattle.hay_cluster.proofs.cluster.Cluster.put_at.Goals as goal
 
 pub returns-in-Err-clause-stored : goal.returns-in-Err-clause-stored

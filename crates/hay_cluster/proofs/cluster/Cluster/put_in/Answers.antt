@@ -22,7 +22,7 @@ use Rattle.hay_logical.specs.declared.unsure.Unsure.{Unsure}
 use Rattle.hay_logical.specs.Notes.{IsBrokenOff, PutLeavesUnsure}
 use Rattle.hay_logical.specs.Steps.{KeepsFiles}
 use Rattle.hay_cluster.specs.Pending.{PendingLines, pending_of}
-use Rattle.hay_cluster.proofs.Closing.{closures_kept, put_froze}
+use Rattle.hay_cluster.proofs.Closures.{closures_kept, put_froze}
 use Rattle.hay_cluster.proofs.cluster.Cluster.put_in.Goals as goal
 
 refused_keeps : {T : Type 0} (settings : Settings) (v : ℕ) (pending pending' : PendingLines) (old new : ℕ → Contents) (tag : CoreTag) (before after : Option Unsure) (Kept : Type 0) (r : Result T LogicalFault)
@@ -190,7 +190,7 @@ returns-clause-done_closures g c =
     (at_read c.as_mut_slice.result.now c.args.volume c.index-as_mut_slice-volume.result (let long = ap length c.as_mut_slice.ensures.value in omega (arith, within, long))) in
     let items = with_items_is c.self.inside.volumes (slice_set c.as_mut_slice.result.now c.args.volume c.put.new.self) (length-set c.as_mut_slice.result.now c.args.volume c.put.new.self ∙ c.as_mut_slice.ensures.len)
     ∙ ap (λ (vs : List (Volume g.row.D.Denot g.row.D-Piece.Denot)). slice_set vs c.args.volume c.put.new.self) c.as_mut_slice.ensures.value in
-    rw items (on_ok_weaker c.put.result (closures_kept c.args.self.now store c.args.volume volume c.self.view_is at c.put.new.self) c.put.ensures.stored_frozen)
+    rw items (on_ok_weaker c.put.result (closures_kept c.args.self.now store c.args.volume volume c.self.view_is at c.put.new.self) c.put.ensures.still)
 
 pub returns-clause-refused_closures : goal.returns-clause-refused_closures
 returns-clause-refused_closures g c =

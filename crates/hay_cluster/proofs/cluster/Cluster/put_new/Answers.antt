@@ -23,7 +23,7 @@ use Rattle.hay_cluster.specs.Leaving.{AddsRow, IsBeside, IsReplicaSlot, LeavesIn
 use Rattle.hay_cluster.proofs.Leaving.{first_contents, leaves_contents, leaves_reads, replicas_after, same_first, unsettled_leaves}
 use Rattle.hay_legal.specs.Stands.{Contents}
 use Rattle.hay_cluster.specs.Closing.{Closures, IsOpenTo, MetByChange, PutCloses, closures_of}
-use Rattle.hay_cluster.proofs.Closing.{settle_closes, settle_met}
+use Rattle.hay_cluster.proofs.Closures.{settle_closes, settle_met}
 use Rattle.hay_cluster.proofs.cluster.Cluster.put_new.Goals as goal
 
 ok_not_err : {T E : Type 0} (x : T) (y : E) → Ok x ≡ Err y → ⊥

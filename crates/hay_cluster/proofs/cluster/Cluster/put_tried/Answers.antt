@@ -11,7 +11,7 @@ use Rattle.hay_cluster.proofs.Suiting.{all_refuse, refusal_suits}
 use Rattle.hay_cluster.specs.Pending.{pending_of}
 use Rattle.hay_cluster.proofs.Pending.{refusal_no_failure}
 use Rattle.hay_cluster.specs.Closing.{closures_of}
-use Rattle.hay_cluster.proofs.Closing.{refusal_met}
+use Rattle.hay_cluster.proofs.Closures.{refusal_met}
 use Rattle.hay_cluster.proofs.Leaving.{nothing_put}
 use Rattle.hay_cluster.proofs.cluster.Cluster.put_tried.Goals as goal
 

@@ -20,7 +20,7 @@ use Rattle.hay_cluster.proofs.Refusals.{refused_for, taken_for}
 use Rattle.hay_cluster.proofs.Suiting.{lack_refuses, room_lack}
 use Rattle.hay_cluster.specs.Pending.{pending_of}
 use Rattle.hay_cluster.specs.Closing.{closures_of}
-use Rattle.hay_cluster.proofs.Closing.{lack_met, was_thawed}
+use Rattle.hay_cluster.proofs.Closures.{lack_met, was_thawed}
 use Rattle.hay_cluster.proofs.cluster.Cluster.refusal.Goals as goal
 
 pub offset_bounds-as_slice-volume : goal.offset_bounds-as_slice-volume

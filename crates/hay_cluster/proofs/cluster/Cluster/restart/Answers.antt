@@ -7,7 +7,7 @@ use Rattle.hay_cluster.proofs.OpeningDamage.{restart_damaged, restart_failed, re
 use Rattle.hay_cluster.proofs.OpeningDraws.{restart_drew}
 use Rattle.hay_cluster.proofs.OpeningStore.{MovedParts, StoppedParts, opens_up, restart_cause, restart_fuses, restart_later, restart_left, restart_opened, restart_whole, stops_closed, stops_idle}
 use Rattle.hay_cluster.proofs.Pending.{restart_tells, opened_fit, opened_settled}
-use Rattle.hay_cluster.proofs.Closing.{opened_closures}
+use Rattle.hay_cluster.proofs.Closures.{opened_closures}
 use Rattle.hay_cluster.proofs.cluster.Cluster.restart.Goals as goal
 
 pub open_parts-requires-clause-closed : goal.open_parts-requires-clause-closed

@@ -22,7 +22,7 @@ use Rattle.hay_cluster.proofs.Showing.{seen_by_in, seen_in, seen_there, sight_co
 use Rattle.hay_cluster.proofs.Pending.{called_kept}
 use Rattle.hay_cluster.specs.Leaving.{AnySlot, KeepsIn}
 use Rattle.hay_cluster.proofs.Leaving.{called_keeps}
-use Rattle.hay_cluster.proofs.Closing.{closures_kept}
+use Rattle.hay_cluster.proofs.Closures.{closures_kept}
 use Rattle.hay_cluster.proofs.cluster.Cluster.see_in.Goals as goal
 use Rattle.hay_cluster.proofs.cluster.Cluster.see_in.Goals.{in-Ok, in-Err}
 

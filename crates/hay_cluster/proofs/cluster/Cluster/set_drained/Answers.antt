@@ -9,7 +9,7 @@ use Rattle.hay_cluster.specs.Parts.{Comes}
 use Rattle.hay_cluster.proofs.Moves.{directory_fuses, in_directory, none_falls}
 use Rattle.hay_cluster.proofs.Pending.{directory_kept}
 use Rattle.hay_cluster.proofs.Leaving.{directory_same}
-use Rattle.hay_cluster.proofs.Closing.{drains_set}
+use Rattle.hay_cluster.proofs.Closures.{drains_set}
 use Rattle.hay_cluster.proofs.cluster.Cluster.set_drained.Goals as goal
 
 pub returns-then-is_drained-clause-set : goal.returns-then-is_drained-clause-set

@@ -23,7 +23,7 @@ use Rattle.hay_cluster.proofs.Leaving.{directory_leaves, directory_same, directo
 use Rattle.hay_needle.specs.declared.settings.Settings.{Settings}
 use Rattle.hay_directory.specs.declared.mode.Mode.{Mode}
 use Rattle.hay_directory.specs.declared.mode.Mode.TheVariants.{Closed, Frozen, Open as Serving}
-use Rattle.hay_cluster.proofs.Closing.{drains_kept}
+use Rattle.hay_cluster.proofs.Closures.{drains_kept}
 use Rattle.hay_cluster.proofs.Settling.{AddsOne, row_adds}
 use Rattle.hay_cluster.proofs.cluster.Cluster.settle.Goals as goal
 
