@@ -20,9 +20,9 @@ use Rattle.hay_directory.specs.declared.fault.DirFault.TheVariants as settling
 use Rattle.hay_directory.specs.State.{State}
 use Rattle.hay_logical.specs.declared.fault.LogicalFault.{LogicalFault}
 use Rattle.hay_logical.specs.declared.fault.LogicalFault.TheVariants as refusal
-use Rattle.hay_logical.specs.declared.unsure.Unsure.{Unsure}
 use Rattle.hay_logical.specs.Answers.{BreaksPutOff}
 use Rattle.hay_logical.specs.Fits.{At}
+use Rattle.hay_logical.specs.Refusals.{DeleteFreezes, FailureMayFreeze, PutFreezes}
 use Rattle.hay_logical.specs.Volumes.{IsMachineOf, Volume}
 use Rattle.hay_physical.specs.Copies.{Copy}
 use Rattle.hay_cluster.specs.declared.maintenance.Maintenance.{Maintenance}
@@ -31,7 +31,7 @@ use Rattle.hay_cluster.specs.Changes.{IsDeleteReply, IsReadOnly}
 use Rattle.hay_cluster.specs.Closing.{Closes, ClosesFlush, Closures, FailureFroze, FailureMayClose, IsClosedAs, IsFrozenBy, IsOpenTo, IsRefusedAs, IsThawed, LeavesClosures, MetByChange, MetByWork, MetClosures, PutCloses, PutFroze, closures_of, frozen_of, is_drained, none_closed, with_drained, with_frozen}
 use Rattle.hay_cluster.specs.Lacks.{lack_of}
 use Rattle.hay_cluster.specs.Maintenance as maintenance
-use Rattle.hay_cluster.specs.Maintenance.{FailureMayFreeze, IsRefused, IsReplicaFault, WorkFreezes, WorkFroze, command_of, done_as}
+use Rattle.hay_cluster.specs.Maintenance.{IsRefused, IsReplicaFault, WorkFreezes, WorkFroze, command_of, done_as}
 use Rattle.hay_cluster.specs.Opening.{Gathers, OpensParts, OpensVolume}
 use Rattle.hay_cluster.specs.Pending.{PendingLines, RowLeft, pending_of}
 use Rattle.hay_cluster.specs.Puts.{IsPutReply, IsRefusal, settle_reply}
@@ -41,28 +41,6 @@ use Rattle.hay_cluster.proofs.Moves.{volume_of, with_directory, with_one}
 use Rattle.hay_cluster.proofs.Pending.{map-at, map-kept, map-set, memory_no_failure, refusal_no_failure, settled_at}
 
 -- A CALL OF ONE VOLUME
-
-abbrev DeleteFreezes : Option ℕ → Option ℕ → Option Unsure → Option Unsure → LogicalFault → Type 0
-DeleteFreezes old new before after (refusal.Failed m count) = ((new ≡ old) × (after ≡ before)) ⊎ ((new ≡ Some m) × ((unsure : Unsure) × (after ≡ Some unsure)))
-DeleteFreezes old new before after refusal.NoMemory = new ≡ old
-DeleteFreezes old new before after (refusal.ReadOnly m) = new ≡ old
-DeleteFreezes old new before after (refusal.Full m end need capacity) = new ≡ old
-DeleteFreezes old new before after (refusal.Gone front) = new ≡ old
-DeleteFreezes old new before after (refusal.Busy m generation) = new ≡ old
-DeleteFreezes old new before after (refusal.Worn m) = new ≡ old
-DeleteFreezes old new before after refusal.Idle = new ≡ old
-DeleteFreezes old new before after (refusal.Damaged m place) = new ≡ old
-
-abbrev PutFreezes : Settings → ℕ → Option ℕ → Option ℕ → LogicalFault → Type 0
-PutFreezes settings v old new (refusal.Failed m count) = new ≡ Some m
-PutFreezes settings v old new refusal.NoMemory = (new ≡ old) ⊎ (new ≡ Some (machine_of settings v 0))
-PutFreezes settings v old new (refusal.ReadOnly m) = new ≡ old
-PutFreezes settings v old new (refusal.Full m end need capacity) = new ≡ old
-PutFreezes settings v old new (refusal.Gone front) = new ≡ old
-PutFreezes settings v old new (refusal.Busy m generation) = new ≡ old
-PutFreezes settings v old new (refusal.Worn m) = new ≡ old
-PutFreezes settings v old new refusal.Idle = new ≡ old
-PutFreezes settings v old new (refusal.Damaged m place) = new ≡ old
 
 abbrev closed_with : List (Option ℕ) → List Bool → Closures
 closed_with frozen drained = record { frozen = frozen; drained = drained }
@@ -430,22 +408,21 @@ module _ {D P A : Type 0} (DiskTells : Type 0) (files : D → Files) (Tells : Ty
 
 -- WORK THAT A FROZEN VOLUME REFUSES
 
-module _ {D P : Type 0} where
-  pub frozen_refused : (files : D → Files) (Tells : Type 0) (work : Maintenance) (k : VolumeKnown) (j : ℕ) (volume : Volume D P) (m : ℕ) → k.frozen ≡ Some m
-      → IsRefused files Tells work k j volume volume (refusal.ReadOnly m)
-  frozen_refused files Tells Flush k j volume m frozen = (inl frozen, refl)
-  frozen_refused files Tells Begin k j volume m frozen = (frozen, refl)
-  frozen_refused files Tells (Step cells) k j volume m frozen = (frozen, refl)
-  frozen_refused files Tells Finish k j volume m frozen = (frozen, refl)
-  frozen_refused files Tells Compact k j volume m frozen = (frozen, refl)
+pub frozen_refused : {D P : Type 0} (files : D → Files) (Tells : Type 0) (work : Maintenance) (k : VolumeKnown) (j : ℕ) (volume : Volume D P) (m : ℕ) → k.frozen ≡ Some m
+    → IsRefused files Tells work k j volume volume (refusal.ReadOnly m)
+frozen_refused files Tells Flush k j volume m frozen = (inl frozen, refl)
+frozen_refused files Tells Begin k j volume m frozen = (frozen, refl)
+frozen_refused files Tells (Step cells) k j volume m frozen = (frozen, refl)
+frozen_refused files Tells Finish k j volume m frozen = (frozen, refl)
+frozen_refused files Tells Compact k j volume m frozen = (frozen, refl)
 
-  pub frozen_cause : (faults : D → ℕ) (settings : Settings) (work : Maintenance) (v j : ℕ) (old new : List (Copy D)) (m : ℕ) → IsMachineOf settings v m
-      → IsReplicaFault faults settings work v j old new (refusal.ReadOnly m)
-  frozen_cause faults settings Flush v j old new m on = on
-  frozen_cause faults settings Begin v j old new m on = on
-  frozen_cause faults settings (Step cells) v j old new m on = on
-  frozen_cause faults settings Finish v j old new m on = on
-  frozen_cause faults settings Compact v j old new m on = on
+pub frozen_cause : {D : Type 0} (faults : D → ℕ) (settings : Settings) (work : Maintenance) (v j : ℕ) (old new : List (Copy D)) (m : ℕ) → IsMachineOf settings v m
+    → IsReplicaFault faults settings work v j old new (refusal.ReadOnly m)
+frozen_cause faults settings Flush v j old new m on = on
+frozen_cause faults settings Begin v j old new m on = on
+frozen_cause faults settings (Step cells) v j old new m on = on
+frozen_cause faults settings Finish v j old new m on = on
+frozen_cause faults settings Compact v j old new m on = on
 
 pub frozen_freezes : (work : Maintenance) (frozen : Option ℕ) (m : ℕ) → WorkFreezes work frozen frozen (refusal.ReadOnly m)
 frozen_freezes Flush frozen m = refl

@@ -15,7 +15,8 @@ use Rattle.hay_physical.specs.Copies.{Copy}
 use Rattle.hay_logical.specs.Answers.{BreaksPutOff}
 use Rattle.hay_logical.specs.Fits.{At}
 use Rattle.hay_logical.specs.Notes.{DeleteLeavesUnsure, IsBrokenOff, PutLeavesUnsure}
-use Rattle.hay_logical.specs.Steps.{KeepsBytes, KeepsFiles}
+use Rattle.hay_logical.specs.Refusals.{IsUntouchedBy}
+use Rattle.hay_logical.specs.Steps.{KeepsAbove, KeepsFiles}
 use Rattle.hay_logical.specs.declared.unsure.Unsure.{Unsure}
 use Rattle.hay_logical.specs.Volumes.{Volume}
 use Rattle.hay_logical.specs.declared.fault.LogicalFault.{LogicalFault}
@@ -28,7 +29,7 @@ use Rattle.hay_cluster.specs.Changes.{IsDeleteReply}
 use Rattle.hay_cluster.specs.declared.maintenance.Maintenance.{Maintenance}
 use Rattle.hay_cluster.specs.declared.maintenance.Maintenance.TheVariants.{Flush, Begin, Step, Finish, Compact}
 use Rattle.hay_cluster.specs.Leaving.{AddsRow, AnySlot, ComesToPend, DeleteKeeps, IsApart, IsApartOn, IsBeside, IsReplicaBeside, IsReplicaSlot, KeepsBehind, KeepsIn, LeavesByDelete, LeavesByPut, LeavesByWork, LeavesIn, LeavesReplicas, MayAddRow, MayPut, MayWork, PutKeeps}
-use Rattle.hay_cluster.specs.Maintenance.{IsRefusedAs, IsUntouchedBy, WorkKeeps, done_as}
+use Rattle.hay_cluster.specs.Maintenance.{IsRefusedAs, WorkKeeps, done_as}
 use Rattle.hay_cluster.specs.Pending.{ChangePends, PendingLines}
 use Rattle.hay_cluster.specs.Puts.{IsPutReply, settle_reply}
 use Rattle.hay_cluster.specs.Store.{IsShaped, Open, contents_in, disk_of, disks_of, volume_disks}
@@ -204,10 +205,6 @@ module _ {D P A : Type 0} (files : D → Files) where
       let one : Some r ≡ Some r' = sym was ∙ there in ap (λ (q : Copy D). (files q.disk n).now) (let both : r' ≡ r = cc in both))
 
 -- DISKS BEHIND ONE THAT FAILED
-
-abbrev KeepsAbove : {D : Type 0} → Type 0 → (D → Files) → Settings → ℕ → ℕ → List (Copy D) → List (Copy D) → Type 0
-KeepsAbove {D} DiskTells files settings v m old new = DiskTells → (i j : ℕ) → i < settings.replicas → m ≡ machine_of settings v i → i < j →
-    (r r' : Copy D) → At old j r → At new j r' → KeepsBytes (files r.disk) (files r'.disk)
 
 module _ {D P A : Type 0} (DiskTells : Type 0) (files : D → Files) (faults fuses : D → ℕ) where
   behind_in : DiskTells → (store : Open D P A) (v : ℕ) (before after : Volume D P) → IsShaped store → Called faults fuses store v before after → (m : ℕ)

@@ -1,5 +1,5 @@
 -- Flushes and compactions: how they are asked for, what they do to a replica, and how they are answered.
-use Rattle.std.specs.Prelude.{◌≡◌, ◌⊎◌, ℕ, List, Option, Some}
+use Rattle.std.specs.Prelude.{◌≡◌, ℕ, List, Option}
 use Rattle.hay_needle.specs.declared.settings.Settings.{Settings}
 use Rattle.hay_disk.specs.Disk.{Files}
 use Rattle.hay_script.specs.declared.Command.{Command}
@@ -12,6 +12,7 @@ use Rattle.hay_physical.specs.Copies.{Copy}
 use Rattle.hay_logical.specs.Answers.{BeginRefused, CompactRefused, FinishRefused, FlushRefused, IsBeginFault, IsBegun, IsCompactFault, IsCompacted, IsFinished, IsFlushFault, IsFlushed, IsRunFault, IsStepped, StepRefused}
 use Rattle.hay_logical.specs.declared.fault.LogicalFault.{LogicalFault}
 use Rattle.hay_logical.specs.declared.fault.LogicalFault.TheVariants.{Busy, Damaged, Failed, Full, Gone, Idle, NoMemory, ReadOnly, Worn}
+use Rattle.hay_logical.specs.Refusals.{FailureMayFreeze}
 use Rattle.hay_logical.specs.Volumes.{Volume}
 use Rattle.hay_cluster.specs.declared.maintenance.Maintenance.{Maintenance}
 use Rattle.hay_cluster.specs.declared.maintenance.Maintenance.TheVariants.{Flush, Begin, Step, Finish, Compact}
@@ -50,30 +51,6 @@ IsReplicaFault faults settings Begin v j old new fault = IsBeginFault faults set
 IsReplicaFault faults settings (Step cells) v j old new fault = IsRunFault faults settings v j old new fault
 IsReplicaFault faults settings Finish v j old new fault = IsRunFault faults settings v j old new fault
 IsReplicaFault faults settings Compact v j old new fault = IsCompactFault faults settings v j old new fault
-
--- a failure may freeze a volume by the machine that failed
-abbrev pub FailureMayFreeze : Option ℕ → Option ℕ → LogicalFault → Type 0
-FailureMayFreeze old new (Failed m count) = (new ≡ old) ⊎ (new ≡ Some m)
-FailureMayFreeze old new (Gone front) = new ≡ old
-FailureMayFreeze old new (Full m end need capacity) = new ≡ old
-FailureMayFreeze old new (ReadOnly m) = new ≡ old
-FailureMayFreeze old new (Busy m generation) = new ≡ old
-FailureMayFreeze old new (Worn m) = new ≡ old
-FailureMayFreeze old new Idle = new ≡ old
-FailureMayFreeze old new (Damaged m at) = new ≡ old
-FailureMayFreeze old new NoMemory = new ≡ old
-
--- it was refused before anything was done
-abbrev pub IsUntouchedBy : LogicalFault → Type 0
-IsUntouchedBy (ReadOnly m) = Unit {0}
-IsUntouchedBy (Busy m generation) = Unit {0}
-IsUntouchedBy (Worn m) = Unit {0}
-IsUntouchedBy Idle = Unit {0}
-IsUntouchedBy (Failed m count) = ⊥
-IsUntouchedBy (Damaged m at) = ⊥
-IsUntouchedBy NoMemory = ⊥
-IsUntouchedBy (Full m end need capacity) = ⊥
-IsUntouchedBy (Gone front) = ⊥
 
 -- What it leaves the volume frozen by where it was refused: the end of a compaction alone may freeze it.
 abbrev pub WorkFreezes : Maintenance → Option ℕ → Option ℕ → LogicalFault → Type 0

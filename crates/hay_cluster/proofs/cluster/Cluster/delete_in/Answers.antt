@@ -17,7 +17,7 @@ use Rattle.hay_logical.proofs.Lists.{at_read}
 use Rattle.hay_cluster.specs.Store.{Open, contents_in, disks_of}
 use Rattle.hay_cluster.proofs.Calls.{called_open, called_up, delete_cause}
 use Rattle.hay_cluster.proofs.Lists.{length-set}
-use Rattle.hay_cluster.proofs.Moves.{Called, called_fuses, called_later, called_shape, in_volume}
+use Rattle.hay_cluster.proofs.Moves.{Called, called_fuses, called_later, called_shape, in_volume, with_one}
 use Rattle.hay_cluster.proofs.Pending.{called_kept, delete_left, called_broken}
 use Rattle.hay_cluster.specs.Leaving.{AnySlot, DeleteKeeps, IsBeside, KeepsIn, LeavesIn, ComesToPend, KeepsBehind}
 use Rattle.hay_cluster.proofs.Leaving.{called_keeps, called_leaves, delete_keeps, called_behind, comes_to_pend}
@@ -167,8 +167,8 @@ returns-clause-kept g c = λ tells.
     called_keeps g.D.Disk.files g.D.Disk.Tells settings c.args.self.now store c.args.volume volume c.delete.new.self tells c.self.view_is at (c.delete.ensures.counts).count files in
     subst (λ (vs : List (Volume g.row.D.Denot g.row.D-Piece.Denot)). let next : Open g.row.D.Denot g.row.D-Piece.Denot g.row.A.Denot = record store { volumes = vs } in
     IfErr c.delete.result (DeleteKeeps settings c.args.volume (pending_of c.args.self.now) (pending_of next) (contents_in g.D.Disk.files c.args.self.now) (contents_in g.D.Disk.files next))) (sym items)
-    (refused_keeps settings c.args.volume (pending_of c.args.self.now) _ _ _ c.args.tag volume.unsure c.delete.new.self.unsure _ c.delete.result c.delete.ensures.refused_unsure c.delete.ensures.files keeps
-    (λ broken. comes_to_pend c.args.volume c.args.tag.line _ _ (called_broken c.args.self.now store c.args.volume volume c.delete.new.self c.args.tag c.self.view_is at broken))
+    (refused_keeps settings c.args.volume (pending_of c.args.self.now) (pending_of (with_one store c.args.volume c.delete.new.self)) (contents_in g.D.Disk.files c.args.self.now) (contents_in g.D.Disk.files (with_one store c.args.volume c.delete.new.self)) c.args.tag volume.unsure c.delete.new.self.unsure _ c.delete.result c.delete.ensures.refused_unsure c.delete.ensures.files keeps
+    (λ broken. comes_to_pend c.args.volume c.args.tag.line (pending_of c.args.self.now) (pending_of (with_one store c.args.volume c.delete.new.self)) (called_broken c.args.self.now store c.args.volume volume c.delete.new.self c.args.tag c.self.view_is at broken))
     (λ m f is. called_behind g.D.Disk.Tells g.D.Disk.files g.D.Disk.fault_count g.D.Disk.fuse_count tells c.args.self.now store c.args.volume volume c.delete.new.self c.self.view_is c.self.invariant called m (c.delete.ensures.above m f is)))
 
 pub returns-clause-done_closures : goal.returns-clause-done_closures

@@ -9,7 +9,7 @@ use Rattle.hay_logical.proofs.Lists.{at_read}
 use Rattle.hay_cluster.specs.Store.{Open, contents_in, disks_of}
 use Rattle.hay_cluster.proofs.Calls.{called_open, called_up, put_cause}
 use Rattle.hay_cluster.proofs.Lists.{length-set}
-use Rattle.hay_cluster.proofs.Moves.{Called, called_fuses, called_later, called_shape, in_volume}
+use Rattle.hay_cluster.proofs.Moves.{Called, called_fuses, called_later, called_shape, in_volume, with_one}
 use Rattle.hay_cluster.proofs.Pending.{called_kept, put_left, called_broken}
 use Rattle.hay_cluster.specs.Leaving.{IsBeside, LeavesIn, PutKeeps, AnySlot, ComesToPend, KeepsBehind, KeepsIn}
 use Rattle.hay_cluster.proofs.Leaving.{called_leaves, put_keeps, called_behind, called_keeps, comes_to_pend}
@@ -177,8 +177,8 @@ returns-clause-kept g c = λ tells.
     called_keeps g.D.Disk.files g.D.Disk.Tells settings c.args.self.now store c.args.volume volume c.put.new.self tells c.self.view_is at (c.put.ensures.counts).count files in
     subst (λ (vs : List (Volume g.row.D.Denot g.row.D-Piece.Denot)). let next : Open g.row.D.Denot g.row.D-Piece.Denot g.row.A.Denot = record store { volumes = vs } in
     IfErr c.put.result (PutKeeps settings c.args.volume (pending_of c.args.self.now) (pending_of next) (contents_in g.D.Disk.files c.args.self.now) (contents_in g.D.Disk.files next))) (sym items)
-    (refused_keeps settings c.args.volume (pending_of c.args.self.now) _ _ _ c.args.tag volume.unsure c.put.new.self.unsure _ c.put.result c.put.ensures.refused_unsure c.put.ensures.files keeps
-    (λ broken. comes_to_pend c.args.volume c.args.tag.line _ _ (called_broken c.args.self.now store c.args.volume volume c.put.new.self c.args.tag c.self.view_is at broken))
+    (refused_keeps settings c.args.volume (pending_of c.args.self.now) (pending_of (with_one store c.args.volume c.put.new.self)) (contents_in g.D.Disk.files c.args.self.now) (contents_in g.D.Disk.files (with_one store c.args.volume c.put.new.self)) c.args.tag volume.unsure c.put.new.self.unsure _ c.put.result c.put.ensures.refused_unsure c.put.ensures.files keeps
+    (λ broken. comes_to_pend c.args.volume c.args.tag.line (pending_of c.args.self.now) (pending_of (with_one store c.args.volume c.put.new.self)) (called_broken c.args.self.now store c.args.volume volume c.put.new.self c.args.tag c.self.view_is at broken))
     (λ m f is. called_behind g.D.Disk.Tells g.D.Disk.files g.D.Disk.fault_count g.D.Disk.fuse_count tells c.args.self.now store c.args.volume volume c.put.new.self c.self.view_is c.self.invariant called m (c.put.ensures.above m f is)))
 
 pub returns-clause-done_closures : goal.returns-clause-done_closures
