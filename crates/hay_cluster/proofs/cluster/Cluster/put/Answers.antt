@@ -69,3 +69,6 @@ returns-in-None-clause-contents g c = λ tells. record {
   replicas = c.put_at.ensures.replicas tells;
   rows = inr (first_contents g.D.Disk.files (c.args.self.now).settings c.in-Some.volume c.args.self.now c.put_at.new.self c.put_at.ensures.beside);
 }
+
+pub put_tried-requires-clause-opens : goal.put_tried-requires-clause-opens
+put_tried-requires-clause-opens g c = λ volume is. c.find_taker.ensures.opens volume (c.in-Ok.is ∙ ap Ok is)

@@ -48,3 +48,6 @@ returns-in-Nobody-clause-closures g c = inr (inr ((refusal_no_failure _ c.refuse
 
 pub returns-in-Nobody-clause-met : goal.returns-in-Nobody-clause-met
 returns-in-Nobody-clause-met g c = refusal_met (c.args.self.now).settings (closures_of c.args.self.now) (pending_of c.args.self.now) c.in-Nobody.refused c.refuse.result c.refuse.ensures.is (c.requires.met c.in-Nobody.refused c.in-Nobody.is)
+
+pub put_new-requires-clause-opens : goal.put_new-requires-clause-opens
+put_new-requires-clause-opens g c = c.requires.opens c.in-Taker.volume c.in-Taker.is
