@@ -82,7 +82,8 @@ module _ {D P A : Type 0} (old store : Open D P A) (v : ℕ) (before : Volume D 
     failure_froze refusal.Idle left = closures_kept left
     failure_froze (refusal.Damaged m place) left = closures_kept left
 
-    pub delete_froze : (fault : LogicalFault) → DeleteFreezes before.frozen after.frozen before.unsure after.unsure fault → FailureFroze v (closures_of old) (closures_of (with_one store v after)) fault
+    pub delete_froze : (fault : LogicalFault) → DeleteFreezes before.frozen after.frozen before.unsure after.unsure fault
+        → FailureFroze v (closures_of old) (closures_of (with_one store v after)) fault
     delete_froze (refusal.Failed m count) (inl (same, settled)) = inl (closures_kept same)
     delete_froze (refusal.Failed m count) (inr (froze, pends)) = inr (closures_froze m froze)
     delete_froze refusal.NoMemory left = closures_kept left
@@ -121,7 +122,8 @@ module _ {D P A : Type 0} (old store : Open D P A) (v : ℕ) (before : Volume D 
     put_froze after (refusal.Damaged m place) left = closures_kept after left
 
     -- what work on a replica met
-    pub volume_met : {T : Type 0} (work : Maintenance) (replica : ℕ) (r : Result T LogicalFault) → ((m : ℕ) → before.frozen ≡ Some m → r ≡ Err (refusal.ReadOnly m)) → (before.frozen ≡ None → before.unsure ≡ None)
+    pub volume_met : {T : Type 0} (work : Maintenance) (replica : ℕ) (r : Result T LogicalFault) → ((m : ℕ) → before.frozen ≡ Some m → r ≡ Err (refusal.ReadOnly m))
+        → (before.frozen ≡ None → before.unsure ≡ None)
         → (before.frozen ≡ None → (m : ℕ) → r ≡ Err (refusal.ReadOnly m) → (work ≡ Flush) × (m ≡ machine_of before.settings before.number replica))
         → ((m : ℕ) × IsFrozenBy (closures_of old) v m × (r ≡ Err (refusal.ReadOnly m)))
         ⊎ (IsThawed (closures_of old) (pending_of old) v × ((m : ℕ) → r ≡ Err (refusal.ReadOnly m) → (work ≡ Flush) × (m ≡ machine_of old.settings v replica)))
@@ -172,11 +174,13 @@ first_drained settings closures v = find (is_drained closures) (map (machine_of 
 
 module _ (settings : Settings) (closures : Closures) (pending : PendingLines) (v : ℕ) (thawed : IsThawed closures pending v) where
   pub drained_closes : IfSome (first_drained settings closures v) (Closes settings closures pending v)
-  drained_closes = IfSome_then (first_drained settings closures v) (first_found (is_drained closures) (machine_of settings v) settings.replicas 0 settings.replicas (omega arith) (λ i low. absurd (omega (arith, low))))
+  drained_closes = IfSome_then (first_drained settings closures v)
+      (first_found (is_drained closures) (machine_of settings v) settings.replicas 0 settings.replicas (omega arith) (λ i low. absurd (omega (arith, low))))
       (λ m is. inr (thawed, record { replica = is.0; within = is.1; machine = is.2; drained = is.3; lowest = is.4 }))
 
   pub undrained_opens : IfNone (first_drained settings closures v) (IsOpenTo settings closures pending v)
-  undrained_opens = none_then (first_drained settings closures v) (none_found (is_drained closures) (machine_of settings v) settings.replicas 0 settings.replicas (omega arith) (λ i low. absurd (omega (arith, low))))
+  undrained_opens = none_then (first_drained settings closures v)
+      (none_found (is_drained closures) (machine_of settings v) settings.replicas 0 settings.replicas (omega arith) (λ i low. absurd (omega (arith, low))))
       (λ none. (thawed, none))
 
 -- A CALL OF THE DIRECTORY
@@ -213,7 +217,8 @@ settle_no_failure (settling.Failed faults) said is v m n failed = cc
 pub settle_closes : (settings : Settings) (before after : Closures) (fault : DirFault) (said : Reply) → said ≡ settle_reply fault → after ≡ before → PutCloses settings said before after
 settle_closes settings before after fault said is same = inr (inr (settle_no_failure fault said is, same))
 
-pub delete_closes : (v rows : ℕ) (before after : Closures) (fault : LogicalFault) (said : Reply) → IsDeleteReply v rows fault said → FailureFroze v before after fault → FailureMayClose said before after
+pub delete_closes : (v rows : ℕ) (before after : Closures) (fault : LogicalFault) (said : Reply) → IsDeleteReply v rows fault said → FailureFroze v before after fault
+    → FailureMayClose said before after
 delete_closes v rows before after (refusal.Failed m count) said is (inl same) = inr same
 delete_closes v rows before after (refusal.Failed m count) said is (inr froze) = inl (v, m, count, is, froze)
 delete_closes v rows before after (refusal.ReadOnly m) said is left = inr left

@@ -99,6 +99,11 @@ module _ {D : Type 0} (files : D → Files) (now : (disk : D) (n : ℕ) → IsIm
       slot_formatted store all slot (omega (arith, below, many)) void
 
   -- So have those of a store that was opened.
+  opened_directory : (DiskTells : Type 0) → DiskTells → (old new : directory.State D) (notes : List Note) → directory.IsFresh old → OpensDirectory DiskTells files old new notes → IsFormatted new.disk
+  opened_directory DiskTells tells old new notes fresh opens =
+      let found = (opens.first tells fresh).1 in
+      directory_formatted new (directory_with found.0) (replicate (old.settings).machines false) found.2
+
   module _ {P : Type 0} (DiskTells : Type 0) (Tells : Type 0) (faults fuses : D → ℕ) (tells : DiskTells) where
     opened_volumes : (xs ys : List (Volume D P)) (notes : List Note) → Gathers (OpensVolume DiskTells files Tells faults fuses) xs ys notes → AllByRecursion IsFormatted (flat_map volume_disks ys)
     opened_volumes [] [] notes opens = tt
@@ -107,16 +112,11 @@ module _ {D : Type 0} (files : D → Files) (now : (disk : D) (n : ℕ) → IsIm
     opened_volumes (x ∷ xs) (y ∷ ys) notes opens =
         all_append IsFormatted (volume_disks y) (flat_map volume_disks ys) (copies_formatted y.replicas (λ j r at. opens.first.formatted tells j r at)) (opened_volumes xs ys opens.behind opens.rest)
 
-    opened_directory : (old new : directory.State D) (notes : List Note) → directory.IsFresh old → OpensDirectory DiskTells files old new notes → IsFormatted new.disk
-    opened_directory old new notes fresh opens =
-        let found = (opens.first tells fresh).1 in
-        directory_formatted new (directory_with found.0) (replicate (old.settings).machines false) found.2
-
     pub opened_formatted : {A : Type 0} (old new : Open D P A) (notes : List Note) → directory.IsFresh old.directory → IsShaped new
         → OpensParts DiskTells files Tells faults fuses old.directory new.directory old.volumes new.volumes notes
         → (slot : ℕ) → slot < disk_count new.settings → IsVoid (contents_in files new slot) → ⊥
     opened_formatted old new notes fresh shape opens slot below void =
         let all : AllByRecursion IsFormatted (disks_of new) =
-        (opened_directory old.directory new.directory opens.of_directory fresh opens.directory, opened_volumes old.volumes new.volumes opens.of_volumes opens.volumes) in
+        (opened_directory DiskTells tells old.directory new.directory opens.of_directory fresh opens.directory, opened_volumes old.volumes new.volumes opens.of_volumes opens.volumes) in
         let many = disks_many new shape in
         slot_formatted new all slot (omega (arith, below, many)) void

@@ -222,7 +222,8 @@ module _ {D P A : Type 0} (DiskTells : Type 0) (files : D → Files) (faults fus
       let machine : m ≡ machine_of before.settings before.number i =
       sym (replica_machine store.settings v m i there) ∙ ap (λ n. machine_of store.settings n i) (sym was.number) ∙ ap (λ (s : Settings). machine_of s before.number i) (sym was.settings_are) in
       let keeps : (files (r'.0).disk file).now ≡ (files (r.0).disk file).now = (above tells i j low' machine behind r.0 r'.0 r.1 r'.1).now file in
-      let at : slice_get (disks_of store) (slot_of store.settings v j) ≡ Some (r.0).disk = in_volume (λ n disk. slice_get (disks_of store) n ≡ Some disk) store v j before r.0 shape called.at r.1 (order_self (disks_of store)) in
+      let at : slice_get (disks_of store) (slot_of store.settings v j) ≡ Some (r.0).disk =
+      in_volume (λ n disk. slice_get (disks_of store) n ≡ Some disk) store v j before r.0 shape called.at r.1 (order_self (disks_of store)) in
       let at' : slice_get (disks_of next) (slot_of store.settings v j) ≡ Some (r'.0).disk =
       in_volume (λ n disk. slice_get (disks_of next) n ≡ Some disk) next v j after r'.0 shape' (slice_get-set store.volumes v before after called.at) r'.1 (order_self (disks_of next)) in
       ap (λ (c : Contents). c file) (contents_at files next (slot_of store.settings v j) (r'.0).disk at') ∙ keeps
@@ -312,7 +313,8 @@ module _ (settings : Settings) (before after : PendingLines) (old new : ℕ → 
   unsettled_leaves pair settling.NoMemory said is replicas adds frozen = record { replicas = inr replicas; rows = inl (inr (inr (inr is)), adds) }
   unsettled_leaves pair (settling.Failed faults) said is replicas adds frozen = record { replicas = inr replicas; rows = inl (inr (inr (inl (faults, is))), adds) }
 
-  pub delete_leaves : (v rows : ℕ) (fault : LogicalFault) (said : Reply) → IsDeleteReply v rows fault said → KeepsIn settings (IsBeside settings v) old new → DeleteKeeps settings v before after old new fault
+  pub delete_leaves : (v rows : ℕ) (fault : LogicalFault) (said : Reply) → IsDeleteReply v rows fault said → KeepsIn settings (IsBeside settings v) old new
+      → DeleteKeeps settings v before after old new fault
       → LeavesByDelete settings said before after old new
   delete_leaves v rows (refusal.Failed m f) said is beside (inl (pends, behind)) = inl (v, inr (m, f, is, pends, behind), beside)
   delete_leaves v rows (refusal.Failed m f) said is beside (inr keeps) = inr keeps
@@ -354,7 +356,8 @@ module _ (settings : Settings) (v m : ℕ) (old new : ℕ → Contents) where
   pub done_leaves : (work : Maintenance) (n : ℕ) (said : Reply) → said ≡ done_as v m work n → KeepsIn settings (IsApartOn settings v m) old new → LeavesByWork settings v m said old new
   done_leaves work n said is apart = inl (work_may work n said is, apart)
 
-  pub refused_leaves : (fault : LogicalFault) (said : Reply) → IsRefusedAs v m fault said → KeepsIn settings (IsApartOn settings v m) old new → WorkKeeps settings old new fault → LeavesByWork settings v m said old new
+  pub refused_leaves : (fault : LogicalFault) (said : Reply) → IsRefusedAs v m fault said → KeepsIn settings (IsApartOn settings v m) old new → WorkKeeps settings old new fault
+      → LeavesByWork settings v m said old new
   refused_leaves (refusal.Failed m' f) said is apart keeps = inl (inl (v, m', f, inr (inr (inr (inr (inl is))))), apart)
   refused_leaves (refusal.Damaged m' at) said is apart keeps = inl (inl (v, m', at, inr (inr (inr (inr (inr is))))), apart)
   refused_leaves refusal.NoMemory said is apart keeps = inl (inr is, apart)
@@ -399,7 +402,8 @@ module _ {D P A : Type 0} (files : D → Files) where
   first_contents settings v old new leaves =
       ap (λ (o : Option D). let read : Contents = λ file. option_map_or (λ disk. (files disk file).now) o [] in read) (leaves 0 (λ j less same. absurd (omega (arith, same))))
 
-  pub leaves_reads : (Among : ℕ → Type 0) (old new : Open D P A) → LeavesIn Among (disks_of old) (disks_of new) → (slot file : ℕ) → Among slot → contents_in files new slot file ≡ contents_in files old slot file
+  pub leaves_reads : (Among : ℕ → Type 0) (old new : Open D P A) → LeavesIn Among (disks_of old) (disks_of new) → (slot file : ℕ) → Among slot
+      → contents_in files new slot file ≡ contents_in files old slot file
   leaves_reads Among old new leaves slot file among = ap (λ (o : Option D). option_map_or (λ disk. (files disk file).now) o []) (leaves slot among)
 
 -- A change of the Directory before a put changes no replica.
