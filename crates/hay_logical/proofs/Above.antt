@@ -1,5 +1,5 @@
 -- The replicas behind one whose disk failed in a change were not called.
-use Rattle.std.proofs.Common.{◌≡◌, ℕ, ◌<◌, ◌≤◌, List, length, refl, sym, ap, subst, ◌∙◌, arith}
+use Rattle.std.proofs.Common.{◌≡◌, ℕ, ◌<◌, List, length, sym, subst, ◌∙◌, arith}
 use Rattle.hay_needle.specs.declared.settings.Settings.{Settings}
 use Rattle.hay_disk.specs.Disk.{Files}
 use Rattle.hay_legal.specs.Known.{machine_of}
@@ -26,7 +26,8 @@ module _ {D : Type 0} (DiskTells : Type 0) (files : D → Files) (settings : Set
       subst (λ d. KeepsBytes (files r.disk) (files d)) (sym (above j r r' (omega (arith, is, behind)) e f).disk) (bytes_same (files r.disk))
 
   -- a put that was broken off
-  pub above_put : (old new : List (Copy D)) (at m count : ℕ) (f : ReplicaFault) (refusal : Refusal) → IsOfSettings settings number → at < settings.replicas → RefusalBy settings number at f refusal → refusal.fault ≡ logical.Failed m count
+  pub above_put : (old new : List (Copy D)) (at m count : ℕ) (f : ReplicaFault) (refusal : Refusal) → IsOfSettings settings number → at < settings.replicas
+      → RefusalBy settings number at f refusal → refusal.fault ≡ logical.Failed m count
       → ((j : ℕ) (r r' : Copy D) → at < j → At old j r → At new j r' → LosesRun DiskTells files r r') → KeepsAbove DiskTells files settings number m old new
   above_put old new at m count (fault.Failed printed) refusal of within by is above =
       let both : logical.Failed (machine_of settings number at) printed ≡ logical.Failed m count = sym by.1 ∙ is in
@@ -38,7 +39,8 @@ module _ {D : Type 0} (DiskTells : Type 0) (files : D → Files) (settings : Set
   above_put old new at m count _ refusal of within by is above = absurd by
 
   -- behind looks
-  pub above_looked : (m : ℕ) (a b c : List (Copy D)) → length b ≡ length a → KeepsFiles DiskTells files a b → KeepsAbove DiskTells files settings number m b c → KeepsAbove DiskTells files settings number m a c
+  pub above_looked : (m : ℕ) (a b c : List (Copy D)) → length b ≡ length a → KeepsFiles DiskTells files a b → KeepsAbove DiskTells files settings number m b c
+      → KeepsAbove DiskTells files settings number m a c
   above_looked m a b c count looked above tells i j low same behind r r' e f =
       let x = at_there b j (let h = at_below a j r e in let less : j < length b = omega (arith, h, count) in less) in
       bytes_more (files r.disk) (files (x.0).disk) (files r'.disk) (looked tells j r x.0 e x.1) (above tells i j low same behind x.0 r' x.1 f)

@@ -64,7 +64,8 @@ room_freezes settings v frozen (logical.ReadOnly m) is = refl
 room_freezes settings v frozen (logical.Full m end need capacity) is = refl
 room_freezes settings v frozen _ is = absurd is
 
-pub put_freezes : (settings : Settings) (v at : ℕ) (old : Option ℕ) (fault : ReplicaFault) (said : Refusal) → RefusalBy settings v at fault said → PutFreezes settings v old (Some said.machine) said.fault
+pub put_freezes : (settings : Settings) (v at : ℕ) (old : Option ℕ) (fault : ReplicaFault) (said : Refusal) → RefusalBy settings v at fault said
+    → PutFreezes settings v old (Some said.machine) said.fault
 put_freezes settings v at old (replica.Failed printed) said by = subst (λ (f : LogicalFault). PutFreezes settings v old (Some said.machine) f) (sym by.1) (ap (λ m. Some m) by.0)
 put_freezes settings v at old replica.NoMemory said by = subst (λ (f : LogicalFault). PutFreezes settings v old (Some said.machine) f) (sym by.1) (inr (ap (λ m. Some m) by.0))
 put_freezes settings v at old _ said by = absurd by
@@ -73,6 +74,7 @@ freezes_by : (settings : Settings) (v j : ℕ) (old : Option ℕ) (u : Unswapped
 freezes_by settings v j old (Refused fault) thawed = may_freeze_same old None (answer_at (machine_of settings v j) fault) (sym thawed)
 freezes_by settings v j old (Unsure printed) thawed = inr refl
 
-pub unfinished_freezes : (settings : Settings) (v j : ℕ) (old now : Option ℕ) (u : Unswapped) (said : Unfinished) → old ≡ None → now ≡ old → said ≡ unfinished_by settings v j u → FailureMayFreeze now said.frozen said.fault
+pub unfinished_freezes : (settings : Settings) (v j : ℕ) (old now : Option ℕ) (u : Unswapped) (said : Unfinished) → old ≡ None → now ≡ old → said ≡ unfinished_by settings v j u
+    → FailureMayFreeze now said.frozen said.fault
 unfinished_freezes settings v j old now u said thawed same is =
     subst (λ (x : Unfinished). FailureMayFreeze now x.frozen x.fault) (sym is) (freezes_by settings v j now u (same ∙ thawed))

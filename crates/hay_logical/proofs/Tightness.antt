@@ -1,5 +1,5 @@
 -- Compactions that have copied just what stands.
-use Rattle.std.proofs.Common.{◌≡◌, inl, inr, ℕ, ◌<◌, ◌≤◌, ◌-◌, true, false, List, length, drop, length-drop, Option, Some, None, refl, sym, ap, subst, ◌∙◌, arith}
+use Rattle.std.proofs.Common.{◌≡◌, inl, inr, ℕ, ◌<◌, ◌-◌, true, false, List, length, drop, length-drop, Option, Some, None, refl, sym, ap, subst, ◌∙◌, arith}
 use Rattle.std.specs.Prelude.{Err, Ok, Result, map}
 use Rattle.std.proofs.lemmas.Bool.{cases_lt}
 use Rattle.std.proofs.lemmas.List.{length-map}
@@ -49,7 +49,9 @@ one_stored files r s t a b =
     let cells : length s.cells ≡ length t.cells = ap length same.1 in
     let lags = a.stand.lags in
     let more = b.stand.lags in
-    let records : s.records ≡ t.records = omega (arith, rest, cells, lags, more, length-drop s.records (map cell_record s.cells), length-drop t.records (map cell_record t.cells), length-map s.cells cell_record, length-map t.cells cell_record) in
+    let left = length-drop s.records (map cell_record s.cells) in
+    let right = length-drop t.records (map cell_record t.cells) in
+    let records : s.records ≡ t.records = omega (arith, rest, cells, lags, more, left, right, length-map s.cells cell_record, length-map t.cells cell_record) in
     ap (λ n. let x : Stored = record { cells = s.cells; end = s.end; records = s.records; generation = n } in x) generation
     ∙ ap (λ n. let x : Stored = record { cells = s.cells; end = s.end; records = n; generation = t.generation } in x) records
     ∙ ap (λ n. let x : Stored = record { cells = s.cells; end = n; records = t.records; generation = t.generation } in x) same.0
@@ -59,7 +61,8 @@ one_stored files r s t a b =
 
 module _ {D : Type 0} (files : D → Files) (r r' : Copy D) where
   -- through a call that leaves what stands and the compaction
-  pub tight_still : ((s : Stored) → physical.Stands files r s → physical.Stands files r' s) → ((s : Stored) (run : Run) → physical.Stands files r s → HasRun files r s (Some run) → HasRun files r' s (Some run)) → RunsTight files r → RunsTight files r'
+  pub tight_still : ((s : Stored) → physical.Stands files r s → physical.Stands files r' s)
+      → ((s : Stored) (run : Run) → physical.Stands files r s → HasRun files r s (Some run) → HasRun files r' s (Some run)) → RunsTight files r → RunsTight files r'
   tight_still stands has t = record { stored = t.stored; stands = stands t.stored t.stands; run = t.run; has = has t.stored t.run t.stands t.has; tight = t.tight }
 
   module _ (DiskTells : Type 0) (faults : D → ℕ) (tells : DiskTells) where
@@ -107,18 +110,22 @@ abbrev pub TightIn : {D : Type 0} → (D → Files) → List (Copy D) → ℕ �
 TightIn {D} files replicas j = (r : Copy D) → At replicas j r → RunsTight files r
 
 -- where each replica keeps its compaction
-pub tight_each : {D : Type 0} (files : D → Files) (old new : List (Copy D)) → length new ≡ length old → (j : ℕ) → ((r r' : Copy D) → At old j r → At new j r' → RunsTight files r → RunsTight files r') → TightIn files old j → TightIn files new j
+pub tight_each : {D : Type 0} (files : D → Files) (old new : List (Copy D)) → length new ≡ length old → (j : ℕ)
+    → ((r r' : Copy D) → At old j r → At new j r' → RunsTight files r → RunsTight files r') → TightIn files old j → TightIn files new j
 tight_each files old new count j keeps tight r' f =
     let was = at_there old j (subst (λ n. j < n) count (at_below new j r' f)) in
     keeps was.0 r' was.1 f (tight was.0 was.1)
 
-pub tight_one : {D : Type 0} (files : D → Files) (at : ℕ) (old new : List (Copy D)) (one : CallsOne at old new) → (RunsTight files one.before → RunsTight files one.after) → (j : ℕ) → TightIn files old j → TightIn files new j
+pub tight_one : {D : Type 0} (files : D → Files) (at : ℕ) (old new : List (Copy D)) (one : CallsOne at old new) → (RunsTight files one.before → RunsTight files one.after) → (j : ℕ)
+    → TightIn files old j → TightIn files new j
 tight_one files at old new one keeps j =
     tight_each files old new (one_count at old new one) j (λ r r' e f. one_each (λ x y. RunsTight files x → RunsTight files y) at old new one keeps (λ x t. t) j r r' e f)
 
 -- through a look
-module _ {D P : Type 0} (settings : Settings) (number : ℕ) (DiskTells : Type 0) (files : D → Files) (Tells : Type 0) (faults : D → ℕ) (items : List (Copy D)) (rows rows' : MapRows P) (front : ℕ) (unsure : Option Unsure) (k : VolumeKnown) where
-  pub tight_seen : DiskTells → (frozen : Option ℕ) → StandsFor files Tells (volume_with settings number items rows front frozen unsure) k → (at : ℕ) (r r' : Copy D) (pair : Pair) (result : Result Unit ReplicaFault) → At items at r
+module _ {D P : Type 0} (settings : Settings) (number : ℕ) (DiskTells : Type 0) (files : D → Files) (Tells : Type 0) (faults : D → ℕ) (items : List (Copy D))
+    (rows rows' : MapRows P) (front : ℕ) (unsure : Option Unsure) (k : VolumeKnown) where
+  pub tight_seen : DiskTells → (frozen : Option ℕ) → StandsFor files Tells (volume_with settings number items rows front frozen unsure) k
+      → (at : ℕ) (r r' : Copy D) (pair : Pair) (result : Result Unit ReplicaFault) → At items at r
       → SightsAt DiskTells files faults Tells pair rows rows' at r r' result → RunsTight files r → RunsTight files r'
   tight_seen tells None stands at r r' pair result e sights t =
       let was = stands.by.each at r e in
@@ -129,7 +136,8 @@ module _ {D P : Type 0} (settings : Settings) (number : ℕ) (DiskTells : Type 0
       absurd cc
 
 -- through a put that changed nothing
-module _ {D : Type 0} (DiskTells : Type 0) (files : D → Files) (faults : D → ℕ) (pair : Pair) (cookie : Cookie) (bytes : List ℕ) (items new : List (Copy D)) (broken : Broken) (left : PutLeaves DiskTells files faults pair cookie bytes items new broken)
+module _ {D : Type 0} (DiskTells : Type 0) (files : D → Files) (faults : D → ℕ) (pair : Pair) (cookie : Cookie) (bytes : List ℕ) (items new : List (Copy D)) (broken : Broken)
+    (left : PutLeaves DiskTells files faults pair cookie bytes items new broken)
     (un : IsUntouched new broken) (still : StillRuns DiskTells files items new broken) (up : (j : ℕ) (r : Copy D) → At items j r → IsUp r) (tells : DiskTells) where
   there : RunsTight files left.before → RunsTight files left.after
   there t =
@@ -154,7 +162,8 @@ module _ {D : Type 0} (DiskTells : Type 0) (files : D → Files) (faults : D →
   ])
 
 -- what a compaction ends with that was so
-module _ {D P : Type 0} (settings : Settings) (number : ℕ) (DiskTells : Type 0) (files : D → Files) (Tells : Type 0) (faults : D → ℕ) (items new : List (Copy D)) (rows rows' : MapRows P) (front : ℕ) (unsure : Option Unsure) (k : VolumeKnown)
+module _ {D P : Type 0} (settings : Settings) (number : ℕ) (DiskTells : Type 0) (files : D → Files) (Tells : Type 0) (faults : D → ℕ) (items new : List (Copy D))
+    (rows rows' : MapRows P) (front : ℕ) (unsure : Option Unsure) (k : VolumeKnown)
     (stands : StandsFor files Tells (volume_with settings number items rows front None unsure) k) (tells : DiskTells) (at : ℕ) (one : SwapsOne DiskTells files at items new) where
   pub tightened : (now : NewFiles P) → SwapsAt DiskTells files faults Tells Going rows rows' at one.before one.after (Ok now) → KeepsPlaces rows rows' at (Ok now) → RunsTight files one.before
       → IsTightened files Tells k at (volume_with settings number new rows' front None unsure)

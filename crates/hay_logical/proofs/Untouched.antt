@@ -111,7 +111,8 @@ module _ {D : Type 0} (settings : Settings) (number at : ℕ) (faults : D → �
   left_untouched (Refused fault.NoMemory) left by = absurd by
   left_untouched (Perhaps printed) left by = absurd by
 
-module _ {D P : Type 0} {DiskTells : Type 0} {files : D → Files} {Tells : Type 0} {faults : D → ℕ} {start : Start} {items new : List (Copy D)} {rows rows' : MapRows P} {at : ℕ} (settings : Settings) (number : ℕ) (u : Unswapped)
+module _ {D P : Type 0} {DiskTells : Type 0} {files : D → Files} {Tells : Type 0} {faults : D → ℕ} {start : Start} {items new : List (Copy D)} {rows rows' : MapRows P} {at : ℕ}
+    (settings : Settings) (number : ℕ) (u : Unswapped)
     (call : SwapCall DiskTells files Tells faults start items new rows rows' at (Err u)) (by : IsUntouchedBy (unfinished_by settings number at u).fault) where
   called_same : new ≡ items
   called_same =
@@ -122,7 +123,8 @@ module _ {D P : Type 0} {DiskTells : Type 0} {files : D → Files} {Tells : Type
         | inr apart ↦ (call.one.others j r r' apart e f).1 (called_up settings number u call left.1)
       ])
 
-  pub called_untouched : (replicas : List (Copy D)) (front : ℕ) (frozen frozen' : Option ℕ) (unsure : Option Unsure) → replicas ≡ new → frozen ≡ None → frozen' ≡ (unfinished_by settings number at u).frozen
+  pub called_untouched : (replicas : List (Copy D)) (front : ℕ) (frozen frozen' : Option ℕ) (unsure : Option Unsure) → replicas ≡ new → frozen ≡ None
+      → frozen' ≡ (unfinished_by settings number at u).frozen
       → volume_with settings number replicas rows' front frozen' unsure ≡ volume_with settings number items rows front frozen unsure
   called_untouched replicas front frozen frozen' unsure is thawed said =
       let left = left_untouched settings number at faults start call.one.before call.one.after u call.swaps.left by in
