@@ -18,7 +18,7 @@ ghost use Rattle.hay_logical.specs.Volumes.{IsClosed, IsOfSettings};
 ghost use Rattle.hay_cluster.specs.Causes.{HasFaultCause};
 ghost use Rattle.hay_cluster.specs.Closing.{closures_of, none_closed};
 ghost use Rattle.hay_cluster.specs.Draws.{DrawsVolume, EachDrewLittle, FlushedDrewLittle, StopsDrawing, drawn_in, looked_in, no_look, none_drawn};
-ghost use Rattle.hay_cluster.specs.Outside.{CountsOn, FormatsVoid, IsDamagedDisk, IsKept, IsUndamaged, IsUndamagedBelow, KeepsContents, outside_of, read_of};
+ghost use Rattle.hay_cluster.specs.Outside.{CountsOn, FormatsVoid, IsDamagedDisk, IsKept, IsUndamaged, IsUndamagedBelow, IsVoid, KeepsContents, outside_of, read_of};
 ghost use Rattle.hay_cluster.specs.Opening.{FillsVolume, Gathers, IsResting, IsEmptyVolume, MovesDirectory, MovesVolume, OpensDirectory, OpensParts, OpensVolume, RefusesDirectory, RefusesParts, RefusesVolume, RefusesVolumes, StopsDirectory, StopsVolume};
 ghost use Rattle.hay_cluster.specs.Pending.{TellsPending, none_pending, pending_of};
 ghost use Rattle.hay_cluster.specs.State.{LeftAt, Stands};
@@ -138,6 +138,10 @@ impl<D: Disk, A: Arm<D::Piece>> Cluster<D, A> {
             Stands D.files D.Piece.Tells D.fault_count D.fuse_count A.fault_count self.old k →
             OnErr result (LeftAt D.files D.fault_count D.fuse_count A.fault_count k self.new) }
         ensures cause { IfErr result (HasFaultCause self.old.settings (map D.fault_count (disks_of self.old)) (map D.fault_count (disks_of self.new))) }
+        // No disk is void then.
+        ensures formatted { D.Tells → (k : Known) →
+            Stands D.files D.Piece.Tells D.fault_count D.fuse_count A.fault_count self.old k →
+            OnErr result ((slot : ℕ) → slot < disk_count self.new.settings → IsVoid (contents_in D.files self.new slot) → ⊥) }
         ensures whole { D.Tells → (k : Known) →
             Stands D.files D.Piece.Tells D.fault_count D.fuse_count A.fault_count self.old k →
             (slot file at : ℕ) → result ≡ Err (ClusterFault.Damaged slot file at) → ⊥ }
