@@ -91,7 +91,8 @@ module _ (Tells : Type 0) where
       (fuses, inr (other, (reply, fits, suits, cause, sure, met, pending, closures, contents, refl))) wrote
 
   pub caused_restart : (Writes : Writing) (settings : Settings) (before after : Tally) (number pick rows : ℕ) (notes : List Note) (written written' : Option (List ℕ))
-      → IsLaterTally before after → after.fuses ≡ before.fuses → after.counts.arms ≡ before.counts.arms → FitsReply (Restarted rows) → TellsPending settings before.pending notes → AllByRecursion FitsNote notes
+      → IsLaterTally before after → after.fuses ≡ before.fuses → after.counts.arms ≡ before.counts.arms → FitsReply (Restarted rows)
+      → TellsPending settings before.pending notes → AllByRecursion FitsNote notes
       → after.pending ≡ none_pending settings → after.closures ≡ none_closed settings
       → (Tells → IsUndamaged settings after.contents) → Writes written (numbered_line number (Restarted rows) ++ flat_map note_line notes) written'
       → Caused Tells Writes settings before after (Alone number (item.Command (asks.Restart pick)) ∷ []) written written'
