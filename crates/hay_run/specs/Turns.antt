@@ -135,7 +135,9 @@ StopsTurn Tells Stands Left stop.Store number rest written store after written' 
 abbrev pub HoldsNone : Stop → Held → Type 0
 HoldsNone stop.Input held = held.bytes ≡ []
 HoldsNone stop.TooLong held = held.bytes ≡ []
-HoldsNone _ held = Unit {0}
+HoldsNone stop.Output held = Unit {0}
+HoldsNone stop.NoMemory held = Unit {0}
+HoldsNone stop.Store held = Unit {0}
 
 -- Turn after turn was answered, and then the run stopped.
 pub record ServedUntil {D P A : Type 0} (Tells : Type 0) (Stands Left : Standing D P A) (why : Stop) (script : Option (List ℕ)) (store : Open D P A) (written : Option (List ℕ)) (script' : Option (List ℕ)) (store' : Open D P A) (written' : Option (List ℕ)) : Type 0 where

@@ -207,7 +207,9 @@ returns-clause-caused g c = λ script held told told_sink.
           let arm = arm_there c.in-Ok.cluster.arms lane (subst (λ n. lane < n) (sym c.in-Ok.ensures.lanes) within) in
           lane_of A.is_sure c.in-Ok.cluster.arms lane arm.0 arm.1 (c.in-Ok.ensures.sure_arms lane arm.0 arm.1 ∙ is);
       pending = c.in-Ok.ensures.settled;
+      closures = c.in-Ok.ensures.closures;
       contents = c.in-Ok.ensures.contents;
+      formatted = c.in-Ok.ensures.formatted;
     } in
     let ends : EndsAt g.H.Disk.Disk.Tells c.args.settings new given = record {
       faults = subst (λ s. (slot : ℕ) → slot < disk_count s → given.faults slot ≡ slice_index new.counts.disks slot) is_settings c.close.ensures.fault_counts;
