@@ -14,6 +14,7 @@ use Rattle.hay_cluster.proofs.Standing.{stands_holds}
 use Rattle.hay_cluster.proofs.Sure.{same_sure}
 use Rattle.hay_run.specs.declared.stops.Stop.{Stop}
 use Rattle.hay_run.specs.declared.stops.Stop.TheVariants as stop
+use Rattle.hay_cluster.proofs.Formatted.{stands_formatted}
 use Rattle.hay_run.proofs.Counting.{NoneFalls-kept}
 use Rattle.hay_run.specs.Turns.{AnyTurn, IsGoingOn}
 use Rattle.hay_run.specs.Causing.{tally_of, IsLaterTally, NotReopened, StopCaused}
@@ -142,3 +143,14 @@ returns-in-Err-clause-stop_caused g c = λ why is.
     (g.K.Sink.written c.args.sink.now) (g.K.Sink.written c.refuse.new.sink) c.refuse.result back
     c.in-Err.fault c.refuse.ensures.fits c.in-Err.ensures.cause (λ tells slot count e. c.in-Err.ensures.failed_lowest tells slot count (ap (λ f. Err f) e)) (λ tells slot file at e. c.in-Err.ensures.damaged tells slot file at (ap (λ f. Err f) e))
     c.refuse.ensures.wanting c.refuse.ensures.told c.refuse.ensures.part c.refuse.ensures.stops)
+
+-- none of its disks is void
+
+pub returns-in-Ok-clause-formatted : goal.returns-in-Ok-clause-formatted
+returns-in-Ok-clause-formatted g c = λ tells k stands.
+    let done = c.in-Ok.ensures.reopened tells k stands in
+    stands_formatted g.D.Disk.files (λ disk n. g.met.D.Disk.may_leave_now disk n tells)
+    g.D.Piece.Piece.Tells g.D.Disk.fault_count g.D.Disk.fuse_count g.A.Arm.fault_count c.restart.new.self done.0 done.2
+
+pub returns-in-Err-clause-formatted : goal.returns-in-Err-clause-formatted
+returns-in-Err-clause-formatted g c = λ tells k stands. c.in-Err.ensures.formatted tells k stands
