@@ -1,6 +1,6 @@
 -- What the workers of all lanes answered is their lines.
-use Rattle.std.proofs.Common.{◌≡◌, ◌<◌, ◌≤◌, ℕ, zero, suc, List, [], ◌∷◌, map, length, filter, Contains, refl, sym, ap, subst, ◌∙◌, arith, Some, All, slice_get}
-use Rattle.std.specs.Prelude.{◌==◌, Bool}
+use Rattle.std.proofs.Common.{◌≡◌, ◌<◌, ℕ, List, [], ◌∷◌, map, length, Contains, refl, sym, ap, subst, ◌∙◌, arith, Option, Some, slice_get}
+use Rattle.std.specs.Prelude.{Bool}
 use Rattle.std.specs.List.{AllByRecursion as Each}
 use Rattle.std.proofs.lemmas.List.{length-map}
 use Rattle.std.proofs.lemmas.Option.{slice_get_within}
@@ -25,14 +25,14 @@ use Rattle.hay_meeting.specs.Locks.{LockSight}
 use Rattle.hay_meeting.specs.Replies.{AnsweredHere}
 use Rattle.hay_meeting.specs.Sights.{Sight}
 use Rattle.hay_meeting.proofs.Closing.{there}
-use Rattle.hay_meeting.proofs.Looping.{GoOn, are_lanes, lines_of, note_of}
+use Rattle.hay_meeting.proofs.Looping.{are_lanes, lines_of}
 use Rattle.hay_meeting.proofs.Phases.{only_saw}
 use Rattle.hay_meeting.proofs.Picking.{in_part}
 use Rattle.hay_meeting.proofs.Replying.{goes_on}
 use Rattle.hay_holdings.specs.Sights.{no_doings}
 use Rattle.hay_lane.specs.declared.lane.Lane.{Lane}
 use Rattle.hay_lane.specs.declared.lane.Shared.{Shared}
-use Rattle.hay_lane.specs.Lanes.{IsOf, IsSeated, sight}
+use Rattle.hay_lane.specs.Lanes.{sight}
 use Rattle.hay_lane.specs.Tellings.{StoreVolume}
 use Rattle.hay_block.specs.declared.worker.Job.{Job}
 use Rattle.hay_block.specs.Lines.{Answers, AreItems, IsServed, SitsAt, answered_line, answered_lines}
@@ -67,7 +67,7 @@ module _ {W J O : Type 0} (Is : ℕ → W → Type 0) (gives becomes : W → ℕ
         let w = there workers lane (omega (arith, inside, many)) in
         let js = there jobs lane (omega (arith, inside, many, given)) in
         let r = answers.each lane w.0 js.0 w.1 js.1 in
-        let same : r.0 ≡ x = let both : Some r.0 ≡ Some x = sym r.2 ∙ at in cc in
+        let same : r.0 ≡ x = let both : Some r.0 ≡ Some x = subst (λ (z : Option W). z ≡ Some x) r.2 at in cc in
         subst (Is lane) same (all_go lane w.0 js.0 r.0 r.1 (first lane w.0 w.1) r.4).0
 
 -- LANES
@@ -81,7 +81,8 @@ module _ {W L J O : Type 0} (f : W → L) (answers : L → ℕ → J → L → O
   image_answers lane w [] after outs (same, none) = (ap f same, none)
   image_answers lane w (job ∷ jobs) after outs (x, out, rest, outs_are, answered, more) = (f x, out, rest, outs_are, answered, image_answers lane x jobs after rest more)
 
-  pub images_answer : {workers after : List W} {jobs : List (List J)} {outs : List (List O)} → AnswersLanes answers_by workers jobs after outs → AnswersLanes answers (map f workers) jobs (map f after) outs
+  pub images_answer : {workers after : List W} {jobs : List (List J)} {outs : List (List O)} → AnswersLanes answers_by workers jobs after outs
+      → AnswersLanes answers (map f workers) jobs (map f after) outs
   images_answer {workers} {after} all = record {
     workers_stay = length-map after f ∙ (all.workers_stay ∙ sym (length-map workers f));
     lanes_stay = all.lanes_stay;

@@ -1,5 +1,5 @@
 -- Where all locks have ended, nothing else happened.
-use Rattle.std.proofs.Common.{◌≡◌, ◌<◌, ◌≤◌, inl, inr, ℕ, List, [], map, length, refl, sym, ap, subst, ◌∙◌, Some, slice_get}
+use Rattle.std.proofs.Common.{◌≡◌, ◌≤◌, inl, inr, ℕ, List, [], map, length, refl, sym, ap, subst}
 use Rattle.std.proofs.lemmas.Bool.{cases_lt}
 use Rattle.std.proofs.lemmas.List.{length-map}
 use mathlib.Core.List.{IsPrefix}
@@ -9,7 +9,7 @@ use Rattle.hay_turn.specs.Acts.{AllBelow}
 use Rattle.hay_meeting.specs.declared.act.VolumeAct.{VolumeAct}
 use Rattle.hay_meeting.specs.Acts.{Happened, Start, row_lock, volume_lock}
 use Rattle.hay_meeting.specs.Chains.{BeginsAt, IsWhole, StoreAt, WholeAt}
-use Rattle.hay_meeting.specs.Locks.{Lock, LockSight, entries}
+use Rattle.hay_meeting.specs.Locks.{Lock, LockSight}
 use Rattle.hay_meeting.specs.Sights.{Sight}
 use Rattle.hay_legal.specs.declared.known.Known.{Known}
 use Rattle.hay_meeting.proofs.Opening.{lanes_begin, nothing_yet}

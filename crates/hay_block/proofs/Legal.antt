@@ -1,18 +1,15 @@
 -- A block's lines are legal.
-use Rattle.std.proofs.Common.{◌≡◌, ◌≢◌, ◌<◌, ◌≤◌, ◌+◌, ℕ, List, [], map, length, filter_map, refl, sym, ap, subst, ◌∙◌, arith, get_or, Some, slice_get}
-use Rattle.std.specs.Prelude.{slice_index}
-use Rattle.std.specs.List.{AllByRecursion as Each, flat_map, range_with_len}
+use Rattle.std.proofs.Common.{◌≡◌, ◌<◌, ℕ, List, length, sym, ap, subst, ◌∙◌, arith}
 use Rattle.std.proofs.lemmas.List.{length-map}
 use Rattle.std.proofs.lemmas.List.FromFn.{get_or-map-range_with_len, length-range_with_len}
 use Rattle.hay_needle.specs.declared.settings.Settings.{Settings}
 use Rattle.hay_legal.specs.declared.known.Known.{Known}
-use Rattle.hay_legal.specs.declared.known.VolumeKnown.{VolumeKnown}
 use Rattle.hay_legal.specs.declared.turn.LaneItem.{LaneItem}
 use Rattle.hay_legal.specs.declared.turn.LogNote.{LogNote}
 use Rattle.hay_legal.specs.declared.turn.RowNote.{RowNote}
 use Rattle.hay_legal.specs.Blocks.{LegalBlock, log_note, log_notes}
 use Rattle.hay_legal.specs.Known.{empty_volume, volume_at, volumes_of}
-use Rattle.hay_history.specs.Histories.{first_of, first_rows, row_note}
+use Rattle.hay_history.specs.Histories.{first_rows, row_note}
 use Rattle.hay_history.specs.Steps.{RowsStanding}
 use Rattle.hay_meeting.specs.Acts.{Happened, Start}
 use Rattle.hay_meeting.specs.Chains.{EndsAs, IsWhole, Lines}

@@ -3,6 +3,7 @@ pub mod Ending
 pub mod Noting
 pub mod Legal
 pub mod Chaining
-pub mod Seating
+pub mod Knowing
 pub mod Working
 pub mod Running
+pub mod Giving

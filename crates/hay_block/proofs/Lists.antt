@@ -1,5 +1,5 @@
 -- What stands where in lists.
-use Rattle.std.proofs.Common.{◌≡◌, ◌<◌, ◌≤◌, ◌+◌, ℕ, zero, suc, List, [], ◌∷◌, map, length, refl, sym, ap, subst, ◌∙◌, arith, Some, slice_get}
+use Rattle.std.proofs.Common.{◌≡◌, ℕ, zero, suc, List, [], ◌∷◌, map, ap, subst, Some, slice_get}
 use Rattle.std.specs.List.{AllByRecursion as Each}
 
 -- what stands in an image is the image of what stands there

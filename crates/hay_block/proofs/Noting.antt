@@ -1,5 +1,5 @@
 -- The notes behind a block, by the acts of its lanes.
-use Rattle.std.proofs.Common.{◌≡◌, ◌<◌, ◌+◌, ℕ, zero, suc, ◌≤◌, List, [], ◌∷◌, ◌++◌, map, length, drop, flat_map, filter_map, refl, sym, ap, subst, ◌∙◌, arith, Option, Some, None}
+use Rattle.std.proofs.Common.{◌≡◌, ◌<◌, ◌+◌, ℕ, zero, suc, ◌≤◌, List, [], ◌∷◌, ◌++◌, map, length, drop, flat_map, filter_map, refl, ap, ◌∙◌, arith}
 use Rattle.std.specs.List.{cons_option, range_with_len}
 use Rattle.std.proofs.Math.Seq.{drop-append_seam}
 use Rattle.hay_needle.specs.declared.settings.Settings.{Settings}

@@ -1,5 +1,5 @@
 -- From workers to the lanes that they have.
-use Rattle.std.proofs.Common.{◌≡◌, ◌<◌, ℕ, List, [], ◌∷◌, map, length, refl, sym, ap, subst, ◌∙◌, Vec, Global, All, Some, slice_get}
+use Rattle.std.proofs.Common.{◌≡◌, ℕ, List, [], ◌∷◌, map, length, refl, sym, ap, subst, ◌∙◌, Vec, Global, All, Some, slice_get}
 use Rattle.std.specs.List.{AllByRecursion as Each}
 use Rattle.std.proofs.lemmas.List.{length-map}
 use Rattle.std.proofs.lemmas.List.Elements.{All-from_recursion}
@@ -60,7 +60,8 @@ module _ {V D S T A : Type 0} (shared : Shared V D) where
         let at = worker_at workers lanes parts lane w here in
         let sits : IsSeated fits fits_rows (w.shared).now lane w.lane = subst (λ (z : Shared V D). IsSeated fits fits_rows z lane w.lane) (sym at.0) (seated lane w.lane at.1) in
         let v = unmapped (λ (v : Vec Job Global). v.items) jobs lane js there in
-        let each : Each (λ job. IsServed job.item) js = subst (Each (λ (job : Job). IsServed job.item)) v.2 (each_at (λ (v : Vec Job Global). Each (λ job. IsServed job.item) v.items) jobs lane v.0 served v.1) in
+        let each : Each (λ job. IsServed job.item) js =
+        subst (Each (λ (job : Job). IsServed job.item)) v.2 (each_at (λ (v : Vec Job Global). Each (λ job. IsServed job.item) v.items) jobs lane v.0 served v.1) in
         All-from_recursion (λ job. IsSeated fits fits_rows (w.shared).now lane w.lane × IsServed job.item) js
         (each_weaker (λ (job : Job). IsServed job.item) (λ job. IsSeated fits fits_rows (w.shared).now lane w.lane × IsServed job.item) (λ job serves. (sits, serves)) js each)
 
@@ -75,13 +76,16 @@ module _ {V D S T A : Type 0} (shared : Shared V D) where
       abbrev shares : ℕ → LaneWorker V D S T A → Type 0
       shares lane w = (w.shared).now ≡ shared
 
-      one_shares : (lane : ℕ) (w : LaneWorker V D S T A) (job : Job) (x : LaneWorker V D S T A) (out : Reply) → shares lane w → by_worker w lane job x out → shares lane x × by_lane w.lane lane job x.lane out
+      one_shares : (lane : ℕ) (w : LaneWorker V D S T A) (job : Job) (x : LaneWorker V D S T A) (out : Reply) → shares lane w → by_worker w lane job x out
+          → shares lane x × by_lane w.lane lane job x.lane out
       one_shares lane w job x out own (same, answered) =
           (same ∙ own, subst (λ (z : Shared V D). Answers fits fits_rows is_at is_at_rows of of_rows arm_faults z lane job w.lane x.lane out) own answered)
 
       -- what workers answer, their lanes do
-      pub lanes_answer : (workers after : List (LaneWorker V D S T A)) (lanes : List (Lane S T A)) (jobs : List (List Job)) (outs : List (List Reply)) → map parts_of workers ≡ map (at_locks shared) lanes
+      pub lanes_answer : (workers after : List (LaneWorker V D S T A)) (lanes : List (Lane S T A)) (jobs : List (List Job)) (outs : List (List Reply))
+          → map parts_of workers ≡ map (at_locks shared) lanes
           → length jobs ≡ length workers → AnswersLanes by_worker workers jobs after outs → AnswersLanes by_lane lanes jobs (map lane_of after) outs
       lanes_answer workers after lanes jobs outs parts given all =
           subst (λ z. AnswersLanes by_lane z jobs (map lane_of after) outs) (lanes_are workers lanes parts)
-          (images_answer lane_of by_lane (lanes_go shares by_worker (λ w lane job x out. by_lane w.lane lane job x.lane out) one_shares given (λ lane w here. (worker_at workers lanes parts lane w here).0) all))
+          (images_answer lane_of by_lane (lanes_go shares by_worker (λ w lane job x out. by_lane w.lane lane job x.lane out) one_shares given
+          (λ lane w here. (worker_at workers lanes parts lane w here).0) all))

@@ -30,7 +30,7 @@ use Rattle.hay_block.specs.Seats.{HasNewSeats}
 use Rattle.hay_block.specs.Lanes.{LanesAreLegal, LanesRan}
 use Rattle.hay_block.proofs.Chaining.{items_stand, lanes_answered, still_sit}
 use Rattle.hay_block.proofs.Legal.{blocks_are_legal}
-use Rattle.hay_block.proofs.Seating.{known, known_at, new_lane, rows_known, unknown_past}
+use Rattle.hay_block.proofs.Knowing.{known, known_at, new_lane, rows_known, unknown_past}
 
 each_mapped : {A B : Type 0} (f : A → B) (P : B → Type 0) (xs : List A) → Each (λ x. P (f x)) xs → Each P (map f xs)
 each_mapped f P [] each = tt

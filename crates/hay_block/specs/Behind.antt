@@ -2,7 +2,6 @@
 use Rattle.std.specs.Prelude.{◌≡◌, ℕ, ◌-◌, ◌^◌, ◌<◌, ◌≤◌, List, [], ◌∷◌, length, map, filter_map, slice_index, Option, Some, None}
 use Rattle.std.specs.List.{AllByRecursion as Each, flat_map}
 use Rattle.hay_needle.specs.declared.settings.Settings.{Settings}
-use Rattle.hay_core.specs.declared.entry.CoreTag.{CoreTag}
 use Rattle.hay_core.specs.declared.entry.Entry.{Entry}
 use Rattle.hay_reply.specs.declared.LineVolume.{LineVolume}
 use Rattle.hay_legal.specs.declared.known.HomeRow.{HomeRow}

@@ -20,7 +20,9 @@
 #![tactic(auto)]
 
 mod run;
+mod seating;
 mod worker;
 
 pub use run::run_lines;
+pub use seating::{give_seats, take_seats};
 pub use worker::{Job, LaneWorker};

@@ -1,5 +1,4 @@
-use Rattle.std.proofs.Common.{refl, sym, ap, subst, ◌∙◌}
-use Rattle.hay_lane.specs.Lanes.{sight}
+use Rattle.std.proofs.Common.{refl}
 use Rattle.hay_block.proofs.Chaining.{bad_answered}
 use Rattle.hay_block.proofs.worker.LaneWorkerWork.answer.Goals as goal
 

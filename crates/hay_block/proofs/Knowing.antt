@@ -1,6 +1,5 @@
 -- What lanes know, by their seats.
-use Rattle.std.proofs.Common.{◌≡◌, ◌<◌, ◌≤◌, ℕ, List, [], ◌∷◌, map, length, refl, sym, ap, subst, ◌∙◌, arith, Option, Some, None, slice_get}
-use Rattle.std.specs.List.{AllByRecursion as Each, AllZip}
+use Rattle.std.proofs.Common.{◌≡◌, ◌≤◌, ℕ, List, [], ◌∷◌, map, length, refl, sym, ap, Option, Some, None, slice_get}
 use Rattle.std.proofs.lemmas.Option.{slice_get_past}
 use Rattle.hay_core.specs.declared.entry.Entry.{Entry}
 use Rattle.hay_legal.specs.declared.known.HomeRow.{HomeRow}
