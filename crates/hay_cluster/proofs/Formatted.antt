@@ -160,8 +160,9 @@ module _ {D : Type 0} (files : D → Files) (now : (disk : D) (n : ℕ) → IsIm
       → (slot : ℕ) → slot < disk_count new.settings → IsVoid (contents_in files new slot) → ⊥
   unfolding Stands
   refused_formatted DiskTells Tells faults fuses arm_faults tells old mid new k stands s m shape slot below void =
-      let all : AllByRecursion IsFormatted (disks_of new) =
-      (refused_directory DiskTells faults fuses tells old.directory mid.directory new.directory k.directory k.drained stands.directory s.directory m.directory,
-      refused_volumes DiskTells Tells faults fuses tells old.volumes mid.volumes new.volumes k.volumes stands.volumes s.volumes m.volumes) in
+      let all : AllByRecursion IsFormatted (disks_of new) = (
+        refused_directory DiskTells faults fuses tells old.directory mid.directory new.directory k.directory k.drained stands.directory s.directory m.directory,
+        refused_volumes DiskTells Tells faults fuses tells old.volumes mid.volumes new.volumes k.volumes stands.volumes s.volumes m.volumes,
+      ) in
       let many = disks_many new shape in
       slot_formatted new all slot (omega (arith, below, many)) void
