@@ -1,4 +1,6 @@
 pub mod Counting
+pub mod Deleting
+pub mod Erasing
 pub mod Examining
 pub mod Finding
 pub mod Finishing

@@ -2,6 +2,7 @@ pub mod Acts
 pub mod Answers
 pub mod Changes
 pub mod Compactions
+pub mod Deletes
 pub mod Ended
 pub mod Keeping
 pub mod Opening

@@ -19,15 +19,17 @@
 //! In `proofs/`, `Growing` has what an act makes of what stands behind the lock, `Finding` how the answers of a logical volume are
 //! those calls, `Holding` what a holding tells of its lane, `Telling` what a look at the published rows does, and `Opening` how a lock
 //! is made and ends. `Published` has what the rows tell behind one change more, `Publishing` what a holding leaves that publishes a
-//! change, and what it tells; `Putting` and `Seeing` are puts and places that are seen. `Examining` and `Stepping` are steps of a
-//! compaction, `Finishing` how one ends without a swap, `Swapping` and `Moving` the laws of a swap and of the places that it publishes,
-//! `Losing` and `Lost` how a line finds its compaction ended by other lanes, and `Tightening` what holds of one since whose beginning no
-//! entry came: the calls that end a compaction are not here yet, nor deletes.
+//! change, and what it tells; `Putting` and `Seeing` are puts and places that are seen, `Deleting` and `Erasing` deletes, which see
+//! each place first within the same holding. `Examining` and `Stepping` are steps of a compaction, `Finishing` how one ends without a
+//! swap, `Swapping` and `Moving` the laws of a swap and of the places that it publishes, `Losing` and `Lost` how a line finds its
+//! compaction ended by other lanes, and `Tightening` what holds of one since whose beginning no entry came: the calls that end a
+//! compaction are not here yet.
 #![tactic(auto)]
 
 mod act;
 mod changes;
 mod compactions;
+mod deletes;
 mod ended;
 mod guarded;
 mod lock;
