@@ -376,24 +376,26 @@ module _ {D P : Type 0} (Tells : Type 0) (files : D → Files) (PieceTells : Typ
   module _ (p : ℕ) (over : List Bool) (of : IsOfBoth faults old new) (stay : FusesStay fuses old new) (shows : Shows tag (Some change) old new) (serves : (opened : Opened D P) → (old.logical).settings ≡ (opened.volume).settings → Serves opened old new)
       (begun : new.begun ≡ old.begun) (thawed : (old.logical).frozen ≡ None)
       (slots : (j lane : ℕ) → j < (old.settings).replicas → lane < 8
-          → ended_at new.ended j lane ≡ ended_in j lane (slice_index_or old.begun j nobody) (act_by (made_is.Enters change over)) (ended_at old.ended j lane))
+      → ended_at new.ended j lane ≡ ended_in j lane (slice_index_or old.begun j nobody) (act_by (made_is.Enters change over)) (ended_at old.ended j lane))
       (rose : Tells → (k : VolumeKnown) → Stands files PieceTells old.logical k → (j : ℕ) → slice_get over j ≡ Some true
-          → Rose (count_at faults (old.logical).replicas j) (count_at faults (new.logical).replicas j))
+      → Rose (count_at faults (old.logical).replicas j) (count_at faults (new.logical).replicas j))
       (ran : Tells → (k : VolumeKnown) → Stands files PieceTells old.logical k → (j : ℕ) → slice_index_or over j false ≡ true → (run : Run) × ((replica_at k j).run ≡ Some run))
       (deleted : Tells → (k : VolumeKnown) → Stands files PieceTells old.logical k
-          → (logical.is_held k pair ≡ true) × (p ≡ length k.log + 1) × Stands files PieceTells new.logical (with_del over tag pair k)) where
+      → (logical.is_held k pair ≡ true) × (p ≡ length k.log + 1) × Stands files PieceTells new.logical (with_del over tag pair k)) where
     pub delete_shown : Leaves (Some (act_by (made_is.Enters change over))) × Found Tells files PieceTells faults fuses tag old (Some (act_by (made_is.Enters change over))) (λ volume. DeleteAnswer volume tag pair (Ok p))
     delete_shown = (
       record {
         kept = λ opened held h. kept_acted Tells files PieceTells faults fuses opened held old new tag (made_is.Enters change over) h of shows (serves opened h.same_settings)
             (fuses_stay Tells files PieceTells faults fuses tag old new of.count stay)
             (λ tells k s. (
-              known_thawed thawed (stood_of faults fuses opened k held).volume (h.stands tells k s), (
-              over,
-              λ j is. subst (λ (n : ℕ). Rose n ((left_by (act_by (made_is.Enters change over)) (stood_of faults fuses opened k held)).faults j)) (sym (h.fault_counts k j))
-                  (subst (λ (n : ℕ). Rose (count_at faults (old.logical).replicas j) n)
-                  (sym (count_behind faults (old.logical).replicas (new.logical).replicas j ((stood_of faults fuses opened k held).faults j) of.count (h.fault_counts k j))) (rose tells (stood_of faults fuses opened k held).volume (h.stands tells k s) j is)),
-              refl),
+              known_thawed thawed (stood_of faults fuses opened k held).volume (h.stands tells k s),
+              (
+                over,
+                λ j is. subst (λ (n : ℕ). Rose n ((left_by (act_by (made_is.Enters change over)) (stood_of faults fuses opened k held)).faults j)) (sym (h.fault_counts k j))
+                    (subst (λ (n : ℕ). Rose (count_at faults (old.logical).replicas j) n)
+                    (sym (count_behind faults (old.logical).replicas (new.logical).replicas j ((stood_of faults fuses opened k held).faults j) of.count (h.fault_counts k j))) (rose tells (stood_of faults fuses opened k held).volume (h.stands tells k s) j is)),
+                refl,
+              ),
             ))
             (λ tells k s. (deleted tells (stood_of faults fuses opened k held).volume (h.stands tells k s)).2)
             (λ j less. ap (λ (l : List CoreTag). slice_index_or l j nobody) begun)
@@ -576,7 +578,7 @@ module _ (over : List Bool) (begun : List CoreTag) (faults : List ℕ) (first be
     λ j lane less few. elim (cases_lt j i) [
       | inl below ↦ done j lane below few
       | inr past ↦ (let same : i ≡ j = omega arith in subst (λ (n : ℕ). ended_at before n lane ≡ noted over begun faults first n lane) same
-        (rest i lane (omega arith) ∙ sym (cond-false (slice_index_or over i false) (if begun_by == lane then Some (slice_index_or faults i 0) else ended_at first i lane) (ended_at first i lane) is)))
+          (rest i lane (omega arith) ∙ sym (cond-false (slice_index_or over i false) (if begun_by == lane then Some (slice_index_or faults i 0) else ended_at first i lane) (ended_at first i lane) is)))
     ],
     λ j lane past. rest j lane (omega (arith, past)),
   )

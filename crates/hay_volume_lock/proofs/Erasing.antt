@@ -189,7 +189,7 @@ module _ {D P : Type 0} (Tells : Type 0) (files : D → Files) (PieceTells : Typ
   halts_wanted mid new seen pair settings begun ended shown log same is_open counts stands again new_open more freezes frozen old thawed sees act by =
       let to_seen : IsSame old.logical seen = same_more old.logical mid.logical seen (sees.of).count (sees.of).same same in
       let both = both_again Tells files PieceTells faults fuses tag old new seen (settings ∙ (sees.of).settings) to_seen is_open
-          (counts_more faults fuses (old.logical).replicas (mid.logical).replicas seen.replicas (counts_seen old mid sees) counts) again new_open more in
+      (counts_more faults fuses (old.logical).replicas (mid.logical).replicas seen.replicas (counts_seen old mid sees) counts) again new_open more in
       let m : ℕ = machine_of seen.settings seen.number 0 in
       sight_wanted Tells files PieceTells faults fuses tag old new pair both.0 both.1 (shows_more tag old mid new None sees.shows (shows_nothing tag mid new shown log))
       (λ opened is. serves_frozen tag old new opened m frozen) (begun ∙ sees.begun) (ended ∙ sees.ended) thawed m
@@ -245,13 +245,13 @@ module _ {D P : Type 0} (Tells : Type 0) (files : D → Files) (PieceTells : Typ
       erase_unshown ended shown log given again new_open more frozen old thawed sees act by =
           let to_er : IsSame old.logical er = same_more old.logical mid.logical er (sees.of).count (sees.of).same same in
           let both = both_again Tells files PieceTells faults fuses tag old new er (settings ∙ (sees.of).settings) to_er is_open
-              (counts_more faults fuses (old.logical).replicas (mid.logical).replicas er.replicas (counts_seen old mid sees) held) again new_open more in
+          (counts_more faults fuses (old.logical).replicas (mid.logical).replicas er.replicas (counts_seen old mid sees) held) again new_open more in
           let m : ℕ = machine_of er.settings er.number 0 in
           delete_given_up Tells files PieceTells faults fuses tag old new pair both.0 both.1 (shows_more tag old mid new None sees.shows (shows_nothing tag mid new shown log))
           (λ opened is. serves_frozen tag old new opened m frozen) (begun ∙ sees.begun) (ended ∙ sees.ended) thawed m
           (ap (λ (s : Settings). machine_of s er.number 0) to_er.settings ∙ ap (λ (v : ℕ). machine_of (old.logical).settings v 0) to_er.number) frozen
           (λ tells k s. let e = stands tells k (sees.stands tells k s) in
-            (e.stood, given tells k change (op.Del pair) (ended_known k) e.unshown refl))
+          (e.stood, given tells k change (op.Del pair) (ended_known k) e.unshown refl))
           act by
         where
           ended_known : VolumeKnown → List ReplicaKnown
@@ -269,15 +269,15 @@ module _ {D P : Type 0} (Tells : Type 0) (files : D → Files) (PieceTells : Typ
       erase_shown p over item own_tag front own still rows hidden deleted over_of slots old thawed sees act by =
           let to_er : IsSame old.logical er = same_more old.logical mid.logical er (sees.of).count (sees.of).same same in
           let both = both_rows Tells files PieceTells faults fuses tag old new er (settings ∙ (sees.of).settings) to_er is_open
-              (counts_more faults fuses (old.logical).replicas (mid.logical).replicas er.replicas (counts_seen old mid sees) held) erased.position hidden in
+          (counts_more faults fuses (old.logical).replicas (mid.logical).replicas er.replicas (counts_seen old mid sees) held) erased.position hidden in
           let shown : (new.front).shown ≡ with_deed (mid.front).shown deed = ap (λ f. f.shown) front in
           let done = delete_shown Tells files PieceTells faults fuses tag old new pair p over both.0 both.1
-              (shows_more tag old mid new (Some change) sees.shows (shows_deed tag mid new deed (Some change) entered_is shown logged_more))
-              (λ opened is. serves_more tag old mid new opened (sees.serves opened is) (serves_deed tag mid new deed opened (ap (λ f. f.closed) front) shown (λ thawed. thawed_mid)
-              (subst (λ (d : Published P). FitsRows ((opened.volume).settings).replicas d.change) (sym deed_is) tt) changed))
-              (begun ∙ sees.begun) thawed slots_old (λ tells k s. rose tells k (sees.stands tells k s))
-              (λ tells k s j is. ran_before files PieceTells faults mid.logical (new.logical).replicas k (sees.stands tells k s) j (subst (λ (l : List Bool). slice_index_or l j false ≡ true) over_runs is))
-              (λ tells k s. gone tells k (sees.stands tells k s)) in
+          (shows_more tag old mid new (Some change) sees.shows (shows_deed tag mid new deed (Some change) entered_is shown logged_more))
+          (λ opened is. serves_more tag old mid new opened (sees.serves opened is) (serves_deed tag mid new deed opened (ap (λ f. f.closed) front) shown (λ thawed. thawed_mid)
+          (subst (λ (d : Published P). FitsRows ((opened.volume).settings).replicas d.change) (sym deed_is) tt) changed))
+          (begun ∙ sees.begun) thawed slots_old (λ tells k s. rose tells k (sees.stands tells k s))
+          (λ tells k s j is. ran_before files PieceTells faults mid.logical (new.logical).replicas k (sees.stands tells k s) j (subst (λ (l : List Bool). slice_index_or l j false ≡ true) over_runs is))
+          (λ tells k s. gone tells k (sees.stands tells k s)) in
           subst (λ (z : Option VolumeAct). Deletes Tells files PieceTells faults fuses tag old new pair (Ok p) z) (sym (by.acts (made_is.Enters change over) refl))
           (record { leaves = done.0; told = done.1; always = λ m f e. absurd (cc e) })
         where

@@ -166,7 +166,13 @@ impl<D: Disk<Piece = P> + Send + Sync, P: Piece + Send + Sync> VolumeLock<D, P> 
                 let seen = match kept.logical.see(replica, pair, out) {
                     Ok(seen) => seen,
                     Err(fault) => {
-                        let made = act_made(&kept.logical, replicas, &before, tag, sight_did(&fault));
+                        let made = act_made(
+                            &kept.logical,
+                            replicas,
+                            &before,
+                            tag,
+                            sight_did(&fault),
+                        );
                         self.turn.free(&mut seat.turn, kept, made);
                         return Err(fault);
                     }
@@ -192,7 +198,10 @@ impl<D: Disk<Piece = P> + Send + Sync, P: Piece + Send + Sync> VolumeLock<D, P> 
                 return Err(fault);
             }
         };
-        let Ok(_receipt) = kept.front.publish(rt, &mut seat.view, front_tag(tag), deletion(pair, &entry)) else {
+        let Ok(_receipt) = kept
+            .front
+            .publish(rt, &mut seat.view, front_tag(tag), deletion(pair, &entry))
+        else {
             kept.logical.give_up(tag, Change::Delete { pair });
             let did = pended(kept.logical.frozen(), &entry, false);
             let made = act_made(&kept.logical, replicas, &before, tag, did);
@@ -201,7 +210,13 @@ impl<D: Disk<Piece = P> + Send + Sync, P: Piece + Send + Sync> VolumeLock<D, P> 
         };
         let position = kept.logical.hide(erased);
         let over = over_of(&kept.logical, replicas, &runs);
-        note_ended(&kept.logical, replicas, over.as_slice(), &kept.begun, &mut kept.ended);
+        note_ended(
+            &kept.logical,
+            replicas,
+            over.as_slice(),
+            &kept.begun,
+            &mut kept.ended,
+        );
         let did = Made::Enters {
             entry: Moment::of(&entry),
             ended: past_of(over.as_slice()),
