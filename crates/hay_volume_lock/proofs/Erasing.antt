@@ -21,7 +21,6 @@ use Rattle.hay_logical.specs.declared.fault.LogicalFault.{LogicalFault}
 use Rattle.hay_logical.specs.declared.fault.LogicalFault.TheVariants.{Damaged, NoMemory, ReadOnly}
 use Rattle.hay_logical.specs.declared.unsure.Change.TheVariants as unsure
 use Rattle.hay_logical.specs.declared.written.Erased.{Erased}
-use Rattle.hay_logical.specs.Fits.{At}
 use Rattle.hay_logical.specs.Stands.{Stands}
 use Rattle.hay_logical.specs.Steps.{SetsPlaceAt}
 use Rattle.hay_logical.specs.Unshown.{GivesUp, IsErased}
@@ -33,14 +32,13 @@ use Rattle.hay_map.specs.declared.place.Place.{Place}
 use Rattle.hay_map.specs.declared.view.MapOp.{MapOp}
 use Rattle.hay_map.specs.declared.view.MapOp.TheVariants as op
 use Rattle.hay_meeting.specs.declared.act.VolumeAct.{VolumeAct}
-use Rattle.hay_meeting.specs.Acts.{nobody}
 use Rattle.hay_needle.specs.declared.needle.Pair.{Pair}
 use Rattle.hay_needle.specs.declared.settings.Settings.{Settings}
 use Rattle.hay_needle.specs.Tables.{pair_eq}
 use Rattle.hay_needle.proofs.TableLaws.{pair_refl}
-use Rattle.hay_physical.specs.Copies.{Copy, goal_of}
+use Rattle.hay_physical.specs.Copies.{goal_of}
 use Rattle.hay_views.specs.declared.places.Published.{Published}
-use Rattle.hay_views.specs.MapPasts.{Enters, MapPast, begun_at, is_entry}
+use Rattle.hay_views.specs.MapPasts.{Enters, begun_at, is_entry}
 use Rattle.hay_volume_lock.specs.Acts.{act_of, counts}
 use Rattle.hay_volume_lock.specs.Answers.{Found}
 use Rattle.hay_volume_lock.specs.Changes.{freezes_by, pends_by}

@@ -1,5 +1,5 @@
 -- What deletes leave, and what they answer, as steps of a lane.
-use Rattle.std.specs.Prelude.{◌≡◌, ◌==◌, ℕ, List, [], ◌∷◌, slice_index_or, if◌then◌else◌, Option, Some, None, Bool, true, false, Result, Ok, Err}
+use Rattle.std.specs.Prelude.{◌==◌, ℕ, List, [], ◌∷◌, slice_index_or, if◌then◌else◌, Option, Some, None, Bool, true, false, Result, Ok, Err}
 use Rattle.hay_core.specs.declared.entry.CoreTag.{CoreTag}
 use Rattle.hay_core.specs.declared.entry.Entry.{Entry}
 use Rattle.hay_holdings.specs.Volumes.{DeleteFailed, DeleteWanted, Deleted, MetAbsent, MetFrozen, VolumeCall}
