@@ -1,3 +1,4 @@
+pub mod Above
 pub mod Alike
 pub mod Beginning
 pub mod Bytes
@@ -31,6 +32,8 @@ pub mod SwapSizes
 pub mod Swapping
 pub mod Tables
 pub mod Telling
+pub mod Tightness
 pub mod Through
 pub mod Looks
 pub mod Drawing
+pub mod Untouched
