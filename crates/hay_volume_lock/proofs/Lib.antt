@@ -1,5 +1,6 @@
 pub mod Counting
 pub mod Deleting
+pub mod Ending
 pub mod Erasing
 pub mod Examining
 pub mod Finding

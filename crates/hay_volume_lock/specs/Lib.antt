@@ -4,6 +4,7 @@ pub mod Changes
 pub mod Compactions
 pub mod Deletes
 pub mod Ended
+pub mod Finishes
 pub mod Keeping
 pub mod Opening
 pub mod Rows
