@@ -22,7 +22,7 @@ use std::marker::Model;
 use std::sync::Wait;
 
 // What was done where a compaction did not end with a swap.
-fn unfinished_did(fault: &LogicalFault, frozen: Option<u32>, replica: u32) -> Made
+pub(crate) fn unfinished_did(fault: &LogicalFault, frozen: Option<u32>, replica: u32) -> Made
     ensures { result ≡ unswapped_made replica fault.now frozen }
 {
     match fault {
@@ -42,7 +42,7 @@ fn unfinished_did(fault: &LogicalFault, frozen: Option<u32>, replica: u32) -> Ma
 }
 
 // The places to which the photos moved, as they are published.
-fn moved<P: Piece>(replica: u32, cells: Listed<OpenCell<P>>) -> Published<P>
+pub(crate) fn moved<P: Piece>(replica: u32, cells: Listed<OpenCell<P>>) -> Published<P>
     ensures { result ≡ record { change = change.Swap replica cells; entered = [] } }
 {
     Published {

@@ -23,13 +23,14 @@
 //! change, and what it tells; `Putting` and `Seeing` are puts and places that are seen, `Deleting` and `Erasing` deletes, which see
 //! each place first within the same holding. `Examining` and `Stepping` are steps of a compaction, `Finishing` how one ends without a
 //! swap, `Swapping`, `Moving` and `Ending` the laws of a swap and of the places that it publishes, `Losing` and `Lost` how a line finds its
-//! compaction ended by other lanes, and `Tightening` what holds of one since whose beginning no entry came: the call that ends
-//! a line's own compaction is not here yet, nor what a swap tells of sizes.
+//! compaction ended by other lanes, and `Tightening` what holds of one since whose beginning no entry came: what a swap tells
+//! of sizes is not here yet.
 #![tactic(auto)]
 
 mod act;
 mod changes;
 mod compactions;
+mod compacts;
 mod deletes;
 mod ended;
 mod finishes;
@@ -48,6 +49,6 @@ pub use ended::Ended;
 pub use guarded::{Guarded, Opened};
 pub use lock::VolumeLock;
 pub use making::{NewLock, SeatRoom};
-pub use refusals::{Finished, Unfinished, Unflushed};
+pub use refusals::{Finished, Uncompacted, Unfinished, Unflushed};
 pub use seat::VolumeSeat;
 pub use told::Told;

@@ -23,3 +23,16 @@ pub struct Unfinished {
     pub fault: LogicalFault,
     pub frozen: Option<u32>,
 }
+
+/// Why the compaction that a line began did not end with a swap of files.
+#[derive(Clone, Copy, Debug)]
+pub enum Uncompacted {
+    /// It ended now.
+    Unfinished(Unfinished),
+    /// It had ended, and the machine has frozen the volume.
+    Frozen { machine: u32 },
+    /// A delete of another line had ended it, behind which the replica's disk had this count of faults.
+    Deleted { faults: u64 },
+    /// It had never begun.
+    Idle,
+}
