@@ -58,7 +58,8 @@ use Rattle.hay_volume_lock.proofs.Putting.{IsMadeBy, err_same, failed_on, frozen
 use Rattle.hay_volume_lock.proofs.Seeing.{froze}
 
 -- a delete that made this act, or none, leaves and tells so
-pub record Deletes {D P : Type 0} (Tells : Type 0) (files : D → Files) (PieceTells : Type 0) (faults fuses : D → ℕ) (tag : CoreTag) (old new : Guarded D P) (pair : Pair) (answer : Result ℕ LogicalFault) (act : Option VolumeAct) : Type 0 where
+pub record Deletes {D P : Type 0} (Tells : Type 0) (files : D → Files) (PieceTells : Type 0) (faults fuses : D → ℕ) (tag : CoreTag) (old new : Guarded D P)
+    (pair : Pair) (answer : Result ℕ LogicalFault) (act : Option VolumeAct) : Type 0 where
   pub leaves : Changes Tells files PieceTells faults fuses tag old new act
   pub told : Found Tells files PieceTells faults fuses tag old act (λ volume. DeleteAnswer volume tag pair answer)
   pub always : (m f : ℕ) → answer ≡ Err (Failed m f) → FoundAlways Tells files PieceTells faults fuses tag old act (λ volume. DiskFailed volume tag m f)
@@ -131,7 +132,8 @@ module _ {D P : Type 0} (Tells : Type 0) (files : D → Files) (PieceTells : Typ
   Leaves made = Changes Tells files PieceTells faults fuses tag old new made
 
   -- on some replica a photo stood, or on none
-  pub stood_by : (opened : Opened D P) (held : List VolumeAct) → IsKept Tells files PieceTells faults fuses opened held old → (k : VolumeKnown) (volume : StoreVolume) → IsAt faults fuses opened k volume
+  pub stood_by : (opened : Opened D P) (held : List VolumeAct) → IsKept Tells files PieceTells faults fuses opened held old → (k : VolumeKnown) (volume : StoreVolume)
+      → IsAt faults fuses opened k volume
       → Stands files PieceTells old.logical (stood_of faults fuses opened k held).volume
       → logical.is_held (stood_of faults fuses opened k held).volume pair ≡ stood_there volume.settings volume.start volume.number pair held
   stood_by opened held h k volume at s =
@@ -142,7 +144,8 @@ module _ {D P : Type 0} (Tells : Type 0) (files : D → Files) (PieceTells : Typ
   pub known_thawed : (old.logical).frozen ≡ None → (k : VolumeKnown) → Stands files PieceTells old.logical k → k.frozen ≡ None
   known_thawed thawed k s = frozen_known files PieceTells old.logical k s ∙ thawed
 
-  pub found_thawed : (old.logical).frozen ≡ None → (opened : Opened D P) (held : List VolumeAct) → IsKept Tells files PieceTells faults fuses opened held old → (k : VolumeKnown) (volume : StoreVolume) → IsAt faults fuses opened k volume
+  pub found_thawed : (old.logical).frozen ≡ None → (opened : Opened D P) (held : List VolumeAct) → IsKept Tells files PieceTells faults fuses opened held old
+      → (k : VolumeKnown) (volume : StoreVolume) → IsAt faults fuses opened k volume
       → Stands files PieceTells old.logical (stood_of faults fuses opened k held).volume → (volume_stood volume.start volume.number held).frozen ≡ None
   found_thawed thawed opened held h k volume at s = sym (ap (λ (z : Standing). (z.volume).frozen) (stood_is faults fuses opened k volume held at)) ∙ known_thawed thawed (stood_of faults fuses opened k held).volume s
 
@@ -165,7 +168,8 @@ module _ {D P : Type 0} (Tells : Type 0) (files : D → Files) (PieceTells : Typ
     tried still made is = changes_seen Tells files PieceTells faults fuses tag old new of shows serves stay still begun ended made is
 
     -- the delete is pending
-    pends : (m : ℕ) (failed : Bool) → (Tells → (k : VolumeKnown) → Stands files PieceTells old.logical k → Stands files PieceTells new.logical (frozen_with m tag change failed k)) → Leaves (Some (act_by (made_is.Pends m change failed)))
+    pends : (m : ℕ) (failed : Bool) → (Tells → (k : VolumeKnown) → Stands files PieceTells old.logical k → Stands files PieceTells new.logical (frozen_with m tag change failed k))
+        → Leaves (Some (act_by (made_is.Pends m change failed)))
     pends m failed still = changes_acted Tells files PieceTells faults fuses tag old new (made_is.Pends m change failed) of shows serves (fuses_stay Tells files PieceTells faults fuses tag old new of.count stay)
         (λ tells before s. record { leads = (known_thawed thawed before.volume s, refl); stands = still tells before.volume s }) (λ j less. ap (λ (l : List CoreTag). slice_index_or l j nobody) begun)
         (ends_none Tells files PieceTells old new (act_by (made_is.Pends m change failed)) (λ j. refl) (λ j own. own) ended) (act_by (made_is.Pends m change failed)) refl

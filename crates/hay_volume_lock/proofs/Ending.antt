@@ -49,11 +49,13 @@ pub none_frozen : (o : Option ℕ) → ((m : ℕ) → o ≡ Some m → ⊥) → 
 none_frozen None not = refl
 none_frozen (Some m) not = absurd (not m refl)
 
-pub unfinished_same : {fault : LogicalFault} {by o : Option ℕ} {m f : ℕ} → ◌≡◌ {A = Result Finished Unfinished} (Err (record { fault = fault; frozen = by })) (Err (record { fault = Failed m f; frozen = o })) → fault ≡ Failed m f
+pub unfinished_same : {fault : LogicalFault} {by o : Option ℕ} {m f : ℕ}
+    → ◌≡◌ {A = Result Finished Unfinished} (Err (record { fault = fault; frozen = by })) (Err (record { fault = Failed m f; frozen = o })) → fault ≡ Failed m f
 unfinished_same {fault} {by} {o} {m} {f} is =
     let same : ◌≡◌ {A = Unfinished} (record { fault = fault; frozen = by }) (record { fault = Failed m f; frozen = o }) = cc is in ap (λ (u : Unfinished). u.fault) same
 
-module _ {D P : Type 0} (Tells : Type 0) (files : D → Files) (PieceTells : Type 0) (faults fuses : D → ℕ) (tag : CoreTag) (old : Guarded D P) (j : ℕ) (within : j < ((old.logical).settings).replicas) where
+module _ {D P : Type 0} (Tells : Type 0) (files : D → Files) (PieceTells : Type 0) (faults fuses : D → ℕ) (tag : CoreTag) (old : Guarded D P) (j : ℕ)
+    (within : j < ((old.logical).settings).replicas) where
   abbrev owner : CoreTag
   owner = slice_index_or old.begun j nobody
 
@@ -126,7 +128,8 @@ module _ {D P : Type 0} (Tells : Type 0) (files : D → Files) (PieceTells : Typ
           (switched_found g end cells frozen act did may next opened held h tells k s volume at a b holding),
     )
 
-    module _ (may : Tells → (k : VolumeKnown) → Stood k → MayGoOn k j tag.lane owner) (thawed : (old.logical).frozen ≡ None) (g end count : ℕ) (mid : Volume D P) (cells : List (OpenCell P)) (deed : Published P)
+    module _ (may : Tells → (k : VolumeKnown) → Stood k → MayGoOn k j tag.lane owner) (thawed : (old.logical).frozen ≡ None)
+        (g end count : ℕ) (mid : Volume D P) (cells : List (OpenCell P)) (deed : Published P)
         (deed_is : deed ≡ record { change = op.Swap j cells; entered = [] }) (rows : ChangesRows (op.Swap j cells) (old.logical).rows mid.rows)
         (swap : Tells → (k : VolumeKnown) → Stands files PieceTells old.logical k → IsSwap files PieceTells k j g end count mid)
         (same : IsSame old.logical mid) (is_open : IsOpenVolume mid) (counts : KeepsCounts faults fuses (old.logical).replicas mid.replicas)
@@ -154,7 +157,8 @@ module _ {D P : Type 0} (Tells : Type 0) (files : D → Files) (PieceTells : Typ
           let first : first_machine mid.settings mid.number ≡ m = ap (λ (s : Settings). machine_of s mid.number 0) same.settings ∙ ap (λ (v : ℕ). machine_of (old.logical).settings v 0) same.number in
           let act_is : act ≡ act_of faults fuses tag (made_is.Swaps j end count (Some m)) (new.logical).replicas =
           is ∙ ap (λ (o : Option ℕ). act_of faults fuses tag (made_is.Swaps j end count o) (new.logical).replicas) (by_is ∙ frozen ∙ ap Some first) in (
-            swap_unshown Tells files PieceTells faults fuses tag old j g end count within thawed mid cells deed deed_is rows swap same is_open counts new settings begun ended own again new_open more frozen froze shown log act act_is,
+            swap_unshown Tells files PieceTells faults fuses tag old j g end count within thawed mid cells deed deed_is rows swap same is_open counts new settings begun ended own
+                again new_open more frozen froze shown log act act_is,
             finish_found g end count (Some m) act (ap (λ (z : VolumeAct). did_of z.did) act_is) may (λ tells k s. (swap tells k s).next),
           )
 
@@ -164,7 +168,9 @@ module _ {D P : Type 0} (Tells : Type 0) (files : D → Files) (PieceTells : Typ
 
       pub compact_unshown : owner ≡ tag → (by : Option ℕ) (m : ℕ) → by ≡ Some m → (act : VolumeAct) → act ≡ act_of faults fuses tag (made_is.Swaps j end count by) (new.logical).replicas
           → Found Tells files PieceTells faults fuses tag old (Some act) (λ volume. CompactAnswer volume tag j (Ok (record { generation = g; frozen = true })))
-      compact_unshown is_own by m by_is act is = compact_found is_own g end count (Some m) act (ap (λ (z : VolumeAct). did_of z.did) is ∙ ap (λ (o : Option ℕ). Swaps j end count (is_frozen_then o)) by_is) may (λ tells k s. (swap tells k s).next)
+      compact_unshown is_own by m by_is act is =
+          compact_found is_own g end count (Some m) act (ap (λ (z : VolumeAct). did_of z.did) is ∙ ap (λ (o : Option ℕ). Swaps j end count (is_frozen_then o)) by_is)
+          may (λ tells k s. (swap tells k s).next)
 
   -- A LINE'S OWN COMPACTION
 
@@ -188,7 +194,8 @@ module _ {D P : Type 0} (Tells : Type 0) (files : D → Files) (PieceTells : Typ
       subst (λ (who : CoreTag). Unswapped volume tag j fault frozen who a b) is_own (found opened held h tells k s volume at a b holding)
 
 -- a frozen volume has no compaction
-pub idle_frozen : {D P : Type 0} (files : D → Files) (PieceTells : Type 0) (volume : Volume D P) (k : VolumeKnown) → Stands files PieceTells volume k → (m : ℕ) → volume.frozen ≡ Some m → (j : ℕ) → j < (volume.settings).replicas
+pub idle_frozen : {D P : Type 0} (files : D → Files) (PieceTells : Type 0) (volume : Volume D P) (k : VolumeKnown) → Stands files PieceTells volume k → (m : ℕ) → volume.frozen ≡ Some m → (j : ℕ)
+    → j < (volume.settings).replicas
     → (replica_at k j).run ≡ None
 unfolding Stands
 idle_frozen files PieceTells volume k s m frozen j less =

@@ -103,7 +103,8 @@ module _ {D P : Type 0} (Tells : Type 0) (files : D → Files) (PieceTells : Typ
       → (act : Option VolumeAct) → IsMadeBy Tells files PieceTells faults fuses tag old new did act → Deletes Tells files PieceTells faults fuses tag old new pair answer act
 
   -- an act that was made of what was done
-  pub made_act : (old new : Guarded D P) (made : Made) (act : VolumeAct) → act ≡ act_of faults fuses tag made (new.logical).replicas → IsMadeBy Tells files PieceTells faults fuses tag old new (Some made) (Some act)
+  pub made_act : (old new : Guarded D P) (made : Made) (act : VolumeAct) → act ≡ act_of faults fuses tag made (new.logical).replicas
+      → IsMadeBy Tells files PieceTells faults fuses tag old new (Some made) (Some act)
   made_act old new made act is = record {
     acts = λ m same. ap Some (is ∙ ap (λ (z : Made). act_of faults fuses tag z (new.logical).replicas) (let one : made ≡ m = cc same in one));
     tries = λ none. absurd (cc none);
@@ -121,13 +122,8 @@ module _ {D P : Type 0} (Tells : Type 0) (files : D → Files) (PieceTells : Typ
     pub settings_now : (now.logical).settings ≡ now.settings
     settings_now = (((since.sees).of).same).settings ∙ (since.found).same_settings ∙ sym ((since.found).settings) ∙ sym ((since.sees).of).settings
 
-    pub all_now : length (now.logical).replicas ≡ now.settings.replicas
-    all_now = (((since.sees).of).is_open).all ∙ ap (λ (s : Settings). s.replicas) settings_now
-
-    pub few_now : now.settings.replicas ≤ 4
-    few_now = subst (λ (s : Settings). s.replicas ≤ 4) (sym (((since.sees).of).settings ∙ (since.found).settings)) (((since.found).from).of).most
-
-  pub since : (old now : Guarded D P) (opened : Opened D P) (held : List VolumeAct) → IsKept Tells files PieceTells faults fuses opened held old → (old.logical).frozen ≡ None → Seen old now → HasSeen now
+  pub since : (old now : Guarded D P) (opened : Opened D P) (held : List VolumeAct) → IsKept Tells files PieceTells faults fuses opened held old → (old.logical).frozen ≡ None → Seen old now
+      → HasSeen now
   since old now opened held found thawed sees = record { opened = opened; held = held; old = old; found = found; thawed = thawed; sees = sees }
 
   module _ (old mid : Guarded D P) (sees : Seen old mid) where
@@ -206,7 +202,8 @@ module _ {D P : Type 0} (Tells : Type 0) (files : D → Files) (PieceTells : Typ
       → ((m at : ℕ) → fault ≡ Damaged m at → ⊥)
       → DeletesBy mid new pair (Err fault) (delete_made (new.logical).frozen (entry.Del pair) fault)
   erase_refused mid new pair settings front begun ended closed thawed_mid same is_open counts rows fault refused cause undamaged old thawed sees act by =
-      let both = both_again Tells files PieceTells faults fuses tag old new mid.logical (settings ∙ (sees.of).settings) (sees.of).same (sees.of).is_open (counts_seen old mid sees) same is_open counts in
+      let both = both_again Tells files PieceTells faults fuses tag old new mid.logical (settings ∙ (sees.of).settings) (sees.of).same (sees.of).is_open (counts_seen old mid sees)
+      same is_open counts in
       delete_refused Tells files PieceTells faults fuses tag old new pair both.0 both.1
       (shows_more tag old mid new None sees.shows (shows_nothing tag mid new (ap (λ f. f.shown) front) (ap (λ f. f.log) front)))
       (λ opened is. serves_kept tag old mid new opened (sees.serves opened is) front closed thawed_mid rows) (begun ∙ sees.begun) (ended ∙ sees.ended) thawed fault
@@ -260,7 +257,8 @@ module _ {D P : Type 0} (Tells : Type 0) (files : D → Files) (PieceTells : Typ
           → new.front ≡ record { shown = with_deed (mid.front).shown deed; log = logged (is_entry deed.change) (mid.front).log item; closed = false }
           → erased.pair ≡ pair → er ≡ record mid.logical { replicas = er.replicas }
           → ChangesRows (op.Del erased.pair) er.rows (new.logical).rows → new.logical ≡ record er { rows = (new.logical).rows; front = erased.position }
-          → (Tells → (k : VolumeKnown) (tag : CoreTag) (pair : Pair) (before : Volume D P) → IsErased files faults PieceTells k pair erased before er → logical.IsDeleted files faults PieceTells k tag pair p before new.logical)
+          → (Tells → (k : VolumeKnown) (tag : CoreTag) (pair : Pair) (before : Volume D P) → IsErased files faults PieceTells k pair erased before er
+          → logical.IsDeleted files faults PieceTells k tag pair p before new.logical)
           → over ≡ over_since (map goal_of (mid.logical).replicas) (new.logical).replicas
           → ((j lane : ℕ) → j < (mid.settings).replicas → lane < 8 → ended_at new.ended j lane ≡ noted over mid.begun (counts faults (new.logical).replicas) mid.ended j lane)
           → DeletesBy mid new pair (Ok p) (Some (made_is.Enters change over))
@@ -274,7 +272,8 @@ module _ {D P : Type 0} (Tells : Type 0) (files : D → Files) (PieceTells : Typ
           (λ opened is. serves_more tag old mid new opened (sees.serves opened is) (serves_deed tag mid new deed opened (ap (λ f. f.closed) front) shown (λ thawed. thawed_mid)
           (subst (λ (d : Published P). FitsRows ((opened.volume).settings).replicas d.change) (sym deed_is) tt) changed))
           (begun ∙ sees.begun) thawed slots_old (λ tells k s. rose tells k (sees.stands tells k s))
-          (λ tells k s j is. ran_before files PieceTells faults mid.logical (new.logical).replicas k (sees.stands tells k s) j (subst (λ (l : List Bool). slice_index_or l j false ≡ true) over_runs is))
+          (λ tells k s j is. ran_before files PieceTells faults mid.logical (new.logical).replicas k (sees.stands tells k s) j
+          (subst (λ (l : List Bool). slice_index_or l j false ≡ true) over_runs is))
           (λ tells k s. gone tells k (sees.stands tells k s)) in
           subst (λ (z : Option VolumeAct). Deletes Tells files PieceTells faults fuses tag old new pair (Ok p) z) (sym (by.acts (made_is.Enters change over) refl))
           (record { leaves = done.0; told = done.1; always = λ m f e. absurd (cc e) })
@@ -294,14 +293,16 @@ module _ {D P : Type 0} (Tells : Type 0) (files : D → Files) (PieceTells : Typ
           is_deleted : (tells : Tells) (k : VolumeKnown) → Stands files PieceTells mid.logical k → logical.IsDeleted files faults PieceTells k tag pair p mid.logical new.logical
           is_deleted tells k s = deleted tells k tag pair mid.logical (stands tells k s)
 
-          gone : Tells → (k : VolumeKnown) → Stands files PieceTells mid.logical k → (logical.is_held k pair ≡ true) × (p ≡ length k.log + 1) × Stands files PieceTells new.logical (with_del over tag pair k)
+          gone : Tells → (k : VolumeKnown) → Stands files PieceTells mid.logical k
+              → (logical.is_held k pair ≡ true) × (p ≡ length k.log + 1) × Stands files PieceTells new.logical (with_del over tag pair k)
           gone tells k s = let d = is_deleted tells k s in
               (d.stood, d.position, subst (λ (l : List Bool). Stands files PieceTells new.logical (with_del l tag pair k)) (d.runs ∙ sym over_runs) d.stands)
 
           replicas_same : (new.logical).replicas ≡ er.replicas
           replicas_same = ap (λ (v : Volume D P). v.replicas) hidden
 
-          rose : Tells → (k : VolumeKnown) → Stands files PieceTells mid.logical k → (j : ℕ) → slice_get over j ≡ Some true → Rose (count_at faults (old.logical).replicas j) (count_at faults (new.logical).replicas j)
+          rose : Tells → (k : VolumeKnown) → Stands files PieceTells mid.logical k → (j : ℕ) → slice_get over j ≡ Some true
+              → Rose (count_at faults (old.logical).replicas j) (count_at faults (new.logical).replicas j)
           rose tells k s j is = let d = is_deleted tells k s in
               rose_erased faults fuses (old.logical).replicas (mid.logical).replicas (new.logical).replicas (counts_seen old mid sees) (ap length replicas_same ∙ held.count)
               (ap length (sym d.runs) ∙ d.count ∙ sym ((sees.of).is_open).all)

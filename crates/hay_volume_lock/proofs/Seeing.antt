@@ -66,13 +66,15 @@ View D P = Witness (MapPast P (Volume D P)) (Volume D P) (Published P)
 
 -- WHAT A PLACE MEANS
 
-pub seen_means : {D P : Type 0} (files : D → Files) (PieceTells : Type 0) (r : Copy D) (pair : Pair) (p : Place P) (what : Outcome) → IsSeen p → PlaceStands files PieceTells r pair p what → PlaceMeans PieceTells pair p what
+pub seen_means : {D P : Type 0} (files : D → Files) (PieceTells : Type 0) (r : Copy D) (pair : Pair) (p : Place P) (what : Outcome) → IsSeen p → PlaceStands files PieceTells r pair p what
+    → PlaceMeans PieceTells pair p what
 seen_means files PieceTells r pair (place.Live needle) what seen stands = stands
 seen_means files PieceTells r pair place.None what seen stands = stands
 seen_means files PieceTells r pair place.Gone what seen stands = stands
 seen_means files PieceTells r pair (place.Unseen at size) what seen stands = absurd seen
 
-stands_tells : {D P : Type 0} (files : D → Files) (PieceTells : Type 0) (r : Copy D) (pair : Pair) (p : Place P) (what : Outcome) → PlaceStands files PieceTells r pair p what → PlaceTells PieceTells pair p what
+stands_tells : {D P : Type 0} (files : D → Files) (PieceTells : Type 0) (r : Copy D) (pair : Pair) (p : Place P) (what : Outcome) → PlaceStands files PieceTells r pair p what
+    → PlaceTells PieceTells pair p what
 stands_tells files PieceTells r pair (place.Live needle) what stands = stands
 stands_tells files PieceTells r pair place.None what stands = stands
 stands_tells files PieceTells r pair place.Gone what stands = stands
@@ -92,7 +94,8 @@ IsLooked PieceTells volume pair replica looked k =
     (looked.front ≡ length k.log) × PlaceMeans PieceTells pair (place_in looked.row replica) (outcome_at (now k (replica_at k replica)) pair)
     × ((j : ℕ) → j < (volume.settings).replicas → PlaceTells PieceTells pair (place_in looked.row j) (outcome_at (now k (replica_at k j)) pair))
 
-pub see_known : {D P : Type 0} (Tells : Type 0) (files : D → Files) (PieceTells : Type 0) (faults fuses : D → ℕ) (old new : Volume D P) (pair : Pair) (replica : ℕ) (looked : Looked P) → new.settings ≡ old.settings
+pub see_known : {D P : Type 0} (Tells : Type 0) (files : D → Files) (PieceTells : Type 0) (faults fuses : D → ℕ) (old new : Volume D P) (pair : Pair) (replica : ℕ) (looked : Looked P)
+    → new.settings ≡ old.settings
     → looked.row ≡ row_at new.rows pair → (Tells → (k : VolumeKnown) → Stands files PieceTells old k → Stands files PieceTells new k)
     → (Tells → (k : VolumeKnown) → Stands files PieceTells old k → (looked.front ≡ length k.log) × PlaceMeans PieceTells pair (place_in looked.row replica) (outcome_at (now k (replica_at k replica)) pair))
     → Tells → (k : VolumeKnown) → Stands files PieceTells old k → IsLooked PieceTells old pair replica looked k
@@ -105,7 +108,8 @@ see_known Tells files PieceTells faults fuses old new pair replica looked settin
     )
 
 -- a view shows nothing of an act that changed nothing
-pub tried_quiet : {D : Type 0} (faults fuses : D → ℕ) (tag : CoreTag) (before : List ℕ) (copies : List (Copy D)) (made : Option VolumeAct) → IsTried faults fuses tag before copies made → entries volume_lock (acts_in made) ≡ []
+pub tried_quiet : {D : Type 0} (faults fuses : D → ℕ) (tag : CoreTag) (before : List ℕ) (copies : List (Copy D)) (made : Option VolumeAct) → IsTried faults fuses tag before copies made
+    → entries volume_lock (acts_in made) ≡ []
 tried_quiet faults fuses tag before copies None tried = refl
 tried_quiet faults fuses tag before copies (Some act) tried = ap (λ (z : VolumeAct). add_shown (entry_of z.did) []) tried.is
 
@@ -225,7 +229,8 @@ module _ {D P : Type 0} (Tells : Type 0) (files : D → Files) (PieceTells : Typ
       ∙ ap (fold apply_entry (now k (replica_at k j))) (sym h.entered)
 
   pub seen_may : (deed : Published P) (opened : Opened D P) (held : List VolumeAct) (old mid : Guarded D P) → IsKept Tells files PieceTells faults fuses opened held old → Sees old mid
-      → Holds (Fact Tells files PieceTells) (mid.front).shown → (pair : Pair) (replica : ℕ) (there : Place P) → deed ≡ record { change = op.Seen pair replica there; entered = [] } → replica < ((old.logical).settings).replicas
+      → Holds (Fact Tells files PieceTells) (mid.front).shown → (pair : Pair) (replica : ℕ) (there : Place P) → deed ≡ record { change = op.Seen pair replica there; entered = [] }
+      → replica < ((old.logical).settings).replicas
       → (Tells → (k : VolumeKnown) → Stands files PieceTells mid.logical k → PlaceMeans PieceTells pair there (outcome_at (now k (replica_at k replica)) pair))
       → MayPublish (Fact Tells files PieceTells) (mid.front).shown deed
   seen_may deed opened held old mid h sees fact pair replica there is within means =
@@ -368,10 +373,12 @@ module _ {D P : Type 0} (Tells : Type 0) (files : D → Files) (PieceTells : Typ
 -- BY WHAT THE CALLS TELL
 
 -- a place that was looked at
-pub look_known : {D P : Type 0} (Tells : Type 0) (files : D → Files) (PieceTells : Type 0) (old : Volume D P) (pair : Pair) (replica : ℕ) (looked : Looked P) → replica < length old.replicas → IsSeen (place_in looked.row replica)
+pub look_known : {D P : Type 0} (Tells : Type 0) (files : D → Files) (PieceTells : Type 0) (old : Volume D P) (pair : Pair) (replica : ℕ) (looked : Looked P) → replica < length old.replicas
+    → IsSeen (place_in looked.row replica)
     → (Tells → (k : VolumeKnown) → Stands files PieceTells old k → (looked.front ≡ length k.log)
     × ((j : ℕ) (r : Copy D) → At old.replicas j r → PlaceStands files PieceTells r pair (place_in looked.row j) (outcome_at (now k (replica_at k j)) pair)))
-    → Tells → (k : VolumeKnown) → Stands files PieceTells old k → (looked.front ≡ length k.log) × PlaceMeans PieceTells pair (place_in looked.row replica) (outcome_at (now k (replica_at k replica)) pair)
+    → Tells → (k : VolumeKnown) → Stands files PieceTells old k
+    → (looked.front ≡ length k.log) × PlaceMeans PieceTells pair (place_in looked.row replica) (outcome_at (now k (replica_at k replica)) pair)
 look_known Tells files PieceTells old pair replica looked less seen known tells k s =
     let r = at_there old.replicas replica less in let q = known tells k s in
     (q.0, seen_means files PieceTells r.0 pair (place_in looked.row replica) (outcome_at (now k (replica_at k replica)) pair) seen (q.1 replica r.0 r.1))
