@@ -1,5 +1,5 @@
 -- What a call found and did, as a step of a lane.
-use Rattle.std.proofs.Common.{◌⊎◌, ◌≡◌, ◌≢◌, inl, inr, ℕ, ◌+◌, ◌<◌, ◌≤◌, List, [], ◌∷◌, ◌++◌, length, Option, Some, None, option_map, refl, sym, ap, subst, ◌∙◌, arith}
+use Rattle.std.proofs.Common.{◌⊎◌, ◌≡◌, ◌≢◌, inl, inr, true, ℕ, ◌+◌, ◌<◌, ◌≤◌, List, [], ◌∷◌, ◌++◌, length, Option, Some, None, option_map, refl, sym, ap, subst, ◌∙◌, arith}
 use Rattle.std.specs.Prelude.{◌==◌, false, slice_index_or, find, IsNone, IfSome, ◌↔◌, Result, Ok, Err, IfOk, IfErr}
 use Rattle.std.specs.List.{enumerate_from}
 use Rattle.std.proofs.lemmas.Bool.{cases_order, cond-true, eq-eqb}
@@ -20,7 +20,7 @@ use Rattle.hay_logical.specs.declared.fault.LogicalFault.{LogicalFault}
 use Rattle.hay_logical.specs.declared.fault.LogicalFault.TheVariants.{Busy, Damaged, Failed, Full, Gone, Idle, NoMemory, ReadOnly, Worn}
 use Rattle.hay_logical.specs.Fits.{At}
 use Rattle.hay_logical.specs.Stands.{Stands}
-use Rattle.hay_logical.specs.Volumes.{IsOfSettings, IsOpenVolume, IsSame, KeepsCounts}
+use Rattle.hay_logical.specs.Volumes.{IsOfSettings, IsOpenVolume, IsSame, KeepsCounts, Volume}
 use Rattle.hay_logical.proofs.Lists.{at_there}
 use Rattle.hay_logical.proofs.Machines.{same_machine}
 use Rattle.hay_map.specs.Rows.{row_at}
@@ -37,16 +37,30 @@ use Rattle.hay_physical.specs.Copies.{Copy}
 use Rattle.hay_reply.specs.declared.Refused.{Refused}
 use Rattle.hay_reply.specs.declared.Refused.TheVariants.{Closed, NoRoom}
 use Rattle.hay_volume_lock.specs.Acts.{act_of, counts, did_by}
-use Rattle.hay_volume_lock.specs.Answers.{BeginAnswer, BeginRefused, FailedLook, FlushAnswer, FlushRefused, Found, FoundAlways, FrozenAnswer, IsAt, RoomAnswer, StoreVolume}
+use Rattle.hay_volume_lock.specs.Answers.{BeginAnswer, BeginRefused, FailedLook, FlushAnswer, FlushBarred, FlushRefused, Found, FoundAlways, FrozenAnswer, IsAt, RoomAnswer, StoreVolume}
 use Rattle.hay_volume_lock.specs.Keeping.{EndsOwn, GoesOn, IsKept, ends_at, stood_of}
-use Rattle.hay_volume_lock.specs.Tries.{IsBegunBy, IsTried, begin_made, flush_made}
+use Rattle.hay_volume_lock.specs.Tries.{IsBegunBy, IsTried, begin_made, flush_answer, flush_made}
 use Rattle.hay_volume_lock.specs.declared.act.Made.{Made}
 use Rattle.hay_volume_lock.specs.declared.act.Made.TheVariants as made_is
 use Rattle.hay_volume_lock.specs.declared.guarded.Guarded.{Guarded}
 use Rattle.hay_volume_lock.specs.declared.guarded.Opened.{Opened}
+use Rattle.hay_volume_lock.specs.declared.refusals.Unflushed.{Unflushed}
 use Rattle.hay_volume_lock.proofs.Counting.{count_one, count_there}
 use Rattle.hay_volume_lock.proofs.Growing.{FusesStay, IsOfOne, LeadsFusesOf, LeadsTo, begun_more, ends_none, goes_more, goes_tried, no_fuse, of_still}
 use Rattle.hay_volume_lock.proofs.Holding.{stood_is}
+
+-- what is known of a volume has its freeze
+known_frozen : {D P : Type 0} (files : D → Files) (PieceTells : Type 0) (volume : Volume D P) (k : VolumeKnown) → Stands files PieceTells volume k → k.frozen ≡ volume.frozen
+unfolding Stands
+known_frozen files PieceTells volume k s = s.frozen
+
+-- a flush that is told as failed has failed
+pub flush_failed_by : (by : Option ℕ) (answer : Result ℕ LogicalFault) (m f : ℕ) (o : Option ℕ) → ◌≡◌ {A = Result ℕ Unflushed} (flush_answer by answer) (Err (record { fault = Failed m f; frozen = o }))
+    → (answer ≡ Err (Failed m f)) × (by ≡ o)
+flush_failed_by by (Ok n) m f o is = absurd (cc is)
+flush_failed_by by (Err fault) m f o is =
+    let same : ◌≡◌ {A = Unflushed} (record { fault = fault; frozen = by }) (record { fault = Failed m f; frozen = o }) = cc is in
+    (ap (λ (u : Unflushed). Err u.fault) same, ap (λ (u : Unflushed). u.frozen) same)
 
 -- WHETHER IT TAKES A CHANGE
 
@@ -207,11 +221,11 @@ module _ {D P : Type 0} (Tells : Type 0) (files : D → Files) (PieceTells : Typ
       },
     )
 
-    pub flush_failed : new.begun ≡ old.begun → (m f : ℕ) → m ≡ machine_of (old.logical).settings (old.logical).number j
+    pub flush_failed : new.begun ≡ old.begun → (m f : ℕ) (o : Option ℕ) → m ≡ machine_of (old.logical).settings (old.logical).number j
         → logical.HasFailed faults (old.logical).settings (old.logical).number (old.logical).replicas (new.logical).replicas m f
         → (Tells → (k : VolumeKnown) → Stands files PieceTells old.logical k → logical.FlushRefused files PieceTells k j old.logical new.logical (Failed m f))
-        → (act : VolumeAct) → Behind (made_is.Sticks j) act → Goes (Some act) × Always (Some act) (λ volume. FlushRefused volume tag j (Failed m f))
-    flush_failed begun m f machine failed refused act is =
+        → (act : VolumeAct) → Behind (made_is.Sticks j) act → Goes (Some act) × Always (Some act) (λ volume. FlushRefused volume tag j (Failed m f) o)
+    flush_failed begun m f o machine failed refused act is =
         let goes : Goes (Some act) = more (made_is.Sticks j) refl none_set
         (λ tells before s. let r = refused tells before.volume s in record { leads = (r.0, within, r.1, refl); stands = r.3 })
         (same_begun begun) (λ i. refl) (λ i own. own) act is in (
@@ -243,78 +257,89 @@ module _ {D P : Type 0} (Tells : Type 0) (files : D → Files) (PieceTells : Typ
     pub flush_refused : new.begun ≡ old.begun → (fault : LogicalFault) → ((m f : ℕ) → fault ≡ Failed m f → ⊥)
         → (Tells → (k : VolumeKnown) → Stands files PieceTells old.logical k → logical.FlushRefused files PieceTells k j old.logical new.logical fault)
         → (made : Option VolumeAct) → (IsNone made ↔ (counts faults (old.logical).replicas ≡ counts faults (new.logical).replicas)) → IfSome made (Behind made_is.Tries)
-        → Goes made × Finds made (λ volume. FlushRefused volume tag j fault)
-    flush_refused begun fault not refused made even act = (
+        → (o : Option ℕ) → (new.logical).frozen ≡ o → Goes made × Finds made (λ volume. FlushRefused volume tag j fault o)
+    flush_refused begun fault not refused made even act o frozen = (
       tried (λ tells k s. flush_kept fault not k (refused tells k s) s) begun made even act,
       λ opened held h tells k s volume at a b holding.
           found fault not (stood_of faults fuses opened k held) volume held a b holding (stood_is faults fuses opened k volume held at)
-          (λ m e. on_machine opened held k volume h at m j e) (refused tells (stood_of faults fuses opened k held).volume (h.stands tells k s)),
+          (λ m e. on_machine opened held k volume h at m j e) (known_frozen files PieceTells old.logical (stood_of faults fuses opened k held).volume (h.stands tells k s)) (refused tells (stood_of faults fuses opened k held).volume (h.stands tells k s)),
     )
       where
+        barred : (m : ℕ) (by : Option ℕ) (now : Standing) (volume : StoreVolume) (held : List VolumeAct) (a b : LockSight VolumeAct Entry)
+            → Holding volume_lock tag held made a b → now ≡ stood volume.start volume.number held
+            → ((m : ℕ) → m ≡ machine_of (old.logical).settings (old.logical).number j → m ≡ machine_of volume.settings volume.number j)
+            → new.logical ≡ old.logical → (now.volume).frozen ≡ by
+            → ((now.volume).frozen ≡ Some m) ⊎ (((now.volume).frozen ≡ None) × ((replica_at now.volume j).stuck ≡ true) × (m ≡ machine_of (old.logical).settings (old.logical).number j))
+            → FlushBarred volume tag j m by a b
+        barred m (Some by) now volume held a b holding there machine same is (inl closed) =
+            record { held = held; made = made; holding = holding; is = (none_made made even same, sym (ap (λ (z : Standing). (z.volume).frozen) there) ∙ closed) }
+        barred m (Some by) now volume held a b holding there machine same is (inr stuck) = absurd (let wrong : ◌≡◌ {A = Option ℕ} None (Some by) = sym stuck.0 ∙ is in cc wrong)
+        barred m None now volume held a b holding there machine same is (inl closed) = absurd (let wrong : ◌≡◌ {A = Option ℕ} (Some m) None = sym closed ∙ is in cc wrong)
+        barred m None now volume held a b holding there machine same is (inr stuck) = (
+          machine m stuck.2,
+          record {
+            held = held;
+            made = made;
+            holding = holding;
+            is = (none_made made even same, sym (ap (λ (z : Standing). (z.volume).frozen) there) ∙ stuck.0, sym (ap (λ (z : Standing). (replica_at z.volume j).stuck) there) ∙ stuck.1);
+          },
+        )
+
         found : (fault : LogicalFault) → ((m f : ℕ) → fault ≡ Failed m f → ⊥) → (now : Standing) (volume : StoreVolume) (held : List VolumeAct) (a b : LockSight VolumeAct Entry)
             → Holding volume_lock tag held made a b → now ≡ stood volume.start volume.number held
             → ((m : ℕ) → m ≡ machine_of (old.logical).settings (old.logical).number j → m ≡ machine_of volume.settings volume.number j)
-            → logical.FlushRefused files PieceTells now.volume j old.logical new.logical fault → FlushRefused volume tag j fault a b
-        found (ReadOnly m) not now volume held a b holding there machine r = elim r.0 [
-          | inl frozen ↦ inl (record { held = held; made = made; holding = holding; is = (none_made made even r.1, sym (ap (λ (z : Standing). (z.volume).frozen) there) ∙ frozen) })
-          | inr stuck ↦ inr (
-            machine m stuck.2,
-            record {
-              held = held;
-              made = made;
-              holding = holding;
-              is = (none_made made even r.1, sym (ap (λ (z : Standing). (z.volume).frozen) there) ∙ stuck.0, sym (ap (λ (z : Standing). (replica_at z.volume j).stuck) there) ∙ stuck.1);
-            },
-          )
-        ]
-        found (Failed m f) not now volume held a b holding there machine r = absurd (not m f refl)
-        found NoMemory not now volume held a b holding there machine r = record { held = held; made = made; holding = holding; is = nothing_made made act }
-        found (Full m end need capacity) not now volume held a b holding there machine r = absurd r
-        found (Gone front) not now volume held a b holding there machine r = absurd r
-        found (Busy m g) not now volume held a b holding there machine r = absurd r
-        found (Worn m) not now volume held a b holding there machine r = absurd r
-        found Idle not now volume held a b holding there machine r = absurd r
-        found (Damaged m at) not now volume held a b holding there machine r = absurd r
+            → (now.volume).frozen ≡ (old.logical).frozen
+            → logical.FlushRefused files PieceTells now.volume j old.logical new.logical fault → FlushRefused volume tag j fault o a b
+        found (ReadOnly m) not now volume held a b holding there machine known r =
+            barred m o now volume held a b holding there machine r.1 (known ∙ ap (λ v. v.frozen) (sym r.1) ∙ frozen) r.0
+        found (Failed m f) not now volume held a b holding there machine known r = absurd (not m f refl)
+        found NoMemory not now volume held a b holding there machine known r = record { held = held; made = made; holding = holding; is = nothing_made made act }
+        found (Full m end need capacity) not now volume held a b holding there machine known r = absurd r
+        found (Gone front) not now volume held a b holding there machine known r = absurd r
+        found (Busy m g) not now volume held a b holding there machine known r = absurd r
+        found (Worn m) not now volume held a b holding there machine known r = absurd r
+        found Idle not now volume held a b holding there machine known r = absurd r
+        found (Damaged m at) not now volume held a b holding there machine known r = absurd r
 
     flush_rest : new.begun ≡ old.begun → (fault : LogicalFault) → ((m f : ℕ) → fault ≡ Failed m f → ⊥)
         → (Tells → (k : VolumeKnown) → Stands files PieceTells old.logical k → logical.FlushRefused files PieceTells k j old.logical new.logical fault)
         → (made : Option VolumeAct) → IsTried faults fuses tag (counts faults (old.logical).replicas) (new.logical).replicas made
-        → Goes made × Finds made (λ volume. FlushRefused volume tag j fault)
-        × ((m f : ℕ) → ◌≡◌ {A = Result ℕ LogicalFault} (Err fault) (Err (Failed m f)) → Always made (λ volume. FlushRefused volume tag j (Failed m f)))
-    flush_rest begun fault not refused made tried =
-        let found = flush_refused begun fault not refused made tried.quiet tried.is in
+        → (o : Option ℕ) → (new.logical).frozen ≡ o → Goes made × Finds made (λ volume. FlushRefused volume tag j fault o)
+        × ((m f : ℕ) → ◌≡◌ {A = Result ℕ LogicalFault} (Err fault) (Err (Failed m f)) → Always made (λ volume. FlushRefused volume tag j (Failed m f) o))
+    flush_rest begun fault not refused made tried o frozen =
+        let found = flush_refused begun fault not refused made tried.quiet tried.is o frozen in
         (found.0, found.1, λ m f e. absurd (not m f (let same : fault ≡ Failed m f = cc e in same)))
 
     pub flush_found : new.begun ≡ old.begun → (answer : Result ℕ LogicalFault)
         → (Tells → (k : VolumeKnown) → Stands files PieceTells old.logical k → IfOk answer (λ n. logical.IsFlushed files PieceTells k j n new.logical))
         → (Tells → (k : VolumeKnown) → Stands files PieceTells old.logical k → IfErr answer (logical.FlushRefused files PieceTells k j old.logical new.logical))
         → IfErr answer (logical.IsFlushFault faults (old.logical).settings (old.logical).number j (old.logical).replicas (new.logical).replicas)
-        → (made : Option VolumeAct) → Acts (flush_made j answer) made
-        → Goes made × Finds made (λ volume. FlushAnswer volume tag j answer)
-        × ((m f : ℕ) → answer ≡ Err (Failed m f) → Always made (λ volume. FlushRefused volume tag j (Failed m f)))
-    flush_found begun (Ok n) flushed refused cause made acts =
+        → (made : Option VolumeAct) → Acts (flush_made j answer) made → (o : Option ℕ) → (new.logical).frozen ≡ o
+        → Goes made × Finds made (λ volume. FlushAnswer volume tag j (flush_answer o answer))
+        × ((m f : ℕ) → answer ≡ Err (Failed m f) → Always made (λ volume. FlushRefused volume tag j (Failed m f) o))
+    flush_found begun (Ok n) flushed refused cause made acts o frozen =
         let is = acts.0 (made_is.Flushes j) refl in
         let found = flush_ok begun n flushed (act_of faults fuses tag (made_is.Flushes j) (new.logical).replicas) refl in
-        subst (λ (z : Option VolumeAct). Goes z × Finds z (λ volume. FlushAnswer volume tag j (Ok n)) × ((m f : ℕ) → ◌≡◌ {A = Result ℕ LogicalFault} (Ok n) (Err (Failed m f)) → Always z (λ volume. FlushRefused volume tag j (Failed m f))))
+        subst (λ (z : Option VolumeAct). Goes z × Finds z (λ volume. FlushAnswer volume tag j (Ok n)) × ((m f : ℕ) → ◌≡◌ {A = Result ℕ LogicalFault} (Ok n) (Err (Failed m f)) → Always z (λ volume. FlushRefused volume tag j (Failed m f) o)))
         (sym is) (found.0, found.1, λ m f e. absurd cc)
-    flush_found begun (Err (Failed m f)) flushed refused cause made acts =
+    flush_found begun (Err (Failed m f)) flushed refused cause made acts o frozen =
         let is = acts.0 (made_is.Sticks j) refl in
-        let found = flush_failed begun m f cause.0 cause.1 refused (act_of faults fuses tag (made_is.Sticks j) (new.logical).replicas) refl in
-        subst (λ (z : Option VolumeAct). Goes z × Finds z (λ volume. FlushAnswer volume tag j (Err (Failed m f)))
-        × ((m' f' : ℕ) → ◌≡◌ {A = Result ℕ LogicalFault} (Err (Failed m f)) (Err (Failed m' f')) → Always z (λ volume. FlushRefused volume tag j (Failed m' f'))))
+        let found = flush_failed begun m f o cause.0 cause.1 refused (act_of faults fuses tag (made_is.Sticks j) (new.logical).replicas) refl in
+        subst (λ (z : Option VolumeAct). Goes z × Finds z (λ volume. FlushRefused volume tag j (Failed m f) o)
+        × ((m' f' : ℕ) → ◌≡◌ {A = Result ℕ LogicalFault} (Err (Failed m f)) (Err (Failed m' f')) → Always z (λ volume. FlushRefused volume tag j (Failed m' f') o)))
         (sym is) (
           found.0,
           λ opened held h tells k s volume at. found.1 opened held h k volume at,
-          λ m' f' e. subst (λ (r : Result ℕ LogicalFault). IfErr r (λ fault. Always (Some (act_of faults fuses tag (made_is.Sticks j) (new.logical).replicas)) (λ volume. FlushRefused volume tag j fault))) e found.1,
+          λ m' f' e. subst (λ (r : Result ℕ LogicalFault). IfErr r (λ fault. Always (Some (act_of faults fuses tag (made_is.Sticks j) (new.logical).replicas)) (λ volume. FlushRefused volume tag j fault o))) e found.1,
         )
-    flush_found begun (Err (ReadOnly m)) flushed refused cause made acts = flush_rest begun (ReadOnly m) (λ m f e. absurd cc) refused made (acts.1 refl)
-    flush_found begun (Err NoMemory) flushed refused cause made acts = flush_rest begun NoMemory (λ m f e. absurd cc) refused made (acts.1 refl)
-    flush_found begun (Err (Full m end need capacity)) flushed refused cause made acts = flush_rest begun (Full m end need capacity) (λ m f e. absurd cc) refused made (acts.1 refl)
-    flush_found begun (Err (Gone front)) flushed refused cause made acts = flush_rest begun (Gone front) (λ m f e. absurd cc) refused made (acts.1 refl)
-    flush_found begun (Err (Busy m g)) flushed refused cause made acts = flush_rest begun (Busy m g) (λ m f e. absurd cc) refused made (acts.1 refl)
-    flush_found begun (Err (Worn m)) flushed refused cause made acts = flush_rest begun (Worn m) (λ m f e. absurd cc) refused made (acts.1 refl)
-    flush_found begun (Err Idle) flushed refused cause made acts = flush_rest begun Idle (λ m f e. absurd cc) refused made (acts.1 refl)
-    flush_found begun (Err (Damaged m at)) flushed refused cause made acts = flush_rest begun (Damaged m at) (λ m f e. absurd cc) refused made (acts.1 refl)
+    flush_found begun (Err (ReadOnly m)) flushed refused cause made acts o frozen = flush_rest begun (ReadOnly m) (λ m f e. absurd cc) refused made (acts.1 refl) o frozen
+    flush_found begun (Err NoMemory) flushed refused cause made acts o frozen = flush_rest begun NoMemory (λ m f e. absurd cc) refused made (acts.1 refl) o frozen
+    flush_found begun (Err (Full m end need capacity)) flushed refused cause made acts o frozen = flush_rest begun (Full m end need capacity) (λ m f e. absurd cc) refused made (acts.1 refl) o frozen
+    flush_found begun (Err (Gone front)) flushed refused cause made acts o frozen = flush_rest begun (Gone front) (λ m f e. absurd cc) refused made (acts.1 refl) o frozen
+    flush_found begun (Err (Busy m g)) flushed refused cause made acts o frozen = flush_rest begun (Busy m g) (λ m f e. absurd cc) refused made (acts.1 refl) o frozen
+    flush_found begun (Err (Worn m)) flushed refused cause made acts o frozen = flush_rest begun (Worn m) (λ m f e. absurd cc) refused made (acts.1 refl) o frozen
+    flush_found begun (Err Idle) flushed refused cause made acts o frozen = flush_rest begun Idle (λ m f e. absurd cc) refused made (acts.1 refl) o frozen
+    flush_found begun (Err (Damaged m at)) flushed refused cause made acts o frozen = flush_rest begun (Damaged m at) (λ m f e. absurd cc) refused made (acts.1 refl) o frozen
 
     -- COMPACTIONS THAT BEGIN
 
@@ -596,12 +621,12 @@ module _ {D P : Type 0} (Tells : Type 0) (files : D → Files) (PieceTells : Typ
         → (Tells → (k : VolumeKnown) → Stands files PieceTells old.logical k → IfOk answer (λ n. logical.IsFlushed files PieceTells k j n new.logical))
         → (Tells → (k : VolumeKnown) → Stands files PieceTells old.logical k → IfErr answer (logical.FlushRefused files PieceTells k j old.logical new.logical))
         → IfErr answer (logical.IsFlushFault faults (old.logical).settings (old.logical).number j (old.logical).replicas (new.logical).replicas)
-        → did ≡ flush_made j answer
+        → did ≡ flush_made j answer → (o : Option ℕ) → (new.logical).frozen ≡ o
         → GoesOn Tells files PieceTells faults fuses tag old new made
-        × Found Tells files PieceTells faults fuses tag old made (λ volume. FlushAnswer volume tag j answer)
-        × ((m f : ℕ) → answer ≡ Err (Failed m f) → FoundAlways Tells files PieceTells faults fuses tag old made (λ volume. FlushRefused volume tag j (Failed m f)))
-    flush_call begun flushed refused cause is =
-        flush_found Tells files PieceTells faults fuses tag old new both.0 both.1 change.ended j within begun answer flushed refused cause made (acts_by before did (flush_made j answer) made was is some none)
+        × Found Tells files PieceTells faults fuses tag old made (λ volume. FlushAnswer volume tag j (flush_answer o answer))
+        × ((m f : ℕ) → answer ≡ Err (Failed m f) → FoundAlways Tells files PieceTells faults fuses tag old made (λ volume. FlushRefused volume tag j (Failed m f) o))
+    flush_call begun flushed refused cause is o frozen =
+        flush_found Tells files PieceTells faults fuses tag old new both.0 both.1 change.ended j within begun answer flushed refused cause made (acts_by before did (flush_made j answer) made was is some none) o frozen
 
     pub begin_call : IsBegunBy tag j answer old.begun new.begun
         → (Tells → (k : VolumeKnown) → Stands files PieceTells old.logical k → IfOk answer (λ g. logical.IsBegun files PieceTells k j g new.logical))

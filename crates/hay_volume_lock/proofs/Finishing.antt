@@ -100,6 +100,11 @@ module _ {D P : Type 0} (Tells : Type 0) (files : D → Files) (PieceTells : Typ
         let same : m ≡ machine = some_is (frozen_known files PieceTells new.logical (logical.poised_at m k j) poised ∙ is) in
         subst (λ (n : ℕ). Stands files PieceTells new.logical (logical.poised_at n k j)) same poised
 
+    poised_by : (m machine : ℕ) (k : VolumeKnown) → k.frozen ≡ None → (new.logical).frozen ≡ Some machine → logical.StandsFailed files PieceTells m k j new.logical → machine ≡ m
+    poised_by m machine k thawed is (inl stands) =
+        absurd (none-some machine (sym thawed ∙ frozen_known files PieceTells new.logical (logical.change_at k j without_run) stands ∙ is))
+    poised_by m machine k thawed is (inr poised) = sym (some_is (frozen_known files PieceTells new.logical (logical.poised_at m k j) poised ∙ is))
+
     -- A REFUSAL
 
     module _ (frozen : Option ℕ) (frozen_is : (new.logical).frozen ≡ frozen) where
@@ -153,22 +158,23 @@ module _ {D P : Type 0} (Tells : Type 0) (files : D → Files) (PieceTells : Typ
             begun = sym owner_is;
           }
 
-          unswapped_as : (fault : LogicalFault) (o : Option ℕ) → Told fault → logical.IsRunFault faults (old.logical).settings (old.logical).number j (old.logical).replicas (new.logical).replicas fault
+          unswapped_as : (fault : LogicalFault) (o : Option ℕ) → (new.logical).frozen ≡ o → Told fault → logical.IsRunFault faults (old.logical).settings (old.logical).number j (old.logical).replicas (new.logical).replicas fault
               → Behind (unswapped_made j fault o) act → Unswapped volume tag j fault o (owner j) a b
-          unswapped_as (Failed m f) None told cause is =
+          unswapped_as (Failed m f) None frozen_as told cause is =
               let failed = failed_now m f cause in
               (failed.0, record { held = held; made = Some act; holding = holding; is = (ap (λ (z : VolumeAct). did_of z.did) is, found_run, failed.1) })
-          unswapped_as (Failed m f) (Some machine) told cause is =
+          unswapped_as (Failed m f) (Some machine) frozen_as told cause is =
               let failed = failed_now m f cause in
-              (failed.0, record { held = held; made = Some act; holding = holding; is = (ap (λ (z : VolumeAct). did_of z.did) is, found_run, failed.1) })
-          unswapped_as NoMemory o told cause is = record { held = held; made = Some act; holding = holding; is = (ap (λ (z : VolumeAct). did_of z.did) is, found_run) }
-          unswapped_as (Damaged m place) o told cause is = absurd (told tells now_known now_stands)
-          unswapped_as (ReadOnly m) o told cause is = absurd (not_frozen m told tells now_known now_stands)
-          unswapped_as Idle o told cause is = absurd (not_idle told tells now_known now_stands)
-          unswapped_as (Full m end need capacity) o told cause is = absurd (told tells now_known now_stands)
-          unswapped_as (Gone front) o told cause is = absurd (told tells now_known now_stands)
-          unswapped_as (Busy m g) o told cause is = absurd (told tells now_known now_stands)
-          unswapped_as (Worn m) o told cause is = absurd (told tells now_known now_stands)
+              let r = told tells now_known now_stands in
+              ((failed.0, poised_by m machine now_known r.0 frozen_as r.3), record { held = held; made = Some act; holding = holding; is = (ap (λ (z : VolumeAct). did_of z.did) is, found_run, failed.1) })
+          unswapped_as NoMemory o frozen_as told cause is = record { held = held; made = Some act; holding = holding; is = (ap (λ (z : VolumeAct). did_of z.did) is, found_run) }
+          unswapped_as (Damaged m place) o frozen_as told cause is = absurd (told tells now_known now_stands)
+          unswapped_as (ReadOnly m) o frozen_as told cause is = absurd (not_frozen m told tells now_known now_stands)
+          unswapped_as Idle o frozen_as told cause is = absurd (not_idle told tells now_known now_stands)
+          unswapped_as (Full m end need capacity) o frozen_as told cause is = absurd (told tells now_known now_stands)
+          unswapped_as (Gone front) o frozen_as told cause is = absurd (told tells now_known now_stands)
+          unswapped_as (Busy m g) o frozen_as told cause is = absurd (told tells now_known now_stands)
+          unswapped_as (Worn m) o frozen_as told cause is = absurd (told tells now_known now_stands)
 
       module _ (fault : LogicalFault) (act : VolumeAct) (told : Told fault)
           (cause : logical.IsRunFault faults (old.logical).settings (old.logical).number j (old.logical).replicas (new.logical).replicas fault) (is : Behind (unswapped_made j fault frozen) act) where
@@ -177,7 +183,7 @@ module _ {D P : Type 0} (Tells : Type 0) (files : D → Files) (PieceTells : Typ
         refused_goes = unswapped_goes fault frozen frozen_is told act is
 
         pub refused_found : Found Tells files PieceTells faults fuses tag old (Some act) (λ volume. Unswapped volume tag j fault frozen (owner j))
-        refused_found opened held h tells k s volume at a b holding = unswapped_as act refused_goes opened held h k volume at tells s a b holding fault frozen told cause is
+        refused_found opened held h tells k s volume at a b holding = unswapped_as act refused_goes opened held h k volume at tells s a b holding fault frozen frozen_is told cause is
 
         pub refused_failed : (m f : ℕ) → fault ≡ Failed m f → FoundAlways Tells files PieceTells faults fuses tag old (Some act) (λ volume. FailedHere volume tag j m f)
         refused_failed m f same opened held h k volume at a b holding =

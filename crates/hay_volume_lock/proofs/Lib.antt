@@ -1,4 +1,7 @@
 pub mod Counting
+pub mod Deleting
+pub mod Ending
+pub mod Erasing
 pub mod Examining
 pub mod Finding
 pub mod Finishing

@@ -83,7 +83,7 @@ gone_in (p ∷ row) zero = refl
 gone_in (p ∷ row) (suc j) = gone_in row j
 
 -- a place of a row of which one was set
-set_in : {P : Type 0} (row : List (Place P)) (i : ℕ) (there : Place P) (j : ℕ)
+pub set_in : {P : Type 0} (row : List (Place P)) (i : ℕ) (there : Place P) (j : ℕ)
     → (place_in (slice_set row i there) j ≡ place_in row j) ⊎ ((j ≡ i) × (place_in (slice_set row i there) j ≡ there))
 set_in [] i there j = inl refl
 set_in (p ∷ row) zero there zero = inr (refl, refl)

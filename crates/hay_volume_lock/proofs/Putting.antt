@@ -327,7 +327,7 @@ module _ {D P : Type 0} (Tells : Type 0) (files : D → Files) (PieceTells : Typ
 
 -- BY WHAT THE CALLS TELL
 
-tags_logged : {D : Type 0} (log : List (LogEntry D)) (item : LogEntry D) (counts : Bool) → counts ≡ true → map (λ e. e.tag) (logged counts log item) ≡ map (λ e. e.tag) log ++ item.tag ∷ []
+pub tags_logged : {D : Type 0} (log : List (LogEntry D)) (item : LogEntry D) (counts : Bool) → counts ≡ true → map (λ e. e.tag) (logged counts log item) ≡ map (λ e. e.tag) log ++ item.tag ∷ []
 tags_logged log item true is = map-append (λ e. e.tag) log (item ∷ [])
 tags_logged log item false is = absurd (cc is)
 

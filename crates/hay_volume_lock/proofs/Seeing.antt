@@ -1,5 +1,5 @@
 -- What a holding leaves that sees places, and what it tells.
-use Rattle.std.proofs.Common.{◌≡◌, inl, inr, ℕ, ◌+◌, ◌<◌, true, false, List, [], ◌++◌, length, Option, Some, None, refl, sym, ap, subst, ◌∙◌, append-nil, arith}
+use Rattle.std.proofs.Common.{◌≡◌, inl, inr, ℕ, ◌+◌, ◌<◌, Bool, true, false, List, [], ◌++◌, length, Option, Some, None, refl, sym, ap, subst, ◌∙◌, append-nil, arith}
 use Rattle.std.specs.Prelude.{fold, map, Ok, slice_index_or, slice_set}
 use Rattle.std.proofs.lemmas.Bool.{cond-true}
 use Rattle.hay_core.specs.declared.entry.CoreTag.{CoreTag}
@@ -25,6 +25,7 @@ use Rattle.hay_logical.specs.Stands.{Stands}
 use Rattle.hay_logical.specs.Steps.{SetsPlaceAt}
 use Rattle.hay_logical.specs.Volumes.{IsOpenVolume, IsSame, KeepsCounts, Volume}
 use Rattle.hay_logical.proofs.Lists.{at_below, at_same, at_there, length-slice_set}
+use Rattle.hay_logical.proofs.Methods.{shown}
 use Rattle.hay_map.specs.MapRows.{MapRows}
 use Rattle.hay_map.specs.Places.{PlaceMeans, place_in}
 use Rattle.hay_map.specs.Rows.{FitsRows, changed_row, row_at}
@@ -49,6 +50,7 @@ use Rattle.hay_volume_lock.specs.Acts.{act_of, counts}
 use Rattle.hay_volume_lock.specs.Answers.{FailedLook, Found, FoundAlways}
 use Rattle.hay_volume_lock.specs.Changes.{SeeAnswer, SeeRefused, freezes_by}
 use Rattle.hay_volume_lock.specs.Keeping.{GoesOn, IsKept, standing_of, stood_of}
+use Rattle.hay_volume_lock.specs.Rows.{PlaceTells}
 use Rattle.hay_volume_lock.specs.Tries.{IsTried, tried_made}
 use Rattle.hay_volume_lock.specs.declared.act.Made.TheVariants as made_is
 use Rattle.hay_volume_lock.specs.declared.guarded.Guarded.{Guarded}
@@ -64,14 +66,50 @@ View D P = Witness (MapPast P (Volume D P)) (Volume D P) (Published P)
 
 -- WHAT A PLACE MEANS
 
-pub seen_means : {D P : Type 0} (files : D → Files) (PieceTells : Type 0) (r : Copy D) (pair : Pair) (p : Place P) (what : Outcome) → IsSeen p → PlaceStands files PieceTells r pair p what → PlaceMeans PieceTells pair p what
+pub seen_means : {D P : Type 0} (files : D → Files) (PieceTells : Type 0) (r : Copy D) (pair : Pair) (p : Place P) (what : Outcome) → IsSeen p → PlaceStands files PieceTells r pair p what
+    → PlaceMeans PieceTells pair p what
 seen_means files PieceTells r pair (place.Live needle) what seen stands = stands
 seen_means files PieceTells r pair place.None what seen stands = stands
 seen_means files PieceTells r pair place.Gone what seen stands = stands
 seen_means files PieceTells r pair (place.Unseen at size) what seen stands = absurd seen
 
+stands_tells : {D P : Type 0} (files : D → Files) (PieceTells : Type 0) (r : Copy D) (pair : Pair) (p : Place P) (what : Outcome) → PlaceStands files PieceTells r pair p what
+    → PlaceTells PieceTells pair p what
+stands_tells files PieceTells r pair (place.Live needle) what stands = stands
+stands_tells files PieceTells r pair place.None what stands = stands
+stands_tells files PieceTells r pair place.Gone what stands = stands
+stands_tells files PieceTells r pair (place.Unseen at size) what stands = tt
+
+places_known : {D P : Type 0} (Tells : Type 0) (files : D → Files) (PieceTells : Type 0) (faults fuses : D → ℕ) (volume : Volume D P) (k : VolumeKnown) → Stands files PieceTells volume k
+    → (pair : Pair) (j : ℕ) → j < (volume.settings).replicas → PlaceTells PieceTells pair (place_in (row_at volume.rows pair) j) (outcome_at (now k (replica_at k j)) pair)
+unfolding Stands
+places_known Tells files PieceTells faults fuses volume k s pair j less =
+    let r = at_there volume.replicas j (let all = s.all in omega (arith, all, less)) in
+    stands_tells files PieceTells r.0 pair (place_in (row_at volume.rows pair) j) (outcome_at (now k (replica_at k j)) pair)
+    (shown volume.settings volume.number Tells files PieceTells faults fuses volume.replicas volume.rows volume.front volume.frozen volume.unsure k s pair j r.0 r.1)
+
+-- what was looked up: the front, the place of this replica, and the places that were looked at
+abbrev pub IsLooked : {D P : Type 0} → Type 0 → Volume D P → Pair → ℕ → Looked P → VolumeKnown → Type 0
+IsLooked PieceTells volume pair replica looked k =
+    (looked.front ≡ length k.log) × PlaceMeans PieceTells pair (place_in looked.row replica) (outcome_at (now k (replica_at k replica)) pair)
+    × ((j : ℕ) → j < (volume.settings).replicas → PlaceTells PieceTells pair (place_in looked.row j) (outcome_at (now k (replica_at k j)) pair))
+
+pub see_known : {D P : Type 0} (Tells : Type 0) (files : D → Files) (PieceTells : Type 0) (faults fuses : D → ℕ) (old new : Volume D P) (pair : Pair) (replica : ℕ) (looked : Looked P)
+    → new.settings ≡ old.settings
+    → looked.row ≡ row_at new.rows pair → (Tells → (k : VolumeKnown) → Stands files PieceTells old k → Stands files PieceTells new k)
+    → (Tells → (k : VolumeKnown) → Stands files PieceTells old k → (looked.front ≡ length k.log) × PlaceMeans PieceTells pair (place_in looked.row replica) (outcome_at (now k (replica_at k replica)) pair))
+    → Tells → (k : VolumeKnown) → Stands files PieceTells old k → IsLooked PieceTells old pair replica looked k
+see_known Tells files PieceTells faults fuses old new pair replica looked settings row stands known tells k s =
+    let q = known tells k s in (
+      q.0,
+      q.1,
+      λ j less. subst (λ (places : List (Place _)). PlaceTells PieceTells pair (place_in places j) (outcome_at (now k (replica_at k j)) pair)) (sym row)
+          (places_known Tells files PieceTells faults fuses new k (stands tells k s) pair j (subst (λ (z : Settings). j < z.replicas) (sym settings) less)),
+    )
+
 -- a view shows nothing of an act that changed nothing
-pub tried_quiet : {D : Type 0} (faults fuses : D → ℕ) (tag : CoreTag) (before : List ℕ) (copies : List (Copy D)) (made : Option VolumeAct) → IsTried faults fuses tag before copies made → entries volume_lock (acts_in made) ≡ []
+pub tried_quiet : {D : Type 0} (faults fuses : D → ℕ) (tag : CoreTag) (before : List ℕ) (copies : List (Copy D)) (made : Option VolumeAct) → IsTried faults fuses tag before copies made
+    → entries volume_lock (acts_in made) ≡ []
 tried_quiet faults fuses tag before copies None tried = refl
 tried_quiet faults fuses tag before copies (Some act) tried = ap (λ (z : VolumeAct). add_shown (entry_of z.did) []) tried.is
 
@@ -191,7 +229,8 @@ module _ {D P : Type 0} (Tells : Type 0) (files : D → Files) (PieceTells : Typ
       ∙ ap (fold apply_entry (now k (replica_at k j))) (sym h.entered)
 
   pub seen_may : (deed : Published P) (opened : Opened D P) (held : List VolumeAct) (old mid : Guarded D P) → IsKept Tells files PieceTells faults fuses opened held old → Sees old mid
-      → Holds (Fact Tells files PieceTells) (mid.front).shown → (pair : Pair) (replica : ℕ) (there : Place P) → deed ≡ record { change = op.Seen pair replica there; entered = [] } → replica < ((old.logical).settings).replicas
+      → Holds (Fact Tells files PieceTells) (mid.front).shown → (pair : Pair) (replica : ℕ) (there : Place P) → deed ≡ record { change = op.Seen pair replica there; entered = [] }
+      → replica < ((old.logical).settings).replicas
       → (Tells → (k : VolumeKnown) → Stands files PieceTells mid.logical k → PlaceMeans PieceTells pair there (outcome_at (now k (replica_at k replica)) pair))
       → MayPublish (Fact Tells files PieceTells) (mid.front).shown deed
   seen_may deed opened held old mid h sees fact pair replica there is within means =
@@ -210,7 +249,7 @@ module _ {D P : Type 0} (Tells : Type 0) (files : D → Files) (PieceTells : Typ
 
   module _ (pair : Pair) (replica : ℕ) where
     pub seen_found : (old : Guarded D P) (made : Option VolumeAct) → entries volume_lock (acts_in made) ≡ [] → MadeNothing made → (looked : Looked P)
-        → (Tells → (k : VolumeKnown) → Stands files PieceTells old.logical k → (looked.front ≡ length k.log) × PlaceMeans PieceTells pair (place_in looked.row replica) (outcome_at (now k (replica_at k replica)) pair))
+        → (Tells → (k : VolumeKnown) → Stands files PieceTells old.logical k → IsLooked PieceTells old.logical pair replica looked k)
         → Found Tells files PieceTells faults fuses tag old made (λ volume. SeeAnswer volume tag PieceTells pair replica (Ok looked))
     seen_found old made quiet nothing looked known opened held h tells k s volume at a b holding =
         let r = known tells (stood_of faults fuses opened k held).volume (h.stands tells k s) in
@@ -225,6 +264,11 @@ module _ {D P : Type 0} (Tells : Type 0) (files : D → Files) (PieceTells : Typ
               ∙ ap (λ (z : Standing). fold apply_entry (now z.volume (replica_at z.volume replica)) (entries volume_lock held)) (sym at.start)
               ∙ ap (fold apply_entry (now ((volume.start).volumes volume.number).volume (replica_at ((volume.start).volumes volume.number).volume replica))) (sym shown))
               r.1;
+          places = λ i less. subst (λ (table : Table). PlaceTells PieceTells pair (place_in looked.row i) (outcome_at table pair))
+              (table_behind (opened.volume).settings (opened.volume).number (standing_of faults fuses opened k) held i (h.follows tells k s)
+              ∙ ap (λ (z : Standing). fold apply_entry (now z.volume (replica_at z.volume i)) (entries volume_lock held)) (sym at.start)
+              ∙ ap (fold apply_entry (now ((volume.start).volumes volume.number).volume (replica_at ((volume.start).volumes volume.number).volume i))) (sym shown))
+              (r.2 i (subst (λ (z : Settings). i < z.replicas) (at.settings ∙ sym h.same_settings) less));
         }
 
     -- A LOOK THAT WAS REFUSED
@@ -329,13 +373,26 @@ module _ {D P : Type 0} (Tells : Type 0) (files : D → Files) (PieceTells : Typ
 -- BY WHAT THE CALLS TELL
 
 -- a place that was looked at
-pub look_known : {D P : Type 0} (Tells : Type 0) (files : D → Files) (PieceTells : Type 0) (old : Volume D P) (pair : Pair) (replica : ℕ) (looked : Looked P) → replica < length old.replicas → IsSeen (place_in looked.row replica)
+pub look_known : {D P : Type 0} (Tells : Type 0) (files : D → Files) (PieceTells : Type 0) (old : Volume D P) (pair : Pair) (replica : ℕ) (looked : Looked P) → replica < length old.replicas
+    → IsSeen (place_in looked.row replica)
     → (Tells → (k : VolumeKnown) → Stands files PieceTells old k → (looked.front ≡ length k.log)
     × ((j : ℕ) (r : Copy D) → At old.replicas j r → PlaceStands files PieceTells r pair (place_in looked.row j) (outcome_at (now k (replica_at k j)) pair)))
-    → Tells → (k : VolumeKnown) → Stands files PieceTells old k → (looked.front ≡ length k.log) × PlaceMeans PieceTells pair (place_in looked.row replica) (outcome_at (now k (replica_at k replica)) pair)
+    → Tells → (k : VolumeKnown) → Stands files PieceTells old k
+    → (looked.front ≡ length k.log) × PlaceMeans PieceTells pair (place_in looked.row replica) (outcome_at (now k (replica_at k replica)) pair)
 look_known Tells files PieceTells old pair replica looked less seen known tells k s =
     let r = at_there old.replicas replica less in let q = known tells k s in
     (q.0, seen_means files PieceTells r.0 pair (place_in looked.row replica) (outcome_at (now k (replica_at k replica)) pair) seen (q.1 replica r.0 r.1))
+
+-- a row has a place for each replica of what stood where the lock was made
+pub long_at : {D P : Type 0} (opened o : Opened D P) (kept : Guarded D P) (n : ℕ) → n ≡ ((kept.logical).settings).replicas → (kept.logical).settings ≡ (opened.volume).settings
+    → ◌≡◌ {A = Option (Opened D P)} (Some opened) (Some o) → n ≡ ((o.volume).settings).replicas
+long_at opened o kept n long settings same =
+    let one : opened ≡ o = cc same in long ∙ ap (λ (s : Settings). s.replicas) settings ∙ ap (λ (z : Opened _ _). ((z.volume).settings).replicas) one
+
+-- a place that was not looked at
+pub unseen : {P : Type 0} (looked row : List (Place P)) (replica : ℕ) (seen : Bool) → (IsSeen (place_in looked replica) → seen ≡ true) → seen ≡ false → looked ≡ row → IsSeen (place_in row replica) → ⊥
+unseen looked row replica seen tells not same is =
+    let yes = tells (subst (λ (places : List (Place _)). IsSeen (place_in places replica)) (sym same) is) in let wrong : true ≡ false = sym yes ∙ not in cc wrong
 
 -- the row is as long as before
 pub row_long : {P : Type 0} (pair : Pair) (replica : ℕ) (there : Place P) (old new : MapRows P) → SetsPlaceAt pair replica there old new → length (row_at new pair) ≡ length (row_at old pair)

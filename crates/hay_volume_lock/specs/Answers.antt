@@ -1,5 +1,5 @@
 -- What the calls at a volume answer, as steps of a lane.
-use Rattle.std.specs.Prelude.{◌≡◌, ◌⊎◌, ℕ, List, Option, Some, None, Result, Ok, Err}
+use Rattle.std.specs.Prelude.{◌≡◌, ℕ, List, Option, Some, None, Result, Ok, Err}
 use Rattle.hay_core.specs.declared.entry.CoreTag.{CoreTag}
 use Rattle.hay_disk.specs.Disk.{Files}
 use Rattle.hay_legal.specs.declared.known.VolumeKnown.{VolumeKnown}
@@ -18,6 +18,7 @@ use Rattle.hay_holdings.specs.Volumes.{BeginFailed, Begun, ChangedNothing, Flush
 use Rattle.hay_volume_lock.specs.Keeping.{IsKept, standing_of}
 use Rattle.hay_volume_lock.specs.declared.guarded.Guarded.{Guarded}
 use Rattle.hay_volume_lock.specs.declared.guarded.Opened.{Opened}
+use Rattle.hay_volume_lock.specs.declared.refusals.Unflushed.{Unflushed}
 
 -- WHAT STOOD
 
@@ -67,12 +68,9 @@ OneLook a b = Looked a b
 abbrev pub Never : VolumeCall
 Never a b = ⊥
 
--- both are so, and one is
+-- both are so
 abbrev pub Where : Type 0 → VolumeCall → VolumeCall
 Where IsSo Is a b = IsSo × Is a b
-
-abbrev pub Or : VolumeCall → VolumeCall → VolumeCall
-Or Is IsElse a b = Is a b ⊎ IsElse a b
 
 module _ (volume : StoreVolume) (tag : CoreTag) where
   -- WHETHER IT TAKES A CHANGE
@@ -103,22 +101,25 @@ module _ (volume : StoreVolume) (tag : CoreTag) where
 
   -- FLUSHES
 
-  abbrev pub FlushRefused : ℕ → LogicalFault → VolumeCall
-  FlushRefused j (ReadOnly m) =
-      Or (MetFrozen volume.settings volume.start volume.number tag m)
-      (Where (m ≡ machine_of volume.settings volume.number j) (MetStuck volume.settings volume.start volume.number tag j))
-  FlushRefused j (Failed m f) = Where (m ≡ machine_of volume.settings volume.number j) (FlushFailed volume.settings volume.start volume.number tag j f)
-  FlushRefused j NoMemory = ChangedNothing volume.settings volume.start volume.number tag
-  FlushRefused j (Full m end need capacity) = Never
-  FlushRefused j (Gone front) = Never
-  FlushRefused j (Busy m g) = Never
-  FlushRefused j (Worn m) = Never
-  FlushRefused j Idle = Never
-  FlushRefused j (Damaged m at) = Never
+  -- The volume is frozen, by the machine that is told; or it is not, and an earlier flush of the replica had failed.
+  abbrev pub FlushBarred : ℕ → ℕ → Option ℕ → VolumeCall
+  FlushBarred j m (Some by) = MetFrozen volume.settings volume.start volume.number tag m
+  FlushBarred j m None = Where (m ≡ machine_of volume.settings volume.number j) (MetStuck volume.settings volume.start volume.number tag j)
 
-  abbrev pub FlushAnswer : ℕ → Result ℕ LogicalFault → VolumeCall
+  abbrev pub FlushRefused : ℕ → LogicalFault → Option ℕ → VolumeCall
+  FlushRefused j (ReadOnly m) frozen = FlushBarred j m frozen
+  FlushRefused j (Failed m f) frozen = Where (m ≡ machine_of volume.settings volume.number j) (FlushFailed volume.settings volume.start volume.number tag j f)
+  FlushRefused j NoMemory frozen = ChangedNothing volume.settings volume.start volume.number tag
+  FlushRefused j (Full m end need capacity) frozen = Never
+  FlushRefused j (Gone front) frozen = Never
+  FlushRefused j (Busy m g) frozen = Never
+  FlushRefused j (Worn m) frozen = Never
+  FlushRefused j Idle frozen = Never
+  FlushRefused j (Damaged m at) frozen = Never
+
+  abbrev pub FlushAnswer : ℕ → Result ℕ Unflushed → VolumeCall
   FlushAnswer j (Ok n) = Flushed volume.settings volume.start volume.number tag j n
-  FlushAnswer j (Err fault) = FlushRefused j fault
+  FlushAnswer j (Err unflushed) = FlushRefused j unflushed.fault unflushed.frozen
 
   -- COMPACTIONS THAT BEGIN
 

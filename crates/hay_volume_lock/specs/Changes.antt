@@ -1,5 +1,5 @@
 -- What calls that change a volume answer, or see its places, as steps of a lane.
-use Rattle.std.specs.Prelude.{◌≡◌, ℕ, List, length, Option, Some, None, option_map, Bool, true, false, Result, Ok, Err}
+use Rattle.std.specs.Prelude.{◌≡◌, ℕ, ◌<◌, List, length, Option, Some, None, option_map, Bool, true, false, Result, Ok, Err}
 use Rattle.hay_core.specs.declared.entry.CoreTag.{CoreTag}
 use Rattle.hay_core.specs.declared.entry.Entry.{Entry}
 use Rattle.hay_holdings.specs.Holdings.{Called}
@@ -17,6 +17,7 @@ use Rattle.hay_needle.specs.declared.needle.Cookie.{Cookie}
 use Rattle.hay_needle.specs.declared.needle.Pair.{Pair}
 use Rattle.hay_reply.specs.declared.Refused.TheVariants.{NoRoom}
 use Rattle.hay_volume_lock.specs.Answers.{FailedLook, Never, StoreVolume, Where}
+use Rattle.hay_volume_lock.specs.Rows.{PlaceTells}
 use Rattle.hay_volume_lock.specs.declared.act.Made.{Made}
 use Rattle.hay_volume_lock.specs.declared.act.Made.TheVariants as made
 
@@ -52,11 +53,12 @@ module _ (volume : StoreVolume) (tag : CoreTag) where
 
   -- PLACES THAT ARE SEEN
 
-  -- the place is the one of the photo that the replica had at the front that is shown
+  -- The place is the one of the photo that the replica had at the front that is shown. So is each other place that was looked at.
   pub record PlaceSeen {P : Type 0} (PieceTells : Type 0) (pair : Pair) (j : ℕ) (looked : Looked P) (a b : LockSight VolumeAct Entry) : Type 0 where
     pub call : ChangedNothing volume.settings volume.start volume.number tag a b
     pub front : looked.front ≡ front_shown volume.start volume.number b.shown
     pub means : PlaceMeans PieceTells pair (place_in looked.row j) (outcome_at (table_shown volume.start volume.number j b.shown) pair)
+    pub places : (i : ℕ) → i < (volume.settings).replicas → PlaceTells PieceTells pair (place_in looked.row i) (outcome_at (table_shown volume.start volume.number i b.shown) pair)
 
   abbrev pub SeeRefused : ℕ → LogicalFault → VolumeCall
   SeeRefused j (Failed m f) = FailedLook volume tag j m f

@@ -128,11 +128,11 @@ module _ (volume : StoreVolume) (tag : CoreTag) where
   abbrev pub StepAnswer : ℕ → ℕ → Examined → VolumeCall
   StepAnswer j cells examined = StepStops j cells examined.cells examined.refused
 
-  -- the compaction that this line began did not end with a swap
+  -- The compaction that this line began did not end with a swap. A volume that was frozen then was so by the machine of the replica.
   abbrev pub Unswapped : ℕ → LogicalFault → Option ℕ → CoreTag → VolumeCall
   Unswapped j (Failed m f) None who = Where (m ≡ machine_of volume.settings volume.number j) (RunFailed volume.settings volume.start volume.number tag j who f)
   Unswapped j (Failed m f) (Some machine) who =
-      Where (m ≡ machine_of volume.settings volume.number j) (SwapFailed volume.settings volume.start volume.number tag j who machine f)
+      Where ((m ≡ machine_of volume.settings volume.number j) × (machine ≡ m)) (SwapFailed volume.settings volume.start volume.number tag j who machine f)
   Unswapped j NoMemory frozen who = RunWanted volume.settings volume.start volume.number tag j who
   Unswapped j (ReadOnly m) frozen who = Never
   Unswapped j Idle frozen who = Never

@@ -2,7 +2,9 @@ pub mod Acts
 pub mod Answers
 pub mod Changes
 pub mod Compactions
+pub mod Deletes
 pub mod Ended
+pub mod Finishes
 pub mod Keeping
 pub mod Opening
 pub mod Rows

@@ -11,6 +11,7 @@ use Rattle.hay_physical.specs.Copies.{Copy}
 use Rattle.hay_volume_lock.specs.Acts.{act_of, counts}
 use Rattle.hay_volume_lock.specs.declared.act.Made.{Made}
 use Rattle.hay_volume_lock.specs.declared.act.Made.TheVariants as made
+use Rattle.hay_volume_lock.specs.declared.refusals.Unflushed.{Unflushed}
 
 -- an act that changed nothing is made where a count has changed since it was so
 pub record IsTried {D : Type 0} (faults fuses : D → ℕ) (tag : CoreTag) (before : List ℕ) (replicas : List (Copy D)) (act : Option VolumeAct) : Type 0 where
@@ -32,6 +33,11 @@ stuck_made j (Damaged m at) = None
 abbrev pub flush_made : ℕ → Result ℕ LogicalFault → Option Made
 flush_made j (Ok n) = Some (made.Flushes j)
 flush_made j (Err fault) = stuck_made j fault
+
+-- what a flush answers, where the volume is frozen by this machine
+abbrev pub flush_answer : Option ℕ → Result ℕ LogicalFault → Result ℕ Unflushed
+flush_answer frozen (Ok n) = Ok n
+flush_answer frozen (Err fault) = Err (record { fault = fault; frozen = frozen })
 
 -- what a refused call that begins a compaction did, and such a call
 abbrev pub tried_made : LogicalFault → Option Made

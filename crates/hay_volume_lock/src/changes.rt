@@ -60,7 +60,7 @@ fn published<P: Piece>(written: &Written<P>, entry: &Entry) -> Published<P>
 }
 
 // A change that is pending where the volume is frozen by this machine.
-fn pended(frozen: Option<u32>, entry: &Entry, failed: bool) -> Option<Made>
+pub(crate) fn pended(frozen: Option<u32>, entry: &Entry, failed: bool) -> Option<Made>
     ensures { result ≡ pends_by frozen entry.now failed }
 {
     let machine = frozen?;

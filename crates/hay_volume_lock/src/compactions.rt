@@ -27,7 +27,7 @@ pub struct Examined {
 }
 
 // Why no compaction of the replica goes on that a line of this lane began, if none does.
-fn barred<D: Disk>(
+pub(crate) fn barred<D: Disk>(
     logical: &Logical<D>,
     begun: CoreTag,
     lane: u32,

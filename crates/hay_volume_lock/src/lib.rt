@@ -1,5 +1,6 @@
 //! A logical volume behind a lock, with its rows published for lanes that do not hold it. At a seat a lane looks at the rows, asks
-//! whether the volume is frozen and has room, flushes a replica, begins a compaction of one, and sets a fuse on its disk.
+//! whether the volume is frozen and has room, stores and deletes photos, sees places, flushes a replica, sets a fuse on its disk, and
+//! begins, steps and ends a compaction of it.
 //!
 //! A lane has a seat at each volume. A call at a seat holds the volume once, and tells what it found and what act it made; or it looks
 //! at the published rows without the lock. Clauses see of a seat what its lane knows of the volume, as `hay_meeting` has it, and each
@@ -19,19 +20,24 @@
 //! In `proofs/`, `Growing` has what an act makes of what stands behind the lock, `Finding` how the answers of a logical volume are
 //! those calls, `Holding` what a holding tells of its lane, `Telling` what a look at the published rows does, and `Opening` how a lock
 //! is made and ends. `Published` has what the rows tell behind one change more, `Publishing` what a holding leaves that publishes a
-//! change, and what it tells; `Putting` and `Seeing` are puts and places that are seen. `Examining` and `Stepping` are steps of a
-//! compaction, `Finishing` how one ends without a swap, `Swapping` and `Moving` the laws of a swap and of the places that it publishes,
-//! `Losing` and `Lost` how a line finds its compaction ended by other lanes, and `Tightening` what holds of one since whose beginning no
-//! entry came: the calls that end a compaction are not here yet, nor deletes.
+//! change, and what it tells; `Putting` and `Seeing` are puts and places that are seen, `Deleting` and `Erasing` deletes, which see
+//! each place first within the same holding. `Examining` and `Stepping` are steps of a compaction, `Finishing` how one ends without a
+//! swap, `Swapping`, `Moving` and `Ending` the laws of a swap and of the places that it publishes, `Losing` and `Lost` how a line finds its
+//! compaction ended by other lanes, and `Tightening` what holds of one since whose beginning no entry came: what a swap tells
+//! of sizes is not here yet.
 #![tactic(auto)]
 
 mod act;
 mod changes;
 mod compactions;
+mod compacts;
+mod deletes;
 mod ended;
+mod finishes;
 mod guarded;
 mod lock;
 mod making;
+mod refusals;
 mod seat;
 mod sights;
 mod told;
@@ -43,5 +49,6 @@ pub use ended::Ended;
 pub use guarded::{Guarded, Opened};
 pub use lock::VolumeLock;
 pub use making::{NewLock, SeatRoom};
+pub use refusals::{Finished, Uncompacted, Unfinished, Unflushed};
 pub use seat::VolumeSeat;
 pub use told::Told;

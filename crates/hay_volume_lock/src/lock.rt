@@ -1,5 +1,5 @@
 //! The lock, and the calls at a seat.
-ghost use Rattle.std.specs.Prelude.{◌≡◌, ℕ, Err};
+ghost use Rattle.std.specs.Prelude.{◌≡◌, ℕ, Option, Err};
 ghost use Rattle.hay_core.specs.declared.entry.CoreTag.{CoreTag};
 ghost use Rattle.hay_holdings.specs.Volumes.{Fused};
 ghost use Rattle.hay_volume_lock.specs.Answers.{BeginAnswer, FailedLook, FlushAnswer, FlushRefused, FrozenAnswer, IsAlways, IsTold, OneHolding, RoomAnswer};
@@ -7,8 +7,9 @@ ghost use Rattle.hay_volume_lock.specs.Seats.{HasReplica, IsSameSeat, MayAct, Re
 
 use crate::act::{Act, Made};
 use crate::guarded::Guarded;
+use crate::refusals::Unflushed;
 use crate::seat::VolumeSeat;
-use crate::tries::{act_made, begin_did, faults_of, flush_did, note_begun};
+use crate::tries::{act_made, begin_did, faults_of, flush_answer, flush_did, note_begun};
 use hay_core::CoreTag;
 use hay_disk::{Disk, Piece};
 use hay_logical::LogicalFault;
@@ -65,19 +66,19 @@ impl<D: Disk<Piece = P> + Send + Sync, P: Piece + Send + Sync> VolumeLock<D, P> 
     }
 
     /// Gives the cells of a replica without an index record theirs, and answers how many these were. `ReadOnly` comes where the
-    /// volume is frozen, or the replica's index, which `Failed` freezes.
+    /// volume is frozen, or the replica's index, which `Failed` freezes: a refusal tells which.
     pub fn flush<R: Wait>(
         &self,
         rt: &R,
         seat: &mut VolumeSeat<D, P>,
         tag: CoreTag,
         replica: u32,
-    ) -> Result<u64, LogicalFault>
+    ) -> Result<u64, Unflushed>
         requires may { MayAct self.now tag seat.old }
         requires within { HasReplica seat.old replica }
         ensures flushed { IsTold D.Tells D.files P.Tells D.fault_count D.fuse_count seat.old.start (λ volume. FlushAnswer volume tag replica result seat.old.sight seat.new.sight) }
-        ensures causes { (m f : ℕ) → result ≡ Err (LogicalFault.Failed m f) →
-            IsAlways D.fault_count D.fuse_count seat.old.start (λ volume. FlushRefused volume tag replica (LogicalFault.Failed m f) seat.old.sight seat.new.sight) }
+        ensures causes { (m f : ℕ) (frozen : Option ℕ) → result ≡ Err (record { fault = LogicalFault.Failed m f; frozen = frozen }) →
+            IsAlways D.fault_count D.fuse_count seat.old.start (λ volume. FlushRefused volume tag replica (LogicalFault.Failed m f) frozen seat.old.sight seat.new.sight) }
         ensures held { OneHolding tag seat.old.sight seat.new.sight }
         ensures same { IsSameSeat seat.old seat.new }
     {
@@ -85,10 +86,11 @@ impl<D: Disk<Piece = P> + Send + Sync, P: Piece + Send + Sync> VolumeLock<D, P> 
         kept.front.show_all(rt, &mut seat.view);
         let before = faults_of(&kept.logical, kept.settings.replicas);
         let answer = kept.logical.flush(replica);
+        let frozen = kept.logical.frozen();
         let did = flush_did(&answer, replica);
         let made = act_made(&kept.logical, kept.settings.replicas, &before, tag, did);
         self.turn.free(&mut seat.turn, kept, made);
-        answer
+        flush_answer(answer, frozen)
     }
 
     /// Begins a compaction of a replica for the line, and answers the generation that it makes. `Busy` comes where one stands, and

@@ -1,11 +1,13 @@
 //! Places that are seen at a seat.
-ghost use Rattle.std.specs.Prelude.{◌≡◌, ◌<◌, ◌↔◌, [], ℕ, length, IsTrue, Err};
+ghost use Rattle.std.specs.Prelude.{◌≡◌, ◌<◌, ◌↔◌, ◌⊎◌, [], ℕ, length, IsTrue, IfOk, Some, Err};
 ghost use Rattle.hay_compact.specs.Finishing.{IsSeen};
+ghost use Rattle.hay_logical.specs.Steps.{IsSeenBy};
 ghost use Rattle.hay_map.specs.Places.{place_in};
 ghost use Rattle.hay_volume_lock.specs.Answers.{FailedLook, IsAlways, IsTold, OneHolding};
 ghost use Rattle.hay_volume_lock.specs.Changes.{SeeAnswer, freezes_by};
 ghost use Rattle.hay_volume_lock.specs.Seats.{HasReplica, IsSameSeat, MayAct};
 ghost use Rattle.hay_volume_lock.specs.Tries.{tried_made};
+ghost use Rattle.hay_volume_lock.specs.declared.guarded.Opened.{Opened};
 
 use crate::act::Made;
 use crate::changes::front_tag;
@@ -94,6 +96,10 @@ impl<D: Disk<Piece = P> + Send + Sync, P: Piece + Send + Sync> VolumeLock<D, P> 
         ensures seen { IsTold D.Tells D.files P.Tells D.fault_count D.fuse_count seat.old.start (λ volume. SeeAnswer volume tag P.Tells pair replica result seat.old.sight seat.new.sight) }
         ensures causes { (m f : ℕ) → result ≡ Err (LogicalFault.Failed m f) →
             IsAlways D.fault_count D.fuse_count seat.old.start (λ volume. FailedLook volume tag replica m f seat.old.sight seat.new.sight) }
+        ensures long { (opened : Opened D P) → seat.old.start ≡ Some opened → IfOk result (λ looked. length looked.row ≡ opened.volume.settings.replicas) }
+        // On any disk the place is one that was seen. What `out` has then is its needle, where it was not looked at before.
+        ensures sighted { IfOk result (λ looked. IsSeen (place_in looked.row replica)) }
+        ensures needle { IfOk result (λ looked. (out.new.items ≡ out.old.items) ⊎ IsSeenBy D.Tells P.Tells out.new.items (place_in looked.row replica)) }
         ensures held { OneHolding tag seat.old.sight seat.new.sight }
         ensures same { IsSameSeat seat.old seat.new }
     {

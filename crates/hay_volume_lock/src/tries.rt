@@ -1,10 +1,11 @@
 //! The act of a holding, by what its call answered.
 ghost use Rattle.std.specs.Prelude.{◌≡◌, ◌↔◌, ◌≤◌, ◌<◌, length, IsTrue, IfSome, Some, None};
 ghost use Rattle.hay_volume_lock.specs.Acts.{act_of, counts};
-ghost use Rattle.hay_volume_lock.specs.Tries.{IsBegunBy, IsTried, begin_made, flush_made};
+ghost use Rattle.hay_volume_lock.specs.Tries.{IsBegunBy, IsTried, begin_made, flush_answer as answer_of, flush_made};
 ghost use Rattle.hay_volume_lock.specs.declared.act.Made.{Made};
 
 use crate::act::{Act, Made};
+use crate::refusals::Unflushed;
 use arrayvec::ArrayVec;
 use hay_core::CoreTag;
 use hay_disk::Disk;
@@ -60,6 +61,19 @@ pub(crate) fn flush_did(answer: &Result<u64, LogicalFault>, replica: u32) -> Opt
         Ok(_) => Some(Made::Flushes { replica }),
         Err(LogicalFault::Failed { .. }) => Some(Made::Sticks { replica }),
         Err(_) => None,
+    }
+}
+
+/// What a flush answers, where the volume is frozen by this machine.
+pub(crate) fn flush_answer(
+    answer: Result<u64, LogicalFault>,
+    frozen: Option<u32>,
+) -> Result<u64, Unflushed>
+    ensures { result ≡ answer_of frozen answer }
+{
+    match answer {
+        Ok(count) => Ok(count),
+        Err(fault) => Err(Unflushed { fault, frozen }),
     }
 }
 

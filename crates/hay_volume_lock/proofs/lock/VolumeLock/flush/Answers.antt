@@ -1,11 +1,13 @@
-use Rattle.std.proofs.Common.{refl, sym, ap, subst, ◌∙◌}
+use Rattle.std.proofs.Common.{ℕ, Option, refl, sym, ap, subst, ◌∙◌}
+use Rattle.std.specs.Prelude.{Result}
 use Rattle.hay_logical.specs.declared.fault.LogicalFault.TheVariants.{Failed}
 use Rattle.hay_turn.specs.Seats.{after_free}
 use Rattle.hay_turn.specs.Slots.{acts_in}
-use Rattle.hay_volume_lock.specs.Answers.{FlushAnswer, FlushRefused, IsAlways, IsTold, OneHolding}
+use Rattle.hay_volume_lock.specs.Answers.{FlushAnswer, FlushRefused, Found, FoundAlways, IsAlways, IsTold, OneHolding}
 use Rattle.hay_volume_lock.specs.Seats.{IsSameSeat, Seated}
 use Rattle.hay_volume_lock.specs.declared.guarded.Guarded.{Guarded}
-use Rattle.hay_volume_lock.proofs.Finding.{flush_call}
+use Rattle.hay_volume_lock.specs.declared.refusals.Unflushed.{Unflushed}
+use Rattle.hay_volume_lock.proofs.Finding.{flush_call, flush_failed_by}
 use Rattle.hay_volume_lock.proofs.Holding.{all_there, few_there, is_held, made_always, made_free, made_held, made_mine, made_same, made_seated, made_told, seat_of, within_it}
 use Rattle.hay_volume_lock.proofs.lock.VolumeLock.flush.Goals as goal
 
@@ -39,7 +41,7 @@ free-requires-clause-may g c =
     let found = flush_call g.D.Disk.Tells g.D.Disk.files g.P.Piece.Tells g.D.Disk.fault_count g.D.Disk.fuse_count c.args.tag c.hold-kept.result after
     (record { settings = refl; front = refl; ended = refl; same = c.flush-answer.ensures.same; is_open = c.flush-answer.ensures.open; counts = c.flush-answer.ensures.counts; still = c.flush-answer.ensures.still })
     c.args.replica within c.flush-answer.result c.faults_of-before.result.items c.faults_of-before.ensures c.flush_did-did.result c.act_made-made.result
-    c.act_made-made.ensures.did c.act_made-made.ensures.tried refl c.flush-answer.ensures.flushed c.flush-answer.ensures.refused c.flush-answer.ensures.causes c.flush_did-did.ensures in
+    c.act_made-made.ensures.did c.act_made-made.ensures.tried refl c.flush-answer.ensures.flushed c.flush-answer.ensures.refused c.flush-answer.ensures.causes c.flush_did-did.ensures c.frozen-frozen.result (sym c.frozen-frozen.ensures.is) in
     record {
       stands_for = made_free g.D.Disk.Tells g.D.Disk.files g.P.Piece.Tells g.D.Disk.fault_count g.D.Disk.fuse_count c.args.tag c.seat.inside.turn c.hold-kept.new.seat (after_free c.hold-kept.new.seat (acts_in c.act_made-made.result))
           c.seat.inside.view c.show_all.new.seat c.hold-kept.result after c.act_made-made.result c.seat.invariant c.hold-kept.ensures c.show_all.ensures.seen.0 c.show_all.ensures.seen.1 found.0 refl;
@@ -55,7 +57,7 @@ invariant_of-seat g c =
     let found = flush_call g.D.Disk.Tells g.D.Disk.files g.P.Piece.Tells g.D.Disk.fault_count g.D.Disk.fuse_count c.args.tag c.hold-kept.result after
     (record { settings = refl; front = refl; ended = refl; same = c.flush-answer.ensures.same; is_open = c.flush-answer.ensures.open; counts = c.flush-answer.ensures.counts; still = c.flush-answer.ensures.still })
     c.args.replica within c.flush-answer.result c.faults_of-before.result.items c.faults_of-before.ensures c.flush_did-did.result c.act_made-made.result
-    c.act_made-made.ensures.did c.act_made-made.ensures.tried refl c.flush-answer.ensures.flushed c.flush-answer.ensures.refused c.flush-answer.ensures.causes c.flush_did-did.ensures in
+    c.act_made-made.ensures.did c.act_made-made.ensures.tried refl c.flush-answer.ensures.flushed c.flush-answer.ensures.refused c.flush-answer.ensures.causes c.flush_did-did.ensures c.frozen-frozen.result (sym c.frozen-frozen.ensures.is) in
     made_seated g.D.Disk.Tells g.D.Disk.files g.P.Piece.Tells g.D.Disk.fault_count g.D.Disk.fuse_count c.args.tag c.seat.inside.turn c.hold-kept.new.seat c.free.new.seat
     c.seat.inside.view c.show_all.new.seat c.hold-kept.result after c.act_made-made.result c.seat.invariant c.hold-kept.ensures c.show_all.ensures.seen.0 c.show_all.ensures.seen.1 found.0 c.free.ensures (ap (λ (s : Seated g.row.D.Denot g.row.P.Denot). s.number) c.seat.view_is ∙ c.requires.may.lane)
 
@@ -67,26 +69,30 @@ returns-clause-flushed g c =
     let found = flush_call g.D.Disk.Tells g.D.Disk.files g.P.Piece.Tells g.D.Disk.fault_count g.D.Disk.fuse_count c.args.tag c.hold-kept.result after
     (record { settings = refl; front = refl; ended = refl; same = c.flush-answer.ensures.same; is_open = c.flush-answer.ensures.open; counts = c.flush-answer.ensures.counts; still = c.flush-answer.ensures.still })
     c.args.replica within c.flush-answer.result c.faults_of-before.result.items c.faults_of-before.ensures c.flush_did-did.result c.act_made-made.result
-    c.act_made-made.ensures.did c.act_made-made.ensures.tried refl c.flush-answer.ensures.flushed c.flush-answer.ensures.refused c.flush-answer.ensures.causes c.flush_did-did.ensures in
+    c.act_made-made.ensures.did c.act_made-made.ensures.tried refl c.flush-answer.ensures.flushed c.flush-answer.ensures.refused c.flush-answer.ensures.causes c.flush_did-did.ensures c.frozen-frozen.result (sym c.frozen-frozen.ensures.is) in
     subst (λ (s : Seated g.row.D.Denot g.row.P.Denot). IsTold g.D.Disk.Tells g.D.Disk.files g.P.Piece.Tells g.D.Disk.fault_count g.D.Disk.fuse_count s.start
-    (λ volume. FlushAnswer volume c.args.tag c.args.replica c.flush-answer.result s.sight (seat_of c.free.new.seat c.show_all.new.seat).sight)) c.seat.view_is
+    (λ volume. FlushAnswer volume c.args.tag c.args.replica c.flush_answer.result s.sight (seat_of c.free.new.seat c.show_all.new.seat).sight)) c.seat.view_is
     (made_told g.D.Disk.Tells g.D.Disk.files g.P.Piece.Tells g.D.Disk.fault_count g.D.Disk.fuse_count c.args.tag c.seat.inside.turn c.hold-kept.new.seat c.free.new.seat
     c.seat.inside.view c.show_all.new.seat c.hold-kept.result after c.act_made-made.result c.seat.invariant c.hold-kept.ensures c.show_all.ensures.seen.0 c.show_all.ensures.seen.1 found.0 c.free.ensures
-    (λ volume. FlushAnswer volume c.args.tag c.args.replica c.flush-answer.result) found.1)
+    (λ volume. FlushAnswer volume c.args.tag c.args.replica c.flush_answer.result)
+    (subst (λ (r : Result ℕ Unflushed). Found g.D.Disk.Tells g.D.Disk.files g.P.Piece.Tells g.D.Disk.fault_count g.D.Disk.fuse_count c.args.tag c.hold-kept.result c.act_made-made.result (λ volume. FlushAnswer volume c.args.tag c.args.replica r)) (sym c.flush_answer.ensures) found.1))
 
 pub returns-clause-causes : goal.returns-clause-causes
-returns-clause-causes g c = λ m f is.
+returns-clause-causes g c = λ m f o is.
     let within = within_it g.D.Disk.Tells g.D.Disk.files g.P.Piece.Tells g.D.Disk.fault_count g.D.Disk.fuse_count c.seat.invariant c.hold-kept.ensures c.args.replica
     (c.requires.within c.seat.invariant.opened (sym (ap (λ (s : Seated g.row.D.Denot g.row.P.Denot). s.start) c.seat.view_is) ∙ c.seat.invariant.is)) in
     let after : Guarded g.row.D.Denot g.row.P.Denot = record c.hold-kept.result { logical = c.flush-answer.new.self } in
     let found = flush_call g.D.Disk.Tells g.D.Disk.files g.P.Piece.Tells g.D.Disk.fault_count g.D.Disk.fuse_count c.args.tag c.hold-kept.result after
     (record { settings = refl; front = refl; ended = refl; same = c.flush-answer.ensures.same; is_open = c.flush-answer.ensures.open; counts = c.flush-answer.ensures.counts; still = c.flush-answer.ensures.still })
     c.args.replica within c.flush-answer.result c.faults_of-before.result.items c.faults_of-before.ensures c.flush_did-did.result c.act_made-made.result
-    c.act_made-made.ensures.did c.act_made-made.ensures.tried refl c.flush-answer.ensures.flushed c.flush-answer.ensures.refused c.flush-answer.ensures.causes c.flush_did-did.ensures in
-    subst (λ (s : Seated g.row.D.Denot g.row.P.Denot). IsAlways g.D.Disk.fault_count g.D.Disk.fuse_count s.start (λ volume. FlushRefused volume c.args.tag c.args.replica (Failed m f) s.sight (seat_of c.free.new.seat c.show_all.new.seat).sight)) c.seat.view_is
+    c.act_made-made.ensures.did c.act_made-made.ensures.tried refl c.flush-answer.ensures.flushed c.flush-answer.ensures.refused c.flush-answer.ensures.causes c.flush_did-did.ensures c.frozen-frozen.result (sym c.frozen-frozen.ensures.is) in
+    subst (λ (s : Seated g.row.D.Denot g.row.P.Denot). IsAlways g.D.Disk.fault_count g.D.Disk.fuse_count s.start (λ volume. FlushRefused volume c.args.tag c.args.replica (Failed m f) o s.sight (seat_of c.free.new.seat c.show_all.new.seat).sight)) c.seat.view_is
     (made_always g.D.Disk.Tells g.D.Disk.files g.P.Piece.Tells g.D.Disk.fault_count g.D.Disk.fuse_count c.args.tag c.seat.inside.turn c.hold-kept.new.seat c.free.new.seat
     c.seat.inside.view c.show_all.new.seat c.hold-kept.result after c.act_made-made.result c.seat.invariant c.hold-kept.ensures c.show_all.ensures.seen.0 c.show_all.ensures.seen.1 found.0 c.free.ensures
-    (λ volume. FlushRefused volume c.args.tag c.args.replica (Failed m f)) (found.2 m f is))
+    (λ volume. FlushRefused volume c.args.tag c.args.replica (Failed m f) o)
+    (subst (λ (z : Option ℕ). FoundAlways g.D.Disk.Tells g.D.Disk.files g.P.Piece.Tells g.D.Disk.fault_count g.D.Disk.fuse_count c.args.tag c.hold-kept.result c.act_made-made.result
+    (λ volume. FlushRefused volume c.args.tag c.args.replica (Failed m f) z)) (flush_failed_by c.frozen-frozen.result c.flush-answer.result m f o (sym c.flush_answer.ensures ∙ is)).1
+    (found.2 m f (flush_failed_by c.frozen-frozen.result c.flush-answer.result m f o (sym c.flush_answer.ensures ∙ is)).0)))
 
 pub returns-clause-held : goal.returns-clause-held
 returns-clause-held g c =
@@ -96,7 +102,7 @@ returns-clause-held g c =
     let found = flush_call g.D.Disk.Tells g.D.Disk.files g.P.Piece.Tells g.D.Disk.fault_count g.D.Disk.fuse_count c.args.tag c.hold-kept.result after
     (record { settings = refl; front = refl; ended = refl; same = c.flush-answer.ensures.same; is_open = c.flush-answer.ensures.open; counts = c.flush-answer.ensures.counts; still = c.flush-answer.ensures.still })
     c.args.replica within c.flush-answer.result c.faults_of-before.result.items c.faults_of-before.ensures c.flush_did-did.result c.act_made-made.result
-    c.act_made-made.ensures.did c.act_made-made.ensures.tried refl c.flush-answer.ensures.flushed c.flush-answer.ensures.refused c.flush-answer.ensures.causes c.flush_did-did.ensures in
+    c.act_made-made.ensures.did c.act_made-made.ensures.tried refl c.flush-answer.ensures.flushed c.flush-answer.ensures.refused c.flush-answer.ensures.causes c.flush_did-did.ensures c.frozen-frozen.result (sym c.frozen-frozen.ensures.is) in
     subst (λ (s : Seated g.row.D.Denot g.row.P.Denot). OneHolding c.args.tag s.sight (seat_of c.free.new.seat c.show_all.new.seat).sight) c.seat.view_is
     (made_held g.D.Disk.Tells g.D.Disk.files g.P.Piece.Tells g.D.Disk.fault_count g.D.Disk.fuse_count c.args.tag c.seat.inside.turn c.hold-kept.new.seat c.free.new.seat
     c.seat.inside.view c.show_all.new.seat c.hold-kept.result after c.act_made-made.result c.seat.invariant c.hold-kept.ensures c.show_all.ensures.seen.0 c.show_all.ensures.seen.1 found.0 c.free.ensures)
@@ -109,7 +115,7 @@ returns-clause-same g c =
     let found = flush_call g.D.Disk.Tells g.D.Disk.files g.P.Piece.Tells g.D.Disk.fault_count g.D.Disk.fuse_count c.args.tag c.hold-kept.result after
     (record { settings = refl; front = refl; ended = refl; same = c.flush-answer.ensures.same; is_open = c.flush-answer.ensures.open; counts = c.flush-answer.ensures.counts; still = c.flush-answer.ensures.still })
     c.args.replica within c.flush-answer.result c.faults_of-before.result.items c.faults_of-before.ensures c.flush_did-did.result c.act_made-made.result
-    c.act_made-made.ensures.did c.act_made-made.ensures.tried refl c.flush-answer.ensures.flushed c.flush-answer.ensures.refused c.flush-answer.ensures.causes c.flush_did-did.ensures in
+    c.act_made-made.ensures.did c.act_made-made.ensures.tried refl c.flush-answer.ensures.flushed c.flush-answer.ensures.refused c.flush-answer.ensures.causes c.flush_did-did.ensures c.frozen-frozen.result (sym c.frozen-frozen.ensures.is) in
     subst (λ (s : Seated g.row.D.Denot g.row.P.Denot). IsSameSeat s (seat_of c.free.new.seat c.show_all.new.seat)) c.seat.view_is
     (made_same g.D.Disk.Tells g.D.Disk.files g.P.Piece.Tells g.D.Disk.fault_count g.D.Disk.fuse_count c.args.tag c.seat.inside.turn c.hold-kept.new.seat c.free.new.seat
     c.seat.inside.view c.show_all.new.seat c.hold-kept.result after c.act_made-made.result c.seat.invariant c.hold-kept.ensures c.show_all.ensures.seen.0 c.show_all.ensures.seen.1 found.0 c.free.ensures

@@ -1,6 +1,7 @@
-use Rattle.std.proofs.Common.{[], ◌<◌, ℕ, List, length, Option, None, Ok, Err, refl, sym, ap, subst, ◌∙◌}
+use Rattle.std.proofs.Common.{[], ◌<◌, inl, inr, ℕ, List, length, Option, None, Ok, Err, refl, sym, ap, subst, ◌∙◌}
 use Rattle.hay_logical.specs.declared.fault.LogicalFault.TheVariants.{NoMemory}
 use Rattle.hay_map.specs.Places.{place_in}
+use Rattle.hay_map.specs.Rows.{row_at}
 use Rattle.hay_meeting.specs.Acts.{nobody}
 use Rattle.hay_turn.specs.Seats.{after_free}
 use Rattle.hay_turn.specs.Slots.{acts_in}
@@ -12,7 +13,7 @@ use Rattle.hay_volume_lock.specs.Tries.{IsTried}
 use Rattle.hay_volume_lock.proofs.Holding.{all_there, few_there, is_held, made_always, made_free, made_held, made_mine, made_seated, made_told, quiet_free, quiet_held, quiet_seated, quiet_told, seat_of, within_it}
 use Rattle.hay_volume_lock.proofs.Publishing.{changed_free, changed_held, changed_mine, changed_seated, changed_told, later_deed, later_same, shows_nothing}
 use Rattle.hay_volume_lock.proofs.Putting.{both_again, err_same, nothing_made}
-use Rattle.hay_volume_lock.proofs.Seeing.{look_known, of_refused, row_long, see_closed, see_refused, see_shown, see_wanted, seen_found, seen_may, sees_changes, sees_nothing, tried_quiet}
+use Rattle.hay_volume_lock.proofs.Seeing.{long_at, look_known, of_refused, row_long, see_closed, see_known, see_refused, see_shown, see_wanted, seen_found, seen_may, sees_changes, sees_nothing, tried_quiet, unseen}
 use Rattle.hay_volume_lock.proofs.lock.VolumeLock.see.Goals as goal
 
 pub show_all-requires-after_bounds : goal.show_all-requires-after_bounds
@@ -39,7 +40,8 @@ returns-then-is_seen-clause-seen g c =
     subst (λ (s : Seated g.row.D.Denot g.row.P.Denot). IsTold g.D.Disk.Tells g.D.Disk.files g.P.Piece.Tells g.D.Disk.fault_count g.D.Disk.fuse_count s.start (λ volume. SeeAnswer volume c.args.tag {P = g.row.P.Denot} g.P.Piece.Tells c.args.pair c.args.replica (Ok c.look-looked.result) s.sight (seat_of c.free.new.seat c.show_all.new.seat).sight)) c.seat.view_is
     (quiet_told g.D.Disk.Tells g.D.Disk.files g.P.Piece.Tells g.D.Disk.fault_count g.D.Disk.fuse_count c.args.tag c.seat.inside.turn c.hold-kept.new.seat c.free.new.seat c.seat.inside.view c.show_all.new.seat c.hold-kept.result c.seat.invariant c.hold-kept.ensures c.show_all.ensures.seen.0 c.show_all.ensures.seen.1 c.free.ensures (λ volume. SeeAnswer volume c.args.tag {P = g.row.P.Denot} g.P.Piece.Tells c.args.pair c.args.replica (Ok c.look-looked.result))
     (seen_found g.D.Disk.Tells g.D.Disk.files g.P.Piece.Tells g.D.Disk.fault_count g.D.Disk.fuse_count c.args.tag c.args.pair c.args.replica c.hold-kept.result None refl tt c.look-looked.result
-    (look_known g.D.Disk.Tells g.D.Disk.files g.P.Piece.Tells c.hold-kept.result.logical c.args.pair c.args.replica c.look-looked.result (subst (λ (n : ℕ). c.args.replica < n) (sym (is_held g.D.Disk.Tells g.D.Disk.files g.P.Piece.Tells g.D.Disk.fault_count g.D.Disk.fuse_count c.seat.invariant c.hold-kept.ensures).is_open.all) (within_it g.D.Disk.Tells g.D.Disk.files g.P.Piece.Tells g.D.Disk.fault_count g.D.Disk.fuse_count c.seat.invariant c.hold-kept.ensures c.args.replica (c.requires.within c.seat.invariant.opened (sym (ap (λ (s : Seated g.row.D.Denot g.row.P.Denot). s.start) c.seat.view_is) ∙ c.seat.invariant.is)))) (c.is_seen.ensures.0 c.if-is_seen.true) c.look-looked.ensures.known)))
+    (see_known g.D.Disk.Tells g.D.Disk.files g.P.Piece.Tells g.D.Disk.fault_count g.D.Disk.fuse_count c.hold-kept.result.logical c.hold-kept.result.logical c.args.pair c.args.replica c.look-looked.result refl c.look-looked.ensures.row (λ tells k s. s)
+    (look_known g.D.Disk.Tells g.D.Disk.files g.P.Piece.Tells c.hold-kept.result.logical c.args.pair c.args.replica c.look-looked.result (subst (λ (n : ℕ). c.args.replica < n) (sym (is_held g.D.Disk.Tells g.D.Disk.files g.P.Piece.Tells g.D.Disk.fault_count g.D.Disk.fuse_count c.seat.invariant c.hold-kept.ensures).is_open.all) (within_it g.D.Disk.Tells g.D.Disk.files g.P.Piece.Tells g.D.Disk.fault_count g.D.Disk.fuse_count c.seat.invariant c.hold-kept.ensures c.args.replica (c.requires.within c.seat.invariant.opened (sym (ap (λ (s : Seated g.row.D.Denot g.row.P.Denot). s.start) c.seat.view_is) ∙ c.seat.invariant.is)))) (c.is_seen.ensures.0 c.if-is_seen.true) c.look-looked.ensures.known))))
 
 pub returns-then-is_seen-clause-held : goal.returns-then-is_seen-clause-held
 returns-then-is_seen-clause-held g c =
@@ -164,7 +166,8 @@ returns-then-is_closed-clause-seen g c =
     c.seat.invariant c.hold-kept.ensures c.show_all.ensures.seen.0 c.show_all.ensures.seen.1 c.show_all.ensures.seen.1
     (sees_changes g.D.Disk.Tells g.D.Disk.files g.P.Piece.Tells g.D.Disk.fault_count g.D.Disk.fuse_count c.args.tag c.hold-kept.result (record c.hold-kept.result { logical = c.see.new.self }) (see_closed g.D.Disk.Tells g.D.Disk.files g.P.Piece.Tells g.D.Disk.fault_count g.D.Disk.fuse_count c.args.tag c.hold-kept.result (record c.hold-kept.result { logical = c.see.new.self }) refl refl refl c.in-Ok.ensures.same c.in-Ok.ensures.open c.in-Ok.ensures.counts c.in-Ok.ensures.stands c.in-Ok.ensures.still.0 refl (sym c.is_closed.ensures ∙ c.if-is_closed.true) (is_held g.D.Disk.Tells g.D.Disk.files g.P.Piece.Tells g.D.Disk.fault_count g.D.Disk.fuse_count c.seat.invariant c.hold-kept.ensures).serves) c.act_made-made-then-is_closed.result (subst (λ (l : List ℕ). IsTried g.D.Disk.fault_count g.D.Disk.fuse_count c.args.tag l c.see.new.self.replicas c.act_made-made-then-is_closed.result) c.faults_of-before.ensures (c.act_made-made-then-is_closed.ensures.tried refl))) c.free-then-is_closed.new.seat c.free-then-is_closed.ensures (λ volume. SeeAnswer volume c.args.tag {P = g.row.P.Denot} g.P.Piece.Tells c.args.pair c.args.replica (Ok c.in-Ok.seen))
     (seen_found g.D.Disk.Tells g.D.Disk.files g.P.Piece.Tells g.D.Disk.fault_count g.D.Disk.fuse_count c.args.tag c.args.pair c.args.replica c.hold-kept.result c.act_made-made-then-is_closed.result (tried_quiet g.D.Disk.fault_count g.D.Disk.fuse_count c.args.tag (counts g.D.Disk.fault_count c.hold-kept.result.logical.replicas) c.see.new.self.replicas c.act_made-made-then-is_closed.result (subst (λ (l : List ℕ). IsTried g.D.Disk.fault_count g.D.Disk.fuse_count c.args.tag l c.see.new.self.replicas c.act_made-made-then-is_closed.result) c.faults_of-before.ensures (c.act_made-made-then-is_closed.ensures.tried refl)))
-    (nothing_made g.D.Disk.Tells g.D.Disk.files g.P.Piece.Tells g.D.Disk.fault_count g.D.Disk.fuse_count c.args.tag c.hold-kept.result (record c.hold-kept.result { logical = c.see.new.self }) c.act_made-made-then-is_closed.result (subst (λ (l : List ℕ). IsTried g.D.Disk.fault_count g.D.Disk.fuse_count c.args.tag l c.see.new.self.replicas c.act_made-made-then-is_closed.result) c.faults_of-before.ensures (c.act_made-made-then-is_closed.ensures.tried refl))) c.in-Ok.seen c.in-Ok.ensures.known))
+    (nothing_made g.D.Disk.Tells g.D.Disk.files g.P.Piece.Tells g.D.Disk.fault_count g.D.Disk.fuse_count c.args.tag c.hold-kept.result (record c.hold-kept.result { logical = c.see.new.self }) c.act_made-made-then-is_closed.result (subst (λ (l : List ℕ). IsTried g.D.Disk.fault_count g.D.Disk.fuse_count c.args.tag l c.see.new.self.replicas c.act_made-made-then-is_closed.result) c.faults_of-before.ensures (c.act_made-made-then-is_closed.ensures.tried refl))) c.in-Ok.seen
+    (see_known g.D.Disk.Tells g.D.Disk.files g.P.Piece.Tells g.D.Disk.fault_count g.D.Disk.fuse_count c.hold-kept.result.logical c.see.new.self c.args.pair c.args.replica c.in-Ok.seen c.in-Ok.ensures.same.settings c.in-Ok.ensures.answered.1 c.in-Ok.ensures.stands c.in-Ok.ensures.known)))
 
 pub returns-then-is_closed-clause-held : goal.returns-then-is_closed-clause-held
 returns-then-is_closed-clause-held g c =
@@ -200,7 +203,8 @@ returns-clause-seen g c =
     (sees_changes g.D.Disk.Tells g.D.Disk.files g.P.Piece.Tells g.D.Disk.fault_count g.D.Disk.fuse_count c.args.tag c.hold-kept.result (record c.hold-kept.result { logical = c.see.new.self; front = c.publish.new.self }) (see_shown g.D.Disk.Tells g.D.Disk.files g.P.Piece.Tells g.D.Disk.fault_count g.D.Disk.fuse_count c.args.tag c.hold-kept.result (record c.hold-kept.result { logical = c.see.new.self; front = c.publish.new.self }) refl refl refl c.in-Ok.ensures.same c.in-Ok.ensures.open c.in-Ok.ensures.counts c.in-Ok.ensures.stands c.in-Ok.ensures.still.0 c.args.pair c.args.replica (place_in c.in-Ok.seen.row c.args.replica) c.sight_of-op.result (record { tag = c.front_tag.result; deed = c.sight_of-op.result })
     c.sight_of-op.ensures (within_it g.D.Disk.Tells g.D.Disk.files g.P.Piece.Tells g.D.Disk.fault_count g.D.Disk.fuse_count c.seat.invariant c.hold-kept.ensures c.args.replica (c.requires.within c.seat.invariant.opened (sym (ap (λ (s : Seated g.row.D.Denot g.row.P.Denot). s.start) c.seat.view_is) ∙ c.seat.invariant.is))) c.in-Ok.ensures.row c.in-Ok-publish.ensures.done.0) c.act_made-made-2.result (subst (λ (l : List ℕ). IsTried g.D.Disk.fault_count g.D.Disk.fuse_count c.args.tag l c.see.new.self.replicas c.act_made-made-2.result) c.faults_of-before.ensures (c.act_made-made-2.ensures.tried refl))) c.free-2.new.seat c.free-2.ensures (λ volume. SeeAnswer volume c.args.tag {P = g.row.P.Denot} g.P.Piece.Tells c.args.pair c.args.replica (Ok c.in-Ok.seen))
     (seen_found g.D.Disk.Tells g.D.Disk.files g.P.Piece.Tells g.D.Disk.fault_count g.D.Disk.fuse_count c.args.tag c.args.pair c.args.replica c.hold-kept.result c.act_made-made-2.result (tried_quiet g.D.Disk.fault_count g.D.Disk.fuse_count c.args.tag (counts g.D.Disk.fault_count c.hold-kept.result.logical.replicas) c.see.new.self.replicas c.act_made-made-2.result (subst (λ (l : List ℕ). IsTried g.D.Disk.fault_count g.D.Disk.fuse_count c.args.tag l c.see.new.self.replicas c.act_made-made-2.result) c.faults_of-before.ensures (c.act_made-made-2.ensures.tried refl)))
-    (nothing_made g.D.Disk.Tells g.D.Disk.files g.P.Piece.Tells g.D.Disk.fault_count g.D.Disk.fuse_count c.args.tag c.hold-kept.result (record c.hold-kept.result { logical = c.see.new.self; front = c.publish.new.self }) c.act_made-made-2.result (subst (λ (l : List ℕ). IsTried g.D.Disk.fault_count g.D.Disk.fuse_count c.args.tag l c.see.new.self.replicas c.act_made-made-2.result) c.faults_of-before.ensures (c.act_made-made-2.ensures.tried refl))) c.in-Ok.seen c.in-Ok.ensures.known))
+    (nothing_made g.D.Disk.Tells g.D.Disk.files g.P.Piece.Tells g.D.Disk.fault_count g.D.Disk.fuse_count c.args.tag c.hold-kept.result (record c.hold-kept.result { logical = c.see.new.self; front = c.publish.new.self }) c.act_made-made-2.result (subst (λ (l : List ℕ). IsTried g.D.Disk.fault_count g.D.Disk.fuse_count c.args.tag l c.see.new.self.replicas c.act_made-made-2.result) c.faults_of-before.ensures (c.act_made-made-2.ensures.tried refl))) c.in-Ok.seen
+    (see_known g.D.Disk.Tells g.D.Disk.files g.P.Piece.Tells g.D.Disk.fault_count g.D.Disk.fuse_count c.hold-kept.result.logical c.see.new.self c.args.pair c.args.replica c.in-Ok.seen c.in-Ok.ensures.same.settings c.in-Ok.ensures.answered.1 c.in-Ok.ensures.stands c.in-Ok.ensures.known)))
 
 pub returns-clause-held : goal.returns-clause-held
 returns-clause-held g c =
@@ -252,3 +256,39 @@ returns-in_default-clause-held g c =
     (see_wanted g.D.Disk.Tells g.D.Disk.files g.P.Piece.Tells g.D.Disk.fault_count g.D.Disk.fuse_count c.args.tag c.hold-kept.result (record c.hold-kept.result { logical = c.freeze.new.self; front = c.publish.new.self }) c.see.new.self c.args.replica c.frozen-frozen.result (sym c.in-Ok.ensures.still.0 ∙ sym c.frozen-frozen.ensures.is)
     (both_again g.D.Disk.Tells g.D.Disk.files g.P.Piece.Tells g.D.Disk.fault_count g.D.Disk.fuse_count c.args.tag c.hold-kept.result (record c.hold-kept.result { logical = c.freeze.new.self; front = c.publish.new.self }) c.see.new.self refl c.in-Ok.ensures.same c.in-Ok.ensures.open c.in-Ok.ensures.counts c.freeze.ensures.same c.freeze.ensures.open c.freeze.ensures.counts).0 (both_again g.D.Disk.Tells g.D.Disk.files g.P.Piece.Tells g.D.Disk.fault_count g.D.Disk.fuse_count c.args.tag c.hold-kept.result (record c.hold-kept.result { logical = c.freeze.new.self; front = c.publish.new.self }) c.see.new.self refl c.in-Ok.ensures.same c.in-Ok.ensures.open c.in-Ok.ensures.counts c.freeze.ensures.same c.freeze.ensures.open c.freeze.ensures.counts).1 (shows_nothing c.args.tag c.hold-kept.result (record c.hold-kept.result { logical = c.freeze.new.self; front = c.publish.new.self }) (ap (λ f. f.shown) c.in_default.ensures.refused) (ap (λ f. f.log) c.in_default.ensures.refused)) refl refl c.in-Ok.ensures.same c.in-Ok.ensures.still.0 c.in-Ok.ensures.stands
     c.freeze.ensures.frozen c.freeze.ensures.again (λ thawed. ap (λ v. v.frozen) (c.freeze.ensures.still thawed)) c.act_made-made-in_default.result (record { acts = λ m is. c.act_made-made-in_default.ensures.did m ((c.freeze_did-did.ensures ∙ ap (λ (f : Option ℕ). freezes_by c.frozen-frozen.result f) c.frozen.ensures.is) ∙ is); tries = λ none. (subst (λ (l : List ℕ). IsTried g.D.Disk.fault_count g.D.Disk.fuse_count c.args.tag l c.freeze.new.self.replicas c.act_made-made-in_default.result) c.faults_of-before.ensures (c.act_made-made-in_default.ensures.tried ((c.freeze_did-did.ensures ∙ ap (λ (f : Option ℕ). freezes_by c.frozen-frozen.result f) c.frozen.ensures.is) ∙ none))) })).0 c.free-in_default.new.seat c.free-in_default.ensures)
+
+pub returns-then-is_seen-clause-long : goal.returns-then-is_seen-clause-long
+returns-then-is_seen-clause-long g c = λ opened is.
+    long_at c.seat.invariant.opened opened c.hold-kept.result (length c.look-looked.result.row) c.look-looked.ensures.long (is_held g.D.Disk.Tells g.D.Disk.files g.P.Piece.Tells g.D.Disk.fault_count g.D.Disk.fuse_count c.seat.invariant c.hold-kept.ensures).same_settings (sym c.seat.invariant.is ∙ ap (λ (s : Seated g.row.D.Denot g.row.P.Denot). s.start) c.seat.view_is ∙ is)
+
+pub returns-then-is_seen-clause-sighted : goal.returns-then-is_seen-clause-sighted
+returns-then-is_seen-clause-sighted g c = c.is_seen.ensures.0 c.if-is_seen.true
+
+pub returns-then-is_seen-clause-needle : goal.returns-then-is_seen-clause-needle
+returns-then-is_seen-clause-needle g c = inl refl
+
+pub returns-then-is_closed-clause-long : goal.returns-then-is_closed-clause-long
+returns-then-is_closed-clause-long g c = λ opened is.
+    long_at c.seat.invariant.opened opened c.hold-kept.result (length c.in-Ok.seen.row) (ap length c.in-Ok.ensures.answered.1
+    ∙ row_long c.args.pair c.args.replica (place_in c.in-Ok.seen.row c.args.replica) c.hold-kept.result.logical.rows c.see.new.self.rows c.in-Ok.ensures.row ∙ ap length (sym c.look-looked.ensures.row) ∙ c.look-looked.ensures.long)
+    (is_held g.D.Disk.Tells g.D.Disk.files g.P.Piece.Tells g.D.Disk.fault_count g.D.Disk.fuse_count c.seat.invariant c.hold-kept.ensures).same_settings (sym c.seat.invariant.is ∙ ap (λ (s : Seated g.row.D.Denot g.row.P.Denot). s.start) c.seat.view_is ∙ is)
+
+pub returns-then-is_closed-clause-sighted : goal.returns-then-is_closed-clause-sighted
+returns-then-is_closed-clause-sighted g c = c.in-Ok.ensures.seen
+
+pub returns-then-is_closed-clause-needle : goal.returns-then-is_closed-clause-needle
+returns-then-is_closed-clause-needle g c = inr (c.in-Ok.ensures.needle
+    (unseen c.look-looked.result.row (row_at c.hold-kept.result.logical.rows c.args.pair) c.args.replica c.is_seen.result c.is_seen.ensures.1 c.if-is_seen.false c.look-looked.ensures.row))
+
+pub returns-clause-long : goal.returns-clause-long
+returns-clause-long g c = λ opened is.
+    long_at c.seat.invariant.opened opened c.hold-kept.result (length c.in-Ok.seen.row) (ap length c.in-Ok.ensures.answered.1
+    ∙ row_long c.args.pair c.args.replica (place_in c.in-Ok.seen.row c.args.replica) c.hold-kept.result.logical.rows c.see.new.self.rows c.in-Ok.ensures.row ∙ ap length (sym c.look-looked.ensures.row) ∙ c.look-looked.ensures.long)
+    (is_held g.D.Disk.Tells g.D.Disk.files g.P.Piece.Tells g.D.Disk.fault_count g.D.Disk.fuse_count c.seat.invariant c.hold-kept.ensures).same_settings (sym c.seat.invariant.is ∙ ap (λ (s : Seated g.row.D.Denot g.row.P.Denot). s.start) c.seat.view_is ∙ is)
+
+pub returns-clause-sighted : goal.returns-clause-sighted
+returns-clause-sighted g c = c.in-Ok.ensures.seen
+
+pub returns-clause-needle : goal.returns-clause-needle
+returns-clause-needle g c = inr (c.in-Ok.ensures.needle
+    (unseen c.look-looked.result.row (row_at c.hold-kept.result.logical.rows c.args.pair) c.args.replica c.is_seen.result c.is_seen.ensures.1 c.if-is_seen.false c.look-looked.ensures.row))
