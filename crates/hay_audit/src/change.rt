@@ -185,7 +185,7 @@ pub fn stored(
 }
 
 /// The state, with the pair's home if it has none.
-fn with_home(state: State, pair: Pair, volume: u32) -> Result<State, NoMemory>
+pub(crate) fn with_home(state: State, pair: Pair, volume: u32) -> Result<State, NoMemory>
     ensures { IfOk result (λ after. after ≡ known.with_home state pair volume) }
 {
     let State {
@@ -215,7 +215,7 @@ fn with_home(state: State, pair: Pair, volume: u32) -> Result<State, NoMemory>
     })
 }
 
-/// The state behind a put that failed on a machine.
+/// The state behind a put that failed on a machine, or that wanted memory.
 pub(crate) fn put_frozen(
     alloc: Global,
     settings: &Settings,
@@ -225,8 +225,9 @@ pub(crate) fn put_frozen(
     bytes: Bytes,
     volume: u32,
     machine: u32,
+    failed: bool,
 ) -> Result<State, NoMemory>
-    ensures { IfOk result (λ after. after ≡ plain.put_frozen settings.now state tag pair bytes volume machine true) }
+    ensures { IfOk result (λ after. after ≡ plain.put_frozen settings.now state tag pair bytes volume machine failed) }
 {
     let pending = Pending {
         tag,
@@ -235,7 +236,7 @@ pub(crate) fn put_frozen(
             cookie: cookie_of(&settings.secret, pair.key),
             bytes,
         },
-        failed: true,
+        failed,
     };
     let frozen = frozen_by(alloc, state, volume, machine, Some(pending))?;
     with_home(frozen, pair, volume)

@@ -2,7 +2,7 @@
 
 ghost use Rattle.std.specs.Prelude.{◌≡◌, ◌<◌, ◌^◌, IfOk, IfSome, IfNone, length, ◌⊎◌};
 ghost use Rattle.hay_audit_steps.specs.Next as next;
-ghost use Rattle.hay_audit.specs.Outside.{IsNamed, IsNotJudged, IsOutside, IsTooLarge, IsUnnamed, IsWithinItem};
+ghost use Rattle.hay_audit.specs.Outside.{IsNamed, IsOutside, IsTooLarge, IsUnnamed, IsWithinItem};
 ghost use Rattle.hay_legal.specs.declared.turn.Item.TheVariants as item_of;
 
 use crate::del::next_del;
@@ -45,7 +45,7 @@ pub(crate) fn next_unknown(
     keep_if(alloc, test, state)
 }
 
-/// Behind a line that names one replica.
+/// Behind a line that names one replica, unless a size is too large.
 fn next_named(
     alloc: Global,
     settings: &Settings,
@@ -53,11 +53,11 @@ fn next_named(
     line: u64,
     command: &Command,
     reply: &Reply,
-) -> Result<Listed<State>, NoMemory>
+) -> Result<Option<Listed<State>>, NoMemory>
     requires machines { 0 < settings.now.machines }
     requires named { IsNamed command.now }
-    requires judged { IsNotJudged (item_of.Command command.now) reply.now → ⊥ }
-    ensures { IfOk result (λ states. states ≡ next.next_plain settings.now line (item_of.Command command.now) reply.now state) }
+    ensures some { IfOk result (λ made. IfSome made (λ states. states ≡ next.next_plain settings.now line (item_of.Command command.now) reply.now state)) }
+    ensures none { IfOk result (λ made. IfNone made (IsTooLarge settings.now state)) }
 {
     match command {
         Command::Flush { volume, machine } => {
@@ -92,7 +92,15 @@ fn next_named(
             let work = Work::Fuse { calls: *calls };
             next_on_replica(alloc, settings, state, *volume, *machine, work, reply)
         }
-        _ => unreachable!(),
+        Command::Put { .. }
+        | Command::Read { .. }
+        | Command::Get { .. }
+        | Command::Del { .. }
+        | Command::Url { .. }
+        | Command::Drain { .. }
+        | Command::Undrain { .. }
+        | Command::FuseDir { .. }
+        | Command::Restart { .. } => unreachable!(),
     }
 }
 
@@ -147,7 +155,6 @@ fn next_command(
     requires volumes { 0 < settings.now.volumes }
     requires replicas { 0 < settings.now.replicas }
     requires within { IsWithinItem (item_of.Command command.now) }
-    requires judged { IsNotJudged (item_of.Command command.now) reply.now → ⊥ }
     ensures some { IfOk result (λ made. IfSome made (λ states. states ≡ next.next_plain settings.now line (item_of.Command command.now) reply.now state)) }
     ensures none { IfOk result (λ made. IfNone made (IsOutside (item_of.Command command.now) ⊎ IsTooLarge settings.now state)) }
 {
@@ -171,10 +178,7 @@ fn next_command(
         | Command::Begin { .. }
         | Command::Step { .. }
         | Command::Finish { .. }
-        | Command::Fuse { .. } => {
-            let states = next_named(alloc, settings, state, line, command, reply)?;
-            Ok(Some(states))
-        }
+        | Command::Fuse { .. } => next_named(alloc, settings, state, line, command, reply),
         Command::Restart { .. } => Ok(None),
     }
 }
@@ -192,7 +196,6 @@ pub(crate) fn next_plain(
     requires volumes { 0 < settings.now.volumes }
     requires replicas { 0 < settings.now.replicas }
     requires within { IsWithinItem item.now }
-    requires judged { IsNotJudged item.now reply.now → ⊥ }
     ensures some { IfOk result (λ made. IfSome made (λ states. states ≡ next.next_plain settings.now line item.now reply.now state)) }
     ensures none { IfOk result (λ made. IfNone made (IsOutside item.now ⊎ IsTooLarge settings.now state)) }
 {

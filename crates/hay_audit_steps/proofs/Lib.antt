@@ -31,4 +31,5 @@ pub mod Shows
 pub mod Sizeless
 pub mod Swaps
 pub mod Tests
+pub mod Wanting
 pub mod Wider

@@ -14,3 +14,4 @@ pub mod Reopen
 pub mod Rooms
 pub mod Slacks
 pub mod Steps
+pub mod Wanting
