@@ -16,7 +16,7 @@ use Rattle.hay_load.specs.Gathering.{IsGathered, is_beside, joins, key_of}
 
 -- BOTH OF TWO TESTS
 
-and_first : (a b : Bool) → (a && b) ≡ true → a ≡ true
+pub and_first : (a b : Bool) → (a && b) ≡ true → a ≡ true
 and_first true b is = refl
 and_first false b is = is
 
@@ -35,7 +35,7 @@ all_at p (y ∷ xs) (suc i) x all at = all_at p xs i x (and_second (p y) (list_a
 
 -- ONE PHOTO
 
-one_distinct : (photo : NewPhoto) → AreDistinct (photo ∷ [])
+pub one_distinct : (photo : NewPhoto) → AreDistinct (photo ∷ [])
 one_distinct photo zero zero b d less at there = absurd (omega (arith, less))
 one_distinct photo zero (suc j) b d less at there = absurd cc
 one_distinct photo (suc i) j b d less at there = absurd cc
@@ -77,7 +77,7 @@ apart photo other beside same =
       | inr other_alt ↦ other_alt.1 (ap (λ (p : Pair). p.alt) same)
     ]
 
-more_distinct : (photos : List NewPhoto) (photo : NewPhoto) → AreDistinct photos → list_all (is_beside photo) photos ≡ true → AreDistinct (photos ++ photo ∷ [])
+pub more_distinct : (photos : List NewPhoto) (photo : NewPhoto) → AreDistinct photos → list_all (is_beside photo) photos ≡ true → AreDistinct (photos ++ photo ∷ [])
 more_distinct photos photo distinct all i j a b less at there = elim (at_either photos photo j b there) [
   | inl later ↦ elim (at_either photos photo i a at) [
     | inl early ↦ distinct i j a b less early later

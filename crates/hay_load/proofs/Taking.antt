@@ -22,7 +22,7 @@ use Rattle.hay_load.specs.Replies.{load_line}
 
 -- MORE GROUPS
 
-answers_more : (settings : Settings) (s mid new : StoredStore) (groups more : List Group) (replies others : List LoadReply) → AnswersAll settings s groups replies mid → AnswersAll settings mid more others new
+pub answers_more : (settings : Settings) (s mid new : StoredStore) (groups more : List Group) (replies others : List LoadReply) → AnswersAll settings s groups replies mid → AnswersAll settings mid more others new
     → AnswersAll settings s (groups ++ more) (replies ++ others) new
 answers_more settings s mid new [] more [] others first second = subst (λ (x : StoredStore). AnswersAll settings x more others new) first second
 answers_more settings s mid new [] more (reply ∷ replies) others first second = absurd first

@@ -123,9 +123,10 @@ pub makes_none : (settings : Settings) (number : ℕ) (held : Option OpenBatch) 
 makes_none settings number held left all none = λ rest told.
     (rest, ap (λ (l : Option (List ℕ)). rest_of l all) told ∙ ap (λ (l : List ℕ). Some (l ++ rest)) none, refl)
 
-module _ (settings : Settings) (number number' number'' : ℕ) (held held' held'' : Option OpenBatch) (left left' left'' : Option (List ℕ)) (groups more : List Group) (first : Makes settings number held left groups number' held' left') where
-  pub makes_more : Makes settings number' held' left' more number'' held'' left'' → Makes settings number held left (groups ++ more) number'' held'' left''
-  makes_more second = λ rest told.
+-- behind lines come more
+module _ (settings : Settings) (number number' : ℕ) (held held' : Option OpenBatch) (left left' : Option (List ℕ)) (groups more : List Group) (first : Makes settings number held left groups number' held' left') where
+  pub makes_more : (number'' : ℕ) (held'' : Option OpenBatch) (left'' : Option (List ℕ)) → Makes settings number' held' left' more number'' held'' left'' → Makes settings number held left (groups ++ more) number'' held'' left''
+  makes_more number'' held'' left'' second = λ rest told.
       let a = first rest told in
       let b = second a.0 a.1 in (
         b.0,
@@ -133,7 +134,7 @@ module _ (settings : Settings) (number number' number'' : ℕ) (held held' held'
         a.2 ∙ ap (λ (l : List Group). groups ++ l) b.2 ∙ sym (append_assoc groups more (rest_groups settings number'' held'' b.0)),
       )
 
-  pub next_more : ComeNext settings number' held' left' more → (rest : List ℕ) → left ≡ Some rest → IsFront (groups ++ more) (rest_groups settings number held rest)
+  pub next_more : ComeNext settings number' held' left' more → ComeNext settings number held left (groups ++ more)
   next_more second = λ rest told.
       let a = first rest told in
       let b = second a.0 a.1 in (
@@ -141,11 +142,10 @@ module _ (settings : Settings) (number number' number'' : ℕ) (held held' held'
         a.2 ∙ ap (λ (l : List Group). groups ++ l) b.1 ∙ sym (append_assoc groups more b.0),
       )
 
--- the next line is the last
-module _ (settings : Settings) (number number' number'' : ℕ) (held held' held'' : Option OpenBatch) (left left' left'' : Option (List ℕ)) (groups more : List Group) (first : Makes settings number held left groups number' held' left')
-    (second : Makes settings number' held' left' more number'' held'' left'') (over : IsReadToEnd left' left'') where
-  pub makes_all : (rest : List ℕ) → left ≡ Some rest → rest_groups settings number held rest ≡ (groups ++ more) ++ closed held''
-  makes_all rest told =
+  -- and then nothing
+  pub makes_all : (number'' : ℕ) (held'' : Option OpenBatch) (left'' : Option (List ℕ)) → Makes settings number' held' left' more number'' held'' left'' → IsReadToEnd left' left''
+      → (rest : List ℕ) → left ≡ Some rest → rest_groups settings number held rest ≡ (groups ++ more) ++ closed held''
+  makes_all number'' held'' left'' second over rest told =
       let a = first rest told in
       let b = second a.0 a.1 in
       let P : Option (List ℕ) → Type 0 = λ l. IsReadToEnd l left'' in

@@ -1,5 +1,5 @@
 -- What a load of a script tells, and what it leaves of the disks, at each status.
-use Rattle.std.specs.Prelude.{◌≡◌, ◌⊎◌, ◌<◌, ◌≤◌, ◌+◌, ℕ, List, [], ◌∷◌, ◌++◌, length, take, map, Option, None, Result, Ok, Err}
+use Rattle.std.specs.Prelude.{◌≡◌, ◌⊎◌, ◌<◌, ◌≤◌, ◌+◌, ℕ, List, [], ◌∷◌, ◌++◌, length, take, map, Option, Some, None, Result, Ok, Err}
 use Rattle.hay_needle.specs.declared.settings.Settings.{Settings}
 use Rattle.hay_disk.specs.Counts.{Rose}
 use Rattle.hay_disk.specs.Disk.{MayLeave}
@@ -11,10 +11,17 @@ use Rattle.hay_reply.specs.declared.Note.{Note}
 use Rattle.hay_reply.specs.declared.Note.TheVariants.{OpenShelf, OpenFailed, OpenDamaged}
 use Rattle.hay_reply.specs.declared.Reply.{Reply}
 use Rattle.hay_reply.specs.Replies.{header_line, note_line}
+use Rattle.hay_needle.specs.Tables.{look, rows_of}
+use Rattle.hay_volume.specs.Cells.{needles_of}
+use Rattle.hay_open.specs.Stored.{OpensAs, Stored}
+use Rattle.hay_dirfile.specs.declared.row.DirRow.{DirRow}
 use Rattle.hay_batch.specs.declared.photo.NewPhoto.{NewPhoto}
-use Rattle.hay_batch.specs.Shelves.{IsDamagedDisk, IsLeft, IsUndamagedBelow, OpensStore, StoredStore, disk_count, reads_of}
+use Rattle.hay_batch.specs.Batches.{shown_of}
+use Rattle.hay_batch.specs.Homes.{home_in}
+use Rattle.hay_batch.specs.Replicas.{At}
+use Rattle.hay_batch.specs.Shelves.{IsDamagedDisk, IsLeft, IsUndamagedBelow, OpensRows, OpensStore, StoredStore, disk_count, reads_of, replica_super, slot_of}
 use Rattle.hay_load.specs.declared.reply.LoadReply.{LoadReply}
-use Rattle.hay_load.specs.declared.reply.LoadReply.TheVariants.{Other}
+use Rattle.hay_load.specs.declared.reply.LoadReply.TheVariants.{Loaded, Other}
 use Rattle.hay_load.specs.Answers.{AnswersAll, reply_lines}
 use Rattle.hay_load.specs.Gathering.{Group, Batch, Bad, groups_of}
 use Rattle.hay_load.specs.Loads.{IsFailed, LeavesFirst}
@@ -61,6 +68,21 @@ WroteThen before text more after = (n : ℕ) × Wrote before (text ++ take n mor
 abbrev pub MayLeaveSlots : Settings → (ℕ → HeldDisk) → (ℕ → ℕ → List ℕ) → Type 0
 MayLeaveSlots settings disks image = (slot : ℕ) → slot < disk_count settings → MayLeave (disks slot).files (image slot)
 
+-- An opening of these contents finds that the photo is kept in this volume, and on each replica of it that the last needle of the
+-- pair is that of the photo.
+pub record StandsIn (settings : Settings) (image : ℕ → ℕ → List ℕ) (volume : ℕ) (photo : NewPhoto) : Type 0 where
+  pub rows : List DirRow
+  pub opens : OpensRows settings (image 0 0) rows
+  pub home : home_in rows photo.pair ≡ Some volume
+  pub replicas : (j : ℕ) → j < settings.replicas → (stored : Stored) × OpensAs (replica_super settings volume j) (image (slot_of settings volume j)) stored
+      × (look (rows_of (needles_of stored.cells)) photo.pair ≡ shown_of photo)
+
+-- each photo of each batch that these replies tell as loaded does so
+abbrev pub AllStandIn : Settings → List Group → List LoadReply → (ℕ → ℕ → List ℕ) → Type 0
+AllStandIn settings groups replies image =
+    (i line volume count rows : ℕ) (photos : List NewPhoto) (k : ℕ) (photo : NewPhoto) → At groups i (Batch line photos) → At replies i (Loaded volume count rows) → At photos k photo
+    → StandsIn settings image volume photo
+
 -- no count of faults falls, and no fuse was set
 pub record CountsOn (old new : HeldDisk) : Type 0 where
   pub faults_rise : old.fault_count ≤ new.fault_count
@@ -76,13 +98,14 @@ IsStatus status = (status ≡ 0) ⊎ (status ≡ 3) ⊎ (status ≡ 4) ⊎ (stat
 module _ (Tells : Type 0) (settings : Settings) (script : List ℕ) (old new : ℕ → HeldDisk) (shelf shelf' : ℕ) (before after : Option (List ℕ)) where
   -- The first groups of the script were answered by these replies: what the disks had became what is stored then, and behind these
   -- groups come those that are next. In whatever a stop leaves of the disks an opening finds that; or, where the first of the next
-  -- groups is a batch of which no photo has a home, perhaps that with this whole batch, and never a row of a part of it.
+  -- groups is a batch of which no photo has a home, perhaps that with this whole batch, and never a row of a part of it. All batches
+  -- that were told as loaded stand there.
   pub record Answers (groups : List Group) (replies : List LoadReply) (next : List Group) : Type 0 where
     pub front : IsFront (groups ++ next) (script_groups settings script)
     pub many : length replies ≡ length groups
     pub answers : Tells → (s : StoredStore) → OpensStore settings (reads_of old) s →
         (t : StoredStore) × AnswersAll settings s groups replies t
-        × ((image : ℕ → ℕ → List ℕ) → MayLeaveSlots settings new image → LeavesFirst settings next image t)
+        × ((image : ℕ → ℕ → List ℕ) → MayLeaveSlots settings new image → LeavesFirst settings next image t × AllStandIn settings groups replies image)
 
   -- all groups of the script were answered, and all was written
   pub record LoadsAll : Type 0 where

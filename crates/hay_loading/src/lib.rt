@@ -10,6 +10,7 @@
 #![tactic(auto)]
 
 mod load;
+mod said;
 mod serve;
 mod steps;
 mod stops;

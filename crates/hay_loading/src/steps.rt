@@ -11,6 +11,7 @@ ghost use Rattle.hay_batch.specs.Stores.{IsShaped, KeepsCounts};
 ghost use Rattle.hay_loading.specs.declared.stops.Stop.{Stop};
 ghost use Rattle.hay_loading.specs.Lines.{Appends, Stops, StopsIn, Takes, Told};
 
+use crate::said::next_said;
 use crate::stops::Stop;
 use crate::writing::write_text;
 use hay_disk::{Disk, Sink, Source};
@@ -124,7 +125,7 @@ pub fn step<D: Disk, S: Source, K: Sink>(
     ensures sink_count { K.fault_count sink.old ≤ K.fault_count sink.new }
     ensures appends { Appends (K.written sink.old) (K.written sink.new) }
 {
-    let Some(line) = script.next_said(alloc, source, None)? else {
+    let Some(line) = next_said(alloc, script, source)? else {
         return Ok(number);
     };
     take_line(alloc, load, number, line, sink)?;

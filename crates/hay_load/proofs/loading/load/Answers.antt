@@ -1,7 +1,7 @@
-use Rattle.std.proofs.Common.{List, refl, subst}
+use Rattle.std.proofs.Common.{List, [], refl, subst}
 use Rattle.hay_needle.specs.declared.settings.Settings.{Settings}
 use Rattle.hay_batch.specs.declared.photo.NewPhoto.{NewPhoto}
-use Rattle.hay_load.specs.Loads.{Answered, IsFailed, batch_of}
+use Rattle.hay_load.specs.Loads.{Answered, IsFailed, LeavesNew, batch_of}
 use Rattle.hay_load.proofs.Taking.{loads_batch}
 use Rattle.hay_load.proofs.loading.load.Goals as goal
 
@@ -13,6 +13,7 @@ returns-in_ok-load_line-in-Ok-clause-loads g c =
 pub returns-in_ok-load_line-in-Err-Failed-clause-failed : goal.returns-in_ok-load_line-in-Err-Failed-clause-failed
 returns-in_ok-load_line-in-Err-Failed-clause-failed g c = λ _. record {
   batch = batch_of c.args.batch.now;
+  behind = [];
   is = refl;
   slot = c.in-Err-Failed.slot;
   faults = c.in-Err-Failed.faults;
@@ -22,3 +23,19 @@ returns-in_ok-load_line-in-Err-Failed-clause-failed g c = λ _. record {
       (record { directory = c.failed_reply-reply.ensures.directory; replica = c.failed_reply-reply.ensures.replica });
   told = c.in_ok-load_line-in-Err-Failed.ensures.ok;
 }
+
+pub returns-in_err-load_line-in-Ok-clause-left : goal.returns-in_err-load_line-in-Ok-clause-left
+returns-in_err-load_line-in-Ok-clause-left g c = λ tells s image stands leaves.
+    subst (λ (l : List NewPhoto). LeavesNew c.args.store.now.settings l image s) c.as_slice.ensures.value (c.answer.ensures.left tells s image stands leaves)
+
+pub returns-in_err-load_line-in-Err-Failed-clause-left : goal.returns-in_err-load_line-in-Err-Failed-clause-left
+returns-in_err-load_line-in-Err-Failed-clause-left g c = λ tells s image stands leaves.
+    subst (λ (l : List NewPhoto). LeavesNew c.args.store.now.settings l image s) c.as_slice.ensures.value (c.answer.ensures.left tells s image stands leaves)
+
+pub returns-in_ok-load_line-in-Ok-clause-left : goal.returns-in_ok-load_line-in-Ok-clause-left
+returns-in_ok-load_line-in-Ok-clause-left g c = λ tells s image stands leaves.
+    subst (λ (l : List NewPhoto). LeavesNew c.args.store.now.settings l image s) c.as_slice.ensures.value (c.answer.ensures.left tells s image stands leaves)
+
+pub returns-in_ok-load_line-in-Err-Failed-clause-left : goal.returns-in_ok-load_line-in-Err-Failed-clause-left
+returns-in_ok-load_line-in-Err-Failed-clause-left g c = λ tells s image stands leaves.
+    subst (λ (l : List NewPhoto). LeavesNew c.args.store.now.settings l image s) c.as_slice.ensures.value (c.answer.ensures.left tells s image stands leaves)

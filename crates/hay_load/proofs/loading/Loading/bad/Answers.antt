@@ -13,3 +13,11 @@ returns-clause-loads g c =
 pub returns-in_err-end-clause-left : goal.returns-in_err-end-clause-left
 returns-in_err-end-clause-left g c = λ tells s image stands leaves.
     left_more c.args.self.now.store.settings (closed (held_of c.args.self.now.held)) (Bad c.args.number ∷ []) image s (c.end.ensures.left tells s image stands leaves)
+
+pub returns-in_err-load_line-clause-left : goal.returns-in_err-load_line-clause-left
+returns-in_err-load_line-clause-left g c = λ tells s image stands leaves.
+    left_more c.args.self.now.store.settings (closed (held_of c.args.self.now.held)) (Bad c.args.number ∷ []) image s (c.end.ensures.left tells s image stands leaves)
+
+pub returns-clause-left : goal.returns-clause-left
+returns-clause-left g c = λ tells s image stands leaves.
+    left_more c.args.self.now.store.settings (closed (held_of c.args.self.now.held)) (Bad c.args.number ∷ []) image s (c.end.ensures.left tells s image stands leaves)

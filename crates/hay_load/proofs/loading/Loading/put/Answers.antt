@@ -38,3 +38,8 @@ pub returns-clause-left : goal.returns-clause-left
 returns-clause-left g c = λ tells s image stands leaves.
     subst (λ (held : Option Gathered). LeavesFirst c.args.self.now.store.settings (put_step c.args.number (held_of held) c.args.photo).groups image s) c.in-Some.ensures.value
     (subst (λ (l : List Group). LeavesFirst c.args.self.now.store.settings l image s) (sym (apart_groups c.args.number (batch_of c.in-Some.batch) c.args.photo (sym c.joins.ensures ∙ c.if-joins.false))) (c.load.ensures.left tells s image stands leaves))
+
+pub returns-in_err-new-2-clause-left : goal.returns-in_err-new-2-clause-left
+returns-in_err-new-2-clause-left g c = λ tells s image stands leaves.
+    subst (λ (held : Option Gathered). LeavesFirst c.args.self.now.store.settings (put_step c.args.number (held_of held) c.args.photo).groups image s) c.in-Some.ensures.value
+    (subst (λ (l : List Group). LeavesFirst c.args.self.now.store.settings l image s) (sym (apart_groups c.args.number (batch_of c.in-Some.batch) c.args.photo (sym c.joins.ensures ∙ c.if-joins.false))) (c.load.ensures.left tells s image stands leaves))
