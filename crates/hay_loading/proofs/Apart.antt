@@ -1,5 +1,5 @@
 -- The batches of a script are of distinct pairs.
-use Rattle.std.proofs.Common.{◌≡◌, ℕ, zero, suc, ◌+◌, ◌≤◌, ◌<◌, Bool, true, false, ◌&&◌, List, [], ◌∷◌, ◌++◌, length, map, Option, Some, None, refl, sym, ap, subst, ◌∙◌, arith}
+use Rattle.std.proofs.Common.{◌≡◌, ℕ, zero, suc, ◌+◌, Bool, true, false, List, [], ◌∷◌, ◌++◌, map, Option, Some, None, refl, subst}
 use Rattle.std.specs.List.{list_all}
 use Rattle.std.specs.Prelude.{if◌then◌else◌}
 use Rattle.hay_needle.specs.declared.settings.Settings.{Settings}
@@ -10,7 +10,6 @@ use Rattle.hay_script.specs.declared.Line.TheVariants as line
 use Rattle.hay_script.specs.Script.{lines_of}
 use Rattle.hay_batch.specs.declared.photo.NewPhoto.{NewPhoto}
 use Rattle.hay_batch.specs.Batches.{AreDistinct}
-use Rattle.hay_batch.specs.Replicas.{At}
 use Rattle.hay_load.specs.Gathering.{Bad, Batch, Group, OpenBatch, Step, bad_step, closed, command_step, fits_behind, groups_from, is_beside, joins, line_step, photo_of, put_step}
 use Rattle.hay_load.proofs.Batching.{and_first, more_distinct, one_distinct}
 use Rattle.hay_loading.specs.Endings.{IsFront, says, script_groups}

@@ -1,5 +1,5 @@
 -- How a load ends, by what was answered and by what the shelf has then.
-use Rattle.std.proofs.Common.{◌≡◌, ◌⊎◌, inl, inr, ℕ, ◌+◌, ◌*◌, ◌≤◌, ◌<◌, List, [], ◌∷◌, ◌++◌, length, Option, Some, None, Result, Ok, Err, refl, sym, ap, subst, ◌∙◌, append_assoc, length-append, arith}
+use Rattle.std.proofs.Common.{◌≡◌, inl, inr, ℕ, ◌≤◌, ◌<◌, List, [], ◌∷◌, ◌++◌, Option, Some, Result, Ok, Err, refl, sym, ap, subst, ◌∙◌, append_assoc, length-append, arith}
 use Rattle.std.proofs.lemmas.List.{append-nil}
 use Rattle.hay_needle.specs.declared.settings.Settings.{Settings}
 use Rattle.hay_disk.specs.Counts.{Rose}
@@ -11,7 +11,7 @@ use Rattle.hay_reply.specs.Replies.{header_line}
 use Rattle.hay_batch.specs.declared.replica.LoadReplica.{LoadReplica}
 use Rattle.hay_batch.specs.declared.store.LoadStore.{LoadStore}
 use Rattle.hay_batch.specs.Shelves.{EachDisk, MayLeaveDisks, OpensSlot, OpensStore, StandsAs, StoredStore, disk_count, reads_of, slot_of}
-use Rattle.hay_batch.specs.Stores.{FailsAt, FailsReplica, IsShaped, KeepsCounts, ReplicaAt}
+use Rattle.hay_batch.specs.Stores.{FailsAt, FailsReplica, IsShaped, ReplicaAt}
 use Rattle.hay_batch.proofs.Lists.{at_below}
 use Rattle.hay_batch.proofs.Loading.{replica_there}
 use Rattle.hay_batch.proofs.ShelfLaws.{slot_within}
@@ -29,7 +29,7 @@ use Rattle.hay_loading.specs.Endings.{AllStandIn, Answers, Breaks, CutsShort, En
 use Rattle.hay_loading.specs.Lines.{FailsTold, Leaves, ServesAll, ServesUntil, Told}
 use Rattle.hay_loading.proofs.Apart.{front_apart}
 use Rattle.hay_loading.proofs.Showing.{all_stand}
-use Rattle.hay_loading.proofs.Writing.{part_more, rose_since, wrote_more}
+use Rattle.hay_loading.proofs.Sinks.{part_more, rose_since, wrote_more}
 
 -- FRONTS
 

@@ -1,5 +1,5 @@
 pub mod Reading
-pub mod Writing
+pub mod Sinks
 pub mod Taking
 pub mod Telling
 pub mod Serving

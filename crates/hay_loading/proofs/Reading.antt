@@ -1,12 +1,10 @@
 -- The lines of a script, as they are taken.
-use Rattle.std.proofs.Common.{◌≡◌, ◌≢◌, ◌⊎◌, inl, inr, ℕ, ◌+◌, ◌<◌, ◌≤◌, Bool, true, false, List, [], ◌∷◌, ◌++◌, length, Option, Some, None, refl, sym, ap, subst, ◌∙◌, append_assoc, length-append, arith}
+use Rattle.std.proofs.Common.{◌≡◌, ◌≢◌, inl, inr, ℕ, ◌+◌, ◌<◌, ◌≤◌, Bool, true, List, [], ◌∷◌, ◌++◌, length, Option, Some, None, refl, sym, ap, subst, ◌∙◌, append_assoc, length-append, arith}
 use Rattle.std.specs.List.{onto_first}
 use Rattle.std.specs.Prelude.{map}
 use Rattle.std.proofs.lemmas.Bool.{false≢true}
 use Rattle.std.proofs.lemmas.Grind.{common_steps}
-use Rattle.std.proofs.lemmas.List.{append-nil}
 use Rattle.hay_needle.specs.declared.settings.Settings.{Settings}
-use Rattle.hay_disk.specs.Streams.{Took}
 use Rattle.hay_script.specs.declared.Line.{Line}
 use Rattle.hay_script.specs.Script.{lines_of, seen_byte}
 use Rattle.hay_lines.specs.Lines.{NoFeed, fed_text, TookFed, TookLine}
@@ -14,7 +12,7 @@ use Rattle.hay_lines.specs.Said.{SaysNext}
 use Rattle.hay_lines.specs.Stream.{Accounts, Held, IsReadToEnd, IsTooLong, TookAll, TookAtMost, rest_of}
 use Rattle.hay_lines.proofs.Taking.{accounts_more, long_before, seen-inner}
 use Rattle.hay_load.specs.Gathering.{Group, OpenBatch, Step, closed, groups_from, line_step}
-use Rattle.hay_loading.specs.Endings.{IsFront, says}
+use Rattle.hay_loading.specs.Endings.{says}
 use Rattle.hay_loading.specs.Lines.{ComeNext, Makes, rest_groups}
 
 -- THE LINES OF BYTES

@@ -1,6 +1,5 @@
 -- One line after another, from the first of a script.
-use Rattle.std.proofs.Common.{◌≡◌, ℕ, ◌+◌, ◌≤◌, ◌<◌, List, [], ◌∷◌, ◌++◌, length, Option, Some, None, Result, Err, refl, sym, ap, subst, ◌∙◌, arith}
-use Rattle.std.specs.Prelude.{OnOk}
+use Rattle.std.proofs.Common.{◌≡◌, ℕ, ◌<◌, List, [], ◌++◌, Option, Some, None, refl, sym, ap, subst, ◌∙◌, arith}
 use Rattle.std.proofs.lemmas.List.{append-nil}
 use Rattle.hay_needle.specs.declared.settings.Settings.{Settings}
 use Rattle.hay_disk.specs.Disk.{Files}
@@ -126,3 +125,22 @@ module _ {D : Type 0} (Tells : Type 0) (files : D → Files) (first mid : Loadin
         counts = counts;
         stops = stops;
       }
+
+-- THE SAME STORE
+
+pub store_begun : {D : Type 0} (load : Loading D) (store : LoadStore D) → load ≡ record { store = store; held = None } → load.store ≡ store
+store_begun {D} load store made = ap (λ (x : Loading D). x.store) made
+
+pub serves_at : {D : Type 0} (Tells : Type 0) (files : D → Files) (left : Option (List ℕ)) (store other store' : LoadStore D) (written written' : Option (List ℕ)) → store ≡ other
+    → ServesAll Tells files left store store' written written' → ServesAll Tells files left other store' written written'
+serves_at {D} Tells files left store other store' written written' same serves = subst (λ (x : LoadStore D). ServesAll Tells files left x store' written written') same serves
+
+pub until_at : {D : Type 0} (Tells : Type 0) (files : D → Files) (faults fuses : D → ℕ) (why : Stop) (left : Option (List ℕ)) (store other store' : LoadStore D) (written written' : Option (List ℕ)) → store ≡ other
+    → ServesUntil Tells files faults fuses why left store store' written written' → ServesUntil Tells files faults fuses why left other store' written written'
+until_at {D} Tells files faults fuses why left store other store' written written' same until = subst (λ (x : LoadStore D). ServesUntil Tells files faults fuses why left x store' written written') same until
+
+pub settings_at : {D : Type 0} (store other store' : LoadStore D) → store ≡ other → store'.settings ≡ store.settings → store'.settings ≡ other.settings
+settings_at {D} store other store' same kept = kept ∙ ap (λ (x : LoadStore D). x.settings) same
+
+pub counts_at : {D : Type 0} (faults fuses : D → ℕ) (store other store' : LoadStore D) → store ≡ other → KeepsCounts faults fuses store store' → KeepsCounts faults fuses other store'
+counts_at {D} faults fuses store other store' same counts = subst (λ (x : LoadStore D). KeepsCounts faults fuses x store') same counts

@@ -1,9 +1,8 @@
 -- The batches that were told as loaded stand in whatever a stop leaves.
-use Rattle.std.proofs.Common.{◌≡◌, ◌≢◌, ◌⊎◌, inl, inr, ℕ, zero, suc, ◌+◌, ◌≤◌, ◌<◌, Bool, true, false, cond, not, ◌&&◌, List, [], ◌∷◌, ◌++◌, length, map, All, Option, Some, None, refl, sym, ap, subst, ◌∙◌, arith}
-use Rattle.std.specs.List.{list_all}
+use Rattle.std.proofs.Common.{◌≡◌, ◌≢◌, inl, inr, ℕ, zero, suc, ◌+◌, ◌<◌, Bool, true, false, cond, List, [], ◌∷◌, ◌++◌, length, map, All, Option, Some, None, refl, sym, ap, subst, ◌∙◌, arith}
 use Rattle.std.specs.Option.{option_or}
-use Rattle.std.specs.Prelude.{◌%◌, ◌==◌, if◌then◌else◌, nat_eq, slice_get, slice_index_or}
-use Rattle.std.proofs.lemmas.Bool.{cond-false, cond-true, eqb-true}
+use Rattle.std.specs.Prelude.{if◌then◌else◌, nat_eq}
+use Rattle.std.proofs.lemmas.Bool.{cond-false, cond-true}
 use Rattle.std.proofs.lemmas.List.{map-append}
 use Rattle.hay_needle.specs.declared.needle.Cell.{Cell}
 use Rattle.hay_needle.specs.declared.needle.Needle.{Needle}
@@ -15,17 +14,17 @@ use Rattle.hay_needle.specs.Needle.{needle_of_cell}
 use Rattle.hay_needle.specs.Tables.{look, look_after, pair_eq, rows_of}
 use Rattle.hay_needle.proofs.TableLaws.{pair_refl, pair_same, rows_append}
 use Rattle.hay_volume.specs.Cells.{needles_of}
-use Rattle.hay_open.specs.Stored.{OpensAs, Stored}
+use Rattle.hay_open.specs.Stored.{Stored}
 use Rattle.hay_dirfile.specs.declared.row.DirRow.{DirRow}
 use Rattle.hay_batch.specs.declared.photo.NewPhoto.{NewPhoto}
-use Rattle.hay_batch.specs.Batches.{AreDistinct, batch_total, new_cells, new_row, photo_total, shown_of}
+use Rattle.hay_batch.specs.Batches.{AreDistinct, new_cells, new_row, photo_total, shown_of}
 use Rattle.hay_batch.specs.Homes.{home_in}
 use Rattle.hay_batch.specs.Replicas.{At}
-use Rattle.hay_batch.specs.Shelves.{LeavesBatch, OpensStore, OpensWithout, StoredStore, replica_super, slot_of, with_needles, with_stored}
+use Rattle.hay_batch.specs.Shelves.{OpensStore, OpensWithout, StoredStore, with_needles, with_stored}
 use Rattle.hay_batch.proofs.HomeLaws.{home_in-append}
 use Rattle.hay_batch.proofs.Showing.{batch_shows}
 use Rattle.hay_load.specs.declared.reply.LoadReply.{LoadReply}
-use Rattle.hay_load.specs.declared.reply.LoadReply.TheVariants.{Known, Loaded, Other}
+use Rattle.hay_load.specs.declared.reply.LoadReply.TheVariants.{Known, Loaded}
 use Rattle.hay_load.specs.Answers.{AnswersAll, AnswersBatch, AreHomeless}
 use Rattle.hay_load.specs.Gathering.{Bad, Batch, Group}
 use Rattle.hay_load.specs.Loads.{LeavesFirst}
@@ -156,7 +155,7 @@ keeps_told settings s new photos reply volume count rows k photo (inr (inr loade
 abbrev pub AreApart : List Group → Type 0
 AreApart groups = (i line : ℕ) (photos : List NewPhoto) → At groups i (Batch line photos) → AreDistinct photos
 
-same_batch : (a b : ℕ) (p q : List NewPhoto) → Batch a p ≡ Batch b q → p ≡ q
+pub same_batch : (a b : ℕ) (p q : List NewPhoto) → Batch a p ≡ Batch b q → p ≡ q
 same_batch a b p q is = cc
 
 apart_rest : (group : Group) (groups : List Group) → AreApart (group ∷ groups) → AreApart groups

@@ -1,5 +1,5 @@
 -- Groups that were answered and told, one after another.
-use Rattle.std.proofs.Common.{◌≡◌, ◌⊎◌, inl, inr, ℕ, ◌+◌, ◌≤◌, List, [], ◌∷◌, ◌++◌, length, Bool, true, false, Option, Some, None, Result, Ok, Err, refl, sym, ap, subst, ◌∙◌, append_assoc, arith}
+use Rattle.std.proofs.Common.{◌≡◌, ℕ, ◌≤◌, List, [], ◌∷◌, ◌++◌, Bool, true, false, Option, Some, None, refl, ap, arith}
 use Rattle.std.specs.Prelude.{if◌then◌else◌}
 use Rattle.hay_needle.specs.declared.settings.Settings.{Settings}
 use Rattle.hay_disk.specs.Disk.{Files}
@@ -10,12 +10,12 @@ use Rattle.hay_script.specs.declared.Line.{Line}
 use Rattle.hay_script.specs.declared.Line.TheVariants as line
 use Rattle.hay_batch.specs.declared.photo.NewPhoto.{NewPhoto}
 use Rattle.hay_batch.specs.declared.store.LoadStore.{LoadStore}
-use Rattle.hay_load.specs.Gathering.{Bad, Batch, Group, OpenBatch, Step, bad_step, closed, command_step, joins, line_step, photo_of, put_step}
+use Rattle.hay_load.specs.Gathering.{Group, OpenBatch, Step, bad_step, closed, command_step, joins, line_step, photo_of, put_step}
 use Rattle.hay_load.specs.Loads.{Loads}
 use Rattle.hay_load.proofs.Taking.{loads_more, loads_none}
 use Rattle.hay_loading.specs.Endings.{batch_count}
 use Rattle.hay_loading.specs.Lines.{Told}
-use Rattle.hay_loading.proofs.Writing.{wrote_more, wrote_nothing}
+use Rattle.hay_loading.proofs.Sinks.{wrote_more, wrote_nothing}
 
 -- BATCHES OF ONE LINE
 
@@ -27,14 +27,17 @@ count_bad : (number : ℕ) (held : Option OpenBatch) → batch_count (bad_step n
 count_bad number None = omega arith
 count_bad number (Some batch) = omega arith
 
-count_by : (number : ℕ) (batch : OpenBatch) (photo : NewPhoto) (b : Bool) → batch_count
-    (if b then record { groups = []; held = Some (record { line = batch.line; photos = batch.photos ++ photo ∷ [] }) } else record { groups = closed (Some batch); held = Some (record { line = number; photos = photo ∷ [] }) }).groups ≤ 1
+abbrev put_by : ℕ → OpenBatch → NewPhoto → Bool → Step
+put_by number batch photo b = if b then record { groups = []; held = Some (record { line = batch.line; photos = batch.photos ++ photo ∷ [] }) } else record { groups = closed (Some batch); held = Some (record { line = number; photos = photo ∷ [] }) }
+
+count_by : (number : ℕ) (batch : OpenBatch) (photo : NewPhoto) (b : Bool) → batch_count (put_by number batch photo b).groups ≤ 1
 count_by number batch photo true = omega arith
 count_by number batch photo false = omega arith
 
 count_put : (number : ℕ) (held : Option OpenBatch) (photo : NewPhoto) → batch_count (put_step number held photo).groups ≤ 1
 count_put number None photo = omega arith
 count_put number (Some batch) photo = count_by number batch photo (joins batch.photos photo)
+
 count_command : (settings : Settings) (number : ℕ) (held : Option OpenBatch) (asks : Command) → batch_count (command_step settings number held asks).groups ≤ 1
 count_command settings number held (command.Put pair bytes) = count_put number held (photo_of settings pair bytes)
 count_command settings number held (command.Read pair cookie) = count_bad number held

@@ -1,6 +1,7 @@
 -- What was told of groups, by what a load of them answered and by what was written.
-use Rattle.std.proofs.Common.{◌≡◌, ◌⊎◌, inl, inr, ℕ, List, [], Option, Result, Ok, Err, refl, sym, ap, subst, ◌∙◌}
+use Rattle.std.proofs.Common.{◌≡◌, ◌⊎◌, inl, inr, ℕ, List, [], Option, Result, Ok, Err, refl, subst}
 use Rattle.std.specs.Prelude.{IsErrOf, IsOk, OnErr, OnOk}
+use Rattle.std.proofs.lemmas.Bool.{false≢true}
 use Rattle.std.proofs.lemmas.Result.{IfErr-at_err}
 use Rattle.hay_disk.specs.Disk.{Files}
 use Rattle.hay_disk.specs.Streams.{Wrote, WrotePart}
@@ -14,7 +15,11 @@ use Rattle.hay_loading.specs.Lines.{FailsTold, Leaves, StopsIn, Told, Writing}
 
 ok_gives : {T E : Type 0} (r : Result T E) (P : Type 0) → OnOk r P → IsOk r → P
 ok_gives (Ok x) P on ok = on
-ok_gives (Err e) P on ok = absurd ok
+ok_gives (Err e) P on ok = absurd (false≢true ok)
+
+pub on_ok_always : {T E : Type 0} (r : Result T E) (P : Type 0) → P → OnOk r P
+on_ok_always (Ok x) P p = p
+on_ok_always (Err e) P p = tt
 
 abbrev Answer : Type 0
 Answer = Result (Unit {0}) Stop

@@ -1,11 +1,10 @@
-use Rattle.std.proofs.Common.{◌≡◌, Some, List, ℕ, refl, sym, subst, inl, inr}
-use Rattle.std.specs.Prelude.{Result, Err, Option}
+use Rattle.std.proofs.Common.{◌≡◌, subst}
+use Rattle.std.specs.Prelude.{Result, Err}
 use Rattle.std.proofs.lemmas.Result.{err_from_is_err_and}
 use Rattle.hay_loading.specs.declared.stops.Stop.{Stop}
 use Rattle.hay_loading.specs.declared.stops.Stop.TheVariants as stop
 use Rattle.hay_loading.specs.Endings.{Ends}
 use Rattle.hay_loading.proofs.Refusing.{ends_unbegun, same_stop}
-use Rattle.hay_loading.proofs.Writing.{appends_more}
 use Rattle.hay_loading.proofs.load.load_headed.Goals as goal
 
 pub returns-in_err-write_header-clause-ends : goal.returns-in_err-write_header-clause-ends

@@ -1,19 +1,19 @@
-use Rattle.std.proofs.Common.{◌≡◌, ◌+◌, ◌≤◌, [], Some, None, refl, sym, ap, subst, ◌∙◌, arith, lit≤, false, ℕ, Option}
+use Rattle.std.proofs.Common.{◌≡◌, ◌≤◌, [], List, length, Some, refl, sym, ◌∙◌, arith, lit≤, ℕ}
 use Rattle.std.specs.Prelude.{Result, Err, IsErrOf}
 use Rattle.std.proofs.lemmas.Result.{err_from_is_err_and}
-use Rattle.hay_lines.specs.Stream.{rest_of, Accounts}
+use Rattle.hay_lines.specs.Stream.{rest_of, Accounts, IsReadToEnd}
 use Rattle.hay_lines.proofs.Taking.{accounts_same, accounts_more}
 use Rattle.hay_batch.proofs.StoreLaws.{on_ok_more}
 use Rattle.hay_disk.specs.Streams.{Wrote}
 use Rattle.hay_load.specs.Gathering.{closed}
 use Rattle.hay_load.specs.Loads.{held_of}
 use Rattle.hay_loading.specs.declared.stops.Stop.{Stop}
-use Rattle.hay_loading.specs.declared.stops.Stop.TheVariants as stop
 use Rattle.hay_loading.specs.Lines.{ServesAll, Told}
-use Rattle.hay_loading.proofs.Reading.{long_script, makes_none, read_to_end, short_script, taken_most}
+use Rattle.hay_loading.proofs.Reading.{makes_none, read_to_end, short_script}
 use Rattle.hay_loading.proofs.Serving.{counts_more, counts_same, serves_all, takes_more, until_end, until_line}
 use Rattle.hay_loading.proofs.Taking.{told_none}
-use Rattle.hay_loading.proofs.Writing.{appends_more, appends_nothing, rose_since}
+use Rattle.hay_loading.proofs.Telling.{on_ok_always}
+use Rattle.hay_loading.proofs.Sinks.{appends_more, appends_nothing}
 use Rattle.hay_loading.proofs.serve.serve.Goals as goal
 
 pub lines-init : goal.lines-init
@@ -108,3 +108,26 @@ returns-then-is_ended-clause-counts g c =
     let inv = c.lines.invariant in
     counts_more g.D.Disk.fault_count g.D.Disk.fuse_count c.args.load.now.store c.step.new.load.store c.take_end.new.load.store c.requires.loading.shape c.step.ensures.shape.1 (c.step.ensures.shape.0 ∙ inv.same)
     (counts_more g.D.Disk.fault_count g.D.Disk.fuse_count c.args.load.now.store c.lines.load.store c.step.new.load.store c.requires.loading.shape inv.loading.shape inv.same inv.counts c.step.ensures.counts) c.take_end.ensures.counts
+
+pub returns-then-is_ended-clause-ended : goal.returns-then-is_ended-clause-ended
+returns-then-is_ended-clause-ended g c =
+    let inv = c.lines.invariant in
+    let left = g.S.Source.left in
+    let met = sym c.is_ended.ensures ∙ c.if-is_ended.true in
+    on_ok_always c.take_end.result (IsReadToEnd (left c.args.source.now) (left c.step.new.source))
+    (read_to_end (left c.args.source.now) (left c.lines.source) (left c.step.new.source) inv.first c.lines.script c.step.new.script inv.accounts (c.in_ok-number.ensures.at_end met))
+
+pub returns-then-is_ended-clause-short : goal.returns-then-is_ended-clause-short
+returns-then-is_ended-clause-short g c =
+    let inv = c.lines.invariant in
+    let left = g.S.Source.left in
+    let met = sym c.is_ended.ensures ∙ c.if-is_ended.true in
+    on_ok_always c.take_end.result ((script : List ℕ) → left c.args.source.now ≡ Some script → length script ≤ 1073741824) (λ script told.
+    let accounts : Accounts (Some script) inv.first (left c.lines.source) c.lines.script = rw told at inv.accounts in
+    short_script 1073741824 script (left c.lines.source) (left c.step.new.source) inv.first c.lines.script c.step.new.script accounts c.in_ok-number.ensures.accounts (c.in_ok-number.ensures.at_end met) inv.at_first c.step.ensures.limit)
+
+pub returns-then-is_ended-clause-appends : goal.returns-then-is_ended-clause-appends
+returns-then-is_ended-clause-appends g c =
+    let inv = c.lines.invariant in
+    appends_more (g.K.Sink.written c.args.sink.now) (g.K.Sink.written c.step.new.sink) (g.K.Sink.written c.take_end.new.sink)
+    (appends_more (g.K.Sink.written c.args.sink.now) (g.K.Sink.written c.lines.sink) (g.K.Sink.written c.step.new.sink) inv.appends c.step.ensures.appends) c.take_end.ensures.appends
