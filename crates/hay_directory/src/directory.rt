@@ -263,9 +263,13 @@ impl<D: Disk> Directory<D> {
               pending = Some (record { tag = tag; row = record { pair = pair; volume = volume } });
             }) drained }
 
+        // Something is known of a directory at any time.
+        ensures stood { D.Tells → (known : DirKnown) × Stands D.files self.old known self.old.drained }
         // Whatever the disk has, the row is pending only where it failed.
         ensures mode { OnOk result (self.new.mode ≡ self.old.mode) }
         ensures refused_mode { IfErr result (LeavesMode (record { tag = tag; row = record { pair = pair; volume = volume } }) self.old.mode self.new.mode) }
+
+        ensures drained { self.new.drained ≡ self.old.drained }
 
         // A frozen directory refuses, and nothing else is refused so.
         ensures frozen { IsFrozen self.old → IsErrOf result DirFault.Frozen }
@@ -295,6 +299,7 @@ impl<D: Disk> Directory<D> {
         ensures written { D.Tells → (known : DirKnown) (drained : List Bool) → Stands D.files self.old known drained →
             OnOk result (IsRowWritten D.files self.new known drained (home_row row)) }
         // Something is known of a directory at any time.
+        ensures stood { D.Tells → (known : DirKnown) × Stands D.files self.old known self.old.drained }
         ensures sound { D.Tells → OnOk result ((known : DirKnown) × (drained : List Bool) × IsRowWritten D.files self.new known drained (home_row row)) }
         ensures unshown { OnOk result (IsUnshown self.new (record { tag = tag; row = row })) }
         // Until it is shown it is pending.

@@ -7,6 +7,7 @@ use Rattle.hay_cluster.proofs.OpeningDamage.{restart_damaged, restart_failed, re
 use Rattle.hay_cluster.proofs.OpeningDraws.{restart_drew}
 use Rattle.hay_cluster.proofs.OpeningStore.{MovedParts, StoppedParts, opens_up, restart_cause, restart_fuses, restart_later, restart_left, restart_opened, restart_whole, stops_closed, stops_idle}
 use Rattle.hay_cluster.proofs.Pending.{restart_tells, opened_fit, opened_settled}
+use Rattle.hay_cluster.proofs.Closing.{opened_closures}
 use Rattle.hay_cluster.proofs.cluster.Cluster.restart.Goals as goal
 
 pub open_parts-requires-clause-closed : goal.open_parts-requires-clause-closed
@@ -109,3 +110,9 @@ pub returns-clause-drew : goal.returns-clause-drew
 returns-clause-drew g c = λ tells.
     on_ok_weaker c.open_parts.result
     (λ all. restart_drew g.D.Disk.files g.D.Disk.drawn c.args.self.now c.stop.new.self c.open_parts.new.self c.stop.ensures.shape c.open_parts.ensures.shape c.stop.ensures.settings c.open_parts.ensures.settings (c.stop.ensures.drawn tells) all) (c.open_parts.ensures.drew tells)
+
+pub returns-clause-closures : goal.returns-clause-closures
+returns-clause-closures g c =
+    IfOk-weaker c.open_parts.result _ _
+    (λ notes opens. opened_closures g.D.Disk.Tells g.D.Disk.files g.D.Piece.Piece.Tells g.D.Disk.fault_count g.D.Disk.fuse_count (c.args.self.now).settings c.stop.new.self c.open_parts.new.self notes c.stop.ensures.settings
+    (c.open_parts.ensures.settings ∙ c.stop.ensures.settings) c.stop.ensures.shape c.open_parts.ensures.shape opens) c.open_parts.ensures.opened
