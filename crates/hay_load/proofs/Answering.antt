@@ -37,7 +37,8 @@ first_home_in homes rows photos volume are first = record {
   before = λ i other low there. sym (are.are other.pair) ∙ first.before i other low there;
 }
 
-pub homeless_in : (homes : List ((ℕ × ℕ) × ℕ)) (rows : List DirRow) (photos : List NewPhoto) → AreHomes homes rows → All (λ (photo : NewPhoto). home_among homes photo.pair ≡ None) photos → AreHomeless rows photos
+pub homeless_in : (homes : List ((ℕ × ℕ) × ℕ)) (rows : List DirRow) (photos : List NewPhoto) → AreHomes homes rows
+    → All (λ (photo : NewPhoto). home_among homes photo.pair ≡ None) photos → AreHomeless rows photos
 homeless_in homes rows photos are none = λ i default below. sym (are.are _) ∙ none i default below
 
 -- ROOM
@@ -115,7 +116,8 @@ module _ {D : Type 0} (files : D → Files) (s : StoredStore) (photos : List New
     stands = subst (λ (store : LoadStore D). StandsAs files store s) (sym same) stands;
   }
 
-  pub loaded_answer : (volume rows : ℕ) → All (λ (photo : NewPhoto). home_among old.directory.homes photo.pair ≡ None) photos → IsFirstRoom old (key_of photos) (batch_total photos) volume → rows ≡ new.directory.rows
+  pub loaded_answer : (volume rows : ℕ) → All (λ (photo : NewPhoto). home_among old.directory.homes photo.pair ≡ None) photos
+      → IsFirstRoom old (key_of photos) (batch_total photos) volume → rows ≡ new.directory.rows
       → StandsAs files new (with_stored volume photos s) → Answered files old.settings s photos (Loaded volume (length photos) rows) new
   loaded_answer volume rows none room count stands' = record {
     stored = with_stored volume photos s;
@@ -131,9 +133,11 @@ module _ {D : Type 0} (files : D → Files) (s : StoredStore) (photos : List New
 
 -- WHAT A STOP LEAVES
 
-pub left_new : {D : Type 0} (files : D → Files) (s : StoredStore) (photos : List NewPhoto) (old new : LoadStore D) (image : ℕ → ℕ → List ℕ) (answer : Result LoadedRows LoadFault) → IsShaped old → StandsAs files old s → MayLeaveDisks files new image
+pub left_new : {D : Type 0} (files : D → Files) (s : StoredStore) (photos : List NewPhoto) (old new : LoadStore D) (image : ℕ → ℕ → List ℕ) (answer : Result LoadedRows LoadFault)
+    → IsShaped old → StandsAs files old s → MayLeaveDisks files new image
     → ((volume : ℕ) × (answer ≡ Err (LoadFault.Known volume)) × IsFirstHome old.directory.homes photos volume)
     ⊎ (((volume : ℕ) → answer ≡ Err (LoadFault.Known volume) → ⊥) × All (λ (photo : NewPhoto). home_among old.directory.homes photo.pair ≡ None) photos)
     → IfErr answer (λ (fault : LoadFault). (IsDiskFault fault → ⊥) → new ≡ old) → LeavesBatch old.settings photos image s → LeavesNew old.settings photos image s
-left_new files s photos old new image answer shape stands leaves (inl known) kept batch = inl (left_untouched files s old new image (kept_known answer known.0 (new ≡ old) known.1 kept) shape stands leaves)
+left_new files s photos old new image answer shape stands leaves (inl known) kept batch = inl
+    (left_untouched files s old new image (kept_known answer known.0 (new ≡ old) known.1 kept) shape stands leaves)
 left_new files s photos old new image answer shape stands leaves (inr none) kept batch = inr (homeless_in old.directory.homes s.rows photos stands.contents.directory.homes none.1, batch)

@@ -71,7 +71,8 @@ first_beside (first ∷ photos) photo some all =
 
 apart : (photo other : NewPhoto) → is_beside photo other ≡ true → other.pair ≢ photo.pair
 apart photo other beside same =
-    let alt : (other.pair.alt == photo.pair.alt) ≡ false = not_true (other.pair.alt == photo.pair.alt) (and_second (other.pair.key == photo.pair.key) (not (other.pair.alt == photo.pair.alt)) beside) in
+    let alt : (other.pair.alt == photo.pair.alt) ≡ false = not_true (other.pair.alt == photo.pair.alt)
+    (and_second (other.pair.key == photo.pair.key) (not (other.pair.alt == photo.pair.alt)) beside) in
     elim (eqb_tells other.pair.alt photo.pair.alt) [
       | inl equal ↦ let both : true ≡ false = sym equal.0 ∙ alt in absurd cc
       | inr other_alt ↦ other_alt.1 (ap (λ (p : Pair). p.alt) same)
@@ -94,7 +95,8 @@ gathered_more photos more photo g few joined longer =
     let all = and_first (list_all (is_beside photo) photos) (nat_lt (length photos) 64 && nat_le (batch_total photos + photo_total photo) 67108864) joined in
     let fits = and_second (list_all (is_beside photo) photos) (nat_lt (length photos) 64 && nat_le (batch_total photos + photo_total photo) 67108864) joined in
     let count : length photos < 64 = ltb-true (length photos) 64 (and_first (nat_lt (length photos) 64) (nat_le (batch_total photos + photo_total photo) 67108864) fits) in
-    let total : batch_total photos + photo_total photo ≤ 67108864 = leb-true (batch_total photos + photo_total photo) 67108864 (and_second (nat_lt (length photos) 64) (nat_le (batch_total photos + photo_total photo) 67108864) fits) in
+    let total : batch_total photos + photo_total photo ≤ 67108864 = leb-true (batch_total photos + photo_total photo) 67108864
+    (and_second (nat_lt (length photos) 64) (nat_le (batch_total photos + photo_total photo) 67108864) fits) in
     let some = g.batch.some in
     let long = length-append photos (photo ∷ []) in
     let sum = sum_by-append photo_total photos (photo ∷ []) in

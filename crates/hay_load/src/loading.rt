@@ -229,7 +229,8 @@ impl<D: Disk> Loading<D> {
             LeavesFirst self.old.store.settings (command_step self.old.store.settings number (held_of self.old.held) command).groups image s }
         ensures shape { (self.new.store.settings ≡ self.old.store.settings) × IsShaped self.new.store }
         ensures counts { KeepsCounts D.fault_count D.fuse_count self.old.store self.new.store }
-        ensures failed { IsErrOf result LoadEnd.Failed → FailsFirst D.fault_count (command_step self.old.store.settings number (held_of self.old.held) command).groups self.old.store self.new.store out.old.items out.new.items }
+        ensures failed { IsErrOf result LoadEnd.Failed → FailsFirst D.fault_count (command_step self.old.store.settings number (held_of self.old.held) command).groups
+            self.old.store self.new.store out.old.items out.new.items }
     {
         match command {
             Command::Put { pair, photo } => {
@@ -275,7 +276,8 @@ impl<D: Disk> Loading<D> {
             LeavesFirst self.old.store.settings (line_step self.old.store.settings number (held_of self.old.held) line).groups image s }
         ensures shape { (self.new.store.settings ≡ self.old.store.settings) × IsShaped self.new.store }
         ensures counts { KeepsCounts D.fault_count D.fuse_count self.old.store self.new.store }
-        ensures failed { IsErrOf result LoadEnd.Failed → FailsFirst D.fault_count (line_step self.old.store.settings number (held_of self.old.held) line).groups self.old.store self.new.store out.old.items out.new.items }
+        ensures failed { IsErrOf result LoadEnd.Failed → FailsFirst D.fault_count (line_step self.old.store.settings number (held_of self.old.held) line).groups
+            self.old.store self.new.store out.old.items out.new.items }
     {
         match line {
             Line::Skip => Ok(()),

@@ -58,7 +58,8 @@ bad_apart : (number : ℕ) (held : Option OpenBatch) → HeldApart held → Step
 bad_apart number held apart = (apart_both (closed held) (Bad number ∷ []) (closed_apart held apart) tt, tt)
 
 put_by : (number : ℕ) (batch : OpenBatch) (photo : NewPhoto) (b : Bool) → joins batch.photos photo ≡ b → AreDistinct batch.photos → StepApart
-    (if b then record { groups = []; held = Some (record { line = batch.line; photos = batch.photos ++ photo ∷ [] }) } else record { groups = closed (Some batch); held = Some (record { line = number; photos = photo ∷ [] }) })
+    (if b then record { groups = []; held = Some (record { line = batch.line; photos = batch.photos ++ photo ∷ [] }) } else record
+    { groups = closed (Some batch); held = Some (record { line = number; photos = photo ∷ [] }) })
 put_by number batch photo true is apart = (tt, more_distinct batch.photos photo apart (and_first (list_all (is_beside photo) batch.photos) (fits_behind photo batch.photos) is))
 put_by number batch photo false is apart = ((apart, tt), one_distinct photo)
 

@@ -15,7 +15,8 @@ use Rattle.hay_batch.proofs.Loading.{replica_there}
 use Rattle.hay_loading.specs.Endings.{CountsOn}
 
 -- what holds of each slot that has a disk holds of all
-each_slot : {D : Type 0} (P : ℕ → Type 0) (store : LoadStore D) → IsShaped store → P 0 → ((v j : ℕ) (r : LoadReplica D) → ReplicaAt store v j r → P (slot_of store.settings v j)) → (slot : ℕ) → slot < disk_count store.settings → P slot
+each_slot : {D : Type 0} (P : ℕ → Type 0) (store : LoadStore D) → IsShaped store → P 0 → ((v j : ℕ) (r : LoadReplica D) → ReplicaAt store v j r → P (slot_of store.settings v j))
+    → (slot : ℕ) → slot < disk_count store.settings → P slot
 each_slot {D} P store shape first others zero below = first
 each_slot {D} P store shape first others (suc n) below =
     let width = store.settings.replicas in
@@ -33,8 +34,10 @@ each_slot {D} P store shape first others (suc n) below =
     let slot : slot_of store.settings (n / width) (n % width) ≡ suc n = omega (arith, split) in
     subst P slot (others (n / width) (n % width) r.0 (w.0, w.1, r.1))
 
-module _ {D : Type 0} (Tells : Type 0) (files : D → Files) (drawn : D → ℕ → ℕ) (faults fuses : D → ℕ) (old new : ℕ → HeldDisk) (store store' : LoadStore D) (shape : IsShaped store) (shape' : IsShaped store') (same : store'.settings ≡ store.settings)
-    (disks : EachDisk (λ slot disk. OpensSlot Tells slot (old slot) (files disk) (faults disk) (fuses disk)) store) (counts : KeepsCounts faults fuses store store') (given : EachDisk (λ slot disk. IsGivenDisk Tells files drawn faults fuses (new slot) disk) store') where
+module _ {D : Type 0} (Tells : Type 0) (files : D → Files) (drawn : D → ℕ → ℕ) (faults fuses : D → ℕ) (old new : ℕ → HeldDisk) (store store' : LoadStore D)
+    (shape : IsShaped store) (shape' : IsShaped store') (same : store'.settings ≡ store.settings)
+    (disks : EachDisk (λ slot disk. OpensSlot Tells slot (old slot) (files disk) (faults disk) (fuses disk)) store) (counts : KeepsCounts faults fuses store store')
+    (given : EachDisk (λ slot disk. IsGivenDisk Tells files drawn faults fuses (new slot) disk) store') where
   counts_first : CountsOn (old 0) (new 0)
   counts_first = record {
     faults_rise = (let a = disks.directory.later in let b = counts.directory in let c = given.directory.fault_count in omega (arith, a, b, c));

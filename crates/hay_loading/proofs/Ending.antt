@@ -50,7 +50,8 @@ front_both groups next all front = (front.0, front.1 ∙ ap (λ (l : List Group)
 -- TEXTS
 
 -- the lines of replies behind the header
-lines_behind : {D : Type 0} (Tells : Type 0) (files : D → Files) (settings : Settings) (groups : List Group) (old new : LoadStore D) (text : List ℕ) (before mid after : Option (List ℕ)) (loads : Loads Tells files groups old new [] text)
+lines_behind : {D : Type 0} (Tells : Type 0) (files : D → Files) (settings : Settings) (groups : List Group) (old new : LoadStore D) (text : List ℕ)
+    (before mid after : Option (List ℕ)) (loads : Loads Tells files groups old new [] text)
     → Wrote before (header_line settings) mid → Wrote mid text after → Wrote before (load_text settings groups loads.replies) after
 lines_behind Tells files settings groups old new text before mid after loads first second =
     let P : List ℕ → Type 0 = λ l. Wrote before (header_line settings ++ l) after in
@@ -80,12 +81,15 @@ module _ {D : Type 0} (Tells : Type 0) (files : D → Files) (drawn : D → ℕ 
 
   module _ (script : List ℕ) (old : ℕ → HeldDisk) (shelf shelf' : ℕ) (before begun after : Option (List ℕ)) (store : LoadStore D) (same : store.settings ≡ settings) (shape : IsShaped store)
       (opened : Tells → (s : StoredStore) → OpensStore settings (reads_of old) s → StandsAs files store s)
-      (disks : EachDisk (λ slot disk. OpensSlot Tells slot (old slot) (files disk) (faults disk) (fuses disk)) store) (header : Wrote before (header_line settings) begun) (some : 0 < settings.volumes) where
-    both_by : (groups next : List Group) (replies : List LoadReply) (s t : StoredStore) (image : ℕ → ℕ → List ℕ) → IsFront (groups ++ next) (script_groups settings script) → AnswersAll settings s groups replies t → LeavesFirst settings next image t
+      (disks : EachDisk (λ slot disk. OpensSlot Tells slot (old slot) (files disk) (faults disk) (fuses disk)) store) (header : Wrote before (header_line settings) begun)
+      (some : 0 < settings.volumes) where
+    both_by : (groups next : List Group) (replies : List LoadReply) (s t : StoredStore) (image : ℕ → ℕ → List ℕ) → IsFront (groups ++ next) (script_groups settings script)
+        → AnswersAll settings s groups replies t → LeavesFirst settings next image t
         → LeavesFirst settings next image t × AllStandIn settings groups replies image
     both_by groups next replies s t image front answers left = (left, all_stand settings s t groups next replies image some (front_apart settings script groups next front) answers left)
 
-    answers_by : (groups next : List Group) (mid : LoadStore D) (text : List ℕ) (loads : Loads Tells files groups store mid [] text) → mid.settings ≡ store.settings → IsFront (groups ++ next) (script_groups settings script)
+    answers_by : (groups next : List Group) (mid : LoadStore D) (text : List ℕ) (loads : Loads Tells files groups store mid [] text) → mid.settings ≡ store.settings
+        → IsFront (groups ++ next) (script_groups settings script)
         → Leaves Tells files next mid store' → Answers Tells settings script old new shelf shelf' before after groups loads.replies next
     answers_by groups next mid text loads kept front leaves = record {
       front = front;
@@ -129,7 +133,8 @@ module _ {D : Type 0} (Tells : Type 0) (files : D → Files) (drawn : D → ℕ 
       halts is told = record {
         groups = until.groups;
         replies = until.told.loads.replies;
-        answers = answers_by until.groups [] until.mid until.told.text until.told.loads until.settings (front_less until.groups until.next (script_groups settings script) front_of) (rests until.mid is);
+        answers = answers_by until.groups [] until.mid until.told.text until.told.loads until.settings
+            (front_less until.groups until.next (script_groups settings script) front_of) (rests until.mid is);
         wrote = subst (λ (w : Option (List ℕ)). Wrote before (load_text settings until.groups until.told.loads.replies) w) (sym told) told_whole;
       }
 
@@ -165,7 +170,8 @@ module _ {D : Type 0} (Tells : Type 0) (files : D → Files) (drawn : D → ℕ 
                   (subst (λ (x : Settings). AnswersAll x a.stored until.next loads.replies b.stored) until.settings b.answers)) in (
                     b.stored,
                     all,
-                    λ image may. both_by (until.groups ++ until.next) [] (first.replies ++ loads.replies) s b.stored image (front_both until.groups until.next (script_groups settings script) front_of) all
+                    λ image may. both_by (until.groups ++ until.next) [] (first.replies ++ loads.replies) s b.stored image
+                        (front_both until.groups until.next (script_groups settings script) front_of) all
                         (subst (λ (x : Settings). LeavesFirst x [] image b.stored) same' (stands_left files b.stored store' image shape' b.stands (left_disks tells image may))),
                   );
             };
@@ -184,7 +190,8 @@ module _ {D : Type 0} (Tells : Type 0) (files : D → Files) (drawn : D → ℕ 
           let at : Fell 0 count = record {
             is_within = omega arith;
             is_rise = (let opening = disks.directory.later in let later = until.counts.directory in
-                subst (λ n. Rose (old 0).fault_count n) (sym given.directory.fault_count) (rose_since (old 0).fault_count (faults until.mid.directory.disk) (faults store'.directory.disk) (omega (arith, opening, later)) rose));
+                subst (λ n. Rose (old 0).fault_count n) (sym given.directory.fault_count) (rose_since (old 0).fault_count (faults until.mid.directory.disk)
+                (faults store'.directory.disk) (omega (arith, opening, later)) rose));
             is_count = is ∙ sym given.directory.fault_count;
           } in
           subst (λ n. Fell n count) (sym first) at
@@ -194,7 +201,8 @@ module _ {D : Type 0} (Tells : Type 0) (files : D → Files) (drawn : D → ℕ 
           let volumes : until.mid.settings.volumes ≡ store.settings.volumes = ap (λ (x : Settings). x.volumes) until.settings in
           let replicas : until.mid.settings.replicas ≡ store.settings.replicas = ap (λ (x : Settings). x.replicas) until.settings in
           let volume : f.v < store.settings.volumes = (let below = at_below until.mid.volumes.items f.v f.was.0 f.was.1 in let many = until.shape.volumes in omega (arith, below, many, volumes)) in
-          let replica : f.j < store.settings.replicas = (let below = at_below f.was.0.replicas.items f.j f.before f.was.2 in let many = until.shape.replicas f.v f.was.0 f.was.1 in omega (arith, below, many, replicas)) in
+          let replica : f.j < store.settings.replicas = (let below = at_below f.was.0.replicas.items f.j f.before f.was.2 in let many = until.shape.replicas f.v f.was.0 f.was.1 in
+          omega (arith, below, many, replicas)) in
           let r = replica_there store f.v f.j shape volume replica in
           let back = given.replicas f.v f.j f.after f.is in
           let opening = (disks.replicas f.v f.j r.0 r.1).later in
@@ -207,7 +215,8 @@ module _ {D : Type 0} (Tells : Type 0) (files : D → Files) (drawn : D → ℕ 
           let back_here : (new at).fault_count ≡ faults f.after.disk = subst (λ n. (new n).fault_count ≡ faults f.after.disk) there back.fault_count in
           let fell : Fell at count = record {
             is_within = subst (λ n. n < disk_count settings) there (within_slots f.v f.j f.after f.is);
-            is_rise = subst (λ n. Rose (old at).fault_count n) (sym back_here) (rose_since (old at).fault_count (faults f.before.disk) (faults f.after.disk) (omega (arith, opening_here, later)) f.rose);
+            is_rise = subst (λ n. Rose (old at).fault_count n) (sym back_here) (rose_since (old at).fault_count (faults f.before.disk) (faults f.after.disk)
+                (omega (arith, opening_here, later)) f.rose);
             is_count = f.count ∙ sym back_here;
           } in
           subst (λ n. Fell n count) place fell
@@ -230,7 +239,8 @@ module _ {D : Type 0} (Tells : Type 0) (files : D → Files) (drawn : D → ℕ 
             replies = until.told.loads.replies;
             line = x.batch.line;
             photos = x.batch.photos;
-            answers = answers_by until.groups (one ∷ []) until.mid until.told.text until.told.loads until.settings (front_first until.groups until.next (script_groups settings script) x.behind one x.is front_of) leaves;
+            answers = answers_by until.groups (one ∷ []) until.mid until.told.text until.told.loads until.settings
+                (front_first until.groups until.next (script_groups settings script) x.behind one x.is front_of) leaves;
             slot = x.slot;
             faults = x.faults;
             within = count.is_within;

@@ -122,8 +122,10 @@ makes_none settings number held left all none = λ rest told.
     (rest, ap (λ (l : Option (List ℕ)). rest_of l all) told ∙ ap (λ (l : List ℕ). Some (l ++ rest)) none, refl)
 
 -- behind lines come more
-module _ (settings : Settings) (number number' : ℕ) (held held' : Option OpenBatch) (left left' : Option (List ℕ)) (groups more : List Group) (first : Makes settings number held left groups number' held' left') where
-  pub makes_more : (number'' : ℕ) (held'' : Option OpenBatch) (left'' : Option (List ℕ)) → Makes settings number' held' left' more number'' held'' left'' → Makes settings number held left (groups ++ more) number'' held'' left''
+module _ (settings : Settings) (number number' : ℕ) (held held' : Option OpenBatch) (left left' : Option (List ℕ)) (groups more : List Group)
+    (first : Makes settings number held left groups number' held' left') where
+  pub makes_more : (number'' : ℕ) (held'' : Option OpenBatch) (left'' : Option (List ℕ)) → Makes settings number' held' left' more number'' held'' left''
+      → Makes settings number held left (groups ++ more) number'' held'' left''
   makes_more number'' held'' left'' second = λ rest told.
       let a = first rest told in
       let b = second a.0 a.1 in (
@@ -172,7 +174,8 @@ long_script limit script mid after first held h long at_first =
 pub taken_nothing : (limit : ℕ) (left : Option (List ℕ)) → TookAtMost limit left left
 taken_nothing limit left script told = (script, told, omega arith)
 
-pub taken_most : (limit : ℕ) (left mid after : Option (List ℕ)) (first held held' : Held) → Accounts left first mid held → Accounts mid held after held' → first.taken ≡ 0 → held'.taken ≤ limit → TookAtMost limit left after
+pub taken_most : (limit : ℕ) (left mid after : Option (List ℕ)) (first held held' : Held) → Accounts left first mid held → Accounts mid held after held' → first.taken ≡ 0
+    → held'.taken ≤ limit → TookAtMost limit left after
 taken_most limit left mid after first held held' h k at_first small script told =
     let all = accounts_more left mid after first held held' h k in
     let made : Accounts (Some script) first after held' = rw told at all in (made.0, made.1, omega (arith, made.2, at_first, small))

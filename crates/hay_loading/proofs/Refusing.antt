@@ -19,7 +19,8 @@ use Rattle.hay_loading.proofs.Sinks.{part_more, wrote_more, wrote_part}
 module _ (Tells : Type 0) (settings : Settings) (script : List ℕ) (old new : ℕ → HeldDisk) (shelf shelf' : ℕ) (before begun after : Option (List ℕ)) (fault : LoadOpenFault)
     (left : AreLeft Tells settings script old new shelf shelf' before after)
     (by_shelf : (faults : ℕ) → fault ≡ LoadOpenFault.Shelf faults → Rose shelf shelf' × (faults ≡ shelf'))
-    (failed : (slot faults : ℕ) → fault ≡ LoadOpenFault.Open slot (OpenFault.Failed faults) → (slot < disk_count settings) × Rose (old slot).fault_count (new slot).fault_count × (faults ≡ (new slot).fault_count)
+    (failed : (slot faults : ℕ) → fault ≡ LoadOpenFault.Open slot (OpenFault.Failed faults)
+    → (slot < disk_count settings) × Rose (old slot).fault_count (new slot).fault_count × (faults ≡ (new slot).fault_count)
     × (Tells → IsUndamagedBelow settings slot (reads_of old)))
     (damaged : (slot file at : ℕ) → fault ≡ LoadOpenFault.Open slot (OpenFault.Damaged file at) → (slot < disk_count settings)
     × (Tells → IsDamagedDisk settings (reads_of old) slot file at × IsDamagedDisk settings (reads_of new) slot file at))
@@ -53,7 +54,8 @@ module _ (Tells : Type 0) (settings : Settings) (script : List ℕ) (old new : �
   ends_refused stop.TooLong told part wanting (inr (inr is)) = absurd cc
 
 -- the header was not written
-module _ (Tells : Type 0) (settings : Settings) (script : List ℕ) (old : ℕ → HeldDisk) (shelf : ℕ) (before after : Option (List ℕ)) (back : AreIn (disk_count settings) old) (part : WrotePart before (header_line settings) after) where
+module _ (Tells : Type 0) (settings : Settings) (script : List ℕ) (old : ℕ → HeldDisk) (shelf : ℕ) (before after : Option (List ℕ)) (back : AreIn (disk_count settings) old)
+    (part : WrotePart before (header_line settings) after) where
   untouched : AreLeft Tells settings script old old shelf shelf before after
   untouched = λ slot within. inl (record {
     kept = λ tells. inl refl;

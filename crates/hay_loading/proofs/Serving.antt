@@ -62,10 +62,12 @@ module _ {D : Type 0} (Tells : Type 0) (files : D → Files) (first mid : Loadin
       → Makes first.store.settings number (held_of mid.held) rest groups number' (held_of new.held) rest'
   makes_same groups number' new rest' makes = subst (λ (x : Settings). Makes x number (held_of mid.held) rest groups number' (held_of new.held) rest') same makes
 
-  pub takes_more : (new : Loading D) (number' : ℕ) (rest' written' : Option (List ℕ)) → Takes Tells files mid number rest middle new number' rest' written' → Takes Tells files first 1 left written new number' rest' written'
+  pub takes_more : (new : Loading D) (number' : ℕ) (rest' written' : Option (List ℕ)) → Takes Tells files mid number rest middle new number' rest' written'
+      → Takes Tells files first 1 left written new number' rest' written'
   takes_more new number' rest' written' next = record {
     groups = takes.groups ++ next.groups;
-    makes = makes_more first.store.settings 1 number (held_of first.held) (held_of mid.held) left rest takes.groups next.groups takes.makes number' (held_of new.held) rest' (makes_same next.groups number' new rest' next.makes);
+    makes = makes_more first.store.settings 1 number (held_of first.held) (held_of mid.held) left rest takes.groups next.groups takes.makes number' (held_of new.held) rest'
+        (makes_same next.groups number' new rest' next.makes);
     told = told_more Tells files takes.groups next.groups first.store mid.store new.store written middle written' same takes.told next.told;
   }
 
@@ -97,12 +99,14 @@ module _ {D : Type 0} (Tells : Type 0) (files : D → Files) (first mid : Loadin
       pub groups_all : (script : List ℕ) → left ≡ Some script → script_groups first.store.settings script ≡ (takes.groups ++ next.groups) ++ closed (held_of new.held)
       groups_all script told =
           sym (from_first script)
-          ∙ makes_all first.store.settings 1 number (held_of first.held) (held_of mid.held) left rest takes.groups next.groups takes.makes number' (held_of new.held) rest' (makes_same next.groups number' new rest' next.makes) over script told
+          ∙ makes_all first.store.settings 1 number (held_of first.held) (held_of mid.held) left rest takes.groups next.groups takes.makes number' (held_of new.held) rest'
+          (makes_same next.groups number' new rest' next.makes) over script told
 
       pub told_both : Told Tells files Wrote (takes.groups ++ next.groups) first.store new.store written middle'
       told_both = told_more Tells files takes.groups next.groups first.store mid.store new.store written middle middle' same takes.told next.told
 
-      pub serves_all : (store' : LoadStore D) (written' : Option (List ℕ)) → new.store.settings ≡ first.store.settings → Told Tells files Wrote (closed (held_of new.held)) new.store store' middle' written'
+      pub serves_all : (store' : LoadStore D) (written' : Option (List ℕ)) → new.store.settings ≡ first.store.settings
+          → Told Tells files Wrote (closed (held_of new.held)) new.store store' middle' written'
           → ServesAll Tells files left first.store store' written written'
       serves_all store' written' same' last = record {
         groups = (takes.groups ++ next.groups) ++ closed (held_of new.held);
@@ -110,7 +114,8 @@ module _ {D : Type 0} (Tells : Type 0) (files : D → Files) (first mid : Loadin
         told = told_more Tells files (takes.groups ++ next.groups) (closed (held_of new.held)) first.store new.store store' written middle' written' same' told_both last;
       }
 
-      pub until_end : (faults fuses : D → ℕ) (why : Stop) (store' : LoadStore D) (written' : Option (List ℕ)) → new.store.settings ≡ first.store.settings → IsShaped new.store → KeepsCounts faults fuses first.store new.store
+      pub until_end : (faults fuses : D → ℕ) (why : Stop) (store' : LoadStore D) (written' : Option (List ℕ)) → new.store.settings ≡ first.store.settings → IsShaped new.store
+          → KeepsCounts faults fuses first.store new.store
           → StopsIn Tells files faults why (closed (held_of new.held)) new.store store' middle' written' → ServesUntil Tells files faults fuses why left first.store store' written written'
       until_end faults fuses why store' written' same' shape counts stops = record {
         groups = takes.groups ++ next.groups;
@@ -135,9 +140,11 @@ pub serves_at : {D : Type 0} (Tells : Type 0) (files : D → Files) (left : Opti
     → ServesAll Tells files left store store' written written' → ServesAll Tells files left other store' written written'
 serves_at {D} Tells files left store other store' written written' same serves = subst (λ (x : LoadStore D). ServesAll Tells files left x store' written written') same serves
 
-pub until_at : {D : Type 0} (Tells : Type 0) (files : D → Files) (faults fuses : D → ℕ) (why : Stop) (left : Option (List ℕ)) (store other store' : LoadStore D) (written written' : Option (List ℕ)) → store ≡ other
+pub until_at : {D : Type 0} (Tells : Type 0) (files : D → Files) (faults fuses : D → ℕ) (why : Stop) (left : Option (List ℕ)) (store other store' : LoadStore D)
+    (written written' : Option (List ℕ)) → store ≡ other
     → ServesUntil Tells files faults fuses why left store store' written written' → ServesUntil Tells files faults fuses why left other store' written written'
-until_at {D} Tells files faults fuses why left store other store' written written' same until = subst (λ (x : LoadStore D). ServesUntil Tells files faults fuses why left x store' written written') same until
+until_at {D} Tells files faults fuses why left store other store' written written' same until = subst
+    (λ (x : LoadStore D). ServesUntil Tells files faults fuses why left x store' written written') same until
 
 pub settings_at : {D : Type 0} (store other store' : LoadStore D) → store ≡ other → store'.settings ≡ store.settings → store'.settings ≡ other.settings
 settings_at {D} store other store' same kept = kept ∙ ap (λ (x : LoadStore D). x.settings) same

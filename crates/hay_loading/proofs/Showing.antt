@@ -53,7 +53,8 @@ lacks_leave (photo ∷ photos) at pair before lacks =
     lacks_leave photos (at + photo_total photo) pair (cond (pair_eq photo.pair pair) (shown_of photo) before) (λ i other there. lacks (suc i) other there)
     ∙ cond-false (pair_eq photo.pair pair) (shown_of photo) before apart
 
-look_behind : (photos : List NewPhoto) (cells : List Cell) (at : ℕ) (pair : Pair) → Lacks pair photos → look (rows_of (needles_of (cells ++ new_cells at photos))) pair ≡ look (rows_of (needles_of cells)) pair
+look_behind : (photos : List NewPhoto) (cells : List Cell) (at : ℕ) (pair : Pair) → Lacks pair photos
+    → look (rows_of (needles_of (cells ++ new_cells at photos))) pair ≡ look (rows_of (needles_of cells)) pair
 look_behind photos cells at pair lacks =
     ap (λ (l : List Needle). look (rows_of l) pair) (map-append needle_of_cell cells (new_cells at photos))
     ∙ rows_append (needles_of cells) (needles_of (new_cells at photos)) pair outcome.Nothing
@@ -81,7 +82,8 @@ home_among_new volume (first ∷ photos) (suc k) photo at = by_first (pair_eq fi
     by_first true rest = refl
     by_first false rest = rest
 
-home_new : (rows : List DirRow) (volume : ℕ) (photos : List NewPhoto) (k : ℕ) (photo : NewPhoto) → AreHomeless rows photos → At photos k photo → home_in (rows ++ map (new_row volume) photos) photo.pair ≡ Some volume
+home_new : (rows : List DirRow) (volume : ℕ) (photos : List NewPhoto) (k : ℕ) (photo : NewPhoto) → AreHomeless rows photos → At photos k photo
+    → home_in (rows ++ map (new_row volume) photos) photo.pair ≡ Some volume
 home_new rows volume photos k photo none at =
     home_in-append rows (map (new_row volume) photos) photo.pair
     ∙ ap (λ (h : Option ℕ). option_or h (home_in (map (new_row volume) photos) photo.pair)) (at_all (λ (p : NewPhoto). home_in rows p.pair ≡ None) photos k photo none at)
@@ -115,7 +117,8 @@ same_number : (n : ℕ) → nat_eq n n ≡ true
 same_number n = grind arith
 
 -- in the batch that was loaded
-keeps_new : (s : StoredStore) (volume k : ℕ) (photo : NewPhoto) (photos : List NewPhoto) → AreHomeless s.rows photos → AreDistinct photos → At photos k photo → Keeps (with_stored volume photos s) volume photo
+keeps_new : (s : StoredStore) (volume k : ℕ) (photo : NewPhoto) (photos : List NewPhoto) → AreHomeless s.rows photos → AreDistinct photos → At photos k photo
+    → Keeps (with_stored volume photos s) volume photo
 keeps_new s volume k photo photos none distinct at = record {
   at_home = home_new s.rows volume photos k photo none at;
   last = λ j. needles_new (nat_eq volume volume) photos (s.replicas volume j) k photo (same_number volume) distinct at;
@@ -123,12 +126,15 @@ keeps_new s volume k photo photos none distinct at = record {
 
 -- ANSWERS
 
-keeps_batch : (settings : Settings) (s new : StoredStore) (photos : List NewPhoto) (reply : LoadReply) (volume : ℕ) (photo : NewPhoto) → AnswersBatch settings s photos reply new → Keeps s volume photo → Keeps new volume photo
+keeps_batch : (settings : Settings) (s new : StoredStore) (photos : List NewPhoto) (reply : LoadReply) (volume : ℕ) (photo : NewPhoto) → AnswersBatch settings s photos reply new
+    → Keeps s volume photo → Keeps new volume photo
 keeps_batch settings s new photos reply volume photo (inl known) keeps = subst (λ (x : StoredStore). Keeps x volume photo) (sym known.same) keeps
 keeps_batch settings s new photos reply volume photo (inr (inl full)) keeps = subst (λ (x : StoredStore). Keeps x volume photo) (sym full.same) keeps
-keeps_batch settings s new photos reply volume photo (inr (inr loaded)) keeps = subst (λ (x : StoredStore). Keeps x volume photo) (sym loaded.stored) (keeps_more s volume loaded.volume photo photos loaded.homeless keeps)
+keeps_batch settings s new photos reply volume photo (inr (inr loaded)) keeps = subst (λ (x : StoredStore). Keeps x volume photo) (sym loaded.stored)
+    (keeps_more s volume loaded.volume photo photos loaded.homeless keeps)
 
-keeps_all : (settings : Settings) (s new : StoredStore) (groups : List Group) (replies : List LoadReply) (volume : ℕ) (photo : NewPhoto) → AnswersAll settings s groups replies new → Keeps s volume photo → Keeps new volume photo
+keeps_all : (settings : Settings) (s new : StoredStore) (groups : List Group) (replies : List LoadReply) (volume : ℕ) (photo : NewPhoto) → AnswersAll settings s groups replies new
+    → Keeps s volume photo → Keeps new volume photo
 keeps_all settings s new [] [] volume photo answers keeps = subst (λ (x : StoredStore). Keeps x volume photo) (sym answers) keeps
 keeps_all settings s new [] (reply ∷ replies) volume photo answers keeps = absurd answers
 keeps_all settings s new (group ∷ groups) [] volume photo answers keeps = absurd answers
@@ -140,7 +146,8 @@ loaded_volume : (a b m n p q : ℕ) → Loaded a m p ≡ Loaded b n q → a ≡ 
 loaded_volume a b m n p q is = cc
 
 -- a batch that was told as loaded was
-keeps_told : (settings : Settings) (s new : StoredStore) (photos : List NewPhoto) (reply : LoadReply) (volume count rows k : ℕ) (photo : NewPhoto) → AnswersBatch settings s photos reply new → reply ≡ Loaded volume count rows → AreDistinct photos → At photos k photo
+keeps_told : (settings : Settings) (s new : StoredStore) (photos : List NewPhoto) (reply : LoadReply) (volume count rows k : ℕ) (photo : NewPhoto)
+    → AnswersBatch settings s photos reply new → reply ≡ Loaded volume count rows → AreDistinct photos → At photos k photo
     → Keeps new volume photo × (0 < settings.volumes → volume < settings.volumes)
 keeps_told settings s new photos reply volume count rows k photo (inl known) is distinct at = let both : Known known.volume ≡ Loaded volume count rows = sym known.told ∙ is in absurd cc
 keeps_told settings s new photos reply volume count rows k photo (inr (inl full)) is distinct at = absurd (let told = full.told in cc)
@@ -161,7 +168,8 @@ same_batch a b p q is = cc
 apart_rest : (group : Group) (groups : List Group) → AreApart (group ∷ groups) → AreApart groups
 apart_rest group groups apart = λ i line photos at. apart (suc i) line photos at
 
-keeps_at : (settings : Settings) (s new : StoredStore) (groups : List Group) (replies : List LoadReply) (i line volume count rows : ℕ) (photos : List NewPhoto) (k : ℕ) (photo : NewPhoto) → AreApart groups → AnswersAll settings s groups replies new
+keeps_at : (settings : Settings) (s new : StoredStore) (groups : List Group) (replies : List LoadReply) (i line volume count rows : ℕ) (photos : List NewPhoto) (k : ℕ)
+    (photo : NewPhoto) → AreApart groups → AnswersAll settings s groups replies new
     → At groups i (Batch line photos) → At replies i (Loaded volume count rows) → At photos k photo → Keeps new volume photo × (0 < settings.volumes → volume < settings.volumes)
 keeps_at settings s new [] replies i line volume count rows photos k photo apart answers at reply_at photo_at = absurd cc
 keeps_at settings s new (group ∷ groups) [] i line volume count rows photos k photo apart answers at reply_at photo_at = absurd answers
@@ -196,22 +204,31 @@ module _ (settings : Settings) (image : ℕ → ℕ → List ℕ) (t : StoredSto
     home = keeps.at_home;
     replicas = λ j low. elim (opens.replicas volume j within low) [
       | inl is ↦ (t.replicas volume j, is, keeps.last j)
-      | inr is ↦ (with_needles photos (t.replicas volume j), is, look_behind photos (t.replicas volume j).cells (t.replicas volume j).end photo.pair (homeless_lack t.rows photos photo.pair volume none keeps.at_home) ∙ keeps.last j)
+      | inr is ↦ (
+        with_needles photos (t.replicas volume j),
+        is,
+        look_behind photos (t.replicas volume j).cells (t.replicas volume j).end photo.pair
+            (homeless_lack t.rows photos photo.pair volume none keeps.at_home) ∙ keeps.last j,
+      )
     ];
   }
 
-in_whole : (settings : Settings) (image : ℕ → ℕ → List ℕ) (t : StoredStore) (volume other : ℕ) (photo : NewPhoto) (photos : List NewPhoto) → Keeps t volume photo → volume < settings.volumes → AreHomeless t.rows photos
+in_whole : (settings : Settings) (image : ℕ → ℕ → List ℕ) (t : StoredStore) (volume other : ℕ) (photo : NewPhoto) (photos : List NewPhoto) → Keeps t volume photo
+    → volume < settings.volumes → AreHomeless t.rows photos
     → OpensStore settings image (with_stored other photos t) → StandsIn settings image volume photo
-in_whole settings image t volume other photo photos keeps within none opens = in_store settings image (with_stored other photos t) volume photo (keeps_more t volume other photo photos none keeps) within opens
+in_whole settings image t volume other photo photos keeps within none opens = in_store settings image (with_stored other photos t) volume photo
+    (keeps_more t volume other photo photos none keeps) within opens
 
-in_first : (settings : Settings) (next : List Group) (image : ℕ → ℕ → List ℕ) (t : StoredStore) (volume : ℕ) (photo : NewPhoto) → Keeps t volume photo → volume < settings.volumes → LeavesFirst settings next image t → StandsIn settings image volume photo
+in_first : (settings : Settings) (next : List Group) (image : ℕ → ℕ → List ℕ) (t : StoredStore) (volume : ℕ) (photo : NewPhoto) → Keeps t volume photo → volume < settings.volumes
+    → LeavesFirst settings next image t → StandsIn settings image volume photo
 in_first settings [] image t volume photo keeps within left = in_store settings image t volume photo keeps within left
 in_first settings (Bad line ∷ next) image t volume photo keeps within left = in_store settings image t volume photo keeps within left
 in_first settings (Batch line photos ∷ next) image t volume photo keeps within (inl same) = in_store settings image t volume photo keeps within same
 in_first settings (Batch line photos ∷ next) image t volume photo keeps within (inr (none, inl part)) = in_part settings image t volume photo keeps within photos none part
 in_first settings (Batch line photos ∷ next) image t volume photo keeps within (inr (none, inr whole)) = in_whole settings image t volume whole.0 photo photos keeps within none whole.2
 
-pub all_stand : (settings : Settings) (s t : StoredStore) (groups next : List Group) (replies : List LoadReply) (image : ℕ → ℕ → List ℕ) → 0 < settings.volumes → AreApart groups → AnswersAll settings s groups replies t → LeavesFirst settings next image t
+pub all_stand : (settings : Settings) (s t : StoredStore) (groups next : List Group) (replies : List LoadReply) (image : ℕ → ℕ → List ℕ) → 0 < settings.volumes → AreApart groups
+    → AnswersAll settings s groups replies t → LeavesFirst settings next image t
     → AllStandIn settings groups replies image
 all_stand settings s t groups next replies image some apart answers left = λ i line volume count rows photos k photo at reply_at photo_at.
     let keeps = keeps_at settings s t groups replies i line volume count rows photos k photo apart answers at reply_at photo_at in

@@ -25,7 +25,8 @@ module _ (Tells : Type 0) (settings : Settings) (script : List ℕ) (old new : �
     long = λ is. absurd (omega (arith, is));
   }
 
-  pub to_stop : (why : Stop) (status : ℕ) → status ≡ status_of why → Ends Tells settings script old new shelf shelf' before after (Err why) → LoadsTo Tells settings script old new shelf shelf' before after status
+  pub to_stop : (why : Stop) (status : ℕ) → status ≡ status_of why → Ends Tells settings script old new shelf shelf' before after (Err why)
+      → LoadsTo Tells settings script old new shelf shelf' before after status
   to_stop stop.Output status three ends = record {
     all = λ is. absurd (omega (arith, is, three));
     output = λ is. ends;

@@ -28,7 +28,8 @@ count_bad number None = omega arith
 count_bad number (Some batch) = omega arith
 
 abbrev put_by : ℕ → OpenBatch → NewPhoto → Bool → Step
-put_by number batch photo b = if b then record { groups = []; held = Some (record { line = batch.line; photos = batch.photos ++ photo ∷ [] }) } else record { groups = closed (Some batch); held = Some (record { line = number; photos = photo ∷ [] }) }
+put_by number batch photo b = if b then record { groups = []; held = Some (record { line = batch.line; photos = batch.photos ++ photo ∷ [] }) } else record
+    { groups = closed (Some batch); held = Some (record { line = number; photos = photo ∷ [] }) }
 
 count_by : (number : ℕ) (batch : OpenBatch) (photo : NewPhoto) (b : Bool) → batch_count (put_by number batch photo b).groups ≤ 1
 count_by number batch photo true = omega arith

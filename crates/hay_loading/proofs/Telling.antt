@@ -28,7 +28,8 @@ Answer = Result (Unit {0}) Stop
 other_stop : (r : Answer) (why : Stop) (P : Type 0) → r ≡ Err why → OnErr r P → P
 other_stop r why P is stops = IfErr-at_err (λ (x : Stop). P) is stops
 
-module _ {D : Type 0} (Tells : Type 0) (files : D → Files) (fault_count : D → ℕ) (groups : List Group) (old new : LoadStore D) (written written' : Option (List ℕ)) (told : Result (Unit {0}) LoadEnd) (empty text slice : List ℕ)
+module _ {D : Type 0} (Tells : Type 0) (files : D → Files) (fault_count : D → ℕ) (groups : List Group) (old new : LoadStore D) (written written' : Option (List ℕ))
+    (told : Result (Unit {0}) LoadEnd) (empty text slice : List ℕ)
     (none : empty ≡ []) (same : slice ≡ text) (loads : OnOk told (Loads Tells files groups old new empty text)) where
   told_of : (Writes : Writing) → IsOk told → Writes written slice written' → Told Tells files Writes groups old new written written'
   told_of Writes ok wrote = record {

@@ -52,7 +52,8 @@ Leaves Tells files groups store store' =
     Tells → (s : StoredStore) (image : ℕ → ℕ → List ℕ) → StandsAs files store s → MayLeaveDisks files store' image → LeavesFirst store.settings groups image s
 
 -- A disk failed while the first of these groups was loaded, and the line that tells it was written, or a front of it.
-pub record FailsTold {D : Type 0} (Tells : Type 0) (files : D → Files) (fault_count : D → ℕ) (Writes : Writing) (groups : List Group) (store store' : LoadStore D) (written written' : Option (List ℕ)) : Type 0 where
+pub record FailsTold {D : Type 0} (Tells : Type 0) (files : D → Files) (fault_count : D → ℕ) (Writes : Writing) (groups : List Group) (store store' : LoadStore D)
+    (written written' : Option (List ℕ)) : Type 0 where
   pub text : List ℕ
   pub fails : FailsFirst fault_count groups store store' [] text
   pub wrote : Writes written text written'
@@ -70,13 +71,15 @@ StopsIn Tells files fault_count stop.TooLong groups store store' written written
 -- LINES THAT WERE TAKEN
 
 -- The groups that lines end were answered.
-pub record Takes {D : Type 0} (Tells : Type 0) (files : D → Files) (load : Loading D) (number : ℕ) (left written : Option (List ℕ)) (load' : Loading D) (number' : ℕ) (left' written' : Option (List ℕ)) : Type 0 where
+pub record Takes {D : Type 0} (Tells : Type 0) (files : D → Files) (load : Loading D) (number : ℕ) (left written : Option (List ℕ)) (load' : Loading D) (number' : ℕ)
+    (left' written' : Option (List ℕ)) : Type 0 where
   pub groups : List Group
   pub makes : Makes load.store.settings number (held_of load.held) left groups number' (held_of load'.held) left'
   pub told : Told Tells files Wrote groups load.store load'.store written written'
 
 -- A load stops with the groups that come next, of which one is a batch.
-pub record Stops {D : Type 0} (Tells : Type 0) (files : D → Files) (fault_count : D → ℕ) (why : Stop) (load : Loading D) (number : ℕ) (left written : Option (List ℕ)) (store' : LoadStore D) (written' : Option (List ℕ)) : Type 0 where
+pub record Stops {D : Type 0} (Tells : Type 0) (files : D → Files) (fault_count : D → ℕ) (why : Stop) (load : Loading D) (number : ℕ) (left written : Option (List ℕ))
+    (store' : LoadStore D) (written' : Option (List ℕ)) : Type 0 where
   pub groups : List Group
   pub next : ComeNext load.store.settings number (held_of load.held) left groups
   pub one : batch_count groups ≤ 1
@@ -91,7 +94,8 @@ pub record ServesAll {D : Type 0} (Tells : Type 0) (files : D → Files) (left :
   pub told : Told Tells files Wrote groups store store' written written'
 
 -- Its first groups were answered, and then the load stopped with the next, of which one is a batch.
-pub record ServesUntil {D : Type 0} (Tells : Type 0) (files : D → Files) (fault_count fuse_count : D → ℕ) (why : Stop) (left : Option (List ℕ)) (store store' : LoadStore D) (written written' : Option (List ℕ)) : Type 0 where
+pub record ServesUntil {D : Type 0} (Tells : Type 0) (files : D → Files) (fault_count fuse_count : D → ℕ) (why : Stop) (left : Option (List ℕ)) (store store' : LoadStore D)
+    (written written' : Option (List ℕ)) : Type 0 where
   pub groups : List Group
   pub next : List Group
   pub front : (script : List ℕ) → left ≡ Some script → IsFront (groups ++ next) (script_groups store.settings script)

@@ -51,11 +51,13 @@ fn take_line<D: Disk, K: Sink>(
 ) -> Result<(), Stop>
     requires loading { IsLoading D.Tells D.files load.old }
     requires within { IsWithinLine line }
-    ensures told { OnOk result (Told D.Tells D.files Wrote (line_step load.old.store.settings number (held_of load.old.held) line).groups load.old.store load.new.store (K.written sink.old) (K.written sink.new)) }
+    ensures told { OnOk result (Told D.Tells D.files Wrote (line_step load.old.store.settings number (held_of load.old.held) line).groups
+        load.old.store load.new.store (K.written sink.old) (K.written sink.new)) }
     ensures held { OnOk result (held_of load.new.held ≡ (line_step load.old.store.settings number (held_of load.old.held) line).held) }
     ensures next { OnOk result (IsLoading D.Tells D.files load.new) }
     ensures stopped { (why : Stop) → result ≡ Err why →
-        StopsIn D.Tells D.files D.fault_count why (line_step load.old.store.settings number (held_of load.old.held) line).groups load.old.store load.new.store (K.written sink.old) (K.written sink.new) }
+        StopsIn D.Tells D.files D.fault_count why (line_step load.old.store.settings number (held_of load.old.held) line).groups
+        load.old.store load.new.store (K.written sink.old) (K.written sink.new) }
     ensures stops { OnErr result ((result ≡ Err Stop.Output) ⊎ (result ≡ Err Stop.NoMemory) ⊎ (result ≡ Err Stop.Store)) }
     ensures shape { (load.new.store.settings ≡ load.old.store.settings) × IsShaped load.new.store }
     ensures counts { KeepsCounts D.fault_count D.fuse_count load.old.store load.new.store }
@@ -103,7 +105,8 @@ pub fn step<D: Disk, S: Source, K: Sink>(
     requires open { script.old.ended ≡ false }
     requires few { number + budget SCRIPT script.old < 2 ^ 64 }
     requires loading { IsLoading D.Tells D.files load.old }
-    ensures takes { IfOk result (λ next. Takes D.Tells D.files load.old number (rest_of (S.left source.old) script.old) (K.written sink.old) load.new next (rest_of (S.left source.new) script.new) (K.written sink.new)) }
+    ensures takes { IfOk result (λ next. Takes D.Tells D.files load.old number (rest_of (S.left source.old) script.old) (K.written sink.old)
+        load.new next (rest_of (S.left source.new) script.new) (K.written sink.new)) }
     ensures next { OnOk result (IsLoading D.Tells D.files load.new) }
     ensures at_end { OnOk result (script.new.ended ≡ true → IsReadToEnd (rest_of (S.left source.old) script.old) (rest_of (S.left source.new) script.new)) }
     ensures stopped { (why : Stop) → result ≡ Err why →

@@ -7,8 +7,10 @@ use Rattle.hay_load.proofs.loading.load.Goals as goal
 
 pub returns-in_ok-load_line-in-Ok-clause-loads : goal.returns-in_ok-load_line-in-Ok-clause-loads
 returns-in_ok-load_line-in-Ok-clause-loads g c =
-    loads_batch g.D.Disk.Tells g.D.Disk.files c.args.batch.now.line c.args.batch.now.photos.items c.in-Ok.reply c.args.store.now c.answer.new.store c.args.out.now.items c.load_line.new.out.items c.in_ok-load_line-in-Ok.ensures.ok
-    (λ tells s stands. subst (λ (l : List NewPhoto). Answered g.D.Disk.files c.args.store.now.settings s l c.in-Ok.reply c.answer.new.store) c.as_slice.ensures.value (c.in-Ok.ensures.answered tells s stands))
+    loads_batch g.D.Disk.Tells g.D.Disk.files c.args.batch.now.line c.args.batch.now.photos.items c.in-Ok.reply c.args.store.now c.answer.new.store c.args.out.now.items
+    c.load_line.new.out.items c.in_ok-load_line-in-Ok.ensures.ok
+    (λ tells s stands. subst (λ (l : List NewPhoto). Answered g.D.Disk.files c.args.store.now.settings s l c.in-Ok.reply c.answer.new.store) c.as_slice.ensures.value
+    (c.in-Ok.ensures.answered tells s stands))
 
 pub returns-in_ok-load_line-in-Err-Failed-clause-failed : goal.returns-in_ok-load_line-in-Err-Failed-clause-failed
 returns-in_ok-load_line-in-Err-Failed-clause-failed g c = λ _. record {

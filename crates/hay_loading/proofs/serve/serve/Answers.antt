@@ -45,9 +45,11 @@ lines-preserved g c =
       few = omega (arith, inv.few, c.in_ok-number.ensures.few);
       loading = c.in_ok-number.ensures.next;
       same = c.step.ensures.shape.0 ∙ inv.same;
-      takes = takes_more g.D.Disk.Tells g.D.Disk.files c.args.load.now c.lines.load c.lines.number (left c.args.source.now) (g.K.Sink.written c.args.sink.now) (rest_of (left c.lines.source) c.lines.script) (g.K.Sink.written c.lines.sink) inv.same inv.takes
+      takes = takes_more g.D.Disk.Tells g.D.Disk.files c.args.load.now c.lines.load c.lines.number (left c.args.source.now) (g.K.Sink.written c.args.sink.now)
+          (rest_of (left c.lines.source) c.lines.script) (g.K.Sink.written c.lines.sink) inv.same inv.takes
           c.step.new.load c.in_ok-number.number (rest_of (left c.step.new.source) c.step.new.script) (g.K.Sink.written c.step.new.sink) c.in_ok-number.ensures.takes;
-      counts = counts_more g.D.Disk.fault_count g.D.Disk.fuse_count c.args.load.now.store c.lines.load.store c.step.new.load.store c.requires.loading.shape inv.loading.shape inv.same inv.counts c.step.ensures.counts;
+      counts = counts_more g.D.Disk.fault_count g.D.Disk.fuse_count c.args.load.now.store c.lines.load.store c.step.new.load.store c.requires.loading.shape inv.loading.shape
+          inv.same inv.counts c.step.ensures.counts;
       first = inv.first;
       at_first = inv.at_first;
       accounts = accounts_more (left c.args.source.now) (left c.lines.source) (left c.step.new.source) inv.first c.lines.script c.step.new.script inv.accounts c.in_ok-number.ensures.accounts;
@@ -65,7 +67,8 @@ returns-in_err-number-clause-stopped g c = λ why is.
     let same : IsErrOf c.step.result why = c.in_err-number.was ∙ stop_is in
     let inv = c.lines.invariant in
     let left = g.S.Source.left in
-    until_line g.D.Disk.Tells g.D.Disk.files c.args.load.now c.lines.load c.lines.number (left c.args.source.now) (g.K.Sink.written c.args.sink.now) (rest_of (left c.lines.source) c.lines.script) (g.K.Sink.written c.lines.sink) inv.same inv.takes
+    until_line g.D.Disk.Tells g.D.Disk.files c.args.load.now c.lines.load c.lines.number (left c.args.source.now) (g.K.Sink.written c.args.sink.now)
+    (rest_of (left c.lines.source) c.lines.script) (g.K.Sink.written c.lines.sink) inv.same inv.takes
     c.requires.none g.D.Disk.fault_count g.D.Disk.fuse_count why c.step.new.load.store (g.K.Sink.written c.step.new.sink) inv.loading.shape inv.counts (c.step.ensures.stopped why same)
 
 pub returns-in_err-number-clause-shape : goal.returns-in_err-number-clause-shape
@@ -74,7 +77,8 @@ returns-in_err-number-clause-shape g c = (c.step.ensures.shape.0 ∙ c.lines.inv
 pub returns-in_err-number-clause-counts : goal.returns-in_err-number-clause-counts
 returns-in_err-number-clause-counts g c =
     let inv = c.lines.invariant in
-    counts_more g.D.Disk.fault_count g.D.Disk.fuse_count c.args.load.now.store c.lines.load.store c.step.new.load.store c.requires.loading.shape inv.loading.shape inv.same inv.counts c.step.ensures.counts
+    counts_more g.D.Disk.fault_count g.D.Disk.fuse_count c.args.load.now.store c.lines.load.store c.step.new.load.store c.requires.loading.shape inv.loading.shape inv.same
+    inv.counts c.step.ensures.counts
 
 -- AT THE END
 
@@ -83,10 +87,14 @@ returns-then-is_ended-clause-served g c =
     let inv = c.lines.invariant in
     let left = g.S.Source.left in
     let met = sym c.is_ended.ensures ∙ c.if-is_ended.true in
-    on_ok_more c.take_end.result (Told g.D.Disk.Tells g.D.Disk.files Wrote (closed (held_of c.step.new.load.held)) c.step.new.load.store c.take_end.new.load.store (g.K.Sink.written c.step.new.sink) (g.K.Sink.written c.take_end.new.sink))
-    (ServesAll g.D.Disk.Tells g.D.Disk.files (left c.args.source.now) c.args.load.now.store c.take_end.new.load.store (g.K.Sink.written c.args.sink.now) (g.K.Sink.written c.take_end.new.sink)) c.take_end.ensures.told
-    (λ last. serves_all g.D.Disk.Tells g.D.Disk.files c.args.load.now c.lines.load c.lines.number (left c.args.source.now) (g.K.Sink.written c.args.sink.now) (rest_of (left c.lines.source) c.lines.script) (g.K.Sink.written c.lines.sink) inv.same inv.takes
-    c.requires.none c.step.new.load c.in_ok-number.number (rest_of (left c.step.new.source) c.step.new.script) (g.K.Sink.written c.step.new.sink) c.in_ok-number.ensures.takes (c.in_ok-number.ensures.at_end met)
+    on_ok_more c.take_end.result (Told g.D.Disk.Tells g.D.Disk.files Wrote (closed (held_of c.step.new.load.held)) c.step.new.load.store c.take_end.new.load.store
+    (g.K.Sink.written c.step.new.sink) (g.K.Sink.written c.take_end.new.sink))
+    (ServesAll g.D.Disk.Tells g.D.Disk.files (left c.args.source.now) c.args.load.now.store c.take_end.new.load.store (g.K.Sink.written c.args.sink.now)
+    (g.K.Sink.written c.take_end.new.sink)) c.take_end.ensures.told
+    (λ last. serves_all g.D.Disk.Tells g.D.Disk.files c.args.load.now c.lines.load c.lines.number (left c.args.source.now) (g.K.Sink.written c.args.sink.now)
+    (rest_of (left c.lines.source) c.lines.script) (g.K.Sink.written c.lines.sink) inv.same inv.takes
+    c.requires.none c.step.new.load c.in_ok-number.number (rest_of (left c.step.new.source) c.step.new.script) (g.K.Sink.written c.step.new.sink) c.in_ok-number.ensures.takes
+    (c.in_ok-number.ensures.at_end met)
     c.take_end.new.load.store (g.K.Sink.written c.take_end.new.sink) (c.step.ensures.shape.0 ∙ inv.same) last)
 
 pub returns-then-is_ended-clause-stopped : goal.returns-then-is_ended-clause-stopped
@@ -94,10 +102,13 @@ returns-then-is_ended-clause-stopped g c = λ why is.
     let inv = c.lines.invariant in
     let left = g.S.Source.left in
     let met = sym c.is_ended.ensures ∙ c.if-is_ended.true in
-    until_end g.D.Disk.Tells g.D.Disk.files c.args.load.now c.lines.load c.lines.number (left c.args.source.now) (g.K.Sink.written c.args.sink.now) (rest_of (left c.lines.source) c.lines.script) (g.K.Sink.written c.lines.sink) inv.same inv.takes
-    c.requires.none c.step.new.load c.in_ok-number.number (rest_of (left c.step.new.source) c.step.new.script) (g.K.Sink.written c.step.new.sink) c.in_ok-number.ensures.takes (c.in_ok-number.ensures.at_end met)
+    until_end g.D.Disk.Tells g.D.Disk.files c.args.load.now c.lines.load c.lines.number (left c.args.source.now) (g.K.Sink.written c.args.sink.now)
+    (rest_of (left c.lines.source) c.lines.script) (g.K.Sink.written c.lines.sink) inv.same inv.takes
+    c.requires.none c.step.new.load c.in_ok-number.number (rest_of (left c.step.new.source) c.step.new.script) (g.K.Sink.written c.step.new.sink) c.in_ok-number.ensures.takes
+    (c.in_ok-number.ensures.at_end met)
     g.D.Disk.fault_count g.D.Disk.fuse_count why c.take_end.new.load.store (g.K.Sink.written c.take_end.new.sink) (c.step.ensures.shape.0 ∙ inv.same) c.step.ensures.shape.1
-    (counts_more g.D.Disk.fault_count g.D.Disk.fuse_count c.args.load.now.store c.lines.load.store c.step.new.load.store c.requires.loading.shape inv.loading.shape inv.same inv.counts c.step.ensures.counts)
+    (counts_more g.D.Disk.fault_count g.D.Disk.fuse_count c.args.load.now.store c.lines.load.store c.step.new.load.store c.requires.loading.shape inv.loading.shape inv.same
+    inv.counts c.step.ensures.counts)
     (c.take_end.ensures.stopped why is)
 
 pub returns-then-is_ended-clause-shape : goal.returns-then-is_ended-clause-shape
@@ -106,8 +117,10 @@ returns-then-is_ended-clause-shape g c = (c.take_end.ensures.shape.0 ∙ c.step.
 pub returns-then-is_ended-clause-counts : goal.returns-then-is_ended-clause-counts
 returns-then-is_ended-clause-counts g c =
     let inv = c.lines.invariant in
-    counts_more g.D.Disk.fault_count g.D.Disk.fuse_count c.args.load.now.store c.step.new.load.store c.take_end.new.load.store c.requires.loading.shape c.step.ensures.shape.1 (c.step.ensures.shape.0 ∙ inv.same)
-    (counts_more g.D.Disk.fault_count g.D.Disk.fuse_count c.args.load.now.store c.lines.load.store c.step.new.load.store c.requires.loading.shape inv.loading.shape inv.same inv.counts c.step.ensures.counts) c.take_end.ensures.counts
+    counts_more g.D.Disk.fault_count g.D.Disk.fuse_count c.args.load.now.store c.step.new.load.store c.take_end.new.load.store c.requires.loading.shape c.step.ensures.shape.1
+    (c.step.ensures.shape.0 ∙ inv.same)
+    (counts_more g.D.Disk.fault_count g.D.Disk.fuse_count c.args.load.now.store c.lines.load.store c.step.new.load.store c.requires.loading.shape inv.loading.shape inv.same
+    inv.counts c.step.ensures.counts) c.take_end.ensures.counts
 
 pub returns-then-is_ended-clause-ended : goal.returns-then-is_ended-clause-ended
 returns-then-is_ended-clause-ended g c =
@@ -124,7 +137,8 @@ returns-then-is_ended-clause-short g c =
     let met = sym c.is_ended.ensures ∙ c.if-is_ended.true in
     on_ok_always c.take_end.result ((script : List ℕ) → left c.args.source.now ≡ Some script → length script ≤ 1073741824) (λ script told.
     let accounts : Accounts (Some script) inv.first (left c.lines.source) c.lines.script = rw told at inv.accounts in
-    short_script 1073741824 script (left c.lines.source) (left c.step.new.source) inv.first c.lines.script c.step.new.script accounts c.in_ok-number.ensures.accounts (c.in_ok-number.ensures.at_end met) inv.at_first c.step.ensures.limit)
+    short_script 1073741824 script (left c.lines.source) (left c.step.new.source) inv.first c.lines.script c.step.new.script accounts c.in_ok-number.ensures.accounts
+    (c.in_ok-number.ensures.at_end met) inv.at_first c.step.ensures.limit)
 
 pub returns-then-is_ended-clause-appends : goal.returns-then-is_ended-clause-appends
 returns-then-is_ended-clause-appends g c =

@@ -35,7 +35,8 @@ returns-in_default-clause-takes g c =
     let load = c.args.load.now in
     record {
       groups = [];
-      makes = end_makes load.store.settings c.args.number (held_of load.held) (rest_of (g.S.Source.left c.args.source.now) c.args.script.now) (rest_of (g.S.Source.left c.next_said.new.source) c.next_said.new.script) c.next_said.new.script.ended
+      makes = end_makes load.store.settings c.args.number (held_of load.held) (rest_of (g.S.Source.left c.args.source.now) c.args.script.now)
+          (rest_of (g.S.Source.left c.next_said.new.source) c.next_said.new.script) c.next_said.new.script.ended
           (rw c.in_default.is at c.in_ok-line.ensures.said);
       told = told_none g.D.Disk.Tells g.D.Disk.files load.store (g.K.Sink.written c.args.sink.now);
     }
@@ -72,7 +73,8 @@ returns-clause-takes g c =
     let says : SaysNext None (Some c.in-Some.line) before after c.next_said.new.script.ended = rw c.in-Some.is at c.in_ok-line.ensures.said in
     record {
       groups = (line_step load.store.settings c.args.number (held_of load.held) c.in-Some.line).groups;
-      makes = line_makes load.store.settings c.args.number (held_of load.held) c.in-Some.line before after c.next_said.new.script.ended (held_of c.take_line.new.load.held) says c.in_ok-take_line.ensures.held;
+      makes = line_makes load.store.settings c.args.number (held_of load.held) c.in-Some.line before after c.next_said.new.script.ended (held_of c.take_line.new.load.held) says
+          c.in_ok-take_line.ensures.held;
       told = c.in_ok-take_line.ensures.told;
     }
 

@@ -6,7 +6,8 @@ use Rattle.hay_load.proofs.loading.Loading.bad.Goals as goal
 
 pub returns-clause-loads : goal.returns-clause-loads
 returns-clause-loads g c =
-    loads_more g.D.Disk.Tells g.D.Disk.files (closed (held_of c.args.self.now.held)) (Bad c.args.number ∷ []) c.args.self.now.store c.end.new.self.store c.end.new.self.store c.args.out.now.items c.end.new.out.items c.load_line.new.out.items
+    loads_more g.D.Disk.Tells g.D.Disk.files (closed (held_of c.args.self.now.held)) (Bad c.args.number ∷ []) c.args.self.now.store c.end.new.self.store c.end.new.self.store
+    c.args.out.now.items c.end.new.out.items c.load_line.new.out.items
     c.end.ensures.shape.0 c.in_ok-end.ensures.loads
     (loads_bad g.D.Disk.Tells g.D.Disk.files c.args.number c.end.new.self.store c.end.new.self.store c.end.new.out.items c.load_line.new.out.items refl c.in_ok-load_line.ensures.ok)
 

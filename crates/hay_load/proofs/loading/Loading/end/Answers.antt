@@ -8,7 +8,8 @@ use Rattle.hay_load.proofs.loading.Loading.end.Goals as goal
 
 pub returns-in-None-clause-loads : goal.returns-in-None-clause-loads
 returns-in-None-clause-loads g c =
-    subst (λ (held : Option Gathered). Loads g.D.Disk.Tells g.D.Disk.files (closed (held_of held)) c.args.self.now.store c.args.self.now.store c.args.out.now.items c.args.out.now.items) c.in-None.ensures.value
+    subst (λ (held : Option Gathered). Loads g.D.Disk.Tells g.D.Disk.files (closed (held_of held)) c.args.self.now.store c.args.self.now.store c.args.out.now.items
+    c.args.out.now.items) c.in-None.ensures.value
     (loads_none g.D.Disk.Tells g.D.Disk.files c.args.self.now.store c.args.self.now.store c.args.out.now.items c.args.out.now.items refl refl)
 
 pub returns-in-None-clause-left : goal.returns-in-None-clause-left
