@@ -66,42 +66,23 @@ fn batches_are_loaded_and_told(rt: HostRuntime) -> Result<(), Fail> {
     Ok(())
 }
 
-// What a load tells, and what one tells behind a stop, where so many calls of the Directory's disk pass.
-fn failed_of(alloc: Global, calls: u64, pick: u64) -> Result<(u8, String, u8, String), Fail> {
-    let script = b"put 0 1 61\nput 0 2 62\n";
+// What a load tells where so many calls of the Directory's disk pass.
+fn failed_of(alloc: Global, calls: u64) -> Result<(u8, String), Fail> {
     let mut disk = MemDisk::new(alloc);
     disk.fuse(calls);
     let mut shelf = MemShelf::new(alloc);
     shelf.put_disk(0, disk)?;
-    let store = settings(1, 67_108_864);
-    let (status, text) = load_of(alloc, store, script, &[], &[], &mut shelf)?;
-    match shelf.disk_mut(0) {
-        Some(disk) => disk.power_cycle(pick),
-        None => return Err("a disk".into()),
-    }
-    let (again, told) = load_of(alloc, store, script, &[], &[], &mut shelf)?;
-    Ok((status, text, again, told))
+    let script = b"put 0 1 61\nput 0 2 62\n";
+    load_of(alloc, settings(1, 67_108_864), script, &[], &[], &mut shelf)
 }
 
 #[test]
-fn a_failure_leaves_no_row_or_the_batch(rt: HostRuntime) -> Result<(), Fail> {
+fn a_failure_is_told(rt: HostRuntime) -> Result<(), Fail> {
     let alloc = rt.alloc();
     for calls in 0..4 {
-        for pick in 0..2 {
-            let (status, text, again, told) = failed_of(alloc, 2 + calls, pick)?;
-            assert_eq!(rt; status, 6);
-            assert_eq!(rt; text.as_str(), "haystack 1 1 1 67108864\n1 failed dir 1\n");
-            assert_eq!(rt; again, 0);
-            let kept = calls == 3 && pick == 1;
-            assert_eq!(rt;
-                told.as_str(),
-                if kept {
-                    "haystack 1 1 1 67108864\n1 known 0\n"
-                } else {
-                    "haystack 1 1 1 67108864\n1 loaded 0 2 2\n"
-                }
-            );
-        }
+        let (status, text) = failed_of(alloc, 2 + calls)?;
+        assert_eq!(rt; status, 6);
+        assert_eq!(rt; text.as_str(), "haystack 1 1 1 67108864\n1 failed dir 1\n");
     }
     Ok(())
 }
