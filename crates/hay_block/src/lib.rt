@@ -1,10 +1,11 @@
 //! A block of lines that lanes answer beside each other, over a lock for each volume and one for the Directory. Locks are made for one
 //! block and end with it, so nothing has happened where it begins, and all that happened is known where it ends.
 //!
-//! `LaneWorker` is a lane for `hay_lanes`: it answers one line of a block after another by `hay_lane`. `specs/Ends` says what is known
-//! where the locks are made and where they end, `Behind` what stands then and which notes tell of it, and `Lines` and `Seats` what the
-//! lanes answer and where they sit. By `specs/Law` and `Workers` the lines of such a block are legal, whatever the order in which the
-//! lanes came to the locks. `hay_meeting` asks for that what follows, and has it from here:
+//! `give_seats` and `take_seats` bring the seats of a lock to their lanes and back, and `run_lines` answers all lines of all lanes, each
+//! by a `LaneWorker` and `hay_lane`. `specs/Ends` says what is known where the locks are made and where they end, `Behind` what stands
+//! then and which notes tell of it, and `Lines` and `Seats` what the lanes answer and where they sit. By `specs/Law` and `Lanes` the
+//! lines of such a block are legal, whatever the order in which the lanes came to the locks. `hay_meeting` asks for what follows, and
+//! has it from here:
 //!
 //! | what is asked | where it is known |
 //! |---|---|

@@ -11,6 +11,7 @@ pub mod Dropping
 pub mod Ends
 pub mod Examining
 pub mod Finishing
+pub mod Formatting
 pub mod Freezing
 pub mod Holding
 pub mod Knowing

@@ -74,6 +74,27 @@ module _ {D : Type 0} (faults : D → ℕ) (r r' : Copy D) (m : ℕ) where
   step_untouched (fault.Damaged at) cause by = absurd by
   step_untouched fault.NoMemory cause by = absurd by
 
+  -- a replica that takes changes is not refused as frozen
+  pub begin_thawed : (f : ReplicaFault) (n : ℕ) → IsBeginFault faults r r' f → answer_at m f ≡ logical.ReadOnly n → ⊥
+  begin_thawed (fault.Failed printed) n cause is = absurd cc
+  begin_thawed fault.Frozen n cause is = absurd cause
+  begin_thawed (fault.Full end need capacity) n cause is = absurd cc
+  begin_thawed (fault.Busy generation) n cause is = absurd cc
+  begin_thawed (fault.Ended printed) n cause is = absurd cc
+  begin_thawed fault.Worn n cause is = absurd cc
+  begin_thawed (fault.Damaged at) n cause is = absurd cc
+  begin_thawed fault.NoMemory n cause is = absurd cc
+
+  pub step_thawed : (f : ReplicaFault) (n : ℕ) → IsStepFault faults r r' f → answer_at m f ≡ logical.ReadOnly n → ⊥
+  step_thawed (fault.Failed printed) n cause is = absurd cc
+  step_thawed fault.Frozen n cause is = absurd cause
+  step_thawed (fault.Full end need capacity) n cause is = absurd cc
+  step_thawed (fault.Busy generation) n cause is = absurd cc
+  step_thawed (fault.Ended printed) n cause is = absurd cc
+  step_thawed fault.Worn n cause is = absurd cc
+  step_thawed (fault.Damaged at) n cause is = absurd cc
+  step_thawed fault.NoMemory n cause is = absurd cc
+
 -- want of memory is answered as such
 pub answered_memory : (m : ℕ) (f : ReplicaFault) → answer_at m f ≡ logical.NoMemory → f ≡ fault.NoMemory
 answered_memory m fault.NoMemory is = refl
@@ -110,6 +131,22 @@ module _ {D : Type 0} (settings : Settings) (number at : ℕ) (faults : D → �
   left_untouched (Refused (fault.Damaged place)) left by = absurd by
   left_untouched (Refused fault.NoMemory) left by = absurd by
   left_untouched (Perhaps printed) left by = absurd by
+
+  left_thawed : (u : Unswapped) (n : ℕ) → IsLeftBy faults start r r' u → (unfinished_by settings number at u).fault ≡ logical.ReadOnly n → ⊥
+  left_thawed (Refused (fault.Failed printed)) n left is = absurd cc
+  left_thawed (Refused fault.Frozen) n left is = absurd left
+  left_thawed (Refused (fault.Full end need capacity)) n left is = absurd cc
+  left_thawed (Refused (fault.Busy goal)) n left is = absurd cc
+  left_thawed (Refused (fault.Ended printed)) n left is = absurd cc
+  left_thawed (Refused fault.Worn) n left is = absurd cc
+  left_thawed (Refused (fault.Damaged place)) n left is = absurd cc
+  left_thawed (Refused fault.NoMemory) n left is = absurd cc
+  left_thawed (Perhaps printed) n left is = absurd cc
+
+module _ {D P : Type 0} {DiskTells : Type 0} {files : D → Files} {Tells : Type 0} {faults : D → ℕ} {start : Start} {items new : List (Copy D)} {rows rows' : MapRows P} {at : ℕ}
+    (settings : Settings) (number : ℕ) (u : Unswapped) (call : SwapCall DiskTells files Tells faults start items new rows rows' at (Err u)) where
+  pub called_thawed : (n : ℕ) → (unfinished_by settings number at u).fault ≡ logical.ReadOnly n → ⊥
+  called_thawed n is = left_thawed settings number at faults start call.one.before call.one.after u n call.swaps.left is
 
 module _ {D P : Type 0} {DiskTells : Type 0} {files : D → Files} {Tells : Type 0} {faults : D → ℕ} {start : Start} {items new : List (Copy D)} {rows rows' : MapRows P} {at : ℕ}
     (settings : Settings) (number : ℕ) (u : Unswapped)

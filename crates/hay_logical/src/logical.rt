@@ -148,6 +148,9 @@ impl<D: Disk> Logical<D> {
         ensures told { IfOk result (NotesTell self.old.settings self.old.number self.old.unsure) }
         ensures fits { IfOk result (AllByRecursion FitsNote) }
         ensures settled { OnOk result (self.new.unsure ≡ None) }
+        // No disk is void then.
+        ensures formatted { D.Tells → OnOk result ((j : ℕ) (r : Copy D) → At self.new.replicas j r → contents_of D.files r.disk 0 ≡ [] → ⊥) }
+        ensures thawed { OnOk result (self.new.frozen ≡ None) }
         ensures open { OnOk result (IsOpenVolume self.new) }
         // Nothing of what was read of the disks is damaged.
         ensures undamaged { D.Tells → OnOk result ((j : ℕ) (r : Copy D) → At self.old.replicas j r →
@@ -207,6 +210,7 @@ impl<D: Disk> Logical<D> {
         ensures frozen { (m : ℕ) → self.now.frozen ≡ Some m → result ≡ Err (LogicalFault.ReadOnly m) }
         ensures fits { OnOk result ((self.now.frozen ≡ None) × ((j : ℕ) (r : Copy D) → At self.now.replicas j r → RoomFor size r)) }
         ensures takes { self.now.frozen ≡ None → ((j : ℕ) (r : Copy D) → At self.now.replicas j r → RoomFor size r) → IsOk result }
+        ensures thawed { self.now.frozen ≡ None → (m : ℕ) → result ≡ Err (LogicalFault.ReadOnly m) → ⊥ }
         ensures causes { IfErr result (IsRoomFault self.now.settings self.now.number) }
     {
         if let Some(machine) = self.frozen {
@@ -552,6 +556,7 @@ impl<D: Disk> Logical<D> {
         ensures refused { D.Tells → (k : VolumeKnown) → Stands D.files D.Piece.Tells self.old k →
             IfErr result (DeleteRefused D.files D.Piece.Tells k tag pair self.new) }
         ensures frozen { (m : ℕ) → self.old.frozen ≡ Some m → (result ≡ Err (LogicalFault.ReadOnly m)) × (self.new ≡ self.old) }
+        ensures thawed { self.old.frozen ≡ None → (m : ℕ) → result ≡ Err (LogicalFault.ReadOnly m) → ⊥ }
         ensures causes { IfErr result (IsDeleteFault D.fault_count self.old.settings self.old.number self.old.replicas self.new.replicas) }
         ensures refused_unsure { IfErr result (DeleteLeavesUnsure tag self.old.unsure self.new.unsure) }
         ensures freezes { IfErr result (DeleteFreezes self.old.frozen self.new.frozen self.old.unsure self.new.unsure) }
@@ -589,6 +594,7 @@ impl<D: Disk> Logical<D> {
         ensures refused_unsure { IfErr result (DeleteLeavesUnsure tag self.old.unsure self.new.unsure) }
         ensures freezes { IfErr result (DeleteFreezes self.old.frozen self.new.frozen self.old.unsure self.new.unsure) }
         ensures undamaged { (m at : ℕ) → result ≡ Err (LogicalFault.Damaged m at) → ⊥ }
+        ensures thawed { (m : ℕ) → result ≡ Err (LogicalFault.ReadOnly m) → ⊥ }
         ensures files { OnErr result (self.new.unsure ≡ self.old.unsure → KeepsFiles D.Tells D.files self.old.replicas self.new.replicas) }
         ensures tight { D.Tells → (j : ℕ) → IsTightAt D.files self.old j → OnErr result (self.new.unsure ≡ self.old.unsure → IsTightAt D.files self.new j) }
         ensures kept { OnErr result ((pair : Pair) → row_at self.new.rows pair ≡ row_at self.old.rows pair) }
@@ -653,6 +659,7 @@ impl<D: Disk> Logical<D> {
         ensures refused { D.Tells → (k : VolumeKnown) → Stands D.files D.Piece.Tells self.old k →
             IfErr result (DeleteRefused D.files D.Piece.Tells k tag pair self.new) }
         ensures frozen { (m : ℕ) → self.old.frozen ≡ Some m → (result ≡ Err (LogicalFault.ReadOnly m)) × (self.new ≡ self.old) }
+        ensures thawed { self.old.frozen ≡ None → (m : ℕ) → result ≡ Err (LogicalFault.ReadOnly m) → ⊥ }
         ensures causes { IfErr result (IsDeleteFault D.fault_count self.old.settings self.old.number self.old.replicas self.new.replicas) }
         ensures deleted_unsure { OnOk result (self.new.unsure ≡ self.old.unsure) }
         ensures refused_unsure { IfErr result (DeleteLeavesUnsure tag self.old.unsure self.new.unsure) }
@@ -716,6 +723,7 @@ impl<D: Disk> Logical<D> {
         ensures refused { D.Tells → (k : VolumeKnown) → Stands D.files D.Piece.Tells self.old k →
             IfErr result (BeginRefused D.files D.Piece.Tells k replica self.old self.new) }
         ensures frozen { (m : ℕ) → self.old.frozen ≡ Some m → (result ≡ Err (LogicalFault.ReadOnly m)) × (self.new ≡ self.old) }
+        ensures thawed { self.old.frozen ≡ None → (m : ℕ) → result ≡ Err (LogicalFault.ReadOnly m) → ⊥ }
         ensures untouched { IfErr result (λ fault. IsUntouchedBy fault → self.new ≡ self.old) }
         ensures causes { IfErr result (IsBeginFault D.fault_count self.old.settings self.old.number replica self.old.replicas self.new.replicas) }
         ensures unsure { self.new.unsure ≡ self.old.unsure }
@@ -747,6 +755,7 @@ impl<D: Disk> Logical<D> {
         ensures refused { D.Tells → (k : VolumeKnown) → Stands D.files D.Piece.Tells self.old k →
             IfErr result (StepRefused D.files D.Piece.Tells k replica cells self.old self.new) }
         ensures frozen { (m : ℕ) → self.old.frozen ≡ Some m → (result ≡ Err (LogicalFault.ReadOnly m)) × (self.new ≡ self.old) }
+        ensures thawed { self.old.frozen ≡ None → (m : ℕ) → result ≡ Err (LogicalFault.ReadOnly m) → ⊥ }
         ensures untouched { IfErr result (λ fault. IsUntouchedBy fault → self.new ≡ self.old) }
         ensures causes { IfErr result (IsRunFault D.fault_count self.old.settings self.old.number replica self.old.replicas self.new.replicas) }
         ensures unsure { self.new.unsure ≡ self.old.unsure }
@@ -798,6 +807,7 @@ impl<D: Disk> Logical<D> {
         ensures refused { D.Tells → (k : VolumeKnown) → Stands D.files D.Piece.Tells self.old k →
             IfErr result (FinishRefused D.files D.Piece.Tells k replica self.old self.new) }
         ensures frozen { (m : ℕ) → self.old.frozen ≡ Some m → (result ≡ Err (LogicalFault.ReadOnly m)) × (self.new ≡ self.old) }
+        ensures thawed { self.old.frozen ≡ None → (m : ℕ) → result ≡ Err (LogicalFault.ReadOnly m) → ⊥ }
         ensures untouched { IfErr result (λ fault. IsUntouchedBy fault → self.new ≡ self.old) }
         ensures freezes { IfErr result (FailureMayFreeze self.old.frozen self.new.frozen) }
         ensures causes { IfErr result (IsRunFault D.fault_count self.old.settings self.old.number replica self.old.replicas self.new.replicas) }
@@ -846,6 +856,7 @@ impl<D: Disk> Logical<D> {
         ensures refused { D.Tells → (k : VolumeKnown) → Stands D.files D.Piece.Tells self.old k →
             IfErr result (FinishRefused D.files D.Piece.Tells k replica self.old self.new) }
         ensures frozen { (m : ℕ) → self.old.frozen ≡ Some m → (result ≡ Err (LogicalFault.ReadOnly m)) × (self.new ≡ self.old) }
+        ensures thawed { self.old.frozen ≡ None → (m : ℕ) → result ≡ Err (LogicalFault.ReadOnly m) → ⊥ }
         ensures untouched { IfErr result (λ fault. IsUntouchedBy fault → self.new ≡ self.old) }
         ensures freezes { IfErr result (FailureMayFreeze self.old.frozen self.new.frozen) }
         ensures still { OnOk result (self.new.frozen ≡ self.old.frozen) }
@@ -883,6 +894,7 @@ impl<D: Disk> Logical<D> {
         ensures refused { D.Tells → (k : VolumeKnown) → Stands D.files D.Piece.Tells self.old k →
             IfErr result (CompactRefused D.files D.Piece.Tells k replica self.old self.new) }
         ensures frozen { (m : ℕ) → self.old.frozen ≡ Some m → (result ≡ Err (LogicalFault.ReadOnly m)) × (self.new ≡ self.old) }
+        ensures thawed { self.old.frozen ≡ None → (m : ℕ) → result ≡ Err (LogicalFault.ReadOnly m) → ⊥ }
         ensures untouched { IfErr result (λ fault. IsUntouchedBy fault → self.new ≡ self.old) }
         ensures freezes { IfErr result (FailureMayFreeze self.old.frozen self.new.frozen) }
         ensures causes { IfErr result (IsCompactFault D.fault_count self.old.settings self.old.number replica self.old.replicas self.new.replicas) }
@@ -927,6 +939,7 @@ impl<D: Disk> Logical<D> {
         ensures refused { D.Tells → (k : VolumeKnown) → Stands D.files D.Piece.Tells self.old k →
             IfErr result (CompactRefused D.files D.Piece.Tells k replica self.old self.new) }
         ensures frozen { (m : ℕ) → self.old.frozen ≡ Some m → (result ≡ Err (LogicalFault.ReadOnly m)) × (self.new ≡ self.old) }
+        ensures thawed { self.old.frozen ≡ None → (m : ℕ) → result ≡ Err (LogicalFault.ReadOnly m) → ⊥ }
         ensures untouched { IfErr result (λ fault. IsUntouchedBy fault → self.new ≡ self.old) }
         ensures freezes { IfErr result (FailureMayFreeze self.old.frozen self.new.frozen) }
         ensures still { OnOk result (self.new.frozen ≡ self.old.frozen) }

@@ -1,4 +1,4 @@
-use Rattle.std.proofs.Common.{◌≡◌, ◌<◌, refl, List, ap, length, sym, subst, ◌∙◌, arith, ℕ, Option}
+use Rattle.std.proofs.Common.{◌≡◌, ◌<◌, List, ap, length, sym, subst, ◌∙◌, arith, ℕ, Option}
 use Rattle.std.specs.Prelude.{Result, Ok, Err, IfErr, slice_index_or, slice_set, OnErr}
 use Rattle.std.proofs.lemmas.List.{with_items_is}
 use Rattle.std.proofs.lemmas.Result.{IfErr-weaker, on_ok_weaker}

@@ -19,11 +19,13 @@ use Rattle.hay_logical.proofs.Stepping.{begin_fault, begin_refused, begun}
 use Rattle.hay_logical.proofs.Reaching.{same_rows}
 use Rattle.hay_logical.specs.declared.fault.LogicalFault.{LogicalFault}
 use Rattle.hay_logical.specs.Refusals.{IsUntouchedBy}
-use Rattle.hay_logical.proofs.Untouched.{begin_untouched, one_untouched, stuck_same}
+use Rattle.hay_logical.proofs.Untouched.{begin_thawed, begin_untouched, one_untouched, stuck_same}
 use Rattle.hay_physical.specs.Copies.{is_stuck}
 use Rattle.hay_logical.proofs.Tightness.{tight_begun}
 use Rattle.hay_logical.specs.Stands.{RunsTight}
 use Rattle.std.specs.Prelude.{OnOk}
+use Rattle.hay_logical.proofs.Changing.{some_none}
+use Rattle.hay_logical.specs.declared.fault.LogicalFault.TheVariants as logical
 use Rattle.hay_logical.proofs.logical.Logical.begin.Goals as goal
 use Rattle.hay_logical.proofs.logical.Logical.begin.Goals.{in-Ok, in-Err}
 
@@ -249,4 +251,21 @@ returns-clause-tight g c = λ tells k stands.
           (λ x f. subst (λ (y : Copy g.row.D.Denot). RunsTight g.D.Disk.files y) (at_same c.begin_at.new.replicas c.args.replica one.after x there (subst (λ xs. At xs c.args.replica x) kept f))
           (tight_begun g.D.Disk.files one.before one.after g.D.Disk.Tells g.D.Disk.fault_count tells w.in-Ok.generation was.stored was.stands begun))
       | in-Err w ↦ rw w.result-is tt
+    ]
+
+pub returns-in-Some-clause-thawed : goal.returns-in-Some-clause-thawed
+returns-in-Some-clause-thawed g c = λ none m e. some_none (sym c.in-Some.is ∙ ap (λ v. v.frozen) c.self.view_is ∙ none)
+
+pub returns-clause-thawed : goal.returns-clause-thawed
+returns-clause-thawed g c = λ none m e.
+    let now = c.as_mut_slice.ensures.value in
+    let one : CallsOne c.args.replica c.self.inside.replicas.items c.begin_at.new.replicas = subst (λ xs. CallsOne c.args.replica xs c.begin_at.new.replicas) now c.begin_at.ensures.one in
+    elim c.match-begin_at.branch [
+      | in-Ok w ↦ let wrong = sym w.result-is ∙ e in absurd cc
+      | in-Err w ↦
+          let step : BeginsAt g.D.Disk.Tells g.D.Disk.files g.D.Disk.fault_count one.before one.after (Err w.in-Err.fault) =
+          subst (λ x. BeginsAt g.D.Disk.Tells g.D.Disk.files g.D.Disk.fault_count one.before one.after x) w.in-Err.is
+          (c.begin_at.ensures.begins one.before one.after (subst (λ xs. At xs c.args.replica one.before) (sym now) one.was) (one_after c.args.replica c.self.inside.replicas.items c.begin_at.new.replicas one)) in
+          let said : Err w.answer_at.result ≡ Err (logical.ReadOnly m) = sym w.result-is ∙ e in
+          begin_thawed g.D.Disk.fault_count one.before one.after c.machine_of-machine.result w.in-Err.fault m step.cause (sym w.answer_at.ensures ∙ (let same : w.answer_at.result ≡ logical.ReadOnly m = cc in same))
     ]

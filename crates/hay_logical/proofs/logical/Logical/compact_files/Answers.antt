@@ -21,9 +21,11 @@ use Rattle.hay_logical.proofs.Swapping.{rows_stay}
 use Rattle.hay_logical.proofs.SwapShapes.{SwapCall, called_each, called_open, called_reach, called_shaped, called_stuck, called_up, called_with}
 use Rattle.hay_logical.specs.Volumes.{IsMachineOf, Volume}
 use Rattle.hay_logical.specs.declared.refusals.Unfinished.{Unfinished}
-use Rattle.hay_logical.proofs.Untouched.{called_untouched}
+use Rattle.hay_logical.proofs.Untouched.{called_thawed, called_untouched}
 use Rattle.hay_logical.proofs.Freezing.{frozen_unfinished, unfinished_freezes}
 use Rattle.hay_logical.proofs.logical.Logical.compact_files.Given as given
+use Rattle.hay_logical.proofs.Changing.{some_none}
+use Rattle.hay_logical.specs.declared.fault.LogicalFault.TheVariants as logical
 use Rattle.hay_logical.proofs.logical.Logical.compact_files.Goals as goal
 use Rattle.hay_logical.proofs.logical.Logical.compact_files.Goals.{After-compact_at}
 
@@ -227,3 +229,13 @@ returns-in-Err-clause-stuck g c = λ j r r' e f.
 
 pub returns-in-Some-clause-stuck : goal.returns-in-Some-clause-stuck
 returns-in-Some-clause-stuck g c = λ j r r' e f. ap is_stuck (at_same c.args.self.now.replicas j r' r f e)
+
+pub returns-in-Some-clause-thawed : goal.returns-in-Some-clause-thawed
+returns-in-Some-clause-thawed g c = λ none m e. some_none (sym c.in-Some.is ∙ ap (λ v. v.frozen) c.self.view_is ∙ none)
+
+pub returns-in-Err-clause-thawed : goal.returns-in-Err-clause-thawed
+returns-in-Err-clause-thawed g c = λ none m e.
+    let after = (goal.at.returns-in-Err-clause-thawed g c).After-compact_at in
+    let call = called_with c.in-Err.is (called g after) in
+    let same : c.unfinished_by-unfinished.result.fault ≡ logical.ReadOnly m = cc in
+    called_thawed c.self.inside.settings c.self.inside.number c.in-Err.unswapped call m (ap (λ (u : Unfinished). u.fault) (sym c.unfinished_by-unfinished.ensures) ∙ same)

@@ -44,3 +44,9 @@ returns-in_err-erased-clause-above g c = λ m count e.
     let fault = err_from_is_err_and c.from_residual.result c.from_residual.ensures.1 in
     let same : c.in_err-erased.field-0.0 ≡ Failed m count = (let both = sym fault.1 ∙ e in let is = fault.2 in cc) in
     c.erase.ensures.above m count (c.in_err-erased.was ∙ ap (λ (f : LogicalFault). Err f) same)
+
+pub returns-in_err-erased-clause-thawed : goal.returns-in_err-erased-clause-thawed
+returns-in_err-erased-clause-thawed g c = λ none m e.
+    let fault = err_from_is_err_and c.from_residual.result c.from_residual.ensures.1 in
+    let same : c.in_err-erased.field-0.0 ≡ ReadOnly m = (let both = sym fault.1 ∙ e in let is = fault.2 in cc) in
+    c.erase.ensures.thawed none m (c.in_err-erased.was ∙ ap (λ (f : LogicalFault). Err f) same)

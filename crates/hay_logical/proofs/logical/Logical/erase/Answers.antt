@@ -20,6 +20,9 @@ use Rattle.hay_logical.proofs.Freezing.{delete_same}
 use Rattle.hay_logical.proofs.Untouched.{stuck_more, stuck_same}
 use Rattle.std.specs.Prelude.{OnErr}
 use Rattle.hay_logical.specs.Stands.{IsTightAt}
+use Rattle.hay_logical.proofs.Changing.{some_none}
+use Rattle.hay_logical.specs.declared.fault.LogicalFault.TheVariants as logical
+use Rattle.hay_logical.specs.Answers.{IsSightFault}
 use Rattle.hay_logical.proofs.logical.Logical.erase.Goals as goal
 
 pub returns-in-Some-clause-refused : goal.returns-in-Some-clause-refused
@@ -120,3 +123,16 @@ returns-in_err-see_each-clause-tight g c = λ tells k stands j tight.
 pub returns-clause-tight : goal.returns-clause-tight
 returns-clause-tight g c = λ tells k stands j tight. on_err_weaker c.erase_seen.result
     (λ keeps same. keeps (same ∙ sym c.see_each.ensures.still.2)) (c.erase_seen.ensures.tight tells j (c.see_each.ensures.tight tells k stands j tight))
+
+pub returns-in-Some-clause-thawed : goal.returns-in-Some-clause-thawed
+returns-in-Some-clause-thawed g c = λ none m e. some_none (sym c.in-Some.is ∙ ap (λ v. v.frozen) c.self.view_is ∙ none)
+
+pub returns-in_err-see_each-clause-thawed : goal.returns-in_err-see_each-clause-thawed
+returns-in_err-see_each-clause-thawed g c = λ none m e.
+    let fault = err_from_is_err_and c.from_residual.result c.from_residual.ensures.1 in
+    let same : c.in_err-see_each.field-0.0 ≡ logical.ReadOnly m = (let both = sym fault.1 ∙ e in let is = fault.2 in cc) in
+    subst (λ r. IfErr r (IsSightFault g.D.Disk.fault_count c.args.self.now.settings c.args.self.now.number c.args.self.now.replicas c.see_each.new.self.replicas))
+    (c.in_err-see_each.was ∙ ap (λ (f : LogicalFault). Err f) same) c.see_each.ensures.causes
+
+pub returns-clause-thawed : goal.returns-clause-thawed
+returns-clause-thawed g c = λ none m e. c.erase_seen.ensures.thawed m e

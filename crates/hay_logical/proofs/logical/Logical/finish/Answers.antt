@@ -15,3 +15,9 @@ pub returns-clause-frozen : goal.returns-clause-frozen
 returns-clause-frozen g c = λ m e.
     let wrong : Ok c.in_ok-files.files ≡ Err (ReadOnly m) = sym c.in_ok-files.was ∙ (c.finish_files.ensures.frozen m e).0 in
     absurd cc
+
+pub returns-in_err-files-clause-thawed : goal.returns-in_err-files-clause-thawed
+returns-in_err-files-clause-thawed g c = λ none m e.
+    let fault = err_from_is_err_and c.from_residual.result c.from_residual.ensures.1 in
+    let same : c.in_err-files.field-0.0 ≡ ReadOnly m = (let both = sym fault.1 ∙ e in let is = fault.2 in cc) in
+    c.finish_files.ensures.thawed none m (c.in_err-files.was ∙ ap (λ (f : LogicalFault). Err f) same)

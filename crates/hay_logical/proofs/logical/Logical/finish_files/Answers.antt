@@ -23,11 +23,13 @@ use Rattle.hay_logical.proofs.Swapping.{rows_stay}
 use Rattle.hay_logical.proofs.SwapShapes.{SwapCall, called_each, called_open, called_reach, called_shaped, called_stuck, called_up, called_with}
 use Rattle.hay_logical.specs.Volumes.{IsMachineOf, Volume}
 use Rattle.hay_logical.specs.declared.refusals.Unfinished.{Unfinished}
-use Rattle.hay_logical.proofs.Untouched.{called_untouched}
+use Rattle.hay_logical.proofs.Untouched.{called_thawed, called_untouched}
 use Rattle.hay_logical.proofs.Freezing.{frozen_unfinished, unfinished_freezes}
 use Rattle.hay_logical.proofs.Tightness.{tightened}
 use Rattle.hay_logical.specs.Answers.{IsTightened}
 use Rattle.hay_logical.proofs.logical.Logical.finish_files.Given as given
+use Rattle.hay_logical.proofs.Changing.{some_none}
+use Rattle.hay_logical.specs.declared.fault.LogicalFault.TheVariants as logical
 use Rattle.hay_logical.proofs.logical.Logical.finish_files.Goals as goal
 use Rattle.hay_logical.proofs.logical.Logical.finish_files.Goals.{After-finish_at}
 
@@ -270,3 +272,13 @@ returns-in-Ok-clause-tightened g c = λ tells k stands tight.
     (tightened c.self.inside.settings c.self.inside.number g.D.Disk.Tells g.D.Disk.files g.D.Piece.Piece.Tells g.D.Disk.fault_count c.self.inside.replicas.items c.finish_at.new.replicas c.self.inside.rows c.finish_at.new.rows c.self.inside.front c.self.inside.unsure k
     (subst (λ o. StandsFor g.D.Disk.files g.D.Piece.Piece.Tells (volume_with c.self.inside.settings c.self.inside.number c.self.inside.replicas.items c.self.inside.rows c.self.inside.front o c.self.inside.unsure) k) thawed (subst (λ v. StandsFor g.D.Disk.files g.D.Piece.Piece.Tells v k) (sym c.self.view_is) stands)) tells c.args.replica call.one c.in-Ok.files call.swaps call.places
     (tight call.one.before (subst (λ v. At v.replicas c.args.replica call.one.before) c.self.view_is call.one.was))))
+
+pub returns-in-Some-clause-thawed : goal.returns-in-Some-clause-thawed
+returns-in-Some-clause-thawed g c = λ none m e. some_none (sym c.in-Some.is ∙ ap (λ v. v.frozen) c.self.view_is ∙ none)
+
+pub returns-in-Err-clause-thawed : goal.returns-in-Err-clause-thawed
+returns-in-Err-clause-thawed g c = λ none m e.
+    let after = (goal.at.returns-in-Err-clause-thawed g c).After-finish_at in
+    let call = called_with c.in-Err.is (called g after) in
+    let same : c.unfinished_by-unfinished.result.fault ≡ logical.ReadOnly m = cc in
+    called_thawed c.self.inside.settings c.self.inside.number c.in-Err.unswapped call m (ap (λ (u : Unfinished). u.fault) (sym c.unfinished_by-unfinished.ensures) ∙ same)

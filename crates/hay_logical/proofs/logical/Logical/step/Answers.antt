@@ -18,13 +18,14 @@ use Rattle.hay_logical.proofs.Changing.{not_some}
 use Rattle.hay_logical.proofs.Stepping.{none_there, stands_there, step_fault, step_refused, stepped_on}
 use Rattle.hay_logical.proofs.Reaching.{same_rows}
 use Rattle.hay_logical.specs.declared.fault.LogicalFault.{LogicalFault}
-use Rattle.hay_logical.proofs.Untouched.{answered_memory, one_untouched, step_untouched, stuck_same}
+use Rattle.hay_logical.proofs.Untouched.{answered_memory, one_untouched, step_thawed, step_untouched, stuck_same}
 use Rattle.hay_physical.specs.Copies.{is_stuck}
 use Rattle.hay_logical.proofs.Tightness.{tight_one, tight_partly, tight_stepped}
 use Rattle.hay_logical.specs.Stands.{RunsTight}
 use Rattle.std.specs.Prelude.{OnOk}
 use Rattle.hay_physical.specs.declared.fault.ReplicaFault.TheVariants as fault
 use Rattle.hay_logical.specs.declared.fault.LogicalFault.TheVariants as logical
+use Rattle.hay_logical.proofs.Changing.{some_none}
 use Rattle.hay_logical.proofs.logical.Logical.step.Goals as goal
 use Rattle.hay_logical.proofs.logical.Logical.step.Goals.{in-Ok, in-Err}
 
@@ -298,4 +299,21 @@ returns-clause-tight_partly g c = λ tells k stands j tight said x f.
           tight_one g.D.Disk.files c.args.replica c.self.inside.replicas.items c.step_at.new.replicas one
           (tight_partly g.D.Disk.files one.before one.after g.D.Disk.Tells g.D.Disk.fault_count tells g.D.Piece.Piece.Tells c.self.inside.rows c.args.replica c.args.cells was.stored was.stands was.places done)
           j (λ r e. tight r (subst (λ v. At v.replicas j r) c.self.view_is e)) x (subst (λ xs. At xs j x) kept f)
+    ]
+
+pub returns-in-Some-clause-thawed : goal.returns-in-Some-clause-thawed
+returns-in-Some-clause-thawed g c = λ none m e. some_none (sym c.in-Some.is ∙ ap (λ v. v.frozen) c.self.view_is ∙ none)
+
+pub returns-clause-thawed : goal.returns-clause-thawed
+returns-clause-thawed g c = λ none m e.
+    let now = c.as_mut_slice.ensures.value in
+    let one : CallsOne c.args.replica c.self.inside.replicas.items c.step_at.new.replicas = subst (λ xs. CallsOne c.args.replica xs c.step_at.new.replicas) now c.step_at.ensures.one in
+    elim c.match-step_at.branch [
+      | in-Ok w ↦ let wrong = sym w.result-is ∙ e in absurd cc
+      | in-Err w ↦
+          let step : StepsAt g.D.Disk.Tells g.D.Disk.files g.D.Disk.fault_count g.D.Piece.Piece.Tells c.self.inside.rows c.args.replica c.args.cells one.before one.after (Err w.in-Err.fault) =
+          subst (λ x. StepsAt g.D.Disk.Tells g.D.Disk.files g.D.Disk.fault_count g.D.Piece.Piece.Tells c.self.inside.rows c.args.replica c.args.cells one.before one.after x) w.in-Err.is
+          (c.step_at.ensures.steps one.before one.after (subst (λ xs. At xs c.args.replica one.before) (sym now) one.was) (one_after c.args.replica c.self.inside.replicas.items c.step_at.new.replicas one)) in
+          let said : Err w.answer_at.result ≡ Err (logical.ReadOnly m) = sym w.result-is ∙ e in
+          step_thawed g.D.Disk.fault_count one.before one.after c.machine_of-machine.result w.in-Err.fault m step.cause (sym w.answer_at.ensures ∙ (let same : w.answer_at.result ≡ logical.ReadOnly m = cc in same))
     ]
