@@ -66,23 +66,53 @@ fn batches_are_loaded_and_told(rt: HostRuntime) -> Result<(), Fail> {
     Ok(())
 }
 
-// What a load tells where so many calls of the Directory's disk pass.
-fn failed_of(alloc: Global, calls: u64) -> Result<(u8, String), Fail> {
+// Stops the Directory's disk.
+fn stop(shelf: &mut MemShelf, pick: u64) -> Result<(), Fail>
+    requires { (slot : ℕ) → (mem_disks shelf.old slot).is_out ≡ false }
+    ensures { (slot : ℕ) → (mem_disks shelf.new slot).is_out ≡ false }
+{
+    match shelf.disk_mut(0) {
+        Some(disk) => {
+            disk.power_cycle(pick);
+            Ok(())
+        }
+        None => Err("a disk".into()),
+    }
+}
+
+// What a load tells, and what one tells behind a stop, where so many calls of the Directory's disk pass.
+fn failed_of(alloc: Global, calls: u64, pick: u64) -> Result<(u8, String, u8, String), Fail> {
+    let script = b"put 0 1 61\nput 0 2 62\n";
     let mut disk = MemDisk::new(alloc);
     disk.fuse(calls);
     let mut shelf = MemShelf::new(alloc);
     shelf.put_disk(0, disk)?;
-    let script = b"put 0 1 61\nput 0 2 62\n";
-    load_of(alloc, settings(1, 67_108_864), script, &[], &[], &mut shelf)
+    let store = settings(1, 67_108_864);
+    let (status, text) = load_of(alloc, store, script, &[], &[], &mut shelf)?;
+    stop(&mut shelf, pick)?;
+    let (again, told) = load_of(alloc, store, script, &[], &[], &mut shelf)?;
+    Ok((status, text, again, told))
 }
 
 #[test]
-fn a_failure_is_told(rt: HostRuntime) -> Result<(), Fail> {
+fn a_failure_leaves_no_row_or_the_batch(rt: HostRuntime) -> Result<(), Fail> {
     let alloc = rt.alloc();
     for calls in 0..4 {
-        let (status, text) = failed_of(alloc, 2 + calls)?;
-        assert_eq!(rt; status, 6);
-        assert_eq!(rt; text.as_str(), "haystack 1 1 1 67108864\n1 failed dir 1\n");
+        for pick in 0..2 {
+            let (status, text, again, told) = failed_of(alloc, 2 + calls, pick)?;
+            assert_eq!(rt; status, 6);
+            assert_eq!(rt; text.as_str(), "haystack 1 1 1 67108864\n1 failed dir 1\n");
+            assert_eq!(rt; again, 0);
+            let kept = calls == 3 && pick == 1;
+            assert_eq!(rt;
+                told.as_str(),
+                if kept {
+                    "haystack 1 1 1 67108864\n1 known 0\n"
+                } else {
+                    "haystack 1 1 1 67108864\n1 loaded 0 2 2\n"
+                }
+            );
+        }
     }
     Ok(())
 }
