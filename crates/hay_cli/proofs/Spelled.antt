@@ -12,7 +12,7 @@ use Rattle.hay_cli.specs.Commands.{AreSettings, IsRun, number_or, secret_or, fol
 use Rattle.hay_cli.specs.Reading.{settings_by, value_met, option_met, options_from, options_of, settings_of, store_of, drill_of, mode_of}
 use Rattle.hay_needle.specs.declared.settings.Settings.{Settings}
 use Rattle.hay_cli.specs.declared.Mode.{Mode}
-use Rattle.hay_cli.specs.declared.Mode.TheVariants.{Run, Check, Drill}
+use Rattle.hay_cli.specs.declared.Mode.TheVariants.{Run, Check, Load, Drill}
 use Rattle.hay_cli.proofs.Folders.{some≢none, same_all}
 
 -- ---- one option in its word
@@ -274,6 +274,13 @@ check_spelled words mode is = go (store_of words) refl is
     go None e is = absurd (some≢none is)
     go (Some settings) e is = subst (λ m. Says (codes "check" ∷ words) m) (value_is is) (refl, store_spelled words settings e)
 
+load_spelled : (words : List Text) (mode : Mode) → option_map Load (store_of words) ≡ Some mode → Says (codes "load" ∷ words) mode
+load_spelled words mode is = go (store_of words) refl is
+  where
+    go : (o : Option Settings) → store_of words ≡ o → option_map Load o ≡ Some mode → Says (codes "load" ∷ words) mode
+    go None e is = absurd (some≢none is)
+    go (Some settings) e is = subst (λ m. Says (codes "load" ∷ words) m) (value_is is) (refl, store_spelled words settings e)
+
 drill_spelled : (words : List Text) (mode : Mode) → drill_of words ≡ Some mode → Says (codes "drill" ∷ words) mode
 drill_spelled [] mode is = absurd (some≢none is)
 drill_spelled (a ∷ []) mode is = absurd (some≢none is)
@@ -288,20 +295,23 @@ drill_spelled (a ∷ b ∷ []) mode is = go (number_in 1 1000 a) refl (number_in
 
 pub mode_spelled : (words : List Text) (mode : Mode) → mode_of words ≡ Some mode → Says words mode
 mode_spelled [] mode is = absurd (some≢none is)
-mode_spelled (word ∷ words) mode is = go (bytes_eq word (codes "run")) refl (bytes_eq word (codes "check")) refl (bytes_eq word (codes "drill")) refl is
+mode_spelled (word ∷ words) mode is = go (bytes_eq word (codes "run")) refl (bytes_eq word (codes "check")) refl (bytes_eq word (codes "load")) refl (bytes_eq word (codes "drill")) refl is
   where
-    go : (b : Bool) → bytes_eq word (codes "run") ≡ b → (c : Bool) → bytes_eq word (codes "check") ≡ c → (d : Bool) → bytes_eq word (codes "drill") ≡ d
-        → cond b (option_map Run (store_of words)) (cond c (option_map Check (store_of words)) (cond d (drill_of words) None)) ≡ Some mode → Says (word ∷ words) mode
-    go true e c f d g is = subst (λ w. Says (w ∷ words) mode) (sym ((bytes_eq-Decides word (codes "run")).0 e)) (run_spelled words mode is)
-    go false e true f d g is = subst (λ w. Says (w ∷ words) mode) (sym ((bytes_eq-Decides word (codes "check")).0 f)) (check_spelled words mode is)
-    go false e false f true g is = subst (λ w. Says (w ∷ words) mode) (sym ((bytes_eq-Decides word (codes "drill")).0 g)) (drill_spelled words mode is)
-    go false e false f false g is = absurd (some≢none is)
+    go : (b : Bool) → bytes_eq word (codes "run") ≡ b → (c : Bool) → bytes_eq word (codes "check") ≡ c → (l : Bool) → bytes_eq word (codes "load") ≡ l → (d : Bool) → bytes_eq word (codes "drill") ≡ d
+        → cond b (option_map Run (store_of words)) (cond c (option_map Check (store_of words)) (cond l (option_map Load (store_of words)) (cond d (drill_of words) None))) ≡ Some mode → Says (word ∷ words) mode
+    go true e c f l k d g is = subst (λ w. Says (w ∷ words) mode) (sym ((bytes_eq-Decides word (codes "run")).0 e)) (run_spelled words mode is)
+    go false e true f l k d g is = subst (λ w. Says (w ∷ words) mode) (sym ((bytes_eq-Decides word (codes "check")).0 f)) (check_spelled words mode is)
+    go false e false f true k d g is = subst (λ w. Says (w ∷ words) mode) (sym ((bytes_eq-Decides word (codes "load")).0 k)) (load_spelled words mode is)
+    go false e false f false k true g is = subst (λ w. Says (w ∷ words) mode) (sym ((bytes_eq-Decides word (codes "drill")).0 g)) (drill_spelled words mode is)
+    go false e false f false k false g is = absurd (some≢none is)
 
 pub mode_read : (words : List Text) (mode : Mode) → Says words mode → mode_of words ≡ Some mode
 mode_read [] mode h = absurd h
 mode_read (word ∷ words) (Run settings) h =
     rw (h.0, options_read run_names run_plain h.1.0 [] words h.1.1, settings_read (value_of h.1.0) settings h.1.2) refl
 mode_read (word ∷ words) (Check settings) h =
+    rw (h.0, options_read run_names run_plain h.1.0 [] words h.1.1, settings_read (value_of h.1.0) settings h.1.2) refl
+mode_read (word ∷ words) (Load settings) h =
     rw (h.0, options_read run_names run_plain h.1.0 [] words h.1.1, settings_read (value_of h.1.0) settings h.1.2) refl
 mode_read (word ∷ words) (Drill count first) h =
     let d = h.1 in

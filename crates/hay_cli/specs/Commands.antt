@@ -8,7 +8,7 @@ use Rattle.std.specs.Result.{result_ok}
 use Rattle.hex.specs.Hex.{decode_of}
 use Rattle.hay_needle.specs.declared.settings.Settings.{Settings}
 use Rattle.hay_cli.specs.declared.Mode.{Mode}
-use Rattle.hay_cli.specs.declared.Mode.TheVariants.{Run, Check, Drill}
+use Rattle.hay_cli.specs.declared.Mode.TheVariants.{Run, Check, Load, Drill}
 
 -- WORDS
 
@@ -78,7 +78,7 @@ folder_passes (Some path) = nat_lt 0 (length path)
 
 -- MODES
 
--- the options of a run and of a check
+-- the options of a run, of a check and of a load
 abbrev pub run_names : List Text
 run_names = codes "machines" ∷ codes "volumes" ∷ codes "replicas" ∷ codes "capacity" ∷ codes "secret" ∷ codes "folder" ∷ []
 
@@ -92,7 +92,7 @@ pub record AreSettings (value : Text → Option Text) (settings : Settings) : Ty
   pub secret : secret_or (value (codes "secret")) ≡ Some settings.secret
   pub folder : folder_passes (value (codes "folder")) ≡ true
 
--- the words behind `run` or `check` are options with these settings
+-- the words behind `run`, `check` or `load` are options with these settings
 abbrev pub IsRun : List Text → Settings → Type 0
 IsRun words settings = (given : List Given) × AreOptions run_names [] given words × AreSettings (value_of given) settings
 
@@ -109,4 +109,5 @@ abbrev pub Says : List Text → Mode → Type 0
 Says [] mode = ⊥
 Says (word ∷ words) (Run settings) = (word ≡ codes "run") × IsRun words settings
 Says (word ∷ words) (Check settings) = (word ≡ codes "check") × IsRun words settings
+Says (word ∷ words) (Load settings) = (word ≡ codes "load") × IsRun words settings
 Says (word ∷ words) (Drill count first) = (word ≡ codes "drill") × IsDrill words count first

@@ -4,7 +4,7 @@ use Rattle.std.specs.Str.{bytes_eq}
 use Rattle.clap.specs.Lexer.{long_of}
 use Rattle.hay_needle.specs.declared.settings.Settings.{Settings}
 use Rattle.hay_cli.specs.declared.Mode.{Mode}
-use Rattle.hay_cli.specs.declared.Mode.TheVariants.{Run, Check, Drill}
+use Rattle.hay_cli.specs.declared.Mode.TheVariants.{Run, Check, Load, Drill}
 use Rattle.hay_cli.specs.Commands.{Text, is_flag, Given, has_option, is_named, value_of, number_in, number_or, secret_or, folder_passes, run_names}
 
 -- the option with its value stands behind those that were given, once
@@ -67,6 +67,7 @@ abbrev pub mode_of : List Text → Option Mode
 mode_of [] = None
 mode_of (mode ∷ words) = if bytes_eq mode (codes "run") then option_map Run (store_of words)
     else if bytes_eq mode (codes "check") then option_map Check (store_of words)
+    else if bytes_eq mode (codes "load") then option_map Load (store_of words)
     else if bytes_eq mode (codes "drill") then drill_of words
     else None
 

@@ -28,6 +28,8 @@ pub enum Mode {
     Run(Settings),
     /// Checks a store with these settings.
     Check(Settings),
+    /// Loads the photos of a script into a store with these settings.
+    Load(Settings),
     /// Runs a script of its own over `count` photos, 1 to 1,000, from the key `first` upwards.
     Drill { count: u32, first: u64 },
 }
@@ -52,8 +54,8 @@ impl From<AllocError> for CliFault {
 
 /// What the words behind the program's name ask for.
 ///
-/// The first word is `run`, `check` or `drill`. Options follow `run` and `check`, each at most once, as `--name VALUE` or
-/// `--name=VALUE`:
+/// The first word is `run`, `check`, `load` or `drill`. Options follow `run`, `check` and `load`, each at most once, as
+/// `--name VALUE` or `--name=VALUE`:
 ///
 /// | option | value | if left out |
 /// |---|---|---|
@@ -86,6 +88,7 @@ fn mode_of_words(alloc: Global, words: &[String]) -> Result<Mode, CliFault>
     match mode.as_str() {
         "run" => Ok(Mode::Run(read_store(alloc, "run", words)?)),
         "check" => Ok(Mode::Check(read_store(alloc, "check", words)?)),
+        "load" => Ok(Mode::Load(read_store(alloc, "load", words)?)),
         "drill" => read_drill(alloc, words),
         _ => Err(CliFault::Usage),
     }

@@ -1,9 +1,12 @@
 -- What a store's answer to a batch is, by what is stored on its disks.
-use Rattle.std.proofs.Common.{◌≡◌, inl, inr, ◌<◌, ℕ, List, length, All, None, refl, sym, ap, subst, ◌∙◌, arith}
+use Rattle.std.proofs.Common.{◌≡◌, ◌⊎◌, inl, inr, ◌<◌, ℕ, List, length, All, None, Result, Err, refl, sym, ap, subst, ◌∙◌, arith}
+use Rattle.std.specs.Prelude.{IfErr}
 use Rattle.hay_disk.specs.Disk.{Files}
 use Rattle.hay_dirfile.specs.declared.row.DirRow.{DirRow}
 use Rattle.hay_volume.specs.declared.volume.VolumeFile.{VolumeFile}
 use Rattle.hay_batch.specs.declared.fault.FullTry.{FullTry}
+use Rattle.hay_batch.specs.declared.fault.LoadFault.{LoadFault}
+use Rattle.hay_batch.specs.declared.load.Loaded.{Loaded as LoadedRows}
 use Rattle.hay_batch.specs.declared.photo.NewPhoto.{NewPhoto}
 use Rattle.hay_batch.specs.declared.replica.LoadReplica.{LoadReplica}
 use Rattle.hay_batch.specs.declared.store.LoadStore.{LoadStore}
@@ -11,16 +14,17 @@ use Rattle.hay_batch.specs.Batches.{batch_total}
 use Rattle.hay_batch.specs.Directories.{IsFirstHome}
 use Rattle.hay_batch.specs.Homes.{AreHomes, home_among}
 use Rattle.hay_batch.specs.Replicas.{HasRoom}
-use Rattle.hay_batch.specs.Shelves.{StandsAs, StoredStore, with_stored}
-use Rattle.hay_batch.specs.Stores.{AreTries, IsFirstRoom, IsShaped, IsTry, ReplicaAt}
+use Rattle.hay_batch.specs.Shelves.{LeavesBatch, MayLeaveDisks, StandsAs, StoredStore, with_stored}
+use Rattle.hay_batch.specs.Stores.{AreTries, IsDiskFault, IsFirstRoom, IsShaped, IsTry, ReplicaAt}
 use Rattle.hay_batch.proofs.Lists.{at_below, at_there}
 use Rattle.hay_batch.proofs.Loading.{replica_there}
 use Rattle.hay_load.specs.declared.reply.LoadReply.{LoadReply}
 use Rattle.hay_load.specs.declared.reply.LoadReply.TheVariants.{Loaded, Known}
 use Rattle.hay_load.specs.Answers.{AreHomeless, AreTriesIn, FitsOn, IsFirstHomeIn, IsFirstRoomIn, IsTryIn}
 use Rattle.hay_load.specs.Gathering.{key_of}
-use Rattle.hay_load.specs.Loads.{Answered}
+use Rattle.hay_load.specs.Loads.{Answered, LeavesNew}
 use Rattle.hay_load.specs.Replies.{full_reply}
+use Rattle.hay_load.proofs.Taking.{kept_known, left_untouched}
 
 -- HOMES
 
@@ -33,7 +37,8 @@ first_home_in homes rows photos volume are first = record {
   before = λ i other low there. sym (are.are other.pair) ∙ first.before i other low there;
 }
 
-pub homeless_in : (homes : List ((ℕ × ℕ) × ℕ)) (rows : List DirRow) (photos : List NewPhoto) → AreHomes homes rows → All (λ (photo : NewPhoto). home_among homes photo.pair ≡ None) photos → AreHomeless rows photos
+pub homeless_in : (homes : List ((ℕ × ℕ) × ℕ)) (rows : List DirRow) (photos : List NewPhoto) → AreHomes homes rows
+    → All (λ (photo : NewPhoto). home_among homes photo.pair ≡ None) photos → AreHomeless rows photos
 homeless_in homes rows photos are none = λ i default below. sym (are.are _) ∙ none i default below
 
 -- ROOM
@@ -111,7 +116,8 @@ module _ {D : Type 0} (files : D → Files) (s : StoredStore) (photos : List New
     stands = subst (λ (store : LoadStore D). StandsAs files store s) (sym same) stands;
   }
 
-  pub loaded_answer : (volume rows : ℕ) → All (λ (photo : NewPhoto). home_among old.directory.homes photo.pair ≡ None) photos → IsFirstRoom old (key_of photos) (batch_total photos) volume → rows ≡ new.directory.rows
+  pub loaded_answer : (volume rows : ℕ) → All (λ (photo : NewPhoto). home_among old.directory.homes photo.pair ≡ None) photos
+      → IsFirstRoom old (key_of photos) (batch_total photos) volume → rows ≡ new.directory.rows
       → StandsAs files new (with_stored volume photos s) → Answered files old.settings s photos (Loaded volume (length photos) rows) new
   loaded_answer volume rows none room count stands' = record {
     stored = with_stored volume photos s;
@@ -124,3 +130,14 @@ module _ {D : Type 0} (files : D → Files) (s : StoredStore) (photos : List New
     }));
     stands = stands';
   }
+
+-- WHAT A STOP LEAVES
+
+pub left_new : {D : Type 0} (files : D → Files) (s : StoredStore) (photos : List NewPhoto) (old new : LoadStore D) (image : ℕ → ℕ → List ℕ) (answer : Result LoadedRows LoadFault)
+    → IsShaped old → StandsAs files old s → MayLeaveDisks files new image
+    → ((volume : ℕ) × (answer ≡ Err (LoadFault.Known volume)) × IsFirstHome old.directory.homes photos volume)
+    ⊎ (((volume : ℕ) → answer ≡ Err (LoadFault.Known volume) → ⊥) × All (λ (photo : NewPhoto). home_among old.directory.homes photo.pair ≡ None) photos)
+    → IfErr answer (λ (fault : LoadFault). (IsDiskFault fault → ⊥) → new ≡ old) → LeavesBatch old.settings photos image s → LeavesNew old.settings photos image s
+left_new files s photos old new image answer shape stands leaves (inl known) kept batch = inl
+    (left_untouched files s old new image (kept_known answer known.0 (new ≡ old) known.1 kept) shape stands leaves)
+left_new files s photos old new image answer shape stands leaves (inr none) kept batch = inr (homeless_in old.directory.homes s.rows photos stands.contents.directory.homes none.1, batch)

@@ -16,7 +16,7 @@ use Rattle.hay_load.specs.Gathering.{IsGathered, is_beside, joins, key_of}
 
 -- BOTH OF TWO TESTS
 
-and_first : (a b : Bool) → (a && b) ≡ true → a ≡ true
+pub and_first : (a b : Bool) → (a && b) ≡ true → a ≡ true
 and_first true b is = refl
 and_first false b is = is
 
@@ -35,7 +35,7 @@ all_at p (y ∷ xs) (suc i) x all at = all_at p xs i x (and_second (p y) (list_a
 
 -- ONE PHOTO
 
-one_distinct : (photo : NewPhoto) → AreDistinct (photo ∷ [])
+pub one_distinct : (photo : NewPhoto) → AreDistinct (photo ∷ [])
 one_distinct photo zero zero b d less at there = absurd (omega (arith, less))
 one_distinct photo zero (suc j) b d less at there = absurd cc
 one_distinct photo (suc i) j b d less at there = absurd cc
@@ -71,13 +71,14 @@ first_beside (first ∷ photos) photo some all =
 
 apart : (photo other : NewPhoto) → is_beside photo other ≡ true → other.pair ≢ photo.pair
 apart photo other beside same =
-    let alt : (other.pair.alt == photo.pair.alt) ≡ false = not_true (other.pair.alt == photo.pair.alt) (and_second (other.pair.key == photo.pair.key) (not (other.pair.alt == photo.pair.alt)) beside) in
+    let alt : (other.pair.alt == photo.pair.alt) ≡ false = not_true (other.pair.alt == photo.pair.alt)
+    (and_second (other.pair.key == photo.pair.key) (not (other.pair.alt == photo.pair.alt)) beside) in
     elim (eqb_tells other.pair.alt photo.pair.alt) [
       | inl equal ↦ let both : true ≡ false = sym equal.0 ∙ alt in absurd cc
       | inr other_alt ↦ other_alt.1 (ap (λ (p : Pair). p.alt) same)
     ]
 
-more_distinct : (photos : List NewPhoto) (photo : NewPhoto) → AreDistinct photos → list_all (is_beside photo) photos ≡ true → AreDistinct (photos ++ photo ∷ [])
+pub more_distinct : (photos : List NewPhoto) (photo : NewPhoto) → AreDistinct photos → list_all (is_beside photo) photos ≡ true → AreDistinct (photos ++ photo ∷ [])
 more_distinct photos photo distinct all i j a b less at there = elim (at_either photos photo j b there) [
   | inl later ↦ elim (at_either photos photo i a at) [
     | inl early ↦ distinct i j a b less early later
@@ -94,7 +95,8 @@ gathered_more photos more photo g few joined longer =
     let all = and_first (list_all (is_beside photo) photos) (nat_lt (length photos) 64 && nat_le (batch_total photos + photo_total photo) 67108864) joined in
     let fits = and_second (list_all (is_beside photo) photos) (nat_lt (length photos) 64 && nat_le (batch_total photos + photo_total photo) 67108864) joined in
     let count : length photos < 64 = ltb-true (length photos) 64 (and_first (nat_lt (length photos) 64) (nat_le (batch_total photos + photo_total photo) 67108864) fits) in
-    let total : batch_total photos + photo_total photo ≤ 67108864 = leb-true (batch_total photos + photo_total photo) 67108864 (and_second (nat_lt (length photos) 64) (nat_le (batch_total photos + photo_total photo) 67108864) fits) in
+    let total : batch_total photos + photo_total photo ≤ 67108864 = leb-true (batch_total photos + photo_total photo) 67108864
+    (and_second (nat_lt (length photos) 64) (nat_le (batch_total photos + photo_total photo) 67108864) fits) in
     let some = g.batch.some in
     let long = length-append photos (photo ∷ []) in
     let sum = sum_by-append photo_total photos (photo ∷ []) in

@@ -1,7 +1,8 @@
 -- What a load told of the lines that it took.
-use Rattle.std.proofs.Common.{◌≡◌, inl, inr, ℕ, List, [], ◌∷◌, ◌++◌, length, Bool, true, Option, Some, None, refl, sym, ap, subst, ◌∙◌, arith, append_assoc, length-append}
+use Rattle.std.proofs.Common.{◌≡◌, inl, inr, ℕ, List, [], ◌∷◌, ◌++◌, length, Bool, true, false, Option, Some, None, Result, Err, refl, sym, ap, subst, ◌∙◌, arith, append_assoc, length-append}
 use Rattle.std.proofs.lemmas.List.{append-nil}
-use Rattle.std.specs.Prelude.{if◌then◌else◌}
+use Rattle.std.proofs.lemmas.Result.{IfErr-at_err}
+use Rattle.std.specs.Prelude.{if◌then◌else◌, IfErr}
 use Rattle.hay_needle.specs.declared.settings.Settings.{Settings}
 use Rattle.hay_disk.specs.Disk.{Files}
 use Rattle.hay_reply.specs.declared.Reply.TheVariants.{BadLine}
@@ -16,12 +17,13 @@ use Rattle.hay_load.specs.declared.reply.LoadReply.{LoadReply}
 use Rattle.hay_load.specs.declared.reply.LoadReply.TheVariants.{Other}
 use Rattle.hay_load.specs.Answers.{AnswersAll, reply_lines}
 use Rattle.hay_load.specs.Gathering.{Bad, Batch, Group, OpenBatch, Step, closed, joins, put_step}
-use Rattle.hay_load.specs.Loads.{Answered, LeavesHeld, Loads}
+use Rattle.hay_load.specs.Loads.{Answered, FailsFirst, LeavesFirst, Loads}
 use Rattle.hay_load.specs.Replies.{load_line}
 
 -- MORE GROUPS
 
-answers_more : (settings : Settings) (s mid new : StoredStore) (groups more : List Group) (replies others : List LoadReply) → AnswersAll settings s groups replies mid → AnswersAll settings mid more others new
+pub answers_more : (settings : Settings) (s mid new : StoredStore) (groups more : List Group) (replies others : List LoadReply) → AnswersAll settings s groups replies mid
+    → AnswersAll settings mid more others new
     → AnswersAll settings s (groups ++ more) (replies ++ others) new
 answers_more settings s mid new [] more [] others first second = subst (λ (x : StoredStore). AnswersAll settings x more others new) first second
 answers_more settings s mid new [] more (reply ∷ replies) others first second = absurd first
@@ -30,7 +32,8 @@ answers_more settings s mid new (Bad line ∷ groups) more (reply ∷ replies) o
 answers_more settings s mid new (Batch line photos ∷ groups) more (reply ∷ replies) others first second =
     (first.0, first.1, answers_more settings first.0 mid new groups more replies others first.2 second)
 
-lines_more : (groups more : List Group) (replies others : List LoadReply) → length replies ≡ length groups → reply_lines (groups ++ more) (replies ++ others) ≡ reply_lines groups replies ++ reply_lines more others
+lines_more : (groups more : List Group) (replies others : List LoadReply) → length replies ≡ length groups
+    → reply_lines (groups ++ more) (replies ++ others) ≡ reply_lines groups replies ++ reply_lines more others
 lines_more [] more [] others many = refl
 lines_more [] more (reply ∷ replies) others many = absurd (omega (arith, many))
 lines_more (group ∷ groups) more [] others many = absurd (omega (arith, many))
@@ -69,7 +72,8 @@ module _ {D : Type 0} (Tells : Type 0) (files : D → Files) where
         record { stored = a.stored; answers = (a.stored, a.answers, refl); stands = a.stands };
   }
 
-  pub loads_more : (groups more : List Group) (old mid new : LoadStore D) (before middle after : List ℕ) → mid.settings ≡ old.settings → Loads Tells files groups old mid before middle → Loads Tells files more mid new middle after → Loads Tells files (groups ++ more) old new before after
+  pub loads_more : (groups more : List Group) (old mid new : LoadStore D) (before middle after : List ℕ) → mid.settings ≡ old.settings
+      → Loads Tells files groups old mid before middle → Loads Tells files more mid new middle after → Loads Tells files (groups ++ more) old new before after
   loads_more groups more old mid new before middle after same first second = record {
     replies = first.replies ++ second.replies;
     many = (let a = length-append first.replies second.replies in let b = length-append groups more in let m = first.many in let n = second.many in omega (arith, a, b, m, n));
@@ -87,26 +91,59 @@ module _ {D : Type 0} (Tells : Type 0) (files : D → Files) where
   }
 
 -- what an opening finds where nothing was changed
-pub left_untouched : {D : Type 0} (files : D → Files) (s : StoredStore) (old new : LoadStore D) (image : ℕ → ℕ → List ℕ) → new ≡ old → IsShaped old → StandsAs files old s → MayLeaveDisks files new image → OpensStore old.settings image s
+pub left_untouched : {D : Type 0} (files : D → Files) (s : StoredStore) (old new : LoadStore D) (image : ℕ → ℕ → List ℕ) → new ≡ old → IsShaped old → StandsAs files old s
+    → MayLeaveDisks files new image → OpensStore old.settings image s
 left_untouched {D} files s old new image same shape stands leaves = stands_left files s old image shape stands (subst (λ (store : LoadStore D). MayLeaveDisks files store image) same leaves)
 
--- and so it is of any open batch
-pub left_any : (settings : Settings) (held : Option OpenBatch) (image : ℕ → ℕ → List ℕ) (s : StoredStore) → OpensStore settings image s → LeavesHeld settings held image s
-left_any settings None image s opens = opens
-left_any settings (Some batch) image s opens = inl (record {
-  volume = 0;
-  rows = opens.rows;
-  replicas = λ v j volume replica. inl (opens.replicas v j volume replica);
-  others = λ v j apart volume replica. opens.replicas v j volume replica;
-})
+-- and so it is of any groups
+pub left_first : (settings : Settings) (groups : List Group) (image : ℕ → ℕ → List ℕ) (s : StoredStore) → OpensStore settings image s → LeavesFirst settings groups image s
+left_first settings [] image s opens = opens
+left_first settings (Bad line ∷ groups) image s opens = opens
+left_first settings (Batch line photos ∷ groups) image s opens = inl opens
+
+-- and so it is where more groups follow
+pub left_more : (settings : Settings) (groups more : List Group) (image : ℕ → ℕ → List ℕ) (s : StoredStore) → LeavesFirst settings groups image s → LeavesFirst settings (groups ++ more) image s
+left_more settings [] more image s left = left_first settings more image s left
+left_more settings (Bad line ∷ groups) more image s left = left
+left_more settings (Batch line photos ∷ groups) more image s left = left
+
+pub fails_more : {D : Type 0} (fault_count : D → ℕ) (groups more : List Group) (old new : LoadStore D) (before after : List ℕ) → FailsFirst fault_count groups old new before after
+    → FailsFirst fault_count (groups ++ more) old new before after
+fails_more fault_count groups more old new before after fails = record {
+  batch = fails.batch;
+  behind = fails.behind ++ more;
+  is = ap (λ (l : List Group). l ++ more) fails.is;
+  slot = fails.slot;
+  faults = fails.faults;
+  fails = fails.fails;
+  reply = fails.reply;
+  failed = fails.failed;
+  told = fails.told;
+}
 
 -- a photo that joins ends no group
 pub joined_groups : (number : ℕ) (batch : OpenBatch) (photo : NewPhoto) → joins batch.photos photo ≡ true → (put_step number (Some batch) photo).groups ≡ []
 joined_groups number batch photo joined =
-    let step : Bool → Step = λ b. if b then record { groups = []; held = Some (record { line = batch.line; photos = batch.photos ++ photo ∷ [] }) } else record { groups = closed (Some batch); held = Some (record { line = number; photos = photo ∷ [] }) } in
+    let step : Bool → Step = λ b. if b then record { groups = []; held = Some (record { line = batch.line; photos = batch.photos ++ photo ∷ [] }) } else record
+    { groups = closed (Some batch); held = Some (record { line = number; photos = photo ∷ [] }) } in
     ap (λ (b : Bool). (step b).groups) joined
+
+-- one that does not ends the open batch
+pub apart_groups : (number : ℕ) (batch : OpenBatch) (photo : NewPhoto) → joins batch.photos photo ≡ false → (put_step number (Some batch) photo).groups ≡ closed (Some batch)
+apart_groups number batch photo apart =
+    let step : Bool → Step = λ b. if b then record { groups = []; held = Some (record { line = batch.line; photos = batch.photos ++ photo ∷ [] }) } else record
+    { groups = closed (Some batch); held = Some (record { line = number; photos = photo ∷ [] }) } in
+    ap (λ (b : Bool). (step b).groups) apart
 
 -- a batch without room is no failure of a disk
 pub full_is_none : (fault : LoadFault) (tries : List FullTry) → fault ≡ LoadFault.Full tries → IsDiskFault fault → ⊥
 full_is_none fault tries is (inl (slot, faults, failed)) = let both : LoadFault.Full tries ≡ LoadFault.Failed slot faults = sym is ∙ failed in absurd cc
 full_is_none fault tries is (inr memory) = let both : LoadFault.Full tries ≡ LoadFault.NoMemory = sym is ∙ memory in absurd cc
+
+-- nor is one with a home
+known_is_none : (volume : ℕ) → IsDiskFault (LoadFault.Known volume) → ⊥
+known_is_none volume (inl (slot, faults, failed)) = absurd cc
+known_is_none volume (inr memory) = absurd cc
+
+pub kept_known : {T : Type 0} (r : Result T LoadFault) (volume : ℕ) (P : Type 0) → r ≡ Err (LoadFault.Known volume) → IfErr r (λ (fault : LoadFault). (IsDiskFault fault → ⊥) → P) → P
+kept_known r volume P is kept = IfErr-at_err (λ (fault : LoadFault). (IsDiskFault fault → ⊥) → P) is kept (known_is_none volume)

@@ -5,7 +5,7 @@ use Rattle.hay_needle.specs.declared.needle.Pair.{Pair}
 use Rattle.hay_needle.specs.declared.settings.Settings.{Settings}
 use Rattle.hay_url.specs.Url.{cookie_of}
 use Rattle.hay_script.specs.declared.Command.{Command}
-use Rattle.hay_script.specs.declared.Command.TheVariants.{Put}
+use Rattle.hay_script.specs.declared.Command.TheVariants as command
 use Rattle.hay_script.specs.declared.Line.{Line}
 use Rattle.hay_script.specs.declared.Line.TheVariants as line
 use Rattle.hay_batch.specs.declared.photo.NewPhoto.{NewPhoto}
@@ -73,14 +73,30 @@ abbrev pub bad_step : ℕ → Option OpenBatch → Step
 bad_step number held = record { groups = closed held ++ Bad number ∷ []; held = None }
 
 abbrev pub command_step : Settings → ℕ → Option OpenBatch → Command → Step
-command_step settings number held (Put pair bytes) = put_step number held (photo_of settings pair bytes)
-command_step settings number held _ = bad_step number held
+command_step settings number held (command.Put pair bytes) = put_step number held (photo_of settings pair bytes)
+command_step settings number held (command.Read pair cookie) = bad_step number held
+command_step settings number held (command.Get url) = bad_step number held
+command_step settings number held (command.Del pair) = bad_step number held
+command_step settings number held (command.Url pair) = bad_step number held
+command_step settings number held (command.Flush volume machine) = bad_step number held
+command_step settings number held (command.Compact volume machine) = bad_step number held
+command_step settings number held (command.Begin volume machine) = bad_step number held
+command_step settings number held (command.Step volume machine cells) = bad_step number held
+command_step settings number held (command.Finish volume machine) = bad_step number held
+command_step settings number held (command.Drain machine) = bad_step number held
+command_step settings number held (command.Undrain machine) = bad_step number held
+command_step settings number held (command.Fuse volume machine calls) = bad_step number held
+command_step settings number held (command.FuseDir calls) = bad_step number held
+command_step settings number held (command.Restart pick) = bad_step number held
 
 -- a line that says nothing is skipped
 abbrev pub line_step : Settings → ℕ → Option OpenBatch → Line → Step
 line_step settings number held line.Skip = record { groups = []; held = held }
-line_step settings number held (line.Plain command) = command_step settings number held command
-line_step settings number held _ = bad_step number held
+line_step settings number held (line.Plain asks) = command_step settings number held asks
+line_step settings number held line.Bad = bad_step number held
+line_step settings number held (line.InLane lane asks) = bad_step number held
+line_step settings number held (line.Lanes lanes) = bad_step number held
+line_step settings number held line.End = bad_step number held
 
 -- what lines make of which the first has this number, behind an open batch
 abbrev pub groups_from : Settings → ℕ → Option OpenBatch → List Line → List Group

@@ -1,5 +1,5 @@
 -- A load that has taken some lines: its store, the batch that is open, and what it told.
-use Rattle.std.specs.Prelude.{◌≡◌, ◌<◌, ◌+◌, ◌%◌, ◌++◌, ℕ, List, length, Option, Some, None, option_map}
+use Rattle.std.specs.Prelude.{◌≡◌, ◌⊎◌, ◌<◌, ◌+◌, ◌%◌, ◌++◌, ℕ, List, [], ◌∷◌, length, Option, Some, option_map}
 use Rattle.hay_needle.specs.declared.settings.Settings.{Settings}
 use Rattle.hay_disk.specs.Disk.{Files}
 use Rattle.hay_reply.specs.declared.Reply.{Reply}
@@ -12,8 +12,8 @@ use Rattle.hay_load.specs.declared.batch.Gathered.{Gathered}
 use Rattle.hay_load.specs.declared.loading.Loading.{Loading}
 use Rattle.hay_load.specs.declared.reply.LoadReply.{LoadReply}
 use Rattle.hay_load.specs.declared.reply.LoadReply.TheVariants.{Other}
-use Rattle.hay_load.specs.Answers.{AnswersAll, AnswersBatch, reply_lines}
-use Rattle.hay_load.specs.Gathering.{Group, IsGathered, OpenBatch}
+use Rattle.hay_load.specs.Answers.{AnswersAll, AnswersBatch, AreHomeless, reply_lines}
+use Rattle.hay_load.specs.Gathering.{Group, Batch, Bad, IsGathered, OpenBatch}
 use Rattle.hay_load.specs.Replies.{load_line}
 
 -- THE OPEN BATCH
@@ -59,10 +59,11 @@ pub record IsFailed (settings : Settings) (slot faults : ℕ) (reply : Reply) : 
   pub directory : slot ≡ 0 → reply ≡ FailedDir faults
   pub replica : (v j : ℕ) → j < settings.replicas → slot ≡ slot_of settings v j → reply ≡ Failed v ((v + j) % settings.machines) faults
 
--- A disk failed while the open batch was loaded, and the line of this was added.
-pub record FailsHeld {D : Type 0} (fault_count : D → ℕ) (held : Option OpenBatch) (old new : LoadStore D) (before after : List ℕ) : Type 0 where
+-- A disk failed while the first of these groups, a batch, was loaded, and the line of this was added.
+pub record FailsFirst {D : Type 0} (fault_count : D → ℕ) (groups : List Group) (old new : LoadStore D) (before after : List ℕ) : Type 0 where
   pub batch : OpenBatch
-  pub is : held ≡ Some batch
+  pub behind : List Group
+  pub is : groups ≡ Batch batch.line batch.photos ∷ behind
   pub slot : ℕ
   pub faults : ℕ
   pub fails : FailsAt fault_count old new slot faults
@@ -70,7 +71,15 @@ pub record FailsHeld {D : Type 0} (fault_count : D → ℕ) (held : Option OpenB
   pub failed : IsFailed old.settings slot faults reply
   pub told : after ≡ before ++ load_line batch.line (Other reply)
 
--- what an opening finds: what was stored, or that with no row of the open batch, or with the whole of it
-abbrev pub LeavesHeld : Settings → Option OpenBatch → (ℕ → ℕ → List ℕ) → StoredStore → Type 0
-LeavesHeld settings None image s = OpensStore settings image s
-LeavesHeld settings (Some batch) image s = LeavesBatch settings batch.photos image s
+-- WHAT A STOP LEAVES
+
+-- what an opening finds: what was stored; or, where no photo of the batch has a home by that, the same with no row of the batch,
+-- or with the whole of it
+abbrev pub LeavesNew : Settings → List NewPhoto → (ℕ → ℕ → List ℕ) → StoredStore → Type 0
+LeavesNew settings photos image s = OpensStore settings image s ⊎ (AreHomeless s.rows photos × LeavesBatch settings photos image s)
+
+-- the same where the first of these groups may be such a batch
+abbrev pub LeavesFirst : Settings → List Group → (ℕ → ℕ → List ℕ) → StoredStore → Type 0
+LeavesFirst settings [] image s = OpensStore settings image s
+LeavesFirst settings (Bad line ∷ groups) image s = OpensStore settings image s
+LeavesFirst settings (Batch line photos ∷ groups) image s = LeavesNew settings photos image s

@@ -1,13 +1,13 @@
 //! The fold over the lines of a script.
 
-ghost use Rattle.std.specs.Prelude.{◌≡◌, ◌<◌, ◌≤◌, ◌∷◌, [], ℕ, List, Some, None, length, IfErr, IfOk, OnOk, IsErrOf};
+ghost use Rattle.std.specs.Prelude.{◌≡◌, ◌<◌, ◌≤◌, ◌∷◌, [], ℕ, List, None, length, IfErr, IfOk, OnOk, IsErrOf};
 ghost use Rattle.hay_script.specs.Script.{IsWithin, IsWithinLine};
-ghost use Rattle.hay_batch.specs.Shelves.{LeavesBatch, MayLeaveDisks, StandsAs, StoredStore};
+ghost use Rattle.hay_batch.specs.Shelves.{MayLeaveDisks, StandsAs, StoredStore};
 ghost use Rattle.hay_batch.specs.Stores.{FailsAt, IsReadyStore, IsShaped, KeepsCounts};
 ghost use Rattle.hay_load.specs.declared.loading.BatchEnd.{BatchEnd};
 ghost use Rattle.hay_load.specs.declared.loading.LoadEnd.{LoadEnd};
 ghost use Rattle.hay_load.specs.Gathering.{Batch, IsGathered, bad_step, closed, command_step, line_step, put_step};
-ghost use Rattle.hay_load.specs.Loads.{Answered, FailsHeld, IsLoading, LeavesHeld, Loads, batch_of, held_of};
+ghost use Rattle.hay_load.specs.Loads.{Answered, FailsFirst, IsLoading, LeavesFirst, LeavesNew, Loads, held_of};
 
 use crate::batch::{Gathered, photo_of};
 use crate::failing::failed_reply;
@@ -70,7 +70,7 @@ fn answer<D: Disk>(
     requires ready { D.Tells → IsReadyStore D.files store.old }
     ensures answered { D.Tells → (s : StoredStore) → StandsAs D.files store.old s → IfOk result (λ reply. Answered D.files store.old.settings s photos.now reply store.new) }
     ensures left { D.Tells → (s : StoredStore) (image : ℕ → ℕ → List ℕ) → StandsAs D.files store.old s → MayLeaveDisks D.files store.new image →
-        LeavesBatch store.old.settings photos.now image s }
+        LeavesNew store.old.settings photos.now image s }
     ensures next { D.Tells → OnOk result (IsReadyStore D.files store.new) }
     ensures shape { (store.new.settings ≡ store.old.settings) × IsShaped store.new }
     ensures counts { KeepsCounts D.fault_count D.fuse_count store.old store.new }
@@ -105,11 +105,11 @@ fn load<D: Disk>(
     requires ready { D.Tells → IsReadyStore D.files store.old }
     ensures loads { OnOk result (Loads D.Tells D.files (Batch batch.now.line batch.now.photos.items ∷ []) store.old store.new out.old.items out.new.items) }
     ensures left { D.Tells → (s : StoredStore) (image : ℕ → ℕ → List ℕ) → StandsAs D.files store.old s → MayLeaveDisks D.files store.new image →
-        LeavesBatch store.old.settings batch.now.photos.items image s }
+        LeavesNew store.old.settings batch.now.photos.items image s }
     ensures next { D.Tells → OnOk result (IsReadyStore D.files store.new) }
     ensures shape { (store.new.settings ≡ store.old.settings) × IsShaped store.new }
     ensures counts { KeepsCounts D.fault_count D.fuse_count store.old store.new }
-    ensures failed { IsErrOf result LoadEnd.Failed → FailsHeld D.fault_count (Some (batch_of batch.now)) store.old store.new out.old.items out.new.items }
+    ensures failed { IsErrOf result LoadEnd.Failed → FailsFirst D.fault_count (Batch batch.now.line batch.now.photos.items ∷ []) store.old store.new out.old.items out.new.items }
 {
     match answer(store, alloc, batch.photos.as_slice()) {
         Ok(reply) => {
@@ -151,10 +151,10 @@ impl<D: Disk> Loading<D> {
         ensures none { self.new.held ≡ None }
         ensures next { OnOk result (IsLoading D.Tells D.files self.new) }
         ensures left { D.Tells → (s : StoredStore) (image : ℕ → ℕ → List ℕ) → StandsAs D.files self.old.store s → MayLeaveDisks D.files self.new.store image →
-            LeavesHeld self.old.store.settings (held_of self.old.held) image s }
+            LeavesFirst self.old.store.settings (closed (held_of self.old.held)) image s }
         ensures shape { (self.new.store.settings ≡ self.old.store.settings) × IsShaped self.new.store }
         ensures counts { KeepsCounts D.fault_count D.fuse_count self.old.store self.new.store }
-        ensures failed { IsErrOf result LoadEnd.Failed → FailsHeld D.fault_count (held_of self.old.held) self.old.store self.new.store out.old.items out.new.items }
+        ensures failed { IsErrOf result LoadEnd.Failed → FailsFirst D.fault_count (closed (held_of self.old.held)) self.old.store self.new.store out.old.items out.new.items }
     {
         match self.held.take() {
             Some(batch) => load(&mut self.store, alloc, &batch, out),
@@ -169,10 +169,10 @@ impl<D: Disk> Loading<D> {
         ensures none { self.new.held ≡ None }
         ensures next { OnOk result (IsLoading D.Tells D.files self.new) }
         ensures left { D.Tells → (s : StoredStore) (image : ℕ → ℕ → List ℕ) → StandsAs D.files self.old.store s → MayLeaveDisks D.files self.new.store image →
-            LeavesHeld self.old.store.settings (held_of self.old.held) image s }
+            LeavesFirst self.old.store.settings (bad_step number (held_of self.old.held)).groups image s }
         ensures shape { (self.new.store.settings ≡ self.old.store.settings) × IsShaped self.new.store }
         ensures counts { KeepsCounts D.fault_count D.fuse_count self.old.store self.new.store }
-        ensures failed { IsErrOf result LoadEnd.Failed → FailsHeld D.fault_count (held_of self.old.held) self.old.store self.new.store out.old.items out.new.items }
+        ensures failed { IsErrOf result LoadEnd.Failed → FailsFirst D.fault_count (bad_step number (held_of self.old.held)).groups self.old.store self.new.store out.old.items out.new.items }
     {
         self.end(alloc, out)?;
         load_line(alloc, number, &LoadReply::Other(Reply::BadLine), out)?;
@@ -193,10 +193,10 @@ impl<D: Disk> Loading<D> {
         ensures held { OnOk result (held_of self.new.held ≡ (put_step number (held_of self.old.held) photo).held) }
         ensures next { OnOk result (IsLoading D.Tells D.files self.new) }
         ensures left { D.Tells → (s : StoredStore) (image : ℕ → ℕ → List ℕ) → StandsAs D.files self.old.store s → MayLeaveDisks D.files self.new.store image →
-            LeavesHeld self.old.store.settings (held_of self.old.held) image s }
+            LeavesFirst self.old.store.settings (put_step number (held_of self.old.held) photo).groups image s }
         ensures shape { (self.new.store.settings ≡ self.old.store.settings) × IsShaped self.new.store }
         ensures counts { KeepsCounts D.fault_count D.fuse_count self.old.store self.new.store }
-        ensures failed { IsErrOf result LoadEnd.Failed → FailsHeld D.fault_count (held_of self.old.held) self.old.store self.new.store out.old.items out.new.items }
+        ensures failed { IsErrOf result LoadEnd.Failed → FailsFirst D.fault_count (put_step number (held_of self.old.held) photo).groups self.old.store self.new.store out.old.items out.new.items }
     {
         let Some(batch) = self.held.take() else {
             self.held = Some(Gathered::new(alloc, number, photo)?);
@@ -226,10 +226,11 @@ impl<D: Disk> Loading<D> {
         ensures held { OnOk result (held_of self.new.held ≡ (command_step self.old.store.settings number (held_of self.old.held) command).held) }
         ensures next { OnOk result (IsLoading D.Tells D.files self.new) }
         ensures left { D.Tells → (s : StoredStore) (image : ℕ → ℕ → List ℕ) → StandsAs D.files self.old.store s → MayLeaveDisks D.files self.new.store image →
-            LeavesHeld self.old.store.settings (held_of self.old.held) image s }
+            LeavesFirst self.old.store.settings (command_step self.old.store.settings number (held_of self.old.held) command).groups image s }
         ensures shape { (self.new.store.settings ≡ self.old.store.settings) × IsShaped self.new.store }
         ensures counts { KeepsCounts D.fault_count D.fuse_count self.old.store self.new.store }
-        ensures failed { IsErrOf result LoadEnd.Failed → FailsHeld D.fault_count (held_of self.old.held) self.old.store self.new.store out.old.items out.new.items }
+        ensures failed { IsErrOf result LoadEnd.Failed → FailsFirst D.fault_count (command_step self.old.store.settings number (held_of self.old.held) command).groups
+            self.old.store self.new.store out.old.items out.new.items }
     {
         match command {
             Command::Put { pair, photo } => {
@@ -270,12 +271,13 @@ impl<D: Disk> Loading<D> {
         ensures held { OnOk result (held_of self.new.held ≡ (line_step self.old.store.settings number (held_of self.old.held) line).held) }
         ensures next { OnOk result (IsLoading D.Tells D.files self.new) }
 
-        // Whatever a stop leaves, then or after a refusal, has no row of the batch that was open, or the whole batch.
+        // Whatever a stop leaves, then or after a refusal, has no row of the first batch that the line ends, or the whole batch.
         ensures left { D.Tells → (s : StoredStore) (image : ℕ → ℕ → List ℕ) → StandsAs D.files self.old.store s → MayLeaveDisks D.files self.new.store image →
-            LeavesHeld self.old.store.settings (held_of self.old.held) image s }
+            LeavesFirst self.old.store.settings (line_step self.old.store.settings number (held_of self.old.held) line).groups image s }
         ensures shape { (self.new.store.settings ≡ self.old.store.settings) × IsShaped self.new.store }
         ensures counts { KeepsCounts D.fault_count D.fuse_count self.old.store self.new.store }
-        ensures failed { IsErrOf result LoadEnd.Failed → FailsHeld D.fault_count (held_of self.old.held) self.old.store self.new.store out.old.items out.new.items }
+        ensures failed { IsErrOf result LoadEnd.Failed → FailsFirst D.fault_count (line_step self.old.store.settings number (held_of self.old.held) line).groups
+            self.old.store self.new.store out.old.items out.new.items }
     {
         match line {
             Line::Skip => Ok(()),

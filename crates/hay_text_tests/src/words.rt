@@ -106,6 +106,19 @@ fn drills_and_secrets(rt: HostRuntime) -> Result<(), Fail> {
     Ok(())
 }
 
+/// A load has the options of a run.
+#[test]
+fn loads(rt: HostRuntime) -> Result<(), Fail> {
+    let alloc = rt.alloc();
+    assert_eq!(rt;
+        mode_of(alloc, "load|--volumes|2|--capacity=4096|--folder|load")?,
+        Ok(Mode::Load(settings(1, 2, 1, 4_096)))
+    );
+    assert_eq!(rt; mode_of(alloc, "load|200|0")?, Err(CliFault::Usage));
+    assert_eq!(rt; mode_of(alloc, "load|--volumes|0")?, Err(CliFault::Usage));
+    Ok(())
+}
+
 /// A check has the options of a run.
 #[test]
 fn checks(rt: HostRuntime) -> Result<(), Fail> {

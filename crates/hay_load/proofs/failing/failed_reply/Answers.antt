@@ -9,5 +9,6 @@ returns-clause-replica c = λ v j low is.
     let place : c.args.slot - 1 ≡ v * width + j = omega (arith, is) in
     let volume : (c.args.slot - 1) / width ≡ v = ap (λ n. n / width) place ∙ div-mul-add v width j low in
     let replica : (c.args.slot - 1) % width ≡ j = ap (λ n. n % width) place ∙ mod-mul-add v width j low in
-    let machine : (c.from.result + c.from-2.result) % c.from-3.result ≡ (v + j) % c.args.settings.now.machines = ap (λ n. (n + c.from-2.result) % c.from-3.result) (c.from.ensures ∙ volume) ∙ ap (λ n. (v + n) % c.from-3.result) (c.from-2.ensures ∙ replica) ∙ ap (λ n. (v + j) % n) c.from-3.ensures in
+    let machine : (c.from.result + c.from-2.result) % c.from-3.result ≡ (v + j) % c.args.settings.now.machines = ap (λ n. (n + c.from-2.result) % c.from-3.result)
+    (c.from.ensures ∙ volume) ∙ ap (λ n. (v + n) % c.from-3.result) (c.from-2.ensures ∙ replica) ∙ ap (λ n. (v + j) % n) c.from-3.ensures in
     ap (λ n. Reply.Failed n ((c.from.result + c.from-2.result) % c.from-3.result) c.args.faults) volume ∙ ap (λ n. Reply.Failed v n c.args.faults) machine

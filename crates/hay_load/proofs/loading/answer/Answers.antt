@@ -2,7 +2,7 @@ use Rattle.std.proofs.Common.{◌≡◌, ◌∙◌, inl, inr, ap, sym}
 use Rattle.hay_batch.specs.declared.fault.LoadFault.{LoadFault}
 use Rattle.hay_load.specs.Gathering.{key_of}
 use Rattle.hay_load.specs.Replies as texts
-use Rattle.hay_load.proofs.Answering.{full_answer, loaded_answer}
+use Rattle.hay_load.proofs.Answering.{full_answer, left_new, loaded_answer}
 use Rattle.hay_load.proofs.Taking.{full_is_none}
 use Rattle.hay_load.proofs.loading.answer.Goals as goal
 
@@ -23,6 +23,19 @@ returns-in-Ok-full_reply-clause-answered g c = λ tells s stands.
     let is = c.in-Err-Full.field-0-is in
     elim told.homes [
       | inl known ↦ absurd (let both : c.in-Err-Full.field-0 ≡ LoadFault.Known known.0 = (let e = known.1 in cc) in let apart : LoadFault.Full tries ≡ LoadFault.Known known.0 = sym is ∙ both in cc)
-      | inr none ↦ full_answer g.D.Disk.files s c.args.photos.now c.args.store.now c.load_batch.new.self c.requires.shape stands tries c.in-Ok-full_reply.reply (told.kept (full_is_none c.in-Err-Full.field-0 tries is)) none.1
+      | inr none ↦ full_answer g.D.Disk.files s c.args.photos.now c.args.store.now c.load_batch.new.self c.requires.shape stands tries c.in-Ok-full_reply.reply
+          (told.kept (full_is_none c.in-Err-Full.field-0 tries is)) none.1
           (told.full tries is (key_of c.args.photos.now) c.requires.gathered.key) (c.in-Ok-full_reply.ensures ∙ ap texts.full_reply c.as_slice.ensures)
     ]
+
+pub returns-in-Err-Known-clause-left : goal.returns-in-Err-Known-clause-left
+returns-in-Err-Known-clause-left g c = λ tells s image stands leaves.
+    let told = c.load_batch.ensures in
+    left_new g.D.Disk.files s c.args.photos.now c.args.store.now c.load_batch.new.self image c.load_batch.result c.requires.shape stands leaves told.homes told.kept
+    (told.left_stored tells s image stands leaves)
+
+pub returns-in-Err-Failed-clause-left : goal.returns-in-Err-Failed-clause-left
+returns-in-Err-Failed-clause-left g c = λ tells s image stands leaves.
+    let told = c.load_batch.ensures in
+    left_new g.D.Disk.files s c.args.photos.now c.args.store.now c.load_batch.new.self image c.load_batch.result c.requires.shape stands leaves told.homes told.kept
+    (told.left_stored tells s image stands leaves)

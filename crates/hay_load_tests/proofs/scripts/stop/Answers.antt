@@ -1,0 +1,18 @@
+use Rattle.std.proofs.Common.{◌≡◌, ◌∙◌, ℕ, false, ap, subst, sym, inl, inr}
+use Rattle.std.proofs.lemmas.Bool.{cases_eq}
+use Rattle.hay_disk.specs.Shelf.{HeldDisk}
+use Rattle.hay_disk.specs.Disk.{KeepsOthers}
+use Rattle.hay_memdisk.proofs.Lending.{lent}
+use Rattle.hay_load_tests.proofs.scripts.stop.Goals as goal
+
+none_out : (one : ℕ) (old new : ℕ → HeldDisk) → ((slot : ℕ) → (old slot).is_out ≡ false) → KeepsOthers one old new → (new one).is_out ≡ false
+    → (slot : ℕ) → (new slot).is_out ≡ false
+none_out one old new all others back slot = elim (cases_eq slot one) [
+  | inl same ↦ subst (λ (n : ℕ). (new n).is_out ≡ false) (sym same) back
+  | inr apart ↦ ap (λ (held : HeldDisk). held.is_out) (others slot apart) ∙ all slot
+]
+
+pub returns-in-Some : goal.returns-in-Some
+returns-in-Some c =
+    let has = lent _ _ c.in-Some.is (c.disk_mut.follows.holds c.power_cycle.new.self) in
+    none_out 0 _ _ c.requires has.others (ap (λ (held : HeldDisk). held.is_out) has.disk)

@@ -1,0 +1,11 @@
+pub mod Reading
+pub mod Sinks
+pub mod Taking
+pub mod Telling
+pub mod Serving
+pub mod Counting
+pub mod Showing
+pub mod Apart
+pub mod Ending
+pub mod Refusing
+pub mod Statuses

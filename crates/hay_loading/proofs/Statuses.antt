@@ -1,0 +1,69 @@
+-- What was done at each status, by why the load stopped.
+use Rattle.std.proofs.Common.{◌≡◌, inl, inr, ℕ, List, Option, Ok, Err, arith}
+use Rattle.hay_needle.specs.declared.settings.Settings.{Settings}
+use Rattle.hay_disk.specs.Shelf.{HeldDisk}
+use Rattle.hay_loading.specs.declared.stops.Stop.{Stop}
+use Rattle.hay_loading.specs.declared.stops.Stop.TheVariants as stop
+use Rattle.hay_loading.specs.Endings.{Ends, IsStatus, LoadsTo}
+use Rattle.hay_loading.specs.Stops.{status_of}
+
+pub is_status : (why : Stop) (status : ℕ) → status ≡ status_of why → IsStatus status
+is_status stop.Output status is = inr (inl is)
+is_status stop.Input status is = inr (inr (inl is))
+is_status stop.NoMemory status is = inr (inr (inr (inl is)))
+is_status stop.Store status is = inr (inr (inr (inr (inl is))))
+is_status stop.TooLong status is = inr (inr (inr (inr (inr is))))
+
+module _ (Tells : Type 0) (settings : Settings) (script : List ℕ) (old new : ℕ → HeldDisk) (shelf shelf' : ℕ) (before after : Option (List ℕ)) where
+  pub to_all : Ends Tells settings script old new shelf shelf' before after (Ok tt) → LoadsTo Tells settings script old new shelf shelf' before after 0
+  to_all ends = record {
+    all = λ is. ends;
+    output = λ is. absurd (omega (arith, is));
+    input = λ is. absurd (omega (arith, is));
+    memory = λ is. absurd (omega (arith, is));
+    store = λ is. absurd (omega (arith, is));
+    long = λ is. absurd (omega (arith, is));
+  }
+
+  pub to_stop : (why : Stop) (status : ℕ) → status ≡ status_of why → Ends Tells settings script old new shelf shelf' before after (Err why)
+      → LoadsTo Tells settings script old new shelf shelf' before after status
+  to_stop stop.Output status three ends = record {
+    all = λ is. absurd (omega (arith, is, three));
+    output = λ is. ends;
+    input = λ is. absurd (omega (arith, is, three));
+    memory = λ is. absurd (omega (arith, is, three));
+    store = λ is. absurd (omega (arith, is, three));
+    long = λ is. absurd (omega (arith, is, three));
+  }
+  to_stop stop.Input status four ends = record {
+    all = λ is. absurd (omega (arith, is, four));
+    output = λ is. absurd (omega (arith, is, four));
+    input = λ is. ends;
+    memory = λ is. absurd (omega (arith, is, four));
+    store = λ is. absurd (omega (arith, is, four));
+    long = λ is. absurd (omega (arith, is, four));
+  }
+  to_stop stop.NoMemory status five ends = record {
+    all = λ is. absurd (omega (arith, is, five));
+    output = λ is. absurd (omega (arith, is, five));
+    input = λ is. absurd (omega (arith, is, five));
+    memory = λ is. ends;
+    store = λ is. absurd (omega (arith, is, five));
+    long = λ is. absurd (omega (arith, is, five));
+  }
+  to_stop stop.Store status six ends = record {
+    all = λ is. absurd (omega (arith, is, six));
+    output = λ is. absurd (omega (arith, is, six));
+    input = λ is. absurd (omega (arith, is, six));
+    memory = λ is. absurd (omega (arith, is, six));
+    store = λ is. ends;
+    long = λ is. absurd (omega (arith, is, six));
+  }
+  to_stop stop.TooLong status seven ends = record {
+    all = λ is. absurd (omega (arith, is, seven));
+    output = λ is. absurd (omega (arith, is, seven));
+    input = λ is. absurd (omega (arith, is, seven));
+    memory = λ is. absurd (omega (arith, is, seven));
+    store = λ is. absurd (omega (arith, is, seven));
+    long = λ is. ends;
+  }

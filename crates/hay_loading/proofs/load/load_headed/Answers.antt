@@ -1,0 +1,22 @@
+use Rattle.std.proofs.Common.{◌≡◌, subst}
+use Rattle.std.specs.Prelude.{Result, Err}
+use Rattle.std.proofs.lemmas.Result.{err_from_is_err_and}
+use Rattle.hay_loading.specs.declared.stops.Stop.{Stop}
+use Rattle.hay_loading.specs.declared.stops.Stop.TheVariants as stop
+use Rattle.hay_loading.specs.Endings.{Ends}
+use Rattle.hay_loading.proofs.Refusing.{ends_unbegun, same_stop}
+use Rattle.hay_loading.proofs.load.load_headed.Goals as goal
+
+pub returns-in_err-write_header-clause-ends : goal.returns-in_err-write_header-clause-ends
+returns-in_err-write_header-clause-ends g c = λ script told.
+    let disks = g.H.Shelf.disks c.args.shelf.now in
+    let count = g.H.Shelf.fault_count c.args.shelf.now in
+    let wrong : Result (Unit {0}) Stop = Err c.in_err-write_header.field-0.0 in
+    let same : wrong ≡ c.from_residual.result = (let p = err_from_is_err_and c.from_residual.result c.from_residual.ensures.1 in cc (p.1, p.2)) in
+    subst (λ (r : Result (Unit {0}) Stop). Ends g.H.Disk.Disk.Tells c.args.settings script disks disks count count (g.K.Sink.written c.args.sink.now) (g.K.Sink.written c.write_header.new.sink) r) same
+    (ends_unbegun g.H.Disk.Disk.Tells c.args.settings script disks count (g.K.Sink.written c.args.sink.now) (g.K.Sink.written c.write_header.new.sink) c.requires.disks_in
+    c.in_err-write_header.ensures.part
+    c.in_err-write_header.field-0.0 (same_stop c.in_err-write_header.field-0.0 stop.Output stop.NoMemory c.in_err-write_header.ensures.stops))
+
+pub returns-clause-ends : goal.returns-clause-ends
+returns-clause-ends g c = λ script told. c.load_script.ensures.ends script (g.K.Sink.written c.args.sink.now) told c.in_ok-write_header.ensures.wrote

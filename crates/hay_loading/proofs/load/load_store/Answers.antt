@@ -1,0 +1,17 @@
+use Rattle.hay_loading.proofs.Statuses.{is_status, to_all, to_stop}
+use Rattle.hay_loading.proofs.load.load_store.Goals as goal
+
+pub returns-in-Ok-clause-loaded : goal.returns-in-Ok-clause-loaded
+returns-in-Ok-clause-loaded g c = λ script told.
+    to_all g.H.Disk.Disk.Tells c.args.settings script (g.H.Shelf.disks c.args.shelf.now) (g.H.Shelf.disks c.load_headed.new.shelf) (g.H.Shelf.fault_count c.args.shelf.now)
+    (g.H.Shelf.fault_count c.load_headed.new.shelf)
+    (g.K.Sink.written c.args.sink.now) (g.K.Sink.written c.load_headed.new.sink) (c.in-Ok.ensures.ends script told)
+
+pub returns-in-Err-clause-loaded : goal.returns-in-Err-clause-loaded
+returns-in-Err-clause-loaded g c = λ script told.
+    to_stop g.H.Disk.Disk.Tells c.args.settings script (g.H.Shelf.disks c.args.shelf.now) (g.H.Shelf.disks c.load_headed.new.shelf) (g.H.Shelf.fault_count c.args.shelf.now)
+    (g.H.Shelf.fault_count c.load_headed.new.shelf)
+    (g.K.Sink.written c.args.sink.now) (g.K.Sink.written c.load_headed.new.sink) c.in-Err.stop c.status.result c.status.ensures (c.in-Err.ensures.ends script told)
+
+pub returns-in-Err-clause-status : goal.returns-in-Err-clause-status
+returns-in-Err-clause-status g c = is_status c.in-Err.stop c.status.result c.status.ensures

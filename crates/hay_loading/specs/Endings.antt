@@ -1,0 +1,201 @@
+-- What a load of a script tells, and what it leaves of the disks, at each status.
+use Rattle.std.specs.Prelude.{◌≡◌, ◌⊎◌, ◌<◌, ◌≤◌, ◌+◌, ℕ, List, [], ◌∷◌, ◌++◌, length, take, map, Option, Some, None, Result, Ok, Err}
+use Rattle.hay_needle.specs.declared.settings.Settings.{Settings}
+use Rattle.hay_disk.specs.Counts.{Rose}
+use Rattle.hay_disk.specs.Disk.{MayLeave}
+use Rattle.hay_disk.specs.Shelf.{HeldDisk}
+use Rattle.hay_disk.specs.Streams.{Wrote, WrotePart}
+use Rattle.hay_script.specs.declared.Line.{Line}
+use Rattle.hay_script.specs.Script.{line_of, lines_of}
+use Rattle.hay_reply.specs.declared.Note.{Note}
+use Rattle.hay_reply.specs.declared.Note.TheVariants.{OpenShelf, OpenFailed, OpenDamaged}
+use Rattle.hay_reply.specs.declared.Reply.{Reply}
+use Rattle.hay_reply.specs.Replies.{header_line, note_line}
+use Rattle.hay_needle.specs.Tables.{look, rows_of}
+use Rattle.hay_volume.specs.Cells.{needles_of}
+use Rattle.hay_open.specs.Stored.{OpensAs, Stored}
+use Rattle.hay_dirfile.specs.declared.row.DirRow.{DirRow}
+use Rattle.hay_batch.specs.declared.photo.NewPhoto.{NewPhoto}
+use Rattle.hay_batch.specs.Batches.{shown_of}
+use Rattle.hay_batch.specs.Homes.{home_in}
+use Rattle.hay_batch.specs.Replicas.{At}
+use Rattle.hay_batch.specs.Shelves.{IsDamagedDisk, IsLeft, IsUndamagedBelow, OpensRows, OpensStore, StoredStore, disk_count, reads_of, replica_super, slot_of}
+use Rattle.hay_load.specs.declared.reply.LoadReply.{LoadReply}
+use Rattle.hay_load.specs.declared.reply.LoadReply.TheVariants.{Loaded, Other}
+use Rattle.hay_load.specs.Answers.{AnswersAll, reply_lines}
+use Rattle.hay_load.specs.Gathering.{Group, Batch, Bad, groups_of}
+use Rattle.hay_load.specs.Loads.{IsFailed, LeavesFirst}
+use Rattle.hay_load.specs.Replies.{load_line}
+use Rattle.hay_loading.specs.declared.stops.Stop.{Stop}
+use Rattle.hay_loading.specs.declared.stops.Stop.TheVariants as stop
+
+-- THE GROUPS OF A SCRIPT
+
+-- what a line says outside of a block
+abbrev pub says : List ℕ → Line
+says text = line_of None text
+
+-- the batches and bad lines of a script
+abbrev pub script_groups : Settings → List ℕ → List Group
+script_groups settings script = groups_of settings (map says (lines_of script))
+
+-- these are the first of all
+abbrev pub IsFront : List Group → List Group → Type 0
+IsFront front all = (rest : List Group) × (all ≡ front ++ rest)
+
+-- how many of them are batches
+abbrev pub batch_count : List Group → ℕ
+batch_count [] = 0
+batch_count (Batch line photos ∷ groups) = 1 + batch_count groups
+batch_count (Bad line ∷ groups) = batch_count groups
+
+-- THE TEXT
+
+-- the header, and the lines of these replies
+abbrev pub load_text : Settings → List Group → List LoadReply → List ℕ
+load_text settings groups replies = header_line settings ++ reply_lines groups replies
+
+-- a text was written and all of another behind it, or a front of the other
+abbrev pub WroteBoth : Option (List ℕ) → List ℕ → List ℕ → Option (List ℕ) → Type 0
+WroteBoth before text more after = Wrote before (text ++ more) after
+
+abbrev pub WroteThen : Option (List ℕ) → List ℕ → List ℕ → Option (List ℕ) → Type 0
+WroteThen before text more after = (n : ℕ) × Wrote before (text ++ take n more) after
+
+-- THE DISKS
+
+-- what a stop may leave of the disks of a store, by slot and file
+abbrev pub MayLeaveSlots : Settings → (ℕ → HeldDisk) → (ℕ → ℕ → List ℕ) → Type 0
+MayLeaveSlots settings disks image = (slot : ℕ) → slot < disk_count settings → MayLeave (disks slot).files (image slot)
+
+-- An opening of these contents finds that the photo is kept in this volume, and on each replica of it that the last needle of the
+-- pair is that of the photo.
+pub record StandsIn (settings : Settings) (image : ℕ → ℕ → List ℕ) (volume : ℕ) (photo : NewPhoto) : Type 0 where
+  pub rows : List DirRow
+  pub opens : OpensRows settings (image 0 0) rows
+  pub home : home_in rows photo.pair ≡ Some volume
+  pub replicas : (j : ℕ) → j < settings.replicas → (stored : Stored) × OpensAs (replica_super settings volume j) (image (slot_of settings volume j)) stored
+      × (look (rows_of (needles_of stored.cells)) photo.pair ≡ shown_of photo)
+
+-- each photo of each batch that these replies tell as loaded does so
+abbrev pub AllStandIn : Settings → List Group → List LoadReply → (ℕ → ℕ → List ℕ) → Type 0
+AllStandIn settings groups replies image =
+    (i line volume count rows : ℕ) (photos : List NewPhoto) (k : ℕ) (photo : NewPhoto) → At groups i (Batch line photos) → At replies i (Loaded volume count rows) → At photos k photo
+    → StandsIn settings image volume photo
+
+-- no count of faults falls, and no fuse was set
+pub record CountsOn (old new : HeldDisk) : Type 0 where
+  pub faults_rise : old.fault_count ≤ new.fault_count
+  pub fuses_are : new.fuse_count ≡ old.fuse_count
+
+-- HOW A LOAD ENDS
+
+abbrev pub IsStatus : ℕ → Type 0
+IsStatus status = (status ≡ 0) ⊎ (status ≡ 3) ⊎ (status ≡ 4) ⊎ (status ≡ 5) ⊎ (status ≡ 6) ⊎ (status ≡ 7)
+
+-- A load of a script on disks that are taken and given back, by a shelf with this count of faults and then that, while a sink goes
+-- from what it held to what it holds.
+module _ (Tells : Type 0) (settings : Settings) (script : List ℕ) (old new : ℕ → HeldDisk) (shelf shelf' : ℕ) (before after : Option (List ℕ)) where
+  -- The first groups of the script were answered by these replies: what the disks had became what is stored then, and behind these
+  -- groups come those that are next. In whatever a stop leaves of the disks an opening finds that; or, where the first of the next
+  -- groups is a batch of which no photo has a home, perhaps that with this whole batch, and never a row of a part of it. All batches
+  -- that were told as loaded stand there.
+  pub record Answers (groups : List Group) (replies : List LoadReply) (next : List Group) : Type 0 where
+    pub front : IsFront (groups ++ next) (script_groups settings script)
+    pub many : length replies ≡ length groups
+    pub answers : Tells → (s : StoredStore) → OpensStore settings (reads_of old) s →
+        (t : StoredStore) × AnswersAll settings s groups replies t
+        × ((image : ℕ → ℕ → List ℕ) → MayLeaveSlots settings new image → LeavesFirst settings next image t × AllStandIn settings groups replies image)
+
+  -- all groups of the script were answered, and all was written
+  pub record LoadsAll : Type 0 where
+    pub replies : List LoadReply
+    pub answers : Answers (script_groups settings script) replies []
+    pub wrote : Wrote before (load_text settings (script_groups settings script) replies) after
+
+  -- The first groups were answered, and this was written. Of the next nothing was, and none is loaded.
+  pub record Halts : Type 0 where
+    pub groups : List Group
+    pub replies : List LoadReply
+    pub answers : Answers groups replies []
+    pub wrote : Wrote before (load_text settings groups replies) after
+
+  -- The same, but that the next batch may be loaded.
+  pub record Wants : Type 0 where
+    pub groups : List Group
+    pub replies : List LoadReply
+    pub next : List Group
+    pub answers : Answers groups replies next
+    pub wrote : Wrote before (load_text settings groups replies) after
+
+  -- The first groups were answered, and this was written but for the last lines, of which one is of a batch.
+  pub record CutsShort : Type 0 where
+    pub groups : List Group
+    pub replies : List LoadReply
+    pub last : List Group
+    pub others : List LoadReply
+    pub many : length replies ≡ length groups
+    pub one : batch_count last ≤ 1
+    pub answers : Answers (groups ++ last) (replies ++ others) []
+    pub wrote : WroteThen before (load_text settings groups replies) (reply_lines last others) after
+
+  -- The first groups were answered, and a disk failed while the next batch was loaded. Its count rose to the one that is told.
+  pub record Breaks (Writes : Option (List ℕ) → List ℕ → List ℕ → Option (List ℕ) → Type 0) : Type 0 where
+    pub groups : List Group
+    pub replies : List LoadReply
+    pub line : ℕ
+    pub photos : List NewPhoto
+    pub answers : Answers groups replies (Batch line photos ∷ [])
+    pub slot : ℕ
+    pub faults : ℕ
+    pub within : slot < disk_count settings
+    pub rose : Rose (old slot).fault_count (new slot).fault_count
+    pub count : faults ≡ (new slot).fault_count
+    pub reply : Reply
+    pub failed : IsFailed settings slot faults reply
+    pub wrote : Writes before (load_text settings groups replies) (load_line line (Other reply)) after
+
+  -- Why the store was not opened, as it is told: the shelf failed, and its count rose to the one that is told; a disk failed, and
+  -- none in a lower slot is damaged; or the disk in a slot is damaged at the place that is told, as it was taken and as it was
+  -- given back.
+  abbrev pub IsRefusal : Note → Type 0
+  IsRefusal note =
+      ((count : ℕ) × (note ≡ OpenShelf count) × Rose shelf shelf' × (count ≡ shelf'))
+      ⊎ ((slot : ℕ) × (count : ℕ) × (note ≡ OpenFailed slot count) × (slot < disk_count settings)
+      × Rose (old slot).fault_count (new slot).fault_count × (count ≡ (new slot).fault_count) × (Tells → IsUndamagedBelow settings slot (reads_of old)))
+      ⊎ ((slot : ℕ) × (file : ℕ) × (at : ℕ) × (note ≡ OpenDamaged slot file at) × (slot < disk_count settings)
+      × (Tells → IsDamagedDisk settings (reads_of old) slot file at × IsDamagedDisk settings (reads_of new) slot file at))
+
+  -- each disk is as it was, or was void, and whatever a stop leaves of it an opening finds nothing
+  abbrev pub AreLeft : Type 0
+  AreLeft = (slot : ℕ) → slot < disk_count settings → IsLeft Tells slot (old slot) (new slot)
+
+  -- the store was not opened, as is told behind the header
+  pub record Refuses (Writes : Option (List ℕ) → List ℕ → List ℕ → Option (List ℕ) → Type 0) : Type 0 where
+    pub note : Note
+    pub why : IsRefusal note
+    pub left : AreLeft
+    pub wrote : Writes before (header_line settings) (note_line note) after
+
+  -- it was not, and no more than the header was written
+  pub record Unopened : Type 0 where
+    pub left : AreLeft
+    pub wrote : WrotePart before (header_line settings) after
+
+  -- what was done, by why the load stopped
+  abbrev pub Ends : Result (Unit {0}) Stop → Type 0
+  Ends (Ok done) = LoadsAll
+  Ends (Err stop.Output) = Unopened ⊎ Refuses WroteThen ⊎ CutsShort ⊎ Breaks WroteThen
+  Ends (Err stop.Input) = Halts
+  Ends (Err stop.NoMemory) = Unopened ⊎ Wants
+  Ends (Err stop.Store) = Refuses WroteBoth ⊎ Breaks WroteBoth
+  Ends (Err stop.TooLong) = Halts
+
+  -- What was done at each status.
+  pub record LoadsTo (status : ℕ) : Type 0 where
+    pub all : status ≡ 0 → LoadsAll
+    pub output : status ≡ 3 → Unopened ⊎ Refuses WroteThen ⊎ CutsShort ⊎ Breaks WroteThen
+    pub input : status ≡ 4 → Halts
+    pub memory : status ≡ 5 → Unopened ⊎ Wants
+    pub store : status ≡ 6 → Refuses WroteBoth ⊎ Breaks WroteBoth
+    pub long : status ≡ 7 → Halts
