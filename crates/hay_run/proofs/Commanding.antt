@@ -4,11 +4,11 @@ use Rattle.std.specs.Prelude.{codes}
 use Rattle.std.proofs.lemmas.Grind.{common_steps}
 use Rattle.hay_needle.specs.declared.settings.Settings.{Settings}
 use Rattle.hay_cli.specs.declared.Mode.{Mode}
-use Rattle.hay_cli.specs.declared.Mode.TheVariants.{Run, Check, Drill}
+use Rattle.hay_cli.specs.declared.Mode.TheVariants.{Run, Check, Load, Drill}
 use Rattle.hay_cli.specs.Commands.{IsRun, Says, Text, number_in, number_or, value_of}
 use Rattle.hay_cli.proofs.Spelled.{mode_read}
 use Rattle.hay_cluster.specs.Store.{IsBuilt}
-use Rattle.hay_run.specs.Words.{HasBuilt, SaysCheck, SaysRun}
+use Rattle.hay_run.specs.Words.{HasBuilt, SaysCheck, SaysLoad, SaysRun}
 
 -- a number that is read is within its bounds
 number_within : (low high n : ℕ) (text : Text) → number_in low high text ≡ Some n → (low ≤ n) × (n ≤ high)
@@ -42,6 +42,7 @@ pub mode_built : (words : List Text) (mode : Mode) → Says words mode → HasBu
 mode_built [] mode says = absurd says
 mode_built (word ∷ words) (Run settings) says = built words settings says.1
 mode_built (word ∷ words) (Check settings) says = built words settings says.1
+mode_built (word ∷ words) (Load settings) says = built words settings says.1
 mode_built (word ∷ words) (Drill count first) says = tt
 
 -- the words of a run name one store
@@ -63,3 +64,25 @@ not_both words settings other run check =
     let a = mode_read words (Run settings) run in
     let b = mode_read words (Check other) check in
     let same : Some (Run settings) ≡ Some (Check other) = sym a ∙ b in cc
+
+pub same_load : (words : List Text) (settings other : Settings) → SaysLoad words settings → SaysLoad words other → settings ≡ other
+same_load words settings other says says' =
+    let a = mode_read words (Load settings) says in
+    let b = mode_read words (Load other) says' in
+    let same : Some (Load settings) ≡ Some (Load other) = sym a ∙ b in cc
+
+-- the words of a load say nothing else
+pub load_alone : (words : List Text) (mode : Mode) (settings : Settings) → Says words mode → SaysLoad words settings → mode ≡ Load settings
+load_alone words mode settings says load =
+    let a = mode_read words mode says in
+    let b = mode_read words (Load settings) load in
+    let same : Some mode ≡ Some (Load settings) = sym a ∙ b in cc
+
+pub run_no_load : (words : List Text) (settings other : Settings) → SaysRun words settings → SaysLoad words other → ⊥
+run_no_load words settings other run load = let same : Run settings ≡ Load other = load_alone words (Run settings) other run load in cc
+
+pub check_no_load : (words : List Text) (settings other : Settings) → SaysCheck words settings → SaysLoad words other → ⊥
+check_no_load words settings other check load = let same : Check settings ≡ Load other = load_alone words (Check settings) other check load in cc
+
+pub drill_no_load : (words : List Text) (count first : ℕ) (other : Settings) → Says words (Drill count first) → SaysLoad words other → ⊥
+drill_no_load words count first other drill load = let same : Drill count first ≡ Load other = load_alone words (Drill count first) other drill load in cc

@@ -5,6 +5,7 @@ pub mod Checking
 pub mod Commanding
 pub mod Counting
 pub mod Giving
+pub mod Loading
 pub mod Ran
 pub mod Reading
 pub mod Refusing

@@ -8,3 +8,4 @@ pub mod Turns
 pub mod Unbuilt
 pub mod Words
 pub mod Draws
+pub mod Loads

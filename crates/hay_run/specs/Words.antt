@@ -1,8 +1,8 @@
--- Which words are a run or a check.
+-- Which words are a run, a check or a load.
 use Rattle.std.specs.Prelude.{◌⊎◌, ℕ, List}
 use Rattle.hay_needle.specs.declared.settings.Settings.{Settings}
 use Rattle.hay_cli.specs.declared.Mode.{Mode}
-use Rattle.hay_cli.specs.declared.Mode.TheVariants.{Run, Check, Drill}
+use Rattle.hay_cli.specs.declared.Mode.TheVariants.{Run, Check, Load, Drill}
 use Rattle.hay_cli.specs.Commands.{Says}
 use Rattle.hay_cluster.specs.Store.{IsBuilt}
 
@@ -14,12 +14,17 @@ SaysRun words settings = Says words (Run settings)
 abbrev pub SaysCheck : List (List ℕ) → Settings → Type 0
 SaysCheck words settings = Says words (Check settings)
 
--- the words are a run or a check
+-- the words are a load with these settings
+abbrev pub SaysLoad : List (List ℕ) → Settings → Type 0
+SaysLoad words settings = Says words (Load settings)
+
+-- the words are a run, a check or a load
 abbrev pub IsCommand : List (List ℕ) → Type 0
-IsCommand words = (settings : Settings) × (SaysRun words settings ⊎ SaysCheck words settings)
+IsCommand words = (settings : Settings) × (SaysRun words settings ⊎ SaysCheck words settings ⊎ SaysLoad words settings)
 
 -- the settings of a mode are within the limits
 abbrev pub HasBuilt : Mode → Type 0
 HasBuilt (Run settings) = IsBuilt settings
 HasBuilt (Check settings) = IsBuilt settings
+HasBuilt (Load settings) = IsBuilt settings
 HasBuilt (Drill count first) = Unit {0}

@@ -13,6 +13,7 @@
 
 mod block;
 mod check;
+mod load;
 mod program;
 mod said;
 mod serve;

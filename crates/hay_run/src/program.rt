@@ -18,9 +18,11 @@ ghost use Rattle.hay_run.specs.Stops.{ending_of};
 ghost use Rattle.hay_run.specs.Runs.{HasOpened, IsNotOpened, IsNotOpenedBehind, IsSureStill, IsTaken, RanTo, WasRead};
 ghost use Rattle.hay_run.specs.Turns.{Appends};
 ghost use Rattle.hay_run.specs.Checking.{ChecksTo, IsUnchanged};
-ghost use Rattle.hay_run.specs.Words.{IsCommand, SaysCheck, SaysRun};
+ghost use Rattle.hay_run.specs.Loads.{IsLoad};
+ghost use Rattle.hay_run.specs.Words.{IsCommand, SaysCheck, SaysLoad, SaysRun};
 
 use crate::check::check_store;
+use crate::load::load_puts;
 use crate::serve::serve;
 use crate::stops::Stop;
 use crate::words::read_mode;
@@ -164,18 +166,19 @@ fn run_script<H: Shelf, S: Source, K: Sink>(
     answer_script(alloc, settings, source, sink, shelf)
 }
 
-/// Runs a script on the disks of a shelf, from slot 0 upwards, or checks these disks, and answers with the status of the run.
-/// The words are `run` or `check` and the options. The transcript of the script, or a line for each disk, goes to the sink, and
-/// the disks and arms are given back whatever the status is. A check reads nothing of the source, and changes no byte of a disk.
+/// Runs a script on the disks of a shelf, from slot 0 upwards, or checks these disks, or loads the puts of a script in batches,
+/// and answers with the status. The words are `run`, `check` or `load` and the options. The transcript of the script, or a line
+/// for each disk, goes to the sink, and the disks and arms are given back whatever the status is. A check reads nothing of the
+/// source, and changes no byte of a disk.
 ///
 /// | status | comes |
 /// |---|---|
 /// | 0 | the script was read to its end, and all of it was answered; or all disks were checked, and none is damaged |
-/// | 2 | the words are no run and no check, and nothing was touched |
+/// | 2 | the words are no run, no check and no load, and nothing was touched |
 /// | 3 | the sink failed |
 /// | 4 | the source failed |
 /// | 5 | memory was wanting outside of a reply, or to a restart |
-/// | 6 | the store was not opened, at first or at a restart, or a disk was not checked, as the last line tells |
+/// | 6 | the store was not opened, at first or at a restart, a disk was not checked, or one failed in a load, as the last line tells |
 /// | 7 | the script is longer than a script may be |
 /// | 8 | all disks were checked, and one is damaged |
 pub fn run<H: Shelf, S: Source, K: Sink>(
@@ -207,6 +210,11 @@ pub fn run<H: Shelf, S: Source, K: Sink>(
         (slot : ℕ) → IsUnchanged H.Disk.Tells (H.disks shelf.old slot) (H.disks shelf.new slot) }
     ensures unused { (settings : Settings) → SaysCheck (map string_bytes words.now) settings →
         (source.new ≡ source.old) × (H.arms shelf.new ≡ H.arms shelf.old) × SameFrom (disk_count settings) (H.disks shelf.old) (H.disks shelf.new) }
+
+    // A load: what was read, answered and written, and what the disks given back hold, at each status but 2.
+    ensures loaded { (settings : Settings) → SaysLoad (map string_bytes words.now) settings →
+        IsLoad H.Disk.Tells settings result (H.disks shelf.old) (H.disks shelf.new) (H.arms shelf.old) (H.arms shelf.new)
+        (H.fault_count shelf.old) (H.fault_count shelf.new) (S.left source.old) (S.left source.new) (K.written sink.old) (K.written sink.new) }
 
     // When each status comes.
     ensures status { (result ≡ 2) ⊎ ((ending : Ending) × (result ≡ status_of ending)) ⊎ ((result ≡ 8) × ((settings : Settings) × SaysCheck (map string_bytes words.now) settings)) }
@@ -258,6 +266,7 @@ pub fn run<H: Shelf, S: Source, K: Sink>(
     let settings = match read_mode(alloc, words) {
         Ok(Some(Mode::Run(settings))) => settings,
         Ok(Some(Mode::Check(settings))) => return check_store(alloc, settings, sink, shelf),
+        Ok(Some(Mode::Load(settings))) => return load_puts(alloc, settings, source, sink, shelf),
         Ok(Some(Mode::Drill { .. }) | None) => return 2,
         Err(NoMemory) => return Stop::NoMemory.status(),
     };

@@ -1,4 +1,4 @@
-//! The words of a run or of a check.
+//! The words of a run, of a check or of a load.
 ghost use Rattle.std.specs.Prelude.{map, string_bytes, IfOk, IfSome, IfNone};
 ghost use Rattle.hay_cli.specs.declared.Mode.{Mode};
 ghost use Rattle.hay_cli.specs.Commands.{Says};

@@ -10,14 +10,16 @@ use Rattle.hay_cluster.specs.Outside.{IsUndamaged, KeepsContents, outside_of, re
 use Rattle.hay_run.specs.Runs.{IsTaken, RanTo, IsNotOpened}
 use Rattle.hay_run.specs.Stops.{ending_of}
 use Rattle.hay_run.specs.Checking.{ChecksTo}
-use Rattle.hay_run.specs.Words.{SaysCheck, SaysRun}
+use Rattle.hay_run.specs.Loads.{IsLoad}
+use Rattle.hay_run.specs.Words.{SaysCheck, SaysLoad, SaysRun}
 use Rattle.hay_legal.specs.Statuses.{Ending}
 use Rattle.hay_run.specs.Causing.{CausedRun}
 use Rattle.hay_run.specs.Draws.{drawn_of}
 use Rattle.hay_run.proofs.Caused.{nothing_caused}
 use Rattle.hay_legal.specs.Stands.{Outside}
 use Rattle.hay_run.proofs.Checking.{check_nothing, check_statuses}
-use Rattle.hay_run.proofs.Commanding.{same_check, same_run}
+use Rattle.hay_run.proofs.Commanding.{check_no_load, run_no_load, same_check, same_load, same_run}
+use Rattle.hay_run.proofs.Loading.{load_nothing, never_two}
 use Rattle.hay_run.proofs.Giving.{disks_in, arms_in, none_fell}
 use Rattle.hay_run.proofs.Refusing.{by_status, opened_by, ran_nothing, ran_by, store_by}
 use Rattle.hay_run.proofs.program.run.Goals as goal
@@ -246,3 +248,53 @@ returns-in-Err-run_script-clause-contents g c = λ tells settings says nothing.
     same_run (map string_bytes c.args.words.now) c.in-Ok-Some-Run.settings settings run says) in
     subst (λ (s : Settings). KeepsContents s (λ slot. read_of (g.H.Shelf.disks c.args.shelf.now slot)) (λ slot. read_of (g.H.Shelf.disks c.run_script.new.shelf slot))) same
     (c.in-Err-run_script.ensures.contents tells nothing)
+
+-- a load
+
+pub returns-in-Ok-Some-Load-clause-loaded : goal.returns-in-Ok-Some-Load-clause-loaded
+returns-in-Ok-Some-Load-clause-loaded g c = λ settings says.
+    let words = map string_bytes c.args.words.now in
+    let load : SaysLoad words c.in-Ok-Some-Load.settings = rw (c.in-Ok-Some-Load.field-0-is, c.in-Ok-Some-Load.field-0-0-is) at c.in-Ok-Some-Load.ensures.says in
+    let P : Settings → Type 0 = λ s. IsLoad g.H.Disk.Disk.Tells s c.load_puts.result (g.H.Shelf.disks c.args.shelf.now) (g.H.Shelf.disks c.load_puts.new.shelf)
+    (g.H.Shelf.arms c.args.shelf.now) (g.H.Shelf.arms c.load_puts.new.shelf) (g.H.Shelf.fault_count c.args.shelf.now) (g.H.Shelf.fault_count c.load_puts.new.shelf)
+    (g.S.Source.left c.args.source.now) (g.S.Source.left c.load_puts.new.source) (g.K.Sink.written c.args.sink.now) (g.K.Sink.written c.load_puts.new.sink) in
+    subst P (same_load words c.in-Ok-Some-Load.settings settings load says) c.load_puts.ensures.loaded
+
+pub returns-in-Ok-Some-Load-clause-status : goal.returns-in-Ok-Some-Load-clause-status
+returns-in-Ok-Some-Load-clause-status g c = inr (inl c.load_puts.ensures.status)
+
+pub returns-in-Ok-Some-Load-clause-usage : goal.returns-in-Ok-Some-Load-clause-usage
+returns-in-Ok-Some-Load-clause-usage g c = λ two says. never_two c.load_puts.result c.load_puts.ensures.status.0 c.load_puts.ensures.status.1 two
+
+pub returns-in-Ok-Some-Load-clause-command : goal.returns-in-Ok-Some-Load-clause-command
+returns-in-Ok-Some-Load-clause-command g c = λ none.
+    let load : SaysLoad (map string_bytes c.args.words.now) c.in-Ok-Some-Load.settings = rw (c.in-Ok-Some-Load.field-0-is, c.in-Ok-Some-Load.field-0-0-is) at c.in-Ok-Some-Load.ensures.says in
+    absurd (none (c.in-Ok-Some-Load.settings, inr (inr load)))
+
+pub returns-in-Ok-Some-Load-clause-untouched : goal.returns-in-Ok-Some-Load-clause-untouched
+returns-in-Ok-Some-Load-clause-untouched g c = λ either.
+    let load : SaysLoad (map string_bytes c.args.words.now) c.in-Ok-Some-Load.settings = rw (c.in-Ok-Some-Load.field-0-is, c.in-Ok-Some-Load.field-0-0-is) at c.in-Ok-Some-Load.ensures.says in
+    elim either [
+      | inl two ↦ absurd (never_two c.load_puts.result c.load_puts.ensures.status.0 c.load_puts.ensures.status.1 two)
+      | inr none ↦ absurd (none (c.in-Ok-Some-Load.settings, inr (inr load)))
+    ]
+
+pub returns-in-Ok-clause-loaded : goal.returns-in-Ok-clause-loaded
+returns-in-Ok-clause-loaded g c = λ settings says.
+    let run : SaysRun (map string_bytes c.args.words.now) c.in-Ok-Some-Run.settings = rw (c.in-Ok-Some-Run.field-0-is, c.in-Ok-Some-Run.field-0-0-is) at c.in-Ok-Some-Run.ensures.says in
+    absurd (run_no_load (map string_bytes c.args.words.now) c.in-Ok-Some-Run.settings settings run says)
+
+pub returns-in-Err-run_script-clause-loaded : goal.returns-in-Err-run_script-clause-loaded
+returns-in-Err-run_script-clause-loaded g c = λ settings says.
+    let run : SaysRun (map string_bytes c.args.words.now) c.in-Ok-Some-Run.settings = rw (c.in-Ok-Some-Run.field-0-is, c.in-Ok-Some-Run.field-0-0-is) at c.in-Ok-Some-Run.ensures.says in
+    absurd (run_no_load (map string_bytes c.args.words.now) c.in-Ok-Some-Run.settings settings run says)
+
+pub returns-in-Ok-Some-Check-clause-loaded : goal.returns-in-Ok-Some-Check-clause-loaded
+returns-in-Ok-Some-Check-clause-loaded g c = λ settings says.
+    let check : SaysCheck (map string_bytes c.args.words.now) c.in-Ok-Some-Check.settings = rw (c.in-Ok-Some-Check.field-0-is, c.in-Ok-Some-Check.field-0-0-is) at c.in-Ok-Some-Check.ensures.says in
+    absurd (check_no_load (map string_bytes c.args.words.now) c.in-Ok-Some-Check.settings settings check says)
+
+pub returns-in-Err-clause-loaded : goal.returns-in-Err-clause-loaded
+returns-in-Err-clause-loaded g c = λ settings says.
+    load_nothing g.H.Disk.Disk.Tells settings c.status.result (g.H.Shelf.disks c.args.shelf.now) (g.H.Shelf.arms c.args.shelf.now) (g.H.Shelf.fault_count c.args.shelf.now)
+    (g.S.Source.left c.args.source.now) (g.K.Sink.written c.args.sink.now) c.requires.disks_in c.status.ensures

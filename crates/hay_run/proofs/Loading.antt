@@ -1,0 +1,52 @@
+-- A load among the modes of a run.
+use Rattle.std.proofs.Common.{◌≡◌, ◌⊎◌, inl, inr, ℕ, false, List, [], Option, refl, ap, ◌∙◌, arith}
+use Rattle.hay_disk.specs.Shelf.{HeldArm, HeldDisk}
+use Rattle.hay_needle.specs.declared.settings.Settings.{Settings}
+use Rattle.hay_legal.specs.Statuses.{Ending, status_of}
+use Rattle.hay_legal.specs.Statuses.Ending.{ReadAll, OutputFault, InputFault, NoMemory, NotOpened, TooLong}
+use Rattle.hay_loading.specs.declared.stops.Stop.TheVariants as stop
+use Rattle.hay_loading.specs.Endings.{CountsOn, IsStatus}
+use Rattle.hay_loading.proofs.Refusing.{ends_unbegun}
+use Rattle.hay_loading.proofs.Sinks.{wrote_nothing}
+use Rattle.hay_loading.proofs.Statuses.{to_stop}
+use Rattle.hay_run.specs.Loads.{IsLoad}
+use Rattle.hay_run.specs.Runs.{IsSureStill}
+
+-- each status of a load is one of a run
+pub ends_so : (status : ℕ) → IsStatus status → (ending : Ending) × (status ≡ status_of ending)
+ends_so status (inl is) = (ReadAll, is)
+ends_so status (inr (inl is)) = (OutputFault, is)
+ends_so status (inr (inr (inl is))) = (InputFault, is)
+ends_so status (inr (inr (inr (inl is)))) = (NoMemory, is)
+ends_so status (inr (inr (inr (inr (inl is))))) = (NotOpened, is)
+ends_so status (inr (inr (inr (inr (inr is))))) = (TooLong, is)
+
+-- arms that are as they were
+pub same_arm : (arms arms' : ℕ → HeldArm) → arms' ≡ arms → (lane : ℕ) → arms' lane ≡ arms lane
+same_arm arms arms' same lane = ap (λ (f : ℕ → HeldArm). f lane) same
+
+pub sure_still : (old new : HeldArm) → new ≡ old → IsSureStill old new
+sure_still old new same = λ sure. (ap (λ (a : HeldArm). a.is_sure) same ∙ sure, ap (λ (a : HeldArm). a.fault_count) same)
+
+-- memory was wanting for the words
+pub load_nothing : (Tells : Type 0) (settings : Settings) (status : ℕ) (disks : ℕ → HeldDisk) (arms : ℕ → HeldArm) (shelf : ℕ) (left before : Option (List ℕ))
+    → ((slot : ℕ) → (disks slot).is_out ≡ false) → status ≡ 5
+    → IsLoad Tells settings status disks disks arms arms shelf shelf left left before before
+load_nothing Tells settings status disks arms shelf left before back five = record {
+  loaded = λ script told. to_stop Tells settings script disks disks shelf shelf before before stop.NoMemory status five
+      (ends_unbegun Tells settings script disks shelf before before (λ slot below. back slot) (0, wrote_nothing before) stop.NoMemory (inr refl));
+  ended = λ zero. absurd (omega (arith, five, zero));
+  short = λ zero. absurd (omega (arith, five, zero));
+  counts = λ slot below. record { faults_rise = omega arith; fuses_are = refl };
+  other_slots = λ slot above. refl;
+  lanes = refl;
+}
+
+-- no status of a load is that of words that are no command
+pub never_two : (status : ℕ) (ending : Ending) → status ≡ status_of ending → status ≡ 2 → ⊥
+never_two status ReadAll is two = omega (arith, is, two)
+never_two status OutputFault is two = omega (arith, is, two)
+never_two status InputFault is two = omega (arith, is, two)
+never_two status NoMemory is two = omega (arith, is, two)
+never_two status NotOpened is two = omega (arith, is, two)
+never_two status TooLong is two = omega (arith, is, two)
