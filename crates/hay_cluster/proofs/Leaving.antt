@@ -1,33 +1,43 @@
 -- Which disks of a store a call of one of its parts leaves.
-use Rattle.std.proofs.Common.{◌≡◌, ◌≢◌, ℕ, zero, suc, ◌+◌, ◌*◌, ◌<◌, List, [], ◌∷◌, ◌++◌, length, map, Option, Some, refl, sym, ap, subst, ◌∙◌, inl, inr, arith}
+use Rattle.std.proofs.Common.{◌≡◌, ◌≢◌, ◌⊎◌, ℕ, zero, suc, ◌+◌, ◌*◌, ◌<◌, List, [], ◌∷◌, ◌++◌, length, map, Option, None, Some, refl, sym, ap, subst, ◌∙◌, inl, inr, arith}
 use Rattle.std.specs.Prelude.{slice_get, slice_set}
 use Rattle.std.specs.List.{AllByRecursion, flat_map}
 use Rattle.std.specs.Option.{option_map_or}
+use Rattle.hay_needle.specs.declared.needle.Pair.{Pair}
 use Rattle.hay_needle.specs.declared.settings.Settings.{Settings}
 use Rattle.hay_disk.specs.Disk.{Files}
 use Rattle.hay_reply.specs.declared.Reply.{Reply}
 use Rattle.hay_core.specs.declared.entry.CoreTag.{CoreTag}
-use Rattle.hay_legal.specs.Known.{slot_of}
+use Rattle.hay_legal.specs.declared.known.HomeRow.{HomeRow}
+use Rattle.hay_legal.specs.Known.{machine_of, slot_of}
 use Rattle.hay_legal.specs.Stands.{Contents}
 use Rattle.hay_physical.specs.Copies.{Copy}
 use Rattle.hay_logical.specs.Answers.{BreaksPutOff}
 use Rattle.hay_logical.specs.Fits.{At}
-use Rattle.hay_logical.specs.Notes.{DeleteLeavesUnsure}
-use Rattle.hay_logical.specs.Steps.{KeepsFiles}
+use Rattle.hay_logical.specs.Notes.{DeleteLeavesUnsure, IsBrokenOff, PutLeavesUnsure}
+use Rattle.hay_logical.specs.Refusals.{IsUntouchedBy}
+use Rattle.hay_logical.specs.Steps.{KeepsAbove, KeepsFiles}
 use Rattle.hay_logical.specs.declared.unsure.Unsure.{Unsure}
 use Rattle.hay_logical.specs.Volumes.{Volume}
 use Rattle.hay_logical.specs.declared.fault.LogicalFault.{LogicalFault}
 use Rattle.hay_logical.specs.declared.fault.LogicalFault.TheVariants as refusal
+use Rattle.hay_directory.specs.Rows.{OpensRows}
 use Rattle.hay_directory.specs.State as directory
 use Rattle.hay_directory.specs.declared.fault.DirFault.{DirFault}
 use Rattle.hay_directory.specs.declared.fault.DirFault.TheVariants as settling
 use Rattle.hay_cluster.specs.Changes.{IsDeleteReply}
-use Rattle.hay_cluster.specs.Leaving.{AnySlot, DeleteKeeps, IsApart, IsBeside, IsReplicaBeside, IsReplicaSlot, KeepsIn, LeavesByDelete, LeavesByPut, LeavesIn, MayPut, PutKeeps}
+use Rattle.hay_cluster.specs.declared.maintenance.Maintenance.{Maintenance}
+use Rattle.hay_cluster.specs.declared.maintenance.Maintenance.TheVariants.{Flush, Begin, Step, Finish, Compact}
+use Rattle.hay_cluster.specs.Leaving.{AddsRow, AnySlot, ComesToPend, DeleteKeeps, IsApart, IsApartOn, IsBeside, IsReplicaBeside, IsReplicaSlot, KeepsBehind, KeepsIn, LeavesByDelete, LeavesByPut, LeavesByWork, LeavesIn, LeavesReplicas, MayAddRow, MayPut, MayWork, PutKeeps}
+use Rattle.hay_cluster.specs.Maintenance.{IsRefusedAs, WorkKeeps, done_as}
+use Rattle.hay_cluster.specs.Pending.{ChangePends, PendingLines}
 use Rattle.hay_cluster.specs.Puts.{IsPutReply, settle_reply}
 use Rattle.hay_cluster.specs.Store.{IsShaped, Open, contents_in, disk_of, disks_of, volume_disks}
-use Rattle.hay_cluster.proofs.ClosingStore.{volumes_long}
-use Rattle.hay_cluster.proofs.Lists.{map-append}
-use Rattle.hay_cluster.proofs.Moves.{length-disks, volume_of, with_directory, with_one}
+use Rattle.hay_cluster.proofs.Changing.{replica_machine}
+use Rattle.hay_cluster.proofs.ClosingStore.{contents_at, order_item, order_self, volumes_long}
+use Rattle.hay_cluster.proofs.Lists.{map-append, slice_get-set}
+use Rattle.hay_cluster.proofs.Moves.{Called, called_shape, length-disks, volume_of, with_directory, with_one}
+use Rattle.hay_cluster.proofs.OpeningTaken.{in_volume}
 
 -- LISTS
 
@@ -194,7 +204,45 @@ module _ {D P A : Type 0} (files : D → Files) where
       (λ j r r' n was now. let there : At before.replicas j r' = subst (λ (w : Volume D P). At w.replicas j r') same now in
       let one : Some r ≡ Some r' = sym was ∙ there in ap (λ (q : Copy D). (files q.disk n).now) (let both : r' ≡ r = cc in both))
 
--- THE REPLIES OF PUTS AND DELETES
+-- DISKS BEHIND ONE THAT FAILED
+
+module _ {D P A : Type 0} (DiskTells : Type 0) (files : D → Files) (faults fuses : D → ℕ) where
+  behind_in : DiskTells → (store : Open D P A) (v : ℕ) (before after : Volume D P) → IsShaped store → Called faults fuses store v before after → (m : ℕ)
+      → KeepsAbove DiskTells files before.settings before.number m before.replicas after.replicas → KeepsBehind store.settings v m (contents_in files store) (contents_in files (with_one store v after))
+  behind_in tells store v before after shape called m above = λ i j file there behind within.
+      let next = with_one store v after in
+      let shape' = called_shape faults fuses store v before after shape called in
+      let was = volume_of store v before shape called.at in
+      let many : length before.replicas ≡ (store.settings).replicas = was.all ∙ ap (λ (s : Settings). s.replicas) was.settings_are in
+      let count : length after.replicas ≡ length before.replicas = called.counts.count in
+      let r = order_item before.replicas j (let less : j < length before.replicas = omega (arith, within, many) in less) in
+      let r' = order_item after.replicas j (let less : j < length after.replicas = omega (arith, within, many, count) in less) in
+      let low : i < (store.settings).replicas = omega (arith, behind, within) in
+      let low' : i < (before.settings).replicas = subst (λ (s : Settings). i < s.replicas) (sym was.settings_are) low in
+      let machine : m ≡ machine_of before.settings before.number i =
+      sym (replica_machine store.settings v m i there) ∙ ap (λ n. machine_of store.settings n i) (sym was.number) ∙ ap (λ (s : Settings). machine_of s before.number i) (sym was.settings_are) in
+      let keeps : (files (r'.0).disk file).now ≡ (files (r.0).disk file).now = (above tells i j low' machine behind r.0 r'.0 r.1 r'.1).now file in
+      let at : slice_get (disks_of store) (slot_of store.settings v j) ≡ Some (r.0).disk =
+      in_volume (λ n disk. slice_get (disks_of store) n ≡ Some disk) store v j before r.0 shape called.at r.1 (order_self (disks_of store)) in
+      let at' : slice_get (disks_of next) (slot_of store.settings v j) ≡ Some (r'.0).disk =
+      in_volume (λ n disk. slice_get (disks_of next) n ≡ Some disk) next v j after r'.0 shape' (slice_get-set store.volumes v before after called.at) r'.1 (order_self (disks_of next)) in
+      ap (λ (c : Contents). c file) (contents_at files next (slot_of store.settings v j) (r'.0).disk at') ∙ keeps
+      ∙ sym (ap (λ (c : Contents). c file) (contents_at files store (slot_of store.settings v j) (r.0).disk at))
+
+  -- a change never reached the replicas behind the one that failed
+  pub called_behind : DiskTells → (old store : Open D P A) (v : ℕ) (before after : Volume D P) → store ≡ old → IsShaped store → Called faults fuses store v before after → (m : ℕ)
+      → KeepsAbove DiskTells files before.settings before.number m before.replicas after.replicas → KeepsBehind old.settings v m (contents_in files old) (contents_in files (with_one store v after))
+  called_behind tells old store v before after is shape called m above =
+      subst (λ (st : Open D P A). KeepsBehind st.settings v m (contents_in files st) (contents_in files (with_one store v after))) is (behind_in tells store v before after shape called m above)
+
+-- what a change that was broken off leaves pending
+pub comes_to_pend : (v line : ℕ) (before after : PendingLines) → ChangePends v line before after → ComesToPend v before after
+comes_to_pend v line before after pends = (
+  pends.0,
+  (line, ap (λ (p : PendingLines). slice_get p.changes v) pends.1 ∙ slice_get-set before.changes v None (Some line) pends.0),
+)
+
+-- PUTS AND DELETES
 
 pub keeps-on : (settings : Settings) (Among : ℕ → Type 0) (old mid new : ℕ → Contents) → KeepsIn settings Among old mid → KeepsIn settings Among mid new → KeepsIn settings Among old new
 keeps-on settings Among old mid new first second slot file within among = second slot file within among ∙ first slot file within among
@@ -202,71 +250,170 @@ keeps-on settings Among old mid new first second slot file within among = second
 pub keeps-all : (settings : Settings) (Among : ℕ → Type 0) (old : ℕ → Contents) → KeepsIn settings Among old old
 keeps-all settings Among old slot file within among = refl
 
-pub put_leaves : (settings : Settings) (v : ℕ) (old new : ℕ → Contents) (fault : LogicalFault) (said : Reply) → v < settings.volumes → IsPutReply v fault said
-    → KeepsIn settings (IsReplicaBeside settings v) old new → PutKeeps settings old new fault → LeavesByPut settings said old new
-put_leaves settings v old new (refusal.Failed m f) said within is beside keeps = inl (v, inr (inl (m, f, is)), beside)
-put_leaves settings v old new (refusal.ReadOnly m) said within is beside keeps = inr (inr keeps)
-put_leaves settings v old new (refusal.Full m end need capacity) said within is beside keeps = inr (inr keeps)
-put_leaves settings v old new refusal.NoMemory said within is beside keeps = inl (v, inr (inr (within, is)), beside)
-put_leaves settings v old new (refusal.Gone front) said within is beside keeps = absurd is
-put_leaves settings v old new (refusal.Busy m generation) said within is beside keeps = absurd is
-put_leaves settings v old new (refusal.Worn m) said within is beside keeps = absurd is
-put_leaves settings v old new refusal.Idle said within is beside keeps = absurd is
-put_leaves settings v old new (refusal.Damaged m at) said within is beside keeps = absurd is
+pub keeps-fewer : (settings : Settings) (Among : ℕ → Type 0) (old new : ℕ → Contents) → KeepsIn settings AnySlot old new → KeepsIn settings Among old new
+keeps-fewer settings Among old new keeps slot file within among = keeps slot file within tt
 
--- a put that a volume took may have changed its disks
-pub taken_may : (settings : Settings) (v : ℕ) (fault : LogicalFault) (said : Reply) → v < settings.volumes → IsPutReply v fault said → BreaksPutOff fault → MayPut settings said v
-taken_may settings v (refusal.Failed m f) said within is breaks = inr (inl (m, f, is))
-taken_may settings v refusal.NoMemory said within is breaks = inr (inr (within, is))
-taken_may settings v (refusal.ReadOnly m) said within is breaks = absurd breaks
-taken_may settings v (refusal.Full m end need capacity) said within is breaks = absurd breaks
-taken_may settings v (refusal.Gone front) said within is breaks = absurd breaks
-taken_may settings v (refusal.Busy m generation) said within is breaks = absurd breaks
-taken_may settings v (refusal.Worn m) said within is breaks = absurd breaks
-taken_may settings v refusal.Idle said within is breaks = absurd breaks
-taken_may settings v (refusal.Damaged m at) said within is breaks = absurd breaks
+-- What a refusal leaves, by whether the change is pending.
+module _ (settings : Settings) (v : ℕ) (pending pending' : PendingLines) (old new : ℕ → Contents) (tag : CoreTag) (before after : Option Unsure)
+    (keeps : after ≡ before → KeepsIn settings AnySlot old new) (broke : IsBrokenOff tag before after → ComesToPend v pending pending') where
+  abbrev Behind : LogicalFault → Type 0
+  Behind fault = (m f : ℕ) → fault ≡ refusal.Failed m f → KeepsBehind settings v m old new
 
--- a put whose pair got no home
-pub unsettled_leaves : (settings : Settings) (v : ℕ) (old new : ℕ → Contents) (fault : DirFault) (said : Reply) → v < settings.volumes → said ≡ settle_reply fault
-    → KeepsIn settings IsReplicaSlot old new → (fault ≡ settling.Frozen → KeepsIn settings AnySlot old new) → LeavesByPut settings said old new
-unsettled_leaves settings v old new settling.Frozen said within is replicas frozen = inr (inr (frozen refl))
-unsettled_leaves settings v old new settling.NoMemory said within is replicas frozen = inl (v, inr (inr (within, is)), (λ slot file low far. replicas slot file low far.0))
-unsettled_leaves settings v old new (settling.Failed faults) said within is replicas frozen = inr (inl (faults, is, replicas))
+  memory_kept : (after ≡ before) ⊎ IsBrokenOff tag before after → ComesToPend v pending pending' ⊎ KeepsIn settings AnySlot old new
+  memory_kept (inl same) = inr (keeps same)
+  memory_kept (inr broken) = inl (broke broken)
 
-pub delete_leaves : (settings : Settings) (v rows : ℕ) (old new : ℕ → Contents) (fault : LogicalFault) (said : Reply) → IsDeleteReply v rows fault said
-    → KeepsIn settings (IsBeside settings v) old new → DeleteKeeps settings old new fault → LeavesByDelete settings said old new
-delete_leaves settings v rows old new (refusal.Failed m f) said is beside keeps = inl (v, inr (m, f, is), beside)
-delete_leaves settings v rows old new (refusal.Gone front) said is beside keeps = inr keeps
-delete_leaves settings v rows old new (refusal.ReadOnly m) said is beside keeps = inr keeps
-delete_leaves settings v rows old new refusal.NoMemory said is beside keeps = inr keeps
-delete_leaves settings v rows old new (refusal.Damaged m at) said is beside keeps = inr keeps
-delete_leaves settings v rows old new (refusal.Full m end need capacity) said is beside keeps = absurd is
-delete_leaves settings v rows old new (refusal.Busy m generation) said is beside keeps = absurd is
-delete_leaves settings v rows old new (refusal.Worn m) said is beside keeps = absurd is
-delete_leaves settings v rows old new refusal.Idle said is beside keeps = absurd is
+  pub put_keeps : (fault : LogicalFault) → PutLeavesUnsure tag before after fault → Behind fault → PutKeeps settings v pending pending' old new fault
+  put_keeps (refusal.Failed m f) left behind = behind m f refl
+  put_keeps refusal.NoMemory left behind = memory_kept left
+  put_keeps (refusal.ReadOnly m) left behind = keeps left
+  put_keeps (refusal.Full m end need capacity) left behind = keeps left
+  put_keeps (refusal.Gone front) left behind = tt
+  put_keeps (refusal.Busy m generation) left behind = tt
+  put_keeps (refusal.Worn m) left behind = tt
+  put_keeps refusal.Idle left behind = tt
+  put_keeps (refusal.Damaged m at) left behind = tt
 
--- a put that was refused left its volume, where it was closed or lacked room
-pub put_keeps : (settings : Settings) (old new : ℕ → Contents) (fault : LogicalFault) → ((m : ℕ) → fault ≡ refusal.ReadOnly m → KeepsIn settings AnySlot old new)
-    → ((m end need capacity : ℕ) → fault ≡ refusal.Full m end need capacity → KeepsIn settings AnySlot old new) → PutKeeps settings old new fault
-put_keeps settings old new (refusal.Failed m f) closed full = tt
-put_keeps settings old new (refusal.ReadOnly m) closed full = closed m refl
-put_keeps settings old new (refusal.Full m end need capacity) closed full = full m end need capacity refl
-put_keeps settings old new refusal.NoMemory closed full = tt
-put_keeps settings old new (refusal.Gone front) closed full = tt
-put_keeps settings old new (refusal.Busy m generation) closed full = tt
-put_keeps settings old new (refusal.Worn m) closed full = tt
-put_keeps settings old new refusal.Idle closed full = tt
-put_keeps settings old new (refusal.Damaged m at) closed full = tt
+  failed_kept : (m f : ℕ) → (after ≡ before) ⊎ IsBrokenOff tag before after → KeepsBehind settings v m old new
+      → (ComesToPend v pending pending' × KeepsBehind settings v m old new) ⊎ KeepsIn settings AnySlot old new
+  failed_kept m f (inl same) behind = inr (keeps same)
+  failed_kept m f (inr broken) behind = inl (broke broken, behind)
 
--- a delete that was refused left every byte, unless a disk failed
-pub delete_keeps : (settings : Settings) (old new : ℕ → Contents) (tag : CoreTag) (before after : Option Unsure) (fault : LogicalFault) → DeleteLeavesUnsure tag before after fault
-    → (after ≡ before → KeepsIn settings AnySlot old new) → DeleteKeeps settings old new fault
-delete_keeps settings old new tag before after (refusal.Failed m f) left keeps = tt
-delete_keeps settings old new tag before after refusal.NoMemory left keeps = keeps left
-delete_keeps settings old new tag before after (refusal.ReadOnly m) left keeps = keeps left
-delete_keeps settings old new tag before after (refusal.Full m end need capacity) left keeps = keeps left
-delete_keeps settings old new tag before after (refusal.Gone front) left keeps = keeps left
-delete_keeps settings old new tag before after (refusal.Busy m generation) left keeps = keeps left
-delete_keeps settings old new tag before after (refusal.Worn m) left keeps = keeps left
-delete_keeps settings old new tag before after refusal.Idle left keeps = keeps left
-delete_keeps settings old new tag before after (refusal.Damaged m at) left keeps = keeps left
+  pub delete_keeps : (fault : LogicalFault) → DeleteLeavesUnsure tag before after fault → Behind fault → DeleteKeeps settings v pending pending' old new fault
+  delete_keeps (refusal.Failed m f) left behind = failed_kept m f left (behind m f refl)
+  delete_keeps refusal.NoMemory left behind = keeps left
+  delete_keeps (refusal.ReadOnly m) left behind = keeps left
+  delete_keeps (refusal.Full m end need capacity) left behind = keeps left
+  delete_keeps (refusal.Gone front) left behind = keeps left
+  delete_keeps (refusal.Busy m generation) left behind = keeps left
+  delete_keeps (refusal.Worn m) left behind = keeps left
+  delete_keeps refusal.Idle left behind = keeps left
+  delete_keeps (refusal.Damaged m at) left behind = keeps left
+
+-- THE REPLIES OF PUTS AND DELETES
+
+module _ (settings : Settings) (before after : PendingLines) (old new : ℕ → Contents) where
+  pub put_leaves : (v : ℕ) (fault : LogicalFault) (said : Reply) → IsPutReply v fault said → KeepsIn settings (IsReplicaBeside settings v) old new → PutKeeps settings v before after old new fault
+      → LeavesReplicas settings said before after old new
+  put_leaves v (refusal.Failed m f) said is beside keeps = inl (v, inr (inl (m, f, is, keeps)), beside)
+  put_leaves v (refusal.ReadOnly m) said is beside keeps = inr (keeps-fewer settings IsReplicaSlot old new keeps)
+  put_leaves v (refusal.Full m end need capacity) said is beside keeps = inr (keeps-fewer settings IsReplicaSlot old new keeps)
+  put_leaves v refusal.NoMemory said is beside (inl pends) = inl (v, inr (inr (is, pends)), beside)
+  put_leaves v refusal.NoMemory said is beside (inr keeps) = inr (keeps-fewer settings IsReplicaSlot old new keeps)
+  put_leaves v (refusal.Gone front) said is beside keeps = absurd is
+  put_leaves v (refusal.Busy m generation) said is beside keeps = absurd is
+  put_leaves v (refusal.Worn m) said is beside keeps = absurd is
+  put_leaves v refusal.Idle said is beside keeps = absurd is
+  put_leaves v (refusal.Damaged m at) said is beside keeps = absurd is
+
+  -- a put whose pair got no home
+  pub unsettled_leaves : (pair : Pair) (fault : DirFault) (said : Reply) → said ≡ settle_reply fault → KeepsIn settings IsReplicaSlot old new → AddsRow settings pair (old 0) (new 0)
+      → (fault ≡ settling.Frozen → new 0 ≡ old 0) → LeavesByPut settings pair said before after old new
+  unsettled_leaves pair settling.Frozen said is replicas adds frozen = record { replicas = inr replicas; rows = inr (frozen refl) }
+  unsettled_leaves pair settling.NoMemory said is replicas adds frozen = record { replicas = inr replicas; rows = inl (inr (inr (inr is)), adds) }
+  unsettled_leaves pair (settling.Failed faults) said is replicas adds frozen = record { replicas = inr replicas; rows = inl (inr (inr (inl (faults, is))), adds) }
+
+  pub delete_leaves : (v rows : ℕ) (fault : LogicalFault) (said : Reply) → IsDeleteReply v rows fault said → KeepsIn settings (IsBeside settings v) old new
+      → DeleteKeeps settings v before after old new fault
+      → LeavesByDelete settings said before after old new
+  delete_leaves v rows (refusal.Failed m f) said is beside (inl (pends, behind)) = inl (v, inr (m, f, is, pends, behind), beside)
+  delete_leaves v rows (refusal.Failed m f) said is beside (inr keeps) = inr keeps
+  delete_leaves v rows (refusal.Gone front) said is beside keeps = inr keeps
+  delete_leaves v rows (refusal.ReadOnly m) said is beside keeps = inr keeps
+  delete_leaves v rows refusal.NoMemory said is beside keeps = inr keeps
+  delete_leaves v rows (refusal.Damaged m at) said is beside keeps = inr keeps
+  delete_leaves v rows (refusal.Full m end need capacity) said is beside keeps = absurd is
+  delete_leaves v rows (refusal.Busy m generation) said is beside keeps = absurd is
+  delete_leaves v rows (refusal.Worn m) said is beside keeps = absurd is
+  delete_leaves v rows refusal.Idle said is beside keeps = absurd is
+
+-- a put that a volume took may have added a row
+pub put_adds : (v : ℕ) (fault : LogicalFault) (said : Reply) → IsPutReply v fault said → BreaksPutOff fault → MayAddRow said
+put_adds v (refusal.Failed m f) said is breaks = inr (inl (v, m, f, is))
+put_adds v refusal.NoMemory said is breaks = inr (inr (inr is))
+put_adds v (refusal.ReadOnly m) said is breaks = absurd breaks
+put_adds v (refusal.Full m end need capacity) said is breaks = absurd breaks
+put_adds v (refusal.Gone front) said is breaks = absurd breaks
+put_adds v (refusal.Busy m generation) said is breaks = absurd breaks
+put_adds v (refusal.Worn m) said is breaks = absurd breaks
+put_adds v refusal.Idle said is breaks = absurd breaks
+put_adds v (refusal.Damaged m at) said is breaks = absurd breaks
+
+-- a put that changed nothing
+pub nothing_put : (settings : Settings) (pair : Pair) (said : Reply) (before after : PendingLines) (old : ℕ → Contents) → LeavesByPut settings pair said before after old old
+nothing_put settings pair said before after old = record { replicas = inr (keeps-all settings IsReplicaSlot old); rows = inr refl }
+
+-- WORK ON A REPLICA
+
+module _ (settings : Settings) (v m : ℕ) (old new : ℕ → Contents) where
+  work_may : (work : Maintenance) (n : ℕ) (said : Reply) → said ≡ done_as v m work n → MayWork said
+  work_may Flush n said is = inl (v, m, n, inl is)
+  work_may Begin n said is = inl (v, m, n, inr (inl is))
+  work_may (Step cells) n said is = inl (v, m, n, inr (inr (inl is)))
+  work_may Finish n said is = inl (v, m, n, inr (inr (inr (inl is))))
+  work_may Compact n said is = inl (v, m, n, inr (inr (inr (inl is))))
+
+  pub done_leaves : (work : Maintenance) (n : ℕ) (said : Reply) → said ≡ done_as v m work n → KeepsIn settings (IsApartOn settings v m) old new → LeavesByWork settings v m said old new
+  done_leaves work n said is apart = inl (work_may work n said is, apart)
+
+  pub refused_leaves : (fault : LogicalFault) (said : Reply) → IsRefusedAs v m fault said → KeepsIn settings (IsApartOn settings v m) old new → WorkKeeps settings old new fault
+      → LeavesByWork settings v m said old new
+  refused_leaves (refusal.Failed m' f) said is apart keeps = inl (inl (v, m', f, inr (inr (inr (inr (inl is))))), apart)
+  refused_leaves (refusal.Damaged m' at) said is apart keeps = inl (inl (v, m', at, inr (inr (inr (inr (inr is))))), apart)
+  refused_leaves refusal.NoMemory said is apart keeps = inl (inr is, apart)
+  refused_leaves (refusal.ReadOnly m') said is apart keeps = inr keeps
+  refused_leaves (refusal.Busy m' generation) said is apart keeps = inr keeps
+  refused_leaves (refusal.Worn m') said is apart keeps = inr keeps
+  refused_leaves refusal.Idle said is apart keeps = inr keeps
+  refused_leaves (refusal.Full m' end need capacity) said is apart keeps = absurd is
+  refused_leaves (refusal.Gone front) said is apart keeps = absurd is
+
+-- it was refused before anything was done
+pub work_keeps : (settings : Settings) (old new : ℕ → Contents) (fault : LogicalFault) → (IsUntouchedBy fault → KeepsIn settings AnySlot old new) → WorkKeeps settings old new fault
+work_keeps settings old new (refusal.ReadOnly m) keeps = keeps tt
+work_keeps settings old new (refusal.Busy m generation) keeps = keeps tt
+work_keeps settings old new (refusal.Worn m) keeps = keeps tt
+work_keeps settings old new refusal.Idle keeps = keeps tt
+work_keeps settings old new (refusal.Failed m f) keeps = tt
+work_keeps settings old new (refusal.Damaged m at) keeps = tt
+work_keeps settings old new refusal.NoMemory keeps = tt
+work_keeps settings old new (refusal.Full m end need capacity) keeps = tt
+work_keeps settings old new (refusal.Gone front) keeps = tt
+
+-- THE DIRECTORY'S ROWS
+
+module _ {D P A : Type 0} (files : D → Files) where
+  -- a store reads of slot 0 what its directory's disk has
+  pub directory_adds : (settings : Settings) (pair : Pair) (v : ℕ) (old store : Open D P A) (after : directory.State D) → store ≡ old → v < settings.volumes
+      → ((rows : List HomeRow) → OpensRows settings (λ n. (files (store.directory).disk n).now) rows
+      → OpensRows settings (λ n. (files after.disk n).now) rows ⊎ OpensRows settings (λ n. (files after.disk n).now) (rows ++ record { pair = pair; volume = v } ∷ []))
+      → AddsRow settings pair (contents_in files old 0) (contents_in files (with_directory store after) 0)
+  directory_adds settings pair v old store after is within adds = λ rows opens.
+      elim (adds rows (subst (λ (st : Open D P A). OpensRows settings (contents_in files st 0) rows) (sym is) opens)) [
+        | inl same ↦ inl same
+        | inr more ↦ inr (v, within, more)
+      ]
+
+  -- a call that leaves the Directory's disk leaves what it has
+  pub same_first : (old new : Open D P A) → disks_of new ≡ disks_of old → contents_in files new 0 ≡ contents_in files old 0
+  same_first old new same = ap (λ (ds : List D). let read : Contents = λ file. option_map_or (λ disk. (files disk file).now) (slice_get ds 0) [] in read) same
+
+  pub first_contents : (settings : Settings) (v : ℕ) (old new : Open D P A) → LeavesIn (IsBeside settings v) (disks_of old) (disks_of new) → contents_in files new 0 ≡ contents_in files old 0
+  first_contents settings v old new leaves =
+      ap (λ (o : Option D). let read : Contents = λ file. option_map_or (λ disk. (files disk file).now) o [] in read) (leaves 0 (λ j less same. absurd (omega (arith, same))))
+
+  pub leaves_reads : (Among : ℕ → Type 0) (old new : Open D P A) → LeavesIn Among (disks_of old) (disks_of new) → (slot file : ℕ) → Among slot
+      → contents_in files new slot file ≡ contents_in files old slot file
+  leaves_reads Among old new leaves slot file among = ap (λ (o : Option D). option_map_or (λ disk. (files disk file).now) o []) (leaves slot among)
+
+-- A change of the Directory before a put changes no replica.
+module _ (settings : Settings) (before after : PendingLines) (old mid new : ℕ → Contents) (said : Reply) (first : (slot file : ℕ) → IsReplicaSlot slot → mid slot file ≡ old slot file) where
+  put_later : (v : ℕ) → MayPut said before after mid new settings v → MayPut said before after old new settings v
+  put_later v (inl stored) = inl stored
+  put_later v (inr (inl (m, f, is, behind))) =
+      inr (inl (m, f, is, λ i j file there less within. behind i j file there less within ∙ first (slot_of settings v j) file (λ place. absurd (omega (arith, place)))))
+  put_later v (inr (inr pends)) = inr (inr pends)
+
+  pub replicas_after : LeavesReplicas settings said before after mid new → LeavesReplicas settings said before after old new
+  replicas_after (inr keeps) = inr (λ slot file low far. keeps slot file low far ∙ first slot file far)
+  replicas_after (inl (v, may, beside)) = inl (v, put_later v may, (λ slot file low far. beside slot file low far ∙ first slot file far.0))

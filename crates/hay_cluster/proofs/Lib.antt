@@ -1,6 +1,7 @@
 pub mod Answering
 pub mod Calls
 pub mod Changing
+pub mod Closures
 pub mod ClosingSlots
 pub mod ClosingStore
 pub mod Finds
@@ -26,6 +27,7 @@ pub mod OpeningVolumes
 pub mod Pending
 pub mod Puts
 pub mod Refusals
+pub mod Settling
 pub mod Showing
 pub mod Standing
 pub mod Suiting

@@ -9,15 +9,17 @@ use Rattle.hay_disk.specs.Shelf.{HeldArm, HeldDisk}
 use Rattle.hay_disk.proofs.Images.{solid_whole}
 use Rattle.hay_mount.specs.Mounts.{InOrder, IsGivenDisk, IsMountedDisk}
 use Rattle.hay_open.specs.Stored.{OpensAs, Stored, fresh_stored}
+use Rattle.hay_reply.specs.declared.Note.{Note}
 use Rattle.hay_legal.specs.Known.{disk_count, empty_replica, slot_of}
 use Rattle.hay_legal.specs.Stands.{Contents, Found, found_of}
 use Rattle.hay_legal.specs.Statuses.{FindsNothing}
 use Rattle.hay_directory.specs.Rows.{OpensRows}
 use Rattle.hay_logical.specs.Fits.{IsReplica, found_as, super_of}
-use Rattle.hay_cluster.specs.Opening.{MovesVolume}
-use Rattle.hay_cluster.specs.Outside.{IsKept, KeepsContents, read_of}
+use Rattle.hay_cluster.specs.Opening.{MovesVolume, OpensParts}
+use Rattle.hay_cluster.specs.Outside.{FormatsVoid, IsKept, KeepsContents, read_of}
 use Rattle.hay_cluster.specs.Store.{IsShaped, Open, contents_in, disks_of}
-use Rattle.hay_cluster.proofs.ClosingStore.{order_get, order_item, order_self}
+use Rattle.hay_cluster.proofs.ClosingStore.{contents_at, order_get, order_item, order_self}
+use Rattle.hay_cluster.proofs.Formatted.{opened_formatted}
 use Rattle.hay_cluster.proofs.Moves.{volume_of}
 use Rattle.hay_cluster.proofs.OpeningDamage.{contents_kept, slot_found, zip_get}
 use Rattle.hay_cluster.proofs.OpeningStore.{MovedParts, shape_moved}
@@ -103,6 +105,22 @@ module _ {D P A : Type 0} (DiskTells : Type 0) (files : D → Files) (Tells : Ty
         → (slot : ℕ) → slot < disk_count settings → IsKept slot (disks slot) (after slot)
     back_kept tells settings old new after same t m given slot below =
         kept_in tells old new after t m given slot (subst (λ (s : Settings). slot < disk_count s) (sym same) below)
+
+    -- each disk that was void was formatted
+    pub formats_void : (tells : DiskTells) → ((disk : D) (n : ℕ) → IsImage (files disk n) (files disk n).now) → (settings : Settings) (old new : Open D P A) (notes : List Note) → old.settings ≡ settings
+        → IsTaken DiskTells files Tells faults fuses arm_faults drawn sure disks arms old → MovedParts DiskTells files Tells faults fuses arm_faults old new
+        → OpensParts DiskTells files Tells faults fuses old.directory new.directory old.volumes new.volumes notes → FormatsVoid settings (λ slot. read_of (disks slot)) (contents_in files new)
+    formats_void tells now settings old new notes same t m opens slot below void =
+        let shape' = shape_moved DiskTells files Tells faults fuses arm_faults old new t.shape m in
+        let less : slot < disk_count old.settings = subst (λ (s : Settings). slot < disk_count s) (sym same) below in
+        let less' : slot < disk_count new.settings = subst (λ (s : Settings). slot < disk_count s) (sym m.settings) less in
+        let i = taken_disk DiskTells files Tells faults fuses arm_faults drawn sure disks arms old t slot less in
+        let k = zip_get (KeepsBytes files) (disks_of old) (disks_of new) slot i.0 i.1 (disks_keep DiskTells files Tells faults fuses arm_faults tells old new m) in
+        let reads : contents_in files new slot ≡ (λ n. (files k.0 n).now) = contents_at files new slot k.0 k.1 in
+        let nothing = void_left tells old new t.shape m slot i.0 k.0 less i.1 k.1 ((i.2).now tells 0 ∙ void) (λ n. (files k.0 n).now) (λ n. now k.0 n) settings in (
+          opened_formatted files now DiskTells Tells faults fuses tells old new notes t.fresh shape' opens slot less',
+          subst (λ (c : Contents). FindsNothing (IsReplica settings) (OpensRows settings) settings slot c) (sym reads) nothing,
+        )
 
     -- each disk that was not void has what it had
     pub contents_stay : DiskTells → (settings : Settings) (old new : Open D P A) → old.settings ≡ settings → IsTaken DiskTells files Tells faults fuses arm_faults drawn sure disks arms old

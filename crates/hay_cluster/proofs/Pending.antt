@@ -1,6 +1,6 @@
 -- Which lines left a change or a row pending: laws of calls, of replies and of restarts.
 use Rattle.std.proofs.Common.{◌≡◌, ◌⊎◌, true, false, ℕ, zero, suc, ◌+◌, ◌<◌, List, [], ◌∷◌, ◌++◌, length, map, Option, Some, None, inl, inr, refl, sym, ap, subst, ◌∙◌, arith}
-use Rattle.std.specs.Prelude.{IfNone, replicate, slice_get, slice_set}
+use Rattle.std.specs.Prelude.{replicate, slice_get, slice_set}
 use Rattle.std.specs.List.{AllByRecursion, AllZip}
 use Rattle.hay_needle.specs.declared.settings.Settings.{Settings}
 use Rattle.hay_disk.specs.Disk.{Files}
@@ -8,7 +8,6 @@ use Rattle.hay_mount.specs.Mounts.{InOrder}
 use Rattle.hay_core.specs.declared.entry.CoreTag.{CoreTag}
 use Rattle.hay_reply.specs.declared.Note.{Note}
 use Rattle.hay_reply.specs.declared.Refused.{Refused}
-use Rattle.hay_reply.specs.declared.Refused.TheVariants as refused_for
 use Rattle.hay_reply.specs.declared.Reply.{Reply}
 use Rattle.hay_reply.specs.declared.Reply.TheVariants.{Full, ReadOnly, NoMem}
 use Rattle.hay_reply.specs.Fits.{FitsNote}
@@ -26,10 +25,9 @@ use Rattle.hay_logical.specs.declared.unsure.Unsure.{Unsure}
 use Rattle.hay_logical.specs.Fits.{At}
 use Rattle.hay_logical.specs.Notes.{DeleteLeavesUnsure, IsBrokenOff, NotesTell, PutLeavesUnsure}
 use Rattle.hay_logical.specs.Volumes.{Volume}
-use Rattle.hay_cluster.specs.Changes.{IsDeleteReply, IsReadOnly}
-use Rattle.hay_cluster.specs.Lacks.{lack_of}
+use Rattle.hay_cluster.specs.Changes.{IsDeleteReply}
 use Rattle.hay_cluster.specs.Opening.{Gathers, OpensParts, OpensVolume, StopsVolume}
-use Rattle.hay_cluster.specs.Pending.{ChangePends, DeleteLeft, IsSettledAt, LeavesDelete, LeavesPut, MetOpen, PendingLines, PutLeft, RefusedOpen, RowLeft, TellsChange, TellsChanges, TellsNoFailure, TellsPending, TellsRow, line_of_change, line_of_row, none_pending, pending_change, pending_of, pending_row, with_change, with_row}
+use Rattle.hay_cluster.specs.Pending.{ChangePends, DeleteLeft, IsSettledAt, LeavesDelete, LeavesPut, PendingLines, PutLeft, RowLeft, TellsChange, TellsChanges, TellsNoFailure, TellsPending, TellsRow, line_of_change, line_of_row, none_pending, pending_change, pending_of, pending_row, with_change, with_row}
 use Rattle.hay_cluster.specs.Puts.{IsPutReply, IsRefusal, settle_reply}
 use Rattle.hay_cluster.specs.Store.{Open, IsShaped, IsVolumeOf}
 use Rattle.hay_cluster.proofs.Moves.{with_directory, with_one}
@@ -37,18 +35,18 @@ use Rattle.hay_cluster.proofs.OpeningStore.{StoppedParts}
 
 -- ONE ITEM OF A LIST
 
-map-set : {A B : Type 0} (f : A → B) (xs : List A) (i : ℕ) (x : A) → map f (slice_set xs i x) ≡ slice_set (map f xs) i (f x)
+pub map-set : {A B : Type 0} (f : A → B) (xs : List A) (i : ℕ) (x : A) → map f (slice_set xs i x) ≡ slice_set (map f xs) i (f x)
 map-set f [] i x = refl
 map-set f (y ∷ xs) zero x = refl
 map-set f (y ∷ xs) (suc i) x = ap (λ zs. f y ∷ zs) (map-set f xs i x)
 
 -- another item of the same value
-map-kept : {A B : Type 0} (f : A → B) (xs : List A) (i : ℕ) (x x' : A) → slice_get xs i ≡ Some x → f x' ≡ f x → map f (slice_set xs i x') ≡ map f xs
+pub map-kept : {A B : Type 0} (f : A → B) (xs : List A) (i : ℕ) (x x' : A) → slice_get xs i ≡ Some x → f x' ≡ f x → map f (slice_set xs i x') ≡ map f xs
 map-kept f [] i x x' at is = absurd cc
 map-kept f (y ∷ xs) zero x x' at is = let same : y ≡ x = cc in ap (λ b. b ∷ map f xs) (is ∙ ap f (sym same))
 map-kept f (y ∷ xs) (suc i) x x' at is = ap (λ zs. f y ∷ zs) (map-kept f xs i x x' at is)
 
-map-at : {A B : Type 0} (f : A → B) (xs : List A) (i : ℕ) (x : A) → slice_get xs i ≡ Some x → slice_get (map f xs) i ≡ Some (f x)
+pub map-at : {A B : Type 0} (f : A → B) (xs : List A) (i : ℕ) (x : A) → slice_get xs i ≡ Some x → slice_get (map f xs) i ≡ Some (f x)
 map-at f [] i x at = absurd cc
 map-at f (y ∷ xs) zero x at = let same : y ≡ x = cc in ap (λ z. Some (f z)) same
 map-at f (y ∷ xs) (suc i) x at = map-at f xs i x at
@@ -143,7 +141,7 @@ refusal_no_failure refused (ReadOnly closed) is = (λ v m n same. cc, λ n same.
 refusal_no_failure refused NoMem is = (λ v m n same. cc, λ n same. cc)
 refusal_no_failure refused _ is = absurd is
 
-memory_no_failure : (said : Reply) → said ≡ NoMem → TellsNoFailure said
+pub memory_no_failure : (said : Reply) → said ≡ NoMem → TellsNoFailure said
 memory_no_failure said is = (λ v m n same. cc, λ n same. cc)
 
 pub put_pending : (settings : Settings) (line v : ℕ) (before after : PendingLines) (fault : LogicalFault) (said : Reply) → v < settings.volumes → IsPutReply v fault said → PutLeft line v before after fault
@@ -177,63 +175,6 @@ delete_pending line v rows before after (refusal.Full m end need capacity) said 
 delete_pending line v rows before after (refusal.Busy m generation) said is left = absurd is
 delete_pending line v rows before after (refusal.Worn m) said is left = absurd is
 delete_pending line v rows before after refusal.Idle said is left = absurd is
-
--- WHAT WAS MET
-
-pub none_or : {X : Type 0} (o : Option X) (Q : Type 0) → Q → IfNone o Q
-none_or None Q q = q
-none_or (Some x) Q q = tt
-
-pub lack_open : (v : ℕ) (before : PendingLines) (fault : LogicalFault) (refused : Refused) → lack_of v fault ≡ Some refused → IsSettledAt v before → RefusedOpen before refused
-lack_open v before (refusal.Full m end need capacity) refused is settled = let same : refused_for.NoRoom v m end need ≡ refused = cc in subst (λ (r : Refused). RefusedOpen before r) same settled
-lack_open v before (refusal.ReadOnly m) refused is settled = let same : refused_for.Closed v m ≡ refused = cc in subst (λ (r : Refused). RefusedOpen before r) same tt
-lack_open v before (refusal.Failed m count) refused is settled = absurd cc
-lack_open v before (refusal.Gone front) refused is settled = absurd cc
-lack_open v before (refusal.Busy m generation) refused is settled = absurd cc
-lack_open v before (refusal.Worn m) refused is settled = absurd cc
-lack_open v before refusal.Idle refused is settled = absurd cc
-lack_open v before (refusal.Damaged m place) refused is settled = absurd cc
-lack_open v before refusal.NoMemory refused is settled = absurd cc
-
-pub refusal_met : (before : PendingLines) (refused : List Refused) (said : Reply) → IsRefusal refused said → AllByRecursion (RefusedOpen before) refused → MetOpen before said
-refusal_met before refused (Full tries) is met = subst (λ (rs : List Refused). AllByRecursion (RefusedOpen before) rs) (sym is.0) met
-refusal_met before refused (ReadOnly closed) is met = tt
-refusal_met before refused NoMem is met = tt
-refusal_met before refused _ is met = absurd is
-
-met_as : (before : PendingLines) (said said' : Reply) → said' ≡ said → MetOpen before said → MetOpen before said'
-met_as before said said' is met = subst (λ (r : Reply). MetOpen before r) (sym is) met
-
-pub put_met : (before : PendingLines) (v : ℕ) (fault : LogicalFault) (said : Reply) → IsPutReply v fault said → IsSettledAt v before → MetOpen before said
-put_met before v (refusal.Failed m count) said is settled = met_as before _ said is settled
-put_met before v (refusal.ReadOnly m) said is settled = refusal_met before _ said is (tt, tt)
-put_met before v (refusal.Full m end need capacity) said is settled = refusal_met before _ said is (settled, tt)
-put_met before v refusal.NoMemory said is settled = met_as before _ said is tt
-put_met before v (refusal.Gone front) said is settled = absurd is
-put_met before v (refusal.Busy m generation) said is settled = absurd is
-put_met before v (refusal.Worn m) said is settled = absurd is
-put_met before v refusal.Idle said is settled = absurd is
-put_met before v (refusal.Damaged m place) said is settled = absurd is
-
-pub settle_met : (before : PendingLines) (fault : DirFault) (said : Reply) → said ≡ settle_reply fault → MetOpen before said
-settle_met before settling.Frozen said is = met_as before _ said is tt
-settle_met before settling.NoMemory said is = met_as before _ said is tt
-settle_met before (settling.Failed faults) said is = met_as before _ said is tt
-
-pub read_only_met : (before : PendingLines) (v m : ℕ) (said : Reply) → IsReadOnly v m said → MetOpen before said
-read_only_met before v m said (inl closed) = met_as before _ said closed tt
-read_only_met before v m said (inr none) = met_as before _ said none tt
-
-pub delete_met : (before : PendingLines) (v rows : ℕ) (fault : LogicalFault) (said : Reply) → IsDeleteReply v rows fault said → IsSettledAt v before → MetOpen before said
-delete_met before v rows (refusal.Failed m count) said is settled = met_as before _ said is settled
-delete_met before v rows (refusal.Gone front) said is settled = met_as before _ said is settled
-delete_met before v rows (refusal.ReadOnly m) said is settled = read_only_met before v m said is
-delete_met before v rows refusal.NoMemory said is settled = met_as before _ said is tt
-delete_met before v rows (refusal.Damaged m place) said is settled = met_as before _ said is tt
-delete_met before v rows (refusal.Full m end need capacity) said is settled = absurd is
-delete_met before v rows (refusal.Busy m generation) said is settled = absurd is
-delete_met before v rows (refusal.Worn m) said is settled = absurd is
-delete_met before v rows refusal.Idle said is settled = absurd is
 
 -- RESTARTS
 

@@ -1,5 +1,5 @@
 -- Which disks of a store a command leaves as they are.
-use Rattle.std.specs.Prelude.{◌≡◌, ◌≢◌, ◌⊎◌, ℕ, ◌<◌, List, Some, slice_get}
+use Rattle.std.specs.Prelude.{◌≡◌, ◌≢◌, ◌⊎◌, ◌++◌, ◌∷◌, [], ℕ, ◌<◌, List, Some, slice_get}
 use Rattle.hay_needle.specs.declared.needle.Cookie.{Cookie}
 use Rattle.hay_needle.specs.declared.settings.Settings.{Settings}
 use Rattle.hay_script.specs.declared.Command.{Command}
@@ -8,6 +8,10 @@ use Rattle.hay_reply.specs.declared.Reply.{Reply}
 use Rattle.hay_reply.specs.declared.Reply.TheVariants as reply
 use Rattle.hay_logical.specs.declared.fault.LogicalFault.{LogicalFault}
 use Rattle.hay_logical.specs.declared.fault.LogicalFault.TheVariants as refusal
+use Rattle.hay_needle.specs.declared.needle.Pair.{Pair}
+use Rattle.hay_legal.specs.declared.known.HomeRow.{HomeRow}
+use Rattle.hay_directory.specs.Rows.{OpensRows}
+use Rattle.hay_cluster.specs.Pending.{IsSettledAt, PendingLines}
 use Rattle.hay_legal.specs.Known.{disk_count, replica_on, slot_of}
 use Rattle.hay_legal.specs.Stands.{Contents}
 
@@ -43,70 +47,109 @@ LeavesIn Among old new = (slot : ℕ) → Among slot → slice_get new slot ≡ 
 abbrev pub KeepsIn : Settings → (ℕ → Type 0) → (ℕ → Contents) → (ℕ → Contents) → Type 0
 KeepsIn settings Among old new = (slot file : ℕ) → slot < disk_count settings → Among slot → new slot file ≡ old slot file
 
--- A delete that a volume refused leaves every disk, unless one failed.
-abbrev pub DeleteKeeps : Settings → (ℕ → Contents) → (ℕ → Contents) → LogicalFault → Type 0
-DeleteKeeps settings old new (refusal.Failed m f) = Unit {0}
-DeleteKeeps settings old new (refusal.ReadOnly m) = KeepsIn settings AnySlot old new
-DeleteKeeps settings old new (refusal.Full m end need capacity) = KeepsIn settings AnySlot old new
-DeleteKeeps settings old new (refusal.Gone front) = KeepsIn settings AnySlot old new
-DeleteKeeps settings old new (refusal.Busy m generation) = KeepsIn settings AnySlot old new
-DeleteKeeps settings old new (refusal.Worn m) = KeepsIn settings AnySlot old new
-DeleteKeeps settings old new refusal.Idle = KeepsIn settings AnySlot old new
-DeleteKeeps settings old new (refusal.Damaged m at) = KeepsIn settings AnySlot old new
-DeleteKeeps settings old new refusal.NoMemory = KeepsIn settings AnySlot old new
+-- CHANGES
 
--- A put leaves every disk where its volume is closed or lacks room.
-abbrev pub PutKeeps : Settings → (ℕ → Contents) → (ℕ → Contents) → LogicalFault → Type 0
-PutKeeps settings old new (refusal.ReadOnly m) = KeepsIn settings AnySlot old new
-PutKeeps settings old new (refusal.Full m end need capacity) = KeepsIn settings AnySlot old new
-PutKeeps settings old new (refusal.Failed m f) = Unit {0}
-PutKeeps settings old new (refusal.Gone front) = Unit {0}
-PutKeeps settings old new (refusal.Busy m generation) = Unit {0}
-PutKeeps settings old new (refusal.Worn m) = Unit {0}
-PutKeeps settings old new refusal.Idle = Unit {0}
-PutKeeps settings old new (refusal.Damaged m at) = Unit {0}
-PutKeeps settings old new refusal.NoMemory = Unit {0}
+-- nothing was pending in the volume, and something is now
+abbrev pub ComesToPend : ℕ → PendingLines → PendingLines → Type 0
+ComesToPend v before after = IsSettledAt v before × ((line : ℕ) × (slice_get after.changes v ≡ Some (Some line)))
+
+-- Replicas of the volume have what they had that a change never reached: those behind the one on the machine that failed.
+abbrev pub KeepsBehind : Settings → ℕ → ℕ → (ℕ → Contents) → (ℕ → Contents) → Type 0
+KeepsBehind settings v m old new = (i j file : ℕ) → replica_on settings v m ≡ Some i → i < j → j < settings.replicas → new (slot_of settings v j) file ≡ old (slot_of settings v j) file
+
+-- A delete that volume v refused leaves every disk, unless one failed and it is pending: then those behind that one.
+abbrev pub DeleteKeeps : Settings → ℕ → PendingLines → PendingLines → (ℕ → Contents) → (ℕ → Contents) → LogicalFault → Type 0
+DeleteKeeps settings v before after old new (refusal.Failed m f) =
+    (ComesToPend v before after × KeepsBehind settings v m old new) ⊎ KeepsIn settings AnySlot old new
+DeleteKeeps settings v before after old new (refusal.ReadOnly m) = KeepsIn settings AnySlot old new
+DeleteKeeps settings v before after old new (refusal.Full m end need capacity) = KeepsIn settings AnySlot old new
+DeleteKeeps settings v before after old new (refusal.Gone front) = KeepsIn settings AnySlot old new
+DeleteKeeps settings v before after old new (refusal.Busy m generation) = KeepsIn settings AnySlot old new
+DeleteKeeps settings v before after old new (refusal.Worn m) = KeepsIn settings AnySlot old new
+DeleteKeeps settings v before after old new refusal.Idle = KeepsIn settings AnySlot old new
+DeleteKeeps settings v before after old new (refusal.Damaged m at) = KeepsIn settings AnySlot old new
+DeleteKeeps settings v before after old new refusal.NoMemory = KeepsIn settings AnySlot old new
+
+-- A put leaves every disk where its volume is closed or lacks room, and where memory was wanting, unless it is pending.
+abbrev pub PutKeeps : Settings → ℕ → PendingLines → PendingLines → (ℕ → Contents) → (ℕ → Contents) → LogicalFault → Type 0
+PutKeeps settings v before after old new (refusal.Failed m f) = KeepsBehind settings v m old new
+PutKeeps settings v before after old new refusal.NoMemory = ComesToPend v before after ⊎ KeepsIn settings AnySlot old new
+PutKeeps settings v before after old new (refusal.ReadOnly m) = KeepsIn settings AnySlot old new
+PutKeeps settings v before after old new (refusal.Full m end need capacity) = KeepsIn settings AnySlot old new
+PutKeeps settings v before after old new (refusal.Gone front) = Unit {0}
+PutKeeps settings v before after old new (refusal.Busy m generation) = Unit {0}
+PutKeeps settings v before after old new (refusal.Worn m) = Unit {0}
+PutKeeps settings v before after old new refusal.Idle = Unit {0}
+PutKeeps settings v before after old new (refusal.Damaged m at) = Unit {0}
+
+-- The Directory's rows stay, or one of this pair stands behind them.
+abbrev pub AddsRow : Settings → Pair → Contents → Contents → Type 0
+AddsRow settings pair old new =
+    (rows : List HomeRow) → OpensRows settings old rows →
+    OpensRows settings new rows ⊎ ((v : ℕ) × (v < settings.volumes) × OpensRows settings new (rows ++ record { pair = pair; volume = v } ∷ []))
 
 -- COMMANDS
 
--- a put of this reply may have changed the disks of this volume, and a delete
-abbrev pub MayPut : Settings → Reply → ℕ → Type 0
-MayPut settings said v =
+-- A put changes the disks of the volume that stored its photo, or where it is pending now: then of no replica behind the one that
+-- failed.
+abbrev pub MayPut : Reply → PendingLines → PendingLines → (ℕ → Contents) → (ℕ → Contents) → Settings → ℕ → Type 0
+MayPut said before after old new settings v =
     ((p : ℕ) × (d : ℕ) × (c : Cookie) × (said ≡ reply.Stored v p d c))
-    ⊎ ((m : ℕ) × (f : ℕ) × (said ≡ reply.Failed v m f))
-    ⊎ ((v < settings.volumes) × (said ≡ reply.NoMem))
+    ⊎ ((m : ℕ) × (f : ℕ) × (said ≡ reply.Failed v m f) × KeepsBehind settings v m old new)
+    ⊎ ((said ≡ reply.NoMem) × ComesToPend v before after)
 
-abbrev pub MayDelete : Reply → ℕ → Type 0
-MayDelete said v = ((p : ℕ) × (d : ℕ) × (said ≡ reply.Deleted v p d)) ⊎ ((m : ℕ) × (f : ℕ) × (said ≡ reply.Failed v m f))
+-- So does a delete.
+abbrev pub MayDelete : Reply → PendingLines → PendingLines → (ℕ → Contents) → (ℕ → Contents) → Settings → ℕ → Type 0
+MayDelete said before after old new settings v =
+    ((p : ℕ) × (d : ℕ) × (said ≡ reply.Deleted v p d))
+    ⊎ ((m : ℕ) × (f : ℕ) × (said ≡ reply.Failed v m f) × ComesToPend v before after × KeepsBehind settings v m old new)
 
--- A put changes the disks of the volume that stored its photo, or that failed, and the Directory's; where the Directory's disk
--- failed, that alone. Want of memory may come behind a change. Another reply leaves every disk.
-abbrev pub LeavesByPut : Settings → Reply → (ℕ → Contents) → (ℕ → Contents) → Type 0
-LeavesByPut settings said old new =
-    ((v : ℕ) × MayPut settings said v × KeepsIn settings (IsReplicaBeside settings v) old new)
-    ⊎ ((f : ℕ) × (said ≡ reply.FailedDir f) × KeepsIn settings IsReplicaSlot old new)
-    ⊎ KeepsIn settings AnySlot old new
+-- Of the Directory's disk a put adds at most a row of its pair, where it may have: it was stored, or failed, or wanted memory.
+abbrev pub MayAddRow : Reply → Type 0
+MayAddRow said =
+    ((v : ℕ) × (p : ℕ) × (d : ℕ) × (c : Cookie) × (said ≡ reply.Stored v p d c))
+    ⊎ ((v : ℕ) × (m : ℕ) × (f : ℕ) × (said ≡ reply.Failed v m f))
+    ⊎ ((f : ℕ) × (said ≡ reply.FailedDir f))
+    ⊎ (said ≡ reply.NoMem)
 
--- A delete changes the disks of the volume that deleted the photo, or that failed.
-abbrev pub LeavesByDelete : Settings → Reply → (ℕ → Contents) → (ℕ → Contents) → Type 0
-LeavesByDelete settings said old new =
-    ((v : ℕ) × MayDelete said v × KeepsIn settings (IsBeside settings v) old new) ⊎ KeepsIn settings AnySlot old new
+-- of the replicas' disks a put changes those of one volume
+abbrev pub LeavesReplicas : Settings → Reply → PendingLines → PendingLines → (ℕ → Contents) → (ℕ → Contents) → Type 0
+LeavesReplicas settings said before after old new =
+    ((v : ℕ) × MayPut said before after old new settings v × KeepsIn settings (IsReplicaBeside settings v) old new) ⊎ KeepsIn settings IsReplicaSlot old new
 
--- What reads give of the disks is changed by puts and deletes as their replies tell, and by work on a replica of that replica's disk
--- alone. Where there is no such replica, every disk stays; so it does with reads, drains and fuses.
-abbrev pub LeavesContents : Settings → Command → Reply → (ℕ → Contents) → (ℕ → Contents) → Type 0
-LeavesContents settings (asks.Put pair photo) said old new = LeavesByPut settings said old new
-LeavesContents settings (asks.Read pair cookie) said old new = KeepsIn settings AnySlot old new
-LeavesContents settings (asks.Get url) said old new = KeepsIn settings AnySlot old new
-LeavesContents settings (asks.Del pair) said old new = LeavesByDelete settings said old new
-LeavesContents settings (asks.Url pair) said old new = KeepsIn settings AnySlot old new
-LeavesContents settings (asks.Flush v m) said old new = KeepsIn settings (IsApartOn settings v m) old new
-LeavesContents settings (asks.Drain m) said old new = KeepsIn settings AnySlot old new
-LeavesContents settings (asks.Undrain m) said old new = KeepsIn settings AnySlot old new
-LeavesContents settings (asks.Fuse v m calls) said old new = KeepsIn settings AnySlot old new
-LeavesContents settings (asks.FuseDir calls) said old new = KeepsIn settings AnySlot old new
-LeavesContents settings (asks.Compact v m) said old new = KeepsIn settings (IsApartOn settings v m) old new
-LeavesContents settings (asks.Begin v m) said old new = KeepsIn settings (IsApartOn settings v m) old new
-LeavesContents settings (asks.Step v m cells) said old new = KeepsIn settings (IsApartOn settings v m) old new
-LeavesContents settings (asks.Finish v m) said old new = KeepsIn settings (IsApartOn settings v m) old new
-LeavesContents settings (asks.Restart pick) said old new = Unit {0}
+pub record LeavesByPut (settings : Settings) (pair : Pair) (said : Reply) (before after : PendingLines) (old new : ℕ → Contents) : Type 0 where
+  pub replicas : LeavesReplicas settings said before after old new
+  pub rows : (MayAddRow said × AddsRow settings pair (old 0) (new 0)) ⊎ (new 0 ≡ old 0)
+
+abbrev pub LeavesByDelete : Settings → Reply → PendingLines → PendingLines → (ℕ → Contents) → (ℕ → Contents) → Type 0
+LeavesByDelete settings said before after old new =
+    ((v : ℕ) × MayDelete said before after old new settings v × KeepsIn settings (IsBeside settings v) old new) ⊎ KeepsIn settings AnySlot old new
+
+-- Work on a replica changes its disk alone, and only where it was done, failed, met a damaged needle or wanted memory.
+abbrev pub MayWork : Reply → Type 0
+MayWork said =
+    ((v : ℕ) × (m : ℕ) × (n : ℕ) × ((said ≡ reply.Flushed v m n) ⊎ (said ≡ reply.Begun v m n) ⊎ (said ≡ reply.Stepped v m n) ⊎ (said ≡ reply.Compacted v m n)
+    ⊎ (said ≡ reply.Failed v m n) ⊎ (said ≡ reply.Damaged v m n)))
+    ⊎ (said ≡ reply.NoMem)
+
+abbrev pub LeavesByWork : Settings → ℕ → ℕ → Reply → (ℕ → Contents) → (ℕ → Contents) → Type 0
+LeavesByWork settings v m said old new = (MayWork said × KeepsIn settings (IsApartOn settings v m) old new) ⊎ KeepsIn settings AnySlot old new
+
+-- What reads give of the disks is changed by puts, deletes and work as their replies tell. Where there is no such replica, every disk
+-- stays; so it does with reads, drains and fuses.
+abbrev pub LeavesContents : Settings → Command → Reply → PendingLines → PendingLines → (ℕ → Contents) → (ℕ → Contents) → Type 0
+LeavesContents settings (asks.Put pair photo) said before after old new = LeavesByPut settings pair said before after old new
+LeavesContents settings (asks.Del pair) said before after old new = LeavesByDelete settings said before after old new
+LeavesContents settings (asks.Flush v m) said before after old new = LeavesByWork settings v m said old new
+LeavesContents settings (asks.Compact v m) said before after old new = LeavesByWork settings v m said old new
+LeavesContents settings (asks.Begin v m) said before after old new = LeavesByWork settings v m said old new
+LeavesContents settings (asks.Step v m cells) said before after old new = LeavesByWork settings v m said old new
+LeavesContents settings (asks.Finish v m) said before after old new = LeavesByWork settings v m said old new
+LeavesContents settings (asks.Read pair cookie) said before after old new = KeepsIn settings AnySlot old new
+LeavesContents settings (asks.Get url) said before after old new = KeepsIn settings AnySlot old new
+LeavesContents settings (asks.Url pair) said before after old new = KeepsIn settings AnySlot old new
+LeavesContents settings (asks.Drain m) said before after old new = KeepsIn settings AnySlot old new
+LeavesContents settings (asks.Undrain m) said before after old new = KeepsIn settings AnySlot old new
+LeavesContents settings (asks.Fuse v m calls) said before after old new = KeepsIn settings AnySlot old new
+LeavesContents settings (asks.FuseDir calls) said before after old new = KeepsIn settings AnySlot old new
+LeavesContents settings (asks.Restart pick) said before after old new = Unit {0}

@@ -1,5 +1,6 @@
 pub mod Causes
 pub mod Changes
+pub mod Closing
 pub mod Faults
 pub mod Lacks
 pub mod Leaving

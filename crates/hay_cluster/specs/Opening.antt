@@ -80,6 +80,8 @@ pub record OpensVolume {D P : Type 0} (DiskTells : Type 0) (files : D → Files)
   pub told : NotesTell old.settings old.number old.unsure notes
   pub fits : AllByRecursion FitsNote notes
   pub settled : new.unsure ≡ None
+  pub thawed : new.frozen ≡ None
+  pub formatted : DiskTells → (j : ℕ) (r : Copy D) → At new.replicas j r → contents_of files r.disk 0 ≡ [] → ⊥
 
 -- Volume v was not opened, by one of its disks.
 pub record IsRefusedBy {D P : Type 0} (DiskTells : Type 0) (files : D → Files) (faults : D → ℕ) (settings : Settings) (v : ℕ) (old new : Volume D P) (fault : ClusterFault) : Type 0 where
@@ -170,6 +172,7 @@ pub record OpensDirectory {D : Type 0} (DiskTells : Type 0) (files : D → Files
   pub told : noting.NotesTell (directory.unsure_of old.mode) notes
   pub fits : AllByRecursion FitsNote notes
   pub serves : new.mode ≡ mode.Open
+  pub undrained : new.drained ≡ replicate (old.settings).machines false
 
 -- why the Directory was not opened
 abbrev pub RefusesDirectory : {D : Type 0} → Type 0 → (D → Files) → (D → ℕ) → State D → State D → ClusterFault → Type 0

@@ -44,6 +44,12 @@ IsKept slot old new = WasVoid slot old new ⊎ (new.files ≡ old.files) ⊎ Lea
 abbrev pub KeepsContents : Settings → (ℕ → Contents) → (ℕ → Contents) → Type 0
 KeepsContents settings old new = (slot file : ℕ) → slot < disk_count settings → (IsVoid (old slot) → ⊥) → new slot file ≡ old slot file
 
+-- Each disk that was void is so no longer, and an opening finds nothing in its slot.
+abbrev pub FormatsVoid : Settings → (ℕ → Contents) → (ℕ → Contents) → Type 0
+FormatsVoid settings old new =
+    (slot : ℕ) → slot < disk_count settings → IsVoid (old slot) →
+    (IsVoid (new slot) → ⊥) × FindsNothing (IsReplica settings) (OpensRows settings) settings slot (new slot)
+
 -- The counts of a slot's disk behind an opening: its fuses are those from before.
 pub record CountsOn (old : HeldDisk) (faults fuses : ℕ) : Type 0 where
   pub faults_rise : old.fault_count ≤ faults

@@ -5,8 +5,6 @@ use Rattle.hay_needle.specs.declared.settings.Settings.{Settings}
 use Rattle.hay_script.specs.declared.Command.{Command}
 use Rattle.hay_script.specs.declared.Command.TheVariants as asks
 use Rattle.hay_reply.specs.declared.Note.{Note}
-use Rattle.hay_reply.specs.declared.Refused.{Refused}
-use Rattle.hay_reply.specs.declared.Refused.TheVariants as refused
 use Rattle.hay_reply.specs.declared.Reply.{Reply}
 use Rattle.hay_reply.specs.declared.Reply.TheVariants as reply
 use Rattle.hay_reply.specs.declared.Reply.TheVariants.{Failed, FailedDir, NoMem}
@@ -116,50 +114,10 @@ LeavesPut settings line said before after =
 abbrev pub LeavesDelete : ℕ → Reply → PendingLines → PendingLines → Type 0
 LeavesDelete line said before after = FailsPending line said before after ⊎ (after ≡ before)
 
--- a volume that lacks room takes changes
-abbrev pub RefusedOpen : PendingLines → Refused → Type 0
-RefusedOpen before (refused.Closed v m) = Unit {0}
-RefusedOpen before (refused.NoRoom v m end need) = IsSettledAt v before
-
--- A change is made, fails, finds nothing or lacks room only where nothing was pending in its volume.
-abbrev pub MetOpen : PendingLines → Reply → Type 0
-MetOpen before (reply.Stored v p d c) = IsSettledAt v before
-MetOpen before (reply.Deleted v p d) = IsSettledAt v before
-MetOpen before (reply.Absent v f d) = IsSettledAt v before
-MetOpen before (reply.Failed v m n) = IsSettledAt v before
-MetOpen before (reply.Full tries) = AllByRecursion (RefusedOpen before) tries
-MetOpen before (reply.ReadOnly tries) = Unit {0}
-MetOpen before reply.ReadOnlyDir = Unit {0}
-MetOpen before (reply.FailedDir n) = Unit {0}
-MetOpen before (reply.Damaged v m at) = Unit {0}
-MetOpen before (reply.Photo v m f d photo) = Unit {0}
-MetOpen before (reply.Gone v m f d) = Unit {0}
-MetOpen before (reply.WrongCookie v m f d) = Unit {0}
-MetOpen before (reply.Unknown d) = Unit {0}
-MetOpen before (reply.Moved v d) = Unit {0}
-MetOpen before (reply.Url d url) = Unit {0}
-MetOpen before (reply.Unreadable v f d causes) = Unit {0}
-MetOpen before (reply.Flushed v m n) = Unit {0}
-MetOpen before (reply.Begun v m n) = Unit {0}
-MetOpen before (reply.Stepped v m n) = Unit {0}
-MetOpen before (reply.Compacted v m n) = Unit {0}
-MetOpen before (reply.Busy v m n) = Unit {0}
-MetOpen before (reply.Idle v m) = Unit {0}
-MetOpen before (reply.Worn v m) = Unit {0}
-MetOpen before (reply.Drained m) = Unit {0}
-MetOpen before (reply.Undrained m) = Unit {0}
-MetOpen before (reply.Fused v m calls) = Unit {0}
-MetOpen before (reply.FusedDir calls) = Unit {0}
-MetOpen before reply.Nowhere = Unit {0}
-MetOpen before (reply.Restarted d) = Unit {0}
-MetOpen before reply.BadLine = Unit {0}
-MetOpen before reply.Unbuilt = Unit {0}
-MetOpen before reply.NoMem = Unit {0}
-
 -- what the reply to the command of this line leaves pending; a restart is not answered by one
 abbrev pub LeavesPending : Settings → ℕ → Command → Reply → PendingLines → PendingLines → Type 0
-LeavesPending settings line (asks.Put pair photo) said before after = LeavesPut settings line said before after × MetOpen before said
-LeavesPending settings line (asks.Del pair) said before after = LeavesDelete line said before after × MetOpen before said
+LeavesPending settings line (asks.Put pair photo) said before after = LeavesPut settings line said before after
+LeavesPending settings line (asks.Del pair) said before after = LeavesDelete line said before after
 LeavesPending settings line (asks.Read pair cookie) said before after = after ≡ before
 LeavesPending settings line (asks.Get url) said before after = after ≡ before
 LeavesPending settings line (asks.Url pair) said before after = after ≡ before

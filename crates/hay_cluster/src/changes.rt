@@ -1,5 +1,5 @@
 //! Deletes, drains and fuses, and the URLs of photos.
-ghost use Rattle.std.specs.Prelude.{◌≡◌, ℕ, map};
+ghost use Rattle.std.specs.Prelude.{◌≡◌, ℕ, false, true, map};
 ghost use Rattle.hay_script.specs.declared.Command.TheVariants as asks;
 ghost use Rattle.hay_core.specs.declared.entry.CoreTag.{CoreTag};
 ghost use Rattle.hay_reply.specs.Fits.{FitsReply};
@@ -7,8 +7,9 @@ ghost use Rattle.hay_legal.specs.declared.known.Known.{Known};
 ghost use Rattle.hay_legal.specs.Known.{NoneFalls};
 ghost use Rattle.hay_cluster.specs.Causes.{IsCaused, RefusesDelete, SetsFuse, SetsFuseOn};
 ghost use Rattle.hay_cluster.specs.Changes.{IsDeleteReply, IsReadOnly};
+ghost use Rattle.hay_cluster.specs.Closing.{Drains, FailureMayClose, MetByChange, closures_of};
 ghost use Rattle.hay_cluster.specs.Leaving.{AnySlot, KeepsIn, LeavesByDelete};
-ghost use Rattle.hay_cluster.specs.Pending.{LeavesDelete, MetOpen, pending_of};
+ghost use Rattle.hay_cluster.specs.Pending.{LeavesDelete, pending_of};
 ghost use Rattle.hay_cluster.specs.State.{Answered, Stands};
 ghost use Rattle.hay_cluster.specs.Store.{IsUp, contents_in, disks_of};
 ghost use Rattle.hay_cluster.specs.Suiting.{Suits};
@@ -39,10 +40,11 @@ impl<D: Disk, A: Arm<D::Piece>> Cluster<D, A> {
         ensures fits { FitsReply result }
         ensures counts { NoneFalls (map D.fault_count (disks_of self.old)) (map D.fault_count (disks_of self.new)) }
         ensures fuses { map D.fuse_count (disks_of self.new) ≡ map D.fuse_count (disks_of self.old) }
-        ensures contents { D.Tells → LeavesByDelete self.old.settings result (contents_in D.files self.old) (contents_in D.files self.new) }
+        ensures contents { D.Tells → LeavesByDelete self.old.settings result (pending_of self.old) (pending_of self.new) (contents_in D.files self.old) (contents_in D.files self.new) }
         ensures arms { self.new.arms ≡ self.old.arms }
         ensures pending { LeavesDelete tag.line result (pending_of self.old) (pending_of self.new) }
-        ensures met { MetOpen (pending_of self.old) result }
+        ensures met { MetByChange self.old.settings (closures_of self.old) (pending_of self.old) result }
+        ensures closures { FailureMayClose result (closures_of self.old) (closures_of self.new) }
         ensures settings { self.new.settings ≡ self.old.settings }
         ensures up { IsUp self.new }
     {
@@ -78,6 +80,7 @@ impl<D: Disk, A: Arm<D::Piece>> Cluster<D, A> {
         ensures disks { disks_of self.new ≡ disks_of self.old }
         ensures arms { self.new.arms ≡ self.old.arms }
         ensures pending { pending_of self.new ≡ pending_of self.old }
+        ensures closures { closures_of self.new ≡ closures_of self.old }
         ensures settings { self.new.settings ≡ self.old.settings }
         ensures up { IsUp self.new }
     {
@@ -112,6 +115,7 @@ impl<D: Disk, A: Arm<D::Piece>> Cluster<D, A> {
         ensures disks { disks_of self.new ≡ disks_of self.old }
         ensures arms { self.new.arms ≡ self.old.arms }
         ensures pending { pending_of self.new ≡ pending_of self.old }
+        ensures closures { Drains machine true (Reply.Drained machine) result (closures_of self.old) (closures_of self.new) }
         ensures settings { self.new.settings ≡ self.old.settings }
         ensures up { IsUp self.new }
     {
@@ -137,6 +141,7 @@ impl<D: Disk, A: Arm<D::Piece>> Cluster<D, A> {
         ensures disks { disks_of self.new ≡ disks_of self.old }
         ensures arms { self.new.arms ≡ self.old.arms }
         ensures pending { pending_of self.new ≡ pending_of self.old }
+        ensures closures { Drains machine false (Reply.Undrained machine) result (closures_of self.old) (closures_of self.new) }
         ensures settings { self.new.settings ≡ self.old.settings }
         ensures up { IsUp self.new }
     {
@@ -162,6 +167,7 @@ impl<D: Disk, A: Arm<D::Piece>> Cluster<D, A> {
         ensures contents { D.Tells → KeepsIn self.old.settings AnySlot (contents_in D.files self.old) (contents_in D.files self.new) }
         ensures arms { self.new.arms ≡ self.old.arms }
         ensures pending { pending_of self.new ≡ pending_of self.old }
+        ensures closures { closures_of self.new ≡ closures_of self.old }
         ensures settings { self.new.settings ≡ self.old.settings }
         ensures up { IsUp self.new }
     {
@@ -191,6 +197,7 @@ impl<D: Disk, A: Arm<D::Piece>> Cluster<D, A> {
         ensures contents { D.Tells → KeepsIn self.old.settings AnySlot (contents_in D.files self.old) (contents_in D.files self.new) }
         ensures arms { self.new.arms ≡ self.old.arms }
         ensures pending { pending_of self.new ≡ pending_of self.old }
+        ensures closures { closures_of self.new ≡ closures_of self.old }
         ensures settings { self.new.settings ≡ self.old.settings }
         ensures up { IsUp self.new }
     {

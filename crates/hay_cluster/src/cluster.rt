@@ -5,6 +5,7 @@ ghost use Rattle.hay_legal.specs.Known.{NoneFalls};
 ghost use Rattle.hay_script.specs.Script.{IsWithin};
 ghost use Rattle.hay_reply.specs.Fits.{FitsReply};
 ghost use Rattle.hay_cluster.specs.Causes.{BlamesNoArm, IsCaused, LeavesFuses, StaySure};
+ghost use Rattle.hay_cluster.specs.Closing.{LeavesClosures, MetClosures, closures_of};
 ghost use Rattle.hay_cluster.specs.Leaving.{LeavesContents};
 ghost use Rattle.hay_cluster.specs.Pending.{LeavesPending, pending_of};
 ghost use Rattle.hay_cluster.specs.State.{Answered, Stands};
@@ -77,10 +78,13 @@ impl<D: Disk, A: Arm<D::Piece>> Cluster<D, A> {
         // A fuse is set by its command alone, on the disk that it names.
         ensures fuses { LeavesFuses self.old.settings command.now (map D.fuse_count (disks_of self.old)) (map D.fuse_count (disks_of self.new)) }
         // What reads give of the disks is changed as the reply tells, and by work on a replica on its disk alone.
-        ensures contents { D.Tells → LeavesContents self.old.settings command.now result (contents_in D.files self.old) (contents_in D.files self.new) }
+        ensures contents { D.Tells → LeavesContents self.old.settings command.now result (pending_of self.old) (pending_of self.new) (contents_in D.files self.old) (contents_in D.files self.new) }
         ensures arm_counts { NoneFalls (map A.fault_count self.old.arms) (map A.fault_count self.new.arms) }
-        // A change or a row is pending only where its own line failed, or wanted memory; and a volume where one is takes no other.
+        // A change or a row is pending only where its own line failed, or wanted memory.
         ensures pending { LeavesPending self.old.settings tag.line command.now result (pending_of self.old) (pending_of self.new) }
+        // What a reply tells of closed volumes is so, and it is left as the reply tells.
+        ensures met { MetClosures self.old.settings command.now (closures_of self.old) (pending_of self.old) result }
+        ensures closures { LeavesClosures self.old.settings command.now result (closures_of self.old) (closures_of self.new) }
         ensures settings { self.new.settings ≡ self.old.settings }
         ensures up { IsUp self.new }
     {

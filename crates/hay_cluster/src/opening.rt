@@ -16,8 +16,9 @@ ghost use Rattle.hay_logical.specs.Fits.{IsReplica};
 ghost use Rattle.hay_logical.specs.Stands.{IsIdleVolume};
 ghost use Rattle.hay_logical.specs.Volumes.{IsClosed, IsOfSettings};
 ghost use Rattle.hay_cluster.specs.Causes.{HasFaultCause};
+ghost use Rattle.hay_cluster.specs.Closing.{closures_of, none_closed};
 ghost use Rattle.hay_cluster.specs.Draws.{DrawsVolume, EachDrewLittle, FlushedDrewLittle, StopsDrawing, drawn_in, looked_in, no_look, none_drawn};
-ghost use Rattle.hay_cluster.specs.Outside.{CountsOn, IsDamagedDisk, IsKept, IsUndamaged, IsUndamagedBelow, KeepsContents, outside_of, read_of};
+ghost use Rattle.hay_cluster.specs.Outside.{CountsOn, FormatsVoid, IsDamagedDisk, IsKept, IsUndamaged, IsUndamagedBelow, IsVoid, KeepsContents, outside_of, read_of};
 ghost use Rattle.hay_cluster.specs.Opening.{FillsVolume, Gathers, IsResting, IsEmptyVolume, MovesDirectory, MovesVolume, OpensDirectory, OpensParts, OpensVolume, RefusesDirectory, RefusesParts, RefusesVolume, RefusesVolumes, StopsDirectory, StopsVolume};
 ghost use Rattle.hay_cluster.specs.Pending.{TellsPending, none_pending, pending_of};
 ghost use Rattle.hay_cluster.specs.State.{LeftAt, Stands};
@@ -55,6 +56,7 @@ impl<D: Disk, A: Arm<D::Piece>> Cluster<D, A> {
         ensures sound { D.Tells → OnOk result (IsUndamaged settings (λ slot. read_of (H.disks shelf.old slot))) }
         // Nothing that a disk had is changed but where it was void: whether the store was opened or not.
         ensures contents { D.Tells → IfOk result (λ store. KeepsContents settings (λ slot. read_of (H.disks shelf.old slot)) (contents_in D.files store)) }
+        ensures formatted { D.Tells → IfOk result (λ store. FormatsVoid settings (λ slot. read_of (H.disks shelf.old slot)) (contents_in D.files store)) }
         ensures contents_back { D.Tells → OnErr result (KeepsContents settings (λ slot. read_of (H.disks shelf.old slot)) (λ slot. read_of (H.disks shelf.new slot))) }
         // Of each volume file it read little more than the needles that have no record: of one whose needles all have theirs,
         // the superblock, the head of the last needle and the end mark.
@@ -66,6 +68,7 @@ impl<D: Disk, A: Arm<D::Piece>> Cluster<D, A> {
         ensures settings { IfOk result (λ store. store.settings ≡ settings) }
         ensures up { IfOk result IsUp }
         ensures settled { IfOk result (λ store. pending_of store ≡ none_pending settings) }
+        ensures closures { IfOk result (λ store. closures_of store ≡ none_closed settings) }
         ensures counts { IfOk result (λ store. (slot : ℕ) → slot < disk_count settings →
             CountsOn (H.disks shelf.old slot) (slice_index (map D.fault_count (disks_of store)) slot) (slice_index (map D.fuse_count (disks_of store)) slot)) }
         ensures arm_counts { IfOk result (λ store. (lane : ℕ) → lane < 8 →
@@ -122,6 +125,7 @@ impl<D: Disk, A: Arm<D::Piece>> Cluster<D, A> {
         ensures told { IfOk result (TellsPending self.old.settings (pending_of self.old)) }
         ensures fits { IfOk result (AllByRecursion FitsNote) }
         ensures settled { OnOk result (pending_of self.new ≡ none_pending self.old.settings) }
+        ensures closures { OnOk result (closures_of self.new ≡ none_closed self.old.settings) }
         ensures up { OnOk result (IsUp self.new) }
         // Nothing that it read of a disk is damaged.
         ensures sound { D.Tells → OnOk result (IsUndamaged self.old.settings (contents_in D.files self.new)) }
@@ -134,6 +138,10 @@ impl<D: Disk, A: Arm<D::Piece>> Cluster<D, A> {
             Stands D.files D.Piece.Tells D.fault_count D.fuse_count A.fault_count self.old k →
             OnErr result (LeftAt D.files D.fault_count D.fuse_count A.fault_count k self.new) }
         ensures cause { IfErr result (HasFaultCause self.old.settings (map D.fault_count (disks_of self.old)) (map D.fault_count (disks_of self.new))) }
+        // No disk is void then.
+        ensures formatted { D.Tells → (k : Known) →
+            Stands D.files D.Piece.Tells D.fault_count D.fuse_count A.fault_count self.old k →
+            OnErr result ((slot : ℕ) → slot < disk_count self.new.settings → IsVoid (contents_in D.files self.new slot) → ⊥) }
         ensures whole { D.Tells → (k : Known) →
             Stands D.files D.Piece.Tells D.fault_count D.fuse_count A.fault_count self.old k →
             (slot file at : ℕ) → result ≡ Err (ClusterFault.Damaged slot file at) → ⊥ }
@@ -235,8 +243,8 @@ fn open_directory<D: Disk>(
     ensures refused { IfErr result (RefusesDirectory D.Tells D.files D.fault_count directory.old directory.new) }
     ensures moves { MovesDirectory D.Tells D.files D.fault_count D.fuse_count directory.old directory.new }
 {
-    match directory.open(alloc) {
-        Ok(notes) => Ok(notes),
+    match directory.open_rows(alloc) {
+        Ok(opened) => Ok(opened.notes),
         Err(fault) => Err(no_directory(fault)),
     }
 }

@@ -12,6 +12,7 @@ ghost use Rattle.hay_legal.specs.Known.{NoneFalls, home_of, slot_of, volume_at};
 ghost use Rattle.hay_legal.specs.Plain.{start_of};
 ghost use Rattle.hay_cluster.specs.Causes.{BlamesNoArm, IsCaused, StaySure};
 ghost use Rattle.hay_cluster.specs.Reads.{CannotSee, FoundNoArm, FoundPasses, FoundSays, IsFoundAs, IsSeenAt, IsSeenByAt, IsSightCause, IsSightFault, IsWhole, PassesFrom, PassesNoArm, ReadNoArm, ReadPasses, ReadSays, ShownAs, StopsUnseen, counts_of, outcomes_of, passed_at};
+ghost use Rattle.hay_cluster.specs.Closing.{closures_of};
 ghost use Rattle.hay_cluster.specs.Leaving.{AnySlot, KeepsIn};
 ghost use Rattle.hay_cluster.specs.Parts.{Comes};
 ghost use Rattle.hay_cluster.specs.Pending.{pending_of};
@@ -71,6 +72,7 @@ impl<D: Disk, A: Arm<D::Piece>> Cluster<D, A> {
         ensures contents { D.Tells → KeepsIn self.old.settings AnySlot (contents_in D.files self.old) (contents_in D.files self.new) }
         ensures arm_counts { NoneFalls (map A.fault_count self.old.arms) (map A.fault_count self.new.arms) }
         ensures pending { pending_of self.new ≡ pending_of self.old }
+        ensures closures { closures_of self.new ≡ closures_of self.old }
         ensures settings { self.new.settings ≡ self.old.settings }
         ensures up { IsUp self.new }
     {
@@ -99,6 +101,7 @@ impl<D: Disk, A: Arm<D::Piece>> Cluster<D, A> {
         ensures contents { D.Tells → KeepsIn self.old.settings AnySlot (contents_in D.files self.old) (contents_in D.files self.new) }
         ensures arm_counts { NoneFalls (map A.fault_count self.old.arms) (map A.fault_count self.new.arms) }
         ensures pending { pending_of self.new ≡ pending_of self.old }
+        ensures closures { closures_of self.new ≡ closures_of self.old }
         ensures settings { self.new.settings ≡ self.old.settings }
         ensures up { IsUp self.new }
     {
@@ -145,6 +148,7 @@ impl<D: Disk, A: Arm<D::Piece>> Cluster<D, A> {
         ensures contents { D.Tells → KeepsIn self.old.settings AnySlot (contents_in D.files self.old) (contents_in D.files self.new) }
         ensures arm_counts { NoneFalls (map A.fault_count self.old.arms) (map A.fault_count self.new.arms) }
         ensures pending { pending_of self.new ≡ pending_of self.old }
+        ensures closures { closures_of self.new ≡ closures_of self.old }
         ensures settings { self.new.settings ≡ self.old.settings }
         ensures up { IsUp self.new }
     {
@@ -219,6 +223,7 @@ impl<D: Disk, A: Arm<D::Piece>> Cluster<D, A> {
         ensures contents { D.Tells → KeepsIn self.old.settings AnySlot (contents_in D.files self.old) (contents_in D.files self.new) }
         ensures arm_counts { NoneFalls (map A.fault_count self.old.arms) (map A.fault_count self.new.arms) }
         ensures pending { pending_of self.new ≡ pending_of self.old }
+        ensures closures { closures_of self.new ≡ closures_of self.old }
         ensures settings { self.new.settings ≡ self.old.settings }
         ensures up { IsUp self.new }
     {
@@ -266,6 +271,7 @@ impl<D: Disk, A: Arm<D::Piece>> Cluster<D, A> {
         ensures disks { disks_of self.new ≡ disks_of self.old }
         ensures arm_counts { NoneFalls (map A.fault_count self.old.arms) (map A.fault_count self.new.arms) }
         ensures pending { pending_of self.new ≡ pending_of self.old }
+        ensures closures { closures_of self.new ≡ closures_of self.old }
         ensures settings { self.new.settings ≡ self.old.settings }
         ensures up { IsUp self.new }
     {
@@ -317,6 +323,7 @@ impl<D: Disk, A: Arm<D::Piece>> Cluster<D, A> {
         ensures disks { disks_of self.new ≡ disks_of self.old }
         ensures arm_counts { NoneFalls (map A.fault_count self.old.arms) (map A.fault_count self.new.arms) }
         ensures pending { pending_of self.new ≡ pending_of self.old }
+        ensures closures { closures_of self.new ≡ closures_of self.old }
         ensures settings { self.new.settings ≡ self.old.settings }
         ensures up { IsUp self.new }
     {
@@ -397,6 +404,7 @@ impl<D: Disk, A: Arm<D::Piece>> Cluster<D, A> {
         ensures disks { disks_of self.new ≡ disks_of self.old }
         ensures arm_counts { NoneFalls (map A.fault_count self.old.arms) (map A.fault_count self.new.arms) }
         ensures pending { pending_of self.new ≡ pending_of self.old }
+        ensures closures { closures_of self.new ≡ closures_of self.old }
         ensures settings { self.new.settings ≡ self.old.settings }
         ensures up { IsUp self.new }
     {
@@ -441,6 +449,7 @@ impl<D: Disk, A: Arm<D::Piece>> Cluster<D, A> {
         ensures contents { D.Tells → KeepsIn self.old.settings AnySlot (contents_in D.files self.old) (contents_in D.files self.new) }
         ensures arms { self.new.arms ≡ self.old.arms }
         ensures pending { pending_of self.new ≡ pending_of self.old }
+        ensures closures { closures_of self.new ≡ closures_of self.old }
         ensures settings { self.new.settings ≡ self.old.settings }
         ensures up { IsUp self.new }
     {
@@ -480,6 +489,7 @@ impl<D: Disk, A: Arm<D::Piece>> Cluster<D, A> {
         ensures contents { D.Tells → KeepsIn self.old.settings AnySlot (contents_in D.files self.old) (contents_in D.files self.new) }
         ensures arms { self.new.arms ≡ self.old.arms }
         ensures pending { pending_of self.new ≡ pending_of self.old }
+        ensures closures { closures_of self.new ≡ closures_of self.old }
         ensures settings { self.new.settings ≡ self.old.settings }
         ensures up { IsUp self.new }
     {

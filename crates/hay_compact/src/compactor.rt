@@ -116,6 +116,13 @@ impl Compactor {
         self.generation
     }
 
+    /// How many cells the new volume file has.
+    pub fn copied(&self) -> u64
+        ensures { result ≡ length self.now.index.pending }
+    {
+        self.index.pending() as u64
+    }
+
     /// Whether all cells of the current volume file were examined.
     pub fn ready(&self, old: &VolumeFile) -> bool
         ensures end { IsTrue result ↔ (old.now.end ≤ self.now.next) }

@@ -178,6 +178,12 @@ sound_failed Tells files d d' tag row is t frozen settings drains kept leaves co
       );
 }
 
+-- something is known of a directory that is up
+pub stood_now : {D : Type 0} (Tells : Type 0) (files : D → Files) (d old : State D) → IsSound Tells files d → d ≡ old → is_closed old.mode ≡ false → Tells → (known : DirKnown) × Stands files old known old.drained
+unfolding Stands
+stood_now {D} Tells files d old sound is up tells =
+    subst (λ (x : State D). (known : DirKnown) × StandsFor files x known x.drained) is (sound.stands tells (ap (λ (x : State D). is_closed x.mode) is ∙ up))
+
 -- BEHIND A FUSE OR A DRAIN
 
 -- another disk with the same files, and other drains

@@ -12,7 +12,7 @@ ghost use Rattle.hay_legal.specs.declared.known.HomeRow.{HomeRow};
 ghost use Rattle.hay_legal.specs.Known.{home_in};
 ghost use Rattle.hay_legal.specs.Restarts.{directory_with, kept_row, row_notes};
 ghost use Rattle.hay_directory.specs.Notes.{NotesTell};
-ghost use Rattle.hay_directory.specs.Homes.{KeepsHomes, SetsHome};
+ghost use Rattle.hay_directory.specs.Homes.{HomesWithin, KeepsHomes, SetsHome};
 ghost use Rattle.hay_directory.specs.Rows.{OpensRows, RowsWithin, dir_row, home_row, journal_super};
 ghost use Rattle.hay_directory.specs.State.{Holds, IsClosed, IsFresh, IsFrozen, IsRowWritten, IsUnshown, IsUp, LeavesMode, Stands, Stopped, home_of, is_frozen, unsure_of};
 
@@ -20,13 +20,14 @@ use crate::fault::DirFault;
 use crate::homes::Homes;
 use crate::load::{Loaded, load};
 use crate::mode::{Mode, Unsure, WrittenRow};
-use hay_base::Listed;
+use hay_base::{Listed, NoMemory};
 use hay_core::CoreTag;
 use hay_dirfile::{DirRow, Journal, OpenFault};
 use hay_disk::{Disk, DiskFault};
 use hay_needle::{Pair, Settings};
 use hay_reply::Note;
 use std::alloc::Global;
+use std::collections::HashMap;
 use std::marker::Model;
 
 // The most machines that settings may have.
@@ -226,6 +227,14 @@ impl<D: Disk> Directory<D> {
         self.homes.get(pair)
     }
 
+    /// The table of the homes once more: the volume of each pair that has one.
+    pub fn copy_homes(&self) -> Result<HashMap<(u64, u32), u32>, NoMemory>
+        ensures same { IfOk result (λ homes. homes.entries ≡ self.now.homes) }
+        ensures within { HomesWithin self.now.settings.volumes self.now.homes }
+    {
+        self.homes.copy()
+    }
+
     /// How many rows there are.
     pub fn rows(&self) -> u64
         ensures count { result ≡ self.now.count }
@@ -263,9 +272,13 @@ impl<D: Disk> Directory<D> {
               pending = Some (record { tag = tag; row = record { pair = pair; volume = volume } });
             }) drained }
 
+        // Something is known of a directory at any time.
+        ensures stood { D.Tells → (known : DirKnown) × Stands D.files self.old known self.old.drained }
         // Whatever the disk has, the row is pending only where it failed.
         ensures mode { OnOk result (self.new.mode ≡ self.old.mode) }
         ensures refused_mode { IfErr result (LeavesMode (record { tag = tag; row = record { pair = pair; volume = volume } }) self.old.mode self.new.mode) }
+
+        ensures drained { self.new.drained ≡ self.old.drained }
 
         // A frozen directory refuses, and nothing else is refused so.
         ensures frozen { IsFrozen self.old → IsErrOf result DirFault.Frozen }
@@ -295,6 +308,7 @@ impl<D: Disk> Directory<D> {
         ensures written { D.Tells → (known : DirKnown) (drained : List Bool) → Stands D.files self.old known drained →
             OnOk result (IsRowWritten D.files self.new known drained (home_row row)) }
         // Something is known of a directory at any time.
+        ensures stood { D.Tells → (known : DirKnown) × Stands D.files self.old known self.old.drained }
         ensures sound { D.Tells → OnOk result ((known : DirKnown) × (drained : List Bool) × IsRowWritten D.files self.new known drained (home_row row)) }
         ensures unshown { OnOk result (IsUnshown self.new (record { tag = tag; row = row })) }
         // Until it is shown it is pending.

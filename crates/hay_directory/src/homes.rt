@@ -57,6 +57,13 @@ impl Homes {
         self.volumes.get(&(pair.key, pair.alt)).copied()
     }
 
+    /// The volumes by pair once more.
+    pub fn copy(&self) -> Result<HashMap<(u64, u32), u32>, NoMemory>
+        ensures { IfOk result (λ copy. copy.entries ≡ self.now.volumes) }
+    {
+        Ok(self.volumes.clone()?)
+    }
+
     /// Makes room for the homes of so many more pairs.
     pub fn reserve(&mut self, pairs: usize) -> Result<(), NoMemory>
         ensures kept { KeepsHomes self.old.volumes self.new.volumes }

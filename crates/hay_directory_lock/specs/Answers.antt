@@ -1,4 +1,4 @@
--- What a call that gives a pair a home found and did, by its answer.
+-- What calls tell, and what one that gives a pair a home found and did, by its answer.
 use Rattle.std.specs.Prelude.{◌≡◌, ◌⊎◌, ℕ, true, List, ◌++◌, length, Option, Some, None, Result, Ok, Err}
 use Rattle.hay_core.specs.declared.entry.CoreTag.{CoreTag}
 use Rattle.hay_legal.specs.declared.known.HomeRow.{HomeRow}
@@ -8,10 +8,27 @@ use Rattle.hay_turn.specs.Slots.{acts_in}
 use Rattle.hay_meeting.specs.declared.act.DirAct.{DirAct}
 use Rattle.hay_meeting.specs.Acts.{Start, row_lock}
 use Rattle.hay_meeting.specs.Locks.{entries}
+use Rattle.hay_holdings.specs.Holdings.{Called, Looked}
 use Rattle.hay_holdings.specs.Rows.{DirectoryCall, FailedRow, MadeNoRow, MadeRow, MetFrozenDir, MetHome, RowAdded, RowFailed, RowWanted, rows_found}
 use Rattle.hay_meeting.specs.Sights.{rows_stood}
 use Rattle.hay_directory.specs.declared.fault.DirFault.{DirFault}
 use Rattle.hay_directory.specs.declared.fault.DirFault.TheVariants as refusal
+use Rattle.hay_directory_lock.specs.Begun.{BegunAt}
+use Rattle.hay_directory_lock.specs.Seats.{DirectorySeatState, IsSeated, LockState}
+use Rattle.hay_directory_lock.specs.Standing.{StandsAt}
+
+-- so it is at a seat of the lock, for all that stood of the Directory where the lock was made
+abbrev pub IsTold : {D : Type 0} → (D → ℕ) → (D → ℕ) → LockState → DirectorySeatState D → (Start → Type 0) → Type 0
+IsTold {D} faults fuses lock seat IsSo =
+    (begun : BegunAt D) (lane : ℕ) → IsSeated lock begun lane seat → (start : Start) → StandsAt faults fuses begun.directory start.directory → IsSo start
+
+-- one holding, whatever it found
+abbrev pub OneHolding : CoreTag → DirectoryCall
+OneHolding tag = Called row_lock tag (λ held made. Unit {0})
+
+-- a look without the lock
+abbrev pub OneLook : DirectoryCall
+OneLook a b = Looked a b
 
 module _ (start : Start) (row : HomeRow) where
   -- its pair had a home, or it has its volume for one now, and this is known of the rows that were added: so many were published

@@ -1,14 +1,19 @@
--- What stood when the lock was made.
-use Rattle.hay_needle.specs.declared.settings.Settings.{Settings}
-use Rattle.hay_history.specs.Steps.{RowsStanding}
+-- What stood where the lock was made.
+use Rattle.std.specs.Prelude.{◌≡◌, Some}
+use Rattle.hay_needle.specs.declared.needle.Pair.{Pair}
+use Rattle.hay_legal.specs.Known.{home_in}
+use Rattle.hay_directory.specs.State.{IsUp, State, home_of}
 use Rattle.hay_views.specs.HomeLooks.{HomesAt, HomesShown}
 
--- the settings, what stood of the Directory, and what its front had published
-pub record BegunAt : Type 0 where
-  pub settings : Settings
-  pub rows : RowsStanding
+-- the Directory, and what was published of its homes
+pub record BegunAt (D : Type 0) : Type 0 where
+  pub directory : State D
   pub view : HomesShown
 
--- the rows as they were published first
-abbrev pub first_homes : BegunAt → HomesAt
-first_homes begun = record { volumes = (begun.settings).volumes; rows = ((begun.rows).directory).rows }
+-- a Directory that is up; its homes were published first
+pub record IsBegun {D : Type 0} (begun : BegunAt D) : Type 0 where
+  pub up : IsUp begun.directory
+  pub homes : HomesAt
+  pub base : (begun.view).base ≡ Some (homes, tt)
+  pub volumes : homes.volumes ≡ ((begun.directory).settings).volumes
+  pub same : (pair : Pair) → home_in homes.rows pair ≡ home_of begun.directory pair

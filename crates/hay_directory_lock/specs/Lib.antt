@@ -1,6 +1,6 @@
 pub mod Begun
+pub mod Acts
 pub mod Standing
 pub mod Seats
 pub mod Answers
-pub mod Rounds
 pub mod Opening

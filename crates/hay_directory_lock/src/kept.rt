@@ -10,45 +10,35 @@ ghost use Rattle.hay_history.specs.Steps.RowDid.{Drains, FusesRow};
 ghost use Rattle.hay_legal.specs.declared.known.DirKnown.{DirKnown};
 ghost use Rattle.hay_directory.specs.Rows.{home_row};
 ghost use Rattle.hay_directory.specs.State.{IsUp, Stands};
+ghost use Rattle.hay_directory_lock.specs.Standing.{KeptFor, StandsAt};
 ghost use Rattle.hay_directory_lock.specs.Begun.{BegunAt};
-ghost use Rattle.hay_directory_lock.specs.Standing.{KeptFor};
 ghost use Rattle.hay_directory_lock.specs.Answers.{Settles};
 
 use crate::act::RowAct;
-use hay_base::Listed;
 use hay_core::CoreTag;
 use hay_directory::{DirFault, Directory};
 use hay_dirfile::DirRow;
 use hay_disk::Disk;
 use hay_front::{Front, Seat, Tag};
-use hay_legal::known::{DirKnown, HomeRow};
+use hay_legal::known::HomeRow;
 use hay_meeting::DirDid;
-use hay_needle::Settings;
 use hay_turn::Kept;
 use hay_views::HomeView;
 use std::marker::Model;
 use std::sync::Wait;
 
-/// What stood when the lock was made. It is plain data for clauses, and no value of it is made.
-pub struct Begun {
-    settings: Settings,
-    directory: DirKnown,
-    drained: Listed<bool>,
-    faults: u64,
-    fuses: u64,
+/// What stood where the lock was made: the Directory, and what was published of its homes. No value is made.
+pub struct Begun<D: Disk> {
+    directory: Directory<D>,
     view: Seat<HomeView>,
 }
 
-impl Model for Begun {
+impl<D: Disk> Model for Begun<D> {
     ghost use Rattle.hay_directory_lock.specs.Begun.{BegunAt};
 
-    ghost Value = { BegunAt };
+    ghost Value = { BegunAt D };
 
-    ghost view = { λ b. record {
-      settings = b.settings;
-      rows = record { directory = b.directory; drained = b.drained; faults = b.faults; fuses = b.fuses };
-      view = b.view;
-    } };
+    ghost view = { λ b. record { directory = b.directory; view = b.view } };
 }
 
 /// The Directory, and the front of its homes. It is not `Drop`, since the front waits for looks that are under way: end it by `end`.
@@ -58,7 +48,7 @@ pub struct KeptDirectory<D: Disk> {
 }
 
 impl<D: Disk> Kept for KeptDirectory<D> {
-    type Start = Begun;
+    type Start = Begun<D>;
 
     type Act = RowAct<D>;
 
@@ -67,7 +57,9 @@ impl<D: Disk> Kept for KeptDirectory<D> {
     ghost stands = { λ begun acts kept. KeptFor D.Tells D.files D.fault_count D.fuse_count begun acts kept.directory kept.front };
 }
 
-fn front_tag(tag: CoreTag) -> Tag {
+fn front_tag(tag: CoreTag) -> Tag
+    ensures { result ≡ record { seat = tag.lane; lane = tag.lane; line = tag.line } }
+{
     Tag {
         seat: tag.lane,
         lane: tag.lane,
@@ -99,17 +91,17 @@ impl<D: Disk> KeptDirectory<D> {
         tag: CoreTag,
         row: DirRow,
     ) -> (Result<(u32, u64), DirFault>, Option<RowAct<D>>)
-        requires kept { (begun : BegunAt) × (acts : List DirAct) × KeptFor D.Tells D.files D.fault_count D.fuse_count begun acts self.old.directory self.old.front }
+        requires kept { (begun : BegunAt D) × (acts : List DirAct) × KeptFor D.Tells D.files D.fault_count D.fuse_count begun acts self.old.directory self.old.front }
         requires view { view.old.front ≡ self.old.front.shown.front }
         requires volume { row.volume < self.old.directory.settings.volumes }
-        ensures kept { (begun : BegunAt) (acts : List DirAct) → KeptFor D.Tells D.files D.fault_count D.fuse_count begun acts self.old.directory self.old.front →
+        ensures kept { (begun : BegunAt D) (acts : List DirAct) → KeptFor D.Tells D.files D.fault_count D.fuse_count begun acts self.old.directory self.old.front →
             KeptFor D.Tells D.files D.fault_count D.fuse_count begun (acts ++ acts_in result.1) self.new.directory self.new.front }
         ensures from { IsBehind view.old self.old.front.shown }
         ensures shown { view.new ≡ self.new.front.shown }
         ensures act { AllByRecursion (λ act. (act.tag ≡ tag) × (act.seat ≡ tag.lane)) (acts_in result.1) }
         ensures below { IfOk result.0 (λ answer. answer.0 < self.old.directory.settings.volumes) }
-        ensures settles { (start : Start) (begun : BegunAt) (acts : List DirAct) → KeptFor D.Tells D.files D.fault_count D.fuse_count begun acts self.old.directory self.old.front →
-            begun.rows ≡ start.directory → Settles start (home_row row) result.0 acts result.1 }
+        ensures settles { (start : Start) (begun : BegunAt D) (acts : List DirAct) → KeptFor D.Tells D.files D.fault_count D.fuse_count begun acts self.old.directory self.old.front →
+            StandsAt D.fault_count D.fuse_count begun.directory start.directory → Settles start (home_row row) result.0 acts result.1 }
     {
         self.front.show_all(rt, view);
         if let Some(home) = self.directory.home(row.pair) {
@@ -149,10 +141,10 @@ impl<D: Disk> KeptDirectory<D> {
         machine: u32,
         is_drained: bool,
     ) -> RowAct<D>
-        requires kept { (begun : BegunAt) × (acts : List DirAct) × KeptFor D.Tells D.files D.fault_count D.fuse_count begun acts self.old.directory self.old.front }
+        requires kept { (begun : BegunAt D) × (acts : List DirAct) × KeptFor D.Tells D.files D.fault_count D.fuse_count begun acts self.old.directory self.old.front }
         requires view { view.old.front ≡ self.old.front.shown.front }
         requires machine { machine < self.old.directory.settings.machines }
-        ensures kept { (begun : BegunAt) (acts : List DirAct) → KeptFor D.Tells D.files D.fault_count D.fuse_count begun acts self.old.directory self.old.front →
+        ensures kept { (begun : BegunAt D) (acts : List DirAct) → KeptFor D.Tells D.files D.fault_count D.fuse_count begun acts self.old.directory self.old.front →
             KeptFor D.Tells D.files D.fault_count D.fuse_count begun (acts ++ result ∷ []) self.new.directory self.new.front }
         ensures from { IsBehind view.old self.old.front.shown }
         ensures shown { view.new ≡ self.new.front.shown }
@@ -177,7 +169,7 @@ impl<D: Disk> KeptDirectory<D> {
         calls: u32,
     ) -> RowAct<D>
         requires view { view.old.front ≡ self.old.front.shown.front }
-        ensures kept { (begun : BegunAt) (acts : List DirAct) → KeptFor D.Tells D.files D.fault_count D.fuse_count begun acts self.old.directory self.old.front →
+        ensures kept { (begun : BegunAt D) (acts : List DirAct) → KeptFor D.Tells D.files D.fault_count D.fuse_count begun acts self.old.directory self.old.front →
             KeptFor D.Tells D.files D.fault_count D.fuse_count begun (acts ++ result ∷ []) self.new.directory self.new.front }
         ensures from { IsBehind view.old self.old.front.shown }
         ensures shown { view.new ≡ self.new.front.shown }

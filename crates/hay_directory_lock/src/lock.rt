@@ -1,24 +1,22 @@
 //! The lock and its seats.
-ghost use Rattle.std.specs.Prelude.{◌≡◌, ◌+◌, ◌<◌, ℕ, List, true, false, map, IfErr, IfOk, IfSome};
-ghost use Rattle.hay_meeting.specs.Acts.{Start};
+ghost use Rattle.std.specs.Prelude.{◌≡◌, ◌+◌, ◌<◌, ℕ, Bool, List, true, false, IfErr, IfOk, IfSome, OnOk};
 ghost use Rattle.hay_holdings.specs.Rows.{Drained, FusedDir, HomeShown};
-ghost use Rattle.hay_directory.specs.Rows.{home_row};
+ghost use Rattle.hay_legal.specs.declared.known.DirKnown.{DirKnown};
+ghost use Rattle.hay_directory.specs.State.{IsUp, Stands};
+ghost use Rattle.hay_directory_lock.specs.Opening.{AreNewSeats, AreSeated, Closes};
+ghost use Rattle.hay_directory_lock.specs.Seats.{IsSeated, sight};
+ghost use Rattle.hay_directory_lock.specs.Standing.{StandsAt, standing_of};
+ghost use Rattle.hay_directory_lock.specs.Answers.{IsTold, OneHolding, OneLook, SettlesAs};
 ghost use Rattle.hay_directory_lock.specs.Begun.{BegunAt};
-ghost use Rattle.hay_directory_lock.specs.Opening.{AreNewSeats, AreSeated, Closes, IsOpenWith, rows_opened};
-ghost use Rattle.hay_directory_lock.specs.Seats.{IsHolding, IsSeated, LockState, sight};
-ghost use Rattle.hay_directory_lock.specs.Standing.{KeptFor};
-ghost use Rattle.hay_directory_lock.specs.Rounds.{FoundAll, HasMet, ShownAll};
-ghost use Rattle.hay_meeting.specs.declared.act.DirAct.{DirAct};
-ghost use Rattle.hay_directory_lock.specs.Answers.{SettlesAs};
 
 use crate::kept::KeptDirectory;
-use crate::open::{SeatRoom, apart, front_of, joined};
+use crate::open::{SeatRoom, apart, front_of, joined, show_each};
 use hay_base::NoMemory;
 use hay_core::CoreTag;
 use hay_directory::{DirFault, Directory};
 use hay_dirfile::DirRow;
 use hay_disk::Disk;
-use hay_front::Seat;
+use hay_front::{Seat, Tag};
 use hay_needle::{Pair, Settings};
 use hay_turn::{Turn, TurnSeat};
 use hay_views::HomeView;
@@ -27,7 +25,7 @@ use std::marker::Model;
 use std::sync::Wait;
 
 /// The Directory behind its lock. Clauses see which lock it is, how many seats it has, the settings, and how many rows stood
-/// when it was made.
+/// where it was made.
 pub struct DirectoryLock<D: Disk> {
     turn: Turn<KeptDirectory<D>>,
     seats: u32,
@@ -60,7 +58,7 @@ pub struct DirectorySeat<D: Disk> {
 impl<D: Disk> Model for DirectorySeat<D> {
     ghost use Rattle.hay_directory_lock.specs.Seats.{DirectorySeatState};
 
-    ghost Value = { DirectorySeatState };
+    ghost Value = { DirectorySeatState D };
 
     ghost view = { λ s. record { turn = s.turn; view = s.view } };
 }
@@ -78,20 +76,22 @@ fn all_rows<R: Wait>(rt: &R, stood: u64, published: u64) -> u64
 }
 
 impl<D: Disk> DirectoryLock<D> {
-    /// The lock of a Directory that was opened and has these rows, and a seat for each lane. `NoMemory` gives the Directory back.
+    /// The lock of a Directory that is up, and a seat for each lane. Its homes are published as they stand. `NoMemory` gives the
+    /// Directory back.
     pub fn new<R: Wait>(
         rt: &R,
         alloc: Global,
         settings: Settings,
         directory: Directory<D>,
-        rows: &[DirRow],
         seats: u32,
     ) -> Result<NewLock<D>, (Directory<D>, NoMemory)>
         requires some { 0 < seats }
         requires settings { directory.settings ≡ settings }
-        requires opened { IsOpenWith D.Tells D.files directory (map home_row rows.now) }
-        ensures made { IfOk result (λ made. (begun : BegunAt) × (begun.rows ≡ rows_opened D.fault_count D.fuse_count directory (map home_row rows.now))
-            × (made.lock.settings ≡ settings) × (made.lock.seats ≡ seats) × (made.room ≡ seats) × AreNewSeats made.lock begun made.seats.items) }
+        requires up { IsUp directory }
+        ensures made { IfOk result (λ made. (begun : BegunAt D) × (begun.directory ≡ directory) × (made.lock.settings ≡ settings)
+            × (made.lock.seats ≡ seats) × (made.room ≡ seats) × AreNewSeats made.lock begun made.seats.items) }
+        ensures stood { OnOk result ((known : DirKnown) (drained : List Bool) → Stands D.files directory known drained →
+            StandsAt D.fault_count D.fuse_count directory (standing_of D.fault_count D.fuse_count directory known drained)) }
         ensures refused { IfErr result (λ back. back.0 ≡ directory) }
     {
         let Ok(room) = SeatRoom::new(alloc, seats) else {
@@ -100,16 +100,17 @@ impl<D: Disk> DirectoryLock<D> {
         let Ok(lanes) = Vec::with_capacity(alloc, seats as usize) else {
             return Err((directory, NoMemory));
         };
-        let Ok((front, views)) = front_of(rt, alloc, settings.volumes, rows, seats) else {
+        let Ok((front, views)) = front_of(rt, alloc, &directory, settings.volumes, seats) else {
             return Err((directory, NoMemory));
         };
+        let stood = directory.rows();
         match Turn::new(alloc, KeptDirectory { directory, front }, seats) {
             Ok((turn, turns)) => {
                 let lock = DirectoryLock {
                     turn,
                     seats,
                     settings,
-                    stood: rows.len() as u64,
+                    stood,
                 };
                 let seats = joined(turns, views, lanes);
                 Ok(NewLock { lock, seats, room })
@@ -118,27 +119,30 @@ impl<D: Disk> DirectoryLock<D> {
         }
     }
 
-    /// Ends the lock with all its seats, and gives the Directory back. It may wait for looks that are under way, behind which none
-    /// returns.
+    /// Ends the lock with all its seats, and gives the Directory back, and the tags of the rows that were added. It may wait for looks
+    /// that are under way, behind which none returns.
     pub fn close<R: Wait>(
         self,
         rt: &R,
         seats: Vec<DirectorySeat<D>>,
         room: SeatRoom<D>,
-    ) -> Directory<D>
+    ) -> (Directory<D>, Vec<Tag>)
         requires room { room ≡ self.seats }
-        requires seats { (begun : BegunAt) × AreSeated self begun seats.items }
-        ensures { (begun : BegunAt) → AreSeated self begun seats.items →
-            Closes D.Tells D.files D.fault_count D.fuse_count self begun seats.items result }
+        requires seats { (begun : BegunAt D) × AreSeated self begun seats.items }
+        ensures { (begun : BegunAt D) → AreSeated self begun seats.items →
+            Closes D.Tells D.files D.fault_count D.fuse_count self begun seats.items result.0 result.1.items }
     {
-        let (turns, views) = apart(seats, room);
+        let (turns, mut views) = apart(seats, room);
         let DirectoryLock {
             turn,
             seats: _,
             settings: _,
             stood: _,
         } = self;
-        turn.close(turns).end(rt, views)
+        let KeptDirectory { directory, front } = turn.close(turns);
+        show_each(rt, &front, views.as_mut_slice());
+        let tags = front.close(rt, views);
+        (directory, tags)
     }
 
     /// How many rows there are, and the home of a pair among them, by one look without the lock. It takes no memory.
@@ -148,11 +152,11 @@ impl<D: Disk> DirectoryLock<D> {
         seat: &mut DirectorySeat<D>,
         pair: Pair,
     ) -> (u64, Option<u32>)
-        requires seated { (begun : BegunAt) × (lane : ℕ) × IsSeated self.now begun lane seat.old }
-        ensures seated { (begun : BegunAt) (lane : ℕ) → IsSeated self.now begun lane seat.old → IsSeated self.now begun lane seat.new }
+        requires seated { (begun : BegunAt D) × (lane : ℕ) × IsSeated self.now begun lane seat.old }
+        ensures seated { (begun : BegunAt D) (lane : ℕ) → IsSeated self.now begun lane seat.old → IsSeated self.now begun lane seat.new }
         ensures below { IfSome result.1 (λ home. home < self.now.settings.volumes) }
-        ensures shown { (start : Start) (begun : BegunAt) (lane : ℕ) → IsSeated self.now begun lane seat.old → begun.rows ≡ start.directory →
-            HomeShown start pair result.0 result.1 (sight seat.old) (sight seat.new) }
+        ensures shown { IsTold D.fault_count D.fuse_count self.now seat.old (λ start. HomeShown start pair result.0 result.1 (sight seat.old) (sight seat.new)) }
+        ensures looked { OneLook (sight seat.old) (sight seat.new) }
     {
         let (published, home) = seat.view.look(rt, &pair);
         (all_rows(rt, self.stood, published), home)
@@ -168,12 +172,12 @@ impl<D: Disk> DirectoryLock<D> {
         pair: Pair,
         volume: u32,
     ) -> Result<(u32, u64), DirFault>
-        requires seated { (begun : BegunAt) × IsSeated self.now begun tag.lane seat.old }
+        requires seated { (begun : BegunAt D) × IsSeated self.now begun tag.lane seat.old }
         requires volume { volume < self.now.settings.volumes }
-        ensures seated { (begun : BegunAt) (lane : ℕ) → IsSeated self.now begun lane seat.old → IsSeated self.now begun lane seat.new }
+        ensures seated { (begun : BegunAt D) (lane : ℕ) → IsSeated self.now begun lane seat.old → IsSeated self.now begun lane seat.new }
         ensures below { IfOk result (λ answer. answer.0 < self.now.settings.volumes) }
-        ensures settles { (start : Start) (begun : BegunAt) (lane : ℕ) → IsSeated self.now begun lane seat.old → begun.rows ≡ start.directory →
-            SettlesAs start (record { pair = pair; volume = volume }) tag result (sight seat.old) (sight seat.new) }
+        ensures settles { IsTold D.fault_count D.fuse_count self.now seat.old (λ start. SettlesAs start (record { pair = pair; volume = volume }) tag result (sight seat.old) (sight seat.new)) }
+        ensures held { OneHolding tag (sight seat.old) (sight seat.new) }
     {
         let mut kept = self.turn.hold(rt, &mut seat.turn);
         let (answer, made) = kept.settle(rt, &mut seat.view, tag, DirRow { pair, volume });
@@ -186,22 +190,22 @@ impl<D: Disk> DirectoryLock<D> {
 
     /// Closes a machine to changes.
     pub fn drain<R: Wait>(&self, rt: &R, seat: &mut DirectorySeat<D>, tag: CoreTag, machine: u32)
-        requires seated { (begun : BegunAt) × IsSeated self.now begun tag.lane seat.old }
+        requires seated { (begun : BegunAt D) × IsSeated self.now begun tag.lane seat.old }
         requires machine { machine < self.now.settings.machines }
-        ensures seated { (begun : BegunAt) (lane : ℕ) → IsSeated self.now begun lane seat.old → IsSeated self.now begun lane seat.new }
-        ensures drained { (start : Start) (begun : BegunAt) (lane : ℕ) → IsSeated self.now begun lane seat.old → begun.rows ≡ start.directory →
-            Drained start tag machine true (sight seat.old) (sight seat.new) }
+        ensures seated { (begun : BegunAt D) (lane : ℕ) → IsSeated self.now begun lane seat.old → IsSeated self.now begun lane seat.new }
+        ensures drained { IsTold D.fault_count D.fuse_count self.now seat.old (λ start. Drained start tag machine true (sight seat.old) (sight seat.new)) }
+        ensures held { OneHolding tag (sight seat.old) (sight seat.new) }
     {
         self.set_drained(rt, seat, tag, machine, true);
     }
 
     /// Opens a machine to changes again.
     pub fn undrain<R: Wait>(&self, rt: &R, seat: &mut DirectorySeat<D>, tag: CoreTag, machine: u32)
-        requires seated { (begun : BegunAt) × IsSeated self.now begun tag.lane seat.old }
+        requires seated { (begun : BegunAt D) × IsSeated self.now begun tag.lane seat.old }
         requires machine { machine < self.now.settings.machines }
-        ensures seated { (begun : BegunAt) (lane : ℕ) → IsSeated self.now begun lane seat.old → IsSeated self.now begun lane seat.new }
-        ensures drained { (start : Start) (begun : BegunAt) (lane : ℕ) → IsSeated self.now begun lane seat.old → begun.rows ≡ start.directory →
-            Drained start tag machine false (sight seat.old) (sight seat.new) }
+        ensures seated { (begun : BegunAt D) (lane : ℕ) → IsSeated self.now begun lane seat.old → IsSeated self.now begun lane seat.new }
+        ensures drained { IsTold D.fault_count D.fuse_count self.now seat.old (λ start. Drained start tag machine false (sight seat.old) (sight seat.new)) }
+        ensures held { OneHolding tag (sight seat.old) (sight seat.new) }
     {
         self.set_drained(rt, seat, tag, machine, false);
     }
@@ -215,11 +219,11 @@ impl<D: Disk> DirectoryLock<D> {
         machine: u32,
         is_drained: bool,
     )
-        requires seated { (begun : BegunAt) × IsSeated self.now begun tag.lane seat.old }
+        requires seated { (begun : BegunAt D) × IsSeated self.now begun tag.lane seat.old }
         requires machine { machine < self.now.settings.machines }
-        ensures seated { (begun : BegunAt) (lane : ℕ) → IsSeated self.now begun lane seat.old → IsSeated self.now begun lane seat.new }
-        ensures drained { (start : Start) (begun : BegunAt) (lane : ℕ) → IsSeated self.now begun lane seat.old → begun.rows ≡ start.directory →
-            Drained start tag machine is_drained (sight seat.old) (sight seat.new) }
+        ensures seated { (begun : BegunAt D) (lane : ℕ) → IsSeated self.now begun lane seat.old → IsSeated self.now begun lane seat.new }
+        ensures drained { IsTold D.fault_count D.fuse_count self.now seat.old (λ start. Drained start tag machine is_drained (sight seat.old) (sight seat.new)) }
+        ensures held { OneHolding tag (sight seat.old) (sight seat.new) }
     {
         let mut kept = self.turn.hold(rt, &mut seat.turn);
         let act = kept.set_drained(rt, &mut seat.view, tag, machine, is_drained);
@@ -228,62 +232,13 @@ impl<D: Disk> DirectoryLock<D> {
 
     /// Sets a fuse on the disk.
     pub fn fuse<R: Wait>(&self, rt: &R, seat: &mut DirectorySeat<D>, tag: CoreTag, calls: u32)
-        requires seated { (begun : BegunAt) × IsSeated self.now begun tag.lane seat.old }
-        ensures seated { (begun : BegunAt) (lane : ℕ) → IsSeated self.now begun lane seat.old → IsSeated self.now begun lane seat.new }
-        ensures fused { (start : Start) (begun : BegunAt) (lane : ℕ) → IsSeated self.now begun lane seat.old → begun.rows ≡ start.directory →
-            FusedDir start tag (sight seat.old) (sight seat.new) }
+        requires seated { (begun : BegunAt D) × IsSeated self.now begun tag.lane seat.old }
+        ensures seated { (begun : BegunAt D) (lane : ℕ) → IsSeated self.now begun lane seat.old → IsSeated self.now begun lane seat.new }
+        ensures fused { IsTold D.fault_count D.fuse_count self.now seat.old (λ start. FusedDir start tag (sight seat.old) (sight seat.new)) }
+        ensures held { OneHolding tag (sight seat.old) (sight seat.new) }
     {
         let mut kept = self.turn.hold(rt, &mut seat.turn);
         let act = kept.fuse(rt, &mut seat.view, tag, calls);
         self.turn.free(&mut seat.turn, kept, Some(act));
-    }
-
-    /// Waits for this seat's turn, and takes the Directory, with the front of its homes. The seat is shown all of them.
-    pub fn hold<R: Wait>(&self, rt: &R, seat: &mut DirectorySeat<D>) -> KeptDirectory<D>
-        requires seated { (begun : BegunAt) × (lane : ℕ) × IsSeated self.now begun lane seat.old }
-        ensures holding { (begun : BegunAt) (lane : ℕ) → IsSeated self.now begun lane seat.old → IsHolding self.now begun lane seat.new }
-        ensures kept { (begun : BegunAt) (lane : ℕ) → IsSeated self.now begun lane seat.old →
-            KeptFor D.Tells D.files D.fault_count D.fuse_count begun seat.new.turn.seen result.directory result.front }
-        ensures found { (begun : BegunAt) (lane : ℕ) → IsSeated self.now begun lane seat.old →
-            FoundAll self.now begun lane (sight seat.old) (sight seat.new) }
-    {
-        let kept = self.turn.hold(rt, &mut seat.turn);
-        kept.front.show_all(rt, &mut seat.view);
-        kept
-    }
-
-    /// Puts the Directory back as it was, and lets the next seat have its turn.
-    pub fn free(&self, seat: &mut DirectorySeat<D>, kept: KeptDirectory<D>)
-        requires kept { (begun : BegunAt) × (lane : ℕ) × IsHolding self.now begun lane seat.old
-            × KeptFor D.Tells D.files D.fault_count D.fuse_count begun seat.old.turn.seen kept.directory kept.front }
-        ensures seated { (begun : BegunAt) (lane : ℕ) → IsHolding self.now begun lane seat.old → IsSeated self.now begun lane seat.new }
-        ensures same { sight seat.new ≡ sight seat.old }
-    {
-        self.turn.free(&mut seat.turn, kept, None);
-    }
-
-    /// What the other seat has seen, this one then has seen too.
-    pub fn meet(&self, seat: &mut DirectorySeat<D>, other: &mut DirectorySeat<D>)
-        requires seated { (begun : BegunAt) × (lane : ℕ) × IsSeated self.now begun lane seat.old }
-        requires other { (begun : BegunAt) × (lane : ℕ) × IsSeated self.now begun lane other.old }
-        ensures seated { (begun : BegunAt) (lane : ℕ) → IsSeated self.now begun lane seat.old → IsSeated self.now begun lane seat.new }
-        ensures met { (begun : BegunAt) (lane : ℕ) → IsSeated self.now begun lane seat.old →
-            HasMet self.now begun lane (sight seat.old) (sight other.old) (sight seat.new) }
-        ensures same { other.new ≡ other.old }
-    {
-        self.turn.meet(&mut seat.turn, &mut other.turn);
-    }
-}
-
-impl<D: Disk> DirectorySeat<D> {
-    /// Shows the seat all homes, while another one holds the lock.
-    pub fn show<R: Wait>(&mut self, rt: &R, kept: &KeptDirectory<D>)
-        requires kept { (lock : LockState) × (begun : BegunAt) × (lane : ℕ) × (acts : List DirAct) × IsSeated lock begun lane self.old
-            × KeptFor D.Tells D.files D.fault_count D.fuse_count begun acts kept.now.directory kept.now.front }
-        ensures seated { (lock : LockState) (begun : BegunAt) (lane : ℕ) → IsSeated lock begun lane self.old → IsSeated lock begun lane self.new }
-        ensures shown { (begun : BegunAt) (acts : List DirAct) →
-            KeptFor D.Tells D.files D.fault_count D.fuse_count begun acts kept.now.directory kept.now.front → ShownAll acts (sight self.old) (sight self.new) }
-    {
-        kept.front.show_all(rt, &mut self.view);
     }
 }

@@ -1,13 +1,15 @@
 //! The seats of the lock, made and ended.
 ghost use Rattle.std.specs.Prelude.{◌≡◌, ◌<◌, ◌≤◌, [], length, map, replicate, vec_len, vec_capacity, Some, IfOk, false};
-ghost use Rattle.hay_directory.specs.Rows.{RowsWithin, home_row};
+ghost use Rattle.std.specs.List.{AllByRecursion};
+ghost use Rattle.hay_front.specs.Fronts.{IsBehind};
+ghost use Rattle.hay_views.specs.HomeLooks.{rows_among};
 
 use crate::kept::KeptDirectory;
 use crate::lock::DirectorySeat;
 use hay_base::NoMemory;
-use hay_dirfile::DirRow;
+use hay_directory::Directory;
 use hay_disk::Disk;
-use hay_front::{Front, Seat};
+use hay_front::{Front, Seat, View};
 use hay_turn::TurnSeat;
 use hay_views::HomeView;
 use std::alloc::Global;
@@ -44,22 +46,22 @@ impl<D: Disk> SeatRoom<D> {
     }
 }
 
-/// The front of the homes by these rows, and its seats.
-pub(crate) fn front_of<R: Wait>(
+/// The front of the homes of a Directory, and its seats.
+pub(crate) fn front_of<D: Disk, R: Wait>(
     rt: &R,
     alloc: Global,
+    directory: &Directory<D>,
     volumes: u32,
-    rows: &[DirRow],
     seats: u32,
 ) -> Result<(Front<HomeView>, Vec<Seat<HomeView>>), NoMemory>
     requires some { 0 < seats }
-    requires volumes { RowsWithin volumes (map home_row rows.now) }
-    ensures base { IfOk result (λ made. made.0.shown.base ≡ Some (record { volumes = volumes; rows = map home_row rows.now }, tt)) }
-    ensures blank { IfOk result (λ made. (made.0.shown.deeds ≡ []) × (made.0.closed ≡ false)) }
+    requires volumes { volumes ≡ directory.now.settings.volumes }
+    ensures base { IfOk result (λ made. made.0.shown.base ≡ Some (record { volumes = volumes; rows = rows_among directory.now.homes }, tt)) }
+    ensures blank { IfOk result (λ made. (made.0.shown.deeds ≡ []) × (made.0.log ≡ []) × (made.0.closed ≡ false)) }
     ensures seats { IfOk result (λ made. made.1.items ≡ replicate seats made.0.shown) }
 {
-    let first = HomeView::of_rows(alloc, volumes, rows)?;
-    let second = HomeView::of_rows(alloc, volumes, rows)?;
+    let first = HomeView::of_table(volumes, directory.copy_homes()?);
+    let second = HomeView::of_table(volumes, directory.copy_homes()?);
     Front::new(rt, alloc, first, second, seats)
 }
 
@@ -84,13 +86,24 @@ pub(crate) fn joined<D: Disk>(
     seats
 }
 
+/// Shows each seat all that was published.
+pub(crate) fn show_each<T: View, R: Wait>(rt: &R, front: &Front<T>, seats: &mut [Seat<T>])
+    requires { AllByRecursion (λ s. s.front ≡ front.now.shown.front) seats.old }
+    ensures { AllByRecursion (λ s. IsBehind s front.now.shown) seats.old }
+{
+    for i in 0..seats.len() {
+        front.show_all(rt, &mut seats[i]);
+    }
+}
+
 /// Takes the seats of all lanes apart, in their order.
 pub(crate) fn apart<D: Disk>(
     seats: Vec<DirectorySeat<D>>,
     room: SeatRoom<D>,
 ) -> (Vec<TurnSeat<KeptDirectory<D>>>, Vec<Seat<HomeView>>)
     requires { length seats.items ≡ room }
-    ensures { result.0.items ≡ map (λ seat. seat.turn) seats.items }
+    ensures turns { result.0.items ≡ map (λ seat. seat.turn) seats.items }
+    ensures views { result.1.items ≡ map (λ seat. seat.view) seats.items }
 {
     let SeatRoom {
         seats: _,

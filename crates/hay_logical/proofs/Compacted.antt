@@ -34,6 +34,7 @@ use Rattle.hay_logical.proofs.Finishing.{loose_sizes, stands_dropped, stands_poi
 use Rattle.hay_logical.proofs.Lists.{at_below, at_same}
 use Rattle.hay_logical.proofs.Standing.{volume_with}
 use Rattle.hay_logical.proofs.Stepping.{is_run, some_run}
+use Rattle.hay_logical.proofs.Swapping.{rows_stay}
 
 -- a compaction makes the next generation
 run_next : {D : Type 0} (files : D → Files) (r : Copy D) (s : Stored) (run : runs.Run) → runs.HasRun files r s (Some run) → run.goal ≡ s.generation + 1
@@ -89,7 +90,7 @@ module _ {D P : Type 0} (settings : Settings) (number : ℕ) (DiskTells : Type 0
   finish_refused (Refused (fault.Failed n)) standing few swaps stays places =
       let run = running standing in
       let h = swaps.refused tells was.stored (copier_run run.0) was.stands (has_run run) was.places in
-      (stands.frozen, refl, run, inl (stands_dropped settings number DiskTells files Tells items new rows rows' front unsure k stands one.count tells at one swaps.left.0 swaps.left.1 h.0 h.1 places.same))
+      (stands.frozen, refl, run, inl (stands_dropped settings number DiskTells files Tells items new rows rows' front unsure k stands one.count tells at one swaps.left.0 swaps.left.1 h.0 h.1 (rows_stay places)))
   finish_refused (Refused fault.Frozen) standing few swaps stays places = absurd swaps.left
   finish_refused (Refused (fault.Full end need capacity)) standing few swaps stays places = absurd swaps.left
   finish_refused (Refused (fault.Busy goal)) standing few swaps stays places = let wrong : Going ≡ Fresh = swaps.left.0 in absurd cc
@@ -101,11 +102,11 @@ module _ {D P : Type 0} (settings : Settings) (number : ℕ) (DiskTells : Type 0
   finish_refused (Refused fault.NoMemory) standing few swaps stays places =
       let run = running standing in
       let h = swaps.refused tells was.stored (copier_run run.0) was.stands (has_run run) was.places in
-      (stands.frozen, may_finish standing few, stands_dropped settings number DiskTells files Tells items new rows rows' front unsure k stands one.count tells at one swaps.left.0 swaps.left.1 h.0 h.1 places.same)
+      (stands.frozen, may_finish standing few, stands_dropped settings number DiskTells files Tells items new rows rows' front unsure k stands one.count tells at one swaps.left.0 swaps.left.1 h.0 h.1 (rows_stay places))
   finish_refused (Perhaps n) standing few swaps stays places =
       let run = running standing in
       let h = swaps.refused tells was.stored (copier_run run.0) was.stands (has_run run) was.places in
-      (stands.frozen, refl, run, inr (stands_poised settings number DiskTells files Tells items new rows rows' front unsure k stands one.count tells at one (machine_of settings number at) h.0 swaps.left.0 stays h.1 h.2 places.same))
+      (stands.frozen, refl, run, inr (stands_poised settings number DiskTells files Tells items new rows rows' front unsure k stands one.count tells at one (machine_of settings number at) h.0 swaps.left.0 stays h.1 h.2 (rows_stay places)))
 
   -- the files of the old generation
   pub removes_old : (start : Start) (files_now : NewFiles P) → SwapsAt DiskTells files faults Tells start rows rows' at one.before one.after (Ok files_now)
@@ -163,7 +164,7 @@ module _ {D P : Type 0} (settings : Settings) (number : ℕ) (DiskTells : Type 0
   compact_refused (Refused (fault.Failed n)) up swaps stays places =
       let idle = swaps.left.2 in
       let h = swaps.refused tells was.stored fresh was.stands (goal_none files one.before was.stored idle.0, refl) was.places in
-      (stands.frozen, refl, rest idle, inl (stands_dropped settings number DiskTells files Tells items new rows rows' front unsure k stands one.count tells at one swaps.left.0 swaps.left.1 h.0 h.1 places.same))
+      (stands.frozen, refl, rest idle, inl (stands_dropped settings number DiskTells files Tells items new rows rows' front unsure k stands one.count tells at one swaps.left.0 swaps.left.1 h.0 h.1 (rows_stay places)))
   compact_refused (Refused fault.Frozen) up swaps stays places = absurd swaps.left
   compact_refused (Refused (fault.Full end need capacity)) up swaps stays places = absurd swaps.left
   compact_refused (Refused (fault.Busy goal)) up swaps stays places = (
@@ -171,7 +172,7 @@ module _ {D P : Type 0} (settings : Settings) (number : ℕ) (DiskTells : Type 0
     refl,
     some_run (replica_at k at).run goal (sym (known_goal files one.before was.stored (replica_at k at).run was.run) ∙ swaps.left.1),
     stands_same settings number DiskTells files Tells items new rows rows' front unsure k stands one.count tells at one
-        (λ j r r' e f. all_same swaps.left.2 j r r' e f (subst (λ (x : Copy D). IsUp x) (sym swaps.left.2) up)) places.same,
+        (λ j r r' e f. all_same swaps.left.2 j r r' e f (subst (λ (x : Copy D). IsUp x) (sym swaps.left.2) up)) (rows_stay places),
   )
   compact_refused (Refused (fault.Ended n)) up swaps stays places = absurd swaps.left
   compact_refused (Refused fault.Worn) up swaps stays places =
@@ -181,18 +182,18 @@ module _ {D P : Type 0} (settings : Settings) (number : ℕ) (DiskTells : Type 0
         known_none files one.before was.stored (replica_at k at).run was.run swaps.left.1,
         was.fits.generation ∙ h,
         stands_same settings number DiskTells files Tells items new rows rows' front unsure k stands one.count tells at one
-            (λ j r r' e f. all_same swaps.left.3 j r r' e f (subst (λ (x : Copy D). IsUp x) (sym swaps.left.3) up)) places.same,
+            (λ j r r' e f. all_same swaps.left.3 j r r' e f (subst (λ (x : Copy D). IsUp x) (sym swaps.left.3) up)) (rows_stay places),
       )
   compact_refused (Refused (fault.Damaged place)) up swaps stays places =
       absurd (swaps.refused tells was.stored fresh was.stands (goal_none files one.before was.stored swaps.left.2.0, refl) was.places)
   compact_refused (Refused fault.NoMemory) up swaps stays places =
       let idle = swaps.left.2 in
       let h = swaps.refused tells was.stored fresh was.stands (goal_none files one.before was.stored idle.0, refl) was.places in
-      (stands.frozen, rest idle, stands_dropped settings number DiskTells files Tells items new rows rows' front unsure k stands one.count tells at one swaps.left.0 swaps.left.1 h.0 h.1 places.same)
+      (stands.frozen, rest idle, stands_dropped settings number DiskTells files Tells items new rows rows' front unsure k stands one.count tells at one swaps.left.0 swaps.left.1 h.0 h.1 (rows_stay places))
   compact_refused (Perhaps n) up swaps stays places =
       let idle = swaps.left.2 in
       let h = swaps.refused tells was.stored fresh was.stands (goal_none files one.before was.stored idle.0, refl) was.places in
-      (stands.frozen, refl, rest idle, inr (stands_poised settings number DiskTells files Tells items new rows rows' front unsure k stands one.count tells at one (machine_of settings number at) h.0 swaps.left.0 stays h.1 h.2 places.same))
+      (stands.frozen, refl, rest idle, inr (stands_poised settings number DiskTells files Tells items new rows rows' front unsure k stands one.count tells at one (machine_of settings number at) h.0 swaps.left.0 stays h.1 h.2 (rows_stay places)))
 
 -- CAUSES
 

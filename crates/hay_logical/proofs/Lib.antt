@@ -1,3 +1,4 @@
+pub mod Above
 pub mod Alike
 pub mod Beginning
 pub mod Bytes
@@ -10,6 +11,7 @@ pub mod Dropping
 pub mod Ends
 pub mod Examining
 pub mod Finishing
+pub mod Formatting
 pub mod Freezing
 pub mod Holding
 pub mod Knowing
@@ -31,6 +33,8 @@ pub mod SwapSizes
 pub mod Swapping
 pub mod Tables
 pub mod Telling
+pub mod Tightness
 pub mod Through
 pub mod Looks
 pub mod Drawing
+pub mod Untouched

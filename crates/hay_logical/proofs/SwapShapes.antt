@@ -6,14 +6,14 @@ use Rattle.hay_needle.specs.declared.settings.Settings.{Settings}
 use Rattle.hay_disk.specs.Disk.{Files}
 use Rattle.hay_map.specs.MapRows.{MapRows}
 use Rattle.hay_physical.specs.declared.fault.ReplicaFault.TheVariants as fault
-use Rattle.hay_physical.specs.Copies.{Copy, IsOpenCopy, IsUp, is_frozen}
+use Rattle.hay_physical.specs.Copies.{Copy, IsOpenCopy, IsUp, is_frozen, is_stuck}
 use Rattle.hay_logical.specs.declared.unsure.Unsure.{Unsure}
 use Rattle.hay_logical.specs.declared.runs.NewFiles.{NewFiles}
 use Rattle.hay_logical.specs.declared.runs.Unswapped.{Unswapped}
 use Rattle.hay_logical.specs.declared.runs.Unswapped.TheVariants.{Refused, Unsure as Perhaps}
 use Rattle.hay_logical.specs.Fits.{At}
 use Rattle.hay_logical.specs.Refusals.{unfinished_by}
-use Rattle.hay_logical.specs.Steps.{KeepsPlaces, LosesRun, Start, StaysInReach, SwapsAt, SwapsOne}
+use Rattle.hay_logical.specs.Steps.{KeepsPlaces, KeepsStuck, LosesRun, Start, StaysInReach, SwapsAt, SwapsOne}
 use Rattle.hay_logical.specs.Volumes.{CanReach, IsFrozenBy, IsShaped, ReachesPlaces, Volume}
 use Rattle.hay_logical.specs.Volumes as volumes
 use Rattle.hay_logical.proofs.Calls.{up_open, up_thawed}
@@ -50,6 +50,9 @@ module _ {D P : Type 0} (DiskTells : Type 0) (files : D → Files) (Tells : Type
   swaps_up settings number (Refused (fault.Full end need capacity)) swaps none = absurd swaps.left
   swaps_up settings number (Refused (fault.Ended n)) swaps none = absurd swaps.left
   swaps_up settings number (Perhaps n) swaps none = absurd cc
+
+  pub swaps_stuck : is_stuck one.after ≡ is_stuck one.before → KeepsStuck items new
+  swaps_stuck same = each_of (λ r r'. is_stuck r' ≡ is_stuck r) same (λ r r' up loses. loses.stuck)
 
   pub swaps_reach : (result : Result (NewFiles P) Unswapped) → SwapsAt DiskTells files faults Tells start rows rows' at one.before one.after result → KeepsPlaces rows rows' at result → CanReach DiskTells files items rows → CanReach DiskTells files new rows'
   swaps_reach result swaps places can tells j r' f = elim (cases_eq j at) [
@@ -104,3 +107,9 @@ pub called_up : {D P : Type 0} {DiskTells : Type 0} {files : D → Files} {Tells
     (call : SwapCall DiskTells files Tells faults start items new rows rows' at (Err u)) → (unfinished_by settings number at u).frozen ≡ None → IsUp call.one.after
 called_up {D} {P} {DiskTells} {files} {Tells} {faults} {start} {items} {new} {rows} {rows'} {at} settings number u call none =
     swaps_up DiskTells files Tells faults start items new rows rows' at call.one call.ups settings number u call.swaps none
+
+-- a refusal leaves each index as it was
+pub called_stuck : {D P : Type 0} {DiskTells : Type 0} {files : D → Files} {Tells : Type 0} {faults : D → ℕ} {start : Start} {items new : List (Copy D)} {rows rows' : MapRows P} {at : ℕ} (u : Unswapped)
+    (call : SwapCall DiskTells files Tells faults start items new rows rows' at (Err u)) → KeepsStuck items new
+called_stuck {D} {P} {DiskTells} {files} {Tells} {faults} {start} {items} {new} {rows} {rows'} {at} u call =
+    swaps_stuck DiskTells files Tells faults start items new rows rows' at call.one call.ups call.swaps.still

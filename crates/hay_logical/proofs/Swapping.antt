@@ -189,8 +189,11 @@ module _ {D : Type 0} (files : D → Files) (faults : D → ℕ) where
   holds_later r x y s run next (Unsure n) same stuck h = (h.0, h.1, subst (λ b. physical.Holds files y b s h.0) stuck h.2)
 
 -- the rows stay
-pub keeps_rows : {P : Type 0} (rows rows' : MapRows P) (at : ℕ) (u : Unswapped) → rows'.replicas ≡ rows.replicas → ((pair : Pair) → row_at rows' pair ≡ row_at rows pair) → KeepsPlaces rows rows' at (Err u)
-keeps_rows rows rows' at u width same = record { moved = tt; width = width; others = λ pair i apart. ap (λ l. place_in l i) (same pair); same = same }
+pub keeps_rows : {P : Type 0} (rows : MapRows P) (at : ℕ) (u : Unswapped) → KeepsPlaces rows rows at (Err u)
+keeps_rows rows at u = record { moved = tt; width = refl; others = λ pair i apart. refl; same = refl }
+
+pub rows_stay : {P : Type 0} {rows rows' : MapRows P} {at : ℕ} {u : Unswapped} → KeepsPlaces rows rows' at (Err u) → (pair : Pair) → row_at rows' pair ≡ row_at rows pair
+rows_stay places pair = ap (λ x. row_at x pair) places.same
 
 -- a refusal behind what went before
 pub stays_later : {D P : Type 0} (DiskTells : Type 0) (files : D → Files) (r x y : Copy D) (result : Result (NewFiles P) Unswapped) → StaysInReach DiskTells files r x → OnErr result (StaysInReach DiskTells files x y) → OnErr result (StaysInReach DiskTells files r y)
@@ -211,6 +214,8 @@ module _ {D P : Type 0} (DiskTells : Type 0) (files : D → Files) (faults : D �
         let next = meets tells s run stands start places in
         let made = swaps.swapped tells s next.0 (on.stands tells s stands) next.2 places in
         record { stored = made.stored; to = to_later files faults s made.stored run next.0 next.1 made.to; stands = made.stands; places = made.places; generation_is = made.generation_is };
+    sizes = swaps.sizes;
+    still = tt;
     removed = λ tells s stands. removed_since (files y.disk) (volume_file s.generation) (index_file s.generation) (faults r.disk) (faults x.disk) (faults y.disk) low (swaps.removed tells s (on.stands tells s stands));
     refused = λ tells s run stands start places. tt;
     reach = λ tells reach. swaps.reach tells (reaches_on files rows rows at r x (λ u. up) (λ u. up_open r up) (on.reach tells) (λ pair. refl) reach);
@@ -221,6 +226,8 @@ module _ {D P : Type 0} (DiskTells : Type 0) (files : D → Files) (faults : D �
     up = tt;
     left = left_later files faults r x y u a b later rest low swaps.left;
     swapped = λ tells s run stands start places. tt;
+    sizes = λ tells. tt;
+    still = swaps.still ∙ on.stuck;
     removed = λ tells s stands. tt;
     refused = λ tells s run stands start places.
         let next = meets tells s run stands start places in

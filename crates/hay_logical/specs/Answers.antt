@@ -362,6 +362,11 @@ FinishRefused files Tells k replica old new (Busy m generation) = ⊥
 FinishRefused files Tells k replica old new (Worn m) = ⊥
 FinishRefused files Tells k replica old new (Damaged m at) = ⊥
 
+-- The files of a replica were swapped, and have just the photos that stood.
+pub record IsTightened {D P : Type 0} (files : D → Files) (Tells : Type 0) (k : VolumeKnown) (replica : ℕ) (new : Volume D P) : Type 0 where
+  pub swaps : StandsSwapped files Tells IsTight as_it_is k replica new
+  pub sizes : (r : Copy D) → At new.replicas replica r → HasSizes files r swaps.0 swaps.1
+
 pub record IsCompacted {D P : Type 0} (files : D → Files) (Tells : Type 0) (k : VolumeKnown) (replica generation : ℕ) (new : Volume D P) : Type 0 where
   pub thawed : k.frozen ≡ None
   pub rest : MayBegin k replica

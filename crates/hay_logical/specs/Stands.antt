@@ -16,6 +16,7 @@ use Rattle.hay_map.specs.Rows.{row_at}
 use Rattle.hay_open.specs.Stored.{Stored, last_cell}
 use Rattle.hay_physical.specs.Copies.{Copy, contents_of, goal_of, is_stuck}
 use Rattle.hay_physical.specs.Replicas as physical
+use Rattle.hay_physical.specs.Runs as runs
 use Rattle.hay_logical.specs.declared.unsure.Change.{Change}
 use Rattle.hay_logical.specs.declared.unsure.Change.TheVariants as change
 use Rattle.hay_logical.specs.declared.unsure.Unsure.{Unsure}
@@ -109,6 +110,17 @@ pub record StandsFor {D P : Type 0} (files : D → Files) (Tells : Type 0) (volu
 -- An open volume stands for what is known of it.
 unfoldable pub Stands : {D P : Type 0} → (D → Files) → Type 0 → Volume D P → VolumeKnown → Type 0
 Stands files Tells volume k = StandsFor files Tells volume k
+
+-- A compaction stands at a replica that has copied just what stands: nothing but it has changed the replica.
+pub record RunsTight {D : Type 0} (files : D → Files) (r : Copy D) : Type 0 where
+  pub stored : Stored
+  pub stands : physical.Stands files r stored
+  pub run : runs.Run
+  pub has : runs.HasRun files r stored (Some run)
+  pub tight : run.tight ≡ true
+
+abbrev pub IsTightAt : {D P : Type 0} → (D → Files) → Volume D P → ℕ → Type 0
+IsTightAt {D} files volume j = (r : Copy D) → At volume.replicas j r → RunsTight files r
 
 -- CLOSED VOLUMES
 

@@ -3,6 +3,7 @@ use Rattle.std.specs.Prelude.{◌≡◌, ◌⊎◌, ◌≤◌, ◌<◌, ◌+◌,
 use Rattle.hay_needle.specs.declared.needle.Cell.{Cell}
 use Rattle.hay_needle.specs.declared.needle.Cookie.{Cookie}
 use Rattle.hay_needle.specs.declared.needle.Pair.{Pair}
+use Rattle.hay_needle.specs.declared.settings.Settings.{Settings}
 use Rattle.hay_needle.specs.declared.settings.Super.{Super}
 use Rattle.hay_needle.specs.declared.needle.Outcome.{Outcome}
 use Rattle.hay_needle.specs.Needle.{NeedleBytes, needle_of_cell}
@@ -10,6 +11,7 @@ use Rattle.hay_needle.specs.Sizes.{needle_total}
 use Rattle.hay_needle.specs.Tables.{pair_eq}
 use Rattle.hay_disk.specs.Counts.{IsNext, Rose}
 use Rattle.hay_disk.specs.Disk.{Files, IsSolid, MayLeave}
+use Rattle.hay_legal.specs.Known.{machine_of}
 use Rattle.hay_volume.specs.Cells.{live_cell}
 use Rattle.hay_map.specs.MapRows.{MapRows}
 use Rattle.hay_map.specs.Places.{place_in}
@@ -37,9 +39,14 @@ use Rattle.hay_logical.specs.declared.replicas.DiskFailed.{DiskFailed}
 use Rattle.hay_logical.specs.declared.runs.NewFiles.{NewFiles}
 use Rattle.hay_logical.specs.declared.runs.Unswapped.{Unswapped}
 use Rattle.hay_logical.specs.declared.runs.Unswapped.TheVariants.{Refused, Unsure}
+use Rattle.hay_logical.specs.Answers.{HasSizes}
 use Rattle.hay_logical.specs.Fits.{At, PhotoAt, PlaceStands}
 use Rattle.hay_logical.specs.Refusals.{IsUntouched}
 use Rattle.hay_logical.specs.Volumes.{ReachesPlaces}
+
+-- of each replica, whether a flush has failed, as before
+abbrev pub KeepsStuck : {D : Type 0} → List (Copy D) → List (Copy D) → Type 0
+KeepsStuck {D} old new = (j : ℕ) (r r' : Copy D) → At old j r → At new j r' → is_stuck r' ≡ is_stuck r
 
 -- ROOM
 
@@ -164,6 +171,11 @@ pub record KeepsBytes (old new : Files) : Type 0 where
 -- So it is of each replica's files.
 abbrev pub KeepsFiles : {D : Type 0} → Type 0 → (D → Files) → List (Copy D) → List (Copy D) → Type 0
 KeepsFiles {D} DiskTells files old new = DiskTells → (j : ℕ) (r r' : Copy D) → At old j r → At new j r' → KeepsBytes (files r.disk) (files r'.disk)
+
+-- So it is of each replica behind one that is on this machine.
+abbrev pub KeepsAbove : {D : Type 0} → Type 0 → (D → Files) → Settings → ℕ → ℕ → List (Copy D) → List (Copy D) → Type 0
+KeepsAbove {D} DiskTells files settings v m old new = DiskTells → (i j : ℕ) → i < settings.replicas → m ≡ machine_of settings v i → i < j →
+    (r r' : Copy D) → At old j r → At new j r' → KeepsBytes (files r.disk) (files r'.disk)
 
 -- A look at the place of a pair: one that was not seen yet is seen, as what it stands for, or a refusal has left it.
 pub record SightsAt {D P : Type 0} (DiskTells : Type 0) (files : D → Files) (faults : D → ℕ) (Tells : Type 0) (pair : Pair) (rows rows' : MapRows P) (at : ℕ) (r r' : Copy D) (result : Result Unit ReplicaFault) : Type 0 where
@@ -450,16 +462,18 @@ pub record SwapsAt {D P : Type 0} (DiskTells : Type 0) (files : D → Files) (fa
       IfOk result (λ new. Swapped files Tells rows' at r' s run new.generation)
   pub removed : DiskTells → (s : Stored) → physical.Stands files r s →
       OnOk result (RemovedBoth (files r'.disk) (volume_file s.generation) (index_file s.generation) (faults r.disk) (faults r'.disk))
+  pub sizes : DiskTells → IfOk result (λ new. HasSizes files r' new.end new.count)
   pub refused : DiskTells → (s : Stored) (run : Run) → physical.Stands files r s → StartsRun files start r s run → PlacesAre Tells rows at s →
       IfErr result (HoldsUnswapped files r r' s run)
+  pub still : OnErr result (is_stuck r' ≡ is_stuck r)
   pub reach : DiskTells → ReachesPlaces files rows at r → ReachesPlaces files rows' at r'
 
--- the places of the replica moved to its new cells, those of the other replicas stay, and all behind a refusal
+-- the places of the replica moved to its new cells, those of the other replicas stay, and all rows behind a refusal
 pub record KeepsPlaces {P : Type 0} (rows rows' : MapRows P) (at : ℕ) (result : Result (NewFiles P) Unswapped) : Type 0 where
   pub moved : IfOk result (λ new. ChangesRows (op.Swap at new.cells) rows rows')
   pub width : rows'.replicas ≡ rows.replicas
   pub others : (pair : Pair) (i : ℕ) → (i ≡ at → ⊥) → place_in (row_at rows' pair) i ≡ place_in (row_at rows pair) i
-  pub same : OnErr result ((pair : Pair) → row_at rows' pair ≡ row_at rows pair)
+  pub same : OnErr result (rows' ≡ rows)
 
 -- A replica was called so, and where it takes no changes then, the compactions of the others ended.
 pub record SwapsOne {D : Type 0} (DiskTells : Type 0) (files : D → Files) (at : ℕ) (old new : List (Copy D)) : Type 0 where

@@ -9,7 +9,7 @@
 //!
 //! A compaction of a replica goes on beside the changes, a few cells at a time, or all at once. What freezes the volume
 //! ends the compactions of all replicas: a change that was broken off, or a swap of a replica's files of which no one knows
-//! whether it was made, or whose photos were not given their new places.
+//! whether it was made.
 //!
 //! A volume also stands for what is known where a disk tells nothing of what it holds, as far as counts go.
 #![tactic(auto)]

@@ -14,17 +14,18 @@ ghost use Rattle.hay_map.specs.declared.view.MapOp.TheVariants as map_op;
 ghost use Rattle.hay_open.specs.Damage.{IsOpeningDamage};
 ghost use Rattle.hay_open.specs.declared.fault.OpenFault.TheVariants as open_fault;
 ghost use Rattle.hay_physical.specs.declared.state.Phase.TheVariants.{Closed};
-ghost use Rattle.hay_physical.specs.Copies.{Copy, contents_of, goal_of};
+ghost use Rattle.hay_physical.specs.Copies.{Copy, contents_of, goal_of, is_stuck};
 ghost use Rattle.hay_physical.specs.Copies as copies;
 ghost use Rattle.hay_compact.specs.Finishing.{IsSeen};
 ghost use Rattle.hay_logical.specs.Draws.{DrewAt, HasDrawnNothing, looked_pair};
 ghost use Rattle.hay_logical.specs.Fits.{At, PlaceStands, super_of};
 ghost use Rattle.hay_logical.specs.Notes.{DeleteLeavesUnsure, NotesTell, PutLeavesUnsure};
-ghost use Rattle.hay_logical.specs.Steps.{AllIdle, IsRefusedAt, IsSeenBy, KeepsDisk, KeepsFiles, LosesRun, RoomFor, SetsPlaceAt};
+ghost use Rattle.hay_logical.specs.Refusals.{DeleteFreezes, FailureMayFreeze, FlushSticks, IsUntouchedBy, PutFreezes};
+ghost use Rattle.hay_logical.specs.Steps.{AllIdle, IsRefusedAt, IsSeenBy, KeepsAbove, KeepsDisk, KeepsFiles, KeepsStuck, LosesRun, RoomFor, SetsPlaceAt};
 ghost use Rattle.hay_logical.specs.Volumes.{HasAll, IsClosed, IsMachineOf, IsOfSettings, IsOpenVolume, IsSame, KeepsCounts, Volume};
 ghost use Rattle.hay_logical.specs.Unshown.{GivesUp, IsErased, IsWritten, IsWrittenFor, ShowsSame};
-ghost use Rattle.hay_logical.specs.Stands.{Holds, IsFirst, IsIdleVolume, Stands, Stopped};
-ghost use Rattle.hay_logical.specs.Answers.{BeginRefused, BreaksPutOff, CompactRefused, DeleteRefused, FinishRefused, FlushRefused, IsBeginFault, IsBegun, IsCompactFault, IsCompacted, IsDeleteFault, IsDeleted, IsFinished, IsFlushFault, IsFlushed, IsPut, IsPutFault, IsReopened, IsRoomFault, IsRunFault, IsSightFault, IsStepped, PutRefused, RemovesOld, StepRefused, change_at, room_answer};
+ghost use Rattle.hay_logical.specs.Stands.{Holds, IsFirst, IsIdleVolume, IsTightAt, Stands, Stopped};
+ghost use Rattle.hay_logical.specs.Answers.{BeginRefused, BreaksPutOff, CompactRefused, DeleteRefused, FinishRefused, FlushRefused, HasSizes, IsBeginFault, IsBegun, IsCompactFault, IsCompacted, IsDeleteFault, IsDeleted, IsFinished, IsFlushFault, IsFlushed, IsPut, IsPutFault, IsReopened, IsRoomFault, IsRunFault, IsSightFault, IsStepped, IsTightened, PutRefused, RemovesOld, StepRefused, change_at, room_answer};
 
 use crate::fault::{LogicalFault, Unopened};
 use crate::notes::{machine_of, notes_of};
@@ -147,6 +148,9 @@ impl<D: Disk> Logical<D> {
         ensures told { IfOk result (NotesTell self.old.settings self.old.number self.old.unsure) }
         ensures fits { IfOk result (AllByRecursion FitsNote) }
         ensures settled { OnOk result (self.new.unsure ≡ None) }
+        // No disk is void then.
+        ensures formatted { D.Tells → OnOk result ((j : ℕ) (r : Copy D) → At self.new.replicas j r → contents_of D.files r.disk 0 ≡ [] → ⊥) }
+        ensures thawed { OnOk result (self.new.frozen ≡ None) }
         ensures open { OnOk result (IsOpenVolume self.new) }
         // Nothing of what was read of the disks is damaged.
         ensures undamaged { D.Tells → OnOk result ((j : ℕ) (r : Copy D) → At self.old.replicas j r →
@@ -206,6 +210,7 @@ impl<D: Disk> Logical<D> {
         ensures frozen { (m : ℕ) → self.now.frozen ≡ Some m → result ≡ Err (LogicalFault.ReadOnly m) }
         ensures fits { OnOk result ((self.now.frozen ≡ None) × ((j : ℕ) (r : Copy D) → At self.now.replicas j r → RoomFor size r)) }
         ensures takes { self.now.frozen ≡ None → ((j : ℕ) (r : Copy D) → At self.now.replicas j r → RoomFor size r) → IsOk result }
+        ensures thawed { self.now.frozen ≡ None → (m : ℕ) → result ≡ Err (LogicalFault.ReadOnly m) → ⊥ }
         ensures causes { IfErr result (IsRoomFault self.now.settings self.now.number) }
     {
         if let Some(machine) = self.frozen {
@@ -262,11 +267,18 @@ impl<D: Disk> Logical<D> {
         ensures causes { IfErr result (IsPutFault D.fault_count self.old.settings self.old.number self.old.replicas self.new.replicas) }
         ensures takes { self.old.frozen ≡ None → ((j : ℕ) (r : Copy D) → At self.old.replicas j r → RoomFor (length bytes.now) r) → IfErr result BreaksPutOff }
         ensures refused_unsure { IfErr result (PutLeavesUnsure tag self.old.unsure self.new.unsure) }
+        ensures freezes { IfErr result (PutFreezes self.old.settings self.old.number self.old.frozen self.new.frozen) }
         // Where the volume is frozen or a replica lacks room, all stays. A refusal that left no change pending changed no byte.
         ensures read_only { (m : ℕ) → result ≡ Err (LogicalFault.ReadOnly m) → self.new ≡ self.old }
         ensures full { (m end need capacity : ℕ) → result ≡ Err (LogicalFault.Full m end need capacity) → self.new ≡ self.old }
         ensures files { OnErr result (self.new.unsure ≡ self.old.unsure → KeepsFiles D.Tells D.files self.old.replicas self.new.replicas) }
+        // A refusal that left no change pending leaves a compaction tight that was so.
+        ensures tight { D.Tells → (j : ℕ) → IsTightAt D.files self.old j → OnErr result (self.new.unsure ≡ self.old.unsure → IsTightAt D.files self.new j) }
         ensures kept { OnErr result ((pair : Pair) → row_at self.new.rows pair ≡ row_at self.old.rows pair) }
+        // Each replica behind one whose disk failed keeps its files.
+        ensures above { (m count : ℕ) → result ≡ Err (LogicalFault.Failed m count) →
+            KeepsAbove D.Tells D.files self.old.settings self.old.number m self.old.replicas self.new.replicas }
+        ensures stuck { KeepsStuck self.old.replicas self.new.replicas }
         ensures open { IsOpenVolume self.new }
         ensures counts { KeepsCounts D.fault_count D.fuse_count self.old.replicas self.new.replicas }
         ensures same { IsSame self.old self.new }
@@ -391,10 +403,16 @@ impl<D: Disk> Logical<D> {
         ensures takes { self.old.frozen ≡ None → ((j : ℕ) (r : Copy D) → At self.old.replicas j r → RoomFor (length bytes.now) r) → IfErr result BreaksPutOff }
         ensures stored_unsure { OnOk result (self.new.unsure ≡ self.old.unsure) }
         ensures refused_unsure { IfErr result (PutLeavesUnsure tag self.old.unsure self.new.unsure) }
+        ensures freezes { IfErr result (PutFreezes self.old.settings self.old.number self.old.frozen self.new.frozen) }
+        ensures still { OnOk result (self.new.frozen ≡ self.old.frozen) }
         // Where the volume is frozen or a replica lacks room, all stays. A refusal that left no change pending changed no byte.
         ensures read_only { (m : ℕ) → result ≡ Err (LogicalFault.ReadOnly m) → self.new ≡ self.old }
         ensures full { (m end need capacity : ℕ) → result ≡ Err (LogicalFault.Full m end need capacity) → self.new ≡ self.old }
         ensures files { OnErr result (self.new.unsure ≡ self.old.unsure → KeepsFiles D.Tells D.files self.old.replicas self.new.replicas) }
+        // Each replica behind one whose disk failed keeps its files.
+        ensures above { (m count : ℕ) → result ≡ Err (LogicalFault.Failed m count) →
+            KeepsAbove D.Tells D.files self.old.settings self.old.number m self.old.replicas self.new.replicas }
+        ensures stuck { KeepsStuck self.old.replicas self.new.replicas }
         ensures open { IsOpenVolume self.new }
         ensures counts { KeepsCounts D.fault_count D.fuse_count self.old.replicas self.new.replicas }
         ensures same { IsSame self.old self.new }
@@ -442,6 +460,8 @@ impl<D: Disk> Logical<D> {
         ensures others { (j : ℕ) → (j ≡ replica → ⊥) → (r r' : Copy D) → At self.old.replicas j r → At self.new.replicas j r' → r' ≡ r }
         // Behind a look each file has its bytes.
         ensures files { KeepsFiles D.Tells D.files self.old.replicas self.new.replicas }
+        ensures stuck { KeepsStuck self.old.replicas self.new.replicas }
+        ensures tight { D.Tells → (k : VolumeKnown) → Stands D.files D.Piece.Tells self.old k → (j : ℕ) → IsTightAt D.files self.old j → IsTightAt D.files self.new j }
         ensures open { IsOpenVolume self.new }
         ensures counts { KeepsCounts D.fault_count D.fuse_count self.old.replicas self.new.replicas }
         ensures same { IsSame self.old self.new }
@@ -474,6 +494,8 @@ impl<D: Disk> Logical<D> {
         ensures machine { (m count : ℕ) → result ≡ Err (LogicalFault.Failed m count) → m ≡ machine_of self.old.settings self.old.number replica }
         ensures others { (j : ℕ) → (j ≡ replica → ⊥) → (r r' : Copy D) → At self.old.replicas j r → At self.new.replicas j r' → r' ≡ r }
         ensures files { KeepsFiles D.Tells D.files self.old.replicas self.new.replicas }
+        ensures stuck { KeepsStuck self.old.replicas self.new.replicas }
+        ensures tight { D.Tells → (k : VolumeKnown) → Stands D.files D.Piece.Tells self.old k → (j : ℕ) → IsTightAt D.files self.old j → IsTightAt D.files self.new j }
         ensures open { IsOpenVolume self.new }
         ensures counts { KeepsCounts D.fault_count D.fuse_count self.old.replicas self.new.replicas }
         ensures same { IsSame self.old self.new }
@@ -502,6 +524,8 @@ impl<D: Disk> Logical<D> {
         ensures seen { OnOk result ((j : ℕ) → j < self.new.settings.replicas → IsSeen (place_in (row_at self.new.rows pair) j)) }
         ensures causes { IfErr result (IsSightFault D.fault_count self.old.settings self.old.number self.old.replicas self.new.replicas) }
         ensures files { KeepsFiles D.Tells D.files self.old.replicas self.new.replicas }
+        ensures stuck { KeepsStuck self.old.replicas self.new.replicas }
+        ensures tight { D.Tells → (k : VolumeKnown) → Stands D.files D.Piece.Tells self.old k → (j : ℕ) → IsTightAt D.files self.old j → IsTightAt D.files self.new j }
         ensures open { IsOpenVolume self.new }
         ensures counts { KeepsCounts D.fault_count D.fuse_count self.old.replicas self.new.replicas }
         ensures same { IsSame self.old self.new }
@@ -532,10 +556,18 @@ impl<D: Disk> Logical<D> {
         ensures refused { D.Tells → (k : VolumeKnown) → Stands D.files D.Piece.Tells self.old k →
             IfErr result (DeleteRefused D.files D.Piece.Tells k tag pair self.new) }
         ensures frozen { (m : ℕ) → self.old.frozen ≡ Some m → (result ≡ Err (LogicalFault.ReadOnly m)) × (self.new ≡ self.old) }
+        ensures thawed { self.old.frozen ≡ None → (m : ℕ) → result ≡ Err (LogicalFault.ReadOnly m) → ⊥ }
         ensures causes { IfErr result (IsDeleteFault D.fault_count self.old.settings self.old.number self.old.replicas self.new.replicas) }
         ensures refused_unsure { IfErr result (DeleteLeavesUnsure tag self.old.unsure self.new.unsure) }
+        ensures freezes { IfErr result (DeleteFreezes self.old.frozen self.new.frozen self.old.unsure self.new.unsure) }
         // A refusal that left no change pending changed no byte of a file.
         ensures files { OnErr result (self.new.unsure ≡ self.old.unsure → KeepsFiles D.Tells D.files self.old.replicas self.new.replicas) }
+        // Each replica behind one whose disk failed keeps its files.
+        ensures above { (m count : ℕ) → result ≡ Err (LogicalFault.Failed m count) →
+            KeepsAbove D.Tells D.files self.old.settings self.old.number m self.old.replicas self.new.replicas }
+        ensures stuck { KeepsStuck self.old.replicas self.new.replicas }
+        ensures tight { D.Tells → (k : VolumeKnown) → Stands D.files D.Piece.Tells self.old k → (j : ℕ) → IsTightAt D.files self.old j →
+            OnErr result (self.new.unsure ≡ self.old.unsure → IsTightAt D.files self.new j) }
         ensures open { IsOpenVolume self.new }
         ensures counts { KeepsCounts D.fault_count D.fuse_count self.old.replicas self.new.replicas }
         ensures same { IsSame self.old self.new }
@@ -560,9 +592,16 @@ impl<D: Disk> Logical<D> {
             IfErr result (DeleteRefused D.files D.Piece.Tells k tag pair self.new) }
         ensures causes { IfErr result (IsDeleteFault D.fault_count self.old.settings self.old.number self.old.replicas self.new.replicas) }
         ensures refused_unsure { IfErr result (DeleteLeavesUnsure tag self.old.unsure self.new.unsure) }
+        ensures freezes { IfErr result (DeleteFreezes self.old.frozen self.new.frozen self.old.unsure self.new.unsure) }
         ensures undamaged { (m at : ℕ) → result ≡ Err (LogicalFault.Damaged m at) → ⊥ }
+        ensures thawed { (m : ℕ) → result ≡ Err (LogicalFault.ReadOnly m) → ⊥ }
         ensures files { OnErr result (self.new.unsure ≡ self.old.unsure → KeepsFiles D.Tells D.files self.old.replicas self.new.replicas) }
+        ensures tight { D.Tells → (j : ℕ) → IsTightAt D.files self.old j → OnErr result (self.new.unsure ≡ self.old.unsure → IsTightAt D.files self.new j) }
         ensures kept { OnErr result ((pair : Pair) → row_at self.new.rows pair ≡ row_at self.old.rows pair) }
+        // Each replica behind one whose disk failed keeps its files.
+        ensures above { (m count : ℕ) → result ≡ Err (LogicalFault.Failed m count) →
+            KeepsAbove D.Tells D.files self.old.settings self.old.number m self.old.replicas self.new.replicas }
+        ensures stuck { KeepsStuck self.old.replicas self.new.replicas }
         ensures open { IsOpenVolume self.new }
         ensures counts { KeepsCounts D.fault_count D.fuse_count self.old.replicas self.new.replicas }
         ensures same { IsSame self.old self.new }
@@ -620,11 +659,18 @@ impl<D: Disk> Logical<D> {
         ensures refused { D.Tells → (k : VolumeKnown) → Stands D.files D.Piece.Tells self.old k →
             IfErr result (DeleteRefused D.files D.Piece.Tells k tag pair self.new) }
         ensures frozen { (m : ℕ) → self.old.frozen ≡ Some m → (result ≡ Err (LogicalFault.ReadOnly m)) × (self.new ≡ self.old) }
+        ensures thawed { self.old.frozen ≡ None → (m : ℕ) → result ≡ Err (LogicalFault.ReadOnly m) → ⊥ }
         ensures causes { IfErr result (IsDeleteFault D.fault_count self.old.settings self.old.number self.old.replicas self.new.replicas) }
         ensures deleted_unsure { OnOk result (self.new.unsure ≡ self.old.unsure) }
         ensures refused_unsure { IfErr result (DeleteLeavesUnsure tag self.old.unsure self.new.unsure) }
+        ensures freezes { IfErr result (DeleteFreezes self.old.frozen self.new.frozen self.old.unsure self.new.unsure) }
+        ensures still { OnOk result (self.new.frozen ≡ self.old.frozen) }
         // A refusal that left no change pending changed no byte of a file.
         ensures files { OnErr result (self.new.unsure ≡ self.old.unsure → KeepsFiles D.Tells D.files self.old.replicas self.new.replicas) }
+        // Each replica behind one whose disk failed keeps its files.
+        ensures above { (m count : ℕ) → result ≡ Err (LogicalFault.Failed m count) →
+            KeepsAbove D.Tells D.files self.old.settings self.old.number m self.old.replicas self.new.replicas }
+        ensures stuck { KeepsStuck self.old.replicas self.new.replicas }
         ensures open { IsOpenVolume self.new }
         ensures counts { KeepsCounts D.fault_count D.fuse_count self.old.replicas self.new.replicas }
         ensures same { IsSame self.old self.new }
@@ -642,10 +688,17 @@ impl<D: Disk> Logical<D> {
             IfOk result (λ number. IsFlushed D.files D.Piece.Tells k replica number self.new) }
         ensures refused { D.Tells → (k : VolumeKnown) → Stands D.files D.Piece.Tells self.old k →
             IfErr result (FlushRefused D.files D.Piece.Tells k replica self.old self.new) }
+        ensures frozen { (m : ℕ) → self.old.frozen ≡ Some m → (result ≡ Err (LogicalFault.ReadOnly m)) × (self.new ≡ self.old) }
+        ensures untouched { IfErr result (λ fault. IsUntouchedBy fault → self.new ≡ self.old) }
+        ensures stuck_index { self.old.frozen ≡ None → (m : ℕ) → result ≡ Err (LogicalFault.ReadOnly m) →
+            (m ≡ machine_of self.old.settings self.old.number replica) × ((r : Copy D) → At self.old.replicas replica r → is_stuck r ≡ true) }
         ensures causes { IfErr result (IsFlushFault D.fault_count self.old.settings self.old.number replica self.old.replicas self.new.replicas) }
         ensures unsure { self.new.unsure ≡ self.old.unsure }
         ensures still { self.new ≡ record self.old { replicas = self.new.replicas } }
         ensures others { (j : ℕ) → (j ≡ replica → ⊥) → (r r' : Copy D) → At self.old.replicas j r → At self.new.replicas j r' → r' ≡ r }
+        ensures loose { OnOk result ((r : Copy D) → At self.new.replicas replica r → is_stuck r ≡ false) }
+        ensures stuck { IfErr result (λ fault. (r r' : Copy D) → At self.old.replicas replica r → At self.new.replicas replica r' → FlushSticks r r' fault) }
+        ensures tight { D.Tells → (j : ℕ) → IsTightAt D.files self.old j → IsTightAt D.files self.new j }
         ensures open { IsOpenVolume self.new }
         ensures counts { KeepsCounts D.fault_count D.fuse_count self.old.replicas self.new.replicas }
         ensures same { IsSame self.old self.new }
@@ -669,10 +722,15 @@ impl<D: Disk> Logical<D> {
             IfOk result (λ generation. IsBegun D.files D.Piece.Tells k replica generation self.new) }
         ensures refused { D.Tells → (k : VolumeKnown) → Stands D.files D.Piece.Tells self.old k →
             IfErr result (BeginRefused D.files D.Piece.Tells k replica self.old self.new) }
+        ensures frozen { (m : ℕ) → self.old.frozen ≡ Some m → (result ≡ Err (LogicalFault.ReadOnly m)) × (self.new ≡ self.old) }
+        ensures thawed { self.old.frozen ≡ None → (m : ℕ) → result ≡ Err (LogicalFault.ReadOnly m) → ⊥ }
+        ensures untouched { IfErr result (λ fault. IsUntouchedBy fault → self.new ≡ self.old) }
         ensures causes { IfErr result (IsBeginFault D.fault_count self.old.settings self.old.number replica self.old.replicas self.new.replicas) }
         ensures unsure { self.new.unsure ≡ self.old.unsure }
         ensures still { self.new ≡ record self.old { replicas = self.new.replicas } }
         ensures others { (j : ℕ) → (j ≡ replica → ⊥) → (r r' : Copy D) → At self.old.replicas j r → At self.new.replicas j r' → r' ≡ r }
+        ensures stuck { KeepsStuck self.old.replicas self.new.replicas }
+        ensures tight { D.Tells → (k : VolumeKnown) → Stands D.files D.Piece.Tells self.old k → OnOk result (IsTightAt D.files self.new replica) }
         ensures open { IsOpenVolume self.new }
         ensures counts { KeepsCounts D.fault_count D.fuse_count self.old.replicas self.new.replicas }
         ensures same { IsSame self.old self.new }
@@ -696,10 +754,18 @@ impl<D: Disk> Logical<D> {
             IfOk result (λ number. IsStepped D.files D.Piece.Tells k replica cells number self.new) }
         ensures refused { D.Tells → (k : VolumeKnown) → Stands D.files D.Piece.Tells self.old k →
             IfErr result (StepRefused D.files D.Piece.Tells k replica cells self.old self.new) }
+        ensures frozen { (m : ℕ) → self.old.frozen ≡ Some m → (result ≡ Err (LogicalFault.ReadOnly m)) × (self.new ≡ self.old) }
+        ensures thawed { self.old.frozen ≡ None → (m : ℕ) → result ≡ Err (LogicalFault.ReadOnly m) → ⊥ }
+        ensures untouched { IfErr result (λ fault. IsUntouchedBy fault → self.new ≡ self.old) }
         ensures causes { IfErr result (IsRunFault D.fault_count self.old.settings self.old.number replica self.old.replicas self.new.replicas) }
         ensures unsure { self.new.unsure ≡ self.old.unsure }
         ensures still { self.new ≡ record self.old { replicas = self.new.replicas } }
         ensures others { (j : ℕ) → (j ≡ replica → ⊥) → (r r' : Copy D) → At self.old.replicas j r → At self.new.replicas j r' → r' ≡ r }
+        ensures stuck { KeepsStuck self.old.replicas self.new.replicas }
+        // A compaction that was tight stays so, and so does every other one.
+        ensures tight { D.Tells → (k : VolumeKnown) → Stands D.files D.Piece.Tells self.old k → (j : ℕ) → IsTightAt D.files self.old j → OnOk result (IsTightAt D.files self.new j) }
+        ensures tight_partly { D.Tells → (k : VolumeKnown) → Stands D.files D.Piece.Tells self.old k → (j : ℕ) → IsTightAt D.files self.old j →
+            result ≡ Err LogicalFault.NoMemory → IsTightAt D.files self.new j }
         ensures open { IsOpenVolume self.new }
         ensures counts { KeepsCounts D.fault_count D.fuse_count self.old.replicas self.new.replicas }
         ensures same { IsSame self.old self.new }
@@ -725,19 +791,25 @@ impl<D: Disk> Logical<D> {
     /// Examines what is left for a replica's compaction, makes its files the current ones, and then changes the rows.
     /// Answers them, by whose cells the rows changed. Any refusal but `ReadOnly` and `Idle` ends the compaction.
     ///
-    /// `Failed` freezes the volume where the replica may stand before the swap or behind it, and so does `NoMemory`
-    /// behind the swap.
+    /// `Failed` freezes the volume where the replica may stand before the swap or behind it.
     pub fn finish_files(&mut self, replica: u32) -> Result<NewFiles<D::Piece>, LogicalFault>
         requires within { replica < self.old.settings.replicas }
         requires open { IsOpenVolume self.old }
         ensures finished { D.Tells → (k : VolumeKnown) → Stands D.files D.Piece.Tells self.old k →
             IfOk result (λ files. IsFinished D.files D.Piece.Tells k replica files.generation self.new) }
+        ensures tightened { D.Tells → (k : VolumeKnown) → Stands D.files D.Piece.Tells self.old k → IsTightAt D.files self.old replica →
+            OnOk result (IsTightened D.files D.Piece.Tells k replica self.new) }
         ensures rows { IfOk result (λ files. ChangesRows (map_op.Swap replica files.cells) self.old.rows self.new.rows) }
+        ensures sizes { D.Tells → IfOk result (λ files. (r : Copy D) → At self.new.replicas replica r → HasSizes D.files r files.end files.count) }
         ensures still { OnOk result ((self.new.front ≡ self.old.front) × (self.new.frozen ≡ self.old.frozen)) }
         ensures removed { D.Tells → (k : VolumeKnown) → Stands D.files D.Piece.Tells self.old k →
             OnOk result (RemovesOld D.files D.fault_count k replica self.old self.new) }
         ensures refused { D.Tells → (k : VolumeKnown) → Stands D.files D.Piece.Tells self.old k →
             IfErr result (FinishRefused D.files D.Piece.Tells k replica self.old self.new) }
+        ensures frozen { (m : ℕ) → self.old.frozen ≡ Some m → (result ≡ Err (LogicalFault.ReadOnly m)) × (self.new ≡ self.old) }
+        ensures thawed { self.old.frozen ≡ None → (m : ℕ) → result ≡ Err (LogicalFault.ReadOnly m) → ⊥ }
+        ensures untouched { IfErr result (λ fault. IsUntouchedBy fault → self.new ≡ self.old) }
+        ensures freezes { IfErr result (FailureMayFreeze self.old.frozen self.new.frozen) }
         ensures causes { IfErr result (IsRunFault D.fault_count self.old.settings self.old.number replica self.old.replicas self.new.replicas) }
         ensures kept { OnErr result ((pair : Pair) → row_at self.new.rows pair ≡ row_at self.old.rows pair) }
         ensures front { self.new.front ≡ self.old.front }
@@ -745,6 +817,8 @@ impl<D: Disk> Logical<D> {
         // Every other replica stays, unless the call froze the volume: then its compaction ended, and nothing but that.
         ensures others { self.new.frozen ≡ self.old.frozen → (j : ℕ) → (j ≡ replica → ⊥) → (r r' : Copy D) → At self.old.replicas j r → At self.new.replicas j r' → r' ≡ r }
         ensures beside { (j : ℕ) → (j ≡ replica → ⊥) → (r r' : Copy D) → At self.old.replicas j r → At self.new.replicas j r' → LosesRun D.Tells D.files r r' }
+        ensures loose { OnOk result ((r : Copy D) → At self.new.replicas replica r → is_stuck r ≡ false) }
+        ensures stuck { OnErr result (KeepsStuck self.old.replicas self.new.replicas) }
         ensures open { IsOpenVolume self.new }
         ensures counts { KeepsCounts D.fault_count D.fuse_count self.old.replicas self.new.replicas }
         ensures same { IsSame self.old self.new }
@@ -775,15 +849,24 @@ impl<D: Disk> Logical<D> {
         requires open { IsOpenVolume self.old }
         ensures finished { D.Tells → (k : VolumeKnown) → Stands D.files D.Piece.Tells self.old k →
             IfOk result (λ generation. IsFinished D.files D.Piece.Tells k replica generation self.new) }
+        ensures tightened { D.Tells → (k : VolumeKnown) → Stands D.files D.Piece.Tells self.old k → IsTightAt D.files self.old replica →
+            OnOk result (IsTightened D.files D.Piece.Tells k replica self.new) }
         ensures removed { D.Tells → (k : VolumeKnown) → Stands D.files D.Piece.Tells self.old k →
             OnOk result (RemovesOld D.files D.fault_count k replica self.old self.new) }
         ensures refused { D.Tells → (k : VolumeKnown) → Stands D.files D.Piece.Tells self.old k →
             IfErr result (FinishRefused D.files D.Piece.Tells k replica self.old self.new) }
+        ensures frozen { (m : ℕ) → self.old.frozen ≡ Some m → (result ≡ Err (LogicalFault.ReadOnly m)) × (self.new ≡ self.old) }
+        ensures thawed { self.old.frozen ≡ None → (m : ℕ) → result ≡ Err (LogicalFault.ReadOnly m) → ⊥ }
+        ensures untouched { IfErr result (λ fault. IsUntouchedBy fault → self.new ≡ self.old) }
+        ensures freezes { IfErr result (FailureMayFreeze self.old.frozen self.new.frozen) }
+        ensures still { OnOk result (self.new.frozen ≡ self.old.frozen) }
         ensures causes { IfErr result (IsRunFault D.fault_count self.old.settings self.old.number replica self.old.replicas self.new.replicas) }
         ensures unsure { self.new.unsure ≡ self.old.unsure }
         // Every other replica stays, unless the call froze the volume: then its compaction ended, and nothing but that.
         ensures others { self.new.frozen ≡ self.old.frozen → (j : ℕ) → (j ≡ replica → ⊥) → (r r' : Copy D) → At self.old.replicas j r → At self.new.replicas j r' → r' ≡ r }
         ensures beside { (j : ℕ) → (j ≡ replica → ⊥) → (r r' : Copy D) → At self.old.replicas j r → At self.new.replicas j r' → LosesRun D.Tells D.files r r' }
+        ensures loose { OnOk result ((r : Copy D) → At self.new.replicas replica r → is_stuck r ≡ false) }
+        ensures stuck { OnErr result (KeepsStuck self.old.replicas self.new.replicas) }
         ensures open { IsOpenVolume self.new }
         ensures counts { KeepsCounts D.fault_count D.fuse_count self.old.replicas self.new.replicas }
         ensures same { IsSame self.old self.new }
@@ -804,11 +887,16 @@ impl<D: Disk> Logical<D> {
         ensures compacted { D.Tells → (k : VolumeKnown) → Stands D.files D.Piece.Tells self.old k →
             IfOk result (λ files. IsCompacted D.files D.Piece.Tells k replica files.generation self.new) }
         ensures rows { IfOk result (λ files. ChangesRows (map_op.Swap replica files.cells) self.old.rows self.new.rows) }
+        ensures sizes { D.Tells → IfOk result (λ files. (r : Copy D) → At self.new.replicas replica r → HasSizes D.files r files.end files.count) }
         ensures still { OnOk result ((self.new.front ≡ self.old.front) × (self.new.frozen ≡ self.old.frozen)) }
         ensures removed { D.Tells → (k : VolumeKnown) → Stands D.files D.Piece.Tells self.old k →
             OnOk result (RemovesOld D.files D.fault_count k replica self.old self.new) }
         ensures refused { D.Tells → (k : VolumeKnown) → Stands D.files D.Piece.Tells self.old k →
             IfErr result (CompactRefused D.files D.Piece.Tells k replica self.old self.new) }
+        ensures frozen { (m : ℕ) → self.old.frozen ≡ Some m → (result ≡ Err (LogicalFault.ReadOnly m)) × (self.new ≡ self.old) }
+        ensures thawed { self.old.frozen ≡ None → (m : ℕ) → result ≡ Err (LogicalFault.ReadOnly m) → ⊥ }
+        ensures untouched { IfErr result (λ fault. IsUntouchedBy fault → self.new ≡ self.old) }
+        ensures freezes { IfErr result (FailureMayFreeze self.old.frozen self.new.frozen) }
         ensures causes { IfErr result (IsCompactFault D.fault_count self.old.settings self.old.number replica self.old.replicas self.new.replicas) }
         ensures kept { OnErr result ((pair : Pair) → row_at self.new.rows pair ≡ row_at self.old.rows pair) }
         ensures front { self.new.front ≡ self.old.front }
@@ -816,6 +904,8 @@ impl<D: Disk> Logical<D> {
         // Every other replica stays, unless the call froze the volume: then its compaction ended, and nothing but that.
         ensures others { self.new.frozen ≡ self.old.frozen → (j : ℕ) → (j ≡ replica → ⊥) → (r r' : Copy D) → At self.old.replicas j r → At self.new.replicas j r' → r' ≡ r }
         ensures beside { (j : ℕ) → (j ≡ replica → ⊥) → (r r' : Copy D) → At self.old.replicas j r → At self.new.replicas j r' → LosesRun D.Tells D.files r r' }
+        ensures loose { OnOk result ((r : Copy D) → At self.new.replicas replica r → is_stuck r ≡ false) }
+        ensures stuck { OnErr result (KeepsStuck self.old.replicas self.new.replicas) }
         ensures open { IsOpenVolume self.new }
         ensures counts { KeepsCounts D.fault_count D.fuse_count self.old.replicas self.new.replicas }
         ensures same { IsSame self.old self.new }
@@ -848,11 +938,18 @@ impl<D: Disk> Logical<D> {
             OnOk result (RemovesOld D.files D.fault_count k replica self.old self.new) }
         ensures refused { D.Tells → (k : VolumeKnown) → Stands D.files D.Piece.Tells self.old k →
             IfErr result (CompactRefused D.files D.Piece.Tells k replica self.old self.new) }
+        ensures frozen { (m : ℕ) → self.old.frozen ≡ Some m → (result ≡ Err (LogicalFault.ReadOnly m)) × (self.new ≡ self.old) }
+        ensures thawed { self.old.frozen ≡ None → (m : ℕ) → result ≡ Err (LogicalFault.ReadOnly m) → ⊥ }
+        ensures untouched { IfErr result (λ fault. IsUntouchedBy fault → self.new ≡ self.old) }
+        ensures freezes { IfErr result (FailureMayFreeze self.old.frozen self.new.frozen) }
+        ensures still { OnOk result (self.new.frozen ≡ self.old.frozen) }
         ensures causes { IfErr result (IsCompactFault D.fault_count self.old.settings self.old.number replica self.old.replicas self.new.replicas) }
         ensures unsure { self.new.unsure ≡ self.old.unsure }
         // Every other replica stays, unless the call froze the volume: then its compaction ended, and nothing but that.
         ensures others { self.new.frozen ≡ self.old.frozen → (j : ℕ) → (j ≡ replica → ⊥) → (r r' : Copy D) → At self.old.replicas j r → At self.new.replicas j r' → r' ≡ r }
         ensures beside { (j : ℕ) → (j ≡ replica → ⊥) → (r r' : Copy D) → At self.old.replicas j r → At self.new.replicas j r' → LosesRun D.Tells D.files r r' }
+        ensures loose { OnOk result ((r : Copy D) → At self.new.replicas replica r → is_stuck r ≡ false) }
+        ensures stuck { OnErr result (KeepsStuck self.old.replicas self.new.replicas) }
         ensures open { IsOpenVolume self.new }
         ensures counts { KeepsCounts D.fault_count D.fuse_count self.old.replicas self.new.replicas }
         ensures same { IsSame self.old self.new }
@@ -921,6 +1018,7 @@ impl<D: Disk> Logical<D> {
         ensures fused { (r r' : Copy D) → At self.old.replicas replica r → At self.new.replicas replica r' →
             IsNext (D.fuse_count r.disk) (D.fuse_count r'.disk) × (D.fault_count r'.disk ≡ D.fault_count r.disk) }
         ensures files { D.Tells → (r r' : Copy D) → At self.old.replicas replica r → At self.new.replicas replica r' → D.files r'.disk ≡ D.files r.disk }
+        ensures tight { D.Tells → (j : ℕ) → IsTightAt D.files self.old j → IsTightAt D.files self.new j }
         ensures others { (j : ℕ) → (j ≡ replica → ⊥) → (r r' : Copy D) → At self.old.replicas j r → At self.new.replicas j r' → r' ≡ r }
         ensures count { length self.new.replicas ≡ length self.old.replicas }
         ensures still { self.new ≡ record self.old { replicas = self.new.replicas } }

@@ -22,11 +22,14 @@ pub(crate) enum Unswapped {
     Unsure { faults: u64 },
 }
 
-/// The new files of a replica: their generation, and the cells to which its photos moved.
+/// The new files of a replica: their generation, the cells to which its photos moved, where the cells of the volume file end,
+/// and how many these are, also of photos that were deleted meanwhile.
 #[derive(Drop)]
 pub struct NewFiles<P: Piece> {
     pub generation: u64,
     pub cells: Listed<OpenCell<P>>,
+    pub end: u64,
+    pub count: u64,
 }
 
 /// Lets go of the compaction of each replica.
@@ -207,12 +210,15 @@ fn swap<D: Disk>(
     ensures counts { D.fault_count replica.old.disk ≤ D.fault_count replica.new.disk }
     ensures fuses { D.fuse_count replica.new.disk ≡ D.fuse_count replica.old.disk }
 {
+    let count = replica.copied();
     match replica.finish() {
         Ok(places) => {
             rows.swap(at, places.as_slice());
             Ok(NewFiles {
                 generation: replica.generation(),
                 cells: Listed::from_vec(places),
+                end: replica.end(),
+                count,
             })
         }
         Err(fault) => Err(why_unswapped(replica, fault)),

@@ -8,12 +8,13 @@ use Rattle.hay_needle.specs.declared.settings.Super.{Super}
 use Rattle.hay_needle.specs.Needle.{needle_magic}
 use Rattle.hay_needle.specs.Super.{super_bytes}
 use Rattle.hay_disk.specs.Disk.{Files, FileState, KeepsOthers, IsImage, IsSolid}
-use Rattle.hay_disk.specs.Gate.{IsGate}
+use Rattle.hay_disk.specs.Gate.{IsClosed, IsGate}
 use Rattle.hay_disk.proofs.Images.{solid_whole}
 use Rattle.hay_head.specs.Head.{IsHead}
 use Rattle.hay_volume.specs.declared.volume.VolumeFile.{VolumeFile}
-use Rattle.hay_volume.specs.Cells.{IsVolume, needles_of}
+use Rattle.hay_volume.specs.Cells.{HasCells, IsVolume, needles_of}
 use Rattle.hay_volume.proofs.FlagLaws.{placed}
+use Rattle.hay_volume.proofs.Readings.{one_reading}
 use Rattle.hay_index.specs.declared.index.IndexFile.{IndexFile}
 use Rattle.hay_index.specs.Records.{IsIndex, index_magic}
 use Rattle.hay_map.specs.declared.place.Place.{Place}
@@ -139,6 +140,19 @@ swap_flags {P = P} Tells sup f1 f2 opened new stage fresh finished pair x fin is
     let end : finished.volume.end ≡ stage.volume.end = ap (λ (v : VolumeFile). v.end) fin.volume_is in
     let rests : VolumeRests sup (f2 finished.volume.file) (stored_of stage fresh) = subst (λ k. VolumeRests sup (f2 k) (stored_of stage fresh)) (sym file) (subst (λ (s : FileState). VolumeRests sup s (stored_of stage fresh)) (sym made.volume) fin.volume_rests) in
     subst (λ (o : OpenFiles). MayFlagPlace f2 o x) (sym is) (flag_place Tells sup f2 (swapped_files opened finished) (stored_of stage fresh) pair (last_cell fresh pair) x rests end refl fits)
+
+-- Whatever the new files are said to stand for, its cells are those that were copied.
+pub swap_counts : {P : Type 0} (Tells : Type 0) (sup other : Super) (f1 f2 : Files) (opened new : OpenFiles) (t : Stored) (stage : Stage) (fresh : List Cell) (finished : Finished P)
+    → IsFinished Tells sup f1 finished stage fresh → new ≡ swapped_files opened finished → KeepsMade f1 f2 stage.generation → stage.index.pending ≡ map cell_record fresh
+    → FilesStand other f2 new t → length t.cells ≡ length stage.index.pending
+swap_counts Tells sup other f1 f2 opened new t stage fresh finished fin is made noted f =
+    let file : finished.volume.file ≡ volume_file stage.generation = ap (λ (v : VolumeFile). v.file) fin.volume_is in
+    let there : volume_file t.generation ≡ volume_file stage.generation = sym (ap (λ (v : VolumeFile). v.file) f.volume) ∙ ap (λ (o : OpenFiles). o.volume.file) is ∙ file in
+    let rests : VolumeRests sup (f2 (volume_file stage.generation)) (stored_of stage fresh) = subst (λ (x : FileState). VolumeRests sup x (stored_of stage fresh)) (sym made.volume) fin.volume_rests in
+    let now = subst (λ k. HasCells 64 (f2 k).now t.cells t.end) there f.cells.is.has in
+    let shut = subst (λ k. IsClosed needle_magic t.end (f2 k).now) there f.cells.is.closed in
+    let same = one_reading 64 t.end stage.volume.end (f2 (volume_file stage.generation)).now t.cells fresh now shut rests.is.has rests.is.closed in
+    ap length same.0 ∙ sym (ap length noted ∙ length-map fresh cell_record)
 
 -- Where the head was not written whole, an opening finds what stood or what was made.
 pub swap_finds : {P : Type 0} (Tells : Type 0) (sup : Super) (f0 f1 f2 : Files) (opened : OpenFiles) (s : Stored) (stage : Stage) (fresh : List Cell) (finished : Finished P)

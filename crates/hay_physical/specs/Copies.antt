@@ -1,5 +1,5 @@
 -- A replica as contracts see it.
-use Rattle.std.specs.Prelude.{◌≡◌, ℕ, Bool, true, false, List, Option, Some, None, ⊤}
+use Rattle.std.specs.Prelude.{◌≡◌, ℕ, Bool, true, false, List, length, Option, Some, None, ⊤}
 use Rattle.hay_needle.specs.declared.settings.Super.{Super}
 use Rattle.hay_disk.specs.Disk.{Files}
 use Rattle.hay_physical.specs.declared.state.Copier.{Copier}
@@ -61,6 +61,14 @@ abbrev pub copier_faults : Copier → ℕ
 copier_faults (Ended faults) = faults
 copier_faults (Standing stage) = 0
 
+abbrev pub copier_copied : Copier → ℕ
+copier_copied (Ended faults) = 0
+copier_copied (Standing stage) = length stage.index.pending
+
+abbrev pub phase_copied : Phase → ℕ
+phase_copied Closed = 0
+phase_copied (Open opened) = copier_copied opened.copier
+
 abbrev pub phase_goal : Phase → Option ℕ
 phase_goal Closed = None
 phase_goal (Open opened) = copier_goal opened.copier
@@ -72,6 +80,10 @@ phase_faults (Open opened) = copier_faults opened.copier
 -- the generation that a compaction makes, if one stands
 abbrev pub goal_of : {D : Type 0} → Copy D → Option ℕ
 goal_of r = phase_goal r.phase
+
+-- how many cells the compaction that stands has copied
+abbrev pub copied_of : {D : Type 0} → Copy D → ℕ
+copied_of r = phase_copied r.phase
 
 -- how many calls of the disk had failed when the last compaction ended
 abbrev pub faults_at_end : {D : Type 0} → Copy D → ℕ

@@ -8,7 +8,7 @@ ghost use Rattle.hay_map.specs.Rows.{last_place};
 ghost use Rattle.hay_open.specs.Stored.{Stored, index_file, volume_file};
 ghost use Rattle.hay_compact.specs.Copying.{IsLatest};
 ghost use Rattle.hay_compact.specs.Finishing.{ArePhotos, AreThePlaces, IsSeen};
-ghost use Rattle.hay_physical.specs.Copies.{IsFrozen, IsOpenCopy, IsUp, faults_at_end, generation_of, goal_of, is_frozen, is_stuck};
+ghost use Rattle.hay_physical.specs.Copies.{IsFrozen, IsOpenCopy, IsUp, copied_of, faults_at_end, generation_of, goal_of, is_frozen, is_stuck};
 ghost use Rattle.hay_physical.specs.Faults.{IsBeginFault, IsPeekFault, IsRunFault};
 ghost use Rattle.hay_physical.specs.Replicas.{Anywhere, Holds, KeepsSight, MayDelete, MayDeletePlace, ShowsCell, Stands};
 ghost use Rattle.hay_physical.specs.Runs.{EndsRun, HasNext, HasPair, HasRun, IsPeeked, IsTight, RemovedBoth, Run, Swaps, stepped};
@@ -70,6 +70,19 @@ impl<D: Disk> Replica<D> {
                 Copier::Ended { .. } => None,
             },
             Phase::Closed => None,
+        }
+    }
+
+    /// How many cells the compaction that stands has copied, and 0 where none stands.
+    pub fn copied(&self) -> u64
+        ensures { result ≡ copied_of self.now }
+    {
+        match &self.phase {
+            Phase::Open(files) => match &files.copier {
+                Copier::Standing(compactor) => compactor.copied(),
+                Copier::Ended { .. } => 0,
+            },
+            Phase::Closed => 0,
         }
     }
 
@@ -166,6 +179,7 @@ impl<D: Disk> Replica<D> {
         // The replica stands for the cells that were copied.
         ensures swapped { D.Tells → (s : Stored) (run : Run) → Stands D.files self.old s → HasRun D.files self.old s (Some run) → run.left ≡ 0 →
             IfOk result (λ places. (t : Stored) × Swaps s t × IsTight run s t × Stands D.files self.new t × AreThePlaces D.Piece.Tells t.cells places.items) }
+        ensures counted { D.Tells → OnOk result ((t : Stored) → Stands D.files self.new t → length t.cells ≡ copied_of self.old) }
         ensures moved { OnOk result (generation_of self.new ≡ generation_of self.old + 1) }
         ensures up { OnOk result (IsUp self.new) }
         ensures going { OnOk result (is_stuck self.new ≡ false) }

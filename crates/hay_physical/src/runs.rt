@@ -8,7 +8,7 @@ ghost use Rattle.hay_map.specs.Rows.{last_place};
 ghost use Rattle.hay_open.specs.Stored.{Stored};
 ghost use Rattle.hay_compact.specs.Copying.{IsLatest, KeepsOtherFiles, Stage};
 ghost use Rattle.hay_compact.specs.Finishing.{ArePhotos, AreThePlaces, IsSeen};
-ghost use Rattle.hay_physical.specs.Copies.{copier_faults, copier_goal};
+ghost use Rattle.hay_physical.specs.Copies.{copier_copied, copier_faults, copier_goal};
 ghost use Rattle.hay_physical.specs.Faults.{IsBeginFault, IsPeekFault, IsRunFault};
 ghost use Rattle.hay_physical.specs.Replicas.{FilesReady, FilesStand, IsCopierReady, IsSettled, MayFind, MayFlagPlace};
 ghost use Rattle.hay_physical.specs.Runs.{CopierPeeked, EndsBy, EndsInDelete, FilesPeek, FilesRun, IsTight, KeepsFiles, RemovedBoth, RepeatsIn, Run, Swaps, stepped};
@@ -243,6 +243,7 @@ impl OpenFiles {
 
         ensures swapped { D.Tells → (sup : Super) (s : Stored) (run : Run) → FilesStand sup (D.files disk.old) self.old s → FilesRun sup (D.files disk.old) self.old s run → run.left ≡ 0 →
             IfOk result (λ places. (t : Stored) × Swaps s t × IsTight run s t × FilesStand sup (D.files disk.new) self.new t × AreThePlaces D.Piece.Tells t.cells places.items) }
+        ensures counted { D.Tells → OnOk result ((sup : Super) (t : Stored) → FilesStand sup (D.files disk.new) self.new t → length t.cells ≡ copier_copied self.old.copier) }
         ensures open { OnOk result ((self.new.frozen ≡ false) × (self.new.index.frozen ≡ false)) }
         ensures moved { OnOk result (self.new.head.generation ≡ self.old.head.generation + 1) }
         ensures goal { copier_goal self.new.copier ≡ None }

@@ -1,6 +1,6 @@
 //! The end of a compaction of an open replica.
 
-ghost use Rattle.std.specs.Prelude.{◌≡◌, ◌≢◌, ◌≤◌, ◌+◌, ℕ, List, true, false, Err, IfOk, IfErr, OnOk, OnErr, IsErrOf};
+ghost use Rattle.std.specs.Prelude.{◌≡◌, ◌≢◌, ◌≤◌, ◌+◌, ℕ, List, length, true, false, Err, IfOk, IfErr, OnOk, OnErr, IsErrOf};
 ghost use Rattle.hay_disk.specs.Disk.{KeepsOthers};
 ghost use Rattle.hay_disk.specs.Gate.{IsGate};
 ghost use Rattle.hay_head.specs.Head.{head_magic, row_place};
@@ -37,6 +37,7 @@ impl OpenFiles {
 
         ensures stands { D.Tells → (sup : Super) (s : Stored) (fresh : List Cell) → FilesStand sup (D.files disk.old) self.old s → Making sup (D.files disk.old) compactor fresh →
             IfOk result (λ places. FilesStand sup (D.files disk.new) self.new (stored_of compactor fresh) × AreThePlaces D.Piece.Tells fresh places.items) }
+        ensures counted { D.Tells → OnOk result ((sup : Super) (t : Stored) → FilesStand sup (D.files disk.new) self.new t → length t.cells ≡ length compactor.index.pending) }
         ensures open { OnOk result ((self.new.frozen ≡ false) × (self.new.index.frozen ≡ false)) }
         ensures behind { compactor.volume.end ≤ compactor.next }
         ensures moved { OnOk result (self.new.head.generation ≡ self.old.head.generation + 1) }

@@ -19,6 +19,7 @@ use Rattle.hay_legal.specs.Items.{Asked, InBlock}
 use Rattle.hay_legal.specs.Items.Asked.{Alone, Block}
 use Rattle.hay_cluster.specs.declared.fault.ClusterFault.{ClusterFault}
 use Rattle.hay_cluster.specs.declared.fault.ClusterFault.TheVariants as refusal
+use Rattle.hay_cluster.specs.Closing.{LeavesClosures, MetClosures, none_closed}
 use Rattle.hay_cluster.specs.Leaving.{LeavesContents}
 use Rattle.hay_cluster.specs.Outside.{IsDamagedDisk, IsUndamaged, IsUndamagedBelow}
 use Rattle.hay_cluster.specs.Causes.{BlamesNoArm, HasFaultCause, IsCaused, LeavesFuses}
@@ -81,19 +82,23 @@ module _ (Tells : Type 0) where
   pub caused_reply : (Writes : Writing) (settings : Settings) (before after : Tally) (number : ℕ) (command : Command) (reply : Reply) (written written' : Option (List ℕ))
       → ((pick : ℕ) → command ≢ asks.Restart pick) → IsLaterTally before after → LeavesFuses settings command before.fuses after.fuses
       → FitsReply reply → Suits settings number command reply → IsCaused settings 0 before.counts after.counts reply → (HasSureArm before 0 → BlamesNoArm reply)
-      → LeavesPending settings number command reply before.pending after.pending → (Tells → LeavesContents settings command reply before.contents after.contents)
+      → MetClosures settings command before.closures before.pending reply → LeavesPending settings number command reply before.pending after.pending
+      → LeavesClosures settings command reply before.closures after.closures → (Tells → LeavesContents settings command reply before.pending after.pending before.contents after.contents)
       → Writes written (numbered_line number reply) written'
       → Caused Tells Writes settings before after (Alone number (item.Command command) ∷ []) written written'
-  caused_reply Writes settings before after number command reply written written' other none fuses fits suits cause sure pending contents wrote =
-      caused_one Writes settings before after (Alone number (item.Command command)) (numbered_line number reply) written written' none (fuses, inr (other, (reply, fits, suits, cause, sure, pending, contents, refl))) wrote
+  caused_reply Writes settings before after number command reply written written' other none fuses fits suits cause sure met pending closures contents wrote =
+      caused_one Writes settings before after (Alone number (item.Command command)) (numbered_line number reply) written written' none
+      (fuses, inr (other, (reply, fits, suits, cause, sure, met, pending, closures, contents, refl))) wrote
 
   pub caused_restart : (Writes : Writing) (settings : Settings) (before after : Tally) (number pick rows : ℕ) (notes : List Note) (written written' : Option (List ℕ))
-      → IsLaterTally before after → after.fuses ≡ before.fuses → after.counts.arms ≡ before.counts.arms → FitsReply (Restarted rows) → TellsPending settings before.pending notes → AllByRecursion FitsNote notes → after.pending ≡ none_pending settings
+      → IsLaterTally before after → after.fuses ≡ before.fuses → after.counts.arms ≡ before.counts.arms → FitsReply (Restarted rows)
+      → TellsPending settings before.pending notes → AllByRecursion FitsNote notes
+      → after.pending ≡ none_pending settings → after.closures ≡ none_closed settings
       → (Tells → IsUndamaged settings after.contents) → Writes written (numbered_line number (Restarted rows) ++ flat_map note_line notes) written'
       → Caused Tells Writes settings before after (Alone number (item.Command (asks.Restart pick)) ∷ []) written written'
-  caused_restart Writes settings before after number pick rows notes written written' none fuses arms large tells fits settled sound wrote =
+  caused_restart Writes settings before after number pick rows notes written written' none fuses arms large tells fits settled opened sound wrote =
       caused_one Writes settings before after (Alone number (item.Command (asks.Restart pick))) (numbered_line number (Restarted rows) ++ flat_map note_line notes) written written' none
-      (fuses, inl (pick, rows, notes, refl, large, tells, fits, settled, arms, refl, sound)) wrote
+      (fuses, inl (pick, rows, notes, refl, large, tells, fits, settled, opened, arms, refl, sound)) wrote
 
   -- HOW A LINE STOPS A RUN
 

@@ -408,11 +408,6 @@ opened_by why status same (inr (inl is)) = inl (open_then why (inr (inl (sym sam
 opened_by why status same (inr (inr (inl is))) = inl (open_then why (inr (inr (sym same ∙ is))))
 opened_by why status same (inr (inr (inr read))) = inr read
 
-pub opened_only : (why : Stop) (status : ℕ) → status ≡ status_of (ending_of why) → (status ≡ 0) ⊎ (status ≡ 4) ⊎ (status ≡ 7) → HasOpened (Err why)
-opened_only why status same (inl is) = open_then why (inl (sym same ∙ is))
-opened_only why status same (inr (inl is)) = open_then why (inr (inl (sym same ∙ is)))
-opened_only why status same (inr (inr is)) = open_then why (inr (inr (sym same ∙ is)))
-
 -- a store that was not opened
 pub none_opened : {W : Type 0} (why : Stop) → (why ≡ stop.Output) ⊎ (why ≡ stop.NoMemory) ⊎ (why ≡ stop.Store) → (W → ⊥) → HasOpened (Err why) ⊎ W → ⊥
 none_opened why kinds none (inr read) = none read
@@ -432,20 +427,3 @@ not_read left read = read.2 read.1
 -- what holds of an ending holds of the one with its status
 pub by_status : (P : Ending → Type 0) (one other : Ending) → status_of one ≡ status_of other → P one → P other
 by_status P one other same h = subst P (same_ending one other same) h
-
--- a store that was open to the end stands for what is known of it
-pub stands_at_end : {D P A : Type 0} (Tells : Type 0) (Stands Left : Standing D P A) (script : Option (List ℕ)) (store : Open D P A) (written : Option (List ℕ)) (script' : Option (List ℕ)) (store' : Open D P A) (written' : Option (List ℕ))
-    → Tells → (k : Known) → Stands store k → (r : Result (Unit {0}) Stop) → HasOpened r → OnOk r (Serves Tells Stands script store written store' written')
-    → ((why : Stop) → r ≡ Err why → ServedUntil Tells Stands Left why script store written script' store' written') → (t : Known) × Stands store' t
-stands_at_end Tells Stands Left script store written script' store' written' tells k stands (Ok done) opened served stopped = let a = served.answers tells k stands in (a.t, a.left)
-stands_at_end Tells Stands Left script store written script' store' written' tells k stands (Err stop.Output) opened served stopped = absurd opened
-stands_at_end {D} {P} {A} Tells Stands Left script store written script' store' written' tells k stands (Err stop.Input) opened served stopped =
-    let u = stopped stop.Input refl in
-    let a = u.answers tells k stands in
-    (a.t, subst (λ (s : Open D P A). Stands s a.t) (sym u.stops.1) a.left)
-stands_at_end Tells Stands Left script store written script' store' written' tells k stands (Err stop.NoMemory) opened served stopped = absurd opened
-stands_at_end Tells Stands Left script store written script' store' written' tells k stands (Err stop.Store) opened served stopped = absurd opened
-stands_at_end {D} {P} {A} Tells Stands Left script store written script' store' written' tells k stands (Err stop.TooLong) opened served stopped =
-    let u = stopped stop.TooLong refl in
-    let a = u.answers tells k stands in
-    (a.t, subst (λ (s : Open D P A). Stands s a.t) (sym u.stops.1) a.left)

@@ -21,9 +21,10 @@ use Rattle.hay_legal.specs.Stands.{Contents, Outside}
 use Rattle.hay_legal.specs.Statuses.{Ending, IsFront, read_contents}
 use Rattle.hay_legal.specs.Statuses.Ending.{ReadAll, OutputFault, InputFault, NoMemory, NotOpened, TooLong}
 use Rattle.hay_cluster.specs.Causes.{BlamesNoArm, Counts, IsCaused, LeavesFuses, RoseIn}
+use Rattle.hay_cluster.specs.Closing.{Closures, LeavesClosures, MetClosures, closures_of, none_closed}
 use Rattle.hay_cluster.specs.Draws.{drawn_in}
 use Rattle.hay_cluster.specs.Leaving.{LeavesContents}
-use Rattle.hay_cluster.specs.Outside.{IsDamagedDisk, IsKept, IsUndamaged, IsUndamagedBelow, KeepsContents}
+use Rattle.hay_cluster.specs.Outside.{FormatsVoid, IsDamagedDisk, IsKept, IsUndamaged, IsUndamagedBelow, KeepsContents}
 use Rattle.hay_cluster.specs.Pending.{LeavesPending, PendingLines, TellsPending, none_pending, pending_of}
 use Rattle.hay_cluster.specs.Store.{Open, contents_in, disks_of}
 use Rattle.hay_cluster.specs.Suiting.{Suits}
@@ -38,13 +39,14 @@ use Rattle.hay_run.specs.Turns.{Writing, HoldsNone}
 use Rattle.hay_run.specs.Unbuilt.{unbuilt_text}
 
 -- What is seen of a store: how many calls of each disk and fetches of each arm failed, how many fuses were set on each disk, which
--- arms are sure, which lines left a change or a row pending, what reads of the disk in each slot give, and how many bytes were read of
--- each of its files.
+-- arms are sure, which lines left a change or a row pending, what closes volumes to changes, what reads of the disk in each slot give,
+-- and how many bytes were read of each of its files.
 pub record Tally : Type 0 where
   pub counts : Counts
   pub fuses : List ℕ
   pub sure : List Bool
   pub pending : PendingLines
+  pub closures : Closures
   pub contents : ℕ → Contents
   pub drawn : ℕ → ℕ → ℕ
 
@@ -54,6 +56,7 @@ tally_of files drawn faults fuses arm_faults sure store = record {
   fuses = map fuses (disks_of store);
   sure = map sure store.arms;
   pending = pending_of store;
+  closures = closures_of store;
   contents = contents_in files store;
   drawn = drawn_in drawn store;
 }
@@ -70,21 +73,23 @@ IsLaterTally before after =
 -- THE TEXT OF ITEMS
 
 -- the text of a restart: its reply and the notes behind it, which tell of all that was pending, with numbers of their types; nothing
--- is pending then, and nothing that an opening reads of the disks is damaged
+-- is pending or closed then, and nothing that an opening reads of the disks is damaged
 abbrev pub IsRestartText : Type 0 → Settings → Tally → Tally → Command → ℕ → List ℕ → Type 0
 IsRestartText Tells settings before after command number text =
     (pick : ℕ) × (rows : ℕ) × (notes : List Note) × (command ≡ asks.Restart pick) × FitsReply (Restarted rows) × TellsPending settings before.pending notes × AllByRecursion FitsNote notes
-    × (after.pending ≡ none_pending settings) × (after.counts.arms ≡ before.counts.arms) × (text ≡ numbered_line number (Restarted rows) ++ flat_map note_line notes) × (Tells → IsUndamaged settings after.contents)
+    × (after.pending ≡ none_pending settings) × (after.closures ≡ none_closed settings) × (after.counts.arms ≡ before.counts.arms)
+    × (text ≡ numbered_line number (Restarted rows) ++ flat_map note_line notes) × (Tells → IsUndamaged settings after.contents)
 
 -- the text of another command: a reply with numbers of their types, which the command of this line may be given, which tells of a
--- failure only where the count that it prints rose, and never of an arm that is sure, and by which it is known what it left pending, and
--- which disks have what they had
+-- failure only where the count that it prints rose, and never of an arm that is sure; which fits what was closed before it; and by which
+-- it is known what it left pending and closed, and which disks have what they had
 abbrev pub IsReplyText : Type 0 → Settings → Tally → Tally → Command → ℕ → List ℕ → Type 0
 IsReplyText Tells settings before after command number text =
     ((pick : ℕ) → command ≢ asks.Restart pick)
     × ((reply : Reply) × FitsReply reply × Suits settings number command reply × IsCaused settings 0 before.counts after.counts reply × (HasSureArm before 0 → BlamesNoArm reply)
-    × LeavesPending settings number command reply before.pending after.pending × (Tells → LeavesContents settings command reply before.contents after.contents)
-    × (text ≡ numbered_line number reply))
+    × MetClosures settings command before.closures before.pending reply
+    × LeavesPending settings number command reply before.pending after.pending × LeavesClosures settings command reply before.closures after.closures
+    × (Tells → LeavesContents settings command reply before.pending after.pending before.contents after.contents) × (text ≡ numbered_line number reply))
 
 -- The text answers the item, while the counts went from these to those. A fuse is set by its command alone.
 abbrev pub IsTextOf : Type 0 → Settings → Tally → Tally → Asked → List ℕ → Type 0
@@ -222,8 +227,8 @@ StandsBehind Tells NoMemory settings before after last part = IsPartBehind Tells
 StandsBehind Tells NotOpened settings before after last part =
     NotReopened before after last × ((note : Note) × FitsNote note × IsNoteCaused Tells settings before after note × (part ≡ note_line note))
 
--- A store that was opened on these disks and arms has this tally, of just these, and an arm that was sure is sure in it. Nothing is pending, and a
--- disk that was not void has what it had.
+-- A store that was opened on these disks and arms has this tally, of just these, and an arm that was sure is sure in it. Nothing is pending
+-- or closed. A disk that was not void has what it had, and one that was is formatted, with nothing stored in it.
 pub record BeginsAt (Tells : Type 0) (settings : Settings) (taken : Outside) (sure : ℕ → Bool) (tally : Tally) : Type 0 where
   pub disks : length tally.counts.disks ≡ disk_count settings
   pub fused : length tally.fuses ≡ disk_count settings
@@ -233,7 +238,9 @@ pub record BeginsAt (Tells : Type 0) (settings : Settings) (taken : Outside) (su
   pub arms : (lane : ℕ) → lane < 8 → slice_index tally.counts.arms lane ≡ taken.arms lane
   pub stay_sure : (lane : ℕ) → lane < 8 → sure lane ≡ true → HasSureArm tally lane
   pub pending : tally.pending ≡ none_pending settings
+  pub closures : tally.closures ≡ none_closed settings
   pub contents : Tells → KeepsContents settings (read_contents taken) tally.contents
+  pub formatted : Tells → FormatsVoid settings (read_contents taken) tally.contents
 
 -- So has one that was closed.
 pub record EndsAt (Tells : Type 0) (settings : Settings) (tally : Tally) (given : Outside) : Type 0 where

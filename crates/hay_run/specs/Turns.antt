@@ -19,7 +19,7 @@ use Rattle.hay_legal.specs.Known.{CameUp, FaultsRose, disk_count, fault_count}
 use Rattle.hay_legal.specs.Legal.{Legal}
 use Rattle.hay_legal.specs.Statuses.{IsUnbuiltTurn}
 use Rattle.hay_legal.specs.Transcript.{turn_text}
-use Rattle.hay_cluster.specs.Outside.{IsDamagedDisk, IsUndamagedBelow}
+use Rattle.hay_cluster.specs.Outside.{IsDamagedDisk, IsUndamagedBelow, IsVoid}
 use Rattle.hay_cluster.specs.Store.{Open, contents_in, disks_of}
 use Rattle.hay_run.specs.declared.stops.Stop.{Stop}
 use Rattle.hay_run.specs.declared.stops.Stop.TheVariants as stop
@@ -81,6 +81,10 @@ pub record Serves {D P A : Type 0} (Tells : Type 0) (Stands : Standing D P A) (s
   pub all : AsksAll script asked
   pub answers : AnswersAll Tells Stands asked store written store' written'
 
+-- no disk of the store is void
+abbrev pub IsFormatted : {D P A : Type 0} → (D → Files) → Open D P A → Type 0
+IsFormatted files store = (slot : ℕ) → slot < disk_count store.settings → IsVoid (contents_in files store slot) → ⊥
+
 -- HOW A TURN STOPS
 
 -- A turn was answered, and only a front of its text was written.
@@ -135,7 +139,9 @@ StopsTurn Tells Stands Left stop.Store number rest written store after written' 
 abbrev pub HoldsNone : Stop → Held → Type 0
 HoldsNone stop.Input held = held.bytes ≡ []
 HoldsNone stop.TooLong held = held.bytes ≡ []
-HoldsNone _ held = Unit {0}
+HoldsNone stop.Output held = Unit {0}
+HoldsNone stop.NoMemory held = Unit {0}
+HoldsNone stop.Store held = Unit {0}
 
 -- Turn after turn was answered, and then the run stopped.
 pub record ServedUntil {D P A : Type 0} (Tells : Type 0) (Stands Left : Standing D P A) (why : Stop) (script : Option (List ℕ)) (store : Open D P A) (written : Option (List ℕ)) (script' : Option (List ℕ)) (store' : Open D P A) (written' : Option (List ℕ)) : Type 0 where

@@ -79,7 +79,8 @@ fn answer_script<H: Shelf, S: Source, K: Sink>(
     ensures other_slots { SameFrom (disk_count settings) (H.disks shelf.old) (H.disks shelf.new) }
     ensures other_lanes { SameFrom 8 (H.arms shelf.old) (H.arms shelf.new) }
     ensures sound { H.Disk.Tells → HasOpened result ⊎ WasRead (S.left source.old) (S.left source.new) → IsUndamaged settings (λ slot. read_of (H.disks shelf.old slot)) }
-    ensures formatted { H.Disk.Tells → HasOpened result → (k : Known) → IsTaken settings (outside_of (H.fault_count shelf.old) (H.disks shelf.old) (H.arms shelf.old)) k →
+    ensures formatted { H.Disk.Tells → HasOpened result ⊎ WasRead (S.left source.old) (S.left source.new) →
+        (k : Known) → IsTaken settings (outside_of (H.fault_count shelf.old) (H.disks shelf.old) (H.arms shelf.old)) k →
         (slot : ℕ) → slot < disk_count settings → IsVoid (read_of (H.disks shelf.new slot)) → ⊥ }
     ensures contents { H.Disk.Tells → AsksNothing (S.left source.old) → KeepsContents settings (λ slot. read_of (H.disks shelf.old slot)) (λ slot. read_of (H.disks shelf.new slot)) }
     ensures drew { H.Disk.Tells → OnOk result (AsksNothing (S.left source.old) →
@@ -146,7 +147,8 @@ fn run_script<H: Shelf, S: Source, K: Sink>(
     ensures other_slots { SameFrom (disk_count settings) (H.disks shelf.old) (H.disks shelf.new) }
     ensures other_lanes { SameFrom 8 (H.arms shelf.old) (H.arms shelf.new) }
     ensures sound { H.Disk.Tells → HasOpened result ⊎ WasRead (S.left source.old) (S.left source.new) → IsUndamaged settings (λ slot. read_of (H.disks shelf.old slot)) }
-    ensures formatted { H.Disk.Tells → HasOpened result → (k : Known) → IsTaken settings (outside_of (H.fault_count shelf.old) (H.disks shelf.old) (H.arms shelf.old)) k →
+    ensures formatted { H.Disk.Tells → HasOpened result ⊎ WasRead (S.left source.old) (S.left source.new) →
+        (k : Known) → IsTaken settings (outside_of (H.fault_count shelf.old) (H.disks shelf.old) (H.arms shelf.old)) k →
         (slot : ℕ) → slot < disk_count settings → IsVoid (read_of (H.disks shelf.new slot)) → ⊥ }
     ensures contents { H.Disk.Tells → AsksNothing (S.left source.old) → KeepsContents settings (λ slot. read_of (H.disks shelf.old slot)) (λ slot. read_of (H.disks shelf.new slot)) }
     ensures drew { H.Disk.Tells → OnOk result (AsksNothing (S.left source.old) →
@@ -221,8 +223,9 @@ pub fn run<H: Shelf, S: Source, K: Sink>(
     // Behind an opening that succeeded, nothing of what was read of the disks is damaged.
     ensures sound { H.Disk.Tells → (result ≡ 0) ⊎ (result ≡ 4) ⊎ (result ≡ 7) ⊎ WasRead (S.left source.old) (S.left source.new) → (settings : Settings) → SaysRun (map string_bytes words.now) settings →
         IsUndamaged settings (λ slot. read_of (H.disks shelf.old slot)) }
-    // With these statuses each disk is given back formatted.
-    ensures formatted { H.Disk.Tells → (result ≡ 0) ⊎ (result ≡ 4) ⊎ (result ≡ 7) → (settings : Settings) (k : Known) → SaysRun (map string_bytes words.now) settings →
+    // Behind such an opening each disk is given back formatted.
+    ensures formatted { H.Disk.Tells → (result ≡ 0) ⊎ (result ≡ 4) ⊎ (result ≡ 7) ⊎ WasRead (S.left source.old) (S.left source.new) →
+        (settings : Settings) (k : Known) → SaysRun (map string_bytes words.now) settings →
         IsTaken settings (outside_of (H.fault_count shelf.old) (H.disks shelf.old) (H.arms shelf.old)) k → (slot : ℕ) → slot < disk_count settings →
         IsVoid (read_of (H.disks shelf.new slot)) → ⊥ }
     // A run that is asked for nothing changes no byte of a disk that was not void, whatever its status.

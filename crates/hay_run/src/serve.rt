@@ -1,6 +1,7 @@
 //! Turn after turn, to the end of a script.
 ghost use Rattle.std.specs.Prelude.{◌≡◌, ℕ, ◌+◌, ◌≤◌, List, length, map, Some, Err, OnOk, IsErrOf};
 ghost use Rattle.hay_disk.specs.Counts.{Rose};
+ghost use Rattle.hay_legal.specs.declared.known.Known.{Known};
 ghost use Rattle.hay_legal.specs.Known.{NoneFalls};
 ghost use Rattle.hay_cluster.specs.State.{Stands, Holds};
 ghost use Rattle.hay_cluster.specs.Causes.{StaySure};
@@ -8,7 +9,7 @@ ghost use Rattle.hay_cluster.specs.Store.{IsUp, disks_of};
 ghost use Rattle.hay_run.specs.declared.stops.Stop.{Stop};
 ghost use Rattle.hay_run.specs.Causing.{tally_of, AllCaused, CausedUntil};
 ghost use Rattle.hay_lines.specs.Stream.{IsReadToEnd, TookAtMost};
-ghost use Rattle.hay_run.specs.Turns.{Appends, Serves, ServedUntil, Halts};
+ghost use Rattle.hay_run.specs.Turns.{Appends, Serves, ServedUntil, Halts, IsFormatted};
 
 use crate::stops::Stop;
 use crate::turns::turn;
@@ -41,6 +42,7 @@ pub fn serve<D: Disk, A: Arm<D::Piece>, S: Source, K: Sink>(
     ensures faults { NoneFalls (map D.fault_count (disks_of cluster.old)) (map D.fault_count (disks_of cluster.new)) }
     ensures arm_faults { NoneFalls (map A.fault_count cluster.old.arms) (map A.fault_count cluster.new.arms) }
     ensures sure_arms { StaySure A.is_sure A.fault_count cluster.old.arms cluster.new.arms }
+    ensures formatted { D.Tells → (k : Known) → Stands D.files D.Piece.Tells D.fault_count D.fuse_count A.fault_count cluster.old k → IsFormatted D.files cluster.new }
     ensures appends { Appends (K.written sink.old) (K.written sink.new) }
     ensures settings { cluster.new.settings ≡ cluster.old.settings }
 {

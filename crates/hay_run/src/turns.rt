@@ -9,6 +9,7 @@ ghost use Rattle.hay_reply.specs.Fits.{FitsNote};
 ghost use Rattle.hay_reply.specs.Replies as texts;
 ghost use Rattle.hay_legal.specs.declared.turn.Item.TheVariants as item;
 ghost use Rattle.hay_legal.specs.Items.{outside};
+ghost use Rattle.hay_legal.specs.declared.known.Known.{Known};
 ghost use Rattle.hay_legal.specs.Known.{NoneFalls};
 ghost use Rattle.hay_legal.specs.Items.Asked.{Alone};
 ghost use Rattle.hay_cluster.specs.State.{Stands, Holds};
@@ -20,7 +21,7 @@ ghost use Rattle.hay_run.specs.Items.{TookOpen};
 ghost use Rattle.hay_lines.specs.Lines.{TookPart, TookOver, TookSome};
 ghost use Rattle.hay_lines.specs.Stream.{rest_of, budget, Accounts, IsTooLong};
 ghost use Rattle.hay_run.specs.Stops.{note_of};
-ghost use Rattle.hay_run.specs.Turns.{AnswersAll, AnswersPart, Appends, Turned, RefusesRestart, Broke, Halts};
+ghost use Rattle.hay_run.specs.Turns.{AnswersAll, AnswersPart, Appends, Turned, RefusesRestart, Broke, Halts, IsFormatted};
 ghost use Rattle.hay_run.specs.Stopping.{RefusedAsked, BrokeAsked};
 
 use crate::block::read_block;
@@ -57,6 +58,7 @@ fn plain<D: Disk, A: Arm<D::Piece>, K: Sink>(
     ensures faults { NoneFalls (map D.fault_count (disks_of cluster.old)) (map D.fault_count (disks_of cluster.new)) }
     ensures arm_faults { NoneFalls (map A.fault_count cluster.old.arms) (map A.fault_count cluster.new.arms) }
     ensures sure_arms { StaySure A.is_sure A.fault_count cluster.old.arms cluster.new.arms }
+    ensures formatted { D.Tells → (k : Known) → Stands D.files D.Piece.Tells D.fault_count D.fuse_count A.fault_count cluster.old k → IsFormatted D.files cluster.new }
     ensures appends { Appends (K.written sink.old) (K.written sink.new) }
     ensures settings { cluster.new.settings ≡ cluster.old.settings }
 {
@@ -110,6 +112,7 @@ fn restart<D: Disk, A: Arm<D::Piece>, K: Sink>(
     ensures faults { NoneFalls (map D.fault_count (disks_of cluster.old)) (map D.fault_count (disks_of cluster.new)) }
     ensures arm_faults { NoneFalls (map A.fault_count cluster.old.arms) (map A.fault_count cluster.new.arms) }
     ensures sure_arms { StaySure A.is_sure A.fault_count cluster.old.arms cluster.new.arms }
+    ensures formatted { D.Tells → (k : Known) → Stands D.files D.Piece.Tells D.fault_count D.fuse_count A.fault_count cluster.old k → IsFormatted D.files cluster.new }
     ensures appends { Appends (K.written sink.old) (K.written sink.new) }
     ensures settings { cluster.new.settings ≡ cluster.old.settings }
 {
@@ -142,6 +145,7 @@ fn respond<D: Disk, A: Arm<D::Piece>, K: Sink>(
     ensures faults { NoneFalls (map D.fault_count (disks_of cluster.old)) (map D.fault_count (disks_of cluster.new)) }
     ensures arm_faults { NoneFalls (map A.fault_count cluster.old.arms) (map A.fault_count cluster.new.arms) }
     ensures sure_arms { StaySure A.is_sure A.fault_count cluster.old.arms cluster.new.arms }
+    ensures formatted { D.Tells → (k : Known) → Stands D.files D.Piece.Tells D.fault_count D.fuse_count A.fault_count cluster.old k → IsFormatted D.files cluster.new }
     ensures appends { Appends (K.written sink.old) (K.written sink.new) }
     ensures settings { cluster.new.settings ≡ cluster.old.settings }
 {
@@ -198,6 +202,7 @@ pub fn turn<D: Disk, A: Arm<D::Piece>, S: Source, K: Sink>(
     ensures faults { NoneFalls (map D.fault_count (disks_of cluster.old)) (map D.fault_count (disks_of cluster.new)) }
     ensures arm_faults { NoneFalls (map A.fault_count cluster.old.arms) (map A.fault_count cluster.new.arms) }
     ensures sure_arms { StaySure A.is_sure A.fault_count cluster.old.arms cluster.new.arms }
+    ensures formatted { D.Tells → (k : Known) → Stands D.files D.Piece.Tells D.fault_count D.fuse_count A.fault_count cluster.old k → IsFormatted D.files cluster.new }
     ensures appends { Appends (K.written sink.old) (K.written sink.new) }
     ensures settings { cluster.new.settings ≡ cluster.old.settings }
 {

@@ -71,7 +71,7 @@ looks_show_volumes seat stood pair home base holds is =
     subst (λ (shown : Option ℕ). IfSome shown (λ v. v < stood.volumes)) (sym (home_looked seat stood pair home base is))
     (home_within stood.volumes (stood.rows ++ seat.deeds) pair (all_within seat stood base holds))
 
-within_more : (volumes : ℕ) (rows : List HomeRow) (row : HomeRow) → RowsWithin volumes rows → row.volume < volumes → RowsWithin volumes (rows ++ row ∷ [])
+pub within_more : (volumes : ℕ) (rows : List HomeRow) (row : HomeRow) → RowsWithin volumes rows → row.volume < volumes → RowsWithin volumes (rows ++ row ∷ [])
 within_more volumes [] row within below = (below, tt)
 within_more volumes (first ∷ rows) row within below = (within.0, within_more volumes rows row within.1 below)
 

@@ -1,3 +1,4 @@
 pub mod Changing
 pub mod HomeLaw
+pub mod HomeTables
 pub mod PlaceLaw

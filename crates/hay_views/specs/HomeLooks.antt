@@ -1,5 +1,5 @@
 -- What a look at a view of homes shows.
-use Rattle.std.specs.Prelude.{◌≡◌, ◌<◌, ℕ, List, ◌∷◌, [], ◌++◌, length, take, Option, Some, IfSome}
+use Rattle.std.specs.Prelude.{◌≡◌, ◌<◌, ℕ, List, ◌∷◌, [], ◌++◌, length, map, take, Option, Some, IfSome}
 use Rattle.hay_needle.specs.declared.needle.Pair.{Pair}
 use Rattle.hay_front.specs.Fronts.{Witness, Holds, IsBehind, RowOf}
 use Rattle.hay_legal.specs.declared.known.HomeRow.{HomeRow}
@@ -10,6 +10,10 @@ use Rattle.hay_directory.specs.Rows.{RowsWithin}
 pub record HomesAt : Type 0 where
   pub volumes : ℕ
   pub rows : List HomeRow
+
+-- a row for each pair that has a home
+abbrev pub rows_among : List ((ℕ × ℕ) × ℕ) → List HomeRow
+rows_among homes = map (λ e. record { pair = record { key = e.0.0; alt = e.0.1 }; volume = e.1 }) homes
 
 -- with one more row
 abbrev pub with_row : HomesAt → HomeRow → HomesAt

@@ -1,9 +1,9 @@
 //! The homes of pairs, as a view.
 ghost use Rattle.std.specs.Prelude.{◌≡◌, ◌++◌, ◌∷◌, [], true, Some, map, IfOk, OnOk, OnErr};
 ghost use Rattle.hay_legal.specs.declared.known.HomeRow.{HomeRow};
-ghost use Rattle.hay_directory.specs.Homes.{home_among, SetsHome};
-ghost use Rattle.hay_directory.specs.Rows.{home_row};
-ghost use Rattle.hay_views.specs.HomeLooks.{AreWithin, IsHomeOf, with_row};
+ghost use Rattle.hay_directory.specs.Homes.{HomesWithin, home_among, SetsHome};
+ghost use Rattle.hay_directory.specs.Rows.{RowsWithin, home_row};
+ghost use Rattle.hay_views.specs.HomeLooks.{AreWithin, IsHomeOf, rows_among, with_row};
 
 use crate::past::Past;
 use hay_base::NoMemory;
@@ -72,6 +72,28 @@ impl HomeView {
             view.add(*row)?;
         }
         Ok(view)
+    }
+
+    /// The homes of a table of volumes by pair, and so many volumes. It takes no memory.
+    pub fn of_table(volumes: u32, homes: HashMap<(u64, u32), u32>) -> HomeView
+        ensures is { result ≡ record { volumes = volumes; rows = rows_among homes.entries } }
+        ensures within { HomesWithin volumes homes.entries → RowsWithin volumes (rows_among homes.entries) }
+    {
+        let mut rows = Past::new();
+        for (key, volume) in &homes {
+            rows.add(&HomeRow {
+                pair: Pair {
+                    key: key.0,
+                    alt: key.1,
+                },
+                volume: *volume,
+            });
+        }
+        HomeView {
+            volumes,
+            homes,
+            rows,
+        }
     }
 
     // Adds a row behind the others. A pair that has a home keeps it. `NoMemory` changes nothing.

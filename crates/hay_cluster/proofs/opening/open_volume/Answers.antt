@@ -54,6 +54,8 @@ returns-in_ok-append-in-Ok-clause-opened g c =
         told = e.told;
         fits = e.fits;
         settled = e.settled;
+        thawed = e.thawed;
+        formatted = e.formatted;
       },
     )
 

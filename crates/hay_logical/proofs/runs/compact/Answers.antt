@@ -51,6 +51,8 @@ returns-in-Err-clause-swaps g c =
       up = tt;
       left = begin_left g.D.Disk.Tells g.D.Disk.files g.D.Disk.fault_count r x c.in-Err.fault began.on.up began.kept began.cause;
       swapped = λ tells s run stands start places. tt;
+      sizes = λ tells. tt;
+      still = began.on.stuck;
       removed = λ tells s stands. tt;
       refused = λ tells s run stands start places.
           begin_holds g.D.Disk.Tells g.D.Disk.files g.D.Disk.fault_count r x s run c.in-Err.fault (began.on.stands tells s stands) began.on.stuck (λ e. began.last tells s stands (ap Err e)) began.cause;
@@ -59,4 +61,4 @@ returns-in-Err-clause-swaps g c =
     }
 
 pub returns-in-Err-clause-places : goal.returns-in-Err-clause-places
-returns-in-Err-clause-places g c = keeps_rows c.args.rows.now c.args.rows.now c.args.at _ refl (λ pair. refl)
+returns-in-Err-clause-places g c = keeps_rows c.args.rows.now c.args.at _

@@ -54,6 +54,8 @@ returns-in-Err-clause-swaps g c =
       up = tt;
       left = step_left g.D.Disk.files g.D.Disk.fault_count r x y c.in-Err.fault up c.drop_run.ensures.goal c.drop_run.ensures.disk c.in-Err.ensures.steps.cause;
       swapped = λ tells s run stands start places. tt;
+      sizes = λ tells. tt;
+      still = c.drop_run.ensures.stuck ∙ on.stuck;
       removed = λ tells s stands. tt;
       refused = λ tells s run stands start places.
           step_holds g.D.Disk.files g.D.Disk.fault_count r x y s run c.end-most.result c.in-Err.fault c.in-Err.ensures.steps.cause (c.in-Err.ensures.steps.refused tells s run stands start places)
@@ -63,4 +65,4 @@ returns-in-Err-clause-swaps g c =
     }
 
 pub returns-in-Err-clause-places : goal.returns-in-Err-clause-places
-returns-in-Err-clause-places g c = keeps_rows c.args.rows.now c.args.rows.now c.args.at _ refl (λ pair. refl)
+returns-in-Err-clause-places g c = keeps_rows c.args.rows.now c.args.at _

@@ -39,6 +39,8 @@ returns-in-Ok-clause-swaps g c =
             places = places_swapped g.D.Piece.Piece.Tells c.args.rows.now c.swap.new.self c.args.at c.in-Ok.places.items photos changed s made.0 made.1.table places made.4;
             generation_is = c.generation.ensures.is ∙ stands_generation g.D.Disk.files x made.0 made.3;
           };
+      sizes = λ tells t stands. (c.end.ensures.known tells t stands, c.copied-count.ensures ∙ sym (c.in-Ok.ensures.counted tells t stands));
+      still = tt;
       removed = λ tells s stands.
           subst (λ n. RemovedBoth (g.D.Disk.files x.disk) (volume_file n) (index_file n) (g.D.Disk.fault_count (c.args.replica.now).disk) (g.D.Disk.fault_count x.disk))
           (stands_generation g.D.Disk.files c.args.replica.now s stands) (c.in-Ok.ensures.removed tells);
@@ -78,6 +80,8 @@ returns-in-Err-clause-swaps g c =
             up = tt;
             left = subst (λ u. IsLeftBy g.D.Disk.fault_count Examined r x u) (sym is) (unsure_left g.D.Disk.files g.D.Disk.fault_count r x c.finish.result frozen c.finish.ensures.goal failed c.finish.ensures.causes);
             swapped = λ tells s run stands start places. tt;
+            sizes = λ tells. tt;
+            still = c.in-Err.ensures.still.0;
             removed = λ tells s stands. tt;
             refused = λ tells s run stands start places.
                 subst (λ u. HoldsUnswapped g.D.Disk.files r x s run u) (sym is)
@@ -98,6 +102,8 @@ returns-in-Err-clause-swaps g c =
                 (refused_left g.D.Disk.files g.D.Disk.fault_count r x c.in-Err.fault c.requires.up c.requires.standing up c.finish.ensures.goal
                 (λ e. c.finish.ensures.thawed (c.in-Err.is ∙ ap Err e)) (λ n e. c.finish.ensures.none n (c.in-Err.is ∙ ap Err e)) c.in-Err.ensures.causes);
             swapped = λ tells s run stands start places. tt;
+            sizes = λ tells. tt;
+            still = c.in-Err.ensures.still.0;
             removed = λ tells s stands. tt;
             refused = λ tells s run stands start places.
                 subst (λ u. HoldsUnswapped g.D.Disk.files r x s run u) (sym is)

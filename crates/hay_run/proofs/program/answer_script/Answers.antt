@@ -28,9 +28,9 @@ use Rattle.hay_run.specs.Draws.{drawn_of}
 use Rattle.hay_run.proofs.Caused.{all_caused, by_outcome, refused_caused, until_caused}
 use Rattle.hay_run.proofs.Counting.{NoneFalls-at, arm_there, count_at, lane_of, sure_at}
 use Rattle.hay_run.proofs.Drawing.{nothing_asked, nothing_done}
-use Rattle.hay_run.proofs.Giving.{same_more}
+use Rattle.hay_run.proofs.Giving.{given_formatted, same_more}
 use Rattle.hay_run.proofs.Ran.{ran_all, ran_stopped}
-use Rattle.hay_run.proofs.Refusing.{cause_of, none_opened, not_read, on_ok_both, ran_unopened, refused_later, stands_at_end}
+use Rattle.hay_run.proofs.Refusing.{cause_of, none_opened, not_read, on_ok_both, ran_unopened, refused_later}
 use Rattle.hay_run.proofs.Unread.{was_read}
 use Rattle.hay_run.proofs.program.answer_script.Goals as goal
 
@@ -168,18 +168,12 @@ returns-clause-sure_arms g c = λ lane within sure.
 pub returns-clause-sound : goal.returns-clause-sound
 returns-clause-sound g c = λ tells opened. c.in-Ok.ensures.sound tells
 
--- each disk of a store that was open to the end is formatted
+-- each disk of a store that was opened is formatted
 pub returns-clause-formatted : goal.returns-clause-formatted
-returns-clause-formatted g c = λ tells opened k taken_is slot within.
-    let D = g.H.Disk.Disk in
-    let A = g.H.Arm.Arm in
-    let store' = c.serve-outcome.new.cluster in
-    let is_settings : store'.settings ≡ c.args.settings = c.serve-outcome.ensures.settings ∙ c.in-Ok.ensures.settings in
+returns-clause-formatted g c = λ tells opened k taken_is.
     let start = c.in-Ok.ensures.opened tells k taken_is in
-    let stands = stands_at_end D.Tells (Stands D.files g.H.Disk.Piece.Piece.Tells D.fault_count D.fuse_count A.fault_count) (Holds D.files D.fault_count D.fuse_count A.fault_count)
-    (g.S.Source.left c.args.source.now) c.in-Ok.cluster (g.K.Sink.written c.args.sink.now) (g.S.Source.left c.serve-outcome.new.source) store' (g.K.Sink.written c.serve-outcome.new.sink)
-    tells start.0 start.2 c.serve-outcome.result opened c.serve-outcome.ensures.served c.serve-outcome.ensures.stopped in
-    c.close.ensures.formatted tells stands.0 stands.1 slot (subst (λ (s : Settings). slot < disk_count s) (sym is_settings) within)
+    given_formatted g.H.Disk.Disk.files c.args.settings c.serve-outcome.new.cluster (g.H.Shelf.disks c.close.new.shelf) (c.serve-outcome.ensures.settings ∙ c.in-Ok.ensures.settings)
+    (c.close.ensures.contents tells) (c.serve-outcome.ensures.formatted tells start.0 start.2)
 
 -- what was written, and its causes
 pub returns-clause-caused : goal.returns-clause-caused
@@ -207,7 +201,9 @@ returns-clause-caused g c = λ script held told told_sink.
           let arm = arm_there c.in-Ok.cluster.arms lane (subst (λ n. lane < n) (sym c.in-Ok.ensures.lanes) within) in
           lane_of A.is_sure c.in-Ok.cluster.arms lane arm.0 arm.1 (c.in-Ok.ensures.sure_arms lane arm.0 arm.1 ∙ is);
       pending = c.in-Ok.ensures.settled;
+      closures = c.in-Ok.ensures.closures;
       contents = c.in-Ok.ensures.contents;
+      formatted = c.in-Ok.ensures.formatted;
     } in
     let ends : EndsAt g.H.Disk.Disk.Tells c.args.settings new given = record {
       faults = subst (λ s. (slot : ℕ) → slot < disk_count s → given.faults slot ≡ slice_index new.counts.disks slot) is_settings c.close.ensures.fault_counts;
@@ -290,7 +286,7 @@ returns-in-Err-clause-sound g c = λ tells opened.
 
 pub returns-in-Err-clause-formatted : goal.returns-in-Err-clause-formatted
 returns-in-Err-clause-formatted g c = λ tells opened.
-    absurd (none_opened c.write_refusal.result c.write_refusal.ensures.stops (not_read (g.S.Source.left c.args.source.now)) (inl opened))
+    absurd (none_opened c.write_refusal.result c.write_refusal.ensures.stops (not_read (g.S.Source.left c.args.source.now)) opened)
 
 pub returns-clause-appends : goal.returns-clause-appends
 returns-clause-appends g c = c.serve-outcome.ensures.appends

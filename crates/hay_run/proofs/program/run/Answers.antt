@@ -19,7 +19,7 @@ use Rattle.hay_legal.specs.Stands.{Outside}
 use Rattle.hay_run.proofs.Checking.{check_nothing, check_statuses}
 use Rattle.hay_run.proofs.Commanding.{same_check, same_run}
 use Rattle.hay_run.proofs.Giving.{disks_in, arms_in, none_fell}
-use Rattle.hay_run.proofs.Refusing.{by_status, opened_by, opened_only, ran_nothing, ran_by, store_by}
+use Rattle.hay_run.proofs.Refusing.{by_status, opened_by, ran_nothing, ran_by, store_by}
 use Rattle.hay_run.proofs.program.run.Goals as goal
 
 -- memory was wanting for the words
@@ -130,13 +130,14 @@ pub returns-in-Ok-clause-formatted : goal.returns-in-Ok-clause-formatted
 returns-in-Ok-clause-formatted g c = λ tells status settings k says taken slot within.
     let same : c.in-Ok-Some-Run.settings ≡ settings = (let run : SaysRun (map string_bytes c.args.words.now) c.in-Ok-Some-Run.settings = rw (c.in-Ok-Some-Run.field-0-is, c.in-Ok-Some-Run.field-0-0-is) at c.in-Ok-Some-Run.ensures.says in
     same_run (map string_bytes c.args.words.now) c.in-Ok-Some-Run.settings settings run says) in
-    c.in-Ok.ensures.formatted tells tt k (subst (λ (s : Settings). IsTaken s (outside_of (g.H.Shelf.fault_count c.args.shelf.now) (g.H.Shelf.disks c.args.shelf.now) (g.H.Shelf.arms c.args.shelf.now)) k) (sym same) taken) slot (subst (λ (s : Settings). slot < disk_count s) (sym same) within)
+    c.in-Ok.ensures.formatted tells (inl tt) k
+    (subst (λ (s : Settings). IsTaken s (outside_of (g.H.Shelf.fault_count c.args.shelf.now) (g.H.Shelf.disks c.args.shelf.now) (g.H.Shelf.arms c.args.shelf.now)) k) (sym same) taken) slot (subst (λ (s : Settings). slot < disk_count s) (sym same) within)
 
 pub returns-in-Err-run_script-clause-formatted : goal.returns-in-Err-run_script-clause-formatted
 returns-in-Err-run_script-clause-formatted g c = λ tells status settings k says taken slot within.
     let same : c.in-Ok-Some-Run.settings ≡ settings = (let run : SaysRun (map string_bytes c.args.words.now) c.in-Ok-Some-Run.settings = rw (c.in-Ok-Some-Run.field-0-is, c.in-Ok-Some-Run.field-0-0-is) at c.in-Ok-Some-Run.ensures.says in
     same_run (map string_bytes c.args.words.now) c.in-Ok-Some-Run.settings settings run says) in
-    c.in-Err-run_script.ensures.formatted tells (opened_only c.in-Err-run_script.stop c.status-in-Err-run_script.result c.status-in-Err-run_script.ensures status) k
+    c.in-Err-run_script.ensures.formatted tells (opened_by c.in-Err-run_script.stop c.status-in-Err-run_script.result c.status-in-Err-run_script.ensures status) k
     (subst (λ (s : Settings). IsTaken s (outside_of (g.H.Shelf.fault_count c.args.shelf.now) (g.H.Shelf.disks c.args.shelf.now) (g.H.Shelf.arms c.args.shelf.now)) k) (sym same) taken) slot (subst (λ (s : Settings). slot < disk_count s) (sym same) within)
 
 -- what was written, and its causes

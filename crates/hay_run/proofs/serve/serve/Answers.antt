@@ -250,3 +250,13 @@ returns-in_err-number-clause-stop_caused g c = λ why is.
       none = holds_none c.turn.result c.turn.new.script why same c.turn.ensures.none_held;
       stops = subst P inv.same (c.turn.ensures.stop_caused why same);
     }
+
+-- none of its disks is void
+
+pub returns-in_err-number-clause-formatted : goal.returns-in_err-number-clause-formatted
+returns-in_err-number-clause-formatted g c = λ tells k stands.
+    let first = c.turns.invariant.answers tells k stands in c.in_err-number.ensures.formatted tells first.t first.left
+
+pub returns-then-is_ended-clause-formatted : goal.returns-then-is_ended-clause-formatted
+returns-then-is_ended-clause-formatted g c = λ tells k stands.
+    let first = c.turns.invariant.answers tells k stands in c.in_ok-number.ensures.formatted tells first.t first.left

@@ -5,6 +5,7 @@ use Rattle.hay_cluster.specs.State.{Stands, Holds}
 use Rattle.hay_cluster.proofs.Standing.{stands_holds}
 use Rattle.hay_run.specs.Turns.{AnyTurn, IsGoingOn}
 use Rattle.hay_run.specs.Causing.{tally_of}
+use Rattle.hay_cluster.proofs.Formatted.{stands_formatted}
 use Rattle.hay_run.proofs.Counting.{StaySure-lanes, arm_of}
 use Rattle.hay_run.proofs.Causing.{caused_reply, part_stops}
 use Rattle.hay_run.proofs.Turning.{answers_plain, plain_goes_on}
@@ -41,7 +42,9 @@ returns-clause-caused g c =
     on_ok_weaker c.write_reply.result (λ wrote.
     caused_reply g.D.Disk.Tells Wrote c.args.cluster.now.settings (tally_of D.files D.drawn D.fault_count D.fuse_count A.fault_count A.is_sure c.args.cluster.now) (tally_of D.files D.drawn D.fault_count D.fuse_count A.fault_count A.is_sure c.answer-reply.new.self) c.args.number c.args.command.now c.answer-reply.result
     (g.K.Sink.written c.args.sink.now) (g.K.Sink.written c.write_reply.new.sink) c.requires.goes_on (c.answer-reply.ensures.counts, c.answer-reply.ensures.arm_counts, StaySure-lanes A.is_sure A.fault_count c.args.cluster.now.arms c.answer-reply.new.self.arms c.answer-reply.ensures.sure_arms)
-    c.answer-reply.ensures.fuses c.answer-reply.ensures.fits c.answer-reply.ensures.suits c.answer-reply.ensures.causes (λ sure. let arm = arm_of A.is_sure c.args.cluster.now.arms 0 sure in c.answer-reply.ensures.sure arm.0 arm.1 arm.2) c.answer-reply.ensures.pending c.answer-reply.ensures.contents wrote)
+    c.answer-reply.ensures.fuses c.answer-reply.ensures.fits c.answer-reply.ensures.suits c.answer-reply.ensures.causes
+    (λ sure. let arm = arm_of A.is_sure c.args.cluster.now.arms 0 sure in c.answer-reply.ensures.sure arm.0 arm.1 arm.2)
+    c.answer-reply.ensures.met c.answer-reply.ensures.pending c.answer-reply.ensures.closures c.answer-reply.ensures.contents wrote)
     c.write_reply.ensures.wrote
 
 pub returns-clause-stop_caused : goal.returns-clause-stop_caused
@@ -53,5 +56,15 @@ returns-clause-stop_caused g c = λ why is.
     (on_err_weaker c.write_reply.result (λ wrote.
     caused_reply g.D.Disk.Tells WrotePart c.args.cluster.now.settings (tally_of D.files D.drawn D.fault_count D.fuse_count A.fault_count A.is_sure c.args.cluster.now) (tally_of D.files D.drawn D.fault_count D.fuse_count A.fault_count A.is_sure c.answer-reply.new.self) c.args.number c.args.command.now c.answer-reply.result
     (g.K.Sink.written c.args.sink.now) (g.K.Sink.written c.write_reply.new.sink) c.requires.goes_on (c.answer-reply.ensures.counts, c.answer-reply.ensures.arm_counts, StaySure-lanes A.is_sure A.fault_count c.args.cluster.now.arms c.answer-reply.new.self.arms c.answer-reply.ensures.sure_arms)
-    c.answer-reply.ensures.fuses c.answer-reply.ensures.fits c.answer-reply.ensures.suits c.answer-reply.ensures.causes (λ sure. let arm = arm_of A.is_sure c.args.cluster.now.arms 0 sure in c.answer-reply.ensures.sure arm.0 arm.1 arm.2) c.answer-reply.ensures.pending c.answer-reply.ensures.contents wrote)
+    c.answer-reply.ensures.fuses c.answer-reply.ensures.fits c.answer-reply.ensures.suits c.answer-reply.ensures.causes
+    (λ sure. let arm = arm_of A.is_sure c.args.cluster.now.arms 0 sure in c.answer-reply.ensures.sure arm.0 arm.1 arm.2)
+    c.answer-reply.ensures.met c.answer-reply.ensures.pending c.answer-reply.ensures.closures c.answer-reply.ensures.contents wrote)
     c.write_reply.ensures.part)
+
+-- none of its disks is void
+
+pub returns-clause-formatted : goal.returns-clause-formatted
+returns-clause-formatted g c = λ tells k stands.
+    let answered = c.answer-reply.ensures.legal tells k stands in
+    stands_formatted g.D.Disk.files (λ disk n. g.met.D.Disk.may_leave_now disk n tells)
+    g.D.Piece.Piece.Tells g.D.Disk.fault_count g.D.Disk.fuse_count g.A.Arm.fault_count c.answer-reply.new.self answered.known answered.stands

@@ -9,6 +9,7 @@ use Rattle.hay_cluster.proofs.Standing.{stands_holds}
 use Rattle.hay_cluster.proofs.Sure.{same_sure}
 use Rattle.hay_run.specs.declared.stops.Stop.TheVariants as stop
 use Rattle.hay_cluster.specs.Store.{disks_of}
+use Rattle.hay_cluster.proofs.Formatted.{stands_formatted}
 use Rattle.hay_run.proofs.Asking.{outside-bad, outside-none}
 use Rattle.hay_run.proofs.Counting.{NoneFalls-same}
 use Rattle.hay_run.specs.Turns.{AnyTurn, IsGoingOn}
@@ -98,3 +99,13 @@ returns-in-Skip-clause-caused g c =
     let A = g.A.Arm in
     let says : (outside c.args.number c.args.said).0 ≡ [] = outside-none c.args.number c.args.said c.in-Skip.is in
     rw says (caused_nothing g.D.Disk.Tells c.args.cluster.now.settings (tally_of D.files D.drawn D.fault_count D.fuse_count A.fault_count A.is_sure c.args.cluster.now) (g.K.Sink.written c.args.sink.now))
+
+-- none of its disks is void
+
+pub returns-in-Skip-clause-formatted : goal.returns-in-Skip-clause-formatted
+returns-in-Skip-clause-formatted g c = λ tells k stands.
+    stands_formatted g.D.Disk.files (λ disk n. g.met.D.Disk.may_leave_now disk n tells) g.D.Piece.Piece.Tells g.D.Disk.fault_count g.D.Disk.fuse_count g.A.Arm.fault_count c.args.cluster.now k stands
+
+pub returns-clause-formatted : goal.returns-clause-formatted
+returns-clause-formatted g c = λ tells k stands.
+    stands_formatted g.D.Disk.files (λ disk n. g.met.D.Disk.may_leave_now disk n tells) g.D.Piece.Piece.Tells g.D.Disk.fault_count g.D.Disk.fuse_count g.A.Arm.fault_count c.args.cluster.now k stands

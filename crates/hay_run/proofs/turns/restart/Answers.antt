@@ -14,6 +14,7 @@ use Rattle.hay_cluster.proofs.Standing.{stands_holds}
 use Rattle.hay_cluster.proofs.Sure.{same_sure}
 use Rattle.hay_run.specs.declared.stops.Stop.{Stop}
 use Rattle.hay_run.specs.declared.stops.Stop.TheVariants as stop
+use Rattle.hay_cluster.proofs.Formatted.{stands_formatted}
 use Rattle.hay_run.proofs.Counting.{NoneFalls-kept}
 use Rattle.hay_run.specs.Turns.{AnyTurn, IsGoingOn}
 use Rattle.hay_run.specs.Causing.{tally_of, IsLaterTally, NotReopened, StopCaused}
@@ -111,7 +112,7 @@ returns-in-Ok-clause-caused g c =
     on_ok_weaker c.write_restarted.result (λ wrote.
     caused_restart g.D.Disk.Tells Wrote c.args.cluster.now.settings (tally_of D.files D.drawn D.fault_count D.fuse_count A.fault_count A.is_sure c.args.cluster.now) (tally_of D.files D.drawn D.fault_count D.fuse_count A.fault_count A.is_sure c.restart.new.self) c.args.number c.args.pick c.rows.result c.as_slice.result.now
     (g.K.Sink.written c.args.sink.now) (g.K.Sink.written c.write_restarted.new.sink) none c.in-Ok.ensures.fuses (ap (map A.fault_count) c.in-Ok.ensures.arms) large (subst (λ (l : List Note). TellsPending c.args.cluster.now.settings (pending_of c.args.cluster.now) l) (sym c.as_slice.ensures) c.in-Ok.ensures.told)
-    (subst (λ (l : List Note). AllByRecursion FitsNote l) (sym c.as_slice.ensures) c.in-Ok.ensures.fits) c.in-Ok.ensures.settled c.in-Ok.ensures.sound wrote)
+    (subst (λ (l : List Note). AllByRecursion FitsNote l) (sym c.as_slice.ensures) c.in-Ok.ensures.fits) c.in-Ok.ensures.settled c.in-Ok.ensures.closures c.in-Ok.ensures.sound wrote)
     c.write_restarted.ensures.wrote
 
 pub returns-in-Ok-clause-stop_caused : goal.returns-in-Ok-clause-stop_caused
@@ -125,7 +126,7 @@ returns-in-Ok-clause-stop_caused g c = λ why is.
     (on_err_weaker c.write_restarted.result (λ wrote.
     caused_restart g.D.Disk.Tells WrotePart c.args.cluster.now.settings (tally_of D.files D.drawn D.fault_count D.fuse_count A.fault_count A.is_sure c.args.cluster.now) (tally_of D.files D.drawn D.fault_count D.fuse_count A.fault_count A.is_sure c.restart.new.self) c.args.number c.args.pick c.rows.result c.as_slice.result.now
     (g.K.Sink.written c.args.sink.now) (g.K.Sink.written c.write_restarted.new.sink) none c.in-Ok.ensures.fuses (ap (map A.fault_count) c.in-Ok.ensures.arms) large (subst (λ (l : List Note). TellsPending c.args.cluster.now.settings (pending_of c.args.cluster.now) l) (sym c.as_slice.ensures) c.in-Ok.ensures.told)
-    (subst (λ (l : List Note). AllByRecursion FitsNote l) (sym c.as_slice.ensures) c.in-Ok.ensures.fits) c.in-Ok.ensures.settled c.in-Ok.ensures.sound wrote)
+    (subst (λ (l : List Note). AllByRecursion FitsNote l) (sym c.as_slice.ensures) c.in-Ok.ensures.fits) c.in-Ok.ensures.settled c.in-Ok.ensures.closures c.in-Ok.ensures.sound wrote)
     c.write_restarted.ensures.part)
 
 pub returns-in-Err-clause-stop_caused : goal.returns-in-Err-clause-stop_caused
@@ -142,3 +143,14 @@ returns-in-Err-clause-stop_caused g c = λ why is.
     (g.K.Sink.written c.args.sink.now) (g.K.Sink.written c.refuse.new.sink) c.refuse.result back
     c.in-Err.fault c.refuse.ensures.fits c.in-Err.ensures.cause (λ tells slot count e. c.in-Err.ensures.failed_lowest tells slot count (ap (λ f. Err f) e)) (λ tells slot file at e. c.in-Err.ensures.damaged tells slot file at (ap (λ f. Err f) e))
     c.refuse.ensures.wanting c.refuse.ensures.told c.refuse.ensures.part c.refuse.ensures.stops)
+
+-- none of its disks is void
+
+pub returns-in-Ok-clause-formatted : goal.returns-in-Ok-clause-formatted
+returns-in-Ok-clause-formatted g c = λ tells k stands.
+    let done = c.in-Ok.ensures.reopened tells k stands in
+    stands_formatted g.D.Disk.files (λ disk n. g.met.D.Disk.may_leave_now disk n tells)
+    g.D.Piece.Piece.Tells g.D.Disk.fault_count g.D.Disk.fuse_count g.A.Arm.fault_count c.restart.new.self done.0 done.2
+
+pub returns-in-Err-clause-formatted : goal.returns-in-Err-clause-formatted
+returns-in-Err-clause-formatted g c = λ tells k stands. c.in-Err.ensures.formatted tells k stands

@@ -12,6 +12,7 @@ use Rattle.hay_cluster.proofs.Sure.{same_sure}
 use Rattle.hay_lines.specs.Said.{SaysNext}
 use Rattle.hay_lines.specs.Lines.{TookPart, TookOver}
 use Rattle.hay_lines.specs.Stream.{rest_of}
+use Rattle.hay_cluster.proofs.Formatted.{stands_formatted}
 use Rattle.hay_run.proofs.Asking.{items_none, items_alone, items_either, open_block, open_line, some_more, some_line}
 use Rattle.hay_run.proofs.Counting.{NoneFalls-same}
 use Rattle.hay_lines.proofs.Taking.{accounts_more}
@@ -370,3 +371,25 @@ returns-clause-caused g c =
       took = items_alone c.args.number c.in-Some.said before after c.next_said.new.script.ended (rw c.in-Some.is at c.in_ok-said.ensures.said) (λ lanes is_lanes. c.in_default-said.not-Lanes lanes is_lanes);
       caused = c.in_ok-respond.ensures.caused;
     }
+
+-- none of its disks is void
+
+pub returns-in_err-said-clause-formatted : goal.returns-in_err-said-clause-formatted
+returns-in_err-said-clause-formatted g c = λ tells k stands.
+    stands_formatted g.D.Disk.files (λ disk n. g.met.D.Disk.may_leave_now disk n tells) g.D.Piece.Piece.Tells g.D.Disk.fault_count g.D.Disk.fuse_count g.A.Arm.fault_count c.args.cluster.now k stands
+
+pub returns-in_default-clause-formatted : goal.returns-in_default-clause-formatted
+returns-in_default-clause-formatted g c = λ tells k stands.
+    stands_formatted g.D.Disk.files (λ disk n. g.met.D.Disk.may_leave_now disk n tells) g.D.Piece.Piece.Tells g.D.Disk.fault_count g.D.Disk.fuse_count g.A.Arm.fault_count c.args.cluster.now k stands
+
+pub returns-in_err-block-clause-formatted : goal.returns-in_err-block-clause-formatted
+returns-in_err-block-clause-formatted g c = λ tells k stands.
+    stands_formatted g.D.Disk.files (λ disk n. g.met.D.Disk.may_leave_now disk n tells) g.D.Piece.Piece.Tells g.D.Disk.fault_count g.D.Disk.fuse_count g.A.Arm.fault_count c.args.cluster.now k stands
+
+pub returns-in-Lanes-clause-formatted : goal.returns-in-Lanes-clause-formatted
+returns-in-Lanes-clause-formatted g c = λ tells k stands.
+    stands_formatted g.D.Disk.files (λ disk n. g.met.D.Disk.may_leave_now disk n tells) g.D.Piece.Piece.Tells g.D.Disk.fault_count g.D.Disk.fuse_count g.A.Arm.fault_count c.args.cluster.now k stands
+
+pub returns-in_err-write_block-clause-formatted : goal.returns-in_err-write_block-clause-formatted
+returns-in_err-write_block-clause-formatted g c = λ tells k stands.
+    stands_formatted g.D.Disk.files (λ disk n. g.met.D.Disk.may_leave_now disk n tells) g.D.Piece.Piece.Tells g.D.Disk.fault_count g.D.Disk.fuse_count g.A.Arm.fault_count c.args.cluster.now k stands

@@ -4,9 +4,10 @@ use Rattle.hay_cluster.specs.Suiting.{Suits}
 use Rattle.hay_cluster.proofs.Answering.{same_falls}
 use Rattle.hay_cluster.proofs.Sure.{same_sure, unblamed}
 use Rattle.hay_cluster.specs.Pending.{LeavesPending, pending_of}
-use Rattle.hay_cluster.specs.Leaving.{IsApartOn, LeavesContents}
+use Rattle.hay_cluster.specs.Leaving.{LeavesContents}
 use Rattle.hay_cluster.specs.Store.{contents_in}
-use Rattle.hay_cluster.proofs.Leaving.{leaves_contents, same_contents}
+use Rattle.hay_cluster.proofs.Leaving.{same_contents}
+use Rattle.hay_cluster.specs.Closing.{LeavesClosures, MetClosures, closures_of}
 use Rattle.hay_cluster.proofs.cluster.Cluster.answer.Goals as goal
 
 pub returns-in-Drain-clause-causes : goal.returns-in-Drain-clause-causes
@@ -181,10 +182,10 @@ pub returns-in-Compact-clause-suits : goal.returns-in-Compact-clause-suits
 returns-in-Compact-clause-suits g c = subst (λ (asked : Command). Suits (c.args.self.now).settings c.args.tag.line asked c.maintain-in-Compact.result) (sym c.in-Compact.is) (c.maintain-in-Compact.ensures.suits c.args.tag.line)
 
 pub returns-in-Put-clause-pending : goal.returns-in-Put-clause-pending
-returns-in-Put-clause-pending g c = subst (λ (asked : Command). LeavesPending (c.args.self.now).settings c.args.tag.line asked c.put.result (pending_of c.args.self.now) (pending_of c.put.new.self)) (sym c.in-Put.is) (c.put.ensures.pending, c.put.ensures.met)
+returns-in-Put-clause-pending g c = subst (λ (asked : Command). LeavesPending (c.args.self.now).settings c.args.tag.line asked c.put.result (pending_of c.args.self.now) (pending_of c.put.new.self)) (sym c.in-Put.is) c.put.ensures.pending
 
 pub returns-in-Del-clause-pending : goal.returns-in-Del-clause-pending
-returns-in-Del-clause-pending g c = subst (λ (asked : Command). LeavesPending (c.args.self.now).settings c.args.tag.line asked c.delete.result (pending_of c.args.self.now) (pending_of c.delete.new.self)) (sym c.in-Del.is) (c.delete.ensures.pending, c.delete.ensures.met)
+returns-in-Del-clause-pending g c = subst (λ (asked : Command). LeavesPending (c.args.self.now).settings c.args.tag.line asked c.delete.result (pending_of c.args.self.now) (pending_of c.delete.new.self)) (sym c.in-Del.is) c.delete.ensures.pending
 
 pub returns-in-Read-clause-pending : goal.returns-in-Read-clause-pending
 returns-in-Read-clause-pending g c = subst (λ (asked : Command). LeavesPending (c.args.self.now).settings c.args.tag.line asked c.read.result (pending_of c.args.self.now) (pending_of c.read.new.self)) (sym c.in-Read.is) c.read.ensures.pending
@@ -224,70 +225,154 @@ returns-in-FuseDir-clause-pending g c = subst (λ (asked : Command). LeavesPendi
 
 pub returns-in-Url-clause-contents : goal.returns-in-Url-clause-contents
 returns-in-Url-clause-contents g c = λ tells.
-    subst (λ (asked : Command). LeavesContents (c.args.self.now).settings asked c.url.result (contents_in g.D.Disk.files c.args.self.now) (contents_in g.D.Disk.files c.url.new.self)) (sym c.in-Url.is)
+    subst (λ (asked : Command). LeavesContents (c.args.self.now).settings asked c.url.result (pending_of c.args.self.now) (pending_of c.url.new.self) (contents_in g.D.Disk.files c.args.self.now) (contents_in g.D.Disk.files c.url.new.self)) (sym c.in-Url.is)
     (same_contents g.D.Disk.files (c.args.self.now).settings c.args.self.now c.url.new.self c.url.ensures.disks)
 
 pub returns-in-Drain-clause-contents : goal.returns-in-Drain-clause-contents
 returns-in-Drain-clause-contents g c = λ tells.
-    subst (λ (asked : Command). LeavesContents (c.args.self.now).settings asked c.drain.result (contents_in g.D.Disk.files c.args.self.now) (contents_in g.D.Disk.files c.drain.new.self)) (sym c.in-Drain.is)
+    subst (λ (asked : Command). LeavesContents (c.args.self.now).settings asked c.drain.result (pending_of c.args.self.now) (pending_of c.drain.new.self) (contents_in g.D.Disk.files c.args.self.now) (contents_in g.D.Disk.files c.drain.new.self)) (sym c.in-Drain.is)
     (same_contents g.D.Disk.files (c.args.self.now).settings c.args.self.now c.drain.new.self c.drain.ensures.disks)
 
 pub returns-in-Undrain-clause-contents : goal.returns-in-Undrain-clause-contents
 returns-in-Undrain-clause-contents g c = λ tells.
-    subst (λ (asked : Command). LeavesContents (c.args.self.now).settings asked c.undrain.result (contents_in g.D.Disk.files c.args.self.now) (contents_in g.D.Disk.files c.undrain.new.self)) (sym c.in-Undrain.is)
+    subst (λ (asked : Command). LeavesContents (c.args.self.now).settings asked c.undrain.result (pending_of c.args.self.now) (pending_of c.undrain.new.self) (contents_in g.D.Disk.files c.args.self.now) (contents_in g.D.Disk.files c.undrain.new.self)) (sym c.in-Undrain.is)
     (same_contents g.D.Disk.files (c.args.self.now).settings c.args.self.now c.undrain.new.self c.undrain.ensures.disks)
 
 pub returns-in-FuseDir-clause-contents : goal.returns-in-FuseDir-clause-contents
 returns-in-FuseDir-clause-contents g c = λ tells.
-    subst (λ (asked : Command). LeavesContents (c.args.self.now).settings asked c.fuse_dir.result (contents_in g.D.Disk.files c.args.self.now) (contents_in g.D.Disk.files c.fuse_dir.new.self)) (sym c.in-FuseDir.is)
+    subst (λ (asked : Command). LeavesContents (c.args.self.now).settings asked c.fuse_dir.result (pending_of c.args.self.now) (pending_of c.fuse_dir.new.self) (contents_in g.D.Disk.files c.args.self.now) (contents_in g.D.Disk.files c.fuse_dir.new.self)) (sym c.in-FuseDir.is)
     (c.fuse_dir.ensures.contents tells)
 
 pub returns-in-Put-clause-contents : goal.returns-in-Put-clause-contents
 returns-in-Put-clause-contents g c = λ tells.
-    subst (λ (asked : Command). LeavesContents (c.args.self.now).settings asked c.put.result (contents_in g.D.Disk.files c.args.self.now) (contents_in g.D.Disk.files c.put.new.self)) (sym c.in-Put.is)
-    c.put.ensures.contents
+    subst (λ (asked : Command). LeavesContents (c.args.self.now).settings asked c.put.result (pending_of c.args.self.now) (pending_of c.put.new.self) (contents_in g.D.Disk.files c.args.self.now) (contents_in g.D.Disk.files c.put.new.self)) (sym c.in-Put.is)
+    (c.put.ensures.contents tells)
 
 pub returns-in-Read-clause-contents : goal.returns-in-Read-clause-contents
 returns-in-Read-clause-contents g c = λ tells.
-    subst (λ (asked : Command). LeavesContents (c.args.self.now).settings asked c.read.result (contents_in g.D.Disk.files c.args.self.now) (contents_in g.D.Disk.files c.read.new.self)) (sym c.in-Read.is)
+    subst (λ (asked : Command). LeavesContents (c.args.self.now).settings asked c.read.result (pending_of c.args.self.now) (pending_of c.read.new.self) (contents_in g.D.Disk.files c.args.self.now) (contents_in g.D.Disk.files c.read.new.self)) (sym c.in-Read.is)
     (c.read.ensures.contents tells)
 
 pub returns-in-Get-clause-contents : goal.returns-in-Get-clause-contents
 returns-in-Get-clause-contents g c = λ tells.
-    subst (λ (asked : Command). LeavesContents (c.args.self.now).settings asked c.get.result (contents_in g.D.Disk.files c.args.self.now) (contents_in g.D.Disk.files c.get.new.self)) (sym c.in-Get.is)
+    subst (λ (asked : Command). LeavesContents (c.args.self.now).settings asked c.get.result (pending_of c.args.self.now) (pending_of c.get.new.self) (contents_in g.D.Disk.files c.args.self.now) (contents_in g.D.Disk.files c.get.new.self)) (sym c.in-Get.is)
     (c.get.ensures.contents tells)
 
 pub returns-in-Del-clause-contents : goal.returns-in-Del-clause-contents
 returns-in-Del-clause-contents g c = λ tells.
-    subst (λ (asked : Command). LeavesContents (c.args.self.now).settings asked c.delete.result (contents_in g.D.Disk.files c.args.self.now) (contents_in g.D.Disk.files c.delete.new.self)) (sym c.in-Del.is)
+    subst (λ (asked : Command). LeavesContents (c.args.self.now).settings asked c.delete.result (pending_of c.args.self.now) (pending_of c.delete.new.self) (contents_in g.D.Disk.files c.args.self.now) (contents_in g.D.Disk.files c.delete.new.self)) (sym c.in-Del.is)
     (c.delete.ensures.contents tells)
 
 pub returns-in-Fuse-clause-contents : goal.returns-in-Fuse-clause-contents
 returns-in-Fuse-clause-contents g c = λ tells.
-    subst (λ (asked : Command). LeavesContents (c.args.self.now).settings asked c.fuse.result (contents_in g.D.Disk.files c.args.self.now) (contents_in g.D.Disk.files c.fuse.new.self)) (sym c.in-Fuse.is)
+    subst (λ (asked : Command). LeavesContents (c.args.self.now).settings asked c.fuse.result (pending_of c.args.self.now) (pending_of c.fuse.new.self) (contents_in g.D.Disk.files c.args.self.now) (contents_in g.D.Disk.files c.fuse.new.self)) (sym c.in-Fuse.is)
     (c.fuse.ensures.contents tells)
 
 pub returns-in-Flush-clause-contents : goal.returns-in-Flush-clause-contents
 returns-in-Flush-clause-contents g c = λ tells.
-    subst (λ (asked : Command). LeavesContents (c.args.self.now).settings asked c.maintain.result (contents_in g.D.Disk.files c.args.self.now) (contents_in g.D.Disk.files c.maintain.new.self)) (sym c.in-Flush.is)
-    (leaves_contents g.D.Disk.files (c.args.self.now).settings (IsApartOn (c.args.self.now).settings c.in-Flush.volume c.in-Flush.machine) c.args.self.now c.maintain.new.self c.maintain.ensures.others)
+    subst (λ (asked : Command). LeavesContents (c.args.self.now).settings asked c.maintain.result (pending_of c.args.self.now) (pending_of c.maintain.new.self) (contents_in g.D.Disk.files c.args.self.now) (contents_in g.D.Disk.files c.maintain.new.self)) (sym c.in-Flush.is)
+    (c.maintain.ensures.contents tells)
 
 pub returns-in-Begin-clause-contents : goal.returns-in-Begin-clause-contents
 returns-in-Begin-clause-contents g c = λ tells.
-    subst (λ (asked : Command). LeavesContents (c.args.self.now).settings asked c.maintain-in-Begin.result (contents_in g.D.Disk.files c.args.self.now) (contents_in g.D.Disk.files c.maintain-in-Begin.new.self)) (sym c.in-Begin.is)
-    (leaves_contents g.D.Disk.files (c.args.self.now).settings (IsApartOn (c.args.self.now).settings c.in-Begin.volume c.in-Begin.machine) c.args.self.now c.maintain-in-Begin.new.self c.maintain-in-Begin.ensures.others)
+    subst (λ (asked : Command). LeavesContents (c.args.self.now).settings asked c.maintain-in-Begin.result (pending_of c.args.self.now) (pending_of c.maintain-in-Begin.new.self) (contents_in g.D.Disk.files c.args.self.now) (contents_in g.D.Disk.files c.maintain-in-Begin.new.self)) (sym c.in-Begin.is)
+    (c.maintain-in-Begin.ensures.contents tells)
 
 pub returns-in-Step-clause-contents : goal.returns-in-Step-clause-contents
 returns-in-Step-clause-contents g c = λ tells.
-    subst (λ (asked : Command). LeavesContents (c.args.self.now).settings asked c.maintain-in-Step.result (contents_in g.D.Disk.files c.args.self.now) (contents_in g.D.Disk.files c.maintain-in-Step.new.self)) (sym c.in-Step.is)
-    (leaves_contents g.D.Disk.files (c.args.self.now).settings (IsApartOn (c.args.self.now).settings c.in-Step.volume c.in-Step.machine) c.args.self.now c.maintain-in-Step.new.self c.maintain-in-Step.ensures.others)
+    subst (λ (asked : Command). LeavesContents (c.args.self.now).settings asked c.maintain-in-Step.result (pending_of c.args.self.now) (pending_of c.maintain-in-Step.new.self) (contents_in g.D.Disk.files c.args.self.now) (contents_in g.D.Disk.files c.maintain-in-Step.new.self)) (sym c.in-Step.is)
+    (c.maintain-in-Step.ensures.contents tells)
 
 pub returns-in-Finish-clause-contents : goal.returns-in-Finish-clause-contents
 returns-in-Finish-clause-contents g c = λ tells.
-    subst (λ (asked : Command). LeavesContents (c.args.self.now).settings asked c.maintain-in-Finish.result (contents_in g.D.Disk.files c.args.self.now) (contents_in g.D.Disk.files c.maintain-in-Finish.new.self)) (sym c.in-Finish.is)
-    (leaves_contents g.D.Disk.files (c.args.self.now).settings (IsApartOn (c.args.self.now).settings c.in-Finish.volume c.in-Finish.machine) c.args.self.now c.maintain-in-Finish.new.self c.maintain-in-Finish.ensures.others)
+    subst (λ (asked : Command). LeavesContents (c.args.self.now).settings asked c.maintain-in-Finish.result (pending_of c.args.self.now) (pending_of c.maintain-in-Finish.new.self) (contents_in g.D.Disk.files c.args.self.now) (contents_in g.D.Disk.files c.maintain-in-Finish.new.self)) (sym c.in-Finish.is)
+    (c.maintain-in-Finish.ensures.contents tells)
 
 pub returns-in-Compact-clause-contents : goal.returns-in-Compact-clause-contents
 returns-in-Compact-clause-contents g c = λ tells.
-    subst (λ (asked : Command). LeavesContents (c.args.self.now).settings asked c.maintain-in-Compact.result (contents_in g.D.Disk.files c.args.self.now) (contents_in g.D.Disk.files c.maintain-in-Compact.new.self)) (sym c.in-Compact.is)
-    (leaves_contents g.D.Disk.files (c.args.self.now).settings (IsApartOn (c.args.self.now).settings c.in-Compact.volume c.in-Compact.machine) c.args.self.now c.maintain-in-Compact.new.self c.maintain-in-Compact.ensures.others)
+    subst (λ (asked : Command). LeavesContents (c.args.self.now).settings asked c.maintain-in-Compact.result (pending_of c.args.self.now) (pending_of c.maintain-in-Compact.new.self) (contents_in g.D.Disk.files c.args.self.now) (contents_in g.D.Disk.files c.maintain-in-Compact.new.self)) (sym c.in-Compact.is)
+    (c.maintain-in-Compact.ensures.contents tells)
+
+pub returns-in-Put-clause-met : goal.returns-in-Put-clause-met
+returns-in-Put-clause-met g c = subst (λ (asked : Command). MetClosures (c.args.self.now).settings asked (closures_of c.args.self.now) (pending_of c.args.self.now) c.put.result) (sym c.in-Put.is) c.put.ensures.met
+
+pub returns-in-Put-clause-closures : goal.returns-in-Put-clause-closures
+returns-in-Put-clause-closures g c = subst (λ (asked : Command). LeavesClosures (c.args.self.now).settings asked c.put.result (closures_of c.args.self.now) (closures_of c.put.new.self)) (sym c.in-Put.is) c.put.ensures.closures
+
+pub returns-in-Read-clause-met : goal.returns-in-Read-clause-met
+returns-in-Read-clause-met g c = subst (λ (asked : Command). MetClosures (c.args.self.now).settings asked (closures_of c.args.self.now) (pending_of c.args.self.now) c.read.result) (sym c.in-Read.is) tt
+
+pub returns-in-Read-clause-closures : goal.returns-in-Read-clause-closures
+returns-in-Read-clause-closures g c = subst (λ (asked : Command). LeavesClosures (c.args.self.now).settings asked c.read.result (closures_of c.args.self.now) (closures_of c.read.new.self)) (sym c.in-Read.is) c.read.ensures.closures
+
+pub returns-in-Get-clause-met : goal.returns-in-Get-clause-met
+returns-in-Get-clause-met g c = subst (λ (asked : Command). MetClosures (c.args.self.now).settings asked (closures_of c.args.self.now) (pending_of c.args.self.now) c.get.result) (sym c.in-Get.is) tt
+
+pub returns-in-Get-clause-closures : goal.returns-in-Get-clause-closures
+returns-in-Get-clause-closures g c = subst (λ (asked : Command). LeavesClosures (c.args.self.now).settings asked c.get.result (closures_of c.args.self.now) (closures_of c.get.new.self)) (sym c.in-Get.is) c.get.ensures.closures
+
+pub returns-in-Del-clause-met : goal.returns-in-Del-clause-met
+returns-in-Del-clause-met g c = subst (λ (asked : Command). MetClosures (c.args.self.now).settings asked (closures_of c.args.self.now) (pending_of c.args.self.now) c.delete.result) (sym c.in-Del.is) c.delete.ensures.met
+
+pub returns-in-Del-clause-closures : goal.returns-in-Del-clause-closures
+returns-in-Del-clause-closures g c = subst (λ (asked : Command). LeavesClosures (c.args.self.now).settings asked c.delete.result (closures_of c.args.self.now) (closures_of c.delete.new.self)) (sym c.in-Del.is) c.delete.ensures.closures
+
+pub returns-in-Url-clause-met : goal.returns-in-Url-clause-met
+returns-in-Url-clause-met g c = subst (λ (asked : Command). MetClosures (c.args.self.now).settings asked (closures_of c.args.self.now) (pending_of c.args.self.now) c.url.result) (sym c.in-Url.is) tt
+
+pub returns-in-Url-clause-closures : goal.returns-in-Url-clause-closures
+returns-in-Url-clause-closures g c = subst (λ (asked : Command). LeavesClosures (c.args.self.now).settings asked c.url.result (closures_of c.args.self.now) (closures_of c.url.new.self)) (sym c.in-Url.is) c.url.ensures.closures
+
+pub returns-in-Flush-clause-met : goal.returns-in-Flush-clause-met
+returns-in-Flush-clause-met g c = subst (λ (asked : Command). MetClosures (c.args.self.now).settings asked (closures_of c.args.self.now) (pending_of c.args.self.now) c.maintain.result) (sym c.in-Flush.is) c.maintain.ensures.met
+
+pub returns-in-Flush-clause-closures : goal.returns-in-Flush-clause-closures
+returns-in-Flush-clause-closures g c = subst (λ (asked : Command). LeavesClosures (c.args.self.now).settings asked c.maintain.result (closures_of c.args.self.now) (closures_of c.maintain.new.self)) (sym c.in-Flush.is) c.maintain.ensures.closures
+
+pub returns-in-Begin-clause-met : goal.returns-in-Begin-clause-met
+returns-in-Begin-clause-met g c = subst (λ (asked : Command). MetClosures (c.args.self.now).settings asked (closures_of c.args.self.now) (pending_of c.args.self.now) c.maintain-in-Begin.result) (sym c.in-Begin.is) c.maintain-in-Begin.ensures.met
+
+pub returns-in-Begin-clause-closures : goal.returns-in-Begin-clause-closures
+returns-in-Begin-clause-closures g c = subst (λ (asked : Command). LeavesClosures (c.args.self.now).settings asked c.maintain-in-Begin.result (closures_of c.args.self.now) (closures_of c.maintain-in-Begin.new.self)) (sym c.in-Begin.is) c.maintain-in-Begin.ensures.closures
+
+pub returns-in-Step-clause-met : goal.returns-in-Step-clause-met
+returns-in-Step-clause-met g c = subst (λ (asked : Command). MetClosures (c.args.self.now).settings asked (closures_of c.args.self.now) (pending_of c.args.self.now) c.maintain-in-Step.result) (sym c.in-Step.is) c.maintain-in-Step.ensures.met
+
+pub returns-in-Step-clause-closures : goal.returns-in-Step-clause-closures
+returns-in-Step-clause-closures g c = subst (λ (asked : Command). LeavesClosures (c.args.self.now).settings asked c.maintain-in-Step.result (closures_of c.args.self.now) (closures_of c.maintain-in-Step.new.self)) (sym c.in-Step.is) c.maintain-in-Step.ensures.closures
+
+pub returns-in-Finish-clause-met : goal.returns-in-Finish-clause-met
+returns-in-Finish-clause-met g c = subst (λ (asked : Command). MetClosures (c.args.self.now).settings asked (closures_of c.args.self.now) (pending_of c.args.self.now) c.maintain-in-Finish.result) (sym c.in-Finish.is) c.maintain-in-Finish.ensures.met
+
+pub returns-in-Finish-clause-closures : goal.returns-in-Finish-clause-closures
+returns-in-Finish-clause-closures g c = subst (λ (asked : Command). LeavesClosures (c.args.self.now).settings asked c.maintain-in-Finish.result (closures_of c.args.self.now) (closures_of c.maintain-in-Finish.new.self)) (sym c.in-Finish.is) c.maintain-in-Finish.ensures.closures
+
+pub returns-in-Compact-clause-met : goal.returns-in-Compact-clause-met
+returns-in-Compact-clause-met g c = subst (λ (asked : Command). MetClosures (c.args.self.now).settings asked (closures_of c.args.self.now) (pending_of c.args.self.now) c.maintain-in-Compact.result) (sym c.in-Compact.is) c.maintain-in-Compact.ensures.met
+
+pub returns-in-Compact-clause-closures : goal.returns-in-Compact-clause-closures
+returns-in-Compact-clause-closures g c = subst (λ (asked : Command). LeavesClosures (c.args.self.now).settings asked c.maintain-in-Compact.result (closures_of c.args.self.now) (closures_of c.maintain-in-Compact.new.self)) (sym c.in-Compact.is) c.maintain-in-Compact.ensures.closures
+
+pub returns-in-Drain-clause-met : goal.returns-in-Drain-clause-met
+returns-in-Drain-clause-met g c = subst (λ (asked : Command). MetClosures (c.args.self.now).settings asked (closures_of c.args.self.now) (pending_of c.args.self.now) c.drain.result) (sym c.in-Drain.is) tt
+
+pub returns-in-Drain-clause-closures : goal.returns-in-Drain-clause-closures
+returns-in-Drain-clause-closures g c = subst (λ (asked : Command). LeavesClosures (c.args.self.now).settings asked c.drain.result (closures_of c.args.self.now) (closures_of c.drain.new.self)) (sym c.in-Drain.is) c.drain.ensures.closures
+
+pub returns-in-Undrain-clause-met : goal.returns-in-Undrain-clause-met
+returns-in-Undrain-clause-met g c = subst (λ (asked : Command). MetClosures (c.args.self.now).settings asked (closures_of c.args.self.now) (pending_of c.args.self.now) c.undrain.result) (sym c.in-Undrain.is) tt
+
+pub returns-in-Undrain-clause-closures : goal.returns-in-Undrain-clause-closures
+returns-in-Undrain-clause-closures g c = subst (λ (asked : Command). LeavesClosures (c.args.self.now).settings asked c.undrain.result (closures_of c.args.self.now) (closures_of c.undrain.new.self)) (sym c.in-Undrain.is) c.undrain.ensures.closures
+
+pub returns-in-Fuse-clause-met : goal.returns-in-Fuse-clause-met
+returns-in-Fuse-clause-met g c = subst (λ (asked : Command). MetClosures (c.args.self.now).settings asked (closures_of c.args.self.now) (pending_of c.args.self.now) c.fuse.result) (sym c.in-Fuse.is) tt
+
+pub returns-in-Fuse-clause-closures : goal.returns-in-Fuse-clause-closures
+returns-in-Fuse-clause-closures g c = subst (λ (asked : Command). LeavesClosures (c.args.self.now).settings asked c.fuse.result (closures_of c.args.self.now) (closures_of c.fuse.new.self)) (sym c.in-Fuse.is) c.fuse.ensures.closures
+
+pub returns-in-FuseDir-clause-met : goal.returns-in-FuseDir-clause-met
+returns-in-FuseDir-clause-met g c = subst (λ (asked : Command). MetClosures (c.args.self.now).settings asked (closures_of c.args.self.now) (pending_of c.args.self.now) c.fuse_dir.result) (sym c.in-FuseDir.is) tt
+
+pub returns-in-FuseDir-clause-closures : goal.returns-in-FuseDir-clause-closures
+returns-in-FuseDir-clause-closures g c = subst (λ (asked : Command). LeavesClosures (c.args.self.now).settings asked c.fuse_dir.result (closures_of c.args.self.now) (closures_of c.fuse_dir.new.self)) (sym c.in-FuseDir.is) c.fuse_dir.ensures.closures

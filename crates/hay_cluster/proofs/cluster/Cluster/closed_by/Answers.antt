@@ -1,5 +1,5 @@
-use Rattle.std.proofs.Common.{◌≡◌, ◌<◌, List, Some, None, length, sym, ap, subst, ◌∙◌, arith, ℕ, Option, false}
-use Rattle.std.specs.Prelude.{slice_index_or, IfSome}
+use Rattle.std.proofs.Common.{◌≡◌, ◌<◌, List, Some, None, length, sym, ap, subst, ◌∙◌, arith, ℕ, Option, false, inl}
+use Rattle.std.specs.Prelude.{slice_index_or, IfSome, IfNone}
 use Rattle.hay_legal.specs.Known.{closed_by, drained_of, volume_at}
 use Rattle.hay_logical.specs.Fits.{At}
 use Rattle.hay_logical.specs.Volumes.{Volume}
@@ -12,7 +12,9 @@ use Rattle.hay_needle.specs.declared.settings.Settings.{Settings}
 use Rattle.hay_cluster.specs.Suiting.{IsOn}
 use Rattle.hay_cluster.proofs.Calls.{machine_on}
 use Rattle.hay_cluster.proofs.Suiting.{drained_on}
-use Rattle.hay_cluster.proofs.Pending.{none_or, settled_at}
+use Rattle.hay_cluster.specs.Closing.{Closes, IsOpenTo, closures_of}
+use Rattle.hay_cluster.specs.Pending.{pending_of}
+use Rattle.hay_cluster.proofs.Closures.{drained_closes, is_frozen_by, is_thawed, undrained_opens}
 use Rattle.hay_cluster.proofs.cluster.Cluster.closed_by.Goals as goal
 
 pub offset_bounds-as_slice-volume : goal.offset_bounds-as_slice-volume
@@ -41,7 +43,15 @@ returns-in-Some g c = record {
       (subst (λ (vs : List (Volume g.row.D.Denot g.row.D-Piece.Denot)). At vs c.args.volume (slice_index_or c.as_slice.result.now c.args.volume volume)) c.as_slice.ensures.value
       (at_read c.as_slice.result.now c.args.volume volume (let long = ap length c.as_slice.ensures.value in omega (arith, within, long)))) in
       machine_on c.args.self.now store c.args.volume volume c.in-Some.machine c.self.view_is c.self.invariant at (c.in-Some.ensures).on;
-  settled = tt;
+  opens = tt;
+  closes =
+      let store : Open g.row.D.Denot g.row.D-Piece.Denot g.row.A.Denot = record { settings = c.self.inside.settings; directory = c.self.inside.directory; volumes = c.self.inside.volumes.items; arms = c.self.inside.seats.items } in
+      let within : c.args.volume < length c.self.inside.volumes.items = let same = ap (λ (st : Open g.row.D.Denot g.row.D-Piece.Denot g.row.A.Denot). (st.settings).volumes) c.self.view_is in omega (arith, c.requires.volume, c.self.invariant.many, same) in
+      let volume = c.index-as_slice-volume.result in
+      let at : At store.volumes c.args.volume volume = subst (λ (w : Volume g.row.D.Denot g.row.D-Piece.Denot). At store.volumes c.args.volume w) (sym c.index-as_slice-volume.is)
+      (subst (λ (vs : List (Volume g.row.D.Denot g.row.D-Piece.Denot)). At vs c.args.volume (slice_index_or c.as_slice.result.now c.args.volume volume)) c.as_slice.ensures.value
+      (at_read c.as_slice.result.now c.args.volume volume (let long = ap length c.as_slice.ensures.value in omega (arith, within, long)))) in
+      inl (is_frozen_by c.args.self.now store c.args.volume volume c.self.view_is at c.in-Some.machine (sym c.frozen.ensures.is ∙ c.in-Some.is));
 }
 
 pub returns-in-None : goal.returns-in-None
@@ -61,12 +71,24 @@ returns-in-None g c = record {
       let same = ap (λ (st : Open g.row.D.Denot g.row.D-Piece.Denot g.row.A.Denot). st.settings) c.self.view_is in
       subst (λ (o : Option ℕ). IfSome o (IsOn (c.args.self.now).settings c.args.volume)) (sym c.drained_by.ensures)
       (drained_on (c.args.self.now).settings c.args.volume (λ m. slice_index_or ((c.args.self.now).directory).drained m false) (subst (λ (s : Settings). IsBuilt s) same c.self.invariant.built) c.requires.volume);
-  settled =
+  opens =
       let store : Open g.row.D.Denot g.row.D-Piece.Denot g.row.A.Denot = record { settings = c.self.inside.settings; directory = c.self.inside.directory; volumes = c.self.inside.volumes.items; arms = c.self.inside.seats.items } in
       let within : c.args.volume < length c.self.inside.volumes.items = let same = ap (λ (st : Open g.row.D.Denot g.row.D-Piece.Denot g.row.A.Denot). (st.settings).volumes) c.self.view_is in omega (arith, c.requires.volume, c.self.invariant.many, same) in
       let volume = c.index-as_slice-volume.result in
       let at : At store.volumes c.args.volume volume = subst (λ (w : Volume g.row.D.Denot g.row.D-Piece.Denot). At store.volumes c.args.volume w) (sym c.index-as_slice-volume.is)
       (subst (λ (vs : List (Volume g.row.D.Denot g.row.D-Piece.Denot)). At vs c.args.volume (slice_index_or c.as_slice.result.now c.args.volume volume)) c.as_slice.ensures.value
       (at_read c.as_slice.result.now c.args.volume volume (let long = ap length c.as_slice.ensures.value in omega (arith, within, long)))) in
-      none_or c.drained_by.result _ (settled_at c.args.self.now store c.args.volume volume c.self.view_is at (c.in-None.ensures).settled);
+      subst (λ (o : Option ℕ). IfNone o (IsOpenTo (c.args.self.now).settings (closures_of c.args.self.now) (pending_of c.args.self.now) c.args.volume)) (sym c.drained_by.ensures)
+      (undrained_opens (c.args.self.now).settings (closures_of c.args.self.now) (pending_of c.args.self.now) c.args.volume
+      (is_thawed c.args.self.now store c.args.volume volume c.self.view_is at (sym c.frozen.ensures.is ∙ c.in-None.is) (c.in-None.ensures).settled));
+  closes =
+      let store : Open g.row.D.Denot g.row.D-Piece.Denot g.row.A.Denot = record { settings = c.self.inside.settings; directory = c.self.inside.directory; volumes = c.self.inside.volumes.items; arms = c.self.inside.seats.items } in
+      let within : c.args.volume < length c.self.inside.volumes.items = let same = ap (λ (st : Open g.row.D.Denot g.row.D-Piece.Denot g.row.A.Denot). (st.settings).volumes) c.self.view_is in omega (arith, c.requires.volume, c.self.invariant.many, same) in
+      let volume = c.index-as_slice-volume.result in
+      let at : At store.volumes c.args.volume volume = subst (λ (w : Volume g.row.D.Denot g.row.D-Piece.Denot). At store.volumes c.args.volume w) (sym c.index-as_slice-volume.is)
+      (subst (λ (vs : List (Volume g.row.D.Denot g.row.D-Piece.Denot)). At vs c.args.volume (slice_index_or c.as_slice.result.now c.args.volume volume)) c.as_slice.ensures.value
+      (at_read c.as_slice.result.now c.args.volume volume (let long = ap length c.as_slice.ensures.value in omega (arith, within, long)))) in
+      subst (λ (o : Option ℕ). IfSome o (Closes (c.args.self.now).settings (closures_of c.args.self.now) (pending_of c.args.self.now) c.args.volume)) (sym c.drained_by.ensures)
+      (drained_closes (c.args.self.now).settings (closures_of c.args.self.now) (pending_of c.args.self.now) c.args.volume
+      (is_thawed c.args.self.now store c.args.volume volume c.self.view_is at (sym c.frozen.ensures.is ∙ c.in-None.is) (c.in-None.ensures).settled));
 }

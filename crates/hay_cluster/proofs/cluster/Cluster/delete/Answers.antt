@@ -1,14 +1,17 @@
-use Rattle.std.proofs.Common.{◌≡◌, None, Some, sym, ◌∙◌, inl, inr, refl}
+use Rattle.std.proofs.Common.{◌≡◌, None, Some, sym, ap, ◌∙◌, inl, inr, refl}
+use Rattle.std.specs.Prelude.{Err}
 use Rattle.std.proofs.lemmas.Result.{IfErr-at_err, IfOk-at_ok}
 use Rattle.hay_legal.specs.Known.{closed, home_of, volume_at}
 use Rattle.hay_legal.specs.Plain.{with_del}
 use Rattle.hay_cluster.proofs.Changing.{deleted, not_deleted}
 use Rattle.hay_cluster.proofs.Suiting.{closed_suits_del, del_refusal_suits}
-use Rattle.hay_cluster.proofs.Pending.{delete_met, delete_pending, read_only_met}
+use Rattle.hay_cluster.proofs.Pending.{delete_pending}
 use Rattle.hay_cluster.specs.Pending.{pending_of}
 use Rattle.hay_cluster.specs.Store.{contents_in}
 use Rattle.hay_cluster.specs.Leaving.{AnySlot, IsBeside}
 use Rattle.hay_cluster.proofs.Leaving.{delete_leaves, keeps-all, leaves_contents}
+use Rattle.hay_cluster.specs.Closing.{closures_of}
+use Rattle.hay_cluster.proofs.Closures.{delete_closes, delete_met, read_only_met}
 use Rattle.hay_cluster.proofs.cluster.Cluster.delete.Goals as goal
 
 pub returns-in-Ok-clause-legal : goal.returns-in-Ok-clause-legal
@@ -74,13 +77,31 @@ returns-in-Ok-clause-contents g c = λ tells.
 
 pub returns-clause-contents : goal.returns-clause-contents
 returns-clause-contents g c = λ tells.
-    delete_leaves (c.args.self.now).settings c.in-Some.volume c.rows-in-Err.result (contents_in g.D.Disk.files c.args.self.now) (contents_in g.D.Disk.files c.delete_in.new.self) c.in-Err.fault c.delete_refusal.result c.delete_refusal.ensures.is
+    delete_leaves (c.args.self.now).settings (pending_of c.args.self.now) (pending_of c.delete_in.new.self) (contents_in g.D.Disk.files c.args.self.now) (contents_in g.D.Disk.files c.delete_in.new.self) c.in-Some.volume c.rows-in-Err.result c.in-Err.fault c.delete_refusal.result c.delete_refusal.ensures.is
     (leaves_contents g.D.Disk.files (c.args.self.now).settings (IsBeside (c.args.self.now).settings c.in-Some.volume) c.args.self.now c.delete_in.new.self c.delete_in.ensures.beside)
     (IfErr-at_err _ c.in-Err.is (c.delete_in.ensures.kept tells))
 
 pub returns-in-Some-closed_by-clause-met : goal.returns-in-Some-closed_by-clause-met
-returns-in-Some-closed_by-clause-met g c = read_only_met (pending_of c.args.self.now) c.in-Some.volume c.in-Some-closed_by.machine c.read_only.result c.read_only.ensures.is
+returns-in-Some-closed_by-clause-met g c = read_only_met (c.args.self.now).settings (closures_of c.args.self.now) (pending_of c.args.self.now) c.in-Some.volume c.in-Some-closed_by.machine c.read_only.result c.read_only.ensures.is (c.in-Some-closed_by.ensures).closes
+
+pub returns-in-Ok-clause-met : goal.returns-in-Ok-clause-met
+returns-in-Ok-clause-met g c = (c.in_default-closed_by.ensures).opens
 
 pub returns-clause-met : goal.returns-clause-met
 returns-clause-met g c =
-    delete_met (pending_of c.args.self.now) c.in-Some.volume c.rows-in-Err.result c.in-Err.fault c.delete_refusal.result c.delete_refusal.ensures.is (c.in_default-closed_by.ensures).settled
+    delete_met (c.args.self.now).settings (closures_of c.args.self.now) (pending_of c.args.self.now) c.in-Some.volume c.rows-in-Err.result c.in-Err.fault c.delete_refusal.result c.delete_refusal.ensures.is (c.in_default-closed_by.ensures).opens
+    (λ m is. c.delete_in.ensures.thawed (c.in_default-closed_by.ensures).opens.0 m (c.in-Err.is ∙ ap Err is))
+
+pub returns-in_default-clause-closures : goal.returns-in_default-clause-closures
+returns-in_default-clause-closures g c = inr refl
+
+pub returns-in-Some-closed_by-clause-closures : goal.returns-in-Some-closed_by-clause-closures
+returns-in-Some-closed_by-clause-closures g c = inr refl
+
+pub returns-in-Ok-clause-closures : goal.returns-in-Ok-clause-closures
+returns-in-Ok-clause-closures g c = inr c.in-Ok.ensures.done_closures
+
+pub returns-clause-closures : goal.returns-clause-closures
+returns-clause-closures g c =
+    delete_closes c.in-Some.volume c.rows-in-Err.result (closures_of c.args.self.now) (closures_of c.delete_in.new.self) c.in-Err.fault c.delete_refusal.result c.delete_refusal.ensures.is
+    (IfErr-at_err _ c.in-Err.is c.delete_in.ensures.refused_closures)

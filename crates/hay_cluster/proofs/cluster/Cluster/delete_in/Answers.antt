@@ -7,8 +7,9 @@ use Rattle.hay_core.specs.declared.entry.CoreTag.{CoreTag}
 use Rattle.hay_needle.specs.declared.settings.Settings.{Settings}
 use Rattle.hay_legal.specs.Stands.{Contents}
 use Rattle.hay_logical.specs.declared.fault.LogicalFault.{LogicalFault}
+use Rattle.hay_logical.specs.declared.fault.LogicalFault.TheVariants as refusal
 use Rattle.hay_logical.specs.declared.unsure.Unsure.{Unsure}
-use Rattle.hay_logical.specs.Notes.{DeleteLeavesUnsure}
+use Rattle.hay_logical.specs.Notes.{DeleteLeavesUnsure, IsBrokenOff}
 use Rattle.hay_logical.specs.Steps.{KeepsFiles}
 use Rattle.hay_logical.specs.Fits.{At}
 use Rattle.hay_logical.specs.Volumes.{Volume}
@@ -16,16 +17,20 @@ use Rattle.hay_logical.proofs.Lists.{at_read}
 use Rattle.hay_cluster.specs.Store.{Open, contents_in, disks_of}
 use Rattle.hay_cluster.proofs.Calls.{called_open, called_up, delete_cause}
 use Rattle.hay_cluster.proofs.Lists.{length-set}
-use Rattle.hay_cluster.proofs.Moves.{Called, called_fuses, called_later, called_shape, in_volume}
-use Rattle.hay_cluster.proofs.Pending.{called_kept, delete_left}
-use Rattle.hay_cluster.specs.Leaving.{AnySlot, DeleteKeeps, IsBeside, KeepsIn, LeavesIn}
-use Rattle.hay_cluster.proofs.Leaving.{called_keeps, called_leaves, delete_keeps}
+use Rattle.hay_cluster.proofs.Moves.{Called, called_fuses, called_later, called_shape, in_volume, with_one}
+use Rattle.hay_cluster.proofs.Pending.{called_kept, delete_left, called_broken}
+use Rattle.hay_cluster.specs.Leaving.{AnySlot, DeleteKeeps, IsBeside, KeepsIn, LeavesIn, ComesToPend, KeepsBehind}
+use Rattle.hay_cluster.proofs.Leaving.{called_keeps, called_leaves, delete_keeps, called_behind, comes_to_pend}
+use Rattle.hay_cluster.specs.Pending.{PendingLines, pending_of}
+use Rattle.hay_cluster.proofs.Closures.{closures_kept, delete_froze, was_thawed}
 use Rattle.hay_cluster.proofs.cluster.Cluster.delete_in.Goals as goal
 
-refused_keeps : {T : Type 0} (settings : Settings) (old new : ℕ → Contents) (tag : CoreTag) (before after : Option Unsure) (Keeps : Type 0) (r : Result T LogicalFault) → IfErr r (DeleteLeavesUnsure tag before after)
-    → OnErr r (after ≡ before → Keeps) → (Keeps → KeepsIn settings AnySlot old new) → IfErr r (DeleteKeeps settings old new)
-refused_keeps settings old new tag before after Keeps (Ok x) left files keeps = tt
-refused_keeps settings old new tag before after Keeps (Err fault) left files keeps = delete_keeps settings old new tag before after fault left (λ same. keeps (files same))
+refused_keeps : {T : Type 0} (settings : Settings) (v : ℕ) (pending pending' : PendingLines) (old new : ℕ → Contents) (tag : CoreTag) (before after : Option Unsure) (Kept : Type 0) (r : Result T LogicalFault)
+    → IfErr r (DeleteLeavesUnsure tag before after) → OnErr r (after ≡ before → Kept) → (Kept → KeepsIn settings AnySlot old new) → (IsBrokenOff tag before after → ComesToPend v pending pending')
+    → ((m f : ℕ) → r ≡ Err (refusal.Failed m f) → KeepsBehind settings v m old new) → IfErr r (DeleteKeeps settings v pending pending' old new)
+refused_keeps settings v pending pending' old new tag before after Kept (Ok x) left files keeps broke behind = tt
+refused_keeps settings v pending pending' old new tag before after Kept (Err fault) left files keeps broke behind =
+    delete_keeps settings v pending pending' old new tag before after (λ same. keeps (files same)) broke fault left (λ m f is. behind m f (ap Err is))
 
 pub offset_bounds-as_mut_slice-volume : goal.offset_bounds-as_mut_slice-volume
 offset_bounds-as_mut_slice-volume g c =
@@ -156,7 +161,43 @@ returns-clause-kept g c = λ tells.
     (at_read c.as_mut_slice.result.now c.args.volume c.index-as_mut_slice-volume.result (let long = ap length c.as_mut_slice.ensures.value in omega (arith, within, long))) in
     let items = with_items_is c.self.inside.volumes (slice_set c.as_mut_slice.result.now c.args.volume c.delete.new.self) (length-set c.as_mut_slice.result.now c.args.volume c.delete.new.self ∙ c.as_mut_slice.ensures.len)
     ∙ ap (λ (vs : List (Volume g.row.D.Denot g.row.D-Piece.Denot)). slice_set vs c.args.volume c.delete.new.self) c.as_mut_slice.ensures.value in
+    let called : Called g.D.Disk.fault_count g.D.Disk.fuse_count store c.args.volume volume c.delete.new.self = record { at = at; same = c.delete.ensures.same; counts = c.delete.ensures.counts } in
+    let settings = (c.args.self.now).settings in
     let keeps = λ (files : KeepsFiles g.D.Disk.Tells g.D.Disk.files volume.replicas c.delete.new.self.replicas).
-    called_keeps g.D.Disk.files g.D.Disk.Tells (c.args.self.now).settings c.args.self.now store c.args.volume volume c.delete.new.self tells c.self.view_is at (c.delete.ensures.counts).count files in
-    subst (λ (vs : List (Volume g.row.D.Denot g.row.D-Piece.Denot)). IfErr c.delete.result (DeleteKeeps (c.args.self.now).settings (contents_in g.D.Disk.files c.args.self.now) (contents_in g.D.Disk.files (let next : Open g.row.D.Denot g.row.D-Piece.Denot g.row.A.Denot = record store { volumes = vs } in next)))) (sym items)
-    (refused_keeps (c.args.self.now).settings _ _ c.args.tag volume.unsure c.delete.new.self.unsure _ c.delete.result c.delete.ensures.refused_unsure c.delete.ensures.files keeps)
+    called_keeps g.D.Disk.files g.D.Disk.Tells settings c.args.self.now store c.args.volume volume c.delete.new.self tells c.self.view_is at (c.delete.ensures.counts).count files in
+    subst (λ (vs : List (Volume g.row.D.Denot g.row.D-Piece.Denot)). let next : Open g.row.D.Denot g.row.D-Piece.Denot g.row.A.Denot = record store { volumes = vs } in
+    IfErr c.delete.result (DeleteKeeps settings c.args.volume (pending_of c.args.self.now) (pending_of next) (contents_in g.D.Disk.files c.args.self.now) (contents_in g.D.Disk.files next))) (sym items)
+    (refused_keeps settings c.args.volume (pending_of c.args.self.now) (pending_of (with_one store c.args.volume c.delete.new.self)) (contents_in g.D.Disk.files c.args.self.now) (contents_in g.D.Disk.files (with_one store c.args.volume c.delete.new.self)) c.args.tag volume.unsure c.delete.new.self.unsure _ c.delete.result c.delete.ensures.refused_unsure c.delete.ensures.files keeps
+    (λ broken. comes_to_pend c.args.volume c.args.tag.line (pending_of c.args.self.now) (pending_of (with_one store c.args.volume c.delete.new.self)) (called_broken c.args.self.now store c.args.volume volume c.delete.new.self c.args.tag c.self.view_is at broken))
+    (λ m f is. called_behind g.D.Disk.Tells g.D.Disk.files g.D.Disk.fault_count g.D.Disk.fuse_count tells c.args.self.now store c.args.volume volume c.delete.new.self c.self.view_is c.self.invariant called m (c.delete.ensures.above m f is)))
+
+pub returns-clause-done_closures : goal.returns-clause-done_closures
+returns-clause-done_closures g c =
+    let store : Open g.row.D.Denot g.row.D-Piece.Denot g.row.A.Denot = record { settings = c.self.inside.settings; directory = c.self.inside.directory; volumes = c.self.inside.volumes.items; arms = c.self.inside.seats.items } in
+    let within : c.args.volume < length c.self.inside.volumes.items = let same = ap (λ (st : Open g.row.D.Denot g.row.D-Piece.Denot g.row.A.Denot). (st.settings).volumes) c.self.view_is in omega (arith, c.requires.volume, c.self.invariant.many, same) in
+    let volume : Volume g.row.D.Denot g.row.D-Piece.Denot = slice_index_or c.as_mut_slice.result.now c.args.volume c.index-as_mut_slice-volume.result in
+    let at : At store.volumes c.args.volume volume = subst (λ (vs : List (Volume g.row.D.Denot g.row.D-Piece.Denot)). At vs c.args.volume volume) c.as_mut_slice.ensures.value
+    (at_read c.as_mut_slice.result.now c.args.volume c.index-as_mut_slice-volume.result (let long = ap length c.as_mut_slice.ensures.value in omega (arith, within, long))) in
+    let items = with_items_is c.self.inside.volumes (slice_set c.as_mut_slice.result.now c.args.volume c.delete.new.self) (length-set c.as_mut_slice.result.now c.args.volume c.delete.new.self ∙ c.as_mut_slice.ensures.len)
+    ∙ ap (λ (vs : List (Volume g.row.D.Denot g.row.D-Piece.Denot)). slice_set vs c.args.volume c.delete.new.self) c.as_mut_slice.ensures.value in
+    rw items (on_ok_weaker c.delete.result (closures_kept c.args.self.now store c.args.volume volume c.self.view_is at c.delete.new.self) c.delete.ensures.still)
+
+pub returns-clause-refused_closures : goal.returns-clause-refused_closures
+returns-clause-refused_closures g c =
+    let store : Open g.row.D.Denot g.row.D-Piece.Denot g.row.A.Denot = record { settings = c.self.inside.settings; directory = c.self.inside.directory; volumes = c.self.inside.volumes.items; arms = c.self.inside.seats.items } in
+    let within : c.args.volume < length c.self.inside.volumes.items = let same = ap (λ (st : Open g.row.D.Denot g.row.D-Piece.Denot g.row.A.Denot). (st.settings).volumes) c.self.view_is in omega (arith, c.requires.volume, c.self.invariant.many, same) in
+    let volume : Volume g.row.D.Denot g.row.D-Piece.Denot = slice_index_or c.as_mut_slice.result.now c.args.volume c.index-as_mut_slice-volume.result in
+    let at : At store.volumes c.args.volume volume = subst (λ (vs : List (Volume g.row.D.Denot g.row.D-Piece.Denot)). At vs c.args.volume volume) c.as_mut_slice.ensures.value
+    (at_read c.as_mut_slice.result.now c.args.volume c.index-as_mut_slice-volume.result (let long = ap length c.as_mut_slice.ensures.value in omega (arith, within, long))) in
+    let items = with_items_is c.self.inside.volumes (slice_set c.as_mut_slice.result.now c.args.volume c.delete.new.self) (length-set c.as_mut_slice.result.now c.args.volume c.delete.new.self ∙ c.as_mut_slice.ensures.len)
+    ∙ ap (λ (vs : List (Volume g.row.D.Denot g.row.D-Piece.Denot)). slice_set vs c.args.volume c.delete.new.self) c.as_mut_slice.ensures.value in
+    rw items (IfErr-weaker c.delete.result _ _ (delete_froze c.args.self.now store c.args.volume volume c.self.view_is at c.delete.new.self) c.delete.ensures.freezes)
+
+pub returns-clause-thawed : goal.returns-clause-thawed
+returns-clause-thawed g c = λ thawed m is.
+    let store : Open g.row.D.Denot g.row.D-Piece.Denot g.row.A.Denot = record { settings = c.self.inside.settings; directory = c.self.inside.directory; volumes = c.self.inside.volumes.items; arms = c.self.inside.seats.items } in
+    let within : c.args.volume < length c.self.inside.volumes.items = let same = ap (λ (st : Open g.row.D.Denot g.row.D-Piece.Denot g.row.A.Denot). (st.settings).volumes) c.self.view_is in omega (arith, c.requires.volume, c.self.invariant.many, same) in
+    let volume : Volume g.row.D.Denot g.row.D-Piece.Denot = slice_index_or c.as_mut_slice.result.now c.args.volume c.index-as_mut_slice-volume.result in
+    let at : At store.volumes c.args.volume volume = subst (λ (vs : List (Volume g.row.D.Denot g.row.D-Piece.Denot)). At vs c.args.volume volume) c.as_mut_slice.ensures.value
+    (at_read c.as_mut_slice.result.now c.args.volume c.index-as_mut_slice-volume.result (let long = ap length c.as_mut_slice.ensures.value in omega (arith, within, long))) in
+    c.delete.ensures.thawed (was_thawed c.args.self.now store c.args.volume volume c.self.view_is at thawed) m is

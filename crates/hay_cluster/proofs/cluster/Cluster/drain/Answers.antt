@@ -12,3 +12,9 @@ pub returns-clause-suits : goal.returns-clause-suits
 returns-clause-suits g c = λ line.
     let same = ap (λ (st : Open g.row.D.Denot g.row.D-Piece.Denot g.row.A.Denot). st.settings) c.self.view_is in
     inl (subst (λ (s : Settings). c.args.machine < s.machines) same c.if-machine-self.false, refl)
+
+pub returns-then-machine-self-clause-closures : goal.returns-then-machine-self-clause-closures
+returns-then-machine-self-clause-closures g c = inr (refl, refl)
+
+pub returns-clause-closures : goal.returns-clause-closures
+returns-clause-closures g c = inl (refl, c.set_drained.ensures.closures)

@@ -11,6 +11,7 @@ use Rattle.hay_cluster.specs.Causes.{StaySure}
 use Rattle.hay_cluster.specs.Reads.{IsWhole, ReadNoArm, ReadPasses, ReadSays, StopsUnseen, counts_of, outcomes_of}
 use Rattle.hay_cluster.specs.Leaving.{AnySlot, KeepsIn}
 use Rattle.hay_cluster.specs.Parts.{Comes}
+use Rattle.hay_cluster.specs.Closing.{closures_of}
 use Rattle.hay_cluster.specs.Pending.{pending_of}
 use Rattle.hay_cluster.specs.State.{Stands}
 use Rattle.hay_cluster.specs.Store.{IsUp, contents_in, disks_of}
@@ -32,6 +33,7 @@ invariant-loop g l = record {
   fuses : map g.D.Disk.fuse_count (disks_of l.self) ≡ map g.D.Disk.fuse_count (disks_of l.fn.self);
   contents : g.D.Disk.Tells → KeepsIn l.fn.self.settings AnySlot (contents_in g.D.Disk.files l.fn.self) (contents_in g.D.Disk.files l.self);
   pending : pending_of l.self ≡ pending_of l.fn.self;
+  closures : closures_of l.self ≡ closures_of l.fn.self;
   arm_counts : NoneFalls (map g.A.Arm.fault_count l.fn.self.arms) (map g.A.Arm.fault_count l.self.arms);
   settings : l.self.settings ≡ l.fn.self.settings;
   up : IsUp l.self;

@@ -14,8 +14,9 @@ use Rattle.hay_cluster.proofs.OpeningFound.{found_new}
 use Rattle.hay_cluster.proofs.OpeningLists.{passed_on}
 use Rattle.hay_cluster.proofs.OpeningStore.{MovedParts, opens_up}
 use Rattle.hay_cluster.proofs.OpeningTaken.{IsTakingFault, back_arm, back_counts, back_failed, back_shelf, back_damaged, is_taken, moved_arms, moved_counts, moved_sure, not_memory_damaged, not_memory_failed, one_fault, passed_back, taken_idle, taken_rests, taking_damaged, taking_failed, taking_shelf}
-use Rattle.hay_cluster.proofs.OpeningVoid.{back_contents, back_kept, contents_stay}
+use Rattle.hay_cluster.proofs.OpeningVoid.{back_contents, back_kept, contents_stay, formats_void}
 use Rattle.hay_cluster.proofs.Pending.{opened_settled}
+use Rattle.hay_cluster.proofs.Closures.{opened_closures}
 use Rattle.hay_cluster.proofs.cluster.Cluster.open.Goals as goal
 
 pub assemble-cluster-requires : goal.assemble-cluster-requires
@@ -305,3 +306,15 @@ returns-in-Err-clause-damaged_within g c =
     let told : c.in-Err.fault ≡ Damaged slot file at = cc in
     subst (λ (s : Settings). slot < disk_count s) c.assemble-cluster.ensures.settings
     (back_damaged g.D.Disk.Tells g.D.Disk.files g.D.Piece.Piece.Tells g.D.Disk.fault_count g.D.Disk.fuse_count g.A.Arm.fault_count g.D.Disk.drawn g.A.Arm.is_sure (g.H.Shelf.disks c.args.shelf.now) (g.H.Shelf.arms c.args.shelf.now) c.assemble-cluster.result c.open_parts.new.self c.in-Err.fault taken moved c.in-Err.ensures.refused slot file at told)
+
+pub returns-in-Ok-clause-closures : goal.returns-in-Ok-clause-closures
+returns-in-Ok-clause-closures g c =
+    opened_closures g.D.Disk.Tells g.D.Disk.files g.D.Piece.Piece.Tells g.D.Disk.fault_count g.D.Disk.fuse_count c.args.settings c.assemble-cluster.result c.open_parts.new.self c.in-Ok._notes c.assemble-cluster.ensures.settings
+    (c.open_parts.ensures.settings ∙ c.assemble-cluster.ensures.settings) c.assemble-cluster.ensures.shape c.open_parts.ensures.shape c.in-Ok.ensures.opened
+
+pub returns-in-Ok-clause-formatted : goal.returns-in-Ok-clause-formatted
+returns-in-Ok-clause-formatted g c = λ tells.
+    let taken = is_taken g.D.Disk.Tells g.D.Disk.files g.D.Piece.Piece.Tells g.D.Disk.fault_count g.D.Disk.fuse_count g.A.Arm.fault_count g.D.Disk.drawn g.A.Arm.is_sure (g.H.Shelf.disks c.args.shelf.now) (g.H.Shelf.arms c.args.shelf.now) c.assemble-cluster.result c.in_ok-disks.disks.items c.in_ok-disks.seats.items c.assemble-cluster.ensures.shape c.assemble-cluster.ensures.fresh c.assemble-cluster.ensures.closed c.assemble-cluster.ensures.unsure c.assemble-cluster.ensures.disks c.assemble-cluster.ensures.arms c.in_ok-disks.ensures.disks c.in_ok-disks.ensures.arms in
+    let moved : MovedParts g.D.Disk.Tells g.D.Disk.files g.D.Piece.Piece.Tells g.D.Disk.fault_count g.D.Disk.fuse_count g.A.Arm.fault_count c.assemble-cluster.result c.open_parts.new.self = record { settings = c.open_parts.ensures.settings; arms = c.open_parts.ensures.arms; directory = c.open_parts.ensures.directory; volumes = c.open_parts.ensures.volumes } in
+    formats_void g.D.Disk.Tells g.D.Disk.files g.D.Piece.Piece.Tells g.D.Disk.fault_count g.D.Disk.fuse_count g.A.Arm.fault_count g.D.Disk.drawn g.A.Arm.is_sure (g.H.Shelf.disks c.args.shelf.now) (g.H.Shelf.arms c.args.shelf.now) tells (λ disk n. g.met.D.Disk.may_leave_now disk n tells)
+    c.args.settings c.assemble-cluster.result c.open_parts.new.self c.in-Ok._notes c.assemble-cluster.ensures.settings taken moved c.in-Ok.ensures.opened

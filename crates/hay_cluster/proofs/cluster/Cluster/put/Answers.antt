@@ -5,9 +5,10 @@ use Rattle.hay_cluster.proofs.Moves.{none_falls}
 use Rattle.hay_cluster.proofs.Puts.{home_refused}
 use Rattle.hay_cluster.proofs.Suiting.{one_refuses, refusal_suits}
 use Rattle.hay_cluster.specs.Pending.{pending_of}
-use Rattle.hay_cluster.proofs.Pending.{refusal_met, refusal_no_failure}
-use Rattle.hay_cluster.specs.Leaving.{AnySlot}
-use Rattle.hay_cluster.proofs.Leaving.{keeps-all}
+use Rattle.hay_cluster.proofs.Pending.{refusal_no_failure}
+use Rattle.hay_cluster.specs.Closing.{closures_of}
+use Rattle.hay_cluster.proofs.Closures.{refusal_met}
+use Rattle.hay_cluster.proofs.Leaving.{first_contents, nothing_put}
 use Rattle.hay_cluster.proofs.cluster.Cluster.put.Goals as goal
 
 pub returns-in-Err-clause-legal : goal.returns-in-Err-clause-legal
@@ -44,15 +45,30 @@ returns-in-Err-clause-pending g c = inr (inr (inr ((λ v m n is. cc, λ n is. cc
 pub returns-in-Some-refusal-clause-pending : goal.returns-in-Some-refusal-clause-pending
 returns-in-Some-refusal-clause-pending g c = inr (inr (inr (refusal_no_failure _ c.refuse_one.result c.refuse_one.ensures.is, refl)))
 
-pub returns-in-Err-clause-contents : goal.returns-in-Err-clause-contents
-returns-in-Err-clause-contents g c = inr (inr (keeps-all (c.args.self.now).settings AnySlot (contents_in g.D.Disk.files c.args.self.now)))
-
-pub returns-in-Some-refusal-clause-contents : goal.returns-in-Some-refusal-clause-contents
-returns-in-Some-refusal-clause-contents g c = inr (inr (keeps-all (c.args.self.now).settings AnySlot (contents_in g.D.Disk.files c.args.self.now)))
-
 pub put_tried-requires-clause-takes : goal.put_tried-requires-clause-takes
 put_tried-requires-clause-takes g c = λ volume is. c.find_taker.ensures.takes volume (c.in-Ok.is ∙ ap Ok is)
 
+pub returns-in-Err-clause-contents : goal.returns-in-Err-clause-contents
+returns-in-Err-clause-contents g c = λ tells. nothing_put (c.args.self.now).settings c.args.pair _ (pending_of c.args.self.now) (pending_of c.args.self.now) (contents_in g.D.Disk.files c.args.self.now)
+
+pub returns-in-Some-refusal-clause-contents : goal.returns-in-Some-refusal-clause-contents
+returns-in-Some-refusal-clause-contents g c = λ tells. nothing_put (c.args.self.now).settings c.args.pair _ (pending_of c.args.self.now) (pending_of c.args.self.now) (contents_in g.D.Disk.files c.args.self.now)
+
+pub returns-in-Err-clause-closures : goal.returns-in-Err-clause-closures
+returns-in-Err-clause-closures g c = inr (inr ((λ v m n is. cc), refl))
+
+pub returns-in-Some-refusal-clause-closures : goal.returns-in-Some-refusal-clause-closures
+returns-in-Some-refusal-clause-closures g c = inr (inr ((refusal_no_failure _ c.refuse_one.result c.refuse_one.ensures.is).0, refl))
+
 pub returns-in-Some-refusal-clause-met : goal.returns-in-Some-refusal-clause-met
 returns-in-Some-refusal-clause-met g c =
-    refusal_met (pending_of c.args.self.now) (c.in-Some-refusal.refused ∷ []) c.refuse_one.result c.refuse_one.ensures.is ((c.in-Some-refusal.ensures).met, tt)
+    refusal_met (c.args.self.now).settings (closures_of c.args.self.now) (pending_of c.args.self.now) (c.in-Some-refusal.refused ∷ []) c.refuse_one.result c.refuse_one.ensures.is ((c.in-Some-refusal.ensures).met, tt)
+
+pub returns-in-None-clause-contents : goal.returns-in-None-clause-contents
+returns-in-None-clause-contents g c = λ tells. record {
+  replicas = c.put_at.ensures.replicas tells;
+  rows = inr (first_contents g.D.Disk.files (c.args.self.now).settings c.in-Some.volume c.args.self.now c.put_at.new.self c.put_at.ensures.beside);
+}
+
+pub put_tried-requires-clause-opens : goal.put_tried-requires-clause-opens
+put_tried-requires-clause-opens g c = λ volume is. c.find_taker.ensures.opens volume (c.in-Ok.is ∙ ap Ok is)

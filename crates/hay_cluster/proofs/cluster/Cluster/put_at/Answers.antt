@@ -7,10 +7,12 @@ use Rattle.hay_legal.specs.Plain.{with_put}
 use Rattle.hay_cluster.proofs.Puts.{put_caused, put_done, put_refused}
 use Rattle.hay_reply.specs.declared.Reply.TheVariants.{Stored}
 use Rattle.hay_cluster.proofs.Suiting.{put_refusal_suits}
-use Rattle.hay_cluster.proofs.Pending.{put_met, put_pending}
+use Rattle.hay_cluster.proofs.Pending.{put_pending}
 use Rattle.hay_cluster.specs.Pending.{pending_of}
 use Rattle.hay_cluster.specs.Leaving.{IsBeside, IsReplicaBeside}
-use Rattle.hay_cluster.proofs.Leaving.{leaves-fewer, leaves_contents, put_leaves, taken_may}
+use Rattle.hay_cluster.proofs.Leaving.{leaves-fewer, leaves_contents, put_adds, put_leaves}
+use Rattle.hay_cluster.specs.Closing.{closures_of}
+use Rattle.hay_cluster.proofs.Closures.{put_closes, put_met}
 use Rattle.hay_cluster.proofs.cluster.Cluster.put_at.Goals as goal
 
 pub returns-in-Err-clause-stored : goal.returns-in-Err-clause-stored
@@ -49,26 +51,29 @@ returns-in-Err-clause-pending g c =
     put_pending (c.args.self.now).settings c.args.tag.line c.args.volume (pending_of c.args.self.now) (pending_of c.put_in.new.self) c.in-Err.fault c.put_refusal.result c.requires.volume c.put_refusal.ensures.is
     (IfErr-at_err _ c.in-Err.is c.put_in.ensures.refused_pending)
 
-pub returns-in-Ok-clause-contents : goal.returns-in-Ok-clause-contents
-returns-in-Ok-clause-contents g c =
-    inl (
-      c.args.volume,
-      inl (c.in-Ok.position, c.rows.result, c.cookie_of-cookie.result, refl),
-      (leaves_contents g.D.Disk.files (c.args.self.now).settings (IsReplicaBeside (c.args.self.now).settings c.args.volume) c.args.self.now c.put_in.new.self (leaves-fewer (IsBeside (c.args.self.now).settings c.args.volume) (IsReplicaBeside (c.args.self.now).settings c.args.volume) (disks_of c.args.self.now) (disks_of c.put_in.new.self) (λ slot far. far.1) c.put_in.ensures.beside)),
-    )
+pub returns-in-Ok-clause-replicas : goal.returns-in-Ok-clause-replicas
+returns-in-Ok-clause-replicas g c = λ tells.
+    inl (c.args.volume, inl (c.in-Ok.position, c.rows.result, c.cookie_of-cookie.result, refl), (leaves_contents g.D.Disk.files (c.args.self.now).settings (IsReplicaBeside (c.args.self.now).settings c.args.volume) c.args.self.now c.put_in.new.self (leaves-fewer (IsBeside (c.args.self.now).settings c.args.volume) (IsReplicaBeside (c.args.self.now).settings c.args.volume) (disks_of c.args.self.now) (disks_of c.put_in.new.self) (λ slot far. far.1) c.put_in.ensures.beside)))
 
-pub returns-in-Err-clause-contents : goal.returns-in-Err-clause-contents
-returns-in-Err-clause-contents g c =
-    put_leaves (c.args.self.now).settings c.args.volume (contents_in g.D.Disk.files c.args.self.now) (contents_in g.D.Disk.files c.put_in.new.self) c.in-Err.fault c.put_refusal.result c.requires.volume c.put_refusal.ensures.is
+pub returns-in-Err-clause-replicas : goal.returns-in-Err-clause-replicas
+returns-in-Err-clause-replicas g c = λ tells.
+    put_leaves (c.args.self.now).settings (pending_of c.args.self.now) (pending_of c.put_in.new.self) (contents_in g.D.Disk.files c.args.self.now) (contents_in g.D.Disk.files c.put_in.new.self) c.args.volume c.in-Err.fault c.put_refusal.result c.put_refusal.ensures.is
     (leaves_contents g.D.Disk.files (c.args.self.now).settings (IsReplicaBeside (c.args.self.now).settings c.args.volume) c.args.self.now c.put_in.new.self (leaves-fewer (IsBeside (c.args.self.now).settings c.args.volume) (IsReplicaBeside (c.args.self.now).settings c.args.volume) (disks_of c.args.self.now) (disks_of c.put_in.new.self) (λ slot far. far.1) c.put_in.ensures.beside))
-    (IfErr-at_err _ c.in-Err.is c.put_in.ensures.kept)
+    (IfErr-at_err _ c.in-Err.is (c.put_in.ensures.kept tells))
 
-pub returns-in-Ok-clause-takes : goal.returns-in-Ok-clause-takes
-returns-in-Ok-clause-takes g c = λ takes. inl (c.in-Ok.position, c.rows.result, c.cookie_of-cookie.result, refl)
+pub returns-in-Ok-clause-adds : goal.returns-in-Ok-clause-adds
+returns-in-Ok-clause-adds g c = inl (c.args.volume, c.in-Ok.position, c.rows.result, c.cookie_of-cookie.result, refl)
 
-pub returns-in-Err-clause-takes : goal.returns-in-Err-clause-takes
-returns-in-Err-clause-takes g c = λ takes.
-    taken_may (c.args.self.now).settings c.args.volume c.in-Err.fault c.put_refusal.result c.requires.volume c.put_refusal.ensures.is (IfErr-at_err _ c.in-Err.is (c.put_in.ensures.takes takes))
+pub returns-in-Err-clause-adds : goal.returns-in-Err-clause-adds
+returns-in-Err-clause-adds g c = put_adds c.args.volume c.in-Err.fault c.put_refusal.result c.put_refusal.ensures.is (IfErr-at_err _ c.in-Err.is (c.put_in.ensures.takes c.requires.takes))
 
 pub returns-in-Err-clause-met : goal.returns-in-Err-clause-met
-returns-in-Err-clause-met g c = put_met (pending_of c.args.self.now) c.args.volume c.in-Err.fault c.put_refusal.result c.put_refusal.ensures.is c.requires.settled
+returns-in-Err-clause-met g c = put_met (c.args.self.now).settings (closures_of c.args.self.now) (pending_of c.args.self.now) c.args.volume c.in-Err.fault c.put_refusal.result c.put_refusal.ensures.is (IfErr-at_err _ c.in-Err.is (c.put_in.ensures.takes c.requires.takes)) c.requires.opens
+
+pub returns-in-Ok-clause-closures : goal.returns-in-Ok-clause-closures
+returns-in-Ok-clause-closures g c = inr (inr ((λ v m n is. cc), c.in-Ok.ensures.done_closures))
+
+pub returns-in-Err-clause-closures : goal.returns-in-Err-clause-closures
+returns-in-Err-clause-closures g c =
+    put_closes (c.args.self.now).settings c.args.volume (closures_of c.args.self.now) (closures_of c.put_in.new.self) c.in-Err.fault c.put_refusal.result c.requires.volume c.put_refusal.ensures.is
+    (IfErr-at_err _ c.in-Err.is c.put_in.ensures.refused_closures)

@@ -16,11 +16,14 @@ use Rattle.hay_cluster.proofs.Moves.{falls_trans}
 use Rattle.hay_cluster.proofs.Puts.{put_legal}
 use Rattle.hay_cluster.specs.Suiting.{SuitsPut}
 use Rattle.hay_cluster.proofs.Suiting.{settle_suits}
-use Rattle.hay_cluster.proofs.Pending.{settle_met, settle_pending}
-use Rattle.hay_cluster.specs.Pending.{IsSettledAt, LeavesPut, MetOpen, PendingLines, pending_of}
+use Rattle.hay_cluster.proofs.Pending.{settle_pending}
+use Rattle.hay_cluster.specs.Pending.{LeavesPut, PendingLines, pending_of}
 use Rattle.std.proofs.lemmas.Result.{IfErr-at_err}
-use Rattle.hay_cluster.specs.Leaving.{IsBeside, IsReplicaBeside, IsReplicaSlot, LeavesIn, MayPut}
-use Rattle.hay_cluster.proofs.Leaving.{leaves-fewer, leaves-on, leaves_contents, same_contents, unsettled_leaves}
+use Rattle.hay_cluster.specs.Leaving.{AddsRow, IsBeside, IsReplicaSlot, LeavesIn, LeavesReplicas}
+use Rattle.hay_cluster.proofs.Leaving.{first_contents, leaves_contents, leaves_reads, replicas_after, same_first, unsettled_leaves}
+use Rattle.hay_legal.specs.Stands.{Contents}
+use Rattle.hay_cluster.specs.Closing.{Closures, IsOpenTo, MetByChange, PutCloses, closures_of}
+use Rattle.hay_cluster.proofs.Closures.{settle_closes, settle_met}
 use Rattle.hay_cluster.proofs.cluster.Cluster.put_new.Goals as goal
 
 ok_not_err : {T E : Type 0} (x : T) (y : E) → Ok x ≡ Err y → ⊥
@@ -76,29 +79,51 @@ taken : {D P A : Type 0} (old mid : Open D P A) (v size : ℕ) → mid.volumes �
 taken {D} {P} {A} old mid v size same takes = λ volume at. takes volume (subst (λ (vs : List (Volume D P)). At vs v volume) same at)
 
 pub returns-in-Ok-clause-contents : goal.returns-in-Ok-clause-contents
-returns-in-Ok-clause-contents g c =
-    let may = c.put_at.ensures.takes (taken c.args.self.now c.settle.new.self c.args.volume (length c.args.bytes.now) c.settle.ensures.volumes c.requires.takes) in
-    inl (
-      c.args.volume,
-      subst (λ (s : Settings). MayPut s c.put_at.result c.args.volume) c.settle.ensures.settings may,
-      leaves_contents g.D.Disk.files (c.args.self.now).settings (IsReplicaBeside (c.args.self.now).settings c.args.volume) c.args.self.now c.put_at.new.self
-          (leaves-on (IsReplicaBeside (c.args.self.now).settings c.args.volume) (disks_of c.args.self.now) (disks_of c.settle.new.self) (disks_of c.put_at.new.self)
-          (leaves-fewer IsReplicaSlot (IsReplicaBeside (c.args.self.now).settings c.args.volume) (disks_of c.args.self.now) (disks_of c.settle.new.self) (λ slot far. far.0) c.settle.ensures.replicas)
-          (leaves-fewer (IsBeside (c.args.self.now).settings c.args.volume) (IsReplicaBeside (c.args.self.now).settings c.args.volume) (disks_of c.settle.new.self) (disks_of c.put_at.new.self) (λ slot far. far.1)
-          (subst (λ (s : Settings). LeavesIn (IsBeside s c.args.volume) (disks_of c.settle.new.self) (disks_of c.put_at.new.self)) c.settle.ensures.settings c.put_at.ensures.beside))),
-    )
+returns-in-Ok-clause-contents g c = λ tells.
+    let settings = (c.args.self.now).settings in
+    let replicas : LeavesReplicas settings c.put_at.result (pending_of c.args.self.now) (pending_of c.put_at.new.self) (contents_in g.D.Disk.files c.settle.new.self) (contents_in g.D.Disk.files c.put_at.new.self) =
+    subst (λ (p : PendingLines). LeavesReplicas settings c.put_at.result p (pending_of c.put_at.new.self) (contents_in g.D.Disk.files c.settle.new.self) (contents_in g.D.Disk.files c.put_at.new.self)) c.in-Ok.ensures.settled_pending
+    (subst (λ (s : Settings). LeavesReplicas s c.put_at.result (pending_of c.settle.new.self) (pending_of c.put_at.new.self) (contents_in g.D.Disk.files c.settle.new.self) (contents_in g.D.Disk.files c.put_at.new.self)) c.settle.ensures.settings (c.put_at.ensures.replicas tells)) in
+    let beside = subst (λ (s : Settings). LeavesIn (IsBeside s c.args.volume) (disks_of c.settle.new.self) (disks_of c.put_at.new.self)) c.settle.ensures.settings c.put_at.ensures.beside in
+    record {
+      replicas = replicas_after settings (pending_of c.args.self.now) (pending_of c.put_at.new.self) (contents_in g.D.Disk.files c.args.self.now) (contents_in g.D.Disk.files c.settle.new.self) (contents_in g.D.Disk.files c.put_at.new.self) c.put_at.result
+          (leaves_reads g.D.Disk.files IsReplicaSlot c.args.self.now c.settle.new.self c.settle.ensures.replicas) replicas;
+      rows = inl (
+        c.put_at.ensures.adds,
+        subst (λ (now : Contents). AddsRow settings c.args.pair ((contents_in g.D.Disk.files c.args.self.now) 0) now) (sym (first_contents g.D.Disk.files settings c.args.volume c.settle.new.self c.put_at.new.self beside)) (c.settle.ensures.rows tells),
+      );
+    }
 
 pub returns-in-Err-clause-contents : goal.returns-in-Err-clause-contents
-returns-in-Err-clause-contents g c =
-    unsettled_leaves (c.args.self.now).settings c.args.volume (contents_in g.D.Disk.files c.args.self.now) (contents_in g.D.Disk.files c.settle.new.self) c.in-Err.fault c.settle_refusal.result c.requires.volume c.settle_refusal.ensures.is
-    (leaves_contents g.D.Disk.files (c.args.self.now).settings IsReplicaSlot c.args.self.now c.settle.new.self c.settle.ensures.replicas)
-    (λ frozen. same_contents g.D.Disk.files (c.args.self.now).settings c.args.self.now c.settle.new.self (c.settle.ensures.refused_frozen (c.in-Err.is ∙ ap Err frozen)))
+returns-in-Err-clause-contents g c = λ tells.
+    unsettled_leaves (c.args.self.now).settings (pending_of c.args.self.now) (pending_of c.settle.new.self) (contents_in g.D.Disk.files c.args.self.now) (contents_in g.D.Disk.files c.settle.new.self) c.args.pair c.in-Err.fault c.settle_refusal.result c.settle_refusal.ensures.is
+    (leaves_contents g.D.Disk.files (c.args.self.now).settings IsReplicaSlot c.args.self.now c.settle.new.self c.settle.ensures.replicas) (c.settle.ensures.rows tells)
+    (λ frozen. same_first g.D.Disk.files c.args.self.now c.settle.new.self (c.settle.ensures.refused_frozen (c.in-Err.is ∙ ap Err frozen)))
 
-pub put_at-requires-clause-settled : goal.put_at-requires-clause-settled
-put_at-requires-clause-settled g c = subst (λ (p : PendingLines). IsSettledAt c.args.volume p) (sym c.in-Ok.ensures.settled_pending) c.requires.settled
+pub put_at-requires-clause-opens : goal.put_at-requires-clause-opens
+put_at-requires-clause-opens g c =
+    subst (λ (p : PendingLines). IsOpenTo (c.settle.new.self).settings (closures_of c.settle.new.self) p c.args.volume) (sym c.in-Ok.ensures.settled_pending)
+    (subst (λ (k : Closures). IsOpenTo (c.settle.new.self).settings k (pending_of c.args.self.now) c.args.volume) (sym c.settle.ensures.closures)
+    (subst (λ (s : Settings). IsOpenTo s (closures_of c.args.self.now) (pending_of c.args.self.now) c.args.volume) (sym c.settle.ensures.settings) c.requires.opens))
+
+pub put_at-requires-clause-takes : goal.put_at-requires-clause-takes
+put_at-requires-clause-takes g c = taken c.args.self.now c.settle.new.self c.args.volume (length c.args.bytes.now) c.settle.ensures.volumes c.requires.takes
 
 pub returns-in-Ok-clause-met : goal.returns-in-Ok-clause-met
-returns-in-Ok-clause-met g c = subst (λ (p : PendingLines). MetOpen p c.put_at.result) c.in-Ok.ensures.settled_pending c.put_at.ensures.met
+returns-in-Ok-clause-met g c =
+    subst (λ (s : Settings). MetByChange s (closures_of c.args.self.now) (pending_of c.args.self.now) c.put_at.result) c.settle.ensures.settings
+    (subst (λ (k : Closures). MetByChange (c.settle.new.self).settings k (pending_of c.args.self.now) c.put_at.result) c.settle.ensures.closures
+    (subst (λ (p : PendingLines). MetByChange (c.settle.new.self).settings (closures_of c.settle.new.self) p c.put_at.result) c.in-Ok.ensures.settled_pending c.put_at.ensures.met))
 
 pub returns-in-Err-clause-met : goal.returns-in-Err-clause-met
-returns-in-Err-clause-met g c = settle_met (pending_of c.args.self.now) c.in-Err.fault c.settle_refusal.result c.settle_refusal.ensures.is
+returns-in-Err-clause-met g c =
+    settle_met (c.args.self.now).settings (closures_of c.args.self.now) (pending_of c.args.self.now) c.args.tag.line (pending_of c.settle.new.self) c.in-Err.fault c.settle_refusal.result c.settle_refusal.ensures.is
+    (λ frozen. c.settle.ensures.frozen_pending (c.in-Err.is ∙ ap Err frozen)) (IfErr-at_err _ c.in-Err.is c.settle.ensures.refused_pending)
+
+pub returns-in-Ok-clause-closures : goal.returns-in-Ok-clause-closures
+returns-in-Ok-clause-closures g c =
+    subst (λ (s : Settings). PutCloses s c.put_at.result (closures_of c.args.self.now) (closures_of c.put_at.new.self)) c.settle.ensures.settings
+    (subst (λ (k : Closures). PutCloses (c.settle.new.self).settings c.put_at.result k (closures_of c.put_at.new.self)) c.settle.ensures.closures c.put_at.ensures.closures)
+
+pub returns-in-Err-clause-closures : goal.returns-in-Err-clause-closures
+returns-in-Err-clause-closures g c = settle_closes (c.args.self.now).settings (closures_of c.args.self.now) (closures_of c.settle.new.self) c.in-Err.fault c.settle_refusal.result c.settle_refusal.ensures.is c.settle.ensures.closures

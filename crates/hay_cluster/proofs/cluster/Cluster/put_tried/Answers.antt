@@ -9,9 +9,10 @@ use Rattle.hay_cluster.proofs.Moves.{none_falls}
 use Rattle.hay_cluster.proofs.Puts.{all_refused}
 use Rattle.hay_cluster.proofs.Suiting.{all_refuse, refusal_suits}
 use Rattle.hay_cluster.specs.Pending.{pending_of}
-use Rattle.hay_cluster.proofs.Pending.{refusal_met, refusal_no_failure}
-use Rattle.hay_cluster.specs.Leaving.{AnySlot}
-use Rattle.hay_cluster.proofs.Leaving.{keeps-all}
+use Rattle.hay_cluster.proofs.Pending.{refusal_no_failure}
+use Rattle.hay_cluster.specs.Closing.{closures_of}
+use Rattle.hay_cluster.proofs.Closures.{refusal_met}
+use Rattle.hay_cluster.proofs.Leaving.{nothing_put}
 use Rattle.hay_cluster.proofs.cluster.Cluster.put_tried.Goals as goal
 
 pub returns-in-Taker-clause-legal : goal.returns-in-Taker-clause-legal
@@ -40,7 +41,13 @@ pub returns-in-Nobody-clause-pending : goal.returns-in-Nobody-clause-pending
 returns-in-Nobody-clause-pending g c = inr (inr (inr (refusal_no_failure _ c.refuse.result c.refuse.ensures.is, refl)))
 
 pub returns-in-Nobody-clause-contents : goal.returns-in-Nobody-clause-contents
-returns-in-Nobody-clause-contents g c = inr (inr (keeps-all (c.args.self.now).settings AnySlot (contents_in g.D.Disk.files c.args.self.now)))
+returns-in-Nobody-clause-contents g c = λ tells. nothing_put (c.args.self.now).settings c.args.pair _ (pending_of c.args.self.now) (pending_of c.args.self.now) (contents_in g.D.Disk.files c.args.self.now)
+
+pub returns-in-Nobody-clause-closures : goal.returns-in-Nobody-clause-closures
+returns-in-Nobody-clause-closures g c = inr (inr ((refusal_no_failure _ c.refuse.result c.refuse.ensures.is).0, refl))
 
 pub returns-in-Nobody-clause-met : goal.returns-in-Nobody-clause-met
-returns-in-Nobody-clause-met g c = refusal_met (pending_of c.args.self.now) c.in-Nobody.refused c.refuse.result c.refuse.ensures.is (c.requires.met c.in-Nobody.refused c.in-Nobody.is)
+returns-in-Nobody-clause-met g c = refusal_met (c.args.self.now).settings (closures_of c.args.self.now) (pending_of c.args.self.now) c.in-Nobody.refused c.refuse.result c.refuse.ensures.is (c.requires.met c.in-Nobody.refused c.in-Nobody.is)
+
+pub put_new-requires-clause-opens : goal.put_new-requires-clause-opens
+put_new-requires-clause-opens g c = c.requires.opens c.in-Taker.volume c.in-Taker.is

@@ -19,6 +19,7 @@ use Rattle.hay_cluster.proofs.Moves.{volume_of, volume_stood}
 use Rattle.hay_cluster.proofs.Showing.{answers_say, counts_at, later_set, row_may_mean, row_read, row_stops, seat_comes}
 use Rattle.hay_cluster.proofs.Sure.{read_no_arm, used_sure}
 use Rattle.hay_cluster.specs.Pending.{pending_of}
+use Rattle.hay_cluster.specs.Closing.{closures_of}
 use Rattle.hay_cluster.proofs.cluster.Cluster.read_first.Goals as goal
 
 pub offset_bounds-as_slice-volume : goal.offset_bounds-as_slice-volume
@@ -175,3 +176,6 @@ returns-clause-stops g c =
 
 pub returns-clause-volumes : goal.returns-clause-volumes
 returns-clause-volumes g c = ap (λ (st : Open g.row.D.Denot g.row.D-Piece.Denot g.row.A.Denot). st.volumes) c.self.view_is
+
+pub returns-clause-closures : goal.returns-clause-closures
+returns-clause-closures g c = ap (λ (st : Open g.row.D.Denot g.row.D-Piece.Denot g.row.A.Denot). closures_of st) c.self.view_is

@@ -1,5 +1,5 @@
 use Rattle.std.proofs.Common.{◌≡◌, ℕ, ◌<◌, List, Option, Some, None, length, sym, ap, subst, ◌∙◌, arith, refl}
-use Rattle.std.specs.Prelude.{IfSome, slice_index_or}
+use Rattle.std.specs.Prelude.{Err, IfSome, slice_index_or}
 use Rattle.std.proofs.lemmas.Result.{IfErr-at_err}
 use Rattle.hay_needle.specs.declared.settings.Settings.{Settings}
 use Rattle.hay_legal.specs.Known.{closed, refusal_of, room_refusal_of, volume_at}
@@ -18,8 +18,9 @@ use Rattle.hay_cluster.proofs.Moves.{volume_of, volume_stood}
 use Rattle.hay_cluster.proofs.Calls.{called_open}
 use Rattle.hay_cluster.proofs.Refusals.{refused_for, taken_for}
 use Rattle.hay_cluster.proofs.Suiting.{lack_refuses, room_lack}
-use Rattle.hay_cluster.proofs.Pending.{lack_open}
 use Rattle.hay_cluster.specs.Pending.{pending_of}
+use Rattle.hay_cluster.specs.Closing.{closures_of}
+use Rattle.hay_cluster.proofs.Closures.{lack_met, was_thawed}
 use Rattle.hay_cluster.proofs.cluster.Cluster.refusal.Goals as goal
 
 pub offset_bounds-as_slice-volume : goal.offset_bounds-as_slice-volume
@@ -68,7 +69,7 @@ returns-in-Ok g c = record {
       let one : Some volume ≡ Some other = sym here ∙ there in
       let same : volume ≡ other = cc in
       subst (λ (w : Volume g.row.D.Denot g.row.D-Piece.Denot). (w.frozen ≡ None) × ((j : ℕ) (r : Copy g.row.D.Denot) → At w.replicas j r → RoomFor c.args.size r)) same c.in-Ok.ensures.fits;
-  settled = (c.in_default.ensures).settled;
+  opens = (c.in_default.ensures).opens;
   refuses = tt;
   met = tt;
   fits = tt;
@@ -94,8 +95,16 @@ returns-in-Err g c = record {
       sym c.lack_of.ensures.is ∙ subst (λ (st : Open g.row.D.Denot g.row.D-Piece.Denot g.row.A.Denot). lack_of c.args.volume c.in-Err.fault ≡ refusal_of st.settings k c.args.size c.args.volume) c.self.view_is
       (refused_for store.settings k c.args.volume c.args.size c.in-Err.fault thawed (said ∙ c.in-Err.is));
   takes = tt;
-  settled = tt;
-  met = lack_open c.args.volume (pending_of c.args.self.now) c.in-Err.fault c.lack_of.result c.lack_of.ensures.is (c.in_default.ensures).settled;
+  opens = tt;
+  met =
+      let store : Open g.row.D.Denot g.row.D-Piece.Denot g.row.A.Denot = record { settings = c.self.inside.settings; directory = c.self.inside.directory; volumes = c.self.inside.volumes.items; arms = c.self.inside.seats.items } in
+      let within : c.args.volume < length c.self.inside.volumes.items = let same = ap (λ (st : Open g.row.D.Denot g.row.D-Piece.Denot g.row.A.Denot). (st.settings).volumes) c.self.view_is in omega (arith, c.requires.volume, c.self.invariant.many, same) in
+      let volume = c.index-as_slice-volume.result in
+      let at : At store.volumes c.args.volume volume = subst (λ (w : Volume g.row.D.Denot g.row.D-Piece.Denot). At store.volumes c.args.volume w) (sym c.index-as_slice-volume.is)
+      (subst (λ (vs : List (Volume g.row.D.Denot g.row.D-Piece.Denot)). At vs c.args.volume (slice_index_or c.as_slice.result.now c.args.volume volume)) c.as_slice.ensures.value
+      (at_read c.as_slice.result.now c.args.volume volume (let long = ap length c.as_slice.ensures.value in omega (arith, within, long)))) in
+      lack_met (c.args.self.now).settings (closures_of c.args.self.now) (pending_of c.args.self.now) c.args.volume c.in-Err.fault c.lack_of.result c.lack_of.ensures.is (c.in_default.ensures).opens
+      (λ m is. c.room.ensures.thawed (was_thawed c.args.self.now store c.args.volume volume c.self.view_is at (c.in_default.ensures).opens.0) m (c.in-Err.is ∙ ap Err is));
   refuses =
       let store : Open g.row.D.Denot g.row.D-Piece.Denot g.row.A.Denot = record { settings = c.self.inside.settings; directory = c.self.inside.directory; volumes = c.self.inside.volumes.items; arms = c.self.inside.seats.items } in
       let volume = c.index-as_slice-volume.result in

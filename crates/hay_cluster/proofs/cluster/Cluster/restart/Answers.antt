@@ -3,10 +3,12 @@ use Rattle.std.proofs.lemmas.Result.{IfErr-at_err, IfErr-weaker, IfOk-weaker, on
 use Rattle.hay_cluster.specs.declared.fault.ClusterFault.TheVariants.{Damaged, Failed}
 use Rattle.hay_cluster.specs.Outside.{IsDamagedDisk, IsUndamagedBelow}
 use Rattle.hay_cluster.specs.Store.{contents_in}
+use Rattle.hay_cluster.proofs.Formatted.{refused_formatted}
 use Rattle.hay_cluster.proofs.OpeningDamage.{restart_damaged, restart_failed, restart_sound}
 use Rattle.hay_cluster.proofs.OpeningDraws.{restart_drew}
 use Rattle.hay_cluster.proofs.OpeningStore.{MovedParts, StoppedParts, opens_up, restart_cause, restart_fuses, restart_later, restart_left, restart_opened, restart_whole, stops_closed, stops_idle}
 use Rattle.hay_cluster.proofs.Pending.{restart_tells, opened_fit, opened_settled}
+use Rattle.hay_cluster.proofs.Closures.{opened_closures}
 use Rattle.hay_cluster.proofs.cluster.Cluster.restart.Goals as goal
 
 pub open_parts-requires-clause-closed : goal.open_parts-requires-clause-closed
@@ -42,6 +44,13 @@ returns-clause-left g c = λ tells k stands.
     let moved : MovedParts g.D.Disk.Tells g.D.Disk.files g.D.Piece.Piece.Tells g.D.Disk.fault_count g.D.Disk.fuse_count g.A.Arm.fault_count c.stop.new.self c.open_parts.new.self = record { settings = c.open_parts.ensures.settings; arms = c.open_parts.ensures.arms; directory = c.open_parts.ensures.directory; volumes = c.open_parts.ensures.volumes } in
     IfErr-weaker c.open_parts.result _ _
     (λ fault refused. restart_left g.D.Disk.Tells g.D.Disk.files g.D.Piece.Piece.Tells g.D.Disk.fault_count g.D.Disk.fuse_count g.A.Arm.fault_count tells c.args.self.now c.stop.new.self c.open_parts.new.self k stands stopped moved) c.open_parts.ensures.refused
+
+pub returns-clause-formatted : goal.returns-clause-formatted
+returns-clause-formatted g c = λ tells k stands.
+    let stopped : StoppedParts g.D.Disk.Tells g.D.Disk.files g.D.Piece.Piece.Tells g.D.Disk.fault_count g.D.Disk.fuse_count g.A.Arm.fault_count c.args.self.now c.stop.new.self = record { settings = c.stop.ensures.settings; arms = c.stop.ensures.arms; directory = c.stop.ensures.directory; volumes = c.stop.ensures.volumes } in
+    let moved : MovedParts g.D.Disk.Tells g.D.Disk.files g.D.Piece.Piece.Tells g.D.Disk.fault_count g.D.Disk.fuse_count g.A.Arm.fault_count c.stop.new.self c.open_parts.new.self = record { settings = c.open_parts.ensures.settings; arms = c.open_parts.ensures.arms; directory = c.open_parts.ensures.directory; volumes = c.open_parts.ensures.volumes } in
+    IfErr-weaker c.open_parts.result _ _
+    (λ fault refused. refused_formatted g.D.Disk.files (λ disk n. g.met.D.Disk.may_leave_now disk n tells) g.D.Disk.Tells g.D.Piece.Piece.Tells g.D.Disk.fault_count g.D.Disk.fuse_count g.A.Arm.fault_count tells c.args.self.now c.stop.new.self c.open_parts.new.self k stands stopped moved c.open_parts.ensures.shape) c.open_parts.ensures.refused
 
 pub returns-clause-cause : goal.returns-clause-cause
 returns-clause-cause g c =
@@ -109,3 +118,9 @@ pub returns-clause-drew : goal.returns-clause-drew
 returns-clause-drew g c = λ tells.
     on_ok_weaker c.open_parts.result
     (λ all. restart_drew g.D.Disk.files g.D.Disk.drawn c.args.self.now c.stop.new.self c.open_parts.new.self c.stop.ensures.shape c.open_parts.ensures.shape c.stop.ensures.settings c.open_parts.ensures.settings (c.stop.ensures.drawn tells) all) (c.open_parts.ensures.drew tells)
+
+pub returns-clause-closures : goal.returns-clause-closures
+returns-clause-closures g c =
+    IfOk-weaker c.open_parts.result _ _
+    (λ notes opens. opened_closures g.D.Disk.Tells g.D.Disk.files g.D.Piece.Piece.Tells g.D.Disk.fault_count g.D.Disk.fuse_count (c.args.self.now).settings c.stop.new.self c.open_parts.new.self notes c.stop.ensures.settings
+    (c.open_parts.ensures.settings ∙ c.stop.ensures.settings) c.stop.ensures.shape c.open_parts.ensures.shape opens) c.open_parts.ensures.opened

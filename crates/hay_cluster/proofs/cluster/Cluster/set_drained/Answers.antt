@@ -1,4 +1,4 @@
-use Rattle.std.proofs.Common.{◌≡◌, ◌≤◌, map, true, false, sym, ap, subst, arith}
+use Rattle.std.proofs.Common.{◌≡◌, ◌≤◌, map, true, false, sym, ap, subst, arith, ◌∙◌}
 use Rattle.std.specs.List.{flat_map}
 use Rattle.hay_legal.specs.Known.{NoneFalls}
 use Rattle.hay_cluster.specs.Store.{Open, disks_of, volume_disks}
@@ -9,6 +9,7 @@ use Rattle.hay_cluster.specs.Parts.{Comes}
 use Rattle.hay_cluster.proofs.Moves.{directory_fuses, in_directory, none_falls}
 use Rattle.hay_cluster.proofs.Pending.{directory_kept}
 use Rattle.hay_cluster.proofs.Leaving.{directory_same}
+use Rattle.hay_cluster.proofs.Closures.{drains_set}
 use Rattle.hay_cluster.proofs.cluster.Cluster.set_drained.Goals as goal
 
 pub returns-then-is_drained-clause-set : goal.returns-then-is_drained-clause-set
@@ -76,3 +77,15 @@ pub returns-else-is_drained-clause-disks : goal.returns-else-is_drained-clause-d
 returns-else-is_drained-clause-disks g c =
     let store : Open g.row.D.Denot g.row.D-Piece.Denot g.row.A.Denot = record { settings = c.self.inside.settings; directory = c.self.inside.directory; volumes = c.self.inside.volumes.items; arms = c.self.inside.seats.items } in
     directory_same c.args.self.now store c.undrain.new.self c.self.view_is (ap (λ (d : State g.row.D.Denot). d.disk) c.undrain.ensures.only)
+
+pub returns-then-is_drained-clause-closures : goal.returns-then-is_drained-clause-closures
+returns-then-is_drained-clause-closures g c =
+    let store : Open g.row.D.Denot g.row.D-Piece.Denot g.row.A.Denot = record { settings = c.self.inside.settings; directory = c.self.inside.directory; volumes = c.self.inside.volumes.items; arms = c.self.inside.seats.items } in
+    drains_set c.args.self.now store c.drain.new.self c.self.view_is c.args.machine c.args.is_drained
+    (ap (λ (d : State g.row.D.Denot). d.drained) c.drain.ensures.only ∙ ap (λ b. slice_set (store.directory).drained c.args.machine b) (sym c.if-is_drained.true))
+
+pub returns-else-is_drained-clause-closures : goal.returns-else-is_drained-clause-closures
+returns-else-is_drained-clause-closures g c =
+    let store : Open g.row.D.Denot g.row.D-Piece.Denot g.row.A.Denot = record { settings = c.self.inside.settings; directory = c.self.inside.directory; volumes = c.self.inside.volumes.items; arms = c.self.inside.seats.items } in
+    drains_set c.args.self.now store c.undrain.new.self c.self.view_is c.args.machine c.args.is_drained
+    (ap (λ (d : State g.row.D.Denot). d.drained) c.undrain.ensures.only ∙ ap (λ b. slice_set (store.directory).drained c.args.machine b) (sym c.if-is_drained.false))

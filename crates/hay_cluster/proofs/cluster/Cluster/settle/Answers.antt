@@ -1,4 +1,4 @@
-use Rattle.std.proofs.Common.{◌≡◌, ◌++◌, ◌∷◌, [], None, Bool, List, map, sym, ap, subst, ◌∙◌, inl, inr}
+use Rattle.std.proofs.Common.{◌≡◌, ◌++◌, ◌∷◌, [], None, Bool, List, map, sym, ap, subst, ◌∙◌, inl, inr, ◌≢◌, ◌≤◌, ◌^◌, true, arith}
 use Rattle.std.proofs.lemmas.Result.{on_ok_weaker}
 use Rattle.std.proofs.lemmas.Bool.{cases_Bool}
 use Rattle.std.specs.List.{flat_map}
@@ -8,24 +8,34 @@ use Rattle.hay_cluster.specs.Store.{Open, disks_of, volume_disks}
 use Rattle.hay_legal.specs.Known.{home_in, settled, settled_by}
 use Rattle.hay_disk.specs.Disk.{Files}
 use Rattle.hay_legal.specs.declared.known.HomeRow.{HomeRow}
-use Rattle.hay_directory.specs.State.{IsFrozen, IsUp, LeavesMode, State, Stands as DirectoryStands, home_of, is_frozen}
+use Rattle.hay_directory.specs.State.{IsFrozen, IsUp, LeavesMode, State, Stands as DirectoryStands, home_of, is_frozen, unsure_of}
 use Rattle.hay_directory.proofs.Standing.{stands_frozen, stands_home}
 use Rattle.std.specs.Prelude.{Result, Ok, Err, IfErr, IsErrOf}
 use Rattle.hay_directory.specs.declared.fault.DirFault.{DirFault}
 use Rattle.hay_directory.specs.declared.fault.DirFault.TheVariants as settling
 use Rattle.hay_directory.specs.declared.mode.Unsure.{Unsure as UnsureRow}
 use Rattle.hay_cluster.specs.Causes.{RoseIn}
-use Rattle.hay_cluster.specs.Pending.{RowLeft, pending_of}
+use Rattle.hay_cluster.specs.Pending.{RowLeft, pending_of, line_of_row}
 use Rattle.hay_cluster.specs.State.{Stands}
 use Rattle.hay_cluster.proofs.Moves.{directory_fuses, directory_stood, in_directory, none_falls, with_directory}
 use Rattle.hay_cluster.proofs.Pending.{directory_kept, row_left}
-use Rattle.hay_cluster.proofs.Leaving.{directory_leaves, directory_same}
+use Rattle.hay_cluster.proofs.Leaving.{directory_leaves, directory_same, directory_adds}
+use Rattle.hay_needle.specs.declared.settings.Settings.{Settings}
+use Rattle.hay_directory.specs.declared.mode.Mode.{Mode}
+use Rattle.hay_directory.specs.declared.mode.Mode.TheVariants.{Closed, Frozen, Open as Serving}
+use Rattle.hay_cluster.proofs.Closures.{drains_kept}
+use Rattle.hay_cluster.proofs.Settling.{AddsOne, row_adds}
 use Rattle.hay_cluster.proofs.cluster.Cluster.settle.Goals as goal
 
 refused_row : {D P A T : Type 0} (old store : Open D P A) (after : State D) (row : UnsureRow) (r : Result T DirFault) → store ≡ old → IsUp old.directory
     → (IsFrozen store.directory → IsErrOf r settling.Frozen) → IfErr r (LeavesMode row (store.directory).mode after.mode) → IfErr r (RowLeft (row.tag).line (pending_of old) (pending_of (with_directory store after)))
 refused_row old store after row (Ok x) is up frozen left = tt
 refused_row old store after row (Err fault) is up frozen left = row_left old store after row fault is up (λ f. let same = frozen f in cc) left
+
+frozen_sure : (mode : Mode) → is_frozen mode ≡ true → line_of_row (unsure_of mode) ≢ None
+frozen_sure (Closed unsure) frozen none = absurd cc
+frozen_sure Serving frozen none = absurd cc
+frozen_sure (Frozen unsure) frozen none = cc
 
 pub returns-clause-settled : goal.returns-clause-settled
 returns-clause-settled g c = λ tells k stands.
@@ -113,3 +123,26 @@ returns-clause-refused_frozen g c = λ refused.
 
 pub returns-clause-volumes : goal.returns-clause-volumes
 returns-clause-volumes g c = ap (λ (st : Open g.row.D.Denot g.row.D-Piece.Denot g.row.A.Denot). st.volumes) c.self.view_is
+
+pub returns-clause-closures : goal.returns-clause-closures
+returns-clause-closures g c =
+    let store : Open g.row.D.Denot g.row.D-Piece.Denot g.row.A.Denot = record { settings = c.self.inside.settings; directory = c.self.inside.directory; volumes = c.self.inside.volumes.items; arms = c.self.inside.seats.items } in
+    drains_kept c.args.self.now store c.settle.new.self c.self.view_is c.settle.ensures.drained
+
+pub returns-clause-frozen_pending : goal.returns-clause-frozen_pending
+returns-clause-frozen_pending g c = λ refused.
+    let store : Open g.row.D.Denot g.row.D-Piece.Denot g.row.A.Denot = record { settings = c.self.inside.settings; directory = c.self.inside.directory; volumes = c.self.inside.volumes.items; arms = c.self.inside.seats.items } in
+    subst (λ (st : Open g.row.D.Denot g.row.D-Piece.Denot g.row.A.Denot). (pending_of st).row ≢ None) c.self.view_is (frozen_sure (store.directory).mode (c.settle.ensures.only_frozen refused).0)
+
+pub returns-clause-rows : goal.returns-clause-rows
+returns-clause-rows g c = λ tells.
+    let store : Open g.row.D.Denot g.row.D-Piece.Denot g.row.A.Denot = record { settings = c.self.inside.settings; directory = c.self.inside.directory; volumes = c.self.inside.volumes.items; arms = c.self.inside.seats.items } in
+    let row : HomeRow = record { pair = c.args.pair; volume = c.args.volume } in
+    let same : (store.directory).settings ≡ (c.args.self.now).settings = c.self.invariant.directory ∙ ap (λ (st : Open g.row.D.Denot g.row.D-Piece.Denot g.row.A.Denot). st.settings) c.self.view_is in
+    let few : (store.directory).settings.volumes ≤ 2 ^ 32 = let most = c.self.invariant.built.few_volumes in let are = ap (λ (s : Settings). s.volumes) c.self.invariant.directory in omega (arith, most, are) in
+    let stood = c.settle.ensures.stood tells in
+    let adds = row_adds g.D.Disk.files (λ disk n. g.met.D.Disk.may_leave_now disk n tells) store.directory c.settle.new.self stood.0 (store.directory).drained c.args.tag row few c.settle.ensures.settings stood.1
+    c.settle.result c.settle.ensures.frozen c.settle.ensures.only_frozen (c.settle.ensures.settled tells stood.0 (store.directory).drained stood.1)
+    (c.settle.ensures.no_memory tells stood.0 (store.directory).drained stood.1) (λ faults is. c.settle.ensures.pending tells stood.0 (store.directory).drained faults stood.1 is) in
+    directory_adds g.D.Disk.files (c.args.self.now).settings c.args.pair c.args.volume c.args.self.now store c.settle.new.self c.self.view_is c.requires.volume
+    (subst (λ (s : Settings). AddsOne g.D.Disk.files s row store.directory c.settle.new.self) same adds)

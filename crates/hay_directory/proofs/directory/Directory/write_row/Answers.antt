@@ -3,7 +3,7 @@ use Rattle.hay_dirfile.specs.declared.journal.Journal.{Journal}
 use Rattle.hay_directory.specs.declared.mode.Mode.TheVariants.{Open}
 use Rattle.hay_directory.specs.Rows.{home_row}
 use Rattle.hay_directory.specs.State.{State, Stands, IsRowWritten, is_closed, is_frozen}
-use Rattle.hay_directory.proofs.Standing.{row_written, serving, sound_failed, stands_failed, stands_kept, takes}
+use Rattle.hay_directory.proofs.Standing.{row_written, serving, sound_failed, stands_failed, stands_kept, stood_now, takes}
 use Rattle.hay_directory.proofs.directory.Directory.write_row.Goals as goal
 
 pub invariant_of-self-in-Ok-settle_row : goal.invariant_of-self-in-Ok-settle_row
@@ -77,3 +77,18 @@ returns-in-Err-NoMemory-clause-no_memory g c = λ tells known drained stands is.
     let serves : was.mode ≡ Open = serving was.mode (ap (λ (d : State _). is_closed d.mode) c.self.view_is ∙ c.requires.up) (ap (λ (d : State _). is_frozen d.mode) c.self.view_is ∙ sym c.is_frozen.ensures.frozen ∙ c.if-is_frozen.false) in
     let s = subst (λ (d : State _). Stands files d known drained) (sym c.self.view_is) stands in
     stands_kept files _ _ known drained s (sym serves) refl refl c.reserve.ensures.kept (c.in-Err-NoMemory.ensures.no_memory tells (ap Err c.in-Err-NoMemory.field-0-is)) c.in-Err-NoMemory.ensures.stayed refl
+
+pub returns-then-is_frozen-clause-stood : goal.returns-then-is_frozen-clause-stood
+returns-then-is_frozen-clause-stood g c = stood_now g.D.Disk.Tells g.D.Disk.files _ _ c.self.invariant c.self.view_is c.requires.up
+
+pub returns-in_default-clause-stood : goal.returns-in_default-clause-stood
+returns-in_default-clause-stood g c = stood_now g.D.Disk.Tells g.D.Disk.files _ _ c.self.invariant c.self.view_is c.requires.up
+
+pub returns-in-Ok-settle_row-clause-stood : goal.returns-in-Ok-settle_row-clause-stood
+returns-in-Ok-settle_row-clause-stood g c = stood_now g.D.Disk.Tells g.D.Disk.files _ _ c.self.invariant c.self.view_is c.requires.up
+
+pub returns-in-Err-NoMemory-clause-stood : goal.returns-in-Err-NoMemory-clause-stood
+returns-in-Err-NoMemory-clause-stood g c = stood_now g.D.Disk.Tells g.D.Disk.files _ _ c.self.invariant c.self.view_is c.requires.up
+
+pub returns-in-Err-Failed-clause-stood : goal.returns-in-Err-Failed-clause-stood
+returns-in-Err-Failed-clause-stood g c = stood_now g.D.Disk.Tells g.D.Disk.files _ _ c.self.invariant c.self.view_is c.requires.up

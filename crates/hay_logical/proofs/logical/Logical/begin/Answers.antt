@@ -13,10 +13,19 @@ use Rattle.hay_logical.specs.Volumes.{CanReach, IsShaped, KeepsCounts, IsMachine
 use Rattle.hay_logical.proofs.Calls.{open_up, reach_still, up_open, up_thawed}
 use Rattle.hay_logical.proofs.Lists.{at_below, at_same, at_there}
 use Rattle.hay_logical.proofs.Methods.{one_after, one_count, one_each, other_same, same_by, same_still, shaped_on}
-use Rattle.hay_logical.proofs.Standing.{volume_with}
+use Rattle.hay_logical.proofs.Standing.{takes, volume_with}
 use Rattle.hay_logical.proofs.Changing.{not_some}
 use Rattle.hay_logical.proofs.Stepping.{begin_fault, begin_refused, begun}
 use Rattle.hay_logical.proofs.Reaching.{same_rows}
+use Rattle.hay_logical.specs.declared.fault.LogicalFault.{LogicalFault}
+use Rattle.hay_logical.specs.Refusals.{IsUntouchedBy}
+use Rattle.hay_logical.proofs.Untouched.{begin_thawed, begin_untouched, one_untouched, stuck_same}
+use Rattle.hay_physical.specs.Copies.{is_stuck}
+use Rattle.hay_logical.proofs.Tightness.{tight_begun}
+use Rattle.hay_logical.specs.Stands.{RunsTight}
+use Rattle.std.specs.Prelude.{OnOk}
+use Rattle.hay_logical.proofs.Changing.{some_none}
+use Rattle.hay_logical.specs.declared.fault.LogicalFault.TheVariants as logical
 use Rattle.hay_logical.proofs.logical.Logical.begin.Goals as goal
 use Rattle.hay_logical.proofs.logical.Logical.begin.Goals.{in-Ok, in-Err}
 
@@ -189,3 +198,74 @@ returns-clause-others g c = λ j apart r r' e f.
 
 pub returns-in-Some-clause-others : goal.returns-in-Some-clause-others
 returns-in-Some-clause-others g c = λ j apart r r' e f. at_same c.args.self.now.replicas j r' r f e
+
+pub returns-clause-untouched : goal.returns-clause-untouched
+returns-clause-untouched g c =
+    let now = c.as_mut_slice.ensures.value in
+    let kept = with_items_is c.self.inside.replicas c.begin_at.new.replicas (c.begin_at.auto.replicas ∙ c.as_mut_slice.ensures.len) in
+    let one : CallsOne c.args.replica c.self.inside.replicas.items c.begin_at.new.replicas = subst (λ xs. CallsOne c.args.replica xs c.begin_at.new.replicas) now c.begin_at.ensures.one in
+    elim c.match-begin_at.branch [
+      | in-Ok w ↦ rw w.result-is tt
+      | in-Err w ↦
+          let step : BeginsAt g.D.Disk.Tells g.D.Disk.files g.D.Disk.fault_count one.before one.after (Err w.in-Err.fault) =
+          subst (λ x. BeginsAt g.D.Disk.Tells g.D.Disk.files g.D.Disk.fault_count one.before one.after x) w.in-Err.is
+          (c.begin_at.ensures.begins one.before one.after (subst (λ xs. At xs c.args.replica one.before) (sym now) one.was) (one_after c.args.replica c.self.inside.replicas.items c.begin_at.new.replicas one)) in
+          let new : Volume g.row.D.Denot g.row.D-Piece.Denot = volume_with c.self.inside.settings c.self.inside.number (with_items c.self.inside.replicas c.begin_at.new.replicas).items c.self.inside.rows c.self.inside.front c.self.inside.frozen c.self.inside.unsure in
+          subst (λ r. IfErr r (λ (f : LogicalFault). IsUntouchedBy f → new ≡ c.args.self.now)) (sym w.result-is)
+          (subst (λ (f : LogicalFault). IsUntouchedBy f → new ≡ c.args.self.now) (sym w.answer_at.ensures)
+          (λ by. ap (λ rs. volume_with c.self.inside.settings c.self.inside.number rs c.self.inside.rows c.self.inside.front c.self.inside.frozen c.self.inside.unsure)
+          (kept ∙ one_untouched c.args.replica c.self.inside.replicas.items c.begin_at.new.replicas one (begin_untouched g.D.Disk.fault_count one.before one.after c.machine_of-machine.result w.in-Err.fault step.cause by)) ∙ c.self.view_is))
+    ]
+
+pub returns-clause-stuck : goal.returns-clause-stuck
+returns-clause-stuck g c = λ j r r' e f.
+    let now = c.as_mut_slice.ensures.value in
+    let kept = with_items_is c.self.inside.replicas c.begin_at.new.replicas (c.begin_at.auto.replicas ∙ c.as_mut_slice.ensures.len) in
+    let one : CallsOne c.args.replica c.self.inside.replicas.items c.begin_at.new.replicas = subst (λ xs. CallsOne c.args.replica xs c.begin_at.new.replicas) now c.begin_at.ensures.one in
+    let step : BeginsAt g.D.Disk.Tells g.D.Disk.files g.D.Disk.fault_count one.before one.after c.begin_at.result =
+    c.begin_at.ensures.begins one.before one.after (subst (λ xs. At xs c.args.replica one.before) (sym now) one.was) (one_after c.args.replica c.self.inside.replicas.items c.begin_at.new.replicas one) in
+    one_each (λ (x y : Copy g.row.D.Denot). is_stuck y ≡ is_stuck x) c.args.replica c.self.inside.replicas.items c.begin_at.new.replicas one (step.on.stuck) (λ x. refl)
+    j r r' (subst (λ v. At v.replicas j r) (sym c.self.view_is) e) (subst (λ xs. At xs j r') kept f)
+
+pub returns-in-Some-clause-stuck : goal.returns-in-Some-clause-stuck
+returns-in-Some-clause-stuck g c = stuck_same c.args.self.now.replicas
+
+pub returns-clause-tight : goal.returns-clause-tight
+unfolding Stands
+returns-clause-tight g c = λ tells k stands.
+    let now = c.as_mut_slice.ensures.value in
+    let kept = with_items_is c.self.inside.replicas c.begin_at.new.replicas (c.begin_at.auto.replicas ∙ c.as_mut_slice.ensures.len) in
+    let one : CallsOne c.args.replica c.self.inside.replicas.items c.begin_at.new.replicas = subst (λ xs. CallsOne c.args.replica xs c.begin_at.new.replicas) now c.begin_at.ensures.one in
+    let there = one_after c.args.replica c.self.inside.replicas.items c.begin_at.new.replicas one in
+    let step : BeginsAt g.D.Disk.Tells g.D.Disk.files g.D.Disk.fault_count one.before one.after c.begin_at.result =
+    c.begin_at.ensures.begins one.before one.after (subst (λ xs. At xs c.args.replica one.before) (sym now) one.was) there in
+    elim c.match-begin_at.branch [
+      | in-Ok w ↦
+          let thawed = not_some c.self.inside.frozen c.in_default.not-Some in
+          let known = takes g.D.Disk.Tells g.D.Disk.files g.D.Piece.Piece.Tells c.self.inside.settings c.self.inside.number c.self.inside.replicas.items c.self.inside.rows c.self.inside.front c.self.inside.frozen c.self.inside.unsure k
+          (subst (λ v. StandsFor g.D.Disk.files g.D.Piece.Piece.Tells v k) (sym c.self.view_is) stands) thawed in
+          let was = known.each c.args.replica one.before one.was in
+          let begun : BeginsAt g.D.Disk.Tells g.D.Disk.files g.D.Disk.fault_count one.before one.after (Ok w.in-Ok.generation) =
+          subst (λ x. BeginsAt g.D.Disk.Tells g.D.Disk.files g.D.Disk.fault_count one.before one.after x) w.in-Ok.is step in
+          subst (λ r. OnOk r ((x : Copy g.row.D.Denot) → At (with_items c.self.inside.replicas c.begin_at.new.replicas).items c.args.replica x → RunsTight g.D.Disk.files x)) (sym w.result-is)
+          (λ x f. subst (λ (y : Copy g.row.D.Denot). RunsTight g.D.Disk.files y) (at_same c.begin_at.new.replicas c.args.replica one.after x there (subst (λ xs. At xs c.args.replica x) kept f))
+          (tight_begun g.D.Disk.files one.before one.after g.D.Disk.Tells g.D.Disk.fault_count tells w.in-Ok.generation was.stored was.stands begun))
+      | in-Err w ↦ rw w.result-is tt
+    ]
+
+pub returns-in-Some-clause-thawed : goal.returns-in-Some-clause-thawed
+returns-in-Some-clause-thawed g c = λ none m e. some_none (sym c.in-Some.is ∙ ap (λ v. v.frozen) c.self.view_is ∙ none)
+
+pub returns-clause-thawed : goal.returns-clause-thawed
+returns-clause-thawed g c = λ none m e.
+    let now = c.as_mut_slice.ensures.value in
+    let one : CallsOne c.args.replica c.self.inside.replicas.items c.begin_at.new.replicas = subst (λ xs. CallsOne c.args.replica xs c.begin_at.new.replicas) now c.begin_at.ensures.one in
+    elim c.match-begin_at.branch [
+      | in-Ok w ↦ let wrong = sym w.result-is ∙ e in absurd cc
+      | in-Err w ↦
+          let step : BeginsAt g.D.Disk.Tells g.D.Disk.files g.D.Disk.fault_count one.before one.after (Err w.in-Err.fault) =
+          subst (λ x. BeginsAt g.D.Disk.Tells g.D.Disk.files g.D.Disk.fault_count one.before one.after x) w.in-Err.is
+          (c.begin_at.ensures.begins one.before one.after (subst (λ xs. At xs c.args.replica one.before) (sym now) one.was) (one_after c.args.replica c.self.inside.replicas.items c.begin_at.new.replicas one)) in
+          let said : Err w.answer_at.result ≡ Err (logical.ReadOnly m) = sym w.result-is ∙ e in
+          begin_thawed g.D.Disk.fault_count one.before one.after c.machine_of-machine.result w.in-Err.fault m step.cause (sym w.answer_at.ensures ∙ (let same : w.answer_at.result ≡ logical.ReadOnly m = cc in same))
+    ]

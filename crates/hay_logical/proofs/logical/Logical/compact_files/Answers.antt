@@ -3,11 +3,11 @@ use Rattle.std.specs.Vec.{with_items}
 use Rattle.std.proofs.lemmas.List.{with_items_is}
 use Rattle.hay_map.specs.Rows.{ChangesRows, row_at}
 use Rattle.hay_map.specs.declared.view.MapOp.TheVariants as op
-use Rattle.hay_physical.specs.Copies.{Copy, IsUp}
-use Rattle.hay_logical.specs.Answers.{CompactRefused, IsCompacted}
+use Rattle.hay_physical.specs.Copies.{Copy, IsUp, is_stuck}
+use Rattle.hay_logical.specs.Answers.{CompactRefused, HasSizes, IsCompacted}
 use Rattle.hay_logical.specs.Answers as answers
 use Rattle.hay_logical.specs.Fits.{At}
-use Rattle.hay_logical.specs.Refusals.{unfinished_by}
+use Rattle.hay_logical.specs.Refusals.{IsUntouchedBy, unfinished_by}
 use Rattle.hay_logical.specs.Stands.{Stands, StandsFor}
 use Rattle.hay_logical.specs.Steps.{LosesRun, SwapsOne}
 use Rattle.hay_logical.specs.Steps.Start.{Fresh}
@@ -17,10 +17,15 @@ use Rattle.hay_logical.proofs.Compacted.{compact_fault, compact_refused, compact
 use Rattle.hay_logical.proofs.Lists.{at_same}
 use Rattle.hay_logical.proofs.Methods.{same_by}
 use Rattle.hay_logical.proofs.Standing.{volume_with}
-use Rattle.hay_logical.proofs.SwapShapes.{SwapCall, called_each, called_open, called_reach, called_shaped, called_up, called_with}
-use Rattle.hay_logical.proofs.Freezing.{frozen_unfinished}
+use Rattle.hay_logical.proofs.Swapping.{rows_stay}
+use Rattle.hay_logical.proofs.SwapShapes.{SwapCall, called_each, called_open, called_reach, called_shaped, called_stuck, called_up, called_with}
 use Rattle.hay_logical.specs.Volumes.{IsMachineOf, Volume}
+use Rattle.hay_logical.specs.declared.refusals.Unfinished.{Unfinished}
+use Rattle.hay_logical.proofs.Untouched.{called_thawed, called_untouched}
+use Rattle.hay_logical.proofs.Freezing.{frozen_unfinished, unfinished_freezes}
 use Rattle.hay_logical.proofs.logical.Logical.compact_files.Given as given
+use Rattle.hay_logical.proofs.Changing.{some_none}
+use Rattle.hay_logical.specs.declared.fault.LogicalFault.TheVariants as logical
 use Rattle.hay_logical.proofs.logical.Logical.compact_files.Goals as goal
 use Rattle.hay_logical.proofs.logical.Logical.compact_files.Goals.{After-compact_at}
 
@@ -183,7 +188,7 @@ returns-in-Err-clause-beside g c = λ j apart r r' e f.
 pub returns-in-Err-clause-kept : goal.returns-in-Err-clause-kept
 returns-in-Err-clause-kept g c = λ pair.
     let after = (goal.at.returns-in-Err-clause-kept g c).After-compact_at in
-    (called_with c.in-Err.is (called g after)).places.same pair ∙ ap (λ v. row_at v.rows pair) c.self.view_is
+    rows_stay (called_with c.in-Err.is (called g after)).places pair ∙ ap (λ v. row_at v.rows pair) c.self.view_is
 
 pub returns-in-Some-clause-others : goal.returns-in-Some-clause-others
 returns-in-Some-clause-others g c = λ same j apart r r' e f. at_same c.args.self.now.replicas j r' r f e
@@ -191,3 +196,46 @@ returns-in-Some-clause-others g c = λ same j apart r r' e f. at_same c.args.sel
 pub returns-in-Some-clause-beside : goal.returns-in-Some-clause-beside
 returns-in-Some-clause-beside g c = λ j apart r r' e f.
     subst (λ x. LosesRun g.D.Disk.Tells g.D.Disk.files r x) (at_same c.args.self.now.replicas j r r' e f) (loses_none g.D.Disk.Tells g.D.Disk.files r)
+
+pub returns-in-Err-clause-untouched : goal.returns-in-Err-clause-untouched
+returns-in-Err-clause-untouched g c = λ by.
+    let after = (goal.at.returns-in-Err-clause-untouched g c).After-compact_at in
+    let call = called_with c.in-Err.is (called g after) in
+    called_untouched c.self.inside.settings c.self.inside.number c.in-Err.unswapped call (subst (λ (u : Unfinished). IsUntouchedBy u.fault) c.unfinished_by-unfinished.ensures by) _ c.self.inside.front c.self.inside.frozen
+    c.unfinished_by-unfinished.result.frozen c.self.inside.unsure (kept g after) (not_some c.self.inside.frozen c.in_default.not-Some) (ap (λ (u : Unfinished). u.frozen) c.unfinished_by-unfinished.ensures) ∙ c.self.view_is
+
+pub returns-in-Err-clause-freezes : goal.returns-in-Err-clause-freezes
+returns-in-Err-clause-freezes g c =
+    unfinished_freezes c.self.inside.settings c.self.inside.number c.args.replica c.self.inside.frozen c.args.self.now.frozen c.in-Err.unswapped c.unfinished_by-unfinished.result
+    (not_some c.self.inside.frozen c.in_default.not-Some) (ap (λ v. v.frozen) (sym c.self.view_is)) c.unfinished_by-unfinished.ensures
+
+pub returns-in-Ok-clause-sizes : goal.returns-in-Ok-clause-sizes
+returns-in-Ok-clause-sizes g c = λ tells r f.
+    let after = (goal.at.returns-in-Ok-clause-sizes g c).After-compact_at in
+    let call = called_with c.in-Ok.is (called g after) in
+    subst (λ (x : Copy g.row.D.Denot). HasSizes g.D.Disk.files x c.in-Ok.files.end c.in-Ok.files.count) (at_same c.compact_at.new.replicas c.args.replica call.one.after r call.one.is (subst (λ xs. At xs c.args.replica r) (kept g after) f)) (call.swaps.sizes tells)
+
+pub returns-in-Ok-clause-loose : goal.returns-in-Ok-clause-loose
+returns-in-Ok-clause-loose g c = λ r f.
+    let after = (goal.at.returns-in-Ok-clause-loose g c).After-compact_at in
+    let call = called_with c.in-Ok.is (called g after) in
+    ap is_stuck (at_same c.compact_at.new.replicas c.args.replica r call.one.after (subst (λ xs. At xs c.args.replica r) (kept g after) f) call.one.is) ∙ call.swaps.up.1
+
+pub returns-in-Err-clause-stuck : goal.returns-in-Err-clause-stuck
+returns-in-Err-clause-stuck g c = λ j r r' e f.
+    let after = (goal.at.returns-in-Err-clause-stuck g c).After-compact_at in
+    let call = called_with c.in-Err.is (called g after) in
+    called_stuck c.in-Err.unswapped call j r r' (subst (λ v. At v.replicas j r) (sym c.self.view_is) e) (subst (λ xs. At xs j r') (kept g after) f)
+
+pub returns-in-Some-clause-stuck : goal.returns-in-Some-clause-stuck
+returns-in-Some-clause-stuck g c = λ j r r' e f. ap is_stuck (at_same c.args.self.now.replicas j r' r f e)
+
+pub returns-in-Some-clause-thawed : goal.returns-in-Some-clause-thawed
+returns-in-Some-clause-thawed g c = λ none m e. some_none (sym c.in-Some.is ∙ ap (λ v. v.frozen) c.self.view_is ∙ none)
+
+pub returns-in-Err-clause-thawed : goal.returns-in-Err-clause-thawed
+returns-in-Err-clause-thawed g c = λ none m e.
+    let after = (goal.at.returns-in-Err-clause-thawed g c).After-compact_at in
+    let call = called_with c.in-Err.is (called g after) in
+    let same : c.unfinished_by-unfinished.result.fault ≡ logical.ReadOnly m = cc in
+    called_thawed c.self.inside.settings c.self.inside.number c.in-Err.unswapped call m (ap (λ (u : Unfinished). u.fault) (sym c.unfinished_by-unfinished.ensures) ∙ same)

@@ -1,8 +1,9 @@
 use Rattle.std.proofs.Common.{◌≡◌, Ok, Err, sym, ap, subst, ◌∙◌}
 use Rattle.std.proofs.lemmas.Result.{err_from_is_err_and}
 use Rattle.hay_logical.specs.declared.fault.LogicalFault.{LogicalFault}
-use Rattle.hay_logical.specs.declared.fault.LogicalFault.TheVariants.{ReadOnly}
+use Rattle.hay_logical.specs.declared.fault.LogicalFault.TheVariants.{Failed, ReadOnly}
 use Rattle.hay_logical.specs.Volumes.{IsOpenVolume, IsSame, KeepsCounts}
+use Rattle.hay_logical.specs.Steps.{KeepsStuck}
 use Rattle.hay_logical.proofs.logical.Logical.delete.Goals as goal
 
 pub returns-clause-deleted : goal.returns-clause-deleted
@@ -31,3 +32,21 @@ pub returns-clause-frozen : goal.returns-clause-frozen
 returns-clause-frozen g c = λ m e.
     let wrong : Ok c.in_ok-erased.erased ≡ Err (ReadOnly m) = sym c.in_ok-erased.was ∙ (c.erase.ensures.frozen m e).0 in
     absurd cc
+
+pub returns-clause-still : goal.returns-clause-still
+returns-clause-still g c = ap (λ v. v.frozen) c.hide.ensures.still ∙ c.in_ok-erased.ensures.still.1
+
+pub returns-clause-stuck : goal.returns-clause-stuck
+returns-clause-stuck g c = subst (λ v. KeepsStuck c.args.self.now.replicas v.replicas) (sym c.hide.ensures.still) c.erase.ensures.stuck
+
+pub returns-in_err-erased-clause-above : goal.returns-in_err-erased-clause-above
+returns-in_err-erased-clause-above g c = λ m count e.
+    let fault = err_from_is_err_and c.from_residual.result c.from_residual.ensures.1 in
+    let same : c.in_err-erased.field-0.0 ≡ Failed m count = (let both = sym fault.1 ∙ e in let is = fault.2 in cc) in
+    c.erase.ensures.above m count (c.in_err-erased.was ∙ ap (λ (f : LogicalFault). Err f) same)
+
+pub returns-in_err-erased-clause-thawed : goal.returns-in_err-erased-clause-thawed
+returns-in_err-erased-clause-thawed g c = λ none m e.
+    let fault = err_from_is_err_and c.from_residual.result c.from_residual.ensures.1 in
+    let same : c.in_err-erased.field-0.0 ≡ ReadOnly m = (let both = sym fault.1 ∙ e in let is = fault.2 in cc) in
+    c.erase.ensures.thawed none m (c.in_err-erased.was ∙ ap (λ (f : LogicalFault). Err f) same)

@@ -1,6 +1,7 @@
-use Rattle.std.proofs.Common.{◌≡◌, ◌+◌, None, Err, sym, ap, subst, ◌∙◌, Option}
+use Rattle.std.proofs.Common.{◌≡◌, ◌+◌, ℕ, None, Err, sym, ap, subst, ◌∙◌, Option}
 use Rattle.std.specs.Prelude.{IfErr}
 use Rattle.std.proofs.lemmas.Result.{err_from_is_err_and, on_ok_weaker, on_err_weaker}
+use Rattle.hay_needle.specs.declared.settings.Settings.{Settings}
 use Rattle.hay_physical.proofs.Views.{if_err_so, if_ok_so}
 use Rattle.hay_logical.specs.declared.fault.LogicalFault.{LogicalFault}
 use Rattle.hay_logical.specs.Answers.{DeleteRefused}
@@ -12,6 +13,16 @@ use Rattle.hay_logical.proofs.Telling.{delete_before}
 use Rattle.hay_logical.specs.Notes.{DeleteLeavesUnsure}
 use Rattle.hay_logical.specs.declared.unsure.Unsure.{Unsure}
 use Rattle.hay_logical.specs.Volumes.{IsMachineOf, Volume}
+use Rattle.hay_logical.specs.Steps.{KeepsAbove}
+use Rattle.hay_logical.proofs.Above.{above_files, above_looked}
+use Rattle.hay_logical.specs.Refusals.{DeleteFreezes}
+use Rattle.hay_logical.proofs.Freezing.{delete_same}
+use Rattle.hay_logical.proofs.Untouched.{stuck_more, stuck_same}
+use Rattle.std.specs.Prelude.{OnErr}
+use Rattle.hay_logical.specs.Stands.{IsTightAt}
+use Rattle.hay_logical.proofs.Changing.{some_none}
+use Rattle.hay_logical.specs.declared.fault.LogicalFault.TheVariants as logical
+use Rattle.hay_logical.specs.Answers.{IsSightFault}
 use Rattle.hay_logical.proofs.logical.Logical.erase.Goals as goal
 
 pub returns-in-Some-clause-refused : goal.returns-in-Some-clause-refused
@@ -74,3 +85,54 @@ pub returns-clause-files : goal.returns-clause-files
 returns-clause-files g c = on_err_weaker c.erase_seen.result
     (λ keeps same. files_more g.D.Disk.Tells g.D.Disk.files c.args.self.now.replicas c.see_each.new.self.replicas c.erase_seen.new.self.replicas c.see_each.ensures.counts.count c.see_each.ensures.files (keeps (same ∙ sym c.see_each.ensures.still.2)))
     c.erase_seen.ensures.files
+
+pub returns-in_err-see_each-clause-above : goal.returns-in_err-see_each-clause-above
+returns-in_err-see_each-clause-above g c = λ m count e.
+    above_files g.D.Disk.Tells g.D.Disk.files c.args.self.now.settings c.args.self.now.number m c.args.self.now.replicas c.see_each.new.self.replicas c.see_each.ensures.files
+
+pub returns-clause-above : goal.returns-clause-above
+returns-clause-above g c = λ m count e.
+    let same = c.see_each.ensures.same in
+    above_looked g.D.Disk.Tells g.D.Disk.files c.args.self.now.settings c.args.self.now.number m c.args.self.now.replicas c.see_each.new.self.replicas c.erase_seen.new.self.replicas c.see_each.ensures.counts.count c.see_each.ensures.files
+    (subst (λ n. KeepsAbove g.D.Disk.Tells g.D.Disk.files c.args.self.now.settings n m c.see_each.new.self.replicas c.erase_seen.new.self.replicas) same.number
+    (subst (λ (s : Settings). KeepsAbove g.D.Disk.Tells g.D.Disk.files s c.see_each.new.self.number m c.see_each.new.self.replicas c.erase_seen.new.self.replicas) same.settings (c.erase_seen.ensures.above m count e)))
+
+pub returns-in_err-see_each-clause-freezes : goal.returns-in_err-see_each-clause-freezes
+returns-in_err-see_each-clause-freezes g c =
+    let fault = err_from_is_err_and c.from_residual.result c.from_residual.ensures.1 in
+    subst (λ r. IfErr r (DeleteFreezes c.args.self.now.frozen c.see_each.new.self.frozen c.args.self.now.unsure c.see_each.new.self.unsure)) (sym fault.1)
+    (delete_same c.args.self.now.frozen c.see_each.new.self.frozen c.args.self.now.unsure c.see_each.new.self.unsure fault.0 c.see_each.ensures.still.0 c.see_each.ensures.still.2)
+
+pub returns-clause-freezes : goal.returns-clause-freezes
+returns-clause-freezes g c =
+    subst (λ (o : Option ℕ). IfErr c.erase_seen.result (DeleteFreezes o c.erase_seen.new.self.frozen c.args.self.now.unsure c.erase_seen.new.self.unsure)) c.see_each.ensures.still.0
+    (subst (λ (u : Option Unsure). IfErr c.erase_seen.result (DeleteFreezes c.see_each.new.self.frozen c.erase_seen.new.self.frozen u c.erase_seen.new.self.unsure)) c.see_each.ensures.still.2 c.erase_seen.ensures.freezes)
+
+pub returns-in-Some-clause-stuck : goal.returns-in-Some-clause-stuck
+returns-in-Some-clause-stuck g c = stuck_same c.args.self.now.replicas
+
+pub returns-clause-stuck : goal.returns-clause-stuck
+returns-clause-stuck g c =
+    stuck_more c.args.self.now.replicas c.see_each.new.self.replicas c.erase_seen.new.self.replicas c.see_each.ensures.counts.count c.see_each.ensures.stuck c.erase_seen.ensures.stuck
+
+pub returns-in_err-see_each-clause-tight : goal.returns-in_err-see_each-clause-tight
+returns-in_err-see_each-clause-tight g c = λ tells k stands j tight.
+    let fault = err_from_is_err_and c.from_residual.result c.from_residual.ensures.1 in
+    subst (λ r. OnErr r (c.see_each.new.self.unsure ≡ c.args.self.now.unsure → IsTightAt g.D.Disk.files c.see_each.new.self j)) (sym fault.1) (λ same. c.see_each.ensures.tight tells k stands j tight)
+
+pub returns-clause-tight : goal.returns-clause-tight
+returns-clause-tight g c = λ tells k stands j tight. on_err_weaker c.erase_seen.result
+    (λ keeps same. keeps (same ∙ sym c.see_each.ensures.still.2)) (c.erase_seen.ensures.tight tells j (c.see_each.ensures.tight tells k stands j tight))
+
+pub returns-in-Some-clause-thawed : goal.returns-in-Some-clause-thawed
+returns-in-Some-clause-thawed g c = λ none m e. some_none (sym c.in-Some.is ∙ ap (λ v. v.frozen) c.self.view_is ∙ none)
+
+pub returns-in_err-see_each-clause-thawed : goal.returns-in_err-see_each-clause-thawed
+returns-in_err-see_each-clause-thawed g c = λ none m e.
+    let fault = err_from_is_err_and c.from_residual.result c.from_residual.ensures.1 in
+    let same : c.in_err-see_each.field-0.0 ≡ logical.ReadOnly m = (let both = sym fault.1 ∙ e in let is = fault.2 in cc) in
+    subst (λ r. IfErr r (IsSightFault g.D.Disk.fault_count c.args.self.now.settings c.args.self.now.number c.args.self.now.replicas c.see_each.new.self.replicas))
+    (c.in_err-see_each.was ∙ ap (λ (f : LogicalFault). Err f) same) c.see_each.ensures.causes
+
+pub returns-clause-thawed : goal.returns-clause-thawed
+returns-clause-thawed g c = λ none m e. c.erase_seen.ensures.thawed m e

@@ -13,7 +13,7 @@ use Rattle.hay_logical.specs.declared.written.Erased.{Erased}
 use Rattle.hay_logical.specs.Answers.{DeleteRefused, HasFailed}
 use Rattle.hay_logical.specs.Fits.{At}
 use Rattle.hay_logical.specs.Stands.{Stands, StandsFor}
-use Rattle.hay_logical.specs.Steps.{DeleteLeaves, DeletesAt, KeepsReach}
+use Rattle.hay_logical.specs.Steps.{DeleteLeaves, DeletesAt, KeepsAbove, KeepsReach}
 use Rattle.hay_logical.specs.Unshown.{IsErased}
 use Rattle.hay_logical.specs.Volumes.{CanReach, IsShaped, KeepsCounts, Volume}
 use Rattle.hay_logical.proofs.Calls.{open_up, up_open, up_thawed}
@@ -24,6 +24,8 @@ use Rattle.hay_logical.proofs.Changing.{delete_failed, delete_refused, delete_re
 use Rattle.hay_logical.proofs.Showing.{erased}
 use Rattle.hay_logical.proofs.Reaching.{failed_row}
 use Rattle.hay_logical.proofs.Freezing.{frozen_machine}
+use Rattle.hay_logical.proofs.Above.{above_lost}
+use Rattle.hay_logical.proofs.Untouched.{stuck_same}
 use Rattle.hay_logical.proofs.logical.Logical.erase_seen.Goals as goal
 
 pub returns-then-not-has_live-clause-refused : goal.returns-then-not-has_live-clause-refused
@@ -261,5 +263,55 @@ returns-clause-refused_unsure g c = inr (record {
 
 pub returns-clause-files : goal.returns-clause-files
 returns-clause-files g c = λ same.
+    let settled = ap (λ v. v.unsure) (sym c.self.view_is) ∙ (c.self.invariant.0).settled (ap (λ v. v.frozen) c.self.view_is ∙ c.requires.thawed) in
+    some_none (same ∙ settled)
+
+pub returns-clause-above : goal.returns-clause-above
+returns-clause-above g c = λ m count e.
+    let now = c.as_mut_slice.ensures.value in
+    let kept = with_items_is c.self.inside.replicas c.delete_each.new.replicas (c.delete_each.auto.replicas ∙ c.as_mut_slice.ensures.len) in
+    let left : DeleteLeaves g.D.Disk.Tells g.D.Disk.files g.D.Disk.fault_count c.row-row.result c.self.inside.replicas.items c.delete_each.new.replicas c.in-Err.failed =
+    subst (λ xs. DeleteLeaves g.D.Disk.Tells g.D.Disk.files g.D.Disk.fault_count c.row-row.result xs c.delete_each.new.replicas c.in-Err.failed) now c.in-Err.ensures.broken in
+    let below = at_below c.self.inside.replicas.items c.in-Err.failed.at left.before left.was in
+    let few = (c.self.invariant.0).count in
+    let within : c.in-Err.failed.at < c.self.inside.settings.replicas = omega (arith, below, few) in
+    let same : c.machine_of-machine.result ≡ m = cc in
+    subst (λ v. KeepsAbove g.D.Disk.Tells g.D.Disk.files v.settings v.number m v.replicas (with_items c.self.inside.replicas c.delete_each.new.replicas).items) c.self.view_is
+    (subst (λ rs. KeepsAbove g.D.Disk.Tells g.D.Disk.files c.self.inside.settings c.self.inside.number m c.self.inside.replicas.items rs) (sym kept)
+    (above_lost g.D.Disk.Tells g.D.Disk.files c.self.inside.settings c.self.inside.number c.self.inside.replicas.items c.delete_each.new.replicas c.in-Err.failed.at m (c.self.invariant.0).settings within
+    (sym same ∙ c.machine_of-machine.ensures) left.above))
+
+pub returns-clause-freezes : goal.returns-clause-freezes
+returns-clause-freezes g c = inr (refl, (record { tag = c.args.tag; change = change.Delete c.args.pair }, refl))
+
+pub returns-then-not-has_live-clause-stuck : goal.returns-then-not-has_live-clause-stuck
+returns-then-not-has_live-clause-stuck g c = stuck_same c.args.self.now.replicas
+
+pub returns-in_default-clause-stuck : goal.returns-in_default-clause-stuck
+returns-in_default-clause-stuck g c = stuck_same c.args.self.now.replicas
+
+pub returns-in-Ok-clause-stuck : goal.returns-in-Ok-clause-stuck
+returns-in-Ok-clause-stuck g c = λ j r r' e f.
+    let now = c.as_mut_slice.ensures.value in
+    let kept = with_items_is c.self.inside.replicas c.delete_each.new.replicas (c.delete_each.auto.replicas ∙ c.as_mut_slice.ensures.len) in
+    let thawed = ap (λ v. v.frozen) c.self.view_is ∙ c.requires.thawed in
+    let was = subst (λ v. At v.replicas j r) (sym c.self.view_is) e in
+    let up : IsUp r = open_up r (c.requires.«open».each j r e) ((c.self.invariant.0).thawed thawed j r was) in
+    (deleted_same g.D.Disk.Tells g.D.Disk.files (place_in c.row-row.result j) r r' (c.in-Ok.ensures.deleted j r r' (subst (λ xs. At xs j r) (sym now) was) (subst (λ xs. At xs j r') kept f)) up).2
+
+pub returns-clause-stuck : goal.returns-clause-stuck
+returns-clause-stuck g c = λ j r r' e f.
+    let now = c.as_mut_slice.ensures.value in
+    let kept = with_items_is c.self.inside.replicas c.delete_each.new.replicas (c.delete_each.auto.replicas ∙ c.as_mut_slice.ensures.len) in
+    let thawed = ap (λ v. v.frozen) c.self.view_is ∙ c.requires.thawed in
+    let up : (j : ℕ) (r : Copy g.row.D.Denot) → At c.self.inside.replicas.items j r → IsUp r =
+    λ j r e. open_up r (c.requires.«open».each j r (subst (λ v. At v.replicas j r) c.self.view_is e)) ((c.self.invariant.0).thawed thawed j r e) in
+    let left : DeleteLeaves g.D.Disk.Tells g.D.Disk.files g.D.Disk.fault_count c.row-row.result c.self.inside.replicas.items c.delete_each.new.replicas c.in-Err.failed =
+    subst (λ xs. DeleteLeaves g.D.Disk.Tells g.D.Disk.files g.D.Disk.fault_count c.row-row.result xs c.delete_each.new.replicas c.in-Err.failed) now c.in-Err.ensures.broken in
+    (delete_remains g.D.Disk.Tells g.D.Disk.files g.D.Disk.fault_count c.self.inside.replicas.items c.delete_each.new.replicas c.row-row.result c.in-Err.failed left up j r r'
+    (subst (λ v. At v.replicas j r) (sym c.self.view_is) e) (subst (λ xs. At xs j r') kept f)).stuck
+
+pub returns-clause-tight : goal.returns-clause-tight
+returns-clause-tight g c = λ tells j tight same.
     let settled = ap (λ v. v.unsure) (sym c.self.view_is) ∙ (c.self.invariant.0).settled (ap (λ v. v.frozen) c.self.view_is ∙ c.requires.thawed) in
     some_none (same ∙ settled)

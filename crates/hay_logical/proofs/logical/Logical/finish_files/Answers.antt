@@ -4,11 +4,11 @@ use Rattle.std.specs.Vec.{with_items}
 use Rattle.std.proofs.lemmas.List.{with_items_is}
 use Rattle.hay_map.specs.Rows.{ChangesRows, row_at}
 use Rattle.hay_map.specs.declared.view.MapOp.TheVariants as op
-use Rattle.hay_physical.specs.Copies.{Copy, IsUp, goal_of}
-use Rattle.hay_logical.specs.Answers.{FinishRefused, IsFinished}
+use Rattle.hay_physical.specs.Copies.{Copy, IsUp, goal_of, is_stuck}
+use Rattle.hay_logical.specs.Answers.{FinishRefused, HasSizes, IsFinished}
 use Rattle.hay_logical.specs.Answers as answers
 use Rattle.hay_logical.specs.Fits.{At}
-use Rattle.hay_logical.specs.Refusals.{unfinished_by}
+use Rattle.hay_logical.specs.Refusals.{IsUntouchedBy, unfinished_by}
 use Rattle.hay_logical.specs.Stands.{Stands, StandsFor}
 use Rattle.hay_logical.specs.Steps.{LosesRun, SwapsOne}
 use Rattle.hay_logical.specs.Steps.Start.{Going}
@@ -19,10 +19,17 @@ use Rattle.hay_logical.proofs.Lists.{at_same}
 use Rattle.hay_logical.proofs.Methods.{same_by}
 use Rattle.hay_logical.proofs.Standing.{volume_with}
 use Rattle.hay_logical.proofs.Stepping.{none_there, stands_there}
-use Rattle.hay_logical.proofs.SwapShapes.{SwapCall, called_each, called_open, called_reach, called_shaped, called_up, called_with}
-use Rattle.hay_logical.proofs.Freezing.{frozen_unfinished}
+use Rattle.hay_logical.proofs.Swapping.{rows_stay}
+use Rattle.hay_logical.proofs.SwapShapes.{SwapCall, called_each, called_open, called_reach, called_shaped, called_stuck, called_up, called_with}
 use Rattle.hay_logical.specs.Volumes.{IsMachineOf, Volume}
+use Rattle.hay_logical.specs.declared.refusals.Unfinished.{Unfinished}
+use Rattle.hay_logical.proofs.Untouched.{called_thawed, called_untouched}
+use Rattle.hay_logical.proofs.Freezing.{frozen_unfinished, unfinished_freezes}
+use Rattle.hay_logical.proofs.Tightness.{tightened}
+use Rattle.hay_logical.specs.Answers.{IsTightened}
 use Rattle.hay_logical.proofs.logical.Logical.finish_files.Given as given
+use Rattle.hay_logical.proofs.Changing.{some_none}
+use Rattle.hay_logical.specs.declared.fault.LogicalFault.TheVariants as logical
 use Rattle.hay_logical.proofs.logical.Logical.finish_files.Goals as goal
 use Rattle.hay_logical.proofs.logical.Logical.finish_files.Goals.{After-finish_at}
 
@@ -202,7 +209,7 @@ returns-in-Err-clause-beside g c = λ j apart r r' e f.
 pub returns-in-Err-clause-kept : goal.returns-in-Err-clause-kept
 returns-in-Err-clause-kept g c = λ pair.
     let after = (goal.at.returns-in-Err-clause-kept g c).After-finish_at in
-    (called_with c.in-Err.is (called g after)).places.same pair ∙ ap (λ v. row_at v.rows pair) c.self.view_is
+    rows_stay (called_with c.in-Err.is (called g after)).places pair ∙ ap (λ v. row_at v.rows pair) c.self.view_is
 
 pub returns-in-Some-clause-others : goal.returns-in-Some-clause-others
 returns-in-Some-clause-others g c = λ same j apart r r' e f. at_same c.args.self.now.replicas j r' r f e
@@ -217,3 +224,61 @@ returns-then-is_none-clause-others g c = λ same j apart r r' e f. at_same c.arg
 pub returns-then-is_none-clause-beside : goal.returns-then-is_none-clause-beside
 returns-then-is_none-clause-beside g c = λ j apart r r' e f.
     subst (λ x. LosesRun g.D.Disk.Tells g.D.Disk.files r x) (at_same c.args.self.now.replicas j r r' e f) (loses_none g.D.Disk.Tells g.D.Disk.files r)
+
+pub returns-in-Err-clause-untouched : goal.returns-in-Err-clause-untouched
+returns-in-Err-clause-untouched g c = λ by.
+    let after = (goal.at.returns-in-Err-clause-untouched g c).After-finish_at in
+    let call = called_with c.in-Err.is (called g after) in
+    called_untouched c.self.inside.settings c.self.inside.number c.in-Err.unswapped call (subst (λ (u : Unfinished). IsUntouchedBy u.fault) c.unfinished_by-unfinished.ensures by) _ c.self.inside.front c.self.inside.frozen
+    c.unfinished_by-unfinished.result.frozen c.self.inside.unsure (kept g after) (not_some c.self.inside.frozen c.in_default.not-Some) (ap (λ (u : Unfinished). u.frozen) c.unfinished_by-unfinished.ensures) ∙ c.self.view_is
+
+pub returns-in-Err-clause-freezes : goal.returns-in-Err-clause-freezes
+returns-in-Err-clause-freezes g c =
+    unfinished_freezes c.self.inside.settings c.self.inside.number c.args.replica c.self.inside.frozen c.args.self.now.frozen c.in-Err.unswapped c.unfinished_by-unfinished.result
+    (not_some c.self.inside.frozen c.in_default.not-Some) (ap (λ v. v.frozen) (sym c.self.view_is)) c.unfinished_by-unfinished.ensures
+
+pub returns-in-Ok-clause-sizes : goal.returns-in-Ok-clause-sizes
+returns-in-Ok-clause-sizes g c = λ tells r f.
+    let after = (goal.at.returns-in-Ok-clause-sizes g c).After-finish_at in
+    let call = called_with c.in-Ok.is (called g after) in
+    subst (λ (x : Copy g.row.D.Denot). HasSizes g.D.Disk.files x c.in-Ok.files.end c.in-Ok.files.count) (at_same c.finish_at.new.replicas c.args.replica call.one.after r call.one.is (subst (λ xs. At xs c.args.replica r) (kept g after) f)) (call.swaps.sizes tells)
+
+pub returns-in-Ok-clause-loose : goal.returns-in-Ok-clause-loose
+returns-in-Ok-clause-loose g c = λ r f.
+    let after = (goal.at.returns-in-Ok-clause-loose g c).After-finish_at in
+    let call = called_with c.in-Ok.is (called g after) in
+    ap is_stuck (at_same c.finish_at.new.replicas c.args.replica r call.one.after (subst (λ xs. At xs c.args.replica r) (kept g after) f) call.one.is) ∙ call.swaps.up.1
+
+pub returns-in-Err-clause-stuck : goal.returns-in-Err-clause-stuck
+returns-in-Err-clause-stuck g c = λ j r r' e f.
+    let after = (goal.at.returns-in-Err-clause-stuck g c).After-finish_at in
+    let call = called_with c.in-Err.is (called g after) in
+    called_stuck c.in-Err.unswapped call j r r' (subst (λ v. At v.replicas j r) (sym c.self.view_is) e) (subst (λ xs. At xs j r') (kept g after) f)
+
+pub returns-in-Some-clause-stuck : goal.returns-in-Some-clause-stuck
+returns-in-Some-clause-stuck g c = λ j r r' e f. ap is_stuck (at_same c.args.self.now.replicas j r' r f e)
+
+pub returns-then-is_none-clause-stuck : goal.returns-then-is_none-clause-stuck
+returns-then-is_none-clause-stuck g c = λ j r r' e f. ap is_stuck (at_same c.args.self.now.replicas j r' r f e)
+
+pub returns-in-Ok-clause-tightened : goal.returns-in-Ok-clause-tightened
+unfolding Stands
+returns-in-Ok-clause-tightened g c = λ tells k stands tight.
+    let after = (goal.at.returns-in-Ok-clause-tightened g c).After-finish_at in
+    let call = called_with c.in-Ok.is (called g after) in
+    let thawed = not_some c.self.inside.frozen c.in_default.not-Some in
+    subst (λ rs. IsTightened g.D.Disk.files g.D.Piece.Piece.Tells k c.args.replica (volume_with c.self.inside.settings c.self.inside.number rs c.finish_at.new.rows c.self.inside.front c.self.inside.frozen c.self.inside.unsure)) (sym (kept g after))
+    (subst (λ o. IsTightened g.D.Disk.files g.D.Piece.Piece.Tells k c.args.replica (volume_with c.self.inside.settings c.self.inside.number c.finish_at.new.replicas c.finish_at.new.rows c.self.inside.front o c.self.inside.unsure)) (sym thawed)
+    (tightened c.self.inside.settings c.self.inside.number g.D.Disk.Tells g.D.Disk.files g.D.Piece.Piece.Tells g.D.Disk.fault_count c.self.inside.replicas.items c.finish_at.new.replicas c.self.inside.rows c.finish_at.new.rows c.self.inside.front c.self.inside.unsure k
+    (subst (λ o. StandsFor g.D.Disk.files g.D.Piece.Piece.Tells (volume_with c.self.inside.settings c.self.inside.number c.self.inside.replicas.items c.self.inside.rows c.self.inside.front o c.self.inside.unsure) k) thawed (subst (λ v. StandsFor g.D.Disk.files g.D.Piece.Piece.Tells v k) (sym c.self.view_is) stands)) tells c.args.replica call.one c.in-Ok.files call.swaps call.places
+    (tight call.one.before (subst (λ v. At v.replicas c.args.replica call.one.before) c.self.view_is call.one.was))))
+
+pub returns-in-Some-clause-thawed : goal.returns-in-Some-clause-thawed
+returns-in-Some-clause-thawed g c = λ none m e. some_none (sym c.in-Some.is ∙ ap (λ v. v.frozen) c.self.view_is ∙ none)
+
+pub returns-in-Err-clause-thawed : goal.returns-in-Err-clause-thawed
+returns-in-Err-clause-thawed g c = λ none m e.
+    let after = (goal.at.returns-in-Err-clause-thawed g c).After-finish_at in
+    let call = called_with c.in-Err.is (called g after) in
+    let same : c.unfinished_by-unfinished.result.fault ≡ logical.ReadOnly m = cc in
+    called_thawed c.self.inside.settings c.self.inside.number c.in-Err.unswapped call m (ap (λ (u : Unfinished). u.fault) (sym c.unfinished_by-unfinished.ensures) ∙ same)

@@ -1,8 +1,9 @@
 use Rattle.std.proofs.Common.{◌≡◌, ◌<◌, ℕ, length, Ok, Err, inl, refl, sym, ap, subst, ◌∙◌, arith}
-use Rattle.std.specs.Prelude.{IfErr, IfOk}
+use Rattle.std.specs.Prelude.{IfErr, IfOk, OnOk, false}
 use Rattle.std.specs.Vec.{with_items}
 use Rattle.std.proofs.lemmas.List.{with_items_is}
-use Rattle.hay_physical.specs.Copies.{Copy, IsUp}
+use Rattle.hay_legal.specs.Known.{machine_of}
+use Rattle.hay_physical.specs.Copies.{Copy, IsUp, is_stuck}
 use Rattle.hay_logical.specs.Answers.{DeleteRefused, FlushRefused, HasFailed, IsDeleted, IsFlushed, IsPut, PutRefused}
 use Rattle.hay_logical.specs.Answers as answers
 use Rattle.hay_logical.specs.Fits.{At}
@@ -13,8 +14,13 @@ use Rattle.hay_logical.proofs.Calls.{open_up, reach_still, up_open, up_thawed}
 use Rattle.hay_logical.proofs.Lists.{at_below, at_same, at_there}
 use Rattle.hay_logical.proofs.Methods.{one_after, one_count, one_each, other_same, same_by, same_still, shaped_on}
 use Rattle.hay_logical.proofs.Standing.{volume_with}
-use Rattle.hay_logical.proofs.Changing.{flush_cause, flush_refused, flushed, not_some}
+use Rattle.hay_logical.proofs.Changing.{flush_cause, flush_refused, flushed, not_some, some_none}
 use Rattle.hay_logical.proofs.Reaching.{same_rows}
+use Rattle.hay_logical.specs.declared.fault.LogicalFault.{LogicalFault}
+use Rattle.hay_logical.proofs.Untouched.{flush_sticks, flush_stuck, flush_untouched, one_untouched}
+use Rattle.hay_logical.specs.declared.fault.LogicalFault.TheVariants as logical
+use Rattle.hay_logical.specs.Refusals.{FlushSticks, IsUntouchedBy}
+use Rattle.hay_logical.proofs.Tightness.{tight_flushed, tight_one}
 use Rattle.hay_logical.proofs.logical.Logical.flush.Goals as goal
 use Rattle.hay_logical.proofs.logical.Logical.flush.Goals.{in-Ok, in-Err}
 
@@ -185,3 +191,91 @@ returns-clause-others g c = λ j apart r r' e f.
 
 pub returns-in-Some-clause-others : goal.returns-in-Some-clause-others
 returns-in-Some-clause-others g c = λ j apart r r' e f. at_same c.args.self.now.replicas j r' r f e
+
+pub returns-clause-untouched : goal.returns-clause-untouched
+returns-clause-untouched g c =
+    let now = c.as_mut_slice.ensures.value in
+    let kept = with_items_is c.self.inside.replicas c.flush_at.new.replicas (c.flush_at.auto.replicas ∙ c.as_mut_slice.ensures.len) in
+    let one : CallsOne c.args.replica c.self.inside.replicas.items c.flush_at.new.replicas = subst (λ xs. CallsOne c.args.replica xs c.flush_at.new.replicas) now c.flush_at.ensures.one in
+    elim c.match-flush_at.branch [
+      | in-Ok w ↦ rw w.result-is tt
+      | in-Err w ↦
+          let step : FlushesAt g.D.Disk.Tells g.D.Disk.files g.D.Disk.fault_count one.before one.after (Err w.in-Err.fault) =
+          subst (λ x. FlushesAt g.D.Disk.Tells g.D.Disk.files g.D.Disk.fault_count one.before one.after x) w.in-Err.is
+          (c.flush_at.ensures.flushes one.before one.after (subst (λ xs. At xs c.args.replica one.before) (sym now) one.was) (one_after c.args.replica c.self.inside.replicas.items c.flush_at.new.replicas one)) in
+          let new : Volume g.row.D.Denot g.row.D-Piece.Denot = volume_with c.self.inside.settings c.self.inside.number (with_items c.self.inside.replicas c.flush_at.new.replicas).items c.self.inside.rows c.self.inside.front c.self.inside.frozen c.self.inside.unsure in
+          subst (λ r. IfErr r (λ (f : LogicalFault). IsUntouchedBy f → new ≡ c.args.self.now)) (sym w.result-is)
+          (subst (λ (f : LogicalFault). IsUntouchedBy f → new ≡ c.args.self.now) (sym w.answer_at.ensures)
+          (λ by. ap (λ rs. volume_with c.self.inside.settings c.self.inside.number rs c.self.inside.rows c.self.inside.front c.self.inside.frozen c.self.inside.unsure)
+          (kept ∙ one_untouched c.args.replica c.self.inside.replicas.items c.flush_at.new.replicas one (flush_untouched g.D.Disk.fault_count one.before one.after c.machine_of-machine.result w.in-Err.fault step.cause by)) ∙ c.self.view_is))
+    ]
+
+pub returns-in-Some-clause-stuck_index : goal.returns-in-Some-clause-stuck_index
+returns-in-Some-clause-stuck_index g c = λ none m e. some_none (sym c.in-Some.is ∙ ap (λ v. v.frozen) c.self.view_is ∙ none)
+
+pub returns-clause-stuck_index : goal.returns-clause-stuck_index
+returns-clause-stuck_index g c = λ none m e.
+    let now = c.as_mut_slice.ensures.value in
+    let one : CallsOne c.args.replica c.self.inside.replicas.items c.flush_at.new.replicas = subst (λ xs. CallsOne c.args.replica xs c.flush_at.new.replicas) now c.flush_at.ensures.one in
+    elim c.match-flush_at.branch [
+      | in-Ok w ↦ let wrong = sym w.result-is ∙ e in absurd cc
+      | in-Err w ↦
+          let step : FlushesAt g.D.Disk.Tells g.D.Disk.files g.D.Disk.fault_count one.before one.after (Err w.in-Err.fault) =
+          subst (λ x. FlushesAt g.D.Disk.Tells g.D.Disk.files g.D.Disk.fault_count one.before one.after x) w.in-Err.is
+          (c.flush_at.ensures.flushes one.before one.after (subst (λ xs. At xs c.args.replica one.before) (sym now) one.was) (one_after c.args.replica c.self.inside.replicas.items c.flush_at.new.replicas one)) in
+          let said : Err w.answer_at.result ≡ Err (logical.ReadOnly m) = sym w.result-is ∙ e in
+          let is = flush_stuck g.D.Disk.fault_count one.before one.after c.machine_of-machine.result w.in-Err.fault m step.cause (sym w.answer_at.ensures ∙ (let same : w.answer_at.result ≡ logical.ReadOnly m = cc in same)) in (
+            is.0 ∙ c.machine_of-machine.ensures ∙ ap (λ (v : Volume g.row.D.Denot g.row.D-Piece.Denot). machine_of v.settings v.number c.args.replica) c.self.view_is,
+            λ r at. ap is_stuck (at_same c.self.inside.replicas.items c.args.replica r one.before (subst (λ v. At v.replicas c.args.replica r) (sym c.self.view_is) at) one.was) ∙ is.1,
+          )
+    ]
+
+pub returns-clause-loose : goal.returns-clause-loose
+returns-clause-loose g c =
+    let now = c.as_mut_slice.ensures.value in
+    let kept = with_items_is c.self.inside.replicas c.flush_at.new.replicas (c.flush_at.auto.replicas ∙ c.as_mut_slice.ensures.len) in
+    let one : CallsOne c.args.replica c.self.inside.replicas.items c.flush_at.new.replicas = subst (λ xs. CallsOne c.args.replica xs c.flush_at.new.replicas) now c.flush_at.ensures.one in
+    let there = one_after c.args.replica c.self.inside.replicas.items c.flush_at.new.replicas one in
+    elim c.match-flush_at.branch [
+      | in-Ok w ↦
+          let step : FlushesAt g.D.Disk.Tells g.D.Disk.files g.D.Disk.fault_count one.before one.after (Ok w.in-Ok.count) =
+          subst (λ x. FlushesAt g.D.Disk.Tells g.D.Disk.files g.D.Disk.fault_count one.before one.after x) w.in-Ok.is
+          (c.flush_at.ensures.flushes one.before one.after (subst (λ xs. At xs c.args.replica one.before) (sym now) one.was) there) in
+          subst (λ r. OnOk r ((x : Copy g.row.D.Denot) → At (with_items c.self.inside.replicas c.flush_at.new.replicas).items c.args.replica x → is_stuck x ≡ false)) (sym w.result-is)
+          (λ x f. ap is_stuck (at_same c.flush_at.new.replicas c.args.replica x one.after (subst (λ xs. At xs c.args.replica x) kept f) there) ∙ step.loose.1)
+      | in-Err w ↦ rw w.result-is tt
+    ]
+
+pub returns-clause-stuck : goal.returns-clause-stuck
+returns-clause-stuck g c =
+    let now = c.as_mut_slice.ensures.value in
+    let kept = with_items_is c.self.inside.replicas c.flush_at.new.replicas (c.flush_at.auto.replicas ∙ c.as_mut_slice.ensures.len) in
+    let one : CallsOne c.args.replica c.self.inside.replicas.items c.flush_at.new.replicas = subst (λ xs. CallsOne c.args.replica xs c.flush_at.new.replicas) now c.flush_at.ensures.one in
+    let there = one_after c.args.replica c.self.inside.replicas.items c.flush_at.new.replicas one in
+    elim c.match-flush_at.branch [
+      | in-Ok w ↦ rw w.result-is tt
+      | in-Err w ↦
+          let step : FlushesAt g.D.Disk.Tells g.D.Disk.files g.D.Disk.fault_count one.before one.after (Err w.in-Err.fault) =
+          subst (λ x. FlushesAt g.D.Disk.Tells g.D.Disk.files g.D.Disk.fault_count one.before one.after x) w.in-Err.is
+          (c.flush_at.ensures.flushes one.before one.after (subst (λ xs. At xs c.args.replica one.before) (sym now) one.was) there) in
+          let sticks : FlushSticks one.before one.after w.answer_at.result =
+          subst (λ (f : LogicalFault). FlushSticks one.before one.after f) (sym w.answer_at.ensures) (flush_sticks g.D.Disk.fault_count one.before one.after c.machine_of-machine.result w.in-Err.fault step.cause) in
+          subst (λ r. IfErr r (λ (fault : LogicalFault). (x y : Copy g.row.D.Denot) → At c.args.self.now.replicas c.args.replica x → At (with_items c.self.inside.replicas c.flush_at.new.replicas).items c.args.replica y → FlushSticks x y fault)) (sym w.result-is)
+          (λ x y e f.
+          subst (λ (z : Copy g.row.D.Denot). FlushSticks z y w.answer_at.result) (at_same c.self.inside.replicas.items c.args.replica one.before x one.was (subst (λ v. At v.replicas c.args.replica x) (sym c.self.view_is) e))
+          (subst (λ (z : Copy g.row.D.Denot). FlushSticks one.before z w.answer_at.result) (at_same c.flush_at.new.replicas c.args.replica one.after y there (subst (λ xs. At xs c.args.replica y) kept f)) sticks))
+    ]
+
+pub returns-clause-tight : goal.returns-clause-tight
+returns-clause-tight g c = λ tells j tight r' f.
+    let now = c.as_mut_slice.ensures.value in
+    let kept = with_items_is c.self.inside.replicas c.flush_at.new.replicas (c.flush_at.auto.replicas ∙ c.as_mut_slice.ensures.len) in
+    let one : CallsOne c.args.replica c.self.inside.replicas.items c.flush_at.new.replicas = subst (λ xs. CallsOne c.args.replica xs c.flush_at.new.replicas) now c.flush_at.ensures.one in
+    let there = one_after c.args.replica c.self.inside.replicas.items c.flush_at.new.replicas one in
+    let step : FlushesAt g.D.Disk.Tells g.D.Disk.files g.D.Disk.fault_count one.before one.after c.flush_at.result =
+    c.flush_at.ensures.flushes one.before one.after (subst (λ xs. At xs c.args.replica one.before) (sym now) one.was) there in
+    tight_one g.D.Disk.files c.args.replica c.self.inside.replicas.items c.flush_at.new.replicas one (tight_flushed g.D.Disk.files one.before one.after g.D.Disk.Tells g.D.Disk.fault_count tells c.flush_at.result step)
+    j (λ r e. tight r (subst (λ v. At v.replicas j r) c.self.view_is e)) r' (subst (λ xs. At xs j r') kept f)
+
+pub returns-in-Some-clause-stuck : goal.returns-in-Some-clause-stuck
+returns-in-Some-clause-stuck g c = λ r r' e f. ap is_stuck (at_same c.args.self.now.replicas c.args.replica r' r f e)

@@ -12,6 +12,7 @@ use Rattle.hay_logical.specs.Volumes.{CanReach, IsShaped, Volume}
 use Rattle.hay_logical.proofs.Reaching.{same_rows}
 use Rattle.hay_physical.specs.Copies as copies
 use Rattle.hay_logical.proofs.Standing.{volume_with}
+use Rattle.hay_logical.proofs.Tightness.{tight_fused, tight_one}
 use Rattle.hay_logical.proofs.logical.Logical.fuse.Goals as goal
 
 pub returns-clause-stands : goal.returns-clause-stands
@@ -121,3 +122,12 @@ returns-clause-same g c =
 
 pub returns-clause-still : goal.returns-clause-still
 returns-clause-still g c = ap (λ (v : Volume g.row.D.Denot g.row.D-Piece.Denot). record v { replicas = (with_items c.self.inside.replicas c.fuse_at.new.replicas).items }) c.self.view_is
+
+pub returns-clause-tight : goal.returns-clause-tight
+returns-clause-tight g c = λ tells j tight r' f.
+    let now = c.as_mut_slice.ensures.value in
+    let kept = with_items_is c.self.inside.replicas c.fuse_at.new.replicas (c.fuse_at.auto.replicas ∙ c.as_mut_slice.ensures.len) in
+    let one = c.fuse_at.ensures.one in
+    let step = c.fuse_at.ensures.fuses one.before one.after one.was (one_after c.args.replica c.as_mut_slice.result.now c.fuse_at.new.replicas one) in
+    tight_one g.D.Disk.files c.args.replica c.as_mut_slice.result.now c.fuse_at.new.replicas one (tight_fused g.D.Disk.files one.before one.after g.D.Disk.Tells g.D.Disk.fault_count tells g.D.Disk.fuse_count step)
+    j (λ r e. tight r (subst (λ v. At v.replicas j r) c.self.view_is (subst (λ xs. At xs j r) now e))) r' (subst (λ xs. At xs j r') kept f)

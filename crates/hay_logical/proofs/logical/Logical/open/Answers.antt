@@ -16,6 +16,7 @@ use Rattle.hay_logical.proofs.Methods.{same_by, shaped_on}
 use Rattle.hay_logical.proofs.Opened.{err_same, first_stands, no_damage, no_notes, not_damaged, notes_on, notes_tell, reopened, reopened_on}
 use Rattle.hay_logical.proofs.Standing.{volume_with}
 use Rattle.hay_logical.proofs.Freezing.{never_frozen}
+use Rattle.hay_logical.proofs.Formatting.{opened_formatted}
 use Rattle.hay_logical.proofs.logical.Logical.open.Goals as goal
 
 pub open_all-requires : goal.open_all-requires
@@ -336,3 +337,16 @@ returns-clause-drew g c = λ tells j r r' there here.
     let e : At c.self.inside.replicas.items j r = subst (λ (v : Volume g.row.D.Denot g.row.D-Piece.Denot). At v.replicas j r) (sym c.self.view_is) there in
     subst (λ (v : Volume g.row.D.Denot g.row.D-Piece.Denot). DrewAt g.D.Disk.files g.D.Disk.drawn (looked_pair v.unsure) r r') c.self.view_is
     (c.in-Ok.ensures.drew tells j r r' (subst (λ xs. At xs j r) (sym now) e) (subst (λ xs. At xs j r') kept here))
+
+pub returns-clause-formatted : goal.returns-clause-formatted
+returns-clause-formatted g c = λ tells j r' here.
+    let now = c.as_mut_slice.ensures.value in
+    let kept = with_items_is c.self.inside.replicas c.open_all.new.replicas (c.open_all.auto.replicas ∙ c.as_mut_slice.ensures.len) in
+    let olds = c.self.inside.replicas.items in
+    let news = c.open_all.new.replicas in
+    let count = c.open_all.ensures.counts.count ∙ ap length now in
+    let f : At news j r' = subst (λ xs. At xs j r') kept here in
+    let old = at_there olds j (let h = at_below news j r' f in let less : j < length olds = omega (arith, h, count) in less) in
+    let e = subst (λ xs. At xs j old.0) (sym now) old.1 in
+    opened_formatted g.D.Disk.Tells g.D.Disk.files g.D.Piece.Piece.Tells c.open_all.new.rows j old.0 r' _ refl (c.in-Ok.ensures.opened j old.0 r' e f)
+    (c.open_all.ensures.kept tells j old.0 r' e f) tells

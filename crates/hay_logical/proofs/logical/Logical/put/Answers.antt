@@ -1,5 +1,9 @@
-use Rattle.std.proofs.Common.{sym, ap, subst, ◌∙◌}
+use Rattle.std.proofs.Common.{◌≡◌, Err, sym, ap, subst, ◌∙◌}
+use Rattle.std.proofs.lemmas.Result.{err_from_is_err_and}
+use Rattle.hay_logical.specs.declared.fault.LogicalFault.{LogicalFault}
+use Rattle.hay_logical.specs.declared.fault.LogicalFault.TheVariants.{Failed}
 use Rattle.hay_logical.specs.Volumes.{IsOpenVolume, IsSame, KeepsCounts}
+use Rattle.hay_logical.specs.Steps.{KeepsStuck}
 use Rattle.hay_logical.proofs.logical.Logical.put.Goals as goal
 
 pub returns-clause-stored : goal.returns-clause-stored
@@ -22,3 +26,15 @@ write-requires g c = record { size = c.requires.size; «open» = c.requires.«op
 
 pub show-requires : goal.show-requires
 show-requires g c = c.in_ok-written.ensures.fits
+
+pub returns-clause-still : goal.returns-clause-still
+returns-clause-still g c = ap (λ v. v.frozen) c.show.ensures.still ∙ c.in_ok-written.ensures.still.frozen
+
+pub returns-clause-stuck : goal.returns-clause-stuck
+returns-clause-stuck g c = subst (λ v. KeepsStuck c.args.self.now.replicas v.replicas) (sym c.show.ensures.still) c.write.ensures.stuck
+
+pub returns-in_err-written-clause-above : goal.returns-in_err-written-clause-above
+returns-in_err-written-clause-above g c = λ m count e.
+    let fault = err_from_is_err_and c.from_residual.result c.from_residual.ensures.1 in
+    let same : c.in_err-written.field-0.0 ≡ Failed m count = (let both = sym fault.1 ∙ e in let is = fault.2 in cc) in
+    c.write.ensures.above m count (c.in_err-written.was ∙ ap (λ (f : LogicalFault). Err f) same)

@@ -124,3 +124,14 @@ returns-clause-takes g c = λ none fits.
     let room = fits c.in-Err.lacking.at l.replica there in
     let full = l.full in
     absurd (omega (arith, room, full))
+
+pub returns-in-Some-clause-thawed : goal.returns-in-Some-clause-thawed
+returns-in-Some-clause-thawed g c = λ none m e.
+    let both : Some c.in-Some.machine ≡ None = sym c.in-Some.is ∙ ap (λ (v : Volume g.row.D.Denot g.row.D-Piece.Denot). v.frozen) c.self.view_is ∙ none in
+    absurd cc
+
+pub returns-clause-thawed : goal.returns-clause-thawed
+returns-clause-thawed g c = λ none m e.
+    let l = c.in-Err.ensures.lacks in
+    let said = sym (c.answer_at.ensures ∙ ap (answer_at c.machine_of-machine.result) l.cause) in
+    absurd cc

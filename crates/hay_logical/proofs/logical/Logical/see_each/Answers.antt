@@ -5,11 +5,14 @@ use Rattle.hay_map.specs.Rows.{row_at}
 use Rattle.hay_logical.specs.declared.fault.LogicalFault.{LogicalFault}
 use Rattle.hay_logical.specs.Answers.{IsSightFault}
 use Rattle.hay_logical.proofs.Through.{cause_later, kept_more, kept_none, seen_more}
+use Rattle.hay_logical.proofs.Untouched.{stuck_more, stuck_same}
 use Rattle.hay_logical.proofs.logical.Logical.see_each.Goals as goal
 
 pub loop-replica-init : goal.loop-replica-init
 loop-replica-init g c = record {
   kept = kept_none g.D.Disk.Tells g.D.Disk.files g.D.Piece.Piece.Tells g.D.Disk.fault_count g.D.Disk.fuse_count c.args.self.now c.requires.«open»;
+  tight = λ tells k stands j tight. tight;
+  stuck = stuck_same c.args.self.now.replicas;
   seen = λ j h. let wrong : ⊥ = omega (arith, h) in absurd wrong;
 }
 
@@ -52,6 +55,8 @@ returns-in_err-see_in-clause-still g c =
 pub loop-replica-preserved : goal.loop-replica-preserved
 loop-replica-preserved g c = record {
   kept = kept_more g.D.Disk.Tells g.D.Disk.files g.D.Piece.Piece.Tells g.D.Disk.fault_count g.D.Disk.fuse_count c.args.self.now c.loop-replica.self c.see_in.new.self c.loop-replica.invariant.kept c.see_in.ensures.stands c.see_in.ensures.«open» c.see_in.ensures.counts c.see_in.ensures.same c.see_in.ensures.still c.see_in.ensures.runs c.see_in.ensures.files;
+  tight = λ tells k stands j tight. c.see_in.ensures.tight tells k (c.loop-replica.invariant.kept.stands tells k stands) j (c.loop-replica.invariant.tight tells k stands j tight);
+  stuck = stuck_more c.args.self.now.replicas c.loop-replica.self.replicas c.see_in.new.self.replicas c.loop-replica.invariant.kept.counts.count c.loop-replica.invariant.stuck c.see_in.ensures.stuck;
   seen = seen_more c.args.pair c.loop-replica.replica c.loop-replica.self.rows c.see_in.new.self.rows (row_at c.see_in.new.self.rows c.args.pair) c.in_ok-see_in.ensures.row refl c.in_ok-see_in.ensures.seen c.loop-replica.invariant.seen;
 }
 
@@ -89,3 +94,17 @@ returns-in_err-see_in-clause-files g c =
 
 pub returns-clause-files : goal.returns-clause-files
 returns-clause-files g c = c.loop-replica.invariant.kept.bytes
+
+pub returns-in_err-see_in-clause-stuck : goal.returns-in_err-see_in-clause-stuck
+returns-in_err-see_in-clause-stuck g c =
+    stuck_more c.args.self.now.replicas c.loop-replica.self.replicas c.see_in.new.self.replicas c.loop-replica.invariant.kept.counts.count c.loop-replica.invariant.stuck c.see_in.ensures.stuck
+
+pub returns-clause-stuck : goal.returns-clause-stuck
+returns-clause-stuck g c = c.loop-replica.invariant.stuck
+
+pub returns-in_err-see_in-clause-tight : goal.returns-in_err-see_in-clause-tight
+returns-in_err-see_in-clause-tight g c = λ tells k stands j tight.
+    c.see_in.ensures.tight tells k (c.loop-replica.invariant.kept.stands tells k stands) j (c.loop-replica.invariant.tight tells k stands j tight)
+
+pub returns-clause-tight : goal.returns-clause-tight
+returns-clause-tight g c = c.loop-replica.invariant.tight

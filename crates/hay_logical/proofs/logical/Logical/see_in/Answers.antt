@@ -22,6 +22,8 @@ use Rattle.hay_logical.proofs.Bytes.{files_one}
 use Rattle.hay_logical.proofs.Methods.{one_after, one_count, one_each, other_same, same_by, shaped_on}
 use Rattle.hay_logical.proofs.Sighting.{damaged_answer, failed_machine, known_seen, reach_seen, saw, seen_whole, sight_cause}
 use Rattle.hay_logical.proofs.Standing.{volume_with}
+use Rattle.hay_physical.specs.Copies.{is_stuck}
+use Rattle.hay_logical.proofs.Tightness.{tight_one, tight_seen}
 use Rattle.hay_logical.proofs.logical.Logical.see_in.Goals as goal
 use Rattle.hay_logical.proofs.logical.Logical.see_in.Goals.{in-Ok, in-Err}
 
@@ -245,3 +247,26 @@ returns-clause-files g c =
     subst (λ (v : Volume g.row.D.Denot g.row.D-Piece.Denot). KeepsFiles g.D.Disk.Tells g.D.Disk.files v.replicas (with_items c.self.inside.replicas c.see_at.new.replicas).items) c.self.view_is
     (subst (KeepsFiles g.D.Disk.Tells g.D.Disk.files c.self.inside.replicas.items) (sym kept)
     (files_one g.D.Disk.Tells g.D.Disk.files c.args.replica c.self.inside.replicas.items c.see_at.new.replicas one sights.keeps))
+
+pub returns-clause-stuck : goal.returns-clause-stuck
+returns-clause-stuck g c = λ j r r' e f.
+    let now = c.as_mut_slice.ensures.value in
+    let kept = with_items_is c.self.inside.replicas c.see_at.new.replicas (c.see_at.auto.replicas ∙ c.as_mut_slice.ensures.len) in
+    let one : CallsOne c.args.replica c.self.inside.replicas.items c.see_at.new.replicas = subst (λ xs. CallsOne c.args.replica xs c.see_at.new.replicas) now c.see_at.ensures.one in
+    let step : SightsAt g.D.Disk.Tells g.D.Disk.files g.D.Disk.fault_count g.D.Piece.Piece.Tells c.args.pair c.self.inside.rows c.see_at.new.rows c.args.replica one.before one.after c.see_at.result =
+    c.see_at.ensures.sights one.before one.after (subst (λ xs. At xs c.args.replica one.before) (sym now) one.was) (one_after c.args.replica c.self.inside.replicas.items c.see_at.new.replicas one) in
+    one_each (λ (x y : Copy g.row.D.Denot). is_stuck y ≡ is_stuck x) c.args.replica c.self.inside.replicas.items c.see_at.new.replicas one (ap (λ (x : Copy g.row.D.Denot). is_stuck x) step.copy) (λ x. refl)
+    j r r' (subst (λ v. At v.replicas j r) (sym c.self.view_is) e) (subst (λ xs. At xs j r') kept f)
+
+pub returns-clause-tight : goal.returns-clause-tight
+unfolding Stands
+returns-clause-tight g c = λ tells k stands j tight r' f.
+    let now = c.as_mut_slice.ensures.value in
+    let kept = with_items_is c.self.inside.replicas c.see_at.new.replicas (c.see_at.auto.replicas ∙ c.as_mut_slice.ensures.len) in
+    let one : CallsOne c.args.replica c.self.inside.replicas.items c.see_at.new.replicas = subst (λ xs. CallsOne c.args.replica xs c.see_at.new.replicas) now c.see_at.ensures.one in
+    let sights : SightsAt g.D.Disk.Tells g.D.Disk.files g.D.Disk.fault_count g.D.Piece.Piece.Tells c.args.pair c.self.inside.rows c.see_at.new.rows c.args.replica one.before one.after c.see_at.result =
+    c.see_at.ensures.sights one.before one.after (subst (λ xs. At xs c.args.replica one.before) (sym now) one.was) (one_after c.args.replica c.self.inside.replicas.items c.see_at.new.replicas one) in
+    tight_one g.D.Disk.files c.args.replica c.self.inside.replicas.items c.see_at.new.replicas one
+    (tight_seen c.self.inside.settings c.self.inside.number g.D.Disk.Tells g.D.Disk.files g.D.Piece.Piece.Tells g.D.Disk.fault_count c.self.inside.replicas.items c.self.inside.rows c.see_at.new.rows c.self.inside.front c.self.inside.unsure k tells
+    c.self.inside.frozen (subst (λ v. StandsFor g.D.Disk.files g.D.Piece.Piece.Tells v k) (sym c.self.view_is) stands) c.args.replica one.before one.after c.args.pair c.see_at.result one.was sights)
+    j (λ r e. tight r (subst (λ v. At v.replicas j r) c.self.view_is e)) r' (subst (λ xs. At xs j r') kept f)

@@ -6,17 +6,26 @@ use Rattle.hay_physical.specs.Copies.{Copy, IsUp, goal_of}
 use Rattle.hay_logical.specs.Answers.{StepRefused, IsStepped}
 use Rattle.hay_logical.specs.Answers as answers
 use Rattle.hay_logical.specs.Fits.{At}
-use Rattle.hay_logical.specs.Refusals.{answer_at}
+use Rattle.hay_logical.specs.Refusals.{IsUntouchedBy, answer_at}
 use Rattle.hay_logical.specs.Stands.{Stands, StandsFor}
 use Rattle.hay_logical.specs.Steps.{CallsOne, StaysInReach, StepsAt}
 use Rattle.hay_logical.specs.Volumes.{CanReach, IsShaped, KeepsCounts, IsMachineOf, Volume}
 use Rattle.hay_logical.proofs.Calls.{open_up, reach_still, up_open, up_thawed}
 use Rattle.hay_logical.proofs.Lists.{at_below, at_same, at_there}
 use Rattle.hay_logical.proofs.Methods.{one_after, one_count, one_each, other_same, same_by, same_still, shaped_on}
-use Rattle.hay_logical.proofs.Standing.{volume_with}
+use Rattle.hay_logical.proofs.Standing.{takes, volume_with}
 use Rattle.hay_logical.proofs.Changing.{not_some}
 use Rattle.hay_logical.proofs.Stepping.{none_there, stands_there, step_fault, step_refused, stepped_on}
 use Rattle.hay_logical.proofs.Reaching.{same_rows}
+use Rattle.hay_logical.specs.declared.fault.LogicalFault.{LogicalFault}
+use Rattle.hay_logical.proofs.Untouched.{answered_memory, one_untouched, step_thawed, step_untouched, stuck_same}
+use Rattle.hay_physical.specs.Copies.{is_stuck}
+use Rattle.hay_logical.proofs.Tightness.{tight_one, tight_partly, tight_stepped}
+use Rattle.hay_logical.specs.Stands.{RunsTight}
+use Rattle.std.specs.Prelude.{OnOk}
+use Rattle.hay_physical.specs.declared.fault.ReplicaFault.TheVariants as fault
+use Rattle.hay_logical.specs.declared.fault.LogicalFault.TheVariants as logical
+use Rattle.hay_logical.proofs.Changing.{some_none}
 use Rattle.hay_logical.proofs.logical.Logical.step.Goals as goal
 use Rattle.hay_logical.proofs.logical.Logical.step.Goals.{in-Ok, in-Err}
 
@@ -208,3 +217,103 @@ returns-in-Some-clause-others g c = λ j apart r r' e f. at_same c.args.self.now
 
 pub returns-then-is_none-clause-others : goal.returns-then-is_none-clause-others
 returns-then-is_none-clause-others g c = λ j apart r r' e f. at_same c.args.self.now.replicas j r' r f e
+
+pub returns-clause-untouched : goal.returns-clause-untouched
+returns-clause-untouched g c =
+    let now = c.as_mut_slice.ensures.value in
+    let kept = with_items_is c.self.inside.replicas c.step_at.new.replicas (c.step_at.auto.replicas ∙ c.as_mut_slice.ensures.len) in
+    let one : CallsOne c.args.replica c.self.inside.replicas.items c.step_at.new.replicas = subst (λ xs. CallsOne c.args.replica xs c.step_at.new.replicas) now c.step_at.ensures.one in
+    elim c.match-step_at.branch [
+      | in-Ok w ↦ rw w.result-is tt
+      | in-Err w ↦
+          let step : StepsAt g.D.Disk.Tells g.D.Disk.files g.D.Disk.fault_count g.D.Piece.Piece.Tells c.self.inside.rows c.args.replica c.args.cells one.before one.after (Err w.in-Err.fault) =
+          subst (λ x. StepsAt g.D.Disk.Tells g.D.Disk.files g.D.Disk.fault_count g.D.Piece.Piece.Tells c.self.inside.rows c.args.replica c.args.cells one.before one.after x) w.in-Err.is
+          (c.step_at.ensures.steps one.before one.after (subst (λ xs. At xs c.args.replica one.before) (sym now) one.was) (one_after c.args.replica c.self.inside.replicas.items c.step_at.new.replicas one)) in
+          let new : Volume g.row.D.Denot g.row.D-Piece.Denot = volume_with c.self.inside.settings c.self.inside.number (with_items c.self.inside.replicas c.step_at.new.replicas).items c.self.inside.rows c.self.inside.front c.self.inside.frozen c.self.inside.unsure in
+          subst (λ r. IfErr r (λ (f : LogicalFault). IsUntouchedBy f → new ≡ c.args.self.now)) (sym w.result-is)
+          (subst (λ (f : LogicalFault). IsUntouchedBy f → new ≡ c.args.self.now) (sym w.answer_at.ensures)
+          (λ by. ap (λ rs. volume_with c.self.inside.settings c.self.inside.number rs c.self.inside.rows c.self.inside.front c.self.inside.frozen c.self.inside.unsure)
+          (kept ∙ one_untouched c.args.replica c.self.inside.replicas.items c.step_at.new.replicas one (step_untouched g.D.Disk.fault_count one.before one.after c.machine_of-machine.result w.in-Err.fault step.cause by)) ∙ c.self.view_is))
+    ]
+
+pub returns-clause-stuck : goal.returns-clause-stuck
+returns-clause-stuck g c = λ j r r' e f.
+    let now = c.as_mut_slice.ensures.value in
+    let kept = with_items_is c.self.inside.replicas c.step_at.new.replicas (c.step_at.auto.replicas ∙ c.as_mut_slice.ensures.len) in
+    let one : CallsOne c.args.replica c.self.inside.replicas.items c.step_at.new.replicas = subst (λ xs. CallsOne c.args.replica xs c.step_at.new.replicas) now c.step_at.ensures.one in
+    let step : StepsAt g.D.Disk.Tells g.D.Disk.files g.D.Disk.fault_count g.D.Piece.Piece.Tells c.self.inside.rows c.args.replica c.args.cells one.before one.after c.step_at.result =
+    c.step_at.ensures.steps one.before one.after (subst (λ xs. At xs c.args.replica one.before) (sym now) one.was) (one_after c.args.replica c.self.inside.replicas.items c.step_at.new.replicas one) in
+    one_each (λ (x y : Copy g.row.D.Denot). is_stuck y ≡ is_stuck x) c.args.replica c.self.inside.replicas.items c.step_at.new.replicas one (step.on.stuck) (λ x. refl)
+    j r r' (subst (λ v. At v.replicas j r) (sym c.self.view_is) e) (subst (λ xs. At xs j r') kept f)
+
+pub returns-in-Some-clause-stuck : goal.returns-in-Some-clause-stuck
+returns-in-Some-clause-stuck g c = stuck_same c.args.self.now.replicas
+
+pub returns-then-is_none-clause-stuck : goal.returns-then-is_none-clause-stuck
+returns-then-is_none-clause-stuck g c = stuck_same c.args.self.now.replicas
+
+pub returns-clause-tight : goal.returns-clause-tight
+unfolding Stands
+returns-clause-tight g c = λ tells k stands j tight.
+    let now = c.as_mut_slice.ensures.value in
+    let kept = with_items_is c.self.inside.replicas c.step_at.new.replicas (c.step_at.auto.replicas ∙ c.as_mut_slice.ensures.len) in
+    let one : CallsOne c.args.replica c.self.inside.replicas.items c.step_at.new.replicas = subst (λ xs. CallsOne c.args.replica xs c.step_at.new.replicas) now c.step_at.ensures.one in
+    let there = one_after c.args.replica c.self.inside.replicas.items c.step_at.new.replicas one in
+    let step : StepsAt g.D.Disk.Tells g.D.Disk.files g.D.Disk.fault_count g.D.Piece.Piece.Tells c.self.inside.rows c.args.replica c.args.cells one.before one.after c.step_at.result =
+    c.step_at.ensures.steps one.before one.after (subst (λ xs. At xs c.args.replica one.before) (sym now) one.was) there in
+    let thawed = not_some c.self.inside.frozen c.in_default.not-Some in
+    let known = takes g.D.Disk.Tells g.D.Disk.files g.D.Piece.Piece.Tells c.self.inside.settings c.self.inside.number c.self.inside.replicas.items c.self.inside.rows c.self.inside.front c.self.inside.frozen c.self.inside.unsure k
+    (subst (λ v. StandsFor g.D.Disk.files g.D.Piece.Piece.Tells v k) (sym c.self.view_is) stands) thawed in
+    let was = known.each c.args.replica one.before one.was in
+    elim c.match-step_at.branch [
+      | in-Ok w ↦
+          let done : StepsAt g.D.Disk.Tells g.D.Disk.files g.D.Disk.fault_count g.D.Piece.Piece.Tells c.self.inside.rows c.args.replica c.args.cells one.before one.after (Ok w.in-Ok.number) =
+          subst (λ x. StepsAt g.D.Disk.Tells g.D.Disk.files g.D.Disk.fault_count g.D.Piece.Piece.Tells c.self.inside.rows c.args.replica c.args.cells one.before one.after x) w.in-Ok.is step in
+          subst (λ r. OnOk r ((x : Copy g.row.D.Denot) → At (with_items c.self.inside.replicas c.step_at.new.replicas).items j x → RunsTight g.D.Disk.files x)) (sym w.result-is)
+          (λ x f. tight_one g.D.Disk.files c.args.replica c.self.inside.replicas.items c.step_at.new.replicas one
+          (tight_stepped g.D.Disk.files one.before one.after g.D.Disk.Tells g.D.Disk.fault_count tells g.D.Piece.Piece.Tells c.self.inside.rows c.args.replica c.args.cells was.stored was.stands was.places w.in-Ok.number done)
+          j (λ r e. tight r (subst (λ v. At v.replicas j r) c.self.view_is e)) x (subst (λ xs. At xs j x) kept f))
+      | in-Err w ↦ rw w.result-is tt
+    ]
+
+pub returns-clause-tight_partly : goal.returns-clause-tight_partly
+unfolding Stands
+returns-clause-tight_partly g c = λ tells k stands j tight said x f.
+    let now = c.as_mut_slice.ensures.value in
+    let kept = with_items_is c.self.inside.replicas c.step_at.new.replicas (c.step_at.auto.replicas ∙ c.as_mut_slice.ensures.len) in
+    let one : CallsOne c.args.replica c.self.inside.replicas.items c.step_at.new.replicas = subst (λ xs. CallsOne c.args.replica xs c.step_at.new.replicas) now c.step_at.ensures.one in
+    let there = one_after c.args.replica c.self.inside.replicas.items c.step_at.new.replicas one in
+    let step : StepsAt g.D.Disk.Tells g.D.Disk.files g.D.Disk.fault_count g.D.Piece.Piece.Tells c.self.inside.rows c.args.replica c.args.cells one.before one.after c.step_at.result =
+    c.step_at.ensures.steps one.before one.after (subst (λ xs. At xs c.args.replica one.before) (sym now) one.was) there in
+    let thawed = not_some c.self.inside.frozen c.in_default.not-Some in
+    let known = takes g.D.Disk.Tells g.D.Disk.files g.D.Piece.Piece.Tells c.self.inside.settings c.self.inside.number c.self.inside.replicas.items c.self.inside.rows c.self.inside.front c.self.inside.frozen c.self.inside.unsure k
+    (subst (λ v. StandsFor g.D.Disk.files g.D.Piece.Piece.Tells v k) (sym c.self.view_is) stands) thawed in
+    let was = known.each c.args.replica one.before one.was in
+    elim c.match-step_at.branch [
+      | in-Ok w ↦ let wrong : Ok w.in-Ok.number ≡ Err logical.NoMemory = sym w.result-is ∙ said in absurd cc
+      | in-Err w ↦
+          let both : Err w.answer_at.result ≡ Err logical.NoMemory = sym w.result-is ∙ said in
+          let memory : w.in-Err.fault ≡ fault.NoMemory = answered_memory c.machine_of-machine.result w.in-Err.fault (sym w.answer_at.ensures ∙ (let same : w.answer_at.result ≡ logical.NoMemory = cc in same)) in
+          let done : StepsAt g.D.Disk.Tells g.D.Disk.files g.D.Disk.fault_count g.D.Piece.Piece.Tells c.self.inside.rows c.args.replica c.args.cells one.before one.after (Err fault.NoMemory) =
+          subst (λ x. StepsAt g.D.Disk.Tells g.D.Disk.files g.D.Disk.fault_count g.D.Piece.Piece.Tells c.self.inside.rows c.args.replica c.args.cells one.before one.after x) (w.in-Err.is ∙ ap Err memory) step in
+          tight_one g.D.Disk.files c.args.replica c.self.inside.replicas.items c.step_at.new.replicas one
+          (tight_partly g.D.Disk.files one.before one.after g.D.Disk.Tells g.D.Disk.fault_count tells g.D.Piece.Piece.Tells c.self.inside.rows c.args.replica c.args.cells was.stored was.stands was.places done)
+          j (λ r e. tight r (subst (λ v. At v.replicas j r) c.self.view_is e)) x (subst (λ xs. At xs j x) kept f)
+    ]
+
+pub returns-in-Some-clause-thawed : goal.returns-in-Some-clause-thawed
+returns-in-Some-clause-thawed g c = λ none m e. some_none (sym c.in-Some.is ∙ ap (λ v. v.frozen) c.self.view_is ∙ none)
+
+pub returns-clause-thawed : goal.returns-clause-thawed
+returns-clause-thawed g c = λ none m e.
+    let now = c.as_mut_slice.ensures.value in
+    let one : CallsOne c.args.replica c.self.inside.replicas.items c.step_at.new.replicas = subst (λ xs. CallsOne c.args.replica xs c.step_at.new.replicas) now c.step_at.ensures.one in
+    elim c.match-step_at.branch [
+      | in-Ok w ↦ let wrong = sym w.result-is ∙ e in absurd cc
+      | in-Err w ↦
+          let step : StepsAt g.D.Disk.Tells g.D.Disk.files g.D.Disk.fault_count g.D.Piece.Piece.Tells c.self.inside.rows c.args.replica c.args.cells one.before one.after (Err w.in-Err.fault) =
+          subst (λ x. StepsAt g.D.Disk.Tells g.D.Disk.files g.D.Disk.fault_count g.D.Piece.Piece.Tells c.self.inside.rows c.args.replica c.args.cells one.before one.after x) w.in-Err.is
+          (c.step_at.ensures.steps one.before one.after (subst (λ xs. At xs c.args.replica one.before) (sym now) one.was) (one_after c.args.replica c.self.inside.replicas.items c.step_at.new.replicas one)) in
+          let said : Err w.answer_at.result ≡ Err (logical.ReadOnly m) = sym w.result-is ∙ e in
+          step_thawed g.D.Disk.fault_count one.before one.after c.machine_of-machine.result w.in-Err.fault m step.cause (sym w.answer_at.ensures ∙ (let same : w.answer_at.result ≡ logical.ReadOnly m = cc in same))
+    ]

@@ -9,11 +9,11 @@ use Rattle.hay_map.specs.Rows.{KeepsRows}
 use Rattle.hay_physical.specs.Copies.{Copy, IsOpenCopy, IsUp}
 use Rattle.hay_logical.specs.declared.unsure.Change.TheVariants as change
 use Rattle.hay_logical.specs.declared.written.Written.{Written}
-use Rattle.hay_logical.specs.Answers.{HasRoom, PutRefused}
+use Rattle.hay_logical.specs.Answers.{HasRoom, IsRoomFault, PutRefused}
 use Rattle.hay_logical.specs.Answers as answers
 use Rattle.hay_logical.specs.Fits.{At}
 use Rattle.hay_logical.specs.Stands.{Stands, StandsFor}
-use Rattle.hay_logical.specs.Steps.{AllIdle, EndsRuns, PutLeaves, PutsAt, StaysInReach}
+use Rattle.hay_logical.specs.Steps.{AllIdle, EndsRuns, KeepsAbove, PutLeaves, PutsAt, StaysInReach}
 use Rattle.hay_logical.specs.Unshown.{IsWritten}
 use Rattle.hay_logical.specs.Volumes.{CanReach, IsShaped, KeepsCounts}
 use Rattle.hay_logical.proofs.Calls.{counted_same, keeps_counts, open_up, reach_still, up_open, up_thawed}
@@ -21,7 +21,6 @@ use Rattle.hay_logical.proofs.Dropping.{all_idle, not_untouched, still_runs}
 use Rattle.hay_logical.proofs.Lists.{at_below, at_same, at_there}
 use Rattle.hay_logical.proofs.Methods.{same_by, same_still, shaped_on}
 use Rattle.hay_logical.proofs.Standing.{volume_with}
-use Rattle.hay_logical.specs.Refusals.{IsUntouched}
 use Rattle.hay_logical.proofs.Changing.{put_remains, some_none}
 use Rattle.hay_logical.proofs.Reaching.{put_row, same_rows, seen_apart, seen_sees}
 use Rattle.hay_logical.proofs.Putting.{all_thawed, is_err_of, ok_of, put_cause_of, put_refused, room_cause, room_ok, room_refused, rows_kept, untouched}
@@ -29,7 +28,15 @@ use Rattle.hay_logical.proofs.Refusing.{refusal_breaks, refuses_put}
 use Rattle.hay_logical.proofs.Showing.{written}
 use Rattle.hay_logical.proofs.Telling.{put_broken, room_leaves}
 use Rattle.hay_logical.specs.Notes.{PutLeavesUnsure}
-use Rattle.hay_logical.proofs.Freezing.{frozen_refusal}
+use Rattle.hay_logical.proofs.Freezing.{frozen_refusal, put_freezes, room_freezes}
+use Rattle.hay_logical.specs.declared.fault.LogicalFault.{LogicalFault}
+use Rattle.hay_logical.specs.declared.fault.LogicalFault.TheVariants as logical
+use Rattle.hay_logical.proofs.Above.{above_put}
+use Rattle.hay_logical.specs.Refusals.{IsUntouched, PutFreezes}
+use Rattle.hay_logical.proofs.Untouched.{stuck_same}
+use Rattle.std.specs.Prelude.{OnErr}
+use Rattle.hay_logical.specs.Stands.{IsTightAt}
+use Rattle.hay_logical.proofs.Tightness.{tight_untouched}
 use Rattle.hay_logical.proofs.logical.Logical.write.Goals as goal
 
 pub put_each-requires : goal.put_each-requires
@@ -419,3 +426,102 @@ returns-in_err-room-clause-takes g c = λ none fits.
 
 pub returns-else-is_untouched-clause-takes : goal.returns-else-is_untouched-clause-takes
 returns-else-is_untouched-clause-takes g c = λ none fits. refusal_breaks c.self.inside.settings c.self.inside.number c.in-Err.broken.at c.in-Err.broken.fault c.put_refusal-refusal.result c.put_refusal-refusal.ensures
+
+pub returns-else-is_untouched-clause-above : goal.returns-else-is_untouched-clause-above
+returns-else-is_untouched-clause-above g c = λ m count e.
+    let now = c.as_mut_slice.ensures.value in
+    let kept = with_items_is c.self.inside.replicas c.put_each.new.replicas (c.put_each.auto.replicas ∙ c.as_mut_slice.ensures.len) in
+    let left : PutLeaves g.D.Disk.Tells g.D.Disk.files g.D.Disk.fault_count c.args.pair c.args.cookie c.args.bytes.now c.self.inside.replicas.items c.put_each.new.replicas c.in-Err.broken =
+    subst (λ xs. PutLeaves g.D.Disk.Tells g.D.Disk.files g.D.Disk.fault_count c.args.pair c.args.cookie c.args.bytes.now xs c.put_each.new.replicas c.in-Err.broken) now c.in-Err.ensures.broken in
+    let below = at_below c.self.inside.replicas.items c.in-Err.broken.at left.before left.was in
+    let few = (c.self.invariant.0).count in
+    let within : c.in-Err.broken.at < c.self.inside.settings.replicas = omega (arith, below, few) in
+    let said : c.put_refusal-refusal.result.fault ≡ logical.Failed m count = cc in
+    subst (λ v. KeepsAbove g.D.Disk.Tells g.D.Disk.files v.settings v.number m v.replicas (with_items c.self.inside.replicas c.put_each.new.replicas).items) c.self.view_is
+    (subst (λ rs. KeepsAbove g.D.Disk.Tells g.D.Disk.files c.self.inside.settings c.self.inside.number m c.self.inside.replicas.items rs) (sym kept)
+    (above_put g.D.Disk.Tells g.D.Disk.files c.self.inside.settings c.self.inside.number c.self.inside.replicas.items c.put_each.new.replicas c.in-Err.broken.at m count c.in-Err.broken.fault c.put_refusal-refusal.result
+    (c.self.invariant.0).settings within c.put_refusal-refusal.ensures said left.above))
+
+pub returns-in_err-room-clause-freezes : goal.returns-in_err-room-clause-freezes
+returns-in_err-room-clause-freezes g c =
+    subst (λ r. IfErr r (PutFreezes c.args.self.now.settings c.args.self.now.number c.args.self.now.frozen c.args.self.now.frozen)) (sym (is_err_of c.from_residual.result c.in_err-room.field-0.0 c.from_residual.ensures.1))
+    (room_freezes c.args.self.now.settings c.args.self.now.number c.args.self.now.frozen c.in_err-room.field-0.0 c.in_err-room.ensures.causes)
+
+pub returns-in_default-clause-freezes : goal.returns-in_default-clause-freezes
+returns-in_default-clause-freezes g c = inl refl
+
+pub returns-then-is_err-clause-freezes : goal.returns-then-is_err-clause-freezes
+returns-then-is_err-clause-freezes g c = inl (ap (λ v. v.frozen) c.self.view_is)
+
+pub returns-then-is_untouched-clause-freezes : goal.returns-then-is_untouched-clause-freezes
+returns-then-is_untouched-clause-freezes g c = inl (ap (λ v. v.frozen) c.self.view_is)
+
+pub returns-else-is_untouched-clause-freezes : goal.returns-else-is_untouched-clause-freezes
+returns-else-is_untouched-clause-freezes g c =
+    subst (λ v. PutFreezes v.settings v.number v.frozen (Some c.put_refusal-refusal.result.machine) c.put_refusal-refusal.result.fault) c.self.view_is
+    (put_freezes c.self.inside.settings c.self.inside.number c.in-Err.broken.at c.self.inside.frozen c.in-Err.broken.fault c.put_refusal-refusal.result c.put_refusal-refusal.ensures)
+
+pub returns-in_err-room-clause-above : goal.returns-in_err-room-clause-above
+returns-in_err-room-clause-above g c = λ m count e.
+    let said = subst (λ r. IfErr r (λ (f : LogicalFault). IsRoomFault c.args.self.now.settings c.args.self.now.number f)) (sym (is_err_of c.from_residual.result c.in_err-room.field-0.0 c.from_residual.ensures.1)) c.in_err-room.ensures.causes in
+    absurd (subst (λ r. IfErr r (λ (f : LogicalFault). IsRoomFault c.args.self.now.settings c.args.self.now.number f)) e said)
+
+pub returns-in_err-room-clause-stuck : goal.returns-in_err-room-clause-stuck
+returns-in_err-room-clause-stuck g c = stuck_same c.args.self.now.replicas
+
+pub returns-in_default-clause-stuck : goal.returns-in_default-clause-stuck
+returns-in_default-clause-stuck g c = stuck_same c.args.self.now.replicas
+
+pub returns-then-is_err-clause-stuck : goal.returns-then-is_err-clause-stuck
+returns-then-is_err-clause-stuck g c = λ j r r' e f. stuck_same c.self.inside.replicas.items j r r' (subst (λ v. At v.replicas j r) (sym c.self.view_is) e) f
+
+pub returns-in-Ok-clause-stuck : goal.returns-in-Ok-clause-stuck
+returns-in-Ok-clause-stuck g c = λ j r r' e f.
+    let now = c.as_mut_slice.ensures.value in
+    let kept = with_items_is c.self.inside.replicas c.put_each.new.replicas (c.put_each.auto.replicas ∙ c.as_mut_slice.ensures.len) in
+    (c.in-Ok.ensures.put j r r' (subst (λ xs. At xs j r) (sym now) (subst (λ v. At v.replicas j r) (sym c.self.view_is) e)) (subst (λ xs. At xs j r') kept f)).stuck
+
+pub returns-then-is_untouched-clause-stuck : goal.returns-then-is_untouched-clause-stuck
+returns-then-is_untouched-clause-stuck g c = λ j r r' e f.
+    let now = c.as_mut_slice.ensures.value in
+    let kept = with_items_is c.self.inside.replicas c.put_each.new.replicas (c.put_each.auto.replicas ∙ c.as_mut_slice.ensures.len) in
+    let thawed : c.self.inside.frozen ≡ None = ap (λ v. v.frozen) c.self.view_is ∙ c.in_ok-room.ensures.fits.0 in
+    let up : (j : ℕ) (r : Copy g.row.D.Denot) → At c.self.inside.replicas.items j r → IsUp r =
+    λ j r e. open_up r (c.requires.«open».each j r (subst (λ v. At v.replicas j r) c.self.view_is e)) ((c.self.invariant.0).thawed thawed j r e) in
+    let left : PutLeaves g.D.Disk.Tells g.D.Disk.files g.D.Disk.fault_count c.args.pair c.args.cookie c.args.bytes.now c.self.inside.replicas.items c.put_each.new.replicas c.in-Err.broken =
+    subst (λ xs. PutLeaves g.D.Disk.Tells g.D.Disk.files g.D.Disk.fault_count c.args.pair c.args.cookie c.args.bytes.now xs c.put_each.new.replicas c.in-Err.broken) now c.in-Err.ensures.broken in
+    (put_remains g.D.Disk.Tells g.D.Disk.files g.D.Disk.fault_count c.args.pair c.args.cookie c.args.bytes.now c.self.inside.replicas.items c.put_each.new.replicas c.in-Err.broken left up j r r'
+    (subst (λ v. At v.replicas j r) (sym c.self.view_is) e) (subst (λ xs. At xs j r') kept f)).stuck
+
+pub returns-else-is_untouched-clause-stuck : goal.returns-else-is_untouched-clause-stuck
+returns-else-is_untouched-clause-stuck g c = λ j r r' e f.
+    let now = c.as_mut_slice.ensures.value in
+    let kept = with_items_is c.self.inside.replicas c.put_each.new.replicas (c.put_each.auto.replicas ∙ c.as_mut_slice.ensures.len) in
+    let thawed : c.self.inside.frozen ≡ None = ap (λ v. v.frozen) c.self.view_is ∙ c.in_ok-room.ensures.fits.0 in
+    let up : (j : ℕ) (r : Copy g.row.D.Denot) → At c.self.inside.replicas.items j r → IsUp r =
+    λ j r e. open_up r (c.requires.«open».each j r (subst (λ v. At v.replicas j r) c.self.view_is e)) ((c.self.invariant.0).thawed thawed j r e) in
+    let left : PutLeaves g.D.Disk.Tells g.D.Disk.files g.D.Disk.fault_count c.args.pair c.args.cookie c.args.bytes.now c.self.inside.replicas.items c.put_each.new.replicas c.in-Err.broken =
+    subst (λ xs. PutLeaves g.D.Disk.Tells g.D.Disk.files g.D.Disk.fault_count c.args.pair c.args.cookie c.args.bytes.now xs c.put_each.new.replicas c.in-Err.broken) now c.in-Err.ensures.broken in
+    (put_remains g.D.Disk.Tells g.D.Disk.files g.D.Disk.fault_count c.args.pair c.args.cookie c.args.bytes.now c.self.inside.replicas.items c.put_each.new.replicas c.in-Err.broken left up j r r'
+    (subst (λ v. At v.replicas j r) (sym c.self.view_is) e) (subst (λ xs. At xs j r') kept f)).stuck
+
+pub returns-in_err-room-clause-tight : goal.returns-in_err-room-clause-tight
+returns-in_err-room-clause-tight g c = λ tells j tight.
+    subst (λ r. OnErr r (c.args.self.now.unsure ≡ c.args.self.now.unsure → IsTightAt g.D.Disk.files c.args.self.now j)) (sym (is_err_of c.from_residual.result c.in_err-room.field-0.0 c.from_residual.ensures.1)) (λ same. tight)
+
+pub returns-then-is_err-clause-tight : goal.returns-then-is_err-clause-tight
+returns-then-is_err-clause-tight g c = λ tells j tight same r e. tight r (subst (λ v. At v.replicas j r) c.self.view_is e)
+
+pub returns-then-is_untouched-clause-tight : goal.returns-then-is_untouched-clause-tight
+returns-then-is_untouched-clause-tight g c = λ tells j tight same r' f.
+    let now = c.as_mut_slice.ensures.value in
+    let kept = with_items_is c.self.inside.replicas c.put_each.new.replicas (c.put_each.auto.replicas ∙ c.as_mut_slice.ensures.len) in
+    let thawed : c.self.inside.frozen ≡ None = ap (λ v. v.frozen) c.self.view_is ∙ c.in_ok-room.ensures.fits.0 in
+    let up : (j : ℕ) (r : Copy g.row.D.Denot) → At c.self.inside.replicas.items j r → IsUp r =
+    λ j r e. open_up r (c.requires.«open».each j r (subst (λ v. At v.replicas j r) c.self.view_is e)) ((c.self.invariant.0).thawed thawed j r e) in
+    let left : PutLeaves g.D.Disk.Tells g.D.Disk.files g.D.Disk.fault_count c.args.pair c.args.cookie c.args.bytes.now c.self.inside.replicas.items c.put_each.new.replicas c.in-Err.broken =
+    subst (λ xs. PutLeaves g.D.Disk.Tells g.D.Disk.files g.D.Disk.fault_count c.args.pair c.args.cookie c.args.bytes.now xs c.put_each.new.replicas c.in-Err.broken) now c.in-Err.ensures.broken in
+    let un : IsUntouched c.put_each.new.replicas c.in-Err.broken = subst (λ xs. IsUntouched xs c.in-Err.broken) (c.as_slice-in-Err.ensures.value ∙ kept) (c.is_untouched.ensures.untouched c.if-is_untouched.true) in
+    let still = still_runs g.D.Disk.Tells g.D.Disk.files c.self.inside.replicas.items c.put_each.new.replicas c.in-Err.broken (subst (λ xs. EndsRuns g.D.Disk.Tells g.D.Disk.files xs c.put_each.new.replicas c.in-Err.broken) now c.in-Err.ensures.runs) un in
+    tight_untouched g.D.Disk.Tells g.D.Disk.files g.D.Disk.fault_count c.args.pair c.args.cookie c.args.bytes.now c.self.inside.replicas.items c.put_each.new.replicas c.in-Err.broken left un still up tells
+    (c.put_each.ensures.counts.count ∙ ap length now) j (λ r e. tight r (subst (λ v. At v.replicas j r) c.self.view_is e)) r' (subst (λ xs. At xs j r') kept f)

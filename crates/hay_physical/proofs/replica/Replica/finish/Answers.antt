@@ -1,12 +1,13 @@
-use Rattle.std.proofs.Common.{◌≡◌, inl, inr, Bool, sym, ap, subst}
+use Rattle.std.proofs.Common.{◌≡◌, inl, inr, Bool, refl, sym, ap, subst, ◌∙◌}
 use Rattle.std.specs.Prelude.{OnOk}
 use Rattle.std.proofs.lemmas.Bool.{cases_Bool}
 use Rattle.hay_disk.specs.Disk.{FileState}
 use Rattle.hay_volume.specs.declared.volume.VolumeFile.{VolumeFile}
 use Rattle.hay_physical.specs.declared.state.OpenFiles.{OpenFiles}
+use Rattle.hay_physical.specs.declared.state.Phase.TheVariants.{Open}
 use Rattle.hay_physical.specs.Replicas.{MayFind, MayFlag}
 use Rattle.hay_open.specs.Stored.{index_file, volume_file}
-use Rattle.hay_physical.specs.Copies.{Copy, generation_of, phase_generation}
+use Rattle.hay_physical.specs.Copies.{Copy, copied_of, generation_of, phase_copied, phase_generation}
 use Rattle.hay_physical.specs.Runs.{RemovedBoth}
 use Rattle.hay_physical.proofs.Openings.{on_any}
 use Rattle.hay_physical.proofs.Standing.{on_err}
@@ -111,3 +112,12 @@ returns-clause-sees g c = λ tells.
 
 pub returns-clause-shows : goal.returns-clause-shows
 returns-clause-shows g c = λ tells. always_ok c.finish.result _ (λ s stands. stands_shows g.D.Disk.files _ s stands)
+
+pub returns-clause-counted : goal.returns-clause-counted
+returns-clause-counted g c = λ tells.
+    let was = c.self.inside in
+    on_ok_one c.finish.result _ _
+    (λ counted t stands.
+    let f = files_stand g.D.Disk.files (record { sup = was.sup; disk = c.finish.new.disk; phase = Open c.finish.new.self }) was.sup c.finish.new.disk (Open c.finish.new.self) c.finish.new.self t refl refl stands in
+    counted was.sup t f ∙ sym (ap phase_copied c.in-Open.is) ∙ ap (λ (r : Copy _). copied_of r) c.self.view_is)
+    (c.finish.ensures.counted tells)

@@ -1,10 +1,11 @@
-use Rattle.std.proofs.Common.{◌≡◌, refl, sym, ◌∙◌}
+use Rattle.std.proofs.Common.{◌≡◌, refl, sym, ap, ◌∙◌}
 use Rattle.hay_compact.specs.Copying.{stored_of}
 use Rattle.hay_physical.specs.declared.state.Copier.TheVariants.{Standing}
-use Rattle.hay_physical.proofs.Views.{if_ok_so, on_err_so}
+use Rattle.hay_physical.proofs.Views.{if_ok_so, on_err_so, on_ok_one}
 use Rattle.hay_physical.proofs.RunLaws.{copying_at, stand_with}
 use Rattle.hay_physical.proofs.SwapLaws.{run_swaps, run_tight}
 use Rattle.hay_compact.proofs.Copyings.{making_of}
+use Rattle.hay_physical.specs.Copies.{copier_copied}
 use Rattle.hay_physical.proofs.state.OpenFiles.finish.Goals as goal
 
 pub returns-in-Standing-clause-swapped : goal.returns-in-Standing-clause-swapped
@@ -37,3 +38,10 @@ returns-in-Standing-clause-unsure g c = λ tells sup s run going f r none.
       finds frozen,
     ))
     (c.make_current-answer.ensures.unsure tells sup s r.fresh (stand_with sup files opened _ s f refl) (making_of sup files opened.volume c.in-Standing.compactor s.cells r.fresh r.examined h))
+
+pub returns-in-Standing-clause-counted : goal.returns-in-Standing-clause-counted
+returns-in-Standing-clause-counted g c = λ tells.
+    let is : c.args.self.now.copier ≡ Standing c.in-Standing.compactor = sym c.replace.ensures.value ∙ c.in-Standing.is in
+    on_ok_one c.make_current-answer.result _ _
+    (λ counted sup t f. counted sup t (stand_with sup (g.D.Disk.files c.make_current-answer.new.disk) _ c.make_current-answer.new.self t f refl) ∙ sym (ap copier_copied is))
+    (c.make_current-answer.ensures.counted tells)

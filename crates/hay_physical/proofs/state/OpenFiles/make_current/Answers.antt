@@ -5,9 +5,9 @@ use Rattle.hay_disk.specs.Gate.{IsGate}
 use Rattle.hay_head.specs.Head.{head_magic, row_place}
 use Rattle.hay_physical.specs.declared.state.OpenFiles.{OpenFiles}
 use Rattle.hay_physical.specs.Replicas.{FilesReady, FilesStand}
-use Rattle.hay_physical.proofs.Views.{by_result, if_ok, if_ok_unit, on_ok_both, on_ok_one}
+use Rattle.hay_physical.proofs.Views.{by_result, if_ok, if_ok_on, if_ok_unit, on_ok_both, on_ok_one}
 use Rattle.hay_physical.proofs.Standing.{on_err}
-use Rattle.hay_physical.proofs.SwapLaws.{made_kept, old_apart, old_index_apart, swap_finds, swap_flags, swap_ready, swap_stands, unfrozen_ready, unfrozen_stands}
+use Rattle.hay_physical.proofs.SwapLaws.{made_kept, old_apart, old_index_apart, swap_counts, swap_finds, swap_flags, swap_ready, swap_stands, unfrozen_ready, unfrozen_stands}
 use Rattle.hay_physical.proofs.Removing.{removed_since}
 use Rattle.hay_compact.specs.Finishing.{IsSeen}
 use Rattle.hay_map.specs.Rows.{last_place}
@@ -95,3 +95,14 @@ returns-in-Ok-clause-seen g c = λ tells.
     let m = c.requires.making tells in
     let fin = c.in-Ok.ensures.finished tells m.sup m.fresh m.making in
     if_ok_so c.swap.result _ _ (λ places is pair. subst (λ x. IsSeen (last_place x.items pair place.Gone)) (sym is.0) (fin.seen pair)) c.swap.ensures.swapped
+
+pub returns-in-Ok-clause-counted : goal.returns-in-Ok-clause-counted
+returns-in-Ok-clause-counted g c = λ tells.
+    let files = g.D.Disk.files in
+    let m = c.requires.making tells in
+    let fin = c.in-Ok.ensures.finished tells m.sup m.fresh m.making in
+    if_ok_on c.swap.result _ _ _
+    (λ places is but sup t f.
+    swap_counts g.D.Piece.Piece.Tells m.sup sup (files c.finish.new.disk) (files c.swap.new.disk) c.args.self.now c.swap.new.self t c.args.compactor m.fresh c.in-Ok.finished fin is.1
+    (made_kept (files c.args.disk.now) (files c.finish.new.disk) (files c.swap.new.disk) c.args.self.now c.args.compactor (c.requires.ready tells) c.requires.next but) m.making.noted f)
+    c.swap.ensures.swapped (c.swap.ensures.others tells)

@@ -1,0 +1,9 @@
+pub mod Lists
+pub mod Ending
+pub mod Noting
+pub mod Legal
+pub mod Chaining
+pub mod Knowing
+pub mod Working
+pub mod Running
+pub mod Giving

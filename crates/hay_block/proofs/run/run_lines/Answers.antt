@@ -1,0 +1,45 @@
+use Rattle.std.proofs.Common.{rules, ◌≡◌, List, Vec, Global, length, map, sym, ap, subst, ◌∙◌, arith}
+use Rattle.std.proofs.lemmas.List.{length-map}
+use Rattle.hay_reply.specs.declared.Reply.{Reply}
+use Rattle.hay_lanes.specs.Lanes.{AnswersLanes}
+use Rattle.hay_lane.specs.declared.lane.Lane.{Lane}
+use Rattle.hay_block.specs.declared.worker.Job.{Job}
+use Rattle.hay_block.specs.declared.worker.LaneWorker.{LaneWorker}
+use Rattle.hay_block.proofs.Running.{as_many, by_lane, lane_of, lanes_answer, lanes_are, may_answer}
+use Rattle.hay_block.proofs.run.run_lines.Goals as goal
+
+pub run_lanes-requires-clause-may : goal.run_lanes-requires-clause-may
+run_lanes-requires-clause-may g c κs within =
+    may_answer c.args.shared.now g.V.VolumeCalls.fits g.D.DirectoryCalls.fits c.workers_of-workers.result.items c.args.lanes.items c.args.jobs.now
+    c.workers_of-workers.ensures c.requires.seated c.requires.served
+
+pub lanes_of-requires : goal.lanes_of-requires
+lanes_of-requires g c =
+    let stay = c.in-Ok-run_lanes.ensures.answered.workers_stay in
+    let many = as_many c.args.shared.now c.workers_of-workers.result.items c.args.lanes.items c.workers_of-workers.ensures in
+    (search rules, omega (arith, stay, many, c.in-Ok-run_lanes.workers.ok.0, c.args.lanes.ok.0, c.in-Ok-with_capacity.ensures.capacity, c.len-2.ensures))
+
+pub lanes_of-requires-in-Err : goal.lanes_of-requires-in-Err
+lanes_of-requires-in-Err g c =
+    let many = as_many c.args.shared.now c.workers_of-workers.result.items c.args.lanes.items c.workers_of-workers.ensures in
+    let same = ap length c.in-Err.ensures.refused in
+    (search rules, omega (arith, same, many, c.in-Err.workers.ok.0, c.args.lanes.ok.0, c.in-Ok-with_capacity.ensures.capacity, c.len-2.ensures))
+
+pub returns-in-Ok-run_lanes-clause-answered : goal.returns-in-Ok-run_lanes-clause-answered
+returns-in-Ok-run_lanes-clause-answered g c =
+    let jobs : List (List Job) = map (λ (v : Vec Job Global). v.items) c.args.jobs.now in
+    let replies : List (List Reply) = map (λ (v : Vec Reply Global). v.items) c.in-Ok-run_lanes.replies.items in
+    let workers : List (LaneWorker g.row.V.Denot g.row.D.Denot g.row.S.Denot g.row.T.Denot g.row.A.Denot) = c.workers_of-workers.result.items in
+    let many = as_many c.args.shared.now workers c.args.lanes.items c.workers_of-workers.ensures in
+    let given : length jobs ≡ length workers = omega (arith, many, length-map c.args.jobs.now (λ (v : Vec Job Global). v.items), c.requires.lanes, c.args.lanes.ok.0) in
+    subst (λ (ls : List (Lane g.row.S.Denot g.row.T.Denot g.row.A.Denot)).
+    AnswersLanes (by_lane c.args.shared.now g.V.VolumeCalls.fits g.D.DirectoryCalls.fits g.V.VolumeCalls.is_at g.D.DirectoryCalls.is_at
+    g.V.VolumeCalls.sight g.D.DirectoryCalls.sight g.A.Arm.fault_count)
+    c.args.lanes.items jobs ls replies) (sym c.lanes_of.ensures)
+    (lanes_answer c.args.shared.now g.V.VolumeCalls.fits g.D.DirectoryCalls.fits g.V.VolumeCalls.is_at g.D.DirectoryCalls.is_at g.V.VolumeCalls.sight g.D.DirectoryCalls.sight g.A.Arm.fault_count
+    workers c.in-Ok-run_lanes.workers.items c.args.lanes.items jobs replies c.workers_of-workers.ensures given c.in-Ok-run_lanes.ensures.answered)
+
+pub returns-in-Err-clause-refused : goal.returns-in-Err-clause-refused
+returns-in-Err-clause-refused g c =
+    c.lanes_of-in-Err.ensures ∙ (ap (map (lane_of c.args.shared.now)) c.in-Err.ensures.refused
+    ∙ lanes_are c.args.shared.now c.workers_of-workers.result.items c.args.lanes.items c.workers_of-workers.ensures)

@@ -1,0 +1,29 @@
+//! A block of lines that lanes answer beside each other, over a lock for each volume and one for the Directory. Locks are made for one
+//! block and end with it, so nothing has happened where it begins, and all that happened is known where it ends.
+//!
+//! `give_seats` and `take_seats` bring the seats of a lock to their lanes and back, and `run_lines` answers all lines of all lanes, each
+//! by a `LaneWorker` and `hay_lane`. `specs/Ends` says what is known where the locks are made and where they end, `Behind` what stands
+//! then and which notes tell of it, and `Lines` and `Seats` what the lanes answer and where they sit. By `specs/Law` and `Lanes` the
+//! lines of such a block are legal, whatever the order in which the lanes came to the locks. `hay_meeting` asks for what follows, and
+//! has it from here:
+//!
+//! | what is asked | where it is known |
+//! |---|---|
+//! | one to eight lanes, and no line twice | the script that was read |
+//! | what stands before the lines, and that it is regular | what the store stands for; each lock tells what stood where it was made |
+//! | no lane has seen or done anything | a new lock's seats are new |
+//! | the counts of the arms, before and behind | what the store stands for; the arms come back with their lanes |
+//! | the lines are those of lanes, each from what its lane knew | what each worker answered, in the order of its jobs |
+//! | the acts at each lock are own acts of its seats, and begin with what each has seen | where a lock ends |
+//! | they may follow one another, and have a count for each replica | what stands behind a lock, where its disks tell |
+//! | what stands behind the lines | what those acts left, and the counts of disks behind them |
+//! | no count is above 2^64 - 1 | counts that are read behind the locks' end, since no act bounds them |
+#![tactic(auto)]
+
+mod run;
+mod seating;
+mod worker;
+
+pub use run::run_lines;
+pub use seating::{give_seats, take_seats};
+pub use worker::{Job, LaneWorker};

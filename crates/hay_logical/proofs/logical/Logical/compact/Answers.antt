@@ -1,0 +1,23 @@
+use Rattle.std.proofs.Common.{◌≡◌, Ok, Err, sym, ap, ◌∙◌}
+use Rattle.std.proofs.lemmas.Result.{err_from_is_err_and}
+use Rattle.hay_logical.specs.declared.fault.LogicalFault.{LogicalFault}
+use Rattle.hay_logical.specs.declared.fault.LogicalFault.TheVariants.{ReadOnly}
+use Rattle.hay_logical.proofs.logical.Logical.compact.Goals as goal
+
+pub returns-in_err-files-clause-frozen : goal.returns-in_err-files-clause-frozen
+returns-in_err-files-clause-frozen g c = λ m e.
+    let fault = err_from_is_err_and c.from_residual.result c.from_residual.ensures.1 in
+    let was = c.compact_files.ensures.frozen m e in
+    let same : c.in_err-files.field-0.0 ≡ ReadOnly m = (let both = sym c.in_err-files.was ∙ was.0 in cc) in
+    (fault.1 ∙ ap (λ (f : LogicalFault). Err f) (fault.2 ∙ same), was.1)
+
+pub returns-clause-frozen : goal.returns-clause-frozen
+returns-clause-frozen g c = λ m e.
+    let wrong : Ok c.in_ok-files.files ≡ Err (ReadOnly m) = sym c.in_ok-files.was ∙ (c.compact_files.ensures.frozen m e).0 in
+    absurd cc
+
+pub returns-in_err-files-clause-thawed : goal.returns-in_err-files-clause-thawed
+returns-in_err-files-clause-thawed g c = λ none m e.
+    let fault = err_from_is_err_and c.from_residual.result c.from_residual.ensures.1 in
+    let same : c.in_err-files.field-0.0 ≡ ReadOnly m = (let both = sym fault.1 ∙ e in let is = fault.2 in cc) in
+    c.compact_files.ensures.thawed none m (c.in_err-files.was ∙ ap (λ (f : LogicalFault). Err f) same)
