@@ -17,7 +17,7 @@ use Rattle.hay_legal.specs.Items.Asked.{Alone}
 use Rattle.hay_legal.specs.Transcript.{transcript_text}
 use Rattle.hay_audit_steps.specs.Judged.{Begins, Fits, FitsWhole, HasOtherHeader, IsAny, IsGreatest, IsUsed}
 use Rattle.hay_audit_steps.specs.Law.{IsExact}
-use Rattle.hay_audit_steps.specs.Wanting.{CanWant}
+use Rattle.hay_audit_steps.specs.Next.{next_plain}
 use Rattle.hay_audit_steps.specs.Reached.{AllAdvance, Candidate, Is, IsAdvance, IsNoRestart, Reached, candidate}
 use Rattle.hay_audit_steps.specs.Steps.{IsStep, plain_row}
 use Rattle.hay_audit_steps.proofs.Advancing.{exact_states_step, lines_advance, unread_lines_end}
@@ -25,8 +25,7 @@ use Rattle.hay_audit_steps.proofs.Judging.{fit_whole, other_header, some_fit, st
 use Rattle.hay_audit_steps.proofs.Laying.{any_left, any_right, each_both}
 use Rattle.hay_audit_steps.proofs.Loop.{advance_none, reached_more, reached_none}
 use Rattle.hay_audit_steps.proofs.Swaps.{plain_step}
-use Rattle.hay_audit_steps.proofs.Wanting.{wanting_step}
-use Rattle.hay_audit.specs.Outside.{IsInside, IsNotJudged, next_states}
+use Rattle.hay_audit.specs.Outside.{IsInside, IsNotJudged}
 use Rattle.hay_audit.specs.Behind.{IsBehind}
 
 -- ONE CANDIDATE
@@ -39,25 +38,18 @@ exact : (asked : Item) (r : Reply) → (IsNotJudged asked r → ⊥) → IsExact
 exact (item.Command (command.Finish v m)) (reply.Compacted v' m' g) judged = judged tt
 exact asked r judged = tt
 
-can : (asked : Item) → ((CanWant asked → ⊥) → ⊥) → CanWant asked
-can (item.Command (command.Step v m cells)) judged = judged (λ lie. lie)
-can (item.Command (command.Finish v m)) judged = judged (λ lie. lie)
-can (item.Command (command.Restart pick)) judged = judged (λ lie. lie)
-can asked judged = tt
-
-line_step : (settings : Settings) (k : Known) (line : ℕ) (asked : Item) (r : Reply) → (IsNotJudged asked r → ⊥) → IsStep (plain_row settings line asked r) k (next_states settings line asked r k)
-line_step settings k line asked reply.NoMem judged = wanting_step settings k line asked (can asked judged)
-line_step settings k line asked r judged = plain_step settings k line asked r (λ e. cc) (exact asked r judged)
+known : (asked : Item) (r : Reply) → (IsNotJudged asked r → ⊥) → r ≢ reply.NoMem
+known asked r judged e = judged (subst (λ (x : Reply). IsNotJudged asked x) (sym e) tt)
 
 -- the states behind a line advance a candidate, behind the text of its reply
 pub line_advances : (settings : Settings) (line : ℕ) (asked : Item) (k : Known) (r : Reply) (text rest : List ℕ) (next : List Known) → IsInside asked → FitsReply r → (IsNotJudged asked r → ⊥)
-    → next ≡ next_states settings line asked r k → numbered_line line r ++ rest ≡ text
+    → next ≡ next_plain settings line asked r k → numbered_line line r ++ rest ≡ text
     → IsAdvance Is settings (Alone line asked) (candidate text k) (map (candidate rest) next)
 line_advances settings line asked k r text rest next inside fits judged is e =
     subst (λ (t : List ℕ). IsAdvance Is settings (Alone line asked) (candidate t k) (map (candidate rest) next)) e
     (lines_advance Is settings k line asked r rest next (no_restart asked inside) fits
     (exact_states_step (plain_row settings line asked r) k next
-    (subst (λ (ks : List Known). IsStep (plain_row settings line asked r) k ks) (sym is) (line_step settings k line asked r judged))))
+    (subst (λ (ks : List Known). IsStep (plain_row settings line asked r) k ks) (sym is) (plain_step settings k line asked r (known asked r judged) (exact asked r judged)))))
 
 pub unread_ends : (settings : Settings) (line : ℕ) (asked : Item) (c : Candidate Known) → ((r : Reply) (rest : List ℕ) → FitsReply r → numbered_line line r ++ rest ≢ c.rest) → IsAdvance Is settings (Alone line asked) c []
 unread_ends settings line asked c none = unread_lines_end Is settings c line asked none

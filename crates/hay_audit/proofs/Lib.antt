@@ -1,4 +1,3 @@
-pub mod ByPair
 pub mod Endings
 pub mod Heads
 pub mod Judging
@@ -11,7 +10,6 @@ pub mod Reading
 pub mod Refusing
 pub mod Slots
 pub mod Stopping
-pub mod Swapped
 pub mod Tables
 pub mod Takers
 pub mod Walking

@@ -10,10 +10,11 @@ use Rattle.hay_legal.specs.declared.known.Known.{Known}
 use Rattle.hay_legal.specs.declared.turn.Item.{Item}
 use Rattle.hay_legal.specs.Items.Asked.{Alone}
 use Rattle.hay_audit_steps.specs.Judged.{IsAny, IsUsed}
+use Rattle.hay_audit_steps.specs.Next.{next_plain}
 use Rattle.hay_audit_steps.specs.Reached.{Candidate as Kept, AllAdvance, Is, IsAdvance, candidate}
 use Rattle.hay_audit.specs.declared.judge.Candidate.{Candidate}
 use Rattle.hay_audit.specs.Candidates.{AreWithin, all_standing, placed, standing}
-use Rattle.hay_audit.specs.Outside.{IsInside, IsNotJudged, next_states}
+use Rattle.hay_audit.specs.Outside.{IsInside, IsNotJudged}
 use Rattle.hay_audit.proofs.Judging.{line_advances, one_more_advances, unread_ends}
 
 none_more : {X : Type 0} (xs : List X) → xs ≡ xs ++ []
@@ -46,7 +47,7 @@ Goes settings line asked transcript c old new =
     (next : List (Kept Known)) × (all_standing transcript new ≡ all_standing transcript old ++ next) × IsAdvance Is settings (Alone line asked) (standing transcript c) next
 
 pub goes_to : (settings : Settings) (line : ℕ) (asked : Item) (transcript text : List ℕ) (c : Candidate) (old new : List Candidate) (r : Reply) (behind : ℕ) (states : List Known)
-    → text ≡ drop c.at transcript → IsInside asked → FitsReply r → (IsNotJudged asked r → ⊥) → states ≡ next_states settings line asked r c.state → numbered_line line r ++ drop behind text ≡ text
+    → text ≡ drop c.at transcript → IsInside asked → FitsReply r → (IsNotJudged asked r → ⊥) → states ≡ next_plain settings line asked r c.state → numbered_line line r ++ drop behind text ≡ text
     → new ≡ old ++ map (placed (c.at + behind)) states → Goes settings line asked transcript c old new
 goes_to settings line asked transcript text c old new r behind states is inside fits judged made read added =
     let rest : drop (c.at + behind) transcript ≡ drop behind text = drop_twice c.at behind transcript ∙ ap (λ (xs : List ℕ). drop behind xs) (sym is) in (

@@ -1,5 +1,5 @@
 -- What is not judged yet.
-use Rattle.std.specs.Prelude.{ℕ, List, ◌^◌, ◌<◌, length}
+use Rattle.std.specs.Prelude.{◌^◌, ◌<◌, length}
 use Rattle.std.specs.List.{AllByRecursion as Each}
 use Rattle.hay_needle.specs.declared.settings.Settings.{Settings}
 use Rattle.hay_script.specs.declared.Command.{Command}
@@ -10,9 +10,7 @@ use Rattle.hay_legal.specs.declared.known.Known.{Known}
 use Rattle.hay_legal.specs.declared.turn.Item.{Item}
 use Rattle.hay_legal.specs.declared.turn.Item.TheVariants as item
 use Rattle.hay_legal.specs.Subject.{IsOf}
-use Rattle.hay_audit_steps.specs.Next.{next_plain}
-use Rattle.hay_audit_steps.specs.Wanting.{CanWant, next_wanting}
-use Rattle.hay_audit.specs.Sizes.{MayGrow, MaySwap}
+use Rattle.hay_audit.specs.Sizes.{MayGrow}
 
 -- a plain line that is no restart
 abbrev pub IsInside : Item → Type 0
@@ -22,19 +20,21 @@ IsInside asked = Unit {0}
 abbrev pub IsOutside : Item → Type 0
 IsOutside asked = IsInside asked → ⊥
 
-abbrev pub Finishes : Item → Type 0
-Finishes (item.Command (command.Finish v m)) = Unit {0}
-Finishes asked = ⊥
+-- a compaction in one command, or its end
+abbrev pub Compacts : Item → Type 0
+Compacts (item.Command (command.Compact v m)) = Unit {0}
+Compacts (item.Command (command.Finish v m)) = Unit {0}
+Compacts asked = ⊥
 
--- want of memory of a step or a finish of a compaction, and its finish
+-- want of memory, and a compaction that is done
 abbrev pub IsNotJudged : Item → Reply → Type 0
-IsNotJudged asked NoMem = CanWant asked → ⊥
-IsNotJudged asked (Compacted v m g) = Finishes asked
+IsNotJudged asked NoMem = Unit {0}
+IsNotJudged asked (Compacted v m g) = Compacts asked
 IsNotJudged asked reply = ⊥
 
--- some size of a replica is 2^63 or more, some photos take 2^64 bytes or more, or this is no store of these settings
+-- some size of a replica is 2^63 or more, or this is no store of these settings
 abbrev pub IsTooLarge : Settings → Known → Type 0
-IsTooLarge settings k = IsOf settings k → Each (λ volume. Each MayGrow volume.replicas) k.volumes → MaySwap k → ⊥
+IsTooLarge settings k = IsOf settings k → Each (λ volume. Each MayGrow volume.replicas) k.volumes → ⊥
 
 -- a photo whose length has 32 bits
 abbrev pub IsWithinItem : Item → Type 0
@@ -61,8 +61,3 @@ IsUnnamed (command.Drain m) = Unit {0}
 IsUnnamed (command.Undrain m) = Unit {0}
 IsUnnamed (command.FuseDir n) = Unit {0}
 IsUnnamed asked = ⊥
-
--- the states behind a line that was answered so
-abbrev pub next_states : Settings → ℕ → Item → Reply → Known → List Known
-next_states settings line asked NoMem k = next_wanting settings line asked k
-next_states settings line asked reply k = next_plain settings line asked reply k

@@ -3,7 +3,7 @@ use Rattle.hay_legal.specs.declared.known.ReplicaKnown.{ReplicaKnown}
 use Rattle.hay_legal.specs.Plain as plain
 use Rattle.hay_audit.specs.declared.replicas.Standing.{Standing}
 use Rattle.hay_audit.specs.declared.replicas.Change.{Change}
-use Rattle.hay_audit.specs.declared.replicas.Change.TheVariants.{Flushed, Stuck, Run, NoRun, Poised, Swapped}
+use Rattle.hay_audit.specs.declared.replicas.Change.TheVariants.{Flushed, Stuck, Run, NoRun, Poised}
 
 -- what is known of a replica, but for its photos and its end
 abbrev pub standing_by : ReplicaKnown → Standing
@@ -15,4 +15,3 @@ changed Stuck replica = plain.with_stuck replica
 changed (Run run) replica = plain.with_run run replica
 changed NoRun replica = plain.without_run replica
 changed Poised replica = plain.poised replica
-changed (Swapped end cells generation) replica = record (plain.swapped end cells replica) { generation = generation }

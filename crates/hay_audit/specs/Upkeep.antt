@@ -1,15 +1,11 @@
 -- What a line does with one replica, and what it may be answered.
-use Rattle.std.specs.Prelude.{ℕ, ◌+◌, ◌==◌, ◌&&◌, Bool, false, List, [], length}
+use Rattle.std.specs.Prelude.{ℕ, ◌+◌, ◌==◌, ◌&&◌, Bool, false, List}
 use Rattle.hay_needle.specs.declared.settings.Settings.{Settings}
 use Rattle.hay_reply.specs.declared.Reply.{Reply}
 use Rattle.hay_reply.specs.declared.Reply.TheVariants.{Busy, Compacted, Idle, ReadOnly, Worn}
 use Rattle.hay_legal.specs.declared.known.Known.{Known}
-use Rattle.hay_needle.specs.Tables.{live_end}
-use Rattle.hay_legal.specs.Known.{now, volume_at}
-use Rattle.hay_legal.specs.Plain.{as_it_is, change_replica, change_volume, replica_of, with_run}
-use Rattle.hay_legal.specs.Plain as plain
+use Rattle.hay_legal.specs.Plain.{change_replica, replica_of, with_run}
 use Rattle.hay_audit_steps.specs.Next as next
-use Rattle.hay_audit.specs.declared.swaps.Sizes.{Sizes}
 use Rattle.hay_audit.specs.declared.upkeep.Spot.{Spot}
 use Rattle.hay_audit.specs.declared.upkeep.Work.{Work}
 use Rattle.hay_audit.specs.declared.upkeep.Work.TheVariants.{Flush, Compact, Begin, Step, Finish, Fuse}
@@ -36,25 +32,6 @@ next_begun b spot v m g =
     && (next.is_resting b spot.volume spot.replica && (g == (replica_of b spot.volume spot.replica).generation + 1))))
     (change_replica b spot.volume spot.replica (with_run (record { goal = g; left = (replica_of b spot.volume spot.replica).cells })))
 
--- the sizes of a file with what stands on a replica, and no more
-abbrev pub tight_sizes : Known → ℕ → ℕ → Sizes
-tight_sizes b v j = record { end = live_end (now (volume_at b v) (replica_of b v j)); cells = length (now (volume_at b v) (replica_of b v j)) }
-
--- a replica with a new file of these sizes
-abbrev pub swapped : Known → ℕ → ℕ → Sizes → Known
-swapped b v j sizes = change_volume (change_replica b v j (plain.swapped sizes.end sizes.cells)) v as_it_is
-
-abbrev pub next_compacted : Known → Spot → ℕ → ℕ → ℕ → List Known
-next_compacted b spot v m g =
-    next.keep_if (next.names spot.volume spot.machine v m && (next.is_open b spot.volume
-    && (next.is_resting b spot.volume spot.replica && (g == (replica_of b spot.volume spot.replica).generation + 1))))
-    (swapped b spot.volume spot.replica (tight_sizes b spot.volume spot.replica))
-
--- behind any other reply to one
-abbrev pub next_uncompacted : Settings → Known → Spot → Reply → List Known
-next_uncompacted settings b spot (Compacted v m g) = []
-next_uncompacted settings b spot reply = next.next_compact settings b spot.volume spot.machine spot.replica reply
-
 abbrev pub next_work : Settings → Known → ℕ → ℕ → Work → ℕ → Reply → List Known
 next_work settings b v m Flush j reply = next.next_flush settings b v m j reply
 next_work settings b v m Compact j reply = next.next_compact settings b v m j reply
@@ -62,3 +39,12 @@ next_work settings b v m Begin j reply = next.next_begin settings b v m j reply
 next_work settings b v m (Step cells) j reply = next.next_step settings b v m j cells reply
 next_work settings b v m Finish j reply = next.next_finish settings b v m j reply
 next_work settings b v m (Fuse calls) j reply = next.next_fuse settings b v m j calls reply
+
+abbrev pub IsNotCompacted : Reply → Type 0
+IsNotCompacted (Compacted v m g) = ⊥
+IsNotCompacted reply = Unit {0}
+
+-- a compaction in one command was not answered that it is done
+abbrev pub IsExactWork : Work → Reply → Type 0
+IsExactWork Compact reply = IsNotCompacted reply
+IsExactWork work reply = Unit {0}

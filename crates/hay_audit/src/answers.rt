@@ -4,9 +4,8 @@ ghost use Rattle.std.specs.Prelude.{◌≡◌, ◌≢◌, ◌<◌, ◌≤◌, �
 ghost use Rattle.hay_reply.specs.declared.Reply.{Reply as ReplyOf};
 ghost use Rattle.hay_reply.specs.Fits.{FitsReply};
 ghost use Rattle.hay_reply.specs.Replies as texts;
-ghost use Rattle.hay_audit_steps.specs.Wanting.{CanWant};
 ghost use Rattle.hay_audit.specs.Feeds as feeds;
-ghost use Rattle.hay_audit.specs.Outside.{Finishes, IsNotJudged};
+ghost use Rattle.hay_audit.specs.Outside.{Compacts, IsNotJudged};
 
 use hay_base::NoMemory;
 use hay_legal::turn::Item;
@@ -21,24 +20,13 @@ pub(crate) struct Answer {
     pub behind: usize,
 }
 
-fn finishes(item: &Item) -> bool
-    ensures yes { IsTrue result → Finishes item.now }
-    ensures no { IsFalse result → Finishes item.now → ⊥ }
+fn compacts(item: &Item) -> bool
+    ensures yes { IsTrue result → Compacts item.now }
+    ensures no { IsFalse result → Compacts item.now → ⊥ }
 {
     match item {
-        Item::Command(Command::Finish { .. }) => true,
+        Item::Command(Command::Compact { .. } | Command::Finish { .. }) => true,
         Item::Bad | Item::Command(_) => false,
-    }
-}
-
-fn can_want(item: &Item) -> bool
-    ensures yes { IsTrue result → CanWant item.now }
-    ensures no { IsFalse result → CanWant item.now → ⊥ }
-{
-    match item {
-        Item::Command(Command::Step { .. } | Command::Finish { .. } | Command::Restart { .. }) =>
-            false,
-        Item::Bad | Item::Command(_) => true,
     }
 }
 
@@ -48,8 +36,8 @@ pub(crate) fn is_judged(item: &Item, reply: &Reply) -> bool
     ensures no { IsFalse result → IsNotJudged item.now reply.now }
 {
     match reply {
-        Reply::NoMem => can_want(item),
-        Reply::Compacted { .. } => !finishes(item),
+        Reply::NoMem => false,
+        Reply::Compacted { .. } => !compacts(item),
         _ => true,
     }
 }

@@ -185,7 +185,7 @@ pub fn stored(
 }
 
 /// The state, with the pair's home if it has none.
-pub(crate) fn with_home(state: State, pair: Pair, volume: u32) -> Result<State, NoMemory>
+fn with_home(state: State, pair: Pair, volume: u32) -> Result<State, NoMemory>
     ensures { IfOk result (λ after. after ≡ known.with_home state pair volume) }
 {
     let State {
@@ -215,7 +215,7 @@ pub(crate) fn with_home(state: State, pair: Pair, volume: u32) -> Result<State, 
     })
 }
 
-/// The state behind a put that failed on a machine, or that wanted memory.
+/// The state behind a put that failed on a machine.
 pub(crate) fn put_frozen(
     alloc: Global,
     settings: &Settings,
@@ -225,9 +225,8 @@ pub(crate) fn put_frozen(
     bytes: Bytes,
     volume: u32,
     machine: u32,
-    failed: bool,
 ) -> Result<State, NoMemory>
-    ensures { IfOk result (λ after. after ≡ plain.put_frozen settings.now state tag pair bytes volume machine failed) }
+    ensures { IfOk result (λ after. after ≡ plain.put_frozen settings.now state tag pair bytes volume machine true) }
 {
     let pending = Pending {
         tag,
@@ -236,7 +235,7 @@ pub(crate) fn put_frozen(
             cookie: cookie_of(&settings.secret, pair.key),
             bytes,
         },
-        failed,
+        failed: true,
     };
     let frozen = frozen_by(alloc, state, volume, machine, Some(pending))?;
     with_home(frozen, pair, volume)

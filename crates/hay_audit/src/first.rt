@@ -5,7 +5,6 @@ ghost use Rattle.hay_legal.specs.Known as known;
 
 use crate::pairs::{Log, Rows};
 use crate::state::{Directory, ReplicaState, State, VolumeState};
-use crate::table::Table;
 use hay_base::{Listed, NoMemory};
 use hay_needle::Settings;
 use std::alloc::Global;
@@ -14,7 +13,7 @@ pub(crate) fn fresh_replica(alloc: Global) -> ReplicaState
     ensures { result ≡ known.empty_replica }
 {
     ReplicaState {
-        base: Table::new(alloc),
+        base: Listed::new(alloc),
         end: 64,
         cells: 0,
         bare: 0,

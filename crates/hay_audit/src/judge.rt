@@ -1,7 +1,7 @@
 //! Whether a transcript is one that legal turns of a script may have written.
 
 ghost use Rattle.std.specs.Prelude.{◌≡◌, ◌<◌, ◌≤◌, ◌+◌, ◌^◌};
-ghost use Rattle.std.specs.Prelude.{ℕ, List, [], ◌∷◌, ◌++◌, drop, length, map, true, Ok, IfOk, IfSome, IfNone, OnOk, IsTrue, IsFalse, false, ◌⊎◌};
+ghost use Rattle.std.specs.Prelude.{ℕ, List, [], ◌∷◌, ◌++◌, drop, length, map, true, Ok, IfOk, IfSome, IfNone, OnOk, IsTrue, IsFalse, false};
 ghost use Rattle.hay_needle.specs.declared.settings.Settings.{Settings as SettingsOf};
 ghost use Rattle.hay_legal.specs.declared.known.Known.{Known};
 ghost use Rattle.hay_legal.specs.Items.Asked.{Alone};
@@ -13,7 +13,7 @@ ghost use Rattle.hay_audit_steps.specs.Steps.{AnyOf};
 ghost use Rattle.hay_audit_steps.specs.Reached.{AllAdvance, Candidate as Kept, Is, IsAdvance};
 ghost use Rattle.hay_audit.specs.Behind.{Walks};
 ghost use Rattle.hay_audit.specs.Candidates.{AreWithin, SaidBy, Says, Stops, all_standing, placed, standing};
-ghost use Rattle.hay_audit.specs.Outside.{IsInside, IsOutside, IsTooLarge, IsWithinItem, next_states};
+ghost use Rattle.hay_audit.specs.Outside.{IsInside, IsOutside, IsWithinItem};
 
 use crate::answers::{is_judged, read_answer};
 use crate::first::fresh_state;
@@ -21,11 +21,10 @@ use crate::fits::fits;
 use crate::items::next_line;
 use crate::plain::next_plain;
 use crate::state::State;
-use crate::wanting::next_wanting;
 use hay_base::{Listed, NoMemory};
 use hay_legal::turn::Item;
 use hay_needle::Settings;
-use hay_reply::{Reply, header_line};
+use hay_reply::header_line;
 use hay_script::{Command, Line, read_line};
 use std::alloc::Global;
 
@@ -109,28 +108,6 @@ fn push_all(states: Listed<State>, at: usize, out: &mut Listed<Candidate>) -> Re
     Ok(())
 }
 
-/// The states behind a line that was answered so, unless it is not judged.
-fn next_states(
-    alloc: Global,
-    settings: &Settings,
-    state: State,
-    line: u64,
-    item: &Item,
-    reply: &Reply,
-) -> Result<Option<Listed<State>>, NoMemory>
-    requires machines { 0 < settings.now.machines }
-    requires volumes { 0 < settings.now.volumes }
-    requires replicas { 0 < settings.now.replicas }
-    requires small { IsWithinItem item.now }
-    ensures some { IfOk result (λ made. IfSome made (λ states. states ≡ next_states settings.now line item.now reply.now state)) }
-    ensures none { IfOk result (λ made. IfNone made (IsOutside item.now ⊎ IsTooLarge settings.now state)) }
-{
-    match reply {
-        Reply::NoMem => next_wanting(alloc, settings, state, line, item),
-        _ => next_plain(alloc, settings, state, line, item, reply),
-    }
-}
-
 /// Adds what a candidate comes to behind this item. Where that is not judged, it says so.
 fn advance_one(
     alloc: Global,
@@ -160,7 +137,7 @@ fn advance_one(
         return Ok(false);
     }
     fits(&answer.reply);
-    let Some(states) = next_states(alloc, settings, state, line, item, &answer.reply)? else {
+    let Some(states) = next_plain(alloc, settings, state, line, item, &answer.reply)? else {
         return Ok(false);
     };
     push_all(states, at + answer.behind, out)?;

@@ -28,12 +28,9 @@ mod replicas;
 mod shows;
 mod spread;
 mod state;
-mod swaps;
-mod table;
 mod unreadable;
 mod upkeep;
 mod urls;
-mod wanting;
 
 pub use judge::{Verdict, audit};
 

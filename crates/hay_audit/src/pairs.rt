@@ -137,12 +137,6 @@ impl Log {
         self.entries.len()
     }
 
-    pub(crate) fn as_slice(&self) -> &[Logged]
-        ensures { result.now ≡ self.now }
-    {
-        self.entries.as_slice()
-    }
-
     /// The last entry of a pair: one look-up.
     pub(crate) fn last_of(&self, pair: Pair) -> Option<&Logged>
         ensures { (before : Outcome) → look_after (map logged_row self.now) pair before ≡ keyed.told (option_copied result) before }

@@ -2,7 +2,7 @@
 
 ghost use Rattle.std.specs.Prelude.{◌≡◌, ◌<◌, ◌^◌, IfOk, IfSome, IfNone, length, ◌⊎◌};
 ghost use Rattle.hay_audit_steps.specs.Next as next;
-ghost use Rattle.hay_audit.specs.Outside.{IsNamed, IsOutside, IsTooLarge, IsUnnamed, IsWithinItem};
+ghost use Rattle.hay_audit.specs.Outside.{IsNamed, IsNotJudged, IsOutside, IsTooLarge, IsUnnamed, IsWithinItem};
 ghost use Rattle.hay_legal.specs.declared.turn.Item.TheVariants as item_of;
 
 use crate::del::next_del;
@@ -45,7 +45,7 @@ pub(crate) fn next_unknown(
     keep_if(alloc, test, state)
 }
 
-/// Behind a line that names one replica, unless a size is too large.
+/// Behind a line that names one replica.
 fn next_named(
     alloc: Global,
     settings: &Settings,
@@ -53,11 +53,11 @@ fn next_named(
     line: u64,
     command: &Command,
     reply: &Reply,
-) -> Result<Option<Listed<State>>, NoMemory>
+) -> Result<Listed<State>, NoMemory>
     requires machines { 0 < settings.now.machines }
     requires named { IsNamed command.now }
-    ensures some { IfOk result (λ made. IfSome made (λ states. states ≡ next.next_plain settings.now line (item_of.Command command.now) reply.now state)) }
-    ensures none { IfOk result (λ made. IfNone made (IsTooLarge settings.now state)) }
+    requires judged { IsNotJudged (item_of.Command command.now) reply.now → ⊥ }
+    ensures { IfOk result (λ states. states ≡ next.next_plain settings.now line (item_of.Command command.now) reply.now state) }
 {
     match command {
         Command::Flush { volume, machine } => {
@@ -92,15 +92,7 @@ fn next_named(
             let work = Work::Fuse { calls: *calls };
             next_on_replica(alloc, settings, state, *volume, *machine, work, reply)
         }
-        Command::Put { .. }
-        | Command::Read { .. }
-        | Command::Get { .. }
-        | Command::Del { .. }
-        | Command::Url { .. }
-        | Command::Drain { .. }
-        | Command::Undrain { .. }
-        | Command::FuseDir { .. }
-        | Command::Restart { .. } => unreachable!(),
+        _ => unreachable!(),
     }
 }
 
@@ -155,6 +147,7 @@ fn next_command(
     requires volumes { 0 < settings.now.volumes }
     requires replicas { 0 < settings.now.replicas }
     requires within { IsWithinItem (item_of.Command command.now) }
+    requires judged { IsNotJudged (item_of.Command command.now) reply.now → ⊥ }
     ensures some { IfOk result (λ made. IfSome made (λ states. states ≡ next.next_plain settings.now line (item_of.Command command.now) reply.now state)) }
     ensures none { IfOk result (λ made. IfNone made (IsOutside (item_of.Command command.now) ⊎ IsTooLarge settings.now state)) }
 {
@@ -178,7 +171,10 @@ fn next_command(
         | Command::Begin { .. }
         | Command::Step { .. }
         | Command::Finish { .. }
-        | Command::Fuse { .. } => next_named(alloc, settings, state, line, command, reply),
+        | Command::Fuse { .. } => {
+            let states = next_named(alloc, settings, state, line, command, reply)?;
+            Ok(Some(states))
+        }
         Command::Restart { .. } => Ok(None),
     }
 }
@@ -196,6 +192,7 @@ pub(crate) fn next_plain(
     requires volumes { 0 < settings.now.volumes }
     requires replicas { 0 < settings.now.replicas }
     requires within { IsWithinItem item.now }
+    requires judged { IsNotJudged item.now reply.now → ⊥ }
     ensures some { IfOk result (λ made. IfSome made (λ states. states ≡ next.next_plain settings.now line item.now reply.now state)) }
     ensures none { IfOk result (λ made. IfNone made (IsOutside item.now ⊎ IsTooLarge settings.now state)) }
 {

@@ -50,7 +50,7 @@ pub(crate) fn cookie_eq(a: Cookie, b: Cookie) -> bool
     a.0 == b.0
 }
 
-pub(crate) fn is_dir_open(state: &State, pair: Pair) -> bool
+fn is_dir_open(state: &State, pair: Pair) -> bool
     ensures { result ≡ next.is_dir_open state.now pair }
 {
     home_of(state, pair).is_some() || !state.directory.frozen
@@ -181,9 +181,7 @@ fn next_failed(
         return Ok(Listed::new(alloc));
     }
     let bytes = photo.duplicate(alloc)?;
-    let after = put_frozen(
-        alloc, settings, state, tag, pair, bytes, volume, machine, true,
-    )?;
+    let after = put_frozen(alloc, settings, state, tag, pair, bytes, volume, machine)?;
     Listed::one(alloc, with_fault(after, slot, faults))
 }
 

@@ -33,12 +33,6 @@ pub(crate) enum Change {
     NoRun,
     /// It stands before a swap or behind it.
     Poised,
-    /// It has the new file.
-    Swapped {
-        end: u64,
-        cells: u64,
-        generation: u64,
-    },
 }
 
 fn standing_by(replica: &ReplicaState) -> Standing
@@ -93,18 +87,6 @@ pub(crate) fn changed(change: Change, replica: ReplicaState) -> ReplicaState
         Change::Run(run) => replica.run = Some(run),
         Change::NoRun => replica.run = None,
         Change::Poised => replica.poised = true,
-        Change::Swapped {
-            end,
-            cells,
-            generation,
-        } => {
-            replica.end = end;
-            replica.cells = cells;
-            replica.bare = 0;
-            replica.generation = generation;
-            replica.stuck = false;
-            replica.run = None;
-        }
     }
     replica
 }

@@ -95,9 +95,9 @@ fn puts_and_reads(rt: HostRuntime) -> Result<(), Fail> {
         ),
         (
             "1 stored 0 1 1 903df1a0ade0b876\n2 photo 0 0 1 1 68656c6c6f\n3 nomem\n",
-            unlawful(2),
+            undecided(2),
         ),
-        ("1 nomem\n", unlawful(1)),
+        ("1 nomem\n", undecided(0)),
     ] {
         says(&rt, &ONE, HEADER, script, lines, verdict)?;
     }
@@ -240,88 +240,6 @@ fn compactions(rt: HostRuntime) -> Result<(), Fail> {
         says(&rt, &ONE, HEADER, script, lines, verdict)?;
     }
     Ok(())
-}
-
-#[test]
-fn compactions_in_one_command(rt: HostRuntime) -> Result<(), Fail> {
-    let header = "haystack 1 1 1 128\n";
-    let script =
-        "put 0 1 68656c6c6f\ndel 0 1\nput 0 1 61\ncompact 0 0\nput 0 1 61\ncompact 0 0\nflush 0 0\n";
-    let begun = "1 stored 0 1 1 903df1a0ade0b876\n2 deleted 0 2 1\n3 full 0:0:120:56\n";
-    for (lines, verdict) in [
-        (
-            "4 compacted 0:0 1\n5 stored 0 3 1 903df1a0ade0b876\n6 compacted 0:0 2\n7 flushed 0:0 0\n",
-            lawful(7),
-        ),
-        (
-            "4 compacted 0:0 1\n5 stored 0 3 1 903df1a0ade0b876\n6 compacted 0:0 2\n7 flushed 0:0 1\n",
-            unlawful(6),
-        ),
-        ("4 compacted 0:0 2\n", unlawful(3)),
-        ("4 compacted 0:1 1\n", unlawful(3)),
-        ("4 compacted 0:0 1\n5 full 0:0:120:56\n", unlawful(4)),
-        (
-            "4 nomem\n5 readonly 0:0\n6 readonly 0:0\n7 readonly 0:0\n",
-            lawful(7),
-        ),
-        ("4 nomem\n5 full 0:0:120:56\n6 nomem\n7 nomem\n", lawful(7)),
-        ("4 nomem\n5 stored 0 3 1 903df1a0ade0b876\n", unlawful(4)),
-    ] {
-        let mut text = String::new(rt.alloc());
-        text.push_str(begun)?;
-        text.push_str(lines)?;
-        says(&rt, &NARROW, header, script, text.as_str(), verdict)?;
-    }
-    Ok(())
-}
-
-#[test]
-fn wants_of_memory(rt: HostRuntime) -> Result<(), Fail> {
-    let script = "put 0 1 61\nput 0 1 62\nread 0 1 903df1a0ade0b876\ndel 0 1\nurl 0 1\n";
-    for (lines, verdict) in [
-        (
-            "1 nomem\n2 stored 0 1 1 903df1a0ade0b876\n3 photo 0 0 1 1 62\n4 nomem\n5 nomem\n",
-            lawful(5),
-        ),
-        (
-            "1 nomem\n2 readonly 0:0\n3 gone 0 0 0 1\n4 readonly 0:0\n5 nomem\n",
-            lawful(5),
-        ),
-        (
-            "1 nomem\n2 readonly dir\n3 unknown 0\n4 unknown 0\n5 unknown 0\n",
-            lawful(5),
-        ),
-        ("1 nomem\n2 readonly dir\n3 unknown 1\n", unlawful(2)),
-        ("1 nomem\n2 stored 0 2 1 903df1a0ade0b876\n", unlawful(1)),
-        ("1 nomem\n2 readonly 0:0\n3 photo 0 0 1 1 61\n", unlawful(2)),
-        (
-            "1 stored 0 1 1 903df1a0ade0b876\n2 nomem\n3 nomem\n4 deleted 0 2 1\n5 nomem\n",
-            lawful(5),
-        ),
-        (
-            "1 stored 0 1 1 903df1a0ade0b876\n2 nomem\n3 nomem\n4 readonly 0:0\n5 nomem\n",
-            lawful(5),
-        ),
-    ] {
-        says(&rt, &ONE, HEADER, script, lines, verdict)?;
-    }
-    let steps = "begin 0 0\nstep 0 0 1\nfinish 0 0\n";
-    says(
-        &rt,
-        &ONE,
-        HEADER,
-        steps,
-        "1 begun 0:0 1\n2 nomem\n",
-        undecided(1),
-    )?;
-    says(
-        &rt,
-        &ONE,
-        HEADER,
-        steps,
-        "1 begun 0:0 1\n2 stepped 0:0 0\n3 nomem\n",
-        undecided(2),
-    )
 }
 
 #[test]

@@ -1,11 +1,12 @@
 //! Behind a line that keeps up one replica: flushes, compactions and fuses.
 
-ghost use Rattle.std.specs.Prelude.{◌≡◌, ◌<◌, IfOk, IfSome, IfNone};
+ghost use Rattle.std.specs.Prelude.{◌≡◌, ◌≢◌, ◌<◌, IfOk};
 ghost use Rattle.hay_legal.specs.Known as known;
 ghost use Rattle.hay_legal.specs.Plain as plain;
 ghost use Rattle.hay_audit_steps.specs.Next as next;
 ghost use Rattle.hay_audit.specs.Upkeep as upkeep;
-ghost use Rattle.hay_audit.specs.Outside.{IsTooLarge};
+ghost use Rattle.hay_audit.specs.Upkeep.{IsExactWork, IsNotCompacted};
+ghost use Rattle.hay_reply.specs.declared.Reply.TheVariants as reply_of;
 ghost use Rattle.hay_audit.specs.Replicas as replicas;
 
 use crate::faults::{fault_if, rises_to, with_fault};
@@ -17,7 +18,6 @@ use crate::puts::is_at;
 use crate::replicas::{Change, Standing, change_replica, standing_of};
 use crate::spread::{replica_on, slot_of};
 use crate::state::State;
-use crate::swaps::next_compacted;
 use hay_base::{Duplicate, Listed, NoMemory};
 use hay_legal::known::Run;
 use hay_needle::Settings;
@@ -43,13 +43,13 @@ pub(crate) enum Work {
     Fuse { calls: u32 },
 }
 
-pub(crate) fn is_named(spot: Spot, volume: u32, machine: u32) -> bool
+fn is_named(spot: Spot, volume: u32, machine: u32) -> bool
     ensures { result ≡ next.names spot.volume spot.machine volume machine }
 {
     volume == spot.volume && machine == spot.machine
 }
 
-pub(crate) fn is_open(state: &State, volume: u32) -> bool
+fn is_open(state: &State, volume: u32) -> bool
     ensures { result ≡ next.is_open state.now volume }
 {
     frozen_of(state, volume).is_none()
@@ -83,7 +83,7 @@ fn is_idle(state: &State, spot: Spot) -> bool
     standing_of(state, spot.volume, spot.replica).run.is_none()
 }
 
-pub(crate) fn is_resting(state: &State, spot: Spot) -> bool
+fn is_resting(state: &State, spot: Spot) -> bool
     ensures { result ≡ next.is_resting state.now spot.volume spot.replica }
 {
     is_idle(state, spot) && standing_of(state, spot.volume, spot.replica).generation < 65535
@@ -370,15 +370,15 @@ fn swap_failed(
     Ok(states)
 }
 
-/// Behind a compaction in one command that was not done.
-fn next_uncompacted(
+fn next_compact(
     alloc: Global,
     settings: &Settings,
     state: State,
     spot: Spot,
     reply: &Reply,
 ) -> Result<Listed<State>, NoMemory>
-    ensures { IfOk result (λ states. states ≡ upkeep.next_uncompacted settings.now state spot reply.now) }
+    requires { IsNotCompacted reply.now }
+    ensures { IfOk result (λ states. states ≡ next.next_compact settings.now state spot.volume spot.machine spot.replica reply.now) }
 {
     match reply {
         Reply::Failed {
@@ -396,30 +396,6 @@ fn next_uncompacted(
             }
         }
         _ => keep_if(alloc, is_refused_start(&state, spot, reply), state),
-    }
-}
-
-#[tactic(auto, using(crate::proofs::Swapped::too_long))]
-fn next_compact(
-    alloc: Global,
-    settings: &Settings,
-    state: State,
-    spot: Spot,
-    reply: &Reply,
-) -> Result<Option<Listed<State>>, NoMemory>
-    ensures some { IfOk result (λ made. IfSome made (λ states. states ≡ next.next_compact settings.now state spot.volume spot.machine spot.replica reply.now)) }
-    ensures none { IfOk result (λ made. IfNone made (IsTooLarge settings.now state)) }
-{
-    match reply {
-        Reply::Compacted {
-            volume,
-            machine,
-            generation,
-        } => next_compacted(alloc, state, spot, *volume, *machine, *generation),
-        _ => {
-            let states = next_uncompacted(alloc, settings, state, spot, reply)?;
-            Ok(Some(states))
-        }
     }
 }
 
@@ -483,22 +459,21 @@ fn next_work(
     spot: Spot,
     work: Work,
     reply: &Reply,
-) -> Result<Option<Listed<State>>, NoMemory>
-    ensures some { IfOk result (λ made. IfSome made (λ states. states ≡ upkeep.next_work settings.now state spot.volume spot.machine work spot.replica reply.now)) }
-    ensures none { IfOk result (λ made. IfNone made (IsTooLarge settings.now state)) }
+) -> Result<Listed<State>, NoMemory>
+    requires { IsExactWork work reply.now }
+    ensures { IfOk result (λ states. states ≡ upkeep.next_work settings.now state spot.volume spot.machine work spot.replica reply.now) }
 {
-    let states = match work {
-        Work::Flush => next_flush(alloc, settings, state, spot, reply)?,
-        Work::Compact => return next_compact(alloc, settings, state, spot, reply),
-        Work::Begin => next_begin(alloc, settings, state, spot, reply)?,
-        Work::Step { cells } => next_step(alloc, settings, state, spot, cells, reply)?,
-        Work::Finish => next_finish(alloc, settings, state, spot, reply)?,
-        Work::Fuse { calls } => next_fuse(alloc, settings, state, spot, calls, reply)?,
-    };
-    Ok(Some(states))
+    match work {
+        Work::Flush => next_flush(alloc, settings, state, spot, reply),
+        Work::Compact => next_compact(alloc, settings, state, spot, reply),
+        Work::Begin => next_begin(alloc, settings, state, spot, reply),
+        Work::Step { cells } => next_step(alloc, settings, state, spot, cells, reply),
+        Work::Finish => next_finish(alloc, settings, state, spot, reply),
+        Work::Fuse { calls } => next_fuse(alloc, settings, state, spot, calls, reply),
+    }
 }
 
-/// Behind a line that names a replica by its volume and a machine, unless a size is too large.
+/// Behind a line that names a replica by its volume and a machine.
 pub(crate) fn next_on_replica(
     alloc: Global,
     settings: &Settings,
@@ -507,15 +482,13 @@ pub(crate) fn next_on_replica(
     machine: u32,
     work: Work,
     reply: &Reply,
-) -> Result<Option<Listed<State>>, NoMemory>
+) -> Result<Listed<State>, NoMemory>
     requires machines { 0 < settings.now.machines }
-    ensures some { IfOk result (λ made. IfSome made (λ states. states
-        ≡ next.on_replica state (known.replica_on settings.now volume machine) (upkeep.next_work settings.now state volume machine work) reply.now)) }
-    ensures none { IfOk result (λ made. IfNone made (IsTooLarge settings.now state)) }
+    requires exact { IsExactWork work reply.now }
+    ensures { IfOk result (λ states. states ≡ next.on_replica state (known.replica_on settings.now volume machine) (upkeep.next_work settings.now state volume machine work) reply.now) }
 {
     let Some(replica) = replica_on(settings, volume, machine) else {
-        let states = keep_if(alloc, matches!(reply, Reply::Nowhere), state)?;
-        return Ok(Some(states));
+        return keep_if(alloc, matches!(reply, Reply::Nowhere), state);
     };
     let spot = Spot {
         volume,

@@ -22,12 +22,11 @@ use Rattle.hay_legal.specs.Items.{Asked, item_of_turn}
 use Rattle.hay_legal.specs.Items.Asked.{Alone}
 use Rattle.hay_legal.specs.Known.{NoneFalls}
 use Rattle.hay_legal.specs.Plain.{LegalPlain}
-use Rattle.hay_legal.specs.Restarts.{LegalRestart, IsNotRestarted, IsRestarted, MayKeep, ReopenedVolumes, replica_notes, pending_notes, volume_notes, row_notes}
-use Rattle.hay_audit_steps.specs.Law.{ExactStatesStep, LinesAdvance, RestartsAdvance, UnreadLinesEnd, UnreadNotesEnd, WantingRestartsAdvance}
+use Rattle.hay_legal.specs.Restarts.{LegalRestart, IsRestarted, MayKeep, ReopenedVolumes, replica_notes, pending_notes, volume_notes, row_notes}
+use Rattle.hay_audit_steps.specs.Law.{ExactStatesStep, LinesAdvance, RestartsAdvance, UnreadLinesEnd, UnreadNotesEnd}
 use Rattle.hay_audit_steps.specs.Steps.{Below, AnyOf, IsStepOf, with_counts, plain_row}
 use Rattle.hay_audit_steps.specs.Reopen.{restart_row}
 use Rattle.hay_audit_steps.specs.Reached.{Candidate, Leads, IsAdvance, Is, candidate, IsNoRestart, volume_note_count, volumes_note_count, note_count}
-use Rattle.hay_audit_steps.proofs.Counts.{falls_refl, falls_trans}
 use Rattle.hay_audit_steps.proofs.Feeds.{one_reply, one_notes}
 
 -- STEPS AS ADVANCES
@@ -210,44 +209,6 @@ restarts_advance {S} Has settings s line pick d notes rest next fits note_fits m
     let more = one_notes notes is.notes rest behind note_fits is.note_fits long first.1 in
     (more.1, subst (λ (ns : List Note). IsRestarted settings (with_counts k faults arms fuses) d ns t) more.0 legal))
     step
-
--- a restart that wanted memory
-wants_step : {S : Type 0} (Has : S → Known → Type 0) (settings : Settings) (s : S) → IsStepOf Has (restart_row settings reply.NoMem []) s (s ∷ [])
-wants_step {S} Has settings s = record {
-  sound = (
-    (λ t has. (
-      t,
-      has,
-      record { leaves = record { volumes = refl; directory = refl; drained = refl; fuses = refl; faults = falls_refl t.faults; arms = refl }; told = refl },
-    )),
-    tt,
-  );
-  complete = λ k faults arms fuses t has f a r. inl (
-    k,
-    has,
-    record {
-      volumes = (r.leaves).volumes;
-      directory = (r.leaves).directory;
-      drained = (r.leaves).drained;
-      faults = falls_trans k.faults faults t.faults f (r.leaves).faults;
-      arms = subst (λ (xs : List ℕ). NoneFalls k.arms xs) (sym (r.leaves).arms) a;
-    },
-  );
-}
-
-pub wanting_restarts_advance : {S : Type 0} (Has : S → Known → Type 0) → WantingRestartsAdvance Has
-wanting_restarts_advance {S} Has settings s line pick rest =
-    advance_by Has settings s (Alone line (item.Command (command.Restart pick))) (numbered_line line reply.NoMem ++ rest) rest (restart_row settings reply.NoMem []) (s ∷ [])
-    (λ k t legal. (
-      Restart line pick reply.NoMem [] t,
-      record { item = refl; legal = legal; after = refl; fits = (tt, tt); text = append_assoc (numbered_line line reply.NoMem) [] rest },
-    ))
-    (λ k faults arms fuses turn t behind has leads.
-    let is = restart_of settings (with_counts k faults arms fuses) line pick (numbered_line line reply.NoMem ++ rest) turn t behind leads in
-    let first = one_reply line reply.NoMem is.reply rest (flat_map note_line is.notes ++ behind) tt is.fits is.text in
-    let legal : IsNotRestarted (with_counts k faults arms fuses) is.notes t = subst (λ (x : Reply). LegalRestart settings (with_counts k faults arms fuses) x is.notes t) first.0 is.legal in
-    (ap (λ (ns : List Note). flat_map note_line ns ++ behind) (sym legal.told) ∙ first.1, record { leaves = legal.leaves; told = refl }))
-    (wants_step Has settings s)
 
 -- WHAT IS NOT READ
 

@@ -31,5 +31,4 @@ pub mod Shows
 pub mod Sizeless
 pub mod Swaps
 pub mod Tests
-pub mod Wanting
 pub mod Wider

@@ -90,12 +90,6 @@ RestartsAdvance {S} Has =
     → IsAdvance Has settings (Alone line (item.Command (command.Restart pick)))
     (candidate (numbered_line line (reply.Restarted d) ++ (flat_map note_line notes ++ rest)) state) (map (candidate rest) next)
 
--- A restart that wanted memory leaves what was known, and tells no notes.
-abbrev pub WantingRestartsAdvance : {S : Type 0} → (S → Known → Type 0) → Type 0
-WantingRestartsAdvance {S} Has =
-    (settings : Settings) (state : S) (line pick : ℕ) (rest : List ℕ)
-    → IsAdvance Has settings (Alone line (item.Command (command.Restart pick))) (candidate (numbered_line line reply.NoMem ++ rest) state) (candidate rest state ∷ [])
-
 -- Where no reply stands at the front of what is left, no candidate follows.
 abbrev pub UnreadLinesEnd : {S : Type 0} → (S → Known → Type 0) → Type 0
 UnreadLinesEnd {S} Has =

@@ -14,4 +14,3 @@ pub mod Reopen
 pub mod Rooms
 pub mod Slacks
 pub mod Steps
-pub mod Wanting
