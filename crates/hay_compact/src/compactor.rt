@@ -76,6 +76,7 @@ impl Compactor {
             Copying sup.now (D.files disk.new) old stage cells [] 0) }
         ensures made { D.Tells → IfOk result (λ stage. Making sup.now (D.files disk.new) stage []) }
         ensures names { IfOk result (λ stage. stage.generation ≡ generation) }
+        ensures capacity { IfOk result (λ stage. stage.capacity ≡ sup.now.settings.capacity) }
 
         ensures others { D.Tells → KeepsOtherFiles generation (D.files disk.old) (D.files disk.new) }
         ensures drawn { D.Tells → (n : ℕ) → D.drawn disk.new n ≡ D.drawn disk.old n }
@@ -213,6 +214,7 @@ impl Compactor {
         ensures damaged { (k : ℕ) → result ≡ Err (CellFault.Damaged k) → ⊥ }
 
         ensures names { self.new.generation ≡ self.old.generation }
+        ensures capacity { self.new.capacity ≡ self.old.capacity }
         ensures others { D.Tells → KeepsOthers self.old.volume.file (D.files disk.old) (D.files disk.new) }
         ensures drawn { D.Tells → (n : ℕ) → D.drawn disk.new n ≡ D.drawn disk.old n }
         ensures counted { IsCounted (D.fault_count disk.old) (D.fault_count disk.new) (IsErrOf result CellFault.Failed) }
@@ -257,6 +259,7 @@ impl Compactor {
         ensures making { D.Tells → OnOk result (IsMaking (D.files disk.new) self.new) }
 
         ensures names { self.new.generation ≡ self.old.generation }
+        ensures capacity { self.new.capacity ≡ self.old.capacity }
         ensures others { D.Tells → KeepsOthers self.old.volume.file (D.files disk.old) (D.files disk.new) }
         ensures drawn { D.Tells → (n : ℕ) → D.drawn disk.new n ≡ D.drawn disk.old n }
         ensures counted { IsCounted (D.fault_count disk.old) (D.fault_count disk.new) (IsErr result) }

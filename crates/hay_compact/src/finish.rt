@@ -45,6 +45,7 @@ impl Compactor {
             Making sup (D.files disk.old) self fresh →
             IsFinished D.Piece.Tells sup (D.files disk.new) finished self fresh) }
         ensures thawed { IfOk result (λ finished. finished.index.frozen ≡ false) }
+        ensures capacity { IfOk result (λ finished. finished.volume.capacity ≡ self.capacity) }
         ensures photos { IfOk result (λ finished. ArePhotos finished.places.items) }
         // Each cell of the new volume file is of version 2.
         ensures anew { D.Tells → IfOk result (λ finished. (superblock : List ℕ) (cells : List Cell) (end : ℕ) →

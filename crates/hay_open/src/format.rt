@@ -30,6 +30,7 @@ pub(crate) fn format_disk<D: Disk>(
     ensures opened { D.Tells → IfOk result (λ opened. OpenedAs sup.now (D.files disk.new) opened fresh_stored) }
     ensures none { IfOk result (λ opened. opened.cells.items ≡ []) }
     ensures open { IfOk result (λ opened. opened.index.frozen ≡ false) }
+    ensures capacity { IfOk result (λ opened. opened.volume.capacity ≡ sup.now.settings.capacity) }
     ensures solid { D.Tells → OnOk result ((n : ℕ) → IsSolid (D.files disk.new n)) }
     ensures others { D.Tells → (n : ℕ) → 2 < n → D.files disk.new n ≡ D.files disk.old n }
     ensures void { D.Tells → IsErrOf result Refusal.NoMemory → D.files disk.new 0 ≡ D.files disk.old 0 }

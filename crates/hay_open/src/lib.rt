@@ -70,6 +70,7 @@ pub fn open_replica<D: Disk>(
     ensures ready { D.Tells → IfOk result (λ opened. IsReady (D.files disk.new) opened) }
     ensures flags { D.Tells → IfOk result (MayFlagEach (D.files disk.new)) }
     ensures open { IfOk result (λ opened. opened.index.frozen ≡ false) }
+    ensures capacity { IfOk result (λ opened. opened.volume.capacity ≡ sup.now.settings.capacity) }
     ensures solid { D.Tells → OnOk result ((n : ℕ) → IsSolid (D.files disk.new n)) }
 
     // A disk that is not void keeps its bytes, and all of it stays on the disk. Of one that is void only the files 0, 1 and 2

@@ -25,8 +25,8 @@ use Rattle.hay_compact.proofs.Meanwhile.{copies_deleted, copies_none, copies_put
 use Rattle.hay_physical.specs.declared.state.Copier.{Copier}
 use Rattle.hay_physical.specs.declared.state.Copier.TheVariants.{Ended, Standing}
 use Rattle.hay_physical.specs.declared.state.OpenFiles.{OpenFiles}
-use Rattle.hay_physical.specs.Copies.{copier_goal}
-use Rattle.hay_physical.specs.Replicas.{FilesReady, FilesStand, IndexStands, IsCopierReady, IsSettled, MayFlag, with_cell, without_cell}
+use Rattle.hay_physical.specs.Copies.{copier_capacity, copier_goal}
+use Rattle.hay_physical.specs.Replicas.{FilesReady, FilesStand, IndexStands, IsBounded, IsCopierReady, IsSettled, MayFlag, with_cell, without_cell}
 use Rattle.hay_physical.specs.Runs.{FilesPeek, FilesRun, HasLastAt, KeepsCopier, KeepsFiles, Run, loosened, longer, stepped}
 use Rattle.hay_disk.specs.Gate.{IsGate}
 use Rattle.hay_head.specs.Head.{head_magic, row_place}
@@ -128,6 +128,39 @@ settled_still old new settled head copier frozen = record {
   most = λ goal is. settled.most goal (ap copier_goal (sym copier) ∙ is);
   dropped = λ now. ap copier_goal copier ∙ settled.dropped (sym frozen ∙ now);
 }
+
+pub bounded_still : (capacity : ℕ) (old new : OpenFiles) → IsBounded capacity old → new.volume.capacity ≡ old.volume.capacity → new.copier ≡ old.copier → IsBounded capacity new
+bounded_still capacity old new bounded volume copier = record {
+  volume = volume ∙ bounded.volume;
+  next = λ most is. bounded.next most (ap copier_capacity (sym copier) ∙ is);
+}
+
+pub bounded_ended : (capacity : ℕ) (new : OpenFiles) (faults : ℕ) → new.volume.capacity ≡ capacity → new.copier ≡ Ended faults → IsBounded capacity new
+bounded_ended capacity new faults volume ended = record {
+  volume = volume;
+  next = λ most is. absurd (let e : None ≡ Some most = sym (ap copier_capacity ended) ∙ is in cc);
+}
+
+pub bounded_stage : (capacity : ℕ) (new : OpenFiles) (stage : Stage) → new.volume.capacity ≡ capacity → new.copier ≡ Standing stage → stage.capacity ≡ capacity → IsBounded capacity new
+bounded_stage capacity new stage volume stands same = record {
+  volume = volume;
+  next = λ most is. let e : Some stage.capacity ≡ Some most = sym (ap copier_capacity stands) ∙ is in let f : most ≡ stage.capacity = cc in f ∙ same;
+}
+
+pub bounded_next : (capacity : ℕ) (old new : OpenFiles) (stage later : Stage) → IsBounded capacity old → new.volume.capacity ≡ old.volume.capacity
+    → old.copier ≡ Standing stage → new.copier ≡ Standing later → later.capacity ≡ stage.capacity → IsBounded capacity new
+bounded_next capacity old new stage later bounded volume was is same =
+    bounded_stage capacity new later (volume ∙ bounded.volume) is (same ∙ bounded.next stage.capacity (ap copier_capacity was))
+
+pub bounded_kept : (capacity : ℕ) (old new : OpenFiles) → IsBounded capacity old → new.volume.capacity ≡ old.volume.capacity → KeepsCopier old new → IsBounded capacity new
+bounded_kept capacity old new bounded volume keeps =
+    elim (cases_Bool new.frozen) [
+      | inr going ↦ bounded_still capacity old new bounded volume (keeps.same going)
+      | inl frozen ↦ elim (cases_Bool old.frozen) [
+        | inl before ↦ bounded_still capacity old new bounded volume (keeps.stays before)
+        | inr going ↦ let ended = keeps.dropped going frozen in bounded_ended capacity new ended.0 (volume ∙ bounded.volume) ended.1
+      ]
+    ]
 
 -- a freeze ends it
 pub freeze_keeps : (old new : OpenFiles) (faults : ℕ) → old.frozen ≡ false → new.head ≡ old.head → new.frozen ≡ true → new.copier ≡ Ended faults → KeepsCopier old new

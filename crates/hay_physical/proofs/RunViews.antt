@@ -11,7 +11,7 @@ use Rattle.hay_physical.specs.declared.state.OpenFiles.{OpenFiles}
 use Rattle.hay_physical.specs.declared.state.Phase.{Phase}
 use Rattle.hay_physical.specs.declared.state.Phase.TheVariants.{Open}
 use Rattle.hay_physical.specs.Copies.{Copy, copier_goal, goal_of, phase_goal}
-use Rattle.hay_physical.specs.Replicas.{FilesReady, IsCopierReady, IsSettled, IsSettledPhase, MayDelete, MayFlag, PhaseReady, Stands}
+use Rattle.hay_physical.specs.Replicas.{FilesReady, IsBounded, IsBoundedPhase, IsCopierReady, IsSettled, IsSettledPhase, MayDelete, MayFlag, PhaseReady, Stands}
 use Rattle.hay_physical.specs.Runs.{FilesPeek, FilesRun, HasNext, HasRun, KeepsFiles, PeekStands, Run, RunStands}
 use Rattle.hay_physical.proofs.RunLaws.{flag_beside, next_besides_volume, not_ended, run_deleted, stand_beside}
 use Rattle.hay_compact.specs.Copying.{Stage}
@@ -47,6 +47,9 @@ files_ready files phase opened is ready going = (subst (λ (p : Phase). PhaseRea
 
 pub files_settled : (phase : Phase) (opened : OpenFiles) → phase ≡ Open opened → IsSettledPhase phase → IsSettled opened
 files_settled phase opened is settled = subst (λ (p : Phase). IsSettledPhase p) is settled
+
+pub files_bounded : (capacity : ℕ) (phase : Phase) (opened : OpenFiles) → phase ≡ Open opened → IsBoundedPhase capacity phase → IsBounded capacity opened
+files_bounded capacity phase opened is bounded = subst (λ (p : Phase). IsBoundedPhase capacity p) is bounded
 
 pub files_goal : {D : Type 0} (r : Copy D) (sup : Super) (disk : D) (phase : Phase) (opened : OpenFiles) → record { sup = sup; disk = disk; phase = phase } ≡ r → phase ≡ Open opened → copier_goal opened.copier ≡ goal_of r
 files_goal r sup disk phase opened view is = sym (ap phase_goal is) ∙ ap (λ (x : Copy _). goal_of x) view

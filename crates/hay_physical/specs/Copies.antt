@@ -65,6 +65,11 @@ abbrev pub copier_copied : Copier → ℕ
 copier_copied (Ended faults) = 0
 copier_copied (Standing stage) = length stage.index.pending
 
+-- the capacity that a copier gives the volume file that it makes
+abbrev pub copier_capacity : Copier → Option ℕ
+copier_capacity (Ended faults) = None
+copier_capacity (Standing stage) = Some stage.capacity
+
 abbrev pub phase_copied : Phase → ℕ
 phase_copied Closed = 0
 phase_copied (Open opened) = copier_copied opened.copier
@@ -109,8 +114,16 @@ end_of r = phase_end r.phase
 abbrev pub capacity_of : {D : Type 0} → Copy D → ℕ
 capacity_of r = phase_capacity r.phase
 
+-- that many as the settings say
+abbrev pub HasCapacity : {D : Type 0} → Copy D → Type 0
+HasCapacity r = capacity_of r ≡ r.sup.settings.capacity
+
 abbrev pub generation_of : {D : Type 0} → Copy D → ℕ
 generation_of r = phase_generation r.phase
+
+-- the files of the same generation, whose cells end where they ended
+abbrev pub KeepsEnd : {D : Type 0} → Copy D → Copy D → Type 0
+KeepsEnd r r' = (generation_of r' ≡ generation_of r) × (end_of r' ≡ end_of r)
 
 -- what reads of its disk give
 abbrev pub contents_of : {D : Type 0} → (D → Files) → D → ℕ → List ℕ

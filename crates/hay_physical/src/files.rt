@@ -105,7 +105,9 @@ impl OpenFiles {
             → MayFlag (D.files disk.new self.new.volume.file) self.new.volume.end place }
         ensures flag { D.Tells → IfOk result (λ needle. MayFlag (D.files disk.new self.new.volume.file) self.new.volume.end needle.at) }
         ensures place { D.Tells → IfOk result (λ needle. needle.at ≡ self.old.volume.end) }
+        ensures moved { OnOk result (self.new.volume.end ≡ self.old.volume.end + needle_total (length bytes.now)) }
         ensures volume { (self.new.volume.file ≡ self.old.volume.file) × (self.old.volume.end ≤ self.new.volume.end) }
+        ensures limit { self.new.volume.capacity ≡ self.old.volume.capacity }
         ensures before { D.Tells → KeepsBefore self.old.volume.end (D.files disk.old self.old.volume.file) (D.files disk.new self.old.volume.file) }
         ensures copier { KeepsCopier self.old self.new }
         ensures others { D.Tells → KeepsOthers self.old.volume.file (D.files disk.old) (D.files disk.new) }
@@ -137,6 +139,7 @@ impl OpenFiles {
         requires ready { D.Tells → FilesReady (D.files disk.old) self.old }
 
         ensures place { IfOk result (λ at. at ≡ self.old.volume.end) }
+        ensures moved { OnOk result (self.new.volume.end ≡ self.old.volume.end + needle_total (length bytes.now)) }
         ensures added { D.Tells → (sup : Super) (s : Stored) → FilesStand sup (D.files disk.old) self.old s →
             OnOk result (FilesStand sup (D.files disk.new) self.new (with_cell s pair cookie bytes.now)) }
         ensures open { OnOk result (self.new.frozen ≡ self.old.frozen) }
@@ -155,6 +158,7 @@ impl OpenFiles {
             → MayFlag (D.files disk.new self.new.volume.file) self.new.volume.end place }
         ensures last { D.Tells → IfOk result (λ at. IsLastCell (D.files disk.new self.new.volume.file) self.new.volume.end at (needle_total (length bytes.now))) }
         ensures volume { (self.new.volume.file ≡ self.old.volume.file) × (self.old.volume.end ≤ self.new.volume.end) }
+        ensures limit { self.new.volume.capacity ≡ self.old.volume.capacity }
         ensures before { D.Tells → KeepsBefore self.old.volume.end (D.files disk.old self.old.volume.file) (D.files disk.new self.old.volume.file) }
         ensures copier { self.old.frozen ≡ false → KeepsCopier self.old self.new }
         ensures others { D.Tells → KeepsOthers self.old.volume.file (D.files disk.old) (D.files disk.new) }

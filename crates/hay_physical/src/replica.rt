@@ -16,7 +16,7 @@ ghost use Rattle.hay_physical.specs.declared.state.Phase.TheVariants.{Closed};
 ghost use Rattle.hay_physical.specs.Runs.{HasLastAt, HasRun, Run, longer, loosened};
 ghost use Rattle.std.specs.List.{AllByRecursion};
 ghost use Rattle.std.specs.Option.{option_map};
-ghost use Rattle.hay_physical.specs.Copies.{EndedAt, IsFrozen, IsOpenCopy, IsUp, capacity_of, contents_of, end_of, generation_of, goal_of, is_frozen, is_stuck};
+ghost use Rattle.hay_physical.specs.Copies.{EndedAt, HasCapacity, IsFrozen, IsOpenCopy, IsUp, KeepsEnd, capacity_of, contents_of, end_of, generation_of, goal_of, is_frozen, is_stuck};
 ghost use Rattle.hay_physical.specs.Draws.{DrewRecorded};
 ghost use Rattle.hay_physical.specs.Faults.{IsDeleteFault, IsFlushFault, IsPutFault};
 ghost use Rattle.hay_needle.specs.Tables.{pair_eq};
@@ -41,13 +41,14 @@ pub struct Replica<D: Disk> {
 
 impl<D: Disk> Model for Replica<D> {
     ghost use Rattle.hay_physical.specs.Copies.{Copy};
-    ghost use Rattle.hay_physical.specs.Replicas.{IsReady, IsSettledPhase};
+    ghost use Rattle.hay_physical.specs.Replicas.{IsBoundedPhase, IsReady, IsSettledPhase};
 
     ghost Value = { Copy D };
 
     ghost view = { λ r. record { sup = r.sup; disk = r.disk; phase = r.phase } };
 
-    ghost invariant = { λ r. IsReady D.Tells D.files (record { sup = r.sup; disk = r.disk; phase = r.phase }) × IsSettledPhase r.phase };
+    ghost invariant = { λ r. IsReady D.Tells D.files (record { sup = r.sup; disk = r.disk; phase = r.phase }) × IsSettledPhase r.phase
+        × IsBoundedPhase r.sup.settings.capacity r.phase };
 }
 
 impl<D: Disk> Replica<D> {
@@ -138,6 +139,7 @@ impl<D: Disk> Replica<D> {
             → result ≡ Err (ReplicaFault.Full (end_of self.now) need (capacity_of self.now)) }
         ensures fits { OnErr result (capacity_of self.now < end_of self.now + needle_total size + 8) }
         ensures known { D.Tells → (s : Stored) → Stands D.files self.now s → (end_of self.now ≡ s.end) × (capacity_of self.now ≡ self.now.sup.settings.capacity) }
+        ensures capacity { HasCapacity self.now }
     {
         match &self.phase {
             Phase::Open(files) => files.room(size),
@@ -193,6 +195,8 @@ impl<D: Disk> Replica<D> {
             OnErr result (IsUp self.new → HasRun D.files self.new s run) }
         ensures dropped { IsFrozen self.new → goal_of self.new ≡ None }
         ensures goal { IsUp self.new → goal_of self.new ≡ goal_of self.old }
+        ensures moved { OnOk result (end_of self.new ≡ end_of self.old + needle_total (length bytes.now)) }
+        ensures generation { generation_of self.new ≡ generation_of self.old }
 
         ensures causes { IfErr result (IsPutFault (D.fault_count self.old.disk) (D.fault_count self.new.disk)) }
         ensures counts { D.fault_count self.old.disk ≤ D.fault_count self.new.disk }
@@ -228,6 +232,7 @@ impl<D: Disk> Replica<D> {
         ensures froze { OnErr result (IsFrozen self.new) }
         ensures open { IsOpenCopy self.new }
         ensures stuck { is_stuck self.new ≡ is_stuck self.old }
+        ensures stays { KeepsEnd self.old self.new }
 
         // A compaction that stands follows, or ends where the disk's count of faults rose. A freeze ends it.
         ensures run { D.Tells → (s : Stored) (run : Option Run) → Stands D.files self.old s → HasRun D.files self.old s run → HasLastAt s.cells pair at →
@@ -281,6 +286,7 @@ impl<D: Disk> Replica<D> {
         ensures run_stays { D.Tells → (s : Stored) (run : Option Run) → Stands D.files self.old s → HasRun D.files self.old s run →
             OnErr result (HasRun D.files self.new s run) }
         ensures goal { goal_of self.new ≡ goal_of self.old }
+        ensures stays { KeepsEnd self.old self.new }
 
         ensures causes { IfErr result (IsFlushFault (D.fault_count self.old.disk) (D.fault_count self.new.disk)) }
         ensures counts { D.fault_count self.old.disk ≤ D.fault_count self.new.disk }
@@ -302,6 +308,7 @@ impl<D: Disk> Replica<D> {
         ensures holds { D.Tells → (stuck : Bool) (s t : Stored) → Holds D.files self.old stuck s t → Holds D.files self.new stuck s t }
         ensures sees { D.Tells → KeepsSight D.files Anywhere self.old self.new }
         ensures stuck { is_stuck self.new ≡ is_stuck self.old }
+        ensures stays { KeepsEnd self.old self.new }
         ensures disk { self.new.disk ≡ self.old.disk }
         ensures sup { self.new.sup ≡ self.old.sup }
     {

@@ -8,7 +8,7 @@ ghost use Rattle.hay_map.specs.Rows.{last_place};
 ghost use Rattle.hay_open.specs.Stored.{Stored, index_file, volume_file};
 ghost use Rattle.hay_compact.specs.Copying.{IsLatest};
 ghost use Rattle.hay_compact.specs.Finishing.{ArePhotos, AreThePlaces, IsSeen};
-ghost use Rattle.hay_physical.specs.Copies.{IsFrozen, IsOpenCopy, IsUp, copied_of, faults_at_end, generation_of, goal_of, is_frozen, is_stuck};
+ghost use Rattle.hay_physical.specs.Copies.{IsFrozen, IsOpenCopy, IsUp, KeepsEnd, copied_of, end_of, faults_at_end, generation_of, goal_of, is_frozen, is_stuck};
 ghost use Rattle.hay_physical.specs.Faults.{IsBeginFault, IsPeekFault, IsRunFault};
 ghost use Rattle.hay_physical.specs.Replicas.{Anywhere, Holds, KeepsSight, MayDelete, MayDeletePlace, ShowsCell, Stands};
 ghost use Rattle.hay_physical.specs.Runs.{EndsRun, HasNext, HasPair, HasRun, IsPeeked, IsTight, RemovedBoth, Run, Swaps, stepped};
@@ -47,6 +47,7 @@ impl<D: Disk> Replica<D> {
         ensures open { IsOpenCopy self.new }
         ensures same { is_frozen self.new ≡ is_frozen self.old }
         ensures stuck { is_stuck self.new ≡ is_stuck self.old }
+        ensures stays { KeepsEnd self.old self.new }
 
         ensures causes { IfErr result (IsBeginFault (D.fault_count self.old.disk) (D.fault_count self.new.disk)) }
         ensures counts { D.fault_count self.old.disk ≤ D.fault_count self.new.disk }
@@ -63,6 +64,7 @@ impl<D: Disk> Replica<D> {
     pub fn standing(&self) -> Option<u64>
         ensures is { result ≡ goal_of self.now }
         ensures most { IfSome result (λ goal. goal ≤ 65535) }
+        ensures next { IfSome result (λ goal. goal ≡ generation_of self.now + 1) }
     {
         match &self.phase {
             Phase::Open(files) => match &files.copier {
@@ -116,6 +118,7 @@ impl<D: Disk> Replica<D> {
         ensures open { IsOpenCopy self.new }
         ensures same { is_frozen self.new ≡ is_frozen self.old }
         ensures stuck { is_stuck self.new ≡ is_stuck self.old }
+        ensures stays { KeepsEnd self.old self.new }
 
         ensures causes { IfErr result (IsPeekFault (D.fault_count self.old.disk) (D.fault_count self.new.disk)) }
         ensures counts { D.fault_count self.old.disk ≤ D.fault_count self.new.disk }
@@ -152,6 +155,7 @@ impl<D: Disk> Replica<D> {
         ensures open { IsOpenCopy self.new }
         ensures same { is_frozen self.new ≡ is_frozen self.old }
         ensures stuck { is_stuck self.new ≡ is_stuck self.old }
+        ensures stays { KeepsEnd self.old self.new }
 
         ensures causes { IfErr result (IsRunFault (D.fault_count self.old.disk) (D.fault_count self.new.disk)) }
         ensures counts { D.fault_count self.old.disk ≤ D.fault_count self.new.disk }
@@ -200,6 +204,7 @@ impl<D: Disk> Replica<D> {
         ensures kept { D.Tells → (s : Stored) → Stands D.files self.old s → OnErr result (IsUp self.new → Stands D.files self.new s) }
         ensures froze { IsUp self.old → IsFrozen self.new → result ≡ Err (ReplicaFault.Failed (D.fault_count self.new.disk)) }
         ensures still { OnErr result ((is_stuck self.new ≡ is_stuck self.old) × (generation_of self.new ≡ generation_of self.old)) }
+        ensures stays { OnErr result (end_of self.new ≡ end_of self.old) }
         ensures deletes { D.Tells → (place : ℕ) → MayDelete D.files self.old place → OnErr result (MayDelete D.files self.new place) }
         ensures sees { D.Tells → OnErr result (KeepsSight D.files Anywhere self.old self.new) }
         ensures goal { goal_of self.new ≡ None }
@@ -230,6 +235,7 @@ impl<D: Disk> Replica<D> {
         ensures open { IsOpenCopy self.old → IsOpenCopy self.new }
         ensures same { is_frozen self.new ≡ is_frozen self.old }
         ensures stuck { is_stuck self.new ≡ is_stuck self.old }
+        ensures stays { KeepsEnd self.old self.new }
         ensures disk { self.new.disk ≡ self.old.disk }
         ensures sup { self.new.sup ≡ self.old.sup }
     {

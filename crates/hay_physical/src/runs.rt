@@ -10,7 +10,7 @@ ghost use Rattle.hay_compact.specs.Copying.{IsLatest, KeepsOtherFiles, Stage};
 ghost use Rattle.hay_compact.specs.Finishing.{ArePhotos, AreThePlaces, IsSeen};
 ghost use Rattle.hay_physical.specs.Copies.{copier_copied, copier_faults, copier_goal};
 ghost use Rattle.hay_physical.specs.Faults.{IsBeginFault, IsPeekFault, IsRunFault};
-ghost use Rattle.hay_physical.specs.Replicas.{FilesReady, FilesStand, IsCopierReady, IsSettled, MayFind, MayFlagPlace};
+ghost use Rattle.hay_physical.specs.Replicas.{FilesReady, FilesStand, IsBounded, IsCopierReady, IsSettled, MayFind, MayFlagPlace};
 ghost use Rattle.hay_physical.specs.Runs.{CopierPeeked, EndsBy, EndsInDelete, FilesPeek, FilesRun, IsTight, KeepsFiles, RemovedBoth, RepeatsIn, Run, Swaps, stepped};
 ghost use Rattle.hay_physical.specs.declared.state.Copier.TheVariants.{Ended, Standing};
 
@@ -51,6 +51,7 @@ impl OpenFiles {
         ensures making { D.Tells → OnOk result (IsCopierReady (D.files disk.new) self.new) }
         ensures err { OnErr result (self.new ≡ self.old) }
         ensures keeps { KeepsFiles self.old self.new }
+        ensures bounded { IsBounded sup.now.settings.capacity self.old → IsBounded sup.now.settings.capacity self.new }
 
         ensures others { D.Tells → KeepsOtherFiles (self.old.head.generation + 1) (D.files disk.old) (D.files disk.new) }
         ensures causes { IfErr result (IsBeginFault (D.fault_count disk.old) (D.fault_count disk.new)) }
@@ -107,6 +108,7 @@ impl OpenFiles {
         ensures making { D.Tells → IsCopierReady (D.files disk.old) self.old → IsCopierReady (D.files disk.new) self.new }
         ensures goal { (copier_goal self.new.copier ≡ copier_goal self.old.copier) ⊎ (copier_goal self.new.copier ≡ None) }
         ensures keeps { KeepsFiles self.old self.new }
+        ensures bounded { (capacity : ℕ) → IsBounded capacity self.old → IsBounded capacity self.new }
 
         ensures files { D.Tells → D.files disk.new ≡ D.files disk.old }
         ensures causes { IfErr result (IsPeekFault (D.fault_count disk.old) (D.fault_count disk.new)) }
@@ -151,6 +153,7 @@ impl OpenFiles {
         ensures making { D.Tells → self.old.frozen ≡ false → IsCopierReady (D.files disk.new) self.new }
         ensures goal { (copier_goal self.new.copier ≡ copier_goal self.old.copier) ⊎ (copier_goal self.new.copier ≡ None) }
         ensures keeps { KeepsFiles self.old self.new }
+        ensures bounded { (capacity : ℕ) → IsBounded capacity self.old → IsBounded capacity self.new }
 
         ensures others { D.Tells → KeepsOtherFiles (self.old.head.generation + 1) (D.files disk.old) (D.files disk.new) }
         ensures causes { IfErr result (IsRunFault (D.fault_count disk.old) (D.fault_count disk.new)) }
@@ -174,6 +177,7 @@ impl OpenFiles {
         ensures memory { fault ≡ CellFault.NoMemory → (result ≡ ReplicaFault.NoMemory) × (self.new ≡ self.old) }
         ensures failed { fault ≡ CellFault.Failed → (result ≡ ReplicaFault.Failed (D.fault_count disk.now)) × (self.new ≡ record self.old { copier = Ended (D.fault_count disk.now) }) }
         ensures damaged { (at : ℕ) → fault ≡ CellFault.Damaged at → (result ≡ ReplicaFault.Damaged at) × (self.new ≡ record self.old { copier = Ended (D.fault_count disk.now) }) }
+        ensures bounded { (capacity : ℕ) → IsBounded capacity self.old → IsBounded capacity self.new }
     {
         let refusal = match fault {
             CellFault::NoMemory => return ReplicaFault::NoMemory,
@@ -198,6 +202,7 @@ impl OpenFiles {
         ensures ends { EndsInDelete (D.fault_count disk.old) (D.fault_count disk.new) self.old.copier self.new.copier }
         ensures making { D.Tells → IsCopierReady (D.files disk.new) self.new }
         ensures keeps { KeepsFiles self.old self.new }
+        ensures bounded { (capacity : ℕ) → IsBounded capacity self.old → IsBounded capacity self.new }
 
         ensures others { D.Tells → KeepsOtherFiles (self.old.head.generation + 1) (D.files disk.old) (D.files disk.new) }
         ensures counts { D.fault_count disk.old ≤ D.fault_count disk.new }
@@ -218,6 +223,7 @@ impl OpenFiles {
         ensures idle { copier_goal self.old.copier ≡ None → self.new ≡ self.old }
         ensures none { copier_goal self.new.copier ≡ None }
         ensures keeps { KeepsFiles self.old self.new }
+        ensures bounded { (capacity : ℕ) → IsBounded capacity self.old → IsBounded capacity self.new }
     {
         if let Copier::Standing(_) = &self.copier {
             self.copier = Copier::Ended {
@@ -258,6 +264,7 @@ impl OpenFiles {
 
         ensures ready { D.Tells → self.new.frozen ≡ false → FilesReady (D.files disk.new) self.new }
         ensures flags { D.Tells → IfOk result (λ places. (pair : Pair) → MayFlagPlace (D.files disk.new) self.new (last_place places.items pair place.Gone)) }
+        ensures bounded { (capacity : ℕ) → IsBounded capacity self.old → IsBounded capacity self.new }
         ensures photos { IfOk result (λ places. ArePhotos places.items) }
         ensures seen { D.Tells → IfOk result (λ places. (pair : Pair) → IsSeen (last_place places.items pair place.Gone)) }
         ensures volume { D.Tells → self.old.frozen ≡ false → OnErr result (D.files disk.new self.old.volume.file ≡ D.files disk.old self.old.volume.file) }

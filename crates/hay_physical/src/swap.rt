@@ -40,6 +40,7 @@ impl OpenFiles {
         ensures counted { D.Tells → OnOk result ((sup : Super) (t : Stored) → FilesStand sup (D.files disk.new) self.new t → length t.cells ≡ length compactor.index.pending) }
         ensures open { OnOk result ((self.new.frozen ≡ false) × (self.new.index.frozen ≡ false)) }
         ensures behind { compactor.volume.end ≤ compactor.next }
+        ensures limit { (capacity : ℕ) → self.old.volume.capacity ≡ capacity → compactor.capacity ≡ capacity → self.new.volume.capacity ≡ capacity }
         ensures moved { OnOk result (self.new.head.generation ≡ self.old.head.generation + 1) }
         ensures flags { D.Tells → IfOk result (λ places. (pair : Pair) → MayFlagPlace (D.files disk.new) self.new (last_place places.items pair place.Gone)) }
         ensures seen { D.Tells → IfOk result (λ places. (pair : Pair) → IsSeen (last_place places.items pair place.Gone)) }

@@ -37,6 +37,7 @@ invariant_of-self g c =
             copier_ready_volume (files was.disk) (files c.cell.new.disk) opened opened (files_settled was.phase opened c.in-Open.is c.self.invariant.1) ready.0 ready.1 refl (c.cell.ensures.others tells),
           )),
       c.self.invariant.1,
+      c.self.invariant.2,
     )
 
 pub returns-clause-needle : goal.returns-clause-needle

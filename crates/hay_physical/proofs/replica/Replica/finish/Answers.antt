@@ -1,4 +1,4 @@
-use Rattle.std.proofs.Common.{◌≡◌, inl, inr, Bool, refl, sym, ap, subst, ◌∙◌}
+use Rattle.std.proofs.Common.{◌≡◌, inl, inr, Bool, Some, None, refl, sym, ap, subst, ◌∙◌}
 use Rattle.std.specs.Prelude.{OnOk}
 use Rattle.std.proofs.lemmas.Bool.{cases_Bool}
 use Rattle.hay_disk.specs.Disk.{FileState}
@@ -7,16 +7,29 @@ use Rattle.hay_physical.specs.declared.state.OpenFiles.{OpenFiles}
 use Rattle.hay_physical.specs.declared.state.Phase.TheVariants.{Open}
 use Rattle.hay_physical.specs.Replicas.{MayFind, MayFlag}
 use Rattle.hay_open.specs.Stored.{index_file, volume_file}
-use Rattle.hay_physical.specs.Copies.{Copy, copied_of, generation_of, phase_copied, phase_generation}
+use Rattle.hay_physical.specs.Copies.{Copy, copied_of, copier_goal, generation_of, phase_copied, phase_generation}
 use Rattle.hay_physical.specs.Runs.{RemovedBoth}
 use Rattle.hay_physical.proofs.Openings.{on_any}
+use Rattle.hay_physical.proofs.RunLaws.{settled_none}
 use Rattle.hay_physical.proofs.Standing.{on_err}
 use Rattle.hay_physical.proofs.Views.{files_flag, files_going, files_stand, files_stuck, if_ok, if_ok_so, on_err_so, on_ok_one, open_deletes, open_stands}
-use Rattle.hay_physical.proofs.RunViews.{files_ready, files_run, place_deletes}
+use Rattle.hay_physical.proofs.RunViews.{files_bounded, files_ready, files_run, place_deletes}
 use Rattle.hay_physical.specs.Replicas.{Anywhere}
 use Rattle.hay_physical.proofs.Looks.{always_ok}
 use Rattle.hay_physical.proofs.Seeing.{sight_same, stands_shows}
 use Rattle.hay_physical.proofs.replica.Replica.finish.Goals as goal
+
+pub invariant_of-self : goal.invariant_of-self
+invariant_of-self g c =
+    let was = c.self.inside in
+    let capacity = was.sup.settings.capacity in (
+      λ tells thawed. (
+        c.finish.ensures.ready tells thawed,
+        λ stage is. let e : None ≡ Some stage.generation = sym c.finish.ensures.goal ∙ ap copier_goal is in absurd cc,
+      ),
+      settled_none c.finish.new.self c.finish.ensures.goal,
+      c.finish.ensures.bounded capacity (files_bounded capacity was.phase c.in-Open.files c.in-Open.is c.self.invariant.2),
+    )
 
 pub returns-clause-swapped : goal.returns-clause-swapped
 returns-clause-swapped g c = λ tells s run stands has none.

@@ -1,7 +1,8 @@
-use Rattle.std.proofs.Common.{◌∙◌, length, sym}
+use Rattle.std.proofs.Common.{◌∙◌, ap, length, sym}
+use Rattle.hay_volume.specs.declared.volume.VolumeFile.{VolumeFile}
 use Rattle.hay_physical.specs.Replicas.{all_recorded}
-use Rattle.hay_physical.proofs.RunLaws.{copier_ready_index, next_besides_index, run_kept, settled_still}
-use Rattle.hay_physical.proofs.RunViews.{files_ready, files_settled, run_still}
+use Rattle.hay_physical.proofs.RunLaws.{bounded_still, copier_ready_index, next_besides_index, run_kept, settled_still}
+use Rattle.hay_physical.proofs.RunViews.{files_bounded, files_ready, files_settled, run_still}
 use Rattle.hay_physical.proofs.Views.{files_flag, files_going, files_stand, if_ok_so, if_ok_unit, on_err_so, open_deletes, open_stands}
 use Rattle.hay_physical.specs.Replicas.{Anywhere}
 use Rattle.hay_physical.proofs.Seeing.{sight_same}
@@ -41,6 +42,8 @@ invariant_of-self g c =
           let ready = files_ready (files was.disk) was.phase opened c.in-Open.is (c.self.invariant.0 tells) (sym c.flush.ensures.open ∙ thawed) in
           (c.flush.ensures.ready tells thawed, copier_ready_index (files was.disk) (files c.flush.new.disk) opened c.flush.new.self settled ready.0 ready.1 c.flush.ensures.copier.0 (c.flush.ensures.others tells)),
       settled_still opened c.flush.new.self settled c.flush.ensures.copier.1 c.flush.ensures.copier.0 c.flush.ensures.open,
+      bounded_still was.sup.settings.capacity opened c.flush.new.self (files_bounded was.sup.settings.capacity was.phase opened c.in-Open.is c.self.invariant.2)
+          (ap (λ (v : VolumeFile). v.capacity) c.flush.ensures.copier.2) c.flush.ensures.copier.0,
     )
 
 pub returns-clause-run : goal.returns-clause-run

@@ -10,7 +10,7 @@ use Rattle.hay_physical.proofs.Drawing.{opening_draws}
 use Rattle.hay_physical.proofs.Holding.{finds_now, finds_opens}
 use Rattle.hay_physical.proofs.Openings.{disk_finds, disk_opens, finds_kept, finds_not_void, on_any, opened_ready, opened_stands, same_fault}
 use Rattle.hay_physical.proofs.Views.{open_stands}
-use Rattle.hay_physical.proofs.RunLaws.{not_ended, settled_none}
+use Rattle.hay_physical.proofs.RunLaws.{bounded_ended, not_ended, settled_none}
 use Rattle.hay_physical.proofs.Seeing.{found_sees, stands_shows}
 use Rattle.hay_physical.proofs.replica.Replica.open.Goals as goal
 
@@ -51,6 +51,7 @@ pub invariant_of-self-2 : goal.invariant_of-self-2
 invariant_of-self-2 g c = (
   λ tells going. (opened_ready (g.D.Disk.files c.open_replica.new.disk) c.in_ok-head.field-0 (c.in_ok-head.ensures.ready tells), λ stage is. not_ended _ 0 stage refl is),
   settled_none _ refl,
+  bounded_ended c.self.inside.sup.settings.capacity _ 0 c.in_ok-head.ensures.capacity refl,
 )
 
 pub returns-clause-opened : goal.returns-clause-opened

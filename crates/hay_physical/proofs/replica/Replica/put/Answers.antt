@@ -8,8 +8,8 @@ use Rattle.hay_physical.specs.declared.state.OpenFiles.{OpenFiles}
 use Rattle.hay_physical.specs.Replicas.{FilesStand}
 use Rattle.hay_physical.specs.Runs.{longer}
 use Rattle.hay_physical.proofs.Standing.{on_err}
-use Rattle.hay_physical.proofs.RunLaws.{copier_ready_volume, next_besides_volume, run_kept, run_put, settled_kept}
-use Rattle.hay_physical.proofs.RunViews.{files_ready, files_settled, run_still, run_through}
+use Rattle.hay_physical.proofs.RunLaws.{bounded_kept, copier_ready_volume, next_besides_volume, run_kept, run_put, settled_kept}
+use Rattle.hay_physical.proofs.RunViews.{files_bounded, files_ready, files_settled, run_still, run_through}
 use Rattle.std.proofs.Common.{arith}
 use Rattle.hay_needle.specs.Sizes.{needle_total}
 use Rattle.hay_physical.specs.Replicas.{Anywhere}
@@ -62,6 +62,7 @@ invariant_of-self g c =
           let ready = files_ready (files was.disk) was.phase opened c.in-Open.is (c.self.invariant.0 tells) (c.put.ensures.copier.thawed thawed) in
           (c.put.ensures.ready tells thawed, copier_ready_volume (files was.disk) (files c.put.new.disk) opened c.put.new.self settled ready.0 ready.1 (c.put.ensures.copier.same thawed) (c.put.ensures.others tells)),
       settled_kept opened c.put.new.self settled c.put.ensures.copier,
+      bounded_kept was.sup.settings.capacity opened c.put.new.self (files_bounded was.sup.settings.capacity was.phase opened c.in-Open.is c.self.invariant.2) c.put.ensures.limit c.put.ensures.copier,
     )
 
 pub returns-clause-run : goal.returns-clause-run

@@ -1,3 +1,5 @@
+use Rattle.hay_physical.specs.declared.state.Copier.TheVariants.{Standing}
+use Rattle.hay_physical.proofs.RunLaws.{bounded_next}
 use Rattle.std.proofs.Common.{refl, ap, Err}
 use Rattle.hay_physical.specs.declared.state.OpenFiles.{OpenFiles}
 use Rattle.hay_physical.proofs.RunLaws.{beside_volume, by_fault, run_copied, run_stays}
@@ -24,3 +26,12 @@ returns-in-Err-clause-memory g c = λ tells wants sup s run r.
     (c.in-Err.ensures.stands tells (ap (λ x. Err x) memory) sup c.args.self.now.volume))
     (λ failed. absurd (let known = (c.broken_off.ensures.failed failed).0 in cc))
     (λ k damaged. absurd (let known = (c.broken_off.ensures.damaged k damaged).0 in cc))
+
+pub returns-in-Ok-clause-bounded : goal.returns-in-Ok-clause-bounded
+returns-in-Ok-clause-bounded g c = λ capacity bounded.
+    bounded_next capacity c.args.self.now _ c.in-Standing.compactor c.copy.new.self bounded refl c.in-Standing.is refl c.copy.ensures.capacity
+
+pub returns-in-Err-clause-bounded : goal.returns-in-Err-clause-bounded
+returns-in-Err-clause-bounded g c = λ capacity bounded.
+    c.broken_off.ensures.bounded capacity (bounded_next capacity c.args.self.now (record c.args.self.now { copier = Standing c.copy.new.self })
+    c.in-Standing.compactor c.copy.new.self bounded refl c.in-Standing.is refl c.copy.ensures.capacity)

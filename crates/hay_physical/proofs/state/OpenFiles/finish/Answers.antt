@@ -1,3 +1,5 @@
+use Rattle.hay_physical.specs.Copies.{copier_capacity}
+use Rattle.hay_physical.proofs.RunLaws.{bounded_ended}
 use Rattle.std.proofs.Common.{◌≡◌, refl, sym, ap, ◌∙◌}
 use Rattle.hay_compact.specs.Copying.{stored_of}
 use Rattle.hay_physical.specs.declared.state.Copier.TheVariants.{Standing}
@@ -45,3 +47,11 @@ returns-in-Standing-clause-counted g c = λ tells.
     on_ok_one c.make_current-answer.result _ _
     (λ counted sup t f. counted sup t (stand_with sup (g.D.Disk.files c.make_current-answer.new.disk) _ c.make_current-answer.new.self t f refl) ∙ sym (ap copier_copied is))
     (c.make_current-answer.ensures.counted tells)
+
+pub returns-in-Standing-clause-bounded : goal.returns-in-Standing-clause-bounded
+returns-in-Standing-clause-bounded g c = λ capacity bounded.
+    let is : c.args.self.now.copier ≡ Standing c.in-Standing.compactor = sym c.replace.ensures.value ∙ c.in-Standing.is in
+    bounded_ended capacity _ _ (c.make_current-answer.ensures.limit capacity bounded.volume (bounded.next c.in-Standing.compactor.capacity (ap copier_capacity is))) refl
+
+pub returns-in-Ended-clause-bounded : goal.returns-in-Ended-clause-bounded
+returns-in-Ended-clause-bounded g c = λ capacity bounded. bounded_ended capacity _ _ bounded.volume refl

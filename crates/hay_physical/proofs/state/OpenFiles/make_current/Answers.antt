@@ -12,7 +12,7 @@ use Rattle.hay_physical.proofs.Removing.{removed_since}
 use Rattle.hay_compact.specs.Finishing.{IsSeen}
 use Rattle.hay_map.specs.Rows.{last_place}
 use Rattle.hay_map.specs.declared.place.Place.TheVariants as place
-use Rattle.hay_physical.proofs.Views.{if_ok_so}
+use Rattle.hay_physical.proofs.Views.{if_ok_so, on_err_so}
 use Rattle.hay_physical.proofs.state.OpenFiles.make_current.Goals as goal
 
 pub swap-requires-clause-gate : goal.swap-requires-clause-gate
@@ -106,3 +106,9 @@ returns-in-Ok-clause-counted g c = λ tells.
     swap_counts g.D.Piece.Piece.Tells m.sup sup (files c.finish.new.disk) (files c.swap.new.disk) c.args.self.now c.swap.new.self t c.args.compactor m.fresh c.in-Ok.finished fin is.1
     (made_kept (files c.args.disk.now) (files c.finish.new.disk) (files c.swap.new.disk) c.args.self.now c.args.compactor (c.requires.ready tells) c.requires.next but) m.making.noted f)
     c.swap.ensures.swapped (c.swap.ensures.others tells)
+
+pub returns-in-Ok-clause-limit : goal.returns-in-Ok-clause-limit
+returns-in-Ok-clause-limit g c = λ capacity old next.
+    by_result c.swap.result (c.swap.new.self.volume.capacity ≡ capacity)
+    (if_ok_so c.swap.result _ _ (λ places is. ap (λ (o : OpenFiles). o.volume.capacity) is.1 ∙ c.in-Ok.ensures.capacity ∙ next) c.swap.ensures.swapped)
+    (on_err_so c.swap.result _ _ (λ is. ap (λ (o : OpenFiles). o.volume.capacity) is ∙ old) c.swap.ensures.err)

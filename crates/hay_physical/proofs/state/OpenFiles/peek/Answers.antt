@@ -1,3 +1,6 @@
+use Rattle.hay_compact.specs.Copying.{Stage}
+use Rattle.hay_physical.specs.declared.state.Copier.TheVariants.{Standing}
+use Rattle.hay_physical.proofs.RunLaws.{bounded_next}
 use Rattle.std.proofs.Common.{◌≡◌, refl, ap, Err}
 use Rattle.hay_physical.specs.declared.fault.ReplicaFault.{ReplicaFault}
 use Rattle.hay_physical.specs.declared.state.OpenFiles.{OpenFiles}
@@ -41,3 +44,12 @@ returns-in-Err-clause-making g c = λ tells ready stage is.
     (ap (λ (o : OpenFiles). o.copier) (c.broken_off.ensures.memory memory).1) (ready c.in-Standing.compactor c.in-Standing.is) c.peek.ensures.stands (c.peek.ensures.same tells) is)
     (λ failed. not_ended c.broken_off.new.self.copier _ stage (ap (λ (o : OpenFiles). o.copier) (c.broken_off.ensures.failed failed).1) is)
     (λ k damaged. not_ended c.broken_off.new.self.copier _ stage (ap (λ (o : OpenFiles). o.copier) (c.broken_off.ensures.damaged k damaged).1) is)
+
+pub returns-in-Ok-clause-bounded : goal.returns-in-Ok-clause-bounded
+returns-in-Ok-clause-bounded g c = λ capacity bounded.
+    bounded_next capacity c.args.self.now _ c.in-Standing.compactor c.peek.new.self bounded refl c.in-Standing.is refl (ap (λ (s : Stage). s.capacity) c.peek.ensures.stands)
+
+pub returns-in-Err-clause-bounded : goal.returns-in-Err-clause-bounded
+returns-in-Err-clause-bounded g c = λ capacity bounded.
+    c.broken_off.ensures.bounded capacity (bounded_next capacity c.args.self.now (record c.args.self.now { copier = Standing c.peek.new.self })
+    c.in-Standing.compactor c.peek.new.self bounded refl c.in-Standing.is refl (ap (λ (s : Stage). s.capacity) c.peek.ensures.stands))
