@@ -64,7 +64,7 @@ module _ {D P : Type 0} (DiskTells : Type 0) (files : D → Files) (faults : D �
       idle = λ frozen. idle y here (frozen_is y frozen);
     }
 
-    called_there : (Q : Copy D → Copy D → Type 0) → Q r y → (a b : Copy D) → At old at a → At new at b → Q a b
+    pub called_there : (Q : Copy D → Copy D → Type 0) → Q r y → (a b : Copy D) → At old at a → At new at b → Q a b
     called_there Q is a b e f = subst (λ (x : Copy D). Q x b) (at_same old at r a was e) (subst (λ (x : Copy D). Q r x) (sym (stays b f)) is)
 
     pub swaps_there : (a b : Copy D) → At old at a → At new at b → SwapsAt DiskTells files faults Tells start rows rows' at a b result

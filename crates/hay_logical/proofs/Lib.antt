@@ -38,3 +38,6 @@ pub mod Through
 pub mod Looks
 pub mod Drawing
 pub mod Untouched
+pub mod Seen
+pub mod SeenSwaps
+pub mod SeenChanges

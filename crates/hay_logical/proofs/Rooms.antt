@@ -13,7 +13,7 @@ use Rattle.hay_legal.specs.declared.known.ReplicaKnown.{ReplicaKnown}
 use Rattle.hay_legal.specs.declared.known.VolumeKnown.{VolumeKnown}
 use Rattle.hay_legal.specs.Known.{empty_replica, lacks_room, machine_of, replica_at, room_refusal_of}
 use Rattle.hay_map.specs.MapRows.{MapRows}
-use Rattle.hay_physical.specs.Copies.{Copy, capacity_of, end_of}
+use Rattle.hay_physical.specs.Copies.{Copy, HasCapacity, capacity_of, end_of}
 use Rattle.hay_physical.proofs.Laws.{stands_capacity, stands_end}
 use Rattle.hay_logical.specs.declared.replicas.Broken.{Broken}
 use Rattle.hay_logical.specs.declared.unsure.Unsure.{Unsure}
@@ -99,3 +99,7 @@ module _ {D P : Type 0} (files : D → Files) (Tells : Type 0) (settings : Setti
 
 pub room_by : (settings : Settings) (frozen known : Option ℕ) (refused refusal : Option Refused) → known ≡ frozen → refusal ≡ refused → room_answer settings frozen refused ≡ room_answer settings known refusal
 room_by settings frozen known refused refusal e f = ap (λ (o : Option ℕ). room_answer settings o refused) (sym e) ∙ ap (room_answer settings known) (sym f)
+
+-- what a replica that has its capacity may have, by the settings of the volume
+pub capacity_by : {D : Type 0} (inside settings : Settings) (number j : ℕ) (r : Copy D) → HasCapacity r → r.sup ≡ super_of inside number j → inside ≡ settings → capacity_of r ≡ settings.capacity
+capacity_by inside settings number j r has sup same = has ∙ ap (λ s. s.settings.capacity) sup ∙ ap (λ (s : Settings). s.capacity) same

@@ -111,7 +111,7 @@ one_untouched at old new one same = one.is ∙ ap (λ x. slice_set old at x) sam
 
 -- THE END OF A COMPACTION
 
-lists_same : {X : Type 0} (xs ys : List X) → length ys ≡ length xs → ((j : ℕ) (x y : X) → At xs j x → At ys j y → y ≡ x) → ys ≡ xs
+pub lists_same : {X : Type 0} (xs ys : List X) → length ys ≡ length xs → ((j : ℕ) (x y : X) → At xs j x → At ys j y → y ≡ x) → ys ≡ xs
 lists_same [] [] long same = refl
 lists_same [] (y ∷ ys) long same = absurd (omega (arith, long))
 lists_same (x ∷ xs) [] long same = absurd (omega (arith, long))

@@ -7,3 +7,4 @@ pub mod Notes
 pub mod Refusals
 pub mod Draws
 pub mod Unshown
+pub mod Seen

@@ -14,13 +14,14 @@ ghost use Rattle.hay_map.specs.declared.view.MapOp.TheVariants as map_op;
 ghost use Rattle.hay_open.specs.Damage.{IsOpeningDamage};
 ghost use Rattle.hay_open.specs.declared.fault.OpenFault.TheVariants as open_fault;
 ghost use Rattle.hay_physical.specs.declared.state.Phase.TheVariants.{Closed};
-ghost use Rattle.hay_physical.specs.Copies.{Copy, contents_of, goal_of, is_stuck};
+ghost use Rattle.hay_physical.specs.Copies.{Copy, contents_of, generation_of, goal_of, is_stuck};
 ghost use Rattle.hay_physical.specs.Copies as copies;
 ghost use Rattle.hay_compact.specs.Finishing.{IsSeen};
 ghost use Rattle.hay_logical.specs.Draws.{DrewAt, HasDrawnNothing, looked_pair};
 ghost use Rattle.hay_logical.specs.Fits.{At, PlaceStands, super_of};
 ghost use Rattle.hay_logical.specs.Notes.{DeleteLeavesUnsure, NotesTell, PutLeavesUnsure};
 ghost use Rattle.hay_logical.specs.Refusals.{DeleteFreezes, FailureMayFreeze, FlushSticks, IsUntouchedBy, PutFreezes};
+ghost use Rattle.hay_logical.specs.Seen.{BeginRefusedSeen, BeginSeen, ChangesAt, CompactRefusedSeen, CompactSeen, DeleteRefusedSeen, EndsAlone, EraseSeen, FinishRefusedSeen, FinishSeen, FlushRefusedSeen, FlushSeen, FreezesSeen, HideSeen, OpenSeen, PutRefusedSeen, RoomRefusedSeen, RoomSeen, StepRefusedSeen, StepSeen, StoreSeen, WriteSeen, volume_seen};
 ghost use Rattle.hay_logical.specs.Steps.{AllIdle, IsRefusedAt, IsSeenBy, KeepsAbove, KeepsDisk, KeepsFiles, KeepsStuck, LosesRun, RoomFor, SetsPlaceAt};
 ghost use Rattle.hay_logical.specs.Volumes.{HasAll, IsClosed, IsMachineOf, IsOfSettings, IsOpenVolume, IsSame, KeepsCounts, Volume};
 ghost use Rattle.hay_logical.specs.Unshown.{GivesUp, IsErased, IsWritten, IsWrittenFor, ShowsSame};
@@ -171,6 +172,7 @@ impl<D: Disk> Logical<D> {
 
         ensures counts { KeepsCounts D.fault_count D.fuse_count self.old.replicas self.new.replicas }
         ensures same { IsSame self.old self.new }
+        ensures seen { OnOk result (OpenSeen (volume_seen self.new)) }
     {
         self.rows = MapView::new(alloc, self.settings.replicas);
         match open_all(
@@ -212,6 +214,8 @@ impl<D: Disk> Logical<D> {
         ensures takes { self.now.frozen ≡ None → ((j : ℕ) (r : Copy D) → At self.now.replicas j r → RoomFor size r) → IsOk result }
         ensures thawed { self.now.frozen ≡ None → (m : ℕ) → result ≡ Err (LogicalFault.ReadOnly m) → ⊥ }
         ensures causes { IfErr result (IsRoomFault self.now.settings self.now.number) }
+        ensures seen { OnOk result (RoomSeen self.now.settings size (volume_seen self.now)) }
+        ensures refused_seen { IfErr result (RoomRefusedSeen self.now.settings self.now.number size (volume_seen self.now)) }
     {
         if let Some(machine) = self.frozen {
             return Err(LogicalFault::ReadOnly { machine });
@@ -282,6 +286,8 @@ impl<D: Disk> Logical<D> {
         ensures open { IsOpenVolume self.new }
         ensures counts { KeepsCounts D.fault_count D.fuse_count self.old.replicas self.new.replicas }
         ensures same { IsSame self.old self.new }
+        ensures seen { OnOk result (WriteSeen (length bytes.now) (volume_seen self.old) (volume_seen self.new)) }
+        ensures refused_seen { IfErr result (PutRefusedSeen self.old.settings self.old.number tag (length bytes.now) (volume_seen self.old) (volume_seen self.new)) }
     {
         self.room(bytes.len() as u32)?;
         let Some(position) = self.front.checked_add(1) else {
@@ -341,6 +347,8 @@ impl<D: Disk> Logical<D> {
         ensures open { IsOpenVolume self.new }
         ensures counts { KeepsCounts D.fault_count D.fuse_count self.old.replicas self.new.replicas }
         ensures same { IsSame self.old self.new }
+        ensures seen { self.old.frozen ≡ None →
+            FreezesSeen (machine_of self.old.settings self.old.number 0) (Some (record { tag = tag; change = change })) (volume_seen self.old) (volume_seen self.new) }
     {
         self.halt();
         self.unsure = Some(Unsure { tag, change });
@@ -359,6 +367,7 @@ impl<D: Disk> Logical<D> {
         ensures open { IsOpenVolume self.new }
         ensures counts { KeepsCounts D.fault_count D.fuse_count self.old.replicas self.new.replicas }
         ensures same { IsSame self.old self.new }
+        ensures seen { self.old.frozen ≡ None → FreezesSeen (machine_of self.old.settings self.old.number 0) self.old.unsure (volume_seen self.old) (volume_seen self.new) }
     {
         if self.frozen.is_some() {
             return;
@@ -416,6 +425,8 @@ impl<D: Disk> Logical<D> {
         ensures open { IsOpenVolume self.new }
         ensures counts { KeepsCounts D.fault_count D.fuse_count self.old.replicas self.new.replicas }
         ensures same { IsSame self.old self.new }
+        ensures seen { IfOk result (λ position. StoreSeen (length bytes.now) position (volume_seen self.old) (volume_seen self.new)) }
+        ensures refused_seen { IfErr result (PutRefusedSeen self.old.settings self.old.number tag (length bytes.now) (volume_seen self.old) (volume_seen self.new)) }
     {
         let written = self.write(alloc, tag, pair, cookie, bytes)?;
         Ok(self.show(written))
@@ -465,6 +476,7 @@ impl<D: Disk> Logical<D> {
         ensures open { IsOpenVolume self.new }
         ensures counts { KeepsCounts D.fault_count D.fuse_count self.old.replicas self.new.replicas }
         ensures same { IsSame self.old self.new }
+        ensures unchanged { volume_seen self.new ≡ volume_seen self.old }
         ensures still { (self.new.frozen ≡ self.old.frozen) × (self.new.front ≡ self.old.front) × (self.new.unsure ≡ self.old.unsure) }
     {
         match self.see_in(replica, pair, out) {
@@ -499,6 +511,7 @@ impl<D: Disk> Logical<D> {
         ensures open { IsOpenVolume self.new }
         ensures counts { KeepsCounts D.fault_count D.fuse_count self.old.replicas self.new.replicas }
         ensures same { IsSame self.old self.new }
+        ensures unchanged { volume_seen self.new ≡ volume_seen self.old }
         ensures still { (self.new.frozen ≡ self.old.frozen) × (self.new.front ≡ self.old.front) × (self.new.unsure ≡ self.old.unsure) }
         ensures runs { (j : ℕ) (r r' : Copy D) → At self.old.replicas j r → At self.new.replicas j r' → goal_of r' ≡ goal_of r }
     {
@@ -529,6 +542,7 @@ impl<D: Disk> Logical<D> {
         ensures open { IsOpenVolume self.new }
         ensures counts { KeepsCounts D.fault_count D.fuse_count self.old.replicas self.new.replicas }
         ensures same { IsSame self.old self.new }
+        ensures unchanged { volume_seen self.new ≡ volume_seen self.old }
         ensures still { (self.new.frozen ≡ self.old.frozen) × (self.new.front ≡ self.old.front) × (self.new.unsure ≡ self.old.unsure) }
         ensures runs { (j : ℕ) (r r' : Copy D) → At self.old.replicas j r → At self.new.replicas j r' → goal_of r' ≡ goal_of r }
     {
@@ -571,6 +585,8 @@ impl<D: Disk> Logical<D> {
         ensures open { IsOpenVolume self.new }
         ensures counts { KeepsCounts D.fault_count D.fuse_count self.old.replicas self.new.replicas }
         ensures same { IsSame self.old self.new }
+        ensures after { OnOk result (EraseSeen (volume_seen self.old) (volume_seen self.new)) }
+        ensures refused_seen { IfErr result (DeleteRefusedSeen tag pair (volume_seen self.old) (volume_seen self.new)) }
     {
         if let Some(machine) = self.frozen {
             return Err(LogicalFault::ReadOnly { machine });
@@ -605,6 +621,8 @@ impl<D: Disk> Logical<D> {
         ensures open { IsOpenVolume self.new }
         ensures counts { KeepsCounts D.fault_count D.fuse_count self.old.replicas self.new.replicas }
         ensures same { IsSame self.old self.new }
+        ensures after { OnOk result (EraseSeen (volume_seen self.old) (volume_seen self.new)) }
+        ensures refused_seen { IfErr result (DeleteRefusedSeen tag pair (volume_seen self.old) (volume_seen self.new)) }
     {
         let row = self.rows.row(pair);
         if !has_live(&row) {
@@ -674,6 +692,8 @@ impl<D: Disk> Logical<D> {
         ensures open { IsOpenVolume self.new }
         ensures counts { KeepsCounts D.fault_count D.fuse_count self.old.replicas self.new.replicas }
         ensures same { IsSame self.old self.new }
+        ensures after { IfOk result (λ position. HideSeen position (volume_seen self.old) (volume_seen self.new)) }
+        ensures refused_seen { IfErr result (DeleteRefusedSeen tag pair (volume_seen self.old) (volume_seen self.new)) }
     {
         let erased = self.erase(tag, pair, out)?;
         Ok(self.hide(erased))
@@ -702,6 +722,8 @@ impl<D: Disk> Logical<D> {
         ensures open { IsOpenVolume self.new }
         ensures counts { KeepsCounts D.fault_count D.fuse_count self.old.replicas self.new.replicas }
         ensures same { IsSame self.old self.new }
+        ensures seen { OnOk result (FlushSeen replica (volume_seen self.old) (volume_seen self.new)) }
+        ensures refused_seen { IfErr result (FlushRefusedSeen self.old.settings self.old.number replica (volume_seen self.old) (volume_seen self.new)) }
     {
         if let Some(machine) = self.frozen {
             return Err(LogicalFault::ReadOnly { machine });
@@ -734,6 +756,8 @@ impl<D: Disk> Logical<D> {
         ensures open { IsOpenVolume self.new }
         ensures counts { KeepsCounts D.fault_count D.fuse_count self.old.replicas self.new.replicas }
         ensures same { IsSame self.old self.new }
+        ensures seen { IfOk result (λ goal. BeginSeen replica goal (volume_seen self.old) (volume_seen self.new)) }
+        ensures refused_seen { IfErr result (BeginRefusedSeen self.old.settings self.old.number replica (volume_seen self.old) (volume_seen self.new)) }
     {
         if let Some(machine) = self.frozen {
             return Err(LogicalFault::ReadOnly { machine });
@@ -769,6 +793,8 @@ impl<D: Disk> Logical<D> {
         ensures open { IsOpenVolume self.new }
         ensures counts { KeepsCounts D.fault_count D.fuse_count self.old.replicas self.new.replicas }
         ensures same { IsSame self.old self.new }
+        ensures seen { IfOk result (λ number. StepSeen replica cells number (volume_seen self.old) (volume_seen self.new)) }
+        ensures refused_seen { IfErr result (StepRefusedSeen self.old.settings self.old.number replica (volume_seen self.old) (volume_seen self.new)) }
     {
         if let Some(machine) = self.frozen {
             return Err(LogicalFault::ReadOnly { machine });
@@ -822,6 +848,8 @@ impl<D: Disk> Logical<D> {
         ensures open { IsOpenVolume self.new }
         ensures counts { KeepsCounts D.fault_count D.fuse_count self.old.replicas self.new.replicas }
         ensures same { IsSame self.old self.new }
+        ensures seen { IfOk result (λ files. FinishSeen replica files.generation files.end (volume_seen self.old) (volume_seen self.new)) }
+        ensures refused_seen { IfErr result (FinishRefusedSeen self.old.settings self.old.number replica (volume_seen self.old) (volume_seen self.new)) }
     {
         if let Some(machine) = self.frozen {
             return Err(LogicalFault::ReadOnly { machine });
@@ -870,6 +898,8 @@ impl<D: Disk> Logical<D> {
         ensures open { IsOpenVolume self.new }
         ensures counts { KeepsCounts D.fault_count D.fuse_count self.old.replicas self.new.replicas }
         ensures same { IsSame self.old self.new }
+        ensures seen { IfOk result (λ generation. (end : ℕ) × FinishSeen replica generation end (volume_seen self.old) (volume_seen self.new)) }
+        ensures refused_seen { IfErr result (FinishRefusedSeen self.old.settings self.old.number replica (volume_seen self.old) (volume_seen self.new)) }
     {
         let files = self.finish_files(replica)?;
         Ok(files.generation)
@@ -909,6 +939,8 @@ impl<D: Disk> Logical<D> {
         ensures open { IsOpenVolume self.new }
         ensures counts { KeepsCounts D.fault_count D.fuse_count self.old.replicas self.new.replicas }
         ensures same { IsSame self.old self.new }
+        ensures seen { IfOk result (λ files. CompactSeen replica files.generation files.end (volume_seen self.old) (volume_seen self.new)) }
+        ensures refused_seen { IfErr result (CompactRefusedSeen self.old.settings self.old.number replica (volume_seen self.old) (volume_seen self.new)) }
     {
         if let Some(machine) = self.frozen {
             return Err(LogicalFault::ReadOnly { machine });
@@ -953,6 +985,8 @@ impl<D: Disk> Logical<D> {
         ensures open { IsOpenVolume self.new }
         ensures counts { KeepsCounts D.fault_count D.fuse_count self.old.replicas self.new.replicas }
         ensures same { IsSame self.old self.new }
+        ensures seen { IfOk result (λ generation. (end : ℕ) × CompactSeen replica generation end (volume_seen self.old) (volume_seen self.new)) }
+        ensures refused_seen { IfErr result (CompactRefusedSeen self.old.settings self.old.number replica (volume_seen self.old) (volume_seen self.new)) }
     {
         let files = self.compact_files(alloc, replica)?;
         Ok(files.generation)
@@ -969,6 +1003,7 @@ impl<D: Disk> Logical<D> {
         ensures open { IsOpenVolume self.new }
         ensures counts { KeepsCounts D.fault_count D.fuse_count self.old.replicas self.new.replicas }
         ensures same { IsSame self.old self.new }
+        ensures seen { ChangesAt replica EndsAlone (volume_seen self.old) (volume_seen self.new) }
     {
         drop_run_at(self.replicas.as_mut_slice(), replica as usize);
     }
@@ -980,6 +1015,7 @@ impl<D: Disk> Logical<D> {
         ensures known { D.Tells → (k : VolumeKnown) → Stands D.files D.Piece.Tells self.now k →
             result ≡ option_map (λ run. run.goal) (replica_at k replica).run }
         ensures most { IfSome result (λ goal. goal ≤ 65535) }
+        ensures next { IfSome result (λ goal. (r : Copy D) → At self.now.replicas replica r → goal ≡ generation_of r + 1) }
     {
         self.replicas.as_slice()[replica as usize].standing()
     }
@@ -1024,6 +1060,7 @@ impl<D: Disk> Logical<D> {
         ensures still { self.new ≡ record self.old { replicas = self.new.replicas } }
         ensures unsure { self.new.unsure ≡ self.old.unsure }
         ensures same { IsSame self.old self.new }
+        ensures unchanged { volume_seen self.new ≡ volume_seen self.old }
     {
         fuse_at(self.replicas.as_mut_slice(), replica as usize, calls);
     }

@@ -5,7 +5,7 @@ ghost use Rattle.hay_map.specs.Places.{place_in};
 ghost use Rattle.hay_map.specs.Rows.{row_at};
 ghost use Rattle.hay_map.specs.Sealed.{SealedNeedle};
 ghost use Rattle.hay_map.specs.declared.place.Place.TheVariants as place;
-ghost use Rattle.hay_physical.specs.Copies.{Copy, IsOpenCopy, IsUp, end_of, is_frozen};
+ghost use Rattle.hay_physical.specs.Copies.{Copy, HasCapacity, IsOpenCopy, IsUp, KeepsEnd, end_of, goal_of, is_frozen};
 ghost use Rattle.hay_physical.specs.declared.state.Phase.TheVariants.{Closed};
 ghost use Rattle.hay_physical.specs.Replicas as physical;
 ghost use Rattle.hay_physical.specs.Runs.{HasRun, Run};
@@ -14,6 +14,7 @@ ghost use Rattle.hay_logical.specs.Draws.{DrewRecordedAt, HasDrawnNothing};
 ghost use Rattle.hay_logical.specs.Fits.{At};
 ghost use Rattle.hay_logical.specs.Refusals.{IsUntouched};
 ghost use Rattle.hay_logical.specs.Volumes.{CanReach, KeepsCounts, ReachesPlaces};
+ghost use Rattle.hay_logical.specs.Seen.{DeleteSeen, PutSeen, replica_seen};
 ghost use Rattle.hay_logical.specs.Steps.{AllIdle, CallsOne, DeleteLeaves, DeletesAt, EndsRuns, FlushesAt, FollowsAt, FusesAt, IsOpenFault, IsRefusedAt, KeepsDisk, KeepsFiles, LacksRoom, LeftAt, OpensAt, PutLeaves, PutsAt, RoomFor, StaysBeside, StaysInReach, Stops};
 
 use crate::fault::Unopened;
@@ -60,6 +61,8 @@ pub(crate) fn room_in<D: Disk>(replicas: &[Replica<D>], size: u32) -> Result<(),
     requires open { (j : ℕ) (r : Copy D) → At replicas.now j r → IsOpenCopy r }
     ensures fits { OnOk result ((j : ℕ) (r : Copy D) → At replicas.now j r → RoomFor size r) }
     ensures lacks { IfErr result (LacksRoom size replicas.now) }
+    ensures capacities { OnOk result ((j : ℕ) (r : Copy D) → At replicas.now j r → HasCapacity r) }
+    ensures lacks_capacities { IfErr result (λ broken. (j : ℕ) (r : Copy D) → j ≤ broken.at → At replicas.now j r → HasCapacity r) }
 {
     for (j, replica) in replicas.iter().enumerate() {
         match replica.room(size) {
@@ -89,6 +92,9 @@ pub(crate) fn put_each<D: Disk>(
     requires up { (j : ℕ) (r : Copy D) → At replicas.old j r → IsUp r }
     requires room { (j : ℕ) (r : Copy D) → At replicas.old j r → RoomFor (length bytes.now) r }
     ensures counts { KeepsCounts D.fault_count D.fuse_count replicas.old replicas.new }
+    ensures seen { OnOk result ((j : ℕ) (r r' : Copy D) → At replicas.old j r → At replicas.new j r' → PutSeen (length bytes.now) (replica_seen r) (replica_seen r')) }
+    ensures refused_seen { IfErr result (λ broken. IsUntouched replicas.new broken → (j : ℕ) (r r' : Copy D) → At replicas.old j r → At replicas.new j r' →
+        replica_seen r' ≡ replica_seen r) }
     ensures places { IfOk result (λ row. length row ≡ length replicas.old) }
     ensures put { IfOk result (λ row. (j : ℕ) (r r' : Copy D) → At replicas.old j r → At replicas.new j r' →
         PutsAt D.Tells D.files D.Piece.Tells pair cookie bytes.now r r' (place_in row j)) }
@@ -121,6 +127,9 @@ fn put_in_order<D: Disk>(
     requires up { (j : ℕ) (r : Copy D) → At replicas.old j r → IsUp r }
     requires room { (j : ℕ) (r : Copy D) → At replicas.old j r → RoomFor (length bytes.now) r }
     ensures counts { KeepsCounts D.fault_count D.fuse_count replicas.old replicas.new }
+    ensures seen { OnOk result ((j : ℕ) (r r' : Copy D) → At replicas.old j r → At replicas.new j r' → PutSeen (length bytes.now) (replica_seen r) (replica_seen r')) }
+    ensures refused_seen { IfErr result (λ broken. IsUntouched replicas.new broken → (j : ℕ) (r r' : Copy D) → At replicas.old j r → At replicas.new j r' →
+        replica_seen r' ≡ replica_seen r) }
     ensures places { IfOk result (λ row. length row ≡ length replicas.old) }
     ensures put { IfOk result (λ row. (j : ℕ) (r r' : Copy D) → At replicas.old j r → At replicas.new j r' →
         PutsAt D.Tells D.files D.Piece.Tells pair cookie bytes.now r r' (place_in row j)) }
@@ -158,6 +167,7 @@ pub(crate) fn delete_each<D: Disk>(
     requires up { (j : ℕ) (r : Copy D) → At replicas.old j r → IsUp r }
     requires live { D.Tells → (j : ℕ) (r : Copy D) → At replicas.old j r → (needle : SealedNeedle) → place_in row.now j ≡ place.Live needle → physical.MayDelete D.files r needle.at }
     ensures counts { KeepsCounts D.fault_count D.fuse_count replicas.old replicas.new }
+    ensures seen { OnOk result ((j : ℕ) (r r' : Copy D) → At replicas.old j r → At replicas.new j r' → DeleteSeen (replica_seen r) (replica_seen r')) }
     ensures deleted { OnOk result ((j : ℕ) (r r' : Copy D) → At replicas.old j r → At replicas.new j r' →
         DeletesAt D.Tells D.files (place_in row.now j) r r') }
     ensures follow { OnOk result ((j : ℕ) (r r' : Copy D) → At replicas.old j r → At replicas.new j r' →
@@ -186,6 +196,7 @@ fn delete_in_order<D: Disk>(
     requires up { (j : ℕ) (r : Copy D) → At replicas.old j r → IsUp r }
     requires live { D.Tells → (j : ℕ) (r : Copy D) → At replicas.old j r → (needle : SealedNeedle) → place_in row.now j ≡ place.Live needle → physical.MayDelete D.files r needle.at }
     ensures counts { KeepsCounts D.fault_count D.fuse_count replicas.old replicas.new }
+    ensures seen { OnOk result ((j : ℕ) (r r' : Copy D) → At replicas.old j r → At replicas.new j r' → DeleteSeen (replica_seen r) (replica_seen r')) }
     ensures deleted { OnOk result ((j : ℕ) (r r' : Copy D) → At replicas.old j r → At replicas.new j r' →
         DeletesAt D.Tells D.files (place_in row.now j) r r') }
     ensures follow { OnOk result ((j : ℕ) (r r' : Copy D) → At replicas.old j r → At replicas.new j r' →
@@ -227,6 +238,7 @@ pub(crate) fn flush_at<D: Disk>(replicas: &mut [Replica<D>], at: usize) -> Resul
     ensures one { CallsOne at replicas.old replicas.new }
     ensures flushes { (r r' : Copy D) → At replicas.old at r → At replicas.new at r' → FlushesAt D.Tells D.files D.fault_count r r' result }
     ensures counts { KeepsCounts D.fault_count D.fuse_count replicas.old replicas.new }
+    ensures stays { (r r' : Copy D) → At replicas.old at r → At replicas.new at r' → KeepsEnd r r' × (goal_of r' ≡ goal_of r) }
 {
     replicas[at].flush()
 }

@@ -1,8 +1,9 @@
 //! Compactions of replicas.
-ghost use Rattle.std.specs.Prelude.{◌≡◌, ◌≤◌, ◌<◌, ℕ, true, false, length, None, OnErr};
+ghost use Rattle.std.specs.Prelude.{◌≡◌, ◌≤◌, ◌<◌, ◌+◌, ℕ, true, false, length, None, IfOk, OnErr};
 ghost use Rattle.hay_map.specs.Places.{place_in};
-ghost use Rattle.hay_physical.specs.Copies.{Copy, IsUp, goal_of, is_frozen};
+ghost use Rattle.hay_physical.specs.Copies.{Copy, IsUp, KeepsEnd, generation_of, goal_of, is_frozen};
 ghost use Rattle.hay_logical.specs.Fits.{At};
+ghost use Rattle.hay_logical.specs.Seen.{SwapSeen, replica_seen};
 ghost use Rattle.hay_logical.specs.Steps.Start.{Examined, Fresh, Going};
 ghost use Rattle.hay_logical.specs.Steps.{AllIdle, BeginsAt, CallsOne, ExaminesAt, KeepsPlaces, LosesRun, StaysInReach, StepsAt, SwapsAt, SwapsOne, latest_of};
 ghost use Rattle.hay_logical.specs.Volumes.{KeepsCounts};
@@ -49,6 +50,7 @@ pub(crate) fn drop_run_at<D: Disk>(replicas: &mut [Replica<D>], at: usize)
     ensures one { CallsOne at replicas.old replicas.new }
     ensures loses { (r r' : Copy D) → At replicas.old at r → At replicas.new at r' → LosesRun D.Tells D.files r r' }
     ensures idle { (r : Copy D) → At replicas.new at r → goal_of r ≡ None }
+    ensures stays { (r r' : Copy D) → At replicas.old at r → At replicas.new at r' → KeepsEnd r r' }
 {
     replicas[at].drop_run();
 }
@@ -64,6 +66,7 @@ pub(crate) fn begin_at<D: Disk>(
     ensures one { CallsOne at replicas.old replicas.new }
     ensures begins { (r r' : Copy D) → At replicas.old at r → At replicas.new at r' → BeginsAt D.Tells D.files D.fault_count r r' result }
     ensures counts { KeepsCounts D.fault_count D.fuse_count replicas.old replicas.new }
+    ensures stays { (r r' : Copy D) → At replicas.old at r → At replicas.new at r' → KeepsEnd r r' × IfOk result (λ goal. goal ≡ generation_of r + 1) }
 {
     replicas[at].begin(alloc)
 }
@@ -84,6 +87,8 @@ pub(crate) fn step_at<D: Disk>(
     ensures steps { (r r' : Copy D) → At replicas.old at r → At replicas.new at r' →
         StepsAt D.Tells D.files D.fault_count D.Piece.Tells rows.now at cells r r' result }
     ensures counts { KeepsCounts D.fault_count D.fuse_count replicas.old replicas.new }
+    ensures stays { (r r' : Copy D) → At replicas.old at r → At replicas.new at r' → KeepsEnd r r' }
+    ensures few { IfOk result (λ number. number ≤ cells) }
 {
     step(&mut replicas[at], at as u32, rows, cells)
 }
@@ -106,6 +111,8 @@ pub(crate) fn finish_at<D: Disk>(
     ensures stays { (r r' : Copy D) → At replicas.old at r → At replicas.new at r' → OnErr result (StaysInReach D.Tells D.files r r') }
     ensures places { KeepsPlaces rows.old rows.new at result }
     ensures counts { KeepsCounts D.fault_count D.fuse_count replicas.old replicas.new }
+    ensures seen { (r r' : Copy D) → At replicas.old at r → At replicas.new at r' → IfOk result (λ files. SwapSeen files.generation files.end (replica_seen r) (replica_seen r')) }
+    ensures kept { (r r' : Copy D) → At replicas.old at r → At replicas.new at r' → OnErr result (KeepsEnd r r') }
 {
     let result = finish(&mut replicas[at], at as u32, rows);
     drop_behind(replicas, at);
@@ -129,6 +136,8 @@ pub(crate) fn compact_at<D: Disk>(
     ensures stays { (r r' : Copy D) → At replicas.old at r → At replicas.new at r' → OnErr result (StaysInReach D.Tells D.files r r') }
     ensures places { KeepsPlaces rows.old rows.new at result }
     ensures counts { KeepsCounts D.fault_count D.fuse_count replicas.old replicas.new }
+    ensures seen { (r r' : Copy D) → At replicas.old at r → At replicas.new at r' → IfOk result (λ files. SwapSeen files.generation files.end (replica_seen r) (replica_seen r')) }
+    ensures kept { (r r' : Copy D) → At replicas.old at r → At replicas.new at r' → OnErr result (KeepsEnd r r') }
 {
     let result = compact(&mut replicas[at], at as u32, rows, alloc);
     drop_behind(replicas, at);
@@ -162,6 +171,8 @@ fn compact<D: Disk>(
     ensures places { KeepsPlaces rows.old rows.new at result }
     ensures counts { D.fault_count replica.old.disk ≤ D.fault_count replica.new.disk }
     ensures fuses { D.fuse_count replica.new.disk ≡ D.fuse_count replica.old.disk }
+    ensures seen { IfOk result (λ files. SwapSeen files.generation files.end (replica_seen replica.old) (replica_seen replica.new)) }
+    ensures kept { OnErr result (KeepsEnd replica.old replica.new) }
 {
     match replica.begin(alloc) {
         Ok(_) => finish(replica, at, rows),
@@ -183,6 +194,8 @@ fn finish<D: Disk>(
     ensures places { KeepsPlaces rows.old rows.new at result }
     ensures counts { D.fault_count replica.old.disk ≤ D.fault_count replica.new.disk }
     ensures fuses { D.fuse_count replica.new.disk ≡ D.fuse_count replica.old.disk }
+    ensures seen { IfOk result (λ files. SwapSeen files.generation files.end (replica_seen replica.old) (replica_seen replica.new)) }
+    ensures kept { OnErr result (KeepsEnd replica.old replica.new) }
 {
     // There are fewer cells than bytes.
     let most = replica.end();
@@ -209,6 +222,8 @@ fn swap<D: Disk>(
     ensures places { KeepsPlaces rows.old rows.new at result }
     ensures counts { D.fault_count replica.old.disk ≤ D.fault_count replica.new.disk }
     ensures fuses { D.fuse_count replica.new.disk ≡ D.fuse_count replica.old.disk }
+    ensures seen { IfOk result (λ files. SwapSeen files.generation files.end (replica_seen replica.old) (replica_seen replica.new)) }
+    ensures kept { OnErr result (KeepsEnd replica.old replica.new) }
 {
     let count = replica.copied();
     match replica.finish() {
@@ -252,6 +267,8 @@ fn step<D: Disk>(
     ensures steps { StepsAt D.Tells D.files D.fault_count D.Piece.Tells rows.now at cells replica.old replica.new result }
     ensures counts { D.fault_count replica.old.disk ≤ D.fault_count replica.new.disk }
     ensures fuses { D.fuse_count replica.new.disk ≡ D.fuse_count replica.old.disk }
+    ensures stays { KeepsEnd replica.old replica.new }
+    ensures few { IfOk result (λ number. number ≤ cells) }
 {
     for examined in 0..cells {
         match examine(replica, at, rows) {
@@ -275,6 +292,7 @@ fn examine<D: Disk>(
     ensures examines { ExaminesAt D.Tells D.files D.fault_count D.Piece.Tells rows.now at replica.old replica.new result }
     ensures counts { D.fault_count replica.old.disk ≤ D.fault_count replica.new.disk }
     ensures fuses { D.fuse_count replica.new.disk ≡ D.fuse_count replica.old.disk }
+    ensures stays { KeepsEnd replica.old replica.new }
 {
     match replica.peek() {
         Ok(None) => Ok(false),

@@ -8,7 +8,10 @@ use Rattle.hay_physical.specs.Replicas as physical
 use Rattle.hay_logical.specs.Fits.{At}
 use Rattle.hay_logical.specs.Steps.{DeletesAt, FollowsAt, LosesRun, StaysBeside}
 use Rattle.hay_logical.proofs.Calls.{Counted, beside_on, counted_same, delete_rose, deletes_on, ended_or, follows_on, follows_where, loses_none, reach_still, stays_where, up_open, went_counts}
-use Rattle.hay_logical.proofs.Lists.{Went, at_read, broken_above, broken_below, broken_is, broken_was, went_all, went_each, went_next, went_step}
+use Rattle.hay_logical.proofs.Lists.{Went, at_read, broken_above, broken_below, broken_is, broken_was, went_all, went_each, went_next, went_start, went_step}
+use Rattle.std.proofs.Common.{inl}
+use Rattle.hay_logical.specs.Seen.{DeleteSeen, replica_seen}
+use Rattle.hay_logical.proofs.Seen.{delete_seen}
 use Rattle.hay_logical.proofs.replicas.delete_in_order.Goals as goal
 use Rattle.hay_logical.proofs.replicas.delete_in_order.Goals.{in-Live+in-Ok, in_default}
 
@@ -66,6 +69,9 @@ returns-in-Err-clause-broken g c =
       printed = c.faults.ensures;
     }
 
+pub loop-j-init : goal.loop-j-init
+loop-j-init g c = record { went = went_start _ c.args.replicas.now; seen = went_start _ c.args.replicas.now }
+
 pub loop-j-preserved : goal.loop-j-preserved
 loop-j-preserved g c =
     let within : c.loop-j.j < length c.loop-j.replicas = omega arith in
@@ -74,6 +80,7 @@ loop-j-preserved g c =
     let R : ℕ → Copy g.row.D.Denot → Copy g.row.D.Denot → Type 0 =
     λ i r r'. DeletesAt g.D.Disk.Tells g.D.Disk.files (place_in c.args.row.now i) r r' × Counted g.D.Disk.fault_count g.D.Disk.fuse_count r r' × StaysBeside g.D.Disk.Tells g.D.Disk.files (place_in c.args.row.now i) r r'
     × FollowsAt g.D.Disk.Tells g.D.Disk.files g.D.Disk.fault_count c.args.pair (place_in c.args.row.now i) r r' in
+    let S : ℕ → Copy g.row.D.Denot → Copy g.row.D.Denot → Type 0 = λ i r r'. DeleteSeen (replica_seen r) (replica_seen r') in
     elim c.match-place.branch [
       | in-Live+in-Ok w ↦ record {
         went = subst (λ rs. Went R (c.loop-j.j + 1) c.args.replicas.now rs) (sym w.replicas-is)
@@ -98,6 +105,9 @@ loop-j-preserved g c =
                 goal = ended_or here w.delete.new.self (g.D.Disk.fault_count w.delete.new.self.disk) w.in-Ok.ensures.goal;
               }),
             ));
+        seen = subst (λ rs. Went S (c.loop-j.j + 1) c.args.replicas.now rs) (sym w.replicas-is)
+            (went_step S S c.loop-j.j c.args.replicas.now c.loop-j.replicas here w.delete.new.self c.loop-j.invariant.seen there (λ i r r' h p. p)
+            (delete_seen here w.delete.new.self w.delete.ensures.stays w.delete.ensures.stuck (ended_or here w.delete.new.self (g.D.Disk.fault_count w.delete.new.self.disk) w.in-Ok.ensures.goal)));
       }
       | in_default w ↦ record {
         went = subst (λ rs. Went R (c.loop-j.j + 1) c.args.replicas.now rs) (sym w.replicas-is)
@@ -107,6 +117,8 @@ loop-j-preserved g c =
               λ tells. reach_still g.D.Disk.files here,
               follows_where g.D.Disk.Tells g.D.Disk.files g.D.Disk.fault_count c.args.pair (place_in c.args.row.now c.loop-j.j) here (λ needle e. w.in_default.not-Live needle (c.place.ensures ∙ e)),
             ));
+        seen = subst (λ rs. Went S (c.loop-j.j + 1) c.args.replicas.now rs) (sym w.replicas-is)
+            (went_step S S c.loop-j.j c.args.replicas.now c.loop-j.replicas here here c.loop-j.invariant.seen there (λ i r r' h p. p) (inl refl));
       }
     ]
 
@@ -135,3 +147,6 @@ returns-in-Err-clause-reach g c = λ j r r' e f.
       sees = subst (λ n. physical.KeepsSight g.D.Disk.files (physical.ApartFrom n) here c.delete.new.self) c.at.ensures (c.delete.ensures.sees tells);
     })))
     (λ i x y p. p) (λ i x tells. reach_still g.D.Disk.files x) j r r' e f
+
+pub returns-clause-seen : goal.returns-clause-seen
+returns-clause-seen g c = λ j r r' e f. went_all _ _ c.args.replicas.now _ c.loop-j.invariant.seen (let all : length c.args.replicas.now ≤ c.loop-j.j = omega arith in all) j r r' e f

@@ -5,6 +5,8 @@ use Rattle.hay_logical.specs.Fits.{At}
 use Rattle.hay_logical.specs.Steps.{FlushesAt}
 use Rattle.hay_logical.proofs.Calls.{flush_if, not_stuck_before, one_counts, still_up, went_on}
 use Rattle.hay_logical.proofs.Lists.{at_read, one_same}
+use Rattle.std.proofs.Common.{◌≡◌}
+use Rattle.hay_physical.specs.Copies.{KeepsEnd, goal_of}
 use Rattle.hay_logical.proofs.replicas.flush_at.Goals as goal
 
 pub returns-clause-one : goal.returns-clause-one
@@ -39,3 +41,11 @@ returns-clause-counts g c =
     let here : Copy g.row.D.Denot = slice_index_or c.args.replicas.now c.args.at c.index-replicas-at.result in
     let there : At c.args.replicas.now c.args.at here = at_read c.args.replicas.now c.args.at c.index-replicas-at.result c.requires.within in
     one_counts g.D.Disk.fault_count g.D.Disk.fuse_count c.args.at c.args.replicas.now here c.flush.new.self there (c.flush.ensures.counts, c.flush.ensures.fuses)
+
+pub returns-clause-stays : goal.returns-clause-stays
+returns-clause-stays g c = λ r r' e f.
+    let here : Copy g.row.D.Denot = slice_index_or c.args.replicas.now c.args.at c.index-replicas-at.result in
+    let there : At c.args.replicas.now c.args.at here = at_read c.args.replicas.now c.args.at c.index-replicas-at.result c.requires.within in
+    let same = one_same c.args.replicas.now c.args.at here c.flush.new.self r r' there e f in
+    subst (λ x. KeepsEnd x r' × (goal_of r' ≡ goal_of x)) (sym same.0)
+    (subst (λ x. KeepsEnd here x × (goal_of x ≡ goal_of here)) (sym same.1) (c.flush.ensures.stays, c.flush.ensures.goal))

@@ -6,6 +6,9 @@ use Rattle.hay_logical.specs.Volumes.{KeepsCounts}
 use Rattle.hay_logical.specs.Fits.{At}
 use Rattle.hay_logical.proofs.Dropping.{counts_on, reach_on, not_untouched, put_leaves_on, untouched_back}
 use Rattle.hay_logical.proofs.Lists.{at_below}
+use Rattle.std.proofs.Common.{◌≡◌, ℕ}
+use Rattle.hay_physical.specs.Copies.{Copy}
+use Rattle.hay_logical.specs.Seen.{replica_seen}
 use Rattle.hay_logical.proofs.replicas.put_each.Goals as goal
 use Rattle.hay_logical.proofs.replicas.put_each.Goals.{then-not-is_untouched, else-not-is_untouched}
 
@@ -62,4 +65,16 @@ returns-after-not-is_untouched-clause-untouched g c = elim c.if-not-is_untouched
       )
   | else-not-is_untouched w ↦
       subst (λ rs. IsUntouched rs c.in-Err.broken → KeepsFiles g.D.Disk.Tells g.D.Disk.files c.args.replicas.now rs) (sym w.replicas-is) c.in-Err.ensures.untouched
+]
+
+pub returns-after-not-is_untouched-clause-refused_seen : goal.returns-after-not-is_untouched-clause-refused_seen
+returns-after-not-is_untouched-clause-refused_seen g c = elim c.if-not-is_untouched.branch [
+  | then-not-is_untouched w ↦ λ un. absurd (
+      not_untouched c.put_in_order.new.replicas c.in-Err.broken (λ e f r there. c.is_untouched.ensures.touched w.if-not-is_untouched.true e f r there)
+      (untouched_back g.D.Disk.Tells g.D.Disk.files g.D.Disk.fault_count c.args.replicas.now c.put_in_order.new.replicas w.drop_runs.new.replicas w.drop_runs.ensures.count w.drop_runs.ensures.each c.in-Err.broken
+      (subst (λ rs. IsUntouched rs c.in-Err.broken) w.replicas-is un))
+      )
+  | else-not-is_untouched w ↦
+      subst (λ rs. IsUntouched rs c.in-Err.broken → (j : ℕ) (r r' : Copy g.row.D.Denot) → At c.args.replicas.now j r → At rs j r' → replica_seen r' ≡ replica_seen r)
+      (sym w.replicas-is) c.in-Err.ensures.refused_seen
 ]

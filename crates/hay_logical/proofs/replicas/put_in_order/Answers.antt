@@ -12,10 +12,14 @@ use Rattle.hay_logical.proofs.Calls.{Counted, loses_none, place_before, place_la
 use Rattle.hay_logical.proofs.Lists.{at_read, at_same, broken_above, broken_below, broken_is, broken_was, went_all, went_every, went_next, went_start, went_step}
 use Rattle.hay_logical.proofs.Looking.{bytes_same}
 use Rattle.std.proofs.lemmas.Bool.{cases_lt}
+use Rattle.hay_needle.specs.Sizes.{needle_total}
+use Rattle.hay_physical.specs.Copies.{end_of}
+use Rattle.hay_logical.specs.Seen.{PutSeen, replica_seen}
+use Rattle.hay_logical.proofs.Seen.{seen_end, seen_phase}
 use Rattle.hay_logical.proofs.replicas.put_in_order.Goals as goal
 
 pub loop-j-init : goal.loop-j-init
-loop-j-init g c = record { went = went_start _ c.args.replicas.now; places = rw c.new-row.ensures refl }
+loop-j-init g c = record { went = went_start _ c.args.replicas.now; seen = went_start _ c.args.replicas.now; places = rw c.new-row.ensures refl }
 
 pub put-requires-clause-open : goal.put-requires-clause-open
 put-requires-clause-open g c =
@@ -78,6 +82,10 @@ loop-j-preserved g c =
             c.put.ensures.fuses,
             λ tells. record { deletes = c.put.ensures.deletes tells; sees = c.put.ensures.sees tells },
           );
+      seen = went_step _ (λ i r r'. PutSeen (length c.args.bytes.now) (replica_seen r)
+          (replica_seen r')) c.loop-j.j c.args.replicas.now c.loop-j.replicas here c.put.new.self c.loop-j.invariant.seen there (λ i r r' h p. p)
+          (seen_end here c.put.new.self (end_of here + needle_total (length c.args.bytes.now)) c.put.ensures.generation
+          (c.put.ensures.goal c.in-Ok.ensures.up) c.put.ensures.stuck c.in-Ok.ensures.moved);
       places = ap length c.push.ensures ∙ length-append c.loop-j.row (place.Live c.in-Ok.needle ∷ []) ∙ ap (λ n. n + 1) places;
     }
 
@@ -144,4 +152,26 @@ returns-in-Err-clause-untouched g c = λ un tells i r r' e f.
           let after : c.put.new.self ≡ r' = at_same _ c.loop-j.j c.put.new.self r' is (subst (λ k. At (slice_set c.loop-j.replicas c.loop-j.j c.put.new.self) k r') at f) in
           subst (λ (x : Copy g.row.D.Denot). KeepsBytes (g.D.Disk.files x.disk) (g.D.Disk.files r'.disk)) before
           (subst (λ (x : Copy g.row.D.Denot). KeepsBytes (g.D.Disk.files here.disk) (g.D.Disk.files x.disk)) after (subst (KeepsBytes (g.D.Disk.files here.disk)) (sym same) (bytes_same (g.D.Disk.files here.disk))))
+    ]
+
+pub returns-clause-seen : goal.returns-clause-seen
+returns-clause-seen g c = λ j r r' e f. went_all _ _ c.args.replicas.now _ c.loop-j.invariant.seen (let all : length c.args.replicas.now ≤ c.loop-j.j = omega arith in all) j r r' e f
+
+pub returns-in-Err-clause-refused_seen : goal.returns-in-Err-clause-refused_seen
+returns-in-Err-clause-refused_seen g c = λ un i r r' e f.
+    let within : c.loop-j.j < length c.loop-j.replicas = omega arith in
+    let here : Copy g.row.D.Denot = slice_index_or c.loop-j.replicas c.loop-j.j c.index-replicas-j.result in
+    let there : At c.loop-j.replicas c.loop-j.j here = at_read c.loop-j.replicas c.loop-j.j c.index-replicas-j.result within in
+    let was : At c.args.replicas.now c.loop-j.j here = broken_was _ c.loop-j.j c.args.replicas.now c.loop-j.replicas here c.put.new.self c.loop-j.invariant.went there in
+    let is = broken_is _ c.loop-j.j c.args.replicas.now c.loop-j.replicas here c.put.new.self c.loop-j.invariant.went there in
+    let thawed : is_frozen c.put.new.self ≡ false = subst (λ (x : Copy g.row.D.Denot). is_frozen x ≡ false) (at_same _ c.loop-j.j un.replica c.put.new.self (subst (λ k. At (slice_set c.loop-j.replicas c.loop-j.j c.put.new.self) k un.replica) (sym un.first) un.there) is) un.thawed in
+    let same = seen_phase here c.put.new.self (c.in-Err.ensures.kept (open_up c.put.new.self c.put.ensures.«open» thawed)) in
+    elim (cases_lt c.loop-j.j i) [
+      | inl more ↦ ap replica_seen (broken_above _ c.loop-j.j c.args.replicas.now c.loop-j.replicas here c.put.new.self c.loop-j.invariant.went there i r r' more e f)
+      | inr most ↦
+          let first = un.first in
+          let at : i ≡ c.loop-j.j = omega (arith, first, most) in
+          let before : here ≡ r = at_same c.args.replicas.now c.loop-j.j here r was (subst (λ k. At c.args.replicas.now k r) at e) in
+          let after : c.put.new.self ≡ r' = at_same _ c.loop-j.j c.put.new.self r' is (subst (λ k. At (slice_set c.loop-j.replicas c.loop-j.j c.put.new.self) k r') at f) in
+          ap replica_seen (sym after) ∙ same ∙ ap replica_seen before
     ]

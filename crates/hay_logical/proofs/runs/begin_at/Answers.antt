@@ -6,6 +6,10 @@ use Rattle.hay_logical.specs.Steps.{BeginsAt}
 use Rattle.hay_logical.proofs.Beginning.{begins}
 use Rattle.hay_logical.proofs.Calls.{one_counts}
 use Rattle.hay_logical.proofs.Lists.{at_read, one_same}
+use Rattle.std.proofs.Common.{◌≡◌, ◌+◌}
+use Rattle.std.specs.Prelude.{IfOk}
+use Rattle.hay_physical.specs.Copies.{KeepsEnd, generation_of}
+use Rattle.hay_physical.proofs.Views.{if_ok_so}
 use Rattle.hay_logical.proofs.runs.begin_at.Goals as goal
 
 pub returns-clause-one : goal.returns-clause-one
@@ -30,3 +34,12 @@ returns-clause-counts g c =
     let here : Copy g.row.D.Denot = slice_index_or c.args.replicas.now c.args.at c.index-replicas-at.result in
     let there : At c.args.replicas.now c.args.at here = at_read c.args.replicas.now c.args.at c.index-replicas-at.result c.requires.within in
     one_counts g.D.Disk.fault_count g.D.Disk.fuse_count c.args.at c.args.replicas.now here c.begin.new.self there (c.begin.ensures.counts, c.begin.ensures.fuses)
+
+pub returns-clause-stays : goal.returns-clause-stays
+returns-clause-stays g c = λ r r' e f.
+    let here : Copy g.row.D.Denot = slice_index_or c.args.replicas.now c.args.at c.index-replicas-at.result in
+    let there : At c.args.replicas.now c.args.at here = at_read c.args.replicas.now c.args.at c.index-replicas-at.result c.requires.within in
+    let same = one_same c.args.replicas.now c.args.at here c.begin.new.self r r' there e f in
+    subst (λ x. KeepsEnd x r' × IfOk c.begin.result (λ goal. goal ≡ generation_of x + 1)) (sym same.0)
+    (subst (λ x. KeepsEnd here x × IfOk c.begin.result (λ goal. goal ≡ generation_of here + 1)) (sym same.1)
+    (c.begin.ensures.stays, if_ok_so c.begin.result _ _ (λ goal begun. begun.0) c.begin.ensures.goal))

@@ -7,6 +7,8 @@ use Rattle.hay_logical.proofs.Calls.{up_open}
 use Rattle.hay_logical.proofs.Reaching.{reaches_on}
 use Rattle.hay_logical.proofs.Swapping.{keeps_rows, stays_later, swaps_later}
 use Rattle.hay_logical.proofs.runs.compact.Given as given
+use Rattle.hay_physical.proofs.Views.{if_ok_so, on_err_so}
+use Rattle.hay_logical.proofs.Seen.{keeps_on, swap_later}
 use Rattle.hay_logical.proofs.runs.compact.Goals as goal
 use Rattle.hay_logical.proofs.runs.compact.Goals.{After-begin}
 
@@ -62,3 +64,14 @@ returns-in-Err-clause-swaps g c =
 
 pub returns-in-Err-clause-places : goal.returns-in-Err-clause-places
 returns-in-Err-clause-places g c = keeps_rows c.args.rows.now c.args.at _
+
+pub returns-in-Ok-clause-seen : goal.returns-in-Ok-clause-seen
+returns-in-Ok-clause-seen g c =
+    if_ok_so c.finish.result _ _ (λ files seen. swap_later c.begin.new.self c.finish.new.replica c.args.replica.now files.generation files.end c.begin.ensures.stays seen) c.finish.ensures.seen
+
+pub returns-in-Ok-clause-kept : goal.returns-in-Ok-clause-kept
+returns-in-Ok-clause-kept g c =
+    on_err_so c.finish.result _ _ (λ kept. keeps_on c.args.replica.now c.begin.new.self c.finish.new.replica c.begin.ensures.stays kept) c.finish.ensures.kept
+
+pub returns-in-Err-clause-kept : goal.returns-in-Err-clause-kept
+returns-in-Err-clause-kept g c = c.begin.ensures.stays

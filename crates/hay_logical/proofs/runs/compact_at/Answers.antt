@@ -5,8 +5,11 @@ use Rattle.hay_logical.specs.Fits.{At}
 use Rattle.hay_logical.specs.Steps.Start.{Fresh}
 use Rattle.hay_logical.proofs.Calls.{one_counts}
 use Rattle.hay_logical.proofs.Dropping.{counts_on}
-use Rattle.hay_logical.proofs.Ends.{stays_there, swaps_one, swaps_there}
+use Rattle.hay_logical.proofs.Ends.{called_there, stays_there, swaps_one, swaps_there}
 use Rattle.hay_logical.proofs.Lists.{at_read}
+use Rattle.std.specs.Prelude.{IfOk, OnErr}
+use Rattle.hay_physical.specs.Copies.{KeepsEnd}
+use Rattle.hay_logical.specs.Seen.{SwapSeen, replica_seen}
 use Rattle.hay_logical.proofs.runs.compact_at.Goals as goal
 
 pub compact-result-requires : goal.compact-result-requires
@@ -48,3 +51,21 @@ returns-clause-counts g c =
     let there : At c.args.replicas.now c.args.at here = at_read c.args.replicas.now c.args.at c.index-replicas-at.result c.requires.within in
     counts_on g.D.Disk.Tells g.D.Disk.files g.D.Disk.fault_count c.args.replicas.now (slice_set c.args.replicas.now c.args.at c.compact-result.new.replica) c.drop_behind.new.replicas c.drop_behind.ensures.count c.drop_behind.ensures.each
     g.D.Disk.fuse_count (one_counts g.D.Disk.fault_count g.D.Disk.fuse_count c.args.at c.args.replicas.now here c.compact-result.new.replica there (c.compact-result.ensures.counts, c.compact-result.ensures.fuses))
+
+pub returns-clause-seen : goal.returns-clause-seen
+returns-clause-seen g c = λ r r' e f.
+    let here : Copy g.row.D.Denot = slice_index_or c.args.replicas.now c.args.at c.index-replicas-at.result in
+    let there : At c.args.replicas.now c.args.at here = at_read c.args.replicas.now c.args.at c.index-replicas-at.result c.requires.within in
+    called_there g.D.Disk.Tells g.D.Disk.files g.D.Disk.fault_count g.D.Piece.Piece.Tells Fresh c.args.rows.now c.compact-result.new.rows c.args.at c.args.replicas.now
+    c.drop_behind.new.replicas here c.compact-result.new.replica c.compact-result.result there
+    (c.requires.up c.args.at here there) c.compact-result.ensures.swaps c.drop_behind.ensures.count c.drop_behind.ensures.each c.drop_behind.ensures.still c.drop_behind.ensures.idle
+    (λ (a b : Copy g.row.D.Denot). IfOk c.compact-result.result (λ files. SwapSeen files.generation files.end (replica_seen a) (replica_seen b))) c.compact-result.ensures.seen r r' e f
+
+pub returns-clause-kept : goal.returns-clause-kept
+returns-clause-kept g c = λ r r' e f.
+    let here : Copy g.row.D.Denot = slice_index_or c.args.replicas.now c.args.at c.index-replicas-at.result in
+    let there : At c.args.replicas.now c.args.at here = at_read c.args.replicas.now c.args.at c.index-replicas-at.result c.requires.within in
+    called_there g.D.Disk.Tells g.D.Disk.files g.D.Disk.fault_count g.D.Piece.Piece.Tells Fresh c.args.rows.now c.compact-result.new.rows c.args.at c.args.replicas.now
+    c.drop_behind.new.replicas here c.compact-result.new.replica c.compact-result.result there
+    (c.requires.up c.args.at here there) c.compact-result.ensures.swaps c.drop_behind.ensures.count c.drop_behind.ensures.each c.drop_behind.ensures.still c.drop_behind.ensures.idle
+    (λ (a b : Copy g.row.D.Denot). OnErr c.compact-result.result (KeepsEnd a b)) c.compact-result.ensures.kept r r' e f

@@ -10,6 +10,7 @@ use Rattle.std.proofs.lemmas.Bool.{true≢false}
 use Rattle.hay_logical.proofs.Calls.{still_up}
 use Rattle.hay_logical.proofs.Examining.{copy_cause, goes_after, latest_is, leaves_none, peek_cause, run_whole, step_later}
 use Rattle.hay_logical.proofs.runs.examine.Given as given
+use Rattle.hay_logical.proofs.Seen.{keeps_on}
 use Rattle.hay_logical.proofs.runs.examine.Goals as goal
 use Rattle.hay_logical.proofs.runs.examine.Goals.{After-peek, After-copy}
 
@@ -105,3 +106,9 @@ returns-in-Err-clause-examines g c =
           (λ e. c.peek.ensures.thawed (c.in-Err.is ∙ ap Err e)) (λ n e. c.peek.ensures.none n (c.in-Err.is ∙ ap Err e))
           c.in-Err.ensures.causes c.in-Err.ensures.ends;
     }
+
+pub returns-in-Ok-clause-stays : goal.returns-in-Ok-clause-stays
+returns-in-Ok-clause-stays g c = keeps_on c.args.replica.now c.peek.new.self c.copy.new.self c.peek.ensures.stays c.copy.ensures.stays
+
+pub returns-in-Err-copy-clause-stays : goal.returns-in-Err-copy-clause-stays
+returns-in-Err-copy-clause-stays g c = keeps_on c.args.replica.now c.peek.new.self c.copy.new.self c.peek.ensures.stays c.copy.ensures.stays

@@ -8,6 +8,8 @@ use Rattle.hay_logical.proofs.Reaching.{reaches_on}
 use Rattle.hay_logical.proofs.SwapSizes.{cells_within}
 use Rattle.hay_logical.proofs.Swapping.{keeps_rows, stays_later, step_holds, step_left, swaps_later}
 use Rattle.hay_logical.proofs.runs.finish.Given as given
+use Rattle.hay_physical.proofs.Views.{if_ok_so, on_err_so}
+use Rattle.hay_logical.proofs.Seen.{keeps_on, swap_later}
 use Rattle.hay_logical.proofs.runs.finish.Goals as goal
 use Rattle.hay_logical.proofs.runs.finish.Goals.{After-drop_run}
 
@@ -66,3 +68,14 @@ returns-in-Err-clause-swaps g c =
 
 pub returns-in-Err-clause-places : goal.returns-in-Err-clause-places
 returns-in-Err-clause-places g c = keeps_rows c.args.rows.now c.args.at _
+
+pub returns-in-Ok-clause-seen : goal.returns-in-Ok-clause-seen
+returns-in-Ok-clause-seen g c =
+    if_ok_so c.swap.result _ _ (λ files seen. swap_later c.step.new.replica c.swap.new.replica c.args.replica.now files.generation files.end c.step.ensures.stays seen) c.swap.ensures.seen
+
+pub returns-in-Ok-clause-kept : goal.returns-in-Ok-clause-kept
+returns-in-Ok-clause-kept g c =
+    on_err_so c.swap.result _ _ (λ kept. keeps_on c.args.replica.now c.step.new.replica c.swap.new.replica c.step.ensures.stays kept) c.swap.ensures.kept
+
+pub returns-in-Err-clause-kept : goal.returns-in-Err-clause-kept
+returns-in-Err-clause-kept g c = keeps_on c.args.replica.now c.step.new.replica c.drop_run.new.self c.step.ensures.stays c.drop_run.ensures.stays

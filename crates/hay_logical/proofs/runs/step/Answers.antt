@@ -3,12 +3,14 @@ use Rattle.std.specs.Prelude.{min}
 use Rattle.hay_physical.specs.Runs.{HasRun, Run}
 use Rattle.hay_logical.specs.Steps.{stepped_by}
 use Rattle.hay_logical.proofs.Examining.{goes_after, goes_none, leaves_some, step_later, step_more, step_none}
+use Rattle.hay_logical.proofs.Seen.{keeps_on}
 use Rattle.hay_logical.proofs.runs.step.Goals as goal
 
 pub loop-examined-init : goal.loop-examined-init
 loop-examined-init g c = record {
   on = goes_none g.D.Disk.Tells g.D.Disk.files c.args.replica.now c.requires.up;
   goal = refl;
+  stays = (refl, refl);
   counts = omega arith;
   fuses = refl;
   stepped = λ tells s run stands has places. ((let low : 0 ≤ run.left = omega arith in low), subst (λ (x : Run). HasRun g.D.Disk.files c.args.replica.now s (Some x)) (sym (step_none run)) has);
@@ -21,6 +23,7 @@ loop-examined-preserved g c =
     record {
       on = goes_after g.D.Disk.Tells g.D.Disk.files c.args.replica.now c.loop-examined.replica c.examine.new.replica was.on c.in-Ok-true.ensures.examines.on;
       goal = c.in-Ok-true.ensures.examines.goal ∙ was.goal;
+      stays = keeps_on c.args.replica.now c.loop-examined.replica c.examine.new.replica was.stays c.examine.ensures.stays;
       counts = (let low = was.counts in omega (arith, low, counts));
       fuses = c.examine.ensures.fuses ∙ was.fuses;
       stepped = λ tells s run stands has places.
@@ -84,3 +87,15 @@ returns-clause-steps g c =
       refused = λ tells s run stands has places. tt;
       cause = tt;
     }
+
+pub returns-in-Ok-false-clause-stays : goal.returns-in-Ok-false-clause-stays
+returns-in-Ok-false-clause-stays g c = keeps_on c.args.replica.now c.loop-examined.replica c.examine.new.replica c.loop-examined.invariant.stays c.examine.ensures.stays
+
+pub returns-in-Err-clause-stays : goal.returns-in-Err-clause-stays
+returns-in-Err-clause-stays g c = keeps_on c.args.replica.now c.loop-examined.replica c.examine.new.replica c.loop-examined.invariant.stays c.examine.ensures.stays
+
+pub returns-clause-stays : goal.returns-clause-stays
+returns-clause-stays g c = c.loop-examined.invariant.stays
+
+pub returns-in-Ok-false-clause-few : goal.returns-in-Ok-false-clause-few
+returns-in-Ok-false-clause-few g c = let less = c.loop-examined-test.true in omega (arith, less)

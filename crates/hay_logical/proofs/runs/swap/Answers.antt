@@ -16,6 +16,7 @@ use Rattle.hay_logical.proofs.Calls.{loaded_other, not_both, open_frozen, open_u
 use Rattle.hay_logical.proofs.Reaching.{reaches_on}
 use Rattle.hay_logical.proofs.Swapping.{places_swapped, reach_swapped, refused_holds, refused_left, unsure_left}
 use Rattle.hay_logical.proofs.runs.swap.Given as given
+use Rattle.hay_logical.proofs.Seen.{swap_seen}
 use Rattle.hay_logical.proofs.runs.swap.Goals as goal
 use Rattle.hay_logical.proofs.runs.swap.Goals.{In-Err}
 
@@ -111,3 +112,10 @@ returns-in-Err-clause-swaps g c =
             reach = stays;
           }
     ]
+
+pub returns-in-Ok-clause-seen : goal.returns-in-Ok-clause-seen
+returns-in-Ok-clause-seen g c =
+    swap_seen c.args.replica.now c.finish.new.self c.generation.result c.end.result c.generation.ensures.is c.end.ensures.is c.in-Ok.ensures.moved c.finish.ensures.goal c.in-Ok.ensures.going
+
+pub returns-in-Err-clause-kept : goal.returns-in-Err-clause-kept
+returns-in-Err-clause-kept g c = (c.in-Err.ensures.still.1, c.in-Err.ensures.stays)

@@ -26,6 +26,12 @@ use Rattle.hay_logical.specs.Stands.{RunsTight}
 use Rattle.std.specs.Prelude.{OnOk}
 use Rattle.hay_logical.proofs.Changing.{some_none}
 use Rattle.hay_logical.specs.declared.fault.LogicalFault.TheVariants as logical
+use Rattle.hay_logical.proofs.Untouched.{begin_untouched, one_untouched, stuck_same}
+use Rattle.hay_legal.specs.Known.{machine_of}
+use Rattle.std.proofs.Common.{Some, None, ◌+◌}
+use Rattle.hay_physical.specs.Copies.{generation_of}
+use Rattle.hay_logical.specs.Seen.{BeginRefusedSeen, BeginSeen, BeginsTo, VolumeSeen, volume_seen}
+use Rattle.hay_logical.proofs.Seen.{begin_refused_seen, changes_one, same_one, seen_goal, seen_same, sees_before}
 use Rattle.hay_logical.proofs.logical.Logical.begin.Goals as goal
 use Rattle.hay_logical.proofs.logical.Logical.begin.Goals.{in-Ok, in-Err}
 
@@ -268,4 +274,66 @@ returns-clause-thawed g c = λ none m e.
           (c.begin_at.ensures.begins one.before one.after (subst (λ xs. At xs c.args.replica one.before) (sym now) one.was) (one_after c.args.replica c.self.inside.replicas.items c.begin_at.new.replicas one)) in
           let said : Err w.answer_at.result ≡ Err (logical.ReadOnly m) = sym w.result-is ∙ e in
           begin_thawed g.D.Disk.fault_count one.before one.after c.machine_of-machine.result w.in-Err.fault m step.cause (sym w.answer_at.ensures ∙ (let same : w.answer_at.result ≡ logical.ReadOnly m = cc in same))
+    ]
+
+pub returns-in-Some-clause-refused_seen : goal.returns-in-Some-clause-refused_seen
+returns-in-Some-clause-refused_seen g c = (refl, ap (λ v. v.frozen) (sym c.self.view_is) ∙ c.in-Some.is)
+
+pub returns-clause-seen : goal.returns-clause-seen
+returns-clause-seen g c =
+    let now = c.as_mut_slice.ensures.value in
+    let kept = with_items_is c.self.inside.replicas c.begin_at.new.replicas (c.begin_at.auto.replicas ∙ c.as_mut_slice.ensures.len) in
+    let one : CallsOne c.args.replica c.self.inside.replicas.items c.begin_at.new.replicas = subst (λ xs. CallsOne c.args.replica xs c.begin_at.new.replicas) now c.begin_at.ensures.one in
+    let was : At c.as_mut_slice.result.now c.args.replica one.before = subst (λ xs. At xs c.args.replica one.before) (sym now) one.was in
+    let there = one_after c.args.replica c.self.inside.replicas.items c.begin_at.new.replicas one in
+    let step : BeginsAt g.D.Disk.Tells g.D.Disk.files g.D.Disk.fault_count one.before one.after c.begin_at.result = c.begin_at.ensures.begins one.before one.after was there in
+    let stays = c.begin_at.ensures.stays one.before one.after was there in
+    let none : c.args.self.now.frozen ≡ None = ap (λ v. v.frozen) (sym c.self.view_is) ∙ not_some c.self.inside.frozen c.in_default.not-Some in
+    let new : VolumeSeen = volume_seen (volume_with c.self.inside.settings c.self.inside.number
+    (with_items c.self.inside.replicas c.begin_at.new.replicas).items c.self.inside.rows c.self.inside.front c.self.inside.frozen c.self.inside.unsure) in
+    let old : VolumeSeen = volume_seen c.args.self.now in
+    elim c.match-begin_at.branch [
+      | in-Ok w ↦
+          let done : BeginsAt g.D.Disk.Tells g.D.Disk.files g.D.Disk.fault_count one.before one.after (Ok w.in-Ok.generation) =
+          subst (λ x. BeginsAt g.D.Disk.Tells g.D.Disk.files g.D.Disk.fault_count one.before one.after x) w.in-Ok.is step in
+          let next : w.in-Ok.generation ≡ generation_of one.before + 1 = subst (λ x. IfOk x (λ goal. goal ≡ generation_of one.before + 1)) w.in-Ok.is stays.1 in
+          subst (λ r. IfOk r (λ goal. BeginSeen c.args.replica goal old new)) (sym w.result-is) (
+            none,
+            changes_one c.args.replica
+                (BeginsTo w.in-Ok.generation) c.self.inside.settings c.self.inside.number c.self.inside.replicas.items c.begin_at.new.replicas c.self.inside.rows c.self.inside.front
+                c.self.inside.frozen c.self.inside.unsure one c.args.self.now c.self.view_is (with_items c.self.inside.replicas c.begin_at.new.replicas).items kept
+                (done.rest.0, next, seen_goal one.before one.after (Some w.in-Ok.generation) stays.0 done.goal done.on.stuck),
+          )
+      | in-Err w ↦ rw w.result-is tt
+    ]
+
+pub returns-clause-refused_seen : goal.returns-clause-refused_seen
+returns-clause-refused_seen g c =
+    let now = c.as_mut_slice.ensures.value in
+    let kept = with_items_is c.self.inside.replicas c.begin_at.new.replicas (c.begin_at.auto.replicas ∙ c.as_mut_slice.ensures.len) in
+    let one : CallsOne c.args.replica c.self.inside.replicas.items c.begin_at.new.replicas = subst (λ xs. CallsOne c.args.replica xs c.begin_at.new.replicas) now c.begin_at.ensures.one in
+    let was : At c.as_mut_slice.result.now c.args.replica one.before = subst (λ xs. At xs c.args.replica one.before) (sym now) one.was in
+    let there = one_after c.args.replica c.self.inside.replicas.items c.begin_at.new.replicas one in
+    let step : BeginsAt g.D.Disk.Tells g.D.Disk.files g.D.Disk.fault_count one.before one.after c.begin_at.result = c.begin_at.ensures.begins one.before one.after was there in
+    let stays = c.begin_at.ensures.stays one.before one.after was there in
+    let none : c.args.self.now.frozen ≡ None = ap (λ v. v.frozen) (sym c.self.view_is) ∙ not_some c.self.inside.frozen c.in_default.not-Some in
+    let new : VolumeSeen = volume_seen (volume_with c.self.inside.settings c.self.inside.number
+    (with_items c.self.inside.replicas c.begin_at.new.replicas).items c.self.inside.rows c.self.inside.front c.self.inside.frozen c.self.inside.unsure) in
+    let old : VolumeSeen = volume_seen c.args.self.now in
+    elim c.match-begin_at.branch [
+      | in-Ok w ↦ rw w.result-is tt
+      | in-Err w ↦
+          let left : BeginsAt g.D.Disk.Tells g.D.Disk.files g.D.Disk.fault_count one.before one.after (Err w.in-Err.fault) =
+          subst (λ x. BeginsAt g.D.Disk.Tells g.D.Disk.files g.D.Disk.fault_count one.before one.after x) w.in-Err.is step in
+          let said : w.answer_at.result ≡ answer_at (machine_of c.args.self.now.settings c.args.self.now.number c.args.replica) w.in-Err.fault =
+          w.answer_at.ensures ∙ ap (λ m. answer_at m w.in-Err.fault) (c.machine_of-machine.ensures ∙ ap
+          (λ (v : Volume g.row.D.Denot g.row.D-Piece.Denot). machine_of v.settings v.number c.args.replica) c.self.view_is) in
+          subst (λ r. IfErr r (BeginRefusedSeen c.args.self.now.settings c.args.self.now.number c.args.replica old new)) (sym w.result-is)
+          (subst (λ f. BeginRefusedSeen c.args.self.now.settings c.args.self.now.number c.args.replica old new f) (sym said)
+          (begin_refused_seen c.args.self.now.settings c.args.self.now.number c.args.replica g.D.Disk.fault_count one.before one.after old new
+          (sees_before c.args.replica c.self.inside.settings c.self.inside.number c.self.inside.replicas.items c.begin_at.new.replicas c.self.inside.rows c.self.inside.front
+          c.self.inside.frozen c.self.inside.unsure one c.args.self.now c.self.view_is (with_items c.self.inside.replicas c.begin_at.new.replicas).items kept)
+          (same_one c.args.replica c.self.inside.settings c.self.inside.number c.self.inside.replicas.items c.begin_at.new.replicas c.self.inside.rows c.self.inside.front
+          c.self.inside.frozen c.self.inside.unsure one c.args.self.now c.self.view_is (with_items c.self.inside.replicas c.begin_at.new.replicas).items kept
+          (seen_same one.before one.after stays.0 left.kept left.on.stuck)) w.in-Err.fault left.cause))
     ]

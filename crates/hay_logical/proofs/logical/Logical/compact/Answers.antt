@@ -2,6 +2,9 @@ use Rattle.std.proofs.Common.{◌≡◌, Ok, Err, sym, ap, ◌∙◌}
 use Rattle.std.proofs.lemmas.Result.{err_from_is_err_and}
 use Rattle.hay_logical.specs.declared.fault.LogicalFault.{LogicalFault}
 use Rattle.hay_logical.specs.declared.fault.LogicalFault.TheVariants.{ReadOnly}
+use Rattle.std.proofs.Common.{subst}
+use Rattle.std.specs.Prelude.{IfErr}
+use Rattle.hay_logical.specs.Seen.{CompactRefusedSeen, VolumeSeen, volume_seen}
 use Rattle.hay_logical.proofs.logical.Logical.compact.Goals as goal
 
 pub returns-in_err-files-clause-frozen : goal.returns-in_err-files-clause-frozen
@@ -21,3 +24,14 @@ returns-in_err-files-clause-thawed g c = λ none m e.
     let fault = err_from_is_err_and c.from_residual.result c.from_residual.ensures.1 in
     let same : c.in_err-files.field-0.0 ≡ ReadOnly m = (let both = sym fault.1 ∙ e in let is = fault.2 in cc) in
     c.compact_files.ensures.thawed none m (c.in_err-files.was ∙ ap (λ (f : LogicalFault). Err f) same)
+
+pub returns-clause-seen : goal.returns-clause-seen
+returns-clause-seen g c = (c.in_ok-files.files.end, c.in_ok-files.ensures.seen)
+
+pub returns-in_err-files-clause-refused_seen : goal.returns-in_err-files-clause-refused_seen
+returns-in_err-files-clause-refused_seen g c =
+    let fault = err_from_is_err_and c.from_residual.result c.from_residual.ensures.1 in
+    let old : VolumeSeen = volume_seen c.args.self.now in
+    let new : VolumeSeen = volume_seen c.compact_files.new.self in
+    subst (λ r. IfErr r (CompactRefusedSeen c.args.self.now.settings c.args.self.now.number c.args.replica old new)) (sym fault.1)
+    (subst (λ (f : LogicalFault). CompactRefusedSeen c.args.self.now.settings c.args.self.now.number c.args.replica old new f) (sym fault.2) c.in_err-files.ensures.refused_seen)

@@ -4,6 +4,10 @@ use Rattle.hay_logical.specs.declared.fault.LogicalFault.{LogicalFault}
 use Rattle.hay_logical.specs.declared.fault.LogicalFault.TheVariants.{Failed, ReadOnly}
 use Rattle.hay_logical.specs.Volumes.{IsOpenVolume, IsSame, KeepsCounts}
 use Rattle.hay_logical.specs.Steps.{KeepsStuck}
+use Rattle.std.specs.Prelude.{IfErr}
+use Rattle.hay_logical.specs.Seen.{DeleteRefusedSeen, VolumeSeen, volume_seen}
+use Rattle.std.proofs.Common.{length}
+use Rattle.hay_logical.specs.Fits.{At}
 use Rattle.hay_logical.proofs.logical.Logical.delete.Goals as goal
 
 pub returns-clause-deleted : goal.returns-clause-deleted
@@ -50,3 +54,26 @@ returns-in_err-erased-clause-thawed g c = λ none m e.
     let fault = err_from_is_err_and c.from_residual.result c.from_residual.ensures.1 in
     let same : c.in_err-erased.field-0.0 ≡ ReadOnly m = (let both = sym fault.1 ∙ e in let is = fault.2 in cc) in
     c.erase.ensures.thawed none m (c.in_err-erased.was ∙ ap (λ (f : LogicalFault). Err f) same)
+
+pub returns-clause-after : goal.returns-clause-after
+returns-clause-after g c =
+    let erased = c.in_ok-erased.ensures.after in
+    let is = ap volume_seen c.hide.ensures.still in (
+      c.hide.ensures.position ∙ c.in_ok-erased.ensures.of.1,
+      ap (λ (s : VolumeSeen). s.front) is ∙ sym c.hide.ensures.position,
+      record {
+        thawed = erased.1.thawed;
+        frozen = ap (λ (s : VolumeSeen). s.frozen) is ∙ erased.1.frozen;
+        unsure = ap (λ (s : VolumeSeen). s.unsure) is ∙ erased.1.unsure;
+        count = ap (λ (s : VolumeSeen). length s.replicas) is ∙ erased.1.count;
+        each = λ j r r' e f. erased.1.each j r r' e (subst (λ (s : VolumeSeen). At s.replicas j r') is f);
+      },
+    )
+
+pub returns-in_err-erased-clause-refused_seen : goal.returns-in_err-erased-clause-refused_seen
+returns-in_err-erased-clause-refused_seen g c =
+    let fault = err_from_is_err_and c.from_residual.result c.from_residual.ensures.1 in
+    let old : VolumeSeen = volume_seen c.args.self.now in
+    let new : VolumeSeen = volume_seen c.erase.new.self in
+    subst (λ r. IfErr r (DeleteRefusedSeen c.args.tag c.args.pair old new)) (sym fault.1)
+    (subst (λ (f : LogicalFault). DeleteRefusedSeen c.args.tag c.args.pair old new f) (sym fault.2) c.in_err-erased.ensures.refused_seen)

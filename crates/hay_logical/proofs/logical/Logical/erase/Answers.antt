@@ -23,6 +23,9 @@ use Rattle.hay_logical.specs.Stands.{IsTightAt}
 use Rattle.hay_logical.proofs.Changing.{some_none}
 use Rattle.hay_logical.specs.declared.fault.LogicalFault.TheVariants as logical
 use Rattle.hay_logical.specs.Answers.{IsSightFault}
+use Rattle.std.proofs.Common.{refl}
+use Rattle.hay_logical.specs.Seen.{DeleteRefusedSeen, EraseSeen, VolumeSeen, volume_seen}
+use Rattle.hay_logical.proofs.SeenChanges.{look_refused_seen}
 use Rattle.hay_logical.proofs.logical.Logical.erase.Goals as goal
 
 pub returns-in-Some-clause-refused : goal.returns-in-Some-clause-refused
@@ -136,3 +139,25 @@ returns-in_err-see_each-clause-thawed g c = λ none m e.
 
 pub returns-clause-thawed : goal.returns-clause-thawed
 returns-clause-thawed g c = λ none m e. c.erase_seen.ensures.thawed m e
+
+pub returns-in-Some-clause-refused_seen : goal.returns-in-Some-clause-refused_seen
+returns-in-Some-clause-refused_seen g c = (refl, ap (λ v. v.frozen) (sym c.self.view_is) ∙ c.in-Some.is)
+
+pub returns-in_err-see_each-clause-refused_seen : goal.returns-in_err-see_each-clause-refused_seen
+returns-in_err-see_each-clause-refused_seen g c =
+    let fault = err_from_is_err_and c.from_residual.result c.from_residual.ensures.1 in
+    let old : VolumeSeen = volume_seen c.args.self.now in
+    let new : VolumeSeen = volume_seen c.see_each.new.self in
+    subst (λ r. IfErr r (DeleteRefusedSeen c.args.tag c.args.pair old new)) (sym fault.1)
+    (subst (λ (f : LogicalFault). DeleteRefusedSeen c.args.tag c.args.pair old new f) (sym fault.2)
+    (look_refused_seen g.D.Disk.fault_count c.args.self.now.settings c.args.self.now.number c.args.self.now.replicas c.see_each.new.self.replicas c.args.tag c.args.pair old new
+    c.see_each.ensures.unchanged c.in_err-see_each.field-0.0 c.in_err-see_each.ensures.causes))
+
+pub returns-clause-after : goal.returns-clause-after
+returns-clause-after g c = on_ok_weaker c.erase_seen.result (λ seen. subst (λ (s : VolumeSeen). EraseSeen s
+    (volume_seen c.erase_seen.new.self)) c.see_each.ensures.unchanged seen) c.erase_seen.ensures.after
+
+pub returns-clause-refused_seen : goal.returns-clause-refused_seen
+returns-clause-refused_seen g c =
+    subst (λ (s : VolumeSeen). IfErr c.erase_seen.result (DeleteRefusedSeen c.args.tag c.args.pair s
+    (volume_seen c.erase_seen.new.self))) c.see_each.ensures.unchanged c.erase_seen.ensures.refused_seen

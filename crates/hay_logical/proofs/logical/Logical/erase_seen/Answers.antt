@@ -26,6 +26,12 @@ use Rattle.hay_logical.proofs.Reaching.{failed_row}
 use Rattle.hay_logical.proofs.Freezing.{frozen_machine}
 use Rattle.hay_logical.proofs.Above.{above_lost}
 use Rattle.hay_logical.proofs.Untouched.{stuck_same}
+use Rattle.std.proofs.Common.{inr, Some, refl, length}
+use Rattle.std.proofs.lemmas.List.{length-map}
+use Rattle.std.specs.Prelude.{map}
+use Rattle.hay_logical.specs.Seen.{DeleteSeen, EraseSeen, ReplicaSeen, VolumeSeen, replica_seen, volume_seen}
+use Rattle.hay_logical.proofs.Seen.{map_at}
+use Rattle.hay_logical.proofs.SeenSwaps.{idle_seen}
 use Rattle.hay_logical.proofs.logical.Logical.erase_seen.Goals as goal
 
 pub returns-then-not-has_live-clause-refused : goal.returns-then-not-has_live-clause-refused
@@ -315,3 +321,43 @@ pub returns-clause-tight : goal.returns-clause-tight
 returns-clause-tight g c = λ tells j tight same.
     let settled = ap (λ v. v.unsure) (sym c.self.view_is) ∙ (c.self.invariant.0).settled (ap (λ v. v.frozen) c.self.view_is ∙ c.requires.thawed) in
     some_none (same ∙ settled)
+
+pub returns-then-not-has_live-clause-refused_seen : goal.returns-then-not-has_live-clause-refused_seen
+returns-then-not-has_live-clause-refused_seen g c = (refl, ap (λ (v : Volume g.row.D.Denot g.row.D-Piece.Denot). v.front) c.self.view_is)
+
+pub returns-in_default-clause-refused_seen : goal.returns-in_default-clause-refused_seen
+returns-in_default-clause-refused_seen g c = refl
+
+pub returns-in-Ok-clause-after : goal.returns-in-Ok-clause-after
+returns-in-Ok-clause-after g c =
+    let now = c.as_mut_slice.ensures.value in
+    let kept = with_items_is c.self.inside.replicas c.delete_each.new.replicas (c.delete_each.auto.replicas ∙ c.as_mut_slice.ensures.len) in
+    let thawed = ap (λ v. v.frozen) c.self.view_is ∙ c.requires.thawed in
+    let new : VolumeSeen = volume_seen (volume_with c.self.inside.settings c.self.inside.number
+    (with_items c.self.inside.replicas c.delete_each.new.replicas).items c.self.inside.rows c.self.inside.front c.self.inside.frozen c.self.inside.unsure) in
+    subst (λ (v : Volume g.row.D.Denot g.row.D-Piece.Denot). EraseSeen (volume_seen v) new) c.self.view_is (
+      refl,
+      record {
+        thawed = thawed;
+        frozen = thawed;
+        unsure = refl;
+        count = length-map (with_items c.self.inside.replicas c.delete_each.new.replicas).items replica_seen ∙ ap length kept ∙ c.delete_each.ensures.counts.count ∙ ap length now ∙ sym
+            (length-map c.self.inside.replicas.items replica_seen);
+        each = λ j s s' e f.
+            let x = map_at replica_seen c.self.inside.replicas.items j s e in
+            let y = map_at replica_seen c.delete_each.new.replicas j s' (subst (λ rs. At (map replica_seen rs) j s') kept f) in
+            subst (λ (z : ReplicaSeen). DeleteSeen z s') (sym x.2) (subst (λ (z : ReplicaSeen). DeleteSeen (replica_seen x.0) z) (sym y.2)
+            (c.in-Ok.ensures.seen j x.0 y.0 (subst (λ xs. At xs j x.0) (sym now) x.1) y.1));
+      },
+    )
+
+pub returns-clause-refused_seen : goal.returns-clause-refused_seen
+returns-clause-refused_seen g c =
+    let kept = with_items_is c.self.inside.replicas c.delete_each.new.replicas (c.delete_each.auto.replicas ∙ c.as_mut_slice.ensures.len) in
+    inr (record {
+      thawed = c.requires.thawed;
+      front = ap (λ (v : Volume g.row.D.Denot g.row.D-Piece.Denot). v.front) c.self.view_is;
+      frozen = refl;
+      unsure = refl;
+      idle = λ j s e. idle_seen c.delete_each.new.replicas c.in-Err.ensures.runs j s (subst (λ rs. At (map replica_seen rs) j s) kept e);
+    })

@@ -10,7 +10,7 @@ use Rattle.hay_logical.specs.Answers as answers
 use Rattle.hay_logical.specs.Fits.{At}
 use Rattle.hay_logical.specs.Refusals.{IsUntouchedBy, unfinished_by}
 use Rattle.hay_logical.specs.Stands.{Stands, StandsFor}
-use Rattle.hay_logical.specs.Steps.{LosesRun, SwapsOne}
+use Rattle.hay_logical.specs.Steps.{CallsOne, LosesRun, SwapsOne}
 use Rattle.hay_logical.specs.Steps.Start.{Going}
 use Rattle.hay_logical.proofs.Calls.{loses_none, open_up}
 use Rattle.hay_logical.proofs.Changing.{not_some}
@@ -27,6 +27,14 @@ use Rattle.hay_logical.proofs.Untouched.{called_thawed, called_untouched}
 use Rattle.hay_logical.proofs.Freezing.{frozen_unfinished, unfinished_freezes}
 use Rattle.hay_logical.proofs.Tightness.{tightened}
 use Rattle.hay_logical.specs.Answers.{IsTightened}
+use Rattle.std.proofs.Common.{◌≡◌, ◌+◌, ℕ, Option, None, Some, refl}
+use Rattle.std.specs.Prelude.{map, IfOk, OnErr}
+use Rattle.hay_physical.specs.Copies.{KeepsEnd, generation_of, goal_of}
+use Rattle.hay_logical.proofs.Lists.{at_map}
+use Rattle.hay_logical.proofs.Lists.{at_there}
+use Rattle.hay_logical.specs.Seen.{ChangesAt, EndsAlone, FinishRefusedSeen, FinishesTo, SwapSeen, VolumeSeen, replica_seen, volume_seen}
+use Rattle.hay_logical.proofs.Seen.{changes_one, no_goal, seen_goal}
+use Rattle.hay_logical.proofs.SeenSwaps.{calls_set, finish_refused_seen, idle_seen, if_some_so, some_next}
 use Rattle.hay_logical.proofs.logical.Logical.finish_files.Given as given
 use Rattle.hay_logical.proofs.Changing.{some_none}
 use Rattle.hay_logical.specs.declared.fault.LogicalFault.TheVariants as logical
@@ -282,3 +290,76 @@ returns-in-Err-clause-thawed g c = λ none m e.
     let call = called_with c.in-Err.is (called g after) in
     let same : c.unfinished_by-unfinished.result.fault ≡ logical.ReadOnly m = cc in
     called_thawed c.self.inside.settings c.self.inside.number c.in-Err.unswapped call m (ap (λ (u : Unfinished). u.fault) (sym c.unfinished_by-unfinished.ensures) ∙ same)
+
+pub returns-in-Some-clause-refused_seen : goal.returns-in-Some-clause-refused_seen
+returns-in-Some-clause-refused_seen g c = (refl, ap (λ v. v.frozen) (sym c.self.view_is) ∙ c.in-Some.is)
+
+pub returns-in-Ok-clause-seen : goal.returns-in-Ok-clause-seen
+returns-in-Ok-clause-seen g c =
+    let after = (goal.at.returns-in-Ok-clause-seen g c).After-finish_at in
+    let call = called_with c.in-Ok.is (called g after) in
+    let thawed = not_some c.self.inside.frozen c.in_default.not-Some in
+    let was : At c.as_mut_slice.result.now c.args.replica call.one.before = subst (λ xs. At xs c.args.replica call.one.before) (sym c.as_mut_slice.ensures.value) call.one.was in
+    let one : CallsOne c.args.replica c.self.inside.replicas.items c.finish_at.new.replicas =
+    record { before = call.one.before; after = call.one.after; was = call.one.was; is = calls_set call call.swaps.up.0 } in
+    let seen : SwapSeen c.in-Ok.files.generation c.in-Ok.files.end (replica_seen call.one.before) (replica_seen call.one.after) =
+    subst (λ x. IfOk x (λ files. SwapSeen files.generation files.end (replica_seen call.one.before) (replica_seen call.one.after))) c.in-Ok.is
+    (c.finish_at.ensures.seen call.one.before call.one.after was call.one.is) in
+    let held : c.standing.result ≡ None → ⊥ = λ none. stands_there c.standing.result c.is_none.result c.is_none.ensures c.if-is_none.false none in
+    let there = subst (λ v. At v.replicas c.args.replica call.one.before) c.self.view_is call.one.was in
+    let next = some_next c.standing.result (generation_of call.one.before + 1) held (if_some_so c.standing.result _ _ (λ n next. next call.one.before there) c.standing.ensures.next) in
+    let goal : goal_of call.one.before ≡ Some c.in-Ok.files.generation = sym (c.standing.ensures.is call.one.before there) ∙ next ∙ ap Some (sym seen.0) in (
+      ap (λ v. v.frozen) (sym c.self.view_is) ∙ thawed,
+      changes_one c.args.replica
+          (FinishesTo c.in-Ok.files.generation c.in-Ok.files.end) c.self.inside.settings c.self.inside.number c.self.inside.replicas.items c.finish_at.new.replicas c.self.inside.rows
+          c.self.inside.front c.self.inside.frozen c.self.inside.unsure
+          one c.args.self.now c.self.view_is _ (kept g after) (goal, seen),
+    )
+
+pub returns-in-Err-clause-refused_seen : goal.returns-in-Err-clause-refused_seen
+returns-in-Err-clause-refused_seen g c =
+    let after = (goal.at.returns-in-Err-clause-refused_seen g c).After-finish_at in
+    let call = called_with c.in-Err.is (called g after) in
+    let thawed = not_some c.self.inside.frozen c.in_default.not-Some in
+    let was : At c.as_mut_slice.result.now c.args.replica call.one.before = subst (λ xs. At xs c.args.replica call.one.before) (sym c.as_mut_slice.ensures.value) call.one.was in
+    let stays : KeepsEnd call.one.before call.one.after =
+    subst (λ x. OnErr x (KeepsEnd call.one.before call.one.after)) c.in-Err.is (c.finish_at.ensures.kept call.one.before call.one.after was call.one.is) in
+    let one : IsUp call.one.after → CallsOne c.args.replica c.self.inside.replicas.items c.finish_at.new.replicas =
+    λ up. record { before = call.one.before; after = call.one.after; was = call.one.was; is = calls_set call up } in
+    let old : VolumeSeen = volume_seen
+    (volume_with c.self.inside.settings c.self.inside.number c.self.inside.replicas.items c.self.inside.rows c.self.inside.front c.self.inside.frozen c.self.inside.unsure) in
+    let seen : Option ℕ → VolumeSeen = λ o. volume_seen (volume_with c.self.inside.settings c.self.inside.number
+    (with_items c.self.inside.replicas c.finish_at.new.replicas).items c.self.inside.rows c.self.inside.front o c.self.inside.unsure) in
+    let by : Unfinished = unfinished_by c.self.inside.settings c.self.inside.number c.args.replica c.in-Err.unswapped in
+    subst (λ (u : Unfinished). FinishRefusedSeen c.args.self.now.settings c.args.self.now.number c.args.replica (volume_seen c.args.self.now) (seen u.frozen) u.fault)
+    (sym c.unfinished_by-unfinished.ensures)
+    (subst (λ v. FinishRefusedSeen v.settings v.number c.args.replica (volume_seen v) (seen by.frozen) by.fault) c.self.view_is
+    (finish_refused_seen c.self.inside.settings c.self.inside.number c.args.replica g.D.Disk.fault_count call.one.before call.one.after old (seen by.frozen)
+    (at_map replica_seen c.self.inside.replicas.items c.args.replica call.one.before call.one.was) c.in-Err.unswapped call.swaps.left
+    (λ none up goal. subst (λ o. ChangesAt c.args.replica EndsAlone old (seen o)) (thawed ∙ sym none)
+    (changes_one c.args.replica EndsAlone c.self.inside.settings c.self.inside.number c.self.inside.replicas.items c.finish_at.new.replicas c.self.inside.rows c.self.inside.front
+    c.self.inside.frozen c.self.inside.unsure (one up)
+    (volume_with c.self.inside.settings c.self.inside.number c.self.inside.replicas.items c.self.inside.rows c.self.inside.front c.self.inside.frozen c.self.inside.unsure) refl _
+    (kept g after) (seen_goal call.one.before call.one.after None stays goal call.swaps.still)))
+    (λ m froze by_m. record {
+      thawed = thawed;
+      front = refl;
+      frozen = by_m;
+      unsure = refl;
+      idle = λ j s e. idle_seen c.finish_at.new.replicas (call.one.idle froze) j s (subst (λ rs. At
+          (map replica_seen rs) j s) (kept g after) e);
+    })))
+
+pub returns-then-is_none-clause-refused_seen : goal.returns-then-is_none-clause-refused_seen
+returns-then-is_none-clause-refused_seen g c =
+    let within = c.requires.within in
+    let all = c.requires.«open».all in
+    let r = at_there c.args.self.now.replicas c.args.replica (let less : c.args.replica < length c.args.self.now.replicas = omega (arith, within, all) in less) in (
+      refl,
+      (
+        replica_seen r.0,
+        at_map replica_seen c.args.self.now.replicas c.args.replica r.0 r.1,
+        sym
+            (c.standing.ensures.is r.0 r.1) ∙ no_goal c.standing.result c.is_none.result c.is_none.ensures c.if-is_none.true,
+      ),
+    )

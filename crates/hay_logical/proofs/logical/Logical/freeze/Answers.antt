@@ -8,6 +8,8 @@ use Rattle.hay_logical.proofs.Finishing.{stands_halted}
 use Rattle.hay_logical.proofs.Lists.{at_same}
 use Rattle.hay_logical.proofs.Methods.{same_still}
 use Rattle.hay_logical.proofs.Standing.{volume_with}
+use Rattle.hay_logical.specs.Seen.{FreezesSeen, volume_seen}
+use Rattle.hay_logical.proofs.SeenSwaps.{idle_seen}
 use Rattle.hay_logical.proofs.logical.Logical.freeze.Goals as goal
 
 never : {X : Type 0} (o : Option ℕ) → is_some o ≡ true → o ≡ None → X
@@ -48,3 +50,12 @@ returns-clause-again g c = λ m e.
     let thawed = sym (ap (λ v. v.frozen) c.self.view_is) ∙ is_none c.self.inside.frozen (sym c.is_some.ensures ∙ c.if-is_some.false) in
     let wrong : Some m ≡ None = sym e ∙ thawed in
     absurd cc
+
+pub returns-then-is_some-clause-seen : goal.returns-then-is_some-clause-seen
+returns-then-is_some-clause-seen g c = λ none. never c.self.inside.frozen (sym c.is_some.ensures ∙ c.if-is_some.true) (ap (λ v. v.frozen) c.self.view_is ∙ none)
+
+pub returns-clause-seen : goal.returns-clause-seen
+returns-clause-seen g c = λ none.
+    let old = c.args.self.now in
+    subst (λ v. FreezesSeen (machine_of old.settings old.number 0) old.unsure (volume_seen old) (volume_seen v)) (sym c.halt.ensures.still)
+    (record { thawed = none; front = refl; frozen = refl; unsure = refl; idle = idle_seen c.halt.new.self.replicas c.halt.ensures.ended })

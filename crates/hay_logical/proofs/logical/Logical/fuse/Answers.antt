@@ -13,6 +13,9 @@ use Rattle.hay_logical.proofs.Reaching.{same_rows}
 use Rattle.hay_physical.specs.Copies as copies
 use Rattle.hay_logical.proofs.Standing.{volume_with}
 use Rattle.hay_logical.proofs.Tightness.{tight_fused, tight_one}
+use Rattle.hay_logical.specs.Seen.{replica_seen}
+use Rattle.hay_logical.specs.Steps.{CallsOne}
+use Rattle.hay_logical.proofs.Seen.{same_one}
 use Rattle.hay_logical.proofs.logical.Logical.fuse.Goals as goal
 
 pub returns-clause-stands : goal.returns-clause-stands
@@ -131,3 +134,14 @@ returns-clause-tight g c = λ tells j tight r' f.
     let step = c.fuse_at.ensures.fuses one.before one.after one.was (one_after c.args.replica c.as_mut_slice.result.now c.fuse_at.new.replicas one) in
     tight_one g.D.Disk.files c.args.replica c.as_mut_slice.result.now c.fuse_at.new.replicas one (tight_fused g.D.Disk.files one.before one.after g.D.Disk.Tells g.D.Disk.fault_count tells g.D.Disk.fuse_count step)
     j (λ r e. tight r (subst (λ v. At v.replicas j r) c.self.view_is (subst (λ xs. At xs j r) now e))) r' (subst (λ xs. At xs j r') kept f)
+
+pub returns-clause-unchanged : goal.returns-clause-unchanged
+returns-clause-unchanged g c =
+    let now = c.as_mut_slice.ensures.value in
+    let kept = with_items_is c.self.inside.replicas c.fuse_at.new.replicas (c.fuse_at.auto.replicas ∙ c.as_mut_slice.ensures.len) in
+    let one : CallsOne c.args.replica c.self.inside.replicas.items c.fuse_at.new.replicas = subst (λ xs. CallsOne c.args.replica xs c.fuse_at.new.replicas) now c.fuse_at.ensures.one in
+    let step = c.fuse_at.ensures.fuses one.before one.after (subst (λ xs. At xs c.args.replica one.before) (sym now) one.was)
+    (one_after c.args.replica c.self.inside.replicas.items c.fuse_at.new.replicas one) in
+    same_one c.args.replica c.self.inside.settings c.self.inside.number c.self.inside.replicas.items c.fuse_at.new.replicas c.self.inside.rows c.self.inside.front c.self.inside.frozen
+    c.self.inside.unsure one c.args.self.now c.self.view_is
+    (with_items c.self.inside.replicas c.fuse_at.new.replicas).items kept (ap (λ (x : Copy g.row.D.Denot). replica_seen x) step.same)

@@ -8,6 +8,8 @@ use Rattle.hay_logical.specs.Volumes.{IsOpenVolume, IsSame, Volume}
 use Rattle.hay_logical.proofs.Changing.{some_none}
 use Rattle.hay_logical.proofs.Showing.{given_up}
 use Rattle.hay_logical.proofs.Standing.{volume_with}
+use Rattle.hay_logical.specs.Seen.{FreezesSeen, volume_seen}
+use Rattle.hay_logical.proofs.SeenSwaps.{idle_seen}
 use Rattle.hay_logical.proofs.logical.Logical.give_up.Goals as goal
 
 pub invariant_of-self : goal.invariant_of-self
@@ -40,3 +42,11 @@ pub returns-clause-same : goal.returns-clause-same
 returns-clause-same g c =
     let was = subst (λ v. IsSame c.args.self.now v) (sym c.self.view_is) c.halt.ensures.same in
     record { settings = was.settings; number = was.number; sups = was.sups }
+
+pub returns-clause-seen : goal.returns-clause-seen
+returns-clause-seen g c = λ none.
+    let old = c.args.self.now in
+    let unsure : Unsure = record { tag = c.args.tag; change = c.args.change } in
+    subst (λ (v : Volume g.row.D.Denot g.row.D-Piece.Denot). FreezesSeen (machine_of old.settings old.number 0) (Some unsure) (volume_seen old) (volume_seen
+    (record v { unsure = Some unsure }))) (sym (c.self.view_is ∙ c.halt.ensures.still))
+    (record { thawed = none; front = refl; frozen = refl; unsure = refl; idle = idle_seen c.halt.new.self.replicas c.halt.ensures.ended })

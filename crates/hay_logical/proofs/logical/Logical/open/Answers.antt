@@ -17,6 +17,9 @@ use Rattle.hay_logical.proofs.Opened.{err_same, first_stands, no_damage, no_note
 use Rattle.hay_logical.proofs.Standing.{volume_with}
 use Rattle.hay_logical.proofs.Freezing.{never_frozen}
 use Rattle.hay_logical.proofs.Formatting.{opened_formatted}
+use Rattle.std.specs.Prelude.{map}
+use Rattle.hay_logical.specs.Seen.{ReplicaSeen, replica_seen}
+use Rattle.hay_logical.proofs.Seen.{map_at}
 use Rattle.hay_logical.proofs.logical.Logical.open.Goals as goal
 
 pub open_all-requires : goal.open_all-requires
@@ -350,3 +353,21 @@ returns-clause-formatted g c = λ tells j r' here.
     let e = subst (λ xs. At xs j old.0) (sym now) old.1 in
     opened_formatted g.D.Disk.Tells g.D.Disk.files g.D.Piece.Piece.Tells c.open_all.new.rows j old.0 r' _ refl (c.in-Ok.ensures.opened j old.0 r' e f)
     (c.open_all.ensures.kept tells j old.0 r' e f) tells
+
+pub returns-clause-seen : goal.returns-clause-seen
+returns-clause-seen g c =
+    let now = c.as_mut_slice.ensures.value in
+    let kept = with_items_is c.self.inside.replicas c.open_all.new.replicas (c.open_all.auto.replicas ∙ c.as_mut_slice.ensures.len) in
+    let olds = c.self.inside.replicas.items in
+    let news = c.open_all.new.replicas in
+    let count = c.open_all.ensures.counts.count ∙ ap length now in
+    record {
+      front = refl;
+      thawed = refl;
+      settled = refl;
+      fresh = λ j s e.
+          let y = map_at replica_seen news j s (subst (λ rs. At (map replica_seen rs) j s) kept e) in
+          let old = at_there olds j (let h = at_below news j y.0 y.1 in let less : j < length olds = omega (arith, h, count) in less) in
+          let opened = c.in-Ok.ensures.opened j old.0 y.0 (subst (λ xs. At xs j old.0) (sym now) old.1) y.1 in
+          (ap (λ (r : ReplicaSeen). r.goal) y.2 ∙ opened.alone, ap (λ (r : ReplicaSeen). r.stuck) y.2 ∙ opened.loose);
+    }

@@ -4,6 +4,9 @@ use Rattle.hay_logical.specs.declared.fault.LogicalFault.{LogicalFault}
 use Rattle.hay_logical.specs.declared.fault.LogicalFault.TheVariants.{Failed}
 use Rattle.hay_logical.specs.Volumes.{IsOpenVolume, IsSame, KeepsCounts}
 use Rattle.hay_logical.specs.Steps.{KeepsStuck}
+use Rattle.std.proofs.Common.{ℕ, length}
+use Rattle.std.specs.Prelude.{map, IfErr}
+use Rattle.hay_logical.specs.Seen.{PutRefusedSeen, VolumeSeen, grown, volume_seen}
 use Rattle.hay_logical.proofs.logical.Logical.put.Goals as goal
 
 pub returns-clause-stored : goal.returns-clause-stored
@@ -38,3 +41,22 @@ returns-in_err-written-clause-above g c = λ m count e.
     let fault = err_from_is_err_and c.from_residual.result c.from_residual.ensures.1 in
     let same : c.in_err-written.field-0.0 ≡ Failed m count = (let both = sym fault.1 ∙ e in let is = fault.2 in cc) in
     c.write.ensures.above m count (c.in_err-written.was ∙ ap (λ (f : LogicalFault). Err f) same)
+
+pub returns-clause-seen : goal.returns-clause-seen
+returns-clause-seen g c =
+    let wrote = c.in_ok-written.ensures.seen in
+    let with : ℕ → VolumeSeen = λ n. record (volume_seen c.args.self.now) { front = n; replicas = map (grown (length c.args.bytes.now)) (volume_seen c.args.self.now).replicas } in (
+      c.show.ensures.position ∙ c.in_ok-written.ensures.of.1,
+      wrote.0,
+      ap volume_seen c.show.ensures.still ∙ ap (λ (s : VolumeSeen). record s { front = c.in_ok-written.written.position }) wrote.1
+          ∙ ap (λ n. with n) (sym c.show.ensures.position),
+    )
+
+pub returns-in_err-written-clause-refused_seen : goal.returns-in_err-written-clause-refused_seen
+returns-in_err-written-clause-refused_seen g c =
+    let fault = err_from_is_err_and c.from_residual.result c.from_residual.ensures.1 in
+    let old : VolumeSeen = volume_seen c.args.self.now in
+    let new : VolumeSeen = volume_seen c.write.new.self in
+    subst (λ r. IfErr r (PutRefusedSeen c.args.self.now.settings c.args.self.now.number c.args.tag (length c.args.bytes.now) old new)) (sym fault.1)
+    (subst (λ (f : LogicalFault). PutRefusedSeen c.args.self.now.settings c.args.self.now.number c.args.tag (length c.args.bytes.now) old new f) (sym fault.2)
+    c.in_err-written.ensures.refused_seen)

@@ -1,8 +1,8 @@
-use Rattle.std.proofs.Common.{◌≡◌, ◌<◌, Some, None, Ok, Err, length, sym, ap, subst, ◌∙◌, arith}
+use Rattle.std.proofs.Common.{◌≡◌, ◌<◌, ℕ, Some, None, Ok, Err, length, sym, ap, subst, ◌∙◌, arith}
 use Rattle.hay_needle.specs.Sizes.{needle_total}
 use Rattle.hay_legal.specs.Known.{machine_of, room_refusal_of}
 use Rattle.hay_reply.specs.declared.Refused.TheVariants.{NoRoom}
-use Rattle.hay_physical.specs.Copies.{capacity_of, end_of}
+use Rattle.hay_physical.specs.Copies.{Copy, capacity_of, end_of}
 use Rattle.hay_logical.specs.declared.fault.LogicalFault.TheVariants.{Full}
 use Rattle.hay_logical.specs.declared.fault.LogicalFault.{LogicalFault}
 use Rattle.hay_logical.specs.Answers.{IsRoomFault, room_answer}
@@ -12,8 +12,12 @@ use Rattle.hay_logical.specs.Stands.{Stands, StandsFor}
 use Rattle.hay_logical.specs.Steps.{LacksRoom}
 use Rattle.hay_logical.specs.Volumes.{Volume, IsMachineOf}
 use Rattle.hay_logical.proofs.Lists.{at_below}
-use Rattle.hay_logical.proofs.Rooms.{known_capacity, room_by, room_none, room_some}
+use Rattle.hay_logical.proofs.Rooms.{capacity_by, known_capacity, room_by, room_none, room_some}
 use Rattle.hay_logical.proofs.Standing.{volume_with}
+use Rattle.std.proofs.Common.{◌≤◌, ◌+◌, refl}
+use Rattle.hay_logical.specs.Seen.{ReplicaSeen, RoomRefusedSeen, SeesRoom, replica_seen, volume_seen}
+use Rattle.hay_logical.proofs.Lists.{at_map}
+use Rattle.hay_logical.proofs.Seen.{map_at}
 use Rattle.hay_logical.proofs.logical.Logical.room.Goals as goal
 
 pub returns-in-Some-clause-known : goal.returns-in-Some-clause-known
@@ -135,3 +139,53 @@ returns-clause-thawed g c = λ none m e.
     let l = c.in-Err.ensures.lacks in
     let said = sym (c.answer_at.ensures ∙ ap (answer_at c.machine_of-machine.result) l.cause) in
     absurd cc
+
+pub returns-in_default-room_in-clause-seen : goal.returns-in_default-room_in-clause-seen
+returns-in_default-room_in-clause-seen g c = (
+  ap (λ (v : Volume g.row.D.Denot g.row.D-Piece.Denot). v.frozen) (sym c.self.view_is) ∙ c.in_default.is,
+  λ j s e.
+      let x = map_at replica_seen c.args.self.now.replicas j s e in
+      let inside = subst (λ (v : Volume g.row.D.Denot g.row.D-Piece.Denot). At v.replicas j x.0) (sym c.self.view_is) x.1 in
+      let there = subst (λ xs. At xs j x.0) (sym c.as_slice.ensures.value) inside in
+      let fits = c.in_default-room_in.ensures.fits j x.0 there in
+      let has = capacity_by c.self.inside.settings c.args.self.now.settings c.self.inside.number j x.0 (c.in_default-room_in.ensures.capacities j x.0 there) ((c.self.invariant.0).sups j x.0 inside)
+      (ap (λ (v : Volume g.row.D.Denot g.row.D-Piece.Denot). v.settings) c.self.view_is) in
+      subst (λ (y : ReplicaSeen). SeesRoom c.args.self.now.settings.capacity c.args.size y) (sym x.2)
+      (subst (λ n. end_of x.0 + needle_total c.args.size + 8 ≤ n) has fits),
+)
+
+pub returns-in-Some-clause-refused_seen : goal.returns-in-Some-clause-refused_seen
+returns-in-Some-clause-refused_seen g c = ap (λ (v : Volume g.row.D.Denot g.row.D-Piece.Denot). v.frozen) (sym c.self.view_is) ∙ c.in-Some.is
+
+pub returns-clause-refused_seen : goal.returns-clause-refused_seen
+returns-clause-refused_seen g c =
+    let l = c.in-Err.ensures.lacks in
+    let low = c.in-Err.lacking.at in
+    let size = c.args.size in
+    let capacity = c.args.self.now.settings.capacity in
+    let now = c.args.self.now.replicas in
+    let there : At now low l.replica = subst (λ (v : Volume g.row.D.Denot g.row.D-Piece.Denot). At v.replicas low l.replica) c.self.view_is (subst
+    (λ xs. At xs low l.replica) c.as_slice.ensures.value l.there) in
+    let has : (j : ℕ) (r : Copy g.row.D.Denot) → j ≤ low → At c.as_slice.result.now j r → capacity_of r ≡ capacity =
+    λ j r most e.
+    capacity_by c.self.inside.settings c.args.self.now.settings c.self.inside.number j r (c.in-Err.ensures.lacks_capacities j r most e)
+    ((c.self.invariant.0).sups j r (subst (λ xs. At xs j r) c.as_slice.ensures.value e)) (ap (λ (v : Volume g.row.D.Denot g.row.D-Piece.Denot). v.settings) c.self.view_is) in
+    subst (λ (f : LogicalFault). RoomRefusedSeen c.args.self.now.settings c.args.self.now.number size (volume_seen c.args.self.now) f) (sym (c.answer_at.ensures ∙ ap
+    (answer_at c.machine_of-machine.result) l.cause))
+    (record {
+      at = low;
+      replica = replica_seen l.replica;
+      there = at_map replica_seen now low l.replica there;
+      thawed = ap (λ (v : Volume g.row.D.Denot g.row.D-Piece.Denot). v.frozen) (sym c.self.view_is) ∙ c.in_default.is;
+      below = λ j s less e.
+          let x = map_at replica_seen now j s e in
+          let there = subst (λ xs. At xs j x.0) (sym c.as_slice.ensures.value) (subst (λ (v : Volume g.row.D.Denot g.row.D-Piece.Denot). At v.replicas j x.0) (sym c.self.view_is) x.1) in
+          let fits = l.below j x.0 less there in
+          let most : j ≤ low = omega (arith, less) in
+          subst (λ (y : ReplicaSeen). SeesRoom capacity size y) (sym x.2) (subst (λ n. end_of x.0 + needle_total size + 8 ≤ n) (has j x.0 most there) fits);
+      lacks = subst (λ n. n < end_of l.replica + needle_total size + 8) (has low l.replica (omega arith) l.there) l.full;
+      machine = c.machine_of-machine.ensures ∙ ap (λ (v : Volume g.row.D.Denot g.row.D-Piece.Denot). machine_of v.settings v.number low) c.self.view_is;
+      end_is = refl;
+      need_is = refl;
+      capacity_is = has low l.replica (omega arith) l.there;
+    })

@@ -14,6 +14,7 @@ loop-replica-init g c = record {
   tight = λ tells k stands j tight. tight;
   stuck = stuck_same c.args.self.now.replicas;
   seen = λ j h. let wrong : ⊥ = omega (arith, h) in absurd wrong;
+  unchanged = refl;
 }
 
 pub see_in-requires : goal.see_in-requires
@@ -58,6 +59,7 @@ loop-replica-preserved g c = record {
   tight = λ tells k stands j tight. c.see_in.ensures.tight tells k (c.loop-replica.invariant.kept.stands tells k stands) j (c.loop-replica.invariant.tight tells k stands j tight);
   stuck = stuck_more c.args.self.now.replicas c.loop-replica.self.replicas c.see_in.new.self.replicas c.loop-replica.invariant.kept.counts.count c.loop-replica.invariant.stuck c.see_in.ensures.stuck;
   seen = seen_more c.args.pair c.loop-replica.replica c.loop-replica.self.rows c.see_in.new.self.rows (row_at c.see_in.new.self.rows c.args.pair) c.in_ok-see_in.ensures.row refl c.in_ok-see_in.ensures.seen c.loop-replica.invariant.seen;
+  unchanged = c.see_in.ensures.unchanged ∙ c.loop-replica.invariant.unchanged;
 }
 
 pub returns-clause-stands : goal.returns-clause-stands
@@ -108,3 +110,9 @@ returns-in_err-see_in-clause-tight g c = λ tells k stands j tight.
 
 pub returns-clause-tight : goal.returns-clause-tight
 returns-clause-tight g c = c.loop-replica.invariant.tight
+
+pub returns-in_err-see_in-clause-unchanged : goal.returns-in_err-see_in-clause-unchanged
+returns-in_err-see_in-clause-unchanged g c = c.see_in.ensures.unchanged ∙ c.loop-replica.invariant.unchanged
+
+pub returns-clause-unchanged : goal.returns-clause-unchanged
+returns-clause-unchanged g c = c.loop-replica.invariant.unchanged

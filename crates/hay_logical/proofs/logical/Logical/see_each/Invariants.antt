@@ -1,8 +1,9 @@
-use Rattle.std.proofs.Common.{ℕ, ◌<◌}
+use Rattle.std.proofs.Common.{◌≡◌, ℕ, ◌<◌}
 use Rattle.hay_map.specs.Places.{place_in}
 use Rattle.hay_map.specs.Rows.{row_at}
 use Rattle.hay_compact.specs.Finishing.{IsSeen}
 use Rattle.hay_legal.specs.declared.known.VolumeKnown.{VolumeKnown}
+use Rattle.hay_logical.specs.Seen.{volume_seen}
 use Rattle.hay_logical.specs.Stands.{IsTightAt, Stands}
 use Rattle.hay_logical.specs.Steps.{KeepsStuck}
 use Rattle.hay_logical.proofs.Through.{Kept}
@@ -14,4 +15,5 @@ invariant-loop-replica g l = record {
   tight : g.D.Disk.Tells → (k : VolumeKnown) → Stands g.D.Disk.files g.D.Piece.Piece.Tells l.fn.self k → (j : ℕ) → IsTightAt g.D.Disk.files l.fn.self j → IsTightAt g.D.Disk.files l.self j;
   stuck : KeepsStuck l.fn.self.replicas l.self.replicas;
   seen : (j : ℕ) → j < l.replica → IsSeen (place_in (row_at l.self.rows l.pair) j);
+  unchanged : volume_seen l.self ≡ volume_seen l.fn.self;
 }

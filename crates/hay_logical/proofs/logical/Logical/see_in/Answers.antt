@@ -24,6 +24,9 @@ use Rattle.hay_logical.proofs.Sighting.{damaged_answer, failed_machine, known_se
 use Rattle.hay_logical.proofs.Standing.{volume_with}
 use Rattle.hay_physical.specs.Copies.{is_stuck}
 use Rattle.hay_logical.proofs.Tightness.{tight_one, tight_seen}
+use Rattle.std.proofs.Common.{◌≡◌, ap, ◌∙◌}
+use Rattle.hay_logical.specs.Seen.{replica_seen}
+use Rattle.hay_logical.proofs.Seen.{same_one}
 use Rattle.hay_logical.proofs.logical.Logical.see_in.Goals as goal
 use Rattle.hay_logical.proofs.logical.Logical.see_in.Goals.{in-Ok, in-Err}
 
@@ -270,3 +273,14 @@ returns-clause-tight g c = λ tells k stands j tight r' f.
     (tight_seen c.self.inside.settings c.self.inside.number g.D.Disk.Tells g.D.Disk.files g.D.Piece.Piece.Tells g.D.Disk.fault_count c.self.inside.replicas.items c.self.inside.rows c.see_at.new.rows c.self.inside.front c.self.inside.unsure k tells
     c.self.inside.frozen (subst (λ v. StandsFor g.D.Disk.files g.D.Piece.Piece.Tells v k) (sym c.self.view_is) stands) c.args.replica one.before one.after c.args.pair c.see_at.result one.was sights)
     j (λ r e. tight r (subst (λ v. At v.replicas j r) c.self.view_is e)) r' (subst (λ xs. At xs j r') kept f)
+
+pub returns-clause-unchanged : goal.returns-clause-unchanged
+returns-clause-unchanged g c =
+    let now = c.as_mut_slice.ensures.value in
+    let kept = with_items_is c.self.inside.replicas c.see_at.new.replicas (c.see_at.auto.replicas ∙ c.as_mut_slice.ensures.len) in
+    let one : CallsOne c.args.replica c.self.inside.replicas.items c.see_at.new.replicas = subst (λ xs. CallsOne c.args.replica xs c.see_at.new.replicas) now c.see_at.ensures.one in
+    let sights : SightsAt g.D.Disk.Tells g.D.Disk.files g.D.Disk.fault_count g.D.Piece.Piece.Tells c.args.pair c.self.inside.rows c.see_at.new.rows c.args.replica one.before one.after c.see_at.result =
+    c.see_at.ensures.sights one.before one.after (subst (λ xs. At xs c.args.replica one.before) (sym now) one.was) (one_after c.args.replica c.self.inside.replicas.items c.see_at.new.replicas one) in
+    same_one c.args.replica c.self.inside.settings c.self.inside.number c.self.inside.replicas.items c.see_at.new.replicas c.self.inside.rows c.self.inside.front c.self.inside.frozen
+    c.self.inside.unsure one c.args.self.now c.self.view_is
+    (with_items c.self.inside.replicas c.see_at.new.replicas).items kept (ap (λ (x : Copy g.row.D.Denot). replica_seen x) sights.copy)

@@ -26,6 +26,11 @@ use Rattle.std.specs.Prelude.{OnOk}
 use Rattle.hay_physical.specs.declared.fault.ReplicaFault.TheVariants as fault
 use Rattle.hay_logical.specs.declared.fault.LogicalFault.TheVariants as logical
 use Rattle.hay_logical.proofs.Changing.{some_none}
+use Rattle.hay_legal.specs.Known.{machine_of}
+use Rattle.std.proofs.Common.{None, ◌≤◌}
+use Rattle.hay_logical.specs.Seen.{EndsAlone, StepRefusedSeen, StepSeen, VolumeSeen, replica_seen, volume_seen}
+use Rattle.hay_logical.proofs.Lists.{at_map}
+use Rattle.hay_logical.proofs.Seen.{changes_one, no_goal, same_one, seen_goal, seen_same, sees_before, step_refused_seen}
 use Rattle.hay_logical.proofs.logical.Logical.step.Goals as goal
 use Rattle.hay_logical.proofs.logical.Logical.step.Goals.{in-Ok, in-Err}
 
@@ -317,3 +322,91 @@ returns-clause-thawed g c = λ none m e.
           let said : Err w.answer_at.result ≡ Err (logical.ReadOnly m) = sym w.result-is ∙ e in
           step_thawed g.D.Disk.fault_count one.before one.after c.machine_of-machine.result w.in-Err.fault m step.cause (sym w.answer_at.ensures ∙ (let same : w.answer_at.result ≡ logical.ReadOnly m = cc in same))
     ]
+
+pub returns-in-Some-clause-refused_seen : goal.returns-in-Some-clause-refused_seen
+returns-in-Some-clause-refused_seen g c = (refl, ap (λ v. v.frozen) (sym c.self.view_is) ∙ c.in-Some.is)
+
+pub returns-clause-seen : goal.returns-clause-seen
+returns-clause-seen g c =
+    let now = c.as_mut_slice.ensures.value in
+    let kept = with_items_is c.self.inside.replicas c.step_at.new.replicas (c.step_at.auto.replicas ∙ c.as_mut_slice.ensures.len) in
+    let one : CallsOne c.args.replica c.self.inside.replicas.items c.step_at.new.replicas = subst (λ xs. CallsOne c.args.replica xs c.step_at.new.replicas) now c.step_at.ensures.one in
+    let was : At c.as_mut_slice.result.now c.args.replica one.before = subst (λ xs. At xs c.args.replica one.before) (sym now) one.was in
+    let there = one_after c.args.replica c.self.inside.replicas.items c.step_at.new.replicas one in
+    let step : StepsAt g.D.Disk.Tells g.D.Disk.files g.D.Disk.fault_count g.D.Piece.Piece.Tells c.self.inside.rows c.args.replica c.args.cells one.before one.after c.step_at.result =
+    c.step_at.ensures.steps one.before one.after was there in
+    let stays = c.step_at.ensures.stays one.before one.after was there in
+    let none : c.args.self.now.frozen ≡ None = ap (λ v. v.frozen) (sym c.self.view_is) ∙ not_some c.self.inside.frozen c.in_default.not-Some in
+    let new : VolumeSeen = volume_seen (volume_with c.self.inside.settings c.self.inside.number
+    (with_items c.self.inside.replicas c.step_at.new.replicas).items c.self.inside.rows c.self.inside.front c.self.inside.frozen c.self.inside.unsure) in
+    let old : VolumeSeen = volume_seen c.args.self.now in
+    elim c.match-step_at.branch [
+      | in-Ok w ↦
+          let done : StepsAt g.D.Disk.Tells g.D.Disk.files g.D.Disk.fault_count g.D.Piece.Piece.Tells c.self.inside.rows c.args.replica c.args.cells one.before one.after (Ok w.in-Ok.number) =
+          subst (λ x. StepsAt g.D.Disk.Tells g.D.Disk.files g.D.Disk.fault_count g.D.Piece.Piece.Tells c.self.inside.rows c.args.replica c.args.cells one.before one.after x) w.in-Ok.is step in
+          subst (λ r. IfOk r (λ number. StepSeen c.args.replica c.args.cells number old new)) (sym w.result-is) (record {
+            few = subst (λ x. IfOk x (λ number. number ≤ c.args.cells)) w.in-Ok.is c.step_at.ensures.few;
+            thawed = none;
+            stands = (
+              replica_seen one.before,
+              sees_before c.args.replica c.self.inside.settings c.self.inside.number c.self.inside.replicas.items c.step_at.new.replicas c.self.inside.rows
+                  c.self.inside.front c.self.inside.frozen c.self.inside.unsure one c.args.self.now c.self.view_is
+                  (with_items c.self.inside.replicas c.step_at.new.replicas).items kept,
+              λ none. stands_there c.standing.result c.is_none.result c.is_none.ensures c.if-is_none.false
+                  (c.standing.ensures.is one.before (subst (λ v. At v.replicas c.args.replica one.before) c.self.view_is one.was) ∙ none),
+            );
+            same = same_one c.args.replica c.self.inside.settings c.self.inside.number c.self.inside.replicas.items c.step_at.new.replicas c.self.inside.rows c.self.inside.front
+                c.self.inside.frozen c.self.inside.unsure one c.args.self.now c.self.view_is (with_items c.self.inside.replicas c.step_at.new.replicas).items kept
+                (seen_same one.before one.after stays done.goal done.on.stuck);
+          })
+      | in-Err w ↦ rw w.result-is tt
+    ]
+
+pub returns-clause-refused_seen : goal.returns-clause-refused_seen
+returns-clause-refused_seen g c =
+    let now = c.as_mut_slice.ensures.value in
+    let kept = with_items_is c.self.inside.replicas c.step_at.new.replicas (c.step_at.auto.replicas ∙ c.as_mut_slice.ensures.len) in
+    let one : CallsOne c.args.replica c.self.inside.replicas.items c.step_at.new.replicas = subst (λ xs. CallsOne c.args.replica xs c.step_at.new.replicas) now c.step_at.ensures.one in
+    let was : At c.as_mut_slice.result.now c.args.replica one.before = subst (λ xs. At xs c.args.replica one.before) (sym now) one.was in
+    let there = one_after c.args.replica c.self.inside.replicas.items c.step_at.new.replicas one in
+    let step : StepsAt g.D.Disk.Tells g.D.Disk.files g.D.Disk.fault_count g.D.Piece.Piece.Tells c.self.inside.rows c.args.replica c.args.cells one.before one.after c.step_at.result =
+    c.step_at.ensures.steps one.before one.after was there in
+    let stays = c.step_at.ensures.stays one.before one.after was there in
+    let none : c.args.self.now.frozen ≡ None = ap (λ v. v.frozen) (sym c.self.view_is) ∙ not_some c.self.inside.frozen c.in_default.not-Some in
+    let new : VolumeSeen = volume_seen (volume_with c.self.inside.settings c.self.inside.number
+    (with_items c.self.inside.replicas c.step_at.new.replicas).items c.self.inside.rows c.self.inside.front c.self.inside.frozen c.self.inside.unsure) in
+    let old : VolumeSeen = volume_seen c.args.self.now in
+    elim c.match-step_at.branch [
+      | in-Ok w ↦ rw w.result-is tt
+      | in-Err w ↦
+          let left : StepsAt g.D.Disk.Tells g.D.Disk.files g.D.Disk.fault_count g.D.Piece.Piece.Tells c.self.inside.rows c.args.replica c.args.cells one.before one.after (Err w.in-Err.fault) =
+          subst (λ x. StepsAt g.D.Disk.Tells g.D.Disk.files g.D.Disk.fault_count g.D.Piece.Piece.Tells c.self.inside.rows c.args.replica c.args.cells one.before one.after x) w.in-Err.is step in
+          let said : w.answer_at.result ≡ answer_at (machine_of c.args.self.now.settings c.args.self.now.number c.args.replica) w.in-Err.fault =
+          w.answer_at.ensures ∙ ap (λ m. answer_at m w.in-Err.fault) (c.machine_of-machine.ensures ∙ ap
+          (λ (v : Volume g.row.D.Denot g.row.D-Piece.Denot). machine_of v.settings v.number c.args.replica) c.self.view_is) in
+          subst (λ r. IfErr r (StepRefusedSeen c.args.self.now.settings c.args.self.now.number c.args.replica old new)) (sym w.result-is)
+          (subst (λ f. StepRefusedSeen c.args.self.now.settings c.args.self.now.number c.args.replica old new f) (sym said)
+          (step_refused_seen c.args.self.now.settings c.args.self.now.number c.args.replica g.D.Disk.fault_count one.before one.after old new
+          (sees_before c.args.replica c.self.inside.settings c.self.inside.number c.self.inside.replicas.items c.step_at.new.replicas c.self.inside.rows c.self.inside.front
+          c.self.inside.frozen c.self.inside.unsure one c.args.self.now c.self.view_is (with_items c.self.inside.replicas c.step_at.new.replicas).items kept) w.in-Err.fault left.cause
+          (same_one c.args.replica c.self.inside.settings c.self.inside.number c.self.inside.replicas.items c.step_at.new.replicas c.self.inside.rows c.self.inside.front c.self.inside.frozen
+          c.self.inside.unsure one c.args.self.now c.self.view_is (with_items c.self.inside.replicas c.step_at.new.replicas).items kept)
+          (λ goal. seen_same one.before one.after stays goal left.on.stuck)
+          (λ goal. changes_one c.args.replica EndsAlone c.self.inside.settings c.self.inside.number c.self.inside.replicas.items c.step_at.new.replicas c.self.inside.rows c.self.inside.front
+          c.self.inside.frozen c.self.inside.unsure one c.args.self.now c.self.view_is (with_items c.self.inside.replicas c.step_at.new.replicas).items kept
+          (seen_goal one.before one.after None stays goal left.on.stuck))))
+    ]
+
+pub returns-then-is_none-clause-refused_seen : goal.returns-then-is_none-clause-refused_seen
+returns-then-is_none-clause-refused_seen g c =
+    let within = c.requires.within in
+    let all = c.requires.«open».all in
+    let r = at_there c.args.self.now.replicas c.args.replica (let less : c.args.replica < length c.args.self.now.replicas = omega (arith, within, all) in less) in (
+      refl,
+      (
+        replica_seen r.0,
+        at_map replica_seen c.args.self.now.replicas c.args.replica r.0 r.1,
+        sym
+            (c.standing.ensures.is r.0 r.1) ∙ no_goal c.standing.result c.is_none.result c.is_none.ensures c.if-is_none.true,
+      ),
+    )

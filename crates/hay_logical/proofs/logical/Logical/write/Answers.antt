@@ -37,6 +37,13 @@ use Rattle.hay_logical.proofs.Untouched.{stuck_same}
 use Rattle.std.specs.Prelude.{OnErr}
 use Rattle.hay_logical.specs.Stands.{IsTightAt}
 use Rattle.hay_logical.proofs.Tightness.{tight_untouched}
+use Rattle.std.proofs.Common.{ap, List, Option}
+use Rattle.std.specs.Prelude.{map}
+use Rattle.hay_logical.specs.declared.unsure.Unsure.{Unsure}
+use Rattle.hay_logical.specs.Seen.{PutRefusedSeen, ReplicaSeen, VolumeSeen, grown, replica_seen, volume_seen}
+use Rattle.hay_logical.proofs.Seen.{map_at}
+use Rattle.hay_logical.proofs.SeenSwaps.{idle_seen}
+use Rattle.hay_logical.proofs.SeenChanges.{broken_put_seen, map_both, maps_by, room_put_seen}
 use Rattle.hay_logical.proofs.logical.Logical.write.Goals as goal
 
 pub put_each-requires : goal.put_each-requires
@@ -525,3 +532,76 @@ returns-then-is_untouched-clause-tight g c = λ tells j tight same r' f.
     let still = still_runs g.D.Disk.Tells g.D.Disk.files c.self.inside.replicas.items c.put_each.new.replicas c.in-Err.broken (subst (λ xs. EndsRuns g.D.Disk.Tells g.D.Disk.files xs c.put_each.new.replicas c.in-Err.broken) now c.in-Err.ensures.runs) un in
     tight_untouched g.D.Disk.Tells g.D.Disk.files g.D.Disk.fault_count c.args.pair c.args.cookie c.args.bytes.now c.self.inside.replicas.items c.put_each.new.replicas c.in-Err.broken left un still up tells
     (c.put_each.ensures.counts.count ∙ ap length now) j (λ r e. tight r (subst (λ v. At v.replicas j r) c.self.view_is e)) r' (subst (λ xs. At xs j r') kept f)
+
+pub returns-in_err-room-clause-refused_seen : goal.returns-in_err-room-clause-refused_seen
+returns-in_err-room-clause-refused_seen g c =
+    let old : VolumeSeen = volume_seen c.args.self.now in
+    subst (λ r. IfErr r (PutRefusedSeen c.args.self.now.settings c.args.self.now.number c.args.tag (length c.args.bytes.now) old old)) (sym
+    (is_err_of c.from_residual.result c.in_err-room.field-0.0 c.from_residual.ensures.1))
+    (room_put_seen c.args.self.now.settings c.args.self.now.number c.args.tag (length c.args.bytes.now) old c.in_err-room.field-0.0 c.in_err-room.ensures.refused_seen)
+
+pub returns-in_default-clause-refused_seen : goal.returns-in_default-clause-refused_seen
+returns-in_default-clause-refused_seen g c = inl refl
+
+pub returns-then-is_err-clause-refused_seen : goal.returns-then-is_err-clause-refused_seen
+returns-then-is_err-clause-refused_seen g c = inl (ap volume_seen c.self.view_is)
+
+pub returns-in-Ok-clause-seen : goal.returns-in-Ok-clause-seen
+returns-in-Ok-clause-seen g c =
+    let now = c.as_mut_slice.ensures.value in
+    let kept = with_items_is c.self.inside.replicas c.put_each.new.replicas (c.put_each.auto.replicas ∙ c.as_mut_slice.ensures.len) in
+    let size = length c.args.bytes.now in
+    let with : List ReplicaSeen → VolumeSeen = λ rs. record { front = c.self.inside.front; frozen = c.self.inside.frozen; unsure = c.self.inside.unsure; replicas = rs } in
+    let same : map replica_seen c.put_each.new.replicas ≡ map (grown size) (map replica_seen c.self.inside.replicas.items) =
+    maps_by replica_seen (λ (r : Copy g.row.D.Denot). grown size (replica_seen r)) c.self.inside.replicas.items c.put_each.new.replicas (c.put_each.ensures.counts.count ∙ ap length now)
+    (λ j r r' e f. c.in-Ok.ensures.seen j r r' (subst (λ xs. At xs j r) (sym now) e) f) ∙ map_both replica_seen (grown size) c.self.inside.replicas.items in (
+      c.in_ok-room.ensures.fits.0,
+      ap with (ap (map replica_seen) kept ∙ same) ∙ ap (λ v. record (volume_seen v) { replicas = map (grown size) (volume_seen v).replicas }) c.self.view_is,
+    )
+
+pub returns-then-is_untouched-clause-refused_seen : goal.returns-then-is_untouched-clause-refused_seen
+returns-then-is_untouched-clause-refused_seen g c =
+    let now = c.as_mut_slice.ensures.value in
+    let kept = with_items_is c.self.inside.replicas c.put_each.new.replicas (c.put_each.auto.replicas ∙ c.as_mut_slice.ensures.len) in
+    let with : List ReplicaSeen → VolumeSeen = λ rs. record { front = c.self.inside.front; frozen = c.self.inside.frozen; unsure = c.self.inside.unsure; replicas = rs } in
+    let un : IsUntouched c.put_each.new.replicas c.in-Err.broken = subst (λ xs. IsUntouched xs c.in-Err.broken) (c.as_slice-in-Err.ensures.value ∙ kept) (c.is_untouched.ensures.untouched c.if-is_untouched.true) in
+    let same : map replica_seen c.put_each.new.replicas ≡ map replica_seen c.self.inside.replicas.items =
+    maps_by replica_seen replica_seen c.self.inside.replicas.items c.put_each.new.replicas (c.put_each.ensures.counts.count ∙ ap length now)
+    (λ j r r' e f. c.in-Err.ensures.refused_seen un j r r' (subst (λ xs. At xs j r) (sym now) e) f) in
+    inl (ap with (ap (map replica_seen) kept ∙ same) ∙ ap volume_seen c.self.view_is)
+
+pub returns-else-is_untouched-clause-refused_seen : goal.returns-else-is_untouched-clause-refused_seen
+returns-else-is_untouched-clause-refused_seen g c =
+    let now = c.as_mut_slice.ensures.value in
+    let kept = with_items_is c.self.inside.replicas c.put_each.new.replicas (c.put_each.auto.replicas ∙ c.as_mut_slice.ensures.len) in
+    let thawed : c.self.inside.frozen ≡ None = ap (λ v. v.frozen) c.self.view_is ∙ c.in_ok-room.ensures.fits.0 in
+    let idle : AllIdle c.put_each.new.replicas = all_idle g.D.Disk.Tells g.D.Disk.files c.self.inside.replicas.items c.put_each.new.replicas c.in-Err.broken
+    (subst (λ xs. EndsRuns g.D.Disk.Tells g.D.Disk.files xs c.put_each.new.replicas c.in-Err.broken) now c.in-Err.ensures.runs)
+    (not_untouched c.put_each.new.replicas c.in-Err.broken (λ e f r there. c.is_untouched.ensures.touched c.if-is_untouched.false e f r (subst (λ xs. At xs 0 r) (sym (c.as_slice-in-Err.ensures.value ∙ kept)) there))) in
+    let pending : Option Unsure = Some (record { tag = c.args.tag; change = change.Put c.ends_of-ends.result }) in
+    let old : VolumeSeen = volume_seen
+    (volume_with c.self.inside.settings c.self.inside.number c.self.inside.replicas.items c.self.inside.rows c.self.inside.front c.self.inside.frozen c.self.inside.unsure) in
+    let new : VolumeSeen = volume_seen (volume_with c.self.inside.settings c.self.inside.number
+    (with_items c.self.inside.replicas c.put_each.new.replicas).items c.reserve.new.self c.self.inside.front (Some c.put_refusal-refusal.result.machine) pending) in
+    subst (λ v. PutRefusedSeen v.settings v.number c.args.tag (length c.args.bytes.now) (volume_seen v) new c.put_refusal-refusal.result.fault) c.self.view_is
+    (broken_put_seen c.self.inside.settings c.self.inside.number c.args.tag
+    (length c.args.bytes.now) old c.in-Err.broken.at new c.in-Err.broken.fault c.put_refusal-refusal.result c.put_refusal-refusal.ensures (record {
+      ends = c.ends_of-ends.result;
+      each = λ j s e.
+          let x = map_at replica_seen c.self.inside.replicas.items j s e in
+          c.ends_of-ends.ensures j x.0 (subst (λ xs. At xs j x.0) (sym c.as_slice.ensures.value) x.1) ∙ ap (λ (r : ReplicaSeen). r.end) (sym x.2);
+      freezes = record {
+        thawed = thawed;
+        front = refl;
+        frozen = refl;
+        unsure = refl;
+        idle = λ j s e. idle_seen c.put_each.new.replicas idle j s (subst (λ rs. At (map replica_seen rs) j s) kept e);
+      };
+    }))
+
+pub returns-then-is_untouched-clause-files : goal.returns-then-is_untouched-clause-files
+returns-then-is_untouched-clause-files g c = λ same tells j r r' e f.
+    let now = c.as_mut_slice.ensures.value in
+    let kept = with_items_is c.self.inside.replicas c.put_each.new.replicas (c.put_each.auto.replicas ∙ c.as_mut_slice.ensures.len) in
+    let un : IsUntouched c.put_each.new.replicas c.in-Err.broken = subst (λ xs. IsUntouched xs c.in-Err.broken) (c.as_slice-in-Err.ensures.value ∙ kept) (c.is_untouched.ensures.untouched c.if-is_untouched.true) in
+    c.in-Err.ensures.untouched un tells j r r' (subst (λ xs. At xs j r) (sym now) (subst (λ v. At v.replicas j r) (sym c.self.view_is) e)) (subst (λ xs. At xs j r') kept f)

@@ -1,0 +1,77 @@
+-- What is seen of a volume behind the end of a compaction.
+use Rattle.std.proofs.Common.{◌≡◌, inl, inr, ℕ, List, Option, None, Some, refl, sym, ap, subst, ◌∙◌}
+use Rattle.std.specs.Prelude.{map, slice_set, Result, IfSome}
+use Rattle.std.proofs.lemmas.Bool.{cases_eq}
+use Rattle.hay_needle.specs.declared.settings.Settings.{Settings}
+use Rattle.hay_disk.specs.Disk.{Files}
+use Rattle.hay_map.specs.MapRows.{MapRows}
+use Rattle.hay_legal.specs.Known.{machine_of}
+use Rattle.hay_physical.specs.declared.fault.ReplicaFault.TheVariants as fault
+use Rattle.hay_physical.specs.Copies.{Copy, IsFrozen, IsUp, goal_of}
+use Rattle.hay_logical.specs.declared.runs.NewFiles.{NewFiles}
+use Rattle.hay_logical.specs.declared.runs.Unswapped.{Unswapped}
+use Rattle.hay_logical.specs.declared.runs.Unswapped.TheVariants.{Refused, Unsure as Perhaps}
+use Rattle.hay_logical.specs.Fits.{At}
+use Rattle.hay_logical.specs.Refusals.{unfinished_by}
+use Rattle.hay_logical.specs.Seen.{ChangesAt, CompactRefusedSeen, EndsAlone, FinishRefusedSeen, FreezesSeen, ReplicaSeen, VolumeSeen, replica_seen}
+use Rattle.hay_logical.specs.Steps.{AllIdle, IsLeftBy, Start}
+use Rattle.hay_logical.specs.Steps.Start.{Fresh, Going}
+use Rattle.hay_logical.proofs.Lists.{at_below, at_same, at_set_other, at_set_same, length-slice_set}
+use Rattle.hay_logical.proofs.Seen.{map_at}
+use Rattle.hay_logical.proofs.SwapShapes.{SwapCall}
+use Rattle.hay_logical.proofs.Untouched.{lists_same}
+
+pub some_next : (o : Option ℕ) (n : ℕ) → (o ≡ None → ⊥) → IfSome o (λ goal. goal ≡ n) → o ≡ Some n
+some_next None n some next = absurd (some refl)
+some_next (Some goal) n some next = ap Some next
+
+pub if_some_so : {T : Type 0} (o : Option T) (P Q : T → Type 0) → ((v : T) → P v → Q v) → IfSome o P → IfSome o Q
+if_some_so None P Q makes p = p
+if_some_so (Some v) P Q makes p = makes v p
+
+pub idle_seen : {D : Type 0} (replicas : List (Copy D)) → AllIdle replicas → (j : ℕ) (s : ReplicaSeen) → At (map replica_seen replicas) j s → s.goal ≡ None
+idle_seen replicas idle j s e = let x = map_at replica_seen replicas j s e in ap (λ (r : ReplicaSeen). r.goal) x.2 ∙ idle j x.0 x.1
+
+-- where the replica takes changes the others are as they were
+pub calls_set : {D P : Type 0} {DiskTells : Type 0} {files : D → Files} {Tells : Type 0} {faults : D → ℕ} {start : Start} {items new : List (Copy D)} {rows rows' : MapRows P}
+    {at : ℕ} {result : Result (NewFiles P) Unswapped}
+    (call : SwapCall DiskTells files Tells faults start items new rows rows' at result) → IsUp call.one.after → new ≡ slice_set items at call.one.after
+calls_set {D} {P} {DiskTells} {files} {Tells} {faults} {start} {items} {new} {rows} {rows'} {at} {result} call up =
+    let after = call.one.after in
+    let low = at_below items at call.one.before call.one.was in
+    lists_same (slice_set items at after) new (call.one.count ∙ sym (length-slice_set items at after)) (λ j a b e f. elim (cases_eq j at) [
+      | inl here ↦
+          at_same new at b after (subst (λ n. At new n b) here f) call.one.is
+          ∙ sym (at_same (slice_set items at after) at a after (subst (λ n. At (slice_set items at after) n a) here e) (at_set_same items at after low))
+      | inr apart ↦ (call.one.others j a b apart (sym (at_set_other items j at after apart) ∙ e) f).1 up
+    ])
+
+module _ (settings : Settings) (v at : ℕ) {D : Type 0} (faults : D → ℕ) (r r' : Copy D) (old new : VolumeSeen) (there : At old.replicas at (replica_seen r)) where
+  abbrev Froze : Unswapped → Type 0
+  Froze u = (m : ℕ) → IsFrozen r' → (unfinished_by settings v at u).frozen ≡ Some m → FreezesSeen m old.unsure old new
+
+  pub finish_refused_seen : (u : Unswapped) → IsLeftBy faults Going r r' u → ((unfinished_by settings v at u).frozen ≡ None → IsUp r' → goal_of r' ≡ None → ChangesAt at EndsAlone old new) → Froze u
+      → FinishRefusedSeen settings v at old new (unfinished_by settings v at u).fault
+  finish_refused_seen (Refused (fault.Failed printed)) left ends froze = (refl, inl (ends refl left.0 left.1))
+  finish_refused_seen (Refused (fault.Damaged place)) left ends froze = (refl, ends refl left.0 left.1)
+  finish_refused_seen (Refused fault.NoMemory) left ends froze = ends refl left.0 left.1
+  finish_refused_seen (Refused (fault.Busy goal)) left ends froze = let wrong : Going ≡ Fresh = left.0 in absurd cc
+  finish_refused_seen (Refused fault.Worn) left ends froze = let wrong : Going ≡ Fresh = left.0 in absurd cc
+  finish_refused_seen (Refused fault.Frozen) left ends froze = absurd left
+  finish_refused_seen (Refused (fault.Full end need capacity)) left ends froze = absurd left
+  finish_refused_seen (Refused (fault.Ended printed)) left ends froze = absurd left
+  finish_refused_seen (Perhaps printed) left ends froze = (refl, inr (froze (machine_of settings v at) left.0 refl))
+
+  pub compact_refused_seen : (u : Unswapped) → IsUp r → IsLeftBy faults Fresh r r' u → ((unfinished_by settings v at u).frozen ≡ None → IsUp r' → goal_of r' ≡ goal_of r → new ≡ old) → Froze u
+      → CompactRefusedSeen settings v at old new (unfinished_by settings v at u).fault
+  compact_refused_seen (Refused (fault.Failed printed)) up left same froze = (refl, inl (same refl left.0 (left.1 ∙ sym left.2.0)))
+  compact_refused_seen (Refused (fault.Damaged place)) up left same froze = (same refl left.0 (left.1 ∙ sym left.2.0), refl)
+  compact_refused_seen (Refused fault.NoMemory) up left same froze = same refl left.0 (left.1 ∙ sym left.2.0)
+  compact_refused_seen (Refused (fault.Busy goal)) up left same froze =
+      ((same refl (subst (λ (x : Copy D). IsUp x) (sym left.2) up) (ap goal_of left.2), refl), (replica_seen r, there, left.1))
+  compact_refused_seen (Refused fault.Worn) up left same froze =
+      ((same refl (subst (λ (x : Copy D). IsUp x) (sym left.3) up) (ap goal_of left.3), refl), (replica_seen r, there, (left.1, left.2)))
+  compact_refused_seen (Refused fault.Frozen) up left same froze = absurd left
+  compact_refused_seen (Refused (fault.Full end need capacity)) up left same froze = absurd left
+  compact_refused_seen (Refused (fault.Ended printed)) up left same froze = absurd left
+  compact_refused_seen (Perhaps printed) up left same froze = (refl, inr (froze (machine_of settings v at) left.0 refl))
