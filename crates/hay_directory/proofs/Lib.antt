@@ -1,4 +1,5 @@
 pub mod Drains
 pub mod HomeLaws
 pub mod RowLaws
+pub mod SeenLaws
 pub mod Standing

@@ -1,5 +1,5 @@
 -- The rows of a journal, as the rows of homes.
-use Rattle.std.proofs.Common.{◌≡◌, ◌⊎◌, inl, inr, ◌<◌, ◌≤◌, ◌+◌, ◌^◌, ℕ, Bool, true, false, min, List, [], ◌∷◌, ◌++◌, length, map, Option, Some, None, refl, sym, ap, subst, ◌∙◌, arith, append-nil, length-append}
+use Rattle.std.proofs.Common.{◌≡◌, ◌⊎◌, inl, inr, ◌<◌, ◌≤◌, ◌+◌, ◌^◌, ℕ, Bool, true, false, List, [], ◌∷◌, ◌++◌, length, map, Option, Some, None, refl, sym, ap, subst, ◌∙◌, arith, append-nil, length-append}
 use Rattle.std.proofs.lemmas.List.{map-append, length-map}
 use Rattle.hay_needle.specs.declared.needle.Pair.{Pair}
 use Rattle.hay_needle.specs.declared.settings.Settings.{Settings}
@@ -108,12 +108,6 @@ row_left settings old new end rows row was below leaves homeless = record {
   ];
   homeless = homeless;
 }
-
--- the rows are fewer than numbers of 64 bits
-pub next_count : (settings : Settings) (file : FileState) (end count more : ℕ) (rows : List HomeRow) (row : HomeRow) → IsSettled settings file end (rows ++ row ∷ []) → length file.now < 2 ^ 64 → count ≡ length rows → more ≡ min (count + 1) 18446744073709551615
-    → more ≡ length (rows ++ row ∷ [])
-next_count settings file end count more rows row is fits counts next =
-    omega (arith, is.gate.closed.room, is.ends, length-map (rows ++ row ∷ []) dir_row, length-append rows (row ∷ []))
 
 -- WHAT AN OPENING FINDS
 

@@ -1,5 +1,5 @@
 -- What a directory stands for behind each call.
-use Rattle.std.proofs.Common.{◌≡◌, inr, ◌<◌, ◌≤◌, ◌+◌, ◌^◌, ℕ, Bool, true, false, min, List, [], ◌∷◌, ◌++◌, length, Option, Some, None, refl, sym, ap, subst, ◌∙◌}
+use Rattle.std.proofs.Common.{◌≡◌, inr, ◌<◌, ◌≤◌, ◌+◌, ℕ, Bool, true, false, List, [], ◌∷◌, ◌++◌, length, Option, Some, None, refl, sym, ap, subst, ◌∙◌, arith, length-append}
 use Rattle.std.proofs.lemmas.Bool.{true≢false}
 use Rattle.std.specs.Prelude.{slice_set, replicate, IfSome, is_some, option_map, Result, Ok, Err, OnErr}
 use Rattle.hay_core.specs.declared.entry.CoreTag.{CoreTag}
@@ -22,9 +22,9 @@ use Rattle.hay_directory.specs.declared.mode.Unsure.{Unsure}
 use Rattle.hay_directory.specs.Homes.{HomesWithin, KeepsHomes, SetsHome}
 use Rattle.hay_directory.specs.Notes.{notes_by}
 use Rattle.hay_directory.specs.Rows.{dir_row, HasJournal, OpensRows}
-use Rattle.hay_directory.specs.State.{State, StandsFor, StoppedFor, HoldsFor, WrittenFor, Stands, Stopped, Holds, HoldsRows, IsSettled, IsUnsure, IsDue, FindsRows, IsSound, mode_of, unsure_of, unsure_row, home_of, is_closed, is_frozen}
+use Rattle.hay_directory.specs.State.{State, StandsFor, StoppedFor, HoldsFor, WrittenFor, Stands, Stopped, Holds, HoldsRows, IsSettled, IsUnsure, IsDue, FindsRows, IsKept, IsSound, mode_of, unsure_of, unsure_row, home_of, is_closed, is_frozen}
 use Rattle.hay_directory.proofs.HomeLaws.{AreHomes, homes_settled, kept_within, notes_are}
-use Rattle.hay_directory.proofs.RowLaws.{Adds, Leaves, journal_left, not_void, opens_journal, row_added, row_left, next_count}
+use Rattle.hay_directory.proofs.RowLaws.{Adds, Leaves, journal_left, not_void, opens_journal, row_added, row_left}
 
 -- WHAT CANNOT BE: that a directory is both up and closed
 
@@ -108,8 +108,8 @@ row_written files d d' known drained row s t settings drains kept adds solid gat
 -- and that is shown
 pub stands_shown : {D : Type 0} (files : D → Files) (d d' : State D) (known : DirKnown) (drained : List Bool) (row : HomeRow) → WrittenFor files d known drained row → d'.mode ≡ Open → d'.settings ≡ d.settings → d'.drained ≡ d.drained
     → SetsHome row.pair (Some row.volume) d.homes d'.homes → d'.disk ≡ d.disk → d'.journal ≡ d.journal
-    → length (files d.disk 0).now < 2 ^ 64 → d'.count ≡ min (d.count + 1) 18446744073709551615 → StandsFor files d' (with_row known row) drained
-stands_shown files d d' known drained row w serves settings drains set disk journal fits counts =
+    → d'.count ≡ d.count + 1 → StandsFor files d' (with_row known row) drained
+stands_shown files d d' known drained row w serves settings drains set disk journal counts =
     let rows = known.rows ++ row ∷ [] in
     let here = subst (λ x. IsSettled d.settings (files x 0) d.journal.end rows) (sym disk) w.holds in
     let there = subst (λ j. IsSettled d.settings (files d'.disk 0) j.end rows) (sym journal) here in
@@ -119,7 +119,7 @@ stands_shown files d d' known drained row w serves settings drains set disk jour
       frozen = w.frozen ∙ ap is_some (sym w.serves);
       holds = subst (λ p. HoldsRows d'.settings (files d'.disk 0) d'.journal.end rows p) (sym w.serves) settled;
       homes = (homes_settled known.rows row d.homes d'.homes (record { are = w.homes }) w.homeless set).are;
-      count = next_count d.settings (files d.disk 0) d.journal.end d.count d'.count known.rows row w.holds fits w.count counts;
+      count = counts ∙ ap (λ (n : ℕ). n + 1) w.count ∙ sym (length-append known.rows (row ∷ []));
       drained_is = w.drained_is ∙ sym drains;
     }
 
@@ -159,22 +159,41 @@ stands_failed files d d' known drained tag row s t frozen settings drains kept l
 pub stands_now : {D : Type 0} (files : D → Files) (d : State D) (known : DirKnown) (drained : List Bool) → StandsFor files d known drained → StandsFor files d known d.drained
 stands_now files d known drained s = subst (λ l. StandsFor files d known l) s.drained_is s
 
+-- what is kept in memory where a row is pending whose pair has no home
+pub kept_failed : {D : Type 0} (d d' : State D) (unsure : Unsure) → IsKept d → home_of d (unsure.row).pair ≡ None → d'.mode ≡ Frozen unsure → KeepsHomes d.homes d'.homes → length d'.homes ≡ length d.homes → d'.count ≡ d.count → IsKept d'
+kept_failed d d' unsure is homeless frozen homes same counts = record {
+  few = omega (arith, is.few, same, counts);
+  homeless = subst (λ (m : Mode). IfSome (unsure_of m) (λ u. home_of d' u.row.pair ≡ None)) (sym frozen) (homes.at (unsure.row).pair ∙ homeless);
+}
+
+-- a row that is pending is of a pair that has no home
+pub kept_homeless : {D : Type 0} (d : State D) (unsure : Unsure) → IsKept d → d.mode ≡ Frozen unsure → home_of d (unsure.row).pair ≡ None
+kept_homeless d unsure is frozen = subst (λ (m : Mode). IfSome (unsure_of m) (λ u. home_of d u.row.pair ≡ None)) frozen is.homeless
+
+-- what is kept in memory where a row is shown
+pub kept_shown : {D : Type 0} (d d' : State D) → IsKept d → length d'.homes ≡ length d.homes + 1 → d'.count ≡ d.count + 1 → d'.mode ≡ Open → IsKept d'
+kept_shown d d' is more counts serves = record {
+  few = omega (arith, is.few, more, counts);
+  homeless = subst (λ (m : Mode). IfSome (unsure_of m) (λ u. home_of d' u.row.pair ≡ None)) (sym serves) tt;
+}
+
 -- what holds of every directory holds of one that has the row pending
 pub sound_failed : {D : Type 0} (Tells : Type 0) (files : D → Files) (d d' : State D) (tag : CoreTag) (row : HomeRow) → IsSound Tells files d → Takes d row
     → d'.mode ≡ Frozen (record { tag = tag; row = dir_row row }) → d'.settings ≡ d.settings → d'.drained ≡ d.drained
-    → KeepsHomes d.homes d'.homes → (Tells → Leaves (dir_row row) d.journal.end (files d.disk 0) (files d'.disk 0)) → d'.count ≡ d.count
+    → KeepsHomes d.homes d'.homes → length d'.homes ≡ length d.homes → (Tells → Leaves (dir_row row) d.journal.end (files d.disk 0) (files d'.disk 0)) → d'.count ≡ d.count
     → IsSound Tells files d'
-sound_failed Tells files d d' tag row is t frozen settings drains kept leaves counts = record {
+sound_failed Tells files d d' tag row is t frozen settings drains homes same leaves counts = record {
   machines = subst (λ (s : Settings). s.machines ≤ 16) (sym settings) is.machines;
   long = ap length drains ∙ is.long ∙ ap (λ (s : Settings). s.machines) (sym settings);
-  within = subst (λ (s : Settings). HomesWithin s.volumes d'.homes) (sym settings) (kept_within d.settings.volumes d.homes d'.homes is.within kept);
+  within = subst (λ (s : Settings). HomesWithin s.volumes d'.homes) (sym settings) (kept_within d.settings.volumes d.homes d'.homes is.within homes);
+  kept = λ up. kept_failed d d' (record { tag = tag; row = dir_row row }) (is.kept (ap is_closed t.serves)) t.homeless frozen homes same counts;
   pending = subst (λ (m : Mode). IfSome (unsure_of m) (λ unsure. unsure.row.volume < d'.settings.volumes)) (sym frozen)
       (subst (λ (s : Settings). row.volume < s.volumes) (sym settings) t.below);
   undrained = λ closed. not_closed d'.drained (replicate d'.settings.machines false) (ap is_closed (sym frozen) ∙ closed);
   stands = λ tells up.
       let old = is.stands tells (ap is_closed t.serves) in (
         with_pending old.0 tag row,
-        stands_now files d' (with_pending old.0 tag row) d.drained (stands_failed files d d' old.0 d.drained tag row old.1 t frozen settings drains kept (leaves tells) counts),
+        stands_now files d' (with_pending old.0 tag row) d.drained (stands_failed files d d' old.0 d.drained tag row old.1 t frozen settings drains homes (leaves tells) counts),
       );
 }
 

@@ -1,5 +1,5 @@
 -- When a directory stands for what is known of it.
-use Rattle.std.specs.Prelude.{◌≡◌, ◌⊎◌, ◌≤◌, ◌<◌, ℕ, Bool, true, false, List, [], ◌∷◌, ◌++◌, length, map, replicate, Option, None, Some, IfSome, is_some, option_map}
+use Rattle.std.specs.Prelude.{◌≡◌, ◌⊎◌, ◌≤◌, ◌<◌, ◌+◌, ◌^◌, ℕ, Bool, true, false, List, [], ◌∷◌, ◌++◌, length, map, replicate, Option, None, Some, IfSome, is_some, option_map}
 use Rattle.hay_needle.specs.declared.needle.Pair.{Pair}
 use Rattle.hay_needle.specs.declared.settings.Settings.{Settings}
 use Rattle.hay_disk.specs.Disk.{Files, FileState, IsFree, IsImage, IsSolid}
@@ -169,11 +169,17 @@ pub record FindsRows (settings : Settings) (old new : FileState) (end : ℕ) (ho
   pub homes_are : (pair : Pair) → home_among homes pair ≡ home_in rows pair
   pub count_is : count ≡ length rows
 
+-- What a directory that is up keeps in memory: a row beyond those that it was opened with is of a pair of its own, and one that is pending is of a pair that has no home.
+pub record IsKept {D : Type 0} (directory : State D) : Type 0 where
+  pub few : directory.count < 2 ^ 63 + length directory.homes
+  pub homeless : IfSome (unsure_of directory.mode) (λ unsure. home_of directory unsure.row.pair ≡ None)
+
 -- What holds of every directory.
 pub record IsSound {D : Type 0} (Tells : Type 0) (files : D → Files) (directory : State D) : Type 0 where
   pub machines : directory.settings.machines ≤ 16
   pub long : length directory.drained ≡ directory.settings.machines
   pub within : HomesWithin directory.settings.volumes directory.homes
   pub pending : IfSome (unsure_of directory.mode) (λ unsure. unsure.row.volume < directory.settings.volumes)
+  pub kept : IsUp directory → IsKept directory
   pub undrained : IsClosed directory → directory.drained ≡ replicate directory.settings.machines false
   pub stands : Tells → IsUp directory → (known : DirKnown) × StandsFor files directory known directory.drained

@@ -1,5 +1,5 @@
 //! The Directory on its disk.
-ghost use Rattle.std.specs.Prelude.{◌≡◌, ◌≤◌, ◌<◌, ℕ, List, Bool, [], ◌∷◌, ◌++◌, None, Some, true, false, length, map, replicate, slice_index_or, slice_set, Err, IfOk, OnOk, OnErr, IfErr, IfSome, IsErrOf};
+ghost use Rattle.std.specs.Prelude.{◌≡◌, ◌≤◌, ◌<◌, ℕ, List, Bool, [], ◌∷◌, ◌++◌, None, Some, true, false, length, map, replicate, slice_index_or, slice_set, Err, IfOk, OnOk, OnErr, IfErr, IfSome, IsErrOf, is_some};
 ghost use Rattle.hay_needle.specs.declared.settings.Settings.{Settings};
 ghost use Rattle.hay_disk.specs.Counts.{Rose, IsNext};
 ghost use Rattle.hay_disk.specs.Disk.{IsFree, IsImage, IsSolid, KeepsOthers, MayLeave};
@@ -14,6 +14,7 @@ ghost use Rattle.hay_legal.specs.Restarts.{directory_with, kept_row, row_notes};
 ghost use Rattle.hay_directory.specs.Notes.{NotesTell};
 ghost use Rattle.hay_directory.specs.Homes.{HomesWithin, KeepsHomes, SetsHome};
 ghost use Rattle.hay_directory.specs.Rows.{OpensRows, RowsWithin, dir_row, home_row, journal_super};
+ghost use Rattle.hay_directory.specs.Seen.{ClosedSeen, DrainSeen, KeepsSeen, OpenSeen, PendsSeen, SettleRefusedSeen, SettleSeen, ShowSeen, directory_seen};
 ghost use Rattle.hay_directory.specs.State.{Holds, IsClosed, IsFresh, IsFrozen, IsRowWritten, IsUnshown, IsUp, LeavesMode, Stands, Stopped, home_of, is_frozen, unsure_of};
 
 use crate::fault::DirFault;
@@ -123,9 +124,11 @@ impl<D: Disk> Directory<D> {
         ensures told { IfOk result (NotesTell (unsure_of self.old.mode)) }
         ensures fits { IfOk result (AllByRecursion FitsNote) }
         ensures serves { OnOk result (self.new.mode ≡ Mode.Open) }
+        ensures seen { OnOk result ((rows : List HomeRow) × OpenSeen self.old.settings.machines rows (directory_seen self.new)) }
 
         // What a refusal leaves, and its cause.
         ensures closed { OnErr result (IsClosed self.new × (self.new.mode ≡ self.old.mode)) }
+        ensures refused_seen { OnErr result (ClosedSeen self.old.settings.machines (directory_seen self.old) (directory_seen self.new)) }
         ensures stopped { D.Tells → (known : DirKnown) → Stopped D.files self.old known → OnErr result (Stopped D.files self.new known) }
         ensures failed { (faults : ℕ) → result ≡ Err (OpenFault.Failed faults) →
             (faults ≡ D.fault_count self.new.disk) × Rose (D.fault_count self.old.disk) (D.fault_count self.new.disk) }
@@ -176,9 +179,11 @@ impl<D: Disk> Directory<D> {
         ensures told { IfOk result (λ opened. NotesTell (unsure_of self.old.mode) opened.notes) }
         ensures fits { IfOk result (λ opened. AllByRecursion FitsNote opened.notes) }
         ensures serves { OnOk result (self.new.mode ≡ Mode.Open) }
+        ensures seen { IfOk result (λ opened. OpenSeen self.old.settings.machines (map home_row opened.rows.items) (directory_seen self.new)) }
 
         // What a refusal leaves, and its cause.
         ensures closed { OnErr result (IsClosed self.new × (self.new.mode ≡ self.old.mode)) }
+        ensures refused_seen { OnErr result (ClosedSeen self.old.settings.machines (directory_seen self.old) (directory_seen self.new)) }
         ensures stopped { D.Tells → (known : DirKnown) → Stopped D.files self.old known → OnErr result (Stopped D.files self.new known) }
         ensures failed { (faults : ℕ) → result ≡ Err (OpenFault.Failed faults) →
             (faults ≡ D.fault_count self.new.disk) × Rose (D.fault_count self.old.disk) (D.fault_count self.new.disk) }
@@ -246,6 +251,7 @@ impl<D: Disk> Directory<D> {
     /// Whether a row failed since the opening.
     pub fn is_frozen(&self) -> bool
         ensures frozen { result ≡ is_frozen self.now.mode }
+        ensures pending { IsUp self.now → result ≡ is_some (directory_seen self.now).pending }
         ensures known { (known : DirKnown) (drained : List Bool) → Stands D.files self.now known drained → result ≡ known.frozen }
     {
         match self.mode {
@@ -277,6 +283,8 @@ impl<D: Disk> Directory<D> {
         // Whatever the disk has, the row is pending only where it failed.
         ensures mode { OnOk result (self.new.mode ≡ self.old.mode) }
         ensures refused_mode { IfErr result (LeavesMode (record { tag = tag; row = record { pair = pair; volume = volume } }) self.old.mode self.new.mode) }
+        ensures seen { OnOk result (SettleSeen pair volume (directory_seen self.old) (directory_seen self.new)) }
+        ensures refused_seen { IfErr result (SettleRefusedSeen tag pair volume (directory_seen self.old) (directory_seen self.new)) }
 
         ensures drained { self.new.drained ≡ self.old.drained }
 
@@ -324,6 +332,8 @@ impl<D: Disk> Directory<D> {
         ensures homes { KeepsHomes self.old.homes self.new.homes }
         ensures drained { self.new.drained ≡ self.old.drained }
         ensures refused_mode { IfErr result (LeavesMode (record { tag = tag; row = row }) self.old.mode self.new.mode) }
+        ensures seen { OnOk result (PendsSeen (record { tag = tag; row = row }) (directory_seen self.old) (directory_seen self.new)) }
+        ensures refused_seen { IfErr result (SettleRefusedSeen tag row.pair row.volume (directory_seen self.old) (directory_seen self.new)) }
         ensures frozen { IsFrozen self.old → IsErrOf result DirFault.Frozen }
         ensures only_frozen { IsErrOf result DirFault.Frozen → IsFrozen self.old × (self.new ≡ self.old) }
         ensures failed { (faults : ℕ) → result ≡ Err (DirFault.Failed faults) →
@@ -363,16 +373,18 @@ impl<D: Disk> Directory<D> {
             Stands D.files self.new (record known { rows = known.rows ++ home_row written.unsure.row ∷ [] }) drained }
         ensures serves { self.new.mode ≡ Mode.Open }
         ensures home { SetsHome written.unsure.row.pair (Some written.unsure.row.volume) self.old.homes self.new.homes }
+        ensures seen { ShowSeen written.unsure (directory_seen self.old) (directory_seen self.new) }
         ensures disk { self.new.disk ≡ self.old.disk }
         ensures settings { self.new.settings ≡ self.old.settings }
         ensures drained { self.new.drained ≡ self.old.drained }
     {
         let WrittenRow { unsure } = written;
         let row = unsure.row;
+        let _homes = self.homes.len(); // few enough that the rows can be counted
         let Ok(()) = self.homes.insert(row.pair, row.volume) else {
             unreachable!()
         };
-        self.count = self.count.saturating_add(1);
+        self.count += 1;
         self.mode = Mode::Open;
     }
 
@@ -381,6 +393,7 @@ impl<D: Disk> Directory<D> {
         requires up { IsUp self.old }
         requires machine { machine < self.old.settings.machines }
         ensures only { self.new ≡ record self.old { drained = slice_set self.old.drained machine true } }
+        ensures seen { DrainSeen machine true (directory_seen self.old) (directory_seen self.new) }
         ensures stands { (known : DirKnown) (drained : List Bool) → Stands D.files self.old known drained →
             Stands D.files self.new known (slice_set drained machine true) }
     {
@@ -392,6 +405,7 @@ impl<D: Disk> Directory<D> {
         requires up { IsUp self.old }
         requires machine { machine < self.old.settings.machines }
         ensures only { self.new ≡ record self.old { drained = slice_set self.old.drained machine false } }
+        ensures seen { DrainSeen machine false (directory_seen self.old) (directory_seen self.new) }
         ensures stands { (known : DirKnown) (drained : List Bool) → Stands D.files self.old known drained →
             Stands D.files self.new known (slice_set drained machine false) }
     {
@@ -427,6 +441,7 @@ impl<D: Disk> Directory<D> {
     /// Sets a fuse on the disk.
     pub fn fuse(&mut self, calls: u32)
         ensures only { self.new ≡ record self.old { disk = self.new.disk } }
+        ensures seen { KeepsSeen (directory_seen self.old) (directory_seen self.new) }
         ensures same { D.Tells → D.files self.new.disk ≡ D.files self.old.disk }
         ensures stands { D.Tells → (known : DirKnown) (drained : List Bool) → Stands D.files self.old known drained → Stands D.files self.new known drained }
         ensures faults { D.fault_count self.new.disk ≡ D.fault_count self.old.disk }
@@ -445,6 +460,7 @@ impl<D: Disk> Directory<D> {
         ensures solid { D.Tells → (n : ℕ) → IsSolid (D.files self.new.disk n) }
         ensures free { D.Tells → (n : ℕ) → IsFree (D.files self.new.disk n) }
         ensures closed { IsClosed self.new × (self.new.mode ≡ Mode.Closed (unsure_of self.old.mode)) }
+        ensures seen { ClosedSeen self.old.settings.machines (directory_seen self.old) (directory_seen self.new) }
         ensures undrained { self.new.drained ≡ replicate self.old.settings.machines false }
         ensures long { length self.old.drained ≡ self.old.settings.machines }
         ensures settings { self.new.settings ≡ self.old.settings }

@@ -1,5 +1,5 @@
 //! The homes of pairs in memory.
-ghost use Rattle.std.specs.Prelude.{◌≡◌, ◌≤◌, ℕ, [], ◌∷◌, map, OnOk, OnErr, IfOk, IsOk, None, Some};
+ghost use Rattle.std.specs.Prelude.{◌≡◌, ◌≤◌, ◌<◌, ◌+◌, ◌^◌, ℕ, [], ◌∷◌, length, map, OnOk, OnErr, IfOk, IsOk, None, Some};
 ghost use Rattle.std.specs.Option.{option_or};
 ghost use Rattle.hay_needle.specs.declared.needle.Pair.{Pair};
 ghost use Rattle.hay_legal.specs.Known.{home_in};
@@ -57,6 +57,14 @@ impl Homes {
         self.volumes.get(&(pair.key, pair.alt)).copied()
     }
 
+    /// How many pairs have a home.
+    pub fn len(&self) -> usize
+        ensures is { result ≡ length self.now.volumes }
+        ensures few { result < 2 ^ 63 }
+    {
+        self.volumes.len()
+    }
+
     /// The volumes by pair once more.
     pub fn copy(&self) -> Result<HashMap<(u64, u32), u32>, NoMemory>
         ensures { IfOk result (λ copy. copy.entries ≡ self.now.volumes) }
@@ -67,6 +75,7 @@ impl Homes {
     /// Makes room for the homes of so many more pairs.
     pub fn reserve(&mut self, pairs: usize) -> Result<(), NoMemory>
         ensures kept { KeepsHomes self.old.volumes self.new.volumes }
+        ensures len { length self.new.volumes ≡ length self.old.volumes }
         ensures room { OnOk result (pairs ≤ self.new.room) }
     {
         self.volumes.reserve(pairs)?;
@@ -76,6 +85,7 @@ impl Homes {
     /// Gives a pair a home. `NoMemory` changes nothing.
     pub fn insert(&mut self, pair: Pair, volume: u32) -> Result<(), NoMemory>
         ensures ok { OnOk result (SetsHome pair (Some volume) self.old.volumes self.new.volumes) }
+        ensures more { OnOk result (home_among self.old.volumes pair ≡ None → length self.new.volumes ≡ length self.old.volumes + 1) }
         ensures err { OnErr result (self.new.volumes ≡ self.old.volumes) }
         ensures room { 1 ≤ self.old.room → IsOk result }
     {

@@ -1,5 +1,5 @@
 //! Loading the rows of a journal.
-ghost use Rattle.std.specs.Prelude.{◌≡◌, ◌≤◌, ◌<◌, ℕ, List, [], length, map, Err, IfOk, OnOk};
+ghost use Rattle.std.specs.Prelude.{◌≡◌, ◌≤◌, ◌<◌, ◌^◌, ℕ, List, [], length, map, Err, IfOk, OnOk};
 ghost use Rattle.hay_needle.specs.declared.settings.Settings.{Settings};
 ghost use Rattle.hay_disk.specs.Counts.{Rose};
 ghost use Rattle.hay_disk.specs.Disk.{IsFree, IsImage, IsSolid, KeepsOthers};
@@ -46,6 +46,8 @@ pub fn load<D: Disk>(
     ensures found { D.Tells → IfOk result (λ loaded. FindsRows settings.now (D.files disk.old 0) (D.files disk.new 0) loaded.journal.end loaded.homes.volumes loaded.count (map home_row loaded.rows.items)) }
     ensures homes { IfOk result (λ loaded. (pair : Pair) → home_among loaded.homes.volumes pair ≡ home_in (map home_row loaded.rows.items) pair) }
     ensures within { IfOk result (λ loaded. RowsWithin settings.now.volumes (map home_row loaded.rows.items)) }
+    ensures count { IfOk result (λ loaded. loaded.count ≡ length loaded.rows.items) }
+    ensures few { IfOk result (λ loaded. loaded.count < 2 ^ 63) }
     ensures notes { IfOk result (λ loaded. loaded.notes ≡ notes_by unsure loaded.homes.volumes) }
     ensures fits { IfOk result (λ loaded. AllByRecursion FitsNote loaded.notes) }
     ensures failed { (faults : ℕ) → result ≡ Err (OpenFault.Failed faults) →
@@ -65,13 +67,14 @@ pub fn load<D: Disk>(
 {
     let sup = super_of(settings);
     let (journal, rows) = Journal::open(alloc, disk, &sup)?;
-    let Ok(homes) = Homes::of_rows(alloc, rows.as_slice()) else {
+    let listed = rows.as_slice();
+    let Ok(homes) = Homes::of_rows(alloc, listed) else {
         return Err(OpenFault::NoMemory);
     };
     let Ok(notes) = notes_of(alloc, unsure, &homes) else {
         return Err(OpenFault::NoMemory);
     };
-    let count = rows.len() as u64;
+    let count = row_count(listed);
     Ok(Loaded {
         journal,
         homes,
@@ -79,6 +82,14 @@ pub fn load<D: Disk>(
         rows,
         notes,
     })
+}
+
+// How many rows there are: few enough, as each takes memory.
+fn row_count(rows: &[DirRow]) -> u64
+    ensures is { result ≡ length rows.now }
+    ensures few { result < 2 ^ 63 }
+{
+    rows.len() as u64
 }
 
 // What stands at the front of a journal.

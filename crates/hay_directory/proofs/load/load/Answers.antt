@@ -33,11 +33,14 @@ pub returns-clause-found : goal.returns-clause-found
 returns-clause-found g c = λ tells.
     let files = g.D.Disk.files in
     let opened = c.in_ok-journal.ensures in
-    let slice = c.as_slice.ensures in
-    found_rows c.args.settings.now c.super_of-sup.result (files c.args.disk.now 0) (files c.open.new.disk 0) c.in_ok-journal.journal.end c.len-count.result c.in-Ok.homes.volumes c.in_ok-journal.rows.items c.super_of-sup.ensures
+    let slice = c.as_slice-listed.ensures in
+    found_rows c.args.settings.now c.super_of-sup.result (files c.args.disk.now 0) (files c.open.new.disk 0) c.in_ok-journal.journal.end c.row_count-count.result c.in-Ok.homes.volumes c.in_ok-journal.rows.items c.super_of-sup.ensures
     (opened.rows tells) (opened.end tells) (opened.rest tells) (opened.next tells) (opened.void tells) (λ some. ap (λ (f : Files). f 0) (opened.same tells some)) (opened.exact tells)
     (λ pair. c.in-Ok.ensures pair ∙ ap (λ l. home_in (map home_row l) pair) slice.value)
-    (c.len-count.ensures ∙ sym slice.len ∙ ap length slice.value)
+    (c.row_count-count.ensures.is ∙ ap length slice.value)
+
+pub returns-clause-count : goal.returns-clause-count
+returns-clause-count g c = c.row_count-count.ensures.is ∙ ap length c.as_slice-listed.ensures.value
 
 pub returns-clause-within : goal.returns-clause-within
 returns-clause-within g c =

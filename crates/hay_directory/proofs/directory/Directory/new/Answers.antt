@@ -1,3 +1,4 @@
+use Rattle.std.proofs.lemmas.Bool.{true≢false}
 use Rattle.hay_directory.proofs.HomeLaws.{none_within}
 use Rattle.hay_directory.proofs.Standing.{not_up}
 use Rattle.hay_directory.proofs.Drains.{no_drains, length-drains}
@@ -9,6 +10,7 @@ invariant_of-result g c = record {
   long = length-drains c.args.settings.machines c.requires;
   within = none_within c.args.settings.volumes _ c.new.ensures;
   pending = tt;
+  kept = λ up. absurd (true≢false up);
   undrained = λ closed. no_drains c.args.settings.machines c.requires;
   stands = λ tells up. not_up g.D.Disk.files _ up;
 }

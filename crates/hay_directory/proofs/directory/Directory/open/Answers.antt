@@ -25,3 +25,6 @@ returns-in_err-opened-clause-whole g c = λ tells rows file at has is.
     let fault = err_from_is_err_and c.from_residual.result c.from_residual.ensures.1 in
     let said = same_fault c.from_residual.result fault.0 c.in_err-opened.field-0.0 (OpenFault.Damaged file at) fault.1 fault.2 is in
     c.in_err-opened.ensures.whole tells rows file at has (ap Err said)
+
+pub returns-clause-seen : goal.returns-clause-seen
+returns-clause-seen g c = (_, c.in_ok-opened.ensures.seen)

@@ -1,5 +1,6 @@
-use Rattle.std.proofs.Common.{map, take, ◌≡◌, true, false, Err, refl, ap, sym, subst, ◌∙◌}
+use Rattle.std.proofs.Common.{map, take, ◌≡◌, true, false, Err, refl, ap, sym, subst, ◌∙◌, arith}
 use Rattle.std.specs.Prelude.{Option, replicate}
+use Rattle.std.proofs.lemmas.List.{length-map}
 use Rattle.std.proofs.lemmas.Result.{err_from_is_err_and}
 use Rattle.hay_dirfile.specs.declared.fault.OpenFault.{OpenFault}
 use Rattle.hay_legal.specs.Restarts.{directory_with}
@@ -40,6 +41,7 @@ invariant_of-self-2 g c =
       long = c.self.invariant.long;
       within = homes_within was.settings.volumes _ (map home_row c.in_ok-loaded.loaded.rows.items) c.in_ok-loaded.ensures.within c.in_ok-loaded.ensures.homes;
       pending = tt;
+      kept = λ up. record { few = omega (arith, c.in_ok-loaded.ensures.few); homeless = tt };
       undrained = λ closed. not_closed (take was.settings.machines was.drained) (replicate was.settings.machines false) closed;
       stands = λ tells up.
           let found = c.in_ok-loaded.ensures.found tells in
@@ -87,3 +89,18 @@ pub returns-clause-undrained : goal.returns-clause-undrained
 returns-clause-undrained g c =
     let closed : is_closed c.self.inside.mode ≡ true = ap (λ (d : State _). is_closed d.mode) c.self.view_is ∙ c.requires.closed in
     c.self.invariant.undrained closed ∙ ap (λ (d : State _). replicate d.settings.machines false) c.self.view_is
+
+pub returns-clause-seen : goal.returns-clause-seen
+returns-clause-seen g c =
+    let closed : is_closed c.self.inside.mode ≡ true = ap (λ (d : State _). is_closed d.mode) c.self.view_is ∙ c.requires.closed in
+    rw (← c.self.view_is) (record {
+      homes = c.in_ok-loaded.ensures.homes;
+      rows_are = c.in_ok-loaded.ensures.count ∙ sym (length-map c.in_ok-loaded.loaded.rows.items home_row);
+      pending = refl;
+      drained = c.self.invariant.undrained closed;
+    })
+
+pub returns-in_err-loaded-clause-refused_seen : goal.returns-in_err-loaded-clause-refused_seen
+returns-in_err-loaded-clause-refused_seen g c =
+    let closed : is_closed c.self.inside.mode ≡ true = ap (λ (d : State _). is_closed d.mode) c.self.view_is ∙ c.requires.closed in
+    rw (← c.self.view_is) (on_err c.from_residual.result _ (record { pending = refl; drained = c.self.invariant.undrained closed }))

@@ -1,5 +1,6 @@
 use Rattle.std.proofs.Common.{◌<◌, Option, false, refl, sym, ap, subst, ◌∙◌}
 use Rattle.std.specs.Prelude.{IfSome, replicate}
+use Rattle.std.proofs.lemmas.Bool.{true≢false}
 use Rattle.hay_directory.specs.declared.mode.Mode.TheVariants.{Closed}
 use Rattle.hay_directory.specs.declared.mode.Unsure.{Unsure}
 use Rattle.hay_directory.specs.State.{State, Stands, Stopped, Holds}
@@ -15,6 +16,7 @@ invariant_of-self g c =
       long = length-drains was.settings.machines c.self.invariant.machines;
       within = c.self.invariant.within;
       pending = subst (λ (u : Option Unsure). IfSome u (λ unsure. unsure.row.volume < was.settings.volumes)) (sym c.unsure.ensures) c.self.invariant.pending;
+      kept = λ up. absurd (true≢false up);
       undrained = λ closed. no_drains was.settings.machines c.self.invariant.machines;
       stands = λ tells up. not_up g.D.Disk.files _ up;
     }
@@ -45,6 +47,10 @@ returns-clause-holds g c = λ tells known holds.
     let h = subst (λ (d : State _). Holds files d known) (sym c.self.view_is) holds in
     holds_behind files _ _ known h
     (record { settings = refl; mode = ap (λ (unsure : Option Unsure). Closed unsure) c.unsure.ensures; left = cycle.left tells; solid = cycle.solid tells; free = cycle.free tells })
+
+pub returns-clause-seen : goal.returns-clause-seen
+returns-clause-seen g c =
+    rw (← c.self.view_is) (record { pending = c.unsure.ensures; drained = no_drains c.self.inside.settings.machines c.self.invariant.machines })
 
 pub returns-clause-undrained : goal.returns-clause-undrained
 returns-clause-undrained g c = no_drains c.self.inside.settings.machines c.self.invariant.machines ∙ ap (λ (d : State _). replicate d.settings.machines false) c.self.view_is

@@ -1,8 +1,9 @@
-use Rattle.std.proofs.Common.{◌≡◌, ◌+◌, Err, refl, sym, ap, subst, ◌∙◌}
+use Rattle.std.proofs.Common.{◌≡◌, ◌+◌, true, Err, refl, sym, ap, subst, ◌∙◌}
 use Rattle.hay_dirfile.specs.declared.journal.Journal.{Journal}
 use Rattle.hay_directory.specs.declared.mode.Mode.TheVariants.{Open}
 use Rattle.hay_directory.specs.Rows.{home_row}
-use Rattle.hay_directory.specs.State.{State, Stands, IsRowWritten, is_closed, is_frozen}
+use Rattle.hay_directory.specs.State.{State, Stands, IsRowWritten, is_closed, is_frozen, unsure_of}
+use Rattle.hay_directory.proofs.SeenLaws.{frozen_pending}
 use Rattle.hay_directory.proofs.Standing.{row_written, serving, sound_failed, stands_failed, stands_kept, stood_now, takes}
 use Rattle.hay_directory.proofs.directory.Directory.write_row.Goals as goal
 
@@ -10,13 +11,13 @@ pub invariant_of-self-in-Ok-settle_row : goal.invariant_of-self-in-Ok-settle_row
 invariant_of-self-in-Ok-settle_row g c =
     let row = c.args.row in
     let t = takes _ _ (home_row row) c.self.view_is c.requires.up (sym c.is_frozen.ensures.frozen ∙ c.if-is_frozen.false) c.requires.volume c.requires.homeless in
-    sound_failed g.D.Disk.Tells g.D.Disk.files _ _ c.args.tag (home_row row) c.self.invariant t refl refl refl c.reserve.ensures.kept c.settle_row.ensures.left refl
+    sound_failed g.D.Disk.Tells g.D.Disk.files _ _ c.args.tag (home_row row) c.self.invariant t refl refl refl c.reserve.ensures.kept c.reserve.ensures.len c.settle_row.ensures.left refl
 
 pub invariant_of-self-in-Err-Failed : goal.invariant_of-self-in-Err-Failed
 invariant_of-self-in-Err-Failed g c =
     let row = c.args.row in
     let t = takes _ _ (home_row row) c.self.view_is c.requires.up (sym c.is_frozen.ensures.frozen ∙ c.if-is_frozen.false) c.requires.volume c.requires.homeless in
-    sound_failed g.D.Disk.Tells g.D.Disk.files _ _ c.args.tag (home_row row) c.self.invariant t refl refl refl c.reserve.ensures.kept c.settle_row.ensures.left refl
+    sound_failed g.D.Disk.Tells g.D.Disk.files _ _ c.args.tag (home_row row) c.self.invariant t refl refl refl c.reserve.ensures.kept c.reserve.ensures.len c.settle_row.ensures.left refl
 
 pub returns-in-Ok-settle_row-clause-written : goal.returns-in-Ok-settle_row-clause-written
 unfolding Stands IsRowWritten
@@ -92,3 +93,28 @@ returns-in-Err-NoMemory-clause-stood g c = stood_now g.D.Disk.Tells g.D.Disk.fil
 
 pub returns-in-Err-Failed-clause-stood : goal.returns-in-Err-Failed-clause-stood
 returns-in-Err-Failed-clause-stood g c = stood_now g.D.Disk.Tells g.D.Disk.files _ _ c.self.invariant c.self.view_is c.requires.up
+
+pub returns-then-is_frozen-clause-refused_seen : goal.returns-then-is_frozen-clause-refused_seen
+returns-then-is_frozen-clause-refused_seen g c =
+    let frozen : is_frozen c.self.inside.mode ≡ true = ap (λ (d : State _). is_frozen d.mode) c.self.view_is ∙ sym c.is_frozen.ensures.frozen ∙ c.if-is_frozen.true in
+    rw (← c.self.view_is) (frozen_pending c.self.inside.mode frozen, record { homes = λ pair. refl; rows = refl; pending = refl; drained = refl })
+
+pub returns-in_default-clause-refused_seen : goal.returns-in_default-clause-refused_seen
+returns-in_default-clause-refused_seen g c =
+    let t = takes _ _ (home_row c.args.row) c.self.view_is c.requires.up (sym c.is_frozen.ensures.frozen ∙ c.if-is_frozen.false) c.requires.volume c.requires.homeless in
+    rw (← c.self.view_is) (ap unsure_of t.serves, record { homes = c.reserve.ensures.kept.at; rows = refl; pending = refl; drained = refl })
+
+pub returns-in-Err-NoMemory-clause-refused_seen : goal.returns-in-Err-NoMemory-clause-refused_seen
+returns-in-Err-NoMemory-clause-refused_seen g c =
+    let t = takes _ _ (home_row c.args.row) c.self.view_is c.requires.up (sym c.is_frozen.ensures.frozen ∙ c.if-is_frozen.false) c.requires.volume c.requires.homeless in
+    rw (← c.self.view_is) (ap unsure_of t.serves, record { homes = c.reserve.ensures.kept.at; rows = refl; pending = ap unsure_of (sym t.serves); drained = refl })
+
+pub returns-in-Err-Failed-clause-refused_seen : goal.returns-in-Err-Failed-clause-refused_seen
+returns-in-Err-Failed-clause-refused_seen g c =
+    let t = takes _ _ (home_row c.args.row) c.self.view_is c.requires.up (sym c.is_frozen.ensures.frozen ∙ c.if-is_frozen.false) c.requires.volume c.requires.homeless in
+    rw (← c.self.view_is) (record { none = ap unsure_of t.serves; pending = refl; homes = c.reserve.ensures.kept.at; rows = refl; drained = refl })
+
+pub returns-in-Ok-settle_row-clause-seen : goal.returns-in-Ok-settle_row-clause-seen
+returns-in-Ok-settle_row-clause-seen g c =
+    let t = takes _ _ (home_row c.args.row) c.self.view_is c.requires.up (sym c.is_frozen.ensures.frozen ∙ c.if-is_frozen.false) c.requires.volume c.requires.homeless in
+    rw (← c.self.view_is) (record { none = ap unsure_of t.serves; pending = refl; homes = c.reserve.ensures.kept.at; rows = refl; drained = refl })
