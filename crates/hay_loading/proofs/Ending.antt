@@ -25,7 +25,7 @@ use Rattle.hay_load.specs.Replies.{load_line}
 use Rattle.hay_load.proofs.Taking.{answers_more}
 use Rattle.hay_loading.specs.declared.stops.Stop.{Stop}
 use Rattle.hay_loading.specs.declared.stops.Stop.TheVariants as stop
-use Rattle.hay_loading.specs.Endings.{AllStandIn, Answers, Breaks, CutsShort, Ends, Halts, IsFront, LoadsAll, MayLeaveSlots, Wants, WroteBoth, WroteThen, load_text, script_groups}
+use Rattle.hay_loading.specs.Endings.{AllStandIn, Answers, Breaks, CutsShort, Ends, Halts, HaltsAt, HaltsBehind, ReadFront, ReadOver, groups_before, IsFront, LoadsAll, MayLeaveSlots, Wants, WroteBoth, WroteThen, load_text, script_groups}
 use Rattle.hay_loading.specs.Lines.{FailsTold, Leaves, ServesAll, ServesUntil, Told}
 use Rattle.hay_loading.proofs.Apart.{front_apart}
 use Rattle.hay_loading.proofs.Showing.{all_stand}
@@ -122,20 +122,31 @@ module _ {D : Type 0} (Tells : Type 0) (files : D → Files) (drawn : D → ℕ 
           wrote = subst (λ (l : List Group). Wrote before (load_text settings l loads.replies) after) all wrote;
         }
 
-    module _ (why : Stop) (until : ServesUntil Tells files faults fuses why (Some script) store store' begun after) where
+    module _ (why : Stop) (left' : Option (List ℕ)) (until : ServesUntil Tells files faults fuses why (Some script) left' store store' begun after) where
       front_of : IsFront (until.groups ++ until.next) (script_groups settings script)
       front_of = subst (λ (x : Settings). IsFront (until.groups ++ until.next) (script_groups x script)) same (until.front script refl)
 
       told_whole : Wrote before (load_text settings until.groups until.told.loads.replies) until.middle
       told_whole = lines_behind Tells files settings until.groups store until.mid until.told.text before begun until.middle until.told.loads header until.told.wrote
 
-      pub halts : store' ≡ until.mid → after ≡ until.middle → Halts Tells settings script old new shelf shelf' before after
-      halts is told = record {
-        groups = until.groups;
+      pub halts_at : store' ≡ until.mid → after ≡ until.middle → HaltsAt Tells settings script old new shelf shelf' before after until.groups
+      halts_at is told = record {
         replies = until.told.loads.replies;
         answers = answers_by until.groups [] until.mid until.told.text until.told.loads until.settings
             (front_less until.groups until.next (script_groups settings script) front_of) (rests until.mid is);
         wrote = subst (λ (w : Option (List ℕ)). Wrote before (load_text settings until.groups until.told.loads.replies) w) (sym told) told_whole;
+      }
+
+      pub halts : store' ≡ until.mid → after ≡ until.middle → Halts Tells settings script old new shelf shelf' before after
+      halts is told = (until.groups, halts_at is told)
+
+      -- of just the groups that these bytes end
+      pub halts_behind : (Read : List ℕ → Type 0) (read : List ℕ) → Read read → until.groups ≡ groups_before store.settings read → store' ≡ until.mid → after ≡ until.middle
+          → HaltsBehind Tells settings script old new shelf shelf' before after Read
+      halts_behind Read read bytes just is told = record {
+        read = read;
+        bytes = bytes;
+        halts = subst (λ (l : List Group). HaltsAt Tells settings script old new shelf shelf' before after l) (just ∙ ap (λ (x : Settings). groups_before x read) same) (halts_at is told);
       }
 
       pub wants : Leaves Tells files until.next until.mid store' → after ≡ until.middle → Wants Tells settings script old new shelf shelf' before after
@@ -258,18 +269,31 @@ module _ {D : Type 0} (Tells : Type 0) (files : D → Files) (drawn : D → ℕ 
       pub breaks_part : FailsTold Tells files faults WrotePart until.next until.mid store' until.middle after → Breaks Tells settings script old new shelf shelf' before after WroteThen
       breaks_part f = breaks WroteThen WrotePart (λ whole more first second. part_more before until.middle after whole more first second) f
 
+    -- how a load ends whose source failed, or whose script is too long
+    pub halts_input : (left' : Option (List ℕ)) → ServesUntil Tells files faults fuses stop.Input (Some script) left' store store' begun after
+        → HaltsBehind Tells settings script old new shelf shelf' before after (λ read. ReadFront script read left')
+    halts_input left' until =
+        let broke = until.broke script refl in
+        halts_behind stop.Input left' until (λ read. ReadFront script read left') broke.0 broke.1 broke.2 until.stops.0 until.stops.1
+
+    pub halts_long : (left' : Option (List ℕ)) → ServesUntil Tells files faults fuses stop.TooLong (Some script) left' store store' begun after
+        → HaltsBehind Tells settings script old new shelf shelf' before after (λ read. ReadOver script read left')
+    halts_long left' until =
+        let broke = until.broke script refl in
+        halts_behind stop.TooLong left' until (λ read. ReadOver script read left') broke.0 broke.1 broke.2 until.stops.0 until.stops.1
+
     -- how a load ends whose store was opened
-    pub ends_open : (result : Result (Unit {0}) Stop) → ((done : Unit {0}) → result ≡ Ok done → ServesAll Tells files (Some script) store store' begun after)
-        → ((why : Stop) → result ≡ Err why → ServesUntil Tells files faults fuses why (Some script) store store' begun after)
+    pub ends_open : (left' : Option (List ℕ)) (result : Result (Unit {0}) Stop) → ((done : Unit {0}) → result ≡ Ok done → ServesAll Tells files (Some script) store store' begun after)
+        → ((why : Stop) → result ≡ Err why → ServesUntil Tells files faults fuses why (Some script) left' store store' begun after)
         → Ends Tells settings script old new shelf shelf' before after result
-    ends_open (Ok done) served stopped = loads_all (served done refl)
-    ends_open (Err stop.Output) served stopped =
+    ends_open left' (Ok done) served stopped = loads_all (served done refl)
+    ends_open left' (Err stop.Output) served stopped =
         let until = stopped stop.Output refl in
         elim until.stops [
-          | inl told ↦ inr (inr (inl (cuts stop.Output until told)))
-          | inr fails ↦ inr (inr (inr (breaks_part stop.Output until fails)))
+          | inl told ↦ inr (inr (inl (cuts stop.Output left' until told)))
+          | inr fails ↦ inr (inr (inr (breaks_part stop.Output left' until fails)))
         ]
-    ends_open (Err stop.Input) served stopped = let until = stopped stop.Input refl in halts stop.Input until until.stops.0 until.stops.1
-    ends_open (Err stop.NoMemory) served stopped = let until = stopped stop.NoMemory refl in inr (wants stop.NoMemory until until.stops.0 until.stops.1)
-    ends_open (Err stop.Store) served stopped = let until = stopped stop.Store refl in inr (breaks_whole stop.Store until until.stops)
-    ends_open (Err stop.TooLong) served stopped = let until = stopped stop.TooLong refl in halts stop.TooLong until until.stops.0 until.stops.1
+    ends_open left' (Err stop.Input) served stopped = let until = stopped stop.Input refl in halts stop.Input left' until until.stops.0 until.stops.1
+    ends_open left' (Err stop.NoMemory) served stopped = let until = stopped stop.NoMemory refl in inr (wants stop.NoMemory left' until until.stops.0 until.stops.1)
+    ends_open left' (Err stop.Store) served stopped = let until = stopped stop.Store refl in inr (breaks_whole stop.Store left' until until.stops)
+    ends_open left' (Err stop.TooLong) served stopped = let until = stopped stop.TooLong refl in halts stop.TooLong left' until until.stops.0 until.stops.1

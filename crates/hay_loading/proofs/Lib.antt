@@ -1,4 +1,5 @@
 pub mod Reading
+pub mod Whole
 pub mod Sinks
 pub mod Taking
 pub mod Telling
@@ -9,3 +10,4 @@ pub mod Apart
 pub mod Ending
 pub mod Refusing
 pub mod Statuses
+pub mod NextRun

@@ -7,7 +7,7 @@ use Rattle.std.proofs.lemmas.Grind.{common_steps}
 use Rattle.hay_needle.specs.declared.settings.Settings.{Settings}
 use Rattle.hay_script.specs.declared.Line.{Line}
 use Rattle.hay_script.specs.Script.{lines_of, seen_byte}
-use Rattle.hay_lines.specs.Lines.{NoFeed, fed_text, TookFed, TookLine}
+use Rattle.hay_lines.specs.Lines.{NoFeed, fed_text, TookFed, TookLine, TookOver, TookPart}
 use Rattle.hay_lines.specs.Said.{SaysNext}
 use Rattle.hay_lines.specs.Stream.{Accounts, Held, IsReadToEnd, IsTooLong, TookAll, TookAtMost, rest_of}
 use Rattle.hay_lines.proofs.Taking.{accounts_more, long_before, seen-inner}
@@ -70,6 +70,17 @@ said_end None None after ended next met = tt
 said_end (Some said) None after ended next met = tt
 said_end None (Some all) after ended next met = next.0.1
 said_end (Some said) (Some all) after ended next met = line_over all next.0 after ended next.1 met
+
+-- where nothing is held, what is left is what the source has left
+rest_none : (left : Option (List ℕ)) (held : Held) → held.bytes ≡ [] → rest_of left held ≡ left
+rest_none None held none = refl
+rest_none (Some all) held none = ap (λ (bytes : List ℕ). Some (bytes ++ all)) none
+
+pub part_left : (before left : Option (List ℕ)) (held : Held) → held.bytes ≡ [] → TookPart before (rest_of left held) → TookPart before left
+part_left before left held none took = subst (λ (after : Option (List ℕ)). TookPart before after) (rest_none left held none) took
+
+pub over_left : (before left : Option (List ℕ)) (held : Held) → held.bytes ≡ [] → TookOver before (rest_of left held) → TookOver before left
+over_left before left held none took = subst (λ (after : Option (List ℕ)). TookOver before after) (rest_none left held none) took
 
 -- WHAT THEY MAKE
 

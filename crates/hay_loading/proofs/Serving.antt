@@ -1,5 +1,5 @@
 -- One line after another, from the first of a script.
-use Rattle.std.proofs.Common.{◌≡◌, ℕ, ◌<◌, List, [], ◌++◌, Option, Some, None, refl, sym, ap, subst, ◌∙◌, arith}
+use Rattle.std.proofs.Common.{◌≡◌, ◌⊎◌, ℕ, ◌<◌, Bool, false, List, [], ◌++◌, Option, Some, None, refl, sym, ap, subst, ◌∙◌, arith}
 use Rattle.std.proofs.lemmas.List.{append-nil}
 use Rattle.hay_needle.specs.declared.settings.Settings.{Settings}
 use Rattle.hay_disk.specs.Disk.{Files}
@@ -14,13 +14,15 @@ use Rattle.hay_batch.proofs.Lists.{at_below, at_same}
 use Rattle.hay_batch.proofs.Loading.{replica_there}
 use Rattle.hay_load.specs.declared.batch.Gathered.{Gathered}
 use Rattle.hay_load.specs.declared.loading.Loading.{Loading}
-use Rattle.hay_load.specs.Gathering.{Group, closed}
+use Rattle.hay_load.specs.Gathering.{Group, OpenBatch, closed}
 use Rattle.hay_load.specs.Loads.{held_of}
 use Rattle.hay_loading.specs.declared.stops.Stop.{Stop}
+use Rattle.hay_loading.specs.declared.stops.Stop.TheVariants as stop
 use Rattle.hay_loading.specs.Endings.{IsFront, script_groups}
-use Rattle.hay_loading.specs.Lines.{ComeNext, Makes, ServesAll, ServesUntil, Stops, StopsIn, Takes, Told, rest_groups}
+use Rattle.hay_loading.specs.Lines.{ComeNext, Makes, ServesAll, ServesUntil, Stops, StopsIn, Takes, Told, TookWhole, rest_groups}
 use Rattle.hay_loading.proofs.Reading.{makes_all, makes_more, next_more}
 use Rattle.hay_loading.proofs.Taking.{count_end, told_more}
+use Rattle.hay_loading.proofs.Whole.{breaks_off, never_off, whole_more}
 
 -- COUNTS
 
@@ -56,16 +58,18 @@ counts_more {D} fault_count fuse_count old mid new shape shape' same first secon
 -- LINES
 
 module _ {D : Type 0} (Tells : Type 0) (files : D → Files) (first mid : Loading D) (number : ℕ) (left written rest middle : Option (List ℕ)) (same : mid.store.settings ≡ first.store.settings)
-    (takes : Takes Tells files first 1 left written mid number rest middle) where
+    (takes : Takes Tells files first 1 left written mid number rest middle false) where
   -- of the lines behind
   makes_same : (groups : List Group) (number' : ℕ) (new : Loading D) (rest' : Option (List ℕ)) → Makes mid.store.settings number (held_of mid.held) rest groups number' (held_of new.held) rest'
       → Makes first.store.settings number (held_of mid.held) rest groups number' (held_of new.held) rest'
   makes_same groups number' new rest' makes = subst (λ (x : Settings). Makes x number (held_of mid.held) rest groups number' (held_of new.held) rest') same makes
 
-  pub takes_more : (new : Loading D) (number' : ℕ) (rest' written' : Option (List ℕ)) → Takes Tells files mid number rest middle new number' rest' written'
-      → Takes Tells files first 1 left written new number' rest' written'
-  takes_more new number' rest' written' next = record {
+  pub takes_more : (new : Loading D) (number' : ℕ) (rest' written' : Option (List ℕ)) (ended : Bool) → Takes Tells files mid number rest middle new number' rest' written' ended → ended ≡ false
+      → Takes Tells files first 1 left written new number' rest' written' false
+  takes_more new number' rest' written' ended next unmet = record {
     groups = takes.groups ++ next.groups;
+    whole = λ met. whole_more first.store.settings 1 (held_of first.held) number number' (held_of mid.held) (held_of new.held) left rest rest' takes.groups next.groups (takes.whole refl)
+        (subst (λ (x : Settings). TookWhole x number (held_of mid.held) rest next.groups number' (held_of new.held) rest') same (next.whole unmet));
     makes = makes_more first.store.settings 1 number (held_of first.held) (held_of mid.held) left rest takes.groups next.groups takes.makes number' (held_of new.held) rest'
         (makes_same next.groups number' new rest' next.makes);
     told = told_more Tells files takes.groups next.groups first.store mid.store new.store written middle written' same takes.told next.told;
@@ -75,11 +79,17 @@ module _ {D : Type 0} (Tells : Type 0) (files : D → Files) (first mid : Loadin
     from_first : (script : List ℕ) → rest_groups first.store.settings 1 (held_of first.held) script ≡ script_groups first.store.settings script
     from_first script = ap (λ (h : Option Gathered). rest_groups first.store.settings 1 (held_of h) script) none
 
-    pub until_line : (faults fuses : D → ℕ) (why : Stop) (store' : LoadStore D) (written' : Option (List ℕ)) → IsShaped mid.store → KeepsCounts faults fuses first.store mid.store
-        → Stops Tells files faults why mid number rest middle store' written' → ServesUntil Tells files faults fuses why left first.store store' written written'
-    until_line faults fuses why store' written' shape counts s = record {
+    whole_first : (script : List ℕ) → left ≡ Some script → TookWhole first.store.settings 1 None (Some script) takes.groups number (held_of mid.held) rest
+    whole_first script told =
+        let by : Option (List ℕ) → Option OpenBatch → Type 0 = λ l h. TookWhole first.store.settings 1 h l takes.groups number (held_of mid.held) rest in
+        subst (λ (l : Option (List ℕ)). by l None) told (subst (λ (h : Option OpenBatch). by left h) (ap held_of none) (takes.whole refl))
+
+    pub until_line : (faults fuses : D → ℕ) (why : Stop) (store' : LoadStore D) (written' after : Option (List ℕ)) → IsShaped mid.store → KeepsCounts faults fuses first.store mid.store
+        → Stops Tells files faults why mid number rest middle store' written' after → ServesUntil Tells files faults fuses why left after first.store store' written written'
+    until_line faults fuses why store' written' after shape counts s = record {
       groups = takes.groups;
       next = s.groups;
+      broke = λ script told. breaks_off first.store.settings why number (held_of mid.held) script takes.groups rest after (whole_first script told) s.broke;
       front = λ script told.
           let next = subst (λ (x : Settings). ComeNext x number (held_of mid.held) rest s.groups) same s.next in
           subst (λ (l : List Group). IsFront (takes.groups ++ s.groups) l) (from_first script)
@@ -95,7 +105,8 @@ module _ {D : Type 0} (Tells : Type 0) (files : D → Files) (first mid : Loadin
     }
 
     -- the next line is the last
-    module _ (new : Loading D) (number' : ℕ) (rest' middle' : Option (List ℕ)) (next : Takes Tells files mid number rest middle new number' rest' middle') (over : IsReadToEnd rest rest') where
+    module _ (new : Loading D) (number' : ℕ) (rest' middle' : Option (List ℕ)) (ended : Bool) (next : Takes Tells files mid number rest middle new number' rest' middle' ended)
+        (over : IsReadToEnd rest rest') where
       pub groups_all : (script : List ℕ) → left ≡ Some script → script_groups first.store.settings script ≡ (takes.groups ++ next.groups) ++ closed (held_of new.held)
       groups_all script told =
           sym (from_first script)
@@ -114,12 +125,13 @@ module _ {D : Type 0} (Tells : Type 0) (files : D → Files) (first mid : Loadin
         told = told_more Tells files (takes.groups ++ next.groups) (closed (held_of new.held)) first.store new.store store' written middle' written' same' told_both last;
       }
 
-      pub until_end : (faults fuses : D → ℕ) (why : Stop) (store' : LoadStore D) (written' : Option (List ℕ)) → new.store.settings ≡ first.store.settings → IsShaped new.store
-          → KeepsCounts faults fuses first.store new.store
-          → StopsIn Tells files faults why (closed (held_of new.held)) new.store store' middle' written' → ServesUntil Tells files faults fuses why left first.store store' written written'
-      until_end faults fuses why store' written' same' shape counts stops = record {
+      pub until_end : (faults fuses : D → ℕ) (why : Stop) (store' : LoadStore D) (written' after : Option (List ℕ)) → new.store.settings ≡ first.store.settings → IsShaped new.store
+          → KeepsCounts faults fuses first.store new.store → (why ≡ stop.Output) ⊎ (why ≡ stop.NoMemory) ⊎ (why ≡ stop.Store)
+          → StopsIn Tells files faults why (closed (held_of new.held)) new.store store' middle' written' → ServesUntil Tells files faults fuses why left after first.store store' written written'
+      until_end faults fuses why store' written' after same' shape counts ends stops = record {
         groups = takes.groups ++ next.groups;
         next = closed (held_of new.held);
+        broke = λ script told. never_off first.store.settings why script (takes.groups ++ next.groups) after ends;
         front = λ script told. ([], groups_all script told ∙ sym (append-nil ((takes.groups ++ next.groups) ++ closed (held_of new.held))));
         one = count_end (held_of new.held);
         mid = new.store;
@@ -140,11 +152,11 @@ pub serves_at : {D : Type 0} (Tells : Type 0) (files : D → Files) (left : Opti
     → ServesAll Tells files left store store' written written' → ServesAll Tells files left other store' written written'
 serves_at {D} Tells files left store other store' written written' same serves = subst (λ (x : LoadStore D). ServesAll Tells files left x store' written written') same serves
 
-pub until_at : {D : Type 0} (Tells : Type 0) (files : D → Files) (faults fuses : D → ℕ) (why : Stop) (left : Option (List ℕ)) (store other store' : LoadStore D)
+pub until_at : {D : Type 0} (Tells : Type 0) (files : D → Files) (faults fuses : D → ℕ) (why : Stop) (left after : Option (List ℕ)) (store other store' : LoadStore D)
     (written written' : Option (List ℕ)) → store ≡ other
-    → ServesUntil Tells files faults fuses why left store store' written written' → ServesUntil Tells files faults fuses why left other store' written written'
-until_at {D} Tells files faults fuses why left store other store' written written' same until = subst
-    (λ (x : LoadStore D). ServesUntil Tells files faults fuses why left x store' written written') same until
+    → ServesUntil Tells files faults fuses why left after store store' written written' → ServesUntil Tells files faults fuses why left after other store' written written'
+until_at {D} Tells files faults fuses why left after store other store' written written' same until = subst
+    (λ (x : LoadStore D). ServesUntil Tells files faults fuses why left after x store' written written') same until
 
 pub settings_at : {D : Type 0} (store other store' : LoadStore D) → store ≡ other → store'.settings ≡ store.settings → store'.settings ≡ other.settings
 settings_at {D} store other store' same kept = kept ∙ ap (λ (x : LoadStore D). x.settings) same

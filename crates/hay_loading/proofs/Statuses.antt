@@ -1,5 +1,5 @@
 -- What was done at each status, by why the load stopped.
-use Rattle.std.proofs.Common.{◌≡◌, inl, inr, ℕ, List, Option, Ok, Err, arith}
+use Rattle.std.proofs.Common.{◌≡◌, inl, inr, ℕ, List, Option, Ok, Err, refl, arith}
 use Rattle.hay_needle.specs.declared.settings.Settings.{Settings}
 use Rattle.hay_disk.specs.Shelf.{HeldDisk}
 use Rattle.hay_loading.specs.declared.stops.Stop.{Stop}
@@ -13,6 +13,21 @@ is_status stop.Input status is = inr (inr (inl is))
 is_status stop.NoMemory status is = inr (inr (inr (inl is)))
 is_status stop.Store status is = inr (inr (inr (inr (inl is))))
 is_status stop.TooLong status is = inr (inr (inr (inr (inr is))))
+
+-- the stops of two statuses
+pub input_by : (why : Stop) → status_of why ≡ 4 → why ≡ stop.Input
+input_by stop.Output is = absurd (omega (arith, is))
+input_by stop.Input is = refl
+input_by stop.NoMemory is = absurd (omega (arith, is))
+input_by stop.Store is = absurd (omega (arith, is))
+input_by stop.TooLong is = absurd (omega (arith, is))
+
+pub long_by : (why : Stop) → status_of why ≡ 7 → why ≡ stop.TooLong
+long_by stop.Output is = absurd (omega (arith, is))
+long_by stop.Input is = absurd (omega (arith, is))
+long_by stop.NoMemory is = absurd (omega (arith, is))
+long_by stop.Store is = absurd (omega (arith, is))
+long_by stop.TooLong is = refl
 
 module _ (Tells : Type 0) (settings : Settings) (script : List ℕ) (old new : ℕ → HeldDisk) (shelf shelf' : ℕ) (before after : Option (List ℕ)) where
   pub to_all : Ends Tells settings script old new shelf shelf' before after (Ok tt) → LoadsTo Tells settings script old new shelf shelf' before after 0

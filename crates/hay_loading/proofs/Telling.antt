@@ -28,6 +28,16 @@ Answer = Result (Unit {0}) Stop
 other_stop : (r : Answer) (why : Stop) (P : Type 0) → r ≡ Err why → OnErr r P → P
 other_stop r why P is stops = IfErr-at_err (λ (x : Stop). P) is stops
 
+-- the stop of an answer, by what the answer is
+stop_by : (r : Answer) (why : Stop) → r ≡ Err why → (r ≡ Err stop.Output) ⊎ (r ≡ Err stop.NoMemory) ⊎ (r ≡ Err stop.Store) → (why ≡ stop.Output) ⊎ (why ≡ stop.NoMemory) ⊎ (why ≡ stop.Store)
+stop_by r why is (inl e) = inl cc
+stop_by r why is (inr (inl e)) = inr (inl cc)
+stop_by r why is (inr (inr e)) = inr (inr cc)
+
+pub told_stop : (r : Answer) (why : Stop) → r ≡ Err why → OnErr r ((r ≡ Err stop.Output) ⊎ (r ≡ Err stop.NoMemory) ⊎ (r ≡ Err stop.Store))
+    → (why ≡ stop.Output) ⊎ (why ≡ stop.NoMemory) ⊎ (why ≡ stop.Store)
+told_stop r why is stops = stop_by r why is (other_stop r why ((r ≡ Err stop.Output) ⊎ (r ≡ Err stop.NoMemory) ⊎ (r ≡ Err stop.Store)) is stops)
+
 module _ {D : Type 0} (Tells : Type 0) (files : D → Files) (fault_count : D → ℕ) (groups : List Group) (old new : LoadStore D) (written written' : Option (List ℕ))
     (told : Result (Unit {0}) LoadEnd) (empty text slice : List ℕ)
     (none : empty ≡ []) (same : slice ≡ text) (loads : OnOk told (Loads Tells files groups old new empty text)) where

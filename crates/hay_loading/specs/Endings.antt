@@ -4,7 +4,7 @@ use Rattle.hay_needle.specs.declared.settings.Settings.{Settings}
 use Rattle.hay_disk.specs.Counts.{Rose}
 use Rattle.hay_disk.specs.Disk.{MayLeave}
 use Rattle.hay_disk.specs.Shelf.{HeldDisk}
-use Rattle.hay_disk.specs.Streams.{Wrote, WrotePart}
+use Rattle.hay_disk.specs.Streams.{Took, Wrote, WrotePart}
 use Rattle.hay_script.specs.declared.Line.{Line}
 use Rattle.hay_script.specs.Script.{line_of, lines_of}
 use Rattle.hay_reply.specs.declared.Note.{Note}
@@ -23,7 +23,8 @@ use Rattle.hay_batch.specs.Shelves.{IsDamagedDisk, IsLeft, IsUndamagedBelow, Ope
 use Rattle.hay_load.specs.declared.reply.LoadReply.{LoadReply}
 use Rattle.hay_load.specs.declared.reply.LoadReply.TheVariants.{Loaded, Other}
 use Rattle.hay_load.specs.Answers.{AnswersAll, reply_lines}
-use Rattle.hay_load.specs.Gathering.{Group, Batch, Bad, groups_of}
+use Rattle.hay_legal.specs.Items.{fed_part}
+use Rattle.hay_load.specs.Gathering.{Group, Batch, Bad, OpenBatch, groups_of, line_step}
 use Rattle.hay_load.specs.Loads.{IsFailed, LeavesFirst}
 use Rattle.hay_load.specs.Replies.{load_line}
 use Rattle.hay_loading.specs.declared.stops.Stop.{Stop}
@@ -38,6 +39,23 @@ says text = line_of None text
 -- the batches and bad lines of a script
 abbrev pub script_groups : Settings → List ℕ → List Group
 script_groups settings script = groups_of settings (map says (lines_of script))
+
+-- what lines end of which the first has this number, behind an open batch: a batch that is open behind them may go on
+abbrev pub ended_from : Settings → ℕ → Option OpenBatch → List Line → List Group
+ended_from settings number held [] = []
+ended_from settings number held (said ∷ lines) =
+    let step = line_step settings number held said in step.groups ++ ended_from settings (number + 1) step.held lines
+
+-- the batches and bad lines that end with the lines of these bytes that a line feed ends
+abbrev pub groups_before : Settings → List ℕ → List Group
+groups_before settings read = ended_from settings 1 None (map says (lines_of (fed_part read)))
+
+-- These bytes of a script were read and no more, or one byte more.
+abbrev pub ReadFront : List ℕ → List ℕ → Option (List ℕ) → Type 0
+ReadFront script read left = Took (Some script) read left
+
+abbrev pub ReadOver : List ℕ → List ℕ → Option (List ℕ) → Type 0
+ReadOver script read left = (byte : ℕ) × Took (Some script) (read ++ byte ∷ []) left
 
 -- these are the first of all
 abbrev pub IsFront : List Group → List Group → Type 0
@@ -113,12 +131,20 @@ module _ (Tells : Type 0) (settings : Settings) (script : List ℕ) (old new : �
     pub answers : Answers (script_groups settings script) replies []
     pub wrote : Wrote before (load_text settings (script_groups settings script) replies) after
 
-  -- The first groups were answered, and this was written. Of the next nothing was, and none is loaded.
-  pub record Halts : Type 0 where
-    pub groups : List Group
+  -- These first groups were answered, and this was written. Of the next nothing was, and none is loaded.
+  pub record HaltsAt (groups : List Group) : Type 0 where
     pub replies : List LoadReply
     pub answers : Answers groups replies []
     pub wrote : Wrote before (load_text settings groups replies) after
+
+  abbrev pub Halts : Type 0
+  Halts = (groups : List Group) × HaltsAt groups
+
+  -- So it is of just those that end with the lines that were read.
+  pub record HaltsBehind (Read : List ℕ → Type 0) : Type 0 where
+    pub read : List ℕ
+    pub bytes : Read read
+    pub halts : HaltsAt (groups_before settings read)
 
   -- The same, but that the next batch may be loaded.
   pub record Wants : Type 0 where

@@ -1,8 +1,8 @@
 -- Lines of a script that a load has taken, and what came of them.
-use Rattle.std.specs.Prelude.{◌≡◌, ◌⊎◌, ◌≤◌, ℕ, List, [], ◌++◌, map, Option, Some}
+use Rattle.std.specs.Prelude.{◌≡◌, ◌⊎◌, ◌≤◌, ℕ, Bool, false, List, [], ◌++◌, map, Option, Some}
 use Rattle.hay_needle.specs.declared.settings.Settings.{Settings}
 use Rattle.hay_disk.specs.Disk.{Files}
-use Rattle.hay_disk.specs.Streams.{Wrote, WrotePart}
+use Rattle.hay_disk.specs.Streams.{Took, Wrote, WrotePart}
 use Rattle.hay_script.specs.Script.{lines_of}
 use Rattle.hay_batch.specs.declared.store.LoadStore.{LoadStore}
 use Rattle.hay_batch.specs.Shelves.{MayLeaveDisks, StandsAs, StoredStore}
@@ -12,7 +12,9 @@ use Rattle.hay_load.specs.Gathering.{Group, OpenBatch, groups_from}
 use Rattle.hay_load.specs.Loads.{FailsFirst, LeavesFirst, Loads, held_of}
 use Rattle.hay_loading.specs.declared.stops.Stop.{Stop}
 use Rattle.hay_loading.specs.declared.stops.Stop.TheVariants as stop
-use Rattle.hay_loading.specs.Endings.{IsFront, batch_count, says, script_groups}
+use Rattle.hay_legal.specs.Items.{fed_part}
+use Rattle.hay_lines.specs.Lines.{TookOver, TookPart}
+use Rattle.hay_loading.specs.Endings.{IsFront, ReadFront, ReadOver, batch_count, ended_from, groups_before, says, script_groups}
 
 -- THE LINES THAT ARE LEFT
 
@@ -29,6 +31,34 @@ abbrev pub Makes : Settings → ℕ → Option OpenBatch → Option (List ℕ) �
 Makes settings number held left groups number' held' left' =
     (rest : List ℕ) → left ≡ Some rest → (rest' : List ℕ) × (left' ≡ Some rest')
     × (rest_groups settings number held rest ≡ groups ++ rest_groups settings number' held' rest')
+
+-- what bytes end
+abbrev pub ended_groups : Settings → ℕ → Option OpenBatch → List ℕ → List Group
+ended_groups settings number held bytes = ended_from settings number held (map says (lines_of bytes))
+
+-- Whole lines were taken: whatever comes behind them, they end these groups, and this batch is open behind them, or none.
+pub record TookWhole (settings : Settings) (number : ℕ) (held : Option OpenBatch) (left : Option (List ℕ)) (groups : List Group) (number' : ℕ) (held' : Option OpenBatch)
+    (left' : Option (List ℕ)) : Type 0 where
+  pub bytes : List ℕ
+  pub took : Took left bytes left'
+  pub fed : (more : List ℕ) → fed_part (bytes ++ more) ≡ bytes ++ fed_part more
+  pub ends : (more : List ℕ) → ended_groups settings number held (bytes ++ more) ≡ groups ++ ended_groups settings number' held' more
+
+-- where the source failed, or more came than a script may have, no line was taken whole
+abbrev pub BreaksIn : Stop → Option (List ℕ) → Option (List ℕ) → Type 0
+BreaksIn stop.Output left after = Unit {0}
+BreaksIn stop.Input left after = TookPart left after
+BreaksIn stop.NoMemory left after = Unit {0}
+BreaksIn stop.Store left after = Unit {0}
+BreaksIn stop.TooLong left after = TookOver left after
+
+-- and the groups of a script are just those that end with the lines that were read
+abbrev pub BreaksOff : Settings → Stop → List ℕ → List Group → Option (List ℕ) → Type 0
+BreaksOff settings stop.Output script groups after = Unit {0}
+BreaksOff settings stop.Input script groups after = (read : List ℕ) × ReadFront script read after × (groups ≡ groups_before settings read)
+BreaksOff settings stop.NoMemory script groups after = Unit {0}
+BreaksOff settings stop.Store script groups after = Unit {0}
+BreaksOff settings stop.TooLong script groups after = (read : List ℕ) × ReadOver script read after × (groups ≡ groups_before settings read)
 
 -- what is written of a text, from what a sink held before to what it holds after
 abbrev pub Writing : Type 1
@@ -70,17 +100,19 @@ StopsIn Tells files fault_count stop.TooLong groups store store' written written
 
 -- LINES THAT WERE TAKEN
 
--- The groups that lines end were answered.
+-- The groups that lines end were answered, and the script's end was met or not.
 pub record Takes {D : Type 0} (Tells : Type 0) (files : D → Files) (load : Loading D) (number : ℕ) (left written : Option (List ℕ)) (load' : Loading D) (number' : ℕ)
-    (left' written' : Option (List ℕ)) : Type 0 where
+    (left' written' : Option (List ℕ)) (ended : Bool) : Type 0 where
   pub groups : List Group
+  pub whole : ended ≡ false → TookWhole load.store.settings number (held_of load.held) left groups number' (held_of load'.held) left'
   pub makes : Makes load.store.settings number (held_of load.held) left groups number' (held_of load'.held) left'
   pub told : Told Tells files Wrote groups load.store load'.store written written'
 
--- A load stops with the groups that come next, of which one is a batch.
+-- A load stops with the groups that come next, of which one is a batch, while its source comes to what it has left.
 pub record Stops {D : Type 0} (Tells : Type 0) (files : D → Files) (fault_count : D → ℕ) (why : Stop) (load : Loading D) (number : ℕ) (left written : Option (List ℕ))
-    (store' : LoadStore D) (written' : Option (List ℕ)) : Type 0 where
+    (store' : LoadStore D) (written' : Option (List ℕ)) (after : Option (List ℕ)) : Type 0 where
   pub groups : List Group
+  pub broke : BreaksIn why left after
   pub next : ComeNext load.store.settings number (held_of load.held) left groups
   pub one : batch_count groups ≤ 1
   pub stops : StopsIn Tells files fault_count why groups load.store store' written written'
@@ -94,10 +126,11 @@ pub record ServesAll {D : Type 0} (Tells : Type 0) (files : D → Files) (left :
   pub told : Told Tells files Wrote groups store store' written written'
 
 -- Its first groups were answered, and then the load stopped with the next, of which one is a batch.
-pub record ServesUntil {D : Type 0} (Tells : Type 0) (files : D → Files) (fault_count fuse_count : D → ℕ) (why : Stop) (left : Option (List ℕ)) (store store' : LoadStore D)
+pub record ServesUntil {D : Type 0} (Tells : Type 0) (files : D → Files) (fault_count fuse_count : D → ℕ) (why : Stop) (left after : Option (List ℕ)) (store store' : LoadStore D)
     (written written' : Option (List ℕ)) : Type 0 where
   pub groups : List Group
   pub next : List Group
+  pub broke : (script : List ℕ) → left ≡ Some script → BreaksOff store.settings why script groups after
   pub front : (script : List ℕ) → left ≡ Some script → IsFront (groups ++ next) (script_groups store.settings script)
   pub one : batch_count next ≤ 1
   pub mid : LoadStore D

@@ -7,7 +7,7 @@ ghost use Rattle.hay_reply.specs.Replies as texts;
 ghost use Rattle.hay_lines.specs.Stream.{IsReadToEnd, TookAtMost};
 ghost use Rattle.hay_batch.specs.Shelves.{IsLimited, disk_count};
 ghost use Rattle.hay_loading.specs.declared.stops.Stop.{Stop};
-ghost use Rattle.hay_loading.specs.Endings.{CountsOn, Ends, IsStatus, LoadsTo};
+ghost use Rattle.hay_loading.specs.Endings.{CountsOn, Ends, HaltsBehind, IsStatus, LoadsTo, ReadFront, ReadOver};
 ghost use Rattle.hay_loading.specs.Lines.{Appends};
 
 use crate::serve::serve;
@@ -32,6 +32,10 @@ fn load_script<H: Shelf, S: Source, K: Sink>(
     requires disks_in { AreIn (disk_count settings) (H.disks shelf.old) }
     ensures ends { (script : List ℕ) (before : Option (List ℕ)) → S.left source.old ≡ Some script → Wrote before (texts.header_line settings) (K.written sink.old) →
         Ends H.Disk.Tells settings script (H.disks shelf.old) (H.disks shelf.new) (H.fault_count shelf.old) (H.fault_count shelf.new) before (K.written sink.new) result }
+    ensures halts { IsErrOf result Stop.Input → (script : List ℕ) (before : Option (List ℕ)) → S.left source.old ≡ Some script → Wrote before (texts.header_line settings) (K.written sink.old) →
+        HaltsBehind H.Disk.Tells settings script (H.disks shelf.old) (H.disks shelf.new) (H.fault_count shelf.old) (H.fault_count shelf.new) before (K.written sink.new) (λ read. ReadFront script read (S.left source.new)) }
+    ensures halts_over { IsErrOf result Stop.TooLong → (script : List ℕ) (before : Option (List ℕ)) → S.left source.old ≡ Some script → Wrote before (texts.header_line settings) (K.written sink.old) →
+        HaltsBehind H.Disk.Tells settings script (H.disks shelf.old) (H.disks shelf.new) (H.fault_count shelf.old) (H.fault_count shelf.new) before (K.written sink.new) (λ read. ReadOver script read (S.left source.new)) }
     ensures ended { OnOk result (IsReadToEnd (S.left source.old) (S.left source.new)) }
     ensures short { OnOk result ((script : List ℕ) → S.left source.old ≡ Some script → length script ≤ SCRIPT) }
     ensures long { IsErrOf result Stop.TooLong → (script : List ℕ) → S.left source.old ≡ Some script →
@@ -70,6 +74,10 @@ fn load_headed<H: Shelf, S: Source, K: Sink>(
     requires disks_in { AreIn (disk_count settings) (H.disks shelf.old) }
     ensures ends { (script : List ℕ) → S.left source.old ≡ Some script →
         Ends H.Disk.Tells settings script (H.disks shelf.old) (H.disks shelf.new) (H.fault_count shelf.old) (H.fault_count shelf.new) (K.written sink.old) (K.written sink.new) result }
+    ensures halts { IsErrOf result Stop.Input → (script : List ℕ) → S.left source.old ≡ Some script →
+        HaltsBehind H.Disk.Tells settings script (H.disks shelf.old) (H.disks shelf.new) (H.fault_count shelf.old) (H.fault_count shelf.new) (K.written sink.old) (K.written sink.new) (λ read. ReadFront script read (S.left source.new)) }
+    ensures halts_over { IsErrOf result Stop.TooLong → (script : List ℕ) → S.left source.old ≡ Some script →
+        HaltsBehind H.Disk.Tells settings script (H.disks shelf.old) (H.disks shelf.new) (H.fault_count shelf.old) (H.fault_count shelf.new) (K.written sink.old) (K.written sink.new) (λ read. ReadOver script read (S.left source.new)) }
     ensures ended { OnOk result (IsReadToEnd (S.left source.old) (S.left source.new)) }
     ensures short { OnOk result ((script : List ℕ) → S.left source.old ≡ Some script → length script ≤ SCRIPT) }
     ensures long { IsErrOf result Stop.TooLong → (script : List ℕ) → S.left source.old ≡ Some script →
@@ -113,6 +121,12 @@ pub fn load_store<H: Shelf, S: Source, K: Sink>(
     // What was answered and written at each status, and what the disks given back hold.
     ensures loaded { (script : List ℕ) → S.left source.old ≡ Some script →
         LoadsTo H.Disk.Tells settings script (H.disks shelf.old) (H.disks shelf.new) (H.fault_count shelf.old) (H.fault_count shelf.new) (K.written sink.old) (K.written sink.new) result }
+
+    // Where the source failed, or the script is too long, just what ends with the lines that were read was answered.
+    ensures halts { result ≡ 4 → (script : List ℕ) → S.left source.old ≡ Some script →
+        HaltsBehind H.Disk.Tells settings script (H.disks shelf.old) (H.disks shelf.new) (H.fault_count shelf.old) (H.fault_count shelf.new) (K.written sink.old) (K.written sink.new) (λ read. ReadFront script read (S.left source.new)) }
+    ensures halts_over { result ≡ 7 → (script : List ℕ) → S.left source.old ≡ Some script →
+        HaltsBehind H.Disk.Tells settings script (H.disks shelf.old) (H.disks shelf.new) (H.fault_count shelf.old) (H.fault_count shelf.new) (K.written sink.old) (K.written sink.new) (λ read. ReadOver script read (S.left source.new)) }
 
     // When each status comes.
     ensures status { IsStatus result }

@@ -2,6 +2,7 @@
 ghost use Rattle.std.specs.Prelude.{◌≡◌, ◌⊎◌, ◌<◌, ◌≤◌, [], false, None, Err, IfOk, IfSome, OnOk, OnErr, IsErrOf};
 ghost use Rattle.hay_disk.specs.Counts.{Rose};
 ghost use Rattle.hay_script.specs.Script.{IsWithinLine};
+ghost use Rattle.hay_lines.specs.Lines.{TookOver, TookPart};
 ghost use Rattle.hay_lines.specs.Said.{SaysNext};
 ghost use Rattle.hay_lines.specs.Stream.{rest_of, budget, Accounts, IsTooLong};
 
@@ -12,6 +13,7 @@ use hay_script::Line;
 use std::alloc::Global;
 
 /// Takes the next line of a script and reads it, outside of a block, or meets the end. It isn't called once the end was met.
+#[tactic(auto, using(crate::proofs::Reading::part_left, crate::proofs::Reading::over_left))]
 pub fn next_said<S: Source>(
     alloc: Global,
     script: &mut ScriptLines,
@@ -25,6 +27,8 @@ pub fn next_said<S: Source>(
     ensures left { OnOk result (budget SCRIPT script.new < budget SCRIPT script.old) }
     ensures limit { script.new.taken ≤ SCRIPT }
     ensures long { IsErrOf result Stop.TooLong → IsTooLong SCRIPT (S.left source.old) script.old (S.left source.new) }
+    ensures failed { IsErrOf result Stop.Input → TookPart (rest_of (S.left source.old) script.old) (S.left source.new) }
+    ensures over { IsErrOf result Stop.TooLong → TookOver (rest_of (S.left source.old) script.old) (S.left source.new) }
     ensures stops { OnErr result ((result ≡ Err Stop.Input) ⊎ (result ≡ Err Stop.NoMemory) ⊎ (result ≡ Err Stop.TooLong)) }
     ensures cause { IsErrOf result Stop.Input → Rose (S.fault_count source.old) (S.fault_count source.new) }
     ensures count { S.fault_count source.old ≤ S.fault_count source.new }

@@ -25,7 +25,7 @@ pub fn serve<D: Disk, S: Source, K: Sink>(
     requires none { load.old.held ≡ None }
     ensures served { OnOk result (ServesAll D.Tells D.files (S.left source.old) load.old.store load.new.store (K.written sink.old) (K.written sink.new)) }
     ensures stopped { (why : Stop) → result ≡ Err why →
-        ServesUntil D.Tells D.files D.fault_count D.fuse_count why (S.left source.old) load.old.store load.new.store (K.written sink.old) (K.written sink.new) }
+        ServesUntil D.Tells D.files D.fault_count D.fuse_count why (S.left source.old) (S.left source.new) load.old.store load.new.store (K.written sink.old) (K.written sink.new) }
     ensures shape { (load.new.store.settings ≡ load.old.store.settings) × IsShaped load.new.store }
     ensures counts { KeepsCounts D.fault_count D.fuse_count load.old.store load.new.store }
     ensures ended { OnOk result (IsReadToEnd (S.left source.old) (S.left source.new)) }

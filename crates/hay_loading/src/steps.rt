@@ -106,11 +106,11 @@ pub fn step<D: Disk, S: Source, K: Sink>(
     requires few { number + budget SCRIPT script.old < 2 ^ 64 }
     requires loading { IsLoading D.Tells D.files load.old }
     ensures takes { IfOk result (λ next. Takes D.Tells D.files load.old number (rest_of (S.left source.old) script.old) (K.written sink.old)
-        load.new next (rest_of (S.left source.new) script.new) (K.written sink.new)) }
+        load.new next (rest_of (S.left source.new) script.new) (K.written sink.new) script.new.ended) }
     ensures next { OnOk result (IsLoading D.Tells D.files load.new) }
     ensures at_end { OnOk result (script.new.ended ≡ true → IsReadToEnd (rest_of (S.left source.old) script.old) (rest_of (S.left source.new) script.new)) }
     ensures stopped { (why : Stop) → result ≡ Err why →
-        Stops D.Tells D.files D.fault_count why load.old number (rest_of (S.left source.old) script.old) (K.written sink.old) load.new.store (K.written sink.new) }
+        Stops D.Tells D.files D.fault_count why load.old number (rest_of (S.left source.old) script.old) (K.written sink.old) load.new.store (K.written sink.new) (S.left source.new) }
     ensures shape { (load.new.store.settings ≡ load.old.store.settings) × IsShaped load.new.store }
     ensures counts { KeepsCounts D.fault_count D.fuse_count load.old.store load.new.store }
 

@@ -20,3 +20,9 @@ returns-in_err-write_header-clause-ends g c = λ script told.
 
 pub returns-clause-ends : goal.returns-clause-ends
 returns-clause-ends g c = λ script told. c.load_script.ensures.ends script (g.K.Sink.written c.args.sink.now) told c.in_ok-write_header.ensures.wrote
+
+pub returns-clause-halts : goal.returns-clause-halts
+returns-clause-halts g c = λ stops script told. c.load_script.ensures.halts stops script (g.K.Sink.written c.args.sink.now) told c.in_ok-write_header.ensures.wrote
+
+pub returns-clause-halts_over : goal.returns-clause-halts_over
+returns-clause-halts_over g c = λ stops script told. c.load_script.ensures.halts_over stops script (g.K.Sink.written c.args.sink.now) told c.in_ok-write_header.ensures.wrote

@@ -3,7 +3,8 @@ use Rattle.hay_needle.specs.declared.settings.Settings.{Settings}
 use Rattle.hay_mount.specs.Mounts.{AreIn, AreOut, SameFrom}
 use Rattle.hay_batch.specs.Shelves.{disk_count}
 use Rattle.hay_loading.proofs.Counting.{counts_left, counts_on}
-use Rattle.hay_loading.proofs.Ending.{ends_open}
+use Rattle.hay_loading.specs.declared.stops.Stop.TheVariants as stop
+use Rattle.hay_loading.proofs.Ending.{ends_open, halts_input, halts_long}
 use Rattle.hay_loading.proofs.Refusing.{ends_refused}
 use Rattle.hay_loading.proofs.Serving.{counts_at, serves_at, settings_at, store_begun, until_at}
 use Rattle.hay_loading.proofs.load.load_script.Goals as goal
@@ -35,9 +36,9 @@ returns-clause-ends g c = λ script before told header.
     c.serve-outcome.ensures.shape.1 c.close.ensures.given
     script (g.H.Shelf.disks c.args.shelf.now) (g.H.Shelf.fault_count c.args.shelf.now) (g.H.Shelf.fault_count c.close.new.shelf) before begun after c.in-Ok.store
     c.in-Ok.ensures.shape.0 c.in-Ok.ensures.shape.1
-    c.in-Ok.ensures.opened c.in-Ok.ensures.disks header c.requires.limits.some_volumes c.serve-outcome.result
+    c.in-Ok.ensures.opened c.in-Ok.ensures.disks header c.requires.limits.some_volumes (g.S.Source.left c.serve-outcome.new.source) c.serve-outcome.result
     (λ done is. serves_at D.Tells D.files (Some script) c.new-load.result.store c.in-Ok.store c.serve-outcome.new.load.store begun after began (rw (is, told) at c.serve-outcome.ensures.served))
-    (λ why is. until_at D.Tells D.files D.fault_count D.fuse_count why (Some script) c.new-load.result.store c.in-Ok.store c.serve-outcome.new.load.store begun after began
+    (λ why is. until_at D.Tells D.files D.fault_count D.fuse_count why (Some script) (g.S.Source.left c.serve-outcome.new.source) c.new-load.result.store c.in-Ok.store c.serve-outcome.new.load.store begun after began
     (rw told at c.serve-outcome.ensures.stopped why is))
 
 pub returns-clause-disks_back : goal.returns-clause-disks_back
@@ -69,3 +70,35 @@ returns-clause-counts g c = λ slot below.
 pub returns-in-Err-clause-counts : goal.returns-in-Err-clause-counts
 returns-in-Err-clause-counts g c = λ slot below.
     counts_left g.H.Disk.Disk.Tells slot (g.H.Shelf.disks c.args.shelf.now slot) (g.H.Shelf.disks c.open.new.shelf slot) (c.in-Err.ensures.left slot below)
+
+pub returns-clause-halts : goal.returns-clause-halts
+returns-clause-halts g c = λ stops script before told header.
+    let D = g.H.Disk.Disk in
+    let same : c.serve-outcome.new.load.store.settings ≡ c.args.settings = settings_at c.new-load.result.store c.in-Ok.store c.serve-outcome.new.load.store
+    (store_begun c.new-load.result c.in-Ok.store c.new-load.ensures.made) c.serve-outcome.ensures.shape.0 ∙ c.in-Ok.ensures.shape.0 in
+    let begun = g.K.Sink.written c.args.sink.now in
+    let after = g.K.Sink.written c.serve-outcome.new.sink in
+    let left' = g.S.Source.left c.serve-outcome.new.source in
+    halts_input D.Tells D.files D.drawn D.fault_count D.fuse_count c.args.settings (g.H.Shelf.disks c.close.new.shelf) c.serve-outcome.new.load.store same
+    c.serve-outcome.ensures.shape.1 c.close.ensures.given
+    script (g.H.Shelf.disks c.args.shelf.now) (g.H.Shelf.fault_count c.args.shelf.now) (g.H.Shelf.fault_count c.close.new.shelf) before begun after c.in-Ok.store
+    c.in-Ok.ensures.shape.0 c.in-Ok.ensures.shape.1
+    c.in-Ok.ensures.opened c.in-Ok.ensures.disks header c.requires.limits.some_volumes left'
+    (until_at D.Tells D.files D.fault_count D.fuse_count stop.Input (Some script) left' c.new-load.result.store c.in-Ok.store c.serve-outcome.new.load.store begun after
+    (store_begun c.new-load.result c.in-Ok.store c.new-load.ensures.made) (rw told at c.serve-outcome.ensures.stopped stop.Input stops))
+
+pub returns-clause-halts_over : goal.returns-clause-halts_over
+returns-clause-halts_over g c = λ stops script before told header.
+    let D = g.H.Disk.Disk in
+    let same : c.serve-outcome.new.load.store.settings ≡ c.args.settings = settings_at c.new-load.result.store c.in-Ok.store c.serve-outcome.new.load.store
+    (store_begun c.new-load.result c.in-Ok.store c.new-load.ensures.made) c.serve-outcome.ensures.shape.0 ∙ c.in-Ok.ensures.shape.0 in
+    let begun = g.K.Sink.written c.args.sink.now in
+    let after = g.K.Sink.written c.serve-outcome.new.sink in
+    let left' = g.S.Source.left c.serve-outcome.new.source in
+    halts_long D.Tells D.files D.drawn D.fault_count D.fuse_count c.args.settings (g.H.Shelf.disks c.close.new.shelf) c.serve-outcome.new.load.store same
+    c.serve-outcome.ensures.shape.1 c.close.ensures.given
+    script (g.H.Shelf.disks c.args.shelf.now) (g.H.Shelf.fault_count c.args.shelf.now) (g.H.Shelf.fault_count c.close.new.shelf) before begun after c.in-Ok.store
+    c.in-Ok.ensures.shape.0 c.in-Ok.ensures.shape.1
+    c.in-Ok.ensures.opened c.in-Ok.ensures.disks header c.requires.limits.some_volumes left'
+    (until_at D.Tells D.files D.fault_count D.fuse_count stop.TooLong (Some script) left' c.new-load.result.store c.in-Ok.store c.serve-outcome.new.load.store begun after
+    (store_begun c.new-load.result c.in-Ok.store c.new-load.ensures.made) (rw told at c.serve-outcome.ensures.stopped stop.TooLong stops))

@@ -12,7 +12,8 @@ use Rattle.hay_loading.specs.Lines.{ServesAll, Told}
 use Rattle.hay_loading.proofs.Reading.{makes_none, read_to_end, short_script}
 use Rattle.hay_loading.proofs.Serving.{counts_more, counts_same, serves_all, takes_more, until_end, until_line}
 use Rattle.hay_loading.proofs.Taking.{told_none}
-use Rattle.hay_loading.proofs.Telling.{on_ok_always}
+use Rattle.hay_loading.proofs.Telling.{on_ok_always, told_stop}
+use Rattle.hay_loading.proofs.Whole.{whole_none}
 use Rattle.hay_loading.proofs.Sinks.{appends_more, appends_nothing}
 use Rattle.hay_loading.proofs.serve.serve.Goals as goal
 
@@ -24,6 +25,7 @@ lines-init g c = record {
   same = refl;
   takes = record {
     groups = [];
+    whole = λ unmet. whole_none c.args.load.now.store.settings 1 (held_of c.args.load.now.held) (g.S.Source.left c.args.source.now) c.new-script.result c.new-script.ensures.bytes;
     makes = makes_none c.args.load.now.store.settings 1 (held_of c.args.load.now.held) (g.S.Source.left c.args.source.now) c.new-script.result c.new-script.ensures.bytes;
     told = told_none g.D.Disk.Tells g.D.Disk.files c.args.load.now.store (g.K.Sink.written c.args.sink.now);
   };
@@ -47,7 +49,8 @@ lines-preserved g c =
       same = c.step.ensures.shape.0 ∙ inv.same;
       takes = takes_more g.D.Disk.Tells g.D.Disk.files c.args.load.now c.lines.load c.lines.number (left c.args.source.now) (g.K.Sink.written c.args.sink.now)
           (rest_of (left c.lines.source) c.lines.script) (g.K.Sink.written c.lines.sink) inv.same inv.takes
-          c.step.new.load c.in_ok-number.number (rest_of (left c.step.new.source) c.step.new.script) (g.K.Sink.written c.step.new.sink) c.in_ok-number.ensures.takes;
+          c.step.new.load c.in_ok-number.number (rest_of (left c.step.new.source) c.step.new.script) (g.K.Sink.written c.step.new.sink) c.step.new.script.ended c.in_ok-number.ensures.takes
+          (sym c.is_ended.ensures ∙ c.if-is_ended.false);
       counts = counts_more g.D.Disk.fault_count g.D.Disk.fuse_count c.args.load.now.store c.lines.load.store c.step.new.load.store c.requires.loading.shape inv.loading.shape
           inv.same inv.counts c.step.ensures.counts;
       first = inv.first;
@@ -69,7 +72,8 @@ returns-in_err-number-clause-stopped g c = λ why is.
     let left = g.S.Source.left in
     until_line g.D.Disk.Tells g.D.Disk.files c.args.load.now c.lines.load c.lines.number (left c.args.source.now) (g.K.Sink.written c.args.sink.now)
     (rest_of (left c.lines.source) c.lines.script) (g.K.Sink.written c.lines.sink) inv.same inv.takes
-    c.requires.none g.D.Disk.fault_count g.D.Disk.fuse_count why c.step.new.load.store (g.K.Sink.written c.step.new.sink) inv.loading.shape inv.counts (c.step.ensures.stopped why same)
+    c.requires.none g.D.Disk.fault_count g.D.Disk.fuse_count why c.step.new.load.store (g.K.Sink.written c.step.new.sink) (left c.step.new.source) inv.loading.shape inv.counts
+    (c.step.ensures.stopped why same)
 
 pub returns-in_err-number-clause-shape : goal.returns-in_err-number-clause-shape
 returns-in_err-number-clause-shape g c = (c.step.ensures.shape.0 ∙ c.lines.invariant.same, c.step.ensures.shape.1)
@@ -93,7 +97,8 @@ returns-then-is_ended-clause-served g c =
     (g.K.Sink.written c.take_end.new.sink)) c.take_end.ensures.told
     (λ last. serves_all g.D.Disk.Tells g.D.Disk.files c.args.load.now c.lines.load c.lines.number (left c.args.source.now) (g.K.Sink.written c.args.sink.now)
     (rest_of (left c.lines.source) c.lines.script) (g.K.Sink.written c.lines.sink) inv.same inv.takes
-    c.requires.none c.step.new.load c.in_ok-number.number (rest_of (left c.step.new.source) c.step.new.script) (g.K.Sink.written c.step.new.sink) c.in_ok-number.ensures.takes
+    c.requires.none c.step.new.load c.in_ok-number.number (rest_of (left c.step.new.source) c.step.new.script) (g.K.Sink.written c.step.new.sink) c.step.new.script.ended
+    c.in_ok-number.ensures.takes
     (c.in_ok-number.ensures.at_end met)
     c.take_end.new.load.store (g.K.Sink.written c.take_end.new.sink) (c.step.ensures.shape.0 ∙ inv.same) last)
 
@@ -104,12 +109,14 @@ returns-then-is_ended-clause-stopped g c = λ why is.
     let met = sym c.is_ended.ensures ∙ c.if-is_ended.true in
     until_end g.D.Disk.Tells g.D.Disk.files c.args.load.now c.lines.load c.lines.number (left c.args.source.now) (g.K.Sink.written c.args.sink.now)
     (rest_of (left c.lines.source) c.lines.script) (g.K.Sink.written c.lines.sink) inv.same inv.takes
-    c.requires.none c.step.new.load c.in_ok-number.number (rest_of (left c.step.new.source) c.step.new.script) (g.K.Sink.written c.step.new.sink) c.in_ok-number.ensures.takes
+    c.requires.none c.step.new.load c.in_ok-number.number (rest_of (left c.step.new.source) c.step.new.script) (g.K.Sink.written c.step.new.sink) c.step.new.script.ended
+    c.in_ok-number.ensures.takes
     (c.in_ok-number.ensures.at_end met)
-    g.D.Disk.fault_count g.D.Disk.fuse_count why c.take_end.new.load.store (g.K.Sink.written c.take_end.new.sink) (c.step.ensures.shape.0 ∙ inv.same) c.step.ensures.shape.1
+    g.D.Disk.fault_count g.D.Disk.fuse_count why c.take_end.new.load.store (g.K.Sink.written c.take_end.new.sink) (left c.step.new.source) (c.step.ensures.shape.0 ∙ inv.same)
+    c.step.ensures.shape.1
     (counts_more g.D.Disk.fault_count g.D.Disk.fuse_count c.args.load.now.store c.lines.load.store c.step.new.load.store c.requires.loading.shape inv.loading.shape inv.same
     inv.counts c.step.ensures.counts)
-    (c.take_end.ensures.stopped why is)
+    (told_stop c.take_end.result why is c.take_end.ensures.stops) (c.take_end.ensures.stopped why is)
 
 pub returns-then-is_ended-clause-shape : goal.returns-then-is_ended-clause-shape
 returns-then-is_ended-clause-shape g c = (c.take_end.ensures.shape.0 ∙ c.step.ensures.shape.0 ∙ c.lines.invariant.same, c.take_end.ensures.shape.1)

@@ -12,7 +12,7 @@ invariant-lines g l = record {
   loading : IsLoading g.D.Disk.Tells g.D.Disk.files l.load;
   same : l.load.store.settings ≡ l.fn.load.store.settings;
   takes : Takes g.D.Disk.Tells g.D.Disk.files l.fn.load 1 (g.S.Source.left l.fn.source) (g.K.Sink.written l.fn.sink) l.load l.number (rest_of (g.S.Source.left l.source) l.script)
-      (g.K.Sink.written l.sink);
+      (g.K.Sink.written l.sink) false;
   counts : KeepsCounts g.D.Disk.fault_count g.D.Disk.fuse_count l.fn.load.store l.load.store;
   first : Held;
   at_first : first.taken ≡ 0;

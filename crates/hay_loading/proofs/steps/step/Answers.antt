@@ -10,7 +10,8 @@ use Rattle.hay_load.specs.Loads.{held_of}
 use Rattle.hay_loading.specs.declared.stops.Stop.{Stop}
 use Rattle.hay_loading.proofs.Reading.{end_makes, line_makes, line_next, none_next, said_end}
 use Rattle.hay_loading.proofs.Taking.{count_line, told_none}
-use Rattle.hay_loading.proofs.Telling.{read_stops}
+use Rattle.hay_loading.proofs.Telling.{read_stops, told_stop}
+use Rattle.hay_loading.proofs.Whole.{never_in, read_broke, whole_line, whole_over}
 use Rattle.hay_loading.proofs.steps.step.Goals as goal
 
 -- NO LINE WAS READ
@@ -24,6 +25,8 @@ returns-in_err-line-clause-stopped g c = λ why is.
     let load = c.args.load.now in
     record {
       groups = [];
+      broke = read_broke c.next_said.result why (rest_of (g.S.Source.left c.args.source.now) c.args.script.now) (g.S.Source.left c.next_said.new.source) same c.next_said.ensures.failed
+          c.next_said.ensures.over;
       next = none_next load.store.settings c.args.number (held_of load.held) (rest_of (g.S.Source.left c.args.source.now) c.args.script.now);
       one = omega arith;
       stops = read_stops g.D.Disk.Tells g.D.Disk.files g.D.Disk.fault_count load.store (g.K.Sink.written c.args.sink.now) c.next_said.result why same c.next_said.ensures.stops
@@ -35,6 +38,9 @@ returns-in_default-clause-takes g c =
     let load = c.args.load.now in
     record {
       groups = [];
+      whole = whole_over load.store.settings c.args.number (held_of load.held) (rest_of (g.S.Source.left c.args.source.now) c.args.script.now)
+          (rest_of (g.S.Source.left c.next_said.new.source) c.next_said.new.script) c.next_said.new.script.ended
+          (rw c.in_default.is at c.in_ok-line.ensures.said);
       makes = end_makes load.store.settings c.args.number (held_of load.held) (rest_of (g.S.Source.left c.args.source.now) c.args.script.now)
           (rest_of (g.S.Source.left c.next_said.new.source) c.next_said.new.script) c.next_said.new.script.ended
           (rw c.in_default.is at c.in_ok-line.ensures.said);
@@ -60,6 +66,7 @@ returns-in_err-take_line-clause-stopped g c = λ why is.
     let says : SaysNext None (Some c.in-Some.line) before after c.next_said.new.script.ended = rw c.in-Some.is at c.in_ok-line.ensures.said in
     record {
       groups = (line_step load.store.settings c.args.number (held_of load.held) c.in-Some.line).groups;
+      broke = never_in why before (g.S.Source.left c.next_said.new.source) (told_stop c.take_line.result why same c.take_line.ensures.stops);
       next = line_next load.store.settings c.args.number (held_of load.held) c.in-Some.line before after c.next_said.new.script.ended says;
       one = count_line load.store.settings c.args.number (held_of load.held) c.in-Some.line;
       stops = c.take_line.ensures.stopped why same;
@@ -73,6 +80,8 @@ returns-clause-takes g c =
     let says : SaysNext None (Some c.in-Some.line) before after c.next_said.new.script.ended = rw c.in-Some.is at c.in_ok-line.ensures.said in
     record {
       groups = (line_step load.store.settings c.args.number (held_of load.held) c.in-Some.line).groups;
+      whole = whole_line load.store.settings c.args.number (held_of load.held) c.in-Some.line (held_of c.take_line.new.load.held) before after c.next_said.new.script.ended says
+          c.in_ok-take_line.ensures.held;
       makes = line_makes load.store.settings c.args.number (held_of load.held) c.in-Some.line before after c.next_said.new.script.ended (held_of c.take_line.new.load.held) says
           c.in_ok-take_line.ensures.held;
       told = c.in_ok-take_line.ensures.told;
