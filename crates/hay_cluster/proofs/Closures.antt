@@ -35,6 +35,8 @@ use Rattle.hay_cluster.specs.Maintenance.{IsRefused, IsReplicaFault, WorkFreezes
 use Rattle.hay_cluster.specs.Opening.{Gathers, OpensParts, OpensVolume}
 use Rattle.hay_cluster.specs.Pending.{PendingLines, RowLeft, pending_of}
 use Rattle.hay_cluster.specs.Puts.{IsPutReply, IsRefusal, settle_reply}
+use Rattle.hay_cluster.specs.Seen as seen
+use Rattle.hay_cluster.specs.Seen.{StoreSeen}
 use Rattle.hay_cluster.specs.Store.{IsShaped, Open}
 use Rattle.hay_cluster.proofs.Machines.{below_next}
 use Rattle.hay_cluster.proofs.Moves.{volume_of, with_directory, with_one}
@@ -181,6 +183,17 @@ module _ (settings : Settings) (closures : Closures) (pending : PendingLines) (v
   pub undrained_opens : IfNone (first_drained settings closures v) (IsOpenTo settings closures pending v)
   undrained_opens = none_then (first_drained settings closures v)
       (none_found (is_drained closures) (machine_of settings v) settings.replicas 0 settings.replicas (omega arith) (λ i low. absurd (omega (arith, low))))
+      (λ none. (thawed, none))
+
+module _ (settings : Settings) (here : StoreSeen) (v : ℕ) (thawed : seen.IsThawed here v) where
+  pub drained_closes_seen : IfSome (find (seen.is_drained here) (map (machine_of settings v) (replicas_of settings))) (seen.Closes settings here v)
+  drained_closes_seen = IfSome_then (find (seen.is_drained here) (map (machine_of settings v) (replicas_of settings)))
+      (first_found (seen.is_drained here) (machine_of settings v) settings.replicas 0 settings.replicas (omega arith) (λ i low. absurd (omega (arith, low))))
+      (λ m is. inr (thawed, record { replica = is.0; within = is.1; machine = is.2; drained = is.3; lowest = is.4 }))
+
+  pub undrained_opens_seen : IfNone (find (seen.is_drained here) (map (machine_of settings v) (replicas_of settings))) (seen.IsOpenTo settings here v)
+  undrained_opens_seen = none_then (find (seen.is_drained here) (map (machine_of settings v) (replicas_of settings)))
+      (none_found (seen.is_drained here) (machine_of settings v) settings.replicas 0 settings.replicas (omega arith) (λ i low. absurd (omega (arith, low))))
       (λ none. (thawed, none))
 
 -- A CALL OF THE DIRECTORY

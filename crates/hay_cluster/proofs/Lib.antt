@@ -27,6 +27,9 @@ pub mod OpeningVolumes
 pub mod Pending
 pub mod Puts
 pub mod Refusals
+pub mod Seeing
+pub mod SeenOpening
+pub mod SeenWork
 pub mod Settling
 pub mod Showing
 pub mod Standing

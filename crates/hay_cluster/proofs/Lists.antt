@@ -96,6 +96,11 @@ set-same [] i d within = refl
 set-same (x' ∷ xs) zero d within = refl
 set-same (x' ∷ xs) (suc i) d within = ap (λ ys. x' ∷ ys) (set-same xs i d (omega arith))
 
+pub set-kept : {A : Type 0} (xs : List A) (i : ℕ) (x : A) → slice_get xs i ≡ Some x → slice_set xs i x ≡ xs
+set-kept [] i x at = refl
+set-kept (y ∷ xs) zero x at = let same : y ≡ x = cc in ap (λ z. z ∷ xs) (sym same)
+set-kept (y ∷ xs) (suc i) x at = ap (λ zs. y ∷ zs) (set-kept xs i x at)
+
 -- LISTS OF LISTS
 
 pub map-append : {A B : Type 0} (f : A → B) (xs ys : List A) → map f (xs ++ ys) ≡ map f xs ++ map f ys

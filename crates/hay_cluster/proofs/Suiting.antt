@@ -83,17 +83,17 @@ room_lack settings v (refusal.Damaged m at) is = absurd is
 room_lack settings v refusal.NoMemory is = absurd is
 
 -- one volume more was tried
-pub one_more_refuses : (settings : Settings) (pair : Pair) (turn v : ℕ) (refused : List Refused) (more : Refused) → v ≡ try_at settings pair turn → Refuses settings v more
-    → AllZip (Refuses settings) (map (try_at settings pair) (range_with_len 0 turn)) refused → AllZip (Refuses settings) (map (try_at settings pair) (range_with_len 0 (turn + 1))) (refused ++ more ∷ [])
-one_more_refuses settings pair turn v refused more is refuses others =
+pub one_more_refuses : (R : ℕ → Refused → Type 0) (settings : Settings) (pair : Pair) (turn v : ℕ) (refused : List Refused) (more : Refused) → v ≡ try_at settings pair turn → R v more
+    → AllZip R (map (try_at settings pair) (range_with_len 0 turn)) refused → AllZip R (map (try_at settings pair) (range_with_len 0 (turn + 1))) (refused ++ more ∷ [])
+one_more_refuses R settings pair turn v refused more is refuses others =
     let next : turn + 1 ≡ suc turn = omega arith in
     let last : 0 + turn ≡ turn = omega arith in
     let t = try_at settings pair in
     let tries : map t (range_with_len 0 (turn + 1)) ≡ map t (range_with_len 0 turn) ++ v ∷ [] =
     ap (λ n. map t (range_with_len 0 n)) next ∙ ap (map t) (range-snoc 0 turn) ∙ map-append t (range_with_len 0 turn) ((0 + turn) ∷ [])
     ∙ ap (λ n. map t (range_with_len 0 turn) ++ t n ∷ []) last ∙ ap (λ u. map t (range_with_len 0 turn) ++ u ∷ []) (sym is) in
-    subst (λ vs. AllZip (Refuses settings) vs (refused ++ more ∷ [])) (sym tries)
-    (AllZip-append (Refuses settings) (map t (range_with_len 0 turn)) (v ∷ []) refused (more ∷ []) others (refuses, tt))
+    subst (λ vs. AllZip R vs (refused ++ more ∷ [])) (sym tries)
+    (AllZip-append R (map t (range_with_len 0 turn)) (v ∷ []) refused (more ∷ []) others (refuses, tt))
 
 pub all_refuse : (settings : Settings) (pair : Pair) (refused : List Refused) → AllZip (Refuses settings) (all_tries settings pair) refused → IsRefusedBy settings pair refused
 all_refuse settings pair refused each = (all_tries settings pair, inl refl, each)

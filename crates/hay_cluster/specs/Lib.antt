@@ -11,6 +11,7 @@ pub mod Parts
 pub mod Pending
 pub mod Puts
 pub mod Reads
+pub mod Seen
 pub mod State
 pub mod Store
 pub mod Suiting

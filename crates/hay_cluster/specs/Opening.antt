@@ -16,6 +16,8 @@ use Rattle.hay_legal.specs.Restarts.{ReopenedVolumes, directory_with, kept_row, 
 use Rattle.hay_directory.specs.declared.mode.Mode.TheVariants as mode
 use Rattle.hay_directory.specs.Notes as noting
 use Rattle.hay_directory.specs.Rows.{OpensRows, journal_super}
+use Rattle.hay_directory.specs.Seen.{directory_seen}
+use Rattle.hay_directory.specs.Seen as open_seen
 use Rattle.hay_directory.specs.State.{State}
 use Rattle.hay_directory.specs.State as directory
 use Rattle.hay_physical.specs.Copies.{Copy, contents_of}
@@ -23,6 +25,7 @@ use Rattle.hay_logical.specs.declared.fault.Unopened.{Unopened}
 use Rattle.hay_logical.specs.Answers.{IsReopened}
 use Rattle.hay_logical.specs.Fits.{At}
 use Rattle.hay_logical.specs.Notes.{NotesTell}
+use Rattle.hay_logical.specs.Seen.{OpenSeen, volume_seen}
 use Rattle.hay_logical.specs.Stands.{IsFirst, IsIdleVolume, Stopped}
 use Rattle.hay_logical.specs.Stands as logical
 use Rattle.hay_logical.specs.Steps.{IsRefusedAt, KeepsDisk}
@@ -81,6 +84,7 @@ pub record OpensVolume {D P : Type 0} (DiskTells : Type 0) (files : D → Files)
   pub fits : AllByRecursion FitsNote notes
   pub settled : new.unsure ≡ None
   pub thawed : new.frozen ≡ None
+  pub seen : OpenSeen (volume_seen new)
   pub formatted : DiskTells → (j : ℕ) (r : Copy D) → At new.replicas j r → contents_of files r.disk 0 ≡ [] → ⊥
 
 -- Volume v was not opened, by one of its disks.
@@ -173,6 +177,7 @@ pub record OpensDirectory {D : Type 0} (DiskTells : Type 0) (files : D → Files
   pub fits : AllByRecursion FitsNote notes
   pub serves : new.mode ≡ mode.Open
   pub undrained : new.drained ≡ replicate (old.settings).machines false
+  pub seen : (rows : List HomeRow) × open_seen.OpenSeen (old.settings).machines rows (directory_seen new)
 
 -- why the Directory was not opened
 abbrev pub RefusesDirectory : {D : Type 0} → Type 0 → (D → Files) → (D → ℕ) → State D → State D → ClusterFault → Type 0

@@ -1,12 +1,10 @@
 -- Which lines left a change or a row pending, whatever the disks tell, and what a restart tells of them.
 use Rattle.std.specs.Prelude.{◌≡◌, ◌≢◌, ◌⊎◌, ◌<◌, ◌+◌, ◌++◌, ℕ, Bool, List, [], ◌∷◌, length, map, replicate, slice_get, slice_set, Option, None, Some, option_map}
-use Rattle.std.specs.List.{AllByRecursion}
 use Rattle.hay_needle.specs.declared.settings.Settings.{Settings}
 use Rattle.hay_script.specs.declared.Command.{Command}
 use Rattle.hay_script.specs.declared.Command.TheVariants as asks
 use Rattle.hay_reply.specs.declared.Note.{Note}
 use Rattle.hay_reply.specs.declared.Reply.{Reply}
-use Rattle.hay_reply.specs.declared.Reply.TheVariants as reply
 use Rattle.hay_reply.specs.declared.Reply.TheVariants.{Failed, FailedDir, NoMem}
 use Rattle.hay_legal.specs.Restarts.{replica_notes, row_note}
 use Rattle.hay_directory.specs.declared.fault.DirFault.{DirFault}

@@ -10,6 +10,7 @@ ghost use Rattle.hay_cluster.specs.Changes.{IsDeleteReply, IsReadOnly};
 ghost use Rattle.hay_cluster.specs.Closing.{Drains, FailureMayClose, MetByChange, closures_of};
 ghost use Rattle.hay_cluster.specs.Leaving.{AnySlot, KeepsIn, LeavesByDelete};
 ghost use Rattle.hay_cluster.specs.Pending.{LeavesDelete, pending_of};
+ghost use Rattle.hay_cluster.specs.Seen.{AnswersDelete, AnswersDrain, AnswersRead, Keeps, store_seen};
 ghost use Rattle.hay_cluster.specs.State.{Answered, Stands};
 ghost use Rattle.hay_cluster.specs.Store.{IsUp, contents_in, disks_of};
 ghost use Rattle.hay_cluster.specs.Suiting.{Suits};
@@ -45,6 +46,7 @@ impl<D: Disk, A: Arm<D::Piece>> Cluster<D, A> {
         ensures pending { LeavesDelete tag.line result (pending_of self.old) (pending_of self.new) }
         ensures met { MetByChange self.old.settings (closures_of self.old) (pending_of self.old) result }
         ensures closures { FailureMayClose result (closures_of self.old) (closures_of self.new) }
+        ensures seen { AnswersDelete self.old.settings tag pair result (store_seen self.old) (store_seen self.new) }
         ensures settings { self.new.settings ≡ self.old.settings }
         ensures up { IsUp self.new }
     {
@@ -81,6 +83,7 @@ impl<D: Disk, A: Arm<D::Piece>> Cluster<D, A> {
         ensures arms { self.new.arms ≡ self.old.arms }
         ensures pending { pending_of self.new ≡ pending_of self.old }
         ensures closures { closures_of self.new ≡ closures_of self.old }
+        ensures seen { AnswersRead pair result (store_seen self.old) (store_seen self.new) }
         ensures settings { self.new.settings ≡ self.old.settings }
         ensures up { IsUp self.new }
     {
@@ -116,6 +119,7 @@ impl<D: Disk, A: Arm<D::Piece>> Cluster<D, A> {
         ensures arms { self.new.arms ≡ self.old.arms }
         ensures pending { pending_of self.new ≡ pending_of self.old }
         ensures closures { Drains machine true (Reply.Drained machine) result (closures_of self.old) (closures_of self.new) }
+        ensures seen { AnswersDrain machine true (Reply.Drained machine) result (store_seen self.old) (store_seen self.new) }
         ensures settings { self.new.settings ≡ self.old.settings }
         ensures up { IsUp self.new }
     {
@@ -142,6 +146,7 @@ impl<D: Disk, A: Arm<D::Piece>> Cluster<D, A> {
         ensures arms { self.new.arms ≡ self.old.arms }
         ensures pending { pending_of self.new ≡ pending_of self.old }
         ensures closures { Drains machine false (Reply.Undrained machine) result (closures_of self.old) (closures_of self.new) }
+        ensures seen { AnswersDrain machine false (Reply.Undrained machine) result (store_seen self.old) (store_seen self.new) }
         ensures settings { self.new.settings ≡ self.old.settings }
         ensures up { IsUp self.new }
     {
@@ -168,6 +173,7 @@ impl<D: Disk, A: Arm<D::Piece>> Cluster<D, A> {
         ensures arms { self.new.arms ≡ self.old.arms }
         ensures pending { pending_of self.new ≡ pending_of self.old }
         ensures closures { closures_of self.new ≡ closures_of self.old }
+        ensures seen { Keeps (store_seen self.old) (store_seen self.new) }
         ensures settings { self.new.settings ≡ self.old.settings }
         ensures up { IsUp self.new }
     {
@@ -198,6 +204,7 @@ impl<D: Disk, A: Arm<D::Piece>> Cluster<D, A> {
         ensures arms { self.new.arms ≡ self.old.arms }
         ensures pending { pending_of self.new ≡ pending_of self.old }
         ensures closures { closures_of self.new ≡ closures_of self.old }
+        ensures seen { Keeps (store_seen self.old) (store_seen self.new) }
         ensures settings { self.new.settings ≡ self.old.settings }
         ensures up { IsUp self.new }
     {

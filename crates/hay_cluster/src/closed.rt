@@ -8,6 +8,8 @@ ghost use Rattle.hay_cluster.specs.Closing.{Closes, IsOpenTo, IsRefusedAs, closu
 ghost use Rattle.hay_cluster.specs.Lacks as lacks;
 ghost use Rattle.hay_cluster.specs.Pending.{pending_of};
 ghost use Rattle.hay_cluster.specs.Puts.{TakesPhoto};
+ghost use Rattle.hay_cluster.specs.Seen as seen;
+ghost use Rattle.hay_cluster.specs.Seen.{RefusesPhoto, TakesPhotoAt, home_seen, store_seen};
 ghost use Rattle.hay_cluster.specs.State.{Stands};
 ghost use Rattle.hay_cluster.specs.Store.{IsBuilt, IsUp};
 ghost use Rattle.hay_cluster.specs.Suiting.{IsOn, Refuses};
@@ -42,6 +44,7 @@ impl<D: Disk, A: Arm<D::Piece>> Cluster<D, A> {
         ensures known { D.Tells → (k : Known) → Stands D.files D.Piece.Tells D.fault_count D.fuse_count A.fault_count self.now k → result ≡ known.home_of k pair }
         ensures within { IfSome result (λ volume. volume < self.now.settings.volumes) }
         ensures homeless { result ≡ None → directory.home_of self.now.directory pair ≡ None }
+        ensures seen { result ≡ home_seen (store_seen self.now) pair }
     {
         self.directory.home(pair)
     }
@@ -66,6 +69,8 @@ impl<D: Disk, A: Arm<D::Piece>> Cluster<D, A> {
         ensures on { IfSome result (IsOn self.now.settings volume) }
         ensures opens { IfNone result (IsOpenTo self.now.settings (closures_of self.now) (pending_of self.now) volume) }
         ensures closes { IfSome result (Closes self.now.settings (closures_of self.now) (pending_of self.now) volume) }
+        ensures opens_seen { IfNone result (seen.IsOpenTo self.now.settings (store_seen self.now) volume) }
+        ensures closes_seen { IfSome result (seen.Closes self.now.settings (store_seen self.now) volume) }
     {
         match self.volumes.as_slice()[volume as usize].frozen() {
             Some(machine) => Some(machine),
@@ -82,6 +87,8 @@ impl<D: Disk, A: Arm<D::Piece>> Cluster<D, A> {
         ensures opens { IfNone result (IsOpenTo self.now.settings (closures_of self.now) (pending_of self.now) volume) }
         ensures refuses { IfSome result (Refuses self.now.settings volume) }
         ensures met { IfSome result (IsRefusedAs self.now.settings (closures_of self.now) (pending_of self.now)) }
+        ensures takes_seen { IfNone result (TakesPhotoAt self.now.settings (store_seen self.now) size volume) }
+        ensures refuses_seen { IfSome result (RefusesPhoto self.now.settings (store_seen self.now) size volume) }
         ensures fits { IfSome result FitsRefused }
     {
         if let Some(machine) = self.closed_by(volume) {

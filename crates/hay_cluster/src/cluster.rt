@@ -8,6 +8,7 @@ ghost use Rattle.hay_cluster.specs.Causes.{BlamesNoArm, IsCaused, LeavesFuses, S
 ghost use Rattle.hay_cluster.specs.Closing.{LeavesClosures, MetClosures, closures_of};
 ghost use Rattle.hay_cluster.specs.Leaving.{LeavesContents};
 ghost use Rattle.hay_cluster.specs.Pending.{LeavesPending, pending_of};
+ghost use Rattle.hay_cluster.specs.Seen.{Answers, store_seen};
 ghost use Rattle.hay_cluster.specs.State.{Answered, Stands};
 ghost use Rattle.hay_cluster.specs.Store.{IsUp, contents_in, disks_of};
 ghost use Rattle.hay_cluster.specs.Suiting.{Suits};
@@ -85,6 +86,8 @@ impl<D: Disk, A: Arm<D::Piece>> Cluster<D, A> {
         // What a reply tells of closed volumes is so, and it is left as the reply tells.
         ensures met { MetClosures self.old.settings command.now (closures_of self.old) (pending_of self.old) result }
         ensures closures { LeavesClosures self.old.settings command.now result (closures_of self.old) (closures_of self.new) }
+        // What it tells of what is seen in memory is so, whatever the disks tell, and what is seen is changed as it tells.
+        ensures seen { Answers self.old.settings tag command.now result (store_seen self.old) (store_seen self.new) }
         ensures settings { self.new.settings ≡ self.old.settings }
         ensures up { IsUp self.new }
     {

@@ -8,6 +8,7 @@ ghost use Rattle.hay_legal.specs.Known.{NoneFalls, machine_of};
 ghost use Rattle.hay_physical.specs.Copies.{Copy};
 ghost use Rattle.hay_logical.specs.Fits.{At};
 ghost use Rattle.hay_logical.specs.Refusals.{IsUntouchedBy};
+ghost use Rattle.hay_logical.specs.Seen.{volume_seen};
 ghost use Rattle.hay_logical.specs.Stands as logical;
 ghost use Rattle.hay_logical.specs.Volumes.{IsOpenVolume, IsSame, KeepsCounts};
 ghost use Rattle.hay_cluster.specs.Causes.{IsCaused, RefusesWork};
@@ -15,6 +16,7 @@ ghost use Rattle.hay_cluster.specs.Closing.{LeavesClosures, MetClosures, closure
 ghost use Rattle.hay_cluster.specs.Leaving.{LeavesByWork};
 ghost use Rattle.hay_cluster.specs.Maintenance.{IsDone, IsRefused, IsRefusedAs, IsReplicaFault, WorkFreezes, command_of, done_as};
 ghost use Rattle.hay_cluster.specs.Pending.{pending_of};
+ghost use Rattle.hay_cluster.specs.Seen.{AnswersWork, WorkRefusedSeen, WorkSeen, store_seen};
 ghost use Rattle.hay_cluster.specs.State.{Answered, Stands};
 ghost use Rattle.hay_cluster.specs.Store.{IsUp, contents_in, disks_of};
 ghost use Rattle.hay_cluster.specs.Suiting.{Suits};
@@ -67,6 +69,7 @@ impl<D: Disk, A: Arm<D::Piece>> Cluster<D, A> {
         ensures pending { pending_of self.new ≡ pending_of self.old }
         ensures met { MetClosures self.old.settings (command_of work volume machine) (closures_of self.old) (pending_of self.old) result }
         ensures closures { LeavesClosures self.old.settings (command_of work volume machine) result (closures_of self.old) (closures_of self.new) }
+        ensures seen { AnswersWork self.old.settings work volume machine result (store_seen self.old) (store_seen self.new) }
         ensures settings { self.new.settings ≡ self.old.settings }
         ensures up { IsUp self.new }
     {
@@ -96,6 +99,8 @@ pub(crate) fn maintain<D: Disk>(
         IfErr result (IsRefused D.files D.Piece.Tells work k replica volume.old volume.new) }
     ensures causes { IfErr result (IsReplicaFault D.fault_count volume.old.settings work volume.old.number replica volume.old.replicas volume.new.replicas) }
     ensures unsure { volume.new.unsure ≡ volume.old.unsure }
+    ensures seen { IfOk result (λ number. WorkSeen work replica number (volume_seen volume.old) (volume_seen volume.new)) }
+    ensures refused_seen { IfErr result (λ fault. WorkRefusedSeen volume.old.settings work volume.old.number replica fault (volume_seen volume.old) (volume_seen volume.new)) }
     // A volume that is frozen refuses, and of the others a flush alone, where the replica's index takes no records.
     ensures frozen { (m : ℕ) → volume.old.frozen ≡ Some m → result ≡ Err (LogicalFault.ReadOnly m) }
     ensures thawed { volume.old.frozen ≡ None → (m : ℕ) → result ≡ Err (LogicalFault.ReadOnly m) →

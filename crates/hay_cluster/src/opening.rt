@@ -21,6 +21,7 @@ ghost use Rattle.hay_cluster.specs.Draws.{DrawsVolume, EachDrewLittle, FlushedDr
 ghost use Rattle.hay_cluster.specs.Outside.{CountsOn, FormatsVoid, IsDamagedDisk, IsKept, IsUndamaged, IsUndamagedBelow, IsVoid, KeepsContents, outside_of, read_of};
 ghost use Rattle.hay_cluster.specs.Opening.{FillsVolume, Gathers, IsResting, IsEmptyVolume, MovesDirectory, MovesVolume, OpensDirectory, OpensParts, OpensVolume, RefusesDirectory, RefusesParts, RefusesVolume, RefusesVolumes, StopsDirectory, StopsVolume};
 ghost use Rattle.hay_cluster.specs.Pending.{TellsPending, none_pending, pending_of};
+ghost use Rattle.hay_cluster.specs.Seen.{OpensSeen, TellsSeen, store_seen};
 ghost use Rattle.hay_cluster.specs.State.{LeftAt, Stands};
 ghost use Rattle.hay_cluster.specs.Store.{IsBuilt, IsShaped, IsUp, IsVolumeOf, contents_in, disks_of, volume_disks};
 
@@ -69,6 +70,7 @@ impl<D: Disk, A: Arm<D::Piece>> Cluster<D, A> {
         ensures up { IfOk result IsUp }
         ensures settled { IfOk result (λ store. pending_of store ≡ none_pending settings) }
         ensures closures { IfOk result (λ store. closures_of store ≡ none_closed settings) }
+        ensures opens { IfOk result (λ store. OpensSeen settings (store_seen store)) }
         ensures counts { IfOk result (λ store. (slot : ℕ) → slot < disk_count settings →
             CountsOn (H.disks shelf.old slot) (slice_index (map D.fault_count (disks_of store)) slot) (slice_index (map D.fuse_count (disks_of store)) slot)) }
         ensures arm_counts { IfOk result (λ store. (lane : ℕ) → lane < 8 →
@@ -123,9 +125,11 @@ impl<D: Disk, A: Arm<D::Piece>> Cluster<D, A> {
             × Stands D.files D.Piece.Tells D.fault_count D.fuse_count A.fault_count self.new t) }
         // Whatever the disks tell, the notes are of what was pending, and nothing is then.
         ensures told { IfOk result (TellsPending self.old.settings (pending_of self.old)) }
+        ensures tells { IfOk result (TellsSeen self.old.settings (store_seen self.old)) }
         ensures fits { IfOk result (AllByRecursion FitsNote) }
         ensures settled { OnOk result (pending_of self.new ≡ none_pending self.old.settings) }
         ensures closures { OnOk result (closures_of self.new ≡ none_closed self.old.settings) }
+        ensures opens { OnOk result (OpensSeen self.old.settings (store_seen self.new)) }
         ensures up { OnOk result (IsUp self.new) }
         // Nothing that it read of a disk is damaged.
         ensures sound { D.Tells → OnOk result (IsUndamaged self.old.settings (contents_in D.files self.new)) }

@@ -7,6 +7,8 @@ ghost use Rattle.hay_legal.specs.declared.known.Known.{Known};
 ghost use Rattle.hay_legal.specs.Known.{NoneFalls, fuse_count, machine_of, slot_of, volume_at, with_home};
 ghost use Rattle.hay_legal.specs.Plain.{row_pending, with_drain, with_fuses};
 ghost use Rattle.hay_logical.specs.Answers.{BreaksPutOff, DeleteRefused, IsDeleted, IsPut, PutRefused};
+ghost use Rattle.hay_logical.specs.Seen.{DeleteRefusedSeen, HideSeen, PutRefusedSeen, StoreSeen as PhotoSeen};
+ghost use Rattle.hay_directory.specs.Seen.{DrainSeen, SettleRefusedSeen, SettleSeen};
 ghost use Rattle.hay_directory.specs.State as directory;
 ghost use Rattle.hay_cluster.specs.Causes.{IsDeleteCause, IsPutCause, IsReplicaCause, RoseIn, SetsFuse};
 ghost use Rattle.hay_cluster.specs.Closing.{FailureFroze, IsFrozenBy, IsThawed, PutFroze, closures_of, with_drained};
@@ -15,6 +17,7 @@ ghost use Rattle.hay_cluster.specs.Maintenance.{IsDone, IsRefused, WorkFroze, Wo
 ghost use Rattle.hay_cluster.specs.Parts.{Comes, InVolume};
 ghost use Rattle.hay_cluster.specs.Puts.{TakesPhoto};
 ghost use Rattle.hay_cluster.specs.Pending.{DeleteLeft, PutLeft, RowLeft, pending_of};
+ghost use Rattle.hay_cluster.specs.Seen.{Keeps, MovesDirectory, MovesVolume, WorkRefusedSeen, WorkSeen, store_seen};
 ghost use Rattle.hay_cluster.specs.State.{Stands};
 ghost use Rattle.hay_cluster.specs.Store.{IsUp, contents_in, disks_of};
 
@@ -56,6 +59,9 @@ impl<D: Disk, A: Arm<D::Piece>> Cluster<D, A> {
         ensures done_closures { OnOk result (closures_of self.new ≡ closures_of self.old) }
         ensures refused_closures { IfErr result (PutFroze self.old.settings volume (closures_of self.old) (closures_of self.new)) }
         ensures refused_pending { IfErr result (PutLeft tag.line volume (pending_of self.old) (pending_of self.new)) }
+        ensures seen { IfOk result (λ position. MovesVolume volume (PhotoSeen (length bytes.now) position) (store_seen self.old) (store_seen self.new)) }
+        ensures refused_seen { IfErr result (λ fault. MovesVolume volume
+            (λ before after. PutRefusedSeen self.old.settings volume tag (length bytes.now) before after fault) (store_seen self.old) (store_seen self.new)) }
         ensures settings { self.new.settings ≡ self.old.settings }
         ensures up { IsUp self.new }
     {
@@ -88,6 +94,8 @@ impl<D: Disk, A: Arm<D::Piece>> Cluster<D, A> {
         ensures refused_closures { IfErr result (FailureFroze volume (closures_of self.old) (closures_of self.new)) }
         ensures thawed { IsThawed (closures_of self.old) (pending_of self.old) volume → (m : ℕ) → result ≡ Err (LogicalFault.ReadOnly m) → ⊥ }
         ensures refused_pending { IfErr result (DeleteLeft tag.line volume (pending_of self.old) (pending_of self.new)) }
+        ensures seen { IfOk result (λ position. MovesVolume volume (HideSeen position) (store_seen self.old) (store_seen self.new)) }
+        ensures refused_seen { IfErr result (λ fault. MovesVolume volume (λ before after. DeleteRefusedSeen tag pair before after fault) (store_seen self.old) (store_seen self.new)) }
         ensures settings { self.new.settings ≡ self.old.settings }
         ensures up { IsUp self.new }
     {
@@ -115,6 +123,8 @@ impl<D: Disk, A: Arm<D::Piece>> Cluster<D, A> {
         ensures others { LeavesIn (IsApart self.old.settings volume replica) (disks_of self.old) (disks_of self.new) }
         ensures arms { self.new.arms ≡ self.old.arms }
         ensures pending { pending_of self.new ≡ pending_of self.old }
+        ensures seen { IfOk result (λ number. MovesVolume volume (WorkSeen work replica number) (store_seen self.old) (store_seen self.new)) }
+        ensures refused_seen { IfErr result (λ fault. MovesVolume volume (WorkRefusedSeen self.old.settings work volume replica fault) (store_seen self.old) (store_seen self.new)) }
         ensures done_closures { OnOk result (closures_of self.new ≡ closures_of self.old) }
         ensures refused_closures { IfErr result (WorkFroze work volume (closures_of self.old) (closures_of self.new)) }
         ensures met { ((m : ℕ) × IsFrozenBy (closures_of self.old) volume m × (result ≡ Err (LogicalFault.ReadOnly m)))
@@ -146,6 +156,7 @@ impl<D: Disk, A: Arm<D::Piece>> Cluster<D, A> {
         ensures arms { self.new.arms ≡ self.old.arms }
         ensures pending { pending_of self.new ≡ pending_of self.old }
         ensures closures { closures_of self.new ≡ closures_of self.old }
+        ensures seen { Keeps (store_seen self.old) (store_seen self.new) }
         ensures settings { self.new.settings ≡ self.old.settings }
         ensures up { IsUp self.new }
     {
@@ -177,6 +188,8 @@ impl<D: Disk, A: Arm<D::Piece>> Cluster<D, A> {
         ensures closures { closures_of self.new ≡ closures_of self.old }
         ensures rows { D.Tells → AddsRow self.old.settings pair (contents_in D.files self.old 0) (contents_in D.files self.new 0) }
         ensures refused_pending { IfErr result (RowLeft tag.line (pending_of self.old) (pending_of self.new)) }
+        ensures seen { OnOk result (MovesDirectory (SettleSeen pair volume) (store_seen self.old) (store_seen self.new)) }
+        ensures refused_seen { IfErr result (λ fault. MovesDirectory (λ before after. SettleRefusedSeen tag pair volume before after fault) (store_seen self.old) (store_seen self.new)) }
         ensures settings { self.new.settings ≡ self.old.settings }
         ensures up { IsUp self.new }
     {
@@ -194,6 +207,7 @@ impl<D: Disk, A: Arm<D::Piece>> Cluster<D, A> {
         ensures arms { self.new.arms ≡ self.old.arms }
         ensures pending { pending_of self.new ≡ pending_of self.old }
         ensures closures { closures_of self.new ≡ with_drained machine is_drained (closures_of self.old) }
+        ensures seen { MovesDirectory (DrainSeen machine is_drained) (store_seen self.old) (store_seen self.new) }
         ensures settings { self.new.settings ≡ self.old.settings }
         ensures up { IsUp self.new }
     {
@@ -215,6 +229,7 @@ impl<D: Disk, A: Arm<D::Piece>> Cluster<D, A> {
         ensures arms { self.new.arms ≡ self.old.arms }
         ensures pending { pending_of self.new ≡ pending_of self.old }
         ensures closures { closures_of self.new ≡ closures_of self.old }
+        ensures seen { Keeps (store_seen self.old) (store_seen self.new) }
         ensures settings { self.new.settings ≡ self.old.settings }
         ensures up { IsUp self.new }
     {

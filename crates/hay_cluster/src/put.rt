@@ -13,6 +13,7 @@ ghost use Rattle.hay_cluster.specs.Leaving.{IsBeside, LeavesByPut, LeavesIn, Lea
 ghost use Rattle.hay_cluster.specs.Pending.{LeavesPut, pending_of};
 ghost use Rattle.hay_cluster.specs.Puts as puts;
 ghost use Rattle.hay_cluster.specs.Puts.{IsPutReply, IsRefusal, IsTried, StoredAs, TakesPhoto};
+ghost use Rattle.hay_cluster.specs.Seen.{AnswersPut, IsTaker, PutsAt, RefusesPhoto, store_seen};
 ghost use Rattle.hay_cluster.specs.State.{Answered, Stands};
 ghost use Rattle.hay_cluster.specs.Store.{IsUp, contents_in, disks_of};
 ghost use Rattle.hay_cluster.specs.Suiting.{Refuses, Suits};
@@ -56,6 +57,7 @@ impl<D: Disk, A: Arm<D::Piece>> Cluster<D, A> {
         ensures pending { LeavesPut self.old.settings tag.line result (pending_of self.old) (pending_of self.new) }
         ensures met { MetByChange self.old.settings (closures_of self.old) (pending_of self.old) result }
         ensures closures { PutCloses self.old.settings result (closures_of self.old) (closures_of self.new) }
+        ensures seen { AnswersPut self.old.settings tag pair (length bytes.now) result (store_seen self.old) (store_seen self.new) }
         ensures settings { self.new.settings ≡ self.old.settings }
         ensures up { IsUp self.new }
     {
@@ -82,6 +84,9 @@ impl<D: Disk, A: Arm<D::Piece>> Cluster<D, A> {
         ensures refused { (refused : List Refused) → result ≡ Ok (Tried.Nobody refused) → AllZip (Refuses self.now.settings) (all_tries self.now.settings pair) refused }
         ensures fits { (refused : List Refused) → result ≡ Ok (Tried.Nobody refused) → AllByRecursion FitsRefused refused }
         ensures met { (refused : List Refused) → result ≡ Ok (Tried.Nobody refused) → AllByRecursion (IsRefusedAs self.now.settings (closures_of self.now) (pending_of self.now)) refused }
+        ensures seen { (volume : ℕ) → result ≡ Ok (Tried.Taker volume) → IsTaker self.now.settings (store_seen self.now) pair size volume }
+        ensures refused_seen { (refused : List Refused) → result ≡ Ok (Tried.Nobody refused) →
+            AllZip (RefusesPhoto self.now.settings (store_seen self.now) size) (all_tries self.now.settings pair) refused }
     {
         let mut refused = Listed::new(alloc);
         for turn in 0..self.settings.volumes {
@@ -111,6 +116,9 @@ impl<D: Disk, A: Arm<D::Piece>> Cluster<D, A> {
         requires refused { (refused : List Refused) → tried ≡ Tried.Nobody refused → AllZip (Refuses self.old.settings) (all_tries self.old.settings pair) refused }
         requires fits { (refused : List Refused) → tried ≡ Tried.Nobody refused → AllByRecursion FitsRefused refused }
         requires met { (refused : List Refused) → tried ≡ Tried.Nobody refused → AllByRecursion (IsRefusedAs self.old.settings (closures_of self.old) (pending_of self.old)) refused }
+        requires seen { (volume : ℕ) → tried ≡ Tried.Taker volume → IsTaker self.old.settings (store_seen self.old) pair (length bytes.now) volume }
+        requires refused_seen { (refused : List Refused) → tried ≡ Tried.Nobody refused →
+            AllZip (RefusesPhoto self.old.settings (store_seen self.old) (length bytes.now)) (all_tries self.old.settings pair) refused }
         requires up { IsUp self.old }
         ensures legal { D.Tells → (k : Known) → Stands D.files D.Piece.Tells D.fault_count D.fuse_count A.fault_count self.old k → home_of k pair ≡ None →
             IsTried self.old.settings k pair (length bytes.now) tried →
@@ -127,6 +135,7 @@ impl<D: Disk, A: Arm<D::Piece>> Cluster<D, A> {
         ensures pending { LeavesPut self.old.settings tag.line result (pending_of self.old) (pending_of self.new) }
         ensures met { MetByChange self.old.settings (closures_of self.old) (pending_of self.old) result }
         ensures closures { PutCloses self.old.settings result (closures_of self.old) (closures_of self.new) }
+        ensures seen { AnswersPut self.old.settings tag pair (length bytes.now) result (store_seen self.old) (store_seen self.new) }
         ensures settings { self.new.settings ≡ self.old.settings }
         ensures up { IsUp self.new }
     {
@@ -149,6 +158,7 @@ impl<D: Disk, A: Arm<D::Piece>> Cluster<D, A> {
         requires volume { volume < self.old.settings.volumes }
         requires takes { TakesPhoto self.old volume (length bytes.now) }
         requires opens { IsOpenTo self.old.settings (closures_of self.old) (pending_of self.old) volume }
+        requires seen { IsTaker self.old.settings (store_seen self.old) pair (length bytes.now) volume }
         requires homeless { directory.home_of self.old.directory pair ≡ None }
         requires up { IsUp self.old }
         ensures legal { D.Tells → (k : Known) → Stands D.files D.Piece.Tells D.fault_count D.fuse_count A.fault_count self.old k →
@@ -165,6 +175,7 @@ impl<D: Disk, A: Arm<D::Piece>> Cluster<D, A> {
         ensures pending { LeavesPut self.old.settings tag.line result (pending_of self.old) (pending_of self.new) }
         ensures met { MetByChange self.old.settings (closures_of self.old) (pending_of self.old) result }
         ensures closures { PutCloses self.old.settings result (closures_of self.old) (closures_of self.new) }
+        ensures seen { AnswersPut self.old.settings tag pair (length bytes.now) result (store_seen self.old) (store_seen self.new) }
         ensures settings { self.new.settings ≡ self.old.settings }
         ensures up { IsUp self.new }
     {
@@ -205,6 +216,7 @@ impl<D: Disk, A: Arm<D::Piece>> Cluster<D, A> {
         ensures pending { LeavesPut self.old.settings tag.line result (pending_of self.old) (pending_of self.new) }
         ensures met { MetByChange self.old.settings (closures_of self.old) (pending_of self.old) result }
         ensures closures { PutCloses self.old.settings result (closures_of self.old) (closures_of self.new) }
+        ensures seen { PutsAt self.old.settings tag (length bytes.now) volume result (store_seen self.old) (store_seen self.new) }
         ensures settings { self.new.settings ≡ self.old.settings }
         ensures up { IsUp self.new }
     {

@@ -16,6 +16,7 @@ ghost use Rattle.hay_cluster.specs.Closing.{closures_of};
 ghost use Rattle.hay_cluster.specs.Leaving.{AnySlot, KeepsIn};
 ghost use Rattle.hay_cluster.specs.Parts.{Comes};
 ghost use Rattle.hay_cluster.specs.Pending.{pending_of};
+ghost use Rattle.hay_cluster.specs.Seen.{Shows, VolumeAt, home_seen, store_seen};
 ghost use Rattle.hay_cluster.specs.State.{Answered, Stands};
 ghost use Rattle.hay_cluster.specs.Store.{IsBuilt, IsUp, contents_in, disks_of};
 ghost use Rattle.hay_cluster.specs.Suiting.{ShowsFrom, Suits};
@@ -73,6 +74,8 @@ impl<D: Disk, A: Arm<D::Piece>> Cluster<D, A> {
         ensures arm_counts { NoneFalls (map A.fault_count self.old.arms) (map A.fault_count self.new.arms) }
         ensures pending { pending_of self.new ≡ pending_of self.old }
         ensures closures { closures_of self.new ≡ closures_of self.old }
+        ensures seen { store_seen self.new ≡ store_seen self.old }
+        ensures shows { Shows (store_seen self.old) pair result }
         ensures settings { self.new.settings ≡ self.old.settings }
         ensures up { IsUp self.new }
     {
@@ -102,6 +105,8 @@ impl<D: Disk, A: Arm<D::Piece>> Cluster<D, A> {
         ensures arm_counts { NoneFalls (map A.fault_count self.old.arms) (map A.fault_count self.new.arms) }
         ensures pending { pending_of self.new ≡ pending_of self.old }
         ensures closures { closures_of self.new ≡ closures_of self.old }
+        ensures seen { store_seen self.new ≡ store_seen self.old }
+        ensures shows { Shows (store_seen self.old) url.now.pair result }
         ensures settings { self.new.settings ≡ self.old.settings }
         ensures up { IsUp self.new }
     {
@@ -133,6 +138,7 @@ impl<D: Disk, A: Arm<D::Piece>> Cluster<D, A> {
         requires lane { tag.lane < 8 }
         requires volume { volume < self.old.settings.volumes }
         requires start { start < self.old.settings.replicas }
+        requires home { home_seen (store_seen self.old) pair ≡ Some volume }
         requires up { IsUp self.old }
         ensures shown { D.Tells → (k : Known) → Stands D.files D.Piece.Tells D.fault_count D.fuse_count A.fault_count self.old k → home_of k pair ≡ Some volume →
             ShownAs D.files D.Piece.Tells D.fault_count D.fuse_count A.fault_count self.old.settings k tag start pair cookie result self.new }
@@ -149,6 +155,8 @@ impl<D: Disk, A: Arm<D::Piece>> Cluster<D, A> {
         ensures arm_counts { NoneFalls (map A.fault_count self.old.arms) (map A.fault_count self.new.arms) }
         ensures pending { pending_of self.new ≡ pending_of self.old }
         ensures closures { closures_of self.new ≡ closures_of self.old }
+        ensures seen { store_seen self.new ≡ store_seen self.old }
+        ensures shows { Shows (store_seen self.old) pair result }
         ensures settings { self.new.settings ≡ self.old.settings }
         ensures up { IsUp self.new }
     {
@@ -224,6 +232,8 @@ impl<D: Disk, A: Arm<D::Piece>> Cluster<D, A> {
         ensures arm_counts { NoneFalls (map A.fault_count self.old.arms) (map A.fault_count self.new.arms) }
         ensures pending { pending_of self.new ≡ pending_of self.old }
         ensures closures { closures_of self.new ≡ closures_of self.old }
+        ensures seen { store_seen self.new ≡ store_seen self.old }
+        ensures front { VolumeAt volume (λ seen. result.0 ≡ seen.front) (store_seen self.old) }
         ensures settings { self.new.settings ≡ self.old.settings }
         ensures up { IsUp self.new }
     {
@@ -272,6 +282,8 @@ impl<D: Disk, A: Arm<D::Piece>> Cluster<D, A> {
         ensures arm_counts { NoneFalls (map A.fault_count self.old.arms) (map A.fault_count self.new.arms) }
         ensures pending { pending_of self.new ≡ pending_of self.old }
         ensures closures { closures_of self.new ≡ closures_of self.old }
+        ensures seen { store_seen self.new ≡ store_seen self.old }
+        ensures front { VolumeAt volume (λ seen. result.0 ≡ seen.front) (store_seen self.old) }
         ensures settings { self.new.settings ≡ self.old.settings }
         ensures up { IsUp self.new }
     {
@@ -324,6 +336,7 @@ impl<D: Disk, A: Arm<D::Piece>> Cluster<D, A> {
         ensures arm_counts { NoneFalls (map A.fault_count self.old.arms) (map A.fault_count self.new.arms) }
         ensures pending { pending_of self.new ≡ pending_of self.old }
         ensures closures { closures_of self.new ≡ closures_of self.old }
+        ensures seen { store_seen self.new ≡ store_seen self.old }
         ensures settings { self.new.settings ≡ self.old.settings }
         ensures up { IsUp self.new }
     {
@@ -405,6 +418,7 @@ impl<D: Disk, A: Arm<D::Piece>> Cluster<D, A> {
         ensures arm_counts { NoneFalls (map A.fault_count self.old.arms) (map A.fault_count self.new.arms) }
         ensures pending { pending_of self.new ≡ pending_of self.old }
         ensures closures { closures_of self.new ≡ closures_of self.old }
+        ensures seen { store_seen self.new ≡ store_seen self.old }
         ensures settings { self.new.settings ≡ self.old.settings }
         ensures up { IsUp self.new }
     {
@@ -450,6 +464,7 @@ impl<D: Disk, A: Arm<D::Piece>> Cluster<D, A> {
         ensures arms { self.new.arms ≡ self.old.arms }
         ensures pending { pending_of self.new ≡ pending_of self.old }
         ensures closures { closures_of self.new ≡ closures_of self.old }
+        ensures seen { store_seen self.new ≡ store_seen self.old }
         ensures settings { self.new.settings ≡ self.old.settings }
         ensures up { IsUp self.new }
     {
@@ -490,6 +505,7 @@ impl<D: Disk, A: Arm<D::Piece>> Cluster<D, A> {
         ensures arms { self.new.arms ≡ self.old.arms }
         ensures pending { pending_of self.new ≡ pending_of self.old }
         ensures closures { closures_of self.new ≡ closures_of self.old }
+        ensures unchanged { store_seen self.new ≡ store_seen self.old }
         ensures settings { self.new.settings ≡ self.old.settings }
         ensures up { IsUp self.new }
     {

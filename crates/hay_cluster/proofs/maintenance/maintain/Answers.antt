@@ -1,10 +1,14 @@
-use Rattle.std.proofs.Common.{◌≡◌, ℕ, None, Some, refl, sym, ap, subst, ◌∙◌, arith}
+use Rattle.std.proofs.Common.{◌≡◌, None, Some, refl, sym, ap, subst, ◌∙◌, arith}
 use Rattle.std.specs.Prelude.{Err, IfErr, Ok, OnOk, Result}
 use Rattle.hay_physical.specs.Copies.{Copy}
 use Rattle.hay_logical.specs.Volumes.{Volume}
 use Rattle.hay_cluster.specs.declared.maintenance.Maintenance.{Maintenance}
 use Rattle.hay_cluster.specs.Maintenance.{WorkFreezes}
 use Rattle.hay_cluster.proofs.Closures.{frozen_cause, frozen_freezes, frozen_refused}
+use Rattle.std.specs.Prelude.{IfOk}
+use Rattle.hay_logical.specs.Seen.{volume_seen}
+use Rattle.hay_cluster.specs.Seen.{RefusesWork, WorkSeen}
+use Rattle.hay_cluster.proofs.SeenWork.{frozen_refused_seen, on_ok_if, thawed_refused_seen}
 use Rattle.hay_cluster.proofs.maintenance.maintain.Goals as goal
 
 some_none : {X : Type 0} {x : X} → Some x ≡ None → ⊥
@@ -138,3 +142,51 @@ returns-in-Compact-clause-thawed g c = λ none m is. absurd (c.compact.ensures.t
 pub returns-in-Compact-clause-freezes : goal.returns-in-Compact-clause-freezes
 returns-in-Compact-clause-freezes g c =
     subst (λ (work : Maintenance). IfErr c.compact.result (WorkFreezes work (c.args.volume.now).frozen (c.compact.new.self).frozen)) (sym c.in-Compact.is) c.compact.ensures.freezes
+
+pub returns-in-Some-clause-refused_seen : goal.returns-in-Some-clause-refused_seen
+returns-in-Some-clause-refused_seen g c = frozen_refused_seen (c.args.volume.now).settings c.args.work (c.args.volume.now).number c.args.replica c.in-Some.machine (volume_seen c.args.volume.now) (sym c.frozen.ensures.is ∙ c.in-Some.is)
+
+pub returns-in-Flush-clause-seen : goal.returns-in-Flush-clause-seen
+returns-in-Flush-clause-seen g c =
+    subst (λ (work : Maintenance). IfOk c.flush.result (λ number. WorkSeen work c.args.replica number (volume_seen c.args.volume.now) (volume_seen c.flush.new.self))) (sym c.in-Flush.is) (on_ok_if c.flush.result _ c.flush.ensures.seen)
+
+pub returns-in-Flush-clause-refused_seen : goal.returns-in-Flush-clause-refused_seen
+returns-in-Flush-clause-refused_seen g c =
+    thawed_refused_seen (c.args.volume.now).settings c.args.work (c.args.volume.now).number c.args.replica (volume_seen c.args.volume.now) (volume_seen c.flush.new.self) c.flush.result (sym c.frozen.ensures.is ∙ c.in_default.is)
+    (subst (λ (work : Maintenance). IfErr c.flush.result (λ fault. RefusesWork (c.args.volume.now).settings work (c.args.volume.now).number c.args.replica fault (volume_seen c.args.volume.now) (volume_seen c.flush.new.self))) (sym c.in-Flush.is) c.flush.ensures.refused_seen)
+
+pub returns-in-Begin-clause-seen : goal.returns-in-Begin-clause-seen
+returns-in-Begin-clause-seen g c =
+    subst (λ (work : Maintenance). IfOk c.begin.result (λ number. WorkSeen work c.args.replica number (volume_seen c.args.volume.now) (volume_seen c.begin.new.self))) (sym c.in-Begin.is) c.begin.ensures.seen
+
+pub returns-in-Begin-clause-refused_seen : goal.returns-in-Begin-clause-refused_seen
+returns-in-Begin-clause-refused_seen g c =
+    thawed_refused_seen (c.args.volume.now).settings c.args.work (c.args.volume.now).number c.args.replica (volume_seen c.args.volume.now) (volume_seen c.begin.new.self) c.begin.result (sym c.frozen.ensures.is ∙ c.in_default.is)
+    (subst (λ (work : Maintenance). IfErr c.begin.result (λ fault. RefusesWork (c.args.volume.now).settings work (c.args.volume.now).number c.args.replica fault (volume_seen c.args.volume.now) (volume_seen c.begin.new.self))) (sym c.in-Begin.is) c.begin.ensures.refused_seen)
+
+pub returns-in-Step-clause-seen : goal.returns-in-Step-clause-seen
+returns-in-Step-clause-seen g c =
+    subst (λ (work : Maintenance). IfOk c.step.result (λ number. WorkSeen work c.args.replica number (volume_seen c.args.volume.now) (volume_seen c.step.new.self))) (sym c.in-Step.is) c.step.ensures.seen
+
+pub returns-in-Step-clause-refused_seen : goal.returns-in-Step-clause-refused_seen
+returns-in-Step-clause-refused_seen g c =
+    thawed_refused_seen (c.args.volume.now).settings c.args.work (c.args.volume.now).number c.args.replica (volume_seen c.args.volume.now) (volume_seen c.step.new.self) c.step.result (sym c.frozen.ensures.is ∙ c.in_default.is)
+    (subst (λ (work : Maintenance). IfErr c.step.result (λ fault. RefusesWork (c.args.volume.now).settings work (c.args.volume.now).number c.args.replica fault (volume_seen c.args.volume.now) (volume_seen c.step.new.self))) (sym c.in-Step.is) c.step.ensures.refused_seen)
+
+pub returns-in-Finish-clause-seen : goal.returns-in-Finish-clause-seen
+returns-in-Finish-clause-seen g c =
+    subst (λ (work : Maintenance). IfOk c.finish.result (λ number. WorkSeen work c.args.replica number (volume_seen c.args.volume.now) (volume_seen c.finish.new.self))) (sym c.in-Finish.is) c.finish.ensures.seen
+
+pub returns-in-Finish-clause-refused_seen : goal.returns-in-Finish-clause-refused_seen
+returns-in-Finish-clause-refused_seen g c =
+    thawed_refused_seen (c.args.volume.now).settings c.args.work (c.args.volume.now).number c.args.replica (volume_seen c.args.volume.now) (volume_seen c.finish.new.self) c.finish.result (sym c.frozen.ensures.is ∙ c.in_default.is)
+    (subst (λ (work : Maintenance). IfErr c.finish.result (λ fault. RefusesWork (c.args.volume.now).settings work (c.args.volume.now).number c.args.replica fault (volume_seen c.args.volume.now) (volume_seen c.finish.new.self))) (sym c.in-Finish.is) c.finish.ensures.refused_seen)
+
+pub returns-in-Compact-clause-seen : goal.returns-in-Compact-clause-seen
+returns-in-Compact-clause-seen g c =
+    subst (λ (work : Maintenance). IfOk c.compact.result (λ number. WorkSeen work c.args.replica number (volume_seen c.args.volume.now) (volume_seen c.compact.new.self))) (sym c.in-Compact.is) c.compact.ensures.seen
+
+pub returns-in-Compact-clause-refused_seen : goal.returns-in-Compact-clause-refused_seen
+returns-in-Compact-clause-refused_seen g c =
+    thawed_refused_seen (c.args.volume.now).settings c.args.work (c.args.volume.now).number c.args.replica (volume_seen c.args.volume.now) (volume_seen c.compact.new.self) c.compact.result (sym c.frozen.ensures.is ∙ c.in_default.is)
+    (subst (λ (work : Maintenance). IfErr c.compact.result (λ fault. RefusesWork (c.args.volume.now).settings work (c.args.volume.now).number c.args.replica fault (volume_seen c.args.volume.now) (volume_seen c.compact.new.self))) (sym c.in-Compact.is) c.compact.ensures.refused_seen)

@@ -22,6 +22,7 @@ returns-in-Ok-clause-opened g c =
       fits = e.fits;
       serves = e.serves;
       undrained = e.undrained;
+      seen = (map home_row c.in-Ok.opened.rows.items, e.seen);
     }
 
 pub returns-in-Ok-clause-moves : goal.returns-in-Ok-clause-moves

@@ -55,6 +55,7 @@ returns-in_ok-append-in-Ok-clause-opened g c =
         fits = e.fits;
         settled = e.settled;
         thawed = e.thawed;
+        seen = e.seen;
         formatted = e.formatted;
       },
     )

@@ -1,4 +1,4 @@
-use Rattle.std.proofs.Common.{sym, subst}
+use Rattle.std.proofs.Common.{ℕ, List, length, sym, subst}
 use Rattle.hay_script.specs.declared.Command.{Command}
 use Rattle.hay_cluster.specs.Suiting.{Suits}
 use Rattle.hay_cluster.proofs.Answering.{same_falls}
@@ -8,6 +8,8 @@ use Rattle.hay_cluster.specs.Leaving.{LeavesContents}
 use Rattle.hay_cluster.specs.Store.{contents_in}
 use Rattle.hay_cluster.proofs.Leaving.{same_contents}
 use Rattle.hay_cluster.specs.Closing.{LeavesClosures, MetClosures, closures_of}
+use Rattle.hay_cluster.specs.Seen.{Answers, AnswersPut, store_seen}
+use Rattle.hay_cluster.proofs.SeenWork.{reads_seen}
 use Rattle.hay_cluster.proofs.cluster.Cluster.answer.Goals as goal
 
 pub returns-in-Drain-clause-causes : goal.returns-in-Drain-clause-causes
@@ -376,3 +378,47 @@ returns-in-FuseDir-clause-met g c = subst (λ (asked : Command). MetClosures (c.
 
 pub returns-in-FuseDir-clause-closures : goal.returns-in-FuseDir-clause-closures
 returns-in-FuseDir-clause-closures g c = subst (λ (asked : Command). LeavesClosures (c.args.self.now).settings asked c.fuse_dir.result (closures_of c.args.self.now) (closures_of c.fuse_dir.new.self)) (sym c.in-FuseDir.is) c.fuse_dir.ensures.closures
+
+pub returns-in-Put-clause-seen : goal.returns-in-Put-clause-seen
+returns-in-Put-clause-seen g c =
+    subst (λ (asked : Command). Answers (c.args.self.now).settings c.args.tag asked c.put.result (store_seen c.args.self.now) (store_seen c.put.new.self)) (sym c.in-Put.is)
+    (subst (λ (photo : List ℕ). AnswersPut (c.args.self.now).settings c.args.tag c.in-Put.pair (length photo) c.put.result (store_seen c.args.self.now) (store_seen c.put.new.self)) c.as_slice.ensures c.put.ensures.seen)
+
+pub returns-in-Read-clause-seen : goal.returns-in-Read-clause-seen
+returns-in-Read-clause-seen g c = subst (λ (asked : Command). Answers (c.args.self.now).settings c.args.tag asked c.read.result (store_seen c.args.self.now) (store_seen c.read.new.self)) (sym c.in-Read.is) (reads_seen c.in-Read.pair c.read.result _ _ c.read.ensures.seen c.read.ensures.shows)
+
+pub returns-in-Get-clause-seen : goal.returns-in-Get-clause-seen
+returns-in-Get-clause-seen g c = subst (λ (asked : Command). Answers (c.args.self.now).settings c.args.tag asked c.get.result (store_seen c.args.self.now) (store_seen c.get.new.self)) (sym c.in-Get.is) (reads_seen (c.in-Get.url).pair c.get.result _ _ c.get.ensures.seen c.get.ensures.shows)
+
+pub returns-in-Del-clause-seen : goal.returns-in-Del-clause-seen
+returns-in-Del-clause-seen g c = subst (λ (asked : Command). Answers (c.args.self.now).settings c.args.tag asked c.delete.result (store_seen c.args.self.now) (store_seen c.delete.new.self)) (sym c.in-Del.is) c.delete.ensures.seen
+
+pub returns-in-Url-clause-seen : goal.returns-in-Url-clause-seen
+returns-in-Url-clause-seen g c = subst (λ (asked : Command). Answers (c.args.self.now).settings c.args.tag asked c.url.result (store_seen c.args.self.now) (store_seen c.url.new.self)) (sym c.in-Url.is) c.url.ensures.seen
+
+pub returns-in-Flush-clause-seen : goal.returns-in-Flush-clause-seen
+returns-in-Flush-clause-seen g c = subst (λ (asked : Command). Answers (c.args.self.now).settings c.args.tag asked c.maintain.result (store_seen c.args.self.now) (store_seen c.maintain.new.self)) (sym c.in-Flush.is) c.maintain.ensures.seen
+
+pub returns-in-Begin-clause-seen : goal.returns-in-Begin-clause-seen
+returns-in-Begin-clause-seen g c = subst (λ (asked : Command). Answers (c.args.self.now).settings c.args.tag asked c.maintain-in-Begin.result (store_seen c.args.self.now) (store_seen c.maintain-in-Begin.new.self)) (sym c.in-Begin.is) c.maintain-in-Begin.ensures.seen
+
+pub returns-in-Step-clause-seen : goal.returns-in-Step-clause-seen
+returns-in-Step-clause-seen g c = subst (λ (asked : Command). Answers (c.args.self.now).settings c.args.tag asked c.maintain-in-Step.result (store_seen c.args.self.now) (store_seen c.maintain-in-Step.new.self)) (sym c.in-Step.is) c.maintain-in-Step.ensures.seen
+
+pub returns-in-Finish-clause-seen : goal.returns-in-Finish-clause-seen
+returns-in-Finish-clause-seen g c = subst (λ (asked : Command). Answers (c.args.self.now).settings c.args.tag asked c.maintain-in-Finish.result (store_seen c.args.self.now) (store_seen c.maintain-in-Finish.new.self)) (sym c.in-Finish.is) c.maintain-in-Finish.ensures.seen
+
+pub returns-in-Compact-clause-seen : goal.returns-in-Compact-clause-seen
+returns-in-Compact-clause-seen g c = subst (λ (asked : Command). Answers (c.args.self.now).settings c.args.tag asked c.maintain-in-Compact.result (store_seen c.args.self.now) (store_seen c.maintain-in-Compact.new.self)) (sym c.in-Compact.is) c.maintain-in-Compact.ensures.seen
+
+pub returns-in-Drain-clause-seen : goal.returns-in-Drain-clause-seen
+returns-in-Drain-clause-seen g c = subst (λ (asked : Command). Answers (c.args.self.now).settings c.args.tag asked c.drain.result (store_seen c.args.self.now) (store_seen c.drain.new.self)) (sym c.in-Drain.is) c.drain.ensures.seen
+
+pub returns-in-Undrain-clause-seen : goal.returns-in-Undrain-clause-seen
+returns-in-Undrain-clause-seen g c = subst (λ (asked : Command). Answers (c.args.self.now).settings c.args.tag asked c.undrain.result (store_seen c.args.self.now) (store_seen c.undrain.new.self)) (sym c.in-Undrain.is) c.undrain.ensures.seen
+
+pub returns-in-Fuse-clause-seen : goal.returns-in-Fuse-clause-seen
+returns-in-Fuse-clause-seen g c = subst (λ (asked : Command). Answers (c.args.self.now).settings c.args.tag asked c.fuse.result (store_seen c.args.self.now) (store_seen c.fuse.new.self)) (sym c.in-Fuse.is) c.fuse.ensures.seen
+
+pub returns-in-FuseDir-clause-seen : goal.returns-in-FuseDir-clause-seen
+returns-in-FuseDir-clause-seen g c = subst (λ (asked : Command). Answers (c.args.self.now).settings c.args.tag asked c.fuse_dir.result (store_seen c.args.self.now) (store_seen c.fuse_dir.new.self)) (sym c.in-FuseDir.is) c.fuse_dir.ensures.seen

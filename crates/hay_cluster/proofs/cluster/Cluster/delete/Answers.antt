@@ -12,6 +12,8 @@ use Rattle.hay_cluster.specs.Leaving.{AnySlot, IsBeside}
 use Rattle.hay_cluster.proofs.Leaving.{delete_leaves, keeps-all, leaves_contents}
 use Rattle.hay_cluster.specs.Closing.{closures_of}
 use Rattle.hay_cluster.proofs.Closures.{delete_closes, delete_met, read_only_met}
+use Rattle.hay_cluster.specs.Seen.{store_seen}
+use Rattle.hay_cluster.proofs.Seeing.{closed_seen, keeps_all, undeleted_seen}
 use Rattle.hay_cluster.proofs.cluster.Cluster.delete.Goals as goal
 
 pub returns-in-Ok-clause-legal : goal.returns-in-Ok-clause-legal
@@ -105,3 +107,21 @@ pub returns-clause-closures : goal.returns-clause-closures
 returns-clause-closures g c =
     delete_closes c.in-Some.volume c.rows-in-Err.result (closures_of c.args.self.now) (closures_of c.delete_in.new.self) c.in-Err.fault c.delete_refusal.result c.delete_refusal.ensures.is
     (IfErr-at_err _ c.in-Err.is c.delete_in.ensures.refused_closures)
+
+pub returns-in_default-clause-seen : goal.returns-in_default-clause-seen
+returns-in_default-clause-seen g c = (keeps_all (store_seen c.args.self.now), sym c.home.ensures.seen ∙ c.in_default.is, c.rows.ensures.count)
+
+pub returns-in-Some-closed_by-clause-seen : goal.returns-in-Some-closed_by-clause-seen
+returns-in-Some-closed_by-clause-seen g c =
+    closed_seen (c.args.self.now).settings c.args.tag c.args.pair c.in-Some.volume c.in-Some-closed_by.machine c.read_only.result (store_seen c.args.self.now) c.read_only.ensures.is
+    (sym c.home.ensures.seen ∙ c.in-Some.is) (c.in-Some-closed_by.ensures).closes_seen
+
+pub returns-in-Ok-clause-seen : goal.returns-in-Ok-clause-seen
+returns-in-Ok-clause-seen g c =
+    let moves = IfOk-at_ok _ c.in-Ok.is c.delete_in.ensures.seen in
+    ((sym c.home.ensures.seen ∙ c.in-Some.is, (c.in_default-closed_by.ensures).opens_seen), moves, c.rows-in-Ok.ensures.count ∙ (moves.directory).rows)
+
+pub returns-clause-seen : goal.returns-clause-seen
+returns-clause-seen g c =
+    undeleted_seen (c.args.self.now).settings c.args.tag c.args.pair c.in-Some.volume c.rows-in-Err.result c.delete_refusal.result (store_seen c.args.self.now) (store_seen c.delete_in.new.self)
+    (sym c.home.ensures.seen ∙ c.in-Some.is, (c.in_default-closed_by.ensures).opens_seen) c.rows-in-Err.ensures.count c.in-Err.fault c.delete_refusal.ensures.is (IfErr-at_err _ c.in-Err.is c.delete_in.ensures.refused_seen)

@@ -31,6 +31,7 @@ loop-init g c = record {
   contents = λ tells. same_contents g.D.Disk.files (c.args.self.now).settings c.args.self.now c.read_first-front.new.self c.read_first-front.ensures.disks;
   pending = c.read_first-front.ensures.pending;
   closures = c.read_first-front.ensures.closures;
+  seen = c.read_first-front.ensures.seen;
   arm_counts = c.read_first-front.ensures.arm_counts;
   settings = c.read_first-front.ensures.settings;
   up = c.read_first-front.ensures.up;
@@ -140,6 +141,7 @@ loop-preserved g c =
           (same_contents g.D.Disk.files (c.args.self.now).settings c.see_or_pass.new.self c.read_more-read.new.self c.read_more-read.ensures.disks);
       pending = c.read_more-read.ensures.pending ∙ c.see_or_pass.ensures.pending ∙ inv.pending;
       closures = c.read_more-read.ensures.closures ∙ c.see_or_pass.ensures.closures ∙ inv.closures;
+      seen = c.read_more-read.ensures.seen ∙ c.see_or_pass.ensures.seen ∙ inv.seen;
       arm_counts = falls_trans (map g.A.Arm.fault_count (c.args.self.now).arms) (map g.A.Arm.fault_count (c.see_or_pass.new.self).arms) (map g.A.Arm.fault_count (c.read_more-read.new.self).arms) arms c.read_more-read.ensures.arm_counts;
       settings = c.read_more-read.ensures.settings ∙ same;
       up = c.read_more-read.ensures.up;

@@ -13,6 +13,7 @@ use Rattle.hay_cluster.specs.Leaving.{AnySlot, KeepsIn}
 use Rattle.hay_cluster.specs.Parts.{Comes}
 use Rattle.hay_cluster.specs.Closing.{closures_of}
 use Rattle.hay_cluster.specs.Pending.{pending_of}
+use Rattle.hay_cluster.specs.Seen.{store_seen}
 use Rattle.hay_cluster.specs.State.{Stands}
 use Rattle.hay_cluster.specs.Store.{IsUp, contents_in, disks_of}
 use Rattle.hay_cluster.proofs.cluster.Cluster.fetch.Given as goal
@@ -34,6 +35,7 @@ invariant-loop g l = record {
   contents : g.D.Disk.Tells → KeepsIn l.fn.self.settings AnySlot (contents_in g.D.Disk.files l.fn.self) (contents_in g.D.Disk.files l.self);
   pending : pending_of l.self ≡ pending_of l.fn.self;
   closures : closures_of l.self ≡ closures_of l.fn.self;
+  seen : store_seen l.self ≡ store_seen l.fn.self;
   arm_counts : NoneFalls (map g.A.Arm.fault_count l.fn.self.arms) (map g.A.Arm.fault_count l.self.arms);
   settings : l.self.settings ≡ l.fn.self.settings;
   up : IsUp l.self;

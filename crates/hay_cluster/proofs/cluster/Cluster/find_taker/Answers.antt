@@ -11,6 +11,8 @@ use Rattle.hay_cluster.specs.Pending.{pending_of}
 use Rattle.hay_cluster.specs.Suiting.{Refuses}
 use Rattle.hay_cluster.proofs.Fitting.{all_snoc}
 use Rattle.hay_cluster.proofs.Suiting.{one_more_refuses}
+use Rattle.hay_cluster.specs.Seen.{IsTaker, RefusesPhoto, store_seen}
+use Rattle.hay_cluster.proofs.Seeing.{is_taker}
 use Rattle.hay_cluster.proofs.cluster.Cluster.find_taker.Goals as goal
 
 pub returns-in-None-clause-known : goal.returns-in-None-clause-known
@@ -32,10 +34,16 @@ loop-turn-preserved g c = record {
   refuses =
       let same = ap (λ (st : Open g.row.D.Denot g.row.D-Piece.Denot g.row.A.Denot). st.settings) c.self.view_is in
       subst (λ (rs : List Refused). AllZip (Refuses (c.args.self.now).settings) (map (try_at (c.args.self.now).settings c.args.pair) (range_with_len 0 (c.loop-turn.turn + 1))) rs) (sym (c.in_ok-push-in-Some.ensures).ok)
-      (one_more_refuses (c.args.self.now).settings c.args.pair c.loop-turn.turn c.tries-volume.result c.loop-turn.refused c.in-Some.refusal
+      (one_more_refuses (Refuses (c.args.self.now).settings) (c.args.self.now).settings c.args.pair c.loop-turn.turn c.tries-volume.result c.loop-turn.refused c.in-Some.refusal
       (c.tries-volume.ensures.is c.args.pair refl ∙ ap (λ (s : Settings). try_at s c.args.pair c.loop-turn.turn) same) (c.in-Some.ensures).refuses c.loop-turn.invariant.refuses);
   fits = subst (λ (rs : List Refused). AllByRecursion FitsRefused rs) (sym (c.in_ok-push-in-Some.ensures).ok) (all_snoc FitsRefused c.loop-turn.refused c.in-Some.refusal c.loop-turn.invariant.fits (c.in-Some.ensures).fits);
   met = subst (λ (rs : List Refused). AllByRecursion (IsRefusedAs (c.args.self.now).settings (closures_of c.args.self.now) (pending_of c.args.self.now)) rs) (sym (c.in_ok-push-in-Some.ensures).ok) (all_snoc (IsRefusedAs (c.args.self.now).settings (closures_of c.args.self.now) (pending_of c.args.self.now)) c.loop-turn.refused c.in-Some.refusal c.loop-turn.invariant.met (c.in-Some.ensures).met);
+  seen =
+      let same = ap (λ (st : Open g.row.D.Denot g.row.D-Piece.Denot g.row.A.Denot). st.settings) c.self.view_is in
+      let R = RefusesPhoto (c.args.self.now).settings (store_seen c.args.self.now) c.args.size in
+      subst (λ (rs : List Refused). AllZip R (map (try_at (c.args.self.now).settings c.args.pair) (range_with_len 0 (c.loop-turn.turn + 1))) rs) (sym (c.in_ok-push-in-Some.ensures).ok)
+      (one_more_refuses R (c.args.self.now).settings c.args.pair c.loop-turn.turn c.tries-volume.result c.loop-turn.refused c.in-Some.refusal
+      (c.tries-volume.ensures.is c.args.pair refl ∙ ap (λ (s : Settings). try_at s c.args.pair c.loop-turn.turn) same) (c.in-Some.ensures).refuses_seen c.loop-turn.invariant.seen);
 }
 
 pub returns-clause-refused : goal.returns-clause-refused
@@ -55,3 +63,21 @@ pub returns-clause-met : goal.returns-clause-met
 returns-clause-met g c = λ refused is.
     let these : c.loop-turn.refused ≡ refused = cc in
     subst (λ (rs : List Refused). AllByRecursion (IsRefusedAs (c.args.self.now).settings (closures_of c.args.self.now) (pending_of c.args.self.now)) rs) these c.loop-turn.invariant.met
+
+pub returns-in-None-clause-seen : goal.returns-in-None-clause-seen
+returns-in-None-clause-seen g c = λ volume is.
+    let same = ap (λ (st : Open g.row.D.Denot g.row.D-Piece.Denot g.row.A.Denot). st.settings) c.self.view_is in
+    let this : c.tries-volume.result ≡ volume = cc in
+    subst (λ v. IsTaker (c.args.self.now).settings (store_seen c.args.self.now) c.args.pair c.args.size v) this
+    (is_taker (c.args.self.now).settings (store_seen c.args.self.now) c.args.pair c.args.size c.loop-turn.turn c.tries-volume.result c.loop-turn.refused
+    (let volumes = ap (λ (s : Settings). s.volumes) same in omega (arith, volumes, c.loop-turn-test.true))
+    (c.tries-volume.ensures.is c.args.pair refl ∙ ap (λ (s : Settings). try_at s c.args.pair c.loop-turn.turn) same) c.loop-turn.invariant.seen (c.in-None.ensures).takes_seen)
+
+pub returns-clause-refused_seen : goal.returns-clause-refused_seen
+returns-clause-refused_seen g c = λ refused is.
+    let same = ap (λ (st : Open g.row.D.Denot g.row.D-Piece.Denot g.row.A.Denot). st.settings) c.self.view_is in
+    let all : c.loop-turn.turn ≡ (c.args.self.now).settings.volumes = let volumes = ap (λ (s : Settings). s.volumes) same in omega (arith, volumes, c.loop-turn-test.false, c.loop-turn.auto.turn-end) in
+    let these : c.loop-turn.refused ≡ refused = cc in
+    let R = RefusesPhoto (c.args.self.now).settings (store_seen c.args.self.now) c.args.size in
+    subst (λ (rs : List Refused). AllZip R (all_tries (c.args.self.now).settings c.args.pair) rs) these
+    (subst (λ n. AllZip R (map (try_at (c.args.self.now).settings c.args.pair) (range_with_len 0 n)) c.loop-turn.refused) all c.loop-turn.invariant.seen)

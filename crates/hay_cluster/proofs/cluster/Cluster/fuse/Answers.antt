@@ -6,6 +6,8 @@ use Rattle.hay_legal.specs.Plain.{LegalFuse, OnReplica}
 use Rattle.hay_cluster.specs.Store.{Open}
 use Rattle.hay_cluster.proofs.Answering.{answered, sets_on}
 use Rattle.hay_cluster.proofs.Suiting.{fuses_none, fuses_one}
+use Rattle.hay_cluster.specs.Seen.{store_seen}
+use Rattle.hay_cluster.proofs.Seeing.{keeps_all}
 use Rattle.hay_cluster.proofs.cluster.Cluster.fuse.Goals as goal
 
 pub returns-clause-legal : goal.returns-clause-legal
@@ -37,3 +39,6 @@ returns-clause-suits g c = λ line.
     let same = ap (λ (st : Open g.row.D.Denot g.row.D-Piece.Denot g.row.A.Denot). st.settings) c.self.view_is in
     fuses_one (replica_on (c.args.self.now).settings c.args.volume c.args.machine) c.in-Some.replica (reply.Fused c.args.volume c.args.machine c.args.calls)
     (ap (λ (s : Settings). replica_on s c.args.volume c.args.machine) (sym same) ∙ sym c.replica_on.ensures.is ∙ c.in-Some.is)
+
+pub returns-in_default-clause-seen : goal.returns-in_default-clause-seen
+returns-in_default-clause-seen g c = keeps_all (store_seen c.args.self.now)

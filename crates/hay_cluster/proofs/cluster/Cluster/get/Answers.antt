@@ -109,3 +109,12 @@ returns-clause-suits g c =
           (inr (inr (subst (λ v. ShowsFrom (c.args.self.now).settings c.in-Some.start v c.show.result) c.if-volume-url.false shows)))
       | inr none ↦ at_no_memory _ (SuitsGet (c.args.self.now).settings c.args.url.now) c.in-Some.start c.show.result there none
     ]
+
+pub returns-in_default-home-clause-shows : goal.returns-in_default-home-clause-shows
+returns-in_default-home-clause-shows g c = (sym c.home.ensures.seen ∙ c.in_default-home.is, c.rows.ensures.count)
+
+pub returns-then-volume-url-clause-shows : goal.returns-then-volume-url-clause-shows
+returns-then-volume-url-clause-shows g c = (sym c.home.ensures.seen ∙ c.in-Some-home.is, c.rows-then-volume-url.ensures.count)
+
+pub show-requires-clause-home : goal.show-requires-clause-home
+show-requires-clause-home g c = sym c.home.ensures.seen ∙ c.in-Some-home.is

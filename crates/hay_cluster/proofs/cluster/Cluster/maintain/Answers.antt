@@ -15,6 +15,8 @@ use Rattle.hay_cluster.proofs.Leaving.{done_leaves, keeps-all, leaves-fewer, lea
 use Rattle.hay_cluster.specs.Closing.{closures_of}
 use Rattle.hay_cluster.specs.Pending.{pending_of}
 use Rattle.hay_cluster.proofs.Closures.{done_thawed, refused_met, work_closes, work_done, work_leaves, work_met, work_nowhere}
+use Rattle.hay_cluster.specs.Seen.{store_seen}
+use Rattle.hay_cluster.proofs.Seeing.{keeps_all}
 use Rattle.hay_cluster.proofs.cluster.Cluster.maintain.Goals as goal
 
 pub returns-in_default-clause-legal : goal.returns-in_default-clause-legal
@@ -123,3 +125,22 @@ pub returns-in-Err-clause-closures : goal.returns-in-Err-clause-closures
 returns-in-Err-clause-closures g c =
     work_closes (c.args.self.now).settings c.args.volume c.args.machine (closures_of c.args.self.now) (closures_of c.maintain_in.new.self) c.args.work c.in-Err.fault c.refused.result c.refused.ensures.is
     (IfErr-at_err _ c.in-Err.is c.maintain_in.ensures.refused_closures)
+
+pub returns-in_default-clause-seen : goal.returns-in_default-clause-seen
+returns-in_default-clause-seen g c =
+    let same = ap (λ (st : Open g.row.D.Denot g.row.D-Piece.Denot g.row.A.Denot). st.settings) c.self.view_is in
+    inl (ap (λ (s : Settings). replica_on s c.args.volume c.args.machine) (sym same) ∙ sym c.replica_on.ensures.is ∙ c.in_default.is, refl, keeps_all (store_seen c.args.self.now))
+
+pub returns-in-Ok-clause-seen : goal.returns-in-Ok-clause-seen
+returns-in-Ok-clause-seen g c =
+    let same = ap (λ (st : Open g.row.D.Denot g.row.D-Piece.Denot g.row.A.Denot). st.settings) c.self.view_is in
+    let there : replica_on (c.args.self.now).settings c.args.volume c.args.machine ≡ Some c.in-Some.replica =
+    ap (λ (s : Settings). replica_on s c.args.volume c.args.machine) (sym same) ∙ sym c.replica_on.ensures.is ∙ c.in-Some.is in
+    inr (inl (c.in-Some.replica, c.in-Ok.number, there, c.done.ensures.is, IfOk-at_ok _ c.in-Ok.is c.maintain_in.ensures.seen))
+
+pub returns-in-Err-clause-seen : goal.returns-in-Err-clause-seen
+returns-in-Err-clause-seen g c =
+    let same = ap (λ (st : Open g.row.D.Denot g.row.D-Piece.Denot g.row.A.Denot). st.settings) c.self.view_is in
+    let there : replica_on (c.args.self.now).settings c.args.volume c.args.machine ≡ Some c.in-Some.replica =
+    ap (λ (s : Settings). replica_on s c.args.volume c.args.machine) (sym same) ∙ sym c.replica_on.ensures.is ∙ c.in-Some.is in
+    inr (inr (c.in-Some.replica, c.in-Err.fault, there, c.refused.ensures.is, IfErr-at_err _ c.in-Err.is c.maintain_in.ensures.refused_seen))

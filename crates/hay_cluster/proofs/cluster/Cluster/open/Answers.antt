@@ -17,6 +17,7 @@ use Rattle.hay_cluster.proofs.OpeningTaken.{IsTakingFault, back_arm, back_counts
 use Rattle.hay_cluster.proofs.OpeningVoid.{back_contents, back_kept, contents_stay, formats_void}
 use Rattle.hay_cluster.proofs.Pending.{opened_settled}
 use Rattle.hay_cluster.proofs.Closures.{opened_closures}
+use Rattle.hay_cluster.proofs.SeenOpening.{opens_seen}
 use Rattle.hay_cluster.proofs.cluster.Cluster.open.Goals as goal
 
 pub assemble-cluster-requires : goal.assemble-cluster-requires
@@ -318,3 +319,8 @@ returns-in-Ok-clause-formatted g c = λ tells.
     let moved : MovedParts g.D.Disk.Tells g.D.Disk.files g.D.Piece.Piece.Tells g.D.Disk.fault_count g.D.Disk.fuse_count g.A.Arm.fault_count c.assemble-cluster.result c.open_parts.new.self = record { settings = c.open_parts.ensures.settings; arms = c.open_parts.ensures.arms; directory = c.open_parts.ensures.directory; volumes = c.open_parts.ensures.volumes } in
     formats_void g.D.Disk.Tells g.D.Disk.files g.D.Piece.Piece.Tells g.D.Disk.fault_count g.D.Disk.fuse_count g.A.Arm.fault_count g.D.Disk.drawn g.A.Arm.is_sure (g.H.Shelf.disks c.args.shelf.now) (g.H.Shelf.arms c.args.shelf.now) tells (λ disk n. g.met.D.Disk.may_leave_now disk n tells)
     c.args.settings c.assemble-cluster.result c.open_parts.new.self c.in-Ok._notes c.assemble-cluster.ensures.settings taken moved c.in-Ok.ensures.opened
+
+pub returns-in-Ok-clause-opens : goal.returns-in-Ok-clause-opens
+returns-in-Ok-clause-opens g c =
+    opens_seen g.D.Disk.Tells g.D.Disk.files g.D.Piece.Piece.Tells g.D.Disk.fault_count g.D.Disk.fuse_count c.args.settings c.assemble-cluster.result c.open_parts.new.self c.in-Ok._notes c.assemble-cluster.ensures.settings
+    (c.open_parts.ensures.settings ∙ c.assemble-cluster.ensures.settings) c.assemble-cluster.ensures.shape c.open_parts.ensures.shape c.in-Ok.ensures.opened

@@ -1,4 +1,6 @@
-use Rattle.std.proofs.Common.{map, sym, ◌∙◌, refl, inl, ◌∷◌, [], ap, inr, Ok}
+use Rattle.std.proofs.Common.{ℕ, Option, length, map, sym, ◌∙◌, refl, inl, ◌∷◌, [], ap, inr, subst, Ok}
+use Rattle.std.specs.List.{AllZip}
+use Rattle.hay_legal.specs.Known.{tries_by}
 use Rattle.hay_cluster.specs.Store.{contents_in, disks_of}
 use Rattle.hay_cluster.proofs.Answering.{answered, stays}
 use Rattle.hay_cluster.proofs.Moves.{none_falls}
@@ -9,6 +11,8 @@ use Rattle.hay_cluster.proofs.Pending.{refusal_no_failure}
 use Rattle.hay_cluster.specs.Closing.{closures_of}
 use Rattle.hay_cluster.proofs.Closures.{refusal_met}
 use Rattle.hay_cluster.proofs.Leaving.{first_contents, nothing_put}
+use Rattle.hay_cluster.specs.Seen.{IsTurnedAside, RefusesPhoto, store_seen}
+use Rattle.hay_cluster.proofs.Seeing.{keeps_all, put_seen, turned_seen}
 use Rattle.hay_cluster.proofs.cluster.Cluster.put.Goals as goal
 
 pub returns-in-Err-clause-legal : goal.returns-in-Err-clause-legal
@@ -72,3 +76,28 @@ returns-in-None-clause-contents g c = λ tells. record {
 
 pub put_tried-requires-clause-opens : goal.put_tried-requires-clause-opens
 put_tried-requires-clause-opens g c = λ volume is. c.find_taker.ensures.opens volume (c.in-Ok.is ∙ ap Ok is)
+
+pub put_tried-requires-clause-seen : goal.put_tried-requires-clause-seen
+put_tried-requires-clause-seen g c = λ volume is. c.find_taker.ensures.seen volume (c.in-Ok.is ∙ ap Ok is)
+
+pub put_tried-requires-clause-refused_seen : goal.put_tried-requires-clause-refused_seen
+put_tried-requires-clause-refused_seen g c = λ refused is. c.find_taker.ensures.refused_seen refused (c.in-Ok.is ∙ ap Ok is)
+
+pub returns-in-Err-clause-seen : goal.returns-in-Err-clause-seen
+returns-in-Err-clause-seen g c = inl (keeps_all (store_seen c.args.self.now))
+
+pub returns-in-Some-refusal-clause-seen : goal.returns-in-Some-refusal-clause-seen
+returns-in-Some-refusal-clause-seen g c =
+    let settings = (c.args.self.now).settings in
+    let seen = store_seen c.args.self.now in
+    let size = length c.args.bytes.now in
+    let home = sym c.home.ensures.seen ∙ c.in-Some.is in
+    let turned : IsTurnedAside settings seen c.args.pair size (c.in-Some-refusal.refused ∷ []) =
+    subst (λ (o : Option ℕ). AllZip (RefusesPhoto settings seen size) (tries_by settings c.args.pair o) (c.in-Some-refusal.refused ∷ [])) (sym home) ((c.in-Some-refusal.ensures).refuses_seen, tt) in
+    turned_seen settings c.args.tag c.args.pair size (c.in-Some-refusal.refused ∷ []) c.refuse_one.result seen c.refuse_one.ensures.is turned
+
+pub returns-in-None-clause-seen : goal.returns-in-None-clause-seen
+returns-in-None-clause-seen g c =
+    let seen = store_seen c.args.self.now in
+    put_seen (c.args.self.now).settings c.args.tag c.args.pair (length c.args.bytes.now) c.in-Some.volume c.put_at.result seen seen (store_seen c.put_at.new.self)
+    (inl (sym c.home.ensures.seen ∙ c.in-Some.is, (c.in-None.ensures).takes_seen, keeps_all seen)) c.put_at.ensures.seen

@@ -1,4 +1,4 @@
-use Rattle.std.proofs.Common.{map, refl, ap, ◌∙◌, inl, inr}
+use Rattle.std.proofs.Common.{length, map, refl, ap, ◌∙◌, inl, inr}
 use Rattle.std.proofs.lemmas.Result.{IfErr-at_err, IfOk-at_ok}
 use Rattle.hay_url.specs.Url.{cookie_of}
 use Rattle.hay_cluster.specs.Store.{Open, contents_in, disks_of}
@@ -13,6 +13,8 @@ use Rattle.hay_cluster.specs.Leaving.{IsBeside, IsReplicaBeside}
 use Rattle.hay_cluster.proofs.Leaving.{leaves-fewer, leaves_contents, put_adds, put_leaves}
 use Rattle.hay_cluster.specs.Closing.{closures_of}
 use Rattle.hay_cluster.proofs.Closures.{put_closes, put_met}
+use Rattle.hay_cluster.specs.Seen.{store_seen}
+use Rattle.hay_cluster.proofs.Seeing.{unstored_seen}
 use Rattle.hay_cluster.proofs.cluster.Cluster.put_at.Goals as goal
 
 pub returns-in-Err-clause-stored : goal.returns-in-Err-clause-stored
@@ -77,3 +79,11 @@ pub returns-in-Err-clause-closures : goal.returns-in-Err-clause-closures
 returns-in-Err-clause-closures g c =
     put_closes (c.args.self.now).settings c.args.volume (closures_of c.args.self.now) (closures_of c.put_in.new.self) c.in-Err.fault c.put_refusal.result c.requires.volume c.put_refusal.ensures.is
     (IfErr-at_err _ c.in-Err.is c.put_in.ensures.refused_closures)
+
+pub returns-in-Ok-clause-seen : goal.returns-in-Ok-clause-seen
+returns-in-Ok-clause-seen g c = inl (c.in-Ok.position, c.rows.result, c.cookie_of-cookie.result, refl, IfOk-at_ok _ c.in-Ok.is c.put_in.ensures.seen, c.rows.ensures.count)
+
+pub returns-in-Err-clause-seen : goal.returns-in-Err-clause-seen
+returns-in-Err-clause-seen g c =
+    unstored_seen (c.args.self.now).settings c.args.tag c.args.pair (length c.args.bytes.now) c.args.volume c.in-Err.fault c.put_refusal.result (store_seen c.args.self.now) (store_seen c.put_in.new.self)
+    c.put_refusal.ensures.is (IfErr-at_err _ c.in-Err.is (c.put_in.ensures.takes c.requires.takes)) (IfErr-at_err _ c.in-Err.is c.put_in.ensures.refused_seen)

@@ -1,7 +1,7 @@
 use Rattle.std.proofs.Common.{◌≡◌, ◌<◌, List, ap, length, sym, subst, ◌∙◌, arith, ℕ, Option}
 use Rattle.std.specs.Prelude.{Result, Ok, Err, IfErr, slice_index_or, slice_set, OnErr}
 use Rattle.std.proofs.lemmas.List.{with_items_is}
-use Rattle.std.proofs.lemmas.Result.{IfErr-weaker, on_ok_weaker}
+use Rattle.std.proofs.lemmas.Result.{IfErr-weaker, IfOk-weaker, on_ok_weaker}
 use borrow.Author.Rules.{scaled_Fits}
 use Rattle.hay_logical.specs.Fits.{At}
 use Rattle.hay_logical.specs.Volumes.{Volume}
@@ -23,6 +23,9 @@ use Rattle.hay_logical.specs.Notes.{IsBrokenOff, PutLeavesUnsure}
 use Rattle.hay_logical.specs.Steps.{KeepsFiles}
 use Rattle.hay_cluster.specs.Pending.{PendingLines, pending_of}
 use Rattle.hay_cluster.proofs.Closures.{closures_kept, put_froze}
+use Rattle.hay_logical.specs.Seen.{PutRefusedSeen, StoreSeen as PhotoSeen, volume_seen}
+use Rattle.hay_cluster.proofs.Moves.{volume_of}
+use Rattle.hay_cluster.proofs.Seeing.{volume_moves}
 use Rattle.hay_cluster.proofs.cluster.Cluster.put_in.Goals as goal
 
 refused_keeps : {T : Type 0} (settings : Settings) (v : ℕ) (pending pending' : PendingLines) (old new : ℕ → Contents) (tag : CoreTag) (before after : Option Unsure) (Kept : Type 0) (r : Result T LogicalFault)
@@ -202,3 +205,32 @@ returns-clause-refused_closures g c =
     let items = with_items_is c.self.inside.volumes (slice_set c.as_mut_slice.result.now c.args.volume c.put.new.self) (length-set c.as_mut_slice.result.now c.args.volume c.put.new.self ∙ c.as_mut_slice.ensures.len)
     ∙ ap (λ (vs : List (Volume g.row.D.Denot g.row.D-Piece.Denot)). slice_set vs c.args.volume c.put.new.self) c.as_mut_slice.ensures.value in
     rw items (IfErr-weaker c.put.result _ _ (put_froze c.args.self.now store c.args.volume volume c.self.view_is at c.self.invariant c.put.new.self) c.put.ensures.freezes)
+
+pub returns-clause-seen : goal.returns-clause-seen
+returns-clause-seen g c =
+    let store : Open g.row.D.Denot g.row.D-Piece.Denot g.row.A.Denot = record { settings = c.self.inside.settings; directory = c.self.inside.directory; volumes = c.self.inside.volumes.items; arms = c.self.inside.seats.items } in
+    let within : c.args.volume < length c.self.inside.volumes.items = let same = ap (λ (st : Open g.row.D.Denot g.row.D-Piece.Denot g.row.A.Denot). (st.settings).volumes) c.self.view_is in omega (arith, c.requires.volume, c.self.invariant.many, same) in
+    let volume : Volume g.row.D.Denot g.row.D-Piece.Denot = slice_index_or c.as_mut_slice.result.now c.args.volume c.index-as_mut_slice-volume.result in
+    let at : At store.volumes c.args.volume volume = subst (λ (vs : List (Volume g.row.D.Denot g.row.D-Piece.Denot)). At vs c.args.volume volume) c.as_mut_slice.ensures.value
+    (at_read c.as_mut_slice.result.now c.args.volume c.index-as_mut_slice-volume.result (let long = ap length c.as_mut_slice.ensures.value in omega (arith, within, long))) in
+    let items = with_items_is c.self.inside.volumes (slice_set c.as_mut_slice.result.now c.args.volume c.put.new.self) (length-set c.as_mut_slice.result.now c.args.volume c.put.new.self ∙ c.as_mut_slice.ensures.len)
+    ∙ ap (λ (vs : List (Volume g.row.D.Denot g.row.D-Piece.Denot)). slice_set vs c.args.volume c.put.new.self) c.as_mut_slice.ensures.value in
+    rw items
+    (IfOk-weaker c.put.result _ _ (λ position moves. volume_moves c.args.self.now store c.self.view_is c.args.volume volume c.put.new.self (PhotoSeen (length c.args.bytes.now) position) at moves) c.put.ensures.seen)
+
+pub returns-clause-refused_seen : goal.returns-clause-refused_seen
+returns-clause-refused_seen g c =
+    let store : Open g.row.D.Denot g.row.D-Piece.Denot g.row.A.Denot = record { settings = c.self.inside.settings; directory = c.self.inside.directory; volumes = c.self.inside.volumes.items; arms = c.self.inside.seats.items } in
+    let within : c.args.volume < length c.self.inside.volumes.items = let same = ap (λ (st : Open g.row.D.Denot g.row.D-Piece.Denot g.row.A.Denot). (st.settings).volumes) c.self.view_is in omega (arith, c.requires.volume, c.self.invariant.many, same) in
+    let volume : Volume g.row.D.Denot g.row.D-Piece.Denot = slice_index_or c.as_mut_slice.result.now c.args.volume c.index-as_mut_slice-volume.result in
+    let at : At store.volumes c.args.volume volume = subst (λ (vs : List (Volume g.row.D.Denot g.row.D-Piece.Denot)). At vs c.args.volume volume) c.as_mut_slice.ensures.value
+    (at_read c.as_mut_slice.result.now c.args.volume c.index-as_mut_slice-volume.result (let long = ap length c.as_mut_slice.ensures.value in omega (arith, within, long))) in
+    let items = with_items_is c.self.inside.volumes (slice_set c.as_mut_slice.result.now c.args.volume c.put.new.self) (length-set c.as_mut_slice.result.now c.args.volume c.put.new.self ∙ c.as_mut_slice.ensures.len)
+    ∙ ap (λ (vs : List (Volume g.row.D.Denot g.row.D-Piece.Denot)). slice_set vs c.args.volume c.put.new.self) c.as_mut_slice.ensures.value in
+    let was = volume_of store c.args.volume volume c.self.invariant at in
+    let same = was.settings_are ∙ ap (λ (st : Open g.row.D.Denot g.row.D-Piece.Denot g.row.A.Denot). st.settings) c.self.view_is in
+    let Refused : Settings → ℕ → LogicalFault → Type 0 = λ s n fault. PutRefusedSeen s n c.args.tag (length c.args.bytes.now) (volume_seen volume) (volume_seen c.put.new.self) fault in
+    rw items
+    (IfErr-weaker c.put.result _ _ (λ fault moves. volume_moves c.args.self.now store c.self.view_is c.args.volume volume c.put.new.self
+    (λ before after. PutRefusedSeen (c.args.self.now).settings c.args.volume c.args.tag (length c.args.bytes.now) before after fault) at
+    (subst (λ s. Refused s c.args.volume fault) same (subst (λ n. Refused volume.settings n fault) was.number moves))) c.put.ensures.refused_seen)

@@ -1,4 +1,4 @@
-use Rattle.std.proofs.Common.{◌≡◌, ℕ, List, inl, None, Some, length, map, sym, ap, subst, ◌∙◌, refl}
+use Rattle.std.proofs.Common.{◌≡◌, ℕ, List, inl, inr, None, Some, length, map, sym, ap, subst, ◌∙◌, refl}
 use Rattle.std.specs.Prelude.{Ok, Err}
 use Rattle.hay_directory.specs.declared.fault.DirFault.TheVariants as settling
 use Rattle.hay_needle.specs.declared.settings.Settings.{Settings}
@@ -24,6 +24,8 @@ use Rattle.hay_cluster.proofs.Leaving.{first_contents, leaves_contents, leaves_r
 use Rattle.hay_legal.specs.Stands.{Contents}
 use Rattle.hay_cluster.specs.Closing.{Closures, IsOpenTo, MetByChange, PutCloses, closures_of}
 use Rattle.hay_cluster.proofs.Closures.{settle_closes, settle_met}
+use Rattle.hay_cluster.specs.Seen.{PutsAt, store_seen}
+use Rattle.hay_cluster.proofs.Seeing.{put_seen, unsettled_seen}
 use Rattle.hay_cluster.proofs.cluster.Cluster.put_new.Goals as goal
 
 ok_not_err : {T E : Type 0} (x : T) (y : E) → Ok x ≡ Err y → ⊥
@@ -127,3 +129,15 @@ returns-in-Ok-clause-closures g c =
 
 pub returns-in-Err-clause-closures : goal.returns-in-Err-clause-closures
 returns-in-Err-clause-closures g c = settle_closes (c.args.self.now).settings (closures_of c.args.self.now) (closures_of c.settle.new.self) c.in-Err.fault c.settle_refusal.result c.settle_refusal.ensures.is c.settle.ensures.closures
+
+pub returns-in-Ok-clause-seen : goal.returns-in-Ok-clause-seen
+returns-in-Ok-clause-seen g c =
+    let size = length c.args.bytes.now in
+    let stored = subst (λ (s : Settings). PutsAt s c.args.tag size c.args.volume c.put_at.result (store_seen c.settle.new.self) (store_seen c.put_at.new.self)) c.settle.ensures.settings c.put_at.ensures.seen in
+    put_seen (c.args.self.now).settings c.args.tag c.args.pair size c.args.volume c.put_at.result (store_seen c.args.self.now) (store_seen c.settle.new.self) (store_seen c.put_at.new.self)
+    (inr (c.requires.seen, c.in-Ok.ensures.seen)) stored
+
+pub returns-in-Err-clause-seen : goal.returns-in-Err-clause-seen
+returns-in-Err-clause-seen g c =
+    unsettled_seen (c.args.self.now).settings c.args.tag c.args.pair (length c.args.bytes.now) c.args.volume c.in-Err.fault c.settle_refusal.result (store_seen c.args.self.now) (store_seen c.settle.new.self)
+    c.settle_refusal.ensures.is (c.requires.homeless, c.requires.seen) (IfErr-at_err _ c.in-Err.is c.settle.ensures.refused_seen)

@@ -1,4 +1,5 @@
-use Rattle.std.proofs.Common.{length, map, ap, subst, ◌∙◌, refl, inr}
+use Rattle.std.proofs.Common.{ℕ, Option, length, map, sym, ap, subst, ◌∙◌, refl, inr}
+use Rattle.std.specs.List.{AllZip}
 use Rattle.std.specs.Prelude.{find, is_none}
 use Rattle.hay_legal.specs.Known.{refusal_of, tries_by}
 use Rattle.hay_cluster.specs.declared.put.Tried.{Tried}
@@ -13,6 +14,8 @@ use Rattle.hay_cluster.proofs.Pending.{refusal_no_failure}
 use Rattle.hay_cluster.specs.Closing.{closures_of}
 use Rattle.hay_cluster.proofs.Closures.{refusal_met}
 use Rattle.hay_cluster.proofs.Leaving.{nothing_put}
+use Rattle.hay_cluster.specs.Seen.{RefusesPhoto, store_seen}
+use Rattle.hay_cluster.proofs.Seeing.{turned_seen}
 use Rattle.hay_cluster.proofs.cluster.Cluster.put_tried.Goals as goal
 
 pub returns-in-Taker-clause-legal : goal.returns-in-Taker-clause-legal
@@ -51,3 +54,14 @@ returns-in-Nobody-clause-met g c = refusal_met (c.args.self.now).settings (closu
 
 pub put_new-requires-clause-opens : goal.put_new-requires-clause-opens
 put_new-requires-clause-opens g c = c.requires.opens c.in-Taker.volume c.in-Taker.is
+
+pub put_new-requires-clause-seen : goal.put_new-requires-clause-seen
+put_new-requires-clause-seen g c = c.requires.seen c.in-Taker.volume c.in-Taker.is
+
+pub returns-in-Nobody-clause-seen : goal.returns-in-Nobody-clause-seen
+returns-in-Nobody-clause-seen g c =
+    let settings = (c.args.self.now).settings in
+    let seen = store_seen c.args.self.now in
+    let size = length c.args.bytes.now in
+    turned_seen settings c.args.tag c.args.pair size c.in-Nobody.refused c.refuse.result seen c.refuse.ensures.is
+    (subst (λ (o : Option ℕ). AllZip (RefusesPhoto settings seen size) (tries_by settings c.args.pair o) c.in-Nobody.refused) (sym c.requires.homeless) (c.requires.refused_seen c.in-Nobody.refused c.in-Nobody.is))

@@ -25,3 +25,9 @@ returns-clause-suits g c =
       | inl shows ↦ inr (inl (c.in-Some.volume, (c.in-Some.ensures).within, subst (λ start. ShowsFrom (c.args.self.now).settings start c.in-Some.volume c.show.result) c.start_of-start.ensures.is shows))
       | inr none ↦ inr (inr none)
     ]
+
+pub returns-in_default-clause-shows : goal.returns-in_default-clause-shows
+returns-in_default-clause-shows g c = (sym c.home.ensures.seen ∙ c.in_default.is, c.rows.ensures.count)
+
+pub show-requires-clause-home : goal.show-requires-clause-home
+show-requires-clause-home g c = sym c.home.ensures.seen ∙ c.in-Some.is

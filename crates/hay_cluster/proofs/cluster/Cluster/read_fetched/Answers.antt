@@ -21,6 +21,7 @@ use Rattle.hay_cluster.proofs.Showing.{answers_say, counts_at, later_set, row_ma
 use Rattle.hay_cluster.proofs.Sure.{read_no_arm, used_sure}
 use Rattle.hay_cluster.specs.Pending.{pending_of}
 use Rattle.hay_cluster.specs.Closing.{closures_of}
+use Rattle.hay_cluster.specs.Seen.{store_seen}
 use Rattle.hay_cluster.proofs.cluster.Cluster.read_fetched.Goals as goal
 
 pub offset_bounds-as_slice-volume : goal.offset_bounds-as_slice-volume
@@ -185,3 +186,6 @@ returns-clause-volumes g c = ap (λ (st : Open g.row.D.Denot g.row.D-Piece.Denot
 
 pub returns-clause-closures : goal.returns-clause-closures
 returns-clause-closures g c = ap (λ (st : Open g.row.D.Denot g.row.D-Piece.Denot g.row.A.Denot). closures_of st) c.self.view_is
+
+pub returns-clause-seen : goal.returns-clause-seen
+returns-clause-seen g c = ap (λ (st : Open g.row.D.Denot g.row.D-Piece.Denot g.row.A.Denot). store_seen st) c.self.view_is

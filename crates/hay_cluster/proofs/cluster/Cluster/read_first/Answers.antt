@@ -20,6 +20,9 @@ use Rattle.hay_cluster.proofs.Showing.{answers_say, counts_at, later_set, row_ma
 use Rattle.hay_cluster.proofs.Sure.{read_no_arm, used_sure}
 use Rattle.hay_cluster.specs.Pending.{pending_of}
 use Rattle.hay_cluster.specs.Closing.{closures_of}
+use Rattle.hay_cluster.specs.Seen.{store_seen}
+use Rattle.hay_logical.specs.Seen.{volume_seen}
+use Rattle.hay_cluster.proofs.Seeing.{seen_at}
 use Rattle.hay_cluster.proofs.cluster.Cluster.read_first.Goals as goal
 
 pub offset_bounds-as_slice-volume : goal.offset_bounds-as_slice-volume
@@ -179,3 +182,16 @@ returns-clause-volumes g c = ap (λ (st : Open g.row.D.Denot g.row.D-Piece.Denot
 
 pub returns-clause-closures : goal.returns-clause-closures
 returns-clause-closures g c = ap (λ (st : Open g.row.D.Denot g.row.D-Piece.Denot g.row.A.Denot). closures_of st) c.self.view_is
+
+pub returns-clause-seen : goal.returns-clause-seen
+returns-clause-seen g c = ap (λ (st : Open g.row.D.Denot g.row.D-Piece.Denot g.row.A.Denot). store_seen st) c.self.view_is
+
+pub returns-clause-front : goal.returns-clause-front
+returns-clause-front g c =
+    let store : Open g.row.D.Denot g.row.D-Piece.Denot g.row.A.Denot = record { settings = c.self.inside.settings; directory = c.self.inside.directory; volumes = c.self.inside.volumes.items; arms = c.self.inside.seats.items } in
+    let within : c.args.volume < length c.self.inside.volumes.items = let same = ap (λ (st : Open g.row.D.Denot g.row.D-Piece.Denot g.row.A.Denot). (st.settings).volumes) c.self.view_is in omega (arith, c.requires.volume, c.self.invariant.many, same) in
+    let volume = c.index-as_slice-volume.result in
+    let at : At store.volumes c.args.volume volume = subst (λ (w : Volume g.row.D.Denot g.row.D-Piece.Denot). At store.volumes c.args.volume w) (sym c.index-as_slice-volume.is)
+    (subst (λ (vs : List (Volume g.row.D.Denot g.row.D-Piece.Denot)). At vs c.args.volume (slice_index_or c.as_slice.result.now c.args.volume volume)) c.as_slice.ensures.value
+    (at_read c.as_slice.result.now c.args.volume volume (let long = ap length c.as_slice.ensures.value in omega (arith, within, long)))) in
+    (volume_seen volume, seen_at c.args.self.now store c.self.view_is c.args.volume volume at, c.look-front.ensures.front)

@@ -1,6 +1,6 @@
 use Rattle.std.proofs.Common.{◌≡◌, ℕ, ◌<◌, List, Option, Some, None, length, sym, ap, subst, ◌∙◌, arith, refl}
 use Rattle.std.specs.Prelude.{Err, IfSome, slice_index_or}
-use Rattle.std.proofs.lemmas.Result.{IfErr-at_err}
+use Rattle.std.proofs.lemmas.Result.{IfErr-at_err, IfOk-at_ok}
 use Rattle.hay_needle.specs.declared.settings.Settings.{Settings}
 use Rattle.hay_legal.specs.Known.{closed, refusal_of, room_refusal_of, volume_at}
 use Rattle.hay_reply.specs.declared.Refused.{Refused}
@@ -21,6 +21,9 @@ use Rattle.hay_cluster.proofs.Suiting.{lack_refuses, room_lack}
 use Rattle.hay_cluster.specs.Pending.{pending_of}
 use Rattle.hay_cluster.specs.Closing.{closures_of}
 use Rattle.hay_cluster.proofs.Closures.{lack_met, was_thawed}
+use Rattle.hay_cluster.specs.Seen.{store_seen}
+use Rattle.hay_logical.specs.Seen.{RoomRefusedSeen, RoomSeen, volume_seen}
+use Rattle.hay_cluster.proofs.Seeing.{lack_seen, seen_at}
 use Rattle.hay_cluster.proofs.cluster.Cluster.refusal.Goals as goal
 
 pub offset_bounds-as_slice-volume : goal.offset_bounds-as_slice-volume
@@ -73,6 +76,24 @@ returns-in-Ok g c = record {
   refuses = tt;
   met = tt;
   fits = tt;
+  takes_seen =
+      let store : Open g.row.D.Denot g.row.D-Piece.Denot g.row.A.Denot = record { settings = c.self.inside.settings; directory = c.self.inside.directory; volumes = c.self.inside.volumes.items; arms = c.self.inside.seats.items } in
+      let within : c.args.volume < length c.self.inside.volumes.items = let same = ap (λ (st : Open g.row.D.Denot g.row.D-Piece.Denot g.row.A.Denot). (st.settings).volumes) c.self.view_is in omega (arith, c.requires.volume, c.self.invariant.many, same) in
+      let volume = c.index-as_slice-volume.result in
+      let at : At store.volumes c.args.volume volume = subst (λ (w : Volume g.row.D.Denot g.row.D-Piece.Denot). At store.volumes c.args.volume w) (sym c.index-as_slice-volume.is)
+      (subst (λ (vs : List (Volume g.row.D.Denot g.row.D-Piece.Denot)). At vs c.args.volume (slice_index_or c.as_slice.result.now c.args.volume volume)) c.as_slice.ensures.value
+      (at_read c.as_slice.result.now c.args.volume volume (let long = ap length c.as_slice.ensures.value in omega (arith, within, long)))) in
+      let was = volume_of store c.args.volume volume c.self.invariant at in
+      let room = IfOk-at_ok _ c.in-Ok.is c.room.ensures.seen in
+      let same = was.settings_are ∙ ap (λ (st : Open g.row.D.Denot g.row.D-Piece.Denot g.row.A.Denot). st.settings) c.self.view_is in (
+        (c.in_default.ensures).opens_seen,
+        (
+          volume_seen volume,
+          seen_at c.args.self.now store c.self.view_is c.args.volume volume at,
+          subst (λ (s : Settings). RoomSeen s c.args.size (volume_seen volume)) same room,
+        ),
+      );
+  refuses_seen = tt;
 }
 
 pub returns-in-Err : goal.returns-in-Err
@@ -119,6 +140,28 @@ returns-in-Err g c = record {
       (lack_refuses (c.args.self.now).settings c.args.volume c.in-Err.fault (subst (λ (s : Settings). IsBuilt s) same c.self.invariant.built) c.requires.volume
       (subst (λ n. IsRoomFault (c.args.self.now).settings n c.in-Err.fault) was.number cause));
   fits = c.lack_of.ensures.fits;
+  takes_seen = tt;
+  refuses_seen =
+      let store : Open g.row.D.Denot g.row.D-Piece.Denot g.row.A.Denot = record { settings = c.self.inside.settings; directory = c.self.inside.directory; volumes = c.self.inside.volumes.items; arms = c.self.inside.seats.items } in
+      let within : c.args.volume < length c.self.inside.volumes.items = let same = ap (λ (st : Open g.row.D.Denot g.row.D-Piece.Denot g.row.A.Denot). (st.settings).volumes) c.self.view_is in omega (arith, c.requires.volume, c.self.invariant.many, same) in
+      let volume = c.index-as_slice-volume.result in
+      let at : At store.volumes c.args.volume volume = subst (λ (w : Volume g.row.D.Denot g.row.D-Piece.Denot). At store.volumes c.args.volume w) (sym c.index-as_slice-volume.is)
+      (subst (λ (vs : List (Volume g.row.D.Denot g.row.D-Piece.Denot)). At vs c.args.volume (slice_index_or c.as_slice.result.now c.args.volume volume)) c.as_slice.ensures.value
+      (at_read c.as_slice.result.now c.args.volume volume (let long = ap length c.as_slice.ensures.value in omega (arith, within, long)))) in
+      let was = volume_of store c.args.volume volume c.self.invariant at in
+      let same = ap (λ (st : Open g.row.D.Denot g.row.D-Piece.Denot g.row.A.Denot). st.settings) c.self.view_is in
+      let settings = (c.args.self.now).settings in
+      let cause = subst (λ (s : Settings). IsRoomFault s volume.number c.in-Err.fault) (was.settings_are ∙ same) (IfErr-at_err _ c.in-Err.is c.room.ensures.causes) in
+      let lacks = subst (λ (o : Option Refused). IfSome o (Refuses settings c.args.volume)) c.lack_of.ensures.is
+      (lack_refuses settings c.args.volume c.in-Err.fault (subst (λ (s : Settings). IsBuilt s) same c.self.invariant.built) c.requires.volume
+      (subst (λ n. IsRoomFault settings n c.in-Err.fault) was.number cause)) in
+      let room = IfErr-at_err _ c.in-Err.is c.room.ensures.refused_seen in
+      let full = subst (λ n. RoomRefusedSeen settings n c.args.size (volume_seen volume) c.in-Err.fault) was.number
+      (subst (λ (s : Settings). RoomRefusedSeen s volume.number c.args.size (volume_seen volume) c.in-Err.fault) (was.settings_are ∙ same) room) in (
+        lacks,
+        lack_seen settings (store_seen c.args.self.now) c.args.size c.args.volume (volume_seen volume) c.in-Err.fault c.lack_of.result c.lack_of.ensures.is (c.in_default.ensures).opens_seen
+            (seen_at c.args.self.now store c.self.view_is c.args.volume volume at) full,
+      );
 }
 
 pub returns-in-Some-clause-refuses : goal.returns-in-Some-clause-refuses
@@ -126,3 +169,6 @@ returns-in-Some-clause-refuses g c = (refl, (c.in-Some.ensures).on)
 
 pub lack_of-requires : goal.lack_of-requires
 lack_of-requires g c = room_lack (c.index-as_slice-volume.result).settings (c.index-as_slice-volume.result).number c.in-Err.fault (IfErr-at_err _ c.in-Err.is c.room.ensures.causes)
+
+pub returns-in-Some-clause-refuses_seen : goal.returns-in-Some-clause-refuses_seen
+returns-in-Some-clause-refuses_seen g c = ((refl, (c.in-Some.ensures).on), (c.in-Some.ensures).closes_seen)

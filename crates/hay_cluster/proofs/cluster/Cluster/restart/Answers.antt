@@ -9,6 +9,7 @@ use Rattle.hay_cluster.proofs.OpeningDraws.{restart_drew}
 use Rattle.hay_cluster.proofs.OpeningStore.{MovedParts, StoppedParts, opens_up, restart_cause, restart_fuses, restart_later, restart_left, restart_opened, restart_whole, stops_closed, stops_idle}
 use Rattle.hay_cluster.proofs.Pending.{restart_tells, opened_fit, opened_settled}
 use Rattle.hay_cluster.proofs.Closures.{opened_closures}
+use Rattle.hay_cluster.proofs.SeenOpening.{opens_seen, tells_seen}
 use Rattle.hay_cluster.proofs.cluster.Cluster.restart.Goals as goal
 
 pub open_parts-requires-clause-closed : goal.open_parts-requires-clause-closed
@@ -124,3 +125,12 @@ returns-clause-closures g c =
     IfOk-weaker c.open_parts.result _ _
     (λ notes opens. opened_closures g.D.Disk.Tells g.D.Disk.files g.D.Piece.Piece.Tells g.D.Disk.fault_count g.D.Disk.fuse_count (c.args.self.now).settings c.stop.new.self c.open_parts.new.self notes c.stop.ensures.settings
     (c.open_parts.ensures.settings ∙ c.stop.ensures.settings) c.stop.ensures.shape c.open_parts.ensures.shape opens) c.open_parts.ensures.opened
+
+pub returns-clause-opens : goal.returns-clause-opens
+returns-clause-opens g c =
+    IfOk-weaker c.open_parts.result _ _
+    (λ notes opens. opens_seen g.D.Disk.Tells g.D.Disk.files g.D.Piece.Piece.Tells g.D.Disk.fault_count g.D.Disk.fuse_count (c.args.self.now).settings c.stop.new.self c.open_parts.new.self notes c.stop.ensures.settings
+    (c.open_parts.ensures.settings ∙ c.stop.ensures.settings) c.stop.ensures.shape c.open_parts.ensures.shape opens) c.open_parts.ensures.opened
+
+pub returns-clause-tells : goal.returns-clause-tells
+returns-clause-tells g c = IfOk-weaker c.open_parts.result _ _ (λ notes told. tells_seen c.args.self.now notes told) (returns-clause-told g c)

@@ -23,6 +23,7 @@ use Rattle.hay_cluster.proofs.Pending.{called_kept}
 use Rattle.hay_cluster.specs.Leaving.{AnySlot, KeepsIn}
 use Rattle.hay_cluster.proofs.Leaving.{called_keeps}
 use Rattle.hay_cluster.proofs.Closures.{closures_kept}
+use Rattle.hay_cluster.proofs.SeenWork.{volume_kept}
 use Rattle.hay_cluster.proofs.cluster.Cluster.see_in.Goals as goal
 use Rattle.hay_cluster.proofs.cluster.Cluster.see_in.Goals.{in-Ok, in-Err}
 
@@ -217,3 +218,14 @@ returns-clause-closures g c =
     let items = with_items_is c.self.inside.volumes (slice_set c.as_mut_slice.result.now c.args.volume c.see.new.self) (length-set c.as_mut_slice.result.now c.args.volume c.see.new.self ∙ c.as_mut_slice.ensures.len)
     ∙ ap (λ (vs : List (Volume g.row.D.Denot g.row.D-Piece.Denot)). slice_set vs c.args.volume c.see.new.self) c.as_mut_slice.ensures.value in
     rw items (closures_kept c.args.self.now store c.args.volume volume c.self.view_is at c.see.new.self (c.see.ensures.still).0)
+
+pub returns-clause-unchanged : goal.returns-clause-unchanged
+returns-clause-unchanged g c =
+    let store : Open g.row.D.Denot g.row.D-Piece.Denot g.row.A.Denot = record { settings = c.self.inside.settings; directory = c.self.inside.directory; volumes = c.self.inside.volumes.items; arms = c.self.inside.seats.items } in
+    let within : c.args.volume < length c.self.inside.volumes.items = let same = ap (λ (st : Open g.row.D.Denot g.row.D-Piece.Denot g.row.A.Denot). (st.settings).volumes) c.self.view_is in omega (arith, c.requires.volume, c.self.invariant.many, same) in
+    let volume : Volume g.row.D.Denot g.row.D-Piece.Denot = slice_index_or c.as_mut_slice.result.now c.args.volume c.index-as_mut_slice-volume.result in
+    let at : At store.volumes c.args.volume volume = subst (λ (vs : List (Volume g.row.D.Denot g.row.D-Piece.Denot)). At vs c.args.volume volume) c.as_mut_slice.ensures.value
+    (at_read c.as_mut_slice.result.now c.args.volume c.index-as_mut_slice-volume.result (let long = ap length c.as_mut_slice.ensures.value in omega (arith, within, long))) in
+    let items = with_items_is c.self.inside.volumes (slice_set c.as_mut_slice.result.now c.args.volume c.see.new.self) (length-set c.as_mut_slice.result.now c.args.volume c.see.new.self ∙ c.as_mut_slice.ensures.len)
+    ∙ ap (λ (vs : List (Volume g.row.D.Denot g.row.D-Piece.Denot)). slice_set vs c.args.volume c.see.new.self) c.as_mut_slice.ensures.value in
+    rw items (volume_kept c.args.self.now store c.args.volume volume c.see.new.self c.self.view_is at c.see.ensures.unchanged)

@@ -10,6 +10,8 @@ use Rattle.hay_cluster.proofs.Moves.{directory_fuses, in_directory, none_falls}
 use Rattle.hay_cluster.proofs.Pending.{directory_kept}
 use Rattle.hay_cluster.proofs.Leaving.{directory_same}
 use Rattle.hay_cluster.proofs.Closures.{drains_set}
+use Rattle.hay_directory.specs.Seen.{DrainSeen, directory_seen}
+use Rattle.hay_cluster.proofs.Seeing.{directory_moves}
 use Rattle.hay_cluster.proofs.cluster.Cluster.set_drained.Goals as goal
 
 pub returns-then-is_drained-clause-set : goal.returns-then-is_drained-clause-set
@@ -89,3 +91,15 @@ returns-else-is_drained-clause-closures g c =
     let store : Open g.row.D.Denot g.row.D-Piece.Denot g.row.A.Denot = record { settings = c.self.inside.settings; directory = c.self.inside.directory; volumes = c.self.inside.volumes.items; arms = c.self.inside.seats.items } in
     drains_set c.args.self.now store c.undrain.new.self c.self.view_is c.args.machine c.args.is_drained
     (ap (λ (d : State g.row.D.Denot). d.drained) c.undrain.ensures.only ∙ ap (λ b. slice_set (store.directory).drained c.args.machine b) (sym c.if-is_drained.false))
+
+pub returns-then-is_drained-clause-seen : goal.returns-then-is_drained-clause-seen
+returns-then-is_drained-clause-seen g c =
+    let store : Open g.row.D.Denot g.row.D-Piece.Denot g.row.A.Denot = record { settings = c.self.inside.settings; directory = c.self.inside.directory; volumes = c.self.inside.volumes.items; arms = c.self.inside.seats.items } in
+    directory_moves c.args.self.now store c.self.view_is c.drain.new.self (DrainSeen c.args.machine c.args.is_drained)
+    (subst (λ b. DrainSeen c.args.machine b (directory_seen store.directory) (directory_seen c.drain.new.self)) (sym c.if-is_drained.true) c.drain.ensures.seen)
+
+pub returns-else-is_drained-clause-seen : goal.returns-else-is_drained-clause-seen
+returns-else-is_drained-clause-seen g c =
+    let store : Open g.row.D.Denot g.row.D-Piece.Denot g.row.A.Denot = record { settings = c.self.inside.settings; directory = c.self.inside.directory; volumes = c.self.inside.volumes.items; arms = c.self.inside.seats.items } in
+    directory_moves c.args.self.now store c.self.view_is c.undrain.new.self (DrainSeen c.args.machine c.args.is_drained)
+    (subst (λ b. DrainSeen c.args.machine b (directory_seen store.directory) (directory_seen c.undrain.new.self)) (sym c.if-is_drained.false) c.undrain.ensures.seen)

@@ -1,5 +1,5 @@
 use Rattle.std.proofs.Common.{◌≡◌, ◌++◌, ◌∷◌, [], None, Bool, List, map, sym, ap, subst, ◌∙◌, inl, inr, ◌≢◌, ◌≤◌, ◌^◌, true, arith}
-use Rattle.std.proofs.lemmas.Result.{on_ok_weaker}
+use Rattle.std.proofs.lemmas.Result.{IfErr-weaker, on_ok_weaker}
 use Rattle.std.proofs.lemmas.Bool.{cases_Bool}
 use Rattle.std.specs.List.{flat_map}
 use Rattle.hay_legal.specs.declared.known.DirKnown.{DirKnown}
@@ -25,6 +25,8 @@ use Rattle.hay_directory.specs.declared.mode.Mode.{Mode}
 use Rattle.hay_directory.specs.declared.mode.Mode.TheVariants.{Closed, Frozen, Open as Serving}
 use Rattle.hay_cluster.proofs.Closures.{drains_kept}
 use Rattle.hay_cluster.proofs.Settling.{AddsOne, row_adds}
+use Rattle.hay_directory.specs.Seen.{SettleRefusedSeen, SettleSeen}
+use Rattle.hay_cluster.proofs.Seeing.{directory_moves}
 use Rattle.hay_cluster.proofs.cluster.Cluster.settle.Goals as goal
 
 refused_row : {D P A T : Type 0} (old store : Open D P A) (after : State D) (row : UnsureRow) (r : Result T DirFault) → store ≡ old → IsUp old.directory
@@ -146,3 +148,14 @@ returns-clause-rows g c = λ tells.
     (c.settle.ensures.no_memory tells stood.0 (store.directory).drained stood.1) (λ faults is. c.settle.ensures.pending tells stood.0 (store.directory).drained faults stood.1 is) in
     directory_adds g.D.Disk.files (c.args.self.now).settings c.args.pair c.args.volume c.args.self.now store c.settle.new.self c.self.view_is c.requires.volume
     (subst (λ (s : Settings). AddsOne g.D.Disk.files s row store.directory c.settle.new.self) same adds)
+
+pub returns-clause-seen : goal.returns-clause-seen
+returns-clause-seen g c =
+    let store : Open g.row.D.Denot g.row.D-Piece.Denot g.row.A.Denot = record { settings = c.self.inside.settings; directory = c.self.inside.directory; volumes = c.self.inside.volumes.items; arms = c.self.inside.seats.items } in
+    on_ok_weaker c.settle.result (directory_moves c.args.self.now store c.self.view_is c.settle.new.self (SettleSeen c.args.pair c.args.volume)) c.settle.ensures.seen
+
+pub returns-clause-refused_seen : goal.returns-clause-refused_seen
+returns-clause-refused_seen g c =
+    let store : Open g.row.D.Denot g.row.D-Piece.Denot g.row.A.Denot = record { settings = c.self.inside.settings; directory = c.self.inside.directory; volumes = c.self.inside.volumes.items; arms = c.self.inside.seats.items } in
+    IfErr-weaker c.settle.result _ _ (λ fault. directory_moves c.args.self.now store c.self.view_is c.settle.new.self
+    (λ before after. SettleRefusedSeen c.args.tag c.args.pair c.args.volume before after fault)) c.settle.ensures.refused_seen

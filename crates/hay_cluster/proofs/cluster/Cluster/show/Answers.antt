@@ -171,3 +171,15 @@ returns-in-Unreadable-clause-here g c = inr refl
 
 pub returns-clause-here : goal.returns-clause-here
 returns-clause-here g c = inr refl
+
+pub returns-in-Photo-clause-shows : goal.returns-in-Photo-clause-shows
+returns-in-Photo-clause-shows g c = ((c.requires.home, c.rows-rows.ensures.count), c.fetch-front.ensures.front)
+
+pub returns-in-Gone-clause-shows : goal.returns-in-Gone-clause-shows
+returns-in-Gone-clause-shows g c = ((c.requires.home, c.rows-rows.ensures.count), c.fetch-front.ensures.front)
+
+pub returns-in-WrongCookie-clause-shows : goal.returns-in-WrongCookie-clause-shows
+returns-in-WrongCookie-clause-shows g c = ((c.requires.home, c.rows-rows.ensures.count), c.fetch-front.ensures.front)
+
+pub returns-in-Ok-passed_of-clause-shows : goal.returns-in-Ok-passed_of-clause-shows
+returns-in-Ok-passed_of-clause-shows g c = ((c.requires.home, c.rows-rows.ensures.count), c.fetch-front.ensures.front)

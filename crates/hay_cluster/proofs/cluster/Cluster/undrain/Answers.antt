@@ -1,6 +1,8 @@
 use Rattle.std.proofs.Common.{◌<◌, ◌≤◌, ap, inl, inr, refl, subst}
 use Rattle.hay_needle.specs.declared.settings.Settings.{Settings}
 use Rattle.hay_cluster.specs.Store.{Open}
+use Rattle.hay_cluster.specs.Seen.{store_seen}
+use Rattle.hay_cluster.proofs.Seeing.{keeps_all}
 use Rattle.hay_cluster.proofs.cluster.Cluster.undrain.Goals as goal
 
 pub returns-then-machine-self-clause-suits : goal.returns-then-machine-self-clause-suits
@@ -18,3 +20,9 @@ returns-then-machine-self-clause-closures g c = inr (refl, refl)
 
 pub returns-clause-closures : goal.returns-clause-closures
 returns-clause-closures g c = inl (refl, c.set_drained.ensures.closures)
+
+pub returns-then-machine-self-clause-seen : goal.returns-then-machine-self-clause-seen
+returns-then-machine-self-clause-seen g c = inr (refl, keeps_all (store_seen c.args.self.now))
+
+pub returns-clause-seen : goal.returns-clause-seen
+returns-clause-seen g c = inl (refl, c.set_drained.ensures.seen)

@@ -6,6 +6,8 @@ use Rattle.hay_legal.specs.Known.{home_of, machine_of}
 use Rattle.hay_cluster.specs.Store.{Open}
 use Rattle.hay_cluster.proofs.Answering.{answered, stays}
 use Rattle.hay_needle.specs.declared.needle.Cookie.{Cookie}
+use Rattle.hay_cluster.specs.Seen.{store_seen}
+use Rattle.hay_cluster.proofs.Seeing.{keeps_all}
 use Rattle.hay_cluster.proofs.cluster.Cluster.url.Goals as goal
 
 pub returns-clause-legal : goal.returns-clause-legal
@@ -37,3 +39,9 @@ returns-clause-suits g c =
       ap (λ (k : Cookie). reply.Url c.rows-rows.result (record { machine = c.machine_of.result; volume = c.in-Some.volume; pair = c.args.pair; cookie = k })) cookie
           ∙ ap (λ m. reply.Url c.rows-rows.result (record { machine = m; volume = c.in-Some.volume; pair = c.args.pair; cookie = cookie_of (c.args.self.now).settings.secret c.args.pair.key })) machine,
     )
+
+pub returns-in_default-clause-seen : goal.returns-in_default-clause-seen
+returns-in_default-clause-seen g c = (keeps_all (store_seen c.args.self.now), (sym c.home.ensures.seen ∙ c.in_default.is, c.rows-rows.ensures.count))
+
+pub returns-clause-seen : goal.returns-clause-seen
+returns-clause-seen g c = (keeps_all (store_seen c.args.self.now), (sym c.home.ensures.seen ∙ c.in-Some.is, c.rows-rows.ensures.count))
