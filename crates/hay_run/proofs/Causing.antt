@@ -1,9 +1,10 @@
 -- Texts that have their causes, turn after turn.
-use Rattle.std.proofs.Common.{◌≡◌, ◌≢◌, ◌⊎◌, inl, inr, ℕ, List, [], ◌∷◌, ◌++◌, Option, Some, None, refl, sym, ap, subst, ◌∙◌, append_assoc}
+use Rattle.std.proofs.Common.{◌≡◌, ◌≢◌, ◌⊎◌, inl, inr, ℕ, List, [], ◌∷◌, ◌++◌, Option, Some, None, refl, sym, ap, subst, ◌∙◌, append_assoc, map}
 use Rattle.std.specs.Prelude.{flat_map, Result, Err, OnErr, IsErrOf}
 use Rattle.std.specs.List.{AllByRecursion}
 use Rattle.std.proofs.lemmas.List.{append-nil}
 use Rattle.std.proofs.lemmas.Result.{IfErr-at_err, on_err_weaker}
+use Rattle.hay_disk.specs.Disk.{Files}
 use Rattle.hay_disk.specs.Streams.{Wrote, WrotePart}
 use Rattle.hay_needle.specs.declared.settings.Settings.{Settings}
 use Rattle.hay_script.specs.declared.Command.{Command}
@@ -19,15 +20,18 @@ use Rattle.hay_legal.specs.Items.{Asked, InBlock}
 use Rattle.hay_legal.specs.Items.Asked.{Alone, Block}
 use Rattle.hay_cluster.specs.declared.fault.ClusterFault.{ClusterFault}
 use Rattle.hay_cluster.specs.declared.fault.ClusterFault.TheVariants as refusal
-use Rattle.hay_cluster.specs.Closing.{LeavesClosures, MetClosures, none_closed}
 use Rattle.hay_cluster.specs.Leaving.{LeavesContents}
 use Rattle.hay_cluster.specs.Outside.{IsDamagedDisk, IsUndamaged, IsUndamagedBelow}
 use Rattle.hay_cluster.specs.Causes.{BlamesNoArm, HasFaultCause, IsCaused, LeavesFuses}
-use Rattle.hay_cluster.specs.Pending.{LeavesPending, TellsPending, none_pending}
+use Rattle.hay_logical.specs.Seen.{VolumeSeen, volume_seen}
+use Rattle.hay_logical.specs.Volumes.{Volume}
+use Rattle.hay_cluster.specs.Pending.{PendingLines, line_of_change, pending_change, pending_of, pending_row}
+use Rattle.hay_cluster.specs.Seen.{Answers, OpensSeen, TellsSeen, pending_seen, store_seen}
+use Rattle.hay_cluster.specs.Store.{Open, contents_in}
 use Rattle.hay_cluster.specs.Suiting.{Suits}
 use Rattle.hay_run.specs.declared.stops.Stop.{Stop}
 use Rattle.hay_run.specs.declared.stops.Stop.TheVariants as stop
-use Rattle.hay_run.specs.Causing.{IsLaterTally, IsTextOf, AnswerTexts, Caused, IsNoteCaused, IsRestart, NotReopened, ToldRefusal, ToldWanting, StopCaused, TookLastItem, TurnStops, HasSureArm, Tally}
+use Rattle.hay_run.specs.Causing.{IsLaterTally, IsTextOf, AnswerTexts, Caused, IsNoteCaused, IsRestart, NotReopened, ToldRefusal, ToldWanting, StopCaused, TookLastItem, TurnStops, HasSureArm, Tally, plain_tag}
 use Rattle.hay_run.specs.Items.{TookOpen}
 use Rattle.hay_lines.specs.Lines.{TookPart, TookOver, TookSome}
 use Rattle.hay_run.specs.Stops.{note_of}
@@ -35,6 +39,22 @@ use Rattle.hay_run.specs.Turns.{Writing}
 use Rattle.hay_run.specs.Unbuilt.{unbuilt_text}
 use Rattle.hay_run.proofs.Counting.{NoneFalls-same}
 use Rattle.hay_run.proofs.Turning.{wrote_nothing, wrote_more, wrote_part}
+
+-- what is pending is seen
+changes_seen : {D P : Type 0} (volumes : List (Volume D P)) → map pending_change volumes ≡ map (λ (seen : VolumeSeen). line_of_change seen.unsure) (map volume_seen volumes)
+changes_seen [] = refl
+changes_seen (volume ∷ volumes) = ap (λ (lines : List (Option ℕ)). pending_change volume ∷ lines) (changes_seen volumes)
+
+pub pending_is_seen : {D P A : Type 0} (store : Open D P A) → pending_of store ≡ pending_seen (store_seen store)
+pending_is_seen store = ap (λ (changes : List (Option ℕ)). record { changes = changes; row = pending_row store.directory }) (changes_seen store.volumes)
+
+-- so the disks that a command leaves are told by what is seen
+pub contents_seen : {D P A : Type 0} (files : D → Files) (Tells : Type 0) (old new : Open D P A) (command : Command) (reply : Reply)
+    → (Tells → LeavesContents old.settings command reply (pending_of old) (pending_of new) (contents_in files old) (contents_in files new))
+    → Tells → LeavesContents old.settings command reply (pending_seen (store_seen old)) (pending_seen (store_seen new)) (contents_in files old) (contents_in files new)
+contents_seen files Tells old new command reply leaves tells =
+    let after = subst (λ (p : PendingLines). LeavesContents old.settings command reply (pending_of old) p (contents_in files old) (contents_in files new)) (pending_is_seen new) (leaves tells) in
+    subst (λ (p : PendingLines). LeavesContents old.settings command reply p (pending_seen (store_seen new)) (contents_in files old) (contents_in files new)) (pending_is_seen old) after
 
 pub same_tally : (tally : Tally) → IsLaterTally tally tally
 same_tally tally = (NoneFalls-same tally.counts.disks, NoneFalls-same tally.counts.arms, λ lane sure. sure)
@@ -82,23 +102,23 @@ module _ (Tells : Type 0) where
   pub caused_reply : (Writes : Writing) (settings : Settings) (before after : Tally) (number : ℕ) (command : Command) (reply : Reply) (written written' : Option (List ℕ))
       → ((pick : ℕ) → command ≢ asks.Restart pick) → IsLaterTally before after → LeavesFuses settings command before.fuses after.fuses
       → FitsReply reply → Suits settings number command reply → IsCaused settings 0 before.counts after.counts reply → (HasSureArm before 0 → BlamesNoArm reply)
-      → MetClosures settings command before.closures before.pending reply → LeavesPending settings number command reply before.pending after.pending
-      → LeavesClosures settings command reply before.closures after.closures → (Tells → LeavesContents settings command reply before.pending after.pending before.contents after.contents)
+      → Answers settings (plain_tag number) command reply before.seen after.seen
+      → (Tells → LeavesContents settings command reply (pending_seen before.seen) (pending_seen after.seen) before.contents after.contents)
       → Writes written (numbered_line number reply) written'
       → Caused Tells Writes settings before after (Alone number (item.Command command) ∷ []) written written'
-  caused_reply Writes settings before after number command reply written written' other none fuses fits suits cause sure met pending closures contents wrote =
+  caused_reply Writes settings before after number command reply written written' other none fuses fits suits cause sure seen contents wrote =
       caused_one Writes settings before after (Alone number (item.Command command)) (numbered_line number reply) written written' none
-      (fuses, inr (other, (reply, fits, suits, cause, sure, met, pending, closures, contents, refl))) wrote
+      (fuses, inr (other, (reply, fits, suits, cause, sure, seen, contents, refl))) wrote
 
   pub caused_restart : (Writes : Writing) (settings : Settings) (before after : Tally) (number pick rows : ℕ) (notes : List Note) (written written' : Option (List ℕ))
       → IsLaterTally before after → after.fuses ≡ before.fuses → after.counts.arms ≡ before.counts.arms → FitsReply (Restarted rows)
-      → TellsPending settings before.pending notes → AllByRecursion FitsNote notes
-      → after.pending ≡ none_pending settings → after.closures ≡ none_closed settings
+      → TellsSeen settings before.seen notes → AllByRecursion FitsNote notes
+      → OpensSeen settings after.seen → rows ≡ (after.seen).directory.rows
       → (Tells → IsUndamaged settings after.contents) → Writes written (numbered_line number (Restarted rows) ++ flat_map note_line notes) written'
       → Caused Tells Writes settings before after (Alone number (item.Command (asks.Restart pick)) ∷ []) written written'
-  caused_restart Writes settings before after number pick rows notes written written' none fuses arms large tells fits settled opened sound wrote =
+  caused_restart Writes settings before after number pick rows notes written written' none fuses arms large tells fits opens many sound wrote =
       caused_one Writes settings before after (Alone number (item.Command (asks.Restart pick))) (numbered_line number (Restarted rows) ++ flat_map note_line notes) written written' none
-      (fuses, inl (pick, rows, notes, refl, large, tells, fits, settled, opened, arms, refl, sound)) wrote
+      (fuses, inl (pick, rows, notes, refl, large, tells, fits, opens, many, arms, refl, sound)) wrote
 
   -- HOW A LINE STOPS A RUN
 

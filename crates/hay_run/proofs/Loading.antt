@@ -35,6 +35,8 @@ pub load_nothing : (Tells : Type 0) (settings : Settings) (status : ℕ) (disks 
 load_nothing Tells settings status disks arms shelf left before back five = record {
   loaded = λ script told. to_stop Tells settings script disks disks shelf shelf before before stop.NoMemory status five
       (ends_unbegun Tells settings script disks shelf before before (λ slot below. back slot) (0, wrote_nothing before) stop.NoMemory (inr refl));
+  halts = λ four. absurd (omega (arith, five, four));
+  halts_over = λ seven. absurd (omega (arith, five, seven));
   ended = λ zero. absurd (omega (arith, five, zero));
   short = λ zero. absurd (omega (arith, five, zero));
   counts = λ slot below. record { faults_rise = omega arith; fuses_are = refl };

@@ -7,6 +7,7 @@ use Rattle.hay_disk.specs.Streams.{Wrote, WrotePart}
 use Rattle.hay_needle.specs.declared.settings.Settings.{Settings}
 use Rattle.hay_script.specs.declared.Command.{Command}
 use Rattle.hay_script.specs.declared.Command.TheVariants as asks
+use Rattle.hay_core.specs.declared.entry.CoreTag.{CoreTag}
 use Rattle.hay_reply.specs.declared.Note.{Note}
 use Rattle.hay_reply.specs.declared.Note.TheVariants.{Kept, Lost, KeptDir, LostDir, Log, Rows, OpenShelf, OpenFailed, OpenDamaged}
 use Rattle.hay_reply.specs.declared.Reply.{Reply}
@@ -21,11 +22,10 @@ use Rattle.hay_legal.specs.Stands.{Contents, Outside}
 use Rattle.hay_legal.specs.Statuses.{Ending, IsFront, read_contents}
 use Rattle.hay_legal.specs.Statuses.Ending.{ReadAll, OutputFault, InputFault, NoMemory, NotOpened, TooLong}
 use Rattle.hay_cluster.specs.Causes.{BlamesNoArm, Counts, IsCaused, LeavesFuses, RoseIn}
-use Rattle.hay_cluster.specs.Closing.{Closures, LeavesClosures, MetClosures, closures_of, none_closed}
 use Rattle.hay_cluster.specs.Draws.{drawn_in}
 use Rattle.hay_cluster.specs.Leaving.{LeavesContents}
 use Rattle.hay_cluster.specs.Outside.{FormatsVoid, IsDamagedDisk, IsKept, IsUndamaged, IsUndamagedBelow, KeepsContents}
-use Rattle.hay_cluster.specs.Pending.{LeavesPending, PendingLines, TellsPending, none_pending, pending_of}
+use Rattle.hay_cluster.specs.Seen.{Answers, OpensSeen, StoreSeen, TellsSeen, pending_seen, store_seen}
 use Rattle.hay_cluster.specs.Store.{Open, contents_in, disks_of}
 use Rattle.hay_cluster.specs.Suiting.{Suits}
 use Rattle.hay_run.specs.declared.stops.Stop.{Stop}
@@ -39,14 +39,13 @@ use Rattle.hay_run.specs.Turns.{Writing, HoldsNone}
 use Rattle.hay_run.specs.Unbuilt.{unbuilt_text}
 
 -- What is seen of a store: how many calls of each disk and fetches of each arm failed, how many fuses were set on each disk, which
--- arms are sure, which lines left a change or a row pending, what closes volumes to changes, what reads of the disk in each slot give,
--- and how many bytes were read of each of its files.
+-- arms are sure, what is seen of its volumes and its Directory in memory, what reads of the disk in each slot give, and how many bytes
+-- were read of each of its files.
 pub record Tally : Type 0 where
   pub counts : Counts
   pub fuses : List ℕ
   pub sure : List Bool
-  pub pending : PendingLines
-  pub closures : Closures
+  pub seen : StoreSeen
   pub contents : ℕ → Contents
   pub drawn : ℕ → ℕ → ℕ
 
@@ -55,8 +54,7 @@ tally_of files drawn faults fuses arm_faults sure store = record {
   counts = record { disks = map faults (disks_of store); arms = map arm_faults store.arms };
   fuses = map fuses (disks_of store);
   sure = map sure store.arms;
-  pending = pending_of store;
-  closures = closures_of store;
+  seen = store_seen store;
   contents = contents_in files store;
   drawn = drawn_in drawn store;
 }
@@ -72,24 +70,27 @@ IsLaterTally before after =
 
 -- THE TEXT OF ITEMS
 
--- the text of a restart: its reply and the notes behind it, which tell of all that was pending, with numbers of their types; nothing
--- is pending or closed then, and nothing that an opening reads of the disks is damaged
+-- the text of a restart: its reply, with how many rows are seen then, and the notes behind it, which tell of all that was pending, with
+-- numbers of their types; nothing is pending or closed then, and nothing that an opening reads of the disks is damaged
 abbrev pub IsRestartText : Type 0 → Settings → Tally → Tally → Command → ℕ → List ℕ → Type 0
 IsRestartText Tells settings before after command number text =
-    (pick : ℕ) × (rows : ℕ) × (notes : List Note) × (command ≡ asks.Restart pick) × FitsReply (Restarted rows) × TellsPending settings before.pending notes × AllByRecursion FitsNote notes
-    × (after.pending ≡ none_pending settings) × (after.closures ≡ none_closed settings) × (after.counts.arms ≡ before.counts.arms)
+    (pick : ℕ) × (rows : ℕ) × (notes : List Note) × (command ≡ asks.Restart pick) × FitsReply (Restarted rows) × TellsSeen settings before.seen notes × AllByRecursion FitsNote notes
+    × OpensSeen settings after.seen × (rows ≡ (after.seen).directory.rows) × (after.counts.arms ≡ before.counts.arms)
     × (text ≡ numbered_line number (Restarted rows) ++ flat_map note_line notes) × (Tells → IsUndamaged settings after.contents)
 
+-- the line of a command outside blocks
+abbrev pub plain_tag : ℕ → CoreTag
+plain_tag number = record { lane = 0; line = number }
+
 -- the text of another command: a reply with numbers of their types, which the command of this line may be given, which tells of a
--- failure only where the count that it prints rose, and never of an arm that is sure; which fits what was closed before it; and by which
--- it is known what it left pending and closed, and which disks have what they had
+-- failure only where the count that it prints rose, and never of an arm that is sure; by which it is known what was seen of the store in
+-- memory before it and how it changed that, and which disks have what they had
 abbrev pub IsReplyText : Type 0 → Settings → Tally → Tally → Command → ℕ → List ℕ → Type 0
 IsReplyText Tells settings before after command number text =
     ((pick : ℕ) → command ≢ asks.Restart pick)
     × ((reply : Reply) × FitsReply reply × Suits settings number command reply × IsCaused settings 0 before.counts after.counts reply × (HasSureArm before 0 → BlamesNoArm reply)
-    × MetClosures settings command before.closures before.pending reply
-    × LeavesPending settings number command reply before.pending after.pending × LeavesClosures settings command reply before.closures after.closures
-    × (Tells → LeavesContents settings command reply before.pending after.pending before.contents after.contents) × (text ≡ numbered_line number reply))
+    × Answers settings (plain_tag number) command reply before.seen after.seen
+    × (Tells → LeavesContents settings command reply (pending_seen before.seen) (pending_seen after.seen) before.contents after.contents) × (text ≡ numbered_line number reply))
 
 -- The text answers the item, while the counts went from these to those. A fuse is set by its command alone.
 abbrev pub IsTextOf : Type 0 → Settings → Tally → Tally → Asked → List ℕ → Type 0
@@ -237,8 +238,7 @@ pub record BeginsAt (Tells : Type 0) (settings : Settings) (taken : Outside) (su
   pub fuses : (slot : ℕ) → slot < disk_count settings → slice_index tally.fuses slot ≡ taken.fuses slot
   pub arms : (lane : ℕ) → lane < 8 → slice_index tally.counts.arms lane ≡ taken.arms lane
   pub stay_sure : (lane : ℕ) → lane < 8 → sure lane ≡ true → HasSureArm tally lane
-  pub pending : tally.pending ≡ none_pending settings
-  pub closures : tally.closures ≡ none_closed settings
+  pub seen : OpensSeen settings tally.seen
   pub contents : Tells → KeepsContents settings (read_contents taken) tally.contents
   pub formatted : Tells → FormatsVoid settings (read_contents taken) tally.contents
 

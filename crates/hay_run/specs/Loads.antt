@@ -5,13 +5,15 @@ use Rattle.hay_mount.specs.Mounts.{SameFrom}
 use Rattle.hay_needle.specs.declared.settings.Settings.{Settings}
 use Rattle.hay_legal.specs.Known.{disk_count}
 use Rattle.hay_lines.specs.Stream.{IsReadToEnd}
-use Rattle.hay_loading.specs.Endings.{CountsOn, LoadsTo}
+use Rattle.hay_loading.specs.Endings.{CountsOn, HaltsBehind, LoadsTo, ReadFront, ReadOver}
 
--- A load that ends with this status: what was read, answered and written, and what the disks that were given back hold. No other
--- disk is taken, and no arm.
+-- A load that ends with this status: what was read, answered and written, and what the disks that were given back hold. Where the source
+-- failed, or the script is too long, just what ends with the lines that were read was answered. No other disk is taken, and no arm.
 pub record IsLoad (Tells : Type 0) (settings : Settings) (status : ℕ) (disks disks' : ℕ → HeldDisk) (arms arms' : ℕ → HeldArm)
     (shelf shelf' : ℕ) (left left' before after : Option (List ℕ)) : Type 0 where
   pub loaded : (script : List ℕ) → left ≡ Some script → LoadsTo Tells settings script disks disks' shelf shelf' before after status
+  pub halts : status ≡ 4 → (script : List ℕ) → left ≡ Some script → HaltsBehind Tells settings script disks disks' shelf shelf' before after (λ read. ReadFront script read left')
+  pub halts_over : status ≡ 7 → (script : List ℕ) → left ≡ Some script → HaltsBehind Tells settings script disks disks' shelf shelf' before after (λ read. ReadOver script read left')
   pub ended : status ≡ 0 → IsReadToEnd left left'
   pub short : status ≡ 0 → (script : List ℕ) → left ≡ Some script → length script ≤ 1073741824
   pub counts : (slot : ℕ) → slot < disk_count settings → CountsOn (disks slot) (disks' slot)

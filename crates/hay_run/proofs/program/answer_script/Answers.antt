@@ -200,8 +200,7 @@ returns-clause-caused g c = λ script held told told_sink.
       stay_sure = λ lane within is.
           let arm = arm_there c.in-Ok.cluster.arms lane (subst (λ n. lane < n) (sym c.in-Ok.ensures.lanes) within) in
           lane_of A.is_sure c.in-Ok.cluster.arms lane arm.0 arm.1 (c.in-Ok.ensures.sure_arms lane arm.0 arm.1 ∙ is);
-      pending = c.in-Ok.ensures.settled;
-      closures = c.in-Ok.ensures.closures;
+      seen = c.in-Ok.ensures.opens;
       contents = c.in-Ok.ensures.contents;
       formatted = c.in-Ok.ensures.formatted;
     } in

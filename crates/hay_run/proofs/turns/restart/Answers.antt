@@ -8,7 +8,7 @@ use Rattle.hay_disk.specs.Streams.{Wrote, WrotePart}
 use Rattle.hay_script.specs.declared.Command.TheVariants as asks
 use Rattle.hay_legal.specs.declared.turn.Item.TheVariants as item
 use Rattle.hay_legal.specs.Items.Asked.{Alone}
-use Rattle.hay_cluster.specs.Pending.{TellsPending, pending_of}
+use Rattle.hay_cluster.specs.Seen.{TellsSeen, store_seen}
 use Rattle.hay_cluster.specs.State.{Stands, Holds}
 use Rattle.hay_cluster.proofs.Standing.{stands_holds}
 use Rattle.hay_cluster.proofs.Sure.{same_sure}
@@ -111,8 +111,8 @@ returns-in-Ok-clause-caused g c =
     let none : IsLaterTally (tally_of D.files D.drawn D.fault_count D.fuse_count A.fault_count A.is_sure c.args.cluster.now) (tally_of D.files D.drawn D.fault_count D.fuse_count A.fault_count A.is_sure c.restart.new.self) = (c.in-Ok.ensures.counts, NoneFalls-kept (map A.fault_count c.args.cluster.now.arms) (map A.fault_count c.restart.new.self.arms) (ap (map A.fault_count) c.in-Ok.ensures.arms), λ lane is. subst (λ arms. slice_get (map A.is_sure arms) lane ≡ Some true) (sym c.in-Ok.ensures.arms) is) in
     on_ok_weaker c.write_restarted.result (λ wrote.
     caused_restart g.D.Disk.Tells Wrote c.args.cluster.now.settings (tally_of D.files D.drawn D.fault_count D.fuse_count A.fault_count A.is_sure c.args.cluster.now) (tally_of D.files D.drawn D.fault_count D.fuse_count A.fault_count A.is_sure c.restart.new.self) c.args.number c.args.pick c.rows.result c.as_slice.result.now
-    (g.K.Sink.written c.args.sink.now) (g.K.Sink.written c.write_restarted.new.sink) none c.in-Ok.ensures.fuses (ap (map A.fault_count) c.in-Ok.ensures.arms) large (subst (λ (l : List Note). TellsPending c.args.cluster.now.settings (pending_of c.args.cluster.now) l) (sym c.as_slice.ensures) c.in-Ok.ensures.told)
-    (subst (λ (l : List Note). AllByRecursion FitsNote l) (sym c.as_slice.ensures) c.in-Ok.ensures.fits) c.in-Ok.ensures.settled c.in-Ok.ensures.closures c.in-Ok.ensures.sound wrote)
+    (g.K.Sink.written c.args.sink.now) (g.K.Sink.written c.write_restarted.new.sink) none c.in-Ok.ensures.fuses (ap (map A.fault_count) c.in-Ok.ensures.arms) large (subst (λ (l : List Note). TellsSeen c.args.cluster.now.settings (store_seen c.args.cluster.now) l) (sym c.as_slice.ensures) c.in-Ok.ensures.tells)
+    (subst (λ (l : List Note). AllByRecursion FitsNote l) (sym c.as_slice.ensures) c.in-Ok.ensures.fits) c.in-Ok.ensures.opens c.rows.ensures.count c.in-Ok.ensures.sound wrote)
     c.write_restarted.ensures.wrote
 
 pub returns-in-Ok-clause-stop_caused : goal.returns-in-Ok-clause-stop_caused
@@ -125,8 +125,8 @@ returns-in-Ok-clause-stop_caused g c = λ why is.
     (g.K.Sink.written c.args.sink.now) (g.K.Sink.written c.write_restarted.new.sink) c.write_restarted.result why is c.write_restarted.ensures.stops
     (on_err_weaker c.write_restarted.result (λ wrote.
     caused_restart g.D.Disk.Tells WrotePart c.args.cluster.now.settings (tally_of D.files D.drawn D.fault_count D.fuse_count A.fault_count A.is_sure c.args.cluster.now) (tally_of D.files D.drawn D.fault_count D.fuse_count A.fault_count A.is_sure c.restart.new.self) c.args.number c.args.pick c.rows.result c.as_slice.result.now
-    (g.K.Sink.written c.args.sink.now) (g.K.Sink.written c.write_restarted.new.sink) none c.in-Ok.ensures.fuses (ap (map A.fault_count) c.in-Ok.ensures.arms) large (subst (λ (l : List Note). TellsPending c.args.cluster.now.settings (pending_of c.args.cluster.now) l) (sym c.as_slice.ensures) c.in-Ok.ensures.told)
-    (subst (λ (l : List Note). AllByRecursion FitsNote l) (sym c.as_slice.ensures) c.in-Ok.ensures.fits) c.in-Ok.ensures.settled c.in-Ok.ensures.closures c.in-Ok.ensures.sound wrote)
+    (g.K.Sink.written c.args.sink.now) (g.K.Sink.written c.write_restarted.new.sink) none c.in-Ok.ensures.fuses (ap (map A.fault_count) c.in-Ok.ensures.arms) large (subst (λ (l : List Note). TellsSeen c.args.cluster.now.settings (store_seen c.args.cluster.now) l) (sym c.as_slice.ensures) c.in-Ok.ensures.tells)
+    (subst (λ (l : List Note). AllByRecursion FitsNote l) (sym c.as_slice.ensures) c.in-Ok.ensures.fits) c.in-Ok.ensures.opens c.rows.ensures.count c.in-Ok.ensures.sound wrote)
     c.write_restarted.ensures.part)
 
 pub returns-in-Err-clause-stop_caused : goal.returns-in-Err-clause-stop_caused
