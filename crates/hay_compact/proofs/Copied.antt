@@ -1,5 +1,5 @@
 -- A cell is examined.
-use Rattle.std.proofs.Common.{◌≡◌, ◌≢◌, ◌⊎◌, inl, inr, ◌≤◌, ◌<◌, ◌+◌, ◌-◌, ◌^◌, ℕ, Bool, true, false, not, ◌&&◌, cond, eqb, List, [], ◌∷◌, ◌++◌, length, take, drop, Option, Some, None, refl, sym, ap, ◌∙◌, subst, arith}
+use Rattle.std.proofs.Common.{◌≡◌, ◌≢◌, ◌⊎◌, inl, inr, ◌≤◌, ◌<◌, ◌+◌, ◌-◌, ◌^◌, ℕ, Bool, true, false, not, ◌&&◌, cond, eqb, List, [], ◌∷◌, ◌++◌, length, take, drop, Option, Some, None, Result, Err, refl, sym, ap, ◌∙◌, subst, arith}
 use Rattle.std.specs.Prelude.{All, map, option_map, slice_range}
 use Rattle.std.specs.Option.{option_or, option_eq}
 use Rattle.std.proofs.lemmas.Bool.{cases_Bool, true≢false, and_from, and_parts, not-true, eq-eqb, eqb-true}
@@ -21,8 +21,9 @@ use Rattle.hay_needle.specs.Tables.{is_live, lacks, look, needle_row, pair_eq, r
 use Rattle.hay_needle.proofs.CopyLaws.{copies_one}
 use Rattle.hay_needle.proofs.Needles.{length-head, length-needle, max_photo-le}
 use Rattle.hay_disk.specs.Disk.{Files, FileState, KeepsOthers}
+use Rattle.hay_volume.specs.declared.fault.CellFault.{CellFault}
 use Rattle.hay_volume.specs.declared.volume.VolumeFile.{VolumeFile}
-use Rattle.hay_volume.specs.Cells.{HasCells, IsMarked, IsVolume, cell_head, live_cell, needles_of}
+use Rattle.hay_volume.specs.Cells.{HasCells, IsCellAt, IsMarked, IsVolume, cell_head, live_cell, needles_of}
 use Rattle.hay_volume.proofs.Volumes.{length-marked}
 use Rattle.hay_index.specs.declared.index.IndexFile.{IndexFile}
 use Rattle.hay_index.specs.declared.record.Record.{Record}
@@ -30,22 +31,33 @@ use Rattle.hay_index.specs.Records.{IsIndex}
 use Rattle.hay_open.specs.Stored.{cell_record, index_super, last_cell, volume_super}
 use Rattle.hay_compact.specs.declared.standing.LastCell.{LastCell}
 use Rattle.hay_compact.specs.Standing.{LastCells, last_in}
-use Rattle.hay_compact.specs.Copying.{Copying, HasPeeked, IsCopy, IsLatest, IsSafe, Making, MovesOn, Stage, cell_total, kept_cell, live_among, renewed, renewed_needle}
+use Rattle.hay_compact.specs.Copying.{Copying, HasPeeked, HasRead, IsCopy, IsHeadOf, IsLatest, IsMaking, IsSafe, Making, MovesOn, Stage, cell_total, kept_cell, live_among, renewed, renewed_needle}
 use Rattle.hay_compact.proofs.LiveNeedles.{next_among}
 use Rattle.hay_compact.proofs.CellLists.{lacks_more, lacks_parts, last_cell-append, latest_live, other_dead}
 use Rattle.hay_compact.proofs.Copyings.{current_parts, end_next, needles_next, skips, within_next}
 
--- WHAT WAS PEEKED AT
+-- WHAT WAS READ
 
-pub peeked_long : (at : ℕ) (bytes : List ℕ) (head : CellHead) → HasPeeked at bytes head → length bytes ≡ needle_total head.size
-peeked_long at bytes head h =
+pub read_long : (at : ℕ) (bytes : List ℕ) (head : CellHead) → HasRead at bytes head → length bytes ≡ needle_total head.size
+read_long at bytes head h =
     length-needle bytes (needle_of_cell h.cell) h.is.is.is ∙ ap (λ (x : CellHead). needle_total x.size) (sym h.is.head_is)
 
-pub peeked_small : (at : ℕ) (bytes : List ℕ) (head : CellHead) → HasPeeked at bytes head → head.size ≤ 16777216
-peeked_small at bytes head h =
+pub read_small : (at : ℕ) (bytes : List ℕ) (head : CellHead) → HasRead at bytes head → head.size ≤ 16777216
+read_small at bytes head h =
     let size : head.size ≡ length h.cell.bytes = ap (λ (x : CellHead). x.size) h.is.head_is in
     let fits = h.is.is.is.fits.size in
     omega (arith, max_photo-le h.cell.version)
+
+-- the needle of a head that was peeked at
+pub read_of : (end at : ℕ) (bytes : List ℕ) (head : CellHead) (cell : Cell) → HasPeeked end at head → IsCellAt at bytes cell → head ≡ cell_head cell → HasRead at bytes head
+read_of end at bytes head cell peeked is heads =
+    let size : needle_total head.size ≡ needle_total (length cell.bytes) = ap (λ (x : CellHead). needle_total x.size) heads in
+    let inside = peeked.inside in
+    record {
+      cell = cell;
+      is = record { is = is; head_is = heads };
+      inside = omega (arith, length-needle bytes (needle_of_cell cell) is.is);
+    }
 
 -- its photo among its bytes
 pub photo_there : (at : ℕ) (bytes photo : List ℕ) (head : CellHead) (cell : Cell) → IsCopy at bytes head cell → photo ≡ take head.size (drop 36 bytes) → photo ≡ cell.bytes
@@ -62,17 +74,17 @@ pub photo_seen : (size : ℕ) (seen bytes : List ℕ) → seen ≡ bytes → sli
 photo_seen size seen bytes same = ap (λ k. take k (drop 36 seen)) (let e : 36 + size - 36 ≡ size = omega arith in e) ∙ ap (λ (l : List ℕ). take size (drop 36 l)) same
 
 -- its needle anew, and the end mark behind it
-pub anew_long : (at : ℕ) (bytes photo anew : List ℕ) (head : CellHead) → HasPeeked at bytes head → photo ≡ take head.size (drop 36 bytes) → IsMarked anew (live head.pair head.cookie photo) → length anew ≡ needle_total head.size + 8
+pub anew_long : (at : ℕ) (bytes photo anew : List ℕ) (head : CellHead) → HasRead at bytes head → photo ≡ take head.size (drop 36 bytes) → IsMarked anew (live head.pair head.cookie photo) → length anew ≡ needle_total head.size + 8
 anew_long at bytes photo anew head h seen marked =
     let size : length photo ≡ head.size = ap length (photo_there at bytes photo head h.cell h.is seen) ∙ sym (ap (λ (x : CellHead). x.size) h.is.head_is) in
     length-marked anew (live head.pair head.cookie photo) marked ∙ ap (λ k. needle_total k + 8) size
 
 -- nothing bounds the new file
-pub anew_fits : (s : Stage) (anew : List ℕ) (head : CellHead) → HasPeeked s.next s.bytes head → IsSafe s.volume s.index s.next → length anew ≡ needle_total head.size + 8 → s.volume.end + length anew ≤ s.volume.capacity
+pub anew_fits : (s : Stage) (anew : List ℕ) (head : CellHead) → HasRead s.next s.bytes head → IsSafe s.volume s.index s.next → length anew ≡ needle_total head.size + 8 → s.volume.end + length anew ≤ s.volume.capacity
 anew_fits s anew head h safe long =
     let behind = safe.behind in
     let unbounded = safe.unbounded in
-    omega (arith, peeked_long s.next s.bytes head h, h.inside)
+    omega (arith, read_long s.next s.bytes head h, h.inside)
 
 -- with this photo a live needle of version 2 is the cell anew
 pub renewed_is : (at next : ℕ) (bytes photo : List ℕ) (head : CellHead) (cell : Cell) → IsCopy next bytes head cell → head.deleted ≡ false → photo ≡ cell.bytes → live_cell at head.pair head.cookie photo ≡ renewed at cell
@@ -83,20 +95,22 @@ renewed_is at next bytes photo head cell copy alive is =
     ∙ ap (λ (b : Bool). with cell.pair cell.cookie cell.bytes b) (sym alive ∙ ap (λ (x : CellHead). x.deleted) copy.head_is)
 
 -- the sum of the places
-pub peeked_fits : (at next total : ℕ) (bytes : List ℕ) (head : CellHead) → HasPeeked at bytes head → next ≡ at → total ≡ needle_total head.size → next + total < 2 ^ 64
-peeked_fits at next total bytes head h same is = omega (arith, peeked_long at bytes head h, h.inside)
+pub read_fits : (at next total : ℕ) (bytes : List ℕ) (head : CellHead) → HasRead at bytes head → next ≡ at → total ≡ needle_total head.size → next + total < 2 ^ 64
+read_fits at next total bytes head h same is = omega (arith, read_long at bytes head h, h.inside)
 
 -- one more cell in the new file, behind which the current one's next cell stands
-pub stays_safe : (s : Stage) (volume : VolumeFile) (index : IndexFile) (row : Record) (head : CellHead) (total : ℕ) (anew : List ℕ) → HasPeeked s.next s.bytes head → length anew ≡ needle_total head.size + 8 → IsSafe s.volume s.index s.next
+pub stays_safe : (s : Stage) (volume : VolumeFile) (index : IndexFile) (row : Record) (head : CellHead) (total : ℕ) (anew : List ℕ) → HasRead s.next s.bytes head → length anew ≡ needle_total head.size + 8 → IsSafe s.volume s.index s.next
     → volume ≡ record s.volume { end = s.volume.end + (length anew - 8) }
     → index ≡ record s.index { pending = s.index.pending ++ row ∷ [] } → row.size ≡ head.size → total ≡ needle_total head.size → IsSafe volume index (s.next + total)
 stays_safe s volume index row head total anew h long safe grown noted size is =
     let Small : Record → Type 0 = λ (r : Record). r.size ≤ max_photo Two in
     let end : volume.end ≡ s.volume.end + (length anew - 8) = ap (λ (v : VolumeFile). v.end) grown in
+    let from = safe.from in
     let behind = safe.behind in
-    let small = peeked_small s.next s.bytes head h in
+    let small = read_small s.next s.bytes head h in
     record {
       unbounded = ap (λ (v : VolumeFile). v.capacity) grown ∙ safe.unbounded;
+      from = omega arith;
       behind = omega arith;
       thawed = ap (λ (i : IndexFile). i.frozen) noted ∙ safe.thawed;
       small = subst (λ (i : IndexFile). All Small i.pending) (sym noted) (All-append Small s.index.pending (row ∷ []) safe.small (All-cons Small row [] (omega arith) (All-nil Small)));
@@ -113,7 +127,7 @@ is_dead false true why = elim why [ inl gone ↦ absurd (true≢false (sym gone)
 is_dead false false why = refl
 
 pub copy_skips : (sup : Super) (files : Files) (old : VolumeFile) (s new : Stage) (current fresh : List Cell) (n at total : ℕ) (cell : Cell) (head : CellHead) (latest : Option ℕ)
-    → Copying sup files old s current fresh n → drop n current ≡ cell ∷ drop (n + 1) current → IsCopy s.next s.bytes head cell → IsLatest current cell.pair latest
+    → Copying sup files old s current fresh n → drop n current ≡ cell ∷ drop (n + 1) current → IsHeadOf s.next head cell → IsLatest current cell.pair latest
     → (head.deleted ≡ true) ⊎ (latest ≢ Some s.next) → total ≡ needle_total head.size → new ≡ record s { next = s.next + total }
     → MovesOn sup files old new current fresh n cell at false
 copy_skips sup files old s new current fresh n at total cell head latest h is copy last why size moves =
@@ -128,7 +142,7 @@ copy_skips sup files old s new current fresh n at total cell head latest h is co
           other_dead (take n current) behind cell latest at_parts
           (λ same. elim why [
             | inl gone ↦ true≢false (sym gone ∙ head_deleted head cell copy.head_is ∙ alive)
-            | inr other ↦ other (same ∙ ap (λ k. Some k) copy.is.place)
+            | inr other ↦ other (same ∙ ap (λ k. Some k) copy.place)
           ])
           alive)
     ]) in
@@ -333,6 +347,58 @@ copy_stands sup files later old s new standing current fresh n h same places is 
       next_is = h.next_is;
       known = h.known;
     }))
+
+-- and where the needle was read
+pub making_read : (files later : Files) (s new : Stage) → IsMaking files s → later ≡ files → new ≡ record s { bytes = new.bytes } → IsMaking later new
+making_read files later s new under same is =
+    let h = under.making in
+    subst (λ (f : Files). IsMaking f new) (sym same)
+    (subst (λ (x : Stage). IsMaking files x) (sym is)
+    (record {
+      sup = under.sup;
+      fresh = under.fresh;
+      making = record {
+        names_volume = h.names_volume;
+        names_index = h.names_index;
+        volume_is = h.volume_is;
+        index_is = h.index_is;
+        volume_free = h.volume_free;
+        index_free = h.index_free;
+        noted = h.noted;
+        anew = h.anew;
+        places = h.places;
+        capacity_is = h.capacity_is;
+      };
+    }))
+
+pub copying_read : (sup : Super) (files later : Files) (old : VolumeFile) (s new : Stage) (current fresh : List Cell) (n : ℕ) → Copying sup files old s current fresh n → later ≡ files
+    → new ≡ record s { bytes = new.bytes } → Copying sup later old new current fresh n
+copying_read sup files later old s new current fresh n h same is =
+    subst (λ (f : Files). Copying sup f old new current fresh n) (sym same)
+    (subst (λ (x : Stage). Copying sup files old x current fresh n) (sym is)
+    (record {
+      names_volume = h.names_volume;
+      names_index = h.names_index;
+      volume_is = h.volume_is;
+      index_is = h.index_is;
+      volume_free = h.volume_free;
+      index_free = h.index_free;
+      noted = h.noted;
+      anew = h.anew;
+      places = h.places;
+      capacity_is = h.capacity_is;
+      volume_apart = h.volume_apart;
+      index_apart = h.index_apart;
+      superblock = h.superblock;
+      current_is = h.current_is;
+      within = h.within;
+      next_is = h.next_is;
+      known = h.known;
+    }))
+
+-- the error that was passed on
+pub same_error : {T : Type 0} (r : Result T CellFault) (passed fault why : CellFault) → r ≡ Err passed → passed ≡ fault → r ≡ Err why → fault ≡ why
+same_error r passed fault why was same is = let e : passed ≡ why = cc in sym same ∙ e
 
 -- whether a place is the next one
 pub not_next : (latest : Option ℕ) (next here : ℕ) → true ≡ not (option_eq eqb latest (Some next)) → next ≡ here → latest ≢ Some here

@@ -7,9 +7,8 @@ use Rattle.std.proofs.lemmas.List.{length-drop, drop-map, take_all}
 use Rattle.std.proofs.lemmas.List.Sums.{sum_by-cons, sum_by-append}
 use Rattle.hay_needle.specs.declared.needle.Cell.{Cell}
 use Rattle.hay_needle.specs.declared.needle.CellHead.{CellHead}
-use Rattle.hay_needle.specs.declared.needle.Needle.{Needle}
 use Rattle.hay_needle.specs.declared.settings.Super.{Super}
-use Rattle.hay_needle.specs.Needle.{BeginsWithNeedle, needle_of_cell}
+use Rattle.hay_needle.specs.Needle.{Head, HeadBytes, head_of_cell, head_of_needle, needle_of_cell}
 use Rattle.hay_needle.specs.Sizes.{needle_total}
 use Rattle.hay_needle.specs.Tables.{is_live}
 use Rattle.hay_needle.proofs.CopyLaws.{copies_pass}
@@ -18,7 +17,7 @@ use Rattle.hay_volume.specs.declared.volume.VolumeFile.{VolumeFile}
 use Rattle.hay_volume.specs.Cells.{HasCells, StandsCell, IsCellAt, cell_head, needles_of}
 use Rattle.hay_volume.proofs.Readings.{cells_first, cell_begins, same_cell}
 use Rattle.hay_disk.specs.Gate.{HasBytesAt}
-use Rattle.hay_needle.proofs.Needles.{length-needle}
+use Rattle.hay_needle.proofs.Needles.{head_first, one_head}
 use Rattle.hay_compact.specs.Copying.{Copying, HasPeeked, Making, MovesOn, Stage, cell_total, end_of, live_among, renewed_needle}
 use Rattle.hay_compact.proofs.LiveNeedles.{next_among}
 use Rattle.hay_compact.proofs.CellLists.{after_front, cells_end}
@@ -166,31 +165,34 @@ has_next sup files old s current fresh n next h same more =
       fits = h.current_is.closed.room;
     }
 
+-- its head is there
+head_begins : (next : ℕ) (file : List ℕ) (cell : Cell) → StandsCell next file cell → HeadBytes (take 36 (drop next file)) (head_of_needle (needle_of_cell cell))
+head_begins next file cell stands = head_first (drop next file) (needle_of_cell cell) (cell_begins next file cell stands)
+
 -- no damage is there
-pub no_damage : (next end n : ℕ) (file : List ℕ) (current : List Cell) → HasNext next file end current n → ((needle : Needle) → BeginsWithNeedle (drop next file) needle → ⊥) → ⊥
-no_damage next end n file current h none = none (needle_of_cell h.cell) (cell_begins next file h.cell h.stands)
+pub no_damage : (next end n : ℕ) (file : List ℕ) (current : List Cell) → HasNext next file end current n → ((head : Head) → HeadBytes (take 36 (drop next file)) head → ⊥) → ⊥
+no_damage next end n file current h none = none (head_of_needle (needle_of_cell h.cell)) (head_begins next file h.cell h.stands)
+
+-- the head that was read
+pub read_head : (next : ℕ) (file : List ℕ) (cell : Cell) (head : CellHead) → StandsCell next file cell → head.at ≡ next → HeadBytes (take 36 (drop next file)) (head_of_cell head) → head ≡ cell_head cell
+read_head next file cell head stands at is =
+    let with : ℕ → Head → CellHead = λ k h. record { at = k; version = h.version; pair = h.pair; cookie = h.cookie; size = h.size; deleted = h.deleted } in
+    ap (λ k. with k (head_of_cell head)) (at ∙ sym stands.is.place)
+    ∙ ap (with cell.at) (one_head (take 36 (drop next file)) (head_of_cell head) (head_of_needle (needle_of_cell cell)) is (head_begins next file cell stands))
 
 -- the cell that was read
-pub read_cell : (next end n : ℕ) (file out : List ℕ) (current : List Cell) (cell : Cell) → HasNext next file end current n → IsCellAt next out cell → HasBytesAt next out file → (h : HasNext next file end current n) → cell ≡ h.cell
-read_cell next end n file out current cell first is stand h = same_cell next file cell h.cell (record { needle = out; is = is; stand = stand }) h.stands
+pub read_cell : (next : ℕ) (file out : List ℕ) (cell there : Cell) → IsCellAt next out cell → HasBytesAt next out file → StandsCell next file there → cell ≡ there
+read_cell next file out cell there is stand stands = same_cell next file cell there (record { needle = out; is = is; stand = stand }) stands
 
 -- there is room for it
-pub has_room : (next end n room most : ℕ) (file out : List ℕ) (current : List Cell) (cell : Cell) (head : CellHead) → HasNext next file end current n → IsCellAt next out cell → HasBytesAt next out file → head ≡ cell_head cell
+pub has_room : (next end n room most : ℕ) (file : List ℕ) (current : List Cell) (head : CellHead) → (h : HasNext next file end current n) → head ≡ cell_head h.cell
     → length file < 2 ^ 64 → most ≡ min (end + 8) 18446744073709551615 → room ≡ most - next → room < needle_total head.size + 8 → ⊥
-has_room next end n room most file out current cell head h is stand heads fits all left short =
-    let same = read_cell next end n file out current cell h is stand h in
-    let size : head.size ≡ length h.cell.bytes = ap (λ (x : CellHead). x.size) heads ∙ ap (λ (x : Cell). length x.bytes) same in
+has_room next end n room most file current head h heads fits all left short =
+    let size : head.size ≡ length h.cell.bytes = ap (λ (x : CellHead). x.size) heads in
     let total : needle_total head.size ≡ cell_total h.cell = ap needle_total size in
     let within = h.within in
     let room_is = h.fits in
     omega arith
 
-pub peeked_of : (at end room most : ℕ) (bytes : List ℕ) (head : CellHead) (cell : Cell) → IsCellAt at bytes cell → head ≡ cell_head cell → most ≡ min (end + 8) 18446744073709551615 → room ≡ most - at → needle_total head.size + 8 ≤ room
-    → HasPeeked at bytes head
-peeked_of at end room most bytes head cell is heads all left enough =
-    let size : needle_total head.size ≡ needle_total (length cell.bytes) = ap (λ (x : CellHead). needle_total x.size) heads in
-    record {
-      cell = cell;
-      is = record { is = is; head_is = heads };
-      inside = omega (arith, length-needle bytes (needle_of_cell cell) is.is);
-    }
+pub peeked_of : (at end room most : ℕ) (head : CellHead) → head.size ≤ 16777216 → most ≡ min (end + 8) 18446744073709551615 → room ≡ most - at → needle_total head.size + 8 ≤ room → HasPeeked end at head
+peeked_of at end room most head small all left enough = record { small = small; within = omega arith; inside = omega arith }

@@ -69,8 +69,20 @@ pub record IsCopy (at : ℕ) (bytes : List ℕ) (head : CellHead) (cell : Cell) 
   pub is : IsCellAt at bytes cell
   pub head_is : head ≡ cell_head cell
 
+-- the head is that of this cell, which stands at `at`
+pub record IsHeadOf (at : ℕ) (head : CellHead) (cell : Cell) : Type 0 where
+  pub place : cell.at ≡ at
+  pub head_is : head ≡ cell_head cell
+
+-- A head was read. Its size is a photo's, its needle ends at `end` or before, and the places of that and of the end mark behind it
+-- are numbers of 64 bits.
+pub record HasPeeked (end at : ℕ) (head : CellHead) : Type 0 where
+  pub small : head.size ≤ max_photo Two
+  pub within : at + needle_total head.size ≤ end
+  pub inside : at + needle_total head.size + 8 < 2 ^ 64
+
 -- The bytes are some cell's with this head. Its place, and that of the end mark behind it, are numbers of 64 bits.
-pub record HasPeeked (at : ℕ) (bytes : List ℕ) (head : CellHead) : Type 0 where
+pub record HasRead (at : ℕ) (bytes : List ℕ) (head : CellHead) : Type 0 where
   pub cell : Cell
   pub is : IsCopy at bytes head cell
   pub inside : at + length bytes + 8 < 2 ^ 64
@@ -78,7 +90,7 @@ pub record HasPeeked (at : ℕ) (bytes : List ℕ) (head : CellHead) : Type 0 wh
 -- HOW FAR A COMPACTION IS
 
 -- A compaction as it stands: the files of the new generation, with the capacity that its volume file is to have, each pair's last cell
--- in it, where the next cell of the current volume file stands, and what was read there.
+-- in it, where the next cell of the current volume file stands, and the needle that was read last.
 pub record Stage : Type 0 where
   pub generation : ℕ
   pub capacity : ℕ
@@ -88,9 +100,10 @@ pub record Stage : Type 0 where
   pub next : ℕ
   pub bytes : List ℕ
 
--- What holds on any disk: the new volume file ends before the place of the next cell, and nothing bounds it.
+-- What holds on any disk: the new volume file has its superblock and ends before the place of the next cell, and nothing bounds it.
 pub record IsSafe (volume : VolumeFile) (index : IndexFile) (next : ℕ) : Type 0 where
   pub unbounded : volume.capacity ≡ 18446744073709551615
+  pub from : 64 ≤ volume.end
   pub behind : volume.end ≤ next
   pub thawed : index.frozen ≡ false
   pub small : All (λ (row : Record). row.size ≤ max_photo Two) index.pending

@@ -1,6 +1,6 @@
 //! A compaction that is under way.
 
-ghost use Rattle.std.specs.Prelude.{◌≡◌, ◌⊎◌, ◌≢◌, ◌≤◌, ◌<◌, ◌+◌, ◌∷◌, [], List, ℕ, length, map, drop, Err, IsTrue, IfOk, OnOk, IsErr, IsErrOf, IfSome, IfNone, ◌↔◌};
+ghost use Rattle.std.specs.Prelude.{◌≡◌, ◌⊎◌, ◌≢◌, ◌≤◌, ◌<◌, ◌+◌, ◌∷◌, [], List, ℕ, length, map, drop, Err, IsTrue, IfOk, OnOk, OnErr, IsErr, IsErrOf, IfSome, IfNone, ◌↔◌, Ok, Some, true, false, ◌^◌};
 ghost use Rattle.hay_disk.specs.Counts.{IsCounted};
 ghost use Rattle.hay_disk.specs.Disk.{Files, KeepsOthers};
 ghost use Rattle.hay_needle.specs.declared.needle.Cell.{Cell};
@@ -8,11 +8,11 @@ ghost use Rattle.hay_needle.specs.declared.settings.Super.{Super};
 ghost use Rattle.hay_needle.specs.Needle.{live};
 ghost use Rattle.hay_needle.specs.Sizes.{needle_total};
 ghost use Rattle.hay_needle.specs.Tables.{live_needles, table_of};
-ghost use Rattle.hay_volume.specs.Cells.{IsMarked, IsVolume, needles_of};
+ghost use Rattle.hay_volume.specs.Cells.{IsMarked, IsVolume, StandsCell, cell_head, needles_of};
 ghost use Rattle.hay_volume.specs.declared.fault.CellFault.{CellFault};
 ghost use Rattle.hay_volume.specs.declared.volume.VolumeFile.{VolumeFile};
 ghost use Rattle.hay_open.specs.Stored.{index_file, volume_file};
-ghost use Rattle.hay_compact.specs.Copying.{Copies, Copying, HasPeeked, IsCopy, IsLatest, IsMaking, KeepsOtherFiles, Making, MovesOn, Repeats, live_among, renewed_needle};
+ghost use Rattle.hay_compact.specs.Copying.{Copies, Copying, HasPeeked, HasRead, IsCopy, IsHeadOf, IsLatest, IsMaking, KeepsOtherFiles, Making, MovesOn, Repeats, live_among, renewed_needle};
 
 use crate::standing::{LastCell, Standing};
 use hay_base::NoMemory;
@@ -22,6 +22,7 @@ use hay_needle::{
     CellHead, Cookie, FileKind, HEAD_LEN, MAX_PHOTO, NEEDLE_MAGIC, Pair, Super, encode_rest,
     total_of,
 };
+use hay_open::head_at;
 use hay_volume::{CellFault, VolumeFault, VolumeFile};
 use std::alloc::Global;
 use std::marker::Model;
@@ -42,7 +43,7 @@ pub struct Compactor {
     pub(crate) standing: Standing,
     /// Where the next cell of the current volume file stands.
     pub(crate) next: u64,
-    /// That cell once it was peeked at.
+    /// The needle that was read last.
     pub(crate) bytes: Vec<u8>,
     /// What is written of it: its needle anew, and the end mark behind it.
     pub(crate) anew: Vec<u8>,
@@ -77,6 +78,7 @@ impl Compactor {
         ensures made { D.Tells → IfOk result (λ stage. Making sup.now (D.files disk.new) stage []) }
         ensures names { IfOk result (λ stage. stage.generation ≡ generation) }
         ensures capacity { IfOk result (λ stage. stage.capacity ≡ sup.now.settings.capacity) }
+        ensures first { IfOk result (λ stage. stage.next ≡ 64) }
 
         ensures others { D.Tells → KeepsOtherFiles generation (D.files disk.old) (D.files disk.new) }
         ensures drawn { D.Tells → (n : ℕ) → D.drawn disk.new n ≡ D.drawn disk.old n }
@@ -142,33 +144,34 @@ impl Compactor {
         old.end() <= self.next
     }
 
-    /// The next cell of the current volume file, or none at its end.
+    /// The next cell of the current volume file, or none at its end, by the head of its needle. Nothing else is read.
     ///
-    /// `Damaged` comes only where that file has no needle at this place.
+    /// `Damaged` comes only where that file has no needle at this place. It takes no memory.
     pub fn peek<D: Disk>(
-        &mut self,
+        &self,
         disk: &mut D,
         old: &VolumeFile,
     ) -> Result<Option<CellHead>, CellFault>
         // On any disk the cell may be copied.
-        ensures peeked { IfOk result (λ next. IfSome next (λ head. HasPeeked self.new.next self.new.bytes head)) }
+        ensures peeked { IfOk result (λ next. IfSome next (λ head. HasPeeked old.now.end self.now.next head)) }
+        ensures end { IfOk result (λ next. IfNone next (old.now.end ≤ self.now.next)) }
+        ensures more { IfOk result (λ next. IfSome next (λ head. self.now.next < old.now.end)) }
         ensures cell { D.Tells → (sup : Super) (current fresh : List Cell) (examined : ℕ) →
-            Copying sup (D.files disk.old) old.now self.old current fresh examined →
+            Copying sup (D.files disk.old) old.now self.now current fresh examined →
             IfOk result (λ next. IfSome next (λ head. (cell : Cell)
             × (drop examined current ≡ cell ∷ drop (examined + 1) current)
-            × IsCopy self.new.next self.new.bytes head cell)) }
+            × IsHeadOf self.now.next head cell)) }
         ensures all { D.Tells → (sup : Super) (current fresh : List Cell) (examined : ℕ) →
-            Copying sup (D.files disk.old) old.now self.old current fresh examined →
+            Copying sup (D.files disk.old) old.now self.now current fresh examined →
             IfOk result (λ next. IfNone next (examined ≡ length current)) }
 
-        ensures place { (k : ℕ) → result ≡ Err (CellFault.Damaged k) → k ≡ self.old.next }
+        ensures place { (k : ℕ) → result ≡ Err (CellFault.Damaged k) → k ≡ self.now.next }
         ensures whole { D.Tells → (sup : Super) (current fresh : List Cell) (examined k : ℕ) →
-            Copying sup (D.files disk.old) old.now self.old current fresh examined → result ≡ Err (CellFault.Damaged k) → ⊥ }
+            Copying sup (D.files disk.old) old.now self.now current fresh examined → result ≡ Err (CellFault.Damaged k) → ⊥ }
+        ensures memory { result ≡ Err CellFault.NoMemory → ⊥ }
 
-        // The compaction stands where it stood.
-        ensures stands { self.new ≡ record self.old { bytes = self.new.bytes } }
         ensures same { D.Tells → D.files disk.new ≡ D.files disk.old }
-        ensures drawn { D.Tells → IfOk result (λ next. IfSome next (λ head. D.drawn disk.new old.now.file ≤ D.drawn disk.old old.now.file + needle_total head.size)) }
+        ensures drawn { D.Tells → OnOk result (D.drawn disk.new old.now.file ≤ D.drawn disk.old old.now.file + 36) }
         ensures drawn_none { D.Tells → IfOk result (λ next. IfNone next ((n : ℕ) → D.drawn disk.new n ≡ D.drawn disk.old n)) }
         ensures drawn_others { D.Tells → KeepsOthers old.now.file (D.drawn disk.old) (D.drawn disk.new) }
         ensures counted { IsCounted (D.fault_count disk.old) (D.fault_count disk.new) (IsErrOf result CellFault.Failed) }
@@ -177,7 +180,9 @@ impl Compactor {
         if self.ready(old) {
             return Ok(None);
         }
-        let head = old.cell_at(disk, self.next, &mut self.bytes)?;
+        let Some(head) = head_at(disk, old.file(), self.next)? else {
+            return Err(CellFault::Damaged { at: self.next });
+        };
         let room = old.end().saturating_add(MARK_LEN).saturating_sub(self.next);
         if room < total_of(head.size) + MARK_LEN {
             return Err(CellFault::Damaged { at: self.next });
@@ -187,24 +192,101 @@ impl Compactor {
 
     /// Examines the cell that was peeked at: it is written anew, in version 2, if it is not deleted and `latest` is its place,
     /// and the answer is whether it was. `latest` is the place of the last cell of its pair in the current volume file, or none
-    /// where that cell is deleted.
+    /// where that cell is deleted. The rest of its needle is read where it is written anew, and only there.
     ///
-    /// `NoMemory` leaves the compaction where it stood. After `Failed` it must not go on.
+    /// `Damaged` comes only where the current volume file has no needle at this place. `NoMemory` leaves the compaction where it
+    /// stood. After `Failed` it must not go on.
     pub fn copy<D: Disk>(
         &mut self,
         disk: &mut D,
+        old: &VolumeFile,
         cell: CellHead,
         latest: Option<u64>,
     ) -> Result<bool, CellFault>
-        requires peeked { HasPeeked self.old.next self.old.bytes cell }
+        requires peeked { HasPeeked old.now.end self.old.next cell }
         requires making { D.Tells → IsMaking (D.files disk.old) self.old }
 
-        ensures examined { D.Tells → IfOk result (λ copied. (sup : Super) (old : VolumeFile) (current fresh : List Cell) (examined : ℕ) (c : Cell) →
+        ensures examined { D.Tells → IfOk result (λ copied. (sup : Super) (current fresh : List Cell) (examined : ℕ) (c : Cell) →
+            Copying sup (D.files disk.old) old.now self.old current fresh examined →
+            drop examined current ≡ c ∷ drop (examined + 1) current →
+            IsHeadOf self.old.next cell c →
+            IsLatest current c.pair latest →
+            MovesOn sup (D.files disk.new) old.now self.new current fresh examined c self.old.volume.end copied) }
+        // A cell that is deleted, or is not the last of its pair, is passed over, whatever its needle has behind the head.
+        ensures passed { (cell.deleted ≡ true) ⊎ (latest ≢ Some self.old.next) → (result ≡ Ok false) × (disk.new ≡ disk.old) }
+        ensures whole { D.Tells → (sup : Super) (current fresh : List Cell) (examined k : ℕ) (c : Cell) →
+            Copying sup (D.files disk.old) old.now self.old current fresh examined →
+            drop examined current ≡ c ∷ drop (examined + 1) current →
+            IsHeadOf self.old.next cell c → result ≡ Err (CellFault.Damaged k) → ⊥ }
+        ensures place { (k : ℕ) → result ≡ Err (CellFault.Damaged k) → k ≡ self.old.next }
+        ensures stands { D.Tells → IsErrOf result CellFault.NoMemory → (sup : Super) (current fresh : List Cell) (examined : ℕ) →
+            Copying sup (D.files disk.old) old.now self.old current fresh examined →
+            Copying sup (D.files disk.new) old.now self.new current fresh examined }
+        ensures kept { D.Tells → IsErrOf result CellFault.NoMemory → D.files disk.new ≡ D.files disk.old }
+        ensures making { D.Tells → OnOk result (IsMaking (D.files disk.new) self.new) }
+        ensures made { D.Tells → IsErrOf result CellFault.NoMemory → IsMaking (D.files disk.new) self.new }
+
+        ensures moved { OnOk result (self.new.next ≡ self.old.next + needle_total cell.size) }
+        ensures stayed { OnErr result (self.new.next ≡ self.old.next) }
+        ensures names { self.new.generation ≡ self.old.generation }
+        ensures capacity { self.new.capacity ≡ self.old.capacity }
+        ensures others { D.Tells → KeepsOthers self.old.volume.file (D.files disk.old) (D.files disk.new) }
+        ensures drawn { D.Tells → D.drawn disk.new old.now.file ≤ D.drawn disk.old old.now.file + needle_total cell.size }
+        ensures drawn_others { D.Tells → KeepsOthers old.now.file (D.drawn disk.old) (D.drawn disk.new) }
+        ensures counted { IsCounted (D.fault_count disk.old) (D.fault_count disk.new) (IsErrOf result CellFault.Failed) }
+        ensures fuses { D.fuse_count disk.new ≡ D.fuse_count disk.old }
+    {
+        if cell.deleted || latest != Some(self.next) {
+            self.next += total_of(cell.size);
+            return Ok(false);
+        }
+        self.read(disk, old, cell)?;
+        self.append(disk, cell)?;
+        Ok(true)
+    }
+
+    // Reads the needle of the next cell, which has this head.
+    fn read<D: Disk>(
+        &mut self,
+        disk: &mut D,
+        old: &VolumeFile,
+        head: CellHead,
+    ) -> Result<(), CellFault>
+        requires { HasPeeked old.now.end self.old.next head }
+        ensures read { OnOk result (HasRead self.new.next self.new.bytes head) }
+        ensures copy { D.Tells → OnOk result ((cell : Cell) → StandsCell self.old.next (D.files disk.old old.now.file).now cell →
+            IsCopy self.new.next self.new.bytes head cell) }
+        ensures place { (k : ℕ) → result ≡ Err (CellFault.Damaged k) → k ≡ self.old.next }
+        ensures whole { D.Tells → (k : ℕ) (cell : Cell) → StandsCell self.old.next (D.files disk.old old.now.file).now cell → head ≡ cell_head cell →
+            result ≡ Err (CellFault.Damaged k) → ⊥ }
+
+        // The compaction stands where it stood.
+        ensures stands { self.new ≡ record self.old { bytes = self.new.bytes } }
+        ensures same { D.Tells → D.files disk.new ≡ D.files disk.old }
+        ensures drawn { D.Tells → D.drawn disk.new old.now.file ≤ D.drawn disk.old old.now.file + needle_total head.size }
+        ensures drawn_others { D.Tells → KeepsOthers old.now.file (D.drawn disk.old) (D.drawn disk.new) }
+        ensures counted { IsCounted (D.fault_count disk.old) (D.fault_count disk.new) (IsErrOf result CellFault.Failed) }
+        ensures fuses { D.fuse_count disk.new ≡ D.fuse_count disk.old }
+    {
+        let read = old.cell_within(disk, self.next, head.size, &mut self.bytes)?;
+        if read != head {
+            return Err(CellFault::Damaged { at: self.next });
+        }
+        Ok(())
+    }
+
+    // Writes the cell that was read anew, in version 2.
+    fn append<D: Disk>(&mut self, disk: &mut D, cell: CellHead) -> Result<(), CellFault>
+        requires read { HasRead self.old.next self.old.bytes cell }
+        requires alive { cell.deleted ≡ false }
+        requires making { D.Tells → IsMaking (D.files disk.old) self.old }
+
+        ensures examined { D.Tells → OnOk result ((sup : Super) (old : VolumeFile) (current fresh : List Cell) (examined : ℕ) (c : Cell) →
             Copying sup (D.files disk.old) old self.old current fresh examined →
             drop examined current ≡ c ∷ drop (examined + 1) current →
             IsCopy self.old.next self.old.bytes cell c →
-            IsLatest current c.pair latest →
-            MovesOn sup (D.files disk.new) old self.new current fresh examined c self.old.volume.end copied) }
+            IsLatest current c.pair (Some self.old.next) →
+            MovesOn sup (D.files disk.new) old self.new current fresh examined c self.old.volume.end true) }
         ensures stands { D.Tells → IsErrOf result CellFault.NoMemory → (sup : Super) (old : VolumeFile) (current fresh : List Cell) (examined : ℕ) →
             Copying sup (D.files disk.old) old self.old current fresh examined →
             Copying sup (D.files disk.new) old self.new current fresh examined }
@@ -213,6 +295,8 @@ impl Compactor {
         ensures made { D.Tells → IsErrOf result CellFault.NoMemory → IsMaking (D.files disk.new) self.new }
         ensures damaged { (k : ℕ) → result ≡ Err (CellFault.Damaged k) → ⊥ }
 
+        ensures moved { OnOk result (self.new.next ≡ self.old.next + needle_total cell.size) }
+        ensures stayed { OnErr result (self.new.next ≡ self.old.next) }
         ensures names { self.new.generation ≡ self.old.generation }
         ensures capacity { self.new.capacity ≡ self.old.capacity }
         ensures others { D.Tells → KeepsOthers self.old.volume.file (D.files disk.old) (D.files disk.new) }
@@ -220,10 +304,6 @@ impl Compactor {
         ensures counted { IsCounted (D.fault_count disk.old) (D.fault_count disk.new) (IsErrOf result CellFault.Failed) }
         ensures fuses { D.fuse_count disk.new ≡ D.fuse_count disk.old }
     {
-        if cell.deleted || latest != Some(self.next) {
-            self.next += total_of(cell.size);
-            return Ok(false);
-        }
         let photo = &self.bytes.as_slice()[HEAD_LEN..HEAD_LEN + cell.size as usize];
         encode_marked(cell.pair, cell.cookie, photo, &mut self.anew)?;
         self.standing.reserve(cell.pair)?;
@@ -238,7 +318,7 @@ impl Compactor {
                 self.standing
                     .set(cell.pair, LastCell { at, deleted: false });
                 self.next += total_of(cell.size);
-                Ok(true)
+                Ok(())
             }
             Err(fault) => {
                 self.index.unnote();
@@ -258,6 +338,7 @@ impl Compactor {
             Repeats sup (D.files disk.new) old self.new current fresh examined pair) }
         ensures making { D.Tells → OnOk result (IsMaking (D.files disk.new) self.new) }
 
+        ensures next { self.new.next ≡ self.old.next }
         ensures names { self.new.generation ≡ self.old.generation }
         ensures capacity { self.new.capacity ≡ self.old.capacity }
         ensures others { D.Tells → KeepsOthers self.old.volume.file (D.files disk.old) (D.files disk.new) }

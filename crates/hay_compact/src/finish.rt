@@ -1,6 +1,6 @@
 //! The end of a compaction.
 
-ghost use Rattle.std.specs.Prelude.{◌≡◌, ◌≤◌, List, ℕ, All, map, drop, false, IfOk, OnOk, IsErrOf};
+ghost use Rattle.std.specs.Prelude.{◌≡◌, ◌≤◌, List, [], ℕ, All, map, drop, false, IfOk, OnOk, IsErrOf};
 ghost use Rattle.hay_disk.specs.Counts.{IsCounted};
 ghost use Rattle.hay_disk.specs.Disk.{KeepsOthers};
 ghost use Rattle.hay_map.specs.declared.place.Place.TheVariants as place;
@@ -45,7 +45,11 @@ impl Compactor {
             Making sup (D.files disk.old) self fresh →
             IsFinished D.Piece.Tells sup (D.files disk.new) finished self fresh) }
         ensures thawed { IfOk result (λ finished. finished.index.frozen ≡ false) }
+        ensures flushed { IfOk result (λ finished. finished.index.pending ≡ []) }
         ensures capacity { IfOk result (λ finished. finished.volume.capacity ≡ self.capacity) }
+        // On any disk the new volume file is no longer than what was examined.
+        ensures from { IfOk result (λ finished. 64 ≤ finished.volume.end) }
+        ensures shorter { IfOk result (λ finished. finished.volume.end ≤ self.next) }
         ensures photos { IfOk result (λ finished. ArePhotos finished.places.items) }
         // Each cell of the new volume file is of version 2.
         ensures anew { D.Tells → IfOk result (λ finished. (superblock : List ℕ) (cells : List Cell) (end : ℕ) →

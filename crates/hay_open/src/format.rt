@@ -1,6 +1,6 @@
 //! Formatting a void disk.
 
-ghost use Rattle.std.specs.Prelude.{◌≡◌, ◌<◌, ℕ, List, [], false, IfOk, OnOk, Err, IsErrOf};
+ghost use Rattle.std.specs.Prelude.{◌≡◌, ◌≤◌, ◌<◌, ℕ, List, [], false, IfOk, OnOk, Err, IsErrOf};
 ghost use Rattle.hay_needle.specs.declared.settings.Super.{Super};
 ghost use Rattle.hay_disk.specs.Counts.{IsCounted};
 ghost use Rattle.hay_disk.specs.Disk.{IsFree, IsSolid, MayLeave};
@@ -31,6 +31,8 @@ pub(crate) fn format_disk<D: Disk>(
     ensures none { IfOk result (λ opened. opened.cells.items ≡ []) }
     ensures open { IfOk result (λ opened. opened.index.frozen ≡ false) }
     ensures capacity { IfOk result (λ opened. opened.volume.capacity ≡ sup.now.settings.capacity) }
+    ensures most { IfOk result (λ opened. opened.head.generation ≤ 65535) }
+    ensures from { IfOk result (λ opened. 64 ≤ opened.volume.end) }
     ensures solid { D.Tells → OnOk result ((n : ℕ) → IsSolid (D.files disk.new n)) }
     ensures others { D.Tells → (n : ℕ) → 2 < n → D.files disk.new n ≡ D.files disk.old n }
     ensures void { D.Tells → IsErrOf result Refusal.NoMemory → D.files disk.new 0 ≡ D.files disk.old 0 }

@@ -39,6 +39,7 @@ pub use files::{
 use hay_disk::{Disk, Failed};
 use hay_needle::Super;
 pub use opened::Opened;
+pub use record::head_at;
 use std::alloc::Global;
 
 /// Opens the disk of a replica. The superblock gives the settings, the volume and the replica.
@@ -71,6 +72,8 @@ pub fn open_replica<D: Disk>(
     ensures flags { D.Tells → IfOk result (MayFlagEach (D.files disk.new)) }
     ensures open { IfOk result (λ opened. opened.index.frozen ≡ false) }
     ensures capacity { IfOk result (λ opened. opened.volume.capacity ≡ sup.now.settings.capacity) }
+    ensures most { IfOk result (λ opened. opened.head.generation ≤ 65535) }
+    ensures from { IfOk result (λ opened. 64 ≤ opened.volume.end) }
     ensures solid { D.Tells → OnOk result ((n : ℕ) → IsSolid (D.files disk.new n)) }
 
     // A disk that is not void keeps its bytes, and all of it stays on the disk. Of one that is void only the files 0, 1 and 2

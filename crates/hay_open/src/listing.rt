@@ -22,7 +22,9 @@ ghost use Rattle.hay_open.specs.Stored.{Stored, IsStored};
 ghost use Rattle.hay_open.specs.Stored as stored;
 
 use crate::fault::Refusal;
-use crate::files::{HEAD_FILE, head_super, index_file, index_super, volume_file, volume_super};
+use crate::files::{
+    HEAD_FILE, LAST_GENERATION, head_super, index_file, index_super, volume_file, volume_super,
+};
 use crate::record::fitting_head;
 use hay_disk::Disk;
 use hay_head::{Head, HeadFault, read_front};
@@ -59,6 +61,7 @@ struct Recorded {
 // Reads the head file.
 fn read_head_file<D: Disk>(disk: &mut D, sup: &Super) -> Result<Head, Refusal>
     ensures head { D.Tells → IfOk result (λ head. IsHead (super_bytes (stored.head_super sup.now)) (D.files disk.old 0).now head.generation) }
+    ensures most { IfOk result (λ head. head.generation ≤ 65535) }
     ensures damaged { D.Tells → (file at : ℕ) → result ≡ Err (Refusal.Damaged file at) → (file ≡ 0) × IsDamagedHead (stored.head_super sup.now) (D.files disk.old 0).now at }
     ensures undamaged { D.Tells → OnOk result ((at : ℕ) → IsDamagedHead (stored.head_super sup.now) (D.files disk.old 0).now at → ⊥) }
     ensures only { D.Tells → (generation : ℕ) → IsHead (super_bytes (stored.head_super sup.now)) (D.files disk.old 0).now generation
@@ -69,7 +72,16 @@ fn read_head_file<D: Disk>(disk: &mut D, sup: &Super) -> Result<Head, Refusal>
     ensures fuses { D.fuse_count disk.new ≡ D.fuse_count disk.old }
 {
     match Head::read(disk, &head_super(sup)) {
-        Ok(head) => Ok(head),
+        Ok(head) => {
+            if head.generation > LAST_GENERATION {
+                // No disk that tells what it holds has a later generation.
+                return Err(Refusal::Damaged {
+                    file: HEAD_FILE,
+                    at: 0,
+                });
+            }
+            Ok(head)
+        }
         Err(HeadFault::Failed) => Err(Refusal::Failed),
         Err(HeadFault::NoMemory) => Err(Refusal::NoMemory),
         Err(HeadFault::Damaged { at }) => Err(Refusal::Damaged {
@@ -129,6 +141,7 @@ fn read_recorded<D: Disk>(alloc: Global, disk: &mut D, sup: &Super) -> Result<Re
     ensures index { IfOk result (λ read. read.index ≡ record { file = read.index.file; end = read.index.end; pending = []; frozen = false }) }
     ensures number { D.Tells → IfOk result (λ read. read.index.file ≡ stored.index_file read.head.generation) }
     ensures row { IfOk result (λ read. AreInRow 64 read.records.items) }
+    ensures most { IfOk result (λ read. read.head.generation ≤ 65535) }
     ensures damaged { D.Tells → (file at : ℕ) → result ≡ Err (Refusal.Damaged file at) → IsDamagedFront sup.now (λ n. (D.files disk.old n).now) file at }
     ensures undamaged { D.Tells → OnOk result ((file at : ℕ) → IsDamagedFront sup.now (λ n. (D.files disk.old n).now) file at → ⊥) }
     ensures only { D.Tells → (generation : ℕ) (records : List Record) (end : ℕ) → IsRecorded sup.now (λ n. (D.files disk.old n).now) generation records end
@@ -186,7 +199,8 @@ fn check_last<D: Disk>(
 // Where the last recorded needle ends.
 fn scan_start(records: &[Record]) -> u64
     requires { AreInRow 64 records.now }
-    ensures { result ≡ damage.scan_start records.now }
+    ensures is { result ≡ damage.scan_start records.now }
+    ensures from { 64 ≤ result }
 {
     match records.last() {
         None => SUPER_LEN as u64,
@@ -203,6 +217,7 @@ fn scan<D: Disk>(
 ) -> Result<(Vec<CellHead>, u64), Refusal>
     ensures cells { D.Tells → IfOk result (λ scan. (cells : List Cell) × HasCells at (D.files disk.old file).now cells scan.1 × (scan.0.items ≡ map cell_head cells)) }
     ensures mark { D.Tells → IfOk result (λ scan. IsClosed needle_magic scan.1 (D.files disk.old file).now) }
+    ensures behind { IfOk result (λ scan. at ≤ scan.1) }
     ensures damaged { D.Tells → (number k : ℕ) → result ≡ Err (Refusal.Damaged number k) → (number ≡ file) × volume_specs.IsDamagedCell at (D.files disk.old file).now k }
     ensures same { D.Tells → D.files disk.new ≡ D.files disk.old }
     ensures drawn { D.Tells → IfOk result (λ scan. D.drawn disk.new file + at ≤ D.drawn disk.old file + scan.1 + 8) }
@@ -211,7 +226,13 @@ fn scan<D: Disk>(
 {
     let from = VolumeFile::adopt(file, at, at);
     match from.scan_from(alloc, disk, at) {
-        Ok(scan) => Ok(scan),
+        Ok((cells, end)) => {
+            if end < at {
+                // No disk that tells what it holds has cells that end before they begin.
+                return Err(Refusal::Damaged { file, at });
+            }
+            Ok((cells, end))
+        }
         Err(CellFault::Failed) => Err(Refusal::Failed),
         Err(CellFault::NoMemory) => Err(Refusal::NoMemory),
         Err(CellFault::Damaged { at }) => Err(Refusal::Damaged { file, at }),
@@ -249,6 +270,8 @@ pub(crate) fn read_listing<D: Disk>(
     ensures listing { D.Tells → IfOk result (λ listing. IsListing sup.now (λ n. (D.files disk.old n).now) listing) }
     ensures open { IfOk result (λ listing. listing.index.frozen ≡ false) }
     ensures within { IfOk result (λ listing. listing.recorded ≤ length listing.rows.items) }
+    ensures most { IfOk result (λ listing. listing.head.generation ≤ 65535) }
+    ensures from { IfOk result (λ listing. 64 ≤ listing.end) }
     ensures damaged { D.Tells → (file at : ℕ) → result ≡ Err (Refusal.Damaged file at) →
         IsDamagedFront sup.now (λ n. (D.files disk.old n).now) file at
         ⊎ ((generation : ℕ) × (records : List Record) × (end : ℕ) × IsRecorded sup.now (λ n. (D.files disk.old n).now) generation records end

@@ -37,6 +37,8 @@ pub(crate) fn read_disk<D: Disk>(
     ensures front { D.Tells → OnOk result ((file at : ℕ) → IsDamagedFront sup.now (λ n. (D.files disk.old n).now) file at → ⊥) }
     ensures open { IfOk result (λ opened. opened.index.frozen ≡ false) }
     ensures capacity { IfOk result (λ opened. opened.volume.capacity ≡ sup.now.settings.capacity) }
+    ensures most { IfOk result (λ opened. opened.head.generation ≤ 65535) }
+    ensures from { IfOk result (λ opened. 64 ≤ opened.volume.end) }
     ensures kept { D.Tells → (n : ℕ) → (D.files disk.new n).now ≡ (D.files disk.old n).now }
     ensures solid { D.Tells → (n : ℕ) → IsSolid (D.files disk.new n) }
     ensures damaged { D.Tells → (file at : ℕ) → result ≡ Err (Refusal.Damaged file at) → IsReadingDamage sup.now (λ n. (D.files disk.old n).now) file at }

@@ -3,6 +3,7 @@
 ghost use Rattle.std.specs.Prelude.{◌≡◌, ◌≤◌, ◌<◌, ◌+◌, ℕ, List, length, take, drop, Err, IsErr, IsErrOf, IfOk, OnOk, IfSome, IfNone};
 ghost use Rattle.hay_needle.specs.Needle.{Head, HeadBytes, head_of_cell};
 ghost use Rattle.hay_disk.specs.Counts.{IsCounted};
+ghost use Rattle.hay_disk.specs.Disk.{KeepsOthers};
 ghost use Rattle.hay_index.specs.declared.record.Record.{Record};
 ghost use Rattle.hay_index.specs.Records.{BeginsWithBlock, IsIndex};
 ghost use Rattle.hay_open.specs.Damage.{IsRecordAt};
@@ -19,13 +20,14 @@ const FRONT_LEN: usize = 16;
 // The number of bytes of a record.
 const RECORD_LEN: u64 = 32;
 
-// The head of the needle at a place, if one stands there.
-fn head_at<D: Disk>(disk: &mut D, file: u32, at: u64) -> Result<Option<CellHead>, Failed>
+/// The head of the needle at a place, if one stands there. Nothing else is read.
+pub fn head_at<D: Disk>(disk: &mut D, file: u32, at: u64) -> Result<Option<CellHead>, Failed>
     ensures place { IfOk result (λ seen. IfSome seen (λ head. head.at ≡ at)) }
     ensures size { IfOk result (λ seen. IfSome seen (λ head. head.size ≤ MAX_PHOTO)) }
     ensures stands { D.Tells → IfOk result (λ seen. IfSome seen (λ head. HeadBytes (take 36 (drop at (D.files disk.old file).now)) (head_of_cell head))) }
     ensures none { D.Tells → IfOk result (λ seen. IfNone seen ((head : Head) → HeadBytes (take 36 (drop at (D.files disk.old file).now)) head → ⊥)) }
     ensures drawn { D.Tells → D.drawn disk.new file ≤ D.drawn disk.old file + 36 }
+    ensures drawn_others { D.Tells → KeepsOthers file (D.drawn disk.old) (D.drawn disk.new) }
     ensures same { D.Tells → D.files disk.new ≡ D.files disk.old }
     ensures counted { IsCounted (D.fault_count disk.old) (D.fault_count disk.new) (IsErr result) }
     ensures fuses { D.fuse_count disk.new ≡ D.fuse_count disk.old }

@@ -16,10 +16,22 @@ use Rattle.hay_map.specs.Sealed.{SealedNeedle}
 use Rattle.hay_map.specs.declared.place.Place.TheVariants as place
 use Rattle.hay_open.specs.Stored.{IsSealedCell, PlaceOf, Stored, last_cell, volume_file}
 use Rattle.hay_physical.specs.declared.state.Phase.{Phase}
-use Rattle.hay_physical.specs.Copies.{Copy, HasFrozen, IsUp, capacity_of, copier_goal, end_of, generation_of, goal_of, is_stuck, phase_capacity, phase_goal, phase_end, phase_generation, phase_stuck}
+use Rattle.hay_physical.specs.declared.state.Phase.TheVariants.{Closed, Open}
+use Rattle.hay_physical.specs.Copies.{Copy, HasFrozen, IsUp, capacity_of, copier_goal, end_of, generation_of, goal_of, is_stuck, next_of, phase_capacity, phase_goal, phase_end, phase_generation, phase_next, phase_stuck}
 use Rattle.hay_physical.specs.Replicas.{Finds, HasLive, Holds, MayDelete, MayFind, PhaseMayDelete, Stands}
 use Rattle.hay_physical.proofs.Holding.{stand_finds}
+use Rattle.hay_physical.proofs.RunLaws.{none_next}
 use Rattle.hay_physical.proofs.Standing.{stand_flag}
+
+-- WHERE NO COMPACTION STANDS
+
+-- no cell is next
+no_next_in : (p : Phase) → phase_goal p ≡ None → phase_next p ≡ 0
+no_next_in Closed none = refl
+no_next_in (Open opened) none = none_next opened.copier none
+
+pub no_next : {D : Type 0} (r : Copy D) → goal_of r ≡ None → next_of r ≡ 0
+no_next r none = no_next_in r.phase none
 
 -- A REPLICA THAT STANDS
 

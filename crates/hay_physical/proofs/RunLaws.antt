@@ -19,13 +19,13 @@ use Rattle.std.specs.Prelude.{IfSome, IfNone, nat_eq}
 use Rattle.hay_volume.specs.Cells.{IsVolume, live_cell, needles_of, with_flag}
 use Rattle.hay_index.specs.Records.{IsIndex, index_magic}
 use Rattle.hay_open.specs.Stored.{HeadRests, Stored, VolumeRests, index_file, index_super, volume_file, volume_super}
-use Rattle.hay_compact.specs.Copying.{Copying, IsCopy, IsLatest, IsMaking, KeepsOtherFiles, MovesOn, Repeats, Stage, with_copy, renewed}
+use Rattle.hay_compact.specs.Copying.{Copying, IsHeadOf, IsLatest, IsMaking, KeepsOtherFiles, MovesOn, Repeats, Stage, with_copy, renewed}
 use Rattle.hay_compact.proofs.CellLists.{flagged_needles}
 use Rattle.hay_compact.proofs.Meanwhile.{copies_deleted, copies_none, copies_put, copies_repeated, copying_current, copying_delete, copying_put}
 use Rattle.hay_physical.specs.declared.state.Copier.{Copier}
 use Rattle.hay_physical.specs.declared.state.Copier.TheVariants.{Ended, Standing}
 use Rattle.hay_physical.specs.declared.state.OpenFiles.{OpenFiles}
-use Rattle.hay_physical.specs.Copies.{copier_capacity, copier_goal}
+use Rattle.hay_physical.specs.Copies.{copier_capacity, copier_goal, copier_next}
 use Rattle.hay_physical.specs.Replicas.{FilesReady, FilesStand, IndexStands, IsBounded, IsCopierReady, IsSettled, MayFlag, with_cell, without_cell}
 use Rattle.hay_physical.specs.Runs.{FilesPeek, FilesRun, HasLastAt, KeepsCopier, KeepsFiles, Run, loosened, longer, stepped}
 use Rattle.hay_disk.specs.Gate.{IsGate}
@@ -129,36 +129,83 @@ settled_still old new settled head copier frozen = record {
   dropped = λ now. ap copier_goal copier ∙ settled.dropped (sym frozen ∙ now);
 }
 
-pub bounded_still : (capacity : ℕ) (old new : OpenFiles) → IsBounded capacity old → new.volume.capacity ≡ old.volume.capacity → new.copier ≡ old.copier → IsBounded capacity new
-bounded_still capacity old new bounded volume copier = record {
-  volume = volume ∙ bounded.volume;
-  next = λ most is. bounded.next most (ap copier_capacity (sym copier) ∙ is);
-}
+pub bounded_still : (capacity : ℕ) (old new : OpenFiles) → IsBounded capacity old → new.head ≡ old.head → new.volume.capacity ≡ old.volume.capacity → old.volume.end ≤ new.volume.end → new.copier ≡ old.copier → IsBounded capacity new
+bounded_still capacity old new bounded head volume grows copier =
+    let most = bounded.most in
+    let from = bounded.from in
+    let within = bounded.within in
+    record {
+      volume = volume ∙ bounded.volume;
+      next = λ most is. bounded.next most (ap copier_capacity (sym copier) ∙ is);
+      most = omega (arith, ap (λ (h : Head). h.generation) head);
+      from = omega arith;
+      within = omega (arith, ap copier_next copier);
+    }
 
-pub bounded_ended : (capacity : ℕ) (new : OpenFiles) (faults : ℕ) → new.volume.capacity ≡ capacity → new.copier ≡ Ended faults → IsBounded capacity new
-bounded_ended capacity new faults volume ended = record {
+pub bounded_ended : (capacity : ℕ) (new : OpenFiles) (faults : ℕ) → new.volume.capacity ≡ capacity → new.head.generation ≤ 65535 → 64 ≤ new.volume.end → new.copier ≡ Ended faults → IsBounded capacity new
+bounded_ended capacity new faults volume most from ended = record {
   volume = volume;
   next = λ most is. absurd (let e : None ≡ Some most = sym (ap copier_capacity ended) ∙ is in cc);
+  most = most;
+  from = from;
+  within = (let none : copier_next new.copier ≡ 0 = ap copier_next ended in omega arith);
 }
 
-pub bounded_stage : (capacity : ℕ) (new : OpenFiles) (stage : Stage) → new.volume.capacity ≡ capacity → new.copier ≡ Standing stage → stage.capacity ≡ capacity → IsBounded capacity new
-bounded_stage capacity new stage volume stands same = record {
-  volume = volume;
+-- and nothing else changed
+pub bounded_dropped : (capacity : ℕ) (old new : OpenFiles) (faults : ℕ) → IsBounded capacity old → KeepsFiles old new → new.copier ≡ Ended faults → IsBounded capacity new
+bounded_dropped capacity old new faults bounded keeps ended =
+    bounded_ended capacity new faults (ap (λ (o : OpenFiles). o.volume.capacity) keeps ∙ bounded.volume)
+    (subst (λ (o : OpenFiles). o.head.generation ≤ 65535) (sym keeps) bounded.most) (subst (λ (o : OpenFiles). 64 ≤ o.volume.end) (sym keeps) bounded.from) ended
+
+pub bounded_stage : (capacity : ℕ) (old new : OpenFiles) (stage : Stage) → IsBounded capacity old → KeepsFiles old new → new.copier ≡ Standing stage → stage.capacity ≡ capacity → stage.next ≤ old.volume.end → IsBounded capacity new
+bounded_stage capacity old new stage bounded keeps stands same within = record {
+  volume = ap (λ (o : OpenFiles). o.volume.capacity) keeps ∙ bounded.volume;
   next = λ most is. let e : Some stage.capacity ≡ Some most = sym (ap copier_capacity stands) ∙ is in let f : most ≡ stage.capacity = cc in f ∙ same;
+  most = subst (λ (o : OpenFiles). o.head.generation ≤ 65535) (sym keeps) bounded.most;
+  from = subst (λ (o : OpenFiles). 64 ≤ o.volume.end) (sym keeps) bounded.from;
+  within = subst (λ (o : OpenFiles). copier_next new.copier ≤ o.volume.end) (sym keeps) (subst (λ k. k ≤ old.volume.end) (sym (ap copier_next stands)) within);
 }
 
-pub bounded_next : (capacity : ℕ) (old new : OpenFiles) (stage later : Stage) → IsBounded capacity old → new.volume.capacity ≡ old.volume.capacity
-    → old.copier ≡ Standing stage → new.copier ≡ Standing later → later.capacity ≡ stage.capacity → IsBounded capacity new
-bounded_next capacity old new stage later bounded volume was is same =
-    bounded_stage capacity new later (volume ∙ bounded.volume) is (same ∙ bounded.next stage.capacity (ap copier_capacity was))
+pub bounded_next : (capacity : ℕ) (old new : OpenFiles) (stage later : Stage) → IsBounded capacity old → KeepsFiles old new
+    → old.copier ≡ Standing stage → new.copier ≡ Standing later → later.capacity ≡ stage.capacity → later.next ≤ old.volume.end → IsBounded capacity new
+bounded_next capacity old new stage later bounded keeps was is same within =
+    bounded_stage capacity old new later bounded keeps is (same ∙ bounded.next stage.capacity (ap copier_capacity was)) within
 
-pub bounded_kept : (capacity : ℕ) (old new : OpenFiles) → IsBounded capacity old → new.volume.capacity ≡ old.volume.capacity → KeepsCopier old new → IsBounded capacity new
-bounded_kept capacity old new bounded volume keeps =
+-- what was examined is within the cells
+pub examined_within : (capacity : ℕ) (opened : OpenFiles) (stage : Stage) → IsBounded capacity opened → opened.copier ≡ Standing stage → stage.next ≤ opened.volume.end
+examined_within capacity opened stage bounded is = subst (λ k. k ≤ opened.volume.end) (ap copier_next is) bounded.within
+
+pub bounded_kept : (capacity : ℕ) (old new : OpenFiles) → IsBounded capacity old → new.volume.capacity ≡ old.volume.capacity → old.volume.end ≤ new.volume.end → KeepsCopier old new → IsBounded capacity new
+bounded_kept capacity old new bounded volume grows keeps =
     elim (cases_Bool new.frozen) [
-      | inr going ↦ bounded_still capacity old new bounded volume (keeps.same going)
+      | inr going ↦ bounded_still capacity old new bounded keeps.head volume grows (keeps.same going)
       | inl frozen ↦ elim (cases_Bool old.frozen) [
-        | inl before ↦ bounded_still capacity old new bounded volume (keeps.stays before)
-        | inr going ↦ let ended = keeps.dropped going frozen in bounded_ended capacity new ended.0 (volume ∙ bounded.volume) ended.1
+        | inl before ↦ bounded_still capacity old new bounded keeps.head volume grows (keeps.stays before)
+        | inr going ↦
+            let ended = keeps.dropped going frozen in
+            let most = bounded.most in
+            let from = bounded.from in
+            bounded_ended capacity new ended.0 (volume ∙ bounded.volume) (omega (arith, ap (λ (h : Head). h.generation) keeps.head)) (omega arith) ended.1
+      ]
+    ]
+
+-- where none stands no cell is next
+pub none_next : (copier : Copier) → copier_goal copier ≡ None → copier_next copier ≡ 0
+none_next (Ended faults) none = refl
+none_next (Standing stage) none = absurd cc
+
+-- one that ended does not have the goal any more
+pub gone : (old new : Copier) (stage : Stage) (faults : ℕ) → old ≡ Standing stage → new ≡ Ended faults → copier_goal new ≡ copier_goal old → ⊥
+gone old new stage faults was ended same = let e : None ≡ Some stage.generation = sym (ap copier_goal ended) ∙ same ∙ ap copier_goal was in cc
+
+-- a change that leaves it leaves the next cell
+pub place_kept : (old new : OpenFiles) → KeepsCopier old new → copier_goal new.copier ≡ copier_goal old.copier → copier_next new.copier ≡ copier_next old.copier
+place_kept old new keeps same =
+    elim (cases_Bool new.frozen) [
+      | inr going ↦ ap copier_next (keeps.same going)
+      | inl frozen ↦ elim (cases_Bool old.frozen) [
+        | inl before ↦ ap copier_next (keeps.stays before)
+        | inr going ↦ let ended = keeps.dropped going frozen in ap copier_next ended.1 ∙ sym (none_next old.copier (sym same ∙ ap copier_goal ended.1))
       ]
     ]
 
@@ -349,45 +396,6 @@ run_deleted sup files middle later opened flagged new s pair at run next r f vol
 
 -- A CELL IS EXAMINED
 
-pub copying_read : (sup : Super) (files : Files) (old : VolumeFile) (stage next : Stage) (current fresh : List Cell) (n : ℕ) → next ≡ record stage { bytes = next.bytes } → Copying sup files old stage current fresh n → Copying sup files old next current fresh n
-copying_read sup files old stage next current fresh n is h = subst (λ (x : Stage). Copying sup files old x current fresh n) (sym is) (record {
-  names_volume = h.names_volume;
-  names_index = h.names_index;
-  volume_is = h.volume_is;
-  index_is = h.index_is;
-  volume_free = h.volume_free;
-  index_free = h.index_free;
-  noted = h.noted;
-  anew = h.anew;
-  places = h.places;
-  capacity_is = h.capacity_is;
-  volume_apart = h.volume_apart;
-  index_apart = h.index_apart;
-  superblock = h.superblock;
-  current_is = h.current_is;
-  within = h.within;
-  next_is = h.next_is;
-  known = h.known;
-})
-
-pub making_read : (files : Files) (stage next : Stage) → next ≡ record stage { bytes = next.bytes } → IsMaking files stage → IsMaking files next
-making_read files stage next is m = subst (λ (x : Stage). IsMaking files x) (sym is) (record {
-  sup = m.sup;
-  fresh = m.fresh;
-  making = record {
-    names_volume = m.making.names_volume;
-    names_index = m.making.names_index;
-    volume_is = m.making.volume_is;
-    index_is = m.making.index_is;
-    volume_free = m.making.volume_free;
-    index_free = m.making.index_free;
-    noted = m.making.noted;
-    anew = m.making.anew;
-    places = m.making.places;
-    capacity_is = m.making.capacity_is;
-  };
-})
-
 -- a copier that stands where it stood
 pub run_moves : (sup : Super) (files later : Files) (opened new : OpenFiles) (s : Stored) (run : Run) (next : Stage) → (r : FilesRun sup files opened s run) → new.copier ≡ Standing next → new.volume ≡ opened.volume → next.generation ≡ r.stage.generation
     → Copying sup later opened.volume next s.cells r.fresh r.examined → FilesRun sup later new s run
@@ -449,53 +457,40 @@ by_fault CellFault.NoMemory P memory failed damaged = memory refl
 by_fault CellFault.Failed P memory failed damaged = failed refl
 by_fault (CellFault.Damaged at) P memory failed damaged = damaged at refl
 
--- a run whose copier has read a cell
-pub run_read : (sup : Super) (files later : Files) (opened new : OpenFiles) (s : Stored) (run : Run) (stage next : Stage) → FilesRun sup files opened s run → opened.copier ≡ Standing stage → new.copier ≡ Standing next → new.volume ≡ opened.volume
-    → next ≡ record stage { bytes = next.bytes } → later ≡ files → FilesRun sup later new s run
-run_read sup files later opened new s run stage next r was copier volume read same =
-    subst (λ (f : Files). FilesRun sup f new s run) (sym same)
-    (run_moves sup files files opened new s run next r copier volume (ap (λ (x : Stage). x.generation) (read ∙ sym (ap (λ (x : Stage). record x { bytes = next.bytes }) (stage_at sup files opened s run stage r was))))
-    (copying_read sup files opened.volume stage next s.cells r.fresh r.examined read (copying_at sup files opened s run stage r was)))
-
-peek_one : (sup : Super) (files later : Files) (opened new : OpenFiles) (s : Stored) (run : Run) (stage next : Stage) (head : CellHead) (r : FilesRun sup files opened s run) → opened.copier ≡ Standing stage → new.copier ≡ Standing next → new.volume ≡ opened.volume
-    → next ≡ record stage { bytes = next.bytes } → later ≡ files → (cell : Cell) × (drop r.examined s.cells ≡ cell ∷ drop (r.examined + 1) s.cells) × IsCopy next.next next.bytes head cell → FilesPeek sup later new s run head
-unfolding run_moves
-peek_one sup files later opened new s run stage next head r was copier volume read same cell =
-    subst (λ (f : Files). FilesPeek sup f new s run head) (sym same) (record {
-      has = run_moves sup files files opened new s run next r copier volume (ap (λ (x : Stage). x.generation) (read ∙ sym (ap (λ (x : Stage). record x { bytes = next.bytes }) (stage_at sup files opened s run stage r was))))
-          (copying_read sup files opened.volume stage next s.cells r.fresh r.examined read (copying_at sup files opened s run stage r was));
+-- the run is at the next cell
+peek_one : (sup : Super) (files later : Files) (opened : OpenFiles) (s : Stored) (run : Run) (stage : Stage) (head : CellHead) (r : FilesRun sup files opened s run) → opened.copier ≡ Standing stage
+    → later ≡ files → (cell : Cell) × (drop r.examined s.cells ≡ cell ∷ drop (r.examined + 1) s.cells) × IsHeadOf stage.next head cell → FilesPeek sup later opened s run head
+peek_one sup files later opened s run stage head r was same cell =
+    subst (λ (f : Files). FilesPeek sup f opened s run head) (sym same) (record {
+      has = r;
       cell = cell.0;
       is = cell.1;
-      copy = cell.2;
+      copy = subst (λ (x : Stage). IsHeadOf x.next head cell.0) (sym (stage_at sup files opened s run stage r was)) cell.2;
     })
 
-pub peek_next : (o : Option CellHead) (sup : Super) (files later : Files) (opened new : OpenFiles) (s : Stored) (run : Run) (stage next : Stage) (r : FilesRun sup files opened s run) → opened.copier ≡ Standing stage → new.copier ≡ Standing next → new.volume ≡ opened.volume
-    → next ≡ record stage { bytes = next.bytes } → later ≡ files → IfSome o (λ head. (cell : Cell) × (drop r.examined s.cells ≡ cell ∷ drop (r.examined + 1) s.cells) × IsCopy next.next next.bytes head cell)
-    → IfSome o (λ head. FilesPeek sup later new s run head)
-peek_next None sup files later opened new s run stage next r was copier volume read same cell = cell
-peek_next (Some head) sup files later opened new s run stage next r was copier volume read same cell = peek_one sup files later opened new s run stage next head r was copier volume read same cell
+pub peek_next : (o : Option CellHead) (sup : Super) (files later : Files) (opened : OpenFiles) (s : Stored) (run : Run) (stage : Stage) (r : FilesRun sup files opened s run) → opened.copier ≡ Standing stage
+    → later ≡ files → IfSome o (λ head. (cell : Cell) × (drop r.examined s.cells ≡ cell ∷ drop (r.examined + 1) s.cells) × IsHeadOf stage.next head cell)
+    → IfSome o (λ head. FilesPeek sup later opened s run head)
+peek_next None sup files later opened s run stage r was same cell = cell
+peek_next (Some head) sup files later opened s run stage r was same cell = peek_one sup files later opened s run stage head r was same cell
 
 pub none_left : (o : Option CellHead) (n left all : ℕ) → n + left ≡ all → IfNone o (n ≡ all) → IfNone o (left ≡ 0)
 none_left None n left all sum here = omega arith
 none_left (Some head) n left all sum here = here
 
--- a copier that was ended or stands where it stood
-pub making_again : (files later : Files) (stage next : Stage) (copier : Copier) (x : Stage) → copier ≡ Standing next → IsMaking files stage → next ≡ record stage { bytes = next.bytes } → later ≡ files → copier ≡ Standing x → IsMaking later x
-making_again files later stage next copier x copier_is m read same is =
-    subst (λ (y : Stage). IsMaking later y) (one_stage next x (sym copier_is ∙ is)) (subst (λ (f : Files). IsMaking f next) (sym same) (making_read files stage next read m))
-
+-- a copier that was ended
 pub not_ended : {P : Type 0} (copier : Copier) (faults : ℕ) (x : Stage) → copier ≡ Ended faults → copier ≡ Standing x → P
 not_ended copier faults x ended is = let e : Ended faults ≡ Standing x = sym ended ∙ is in absurd cc
 
 pub run_copied : (sup : Super) (files later : Files) (opened new : OpenFiles) (s : Stored) (run : Run) (stage next : Stage) (head : CellHead) (latest : Option ℕ) (copied : Bool) → FilesPeek sup files opened s run head → opened.copier ≡ Standing stage → new.copier ≡ Standing next → new.volume ≡ opened.volume
     → next.generation ≡ stage.generation → IsLatest s.cells head.pair latest
-    → ((current fresh : List Cell) (examined : ℕ) (cell : Cell) → Copying sup files opened.volume stage current fresh examined → drop examined current ≡ cell ∷ drop (examined + 1) current → IsCopy stage.next stage.bytes head cell → IsLatest current cell.pair latest → MovesOn sup later opened.volume next current fresh examined cell stage.volume.end copied)
+    → ((current fresh : List Cell) (examined : ℕ) (cell : Cell) → Copying sup files opened.volume stage current fresh examined → drop examined current ≡ cell ∷ drop (examined + 1) current → IsHeadOf stage.next head cell → IsLatest current cell.pair latest → MovesOn sup later opened.volume next current fresh examined cell stage.volume.end copied)
     → FilesRun sup later new s (stepped run)
 run_copied sup files later opened new s run stage next head latest copied p was copier volume named last moves =
     let r = p.has in
     let same = stage_at sup files opened s run stage r was in
     let pair : head.pair ≡ p.cell.pair = ap (λ (x : CellHead). x.pair) p.copy.head_is in
-    let step = moves s.cells r.fresh r.examined p.cell (copying_at sup files opened s run stage r was) p.is (subst (λ (x : Stage). IsCopy x.next x.bytes head p.cell) same p.copy) (subst (λ (q : Pair). IsLatest s.cells q latest) pair last) in
+    let step = moves s.cells r.fresh r.examined p.cell (copying_at sup files opened s run stage r was) p.is (subst (λ (x : Stage). IsHeadOf x.next head p.cell) same p.copy) (subst (λ (q : Pair). IsLatest s.cells q latest) pair last) in
     run_stepped sup files later opened new s run next head copied p copier volume (named ∙ ap (λ (x : Stage). x.generation) (sym same))
     (subst (λ (x : Stage). MovesOn sup later opened.volume next s.cells r.fresh r.examined p.cell x.volume.end copied) (sym same) step)
 

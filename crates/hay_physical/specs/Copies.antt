@@ -1,5 +1,5 @@
 -- A replica as contracts see it.
-use Rattle.std.specs.Prelude.{◌≡◌, ℕ, Bool, true, false, List, length, Option, Some, None, ⊤}
+use Rattle.std.specs.Prelude.{◌≡◌, ◌<◌, ℕ, Bool, true, false, List, length, Option, Some, None, ⊤}
 use Rattle.hay_needle.specs.declared.settings.Super.{Super}
 use Rattle.hay_disk.specs.Disk.{Files}
 use Rattle.hay_physical.specs.declared.state.Copier.{Copier}
@@ -53,6 +53,10 @@ abbrev pub phase_generation : Phase → ℕ
 phase_generation Closed = 0
 phase_generation (Open opened) = opened.head.generation
 
+abbrev pub phase_bare : Phase → ℕ
+phase_bare Closed = 0
+phase_bare (Open opened) = length opened.index.pending
+
 abbrev pub copier_goal : Copier → Option ℕ
 copier_goal (Ended faults) = None
 copier_goal (Standing stage) = Some stage.generation
@@ -70,6 +74,10 @@ abbrev pub copier_capacity : Copier → Option ℕ
 copier_capacity (Ended faults) = None
 copier_capacity (Standing stage) = Some stage.capacity
 
+abbrev pub copier_next : Copier → ℕ
+copier_next (Ended faults) = 0
+copier_next (Standing stage) = stage.next
+
 abbrev pub phase_copied : Phase → ℕ
 phase_copied Closed = 0
 phase_copied (Open opened) = copier_copied opened.copier
@@ -78,6 +86,10 @@ abbrev pub phase_goal : Phase → Option ℕ
 phase_goal Closed = None
 phase_goal (Open opened) = copier_goal opened.copier
 
+abbrev pub phase_next : Phase → ℕ
+phase_next Closed = 0
+phase_next (Open opened) = copier_next opened.copier
+
 abbrev pub phase_faults : Phase → ℕ
 phase_faults Closed = 0
 phase_faults (Open opened) = copier_faults opened.copier
@@ -85,6 +97,10 @@ phase_faults (Open opened) = copier_faults opened.copier
 -- the generation that a compaction makes, if one stands
 abbrev pub goal_of : {D : Type 0} → Copy D → Option ℕ
 goal_of r = phase_goal r.phase
+
+-- where the cell stands that the compaction which stands examines next
+abbrev pub next_of : {D : Type 0} → Copy D → ℕ
+next_of r = phase_next r.phase
 
 -- how many cells the compaction that stands has copied
 abbrev pub copied_of : {D : Type 0} → Copy D → ℕ
@@ -110,6 +126,10 @@ is_stuck r = phase_stuck r.phase
 abbrev pub end_of : {D : Type 0} → Copy D → ℕ
 end_of r = phase_end r.phase
 
+-- how many cells have no record
+abbrev pub bare_of : {D : Type 0} → Copy D → ℕ
+bare_of r = phase_bare r.phase
+
 -- how many bytes the volume file may have
 abbrev pub capacity_of : {D : Type 0} → Copy D → ℕ
 capacity_of r = phase_capacity r.phase
@@ -120,6 +140,10 @@ HasCapacity r = capacity_of r ≡ r.sup.settings.capacity
 
 abbrev pub generation_of : {D : Type 0} → Copy D → ℕ
 generation_of r = phase_generation r.phase
+
+-- no compaction stands, and there is a next generation
+abbrev pub MayBegin : {D : Type 0} → Copy D → Type 0
+MayBegin r = (goal_of r ≡ None) × (generation_of r < 65535)
 
 -- the files of the same generation, whose cells end where they ended
 abbrev pub KeepsEnd : {D : Type 0} → Copy D → Copy D → Type 0

@@ -20,7 +20,7 @@ use Rattle.hay_physical.specs.declared.state.Phase.{Phase}
 use Rattle.hay_physical.specs.declared.state.Phase.TheVariants.{Closed, Open}
 use Rattle.hay_physical.specs.declared.state.Copier.TheVariants.{Standing}
 use Rattle.hay_compact.specs.Copying.{IsMaking, Stage}
-use Rattle.hay_physical.specs.Copies.{Copy, copier_capacity, copier_goal}
+use Rattle.hay_physical.specs.Copies.{Copy, copier_capacity, copier_goal, copier_next}
 
 -- A closed replica, all of whose disk is solid, with no pieces given out.
 pub record IsIdleCopy {D : Type 0} (files : D → Files) (r : Copy D) : Type 0 where
@@ -94,10 +94,14 @@ abbrev pub IsSettledPhase : Phase → Type 0
 IsSettledPhase Closed = ⊤
 IsSettledPhase (Open opened) = IsSettled opened
 
--- On any disk the volume file has this capacity, and so has the one that a copier makes.
+-- On any disk the volume file has this capacity, and so has the one that a copier makes. The generation is 65535 at most, and the
+-- copier has examined nothing behind the cells.
 pub record IsBounded (capacity : ℕ) (opened : OpenFiles) : Type 0 where
   pub volume : opened.volume.capacity ≡ capacity
   pub next : (most : ℕ) → copier_capacity opened.copier ≡ Some most → most ≡ capacity
+  pub most : opened.head.generation ≤ 65535
+  pub from : 64 ≤ opened.volume.end
+  pub within : copier_next opened.copier ≤ opened.volume.end
 
 abbrev pub IsBoundedPhase : ℕ → Phase → Type 0
 IsBoundedPhase capacity Closed = ⊤

@@ -11,7 +11,7 @@ use Rattle.hay_disk.specs.Gate.{IsGate}
 use Rattle.hay_head.specs.Head.{IsHead, head_magic, row_place}
 use Rattle.hay_volume.specs.Cells.{needles_of}
 use Rattle.hay_open.specs.Stored.{Stored, last_cell}
-use Rattle.hay_compact.specs.Copying.{AreOfVersionTwo, Copies, Copying, HasPeeked, IsCopy, Repeats, Stage, live_among, renewed_needle}
+use Rattle.hay_compact.specs.Copying.{AreOfVersionTwo, Copies, Copying, HasPeeked, IsHeadOf, Repeats, Stage, live_among, renewed_needle}
 use Rattle.hay_physical.specs.declared.fault.ReplicaFault.{ReplicaFault}
 use Rattle.hay_physical.specs.declared.fault.ReplicaFault.TheVariants as fault
 use Rattle.hay_physical.specs.declared.state.Copier.{Copier}
@@ -55,12 +55,12 @@ pub record FilesRun (sup : Super) (files : Files) (opened : OpenFiles) (s : Stor
   pub left : examined + run.left ≡ length s.cells
   pub tight : run.tight ≡ true → needles_of fresh ≡ map renewed_needle (live_among examined (needles_of s.cells))
 
--- The next cell was read, and this is its head.
+-- This is the head of the next cell.
 pub record FilesPeek (sup : Super) (files : Files) (opened : OpenFiles) (s : Stored) (run : Run) (head : CellHead) : Type 0 where
   pub has : FilesRun sup files opened s run
   pub cell : Cell
   pub is : drop has.examined s.cells ≡ cell ∷ drop (has.examined + 1) s.cells
-  pub copy : IsCopy has.stage.next has.stage.bytes head cell
+  pub copy : IsHeadOf has.stage.next head cell
 
 pub record RunStands {D : Type 0} (files : D → Files) (r : Copy D) (s : Stored) (run : Run) : Type 0 where
   pub opened : OpenFiles
@@ -83,14 +83,14 @@ HasNext files r s run head = PeekStands files r s run head
 
 -- ON ANY DISK
 
--- the cell of this head was read, unless no compaction stands
-abbrev pub CopierPeeked : Copier → CellHead → Type 0
-CopierPeeked (Ended faults) head = Unit {0}
-CopierPeeked (Standing stage) head = HasPeeked stage.next stage.bytes head
+-- this head was read, of a needle that ends at `end` or before, unless no compaction stands
+abbrev pub CopierPeeked : ℕ → Copier → CellHead → Type 0
+CopierPeeked end (Ended faults) head = Unit {0}
+CopierPeeked end (Standing stage) head = HasPeeked end stage.next head
 
 abbrev pub PhasePeeked : Phase → CellHead → Type 0
 PhasePeeked Closed head = ⊥
-PhasePeeked (Open opened) head = CopierPeeked opened.copier head
+PhasePeeked (Open opened) head = CopierPeeked opened.volume.end opened.copier head
 
 abbrev pub IsPeeked : {D : Type 0} → Copy D → CellHead → Type 0
 IsPeeked r head = PhasePeeked r.phase head

@@ -1,6 +1,6 @@
 //! Changes of the files of an open replica.
 
-ghost use Rattle.std.specs.Prelude.{◌≡◌, ◌≢◌, ◌⊎◌, ◌≤◌, ◌<◌, ◌+◌, ℕ, List, true, false, length, Err, IfOk, IfErr, OnOk, OnErr, IsErrOf};
+ghost use Rattle.std.specs.Prelude.{◌≡◌, ◌≢◌, ◌⊎◌, ◌≤◌, ◌<◌, ◌+◌, ℕ, List, [], true, false, length, Err, IfOk, IfErr, OnOk, OnErr, IsErrOf};
 ghost use Rattle.hay_needle.specs.Sizes.{needle_total};
 ghost use Rattle.hay_needle.specs.declared.needle.Cookie.{Cookie};
 ghost use Rattle.hay_needle.specs.declared.needle.Pair.{Pair};
@@ -106,6 +106,7 @@ impl OpenFiles {
         ensures flag { D.Tells → IfOk result (λ needle. MayFlag (D.files disk.new self.new.volume.file) self.new.volume.end needle.at) }
         ensures place { D.Tells → IfOk result (λ needle. needle.at ≡ self.old.volume.end) }
         ensures moved { OnOk result (self.new.volume.end ≡ self.old.volume.end + needle_total (length bytes.now)) }
+        ensures noted { OnOk result (length self.new.index.pending ≡ length self.old.index.pending + 1) }
         ensures volume { (self.new.volume.file ≡ self.old.volume.file) × (self.old.volume.end ≤ self.new.volume.end) }
         ensures limit { self.new.volume.capacity ≡ self.old.volume.capacity }
         ensures before { D.Tells → KeepsBefore self.old.volume.end (D.files disk.old self.old.volume.file) (D.files disk.new self.old.volume.file) }
@@ -140,6 +141,7 @@ impl OpenFiles {
 
         ensures place { IfOk result (λ at. at ≡ self.old.volume.end) }
         ensures moved { OnOk result (self.new.volume.end ≡ self.old.volume.end + needle_total (length bytes.now)) }
+        ensures noted { OnOk result (length self.new.index.pending ≡ length self.old.index.pending + 1) }
         ensures added { D.Tells → (sup : Super) (s : Stored) → FilesStand sup (D.files disk.old) self.old s →
             OnOk result (FilesStand sup (D.files disk.new) self.new (with_cell s pair cookie bytes.now)) }
         ensures open { OnOk result (self.new.frozen ≡ self.old.frozen) }
@@ -240,6 +242,7 @@ impl OpenFiles {
             OnErr result ((self.new.frozen ≡ true) × MayFind sup (D.files disk.new) self.old.index.frozen s (without_cell s at)) }
         ensures froze { OnErr result (self.new.frozen ≡ true) }
         ensures stuck { self.new.index.frozen ≡ self.old.index.frozen }
+        ensures noted { self.new.index.pending ≡ self.old.index.pending }
 
         ensures ready { D.Tells → self.new.frozen ≡ false → FilesReady (D.files disk.new) self.new }
         ensures flags { D.Tells → (place : ℕ) → MayFlag (D.files disk.old self.old.volume.file) self.old.volume.end place
@@ -277,6 +280,9 @@ impl OpenFiles {
         ensures going { OnOk result (self.new.index.frozen ≡ false) }
         ensures stuck { IfErr result (λ fault. (faults : ℕ) → fault ≡ ReplicaFault.Failed faults → self.new.index.frozen ≡ true) }
         ensures stayed { IsErrOf result ReplicaFault.NoMemory → self.new ≡ self.old }
+        ensures number { IfOk result (λ n. n ≡ length self.old.index.pending) }
+        ensures none { OnOk result (self.new.index.pending ≡ []) }
+        ensures still_noted { OnErr result (self.new.index.pending ≡ self.old.index.pending) }
 
         ensures ready { D.Tells → self.new.frozen ≡ false → FilesReady (D.files disk.new) self.new }
         ensures flags { D.Tells → (place : ℕ) → MayFlag (D.files disk.old self.old.volume.file) self.old.volume.end place

@@ -16,7 +16,8 @@ ghost use Rattle.hay_physical.specs.declared.state.Phase.TheVariants.{Closed};
 ghost use Rattle.hay_physical.specs.Runs.{HasLastAt, HasRun, Run, longer, loosened};
 ghost use Rattle.std.specs.List.{AllByRecursion};
 ghost use Rattle.std.specs.Option.{option_map};
-ghost use Rattle.hay_physical.specs.Copies.{EndedAt, HasCapacity, IsFrozen, IsOpenCopy, IsUp, KeepsEnd, capacity_of, contents_of, end_of, generation_of, goal_of, is_frozen, is_stuck};
+ghost use Rattle.hay_physical.specs.Copies.{EndedAt, HasCapacity, IsFrozen, IsOpenCopy, IsUp, KeepsEnd, bare_of, capacity_of, contents_of, end_of, generation_of};
+ghost use Rattle.hay_physical.specs.Copies.{goal_of, is_frozen, is_stuck, next_of};
 ghost use Rattle.hay_physical.specs.Draws.{DrewRecorded};
 ghost use Rattle.hay_physical.specs.Faults.{IsDeleteFault, IsFlushFault, IsPutFault};
 ghost use Rattle.hay_needle.specs.Tables.{pair_eq};
@@ -86,6 +87,8 @@ impl<D: Disk> Replica<D> {
         ensures up { OnOk result (IsUp self.new) }
         ensures stuck { OnOk result (is_stuck self.new ≡ false) }
         ensures alone { goal_of self.new ≡ None }
+        ensures most { OnOk result (generation_of self.new ≤ 65535) }
+        ensures from { OnOk result (64 ≤ end_of self.new) }
         // Whatever the disk had, each photo that was found can be deleted.
         ensures can_delete { D.Tells → IfOk result (λ cells. (pair : Pair) → MayDeletePlace D.files self.new (last_place cells.items pair place.None)) }
         // Each that was not looked at can be seen, and its needle is apart from the flags of others. Each cell that stands can be
@@ -196,6 +199,8 @@ impl<D: Disk> Replica<D> {
         ensures dropped { IsFrozen self.new → goal_of self.new ≡ None }
         ensures goal { IsUp self.new → goal_of self.new ≡ goal_of self.old }
         ensures moved { OnOk result (end_of self.new ≡ end_of self.old + needle_total (length bytes.now)) }
+        ensures bare { OnOk result (bare_of self.new ≡ bare_of self.old + 1) }
+        ensures place { IsUp self.new → next_of self.new ≡ next_of self.old }
         ensures generation { generation_of self.new ≡ generation_of self.old }
 
         ensures causes { IfErr result (IsPutFault (D.fault_count self.old.disk) (D.fault_count self.new.disk)) }
@@ -240,6 +245,8 @@ impl<D: Disk> Replica<D> {
         ensures dropped { IsFrozen self.new → goal_of self.new ≡ None }
         ensures goal { OnOk result ((goal_of self.new ≡ goal_of self.old)
             ⊎ (EndedAt (D.fault_count self.new.disk) self.new × Rose (D.fault_count self.old.disk) (D.fault_count self.new.disk))) }
+        ensures place { goal_of self.new ≡ goal_of self.old → next_of self.new ≡ next_of self.old }
+        ensures bare { bare_of self.new ≡ bare_of self.old }
 
         ensures causes { IfErr result (IsDeleteFault (D.fault_count self.old.disk) (D.fault_count self.new.disk)) }
         ensures counts { D.fault_count self.old.disk ≤ D.fault_count self.new.disk }
@@ -268,6 +275,9 @@ impl<D: Disk> Replica<D> {
 
         ensures flushed { D.Tells → (s : Stored) → Stands D.files self.old s →
             IfOk result (λ n. (n + s.records ≡ length s.cells) × Stands D.files self.new (all_recorded s)) }
+        ensures number { IfOk result (λ n. n ≡ bare_of self.old) }
+        ensures none_bare { OnOk result (bare_of self.new ≡ 0) }
+        ensures still_bare { OnErr result (bare_of self.new ≡ bare_of self.old) }
         ensures going { OnOk result (is_stuck self.new ≡ false) }
         ensures up { OnOk result (IsUp self.new) }
 
@@ -286,6 +296,7 @@ impl<D: Disk> Replica<D> {
         ensures run_stays { D.Tells → (s : Stored) (run : Option Run) → Stands D.files self.old s → HasRun D.files self.old s run →
             OnErr result (HasRun D.files self.new s run) }
         ensures goal { goal_of self.new ≡ goal_of self.old }
+        ensures place { next_of self.new ≡ next_of self.old }
         ensures stays { KeepsEnd self.old self.new }
 
         ensures causes { IfErr result (IsFlushFault (D.fault_count self.old.disk) (D.fault_count self.new.disk)) }
@@ -308,6 +319,7 @@ impl<D: Disk> Replica<D> {
         ensures holds { D.Tells → (stuck : Bool) (s t : Stored) → Holds D.files self.old stuck s t → Holds D.files self.new stuck s t }
         ensures sees { D.Tells → KeepsSight D.files Anywhere self.old self.new }
         ensures stuck { is_stuck self.new ≡ is_stuck self.old }
+        ensures bare { bare_of self.new ≡ bare_of self.old }
         ensures stays { KeepsEnd self.old self.new }
         ensures disk { self.new.disk ≡ self.old.disk }
         ensures sup { self.new.sup ≡ self.old.sup }

@@ -1,14 +1,15 @@
 //! A compaction of a replica.
 
-ghost use Rattle.std.specs.Prelude.{◌≡◌, ◌⊎◌, ◌≤◌, ◌+◌, ℕ, Bool, true, false, length, Option, Some, None, Err, IfOk, IfErr, IfSome, IfNone, OnOk, OnErr, IsErrOf};
+ghost use Rattle.std.specs.Prelude.{◌≡◌, ◌⊎◌, ◌≤◌, ◌<◌, ◌+◌, ℕ, Bool, true, false, length, Option, Some, None, Err, IfOk, IfErr, IfSome, IfNone, OnOk, OnErr, IsErrOf};
 ghost use Rattle.std.specs.List.{AllByRecursion};
+ghost use Rattle.hay_needle.specs.Sizes.{needle_total};
 ghost use Rattle.hay_needle.specs.declared.needle.Pair.{Pair};
 ghost use Rattle.hay_map.specs.declared.place.Place.TheVariants as place;
 ghost use Rattle.hay_map.specs.Rows.{last_place};
 ghost use Rattle.hay_open.specs.Stored.{Stored, index_file, volume_file};
 ghost use Rattle.hay_compact.specs.Copying.{IsLatest};
 ghost use Rattle.hay_compact.specs.Finishing.{ArePhotos, AreThePlaces, IsSeen};
-ghost use Rattle.hay_physical.specs.Copies.{IsFrozen, IsOpenCopy, IsUp, KeepsEnd, copied_of, end_of, faults_at_end, generation_of, goal_of, is_frozen, is_stuck};
+ghost use Rattle.hay_physical.specs.Copies.{IsFrozen, IsOpenCopy, IsUp, KeepsEnd, MayBegin, bare_of, copied_of, end_of, faults_at_end, generation_of, goal_of, is_frozen, is_stuck, next_of};
 ghost use Rattle.hay_physical.specs.Faults.{IsBeginFault, IsPeekFault, IsRunFault};
 ghost use Rattle.hay_physical.specs.Replicas.{Anywhere, Holds, KeepsSight, MayDelete, MayDeletePlace, ShowsCell, Stands};
 ghost use Rattle.hay_physical.specs.Runs.{EndsRun, HasNext, HasPair, HasRun, IsPeeked, IsTight, RemovedBoth, Run, Swaps, stepped};
@@ -32,13 +33,17 @@ impl<D: Disk> Replica<D> {
         ensures busy { (goal : ℕ) → IsUp self.old → goal_of self.old ≡ Some goal → (result ≡ Err (ReplicaFault.Busy goal)) × (self.new ≡ self.old) }
         ensures idle { (goal : ℕ) → result ≡ Err (ReplicaFault.Busy goal) → goal_of self.old ≡ Some goal }
         ensures worn { IsUp self.old → goal_of self.old ≡ None → 65535 ≤ generation_of self.old → (result ≡ Err ReplicaFault.Worn) × (self.new ≡ self.old) }
-        ensures most { IsErrOf result ReplicaFault.Worn → (goal_of self.old ≡ None) × (65535 ≤ generation_of self.old) }
+        ensures most { IsErrOf result ReplicaFault.Worn → (goal_of self.old ≡ None) × (generation_of self.old ≡ 65535) }
         ensures last { D.Tells → (s : Stored) → Stands D.files self.old s → IsErrOf result ReplicaFault.Worn → s.generation ≡ 65535 }
 
         // The photos stand as they stood, and all cells are to be examined.
         ensures begun { D.Tells → (s : Stored) → Stands D.files self.old s →
             IfOk result (λ goal. (goal ≡ s.generation + 1) × HasRun D.files self.new s (Some (record { goal = goal; left = length s.cells; tight = true }))) }
         ensures goal { IfOk result (λ goal. (goal ≡ generation_of self.old + 1) × (goal_of self.old ≡ None) × (goal_of self.new ≡ Some goal)) }
+        ensures small { IfOk result (λ goal. goal ≤ 65535) }
+        ensures first { OnOk result (next_of self.new ≡ 64) }
+        ensures memory { IsErrOf result ReplicaFault.NoMemory → MayBegin self.old }
+        ensures failed { (faults : ℕ) → result ≡ Err (ReplicaFault.Failed faults) → MayBegin self.old }
         ensures stands { D.Tells → (s : Stored) → Stands D.files self.old s → Stands D.files self.new s }
         ensures deletes { D.Tells → (place : ℕ) → MayDelete D.files self.old place → MayDelete D.files self.new place }
         ensures sees { D.Tells → KeepsSight D.files Anywhere self.old self.new }
@@ -48,6 +53,7 @@ impl<D: Disk> Replica<D> {
         ensures same { is_frozen self.new ≡ is_frozen self.old }
         ensures stuck { is_stuck self.new ≡ is_stuck self.old }
         ensures stays { KeepsEnd self.old self.new }
+        ensures bare { bare_of self.new ≡ bare_of self.old }
 
         ensures causes { IfErr result (IsBeginFault (D.fault_count self.old.disk) (D.fault_count self.new.disk)) }
         ensures counts { D.fault_count self.old.disk ≤ D.fault_count self.new.disk }
@@ -88,8 +94,8 @@ impl<D: Disk> Replica<D> {
         }
     }
 
-    /// The next cell that the compaction is to examine, or none at the end of the current volume file. `Ended` comes exactly
-    /// where no compaction stands. `Failed` and `Damaged` end it.
+    /// The next cell that the compaction is to examine, by the head of its needle, or none at the end of the current volume
+    /// file. `Ended` comes exactly where no compaction stands. `Failed` and `Damaged` end it.
     pub fn peek(&mut self) -> Result<Option<CellHead>, ReplicaFault>
         requires open { IsOpenCopy self.old }
 
@@ -111,6 +117,9 @@ impl<D: Disk> Replica<D> {
         ensures run { D.Tells → (s : Stored) (run : Run) → HasRun D.files self.old s (Some run) → OnOk result (HasRun D.files self.new s (Some run)) }
         ensures memory { D.Tells → IsErrOf result ReplicaFault.NoMemory → (s : Stored) (run : Run) → HasRun D.files self.old s (Some run) → HasRun D.files self.new s (Some run) }
         ensures goal { OnOk result (goal_of self.new ≡ goal_of self.old) }
+        ensures place { goal_of self.new ≡ goal_of self.old → next_of self.new ≡ next_of self.old }
+        ensures at_end { IfOk result (λ next. IfNone next (end_of self.new ≤ next_of self.new)) }
+        ensures more { IfOk result (λ next. IfSome next (λ head. next_of self.new < end_of self.new)) }
         ensures ends { IfErr result (EndsRun (D.fault_count self.new.disk) self.old self.new) }
         ensures stands { D.Tells → (s : Stored) → Stands D.files self.old s → Stands D.files self.new s }
         ensures deletes { D.Tells → (place : ℕ) → MayDelete D.files self.old place → MayDelete D.files self.new place }
@@ -119,6 +128,7 @@ impl<D: Disk> Replica<D> {
         ensures same { is_frozen self.new ≡ is_frozen self.old }
         ensures stuck { is_stuck self.new ≡ is_stuck self.old }
         ensures stays { KeepsEnd self.old self.new }
+        ensures bare { bare_of self.new ≡ bare_of self.old }
 
         ensures causes { IfErr result (IsPeekFault (D.fault_count self.old.disk) (D.fault_count self.new.disk)) }
         ensures counts { D.fault_count self.old.disk ≤ D.fault_count self.new.disk }
@@ -132,8 +142,8 @@ impl<D: Disk> Replica<D> {
     }
 
     /// Examines the cell that `peek` gave: it is copied if it is not deleted and `latest` is its place. `latest` is the place of
-    /// the last cell of its pair, or none where that cell is deleted. `NoMemory` leaves the compaction where it stood, and
-    /// `Failed` ends it.
+    /// the last cell of its pair, or none where that cell is deleted. The rest of its needle is read only where it is copied.
+    /// `NoMemory` leaves the compaction where it stood, and `Failed` and `Damaged` end it.
     pub fn copy(&mut self, cell: CellHead, latest: Option<u64>) -> Result<(), ReplicaFault>
         requires open { IsOpenCopy self.old }
         requires peeked { IsUp self.old → IsPeeked self.old cell }
@@ -146,8 +156,12 @@ impl<D: Disk> Replica<D> {
         // One cell less is left.
         ensures run { D.Tells → (s : Stored) (run : Run) → HasNext D.files self.old s run cell → IsLatest s.cells cell.pair latest →
             OnOk result (HasRun D.files self.new s (Some (stepped run))) }
+        ensures whole { D.Tells → (s : Stored) (run : Run) → HasNext D.files self.old s run cell →
+            (at : ℕ) → result ≡ Err (ReplicaFault.Damaged at) → ⊥ }
         ensures memory { D.Tells → IsErrOf result ReplicaFault.NoMemory → (s : Stored) (run : Run) → HasRun D.files self.old s (Some run) → HasRun D.files self.new s (Some run) }
         ensures goal { OnOk result (goal_of self.new ≡ goal_of self.old) }
+        ensures moved { OnOk result (next_of self.new ≡ next_of self.old + needle_total cell.size) }
+        ensures place { OnErr result (goal_of self.new ≡ goal_of self.old → next_of self.new ≡ next_of self.old) }
         ensures ends { IfErr result (EndsRun (D.fault_count self.new.disk) self.old self.new) }
         ensures stands { D.Tells → (s : Stored) → Stands D.files self.old s → Stands D.files self.new s }
         ensures deletes { D.Tells → (place : ℕ) → MayDelete D.files self.old place → MayDelete D.files self.new place }
@@ -156,8 +170,9 @@ impl<D: Disk> Replica<D> {
         ensures same { is_frozen self.new ≡ is_frozen self.old }
         ensures stuck { is_stuck self.new ≡ is_stuck self.old }
         ensures stays { KeepsEnd self.old self.new }
+        ensures bare { bare_of self.new ≡ bare_of self.old }
 
-        ensures causes { IfErr result (IsRunFault (D.fault_count self.old.disk) (D.fault_count self.new.disk)) }
+        ensures causes { IfErr result (IsPeekFault (D.fault_count self.old.disk) (D.fault_count self.new.disk)) }
         ensures counts { D.fault_count self.old.disk ≤ D.fault_count self.new.disk }
         ensures fuses { D.fuse_count self.new.disk ≡ D.fuse_count self.old.disk }
         ensures sup { self.new.sup ≡ self.old.sup }
@@ -185,6 +200,11 @@ impl<D: Disk> Replica<D> {
             IfOk result (λ places. (t : Stored) × Swaps s t × IsTight run s t × Stands D.files self.new t × AreThePlaces D.Piece.Tells t.cells places.items) }
         ensures counted { D.Tells → OnOk result ((t : Stored) → Stands D.files self.new t → length t.cells ≡ copied_of self.old) }
         ensures moved { OnOk result (generation_of self.new ≡ generation_of self.old + 1) }
+        ensures named { (goal : ℕ) → goal_of self.old ≡ Some goal → OnOk result (generation_of self.new ≡ goal) }
+        ensures small { OnOk result (generation_of self.new ≤ 65535) }
+        ensures none_bare { OnOk result (bare_of self.new ≡ 0) }
+        ensures from { OnOk result (64 ≤ end_of self.new) }
+        ensures shorter { OnOk result (end_of self.new ≤ end_of self.old) }
         ensures up { OnOk result (IsUp self.new) }
         ensures going { OnOk result (is_stuck self.new ≡ false) }
         ensures can_delete { D.Tells → IfOk result (λ places. (pair : Pair) → MayDeletePlace D.files self.new (last_place places.items pair place.Gone)) }
@@ -205,6 +225,7 @@ impl<D: Disk> Replica<D> {
         ensures froze { IsUp self.old → IsFrozen self.new → result ≡ Err (ReplicaFault.Failed (D.fault_count self.new.disk)) }
         ensures still { OnErr result ((is_stuck self.new ≡ is_stuck self.old) × (generation_of self.new ≡ generation_of self.old)) }
         ensures stays { OnErr result (end_of self.new ≡ end_of self.old) }
+        ensures still_bare { OnErr result (bare_of self.new ≡ bare_of self.old) }
         ensures deletes { D.Tells → (place : ℕ) → MayDelete D.files self.old place → OnErr result (MayDelete D.files self.new place) }
         ensures sees { D.Tells → OnErr result (KeepsSight D.files Anywhere self.old self.new) }
         ensures goal { goal_of self.new ≡ None }
@@ -236,6 +257,7 @@ impl<D: Disk> Replica<D> {
         ensures same { is_frozen self.new ≡ is_frozen self.old }
         ensures stuck { is_stuck self.new ≡ is_stuck self.old }
         ensures stays { KeepsEnd self.old self.new }
+        ensures bare { bare_of self.new ≡ bare_of self.old }
         ensures disk { self.new.disk ≡ self.old.disk }
         ensures sup { self.new.sup ≡ self.old.sup }
     {

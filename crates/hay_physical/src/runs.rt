@@ -1,6 +1,7 @@
 //! A compaction of an open replica.
 
-ghost use Rattle.std.specs.Prelude.{◌≡◌, ◌⊎◌, ◌≤◌, ◌+◌, ℕ, Some, None, true, false, length, Err, IfOk, IfErr, IfSome, IfNone, OnOk, OnErr, IsErrOf};
+ghost use Rattle.std.specs.Prelude.{◌≡◌, ◌⊎◌, ◌≤◌, ◌<◌, ◌+◌, ℕ, [], Some, None, true, false, length, Err, IfOk, IfErr, IfSome, IfNone, OnOk, OnErr, IsErrOf};
+ghost use Rattle.hay_needle.specs.Sizes.{needle_total};
 ghost use Rattle.hay_needle.specs.declared.needle.Pair.{Pair};
 ghost use Rattle.hay_needle.specs.declared.settings.Super.{Super};
 ghost use Rattle.hay_map.specs.declared.place.Place.TheVariants as place;
@@ -8,7 +9,7 @@ ghost use Rattle.hay_map.specs.Rows.{last_place};
 ghost use Rattle.hay_open.specs.Stored.{Stored};
 ghost use Rattle.hay_compact.specs.Copying.{IsLatest, KeepsOtherFiles, Stage};
 ghost use Rattle.hay_compact.specs.Finishing.{ArePhotos, AreThePlaces, IsSeen};
-ghost use Rattle.hay_physical.specs.Copies.{copier_copied, copier_faults, copier_goal};
+ghost use Rattle.hay_physical.specs.Copies.{copier_copied, copier_faults, copier_goal, copier_next};
 ghost use Rattle.hay_physical.specs.Faults.{IsBeginFault, IsPeekFault, IsRunFault};
 ghost use Rattle.hay_physical.specs.Replicas.{FilesReady, FilesStand, IsBounded, IsCopierReady, IsSettled, MayFind, MayFlagPlace};
 ghost use Rattle.hay_physical.specs.Runs.{CopierPeeked, EndsBy, EndsInDelete, FilesPeek, FilesRun, IsTight, KeepsFiles, RemovedBoth, RepeatsIn, Run, Swaps, stepped};
@@ -46,6 +47,9 @@ impl OpenFiles {
 
         ensures begun { IfOk result (λ goal. (self.old.frozen ≡ false) × (copier_goal self.old.copier ≡ None) × (goal ≡ self.old.head.generation + 1) × (goal ≤ 65535)
             × (copier_goal self.new.copier ≡ Some goal)) }
+        ensures first { OnOk result (copier_next self.new.copier ≡ 64) }
+        ensures memory { IsErrOf result ReplicaFault.NoMemory → (copier_goal self.old.copier ≡ None) × (self.old.head.generation < 65535) }
+        ensures failed { (faults : ℕ) → result ≡ Err (ReplicaFault.Failed faults) → (copier_goal self.old.copier ≡ None) × (self.old.head.generation < 65535) }
         ensures run { D.Tells → IfOk result (λ goal. (s : Stored) → FilesStand sup.now (D.files disk.old) self.old s →
             FilesRun sup.now (D.files disk.new) self.new s (record { goal = goal; left = length s.cells; tight = true })) }
         ensures making { D.Tells → OnOk result (IsCopierReady (D.files disk.new) self.new) }
@@ -82,7 +86,7 @@ impl OpenFiles {
         }
     }
 
-    // Reads the next cell of the current volume file, or none at its end.
+    // The next cell of the current volume file, by its head, or none at its end.
     pub(crate) fn peek<D: Disk>(&mut self, disk: &mut D) -> Result<Option<CellHead>, ReplicaFault>
         ensures frozen { self.old.frozen ≡ true → (result ≡ Err ReplicaFault.Frozen) × (self.new ≡ self.old) × (disk.new ≡ disk.old) }
         ensures thawed { IsErrOf result ReplicaFault.Frozen → self.old.frozen ≡ true }
@@ -90,7 +94,10 @@ impl OpenFiles {
             → (result ≡ Err (ReplicaFault.Ended (copier_faults self.old.copier))) × (self.new ≡ self.old) × (disk.new ≡ disk.old) }
         ensures none { (faults : ℕ) → result ≡ Err (ReplicaFault.Ended faults) → copier_goal self.old.copier ≡ None }
 
-        ensures peeked { IfOk result (λ next. IfSome next (λ head. CopierPeeked self.new.copier head)) }
+        ensures peeked { IfOk result (λ next. IfSome next (λ head. CopierPeeked self.new.volume.end self.new.copier head)) }
+        ensures end { IfOk result (λ next. IfNone next (self.new.volume.end ≤ copier_next self.new.copier)) }
+        ensures more { IfOk result (λ next. IfSome next (λ head. copier_next self.new.copier < self.new.volume.end)) }
+        ensures place { copier_goal self.new.copier ≡ copier_goal self.old.copier → copier_next self.new.copier ≡ copier_next self.old.copier }
         ensures next { D.Tells → (sup : Super) (s : Stored) (run : Run) → FilesRun sup (D.files disk.old) self.old s run →
             IfOk result (λ next. IfSome next (λ head. FilesPeek sup (D.files disk.new) self.new s run head)) }
         ensures all { D.Tells → (sup : Super) (s : Stored) (run : Run) → FilesRun sup (D.files disk.old) self.old s run →
@@ -118,7 +125,7 @@ impl OpenFiles {
         if self.frozen {
             return Err(ReplicaFault::Frozen);
         }
-        match &mut self.copier {
+        match &self.copier {
             Copier::Ended { faults } => Err(ReplicaFault::Ended { faults: *faults }),
             Copier::Standing(compactor) => match compactor.peek(disk, &self.volume) {
                 Ok(next) => Ok(next),
@@ -134,7 +141,7 @@ impl OpenFiles {
         cell: CellHead,
         latest: Option<u64>,
     ) -> Result<(), ReplicaFault>
-        requires peeked { self.old.frozen ≡ false → CopierPeeked self.old.copier cell }
+        requires peeked { self.old.frozen ≡ false → CopierPeeked self.old.volume.end self.old.copier cell }
         requires making { D.Tells → self.old.frozen ≡ false → IsCopierReady (D.files disk.old) self.old }
         requires settled { IsSettled self.old }
 
@@ -146,8 +153,12 @@ impl OpenFiles {
 
         ensures run { D.Tells → (sup : Super) (s : Stored) (run : Run) → FilesPeek sup (D.files disk.old) self.old s run cell → IsLatest s.cells cell.pair latest →
             OnOk result (FilesRun sup (D.files disk.new) self.new s (stepped run)) }
+        ensures whole { D.Tells → (sup : Super) (s : Stored) (run : Run) → FilesPeek sup (D.files disk.old) self.old s run cell →
+            (at : ℕ) → result ≡ Err (ReplicaFault.Damaged at) → ⊥ }
         ensures memory { D.Tells → IsErrOf result ReplicaFault.NoMemory → (sup : Super) (s : Stored) (run : Run) → FilesRun sup (D.files disk.old) self.old s run →
             FilesRun sup (D.files disk.new) self.new s run }
+        ensures moved { OnOk result (copier_next self.new.copier ≡ copier_next self.old.copier + needle_total cell.size) }
+        ensures place { OnErr result (copier_goal self.new.copier ≡ copier_goal self.old.copier → copier_next self.new.copier ≡ copier_next self.old.copier) }
         ensures ok { OnOk result (copier_goal self.new.copier ≡ copier_goal self.old.copier) }
         ensures err { IfErr result (EndsBy (D.fault_count disk.new) self.old.copier self.new.copier) }
         ensures making { D.Tells → self.old.frozen ≡ false → IsCopierReady (D.files disk.new) self.new }
@@ -156,7 +167,7 @@ impl OpenFiles {
         ensures bounded { (capacity : ℕ) → IsBounded capacity self.old → IsBounded capacity self.new }
 
         ensures others { D.Tells → KeepsOtherFiles (self.old.head.generation + 1) (D.files disk.old) (D.files disk.new) }
-        ensures causes { IfErr result (IsRunFault (D.fault_count disk.old) (D.fault_count disk.new)) }
+        ensures causes { IfErr result (IsPeekFault (D.fault_count disk.old) (D.fault_count disk.new)) }
         ensures counts { D.fault_count disk.old ≤ D.fault_count disk.new }
         ensures fuses { D.fuse_count disk.new ≡ D.fuse_count disk.old }
     {
@@ -165,7 +176,7 @@ impl OpenFiles {
         }
         match &mut self.copier {
             Copier::Ended { faults } => Err(ReplicaFault::Ended { faults: *faults }),
-            Copier::Standing(compactor) => match compactor.copy(disk, cell, latest) {
+            Copier::Standing(compactor) => match compactor.copy(disk, &self.volume, cell, latest) {
                 Ok(_) => Ok(()),
                 Err(fault) => Err(self.broken_off(disk, fault)),
             },
@@ -200,6 +211,7 @@ impl OpenFiles {
         ensures repeated { D.Tells → (stage : Stage) → self.old.copier ≡ Standing stage → RepeatsIn (D.files disk.old) (D.files disk.new) self.old pair stage self.new.copier }
         ensures idle { copier_goal self.old.copier ≡ None → (self.new ≡ self.old) × (disk.new ≡ disk.old) }
         ensures ends { EndsInDelete (D.fault_count disk.old) (D.fault_count disk.new) self.old.copier self.new.copier }
+        ensures place { copier_goal self.new.copier ≡ copier_goal self.old.copier → copier_next self.new.copier ≡ copier_next self.old.copier }
         ensures making { D.Tells → IsCopierReady (D.files disk.new) self.new }
         ensures keeps { KeepsFiles self.old self.new }
         ensures bounded { (capacity : ℕ) → IsBounded capacity self.old → IsBounded capacity self.new }
@@ -252,6 +264,9 @@ impl OpenFiles {
         ensures counted { D.Tells → OnOk result ((sup : Super) (t : Stored) → FilesStand sup (D.files disk.new) self.new t → length t.cells ≡ copier_copied self.old.copier) }
         ensures open { OnOk result ((self.new.frozen ≡ false) × (self.new.index.frozen ≡ false)) }
         ensures moved { OnOk result (self.new.head.generation ≡ self.old.head.generation + 1) }
+        ensures named { (goal : ℕ) → copier_goal self.old.copier ≡ Some goal → OnOk result (self.new.head.generation ≡ goal) }
+        ensures flushed { OnOk result (self.new.index.pending ≡ []) }
+        ensures shorter { (capacity : ℕ) → IsBounded capacity self.old → OnOk result (self.new.volume.end ≤ self.old.volume.end) }
         ensures goal { copier_goal self.new.copier ≡ None }
         ensures removed { D.Tells → OnOk result (RemovedBoth (D.files disk.new) self.old.volume.file self.old.index.file (D.fault_count disk.old) (D.fault_count disk.new)) }
         ensures kept { D.Tells → (sup : Super) (s : Stored) → self.old.frozen ≡ false → FilesStand sup (D.files disk.old) self.old s →

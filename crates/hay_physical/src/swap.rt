@@ -1,6 +1,6 @@
 //! The end of a compaction of an open replica.
 
-ghost use Rattle.std.specs.Prelude.{◌≡◌, ◌≢◌, ◌≤◌, ◌+◌, ℕ, List, length, true, false, Err, IfOk, IfErr, OnOk, OnErr, IsErrOf};
+ghost use Rattle.std.specs.Prelude.{◌≡◌, ◌≢◌, ◌≤◌, ◌+◌, ℕ, List, [], length, true, false, Err, IfOk, IfErr, OnOk, OnErr, IsErrOf};
 ghost use Rattle.hay_disk.specs.Disk.{KeepsOthers};
 ghost use Rattle.hay_disk.specs.Gate.{IsGate};
 ghost use Rattle.hay_head.specs.Head.{head_magic, row_place};
@@ -31,7 +31,7 @@ impl OpenFiles {
     ) -> Result<Vec<OpenCell<D::Piece>>, ReplicaFault>
         requires open { self.old.frozen ≡ false }
         requires next { compactor.generation ≡ self.old.head.generation + 1 }
-        requires most { compactor.generation ≤ 65535 }
+        requires small { compactor.generation ≤ 65535 }
         requires making { D.Tells → IsMaking (D.files disk.old) compactor }
         requires ready { D.Tells → FilesReady (D.files disk.old) self.old }
 
@@ -40,8 +40,12 @@ impl OpenFiles {
         ensures counted { D.Tells → OnOk result ((sup : Super) (t : Stored) → FilesStand sup (D.files disk.new) self.new t → length t.cells ≡ length compactor.index.pending) }
         ensures open { OnOk result ((self.new.frozen ≡ false) × (self.new.index.frozen ≡ false)) }
         ensures behind { compactor.volume.end ≤ compactor.next }
+        ensures most { self.old.head.generation ≤ 65535 → self.new.head.generation ≤ 65535 }
+        ensures from { 64 ≤ self.old.volume.end → 64 ≤ self.new.volume.end }
         ensures limit { (capacity : ℕ) → self.old.volume.capacity ≡ capacity → compactor.capacity ≡ capacity → self.new.volume.capacity ≡ capacity }
         ensures moved { OnOk result (self.new.head.generation ≡ self.old.head.generation + 1) }
+        ensures flushed { OnOk result (self.new.index.pending ≡ []) }
+        ensures shorter { OnOk result (self.new.volume.end ≤ compactor.next) }
         ensures flags { D.Tells → IfOk result (λ places. (pair : Pair) → MayFlagPlace (D.files disk.new) self.new (last_place places.items pair place.Gone)) }
         ensures seen { D.Tells → IfOk result (λ places. (pair : Pair) → IsSeen (last_place places.items pair place.Gone)) }
         ensures photos { IfOk result (λ places. ArePhotos places.items) }

@@ -4,37 +4,18 @@
 ghost use Rattle.std.specs.Prelude.{IfOk};
 ghost use Rattle.hay_physical.specs.Copies.{IsOpenCopy};
 
+use crate::common::{FIRST, SECOND, SUP, clear};
 use hay_check::{Verdict, check_journal, check_replica};
 use hay_disk::{Disk, Shelf};
 use hay_filedisk::FileShelf;
 use hay_memdisk::MemDisk;
-use hay_needle::{Cookie, FileKind, Pair, Settings, Super, write_super};
+use hay_needle::{Cookie, FileKind, Pair, Super, write_super};
 use hay_physical::Replica;
 use std::alloc::Global;
 use std::fs;
-use std::fs::Files;
-use std::io::ErrorKind;
 use std::test::Fail;
 
-const FIRST: Pair = Pair { key: 7, alt: 1 };
-
-const SECOND: Pair = Pair { key: 7, alt: 2 };
-
 const THIRD: Pair = Pair { key: 8, alt: 1 };
-
-const SUP: Super = Super {
-    settings: Settings {
-        machines: 1,
-        volumes: 1,
-        replicas: 1,
-        capacity: 4096,
-        secret: [0; 32],
-    },
-    kind: FileKind::Volume,
-    volume: 0,
-    replica: 0,
-    generation: 0,
-};
 
 const JOURNAL: Super = Super {
     kind: FileKind::Journal,
@@ -59,14 +40,6 @@ const OLD_NEEDLE: [u8; 64] = [
     0x45, 0x4e, 0x44, 0x2c, 0xf2, 0x4d, 0xba, 0x5f, 0xb0, 0xa3, 0x0e, 0, 0, 0, 0, 0, 0, 0, 0, 0, 0,
     0,
 ];
-
-// No folder of an earlier run.
-fn clear(files: &impl Files, alloc: Global, folder: &str) -> Result<(), Fail> {
-    match files.remove_dir_all(alloc, folder) {
-        Err(error) if error.kind() != ErrorKind::NotFound => Err(error.into()),
-        _ => Ok(()),
-    }
-}
 
 // The disk with three photos, of one, nine and one bytes, of which the first two have records.
 fn stored<D: Disk>(alloc: Global, disk: D) -> Result<Replica<D>, Fail>

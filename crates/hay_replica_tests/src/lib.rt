@@ -5,4 +5,8 @@
 #[cfg(test)]
 mod checks;
 #[cfg(test)]
+mod common;
+#[cfg(test)]
+mod runs;
+#[cfg(test)]
 mod sights;

@@ -6,35 +6,16 @@ ghost use Rattle.hay_memdisk.specs.MemDisk.{mem_files};
 ghost use Rattle.hay_physical.specs.Copies.{IsOpenCopy};
 ghost use Rattle.hay_physical.specs.Replicas.{MaySee};
 
+use crate::common::{FIRST, SECOND, SUP, clear};
 use hay_disk::{Disk, Shelf};
 use hay_filedisk::FileShelf;
 use hay_map::Place;
 use hay_memdisk::MemDisk;
-use hay_needle::{Cookie, FileKind, Pair, Settings, Super};
+use hay_needle::Cookie;
 use hay_physical::{Replica, ReplicaFault};
 use std::alloc::Global;
 use std::fs;
-use std::fs::Files;
-use std::io::ErrorKind;
 use std::test::Fail;
-
-const FIRST: Pair = Pair { key: 7, alt: 1 };
-
-const SECOND: Pair = Pair { key: 7, alt: 2 };
-
-const SUP: Super = Super {
-    settings: Settings {
-        machines: 1,
-        volumes: 1,
-        replicas: 1,
-        capacity: 4096,
-        secret: [0; 32],
-    },
-    kind: FileKind::Volume,
-    volume: 0,
-    replica: 0,
-    generation: 0,
-};
 
 /// What a look answered.
 #[derive(Clone, Copy, Debug, PartialEq, Eq)]
@@ -72,14 +53,6 @@ fn stored<D: Disk>(alloc: Global, replica: &mut Replica<D>) -> Result<(), Fail>
     replica.put(alloc, FIRST, Cookie(3), b"a")?;
     replica.put(alloc, SECOND, Cookie(4), b"bbbbbbbbb")?;
     Ok(())
-}
-
-// No folder of an earlier run.
-fn clear(files: &impl Files, alloc: Global, folder: &str) -> Result<(), Fail> {
-    match files.remove_dir_all(alloc, folder) {
-        Err(error) if error.kind() != ErrorKind::NotFound => Err(error.into()),
-        _ => Ok(()),
-    }
 }
 
 // Whether a look finds damage.

@@ -81,3 +81,16 @@ returns-clause-anew g c = λ tells superblock cells end is.
     let here : c.adopt.result.file ≡ c.file-file.result = ap (λ (v : VolumeFile). v.file) c.adopt.ensures in
     all_anew superblock (super_bytes (volume_super under.sup s.generation)) ((files c.seal_all.new.disk) c.file-file.result).now cells under.fresh end s.volume.end
     (subst (λ k. IsVolume superblock ((files c.seal_all.new.disk) k).now cells end) here is) rests.is h.anew
+
+pub returns-clause-from : goal.returns-clause-from
+returns-clause-from g c =
+    let from = c.self.invariant.from in
+    omega (arith, ap (λ (v : VolumeFile). v.end) c.adopt.ensures, c.end.ensures)
+
+pub returns-clause-shorter : goal.returns-clause-shorter
+returns-clause-shorter g c =
+    let behind = c.self.invariant.behind in
+    omega (arith, ap (λ (v : VolumeFile). v.end) c.adopt.ensures, c.end.ensures, ap (λ (s : Stage). s.next) c.self.view_is)
+
+pub returns-clause-flushed : goal.returns-clause-flushed
+returns-clause-flushed g c = ap (λ (i : IndexFile). i.pending) c.in_ok-flush_loose.ensures.moved

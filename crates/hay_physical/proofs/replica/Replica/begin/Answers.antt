@@ -3,6 +3,10 @@ use Rattle.hay_physical.proofs.Views.{files_stand, if_ok_both}
 use Rattle.hay_physical.proofs.RunViews.{beside_deletes, beside_stands, open_run}
 use Rattle.hay_physical.specs.Replicas.{Anywhere}
 use Rattle.hay_physical.proofs.Seeing.{beside_sight}
+use Rattle.std.proofs.Common.{sym}
+use Rattle.hay_physical.specs.Copies.{phase_generation}
+use Rattle.hay_physical.proofs.Views.{if_ok_so}
+use Rattle.hay_physical.proofs.RunViews.{files_begin, files_bounded, files_goal, files_say}
 use Rattle.hay_physical.proofs.replica.Replica.begin.Goals as goal
 
 pub returns-clause-last : goal.returns-clause-last
@@ -39,3 +43,26 @@ returns-clause-sees g c = λ tells.
     let was = c.self.inside in
     beside_sight g.D.Disk.files Anywhere c.args.self.now was.sup was.disk c.begin.new.disk was.phase c.in-Open.files c.begin.new.self c.self.view_is c.in-Open.is
     (λ stuck. let same = c.begin.ensures.frozen stuck in (same.1, same.2)) (c.self.invariant.0 tells) c.begin.ensures.keeps (c.begin.ensures.others tells)
+
+pub returns-clause-most : goal.returns-clause-most
+returns-clause-most g c = λ worn.
+    let was = c.self.inside in
+    let known = c.begin.ensures.most worn in
+    let bounded = files_bounded was.sup.settings.capacity was.phase c.in-Open.files c.in-Open.is c.self.invariant.2 in
+    let most = bounded.most in
+    let goal = files_goal c.args.self.now was.sup was.disk was.phase c.in-Open.files c.self.view_is c.in-Open.is in
+    let generation = files_say phase_generation c.args.self.now was.sup was.disk was.phase c.in-Open.files c.self.view_is c.in-Open.is in
+    (sym goal ∙ known.0, sym generation ∙ omega (arith, known.1))
+
+pub returns-clause-small : goal.returns-clause-small
+returns-clause-small g c = if_ok_so c.begin.result _ _ (λ goal begun. begun.3) c.begin.ensures.begun
+
+pub returns-clause-memory : goal.returns-clause-memory
+returns-clause-memory g c = λ wants.
+    let was = c.self.inside in
+    files_begin c.args.self.now was.sup was.disk was.phase c.in-Open.files c.self.view_is c.in-Open.is (c.begin.ensures.memory wants)
+
+pub returns-clause-failed : goal.returns-clause-failed
+returns-clause-failed g c = λ faults failed.
+    let was = c.self.inside in
+    files_begin c.args.self.now was.sup was.disk was.phase c.in-Open.files c.self.view_is c.in-Open.is (c.begin.ensures.failed faults failed)

@@ -3,6 +3,11 @@ use Rattle.hay_physical.proofs.RunViews.{beside_deletes, beside_stands, ends_run
 use Rattle.hay_physical.specs.Runs.{stepped}
 use Rattle.hay_physical.specs.Replicas.{Anywhere}
 use Rattle.hay_physical.proofs.Seeing.{beside_sight}
+use Rattle.std.proofs.Common.{◌∙◌, ◌+◌, ap, sym}
+use Rattle.hay_needle.specs.Sizes.{needle_total}
+use Rattle.hay_physical.specs.Copies.{phase_next}
+use Rattle.hay_physical.proofs.Views.{on_err_so}
+use Rattle.hay_physical.proofs.RunViews.{files_goal, files_say}
 use Rattle.hay_physical.proofs.replica.Replica.copy.Goals as goal
 
 pub returns-clause-run : goal.returns-clause-run
@@ -42,3 +47,21 @@ returns-clause-sees g c = λ tells.
     let was = c.self.inside in
     beside_sight g.D.Disk.files Anywhere c.args.self.now was.sup was.disk c.copy.new.disk was.phase c.in-Open.files c.copy.new.self c.self.view_is c.in-Open.is
     (λ stuck. let same = c.copy.ensures.frozen stuck in (same.1, same.2)) (c.self.invariant.0 tells) c.copy.ensures.keeps (c.copy.ensures.others tells)
+
+pub returns-clause-whole : goal.returns-clause-whole
+returns-clause-whole g c = λ tells s run has.
+    let was = c.self.inside in
+    c.copy.ensures.whole tells was.sup s run (files_peek g.D.Disk.files c.args.self.now was.sup was.disk was.phase c.in-Open.files s run c.args.cell c.self.view_is c.in-Open.is has)
+
+pub returns-clause-moved : goal.returns-clause-moved
+returns-clause-moved g c =
+    let was = c.self.inside in
+    let next = files_say phase_next c.args.self.now was.sup was.disk was.phase c.in-Open.files c.self.view_is c.in-Open.is in
+    on_ok_one c.copy.result _ _ (λ moved. moved ∙ ap (λ k. k + needle_total c.args.cell.size) next) c.copy.ensures.moved
+
+pub returns-clause-place : goal.returns-clause-place
+returns-clause-place g c =
+    let was = c.self.inside in
+    let goal = files_goal c.args.self.now was.sup was.disk was.phase c.in-Open.files c.self.view_is c.in-Open.is in
+    let next = files_say phase_next c.args.self.now was.sup was.disk was.phase c.in-Open.files c.self.view_is c.in-Open.is in
+    on_err_so c.copy.result _ _ (λ place same. place (same ∙ sym goal) ∙ next) c.copy.ensures.place

@@ -13,6 +13,10 @@ use Rattle.hay_physical.specs.declared.state.Phase.TheVariants.{Open}
 use Rattle.hay_physical.specs.Replicas.{ApartFrom}
 use Rattle.hay_physical.proofs.Seeing.{sight_kept, sight_same, sight_sight}
 use Rattle.hay_physical.proofs.Sights.{range_apart}
+use Rattle.std.proofs.Common.{length, sym}
+use Rattle.hay_physical.specs.Copies.{copier_goal, copier_next, phase_bare, phase_next}
+use Rattle.hay_physical.proofs.RunLaws.{place_kept}
+use Rattle.hay_physical.proofs.RunViews.{files_goal, files_say}
 use Rattle.hay_physical.proofs.replica.Replica.delete.Goals as goal
 
 pub delete-requires-clause-flag : goal.delete-requires-clause-flag
@@ -103,3 +107,29 @@ returns-in-Err-clause-sees g c = λ tells.
           sight_kept files (ApartFrom c.args.at) c.args.self.now was.sup was.disk c.delete.new.disk was.phase opened c.delete.new.self c.self.view_is c.in-Open.is (ap (λ (v : VolumeFile). v.file) volume) (omega (arith, ap (λ (v : VolumeFile). v.end) volume))
           (λ at size kept within. range_apart at (needle_total size) c.args.at (files was.disk opened.volume.file) (files c.delete.new.disk opened.volume.file) kept (c.delete.ensures.changes tells going))
     ]
+
+pub returns-in-Ok-clause-place : goal.returns-in-Ok-clause-place
+returns-in-Ok-clause-place g c = λ same.
+    let was = c.self.inside in
+    let copier = c.delete.ensures.copier.same c.in-Ok.ensures.open in
+    let goal = files_goal c.args.self.now was.sup was.disk was.phase c.in-Open.files c.self.view_is c.in-Open.is in
+    let next = files_say phase_next c.args.self.now was.sup was.disk was.phase c.in-Open.files c.self.view_is c.in-Open.is in
+    c.repeat_delete.ensures.place (same ∙ sym goal ∙ sym (ap copier_goal copier)) ∙ ap copier_next copier ∙ next
+
+pub returns-in-Err-clause-place : goal.returns-in-Err-clause-place
+returns-in-Err-clause-place g c = λ same.
+    let was = c.self.inside in
+    let goal = files_goal c.args.self.now was.sup was.disk was.phase c.in-Open.files c.self.view_is c.in-Open.is in
+    let next = files_say phase_next c.args.self.now was.sup was.disk was.phase c.in-Open.files c.self.view_is c.in-Open.is in
+    place_kept c.in-Open.files c.delete.new.self c.delete.ensures.copier (same ∙ sym goal) ∙ next
+
+pub returns-in-Ok-clause-bare : goal.returns-in-Ok-clause-bare
+returns-in-Ok-clause-bare g c =
+    let was = c.self.inside in
+    let bare = files_say phase_bare c.args.self.now was.sup was.disk was.phase c.in-Open.files c.self.view_is c.in-Open.is in
+    ap (λ (o : OpenFiles). length o.index.pending) c.repeat_delete.ensures.keeps ∙ ap length c.delete.ensures.noted ∙ bare
+
+pub returns-in-Err-clause-bare : goal.returns-in-Err-clause-bare
+returns-in-Err-clause-bare g c =
+    let was = c.self.inside in
+    ap length c.delete.ensures.noted ∙ files_say phase_bare c.args.self.now was.sup was.disk was.phase c.in-Open.files c.self.view_is c.in-Open.is

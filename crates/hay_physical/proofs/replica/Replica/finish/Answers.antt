@@ -17,6 +17,9 @@ use Rattle.hay_physical.proofs.RunViews.{files_bounded, files_ready, files_run, 
 use Rattle.hay_physical.specs.Replicas.{Anywhere}
 use Rattle.hay_physical.proofs.Looks.{always_ok}
 use Rattle.hay_physical.proofs.Seeing.{sight_same, stands_shows}
+use Rattle.std.proofs.Common.{◌≤◌, length}
+use Rattle.hay_physical.specs.Copies.{phase_bare, phase_end}
+use Rattle.hay_physical.proofs.RunViews.{files_goal, files_say}
 use Rattle.hay_physical.proofs.replica.Replica.finish.Goals as goal
 
 pub invariant_of-self : goal.invariant_of-self
@@ -134,3 +137,34 @@ returns-clause-counted g c = λ tells.
     let f = files_stand g.D.Disk.files (record { sup = was.sup; disk = c.finish.new.disk; phase = Open c.finish.new.self }) was.sup c.finish.new.disk (Open c.finish.new.self) c.finish.new.self t refl refl stands in
     counted was.sup t f ∙ sym (ap phase_copied c.in-Open.is) ∙ ap (λ (r : Copy _). copied_of r) c.self.view_is)
     (c.finish.ensures.counted tells)
+
+pub returns-clause-named : goal.returns-clause-named
+returns-clause-named g c = λ goal is. let was = c.self.inside in c.finish.ensures.named goal (files_goal c.args.self.now was.sup was.disk was.phase c.in-Open.files c.self.view_is c.in-Open.is ∙ is)
+
+pub returns-clause-small : goal.returns-clause-small
+returns-clause-small g c =
+    let was = c.self.inside in
+    let bounded = c.finish.ensures.bounded was.sup.settings.capacity (files_bounded was.sup.settings.capacity was.phase c.in-Open.files c.in-Open.is c.self.invariant.2) in
+    always_ok c.finish.result _ bounded.most
+
+pub returns-clause-from : goal.returns-clause-from
+returns-clause-from g c =
+    let was = c.self.inside in
+    let bounded = c.finish.ensures.bounded was.sup.settings.capacity (files_bounded was.sup.settings.capacity was.phase c.in-Open.files c.in-Open.is c.self.invariant.2) in
+    always_ok c.finish.result _ bounded.from
+
+pub returns-clause-shorter : goal.returns-clause-shorter
+returns-clause-shorter g c =
+    let was = c.self.inside in
+    let end = files_say phase_end c.args.self.now was.sup was.disk was.phase c.in-Open.files c.self.view_is c.in-Open.is in
+    on_ok_one c.finish.result _ _ (λ short. subst (λ k. c.finish.new.self.volume.end ≤ k) end short)
+    (c.finish.ensures.shorter was.sup.settings.capacity (files_bounded was.sup.settings.capacity was.phase c.in-Open.files c.in-Open.is c.self.invariant.2))
+
+pub returns-clause-none_bare : goal.returns-clause-none_bare
+returns-clause-none_bare g c = on_ok_one c.finish.result _ _ (λ none. ap length none) c.finish.ensures.flushed
+
+pub returns-clause-still_bare : goal.returns-clause-still_bare
+returns-clause-still_bare g c =
+    let was = c.self.inside in
+    let bare = files_say phase_bare c.args.self.now was.sup was.disk was.phase c.in-Open.files c.self.view_is c.in-Open.is in
+    on_err_so c.finish.result _ _ (λ same. ap (λ (o : OpenFiles). length o.index.pending) same ∙ bare) c.finish.ensures.same

@@ -1,4 +1,4 @@
-use Rattle.std.proofs.Common.{◌∙◌, ap, length, sym}
+use Rattle.std.proofs.Common.{◌∙◌, ap, arith, length, sym}
 use Rattle.hay_volume.specs.declared.volume.VolumeFile.{VolumeFile}
 use Rattle.hay_physical.specs.Replicas.{all_recorded}
 use Rattle.hay_physical.proofs.RunLaws.{bounded_still, copier_ready_index, next_besides_index, run_kept, settled_still}
@@ -6,6 +6,9 @@ use Rattle.hay_physical.proofs.RunViews.{files_bounded, files_ready, files_settl
 use Rattle.hay_physical.proofs.Views.{files_flag, files_going, files_stand, if_ok_so, if_ok_unit, on_err_so, open_deletes, open_stands}
 use Rattle.hay_physical.specs.Replicas.{Anywhere}
 use Rattle.hay_physical.proofs.Seeing.{sight_same}
+use Rattle.hay_physical.specs.Copies.{copier_next, phase_bare, phase_next}
+use Rattle.hay_physical.proofs.Views.{on_ok_one}
+use Rattle.hay_physical.proofs.RunViews.{files_say}
 use Rattle.hay_physical.proofs.replica.Replica.flush.Goals as goal
 
 pub returns-clause-flushed : goal.returns-clause-flushed
@@ -43,7 +46,7 @@ invariant_of-self g c =
           (c.flush.ensures.ready tells thawed, copier_ready_index (files was.disk) (files c.flush.new.disk) opened c.flush.new.self settled ready.0 ready.1 c.flush.ensures.copier.0 (c.flush.ensures.others tells)),
       settled_still opened c.flush.new.self settled c.flush.ensures.copier.1 c.flush.ensures.copier.0 c.flush.ensures.open,
       bounded_still was.sup.settings.capacity opened c.flush.new.self (files_bounded was.sup.settings.capacity was.phase opened c.in-Open.is c.self.invariant.2)
-          (ap (λ (v : VolumeFile). v.capacity) c.flush.ensures.copier.2) c.flush.ensures.copier.0,
+          c.flush.ensures.copier.1 (ap (λ (v : VolumeFile). v.capacity) c.flush.ensures.copier.2) (omega (arith, ap (λ (v : VolumeFile). v.end) c.flush.ensures.copier.2)) c.flush.ensures.copier.0,
     )
 
 pub returns-clause-run : goal.returns-clause-run
@@ -72,3 +75,21 @@ pub returns-clause-sees : goal.returns-clause-sees
 returns-clause-sees g c = λ tells.
     let was = c.self.inside in
     sight_same g.D.Disk.files Anywhere c.args.self.now was.sup was.disk c.flush.new.disk was.phase c.in-Open.files c.flush.new.self c.self.view_is c.in-Open.is c.flush.ensures.copier.2 (c.flush.ensures.cells tells)
+
+pub returns-clause-number : goal.returns-clause-number
+returns-clause-number g c =
+    let was = c.self.inside in
+    if_ok_so c.flush.result _ _ (λ n is. is ∙ files_say phase_bare c.args.self.now was.sup was.disk was.phase c.in-Open.files c.self.view_is c.in-Open.is) c.flush.ensures.number
+
+pub returns-clause-none_bare : goal.returns-clause-none_bare
+returns-clause-none_bare g c = on_ok_one c.flush.result _ _ (λ none. ap length none) c.flush.ensures.none
+
+pub returns-clause-still_bare : goal.returns-clause-still_bare
+returns-clause-still_bare g c =
+    let was = c.self.inside in
+    on_err_so c.flush.result _ _ (λ same. ap length same ∙ files_say phase_bare c.args.self.now was.sup was.disk was.phase c.in-Open.files c.self.view_is c.in-Open.is) c.flush.ensures.still_noted
+
+pub returns-clause-place : goal.returns-clause-place
+returns-clause-place g c =
+    let was = c.self.inside in
+    ap copier_next c.flush.ensures.copier.0 ∙ files_say phase_next c.args.self.now was.sup was.disk was.phase c.in-Open.files c.self.view_is c.in-Open.is

@@ -4,6 +4,9 @@ use Rattle.hay_physical.proofs.Views.{if_err_so, if_ok_some, on_ok_one}
 use Rattle.hay_physical.proofs.RunViews.{beside_deletes, beside_stands, ends_run, files_run, open_next, open_run, peek_pair}
 use Rattle.hay_physical.specs.Replicas.{Anywhere}
 use Rattle.hay_physical.proofs.Seeing.{beside_sight}
+use Rattle.std.proofs.Common.{◌∙◌, sym}
+use Rattle.hay_physical.specs.Copies.{phase_next}
+use Rattle.hay_physical.proofs.RunViews.{files_goal, files_say}
 use Rattle.hay_physical.proofs.replica.Replica.peek.Goals as goal
 
 pub returns-clause-next : goal.returns-clause-next
@@ -62,3 +65,10 @@ returns-clause-sees g c = λ tells.
     let was = c.self.inside in
     beside_sight g.D.Disk.files Anywhere c.args.self.now was.sup was.disk c.peek.new.disk was.phase c.in-Open.files c.peek.new.self c.self.view_is c.in-Open.is
     (λ stuck. let same = c.peek.ensures.frozen stuck in (same.1, same.2)) (c.self.invariant.0 tells) c.peek.ensures.keeps (λ other first second. ap (λ (f : Files). f other) (c.peek.ensures.files tells))
+
+pub returns-clause-place : goal.returns-clause-place
+returns-clause-place g c = λ same.
+    let was = c.self.inside in
+    let goal = files_goal c.args.self.now was.sup was.disk was.phase c.in-Open.files c.self.view_is c.in-Open.is in
+    let next = files_say phase_next c.args.self.now was.sup was.disk was.phase c.in-Open.files c.self.view_is c.in-Open.is in
+    c.peek.ensures.place (same ∙ sym goal) ∙ next

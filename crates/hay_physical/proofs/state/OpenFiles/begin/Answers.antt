@@ -1,5 +1,5 @@
 use Rattle.hay_physical.proofs.RunLaws.{bounded_stage}
-use Rattle.std.proofs.Common.{◌+◌, refl, ap}
+use Rattle.std.proofs.Common.{◌+◌, refl, ap, arith}
 use Rattle.hay_physical.proofs.RunLaws.{run_begun}
 use Rattle.hay_physical.proofs.state.OpenFiles.begin.Goals as goal
 
@@ -11,4 +11,6 @@ returns-in-Ok-clause-run g c = λ tells s stand.
     (c.in-Ok.ensures.begun tells) stand named (ap (λ k. k + 1) is) refl refl
 
 pub returns-in-Ok-clause-bounded : goal.returns-in-Ok-clause-bounded
-returns-in-Ok-clause-bounded g c = λ bounded. bounded_stage c.args.sup.now.settings.capacity _ c.in-Ok.compactor bounded.volume refl c.in-Ok.ensures.capacity
+returns-in-Ok-clause-bounded g c = λ bounded.
+    let from = bounded.from in
+    bounded_stage c.args.sup.now.settings.capacity c.args.self.now _ c.in-Ok.compactor bounded refl refl c.in-Ok.ensures.capacity (omega (arith, c.in-Ok.ensures.first))

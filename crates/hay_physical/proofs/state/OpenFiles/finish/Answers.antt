@@ -1,6 +1,6 @@
 use Rattle.hay_physical.specs.Copies.{copier_capacity}
-use Rattle.hay_physical.proofs.RunLaws.{bounded_ended}
-use Rattle.std.proofs.Common.{◌≡◌, refl, sym, ap, ◌∙◌}
+use Rattle.hay_physical.proofs.RunLaws.{bounded_dropped, bounded_ended, examined_within}
+use Rattle.std.proofs.Common.{◌≡◌, arith, refl, sym, ap, ◌∙◌}
 use Rattle.hay_compact.specs.Copying.{stored_of}
 use Rattle.hay_physical.specs.declared.state.Copier.TheVariants.{Standing}
 use Rattle.hay_physical.proofs.Views.{if_ok_so, on_err_so, on_ok_one}
@@ -51,7 +51,17 @@ returns-in-Standing-clause-counted g c = λ tells.
 pub returns-in-Standing-clause-bounded : goal.returns-in-Standing-clause-bounded
 returns-in-Standing-clause-bounded g c = λ capacity bounded.
     let is : c.args.self.now.copier ≡ Standing c.in-Standing.compactor = sym c.replace.ensures.value ∙ c.in-Standing.is in
-    bounded_ended capacity _ _ (c.make_current-answer.ensures.limit capacity bounded.volume (bounded.next c.in-Standing.compactor.capacity (ap copier_capacity is))) refl
+    let made = c.make_current-answer.ensures in
+    bounded_ended capacity _ _ (made.limit capacity bounded.volume (bounded.next c.in-Standing.compactor.capacity (ap copier_capacity is))) (made.most bounded.most) (made.from bounded.from) refl
 
 pub returns-in-Ended-clause-bounded : goal.returns-in-Ended-clause-bounded
-returns-in-Ended-clause-bounded g c = λ capacity bounded. bounded_ended capacity _ _ bounded.volume refl
+returns-in-Ended-clause-bounded g c = λ capacity bounded. bounded_dropped capacity c.args.self.now _ _ bounded refl refl
+
+pub returns-in-Standing-clause-shorter : goal.returns-in-Standing-clause-shorter
+returns-in-Standing-clause-shorter g c = λ capacity bounded.
+    let is : c.args.self.now.copier ≡ Standing c.in-Standing.compactor = sym c.replace.ensures.value ∙ c.in-Standing.is in
+    let within = examined_within capacity c.args.self.now c.in-Standing.compactor bounded is in
+    on_ok_one c.make_current-answer.result _ _ (λ short. omega (arith, short, within)) c.make_current-answer.ensures.shorter
+
+pub returns-in-Standing-clause-named : goal.returns-in-Standing-clause-named
+returns-in-Standing-clause-named g c = λ goal is. on_ok_one c.make_current-answer.result _ _ (λ moved. moved ∙ sym (c.requires.settled.next goal is)) c.make_current-answer.ensures.moved

@@ -1,4 +1,4 @@
-use Rattle.std.proofs.Common.{◌≡◌, ◌+◌, sym, ap, ◌∙◌, subst, arith}
+use Rattle.std.proofs.Common.{◌≡◌, ◌≤◌, ◌+◌, sym, ap, ◌∙◌, subst, arith}
 use Rattle.hay_compact.specs.Finishing.{AreThePlaces}
 use Rattle.hay_disk.specs.Disk.{Files, FileState}
 use Rattle.hay_disk.specs.Gate.{IsGate}
@@ -112,3 +112,23 @@ returns-in-Ok-clause-limit g c = λ capacity old next.
     by_result c.swap.result (c.swap.new.self.volume.capacity ≡ capacity)
     (if_ok_so c.swap.result _ _ (λ places is. ap (λ (o : OpenFiles). o.volume.capacity) is.1 ∙ c.in-Ok.ensures.capacity ∙ next) c.swap.ensures.swapped)
     (on_err_so c.swap.result _ _ (λ is. ap (λ (o : OpenFiles). o.volume.capacity) is ∙ old) c.swap.ensures.err)
+
+pub returns-in-Ok-clause-most : goal.returns-in-Ok-clause-most
+returns-in-Ok-clause-most g c = λ old.
+    let next = c.requires.next in
+    let small = c.requires.small in
+    by_result c.swap.result (c.swap.new.self.head.generation ≤ 65535)
+    (if_ok_so c.swap.result _ _ (λ places is. subst (λ (o : OpenFiles). o.head.generation ≤ 65535) (sym is.1) (omega arith)) c.swap.ensures.swapped)
+    (on_err_so c.swap.result _ _ (λ is. subst (λ (o : OpenFiles). o.head.generation ≤ 65535) (sym is) old) c.swap.ensures.err)
+
+pub returns-in-Ok-clause-from : goal.returns-in-Ok-clause-from
+returns-in-Ok-clause-from g c = λ old.
+    by_result c.swap.result (64 ≤ c.swap.new.self.volume.end)
+    (if_ok_so c.swap.result _ _ (λ places is. subst (λ (o : OpenFiles). 64 ≤ o.volume.end) (sym is.1) c.in-Ok.ensures.from) c.swap.ensures.swapped)
+    (on_err_so c.swap.result _ _ (λ is. subst (λ (o : OpenFiles). 64 ≤ o.volume.end) (sym is) old) c.swap.ensures.err)
+
+pub returns-in-Ok-clause-shorter : goal.returns-in-Ok-clause-shorter
+returns-in-Ok-clause-shorter g c = if_ok_unit c.swap.result _ _ (λ places is. subst (λ (o : OpenFiles). o.volume.end ≤ c.args.compactor.next) (sym is.1) c.in-Ok.ensures.shorter) c.swap.ensures.swapped
+
+pub returns-in-Ok-clause-flushed : goal.returns-in-Ok-clause-flushed
+returns-in-Ok-clause-flushed g c = if_ok_unit c.swap.result _ _ (λ places is. ap (λ (o : OpenFiles). o.index.pending) is.1 ∙ c.in-Ok.ensures.flushed) c.swap.ensures.swapped
